@@ -1,0 +1,4 @@
+pub mod RunLemmas
+pub mod AnswerLemmas
+pub mod FileLemmas
+pub mod FeedLemmas

@@ -1,0 +1,13 @@
+use Rattle.std.proofs.Common.{◌≡◌, ℕ, List}
+use Rattle.std.specs.Io.KnownBytes.{Consumes}
+use Rattle.vp_base.specs.Counted.{counted_remaining, counted_contents, counted_failures}
+use Rattle.vp_app.specs.Progress.{IsAt}
+use Rattle.vp_app.proofs.decoding.decode_all.Given as goal
+
+abbrev pub invariant-loop : goal.invariant-loop
+invariant-loop g l =
+    (fed : List ℕ)
+    × Consumes (counted_remaining g.R.Read.remaining l.fn.reader) (counted_remaining g.R.Read.remaining l.reader) fed
+    × IsAt l.fn.limits l.fn.form l.file l.run (counted_contents g.W.Write.contents l.fn.writer) (counted_contents g.W.Write.contents l.writer) fed
+    × (counted_failures l.reader ≡ counted_failures l.fn.reader)
+    × (counted_failures l.writer ≡ counted_failures l.fn.writer)

@@ -1,0 +1,5 @@
+pub mod Writes
+pub mod RasterLemmas
+pub mod BlockLemmas
+pub mod ImageLemmas
+pub mod OverLemmas

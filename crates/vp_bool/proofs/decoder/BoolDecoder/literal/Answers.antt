@@ -1,0 +1,24 @@
+use Rattle.std.proofs.Common.{◌≡◌, suc, ◌+◌, ◌-◌, arith, ◌∙◌, sym}
+use Rattle.vp_bool.specs.Bools.{read}
+use Rattle.vp_bool.proofs.BoolLemmas.{literal-value, literal-after, literal-none, bit_room}
+use Rattle.vp_bool.proofs.decoder.BoolDecoder.literal.Goals as goal
+
+pub loop-bit-preserved : goal.loop-bit-preserved
+loop-bit-preserved c =
+    let left = c.args.bits - c.loop-bit._bit in
+    let behind = c.args.bits - (c.loop-bit._bit + 1) in
+    let one : left ≡ suc behind = omega arith in
+    rw (c.from.ensures, c.read.ensures.value, c.read.ensures.rest)
+    (record {
+      value = literal-value c.loop-bit.value left behind c.loop-bit.self one ∙ c.loop-bit.invariant.value;
+      after = literal-after left behind c.loop-bit.self one ∙ c.loop-bit.invariant.after;
+      room = bit_room c.loop-bit.value c.loop-bit._bit (read 128 c.loop-bit.self).0 c.loop-bit.invariant.room;
+    })
+
+pub returns-clause-value : goal.returns-clause-value
+returns-clause-value c =
+    sym (literal-none c.loop-bit.value (c.args.bits - c.loop-bit._bit) c.loop-bit.self (omega arith)).0 ∙ c.loop-bit.invariant.value
+
+pub returns-clause-rest : goal.returns-clause-rest
+returns-clause-rest c =
+    sym (literal-none c.loop-bit.value (c.args.bits - c.loop-bit._bit) c.loop-bit.self (omega arith)).1 ∙ c.loop-bit.invariant.after

@@ -1,0 +1,4 @@
+pub mod LevelLemmas
+pub mod MapLemmas
+pub mod FrameLemmas
+pub mod CutLemmas

@@ -1,0 +1,4 @@
+pub mod Numbers
+pub mod Sizes
+pub mod TagLemmas
+pub mod HeaderLemmas

@@ -1,0 +1,7 @@
+use Rattle.std.proofs.Common.{◌≡◌, length}
+use Rattle.vp_bool.specs.Reader.{each}
+use Rattle.vp_head.specs.Probabilities.{vector_entry_at}
+use Rattle.vp_head.proofs.probabilities.read_component.Given as goal
+
+abbrev pub invariant-loop-i : goal.invariant-loop-i
+invariant-loop-i l = record { len : length l.old ≡ 19; so_far : each 0 l.i (vector_entry_at l.table) l.fn.old l.fn.d ≡ (l.old, l.d) }

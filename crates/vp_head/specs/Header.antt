@@ -1,0 +1,179 @@
+-- The rows of the frame header, in order (RFC 6386, chapter 9.2 to 9.11, 19.2).
+use Rattle.std.specs.Prelude.{ℕ, zero, suc, pos, Bool, true, false, not, List, [], ◌∷◌, Option, Some, None, is_some, if◌then◌else◌}
+use Rattle.vp_bool.specs.Bools.{literal}
+use Rattle.vp_bool.specs.Reader.{Reader, ◌>>=◌, give, when}
+use Rattle.vp_head.specs.Rows.{flag, signed, renewed, three, four, four_signed}
+use Rattle.vp_head.specs.Probabilities.{coefficients, luma, chroma, vectors}
+use Rattle.vp_head.specs.Saved.{defaults, kept_after}
+use Rattle.vp_head.specs.declared.fields.Tag.{Tag}
+use Rattle.vp_head.specs.declared.fields.SegmentValues.{SegmentValues}
+use Rattle.vp_head.specs.declared.fields.Segmentation.{Segmentation}
+use Rattle.vp_head.specs.declared.fields.Filter.{Filter}
+use Rattle.vp_head.specs.declared.fields.LevelDeltas.{LevelDeltas}
+use Rattle.vp_head.specs.declared.fields.QuantiserIndices.{QuantiserIndices}
+use Rattle.vp_head.specs.declared.fields.ReferenceCopy.{ReferenceCopy}
+use Rattle.vp_head.specs.declared.fields.ReferenceCopy.TheVariants.{Nothing, Last, Other, Unused}
+use Rattle.vp_head.specs.declared.fields.SignBiases.{SignBiases}
+use Rattle.vp_head.specs.declared.fields.ReferenceProbabilities.{ReferenceProbabilities}
+use Rattle.vp_head.specs.declared.fields.Header.{Header}
+use Rattle.vp_head.specs.declared.fields.Saved.{Saved}
+use Rattle.vp_head.specs.declared.rows.Refreshes.{Refreshes}
+
+-- ---- segmentation (chapter 9.3); what isn't read stays
+
+unfoldable pub segment_values : Reader SegmentValues
+segment_values = do
+  absolute ← flag
+  quantisers ← four (signed 7 (pos 0))
+  levels ← four (signed 6 (pos 0))
+  give (record { absolute = absolute; quantisers = quantisers; levels = levels })
+
+unfoldable pub tree_probabilities : Reader (List ℕ)
+tree_probabilities = three (renewed 128 255)
+
+unfoldable pub segmentation : SegmentValues → Reader Segmentation
+segmentation kept = do
+  enabled ← flag
+  update_map ← when enabled flag false
+  update_data ← when enabled flag false
+  values ← when update_data segment_values kept
+  probabilities ← when update_map tree_probabilities (255 ∷ 255 ∷ 255 ∷ [])
+  give (record { enabled = enabled; update_map = update_map; values = values; tree_probabilities = probabilities })
+
+-- ---- loop filter (chapter 9.4)
+
+unfoldable pub filter : Reader Filter
+filter = do
+  simple ← flag
+  level ← literal 6
+  sharpness ← literal 3
+  give (record { simple = simple; level = level; sharpness = sharpness })
+
+abbrev pub all_deltas : LevelDeltas → Reader LevelDeltas
+all_deltas kept = do
+  reference ← four_signed 6 kept.reference
+  mode ← four_signed 6 kept.mode
+  give (record { reference = reference; mode = mode })
+
+-- whether they apply, and their values
+unfoldable pub level_deltas : LevelDeltas → Reader (Bool × LevelDeltas)
+level_deltas kept = do
+  enabled ← flag
+  update ← when enabled flag false
+  values ← when update (all_deltas kept) kept
+  give (enabled, values)
+
+-- ---- quantiser indices (chapter 9.6)
+
+unfoldable pub quantiser_indices : Reader QuantiserIndices
+quantiser_indices = do
+  y_ac ← literal 7
+  y_dc ← signed 4 (pos 0)
+  y2_dc ← signed 4 (pos 0)
+  y2_ac ← signed 4 (pos 0)
+  uv_dc ← signed 4 (pos 0)
+  uv_ac ← signed 4 (pos 0)
+  give (record { y_ac = y_ac; y_dc = y_dc; y2_dc = y2_dc; y2_ac = y2_ac; uv_dc = uv_dc; uv_ac = uv_ac })
+
+-- ---- what is refreshed (chapter 9.7, 9.8, 19.2); a key frame refreshes all references and sets no sign bias
+
+abbrev pub copy_of : ℕ → ReferenceCopy
+copy_of zero = Nothing
+copy_of (suc zero) = Last
+copy_of (suc (suc zero)) = Other
+copy_of (suc (suc (suc n))) = Unused
+
+unfoldable pub copy : Reader ReferenceCopy
+copy = do
+  number ← literal 2
+  give (copy_of number)
+
+unfoldable pub refreshes : Bool → SignBiases → Reader Refreshes
+refreshes key kept = do
+  refresh_golden ← when (not key) flag true
+  refresh_alt ← when (not key) flag true
+  copy_to_golden ← when (not refresh_golden) copy Nothing
+  copy_to_alt ← when (not refresh_alt) copy Nothing
+  bias_golden ← when (not key) flag kept.golden
+  bias_alt ← when (not key) flag kept.alt
+  entropy ← flag
+  refresh_last ← when (not key) flag true
+  give (
+      record {
+        updates = record {
+          refresh_golden = refresh_golden;
+          refresh_alt = refresh_alt;
+          copy_to_golden = copy_to_golden;
+          copy_to_alt = copy_to_alt;
+          refresh_last = refresh_last;
+        };
+        biases = record { golden = bias_golden; alt = bias_alt };
+        entropy = entropy;
+      }
+      )
+
+-- ---- skipping (chapter 9.10, 9.11)
+
+unfoldable pub skip : Reader (Option ℕ)
+skip = do
+  coded ← flag
+  when coded (literal 8 >>= λ p. give (Some p)) None
+
+-- ---- inter frames' probabilities (chapter 9.10, 16.1, 17.2)
+
+unfoldable pub reference_probabilities : Reader ReferenceProbabilities
+reference_probabilities = do
+  intra ← literal 8
+  last ← literal 8
+  golden ← literal 8
+  give (record { intra = intra; last = last; golden = golden })
+
+abbrev pub no_references : ReferenceProbabilities
+no_references = record { intra = 0; last = 0; golden = 0 }
+
+-- ---- all rows; for an inter frame, what only a key frame's header has is 0, and the other way round
+
+unfoldable pub frame : Bool → Saved → Reader Header
+frame key kept = do
+  color_space ← when key flag false
+  clamping_type ← when key flag false
+  segmentation ← segmentation kept.segments
+  filter ← filter
+  deltas ← level_deltas kept.deltas
+  log2_partitions ← literal 2
+  quantiser ← quantiser_indices
+  refreshes ← refreshes key kept.biases
+  coefficients ← coefficients kept.probabilities.coefficients
+  skip ← skip
+  references ← when (not key) reference_probabilities no_references
+  luma ← when (not key) (luma kept.probabilities.luma) kept.probabilities.luma
+  chroma ← when (not key) (chroma kept.probabilities.chroma) kept.probabilities.chroma
+  vectors ← when (not key) (vectors kept.probabilities.vectors) kept.probabilities.vectors
+  give (
+      record {
+        key = key;
+        color_space = color_space;
+        clamping_type = clamping_type;
+        segmentation = segmentation;
+        filter = filter;
+        deltas_enabled = deltas.0;
+        deltas = deltas.1;
+        log2_partitions = log2_partitions;
+        quantiser = quantiser;
+        updates = refreshes.updates;
+        biases = refreshes.biases;
+        refresh_entropy = refreshes.entropy;
+        probabilities = record { coefficients = coefficients; vectors = vectors; luma = luma; chroma = chroma };
+        skip = skip;
+        references = references;
+      }
+      )
+
+unfoldable pub frame_and_kept : Bool → Saved → Reader (Header × Saved)
+frame_and_kept key kept = do
+  h ← frame key kept
+  give (h, kept_after kept h)
+
+-- the header of a packet with this tag, and what is kept after it; a key frame starts from the defaults, whatever was kept
+unfoldable pub header : Saved → Tag → Reader (Header × Saved)
+header saved tag = if is_some tag.key then frame_and_kept true defaults else frame_and_kept false saved

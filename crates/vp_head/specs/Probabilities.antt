@@ -1,0 +1,69 @@
+-- How the probabilities that are kept are read anew (RFC 6386, chapter 9.9, 9.10, 13.4, 17.2).
+use Rattle.std.specs.Prelude.{ℕ, ◌*◌, ◌==◌, List, [], slice_index, slice_index_or, if◌then◌else◌}
+use Rattle.vp_bool.specs.Bools.{read, literal}
+use Rattle.vp_bool.specs.Reader.{Reader, ◌>>=◌, give, when, each}
+use Rattle.vp_head.specs.Rows.{flag, renewed, three, four}
+use Rattle.vp_tables.specs.Tables.{coefficient_updates}
+use Rattle.vp_tables.specs.declared.mode_probabilities.TheConstants.{VECTOR_UPDATES}
+
+-- ---- coefficients: each behind a flag of the probability at its place in the table, by block type, band, context and entry
+
+abbrev pub entry_at : List ℕ → ℕ → ℕ → Reader ℕ
+entry_at table i = renewed (slice_index table i)
+
+unfoldable pub context_rows : List ℕ → List ℕ → Reader (List ℕ)
+context_rows table = each 0 11 (entry_at table)
+
+abbrev pub context_at : List (List ℕ) → ℕ → List ℕ → Reader (List ℕ)
+context_at table i = context_rows (slice_index_or table i [])
+
+unfoldable pub band_rows : List (List ℕ) → List (List ℕ) → Reader (List (List ℕ))
+band_rows table = each [] 3 (context_at table)
+
+abbrev pub band_at : List (List (List ℕ)) → ℕ → List (List ℕ) → Reader (List (List ℕ))
+band_at table i = band_rows (slice_index_or table i [])
+
+unfoldable pub type_rows : List (List (List ℕ)) → List (List (List ℕ)) → Reader (List (List (List ℕ)))
+type_rows table = each [] 8 (band_at table)
+
+abbrev pub type_at : List (List (List (List ℕ))) → ℕ → List (List (List ℕ)) → Reader (List (List (List ℕ)))
+type_at table i = type_rows (slice_index_or table i [])
+
+unfoldable pub coefficients : List (List (List (List ℕ))) → Reader (List (List (List (List ℕ))))
+coefficients = each [] 4 (type_at coefficient_updates)
+
+-- ---- modes: a flag, and all of them where it is set
+
+unfoldable pub luma : List ℕ → Reader (List ℕ)
+luma old = do
+  set ← flag
+  when set (four (literal 8)) old
+
+unfoldable pub chroma : List ℕ → Reader (List ℕ)
+chroma old = do
+  set ← flag
+  when set (three (literal 8)) old
+
+-- ---- vectors: each behind a flag of the probability at its place; seven bits stand for twice their number, and 0 for 1
+
+abbrev pub seven_bits : Reader ℕ
+seven_bits = do
+  x ← literal 7
+  give (if x == 0 then 1 else 2 * x)
+
+unfoldable pub vector_renewed : ℕ → ℕ → Reader ℕ
+vector_renewed p old = do
+  set ← read p
+  when set seven_bits old
+
+abbrev pub vector_entry_at : List ℕ → ℕ → ℕ → Reader ℕ
+vector_entry_at table i = vector_renewed (slice_index table i)
+
+unfoldable pub component_rows : List ℕ → List ℕ → Reader (List ℕ)
+component_rows table = each 0 19 (vector_entry_at table)
+
+abbrev pub component_at : List (List ℕ) → ℕ → List ℕ → Reader (List ℕ)
+component_at table i = component_rows (slice_index_or table i [])
+
+unfoldable pub vectors : List (List ℕ) → Reader (List (List ℕ))
+vectors = each [] 2 (component_at VECTOR_UPDATES)

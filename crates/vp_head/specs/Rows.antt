@@ -1,0 +1,51 @@
+-- What the rows of the header are made of (RFC 6386, chapter 8, 9, 19.2).
+use Rattle.std.specs.Prelude.{ℕ, ℤ, pos, neg_ℤ, Bool, List, [], ◌∷◌, slice_index_or, if◌then◌else◌}
+use Rattle.vp_bool.specs.Bools.{read, literal}
+use Rattle.vp_bool.specs.Reader.{Reader, ◌>>=◌, give, when}
+
+-- one bool, as likely 0 as 1
+abbrev pub flag : Reader Bool
+flag = read 128
+
+-- a number of n bits and its sign, 1 for minus
+unfoldable pub magnitude : ℕ → Reader ℤ
+magnitude n = do
+  value ← literal n
+  minus ← flag
+  give (if minus then neg_ℤ (pos value) else pos value)
+
+-- a flag, and a number of n bits with its sign where it is set; else this
+unfoldable pub signed : ℕ → ℤ → Reader ℤ
+signed n otherwise = do
+  set ← flag
+  when set (magnitude n) otherwise
+
+-- a flag of this probability, and a probability where it is set; else this
+unfoldable pub renewed : ℕ → ℕ → Reader ℕ
+renewed p otherwise = do
+  set ← read p
+  when set (literal 8) otherwise
+
+abbrev pub three : {A : Type 0} → Reader A → Reader (List A)
+three row = do
+  a ← row
+  b ← row
+  c ← row
+  give (a ∷ b ∷ c ∷ [])
+
+abbrev pub four : {A : Type 0} → Reader A → Reader (List A)
+four row = do
+  a ← row
+  b ← row
+  c ← row
+  e ← row
+  give (a ∷ b ∷ c ∷ e ∷ [])
+
+-- four numbers, each with a flag of its own, and as it stood where that isn't set
+unfoldable pub four_signed : ℕ → List ℤ → Reader (List ℤ)
+four_signed n old = do
+  a ← signed n (slice_index_or old 0 (pos 0))
+  b ← signed n (slice_index_or old 1 (pos 0))
+  c ← signed n (slice_index_or old 2 (pos 0))
+  e ← signed n (slice_index_or old 3 (pos 0))
+  give (a ∷ b ∷ c ∷ e ∷ [])

@@ -1,0 +1,27 @@
+-- What is kept from frame to frame (RFC 6386, chapter 9.3, 9.4, 9.7, 9.9, 9.10, 13.5, 16.1, 17.2).
+use Rattle.std.specs.Prelude.{ℤ, pos, false, List, [], ◌∷◌, if◌then◌else◌}
+use Rattle.vp_head.specs.declared.fields.Header.{Header}
+use Rattle.vp_head.specs.declared.fields.Saved.{Saved}
+use Rattle.vp_tables.specs.Tables.{coefficient_probabilities}
+use Rattle.vp_tables.specs.declared.mode_probabilities.TheConstants.{LUMA_PROBABILITIES, CHROMA_PROBABILITIES, VECTOR_PROBABILITIES}
+
+abbrev pub four_zeros : List ℤ
+four_zeros = pos 0 ∷ pos 0 ∷ pos 0 ∷ pos 0 ∷ []
+
+-- what a key frame starts from
+unfoldable pub defaults : Saved
+defaults = record {
+  probabilities = record { coefficients = coefficient_probabilities; vectors = VECTOR_PROBABILITIES; luma = LUMA_PROBABILITIES; chroma = CHROMA_PROBABILITIES };
+  segments = record { absolute = false; quantisers = four_zeros; levels = four_zeros };
+  deltas = record { reference = four_zeros; mode = four_zeros };
+  biases = record { golden = false; alt = false };
+}
+
+-- What is kept after a frame with this header. Where its probabilities aren't, those that stood before it come back.
+abbrev pub kept_after : Saved → Header → Saved
+kept_after kept h = record {
+  probabilities = if h.refresh_entropy then h.probabilities else kept.probabilities;
+  segments = h.segmentation.values;
+  deltas = h.deltas;
+  biases = h.biases;
+}

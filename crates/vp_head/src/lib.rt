@@ -1,0 +1,21 @@
+//! The frame tag and header, and what is kept between frames.
+#![tactic(auto)]
+
+mod fault;
+mod fields;
+mod header;
+mod laws;
+mod probabilities;
+mod rows;
+mod tag;
+#[cfg(test)]
+mod tests;
+
+pub use fault::PacketFault;
+pub use fields::{
+    Filter, Header, KeyTag, LevelDeltas, Probabilities, QuantiserIndices, Reference, ReferenceCopy,
+    ReferenceProbabilities, ReferenceUpdates, Saved, SegmentValues, Segmentation, SignBiases, Tag,
+};
+pub use laws::{
+    first_byte_says_kind, key_header_resets, numbers_are_in_range, probabilities_come_back,
+};

@@ -1,0 +1,110 @@
+//! The probabilities that are kept, and how they are read anew.
+
+ghost use Rattle.std.specs.Prelude.{◌≡◌};
+ghost use Rattle.vp_bool.specs.Reader.{when};
+ghost use Rattle.vp_head.specs.Probabilities.{context_rows, band_rows, type_rows, coefficients, luma, chroma, seven_bits, vector_renewed, component_rows, vectors};
+
+use crate::rows::{number, read_renewed};
+use vp_bool::BoolDecoder;
+use vp_tables::{VECTOR_UPDATES, coefficient_updates};
+
+fn read_context(table: &[u8; 11], old: &mut [u8; 11], d: &mut BoolDecoder)
+    ensures value { old.new ≡ (context_rows table.now old.old d.old).0 }
+    ensures rest { d.new ≡ (context_rows table.now old.old d.old).1 }
+{
+    for i in 0..11 {
+        old[i] = read_renewed(table[i], old[i], d);
+    }
+}
+
+fn read_band(table: &[[u8; 11]; 3], old: &mut [[u8; 11]; 3], d: &mut BoolDecoder)
+    ensures value { old.new ≡ (band_rows table.now old.old d.old).0 }
+    ensures rest { d.new ≡ (band_rows table.now old.old d.old).1 }
+{
+    for i in 0..3 {
+        read_context(&table[i], &mut old[i], d);
+    }
+}
+
+fn read_type(table: &[[[u8; 11]; 3]; 8], old: &mut [[[u8; 11]; 3]; 8], d: &mut BoolDecoder)
+    ensures value { old.new ≡ (type_rows table.now old.old d.old).0 }
+    ensures rest { d.new ≡ (type_rows table.now old.old d.old).1 }
+{
+    for i in 0..8 {
+        read_band(&table[i], &mut old[i], d);
+    }
+}
+
+/// Coefficient probabilities.
+pub fn read_coefficients(old: &mut [[[[u8; 11]; 3]; 8]; 4], d: &mut BoolDecoder)
+    ensures value { old.new ≡ (coefficients old.old d.old).0 }
+    ensures rest { d.new ≡ (coefficients old.old d.old).1 }
+{
+    let table = coefficient_updates();
+    for i in 0..4 {
+        read_type(&table[i], &mut old[i], d);
+    }
+}
+
+/// The luma mode probabilities: all anew where that is asked for and their flag is set.
+#[tactic(auto, unfolding(crate::specs::Probabilities::luma, vp_bool::specs::Reader::bind))]
+pub fn read_luma_if(asked: bool, old: &mut [u8; 4], d: &mut BoolDecoder)
+    ensures value { old.new ≡ (when asked (luma old.old) old.old d.old).0 }
+    ensures rest { d.new ≡ (when asked (luma old.old) old.old d.old).1 }
+{
+    if asked && d.read(128) {
+        *old = [d.literal(8), d.literal(8), d.literal(8), d.literal(8)];
+    }
+}
+
+/// The chroma mode probabilities, likewise.
+#[tactic(auto, unfolding(crate::specs::Probabilities::chroma, vp_bool::specs::Reader::bind))]
+pub fn read_chroma_if(asked: bool, old: &mut [u8; 3], d: &mut BoolDecoder)
+    ensures value { old.new ≡ (when asked (chroma old.old) old.old d.old).0 }
+    ensures rest { d.new ≡ (when asked (chroma old.old) old.old d.old).1 }
+{
+    if asked && d.read(128) {
+        *old = [d.literal(8), d.literal(8), d.literal(8)];
+    }
+}
+
+/// A vector probability behind a flag, or this where the flag isn't set.
+#[tactic(auto, unfolding(crate::specs::Probabilities::vector_renewed, vp_bool::specs::Reader::bind))]
+fn read_vector_renewed(probability: u8, old: u8, d: &mut BoolDecoder) -> u8
+    ensures value { result ≡ (vector_renewed probability old d.old).0 }
+    ensures rest { d.new ≡ (vector_renewed probability old d.old).1 }
+{
+    if !d.read(probability) {
+        return old;
+    }
+    let x = number(7, d);
+    if x == 0 { 1 } else { 2 * x }
+}
+
+fn read_component(table: &[u8; 19], old: &mut [u8; 19], d: &mut BoolDecoder)
+    ensures value { old.new ≡ (component_rows table.now old.old d.old).0 }
+    ensures rest { d.new ≡ (component_rows table.now old.old d.old).1 }
+{
+    for i in 0..19 {
+        old[i] = read_vector_renewed(table[i], old[i], d);
+    }
+}
+
+fn read_vectors(old: &mut [[u8; 19]; 2], d: &mut BoolDecoder)
+    ensures value { old.new ≡ (vectors old.old d.old).0 }
+    ensures rest { d.new ≡ (vectors old.old d.old).1 }
+{
+    for i in 0..2 {
+        read_component(&VECTOR_UPDATES[i], &mut old[i], d);
+    }
+}
+
+/// The vector probabilities: each by its flag, where that is asked for.
+pub fn read_vectors_if(asked: bool, old: &mut [[u8; 19]; 2], d: &mut BoolDecoder)
+    ensures value { old.new ≡ (when asked (vectors old.old) old.old d.old).0 }
+    ensures rest { d.new ≡ (when asked (vectors old.old) old.old d.old).1 }
+{
+    if asked {
+        read_vectors(old, d);
+    }
+}

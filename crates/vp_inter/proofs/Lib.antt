@@ -1,0 +1,4 @@
+pub mod Sums
+pub mod ReferenceLemmas
+pub mod FilterLemmas
+pub mod PassLemmas

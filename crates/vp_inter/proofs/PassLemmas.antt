@@ -1,0 +1,117 @@
+-- Lemmas on the two passes over a block.
+use Rattle.std.proofs.Common.{◌≡◌, ◌∙◌, ℕ, ◌+◌, ◌*◌, ◌<◌, ◌≤◌, ℤ, pos, ◌+ℤ◌, List, length, get_or, slice_range, ap, subst, sym, arith, rules, inl, inr}
+use Rattle.std.proofs.lemmas.Int.{ints}
+use Rattle.std.proofs.lemmas.List.{places}
+use Rattle.std.proofs.lemmas.Nat.{row_fits}
+use Rattle.std.proofs.lemmas.Bool.{cases_lt}
+use Rattle.vp_base.specs.Raster.{Raster}
+use Rattle.vp_inter.specs.declared.vector.PlaneVector.{PlaneVector}
+use Rattle.vp_inter.specs.Vectors.{fraction, start}
+use Rattle.vp_inter.specs.Filter.{taps, filter_six}
+use Rattle.vp_inter.specs.Inter.{reference_pixel, across, inter_pixel}
+use Rattle.vp_inter.proofs.FilterLemmas.{filter_six-same, filter_six-whole, filtered_bound}
+
+-- one row more of a block of rows of n
+pub rows_more : (n i : ℕ) (old new row : List ℕ) (value : ℕ → ℕ → ℕ)
+    → ((k c : ℕ) → k < i → c < n → get_or old (k * n + c) 0 ≡ value k c)
+    → ((c : ℕ) → c < n → get_or new (i * n + c) 0 ≡ get_or row c 0)
+    → ((j : ℕ) → j < i * n → get_or new j 0 ≡ get_or old j 0)
+    → ((c : ℕ) → c < n → get_or row c 0 ≡ value i c)
+    → (k c : ℕ) → k < i + 1 → c < n → get_or new (k * n + c) 0 ≡ value k c
+rows_more n i old new row value done here before last k c kin cin =
+    elim (cases_lt k i) [
+      | inl less ↦
+          let room : k * n + n ≤ i * n = row_fits k n i n less (omega arith) in
+          before (k * n + c) (omega arith) ∙ done k c less cin
+      | inr same ↦
+          let e : k ≡ i = omega arith in
+          ap (λ (j : ℕ). get_or new (j * n + c) 0) e ∙ here c cin ∙ last c cin ∙ ap (λ (j : ℕ). value j c) (sym e)
+    ]
+
+-- the horizontal pass over a line of the reference
+pub across_line : (weights : List ℤ) (p : Raster) (left row : ℤ) (n w : ℕ) (line : List ℕ) → w ≡ n + 5
+    → ((c : ℕ) → c < w → get_or line c 0 ≡ reference_pixel p (left +ℤ pos c) row)
+    → (c : ℕ) → c < n → filter_six weights (λ k. get_or line (c + k) 0) ≡ filter_six weights (λ k. reference_pixel p (left +ℤ pos (c + k)) row)
+across_line weights p left row n w line e same c cin =
+    filter_six-same weights (λ k. get_or line (c + k) 0) (λ k. reference_pixel p (left +ℤ pos (c + k)) row) (λ k kin. same (c + k) (omega arith))
+
+in_six : (rows : List ℕ) (n r k c : ℕ) → r < n → k < 6 → c < n → length rows ≡ (n + 5) * n
+    → get_or (slice_range rows (r * n) (r * n + 6 * n)) (k * n + c) 0 ≡ get_or rows ((r + k) * n + c) 0
+in_six rows n r k c rin kin cin long =
+    let fits : r * n + 6 * n ≤ length rows = six_fit in
+    let room : k * n + n ≤ 6 * n = row_fits k n 6 n kin (omega arith) in
+    let at : k * n + c < 6 * n = omega arith in
+    let e : (r * n) + (k * n + c) ≡ (r + k) * n + c = grind arith in
+    (let s : get_or (slice_range rows (r * n) (r * n + 6 * n)) (k * n + c) 0 ≡ get_or rows ((r * n) + (k * n + c)) 0 = search (rules, places) in s)
+    ∙ ap (λ (j : ℕ). get_or rows j 0) e
+  where
+    six_fit : r * n + 6 * n ≤ length rows
+    six_fit =
+        let a : (r + 5) * n + n ≤ (n + 5) * n = row_fits (r + 5) n (n + 5) n (omega arith) (omega arith) in
+        let b : (r + 5) * n ≡ r * n + 5 * n = grind arith in
+        omega arith
+
+-- the vertical pass over six rows of n
+pub down_rows : (weights : List ℤ) (rows : List ℕ) (n r : ℕ) → r < n → length rows ≡ (n + 5) * n → (c : ℕ) → c < n
+    → filter_six weights (λ k. get_or (slice_range rows (r * n) (r * n + 6 * n)) (k * n + c) 0) ≡ filter_six weights (λ k. get_or rows ((r + k) * n + c) 0)
+down_rows weights rows n r rin long c cin =
+    filter_six-same weights (λ k. get_or (slice_range rows (r * n) (r * n + 6 * n)) (k * n + c) 0) (λ k. get_or rows ((r + k) * n + c) 0)
+    (λ k kin. in_six rows n r k c rin kin cin long)
+
+-- both passes
+pub inter_both : (version : ℕ) (p : Raster) (x y : ℕ) (v : PlaneVector) (n : ℕ) (rows : List ℕ)
+    → ((i c : ℕ) → i < n + 5 → c < n → get_or rows (i * n + c) 0 ≡ across (taps version (fraction v.column)) p (start x v.column) (start y v.row) i c)
+    → (r c : ℕ) → r < n → c < n
+    → filter_six (taps version (fraction v.row)) (λ k. get_or rows ((r + k) * n + c) 0) ≡ inter_pixel version p x y v r c
+unfolding inter_pixel
+inter_both version p x y v n rows same r c rin cin =
+    filter_six-same (taps version (fraction v.row)) (λ k. get_or rows ((r + k) * n + c) 0)
+    (λ k. across (taps version (fraction v.column)) p (start x v.column) (start y v.row) (r + k) c)
+    (λ k kin. same (r + k) c (omega arith) cin)
+
+across_bound : (weights : List ℤ) (p : Raster) (left top : ℤ) (i c : ℕ) → across weights p left top i c ≤ 255
+unfolding across
+across_bound weights p left top i c = filtered_bound weights _ _ _ _ _ _
+
+lower : (weights : List ℤ) (p : Raster) (left top : ℤ) (r c : ℕ) → across weights p left (top +ℤ pos 2) r c ≡ across weights p left top (r + 2) c
+unfolding across
+lower weights p left top r c =
+    ap (λ (z : ℤ). filter_six weights (λ k. reference_pixel p (left +ℤ pos (c + k)) z)) (let e : top +ℤ pos 2 +ℤ pos r ≡ top +ℤ pos (r + 2) = omega (arith, ints) in e)
+
+-- at whole rows the horizontal pass is all
+pub inter_level : (version : ℕ) (p : Raster) (x y : ℕ) (v : PlaneVector) (r c : ℕ) → fraction v.row ≡ 0
+    → across (taps version (fraction v.column)) p (start x v.column) (start y v.row +ℤ pos 2) r c ≡ inter_pixel version p x y v r c
+unfolding inter_pixel
+inter_level version p x y v r c none =
+    let row : ℕ → ℕ = λ (k : ℕ). across (taps version (fraction v.column)) p (start x v.column) (start y v.row) (r + k) c in
+    lower (taps version (fraction v.column)) p (start x v.column) (start y v.row) r c
+    ∙ sym (filter_six-whole version row (across_bound (taps version (fraction v.column)) p (start x v.column) (start y v.row) (r + 2) c))
+    ∙ ap (λ (n : ℕ). filter_six (taps version n) row) (sym none)
+
+pub rows_bytes : (n i : ℕ) (value : ℕ → ℕ → ℕ) (row : List ℕ)
+    → ((k c : ℕ) → k < i → c < n → value k c ≤ 255)
+    → ((c : ℕ) → c < n → get_or row c 0 ≡ value i c)
+    → ((c : ℕ) → get_or row c 0 ≤ 255)
+    → (k c : ℕ) → k < i + 1 → c < n → value k c ≤ 255
+rows_bytes n i value row done last bytes k c kin cin =
+    elim (cases_lt k i) [
+      | inl less ↦ done k c less cin
+      | inr same ↦
+          let e : k ≡ i = omega arith in
+          subst (λ (v : ℕ). v ≤ 255) (last c cin ∙ ap (λ (j : ℕ). value j c) (sym e)) (bytes c)
+    ]
+
+-- at whole rows and columns neither pass does anything
+pub inter_whole : (version : ℕ) (p : Raster) (x y : ℕ) (v : PlaneVector) (r c : ℕ) → fraction v.row ≡ 0 → fraction v.column ≡ 0
+    → reference_pixel p (start x v.column +ℤ pos 2 +ℤ pos c) (start y v.row +ℤ pos 2 +ℤ pos r) ≤ 255
+    → reference_pixel p (start x v.column +ℤ pos 2 +ℤ pos c) (start y v.row +ℤ pos 2 +ℤ pos r) ≡ inter_pixel version p x y v r c
+unfolding across
+inter_whole version p x y v r c rows columns byte =
+    let line : ℕ → ℕ = λ (k : ℕ). reference_pixel p (start x v.column +ℤ pos (c + k)) (start y v.row +ℤ pos 2 +ℤ pos r) in
+    let e : start x v.column +ℤ pos 2 +ℤ pos c ≡ start x v.column +ℤ pos (c + 2) = omega (arith, ints) in
+    let at : reference_pixel p (start x v.column +ℤ pos 2 +ℤ pos c) (start y v.row +ℤ pos 2 +ℤ pos r) ≡ line 2 =
+    ap (λ (z : ℤ). reference_pixel p z (start y v.row +ℤ pos 2 +ℤ pos r)) e in
+    at
+    ∙ sym (filter_six-whole version line (subst (λ (n : ℕ). n ≤ 255) at byte))
+    ∙ ap (λ (n : ℕ). filter_six (taps version n) line) (sym columns)
+    ∙ inter_level version p x y v r c rows

@@ -1,0 +1,30 @@
+-- The filters between pixels (RFC 6386, chapter 18.3).
+use Rattle.std.specs.Prelude.{ℕ, ℤ, pos, ◌-◌, ◌*◌, ◌+ℤ◌, ◌*ℤ◌, ◌==◌, List, [], ◌∷◌, slice_index_or, unsigned_abs, if◌then◌else◌}
+use Rattle.std.specs.Int.{int_min, int_max}
+use lib.Signed.{shr_z}
+use Rattle.vp_tables.specs.Tables.{six_taps}
+
+-- the weights of the pixels at -2 to 3, by the version and the eighths of a pixel: version 0 has six taps, the others two
+unfoldable pub taps : ℕ → ℕ → List ℤ
+taps version eighths =
+    if version == 0 then six_taps eighths
+    else (pos 0 ∷ pos 0 ∷ pos (128 - 16 * eighths) ∷ pos (16 * eighths) ∷ pos 0 ∷ pos 0 ∷ [])
+
+-- a number held to 0 .. 255
+abbrev pub held : ℤ → ℕ
+held z = unsigned_abs (int_max (pos 0) (int_min z (pos 255)))
+
+-- six pixels, each times its weight
+abbrev pub weighed : List ℤ → ℕ → ℕ → ℕ → ℕ → ℕ → ℕ → ℤ
+weighed weights a b c d e f =
+    (pos a *ℤ slice_index_or weights 0 (pos 0) +ℤ pos b *ℤ slice_index_or weights 1 (pos 0))
+    +ℤ (pos c *ℤ slice_index_or weights 2 (pos 0) +ℤ pos d *ℤ slice_index_or weights 3 (pos 0))
+    +ℤ (pos e *ℤ slice_index_or weights 4 (pos 0) +ℤ pos f *ℤ slice_index_or weights 5 (pos 0))
+
+-- their sum in 128ths, halves up, held to a pixel
+unfoldable pub filtered : List ℤ → ℕ → ℕ → ℕ → ℕ → ℕ → ℕ → ℕ
+filtered weights a b c d e f = held (shr_z (weighed weights a b c d e f +ℤ pos 64) 128)
+
+-- that, of the six pixels that pixel gives for 0 to 5
+abbrev pub filter_six : List ℤ → (ℕ → ℕ) → ℕ
+filter_six weights pixel = filtered weights (pixel 0) (pixel 1) (pixel 2) (pixel 3) (pixel 4) (pixel 5)

@@ -1,0 +1,26 @@
+-- Inter prediction (RFC 6386, chapter 18).
+use Rattle.std.specs.Prelude.{ℕ, ℤ, pos, negsuc, ◌+◌, ◌-◌, ◌+ℤ◌, min, List}
+use Rattle.vp_base.specs.Raster.{Raster, pixel}
+use Rattle.vp_inter.specs.declared.vector.PlaneVector.{PlaneVector}
+use Rattle.vp_inter.specs.Vectors.{fraction, start}
+use Rattle.vp_inter.specs.Filter.{taps, filter_six}
+
+-- the nearest to a place of 0 .. size - 1
+abbrev pub nearest : ℕ → ℤ → ℕ
+nearest size (pos at) = min at (size - 1)
+nearest size (negsuc _) = 0
+
+-- a reference has a pixel at each column and row: outside the plane it is the nearest pixel of the plane
+unfoldable pub reference_pixel : Raster → ℤ → ℤ → ℕ
+reference_pixel p column row = pixel p (nearest p.width column) (nearest p.height row)
+
+-- the horizontal pass: the pixel made of the six from column left + c on, at row top + i
+unfoldable pub across : List ℤ → Raster → ℤ → ℤ → ℕ → ℕ → ℕ
+across weights p left top i c = filter_six weights (λ k. reference_pixel p (left +ℤ pos (c + k)) (top +ℤ pos i))
+
+-- the pixel at row r and column c of the block at column x of row y, moved by a vector: the vertical pass over what the
+-- horizontal pass makes of the six rows round it
+unfoldable pub inter_pixel : ℕ → Raster → ℕ → ℕ → PlaneVector → ℕ → ℕ → ℕ
+inter_pixel version p x y v r c =
+    filter_six (taps version (fraction v.row))
+    (λ k. across (taps version (fraction v.column)) p (start x v.column) (start y v.row) (r + k) c)

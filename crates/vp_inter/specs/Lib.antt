@@ -1,0 +1,3 @@
+pub mod Vectors
+pub mod Filter
+pub mod Inter

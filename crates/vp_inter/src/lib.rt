@@ -1,0 +1,12 @@
+//! Inter prediction: blocks of an earlier picture, moved by a vector (RFC 6386, chapter 18).
+#![tactic(auto)]
+
+mod block;
+mod filter;
+mod reference;
+#[cfg(test)]
+mod tests;
+mod vector;
+
+pub use block::{predict_block4, predict_block8, predict_block16};
+pub use vector::{PlaneVector, chroma_vector, luma_vector};

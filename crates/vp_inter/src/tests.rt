@@ -1,0 +1,33 @@
+use super::*;
+use std::test::Fail;
+use vp_base::Plane;
+
+/// Three columns of 0 and then 255.
+#[test]
+fn kernel_examples(rt: HostRuntime) -> Result<(), Fail> {
+    let mut plane = Plane::new(rt.alloc(), 16, 16, 255)?;
+    assert_eq!(rt; plane.width(), 16);
+    assert_eq!(rt; plane.height(), 16);
+    for y in 0..16 {
+        if plane.width() == 16 && y < plane.height() {
+            plane.write_run(0, y, [0; 3].as_slice());
+        }
+    }
+    assert_eq!(rt; plane.width(), 16);
+    assert_eq!(rt; plane.height(), 16);
+    let quarter = luma_vector(0, 1);
+    assert_eq!(rt; predict_block4(&plane, 0, 0, quarter, 0)[2], 58);
+    assert_eq!(rt; predict_block4(&plane, 0, 0, quarter, 1)[2], 64);
+    assert_eq!(rt; predict_block16(&plane, 0, 0, quarter, 0)[242], 58);
+    let turned = luma_vector(-400, 1 - 4000);
+    assert_eq!(rt; predict_block8(&plane, 8, 8, turned, 0)[63], 0);
+    assert_eq!(rt;
+        chroma_vector(0, &[-1, -1, -1, -2], &[1, 2, 3, 4]),
+        PlaneVector { row: -1, column: 3 }
+    );
+    assert_eq!(rt;
+        chroma_vector(3, &[-1, -1, -1, -2], &[9, 9, 9, 9]),
+        PlaneVector { row: -8, column: 8 }
+    );
+    Ok(())
+}

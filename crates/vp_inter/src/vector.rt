@@ -1,0 +1,101 @@
+//! Vectors of a plane, and what is read of them.
+
+ghost use Rattle.std.specs.Prelude.{◌≡◌, ℕ, ℤ, pos, negsuc, ◌+◌, ◌<◌, ◌≤◌, ◌+ℤ◌, ◌-ℤ◌, ◌*ℤ◌, ◌≤ℤ◌, unsigned_abs, ◌^◌};
+ghost use lib.Signed.{shr_z};
+ghost use Rattle.vp_inter.specs.Vectors.{whole, fraction, start, IsNear, AreNear, mean_of_four, chroma_eighths, luma_vector, chroma_vector};
+
+/// How far a block moves, in eighths of the plane's pixels (RFC 6386, chapter 5).
+#[derive(Clone, Copy, Debug, PartialEq, Eq, Default)]
+pub struct PlaneVector {
+    /// Positive is down.
+    pub row: i32,
+    /// Positive is to the right.
+    pub column: i32,
+}
+
+/// The whole pixels, rounded down.
+#[tactic(auto, unfolding(crate::specs::Vectors::whole))]
+fn whole(eighths: i32) -> i32
+    ensures value { result ≡ whole eighths }
+    ensures range { (negsuc 268435455 ≤ℤ result) × (result ≤ℤ pos 268435455) }
+{
+    eighths >> 3
+}
+
+/// The eighths above the whole pixels.
+#[tactic(auto, unfolding(crate::specs::Vectors::fraction))]
+pub fn fraction(eighths: i32) -> usize
+    ensures value { result ≡ fraction eighths }
+    ensures bound { result < 8 }
+{
+    eighths.rem_euclid(8) as usize
+}
+
+/// Where the first of the six pixels stands that the pixel at `at` is made of.
+#[tactic(auto, unfolding(crate::specs::Vectors::start))]
+pub fn start(at: usize, eighths: i32) -> i32
+    requires { at ≤ 16384 }
+    ensures value { result ≡ start at eighths }
+    ensures range { (negsuc 300000000 ≤ℤ result) × (result ≤ℤ pos 300000000) }
+{
+    at as i32 + whole(eighths) - 2
+}
+
+/// The vector of a luma block that moves by so many quarters of a pixel.
+#[tactic(auto, unfolding(crate::specs::Vectors::luma_vector))]
+pub fn luma_vector(row: i32, column: i32) -> PlaneVector
+    requires row { IsNear row }
+    requires column { IsNear column }
+    ensures { result ≡ luma_vector row column }
+{
+    PlaneVector {
+        row: 2 * row,
+        column: 2 * column,
+    }
+}
+
+/// The vector of a block of 4 by 4 colour pixels, of the rows and the columns, in quarters of a pixel, of the vectors of
+/// the four luma blocks of 4 by 4 that it lies under. `version` is the stream's.
+#[tactic(auto, unfolding(crate::specs::Vectors::chroma_vector))]
+pub fn chroma_vector(version: u8, rows: &[i32; 4], columns: &[i32; 4]) -> PlaneVector
+    requires rows { AreNear rows.now }
+    requires columns { AreNear columns.now }
+    ensures { result ≡ chroma_vector version rows.now columns.now }
+{
+    PlaneVector {
+        row: chroma_eighths(version, rows),
+        column: chroma_eighths(version, columns),
+    }
+}
+
+#[tactic(auto, unfolding(crate::specs::Vectors::chroma_eighths))]
+fn chroma_eighths(version: u8, quarters: &[i32; 4]) -> i32
+    requires { AreNear quarters.now }
+    ensures { result ≡ chroma_eighths version quarters.now }
+{
+    let first = sum_of_two(quarters[0], quarters[1]);
+    let last = sum_of_two(quarters[2], quarters[3]);
+    let mean = mean_of_four(first + last);
+    if version == 3 { whole(mean) * 8 } else { mean }
+}
+
+fn sum_of_two(a: i32, b: i32) -> i32
+    requires first { IsNear a }
+    requires second { IsNear b }
+    ensures value { result ≡ a +ℤ b }
+    ensures range { (negsuc 33554431 ≤ℤ result) × (result ≤ℤ pos 33554432) }
+{
+    a + b
+}
+
+#[tactic(auto, unfolding(crate::specs::Vectors::mean_of_four))]
+fn mean_of_four(sum: i32) -> i32
+    requires { (negsuc 67108863 ≤ℤ sum) × (sum ≤ℤ pos 67108864) }
+    ensures { result ≡ mean_of_four sum }
+{
+    if sum < 0 {
+        (sum - 2) / 4
+    } else {
+        (sum + 2) / 4
+    }
+}

@@ -1,0 +1,55 @@
+-- Lemmas on the pixels of a block.
+use Rattle.std.proofs.Common.{◌≡◌, ◌∙◌, ℕ, ◌+◌, ◌*◌, ◌<◌, ◌≤◌, List, length, get_or, replicate, ap, sym, arith}
+use Rattle.std.proofs.lemmas.Nat.{row_fits}
+use Rattle.std.proofs.lemmas.List.{length-replicate, get_or-replicate}
+use Rattle.vp_base.proofs.BlockLemmas.{length-numbers, get_or-numbers, same_numbers}
+use Rattle.vp_base.specs.Raster.{Raster}
+use Rattle.vp_intra.specs.Edges.{block, first, above, left, corner, clamped, true_motion}
+use Rattle.vp_intra.proofs.EdgeLemmas.{read_first}
+
+pub length-block : (n : ℕ) (f : ℕ → ℕ → ℕ) → length (block n f) ≡ n * n
+unfolding block
+length-block n f = length-numbers n n (λ c r. f r c)
+
+-- the pixel at row r and column c
+pub read_block : (n : ℕ) (f : ℕ → ℕ → ℕ) (r c : ℕ) → r < n → c < n → get_or (block n f) (r * n + c) 0 ≡ f r c
+unfolding block
+read_block n f r c rin cin = get_or-numbers n n (λ v u. f u v) c r cin rin
+
+-- a list that has these pixels
+pub is_block : (n : ℕ) (f : ℕ → ℕ → ℕ) (xs : List ℕ) → length xs ≡ n * n
+    → ((r c : ℕ) → r < n → c < n → get_or xs (r * n + c) 0 ≡ f r c) → xs ≡ block n f
+is_block n f xs len same =
+    same_numbers n n xs (block n f) len (length-block n f)
+    (λ c r cin rin. same r c rin cin ∙ sym (read_block n f r c rin cin))
+
+pub block_same : (n : ℕ) (f g : ℕ → ℕ → ℕ) → ((r c : ℕ) → r < n → c < n → f r c ≡ g r c) → block n f ≡ block n g
+block_same n f g same =
+    is_block n g (block n f) (length-block n f) (λ r c rin cin. read_block n f r c rin cin ∙ same r c rin cin)
+
+-- one pixel at each place
+pub even_block : (n m v : ℕ) → m ≡ n * n → replicate m v ≡ block n (λ r c. v)
+even_block n m v e =
+    is_block n (λ r c. v) (replicate m v) (length-replicate m v ∙ e)
+    (λ r c rin cin. let room : r * n + n ≤ n * n = row_fits r n n n rin (omega arith) in get_or-replicate m (r * n + c) v 0 (omega arith))
+
+-- ---- blocks made of the edges
+
+pub vertical_block : (n : ℕ) (p : Raster) (x y : ℕ) (es : List ℕ) → es ≡ first n (above p x y)
+    → block n (λ r c. get_or es c 0) ≡ block n (λ r c. above p x y c)
+vertical_block n p x y es e =
+    block_same n (λ r c. get_or es c 0) (λ r c. above p x y c) (λ r c rin cin. read_first es n (above p x y) c e cin)
+
+pub horizontal_block : (n : ℕ) (p : Raster) (x y : ℕ) (es : List ℕ) → es ≡ first n (left p x y)
+    → block n (λ r c. get_or es r 0) ≡ block n (λ r c. left p x y r)
+horizontal_block n p x y es e =
+    block_same n (λ r c. get_or es r 0) (λ r c. left p x y r) (λ r c rin cin. read_first es n (left p x y) r e rin)
+
+pub true_motion_block : (n : ℕ) (p : Raster) (x y : ℕ) (us ls : List ℕ) (k : ℕ)
+    → us ≡ first n (above p x y) → ls ≡ first n (left p x y) → k ≡ corner p x y
+    → block n (λ r c. clamped (get_or ls r 0) (get_or us c 0) k) ≡ block n (true_motion p x y)
+true_motion_block n p x y us ls k a l e =
+    block_same n (λ r c. clamped (get_or ls r 0) (get_or us c 0) k) (true_motion p x y) (λ r c rin cin.
+    ap (λ (v : ℕ). clamped v (get_or us c 0) k) (read_first ls n (left p x y) r l rin)
+    ∙ ap (λ (v : ℕ). clamped (left p x y r) v k) (read_first us n (above p x y) c a cin)
+    ∙ ap (clamped (left p x y r) (above p x y c)) e)

@@ -1,0 +1,3 @@
+pub mod Edges
+pub mod Whole
+pub mod Sub

@@ -1,0 +1,77 @@
+-- Prediction of a luma subblock of 4 by 4 pixels (RFC 6386, chapter 12.3).
+use Rattle.std.specs.Prelude.{ℕ, ◌+◌, ◌*◌, ◌-◌, ◌/◌, ◌%◌, ◌==◌, min, List, [], ◌∷◌, sum, take, drop, map, slice_index, replicate, if◌then◌else◌}
+use Rattle.std.specs.List.{range_with_len}
+use Rattle.vp_base.specs.Raster.{Raster, pixel}
+use Rattle.vp_tables.specs.declared.modes.SubMode.{SubMode}
+use Rattle.vp_tables.specs.declared.modes.SubMode.TheVariants.{Dc, Tm, Ve, He, Ld, Rd, Vr, Vl, Hd, Hu}
+use Rattle.vp_intra.specs.Edges.{above, left, corner, clamped}
+
+-- the row below the pixels above and to the right of the subblock at column x of row y: in the last column of a
+-- macroblock it is the macroblock's first row, not the subblock's
+unfoldable pub right_row : ℕ → ℕ → ℕ
+right_row x y = if x % 16 == 12 then y - y % 16 else y
+
+-- the i-th of these pixels: above the frame it is 127, and past the last column the last pixel is repeated
+unfoldable pub right : Raster → ℕ → ℕ → ℕ → ℕ
+right p x y i = if right_row x y == 0 then 127 else pixel p (min (x + 4 + i) (p.width - 1)) (right_row x y - 1)
+
+-- The thirteen pixels round a subblock, from the bottom of the left column up, over the corner, and along the row
+-- above: number 4 is the corner, number 5 the first of the row above, and number 3 the top of the left column.
+abbrev pub around : Raster → ℕ → ℕ → List ℕ
+around p x y =
+    left p x y 3 ∷ left p x y 2 ∷ left p x y 1 ∷ left p x y 0 ∷ corner p x y ∷
+    above p x y 0 ∷ above p x y 1 ∷ above p x y 2 ∷ above p x y 3 ∷
+    right p x y 0 ∷ right p x y 1 ∷ right p x y 2 ∷ right p x y 3 ∷ []
+
+unfoldable pub avg2 : ℕ → ℕ → ℕ
+avg2 x y = (x + y + 1) / 2
+
+unfoldable pub avg3 : ℕ → ℕ → ℕ → ℕ
+avg3 x y z = (x + 2 * y + z + 2) / 4
+
+-- two neighbours of the thirteen
+abbrev pub two : List ℕ → ℕ → ℕ
+two es k = avg2 (slice_index es k) (slice_index es (k + 1))
+
+-- one of them with its neighbours
+abbrev pub about : List ℕ → ℕ → ℕ
+about es k = avg3 (slice_index es (k - 1)) (slice_index es k) (slice_index es (k + 1))
+
+-- the sixteen pixels of a subblock, row after row
+abbrev pub sixteen : (ℕ → ℕ → ℕ) → List ℕ
+sixteen f = map (λ i. f (i / 4) (i % 4)) (range_with_len 0 16)
+
+-- what a mode makes of the thirteen
+abbrev pub predicted : SubMode → List ℕ → List ℕ
+predicted Dc es = replicate 16 ((sum (take 4 es) + sum (take 4 (drop 5 es)) + 4) / 8)
+predicted Tm es = sixteen (λ r c. clamped (slice_index es (3 - r)) (slice_index es (5 + c)) (slice_index es 4))
+predicted Ve es = sixteen (λ r c. about es (5 + c))
+predicted He es =
+    sixteen (λ r c. if r == 3 then avg3 (slice_index es 1) (slice_index es 0) (slice_index es 0) else about es (3 - r))
+predicted Ld es =
+    sixteen (λ r c. if r + c == 6 then avg3 (slice_index es 11) (slice_index es 12) (slice_index es 12) else about es (6 + r + c))
+predicted Rd es = sixteen (λ r c. about es ((4 - r) + c))
+predicted Vr es =
+    two es 4 ∷ two es 5 ∷ two es 6 ∷ two es 7 ∷
+    about es 4 ∷ about es 5 ∷ about es 6 ∷ about es 7 ∷
+    about es 3 ∷ two es 4 ∷ two es 5 ∷ two es 6 ∷
+    about es 2 ∷ about es 4 ∷ about es 5 ∷ about es 6 ∷ []
+predicted Vl es =
+    two es 5 ∷ two es 6 ∷ two es 7 ∷ two es 8 ∷
+    about es 6 ∷ about es 7 ∷ about es 8 ∷ about es 9 ∷
+    two es 6 ∷ two es 7 ∷ two es 8 ∷ about es 10 ∷
+    about es 7 ∷ about es 8 ∷ about es 9 ∷ about es 11 ∷ []
+predicted Hd es =
+    two es 3 ∷ about es 4 ∷ about es 5 ∷ about es 6 ∷
+    two es 2 ∷ about es 3 ∷ two es 3 ∷ about es 4 ∷
+    two es 1 ∷ about es 2 ∷ two es 2 ∷ about es 3 ∷
+    two es 0 ∷ about es 1 ∷ two es 1 ∷ about es 2 ∷ []
+predicted Hu es =
+    two es 2 ∷ about es 2 ∷ two es 1 ∷ about es 1 ∷
+    two es 1 ∷ about es 1 ∷ two es 0 ∷ avg3 (slice_index es 1) (slice_index es 0) (slice_index es 0) ∷
+    two es 0 ∷ avg3 (slice_index es 1) (slice_index es 0) (slice_index es 0) ∷ slice_index es 0 ∷ slice_index es 0 ∷
+    slice_index es 0 ∷ slice_index es 0 ∷ slice_index es 0 ∷ slice_index es 0 ∷ []
+
+-- row r and column c of the subblock at column x of row y of p
+unfoldable pub sub_pixel : SubMode → Raster → ℕ → ℕ → ℕ → ℕ → ℕ
+sub_pixel mode p x y r c = slice_index (predicted mode (around p x y)) (r * 4 + c)

@@ -1,0 +1,103 @@
+//! The pixels round a block (chapter 12.2).
+
+ghost use Rattle.std.specs.Prelude.{◌≡◌, ℕ, ◌+◌, ◌*◌, ◌/◌, ◌<◌, ◌≤◌, length, sum};
+ghost use Rattle.vp_base.specs.Raster.{Raster, pixel};
+ghost use Rattle.vp_intra.specs.Edges.{first, above, left, corner, edge, rounded_mean};
+
+use vp_base::Plane;
+
+/// The row above a block.
+#[tactic(auto, unfolding(crate::specs::Edges::above))]
+pub fn edge_above<const N: usize>(plane: &Plane, x: usize, y: usize) -> [u8; N]
+    requires size { N ≤ 16 }
+    requires columns { x + N ≤ plane.now.width }
+    requires row { y < plane.now.height }
+    ensures { result ≡ first N (above plane.now x y) }
+{
+    let mut edge = [127; N];
+    if y > 0 {
+        edge.copy_from_slice(&plane.row(y - 1)[x..x + N]);
+    }
+    edge
+}
+
+/// The column to the left of a block.
+#[tactic(auto, unfolding(crate::specs::Edges::left))]
+pub fn edge_left<const N: usize>(plane: &Plane, x: usize, y: usize) -> [u8; N]
+    requires size { N ≤ 16 }
+    requires column { x < plane.now.width }
+    requires rows { y + N ≤ plane.now.height }
+    ensures { result ≡ first N (left plane.now x y) }
+{
+    let mut edge = [129; N];
+    let _height = plane.height();
+    if x > 0 {
+        for r in 0..N {
+            edge[r] = plane.get(x - 1, y + r);
+        }
+    }
+    edge
+}
+
+/// The pixel above and to the left of a block.
+#[tactic(auto, unfolding(crate::specs::Edges::corner))]
+pub fn edge_corner(plane: &Plane, x: usize, y: usize) -> u8
+    requires column { x < plane.now.width }
+    requires row { y < plane.now.height }
+    ensures { result ≡ corner plane.now x y }
+{
+    if y == 0 {
+        127
+    } else if x == 0 {
+        129
+    } else {
+        plane.get(x - 1, y - 1)
+    }
+}
+
+/// The rounded mean of the pixels above and to the left that lie inside the picture.
+#[tactic(auto, unfolding(crate::specs::Edges::edge))]
+pub fn edge_mean<const N: usize>(plane: &Plane, x: usize, y: usize) -> u8
+    requires columns { x + N ≤ plane.now.width }
+    requires rows { y + N ≤ plane.now.height }
+    requires some { 0 < N }
+    requires size { N ≤ 16 }
+    ensures { result ≡ rounded_mean (edge plane.now x y N) }
+{
+    if y == 0 && x == 0 {
+        return 128;
+    }
+    if y == 0 {
+        return rounded(sum_of(&edge_left::<N>(plane, x, y)), N as u16);
+    }
+    let sum = sum_of(&edge_above::<N>(plane, x, y));
+    if x == 0 {
+        return rounded(sum, N as u16);
+    }
+    rounded(
+        sum + sum_of(&edge_left::<N>(plane, x, y)),
+        N as u16 + N as u16,
+    )
+}
+
+fn rounded(sum: u16, count: u16) -> u8
+    requires some { 0 < count }
+    requires few { count ≤ 32 }
+    requires bytes { sum ≤ 255 * count }
+    ensures { result ≡ (sum + count / 2) / count }
+{
+    ((sum + count / 2) / count) as u8
+}
+
+/// The sum of at most sixteen pixels.
+pub fn sum_of(bytes: &[u8]) -> u16
+    requires { length bytes.now ≤ 16 }
+    ensures value { result ≡ sum bytes.now }
+    ensures bound { result ≤ 255 * length bytes.now }
+{
+    let mut sum = 0;
+    for b in bytes {
+        sum += u16::from(*b);
+    }
+    sum
+}

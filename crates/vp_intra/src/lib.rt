@@ -1,0 +1,12 @@
+//! Intra prediction: blocks from the pixels round them (RFC 6386, chapter 12).
+#![tactic(auto)]
+
+mod edges;
+mod modes;
+mod sub;
+#[cfg(test)]
+mod tests;
+mod whole;
+
+pub use sub::predict_sub;
+pub use whole::{predict_chroma, predict_luma};

@@ -1,0 +1,63 @@
+//! Prediction of a subblock of 4 by 4 pixels (chapter 12.3).
+
+ghost use Rattle.std.specs.Prelude.{◌≡◌, ℕ, ◌+◌, ◌<◌, ◌≤◌};
+ghost use Rattle.vp_intra.specs.Edges.{block};
+ghost use Rattle.vp_intra.specs.Sub.{right_row, right, around, sub_pixel};
+
+use crate::edges::{edge_above, edge_corner, edge_left};
+use crate::modes::predict;
+use vp_base::Plane;
+use vp_tables::SubMode;
+
+/// The subblock that `mode` makes at column `x` of row `y` of `plane`, row after row. Both are multiples of 4 in a
+/// plane of luma; the last column of each macroblock takes the pixels above and to the right from the row above the
+/// macroblock.
+pub fn predict_sub(plane: &Plane, x: usize, y: usize, mode: SubMode) -> [u8; 16]
+    requires columns { x + 4 ≤ plane.now.width }
+    requires rows { y + 4 ≤ plane.now.height }
+    ensures { result ≡ block 4 (sub_pixel mode plane.now x y) }
+{
+    predict(mode, &pixels_around(plane, x, y))
+}
+
+#[tactic(auto, unfolding(crate::specs::Sub::right_row))]
+fn row_at_right(x: usize, y: usize) -> usize
+    ensures value { result ≡ right_row x y }
+    ensures bound { result ≤ y }
+{
+    if x % 16 == 12 { y - y % 16 } else { y }
+}
+
+#[tactic(auto, unfolding(crate::specs::Sub::right))]
+fn pixel_at_right(plane: &Plane, x: usize, y: usize, i: usize) -> u8
+    requires column { x + 4 ≤ plane.now.width }
+    requires row { y < plane.now.height }
+    requires index { i < 4 }
+    ensures { result ≡ right plane.now x y i }
+{
+    let width = plane.width();
+    let row = row_at_right(x, y);
+    if row == 0 {
+        127
+    } else {
+        plane.get((x + 4 + i).min(width - 1), row - 1)
+    }
+}
+
+/// The thirteen pixels round a subblock.
+fn pixels_around(plane: &Plane, x: usize, y: usize) -> [u8; 13]
+    requires columns { x + 4 ≤ plane.now.width }
+    requires rows { y + 4 ≤ plane.now.height }
+    ensures { result ≡ around plane.now x y }
+{
+    let l = edge_left::<4>(plane, x, y);
+    let p = edge_corner(plane, x, y);
+    let a = edge_above::<4>(plane, x, y);
+    let r0 = pixel_at_right(plane, x, y, 0);
+    let r1 = pixel_at_right(plane, x, y, 1);
+    let r2 = pixel_at_right(plane, x, y, 2);
+    let r3 = pixel_at_right(plane, x, y, 3);
+    [
+        l[3], l[2], l[1], l[0], p, a[0], a[1], a[2], a[3], r0, r1, r2, r3,
+    ]
+}

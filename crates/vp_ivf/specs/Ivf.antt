@@ -1,0 +1,86 @@
+-- The packets of an IVF file: the cuts of all its bytes.
+-- IVF is the container of the standard's test streams; RFC 6386 itself doesn't define it. All numbers are little endian.
+use Rattle.std.specs.Prelude.{ℕ, zero, suc, ◌+◌, nat_lt, nat_eq, not, List, [], ◌∷◌, ◌++◌, length, take, drop, Option, Some, None, Result, Ok, Err, if◌then◌else◌, codes}
+use Rattle.std.specs.List.{starts_with}
+use Rattle.byteorder.specs.Endian.{little_number}
+use Rattle.vp_ivf.specs.declared.packet.Packet.{Packet}
+use Rattle.vp_ivf.specs.declared.packet.IvfHead.{IvfHead}
+use Rattle.vp_ivf.specs.declared.fault.FileFault.{FileFault}
+use Rattle.vp_ivf.specs.declared.fault.FileFault.TheVariants.{Signature, Codec, TooMany, PacketTooLarge}
+
+-- what is known of a file by its bytes so far: its head, the packets that were cut, how many more may come,
+-- the fault that was met, and the bytes that weren't cut
+pub record Reading : Type 0 where
+  pub head : Option IvfHead
+  pub packets : List Packet
+  pub left : ℕ
+  pub fault : Option FileFault
+  pub rest : List ℕ
+
+-- what the 32 bytes of a file's head say
+abbrev pub head_of : List ℕ → IvfHead
+head_of b = record { w = little_number 2 (drop 12 b); h = little_number 2 (drop 14 b); rate = little_number 4 (drop 16 b); scale = little_number 4 (drop 20 b) }
+
+-- the head, once its 32 bytes are there
+unfoldable pub next_head : List ℕ → Result (Option IvfHead) FileFault
+next_head b =
+    if nat_lt (length b) 32 then Ok None else
+    if not (starts_with nat_eq b (codes "DKIF")) then Err Signature else
+    if not (starts_with nat_eq (drop 8 b) (codes "VP80")) then Err Codec else Ok (Some (head_of b))
+
+-- the size that a packet's head says
+abbrev pub size_of : List ℕ → ℕ
+size_of b = little_number 4 b
+
+-- the packet at the front, of this size: its time and its bytes, behind the 12 bytes of its head
+abbrev pub packet_at : ℕ → List ℕ → Packet
+packet_at size b = record { time = little_number 8 (drop 4 b); bytes = take size (drop 12 b) }
+
+-- the size of the packet at the front, once it is whole, where packets of at most max bytes are allowed and n more of them
+unfoldable pub next_size : ℕ → ℕ → List ℕ → Result (Option ℕ) FileFault
+next_size max zero b = if nat_lt (length b) 12 then Ok None else Err TooMany
+next_size max (suc n) b =
+    if nat_lt (length b) 12 then Ok None else
+    if nat_lt max (size_of b) then Err PacketTooLarge else
+    if nat_lt (length b) (12 + size_of b) then Ok None else Ok (Some (size_of b))
+
+-- nothing more can be cut
+abbrev pub stop : Option IvfHead → ℕ → Option FileFault → List ℕ → Reading
+stop head n fault b = record { head = head; packets = []; left = n; fault = fault; rest = b }
+
+-- these packets come before
+abbrev pub with_front : List Packet → Reading → Reading
+with_front front r = record r { packets = front ++ r.packets }
+
+-- a fault or want of bytes stops; else the packet comes before what is cut later
+abbrev pub after_next : Option IvfHead → Result (Option ℕ) FileFault → ℕ → List ℕ → Reading → Reading
+after_next head (Err fault) n b later = stop head n (Some fault) b
+after_next head (Ok None) n b later = stop head n None b
+after_next head (Ok (Some size)) n b later = with_front (packet_at size b ∷ []) later
+
+-- what is cut behind the head, where n packets may still come
+unfoldable pub cuts : Option IvfHead → ℕ → ℕ → List ℕ → Reading
+cuts head max zero b = after_next head (next_size max zero b) 0 b (stop head 0 None b)
+cuts head max (suc n) b = after_next head (next_size max (suc n) b) (suc n) b (cuts head max n (drop (12 + size_of b) b))
+
+abbrev pub after_head : Result (Option IvfHead) FileFault → ℕ → ℕ → List ℕ → Reading
+after_head (Err fault) max n b = stop None n (Some fault) b
+after_head (Ok None) max n b = stop None n None b
+after_head (Ok (Some head)) max n b = cuts (Some head) max n (drop 32 b)
+
+-- a whole file, of at most n packets of at most max bytes each
+unfoldable pub read : ℕ → ℕ → List ℕ → Reading
+read max n b = after_head (next_head b) max n b
+
+-- reading goes on behind a head that is known, or not yet
+abbrev pub read_from : Option IvfHead → ℕ → ℕ → List ℕ → Reading
+read_from None max n b = read max n b
+read_from (Some head) max n b = cuts (Some head) max n b
+
+-- more bytes come; behind a fault they are not read
+abbrev pub resume_at : Option FileFault → ℕ → Reading → List ℕ → Reading
+resume_at (Some fault) max r more = record r { rest = r.rest ++ more }
+resume_at None max r more = with_front r.packets (read_from r.head max r.left (r.rest ++ more))
+
+abbrev pub resume : ℕ → Reading → List ℕ → Reading
+resume max r more = resume_at r.fault max r more

@@ -1,0 +1,4 @@
+pub mod Ivf
+pub mod Reader
+pub mod Cutting
+pub mod Laws

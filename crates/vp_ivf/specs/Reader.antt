@@ -1,0 +1,97 @@
+-- A reader, and the history that it stands for.
+use Rattle.std.specs.Prelude.{ℕ, Bool, true, false, ◌≡◌, ◌≤◌, ◌+◌, List, [], ◌∷◌, ◌++◌, length, drop, Option, Some, None, Result, Ok, Err}
+use Rattle.vp_ivf.specs.declared.packet.Packet.{Packet}
+use Rattle.vp_ivf.specs.declared.packet.IvfHead.{IvfHead}
+use Rattle.vp_ivf.specs.declared.fault.FileFault.{FileFault}
+use Rattle.vp_ivf.specs.declared.fault.FileFault.TheVariants.{Ended, Torn}
+use Rattle.vp_ivf.specs.declared.fault.FeedError.{FeedError}
+use Rattle.vp_ivf.specs.declared.fault.FeedError.TheVariants.{Fault}
+use Rattle.vp_ivf.specs.Ivf.{Reading, read, read_from, stop}
+
+-- a reader: the most bytes of a packet, the most packets of a file, what it knows of the file but for the packets
+-- that were taken, and whether the end was told
+pub record State : Type 0 where
+  pub max : ℕ
+  pub limit : ℕ
+  pub reading : Reading
+  pub ended : Bool
+
+-- a reader that was fed nothing
+abbrev pub fresh : ℕ → ℕ → State
+fresh max limit = record { max = max; limit = limit; reading = stop None limit None []; ended = false }
+
+-- all bytes fed, how many packets were taken, and whether the end was told before a fault was met
+pub record History : Type 0 where
+  pub fed : List ℕ
+  pub taken : ℕ
+  pub ended : Bool
+
+abbrev pub start : History
+start = record { fed = []; taken = 0; ended = false }
+
+abbrev pub with_piece : History → List ℕ → History
+with_piece h piece = record h { fed = h.fed ++ piece }
+
+abbrev pub with_taken : History → ℕ → History
+with_taken h n = record h { taken = h.taken + n }
+
+-- a reading without its first n packets
+abbrev pub without : ℕ → Reading → Reading
+without n r = record r { packets = drop n r.packets }
+
+-- the reader is what this history makes of it
+pub record StandsFor (s : State) (h : History) : Type 0 where
+  pub taken : h.taken ≤ length (read s.max s.limit h.fed).packets
+  pub reading : s.reading ≡ without h.taken (read s.max s.limit h.fed)
+  pub ended : s.ended ≡ h.ended
+
+-- the packets of all bytes fed
+abbrev pub packets_of : State → History → List Packet
+packets_of s h = (read s.max s.limit h.fed).packets
+
+abbrev pub SameLimits : State → State → Type 0
+SameLimits old new = (new.max ≡ old.max) × (new.limit ≡ old.limit)
+
+-- what earlier calls refuse: the fault that was met, or the end that was told
+abbrev pub refusal_at : Option FileFault → Bool → Option FileFault
+refusal_at (Some fault) ended = Some fault
+refusal_at None true = Some Ended
+refusal_at None false = None
+
+abbrev pub refusal : State → Option FileFault
+refusal s = refusal_at s.reading.fault s.ended
+
+-- the answer where a fault was met, or none
+abbrev pub answer_by : Option FileFault → Result (Unit {0}) FeedError
+answer_by None = Ok tt
+answer_by (Some fault) = Err (Fault fault)
+
+-- the end is told, unless a fault was met before
+abbrev pub ended_by : Option FileFault → Bool → Bool
+ended_by None ended = true
+ended_by (Some fault) ended = ended
+
+abbrev pub after_end : State → State
+after_end s = record s { ended = ended_by s.reading.fault s.ended }
+
+abbrev pub with_end : History → Option FileFault → History
+with_end h fault = record h { ended = ended_by fault h.ended }
+
+-- the end is inside the head or a packet
+abbrev pub is_torn : Option IvfHead → List ℕ → Bool
+is_torn None rest = true
+is_torn (Some head) [] = false
+is_torn (Some head) (x ∷ xs) = true
+
+abbrev pub finish_by : Option FileFault → Bool → Result (Unit {0}) FileFault
+finish_by (Some fault) torn = Err fault
+finish_by None true = Err Torn
+finish_by None false = Ok tt
+
+-- what telling the end answers
+abbrev pub finish_answer : Reading → Result (Unit {0}) FileFault
+finish_answer r = finish_by r.fault (is_torn r.head r.rest)
+
+-- nothing whole is left, unless a fault was met
+abbrev pub IsSettled : ℕ → Reading → Type 0
+IsSettled max r = r.fault ≡ None → read_from r.head max r.left r.rest ≡ stop r.head r.left None r.rest

@@ -1,0 +1,27 @@
+//! What is wrong with a file.
+
+/// What is wrong with a file.
+#[derive(Clone, Copy, Debug, PartialEq, Eq)]
+pub enum FileFault {
+    /// Its head doesn't begin with `DKIF`.
+    Signature,
+    /// Its head doesn't say `VP80`.
+    Codec,
+    /// It has more packets than the limits allow.
+    TooMany,
+    /// A packet is larger than the limits allow.
+    PacketTooLarge,
+    /// It ends inside its head or a packet.
+    Torn,
+    /// It was fed after its end.
+    Ended,
+}
+
+/// Why a reader didn't take a piece, or what is wrong with the file by that piece.
+#[derive(Clone, Copy, Debug, PartialEq, Eq)]
+pub enum FeedError {
+    /// Memory was refused; the piece wasn't taken.
+    Memory,
+    /// The fault that the piece met, or for which no piece is taken any more.
+    Fault(FileFault),
+}

@@ -1,0 +1,188 @@
+//! A reader that is fed a file in pieces.
+
+ghost use Rattle.std.specs.Prelude.{◌≡◌, ◌≢◌, ◌≤◌, ◌+◌, ◌/◌, length, None, Some, Err, slice_get, option_to_list};
+ghost use Rattle.vp_ivf.specs.Ivf.{read, resume};
+ghost use Rattle.vp_ivf.specs.declared.fault.FileFault.{FileFault};
+ghost use Rattle.vp_ivf.specs.Reader.{History, StandsFor, SameLimits, fresh, start, with_piece, with_taken, with_end, after_end, without, refusal, answer_by, finish_answer, packets_of};
+
+use crate::cutting::{Cutting, read_on};
+use crate::fault::{FeedError, FileFault};
+use crate::packet::{IvfHead, Packet};
+use std::alloc::Global;
+use std::collections::VecDeque;
+use std::marker::Model;
+use vp_base::Limits;
+
+/// A reader that is fed a file in pieces, however it is cut, and gives the file's packets in order.
+///
+/// What it answers depends only on all bytes fed, on how many packets were taken, and on whether the end was
+/// told. Faults come as soon as the bytes that show them are in: `Signature`, then `Codec`, with the 32 bytes
+/// of the head; `TooMany`, then `PacketTooLarge`, with the 12 bytes before a packet. These four stand for good,
+/// and the packets before them can still be taken.
+#[derive(Drop)]
+pub struct Reader {
+    alloc: Global,
+    max: u32,
+    limit: u32,
+    head: Option<IvfHead>,
+    packets: VecDeque<Packet>,
+    left: u32,
+    fault: Option<FileFault>,
+    rest: Vec<u8>,
+    ended: bool,
+}
+
+impl Model for Reader {
+    ghost use Rattle.vp_ivf.specs.Reader.{State};
+
+    ghost Value = { State };
+
+    ghost view = { λ a. record {
+      max = a.max;
+      limit = a.limit;
+      reading = record { head = a.head; packets = a.packets.items; left = a.left; fault = a.fault; rest = a.rest.items };
+      ended = a.ended;
+    } };
+
+    ghost use Rattle.vp_ivf.specs.Reader.{IsSettled};
+
+    ghost invariant = { λ a. IsSettled a.max (record { head = a.head; packets = a.packets.items; left = a.left; fault = a.fault; rest = a.rest.items }) };
+}
+
+impl Reader {
+    /// A reader that was fed nothing. Of the limits it keeps those on packets.
+    pub fn new(alloc: Global, limits: Limits) -> Reader
+        ensures state { result ≡ fresh limits.packet_bytes limits.packets }
+        ensures stands { StandsFor result start }
+    {
+        Reader {
+            alloc,
+            max: limits.packet_bytes,
+            limit: limits.packets,
+            head: None,
+            packets: VecDeque::new(alloc),
+            left: limits.packets,
+            fault: None,
+            rest: Vec::new(alloc),
+            ended: false,
+        }
+    }
+
+    /// What the file's head says, once it is whole and good.
+    pub fn head(&self) -> Option<IvfHead>
+        ensures value { result ≡ self.now.reading.head }
+        ensures head { (h : History) → StandsFor self.now h →
+            result ≡ (read self.now.max self.now.limit h.fed).head }
+    {
+        self.head
+    }
+
+    /// What `feed` would refuse with, whatever the piece: the fault that was met, or `Ended`.
+    pub fn refusal(&self) -> Option<FileFault>
+        ensures { result ≡ refusal self.now }
+    {
+        match (self.fault, self.ended) {
+            (Some(fault), _) => Some(fault),
+            (None, true) => Some(FileFault::Ended),
+            (None, false) => None,
+        }
+    }
+
+    /// Takes the first packet that was cut and not taken yet. It needs no memory.
+    pub fn next_packet(&mut self) -> Option<Packet>
+        ensures limits { SameLimits self.old self.new }
+        ensures first { result ≡ slice_get self.old.reading.packets 0 }
+        ensures rest { self.new ≡ record self.old { reading = without 1 self.old.reading } }
+        ensures packet { (h : History) → StandsFor self.old h →
+            result ≡ slice_get (packets_of self.old h) h.taken }
+        ensures stands { (h : History) → StandsFor self.old h →
+            StandsFor self.new (with_taken h (length (option_to_list result))) }
+    {
+        self.packets.pop_front()
+    }
+
+    /// Takes the next piece of the file, of any length.
+    pub fn feed(&mut self, piece: &[u8]) -> Result<(), FeedError>
+        ensures limits { SameLimits self.old self.new }
+
+        // What earlier calls refuse comes first, and changes nothing. Nor does want of memory.
+        ensures refused { (fault : FileFault) → refusal self.old ≡ Some fault →
+            (result ≡ Err (FeedError.Fault fault)) × (self.new ≡ self.old) }
+        ensures memory { result ≡ Err FeedError.Memory → self.new ≡ self.old }
+
+        // It adds few packets.
+        ensures few { length self.new.reading.packets
+            ≤ length self.old.reading.packets + length piece.now / 12 + 1 }
+
+        // Else the piece is taken, and the answer is the fault that it meets, if it does.
+        ensures answer { refusal self.old ≡ None → result ≢ Err FeedError.Memory →
+            result ≡ answer_by self.new.reading.fault }
+        ensures reading { refusal self.old ≡ None → result ≢ Err FeedError.Memory →
+            self.new ≡ record self.old { reading = resume self.old.max self.old.reading piece.now } }
+        ensures stands { refusal self.old ≡ None → result ≢ Err FeedError.Memory →
+            (h : History) → StandsFor self.old h → StandsFor self.new (with_piece h piece.now) }
+    {
+        if let Some(fault) = self.refusal() {
+            return Err(FeedError::Fault(fault));
+        }
+        self.take_piece(piece)
+    }
+
+    // Takes a piece that nothing refuses. What can fail comes before the first change that stays.
+    fn take_piece(&mut self, piece: &[u8]) -> Result<(), FeedError>
+        requires { refusal self.old ≡ None }
+        ensures memory { result ≡ Err FeedError.Memory → self.new ≡ self.old }
+        ensures few { length self.new.reading.packets
+            ≤ length self.old.reading.packets + length piece.now / 12 + 1 }
+        ensures answer { result ≢ Err FeedError.Memory → result ≡ answer_by self.new.reading.fault }
+        ensures reading { result ≢ Err FeedError.Memory →
+            self.new ≡ record self.old { reading = resume self.old.max self.old.reading piece.now } }
+    {
+        let held = self.rest.len();
+        if self.rest.extend_from_slice(piece).is_err() {
+            return Err(FeedError::Memory);
+        }
+        let Ok(mut cutting) = read_on(self.alloc, self.head, self.max, self.left, &self.rest) else {
+            self.rest.truncate(held);
+            return Err(FeedError::Memory);
+        };
+        if self.packets.append(&mut cutting.packets).is_err() {
+            self.rest.truncate(held);
+            return Err(FeedError::Memory);
+        }
+        let kept = self.rest.len() - cutting.used;
+        self.rest.rotate_left(cutting.used);
+        self.rest.truncate(kept);
+        self.head = cutting.head;
+        self.left = cutting.left;
+        self.fault = cutting.fault;
+        answer(cutting.fault)
+    }
+
+    /// Tells the file's end. After it the same is answered again, and no piece is taken.
+    pub fn finish(&mut self) -> Result<(), FileFault>
+        ensures limits { SameLimits self.old self.new }
+        ensures answer { result ≡ finish_answer self.old.reading }
+        ensures state { self.new ≡ after_end self.old }
+        ensures stands { (h : History) → StandsFor self.old h →
+            StandsFor self.new (with_end h self.old.reading.fault) }
+    {
+        if let Some(fault) = self.fault {
+            return Err(fault);
+        }
+        self.ended = true;
+        if self.head.is_none() || !self.rest.is_empty() {
+            return Err(FileFault::Torn);
+        }
+        Ok(())
+    }
+}
+
+fn answer(fault: Option<FileFault>) -> Result<(), FeedError>
+    ensures { result ≡ answer_by fault }
+{
+    match fault {
+        Some(fault) => Err(FeedError::Fault(fault)),
+        None => Ok(()),
+    }
+}

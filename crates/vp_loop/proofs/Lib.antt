@@ -1,0 +1,9 @@
+pub mod Ranges
+pub mod Shift
+pub mod Pulls
+pub mod StepLemmas
+pub mod PlaneLemmas
+pub mod EdgeLemmas
+pub mod FrameLemmas
+pub mod LawLemmas
+pub mod WindowLemmas

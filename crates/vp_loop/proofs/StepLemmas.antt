@@ -1,0 +1,224 @@
+-- Line steps on a plane.
+use Rattle.std.proofs.Common.{◌≡◌, ◌∙◌, ℕ, zero, suc, ◌+◌, ◌-◌, ◌<◌, ◌≤◌, Bool, true, false, cond, List, length, get_or, refl, ap, sym, arith, zero-add}
+use Rattle.std.proofs.lemmas.Bool.Decides.{nat_tests}
+use Rattle.vp_base.specs.Raster.{Raster, pixel, with_run}
+use Rattle.vp_base.specs.Block.{with_block, is_in_block, IsWhole}
+use Rattle.vp_base.specs.Over.{over}
+use Rattle.vp_base.proofs.BlockLemmas.{pixel-with_block, IsWhole-with_block, with_block_none, with_block_more, same_raster}
+use Rattle.vp_base.proofs.OverLemmas.{over-none, over-more, over-kept, over-holds}
+use Rattle.vp_loop.specs.declared.lines.Line.{Line}
+use Rattle.vp_loop.specs.declared.lines.LineStep.{LineStep}
+use Rattle.vp_loop.specs.LineSteps.{stepped}
+use Rattle.vp_loop.specs.Edges.{Way, along, down, columns_of, rows_of, line_at, pixels_of, pixel_at, line_step, edge_lines}
+
+-- ---- a line by its pixels
+
+pub same_line : (l m : Line) → ((k : ℕ) → k < 8 → pixel_at l k ≡ pixel_at m k) → l ≡ m
+same_line l m all =
+    let e0 = all 0 (omega arith) in let e1 = all 1 (omega arith) in let e2 = all 2 (omega arith) in let e3 = all 3 (omega arith) in
+    let e4 = all 4 (omega arith) in let e5 = all 5 (omega arith) in let e6 = all 6 (omega arith) in let e7 = all 7 (omega arith) in
+    λ i. record { p3 = e0 i; p2 = e1 i; p1 = e2 i; p0 = e3 i; q0 = e4 i; q1 = e5 i; q2 = e6 i; q3 = e7 i }
+
+-- pixel k of the line that begins at x y
+abbrev pub column_at : Way → ℕ → ℕ → ℕ
+column_at along x k = x + k
+column_at down x k = x
+
+abbrev pub row_at : Way → ℕ → ℕ → ℕ
+row_at along y k = y
+row_at down y k = y + k
+
+along_pixel : (p : Raster) (x y k : ℕ) → k < 8 → pixel_at (line_at along p x y) k ≡ pixel p (x + k) y
+unfolding line_at
+along_pixel p x y zero h = ap (λ (n : ℕ). pixel p n y) (let z : x ≡ x + 0 = omega arith in z)
+along_pixel p x y (suc zero) h = refl
+along_pixel p x y (suc (suc zero)) h = refl
+along_pixel p x y (suc (suc (suc zero))) h = refl
+along_pixel p x y (suc (suc (suc (suc zero)))) h = refl
+along_pixel p x y (suc (suc (suc (suc (suc zero))))) h = refl
+along_pixel p x y (suc (suc (suc (suc (suc (suc zero)))))) h = refl
+along_pixel p x y (suc (suc (suc (suc (suc (suc (suc zero))))))) h = refl
+along_pixel p x y (suc (suc (suc (suc (suc (suc (suc (suc n)))))))) h = absurd (omega arith)
+
+down_pixel : (p : Raster) (x y k : ℕ) → k < 8 → pixel_at (line_at down p x y) k ≡ pixel p x (y + k)
+unfolding line_at
+down_pixel p x y zero h = ap (λ (n : ℕ). pixel p x n) (let z : y ≡ y + 0 = omega arith in z)
+down_pixel p x y (suc zero) h = refl
+down_pixel p x y (suc (suc zero)) h = refl
+down_pixel p x y (suc (suc (suc zero))) h = refl
+down_pixel p x y (suc (suc (suc (suc zero)))) h = refl
+down_pixel p x y (suc (suc (suc (suc (suc zero))))) h = refl
+down_pixel p x y (suc (suc (suc (suc (suc (suc zero)))))) h = refl
+down_pixel p x y (suc (suc (suc (suc (suc (suc (suc zero))))))) h = refl
+down_pixel p x y (suc (suc (suc (suc (suc (suc (suc (suc n)))))))) h = absurd (omega arith)
+
+pub pixel_at-line_at : (way : Way) (p : Raster) (x y k : ℕ) → k < 8 → pixel_at (line_at way p x y) k ≡ pixel p (column_at way x k) (row_at way y k)
+pixel_at-line_at along p x y k h = along_pixel p x y k h
+pixel_at-line_at down p x y k h = down_pixel p x y k h
+
+-- a line lies within a plane
+abbrev pub Within : Way → ℕ → ℕ → Raster → Type 0
+Within way x y p = (x + columns_of way ≤ p.width) × (y + rows_of way ≤ p.height)
+
+in_line : (way : Way) (x y k : ℕ) → k < 8 → is_in_block x y (columns_of way) (rows_of way) (column_at way x k) (row_at way y k) ≡ true
+in_line along x y k h = grind (arith, nat_tests)
+in_line down x y k h = grind (arith, nat_tests)
+
+column_in : (way : Way) (x k w : ℕ) → k < 8 → x + columns_of way ≤ w → column_at way x k < w
+column_in along x k w h f = omega arith
+column_in down x k w h f = omega arith
+
+row_in : (way : Way) (y k n : ℕ) → k < 8 → y + rows_of way ≤ n → row_at way y k < n
+row_in along y k n h f = omega arith
+row_in down y k n h f = omega arith
+
+-- two planes of one size that agree on a line's pixels have that line
+pub line_at-same : (way : Way) (p q : Raster) (x y : ℕ) → Within way x y p
+    → ((i j : ℕ) → i < p.width → j < p.height → is_in_block x y (columns_of way) (rows_of way) i j ≡ true → pixel p i j ≡ pixel q i j)
+    → line_at way p x y ≡ line_at way q x y
+line_at-same way p q x y fits same =
+    same_line (line_at way p x y) (line_at way q x y) (λ k h.
+    pixel_at-line_at way p x y k h
+    ∙ (same (column_at way x k) (row_at way y k) (column_in way x k p.width h fits.0) (row_in way y k p.height h fits.1) (in_line way x y k h)
+    ∙ sym (pixel_at-line_at way q x y k h)))
+
+pub pixel-line_step : (way : Way) (step : LineStep) (x y : ℕ) (p : Raster) (i j : ℕ) → i < p.width → j < p.height
+    → pixel (line_step way step x y p) i j
+    ≡ cond (is_in_block x y (columns_of way) (rows_of way) i j) (pixel_at (stepped step (line_at way p x y)) ((j - y) + (i - x))) (pixel p i j)
+pixel-line_step way step x y p i j iin jin =
+    pixel-with_block p x y (columns_of way) (rows_of way) (λ r c. pixel_at (stepped step (line_at way p x y)) (r + c)) i j iin jin
+
+-- ---- lines along a row are written as a run
+
+pub line_step-along : (step : LineStep) (x y : ℕ) (p : Raster) → IsWhole p → x + 8 ≤ p.width → y < p.height
+    → with_run p x y (pixels_of (stepped step (line_at along p x y))) ≡ line_step along step x y p
+line_step-along step x y p whole fits yin =
+    let l = stepped step (line_at along p x y) in
+    let f = λ (r c : ℕ). pixel_at l (r + c) in
+    let none = with_block_none p x y 8 f whole in
+    let start : y + 0 ≡ y = omega arith in
+    ap (λ (q : Raster). with_run q x y (pixels_of l)) (sym none)
+    ∙ (ap (λ (n : ℕ). with_run (with_block p x y 8 0 f) x n (pixels_of l)) (sym start)
+    ∙ with_block_more p x y 8 0 f (pixels_of l) fits (omega arith) refl (λ c h. ap (pixel_at l) (sym (zero-add c))))
+
+-- ---- the lines of an edge
+
+pub edge_lines-none : (way : Way) (step : LineStep) (x y : ℕ) (p : Raster) → edge_lines way step 0 x y p ≡ p
+unfolding edge_lines
+edge_lines-none along step x y p = over-none (λ j. line_step along step x (y + j)) p
+edge_lines-none down step x y p = over-none (λ j. line_step down step (x + j) y) p
+
+pub edge_lines-along : (step : LineStep) (n x y : ℕ) (p : Raster) → line_step along step x (y + n) (edge_lines along step n x y p) ≡ edge_lines along step (n + 1) x y p
+unfolding edge_lines
+edge_lines-along step n x y p = sym (over-more n (λ j. line_step along step x (y + j)) p)
+
+pub edge_lines-down : (step : LineStep) (n x y : ℕ) (p : Raster) → line_step down step (x + n) y (edge_lines down step n x y p) ≡ edge_lines down step (n + 1) x y p
+unfolding edge_lines
+edge_lines-down step n x y p = sym (over-more n (λ j. line_step down step (x + j) y) p)
+
+pub width-edge_lines : (way : Way) (step : LineStep) (n x y : ℕ) (p : Raster) → (edge_lines way step n x y p).width ≡ p.width
+unfolding edge_lines
+width-edge_lines along step n x y p = over-kept (λ (q : Raster). q.width) n (λ j. line_step along step x (y + j)) p (λ k b. refl)
+width-edge_lines down step n x y p = over-kept (λ (q : Raster). q.width) n (λ j. line_step down step (x + j) y) p (λ k b. refl)
+
+pub height-edge_lines : (way : Way) (step : LineStep) (n x y : ℕ) (p : Raster) → (edge_lines way step n x y p).height ≡ p.height
+unfolding edge_lines
+height-edge_lines along step n x y p = over-kept (λ (q : Raster). q.height) n (λ j. line_step along step x (y + j)) p (λ k b. refl)
+height-edge_lines down step n x y p = over-kept (λ (q : Raster). q.height) n (λ j. line_step down step (x + j) y) p (λ k b. refl)
+
+pub over-whole : (n : ℕ) (f : ℕ → Raster → Raster) (p : Raster) → ((k : ℕ) (q : Raster) → IsWhole (f k q)) → IsWhole p → IsWhole (over n f p)
+over-whole n f p each whole = over-holds IsWhole n f p (λ k h q w. each k q) whole
+
+pub IsWhole-line_step : (way : Way) (step : LineStep) (x y : ℕ) (p : Raster) → IsWhole (line_step way step x y p)
+IsWhole-line_step way step x y p =
+    IsWhole-with_block p x y (columns_of way) (rows_of way) (λ r c. pixel_at (stepped step (line_at way p x y)) (r + c))
+
+pub IsWhole-edge_lines : (way : Way) (step : LineStep) (n x y : ℕ) (p : Raster) → IsWhole p → IsWhole (edge_lines way step n x y p)
+unfolding edge_lines
+IsWhole-edge_lines along step n x y p whole = over-whole n (λ j. line_step along step x (y + j)) p (λ k q. IsWhole-line_step along step x (y + k) q) whole
+IsWhole-edge_lines down step n x y p whole = over-whole n (λ j. line_step down step (x + j) y) p (λ k q. IsWhole-line_step down step (x + k) y q) whole
+
+-- ---- the lines of a level edge are written row by row
+
+-- the first h rows of n lines that stand side by side
+unfoldable pub rows_written : LineStep → ℕ → ℕ → ℕ → ℕ → Raster → Raster
+rows_written step n x y h p = with_block p x y n h (λ r c. pixel_at (stepped step (line_at down p (x + c) y)) r)
+
+pub rows_written-none : (step : LineStep) (n x y : ℕ) (p : Raster) → IsWhole p → rows_written step n x y 0 p ≡ p
+unfolding rows_written
+rows_written-none step n x y p whole = with_block_none p x y n (λ r c. pixel_at (stepped step (line_at down p (x + c) y)) r) whole
+
+pub rows_written-more : (step : LineStep) (n x y h : ℕ) (p : Raster) (vs : List ℕ) → x + n ≤ p.width → y + h < p.height → length vs ≡ n
+    → ((c : ℕ) → c < n → get_or vs c 0 ≡ pixel_at (stepped step (line_at down p (x + c) y)) h)
+    → with_run (rows_written step n x y h p) x (y + h) vs ≡ rows_written step n x y (h + 1) p
+unfolding rows_written
+rows_written-more step n x y h p vs fits yfits long row =
+    with_block_more p x y n h (λ r c. pixel_at (stepped step (line_at down p (x + c) y)) r) vs fits yfits long row
+
+pub width-rows_written : (step : LineStep) (n x y h : ℕ) (p : Raster) → (rows_written step n x y h p).width ≡ p.width
+unfolding rows_written
+width-rows_written step n x y h p = refl
+
+pub height-rows_written : (step : LineStep) (n x y h : ℕ) (p : Raster) → (rows_written step n x y h p).height ≡ p.height
+unfolding rows_written
+height-rows_written step n x y h p = refl
+
+in_last_column : (x y n i j : ℕ) → is_in_block (x + n) y 1 8 i j ≡ true → (i ≡ x + n) × (is_in_block x y (suc n) 8 i j ≡ true)
+in_last_column x y n i j e = grind (arith, nat_tests)
+
+in_other_column : (x y n i j : ℕ) → is_in_block (x + n) y 1 8 i j ≡ false → is_in_block x y (suc n) 8 i j ≡ is_in_block x y n 8 i j
+in_other_column x y n i j e = grind (arith, nat_tests)
+
+in_no_column : (x y i j : ℕ) → is_in_block x y 0 8 i j ≡ false
+in_no_column x y i j = grind (arith, nat_tests)
+
+not_before_last : (x y n i j : ℕ) → is_in_block (x + n) y 1 8 i j ≡ true → is_in_block x y n 8 i j ≡ false
+not_before_last x y n i j e = grind (arith, nat_tests)
+
+-- one line more
+module _ (step : LineStep) (x y n : ℕ) (p : Raster) where
+  abbrev f : ℕ → ℕ → ℕ
+  f r c = pixel_at (stepped step (line_at down p (x + c) y)) r
+
+  abbrev b : Raster
+  b = with_block p x y n 8 f
+
+  own_line : x + suc n ≤ p.width → y + 8 ≤ p.height → line_at down b (x + n) y ≡ line_at down p (x + n) y
+  own_line fits high =
+      line_at-same down b p (x + n) y (omega arith, high) (λ i j iin jin here.
+      pixel-with_block p x y n 8 f i j iin jin
+      ∙ ap (λ (t : Bool). cond t (f (j - y) (i - x)) (pixel p i j)) (not_before_last x y n i j here))
+
+  column_pixel : x + suc n ≤ p.width → y + 8 ≤ p.height → (i j : ℕ) → i < p.width → j < p.height
+      → (t : Bool) → is_in_block (x + n) y 1 8 i j ≡ t
+      → cond t (pixel_at (stepped step (line_at down b (x + n) y)) ((j - y) + (i - (x + n)))) (pixel b i j) ≡ cond (is_in_block x y (suc n) 8 i j) (f (j - y) (i - x)) (pixel p i j)
+  column_pixel fits high i j iin jin true e =
+      let here = in_last_column x y n i j e in
+      let same : i ≡ x + n = here.0 in
+      let place : (j - y) + (i - (x + n)) ≡ j - y = omega arith in
+      let column : x + n ≡ x + (i - x) = omega arith in
+      ap (λ (l : Line). pixel_at (stepped step l) ((j - y) + (i - (x + n)))) (own_line fits high ∙ ap (λ (c : ℕ). line_at down p c y) column)
+      ∙ (ap (λ (k : ℕ). pixel_at (stepped step (line_at down p (x + (i - x)) y)) k) place
+      ∙ ap (λ (t : Bool). cond t (f (j - y) (i - x)) (pixel p i j)) (sym here.1))
+  column_pixel fits high i j iin jin false e =
+      pixel-with_block p x y n 8 f i j iin jin
+      ∙ ap (λ (t : Bool). cond t (f (j - y) (i - x)) (pixel p i j)) (sym (in_other_column x y n i j e))
+
+  one_column : x + suc n ≤ p.width → y + 8 ≤ p.height → with_block p x y (suc n) 8 f ≡ line_step down step (x + n) y b
+  one_column fits high =
+      same_raster (with_block p x y (suc n) 8 f) (line_step down step (x + n) y b) refl refl
+      (IsWhole-with_block p x y (suc n) 8 f) (IsWhole-line_step down step (x + n) y b) (λ i j iin jin.
+      pixel-with_block p x y (suc n) 8 f i j iin jin
+      ∙ sym (pixel-line_step down step (x + n) y b i j iin jin ∙ column_pixel fits high i j iin jin (is_in_block (x + n) y 1 8 i j) refl))
+
+pub rows_written-all : (step : LineStep) (n x y : ℕ) (p : Raster) → IsWhole p → x + n ≤ p.width → y + 8 ≤ p.height → rows_written step n x y 8 p ≡ edge_lines down step n x y p
+unfolding rows_written
+rows_written-all step zero x y p whole fits high =
+    let f = λ (r c : ℕ). pixel_at (stepped step (line_at down p (x + c) y)) r in
+    same_raster (with_block p x y 0 8 f) p refl refl (IsWhole-with_block p x y 0 8 f) whole (λ i j iin jin.
+    pixel-with_block p x y 0 8 f i j iin jin ∙ ap (λ (t : Bool). cond t (f (j - y) (i - x)) (pixel p i j)) (in_no_column x y i j))
+    ∙ sym (edge_lines-none down step x y p)
+rows_written-all step (suc n) x y p whole fits high =
+    one_column step x y n p fits high
+    ∙ (ap (line_step down step (x + n) y) (rows_written-all step n x y p whole (omega arith) high)
+    ∙ (edge_lines-down step n x y p ∙ ap (λ (m : ℕ). edge_lines down step m x y p) (let e : n + 1 ≡ suc n = omega arith in e)))

@@ -1,0 +1,5 @@
+use Rattle.vp_loop.proofs.LawLemmas.{at_once}
+use Rattle.vp_loop.proofs.laws.edge_at_once.Goals as goal
+
+pub returns : goal.returns
+returns c = at_once

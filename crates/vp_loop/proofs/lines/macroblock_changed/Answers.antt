@@ -1,0 +1,32 @@
+use Rattle.std.proofs.Common.{ap, ◌∙◌, ◌≡◌, sym, subst, pos, ◌+ℤ◌, ◌*ℤ◌, ℤ, Bool}
+use lib.Signed.{shr_z}
+use Rattle.vp_loop.specs.declared.lines.Line.{Line}
+use Rattle.vp_loop.specs.LineSteps.{clamp8, share, macroblock_changed}
+use Rattle.vp_loop.proofs.Shift.{same_is}
+use Rattle.vp_loop.proofs.Pulls.{up_by, down_by}
+use Rattle.vp_loop.proofs.lines.macroblock_changed.Goals as goal
+
+pub returns : goal.returns
+returns c =
+    let l = c.args.line in
+    let a = same_is _ c.pull-pull.ensures.range ∙ c.pull-pull.ensures.value in
+    let weighted = λ (k z : ℤ). clamp8 (shr_z (z *ℤ k +ℤ pos 63) 128) in
+    let near : c.share-near.result ≡ share (pos 27) l = c.share-near.ensures.value ∙ ap (weighted (pos 27)) a in
+    let middle : c.share-middle.result ≡ share (pos 18) l = c.share-middle.ensures.value ∙ ap (weighted (pos 18)) a in
+    let far : c.share-far.result ≡ share (pos 9) l = c.share-far.ensures.value ∙ ap (weighted (pos 9)) a in
+    let p2 = up_by _ _ _ _ c.raised.ensures c.share-far.ensures.range far in
+    let p1 = up_by _ _ _ _ c.raised-2.ensures c.share-middle.ensures.range middle in
+    let p0 = up_by _ _ _ _ c.raised-3.ensures c.share-near.ensures.range near in
+    let q0 = down_by _ _ _ _ c.lowered.ensures c.share-near.ensures.range near in
+    let q1 = down_by _ _ _ _ c.lowered-2.ensures c.share-middle.ensures.range middle in
+    let q2 = down_by _ _ _ _ c.lowered-3.ensures c.share-far.ensures.range far in
+    let made : Line = record l {
+      p2 = c.raised.result;
+      p1 = c.raised-2.result;
+      p0 = c.raised-3.result;
+      q0 = c.lowered.result;
+      q1 = c.lowered-2.result;
+      q2 = c.lowered-3.result;
+    } in
+    subst (λ (h : Bool). made ≡ macroblock_changed h l) (sym c.if-high.false)
+    (λ i. record l { p2 = p2 i; p1 = p1 i; p0 = p0 i; q0 = q0 i; q1 = q1 i; q2 = q2 i })

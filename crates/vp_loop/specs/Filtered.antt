@@ -1,0 +1,34 @@
+-- The filtered picture (RFC 6386, chapter 15): all line steps of a frame, one after another.
+use Rattle.std.specs.Prelude.{ℕ, List, ◌+◌, ◌*◌, ◌==◌, slice_index_or, slice_range, if◌then◌else◌}
+use Rattle.vp_base.specs.Raster.{Raster}
+use Rattle.vp_base.specs.Image.{Image, macroblocks}
+use Rattle.vp_base.specs.Over.{over}
+use Rattle.vp_loop.specs.declared.strength.Level.{Level}
+use Rattle.vp_loop.specs.Levels.{unfiltered}
+use Rattle.vp_loop.specs.Edges.{block_filtered}
+
+-- the simple filter leaves colour alone
+abbrev pub colour_filtered : Level → ℕ → ℕ → Raster → Raster
+colour_filtered level x y p = if level.interior == 0 then p else block_filtered 8 level x y p
+
+-- one macroblock, plane by plane
+abbrev pub macroblock_filtered : Level → ℕ → ℕ → Image → Image
+macroblock_filtered level column row p = record p {
+  luma = block_filtered 16 level (16 * column) (16 * row) p.luma;
+  u = colour_filtered level (8 * column) (8 * row) p.u;
+  v = colour_filtered level (8 * column) (8 * row) p.v;
+}
+
+-- a row of macroblocks, from left to right, by the row's levels
+unfoldable pub row_filtered : List Level → ℕ → Image → Image
+row_filtered levels row p =
+    over (macroblocks p.width) (λ column. macroblock_filtered (slice_index_or levels column unfiltered) column row) p
+
+-- the levels of one row of macroblocks, of the levels of all in raster order
+abbrev pub row_levels : List Level → ℕ → ℕ → List Level
+row_levels levels cols row = slice_range levels (row * cols) (row * cols + cols)
+
+-- the rows of macroblocks, from the top
+unfoldable pub filtered : List Level → Image → Image
+filtered levels p =
+    over (macroblocks p.height) (λ row. row_filtered (row_levels levels (macroblocks p.width) row) row) p

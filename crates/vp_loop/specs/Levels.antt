@@ -1,0 +1,89 @@
+-- How strongly a macroblock is filtered (RFC 6386, chapter 9.3, 9.6, 15.1 to 15.3).
+use Rattle.std.specs.Prelude.{ℕ, ℤ, pos, Bool, List, ◌+◌, ◌-◌, ◌*◌, ◌/◌, ◌+ℤ◌, ◌==◌, ◌||◌, nat_le, nat_lt, min, max, unsigned_abs, slice_index_or, if◌then◌else◌}
+use Rattle.std.specs.Int.{int_min, int_max}
+use Rattle.vp_head.specs.declared.fields.Header.{Header}
+use Rattle.vp_head.specs.declared.fields.LevelDeltas.{LevelDeltas}
+use Rattle.vp_head.specs.declared.fields.Reference.{Reference}
+use Rattle.vp_head.specs.declared.fields.Reference.TheVariants.{Intra, Last, Golden, Alt}
+use Rattle.vp_loop.specs.declared.strength.Level.{Level}
+use Rattle.vp_loop.specs.declared.strength.MacroblockKind.{MacroblockKind}
+use Rattle.vp_loop.specs.declared.strength.Prediction.{Prediction}
+use Rattle.vp_loop.specs.declared.strength.Prediction.TheVariants.{Whole, Subblocks, Zero, Moved, Split}
+
+-- a level held to 0 .. 63
+abbrev pub clamped_level : ℤ → ℕ
+clamped_level z = unsigned_abs (int_min (pos 63) (int_max (pos 0) z))
+
+abbrev pub signed_at : List ℤ → ℕ → ℤ
+signed_at xs i = slice_index_or xs i (pos 0)
+
+-- the frame's level; under segmentation the segment's, absolute or added to the frame's (chapter 9.3)
+abbrev pub segment_level : Header → ℕ → ℕ
+segment_level header segment =
+    if header.segmentation.enabled
+    then clamped_level (if header.segmentation.values.absolute
+    then signed_at header.segmentation.values.levels segment
+    else pos header.filter.level +ℤ signed_at header.segmentation.values.levels segment)
+    else header.filter.level
+
+-- what the reference adds (chapter 9.6)
+abbrev pub reference_delta : LevelDeltas → Reference → ℤ
+reference_delta deltas Intra = signed_at deltas.reference 0
+reference_delta deltas Last = signed_at deltas.reference 1
+reference_delta deltas Golden = signed_at deltas.reference 2
+reference_delta deltas Alt = signed_at deltas.reference 3
+
+-- what the mode adds (chapter 9.6)
+abbrev pub mode_delta : LevelDeltas → Prediction → ℤ
+mode_delta deltas Whole = pos 0
+mode_delta deltas Subblocks = signed_at deltas.mode 0
+mode_delta deltas Zero = signed_at deltas.mode 1
+mode_delta deltas Moved = signed_at deltas.mode 2
+mode_delta deltas Split = signed_at deltas.mode 3
+
+-- that level and what reference and mode add to it
+abbrev pub summed_level : Header → ℕ → MacroblockKind → ℕ
+summed_level header segment kind = clamped_level (pos (segment_level header segment)
+    +ℤ (if header.deltas_enabled then reference_delta header.deltas kind.reference +ℤ mode_delta header.deltas kind.prediction else pos 0))
+
+-- the macroblock's level; 0 where the frame's is, whatever segments and deltas say
+abbrev pub macroblock_level : Header → ℕ → MacroblockKind → ℕ
+macroblock_level header segment kind = if header.filter.level == 0 then 0 else summed_level header segment kind
+
+-- the interior limit of a level (chapter 15.2)
+abbrev pub interior_limit : ℕ → ℕ → ℕ
+interior_limit sharpness level =
+    max 1 (if sharpness == 0 then level else min (9 - sharpness) (level / (if nat_lt 4 sharpness then 4 else 2)))
+
+-- the threshold of high edge variance (chapter 15.3)
+abbrev pub variance_threshold : Bool → ℕ → ℕ
+variance_threshold key level =
+    if key
+    then (if nat_le 40 level then 2 else (if nat_le 15 level then 1 else 0))
+    else (if nat_le 40 level then 3 else (if nat_le 20 level then 2 else (if nat_le 15 level then 1 else 0)))
+
+-- whether the edges between subblocks are filtered: some block had a token, or subblocks were predicted each for itself
+abbrev pub has_inner_edges : MacroblockKind → Bool
+has_inner_edges kind = kind.coded || elim kind.prediction [
+  | Whole ↦ Bool.false
+  | Subblocks ↦ Bool.true
+  | Zero ↦ Bool.false
+  | Moved ↦ Bool.false
+  | Split ↦ Bool.true
+]
+
+abbrev pub unfiltered : Level
+unfiltered = record { edge = 0; inner = 0; interior = 0; hev = 0 }
+
+-- limits and thresholds; the simple filter has no interior limit and no threshold
+unfoldable pub level_of : Header → ℕ → MacroblockKind → Level
+level_of header segment kind =
+    let level = macroblock_level header segment kind in
+    let interior = interior_limit header.filter.sharpness level in
+    if level == 0 then unfiltered
+    else record {
+      edge = (level + 2) * 2 + interior;
+      inner = if has_inner_edges kind then level * 2 + interior else 0;
+      interior = if header.filter.simple then 0 else interior;
+      hev = if header.filter.simple then 0 else variance_threshold header.key level;
+    }

@@ -1,0 +1,5 @@
+pub mod LineSteps
+pub mod Levels
+pub mod Edges
+pub mod Filtered
+pub mod Laws

@@ -1,0 +1,93 @@
+-- The line step: eight pixels across an edge, to eight pixels (RFC 6386, chapter 15.2, 15.3).
+use Rattle.std.specs.Prelude.{ℕ, ℤ, pos, negsuc, Bool, cond, ◌+◌, ◌*◌, ◌/◌, ◌+ℤ◌, ◌-ℤ◌, ◌*ℤ◌, ◌&&◌, ◌||◌, nat_le, nat_lt, unsigned_abs}
+use Rattle.std.specs.Int.{abs_diff, int_min, int_max}
+use lib.Signed.{shr_z}
+use Rattle.vp_loop.specs.declared.lines.Line.{Line}
+use Rattle.vp_loop.specs.declared.lines.LineStep.{LineStep}
+use Rattle.vp_loop.specs.declared.lines.EdgeKind.TheVariants.{Simple, Inner, Macroblock}
+
+-- a number held to -128 .. 127 (`c` of chapter 15.2)
+abbrev pub clamp8 : ℤ → ℤ
+clamp8 z = int_min (pos 127) (int_max (negsuc 127) z)
+
+-- a pixel less 128, and back: clamped, and 128 added (`u2s` and `s2u`)
+abbrev pub signed : ℕ → ℤ
+signed n = pos n -ℤ pos 128
+
+abbrev pub pixel_from : ℤ → ℕ
+pixel_from z = unsigned_abs (clamp8 z +ℤ pos 128)
+
+-- the step over the edge is within the limit
+abbrev pub is_small_step : ℕ → Line → Bool
+is_small_step limit l = nat_le (abs_diff l.p0 l.q0 * 2 + abs_diff l.p1 l.q1 / 2) limit
+
+-- neighbours on one side are no further apart than the interior limit
+abbrev pub is_smooth : ℕ → Line → Bool
+is_smooth interior l =
+    nat_le (abs_diff l.p3 l.p2) interior && nat_le (abs_diff l.p2 l.p1) interior && nat_le (abs_diff l.p1 l.p0) interior
+    && nat_le (abs_diff l.q1 l.q0) interior && nat_le (abs_diff l.q2 l.q1) interior && nat_le (abs_diff l.q3 l.q2) interior
+
+-- high edge variance
+abbrev pub is_high : ℕ → Line → Bool
+is_high threshold l = nat_lt threshold (abs_diff l.p1 l.p0) || nat_lt threshold (abs_diff l.q1 l.q0)
+
+-- what is taken from q0 and given to p0, before it is divided: with the outer pixels p1 and q1, or without them
+abbrev pub pull : Bool → Line → ℤ
+pull outer l = clamp8 (cond outer (clamp8 (signed l.p1 -ℤ signed l.q1)) (pos 0) +ℤ pos 3 *ℤ (signed l.q0 -ℤ signed l.p0))
+
+-- an eighth of a + by
+abbrev pub eighth : ℤ → ℤ → ℤ
+eighth a by = shr_z (clamp8 (a +ℤ by)) 8
+
+-- p0 and q0 drawn together by an eighth of the pull (`common_adjust`)
+abbrev pub drawn : Bool → Line → Line
+drawn outer l = record l {
+  p0 = pixel_from (signed l.p0 +ℤ eighth (pull outer l) (pos 3));
+  q0 = pixel_from (signed l.q0 -ℤ eighth (pull outer l) (pos 4));
+}
+
+-- what an inner edge takes from q1 and gives to p1: half of what it took from q0, and nothing where the variance is high
+abbrev pub half_step : Bool → Line → ℤ
+half_step high l = cond high (pos 0) (shr_z (eighth (pull high l) (pos 4) +ℤ pos 1) 2)
+
+-- a line across an inner edge, changed (`subblock_filter`)
+abbrev pub inner_changed : Bool → Line → Line
+inner_changed high l = record (drawn high l) {
+  p1 = pixel_from (signed l.p1 +ℤ half_step high l);
+  q1 = pixel_from (signed l.q1 -ℤ half_step high l);
+}
+
+-- so many 128ths of the pull
+abbrev pub share : ℤ → Line → ℤ
+share k l = clamp8 (shr_z (pull Bool.true l *ℤ k +ℤ pos 63) 128)
+
+-- a line across the edge of a macroblock, changed (`MBfilter`)
+abbrev pub macroblock_changed : Bool → Line → Line
+macroblock_changed high l = cond high (drawn Bool.true l) (record l {
+  p2 = pixel_from (signed l.p2 +ℤ share (pos 9) l);
+  p1 = pixel_from (signed l.p1 +ℤ share (pos 18) l);
+  p0 = pixel_from (signed l.p0 +ℤ share (pos 27) l);
+  q0 = pixel_from (signed l.q0 -ℤ share (pos 27) l);
+  q1 = pixel_from (signed l.q1 -ℤ share (pos 18) l);
+  q2 = pixel_from (signed l.q2 -ℤ share (pos 9) l);
+})
+
+-- the mask: whether this line is changed at all
+abbrev pub is_changed : LineStep → Line → Bool
+is_changed step l = elim step.kind [
+  | Simple ↦ is_small_step step.limit l
+  | Inner ↦ is_small_step step.limit l && is_smooth step.interior l
+  | Macroblock ↦ is_small_step step.limit l && is_smooth step.interior l
+]
+
+-- the line that a changed line becomes
+abbrev pub changed : LineStep → Line → Line
+changed step l = elim step.kind [
+  | Simple ↦ drawn Bool.true l
+  | Inner ↦ inner_changed (is_high step.hev l) l
+  | Macroblock ↦ macroblock_changed (is_high step.hev l) l
+]
+
+-- the line step: mask and high edge variance are of this line alone
+unfoldable pub stepped : LineStep → Line → Line
+stepped step l = cond (is_changed step l) (changed step l) l

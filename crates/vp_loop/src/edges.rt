@@ -1,0 +1,308 @@
+//! The lines across the edges of one macroblock, in one plane.
+
+ghost use Rattle.std.specs.Prelude.{◌≡◌, ℕ, ◌+◌, ◌-◌, ◌*◌, ◌/◌, ◌<◌, ◌≤◌, length, slice_index, slice_index_or};
+ghost use Rattle.vp_base.specs.Raster.{Raster, pixel};
+ghost use Rattle.vp_base.specs.Image.{Image, plane_of, with_plane};
+ghost use Rattle.vp_loop.specs.LineSteps.{stepped};
+ghost use Rattle.vp_loop.specs.declared.lines.Line.{Line};
+ghost use Rattle.vp_loop.specs.Edges.{along, down, line_at, pixels_of, pixel_at, edge_lines, inner_edges, block_edges, block_filtered, outer_step, inner_step, on_plane};
+
+use crate::lines::{EdgeKind, Line, LineStep};
+use crate::strength::Level;
+use vp_base::{Picture, Plane};
+
+impl Line {
+    /// From `p3` to `q3`.
+    fn pixels(self) -> [u8; 8]
+        ensures { result ≡ pixels_of self }
+    {
+        [
+            self.p3, self.p2, self.p1, self.p0, self.q0, self.q1, self.q2, self.q3,
+        ]
+    }
+
+    /// Pixel `r`, from `p3` to `q3`.
+    fn pixel(self, r: usize) -> u8
+        requires { r < 8 }
+        ensures { result ≡ pixel_at self r }
+    {
+        self.pixels()[r]
+    }
+}
+
+impl Level {
+    fn outer_step(self) -> LineStep
+        ensures { result ≡ outer_step self }
+    {
+        LineStep {
+            kind: if self.interior == 0 {
+                EdgeKind::Simple
+            } else {
+                EdgeKind::Macroblock
+            },
+            limit: self.edge,
+            interior: self.interior,
+            hev: self.hev,
+        }
+    }
+
+    fn inner_step(self) -> LineStep
+        ensures { result ≡ inner_step self }
+    {
+        LineStep {
+            kind: if self.interior == 0 {
+                EdgeKind::Simple
+            } else {
+                EdgeKind::Inner
+            },
+            limit: self.inner,
+            interior: self.interior,
+            hev: self.hev,
+        }
+    }
+}
+
+/// The `n` pixels of row `y` from column `x` on.
+fn run(plane: &Plane, x: usize, y: usize, n: usize) -> &[u8]
+    requires columns { x + n ≤ plane.now.width }
+    requires row { y < plane.now.height }
+    ensures len { length result.now ≡ n }
+    ensures value { (c : ℕ) → c < n → slice_index result.now c ≡ pixel plane.now (x + c) y }
+{
+    &plane.row(y)[x..x + n]
+}
+
+/// The line along row `y` that begins at column `x`.
+#[tactic(auto, unfolding(crate::specs::Edges::line_at))]
+fn line_along(plane: &Plane, x: usize, y: usize) -> Line
+    requires columns { x + 8 ≤ plane.now.width }
+    requires row { y < plane.now.height }
+    ensures { result ≡ line_at along plane.now x y }
+{
+    let run = run(plane, x, y, 8);
+    Line {
+        p3: run[0],
+        p2: run[1],
+        p1: run[2],
+        p0: run[3],
+        q0: run[4],
+        q1: run[5],
+        q2: run[6],
+        q3: run[7],
+    }
+}
+
+/// Filters over an upright edge: `n` lines, the first of which begins at column `x` of row `y`.
+fn filter_upright(picture: &mut Picture, k: usize, x: usize, y: usize, n: usize, step: LineStep)
+    requires plane { k < 3 }
+    requires columns { x + 8 ≤ (plane_of picture.old k).width }
+    requires rows { y + n ≤ (plane_of picture.old k).height }
+    ensures value { picture.new ≡ on_plane k (edge_lines along step n x y) picture.old }
+    ensures wide { (plane_of picture.new k).width ≡ (plane_of picture.old k).width }
+    ensures high { (plane_of picture.new k).height ≡ (plane_of picture.old k).height }
+{
+    let _height = picture.plane(k).height();
+    for j in 0..n {
+        let own = line_along(picture.plane(k), x, y + j);
+        let line = step.apply(own);
+        picture.write_run(k, x, y + j, &line.pixels());
+    }
+}
+
+/// The lines down `n` columns from column `x` on, each beginning at row `y`, as the filter leaves them.
+#[tactic(auto, unfolding(crate::specs::Edges::line_at))]
+fn lines_down(plane: &Plane, x: usize, y: usize, n: usize, step: LineStep) -> [Line; 16]
+    requires size { n ≤ 16 }
+    requires columns { x + n ≤ plane.now.width }
+    requires rows { y + 8 ≤ plane.now.height }
+    ensures { (c : ℕ) (d : Line) → c < n → slice_index_or result c d ≡ stepped step (line_at down plane.now (x + c) y) }
+{
+    let _height = plane.height();
+    let p3 = run(plane, x, y, n);
+    let p2 = run(plane, x, y + 1, n);
+    let p1 = run(plane, x, y + 2, n);
+    let p0 = run(plane, x, y + 3, n);
+    let q0 = run(plane, x, y + 4, n);
+    let q1 = run(plane, x, y + 5, n);
+    let q2 = run(plane, x, y + 6, n);
+    let q3 = run(plane, x, y + 7, n);
+    let blank = Line {
+        p3: 0,
+        p2: 0,
+        p1: 0,
+        p0: 0,
+        q0: 0,
+        q1: 0,
+        q2: 0,
+        q3: 0,
+    };
+    let mut lines = [blank; 16];
+    for c in 0..n {
+        lines[c] = step.apply(Line {
+            p3: p3[c],
+            p2: p2[c],
+            p1: p1[c],
+            p0: p0[c],
+            q0: q0[c],
+            q1: q1[c],
+            q2: q2[c],
+            q3: q3[c],
+        });
+    }
+    lines
+}
+
+/// Pixel `r` of each of the lines.
+fn pixel_row(lines: &[Line; 16], r: usize) -> [u8; 16]
+    requires { r < 8 }
+    ensures len { length result ≡ 16 }
+    ensures value { (c : ℕ) (d : Line) → c < 16 → slice_index result c ≡ pixel_at (slice_index_or lines.now c d) r }
+{
+    let mut row = [0; 16];
+    for c in 0..16 {
+        row[c] = lines[c].pixel(r);
+    }
+    row
+}
+
+/// Filters over a level edge: `n` lines, the first of which begins at column `x` of row `y`.
+fn filter_level(picture: &mut Picture, k: usize, x: usize, y: usize, n: usize, step: LineStep)
+    requires plane { k < 3 }
+    requires size { n ≤ 16 }
+    requires columns { x + n ≤ (plane_of picture.old k).width }
+    requires rows { y + 8 ≤ (plane_of picture.old k).height }
+    ensures value { picture.new ≡ on_plane k (edge_lines down step n x y) picture.old }
+    ensures wide { (plane_of picture.new k).width ≡ (plane_of picture.old k).width }
+    ensures high { (plane_of picture.new k).height ≡ (plane_of picture.old k).height }
+{
+    let _height = picture.plane(k).height();
+    let lines = lines_down(picture.plane(k), x, y, n, step);
+    for r in 0..8 {
+        let row = pixel_row(&lines, r);
+        picture.write_run(k, x, y + r, &row[..n]);
+    }
+}
+
+/// Filters over the upright edges inside a macroblock of `size` pixels each way.
+fn filter_inner_upright(
+    picture: &mut Picture,
+    k: usize,
+    size: usize,
+    x: usize,
+    y: usize,
+    step: LineStep,
+)
+    requires plane { k < 3 }
+    requires size { (8 ≤ size) × (size ≤ 16) }
+    requires columns { x + size ≤ (plane_of picture.old k).width }
+    requires rows { y + size ≤ (plane_of picture.old k).height }
+    ensures value { picture.new ≡ on_plane k (inner_edges along step size x y) picture.old }
+    ensures wide { (plane_of picture.new k).width ≡ (plane_of picture.old k).width }
+    ensures high { (plane_of picture.new k).height ≡ (plane_of picture.old k).height }
+{
+    let _width = picture.plane(k).width();
+    for i in 0..size / 4 - 1 {
+        filter_upright(picture, k, x + 4 * i, y, size, step);
+    }
+}
+
+/// Filters over the level edges inside a macroblock of `size` pixels each way.
+fn filter_inner_level(
+    picture: &mut Picture,
+    k: usize,
+    size: usize,
+    x: usize,
+    y: usize,
+    step: LineStep,
+)
+    requires plane { k < 3 }
+    requires size { (8 ≤ size) × (size ≤ 16) }
+    requires columns { x + size ≤ (plane_of picture.old k).width }
+    requires rows { y + size ≤ (plane_of picture.old k).height }
+    ensures value { picture.new ≡ on_plane k (inner_edges down step size x y) picture.old }
+    ensures wide { (plane_of picture.new k).width ≡ (plane_of picture.old k).width }
+    ensures high { (plane_of picture.new k).height ≡ (plane_of picture.old k).height }
+{
+    let _height = picture.plane(k).height();
+    for i in 0..size / 4 - 1 {
+        filter_level(picture, k, x, y + 4 * i, size, step);
+    }
+}
+
+/// Filters over a macroblock's upright edges, the left one unless the plane begins there.
+#[tactic(auto, unfolding(crate::specs::Edges::block_edges))]
+fn filter_upright_edges(
+    picture: &mut Picture,
+    k: usize,
+    size: usize,
+    x: usize,
+    y: usize,
+    level: Level,
+)
+    requires plane { k < 3 }
+    requires size { (8 ≤ size) × (size ≤ 16) }
+    requires columns { x + size ≤ (plane_of picture.old k).width }
+    requires rows { y + size ≤ (plane_of picture.old k).height }
+    requires left { 0 < x → 4 ≤ x }
+    ensures value { picture.new ≡ on_plane k (block_edges along size level x y) picture.old }
+    ensures wide { (plane_of picture.new k).width ≡ (plane_of picture.old k).width }
+    ensures high { (plane_of picture.new k).height ≡ (plane_of picture.old k).height }
+{
+    if x > 0 {
+        filter_upright(picture, k, x - 4, y, size, level.outer_step());
+    }
+    if level.inner > 0 {
+        filter_inner_upright(picture, k, size, x, y, level.inner_step());
+    }
+}
+
+/// Filters over a macroblock's level edges, the top one unless the plane begins there.
+#[tactic(auto, unfolding(crate::specs::Edges::block_edges))]
+fn filter_level_edges(
+    picture: &mut Picture,
+    k: usize,
+    size: usize,
+    x: usize,
+    y: usize,
+    level: Level,
+)
+    requires plane { k < 3 }
+    requires size { (8 ≤ size) × (size ≤ 16) }
+    requires columns { x + size ≤ (plane_of picture.old k).width }
+    requires rows { y + size ≤ (plane_of picture.old k).height }
+    requires top { 0 < y → 4 ≤ y }
+    ensures value { picture.new ≡ on_plane k (block_edges down size level x y) picture.old }
+    ensures wide { (plane_of picture.new k).width ≡ (plane_of picture.old k).width }
+    ensures high { (plane_of picture.new k).height ≡ (plane_of picture.old k).height }
+{
+    if y > 0 {
+        filter_level(picture, k, x, y - 4, size, level.outer_step());
+    }
+    if level.inner > 0 {
+        filter_inner_level(picture, k, size, x, y, level.inner_step());
+    }
+}
+
+/// Filters a macroblock of plane `k`, of `size` pixels each way, whose first pixel is at column `x` of row `y`.
+#[tactic(auto, unfolding(crate::specs::Edges::block_filtered))]
+pub(crate) fn filter_block(
+    picture: &mut Picture,
+    k: usize,
+    size: usize,
+    x: usize,
+    y: usize,
+    level: Level,
+)
+    requires plane { k < 3 }
+    requires size { (8 ≤ size) × (size ≤ 16) }
+    requires columns { x + size ≤ (plane_of picture.old k).width }
+    requires rows { y + size ≤ (plane_of picture.old k).height }
+    requires left { 0 < x → 4 ≤ x }
+    requires top { 0 < y → 4 ≤ y }
+    ensures { picture.new ≡ on_plane k (block_filtered size level x y) picture.old }
+{
+    if level.edge > 0 {
+        filter_upright_edges(picture, k, size, x, y, level);
+        filter_level_edges(picture, k, size, x, y, level);
+    }
+}

@@ -1,0 +1,50 @@
+//! Filtering a picture in place.
+
+ghost use Rattle.std.specs.Prelude.{◌≡◌, ℕ, ◌+◌, ◌*◌, ◌/◌, ◌<◌, ◌≤◌, length};
+ghost use Rattle.vp_base.specs.Image.{Image, macroblocks, plane_of, with_plane};
+ghost use Rattle.vp_loop.specs.Edges.{block_filtered, on_plane};
+ghost use Rattle.vp_loop.specs.Filtered.{macroblock_filtered, row_filtered, row_levels, filtered};
+
+use crate::edges::filter_block;
+use crate::strength::Level;
+use vp_base::Picture;
+
+/// Filters one macroblock.
+fn filter_macroblock(picture: &mut Picture, level: Level, column: usize, row: usize)
+    requires column { column < macroblocks picture.old.width }
+    requires row { row < macroblocks picture.old.height }
+    ensures { picture.new ≡ macroblock_filtered level column row picture.old }
+{
+    let _dim = picture.dim();
+    filter_block(picture, 0, 16, 16 * column, 16 * row, level);
+    if level.interior > 0 {
+        filter_block(picture, 1, 8, 8 * column, 8 * row, level);
+        filter_block(picture, 2, 8, 8 * column, 8 * row, level);
+    }
+}
+
+/// Filters a row of macroblocks, by the levels of all macroblocks in raster order, at least through that row.
+/// It may change the last three pixel rows of the macroblocks above.
+pub fn filter_row(picture: &mut Picture, levels: &[Level], row: usize)
+    requires row { row < macroblocks picture.old.height }
+    requires levels { row * macroblocks picture.old.width + macroblocks picture.old.width ≤ length levels.now }
+    ensures { picture.new ≡ row_filtered (row_levels levels.now (macroblocks picture.old.width) row) row picture.old }
+{
+    let cols = usize::from(picture.dim().mb_cols());
+    let start = row * cols;
+    let own = &levels[start..start + cols];
+    for column in 0..cols {
+        filter_macroblock(picture, own[column], column, row);
+    }
+}
+
+/// Filters a whole picture, by the levels of its macroblocks in raster order.
+pub fn filter_picture(picture: &mut Picture, levels: &[Level])
+    requires { macroblocks picture.old.height * macroblocks picture.old.width ≤ length levels.now }
+    ensures { picture.new ≡ filtered levels.now picture.old }
+{
+    let rows = usize::from(picture.dim().mb_rows());
+    for row in 0..rows {
+        filter_row(picture, levels, row);
+    }
+}

@@ -1,0 +1,246 @@
+//! The line step: eight pixels across an edge, to eight pixels.
+
+ghost use Rattle.std.specs.Prelude.{◌≡◌, ℕ, ℤ, ◌+◌, ◌*◌, ◌/◌, ◌≤◌, ◌≤ℤ◌, ◌+ℤ◌, ◌-ℤ◌, ◌*ℤ◌, pos, negsuc, cond, nat_le, nat_lt, ◌&&◌, ◌||◌, true};
+ghost use Rattle.std.specs.Int.{abs_diff};
+ghost use lib.Signed.{shr_z};
+ghost use Rattle.vp_loop.specs.LineSteps.{clamp8, signed, pixel_from, pull, eighth, drawn, half_step, inner_changed, share, macroblock_changed, is_small_step, is_smooth, is_high, is_changed, changed, stepped};
+
+/// Eight pixels across an edge: four before it and four behind it, `p0` and `q0` next to it.
+#[derive(Clone, Copy, Debug, PartialEq, Eq)]
+pub struct Line {
+    pub p3: u8,
+    pub p2: u8,
+    pub p1: u8,
+    pub p0: u8,
+    pub q0: u8,
+    pub q1: u8,
+    pub q2: u8,
+    pub q3: u8,
+}
+
+/// The three ways to filter over an edge (RFC 6386, chapter 15.2, 15.3).
+#[derive(Clone, Copy, Debug, PartialEq, Eq)]
+pub enum EdgeKind {
+    /// Either edge under the simple filter.
+    Simple,
+    /// An edge between subblocks.
+    Inner,
+    /// An edge between macroblocks.
+    Macroblock,
+}
+
+/// How each line across an edge is filtered.
+#[derive(Clone, Copy, Debug, PartialEq, Eq)]
+pub struct LineStep {
+    pub kind: EdgeKind,
+    /// Of the step over the edge.
+    pub limit: u8,
+    /// Of the steps on either side; of no account for the simple filter.
+    pub interior: u8,
+    /// The threshold of high edge variance; of no account for the simple filter.
+    pub hev: u8,
+}
+
+fn clamped(x: i32) -> i32
+    ensures value { result ≡ clamp8 x }
+    ensures range { (negsuc 127 ≤ℤ result) × (result ≤ℤ pos 127) }
+{
+    x.clamp(-128, 127)
+}
+
+fn signed(x: u8) -> i32
+    ensures value { result ≡ signed x }
+    ensures range { (negsuc 127 ≤ℤ result) × (result ≤ℤ pos 127) }
+{
+    i32::from(x) - 128
+}
+
+fn pixel_from(x: i32) -> u8
+    requires { (negsuc 9999 ≤ℤ x) × (x ≤ℤ pos 9999) }
+    ensures { result ≡ pixel_from x }
+{
+    (clamped(x) + 128) as u8
+}
+
+fn eighth(x: i32, by: i32) -> i32
+    requires { (negsuc 127 ≤ℤ x) × (x ≤ℤ pos 127) × (pos 0 ≤ℤ by) × (by ≤ℤ pos 4) }
+    ensures value { result ≡ eighth x by }
+    ensures range { (negsuc 127 ≤ℤ result) × (result ≤ℤ pos 127) }
+{
+    clamped(x + by) >> 3
+}
+
+fn half(x: i32) -> i32
+    requires { (negsuc 127 ≤ℤ x) × (x ≤ℤ pos 127) }
+    ensures value { result ≡ shr_z (x +ℤ pos 1) 2 }
+    ensures range { (negsuc 127 ≤ℤ result) × (result ≤ℤ pos 127) }
+{
+    (x + 1) >> 1
+}
+
+fn difference(p: u8, q: u8) -> i32
+    ensures value { result ≡ signed p -ℤ signed q }
+    ensures range { (negsuc 254 ≤ℤ result) × (result ≤ℤ pos 255) }
+{
+    signed(p) - signed(q)
+}
+
+fn outer_pull(outer: bool, line: Line) -> i32
+    ensures value { result ≡ cond outer (clamp8 (signed line.p1 -ℤ signed line.q1)) (pos 0) }
+    ensures range { (negsuc 127 ≤ℤ result) × (result ≤ℤ pos 127) }
+{
+    if outer {
+        clamped(difference(line.p1, line.q1))
+    } else {
+        0
+    }
+}
+
+fn pull(outer: bool, line: Line) -> i32
+    ensures value { result ≡ pull outer line }
+    ensures range { (negsuc 127 ≤ℤ result) × (result ≤ℤ pos 127) }
+{
+    let apart = outer_pull(outer, line);
+    let step = difference(line.q0, line.p0);
+    clamped(apart + 3 * step)
+}
+
+fn share(weight: i32, pull: i32) -> i32
+    requires weight { (pos 0 ≤ℤ weight) × (weight ≤ℤ pos 27) }
+    requires pull { (negsuc 127 ≤ℤ pull) × (pull ≤ℤ pos 127) }
+    ensures value { result ≡ clamp8 (shr_z (pull *ℤ weight +ℤ pos 63) 128) }
+    ensures range { (negsuc 127 ≤ℤ result) × (result ≤ℤ pos 127) }
+{
+    clamped((pull * weight + 63) >> 7)
+}
+
+fn raised(pixel: u8, by: i32) -> u8
+    requires { (negsuc 127 ≤ℤ by) × (by ≤ℤ pos 127) }
+    ensures { result ≡ pixel_from (signed pixel +ℤ by) }
+{
+    pixel_from(signed(pixel) + by)
+}
+
+fn lowered(pixel: u8, by: i32) -> u8
+    requires { (negsuc 127 ≤ℤ by) × (by ≤ℤ pos 127) }
+    ensures { result ≡ pixel_from (signed pixel -ℤ by) }
+{
+    pixel_from(signed(pixel) - by)
+}
+
+fn drawn(outer: bool, line: Line) -> Line
+    ensures { result ≡ drawn outer line }
+{
+    let pull = pull(outer, line);
+    let up = eighth(pull, 3);
+    let down = eighth(pull, 4);
+    Line {
+        p0: raised(line.p0, up),
+        q0: lowered(line.q0, down),
+        ..line
+    }
+}
+
+fn half_step(high: bool, line: Line) -> i32
+    ensures value { result ≡ half_step high line }
+    ensures range { (negsuc 127 ≤ℤ result) × (result ≤ℤ pos 127) }
+{
+    if high {
+        0
+    } else {
+        half(eighth(pull(high, line), 4))
+    }
+}
+
+fn inner_changed(high: bool, line: Line) -> Line
+    ensures { result ≡ inner_changed high line }
+{
+    let half = half_step(high, line);
+    Line {
+        p1: raised(line.p1, half),
+        q1: lowered(line.q1, half),
+        ..drawn(high, line)
+    }
+}
+
+fn macroblock_changed(high: bool, line: Line) -> Line
+    ensures { result ≡ macroblock_changed high line }
+{
+    if high {
+        return drawn(true, line);
+    }
+    let pull = pull(true, line);
+    let near = share(27, pull);
+    let middle = share(18, pull);
+    let far = share(9, pull);
+    Line {
+        p2: raised(line.p2, far),
+        p1: raised(line.p1, middle),
+        p0: raised(line.p0, near),
+        q0: lowered(line.q0, near),
+        q1: lowered(line.q1, middle),
+        q2: lowered(line.q2, far),
+        ..line
+    }
+}
+
+fn is_small_step(limit: u8, line: Line) -> bool
+    ensures { result ≡ is_small_step limit line }
+{
+    u16::from(line.p0.abs_diff(line.q0)) * 2 + u16::from(line.p1.abs_diff(line.q1)) / 2
+        <= u16::from(limit)
+}
+
+fn is_smooth(interior: u8, line: Line) -> bool
+    ensures { result ≡ is_smooth interior line }
+{
+    line.p3.abs_diff(line.p2) <= interior
+        && line.p2.abs_diff(line.p1) <= interior
+        && line.p1.abs_diff(line.p0) <= interior
+        && line.q1.abs_diff(line.q0) <= interior
+        && line.q2.abs_diff(line.q1) <= interior
+        && line.q3.abs_diff(line.q2) <= interior
+}
+
+fn is_high(threshold: u8, line: Line) -> bool
+    ensures { result ≡ is_high threshold line }
+{
+    line.p1.abs_diff(line.p0) > threshold || line.q1.abs_diff(line.q0) > threshold
+}
+
+impl LineStep {
+    /// Whether the mask of this line lets it be changed.
+    pub(crate) fn is_changed(self, line: Line) -> bool
+        ensures { result ≡ is_changed self line }
+    {
+        let small = is_small_step(self.limit, line);
+        match self.kind {
+            EdgeKind::Simple => small,
+            EdgeKind::Inner => small && is_smooth(self.interior, line),
+            EdgeKind::Macroblock => small && is_smooth(self.interior, line),
+        }
+    }
+
+    /// What a line that is changed becomes.
+    pub(crate) fn changed(self, line: Line) -> Line
+        ensures { result ≡ changed self line }
+    {
+        match self.kind {
+            EdgeKind::Simple => drawn(true, line),
+            EdgeKind::Inner => inner_changed(is_high(self.hev, line), line),
+            EdgeKind::Macroblock => macroblock_changed(is_high(self.hev, line), line),
+        }
+    }
+
+    /// The line as the filter leaves it.
+    #[tactic(auto, unfolding(crate::specs::LineSteps::stepped))]
+    pub fn apply(self, line: Line) -> Line
+        ensures { result ≡ stepped self line }
+    {
+        if self.is_changed(line) {
+            self.changed(line)
+        } else {
+            line
+        }
+    }
+}

@@ -1,0 +1,189 @@
+//! How strongly a macroblock is filtered.
+
+ghost use Rattle.std.specs.Prelude.{◌≡◌, ℕ, ℤ, ◌+◌, ◌-◌, ◌*◌, ◌/◌, ◌<◌, ◌≤◌, ◌≤ℤ◌, ◌+ℤ◌, pos, negsuc, ◌==◌, ◌||◌, length};
+ghost use Rattle.vp_loop.specs.Levels.{clamped_level, signed_at, segment_level, reference_delta, mode_delta, summed_level, macroblock_level, interior_limit, variance_threshold, has_inner_edges, unfiltered, level_of};
+
+use vp_head::{Header, LevelDeltas, Reference};
+
+/// How a macroblock was predicted, as far as its filter level asks.
+#[derive(Clone, Copy, Debug, PartialEq, Eq)]
+pub enum Prediction {
+    /// Intra, by a mode for the whole macroblock.
+    Whole,
+    /// Intra, each luma subblock by a mode of its own (`B_PRED`).
+    Subblocks,
+    /// By the zero vector.
+    Zero,
+    /// By the nearest, near or a new vector.
+    Moved,
+    /// By a vector for each part.
+    Split,
+}
+
+/// What a macroblock's filter level depends on.
+#[derive(Clone, Copy, Debug, PartialEq, Eq)]
+pub struct MacroblockKind {
+    pub reference: Reference,
+    pub prediction: Prediction,
+    /// Whether some block had a token.
+    pub coded: bool,
+}
+
+/// How a macroblock is filtered.
+#[derive(Clone, Copy, Debug, PartialEq, Eq)]
+pub struct Level {
+    /// The limit over the edges of the macroblock; 0 where it isn't filtered.
+    pub edge: u8,
+    /// The limit over its inner edges; 0 where they aren't filtered.
+    pub inner: u8,
+    /// The limit on either side of an edge; 0 stands for the simple filter.
+    pub interior: u8,
+    /// The threshold of high edge variance.
+    pub hev: u8,
+}
+
+fn clamped_level(level: i32) -> u8
+    ensures value { result ≡ clamped_level level }
+    ensures range { result ≤ 63 }
+{
+    level.clamp(0, 63) as u8
+}
+
+fn signed_at(values: &[i8; 4], index: u8) -> i32
+    ensures value { result ≡ signed_at values.now index }
+    ensures range { (negsuc 127 ≤ℤ result) × (result ≤ℤ pos 127) }
+{
+    match values.get(usize::from(index)) {
+        Some(value) => i32::from(*value),
+        None => 0,
+    }
+}
+
+fn segment_level(header: &Header, segment: u8) -> u8
+    ensures { result ≡ segment_level header.now segment }
+{
+    if !header.segmentation.enabled {
+        return header.filter.level;
+    }
+    let value = signed_at(&header.segmentation.values.levels, segment);
+    if header.segmentation.values.absolute {
+        clamped_level(value)
+    } else {
+        clamped_level(i32::from(header.filter.level) + value)
+    }
+}
+
+fn reference_delta(deltas: &LevelDeltas, reference: Reference) -> i32
+    ensures value { result ≡ reference_delta deltas.now reference }
+    ensures range { (negsuc 127 ≤ℤ result) × (result ≤ℤ pos 127) }
+{
+    match reference {
+        Reference::Intra => signed_at(&deltas.reference, 0),
+        Reference::Last => signed_at(&deltas.reference, 1),
+        Reference::Golden => signed_at(&deltas.reference, 2),
+        Reference::Alt => signed_at(&deltas.reference, 3),
+    }
+}
+
+fn mode_delta(deltas: &LevelDeltas, prediction: Prediction) -> i32
+    ensures value { result ≡ mode_delta deltas.now prediction }
+    ensures range { (negsuc 127 ≤ℤ result) × (result ≤ℤ pos 127) }
+{
+    match prediction {
+        Prediction::Whole => 0,
+        Prediction::Subblocks => signed_at(&deltas.mode, 0),
+        Prediction::Zero => signed_at(&deltas.mode, 1),
+        Prediction::Moved => signed_at(&deltas.mode, 2),
+        Prediction::Split => signed_at(&deltas.mode, 3),
+    }
+}
+
+fn summed_level(header: &Header, segment: u8, kind: &MacroblockKind) -> u8
+    ensures value { result ≡ summed_level header.now segment kind.now }
+    ensures range { result ≤ 63 }
+{
+    let base = i32::from(segment_level(header, segment));
+    if !header.deltas_enabled {
+        return clamped_level(base);
+    }
+    clamped_level(
+        base + (reference_delta(&header.deltas, kind.reference)
+            + mode_delta(&header.deltas, kind.prediction)),
+    )
+}
+
+fn macroblock_level(header: &Header, segment: u8, kind: &MacroblockKind) -> u8
+    ensures value { result ≡ macroblock_level header.now segment kind.now }
+    ensures range { result ≤ 63 }
+{
+    if header.filter.level == 0 {
+        return 0;
+    }
+    summed_level(header, segment, kind)
+}
+
+fn interior_limit(sharpness: u8, level: u8) -> u8
+    ensures value { result ≡ interior_limit sharpness level }
+    ensures range { level ≤ 63 → result ≤ 63 }
+{
+    if sharpness == 0 {
+        return level.max(1);
+    }
+    let part = if sharpness > 4 { level / 4 } else { level / 2 };
+    part.min(9u8.saturating_sub(sharpness)).max(1)
+}
+
+fn variance_threshold(key: bool, level: u8) -> u8
+    ensures { result ≡ variance_threshold key level }
+{
+    match (key, level) {
+        (true, 40..) => 2,
+        (true, 15..) => 1,
+        (false, 40..) => 3,
+        (false, 20..) => 2,
+        (false, 15..) => 1,
+        _ => 0,
+    }
+}
+
+fn has_inner_edges(kind: &MacroblockKind) -> bool
+    ensures { result ≡ has_inner_edges kind.now }
+{
+    kind.coded
+        || match kind.prediction {
+            Prediction::Subblocks | Prediction::Split => true,
+            Prediction::Whole | Prediction::Zero | Prediction::Moved => false,
+        }
+}
+
+/// The filter level of a macroblock of segment `segment`; all 0 where it isn't filtered.
+#[tactic(auto, unfolding(crate::specs::Levels::level_of))]
+pub fn levels(header: &Header, segment: u8, kind: &MacroblockKind) -> Level
+    ensures { result ≡ level_of header.now segment kind.now }
+{
+    let level = macroblock_level(header, segment, kind);
+    if level == 0 {
+        return Level {
+            edge: 0,
+            inner: 0,
+            interior: 0,
+            hev: 0,
+        };
+    }
+    let interior = interior_limit(header.filter.sharpness, level);
+    let simple = header.filter.simple;
+    Level {
+        edge: (level + 2) * 2 + interior,
+        inner: if has_inner_edges(kind) {
+            level * 2 + interior
+        } else {
+            0
+        },
+        interior: if simple { 0 } else { interior },
+        hev: if simple {
+            0
+        } else {
+            variance_threshold(header.key, level)
+        },
+    }
+}

@@ -1,0 +1,274 @@
+ghost use Rattle.std.specs.Prelude.{◌≡◌, ◌<◌, replicate};
+ghost use Rattle.vp_bool.specs.Reader.{when};
+ghost use Rattle.vp_tree.specs.Tree.{walk_from};
+ghost use Rattle.vp_modes.specs.Map.{is_split};
+ghost use Rattle.vp_modes.specs.Modes.{segment_id, segment_of, skip_by, is_intra, inter_reference, reference_of, luma_mode, chroma_mode, sub_mode, sub_probabilities, sub_modes, intra_modes, prediction, modes_at};
+
+use crate::contexts::{mode_above, mode_left};
+use crate::entry::{Modes, Place};
+use crate::map::ModeMap;
+use vp_bool::BoolDecoder;
+use vp_head::{Header, Reference, ReferenceProbabilities};
+use vp_tables::{
+    CHROMA_TREE, ChromaMode, KEY_CHROMA_PROBABILITIES, KEY_LUMA_PROBABILITIES, KEY_LUMA_TREE,
+    LUMA_TREE, LumaMode, SEGMENT_TREE, SUB_PROBABILITIES, SUB_TREE, SubMode, key_sub_probabilities,
+};
+use vp_tree::read_tree;
+
+/// A segment id by the segment tree.
+#[tactic(auto, unfolding(crate::specs::Modes::segment_id))]
+fn read_segment_id(probabilities: &[u8; 3], d: &mut BoolDecoder) -> u8
+    ensures value { result ≡ (segment_id probabilities.now d.old).0 }
+    ensures rest { d.new ≡ (segment_id probabilities.now d.old).1 }
+    ensures small { result < 4 }
+{
+    read_tree(&SEGMENT_TREE, probabilities, d)
+}
+
+/// The segment, where the map is updated; else 0 in a key frame, and what is kept in an inter frame.
+#[tactic(auto, unfolding(crate::specs::Modes::segment_of))]
+fn read_segment(header: &Header, kept: u8, d: &mut BoolDecoder) -> u8
+    requires { kept < 4 }
+    ensures value { result ≡ (segment_of header.now kept d.old).0 }
+    ensures rest { d.new ≡ (segment_of header.now kept d.old).1 }
+    ensures small { result < 4 }
+{
+    if header.segmentation.update_map {
+        read_segment_id(&header.segmentation.tree_probabilities, d)
+    } else if header.key {
+        0
+    } else {
+        kept
+    }
+}
+
+fn read_skip(probability: Option<u8>, d: &mut BoolDecoder) -> bool
+    ensures value { result ≡ (skip_by probability d.old).0 }
+    ensures rest { d.new ≡ (skip_by probability d.old).1 }
+{
+    match probability {
+        Some(p) => d.read(p),
+        None => false,
+    }
+}
+
+/// Last, golden or altref.
+#[tactic(auto, unfolding(crate::specs::Modes::inter_reference, vp_bool::specs::Reader::bind))]
+fn read_inter_reference(probabilities: &ReferenceProbabilities, d: &mut BoolDecoder) -> Reference
+    ensures value { result ≡ (inter_reference probabilities.now d.old).0 }
+    ensures rest { d.new ≡ (inter_reference probabilities.now d.old).1 }
+{
+    if !d.read(probabilities.last) {
+        Reference::Last
+    } else if d.read(probabilities.golden) {
+        Reference::Alt
+    } else {
+        Reference::Golden
+    }
+}
+
+/// The reference: a key frame's macroblocks are intra.
+#[tactic(auto, unfolding(crate::specs::Modes::reference_of, vp_bool::specs::Reader::bind))]
+fn read_reference(header: &Header, d: &mut BoolDecoder) -> Reference
+    ensures value { result ≡ (reference_of header.now d.old).0 }
+    ensures rest { d.new ≡ (reference_of header.now d.old).1 }
+{
+    if header.key {
+        Reference::Intra
+    } else if d.read(header.references.intra) {
+        read_inter_reference(&header.references, d)
+    } else {
+        Reference::Intra
+    }
+}
+
+fn read_luma_by(probabilities: &[u8; 4], d: &mut BoolDecoder) -> LumaMode
+    ensures value { result ≡ (walk_from LumaMode.Dc LUMA_TREE probabilities.now 0 d.old).0 }
+    ensures rest { d.new ≡ (walk_from LumaMode.Dc LUMA_TREE probabilities.now 0 d.old).1 }
+{
+    read_tree(&LUMA_TREE, probabilities, d)
+}
+
+/// The luma mode of an intra macroblock.
+#[tactic(auto, unfolding(crate::specs::Modes::luma_mode))]
+fn read_luma(header: &Header, d: &mut BoolDecoder) -> LumaMode
+    ensures value { result ≡ (luma_mode header.now d.old).0 }
+    ensures rest { d.new ≡ (luma_mode header.now d.old).1 }
+{
+    if header.key {
+        read_tree(&KEY_LUMA_TREE, &KEY_LUMA_PROBABILITIES, d)
+    } else {
+        read_luma_by(&header.probabilities.luma, d)
+    }
+}
+
+fn read_chroma_by(probabilities: &[u8; 3], d: &mut BoolDecoder) -> ChromaMode
+    ensures value { result ≡ (walk_from ChromaMode.Dc CHROMA_TREE probabilities.now 0 d.old).0 }
+    ensures rest { d.new ≡ (walk_from ChromaMode.Dc CHROMA_TREE probabilities.now 0 d.old).1 }
+{
+    read_tree(&CHROMA_TREE, probabilities, d)
+}
+
+/// The chroma mode of an intra macroblock.
+#[tactic(auto, unfolding(crate::specs::Modes::chroma_mode))]
+fn read_chroma(header: &Header, d: &mut BoolDecoder) -> ChromaMode
+    ensures value { result ≡ (chroma_mode header.now d.old).0 }
+    ensures rest { d.new ≡ (chroma_mode header.now d.old).1 }
+{
+    if header.key {
+        read_chroma_by(&KEY_CHROMA_PROBABILITIES, d)
+    } else {
+        read_chroma_by(&header.probabilities.chroma, d)
+    }
+}
+
+/// The probabilities of the mode of subblock k of the macroblock at a place, whose subblocks before k are in found.
+#[tactic(auto, unfolding(crate::specs::Modes::sub_probabilities))]
+fn probabilities_of(
+    header: &Header,
+    map: &ModeMap,
+    place: Place,
+    found: &[SubMode; 16],
+    k: usize,
+) -> &'static [u8; 9]
+    requires column { place.column < map.now.cols }
+    requires row { place.row < map.now.rows }
+    requires sub { k < 16 }
+    ensures { result.now ≡ sub_probabilities header.now map.now place.column place.row found.now k }
+{
+    if header.key {
+        key_sub_probabilities(
+            mode_above(map, place, found, k),
+            mode_left(map, place, found, k),
+        )
+    } else {
+        &SUB_PROBABILITIES
+    }
+}
+
+#[tactic(auto, unfolding(crate::specs::Modes::sub_mode))]
+fn read_sub(probabilities: &[u8; 9], d: &mut BoolDecoder) -> SubMode
+    ensures value { result ≡ (sub_mode probabilities.now d.old).0 }
+    ensures rest { d.new ≡ (sub_mode probabilities.now d.old).1 }
+{
+    read_tree(&SUB_TREE, probabilities, d)
+}
+
+/// The modes of the subblocks of the macroblock at a place.
+fn read_subs(header: &Header, map: &ModeMap, place: Place, d: &mut BoolDecoder) -> [SubMode; 16]
+    requires column { place.column < map.now.cols }
+    requires row { place.row < map.now.rows }
+    ensures value { result ≡ (sub_modes header.now map.now place.column place.row d.old).0 }
+    ensures rest { d.new ≡ (sub_modes header.now map.now place.column place.row d.old).1 }
+{
+    let mut found = [SubMode::Dc; 16];
+    for k in 0..16 {
+        let probabilities = probabilities_of(header, map, place, &found, k);
+        found[k] = read_sub(probabilities, d);
+    }
+    found
+}
+
+fn is_split_mode(mode: LumaMode) -> bool
+    ensures { result ≡ is_split mode }
+{
+    matches!(mode, LumaMode::B)
+}
+
+fn is_intra_reference(reference: Reference) -> bool
+    ensures { result ≡ is_intra reference }
+{
+    matches!(reference, Reference::Intra)
+}
+
+/// The modes of the subblocks where each has one, else DC.
+fn read_subs_of(
+    luma: LumaMode,
+    header: &Header,
+    map: &ModeMap,
+    place: Place,
+    d: &mut BoolDecoder,
+) -> [SubMode; 16]
+    requires column { place.column < map.now.cols }
+    requires row { place.row < map.now.rows }
+    ensures value { result ≡ (when (is_split luma) (sub_modes header.now map.now place.column place.row) (replicate 16 SubMode.Dc) d.old).0 }
+    ensures rest { d.new ≡ (when (is_split luma) (sub_modes header.now map.now place.column place.row) (replicate 16 SubMode.Dc) d.old).1 }
+{
+    if is_split_mode(luma) {
+        read_subs(header, map, place, d)
+    } else {
+        [SubMode::Dc; 16]
+    }
+}
+
+/// Adds the modes of an intra macroblock.
+#[tactic(auto, unfolding(crate::specs::Modes::intra_modes, vp_bool::specs::Reader::bind))]
+fn read_intra(
+    header: &Header,
+    map: &ModeMap,
+    place: Place,
+    modes: Modes,
+    d: &mut BoolDecoder,
+) -> Modes
+    requires column { place.column < map.now.cols }
+    requires row { place.row < map.now.rows }
+    ensures value { result ≡ (intra_modes header.now map.now place.column place.row modes d.old).0 }
+    ensures rest { d.new ≡ (intra_modes header.now map.now place.column place.row modes d.old).1 }
+    ensures segment { result.segment ≡ modes.segment }
+{
+    let luma = read_luma(header, d);
+    let subs = read_subs_of(luma, header, map, place, d);
+    let chroma = read_chroma(header, d);
+    Modes {
+        luma,
+        subs,
+        chroma,
+        ..modes
+    }
+}
+
+/// Adds the modes of the macroblock at a place, where it is intra.
+#[tactic(auto, unfolding(crate::specs::Modes::prediction))]
+fn read_prediction(
+    header: &Header,
+    map: &ModeMap,
+    place: Place,
+    modes: Modes,
+    d: &mut BoolDecoder,
+) -> Modes
+    requires column { place.column < map.now.cols }
+    requires row { place.row < map.now.rows }
+    ensures value { result ≡ (prediction header.now map.now place.column place.row modes d.old).0 }
+    ensures rest { d.new ≡ (prediction header.now map.now place.column place.row modes d.old).1 }
+    ensures segment { result.segment ≡ modes.segment }
+{
+    if is_intra_reference(modes.reference) {
+        read_intra(header, map, place, modes, d)
+    } else {
+        modes
+    }
+}
+
+/// What the macroblock at a place says of itself. The map has the modes of this frame's macroblocks before it, and at
+/// the place itself those of the frame before, whose segment may be kept.
+#[tactic(auto, unfolding(crate::specs::Modes::modes_at, vp_bool::specs::Reader::bind))]
+pub fn read_modes(header: &Header, map: &ModeMap, place: Place, d: &mut BoolDecoder) -> Modes
+    requires column { place.column < map.now.cols }
+    requires row { place.row < map.now.rows }
+    ensures value { result ≡ (modes_at header.now map.now place.column place.row d.old).0 }
+    ensures rest { d.new ≡ (modes_at header.now map.now place.column place.row d.old).1 }
+    ensures segment { result.segment < 4 }
+{
+    let segment = read_segment(header, map.get(place).segment, d);
+    let skip = read_skip(header.skip, d);
+    let reference = read_reference(header, d);
+    let unread = Modes {
+        segment,
+        skip,
+        reference,
+        luma: LumaMode::Dc,
+        subs: [SubMode::Dc; 16],
+        chroma: ChromaMode::Dc,
+    };
+    read_prediction(header, map, place, unread, d)
+}

@@ -1,0 +1,175 @@
+-- Entries of neighbours.
+use Rattle.std.proofs.Common.{◌≡◌, ◌∙◌, ℕ, zero, suc, ◌+◌, ◌*◌, ◌<◌, ◌≤◌, Bool, true, false, cond, List, [], ◌∷◌, ◌++◌, length, get_or, replicate, take, refl, ap, sym, subst, arith, rules, inl, inr, ℤ, pos, negsuc, add_assoc, append_assoc}
+use Rattle.std.proofs.lemmas.List.{append-nil, get_or-replicate, get_or_default, get_or_past, length-replicate}
+use Rattle.std.proofs.lemmas.Bool.{cases_Bool, cases_lt, and_parts, eqb-true, false≢true}
+use Rattle.std.proofs.lemmas.Int.{ints}
+use Rattle.vp_motion.specs.declared.vector.Vector.{Vector}
+use Rattle.vp_motion.specs.declared.vector.Weighted.{Weighted}
+use Rattle.vp_head.specs.declared.fields.Reference.{Reference}
+use Rattle.vp_head.specs.declared.fields.SignBiases.{SignBiases}
+use Rattle.vp_motion.specs.declared.vector.Entry.{Entry}
+use Rattle.std.specs.Int.{from_bool}
+use Rattle.vp_motion.specs.Map.{VectorGrid, still, intra, is_intra, AllSmall, AreSmall, IsSmall, IsWithin}
+use Rattle.vp_motion.specs.Near.{from_entries, within, candidates, split_count, splits, same, same_number, still_weight, moving, onto, runs, neighbours, above, left, corner, joined, total, nobody, counted, seen, AreHeavy, IsTally}
+
+-- the last entry, and one more
+pub joined-last : (es : List Weighted) (n : ℕ) (w : Weighted) → length es ≡ n + 1 → same (get_or es n nobody).vector w.vector ≡ true
+    → take n es ++ record { vector = (get_or es n nobody).vector; weight = (get_or es n nobody).weight + w.weight } ∷ [] ≡ joined es w
+unfolding joined
+joined-last [] n w l h = absurd (omega arith)
+joined-last (e ∷ []) zero w l h = rw h refl
+joined-last (e ∷ []) (suc n) w l h = absurd (omega arith)
+joined-last (e ∷ (f ∷ fs)) zero w l h = absurd (omega arith)
+joined-last (e ∷ (f ∷ fs)) (suc n) w l h = ap (λ (r : List Weighted). e ∷ r) (joined-last (f ∷ fs) n w (omega arith) h)
+
+pub joined-new : (es : List Weighted) (n : ℕ) (w : Weighted) → length es ≡ n + 1 → same (get_or es n nobody).vector w.vector ≡ false → es ++ w ∷ [] ≡ joined es w
+unfolding joined
+joined-new [] n w l h = absurd (omega arith)
+joined-new (e ∷ []) zero w l h = rw h refl
+joined-new (e ∷ []) (suc n) w l h = absurd (omega arith)
+joined-new (e ∷ (f ∷ fs)) zero w l h = absurd (omega arith)
+joined-new (e ∷ (f ∷ fs)) (suc n) w l h = ap (λ (r : List Weighted). e ∷ r) (joined-new (f ∷ fs) n w (omega arith) h)
+
+pub joined-none : (es : List Weighted) (w : Weighted) → length es ≡ 0 → es ++ w ∷ [] ≡ joined es w
+unfolding joined
+joined-none [] w l = refl
+joined-none (e ∷ es) w l = absurd (omega arith)
+
+pub weight_below : (es : List Weighted) (n : ℕ) → (get_or es n nobody).weight ≤ total es
+weight_below [] n = omega arith
+weight_below (e ∷ es) zero = omega arith
+weight_below (e ∷ es) (suc n) = omega (arith, weight_below es n)
+
+pub length-joined : (es : List Weighted) (w : Weighted) → length (joined es w) ≤ length es + 1
+unfolding joined
+length-joined [] w = omega arith
+length-joined (e ∷ []) w = elim (cases_Bool (same e.vector w.vector)) [ inl t ↦ rw t (omega arith) | inr f ↦ rw f (omega arith) ]
+length-joined (e ∷ (f ∷ es)) w = let h = length-joined (f ∷ es) w in omega (arith, length-joined (f ∷ es) w)
+
+pub total-joined : (es : List Weighted) (w : Weighted) → total (joined es w) ≡ total es + w.weight
+unfolding joined
+total-joined [] w = omega arith
+total-joined (e ∷ []) w = elim (cases_Bool (same e.vector w.vector)) [ inl t ↦ rw t (omega arith) | inr f ↦ rw f (omega arith) ]
+total-joined (e ∷ (f ∷ es)) w = omega (arith, total-joined (f ∷ es) w)
+
+pub heavy-joined : (es : List Weighted) (w : Weighted) → 0 < w.weight → AreHeavy es → AreHeavy (joined es w)
+unfolding joined
+heavy-joined [] w p h = (p, tt)
+heavy-joined (e ∷ []) w p h = elim (cases_Bool (same e.vector w.vector)) [ inl t ↦ rw t (let q : 0 < e.weight + w.weight = omega arith in (q, tt)) | inr f ↦ rw f (h.0, (p, tt)) ]
+heavy-joined (e ∷ (f ∷ es)) w p h = (h.0, heavy-joined (f ∷ es) w p h.1)
+
+-- Where three entries stand, the first is not all.
+pub first_light : (es : List Weighted) (n : ℕ) → total es ≤ n → AreHeavy es → 2 < length es → (get_or es 0 nobody).weight + 1 ≤ n
+first_light [] n t h l = absurd (omega arith)
+first_light (e ∷ []) n t h l = absurd (omega arith)
+first_light (e ∷ (f ∷ es)) n t h l = let p : 0 < f.weight = h.1.0 in omega arith
+
+-- one more neighbour
+same_number-true : (m n : ℤ) → same_number m n ≡ true → m ≡ n
+same_number-true (pos m) (pos n) h = ap pos (eqb-true m n h)
+same_number-true (pos m) (negsuc n) h = absurd (false≢true h)
+same_number-true (negsuc m) (pos n) h = absurd (false≢true h)
+same_number-true (negsuc m) (negsuc n) h = ap negsuc (eqb-true m n h)
+
+same-true : (u v : Vector) → same u v ≡ true → u ≡ v
+unfolding same
+same-true u v h =
+    let p = and_parts (same_number u.row v.row) (same_number u.column v.column) h in
+    λ i. record { row = same_number-true u.row v.row p.0 i; column = same_number-true u.column v.column p.1 i }
+
+onto-joined : (v w : Weighted) (es : List Weighted) → onto v (joined es w) ≡ joined (onto v es) w
+unfolding onto joined
+onto-joined v w [] = refl
+onto-joined v w (e ∷ []) = elim (cases_Bool (same v.vector e.vector)) [
+  | inl p ↦
+      let q : v.vector ≡ e.vector = same-true v.vector e.vector p in
+      elim (cases_Bool (same e.vector w.vector)) [
+        | inl t ↦ let k : same v.vector w.vector ≡ true = ap (λ (x : Vector). same x w.vector) q ∙ t in rw (p, t, p, k) (ap (λ (n : ℕ). record { vector = v.vector; weight = n } ∷ []) (sym (add_assoc v.weight e.weight w.weight)))
+        | inr f ↦ let k : same v.vector w.vector ≡ false = ap (λ (x : Vector). same x w.vector) q ∙ f in rw (f, p, k) refl
+      ]
+  | inr n ↦ elim (cases_Bool (same e.vector w.vector)) [ inl t ↦ rw (n, t, n) refl | inr f ↦ rw (n, f, n) refl ]
+]
+onto-joined v w (e ∷ (f ∷ es)) = elim (cases_Bool (same v.vector e.vector)) [ inl p ↦ rw p refl | inr n ↦ rw n refl ]
+
+pub runs-push : (ws : List Weighted) (w : Weighted) → runs (ws ++ w ∷ []) ≡ joined (runs ws) w
+unfolding runs onto joined
+runs-push [] w = refl
+runs-push (v ∷ ws) w = ap (onto v) (runs-push ws w) ∙ onto-joined v w (runs ws)
+
+still_weight-push : (ws : List Weighted) (w : Weighted) → still_weight (ws ++ w ∷ []) ≡ still_weight ws + cond (same w.vector still) w.weight 0
+unfolding still_weight
+still_weight-push [] w = omega arith
+still_weight-push (v ∷ ws) w = rw (still_weight-push ws w) (omega arith)
+
+moving-push : (ws : List Weighted) (w : Weighted) → moving (ws ++ w ∷ []) ≡ cond (same w.vector still) (moving ws) (moving ws ++ w ∷ [])
+unfolding moving
+moving-push [] w = refl
+moving-push (v ∷ ws) w = elim (cases_Bool (same v.vector still)) [
+  | inl t ↦ rw t (moving-push ws w)
+  | inr f ↦ rw (f, moving-push ws w) (elim (cases_Bool (same w.vector still)) [ inl t ↦ rw t refl | inr n ↦ rw n refl ])
+]
+
+pub tally-intra : (ws : List Weighted) (count : ℕ) (es : List Weighted) (r : Reference) (b : SignBiases) (n : ℕ) (e : Entry) → is_intra e.reference ≡ true
+    → IsTally ws count es → IsTally (ws ++ counted r b n e) count es
+unfolding counted
+tally-intra ws count es r b n e h t = rw (h, append-nil ws) t
+
+pub tally-still : (ws : List Weighted) (count : ℕ) (es : List Weighted) (r : Reference) (b : SignBiases) (n : ℕ) (e : Entry) → is_intra e.reference ≡ false
+    → same (seen r b e) still ≡ true → IsTally ws count es → IsTally (ws ++ counted r b n e) (count + n) es
+unfolding counted
+tally-still ws count es r b n e h s t = rw h (let w : Weighted = record { vector = seen r b e; weight = n } in record {
+  still_ones = ap (λ (k : ℕ). k + n) t.still_ones ∙ sym (still_weight-push ws w ∙ ap (λ (x : Bool). still_weight ws + cond x n 0) s);
+  entries = t.entries ∙ sym (ap runs (moving-push ws w ∙ ap (λ (x : Bool). cond x (moving ws) (moving ws ++ w ∷ [])) s));
+})
+
+pub tally-moving : (ws : List Weighted) (count : ℕ) (es fs : List Weighted) (r : Reference) (b : SignBiases) (n : ℕ) (e : Entry) → is_intra e.reference ≡ false
+    → same (seen r b e) still ≡ false → fs ≡ joined es (record { vector = seen r b e; weight = n }) → IsTally ws count es → IsTally (ws ++ counted r b n e) count fs
+unfolding counted
+tally-moving ws count es fs r b n e h s j t = rw h (let w : Weighted = record { vector = seen r b e; weight = n } in record {
+  still_ones = t.still_ones ∙ sym (still_weight-push ws w ∙ ap (λ (x : Bool). still_weight ws + cond x n 0) s ∙ (let z : still_weight ws + 0 ≡ still_weight ws = omega arith in z));
+  entries = j ∙ ap (λ (l : List Weighted). joined l w) t.entries ∙ sym (ap runs (moving-push ws w ∙ ap (λ (x : Bool). cond x (moving ws) (moving ws ++ w ∷ [])) s) ∙ runs-push (moving ws) w);
+})
+
+pub still_itself : IsSmall still
+still_itself = record { low_row = search rules; high_row = search rules; low_column = search rules; high_column = search rules }
+
+pub all_small : (n b : ℕ) (v : Vector) → IsSmall v → IsSmall (get_or (replicate n v) b still)
+all_small n b v small = elim (cases_lt b n) [
+  | inl p ↦ rw (get_or-replicate n b v still p) small
+  | inr q ↦ rw (get_or_past (replicate n v) b still (let l : length (replicate n v) ≡ n = length-replicate n v in omega arith)) still_itself
+]
+
+pub still_small : (n b : ℕ) → IsSmall (get_or (replicate n still) b still)
+still_small n b = all_small n b still still_itself
+
+pub small_within : (v : Vector) → IsWithin 65536 v → IsSmall v
+small_within v h = record { low_row = omega (arith, ints); high_row = omega (arith, ints); low_column = omega (arith, ints); high_column = omega (arith, ints) }
+
+pub intra_small : AreSmall intra.vectors
+unfolding intra
+intra_small b = still_small 16 b
+
+pub small_at : (es : List Entry) (k : ℕ) (e : Entry) → k < length es → e ≡ get_or es k e → AllSmall es → AreSmall e.vectors
+small_at es k e within is small =
+    let p : get_or es k intra ≡ e = get_or_default es k intra e within ∙ sym is in
+    let P : Entry → Type 0 = λ (x : Entry). AreSmall x.vectors in
+    subst P p (small k within)
+
+pub tally-none : IsTally [] 0 []
+unfolding still_weight moving runs
+tally-none = record { still_ones = refl; entries = refl }
+
+pub near_is : (g : VectorGrid) (x y : ℕ) (r : Reference) (b : SignBiases) (a l k : Entry) (count total_splits : ℕ) (es : List Weighted)
+    → a ≡ above g x y → l ≡ left g x y → k ≡ corner g x y → total_splits ≡ 2 * from_bool (splits a) + 2 * from_bool (splits l) + from_bool (splits k)
+    → IsTally (([] ++ counted r b 2 a) ++ counted r b 2 l ++ counted r b 1 k) count es
+    → from_entries (within g.cols g.rows x y) count total_splits es ≡ candidates g x y r b
+unfolding candidates neighbours split_count
+near_is g x y r b a l k count total_splits es p q s n t =
+    let f : Entry → Entry → Entry → List Weighted = λ (u v w : Entry). counted r b 2 u ++ (counted r b 2 v ++ counted r b 1 w) in
+    let e : (([] ++ counted r b 2 a) ++ counted r b 2 l) ++ counted r b 1 k ≡ f (above g x y) (left g x y) (corner g x y) =
+    append_assoc (counted r b 2 a) (counted r b 2 l) (counted r b 1 k) ∙ (λ i. f (p i) (q i) (s i)) in
+    let z : count ≡ still_weight (f (above g x y) (left g x y) (corner g x y)) = t.still_ones ∙ ap still_weight e in
+    let w : es ≡ runs (moving (f (above g x y) (left g x y) (corner g x y))) = t.entries ∙ ap (λ (v : List Weighted). runs (moving v)) e in
+    let m : total_splits ≡ 2 * from_bool (splits (above g x y)) + 2 * from_bool (splits (left g x y)) + from_bool (splits (corner g x y)) =
+    n ∙ (λ i. 2 * from_bool (splits (p i)) + 2 * from_bool (splits (q i)) + from_bool (splits (s i))) in
+    λ i. from_entries (within g.cols g.rows x y) (z i) (m i) (w i)

@@ -1,0 +1,33 @@
+use Rattle.std.proofs.Common.{◌∙◌, arith, sym, ap}
+use Rattle.vp_motion.specs.declared.vector.Vector.{Vector}
+use Rattle.vp_motion.specs.Map.{still}
+use Rattle.vp_motion.specs.Near.{same, joined}
+use Rattle.vp_motion.proofs.Runs.{tally-intra, tally-still, tally-moving}
+use Rattle.vp_motion.proofs.candidates.consider.Goals as goal
+
+pub returns-else-not-is_intra_reference : goal.returns-else-not-is_intra_reference
+returns-else-not-is_intra_reference c = record {
+  tally = λ ws t. tally-intra ws _ _ c.args.reference c.args.biases c.args.weight c.args.neighbour.now (sym c.is_intra_reference.ensures ∙ c.if-not-is_intra_reference.false) t;
+  len = omega arith;
+  weight = omega arith;
+  heavy = λ h. h;
+}
+
+pub returns-then-is_same : goal.returns-then-is_same
+returns-then-is_same c = record {
+  tally = λ ws t. tally-still ws _ _ c.args.reference c.args.biases c.args.weight c.args.neighbour.now (sym c.is_intra_reference.ensures ∙ c.if-not-is_intra_reference.true)
+      (ap (λ (v : Vector). same v still) (sym c.seen_vector-vector.ensures) ∙ sym c.is_same.ensures ∙ c.if-is_same.true) t;
+  len = omega arith;
+  weight = omega arith;
+  heavy = λ h. h;
+}
+
+pub returns-else-is_same : goal.returns-else-is_same
+returns-else-is_same c = record {
+  tally = λ ws t. tally-moving ws _ _ _ c.args.reference c.args.biases c.args.weight c.args.neighbour.now (sym c.is_intra_reference.ensures ∙ c.if-not-is_intra_reference.true)
+      (ap (λ (v : Vector). same v still) (sym c.seen_vector-vector.ensures) ∙ sym c.is_same.ensures ∙ c.if-is_same.false)
+      (c.join.ensures.value ∙ ap (λ (v : Vector). joined c.args.found.now.entries.items (record { vector = v; weight = c.args.weight })) c.seen_vector-vector.ensures) t;
+  len = c.join.ensures.len;
+  weight = omega arith;
+  heavy = c.join.ensures.heavy;
+}

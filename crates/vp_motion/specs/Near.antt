@@ -1,0 +1,173 @@
+-- The vectors near a macroblock, by coordinates (RFC 6386, chapter 16.3).
+use Rattle.std.specs.Prelude.{◌≡◌, ◌<◌, ℕ, ◌+◌, ◌-◌, ◌*◌, ◌==◌, ◌&&◌, ◌||◌, Bool, true, false, not, nat_lt, nat_le, eqb, List, [], ◌∷◌, ◌++◌, length, replicate, slice_index_or, ℤ, pos, negsuc, neg_ℤ, int_lt, if◌then◌else◌}
+use Rattle.std.specs.Int.{from_bool}
+use Rattle.vp_head.specs.declared.fields.Reference.{Reference}
+use Rattle.vp_head.specs.declared.fields.Reference.TheVariants as reference_is
+use Rattle.vp_head.specs.declared.fields.SignBiases.{SignBiases}
+use Rattle.vp_tables.specs.declared.modes.VectorMode.{VectorMode}
+use Rattle.vp_tables.specs.declared.modes.VectorMode.TheVariants as vector_is
+use Rattle.vp_motion.specs.declared.vector.Vector.{Vector}
+use Rattle.vp_motion.specs.declared.vector.Entry.{Entry}
+use Rattle.vp_motion.specs.declared.vector.Weighted.{Weighted}
+use Rattle.vp_motion.specs.declared.vector.Candidates.{Candidates}
+use Rattle.vp_motion.specs.Map.{VectorGrid, at, intra, is_intra, own, still}
+
+-- ---- The three neighbours. Outside the frame nothing counts.
+
+unfoldable pub above : VectorGrid → ℕ → ℕ → Entry
+above g x y = if y == 0 then intra else at g x (y - 1)
+
+unfoldable pub left : VectorGrid → ℕ → ℕ → Entry
+left g x y = if x == 0 then intra else at g (x - 1) y
+
+unfoldable pub corner : VectorGrid → ℕ → ℕ → Entry
+corner g x y = if x == 0 || y == 0 then intra else at g (x - 1) (y - 1)
+
+-- ---- A neighbour's vector
+
+abbrev pub bias_of : Reference → SignBiases → Bool
+bias_of reference_is.Intra b = false
+bias_of reference_is.Last b = false
+bias_of reference_is.Golden b = b.golden
+bias_of reference_is.Alt b = b.alt
+
+abbrev pub same_bool : Bool → Bool → Bool
+same_bool true b = b
+same_bool false b = not b
+
+abbrev pub negated : Vector → Vector
+negated v = record { row = neg_ℤ v.row; column = neg_ℤ v.column }
+
+abbrev pub same_number : ℤ → ℤ → Bool
+same_number (pos m) (pos n) = eqb m n
+same_number (pos m) (negsuc n) = false
+same_number (negsuc m) (pos n) = false
+same_number (negsuc m) (negsuc n) = eqb m n
+
+unfoldable pub same : Vector → Vector → Bool
+same u v = same_number u.row v.row && same_number u.column v.column
+
+-- It is negated where the sign biases of the two references differ.
+unfoldable pub seen : Reference → SignBiases → Entry → Vector
+seen r b e = if same_bool (bias_of e.reference b) (bias_of r b) then own e else negated (own e)
+
+-- a neighbour's vector and its weight, where it counts
+unfoldable pub counted : Reference → SignBiases → ℕ → Entry → List Weighted
+counted r b weight e = if is_intra e.reference then [] else record { vector = seen r b e; weight = weight } ∷ []
+
+unfoldable pub neighbours : VectorGrid → ℕ → ℕ → Reference → SignBiases → List Weighted
+neighbours g x y r b = counted r b 2 (above g x y) ++ (counted r b 2 (left g x y) ++ counted r b 1 (corner g x y))
+
+-- ---- The vectors that are found, with their weights
+
+-- the weights of the zero vectors
+unfoldable pub still_weight : List Weighted → ℕ
+still_weight [] = 0
+still_weight (w ∷ ws) = (if same w.vector still then w.weight else 0) + still_weight ws
+
+-- the nonzero ones
+unfoldable pub moving : List Weighted → List Weighted
+moving [] = []
+moving (w ∷ ws) = if same w.vector still then moving ws else w ∷ moving ws
+
+-- neighbours in a row with one vector are one entry, with their weights' sum
+unfoldable pub onto : Weighted → List Weighted → List Weighted
+onto w [] = w ∷ []
+onto w (e ∷ es) = if same w.vector e.vector then record { vector = w.vector; weight = w.weight + e.weight } ∷ es else w ∷ (e ∷ es)
+
+unfoldable pub runs : List Weighted → List Weighted
+runs [] = []
+runs (w ∷ ws) = onto w (runs ws)
+
+abbrev pub nobody : Weighted
+nobody = record { vector = still; weight = 0 }
+
+abbrev pub entry : List Weighted → ℕ → Weighted
+entry es k = slice_index_or es k nobody
+
+-- the first entry, which grows by 1 where three entries stand and the third equals it
+unfoldable pub first_of : List Weighted → Weighted
+first_of es =
+    if nat_lt 2 (length es) && same (entry es 2).vector (entry es 0).vector
+    then record { vector = (entry es 0).vector; weight = (entry es 0).weight + 1 }
+    else entry es 0
+
+abbrev pub is_split : VectorMode → Bool
+is_split vector_is.Zero = false
+is_split vector_is.Nearest = false
+is_split vector_is.Near = false
+is_split vector_is.New = false
+is_split vector_is.Split = true
+
+-- whether a neighbour's vectors are split
+unfoldable pub splits : Entry → Bool
+splits e = if is_intra e.reference then false else is_split e.mode
+
+unfoldable pub split_count : VectorGrid → ℕ → ℕ → ℕ
+split_count g x y = 2 * from_bool (splits (above g x y)) + 2 * from_bool (splits (left g x y)) + from_bool (splits (corner g x y))
+
+-- ---- The candidates
+
+abbrev pub clamped : ℤ → ℤ → ℤ → ℤ
+clamped low high z = if int_lt z low then low else if int_lt high z then high else z
+
+-- clamped so that the macroblock at x, y is moved past the frame's edges by its own size at most, in quarter pixels
+unfoldable pub within : ℕ → ℕ → ℕ → ℕ → Vector → Vector
+within cols rows x y v = record {
+  row = clamped (neg_ℤ (pos (64 * (y + 1)))) (pos (64 * (rows - y))) v.row;
+  column = clamped (neg_ℤ (pos (64 * (x + 1)))) (pos (64 * (cols - x))) v.column;
+}
+
+-- the candidates, where nearest and near are already the heavier and the lighter of the first two entries
+abbrev pub from_two : (Vector → Vector) → ℕ → ℕ → Weighted → Weighted → Candidates
+from_two clamp zeros splits nearest near = record {
+  counts = zeros ∷ nearest.weight ∷ near.weight ∷ splits ∷ [];
+  best = clamp (if nat_le zeros nearest.weight then nearest.vector else still);
+  nearest = clamp nearest.vector;
+  near = clamp near.vector;
+}
+
+unfoldable pub from_entries : (Vector → Vector) → ℕ → ℕ → List Weighted → Candidates
+from_entries clamp zeros splits es =
+    if nat_lt (first_of es).weight (entry es 1).weight
+    then from_two clamp zeros splits (entry es 1) (first_of es)
+    else from_two clamp zeros splits (first_of es) (entry es 1)
+
+unfoldable pub candidates : VectorGrid → ℕ → ℕ → Reference → SignBiases → Candidates
+candidates g x y r b =
+    let ws = neighbours g x y r b in
+    from_entries (within g.cols g.rows x y) (still_weight ws) (split_count g x y) (runs (moving ws))
+
+-- ---- A worked example: the middle of three rows of three
+
+abbrev pub four : Vector
+four = record { row = pos 4; column = pos 0 }
+
+abbrev pub inter : Vector → Entry
+inter v = record { reference = reference_is.Last; mode = vector_is.New; vectors = replicate 16 v }
+
+-- above and to the left (4, 0), above-left zero
+unfoldable pub three : VectorGrid
+three = record { cols = 3; rows = 3; entries = inter still ∷ inter four ∷ intra ∷ inter four ∷ intra ∷ intra ∷ intra ∷ intra ∷ intra ∷ [] }
+
+-- ---- What the code keeps of the neighbours
+
+-- w after the entries es: it joins the last one where equal to it
+unfoldable pub joined : List Weighted → Weighted → List Weighted
+joined [] w = w ∷ []
+joined (e ∷ []) w = if same e.vector w.vector then record { vector = e.vector; weight = e.weight + w.weight } ∷ [] else e ∷ (w ∷ [])
+joined (e ∷ (f ∷ es)) w = e ∷ joined (f ∷ es) w
+
+abbrev pub total : List Weighted → ℕ
+total [] = 0
+total (w ∷ ws) = w.weight + total ws
+
+-- each weighs something
+abbrev pub AreHeavy : List Weighted → Type 0
+AreHeavy [] = Unit {0}
+AreHeavy (w ∷ ws) = (0 < w.weight) × AreHeavy ws
+
+-- the weights and the entries that were found among the neighbours ws
+pub record IsTally (ws : List Weighted) (zeros : ℕ) (es : List Weighted) : Type 0 where
+  pub still_ones : zeros ≡ still_weight ws
+  pub entries : es ≡ runs (moving ws)

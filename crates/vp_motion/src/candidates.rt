@@ -1,0 +1,376 @@
+ghost use Rattle.std.specs.Prelude.{◌≡◌, ℕ, ◌+◌, ◌-◌, ◌*◌, ◌<◌, ◌≤◌, List, ◌++◌, length, slice_index, pos, neg_ℤ, ◌≤ℤ◌};
+ghost use Rattle.std.specs.Int.{from_bool};
+ghost use Rattle.vp_motion.specs.Map.{AreSmall, IsWithin, intra, is_intra};
+ghost use Rattle.vp_motion.specs.Near.{AreHeavy, IsTally, above, bias_of, candidates, clamped, corner, counted, entry, first_of, from_entries, from_two, is_split, joined, left, same, seen, splits, total, within};
+
+use crate::map::{VectorMap, outside};
+use crate::vector::{Candidates, Entry, STILL, Vector, Weighted};
+use arrayvec::ArrayVec;
+use vp_head::{Reference, SignBiases};
+use vp_modes::Place;
+use vp_tables::VectorMode;
+
+/// The entry above a place.
+#[tactic(auto, unfolding(crate::specs::Near::above))]
+fn above_of<'a>(map: &'a VectorMap, outside: &'a Entry, place: Place) -> &'a Entry
+    requires outside { outside.now ≡ intra }
+    requires still { AreSmall outside.now.vectors }
+    requires column { place.column < map.now.cols }
+    requires row { place.row < map.now.rows }
+    ensures value { result.now ≡ above map.now place.column place.row }
+    ensures small { AreSmall result.now.vectors }
+{
+    if place.row == 0 {
+        outside
+    } else {
+        map.get(Place {
+            column: place.column,
+            row: place.row - 1,
+        })
+    }
+}
+
+/// The entry to the left of a place.
+#[tactic(auto, unfolding(crate::specs::Near::left))]
+fn left_of<'a>(map: &'a VectorMap, outside: &'a Entry, place: Place) -> &'a Entry
+    requires outside { outside.now ≡ intra }
+    requires still { AreSmall outside.now.vectors }
+    requires column { place.column < map.now.cols }
+    requires row { place.row < map.now.rows }
+    ensures value { result.now ≡ left map.now place.column place.row }
+    ensures small { AreSmall result.now.vectors }
+{
+    if place.column == 0 {
+        outside
+    } else {
+        map.get(Place {
+            column: place.column - 1,
+            row: place.row,
+        })
+    }
+}
+
+/// The entry above and to the left of a place.
+#[tactic(auto, unfolding(crate::specs::Near::corner))]
+fn corner_of<'a>(map: &'a VectorMap, outside: &'a Entry, place: Place) -> &'a Entry
+    requires outside { outside.now ≡ intra }
+    requires still { AreSmall outside.now.vectors }
+    requires column { place.column < map.now.cols }
+    requires row { place.row < map.now.rows }
+    ensures value { result.now ≡ corner map.now place.column place.row }
+    ensures small { AreSmall result.now.vectors }
+{
+    if place.column == 0 || place.row == 0 {
+        outside
+    } else {
+        map.get(Place {
+            column: place.column - 1,
+            row: place.row - 1,
+        })
+    }
+}
+
+/// How far a vector may lead to the left of, or above, a macroblock with so many up to it.
+fn before(macroblocks: usize) -> i32
+    requires { macroblocks ≤ 1024 }
+    ensures { result ≡ neg_ℤ (pos (64 * macroblocks)) }
+{
+    -((64 * macroblocks) as i32)
+}
+
+/// How far it may lead to the other side, with so many from it on.
+fn behind(macroblocks: usize) -> i32
+    requires { macroblocks ≤ 1024 }
+    ensures { result ≡ pos (64 * macroblocks) }
+{
+    (64 * macroblocks) as i32
+}
+
+fn clamp(low: i32, high: i32, z: i32) -> i32
+    requires { low ≤ℤ high }
+    ensures value { result ≡ clamped low high z }
+    ensures least { low ≤ℤ result }
+    ensures greatest { result ≤ℤ high }
+{
+    if z < low {
+        low
+    } else if high < z {
+        high
+    } else {
+        z
+    }
+}
+
+#[tactic(auto, unfolding(crate::specs::Near::within))]
+fn clamp_vector(map: &VectorMap, place: Place, vector: Vector) -> Vector
+    requires column { place.column < map.now.cols }
+    requires row { place.row < map.now.rows }
+    ensures value { result ≡ within map.now.cols map.now.rows place.column place.row vector }
+    ensures short { IsWithin 65536 result }
+{
+    let (cols, rows) = (map.cols(), map.rows());
+    Vector {
+        row: clamp(before(place.row + 1), behind(rows - place.row), vector.row),
+        column: clamp(
+            before(place.column + 1),
+            behind(cols - place.column),
+            vector.column,
+        ),
+    }
+}
+
+#[tactic(auto, unfolding(crate::specs::Near::same))]
+pub(crate) fn is_same(u: Vector, v: Vector) -> bool
+    ensures { result ≡ same u v }
+{
+    u.row == v.row && u.column == v.column
+}
+
+pub(crate) fn is_intra_reference(reference: Reference) -> bool
+    ensures { result ≡ is_intra reference }
+{
+    matches!(reference, Reference::Intra)
+}
+
+fn bias(reference: Reference, biases: SignBiases) -> bool
+    ensures { result ≡ bias_of reference biases }
+{
+    match reference {
+        Reference::Intra => false,
+        Reference::Last => false,
+        Reference::Golden => biases.golden,
+        Reference::Alt => biases.alt,
+    }
+}
+
+fn is_split_mode(mode: VectorMode) -> bool
+    ensures { result ≡ is_split mode }
+{
+    matches!(mode, VectorMode::Split)
+}
+
+#[tactic(auto, unfolding(crate::specs::Near::splits))]
+fn has_split(neighbour: &Entry) -> bool
+    ensures { result ≡ splits neighbour.now }
+{
+    if is_intra_reference(neighbour.reference) {
+        false
+    } else {
+        is_split_mode(neighbour.mode)
+    }
+}
+
+/// A neighbour's own vector, turned round where the biases differ.
+#[tactic(auto, unfolding(crate::specs::Near::seen, crate::specs::Map::own))]
+fn seen_vector(reference: Reference, biases: SignBiases, neighbour: &Entry) -> Vector
+    requires small { AreSmall neighbour.now.vectors }
+    ensures { result ≡ seen reference biases neighbour.now }
+{
+    let vector = neighbour.vectors[15];
+    if bias(neighbour.reference, biases) == bias(reference, biases) {
+        vector
+    } else {
+        Vector {
+            row: -vector.row,
+            column: -vector.column,
+        }
+    }
+}
+
+fn put(entries: &mut ArrayVec<Weighted, 3>, weighted: Weighted)
+    requires room { length entries.old.items < 3 }
+    requires light { total entries.old.items + weighted.weight ≤ 255 }
+    ensures { entries.new.items ≡ joined entries.old.items weighted }
+{
+    let count = entries.len();
+    if count == 0 {
+        entries.push(weighted);
+    } else {
+        let last = entries[count - 1];
+        if is_same(last.vector, weighted.vector) {
+            entries.truncate(count - 1);
+            entries.push(Weighted {
+                vector: last.vector,
+                weight: last.weight + weighted.weight,
+            });
+        } else {
+            entries.push(weighted);
+        }
+    }
+}
+
+/// Adds a vector: it joins the last one where equal to it.
+fn join(entries: &mut ArrayVec<Weighted, 3>, weighted: Weighted)
+    requires room { length entries.old.items < 3 }
+    requires light { total entries.old.items + weighted.weight ≤ 255 }
+    requires heavy { 0 < weighted.weight }
+    ensures value { entries.new.items ≡ joined entries.old.items weighted }
+    ensures len { length entries.new.items ≤ length entries.old.items + 1 }
+    ensures weight { total entries.new.items ≡ total entries.old.items + weighted.weight }
+    ensures heavy { AreHeavy entries.old.items → AreHeavy entries.new.items }
+{
+    put(entries, weighted);
+}
+
+/// What was found among the neighbours so far.
+#[derive(Drop)]
+struct Found {
+    zeros: u8,
+    entries: ArrayVec<Weighted, 3>,
+}
+
+/// Counts a neighbour.
+fn consider(
+    found: &mut Found,
+    neighbour: &Entry,
+    weight: u8,
+    reference: Reference,
+    biases: SignBiases,
+)
+    requires small { AreSmall neighbour.now.vectors }
+    requires room { length found.old.entries.items < 3 }
+    requires light { total found.old.entries.items + found.old.zeros + weight ≤ 255 }
+    requires heavy { 0 < weight }
+    ensures tally { (ws : List Weighted) → IsTally ws found.old.zeros found.old.entries.items → IsTally (ws ++ counted reference biases weight neighbour.now) found.new.zeros found.new.entries.items }
+    ensures len { length found.new.entries.items ≤ length found.old.entries.items + 1 }
+    ensures weight { total found.new.entries.items + found.new.zeros ≤ total found.old.entries.items + found.old.zeros + weight }
+    ensures heavy { AreHeavy found.old.entries.items → AreHeavy found.new.entries.items }
+{
+    if !is_intra_reference(neighbour.reference) {
+        let vector = seen_vector(reference, biases, neighbour);
+        if is_same(vector, STILL) {
+            found.zeros += weight;
+        } else {
+            join(&mut found.entries, Weighted { vector, weight });
+        }
+    }
+}
+
+const NOBODY: Weighted = Weighted {
+    vector: STILL,
+    weight: 0,
+};
+
+fn entry_at(entries: &ArrayVec<Weighted, 3>, k: usize) -> Weighted
+    ensures value { result ≡ entry entries.now.items k }
+    ensures light { result.weight ≤ total entries.now.items }
+{
+    if k < entries.len() {
+        entries[k]
+    } else {
+        NOBODY
+    }
+}
+
+/// The first entry, which the third may add to.
+#[tactic(auto, unfolding(crate::specs::Near::first_of))]
+fn first_entry(entries: &ArrayVec<Weighted, 3>) -> Weighted
+    requires light { total entries.now.items ≤ 5 }
+    requires heavy { AreHeavy entries.now.items }
+    ensures value { result ≡ first_of entries.now.items }
+    ensures light { result.weight ≤ 5 }
+{
+    let first = entry_at(entries, 0);
+    if entries.len() > 2 && is_same(entry_at(entries, 2).vector, first.vector) {
+        Weighted {
+            vector: first.vector,
+            weight: first.weight + 1,
+        }
+    } else {
+        first
+    }
+}
+
+/// The candidates, where the heavier and the lighter of the first two entries are known.
+fn candidates_of(
+    map: &VectorMap,
+    place: Place,
+    zeros: u8,
+    splits: u8,
+    nearest: Weighted,
+    near: Weighted,
+) -> Candidates
+    requires column { place.column < map.now.cols }
+    requires row { place.row < map.now.rows }
+    ensures value { result ≡ from_two (within map.now.cols map.now.rows place.column place.row) zeros splits nearest near }
+    ensures best { IsWithin 65536 result.best }
+    ensures nearest { IsWithin 65536 result.nearest }
+    ensures near { IsWithin 65536 result.near }
+{
+    let best = if zeros <= nearest.weight {
+        nearest.vector
+    } else {
+        STILL
+    };
+    Candidates {
+        counts: [zeros, nearest.weight, near.weight, splits],
+        best: clamp_vector(map, place, best),
+        nearest: clamp_vector(map, place, nearest.vector),
+        near: clamp_vector(map, place, near.vector),
+    }
+}
+
+/// The candidates of the entries found.
+#[tactic(auto, unfolding(crate::specs::Near::from_entries))]
+fn choose(
+    map: &VectorMap,
+    place: Place,
+    zeros: u8,
+    splits: u8,
+    entries: &ArrayVec<Weighted, 3>,
+) -> Candidates
+    requires column { place.column < map.now.cols }
+    requires row { place.row < map.now.rows }
+    requires zeros { zeros ≤ 5 }
+    requires splits { splits ≤ 5 }
+    requires light { total entries.now.items ≤ 5 }
+    requires heavy { AreHeavy entries.now.items }
+    ensures value { result ≡ from_entries (within map.now.cols map.now.rows place.column place.row) zeros splits entries.now.items }
+    ensures counts { (k : ℕ) → slice_index result.counts k < 6 }
+    ensures best { IsWithin 65536 result.best }
+    ensures nearest { IsWithin 65536 result.nearest }
+    ensures near { IsWithin 65536 result.near }
+{
+    let first = first_entry(entries);
+    let second = entry_at(entries, 1);
+    if first.weight < second.weight {
+        candidates_of(map, place, zeros, splits, second, first)
+    } else {
+        candidates_of(map, place, zeros, splits, first, second)
+    }
+}
+
+fn splits_of(above: bool, left: bool, corner: bool) -> u8
+    ensures value { result ≡ 2 * from_bool above + 2 * from_bool left + from_bool corner }
+    ensures light { result ≤ 5 }
+{
+    2 * above as u8 + 2 * left as u8 + corner as u8
+}
+
+/// The vectors near the macroblock at a place, by those of the macroblocks above, to the left and above-left of it
+/// (RFC 6386, chapter 16.3).
+///
+/// `reference` is the macroblock's own: a neighbour's vector is turned round where its reference has another bias.
+pub fn near(map: &VectorMap, place: Place, reference: Reference, biases: SignBiases) -> Candidates
+    requires column { place.column < map.now.cols }
+    requires row { place.row < map.now.rows }
+    ensures value { result ≡ candidates map.now place.column place.row reference biases }
+    ensures counts { (k : ℕ) → slice_index result.counts k < 6 }
+    ensures best { IsWithin 65536 result.best }
+    ensures nearest { IsWithin 65536 result.nearest }
+    ensures near { IsWithin 65536 result.near }
+{
+    let outside = outside();
+    let above = above_of(map, &outside, place);
+    let left = left_of(map, &outside, place);
+    let corner = corner_of(map, &outside, place);
+    let mut found = Found {
+        zeros: 0,
+        entries: ArrayVec::new(),
+    };
+    consider(&mut found, above, 2, reference, biases);
+    consider(&mut found, left, 2, reference, biases);
+    consider(&mut found, corner, 1, reference, biases);
+    let splits = splits_of(has_split(above), has_split(left), has_split(corner));
+    choose(map, place, found.zeros, splits, &found.entries)
+}

@@ -1,0 +1,183 @@
+ghost use Rattle.std.specs.Prelude.{◌≡◌, ◌<◌, IfOk};
+
+use crate::{Vector, VectorMap, near, read_motion, read_split, read_vector};
+use std::process::Abort;
+use std::test::Fail;
+use vp_base::{Dim, Limits};
+use vp_bool::BoolDecoder;
+use vp_head::{Header, Reference, Saved, SignBiases, Tag};
+use vp_modes::{ModeMap, Place, read_modes};
+use vp_tables::VectorMode::{self, Near, Nearest, New, Split, Zero};
+
+const INTER: Tag = Tag {
+    version: 0,
+    show: true,
+    first_partition: 1,
+    key: None,
+};
+
+const UNBIASED: SignBiases = SignBiases {
+    golden: false,
+    alt: false,
+};
+
+/// A partition that begins with 255 is ones for ever, and says so of all that an inter packet may say.
+#[test]
+fn split_vectors_far_outside(rt: HostRuntime) -> Result<(), Fail> {
+    let dim = Dim::new(16, 16, &Limits::usual()).ok().ok_or("a size")?;
+    let mut d = BoolDecoder::new(&[255]);
+    let (header, _) = Header::read(&Saved::defaults(), &INTER, &mut d);
+    let modes = ModeMap::new(rt.alloc(), dim)?;
+    let map = VectorMap::new(rt.alloc(), dim)?;
+    let place = Place { column: 0, row: 0 };
+    let reference = read_modes(&header, &modes, place, &mut d).reference;
+    assert_eq!(rt; reference, Reference::Alt);
+    let motion = read_motion(&header, &map, place, reference, &mut d);
+    let far = Vector {
+        row: -1023,
+        column: -1023,
+    };
+    assert_eq!(rt; motion.mode, Split);
+    assert_eq!(rt; motion.vectors, [far; 16]);
+    assert_eq!(rt; read_vector(&header.probabilities.vectors, &mut d), far);
+    let best = Vector {
+        row: 0,
+        column: 1023,
+    };
+    let vectors = read_split(&header.probabilities.vectors, &map, place, best, &mut d);
+    assert_eq!(rt;
+        vectors,
+        [Vector {
+            row: -1023,
+            column: 0
+        }; 16]
+    );
+    Ok(())
+}
+
+/// A new map, and what is put into it.
+#[test]
+fn succeeds_with_memory_map(rt: HostRuntime) -> Result<(), Fail> {
+    let dim = Dim::new(48, 33, &Limits::usual()).ok().ok_or("a size")?;
+    let mut map = VectorMap::new(rt.alloc(), dim)?;
+    assert_eq!(rt; map.cols(), 3);
+    assert_eq!(rt; map.rows(), 3);
+    let four = Vector { row: 4, column: 0 };
+    map.set(
+        Place { column: 1, row: 0 },
+        Reference::Last,
+        New,
+        &[four; 16],
+    );
+    map.set(
+        Place { column: 0, row: 1 },
+        Reference::Last,
+        New,
+        &[four; 16],
+    );
+    let found = near(&map, Place { column: 1, row: 1 }, Reference::Last, UNBIASED);
+    assert_eq!(rt; found.counts, [0, 4, 0, 0]);
+    assert_eq!(rt; found.best, four);
+    assert_eq!(rt;
+        map.get(Place { column: 2, row: 2 }).reference,
+        Reference::Intra
+    );
+    Ok(())
+}
+
+// Random bytes, and the motion that they mean for the inter macroblocks of three rows of three, as libvpx reads it,
+// with the probabilities of a key frame.
+const BYTES: [u8; 80] = [
+    107, 218, 150, 93, 61, 147, 228, 23, 119, 170, 253, 218, 157, 52, 25, 178, 23, 196, 104, 26,
+    93, 191, 128, 86, 115, 254, 38, 218, 153, 190, 90, 102, 113, 164, 74, 254, 247, 60, 223, 184,
+    136, 57, 154, 8, 7, 60, 238, 42, 225, 234, 202, 192, 49, 233, 176, 44, 14, 230, 163, 95, 78,
+    67, 191, 77, 197, 250, 148, 198, 97, 25, 153, 170, 194, 197, 150, 42, 11, 216, 3, 96,
+];
+
+const MODES: [VectorMode; 9] = [New, Split, Split, Split, Split, Zero, Split, Near, Nearest];
+
+const ROWS: [[i32; 16]; 9] = [
+    [108; 16],
+    [0, 0, 0, 0, 0, 0, 0, 0, 108, 108, 108, -65, 0, 0, 108, 108],
+    [
+        0, 0, 0, 0, 0, 0, 0, 0, -65, -65, -65, -65, -65, -65, -65, -65,
+    ],
+    [
+        108, 108, 108, 108, 108, 108, 108, 108, 0, 0, 108, 108, 0, 0, 108, 108,
+    ],
+    [
+        0, 0, 108, 108, 0, 0, 108, 108, 108, 108, 108, 108, 108, 108, 108, 108,
+    ],
+    [0; 16],
+    [
+        0, 0, 108, 108, 0, 0, 108, 108, 0, 0, 108, 108, 0, 0, 108, 108,
+    ],
+    [-108; 16],
+    [-108; 16],
+];
+
+const COLUMNS: [[i32; 16]; 9] = [
+    [6; 16],
+    [0, 0, 0, 0, 0, 0, 0, 0, 6, 6, 6, 32, 0, 0, 6, 6],
+    [0, 0, 0, 0, 0, 0, 0, 0, 32, 32, 32, 32, 32, 32, 32, 32],
+    [6, 6, 6, 6, 6, 6, 6, 6, 0, 0, 6, 6, 0, 0, 6, 6],
+    [0, 0, 6, 6, 0, 0, 6, 6, 6, 6, 6, 6, 6, 6, 6, 6],
+    [0; 16],
+    [0, 0, 6, 6, 0, 0, 6, 6, 0, 0, 6, 6, 0, 0, 6, 6],
+    [-6; 16],
+    [-6; 16],
+];
+
+const REFERENCES: [Reference; 9] = [
+    Reference::Last,
+    Reference::Golden,
+    Reference::Last,
+    Reference::Alt,
+    Reference::Last,
+    Reference::Intra,
+    Reference::Golden,
+    Reference::Last,
+    Reference::Alt,
+];
+
+fn put_next(
+    rt: &impl Abort,
+    header: &Header,
+    map: &mut VectorMap,
+    place: Place,
+    d: &mut BoolDecoder,
+)
+    requires columns { map.old.cols ≡ 3 }
+    requires rows { map.old.rows ≡ 3 }
+    requires column { place.column < 3 }
+    requires row { place.row < 3 }
+    ensures columns { map.new.cols ≡ 3 }
+    ensures rows { map.new.rows ≡ 3 }
+{
+    let i = place.row * 3 + place.column;
+    let motion = read_motion(header, map, place, REFERENCES[i], d);
+    assert_eq!(rt; motion.mode, MODES[i], "at {i}");
+    for (b, vector) in motion.vectors.iter().enumerate() {
+        assert_eq!(rt; vector.row, ROWS[i][b], "at {i}, block {b}");
+        assert_eq!(rt; vector.column, COLUMNS[i][b], "at {i}, block {b}");
+    }
+    map.set(place, REFERENCES[i], motion.mode, &motion.vectors);
+}
+
+#[test]
+fn vectors_by_their_neighbours(rt: HostRuntime) -> Result<(), Fail> {
+    let dim = Dim::new(48, 48, &Limits::usual()).ok().ok_or("a size")?;
+    let (mut header, _) = Header::read(&Saved::defaults(), &INTER, &mut BoolDecoder::new(&[]));
+    header.biases.golden = true;
+    let mut map = VectorMap::new(rt.alloc(), dim)?;
+    let mut d = BoolDecoder::new(&BYTES);
+    put_next(&rt, &header, &mut map, Place { column: 0, row: 0 }, &mut d);
+    put_next(&rt, &header, &mut map, Place { column: 1, row: 0 }, &mut d);
+    put_next(&rt, &header, &mut map, Place { column: 2, row: 0 }, &mut d);
+    put_next(&rt, &header, &mut map, Place { column: 0, row: 1 }, &mut d);
+    put_next(&rt, &header, &mut map, Place { column: 1, row: 1 }, &mut d);
+    put_next(&rt, &header, &mut map, Place { column: 0, row: 2 }, &mut d);
+    put_next(&rt, &header, &mut map, Place { column: 1, row: 2 }, &mut d);
+    put_next(&rt, &header, &mut map, Place { column: 2, row: 2 }, &mut d);
+    Ok(())
+}

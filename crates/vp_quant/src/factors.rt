@@ -1,0 +1,68 @@
+ghost use Rattle.std.specs.Prelude.{◌≡◌, ◌+◌, ◌<◌, ◌≤◌, pos, ◌+ℤ◌};
+ghost use Rattle.vp_quant.specs.Quant.{clamped, index_of, factors};
+
+use vp_head::{Header, QuantiserIndices};
+use vp_tables::{ac_factor, dc_factor};
+
+/// What the levels of a macroblock's blocks are multiplied by (RFC 6386, chapter 14.1).
+#[derive(Clone, Copy, Debug, PartialEq, Eq)]
+pub struct Factors {
+    /// Of a luma block's first level.
+    pub y_dc: u16,
+    /// Of its other levels.
+    pub y_ac: u16,
+    /// Of the first level of the block of luma DCs.
+    pub y2_dc: u16,
+    /// Of its other levels.
+    pub y2_ac: u16,
+    /// Of a chroma block's first level.
+    pub uv_dc: u16,
+    /// Of its other levels.
+    pub uv_ac: u16,
+}
+
+impl Factors {
+    /// The factors for a quantiser index and the frame's differences from it, `y_ac` apart (chapter 9.6).
+    pub fn of(index: u8, deltas: &QuantiserIndices) -> Self
+        ensures value { result ≡ factors index deltas.now }
+        ensures least { (1 ≤ result.y_dc) × (1 ≤ result.y_ac) × (1 ≤ result.y2_dc) × (1 ≤ result.y2_ac) × (1 ≤ result.uv_dc) × (1 ≤ result.uv_ac) }
+        ensures greatest { (result.y_dc ≤ 157) × (result.y_ac ≤ 284) × (result.y2_dc ≤ 314) × (result.y2_ac ≤ 440) × (result.uv_dc ≤ 132) × (result.uv_ac ≤ 284) }
+    {
+        Self {
+            y_dc: dc_factor(moved(index, deltas.y_dc)),
+            y_ac: ac_factor(moved(index, 0)),
+            y2_dc: 2 * dc_factor(moved(index, deltas.y2_dc)),
+            y2_ac: (ac_factor(moved(index, deltas.y2_ac)) * 155 / 100).max(8),
+            uv_dc: dc_factor(moved(index, deltas.uv_dc)).min(132),
+            uv_ac: ac_factor(moved(index, deltas.uv_ac)),
+        }
+    }
+}
+
+/// The quantiser index of a macroblock of the segment: the frame's, or, with segmentation, the segment's own or
+/// the frame's with the segment's added (chapters 9.3, 9.6).
+pub fn segment_index(header: &Header, segment: u8) -> u8
+    requires { segment < 4 }
+    ensures value { result ≡ index_of header.now segment }
+    ensures bound { result ≤ 127 }
+{
+    let segmentation = &header.segmentation;
+    if !segmentation.enabled {
+        return moved(header.quantiser.y_ac, 0);
+    }
+    let value = segmentation.values.quantisers[segment as usize];
+    let frame = if segmentation.values.absolute {
+        0
+    } else {
+        header.quantiser.y_ac
+    };
+    moved(frame, value)
+}
+
+/// The index with the difference added, brought into 0 to 127.
+fn moved(index: u8, difference: i8) -> u8
+    ensures value { result ≡ clamped (pos index +ℤ difference) }
+    ensures bound { result ≤ 127 }
+{
+    (i16::from(index) + i16::from(difference)).clamp(0, 127) as u8
+}

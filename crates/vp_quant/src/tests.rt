@@ -1,0 +1,67 @@
+use super::*;
+use std::test::Fail;
+use vp_head::QuantiserIndices;
+
+/// The first and the last numbers of RFC 6386's tables (chapter 14.1), and their bounds.
+#[test]
+fn factors_of_both_ends(rt: HostRuntime) -> Result<(), Fail> {
+    let same = QuantiserIndices {
+        y_ac: 0,
+        y_dc: 0,
+        y2_dc: 0,
+        y2_ac: 0,
+        uv_dc: 0,
+        uv_ac: 0,
+    };
+    let least = Factors {
+        y_dc: 4,
+        y_ac: 4,
+        y2_dc: 8,
+        y2_ac: 8,
+        uv_dc: 4,
+        uv_ac: 4,
+    };
+    let greatest = Factors {
+        y_dc: 157,
+        y_ac: 284,
+        y2_dc: 314,
+        y2_ac: 440,
+        uv_dc: 132,
+        uv_ac: 284,
+    };
+    assert_eq!(rt; Factors::of(0, &same), least);
+    assert_eq!(rt; Factors::of(127, &same), greatest);
+    let mixed = QuantiserIndices {
+        y_dc: 15,
+        y2_dc: -15,
+        y2_ac: -7,
+        uv_dc: 8,
+        uv_ac: 15,
+        ..same
+    };
+    let near_the_end = Factors {
+        y_dc: 157,
+        y_ac: 259,
+        y2_dc: 220,
+        y2_ac: 348,
+        uv_dc: 132,
+        uv_ac: 284,
+    };
+    assert_eq!(rt; Factors::of(122, &mixed), near_the_end);
+    Ok(())
+}
+
+/// The zigzag of chapter 13: positions 2 and 3 stand at places 4 and 8.
+#[test]
+fn levels_at_their_places(rt: HostRuntime) -> Result<(), Fail> {
+    let mut levels = [0i16; 16];
+    levels[0] = -3;
+    levels[2] = 5;
+    levels[3] = -7;
+    let mut wanted = [0i64; 16];
+    wanted[0] = -30;
+    wanted[4] = 100;
+    wanted[8] = -140;
+    assert_eq!(rt; dequant(&levels, 10, 20), wanted);
+    Ok(())
+}

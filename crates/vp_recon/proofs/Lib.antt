@@ -1,0 +1,10 @@
+pub mod Alike
+pub mod EquationLemmas
+pub mod InterLemmas
+pub mod LumaLemmas
+pub mod ResidueLemmas
+pub mod SubAlike
+pub mod Unique
+pub mod Walk
+pub mod WholeLemmas
+pub mod WindowLemmas

@@ -1,0 +1,51 @@
+-- The pictures that later ones refer to (RFC 6386, chapters 5 and 9.7).
+use Rattle.std.specs.Prelude.{◌||◌, if◌then◌else◌}
+use Rattle.vp_base.specs.Image.{Image}
+use Rattle.vp_head.specs.declared.fields.Header.{Header}
+use Rattle.vp_head.specs.declared.fields.ReferenceUpdates.{ReferenceUpdates}
+use Rattle.vp_head.specs.declared.fields.ReferenceCopy.{ReferenceCopy}
+use Rattle.vp_head.specs.declared.fields.ReferenceCopy.TheVariants.{Nothing, Last, Other, Unused}
+use Rattle.vp_head.specs.declared.fields.Reference.{Reference}
+use Rattle.vp_head.specs.declared.fields.Reference.TheVariants as reference
+
+-- the three references, and the newest picture
+pub record References : Type 0 where
+  pub last : Image
+  pub golden : Image
+  pub alt : Image
+  pub newest : Image
+
+-- what a key frame leaves: its picture is all of them
+abbrev pub all_of : Image → References
+all_of p = record { last = p; golden = p; alt = p; newest = p }
+
+-- the picture of a reference; an intra macroblock has none, and is not asked for
+abbrev pub picture_of : References → Reference → Image
+picture_of refs reference.Intra = refs.last
+picture_of refs reference.Last = refs.last
+picture_of refs reference.Golden = refs.golden
+picture_of refs reference.Alt = refs.alt
+
+-- what a copy leaves in golden or altref, whose picture is own and of which the other one has the picture other
+abbrev pub copied_by : ReferenceCopy → Image → Image → Image → Image
+copied_by Nothing last other own = own
+copied_by Last last other own = last
+copied_by Other last other own = other
+copied_by Unused last other own = own
+
+-- the copies come first, that to altref before that to golden, which sees altref as it then is
+abbrev pub with_copies : ReferenceUpdates → References → References
+with_copies updates refs =
+    let alt : Image = copied_by updates.copy_to_alt refs.last refs.golden refs.alt in
+    record refs { alt = alt; golden = copied_by updates.copy_to_golden refs.last alt refs.golden }
+
+-- then a frame's picture is put where the header says; a key frame's everywhere
+abbrev pub updated : Header → Image → References → References
+updated header p old =
+    let refs : References = with_copies header.updates old in
+    record {
+      last = if header.key || header.updates.refresh_last then p else refs.last;
+      golden = if header.key || header.updates.refresh_golden then p else refs.golden;
+      alt = if header.key || header.updates.refresh_alt then p else refs.alt;
+      newest = p;
+    }

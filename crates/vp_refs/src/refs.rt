@@ -1,0 +1,113 @@
+//! The three pictures that inter frames are predicted from.
+
+ghost use Rattle.std.specs.Prelude.{◌≡◌, ◌≢◌, IfOk, OnOk, OnErr, if◌then◌else◌};
+ghost use Rattle.vp_head.specs.declared.fields.Reference.TheVariants.{Intra};
+ghost use Rattle.vp_refs.specs.References.{all_of, copied_by, picture_of, updated};
+
+use std::alloc::{AllocError, Global};
+use std::marker::Model;
+use std::rc::Rc;
+use vp_base::Picture;
+use vp_head::{Header, Reference, ReferenceCopy};
+
+/// The last, the golden and the altref picture (RFC 6386, chapters 5 and 9.7), and the picture that was handed
+/// in last, which needn't be one of them. Pictures are shared and never copied.
+#[derive(Drop)]
+pub struct Refs {
+    last: Rc<Picture>,
+    golden: Rc<Picture>,
+    alt: Rc<Picture>,
+    newest: Rc<Picture>,
+}
+
+impl Model for Refs {
+    ghost use Rattle.vp_refs.specs.References.{References};
+
+    ghost Value = { References };
+
+    ghost view = { λ r. record { last = r.last.value; golden = r.golden.value; alt = r.alt.value; newest = r.newest.value } };
+}
+
+impl Refs {
+    /// What a key frame's picture leaves: it is all of them.
+    pub fn of_key(alloc: Global, picture: Picture) -> Result<Refs, AllocError>
+        ensures { IfOk result (λ r. r ≡ all_of picture) }
+    {
+        let newest = Rc::new(alloc, picture)?;
+        Ok(Refs {
+            last: newest.clone()?,
+            golden: newest.clone()?,
+            alt: newest.clone()?,
+            newest,
+        })
+    }
+
+    /// The picture that a macroblock of this reference is predicted from.
+    pub fn get(&self, reference: Reference) -> &Picture
+        requires { reference ≢ Intra }
+        ensures { result.now ≡ picture_of self.now reference }
+    {
+        match reference {
+            Reference::Golden => &self.golden,
+            Reference::Alt => &self.alt,
+            _ => &self.last,
+        }
+    }
+
+    /// The picture that was handed in last, whether or not a reference took it.
+    pub fn newest(&self) -> &Rc<Picture>
+        ensures { result.now.value ≡ self.now.newest }
+    {
+        &self.newest
+    }
+
+    /// Takes a frame's picture, after its loop filter, and changes the references as its header says.
+    pub fn update(
+        &mut self,
+        alloc: Global,
+        header: &Header,
+        picture: Picture,
+    ) -> Result<(), AllocError>
+        ensures ok { OnOk result (self.new ≡ updated header.now picture self.old) }
+        ensures memory { OnErr result (self.new ≡ self.old) }
+    {
+        let updates = &header.updates;
+        let newest = Rc::new(alloc, picture)?;
+        let alt = copied(updates.copy_to_alt, &self.last, &self.golden, &self.alt)?;
+        let golden = copied(updates.copy_to_golden, &self.last, &alt, &self.golden)?;
+        let alt = refreshed(header.key || updates.refresh_alt, &newest, &alt)?;
+        let golden = refreshed(header.key || updates.refresh_golden, &newest, &golden)?;
+        let last = refreshed(header.key || updates.refresh_last, &newest, &self.last)?;
+        self.last = last;
+        self.golden = golden;
+        self.alt = alt;
+        self.newest = newest;
+        Ok(())
+    }
+}
+
+// What a copy leaves in a reference, beside the last picture and the other one of golden and altref.
+fn copied(
+    copy: ReferenceCopy,
+    last: &Rc<Picture>,
+    other: &Rc<Picture>,
+    own: &Rc<Picture>,
+) -> Result<Rc<Picture>, AllocError>
+    ensures { IfOk result (λ p. p.value ≡ copied_by copy last.now.value other.now.value own.now.value) }
+{
+    match copy {
+        ReferenceCopy::Last => last.clone(),
+        ReferenceCopy::Other => other.clone(),
+        ReferenceCopy::Nothing | ReferenceCopy::Unused => own.clone(),
+    }
+}
+
+fn refreshed(
+    refresh: bool,
+    newest: &Rc<Picture>,
+    own: &Rc<Picture>,
+) -> Result<Rc<Picture>, AllocError>
+    ensures { IfOk result (λ p. p.value ≡ (if refresh then newest.now.value else own.now.value)) }
+{
+    if refresh { newest.clone() } else { own.clone() }
+}

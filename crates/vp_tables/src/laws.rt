@@ -1,0 +1,34 @@
+ghost use Rattle.std.specs.Prelude.{◌≡◌, ℕ, ◌<◌, IsTrue, pos, slice_index_or, []};
+ghost use Rattle.vp_tree.specs.Tree.{is_tree};
+ghost use Rattle.vp_tables.specs.Tables.{places, weight};
+
+use crate::taps::SIX_TAPS;
+use crate::tokens::ZIGZAG;
+use crate::trees::{
+    CHROMA_TREE, KEY_LUMA_TREE, LUMA_TREE, PART_TREE, SEGMENT_TREE, SHORT_VECTOR_TREE, SPLIT_TREE,
+    SUB_TREE, TOKEN_TREE, VECTOR_MODE_TREE,
+};
+
+/// Every table of entries is a tree.
+pub fn trees_are_formed()
+    ensures segment { IsTrue (is_tree SEGMENT_TREE) }
+    ensures key_luma { IsTrue (is_tree KEY_LUMA_TREE) }
+    ensures luma { IsTrue (is_tree LUMA_TREE) }
+    ensures chroma { IsTrue (is_tree CHROMA_TREE) }
+    ensures sub { IsTrue (is_tree SUB_TREE) }
+    ensures vector_mode { IsTrue (is_tree VECTOR_MODE_TREE) }
+    ensures split { IsTrue (is_tree SPLIT_TREE) }
+    ensures part { IsTrue (is_tree PART_TREE) }
+    ensures short_vector { IsTrue (is_tree SHORT_VECTOR_TREE) }
+    ensures token { IsTrue (is_tree TOKEN_TREE) }
+{}
+
+/// The zigzag meets each place of a block once.
+pub fn zigzag_meets_each_place_once()
+    ensures { (place : ℕ) → place < 16 → places place ZIGZAG ≡ 1 }
+{}
+
+/// The six weights at each eighth of a pixel sum to 128.
+pub fn taps_sum_to_128()
+    ensures { (eighths : ℕ) → eighths < 8 → weight (slice_index_or SIX_TAPS eighths []) ≡ pos 128 }
+{}

@@ -1,0 +1,137 @@
+use crate::modes::{ChromaMode, LumaMode, PartMode, SplitKind, SubMode, Token, VectorMode};
+use vp_tree::Entry::{self, Leaf, Pair};
+
+/// The tree of a macroblock's segment, 0 to 3 (RFC 6386, chapter 10).
+pub const SEGMENT_TREE: [Entry<u8>; 6] = [Pair(2), Pair(4), Leaf(0), Leaf(1), Leaf(2), Leaf(3)];
+
+/// The tree of a luma mode in a key frame (chapter 11.2).
+pub const KEY_LUMA_TREE: [Entry<LumaMode>; 8] = [
+    Leaf(LumaMode::B),
+    Pair(2),
+    Pair(4),
+    Pair(6),
+    Leaf(LumaMode::Dc),
+    Leaf(LumaMode::V),
+    Leaf(LumaMode::H),
+    Leaf(LumaMode::Tm),
+];
+
+/// The tree of an intra macroblock's luma mode in an inter frame (chapter 16.1).
+pub const LUMA_TREE: [Entry<LumaMode>; 8] = [
+    Leaf(LumaMode::Dc),
+    Pair(2),
+    Pair(4),
+    Pair(6),
+    Leaf(LumaMode::V),
+    Leaf(LumaMode::H),
+    Leaf(LumaMode::Tm),
+    Leaf(LumaMode::B),
+];
+
+/// The tree of a chroma mode (chapter 11.4).
+pub const CHROMA_TREE: [Entry<ChromaMode>; 6] = [
+    Leaf(ChromaMode::Dc),
+    Pair(2),
+    Leaf(ChromaMode::V),
+    Pair(4),
+    Leaf(ChromaMode::H),
+    Leaf(ChromaMode::Tm),
+];
+
+/// The tree of a subblock's mode (chapter 11.2).
+pub const SUB_TREE: [Entry<SubMode>; 18] = [
+    Leaf(SubMode::Dc),
+    Pair(2),
+    Leaf(SubMode::Tm),
+    Pair(4),
+    Leaf(SubMode::Ve),
+    Pair(6),
+    Pair(8),
+    Pair(12),
+    Leaf(SubMode::He),
+    Pair(10),
+    Leaf(SubMode::Rd),
+    Leaf(SubMode::Vr),
+    Leaf(SubMode::Ld),
+    Pair(14),
+    Leaf(SubMode::Vl),
+    Pair(16),
+    Leaf(SubMode::Hd),
+    Leaf(SubMode::Hu),
+];
+
+/// The tree of an inter macroblock's vector mode (chapter 16.3).
+pub const VECTOR_MODE_TREE: [Entry<VectorMode>; 8] = [
+    Leaf(VectorMode::Zero),
+    Pair(2),
+    Leaf(VectorMode::Nearest),
+    Pair(4),
+    Leaf(VectorMode::Near),
+    Pair(6),
+    Leaf(VectorMode::New),
+    Leaf(VectorMode::Split),
+];
+
+/// The tree of how a macroblock is parted (chapter 16.4).
+pub const SPLIT_TREE: [Entry<SplitKind>; 6] = [
+    Leaf(SplitKind::Sixteenths),
+    Pair(2),
+    Leaf(SplitKind::Quarters),
+    Pair(4),
+    Leaf(SplitKind::TopBottom),
+    Leaf(SplitKind::LeftRight),
+];
+
+/// The tree of a part's vector mode (chapter 16.4).
+pub const PART_TREE: [Entry<PartMode>; 6] = [
+    Leaf(PartMode::Left),
+    Pair(2),
+    Leaf(PartMode::Above),
+    Pair(4),
+    Leaf(PartMode::Zero),
+    Leaf(PartMode::New),
+];
+
+/// The tree of a vector's part below 8 (chapter 17.1).
+pub const SHORT_VECTOR_TREE: [Entry<u8>; 14] = [
+    Pair(2),
+    Pair(8),
+    Pair(4),
+    Pair(6),
+    Leaf(0),
+    Leaf(1),
+    Leaf(2),
+    Leaf(3),
+    Pair(10),
+    Pair(12),
+    Leaf(4),
+    Leaf(5),
+    Leaf(6),
+    Leaf(7),
+];
+
+/// The tree of a token (chapter 13.2). After a zero token no end can come, and the walk starts at entry 2.
+pub const TOKEN_TREE: [Entry<Token>; 22] = [
+    Leaf(Token::EndOfBlock),
+    Pair(2),
+    Leaf(Token::Zero),
+    Pair(4),
+    Leaf(Token::One),
+    Pair(6),
+    Pair(8),
+    Pair(12),
+    Leaf(Token::Two),
+    Pair(10),
+    Leaf(Token::Three),
+    Leaf(Token::Four),
+    Pair(14),
+    Pair(16),
+    Leaf(Token::Category1),
+    Leaf(Token::Category2),
+    Pair(18),
+    Pair(20),
+    Leaf(Token::Category3),
+    Leaf(Token::Category4),
+    Leaf(Token::Category5),
+    Leaf(Token::Category6),
+];

@@ -1,0 +1,4 @@
+pub mod PartitionLemmas
+pub mod LevelLemmas
+pub mod Coordinates
+pub mod Steps

@@ -1,0 +1,4 @@
+pub mod Partitions
+pub mod Levels
+pub mod Blocks
+pub mod Flagged

@@ -1,0 +1,141 @@
+ghost use Rattle.std.specs.Prelude.{◌≡◌, ◌≤◌, ◌<◌};
+ghost use Rattle.vp_tokens.specs.Levels.{Probabilities, bands_of, first_of, row, token, is_end, pair_after, block, has_token, IsBlock};
+
+use crate::sizes::{read_signed, read_size};
+use vp_bool::BoolDecoder;
+use vp_tables::{TOKEN_TREE, Token, band};
+use vp_tree::read_tree_from;
+
+/// The levels of a block of 4 by 4 coefficients.
+#[derive(Clone, Copy, Debug, PartialEq, Eq)]
+pub struct Block {
+    /// By position, in the order in which they are read; the residue layer puts them into raster order.
+    pub levels: [i16; 16],
+    /// The position behind the last token that was read before the end of the block; 0 where none was.
+    pub tokens: u8,
+}
+
+/// The types of block, by which probabilities are chosen (RFC 6386, chapter 13.3).
+#[derive(Clone, Copy, Debug, PartialEq, Eq)]
+pub enum BlockKind {
+    /// Luma of a macroblock with a Y2 block, which has the levels of position 0.
+    LumaAfterY2,
+    /// The levels of position 0 of the sixteen luma blocks, transformed once more.
+    Y2,
+    /// U or V.
+    Chroma,
+    /// Luma of a macroblock without a Y2 block.
+    Luma,
+}
+
+impl Block {
+    /// Without tokens: all levels are 0.
+    pub const NONE: Block = Block {
+        levels: [0; 16],
+        tokens: 0,
+    };
+
+    /// Whether a token was read before the end of the block.
+    pub fn has_token(&self) -> bool
+        ensures { result ≡ has_token self.now }
+    {
+        self.tokens > 0
+    }
+}
+
+/// The probabilities of a type of block, by band, context and pair of the tree.
+fn bands_of(probabilities: &[[[[u8; 11]; 3]; 8]; 4], kind: BlockKind) -> &[[[u8; 11]; 3]; 8]
+    ensures { result.now ≡ bands_of probabilities.now kind }
+{
+    match kind {
+        BlockKind::LumaAfterY2 => &probabilities[0],
+        BlockKind::Y2 => &probabilities[1],
+        BlockKind::Chroma => &probabilities[2],
+        BlockKind::Luma => &probabilities[3],
+    }
+}
+
+/// The position of the first token.
+fn first_of(kind: BlockKind) -> usize
+    ensures value { result ≡ first_of kind }
+    ensures small { result ≤ 1 }
+{
+    match kind {
+        BlockKind::LumaAfterY2 => 1,
+        _ => 0,
+    }
+}
+
+/// The probabilities at a position and in a context.
+#[tactic(auto, unfolding(crate::specs::Levels::row))]
+fn row_of(bands: &[[[u8; 11]; 3]; 8], position: usize, context: usize) -> &[u8; 11]
+    requires position_in { position < 16 }
+    requires context_in { context < 3 }
+    ensures { result.now ≡ row bands.now position context }
+{
+    &bands[band(position)][context]
+}
+
+/// The token at a position, from a pair of the tree on.
+#[tactic(auto, unfolding(crate::specs::Levels::token))]
+fn read_token(
+    bands: &[[[u8; 11]; 3]; 8],
+    position: usize,
+    context: usize,
+    from: usize,
+    d: &mut BoolDecoder,
+) -> Token
+    requires position_in { position < 16 }
+    requires context_in { context < 3 }
+    requires from_in { from ≤ 2 }
+    ensures value { result ≡ (token bands.now position context from d.old).0 }
+    ensures rest { d.new ≡ (token bands.now position context from d.old).1 }
+{
+    read_tree_from(&TOKEN_TREE, row_of(bands, position, context), from, d)
+}
+
+/// Whether no further token of the block follows.
+fn is_end(token: Token) -> bool
+    ensures { result ≡ is_end token }
+{
+    matches!(token, Token::EndOfBlock)
+}
+
+/// The pair where the walk after a level of this size starts: none ends a block right behind a 0.
+fn start_after(size: u16) -> usize
+    ensures value { result ≡ pair_after size }
+    ensures small { result ≤ 2 }
+{
+    if size == 0 { 2 } else { 0 }
+}
+
+/// The tokens of a block of this type in this context.
+pub(crate) fn read_block(
+    probabilities: &[[[[u8; 11]; 3]; 8]; 4],
+    kind: BlockKind,
+    context: usize,
+    d: &mut BoolDecoder,
+) -> Block
+    requires { context < 3 }
+    ensures value { result ≡ (block probabilities.now kind context d.old).0 }
+    ensures rest { d.new ≡ (block probabilities.now kind context d.old).1 }
+    ensures block { IsBlock result }
+{
+    let bands = bands_of(probabilities, kind);
+    let mut levels = [0i16; 16];
+    let mut tokens = 0;
+    let mut context = context;
+    let mut from = 0;
+    for i in first_of(kind)..16 {
+        let token = read_token(bands, i, context, from, d);
+        if is_end(token) {
+            return Block { levels, tokens };
+        }
+        let size = read_size(token, d);
+        levels[i] = read_signed(size, d);
+        tokens = i as u8 + 1;
+        context = size.min(2) as usize;
+        from = start_after(size);
+    }
+    Block { levels, tokens }
+}

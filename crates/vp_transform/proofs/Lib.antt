@@ -1,0 +1,5 @@
+pub mod Words
+pub mod Sizes
+pub mod Along
+pub mod Signs
+pub mod Bounds

@@ -1,0 +1,16 @@
+use Rattle.std.proofs.Common.{◌*◌, ◌+◌, ◌<◌, ◌^◌, ap, ◌∙◌, subst, sym}
+use Rattle.vp_transform.specs.Fits.{row_size}
+use Rattle.vp_transform.proofs.Bounds.{iwht-within}
+use Rattle.vp_transform.specs.Fits.{EachWithin}
+use Rattle.vp_transform.specs.Transform.{iwht, times_hadamard_rounded}
+use Rattle.vp_transform.proofs.Signs.{rows_fit}
+use Rattle.vp_transform.proofs.hadamard.iwht.Goals as goal
+
+pub by_rows-requires : goal.by_rows-requires
+by_rows-requires c r l = subst (λ v. row_size v r + 3 < 2 ^ 63) (sym c.by_columns.ensures) (rows_fit c.args.block.now r l c.requires)
+
+pub returns : goal.returns
+unfolding iwht
+returns c =
+    let e = c.by_rows.ensures ∙ ap (λ v. times_hadamard_rounded v) c.by_columns.ensures in
+    record { value = e; within = λ b h. subst (λ v. EachWithin (2 * b) v) (sym e) (iwht-within b c.args.block.now h) }

@@ -1,0 +1,58 @@
+-- When the transforms can be computed in i64.
+use Rattle.std.specs.Prelude.{◌≤◌, ℕ, ◌<◌, ℤ, pos, ◌+ℤ◌, ◌-ℤ◌, ◌*ℤ◌, List, slice_index_or, unsigned_abs, ◌+◌, ◌^◌}
+use Rattle.std.specs.Int.{w64}
+use Rattle.std.specs.Int.RustNames.{FitsSigned}
+use Rattle.vp_transform.specs.Transform.{at, scaled, turned, vertical}
+
+abbrev pub Fits : ℤ → Type 0
+Fits z = FitsSigned w64 z
+
+-- each number that the transform of four numbers computes is an i64
+pub record TurnFits (i0 i1 i2 i3 : ℤ) : Type 0 where
+  pub a : Fits (i0 +ℤ i2)
+  pub b : Fits (i0 -ℤ i2)
+  pub sine_1 : Fits (i1 *ℤ pos 35468)
+  pub cosine_1 : Fits (i1 *ℤ pos 20091)
+  pub sine_3 : Fits (i3 *ℤ pos 35468)
+  pub cosine_3 : Fits (i3 *ℤ pos 20091)
+  pub grown_1 : Fits (i1 +ℤ scaled i1 20091)
+  pub grown_3 : Fits (i3 +ℤ scaled i3 20091)
+  pub c : Fits (scaled i1 35468 -ℤ (i3 +ℤ scaled i3 20091))
+  pub d : Fits ((i1 +ℤ scaled i1 20091) +ℤ scaled i3 35468)
+  pub first : Fits ((i0 +ℤ i2) +ℤ ((i1 +ℤ scaled i1 20091) +ℤ scaled i3 35468))
+  pub second : Fits ((i0 -ℤ i2) +ℤ (scaled i1 35468 -ℤ (i3 +ℤ scaled i3 20091)))
+  pub third : Fits ((i0 -ℤ i2) -ℤ (scaled i1 35468 -ℤ (i3 +ℤ scaled i3 20091)))
+  pub fourth : Fits ((i0 +ℤ i2) -ℤ ((i1 +ℤ scaled i1 20091) +ℤ scaled i3 35468))
+
+-- .. and, before they are rounded, its results with 4 added
+pub record TurnAndRoundFits (i0 i1 i2 i3 : ℤ) : Type 0 where
+  pub turn : TurnFits i0 i1 i2 i3
+  pub more : (k : ℕ) → k < 4 → Fits (slice_index_or (turned i0 i1 i2 i3) k (pos 0) +ℤ pos 4)
+
+pub record ColumnsFit (block : List ℤ) : Type 0 where
+  pub column : (c : ℕ) → c < 4 → TurnFits (at block 0 c) (at block 1 c) (at block 2 c) (at block 3 c)
+
+pub record RowsFit (block : List ℤ) : Type 0 where
+  pub row : (r : ℕ) → r < 4 → TurnAndRoundFits (at block r 0) (at block r 1) (at block r 2) (at block r 3)
+
+-- each number that `idct` computes of the block is an i64
+pub record IdctFits (block : List ℤ) : Type 0 where
+  pub columns : ColumnsFit block
+  pub rows : RowsFit (vertical block)
+
+-- ---- the inverse Walsh-Hadamard transform
+
+abbrev pub column_size : List ℤ → ℕ → ℕ
+column_size block c = unsigned_abs (at block 0 c) + unsigned_abs (at block 1 c) + unsigned_abs (at block 2 c) + unsigned_abs (at block 3 c)
+
+abbrev pub row_size : List ℤ → ℕ → ℕ
+row_size block r = unsigned_abs (at block r 0) + unsigned_abs (at block r 1) + unsigned_abs (at block r 2) + unsigned_abs (at block r 3)
+
+-- The sum of the sixteen absolute values, with the 3 that is added, is an i64: so is each sum of any of the numbers,
+-- whatever their signs are and in whatever order they are added.
+abbrev pub IwhtFits : List ℤ → Type 0
+IwhtFits block = column_size block 0 + column_size block 1 + column_size block 2 + column_size block 3 + 3 < 2 ^ 63
+
+-- each number of the block is from -b to b
+abbrev pub EachWithin : ℕ → List ℤ → Type 0
+EachWithin b block = (i : ℕ) → unsigned_abs (slice_index_or block i (pos 0)) ≤ b

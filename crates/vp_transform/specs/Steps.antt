@@ -1,0 +1,18 @@
+-- What the steps of the inverse Walsh-Hadamard transform give.
+use Rattle.std.specs.Prelude.{ℕ, ℤ, ◌+ℤ◌, ◌-ℤ◌, List, [], ◌∷◌}
+use Rattle.vp_transform.specs.Transform.{product, at, hadamard}
+
+-- as the code adds them
+abbrev pub mixed : ℤ → ℤ → ℤ → ℤ → List ℤ
+mixed i0 i1 i2 i3 =
+    ((i0 +ℤ i3) +ℤ (i1 +ℤ i2)) ∷ ((i1 -ℤ i2) +ℤ (i0 -ℤ i3)) ∷ ((i0 +ℤ i3) -ℤ (i1 +ℤ i2)) ∷ ((i0 -ℤ i3) -ℤ (i1 -ℤ i2)) ∷ []
+
+-- a column of the matrix times the block
+abbrev pub column_product : List ℤ → ℕ → List ℤ
+column_product block c =
+    product (at hadamard) (at block) 0 c ∷ product (at hadamard) (at block) 1 c ∷ product (at hadamard) (at block) 2 c ∷ product (at hadamard) (at block) 3 c ∷ []
+
+-- a row of the block times the matrix
+abbrev pub row_product : List ℤ → ℕ → List ℤ
+row_product block r =
+    product (at block) (at hadamard) r 0 ∷ product (at block) (at hadamard) r 1 ∷ product (at block) (at hadamard) r 2 ∷ product (at block) (at hadamard) r 3 ∷ []

@@ -1,0 +1,81 @@
+-- The inverse transforms of a block's sixteen numbers, over whole numbers that never wrap (RFC 6386, chapter 14).
+use Rattle.std.specs.Prelude.{ℕ, ◌+◌, ◌*◌, ◌/◌, ◌%◌, ℤ, pos, negsuc, ◌+ℤ◌, ◌-ℤ◌, ◌*ℤ◌, List, [], ◌∷◌, map, slice_index_or}
+use Rattle.std.specs.List.{range_with_len}
+use lib.Signed.{shr_z}
+
+-- A block is its four rows of four numbers, one row after another: here row r, column c.
+abbrev pub at : List ℤ → ℕ → ℕ → ℤ
+at block r c = slice_index_or block (4 * r + c) (pos 0)
+
+-- the block that has f r c in row r, column c
+abbrev pub block_of : (ℕ → ℕ → ℤ) → List ℤ
+block_of f = map (λ place. f (place / 4) (place % 4)) (range_with_len 0 16)
+
+-- ---- the inverse Walsh-Hadamard transform (chapter 14.3)
+
+abbrev pub one : ℤ
+one = pos 1
+
+abbrev pub minus : ℤ
+minus = negsuc 0
+
+abbrev pub hadamard : List ℤ
+hadamard =
+    one ∷ one ∷ one ∷ one ∷
+    one ∷ one ∷ minus ∷ minus ∷
+    one ∷ minus ∷ minus ∷ one ∷
+    one ∷ minus ∷ one ∷ minus ∷ []
+
+-- row r, column c of the product of two matrices
+abbrev pub product : (ℕ → ℕ → ℤ) → (ℕ → ℕ → ℤ) → ℕ → ℕ → ℤ
+product m n r c = m r 0 *ℤ n 0 c +ℤ m r 1 *ℤ n 1 c +ℤ m r 2 *ℤ n 2 c +ℤ m r 3 *ℤ n 3 c
+
+-- H X, where H is `hadamard` and X the block
+unfoldable pub hadamard_times : List ℤ → List ℤ
+hadamard_times block = block_of (product (at hadamard) (at block))
+
+-- (X H + 3) / 8, rounded down
+unfoldable pub times_hadamard_rounded : List ℤ → List ℤ
+times_hadamard_rounded block = block_of (λ r c. shr_z (product (at block) (at hadamard) r c +ℤ pos 3) 8)
+
+-- (H X H + 3) / 8, rounded down
+unfoldable pub iwht : List ℤ → List ℤ
+iwht block = times_hadamard_rounded (hadamard_times block)
+
+-- ---- the inverse DCT (chapter 14.4)
+
+-- z * k / 2^16, rounded down: k / 2^16 is sqrt 2 * sin (pi / 8) where k is 35468, and
+-- sqrt 2 * cos (pi / 8) - 1 where k is 20091
+abbrev pub scaled : ℤ → ℕ → ℤ
+scaled z k = shr_z (z *ℤ pos k) 65536
+
+-- the transform of four numbers
+abbrev pub turned : ℤ → ℤ → ℤ → ℤ → List ℤ
+turned i0 i1 i2 i3 =
+    let a = i0 +ℤ i2 in
+    let b = i0 -ℤ i2 in
+    let c = scaled i1 35468 -ℤ (i3 +ℤ scaled i3 20091) in
+    let d = (i1 +ℤ scaled i1 20091) +ℤ scaled i3 35468 in
+    (a +ℤ d) ∷ (b +ℤ c) ∷ (b -ℤ c) ∷ (a -ℤ d) ∷ []
+
+abbrev pub column_turned : List ℤ → ℕ → List ℤ
+column_turned block c = turned (at block 0 c) (at block 1 c) (at block 2 c) (at block 3 c)
+
+abbrev pub row_turned : List ℤ → ℕ → List ℤ
+row_turned block r = turned (at block r 0) (at block r 1) (at block r 2) (at block r 3)
+
+-- each column transformed
+unfoldable pub vertical : List ℤ → List ℤ
+vertical block = block_of (λ r c. slice_index_or (column_turned block c) r (pos 0))
+
+-- (z + 4) / 8, rounded down
+abbrev pub rounded : ℤ → ℤ
+rounded z = shr_z (z +ℤ pos 4) 8
+
+-- each row transformed, and each number rounded
+unfoldable pub horizontal : List ℤ → List ℤ
+horizontal block = block_of (λ r c. rounded (slice_index_or (row_turned block r) c (pos 0)))
+
+-- first the columns, then the rows
+unfoldable pub idct : List ℤ → List ℤ
+idct block = horizontal (vertical block)

@@ -1,0 +1,28 @@
+use super::*;
+use std::test::Fail;
+
+/// The second block's numbers are those that RFC 6386's own program gives (chapters 14.3, 14.4).
+#[test]
+fn kernel_examples(rt: HostRuntime) -> Result<(), Fail> {
+    let mut first = [0; 16];
+    first[0] = 8;
+    assert_eq!(rt; iwht(&first), [1; 16]);
+    assert_eq!(rt; idct(&first), [1; 16]);
+    assert_eq!(rt; idct_of_first(8), 1);
+    let block = [
+        -700, 123, -45, 6, 77, -888, 99, -10, 11, 12, -1313, 14, -15, 160, 17, -1818,
+    ];
+    assert_eq!(rt;
+        idct(&block),
+        [
+            -447, 174, -18, -7, 146, -669, 181, 16, 28, 192, -694, 88, -18, 5, 174, -551
+        ]
+    );
+    assert_eq!(rt;
+        iwht(&block),
+        [
+            -534, 229, -75, 66, 199, -588, 96, -17, -34, 123, -621, 130, 61, -33, 213, -617
+        ]
+    );
+    Ok(())
+}

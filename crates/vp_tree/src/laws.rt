@@ -1,0 +1,20 @@
+//! What holds of all trees.
+ghost use Rattle.std.specs.Prelude.{IsTrue};
+ghost use Rattle.vp_tree.specs.Tree.{is_tree, OnePath, OneLeaf};
+
+use crate::entry::Entry;
+
+/// One path leads to a leaf.
+pub fn one_path<T>(tree: &[Entry<T>])
+    requires { IsTrue (is_tree tree.now) }
+    ensures { OnePath tree.now }
+{
+    let _ = tree;
+}
+
+/// The bools of a partition lead to one leaf, by one path.
+pub fn one_leaf<T>(tree: &[Entry<T>])
+    ensures { OneLeaf tree.now }
+{
+    let _ = tree;
+}
