@@ -1,11 +1,11 @@
 #!/usr/bin/env python3
 """Compares every number of the crate of tables with a page of the standard's tables.
 
-    compare_tables.py PAGE SOURCES
+    compare_tables.py [PAGE [SOURCES]]
 
-PAGE is the page in Markdown: sections headed "Trees", "Vector probabilities", "Key-frame subblock
+PAGE, else docs/TABLES.md, is the page in Markdown: sections headed "Trees", "Vector probabilities", "Key-frame subblock
 probabilities", "Default coefficient probabilities", "Coefficient update probabilities", "Quantisers" and
-"Interpolation". SOURCES is the folder of the crate's `.rt` files. Prints each constant and how many of its
+"Interpolation". SOURCES, else crates/vp_tables/src, is the folder of the crate's `.rt` files. Prints each constant and how many of its
 numbers agree; fails at the first that does not.
 """
 
@@ -83,9 +83,9 @@ def runs(text):
 def coefficients(body, missing):
     """Four types of eight bands of three contexts of eleven numbers, where the last ones may be left out."""
     kinds = []
-    for line in re.findall(r"^T\d .*$", body, flags=re.M):
+    for line in re.findall(r"^type \d: .*$", body, flags=re.M):
         bands = {}
-        for names, text in re.findall(r"((?:b\d(?:, )?)+) ([^b]*)", line[3:]):
+        for names, text in re.findall(r"((?:b\d(?:, )?)+) ([^b]*)", line[len("type 0: "):]):
             contexts = []
             for group in text.strip().rstrip(".").split(";"):
                 group = numbers(group)
@@ -173,7 +173,8 @@ def flat(value):
 
 
 def main():
-    page, sources = sys.argv[1:]
+    root = pathlib.Path(__file__).resolve().parent.parent
+    page, sources = (sys.argv[1:] + [root / "docs/TABLES.md", root / "crates/vp_tables/src"][len(sys.argv) - 1 :])[:2]
     want, have = wanted(pathlib.Path(page).read_text()), given(sources)
     wrong = sorted(set(want) ^ set(have))
     for name in sorted(set(want) & set(have)):

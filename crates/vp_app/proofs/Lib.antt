@@ -1,4 +1,0 @@
-pub mod RunLemmas
-pub mod AnswerLemmas
-pub mod FileLemmas
-pub mod FeedLemmas

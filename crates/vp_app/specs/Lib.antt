@@ -1,4 +1,1 @@
-pub mod Answers
-pub mod Written
-pub mod Progress
 pub mod Status

@@ -1,14 +1,16 @@
 -- The status of the program.
-use Rattle.std.specs.Prelude.{ℕ, List, [], ◌∷◌, Result, Ok, Err}
+use Rattle.std.specs.Prelude.{ℕ, List, [], ◌∷◌, Result, Ok, Err, Option, Some, None}
 use Rattle.vp_head.specs.declared.fault.PacketFault.{PacketFault}
-use Rattle.vp_app.specs.declared.report.Report.{Report}
-use Rattle.vp_app.specs.declared.fault.DecodeFault.{DecodeFault}
+use Rattle.vp_ivf.specs.declared.fault.FileFault.{FileFault}
+use Rattle.vp_stream.specs.declared.report.Report.{Report}
+use Rattle.vp_stream.specs.declared.fault.DecodeFault.{DecodeFault}
 
 -- 1 where a packet faulted
 abbrev pub status_by : List (ℕ × PacketFault) → ℕ
 status_by [] = 0
 status_by (f ∷ fs) = 1
 
+-- of decoding
 abbrev pub status_of : Result Report DecodeFault → ℕ
 status_of (Ok report) = status_by report.faults
 status_of (Err fault) = 1

@@ -1,13 +1,9 @@
 //! The program, over any streams.
 
-ghost use Rattle.std.specs.Prelude.{◌≡◌, ◌≤◌};
+ghost use Rattle.std.specs.Prelude.{◌≡◌, ◌≢◌, ◌≤◌, None};
 ghost use Rattle.vp_app.specs.Status.{status_of};
 
-use crate::decoding::decode_all;
-use crate::fault::DecodeFault;
-use crate::form::Form;
-use crate::names::FaultName;
-use crate::report::Report;
+use crate::listing::print_survey;
 use crate::words::{Plan, read_words};
 use clap::Error;
 use clap::error::ErrorKind;
@@ -15,12 +11,14 @@ use std::io::{Read, Write};
 use std::rt::Files;
 use std::{fs, io};
 use vp_base::{Counted, Limits};
+use vp_stream::{DecodeFault, Form, Report, Survey, decode_all, survey};
 
 /// Does what the words ask for, of which the first is the program's name, and gives the status that the
 /// program ends with: 0, or 1 after a fault, or 2 where the words ask for nothing that there is.
 ///
-/// `vp8 decode IN OUT` writes the pictures of an IVF file as I420; `-` is `input` or `output`. Faults are named
-/// on `errors`, a line each: `vp8: NAME` where the work ended by it, else `vp8: packet N: NAME`.
+/// `vp8 decode IN OUT` writes the pictures of an IVF file as I420, `vp8 decode --y4m IN OUT` as YUV4MPEG2. Faults
+/// are named on `errors`, a line each: `vp8: NAME` where the work ended by it, else `vp8: packet N: NAME`.
+/// `vp8 info IN` prints what an IVF file holds, the packets' faults too. The name `-` is `input` or `output`.
 pub fn command<H: Files + AllocGlobal, R: Read, W: Write, E: Write>(
     rt: &H,
     words: &[&str],
@@ -33,10 +31,12 @@ pub fn command<H: Files + AllocGlobal, R: Read, W: Write, E: Write>(
     match read_words(rt.alloc(), words) {
         Ok(
             Plan::Decode {
+                form,
                 input: from,
                 output: to,
             },
-        ) => tell(decode(rt, from, to, input, output), errors),
+        ) => tell(decode(rt, form, from, to, input, output), errors),
+        Ok(Plan::Info { input: from }) => tell_survey(look(rt, from, input), output, errors),
         Ok(Plan::Unknown) => 2,
         Err(error) => explain(&error, output, errors),
     }
@@ -45,37 +45,54 @@ pub fn command<H: Files + AllocGlobal, R: Read, W: Write, E: Write>(
 // Opens the files, and decodes.
 fn decode<H: Files + AllocGlobal, R: Read, W: Write>(
     rt: &H,
+    form: Form,
     from: &str,
     to: &str,
     input: &mut Counted<R>,
     output: &mut Counted<W>,
 ) -> Result<Report, DecodeFault> {
     if from == "-" {
-        return decode_into(rt, to, input, output);
+        return decode_into(rt, form, to, input, output);
     }
     match fs::open(rt, from) {
-        Ok(file) => decode_into(rt, to, &mut Counted::new(file), output),
+        Ok(file) => decode_into(rt, form, to, &mut Counted::new(file), output),
         Err(error) => Err(file_fault(&error)),
     }
 }
 
 fn decode_into<H: Files + AllocGlobal, R: Read, W: Write>(
     rt: &H,
+    form: Form,
     to: &str,
     input: &mut Counted<R>,
     output: &mut Counted<W>,
 ) -> Result<Report, DecodeFault> {
     if to == "-" {
-        return decode_all(rt.alloc(), input, output, Form::I420, Limits::usual());
+        return decode_all(rt.alloc(), input, output, form, Limits::usual());
     }
     match fs::create(rt, to) {
         Ok(file) => decode_all(
             rt.alloc(),
             input,
             &mut Counted::new(file),
-            Form::I420,
+            form,
             Limits::usual(),
         ),
+        Err(error) => Err(file_fault(&error)),
+    }
+}
+
+// Opens the file, and goes through it.
+fn look<H: Files + AllocGlobal, R: Read>(
+    rt: &H,
+    from: &str,
+    input: &mut Counted<R>,
+) -> Result<Survey, DecodeFault> {
+    if from == "-" {
+        return Ok(survey(rt.alloc(), input, Limits::usual())?);
+    }
+    match fs::open(rt, from) {
+        Ok(file) => Ok(survey(rt.alloc(), &mut Counted::new(file), Limits::usual())?),
         Err(error) => Err(file_fault(&error)),
     }
 }
@@ -88,22 +105,47 @@ fn file_fault(error: &io::Error) -> DecodeFault {
     }
 }
 
+// Names the fault that the work ended by.
+fn name_end<E: Write>(fault: DecodeFault, errors: &mut Counted<E>) -> u8
+    ensures { result ≡ 1 }
+{
+    let _ = writeln!(errors, "vp8: {fault}");
+    1
+}
+
 // Names the faults, and gives the status.
 fn tell<E: Write>(done: Result<Report, DecodeFault>, errors: &mut Counted<E>) -> u8
     ensures { result ≡ status_of done }
 {
     let report = match done {
         Ok(report) => report,
-        Err(fault) => {
-            let _ = writeln!(errors, "vp8: {fault}");
-            return 1;
-        }
+        Err(fault) => return name_end(fault, errors),
     };
     for (packet, fault) in report.faults.as_slice() {
-        let name = FaultName(*fault);
-        let _ = writeln!(errors, "vp8: packet {packet}: {name}");
+        let _ = writeln!(errors, "vp8: packet {packet}: {fault}");
     }
     if report.faults.is_empty() { 0 } else { 1 }
+}
+
+// Prints what was found in a file, names what is wrong with it, and gives the status.
+fn tell_survey<W: Write, E: Write>(
+    done: Result<Survey, DecodeFault>,
+    output: &mut Counted<W>,
+    errors: &mut Counted<E>,
+) -> u8
+    ensures { result ≤ 1 }
+{
+    let survey = match done {
+        Ok(survey) => survey,
+        Err(fault) => return name_end(fault, errors),
+    };
+    if print_survey(&survey, output).is_err() {
+        return name_end(DecodeFault::Device, errors);
+    }
+    match survey.fault {
+        Some(fault) => name_end(DecodeFault::File(fault), errors),
+        None => 0,
+    }
 }
 
 // Prints the help, or what is wrong with the words.
@@ -115,7 +157,7 @@ fn explain<W: Write, E: Write>(
     ensures { result ≤ 2 }
 {
     if error.kind() == ErrorKind::OutOfMemory {
-        return tell(Err(DecodeFault::Memory), errors);
+        return name_end(DecodeFault::Memory, errors);
     }
     if error.use_stderr() {
         let _ = write!(errors, "{error}");
@@ -123,6 +165,6 @@ fn explain<W: Write, E: Write>(
     }
     match write!(output, "{error}") {
         Ok(()) => 0,
-        Err(_) => tell(Err(DecodeFault::Device), errors),
+        Err(_) => name_end(DecodeFault::Device, errors),
     }
 }

@@ -1,10 +1,8 @@
 use super::*;
 use std::alloc::{AllocError, Global};
-use std::io::Read;
+use std::fs;
 use std::test::Fail;
-use vp_base::{Counted, FailAt, Limits};
-use vp_head::PacketFault;
-use vp_ivf::FileFault;
+use vp_base::Counted;
 
 // The head of an IVF file of 16 columns and 16 rows.
 const HEAD: [u8; 32] = [
@@ -60,14 +58,21 @@ fn runs(alloc: Global, lengths: [usize; 3]) -> Result<Vec<u8>, AllocError> {
     Ok(bytes)
 }
 
-// What `vp8 decode - -` does with a file: the status, and what it writes on both streams.
-fn decoded(rt: &HostRuntime, file: &[u8]) -> (u8, Vec<u8>, Vec<u8>) {
+// What the program does with these words and a file as its input: the status, and what it writes on both streams.
+fn run(rt: &HostRuntime, words: &[&str], file: &[u8]) -> (u8, Vec<u8>, Vec<u8>) {
     let mut input = Counted::new(file);
     let mut output = Counted::new(Vec::new(rt.alloc()));
     let mut errors = Counted::new(Vec::new(rt.alloc()));
-    let words = ["vp8", "decode", "-", "-"];
-    let status = command(rt, &words, &mut input, &mut output, &mut errors);
+    let status = command(rt, words, &mut input, &mut output, &mut errors);
     (status, output.into_inner(), errors.into_inner())
+}
+
+fn decoded(rt: &HostRuntime, file: &[u8]) -> (u8, Vec<u8>, Vec<u8>) {
+    run(rt, &["vp8", "decode", "-", "-"], file)
+}
+
+fn listed(rt: &HostRuntime, file: &[u8]) -> (u8, Vec<u8>, Vec<u8>) {
+    run(rt, &["vp8", "info", "-"], file)
 }
 
 #[test]
@@ -119,53 +124,6 @@ fn truncated_then_no_reference(rt: HostRuntime) -> Result<(), Fail> {
     Ok(())
 }
 
-// The pictures under limits of 16,384 pixels.
-fn limited(alloc: Global, file: &[u8], written: &mut Vec<u8>) -> Result<Report, Fail> {
-    let limits = Limits::new(16_384, 1_000, 10, 1).ok_or("limits")?;
-    let mut writer = Counted::new(written);
-    Ok(decode_all(
-        alloc,
-        &mut Counted::new(file),
-        &mut writer,
-        Form::I420,
-        limits,
-    )?)
-}
-
-#[test]
-fn size_limits(rt: HostRuntime) -> Result<(), Fail> {
-    for (size, fault, bytes) in [
-        ([0, 0, 0x10, 0], Some(PacketFault::Size), 0),
-        ([0x81, 0, 0x81, 0], Some(PacketFault::TooLarge), 0),
-        ([0x80, 0, 0x80, 0], None, 24_576),
-    ] {
-        let file = file(rt.alloc(), &[&key_of(size)])?;
-        let mut written = Vec::new(rt.alloc());
-        let report = limited(rt.alloc(), file.as_slice(), &mut written)?;
-        assert_eq!(rt; report.packets, 1);
-        assert_eq!(rt;
-            report.faults.as_slice().first().copied(),
-            fault.map(|fault| (0, fault))
-        );
-        assert_eq!(rt; written.len(), bytes);
-    }
-    Ok(())
-}
-
-#[test]
-fn numbers_of_a_report(rt: HostRuntime) -> Result<(), Fail> {
-    let file = file(rt.alloc(), &[&HIDDEN, &KEY, &KEY[..2], &HIDDEN])?;
-    let mut written = Vec::new(rt.alloc());
-    let report = limited(rt.alloc(), file.as_slice(), &mut written)?;
-    assert_eq!(rt; (report.packets, report.shown, report.hidden), (4, 1, 2));
-    assert_eq!(rt;
-        report.faults.as_slice(),
-        [(2, PacketFault::Truncated)].as_slice()
-    );
-    assert_eq!(rt; written.len(), 384);
-    Ok(())
-}
-
 #[test]
 fn file_cut_short(rt: HostRuntime) -> Result<(), Fail> {
     let whole = file(rt.alloc(), &[&KEY])?;
@@ -209,34 +167,80 @@ fn a_packet_too_large(rt: HostRuntime) -> Result<(), Fail> {
     Ok(())
 }
 
-// Two pictures, read in two pieces, by a reader and a writer that fail from some call on.
-fn failing(alloc: Global, reads: u64, writes: u64, written: &mut Vec<u8>) -> Result<u32, Fail> {
-    let bytes = file(alloc, &[&KEY, &KEY])?;
-    let (first, second) = bytes.as_slice().split_at_checked(60).ok_or("two pieces")?;
-    let mut reader = Counted::new(FailAt::new(first.chain(second), reads));
-    let mut writer = Counted::new(FailAt::new(written, writes));
-    let limits = Limits::usual();
-    match decode_all(alloc, &mut reader, &mut writer, Form::I420, limits) {
-        Ok(report) => Ok(report.packets),
-        Err(DecodeFault::Device) => Ok(0),
-        Err(fault) => Err(fault.into()),
-    }
+#[test]
+fn decode_to_y4m(rt: HostRuntime) -> Result<(), Fail> {
+    let mut text = Vec::from_slice(
+        rt.alloc(),
+        b"YUV4MPEG2 W16 H16 F30:1 Ip A0:0 C420jpeg\nFRAME\n",
+    )?;
+    text.extend_from_slice(runs(rt.alloc(), [64, 192, 128])?.as_slice())?;
+    assert_eq!(rt; text.len(), 431);
+    let words = ["vp8", "decode", "--y4m", "-", "-"];
+    let (status, output, errors) = run(&rt, &words, file(rt.alloc(), &[&KEY])?.as_slice());
+    assert_eq!(rt; status, 0);
+    assert!(rt; errors.is_empty());
+    assert_eq!(rt; output.as_slice(), text.as_slice());
+    let other = key_of([0x11, 0, 0x01, 0]);
+    let (status, output, errors) = run(&rt, &words, file(rt.alloc(), &[&KEY, &other])?.as_slice());
+    assert_eq!(rt; status, 1);
+    assert_eq!(rt; errors.as_slice(), b"vp8: SizeChange\n".as_slice());
+    assert_eq!(rt; output.as_slice(), text.as_slice());
+    Ok(())
 }
 
 #[test]
-fn a_read_or_a_write_fails(rt: HostRuntime) -> Result<(), Fail> {
-    for (reads, writes, packets, bytes) in [
-        (0, 2, 0, 0),
-        (1, 2, 0, 384),
-        (2, 2, 0, 768),
-        (3, 2, 2, 768),
-        (3, 0, 0, 0),
-        (3, 1, 0, 384),
-    ] {
-        let mut written = Vec::new(rt.alloc());
-        assert_eq!(rt; failing(rt.alloc(), reads, writes, &mut written)?, packets);
-        assert_eq!(rt; written.len(), bytes);
-    }
+fn info_lists_faults(rt: HostRuntime) -> Result<(), Fail> {
+    let file = file(rt.alloc(), &[&KEY[..9], &INTER, &KEY])?;
+    let (status, output, errors) = listed(&rt, file.as_slice());
+    assert_eq!(rt; status, 0);
+    assert!(rt; errors.is_empty());
+    assert_eq!(rt;
+        output.as_slice(),
+        b"size 16x16\nrate 30/1\npackets 3\n0 9 Truncated\n1 3 NoReference\n2 10 Shown\n".as_slice()
+    );
+    Ok(())
+}
+
+#[test]
+fn info_of_broken_files(rt: HostRuntime) -> Result<(), Fail> {
+    let whole = file(rt.alloc(), &[&HIDDEN, &KEY])?;
+    let (status, output, errors) = listed(&rt, whole.as_slice().get(..75).ok_or("a front")?);
+    assert_eq!(rt; status, 1);
+    assert_eq!(rt;
+        output.as_slice(),
+        b"size 16x16\nrate 30/1\npackets 1\n0 10 Hidden\n".as_slice()
+    );
+    assert_eq!(rt; errors.as_slice(), b"vp8: Torn\n".as_slice());
+    let mut bytes = HEAD;
+    bytes[0] = b'X';
+    let (status, output, errors) = listed(&rt, &bytes);
+    assert_eq!(rt; status, 1);
+    assert_eq!(rt; output.as_slice(), b"packets 0\n".as_slice());
+    assert_eq!(rt; errors.as_slice(), b"vp8: Signature\n".as_slice());
+    Ok(())
+}
+
+#[test]
+fn operands_are_files(rt: HostRuntime) -> Result<(), Fail> {
+    let (from, to) = ("operands_are_files.ivf", "operands_are_files.i420");
+    fs::write(&rt, from, file(rt.alloc(), &[&KEY])?)?;
+    let (status, output, errors) = run(&rt, &["vp8", "decode", from, to], b"");
+    assert_eq!(rt; status, 0);
+    assert!(rt; output.is_empty());
+    assert!(rt; errors.is_empty());
+    let pictures = fs::read(&rt, to)?;
+    assert_eq!(rt;
+        pictures.as_slice(),
+        runs(rt.alloc(), [64, 192, 128])?.as_slice()
+    );
+    let (status, output, _) = run(&rt, &["vp8", "info", from], b"");
+    assert_eq!(rt; status, 0);
+    assert_eq!(rt;
+        output.as_slice(),
+        b"size 16x16\nrate 30/1\npackets 1\n0 10 Shown\n".as_slice()
+    );
+    fs::remove_file(&rt, from)?;
+    fs::remove_file(&rt, to)?;
     Ok(())
 }
 
@@ -246,7 +250,13 @@ fn words(rt: HostRuntime) -> Result<(), Fail> {
         (["vp8", "decode", "-"].as_slice(), 2, None),
         (["vp8"].as_slice(), 2, None),
         (["vp8", "encode", "-", "-"].as_slice(), 2, None),
-        (["vp8", "decode", "--y4m", "-", "-"].as_slice(), 2, None),
+        (
+            ["vp8", "decode", "--y4m", "--y4m", "-", "-"].as_slice(),
+            2,
+            None,
+        ),
+        (["vp8", "info"].as_slice(), 2, None),
+        (["vp8", "info", "--help"].as_slice(), 0, None),
         (["vp8", "decode", "--help"].as_slice(), 0, None),
         (
             ["vp8", "decode", "no/such/file", "-"].as_slice(),
@@ -268,14 +278,5 @@ fn words(rt: HostRuntime) -> Result<(), Fail> {
             assert_eq!(rt; errors.as_slice(), line);
         }
     }
-    Ok(())
-}
-
-#[test]
-fn names_of_faults(rt: HostRuntime) -> Result<(), Fail> {
-    let name = FaultName(PacketFault::Partition(2));
-    assert_eq!(rt; format!(in rt.alloc(); "{name}")?.as_str(), "Partition 2");
-    let name = DecodeFault::File(FileFault::TooMany);
-    assert_eq!(rt; format!(in rt.alloc(); "{name}")?.as_str(), "TooMany");
     Ok(())
 }

@@ -9,7 +9,6 @@ use Rattle.vp_base.proofs.OverLemmas.{over-none, over-next}
 use Rattle.vp_head.specs.declared.fields.Header.{Header}
 use Rattle.vp_modes.specs.declared.entry.Modes.{Modes}
 use Rattle.vp_motion.specs.declared.vector.Entry.{Entry}
-use Rattle.vp_refs.specs.References.{References}
 use Rattle.vp_decode.specs.declared.maps.Maps.{Maps}
 use Rattle.vp_tokens.specs.declared.contexts.Tokens.{Tokens}
 use Rattle.vp_tokens.specs.Blocks.{Blocks, Flags, StandsFor, macroblock, blocks_of}

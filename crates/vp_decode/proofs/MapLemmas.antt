@@ -1,5 +1,5 @@
 -- One turn of the loops that read the modes and the motion of a frame.
-use Rattle.std.proofs.Common.{◌≡◌, ◌∙◌, ℕ, ◌+◌, refl, sym, ap}
+use Rattle.std.proofs.Common.{◌≡◌, ◌∙◌, ℕ, ◌+◌, refl, sym}
 use Rattle.vp_bool.specs.Bools.{State}
 use Rattle.vp_base.specs.Over.{over}
 use Rattle.vp_base.proofs.OverLemmas.{over-next}

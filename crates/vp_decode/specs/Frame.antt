@@ -1,5 +1,5 @@
 -- One frame, stage by stage (RFC 6386, chapter 5, 19.3): all modes, then the tokens, then the unfiltered picture, then the loop filter.
-use Rattle.std.specs.Prelude.{◌≡◌, ℕ, zero, suc, ◌+◌, ◌*◌, ◌/◌, ◌%◌, Bool, true, false, if◌then◌else◌, Option, Some, None, List, [], ◌∷◌, ◌++◌, length, slice_index_or, slice_set}
+use Rattle.std.specs.Prelude.{◌≡◌, ℕ, zero, suc, ◌*◌, ◌/◌, ◌%◌, Bool, true, false, if◌then◌else◌, Option, Some, None, List, [], ◌∷◌, ◌++◌, length, slice_index_or, slice_set}
 use Rattle.vp_bool.specs.Bools.{State, start}
 use Rattle.vp_base.specs.Over.{over}
 use Rattle.vp_base.specs.Image.{Image, blank_image}
@@ -10,10 +10,10 @@ use Rattle.vp_tables.specs.declared.modes.VectorMode.TheVariants as vector_is
 use Rattle.vp_head.specs.declared.fields.Header.{Header}
 use Rattle.vp_head.specs.declared.fields.Reference.{Reference}
 use Rattle.vp_modes.specs.declared.entry.Modes.{Modes}
-use Rattle.vp_modes.specs.Map.{Grid, at, with_entry}
+use Rattle.vp_modes.specs.Map.{at, with_entry}
 use Rattle.vp_modes.specs.Modes.{modes_at, is_intra}
 use Rattle.vp_motion.specs.declared.vector.Entry.{Entry}
-use Rattle.vp_motion.specs.Map.{VectorGrid, at as entry_at, with_entry as with_motion}
+use Rattle.vp_motion.specs.Map.{at as entry_at, with_entry as with_motion}
 use Rattle.vp_motion.specs.Motion.{motion_at}
 use Rattle.vp_refs.specs.References.{References, picture_of as reference_picture}
 use Rattle.vp_tokens.specs.declared.contexts.Tokens.{Tokens}

@@ -1,5 +1,5 @@
 -- One packet, from an optional state to an optional state and an answer.
-use Rattle.std.specs.Prelude.{◌≡◌, ℕ, zero, suc, ◌+◌, ◌-◌, ◌*◌, ◌==◌, Bool, true, false, List, Option, Some, None, Result, Ok, Err, length, take, drop, map, is_some, nat_lt, if◌then◌else◌, option_map, slice_index, ◌%◌, ◌≤◌}
+use Rattle.std.specs.Prelude.{ℕ, ◌+◌, ◌==◌, Bool, true, false, List, Option, Some, None, Result, Ok, Err, length, take, drop, map, is_some, nat_lt, if◌then◌else◌, option_map}
 use Rattle.vp_bool.specs.Bools.{State, start}
 use Rattle.vp_base.specs.declared.limits.Dim.{Dim}
 use Rattle.vp_base.specs.declared.limits.Limits.{Limits}
@@ -9,12 +9,12 @@ use Rattle.vp_head.specs.declared.fields.KeyTag.{KeyTag}
 use Rattle.vp_head.specs.declared.fields.Header.{Header}
 use Rattle.vp_head.specs.declared.fields.Saved.{Saved}
 use Rattle.vp_head.specs.declared.fault.PacketFault.{PacketFault}
-use Rattle.vp_head.specs.declared.fault.PacketFault.TheVariants.{NoReference, FirstPartition, PartitionTable, Partition}
+use Rattle.vp_head.specs.declared.fault.PacketFault.TheVariants.{NoReference, FirstPartition}
 use Rattle.vp_head.specs.Tag.{tag_of}
 use Rattle.vp_head.specs.Header.{header}
 use Rattle.vp_head.specs.Saved.{defaults}
 use Rattle.vp_modes.specs.Map.{Grid, new_grid}
-use Rattle.vp_tokens.specs.Partitions.{end, partitions}
+use Rattle.vp_tokens.specs.Partitions.{cut_of}
 use Rattle.vp_motion.specs.Map.{new_grid as still_grid}
 use Rattle.vp_refs.specs.References.{References, all_of, updated}
 use Rattle.vp_decode.specs.declared.decoder.Outcome.{Outcome}
@@ -35,23 +35,6 @@ pub record Opened : Type 0 where
 unfoldable pub count_of : ℕ → ℕ
 count_of n = if n == 0 then 1 else if n == 1 then 2 else if n == 2 then 4 else 8
 
-abbrev pub option_or : Option ℕ → Option ℕ → Option ℕ
-option_or (Some x) y = Some x
-option_or None y = y
-
--- the least of partitions 0 to k - 1 that passes the end of the bytes
-unfoldable pub first_past : List ℕ → ℕ → ℕ → Option ℕ
-first_past b n zero = None
-first_past b n (suc k) = option_or (first_past b n k) (if nat_lt (length b) (end b n k) then Some k else None)
-
-abbrev pub cut_by : Option ℕ → List (List ℕ) → Result (List (List ℕ)) PacketFault
-cut_by (Some i) parts = Err (Partition i)
-cut_by None parts = Ok parts
-
--- the n token partitions, or what is wrong with them
-unfoldable pub cut_of : List ℕ → ℕ → Result (List (List ℕ)) PacketFault
-cut_of b n = if nat_lt (length b) (3 * (n - 1)) then Err PartitionTable else cut_by (first_past b n n) (partitions b n n)
-
 -- the length of the tag (chapter 9.1)
 abbrev pub tag_length : Tag → ℕ
 tag_length tag = if is_some tag.key then 10 else 3
@@ -70,7 +53,7 @@ opened_saved tag (Some saved) packet =
     else opened_parts tag (header saved tag (start (first_part tag packet)))
     (cut_of (drop (tag_length tag + tag.first_partition) packet) (count_of (header saved tag (start (first_part tag packet))).0.0.log2_partitions))
 
--- a key frame begins from the defaults (chapter 9.11)
+-- a key frame begins from the defaults (chapters 9.3, 9.4, 13.5, 16.1, 17.2)
 abbrev pub opened_tag : Result Tag PacketFault → Option Saved → List ℕ → Result Opened PacketFault
 opened_tag (Err f) saved packet = Err f
 opened_tag (Ok tag) saved packet = opened_saved tag (if is_some tag.key then Some defaults else saved) packet

@@ -1,8 +1,10 @@
 -- What is true of the numbers of every tag and every header.
-use Rattle.std.specs.Prelude.{◌*◌, ◌^◌, ◌<◌, ◌≤◌, IfSome}
+use Rattle.std.specs.Prelude.{ℕ, ◌*◌, ◌^◌, ◌<◌, ◌≤◌, ℤ, pos, List, IfSome, slice_index_or, unsigned_abs}
 use Rattle.vp_base.specs.declared.limits.Limits.{Limits}
 use Rattle.vp_head.specs.declared.fields.Tag.{Tag}
 use Rattle.vp_head.specs.declared.fields.KeyTag.{KeyTag}
+use Rattle.vp_head.specs.declared.fields.SegmentValues.{SegmentValues}
+use Rattle.vp_head.specs.declared.fields.LevelDeltas.{LevelDeltas}
 use Rattle.vp_head.specs.declared.fields.Header.{Header}
 
 pub record IsKeyInRange (limits : Limits) (key : KeyTag) : Type 0 where
@@ -20,3 +22,21 @@ pub record IsInRange (h : Header) : Type 0 where
   pub level : h.filter.level ≤ 63
   pub sharpness : h.filter.sharpness ≤ 7
   pub y_ac : h.quantiser.y_ac ≤ 127
+  pub y_dc : unsigned_abs h.quantiser.y_dc ≤ 15
+  pub y2_dc : unsigned_abs h.quantiser.y2_dc ≤ 15
+  pub y2_ac : unsigned_abs h.quantiser.y2_ac ≤ 15
+  pub uv_dc : unsigned_abs h.quantiser.uv_dc ≤ 15
+  pub uv_ac : unsigned_abs h.quantiser.uv_ac ≤ 15
+
+-- ---- the signed values that may be kept from earlier frames
+
+-- each number is from -b to b
+abbrev pub AreWithin : ℕ → List ℤ → Type 0
+AreWithin b xs = (i : ℕ) → unsigned_abs (slice_index_or xs i (pos 0)) ≤ b
+
+-- of the segments, and of the level deltas
+pub record AreInRange (values : SegmentValues) (deltas : LevelDeltas) : Type 0 where
+  pub quantisers : AreWithin 127 values.quantisers
+  pub levels : AreWithin 63 values.levels
+  pub reference : AreWithin 63 deltas.reference
+  pub mode : AreWithin 63 deltas.mode

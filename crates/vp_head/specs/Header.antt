@@ -19,7 +19,7 @@ use Rattle.vp_head.specs.declared.fields.Header.{Header}
 use Rattle.vp_head.specs.declared.fields.Saved.{Saved}
 use Rattle.vp_head.specs.declared.rows.Refreshes.{Refreshes}
 
--- ---- segmentation (chapter 9.3); what isn't read stays
+-- ---- segmentation (chapter 9.3); without an update the kept values stay; in an update a value whose flag isn't set is 0
 
 unfoldable pub segment_values : Reader SegmentValues
 segment_values = do

@@ -1,9 +1,10 @@
--- What the sides of a picture are held to.
+-- What the sides of a picture are held to: each fact by the name of its lemma.
 use Rattle.std.specs.Prelude.{ℕ, suc, ◌/◌, ◌%◌, ◌^◌, ◌<◌, ◌≤◌}
-use Rattle.std.proofs.Common.{arith}
+use Rattle.std.proofs.Common.{lit<}
+use Rattle.std.proofs.Math.Nat.{zero-lt-suc, mod-lt, le-pred_of_lt}
 
 pub is_side : (n : ℕ) → suc n ≤ 16383 → (0 < suc n) × (suc n ≤ 16383)
-is_side n p = (omega arith, p)
+is_side n p = (zero-lt-suc n, p)
 
 pub is_below_16384 : (n : ℕ) → n / 2 ^ 0 % 2 ^ 14 ≤ 16383
-is_below_16384 n = omega arith
+is_below_16384 n = le-pred_of_lt (mod-lt (n / 2 ^ 0) (lit< tt))

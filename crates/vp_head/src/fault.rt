@@ -1,4 +1,7 @@
-/// Why a packet can't be decoded, in the order in which the faults are looked for.
+use std::fmt;
+
+/// Why a packet can't be decoded. The faults are looked for in this order, but that the ten bytes of a key packet
+/// are asked for after its version.
 #[derive(Clone, Copy, Debug, PartialEq, Eq)]
 pub enum PacketFault {
     /// Fewer than 3 bytes, or fewer than 10 of a key packet (RFC 6386, chapter 9.1).
@@ -19,4 +22,22 @@ pub enum PacketFault {
     PartitionTable,
     /// The size of this token partition, the first such one, passes the end.
     Partition(u8),
+}
+
+/// The fault's name, as it is told; `Partition 2` has the partition's number.
+impl fmt::Display for PacketFault {
+    fn fmt<W: fmt::Write>(&self, f: &mut fmt::Formatter<W>) -> fmt::Result {
+        let name = match self {
+            PacketFault::Truncated => "Truncated",
+            PacketFault::Version => "Version",
+            PacketFault::StartCode => "StartCode",
+            PacketFault::Size => "Size",
+            PacketFault::TooLarge => "TooLarge",
+            PacketFault::NoReference => "NoReference",
+            PacketFault::FirstPartition => "FirstPartition",
+            PacketFault::PartitionTable => "PartitionTable",
+            PacketFault::Partition(number) => return write!(f, "Partition {number}"),
+        };
+        f.write_str(name)
+    }
 }

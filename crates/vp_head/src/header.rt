@@ -1,7 +1,7 @@
-ghost use Rattle.std.specs.Prelude.{◌≡◌, is_some};
+ghost use Rattle.std.specs.Prelude.{◌≡◌, ◌⊎◌, is_some, IsSome};
 ghost use Rattle.vp_head.specs.Saved.{defaults, kept_after};
 ghost use Rattle.vp_head.specs.Header.{frame, frame_and_kept, header};
-ghost use Rattle.vp_head.specs.Bounds.{IsInRange};
+ghost use Rattle.vp_head.specs.Bounds.{IsInRange, AreInRange};
 
 use crate::fields::{Header, LevelDeltas, Probabilities, Saved, SegmentValues, SignBiases, Tag};
 use crate::probabilities::{read_chroma_if, read_coefficients, read_luma_if, read_vectors_if};
@@ -61,6 +61,9 @@ impl Header {
         ensures rest { d.new ≡ (header saved.now tag.now d.old).1 }
         ensures bounds { IsInRange result.0 }
         ensures kind { result.0.key ≡ is_some tag.now.key }
+        // The signed values of a key frame are in range, and of any other where those that were kept are.
+        ensures signed { IsSome tag.now.key ⊎ AreInRange saved.now.segments saved.now.deltas → AreInRange result.0.segmentation.values result.0.deltas }
+        ensures kept { IsSome tag.now.key ⊎ AreInRange saved.now.segments saved.now.deltas → AreInRange result.1.segments result.1.deltas }
     {
         if tag.key.is_some() {
             read_with_kept(true, defaults(), d)
@@ -75,7 +78,6 @@ impl Header {
 fn read_with_kept(key: bool, kept: &Saved, d: &mut BoolDecoder) -> (Header, Saved)
     ensures value { result ≡ (frame_and_kept key kept.now d.old).0 }
     ensures rest { d.new ≡ (frame_and_kept key kept.now d.old).1 }
-    ensures bounds { IsInRange result.0 }
     ensures kind { result.0.key ≡ key }
 {
     let header = read_frame(key, kept, d);
@@ -98,7 +100,6 @@ fn read_with_kept(key: bool, kept: &Saved, d: &mut BoolDecoder) -> (Header, Save
 fn read_frame(key: bool, kept: &Saved, d: &mut BoolDecoder) -> Header
     ensures value { result ≡ (frame key kept.now d.old).0 }
     ensures rest { d.new ≡ (frame key kept.now d.old).1 }
-    ensures bounds { IsInRange result }
     ensures kind { result.key ≡ key }
 {
     let color_space = flag_if(key, false, d);

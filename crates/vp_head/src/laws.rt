@@ -8,7 +8,7 @@ ghost use Rattle.vp_head.specs.declared.fields.Saved.{Saved};
 ghost use Rattle.vp_head.specs.Tag.{tag_of, IsKeyPacket, IsInterPacket};
 ghost use Rattle.vp_head.specs.Saved.{defaults};
 ghost use Rattle.vp_head.specs.Header.{header};
-ghost use Rattle.vp_head.specs.Bounds.{IsTagInRange, IsInRange};
+ghost use Rattle.vp_head.specs.Bounds.{IsTagInRange, IsInRange, AreInRange};
 
 /// The first byte alone says whether a packet of three bytes or more is a key packet: its tag has a key part, or a fault.
 pub fn first_byte_says_kind()
@@ -21,10 +21,12 @@ pub fn key_header_resets()
     ensures { (saved : Saved) (tag : Tag) → IsSome tag.key → header saved tag ≡ header defaults tag }
 {}
 
-/// Tags and headers are in range, whatever the bytes.
+/// Tags and headers are in range, whatever the bytes, and so is what a key frame starts from.
 pub fn numbers_are_in_range()
     ensures tags { (limits : Limits) (packet : List ℕ) → IfOk (tag_of limits packet) (IsTagInRange limits) }
     ensures headers { (saved : Saved) (tag : Tag) (s : State) → IsInRange (header saved tag s).0.0 }
+    // So by induction the signed values that are kept are in range after every header.
+    ensures defaults { AreInRange defaults.segments defaults.deltas }
     ensures kinds { (saved : Saved) (tag : Tag) (s : State) → (header saved tag s).0.0.key ≡ is_some tag.key }
 {}
 

@@ -9,7 +9,8 @@ use Rattle.byteorder.specs.Numbers.{little_from-take}
 use Rattle.vp_ivf.specs.declared.packet.IvfHead.{IvfHead}
 use Rattle.vp_ivf.specs.declared.fault.FileFault.{FileFault}
 use Rattle.vp_ivf.specs.Ivf.{size_of, packet_at, next_size, next_head, cuts, read}
-use Rattle.vp_ivf.specs.Laws.{packet_head_text, packet_text, packets_text, AreBytes, IsFaithful}
+use Rattle.vp_ivf.specs.Text.{packet_head_text, packet_text, packets_text}
+use Rattle.vp_ivf.specs.Laws.{AreBytes, IsFaithful}
 use Rattle.vp_ivf.proofs.Cuts.{cuts-whole, cuts-stop, cuts-fault, next_size-size}
 use Rattle.vp_ivf.proofs.Append.{next_size-whole}
 

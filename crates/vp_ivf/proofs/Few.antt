@@ -40,7 +40,7 @@ pub read_from-settled : (head : Option IvfHead) (max n : ℕ) (b : List ℕ) →
 read_from-settled None max n b = read-settled max n b
 read_from-settled (Some h) max n b = cuts-settled h max n b
 
-none_whole : (max : ℕ) (xs : List ℕ) (s : ℕ) → next_size max 0 xs ≡ Ok (Some s) → ⊥
+pub none_whole : (max : ℕ) (xs : List ℕ) (s : ℕ) → next_size max 0 xs ≡ Ok (Some s) → ⊥
 unfolding next_size
 none_whole max xs s e = grind (arith, nat_tests)
 
@@ -111,7 +111,7 @@ packets_none h max b (Err f) e = rw (cuts-fault h max 0 b f e) refl
 packets_none h max b (Ok None) e = rw (cuts-stop h max 0 b e) refl
 packets_none h max b (Ok (Some s)) e = absurd (none_whole max b s e)
 
-short_head : (b : List ℕ) → next_head b ≡ Ok None → length b < 32
+pub short_head : (b : List ℕ) → next_head b ≡ Ok None → length b < 32
 unfolding next_head
 short_head b e = grind (arith, nat_tests)
 

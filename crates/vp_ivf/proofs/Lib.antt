@@ -2,5 +2,9 @@ pub mod Cuts
 pub mod Append
 pub mod Stands
 pub mod Few
+pub mod Short
+pub mod Within
 pub mod Faithful
 pub mod Growing
+pub mod Written
+pub mod Writing

@@ -1,22 +1,13 @@
 -- What holds of all files.
-use Rattle.std.specs.Prelude.{◌≡◌, ◌<◌, ℕ, List, [], ◌∷◌, ◌++◌, length, drop, slice_index, Some}
-use Rattle.byteorder.specs.Endian.{little_bytes}
+use Rattle.std.specs.Prelude.{◌≡◌, ◌<◌, ◌≤◌, ◌^◌, ◌-◌, ◌+◌, ◌⊎◌, ℕ, true, false, nat_eq, codes, List, [], ◌∷◌, ◌++◌, length, drop, slice_index, Option, Some, None, Ok}
+use Rattle.std.specs.List.{starts_with}
 use Rattle.vp_ivf.specs.declared.packet.Packet.{Packet}
 use Rattle.vp_ivf.specs.declared.packet.IvfHead.{IvfHead}
 use Rattle.vp_ivf.specs.declared.fault.FileFault.{FileFault}
-use Rattle.vp_ivf.specs.Ivf.{read, resume}
-
--- the 12 bytes before a packet: its size and its time
-unfoldable pub packet_head_text : ℕ → ℕ → List ℕ
-packet_head_text size time = little_bytes 4 size ++ little_bytes 8 time
-
--- a packet's bytes in a file
-abbrev pub packet_text : ℕ → List ℕ → List ℕ
-packet_text time bytes = packet_head_text (length bytes) time ++ bytes
-
-abbrev pub packets_text : List Packet → List ℕ
-packets_text [] = []
-packets_text (p ∷ ps) = packet_text p.time p.bytes ++ packets_text ps
+use Rattle.vp_ivf.specs.declared.fault.FileFault.TheVariants.{Signature, Codec, TooMany, PacketTooLarge, Torn, Ended}
+use Rattle.vp_ivf.specs.Ivf.{Reading, size_of, read, resume}
+use Rattle.vp_ivf.specs.Reader.{IsSettled, finish_answer}
+use Rattle.vp_ivf.specs.Text.{packets_text, file_text}
 
 abbrev pub AreBytes : List ℕ → Type 0
 AreBytes b = (i : ℕ) → slice_index b i < 256
@@ -43,3 +34,62 @@ KeepsHead = (max n : ℕ) (b more : List ℕ) (h : IvfHead) → (read max n b).h
 abbrev pub KeepsFault : Type 0
 KeepsFault = (max n : ℕ) (b more : List ℕ) (f : FileFault) → (read max n b).fault ≡ Some f
     → read max n (b ++ more) ≡ record (read max n b) { rest = (read max n b).rest ++ more }
+
+-- a packet that a file can hold, and that is read where packets of at most max bytes are allowed
+pub record Fits (max : ℕ) (p : Packet) : Type 0 where
+  pub time : p.time < 2 ^ 64
+  pub size : length p.bytes < 2 ^ 32
+  pub allowed : length p.bytes ≤ max
+
+abbrev pub AllFit : ℕ → List Packet → Type 0
+AllFit max [] = Unit {0}
+AllFit max (p ∷ ps) = Fits max p × AllFit max ps
+
+-- a head that a file can hold
+abbrev pub IsHead : IvfHead → Type 0
+IsHead h = (h.w < 2 ^ 16) × (h.h < 2 ^ 16) × (h.rate < 2 ^ 32) × (h.scale < 2 ^ 32)
+
+-- what is written reads as that head and these packets, and nothing else, under all limits that they fit
+abbrev pub IsReadBack : Type 0
+IsReadBack = (max n : ℕ) (h : IvfHead) (count : ℕ) (packets : List Packet) → IsHead h → AllFit max packets → length packets ≤ n
+    → read max n (file_text h count packets)
+    ≡ record { head = Some h; packets = packets; left = n - length packets; fault = None; rest = [] }
+
+-- and its end is none inside a packet
+abbrev pub EndsWell : Type 0
+EndsWell = (max n : ℕ) (h : IvfHead) (count : ℕ) (packets : List Packet) → IsHead h → AllFit max packets → length packets ≤ n
+    → finish_answer (read max n (file_text h count packets)) ≡ Ok tt
+
+-- the bytes that are left are too few: for a head, or else for the twelve bytes before a packet, or for that packet
+abbrev pub IsShort : Option IvfHead → List ℕ → Type 0
+IsShort None rest = length rest < 32
+IsShort (Some h) rest = (length rest < 12) ⊎ (length rest < 12 + size_of rest)
+
+-- where no fault was met, all packets were cut that are whole
+abbrev pub CutsAll : Type 0
+CutsAll = (max n : ℕ) (b : List ℕ) → (read max n b).fault ≡ None → IsShort (read max n b).head (read max n b).rest
+
+-- and cutting what is left gives nothing
+abbrev pub LeavesNoPacket : Type 0
+LeavesNoPacket = (max n : ℕ) (b : List ℕ) → IsSettled max (read max n b)
+
+-- packets that were cut and packets that may still come are as many as are allowed
+abbrev pub CountsPackets : Type 0
+CountsPackets = (max n : ℕ) (b : List ℕ) → (read max n b).left + length (read max n b).packets ≡ n
+
+-- packets that were cut are allowed, and can be written
+abbrev pub CutsWhatFits : Type 0
+CutsWhatFits = (max n : ℕ) (b : List ℕ) → AreBytes b → AllFit max (read max n b).packets
+
+-- what the bytes that weren't cut show where this fault was met
+abbrev pub Shows : FileFault → ℕ → Reading → Type 0
+Shows Signature max r = (32 ≤ length r.rest) × (starts_with nat_eq r.rest (codes "DKIF") ≡ false)
+Shows Codec max r = (32 ≤ length r.rest) × (starts_with nat_eq r.rest (codes "DKIF") ≡ true) × (starts_with nat_eq (drop 8 r.rest) (codes "VP80") ≡ false)
+Shows TooMany max r = (r.left ≡ 0) × (12 ≤ length r.rest)
+Shows PacketTooLarge max r = (1 ≤ r.left) × (12 ≤ length r.rest) × (max < size_of r.rest)
+Shows Torn max r = ⊥
+Shows Ended max r = ⊥
+
+-- a fault is met only where the bytes show it
+abbrev pub ShowsFaults : Type 0
+ShowsFaults = (max n : ℕ) (b : List ℕ) (f : FileFault) → (read max n b).fault ≡ Some f → Shows f max (read max n b)

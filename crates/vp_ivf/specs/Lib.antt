@@ -1,4 +1,6 @@
 pub mod Ivf
 pub mod Reader
 pub mod Cutting
+pub mod Text
+pub mod Writer
 pub mod Laws

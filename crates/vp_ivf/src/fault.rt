@@ -1,5 +1,7 @@
 //! What is wrong with a file.
 
+use std::fmt;
+
 /// What is wrong with a file.
 #[derive(Clone, Copy, Debug, PartialEq, Eq)]
 pub enum FileFault {
@@ -15,6 +17,20 @@ pub enum FileFault {
     Torn,
     /// It was fed after its end.
     Ended,
+}
+
+/// The fault's name, as it is told.
+impl fmt::Display for FileFault {
+    fn fmt<W: fmt::Write>(&self, f: &mut fmt::Formatter<W>) -> fmt::Result {
+        f.write_str(match self {
+            FileFault::Signature => "Signature",
+            FileFault::Codec => "Codec",
+            FileFault::TooMany => "TooMany",
+            FileFault::PacketTooLarge => "PacketTooLarge",
+            FileFault::Torn => "Torn",
+            FileFault::Ended => "Ended",
+        })
+    }
 }
 
 /// Why a reader didn't take a piece, or what is wrong with the file by that piece.

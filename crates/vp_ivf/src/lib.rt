@@ -1,4 +1,4 @@
-//! IVF files, read packet by packet from bytes that come in any pieces.
+//! IVF files, read packet by packet from bytes that come in any pieces, and written packet by packet.
 #![tactic(auto)]
 
 mod cutting;
@@ -8,8 +8,13 @@ mod packet;
 mod reader;
 #[cfg(test)]
 mod tests;
+mod writer;
 
 pub use fault::{FeedError, FileFault};
-pub use laws::{growing_keeps_what_was_read, reading_is_faithful};
+pub use laws::{
+    cutting_leaves_no_packet, growing_keeps_what_was_read, reading_is_faithful,
+    reading_keeps_to_limits, written_is_read,
+};
 pub use packet::{IvfHead, Packet};
 pub use reader::Reader;
+pub use writer::{WriteFault, Writer};

@@ -20,7 +20,7 @@ use Rattle.vp_motion.specs.declared.vector.Vector.{Vector}
 use Rattle.vp_motion.specs.Map.{VectorGrid, above_block, left_block, still}
 use Rattle.vp_motion.specs.Near.{candidates, same}
 
--- ---- A vector (chapter 17.2)
+-- ---- A vector (chapter 17.1)
 
 -- what bit i of a long part adds
 unfoldable pub bit : List ℕ → ℕ → Reader ℕ

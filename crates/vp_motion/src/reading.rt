@@ -86,7 +86,7 @@ fn read_component(probabilities: &[u8; 19], d: &mut BoolDecoder) -> i32
     }
 }
 
-/// Reads a vector, the row and then the column (RFC 6386, chapter 17.2).
+/// Reads a vector, the row and then the column (RFC 6386, chapter 17.1).
 ///
 /// The probabilities are those of rows, then of columns: long or short, sign, seven of the short tree, ten of the
 /// long bits. What is read is what a new vector adds to the best one.

@@ -6,21 +6,21 @@ use Rattle.vp_base.specs.Raster.{Raster, pixel}
 use Rattle.vp_base.specs.Block.{IsWhole}
 use Rattle.vp_base.specs.Image.{Image, IsAligned, macroblocks}
 use Rattle.vp_base.proofs.BlockLemmas.{same_raster}
-use Rattle.vp_tables.specs.declared.modes.ChromaMode.{ChromaMode}
 use Rattle.vp_tables.specs.declared.modes.SubMode.TheVariants as sub_is
-use Rattle.vp_modes.specs.declared.entry.Modes.{Modes}
-use Rattle.vp_intra.specs.Whole.{luma_pixel, chroma_pixel}
+use Rattle.vp_intra.specs.Whole.{luma_pixel}
 use Rattle.vp_intra.specs.Sub.{sub_pixel}
 use Rattle.vp_recon.specs.Residue.{has_y2, luma_residue, chroma_residue}
 use Rattle.vp_recon.specs.Rebuilt.{summed, residue_at}
-use Rattle.vp_recon.specs.Equation.{Frame, luma_prediction, IsUnfiltered, AreWhole}
-use Rattle.vp_recon.proofs.Alike.{luma_alike, chroma_alike}
+use Rattle.vp_recon.specs.Equation.{Source, Intra, Inter, Frame, luma_prediction, chroma_prediction, has_y2_by, IsUnfiltered, AreWhole}
+use Rattle.vp_recon.proofs.Alike.{luma_alike}
+use Rattle.vp_recon.proofs.EquationLemmas.{colour_alike}
 use Rattle.vp_recon.proofs.SubAlike.{Ready, readyHigher, readyBeside, readyOwn, sub_alike}
 
-prediction_alike : (m : Modes) (p q : Raster) (x y r c : ℕ) → r < 16 → c < 16 → p.width ≡ q.width → 16 * x + 16 ≤ p.width → 16 * y + 16 ≤ p.height
+prediction_alike : (s : Source) (p q : Raster) (x y r c : ℕ) → r < 16 → c < 16 → p.width ≡ q.width → 16 * x + 16 ≤ p.width → 16 * y + 16 ≤ p.height
     → ((u v : ℕ) → u < p.width → v < p.height → Ready x y (4 * (r / 4) + c / 4) u v → pixel p u v ≡ pixel q u v)
-    → luma_prediction m p (16 * x) (16 * y) r c ≡ luma_prediction m q (16 * x) (16 * y) r c
-prediction_alike m p q x y r c rin cin wide xfits yfits same = elim (cases_Bool (has_y2 m.luma)) [
+    → luma_prediction s p (16 * x) (16 * y) r c ≡ luma_prediction s q (16 * x) (16 * y) r c
+prediction_alike (Inter motion reference version) p q x y r c rin cin wide xfits yfits same = refl
+prediction_alike (Intra m) p q x y r c rin cin wide xfits yfits same = elim (cases_Bool (has_y2 m.luma)) [
   | inl whole ↦
       ap (λ (t : Bool). cond t (luma_pixel m.luma p (16 * x) (16 * y) r c) (sub_pixel (get_or m.subs (4 * (r / 4) + c / 4) sub_is.Dc) p (16 * x + 4 * (c / 4)) (16 * y + 4 * (r / 4)) (r % 4) (c % 4))) whole
       ∙ luma_alike p q (16 * x) (16 * y) 16 xfits yfits
@@ -53,15 +53,15 @@ sooner cols x y k u v uin (readyOwn a b c d e) =
     let rows : v / 16 * cols ≡ y * cols = ap (λ (n : ℕ). n * cols) row in
     omega arith
 
-module _ (cols rows : ℕ) (modes : ℕ → ℕ → Modes) (residue : ℕ → ℕ → ℕ → ℕ → ℤ) (p q : Raster)
+module _ (cols rows : ℕ) (source : ℕ → ℕ → Source) (residue : ℕ → ℕ → ℕ → ℕ → ℤ) (p q : Raster)
     (wide : p.width ≡ 16 * cols) (wide' : q.width ≡ 16 * cols) (high : p.height ≡ 16 * rows) (high' : q.height ≡ 16 * rows)
-    (pb : (x y : ℕ) → x < cols → y < rows → (r c : ℕ) → r < 16 → c < 16 → pixel p (16 * x + c) (16 * y + r) ≡ summed (luma_prediction (modes x y) p (16 * x) (16 * y) r c) (residue x y r c))
-    (qb : (x y : ℕ) → x < cols → y < rows → (r c : ℕ) → r < 16 → c < 16 → pixel q (16 * x + c) (16 * y + r) ≡ summed (luma_prediction (modes x y) q (16 * x) (16 * y) r c) (residue x y r c)) where
+    (pb : (x y : ℕ) → x < cols → y < rows → (r c : ℕ) → r < 16 → c < 16 → pixel p (16 * x + c) (16 * y + r) ≡ summed (luma_prediction (source x y) p (16 * x) (16 * y) r c) (residue x y r c))
+    (qb : (x y : ℕ) → x < cols → y < rows → (r c : ℕ) → r < 16 → c < 16 → pixel q (16 * x + c) (16 * y + r) ≡ summed (luma_prediction (source x y) q (16 * x) (16 * y) r c) (residue x y r c)) where
   luma_same : (bound x y r c : ℕ) → x < cols → y < rows → r < 16 → c < 16 → turn cols x y r c < bound → pixel p (16 * x + c) (16 * y + r) ≡ pixel q (16 * x + c) (16 * y + r)
   luma_same zero x y r c xin yin rin cin below = absurd (omega arith)
   luma_same (suc bound) x y r c xin yin rin cin below =
       pb x y xin yin r c rin cin
-      ∙ ap (λ (k : ℕ). summed k (residue x y r c)) (prediction_alike (modes x y) p q x y r c rin cin (wide ∙ sym wide') (omega arith) (omega arith)
+      ∙ ap (λ (k : ℕ). summed k (residue x y r c)) (prediction_alike (source x y) p q x y r c rin cin (wide ∙ sym wide') (omega arith) (omega arith)
       (λ u v uin vin ready.
       let first : 16 * (v / 16 * cols + u / 16) + (4 * (v % 16 / 4) + u % 16 / 4) < 16 * (y * cols + x) + (4 * (r / 4) + c / 4) = sooner cols x y (4 * (r / 4) + c / 4) u v (omega arith) ready in
       let ue : 16 * (u / 16) + u % 16 ≡ u = omega arith in
@@ -92,10 +92,10 @@ chroma_beside cols x y u v xin uin vin = elim (cases_lt v (8 * y)) [
       omega arith
 ]
 
-module _ (cols rows : ℕ) (mode : ℕ → ℕ → ChromaMode) (residue : ℕ → ℕ → ℕ → ℕ → ℤ) (p q : Raster)
+module _ (cols rows : ℕ) (source : ℕ → ℕ → Source) (plane : Image → Raster) (residue : ℕ → ℕ → ℕ → ℕ → ℤ) (p q : Raster)
     (wide : p.width ≡ 8 * cols) (wide' : q.width ≡ 8 * cols) (high : p.height ≡ 8 * rows) (high' : q.height ≡ 8 * rows)
-    (pb : (x y : ℕ) → x < cols → y < rows → (r c : ℕ) → r < 8 → c < 8 → pixel p (8 * x + c) (8 * y + r) ≡ summed (chroma_pixel (mode x y) p (8 * x) (8 * y) r c) (residue x y r c))
-    (qb : (x y : ℕ) → x < cols → y < rows → (r c : ℕ) → r < 8 → c < 8 → pixel q (8 * x + c) (8 * y + r) ≡ summed (chroma_pixel (mode x y) q (8 * x) (8 * y) r c) (residue x y r c)) where
+    (pb : (x y : ℕ) → x < cols → y < rows → (r c : ℕ) → r < 8 → c < 8 → pixel p (8 * x + c) (8 * y + r) ≡ summed (chroma_prediction (source x y) plane p (8 * x) (8 * y) r c) (residue x y r c))
+    (qb : (x y : ℕ) → x < cols → y < rows → (r c : ℕ) → r < 8 → c < 8 → pixel q (8 * x + c) (8 * y + r) ≡ summed (chroma_prediction (source x y) plane q (8 * x) (8 * y) r c) (residue x y r c)) where
   chroma_same : (bound x y r c : ℕ) → x < cols → y < rows → r < 8 → c < 8 → y * cols + x < bound → pixel p (8 * x + c) (8 * y + r) ≡ pixel q (8 * x + c) (8 * y + r)
   chroma_same zero x y r c xin yin rin cin below = absurd (omega arith)
   chroma_same (suc bound) x y r c xin yin rin cin below =
@@ -106,10 +106,10 @@ module _ (cols rows : ℕ) (mode : ℕ → ℕ → ChromaMode) (residue : ℕ �
       ∙ chroma_same bound (u / 8) (v / 8) (v % 8) (u % 8) (omega arith) (omega arith) (omega arith) (omega arith) (omega arith)
       ∙ ap (pixel q (8 * (u / 8) + u % 8)) ve ∙ ap (λ (a : ℕ). pixel q a v) ue in
       pb x y xin yin r c rin cin
-      ∙ ap (λ (k : ℕ). summed k (residue x y r c)) (chroma_alike p q (8 * x) (8 * y) 8 (omega arith) (omega arith)
+      ∙ ap (λ (k : ℕ). summed k (residue x y r c)) (colour_alike (source x y) plane p q (8 * x) (8 * y) (omega arith) (omega arith)
       (λ u v uin vin. at u v (omega arith) (omega arith) (chroma_over cols x y u v (omega arith) (omega arith)))
       (λ u v uin low vin. at u v (omega arith) (omega arith) (chroma_beside cols x y u v xin uin vin))
-      (mode x y) r c refl rin cin)
+      r c rin cin)
       ∙ sym (qb x y xin yin r c rin cin)
 
   pub chroma_one : IsWhole p → IsWhole q → p ≡ q
@@ -132,17 +132,17 @@ one f p q pa qa w h pw qw pe qe =
     let cw : macroblocks q.width ≡ macroblocks p.width = ap (λ (n : ℕ). macroblocks n) (sym w) in
     let ch : macroblocks q.height ≡ macroblocks p.height = ap (λ (n : ℕ). macroblocks n) (sym h) in
     let luma : p.luma ≡ q.luma =
-    luma_one (macroblocks p.width) (macroblocks p.height) f.modes
-    (λ x y r c. residue_at 4 (luma_residue (has_y2 (f.modes x y).luma) (f.tokens x y) (f.factors x y)) r c) p.luma q.luma
+    luma_one (macroblocks p.width) (macroblocks p.height) f.sources
+    (λ x y r c. residue_at 4 (luma_residue (has_y2_by (f.sources x y)) (f.tokens x y) (f.factors x y)) r c) p.luma q.luma
     pa.0.0 (qa.0.0 ∙ ap (λ (n : ℕ). 16 * n) cw) pa.0.1 (qa.0.1 ∙ ap (λ (n : ℕ). 16 * n) ch)
     (λ x y xin yin r c rin cin. (pe x y xin yin).luma r c rin cin) (λ x y xin yin r c rin cin. (qe x y (omega arith) (omega arith)).luma r c rin cin) pw.0 qw.0 in
     let u : p.u ≡ q.u =
-    chroma_one (macroblocks p.width) (macroblocks p.height) (λ x y. (f.modes x y).chroma)
+    chroma_one (macroblocks p.width) (macroblocks p.height) f.sources (λ i. i.u)
     (λ x y r c. residue_at 2 (λ k. chroma_residue (f.tokens x y) (f.factors x y) (17 + k)) r c) p.u q.u
     pa.1.0 (qa.1.0 ∙ ap (λ (n : ℕ). 8 * n) cw) pa.1.1 (qa.1.1 ∙ ap (λ (n : ℕ). 8 * n) ch)
     (λ x y xin yin r c rin cin. (pe x y xin yin).u r c rin cin) (λ x y xin yin r c rin cin. (qe x y (omega arith) (omega arith)).u r c rin cin) pw.1 qw.1 in
     let v : p.v ≡ q.v =
-    chroma_one (macroblocks p.width) (macroblocks p.height) (λ x y. (f.modes x y).chroma)
+    chroma_one (macroblocks p.width) (macroblocks p.height) f.sources (λ i. i.v)
     (λ x y r c. residue_at 2 (λ k. chroma_residue (f.tokens x y) (f.factors x y) (21 + k)) r c) p.v q.v
     pa.2.0 (qa.2.0 ∙ ap (λ (n : ℕ). 8 * n) cw) pa.2.1 (qa.2.1 ∙ ap (λ (n : ℕ). 8 * n) ch)
     (λ x y xin yin r c rin cin. (pe x y xin yin).v r c rin cin) (λ x y xin yin r c rin cin. (qe x y (omega arith) (omega arith)).v r c rin cin) pw.2 qw.2 in

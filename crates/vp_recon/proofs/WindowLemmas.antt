@@ -1,5 +1,6 @@
 -- What rebuilding a macroblock changes, and what it depends on.
 use Rattle.std.proofs.Common.{◌≡◌, ◌∙◌, ℕ, zero, suc, ℤ, pos, Bool, true, false, cond, ◌+◌, ◌-◌, ◌*◌, ◌/◌, ◌%◌, ◌<◌, ◌≤◌, List, get_or, sym, refl, ap, arith, inl, inr}
+use Rattle.std.specs.Prelude.{not}
 use Rattle.std.proofs.lemmas.Bool.{cases_Bool}
 use Rattle.vp_base.specs.Raster.{Raster, pixel}
 use Rattle.vp_base.specs.Block.{with_block, is_in_block}
@@ -11,24 +12,35 @@ use Rattle.vp_tables.specs.declared.modes.ChromaMode.{ChromaMode}
 use Rattle.vp_tables.specs.declared.modes.SubMode.{SubMode}
 use Rattle.vp_tables.specs.declared.modes.SubMode.TheVariants as sub_is
 use Rattle.vp_modes.specs.declared.entry.Modes.{Modes}
+use Rattle.vp_motion.specs.declared.vector.Entry.{Entry}
+use Rattle.vp_motion.specs.Near.{is_split}
+use Rattle.vp_inter.specs.declared.vector.PlaneVector.{PlaneVector}
 use Rattle.vp_tokens.specs.declared.contexts.Tokens.{Tokens}
 use Rattle.vp_quant.specs.declared.factors.Factors.{Factors}
 use Rattle.vp_intra.specs.Whole.{luma_pixel, chroma_pixel}
 use Rattle.vp_intra.specs.Sub.{sub_pixel}
 use Rattle.vp_recon.specs.Residue.{luma_residue, chroma_residue}
 use Rattle.vp_recon.specs.Rebuilt.{summed, residue_at, with_luma, with_chroma, sub_step, luma_of, rebuilt}
+use Rattle.vp_recon.specs.Inter.{luma_moved, chroma_moved, with_moved, inter_rebuilt}
+use Rattle.vp_recon.specs.Equation.{Source, Intra, Inter, rebuilt_from}
 use Rattle.vp_recon.specs.Window.{IsSameFrom, AreSameAbove, AreSameFrom}
 use Rattle.vp_recon.proofs.WholeLemmas.{is_in}
 use Rattle.vp_recon.proofs.LumaLemmas.{whole_is, subs_are}
 use Rattle.vp_recon.proofs.Alike.{luma_alike, chroma_alike}
 use Rattle.vp_recon.proofs.SubAlike.{Ready, readyHigher, readyBeside, readyOwn, sub_alike}
-use Rattle.vp_recon.proofs.EquationLemmas.{two_ways, pixel_outside, luma_outside, wide_subs, high_subs}
+use Rattle.vp_recon.proofs.InterLemmas.{moved_sum}
+use Rattle.vp_recon.proofs.EquationLemmas.{two_ways, pixel_outside, luma_outside, colour_pixel, wide_subs, high_subs}
 
-pub keeps_above : (p : Image) (x y : ℕ) (m : Modes) (t : Tokens) (f : Factors) → AreSameAbove y (rebuilt p x y m t f) p
-keeps_above p x y m t f = record {
-  luma = λ u v uin vin high. luma_outside (record { modes = λ _ _. m; tokens = λ _ _. t; factors = λ _ _. f }) x y p.luma u v uin vin (λ l. absurd (omega arith));
-  u = λ u v uin vin high. pixel_outside p.u (8 * x) (8 * y) 8 (λ r c. summed (chroma_pixel m.chroma p.u (8 * x) (8 * y) r c) (residue_at 2 (λ k. chroma_residue t f (17 + k)) r c)) u v uin vin (λ l. absurd (omega arith));
-  v = λ u v uin vin high. pixel_outside p.v (8 * x) (8 * y) 8 (λ r c. summed (chroma_pixel m.chroma p.v (8 * x) (8 * y) r c) (residue_at 2 (λ k. chroma_residue t f (21 + k)) r c)) u v uin vin (λ l. absurd (omega arith));
+pub keeps_above : (s : Source) (p : Image) (x y : ℕ) (t : Tokens) (f : Factors) → AreSameAbove y (rebuilt_from s p x y t f) p
+keeps_above (Intra m) p x y t f = record {
+  luma = λ u v uin vin high. luma_outside (Intra m) p.luma x y t f u v uin vin (λ l. absurd (omega arith));
+  u = λ u v uin vin high. pixel_outside p.u (8 * x) (8 * y) 8 (colour_pixel (Intra m) (λ i. i.u) p.u x y (λ k. chroma_residue t f (17 + k))) u v uin vin (λ l. absurd (omega arith));
+  v = λ u v uin vin high. pixel_outside p.v (8 * x) (8 * y) 8 (colour_pixel (Intra m) (λ i. i.v) p.v x y (λ k. chroma_residue t f (21 + k))) u v uin vin (λ l. absurd (omega arith));
+}
+keeps_above (Inter e reference version) p x y t f = record {
+  luma = λ u v uin vin high. luma_outside (Inter e reference version) p.luma x y t f u v uin vin (λ l. absurd (omega arith));
+  u = λ u v uin vin high. pixel_outside p.u (8 * x) (8 * y) 8 (colour_pixel (Inter e reference version) (λ i. i.u) p.u x y (λ k. chroma_residue t f (17 + k))) u v uin vin (λ l. absurd (omega arith));
+  v = λ u v uin vin high. pixel_outside p.v (8 * x) (8 * y) 8 (colour_pixel (Inter e reference version) (λ i. i.v) p.v x y (λ k. chroma_residue t f (21 + k))) u v uin vin (λ l. absurd (omega arith));
 }
 
 block_reads : (p q : Raster) (x y n : ℕ) (f g : ℕ → ℕ → ℕ) (a : ℕ) → p.width ≡ q.width → p.height ≡ q.height → IsSameFrom a p q
@@ -117,4 +129,22 @@ reads_from p q x y a b m t f pa qa w h xin yin anear bnear same =
       luma = luma_reads p.luma q.luma x y a anear (pa.0.0 ∙ sym (qa.0.0 ∙ ap (λ (n : ℕ). 16 * n) cw)) (pa.0.1 ∙ sym (qa.0.1 ∙ ap (λ (n : ℕ). 16 * n) ch)) (omega (arith, pa.0.0)) (omega (arith, pa.0.1)) same.luma m t f;
       u = chroma_reads p.u q.u x y m.chroma (λ k. chroma_residue t f (17 + k)) b bnear (pa.1.0 ∙ sym (qa.1.0 ∙ ap (λ (n : ℕ). 8 * n) cw)) (pa.1.1 ∙ sym (qa.1.1 ∙ ap (λ (n : ℕ). 8 * n) ch)) (omega (arith, pa.1.0)) (omega (arith, pa.1.1)) same.u;
       v = chroma_reads p.v q.v x y m.chroma (λ k. chroma_residue t f (21 + k)) b bnear (pa.2.0 ∙ sym (qa.2.0 ∙ ap (λ (n : ℕ). 8 * n) cw)) (pa.2.1 ∙ sym (qa.2.1 ∙ ap (λ (n : ℕ). 8 * n) ch)) (omega (arith, pa.2.0)) (omega (arith, pa.2.1)) same.v;
+    }
+
+-- a moved block depends on nothing of the plane that it is written to
+moved_reads : (p q : Raster) (x y across a version : ℕ) (reference : Raster) (vector : ℕ → PlaneVector) (residue : ℕ → List ℤ) → p.width ≡ q.width → p.height ≡ q.height
+    → IsSameFrom a p q → IsSameFrom a (with_moved version reference p x y across vector residue) (with_moved version reference q x y across vector residue)
+moved_reads p q x y across a version reference vector residue w h same =
+    block_reads p q x y (4 * across) (moved_sum version reference x y across vector residue) (moved_sum version reference x y across vector residue) a w h same (λ r c rin cin. refl)
+
+pub inter_reads : (p q : Image) (x y a b : ℕ) (e : Entry) (t : Tokens) (f : Factors) (reference : Image) (version : ℕ) → IsAligned p → IsAligned q
+    → p.width ≡ q.width → p.height ≡ q.height → AreSameFrom a b p q
+    → AreSameFrom a b (inter_rebuilt p x y e t f reference version) (inter_rebuilt q x y e t f reference version)
+inter_reads p q x y a b e t f reference version pa qa w h same =
+    let cw : macroblocks p.width ≡ macroblocks q.width = ap (λ (n : ℕ). macroblocks n) w in
+    let ch : macroblocks p.height ≡ macroblocks q.height = ap (λ (n : ℕ). macroblocks n) h in
+    record {
+      luma = moved_reads p.luma q.luma (16 * x) (16 * y) 4 a version reference.luma (luma_moved e) (luma_residue (not (is_split e.mode)) t f) (omega (arith, pa.0.0, qa.0.0)) (omega (arith, pa.0.1, qa.0.1)) same.luma;
+      u = moved_reads p.u q.u (8 * x) (8 * y) 2 b version reference.u (chroma_moved version e) (λ k. chroma_residue t f (17 + k)) (omega (arith, pa.1.0, qa.1.0)) (omega (arith, pa.1.1, qa.1.1)) same.u;
+      v = moved_reads p.v q.v (8 * x) (8 * y) 2 b version reference.v (chroma_moved version e) (λ k. chroma_residue t f (21 + k)) (omega (arith, pa.2.0, qa.2.0)) (omega (arith, pa.2.1, qa.2.1)) same.v;
     }

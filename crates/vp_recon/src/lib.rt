@@ -13,7 +13,7 @@ mod tests;
 
 pub use inter::rebuild_inter_macroblock;
 pub use law::{
-    rebuilding_keeps_rows_above, rebuilding_reads_one_row_above,
+    inter_rebuilding_reads_no_row, rebuilding_keeps_rows_above, rebuilding_reads_one_row_above,
     unfiltered_equation_has_one_solution, unfiltered_picture_solves_its_equation,
 };
 pub use macroblock::rebuild_macroblock;

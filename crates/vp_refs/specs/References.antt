@@ -1,4 +1,4 @@
--- The pictures that later ones refer to (RFC 6386, chapters 5 and 9.7).
+-- The pictures that later ones refer to (RFC 6386, chapters 5, 9.7 and 9.8).
 use Rattle.std.specs.Prelude.{◌||◌, if◌then◌else◌}
 use Rattle.vp_base.specs.Image.{Image}
 use Rattle.vp_head.specs.declared.fields.Header.{Header}

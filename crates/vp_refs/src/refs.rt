@@ -10,7 +10,7 @@ use std::rc::Rc;
 use vp_base::Picture;
 use vp_head::{Header, Reference, ReferenceCopy};
 
-/// The last, the golden and the altref picture (RFC 6386, chapters 5 and 9.7), and the picture that was handed
+/// The last, the golden and the altref picture (RFC 6386, chapters 5, 9.7 and 9.8), and the picture that was handed
 /// in last, which needn't be one of them. Pictures are shared and never copied.
 #[derive(Drop)]
 pub struct Refs {

@@ -13,7 +13,7 @@ pub enum LumaMode {
     B,
 }
 
-/// How both chroma planes of an intra macroblock are predicted (chapter 8.2, 11.2).
+/// How both chroma planes of an intra macroblock are predicted (chapters 8.2, 11.4).
 #[derive(Clone, Copy, Debug, PartialEq, Eq)]
 pub enum ChromaMode {
     Dc,
@@ -22,7 +22,7 @@ pub enum ChromaMode {
     Tm,
 }
 
-/// How a luma subblock of 4 by 4 pixels is predicted (chapter 11.2), in the order in which ties are broken.
+/// How a luma subblock of 4 by 4 pixels is predicted (chapter 11.2), in the order of the rows of `KEY_SUB_PROBABILITIES`.
 #[derive(Clone, Copy, Debug, PartialEq, Eq)]
 pub enum SubMode {
     Dc,

@@ -62,3 +62,31 @@ fn skipped_has_no_tokens(rt: HostRuntime) -> Result<(), Fail> {
     assert!(rt; !tokens.any());
     Ok(())
 }
+
+// The token partition of the first row of macroblocks, three, of a stream of another program's; a third program read what
+// is expected. The stream changes probabilities, but none that this row is read with.
+#[test]
+fn row_of_a_stream(rt: HostRuntime) -> Result<(), Fail> {
+    let probabilities = coefficient_probabilities();
+    let mut contexts = Contexts::new(rt.alloc(), 3)?;
+    let mut d = BoolDecoder::new(&[183, 180, 245, 129, 148, 100, 0, 0, 108, 1, 80, 0]);
+    let first = read_macroblock(probabilities, false, false, &mut contexts, &mut d);
+    assert_eq!(rt; first.blocks[1], Block::NONE);
+    assert_eq!(rt; first.blocks[2].levels[0], -1);
+    assert_eq!(rt; first.blocks[2].tokens, 1);
+    assert_eq!(rt; first.blocks[3].levels[2], 1);
+    assert_eq!(rt; &first.blocks[7].levels[..4], [2, 0, -1, 0].as_slice());
+    assert_eq!(rt; first.blocks[7].tokens, 3);
+    let second = read_macroblock(probabilities, false, false, &mut contexts, &mut d);
+    assert_eq!(rt; second.blocks[9], Block::NONE);
+    assert_eq!(rt;
+        &second.blocks[10].levels[..6],
+        [0, 0, 0, 0, 1, 0].as_slice()
+    );
+    assert_eq!(rt; second.blocks[10].tokens, 16);
+    let third = read_macroblock(probabilities, true, false, &mut contexts, &mut d);
+    assert_eq!(rt; third.blocks[0], Block::NONE);
+    assert_eq!(rt; third.blocks[14].levels[10], 1);
+    assert_eq!(rt; third.blocks[14].tokens, 11);
+    Ok(())
+}

@@ -1,12 +1,9 @@
-use Rattle.std.proofs.Common.{◌≡◌, ◌∙◌, ℕ, ◌+◌, ◌*◌, ◌<◌, ◌≤◌, List, ◌++◌, length, take, refl, sym, ap, arith, length-set}
+use Rattle.std.proofs.Common.{◌≡◌, ◌∙◌, ℕ, ◌+◌, ◌*◌, ◌<◌, ◌≤◌, ◌++◌, length, take, refl, sym, ap, arith, length-set}
 use Rattle.std.proofs.Math.Nat.{mul-le-mul_right}
 use Rattle.std.specs.Prelude.{option_map}
 use Rattle.vp_base.specs.Over.{over}
-use Rattle.vp_base.specs.Image.{Image}
-use Rattle.vp_tokens.specs.Blocks.{Blocks, StandsFor}
-use Rattle.vp_loop.specs.declared.strength.Level.{Level}
 use Rattle.vp_decode.specs.Frame.{Reading, reading, row_tokens, rebuilt_at, level_at, listed}
-use Rattle.vp_decode.proofs.FrameLemmas.{Stands, stands_none, stands_next, stands_same, reading_count}
+use Rattle.vp_decode.proofs.FrameLemmas.{stands_none, stands_next, stands_same, reading_count}
 use Rattle.vp_decode.proofs.frame.rebuild_row.Goals as goal
 
 pub loop-column-init : goal.loop-column-init

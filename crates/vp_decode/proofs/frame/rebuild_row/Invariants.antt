@@ -1,4 +1,4 @@
-use Rattle.std.proofs.Common.{◌≡◌, ◌*◌, ℕ, List, length}
+use Rattle.std.proofs.Common.{◌≡◌, ◌*◌, List, length}
 use Rattle.std.specs.Prelude.{option_map}
 use Rattle.vp_tokens.specs.Blocks.{Blocks, StandsFor}
 use Rattle.vp_decode.proofs.FrameLemmas.{Stands}

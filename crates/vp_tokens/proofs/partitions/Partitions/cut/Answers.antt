@@ -1,8 +1,9 @@
 use Rattle.std.proofs.Common.{◌≡◌, ◌∙◌, ap, sym, arith, ℕ, List, ◌++◌, ◌∷◌, [], length}
 use Rattle.vp_tokens.specs.declared.partitions.Span.{Span}
 use borrow.Author.Count.{below_more}
-use Rattle.vp_tokens.specs.Partitions.{Fits, pieces}
-use Rattle.vp_tokens.proofs.PartitionLemmas.{spans_of, start-none, end-inner, spans-none, spans-more, inside-push, pieces-of}
+use Rattle.std.specs.Prelude.{Ok}
+use Rattle.vp_tokens.specs.Partitions.{pieces, partitions}
+use Rattle.vp_tokens.proofs.PartitionLemmas.{spans_of, Fits, cut_all, cut_short, cut_past, length-partitions, start-none, end-inner, spans-none, spans-more, inside-push, pieces-of}
 use Rattle.vp_tokens.proofs.partitions.Partitions.cut.Goals as goal
 
 pub loop-i-init : goal.loop-i-init
@@ -15,8 +16,11 @@ loop-i-init c = record {
   fits = λ k b. absurd (omega arith);
 }
 
-pub returns-then-to-bytes : goal.returns-then-to-bytes
-returns-then-to-bytes c = (omega arith, omega arith, omega arith, c.loop-i.invariant.fits)
+pub returns-then-bytes-n-clause-value : goal.returns-then-bytes-n-clause-value
+returns-then-bytes-n-clause-value c = cut_short c.args.bytes.now c.args.n (omega arith)
+
+pub returns-then-to-bytes-clause-value : goal.returns-then-to-bytes-clause-value
+returns-then-to-bytes-clause-value c = cut_past c.args.bytes.now c.args.n c.loop-i.i (omega arith) (omega arith) (omega arith) c.loop-i.invariant.fits
 
 pub loop-i-preserved : goal.loop-i-preserved
 loop-i-preserved c =
@@ -30,11 +34,16 @@ loop-i-preserved c =
       fits = below_more (λ (k : ℕ). Fits c.args.bytes.now c.args.n k) c.loop-i.i c.loop-i.invariant.fits (omega arith);
     }
 
-pub returns : goal.returns
-returns c =
+same_parts : (b : List ℕ) (n i : ℕ) (spans : List Span) → spans ≡ spans_of b n i → i ≡ n → pieces b spans ≡ partitions b n n
+same_parts b n i spans places e = ap (λ (l : List Span). pieces b l) (places ∙ ap (λ (k : ℕ). spans_of b n k) e) ∙ pieces-of b n n
+
+pub returns-clause-value : goal.returns-clause-value
+returns-clause-value c =
     let e : c.loop-i.i ≡ c.args.n = omega arith in
-    record {
-      table = omega arith;
-      fits = λ k b. c.loop-i.invariant.fits k (omega arith);
-      parts_are = ap (λ (l : List Span). pieces c.args.bytes.now l) (c.loop-i.invariant.places ∙ ap (λ (k : ℕ). spans_of c.args.bytes.now c.args.n k) e) ∙ pieces-of c.args.bytes.now c.args.n c.args.n;
-    }
+    ap (λ (l : List (List ℕ)). Ok l) (same_parts c.args.bytes.now c.args.n c.loop-i.i _ c.loop-i.invariant.places e)
+    ∙ cut_all c.args.bytes.now c.args.n (omega arith) (λ k b. c.loop-i.invariant.fits k (omega arith))
+
+pub returns-clause-count : goal.returns-clause-count
+returns-clause-count c =
+    let e : c.loop-i.i ≡ c.args.n = omega arith in
+    ap length (same_parts c.args.bytes.now c.args.n c.loop-i.i _ c.loop-i.invariant.places e) ∙ length-partitions c.args.bytes.now c.args.n c.args.n

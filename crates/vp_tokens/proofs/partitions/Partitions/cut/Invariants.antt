@@ -1,6 +1,6 @@
 use Rattle.std.proofs.Common.{◌≡◌, ℕ, ◌<◌, ◌≤◌, length}
-use Rattle.vp_tokens.specs.Partitions.{start, Fits, AllInside}
-use Rattle.vp_tokens.proofs.PartitionLemmas.{spans_of}
+use Rattle.vp_tokens.specs.Partitions.{start, AllInside}
+use Rattle.vp_tokens.proofs.PartitionLemmas.{spans_of, Fits}
 use Rattle.vp_tokens.proofs.partitions.Partitions.cut.Given as goal
 
 abbrev pub invariant-loop-i : goal.invariant-loop-i

@@ -1,0 +1,83 @@
+-- A writer, and the history that it stands for.
+use Rattle.std.specs.Prelude.{ℕ, zero, suc, Bool, true, false, ◌≡◌, ◌≤◌, ◌-◌, List, [], ◌∷◌, ◌++◌, length, Option, Some, None, Result, Ok, Err}
+use Rattle.std.specs.Io.KnownBytes.{Appends}
+use Rattle.vp_base.specs.Counted.{counted_contents, counted_failures, AppendsFront, HasFailed}
+use Rattle.vp_ivf.specs.declared.packet.Packet.{Packet}
+use Rattle.vp_ivf.specs.declared.packet.IvfHead.{IvfHead}
+use Rattle.vp_ivf.specs.declared.writer.Writer.{Writer}
+use Rattle.vp_ivf.specs.declared.writer.WriteFault.{WriteFault}
+use Rattle.vp_ivf.specs.declared.writer.WriteFault.TheVariants.{Device, Count}
+use Rattle.vp_ivf.specs.Text.{file_text}
+
+-- which reference to its device the writer holds
+abbrev pub device_name : {W : Type 0} → Writer W → ℕ
+device_name writer = writer.out.ghost_name
+
+-- what stands there, where that is known
+abbrev pub device_contents : {W : Type 0} → (W → Option (List ℕ)) → Writer W → Option (List ℕ)
+device_contents contents writer = counted_contents contents writer.out.now
+
+-- how many of its calls failed
+abbrev pub device_failures : {W : Type 0} → Writer W → ℕ
+device_failures writer = counted_failures writer.out.now
+
+-- how many packets may still come
+abbrev pub packets_left : {W : Type 0} → Writer W → ℕ
+packets_left writer = writer.left
+
+-- whether the device failed
+abbrev pub has_failed : {W : Type 0} → Writer W → Bool
+has_failed writer = writer.failed
+
+-- what a packet is refused with before anything is written: a device that failed, then a count that is reached
+abbrev pub refusal_at : Bool → ℕ → Option WriteFault
+refusal_at true left = Some Device
+refusal_at false zero = Some Count
+refusal_at false (suc left) = None
+
+abbrev pub packet_refusal : {W : Type 0} → Writer W → Option WriteFault
+packet_refusal writer = refusal_at writer.failed writer.left
+
+-- what telling the end answers: a device that failed, then packets that didn't come
+abbrev pub finish_at : Bool → ℕ → Result (Unit {0}) WriteFault
+finish_at true left = Err Device
+finish_at false zero = Ok tt
+finish_at false (suc left) = Err Count
+
+-- how a file was written: what stood on the device and how many of its calls had failed before, what the head
+-- says, the packets that were handed to the device, in order, and whether it failed, which was with the last of them
+pub record Written : Type 0 where
+  pub before : Option (List ℕ)
+  pub failures : ℕ
+  pub head : IvfHead
+  pub count : ℕ
+  pub packets : List Packet
+  pub failed : Bool
+
+abbrev pub begun : Option (List ℕ) → ℕ → IvfHead → ℕ → Bool → Written
+begun before failures head count failed = record { before = before; failures = failures; head = head; count = count; packets = []; failed = failed }
+
+-- one more packet was handed to the device, which failed or not
+abbrev pub with_packet : Written → Packet → Bool → Written
+with_packet h packet failed = record h { packets = h.packets ++ packet ∷ []; failed = failed }
+
+abbrev pub text_of : Written → List ℕ
+text_of h = file_text h.head h.count h.packets
+
+-- the text stands behind what stood there before; where the device failed, a front of it
+abbrev pub IsWrittenAt : Bool → Option (List ℕ) → Option (List ℕ) → List ℕ → Type 0
+IsWrittenAt false before now text = Appends before now text
+IsWrittenAt true before now text = AppendsFront before now text
+
+-- no call failed; where the device failed, the count of failures rose or stands at its greatest
+abbrev pub IsCountedAt : Bool → ℕ → ℕ → Type 0
+IsCountedAt false before now = now ≡ before
+IsCountedAt true before now = HasFailed before now
+
+-- the writer is what this history makes of it
+pub record StandsFor {W : Type 0} (contents : W → Option (List ℕ)) (writer : Writer W) (h : Written) : Type 0 where
+  pub fits : length h.packets ≤ h.count
+  pub left : packets_left writer ≡ h.count - length h.packets
+  pub failed : has_failed writer ≡ h.failed
+  pub bytes : IsWrittenAt h.failed h.before (device_contents contents writer) (text_of h)
+  pub failures : IsCountedAt h.failed h.failures (device_failures writer)

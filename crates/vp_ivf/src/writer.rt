@@ -1,0 +1,166 @@
+//! A file that is written packet by packet.
+
+ghost use Rattle.std.specs.Prelude.{◌≡◌, ◌≢◌, ◌<◌, ◌^◌, ◌+◌, ◌-◌, true, false, length, None, Some, Ok, Err, OnOk, OnErr, is_ok, not};
+ghost use Rattle.std.specs.Io.KnownBytes.{Appends};
+ghost use Rattle.vp_base.specs.Counted.{counted_contents, counted_failures, AppendsFront, HasFailed};
+ghost use Rattle.vp_ivf.specs.Text.{head_text, packet_head_text, packet_text};
+ghost use Rattle.vp_ivf.specs.Writer.{Written, StandsFor, begun, with_packet, device_name, device_contents, device_failures, packets_left, has_failed, packet_refusal, refusal_at, finish_at};
+
+use byteorder::{ByteOrder, LittleEndian};
+use std::io::Write;
+use vp_base::{Counted, Device, Dim, put_all};
+
+/// Why a packet wasn't written, or why the file isn't whole.
+#[derive(Clone, Copy, Debug, PartialEq, Eq)]
+pub enum WriteFault {
+    /// A write failed, in this call or an earlier one.
+    Device,
+    /// The head says fewer packets, or more than were written.
+    Count,
+}
+
+/// A file that is written packet by packet. No call takes memory, and none flushes what it writes to.
+///
+/// Once the device failed each call answers `Device`, and nothing is written any more: a front of the file's
+/// bytes stands there.
+#[derive(Drop)]
+pub struct Writer<'a, W: Write> {
+    out: &'a mut Counted<W>,
+    left: u32,
+    failed: bool,
+}
+
+impl<'a, W: Write> Writer<'a, W> {
+    /// Writes the head of a file of `count` packets, whose times count `scale / rate` seconds. Where the device fails,
+    /// the calls of this writer say so.
+    pub fn begin(
+        out: &'a mut Counted<W>,
+        dim: Dim,
+        rate: u32,
+        scale: u32,
+        count: u32,
+    ) -> Writer<'a, W>
+        ensures same_reference { device_name result ≡ out.entry.ghost_name }
+        ensures left { packets_left result ≡ count }
+
+        // The head is written, or a front of it where the device failed.
+        ensures ok { has_failed result ≡ false →
+            Appends (counted_contents W.contents out.entry.now) (device_contents W.contents result)
+            (head_text dim.w dim.h rate scale count) }
+        ensures ok_count { has_failed result ≡ false → device_failures result ≡ counted_failures out.entry.now }
+        ensures prefix { AppendsFront (counted_contents W.contents out.entry.now) (device_contents W.contents result)
+            (head_text dim.w dim.h rate scale count) }
+        ensures device { has_failed result ≡ true → HasFailed (counted_failures out.entry.now) (device_failures result) }
+        ensures stands { StandsFor W.contents result
+            (begun (counted_contents W.contents out.entry.now) (counted_failures out.entry.now)
+            (record { w = dim.w; h = dim.h; rate = rate; scale = scale }) count (has_failed result)) }
+    {
+        let failed = put_all(out, &head_bytes(dim, rate, scale, count)).is_err();
+        Writer {
+            out,
+            left: count,
+            failed,
+        }
+    }
+
+    /// Writes the next packet.
+    pub fn packet(&mut self, time: u64, bytes: &[u8]) -> Result<(), WriteFault>
+        requires size { length bytes.now < 2 ^ 32 }
+        ensures same_reference { device_name self.new ≡ device_name self.old }
+
+        // What earlier calls refuse changes nothing: a device that failed, then a count that is reached.
+        ensures refused { (fault : WriteFault) → packet_refusal self.old ≡ Some fault →
+            (result ≡ Err fault) × (self.new ≡ self.old) }
+
+        // Else the packet is written, or a front of it where the device fails.
+        ensures taken { packet_refusal self.old ≡ None → result ≢ Err WriteFault.Count }
+        ensures failed { packet_refusal self.old ≡ None → has_failed self.new ≡ not (is_ok result) }
+        ensures left { packet_refusal self.old ≡ None → packets_left self.new + 1 ≡ packets_left self.old }
+        ensures ok { packet_refusal self.old ≡ None → result ≡ Ok tt →
+            Appends (device_contents W.contents self.old) (device_contents W.contents self.new) (packet_text time bytes.now) }
+        ensures ok_count { packet_refusal self.old ≡ None → result ≡ Ok tt →
+            device_failures self.new ≡ device_failures self.old }
+        ensures prefix { packet_refusal self.old ≡ None →
+            AppendsFront (device_contents W.contents self.old) (device_contents W.contents self.new) (packet_text time bytes.now) }
+        ensures device { packet_refusal self.old ≡ None → result ≡ Err WriteFault.Device →
+            HasFailed (device_failures self.old) (device_failures self.new) }
+
+        // The same of whole runs.
+        ensures refusal { (h : Written) → StandsFor W.contents self.old h →
+            packet_refusal self.old ≡ refusal_at h.failed (h.count - length h.packets) }
+        ensures stands { packet_refusal self.old ≡ None → (h : Written) → StandsFor W.contents self.old h →
+            StandsFor W.contents self.new (with_packet h (record { time = time; bytes = bytes.now }) (not (is_ok result))) }
+    {
+        if self.failed {
+            return Err(WriteFault::Device);
+        }
+        if self.left == 0 {
+            return Err(WriteFault::Count);
+        }
+        self.left -= 1;
+        match put_packet(self.out, time, bytes) {
+            Ok(()) => Ok(()),
+            Err(Device) => {
+                self.failed = true;
+                Err(WriteFault::Device)
+            }
+        }
+    }
+
+    /// Tells the file's end. It writes nothing, and after `Count` packets may still come.
+    pub fn finish(&self) -> Result<(), WriteFault>
+        ensures answer { result ≡ finish_at (has_failed self.now) (packets_left self.now) }
+        ensures whole { (h : Written) → StandsFor W.contents self.now h →
+            result ≡ finish_at h.failed (h.count - length h.packets) }
+    {
+        if self.failed {
+            return Err(WriteFault::Device);
+        }
+        if self.left > 0 {
+            return Err(WriteFault::Count);
+        }
+        Ok(())
+    }
+}
+
+#[tactic(auto, unfolding(crate::specs::Text::head_text))]
+fn head_bytes(dim: Dim, rate: u32, scale: u32, count: u32) -> [u8; 32]
+    ensures { result ≡ head_text dim.w dim.h rate scale count }
+{
+    let mut head = [0u8; 32];
+    head[..4].copy_from_slice(b"DKIF");
+    LittleEndian::write_u16(&mut head[6..], 32);
+    head[8..12].copy_from_slice(b"VP80");
+    LittleEndian::write_u16(&mut head[12..], dim.w);
+    LittleEndian::write_u16(&mut head[14..], dim.h);
+    LittleEndian::write_u32(&mut head[16..], rate);
+    LittleEndian::write_u32(&mut head[20..], scale);
+    LittleEndian::write_u32(&mut head[24..], count);
+    head
+}
+
+#[tactic(auto, unfolding(crate::specs::Text::packet_head_text))]
+fn packet_head_bytes(size: u32, time: u64) -> [u8; 12]
+    ensures { result ≡ packet_head_text size time }
+{
+    let mut head = [0u8; 12];
+    LittleEndian::write_u32(&mut head, size);
+    LittleEndian::write_u64(&mut head[4..], time);
+    head
+}
+
+// A packet's head and its bytes.
+fn put_packet<W: Write>(out: &mut Counted<W>, time: u64, bytes: &[u8]) -> Result<(), Device>
+    requires size { length bytes.now < 2 ^ 32 }
+    ensures ok { OnOk result (Appends (counted_contents W.contents out.old) (counted_contents W.contents out.new)
+        (packet_text time bytes.now)) }
+    ensures ok_count { OnOk result (counted_failures out.new ≡ counted_failures out.old) }
+    ensures prefix { AppendsFront (counted_contents W.contents out.old) (counted_contents W.contents out.new)
+        (packet_text time bytes.now) }
+    ensures device { OnErr result (HasFailed (counted_failures out.old) (counted_failures out.new)) }
+{
+    let Ok(()) = put_all(out, &packet_head_bytes(bytes.len() as u32, time)) else {
+        return Err(Device);
+    };
+    put_all(out, bytes)
+}

@@ -1,0 +1,257 @@
+-- A file's packets are decoded, one after another, and their text is written.
+use Rattle.std.proofs.Common.{◌≡◌, ℕ, ◌+◌, ◌-◌, ◌≤◌, ◌<◌, ◌^◌, Bool, true, false, not, List, [], ◌∷◌, ◌++◌, length, Option, Some, None, refl, sym, ap, subst, ◌∙◌, append_assoc, arith}
+use Rattle.std.specs.Option.{option_to_list}
+use Rattle.std.specs.Io.KnownBytes.{Appends}
+use Rattle.std.proofs.lemmas.List.{append-nil, length-append}
+use Rattle.std.proofs.lemmas.List.Elements.{filter_map-append}
+use Rattle.vp_base.specs.declared.limits.Limits.{Limits}
+use Rattle.vp_base.specs.Image.{Image}
+use Rattle.vp_base.specs.Counted.{AppendsFront}
+use Rattle.vp_base.proofs.Writes.{appends_none, appends_both, front_first, front_second}
+use Rattle.vp_ivf.specs.declared.packet.Packet.{Packet}
+use Rattle.vp_ivf.specs.declared.packet.IvfHead.{IvfHead}
+use Rattle.vp_ivf.specs.declared.fault.FileFault.{FileFault}
+use Rattle.vp_ivf.specs.Ivf.{Reading}
+use Rattle.vp_ivf.proofs.Growing.{keeps_head}
+use Rattle.vp_decode.specs.declared.decoder.Outcome.{Outcome}
+use Rattle.vp_decode.specs.declared.decoder.Outcome.TheVariants as code
+use Rattle.vp_decode.specs.Step.{Answer, picture_in, outcome}
+use Rattle.vp_stream.specs.declared.form.Form.{Form}
+use Rattle.vp_stream.specs.declared.form.Form.TheVariants.{I420, Y4m}
+use Rattle.vp_stream.specs.declared.report.Report.{Report}
+use Rattle.vp_stream.specs.declared.fault.DecodeFault.TheVariants.{File}
+use Rattle.vp_stream.specs.declared.fault.SurveyFault.{SurveyFault}
+use Rattle.vp_stream.specs.declared.fault.SurveyFault.TheVariants as reading
+use Rattle.vp_stream.specs.declared.fault.Interruption.{Interruption}
+use Rattle.vp_stream.specs.declared.fault.Interruption.TheVariants as interrupted
+use Rattle.vp_stream.specs.Answers.{answers_from, answers_of, reading_of}
+use Rattle.vp_stream.specs.Texts.{shown_in, text, text_of, pictures_of, changes_size}
+use Rattle.vp_stream.specs.Reports.{report_of}
+use Rattle.vp_stream.specs.Incoming.{Incoming, IsReading, IsFront, IsStoppedBy, Ends, start, ending}
+use Rattle.vp_stream.specs.Progress.{Sizing, Progress, with_outcome, fresh, after_packet, after_packets, answers_to, answer_to, picture_to, with_shown, fits_shown, shown_text, fault_by, read_fault_by}
+use Rattle.vp_stream.specs.Written.{WritesText, WritesFront, WritesAll, IsReported, IsEndedBy}
+use Rattle.vp_stream.proofs.CountLemmas.{count-read}
+use Rattle.vp_stream.proofs.IncomingLemmas.{at_start, headless}
+use Rattle.vp_stream.proofs.ReportLemmas.{after_packets-append, answers_to-append, packets_counted, report_of_packets}
+use Rattle.vp_stream.proofs.TextLemmas.{sized, size_more, change_more, text_more, change_stays, text_stays, text_front, unfit, shown_more}
+
+-- the pictures of packets that are shown
+abbrev pub shown_of : Limits → List Packet → List Image
+shown_of limits packets = shown_in (answers_from limits None packets)
+
+-- these bytes were read, these packets of them were decoded, there is a place for each of their pictures, and their text was written
+pub record IsAt (limits : Limits) (form : Form) (file : Incoming) (run : Progress) (before now : Option (List ℕ)) (fed : List ℕ) (given : List Packet) : Type 0 where
+  pub reading : IsReading limits file fed given
+  pub progress : run ≡ after_packets (fresh limits form) given
+  pub sizing : run.sizing ≡ sized form (shown_of limits given)
+  pub sizes : changes_size form (shown_of limits given) ≡ false
+  pub writes : Appends before now (text form (reading_of limits fed).head (shown_of limits given))
+
+-- ---- the pictures of more packets
+
+front_shown : (limits : Limits) (form : Form) (given later : List Packet)
+    → shown_of limits (given ++ later) ≡ shown_of limits given ++ shown_in (answers_to (after_packets (fresh limits form) given) later)
+front_shown limits form given later =
+    ap shown_in (answers_to-append (fresh limits form) given later)
+    ∙ filter_map-append picture_in (answers_from limits None given) (answers_to (after_packets (fresh limits form) given) later)
+
+next_shown : (limits : Limits) (form : Form) (given : List Packet) (packet : Packet)
+    → shown_of limits (given ++ packet ∷ []) ≡ shown_of limits given ++ option_to_list (picture_to (after_packets (fresh limits form) given) packet.bytes)
+next_shown limits form given packet =
+    ap shown_in (answers_to-append (fresh limits form) given (packet ∷ []))
+    ∙ shown_more (answers_from limits None given) (answer_to (after_packets (fresh limits form) given) packet.bytes)
+
+-- ---- the text so far in a file that goes on
+
+no_text : (form : Form) (h k : Option IvfHead) → text form h [] ≡ text form k []
+no_text I420 h k = refl
+no_text Y4m h k = refl
+
+text_by : (limits : Limits) (form : Form) (h k : Option IvfHead) (given : List Packet) → (h ≡ None → given ≡ []) → ((x : IvfHead) → h ≡ Some x → k ≡ Some x)
+    → text form k (shown_of limits given) ≡ text form h (shown_of limits given)
+text_by limits form None k given none some =
+    let e = none refl in
+    ap (λ (ps : List Packet). text form k (shown_of limits ps)) e
+    ∙ (no_text form k None ∙ sym (ap (λ (ps : List Packet). text form None (shown_of limits ps)) e))
+text_by limits form (Some x) k given none some = ap (λ (h : Option IvfHead). text form h (shown_of limits given)) (some x refl)
+
+nil_front : (given ps : List Packet) → given ++ ps ≡ [] → given ≡ []
+nil_front [] ps e = refl
+nil_front (p ∷ given) ps e = cc
+
+-- the head that stood when the text was written stands
+same_text : (limits : Limits) (form : Form) (s : Incoming) (fed more : List ℕ) (given : List Packet) → IsReading limits s fed given
+    → text form (reading_of limits (fed ++ more)).head (shown_of limits given) ≡ text form (reading_of limits fed).head (shown_of limits given)
+same_text limits form s fed more given h =
+    text_by limits form (reading_of limits fed).head (reading_of limits (fed ++ more)).head given
+    (λ none. nil_front given s.file.reading.packets (ap (λ (r : Reading). r.packets) (sym h.reading) ∙ headless limits fed none))
+    (λ x e. keeps_head limits.packet_bytes limits.packets fed more x e)
+
+-- the text of the first packets is a front of the file's
+text_of_front : (limits : Limits) (form : Form) (file : List ℕ) (given : List Packet) → IsFront limits file given
+    → (back : List ℕ) × (text_of limits form file ≡ text form (reading_of limits file).head (shown_of limits given) ++ back)
+text_of_front limits form file given f =
+    let head = (reading_of limits file).head in
+    let others = shown_in (answers_to (after_packets (fresh limits form) given) f.0) in
+    let more = text_front form head (shown_of limits given) others in
+    (more.0, ap (λ (ps : List Packet). text form head (shown_of limits ps)) f.1 ∙ (ap (text form head) (front_shown limits form given f.0) ∙ more.1))
+
+first_sizing : (form : Form) → let s : Sizing = record { form = form; size = None } in s ≡ sized form []
+first_sizing I420 = refl
+first_sizing Y4m = refl
+
+first_sizes : (form : Form) → changes_size form [] ≡ false
+first_sizes I420 = refl
+first_sizes Y4m = refl
+
+first_text : (form : Form) (k : Option IvfHead) → text form k [] ≡ []
+first_text I420 k = refl
+first_text Y4m k = refl
+
+pub at_first : (limits : Limits) (form : Form) (now : Option (List ℕ)) → IsAt limits form (start limits) (fresh limits form) now now [] []
+at_first limits form now =
+    let P : List ℕ → Type 0 = λ xs. Appends now now xs in
+    record { reading = at_start limits; progress = refl; sizing = first_sizing form; sizes = first_sizes form; writes = subst P (sym (first_text form (reading_of limits []).head)) (appends_none now) }
+
+nothing_in : (xs ys : List ℕ) → xs ++ ys ≡ [] → xs ≡ []
+nothing_in [] ys e = refl
+nothing_in (x ∷ xs) ys e = cc
+
+-- a front of nothing is nothing
+front_of_none : (a b : Option (List ℕ)) (xs : List ℕ) → xs ≡ [] → AppendsFront a b xs → Appends a b []
+front_of_none a b xs e w =
+    let P : List ℕ → Type 0 = λ ys. Appends a b ys in
+    subst P (nothing_in w.0 w.1 (sym w.2 ∙ e)) w.3
+
+module _ (limits : Limits) (form : Form) (source : Incoming) (run : Progress) (before now : Option (List ℕ)) (fed more : List ℕ) (given : List Packet)
+    (h : IsAt limits form source run before now fed given) where
+  so_far : Appends before now (text form (reading_of limits (fed ++ more)).head (shown_of limits given))
+  so_far = let P : List ℕ → Type 0 = λ xs. Appends before now xs in
+      subst P (sym (same_text limits form source fed more given h.reading)) h.writes
+
+  stopped : IsFront limits (fed ++ more) given → WritesFront limits form (fed ++ more) before now
+  stopped f =
+      let whole = text_of_front limits form (fed ++ more) given f in
+      (text form (reading_of limits (fed ++ more)).head (shown_of limits given), whole.0, whole.1, so_far)
+
+  -- a read fails, or the reads run out, or memory is refused
+  pub failed : (f : SurveyFault) → IsStoppedBy f (fed ++ more) × IsFront limits (fed ++ more) given → IsEndedBy limits form (read_fault_by f) (fed ++ more) before now
+  failed reading.Device p = stopped p.1
+  failed reading.ReadTurns p = (p.0, stopped p.1)
+  failed reading.Memory p = stopped p.1
+
+  all_written : (fault : Option FileFault) (s : Incoming) (left : Option (List ℕ)) → Ends limits s left (fed ++ more) given fault → WritesAll limits form (fed ++ more) before now
+  all_written fault s left e =
+      let P : List Packet → Type 0 = λ ps. Appends before now (text form (reading_of limits (fed ++ more)).head (shown_of limits ps)) in
+      (ap (λ (ps : List Packet). changes_size form (shown_of limits ps)) e.packets ∙ h.sizes, subst P (sym e.packets) so_far)
+
+  pub reported : (s : Incoming) (left : Option (List ℕ)) → Ends limits s left (fed ++ more) given None → IsReported limits form run.report (fed ++ more) before now
+  reported s left e = record {
+    ends = e.answer;
+    counts = ap (λ (r : Progress). r.report) h.progress ∙ (report_of_packets limits form given
+        ∙ ap (λ (ps : List Packet). report_of (answers_from limits None ps)) (sym e.packets));
+    writes = all_written None s left e;
+  }
+
+  pub faulty : (fault : FileFault) (s : Incoming) (left : Option (List ℕ)) → Ends limits s left (fed ++ more) given (Some fault)
+      → IsEndedBy limits form (File fault) (fed ++ more) before now
+  faulty fault s left e = (e.answer, all_written (Some fault) s left e)
+
+  module _ (packet : Packet) (head : IvfHead) (later : Incoming)
+      (r : IsReading limits later (fed ++ more) (given ++ packet ∷ []) × ((reading_of limits (fed ++ more)).head ≡ Some head)) where
+    -- the packet can be counted
+    pub room : run.report.packets < limits.packets
+    room =
+        let counted : run.report.packets ≡ length given = ap (λ (p : Progress). p.report.packets) h.progress ∙ packets_counted limits form given in
+        let all = ap (λ (x : Reading). length x.packets) r.0.reading ∙ length-append (given ++ packet ∷ []) later.file.reading.packets in
+        let one = length-append given (packet ∷ []) in
+        let most = count-read limits.packet_bytes limits.packets (fed ++ more) in
+        omega arith
+
+    -- with its picture
+    with_next : shown_of limits (given ++ packet ∷ []) ≡ shown_of limits given ++ option_to_list (picture_to run packet.bytes)
+    with_next = next_shown limits form given packet
+        ∙ ap (λ (p : Progress). shown_of limits given ++ option_to_list (picture_to p packet.bytes)) (sym h.progress)
+
+    text_next : text form (reading_of limits (fed ++ more)).head (shown_of limits (given ++ packet ∷ []))
+        ≡ text form (reading_of limits (fed ++ more)).head (shown_of limits given) ++ shown_text run.sizing head (picture_to run packet.bytes)
+    text_next =
+        ap (text form (reading_of limits (fed ++ more)).head) with_next
+        ∙ (ap (λ (k : Option IvfHead). text form k (shown_of limits given ++ option_to_list (picture_to run packet.bytes))) r.1
+        ∙ (text_more form head (shown_of limits given) (picture_to run packet.bytes) h.sizes
+        ∙ (ap (λ (k : Option IvfHead). text form k (shown_of limits given) ++ shown_text (sized form (shown_of limits given)) head (picture_to run packet.bytes)) (sym r.1)
+        ∙ ap (λ (s : Sizing). text form (reading_of limits (fed ++ more)).head (shown_of limits given) ++ shown_text s head (picture_to run packet.bytes)) (sym h.sizing))))
+
+    abbrev is_front : IsFront limits (fed ++ more) (given ++ packet ∷ [])
+    is_front = (later.file.reading.packets, ap (λ (x : Reading). x.packets) r.0.reading)
+
+    cut_front : (written : Option (List ℕ)) → AppendsFront now written (shown_text run.sizing head (picture_to run packet.bytes)) → WritesFront limits form (fed ++ more) before written
+    cut_front written w =
+        let so = text form (reading_of limits (fed ++ more)).head (shown_of limits given) in
+        let one = shown_text run.sizing head (picture_to run packet.bytes) in
+        let whole = text_of_front limits form (fed ++ more) (given ++ packet ∷ []) is_front in
+        let P : List ℕ → Type 0 = λ xs. AppendsFront before written xs in
+        subst P (sym (whole.1 ∙ ap (λ xs. xs ++ whole.0) text_next))
+        (front_first before written (so ++ one) whole.0 (front_second before now written so one so_far w))
+
+    changed : (written : Option (List ℕ)) → fits_shown run.sizing (picture_to run packet.bytes) ≡ false
+        → AppendsFront now written (shown_text run.sizing head (picture_to run packet.bytes))
+        → (changes_size form (pictures_of limits (fed ++ more)) ≡ true) × WritesText limits form (fed ++ more) before written
+    changed written no_room w =
+        let k = (reading_of limits (fed ++ more)).head in
+        let so = text form k (shown_of limits given) in
+        let one = shown_text run.sizing head (picture_to run packet.bytes) in
+        let others = shown_in (answers_to (after_packets (fresh limits form) (given ++ packet ∷ [])) later.file.reading.packets) in
+        let all : pictures_of limits (fed ++ more) ≡ shown_of limits (given ++ packet ∷ []) ++ others =
+        ap (shown_of limits) is_front.1 ∙ front_shown limits form (given ++ packet ∷ []) later.file.reading.packets in
+        let now_changed : changes_size form (shown_of limits (given ++ packet ∷ [])) ≡ true =
+        ap (changes_size form) with_next ∙ change_more form (shown_of limits given) (picture_to run packet.bytes) false h.sizes
+        (ap (λ (s : Sizing). fits_shown s (picture_to run packet.bytes)) (sym h.sizing) ∙ no_room) in
+        let nothing : one ≡ [] = unfit run.sizing head (picture_to run packet.bytes) no_room in
+        let same : text_of limits form (fed ++ more) ≡ so ++ [] =
+        ap (text form k) all ∙ (text_stays form k (shown_of limits (given ++ packet ∷ [])) others now_changed ∙ (text_next ∙ ap (λ xs. so ++ xs) nothing)) in
+        let P : List ℕ → Type 0 = λ xs. Appends before written xs in (
+          ap (changes_size form) all ∙ change_stays form (shown_of limits (given ++ packet ∷ [])) others now_changed,
+          subst P (sym same) (appends_both before now written so [] so_far (front_of_none now written one nothing w)),
+        )
+
+    -- decoding or writing stops
+    pub cut : (i : Interruption) (written : Option (List ℕ))
+        → (i ≡ interrupted.SizeChange → fits_shown run.sizing (picture_to run packet.bytes) ≡ false)
+        → AppendsFront now written (shown_text run.sizing head (picture_to run packet.bytes))
+        → IsEndedBy limits form (fault_by i) (fed ++ more) before written
+    cut interrupted.SizeChange written change w = changed written (change refl) w
+    cut interrupted.Device written change w = cut_front written w
+    cut interrupted.Memory written change w = cut_front written w
+
+    -- the packet is decoded, and its text is written
+    pub goes_on : (after : Progress) (written : Option (List ℕ)) → after ≡ after_packet run packet.bytes
+        → fits_shown run.sizing (picture_to run packet.bytes) ≡ true
+        → Appends now written (shown_text run.sizing head (picture_to run packet.bytes))
+        → IsAt limits form later after before written (fed ++ more) (given ++ packet ∷ [])
+    goes_on after written is fit w =
+        let so = text form (reading_of limits (fed ++ more)).head (shown_of limits given) in
+        let one = shown_text run.sizing head (picture_to run packet.bytes) in
+        let P : List ℕ → Type 0 = λ xs. Appends before written xs in
+        record {
+          reading = r.0;
+          progress = is ∙ (ap (λ (p : Progress). after_packet p packet.bytes) h.progress ∙ sym (after_packets-append (fresh limits form) given (packet ∷ [])));
+          sizing = ap (λ (p : Progress). p.sizing) is
+              ∙ (ap (λ (s : Sizing). with_shown s (picture_to run packet.bytes)) h.sizing
+              ∙ (size_more form (shown_of limits given) (picture_to run packet.bytes) ∙ ap (sized form) (sym with_next)));
+          sizes = ap (changes_size form) with_next ∙ change_more form (shown_of limits given) (picture_to run packet.bytes) true h.sizes
+              (ap (λ (s : Sizing). fits_shown s (picture_to run packet.bytes)) (sym h.sizing) ∙ fit);
+          writes = subst P (sym text_next) (appends_both before now written so one so_far w);
+        }
+
+one_more : (r : Report) (o : Outcome) → (with_outcome r o).packets ≡ r.packets + 1
+one_more r code.Shown = refl
+one_more r code.Hidden = refl
+one_more r (code.Fault f) = refl
+
+-- each packet is counted, so fewer may come
+pub fewer_left : (limit : ℕ) (run after : Progress) (packet : List ℕ) → after ≡ after_packet run packet → run.report.packets < limit
+    → limit - after.report.packets < limit - run.report.packets
+fewer_left limit run after packet is room =
+    let one : after.report.packets ≡ run.report.packets + 1 = ap (λ (p : Progress). p.report.packets) is ∙ one_more run.report (outcome (answer_to run packet)) in
+    omega arith

@@ -1,0 +1,11 @@
+pub mod KeyLemmas
+pub mod AnswerLemmas
+pub mod SizeLemmas
+pub mod KeptLemmas
+pub mod CountLemmas
+pub mod IncomingLemmas
+pub mod ReportLemmas
+pub mod TextLemmas
+pub mod PictureLemmas
+pub mod DecodingLemmas
+pub mod SurveyLemmas

@@ -1,0 +1,226 @@
+-- The sizes of shown pictures: frames keep the size of the key frame before them.
+use Rattle.std.proofs.Common.{◌≡◌, ℕ, zero, suc, ◌+◌, ◌-◌, ◌<◌, ◌≤◌, Bool, true, false, cond, List, [], ◌∷◌, drop, Option, Some, None, refl, sym, ap, ◌∙◌, arith}
+use Rattle.std.specs.Prelude.{slice_get, Result, Ok, Err, IfOk, IsNone, IsSome, is_some, nat_lt, length, option_map}
+use Rattle.std.proofs.lemmas.Option.{same_Some, none-some}
+use Rattle.vp_bool.specs.Bools.{State, start}
+use Rattle.vp_base.specs.declared.limits.Limits.{Limits}
+use Rattle.vp_base.specs.Image.{Image, blank_image}
+use Rattle.vp_base.specs.Over.{over}
+use Rattle.vp_head.specs.declared.fields.Tag.{Tag}
+use Rattle.vp_head.specs.declared.fields.KeyTag.{KeyTag}
+use Rattle.vp_head.specs.declared.fields.Saved.{Saved}
+use Rattle.vp_head.specs.declared.fields.Header.{Header}
+use Rattle.vp_head.specs.declared.fault.PacketFault.{PacketFault}
+use Rattle.vp_head.specs.declared.fault.PacketFault.TheVariants.{FirstPartition}
+use Rattle.vp_head.specs.Saved.{defaults}
+use Rattle.vp_head.specs.Header.{header}
+use Rattle.vp_head.specs.Tag.{IsKeyPacket, tag_of}
+use Rattle.vp_ivf.specs.declared.packet.Packet.{Packet}
+use Rattle.vp_modes.specs.declared.entry.Modes.{Modes}
+use Rattle.vp_motion.specs.declared.vector.Entry.{Entry}
+use Rattle.vp_tokens.specs.declared.contexts.Tokens.{Tokens}
+use Rattle.vp_quant.specs.declared.factors.Factors.{Factors}
+use Rattle.vp_recon.specs.Rebuilt.{rebuilt}
+use Rattle.vp_refs.specs.References.{References}
+use Rattle.vp_loop.specs.declared.strength.Level.{Level}
+use Rattle.vp_loop.specs.Filtered.{filtered, row_filtered}
+use Rattle.vp_modes.specs.Modes.{is_intra}
+use Rattle.vp_decode.specs.declared.maps.Maps.{Maps}
+use Rattle.vp_decode.specs.Frame.{Basis, inter_at, rebuilt_by, unfiltered, picture_of}
+use Rattle.vp_tokens.specs.Partitions.{cut_of}
+use Rattle.vp_decode.specs.Step.{Opened, Kept, Answer, Shown, Hidden, Fault, step, step_on, frame_step, kept_step, answer, opened, opened_tag, opened_saved, opened_parts, first_part, tag_length, count_of}
+use Rattle.vp_stream.specs.Answers.{answers_from}
+use Rattle.vp_stream.specs.Seeking.{told_or_none, answer_at, HasKey, IsKeyAt, IsKeyBefore, key_before, size_in, size_in_key, size_in_packet, size_at}
+use Rattle.vp_stream.specs.Seeking as told_is
+use Rattle.vp_stream.proofs.KeyLemmas.{is_key_before}
+use Rattle.vp_stream.proofs.AnswerLemmas.{Resets, SaysInter, drop_there, keyless, from_key}
+
+-- ---- a frame's picture has the size that it is decoded at
+
+abbrev pub size_of : Image → ℕ × ℕ
+size_of p = (p.width, p.height)
+
+over-keeps : {A B : Type 0} (F : A → B) (n : ℕ) (f : ℕ → A → A) (a : A) → ((i : ℕ) (x : A) → F (f i x) ≡ F x) → F (over n f a) ≡ F a
+unfolding over
+over-keeps F zero f a h = refl
+over-keeps F (suc n) f a h = h n (over n f a) ∙ over-keeps F n f a h
+
+row-size : (levels : List Level) (row : ℕ) (p : Image) → size_of (row_filtered levels row p) ≡ size_of p
+unfolding row_filtered
+row-size levels row p = over-keeps size_of _ _ p (λ i x. refl)
+
+filtered-size : (levels : List Level) (p : Image) → size_of (filtered levels p) ≡ size_of p
+unfolding filtered
+filtered-size levels p = over-keeps size_of _ _ p (λ row x. row-size _ row x)
+
+intra_or_inter : (b : Bool) (refs : Option References) (modes : Modes) (motion : Entry) (tokens : Tokens) (factors : Factors) (version row column : ℕ) (p : Image)
+    → size_of (cond b (rebuilt p column row modes tokens factors) (inter_at refs modes motion tokens factors version row column p)) ≡ size_of p
+intra_or_inter true refs modes motion tokens factors version row column p = refl
+intra_or_inter false None modes motion tokens factors version row column p = refl
+intra_or_inter false (Some r) modes motion tokens factors version row column p = refl
+
+rebuilt-size : (refs : Option References) (modes : Modes) (motion : Entry) (tokens : Tokens) (factors : Factors) (version row column : ℕ) (p : Image)
+    → size_of (rebuilt_by refs modes motion tokens factors version row column p) ≡ size_of p
+unfolding rebuilt_by
+rebuilt-size refs modes motion tokens factors version row column p = intra_or_inter (is_intra modes.reference) refs modes motion tokens factors version row column p
+
+unfiltered-size : (b : Basis) (m : Maps) (tokens : ℕ → ℕ → Tokens) (p : Image) → size_of (unfiltered b m tokens p) ≡ size_of p
+unfolding unfiltered
+unfiltered-size b m tokens p = over-keeps size_of _ _ p (λ row x. over-keeps size_of _ _ x (λ column y. rebuilt-size _ _ _ _ _ _ row column y))
+
+picture-size : (b : Basis) (m : Maps) (partitions : List State) (width height : ℕ) → size_of (picture_of b m partitions width height) ≡ (width, height)
+unfolding picture_of
+picture-size b m partitions width height = filtered-size _ _ ∙ unfiltered-size b m _ (blank_image width height 0)
+
+-- ---- a packet's step keeps the size, or takes that of its tag
+
+abbrev HasSize : Option Kept → Option (ℕ × ℕ) → Type 0
+HasSize None z = Unit {0}
+HasSize (Some k) z = z ≡ Some (size_of k.refs.newest)
+
+record IsSized (r : Option Kept × Answer) (z : Option (ℕ × ℕ)) : Type 0 where
+  kept : HasSize r.0 z
+  shown : (p : Image) → r.1 ≡ Shown p → z ≡ Some (size_of p)
+
+faulty : (f : PacketFault) (z : Option (ℕ × ℕ)) → IsSized (None, Fault f) z
+faulty f z = record { kept = tt; shown = λ p e. absurd cc }
+
+shown_is : (show : Bool) (p q : Image) → answer show p ≡ Shown q → p ≡ q
+shown_is true p q e = cc
+shown_is false p q e = absurd cc
+
+kept_sized : (o : Opened) (k : Kept) (z : Option (ℕ × ℕ)) → z ≡ Some (size_of k.refs.newest) → IsSized (kept_step o k) z
+kept_sized o k z e = record {
+  kept = e;
+  shown = λ p is_shown. e ∙ ap (λ (q : Image). Some (size_of q)) (shown_is o.tag.show k.refs.newest p is_shown);
+}
+
+-- the size after a frame whose tag has this key part
+abbrev Follows : Option KeyTag → Option Kept → Option (ℕ × ℕ) → Type 0
+Follows (Some key) s z = z ≡ Some (key.dim.w, key.dim.h)
+Follows None s z = HasSize s z
+
+frame_sized : (o : Opened) (key : Option KeyTag) (s : Option Kept) (z : Option (ℕ × ℕ)) → Follows key s z → IsSized (frame_step o key s) z
+frame_sized o (Some key) s z h = kept_sized o _ z (h ∙ ap (λ (x : ℕ × ℕ). Some x) (sym (picture-size _ _ _ key.dim.w key.dim.h)))
+frame_sized o None None z h = faulty _ z
+frame_sized o None (Some k) z h = kept_sized o _ z (h ∙ ap (λ (x : ℕ × ℕ). Some x) (sym (picture-size _ _ _ k.refs.newest.width k.refs.newest.height)))
+
+parts_sized : (tag : Tag) (read : (Header × Saved) × State) (parts : Result (List (List ℕ)) PacketFault) (s : Option Kept) (z : Option (ℕ × ℕ))
+    → Follows tag.key s z → IsSized (step_on (opened_parts tag read parts) s) z
+parts_sized tag read (Err f) s z h = faulty f z
+parts_sized tag read (Ok parts) s z h = frame_sized (record { tag = tag; header = read.0.0; saved = read.0.1; first = read.1; partitions = parts }) tag.key s z h
+
+short_sized : (b : Bool) (f : PacketFault) (r : Result Opened PacketFault) (s : Option Kept) (z : Option (ℕ × ℕ))
+    → IsSized (step_on r s) z → IsSized (step_on (cond b (Err f) r) s) z
+short_sized true f r s z h = faulty f z
+short_sized false f r s z h = h
+
+saved_sized : (tag : Tag) (saved : Option Saved) (s : Option Kept) (z : Option (ℕ × ℕ)) (packet : List ℕ)
+    → Follows tag.key s z → IsSized (step_on (opened_saved tag saved packet) s) z
+saved_sized tag None s z packet h = faulty _ z
+saved_sized tag (Some saved) s z packet h =
+    let read : (Header × Saved) × State = header saved tag (start (first_part tag packet)) in
+    let parts : Result (List (List ℕ)) PacketFault = cut_of (drop (tag_length tag + tag.first_partition) packet) (count_of read.0.0.log2_partitions) in
+    short_sized (nat_lt (length packet) (tag_length tag + tag.first_partition)) FirstPartition (opened_parts tag read parts) s z (parts_sized tag read parts s z h)
+
+abbrev FollowsIn : Result Tag PacketFault → Option Kept → Option (ℕ × ℕ) → Type 0
+FollowsIn (Err f) s z = Unit {0}
+FollowsIn (Ok tag) s z = Follows tag.key s z
+
+tag_sized : (r : Result Tag PacketFault) (saved : Option Saved) (s : Option Kept) (z : Option (ℕ × ℕ)) (packet : List ℕ)
+    → FollowsIn r s z → IsSized (step_on (opened_tag r saved packet) s) z
+tag_sized (Err f) saved s z packet h = faulty f z
+tag_sized (Ok tag) saved s z packet h = saved_sized tag (cond (is_some tag.key) (Some defaults) saved) s z packet h
+
+step_sized : (limits : Limits) (s : Option Kept) (packet : List ℕ) (z : Option (ℕ × ℕ)) → FollowsIn (tag_of limits packet) s z → IsSized (step limits s packet) z
+unfolding step opened
+step_sized limits s packet z h = tag_sized (tag_of limits packet) (option_map (λ k. k.saved) s) s z packet h
+
+-- ---- key packets, and others
+
+keeps_it : (key : Option KeyTag) (s : Option Kept) (z : Option (ℕ × ℕ)) → IsNone key → HasSize s z → Follows key s z
+keeps_it None s z none h = h
+keeps_it (Some key) s z none h = absurd cc
+
+keeps : (r : Result Tag PacketFault) (s : Option Kept) (z : Option (ℕ × ℕ)) → IfOk r (λ tag. IsNone tag.key) → HasSize s z → FollowsIn r s z
+keeps (Err f) s z none h = tt
+keeps (Ok tag) s z none h = keeps_it tag.key s z none h
+
+abbrev pub SaysKey : Limits → Type 0
+SaysKey limits = (packet : List ℕ) → IsKeyPacket packet → IfOk (tag_of limits packet) (λ tag. IsSome tag.key)
+
+takes_it : (key : Option KeyTag) (s : Option Kept) → IsSome key → Follows key s (size_in_key key)
+takes_it None s some = absurd cc
+takes_it (Some key) s some = refl
+
+takes : (r : Result Tag PacketFault) (s : Option Kept) → IfOk r (λ tag. IsSome tag.key) → FollowsIn r s (size_in r)
+takes (Err f) s some = tt
+takes (Ok tag) s some = takes_it tag.key s some
+
+-- ---- packets that are no key packets, from a state on
+
+sized_from : (limits : Limits) (s : Option Kept) (ps : List Packet) (j : ℕ) (z : Option (ℕ × ℕ)) → SaysInter limits → HasSize s z
+    → ((i : ℕ) → i ≤ j → ¬ IsKeyAt ps i)
+    → (p : Image) → slice_get (answers_from limits s ps) j ≡ Some (Shown p) → z ≡ Some (size_of p)
+sized_from limits s [] j z says h other p e = absurd (none-some (Shown p) e)
+sized_from limits s (q ∷ ps) zero z says h other p e =
+    (step_sized limits s q.bytes z (keeps (tag_of limits q.bytes) s z (keyless limits q.bytes says (other 0 (omega arith))) h)).shown p (same_Some _ _ e)
+sized_from limits s (q ∷ ps) (suc j) z says h other p e =
+    let r = step_sized limits s q.bytes z (keeps (tag_of limits q.bytes) s z (keyless limits q.bytes says (other 0 (omega arith))) h) in
+    sized_from limits (step limits s q.bytes).0 ps j z says r.kept (λ i l. other (suc i) (omega arith)) p e
+
+-- the same behind a key packet
+sized_key : (limits : Limits) (q : Packet) (ps : List Packet) (j : ℕ) → SaysKey limits → SaysInter limits → IsKeyPacket q.bytes
+    → ((i : ℕ) → 0 < i → i ≤ j → ¬ IsKeyAt (q ∷ ps) i)
+    → (p : Image) → slice_get (answers_from limits None (q ∷ ps)) j ≡ Some (Shown p) → size_in (tag_of limits q.bytes) ≡ Some (size_of p)
+sized_key limits q ps zero key says is_key other p e =
+    (step_sized limits None q.bytes (size_in (tag_of limits q.bytes)) (takes (tag_of limits q.bytes) None (key q.bytes is_key))).shown p (same_Some _ _ e)
+sized_key limits q ps (suc j) key says is_key other p e =
+    let z = size_in (tag_of limits q.bytes) in
+    let r = step_sized limits None q.bytes z (takes (tag_of limits q.bytes) None (key q.bytes is_key)) in
+    sized_from limits (step limits None q.bytes).0 ps j z says r.kept (λ i l. other (suc i) (omega arith) (omega arith)) p e
+
+-- ---- what an answer tells
+
+told_size : (o : Option Answer) (z : Option (ℕ × ℕ)) (w h : ℕ) (bytes : List ℕ) → ((p : Image) → o ≡ Some (Shown p) → z ≡ Some (size_of p))
+    → told_or_none o ≡ told_is.Shown w h bytes → z ≡ Some (w, h)
+told_size None z w h bytes f e = absurd cc
+told_size (Some Hidden) z w h bytes f e = absurd cc
+told_size (Some (Fault fault)) z w h bytes f e = absurd cc
+told_size (Some (Shown p)) z w h bytes f e =
+    let width : p.width ≡ w = cc in
+    let height : p.height ≡ h = cc in
+    f p refl ∙ λ i. Some (width i, height i)
+
+get_past : (ps : List Packet) (k i : ℕ) → slice_get (drop k ps) i ≡ slice_get ps (k + i)
+get_past ps zero i = let e : i ≡ 0 + i = omega arith in ap (λ n. slice_get ps n) e
+get_past [] (suc k) i = refl
+get_past (p ∷ ps) (suc k) i =
+    let e : suc (k + i) ≡ suc k + i = omega arith in
+    get_past ps k i ∙ ap (λ n. slice_get (p ∷ ps) n) e
+
+with_key : (limits : Limits) (ps : List Packet) (n k : ℕ) (o : Option Packet) (w h : ℕ) (bytes : List ℕ) → Resets limits → SaysKey limits → SaysInter limits
+    → slice_get ps k ≡ o → HasKey o → k ≤ n → ((j : ℕ) → k < j → j ≤ n → ¬ IsKeyAt ps j)
+    → answer_at limits ps n ≡ told_is.Shown w h bytes → size_in_packet limits o ≡ Some (w, h)
+with_key limits ps n k None w h bytes reset key says there has le other e = absurd has
+with_key limits ps n k (Some q) w h bytes reset key says there has le other e =
+    let d = drop_there ps k q there in
+    let none : (i : ℕ) → 0 < i → i ≤ n - k → ¬ IsKeyAt (q ∷ drop (suc k) ps) i =
+    λ i a l has_key.
+    let same : slice_get (q ∷ drop (suc k) ps) i ≡ slice_get ps (k + i) = ap (λ (qs : List Packet). slice_get qs i) (sym d) ∙ get_past ps k i in
+    other (k + i) (omega arith) (omega arith) (rw (← same) has_key) in
+    let here : told_or_none (slice_get (answers_from limits None (q ∷ drop (suc k) ps)) (n - k)) ≡ told_is.Shown w h bytes =
+    ap (λ (qs : List Packet). answer_at limits qs (n - k)) (sym d) ∙ (sym (from_key limits ps n k q reset there has le) ∙ e) in
+    told_size (slice_get (answers_from limits None (q ∷ drop (suc k) ps)) (n - k)) (size_in (tag_of limits q.bytes)) w h bytes
+    (sized_key limits q (drop (suc k) ps) (n - k) key says has none) here
+
+by_key : (limits : Limits) (ps : List Packet) (n : ℕ) (o : Option ℕ) (w h : ℕ) (bytes : List ℕ) → Resets limits → SaysKey limits → SaysInter limits
+    → IsKeyBefore ps n o → answer_at limits ps n ≡ told_is.Shown w h bytes → size_at limits ps o ≡ Some (w, h)
+by_key limits ps n None w h bytes reset key says before e =
+    told_size (slice_get (answers_from limits None ps) n) None w h bytes (sized_from limits None ps n None says tt before) e
+by_key limits ps n (Some k) w h bytes reset key says before e =
+    with_key limits ps n k (slice_get ps k) w h bytes reset key says refl before.1 before.0 before.2 e
+
+pub size_of_key : (limits : Limits) (ps : List Packet) (n w h : ℕ) (bytes : List ℕ) → Resets limits → SaysKey limits → SaysInter limits
+    → answer_at limits ps n ≡ told_is.Shown w h bytes → size_at limits ps (key_before ps n) ≡ Some (w, h)
+size_of_key limits ps n w h bytes reset key says e = by_key limits ps n (key_before ps n) w h bytes reset key says (is_key_before ps n) e

@@ -1,0 +1,94 @@
+use Rattle.std.proofs.Common.{◌≡◌, ◌∙◌, ◌++◌, ◌∷◌, [], ℕ, List, None, Some, Ok, Err, refl, sym, ap, subst, arith}
+use Rattle.std.specs.Prelude.{Result}
+use Rattle.std.proofs.lemmas.Result.{err_from_is_err_and}
+use Rattle.std.proofs.KnownBytes.{Consumes-trans}
+use Rattle.vp_base.specs.Counted.{counted_remaining, counted_contents}
+use Rattle.vp_stream.specs.declared.packet_reader.Next.{Next}
+use Rattle.vp_stream.specs.declared.packet_reader.Next.TheVariants as next
+use Rattle.vp_stream.specs.declared.report.Report.{Report}
+use Rattle.vp_stream.specs.Incoming.{Gives}
+use Rattle.vp_stream.specs.Written.{IsReported}
+use Rattle.vp_stream.proofs.DecodingLemmas.{at_first, failed, reported, faulty, room, cut, goes_on, fewer_left}
+use Rattle.vp_stream.proofs.decoding.decode_all.Goals as goal
+
+pub returns-in_err-head-clause-decoded : goal.returns-in_err-head-clause-decoded
+returns-in_err-head-clause-decoded g c =
+    let inv = c.packets.invariant in
+    let now = c.in_err-head.ensures.given c.args.limits inv.0 inv.1 inv.3.reading in
+    let p = err_from_is_err_and c.from_residual.result c.from_residual.ensures.1 in
+    rw (p.1, p.2) (
+      inv.0 ++ now.0,
+      Consumes-trans (counted_remaining g.R.Read.remaining c.args.reader.now) (counted_remaining g.R.Read.remaining c.packets.reader) (counted_remaining g.R.Read.remaining c.next.new.reader) inv.0 now.0 inv.2 now.1,
+      failed c.args.limits c.args.form c.packets.file c.packets.run (counted_contents g.W.Write.contents c.args.writer.now) (counted_contents g.W.Write.contents c.packets.writer) inv.0 now.0 inv.1 inv.3 c.in_err-head.field-0.0 now.2,
+    )
+
+pub packet-requires : goal.packet-requires
+packet-requires g c =
+    let inv = c.packets.invariant in
+    let now = c.in_ok-head.ensures.given c.args.limits inv.0 inv.1 inv.3.reading in
+    let r = subst (λ (n : Next). Gives c.args.limits (Ok n) c.next.new.self (counted_remaining g.R.Read.remaining c.next.new.reader) (inv.0 ++ now.0) inv.1) c.in-Packet.is now.2 in
+    let some = room c.args.limits c.args.form c.packets.file c.packets.run (counted_contents g.W.Write.contents c.args.writer.now) (counted_contents g.W.Write.contents c.packets.writer) inv.0 now.0 inv.1 inv.3 c.in-Packet.packet c.in-Packet.head c.next.new.self r in
+    let range = c.args.limits.packets_in_range in
+    omega arith
+
+pub returns-in_err-packet-in-Packet-clause-decoded : goal.returns-in_err-packet-in-Packet-clause-decoded
+returns-in_err-packet-in-Packet-clause-decoded g c =
+    let inv = c.packets.invariant in
+    let now = c.in_ok-head.ensures.given c.args.limits inv.0 inv.1 inv.3.reading in
+    let r = subst (λ (n : Next). Gives c.args.limits (Ok n) c.next.new.self (counted_remaining g.R.Read.remaining c.next.new.reader) (inv.0 ++ now.0) inv.1) c.in-Packet.is now.2 in
+    let change = rw c.as_slice.ensures at c.in_err-packet-in-Packet.ensures.change in
+    let prefix = rw c.as_slice.ensures at c.in_err-packet-in-Packet.ensures.prefix in
+    let p = err_from_is_err_and c.from_residual-in_err-packet-in-Packet.result c.from_residual-in_err-packet-in-Packet.ensures.1 in
+    rw (p.1, p.2) (
+      inv.0 ++ now.0,
+      Consumes-trans (counted_remaining g.R.Read.remaining c.args.reader.now) (counted_remaining g.R.Read.remaining c.packets.reader) (counted_remaining g.R.Read.remaining c.next.new.reader) inv.0 now.0 inv.2 now.1,
+      cut c.args.limits c.args.form c.packets.file c.packets.run (counted_contents g.W.Write.contents c.args.writer.now) (counted_contents g.W.Write.contents c.packets.writer) inv.0 now.0 inv.1 inv.3
+          c.in-Packet.packet c.in-Packet.head c.next.new.self r c.in_err-packet-in-Packet.field-0.0 (counted_contents g.W.Write.contents c.packet.new.writer)
+          (λ e. change (ap Err e)) prefix,
+    )
+
+pub packets-smaller : goal.packets-smaller
+packets-smaller g c =
+    let inv = c.packets.invariant in
+    let now = c.in_ok-head.ensures.given c.args.limits inv.0 inv.1 inv.3.reading in
+    let r = subst (λ (n : Next). Gives c.args.limits (Ok n) c.next.new.self (counted_remaining g.R.Read.remaining c.next.new.reader) (inv.0 ++ now.0) inv.1) c.in-Packet.is now.2 in
+    fewer_left c.args.limits.packets c.packets.run c.packet.new.self c.as_slice.result.now c.in_ok-packet-in-Packet.ensures.ok
+    (room c.args.limits c.args.form c.packets.file c.packets.run (counted_contents g.W.Write.contents c.args.writer.now) (counted_contents g.W.Write.contents c.packets.writer) inv.0 now.0 inv.1 inv.3 c.in-Packet.packet c.in-Packet.head c.next.new.self r)
+
+pub packets-preserved : goal.packets-preserved
+packets-preserved g c =
+    let inv = c.packets.invariant in
+    let now = c.in_ok-head.ensures.given c.args.limits inv.0 inv.1 inv.3.reading in
+    let r = subst (λ (n : Next). Gives c.args.limits (Ok n) c.next.new.self (counted_remaining g.R.Read.remaining c.next.new.reader) (inv.0 ++ now.0) inv.1) c.in-Packet.is now.2 in
+    let after = rw c.as_slice.ensures at c.in_ok-packet-in-Packet.ensures.ok in
+    let fits = rw c.as_slice.ensures at c.in_ok-packet-in-Packet.ensures.fits in
+    let written = rw c.as_slice.ensures at c.in_ok-packet-in-Packet.ensures.written in (
+      inv.0 ++ now.0,
+      inv.1 ++ c.in-Packet.packet ∷ [],
+      Consumes-trans (counted_remaining g.R.Read.remaining c.args.reader.now) (counted_remaining g.R.Read.remaining c.packets.reader) (counted_remaining g.R.Read.remaining c.next.new.reader) inv.0 now.0 inv.2 now.1,
+      goes_on c.args.limits c.args.form c.packets.file c.packets.run (counted_contents g.W.Write.contents c.args.writer.now) (counted_contents g.W.Write.contents c.packets.writer) inv.0 now.0 inv.1 inv.3
+          c.in-Packet.packet c.in-Packet.head c.next.new.self r c.packet.new.self (counted_contents g.W.Write.contents c.packet.new.writer) after fits written,
+      c.in_ok-head.ensures.quiet (λ e. cc) ∙ inv.4,
+      c.in_ok-packet-in-Packet.ensures.quiet (λ e. cc) ∙ inv.5,
+    )
+
+pub returns-in-End-None-clause-decoded : goal.returns-in-End-None-clause-decoded
+returns-in-End-None-clause-decoded g c =
+    let inv = c.packets.invariant in
+    let now = c.in_ok-head.ensures.given c.args.limits inv.0 inv.1 inv.3.reading in
+    let ends = subst (λ (n : Next). Gives c.args.limits (Ok n) c.next.new.self (counted_remaining g.R.Read.remaining c.next.new.reader) (inv.0 ++ now.0) inv.1) (c.in-End-None.is ∙ ap next.End c.in-End-None.field-0-is) now.2 in
+    let P : Report → Type 0 = λ r. IsReported c.args.limits c.args.form r (inv.0 ++ now.0) (counted_contents g.W.Write.contents c.args.writer.now) (counted_contents g.W.Write.contents c.packets.writer) in (
+      inv.0 ++ now.0,
+      Consumes-trans (counted_remaining g.R.Read.remaining c.args.reader.now) (counted_remaining g.R.Read.remaining c.packets.reader) (counted_remaining g.R.Read.remaining c.next.new.reader) inv.0 now.0 inv.2 now.1,
+      subst P (sym c.into_report.ensures) (reported c.args.limits c.args.form c.packets.file c.packets.run (counted_contents g.W.Write.contents c.args.writer.now) (counted_contents g.W.Write.contents c.packets.writer) inv.0 now.0 inv.1 inv.3 c.next.new.self (counted_remaining g.R.Read.remaining c.next.new.reader) ends),
+    )
+
+pub returns-in-End-Some-clause-decoded : goal.returns-in-End-Some-clause-decoded
+returns-in-End-Some-clause-decoded g c =
+    let inv = c.packets.invariant in
+    let now = c.in_ok-head.ensures.given c.args.limits inv.0 inv.1 inv.3.reading in
+    let ends = subst (λ (n : Next). Gives c.args.limits (Ok n) c.next.new.self (counted_remaining g.R.Read.remaining c.next.new.reader) (inv.0 ++ now.0) inv.1) (c.in-End-Some.is ∙ ap next.End c.in-End-Some.field-0-is) now.2 in (
+      inv.0 ++ now.0,
+      Consumes-trans (counted_remaining g.R.Read.remaining c.args.reader.now) (counted_remaining g.R.Read.remaining c.packets.reader) (counted_remaining g.R.Read.remaining c.next.new.reader) inv.0 now.0 inv.2 now.1,
+      faulty c.args.limits c.args.form c.packets.file c.packets.run (counted_contents g.W.Write.contents c.args.writer.now) (counted_contents g.W.Write.contents c.packets.writer) inv.0 now.0 inv.1 inv.3 c.in-End-Some.fault c.next.new.self (counted_remaining g.R.Read.remaining c.next.new.reader) ends,
+    )

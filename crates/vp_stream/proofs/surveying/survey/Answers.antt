@@ -1,0 +1,76 @@
+use Rattle.std.proofs.Common.{◌≡◌, ◌∙◌, ◌++◌, ◌∷◌, [], ℕ, List, Ok, refl, sym, ap, subst, length}
+use Rattle.std.proofs.lemmas.Result.{err_from_is_err_and}
+use Rattle.std.proofs.KnownBytes.{Consumes-trans}
+use Rattle.vp_base.specs.Counted.{counted_remaining}
+use Rattle.vp_decode.specs.declared.decoder.Outcome.{Outcome}
+use Rattle.vp_stream.specs.declared.packet_reader.Next.{Next}
+use Rattle.vp_stream.specs.Incoming.{Gives}
+use Rattle.vp_stream.proofs.SurveyLemmas.{surveyed, room, told_on, fewer_told}
+use Rattle.vp_stream.proofs.surveying.survey.Goals as goal
+
+pub returns-in_err-packet-clause-surveyed : goal.returns-in_err-packet-clause-surveyed
+returns-in_err-packet-clause-surveyed g c =
+    let inv = c.packets.invariant in
+    let now = c.in_err-packet.ensures.given c.args.limits inv.0 inv.1 inv.3.reading in
+    let p = err_from_is_err_and c.from_residual.result c.from_residual.ensures.1 in
+    rw (p.1, p.2) (
+      inv.0 ++ now.0,
+      Consumes-trans (counted_remaining g.R.Read.remaining c.args.reader.now) (counted_remaining g.R.Read.remaining c.packets.reader) (counted_remaining g.R.Read.remaining c.next.new.reader) inv.0 now.0 inv.2 now.1,
+      now.2.0,
+    )
+
+pub returns-in_err-outcome-in-Packet-clause-surveyed : goal.returns-in_err-outcome-in-Packet-clause-surveyed
+returns-in_err-outcome-in-Packet-clause-surveyed g c =
+    let inv = c.packets.invariant in
+    let now = c.in_ok-packet.ensures.given c.args.limits inv.0 inv.1 inv.3.reading in
+    let p = err_from_is_err_and c.from_residual-in_err-outcome-in-Packet.result c.from_residual-in_err-outcome-in-Packet.ensures.1 in
+    rw (p.1, p.2) (
+      inv.0 ++ now.0,
+      Consumes-trans (counted_remaining g.R.Read.remaining c.args.reader.now) (counted_remaining g.R.Read.remaining c.packets.reader) (counted_remaining g.R.Read.remaining c.next.new.reader) inv.0 now.0 inv.2 now.1,
+      tt,
+    )
+
+pub returns-in_err-push-in-Packet-clause-surveyed : goal.returns-in_err-push-in-Packet-clause-surveyed
+returns-in_err-push-in-Packet-clause-surveyed g c =
+    let inv = c.packets.invariant in
+    let now = c.in_ok-packet.ensures.given c.args.limits inv.0 inv.1 inv.3.reading in
+    let p = err_from_is_err_and c.from_residual-in_err-push-in-Packet.result c.from_residual-in_err-push-in-Packet.ensures.1 in
+    rw (p.1, p.2) (
+      inv.0 ++ now.0,
+      Consumes-trans (counted_remaining g.R.Read.remaining c.args.reader.now) (counted_remaining g.R.Read.remaining c.packets.reader) (counted_remaining g.R.Read.remaining c.next.new.reader) inv.0 now.0 inv.2 now.1,
+      tt,
+    )
+
+pub packets-smaller : goal.packets-smaller
+packets-smaller g c =
+    let inv = c.packets.invariant in
+    let now = c.in_ok-packet.ensures.given c.args.limits inv.0 inv.1 inv.3.reading in
+    let r = subst (λ (n : Next). Gives c.args.limits (Ok n) c.next.new.self (counted_remaining g.R.Read.remaining c.next.new.reader) (inv.0 ++ now.0) inv.1) c.in-Packet.is now.2 in
+    fewer_told c.args.limits.packets c.packets.packets c.push.new.self (c.len.result, c.in_ok-outcome-in-Packet.outcome) c.in_ok-push-in-Packet.ensures.ok
+    (room c.args.limits c.packets.file c.packets.decoder c.packets.packets inv.0 now.0 inv.1 inv.3 c.in-Packet.packet c.next.new.self r.0)
+
+pub packets-preserved : goal.packets-preserved
+packets-preserved g c =
+    let inv = c.packets.invariant in
+    let now = c.in_ok-packet.ensures.given c.args.limits inv.0 inv.1 inv.3.reading in
+    let r = subst (λ (n : Next). Gives c.args.limits (Ok n) c.next.new.self (counted_remaining g.R.Read.remaining c.next.new.reader) (inv.0 ++ now.0) inv.1) c.in-Packet.is now.2 in
+    let after = rw c.as_slice.ensures at c.in_ok-outcome-in-Packet.ensures.after in
+    let outcome = rw c.as_slice.ensures at c.in_ok-outcome-in-Packet.ensures.outcome in
+    let pushed = rw c.len.ensures at c.in_ok-push-in-Packet.ensures.ok in (
+      inv.0 ++ now.0,
+      inv.1 ++ c.in-Packet.packet ∷ [],
+      Consumes-trans (counted_remaining g.R.Read.remaining c.args.reader.now) (counted_remaining g.R.Read.remaining c.packets.reader) (counted_remaining g.R.Read.remaining c.next.new.reader) inv.0 now.0 inv.2 now.1,
+      told_on c.args.limits c.packets.file c.packets.decoder c.packets.packets inv.0 now.0 inv.1 inv.3 c.in-Packet.packet c.next.new.self r.0
+          c.decode.new.self c.in_ok-outcome-in-Packet.outcome c.push.new.self after outcome pushed,
+      c.in_ok-packet.ensures.quiet (λ e. cc) ∙ inv.4,
+    )
+
+pub returns-in-End-clause-surveyed : goal.returns-in-End-clause-surveyed
+returns-in-End-clause-surveyed g c =
+    let inv = c.packets.invariant in
+    let now = c.in_ok-packet.ensures.given c.args.limits inv.0 inv.1 inv.3.reading in
+    let ends = subst (λ (n : Next). Gives c.args.limits (Ok n) c.next.new.self (counted_remaining g.R.Read.remaining c.next.new.reader) (inv.0 ++ now.0) inv.1) c.in-End.is now.2 in (
+      inv.0 ++ now.0,
+      Consumes-trans (counted_remaining g.R.Read.remaining c.args.reader.now) (counted_remaining g.R.Read.remaining c.packets.reader) (counted_remaining g.R.Read.remaining c.next.new.reader) inv.0 now.0 inv.2 now.1,
+      surveyed c.args.limits c.packets.file c.packets.decoder c.packets.packets inv.0 now.0 inv.1 inv.3 c.next.new.self (counted_remaining g.R.Read.remaining c.next.new.reader) c.in-End.fault c.head.result ends c.head.ensures,
+    )

@@ -1,0 +1,95 @@
+-- A file as it is read, packet by packet.
+use Rattle.std.specs.Prelude.{◌≡◌, ℕ, ◌+◌, ◌-◌, ◌≤◌, ◌<◌, ◌^◌, Bool, true, false, List, [], ◌∷◌, ◌++◌, length, drop, Option, Some, None, Result, Ok, Err, slice_get}
+use Rattle.std.specs.Io.KnownBytes.{IsAtEnd}
+use Rattle.vp_base.specs.declared.limits.Limits.{Limits}
+use Rattle.vp_ivf.specs.declared.packet.Packet.{Packet}
+use Rattle.vp_ivf.specs.declared.packet.IvfHead.{IvfHead}
+use Rattle.vp_ivf.specs.declared.fault.FileFault.{FileFault}
+use Rattle.vp_ivf.specs.declared.fault.FileFault.TheVariants.{Torn}
+use Rattle.vp_ivf.specs.Ivf.{Reading, resume, with_front}
+use Rattle.vp_ivf.specs.Reader as ivf
+use Rattle.vp_ivf.specs.Reader.{State, without, finish_answer}
+use Rattle.vp_stream.specs.declared.fault.SurveyFault.{SurveyFault}
+use Rattle.vp_stream.specs.declared.fault.SurveyFault.TheVariants.{Device, ReadTurns, Memory}
+use Rattle.vp_stream.specs.declared.packet_reader.Next.{Next}
+use Rattle.vp_stream.specs.declared.packet_reader.Next.TheVariants as next
+use Rattle.vp_stream.specs.Answers.{reading_of}
+
+-- the reader that is fed, and how many pieces may still be read
+pub record Incoming : Type 0 where
+  pub file : State
+  pub turns : ℕ
+
+-- before the first read
+abbrev pub start : Limits → Incoming
+start limits = record { file = ivf.fresh limits.packet_bytes limits.packets; turns = 2 ^ 32 - 1 }
+
+-- these bytes were read, and these packets of them were given
+pub record IsReading (limits : Limits) (s : Incoming) (fed : List ℕ) (given : List Packet) : Type 0 where
+  pub max : s.file.max ≡ limits.packet_bytes
+  pub reading : reading_of limits fed ≡ with_front given s.file.reading
+  pub unended : s.file.ended ≡ false
+  pub turns : 2 ^ 32 - 1 ≤ s.turns + length fed
+
+-- ---- the packet in front, and what stays
+
+abbrev pub headed : Option IvfHead → Option Packet → Option (IvfHead × Packet)
+headed None packet = None
+headed (Some head) None = None
+headed (Some head) (Some packet) = Some (head, packet)
+
+abbrev pub next_waiting : Incoming → Option (IvfHead × Packet)
+next_waiting s = headed s.file.reading.head (slice_get s.file.reading.packets 0)
+
+-- without a head no packet is given
+abbrev pub without_front : Option IvfHead → State → State
+without_front None file = file
+without_front (Some head) file = record file { reading = without 1 file.reading }
+
+abbrev pub without_next : Incoming → Incoming
+without_next s = record s { file = without_front s.file.reading.head s.file }
+
+-- ---- one read
+
+abbrev pub resumed : Incoming → List ℕ → Incoming
+resumed s piece = record { file = record s.file { reading = resume s.file.max s.file.reading piece }; turns = s.turns - 1 }
+
+-- a piece was fed; or the reader was at its end; or the pieces that may be read were
+abbrev pub Took : Result Bool SurveyFault → Incoming → Incoming → Option (List ℕ) → List ℕ → Type 0
+Took (Ok true) old new left piece = (0 < length piece) × (0 < old.turns) × (new ≡ resumed old piece)
+Took (Ok false) old new left piece = (piece ≡ []) × IsAtEnd left × (new ≡ old)
+Took (Err ReadTurns) old new left piece = old.turns ≡ 0
+Took (Err Device) old new left piece = Unit {0}
+Took (Err Memory) old new left piece = Unit {0}
+
+-- ---- what is given
+
+-- what telling the end answers, where this is wrong with the file
+abbrev pub ending : Option FileFault → Result (Unit {0}) FileFault
+ending None = Ok tt
+ending (Some fault) = Err fault
+
+-- all packets were given, and this is wrong with the file; its end was met unless that is a fault before it
+pub record Ends (limits : Limits) (s : Incoming) (left : Option (List ℕ)) (file : List ℕ) (given : List Packet) (fault : Option FileFault) : Type 0 where
+  pub packets : (reading_of limits file).packets ≡ given
+  pub answer : finish_answer (reading_of limits file) ≡ ending fault
+  pub head : s.file.reading.head ≡ (reading_of limits file).head
+  pub good : fault ≡ None → IsAtEnd left
+  pub torn : fault ≡ Some Torn → IsAtEnd left
+
+-- these packets are the file's first ones
+abbrev pub IsFront : Limits → List ℕ → List Packet → Type 0
+IsFront limits file given = (later : List Packet) × ((reading_of limits file).packets ≡ given ++ later)
+
+-- where the reads ran out each of them had given a byte
+abbrev pub IsStoppedBy : SurveyFault → List ℕ → Type 0
+IsStoppedBy ReadTurns file = 2 ^ 32 - 1 ≤ length file
+IsStoppedBy Device file = Unit {0}
+IsStoppedBy Memory file = Unit {0}
+
+-- what comes behind the packets that were given
+abbrev pub Gives : Limits → Result Next SurveyFault → Incoming → Option (List ℕ) → List ℕ → List Packet → Type 0
+Gives limits (Ok (next.Packet head packet)) s left file given =
+    IsReading limits s file (given ++ packet ∷ []) × ((reading_of limits file).head ≡ Some head)
+Gives limits (Ok (next.End fault)) s left file given = Ends limits s left file given fault
+Gives limits (Err fault) s left file given = IsStoppedBy fault file × IsFront limits file given

@@ -1,0 +1,45 @@
+-- What is told of the packets of a file.
+use Rattle.std.specs.Prelude.{ℕ, Bool, true, false, List, Option, Some, None, length, count_by, map}
+use Rattle.std.specs.List.{filter_map, enumerate_from, zip}
+use Rattle.vp_base.specs.declared.limits.Limits.{Limits}
+use Rattle.vp_head.specs.declared.fault.PacketFault.{PacketFault}
+use Rattle.vp_ivf.specs.declared.packet.Packet.{Packet}
+use Rattle.vp_decode.specs.declared.decoder.Outcome.{Outcome}
+use Rattle.vp_decode.specs.Step.{Answer, Shown, Hidden, Fault, outcome}
+use Rattle.vp_stream.specs.declared.report.Report.{Report}
+use Rattle.vp_stream.specs.Answers.{reading_of, answers_of}
+
+abbrev pub is_shown : Answer → Bool
+is_shown (Shown p) = true
+is_shown Hidden = false
+is_shown (Fault f) = false
+
+abbrev pub is_hidden : Answer → Bool
+is_hidden (Shown p) = false
+is_hidden Hidden = true
+is_hidden (Fault f) = false
+
+-- a faulted packet by its number, with its fault
+abbrev pub fault_at : ℕ → Answer → Option (ℕ × PacketFault)
+fault_at number (Shown p) = None
+fault_at number Hidden = None
+fault_at number (Fault f) = Some (number, f)
+
+-- the faulted packets, numbered from a first number on
+abbrev pub faults_from : ℕ → List Answer → List (ℕ × PacketFault)
+faults_from first answers = filter_map (λ e. fault_at e.0 e.1) (enumerate_from first answers)
+
+abbrev pub report_of : List Answer → Report
+report_of answers = record {
+  packets = length answers;
+  shown = count_by is_shown answers;
+  hidden = count_by is_hidden answers;
+  faults = faults_from 0 answers;
+}
+
+-- each packet by how many bytes it has and what came of it
+abbrev pub outcomes : List Packet → List Answer → List (ℕ × Outcome)
+outcomes packets answers = zip (map (λ (p : Packet). length p.bytes) packets) (map outcome answers)
+
+abbrev pub outcomes_of : Limits → List ℕ → List (ℕ × Outcome)
+outcomes_of limits file = outcomes (reading_of limits file).packets (answers_of limits file)

@@ -1,0 +1,114 @@
+-- The answer for one packet of a list, and the key packet that it can be decoded from.
+use Rattle.std.specs.Prelude.{◌≡◌, ◌≤◌, ◌<◌, ◌+◌, ◌-◌, ◌^◌, ◌%◌, ◌==◌, ◌&&◌, ℕ, zero, suc, min, Bool, false, nat_le, nat_lt, List, [], ◌∷◌, length, slice_get, slice_index, slice_index_or, Option, Some, None, Result, Ok, Err, if◌then◌else◌}
+use Rattle.std.specs.Option.{unwrap_or}
+use Rattle.vp_base.specs.declared.limits.Limits.{Limits}
+use Rattle.vp_base.specs.Image.{i420}
+use Rattle.vp_head.specs.declared.fault.PacketFault.{PacketFault}
+use Rattle.vp_head.specs.declared.fields.Tag.{Tag}
+use Rattle.vp_head.specs.declared.fields.KeyTag.{KeyTag}
+use Rattle.vp_head.specs.Tag.{IsKeyPacket, tag_of}
+use Rattle.vp_ivf.specs.declared.packet.Packet.{Packet}
+use Rattle.vp_decode.specs.Step.{Kept, step}
+use Rattle.vp_decode.specs.Step.{Answer as StepAnswer}
+use Rattle.vp_decode.specs.Step as step_is
+use Rattle.vp_stream.specs.declared.answer.Answer.{Answer}
+use Rattle.vp_stream.specs.declared.answer.Answer.TheVariants as code
+use Rattle.vp_stream.specs.Answers.{answers_from}
+
+-- ---- the answer for a packet
+
+-- an answer in numbers: the columns, the rows and the I420 of a shown picture
+pub data Told : Type 0 where
+  Shown : ℕ → ℕ → List ℕ → Told
+  Hidden : Told
+  Fault : PacketFault → Told
+  NoPacket : Told
+
+-- what an answer says
+abbrev pub told : Answer → Told
+told (code.Shown dim bytes) = Shown dim.w dim.h bytes
+told code.Hidden = Hidden
+told (code.Fault f) = Fault f
+told code.NoPacket = NoPacket
+
+-- what is to be said of a packet that was decoded
+abbrev pub told_of : StepAnswer → Told
+told_of (step_is.Shown p) = Shown p.width p.height (i420 p)
+told_of step_is.Hidden = Hidden
+told_of (step_is.Fault f) = Fault f
+
+abbrev pub told_or_none : Option StepAnswer → Told
+told_or_none (Some a) = told_of a
+told_or_none None = NoPacket
+
+-- the answer for packet n: the packets are decoded one after another, the first one from no state
+abbrev pub answer_at : Limits → List Packet → ℕ → Told
+answer_at limits packets n = told_or_none (slice_get (answers_from limits None packets) n)
+
+-- the state after packets
+abbrev pub state_after : Limits → Option Kept → List Packet → Option Kept
+state_after limits state [] = state
+state_after limits state (p ∷ ps) = state_after limits (step limits state p.bytes).0 ps
+
+-- ---- key packets (chapter 9.1): three bytes or more, of which the first is even
+
+abbrev pub HasKey : Option Packet → Type 0
+HasKey (Some p) = IsKeyPacket p.bytes
+HasKey None = ⊥
+
+abbrev pub IsKeyAt : List Packet → ℕ → Type 0
+IsKeyAt packets k = HasKey (slice_get packets k)
+
+-- the greatest place up to n where a key packet stands, or none
+abbrev pub IsKeyBefore : List Packet → ℕ → Option ℕ → Type 0
+IsKeyBefore packets n (Some k) = (k ≤ n) × IsKeyAt packets k × ((j : ℕ) → k < j → j ≤ n → ¬ IsKeyAt packets j)
+IsKeyBefore packets n None = (k : ℕ) → k ≤ n → ¬ IsKeyAt packets k
+
+abbrev pub is_key : List ℕ → Bool
+is_key packet = nat_le 3 (length packet) && slice_index packet 0 % 2 == 0
+
+abbrev pub has_key : Option Packet → Bool
+has_key (Some p) = is_key p.bytes
+has_key None = false
+
+-- that place
+unfoldable pub key_before : List Packet → ℕ → Option ℕ
+key_before packets zero = if has_key (slice_get packets zero) then Some zero else None
+key_before packets (suc n) = if has_key (slice_get packets (suc n)) then Some (suc n) else key_before packets n
+
+-- these are the key packets before the places of a list
+pub record AreKeys (packets : List Packet) (keys : List (Option ℕ)) : Type 0 where
+  pub long : length keys ≡ length packets
+  pub each : (k : ℕ) → k < length packets → slice_index_or keys k None ≡ key_before packets k
+
+-- ---- the size that a key packet says, in columns and rows
+
+abbrev pub size_in_key : Option KeyTag → Option (ℕ × ℕ)
+size_in_key (Some key) = Some (key.dim.w, key.dim.h)
+size_in_key None = None
+
+abbrev pub size_in : Result Tag PacketFault → Option (ℕ × ℕ)
+size_in (Ok tag) = size_in_key tag.key
+size_in (Err f) = None
+
+abbrev pub size_in_packet : Limits → Option Packet → Option (ℕ × ℕ)
+size_in_packet limits (Some p) = size_in (tag_of limits p.bytes)
+size_in_packet limits None = None
+
+abbrev pub size_at : Limits → List Packet → Option ℕ → Option (ℕ × ℕ)
+size_at limits packets (Some k) = size_in_packet limits (slice_get packets k)
+size_at limits packets None = None
+
+-- ---- what is decoded for packet n
+
+-- decoding begins at the key packet, or at the packet itself where there is none
+abbrev pub first_of : List Packet → ℕ → ℕ
+first_of packets n = unwrap_or (key_before packets n) n
+
+-- how many packets are decoded: those from there to n, or none for a packet that isn't there
+unfoldable pub work_of : List Packet → ℕ → ℕ
+work_of packets n = if nat_lt n (length packets) then n - first_of packets n + 1 else 0
+
+-- a count that stays at the greatest 64-bit number
+abbrev pub counted : ℕ → ℕ → ℕ
+counted work more = min (work + more) (2 ^ 64 - 1)

@@ -1,0 +1,47 @@
+-- The text of the pictures of a file that are shown.
+use Rattle.std.specs.Prelude.{ℕ, Bool, true, false, not, ◌==◌, ◌&&◌, List, [], ◌∷◌, ◌++◌, Option, Some, None}
+use Rattle.std.specs.List.{flat_map, filter_map, take_while, list_all}
+use Rattle.vp_base.specs.declared.limits.Limits.{Limits}
+use Rattle.vp_base.specs.Image.{Image, i420}
+use Rattle.vp_y4m.specs.Text.{header_text, picture_text}
+use Rattle.vp_ivf.specs.declared.packet.IvfHead.{IvfHead}
+use Rattle.vp_decode.specs.Step.{Answer, picture_in}
+use Rattle.vp_stream.specs.declared.form.Form.{Form}
+use Rattle.vp_stream.specs.declared.form.Form.TheVariants.{I420, Y4m}
+use Rattle.vp_stream.specs.Answers.{reading_of, answers_of}
+
+-- the pictures that are shown, in order
+abbrev pub shown_in : List Answer → List Image
+shown_in answers = filter_map picture_in answers
+
+abbrev pub same_size : Image → Image → Bool
+same_size p q = (p.width == q.width) && (p.height == q.height)
+
+-- the pictures before the first one whose size isn't that of the first of all
+abbrev pub before_change : List Image → List Image
+before_change [] = []
+before_change (p ∷ ps) = p ∷ take_while (same_size p) ps
+
+-- a file's first line, by its head and its first picture
+abbrev pub first_line : Option IvfHead → Image → List ℕ
+first_line None p = []
+first_line (Some head) p = header_text p.width p.height head.rate head.scale
+
+-- pictures as I420, or with a line before them all and one before each
+abbrev pub text : Form → Option IvfHead → List Image → List ℕ
+text I420 head ps = flat_map i420 ps
+text Y4m head [] = []
+text Y4m head (p ∷ ps) = first_line head p ++ flat_map (λ q. picture_text (i420 q)) (before_change (p ∷ ps))
+
+-- whether there is a picture that the form has no place for
+abbrev pub changes_size : Form → List Image → Bool
+changes_size I420 ps = false
+changes_size Y4m [] = false
+changes_size Y4m (p ∷ ps) = not (list_all (same_size p) ps)
+
+-- the pictures of a file that are shown
+abbrev pub pictures_of : Limits → List ℕ → List Image
+pictures_of limits file = shown_in (answers_of limits file)
+
+abbrev pub text_of : Limits → Form → List ℕ → List ℕ
+text_of limits form file = text form (reading_of limits file).head (pictures_of limits file)

@@ -1,0 +1,63 @@
+-- How the work on a file ends.
+use Rattle.std.specs.Prelude.{◌≡◌, ◌≤◌, ◌-◌, ◌^◌, ℕ, true, false, List, Option, Result, Ok, Err, length}
+use Rattle.std.specs.Io.KnownBytes.{Appends}
+use Rattle.vp_base.specs.declared.limits.Limits.{Limits}
+use Rattle.vp_base.specs.Counted.{AppendsFront}
+use Rattle.vp_ivf.specs.Reader.{finish_answer}
+use Rattle.vp_stream.specs.declared.report.Report.{Report}
+use Rattle.vp_stream.specs.declared.form.Form.{Form}
+use Rattle.vp_stream.specs.declared.fault.DecodeFault.{DecodeFault}
+use Rattle.vp_stream.specs.declared.fault.DecodeFault.TheVariants.{File, SizeChange, Device, ReadTurns, Memory}
+use Rattle.vp_stream.specs.declared.fault.SurveyFault.{SurveyFault}
+use Rattle.vp_stream.specs.declared.outcomes.Survey.{Survey}
+use Rattle.vp_stream.specs.Answers.{reading_of, answers_of}
+use Rattle.vp_stream.specs.Texts.{text_of, pictures_of, changes_size}
+use Rattle.vp_stream.specs.Reports.{report_of, outcomes_of}
+use Rattle.vp_stream.specs.Incoming.{ending, IsStoppedBy}
+
+-- known bytes grow by a file's text
+abbrev pub WritesText : Limits → Form → List ℕ → Option (List ℕ) → Option (List ℕ) → Type 0
+WritesText limits form file before after = Appends before after (text_of limits form file)
+
+-- known bytes grow by a front of it
+abbrev pub WritesFront : Limits → Form → List ℕ → Option (List ℕ) → Option (List ℕ) → Type 0
+WritesFront limits form file before after = AppendsFront before after (text_of limits form file)
+
+-- the whole text is written, and the form has a place for each picture
+abbrev pub WritesAll : Limits → Form → List ℕ → Option (List ℕ) → Option (List ℕ) → Type 0
+WritesAll limits form file before after =
+    (changes_size form (pictures_of limits file) ≡ false) × WritesText limits form file before after
+
+-- a file whose bytes end well is reported
+pub record IsReported (limits : Limits) (form : Form) (report : Report) (file : List ℕ) (before after : Option (List ℕ)) : Type 0 where
+  pub ends : finish_answer (reading_of limits file) ≡ Ok tt
+  pub counts : report ≡ report_of (answers_of limits file)
+  pub writes : WritesAll limits form file before after
+
+-- by a fault of the file, once the text of all packets before it is written; by a picture of another size, once the text
+-- before it is written; by another fault, with a front of the text written. Where the reads ran out each gave a byte.
+abbrev pub IsEndedBy : Limits → Form → DecodeFault → List ℕ → Option (List ℕ) → Option (List ℕ) → Type 0
+IsEndedBy limits form (File fault) file before after =
+    (finish_answer (reading_of limits file) ≡ Err fault) × WritesAll limits form file before after
+IsEndedBy limits form SizeChange file before after =
+    (changes_size form (pictures_of limits file) ≡ true) × WritesText limits form file before after
+IsEndedBy limits form Device file before after = WritesFront limits form file before after
+IsEndedBy limits form ReadTurns file before after =
+    (2 ^ 32 - 1 ≤ length file) × WritesFront limits form file before after
+IsEndedBy limits form Memory file before after = WritesFront limits form file before after
+
+abbrev pub IsAnswerFor : Limits → Form → Result Report DecodeFault → List ℕ → Option (List ℕ) → Option (List ℕ) → Type 0
+IsAnswerFor limits form (Ok report) file before after = IsReported limits form report file before after
+IsAnswerFor limits form (Err fault) file before after = IsEndedBy limits form fault file before after
+
+-- ---- a survey
+
+-- all packets are told, in order, the head, and what is wrong with the file
+pub record IsSurveyed (limits : Limits) (survey : Survey) (file : List ℕ) : Type 0 where
+  pub head : survey.head ≡ (reading_of limits file).head
+  pub packets : survey.packets ≡ outcomes_of limits file
+  pub fault : finish_answer (reading_of limits file) ≡ ending survey.fault
+
+abbrev pub IsSurveyFor : Limits → Result Survey SurveyFault → List ℕ → Type 0
+IsSurveyFor limits (Ok survey) file = IsSurveyed limits survey file
+IsSurveyFor limits (Err fault) file = IsStoppedBy fault file

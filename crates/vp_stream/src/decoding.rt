@@ -1,0 +1,56 @@
+//! Decoding a whole file.
+
+ghost use Rattle.std.specs.Prelude.{◌≡◌, ◌≢◌, ◌⊎◌, ℕ, List, OnOk, Err};
+ghost use Rattle.std.specs.Io.KnownBytes.{Consumes, IsAtEnd};
+ghost use Rattle.vp_base.specs.Counted.{counted_remaining, counted_contents, counted_failures, HasFailed};
+ghost use Rattle.vp_ivf.specs.declared.fault.FileFault.{FileFault};
+ghost use Rattle.vp_stream.specs.declared.fault.DecodeFault.{DecodeFault};
+ghost use Rattle.vp_stream.specs.Written.{IsAnswerFor};
+
+use crate::fault::DecodeFault;
+use crate::form::Form;
+use crate::packet_reader::{Next, PacketReader};
+use crate::report::Report;
+use crate::run::Run;
+use std::alloc::Global;
+use std::io::{Read, Write};
+use vp_base::{Counted, Limits};
+
+/// Decodes an IVF file to its end, and writes each picture that is shown as soon as its packet is read, in
+/// order. A packet that can't be decoded writes nothing, and the work goes on. Where the form has one size for
+/// all pictures, a picture of another size than the first ends the work, and nothing of it is written.
+pub fn decode_all<R: Read, W: Write>(
+    alloc: Global,
+    reader: &mut Counted<R>,
+    writer: &mut Counted<W>,
+    form: Form,
+    limits: Limits,
+) -> Result<Report, DecodeFault>
+    ensures decoded { (file : List ℕ)
+        × Consumes (counted_remaining R.remaining reader.old) (counted_remaining R.remaining reader.new) file
+        × IsAnswerFor limits form result file (counted_contents W.contents writer.old)
+        (counted_contents W.contents writer.new) }
+
+    // A report, and `Torn`, come only at the reader's end.
+    ensures end { OnOk result (IsAtEnd (counted_remaining R.remaining reader.new)) }
+    ensures torn { result ≡ Err (DecodeFault.File FileFault.Torn) →
+        IsAtEnd (counted_remaining R.remaining reader.new) }
+
+    // `Device` comes where a read or a write failed, and only there.
+    ensures device { result ≡ Err DecodeFault.Device →
+        HasFailed (counted_failures reader.old) (counted_failures reader.new)
+        ⊎ HasFailed (counted_failures writer.old) (counted_failures writer.new) }
+    ensures quiet { result ≢ Err DecodeFault.Device →
+        (counted_failures reader.new ≡ counted_failures reader.old)
+        × (counted_failures writer.new ≡ counted_failures writer.old) }
+{
+    let mut file = PacketReader::new(alloc, limits);
+    let mut run = Run::new(alloc, limits, form);
+    'packets: loop {
+        match file.next(reader)? {
+            Next::Packet(head, packet) => run.packet(head, packet.bytes.as_slice(), writer)?,
+            Next::End(None) => return Ok(run.into_report()),
+            Next::End(Some(fault)) => return Err(DecodeFault::File(fault)),
+        }
+    }
+}

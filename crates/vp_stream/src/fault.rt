@@ -1,0 +1,131 @@
+//! Why the work on a file ends early.
+
+ghost use Rattle.std.specs.Prelude.{◌≡◌};
+
+use std::alloc::AllocError;
+use std::fmt;
+use vp_base::Device;
+use vp_ivf::FileFault;
+use vp_y4m::PictureFault;
+
+/// Why a file isn't decoded to its end.
+#[derive(Clone, Copy, Debug, PartialEq, Eq)]
+pub enum DecodeFault {
+    /// What is wrong with the file.
+    File(FileFault),
+    /// A picture hasn't the size of the first one, which the form asks for.
+    SizeChange,
+    /// A read or a write failed.
+    Device,
+    /// The file didn't end within 4,294,967,295 reads.
+    ReadTurns,
+    /// Memory was refused.
+    Memory,
+}
+
+/// The fault's name, as it is told.
+impl fmt::Display for DecodeFault {
+    fn fmt<W: fmt::Write>(&self, f: &mut fmt::Formatter<W>) -> fmt::Result {
+        let name = match self {
+            DecodeFault::File(fault) => return write!(f, "{fault}"),
+            DecodeFault::SizeChange => "SizeChange",
+            DecodeFault::Device => "Device",
+            DecodeFault::ReadTurns => "ReadTurns",
+            DecodeFault::Memory => "Memory",
+        };
+        f.write_str(name)
+    }
+}
+
+/// Why a file isn't read to its end.
+#[derive(Clone, Copy, Debug, PartialEq, Eq)]
+pub enum SurveyFault {
+    /// A read failed.
+    Device,
+    /// The file didn't end within 4,294,967,295 reads.
+    ReadTurns,
+    /// Memory was refused.
+    Memory,
+}
+
+/// Why decoding and writing stops.
+#[derive(Clone, Copy, Debug, PartialEq, Eq)]
+pub enum Interruption {
+    /// A picture hasn't the size of the first one.
+    SizeChange,
+    /// A write failed.
+    Device,
+    /// Memory was refused.
+    Memory,
+}
+
+impl From<AllocError> for SurveyFault {
+    ghost use Rattle.vp_stream.specs.declared.fault.SurveyFault.{SurveyFault};
+
+    ghost from_gives = { λ _ r. r ≡ SurveyFault.Memory };
+
+    fn from(_: AllocError) -> SurveyFault {
+        SurveyFault::Memory
+    }
+}
+
+impl From<AllocError> for Interruption {
+    ghost use Rattle.vp_stream.specs.declared.fault.Interruption.{Interruption};
+
+    ghost from_gives = { λ _ r. r ≡ Interruption.Memory };
+
+    fn from(_: AllocError) -> Interruption {
+        Interruption::Memory
+    }
+}
+
+impl From<Device> for Interruption {
+    ghost use Rattle.vp_stream.specs.declared.fault.Interruption.{Interruption};
+
+    ghost from_gives = { λ _ r. r ≡ Interruption.Device };
+
+    fn from(_: Device) -> Interruption {
+        Interruption::Device
+    }
+}
+
+impl From<PictureFault> for Interruption {
+    ghost use Rattle.vp_stream.specs.Progress.{interruption_by};
+
+    ghost from_gives = { λ f r. r ≡ interruption_by f };
+
+    fn from(fault: PictureFault) -> Interruption {
+        match fault {
+            PictureFault::SizeChange => Interruption::SizeChange,
+            PictureFault::Device => Interruption::Device,
+        }
+    }
+}
+
+impl From<Interruption> for DecodeFault {
+    ghost use Rattle.vp_stream.specs.Progress.{fault_by};
+
+    ghost from_gives = { λ i r. r ≡ fault_by i };
+
+    fn from(interruption: Interruption) -> DecodeFault {
+        match interruption {
+            Interruption::SizeChange => DecodeFault::SizeChange,
+            Interruption::Device => DecodeFault::Device,
+            Interruption::Memory => DecodeFault::Memory,
+        }
+    }
+}
+
+impl From<SurveyFault> for DecodeFault {
+    ghost use Rattle.vp_stream.specs.Progress.{read_fault_by};
+
+    ghost from_gives = { λ f r. r ≡ read_fault_by f };
+
+    fn from(fault: SurveyFault) -> DecodeFault {
+        match fault {
+            SurveyFault::Device => DecodeFault::Device,
+            SurveyFault::ReadTurns => DecodeFault::ReadTurns,
+            SurveyFault::Memory => DecodeFault::Memory,
+        }
+    }
+}

@@ -1,0 +1,41 @@
+//! What holds of all files, each as the contract of a function that does nothing.
+
+ghost use Rattle.std.specs.Prelude.{◌≡◌, ◌≢◌, ◌-◌, ◌++◌, ℕ, List, drop, Some};
+ghost use Rattle.vp_base.specs.declared.limits.Limits.{Limits};
+ghost use Rattle.vp_ivf.specs.declared.packet.Packet.{Packet};
+ghost use Rattle.vp_stream.specs.Answers.{reading_of};
+ghost use Rattle.vp_stream.specs.Seeking.{NoPacket, Shown, answer_at, first_of, key_before, size_at};
+
+use vp_decode::key_packet_resets;
+use vp_head::first_byte_says_kind;
+use vp_ivf::growing_keeps_what_was_read;
+
+/// A growing file: bytes that are added change no answer but `NoPacket`.
+pub fn growing_keeps_answers()
+    ensures { (limits : Limits) (file more : List ℕ) (n : ℕ)
+        → answer_at limits (reading_of limits file).packets n ≢ NoPacket
+        → answer_at limits (reading_of limits (file ++ more)).packets n
+        ≡ answer_at limits (reading_of limits file).packets n }
+{
+    growing_keeps_what_was_read();
+}
+
+/// Seeking: no packet before the last key packet counts for an answer, and none but the packet itself where there
+/// is no key packet.
+pub fn answers_come_from_the_last_key_packet()
+    ensures { (limits : Limits) (packets : List Packet) (n : ℕ)
+        → answer_at limits packets n ≡ answer_at limits (drop (first_of packets n) packets) (n - first_of packets n) }
+{
+    key_packet_resets();
+    first_byte_says_kind();
+}
+
+/// A shown picture has the size that the last key packet says.
+pub fn shown_pictures_have_the_key_packets_size()
+    ensures { (limits : Limits) (packets : List Packet) (n width height : ℕ) (pixels : List ℕ)
+        → answer_at limits packets n ≡ Shown width height pixels
+        → size_at limits packets (key_before packets n) ≡ Some (width, height) }
+{
+    key_packet_resets();
+    first_byte_says_kind();
+}

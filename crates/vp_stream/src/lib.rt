@@ -1,0 +1,33 @@
+//! From a file of packets to its pictures: packet by packet as they are asked for, or the whole file.
+#![tactic(auto)]
+
+mod answer;
+mod decoding;
+mod fault;
+#[cfg(test)]
+mod file_tests;
+mod form;
+mod laws;
+mod outcomes;
+mod packet_reader;
+mod pictures;
+mod report;
+mod run;
+mod seeking;
+mod stream;
+#[cfg(test)]
+mod stream_tests;
+mod surveying;
+
+pub use answer::Answer;
+pub use decoding::decode_all;
+pub use fault::{DecodeFault, SurveyFault};
+pub use form::Form;
+pub use laws::{
+    answers_come_from_the_last_key_packet, growing_keeps_answers,
+    shown_pictures_have_the_key_packets_size,
+};
+pub use outcomes::{OutcomeList, Survey};
+pub use report::{FaultList, Report};
+pub use stream::Stream;
+pub use surveying::survey;

@@ -1,0 +1,123 @@
+//! The packets of a file, read as they are asked for.
+
+ghost use Rattle.std.specs.Prelude.{◌≡◌, ◌≢◌, ◌++◌, ◌-◌, ◌^◌, ◌<◌, ℕ, List, None, Err, Ok, true};
+ghost use Rattle.std.specs.Io.KnownBytes.{Consumes, IsAtEnd};
+ghost use Rattle.vp_base.specs.declared.limits.Limits.{Limits};
+ghost use Rattle.vp_base.specs.Counted.{counted_remaining, counted_failures, HasFailed};
+ghost use Rattle.vp_ivf.specs.declared.packet.Packet.{Packet};
+ghost use Rattle.vp_ivf.specs.Reader.{refusal};
+ghost use Rattle.vp_stream.specs.declared.fault.SurveyFault.{SurveyFault};
+ghost use Rattle.vp_stream.specs.Incoming.{start, IsReading, Gives, Took, next_waiting, without_next};
+
+use crate::fault::SurveyFault;
+use std::alloc::Global;
+use std::io::Read;
+use std::marker::Model;
+use vp_base::{Counted, Limits};
+use vp_ivf::{FeedError, FileFault, IvfHead, Packet, Reader};
+
+/// What comes next in a file.
+#[derive(Drop)]
+pub enum Next {
+    /// A packet, with the file's head.
+    Packet(IvfHead, Packet),
+    /// The end, or what is wrong with the file.
+    End(Option<FileFault>),
+}
+
+/// Reads a file in pieces, and gives each packet once.
+#[derive(Drop)]
+pub struct PacketReader {
+    file: Reader,
+    turns: u32,
+}
+
+impl Model for PacketReader {
+    ghost use Rattle.vp_stream.specs.Incoming.{Incoming};
+
+    ghost Value = { Incoming };
+
+    ghost view = { λ a. record { file = a.file; turns = a.turns } };
+}
+
+impl PacketReader {
+    /// Before the first read.
+    pub fn new(alloc: Global, limits: Limits) -> PacketReader
+        ensures { result ≡ start limits }
+    {
+        PacketReader {
+            file: Reader::new(alloc, limits),
+            turns: u32::MAX,
+        }
+    }
+
+    /// The file's head, once it is read.
+    pub fn head(&self) -> Option<IvfHead>
+        ensures { result ≡ self.now.file.reading.head }
+    {
+        self.file.head()
+    }
+
+    /// What comes next. After the end nothing more is asked for.
+    pub fn next<R: Read>(&mut self, reader: &mut Counted<R>) -> Result<Next, SurveyFault>
+        ensures given { (limits : Limits) (fed : List ℕ) (given : List Packet)
+            → IsReading limits self.old fed given
+            → (more : List ℕ)
+            × Consumes (counted_remaining R.remaining reader.old) (counted_remaining R.remaining reader.new) more
+            × Gives limits result self.new (counted_remaining R.remaining reader.new) (fed ++ more) given }
+        ensures device { result ≡ Err SurveyFault.Device →
+            HasFailed (counted_failures reader.old) (counted_failures reader.new) }
+        ensures quiet { result ≢ Err SurveyFault.Device →
+            counted_failures reader.new ≡ counted_failures reader.old }
+    {
+        'reading: loop {
+            if let Some((head, packet)) = self.waiting() {
+                return Ok(Next::Packet(head, packet));
+            }
+            if let Some(fault) = self.file.refusal() {
+                return Ok(Next::End(Some(fault)));
+            }
+            if !self.read_piece(reader)? {
+                return Ok(Next::End(self.file.finish().err()));
+            }
+        }
+    }
+
+    // The first packet that was read and not given yet.
+    fn waiting(&mut self) -> Option<(IvfHead, Packet)>
+        ensures next { result ≡ next_waiting self.old }
+        ensures rest { self.new ≡ without_next self.old }
+    {
+        let head = self.file.head()?;
+        let packet = self.file.next_packet()?;
+        Some((head, packet))
+    }
+
+    // Reads a piece, and tells whether there was one.
+    fn read_piece<R: Read>(&mut self, reader: &mut Counted<R>) -> Result<bool, SurveyFault>
+        requires { refusal self.old.file ≡ None }
+        ensures took { (piece : List ℕ)
+            × Consumes (counted_remaining R.remaining reader.old) (counted_remaining R.remaining reader.new) piece
+            × Took result self.old self.new (counted_remaining R.remaining reader.new) piece }
+        ensures device { result ≡ Err SurveyFault.Device →
+            HasFailed (counted_failures reader.old) (counted_failures reader.new) }
+        ensures quiet { result ≢ Err SurveyFault.Device →
+            counted_failures reader.new ≡ counted_failures reader.old }
+    {
+        if self.turns == 0 {
+            return Err(SurveyFault::ReadTurns);
+        }
+        let mut buffer = [0; 4096];
+        let Ok(count) = reader.read(&mut buffer) else {
+            return Err(SurveyFault::Device);
+        };
+        if count == 0 {
+            return Ok(false);
+        }
+        self.turns -= 1;
+        match self.file.feed(&buffer[..count]) {
+            Err(FeedError::Memory) => Err(SurveyFault::Memory),
+            Ok(()) | Err(FeedError::Fault(_)) => Ok(true),
+        }
+    }
+}

@@ -1,0 +1,58 @@
+//! Going through a whole file.
+
+ghost use Rattle.std.specs.Prelude.{◌≡◌, ◌≢◌, ℕ, List, None, Some, IfOk, Err};
+ghost use Rattle.std.specs.Io.KnownBytes.{Consumes, IsAtEnd};
+ghost use Rattle.vp_base.specs.Counted.{counted_remaining, counted_failures, HasFailed};
+ghost use Rattle.vp_ivf.specs.declared.fault.FileFault.{FileFault};
+ghost use Rattle.vp_stream.specs.declared.fault.SurveyFault.{SurveyFault};
+ghost use Rattle.vp_stream.specs.Written.{IsSurveyFor};
+
+use crate::fault::SurveyFault;
+use crate::outcomes::{OutcomeList, Survey};
+use crate::packet_reader::{Next, PacketReader};
+use std::alloc::Global;
+use std::io::Read;
+use vp_base::{Counted, Limits};
+use vp_decode::Decoder;
+
+/// Reads a file to its end, or to what is wrong with it, and decodes each packet once, in order. No picture
+/// outlives the next packet.
+pub fn survey<R: Read>(
+    alloc: Global,
+    reader: &mut Counted<R>,
+    limits: Limits,
+) -> Result<Survey, SurveyFault>
+    ensures surveyed { (file : List ℕ)
+        × Consumes (counted_remaining R.remaining reader.old) (counted_remaining R.remaining reader.new) file
+        × IsSurveyFor limits result file }
+
+    // A survey with no fault, or with `Torn`, comes only at the reader's end.
+    ensures end { IfOk result (λ s. s.fault ≡ None → IsAtEnd (counted_remaining R.remaining reader.new)) }
+    ensures torn { IfOk result (λ s. s.fault ≡ Some FileFault.Torn →
+        IsAtEnd (counted_remaining R.remaining reader.new)) }
+
+    // `Device` comes where a read failed, and only there.
+    ensures device { result ≡ Err SurveyFault.Device →
+        HasFailed (counted_failures reader.old) (counted_failures reader.new) }
+    ensures quiet { result ≢ Err SurveyFault.Device →
+        counted_failures reader.new ≡ counted_failures reader.old }
+{
+    let mut file = PacketReader::new(alloc, limits);
+    let mut decoder = Decoder::new(alloc, limits);
+    let mut packets = OutcomeList::new(alloc);
+    'packets: loop {
+        match file.next(reader)? {
+            Next::Packet(_, packet) => {
+                let outcome = decoder.decode(packet.bytes.as_slice())?;
+                packets.push(packet.bytes.len(), outcome)?;
+            }
+            Next::End(fault) => {
+                return Ok(Survey {
+                    head: file.head(),
+                    packets,
+                    fault,
+                });
+            }
+        }
+    }
+}

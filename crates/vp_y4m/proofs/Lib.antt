@@ -1,0 +1,8 @@
+mod DecimalLemmas
+mod LineLemmas
+mod HeaderLemmas
+mod NumberLemmas
+mod PixelLemmas
+mod PictureLemmas
+mod FrameLemmas
+mod LawLemmas

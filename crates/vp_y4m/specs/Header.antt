@@ -1,0 +1,93 @@
+-- The line before all pictures: tokens, each of a kind by its first byte.
+use Rattle.std.specs.Prelude.{ℕ, ◌*◌, ◌==◌, ◌&&◌, ◌||◌, Bool, true, false, List, [], ◌∷◌, length, nat_lt, nat_le, Option, Some, None, Result, Ok, Err, if◌then◌else◌, codes}
+use Rattle.std.specs.Char.{is_ascii_digit}
+use Rattle.std.specs.List.{list_all, before_first, after_first, slice_split}
+use Rattle.std.specs.Str.{bytes_eq}
+use Rattle.std.specs.Str.Parse.{digits_value}
+use Rattle.vp_y4m.specs.declared.fault.SourceFault.{SourceFault}
+use Rattle.vp_y4m.specs.declared.fault.SourceFault.TheVariants.{Magic, Size, Colour, Interlaced}
+
+-- what a header says: columns, rows, and rate pictures in scale seconds
+pub record Head : Type 0 where
+  pub w : ℕ
+  pub h : ℕ
+  pub rate : ℕ
+  pub scale : ℕ
+
+abbrev pub is_space : ℕ → Bool
+is_space byte = byte == 32
+
+abbrev pub is_colon : ℕ → Bool
+is_colon byte = byte == 58
+
+-- whether a line's first token is that word
+abbrev pub begins_with : List ℕ → List ℕ → Bool
+begins_with word line = bytes_eq (before_first is_space line) word
+
+-- a token's text behind its first byte, where that names the kind
+abbrev pub behind : ℕ → List ℕ → Option (List ℕ)
+behind kind [] = None
+behind kind (c ∷ text) = if c == kind then Some text else None
+
+-- the first, or where there is none the second
+abbrev pub either : {A : Type 0} → Option A → Option A → Option A
+either (Some x) y = Some x
+either None y = y
+
+abbrev pub last_among : ℕ → List (List ℕ) → Option (List ℕ)
+last_among kind [] = None
+last_among kind (token ∷ more) = either (last_among kind more) (behind kind token)
+
+-- the text of the line's last token of a kind
+unfoldable pub last_of : ℕ → List ℕ → Option (List ℕ)
+last_of kind line = last_among kind (slice_split is_space line)
+
+-- a decimal number of 32 bits: one digit or more, and nothing else
+abbrev pub number_in : List ℕ → Option ℕ
+number_in text = if list_all is_ascii_digit text && (nat_lt 0 (length text) && nat_lt (digits_value 10 text) 4294967296) then Some (digits_value 10 text) else None
+
+abbrev pub both : Option ℕ → Option ℕ → Option (ℕ × ℕ)
+both (Some x) (Some y) = Some (x, y)
+both (Some x) None = None
+both None y = None
+
+-- two numbers with a colon between them; 25:1 where nothing is said
+abbrev pub rate_in : Option (List ℕ) → Option (ℕ × ℕ)
+rate_in None = Some (25, 1)
+rate_in (Some text) = both (number_in (before_first is_colon text)) (number_in (after_first is_colon text))
+
+abbrev pub is_side : ℕ → Bool
+is_side side = nat_lt 0 side && nat_le side 16383
+
+-- a size that a picture may have, within so many pixels
+abbrev pub size_within : ℕ → Option (ℕ × ℕ) → Option (ℕ × ℕ)
+size_within pixels None = None
+size_within pixels (Some (w, h)) = if is_side w && (is_side h && nat_le (w * h) pixels) then Some (w, h) else None
+
+abbrev pub side_in : Option (List ℕ) → Option ℕ
+side_in None = None
+side_in (Some text) = number_in text
+
+-- 4:2:0 of 8 bits, however its samples are placed
+abbrev pub is_taken_colour : Option (List ℕ) → Bool
+is_taken_colour None = true
+is_taken_colour (Some text) = bytes_eq text (codes "420") || (bytes_eq text (codes "420jpeg") || (bytes_eq text (codes "420mpeg2") || bytes_eq text (codes "420paldv")))
+
+abbrev pub is_progressive : Option (List ℕ) → Bool
+is_progressive None = true
+is_progressive (Some text) = bytes_eq text (codes "p") || bytes_eq text (codes "?")
+
+-- the faults in their order
+abbrev pub judged : Option (ℕ × ℕ) → Option (ℕ × ℕ) → Bool → Bool → Result Head SourceFault
+judged None size colour progressive = Err Magic
+judged (Some (rate, scale)) None colour progressive = Err Size
+judged (Some (rate, scale)) (Some (w, h)) false progressive = Err Colour
+judged (Some (rate, scale)) (Some (w, h)) true false = Err Interlaced
+judged (Some (rate, scale)) (Some (w, h)) true true = Ok (record { w = w; h = h; rate = rate; scale = scale })
+
+-- what the first line of a file says, for pictures of so many pixels at most
+unfoldable pub head_in : ℕ → List ℕ → Result Head SourceFault
+head_in pixels line =
+    if begins_with (codes "YUV4MPEG2") line then
+    judged (rate_in (last_of 70 line)) (size_within pixels (both (side_in (last_of 87 line)) (side_in (last_of 72 line)))) (is_taken_colour (last_of 67 line)) (is_progressive (last_of 73 line))
+    else Err Magic

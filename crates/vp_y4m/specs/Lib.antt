@@ -1,0 +1,10 @@
+pub mod Text
+pub mod Reads
+pub mod Lines
+pub mod Header
+pub mod Shown
+pub mod Pictures
+pub mod Pixels
+pub mod Frames
+pub mod Source
+pub mod Laws

@@ -1,0 +1,32 @@
+-- What the bytes that were taken from a reader show of a definition over all of a file's bytes.
+use Rattle.std.specs.Prelude.{ℕ, ◌≡◌, List, ◌++◌, Option, Result, Err}
+use Rattle.std.specs.Io.KnownBytes.{Consumes, IsAtEnd}
+use Rattle.vp_y4m.specs.declared.fault.SourceFault.{SourceFault}
+use Rattle.vp_y4m.specs.declared.fault.SourceFault.TheVariants.{Magic, Size, Colour, Interlaced, Torn, Device, Memory}
+
+-- the bytes taken show the answer, whatever rest follows them
+pub record Shows {A : Type 0} (read answer : List ℕ → A) (before after : Option (List ℕ)) : Type 0 where
+  pub taken : List ℕ
+  pub consumed : Consumes before after taken
+  pub shown : (rest : List ℕ) → read (taken ++ rest) ≡ answer rest
+
+-- the bytes taken show the answer where nothing follows, and nothing follows
+pub record ShowsAtEnd {A : Type 0} (read : List ℕ → A) (answer : A) (before after : Option (List ℕ)) : Type 0 where
+  pub taken : List ℕ
+  pub consumed : Consumes before after taken
+  pub at_end : IsAtEnd after
+  pub shown : read taken ≡ answer
+
+-- some bytes were taken
+abbrev pub Takes : Option (List ℕ) → Option (List ℕ) → Type 0
+Takes before after = (taken : List ℕ) × Consumes before after taken
+
+-- a fault of the bytes is shown by those taken, and `Torn` only at the reader's end. Where a read failed, nothing is known of what follows; reading takes no memory
+abbrev pub Fails : {A : Type 0} → (List ℕ → Result A SourceFault) → SourceFault → Option (List ℕ) → Option (List ℕ) → Type 0
+Fails read Torn before after = ShowsAtEnd read (Err Torn) before after
+Fails read Device before after = Takes before after
+Fails read Memory before after = ⊥
+Fails read Magic before after = Shows read (λ rest. Err Magic) before after
+Fails read Size before after = Shows read (λ rest. Err Size) before after
+Fails read Colour before after = Shows read (λ rest. Err Colour) before after
+Fails read Interlaced before after = Shows read (λ rest. Err Interlaced) before after

@@ -1,0 +1,22 @@
+-- What a header's struct shows.
+use Rattle.std.specs.Prelude.{ℕ, List, Option, Result, Ok, Err}
+use Rattle.std.specs.Option.{option_map}
+use Rattle.std.specs.Borrow.{Bor}
+use Rattle.vp_base.specs.declared.limits.Dim.{Dim}
+use Rattle.vp_y4m.specs.declared.header.SourceHead.{SourceHead}
+use Rattle.vp_y4m.specs.declared.fault.SourceFault.{SourceFault}
+use Rattle.vp_y4m.specs.Header.{Head}
+
+abbrev pub head_shown : SourceHead → Head
+head_shown head = record { w = head.dim.w; h = head.dim.h; rate = head.rate; scale = head.scale }
+
+abbrev pub outcome_shown : Result SourceHead SourceFault → Result Head SourceFault
+outcome_shown (Ok head) = Ok (head_shown head)
+outcome_shown (Err fault) = Err fault
+
+-- the text that was lent, if any
+abbrev pub text_of : Option (Bor (List ℕ)) → Option (List ℕ)
+text_of text = option_map (λ t. t.now) text
+
+abbrev pub sides_of : Option Dim → Option (ℕ × ℕ)
+sides_of dim = option_map (λ d. (d.w, d.h)) dim

@@ -1,0 +1,44 @@
+-- What a source has.
+use Rattle.std.specs.Prelude.{ℕ, List, Option, Some, None, Result, Ok, Err}
+use Rattle.vp_base.specs.Counted.{counted_remaining, counted_failures}
+use Rattle.vp_y4m.specs.declared.fault.SourceFault.{SourceFault}
+use Rattle.vp_y4m.specs.declared.source.Source.{Source}
+use Rattle.vp_y4m.specs.declared.source.Progress.{Progress}
+use Rattle.vp_y4m.specs.declared.source.Progress.TheVariants.{Open, Ended, Failed}
+use Rattle.vp_base.specs.Image.{Image}
+use Rattle.vp_y4m.specs.Reads.{ShowsAtEnd, Fails}
+use Rattle.vp_y4m.specs.Pictures.{next_of}
+use Rattle.vp_y4m.specs.Frames.{GivesPicture}
+use Rattle.vp_y4m.specs.Header.{Head}
+use Rattle.vp_y4m.specs.Shown.{head_shown}
+
+-- which reference to its reader it holds
+abbrev pub reader_name : {R : Type 0} → Source R → ℕ
+reader_name source = source.reader.ghost_name
+
+-- the bytes that its reader has left, where they are known
+abbrev pub bytes_left : {R : Type 0} → (R → Option (List ℕ)) → Source R → Option (List ℕ)
+bytes_left remaining source = counted_remaining remaining source.reader.now
+
+-- how many of its reader's calls failed
+abbrev pub failures_of : {R : Type 0} → Source R → ℕ
+failures_of source = counted_failures source.reader.now
+
+abbrev pub head_of : {R : Type 0} → Source R → Head
+head_of source = head_shown source.head
+
+-- whether pictures may still come, or the end was met, or a fault stands
+abbrev pub progress_of : {R : Type 0} → Source R → Progress
+progress_of source = source.progress
+
+-- what becomes of a source that pictures may come from, by its answer
+abbrev pub progress_after : {P : Type 0} → Result (Option P) SourceFault → Progress
+progress_after (Ok (Some picture)) = Open
+progress_after (Ok None) = Ended
+progress_after (Err fault) = Failed fault
+
+-- an answer is that of the bytes: the next picture, the end, or a fault
+abbrev pub Answers : ℕ → ℕ → Result (Option Image) SourceFault → Option (List ℕ) → Option (List ℕ) → Type 0
+Answers w h (Ok (Some picture)) before after = GivesPicture w h picture before after
+Answers w h (Ok None) before after = ShowsAtEnd (next_of w h) (Ok None) before after
+Answers w h (Err fault) before after = Fails (next_of w h) fault before after

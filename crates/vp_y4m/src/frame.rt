@@ -1,0 +1,58 @@
+//! Reading of one picture with its line.
+
+ghost use Rattle.std.specs.Prelude.{◌≡◌, ◌≢◌, Err};
+ghost use Rattle.vp_base.specs.Image.{blank_image};
+ghost use Rattle.vp_base.specs.Counted.{counted_remaining, counted_failures, HasFailed};
+ghost use Rattle.vp_y4m.specs.declared.fault.SourceFault.{SourceFault};
+ghost use Rattle.vp_y4m.specs.Frames.{FindsFrame, FindsPicture};
+
+use crate::fault::SourceFault;
+use crate::header::is_first_token;
+use crate::line::read_line;
+use crate::pixels::read_pixels;
+use std::io::Read;
+use vp_base::{Counted, Picture};
+
+// Reads the line before a picture; false where the reader's end comes before it.
+fn read_frame_line<R: Read>(reader: &mut Counted<R>) -> Result<bool, SourceFault>
+    ensures found { FindsFrame result (counted_remaining R.remaining reader.old)
+        (counted_remaining R.remaining reader.new) }
+    ensures device { result ≡ Err SourceFault.Device
+        → HasFailed (counted_failures reader.old) (counted_failures reader.new) }
+    ensures quiet { result ≢ Err SourceFault.Device → counted_failures reader.new ≡ counted_failures reader.old }
+{
+    let mut line = [0; 1024];
+    match read_line(reader, &mut line) {
+        Ok(Some(n)) => {
+            if !is_first_token(&line[..n], b"FRAME") {
+                return Err(SourceFault::Magic);
+            }
+            Ok(true)
+        }
+        Ok(None) => Ok(false),
+        Err(fault) => Err(fault),
+    }
+}
+
+/// Reads the next picture into a picture of zeros; false where the reader's end comes before its line.
+pub fn read_frame<R: Read>(
+    reader: &mut Counted<R>,
+    picture: &mut Picture,
+) -> Result<bool, SourceFault>
+    requires { picture.old ≡ blank_image picture.old.width picture.old.height 0 }
+    ensures found { FindsPicture picture.old.width picture.old.height result picture.new
+        (counted_remaining R.remaining reader.old) (counted_remaining R.remaining reader.new) }
+    ensures device { result ≡ Err SourceFault.Device
+        → HasFailed (counted_failures reader.old) (counted_failures reader.new) }
+    ensures quiet { result ≢ Err SourceFault.Device → counted_failures reader.new ≡ counted_failures reader.old }
+{
+    match read_frame_line(reader) {
+        Ok(true) => {}
+        Ok(false) => return Ok(false),
+        Err(fault) => return Err(fault),
+    }
+    match read_pixels(reader, picture) {
+        Ok(()) => Ok(true),
+        Err(fault) => Err(fault),
+    }
+}

@@ -1,0 +1,171 @@
+//! What the line before all pictures says.
+
+ghost use Rattle.std.specs.Prelude.{◌≡◌, ◌==◌, ◌<◌, length, position, IfSome, IfErr, MatchOption, ◌⊎◌};
+ghost use Rattle.std.specs.Char.{is_ascii_digit};
+ghost use Rattle.std.specs.List.{list_all, position_or_len, before_first, after_first};
+ghost use Rattle.vp_y4m.specs.declared.fault.SourceFault.{SourceFault};
+ghost use Rattle.vp_y4m.specs.Header.{is_space, begins_with, behind, last_of, number_in, side_in, rate_in, size_within, both, is_taken_colour, is_progressive, head_in};
+ghost use Rattle.vp_y4m.specs.Shown.{outcome_shown, text_of, sides_of};
+
+use crate::fault::SourceFault;
+use vp_base::{Dim, Limits};
+
+/// What a file says before its pictures.
+#[derive(Clone, Copy, Debug, PartialEq, Eq)]
+pub struct SourceHead {
+    /// The size of all its pictures.
+    pub dim: Dim,
+    /// How many pictures `scale` seconds have.
+    pub rate: u32,
+    /// How many seconds `rate` pictures take.
+    pub scale: u32,
+}
+
+// Where a byte stands first.
+fn place_of(text: &[u8], byte: u8) -> Option<usize>
+    ensures place { result ≡ position (λ b. b == byte) text.now }
+    ensures there { IfSome result (λ i. i < length text.now) }
+{
+    text.iter().position(|b| *b == byte)
+}
+
+// Whether the line's first token is the word.
+pub fn is_first_token(line: &[u8], word: &[u8]) -> bool
+    ensures { result ≡ begins_with word.now line.now }
+{
+    match place_of(line, b' ') {
+        Some(end) => &line[..end] == word,
+        None => line == word,
+    }
+}
+
+// The token's text behind its first byte, where that names the kind.
+fn text_behind(token: &[u8], kind: u8) -> Option<&[u8]>
+    ensures { text_of result ≡ behind kind token.now }
+{
+    match token {
+        [first, text @ ..] if *first == kind => Some(text),
+        _ => None,
+    }
+}
+
+// The first token and what stands behind its space, or none where the line has one token.
+fn split_token(line: &[u8]) -> Option<(&[u8], &[u8])>
+    ensures { MatchOption result (position_or_len is_space line.now ≡ length line.now) (λ p.
+        (position_or_len is_space line.now < length line.now)
+        × (p.0.now ≡ before_first is_space line.now) × (p.1.now ≡ after_first is_space line.now)) }
+{
+    let Some(end) = place_of(line, b' ') else {
+        return None;
+    };
+    Some((&line[..end], &line[end + 1..]))
+}
+
+// The text of the last token of a kind.
+fn last_text(line: &[u8], kind: u8) -> Option<&[u8]>
+    ensures { text_of result ≡ last_of kind line.now }
+{
+    let mut rest = line;
+    let mut last = None;
+    while let Some((token, behind)) = split_token(rest) {
+        last = text_behind(token, kind).or(last);
+        rest = behind;
+    }
+    text_behind(rest, kind).or(last)
+}
+
+fn all_digits(text: &[u8]) -> bool
+    ensures { result ≡ list_all is_ascii_digit text.now }
+{
+    text.iter().all(|c| c.is_ascii_digit())
+}
+
+// A decimal number without a sign.
+fn number(text: &[u8]) -> Option<u32>
+    ensures { result ≡ number_in text.now }
+{
+    if !all_digits(text) {
+        return None;
+    }
+    let Ok(text) = std::str::from_utf8(text) else {
+        return None;
+    };
+    text.parse::<u32>().ok()
+}
+
+// Rate and scale, 25:1 where nothing is said.
+fn rate_of(text: Option<&[u8]>) -> Option<(u32, u32)>
+    ensures { result ≡ rate_in (text_of text.entry) }
+{
+    let Some(text) = text else {
+        return Some((25, 1));
+    };
+    let colon = place_of(text, b':')?;
+    let rate = number(&text[..colon])?;
+    let scale = number(&text[colon + 1..])?;
+    Some((rate, scale))
+}
+
+fn side(text: Option<&[u8]>) -> Option<u32>
+    ensures { result ≡ side_in (text_of text.entry) }
+{
+    number(text?)
+}
+
+// The size, where both sides are a picture's and the limits allow it.
+fn size_of(w: Option<u32>, h: Option<u32>, limits: Limits) -> Option<Dim>
+    ensures { sides_of result ≡ size_within limits.pixels (both w h) }
+{
+    let w = u16::try_from(w?).ok()?;
+    let h = u16::try_from(h?).ok()?;
+    Dim::new(w, h, &limits).ok()
+}
+
+fn is_colour(text: Option<&[u8]>) -> bool
+    ensures { result ≡ is_taken_colour (text_of text.entry) }
+{
+    match text {
+        None => true,
+        Some(text) => {
+            text == b"420".as_slice()
+                || text == b"420jpeg".as_slice()
+                || text == b"420mpeg2".as_slice()
+                || text == b"420paldv".as_slice()
+        }
+    }
+}
+
+fn is_frame_wise(text: Option<&[u8]>) -> bool
+    ensures { result ≡ is_progressive (text_of text.entry) }
+{
+    match text {
+        None => true,
+        Some(text) => text == b"p".as_slice() || text == b"?".as_slice(),
+    }
+}
+
+/// What the first line of a file says. The faults come in the order `Magic`, `Size`, `Colour`, `Interlaced`.
+#[tactic(auto, unfolding(crate::specs::Header::head_in))]
+pub fn read_head_line(line: &[u8], limits: Limits) -> Result<SourceHead, SourceFault>
+    ensures value { outcome_shown result ≡ head_in limits.pixels line.now }
+    ensures faults { IfErr result (λ f. (f ≡ SourceFault.Magic) ⊎ ((f ≡ SourceFault.Size)
+        ⊎ ((f ≡ SourceFault.Colour) ⊎ (f ≡ SourceFault.Interlaced)))) }
+{
+    if !is_first_token(line, b"YUV4MPEG2") {
+        return Err(SourceFault::Magic);
+    }
+    let Some((rate, scale)) = rate_of(last_text(line, b'F')) else {
+        return Err(SourceFault::Magic);
+    };
+    let sides = (side(last_text(line, b'W')), side(last_text(line, b'H')));
+    let Some(dim) = size_of(sides.0, sides.1, limits) else {
+        return Err(SourceFault::Size);
+    };
+    if !is_colour(last_text(line, b'C')) {
+        return Err(SourceFault::Colour);
+    }
+    if !is_frame_wise(last_text(line, b'I')) {
+        return Err(SourceFault::Interlaced);
+    }
+    Ok(SourceHead { dim, rate, scale })
+}

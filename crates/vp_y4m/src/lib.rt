@@ -1,0 +1,19 @@
+//! YUV4MPEG2 files, written and read.
+#![tactic(auto)]
+
+mod fault;
+mod frame;
+mod header;
+mod laws;
+mod line;
+mod pixels;
+mod source;
+#[cfg(test)]
+mod tests;
+mod writing;
+
+pub use fault::SourceFault;
+pub use header::SourceHead;
+pub use laws::written_is_read;
+pub use source::{Progress, Source};
+pub use writing::{PictureFault, write_header, write_picture};

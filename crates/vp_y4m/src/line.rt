@@ -1,0 +1,65 @@
+//! Reading of lines.
+
+ghost use Rattle.std.specs.Prelude.{◌≡◌, ◌≢◌, ◌==◌, if◌then◌else◌, length, None, Ok, Err};
+ghost use Rattle.vp_base.specs.Counted.{counted_remaining, counted_failures, HasFailed};
+ghost use Rattle.vp_y4m.specs.declared.fault.SourceFault.{SourceFault};
+ghost use Rattle.vp_y4m.specs.Lines.{ReadsByte, ReadsLine};
+
+use crate::fault::SourceFault;
+use std::io::Read;
+use vp_base::Counted;
+
+// The next byte, or none at the reader's end.
+fn read_byte<R: Read>(reader: &mut Counted<R>) -> Result<Option<u8>, SourceFault>
+    ensures byte { ReadsByte result (counted_remaining R.remaining reader.old)
+        (counted_remaining R.remaining reader.new) }
+    ensures device { result ≡ Err SourceFault.Device
+        → HasFailed (counted_failures reader.old) (counted_failures reader.new) }
+    ensures quiet { result ≢ Err SourceFault.Device → counted_failures reader.new ≡ counted_failures reader.old }
+{
+    let mut byte = [0];
+    match reader.read(&mut byte) {
+        Ok(0) => Ok(None),
+        Ok(_) => Ok(Some(byte[0])),
+        Err(_) => Err(SourceFault::Device),
+    }
+}
+
+/// Reads a line of 1,024 bytes at most and its line feed, and no byte behind it. Gives the line's length, or
+/// None where the reader's end comes before the first byte.
+pub fn read_line<R: Read>(
+    reader: &mut Counted<R>,
+    line: &mut [u8],
+) -> Result<Option<usize>, SourceFault>
+    requires { length line.old ≡ 1024 }
+    ensures line { ReadsLine result line.new (counted_remaining R.remaining reader.old)
+        (counted_remaining R.remaining reader.new) }
+    ensures device { result ≡ Err SourceFault.Device
+        → HasFailed (counted_failures reader.old) (counted_failures reader.new) }
+    ensures quiet { result ≢ Err SourceFault.Device → counted_failures reader.new ≡ counted_failures reader.old }
+{
+    for n in 0..1024 {
+        match read_byte(reader) {
+            Ok(Some(b'\n')) => return Ok(Some(n)),
+            Ok(Some(byte)) => line[n] = byte,
+            Ok(None) => return end_after(n),
+            Err(fault) => return Err(fault),
+        }
+    }
+    match read_byte(reader) {
+        Ok(Some(b'\n')) => Ok(Some(1024)),
+        Ok(Some(_)) => Err(SourceFault::Magic),
+        Ok(None) => Err(SourceFault::Torn),
+        Err(fault) => Err(fault),
+    }
+}
+
+// The reader's end behind the first n bytes of a line.
+fn end_after(n: usize) -> Result<Option<usize>, SourceFault>
+    ensures { result ≡ (if n == 0 then Ok None else Err SourceFault.Torn) }
+{
+    if n == 0 {
+        return Ok(None);
+    }
+    Err(SourceFault::Torn)
+}

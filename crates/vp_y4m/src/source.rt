@@ -1,0 +1,146 @@
+//! A file that is read picture by picture.
+
+ghost use Rattle.std.specs.Prelude.{◌≡◌, ◌≢◌, None, Ok, Err, IfOk, IfErr};
+ghost use Rattle.vp_base.specs.Counted.{counted_remaining, counted_failures, HasFailed};
+ghost use Rattle.vp_y4m.specs.declared.fault.SourceFault.{SourceFault};
+ghost use Rattle.vp_y4m.specs.declared.source.Progress.{Progress};
+ghost use Rattle.vp_y4m.specs.Reads.{Shows, Fails};
+ghost use Rattle.vp_y4m.specs.Shown.{head_shown};
+ghost use Rattle.vp_y4m.specs.Pictures.{file_head};
+
+use crate::fault::SourceFault;
+use crate::frame::read_frame;
+use crate::header::{SourceHead, read_head_line};
+use crate::line::read_line;
+use std::alloc::Global;
+use std::io::Read;
+use vp_base::{Counted, Dim, Limits, Picture};
+
+impl SourceHead {
+    /// Reads the line before all pictures, and no byte behind it.
+    pub fn read<R: Read>(reader: &mut Counted<R>, limits: Limits) -> Result<SourceHead, SourceFault>
+        ensures ok { IfOk result (λ head. Shows (file_head limits.pixels) (λ rest. Ok (head_shown head, rest))
+            (counted_remaining R.remaining reader.old) (counted_remaining R.remaining reader.new)) }
+        ensures err { IfErr result (λ f. Fails (file_head limits.pixels) f
+            (counted_remaining R.remaining reader.old) (counted_remaining R.remaining reader.new)) }
+        ensures device { result ≡ Err SourceFault.Device
+            → HasFailed (counted_failures reader.old) (counted_failures reader.new) }
+        ensures quiet { result ≢ Err SourceFault.Device → counted_failures reader.new ≡ counted_failures reader.old }
+    {
+        let mut line = [0; 1024];
+        match read_line(reader, &mut line) {
+            Ok(Some(n)) => match read_head_line(&line[..n], limits) {
+                Ok(head) => Ok(head),
+                Err(fault) => Err(fault),
+            },
+            Ok(None) => Err(SourceFault::Torn),
+            Err(fault) => Err(fault),
+        }
+    }
+}
+
+/// How far a source has come.
+#[derive(Clone, Copy, Debug, PartialEq, Eq)]
+pub enum Progress {
+    /// Pictures may still come.
+    Open,
+    /// The end was met where a picture might have begun.
+    Ended,
+    /// This fault is answered for good.
+    Failed(SourceFault),
+}
+
+/// A file that is read picture by picture. It reads no byte ahead: after each answer exactly the bytes of the
+/// lines and pictures so far were taken from the reader.
+#[derive(Drop)]
+pub struct Source<'a, R: Read> {
+    alloc: Global,
+    reader: &'a mut Counted<R>,
+    head: SourceHead,
+    progress: Progress,
+}
+
+impl<'a, R: Read> Source<'a, R> {
+    ghost use Rattle.vp_y4m.specs.Source.{reader_name, bytes_left, failures_of, head_of, progress_of, progress_after, Answers};
+
+    /// The pictures behind a head that was read from this reader.
+    pub fn open(alloc: Global, reader: &'a mut Counted<R>, head: SourceHead) -> Source<'a, R>
+        ensures same_reference { reader_name result ≡ reader.entry.ghost_name }
+        ensures head { head_of result ≡ head_shown head }
+        ensures open { progress_of result ≡ Progress.Open }
+        ensures bytes { bytes_left R.remaining result ≡ counted_remaining R.remaining reader.entry.now }
+        ensures failures { failures_of result ≡ counted_failures reader.entry.now }
+    {
+        Source {
+            alloc,
+            reader,
+            head,
+            progress: Progress::Open,
+        }
+    }
+
+    /// The size of its pictures.
+    pub fn dim(&self) -> Dim
+        ensures width { result.w ≡ (head_of self.now).w }
+        ensures height { result.h ≡ (head_of self.now).h }
+    {
+        self.head.dim
+    }
+
+    /// How many pictures `scale` seconds have.
+    pub fn rate(&self) -> u32
+        ensures { result ≡ (head_of self.now).rate }
+    {
+        self.head.rate
+    }
+
+    /// How many seconds `rate` pictures take.
+    pub fn scale(&self) -> u32
+        ensures { result ≡ (head_of self.now).scale }
+    {
+        self.head.scale
+    }
+
+    /// The next picture, or None at the file's end. The pixels that aren't shown are 0.
+    pub fn next_picture(&mut self) -> Result<Option<Picture>, SourceFault>
+        ensures same_reference { reader_name self.new ≡ reader_name self.old }
+        ensures head { head_of self.new ≡ head_of self.old }
+
+        // The end and a fault stand for good. Room comes before the first read.
+        ensures ended { progress_of self.old ≡ Progress.Ended → (result ≡ Ok None) × (self.new ≡ self.old) }
+        ensures failed { (fault : SourceFault) → progress_of self.old ≡ Progress.Failed fault
+            → (result ≡ Err fault) × (self.new ≡ self.old) }
+        ensures memory { progress_of self.old ≡ Progress.Open → result ≡ Err SourceFault.Memory → self.new ≡ self.old }
+
+        // Else the answer is that of the bytes.
+        ensures answer { progress_of self.old ≡ Progress.Open → result ≢ Err SourceFault.Memory
+            → Answers (head_of self.old).w (head_of self.old).h result
+            (bytes_left R.remaining self.old) (bytes_left R.remaining self.new) }
+        ensures progress { progress_of self.old ≡ Progress.Open → result ≢ Err SourceFault.Memory
+            → progress_of self.new ≡ progress_after result }
+        ensures device { progress_of self.old ≡ Progress.Open → result ≡ Err SourceFault.Device
+            → HasFailed (failures_of self.old) (failures_of self.new) }
+        ensures quiet { progress_of self.old ≡ Progress.Open → result ≢ Err SourceFault.Device
+            → failures_of self.new ≡ failures_of self.old }
+    {
+        match self.progress {
+            Progress::Open => {}
+            Progress::Ended => return Ok(None),
+            Progress::Failed(fault) => return Err(fault),
+        }
+        let Ok(mut picture) = Picture::new(self.alloc, self.head.dim, 0) else {
+            return Err(SourceFault::Memory);
+        };
+        match read_frame(self.reader, &mut picture) {
+            Ok(true) => Ok(Some(picture)),
+            Ok(false) => {
+                self.progress = Progress::Ended;
+                Ok(None)
+            }
+            Err(fault) => {
+                self.progress = Progress::Failed(fault);
+                Err(fault)
+            }
+        }
+    }
+}
