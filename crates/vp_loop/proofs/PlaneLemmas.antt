@@ -1,5 +1,5 @@
 -- One plane of a picture changed after another.
-use Rattle.std.proofs.Common.{◌≡◌, ◌∙◌, ℕ, ◌+◌, ◌<◌, List, length, get_or, set, ap, sym, subst, arith, inl, inr, get_or-set_same, get_or-set_other}
+use Rattle.std.proofs.Common.{◌≡◌, ◌∙◌, ℕ, ◌+◌, ◌<◌, List, length, get_or, set, ap, sym, arith, inl, inr, get_or-set_same, get_or-set_other}
 use Rattle.std.proofs.lemmas.Bool.{cases_eq}
 use Rattle.vp_base.specs.Raster.{Raster}
 use Rattle.vp_base.specs.Image.{Image, plane_of, with_plane}
@@ -34,9 +34,6 @@ plane_turns k f g h p q e s =
 pub plane_keeps : {X : Type 0} (look : Raster → X) (k : ℕ) (f : Raster → Raster) (p q : Image) → q ≡ on_plane k f p
     → ((r : Raster) → look (f r) ≡ look r) → look (plane_of q k) ≡ look (plane_of p k)
 plane_keeps look k f p q e keeps = ap (λ (i : Image). look (plane_of i k)) e ∙ (ap look (plane_of-on_plane k f p) ∙ keeps (plane_of p k))
-
-pub plane_has : (P : Raster → Type 0) (k : ℕ) (f : Raster → Raster) (p q : Image) → q ≡ on_plane k f p → P (f (plane_of p k)) → P (plane_of q k)
-plane_has P k f p q e h = subst P (sym (ap (λ (i : Image). plane_of i k) e ∙ plane_of-on_plane k f p)) h
 
 -- one turn of a loop that writes a list's numbers in order
 pub written_next : {X : Type 0} (xs : List X) (c : ℕ) (v d : X) (g : ℕ → X) → c < length xs → ((i : ℕ) → i < c → get_or xs i d ≡ g i) → v ≡ g c

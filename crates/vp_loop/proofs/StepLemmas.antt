@@ -3,12 +3,13 @@ use Rattle.std.proofs.Common.{◌≡◌, ◌∙◌, ℕ, zero, suc, ◌+◌, ◌
 use Rattle.std.proofs.lemmas.Bool.Decides.{nat_tests}
 use Rattle.vp_base.specs.Raster.{Raster, pixel, with_run}
 use Rattle.vp_base.specs.Block.{with_block, is_in_block, IsWhole}
-use Rattle.vp_base.specs.Over.{over}
 use Rattle.vp_base.proofs.BlockLemmas.{pixel-with_block, IsWhole-with_block, with_block_none, with_block_more, same_raster}
-use Rattle.vp_base.proofs.OverLemmas.{over-none, over-more, over-kept, over-holds}
+use Rattle.vp_base.proofs.OverLemmas.{over-none, over-more, over-kept}
 use Rattle.vp_loop.specs.declared.lines.Line.{Line}
 use Rattle.vp_loop.specs.declared.lines.LineStep.{LineStep}
-use Rattle.vp_loop.specs.LineSteps.{stepped}
+use Rattle.vp_loop.specs.declared.lines.EdgeKind.{EdgeKind}
+use Rattle.vp_loop.specs.declared.lines.EdgeKind.TheVariants.{Simple, Inner, Macroblock}
+use Rattle.vp_loop.specs.LineSteps.{is_changed, is_high, macroblock_changed, changed, stepped}
 use Rattle.vp_loop.specs.Edges.{Way, along, down, columns_of, rows_of, line_at, pixels_of, pixel_at, line_step, edge_lines}
 
 -- ---- a line by its pixels
@@ -126,19 +127,43 @@ unfolding edge_lines
 height-edge_lines along step n x y p = over-kept (λ (q : Raster). q.height) n (λ j. line_step along step x (y + j)) p (λ k b. refl)
 height-edge_lines down step n x y p = over-kept (λ (q : Raster). q.height) n (λ j. line_step down step (x + j) y) p (λ k b. refl)
 
-pub over-whole : (n : ℕ) (f : ℕ → Raster → Raster) (p : Raster) → ((k : ℕ) (q : Raster) → IsWhole (f k q)) → IsWhole p → IsWhole (over n f p)
-over-whole n f p each whole = over-holds IsWhole n f p (λ k h q w. each k q) whole
-
 pub IsWhole-line_step : (way : Way) (step : LineStep) (x y : ℕ) (p : Raster) → IsWhole (line_step way step x y p)
 IsWhole-line_step way step x y p =
     IsWhole-with_block p x y (columns_of way) (rows_of way) (λ r c. pixel_at (stepped step (line_at way p x y)) (r + c))
 
-pub IsWhole-edge_lines : (way : Way) (step : LineStep) (n x y : ℕ) (p : Raster) → IsWhole p → IsWhole (edge_lines way step n x y p)
-unfolding edge_lines
-IsWhole-edge_lines along step n x y p whole = over-whole n (λ j. line_step along step x (y + j)) p (λ k q. IsWhole-line_step along step x (y + k) q) whole
-IsWhole-edge_lines down step n x y p whole = over-whole n (λ j. line_step down step (x + j) y) p (λ k q. IsWhole-line_step down step (x + k) y q) whole
+-- ---- a line that the mask leaves as it is
 
--- ---- the lines of a level edge are written row by row
+pub stepped-changed : (step : LineStep) (l : Line) → is_changed step l ≡ true → stepped step l ≡ changed step l
+unfolding stepped
+stepped-changed step l e = ap (λ (b : Bool). cond b (changed step l) l) e
+
+pub stepped-kept : (step : LineStep) (l : Line) → is_changed step l ≡ false → stepped step l ≡ l
+unfolding stepped
+stepped-kept step l e = ap (λ (b : Bool). cond b (changed step l) l) e
+
+in_along : (x y i j : ℕ) → is_in_block x y 8 1 i j ≡ true → (j ≡ y) × (x ≤ i) × (i < x + 8)
+in_along x y i j e = grind (arith, nat_tests)
+
+own_pixel : (p : Raster) (x y i j : ℕ) (t : Bool) → is_in_block x y 8 1 i j ≡ t
+    → cond t (pixel_at (line_at along p x y) ((j - y) + (i - x))) (pixel p i j) ≡ pixel p i j
+own_pixel p x y i j true e =
+    let here = in_along x y i j e in
+    let row : y ≡ j = sym here.0 in
+    let left = here.1 in
+    let right = here.2 in
+    pixel_at-line_at along p x y ((j - y) + (i - x)) (omega arith)
+    ∙ (ap (λ (n : ℕ). pixel p n y) (let column : x + ((j - y) + (i - x)) ≡ i = omega arith in column)
+    ∙ ap (λ (m : ℕ). pixel p i m) row)
+own_pixel p x y i j false e = refl
+
+pub line_step-kept : (step : LineStep) (x y : ℕ) (p : Raster) → IsWhole p → stepped step (line_at along p x y) ≡ line_at along p x y → line_step along step x y p ≡ p
+line_step-kept step x y p whole same =
+    same_raster (line_step along step x y p) p refl refl (IsWhole-line_step along step x y p) whole (λ i j iin jin.
+    pixel-line_step along step x y p i j iin jin
+    ∙ (ap (λ (l : Line). cond (is_in_block x y 8 1 i j) (pixel_at l ((j - y) + (i - x))) (pixel p i j)) same
+    ∙ own_pixel p x y i j (is_in_block x y 8 1 i j) refl))
+
+-- ---- the lines of a horizontal edge are written row by row
 
 -- the first h rows of n lines that stand side by side
 unfoldable pub rows_written : LineStep → ℕ → ℕ → ℕ → ℕ → Raster → Raster
@@ -162,6 +187,70 @@ width-rows_written step n x y h p = refl
 pub height-rows_written : (step : LineStep) (n x y h : ℕ) (p : Raster) → (rows_written step n x y h p).height ≡ p.height
 unfolding rows_written
 height-rows_written step n x y h p = refl
+
+-- ---- no step changes the pixels at the ends of a line
+
+macroblock_ends : (high : Bool) (l : Line) → ((macroblock_changed high l).p3 ≡ l.p3) × ((macroblock_changed high l).q3 ≡ l.q3)
+macroblock_ends true l = (refl, refl)
+macroblock_ends false l = (refl, refl)
+
+changed_ends : (kind : EdgeKind) (limit interior hev : ℕ) (l : Line) → let step : LineStep = record { kind = kind; limit = limit; interior = interior; hev = hev } in
+    ((changed step l).p3 ≡ l.p3) × ((changed step l).q3 ≡ l.q3)
+changed_ends Simple limit interior hev l = (refl, refl)
+changed_ends Inner limit interior hev l = (refl, refl)
+changed_ends Macroblock limit interior hev l = macroblock_ends (is_high hev l) l
+
+cond_ends : (b : Bool) (l m : Line) → (m.p3 ≡ l.p3) × (m.q3 ≡ l.q3) → ((cond b m l).p3 ≡ l.p3) × ((cond b m l).q3 ≡ l.q3)
+cond_ends true l m same = same
+cond_ends false l m same = (refl, refl)
+
+stepped_ends : (step : LineStep) (l : Line) → ((stepped step l).p3 ≡ l.p3) × ((stepped step l).q3 ≡ l.q3)
+unfolding stepped
+stepped_ends step l = cond_ends (is_changed step l) l (changed step l) (changed_ends step.kind step.limit step.interior step.hev l)
+
+in_last_row : (x y n h i j : ℕ) → is_in_block x (y + h) n 1 i j ≡ true
+    → (j ≡ y + h) × (x ≤ i) × (is_in_block x y n (h + 1) i j ≡ true) × (is_in_block x y n h i j ≡ false)
+in_last_row x y n h i j e = grind (arith, nat_tests)
+
+in_other_row : (x y n h i j : ℕ) → is_in_block x (y + h) n 1 i j ≡ false → is_in_block x y n (h + 1) i j ≡ is_in_block x y n h i j
+in_other_row x y n h i j e = grind (arith, nat_tests)
+
+-- a row that the steps keep need not be written
+module _ (step : LineStep) (n x y h : ℕ) (p : Raster) (small : h < 8) (same : (l : Line) → pixel_at (stepped step l) h ≡ pixel_at l h) where
+  abbrev written : ℕ → ℕ → ℕ
+  written i j = pixel_at (stepped step (line_at down p (x + (i - x)) y)) (j - y)
+
+  kept_pixel : (i j : ℕ) (t : Bool) → is_in_block x (y + h) n 1 i j ≡ t
+      → cond (is_in_block x y n (h + 1) i j) (written i j) (pixel p i j) ≡ cond (is_in_block x y n h i j) (written i j) (pixel p i j)
+  kept_pixel i j true e =
+      let here = in_last_row x y n h i j e in
+      let row : j ≡ y + h = here.0 in
+      let left = here.1 in
+      let l = line_at down p (x + (i - x)) y in
+      let own : written i j ≡ pixel p i j =
+      ap (λ (k : ℕ). pixel_at (stepped step l) k) (let place : j - y ≡ h = omega arith in place)
+      ∙ (same l
+      ∙ (pixel_at-line_at down p (x + (i - x)) y h small
+      ∙ (ap (λ (m : ℕ). pixel p m (y + h)) (let column : x + (i - x) ≡ i = omega arith in column)
+      ∙ ap (λ (m : ℕ). pixel p i m) (sym row)))) in
+      ap (λ (t : Bool). cond t (written i j) (pixel p i j)) here.2
+      ∙ (own ∙ sym (ap (λ (t : Bool). cond t (written i j) (pixel p i j)) here.3))
+  kept_pixel i j false e = ap (λ (t : Bool). cond t (written i j) (pixel p i j)) (in_other_row x y n h i j e)
+
+  row_kept : rows_written step n x y (h + 1) p ≡ rows_written step n x y h p
+  unfolding rows_written
+  row_kept =
+      let f = λ (r c : ℕ). pixel_at (stepped step (line_at down p (x + c) y)) r in
+      same_raster (with_block p x y n (h + 1) f) (with_block p x y n h f) refl refl
+      (IsWhole-with_block p x y n (h + 1) f) (IsWhole-with_block p x y n h f) (λ i j iin jin.
+      pixel-with_block p x y n (h + 1) f i j iin jin
+      ∙ (kept_pixel i j (is_in_block x (y + h) n 1 i j) refl ∙ sym (pixel-with_block p x y n h f i j iin jin)))
+
+pub rows_written-first : (step : LineStep) (n x y : ℕ) (p : Raster) → IsWhole p → rows_written step n x y 1 p ≡ p
+rows_written-first step n x y p whole = row_kept step n x y 0 p (omega arith) (λ l. (stepped_ends step l).0) ∙ rows_written-none step n x y p whole
+
+pub rows_written-last : (step : LineStep) (n x y : ℕ) (p : Raster) → rows_written step n x y 8 p ≡ rows_written step n x y 7 p
+rows_written-last step n x y p = row_kept step n x y 7 p (omega arith) (λ l. (stepped_ends step l).1)
 
 in_last_column : (x y n i j : ℕ) → is_in_block (x + n) y 1 8 i j ≡ true → (i ≡ x + n) × (is_in_block x y (suc n) 8 i j ≡ true)
 in_last_column x y n i j e = grind (arith, nat_tests)

@@ -12,9 +12,9 @@ use Rattle.vp_loop.specs.LineSteps.{stepped}
 
 -- how a line of eight pixels lies
 pub data Way : Type 0 where
-  -- along a row, across an upright edge
+  -- along a row, across a vertical edge
   along : Way
-  -- down a column, across a level edge
+  -- down a column, across a horizontal edge
   down : Way
 
 -- how many columns and rows it takes up
@@ -100,7 +100,7 @@ block_edges down size level x y p =
     when (nat_lt 0 level.inner) (inner_edges down (inner_step level) size x y)
     (when (nat_lt 0 y) (edge_lines down (outer_step level) size x (y - 4)) p)
 
--- the macroblock whose first pixel is at column x of row y of a plane: upright edges, then level ones
+-- the macroblock whose first pixel is at column x of row y of a plane: vertical edges, then horizontal ones
 unfoldable pub block_filtered : ℕ → Level → ℕ → ℕ → Raster → Raster
 block_filtered size level x y p =
     if level.edge == 0 then p else block_edges down size level x y (block_edges along size level x y p)

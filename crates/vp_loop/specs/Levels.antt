@@ -1,4 +1,4 @@
--- How strongly a macroblock is filtered (RFC 6386, chapter 9.3, 9.6, 15.1 to 15.3).
+-- How strongly a macroblock is filtered (RFC 6386, chapters 9.3, 9.4 and 15.2 to 15.4).
 use Rattle.std.specs.Prelude.{ℕ, ℤ, pos, Bool, List, ◌+◌, ◌-◌, ◌*◌, ◌/◌, ◌+ℤ◌, ◌==◌, ◌||◌, nat_le, nat_lt, min, max, unsigned_abs, slice_index_or, if◌then◌else◌}
 use Rattle.std.specs.Int.{int_min, int_max}
 use Rattle.vp_head.specs.declared.fields.Header.{Header}
@@ -26,14 +26,14 @@ segment_level header segment =
     else pos header.filter.level +ℤ signed_at header.segmentation.values.levels segment)
     else header.filter.level
 
--- what the reference adds (chapter 9.6)
+-- what the reference adds (chapter 9.4)
 abbrev pub reference_delta : LevelDeltas → Reference → ℤ
 reference_delta deltas Intra = signed_at deltas.reference 0
 reference_delta deltas Last = signed_at deltas.reference 1
 reference_delta deltas Golden = signed_at deltas.reference 2
 reference_delta deltas Alt = signed_at deltas.reference 3
 
--- what the mode adds (chapter 9.6)
+-- what the mode adds (chapter 9.4)
 abbrev pub mode_delta : LevelDeltas → Prediction → ℤ
 mode_delta deltas Whole = pos 0
 mode_delta deltas Subblocks = signed_at deltas.mode 0
@@ -50,12 +50,12 @@ summed_level header segment kind = clamped_level (pos (segment_level header segm
 abbrev pub macroblock_level : Header → ℕ → MacroblockKind → ℕ
 macroblock_level header segment kind = if header.filter.level == 0 then 0 else summed_level header segment kind
 
--- the interior limit of a level (chapter 15.2)
+-- the interior limit of a level (chapter 15.4)
 abbrev pub interior_limit : ℕ → ℕ → ℕ
 interior_limit sharpness level =
     max 1 (if sharpness == 0 then level else min (9 - sharpness) (level / (if nat_lt 4 sharpness then 4 else 2)))
 
--- the threshold of high edge variance (chapter 15.3)
+-- the threshold of high edge variance (chapter 15.4)
 abbrev pub variance_threshold : Bool → ℕ → ℕ
 variance_threshold key level =
     if key

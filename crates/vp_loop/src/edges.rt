@@ -1,11 +1,11 @@
 //! The lines across the edges of one macroblock, in one plane.
 
-ghost use Rattle.std.specs.Prelude.{◌≡◌, ℕ, ◌+◌, ◌-◌, ◌*◌, ◌/◌, ◌<◌, ◌≤◌, length, slice_index, slice_index_or};
+ghost use Rattle.std.specs.Prelude.{◌≡◌, ℕ, ◌+◌, ◌-◌, ◌*◌, ◌/◌, ◌<◌, ◌≤◌, List, length, slice_index, slice_index_or};
 ghost use Rattle.vp_base.specs.Raster.{Raster, pixel};
 ghost use Rattle.vp_base.specs.Image.{Image, plane_of, with_plane};
 ghost use Rattle.vp_loop.specs.LineSteps.{stepped};
 ghost use Rattle.vp_loop.specs.declared.lines.Line.{Line};
-ghost use Rattle.vp_loop.specs.Edges.{along, down, line_at, pixels_of, pixel_at, edge_lines, inner_edges, block_edges, block_filtered, outer_step, inner_step, on_plane};
+ghost use Rattle.vp_loop.specs.Edges.{along, down, line_at, pixels_of, line_step, edge_lines, inner_edges, block_edges, block_filtered, outer_step, inner_step, on_plane};
 
 use crate::lines::{EdgeKind, Line, LineStep};
 use crate::strength::Level;
@@ -19,14 +19,6 @@ impl Line {
         [
             self.p3, self.p2, self.p1, self.p0, self.q0, self.q1, self.q2, self.q3,
         ]
-    }
-
-    /// Pixel `r`, from `p3` to `q3`.
-    fn pixel(self, r: usize) -> u8
-        requires { r < 8 }
-        ensures { result ≡ pixel_at self r }
-    {
-        self.pixels()[r]
     }
 }
 
@@ -92,8 +84,29 @@ fn line_along(plane: &Plane, x: usize, y: usize) -> Line
     }
 }
 
-/// Filters over an upright edge: `n` lines, the first of which begins at column `x` of row `y`.
-fn filter_upright(picture: &mut Picture, k: usize, x: usize, y: usize, n: usize, step: LineStep)
+/// Filters the line along row `y` that begins at column `x`. Nothing is written where it stays as it is.
+fn filter_along(picture: &mut Picture, k: usize, x: usize, y: usize, step: LineStep)
+    requires plane { k < 3 }
+    requires columns { x + 8 ≤ (plane_of picture.old k).width }
+    requires row { y < (plane_of picture.old k).height }
+    ensures { picture.new ≡ on_plane k (line_step along step x y) picture.old }
+{
+    let _height = picture.plane(k).height();
+    let line = line_along(picture.plane(k), x, y);
+    if step.is_changed(line) {
+        picture.write_run(k, x, y, &step.changed(line).pixels());
+    }
+}
+
+/// Filters over a vertical edge: `n` lines, the first of which begins at column `x` of row `y`.
+fn filter_vertical_edge(
+    picture: &mut Picture,
+    k: usize,
+    x: usize,
+    y: usize,
+    n: usize,
+    step: LineStep,
+)
     requires plane { k < 3 }
     requires columns { x + 8 ≤ (plane_of picture.old k).width }
     requires rows { y + n ≤ (plane_of picture.old k).height }
@@ -103,19 +116,17 @@ fn filter_upright(picture: &mut Picture, k: usize, x: usize, y: usize, n: usize,
 {
     let _height = picture.plane(k).height();
     for j in 0..n {
-        let own = line_along(picture.plane(k), x, y + j);
-        let line = step.apply(own);
-        picture.write_run(k, x, y + j, &line.pixels());
+        filter_along(picture, k, x, y + j, step);
     }
 }
 
-/// The lines down `n` columns from column `x` on, each beginning at row `y`, as the filter leaves them.
+/// The pixels of the lines down `n` columns from column `x` on, each beginning at row `y`, as the filter leaves them.
 #[tactic(auto, unfolding(crate::specs::Edges::line_at))]
-fn lines_down(plane: &Plane, x: usize, y: usize, n: usize, step: LineStep) -> [Line; 16]
+fn lines_down(plane: &Plane, x: usize, y: usize, n: usize, step: LineStep) -> [[u8; 8]; 16]
     requires size { n ≤ 16 }
     requires columns { x + n ≤ plane.now.width }
     requires rows { y + 8 ≤ plane.now.height }
-    ensures { (c : ℕ) (d : Line) → c < n → slice_index_or result c d ≡ stepped step (line_at down plane.now (x + c) y) }
+    ensures { (c : ℕ) (d : List ℕ) → c < n → slice_index_or result c d ≡ pixels_of (stepped step (line_at down plane.now (x + c) y)) }
 {
     let _height = plane.height();
     let p3 = run(plane, x, y, n);
@@ -126,19 +137,9 @@ fn lines_down(plane: &Plane, x: usize, y: usize, n: usize, step: LineStep) -> [L
     let q1 = run(plane, x, y + 5, n);
     let q2 = run(plane, x, y + 6, n);
     let q3 = run(plane, x, y + 7, n);
-    let blank = Line {
-        p3: 0,
-        p2: 0,
-        p1: 0,
-        p0: 0,
-        q0: 0,
-        q1: 0,
-        q2: 0,
-        q3: 0,
-    };
-    let mut lines = [blank; 16];
+    let mut lines = [[0; 8]; 16];
     for c in 0..n {
-        lines[c] = step.apply(Line {
+        let line = step.apply(Line {
             p3: p3[c],
             p2: p2[c],
             p1: p1[c],
@@ -148,25 +149,33 @@ fn lines_down(plane: &Plane, x: usize, y: usize, n: usize, step: LineStep) -> [L
             q2: q2[c],
             q3: q3[c],
         });
+        lines[c] = line.pixels();
     }
     lines
 }
 
 /// Pixel `r` of each of the lines.
-fn pixel_row(lines: &[Line; 16], r: usize) -> [u8; 16]
+fn pixel_row(lines: &[[u8; 8]; 16], r: usize) -> [u8; 16]
     requires { r < 8 }
     ensures len { length result ≡ 16 }
-    ensures value { (c : ℕ) (d : Line) → c < 16 → slice_index result c ≡ pixel_at (slice_index_or lines.now c d) r }
+    ensures value { (c : ℕ) (d : List ℕ) → c < 16 → slice_index result c ≡ slice_index (slice_index_or lines.now c d) r }
 {
     let mut row = [0; 16];
     for c in 0..16 {
-        row[c] = lines[c].pixel(r);
+        row[c] = lines[c][r];
     }
     row
 }
 
-/// Filters over a level edge: `n` lines, the first of which begins at column `x` of row `y`.
-fn filter_level(picture: &mut Picture, k: usize, x: usize, y: usize, n: usize, step: LineStep)
+/// Filters over a horizontal edge: `n` lines, the first of which begins at column `x` of row `y`.
+fn filter_horizontal_edge(
+    picture: &mut Picture,
+    k: usize,
+    x: usize,
+    y: usize,
+    n: usize,
+    step: LineStep,
+)
     requires plane { k < 3 }
     requires size { n ≤ 16 }
     requires columns { x + n ≤ (plane_of picture.old k).width }
@@ -177,14 +186,15 @@ fn filter_level(picture: &mut Picture, k: usize, x: usize, y: usize, n: usize, s
 {
     let _height = picture.plane(k).height();
     let lines = lines_down(picture.plane(k), x, y, n, step);
-    for r in 0..8 {
+    // the rows of p3 and q3 stay as they are
+    for r in 1..7 {
         let row = pixel_row(&lines, r);
         picture.write_run(k, x, y + r, &row[..n]);
     }
 }
 
-/// Filters over the upright edges inside a macroblock of `size` pixels each way.
-fn filter_inner_upright(
+/// Filters over the vertical edges inside a macroblock of `size` pixels each way.
+fn filter_inner_vertical_edges(
     picture: &mut Picture,
     k: usize,
     size: usize,
@@ -202,12 +212,12 @@ fn filter_inner_upright(
 {
     let _width = picture.plane(k).width();
     for i in 0..size / 4 - 1 {
-        filter_upright(picture, k, x + 4 * i, y, size, step);
+        filter_vertical_edge(picture, k, x + 4 * i, y, size, step);
     }
 }
 
-/// Filters over the level edges inside a macroblock of `size` pixels each way.
-fn filter_inner_level(
+/// Filters over the horizontal edges inside a macroblock of `size` pixels each way.
+fn filter_inner_horizontal_edges(
     picture: &mut Picture,
     k: usize,
     size: usize,
@@ -225,13 +235,13 @@ fn filter_inner_level(
 {
     let _height = picture.plane(k).height();
     for i in 0..size / 4 - 1 {
-        filter_level(picture, k, x, y + 4 * i, size, step);
+        filter_horizontal_edge(picture, k, x, y + 4 * i, size, step);
     }
 }
 
-/// Filters over a macroblock's upright edges, the left one unless the plane begins there.
+/// Filters over a macroblock's vertical edges, the left one unless the plane begins there.
 #[tactic(auto, unfolding(crate::specs::Edges::block_edges))]
-fn filter_upright_edges(
+fn filter_all_vertical_edges(
     picture: &mut Picture,
     k: usize,
     size: usize,
@@ -249,16 +259,16 @@ fn filter_upright_edges(
     ensures high { (plane_of picture.new k).height ≡ (plane_of picture.old k).height }
 {
     if x > 0 {
-        filter_upright(picture, k, x - 4, y, size, level.outer_step());
+        filter_vertical_edge(picture, k, x - 4, y, size, level.outer_step());
     }
     if level.inner > 0 {
-        filter_inner_upright(picture, k, size, x, y, level.inner_step());
+        filter_inner_vertical_edges(picture, k, size, x, y, level.inner_step());
     }
 }
 
-/// Filters over a macroblock's level edges, the top one unless the plane begins there.
+/// Filters over a macroblock's horizontal edges, the top one unless the plane begins there.
 #[tactic(auto, unfolding(crate::specs::Edges::block_edges))]
-fn filter_level_edges(
+fn filter_all_horizontal_edges(
     picture: &mut Picture,
     k: usize,
     size: usize,
@@ -276,10 +286,10 @@ fn filter_level_edges(
     ensures high { (plane_of picture.new k).height ≡ (plane_of picture.old k).height }
 {
     if y > 0 {
-        filter_level(picture, k, x, y - 4, size, level.outer_step());
+        filter_horizontal_edge(picture, k, x, y - 4, size, level.outer_step());
     }
     if level.inner > 0 {
-        filter_inner_level(picture, k, size, x, y, level.inner_step());
+        filter_inner_horizontal_edges(picture, k, size, x, y, level.inner_step());
     }
 }
 
@@ -302,7 +312,7 @@ pub(crate) fn filter_block(
     ensures { picture.new ≡ on_plane k (block_filtered size level x y) picture.old }
 {
     if level.edge > 0 {
-        filter_upright_edges(picture, k, size, x, y, level);
-        filter_level_edges(picture, k, size, x, y, level);
+        filter_all_vertical_edges(picture, k, size, x, y, level);
+        filter_all_horizontal_edges(picture, k, size, x, y, level);
     }
 }

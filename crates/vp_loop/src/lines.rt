@@ -1,6 +1,6 @@
 //! The line step: eight pixels across an edge, to eight pixels.
 
-ghost use Rattle.std.specs.Prelude.{◌≡◌, ℕ, ℤ, ◌+◌, ◌*◌, ◌/◌, ◌≤◌, ◌≤ℤ◌, ◌+ℤ◌, ◌-ℤ◌, ◌*ℤ◌, pos, negsuc, cond, nat_le, nat_lt, ◌&&◌, ◌||◌, true};
+ghost use Rattle.std.specs.Prelude.{◌≡◌, ℕ, ℤ, ◌+◌, ◌*◌, ◌/◌, ◌≤◌, ◌≤ℤ◌, ◌+ℤ◌, ◌-ℤ◌, ◌*ℤ◌, pos, negsuc, cond, nat_le, nat_lt, ◌&&◌, ◌||◌, Bool, true};
 ghost use Rattle.std.specs.Int.{abs_diff};
 ghost use lib.Signed.{shr_z};
 ghost use Rattle.vp_loop.specs.LineSteps.{clamp8, signed, pixel_from, pull, eighth, drawn, half_step, inner_changed, share, macroblock_changed, is_small_step, is_smooth, is_high, is_changed, changed, stepped};
@@ -128,12 +128,13 @@ fn lowered(pixel: u8, by: i32) -> u8
     pixel_from(signed(pixel) - by)
 }
 
-fn drawn(outer: bool, line: Line) -> Line
-    ensures { result ≡ drawn outer line }
+/// The line drawn together by its pull.
+fn drawn_by(by: i32, line: Line) -> Line
+    requires { (negsuc 127 ≤ℤ by) × (by ≤ℤ pos 127) }
+    ensures { (outer : Bool) → by ≡ pull outer line → result ≡ drawn outer line }
 {
-    let pull = pull(outer, line);
-    let up = eighth(pull, 3);
-    let down = eighth(pull, 4);
+    let up = eighth(by, 3);
+    let down = eighth(by, 4);
     Line {
         p0: raised(line.p0, up),
         q0: lowered(line.q0, down),
@@ -141,25 +142,30 @@ fn drawn(outer: bool, line: Line) -> Line
     }
 }
 
-fn half_step(high: bool, line: Line) -> i32
-    ensures value { result ≡ half_step high line }
+fn drawn(outer: bool, line: Line) -> Line
+    ensures { result ≡ drawn outer line }
+{
+    drawn_by(pull(outer, line), line)
+}
+
+/// The step of a line whose pull is `by`.
+fn half_step(high: bool, by: i32) -> i32
+    requires { (negsuc 127 ≤ℤ by) × (by ≤ℤ pos 127) }
+    ensures value { (line : Line) → by ≡ pull high line → result ≡ half_step high line }
     ensures range { (negsuc 127 ≤ℤ result) × (result ≤ℤ pos 127) }
 {
-    if high {
-        0
-    } else {
-        half(eighth(pull(high, line), 4))
-    }
+    if high { 0 } else { half(eighth(by, 4)) }
 }
 
 fn inner_changed(high: bool, line: Line) -> Line
     ensures { result ≡ inner_changed high line }
 {
-    let half = half_step(high, line);
+    let pull = pull(high, line);
+    let half = half_step(high, pull);
     Line {
         p1: raised(line.p1, half),
         q1: lowered(line.q1, half),
-        ..drawn(high, line)
+        ..drawn_by(pull, line)
     }
 }
 

@@ -29,16 +29,16 @@ pub struct MacroblockKind {
     pub coded: bool,
 }
 
-/// How a macroblock is filtered.
+/// How a macroblock is filtered (RFC 6386, chapters 15.2 to 15.4).
 #[derive(Clone, Copy, Debug, PartialEq, Eq)]
 pub struct Level {
-    /// The limit over the edges of the macroblock; 0 where it isn't filtered.
+    /// The limit over the edges of the macroblock, at most 193; 0 where it isn't filtered.
     pub edge: u8,
-    /// The limit over its inner edges; 0 where they aren't filtered.
+    /// The limit over its inner edges, at most 189; 0 where they aren't filtered.
     pub inner: u8,
-    /// The limit on either side of an edge; 0 stands for the simple filter.
+    /// The limit on either side of an edge, 1 to 63 in the normal filter; 0 stands for the simple filter.
     pub interior: u8,
-    /// The threshold of high edge variance.
+    /// The threshold of high edge variance, 0 to 3 in the normal filter; 0 in the simple one.
     pub hev: u8,
 }
 
@@ -156,7 +156,8 @@ fn has_inner_edges(kind: &MacroblockKind) -> bool
         }
 }
 
-/// The filter level of a macroblock of segment `segment`; all 0 where it isn't filtered.
+/// How a macroblock of segment `segment` (0 to 3) is filtered; all 0 where it isn't. The numbers come from the frame's
+/// level and the segment's (RFC 6386, chapter 9.3), the differences of reference and mode (9.4) and the sharpness (15.4).
 #[tactic(auto, unfolding(crate::specs::Levels::level_of))]
 pub fn levels(header: &Header, segment: u8, kind: &MacroblockKind) -> Level
     ensures { result ≡ level_of header.now segment kind.now }

@@ -1,8 +1,9 @@
 //! The residues of a macroblock's subblocks (chapter 14).
 
-ghost use Rattle.std.specs.Prelude.{◌≡◌, ℕ, ◌+◌, ◌*◌, ◌<◌, ◌≤◌, ◌^◌, ℤ, pos, List, length, slice_index_or, unsigned_abs, true, false};
+ghost use Rattle.std.specs.Prelude.{◌≡◌, ℕ, ◌+◌, ◌*◌, ◌<◌, ◌≤◌, ◌^◌, ℤ, pos, ◌*ℤ◌, List, ◌∷◌, length, replicate, slice_index_or, slice_set, unsigned_abs, true, false};
 ghost use Rattle.vp_transform.specs.Fits.{EachWithin};
 ghost use Rattle.vp_transform.specs.Transform.{idct, iwht};
+ghost use Rattle.vp_quant.specs.Quant.{dequantised};
 ghost use Rattle.vp_recon.specs.Residue.{luma_firsts, luma_coefficients, luma_residue, chroma_residue};
 ghost use Rattle.vp_recon.specs.Added.{IsKept, AreKept};
 
@@ -11,30 +12,54 @@ use vp_quant::{Factors, dequant};
 use vp_tokens::Tokens;
 use vp_transform::{idct, idct_of_first, iwht};
 
-/// What is kept of the residue of a subblock's coefficients.
-fn residue_of(coefficients: &[i64; 16]) -> Kept
-    requires { EachWithin (2 ^ 40) coefficients.now }
-    ensures { IsKept result (idct coefficients.now) }
+/// What is kept of the residue of a subblock of levels, the first of which is multiplied by `dc`, the others by `ac`.
+fn residue_of(levels: &[i16; 16], dc: u16, ac: u16) -> Kept
+    ensures { IsKept result (idct (dequantised levels.now dc ac)) }
 {
-    if !is_first_alone(coefficients) {
-        return Some(all_shortened(&idct(coefficients)));
+    residue_with_first(levels, first_of(levels, dc), ac)
+}
+
+/// The first coefficient of a subblock of levels.
+fn first_of(levels: &[i16; 16], dc: u16) -> i64
+    ensures value { result ≡ slice_index_or levels.now 0 (pos 0) *ℤ pos dc }
+    ensures within { unsigned_abs result ≤ 2 ^ 31 }
+{
+    i64::from(levels[0]) * i64::from(dc)
+}
+
+/// What is kept of the residue of a subblock whose first coefficient is `first`; the others are its levels times `ac`.
+fn residue_with_first(levels: &[i16; 16], first: i64, ac: u16) -> Kept
+    requires { unsigned_abs first ≤ 2 ^ 40 }
+    ensures { IsKept result (idct (slice_set (dequantised levels.now 0 ac) 0 first)) }
+{
+    if is_first_alone(levels) {
+        return even_residue(first);
     }
-    match shortened(idct_of_first(coefficients[0])) {
+    let mut coefficients = dequant(levels, 0, ac);
+    coefficients[0] = first;
+    Some(all_shortened(&idct(&coefficients)))
+}
+
+/// What is kept of the residue of a subblock whose coefficients but the first are 0.
+fn even_residue(first: i64) -> Kept
+    requires { unsigned_abs first ≤ 2 ^ 40 }
+    ensures { IsKept result (idct (first ∷ replicate 15 (pos 0))) }
+{
+    match shortened(idct_of_first(first)) {
         0 => None,
         even => Some([even; 16]),
     }
 }
 
-/// Whether all numbers but the first are 0.
-fn is_first_alone(numbers: &[i64; 16]) -> bool
-    ensures { result ≡ true → (i : ℕ) → 0 < i → i < 16 → slice_index_or numbers.now i (pos 0) ≡ pos 0 }
+/// Whether all levels but the first are 0. All are looked at, with no branch for each.
+fn is_first_alone(levels: &[i16; 16]) -> bool
+    ensures { result ≡ true → (i : ℕ) → 0 < i → i < 16 → slice_index_or levels.now i (pos 0) ≡ pos 0 }
 {
+    let mut alone = true;
     for i in 1..16 {
-        if numbers[i] != 0 {
-            return false;
-        }
+        alone &= levels[i] == 0;
     }
-    true
+    alone
 }
 
 /// The first coefficients of the luma subblocks, from the Y2 block.
@@ -54,9 +79,7 @@ pub fn residues_with_y2(tokens: &Tokens, factors: &Factors) -> [Kept; 16]
     let firsts = luma_firsts(tokens, factors);
     let mut kept = [None; 16];
     for k in 0..16 {
-        let mut coefficients = dequant(&tokens.blocks[k + 1].levels, factors.y_dc, factors.y_ac);
-        coefficients[0] = firsts[k];
-        kept[k] = residue_of(&coefficients);
+        kept[k] = residue_with_first(&tokens.blocks[k + 1].levels, firsts[k], factors.y_ac);
     }
     kept
 }
@@ -68,8 +91,7 @@ pub fn residues_without_y2(tokens: &Tokens, factors: &Factors) -> [Kept; 16]
 {
     let mut kept = [None; 16];
     for k in 0..16 {
-        let coefficients = dequant(&tokens.blocks[k + 1].levels, factors.y_dc, factors.y_ac);
-        kept[k] = residue_of(&coefficients);
+        kept[k] = residue_of(&tokens.blocks[k + 1].levels, factors.y_dc, factors.y_ac);
     }
     kept
 }
@@ -82,12 +104,8 @@ pub fn chroma_residues(tokens: &Tokens, factors: &Factors, first: usize) -> [Kep
 {
     let mut kept = [None; 4];
     for k in 0..4 {
-        let coefficients = dequant(
-            &tokens.blocks[first + k].levels,
-            factors.uv_dc,
-            factors.uv_ac,
-        );
-        kept[k] = residue_of(&coefficients);
+        let levels = &tokens.blocks[first + k].levels;
+        kept[k] = residue_of(levels, factors.uv_dc, factors.uv_ac);
     }
     kept
 }

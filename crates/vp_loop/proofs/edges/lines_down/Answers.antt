@@ -1,7 +1,7 @@
 use Rattle.std.proofs.Common.{◌∙◌, ℕ, ◌+◌, ap, arith}
 use Rattle.std.proofs.lemmas.List.{length-set}
 use Rattle.vp_loop.specs.LineSteps.{stepped}
-use Rattle.vp_loop.specs.Edges.{down, line_at}
+use Rattle.vp_loop.specs.Edges.{down, line_at, pixels_of}
 use Rattle.vp_loop.proofs.PlaneLemmas.{written_next}
 use Rattle.vp_loop.proofs.edges.lines_down.Goals as goal
 
@@ -20,8 +20,8 @@ loop-c-preserved c =
     let e5 = c.run-q1.ensures.value n below in
     let e6 = c.run-q2.ensures.value n below in
     let e7 = c.run-q3.ensures.value n below in (
-      length-set c.loop-c.lines c.loop-c.c c.apply.result ∙ long,
-      λ i d h. written_next c.loop-c.lines c.loop-c.c c.apply.result d (λ (k : ℕ). stepped c.args.step (line_at down c.args.plane.now (c.args.x + k) c.args.y)) (omega arith)
+      length-set c.loop-c.lines c.loop-c.c c.pixels.result ∙ long,
+      λ i d h. written_next c.loop-c.lines c.loop-c.c c.pixels.result d (λ (k : ℕ). pixels_of (stepped c.args.step (line_at down c.args.plane.now (c.args.x + k) c.args.y))) (omega arith)
           (λ k before. c.loop-c.invariant.1 k d before)
-          (c.apply.ensures ∙ ap (stepped c.args.step) (λ i. record { p3 = e0 i; p2 = e1 i; p1 = e2 i; p0 = e3 i; q0 = e4 i; q1 = e5 i; q2 = e6 i; q3 = e7 i })) i h,
+          (c.pixels.ensures ∙ ap pixels_of (c.apply-line.ensures ∙ ap (stepped c.args.step) (λ i. record { p3 = e0 i; p2 = e1 i; p1 = e2 i; p0 = e3 i; q0 = e4 i; q1 = e5 i; q2 = e6 i; q3 = e7 i }))) i h,
     )

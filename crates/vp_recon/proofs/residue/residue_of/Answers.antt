@@ -1,38 +1,16 @@
-use Rattle.std.proofs.Common.{◌≡◌, ◌∙◌, ◌^◌, ℤ, pos, get_or, replicate, to_z, of_z, w16, unsigned_abs, ◌∷◌, sym, ap, arith}
-use Rattle.std.proofs.lemmas.Int.{ints}
-use Rattle.vp_transform.proofs.Bounds.{idct_fits}
-use Rattle.vp_transform.proofs.Sizes.{fits-below}
-use Rattle.vp_transform.proofs.Words.{coded, read}
+use Rattle.std.proofs.Common.{◌≡◌, ◌∙◌, ℤ, List, set, ap, subst, arith}
 use Rattle.vp_transform.specs.Transform.{idct}
-use Rattle.vp_recon.specs.Added.{short}
-use Rattle.vp_recon.proofs.ResidueLemmas.{even_residue, short-zero, sixteen_kept}
+use Rattle.vp_transform.proofs.Words.{coded, read}
+use Rattle.vp_transform.proofs.Sizes.{fits-below}
+use Rattle.vp_quant.specs.Quant.{dequantised}
+use Rattle.vp_recon.specs.Added.{IsKept}
+use Rattle.vp_recon.proofs.ResidueLemmas.{own_first}
 use Rattle.vp_recon.proofs.residue.residue_of.Goals as goal
 
-pub idct-requires : goal.idct-requires
-idct-requires c = idct_fits (2 ^ 40) c.args.coefficients.now c.requires (omega arith)
-
-pub returns-in-0 : goal.returns-in-0
-returns-in-0 c i below =
-    let dc : ℤ = get_or c.args.coefficients.now 0 (pos 0) in
-    let exact : coded dc ≡ dc = read dc (fits-below dc (omega (arith, c.requires 0))) in
-    let same : unsigned_abs (coded dc) ≡ unsigned_abs dc = ap unsigned_abs exact in
-    let z : ℤ = c.idct_of_first.result in
-    let value : coded z ≡ z = read z (fits-below z (omega (arith, c.idct_of_first.ensures.within, same, c.requires 0))) in
-    let even : idct (dc ∷ replicate 15 (pos 0)) ≡ replicate 16 z = ap (λ (y : ℤ). idct (y ∷ replicate 15 (pos 0))) (sym exact) ∙ c.idct_of_first.ensures.value in
-    let residue : get_or (idct c.args.coefficients.now) i (pos 0) ≡ z =
-    even_residue c.args.coefficients.now z i c.told-coefficients (c.is_first_alone.ensures c.if-not-is_first_alone.false) even below in
-    residue ∙ short-zero z (sym (c.shortened.ensures ∙ ap short value) ∙ (let zero : c.shortened.result ≡ pos 0 = omega (arith, ints) in zero))
-
-pub returns-in_default : goal.returns-in_default
-returns-in_default c i below =
-    let dc : ℤ = get_or c.args.coefficients.now 0 (pos 0) in
-    let exact : coded dc ≡ dc = read dc (fits-below dc (omega (arith, c.requires 0))) in
-    let same : unsigned_abs (coded dc) ≡ unsigned_abs dc = ap unsigned_abs exact in
-    let z : ℤ = c.idct_of_first.result in
-    let value : coded z ≡ z = read z (fits-below z (omega (arith, c.idct_of_first.ensures.within, same, c.requires 0))) in
-    let even : idct (dc ∷ replicate 15 (pos 0)) ≡ replicate 16 z = ap (λ (y : ℤ). idct (y ∷ replicate 15 (pos 0))) (sym exact) ∙ c.idct_of_first.ensures.value in
-    let residue : get_or (idct c.args.coefficients.now) i (pos 0) ≡ z =
-    even_residue c.args.coefficients.now z i c.told-coefficients (c.is_first_alone.ensures c.if-not-is_first_alone.false) even below in
-    ap (λ (y : ℤ). get_or (replicate 16 (to_z w16 (of_z w16 y))) i (pos 0)) (c.shortened.ensures ∙ ap short value)
-    ∙ sixteen_kept z i below
-    ∙ sym (ap short residue)
+pub returns : goal.returns
+returns c =
+    let P : List ℤ → Type 0 = λ (zs : List ℤ). IsKept c.residue_with_first.result (idct zs) in
+    let first : ℤ = c.first_of.result in
+    let exact : coded first ≡ first = read first (fits-below first (omega (arith, c.first_of.ensures.within))) in
+    subst P (ap (λ (z : ℤ). set (dequantised c.args.levels.now 0 c.args.ac) 0 z) (exact ∙ c.first_of.ensures.value)
+    ∙ own_first c.args.levels.now c.args.dc c.args.ac) c.residue_with_first.ensures

@@ -1,21 +1,20 @@
-use Rattle.std.proofs.Common.{◌≡◌, ◌∙◌, ℕ, ◌+◌, ◌<◌, length, take, get_or, ap, subst, arith}
+use Rattle.std.proofs.Common.{◌≡◌, ◌∙◌, ℕ, ◌+◌, ◌<◌, List, [], length, take, get_or, ap, sym, subst, arith}
 use Rattle.std.proofs.lemmas.List.{length-take, get_or-take}
 use Rattle.vp_base.specs.Raster.{Raster, with_run}
 use Rattle.vp_base.specs.Image.{plane_of}
 use Rattle.vp_base.specs.Block.{IsWhole}
-use Rattle.vp_loop.specs.declared.lines.Line.{Line}
 use Rattle.vp_loop.specs.LineSteps.{stepped}
-use Rattle.vp_loop.specs.Edges.{down, line_at, edge_lines, on_plane, pixel_at}
-use Rattle.vp_loop.proofs.StepLemmas.{rows_written, rows_written-none, rows_written-more, rows_written-all, width-rows_written, height-rows_written, width-edge_lines, height-edge_lines}
+use Rattle.vp_loop.specs.Edges.{down, line_at, edge_lines, on_plane, pixels_of, pixel_at}
+use Rattle.vp_loop.proofs.StepLemmas.{rows_written, rows_written-first, rows_written-last, rows_written-more, rows_written-all, width-rows_written, height-rows_written, width-edge_lines, height-edge_lines}
 use Rattle.vp_loop.proofs.PlaneLemmas.{plane_begins, plane_turns, plane_keeps, on_plane-as}
-use Rattle.vp_loop.proofs.edges.filter_level.Goals as goal
+use Rattle.vp_loop.proofs.edges.filter_horizontal_edge.Goals as goal
 
 pub loop-r-init : goal.loop-r-init
 loop-r-init c =
     let k = c.args.k in
     let p = c.args.picture.now in
-    plane_begins k (rows_written c.args.step c.args.n c.args.x c.args.y 0) p
-    (rows_written-none c.args.step c.args.n c.args.x c.args.y (plane_of p k) (subst IsWhole c.plane.ensures c.height-height.ensures.whole))
+    plane_begins k (rows_written c.args.step c.args.n c.args.x c.args.y 1) p
+    (rows_written-first c.args.step c.args.n c.args.x c.args.y (plane_of p k) (subst IsWhole c.plane.ensures c.height-height.ensures.whole))
 
 pub write_run-requires-clause-columns : goal.write_run-requires-clause-columns
 write_run-requires-clause-columns c =
@@ -48,25 +47,23 @@ loop-r-preserved c =
     let fits : length vs ≡ c.args.n = length-take c.args.n row ∙ omega arith in
     let value : (i : ℕ) → i < c.args.n → get_or vs i 0 ≡ pixel_at (stepped step (line_at down q (x + i) y)) c.loop-r.r =
     λ i h. get_or-take c.args.n row i 0 h
-    ∙ (c.pixel_row-row.ensures.value i blank (omega arith)
-    ∙ ap (λ (l : Line). pixel_at l c.loop-r.r) (c.lines_down-lines.ensures i blank h ∙ ap (λ (r : Raster). stepped step (line_at down r (x + i) y)) c.plane-2.ensures)) in
+    ∙ (c.pixel_row-row.ensures.value i [] (omega arith)
+    ∙ ap (λ (l : List ℕ). get_or l c.loop-r.r 0) (c.lines_down-lines.ensures i [] h ∙ ap (λ (r : Raster). pixels_of (stepped step (line_at down r (x + i) y))) c.plane-2.ensures)) in
     c.write_run.ensures
     ∙ plane_turns k (rows_written step c.args.n x y c.loop-r.r) (λ r. with_run r x (y + c.loop-r.r) vs) (rows_written step c.args.n x y (c.loop-r.r + 1)) first c.loop-r.picture c.loop-r.invariant
     (rows_written-more step c.args.n x y c.loop-r.r q vs columns (omega arith) fits value)
-  where
-    blank : Line
-    blank = record { p3 = 0; p2 = 0; p1 = 0; p0 = 0; q0 = 0; q1 = 0; q2 = 0; q3 = 0 }
 
 pub returns-clause-value : goal.returns-clause-value
 returns-clause-value c =
     let k = c.args.k in
     let p = c.args.picture.now in
-    let e : c.loop-r.r ≡ 8 = omega arith in
+    let e : c.loop-r.r ≡ 7 = omega arith in
     let whole : IsWhole (plane_of p k) = subst IsWhole c.plane.ensures c.height-height.ensures.whole in
     c.loop-r.invariant
     ∙ (ap (λ (h : ℕ). on_plane k (rows_written c.args.step c.args.n c.args.x c.args.y h) p) e
-    ∙ on_plane-as k (rows_written c.args.step c.args.n c.args.x c.args.y 8) (edge_lines down c.args.step c.args.n c.args.x c.args.y) p
-    (rows_written-all c.args.step c.args.n c.args.x c.args.y (plane_of p k) whole c.requires.columns c.requires.rows))
+    ∙ on_plane-as k (rows_written c.args.step c.args.n c.args.x c.args.y 7) (edge_lines down c.args.step c.args.n c.args.x c.args.y) p
+    (sym (rows_written-last c.args.step c.args.n c.args.x c.args.y (plane_of p k))
+    ∙ rows_written-all c.args.step c.args.n c.args.x c.args.y (plane_of p k) whole c.requires.columns c.requires.rows))
 
 pub returns-clause-wide : goal.returns-clause-wide
 returns-clause-wide c = plane_keeps (λ (r : Raster). r.width) c.args.k (edge_lines down c.args.step c.args.n c.args.x c.args.y) c.args.picture.now c.loop-r.picture (returns-clause-value c) (width-edge_lines down c.args.step c.args.n c.args.x c.args.y)
