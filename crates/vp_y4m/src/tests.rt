@@ -19,40 +19,70 @@ fn head_of(line: &[u8], k: u64) -> Result<SourceHead, SourceFault> {
 }
 
 #[test]
-fn source_reads_back(rt: HostRuntime) -> Result<(), Fail> {
+fn header_text(rt: HostRuntime) -> Result<(), Fail> {
     let dim = Dim::new(16, 16, &Limits::usual()).ok().ok_or("a size")?;
     let mut file = Counted::new(Vec::new(rt.alloc()));
     assert!(rt; write_header(&mut file, dim, 30, 1).is_ok());
-    assert!(rt; write_picture(&mut file, dim, pixels().as_slice(), dim).is_ok());
+    assert_eq!(rt;
+        file.into_inner().as_slice(),
+        b"YUV4MPEG2 W16 H16 F30:1 Ip A0:0 C420jpeg\n".as_slice()
+    );
+    Ok(())
+}
+
+#[test]
+fn picture_of_another_size(rt: HostRuntime) -> Result<(), Fail> {
+    let dim = Dim::new(16, 16, &Limits::usual()).ok().ok_or("a size")?;
     let other = Dim::new(16, 15, &Limits::usual()).ok().ok_or("a size")?;
+    let mut file = Counted::new(Vec::new(rt.alloc()));
+    assert!(rt; write_picture(&mut file, dim, pixels().as_slice(), dim).is_ok());
     assert_eq!(rt;
         write_picture(&mut file, dim, &[0; 368], other),
         Err(PictureFault::SizeChange)
     );
-    let file = file.into_inner();
-    assert_eq!(rt; file.len(), 431);
-    assert_eq!(rt;
-        &file[..47],
-        b"YUV4MPEG2 W16 H16 F30:1 Ip A0:0 C420jpeg\nFRAME\n".as_slice()
-    );
+    assert_eq!(rt; file.into_inner().len(), 390);
+    Ok(())
+}
 
+// A file of one picture.
+fn written(alloc: Global) -> Result<Vec<u8>, Fail> {
+    let dim = Dim::new(16, 16, &Limits::usual()).ok().ok_or("a size")?;
+    let mut file = Counted::new(Vec::new(alloc));
+    write_header(&mut file, dim, 30, 1).ok().ok_or("a header")?;
+    write_picture(&mut file, dim, pixels().as_slice(), dim)
+        .ok()
+        .ok_or("a picture")?;
+    Ok(file.into_inner())
+}
+
+#[test]
+fn source_reads_back(rt: HostRuntime) -> Result<(), Fail> {
+    let file = written(rt.alloc())?;
     let mut reader = Counted::new(file.as_slice());
     let head = SourceHead::read(&mut reader, Limits::usual())
         .ok()
         .ok_or("a head")?;
     let mut source = Source::open(rt.alloc(), &mut reader, head);
-    assert_eq!(rt; (source.dim(), source.rate(), source.scale()), (dim, 30, 1));
     let picture = source
         .next_picture()
         .ok()
         .ok_or("a picture")?
         .ok_or("a picture")?;
-    assert_eq!(rt;
-        picture.crop_i420(rt.alloc())?.as_slice(),
-        pixels().as_slice()
-    );
+    let bytes = picture.crop_i420(rt.alloc())?;
+    assert_eq!(rt; bytes.as_slice(), pixels().as_slice());
     assert!(rt; matches!(source.next_picture(), Ok(None)));
-    assert!(rt; matches!(source.next_picture(), Ok(None)));
+    Ok(())
+}
+
+#[test]
+fn source_says_its_head(rt: HostRuntime) -> Result<(), Fail> {
+    let mut reader = Counted::new(b"YUV4MPEG2 W3 H2 F30:1\n".as_slice());
+    let head = SourceHead::read(&mut reader, Limits::usual())
+        .ok()
+        .ok_or("a head")?;
+    let source = Source::open(rt.alloc(), &mut reader, head);
+    assert_eq!(rt; (source.dim().w, source.dim().h), (3, 2));
+    assert_eq!(rt; (source.rate(), source.scale()), (30, 1));
     Ok(())
 }
 
@@ -68,6 +98,18 @@ fn header_lines(rt: HostRuntime) -> Result<(), Fail> {
         .ok()
         .ok_or("a head")?;
     assert_eq!(rt; (head.rate, head.scale), (25, 1));
+    Ok(())
+}
+
+#[test]
+fn header_of_another_writer(rt: HostRuntime) -> Result<(), Fail> {
+    let line =
+        b"YUV4MPEG2 W35 H17 F30000:1001 Ip A1:1 C420jpeg XYSCSS=420JPEG XCOLORRANGE=LIMITED\n";
+    let head = head_of(line, 2_000).ok().ok_or("a head")?;
+    assert_eq!(rt;
+        (head.dim.w, head.dim.h, head.rate, head.scale),
+        (35, 17, 30_000, 1_001)
+    );
     Ok(())
 }
 
