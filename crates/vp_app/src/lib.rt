@@ -3,8 +3,6 @@
 
 mod listing;
 mod program;
-#[cfg(test)]
-mod tests;
 mod words;
 
 pub use program::command;

@@ -10,7 +10,7 @@ use vp_stream::{OutcomeList, Survey};
 
 /// Prints the file's size and rate, where its head is good, how many packets it has, and a line for each of them:
 /// its number, its bytes, and `Shown`, `Hidden` or its fault.
-pub fn print_survey<W: Write>(survey: &Survey, output: &mut Counted<W>) -> io::Result<()> {
+pub(crate) fn print_survey<W: Write>(survey: &Survey, output: &mut Counted<W>) -> io::Result<()> {
     if let Some(head) = &survey.head {
         writeln!(output, "size {}x{}", head.w, head.h)?;
         writeln!(output, "rate {}/{}", head.rate, head.scale)?;

@@ -25,7 +25,7 @@ pub enum Plan<'a> {
 
 /// Reads the words, of which the first is the program's name. The error's text says what is wrong, or is the
 /// help that was asked for.
-pub fn read_words<'a>(alloc: Global, words: &'a [&'a str]) -> Result<Plan<'a>, Error> {
+pub(crate) fn read_words<'a>(alloc: Global, words: &'a [&'a str]) -> Result<Plan<'a>, Error> {
     let matches = program(alloc)?.try_get_matches_from(words)?;
     Ok(match matches.subcommand() {
         Some(("decode", found)) => decode_plan(found),

@@ -2,7 +2,7 @@ ghost use Rattle.std.specs.Prelude.{◌≡◌, ◌≤◌, ◌<◌, ◌*◌, ◌+
 ghost use Rattle.vp_base.specs.Image.{macroblocks};
 ghost use Rattle.vp_motion.specs.Map.{AreSmall};
 ghost use Rattle.vp_tokens.specs.Blocks.{Blocks, StandsFor};
-ghost use Rattle.vp_decode.specs.Frame.{Fits, reading, row_tokens, rebuilt_row, rebuilt_by, levels_of, unfiltered, tokens_of, level_at, listed, factors_at};
+ghost use Rattle.vp_decode.specs.Frame.{MapsFit, reading, row_tokens, rebuilt_row, rebuilt_by, levels_of, unfiltered, tokens_of, level_at, listed, factors_at};
 
 use crate::maps::{Maps, filter_kind, has_y2, is_intra};
 use vp_base::Picture;
@@ -67,7 +67,7 @@ fn rebuild_row(
     all_levels: &mut [Level],
 )
     requires row { row < maps.now.modes.rows }
-    requires fits { Fits maps.now }
+    requires fits { MapsFit maps.now }
     requires columns { maps.now.modes.cols ≡ macroblocks picture.old.width }
     requires rows { maps.now.modes.rows ≡ macroblocks picture.old.height }
     requires levels { length all_levels.old ≡ maps.now.modes.rows * maps.now.modes.cols }
@@ -98,7 +98,7 @@ fn rebuild_row(
 }
 
 /// Reads all tokens, rebuilds the unfiltered picture, and finds the levels of all macroblocks.
-pub fn rebuild_rows(
+pub(crate) fn rebuild_rows(
     header: &Header,
     version: u8,
     refs: Option<&Refs>,
@@ -109,7 +109,7 @@ pub fn rebuild_rows(
     levels: &mut [Level],
 )
     requires some { 0 < length decoders.old }
-    requires fits { Fits maps.now }
+    requires fits { MapsFit maps.now }
     requires columns { maps.now.modes.cols ≡ macroblocks picture.old.width }
     requires rows { maps.now.modes.rows ≡ macroblocks picture.old.height }
     requires contexts { StandsFor maps.now.modes.cols [] contexts.old }

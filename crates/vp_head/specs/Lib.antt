@@ -5,3 +5,4 @@ pub mod Probabilities
 pub mod Saved
 pub mod Header
 pub mod Bounds
+pub mod Names

@@ -1,3 +1,8 @@
+//! What is wrong with a packet.
+
+ghost use Rattle.std.specs.Prelude.{Some};
+ghost use Rattle.vp_head.specs.Names.{name_of};
+
 use std::fmt;
 
 /// Why a packet can't be decoded. The faults are looked for in this order, but that the ten bytes of a key packet
@@ -26,6 +31,8 @@ pub enum PacketFault {
 
 /// The fault's name, as it is told; `Partition 2` has the partition's number.
 impl fmt::Display for PacketFault {
+    ghost output = { λ fault. Some (name_of fault) };
+
     fn fmt<W: fmt::Write>(&self, f: &mut fmt::Formatter<W>) -> fmt::Result {
         let name = match self {
             PacketFault::Truncated => "Truncated",

@@ -36,7 +36,7 @@ fn read_type(table: &[[[u8; 11]; 3]; 8], old: &mut [[[u8; 11]; 3]; 8], d: &mut B
 }
 
 /// Coefficient probabilities.
-pub fn read_coefficients(old: &mut [[[[u8; 11]; 3]; 8]; 4], d: &mut BoolDecoder)
+pub(crate) fn read_coefficients(old: &mut [[[[u8; 11]; 3]; 8]; 4], d: &mut BoolDecoder)
     ensures value { old.new ≡ (coefficients old.old d.old).0 }
     ensures rest { d.new ≡ (coefficients old.old d.old).1 }
 {
@@ -48,7 +48,7 @@ pub fn read_coefficients(old: &mut [[[[u8; 11]; 3]; 8]; 4], d: &mut BoolDecoder)
 
 /// The luma mode probabilities: all anew where that is asked for and their flag is set.
 #[tactic(auto, unfolding(crate::specs::Probabilities::luma, vp_bool::specs::Reader::bind))]
-pub fn read_luma_if(asked: bool, old: &mut [u8; 4], d: &mut BoolDecoder)
+pub(crate) fn read_luma_if(asked: bool, old: &mut [u8; 4], d: &mut BoolDecoder)
     ensures value { old.new ≡ (when asked (luma old.old) old.old d.old).0 }
     ensures rest { d.new ≡ (when asked (luma old.old) old.old d.old).1 }
 {
@@ -59,7 +59,7 @@ pub fn read_luma_if(asked: bool, old: &mut [u8; 4], d: &mut BoolDecoder)
 
 /// The chroma mode probabilities, likewise.
 #[tactic(auto, unfolding(crate::specs::Probabilities::chroma, vp_bool::specs::Reader::bind))]
-pub fn read_chroma_if(asked: bool, old: &mut [u8; 3], d: &mut BoolDecoder)
+pub(crate) fn read_chroma_if(asked: bool, old: &mut [u8; 3], d: &mut BoolDecoder)
     ensures value { old.new ≡ (when asked (chroma old.old) old.old d.old).0 }
     ensures rest { d.new ≡ (when asked (chroma old.old) old.old d.old).1 }
 {
@@ -100,7 +100,7 @@ fn read_vectors(old: &mut [[u8; 19]; 2], d: &mut BoolDecoder)
 }
 
 /// The vector probabilities: each by its flag, where that is asked for.
-pub fn read_vectors_if(asked: bool, old: &mut [[u8; 19]; 2], d: &mut BoolDecoder)
+pub(crate) fn read_vectors_if(asked: bool, old: &mut [[u8; 19]; 2], d: &mut BoolDecoder)
     ensures value { old.new ≡ (when asked (vectors old.old) old.old d.old).0 }
     ensures rest { d.new ≡ (when asked (vectors old.old) old.old d.old).1 }
 {

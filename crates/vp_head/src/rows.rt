@@ -22,7 +22,7 @@ pub struct Refreshes {
 }
 
 /// A number of so many bits.
-pub fn number(bits: u32, d: &mut BoolDecoder) -> u8
+pub(crate) fn number(bits: u32, d: &mut BoolDecoder) -> u8
     requires { bits ≤ 8 }
     ensures value { result ≡ (literal bits d.old).0 }
     ensures rest { d.new ≡ (literal bits d.old).1 }
@@ -32,7 +32,7 @@ pub fn number(bits: u32, d: &mut BoolDecoder) -> u8
 }
 
 /// A flag where it is asked for, else this.
-pub fn flag_if(asked: bool, otherwise: bool, d: &mut BoolDecoder) -> bool
+pub(crate) fn flag_if(asked: bool, otherwise: bool, d: &mut BoolDecoder) -> bool
     ensures value { result ≡ (when asked flag otherwise d.old).0 }
     ensures rest { d.new ≡ (when asked flag otherwise d.old).1 }
 {
@@ -66,7 +66,7 @@ fn read_signed(bits: u32, otherwise: i8, d: &mut BoolDecoder) -> i8
 
 /// A probability behind a flag, or this where the flag isn't set.
 #[tactic(auto, unfolding(crate::specs::Rows::renewed, vp_bool::specs::Reader::bind))]
-pub fn read_renewed(probability: u8, otherwise: u8, d: &mut BoolDecoder) -> u8
+pub(crate) fn read_renewed(probability: u8, otherwise: u8, d: &mut BoolDecoder) -> u8
     ensures value { result ≡ (renewed probability otherwise d.old).0 }
     ensures rest { d.new ≡ (renewed probability otherwise d.old).1 }
 {
@@ -129,7 +129,7 @@ fn read_tree_probabilities(d: &mut BoolDecoder) -> [u8; 3]
 }
 
 #[tactic(auto, unfolding(crate::specs::Header::segmentation, vp_bool::specs::Reader::bind))]
-pub fn read_segmentation(kept: &SegmentValues, d: &mut BoolDecoder) -> Segmentation
+pub(crate) fn read_segmentation(kept: &SegmentValues, d: &mut BoolDecoder) -> Segmentation
     ensures value { result ≡ (segmentation kept.now d.old).0 }
     ensures rest { d.new ≡ (segmentation kept.now d.old).1 }
 {
@@ -155,7 +155,7 @@ pub fn read_segmentation(kept: &SegmentValues, d: &mut BoolDecoder) -> Segmentat
 }
 
 #[tactic(auto, unfolding(crate::specs::Header::filter, vp_bool::specs::Reader::bind))]
-pub fn read_filter(d: &mut BoolDecoder) -> Filter
+pub(crate) fn read_filter(d: &mut BoolDecoder) -> Filter
     ensures value { result ≡ (filter d.old).0 }
     ensures rest { d.new ≡ (filter d.old).1 }
     ensures level { result.level ≤ 63 }
@@ -173,7 +173,7 @@ pub fn read_filter(d: &mut BoolDecoder) -> Filter
 
 /// Whether the level deltas apply, and their values.
 #[tactic(auto, unfolding(crate::specs::Header::level_deltas, vp_bool::specs::Reader::bind))]
-pub fn read_level_deltas(kept: &LevelDeltas, d: &mut BoolDecoder) -> (bool, LevelDeltas)
+pub(crate) fn read_level_deltas(kept: &LevelDeltas, d: &mut BoolDecoder) -> (bool, LevelDeltas)
     ensures value { result ≡ (level_deltas kept.now d.old).0 }
     ensures rest { d.new ≡ (level_deltas kept.now d.old).1 }
 {
@@ -187,7 +187,7 @@ pub fn read_level_deltas(kept: &LevelDeltas, d: &mut BoolDecoder) -> (bool, Leve
 }
 
 #[tactic(auto, unfolding(crate::specs::Header::quantiser_indices, vp_bool::specs::Reader::bind))]
-pub fn read_quantiser_indices(d: &mut BoolDecoder) -> QuantiserIndices
+pub(crate) fn read_quantiser_indices(d: &mut BoolDecoder) -> QuantiserIndices
     ensures value { result ≡ (quantiser_indices d.old).0 }
     ensures rest { d.new ≡ (quantiser_indices d.old).1 }
     ensures y_ac { result.y_ac ≤ 127 }
@@ -227,7 +227,7 @@ fn copy_if(asked: bool, d: &mut BoolDecoder) -> ReferenceCopy
 }
 
 #[tactic(auto, unfolding(crate::specs::Header::refreshes, vp_bool::specs::Reader::bind))]
-pub fn read_refreshes(key: bool, kept: &SignBiases, d: &mut BoolDecoder) -> Refreshes
+pub(crate) fn read_refreshes(key: bool, kept: &SignBiases, d: &mut BoolDecoder) -> Refreshes
     ensures value { result ≡ (refreshes key kept.now d.old).0 }
     ensures rest { d.new ≡ (refreshes key kept.now d.old).1 }
 {
@@ -254,7 +254,7 @@ pub fn read_refreshes(key: bool, kept: &SignBiases, d: &mut BoolDecoder) -> Refr
 
 /// The probability that a macroblock isn't skipped, where skipping is coded.
 #[tactic(auto, unfolding(crate::specs::Header::skip, vp_bool::specs::Reader::bind))]
-pub fn read_skip(d: &mut BoolDecoder) -> Option<u8>
+pub(crate) fn read_skip(d: &mut BoolDecoder) -> Option<u8>
     ensures value { result ≡ (skip d.old).0 }
     ensures rest { d.new ≡ (skip d.old).1 }
 {
@@ -267,7 +267,7 @@ pub fn read_skip(d: &mut BoolDecoder) -> Option<u8>
 
 /// The probabilities of the references where they are asked for, else 0.
 #[tactic(auto, unfolding(crate::specs::Header::reference_probabilities, vp_bool::specs::Reader::bind))]
-pub fn reference_probabilities_if(asked: bool, d: &mut BoolDecoder) -> ReferenceProbabilities
+pub(crate) fn reference_probabilities_if(asked: bool, d: &mut BoolDecoder) -> ReferenceProbabilities
     ensures value { result ≡ (when asked reference_probabilities no_references d.old).0 }
     ensures rest { d.new ≡ (when asked reference_probabilities no_references d.old).1 }
 {

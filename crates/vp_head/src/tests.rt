@@ -8,26 +8,25 @@ const KEY: [u8; 10] = [0x10, 0, 0, 0x9d, 0x01, 0x2a, 0x10, 0, 0x10, 0];
 #[test]
 fn packet_faults(rt: HostRuntime) -> Result<(), Fail> {
     let limits = Limits::usual();
-    let tag = Tag::read(&KEY, &limits)?;
-    assert!(rt; tag.show);
-    assert_eq!(rt; tag.version, 0);
-    assert_eq!(rt; tag.first_partition, 0);
-    let key = tag.key.ok_or("a key packet")?;
-    assert_eq!(rt; key.dim.w, 16);
-    assert_eq!(rt; key.dim.h, 16);
-    assert_eq!(rt; Tag::read(&KEY[..9], &limits), Err(PacketFault::Truncated));
-    assert_eq!(rt; Tag::read(&[0x11, 0], &limits), Err(PacketFault::Truncated));
-    assert_eq!(rt;
-        Tag::read(&[0x18, 0, 0], &limits),
-        Err(PacketFault::Version)
-    );
-    let inter = Tag::read(&[0x31, 0x02, 0x80], &limits)?;
-    assert_eq!(rt; inter.key, None);
-    assert_eq!(rt; inter.first_partition, 262_161);
     let mut other = KEY;
     other[5] = 0x2b;
     other[6] = 0;
-    assert_eq!(rt; Tag::read(&other, &limits), Err(PacketFault::StartCode));
+    let faults: [(&[u8], PacketFault); 4] = [
+        (&KEY[..9], PacketFault::Truncated),
+        (&[0x11, 0], PacketFault::Truncated),
+        (&[0x18, 0, 0], PacketFault::Version),
+        (&other, PacketFault::StartCode),
+    ];
+    for (packet, fault) in faults {
+        assert_eq!(rt; Tag::read(packet, &limits), Err(fault));
+    }
+    let wanted = Tag {
+        version: 0,
+        show: true,
+        first_partition: 262_161,
+        key: None,
+    };
+    assert_eq!(rt; Tag::read(&[0x31, 0x02, 0x80], &limits), Ok(wanted));
     Ok(())
 }
 
@@ -64,42 +63,43 @@ fn all_ones_header(rt: HostRuntime) -> Result<(), Fail> {
     let mut decoder = BoolDecoder::new(&[255]);
     let (header, saved) = Header::read(&Saved::defaults(), &tag, &mut decoder);
     assert!(rt; header.key && header.color_space && header.clamping_type);
-    assert!(rt; header.segmentation.enabled && header.segmentation.update_map);
-    assert!(rt; header.segmentation.values.absolute);
-    assert_eq!(rt; header.segmentation.values.quantisers, [-127; 4]);
-    assert_eq!(rt; header.segmentation.values.levels, [-63; 4]);
-    assert_eq!(rt; header.segmentation.tree_probabilities, [255; 3]);
-    assert_eq!(rt;
-        header.filter,
-        Filter {
-            simple: true,
-            level: 63,
-            sharpness: 7
-        }
-    );
-    assert!(rt; header.deltas_enabled);
-    assert_eq!(rt;
-        header.deltas,
-        LevelDeltas {
-            reference: [-63; 4],
-            mode: [-63; 4]
-        }
-    );
-    assert_eq!(rt; header.log2_partitions, 3);
-    assert_eq!(rt; header.quantiser.y_ac, 127);
-    assert_eq!(rt; header.quantiser.y_dc, -15);
-    assert_eq!(rt; header.quantiser.y2_dc, -15);
-    assert_eq!(rt; header.quantiser.y2_ac, -15);
-    assert_eq!(rt; header.quantiser.uv_dc, -15);
-    assert_eq!(rt; header.quantiser.uv_ac, -15);
-    assert!(rt; header.refresh_entropy);
+    assert!(rt; header.deltas_enabled && header.refresh_entropy);
+    let segmentation = Segmentation {
+        enabled: true,
+        update_map: true,
+        values: SegmentValues {
+            absolute: true,
+            quantisers: [-127; 4],
+            levels: [-63; 4],
+        },
+        tree_probabilities: [255; 3],
+    };
+    assert_eq!(rt; header.segmentation, segmentation);
+    assert_eq!(rt; saved.segments, segmentation.values);
+    let filter = Filter {
+        simple: true,
+        level: 63,
+        sharpness: 7,
+    };
+    assert_eq!(rt; header.filter, filter);
+    let deltas = LevelDeltas {
+        reference: [-63; 4],
+        mode: [-63; 4],
+    };
+    assert_eq!(rt; header.deltas, deltas);
+    let quantiser = QuantiserIndices {
+        y_ac: 127,
+        y_dc: -15,
+        y2_dc: -15,
+        y2_ac: -15,
+        uv_dc: -15,
+        uv_ac: -15,
+    };
+    assert_eq!(rt; header.quantiser, quantiser);
+    assert_eq!(rt; (header.log2_partitions, header.skip), (3, Some(255)));
     assert!(rt; all_coefficients_are_255(&header));
-    assert_eq!(rt; header.skip, Some(255));
-    assert_eq!(rt; saved.segments, header.segmentation.values);
-    assert_eq!(rt;
-        saved.probabilities.vectors,
-        Saved::defaults().probabilities.vectors
-    );
+    let kept = Saved::defaults().probabilities.vectors;
+    assert_eq!(rt; saved.probabilities.vectors, kept);
     Ok(())
 }
 
@@ -149,7 +149,7 @@ fn renew(coefficients: &mut [[[[u8; 11]; 3]; 8]; 4], changes: &[([usize; 4], u8)
     }
 }
 
-/// The first packet of `synth_20008.ivf` in crates/outside_streams/data, to the end of its header. The values below
+/// The first packet of `synth_20008.ivf` in crates/vp_tests/data, to the end of its header. The values below
 /// are those of a reader that was written apart from this one.
 const KEY_PACKET: [u8; 34] = [
     0xf0, 0x05, 0x00, 0x9d, 0x01, 0x2a, 0x40, 0x00, 0x30, 0x00, 0x6a, 0x8b, 0xe2, 0x5f, 0xc3, 0x1b,
@@ -169,26 +169,33 @@ const INTER_PACKET: [u8; 52] = [
 fn key_rows_of_a_stream(rt: HostRuntime) -> Result<(), Fail> {
     let (header, saved, behind) = header_of(&KEY_PACKET, &KEY_PACKET[10..])?;
     assert!(rt; !header.color_space && header.clamping_type);
-    let segmentation = header.segmentation;
-    assert!(rt; segmentation.enabled && !segmentation.update_map);
-    assert!(rt; !segmentation.values.absolute);
-    assert_eq!(rt; segmentation.values.quantisers, [-34, 113, 0, -63]);
-    assert_eq!(rt; segmentation.values.levels, [0; 4]);
-    assert!(rt; header.filter.simple);
-    assert_eq!(rt; (header.filter.level, header.filter.sharpness), (35, 3));
-    assert!(rt; !header.deltas_enabled);
-    assert_eq!(rt; header.log2_partitions, 3);
-    let QuantiserIndices {
-        y_ac,
-        y_dc,
-        y2_dc,
-        y2_ac,
-        uv_dc,
-        uv_ac,
-    } = header.quantiser;
-    assert_eq!(rt; y_ac, 88);
-    assert_eq!(rt; [y_dc, y2_dc, y2_ac, uv_dc, uv_ac], [-11, 6, 1, 0, -2]);
-    assert!(rt; !header.refresh_entropy);
+    assert!(rt; !header.deltas_enabled && !header.refresh_entropy);
+    let segmentation = Segmentation {
+        enabled: true,
+        update_map: false,
+        values: SegmentValues {
+            absolute: false,
+            quantisers: [-34, 113, 0, -63],
+            levels: [0; 4],
+        },
+        tree_probabilities: [255; 3],
+    };
+    assert_eq!(rt; header.segmentation, segmentation);
+    let filter = Filter {
+        simple: true,
+        level: 35,
+        sharpness: 3,
+    };
+    assert_eq!(rt; header.filter, filter);
+    let quantiser = QuantiserIndices {
+        y_ac: 88,
+        y_dc: -11,
+        y2_dc: 6,
+        y2_ac: 1,
+        uv_dc: 0,
+        uv_ac: -2,
+    };
+    assert_eq!(rt; header.quantiser, quantiser);
     let changes = [
         ([0, 1, 0, 0], 46),
         ([1, 0, 0, 0], 51),
@@ -200,36 +207,61 @@ fn key_rows_of_a_stream(rt: HostRuntime) -> Result<(), Fail> {
     assert!(rt; saved.probabilities.coefficients == wanted.coefficients);
     renew(&mut wanted.coefficients, &changes);
     assert!(rt; header.probabilities.coefficients == wanted.coefficients);
-    assert_eq!(rt; header.skip, Some(127));
-    assert_eq!(rt; behind, 200);
+    assert_eq!(rt;
+        (header.log2_partitions, header.skip, behind),
+        (3, Some(127), 200)
+    );
     Ok(())
 }
 
 #[test]
 fn inter_rows_of_a_stream(rt: HostRuntime) -> Result<(), Fail> {
     let (header, saved, _) = header_of(&INTER_PACKET, &INTER_PACKET[3..])?;
-    let segmentation = header.segmentation;
-    assert!(rt; segmentation.enabled && segmentation.update_map);
-    assert!(rt; !segmentation.values.absolute);
-    assert_eq!(rt; segmentation.values.quantisers, [1, 83, 0, 70]);
-    assert_eq!(rt; segmentation.values.levels, [9, 0, 0, 0]);
-    assert_eq!(rt; segmentation.tree_probabilities, [238, 255, 60]);
-    assert!(rt; !header.filter.simple);
-    assert_eq!(rt; (header.filter.level, header.filter.sharpness), (58, 5));
-    assert!(rt; header.deltas_enabled);
-    assert_eq!(rt; saved.deltas.reference, [0, 0, 46, 58]);
-    assert_eq!(rt; saved.deltas.mode, [0, 0, 54, 61]);
-    assert_eq!(rt; header.log2_partitions, 0);
-    let quantiser = header.quantiser;
-    assert_eq!(rt; (quantiser.y_ac, quantiser.y_dc), (68, 5));
-    assert_eq!(rt; (quantiser.y2_dc, quantiser.y2_ac), (0, -11));
-    assert_eq!(rt; (quantiser.uv_dc, quantiser.uv_ac), (-3, 0));
-    let updates = header.updates;
-    assert!(rt; updates.refresh_golden && !updates.refresh_alt);
-    assert_eq!(rt; updates.copy_to_golden, ReferenceCopy::Nothing);
-    assert_eq!(rt; updates.copy_to_alt, ReferenceCopy::Last);
-    assert!(rt; !header.biases.golden && header.biases.alt);
-    assert!(rt; !header.refresh_entropy && !updates.refresh_last);
+    assert!(rt; header.deltas_enabled && !header.refresh_entropy);
+    let segmentation = Segmentation {
+        enabled: true,
+        update_map: true,
+        values: SegmentValues {
+            absolute: false,
+            quantisers: [1, 83, 0, 70],
+            levels: [9, 0, 0, 0],
+        },
+        tree_probabilities: [238, 255, 60],
+    };
+    assert_eq!(rt; header.segmentation, segmentation);
+    let filter = Filter {
+        simple: false,
+        level: 58,
+        sharpness: 5,
+    };
+    assert_eq!(rt; header.filter, filter);
+    let deltas = LevelDeltas {
+        reference: [0, 0, 46, 58],
+        mode: [0, 0, 54, 61],
+    };
+    assert_eq!(rt; saved.deltas, deltas);
+    let quantiser = QuantiserIndices {
+        y_ac: 68,
+        y_dc: 5,
+        y2_dc: 0,
+        y2_ac: -11,
+        uv_dc: -3,
+        uv_ac: 0,
+    };
+    assert_eq!(rt; header.quantiser, quantiser);
+    let updates = ReferenceUpdates {
+        refresh_golden: true,
+        refresh_alt: false,
+        copy_to_golden: ReferenceCopy::Nothing,
+        copy_to_alt: ReferenceCopy::Last,
+        refresh_last: false,
+    };
+    assert_eq!(rt; header.updates, updates);
+    let biases = SignBiases {
+        golden: false,
+        alt: true,
+    };
+    assert_eq!(rt; (header.log2_partitions, header.biases), (0, biases));
     Ok(())
 }
 

@@ -50,7 +50,7 @@ fn held(number: i32) -> u8
 }
 
 /// The horizontal pass over one row: each pixel of the six from its column on.
-pub fn pass_row<const W: usize, const N: usize>(
+pub(crate) fn pass_row<const W: usize, const N: usize>(
     line: &[u8; W],
     version: u8,
     eighths: usize,
@@ -70,7 +70,7 @@ pub fn pass_row<const W: usize, const N: usize>(
 }
 
 /// The vertical pass that makes one row: each pixel of the six in its column, out of six rows.
-pub fn pass_column<const N: usize>(rows: &[u8], version: u8, eighths: usize) -> [u8; N]
+pub(crate) fn pass_column<const N: usize>(rows: &[u8], version: u8, eighths: usize) -> [u8; N]
     requires size { N ≤ 16 }
     requires rows { length rows.now ≡ 6 * N }
     requires eighths { eighths < 8 }

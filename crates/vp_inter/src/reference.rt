@@ -19,7 +19,7 @@ fn nearest(at: i32, size: usize) -> usize
 }
 
 /// The `W` pixels from column `left` of row `row` on.
-pub fn reference_row<const W: usize>(plane: &Plane, left: i32, row: i32) -> [u8; W]
+pub(crate) fn reference_row<const W: usize>(plane: &Plane, left: i32, row: i32) -> [u8; W]
     requires size { W ≤ 21 }
     requires columns { 0 < plane.now.width }
     requires rows { 0 < plane.now.height }

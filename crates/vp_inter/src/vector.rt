@@ -24,7 +24,7 @@ fn whole(eighths: i32) -> i32
 
 /// The eighths above the whole pixels.
 #[tactic(auto, unfolding(crate::specs::Vectors::fraction))]
-pub fn fraction(eighths: i32) -> usize
+pub(crate) fn fraction(eighths: i32) -> usize
     ensures value { result ≡ fraction eighths }
     ensures bound { result < 8 }
 {
@@ -33,7 +33,7 @@ pub fn fraction(eighths: i32) -> usize
 
 /// Where the first of the six pixels stands that the pixel at `at` is made of.
 #[tactic(auto, unfolding(crate::specs::Vectors::start))]
-pub fn start(at: usize, eighths: i32) -> i32
+pub(crate) fn start(at: usize, eighths: i32) -> i32
     requires { at ≤ 16384 }
     ensures value { result ≡ start at eighths }
     ensures range { (negsuc 300000000 ≤ℤ result) × (result ≤ℤ pos 300000000) }

@@ -8,7 +8,7 @@ use vp_base::Plane;
 
 /// The row above a block.
 #[tactic(auto, unfolding(crate::specs::Edges::above))]
-pub fn edge_above<const N: usize>(plane: &Plane, x: usize, y: usize) -> [u8; N]
+pub(crate) fn edge_above<const N: usize>(plane: &Plane, x: usize, y: usize) -> [u8; N]
     requires size { N ≤ 16 }
     requires columns { x + N ≤ plane.now.width }
     requires row { y < plane.now.height }
@@ -23,7 +23,7 @@ pub fn edge_above<const N: usize>(plane: &Plane, x: usize, y: usize) -> [u8; N]
 
 /// The column to the left of a block.
 #[tactic(auto, unfolding(crate::specs::Edges::left))]
-pub fn edge_left<const N: usize>(plane: &Plane, x: usize, y: usize) -> [u8; N]
+pub(crate) fn edge_left<const N: usize>(plane: &Plane, x: usize, y: usize) -> [u8; N]
     requires size { N ≤ 16 }
     requires column { x < plane.now.width }
     requires rows { y + N ≤ plane.now.height }
@@ -41,7 +41,7 @@ pub fn edge_left<const N: usize>(plane: &Plane, x: usize, y: usize) -> [u8; N]
 
 /// The pixel above and to the left of a block.
 #[tactic(auto, unfolding(crate::specs::Edges::corner))]
-pub fn edge_corner(plane: &Plane, x: usize, y: usize) -> u8
+pub(crate) fn edge_corner(plane: &Plane, x: usize, y: usize) -> u8
     requires column { x < plane.now.width }
     requires row { y < plane.now.height }
     ensures { result ≡ corner plane.now x y }
@@ -57,7 +57,7 @@ pub fn edge_corner(plane: &Plane, x: usize, y: usize) -> u8
 
 /// The rounded mean of the pixels above and to the left that lie inside the picture.
 #[tactic(auto, unfolding(crate::specs::Edges::edge))]
-pub fn edge_mean<const N: usize>(plane: &Plane, x: usize, y: usize) -> u8
+pub(crate) fn edge_mean<const N: usize>(plane: &Plane, x: usize, y: usize) -> u8
     requires columns { x + N ≤ plane.now.width }
     requires rows { y + N ≤ plane.now.height }
     requires some { 0 < N }
@@ -90,7 +90,7 @@ fn rounded(sum: u16, count: u16) -> u8
 }
 
 /// The sum of at most sixteen pixels.
-pub fn sum_of(bytes: &[u8]) -> u16
+pub(crate) fn sum_of(bytes: &[u8]) -> u16
     requires { length bytes.now ≤ 16 }
     ensures value { result ≡ sum bytes.now }
     ensures bound { result ≤ 255 * length bytes.now }

@@ -182,7 +182,7 @@ fn true_motion(e: &[u8; 13]) -> [u8; 16]
 }
 
 /// The block that a mode makes of the thirteen pixels round it.
-pub fn predict(mode: SubMode, e: &[u8; 13]) -> [u8; 16]
+pub(crate) fn predict(mode: SubMode, e: &[u8; 13]) -> [u8; 16]
     ensures { result ≡ predicted mode e.now }
 {
     match mode {

@@ -8,7 +8,7 @@ use Rattle.vp_ivf.specs.declared.packet.Packet.{Packet}
 use Rattle.vp_ivf.specs.declared.packet.IvfHead.{IvfHead}
 use Rattle.vp_ivf.specs.declared.fault.FileFault.{FileFault}
 use Rattle.vp_ivf.specs.declared.fault.FileFault.TheVariants.{Signature, Codec, TooMany, PacketTooLarge}
-use Rattle.vp_ivf.specs.Ivf.{Reading, size_of, packet_at, head_of, next_size, next_head, cuts, read, read_from, with_front, stop, resume, resume_at}
+use Rattle.vp_ivf.specs.Ivf.{Contents, size_of, packet_at, head_of, next_size, next_head, cuts, read, read_from, with_front, stop, resume, resume_at}
 use Rattle.vp_ivf.proofs.Cuts.{cuts-whole, cuts-stop, cuts-fault, with_front-front}
 
 -- a number that stands whole in the bytes stays
@@ -69,7 +69,7 @@ pub stop-resume : (max n : ℕ) (h : IvfHead) (xs ys : List ℕ) → resume max 
 stop-resume max n h xs ys = refl
 
 -- the packet in front stays, whatever comes
-pub with_front-resume : (h : IvfHead) (max n : ℕ) (front : List Packet) (f : Option FileFault) (r : Reading) (ys : List ℕ)
+pub with_front-resume : (h : IvfHead) (max n : ℕ) (front : List Packet) (f : Option FileFault) (r : Contents) (ys : List ℕ)
     → with_front front (resume_at f max r ys) ≡ resume_at f max (with_front front r) ys
 with_front-resume h max n front None r ys = with_front-front front r.packets (read_from r.head max r.left (r.rest ++ ys))
 with_front-resume h max n front (Some f) r ys = refl

@@ -6,7 +6,7 @@ use Rattle.vp_ivf.specs.declared.packet.Packet.{Packet}
 use Rattle.vp_ivf.specs.declared.packet.IvfHead.{IvfHead}
 use Rattle.vp_ivf.specs.declared.fault.FileFault.{FileFault}
 use Rattle.vp_ivf.specs.declared.fault.FileFault.TheVariants.{TooMany, PacketTooLarge}
-use Rattle.vp_ivf.specs.Ivf.{Reading, size_of, packet_at, next_size, next_head, cuts, read, with_front, stop}
+use Rattle.vp_ivf.specs.Ivf.{Contents, size_of, packet_at, next_size, next_head, cuts, read, with_front, stop}
 
 zero_step : {A : Type 0} (short : Bool) (s : ℕ) → cond short (Ok None) (Err TooMany) ≡ Ok (Some s) → A
 zero_step true s h = cc
@@ -26,7 +26,7 @@ unfolding next_size
 next_size-size max zero b s h = zero_step (nat_lt (length b) 12) s h
 next_size-size max (suc n) b s h = size_step (nat_lt (length b) 12) (nat_lt max (size_of b)) (nat_lt (length b) (12 + size_of b)) (size_of b) s h
 
-pub with_front-front : (xs ys : List Packet) (r : Reading) → with_front xs (with_front ys r) ≡ with_front (xs ++ ys) r
+pub with_front-front : (xs ys : List Packet) (r : Contents) → with_front xs (with_front ys r) ≡ with_front (xs ++ ys) r
 with_front-front xs ys r = ap (λ ps. record r { packets = ps }) (sym (append_assoc xs ys r.packets))
 
 -- the cuts where a packet is whole
@@ -46,7 +46,7 @@ cuts-fault head max zero b f h = rw h refl
 cuts-fault head max (suc n) b f h = rw h refl
 
 -- one more packet was cut
-pub goes_on : (head : Option IvfHead) (max left i used size : ℕ) (bytes : List ℕ) (packets : List Packet) (total : Reading)
+pub goes_on : (head : Option IvfHead) (max left i used size : ℕ) (bytes : List ℕ) (packets : List Packet) (total : Contents)
     → i < left
     → next_size max (left - i) (drop used bytes) ≡ Ok (Some size)
     → with_front packets (cuts head max (left - i) (drop used bytes)) ≡ total
@@ -61,7 +61,7 @@ goes_on head max left i used size bytes packets total lt h so_far =
 pub with_front-stop : (packets : List Packet) (head : Option IvfHead) (n : ℕ) (f : Option FileFault) (b : List ℕ) → with_front packets (stop head n f b) ≡ record { head = head; packets = packets; left = n; fault = f; rest = b }
 with_front-stop packets head n f b = ap (λ ps. record { head = head; packets = ps; left = n; fault = f; rest = b }) (append-nil packets)
 
-pub ends_waiting : (head : Option IvfHead) (max n used : ℕ) (bytes rest : List ℕ) (packets : List Packet) (total : Reading)
+pub ends_waiting : (head : Option IvfHead) (max n used : ℕ) (bytes rest : List ℕ) (packets : List Packet) (total : Contents)
     → rest ≡ drop used bytes → Ok None ≡ next_size max n rest
     → with_front packets (cuts head max n (drop used bytes)) ≡ total
     → record { head = head; packets = packets; left = n; fault = None; rest = drop used bytes } ≡ total
@@ -69,7 +69,7 @@ ends_waiting head max n used bytes rest packets total r h so_far =
     let stopped = cuts-stop head max n (drop used bytes) (rw (← r) (sym h)) in
     sym (with_front-stop packets head n None (drop used bytes)) ∙ (sym (ap (λ x. with_front packets x) stopped) ∙ so_far)
 
-pub ends_faulty : (head : Option IvfHead) (max n used : ℕ) (bytes rest : List ℕ) (packets : List Packet) (total : Reading) (f : FileFault)
+pub ends_faulty : (head : Option IvfHead) (max n used : ℕ) (bytes rest : List ℕ) (packets : List Packet) (total : Contents) (f : FileFault)
     → rest ≡ drop used bytes → Err f ≡ next_size max n rest
     → with_front packets (cuts head max n (drop used bytes)) ≡ total
     → record { head = head; packets = packets; left = n; fault = Some f; rest = drop used bytes } ≡ total
@@ -83,7 +83,7 @@ none_whole true size h = cc
 none_whole false size h = cc
 
 -- where no more may come
-pub ends_full : (head : Option IvfHead) (max n used : ℕ) (bytes rest : List ℕ) (packets : List Packet) (total : Reading) (r : Result (Option ℕ) FileFault)
+pub ends_full : (head : Option IvfHead) (max n used : ℕ) (bytes rest : List ℕ) (packets : List Packet) (total : Contents) (r : Result (Option ℕ) FileFault)
     → n ≡ 0 → rest ≡ drop used bytes → r ≡ next_size max 0 rest
     → with_front packets (cuts head max n (drop used bytes)) ≡ total
     → record { head = head; packets = packets; left = 0; fault = result_err r; rest = drop used bytes } ≡ total

@@ -7,7 +7,7 @@ use Rattle.vp_ivf.specs.declared.packet.Packet.{Packet}
 use Rattle.vp_ivf.specs.declared.packet.IvfHead.{IvfHead}
 use Rattle.vp_ivf.specs.declared.fault.FileFault.{FileFault}
 use Rattle.vp_ivf.specs.declared.fault.FileFault.TheVariants.{PacketTooLarge}
-use Rattle.vp_ivf.specs.Ivf.{Reading, size_of, next_size, next_head, cuts, read, read_from, with_front, stop, resume, resume_at}
+use Rattle.vp_ivf.specs.Ivf.{Contents, size_of, next_size, next_head, cuts, read, read_from, with_front, stop, resume, resume_at}
 use Rattle.vp_ivf.specs.Reader.{IsSettled}
 use Rattle.vp_ivf.proofs.Cuts.{cuts-whole, cuts-stop, cuts-fault}
 use Rattle.vp_ivf.proofs.Append.{number-append, next_size-whole, read-append, cuts-append, next_head-header}
@@ -17,13 +17,13 @@ nothing_joined : {X : Type 0} (xs ys : List X) → xs ≡ xs ++ ys → ys ≡ []
 nothing_joined xs [] e = refl
 nothing_joined xs (y ∷ ys) e = absurd (omega (arith, ap length e, length-append xs (y ∷ ys)))
 
-made_of : (r : Reading) (head : Option IvfHead) (packets : List Packet) (left : ℕ) (fault : Option FileFault) (rest : List ℕ)
+made_of : (r : Contents) (head : Option IvfHead) (packets : List Packet) (left : ℕ) (fault : Option FileFault) (rest : List ℕ)
     → r.head ≡ head → r.packets ≡ packets → r.left ≡ left → r.fault ≡ fault → r.rest ≡ rest
     → r ≡ record { head = head; packets = packets; left = left; fault = fault; rest = rest }
 made_of r head packets left fault rest a b c d e = rw (← a, ← b, ← c, ← d, ← e) refl
 
 -- where no fault was met, what is left has nothing whole
-pub settles : (max : ℕ) (r : Reading) → r ≡ resume max r [] → IsSettled max r
+pub settles : (max : ℕ) (r : Contents) → r ≡ resume max r [] → IsSettled max r
 settles max r e = λ none.
     let later = read_from r.head max r.left (r.rest ++ []) in
     let same : r ≡ with_front r.packets later = e ∙ ap (λ f. resume_at f max r []) none in

@@ -5,7 +5,7 @@ use Rattle.vp_ivf.specs.declared.packet.Packet.{Packet}
 use Rattle.vp_ivf.specs.declared.packet.IvfHead.{IvfHead}
 use Rattle.vp_ivf.specs.declared.fault.FileFault.{FileFault}
 use Rattle.vp_ivf.specs.declared.cutting.Cutting.{Cutting}
-use Rattle.vp_ivf.specs.Ivf.{Reading, read, read_from, with_front, resume, resume_at, next_head, stop}
+use Rattle.vp_ivf.specs.Ivf.{Contents, read, read_from, with_front, resume, resume_at, next_head, stop}
 use Rattle.vp_ivf.specs.Cutting.{reading_of}
 use Rattle.vp_ivf.specs.Reader.{State, History, StandsFor, without, with_piece, start, refusal, refusal_at, IsSettled}
 use Rattle.vp_ivf.proofs.Append.{read-append}
@@ -16,15 +16,15 @@ unfolding read next_head
 stands_first max limit = record { taken = omega arith; reading = refl; ended = refl }
 
 -- packets that were taken make no difference to how reading goes on
-without-resume_at : (max t : ℕ) (f : Option FileFault) (r : Reading) (more : List ℕ) → t ≤ length r.packets → resume_at f max (without t r) more ≡ without t (resume_at f max r more)
+without-resume_at : (max t : ℕ) (f : Option FileFault) (r : Contents) (more : List ℕ) → t ≤ length r.packets → resume_at f max (without t r) more ≡ without t (resume_at f max r more)
 without-resume_at max t None r more le = rw (drop-append-le t r.packets (read_from r.head max r.left (r.rest ++ more)).packets le) refl
 without-resume_at max t (Some f) r more le = refl
 
-packets-resume_at : (max : ℕ) (f : Option FileFault) (r : Reading) (more : List ℕ) → length r.packets ≤ length (resume_at f max r more).packets
+packets-resume_at : (max : ℕ) (f : Option FileFault) (r : Contents) (more : List ℕ) → length r.packets ≤ length (resume_at f max r more).packets
 packets-resume_at max None r more = simp length-append (omega arith)
 packets-resume_at max (Some f) r more = omega arith
 
-pub stands_fed : (max limit : ℕ) (r new : Reading) (ended : Bool) (h : History) (piece : List ℕ)
+pub stands_fed : (max limit : ℕ) (r new : Contents) (ended : Bool) (h : History) (piece : List ℕ)
     → new ≡ resume max r piece
     → StandsFor (record { max = max; limit = limit; reading = r; ended = ended }) h
     → StandsFor (record { max = max; limit = limit; reading = new; ended = ended }) (with_piece h piece)
@@ -54,7 +54,7 @@ pub no_fault : (f : Option FileFault) (ended : Bool) → refusal_at f ended ≡ 
 no_fault None ended e = refl
 no_fault (Some f) ended e = cc
 
-pub reading_taken : (old : State) (max limit : ℕ) (r new : Reading) (ended : Bool) (piece : List ℕ)
+pub reading_taken : (old : State) (max limit : ℕ) (r new : Contents) (ended : Bool) (piece : List ℕ)
     → record { max = max; limit = limit; reading = r; ended = ended } ≡ old
     → refusal old ≡ None
     → new ≡ resume_at None max r piece
@@ -62,7 +62,7 @@ pub reading_taken : (old : State) (max limit : ℕ) (r new : Reading) (ended : B
 reading_taken old max limit r new ended piece is calm e =
     let calm_here = rw (← is) at calm in
     let none = no_fault r.fault ended calm_here in
-    rw (← is) (ap (λ (x : Reading). record { max = max; limit = limit; reading = x; ended = ended }) (e ∙ sym (ap (λ f. resume_at f max r piece) none)))
+    rw (← is) (ap (λ (x : Contents). record { max = max; limit = limit; reading = x; ended = ended }) (e ∙ sym (ap (λ f. resume_at f max r piece) none)))
 
 pub stands_resumed : (old new : State) (h : History) (piece : List ℕ)
     → new ≡ record old { reading = resume old.max old.reading piece }
@@ -78,7 +78,7 @@ pub fed_settled : (head : Option IvfHead) (max left : ℕ) (all turned : List �
 fed_settled head max left all turned c kept le is_kept t r = λ none.
     let k : length (drop c.used all) ≡ kept = omega (arith, length-drop c.used all) in
     let back : take kept turned ≡ drop c.used all = rw t (take_at (drop c.used all) (take c.used all) kept k) in
-    rw back (let P : Reading → Type 0 = λ x. IsSettled max x in subst P (sym r) (read_from-settled head max left all) none)
+    rw back (let P : Contents → Type 0 = λ x. IsSettled max x in subst P (sym r) (read_from-settled head max left all) none)
 
 pub settled_first : (max limit : ℕ) → read max limit [] ≡ stop None limit None []
 unfolding read next_head
@@ -93,5 +93,5 @@ pub fed_few : (head : Option IvfHead) (max left : ℕ) (old newer : List Packet)
     → length newer ≤ length old + length piece / 12 + 1
 fed_few head max left old newer rest piece all c idle is_all n r =
     let bound = few head max left rest piece idle in
-    let e : length c.packets.items ≡ length (read_from head max left (rest ++ piece)).packets = ap (λ (x : Reading). length x.packets) r ∙ rw is_all refl in
+    let e : length c.packets.items ≡ length (read_from head max left (rest ++ piece)).packets = ap (λ (x : Contents). length x.packets) r ∙ rw is_all refl in
     rw n (omega (arith, length-append old c.packets.items))

@@ -8,8 +8,8 @@ use Rattle.vp_ivf.specs.declared.packet.Packet.{Packet}
 use Rattle.vp_ivf.specs.declared.packet.IvfHead.{IvfHead}
 use Rattle.vp_ivf.specs.declared.fault.FileFault.{FileFault}
 use Rattle.vp_ivf.specs.declared.fault.FileFault.TheVariants.{Signature, Codec, TooMany, PacketTooLarge, Torn, Ended}
-use Rattle.vp_ivf.specs.Ivf.{Reading, size_of, head_of, packet_at, next_size, next_head, cuts, read, with_front, stop}
-use Rattle.vp_ivf.specs.Laws.{AreBytes, Fits, AllFit, Shows, CountsPackets, CutsWhatFits, ShowsFaults}
+use Rattle.vp_ivf.specs.Ivf.{Contents, size_of, head_of, packet_at, next_size, next_head, cuts, read, with_front, stop}
+use Rattle.vp_ivf.specs.Laws.{AreBytes, PacketFits, AllPacketsFit, Shows, CountsPackets, CutsWhatFits, ShowsFaults}
 use Rattle.vp_ivf.proofs.Cuts.{cuts-whole, cuts-stop, cuts-fault, next_size-size}
 use Rattle.vp_ivf.proofs.Append.{next_size-whole}
 use Rattle.vp_ivf.proofs.Few.{none_whole}
@@ -53,7 +53,7 @@ next_size-allowed : (max n : ℕ) (b : List ℕ) (s : ℕ) → next_size max (su
 unfolding next_size
 next_size-allowed max n b s h = allowed_step (length b) max (size_of b) s h
 
-packet_fits : (max n s : ℕ) (b : List ℕ) → AreBytes b → next_size max (suc n) b ≡ Ok (Some s) → Fits max (packet_at s b)
+packet_fits : (max n s : ℕ) (b : List ℕ) → AreBytes b → next_size max (suc n) b ≡ Ok (Some s) → PacketFits max (packet_at s b)
 packet_fits max n s b small e =
     let whole = next_size-whole max (suc n) b s e in
     let is : s ≡ size_of b = next_size-size max (suc n) b s e in
@@ -65,25 +65,25 @@ packet_fits max n s b small e =
       allowed = rw long (next_size-allowed max n b s e);
     }
 
-fit_none : (h : Option IvfHead) (max : ℕ) (b : List ℕ) (r : Result (Option ℕ) FileFault) → next_size max 0 b ≡ r → AllFit max (cuts h max 0 b).packets
+fit_none : (h : Option IvfHead) (max : ℕ) (b : List ℕ) (r : Result (Option ℕ) FileFault) → next_size max 0 b ≡ r → AllPacketsFit max (cuts h max 0 b).packets
 fit_none h max b (Err f) e = rw (cuts-fault h max 0 b f e) tt
 fit_none h max b (Ok None) e = rw (cuts-stop h max 0 b e) tt
 fit_none h max b (Ok (Some s)) e = absurd (none_whole max b s e)
 
 fit_more : (h : Option IvfHead) (max n : ℕ) (b : List ℕ) (r : Result (Option ℕ) FileFault) → next_size max (suc n) b ≡ r → AreBytes b
-    → ((c : List ℕ) → AreBytes c → AllFit max (cuts h max n c).packets)
-    → AllFit max (cuts h max (suc n) b).packets
+    → ((c : List ℕ) → AreBytes c → AllPacketsFit max (cuts h max n c).packets)
+    → AllPacketsFit max (cuts h max (suc n) b).packets
 fit_more h max n b (Err f) e small later = rw (cuts-fault h max (suc n) b f e) tt
 fit_more h max n b (Ok None) e small later = rw (cuts-stop h max (suc n) b e) tt
 fit_more h max n b (Ok (Some s)) e small later =
     let small_rest : AreBytes (drop (12 + s) b) = λ i. rw (get_or-drop (12 + s) b i 0) (small (12 + s + i)) in
     rw (cuts-whole h max n b s e) (packet_fits max n s b small e, later (drop (12 + s) b) small_rest)
 
-cuts-fit : (h : Option IvfHead) (max n : ℕ) (b : List ℕ) → AreBytes b → AllFit max (cuts h max n b).packets
+cuts-fit : (h : Option IvfHead) (max n : ℕ) (b : List ℕ) → AreBytes b → AllPacketsFit max (cuts h max n b).packets
 cuts-fit h max zero b small = fit_none h max b (next_size max 0 b) refl
 cuts-fit h max (suc n) b small = fit_more h max n b (next_size max (suc n) b) refl small (λ c s. cuts-fit h max n c s)
 
-read_fits : (max n : ℕ) (b : List ℕ) (r : Result (Option IvfHead) FileFault) → next_head b ≡ r → AreBytes b → AllFit max (read max n b).packets
+read_fits : (max n : ℕ) (b : List ℕ) (r : Result (Option IvfHead) FileFault) → next_head b ≡ r → AreBytes b → AllPacketsFit max (read max n b).packets
 unfolding read
 read_fits max n b (Err f) e small = rw e tt
 read_fits max n b (Ok None) e small = rw e tt
@@ -118,7 +118,7 @@ shows_next max (suc n) b h f e =
     let is = faulty_suc (length b) max (size_of b) f _ e refl in
     rw is.0 (omega arith, is.1, is.2)
 
-shows_front : (f : FileFault) (max : ℕ) (front : List Packet) (r : Reading) → Shows f max r → Shows f max (with_front front r)
+shows_front : (f : FileFault) (max : ℕ) (front : List Packet) (r : Contents) → Shows f max r → Shows f max (with_front front r)
 shows_front Signature max front r s = s
 shows_front Codec max front r s = s
 shows_front TooMany max front r s = s

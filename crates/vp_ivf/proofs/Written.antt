@@ -6,10 +6,10 @@ use Rattle.byteorder.specs.Endian.{little_number, little_bytes}
 use Rattle.byteorder.specs.Numbers.{little_number-reads_back}
 use Rattle.vp_ivf.specs.declared.packet.Packet.{Packet}
 use Rattle.vp_ivf.specs.declared.packet.IvfHead.{IvfHead}
-use Rattle.vp_ivf.specs.Ivf.{Reading, size_of, packet_at, next_size, next_head, cuts, read, with_front}
+use Rattle.vp_ivf.specs.Ivf.{Contents, size_of, packet_at, next_size, next_head, cuts, read, with_front}
 use Rattle.vp_ivf.specs.Reader.{finish_answer}
 use Rattle.vp_ivf.specs.Text.{head_text, packet_head_text, packet_text, packets_text}
-use Rattle.vp_ivf.specs.Laws.{Fits, AllFit, IsReadBack, EndsWell, IsHead}
+use Rattle.vp_ivf.specs.Laws.{PacketFits, AllPacketsFit, IsReadBack, EndsWell, IsHead}
 use Rattle.vp_ivf.proofs.Cuts.{cuts-whole, cuts-stop}
 
 length-packet_head : (size time : ℕ) → length (packet_head_text size time) ≡ 12
@@ -31,7 +31,7 @@ drop-packet time bytes rest = refl
 length-packet : (time : ℕ) (bytes rest : List ℕ) → length (packet_text time bytes ++ rest) ≡ 12 + length bytes + length rest
 length-packet time bytes rest = omega (arith, length-append (packet_text time bytes) rest, length-append (packet_head_text (length bytes) time) bytes, length-packet_head (length bytes) time)
 
-next-packet : (max n : ℕ) (p : Packet) (rest : List ℕ) → Fits max p → next_size max (suc n) (packet_text p.time p.bytes ++ rest) ≡ Ok (Some (length p.bytes))
+next-packet : (max n : ℕ) (p : Packet) (rest : List ℕ) → PacketFits max p → next_size max (suc n) (packet_text p.time p.bytes ++ rest) ≡ Ok (Some (length p.bytes))
 unfolding next_size
 next-packet max n p rest f =
     let b = packet_text p.time p.bytes ++ rest in
@@ -42,7 +42,7 @@ next-packet max n p rest f =
     let w : nat_lt (length b) (12 + length p.bytes) ≡ false = le-ltb (length b) (12 + length p.bytes) (omega arith) in
     rw (size, a, m, w) refl
 
-packet-back : (max : ℕ) (p : Packet) (rest : List ℕ) → Fits max p → packet_at (length p.bytes) (packet_text p.time p.bytes ++ rest) ≡ p
+packet-back : (max : ℕ) (p : Packet) (rest : List ℕ) → PacketFits max p → packet_at (length p.bytes) (packet_text p.time p.bytes ++ rest) ≡ p
 packet-back max p rest f =
     rw (time-packet p.time p.bytes rest f.time, drop-packet p.time p.bytes rest, take_at p.bytes rest (length p.bytes) refl) refl
 
@@ -51,7 +51,7 @@ unfolding next_size
 next-none max zero = refl
 next-none max (suc n) = refl
 
-pub cuts-text : (head : Option IvfHead) (max n : ℕ) (ps : List Packet) → AllFit max ps → length ps ≤ n
+pub cuts-text : (head : Option IvfHead) (max n : ℕ) (ps : List Packet) → AllPacketsFit max ps → length ps ≤ n
     → cuts head max n (packets_text ps) ≡ record { head = head; packets = ps; left = n - length ps; fault = None; rest = [] }
 cuts-text head max n [] f le =
     let e : n - 0 ≡ n = omega arith in
@@ -62,7 +62,7 @@ cuts-text head max (suc n) (p ∷ ps) f le =
     let back : drop (12 + length p.bytes) (packet_text p.time p.bytes ++ packets_text ps) ≡ packets_text ps
     = drop_at (packet_text p.time p.bytes) (packets_text ps) (12 + length p.bytes) (omega (arith, length-append (packet_head_text (length p.bytes) p.time) p.bytes, length-packet_head (length p.bytes) p.time)) in
     rw (cuts-whole head max n _ (length p.bytes) (next-packet max n p (packets_text ps) f.0), packet-back max p (packets_text ps) f.0, back, e)
-    (ap (λ (r : Reading). with_front (p ∷ []) r) (cuts-text head max n ps f.1 (omega arith)))
+    (ap (λ (r : Contents). with_front (p ∷ []) r) (cuts-text head max n ps f.1 (omega arith)))
 
 head-back : (h : IvfHead) (count : ℕ) (rest : List ℕ) → IsHead h
     → next_head (head_text h.w h.h h.rate h.scale count ++ rest) ≡ Ok (Some h)

@@ -10,7 +10,7 @@ use Rattle.vp_ivf.specs.declared.fault.FileFault.TheVariants.{Signature, Codec, 
 
 -- what is known of a file by its bytes so far: its head, the packets that were cut, how many more may come,
 -- the fault that was met, and the bytes that weren't cut
-pub record Reading : Type 0 where
+pub record Contents : Type 0 where
   pub head : Option IvfHead
   pub packets : List Packet
   pub left : ℕ
@@ -45,42 +45,42 @@ next_size max (suc n) b =
     if nat_lt (length b) (12 + size_of b) then Ok None else Ok (Some (size_of b))
 
 -- nothing more can be cut
-abbrev pub stop : Option IvfHead → ℕ → Option FileFault → List ℕ → Reading
+abbrev pub stop : Option IvfHead → ℕ → Option FileFault → List ℕ → Contents
 stop head n fault b = record { head = head; packets = []; left = n; fault = fault; rest = b }
 
 -- these packets come before
-abbrev pub with_front : List Packet → Reading → Reading
+abbrev pub with_front : List Packet → Contents → Contents
 with_front front r = record r { packets = front ++ r.packets }
 
 -- a fault or want of bytes stops; else the packet comes before what is cut later
-abbrev pub after_next : Option IvfHead → Result (Option ℕ) FileFault → ℕ → List ℕ → Reading → Reading
+abbrev pub after_next : Option IvfHead → Result (Option ℕ) FileFault → ℕ → List ℕ → Contents → Contents
 after_next head (Err fault) n b later = stop head n (Some fault) b
 after_next head (Ok None) n b later = stop head n None b
 after_next head (Ok (Some size)) n b later = with_front (packet_at size b ∷ []) later
 
 -- what is cut behind the head, where n packets may still come
-unfoldable pub cuts : Option IvfHead → ℕ → ℕ → List ℕ → Reading
+unfoldable pub cuts : Option IvfHead → ℕ → ℕ → List ℕ → Contents
 cuts head max zero b = after_next head (next_size max zero b) 0 b (stop head 0 None b)
 cuts head max (suc n) b = after_next head (next_size max (suc n) b) (suc n) b (cuts head max n (drop (12 + size_of b) b))
 
-abbrev pub after_head : Result (Option IvfHead) FileFault → ℕ → ℕ → List ℕ → Reading
+abbrev pub after_head : Result (Option IvfHead) FileFault → ℕ → ℕ → List ℕ → Contents
 after_head (Err fault) max n b = stop None n (Some fault) b
 after_head (Ok None) max n b = stop None n None b
 after_head (Ok (Some head)) max n b = cuts (Some head) max n (drop 32 b)
 
 -- a whole file, of at most n packets of at most max bytes each
-unfoldable pub read : ℕ → ℕ → List ℕ → Reading
+unfoldable pub read : ℕ → ℕ → List ℕ → Contents
 read max n b = after_head (next_head b) max n b
 
 -- reading goes on behind a head that is known, or not yet
-abbrev pub read_from : Option IvfHead → ℕ → ℕ → List ℕ → Reading
+abbrev pub read_from : Option IvfHead → ℕ → ℕ → List ℕ → Contents
 read_from None max n b = read max n b
 read_from (Some head) max n b = cuts (Some head) max n b
 
 -- more bytes come; behind a fault they are not read
-abbrev pub resume_at : Option FileFault → ℕ → Reading → List ℕ → Reading
+abbrev pub resume_at : Option FileFault → ℕ → Contents → List ℕ → Contents
 resume_at (Some fault) max r more = record r { rest = r.rest ++ more }
 resume_at None max r more = with_front r.packets (read_from r.head max r.left (r.rest ++ more))
 
-abbrev pub resume : ℕ → Reading → List ℕ → Reading
+abbrev pub resume : ℕ → Contents → List ℕ → Contents
 resume max r more = resume_at r.fault max r more

@@ -5,7 +5,7 @@ use Rattle.vp_ivf.specs.declared.packet.Packet.{Packet}
 use Rattle.vp_ivf.specs.declared.packet.IvfHead.{IvfHead}
 use Rattle.vp_ivf.specs.declared.fault.FileFault.{FileFault}
 use Rattle.vp_ivf.specs.declared.fault.FileFault.TheVariants.{Signature, Codec, TooMany, PacketTooLarge, Torn, Ended}
-use Rattle.vp_ivf.specs.Ivf.{Reading, size_of, read, resume}
+use Rattle.vp_ivf.specs.Ivf.{Contents, size_of, read, resume}
 use Rattle.vp_ivf.specs.Reader.{IsSettled, finish_answer}
 use Rattle.vp_ivf.specs.Text.{packets_text, file_text}
 
@@ -36,14 +36,14 @@ KeepsFault = (max n : ℕ) (b more : List ℕ) (f : FileFault) → (read max n b
     → read max n (b ++ more) ≡ record (read max n b) { rest = (read max n b).rest ++ more }
 
 -- a packet that a file can hold, and that is read where packets of at most max bytes are allowed
-pub record Fits (max : ℕ) (p : Packet) : Type 0 where
+pub record PacketFits (max : ℕ) (p : Packet) : Type 0 where
   pub time : p.time < 2 ^ 64
   pub size : length p.bytes < 2 ^ 32
   pub allowed : length p.bytes ≤ max
 
-abbrev pub AllFit : ℕ → List Packet → Type 0
-AllFit max [] = Unit {0}
-AllFit max (p ∷ ps) = Fits max p × AllFit max ps
+abbrev pub AllPacketsFit : ℕ → List Packet → Type 0
+AllPacketsFit max [] = Unit {0}
+AllPacketsFit max (p ∷ ps) = PacketFits max p × AllPacketsFit max ps
 
 -- a head that a file can hold
 abbrev pub IsHead : IvfHead → Type 0
@@ -51,13 +51,13 @@ IsHead h = (h.w < 2 ^ 16) × (h.h < 2 ^ 16) × (h.rate < 2 ^ 32) × (h.scale < 2
 
 -- what is written reads as that head and these packets, and nothing else, under all limits that they fit
 abbrev pub IsReadBack : Type 0
-IsReadBack = (max n : ℕ) (h : IvfHead) (count : ℕ) (packets : List Packet) → IsHead h → AllFit max packets → length packets ≤ n
+IsReadBack = (max n : ℕ) (h : IvfHead) (count : ℕ) (packets : List Packet) → IsHead h → AllPacketsFit max packets → length packets ≤ n
     → read max n (file_text h count packets)
     ≡ record { head = Some h; packets = packets; left = n - length packets; fault = None; rest = [] }
 
 -- and its end is none inside a packet
 abbrev pub EndsWell : Type 0
-EndsWell = (max n : ℕ) (h : IvfHead) (count : ℕ) (packets : List Packet) → IsHead h → AllFit max packets → length packets ≤ n
+EndsWell = (max n : ℕ) (h : IvfHead) (count : ℕ) (packets : List Packet) → IsHead h → AllPacketsFit max packets → length packets ≤ n
     → finish_answer (read max n (file_text h count packets)) ≡ Ok tt
 
 -- the bytes that are left are too few: for a head, or else for the twelve bytes before a packet, or for that packet
@@ -79,10 +79,10 @@ CountsPackets = (max n : ℕ) (b : List ℕ) → (read max n b).left + length (r
 
 -- packets that were cut are allowed, and can be written
 abbrev pub CutsWhatFits : Type 0
-CutsWhatFits = (max n : ℕ) (b : List ℕ) → AreBytes b → AllFit max (read max n b).packets
+CutsWhatFits = (max n : ℕ) (b : List ℕ) → AreBytes b → AllPacketsFit max (read max n b).packets
 
 -- what the bytes that weren't cut show where this fault was met
-abbrev pub Shows : FileFault → ℕ → Reading → Type 0
+abbrev pub Shows : FileFault → ℕ → Contents → Type 0
 Shows Signature max r = (32 ≤ length r.rest) × (starts_with nat_eq r.rest (codes "DKIF") ≡ false)
 Shows Codec max r = (32 ≤ length r.rest) × (starts_with nat_eq r.rest (codes "DKIF") ≡ true) × (starts_with nat_eq (drop 8 r.rest) (codes "VP80") ≡ false)
 Shows TooMany max r = (r.left ≡ 0) × (12 ≤ length r.rest)

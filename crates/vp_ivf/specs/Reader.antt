@@ -6,14 +6,14 @@ use Rattle.vp_ivf.specs.declared.fault.FileFault.{FileFault}
 use Rattle.vp_ivf.specs.declared.fault.FileFault.TheVariants.{Ended, Torn}
 use Rattle.vp_ivf.specs.declared.fault.FeedError.{FeedError}
 use Rattle.vp_ivf.specs.declared.fault.FeedError.TheVariants.{Fault}
-use Rattle.vp_ivf.specs.Ivf.{Reading, read, read_from, stop}
+use Rattle.vp_ivf.specs.Ivf.{Contents, read, read_from, stop}
 
 -- a reader: the most bytes of a packet, the most packets of a file, what it knows of the file but for the packets
 -- that were taken, and whether the end was told
 pub record State : Type 0 where
   pub max : ℕ
   pub limit : ℕ
-  pub reading : Reading
+  pub reading : Contents
   pub ended : Bool
 
 -- a reader that was fed nothing
@@ -36,7 +36,7 @@ abbrev pub with_taken : History → ℕ → History
 with_taken h n = record h { taken = h.taken + n }
 
 -- a reading without its first n packets
-abbrev pub without : ℕ → Reading → Reading
+abbrev pub without : ℕ → Contents → Contents
 without n r = record r { packets = drop n r.packets }
 
 -- the reader is what this history makes of it
@@ -89,9 +89,9 @@ finish_by None true = Err Torn
 finish_by None false = Ok tt
 
 -- what telling the end answers
-abbrev pub finish_answer : Reading → Result (Unit {0}) FileFault
+abbrev pub finish_answer : Contents → Result (Unit {0}) FileFault
 finish_answer r = finish_by r.fault (is_torn r.head r.rest)
 
 -- nothing whole is left, unless a fault was met
-abbrev pub IsSettled : ℕ → Reading → Type 0
+abbrev pub IsSettled : ℕ → Contents → Type 0
 IsSettled max r = r.fault ≡ None → read_from r.head max r.left r.rest ≡ stop r.head r.left None r.rest

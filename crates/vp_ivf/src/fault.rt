@@ -1,5 +1,8 @@
 //! What is wrong with a file.
 
+ghost use Rattle.std.specs.Prelude.{Some};
+ghost use Rattle.vp_ivf.specs.Names.{name_of};
+
 use std::fmt;
 
 /// What is wrong with a file.
@@ -21,6 +24,8 @@ pub enum FileFault {
 
 /// The fault's name, as it is told.
 impl fmt::Display for FileFault {
+    ghost output = { λ fault. Some (name_of fault) };
+
     fn fmt<W: fmt::Write>(&self, f: &mut fmt::Formatter<W>) -> fmt::Result {
         f.write_str(match self {
             FileFault::Signature => "Signature",

@@ -5,7 +5,7 @@ use Rattle.vp_base.specs.Image.{Image, macroblocks, IsAligned}
 use Rattle.vp_base.specs.Over.{over}
 use Rattle.vp_base.proofs.OverLemmas.{over-none, over-more, over-kept}
 use Rattle.vp_loop.specs.declared.strength.Level.{Level}
-use Rattle.vp_loop.specs.Levels.{unfiltered}
+use Rattle.vp_loop.specs.Levels.{no_level}
 use Rattle.vp_loop.specs.Edges.{block_filtered}
 use Rattle.vp_loop.specs.Filtered.{colour_filtered, macroblock_filtered, row_filtered, row_levels, filtered}
 use Rattle.vp_loop.proofs.StepLemmas.{width-edge_lines, height-edge_lines}
@@ -67,22 +67,22 @@ sizes-macroblock_filtered level column row p =
 -- ---- the first n macroblocks of a row
 
 unfoldable pub first_macroblocks : List Level → ℕ → ℕ → Image → Image
-first_macroblocks levels row n p = over n (λ column. macroblock_filtered (get_or levels column unfiltered) column row) p
+first_macroblocks levels row n p = over n (λ column. macroblock_filtered (get_or levels column no_level) column row) p
 
 pub first_macroblocks-none : (levels : List Level) (row : ℕ) (p : Image) → first_macroblocks levels row 0 p ≡ p
 unfolding first_macroblocks
-first_macroblocks-none levels row p = over-none (λ column. macroblock_filtered (get_or levels column unfiltered) column row) p
+first_macroblocks-none levels row p = over-none (λ column. macroblock_filtered (get_or levels column no_level) column row) p
 
 pub first_macroblocks-more : (levels : List Level) (row n : ℕ) (p : Image)
-    → macroblock_filtered (get_or levels n unfiltered) n row (first_macroblocks levels row n p) ≡ first_macroblocks levels row (n + 1) p
+    → macroblock_filtered (get_or levels n no_level) n row (first_macroblocks levels row n p) ≡ first_macroblocks levels row (n + 1) p
 unfolding first_macroblocks
-first_macroblocks-more levels row n p = sym (over-more n (λ column. macroblock_filtered (get_or levels column unfiltered) column row) p)
+first_macroblocks-more levels row n p = sym (over-more n (λ column. macroblock_filtered (get_or levels column no_level) column row) p)
 
 pub sizes-first_macroblocks : (levels : List Level) (row n : ℕ) (p : Image) → sizes (first_macroblocks levels row n p) ≡ sizes p
 unfolding first_macroblocks
 sizes-first_macroblocks levels row n p =
-    over-kept sizes n (λ column. macroblock_filtered (get_or levels column unfiltered) column row) p
-    (λ k q. sizes-macroblock_filtered (get_or levels k unfiltered) k row q)
+    over-kept sizes n (λ column. macroblock_filtered (get_or levels column no_level) column row) p
+    (λ k q. sizes-macroblock_filtered (get_or levels k no_level) k row q)
 
 pub row_filtered-all : (levels : List Level) (row : ℕ) (p : Image) → first_macroblocks levels row (macroblocks p.width) p ≡ row_filtered levels row p
 unfolding first_macroblocks row_filtered

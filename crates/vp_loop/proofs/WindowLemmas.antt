@@ -8,7 +8,7 @@ use Rattle.vp_base.specs.Over.{over}
 use Rattle.vp_loop.specs.declared.lines.Line.{Line}
 use Rattle.vp_loop.specs.declared.lines.LineStep.{LineStep}
 use Rattle.vp_loop.specs.declared.strength.Level.{Level}
-use Rattle.vp_loop.specs.Levels.{unfiltered}
+use Rattle.vp_loop.specs.Levels.{no_level}
 use Rattle.vp_loop.specs.LineSteps.{stepped}
 use Rattle.vp_loop.specs.Edges.{Way, along, down, columns_of, rows_of, line_at, pixel_at, line_step, edge_lines, inner_edges, outer_step, inner_step, when, block_edges, block_filtered}
 use Rattle.vp_loop.specs.Filtered.{colour_filtered, macroblock_filtered, row_filtered}
@@ -137,7 +137,7 @@ over-look look (suc n) f g a each = each n (over n f a) ∙ ap (g n) (over-look 
 
 module _ (levels : List Level) (row : ℕ) where
   abbrev own : ℕ → Level
-  own column = get_or levels column unfiltered
+  own column = get_or levels column no_level
 
   abbrev luma_step : ℕ → Raster → Raster
   luma_step column = block_filtered 16 (own column) (16 * column) (16 * row)

@@ -4,7 +4,7 @@ use Rattle.vp_base.specs.Raster.{Raster}
 use Rattle.vp_base.specs.Image.{Image, macroblocks}
 use Rattle.vp_base.specs.Over.{over}
 use Rattle.vp_loop.specs.declared.strength.Level.{Level}
-use Rattle.vp_loop.specs.Levels.{unfiltered}
+use Rattle.vp_loop.specs.Levels.{no_level}
 use Rattle.vp_loop.specs.Edges.{block_filtered}
 
 -- the simple filter leaves colour alone
@@ -22,7 +22,7 @@ macroblock_filtered level column row p = record p {
 -- a row of macroblocks, from left to right, by the row's levels
 unfoldable pub row_filtered : List Level → ℕ → Image → Image
 row_filtered levels row p =
-    over (macroblocks p.width) (λ column. macroblock_filtered (slice_index_or levels column unfiltered) column row) p
+    over (macroblocks p.width) (λ column. macroblock_filtered (slice_index_or levels column no_level) column row) p
 
 -- the levels of one row of macroblocks, of the levels of all in raster order
 abbrev pub row_levels : List Level → ℕ → ℕ → List Level

@@ -72,15 +72,15 @@ has_inner_edges kind = kind.coded || elim kind.prediction [
   | Split ↦ Bool.true
 ]
 
-abbrev pub unfiltered : Level
-unfiltered = record { edge = 0; inner = 0; interior = 0; hev = 0 }
+abbrev pub no_level : Level
+no_level = record { edge = 0; inner = 0; interior = 0; hev = 0 }
 
 -- limits and thresholds; the simple filter has no interior limit and no threshold
 unfoldable pub level_of : Header → ℕ → MacroblockKind → Level
 level_of header segment kind =
     let level = macroblock_level header segment kind in
     let interior = interior_limit header.filter.sharpness level in
-    if level == 0 then unfiltered
+    if level == 0 then no_level
     else record {
       edge = (level + 2) * 2 + interior;
       inner = if has_inner_edges kind then level * 2 + interior else 0;

@@ -1,7 +1,7 @@
 //! How strongly a macroblock is filtered.
 
 ghost use Rattle.std.specs.Prelude.{◌≡◌, ℕ, ℤ, ◌+◌, ◌-◌, ◌*◌, ◌/◌, ◌<◌, ◌≤◌, ◌≤ℤ◌, ◌+ℤ◌, pos, negsuc, ◌==◌, ◌||◌, length};
-ghost use Rattle.vp_loop.specs.Levels.{clamped_level, signed_at, segment_level, reference_delta, mode_delta, summed_level, macroblock_level, interior_limit, variance_threshold, has_inner_edges, unfiltered, level_of};
+ghost use Rattle.vp_loop.specs.Levels.{clamped_level, signed_at, segment_level, reference_delta, mode_delta, summed_level, macroblock_level, interior_limit, variance_threshold, has_inner_edges, no_level, level_of};
 
 use vp_head::{Header, LevelDeltas, Reference};
 

@@ -60,16 +60,16 @@ like luma_is.H = sub_is.He
 like luma_is.Tm = sub_is.Tm
 like luma_is.B = sub_is.Dc
 
-abbrev pub is_split : LumaMode → Bool
-is_split luma_is.B = true
-is_split luma_is.Dc = false
-is_split luma_is.V = false
-is_split luma_is.H = false
-is_split luma_is.Tm = false
+abbrev pub has_subblock_modes : LumaMode → Bool
+has_subblock_modes luma_is.B = true
+has_subblock_modes luma_is.Dc = false
+has_subblock_modes luma_is.V = false
+has_subblock_modes luma_is.H = false
+has_subblock_modes luma_is.Tm = false
 
 -- the mode of subblock k of a macroblock
 unfoldable pub sub_of : Modes → ℕ → SubMode
-sub_of m k = if is_split m.luma then slice_index_or m.subs k sub_is.Dc else like m.luma
+sub_of m k = if has_subblock_modes m.luma then slice_index_or m.subs k sub_is.Dc else like m.luma
 
 -- the mode of the subblock at column u of row v of all the frame's subblocks
 unfoldable pub sub_at : Grid → ℕ → ℕ → SubMode

@@ -17,7 +17,7 @@ use Rattle.vp_head.specs.declared.fields.Reference.{Reference}
 use Rattle.vp_head.specs.declared.fields.Reference.TheVariants as reference_is
 use Rattle.vp_head.specs.declared.fields.ReferenceProbabilities.{ReferenceProbabilities}
 use Rattle.vp_modes.specs.declared.entry.Modes.{Modes}
-use Rattle.vp_modes.specs.Map.{Grid, at, is_split, context_above, context_left}
+use Rattle.vp_modes.specs.Map.{Grid, at, has_subblock_modes, context_above, context_left}
 
 -- the segment by its tree (chapter 10)
 unfoldable pub segment_id : List ℕ → Reader ℕ
@@ -86,7 +86,7 @@ sub_modes h g x y = rows 16 (sub_row h g x y) (replicate 16 sub_is.Dc)
 unfoldable pub intra_modes : Header → Grid → ℕ → ℕ → Modes → Reader Modes
 intra_modes h g x y m = do
   luma ← luma_mode h
-  subs ← when (is_split luma) (sub_modes h g x y) (replicate 16 sub_is.Dc)
+  subs ← when (has_subblock_modes luma) (sub_modes h g x y) (replicate 16 sub_is.Dc)
   chroma ← chroma_mode h
   give (record m { luma = luma; subs = subs; chroma = chroma })
 

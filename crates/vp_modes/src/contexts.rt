@@ -31,7 +31,7 @@ fn sub_mode(modes: &Modes, k: usize) -> SubMode
 }
 
 /// The mode above subblock k of the macroblock at a place, whose subblocks before k are in found.
-pub fn mode_above(map: &ModeMap, place: Place, found: &[SubMode; 16], k: usize) -> SubMode
+pub(crate) fn mode_above(map: &ModeMap, place: Place, found: &[SubMode; 16], k: usize) -> SubMode
     requires column { place.column < map.now.cols }
     requires row { place.row < map.now.rows }
     requires sub { k < 16 }
@@ -51,7 +51,7 @@ pub fn mode_above(map: &ModeMap, place: Place, found: &[SubMode; 16], k: usize) 
 }
 
 /// The mode to the left of subblock k of the macroblock at a place, whose subblocks before k are in found.
-pub fn mode_left(map: &ModeMap, place: Place, found: &[SubMode; 16], k: usize) -> SubMode
+pub(crate) fn mode_left(map: &ModeMap, place: Place, found: &[SubMode; 16], k: usize) -> SubMode
     requires column { place.column < map.now.cols }
     requires row { place.row < map.now.rows }
     requires sub { k < 16 }

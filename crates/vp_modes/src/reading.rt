@@ -1,7 +1,7 @@
 ghost use Rattle.std.specs.Prelude.{◌≡◌, ◌<◌, replicate};
 ghost use Rattle.vp_bool.specs.Reader.{when};
 ghost use Rattle.vp_tree.specs.Tree.{walk_from};
-ghost use Rattle.vp_modes.specs.Map.{is_split};
+ghost use Rattle.vp_modes.specs.Map.{has_subblock_modes};
 ghost use Rattle.vp_modes.specs.Modes.{segment_id, segment_of, skip_by, is_intra, inter_reference, reference_of, luma_mode, chroma_mode, sub_mode, sub_probabilities, sub_modes, intra_modes, prediction, modes_at};
 
 use crate::contexts::{mode_above, mode_left};
@@ -169,8 +169,8 @@ fn read_subs(header: &Header, map: &ModeMap, place: Place, d: &mut BoolDecoder) 
     found
 }
 
-fn is_split_mode(mode: LumaMode) -> bool
-    ensures { result ≡ is_split mode }
+fn is_by_subblocks(mode: LumaMode) -> bool
+    ensures { result ≡ has_subblock_modes mode }
 {
     matches!(mode, LumaMode::B)
 }
@@ -191,10 +191,10 @@ fn read_subs_of(
 ) -> [SubMode; 16]
     requires column { place.column < map.now.cols }
     requires row { place.row < map.now.rows }
-    ensures value { result ≡ (when (is_split luma) (sub_modes header.now map.now place.column place.row) (replicate 16 SubMode.Dc) d.old).0 }
-    ensures rest { d.new ≡ (when (is_split luma) (sub_modes header.now map.now place.column place.row) (replicate 16 SubMode.Dc) d.old).1 }
+    ensures value { result ≡ (when (has_subblock_modes luma) (sub_modes header.now map.now place.column place.row) (replicate 16 SubMode.Dc) d.old).0 }
+    ensures rest { d.new ≡ (when (has_subblock_modes luma) (sub_modes header.now map.now place.column place.row) (replicate 16 SubMode.Dc) d.old).1 }
 {
-    if is_split_mode(luma) {
+    if is_by_subblocks(luma) {
         read_subs(header, map, place, d)
     } else {
         [SubMode::Dc; 16]

@@ -15,7 +15,7 @@ fn add(pixel: u8, residue: i16) -> u8
 }
 
 /// The pixels of a subblock and its residue.
-pub fn sums(prediction: &[u8; 16], residue: &[i16; 16]) -> [u8; 16]
+pub(crate) fn sums(prediction: &[u8; 16], residue: &[i16; 16]) -> [u8; 16]
     ensures len { length result ≡ 16 }
     ensures value { (i : ℕ) → i < 16 → slice_index result i ≡ summed (slice_index prediction.now i) (slice_index_or residue.now i (pos 0)) }
 {
@@ -27,7 +27,7 @@ pub fn sums(prediction: &[u8; 16], residue: &[i16; 16]) -> [u8; 16]
 }
 
 /// The pixels of a subblock with what is kept of its residue.
-pub fn with_residue(prediction: &[u8; 16], kept: &Kept) -> [u8; 16]
+pub(crate) fn with_residue(prediction: &[u8; 16], kept: &Kept) -> [u8; 16]
     ensures len { length result ≡ 16 }
     ensures value { (residue : List ℤ) → IsKept kept.now residue → (i : ℕ) → i < 16 → slice_index result i ≡ summed (slice_index prediction.now i) (slice_index_or residue i (pos 0)) }
 {
@@ -39,14 +39,14 @@ pub fn with_residue(prediction: &[u8; 16], kept: &Kept) -> [u8; 16]
 
 /// What is kept of one number.
 #[tactic(auto, unfolding(crate::specs::Added::short))]
-pub fn shortened(z: i64) -> i16
+pub(crate) fn shortened(z: i64) -> i16
     ensures { result ≡ short z }
 {
     z.clamp(-255, 255) as i16
 }
 
 /// What is kept of sixteen numbers.
-pub fn all_shortened(numbers: &[i64; 16]) -> [i16; 16]
+pub(crate) fn all_shortened(numbers: &[i64; 16]) -> [i16; 16]
     ensures { (i : ℕ) → i < 16 → slice_index_or result i (pos 0) ≡ short (slice_index_or numbers.now i (pos 0)) }
 {
     let mut kept = [0; 16];

@@ -72,7 +72,7 @@ fn luma_firsts(tokens: &Tokens, factors: &Factors) -> [i64; 16]
 }
 
 /// What is kept of the residues of the luma subblocks of a macroblock with a Y2 block.
-pub fn residues_with_y2(tokens: &Tokens, factors: &Factors) -> [Kept; 16]
+pub(crate) fn residues_with_y2(tokens: &Tokens, factors: &Factors) -> [Kept; 16]
     ensures len { length result ≡ 16 }
     ensures value { AreKept 16 result (luma_residue true tokens.now factors.now) }
 {
@@ -85,7 +85,7 @@ pub fn residues_with_y2(tokens: &Tokens, factors: &Factors) -> [Kept; 16]
 }
 
 /// What is kept of the residues of the luma subblocks of a macroblock without a Y2 block.
-pub fn residues_without_y2(tokens: &Tokens, factors: &Factors) -> [Kept; 16]
+pub(crate) fn residues_without_y2(tokens: &Tokens, factors: &Factors) -> [Kept; 16]
     ensures len { length result ≡ 16 }
     ensures value { AreKept 16 result (luma_residue false tokens.now factors.now) }
 {
@@ -97,7 +97,7 @@ pub fn residues_without_y2(tokens: &Tokens, factors: &Factors) -> [Kept; 16]
 }
 
 /// What is kept of the residues of four chroma subblocks, whose first is block number `first`: 17 for U, 21 for V.
-pub fn chroma_residues(tokens: &Tokens, factors: &Factors, first: usize) -> [Kept; 4]
+pub(crate) fn chroma_residues(tokens: &Tokens, factors: &Factors, first: usize) -> [Kept; 4]
     requires { first ≤ 21 }
     ensures len { length result ≡ 4 }
     ensures value { AreKept 4 result (λ k. chroma_residue tokens.now factors.now (first + k)) }

@@ -6,7 +6,7 @@ use Rattle.vp_ivf.specs.declared.packet.Packet.{Packet}
 use Rattle.vp_ivf.specs.declared.packet.IvfHead.{IvfHead}
 use Rattle.vp_ivf.specs.declared.fault.FileFault.{FileFault}
 use Rattle.vp_ivf.specs.declared.fault.FileFault.TheVariants.{Torn}
-use Rattle.vp_ivf.specs.Ivf.{Reading, next_size, next_head, cuts, read, read_from, with_front, resume, resume_at}
+use Rattle.vp_ivf.specs.Ivf.{Contents, next_size, next_head, cuts, read, read_from, with_front, resume, resume_at}
 use Rattle.vp_ivf.proofs.Cuts.{cuts-whole, cuts-stop, cuts-fault}
 use Rattle.vp_ivf.proofs.Append.{read-append}
 
@@ -54,21 +54,21 @@ not_torn_at : (f : FileFault) (g : Option FileFault) → g ≡ Some f → g ≡ 
 not_torn_at f g e t = cc
 
 fault_at : (h : Option IvfHead) (max n : ℕ) (b : List ℕ) (f : FileFault) → next_size max n b ≡ Err f → (cuts h max n b).fault ≡ Some Torn → ⊥
-fault_at h max n b f e t = size_not_torn max n b (e ∙ ap Err (not_torn_at f _ (ap (λ (r : Reading). r.fault) (cuts-fault h max n b f e)) t))
+fault_at h max n b f e t = size_not_torn max n b (e ∙ ap Err (not_torn_at f _ (ap (λ (r : Contents). r.fault) (cuts-fault h max n b f e)) t))
 
 none_torn : (g : Option FileFault) → g ≡ None → g ≡ Some Torn → ⊥
 none_torn g e t = cc
 
 fault_none : (h : Option IvfHead) (max : ℕ) (b : List ℕ) (r : Result (Option ℕ) FileFault) → next_size max 0 b ≡ r → (cuts h max 0 b).fault ≡ Some Torn → ⊥
 fault_none h max b (Err f) e t = fault_at h max 0 b f e t
-fault_none h max b (Ok None) e t = none_torn _ (ap (λ (r : Reading). r.fault) (cuts-stop h max 0 b e)) t
+fault_none h max b (Ok None) e t = none_torn _ (ap (λ (r : Contents). r.fault) (cuts-stop h max 0 b e)) t
 fault_none h max b (Ok (Some s)) e t = none_whole max b s e
 
 fault_more : (h : Option IvfHead) (max n : ℕ) (b : List ℕ) (r : Result (Option ℕ) FileFault) → next_size max (suc n) b ≡ r
     → ((c : List ℕ) → (cuts h max n c).fault ≡ Some Torn → ⊥) → (cuts h max (suc n) b).fault ≡ Some Torn → ⊥
 fault_more h max n b (Err f) e later t = fault_at h max (suc n) b f e t
-fault_more h max n b (Ok None) e later t = none_torn _ (ap (λ (r : Reading). r.fault) (cuts-stop h max (suc n) b e)) t
-fault_more h max n b (Ok (Some s)) e later t = later (drop (12 + s) b) (sym (ap (λ (r : Reading). r.fault) (cuts-whole h max n b s e)) ∙ t)
+fault_more h max n b (Ok None) e later t = none_torn _ (ap (λ (r : Contents). r.fault) (cuts-stop h max (suc n) b e)) t
+fault_more h max n b (Ok (Some s)) e later t = later (drop (12 + s) b) (sym (ap (λ (r : Contents). r.fault) (cuts-whole h max n b s e)) ∙ t)
 
 fault_cuts : (h : Option IvfHead) (max n : ℕ) (b : List ℕ) → (cuts h max n b).fault ≡ Some Torn → ⊥
 fault_cuts h max zero b t = fault_none h max b (next_size max 0 b) refl t

@@ -11,7 +11,7 @@ use Rattle.vp_base.proofs.Writes.{appends_none, appends_both, front_first, front
 use Rattle.vp_ivf.specs.declared.packet.Packet.{Packet}
 use Rattle.vp_ivf.specs.declared.packet.IvfHead.{IvfHead}
 use Rattle.vp_ivf.specs.declared.fault.FileFault.{FileFault}
-use Rattle.vp_ivf.specs.Ivf.{Reading}
+use Rattle.vp_ivf.specs.Ivf.{Contents}
 use Rattle.vp_ivf.proofs.Growing.{keeps_head}
 use Rattle.vp_decode.specs.declared.decoder.Outcome.{Outcome}
 use Rattle.vp_decode.specs.declared.decoder.Outcome.TheVariants as code
@@ -84,7 +84,7 @@ same_text : (limits : Limits) (form : Form) (s : Incoming) (fed more : List ℕ)
     → text form (reading_of limits (fed ++ more)).head (shown_of limits given) ≡ text form (reading_of limits fed).head (shown_of limits given)
 same_text limits form s fed more given h =
     text_by limits form (reading_of limits fed).head (reading_of limits (fed ++ more)).head given
-    (λ none. nil_front given s.file.reading.packets (ap (λ (r : Reading). r.packets) (sym h.reading) ∙ headless limits fed none))
+    (λ none. nil_front given s.file.reading.packets (ap (λ (r : Contents). r.packets) (sym h.reading) ∙ headless limits fed none))
     (λ x e. keeps_head limits.packet_bytes limits.packets fed more x e)
 
 -- the text of the first packets is a front of the file's
@@ -163,7 +163,7 @@ module _ (limits : Limits) (form : Form) (source : Incoming) (run : Progress) (b
     pub room : run.report.packets < limits.packets
     room =
         let counted : run.report.packets ≡ length given = ap (λ (p : Progress). p.report.packets) h.progress ∙ packets_counted limits form given in
-        let all = ap (λ (x : Reading). length x.packets) r.0.reading ∙ length-append (given ++ packet ∷ []) later.file.reading.packets in
+        let all = ap (λ (x : Contents). length x.packets) r.0.reading ∙ length-append (given ++ packet ∷ []) later.file.reading.packets in
         let one = length-append given (packet ∷ []) in
         let most = count-read limits.packet_bytes limits.packets (fed ++ more) in
         omega arith
@@ -183,7 +183,7 @@ module _ (limits : Limits) (form : Form) (source : Incoming) (run : Progress) (b
         ∙ ap (λ (s : Sizing). text form (reading_of limits (fed ++ more)).head (shown_of limits given) ++ shown_text s head (picture_to run packet.bytes)) (sym h.sizing))))
 
     abbrev is_front : IsFront limits (fed ++ more) (given ++ packet ∷ [])
-    is_front = (later.file.reading.packets, ap (λ (x : Reading). x.packets) r.0.reading)
+    is_front = (later.file.reading.packets, ap (λ (x : Contents). x.packets) r.0.reading)
 
     cut_front : (written : Option (List ℕ)) → AppendsFront now written (shown_text run.sizing head (picture_to run packet.bytes)) → WritesFront limits form (fed ++ more) before written
     cut_front written w =

@@ -10,7 +10,7 @@ use Rattle.vp_ivf.specs.declared.packet.Packet.{Packet}
 use Rattle.vp_ivf.specs.declared.packet.IvfHead.{IvfHead}
 use Rattle.vp_ivf.specs.declared.fault.FileFault.{FileFault}
 use Rattle.vp_ivf.specs.declared.fault.FileFault.TheVariants.{Torn}
-use Rattle.vp_ivf.specs.Ivf.{Reading, next_head, cuts, read, read_from, resume, resume_at, with_front, stop}
+use Rattle.vp_ivf.specs.Ivf.{Contents, next_head, cuts, read, read_from, resume, resume_at, with_front, stop}
 use Rattle.vp_ivf.specs.Reader as ivf
 use Rattle.vp_ivf.specs.Reader.{State, refusal, refusal_at, without, finish_answer, finish_by, is_torn}
 use Rattle.vp_ivf.proofs.Append.{read-append}
@@ -33,7 +33,7 @@ at_start limits =
 
 -- ---- a piece more
 
-given-resume : (given : List Packet) (f : Option FileFault) (max : ℕ) (r : Reading) (piece : List ℕ)
+given-resume : (given : List Packet) (f : Option FileFault) (max : ℕ) (r : Contents) (piece : List ℕ)
     → with_front given (resume_at f max r piece) ≡ resume_at f max (with_front given r) piece
 given-resume given None max r piece = with_front-front given r.packets (read_from r.head max r.left (r.rest ++ piece))
 given-resume given (Some f) max r piece = refl
@@ -43,7 +43,7 @@ pub read_on : (limits : Limits) (s : Incoming) (fed piece : List ℕ) (given : L
 read_on limits s fed piece given h some left = record {
   max = h.max;
   reading = read-append limits.packet_bytes limits.packets fed piece
-      ∙ (ap (λ (r : Reading). resume limits.packet_bytes r piece) h.reading
+      ∙ (ap (λ (r : Contents). resume limits.packet_bytes r piece) h.reading
       ∙ (sym (given-resume given s.file.reading.fault limits.packet_bytes s.file.reading piece)
       ∙ ap (λ (m : ℕ). with_front given (resume m s.file.reading piece)) (sym h.max)));
   unended = h.unended;
@@ -90,7 +90,7 @@ taken limits s fed given head packet h e =
         unended = ap (λ (f : State). f.ended) rest ∙ h.unended;
         turns = h.turns;
       },
-      ap (λ (r : Reading). r.head) h.reading ∙ known,
+      ap (λ (r : Contents). r.head) h.reading ∙ known,
     )
 
 -- ---- no packet is in front
@@ -125,7 +125,7 @@ pub none_waiting : (limits : Limits) (s : Incoming) (fed : List ℕ) (given : Li
     → IsReading limits s fed given → next_waiting s ≡ None → s.file.reading.packets ≡ []
 none_waiting limits s fed given h e =
     none_by s.file.reading.head given s.file.reading.packets
-    (λ none. ap (λ (r : Reading). r.packets) (sym h.reading) ∙ headless limits fed (ap (λ (r : Reading). r.head) h.reading ∙ none)) e
+    (λ none. ap (λ (r : Contents). r.packets) (sym h.reading) ∙ headless limits fed (ap (λ (r : Contents). r.head) h.reading ∙ none)) e
 
 same_front : (h : Option IvfHead) (file : State) → headed h (slice_get file.reading.packets 0) ≡ None → without_front h file ≡ file
 same_front None file e = refl
@@ -152,11 +152,11 @@ pub ends_faulty : (limits : Limits) (s : Incoming) (left : Option (List ℕ)) (f
     → IsReading limits s fed given → s.file.reading.packets ≡ [] → refusal s.file ≡ Some fault → Ends limits s left fed given (Some fault)
 ends_faulty limits s left fed given fault h none is =
     let met = refused_by s.file.reading.fault s.file.ended fault h.unended is in record {
-      packets = ap (λ (r : Reading). r.packets) h.reading ∙ (ap (λ (ps : List Packet). given ++ ps) none ∙ append-nil given);
+      packets = ap (λ (r : Contents). r.packets) h.reading ∙ (ap (λ (ps : List Packet). given ++ ps) none ∙ append-nil given);
       answer = ap finish_answer h.reading ∙ faulty_end s.file.reading.fault (is_torn s.file.reading.head s.file.reading.rest) fault met;
-      head = sym (ap (λ (r : Reading). r.head) h.reading);
+      head = sym (ap (λ (r : Contents). r.head) h.reading);
       good = λ e. cc;
-      torn = λ e. absurd (fault-read limits.packet_bytes limits.packets fed (ap (λ (r : Reading). r.fault) h.reading ∙ (met ∙ e)));
+      torn = λ e. absurd (fault-read limits.packet_bytes limits.packets fed (ap (λ (r : Contents). r.fault) h.reading ∙ (met ∙ e)));
     }
 
 ending_err : (r : Result (Unit {0}) FileFault) → r ≡ ending (result_err r)
@@ -168,9 +168,9 @@ pub ends_well : (limits : Limits) (s last : Incoming) (left : Option (List ℕ))
     → IsReading limits s fed given → s.file.reading.packets ≡ [] → IsAtEnd left
     → last.file.reading ≡ s.file.reading → fault ≡ result_err (finish_answer s.file.reading) → Ends limits last left fed given fault
 ends_well limits s last left fed given fault h none at_end same is = record {
-  packets = ap (λ (r : Reading). r.packets) h.reading ∙ (ap (λ (ps : List Packet). given ++ ps) none ∙ append-nil given);
+  packets = ap (λ (r : Contents). r.packets) h.reading ∙ (ap (λ (ps : List Packet). given ++ ps) none ∙ append-nil given);
   answer = ap finish_answer h.reading ∙ (ending_err (finish_answer s.file.reading) ∙ ap ending (sym is));
-  head = ap (λ (r : Reading). r.head) same ∙ sym (ap (λ (r : Reading). r.head) h.reading);
+  head = ap (λ (r : Contents). r.head) same ∙ sym (ap (λ (r : Contents). r.head) h.reading);
   good = λ e. at_end;
   torn = λ e. at_end;
 }
@@ -180,7 +180,7 @@ pub still_front : (limits : Limits) (s : Incoming) (fed more : List ℕ) (given 
 still_front limits s fed more given h =
     let later = keeps_packets limits.packet_bytes limits.packets fed more in (
       s.file.reading.packets ++ later.0,
-      later.1 ∙ (ap (λ (r : Reading). r.packets ++ later.0) h.reading ∙ append_assoc given s.file.reading.packets later.0),
+      later.1 ∙ (ap (λ (r : Contents). r.packets ++ later.0) h.reading ∙ append_assoc given s.file.reading.packets later.0),
     )
 
 -- ---- one turn of reading

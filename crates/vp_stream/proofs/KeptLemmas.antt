@@ -6,7 +6,7 @@ use Rattle.vp_base.specs.declared.limits.Limits.{Limits}
 use Rattle.vp_ivf.specs.declared.packet.Packet.{Packet}
 use Rattle.vp_ivf.specs.declared.packet.IvfHead.{IvfHead}
 use Rattle.vp_ivf.specs.declared.fault.FileFault.{FileFault}
-use Rattle.vp_ivf.specs.Ivf.{Reading, next_size, next_head, cuts, read, read_from, with_front, resume, resume_at}
+use Rattle.vp_ivf.specs.Ivf.{Contents, next_size, next_head, cuts, read, read_from, with_front, resume, resume_at}
 use Rattle.vp_ivf.specs.Reader.{State as ReaderState}
 use Rattle.vp_ivf.specs.declared.fault.FeedError.{FeedError}
 use Rattle.vp_ivf.specs.declared.fault.FeedError.TheVariants.{Memory, Fault}
@@ -18,7 +18,7 @@ use Rattle.vp_stream.specs.Seeking.{AreKeys}
 
 -- ---- the packets that were cut and those that may still come are the limit
 
-abbrev pub all_of : Reading → ℕ
+abbrev pub all_of : Contents → ℕ
 all_of r = length r.packets + r.left
 
 none_whole : (max : ℕ) (b : List ℕ) (s : ℕ) → next_size max 0 b ≡ Ok (Some s) → ⊥
@@ -53,25 +53,25 @@ read_on : (head : Option IvfHead) (max n : ℕ) (b : List ℕ) → all_of (read_
 read_on None max n b = read_by max n b (next_head b) refl
 read_on (Some h) max n b = cuts_all (Some h) max n b
 
-resumed : (f : Option FileFault) (max : ℕ) (r : Reading) (more : List ℕ) → all_of (resume_at f max r more) ≡ all_of r
+resumed : (f : Option FileFault) (max : ℕ) (r : Contents) (more : List ℕ) → all_of (resume_at f max r more) ≡ all_of r
 resumed (Some f) max r more = refl
 resumed None max r more =
     let later = read_from r.head max r.left (r.rest ++ more) in
     let e : length later.packets + later.left ≡ r.left = read_on r.head max r.left (r.rest ++ more) in
     rw (length-append r.packets later.packets) (omega (arith, e))
 
-pub resume_all : (max : ℕ) (r : Reading) (more : List ℕ) → length (resume max r more).packets + (resume max r more).left ≡ length r.packets + r.left
+pub resume_all : (max : ℕ) (r : Contents) (more : List ℕ) → length (resume max r more).packets + (resume max r more).left ≡ length r.packets + r.left
 resume_all max r more = resumed r.fault max r more
 
 -- ---- packets that were taken before come in front
 
-front_resumes : (f : Option FileFault) (max : ℕ) (front : List Packet) (r : Reading) (more : List ℕ)
+front_resumes : (f : Option FileFault) (max : ℕ) (front : List Packet) (r : Contents) (more : List ℕ)
     → with_front front (resume_at f max r more) ≡ resume_at f max (with_front front r) more
 front_resumes None max front r more =
     ap (λ ps. record (read_from r.head max r.left (r.rest ++ more)) { packets = ps }) (sym (append_assoc front r.packets _))
 front_resumes (Some f) max front r more = refl
 
-pub front_resume : (max : ℕ) (front : List Packet) (r : Reading) (more : List ℕ) → with_front front (resume max r more) ≡ resume max (with_front front r) more
+pub front_resume : (max : ℕ) (front : List Packet) (r : Contents) (more : List ℕ) → with_front front (resume max r more) ≡ resume max (with_front front r) more
 front_resume max front r more = front_resumes r.fault max front r more
 
 -- ---- a piece

@@ -6,7 +6,7 @@ use Rattle.vp_base.specs.declared.limits.Limits.{Limits}
 use Rattle.vp_ivf.specs.declared.packet.Packet.{Packet}
 use Rattle.vp_ivf.specs.declared.packet.IvfHead.{IvfHead}
 use Rattle.vp_ivf.specs.declared.fault.FileFault.{FileFault}
-use Rattle.vp_ivf.specs.Ivf.{Reading}
+use Rattle.vp_ivf.specs.Ivf.{Contents}
 use Rattle.vp_decode.specs.declared.decoder.Outcome.{Outcome}
 use Rattle.vp_decode.specs.Step.{Kept, Answer, Decoding, step, after, outcome}
 use Rattle.vp_stream.specs.declared.form.Form.TheVariants.{I420}
@@ -80,7 +80,7 @@ module _ (limits : Limits) (source : Incoming) (decoder : Decoding) (told : List
     pub room : length told < limits.packets
     room =
         let counted : length told ≡ length given = ap length h.is_told ∙ (length_zip (map size_in given) (map outcome (answers_from limits None given)) (same_length limits given) ∙ length_map size_in given) in
-        let all = ap (λ (x : Reading). length x.packets) r.reading ∙ length-append (given ++ packet ∷ []) later.file.reading.packets in
+        let all = ap (λ (x : Contents). length x.packets) r.reading ∙ length-append (given ++ packet ∷ []) later.file.reading.packets in
         let one = length-append given (packet ∷ []) in
         let most = count-read limits.packet_bytes limits.packets (fed ++ more) in
         omega arith

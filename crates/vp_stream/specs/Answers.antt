@@ -2,7 +2,7 @@
 use Rattle.std.specs.Prelude.{ℕ, List, [], ◌∷◌, Option, Some, None}
 use Rattle.vp_base.specs.declared.limits.Limits.{Limits}
 use Rattle.vp_ivf.specs.declared.packet.Packet.{Packet}
-use Rattle.vp_ivf.specs.Ivf.{Reading, read}
+use Rattle.vp_ivf.specs.Ivf.{Contents, read}
 use Rattle.vp_decode.specs.Step.{Kept, Answer, step}
 
 -- the answers for packets, one after another, from a state (RFC 6386, chapter 5)
@@ -11,7 +11,7 @@ answers_from limits state [] = []
 answers_from limits state (p ∷ ps) = (step limits state p.bytes).1 ∷ answers_from limits (step limits state p.bytes).0 ps
 
 -- what is known of a file by its bytes
-abbrev pub reading_of : Limits → List ℕ → Reading
+abbrev pub reading_of : Limits → List ℕ → Contents
 reading_of limits file = read limits.packet_bytes limits.packets file
 
 -- the answers for the packets of a file, the first one from no state

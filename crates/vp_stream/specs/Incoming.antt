@@ -6,7 +6,7 @@ use Rattle.vp_ivf.specs.declared.packet.Packet.{Packet}
 use Rattle.vp_ivf.specs.declared.packet.IvfHead.{IvfHead}
 use Rattle.vp_ivf.specs.declared.fault.FileFault.{FileFault}
 use Rattle.vp_ivf.specs.declared.fault.FileFault.TheVariants.{Torn}
-use Rattle.vp_ivf.specs.Ivf.{Reading, resume, with_front}
+use Rattle.vp_ivf.specs.Ivf.{Contents, resume, with_front}
 use Rattle.vp_ivf.specs.Reader as ivf
 use Rattle.vp_ivf.specs.Reader.{State, without, finish_answer}
 use Rattle.vp_stream.specs.declared.fault.SurveyFault.{SurveyFault}

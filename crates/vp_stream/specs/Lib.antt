@@ -6,3 +6,4 @@ pub mod Reports
 pub mod Incoming
 pub mod Progress
 pub mod Written
+pub mod Names

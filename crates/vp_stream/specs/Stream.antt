@@ -3,7 +3,7 @@ use Rattle.std.specs.Prelude.{◌≡◌, ◌+◌, ℕ, Bool, false, List, [], �
 use Rattle.vp_base.specs.declared.limits.Limits.{Limits}
 use Rattle.vp_ivf.specs.declared.packet.Packet.{Packet}
 use Rattle.vp_ivf.specs.declared.fault.FileFault.{FileFault}
-use Rattle.vp_ivf.specs.Ivf.{Reading, stop, resume, with_front}
+use Rattle.vp_ivf.specs.Ivf.{Contents, stop, resume, with_front}
 use Rattle.vp_ivf.specs.Reader.{refusal_at, ended_by}
 use Rattle.vp_ivf.specs.Reader.{State as ReaderState}
 use Rattle.vp_stream.specs.Answers.{reading_of}
@@ -12,7 +12,7 @@ use Rattle.vp_stream.specs.Seeking.{AreKeys}
 -- the limits, what is known of the file with all its packets, and whether the end was told
 pub record State : Type 0 where
   pub limits : Limits
-  pub reading : Reading
+  pub reading : Contents
   pub ended : Bool
 
 -- a stream that was fed nothing
@@ -57,7 +57,7 @@ packets_of s h = (reading_of s.limits h.fed).packets
 -- ---- what a stream holds: a reader whose packets were all taken, and the packets
 
 -- what is known of the file, with the packets that were taken
-abbrev pub whole : ReaderState → List Packet → Reading
+abbrev pub whole : ReaderState → List Packet → Contents
 whole r packets = with_front packets r.reading
 
 -- the reader has given its packets, no more than the limit, and the key packet before each of them is noted

@@ -1,6 +1,7 @@
 //! Why the work on a file ends early.
 
-ghost use Rattle.std.specs.Prelude.{◌≡◌};
+ghost use Rattle.std.specs.Prelude.{◌≡◌, Some};
+ghost use Rattle.vp_stream.specs.Names.{name_of};
 
 use std::alloc::AllocError;
 use std::fmt;
@@ -25,6 +26,8 @@ pub enum DecodeFault {
 
 /// The fault's name, as it is told.
 impl fmt::Display for DecodeFault {
+    ghost output = { λ fault. Some (name_of fault) };
+
     fn fmt<W: fmt::Write>(&self, f: &mut fmt::Formatter<W>) -> fmt::Result {
         let name = match self {
             DecodeFault::File(fault) => return write!(f, "{fault}"),

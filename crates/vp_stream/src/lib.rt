@@ -4,8 +4,6 @@
 mod answer;
 mod decoding;
 mod fault;
-#[cfg(test)]
-mod file_tests;
 mod form;
 mod laws;
 mod outcomes;
@@ -15,8 +13,6 @@ mod report;
 mod run;
 mod seeking;
 mod stream;
-#[cfg(test)]
-mod stream_tests;
 mod surveying;
 
 pub use answer::Answer;

@@ -42,7 +42,7 @@ impl Model for PacketReader {
 
 impl PacketReader {
     /// Before the first read.
-    pub fn new(alloc: Global, limits: Limits) -> PacketReader
+    pub(crate) fn new(alloc: Global, limits: Limits) -> PacketReader
         ensures { result ≡ start limits }
     {
         PacketReader {
@@ -52,14 +52,14 @@ impl PacketReader {
     }
 
     /// The file's head, once it is read.
-    pub fn head(&self) -> Option<IvfHead>
+    pub(crate) fn head(&self) -> Option<IvfHead>
         ensures { result ≡ self.now.file.reading.head }
     {
         self.file.head()
     }
 
     /// What comes next. After the end nothing more is asked for.
-    pub fn next<R: Read>(&mut self, reader: &mut Counted<R>) -> Result<Next, SurveyFault>
+    pub(crate) fn next<R: Read>(&mut self, reader: &mut Counted<R>) -> Result<Next, SurveyFault>
         ensures given { (limits : Limits) (fed : List ℕ) (given : List Packet)
             → IsReading limits self.old fed given
             → (more : List ℕ)

@@ -36,7 +36,7 @@ impl Model for Pictures {
 
 impl Pictures {
     /// Before the first picture.
-    pub fn new(alloc: Global, form: Form) -> Pictures
+    pub(crate) fn new(alloc: Global, form: Form) -> Pictures
         ensures { result ≡ unsized form }
     {
         Pictures {
@@ -47,7 +47,7 @@ impl Pictures {
     }
 
     /// Writes a picture of a file with this head.
-    pub fn write<W: Write>(
+    pub(crate) fn write<W: Write>(
         &mut self,
         head: IvfHead,
         picture: &Picture,

@@ -38,7 +38,7 @@ impl Model for Run {
 
 impl Run {
     /// Before the first packet.
-    pub fn new(alloc: Global, limits: Limits, form: Form) -> Run
+    pub(crate) fn new(alloc: Global, limits: Limits, form: Form) -> Run
         ensures { result ≡ fresh limits form }
     {
         Run {
@@ -49,7 +49,7 @@ impl Run {
     }
 
     /// Decodes a packet of a file with this head, and writes its picture where that is shown.
-    pub fn packet<W: Write>(
+    pub(crate) fn packet<W: Write>(
         &mut self,
         head: IvfHead,
         packet: &[u8],
@@ -78,7 +78,7 @@ impl Run {
     }
 
     /// The report of all packets.
-    pub fn into_report(self) -> Report
+    pub(crate) fn into_report(self) -> Report
         ensures { result ≡ self.report }
     {
         let Run {

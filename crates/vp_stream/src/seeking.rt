@@ -42,7 +42,11 @@ fn keep(packet: Packet, packets: &mut Vec<Packet>, keys: &mut Vec<Option<u32>>)
 }
 
 /// Keeps the packets that a reader has waiting, for which there is room.
-pub fn keep_waiting(reader: &mut Reader, packets: &mut Vec<Packet>, keys: &mut Vec<Option<u32>>)
+pub(crate) fn keep_waiting(
+    reader: &mut Reader,
+    packets: &mut Vec<Packet>,
+    keys: &mut Vec<Option<u32>>,
+)
     requires room { vec_len packets.old + length reader.old.reading.packets ≤ vec_capacity packets.old }
     requires key_room { vec_len keys.old + length reader.old.reading.packets ≤ vec_capacity keys.old }
     requires few { vec_len packets.old + length reader.old.reading.packets < 2 ^ 32 }
@@ -58,7 +62,7 @@ pub fn keep_waiting(reader: &mut Reader, packets: &mut Vec<Packet>, keys: &mut V
 }
 
 /// The last key packet of packets 0 to `n`.
-pub fn key_of(packets: &[Packet], keys: &[Option<u32>], n: u32) -> Option<u32>
+pub(crate) fn key_of(packets: &[Packet], keys: &[Option<u32>], n: u32) -> Option<u32>
     requires { AreKeys packets.now keys.now }
     ensures { result ≡ key_before packets.now n }
 {
@@ -110,7 +114,7 @@ fn answer_to(alloc: Global, decoder: &mut Decoder, packet: &[u8]) -> Result<Answ
 }
 
 /// Decodes packets `first` to `n`, counts them, and gives what the last of them shows.
-pub fn answer_from(
+pub(crate) fn answer_from(
     alloc: Global,
     limits: Limits,
     packets: &[Packet],

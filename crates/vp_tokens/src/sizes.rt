@@ -20,7 +20,7 @@ fn read_bits(probabilities: &[u8], d: &mut BoolDecoder) -> u16
 
 /// The size that a token stands for.
 #[tactic(auto, unfolding(crate::specs::Levels::size, vp_bool::specs::Reader::bind))]
-pub fn read_size(token: Token, d: &mut BoolDecoder) -> u16
+pub(crate) fn read_size(token: Token, d: &mut BoolDecoder) -> u16
     ensures value { result ≡ (size token d.old).0 }
     ensures rest { d.new ≡ (size token d.old).1 }
     ensures small { result ≤ 2114 }
@@ -31,7 +31,7 @@ pub fn read_size(token: Token, d: &mut BoolDecoder) -> u16
 
 /// The level of this size, whose sign is read where it isn't 0.
 #[tactic(auto, unfolding(crate::specs::Levels::signed, vp_bool::specs::Reader::bind))]
-pub fn read_signed(size: u16, d: &mut BoolDecoder) -> i16
+pub(crate) fn read_signed(size: u16, d: &mut BoolDecoder) -> i16
     requires { size ≤ 2114 }
     ensures value { result ≡ (signed size d.old).0 }
     ensures rest { d.new ≡ (signed size d.old).1 }

@@ -9,7 +9,7 @@ use Rattle.std.proofs.lemmas.Bool.Decides.{nat_tests}
 use Rattle.std.proofs.lemmas.Fmt.{digits_decimal, digits_value-decimal, decimal_nonempty}
 use Rattle.std.proofs.lemmas.List.Splits.{slice_split_first}
 use Rattle.std.proofs.Math.Seq.{take-append_seam, drop-append-add}
-use Rattle.vp_base.specs.Limits.{Fits}
+use Rattle.vp_base.specs.Limits.{IsSide}
 use Rattle.vp_y4m.specs.Text.{header_text, picture_text, i420_length}
 use Rattle.vp_y4m.specs.Lines.{is_line_feed, first_line}
 use Rattle.vp_y4m.specs.Header.{is_space, is_colon, begins_with, last_among, last_of, number_in, both, rate_in, size_within, is_taken_colour, is_progressive, judged, head_in}
@@ -101,7 +101,7 @@ rate_read rate scale r s =
     let none = decimal_passes_none is_colon rate colon_is_no_digit r in
     rw (before_at is_colon (decimal rate) 58 (decimal scale) none refl, after_at is_colon (decimal rate) 58 (decimal scale) none refl, number_of_decimal rate r, number_of_decimal scale s) refl
 
-size_read : (pixels w h : ℕ) → Fits w → Fits h → w * h ≤ pixels → size_within pixels (Some (w, h)) ≡ Some (w, h)
+size_read : (pixels w h : ℕ) → IsSide w → IsSide h → w * h ≤ pixels → size_within pixels (Some (w, h)) ≡ Some (w, h)
 size_read pixels w h fw fh few =
     rw (lt-ltb 0 w fw.0, le-leb w 16383 fw.1, lt-ltb 0 h fh.0, le-leb h 16383 fh.1, le-leb (w * h) pixels few) refl
 
@@ -173,7 +173,7 @@ said : (pixels : ℕ) (line f w h c i : List ℕ) → begins_with (codes "YUV4MP
 unfolding head_in
 said pixels line f w h c i eb ef ew eh ec ei = rw (eb, ef, ew, eh, ec, ei) refl
 
-head_of_line : (pixels w h rate scale : ℕ) → Fits w → Fits h → w * h ≤ pixels → rate < 2 ^ 32 → scale < 2 ^ 32
+head_of_line : (pixels w h rate scale : ℕ) → IsSide w → IsSide h → w * h ≤ pixels → rate < 2 ^ 32 → scale < 2 ^ 32
     → head_in pixels (line_text w h rate scale) ≡ Ok (record { w = w; h = h; rate = rate; scale = scale })
 head_of_line pixels w h rate scale fw fh few sr ss =
     let sw : w < 2 ^ 32 = omega (arith, fw.1) in

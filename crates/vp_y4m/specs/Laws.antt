@@ -1,12 +1,12 @@
 -- What is written is read back.
 use Rattle.std.specs.Prelude.{ℕ, ◌≡◌, ◌<◌, ◌≤◌, ◌^◌, ◌*◌, List, ◌++◌, length, Some, Ok}
-use Rattle.vp_base.specs.Limits.{Fits}
+use Rattle.vp_base.specs.Limits.{IsSide}
 use Rattle.vp_y4m.specs.Text.{header_text, picture_text, i420_length}
 use Rattle.vp_y4m.specs.Pictures.{file_head, next_of}
 
 -- the line of a size within the limits says that size, rate and scale, whatever follows
 abbrev pub IsHeadReadBack : Type 0
-IsHeadReadBack = (pixels w h rate scale : ℕ) (rest : List ℕ) → Fits w → Fits h → w * h ≤ pixels → rate < 2 ^ 32 → scale < 2 ^ 32
+IsHeadReadBack = (pixels w h rate scale : ℕ) (rest : List ℕ) → IsSide w → IsSide h → w * h ≤ pixels → rate < 2 ^ 32 → scale < 2 ^ 32
     → file_head pixels (header_text w h rate scale ++ rest) ≡ Ok (record { w = w; h = h; rate = rate; scale = scale }, rest)
 
 -- a written picture is the next one, whatever follows

@@ -35,7 +35,7 @@ fn read_frame_line<R: Read>(reader: &mut Counted<R>) -> Result<bool, SourceFault
 }
 
 /// Reads the next picture into a picture of zeros; false where the reader's end comes before its line.
-pub fn read_frame<R: Read>(
+pub(crate) fn read_frame<R: Read>(
     reader: &mut Counted<R>,
     picture: &mut Picture,
 ) -> Result<bool, SourceFault>

@@ -30,7 +30,7 @@ fn place_of(text: &[u8], byte: u8) -> Option<usize>
 }
 
 // Whether the line's first token is the word.
-pub fn is_first_token(line: &[u8], word: &[u8]) -> bool
+pub(crate) fn is_first_token(line: &[u8], word: &[u8]) -> bool
     ensures { result ≡ begins_with word.now line.now }
 {
     match place_of(line, b' ') {
@@ -146,7 +146,7 @@ fn is_frame_wise(text: Option<&[u8]>) -> bool
 
 /// What the first line of a file says. The faults come in the order `Magic`, `Size`, `Colour`, `Interlaced`.
 #[tactic(auto, unfolding(crate::specs::Header::head_in))]
-pub fn read_head_line(line: &[u8], limits: Limits) -> Result<SourceHead, SourceFault>
+pub(crate) fn read_head_line(line: &[u8], limits: Limits) -> Result<SourceHead, SourceFault>
     ensures value { outcome_shown result ≡ head_in limits.pixels line.now }
     ensures faults { IfErr result (λ f. (f ≡ SourceFault.Magic) ⊎ ((f ≡ SourceFault.Size)
         ⊎ ((f ≡ SourceFault.Colour) ⊎ (f ≡ SourceFault.Interlaced)))) }

@@ -27,7 +27,7 @@ fn read_byte<R: Read>(reader: &mut Counted<R>) -> Result<Option<u8>, SourceFault
 
 /// Reads a line of 1,024 bytes at most and its line feed, and no byte behind it. Gives the line's length, or
 /// None where the reader's end comes before the first byte.
-pub fn read_line<R: Read>(
+pub(crate) fn read_line<R: Read>(
     reader: &mut Counted<R>,
     line: &mut [u8],
 ) -> Result<Option<usize>, SourceFault>

@@ -118,7 +118,7 @@ fn read_shown<R: Read>(
 }
 
 /// Reads the shown pixels of a picture of zeros: Y, U, V, each plane by rows.
-pub fn read_pixels<R: Read>(
+pub(crate) fn read_pixels<R: Read>(
     reader: &mut Counted<R>,
     picture: &mut Picture,
 ) -> Result<(), SourceFault>

@@ -1,6 +1,6 @@
 use Rattle.std.proofs.Common.{◌≡◌, ◌∙◌, ℕ, ap, sym, arith, get_or}
 use Rattle.vp_base.specs.Image.{Image, macroblocks}
-use Rattle.vp_loop.specs.Levels.{unfiltered}
+use Rattle.vp_loop.specs.Levels.{no_level}
 use Rattle.vp_loop.specs.Filtered.{macroblock_filtered, row_levels}
 use Rattle.vp_loop.proofs.FrameLemmas.{Sizes, first_macroblocks, first_macroblocks-none, first_macroblocks-more, sizes-first_macroblocks, row_filtered-all}
 use Rattle.vp_loop.proofs.frame.filter_row.Goals as goal
@@ -27,7 +27,7 @@ pub loop-column-preserved : goal.loop-column-preserved
 loop-column-preserved c =
     let own = row_levels c.args.levels.now c.from-cols.result c.args.row in
     c.filter_macroblock.ensures
-    ∙ (ap (λ (p : Image). macroblock_filtered (get_or own c.loop-column.column unfiltered) c.loop-column.column c.args.row p) c.loop-column.invariant
+    ∙ (ap (λ (p : Image). macroblock_filtered (get_or own c.loop-column.column no_level) c.loop-column.column c.args.row p) c.loop-column.invariant
     ∙ first_macroblocks-more own c.args.row c.loop-column.column c.args.picture.now)
 
 pub returns : goal.returns

@@ -1,7 +1,7 @@
 use Rattle.std.proofs.Common.{◌≡◌, arith, ap, ◌∙◌, List, ℕ, Option}
 use Rattle.std.proofs.lemmas.Grind.{common_steps}
 use Rattle.vp_ivf.specs.declared.packet.Packet.{Packet}
-use Rattle.vp_ivf.specs.Ivf.{Reading}
+use Rattle.vp_ivf.specs.Ivf.{Contents}
 use Rattle.vp_stream.specs.Seeking.{IsKeyBefore, key_before}
 use Rattle.vp_stream.proofs.KeyLemmas.{is_key_before}
 use Rattle.vp_stream.proofs.stream.Stream.key_before.Goals as goal
@@ -16,4 +16,4 @@ pub returns-clause-packets : goal.returns-clause-packets
 returns-clause-packets c h stands =
     greatest _ c.args.n c.key_of.result
     (let e : c.key_of.result ≡ key_before c.args.self.now.reading.packets c.args.n = grind (arith, common_steps) in
-    e ∙ ap (λ (r : Reading). key_before r.packets c.args.n) stands.reading)
+    e ∙ ap (λ (r : Contents). key_before r.packets c.args.n) stands.reading)

@@ -1,23 +1,11 @@
-use super::*;
+//! The command line over worked files.
+
+use crate::files::{HEAD, HIDDEN, INTER, KEY, file};
 use std::alloc::{AllocError, Global};
 use std::fs;
 use std::test::Fail;
+use vp_app::command;
 use vp_base::Counted;
-
-// The head of an IVF file of 16 columns and 16 rows.
-const HEAD: [u8; 32] = [
-    0x44, 0x4b, 0x49, 0x46, 0, 0, 0x20, 0, 0x56, 0x50, 0x38, 0x30, 0x10, 0, 0x10, 0, 0x1e, 0, 0, 0,
-    1, 0, 0, 0, 1, 0, 0, 0, 0, 0, 0, 0,
-];
-
-// An empty key frame of 16 columns and 16 rows.
-const KEY: [u8; 10] = [0x10, 0, 0, 0x9d, 0x01, 0x2a, 0x10, 0, 0x10, 0];
-
-// The same, not to be shown.
-const HIDDEN: [u8; 10] = [0, 0, 0, 0x9d, 0x01, 0x2a, 0x10, 0, 0x10, 0];
-
-// An empty inter frame.
-const INTER: [u8; 3] = [0x11, 0, 0];
 
 // The key frame with another size.
 fn key_of(size: [u8; 4]) -> [u8; 10] {
@@ -34,19 +22,6 @@ fn key_of(size: [u8; 4]) -> [u8; 10] {
         height,
         height_above,
     ]
-}
-
-fn file(alloc: Global, packets: &[&[u8]]) -> Result<Vec<u8>, AllocError> {
-    let mut bytes = Vec::from_slice(alloc, &HEAD)?;
-    let mut time = 0u8;
-    for packet in packets {
-        let size = u32::try_from(packet.len()).unwrap_or(u32::MAX);
-        bytes.extend_from_slice(&size.to_le_bytes())?;
-        bytes.extend_from_slice(&[time, 0, 0, 0, 0, 0, 0, 0])?;
-        bytes.extend_from_slice(packet)?;
-        time = time.wrapping_add(1);
-    }
-    Ok(bytes)
 }
 
 // So many numbers of 128, of 129, and of 128.

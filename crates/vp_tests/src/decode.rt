@@ -1,13 +1,11 @@
-use super::*;
+//! Worked packets, one after another.
+
+use crate::files::{INTER, KEY};
 use std::alloc::Global;
 use std::test::Fail;
 use vp_base::Limits;
+use vp_decode::{Decoder, Outcome};
 use vp_head::PacketFault;
-
-/// A key packet of 16 by 16 pixels whose first partition is empty: all its bools are 0.
-const KEY: [u8; 10] = [0x10, 0, 0, 0x9d, 0x01, 0x2a, 16, 0, 16, 0];
-/// An inter packet whose first partition is empty.
-const INTER: [u8; 3] = [0x11, 0, 0];
 
 fn decoder(alloc: Global) -> Decoder {
     Decoder::new(alloc, Limits::usual())

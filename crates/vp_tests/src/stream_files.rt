@@ -1,4 +1,6 @@
-use super::*;
+//! Whole files: `decode_all` and `survey`.
+
+use crate::files::{HIDDEN, INTER, KEY, file};
 use std::alloc::{AllocError, Global};
 use std::io::Read;
 use std::test::Fail;
@@ -6,40 +8,13 @@ use vp_base::{Counted, FailAt, Limits};
 use vp_decode::Outcome;
 use vp_head::PacketFault;
 use vp_ivf::FileFault;
-
-// The head of an IVF file of 16 columns and 16 rows, 30 pictures a second.
-const HEAD: [u8; 32] = [
-    0x44, 0x4b, 0x49, 0x46, 0, 0, 0x20, 0, 0x56, 0x50, 0x38, 0x30, 0x10, 0, 0x10, 0, 0x1e, 0, 0, 0,
-    1, 0, 0, 0, 1, 0, 0, 0, 0, 0, 0, 0,
-];
-
-// An empty key frame of 16 columns and 16 rows.
-const KEY: [u8; 10] = [0x10, 0, 0, 0x9d, 0x01, 0x2a, 0x10, 0, 0x10, 0];
-
-// The same, not to be shown.
-const HIDDEN: [u8; 10] = [0, 0, 0, 0x9d, 0x01, 0x2a, 0x10, 0, 0x10, 0];
+use vp_stream::{DecodeFault, Form, Report, SurveyFault, decode_all, survey};
 
 // An empty key frame of 17 columns and one row.
 const WIDE: [u8; 10] = [0x10, 0, 0, 0x9d, 0x01, 0x2a, 0x11, 0, 0x01, 0];
 
-// An empty inter frame.
-const INTER: [u8; 3] = [0x11, 0, 0];
-
 // The lines before the first picture.
 const LINES: &[u8] = b"YUV4MPEG2 W16 H16 F30:1 Ip A0:0 C420jpeg\nFRAME\n";
-
-fn file(alloc: Global, packets: &[&[u8]]) -> Result<Vec<u8>, AllocError> {
-    let mut bytes = Vec::from_slice(alloc, &HEAD)?;
-    let mut time = 0u8;
-    for packet in packets {
-        let size = u32::try_from(packet.len()).unwrap_or(u32::MAX);
-        bytes.extend_from_slice(&size.to_le_bytes())?;
-        bytes.extend_from_slice(&[time, 0, 0, 0, 0, 0, 0, 0])?;
-        bytes.extend_from_slice(packet)?;
-        time = time.wrapping_add(1);
-    }
-    Ok(bytes)
-}
 
 // The key frame's picture: 64 numbers of 128, 192 of 129, and 128 of 128.
 fn append_picture(bytes: &mut Vec<u8>) -> Result<(), AllocError> {

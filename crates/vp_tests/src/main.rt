@@ -1,6 +1,18 @@
 //! Decodes the streams that its words name, and prints the MD5 of the pictures that each shows, cropped and as
-//! I420, one after another. What it must print comes from other decoders.
+//! I420, one after another. What it must print comes from other decoders. Its tests are worked packets and files, through
+//! all layers.
 #![tactic(auto)]
+
+#[cfg(test)]
+mod app;
+#[cfg(test)]
+mod decode;
+#[cfg(test)]
+mod files;
+#[cfg(test)]
+mod stream_files;
+#[cfg(test)]
+mod stream_seeking;
 
 use md5::{Digest, Md5};
 use std::alloc::Global;

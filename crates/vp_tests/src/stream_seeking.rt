@@ -1,34 +1,12 @@
-use super::*;
+//! `Stream`: files that grow, asked for any packet.
+
+use crate::files::{HEAD, INTER, KEY, file};
 use std::alloc::{AllocError, Global};
 use std::test::Fail;
 use vp_base::Limits;
 use vp_head::PacketFault;
 use vp_ivf::{FeedError, FileFault};
-
-// The head of an IVF file of 16 columns and 16 rows.
-const HEAD: [u8; 32] = [
-    0x44, 0x4b, 0x49, 0x46, 0, 0, 0x20, 0, 0x56, 0x50, 0x38, 0x30, 0x10, 0, 0x10, 0, 0x1e, 0, 0, 0,
-    1, 0, 0, 0, 1, 0, 0, 0, 0, 0, 0, 0,
-];
-
-// An empty key frame of 16 columns and 16 rows.
-const KEY: [u8; 10] = [0x10, 0, 0, 0x9d, 0x01, 0x2a, 0x10, 0, 0x10, 0];
-
-// An empty inter frame.
-const INTER: [u8; 3] = [0x11, 0, 0];
-
-fn file(alloc: Global, packets: &[&[u8]]) -> Result<Vec<u8>, AllocError> {
-    let mut bytes = Vec::from_slice(alloc, &HEAD)?;
-    let mut time = 0u8;
-    for packet in packets {
-        let size = u32::try_from(packet.len()).unwrap_or(u32::MAX);
-        bytes.extend_from_slice(&size.to_le_bytes())?;
-        bytes.extend_from_slice(&[time, 0, 0, 0, 0, 0, 0, 0])?;
-        bytes.extend_from_slice(packet)?;
-        time = time.wrapping_add(1);
-    }
-    Ok(bytes)
-}
+use vp_stream::{Answer, Stream};
 
 // A stream that was fed a file of these packets.
 fn stream_of(alloc: Global, packets: &[&[u8]]) -> Result<Stream, Fail> {
