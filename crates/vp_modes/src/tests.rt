@@ -1,4 +1,7 @@
+ghost use Rattle.std.specs.Prelude.{◌≡◌, ◌<◌};
+
 use crate::{ModeMap, Modes, Place, read_modes};
+use std::process::Abort;
 use std::test::Fail;
 use vp_base::{Dim, Limits};
 use vp_bool::BoolDecoder;
@@ -132,26 +135,65 @@ const MODES: [Modes; 4] = [
     },
 ];
 
+// Reads a macroblock, and puts it into the map.
+fn put_next(
+    rt: &impl Abort,
+    header: &Header,
+    map: &mut ModeMap,
+    place: Place,
+    wanted: &Modes,
+    d: &mut BoolDecoder,
+)
+    requires columns { map.old.cols ≡ 2 }
+    requires rows { map.old.rows ≡ 2 }
+    requires column { place.column < 2 }
+    requires row { place.row < 2 }
+    ensures columns { map.new.cols ≡ 2 }
+    ensures rows { map.new.rows ≡ 2 }
+{
+    let modes = read_modes(header, map, place, d);
+    assert_eq!(rt; modes, *wanted);
+    map.set(place, &modes);
+}
+
 #[test]
 fn modes_by_their_neighbours(rt: HostRuntime) -> Result<(), Fail> {
     let dim = Dim::new(32, 32, &Limits::usual()).ok().ok_or("a size")?;
     let mut d = BoolDecoder::new(&FOUR);
     let (header, _) = Header::read(&Saved::defaults(), &key_tag(dim), &mut d);
     let mut map = ModeMap::new(rt.alloc(), dim)?;
-    let place = Place { column: 0, row: 0 };
-    let modes = read_modes(&header, &map, place, &mut d);
-    assert_eq!(rt; modes, MODES[0]);
-    map.set(place, &modes);
-    let place = Place { column: 1, row: 0 };
-    let modes = read_modes(&header, &map, place, &mut d);
-    assert_eq!(rt; modes, MODES[1]);
-    map.set(place, &modes);
-    let place = Place { column: 0, row: 1 };
-    let modes = read_modes(&header, &map, place, &mut d);
-    assert_eq!(rt; modes, MODES[2]);
-    map.set(place, &modes);
-    let place = Place { column: 1, row: 1 };
-    let modes = read_modes(&header, &map, place, &mut d);
-    assert_eq!(rt; modes, MODES[3]);
+    let [first, second, third, fourth] = &MODES;
+    put_next(
+        &rt,
+        &header,
+        &mut map,
+        Place { column: 0, row: 0 },
+        first,
+        &mut d,
+    );
+    put_next(
+        &rt,
+        &header,
+        &mut map,
+        Place { column: 1, row: 0 },
+        second,
+        &mut d,
+    );
+    put_next(
+        &rt,
+        &header,
+        &mut map,
+        Place { column: 0, row: 1 },
+        third,
+        &mut d,
+    );
+    put_next(
+        &rt,
+        &header,
+        &mut map,
+        Place { column: 1, row: 1 },
+        fourth,
+        &mut d,
+    );
     Ok(())
 }

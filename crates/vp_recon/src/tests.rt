@@ -29,6 +29,17 @@ fn modes(luma: LumaMode) -> Modes {
     }
 }
 
+/// Whether luma is 128 in rows 0 to 3 and 129 below, of 16 columns and 32 rows, and chroma 128.
+fn is_empty_picture(bytes: &[u8]) -> bool {
+    for (i, byte) in bytes.iter().enumerate() {
+        let wanted = if i >= 64 && i < 512 { 129 } else { 128 };
+        if *byte != wanted {
+            return false;
+        }
+    }
+    bytes.len() == 768
+}
+
 #[test]
 fn two_macroblock_rows(rt: HostRuntime) -> Result<(), Fail> {
     let dim = Dim::new(16, 32, &Limits::usual()).ok().ok_or("size")?;
@@ -39,12 +50,8 @@ fn two_macroblock_rows(rt: HostRuntime) -> Result<(), Fail> {
     };
     rebuild_macroblock(&mut picture, TOP, &modes(LumaMode::B), &tokens, &FACTORS);
     rebuild_macroblock(&mut picture, below, &modes(LumaMode::B), &tokens, &FACTORS);
-    let plane = picture.plane(0);
-    for y in 0..plane.height() {
-        for x in 0..plane.width() {
-            assert_eq!(rt; plane.get(x, y), if y < 4 { 128 } else { 129 });
-        }
-    }
+    let bytes = picture.crop_i420(rt.alloc())?;
+    assert!(rt; is_empty_picture(&bytes));
     Ok(())
 }
 
