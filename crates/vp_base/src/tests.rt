@@ -9,6 +9,7 @@ fn mark(picture: &mut Picture)
     requires wide { picture.old.width ≡ 17 }
     requires high { picture.old.height ≡ 1 }
 {
+    let _dim = picture.dim();
     picture.set(0, 16, 0, 1);
     picture.write_run(1, 8, 0, &[2]);
     picture.row_mut(2, 0)[0] = 3;
