@@ -18,6 +18,7 @@ use vp_stream::{DecodeFault, Form, Report, Survey, decode_all, survey};
 ///
 /// `vp8 decode IN OUT` writes the pictures of an IVF file as I420, `vp8 decode --y4m IN OUT` as YUV4MPEG2. Faults
 /// are named on `errors`, a line each: `vp8: NAME` where the work ended by it, else `vp8: packet N: NAME`.
+/// Words that ask for nothing are told there too, and then nothing was read and nothing written.
 /// `vp8 info IN` prints what an IVF file holds, the packets' faults too. The name `-` is `input` or `output`.
 pub fn command<H: Files + AllocGlobal, R: Read, W: Write, E: Write>(
     rt: &H,
@@ -26,7 +27,8 @@ pub fn command<H: Files + AllocGlobal, R: Read, W: Write, E: Write>(
     output: &mut Counted<W>,
     errors: &mut Counted<E>,
 ) -> u8
-    ensures { result ≤ 2 }
+    ensures status { result ≤ 2 }
+    ensures usage { result ≡ 2 → (input.new ≡ input.old) × (output.new ≡ output.old) }
 {
     match read_words(rt.alloc(), words) {
         Ok(
@@ -115,7 +117,8 @@ fn name_end<E: Write>(fault: DecodeFault, errors: &mut Counted<E>) -> u8
 
 // Names the faults, and gives the status.
 fn tell<E: Write>(done: Result<Report, DecodeFault>, errors: &mut Counted<E>) -> u8
-    ensures { result ≡ status_of done }
+    ensures status { result ≡ status_of done }
+    ensures ended { result ≤ 1 }
 {
     let report = match done {
         Ok(report) => report,
@@ -154,7 +157,8 @@ fn explain<W: Write, E: Write>(
     output: &mut Counted<W>,
     errors: &mut Counted<E>,
 ) -> u8
-    ensures { result ≤ 2 }
+    ensures status { result ≤ 2 }
+    ensures usage { result ≡ 2 → output.new ≡ output.old }
 {
     if error.kind() == ErrorKind::OutOfMemory {
         return name_end(DecodeFault::Memory, errors);
