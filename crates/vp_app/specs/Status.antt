@@ -1,7 +1,6 @@
 -- The status of the program.
-use Rattle.std.specs.Prelude.{ℕ, List, [], ◌∷◌, Result, Ok, Err, Option, Some, None}
+use Rattle.std.specs.Prelude.{ℕ, List, [], ◌∷◌, Result, Ok, Err}
 use Rattle.vp_head.specs.declared.fault.PacketFault.{PacketFault}
-use Rattle.vp_ivf.specs.declared.fault.FileFault.{FileFault}
 use Rattle.vp_stream.specs.declared.report.Report.{Report}
 use Rattle.vp_stream.specs.declared.fault.DecodeFault.{DecodeFault}
 

@@ -1,6 +1,6 @@
 //! The program, over any streams.
 
-ghost use Rattle.std.specs.Prelude.{◌≡◌, ◌≢◌, ◌≤◌, None};
+ghost use Rattle.std.specs.Prelude.{◌≡◌, ◌≢◌, ◌≤◌, IfOk, IsOk, None};
 ghost use Rattle.vp_app.specs.Status.{status_of};
 
 use crate::listing::print_survey;
@@ -136,7 +136,8 @@ fn tell_survey<W: Write, E: Write>(
     output: &mut Counted<W>,
     errors: &mut Counted<E>,
 ) -> u8
-    ensures { result ≤ 1 }
+    ensures status { result ≤ 1 }
+    ensures well { result ≡ 0 → IsOk done × IfOk done (λ s. s.fault ≡ None) }
 {
     let survey = match done {
         Ok(survey) => survey,

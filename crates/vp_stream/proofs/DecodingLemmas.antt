@@ -1,8 +1,8 @@
 -- A file's packets are decoded, one after another, and their text is written.
-use Rattle.std.proofs.Common.{◌≡◌, ℕ, ◌+◌, ◌-◌, ◌≤◌, ◌<◌, ◌^◌, Bool, true, false, not, List, [], ◌∷◌, ◌++◌, length, Option, Some, None, refl, sym, ap, subst, ◌∙◌, append_assoc, arith}
+use Rattle.std.proofs.Common.{◌≡◌, ℕ, ◌+◌, ◌-◌, ◌<◌, true, false, List, [], ◌∷◌, ◌++◌, length, Option, Some, None, refl, sym, ap, subst, ◌∙◌, arith}
 use Rattle.std.specs.Option.{option_to_list}
 use Rattle.std.specs.Io.KnownBytes.{Appends}
-use Rattle.std.proofs.lemmas.List.{append-nil, length-append}
+use Rattle.std.proofs.lemmas.List.{length-append}
 use Rattle.std.proofs.lemmas.List.Elements.{filter_map-append}
 use Rattle.vp_base.specs.declared.limits.Limits.{Limits}
 use Rattle.vp_base.specs.Image.{Image}
@@ -15,7 +15,7 @@ use Rattle.vp_ivf.specs.Ivf.{Contents}
 use Rattle.vp_ivf.proofs.Growing.{keeps_head}
 use Rattle.vp_decode.specs.declared.decoder.Outcome.{Outcome}
 use Rattle.vp_decode.specs.declared.decoder.Outcome.TheVariants as code
-use Rattle.vp_decode.specs.Step.{Answer, picture_in, outcome}
+use Rattle.vp_decode.specs.Step.{picture_in, outcome}
 use Rattle.vp_stream.specs.declared.form.Form.{Form}
 use Rattle.vp_stream.specs.declared.form.Form.TheVariants.{I420, Y4m}
 use Rattle.vp_stream.specs.declared.report.Report.{Report}
@@ -24,10 +24,10 @@ use Rattle.vp_stream.specs.declared.fault.SurveyFault.{SurveyFault}
 use Rattle.vp_stream.specs.declared.fault.SurveyFault.TheVariants as reading
 use Rattle.vp_stream.specs.declared.fault.Interruption.{Interruption}
 use Rattle.vp_stream.specs.declared.fault.Interruption.TheVariants as interrupted
-use Rattle.vp_stream.specs.Answers.{answers_from, answers_of, reading_of}
+use Rattle.vp_stream.specs.Answers.{answers_from, reading_of}
 use Rattle.vp_stream.specs.Texts.{shown_in, text, text_of, pictures_of, changes_size}
 use Rattle.vp_stream.specs.Reports.{report_of}
-use Rattle.vp_stream.specs.Incoming.{Incoming, IsReading, IsFront, IsStoppedBy, Ends, start, ending}
+use Rattle.vp_stream.specs.Incoming.{Incoming, IsReading, IsFront, IsStoppedBy, Ends, start}
 use Rattle.vp_stream.specs.Progress.{Sizing, Progress, with_outcome, fresh, after_packet, after_packets, answers_to, answer_to, picture_to, with_shown, fits_shown, shown_text, fault_by, read_fault_by}
 use Rattle.vp_stream.specs.Written.{WritesText, WritesFront, WritesAll, IsReported, IsEndedBy}
 use Rattle.vp_stream.proofs.CountLemmas.{count-read}

@@ -1,5 +1,5 @@
 -- A file is read on, and its packets are given.
-use Rattle.std.proofs.Common.{◌≡◌, ◌≢◌, ℕ, ◌+◌, ◌-◌, ◌≤◌, ◌<◌, ◌^◌, Bool, true, false, List, [], ◌∷◌, ◌++◌, length, drop, Option, Some, None, Result, Ok, Err, refl, sym, ap, subst, ◌∙◌, append_assoc, arith}
+use Rattle.std.proofs.Common.{◌≡◌, ℕ, ◌<◌, Bool, true, false, List, [], ◌∷◌, ◌++◌, length, drop, Option, Some, None, Result, Ok, Err, refl, sym, ap, subst, ◌∙◌, append_assoc, arith}
 use Rattle.std.specs.Prelude.{slice_get}
 use Rattle.std.specs.Result.{result_err}
 use Rattle.std.specs.Io.KnownBytes.{Consumes, IsAtEnd}
@@ -9,9 +9,7 @@ use Rattle.vp_base.specs.declared.limits.Limits.{Limits}
 use Rattle.vp_ivf.specs.declared.packet.Packet.{Packet}
 use Rattle.vp_ivf.specs.declared.packet.IvfHead.{IvfHead}
 use Rattle.vp_ivf.specs.declared.fault.FileFault.{FileFault}
-use Rattle.vp_ivf.specs.declared.fault.FileFault.TheVariants.{Torn}
 use Rattle.vp_ivf.specs.Ivf.{Contents, next_head, cuts, read, read_from, resume, resume_at, with_front, stop}
-use Rattle.vp_ivf.specs.Reader as ivf
 use Rattle.vp_ivf.specs.Reader.{State, refusal, refusal_at, without, finish_answer, finish_by, is_torn}
 use Rattle.vp_ivf.proofs.Append.{read-append}
 use Rattle.vp_ivf.proofs.Cuts.{with_front-front}

@@ -1,5 +1,5 @@
 -- One picture is written.
-use Rattle.std.proofs.Common.{◌≡◌, ◌≢◌, ℕ, ◌+◌, ◌*◌, ◌/◌, Bool, true, false, List, [], ◌∷◌, ◌++◌, length, Option, Some, None, refl, sym, ap, subst, ◌∙◌, arith}
+use Rattle.std.proofs.Common.{◌≡◌, ◌≢◌, ℕ, ◌+◌, ◌*◌, ◌/◌, Bool, true, false, List, [], ◌++◌, length, Option, Some, None, refl, sym, ap, subst, ◌∙◌, arith}
 use Rattle.std.specs.Io.KnownBytes.{Appends}
 use Rattle.std.proofs.lemmas.List.{length-append}
 use Rattle.vp_base.specs.Image.{Image, i420}
@@ -11,7 +11,7 @@ use Rattle.vp_base.proofs.Writes.{appends_none, front_second}
 use Rattle.vp_y4m.specs.Text.{i420_length}
 use Rattle.vp_y4m.specs.declared.writing.PictureFault.{PictureFault}
 use Rattle.vp_y4m.specs.declared.writing.PictureFault.TheVariants as written
-use Rattle.vp_stream.specs.declared.form.Form.TheVariants.{I420, Y4m}
+use Rattle.vp_stream.specs.declared.form.Form.TheVariants.{Y4m}
 use Rattle.vp_stream.specs.Progress.{text_if, first_size, has_size}
 
 mul_swap : (a b : ℕ) → a * b ≡ b * a

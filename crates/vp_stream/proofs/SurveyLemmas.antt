@@ -1,7 +1,7 @@
 -- A file's packets are decoded, one after another, and told.
-use Rattle.std.proofs.Common.{◌≡◌, ℕ, ◌+◌, ◌-◌, ◌≤◌, ◌<◌, ◌^◌, List, [], ◌∷◌, ◌++◌, length, map, Option, Some, None, refl, sym, ap, subst, ◌∙◌, append_assoc, arith}
+use Rattle.std.proofs.Common.{◌≡◌, ℕ, ◌+◌, ◌-◌, ◌<◌, List, [], ◌∷◌, ◌++◌, length, map, Option, None, refl, sym, ap, ◌∙◌, arith}
 use Rattle.std.specs.List.{zip}
-use Rattle.std.proofs.lemmas.List.{append-nil, length-append, map-append}
+use Rattle.std.proofs.lemmas.List.{length-append, map-append}
 use Rattle.vp_base.specs.declared.limits.Limits.{Limits}
 use Rattle.vp_ivf.specs.declared.packet.Packet.{Packet}
 use Rattle.vp_ivf.specs.declared.packet.IvfHead.{IvfHead}
@@ -10,11 +10,10 @@ use Rattle.vp_ivf.specs.Ivf.{Contents}
 use Rattle.vp_decode.specs.declared.decoder.Outcome.{Outcome}
 use Rattle.vp_decode.specs.Step.{Kept, Answer, Decoding, step, after, outcome}
 use Rattle.vp_stream.specs.declared.form.Form.TheVariants.{I420}
-use Rattle.vp_stream.specs.declared.outcomes.Survey.{Survey}
-use Rattle.vp_stream.specs.Answers.{answers_from, reading_of}
+use Rattle.vp_stream.specs.Answers.{answers_from}
 use Rattle.vp_stream.specs.Reports.{outcomes}
 use Rattle.vp_stream.specs.Incoming.{Incoming, IsReading, Ends, start}
-use Rattle.vp_stream.specs.Progress.{Progress, fresh, after_packet, after_packets, answer_to, answers_to}
+use Rattle.vp_stream.specs.Progress.{Progress, fresh, after_packet, after_packets, answer_to}
 use Rattle.vp_stream.specs.Written.{IsSurveyed}
 use Rattle.vp_stream.proofs.CountLemmas.{count-read}
 use Rattle.vp_stream.proofs.IncomingLemmas.{at_start}

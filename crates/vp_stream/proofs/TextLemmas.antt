@@ -1,6 +1,6 @@
 -- The text of pictures, one after another.
-use Rattle.std.proofs.Common.{◌≡◌, ◌≢◌, ℕ, ◌+◌, ◌==◌, ◌&&◌, Bool, true, false, not, cond, List, [], ◌∷◌, ◌++◌, Option, Some, None, refl, sym, ap, subst, ◌∙◌, append_assoc}
-use Rattle.std.specs.List.{flat_map, filter_map, take_while, list_all}
+use Rattle.std.proofs.Common.{◌≡◌, ℕ, ◌&&◌, Bool, true, false, not, cond, List, [], ◌∷◌, ◌++◌, Option, Some, None, refl, sym, ap, ◌∙◌, append_assoc}
+use Rattle.std.specs.List.{flat_map, take_while, list_all}
 use Rattle.std.specs.Option.{option_to_list}
 use Rattle.std.proofs.lemmas.List.{append-nil}
 use Rattle.std.proofs.lemmas.List.Concat.{flat_map-append}
@@ -13,8 +13,8 @@ use Rattle.vp_ivf.specs.declared.packet.IvfHead.{IvfHead}
 use Rattle.vp_decode.specs.Step.{Answer, Shown, Hidden, Fault, picture_in}
 use Rattle.vp_stream.specs.declared.form.Form.{Form}
 use Rattle.vp_stream.specs.declared.form.Form.TheVariants.{I420, Y4m}
-use Rattle.vp_stream.specs.Texts.{shown_in, same_size, before_change, first_line, text, changes_size}
-use Rattle.vp_stream.specs.Progress.{Sizing, unsized, first_size, has_size, fits_in, text_if, line_before, one_text_in, with_shown, fits_shown, shown_text}
+use Rattle.vp_stream.specs.Texts.{shown_in, same_size, first_line, text, changes_size}
+use Rattle.vp_stream.specs.Progress.{Sizing, first_size, has_size, fits_in, text_if, line_before, one_text_in, with_shown, fits_shown, shown_text}
 
 -- ---- lists up to the first element that fails a test
 

@@ -1,5 +1,5 @@
 -- What decoding a file gives: an answer for each packet.
-use Rattle.std.specs.Prelude.{ℕ, List, [], ◌∷◌, Option, Some, None}
+use Rattle.std.specs.Prelude.{ℕ, List, [], ◌∷◌, Option, None}
 use Rattle.vp_base.specs.declared.limits.Limits.{Limits}
 use Rattle.vp_ivf.specs.declared.packet.Packet.{Packet}
 use Rattle.vp_ivf.specs.Ivf.{Contents, read}

@@ -1,12 +1,12 @@
 -- A file as it is read, packet by packet.
-use Rattle.std.specs.Prelude.{◌≡◌, ℕ, ◌+◌, ◌-◌, ◌≤◌, ◌<◌, ◌^◌, Bool, true, false, List, [], ◌∷◌, ◌++◌, length, drop, Option, Some, None, Result, Ok, Err, slice_get}
+use Rattle.std.specs.Prelude.{◌≡◌, ℕ, ◌+◌, ◌-◌, ◌≤◌, ◌<◌, ◌^◌, Bool, true, false, List, [], ◌∷◌, ◌++◌, length, Option, Some, None, Result, Ok, Err, slice_get}
 use Rattle.std.specs.Io.KnownBytes.{IsAtEnd}
 use Rattle.vp_base.specs.declared.limits.Limits.{Limits}
 use Rattle.vp_ivf.specs.declared.packet.Packet.{Packet}
 use Rattle.vp_ivf.specs.declared.packet.IvfHead.{IvfHead}
 use Rattle.vp_ivf.specs.declared.fault.FileFault.{FileFault}
 use Rattle.vp_ivf.specs.declared.fault.FileFault.TheVariants.{Torn}
-use Rattle.vp_ivf.specs.Ivf.{Contents, resume, with_front}
+use Rattle.vp_ivf.specs.Ivf.{resume, with_front}
 use Rattle.vp_ivf.specs.Reader as ivf
 use Rattle.vp_ivf.specs.Reader.{State, without, finish_answer}
 use Rattle.vp_stream.specs.declared.fault.SurveyFault.{SurveyFault}

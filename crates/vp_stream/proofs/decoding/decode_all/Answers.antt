@@ -1,5 +1,4 @@
-use Rattle.std.proofs.Common.{◌≡◌, ◌∙◌, ◌++◌, ◌∷◌, [], ℕ, List, None, Some, Ok, Err, refl, sym, ap, subst, arith}
-use Rattle.std.specs.Prelude.{Result}
+use Rattle.std.proofs.Common.{◌∙◌, ◌++◌, ◌∷◌, [], Ok, Err, sym, ap, subst, arith}
 use Rattle.std.proofs.lemmas.Result.{err_from_is_err_and}
 use Rattle.std.proofs.KnownBytes.{Consumes-trans}
 use Rattle.vp_base.specs.Counted.{counted_remaining, counted_contents}
@@ -8,7 +7,7 @@ use Rattle.vp_stream.specs.declared.packet_reader.Next.TheVariants as next
 use Rattle.vp_stream.specs.declared.report.Report.{Report}
 use Rattle.vp_stream.specs.Incoming.{Gives}
 use Rattle.vp_stream.specs.Written.{IsReported}
-use Rattle.vp_stream.proofs.DecodingLemmas.{at_first, failed, reported, faulty, room, cut, goes_on, fewer_left}
+use Rattle.vp_stream.proofs.DecodingLemmas.{failed, reported, faulty, room, cut, goes_on, fewer_left}
 use Rattle.vp_stream.proofs.decoding.decode_all.Goals as goal
 
 pub returns-in_err-head-clause-decoded : goal.returns-in_err-head-clause-decoded

@@ -1,8 +1,7 @@
-use Rattle.std.proofs.Common.{◌≡◌, ◌∙◌, ◌++◌, ◌∷◌, [], ℕ, List, Ok, refl, sym, ap, subst, length}
+use Rattle.std.proofs.Common.{◌∙◌, ◌++◌, ◌∷◌, [], Ok, subst}
 use Rattle.std.proofs.lemmas.Result.{err_from_is_err_and}
 use Rattle.std.proofs.KnownBytes.{Consumes-trans}
 use Rattle.vp_base.specs.Counted.{counted_remaining}
-use Rattle.vp_decode.specs.declared.decoder.Outcome.{Outcome}
 use Rattle.vp_stream.specs.declared.packet_reader.Next.{Next}
 use Rattle.vp_stream.specs.Incoming.{Gives}
 use Rattle.vp_stream.proofs.SurveyLemmas.{surveyed, room, told_on, fewer_told}

@@ -1,10 +1,9 @@
-use Rattle.std.proofs.Common.{◌≡◌, ◌∙◌, ◌++◌, ℕ, List, None, refl, sym, ap}
+use Rattle.std.proofs.Common.{◌≡◌, ◌∙◌, None, sym, ap}
 use Rattle.std.proofs.lemmas.Grind.{common_steps}
 use Rattle.std.proofs.Common.{arith}
 use Rattle.std.proofs.lemmas.Result.{err_from_is_err_and}
 use Rattle.std.specs.Result.{result_err}
 use Rattle.vp_base.specs.Counted.{counted_remaining}
-use Rattle.vp_ivf.specs.Ivf.{Contents}
 use Rattle.vp_ivf.specs.Reader.{State, refusal, finish_answer}
 use Rattle.vp_stream.specs.Incoming.{Incoming, next_waiting}
 use Rattle.vp_stream.proofs.IncomingLemmas.{next_refused, next_failed, next_ended, next_read}

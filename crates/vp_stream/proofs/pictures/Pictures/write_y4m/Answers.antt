@@ -1,4 +1,4 @@
-use Rattle.std.proofs.Common.{◌≡◌, ◌≢◌, ◌++◌, List, ℕ, Err, refl, sym, ap, true, false}
+use Rattle.std.proofs.Common.{◌≡◌, Err, ap, true}
 use Rattle.vp_base.specs.Counted.{counted_contents}
 use Rattle.vp_base.proofs.Writes.{front_first}
 use Rattle.vp_y4m.specs.Text.{picture_text}
