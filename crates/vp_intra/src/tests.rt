@@ -1,6 +1,7 @@
+ghost use Rattle.std.specs.Prelude.{◌≡◌};
+
 use super::*;
 use std::alloc::{AllocError, Global};
-use std::test::Fail;
 use vp_base::Plane;
 use vp_tables::{ChromaMode, LumaMode, SubMode};
 
@@ -81,49 +82,56 @@ const SUB_MODES: [(SubMode, [u8; 16]); 10] = [
     ),
 ];
 
-#[test]
-fn ten_subblock_modes(rt: HostRuntime) -> Result<(), Fail> {
-    let plane = sample(rt.alloc())?;
-    assert_eq!(rt; plane.width(), 32);
-    assert_eq!(rt; plane.height(), 32);
-    for (mode, pixels) in SUB_MODES {
-        assert_eq!(rt; predict_sub(&plane, 4, 4, mode), pixels);
+/// Whether each subblock mode predicts its pixels.
+fn predicts_subs(plane: &Plane) -> bool
+    requires width { plane.now.width ≡ 32 }
+    requires height { plane.now.height ≡ 32 }
+{
+    for (mode, pixels) in &SUB_MODES {
+        if predict_sub(plane, 4, 4, *mode) != *pixels {
+            return false;
+        }
     }
-    let right_of_macroblock = predict_sub(&plane, 12, 20, SubMode::Ld);
-    assert_eq!(rt;
-        right_of_macroblock,
-        [
-            79, 100, 158, 178, 100, 158, 178, 105, 158, 178, 105, 75, 178, 105, 75, 139
-        ]
-    );
-    let right_of_frame = predict_sub(&plane, 28, 20, SubMode::Ld);
-    assert_eq!(rt;
-        right_of_frame,
-        [
-            95, 89, 106, 105, 89, 106, 105, 87, 106, 105, 87, 87, 105, 87, 87, 87
-        ]
-    );
-    Ok(())
+    true
 }
 
+const RIGHT_OF_MACROBLOCK: [u8; 16] = [
+    79, 100, 158, 178, 100, 158, 178, 105, 158, 178, 105, 75, 178, 105, 75, 139,
+];
+
+const RIGHT_OF_FRAME: [u8; 16] = [
+    95, 89, 106, 105, 89, 106, 105, 87, 106, 105, 87, 87, 105, 87, 87, 87,
+];
+
 #[test]
-fn whole_modes(rt: HostRuntime) -> Result<(), Fail> {
-    let plane = sample(rt.alloc())?;
+fn ten_subblock_modes(rt: HostRuntime) {
+    let Ok(plane) = sample(rt.alloc()) else {
+        panic!(rt; "memory");
+    };
+    assert_eq!(rt; plane.width(), 32);
+    assert_eq!(rt; plane.height(), 32);
+    assert!(rt; predicts_subs(&plane));
+    assert!(rt; predict_sub(&plane, 12, 20, SubMode::Ld) == RIGHT_OF_MACROBLOCK);
+    assert!(rt; predict_sub(&plane, 28, 20, SubMode::Ld) == RIGHT_OF_FRAME);
+}
+
+const ROW_OF_MOTION: [u8; 16] = [
+    255, 220, 128, 255, 237, 187, 151, 129, 121, 127, 147, 181, 229, 255, 255, 206,
+];
+
+#[test]
+fn whole_modes(rt: HostRuntime) {
+    let Ok(plane) = sample(rt.alloc()) else {
+        panic!(rt; "memory");
+    };
     assert_eq!(rt; plane.width(), 32);
     assert_eq!(rt; plane.height(), 32);
     let mean = predict_luma(&plane, 16, 16, LumaMode::Dc);
     assert_eq!(rt; mean[255], 108);
     let motion = predict_luma(&plane, 16, 16, LumaMode::Tm);
-    assert_eq!(rt;
-        &motion[48..64],
-        [
-            255, 220, 128, 255, 237, 187, 151, 129, 121, 127, 147, 181, 229, 255, 255, 206
-        ]
-        .as_slice()
-    );
+    assert!(rt; &motion[48..64] == ROW_OF_MOTION.as_slice());
     let outside = predict_chroma(&plane, 0, 0, ChromaMode::V);
     assert_eq!(rt; outside[63], 127);
     let beside = predict_chroma(&plane, 0, 8, ChromaMode::H);
     assert_eq!(rt; beside[0], 129);
-    Ok(())
 }

@@ -1,8 +1,6 @@
 ghost use Rattle.std.specs.Prelude.{◌≡◌, ◌<◌};
 
 use crate::{ModeMap, Modes, Place, read_modes};
-use std::process::Abort;
-use std::test::Fail;
 use vp_base::{Dim, Limits};
 use vp_bool::BoolDecoder;
 use vp_head::{Header, KeyTag, Reference, Saved, Tag};
@@ -22,49 +20,80 @@ fn key_tag(dim: Dim) -> Tag {
     }
 }
 
-/// A partition that begins with 255 is ones for ever.
-#[test]
-fn all_ones_header(rt: HostRuntime) -> Result<(), Fail> {
-    let dim = Dim::new(16, 16, &Limits::usual()).ok().ok_or("a size")?;
+const FIRST: Place = Place { column: 0, row: 0 };
+
+/// The first macroblock's modes in a partition of their own, after the header of another one.
+fn modes_of(dim: Dim, map: &ModeMap, of_header: &[u8], of_modes: &[u8]) -> Modes
+    requires column { 0 < map.now.cols }
+    requires row { 0 < map.now.rows }
+{
     let (header, _) = Header::read(
         &Saved::defaults(),
         &key_tag(dim),
-        &mut BoolDecoder::new(&[255]),
+        &mut BoolDecoder::new(of_header),
     );
-    let map = ModeMap::new(rt.alloc(), dim)?;
-    let place = Place { column: 0, row: 0 };
-    let modes = read_modes(&header, &map, place, &mut BoolDecoder::new(&[255]));
-    assert_eq!(rt; modes.segment, 3);
-    assert!(rt; modes.skip);
-    assert_eq!(rt; modes.reference, Reference::Intra);
-    assert_eq!(rt; modes.luma, LumaMode::Tm);
-    assert_eq!(rt; modes.chroma, ChromaMode::Tm);
-    Ok(())
+    read_modes(&header, map, FIRST, &mut BoolDecoder::new(of_modes))
+}
+
+/// A partition that begins with 255 is ones for ever.
+#[test]
+fn all_ones_header(rt: HostRuntime) {
+    let Ok(dim) = Dim::new(16, 16, &Limits::usual()) else {
+        panic!(rt; "a size");
+    };
+    let Ok(map) = ModeMap::new(rt.alloc(), dim) else {
+        panic!(rt; "a map");
+    };
+    let modes = modes_of(dim, &map, &[255], &[255]);
+    let wanted = Modes {
+        segment: 3,
+        skip: true,
+        reference: Reference::Intra,
+        luma: LumaMode::Tm,
+        subs: modes.subs,
+        chroma: ChromaMode::Tm,
+    };
+    assert!(rt; modes == wanted);
+}
+
+const CHANGED: Modes = Modes {
+    segment: 2,
+    skip: true,
+    reference: Reference::Golden,
+    luma: LumaMode::B,
+    subs: [Hu; 16],
+    chroma: ChromaMode::H,
+};
+
+/// Whether a change of one place of the copy changes no other place, nor the map.
+fn changes_alone(map: &ModeMap, copy: &mut ModeMap) -> bool
+    requires columns { map.now.cols ≡ 2 }
+    requires rows { map.now.rows ≡ 3 }
+    requires copied_columns { copy.old.cols ≡ 2 }
+    requires copied_rows { copy.old.rows ≡ 3 }
+{
+    let place = Place { column: 1, row: 2 };
+    let beside = Place { column: 0, row: 2 };
+    let plain = *map.get(place);
+    copy.set(place, &CHANGED);
+    *copy.get(place) == CHANGED && *copy.get(beside) == plain && *map.get(place) == plain
 }
 
 /// A new map, and one that is copied and then changed.
 #[test]
-fn succeeds_with_memory_maps(rt: HostRuntime) -> Result<(), Fail> {
-    let dim = Dim::new(17, 33, &Limits::usual()).ok().ok_or("a size")?;
-    let map = ModeMap::new(rt.alloc(), dim)?;
+fn succeeds_with_memory_maps(rt: HostRuntime) {
+    let Ok(dim) = Dim::new(17, 33, &Limits::usual()) else {
+        panic!(rt; "a size");
+    };
+    let Ok(map) = ModeMap::new(rt.alloc(), dim) else {
+        panic!(rt; "a map");
+    };
     assert_eq!(rt; map.cols(), 2);
     assert_eq!(rt; map.rows(), 3);
-    let place = Place { column: 1, row: 2 };
-    let plain = *map.get(place);
-    let modes = Modes {
-        segment: 2,
-        skip: true,
-        reference: Reference::Golden,
-        luma: LumaMode::B,
-        subs: [Hu; 16],
-        chroma: ChromaMode::H,
+    let Ok(mut copy) = map.copy(rt.alloc()) else {
+        panic!(rt; "a copy");
     };
-    let mut other = map.copy(rt.alloc())?;
-    other.set(place, &modes);
-    assert_eq!(rt; *other.get(place), modes);
-    assert_eq!(rt; *other.get(Place { column: 0, row: 2 }), plain);
-    assert_eq!(rt; *map.get(place), plain);
-    Ok(())
+    assert!(rt; changes_alone(&map, &mut copy));
 }
 
 /// A picture of 16 by 16 pixels that libwebp made.
@@ -72,20 +101,32 @@ const PICTURE: [u8; 20] = [
     3, 0, 52, 37, 176, 2, 116, 48, 79, 8, 133, 12, 124, 3, 29, 8, 44, 253, 232, 0,
 ];
 
-#[test]
-fn modes_of_a_picture(rt: HostRuntime) -> Result<(), Fail> {
-    let dim = Dim::new(16, 16, &Limits::usual()).ok().ok_or("a size")?;
-    let mut d = BoolDecoder::new(&PICTURE);
+const SUBS_OF_PICTURE: [SubMode; 16] = [
+    Dc, Ld, Dc, Tm, Dc, Ld, Rd, Dc, Ld, Dc, Dc, Tm, Tm, Dc, Hu, Hu,
+];
+
+/// The first macroblock's modes, that follow the header.
+fn modes_after_header(dim: Dim, map: &ModeMap, bytes: &[u8]) -> Modes
+    requires column { 0 < map.now.cols }
+    requires row { 0 < map.now.rows }
+{
+    let mut d = BoolDecoder::new(bytes);
     let (header, _) = Header::read(&Saved::defaults(), &key_tag(dim), &mut d);
-    let map = ModeMap::new(rt.alloc(), dim)?;
-    let modes = read_modes(&header, &map, Place { column: 0, row: 0 }, &mut d);
-    let subs = [
-        Dc, Ld, Dc, Tm, Dc, Ld, Rd, Dc, Ld, Dc, Dc, Tm, Tm, Dc, Hu, Hu,
-    ];
+    read_modes(&header, map, FIRST, &mut d)
+}
+
+#[test]
+fn modes_of_a_picture(rt: HostRuntime) {
+    let Ok(dim) = Dim::new(16, 16, &Limits::usual()) else {
+        panic!(rt; "a size");
+    };
+    let Ok(map) = ModeMap::new(rt.alloc(), dim) else {
+        panic!(rt; "a map");
+    };
+    let modes = modes_after_header(dim, &map, &PICTURE);
     assert_eq!(rt; modes.luma, LumaMode::B);
-    assert_eq!(rt; modes.subs, subs);
+    assert!(rt; modes.subs == SUBS_OF_PICTURE);
     assert_eq!(rt; modes.chroma, ChromaMode::V);
-    Ok(())
 }
 
 /// A header with segmentation and skipping, and four macroblocks with random modes, the first one with a 16x16 mode.
@@ -135,15 +176,14 @@ const MODES: [Modes; 4] = [
     },
 ];
 
-// Reads a macroblock, and puts it into the map.
-fn put_next(
-    rt: &impl Abort,
+/// Reads a macroblock, puts it into the map, and tells whether it is as wanted.
+fn puts_next(
     header: &Header,
     map: &mut ModeMap,
     place: Place,
     wanted: &Modes,
     d: &mut BoolDecoder,
-)
+) -> bool
     requires columns { map.old.cols ≡ 2 }
     requires rows { map.old.rows ≡ 2 }
     requires column { place.column < 2 }
@@ -152,48 +192,34 @@ fn put_next(
     ensures rows { map.new.rows ≡ 2 }
 {
     let modes = read_modes(header, map, place, d);
-    assert_eq!(rt; modes, *wanted);
     map.set(place, &modes);
+    modes == *wanted
+}
+
+/// Whether the next four macroblocks are as wanted.
+fn puts_four(header: &Header, map: &mut ModeMap, wanted: &[Modes; 4], d: &mut BoolDecoder) -> bool
+    requires columns { map.old.cols ≡ 2 }
+    requires rows { map.old.rows ≡ 2 }
+{
+    let [first, second, third, fourth] = wanted;
+    let right = Place { column: 1, row: 0 };
+    let below = Place { column: 0, row: 1 };
+    let last = Place { column: 1, row: 1 };
+    puts_next(header, map, FIRST, first, d)
+        && puts_next(header, map, right, second, d)
+        && puts_next(header, map, below, third, d)
+        && puts_next(header, map, last, fourth, d)
 }
 
 #[test]
-fn modes_by_their_neighbours(rt: HostRuntime) -> Result<(), Fail> {
-    let dim = Dim::new(32, 32, &Limits::usual()).ok().ok_or("a size")?;
+fn modes_by_their_neighbours(rt: HostRuntime) {
+    let Ok(dim) = Dim::new(32, 32, &Limits::usual()) else {
+        panic!(rt; "a size");
+    };
+    let Ok(mut map) = ModeMap::new(rt.alloc(), dim) else {
+        panic!(rt; "a map");
+    };
     let mut d = BoolDecoder::new(&FOUR);
     let (header, _) = Header::read(&Saved::defaults(), &key_tag(dim), &mut d);
-    let mut map = ModeMap::new(rt.alloc(), dim)?;
-    let [first, second, third, fourth] = &MODES;
-    put_next(
-        &rt,
-        &header,
-        &mut map,
-        Place { column: 0, row: 0 },
-        first,
-        &mut d,
-    );
-    put_next(
-        &rt,
-        &header,
-        &mut map,
-        Place { column: 1, row: 0 },
-        second,
-        &mut d,
-    );
-    put_next(
-        &rt,
-        &header,
-        &mut map,
-        Place { column: 0, row: 1 },
-        third,
-        &mut d,
-    );
-    put_next(
-        &rt,
-        &header,
-        &mut map,
-        Place { column: 1, row: 1 },
-        fourth,
-        &mut d,
-    );
-    Ok(())
+    assert!(rt; puts_four(&header, &mut map, &MODES, &mut d));
 }

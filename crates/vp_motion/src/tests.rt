@@ -1,6 +1,7 @@
 ghost use Rattle.std.specs.Prelude.{◌≡◌, ◌<◌, IfOk};
 
-use crate::{Vector, VectorMap, near, read_motion, read_split, read_vector};
+use crate::{Motion, Vector, VectorMap, near, read_motion, read_split, read_vector};
+use std::alloc::Global;
 use std::process::Abort;
 use std::test::Fail;
 use vp_base::{Dim, Limits};
@@ -21,38 +22,60 @@ const UNBIASED: SignBiases = SignBiases {
     alt: false,
 };
 
+const FIRST: Place = Place { column: 0, row: 0 };
+
+const FAR: Vector = Vector {
+    row: -1023,
+    column: -1023,
+};
+
+const BEST: Vector = Vector {
+    row: 0,
+    column: 1023,
+};
+
+const SIDE: Vector = Vector {
+    row: -1023,
+    column: 0,
+};
+
+/// The reference of the one macroblock of a frame.
+fn reference_of(alloc: Global, header: &Header, d: &mut BoolDecoder) -> Option<Reference> {
+    let dim = Dim::new(16, 16, &Limits::usual()).ok()?;
+    let modes = ModeMap::new(alloc, dim).ok()?;
+    Some(read_modes(header, &modes, FIRST, d).reference)
+}
+
 /// A partition that begins with 255 is ones for ever, and says so of all that an inter packet may say.
 #[test]
 fn split_vectors_far_outside(rt: HostRuntime) -> Result<(), Fail> {
     let dim = Dim::new(16, 16, &Limits::usual()).ok().ok_or("a size")?;
+    let map = VectorMap::new(rt.alloc(), dim)?;
     let mut d = BoolDecoder::new(&[255]);
     let (header, _) = Header::read(&Saved::defaults(), &INTER, &mut d);
-    let modes = ModeMap::new(rt.alloc(), dim)?;
-    let map = VectorMap::new(rt.alloc(), dim)?;
-    let place = Place { column: 0, row: 0 };
-    let reference = read_modes(&header, &modes, place, &mut d).reference;
-    assert_eq!(rt; reference, Reference::Alt);
-    let motion = read_motion(&header, &map, place, reference, &mut d);
-    let far = Vector {
-        row: -1023,
-        column: -1023,
+    let reference = reference_of(rt.alloc(), &header, &mut d);
+    assert_eq!(rt; reference, Some(Reference::Alt));
+    let motion = read_motion(&header, &map, FIRST, Reference::Alt, &mut d);
+    let wanted = Motion {
+        mode: Split,
+        vectors: [FAR; 16],
     };
-    assert_eq!(rt; motion.mode, Split);
-    assert_eq!(rt; motion.vectors, [far; 16]);
-    assert_eq!(rt; read_vector(&header.probabilities.vectors, &mut d), far);
-    let best = Vector {
-        row: 0,
-        column: 1023,
-    };
-    let vectors = read_split(&header.probabilities.vectors, &map, place, best, &mut d);
-    assert_eq!(rt;
-        vectors,
-        [Vector {
-            row: -1023,
-            column: 0
-        }; 16]
-    );
+    assert!(rt; motion == wanted);
+    let probabilities = &header.probabilities.vectors;
+    assert!(rt; read_vector(probabilities, &mut d) == FAR);
+    assert!(rt; read_split(probabilities, &map, FIRST, BEST, &mut d) == [SIDE; 16]);
     Ok(())
+}
+
+const FOUR: Vector = Vector { row: 4, column: 0 };
+
+fn put_four(map: &mut VectorMap, place: Place)
+    requires column { place.column < map.old.cols }
+    requires row { place.row < map.old.rows }
+    ensures columns { map.new.cols ≡ map.old.cols }
+    ensures rows { map.new.rows ≡ map.old.rows }
+{
+    map.set(place, Reference::Last, New, &[FOUR; 16]);
 }
 
 /// A new map, and what is put into it.
@@ -60,28 +83,14 @@ fn split_vectors_far_outside(rt: HostRuntime) -> Result<(), Fail> {
 fn succeeds_with_memory_map(rt: HostRuntime) -> Result<(), Fail> {
     let dim = Dim::new(48, 33, &Limits::usual()).ok().ok_or("a size")?;
     let mut map = VectorMap::new(rt.alloc(), dim)?;
-    assert_eq!(rt; map.cols(), 3);
-    assert_eq!(rt; map.rows(), 3);
-    let four = Vector { row: 4, column: 0 };
-    map.set(
-        Place { column: 1, row: 0 },
-        Reference::Last,
-        New,
-        &[four; 16],
-    );
-    map.set(
-        Place { column: 0, row: 1 },
-        Reference::Last,
-        New,
-        &[four; 16],
-    );
+    assert_eq!(rt; (map.cols(), map.rows()), (3, 3));
+    put_four(&mut map, Place { column: 1, row: 0 });
+    put_four(&mut map, Place { column: 0, row: 1 });
     let found = near(&map, Place { column: 1, row: 1 }, Reference::Last, UNBIASED);
-    assert_eq!(rt; found.counts, [0, 4, 0, 0]);
-    assert_eq!(rt; found.best, four);
-    assert_eq!(rt;
-        map.get(Place { column: 2, row: 2 }).reference,
-        Reference::Intra
-    );
+    assert!(rt; found.counts == [0, 4, 0, 0]);
+    assert!(rt; found.best == FOUR);
+    let last = map.get(Place { column: 2, row: 2 }).reference;
+    assert_eq!(rt; last, Reference::Intra);
     Ok(())
 }
 
@@ -94,9 +103,9 @@ const BYTES: [u8; 80] = [
     67, 191, 77, 197, 250, 148, 198, 97, 25, 153, 170, 194, 197, 150, 42, 11, 216, 3, 96,
 ];
 
-const MODES: [VectorMode; 9] = [New, Split, Split, Split, Split, Zero, Split, Near, Nearest];
+static MODES: [VectorMode; 9] = [New, Split, Split, Split, Split, Zero, Split, Near, Nearest];
 
-const ROWS: [[i32; 16]; 9] = [
+static ROWS: [[i32; 16]; 9] = [
     [108; 16],
     [0, 0, 0, 0, 0, 0, 0, 0, 108, 108, 108, -65, 0, 0, 108, 108],
     [
@@ -116,7 +125,7 @@ const ROWS: [[i32; 16]; 9] = [
     [-108; 16],
 ];
 
-const COLUMNS: [[i32; 16]; 9] = [
+static COLUMNS: [[i32; 16]; 9] = [
     [6; 16],
     [0, 0, 0, 0, 0, 0, 0, 0, 6, 6, 6, 32, 0, 0, 6, 6],
     [0, 0, 0, 0, 0, 0, 0, 0, 32, 32, 32, 32, 32, 32, 32, 32],
@@ -128,7 +137,7 @@ const COLUMNS: [[i32; 16]; 9] = [
     [-6; 16],
 ];
 
-const REFERENCES: [Reference; 9] = [
+static REFERENCES: [Reference; 9] = [
     Reference::Last,
     Reference::Golden,
     Reference::Last,
@@ -139,6 +148,18 @@ const REFERENCES: [Reference; 9] = [
     Reference::Last,
     Reference::Alt,
 ];
+
+/// Whether these are the vectors of the macroblock i.
+fn are_wanted(vectors: &[Vector; 16], i: usize) -> bool
+    requires { i < 9 }
+{
+    for (b, vector) in vectors.iter().enumerate() {
+        if vector.row != ROWS[i][b] || vector.column != COLUMNS[i][b] {
+            return false;
+        }
+    }
+    true
+}
 
 fn put_next(
     rt: &impl Abort,
@@ -157,10 +178,7 @@ fn put_next(
     let i = place.row * 3 + place.column;
     let motion = read_motion(header, map, place, REFERENCES[i], d);
     assert_eq!(rt; motion.mode, MODES[i], "at {i}");
-    for (b, vector) in motion.vectors.iter().enumerate() {
-        assert_eq!(rt; vector.row, ROWS[i][b], "at {i}, block {b}");
-        assert_eq!(rt; vector.column, COLUMNS[i][b], "at {i}, block {b}");
-    }
+    assert!(rt; are_wanted(&motion.vectors, i), "at {i}");
     map.set(place, REFERENCES[i], motion.mode, &motion.vectors);
 }
 

@@ -1,5 +1,8 @@
+ghost use Rattle.std.specs.Prelude.{◌≡◌, ◌<◌};
+ghost use Rattle.vp_motion.specs.Map.{AreSmall};
+
 use super::*;
-use std::test::Fail;
+use std::alloc::Global;
 use vp_base::{Dim, Limits, Picture};
 use vp_head::Reference;
 use vp_modes::Place;
@@ -35,48 +38,88 @@ fn is_lit(bytes: &[u8], from: usize, to: usize) -> bool {
     bytes.len() == 384
 }
 
-#[test]
-fn a_moved_macroblock(rt: HostRuntime) -> Result<(), Fail> {
-    let dim = Dim::new(16, 16, &Limits::usual()).ok().ok_or("size")?;
-    let mut reference = Picture::new(rt.alloc(), dim, 7)?;
-    let plane = reference.plane(0);
-    assert!(rt; plane.width() == 16 && plane.height() == 16);
-    reference.set(0, 5, 3, 200);
-    let mut picture = Picture::new(rt.alloc(), dim, 0)?;
-    let entry = Entry {
+/// A picture of 16 by 16 pixels that all are 7 but one of luma, which is 200.
+fn lit_at(alloc: Global, dim: Dim, x: usize, y: usize) -> Option<Picture>
+    requires width { dim.w ≡ 16 }
+    requires height { dim.h ≡ 16 }
+    requires column { x < 16 }
+    requires row { y < 16 }
+{
+    let mut picture = Picture::new(alloc, dim, 7).ok()?;
+    let plane = picture.plane(0);
+    if plane.width() != 16 || plane.height() != 16 {
+        return None;
+    }
+    picture.set(0, x, y, 200);
+    Some(picture)
+}
+
+/// Whether the macroblock that is moved so, without residue, is lit from one place to another.
+fn moves_to(
+    alloc: Global,
+    dim: Dim,
+    entry: &Entry,
+    reference: &Picture,
+    from: usize,
+    to: usize,
+) -> bool
+    requires width { dim.w ≡ 16 }
+    requires height { dim.h ≡ 16 }
+    requires small { AreSmall entry.now.vectors }
+{
+    let tokens = Tokens {
+        blocks: [Block::NONE; 25],
+    };
+    let Ok(mut picture) = Picture::new(alloc, dim, 0) else {
+        return false;
+    };
+    rebuild_inter_macroblock(&mut picture, TOP, entry, &tokens, &FACTORS, reference, 0);
+    match picture.crop_i420(alloc) {
+        Ok(bytes) => is_lit(&bytes, from, to),
+        Err(_) => false,
+    }
+}
+
+fn moved() -> Entry
+    ensures { AreSmall result.vectors }
+{
+    Entry {
         reference: Reference::Last,
         mode: VectorMode::New,
         vectors: [RIGHT; 16],
-    };
-    let tokens = Tokens {
-        blocks: [Block::NONE; 25],
-    };
-    rebuild_inter_macroblock(&mut picture, TOP, &entry, &tokens, &FACTORS, &reference, 0);
-    let bytes = picture.crop_i420(rt.alloc())?;
-    assert!(rt; is_lit(&bytes, 52, 53));
-    Ok(())
+    }
 }
 
 #[test]
-fn a_split_macroblock(rt: HostRuntime) -> Result<(), Fail> {
-    let dim = Dim::new(16, 16, &Limits::usual()).ok().ok_or("size")?;
-    let mut reference = Picture::new(rt.alloc(), dim, 7)?;
-    let plane = reference.plane(0);
-    assert!(rt; plane.width() == 16 && plane.height() == 16);
-    reference.set(0, 4, 0, 200);
-    let mut picture = Picture::new(rt.alloc(), dim, 0)?;
+fn a_moved_macroblock(rt: HostRuntime) {
+    let Ok(dim) = Dim::new(16, 16, &Limits::usual()) else {
+        panic!(rt; "a size");
+    };
+    let Some(reference) = lit_at(rt.alloc(), dim, 5, 3) else {
+        panic!(rt; "a reference");
+    };
+    assert!(rt; moves_to(rt.alloc(), dim, &moved(), &reference, 52, 53));
+}
+
+fn split() -> Entry
+    ensures { AreSmall result.vectors }
+{
     let mut vectors = [STILL; 16];
     vectors[0] = RIGHT;
-    let entry = Entry {
+    Entry {
         reference: Reference::Last,
         mode: VectorMode::Split,
         vectors,
+    }
+}
+
+#[test]
+fn a_split_macroblock(rt: HostRuntime) {
+    let Ok(dim) = Dim::new(16, 16, &Limits::usual()) else {
+        panic!(rt; "a size");
     };
-    let tokens = Tokens {
-        blocks: [Block::NONE; 25],
+    let Some(reference) = lit_at(rt.alloc(), dim, 4, 0) else {
+        panic!(rt; "a reference");
     };
-    rebuild_inter_macroblock(&mut picture, TOP, &entry, &tokens, &FACTORS, &reference, 0);
-    let bytes = picture.crop_i420(rt.alloc())?;
-    assert!(rt; is_lit(&bytes, 3, 5));
-    Ok(())
+    assert!(rt; moves_to(rt.alloc(), dim, &split(), &reference, 3, 5));
 }

@@ -1,6 +1,8 @@
+ghost use Rattle.std.specs.Prelude.{◌≡◌, ◌≤◌};
+
 use super::*;
-use std::test::Fail;
-use vp_base::{Dim, Limits, Picture};
+use std::alloc::Global;
+use vp_base::{Dim, Limits, Picture, Plane};
 use vp_head::Reference;
 use vp_modes::{Modes, Place};
 use vp_quant::Factors;
@@ -40,25 +42,62 @@ fn is_empty_picture(bytes: &[u8]) -> bool {
     bytes.len() == 768
 }
 
-#[test]
-fn two_macroblock_rows(rt: HostRuntime) -> Result<(), Fail> {
-    let dim = Dim::new(16, 32, &Limits::usual()).ok().ok_or("size")?;
-    let mut picture = Picture::new(rt.alloc(), dim, 0)?;
+/// Whether two macroblocks without residue, each predicted by subblocks, make the empty picture.
+fn rebuilds_empty(alloc: Global, picture: &mut Picture) -> bool
+    requires width { picture.old.width ≡ 16 }
+    requires height { picture.old.height ≡ 32 }
+{
     let below = Place { column: 0, row: 1 };
+    let modes = modes(LumaMode::B);
     let tokens = Tokens {
         blocks: [Block::NONE; 25],
     };
-    rebuild_macroblock(&mut picture, TOP, &modes(LumaMode::B), &tokens, &FACTORS);
-    rebuild_macroblock(&mut picture, below, &modes(LumaMode::B), &tokens, &FACTORS);
-    let bytes = picture.crop_i420(rt.alloc())?;
-    assert!(rt; is_empty_picture(&bytes));
-    Ok(())
+    rebuild_macroblock(picture, TOP, &modes, &tokens, &FACTORS);
+    rebuild_macroblock(picture, below, &modes, &tokens, &FACTORS);
+    match picture.crop_i420(alloc) {
+        Ok(bytes) => is_empty_picture(&bytes),
+        Err(_) => false,
+    }
 }
 
 #[test]
-fn all_ones_tokens(rt: HostRuntime) -> Result<(), Fail> {
-    let dim = Dim::new(16, 16, &Limits::usual()).ok().ok_or("size")?;
-    let mut picture = Picture::new(rt.alloc(), dim, 0)?;
+fn two_macroblock_rows(rt: HostRuntime) {
+    let Ok(dim) = Dim::new(16, 32, &Limits::usual()) else {
+        panic!(rt; "a size");
+    };
+    let Ok(mut picture) = Picture::new(rt.alloc(), dim, 0) else {
+        panic!(rt; "a picture");
+    };
+    assert!(rt; rebuilds_empty(rt.alloc(), &mut picture));
+}
+
+/// Whether the plane has these four rows of four pixels, the first one at column `at` of row `at`.
+fn has_block(plane: &Plane, at: usize, wanted: &[[u8; 4]; 4]) -> bool
+    requires { at ≤ 4 }
+{
+    if plane.width() < 8 || plane.height() < 8 {
+        return false;
+    }
+    for (y, row) in wanted.iter().enumerate() {
+        if &plane.row(at + y)[at..at + 4] != row.as_slice() {
+            return false;
+        }
+    }
+    true
+}
+
+const FIRST_OF_ONES: [[u8; 4]; 4] = [
+    [0, 255, 0, 0],
+    [255, 0, 255, 251],
+    [0, 255, 0, 5],
+    [0, 251, 5, 104],
+];
+
+#[test]
+fn all_ones_tokens(rt: HostRuntime) {
+    let Ok(dim) = Dim::new(16, 16, &Limits::usual()) else {
+        panic!(rt; "a size");
+    };
     let block = Block {
         levels: [-2114; 16],
         tokens: 16,
@@ -66,46 +105,49 @@ fn all_ones_tokens(rt: HostRuntime) -> Result<(), Fail> {
     let tokens = Tokens {
         blocks: [block; 25],
     };
+    let Ok(mut picture) = Picture::new(rt.alloc(), dim, 0) else {
+        panic!(rt; "a picture");
+    };
     rebuild_macroblock(&mut picture, TOP, &modes(LumaMode::B), &tokens, &FACTORS);
-    let wanted = [
-        [0, 255, 0, 0],
-        [255, 0, 255, 251],
-        [0, 255, 0, 5],
-        [0, 251, 5, 104],
-    ];
-    for k in 0..3 {
-        let plane = picture.plane(k);
-        assert!(rt; plane.width() >= 4 && plane.height() >= 4);
-        for (y, row) in wanted.iter().enumerate() {
-            assert_eq!(rt; &plane.row(y)[..4], row.as_slice());
-        }
-    }
-    Ok(())
+    assert!(rt; has_block(picture.plane(0), 0, &FIRST_OF_ONES));
+    assert!(rt; has_block(picture.plane(1), 0, &FIRST_OF_ONES));
+    assert!(rt; has_block(picture.plane(2), 0, &FIRST_OF_ONES));
 }
 
-#[test]
-fn first_coefficients_of_y2(rt: HostRuntime) -> Result<(), Fail> {
-    let dim = Dim::new(16, 16, &Limits::usual()).ok().ok_or("size")?;
-    let mut picture = Picture::new(rt.alloc(), dim, 0)?;
+fn tokens_of_two_blocks() -> Tokens {
     let mut blocks = [Block::NONE; 25];
     blocks[0].levels[0] = 5;
     blocks[0].levels[1] = -3;
     blocks[6].levels[1] = 7;
     blocks[6].levels[2] = -9;
-    let tokens = Tokens { blocks };
+    Tokens { blocks }
+}
+
+const MIXED: [[u8; 4]; 4] = [
+    [127, 124, 120, 118],
+    [130, 128, 124, 121],
+    [135, 133, 129, 126],
+    [139, 136, 132, 130],
+];
+
+/// Whether the plane is of one macroblock, with these pixels in its corners.
+fn has_corners(plane: &Plane, first: u8, last: u8) -> bool {
+    plane.width() == 16
+        && plane.height() == 16
+        && plane.get(0, 0) == first
+        && plane.get(15, 15) == last
+}
+
+#[test]
+fn first_coefficients_of_y2(rt: HostRuntime) {
+    let Ok(dim) = Dim::new(16, 16, &Limits::usual()) else {
+        panic!(rt; "a size");
+    };
+    let tokens = tokens_of_two_blocks();
+    let Ok(mut picture) = Picture::new(rt.alloc(), dim, 0) else {
+        panic!(rt; "a picture");
+    };
     rebuild_macroblock(&mut picture, TOP, &modes(LumaMode::Dc), &tokens, &FACTORS);
-    let plane = picture.plane(0);
-    assert!(rt; plane.width() == 16 && plane.height() == 16);
-    let wanted = [
-        [127, 124, 120, 118],
-        [130, 128, 124, 121],
-        [135, 133, 129, 126],
-        [139, 136, 132, 130],
-    ];
-    for (y, row) in wanted.iter().enumerate() {
-        assert_eq!(rt; &plane.row(4 + y)[4..8], row.as_slice());
-    }
-    assert_eq!(rt; plane.get(0, 0), 128);
-    assert_eq!(rt; plane.get(15, 15), 129);
-    Ok(())
+    assert!(rt; has_block(picture.plane(0), 4, &MIXED));
+    assert!(rt; has_corners(picture.plane(0), 128, 129));
 }

@@ -1,7 +1,6 @@
 //! The command line over worked files.
 
-use crate::files::{HEAD, HIDDEN, INTER, KEY, file};
-use std::alloc::{AllocError, Global};
+use crate::files::{HEAD, HIDDEN, INTER, KEY, file, file_and, runs, y4m};
 use std::fs;
 use std::test::Fail;
 use vp_app::command;
@@ -24,195 +23,186 @@ fn key_of(size: [u8; 4]) -> [u8; 10] {
     ]
 }
 
-// So many numbers of 128, of 129, and of 128.
-fn runs(alloc: Global, lengths: [usize; 3]) -> Result<Vec<u8>, AllocError> {
-    let [first, second, third] = lengths;
-    let mut bytes = vec![in alloc; 128u8; first]?;
-    bytes.resize(first.saturating_add(second), 129)?;
-    bytes.resize(first.saturating_add(second).saturating_add(third), 128)?;
-    Ok(bytes)
-}
-
-// What the program does with these words and a file as its input: the status, and what it writes on both streams.
-fn run(rt: &HostRuntime, words: &[&str], file: &[u8]) -> (u8, Vec<u8>, Vec<u8>) {
+// The status of the program with these words and a file as its input, and whether it writes this output and errors.
+fn run(
+    rt: &HostRuntime,
+    words: &[&str],
+    file: &[u8],
+    output: &[u8],
+    errors: &[u8],
+) -> (u8, bool, bool) {
     let mut input = Counted::new(file);
-    let mut output = Counted::new(Vec::new(rt.alloc()));
-    let mut errors = Counted::new(Vec::new(rt.alloc()));
-    let status = command(rt, words, &mut input, &mut output, &mut errors);
-    (status, output.into_inner(), errors.into_inner())
+    let mut written = Counted::new(Vec::new(rt.alloc()));
+    let mut told = Counted::new(Vec::new(rt.alloc()));
+    let status = command(rt, words, &mut input, &mut written, &mut told);
+    let (written, told) = (written.into_inner(), told.into_inner());
+    (
+        status,
+        written.as_slice() == output,
+        told.as_slice() == errors,
+    )
 }
 
-fn decoded(rt: &HostRuntime, file: &[u8]) -> (u8, Vec<u8>, Vec<u8>) {
-    run(rt, &["vp8", "decode", "-", "-"], file)
+fn decoded(rt: &HostRuntime, file: &[u8], output: &[u8], errors: &[u8]) -> (u8, bool, bool) {
+    run(rt, &["vp8", "decode", "-", "-"], file, output, errors)
 }
 
-fn listed(rt: &HostRuntime, file: &[u8]) -> (u8, Vec<u8>, Vec<u8>) {
-    run(rt, &["vp8", "info", "-"], file)
+fn listed(rt: &HostRuntime, file: &[u8], output: &[u8], errors: &[u8]) -> (u8, bool, bool) {
+    run(rt, &["vp8", "info", "-"], file, output, errors)
 }
 
 #[test]
 fn empty_key_frame(rt: HostRuntime) -> Result<(), Fail> {
-    let (status, output, errors) = decoded(&rt, file(rt.alloc(), &[&KEY])?.as_slice());
-    assert_eq!(rt; status, 0);
-    assert!(rt; errors.is_empty());
-    assert_eq!(rt;
-        output.as_slice(),
-        runs(rt.alloc(), [64, 192, 128])?.as_slice()
-    );
+    let picture = runs(rt.alloc(), [64, 192, 128])?;
+    let file = file(rt.alloc(), &[&KEY])?;
+    assert_eq!(rt; decoded(&rt, &file, &picture, b""), (0, true, true));
     Ok(())
 }
 
 #[test]
 fn seventeen_by_one(rt: HostRuntime) -> Result<(), Fail> {
-    let key = key_of([0x11, 0, 0x01, 0]);
-    let (status, output, _) = decoded(&rt, file(rt.alloc(), &[&key])?.as_slice());
-    assert_eq!(rt; status, 0);
-    assert_eq!(rt; output.as_slice(), runs(rt.alloc(), [35, 0, 0])?.as_slice());
+    let picture = runs(rt.alloc(), [35, 0, 0])?;
+    let file = file(rt.alloc(), &[&key_of([0x11, 0, 0x01, 0])])?;
+    assert_eq!(rt; decoded(&rt, &file, &picture, b""), (0, true, true));
     Ok(())
 }
 
 #[test]
 fn two_macroblock_rows(rt: HostRuntime) -> Result<(), Fail> {
-    let key = key_of([0x10, 0, 0x20, 0]);
-    let (status, output, _) = decoded(&rt, file(rt.alloc(), &[&key])?.as_slice());
-    assert_eq!(rt; status, 0);
-    assert_eq!(rt;
-        output.as_slice(),
-        runs(rt.alloc(), [64, 448, 256])?.as_slice()
-    );
+    let picture = runs(rt.alloc(), [64, 448, 256])?;
+    let file = file(rt.alloc(), &[&key_of([0x10, 0, 0x20, 0])])?;
+    assert_eq!(rt; decoded(&rt, &file, &picture, b""), (0, true, true));
     Ok(())
 }
 
 #[test]
 fn truncated_then_no_reference(rt: HostRuntime) -> Result<(), Fail> {
+    let picture = runs(rt.alloc(), [64, 192, 128])?;
     let file = file(rt.alloc(), &[&KEY[..9], &INTER, &KEY])?;
-    let (status, output, errors) = decoded(&rt, file.as_slice());
-    assert_eq!(rt; status, 1);
-    assert_eq!(rt;
-        output.as_slice(),
-        runs(rt.alloc(), [64, 192, 128])?.as_slice()
-    );
-    assert_eq!(rt;
-        errors.as_slice(),
-        b"vp8: packet 0: Truncated\nvp8: packet 1: NoReference\n".as_slice()
-    );
+    let errors = b"vp8: packet 0: Truncated\nvp8: packet 1: NoReference\n";
+    assert_eq!(rt; decoded(&rt, &file, &picture, errors), (1, true, true));
     Ok(())
+}
+
+// As `decoded`, of a file's first bytes, which show nothing.
+fn front_decoded(
+    rt: &HostRuntime,
+    file: &[u8],
+    length: usize,
+    errors: &[u8],
+) -> Result<(u8, bool, bool), Fail> {
+    let front = file.get(..length).ok_or("a front")?;
+    Ok(decoded(rt, front, b"", errors))
 }
 
 #[test]
 fn file_cut_short(rt: HostRuntime) -> Result<(), Fail> {
     let whole = file(rt.alloc(), &[&KEY])?;
-    for (length, status, line) in [
-        (31, 1, b"vp8: Torn\n".as_slice()),
-        (32, 0, b"".as_slice()),
-        (53, 1, b"vp8: Torn\n".as_slice()),
-    ] {
-        let (ended, output, errors) = decoded(&rt, whole.get(..length).ok_or("a front")?);
-        assert_eq!(rt; ended, status);
-        assert!(rt; output.is_empty());
-        assert_eq!(rt; errors.as_slice(), line);
-    }
+    assert_eq!(rt;
+        front_decoded(&rt, &whole, 31, b"vp8: Torn\n")?,
+        (1, true, true)
+    );
+    assert_eq!(rt; front_decoded(&rt, &whole, 32, b"")?, (0, true, true));
+    assert_eq!(rt;
+        front_decoded(&rt, &whole, 53, b"vp8: Torn\n")?,
+        (1, true, true)
+    );
     Ok(())
 }
 
 #[test]
 fn head_faults(rt: HostRuntime) -> Result<(), Fail> {
-    for (at, letter, line) in [
-        (3, b'X', b"vp8: Signature\n".as_slice()),
-        (10, b'9', b"vp8: Codec\n".as_slice()),
-    ] {
-        let mut bytes = HEAD;
-        bytes[at] = letter;
-        let (status, output, errors) = decoded(&rt, &bytes);
-        assert_eq!(rt; status, 1);
-        assert!(rt; output.is_empty());
-        assert_eq!(rt; errors.as_slice(), line);
-    }
+    let mut signature = HEAD;
+    signature[3] = b'X';
+    assert_eq!(rt;
+        decoded(&rt, &signature, b"", b"vp8: Signature\n"),
+        (1, true, true)
+    );
+    let mut codec = HEAD;
+    codec[10] = b'9';
+    assert_eq!(rt; decoded(&rt, &codec, b"", b"vp8: Codec\n"), (1, true, true));
     Ok(())
 }
 
 #[test]
 fn a_packet_too_large(rt: HostRuntime) -> Result<(), Fail> {
-    let mut bytes = file(rt.alloc(), &[&KEY])?;
-    bytes.extend_from_slice(&[1, 0, 0, 1, 1, 0, 0, 0, 0, 0, 0, 0])?;
-    let (status, output, errors) = decoded(&rt, bytes.as_slice());
-    assert_eq!(rt; status, 1);
-    assert_eq!(rt; output.len(), 384);
-    assert_eq!(rt; errors.as_slice(), b"vp8: PacketTooLarge\n".as_slice());
+    let picture = runs(rt.alloc(), [64, 192, 128])?;
+    let large = [1, 0, 0, 1, 1, 0, 0, 0, 0, 0, 0, 0];
+    let bytes = file_and(rt.alloc(), &[&KEY], &large)?;
+    assert_eq!(rt; picture.len(), 384);
+    assert_eq!(rt;
+        decoded(&rt, &bytes, &picture, b"vp8: PacketTooLarge\n"),
+        (1, true, true)
+    );
     Ok(())
 }
 
 #[test]
 fn decode_to_y4m(rt: HostRuntime) -> Result<(), Fail> {
-    let mut text = Vec::from_slice(
-        rt.alloc(),
-        b"YUV4MPEG2 W16 H16 F30:1 Ip A0:0 C420jpeg\nFRAME\n",
-    )?;
-    text.extend_from_slice(runs(rt.alloc(), [64, 192, 128])?.as_slice())?;
-    assert_eq!(rt; text.len(), 431);
     let words = ["vp8", "decode", "--y4m", "-", "-"];
-    let (status, output, errors) = run(&rt, &words, file(rt.alloc(), &[&KEY])?.as_slice());
-    assert_eq!(rt; status, 0);
-    assert!(rt; errors.is_empty());
-    assert_eq!(rt; output.as_slice(), text.as_slice());
-    let other = key_of([0x11, 0, 0x01, 0]);
-    let (status, output, errors) = run(&rt, &words, file(rt.alloc(), &[&KEY, &other])?.as_slice());
-    assert_eq!(rt; status, 1);
-    assert_eq!(rt; errors.as_slice(), b"vp8: SizeChange\n".as_slice());
-    assert_eq!(rt; output.as_slice(), text.as_slice());
+    let text = y4m(rt.alloc())?;
+    assert_eq!(rt; text.len(), 431);
+    let one = file(rt.alloc(), &[&KEY])?;
+    assert_eq!(rt; run(&rt, &words, &one, &text, b""), (0, true, true));
+    let two = file(rt.alloc(), &[&KEY, &key_of([0x11, 0, 0x01, 0])])?;
+    assert_eq!(rt;
+        run(&rt, &words, &two, &text, b"vp8: SizeChange\n"),
+        (1, true, true)
+    );
     Ok(())
 }
 
 #[test]
 fn info_lists_faults(rt: HostRuntime) -> Result<(), Fail> {
     let file = file(rt.alloc(), &[&KEY[..9], &INTER, &KEY])?;
-    let (status, output, errors) = listed(&rt, file.as_slice());
-    assert_eq!(rt; status, 0);
-    assert!(rt; errors.is_empty());
-    assert_eq!(rt;
-        output.as_slice(),
-        b"size 16x16\nrate 30/1\npackets 3\n0 9 Truncated\n1 3 NoReference\n2 10 Shown\n".as_slice()
-    );
+    let output = b"size 16x16\nrate 30/1\npackets 3\n0 9 Truncated\n1 3 NoReference\n2 10 Shown\n";
+    assert_eq!(rt; listed(&rt, &file, output, b""), (0, true, true));
     Ok(())
 }
 
 #[test]
+fn info_of_a_wide_file(rt: HostRuntime) {
+    let mut bytes = HEAD;
+    bytes[12..18].copy_from_slice(&[0x11, 1, 1, 0, 0x30, 0x75]);
+    bytes[20..22].copy_from_slice(&[0xe9, 3]);
+    let output = b"size 273x1\nrate 30000/1001\npackets 0\n";
+    assert_eq!(rt; listed(&rt, &bytes, output, b""), (0, true, true));
+}
+
+#[test]
 fn info_of_broken_files(rt: HostRuntime) -> Result<(), Fail> {
-    let whole = file(rt.alloc(), &[&HIDDEN, &KEY])?;
-    let (status, output, errors) = listed(&rt, whole.as_slice().get(..75).ok_or("a front")?);
-    assert_eq!(rt; status, 1);
-    assert_eq!(rt;
-        output.as_slice(),
-        b"size 16x16\nrate 30/1\npackets 1\n0 10 Hidden\n".as_slice()
-    );
-    assert_eq!(rt; errors.as_slice(), b"vp8: Torn\n".as_slice());
     let mut bytes = HEAD;
     bytes[0] = b'X';
-    let (status, output, errors) = listed(&rt, &bytes);
-    assert_eq!(rt; status, 1);
-    assert_eq!(rt; output.as_slice(), b"packets 0\n".as_slice());
-    assert_eq!(rt; errors.as_slice(), b"vp8: Signature\n".as_slice());
+    assert_eq!(rt;
+        listed(&rt, &bytes, b"packets 0\n", b"vp8: Signature\n"),
+        (1, true, true)
+    );
+    let whole = file(rt.alloc(), &[&HIDDEN, &KEY])?;
+    let front = whole.get(..75).ok_or("a front")?;
+    let output = b"size 16x16\nrate 30/1\npackets 1\n0 10 Hidden\n";
+    assert_eq!(rt; listed(&rt, front, output, b"vp8: Torn\n"), (1, true, true));
     Ok(())
+}
+
+// Whether a file has the key frame's picture.
+fn holds_picture(rt: &HostRuntime, name: &str) -> Result<bool, Fail> {
+    let picture = runs(rt.alloc(), [64, 192, 128])?;
+    Ok(fs::read(rt, name)?.as_slice() == picture.as_slice())
 }
 
 #[test]
 fn operands_are_files(rt: HostRuntime) -> Result<(), Fail> {
     let (from, to) = ("operands_are_files.ivf", "operands_are_files.i420");
     fs::write(&rt, from, file(rt.alloc(), &[&KEY])?)?;
-    let (status, output, errors) = run(&rt, &["vp8", "decode", from, to], b"");
-    assert_eq!(rt; status, 0);
-    assert!(rt; output.is_empty());
-    assert!(rt; errors.is_empty());
-    let pictures = fs::read(&rt, to)?;
     assert_eq!(rt;
-        pictures.as_slice(),
-        runs(rt.alloc(), [64, 192, 128])?.as_slice()
+        run(&rt, &["vp8", "decode", from, to], b"", b"", b""),
+        (0, true, true)
     );
-    let (status, output, _) = run(&rt, &["vp8", "info", from], b"");
-    assert_eq!(rt; status, 0);
+    assert!(rt; holds_picture(&rt, to)?);
+    let output = b"size 16x16\nrate 30/1\npackets 1\n0 10 Shown\n";
     assert_eq!(rt;
-        output.as_slice(),
-        b"size 16x16\nrate 30/1\npackets 1\n0 10 Shown\n".as_slice()
+        run(&rt, &["vp8", "info", from], b"", output, b""),
+        (0, true, true)
     );
     fs::remove_file(&rt, from)?;
     fs::remove_file(&rt, to)?;
@@ -220,38 +210,48 @@ fn operands_are_files(rt: HostRuntime) -> Result<(), Fail> {
 }
 
 #[test]
+fn missing_input_makes_no_output(rt: HostRuntime) {
+    let (from, to) = ("missing_input.ivf", "missing_input.i420");
+    assert_eq!(rt;
+        run(
+            &rt,
+            &["vp8", "decode", from, to],
+            b"",
+            b"",
+            b"vp8: Device\n"
+        ),
+        (1, true, true)
+    );
+    assert!(rt; fs::read(&rt, to).is_err());
+}
+
+// The status of the program with these words and the head of a file as its input, and whether it writes output, and
+// errors.
+fn told(rt: &HostRuntime, words: &[&str]) -> (u8, bool, bool) {
+    let mut input = Counted::new(HEAD.as_slice());
+    let mut output = Counted::new(Vec::new(rt.alloc()));
+    let mut errors = Counted::new(Vec::new(rt.alloc()));
+    let status = command(rt, words, &mut input, &mut output, &mut errors);
+    let (output, errors) = (output.into_inner(), errors.into_inner());
+    (status, !output.is_empty(), !errors.is_empty())
+}
+
+#[test]
 fn words(rt: HostRuntime) -> Result<(), Fail> {
-    for (words, status, line) in [
-        (["vp8", "decode", "-"].as_slice(), 2, None),
-        (["vp8"].as_slice(), 2, None),
-        (["vp8", "encode", "-", "-"].as_slice(), 2, None),
-        (
-            ["vp8", "decode", "--y4m", "--y4m", "-", "-"].as_slice(),
-            2,
-            None,
-        ),
-        (["vp8", "info"].as_slice(), 2, None),
-        (["vp8", "info", "--help"].as_slice(), 0, None),
-        (["vp8", "decode", "--help"].as_slice(), 0, None),
-        (
-            ["vp8", "decode", "no/such/file", "-"].as_slice(),
-            1,
-            Some(b"vp8: Device\n".as_slice()),
-        ),
-    ] {
-        let mut input = Counted::new(HEAD.as_slice());
-        let mut output = Counted::new(Vec::new(rt.alloc()));
-        let mut errors = Counted::new(Vec::new(rt.alloc()));
-        assert_eq!(rt;
-            command(&rt, words, &mut input, &mut output, &mut errors),
-            status
-        );
-        let errors = errors.into_inner();
-        assert_eq!(rt; output.into_inner().is_empty(), status > 0);
-        assert_eq!(rt; errors.is_empty(), status == 0);
-        if let Some(line) = line {
-            assert_eq!(rt; errors.as_slice(), line);
-        }
-    }
+    assert_eq!(rt; told(&rt, &["vp8", "decode", "-"]), (2, false, true));
+    assert_eq!(rt; told(&rt, &["vp8"]), (2, false, true));
+    assert_eq!(rt; told(&rt, &["vp8", "encode", "-", "-"]), (2, false, true));
+    assert_eq!(rt;
+        told(&rt, &["vp8", "decode", "--y4m", "--y4m", "-", "-"]),
+        (2, false, true)
+    );
+    assert_eq!(rt; told(&rt, &["vp8", "info"]), (2, false, true));
+    assert_eq!(rt; told(&rt, &["vp8", "info", "--help"]), (0, true, false));
+    assert_eq!(rt; told(&rt, &["vp8", "decode", "--help"]), (0, true, false));
+    let missing = ["vp8", "decode", "no/such/file", "-"];
+    assert_eq!(rt;
+        run(&rt, &missing, &HEAD, b"", b"vp8: Device\n"),
+        (1, true, true)
+    );
     Ok(())
 }

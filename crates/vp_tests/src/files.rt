@@ -30,3 +30,37 @@ pub(crate) fn file(alloc: Global, packets: &[&[u8]]) -> Result<Vec<u8>, AllocErr
     }
     Ok(bytes)
 }
+
+/// The file of these packets, with bytes behind them.
+pub(crate) fn file_and(
+    alloc: Global,
+    packets: &[&[u8]],
+    behind: &[u8],
+) -> Result<Vec<u8>, AllocError> {
+    let mut bytes = file(alloc, packets)?;
+    bytes.extend_from_slice(behind)?;
+    Ok(bytes)
+}
+
+/// Adds so many numbers of 128, of 129, and of 128.
+pub(crate) fn append_runs(bytes: &mut Vec<u8>, lengths: [usize; 3]) -> Result<(), AllocError> {
+    let [first, second, third] = lengths;
+    bytes.resize(bytes.len().saturating_add(first), 128)?;
+    bytes.resize(bytes.len().saturating_add(second), 129)?;
+    bytes.resize(bytes.len().saturating_add(third), 128)
+}
+
+/// So many numbers of 128, of 129, and of 128.
+pub(crate) fn runs(alloc: Global, lengths: [usize; 3]) -> Result<Vec<u8>, AllocError> {
+    let mut bytes = Vec::new(alloc);
+    append_runs(&mut bytes, lengths)?;
+    Ok(bytes)
+}
+
+/// The key packet's picture as YUV4MPEG2, the lines before it too.
+pub(crate) fn y4m(alloc: Global) -> Result<Vec<u8>, AllocError> {
+    let lines = b"YUV4MPEG2 W16 H16 F30:1 Ip A0:0 C420jpeg\nFRAME\n";
+    let mut text = Vec::from_slice(alloc, lines)?;
+    append_runs(&mut text, [64, 192, 128])?;
+    Ok(text)
+}

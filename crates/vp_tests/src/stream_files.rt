@@ -1,29 +1,17 @@
 //! Whole files: `decode_all` and `survey`.
 
-use crate::files::{HIDDEN, INTER, KEY, file};
-use std::alloc::{AllocError, Global};
+use crate::files::{HIDDEN, INTER, KEY, file, file_and, runs, y4m};
+use std::alloc::Global;
 use std::io::Read;
 use std::test::Fail;
 use vp_base::{Counted, FailAt, Limits};
 use vp_decode::Outcome;
 use vp_head::PacketFault;
-use vp_ivf::FileFault;
+use vp_ivf::{FileFault, IvfHead};
 use vp_stream::{DecodeFault, Form, Report, SurveyFault, decode_all, survey};
 
 // An empty key frame of 17 columns and one row.
 const WIDE: [u8; 10] = [0x10, 0, 0, 0x9d, 0x01, 0x2a, 0x11, 0, 0x01, 0];
-
-// The lines before the first picture.
-const LINES: &[u8] = b"YUV4MPEG2 W16 H16 F30:1 Ip A0:0 C420jpeg\nFRAME\n";
-
-// The key frame's picture: 64 numbers of 128, 192 of 129, and 128 of 128.
-fn append_picture(bytes: &mut Vec<u8>) -> Result<(), AllocError> {
-    let from = bytes.len();
-    bytes.resize(from.saturating_add(64), 128)?;
-    bytes.resize(from.saturating_add(256), 129)?;
-    bytes.resize(from.saturating_add(384), 128)?;
-    Ok(())
-}
 
 fn decoded(
     alloc: Global,
@@ -36,120 +24,144 @@ fn decoded(
     decode_all(alloc, &mut reader, &mut writer, form, Limits::usual())
 }
 
+// The numbers of packets, of shown and of hidden ones, of a file whose other packets must have these faults; and how
+// many bytes are written.
+fn reported(
+    alloc: Global,
+    file: &[u8],
+    form: Form,
+    faults: &[(u32, PacketFault)],
+) -> Result<((u32, u32, u32), usize), Fail> {
+    let mut written = Vec::new(alloc);
+    let report = decoded(alloc, file, form, &mut written)?;
+    if report.faults.as_slice() != faults {
+        return Err("other faults".into());
+    }
+    let numbers = (report.packets, report.shown, report.hidden);
+    Ok((numbers, written.len()))
+}
+
+// The fault that ends the decoding of a file, and how many bytes are written.
+fn ended(alloc: Global, file: &[u8], form: Form) -> (Option<DecodeFault>, usize) {
+    let mut written = Vec::new(alloc);
+    let fault = decoded(alloc, file, form, &mut written).err();
+    (fault, written.len())
+}
+
+// Whether decoding a file ends with this fault, if with any, and writes just these bytes.
+fn writes(
+    alloc: Global,
+    file: &[u8],
+    form: Form,
+    fault: Option<DecodeFault>,
+    bytes: &[u8],
+) -> bool {
+    let mut written = Vec::new(alloc);
+    let met = decoded(alloc, file, form, &mut written).err();
+    met == fault && written.as_slice() == bytes
+}
+
 #[test]
 fn empty_key_frame(rt: HostRuntime) -> Result<(), Fail> {
+    let picture = runs(rt.alloc(), [64, 192, 128])?;
     let file = file(rt.alloc(), &[&KEY])?;
-    let mut written = Vec::new(rt.alloc());
-    let report = decoded(rt.alloc(), file.as_slice(), Form::I420, &mut written)?;
-    assert_eq!(rt; (report.packets, report.shown, report.hidden), (1, 1, 0));
-    assert!(rt; report.faults.is_empty());
-    let mut picture = Vec::new(rt.alloc());
-    append_picture(&mut picture)?;
-    assert_eq!(rt; written.as_slice(), picture.as_slice());
+    assert_eq!(rt;
+        reported(rt.alloc(), &file, Form::I420, &[])?,
+        ((1, 1, 0), 384)
+    );
+    assert!(rt; writes(rt.alloc(), &file, Form::I420, None, &picture));
     Ok(())
 }
 
 #[test]
 fn numbers_of_a_report(rt: HostRuntime) -> Result<(), Fail> {
+    let faults = [(2, PacketFault::Truncated)];
     let file = file(rt.alloc(), &[&HIDDEN, &KEY, &KEY[..2], &HIDDEN])?;
-    for (form, bytes) in [(Form::I420, 384), (Form::Y4m, 431)] {
-        let mut written = Vec::new(rt.alloc());
-        let report = decoded(rt.alloc(), file.as_slice(), form, &mut written)?;
-        assert_eq!(rt; (report.packets, report.shown, report.hidden), (4, 1, 2));
-        assert_eq!(rt;
-            report.faults.as_slice(),
-            [(2, PacketFault::Truncated)].as_slice()
-        );
-        assert_eq!(rt; written.len(), bytes);
-    }
+    assert_eq!(rt;
+        reported(rt.alloc(), &file, Form::I420, &faults)?,
+        ((4, 1, 2), 384)
+    );
+    assert_eq!(rt;
+        reported(rt.alloc(), &file, Form::Y4m, &faults)?,
+        ((4, 1, 2), 431)
+    );
     Ok(())
 }
 
 #[test]
 fn decode_to_y4m(rt: HostRuntime) -> Result<(), Fail> {
-    let mut expected = Vec::from_slice(rt.alloc(), LINES)?;
-    append_picture(&mut expected)?;
-    assert_eq!(rt; expected.len(), 431);
+    let text = y4m(rt.alloc())?;
+    assert_eq!(rt; text.len(), 431);
     let one = file(rt.alloc(), &[&KEY])?;
-    let mut written = Vec::new(rt.alloc());
-    let report = decoded(rt.alloc(), one.as_slice(), Form::Y4m, &mut written)?;
-    assert_eq!(rt; (report.packets, report.shown), (1, 1));
-    assert_eq!(rt; written.as_slice(), expected.as_slice());
+    assert_eq!(rt;
+        reported(rt.alloc(), &one, Form::Y4m, &[])?,
+        ((1, 1, 0), 431)
+    );
+    assert!(rt; writes(rt.alloc(), &one, Form::Y4m, None, &text));
     let two = file(rt.alloc(), &[&KEY, &WIDE])?;
-    let mut written = Vec::new(rt.alloc());
-    let result = decoded(rt.alloc(), two.as_slice(), Form::Y4m, &mut written);
-    assert_eq!(rt; result.err(), Some(DecodeFault::SizeChange));
-    assert_eq!(rt; written.as_slice(), expected.as_slice());
-    let mut written = Vec::new(rt.alloc());
-    let report = decoded(rt.alloc(), two.as_slice(), Form::I420, &mut written)?;
-    assert_eq!(rt; report.shown, 2);
-    assert_eq!(rt; written.len(), 419);
+    let change = Some(DecodeFault::SizeChange);
+    assert!(rt; writes(rt.alloc(), &two, Form::Y4m, change, &text));
+    assert_eq!(rt;
+        reported(rt.alloc(), &two, Form::I420, &[])?,
+        ((2, 2, 0), 419)
+    );
     Ok(())
 }
 
 #[test]
 fn no_picture_no_bytes(rt: HostRuntime) -> Result<(), Fail> {
+    let faults = [(1, PacketFault::Truncated)];
     let file = file(rt.alloc(), &[&HIDDEN, &KEY[..2]])?;
-    let mut written = Vec::new(rt.alloc());
-    let report = decoded(rt.alloc(), file.as_slice(), Form::Y4m, &mut written)?;
-    assert_eq!(rt; (report.packets, report.hidden), (2, 1));
-    assert!(rt; written.is_empty());
+    assert_eq!(rt;
+        reported(rt.alloc(), &file, Form::Y4m, &faults)?,
+        ((2, 0, 1), 0)
+    );
     Ok(())
+}
+
+// As `ended`, of a file's first bytes.
+fn front_ended(
+    alloc: Global,
+    whole: &[u8],
+    length: usize,
+) -> Result<(Option<DecodeFault>, usize), Fail> {
+    let front = whole.get(..length).ok_or("a front")?;
+    Ok(ended(alloc, front, Form::Y4m))
 }
 
 #[test]
 fn file_cut_short(rt: HostRuntime) -> Result<(), Fail> {
     let whole = file(rt.alloc(), &[&KEY, &WIDE])?;
-    for (length, fault, bytes) in [
-        (31, Some(FileFault::Torn), 0),
-        (32, None, 0),
-        (53, Some(FileFault::Torn), 0),
-        (75, Some(FileFault::Torn), 431),
-    ] {
-        let mut written = Vec::new(rt.alloc());
-        let front = whole.get(..length).ok_or("a front")?;
-        let result = decoded(rt.alloc(), front, Form::Y4m, &mut written);
-        assert_eq!(rt; result.err(), fault.map(|fault| DecodeFault::File(fault)));
-        assert_eq!(rt; written.len(), bytes);
-    }
+    let torn = Some(DecodeFault::File(FileFault::Torn));
+    assert_eq!(rt; front_ended(rt.alloc(), &whole, 31)?, (torn, 0));
+    assert_eq!(rt; front_ended(rt.alloc(), &whole, 32)?, (None, 0));
+    assert_eq!(rt; front_ended(rt.alloc(), &whole, 53)?, (torn, 0));
+    assert_eq!(rt; front_ended(rt.alloc(), &whole, 75)?, (torn, 431));
     Ok(())
 }
 
 #[test]
 fn size_change_before_file_fault(rt: HostRuntime) -> Result<(), Fail> {
-    let mut bytes = file(rt.alloc(), &[&KEY, &WIDE])?;
-    bytes.extend_from_slice(&[1, 0, 0, 1, 2, 0, 0, 0, 0, 0, 0, 0])?;
-    for (form, fault, length) in [
-        (
-            Form::I420,
-            DecodeFault::File(FileFault::PacketTooLarge),
-            419,
-        ),
-        (Form::Y4m, DecodeFault::SizeChange, 431),
-    ] {
-        let mut written = Vec::new(rt.alloc());
-        let result = decoded(rt.alloc(), bytes.as_slice(), form, &mut written);
-        assert_eq!(rt; result.err(), Some(fault));
-        assert_eq!(rt; written.len(), length);
-    }
+    let large = [1, 0, 0, 1, 2, 0, 0, 0, 0, 0, 0, 0];
+    let bytes = file_and(rt.alloc(), &[&KEY, &WIDE], &large)?;
+    let too_large = Some(DecodeFault::File(FileFault::PacketTooLarge));
+    assert_eq!(rt; ended(rt.alloc(), &bytes, Form::I420), (too_large, 419));
+    let change = Some(DecodeFault::SizeChange);
+    assert_eq!(rt; ended(rt.alloc(), &bytes, Form::Y4m), (change, 431));
     Ok(())
 }
 
-// Two pictures, read in two pieces, by a reader and a writer that fail from some call on.
-fn failing(
-    alloc: Global,
-    form: Form,
-    reads: u64,
-    writes: u64,
-    written: &mut Vec<u8>,
-) -> Result<u32, Fail> {
+// Two pictures, read in two pieces, by a reader and a writer that fail from some call on: how many packets are
+// reported, 0 where none are, and how many bytes are written.
+fn failing(alloc: Global, form: Form, reads: u64, writes: u64) -> Result<(u32, usize), Fail> {
     let bytes = file(alloc, &[&KEY, &KEY])?;
     let (first, second) = bytes.as_slice().split_at_checked(60).ok_or("two pieces")?;
+    let mut written = Vec::new(alloc);
     let mut reader = Counted::new(FailAt::new(first.chain(second), reads));
-    let mut writer = Counted::new(FailAt::new(written, writes));
+    let mut writer = Counted::new(FailAt::new(&mut written, writes));
     match decode_all(alloc, &mut reader, &mut writer, form, Limits::usual()) {
-        Ok(report) => Ok(report.packets),
-        Err(DecodeFault::Device) => Ok(0),
+        Ok(report) => Ok((report.packets, written.len())),
+        Err(DecodeFault::Device) => Ok((0, written.len())),
         Err(fault) => Err(fault.into()),
     }
 }
@@ -171,38 +183,43 @@ fn a_read_or_a_write_fails(rt: HostRuntime) -> Result<(), Fail> {
         (Form::Y4m, 3, 3, 0, 431),
         (Form::Y4m, 3, 4, 0, 437),
     ] {
-        let mut written = Vec::new(rt.alloc());
-        let counted = failing(rt.alloc(), form, reads, writes, &mut written)?;
-        assert_eq!(rt; counted, packets);
-        assert_eq!(rt; written.len(), bytes);
+        assert_eq!(rt; failing(rt.alloc(), form, reads, writes)?, (packets, bytes));
     }
     Ok(())
 }
 
-#[test]
-fn survey_of_three_packets(rt: HostRuntime) -> Result<(), Fail> {
-    let mut bytes = file(rt.alloc(), &[&KEY[..9], &INTER, &KEY])?;
+// A file's head and fault, whose packets must be those of `survey_of_three_packets`.
+fn surveyed(alloc: Global, file: &[u8]) -> Result<(Option<IvfHead>, Option<FileFault>), Fail> {
+    let mut reader = Counted::new(file);
+    let found = survey(alloc, &mut reader, Limits::usual())?;
     let expected = [
         (9, Outcome::Fault(PacketFault::Truncated)),
         (3, Outcome::Fault(PacketFault::NoReference)),
         (10, Outcome::Shown),
     ];
-    let mut reader = Counted::new(bytes.as_slice());
-    let found = survey(rt.alloc(), &mut reader, Limits::usual())?;
+    if found.packets.as_slice() != expected.as_slice() {
+        return Err("other packets".into());
+    }
+    Ok((found.head, found.fault))
+}
+
+#[test]
+fn survey_of_three_packets(rt: HostRuntime) -> Result<(), Fail> {
+    let packets = [&KEY[..9], &INTER, &KEY];
+    let head = IvfHead {
+        w: 16,
+        h: 16,
+        rate: 30,
+        scale: 1,
+    };
+    let whole = file(rt.alloc(), &packets)?;
+    assert_eq!(rt; surveyed(rt.alloc(), &whole)?, (Some(head), None));
+    let torn = file_and(rt.alloc(), &packets, &[1, 0])?;
     assert_eq!(rt;
-        found
-            .head
-            .map(|head| (head.w, head.h, head.rate, head.scale)),
-        Some((16, 16, 30, 1))
+        surveyed(rt.alloc(), &torn)?,
+        (Some(head), Some(FileFault::Torn))
     );
-    assert_eq!(rt; found.packets.as_slice(), expected.as_slice());
-    assert_eq!(rt; found.fault, None);
-    bytes.extend_from_slice(&[1, 0])?;
-    let mut reader = Counted::new(bytes.as_slice());
-    let torn = survey(rt.alloc(), &mut reader, Limits::usual())?;
-    assert_eq!(rt; torn.packets.as_slice(), expected.as_slice());
-    assert_eq!(rt; torn.fault, Some(FileFault::Torn));
-    let mut reader = Counted::new(FailAt::new(bytes.as_slice(), 1));
+    let mut reader = Counted::new(FailAt::new(torn.as_slice(), 1));
     let failed = survey(rt.alloc(), &mut reader, Limits::usual());
     assert_eq!(rt; failed.err(), Some(SurveyFault::Device));
     Ok(())

@@ -1,7 +1,8 @@
 use super::*;
 use std::alloc::Global;
+use std::io::Write;
 use std::test::Fail;
-use vp_base::{Counted, Dim, FailAt, Limits};
+use vp_base::{Counted, Dim, FailAt, Limits, Picture};
 
 // A picture of 16 by 16: the first four rows of luma are 128, the others 129, both planes of colour 128.
 fn pixels() -> [u8; 384] {
@@ -23,53 +24,63 @@ fn header_text(rt: HostRuntime) -> Result<(), Fail> {
     let dim = Dim::new(16, 16, &Limits::usual()).ok().ok_or("a size")?;
     let mut file = Counted::new(Vec::new(rt.alloc()));
     assert!(rt; write_header(&mut file, dim, 30, 1).is_ok());
-    assert_eq!(rt;
-        file.into_inner().as_slice(),
-        b"YUV4MPEG2 W16 H16 F30:1 Ip A0:0 C420jpeg\n".as_slice()
-    );
+    let text = b"YUV4MPEG2 W16 H16 F30:1 Ip A0:0 C420jpeg\n".as_slice();
+    assert!(rt; file.into_inner().as_slice() == text);
     Ok(())
+}
+
+// What becomes of a picture of 16 by 16 and of one of 16 by 15, in a file of 16 by 16.
+fn write_two<W: Write>(
+    file: &mut Counted<W>,
+) -> Option<(Result<(), PictureFault>, Result<(), PictureFault>)> {
+    let dim = Dim::new(16, 16, &Limits::usual()).ok()?;
+    let other = Dim::new(16, 15, &Limits::usual()).ok()?;
+    let first = write_picture(file, dim, &pixels(), dim);
+    Some((first, write_picture(file, dim, &[0; 368], other)))
 }
 
 #[test]
 fn picture_of_another_size(rt: HostRuntime) -> Result<(), Fail> {
-    let dim = Dim::new(16, 16, &Limits::usual()).ok().ok_or("a size")?;
-    let other = Dim::new(16, 15, &Limits::usual()).ok().ok_or("a size")?;
     let mut file = Counted::new(Vec::new(rt.alloc()));
-    assert!(rt; write_picture(&mut file, dim, pixels().as_slice(), dim).is_ok());
-    assert_eq!(rt;
-        write_picture(&mut file, dim, &[0; 368], other),
-        Err(PictureFault::SizeChange)
-    );
+    let fault = Err(PictureFault::SizeChange);
+    assert_eq!(rt; write_two(&mut file), Some((Ok(()), fault)));
     assert_eq!(rt; file.into_inner().len(), 390);
     Ok(())
 }
 
-// A file of one picture.
-fn written(alloc: Global) -> Result<Vec<u8>, Fail> {
-    let dim = Dim::new(16, 16, &Limits::usual()).ok().ok_or("a size")?;
-    let mut file = Counted::new(Vec::new(alloc));
-    write_header(&mut file, dim, 30, 1).ok().ok_or("a header")?;
-    write_picture(&mut file, dim, pixels().as_slice(), dim)
-        .ok()
-        .ok_or("a picture")?;
-    Ok(file.into_inner())
+// Writes a header and a picture: whether the header is written, and what becomes of the picture.
+fn write_file<W: Write>(file: &mut Counted<W>) -> Option<(bool, Result<(), PictureFault>)> {
+    let dim = Dim::new(16, 16, &Limits::usual()).ok()?;
+    let header = write_header(file, dim, 30, 1).is_ok();
+    Some((header, write_picture(file, dim, &pixels(), dim)))
+}
+
+fn holds(alloc: Global, picture: &Picture, wanted: &[u8]) -> bool {
+    match picture.crop_i420(alloc) {
+        Ok(bytes) => bytes.as_slice() == wanted,
+        Err(_) => false,
+    }
+}
+
+// Whether a picture of these bytes comes next.
+fn gives(alloc: Global, source: &mut Source<'_, &[u8]>, wanted: &[u8]) -> bool {
+    match source.next_picture() {
+        Ok(Some(picture)) => holds(alloc, &picture, wanted),
+        _ => false,
+    }
 }
 
 #[test]
 fn source_reads_back(rt: HostRuntime) -> Result<(), Fail> {
-    let file = written(rt.alloc())?;
+    let mut file = Counted::new(Vec::new(rt.alloc()));
+    assert!(rt; write_file(&mut file) == Some((true, Ok(()))));
+    let file = file.into_inner();
     let mut reader = Counted::new(file.as_slice());
-    let head = SourceHead::read(&mut reader, Limits::usual())
-        .ok()
-        .ok_or("a head")?;
+    let Ok(head) = SourceHead::read(&mut reader, Limits::usual()) else {
+        panic!(rt; "a head");
+    };
     let mut source = Source::open(rt.alloc(), &mut reader, head);
-    let picture = source
-        .next_picture()
-        .ok()
-        .ok_or("a picture")?
-        .ok_or("a picture")?;
-    let bytes = picture.crop_i420(rt.alloc())?;
-    assert_eq!(rt; bytes.as_slice(), pixels().as_slice());
+    assert!(rt; gives(rt.alloc(), &mut source, &pixels()));
     assert!(rt; matches!(source.next_picture(), Ok(None)));
     Ok(())
 }
@@ -77,27 +88,32 @@ fn source_reads_back(rt: HostRuntime) -> Result<(), Fail> {
 #[test]
 fn source_says_its_head(rt: HostRuntime) -> Result<(), Fail> {
     let mut reader = Counted::new(b"YUV4MPEG2 W3 H2 F30:1\n".as_slice());
-    let head = SourceHead::read(&mut reader, Limits::usual())
-        .ok()
-        .ok_or("a head")?;
+    let Ok(head) = SourceHead::read(&mut reader, Limits::usual()) else {
+        panic!(rt; "a head");
+    };
     let source = Source::open(rt.alloc(), &mut reader, head);
-    assert_eq!(rt; (source.dim().w, source.dim().h), (3, 2));
-    assert_eq!(rt; (source.rate(), source.scale()), (30, 1));
+    let dim = source.dim();
+    assert_eq!(rt;
+        (dim.w, dim.h, source.rate(), source.scale()),
+        (3, 2, 30, 1)
+    );
     Ok(())
+}
+
+// Width, height, rate and scale that the line says.
+fn said_of(line: &[u8], k: u64) -> Option<(u16, u16, u32, u32)> {
+    match head_of(line, k) {
+        Ok(head) => Some((head.dim.w, head.dim.h, head.rate, head.scale)),
+        Err(_) => None,
+    }
 }
 
 #[test]
 fn header_lines(rt: HostRuntime) -> Result<(), Fail> {
     let line = b"YUV4MPEG2  H02 W9 W007 Xany C420paldv I? F24:1\n";
-    let head = head_of(line, 2_000).ok().ok_or("a head")?;
-    assert_eq!(rt;
-        (head.dim.w, head.dim.h, head.rate, head.scale),
-        (7, 2, 24, 1)
-    );
-    let head = head_of(b"YUV4MPEG2 W1 H1\nFRAME\n", 16)
-        .ok()
-        .ok_or("a head")?;
-    assert_eq!(rt; (head.rate, head.scale), (25, 1));
+    assert_eq!(rt; said_of(line, 2_000), Some((7, 2, 24, 1)));
+    let small = b"YUV4MPEG2 W1 H1\nFRAME\n";
+    assert_eq!(rt; said_of(small, 16), Some((1, 1, 25, 1)));
     Ok(())
 }
 
@@ -105,11 +121,7 @@ fn header_lines(rt: HostRuntime) -> Result<(), Fail> {
 fn header_of_another_writer(rt: HostRuntime) -> Result<(), Fail> {
     let line =
         b"YUV4MPEG2 W35 H17 F30000:1001 Ip A1:1 C420jpeg XYSCSS=420JPEG XCOLORRANGE=LIMITED\n";
-    let head = head_of(line, 2_000).ok().ok_or("a head")?;
-    assert_eq!(rt;
-        (head.dim.w, head.dim.h, head.rate, head.scale),
-        (35, 17, 30_000, 1_001)
-    );
+    assert_eq!(rt; said_of(line, 2_000), Some((35, 17, 30_000, 1_001)));
     Ok(())
 }
 
@@ -139,14 +151,8 @@ fn header_faults(rt: HostRuntime) -> Result<(), Fail> {
 
 const SMALL: &[u8] = b"YUV4MPEG2 W1 H1\nFRAME\nabcFRAME x\ndefFRAME\ngh";
 
-// How many pictures the small file gives, and its fault, at a reader that fails after k reads.
-fn read_all(alloc: Global, k: u64) -> (u64, Option<SourceFault>) {
-    let mut reader = Counted::new(FailAt::new(SMALL, k));
-    let head = match SourceHead::read(&mut reader, Limits::usual()) {
-        Ok(head) => head,
-        Err(fault) => return (0, Some(fault)),
-    };
-    let mut source = Source::open(alloc, &mut reader, head);
+// How many pictures come, to four, and the fault behind them.
+fn pictures_of(source: &mut Source<'_, FailAt<&[u8]>>) -> (u64, Option<SourceFault>) {
     for pictures in 0..4u64 {
         match source.next_picture() {
             Ok(Some(_)) => {}
@@ -157,42 +163,54 @@ fn read_all(alloc: Global, k: u64) -> (u64, Option<SourceFault>) {
     (4, None)
 }
 
+// How many pictures the small file gives, and its fault, at a reader that fails after k reads.
+fn read_all(alloc: Global, k: u64) -> (u64, Option<SourceFault>) {
+    let mut reader = Counted::new(FailAt::new(SMALL, k));
+    match SourceHead::read(&mut reader, Limits::usual()) {
+        Ok(head) => pictures_of(&mut Source::open(alloc, &mut reader, head)),
+        Err(fault) => (0, Some(fault)),
+    }
+}
+
+fn pictures_before(k: u64) -> u64 {
+    if k < 25 {
+        0
+    } else if k < 36 {
+        1
+    } else {
+        2
+    }
+}
+
+fn fault_after(k: u64) -> SourceFault {
+    if k < 45 {
+        SourceFault::Device
+    } else {
+        SourceFault::Torn
+    }
+}
+
 #[test]
 fn fails_at_each_read(rt: HostRuntime) -> Result<(), Fail> {
     for k in 0..46u64 {
-        let pictures = if k < 25 {
-            0
-        } else if k < 36 {
-            1
-        } else {
-            2
-        };
-        let fault = if k < 45 {
-            SourceFault::Device
-        } else {
-            SourceFault::Torn
-        };
-        assert_eq!(rt; read_all(rt.alloc(), k), (pictures, Some(fault)));
+        let wanted = (pictures_before(k), Some(fault_after(k)));
+        assert_eq!(rt; read_all(rt.alloc(), k), wanted);
     }
     Ok(())
 }
 
+// What becomes of header and picture, and the bytes written, at a writer that fails after k writes.
+fn write_all(alloc: Global, k: u64) -> (Option<(bool, Result<(), PictureFault>)>, usize) {
+    let mut file = Counted::new(FailAt::new(Vec::new(alloc), k));
+    let told = write_file(&mut file);
+    (told, file.into_inner().into_inner().len())
+}
+
 #[test]
 fn fails_at_each_write(rt: HostRuntime) -> Result<(), Fail> {
-    let dim = Dim::new(16, 16, &Limits::usual()).ok().ok_or("a size")?;
-    for k in 0..3u64 {
-        let mut file = Counted::new(FailAt::new(Vec::new(rt.alloc()), k));
-        assert_eq!(rt; write_header(&mut file, dim, 30, 1).is_ok(), k > 0);
-        let written = write_picture(&mut file, dim, pixels().as_slice(), dim);
-        assert_eq!(rt; written, Err(PictureFault::Device));
-        let written = if k == 0 {
-            0
-        } else if k == 1 {
-            41
-        } else {
-            47
-        };
-        assert_eq!(rt; file.into_inner().into_inner().len(), written);
-    }
+    let fault = Err(PictureFault::Device);
+    assert_eq!(rt; write_all(rt.alloc(), 0), (Some((false, fault)), 0));
+    assert_eq!(rt; write_all(rt.alloc(), 1), (Some((true, fault)), 41));
+    assert_eq!(rt; write_all(rt.alloc(), 2), (Some((true, fault)), 47));
     Ok(())
 }
