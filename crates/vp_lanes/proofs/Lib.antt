@@ -1,0 +1,6 @@
+pub mod Shape
+pub mod Scalar
+pub mod Signed
+pub mod Ranges
+pub mod Bytes
+pub mod Passed

@@ -1,0 +1,52 @@
+-- Numbers from -128 to 127, as negsuc 127 to pos 127.
+use Rattle.std.proofs.Common.{◌≡◌, ◌*◌, ◌≤◌, Bool, true, false, cond, arith, ℤ, pos, negsuc, ◌+ℤ◌, ◌*ℤ◌, ◌≤ℤ◌, unsigned_abs}
+use Rattle.std.proofs.lemmas.Int.{ints, clamps, unsigned_abs-mul}
+use Rattle.std.proofs.Math.Nat.{mul-le-mul_left}
+use lib.Signed.{shr_z}
+use Rattle.vp_lanes.specs.Lane.{clamp8}
+
+-- ---- ranges
+abbrev pub InByte : ℤ → Type 0
+InByte z = (negsuc 127 ≤ℤ z) × (z ≤ℤ pos 127)
+
+pub clamp8_in : (z : ℤ) → InByte (clamp8 z)
+clamp8_in z = (omega (arith, ints, clamps), omega (arith, ints, clamps))
+
+pub pick_in : (t : Bool) (a b : ℤ) → InByte a → InByte b → InByte (cond t a b)
+pick_in true a b p q = p
+pick_in false a b p q = q
+
+pub zero_in : InByte (pos 0)
+zero_in = (omega (arith, ints), omega (arith, ints))
+
+pub eighth_in : (z : ℤ) → InByte z → InByte (shr_z z 8)
+eighth_in (pos n) p = (omega (arith, ints), omega (arith, ints))
+eighth_in (negsuc n) p = (omega (arith, ints), omega (arith, ints))
+
+half_shr : (z : ℤ) → negsuc 127 ≤ℤ z → z ≤ℤ pos 128 → InByte (shr_z z 2)
+half_shr (pos n) p q = (omega (arith, ints), omega (arith, ints))
+half_shr (negsuc n) p q = (omega (arith, ints), omega (arith, ints))
+
+pub half_in : (z : ℤ) → InByte z → InByte (shr_z (z +ℤ pos 1) 2)
+half_in z p = half_shr (z +ℤ pos 1) (omega (arith, ints)) (omega (arith, ints))
+
+-- ---- products with a weight
+abs_128 : (z : ℤ) → InByte z → unsigned_abs z ≤ 128
+abs_128 (pos n) p = omega (arith, ints)
+abs_128 (negsuc n) p = omega (arith, ints)
+
+abs_27 : (z : ℤ) → pos 0 ≤ℤ z → z ≤ℤ pos 27 → unsigned_abs z ≤ 27
+abs_27 (pos n) p q = omega (arith, ints)
+abs_27 (negsuc n) p q = absurd (omega (arith, ints))
+
+within : (z : ℤ) → unsigned_abs z ≤ 3456 → (negsuc 3455 ≤ℤ z) × (z ≤ℤ pos 3456)
+within (pos n) p = (omega (arith, ints), omega (arith, ints))
+within (negsuc n) p = (omega (arith, ints), omega (arith, ints))
+
+pub weight_in : (w k : ℤ) → InByte w → pos 0 ≤ℤ k → k ≤ℤ pos 27 → (negsuc 3455 ≤ℤ (w *ℤ k)) × ((w *ℤ k) ≤ℤ pos 3456)
+weight_in w k p q r =
+    let a : unsigned_abs w ≤ 128 = abs_128 w p in
+    let b : unsigned_abs k ≤ 27 = abs_27 k q r in
+    let m : unsigned_abs k * unsigned_abs w ≤ unsigned_abs k * 128 = mul-le-mul_left (unsigned_abs k) a in
+    let e : unsigned_abs (w *ℤ k) ≡ unsigned_abs w * unsigned_abs k = unsigned_abs-mul w k in
+    within (w *ℤ k) (omega arith)

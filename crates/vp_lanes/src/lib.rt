@@ -1,0 +1,69 @@
+//! Sixteen lanes at a time: what the loop filter does to sixteen lines at once. No public contract of another crate sees lanes.
+#![tactic(auto)]
+
+ghost use Rattle.std.specs.Prelude.{◌≡◌, ℕ, ◌+◌, ◌≤◌, ◌<◌, ◌≤ℤ◌, pos, length, cond, slice_index, int_lt};
+ghost use Rattle.std.specs.Simd.Lanes.{chunk, put_chunk};
+ghost use Rattle.std.specs.Int.{int_max, int_min, abs_diff};
+ghost use Rattle.vp_lanes.specs.Lane.{lane};
+
+mod steps;
+
+use std::simd::prelude::*;
+pub use steps::{
+    difference, eighth, either, half, larger, lowered, masked, pull, raised, share, step_size,
+    where_high, where_low,
+};
+
+/// The sixteen bytes from `at` on.
+pub fn load16(s: &[u8], at: usize) -> u8x16
+    requires { at + 16 ≤ length s.now }
+    ensures { result ≡ chunk at 16 s.now }
+{
+    u8x16::from_slice(&s[at..])
+}
+
+/// The eight bytes from `at` on.
+pub fn load8(s: &[u8], at: usize) -> u8x8
+    requires { at + 8 ≤ length s.now }
+    ensures { result ≡ chunk at 8 s.now }
+{
+    u8x8::from_slice(&s[at..])
+}
+
+/// Writes sixteen bytes from `at` on.
+pub fn store16(s: &mut [u8], at: usize, lanes: u8x16)
+    requires { at + 16 ≤ length s.old }
+    ensures { s.new ≡ put_chunk at s.old lanes }
+{
+    lanes.copy_to_slice(&mut s[at..]);
+}
+
+/// Writes eight bytes from `at` on.
+pub fn store8(s: &mut [u8], at: usize, v: u8x8)
+    requires { at + 8 ≤ length s.old }
+    ensures { s.new ≡ put_chunk at s.old v }
+{
+    v.copy_to_slice(&mut s[at..]);
+}
+
+/// How far apart the lanes are.
+pub fn abs_diff16(a: u8x16, b: u8x16) -> u8x16
+    ensures { (j : ℕ) → j < 16 → slice_index result j ≡ abs_diff (slice_index a j) (slice_index b j) }
+{
+    a.abs_diff(b)
+}
+
+/// The lanes held to `low` and `high`.
+pub fn clamp_i16(v: i16x16, low: i16, high: i16) -> i16x16
+    requires { low ≤ℤ high }
+    ensures { (j : ℕ) → j < 16 → lane result j ≡ int_min high (int_max low (lane v j)) }
+{
+    v.simd_clamp(i16x16::splat(low), i16x16::splat(high))
+}
+
+/// The lanes of `a` where the mask's are set, else those of `b`.
+pub fn select16(mask: mask16x16, a: i16x16, b: i16x16) -> i16x16
+    ensures { (j : ℕ) → j < 16 → lane result j ≡ cond (int_lt (lane mask j) (pos 0)) (lane a j) (lane b j) }
+{
+    mask.select(a, b)
+}
