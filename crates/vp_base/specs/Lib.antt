@@ -5,3 +5,7 @@ pub mod Raster
 pub mod Lending
 pub mod Block
 pub mod Image
+pub mod Place
+pub mod Grid
+pub mod Near
+pub mod Rows

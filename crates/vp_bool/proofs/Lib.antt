@@ -5,4 +5,5 @@ pub mod LawLemmas
 pub mod EncoderLemmas
 pub mod IntervalLemmas
 pub mod RoundTripLemmas
+pub mod WritingLemmas
 pub mod ReaderLemmas

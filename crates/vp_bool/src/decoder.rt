@@ -1,5 +1,6 @@
-ghost use Rattle.std.specs.Prelude.{◌≡◌, ℕ, ◌+◌, ◌-◌, ◌*◌, ◌/◌, ◌^◌, ◌<◌, ◌≤◌, length};
+ghost use Rattle.std.specs.Prelude.{◌≡◌, ℕ, ◌+◌, ◌-◌, ◌*◌, ◌/◌, ◌^◌, ◌<◌, ◌≤◌, length, List, [], ◌∷◌};
 ghost use Rattle.vp_bool.specs.Bools.{read, literal, start};
+ghost use Rattle.vp_bool.specs.Laws.{StandsFor, ReadsOn, ReadsNumberOn};
 ghost use Rattle.vp_bool.specs.Window.{seen, advanced, AreBytes};
 
 use std::marker::Model;
@@ -41,7 +42,8 @@ impl<'a> Model for BoolDecoder<'a> {
 impl<'a> BoolDecoder<'a> {
     /// Begins at the first bool of a partition, which may be empty.
     pub fn new(partition: &'a [u8]) -> Self
-        ensures { result ≡ start partition.now }
+        ensures value { result ≡ start partition.now }
+        ensures run { StandsFor partition.now [] result }
     {
         let (first, rest) = if partition.is_empty() {
             (0, partition)
@@ -64,6 +66,7 @@ impl<'a> BoolDecoder<'a> {
     pub fn read(&mut self, probability: u8) -> bool
         ensures value { result ≡ (read probability self.old).0 }
         ensures rest { self.new ≡ (read probability self.old).1 }
+        ensures run { (bytes ps : List ℕ) → AreBytes bytes → AreBytes ps → StandsFor bytes ps self.old → ReadsOn bytes ps (probability ∷ []) (result ∷ []) self.new }
     {
         let split = 1 + (((self.range - 1) * u32::from(probability)) >> 8);
         let bound = u64::from(split) << self.window.count;
@@ -96,6 +99,7 @@ impl<'a> BoolDecoder<'a> {
         requires { bits ≤ 8 }
         ensures value { result ≡ (literal bits self.old).0 }
         ensures rest { self.new ≡ (literal bits self.old).1 }
+        ensures run { (bytes ps : List ℕ) → AreBytes bytes → AreBytes ps → StandsFor bytes ps self.old → ReadsNumberOn bytes ps bits result self.new }
     {
         let mut value: u32 = 0;
         for _bit in 0..bits {

@@ -5,4 +5,6 @@ pub mod Probabilities
 pub mod Saved
 pub mod Header
 pub mod Bounds
+pub mod Reference
 pub mod Names
+pub mod Spelled

@@ -1,3 +1,6 @@
+ghost use Rattle.std.specs.Prelude.{◌≡◌};
+ghost use Rattle.vp_head.specs.Reference.{is_intra};
+
 use vp_base::Dim;
 
 /// The frame tag (RFC 6386, chapter 9.1).
@@ -112,6 +115,15 @@ pub enum Reference {
     Last,
     Golden,
     Alt,
+}
+
+impl Reference {
+    /// Whether a macroblock is predicted from its own frame.
+    pub fn is_intra(self) -> bool
+        ensures { result ≡ is_intra self }
+    {
+        matches!(self, Reference::Intra)
+    }
 }
 
 /// The probabilities that are kept from frame to frame (chapter 9.9, 9.10, 13.4, 17.2).

@@ -37,7 +37,7 @@ static DEFAULTS: Saved = Saved {
 };
 
 #[tactic(auto, unfolding(crate::specs::Saved::defaults, vp_tables::specs::Tables::coefficient_probabilities))]
-fn defaults() -> &'static Saved
+pub(crate) fn defaults() -> &'static Saved
     ensures { result.now ≡ defaults }
 {
     &DEFAULTS

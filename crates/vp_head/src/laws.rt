@@ -9,6 +9,7 @@ ghost use Rattle.vp_head.specs.Tag.{tag_of, IsKeyPacket, IsInterPacket};
 ghost use Rattle.vp_head.specs.Saved.{defaults};
 ghost use Rattle.vp_head.specs.Header.{header};
 ghost use Rattle.vp_head.specs.Bounds.{IsTagInRange, IsInRange, AreInRange};
+ghost use Rattle.vp_head.specs.Spelled.{CanBeWritten};
 
 /// The first byte alone says whether a packet of three bytes or more is a key packet: its tag has a key part, or a fault.
 pub fn first_byte_says_kind()
@@ -34,4 +35,9 @@ pub fn numbers_are_in_range()
 pub fn probabilities_come_back()
     ensures inter { (saved : Saved) (tag : Tag) (s : State) → IsNone tag.key → (header saved tag s).0.0.refresh_entropy ≡ false → (header saved tag s).0.1.probabilities ≡ saved.probabilities }
     ensures key { (saved : Saved) (tag : Tag) (s : State) → IsSome tag.key → (header saved tag s).0.0.refresh_entropy ≡ false → (header saved tag s).0.1.probabilities ≡ defaults.probabilities }
+{}
+
+/// Each header that is read can be written: no more is asked of a header than what the format can say.
+pub fn what_is_read_can_be_written()
+    ensures { (saved : Saved) (tag : Tag) (s : State) → CanBeWritten saved tag (header saved tag s).0.0 }
 {}

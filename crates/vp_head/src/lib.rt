@@ -4,8 +4,11 @@
 mod fault;
 mod fields;
 mod header;
+mod header_writing;
 mod laws;
 mod probabilities;
+mod probability_writing;
+mod row_writing;
 mod rows;
 mod tag;
 #[cfg(test)]
@@ -18,4 +21,5 @@ pub use fields::{
 };
 pub use laws::{
     first_byte_says_kind, key_header_resets, numbers_are_in_range, probabilities_come_back,
+    what_is_read_can_be_written,
 };

@@ -1,7 +1,8 @@
 use super::*;
+use std::alloc::Global;
 use std::test::Fail;
 use vp_base::Limits;
-use vp_bool::BoolDecoder;
+use vp_bool::{BoolDecoder, BoolEncoder};
 
 const KEY: [u8; 10] = [0x10, 0, 0, 0x9d, 0x01, 0x2a, 0x10, 0, 0x10, 0];
 
@@ -297,5 +298,30 @@ fn inter_probabilities_of_a_stream(rt: HostRuntime) -> Result<(), Fail> {
     wanted.luma = [104, 203, 38, 211];
     wanted.vectors[1][2] = 238;
     assert!(rt; parts_of(&header.probabilities) == parts_of(&wanted));
+    Ok(())
+}
+
+/// The header that stands in a packet's first partition, written anew and read back.
+fn written_back(alloc: Global, packet: &[u8], partition: &[u8]) -> Result<Header, Fail> {
+    let tag = Tag::read(packet, &Limits::usual())?;
+    let saved = Saved::defaults();
+    let (header, _) = Header::read(&saved, &tag, &mut BoolDecoder::new(partition));
+    let mut encoder = BoolEncoder::new(alloc);
+    header.write(&saved, &tag, &mut encoder)?;
+    let bytes = encoder.finish()?;
+    let (again, _) = Header::read(&saved, &tag, &mut BoolDecoder::new(bytes.as_slice()));
+    Ok(again)
+}
+
+#[test]
+fn headers_read_back(rt: HostRuntime) -> Result<(), Fail> {
+    let key = written_back(rt.alloc(), &KEY, &[255])?;
+    assert!(rt; key.key && key.color_space && key.clamping_type);
+    assert!(rt; rows_of(&key) == ones_rows());
+    assert!(rt; key.probabilities.coefficients == [[[[255; 11]; 3]; 8]; 4]);
+    let inter = written_back(rt.alloc(), &[0x31, 0, 0], &[255])?;
+    assert!(rt; !inter.key && inter.biases.golden && inter.biases.alt);
+    assert!(rt; rows_of(&inter) == ones_rows());
+    assert!(rt; parts_of(&inter.probabilities) == ([255; 4], [255; 3], [[254; 19]; 2]));
     Ok(())
 }

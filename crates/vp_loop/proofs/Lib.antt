@@ -1,4 +1,3 @@
-pub mod Ranges
 pub mod Shift
 pub mod Pulls
 pub mod StepLemmas
@@ -7,3 +6,9 @@ pub mod EdgeLemmas
 pub mod FrameLemmas
 pub mod LawLemmas
 pub mod WindowLemmas
+pub mod BandLemmas
+pub mod PlaneLaws
+pub mod LaneLines
+pub mod Turned
+pub mod Loads
+pub mod WriteLemmas

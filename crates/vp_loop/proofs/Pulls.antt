@@ -5,7 +5,7 @@ use Rattle.std.proofs.Math.Nat.{mul-le-mul_left}
 use mir.Val.{SFits}
 use lib.Signed.{shr_z}
 use Rattle.vp_loop.specs.LineSteps.{signed, pixel_from}
-use Rattle.vp_loop.proofs.Ranges.{InByte}
+use Rattle.vp_lanes.proofs.Ranges.{InByte}
 use Rattle.vp_loop.proofs.Shift.{same, same_is, shift_is, fits_byte}
 
 abs_128 : (z : ℤ) → InByte z → unsigned_abs z ≤ 128

@@ -204,7 +204,7 @@ cond_ends : (b : Bool) (l m : Line) → (m.p3 ≡ l.p3) × (m.q3 ≡ l.q3) → (
 cond_ends true l m same = same
 cond_ends false l m same = (refl, refl)
 
-stepped_ends : (step : LineStep) (l : Line) → ((stepped step l).p3 ≡ l.p3) × ((stepped step l).q3 ≡ l.q3)
+pub stepped_ends : (step : LineStep) (l : Line) → ((stepped step l).p3 ≡ l.p3) × ((stepped step l).q3 ≡ l.q3)
 unfolding stepped
 stepped_ends step l = cond_ends (is_changed step l) l (changed step l) (changed_ends step.kind step.limit step.interior step.hev l)
 

@@ -108,3 +108,10 @@ block_filtered size level x y p =
 -- p with f done to plane k
 abbrev pub on_plane : ℕ → (Raster → Raster) → Image → Image
 on_plane k f p = with_plane p k (f (plane_of p k))
+
+-- p with f done to luma, or to both planes of colour
+abbrev pub on_luma : (Raster → Raster) → Image → Image
+on_luma f p = record p { luma = f p.luma }
+
+abbrev pub on_colours : (Raster → Raster) → Image → Image
+on_colours f p = record p { u = f p.u; v = f p.v }

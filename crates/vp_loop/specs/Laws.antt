@@ -1,13 +1,14 @@
--- Laws of line steps (RFC 6386, chapter 15.1): the order within an edge doesn't matter.
-use Rattle.std.specs.Prelude.{ℕ, ◌≡◌, ◌+◌, ◌*◌, ◌≤◌, ◌<◌, Bool, ◌&&◌, List}
-use Rattle.vp_base.specs.Raster.{Raster, pixel}
+-- Laws of line steps (RFC 6386, chapter 15.1): which of them may change places, and which rows they touch.
+use Rattle.std.specs.Prelude.{ℕ, ◌≡◌, ◌+◌, ◌-◌, ◌*◌, ◌≤◌, ◌<◌, ◌==◌, nat_lt, Bool, ◌&&◌, List, if◌then◌else◌}
+use Rattle.vp_base.specs.Raster.{Raster}
 use Rattle.vp_base.specs.Block.{is_in_block, with_block, IsWhole}
-use Rattle.vp_base.specs.Image.{Image, macroblocks, IsAligned}
+use Rattle.vp_base.specs.Image.{Image, macroblocks, IsAligned, AreWhole}
+use Rattle.vp_base.specs.Rows.{AreSameAbove, AreSameFrom, AreOneSize}
 use Rattle.vp_loop.specs.declared.lines.LineStep.{LineStep}
 use Rattle.vp_loop.specs.declared.strength.Level.{Level}
 use Rattle.vp_loop.specs.LineSteps.{stepped}
-use Rattle.vp_loop.specs.Edges.{Way, along, down, columns_of, rows_of, line_at, pixel_at, line_step, edge_lines}
-use Rattle.vp_loop.specs.Filtered.{row_filtered}
+use Rattle.vp_loop.specs.Edges.{Way, along, down, columns_of, rows_of, line_at, pixel_at, line_step, edge_lines, outer_step, inner_step, when, inner_edges, on_plane}
+use Rattle.vp_loop.specs.Filtered.{macroblock_filtered, row_filtered}
 
 -- a line of a plane: the way it lies, and the column and row where it begins
 pub record PlaneLine : Type 0 where
@@ -35,44 +36,75 @@ DisjointStepsCommute =
     (p : Raster) (l m : PlaneLine) (a b : LineStep) → IsWithin l p → IsWithin m p → SharesNoPixel l m
     → step_of b m (step_of a l p) ≡ step_of a l (step_of b m p)
 
--- ---- a row of macroblocks and what lies below it
-
--- p and q agree on the pixels of the first k rows
-abbrev pub AgreeAbove : ℕ → Raster → Raster → Type 0
-AgreeAbove k p q = (i j : ℕ) → i < p.width → j < k → pixel p i j ≡ pixel q i j
-
--- p and q agree on the pixels from row k on
-abbrev pub AgreeBelow : ℕ → Raster → Raster → Type 0
-AgreeBelow k p q = (i j : ℕ) → i < p.width → k ≤ j → j < p.height → pixel p i j ≡ pixel q i j
-
--- the same of pictures, k counting rows of macroblocks
-pub record AgreeAboveRow (k : ℕ) (p q : Image) : Type 0 where
-  pub luma : AgreeAbove (16 * k) p.luma q.luma
-  pub u : AgreeAbove (8 * k) p.u q.u
-  pub v : AgreeAbove (8 * k) p.v q.v
-
-pub record AgreeBelowRow (k : ℕ) (p q : Image) : Type 0 where
-  pub luma : AgreeBelow (16 * k) p.luma q.luma
-  pub u : AgreeBelow (8 * k) p.u q.u
-  pub v : AgreeBelow (8 * k) p.v q.v
+-- ---- a row of macroblocks
 
 -- filtering a row of macroblocks changes nothing below the row
 abbrev pub RowKeepsBelow : Type 0
 RowKeepsBelow =
     (levels : List Level) (row : ℕ) (p : Image) → IsAligned p → row < macroblocks p.height
-    → AgreeBelowRow (row + 1) (row_filtered levels row p) p
+    → AreSameFrom (16 * (row + 1)) (8 * (row + 1)) (row_filtered levels row p) p
 
--- and what it makes of the rest depends on the rest alone
+-- what it makes of the rest depends on the rest alone
 abbrev pub RowReadsAbove : Type 0
 RowReadsAbove =
-    (levels : List Level) (row : ℕ) (p q : Image) → IsAligned p → IsAligned q → p.width ≡ q.width → p.height ≡ q.height → row < macroblocks p.height
-    → AgreeAboveRow (row + 1) p q → AgreeAboveRow (row + 1) (row_filtered levels row p) (row_filtered levels row q)
+    (levels : List Level) (row : ℕ) (p q : Image) → IsAligned p → IsAligned q → AreOneSize p q → row < macroblocks p.height
+    → AreSameAbove (16 * (row + 1)) (8 * (row + 1)) p q
+    → AreSameAbove (16 * (row + 1)) (8 * (row + 1)) (row_filtered levels row p) (row_filtered levels row q)
 
--- filtering keeps a picture's sizes
-abbrev pub RowsKeepSizes : Type 0
-RowsKeepSizes =
-    (levels : List Level) (row : ℕ) (p : Image)
-    → ((row_filtered levels row p).width ≡ p.width) × ((row_filtered levels row p).height ≡ p.height) × (IsAligned p → IsAligned (row_filtered levels row p))
+-- and it changes nothing above the last three rows of pixels over its own
+abbrev pub RowKeepsAbove : Type 0
+RowKeepsAbove =
+    (levels : List Level) (row : ℕ) (p : Image) → IsAligned p → row < macroblocks p.height
+    → AreSameAbove (16 * row - 3) (8 * row - 3) (row_filtered levels row p) p
+
+-- filtering keeps a picture's size, and the sizes of its planes
+abbrev pub RowKeepsSize : Type 0
+RowKeepsSize = (levels : List Level) (row : ℕ) (p : Image) → AreOneSize (row_filtered levels row p) p
+
+abbrev pub RowKeepsAligned : Type 0
+RowKeepsAligned = (levels : List Level) (row : ℕ) (p : Image) → IsAligned p → IsAligned (row_filtered levels row p)
+
+abbrev pub RowKeepsWhole : Type 0
+RowKeepsWhole = (levels : List Level) (row : ℕ) (p : Image) → AreWhole p → AreWhole (row_filtered levels row p)
+
+-- ---- plane by plane, or edge by edge
+
+-- what is done to two different planes may change places
+abbrev pub PlanesCommute : Type 0
+PlanesCommute =
+    (j k : ℕ) (f g : Raster → Raster) (p : Image) → j < 3 → k < 3 → ¬ (j ≡ k)
+    → on_plane j f (on_plane k g p) ≡ on_plane k g (on_plane j f p)
+
+-- a macroblock's own edge of one way, unless the plane begins there, and the edges of that way inside it
+abbrev pub own_edge : Way → Level → ℕ → ℕ → ℕ → Raster → Raster
+own_edge along level size x y = when (nat_lt 0 x) (edge_lines along (outer_step level) size (x - 4) y)
+own_edge down level size x y = when (nat_lt 0 y) (edge_lines down (outer_step level) size x (y - 4))
+
+abbrev pub edges_inside : Way → Level → ℕ → ℕ → ℕ → Raster → Raster
+edges_inside way level size x y = when (nat_lt 0 level.inner) (inner_edges way (inner_step level) size x y)
+
+-- f done to a macroblock's pixels of luma and, but for the simple filter, of both colours
+abbrev pub in_planes : Level → (ℕ → ℕ → ℕ → Raster → Raster) → ℕ → ℕ → Image → Image
+in_planes level f column row p = record p {
+  luma = f 16 (16 * column) (16 * row) p.luma;
+  u = if level.interior == 0 then p.u else f 8 (8 * column) (8 * row) p.u;
+  v = if level.interior == 0 then p.v else f 8 (8 * column) (8 * row) p.v;
+}
+
+-- a macroblock filtered as chapter 15.1 has it: the left edge of all planes, the vertical edges inside, the top edge, the rest
+abbrev pub filtered_by_edges : Level → ℕ → ℕ → Image → Image
+filtered_by_edges level column row p =
+    if level.edge == 0 then p
+    else in_planes level (edges_inside down level) column row
+    (in_planes level (own_edge down level) column row
+    (in_planes level (edges_inside along level) column row
+    (in_planes level (own_edge along level) column row p)))
+
+-- which gives what plane by plane gives
+abbrev pub EdgeByEdge : Type 0
+EdgeByEdge =
+    (level : Level) (column row : ℕ) (p : Image)
+    → filtered_by_edges level column row p ≡ macroblock_filtered level column row p
 
 -- the lines of an edge may be done at once, each from the plane as it was
 abbrev pub EdgesAtOnce : Type 0

@@ -3,3 +3,4 @@ pub mod Levels
 pub mod Edges
 pub mod Filtered
 pub mod Laws
+pub mod Lanes

@@ -1,29 +1,20 @@
-//! The lines across the edges of one macroblock, in one plane.
+//! The lines across the edges of one macroblock: all lines of an edge at once, those of both planes of colour together.
 
-ghost use Rattle.std.specs.Prelude.{◌≡◌, ℕ, ◌+◌, ◌-◌, ◌*◌, ◌/◌, ◌<◌, ◌≤◌, List, length, slice_index, slice_index_or};
-ghost use Rattle.vp_base.specs.Raster.{Raster, pixel};
-ghost use Rattle.vp_base.specs.Image.{Image, plane_of, with_plane};
-ghost use Rattle.vp_loop.specs.LineSteps.{stepped};
-ghost use Rattle.vp_loop.specs.declared.lines.Line.{Line};
-ghost use Rattle.vp_loop.specs.Edges.{along, down, line_at, pixels_of, line_step, edge_lines, inner_edges, block_edges, block_filtered, outer_step, inner_step, on_plane};
+ghost use Rattle.std.specs.Prelude.{◌≡◌, ℕ, ◌+◌, ◌<◌, ◌≤◌};
+ghost use Rattle.vp_base.specs.Image.{Image};
+ghost use Rattle.vp_loop.specs.Edges.{along, down, edge_lines, inner_edges, block_edges, block_filtered, outer_step, inner_step, on_luma, on_colours};
 
-use crate::lines::{EdgeKind, Line, LineStep};
+use crate::lines::{EdgeKind, LineStep};
+use crate::store::{write_rows8, write_rows16};
 use crate::strength::Level;
-use vp_base::{Picture, Plane};
-
-impl Line {
-    /// From `p3` to `q3`.
-    fn pixels(self) -> [u8; 8]
-        ensures { result ≡ pixels_of self }
-    {
-        [
-            self.p3, self.p2, self.p1, self.p0, self.q0, self.q1, self.q2, self.q3,
-        ]
-    }
-}
+use crate::turn::{
+    first_eight, first_halves, last_eight, lines_along, lines_along_both, lines_down,
+    lines_down_both, second_halves, turned_back,
+};
+use vp_base::Picture;
 
 impl Level {
-    fn outer_step(self) -> LineStep
+    pub(crate) fn outer_step(self) -> LineStep
         ensures { result ≡ outer_step self }
     {
         LineStep {
@@ -38,7 +29,7 @@ impl Level {
         }
     }
 
-    fn inner_step(self) -> LineStep
+    pub(crate) fn inner_step(self) -> LineStep
         ensures { result ≡ inner_step self }
     {
         LineStep {
@@ -54,265 +45,243 @@ impl Level {
     }
 }
 
-/// The `n` pixels of row `y` from column `x` on.
-fn run(plane: &Plane, x: usize, y: usize, n: usize) -> &[u8]
-    requires columns { x + n ≤ plane.now.width }
-    requires row { y < plane.now.height }
-    ensures len { length result.now ≡ n }
-    ensures value { (c : ℕ) → c < n → slice_index result.now c ≡ pixel plane.now (x + c) y }
+/// Filters over a vertical edge of luma: sixteen lines, the first of which begins at column `x` of row `y`.
+fn filter_luma_along(picture: &mut Picture, x: usize, y: usize, step: LineStep)
+    requires columns { x + 8 ≤ picture.old.luma.width }
+    requires rows { y + 16 ≤ picture.old.luma.height }
+    ensures value { picture.new ≡ on_luma (edge_lines along step 16 x y) picture.old }
+    ensures wide { picture.new.luma.width ≡ picture.old.luma.width }
+    ensures high { picture.new.luma.height ≡ picture.old.luma.height }
 {
-    &plane.row(y)[x..x + n]
+    let _height = picture.plane(0).height();
+    let l = step.apply_to_all(lines_along(picture.plane(0), x, y));
+    let lines = turned_back(l.p3, l.p2, l.p1, l.p0, l.q0, l.q1, l.q2, l.q3);
+    write_rows8(picture, 0, x, y, &lines);
 }
 
-/// The line along row `y` that begins at column `x`.
-#[tactic(auto, unfolding(crate::specs::Edges::line_at))]
-fn line_along(plane: &Plane, x: usize, y: usize) -> Line
-    requires columns { x + 8 ≤ plane.now.width }
-    requires row { y < plane.now.height }
-    ensures { result ≡ line_at along plane.now x y }
+/// Filters over a horizontal edge of luma: sixteen lines, the first of which begins at column `x` of row `y`.
+fn filter_luma_down(picture: &mut Picture, x: usize, y: usize, step: LineStep)
+    requires columns { x + 16 ≤ picture.old.luma.width }
+    requires rows { y + 8 ≤ picture.old.luma.height }
+    ensures value { picture.new ≡ on_luma (edge_lines down step 16 x y) picture.old }
+    ensures wide { picture.new.luma.width ≡ picture.old.luma.width }
+    ensures high { picture.new.luma.height ≡ picture.old.luma.height }
 {
-    let run = run(plane, x, y, 8);
-    Line {
-        p3: run[0],
-        p2: run[1],
-        p1: run[2],
-        p0: run[3],
-        q0: run[4],
-        q1: run[5],
-        q2: run[6],
-        q3: run[7],
+    let _height = picture.plane(0).height();
+    let l = step.apply_to_all(lines_down(picture.plane(0), x, y));
+    write_rows16(
+        picture,
+        0,
+        x,
+        y,
+        &[l.p3, l.p2, l.p1, l.p0, l.q0, l.q1, l.q2, l.q3],
+    );
+}
+
+/// Filters over a vertical edge of both planes of colour: eight lines of each.
+fn filter_colours_along(picture: &mut Picture, x: usize, y: usize, step: LineStep)
+    requires u_columns { x + 8 ≤ picture.old.u.width }
+    requires u_rows { y + 8 ≤ picture.old.u.height }
+    requires v_columns { x + 8 ≤ picture.old.v.width }
+    requires v_rows { y + 8 ≤ picture.old.v.height }
+    ensures value { picture.new ≡ on_colours (edge_lines along step 8 x y) picture.old }
+    ensures u_wide { picture.new.u.width ≡ picture.old.u.width }
+    ensures u_high { picture.new.u.height ≡ picture.old.u.height }
+    ensures v_wide { picture.new.v.width ≡ picture.old.v.width }
+    ensures v_high { picture.new.v.height ≡ picture.old.v.height }
+{
+    let _u_height = picture.plane(1).height();
+    let _v_height = picture.plane(2).height();
+    let l = step.apply_to_all(lines_along_both(picture.plane(1), picture.plane(2), x, y));
+    let lines = turned_back(l.p3, l.p2, l.p1, l.p0, l.q0, l.q1, l.q2, l.q3);
+    write_rows8(picture, 1, x, y, &first_eight(&lines));
+    write_rows8(picture, 2, x, y, &last_eight(&lines));
+}
+
+/// Filters over a horizontal edge of both planes of colour: eight lines of each.
+fn filter_colours_down(picture: &mut Picture, x: usize, y: usize, step: LineStep)
+    requires u_columns { x + 8 ≤ picture.old.u.width }
+    requires u_rows { y + 8 ≤ picture.old.u.height }
+    requires v_columns { x + 8 ≤ picture.old.v.width }
+    requires v_rows { y + 8 ≤ picture.old.v.height }
+    ensures value { picture.new ≡ on_colours (edge_lines down step 8 x y) picture.old }
+    ensures u_wide { picture.new.u.width ≡ picture.old.u.width }
+    ensures u_high { picture.new.u.height ≡ picture.old.u.height }
+    ensures v_wide { picture.new.v.width ≡ picture.old.v.width }
+    ensures v_high { picture.new.v.height ≡ picture.old.v.height }
+{
+    let _u_height = picture.plane(1).height();
+    let _v_height = picture.plane(2).height();
+    let l = step.apply_to_all(lines_down_both(picture.plane(1), picture.plane(2), x, y));
+    write_rows8(picture, 1, x, y, &first_halves(l));
+    write_rows8(picture, 2, x, y, &second_halves(l));
+}
+
+/// Filters over the vertical edges inside a macroblock of luma.
+fn filter_inner_luma_along(picture: &mut Picture, x: usize, y: usize, step: LineStep)
+    requires columns { x + 16 ≤ picture.old.luma.width }
+    requires rows { y + 16 ≤ picture.old.luma.height }
+    ensures value { picture.new ≡ on_luma (inner_edges along step 16 x y) picture.old }
+    ensures wide { picture.new.luma.width ≡ picture.old.luma.width }
+    ensures high { picture.new.luma.height ≡ picture.old.luma.height }
+{
+    let _width = picture.plane(0).width();
+    for i in 0..3 {
+        filter_luma_along(picture, x + 4 * i, y, step);
     }
 }
 
-/// Filters the line along row `y` that begins at column `x`. Nothing is written where it stays as it is.
-fn filter_along(picture: &mut Picture, k: usize, x: usize, y: usize, step: LineStep)
-    requires plane { k < 3 }
-    requires columns { x + 8 ≤ (plane_of picture.old k).width }
-    requires row { y < (plane_of picture.old k).height }
-    ensures { picture.new ≡ on_plane k (line_step along step x y) picture.old }
+/// Filters over the horizontal edges inside a macroblock of luma.
+fn filter_inner_luma_down(picture: &mut Picture, x: usize, y: usize, step: LineStep)
+    requires columns { x + 16 ≤ picture.old.luma.width }
+    requires rows { y + 16 ≤ picture.old.luma.height }
+    ensures value { picture.new ≡ on_luma (inner_edges down step 16 x y) picture.old }
+    ensures wide { picture.new.luma.width ≡ picture.old.luma.width }
+    ensures high { picture.new.luma.height ≡ picture.old.luma.height }
 {
-    let _height = picture.plane(k).height();
-    let line = line_along(picture.plane(k), x, y);
-    if step.is_changed(line) {
-        picture.write_run(k, x, y, &step.changed(line).pixels());
+    let _height = picture.plane(0).height();
+    for i in 0..3 {
+        filter_luma_down(picture, x, y + 4 * i, step);
     }
 }
 
-/// Filters over a vertical edge: `n` lines, the first of which begins at column `x` of row `y`.
-fn filter_vertical_edge(
-    picture: &mut Picture,
-    k: usize,
-    x: usize,
-    y: usize,
-    n: usize,
-    step: LineStep,
-)
-    requires plane { k < 3 }
-    requires columns { x + 8 ≤ (plane_of picture.old k).width }
-    requires rows { y + n ≤ (plane_of picture.old k).height }
-    ensures value { picture.new ≡ on_plane k (edge_lines along step n x y) picture.old }
-    ensures wide { (plane_of picture.new k).width ≡ (plane_of picture.old k).width }
-    ensures high { (plane_of picture.new k).height ≡ (plane_of picture.old k).height }
+/// Filters over the vertical edge inside a macroblock of both planes of colour.
+fn filter_inner_colours_along(picture: &mut Picture, x: usize, y: usize, step: LineStep)
+    requires u_columns { x + 8 ≤ picture.old.u.width }
+    requires u_rows { y + 8 ≤ picture.old.u.height }
+    requires v_columns { x + 8 ≤ picture.old.v.width }
+    requires v_rows { y + 8 ≤ picture.old.v.height }
+    ensures value { picture.new ≡ on_colours (inner_edges along step 8 x y) picture.old }
+    ensures u_wide { picture.new.u.width ≡ picture.old.u.width }
+    ensures u_high { picture.new.u.height ≡ picture.old.u.height }
+    ensures v_wide { picture.new.v.width ≡ picture.old.v.width }
+    ensures v_high { picture.new.v.height ≡ picture.old.v.height }
 {
-    let _height = picture.plane(k).height();
-    for j in 0..n {
-        filter_along(picture, k, x, y + j, step);
-    }
+    filter_colours_along(picture, x, y, step);
 }
 
-/// The pixels of the lines down `n` columns from column `x` on, each beginning at row `y`, as the filter leaves them.
-#[tactic(auto, unfolding(crate::specs::Edges::line_at))]
-fn lines_down(plane: &Plane, x: usize, y: usize, n: usize, step: LineStep) -> [[u8; 8]; 16]
-    requires size { n ≤ 16 }
-    requires columns { x + n ≤ plane.now.width }
-    requires rows { y + 8 ≤ plane.now.height }
-    ensures { (c : ℕ) (d : List ℕ) → c < n → slice_index_or result c d ≡ pixels_of (stepped step (line_at down plane.now (x + c) y)) }
+/// Filters over the horizontal edge inside a macroblock of both planes of colour.
+fn filter_inner_colours_down(picture: &mut Picture, x: usize, y: usize, step: LineStep)
+    requires u_columns { x + 8 ≤ picture.old.u.width }
+    requires u_rows { y + 8 ≤ picture.old.u.height }
+    requires v_columns { x + 8 ≤ picture.old.v.width }
+    requires v_rows { y + 8 ≤ picture.old.v.height }
+    ensures value { picture.new ≡ on_colours (inner_edges down step 8 x y) picture.old }
+    ensures u_wide { picture.new.u.width ≡ picture.old.u.width }
+    ensures u_high { picture.new.u.height ≡ picture.old.u.height }
+    ensures v_wide { picture.new.v.width ≡ picture.old.v.width }
+    ensures v_high { picture.new.v.height ≡ picture.old.v.height }
 {
-    let _height = plane.height();
-    let p3 = run(plane, x, y, n);
-    let p2 = run(plane, x, y + 1, n);
-    let p1 = run(plane, x, y + 2, n);
-    let p0 = run(plane, x, y + 3, n);
-    let q0 = run(plane, x, y + 4, n);
-    let q1 = run(plane, x, y + 5, n);
-    let q2 = run(plane, x, y + 6, n);
-    let q3 = run(plane, x, y + 7, n);
-    let mut lines = [[0; 8]; 16];
-    for c in 0..n {
-        let line = step.apply(Line {
-            p3: p3[c],
-            p2: p2[c],
-            p1: p1[c],
-            p0: p0[c],
-            q0: q0[c],
-            q1: q1[c],
-            q2: q2[c],
-            q3: q3[c],
-        });
-        lines[c] = line.pixels();
-    }
-    lines
+    filter_colours_down(picture, x, y, step);
 }
 
-/// Pixel `r` of each of the lines.
-fn pixel_row(lines: &[[u8; 8]; 16], r: usize) -> [u8; 16]
-    requires { r < 8 }
-    ensures len { length result ≡ 16 }
-    ensures value { (c : ℕ) (d : List ℕ) → c < 16 → slice_index result c ≡ slice_index (slice_index_or lines.now c d) r }
-{
-    let mut row = [0; 16];
-    for c in 0..16 {
-        row[c] = lines[c][r];
-    }
-    row
-}
-
-/// Filters over a horizontal edge: `n` lines, the first of which begins at column `x` of row `y`.
-fn filter_horizontal_edge(
-    picture: &mut Picture,
-    k: usize,
-    x: usize,
-    y: usize,
-    n: usize,
-    step: LineStep,
-)
-    requires plane { k < 3 }
-    requires size { n ≤ 16 }
-    requires columns { x + n ≤ (plane_of picture.old k).width }
-    requires rows { y + 8 ≤ (plane_of picture.old k).height }
-    ensures value { picture.new ≡ on_plane k (edge_lines down step n x y) picture.old }
-    ensures wide { (plane_of picture.new k).width ≡ (plane_of picture.old k).width }
-    ensures high { (plane_of picture.new k).height ≡ (plane_of picture.old k).height }
-{
-    let _height = picture.plane(k).height();
-    let lines = lines_down(picture.plane(k), x, y, n, step);
-    // the rows of p3 and q3 stay as they are
-    for r in 1..7 {
-        let row = pixel_row(&lines, r);
-        picture.write_run(k, x, y + r, &row[..n]);
-    }
-}
-
-/// Filters over the vertical edges inside a macroblock of `size` pixels each way.
-fn filter_inner_vertical_edges(
-    picture: &mut Picture,
-    k: usize,
-    size: usize,
-    x: usize,
-    y: usize,
-    step: LineStep,
-)
-    requires plane { k < 3 }
-    requires size { (8 ≤ size) × (size ≤ 16) }
-    requires columns { x + size ≤ (plane_of picture.old k).width }
-    requires rows { y + size ≤ (plane_of picture.old k).height }
-    ensures value { picture.new ≡ on_plane k (inner_edges along step size x y) picture.old }
-    ensures wide { (plane_of picture.new k).width ≡ (plane_of picture.old k).width }
-    ensures high { (plane_of picture.new k).height ≡ (plane_of picture.old k).height }
-{
-    let _width = picture.plane(k).width();
-    for i in 0..size / 4 - 1 {
-        filter_vertical_edge(picture, k, x + 4 * i, y, size, step);
-    }
-}
-
-/// Filters over the horizontal edges inside a macroblock of `size` pixels each way.
-fn filter_inner_horizontal_edges(
-    picture: &mut Picture,
-    k: usize,
-    size: usize,
-    x: usize,
-    y: usize,
-    step: LineStep,
-)
-    requires plane { k < 3 }
-    requires size { (8 ≤ size) × (size ≤ 16) }
-    requires columns { x + size ≤ (plane_of picture.old k).width }
-    requires rows { y + size ≤ (plane_of picture.old k).height }
-    ensures value { picture.new ≡ on_plane k (inner_edges down step size x y) picture.old }
-    ensures wide { (plane_of picture.new k).width ≡ (plane_of picture.old k).width }
-    ensures high { (plane_of picture.new k).height ≡ (plane_of picture.old k).height }
-{
-    let _height = picture.plane(k).height();
-    for i in 0..size / 4 - 1 {
-        filter_horizontal_edge(picture, k, x, y + 4 * i, size, step);
-    }
-}
-
-/// Filters over a macroblock's vertical edges, the left one unless the plane begins there.
+/// Filters over the vertical edges of a macroblock of luma, the left one unless the plane begins there.
 #[tactic(auto, unfolding(crate::specs::Edges::block_edges))]
-fn filter_all_vertical_edges(
-    picture: &mut Picture,
-    k: usize,
-    size: usize,
-    x: usize,
-    y: usize,
-    level: Level,
-)
-    requires plane { k < 3 }
-    requires size { (8 ≤ size) × (size ≤ 16) }
-    requires columns { x + size ≤ (plane_of picture.old k).width }
-    requires rows { y + size ≤ (plane_of picture.old k).height }
+fn filter_all_luma_along(picture: &mut Picture, x: usize, y: usize, level: Level)
+    requires columns { x + 16 ≤ picture.old.luma.width }
+    requires rows { y + 16 ≤ picture.old.luma.height }
     requires left { 0 < x → 4 ≤ x }
-    ensures value { picture.new ≡ on_plane k (block_edges along size level x y) picture.old }
-    ensures wide { (plane_of picture.new k).width ≡ (plane_of picture.old k).width }
-    ensures high { (plane_of picture.new k).height ≡ (plane_of picture.old k).height }
+    ensures value { picture.new ≡ on_luma (block_edges along 16 level x y) picture.old }
+    ensures wide { picture.new.luma.width ≡ picture.old.luma.width }
+    ensures high { picture.new.luma.height ≡ picture.old.luma.height }
 {
     if x > 0 {
-        filter_vertical_edge(picture, k, x - 4, y, size, level.outer_step());
+        filter_luma_along(picture, x - 4, y, level.outer_step());
     }
     if level.inner > 0 {
-        filter_inner_vertical_edges(picture, k, size, x, y, level.inner_step());
+        filter_inner_luma_along(picture, x, y, level.inner_step());
     }
 }
 
-/// Filters over a macroblock's horizontal edges, the top one unless the plane begins there.
+/// Filters over the horizontal edges of a macroblock of luma, the top one unless the plane begins there.
 #[tactic(auto, unfolding(crate::specs::Edges::block_edges))]
-fn filter_all_horizontal_edges(
-    picture: &mut Picture,
-    k: usize,
-    size: usize,
-    x: usize,
-    y: usize,
-    level: Level,
-)
-    requires plane { k < 3 }
-    requires size { (8 ≤ size) × (size ≤ 16) }
-    requires columns { x + size ≤ (plane_of picture.old k).width }
-    requires rows { y + size ≤ (plane_of picture.old k).height }
+fn filter_all_luma_down(picture: &mut Picture, x: usize, y: usize, level: Level)
+    requires columns { x + 16 ≤ picture.old.luma.width }
+    requires rows { y + 16 ≤ picture.old.luma.height }
     requires top { 0 < y → 4 ≤ y }
-    ensures value { picture.new ≡ on_plane k (block_edges down size level x y) picture.old }
-    ensures wide { (plane_of picture.new k).width ≡ (plane_of picture.old k).width }
-    ensures high { (plane_of picture.new k).height ≡ (plane_of picture.old k).height }
+    ensures value { picture.new ≡ on_luma (block_edges down 16 level x y) picture.old }
+    ensures wide { picture.new.luma.width ≡ picture.old.luma.width }
+    ensures high { picture.new.luma.height ≡ picture.old.luma.height }
 {
     if y > 0 {
-        filter_horizontal_edge(picture, k, x, y - 4, size, level.outer_step());
+        filter_luma_down(picture, x, y - 4, level.outer_step());
     }
     if level.inner > 0 {
-        filter_inner_horizontal_edges(picture, k, size, x, y, level.inner_step());
+        filter_inner_luma_down(picture, x, y, level.inner_step());
     }
 }
 
-/// Filters a macroblock of plane `k`, of `size` pixels each way, whose first pixel is at column `x` of row `y`.
+/// The same of both planes of colour, whose macroblocks have one edge of each way inside.
+#[tactic(auto, unfolding(crate::specs::Edges::block_edges))]
+fn filter_all_colours_along(picture: &mut Picture, x: usize, y: usize, level: Level)
+    requires u_columns { x + 8 ≤ picture.old.u.width }
+    requires u_rows { y + 8 ≤ picture.old.u.height }
+    requires v_columns { x + 8 ≤ picture.old.v.width }
+    requires v_rows { y + 8 ≤ picture.old.v.height }
+    requires left { 0 < x → 4 ≤ x }
+    ensures value { picture.new ≡ on_colours (block_edges along 8 level x y) picture.old }
+    ensures u_wide { picture.new.u.width ≡ picture.old.u.width }
+    ensures u_high { picture.new.u.height ≡ picture.old.u.height }
+    ensures v_wide { picture.new.v.width ≡ picture.old.v.width }
+    ensures v_high { picture.new.v.height ≡ picture.old.v.height }
+{
+    if x > 0 {
+        filter_colours_along(picture, x - 4, y, level.outer_step());
+    }
+    if level.inner > 0 {
+        filter_inner_colours_along(picture, x, y, level.inner_step());
+    }
+}
+
+#[tactic(auto, unfolding(crate::specs::Edges::block_edges))]
+fn filter_all_colours_down(picture: &mut Picture, x: usize, y: usize, level: Level)
+    requires u_columns { x + 8 ≤ picture.old.u.width }
+    requires u_rows { y + 8 ≤ picture.old.u.height }
+    requires v_columns { x + 8 ≤ picture.old.v.width }
+    requires v_rows { y + 8 ≤ picture.old.v.height }
+    requires top { 0 < y → 4 ≤ y }
+    ensures value { picture.new ≡ on_colours (block_edges down 8 level x y) picture.old }
+    ensures u_wide { picture.new.u.width ≡ picture.old.u.width }
+    ensures u_high { picture.new.u.height ≡ picture.old.u.height }
+    ensures v_wide { picture.new.v.width ≡ picture.old.v.width }
+    ensures v_high { picture.new.v.height ≡ picture.old.v.height }
+{
+    if y > 0 {
+        filter_colours_down(picture, x, y - 4, level.outer_step());
+    }
+    if level.inner > 0 {
+        filter_inner_colours_down(picture, x, y, level.inner_step());
+    }
+}
+
+/// Filters a macroblock of luma, whose first pixel is at column `x` of row `y`.
 #[tactic(auto, unfolding(crate::specs::Edges::block_filtered))]
-pub(crate) fn filter_block(
-    picture: &mut Picture,
-    k: usize,
-    size: usize,
-    x: usize,
-    y: usize,
-    level: Level,
-)
-    requires plane { k < 3 }
-    requires size { (8 ≤ size) × (size ≤ 16) }
-    requires columns { x + size ≤ (plane_of picture.old k).width }
-    requires rows { y + size ≤ (plane_of picture.old k).height }
+pub(crate) fn filter_luma(picture: &mut Picture, x: usize, y: usize, level: Level)
+    requires columns { x + 16 ≤ picture.old.luma.width }
+    requires rows { y + 16 ≤ picture.old.luma.height }
     requires left { 0 < x → 4 ≤ x }
     requires top { 0 < y → 4 ≤ y }
-    ensures { picture.new ≡ on_plane k (block_filtered size level x y) picture.old }
+    ensures { picture.new ≡ on_luma (block_filtered 16 level x y) picture.old }
 {
     if level.edge > 0 {
-        filter_all_vertical_edges(picture, k, size, x, y, level);
-        filter_all_horizontal_edges(picture, k, size, x, y, level);
+        filter_all_luma_along(picture, x, y, level);
+        filter_all_luma_down(picture, x, y, level);
+    }
+}
+
+/// Filters a macroblock of both planes of colour, whose first pixels are at column `x` of row `y`.
+#[tactic(auto, unfolding(crate::specs::Edges::block_filtered))]
+pub(crate) fn filter_colours(picture: &mut Picture, x: usize, y: usize, level: Level)
+    requires u_columns { x + 8 ≤ picture.old.u.width }
+    requires u_rows { y + 8 ≤ picture.old.u.height }
+    requires v_columns { x + 8 ≤ picture.old.v.width }
+    requires v_rows { y + 8 ≤ picture.old.v.height }
+    requires left { 0 < x → 4 ≤ x }
+    requires top { 0 < y → 4 ≤ y }
+    ensures { picture.new ≡ on_colours (block_filtered 8 level x y) picture.old }
+{
+    if level.edge > 0 {
+        filter_all_colours_along(picture, x, y, level);
+        filter_all_colours_down(picture, x, y, level);
     }
 }

@@ -2,10 +2,10 @@
 
 ghost use Rattle.std.specs.Prelude.{◌≡◌, ℕ, ◌+◌, ◌*◌, ◌/◌, ◌<◌, ◌≤◌, length};
 ghost use Rattle.vp_base.specs.Image.{Image, macroblocks, plane_of, with_plane};
-ghost use Rattle.vp_loop.specs.Edges.{block_filtered, on_plane};
+ghost use Rattle.vp_loop.specs.Edges.{block_filtered, on_luma, on_colours};
 ghost use Rattle.vp_loop.specs.Filtered.{macroblock_filtered, row_filtered, row_levels, filtered};
 
-use crate::edges::filter_block;
+use crate::edges::{filter_colours, filter_luma};
 use crate::strength::Level;
 use vp_base::Picture;
 
@@ -16,10 +16,9 @@ fn filter_macroblock(picture: &mut Picture, level: Level, column: usize, row: us
     ensures { picture.new ≡ macroblock_filtered level column row picture.old }
 {
     let _dim = picture.dim();
-    filter_block(picture, 0, 16, 16 * column, 16 * row, level);
+    filter_luma(picture, 16 * column, 16 * row, level);
     if level.interior > 0 {
-        filter_block(picture, 1, 8, 8 * column, 8 * row, level);
-        filter_block(picture, 2, 8, 8 * column, 8 * row, level);
+        filter_colours(picture, 8 * column, 8 * row, level);
     }
 }
 
@@ -45,6 +44,25 @@ pub fn filter_picture(picture: &mut Picture, levels: &[Level])
 {
     let rows = usize::from(picture.dim().mb_rows());
     for row in 0..rows {
+        filter_row(picture, levels, row);
+    }
+}
+
+/// What filters a picture a row of macroblocks at a time.
+pub trait RowFilter {
+    /// Does what [`filter_row`] does.
+    fn row(&mut self, picture: &mut Picture, levels: &[Level], row: usize)
+        requires row { row < macroblocks picture.old.height }
+        requires levels { row * macroblocks picture.old.width + macroblocks picture.old.width ≤ length levels.now }
+        ensures { picture.new ≡ row_filtered (row_levels levels.now (macroblocks picture.old.width) row) row picture.old };
+}
+
+/// The filter of this crate.
+#[derive(Clone, Copy, Debug, PartialEq, Eq)]
+pub struct Lanes;
+
+impl RowFilter for Lanes {
+    fn row(&mut self, picture: &mut Picture, levels: &[Level], row: usize) {
         filter_row(picture, levels, row);
     }
 }

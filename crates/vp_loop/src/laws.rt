@@ -1,5 +1,5 @@
 //! What holds of line steps and rows of macroblocks, whatever their pixels are.
-ghost use Rattle.vp_loop.specs.Laws.{DisjointStepsCommute, EdgesAtOnce, RowKeepsBelow, RowReadsAbove, RowsKeepSizes};
+ghost use Rattle.vp_loop.specs.Laws.{DisjointStepsCommute, EdgesAtOnce, PlanesCommute, EdgeByEdge, RowKeepsBelow, RowReadsAbove, RowKeepsAbove, RowKeepsSize, RowKeepsAligned, RowKeepsWhole};
 
 /// Line steps that share no pixel may change places.
 pub fn disjoint_steps_commute()
@@ -11,9 +11,26 @@ pub fn edge_at_once()
     ensures { EdgesAtOnce }
 {}
 
-/// Filtering a row of macroblocks neither reads nor changes the pixels below it, and keeps all sizes.
+/// Work on two planes may change places, so that a macroblock may be filtered plane by plane or edge by edge.
+pub fn planes_commute()
+    ensures commute { PlanesCommute }
+    ensures edges { EdgeByEdge }
+{}
+
+/// Filtering a row of macroblocks neither reads nor changes the pixels below it.
 pub fn rows_below_are_kept()
     ensures keeps { RowKeepsBelow }
     ensures reads { RowReadsAbove }
-    ensures sizes { RowsKeepSizes }
+{}
+
+/// Filtering a row of macroblocks changes at most three rows of pixels above it: rows further up are final.
+pub fn rows_above_are_final()
+    ensures { RowKeepsAbove }
+{}
+
+/// Filtering a row of macroblocks keeps all sizes.
+pub fn sizes_are_kept()
+    ensures sizes { RowKeepsSize }
+    ensures aligned { RowKeepsAligned }
+    ensures whole { RowKeepsWhole }
 {}

@@ -3,13 +3,21 @@
 
 mod edges;
 mod frame;
+mod lanes;
 mod laws;
 mod lines;
+#[cfg(test)]
+mod plain;
+mod store;
 mod strength;
 #[cfg(test)]
 mod tests;
+mod turn;
 
-pub use frame::{filter_picture, filter_row};
-pub use laws::{disjoint_steps_commute, edge_at_once, rows_below_are_kept};
+pub use frame::{Lanes, RowFilter, filter_picture, filter_row};
+pub use laws::{
+    disjoint_steps_commute, edge_at_once, planes_commute, rows_above_are_final,
+    rows_below_are_kept, sizes_are_kept,
+};
 pub use lines::{EdgeKind, Line, LineStep};
 pub use strength::{Level, MacroblockKind, Prediction, levels};

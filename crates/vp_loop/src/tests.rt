@@ -1,4 +1,8 @@
+ghost use Rattle.std.specs.Prelude.{◌≡◌, ◌*◌, ◌<◌, ◌≤◌, IsTrue, ◌↔◌};
+ghost use Rattle.vp_base.specs.Image.{macroblocks};
+
 use super::*;
+use std::alloc::{AllocError, Global};
 use std::test::Fail;
 use vp_base::{Dim, Limits, Picture};
 use vp_bool::BoolDecoder;
@@ -105,6 +109,100 @@ fn filter_two_macroblocks(rt: HostRuntime) -> Result<(), Fail> {
     for y in 0..8 {
         assert_eq!(rt; picture.plane(1).row(y), [128; 16].as_slice());
         assert_eq!(rt; picture.plane(2).row(y), [128; 16].as_slice());
+    }
+    Ok(())
+}
+
+/// Fills a row with (17 x + 31 y) mod 256.
+fn fill(row: &mut [u8], y: usize) {
+    for x in 0..row.len() {
+        row[x] = (x.wrapping_mul(17).wrapping_add(y.wrapping_mul(31)) % 256) as u8;
+    }
+}
+
+fn fill_plane(picture: &mut Picture, k: usize)
+    requires { k < 3 }
+{
+    let height = picture.plane(k).height();
+    for y in 0..height {
+        if y < picture.plane(k).height() {
+            fill(picture.row_mut(k, y), y);
+        }
+    }
+}
+
+/// Plane and row of the first difference.
+fn first_difference(a: &Picture, b: &Picture) -> Option<(usize, usize)> {
+    for k in 0..3 {
+        let height = a.plane(k).height().min(b.plane(k).height());
+        for y in 0..height {
+            if a.plane(k).row(y) != b.plane(k).row(y) {
+                return Some((k, y));
+            }
+        }
+    }
+    None
+}
+
+/// Where the lanes and the plain filter differ on a picture of that size.
+fn difference(alloc: Global, dim: Dim, level: Level) -> Result<Option<(usize, usize)>, AllocError> {
+    let mut picture = Picture::new(alloc, dim, 0)?;
+    for k in 0..3 {
+        fill_plane(&mut picture, k);
+    }
+    let mut other = picture.copy(alloc)?;
+    let all = [level; 9];
+    if picture_fits(&picture) && picture_fits(&other) {
+        filter_picture(&mut picture, &all);
+        plain::filter_picture(&mut other, &all);
+    }
+    Ok(first_difference(&picture, &other))
+}
+
+/// Whether nine levels are enough.
+fn picture_fits(picture: &Picture) -> bool
+    ensures { IsTrue result ↔ (macroblocks picture.now.height * macroblocks picture.now.width ≤ 9) }
+{
+    let dim = picture.dim();
+    usize::from(dim.mb_rows()) * usize::from(dim.mb_cols()) <= 9
+}
+
+/// Where they differ for some sharpness, type and kind of frame.
+fn difference_at(
+    alloc: Global,
+    dim: Dim,
+    strength: u8,
+) -> Result<Option<(usize, usize)>, AllocError> {
+    for sharpness in [0, 1, 5, 7] {
+        for (simple, key) in [(false, true), (false, false), (true, true)] {
+            let mut header = header(dim);
+            header.filter.level = strength;
+            header.filter.sharpness = sharpness;
+            header.filter.simple = simple;
+            header.key = key;
+            let kind = MacroblockKind {
+                reference: Reference::Intra,
+                prediction: Prediction::Subblocks,
+                coded: true,
+            };
+            let found = difference(alloc, dim, levels(&header, 0, &kind))?;
+            if found.is_some() {
+                return Ok(found);
+            }
+        }
+    }
+    Ok(None)
+}
+
+#[test]
+fn lanes_filter_as_lines(rt: HostRuntime) -> Result<(), Fail> {
+    for (width, height) in [(1, 48), (15, 17), (16, 33), (17, 16), (33, 1), (48, 15)] {
+        let Ok(dim) = Dim::new(width, height, &Limits::usual()) else {
+            panic!(rt; "the size is refused");
+        };
+        for strength in [0, 1, 16, 63] {
+            assert_eq!(rt; difference_at(rt.alloc(), dim, strength)?, None);
+        }
     }
     Ok(())
 }

@@ -1,5 +1,7 @@
 -- What a macroblock says of itself, in the order in which it is read (RFC 6386, chapter 19.3).
-use Rattle.std.specs.Prelude.{ℕ, Bool, true, false, not, List, replicate, slice_set, Option, Some, None, if◌then◌else◌}
+use Rattle.std.specs.Prelude.{ℕ, Bool, false, not, List, replicate, slice_set, Option, Some, None, if◌then◌else◌}
+use Rattle.vp_base.specs.declared.place.Place.{Place}
+use Rattle.vp_base.specs.Grid.{Grid, at}
 use Rattle.vp_bool.specs.Bools.{read}
 use Rattle.vp_bool.specs.Reader.{Reader, ◌>>=◌, give, when, rows}
 use Rattle.vp_tree.specs.Tree.{walk_from}
@@ -11,13 +13,15 @@ use Rattle.vp_tables.specs.declared.modes.LumaMode.TheVariants as luma_is
 use Rattle.vp_tables.specs.declared.modes.SubMode.{SubMode}
 use Rattle.vp_tables.specs.declared.modes.SubMode.TheVariants as sub_is
 use Rattle.vp_tables.specs.declared.trees.TheConstants.{CHROMA_TREE, KEY_LUMA_TREE, LUMA_TREE, SEGMENT_TREE, SUB_TREE}
+use Rattle.vp_tables.specs.Modes.{is_by_subblocks}
 use Rattle.vp_tables.specs.Tables.{key_sub_probabilities}
 use Rattle.vp_head.specs.declared.fields.Header.{Header}
 use Rattle.vp_head.specs.declared.fields.Reference.{Reference}
 use Rattle.vp_head.specs.declared.fields.Reference.TheVariants as reference_is
 use Rattle.vp_head.specs.declared.fields.ReferenceProbabilities.{ReferenceProbabilities}
-use Rattle.vp_modes.specs.declared.entry.Modes.{Modes}
-use Rattle.vp_modes.specs.Map.{Grid, at, has_subblock_modes, context_above, context_left}
+use Rattle.vp_head.specs.Reference.{is_intra}
+use Rattle.vp_modes.specs.Entry.{Modes, plain}
+use Rattle.vp_modes.specs.Map.{context_above, context_left}
 
 -- the segment by its tree (chapter 10)
 unfoldable pub segment_id : List ℕ → Reader ℕ
@@ -50,12 +54,6 @@ reference_of h = do
   inter ← when (not h.key) (read h.references.intra) false
   when inter (inter_reference h.references) reference_is.Intra
 
-abbrev pub is_intra : Reference → Bool
-is_intra reference_is.Intra = true
-is_intra reference_is.Last = false
-is_intra reference_is.Golden = false
-is_intra reference_is.Alt = false
-
 -- the luma mode of an intra macroblock (chapters 11.2, 16.1)
 unfoldable pub luma_mode : Header → Reader LumaMode
 luma_mode h = if h.key then walk_from luma_is.Dc KEY_LUMA_TREE KEY_LUMA_PROBABILITIES 0 else walk_from luma_is.Dc LUMA_TREE h.probabilities.luma 0
@@ -65,43 +63,43 @@ unfoldable pub chroma_mode : Header → Reader ChromaMode
 chroma_mode h = walk_from chroma_is.Dc CHROMA_TREE (if h.key then KEY_CHROMA_PROBABILITIES else h.probabilities.chroma) 0
 
 -- In a key frame the modes above and to the left choose the probabilities of a subblock's mode; in an inter frame they are fixed (chapters 11.3, 16.1).
-unfoldable pub sub_probabilities : Header → Grid → ℕ → ℕ → List SubMode → ℕ → List ℕ
-sub_probabilities h g x y found k =
-    if h.key then key_sub_probabilities (context_above g x y found k) (context_left g x y found k) else SUB_PROBABILITIES
+unfoldable pub sub_probabilities : Header → Grid Modes → Place → List SubMode → ℕ → List ℕ
+sub_probabilities h g p found k =
+    if h.key then key_sub_probabilities (context_above g p found k) (context_left g p found k) else SUB_PROBABILITIES
 
 unfoldable pub sub_mode : List ℕ → Reader SubMode
 sub_mode probabilities = walk_from sub_is.Dc SUB_TREE probabilities 0
 
 -- the mode of subblock k, where those before it are found
-unfoldable pub sub_row : Header → Grid → ℕ → ℕ → ℕ → List SubMode → Reader (List SubMode)
-sub_row h g x y k found = do
-  mode ← sub_mode (sub_probabilities h g x y found k)
+unfoldable pub sub_row : Header → Grid Modes → Place → ℕ → List SubMode → Reader (List SubMode)
+sub_row h g p k found = do
+  mode ← sub_mode (sub_probabilities h g p found k)
   give (slice_set found k mode)
 
--- the sixteen modes of the macroblock at x, y
-unfoldable pub sub_modes : Header → Grid → ℕ → ℕ → Reader (List SubMode)
-sub_modes h g x y = rows 16 (sub_row h g x y) (replicate 16 sub_is.Dc)
+-- the sixteen modes of the macroblock at p
+unfoldable pub sub_modes : Header → Grid Modes → Place → Reader (List SubMode)
+sub_modes h g p = rows 16 (sub_row h g p) (replicate 16 sub_is.Dc)
 
 -- the modes of an intra macroblock, whose subblocks have modes of their own where its luma mode is B_PRED
-unfoldable pub intra_modes : Header → Grid → ℕ → ℕ → Modes → Reader Modes
-intra_modes h g x y m = do
+unfoldable pub intra_modes : Header → Grid Modes → Place → Modes → Reader Modes
+intra_modes h g p m = do
   luma ← luma_mode h
-  subs ← when (has_subblock_modes luma) (sub_modes h g x y) (replicate 16 sub_is.Dc)
+  subs ← when (is_by_subblocks luma) (sub_modes h g p) (replicate 16 sub_is.Dc)
   chroma ← chroma_mode h
   give (record m { luma = luma; subs = subs; chroma = chroma })
 
 -- An inter macroblock's modes are read with its vectors.
-unfoldable pub prediction : Header → Grid → ℕ → ℕ → Modes → Reader Modes
-prediction h g x y m = when (is_intra m.reference) (intra_modes h g x y m) m
+unfoldable pub prediction : Header → Grid Modes → Place → Modes → Reader Modes
+prediction h g p m = when (is_intra m.reference) (intra_modes h g p m) m
 
 -- with DC modes
 abbrev pub unread : ℕ → Bool → Reference → Modes
 unread segment skip reference = record { segment = segment; skip = skip; reference = reference; luma = luma_is.Dc; subs = replicate 16 sub_is.Dc; chroma = chroma_is.Dc }
 
--- what the macroblock at x, y says of itself, where g has the modes of this frame's macroblocks before it, and at x, y those of the frame before
-unfoldable pub modes_at : Header → Grid → ℕ → ℕ → Reader Modes
-modes_at h g x y = do
-  segment ← segment_of h (at g x y).segment
+-- what the macroblock at p says of itself, where g has the modes of this frame's macroblocks before it, and at p those of the frame before
+unfoldable pub modes_at : Header → Grid Modes → Place → Reader Modes
+modes_at h g p = do
+  segment ← segment_of h (at plain g p).segment
   skip ← skip_by h.skip
   reference ← reference_of h
-  prediction h g x y (unread segment skip reference)
+  prediction h g p (unread segment skip reference)

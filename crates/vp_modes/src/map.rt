@@ -1,10 +1,15 @@
-ghost use Rattle.std.specs.Prelude.{◌≡◌, ℕ, ◌+◌, ◌*◌, ◌/◌, ◌<◌, ◌≤◌, IfOk};
-ghost use Rattle.vp_modes.specs.Map.{at, with_entry, with_place, IsWhole, new_grid};
+ghost use Rattle.std.specs.Prelude.{◌≡◌, ◌≢◌, ◌<◌, ◌≤◌, Some, IfOk};
+ghost use Rattle.vp_base.specs.declared.place.Place.{Place};
+ghost use Rattle.vp_base.specs.Grid.{Has, all, entry, with_entry};
+ghost use Rattle.vp_base.specs.Image.{macroblocks};
+ghost use Rattle.vp_modes.specs.Entry.{plain, plain_of};
+ghost use Rattle.vp_modes.specs.Map.{of_segments, segments_of};
 
-use crate::entry::{Modes, Place};
+use crate::entry::Modes;
+use crate::segment::Segment;
 use std::alloc::{AllocError, Global};
 use std::marker::Model;
-use vp_base::Dim;
+use vp_base::{Dim, Grid, Place};
 use vp_head::Reference;
 use vp_tables::{ChromaMode, LumaMode, SubMode};
 
@@ -17,59 +22,85 @@ const PLAIN: Modes = Modes {
     chroma: ChromaMode::Dc,
 };
 
-/// The modes of each macroblock of a frame, row after row.
+/// The modes of each macroblock of a frame.
 #[derive(Drop)]
 pub struct ModeMap {
-    cols: usize,
-    rows: usize,
-    entries: Vec<Modes>,
+    grid: Grid<Modes>,
 }
 
 impl Model for ModeMap {
-    ghost use Rattle.std.specs.Prelude.{◌≡◌, ◌*◌, ◌≤◌, vec_len};
-    ghost use Rattle.vp_modes.specs.Map.{Grid, AreSegments};
+    ghost use Rattle.vp_base.specs.Grid.{Grid};
+    ghost use Rattle.vp_modes.specs.Entry.{Modes};
 
-    ghost Value = { Grid };
+    ghost Value = { Grid Modes };
 
-    ghost view = { λ m. record { cols = m.cols; rows = m.rows; entries = m.entries.items } };
+    ghost view = { λ m. m.grid };
+}
 
-    ghost invariant = { λ m. (vec_len m.entries ≡ m.rows * m.cols) × (m.cols ≤ 1024) × (m.rows ≤ 1024) × AreSegments m.entries.items };
+/// Plain, but of this segment.
+#[tactic(auto, unfolding(crate::specs::Entry::plain))]
+fn plain_of(segment: Segment) -> Modes
+    ensures { result ≡ plain_of segment }
+{
+    Modes {
+        segment: segment.number,
+        ..PLAIN
+    }
 }
 
 impl ModeMap {
     /// A map for frames of this size, in which every macroblock is intra, not skipped, of segment 0 and with DC modes.
-    #[tactic(auto, unfolding(crate::specs::Map::all_plain, crate::specs::Map::plain))]
+    #[tactic(auto, unfolding(crate::specs::Entry::plain))]
     pub fn new(alloc: Global, dim: Dim) -> Result<ModeMap, AllocError>
-        ensures { IfOk result (λ m. m ≡ new_grid ((dim.w + 15) / 16) ((dim.h + 15) / 16)) }
+        ensures { IfOk result (λ m. m ≡ all (macroblocks dim.w) (macroblocks dim.h) plain) }
     {
-        let cols = usize::from(dim.mb_cols());
+        let columns = usize::from(dim.mb_cols());
         let rows = usize::from(dim.mb_rows());
-        let entries = vec![in alloc; PLAIN; rows * cols]?;
-        Ok(ModeMap {
-            cols,
-            rows,
-            entries,
-        })
+        let grid = Grid::new(alloc, columns, rows, PLAIN)?;
+        Ok(ModeMap { grid })
     }
 
     /// An equal map.
     pub fn copy(&self, alloc: Global) -> Result<ModeMap, AllocError>
         ensures { IfOk result (λ m. m ≡ self.now) }
     {
-        let entries = Vec::from_slice(alloc, &self.entries)?;
-        Ok(ModeMap {
-            cols: self.cols,
-            rows: self.rows,
-            entries,
-        })
+        let grid = self.grid.copy(alloc)?;
+        Ok(ModeMap { grid })
+    }
+
+    /// A map for the next frame: every macroblock is plain, but of the segment that it had (chapter 9.3).
+    pub fn of_segments(alloc: Global, segments: &Grid<Segment>) -> Result<ModeMap, AllocError>
+        ensures { IfOk result (λ m. m ≡ of_segments segments.now) }
+    {
+        let kept = segments.as_slice();
+        let mut entries = Vec::with_capacity(alloc, kept.len())?;
+        for segment in kept {
+            entries.push(plain_of(*segment))?;
+        }
+        let grid = Grid::of(segments.columns(), segments.rows(), entries);
+        Ok(ModeMap { grid })
+    }
+
+    /// The segments of the macroblocks.
+    pub fn segments(&self, alloc: Global) -> Result<Grid<Segment>, AllocError>
+        ensures { IfOk result (λ g. g ≡ segments_of self.now) }
+    {
+        let entries = self.grid.as_slice();
+        let mut segments = Vec::with_capacity(alloc, entries.len())?;
+        for modes in entries {
+            segments.push(Segment {
+                number: modes.segment,
+            })?;
+        }
+        Ok(Grid::of(self.columns(), self.rows(), segments))
     }
 
     /// How many macroblocks a row has.
-    pub fn cols(&self) -> usize
-        ensures value { result ≡ self.now.cols }
+    pub fn columns(&self) -> usize
+        ensures value { result ≡ self.now.columns }
         ensures bound { result ≤ 1024 }
     {
-        self.cols
+        self.grid.columns()
     }
 
     /// How many rows of macroblocks there are.
@@ -77,40 +108,24 @@ impl ModeMap {
         ensures value { result ≡ self.now.rows }
         ensures bound { result ≤ 1024 }
     {
-        self.rows
+        self.grid.rows()
     }
 
     /// The modes at a place.
-    #[tactic(auto, unfolding(crate::specs::Map::at))]
     pub fn get(&self, place: Place) -> &Modes
-        requires column { place.column < self.now.cols }
-        requires row { place.row < self.now.rows }
-        ensures value { result.now ≡ at self.now place.column place.row }
-        ensures segment { result.now.segment < 4 }
+        requires { Has self.now place }
+        ensures { entry self.now place ≡ Some result.now }
     {
-        &self.entries[place.row * self.cols + place.column]
-    }
-
-    fn put(&mut self, place: Place, modes: &Modes)
-        requires column { place.column < self.old.cols }
-        requires row { place.row < self.old.rows }
-        requires segment { modes.now.segment < 4 }
-        ensures entries { self.new ≡ with_place self.old place.column place.row modes.now }
-        ensures whole { IsWhole self.old }
-    {
-        let at = place.row * self.cols + place.column;
-        self.entries[at] = *modes;
+        self.grid.get(place)
     }
 
     /// Changes the modes at a place, and at no other.
     pub fn set(&mut self, place: Place, modes: &Modes)
-        requires column { place.column < self.old.cols }
-        requires row { place.row < self.old.rows }
-        requires segment { modes.now.segment < 4 }
-        ensures entries { self.new ≡ with_entry self.old place.column place.row modes.now }
-        ensures here { at self.new place.column place.row ≡ modes.now }
-        ensures elsewhere { (x y : ℕ) → x < self.old.cols → y < self.old.rows → ((x ≡ place.column) × (y ≡ place.row) → ⊥) → at self.new x y ≡ at self.old x y }
+        requires { Has self.old place }
+        ensures changed { self.new ≡ with_entry self.old place modes.now }
+        ensures here { entry self.new place ≡ Some modes.now }
+        ensures elsewhere { (p : Place) → p ≢ place → entry self.new p ≡ entry self.old p }
     {
-        self.put(place, modes);
+        self.grid.set(place, *modes);
     }
 }

@@ -1,12 +1,14 @@
 ghost use Rattle.std.specs.Prelude.{◌≡◌, ◌<◌, replicate};
+ghost use Rattle.vp_base.specs.Grid.{Has};
 ghost use Rattle.vp_bool.specs.Reader.{when};
 ghost use Rattle.vp_tree.specs.Tree.{walk_from};
-ghost use Rattle.vp_modes.specs.Map.{has_subblock_modes};
-ghost use Rattle.vp_modes.specs.Modes.{segment_id, segment_of, skip_by, is_intra, inter_reference, reference_of, luma_mode, chroma_mode, sub_mode, sub_probabilities, sub_modes, intra_modes, prediction, modes_at};
+ghost use Rattle.vp_tables.specs.Modes.{is_by_subblocks};
+ghost use Rattle.vp_modes.specs.Modes.{segment_id, segment_of, skip_by, inter_reference, reference_of, luma_mode, chroma_mode, sub_mode, sub_probabilities, sub_modes, intra_modes, prediction, modes_at};
 
 use crate::contexts::{mode_above, mode_left};
-use crate::entry::{Modes, Place};
+use crate::entry::Modes;
 use crate::map::ModeMap;
+use vp_base::Place;
 use vp_bool::BoolDecoder;
 use vp_head::{Header, Reference, ReferenceProbabilities};
 use vp_tables::{
@@ -131,10 +133,9 @@ fn probabilities_of(
     found: &[SubMode; 16],
     k: usize,
 ) -> &'static [u8; 9]
-    requires column { place.column < map.now.cols }
-    requires row { place.row < map.now.rows }
+    requires place { Has map.now place }
     requires sub { k < 16 }
-    ensures { result.now ≡ sub_probabilities header.now map.now place.column place.row found.now k }
+    ensures { result.now ≡ sub_probabilities header.now map.now place found.now k }
 {
     if header.key {
         key_sub_probabilities(
@@ -156,10 +157,9 @@ fn read_sub(probabilities: &[u8; 9], d: &mut BoolDecoder) -> SubMode
 
 /// The modes of the subblocks of the macroblock at a place.
 fn read_subs(header: &Header, map: &ModeMap, place: Place, d: &mut BoolDecoder) -> [SubMode; 16]
-    requires column { place.column < map.now.cols }
-    requires row { place.row < map.now.rows }
-    ensures value { result ≡ (sub_modes header.now map.now place.column place.row d.old).0 }
-    ensures rest { d.new ≡ (sub_modes header.now map.now place.column place.row d.old).1 }
+    requires { Has map.now place }
+    ensures value { result ≡ (sub_modes header.now map.now place d.old).0 }
+    ensures rest { d.new ≡ (sub_modes header.now map.now place d.old).1 }
 {
     let mut found = [SubMode::Dc; 16];
     for k in 0..16 {
@@ -167,18 +167,6 @@ fn read_subs(header: &Header, map: &ModeMap, place: Place, d: &mut BoolDecoder) 
         found[k] = read_sub(probabilities, d);
     }
     found
-}
-
-fn is_by_subblocks(mode: LumaMode) -> bool
-    ensures { result ≡ has_subblock_modes mode }
-{
-    matches!(mode, LumaMode::B)
-}
-
-fn is_intra_reference(reference: Reference) -> bool
-    ensures { result ≡ is_intra reference }
-{
-    matches!(reference, Reference::Intra)
 }
 
 /// The modes of the subblocks where each has one, else DC.
@@ -189,12 +177,11 @@ fn read_subs_of(
     place: Place,
     d: &mut BoolDecoder,
 ) -> [SubMode; 16]
-    requires column { place.column < map.now.cols }
-    requires row { place.row < map.now.rows }
-    ensures value { result ≡ (when (has_subblock_modes luma) (sub_modes header.now map.now place.column place.row) (replicate 16 SubMode.Dc) d.old).0 }
-    ensures rest { d.new ≡ (when (has_subblock_modes luma) (sub_modes header.now map.now place.column place.row) (replicate 16 SubMode.Dc) d.old).1 }
+    requires { Has map.now place }
+    ensures value { result ≡ (when (is_by_subblocks luma) (sub_modes header.now map.now place) (replicate 16 SubMode.Dc) d.old).0 }
+    ensures rest { d.new ≡ (when (is_by_subblocks luma) (sub_modes header.now map.now place) (replicate 16 SubMode.Dc) d.old).1 }
 {
-    if is_by_subblocks(luma) {
+    if luma.is_by_subblocks() {
         read_subs(header, map, place, d)
     } else {
         [SubMode::Dc; 16]
@@ -210,11 +197,9 @@ fn read_intra(
     modes: Modes,
     d: &mut BoolDecoder,
 ) -> Modes
-    requires column { place.column < map.now.cols }
-    requires row { place.row < map.now.rows }
-    ensures value { result ≡ (intra_modes header.now map.now place.column place.row modes d.old).0 }
-    ensures rest { d.new ≡ (intra_modes header.now map.now place.column place.row modes d.old).1 }
-    ensures segment { result.segment ≡ modes.segment }
+    requires { Has map.now place }
+    ensures value { result ≡ (intra_modes header.now map.now place modes d.old).0 }
+    ensures rest { d.new ≡ (intra_modes header.now map.now place modes d.old).1 }
 {
     let luma = read_luma(header, d);
     let subs = read_subs_of(luma, header, map, place, d);
@@ -236,13 +221,11 @@ fn read_prediction(
     modes: Modes,
     d: &mut BoolDecoder,
 ) -> Modes
-    requires column { place.column < map.now.cols }
-    requires row { place.row < map.now.rows }
-    ensures value { result ≡ (prediction header.now map.now place.column place.row modes d.old).0 }
-    ensures rest { d.new ≡ (prediction header.now map.now place.column place.row modes d.old).1 }
-    ensures segment { result.segment ≡ modes.segment }
+    requires { Has map.now place }
+    ensures value { result ≡ (prediction header.now map.now place modes d.old).0 }
+    ensures rest { d.new ≡ (prediction header.now map.now place modes d.old).1 }
 {
-    if is_intra_reference(modes.reference) {
+    if modes.reference.is_intra() {
         read_intra(header, map, place, modes, d)
     } else {
         modes
@@ -253,13 +236,12 @@ fn read_prediction(
 /// the place itself those of the frame before, whose segment may be kept.
 #[tactic(auto, unfolding(crate::specs::Modes::modes_at, vp_bool::specs::Reader::bind))]
 pub fn read_modes(header: &Header, map: &ModeMap, place: Place, d: &mut BoolDecoder) -> Modes
-    requires column { place.column < map.now.cols }
-    requires row { place.row < map.now.rows }
-    ensures value { result ≡ (modes_at header.now map.now place.column place.row d.old).0 }
-    ensures rest { d.new ≡ (modes_at header.now map.now place.column place.row d.old).1 }
-    ensures segment { result.segment < 4 }
+    requires { Has map.now place }
+    ensures value { result ≡ (modes_at header.now map.now place d.old).0 }
+    ensures rest { d.new ≡ (modes_at header.now map.now place d.old).1 }
 {
-    let segment = read_segment(header, map.get(place).segment, d);
+    let before = map.get(place);
+    let segment = read_segment(header, before.segment, d);
     let skip = read_skip(header.skip, d);
     let reference = read_reference(header, d);
     let unread = Modes {

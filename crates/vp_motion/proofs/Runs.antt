@@ -1,16 +1,18 @@
 -- Entries of neighbours.
-use Rattle.std.proofs.Common.{◌≡◌, ◌∙◌, ℕ, zero, suc, ◌+◌, ◌*◌, ◌<◌, ◌≤◌, Bool, true, false, cond, List, [], ◌∷◌, ◌++◌, length, get_or, replicate, take, refl, ap, sym, subst, arith, rules, inl, inr, ℤ, pos, negsuc, add_assoc, append_assoc}
-use Rattle.std.proofs.lemmas.List.{append-nil, get_or-replicate, get_or_default, get_or_past, length-replicate}
-use Rattle.std.proofs.lemmas.Bool.{cases_Bool, cases_lt, and_parts, eqb-true, false≢true}
-use Rattle.std.proofs.lemmas.Int.{ints}
-use Rattle.vp_motion.specs.declared.vector.Vector.{Vector}
+use Rattle.std.proofs.Common.{◌≡◌, ◌∙◌, ℕ, zero, suc, ◌+◌, ◌*◌, ◌<◌, ◌≤◌, Bool, true, false, cond, List, [], ◌∷◌, ◌++◌, length, get_or, take, refl, ap, sym, arith, inl, inr, ℤ, pos, negsuc, add_assoc, append_assoc}
+use Rattle.std.proofs.lemmas.List.{append-nil, get_or_default}
+use Rattle.std.proofs.lemmas.Bool.{cases_Bool, and_parts, eqb-true, false≢true}
 use Rattle.vp_motion.specs.declared.vector.Weighted.{Weighted}
 use Rattle.vp_head.specs.declared.fields.Reference.{Reference}
 use Rattle.vp_head.specs.declared.fields.SignBiases.{SignBiases}
-use Rattle.vp_motion.specs.declared.vector.Entry.{Entry}
+use Rattle.vp_base.specs.declared.place.Place.{Place}
+use Rattle.vp_base.specs.Place.{above, left, corner}
+use Rattle.vp_base.specs.Grid.{Grid, look}
+use Rattle.vp_motion.specs.Vector.{Vector, Entry, still}
 use Rattle.std.specs.Int.{from_bool}
-use Rattle.vp_motion.specs.Map.{VectorGrid, still, intra, is_intra, AllSmall, AreSmall, IsSmall, IsWithin}
-use Rattle.vp_motion.specs.Near.{from_entries, within, candidates, split_count, splits, same, same_number, still_weight, moving, onto, runs, neighbours, above, left, corner, joined, total, nobody, counted, seen, AreHeavy, IsTally}
+use Rattle.vp_head.specs.Reference.{is_intra}
+use Rattle.vp_motion.specs.Map.{intra}
+use Rattle.vp_motion.specs.Near.{from_entries, within, candidates, split_count, splits, same, same_number, still_weight, moving, onto, runs, neighbours, joined, total, nobody, counted, seen, AreHeavy, IsTally}
 
 -- the last entry, and one more
 pub joined-last : (es : List Weighted) (n : ℕ) (w : Weighted) → length es ≡ n + 1 → same (get_or es n nobody).vector w.vector ≡ true
@@ -130,46 +132,25 @@ tally-moving ws count es fs r b n e h s j t = rw h (let w : Weighted = record { 
   entries = j ∙ ap (λ (l : List Weighted). joined l w) t.entries ∙ sym (ap runs (moving-push ws w ∙ ap (λ (x : Bool). cond x (moving ws) (moving ws ++ w ∷ [])) s) ∙ runs-push (moving ws) w);
 })
 
-pub still_itself : IsSmall still
-still_itself = record { low_row = search rules; high_row = search rules; low_column = search rules; high_column = search rules }
-
-pub all_small : (n b : ℕ) (v : Vector) → IsSmall v → IsSmall (get_or (replicate n v) b still)
-all_small n b v small = elim (cases_lt b n) [
-  | inl p ↦ rw (get_or-replicate n b v still p) small
-  | inr q ↦ rw (get_or_past (replicate n v) b still (let l : length (replicate n v) ≡ n = length-replicate n v in omega arith)) still_itself
-]
-
-pub still_small : (n b : ℕ) → IsSmall (get_or (replicate n still) b still)
-still_small n b = all_small n b still still_itself
-
-pub small_within : (v : Vector) → IsWithin 65536 v → IsSmall v
-small_within v h = record { low_row = omega (arith, ints); high_row = omega (arith, ints); low_column = omega (arith, ints); high_column = omega (arith, ints) }
-
-pub intra_small : AreSmall intra.vectors
-unfolding intra
-intra_small b = still_small 16 b
-
-pub small_at : (es : List Entry) (k : ℕ) (e : Entry) → k < length es → e ≡ get_or es k e → AllSmall es → AreSmall e.vectors
-small_at es k e within is small =
-    let p : get_or es k intra ≡ e = get_or_default es k intra e within ∙ sym is in
-    let P : Entry → Type 0 = λ (x : Entry). AreSmall x.vectors in
-    subst P p (small k within)
-
 pub tally-none : IsTally [] 0 []
 unfolding still_weight moving runs
 tally-none = record { still_ones = refl; entries = refl }
 
-pub near_is : (g : VectorGrid) (x y : ℕ) (r : Reference) (b : SignBiases) (a l k : Entry) (count total_splits : ℕ) (es : List Weighted)
-    → a ≡ above g x y → l ≡ left g x y → k ≡ corner g x y → total_splits ≡ 2 * from_bool (splits a) + 2 * from_bool (splits l) + from_bool (splits k)
+pub near_is : (g : Grid Entry) (place : Place) (r : Reference) (b : SignBiases) (a l k : Entry) (count total_splits : ℕ) (es : List Weighted)
+    → a ≡ look intra g (above place) → l ≡ look intra g (left place) → k ≡ look intra g (corner place) → total_splits ≡ 2 * from_bool (splits a) + 2 * from_bool (splits l) + from_bool (splits k)
     → IsTally (([] ++ counted r b 2 a) ++ counted r b 2 l ++ counted r b 1 k) count es
-    → from_entries (within g.cols g.rows x y) count total_splits es ≡ candidates g x y r b
+    → from_entries (within g place) count total_splits es ≡ candidates g place r b
 unfolding candidates neighbours split_count
-near_is g x y r b a l k count total_splits es p q s n t =
+near_is g place r b a l k count total_splits es p q s n t =
     let f : Entry → Entry → Entry → List Weighted = λ (u v w : Entry). counted r b 2 u ++ (counted r b 2 v ++ counted r b 1 w) in
-    let e : (([] ++ counted r b 2 a) ++ counted r b 2 l) ++ counted r b 1 k ≡ f (above g x y) (left g x y) (corner g x y) =
+    let e : (([] ++ counted r b 2 a) ++ counted r b 2 l) ++ counted r b 1 k ≡ f (look intra g (above place)) (look intra g (left place)) (look intra g (corner place)) =
     append_assoc (counted r b 2 a) (counted r b 2 l) (counted r b 1 k) ∙ (λ i. f (p i) (q i) (s i)) in
-    let z : count ≡ still_weight (f (above g x y) (left g x y) (corner g x y)) = t.still_ones ∙ ap still_weight e in
-    let w : es ≡ runs (moving (f (above g x y) (left g x y) (corner g x y))) = t.entries ∙ ap (λ (v : List Weighted). runs (moving v)) e in
-    let m : total_splits ≡ 2 * from_bool (splits (above g x y)) + 2 * from_bool (splits (left g x y)) + from_bool (splits (corner g x y)) =
+    let z : count ≡ still_weight (f (look intra g (above place)) (look intra g (left place)) (look intra g (corner place))) = t.still_ones ∙ ap still_weight e in
+    let w : es ≡ runs (moving (f (look intra g (above place)) (look intra g (left place)) (look intra g (corner place)))) = t.entries ∙ ap (λ (v : List Weighted). runs (moving v)) e in
+    let m : total_splits ≡ 2 * from_bool (splits (look intra g (above place))) + 2 * from_bool (splits (look intra g (left place))) + from_bool (splits (look intra g (corner place))) =
     n ∙ (λ i. 2 * from_bool (splits (p i)) + 2 * from_bool (splits (q i)) + from_bool (splits (s i))) in
-    λ i. from_entries (within g.cols g.rows x y) (z i) (m i) (w i)
+    λ i. from_entries (within g place) (z i) (m i) (w i)
+
+-- an entry that is there is that, whatever counts as standing past the end
+pub there : (es : List Weighted) (k : ℕ) (r : Weighted) → k < length es → r ≡ get_or es k r → r ≡ get_or es k nobody
+there es k r within is = is ∙ get_or_default es k r nobody within

@@ -1,27 +1,18 @@
 -- The vectors near a macroblock, by coordinates (RFC 6386, chapter 16.3).
-use Rattle.std.specs.Prelude.{◌≡◌, ◌<◌, ℕ, ◌+◌, ◌-◌, ◌*◌, ◌==◌, ◌&&◌, ◌||◌, Bool, true, false, not, nat_lt, nat_le, eqb, List, [], ◌∷◌, ◌++◌, length, replicate, slice_index_or, ℤ, pos, negsuc, neg_ℤ, int_lt, if◌then◌else◌}
+use Rattle.std.specs.Prelude.{◌≡◌, ◌<◌, ℕ, ◌+◌, ◌-◌, ◌*◌, ◌&&◌, Bool, true, false, not, nat_lt, nat_le, eqb, List, [], ◌∷◌, ◌++◌, length, replicate, slice_index_or, ℤ, pos, negsuc, neg_ℤ, int_lt, if◌then◌else◌}
 use Rattle.std.specs.Int.{from_bool}
 use Rattle.vp_head.specs.declared.fields.Reference.{Reference}
 use Rattle.vp_head.specs.declared.fields.Reference.TheVariants as reference_is
 use Rattle.vp_head.specs.declared.fields.SignBiases.{SignBiases}
-use Rattle.vp_tables.specs.declared.modes.VectorMode.{VectorMode}
 use Rattle.vp_tables.specs.declared.modes.VectorMode.TheVariants as vector_is
-use Rattle.vp_motion.specs.declared.vector.Vector.{Vector}
-use Rattle.vp_motion.specs.declared.vector.Entry.{Entry}
+use Rattle.vp_tables.specs.Modes.{is_split}
+use Rattle.vp_head.specs.Reference.{is_intra}
+use Rattle.vp_base.specs.declared.place.Place.{Place}
+use Rattle.vp_base.specs.Place.{above, left, corner}
+use Rattle.vp_base.specs.Grid.{Grid, look}
 use Rattle.vp_motion.specs.declared.vector.Weighted.{Weighted}
-use Rattle.vp_motion.specs.declared.vector.Candidates.{Candidates}
-use Rattle.vp_motion.specs.Map.{VectorGrid, at, intra, is_intra, own, still}
-
--- ---- The three neighbours. Outside the frame nothing counts.
-
-unfoldable pub above : VectorGrid → ℕ → ℕ → Entry
-above g x y = if y == 0 then intra else at g x (y - 1)
-
-unfoldable pub left : VectorGrid → ℕ → ℕ → Entry
-left g x y = if x == 0 then intra else at g (x - 1) y
-
-unfoldable pub corner : VectorGrid → ℕ → ℕ → Entry
-corner g x y = if x == 0 || y == 0 then intra else at g (x - 1) (y - 1)
+use Rattle.vp_motion.specs.Vector.{Vector, Entry, Candidates, still}
+use Rattle.vp_motion.specs.Map.{intra, own}
 
 -- ---- A neighbour's vector
 
@@ -55,8 +46,9 @@ seen r b e = if same_bool (bias_of e.reference b) (bias_of r b) then own e else 
 unfoldable pub counted : Reference → SignBiases → ℕ → Entry → List Weighted
 counted r b weight e = if is_intra e.reference then [] else record { vector = seen r b e; weight = weight } ∷ []
 
-unfoldable pub neighbours : VectorGrid → ℕ → ℕ → Reference → SignBiases → List Weighted
-neighbours g x y r b = counted r b 2 (above g x y) ++ (counted r b 2 (left g x y) ++ counted r b 1 (corner g x y))
+-- those above, to the left and above-left; outside the frame nothing counts
+unfoldable pub neighbours : Grid Entry → Place → Reference → SignBiases → List Weighted
+neighbours g p r b = counted r b 2 (look intra g (above p)) ++ (counted r b 2 (look intra g (left p)) ++ counted r b 1 (look intra g (corner p)))
 
 -- ---- The vectors that are found, with their weights
 
@@ -92,30 +84,23 @@ first_of es =
     then record { vector = (entry es 0).vector; weight = (entry es 0).weight + 1 }
     else entry es 0
 
-abbrev pub is_split : VectorMode → Bool
-is_split vector_is.Zero = false
-is_split vector_is.Nearest = false
-is_split vector_is.Near = false
-is_split vector_is.New = false
-is_split vector_is.Split = true
-
 -- whether a neighbour's vectors are split
 unfoldable pub splits : Entry → Bool
 splits e = if is_intra e.reference then false else is_split e.mode
 
-unfoldable pub split_count : VectorGrid → ℕ → ℕ → ℕ
-split_count g x y = 2 * from_bool (splits (above g x y)) + 2 * from_bool (splits (left g x y)) + from_bool (splits (corner g x y))
+unfoldable pub split_count : Grid Entry → Place → ℕ
+split_count g p = 2 * from_bool (splits (look intra g (above p))) + 2 * from_bool (splits (look intra g (left p))) + from_bool (splits (look intra g (corner p)))
 
 -- ---- The candidates
 
 abbrev pub clamped : ℤ → ℤ → ℤ → ℤ
 clamped low high z = if int_lt z low then low else if int_lt high z then high else z
 
--- clamped so that the macroblock at x, y is moved past the frame's edges by its own size at most, in quarter pixels
-unfoldable pub within : ℕ → ℕ → ℕ → ℕ → Vector → Vector
-within cols rows x y v = record {
-  row = clamped (neg_ℤ (pos (64 * (y + 1)))) (pos (64 * (rows - y))) v.row;
-  column = clamped (neg_ℤ (pos (64 * (x + 1)))) (pos (64 * (cols - x))) v.column;
+-- clamped so that the macroblock at a place is moved past the frame's edges by its own size at most, in quarter pixels
+unfoldable pub within : Grid Entry → Place → Vector → Vector
+within g p v = record {
+  row = clamped (neg_ℤ (pos (64 * (p.row + 1)))) (pos (64 * (g.rows - p.row))) v.row;
+  column = clamped (neg_ℤ (pos (64 * (p.column + 1)))) (pos (64 * (g.columns - p.column))) v.column;
 }
 
 -- the candidates, where nearest and near are already the heavier and the lighter of the first two entries
@@ -133,10 +118,10 @@ from_entries clamp zeros splits es =
     then from_two clamp zeros splits (entry es 1) (first_of es)
     else from_two clamp zeros splits (first_of es) (entry es 1)
 
-unfoldable pub candidates : VectorGrid → ℕ → ℕ → Reference → SignBiases → Candidates
-candidates g x y r b =
-    let ws = neighbours g x y r b in
-    from_entries (within g.cols g.rows x y) (still_weight ws) (split_count g x y) (runs (moving ws))
+unfoldable pub candidates : Grid Entry → Place → Reference → SignBiases → Candidates
+candidates g p r b =
+    let ws = neighbours g p r b in
+    from_entries (within g p) (still_weight ws) (split_count g p) (runs (moving ws))
 
 -- ---- A worked example: the middle of three rows of three
 
@@ -147,8 +132,8 @@ abbrev pub inter : Vector → Entry
 inter v = record { reference = reference_is.Last; mode = vector_is.New; vectors = replicate 16 v }
 
 -- above and to the left (4, 0), above-left zero
-unfoldable pub three : VectorGrid
-three = record { cols = 3; rows = 3; entries = inter still ∷ inter four ∷ intra ∷ inter four ∷ intra ∷ intra ∷ intra ∷ intra ∷ intra ∷ [] }
+unfoldable pub three : Grid Entry
+three = record { columns = 3; rows = 3; entries = inter still ∷ inter four ∷ intra ∷ inter four ∷ intra ∷ intra ∷ intra ∷ intra ∷ intra ∷ [] }
 
 -- ---- What the code keeps of the neighbours
 

@@ -1,68 +1,55 @@
 ghost use Rattle.std.specs.Prelude.{◌≡◌, ◌<◌};
-ghost use Rattle.vp_motion.specs.Map.{AreSmall, IsSmall, above_block, left_block, vector_of};
+ghost use Rattle.vp_base.specs.Grid.{Has};
+ghost use Rattle.vp_base.specs.Near.{IsBefore, value};
+ghost use Rattle.vp_motion.specs.Map.{above_block, left_block, vector_of};
+ghost use Rattle.vp_motion.specs.Vector.{still};
 
-use crate::candidates::is_intra_reference;
 use crate::map::VectorMap;
 use crate::vector::{Entry, STILL, Vector};
-use vp_modes::Place;
+use vp_base::{Near, Place};
 
 /// The vector of a macroblock's block b.
 #[tactic(auto, unfolding(crate::specs::Map::vector_of))]
 fn vector_in(entry: &Entry, b: usize) -> Vector
-    requires block { b < 16 }
-    requires small { AreSmall entry.now.vectors }
-    ensures value { result ≡ vector_of entry.now b }
-    ensures small { IsSmall result }
+    requires { b < 16 }
+    ensures { result ≡ vector_of entry.now b }
 {
-    if is_intra_reference(entry.reference) {
+    if entry.reference.is_intra() {
         STILL
     } else {
         entry.vectors[b]
     }
 }
 
-/// The vector above block b of the macroblock at a place, whose blocks before b are in found.
-pub(crate) fn vector_above(map: &VectorMap, place: Place, found: &[Vector; 16], b: usize) -> Vector
-    requires column { place.column < map.now.cols }
-    requires row { place.row < map.now.rows }
-    requires block { b < 16 }
-    requires small { AreSmall found.now }
-    ensures value { result ≡ above_block map.now place.column place.row found.now b }
-    ensures small { IsSmall result }
+/// The vector of a block near the macroblock at a place, whose own are in found as far as they are read.
+fn vector_near(map: &VectorMap, place: Place, found: &[Vector; 16], near: Near) -> Vector
+    requires place { Has map.now place }
+    requires before { IsBefore place near }
+    ensures { result ≡ value vector_of still map.now found.now near }
 {
-    let _cols = map.cols();
-    if b >= 4 {
-        found[b - 4]
-    } else if place.row == 0 {
-        STILL
-    } else {
-        let above = Place {
-            column: place.column,
-            row: place.row - 1,
-        };
-        vector_in(map.get(above), b + 12)
+    match near {
+        Near::Here(b) => found[b],
+        Near::There(other, b) => vector_in(map.get(other), b),
+        Near::Outside => STILL,
     }
 }
 
-/// The vector to the left of block b of the macroblock at a place, whose blocks before b are in found.
-pub(crate) fn vector_left(map: &VectorMap, place: Place, found: &[Vector; 16], b: usize) -> Vector
-    requires column { place.column < map.now.cols }
-    requires row { place.row < map.now.rows }
+/// The vector above block b of the macroblock at a place, whose blocks before b are in found.
+#[tactic(auto, unfolding(crate::specs::Map::above_block))]
+pub(crate) fn vector_above(map: &VectorMap, place: Place, found: &[Vector; 16], b: usize) -> Vector
+    requires place { Has map.now place }
     requires block { b < 16 }
-    requires small { AreSmall found.now }
-    ensures value { result ≡ left_block map.now place.column place.row found.now b }
-    ensures small { IsSmall result }
+    ensures { result ≡ above_block map.now place found.now b }
 {
-    let _cols = map.cols();
-    if b % 4 > 0 {
-        found[b - 1]
-    } else if place.column == 0 {
-        STILL
-    } else {
-        let left = Place {
-            column: place.column - 1,
-            row: place.row,
-        };
-        vector_in(map.get(left), b + 3)
-    }
+    vector_near(map, place, found, place.above_block(b))
+}
+
+/// The vector to the left of block b of the macroblock at a place, whose blocks before b are in found.
+#[tactic(auto, unfolding(crate::specs::Map::left_block))]
+pub(crate) fn vector_left(map: &VectorMap, place: Place, found: &[Vector; 16], b: usize) -> Vector
+    requires place { Has map.now place }
+    requires block { b < 16 }
+    ensures { result ≡ left_block map.now place found.now b }
+{
+    vector_near(map, place, found, place.left_block(b))
 }

@@ -1,72 +1,26 @@
-ghost use Rattle.std.specs.Prelude.{◌≡◌, ℕ, ◌+◌, ◌-◌, ◌*◌, ◌<◌, ◌≤◌, List, ◌++◌, length, slice_index, pos, neg_ℤ, ◌≤ℤ◌};
+ghost use Rattle.std.specs.Prelude.{◌≡◌, ℕ, ◌+◌, ◌-◌, ◌*◌, ◌<◌, ◌≤◌, List, ◌++◌, length, IfSome, pos, neg_ℤ, ◌≤ℤ◌};
 ghost use Rattle.std.specs.Int.{from_bool};
-ghost use Rattle.vp_motion.specs.Map.{AreSmall, IsWithin, intra, is_intra};
-ghost use Rattle.vp_motion.specs.Near.{AreHeavy, IsTally, above, bias_of, candidates, clamped, corner, counted, entry, first_of, from_entries, from_two, is_split, joined, left, same, seen, splits, total, within};
+ghost use Rattle.vp_base.specs.Grid.{Has, look};
+ghost use Rattle.vp_motion.specs.Map.{intra};
+ghost use Rattle.vp_motion.specs.Vector.{IsWithin};
+ghost use Rattle.vp_motion.specs.Near.{AreHeavy, IsTally, bias_of, candidates, clamped, counted, entry, first_of, from_entries, from_two, joined, same, seen, splits, total, within};
 
 use crate::map::{VectorMap, outside};
 use crate::vector::{Candidates, Entry, STILL, Vector, Weighted};
 use arrayvec::ArrayVec;
+use vp_base::Place;
 use vp_head::{Reference, SignBiases};
-use vp_modes::Place;
 use vp_tables::VectorMode;
 
-/// The entry above a place.
-#[tactic(auto, unfolding(crate::specs::Near::above))]
-fn above_of<'a>(map: &'a VectorMap, outside: &'a Entry, place: Place) -> &'a Entry
+/// The entry at a place, where there is one.
+fn look<'a>(map: &'a VectorMap, outside: &'a Entry, place: Option<Place>) -> &'a Entry
     requires outside { outside.now ≡ intra }
-    requires still { AreSmall outside.now.vectors }
-    requires column { place.column < map.now.cols }
-    requires row { place.row < map.now.rows }
-    ensures value { result.now ≡ above map.now place.column place.row }
-    ensures small { AreSmall result.now.vectors }
+    requires place { IfSome place (Has map.now) }
+    ensures { result.now ≡ look intra map.now place }
 {
-    if place.row == 0 {
-        outside
-    } else {
-        map.get(Place {
-            column: place.column,
-            row: place.row - 1,
-        })
-    }
-}
-
-/// The entry to the left of a place.
-#[tactic(auto, unfolding(crate::specs::Near::left))]
-fn left_of<'a>(map: &'a VectorMap, outside: &'a Entry, place: Place) -> &'a Entry
-    requires outside { outside.now ≡ intra }
-    requires still { AreSmall outside.now.vectors }
-    requires column { place.column < map.now.cols }
-    requires row { place.row < map.now.rows }
-    ensures value { result.now ≡ left map.now place.column place.row }
-    ensures small { AreSmall result.now.vectors }
-{
-    if place.column == 0 {
-        outside
-    } else {
-        map.get(Place {
-            column: place.column - 1,
-            row: place.row,
-        })
-    }
-}
-
-/// The entry above and to the left of a place.
-#[tactic(auto, unfolding(crate::specs::Near::corner))]
-fn corner_of<'a>(map: &'a VectorMap, outside: &'a Entry, place: Place) -> &'a Entry
-    requires outside { outside.now ≡ intra }
-    requires still { AreSmall outside.now.vectors }
-    requires column { place.column < map.now.cols }
-    requires row { place.row < map.now.rows }
-    ensures value { result.now ≡ corner map.now place.column place.row }
-    ensures small { AreSmall result.now.vectors }
-{
-    if place.column == 0 || place.row == 0 {
-        outside
-    } else {
-        map.get(Place {
-            column: place.column - 1,
-            row: place.row - 1,
-        })
+    match place {
+        Some(place) => map.get(place),
+        None => outside,
     }
 }
 
@@ -103,17 +57,16 @@ fn clamp(low: i32, high: i32, z: i32) -> i32
 
 #[tactic(auto, unfolding(crate::specs::Near::within))]
 fn clamp_vector(map: &VectorMap, place: Place, vector: Vector) -> Vector
-    requires column { place.column < map.now.cols }
-    requires row { place.row < map.now.rows }
-    ensures value { result ≡ within map.now.cols map.now.rows place.column place.row vector }
+    requires place { Has map.now place }
+    ensures value { result ≡ within map.now place vector }
     ensures short { IsWithin 65536 result }
 {
-    let (cols, rows) = (map.cols(), map.rows());
+    let (columns, rows) = (map.columns(), map.rows());
     Vector {
         row: clamp(before(place.row + 1), behind(rows - place.row), vector.row),
         column: clamp(
             before(place.column + 1),
-            behind(cols - place.column),
+            behind(columns - place.column),
             vector.column,
         ),
     }
@@ -124,12 +77,6 @@ pub(crate) fn is_same(u: Vector, v: Vector) -> bool
     ensures { result ≡ same u v }
 {
     u.row == v.row && u.column == v.column
-}
-
-pub(crate) fn is_intra_reference(reference: Reference) -> bool
-    ensures { result ≡ is_intra reference }
-{
-    matches!(reference, Reference::Intra)
 }
 
 fn bias(reference: Reference, biases: SignBiases) -> bool
@@ -143,27 +90,20 @@ fn bias(reference: Reference, biases: SignBiases) -> bool
     }
 }
 
-fn is_split_mode(mode: VectorMode) -> bool
-    ensures { result ≡ is_split mode }
-{
-    matches!(mode, VectorMode::Split)
-}
-
 #[tactic(auto, unfolding(crate::specs::Near::splits))]
 fn has_split(neighbour: &Entry) -> bool
     ensures { result ≡ splits neighbour.now }
 {
-    if is_intra_reference(neighbour.reference) {
+    if neighbour.reference.is_intra() {
         false
     } else {
-        is_split_mode(neighbour.mode)
+        neighbour.mode.is_split()
     }
 }
 
 /// A neighbour's own vector, turned round where the biases differ.
 #[tactic(auto, unfolding(crate::specs::Near::seen, crate::specs::Map::own))]
 fn seen_vector(reference: Reference, biases: SignBiases, neighbour: &Entry) -> Vector
-    requires small { AreSmall neighbour.now.vectors }
     ensures { result ≡ seen reference biases neighbour.now }
 {
     let vector = neighbour.vectors[15];
@@ -227,7 +167,6 @@ fn consider(
     reference: Reference,
     biases: SignBiases,
 )
-    requires small { AreSmall neighbour.now.vectors }
     requires room { length found.old.entries.items < 3 }
     requires light { total found.old.entries.items + found.old.zeros + weight ≤ 255 }
     requires heavy { 0 < weight }
@@ -236,7 +175,7 @@ fn consider(
     ensures weight { total found.new.entries.items + found.new.zeros ≤ total found.old.entries.items + found.old.zeros + weight }
     ensures heavy { AreHeavy found.old.entries.items → AreHeavy found.new.entries.items }
 {
-    if !is_intra_reference(neighbour.reference) {
+    if !neighbour.reference.is_intra() {
         let vector = seen_vector(reference, biases, neighbour);
         if is_same(vector, STILL) {
             found.zeros += weight;
@@ -290,12 +229,12 @@ fn candidates_of(
     nearest: Weighted,
     near: Weighted,
 ) -> Candidates
-    requires column { place.column < map.now.cols }
-    requires row { place.row < map.now.rows }
-    ensures value { result ≡ from_two (within map.now.cols map.now.rows place.column place.row) zeros splits nearest near }
-    ensures best { IsWithin 65536 result.best }
-    ensures nearest { IsWithin 65536 result.nearest }
-    ensures near { IsWithin 65536 result.near }
+    requires place { Has map.now place }
+    requires zeros { zeros ≤ 5 }
+    requires splits { splits ≤ 5 }
+    requires nearest { nearest.weight ≤ 5 }
+    requires near { near.weight ≤ 5 }
+    ensures value { result ≡ from_two (within map.now place) zeros splits nearest near }
 {
     let best = if zeros <= nearest.weight {
         nearest.vector
@@ -319,17 +258,12 @@ fn choose(
     splits: u8,
     entries: &ArrayVec<Weighted, 3>,
 ) -> Candidates
-    requires column { place.column < map.now.cols }
-    requires row { place.row < map.now.rows }
+    requires place { Has map.now place }
     requires zeros { zeros ≤ 5 }
     requires splits { splits ≤ 5 }
     requires light { total entries.now.items ≤ 5 }
     requires heavy { AreHeavy entries.now.items }
-    ensures value { result ≡ from_entries (within map.now.cols map.now.rows place.column place.row) zeros splits entries.now.items }
-    ensures counts { (k : ℕ) → slice_index result.counts k < 6 }
-    ensures best { IsWithin 65536 result.best }
-    ensures nearest { IsWithin 65536 result.nearest }
-    ensures near { IsWithin 65536 result.near }
+    ensures value { result ≡ from_entries (within map.now place) zeros splits entries.now.items }
 {
     let first = first_entry(entries);
     let second = entry_at(entries, 1);
@@ -352,18 +286,13 @@ fn splits_of(above: bool, left: bool, corner: bool) -> u8
 ///
 /// `reference` is the macroblock's own: a neighbour's vector is turned round where its reference has another bias.
 pub fn near(map: &VectorMap, place: Place, reference: Reference, biases: SignBiases) -> Candidates
-    requires column { place.column < map.now.cols }
-    requires row { place.row < map.now.rows }
-    ensures value { result ≡ candidates map.now place.column place.row reference biases }
-    ensures counts { (k : ℕ) → slice_index result.counts k < 6 }
-    ensures best { IsWithin 65536 result.best }
-    ensures nearest { IsWithin 65536 result.nearest }
-    ensures near { IsWithin 65536 result.near }
+    requires place { Has map.now place }
+    ensures { result ≡ candidates map.now place reference biases }
 {
     let outside = outside();
-    let above = above_of(map, &outside, place);
-    let left = left_of(map, &outside, place);
-    let corner = corner_of(map, &outside, place);
+    let above = look(map, &outside, place.above());
+    let left = look(map, &outside, place.left());
+    let corner = look(map, &outside, place.corner());
     let mut found = Found {
         zeros: 0,
         entries: ArrayVec::new(),

@@ -1,1 +1,2 @@
 pub mod Quant
+pub mod Level

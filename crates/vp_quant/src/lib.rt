@@ -1,10 +1,13 @@
-//! Quantiser indices and factors, and blocks of levels times factors (RFC 6386, chapters 9.3, 9.6 and 14.1).
+//! Quantiser indices and factors, blocks of levels times factors (RFC 6386, chapters 9.3, 9.6 and 14.1), and the
+//! levels of coefficients.
 #![tactic(auto)]
 
 mod block;
 mod factors;
+mod level;
 #[cfg(test)]
 mod tests;
 
 pub use block::dequant;
 pub use factors::{Factors, segment_index};
+pub use level::quantise;

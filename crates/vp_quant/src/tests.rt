@@ -65,3 +65,10 @@ fn levels_at_their_places(rt: HostRuntime) -> Result<(), Fail> {
     assert_eq!(rt; dequant(&levels, 10, 20), wanted);
     Ok(())
 }
+
+#[test]
+fn kernel_examples(rt: HostRuntime) {
+    assert_eq!(rt; quantise(576, 4), 144);
+    assert_eq!(rt; quantise(-7, 4), -2);
+    assert_eq!(rt; quantise(1 << 40, 4), 2047);
+}

@@ -1,36 +1,91 @@
 -- Luma of a macroblock by either way of prediction.
-use Rattle.std.proofs.Common.{◌≡◌, ◌∙◌, ℕ, Bool, true, false, cond, refl, sym, ap}
+use Rattle.std.proofs.Common.{◌≡◌, ◌∙◌, ℕ, ◌+◌, ◌*◌, ◌/◌, ◌%◌, ℤ, pos, Bool, true, false, cond, List, get_or, refl, sym, ap, arith}
+use Rattle.std.specs.Prelude.{not}
+use Rattle.vp_base.specs.declared.place.Place.{Place}
 use Rattle.vp_base.specs.Raster.{Raster}
+use Rattle.vp_base.specs.Block.{with_block}
+use Rattle.vp_base.specs.Near.{block}
+use Rattle.vp_base.specs.Over.{over}
 use Rattle.vp_base.proofs.RasterLemmas.{raster}
-use Rattle.vp_base.proofs.OverLemmas.{over-kept}
-use Rattle.vp_tables.specs.declared.modes.LumaMode.{LumaMode}
-use Rattle.vp_tables.specs.declared.modes.LumaMode.TheVariants as luma_is
-use Rattle.vp_modes.specs.declared.entry.Modes.{Modes}
+use Rattle.vp_base.proofs.BlockLemmas.{with_block_same}
+use Rattle.vp_base.proofs.OverLemmas.{over-kept, over-same}
+use Rattle.vp_tables.specs.declared.modes.SubMode.{SubMode}
+use Rattle.vp_tables.specs.declared.modes.SubMode.TheVariants as sub_is
+use Rattle.vp_tables.specs.Modes.{is_by_subblocks}
+use Rattle.vp_modes.specs.Entry.{Modes}
 use Rattle.vp_tokens.specs.declared.contexts.Tokens.{Tokens}
+use Rattle.vp_tokens.specs.Blocks.{block_of}
 use Rattle.vp_quant.specs.declared.factors.Factors.{Factors}
-use Rattle.vp_recon.specs.Residue.{has_y2, luma_residue}
-use Rattle.vp_recon.specs.Rebuilt.{with_luma, with_subs, sub_step, luma_numbers, luma_of}
+use Rattle.vp_intra.specs.Whole.{luma_pixel}
+use Rattle.vp_intra.specs.Sub.{sub_pixel}
+use Rattle.vp_recon.specs.Source.{Macroblock, Intra, has_sub_modes, macroblock_of}
+use Rattle.vp_recon.specs.Residue.{residue, luma_residue, luma_coefficients}
+use Rattle.vp_recon.specs.Prediction.{luma_prediction}
+use Rattle.vp_recon.specs.Rebuilt.{summed, residue_at, luma_made, sub_step, luma_numbers, luma_rebuilt, with_sub}
 
-pub has_one : (mode : LumaMode) → (mode ≡ luma_is.B → ⊥) → has_y2 mode ≡ true
-has_one luma_is.Dc other = refl
-has_one luma_is.V other = refl
-has_one luma_is.H other = refl
-has_one luma_is.Tm other = refl
-has_one luma_is.B other = absurd (other refl)
+module _ (m : Macroblock) (place : Place) (p : Raster) where
+  abbrev by : Bool → Raster
+  by b = raster p.width p.height (cond b (over 16 (sub_step m place) p) (with_block p (16 * place.column) (16 * place.row) 16 16 (luma_made m place p))).pixels
 
-pub whole_is : (p : Raster) (x y : ℕ) (m : Modes) (t : Tokens) (f : Factors) → (m.luma ≡ luma_is.B → ⊥)
-    → with_luma p x y m.luma (luma_residue true t f) ≡ luma_of p x y m t f
-unfolding luma_numbers
-whole_is p x y m t f other =
-    ap (λ (b : Bool). raster p.width p.height (cond b (with_luma p x y m.luma (luma_residue b t f)) (with_subs p x y m.subs (luma_residue b t f))).pixels)
-    (sym (has_one m.luma other))
+  pub luma_at_once : has_sub_modes m.source ≡ false → with_block p (16 * place.column) (16 * place.row) 16 16 (luma_made m place p) ≡ luma_rebuilt m place p
+  unfolding luma_numbers
+  luma_at_once e = ap by (sym e)
 
-pub subs_are : (p : Raster) (x y : ℕ) (m : Modes) (t : Tokens) (f : Factors) → m.luma ≡ luma_is.B
-    → with_subs p x y m.subs (luma_residue false t f) ≡ luma_of p x y m t f
-unfolding luma_numbers
-subs_are p x y m t f is =
-    let step = sub_step x y m.subs (luma_residue false t f) in
-    let s : Raster = with_subs p x y m.subs (luma_residue false t f) in
-    ap (λ (w : ℕ). raster w s.height s.pixels) (over-kept (λ (r : Raster). r.width) 16 step p (λ k b. refl))
-    ∙ ap (λ (h : ℕ). raster p.width h s.pixels) (over-kept (λ (r : Raster). r.height) 16 step p (λ k b. refl))
-    ∙ ap (λ (mode : LumaMode). raster p.width p.height (cond (has_y2 mode) (with_luma p x y mode (luma_residue (has_y2 mode) t f)) (with_subs p x y m.subs (luma_residue (has_y2 mode) t f))).pixels) (sym is)
+  pub wide_subs : (k : ℕ) → (over k (sub_step m place) p).width ≡ p.width
+  wide_subs k = over-kept (λ (r : Raster). r.width) k (sub_step m place) p (λ j b. refl)
+
+  pub high_subs : (k : ℕ) → (over k (sub_step m place) p).height ≡ p.height
+  high_subs k = over-kept (λ (r : Raster). r.height) k (sub_step m place) p (λ j b. refl)
+
+  pub luma_by_subs : has_sub_modes m.source ≡ true → over 16 (sub_step m place) p ≡ luma_rebuilt m place p
+  unfolding luma_numbers
+  luma_by_subs e =
+      let s : Raster = over 16 (sub_step m place) p in
+      ap (λ (w : ℕ). raster w s.height s.pixels) (wide_subs 16) ∙ ap (λ (h : ℕ). raster p.width h s.pixels) (high_subs 16) ∙ ap by (sym e)
+
+module _ (m : Modes) (place : Place) (p : Raster) (r c : ℕ) where
+  abbrev either : Bool → ℕ
+  either b = cond b
+      (sub_pixel (get_or m.subs (4 * (r / 4) + c / 4) sub_is.Dc) p (16 * place.column + 4 * (c / 4)) (16 * place.row + 4 * (r / 4)) (r % 4) (c % 4))
+      (luma_pixel m.luma p (16 * place.column) (16 * place.row) r c)
+
+  pub whole_prediction : is_by_subblocks m.luma ≡ false → luma_prediction (Intra m) place p r c ≡ luma_pixel m.luma p (16 * place.column) (16 * place.row) r c
+  whole_prediction e = ap either e
+
+  pub sub_prediction : is_by_subblocks m.luma ≡ true → luma_prediction (Intra m) place p r c
+      ≡ sub_pixel (get_or m.subs (4 * (r / 4) + c / 4) sub_is.Dc) p (16 * place.column + 4 * (c / 4)) (16 * place.row + 4 * (r / 4)) (r % 4) (c % 4)
+  sub_prediction e = ap either e
+
+  pub made_by : (t : Tokens) (f : Factors) (b : Bool) → is_by_subblocks m.luma ≡ b
+      → luma_made (macroblock_of (Intra m) t f) place p r c ≡ summed (either b) (residue_at 4 (luma_residue (not b) t f) r c)
+  made_by t f b e = ap (λ (d : Bool). summed (either d) (residue_at 4 (luma_residue (not d) t f) r c)) e
+
+sub_at : (modes : List SubMode) (p : Raster) (residue : ℕ → List ℤ) (a b n r c x y n' r' c' : ℕ) → a ≡ x → b ≡ y → n ≡ n' → r ≡ r' → c ≡ c'
+    → summed (sub_pixel (get_or modes n sub_is.Dc) p a b r c) (get_or (residue n) (4 * r + c) (pos 0))
+    ≡ summed (sub_pixel (get_or modes n' sub_is.Dc) p x y r' c') (get_or (residue n') (4 * r' + c') (pos 0))
+sub_at modes p residue a b n r c x y n' r' c' ea eb en er ec = cc
+
+-- subblock k stands at a place among all the luma blocks, and has a residue by itself
+pub sub_alone : (m : Modes) (t : Tokens) (f : Factors) (place : Place) (p : Raster) (k : ℕ) → is_by_subblocks m.luma ≡ true
+    → with_sub p (block 4 place k) (get_or m.subs k sub_is.Dc) (residue (block_of t (1 + k)).levels f.y_dc f.y_ac)
+    ≡ sub_step (macroblock_of (Intra m) t f) place k p
+unfolding luma_residue luma_coefficients
+sub_alone m t f place p k e =
+    let g = λ (r : ℕ) (c : ℕ). luma_made (macroblock_of (Intra m) t f) place p (4 * (k / 4) + r) (4 * (k % 4) + c) in
+    with_block_same p (4 * (place.column * 4 + k % 4)) (4 * (place.row * 4 + k / 4)) 4 4
+    (λ r c. summed (sub_pixel (get_or m.subs k sub_is.Dc) p (4 * (place.column * 4 + k % 4)) (4 * (place.row * 4 + k / 4)) r c) (get_or (luma_residue false t f k) (4 * r + c) (pos 0))) g
+    (λ r c rin cin.
+    sub_at m.subs p (luma_residue false t f) (4 * (place.column * 4 + k % 4)) (4 * (place.row * 4 + k / 4)) k r c
+    (16 * place.column + 4 * ((4 * (k % 4) + c) / 4)) (16 * place.row + 4 * ((4 * (k / 4) + r) / 4)) (4 * ((4 * (k / 4) + r) / 4) + (4 * (k % 4) + c) / 4) ((4 * (k / 4) + r) % 4) ((4 * (k % 4) + c) % 4)
+    (omega arith) (omega arith) (omega arith) (omega arith) (omega arith)
+    ∙ sym (made_by m place p (4 * (k / 4) + r) (4 * (k % 4) + c) t f true e))
+    ∙ ap (λ (a : ℕ). with_block p a (4 * (place.row * 4 + k / 4)) 4 4 g) (let a : 4 * (place.column * 4 + k % 4) ≡ 16 * place.column + 4 * (k % 4) = omega arith in a)
+    ∙ ap (λ (b : ℕ). with_block p (16 * place.column + 4 * (k % 4)) b 4 4 g) (let b : 4 * (place.row * 4 + k / 4) ≡ 16 * place.row + 4 * (k / 4) = omega arith in b)
+
+pub subs_alone : (m : Modes) (t : Tokens) (f : Factors) (place : Place) (p : Raster) → is_by_subblocks m.luma ≡ true
+    → luma_rebuilt (macroblock_of (Intra m) t f) place p
+    ≡ over 16 (λ k q. with_sub q (block 4 place k) (get_or m.subs k sub_is.Dc) (residue (block_of t (1 + k)).levels f.y_dc f.y_ac)) p
+subs_alone m t f place p e =
+    sym (luma_by_subs (macroblock_of (Intra m) t f) place p e)
+    ∙ over-same 16 (sub_step (macroblock_of (Intra m) t f) place) (λ k q. with_sub q (block 4 place k) (get_or m.subs k sub_is.Dc) (residue (block_of t (1 + k)).levels f.y_dc f.y_ac)) p
+    (λ k below q. sym (sub_alone m t f place q k e))

@@ -1,6 +1,6 @@
+pub mod Source
 pub mod Residue
+pub mod Prediction
 pub mod Rebuilt
-pub mod Added
-pub mod Inter
 pub mod Equation
-pub mod Window
+pub mod Kept

@@ -1,19 +1,17 @@
--- A macroblock rebuilt: prediction and residue (RFC 6386, chapters 12 and 14.5).
+-- Macroblocks rebuilt: prediction and residue (RFC 6386, chapters 12 and 14.5).
 use Rattle.std.specs.Prelude.{ℕ, ◌+◌, ◌*◌, ◌/◌, ◌%◌, min, ℤ, pos, negsuc, ◌+ℤ◌, List, slice_index_or, if◌then◌else◌}
+use Rattle.vp_base.specs.declared.place.Place.{Place}
 use Rattle.vp_base.specs.Raster.{Raster}
 use Rattle.vp_base.specs.Block.{with_block}
-use Rattle.vp_base.specs.Image.{Image}
+use Rattle.vp_base.specs.Image.{Image, macroblocks}
 use Rattle.vp_base.specs.Over.{over}
-use Rattle.vp_tables.specs.declared.modes.LumaMode.{LumaMode}
-use Rattle.vp_tables.specs.declared.modes.ChromaMode.{ChromaMode}
 use Rattle.vp_tables.specs.declared.modes.SubMode.{SubMode}
-use Rattle.vp_tables.specs.declared.modes.SubMode.TheVariants as sub_is
-use Rattle.vp_modes.specs.declared.entry.Modes.{Modes}
-use Rattle.vp_tokens.specs.declared.contexts.Tokens.{Tokens}
-use Rattle.vp_quant.specs.declared.factors.Factors.{Factors}
-use Rattle.vp_intra.specs.Whole.{luma_pixel, chroma_pixel}
 use Rattle.vp_intra.specs.Sub.{sub_pixel}
-use Rattle.vp_recon.specs.Residue.{has_y2, luma_residue, chroma_residue}
+use Rattle.vp_recon.specs.Source.{Macroblock, has_sub_modes, has_y2}
+use Rattle.vp_recon.specs.Residue.{luma_residue, chroma_residue}
+use Rattle.vp_recon.specs.Prediction.{luma_prediction, chroma_prediction}
+
+-- ---- a pixel
 
 -- a number, or the nearest of 0 and 255
 abbrev pub to_byte : ℤ → ℕ
@@ -28,45 +26,60 @@ summed prediction residue = to_byte (pos prediction +ℤ residue)
 abbrev pub residue_at : ℕ → (ℕ → List ℤ) → ℕ → ℕ → ℤ
 residue_at across residue r c = slice_index_or (residue (across * (r / 4) + c / 4)) (4 * (r % 4) + c % 4) (pos 0)
 
--- luma of the macroblock at column x of row y, predicted as a whole
-abbrev pub with_luma : Raster → ℕ → ℕ → LumaMode → (ℕ → List ℤ) → Raster
-with_luma p x y mode residue =
-    with_block p x y 16 16 (λ r c. summed (luma_pixel mode p x y r c) (residue_at 4 residue r c))
+-- what m makes of the pixel at row r and column c of the luma of the macroblock at a place, where its plane is p
+abbrev pub luma_made : Macroblock → Place → Raster → ℕ → ℕ → ℕ
+luma_made m place p r c =
+    summed (luma_prediction m.source place p r c) (residue_at 4 (luma_residue (has_y2 m.source) m.tokens m.factors) r c)
 
--- one of the colour planes
-abbrev pub with_chroma : Raster → ℕ → ℕ → ChromaMode → (ℕ → List ℤ) → Raster
-with_chroma p x y mode residue =
-    with_block p x y 8 8 (λ r c. summed (chroma_pixel mode p x y r c) (residue_at 2 residue r c))
+-- the same of plane k, one of colour
+abbrev pub chroma_made : Macroblock → ℕ → Place → Raster → ℕ → ℕ → ℕ
+chroma_made m k place p r c =
+    summed (chroma_prediction m.source k place p r c) (residue_at 2 (chroma_residue m.tokens m.factors k) r c)
 
--- one luma subblock, at column x of row y
-abbrev pub with_sub : Raster → ℕ → ℕ → SubMode → List ℤ → Raster
-with_sub p x y mode residue =
-    with_block p x y 4 4 (λ r c. summed (sub_pixel mode p x y r c) (slice_index_or residue (4 * r + c) (pos 0)))
+-- ---- a macroblock
 
--- luma subblock k of the macroblock at column x of row y: four stand side by side
-abbrev pub sub_step : ℕ → ℕ → List SubMode → (ℕ → List ℤ) → ℕ → Raster → Raster
-sub_step x y modes residue k p = with_sub p (x + 4 * (k % 4)) (y + 4 * (k / 4)) (slice_index_or modes k sub_is.Dc) (residue k)
+-- p with luma subblock k of the macroblock at a place rebuilt: four stand side by side
+abbrev pub sub_step : Macroblock → Place → ℕ → Raster → Raster
+sub_step m place k p =
+    with_block p (16 * place.column + 4 * (k % 4)) (16 * place.row + 4 * (k / 4)) 4 4
+    (λ r c. luma_made m place p (4 * (k / 4) + r) (4 * (k % 4) + c))
 
--- luma predicted subblock after subblock, each from those before it too
-abbrev pub with_subs : Raster → ℕ → ℕ → List SubMode → (ℕ → List ℤ) → Raster
-with_subs p x y modes residue = over 16 (sub_step x y modes residue) p
+-- its luma: where each subblock has a mode of its own, subblock after subblock, from those before it too; else at once
+unfoldable pub luma_numbers : Macroblock → Place → Raster → List ℕ
+luma_numbers m place p =
+    (if has_sub_modes m.source then over 16 (sub_step m place) p
+    else with_block p (16 * place.column) (16 * place.row) 16 16 (luma_made m place p)).pixels
 
--- luma of the macroblock at column x of row y
-abbrev pub luma_built : Raster → ℕ → ℕ → Modes → (ℕ → List ℤ) → Raster
-luma_built p x y modes residue =
-    if has_y2 modes.luma then with_luma p x y modes.luma residue else with_subs p x y modes.subs residue
+abbrev pub luma_rebuilt : Macroblock → Place → Raster → Raster
+luma_rebuilt m place p = record p { pixels = luma_numbers m place p }
 
-unfoldable pub luma_numbers : Raster → ℕ → ℕ → Modes → Tokens → Factors → List ℕ
-luma_numbers p x y modes tokens factors =
-    (luma_built p x y modes (luma_residue (has_y2 modes.luma) tokens factors)).pixels
+-- plane k, one of colour
+abbrev pub chroma_rebuilt : Macroblock → ℕ → Place → Raster → Raster
+chroma_rebuilt m k place p = with_block p (8 * place.column) (8 * place.row) 8 8 (chroma_made m k place p)
 
-abbrev pub luma_of : Raster → ℕ → ℕ → Modes → Tokens → Factors → Raster
-luma_of p x y modes tokens factors = record p { pixels = luma_numbers p x y modes tokens factors }
-
--- p with the intra macroblock in column x of row y of macroblocks rebuilt
-abbrev pub rebuilt : Image → ℕ → ℕ → Modes → Tokens → Factors → Image
-rebuilt p x y modes tokens factors = record p {
-  luma = luma_of p.luma (16 * x) (16 * y) modes tokens factors;
-  u = with_chroma p.u (8 * x) (8 * y) modes.chroma (λ k. chroma_residue tokens factors (17 + k));
-  v = with_chroma p.v (8 * x) (8 * y) modes.chroma (λ k. chroma_residue tokens factors (21 + k));
+-- p with the macroblock at a place rebuilt
+abbrev pub rebuilt : Macroblock → Place → Image → Image
+rebuilt m place p = record p {
+  luma = luma_rebuilt m place p.luma;
+  u = chroma_rebuilt m 1 place p.u;
+  v = chroma_rebuilt m 2 place p.v;
 }
+
+-- ---- a frame, where f says what stands at each place
+
+-- p with so many macroblocks of a row rebuilt, from the left
+abbrev pub row_rebuilt : ℕ → (Place → Macroblock) → ℕ → Image → Image
+row_rebuilt columns f row p =
+    over columns (λ column. rebuilt (f (record { column = column; row = row })) (record { column = column; row = row })) p
+
+-- p with all macroblocks rebuilt, row after row
+abbrev pub all_rebuilt : (Place → Macroblock) → Image → Image
+all_rebuilt f p = over (macroblocks p.height) (row_rebuilt (macroblocks p.width) f) p
+
+-- ---- one luma subblock by itself
+
+-- p with the block at a place among all luma blocks rebuilt
+abbrev pub with_sub : Raster → Place → SubMode → List ℤ → Raster
+with_sub p block mode residue =
+    with_block p (4 * block.column) (4 * block.row) 4 4
+    (λ r c. summed (sub_pixel mode p (4 * block.column) (4 * block.row) r c) (slice_index_or residue (4 * r + c) (pos 0)))

@@ -1,99 +1,108 @@
-//! One inter macroblock of the unfiltered picture.
+//! Macroblocks that are predicted from a reference (chapter 18).
 
-ghost use Rattle.std.specs.Prelude.{◌≡◌, ℕ, ◌+◌, ◌*◌, ◌<◌, ◌≤◌, ℤ, List, length, not, map, true};
-ghost use Rattle.vp_base.specs.Image.{plane_of, with_plane, macroblocks};
-ghost use Rattle.vp_motion.specs.Map.{AreSmall};
-ghost use Rattle.vp_motion.specs.Near.{is_split};
+ghost use Rattle.std.specs.Prelude.{◌≡◌, ℕ, ◌+◌, ◌*◌, ◌<◌, ◌≤◌, ℤ, List, length, map, true, false};
+ghost use Rattle.vp_base.specs.Block.{with_block};
+ghost use Rattle.vp_base.specs.Image.{plane_of, with_plane};
+ghost use Rattle.vp_tables.specs.Modes.{is_split};
 ghost use Rattle.vp_inter.specs.declared.vector.PlaneVector.{PlaneVector};
 ghost use Rattle.vp_inter.specs.Vectors.{chroma_vector};
-ghost use Rattle.vp_recon.specs.Residue.{luma_residue};
-ghost use Rattle.vp_recon.specs.Added.{AreKept};
-ghost use Rattle.vp_recon.specs.Inter.{AreSame, AreVectors, four_from, luma_moved, chroma_moved, with_moved, inter_rebuilt};
+ghost use Rattle.vp_recon.specs.Source.{Inter, macroblock_of};
+ghost use Rattle.vp_recon.specs.Prediction.{four_from, luma_moved, chroma_moved};
+ghost use Rattle.vp_recon.specs.Rebuilt.{luma_rebuilt, chroma_rebuilt};
+ghost use Rattle.vp_recon.specs.Kept.{AreKept, AreVectors, moved_sum};
 
-use crate::added::{Kept, with_residue};
-use crate::macroblock::write_whole;
-use crate::residue::{chroma_residues, residues_with_y2, residues_without_y2};
-use vp_base::Picture;
+use crate::kept::{Kept, with_residue};
+use crate::residue::{chroma_residues, luma_residues};
+use crate::whole::write_whole;
+use vp_base::{Picture, Place};
 use vp_inter::{
     PlaneVector, chroma_vector, luma_vector, predict_block4, predict_block8, predict_block16,
 };
-use vp_modes::Place;
 use vp_motion::{Entry, Vector};
 use vp_quant::Factors;
-use vp_tables::VectorMode;
 use vp_tokens::Tokens;
 
-/// Rebuilds the inter macroblock at `place` from the picture that its vectors lead into, which is filtered. `version` is
-/// that of the frame's tag.
-pub fn rebuild_inter_macroblock(
+/// Luma of an inter macroblock: at once, unless its parts have vectors of their own.
+pub(crate) fn rebuild_inter_luma(
     picture: &mut Picture,
     place: Place,
-    entry: &Entry,
-    tokens: &Tokens,
-    factors: &Factors,
+    motion: &Entry,
     reference: &Picture,
     version: u8,
+    tokens: &Tokens,
+    factors: &Factors,
 )
-    requires column { place.column < macroblocks picture.old.width }
-    requires row { place.row < macroblocks picture.old.height }
-    requires small { AreSmall entry.now.vectors }
-    ensures { picture.new ≡ inter_rebuilt picture.old place.column place.row entry.now tokens.now factors.now reference.now version }
+    requires columns { 16 * place.column + 16 ≤ picture.old.luma.width }
+    requires rows { 16 * place.row + 16 ≤ picture.old.luma.height }
+    ensures { picture.new ≡ with_plane picture.old 0 (luma_rebuilt (macroblock_of (Inter motion.now reference.now version) tokens.now factors.now) place picture.old.luma) }
 {
-    let _dim = picture.dim();
-    let _reference_dim = reference.dim();
-    let vectors = luma_vectors(entry);
-    let kept = luma_residues(entry.mode, tokens, factors);
-    write_luma(picture, place, reference, version, &vectors, &kept);
-    let vectors = chroma_vectors(version, entry);
-    let u = chroma_residues(tokens, factors, 17);
-    write_chroma(picture, 1, place, reference, version, &vectors, &u);
-    let v = chroma_residues(tokens, factors, 21);
-    write_chroma(picture, 2, place, reference, version, &vectors, &v);
-}
-
-/// What is kept of the residues of the luma subblocks: a split macroblock has no Y2 block.
-fn luma_residues(mode: VectorMode, tokens: &Tokens, factors: &Factors) -> [Kept; 16]
-    ensures len { length result ≡ 16 }
-    ensures value { AreKept 16 result (luma_residue (not (is_split mode)) tokens.now factors.now) }
-{
-    match mode {
-        VectorMode::Split => residues_without_y2(tokens, factors),
-        _ => residues_with_y2(tokens, factors),
+    let _size = [picture.plane(0).width(), picture.plane(0).height()];
+    let _dim = reference.dim();
+    let split = motion.mode.is_split();
+    let kept = luma_residues(!split, tokens, factors);
+    if split {
+        let vectors = luma_vectors(motion);
+        write_moved::<4>(picture, 0, place, reference, version, &vectors, &kept);
+    } else {
+        let [x, y] = [16 * place.column, 16 * place.row];
+        let vector = luma_vector_of(motion, 0);
+        let prediction = predict_block16(reference.plane(0), x, y, vector, version);
+        write_whole::<4>(picture, 0, x, y, &prediction, &kept);
     }
 }
 
-/// How the luma subblocks move.
-#[tactic(auto, unfolding(crate::specs::Inter::luma_moved))]
-fn luma_vectors(entry: &Entry) -> [PlaneVector; 16]
-    requires { AreSmall entry.now.vectors }
-    ensures len { length result ≡ 16 }
-    ensures value { AreVectors 16 result (luma_moved entry.now) }
+/// One of the colour planes of an inter macroblock.
+pub(crate) fn rebuild_inter_chroma(
+    picture: &mut Picture,
+    plane: usize,
+    place: Place,
+    motion: &Entry,
+    reference: &Picture,
+    version: u8,
+    tokens: &Tokens,
+    factors: &Factors,
+)
+    requires plane { plane < 3 }
+    requires columns { 8 * place.column + 8 ≤ (plane_of picture.old plane).width }
+    requires rows { 8 * place.row + 8 ≤ (plane_of picture.old plane).height }
+    ensures { picture.new ≡ with_plane picture.old plane (chroma_rebuilt (macroblock_of (Inter motion.now reference.now version) tokens.now factors.now) plane place (plane_of picture.old plane)) }
 {
-    let mut vectors = [PlaneVector { row: 0, column: 0 }; 16];
-    for k in 0..16 {
-        let vector = entry.vectors[k];
-        vectors[k] = luma_vector(vector.row, vector.column);
+    let _size = [picture.plane(plane).width(), picture.plane(plane).height()];
+    let _dim = reference.dim();
+    let kept = chroma_residues(tokens, factors, plane);
+    if motion.mode.is_split() {
+        let vectors = chroma_vectors(version, motion);
+        write_moved::<2>(picture, plane, place, reference, version, &vectors, &kept);
+    } else {
+        let [x, y] = [8 * place.column, 8 * place.row];
+        let vector = chroma_vector_of(version, motion, 0);
+        let prediction = predict_block8(reference.plane(plane), x, y, vector, version);
+        write_whole::<2>(picture, plane, x, y, &prediction, &kept);
     }
-    vectors
 }
 
-/// How the subblocks of either colour plane move.
-fn chroma_vectors(version: u8, entry: &Entry) -> [PlaneVector; 4]
-    requires { AreSmall entry.now.vectors }
-    ensures len { length result ≡ 4 }
-    ensures value { AreVectors 4 result (chroma_moved version entry.now) }
+/// How luma subblock `k` moves.
+#[tactic(auto, unfolding(crate::specs::Prediction::luma_moved))]
+fn luma_vector_of(motion: &Entry, k: usize) -> PlaneVector
+    requires { k < 16 }
+    ensures { result ≡ luma_moved motion.now k }
 {
-    let mut vectors = [PlaneVector { row: 0, column: 0 }; 4];
-    for k in 0..4 {
-        vectors[k] = vector_of_four(version, &entry.vectors, 8 * (k / 2) + 2 * (k % 2));
-    }
-    vectors
+    let vector = motion.vectors[k];
+    luma_vector(vector.row, vector.column)
+}
+
+/// How subblock `k` of either colour plane moves.
+#[tactic(auto, unfolding(crate::specs::Prediction::chroma_moved))]
+fn chroma_vector_of(version: u8, motion: &Entry, k: usize) -> PlaneVector
+    requires { k < 4 }
+    ensures { result ≡ chroma_moved version motion.now k }
+{
+    vector_of_four(version, &motion.vectors, 8 * (k / 2) + 2 * (k % 2))
 }
 
 /// How a chroma subblock moves, by the vectors of two by two luma subblocks, of which `first` is at the top left.
 fn vector_of_four(version: u8, vectors: &[Vector; 16], first: usize) -> PlaneVector
-    requires block { first ≤ 10 }
-    requires small { AreSmall vectors.now }
+    requires { first ≤ 10 }
     ensures { result ≡ chroma_vector version (map (λ v. v.row) (four_from vectors.now first)) (map (λ v. v.column) (four_from vectors.now first)) }
 {
     let [a, b] = [vectors[first], vectors[first + 1]];
@@ -105,75 +114,29 @@ fn vector_of_four(version: u8, vectors: &[Vector; 16], first: usize) -> PlaneVec
     )
 }
 
-/// Whether all are the same.
-fn are_same(vectors: &[PlaneVector]) -> bool
-    requires { 0 < length vectors.now }
-    ensures { result ≡ true → AreSame vectors.now }
+/// How the luma subblocks move.
+fn luma_vectors(motion: &Entry) -> [PlaneVector; 16]
+    ensures len { length result ≡ 16 }
+    ensures value { AreVectors 16 result (luma_moved motion.now) }
 {
-    let first = vectors[0];
-    for k in 0..vectors.len() {
-        let vector = vectors[k];
-        if vector.row != first.row || vector.column != first.column {
-            return false;
-        }
+    let mut vectors = [PlaneVector { row: 0, column: 0 }; 16];
+    for k in 0..16 {
+        vectors[k] = luma_vector_of(motion, k);
     }
-    true
+    vectors
 }
 
-/// Writes luma of a macroblock: at once where all of it moves alike.
-fn write_luma(
-    picture: &mut Picture,
-    place: Place,
-    reference: &Picture,
-    version: u8,
-    vectors: &[PlaneVector; 16],
-    kept: &[Kept; 16],
-)
-    requires columns { 16 * place.column + 16 ≤ (plane_of picture.old 0).width }
-    requires rows { 16 * place.row + 16 ≤ (plane_of picture.old 0).height }
-    requires wide { 0 < (plane_of reference.now 0).width }
-    requires high { 0 < (plane_of reference.now 0).height }
-    ensures { (vector : ℕ → PlaneVector) → (residue : ℕ → List ℤ) → AreVectors 16 vectors.now vector → AreKept 16 kept.now residue → picture.new ≡ with_plane picture.old 0 (with_moved version (plane_of reference.now 0) (plane_of picture.old 0) (16 * place.column) (16 * place.row) 4 vector residue) }
+/// How the subblocks of either colour plane move.
+fn chroma_vectors(version: u8, motion: &Entry) -> [PlaneVector; 4]
+    ensures len { length result ≡ 4 }
+    ensures value { AreVectors 4 result (chroma_moved version motion.now) }
 {
-    if !are_same(vectors) {
-        write_moved::<4>(picture, 0, place, reference, version, vectors, kept);
-        return;
-    }
-    let _width = picture.plane(0).width();
-    let _height = picture.plane(0).height();
-    let x = 16 * place.column;
-    let y = 16 * place.row;
-    let prediction = predict_block16(reference.plane(0), x, y, vectors[0], version);
-    write_whole::<4>(picture, 0, x, y, &prediction, kept);
-}
-
-/// Writes one of the colour planes of a macroblock: at once where all of it moves alike.
-fn write_chroma(
-    picture: &mut Picture,
-    plane: usize,
-    place: Place,
-    reference: &Picture,
-    version: u8,
-    vectors: &[PlaneVector; 4],
-    kept: &[Kept; 4],
-)
-    requires plane { plane < 3 }
-    requires columns { 8 * place.column + 8 ≤ (plane_of picture.old plane).width }
-    requires rows { 8 * place.row + 8 ≤ (plane_of picture.old plane).height }
-    requires wide { 0 < (plane_of reference.now plane).width }
-    requires high { 0 < (plane_of reference.now plane).height }
-    ensures { (vector : ℕ → PlaneVector) → (residue : ℕ → List ℤ) → AreVectors 4 vectors.now vector → AreKept 4 kept.now residue → picture.new ≡ with_plane picture.old plane (with_moved version (plane_of reference.now plane) (plane_of picture.old plane) (8 * place.column) (8 * place.row) 2 vector residue) }
-{
-    if !are_same(vectors) {
-        write_moved::<2>(picture, plane, place, reference, version, vectors, kept);
-        return;
-    }
-    let _width = picture.plane(plane).width();
-    let _height = picture.plane(plane).height();
-    let x = 8 * place.column;
-    let y = 8 * place.row;
-    let prediction = predict_block8(reference.plane(plane), x, y, vectors[0], version);
-    write_whole::<2>(picture, plane, x, y, &prediction, kept);
+    [
+        chroma_vector_of(version, motion, 0),
+        chroma_vector_of(version, motion, 1),
+        chroma_vector_of(version, motion, 2),
+        chroma_vector_of(version, motion, 3),
+    ]
 }
 
 /// Writes a macroblock's block of one plane, `ACROSS` by `ACROSS` subblocks, each moved by a vector of its own and with
@@ -196,7 +159,7 @@ fn write_moved<const ACROSS: usize>(
     requires rows { 4 * ACROSS * place.row + 4 * ACROSS ≤ (plane_of picture.old plane).height }
     requires wide { 0 < (plane_of reference.now plane).width }
     requires high { 0 < (plane_of reference.now plane).height }
-    ensures { (vector : ℕ → PlaneVector) → (residue : ℕ → List ℤ) → AreVectors (ACROSS * ACROSS) vectors.now vector → AreKept (ACROSS * ACROSS) kept.now residue → picture.new ≡ with_plane picture.old plane (with_moved version (plane_of reference.now plane) (plane_of picture.old plane) (4 * ACROSS * place.column) (4 * ACROSS * place.row) ACROSS vector residue) }
+    ensures { (vector : ℕ → PlaneVector) → (residue : ℕ → List ℤ) → AreVectors (ACROSS * ACROSS) vectors.now vector → AreKept (ACROSS * ACROSS) kept.now residue → picture.new ≡ with_plane picture.old plane (with_block (plane_of picture.old plane) (4 * ACROSS * place.column) (4 * ACROSS * place.row) (4 * ACROSS) (4 * ACROSS) (moved_sum version (plane_of reference.now plane) (4 * ACROSS * place.column) (4 * ACROSS * place.row) ACROSS vector residue)) }
 {
     let _width = picture.plane(plane).width();
     let _height = picture.plane(plane).height();

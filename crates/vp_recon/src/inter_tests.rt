@@ -1,26 +1,13 @@
 ghost use Rattle.std.specs.Prelude.{◌≡◌, ◌<◌};
-ghost use Rattle.vp_motion.specs.Map.{AreSmall};
 
 use super::*;
+use crate::tests::{FACTORS, TOP};
 use std::alloc::Global;
 use vp_base::{Dim, Limits, Picture};
 use vp_head::Reference;
-use vp_modes::Place;
 use vp_motion::{Entry, Vector};
-use vp_quant::Factors;
 use vp_tables::VectorMode;
 use vp_tokens::{Block, Tokens};
-
-const FACTORS: Factors = Factors {
-    y_dc: 4,
-    y_ac: 4,
-    y2_dc: 8,
-    y2_ac: 8,
-    uv_dc: 4,
-    uv_ac: 4,
-};
-
-const TOP: Place = Place { column: 0, row: 0 };
 
 /// One luma pixel to the right.
 const RIGHT: Vector = Vector { row: 0, column: 4 };
@@ -58,14 +45,13 @@ fn lit_at(alloc: Global, dim: Dim, x: usize, y: usize) -> Option<Picture>
 fn moves_to(
     alloc: Global,
     dim: Dim,
-    entry: &Entry,
+    motion: &Entry,
     reference: &Picture,
     from: usize,
     to: usize,
 ) -> bool
     requires width { dim.w ≡ 16 }
     requires height { dim.h ≡ 16 }
-    requires small { AreSmall entry.now.vectors }
 {
     let tokens = Tokens {
         blocks: [Block::NONE; 25],
@@ -73,16 +59,19 @@ fn moves_to(
     let Ok(mut picture) = Picture::new(alloc, dim, 0) else {
         return false;
     };
-    rebuild_inter_macroblock(&mut picture, TOP, entry, &tokens, &FACTORS, reference, 0);
+    let source = Source::Inter {
+        motion,
+        reference,
+        version: 0,
+    };
+    rebuild_macroblock(&mut picture, TOP, &source, &tokens, &FACTORS);
     match picture.crop_i420(alloc) {
         Ok(bytes) => is_lit(&bytes, from, to),
         Err(_) => false,
     }
 }
 
-fn moved() -> Entry
-    ensures { AreSmall result.vectors }
-{
+fn moved() -> Entry {
     Entry {
         reference: Reference::Last,
         mode: VectorMode::New,
@@ -101,9 +90,7 @@ fn a_moved_macroblock(rt: HostRuntime) {
     assert!(rt; moves_to(rt.alloc(), dim, &moved(), &reference, 52, 53));
 }
 
-fn split() -> Entry
-    ensures { AreSmall result.vectors }
-{
+fn split() -> Entry {
     let mut vectors = [STILL; 16];
     vectors[0] = RIGHT;
     Entry {

@@ -1,19 +1,24 @@
-//! Rebuilding of one macroblock: prediction plus residue (RFC 6386, chapters 12 and 14).
+//! Rebuilding of one macroblock: prediction plus residue (RFC 6386, chapters 12, 14 and 18).
 #![tactic(auto)]
 
-mod added;
 mod inter;
 #[cfg(test)]
 mod inter_tests;
-mod law;
+mod intra;
+mod kept;
+mod laws;
 mod macroblock;
 mod residue;
+mod source;
 #[cfg(test)]
 mod tests;
+mod whole;
 
-pub use inter::rebuild_inter_macroblock;
-pub use law::{
-    inter_rebuilding_reads_no_row, rebuilding_keeps_rows_above, rebuilding_reads_one_row_above,
-    unfiltered_equation_has_one_solution, unfiltered_picture_solves_its_equation,
+pub use intra::rebuild_subblock;
+pub use laws::{
+    luma_is_rebuilt_by_subblocks, rebuilding_keeps_rows_above, rebuilding_keeps_shape,
+    rebuilding_reads_one_row_above, unfiltered_equation_has_one_solution,
+    unfiltered_picture_solves_its_equation,
 };
 pub use macroblock::rebuild_macroblock;
+pub use source::Source;

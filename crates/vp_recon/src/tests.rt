@@ -2,14 +2,14 @@ ghost use Rattle.std.specs.Prelude.{◌≡◌, ◌≤◌};
 
 use super::*;
 use std::alloc::Global;
-use vp_base::{Dim, Limits, Picture, Plane};
+use vp_base::{Dim, Limits, Picture, Place, Plane};
 use vp_head::Reference;
-use vp_modes::{Modes, Place};
+use vp_modes::Modes;
 use vp_quant::Factors;
 use vp_tables::{ChromaMode, LumaMode, SubMode};
 use vp_tokens::{Block, Tokens};
 
-const FACTORS: Factors = Factors {
+pub(crate) const FACTORS: Factors = Factors {
     y_dc: 4,
     y_ac: 4,
     y2_dc: 8,
@@ -18,7 +18,7 @@ const FACTORS: Factors = Factors {
     uv_ac: 4,
 };
 
-const TOP: Place = Place { column: 0, row: 0 };
+pub(crate) const TOP: Place = Place { column: 0, row: 0 };
 
 fn modes(luma: LumaMode) -> Modes {
     Modes {
@@ -49,11 +49,12 @@ fn rebuilds_empty(alloc: Global, picture: &mut Picture) -> bool
 {
     let below = Place { column: 0, row: 1 };
     let modes = modes(LumaMode::B);
+    let source = Source::Intra(&modes);
     let tokens = Tokens {
         blocks: [Block::NONE; 25],
     };
-    rebuild_macroblock(picture, TOP, &modes, &tokens, &FACTORS);
-    rebuild_macroblock(picture, below, &modes, &tokens, &FACTORS);
+    rebuild_macroblock(picture, TOP, &source, &tokens, &FACTORS);
+    rebuild_macroblock(picture, below, &source, &tokens, &FACTORS);
     match picture.crop_i420(alloc) {
         Ok(bytes) => is_empty_picture(&bytes),
         Err(_) => false,
@@ -86,6 +87,11 @@ fn has_block(plane: &Plane, at: usize, wanted: &[[u8; 4]; 4]) -> bool
     true
 }
 
+const LEAST: Block = Block {
+    levels: [-2114; 16],
+    tokens: 16,
+};
+
 const FIRST_OF_ONES: [[u8; 4]; 4] = [
     [0, 255, 0, 0],
     [255, 0, 255, 251],
@@ -98,28 +104,47 @@ fn all_ones_tokens(rt: HostRuntime) {
     let Ok(dim) = Dim::new(16, 16, &Limits::usual()) else {
         panic!(rt; "a size");
     };
-    let block = Block {
-        levels: [-2114; 16],
-        tokens: 16,
-    };
+    let modes = modes(LumaMode::B);
+    let source = Source::Intra(&modes);
     let tokens = Tokens {
-        blocks: [block; 25],
+        blocks: [LEAST; 25],
     };
     let Ok(mut picture) = Picture::new(rt.alloc(), dim, 0) else {
         panic!(rt; "a picture");
     };
-    rebuild_macroblock(&mut picture, TOP, &modes(LumaMode::B), &tokens, &FACTORS);
+    assert!(rt; !source.has_y2());
+    rebuild_macroblock(&mut picture, TOP, &source, &tokens, &FACTORS);
     assert!(rt; has_block(picture.plane(0), 0, &FIRST_OF_ONES));
     assert!(rt; has_block(picture.plane(1), 0, &FIRST_OF_ONES));
     assert!(rt; has_block(picture.plane(2), 0, &FIRST_OF_ONES));
 }
 
+#[test]
+fn one_subblock(rt: HostRuntime) {
+    let Ok(dim) = Dim::new(16, 16, &Limits::usual()) else {
+        panic!(rt; "a size");
+    };
+    let Ok(mut picture) = Picture::new(rt.alloc(), dim, 0) else {
+        panic!(rt; "a picture");
+    };
+    rebuild_subblock(&mut picture, TOP, SubMode::Dc, &LEAST, &FACTORS);
+    assert!(rt; has_block(picture.plane(0), 0, &FIRST_OF_ONES));
+}
+
+const Y2: Block = Block {
+    levels: [5, -3, 0, 0, 0, 0, 0, 0, 0, 0, 0, 0, 0, 0, 0, 0],
+    tokens: 2,
+};
+
+const SIXTH: Block = Block {
+    levels: [0, 7, -9, 0, 0, 0, 0, 0, 0, 0, 0, 0, 0, 0, 0, 0],
+    tokens: 3,
+};
+
 fn tokens_of_two_blocks() -> Tokens {
     let mut blocks = [Block::NONE; 25];
-    blocks[0].levels[0] = 5;
-    blocks[0].levels[1] = -3;
-    blocks[6].levels[1] = 7;
-    blocks[6].levels[2] = -9;
+    blocks[0] = Y2;
+    blocks[6] = SIXTH;
     Tokens { blocks }
 }
 
@@ -147,7 +172,10 @@ fn first_coefficients_of_y2(rt: HostRuntime) {
     let Ok(mut picture) = Picture::new(rt.alloc(), dim, 0) else {
         panic!(rt; "a picture");
     };
-    rebuild_macroblock(&mut picture, TOP, &modes(LumaMode::Dc), &tokens, &FACTORS);
+    let modes = modes(LumaMode::Dc);
+    let source = Source::Intra(&modes);
+    assert!(rt; source.has_y2());
+    rebuild_macroblock(&mut picture, TOP, &source, &tokens, &FACTORS);
     assert!(rt; has_block(picture.plane(0), 4, &MIXED));
     assert!(rt; has_corners(picture.plane(0), 128, 129));
 }

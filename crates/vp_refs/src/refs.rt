@@ -1,10 +1,9 @@
 //! The three pictures that inter frames are predicted from.
 
-ghost use Rattle.std.specs.Prelude.{◌≡◌, ◌≢◌, IfOk, OnOk, OnErr, if◌then◌else◌};
-ghost use Rattle.vp_head.specs.declared.fields.Reference.TheVariants.{Intra};
+ghost use Rattle.std.specs.Prelude.{◌≡◌, IfOk, OnOk, OnErr, if◌then◌else◌};
 ghost use Rattle.vp_refs.specs.References.{all_of, copied_by, picture_of, updated};
 
-use std::alloc::{AllocError, Global};
+use std::alloc::AllocError;
 use std::marker::Model;
 use std::rc::Rc;
 use vp_base::Picture;
@@ -30,21 +29,19 @@ impl Model for Refs {
 
 impl Refs {
     /// What a key frame's picture leaves: it is all of them.
-    pub fn of_key(alloc: Global, picture: Picture) -> Result<Refs, AllocError>
-        ensures { IfOk result (λ r. r ≡ all_of picture) }
+    pub fn of_key(picture: Rc<Picture>) -> Result<Refs, AllocError>
+        ensures { IfOk result (λ r. r ≡ all_of picture.value) }
     {
-        let newest = Rc::new(alloc, picture)?;
         Ok(Refs {
-            last: newest.clone()?,
-            golden: newest.clone()?,
-            alt: newest.clone()?,
-            newest,
+            last: picture.clone()?,
+            golden: picture.clone()?,
+            alt: picture.clone()?,
+            newest: picture,
         })
     }
 
-    /// The picture that a macroblock of this reference is predicted from.
+    /// The picture that a macroblock of this reference is predicted from; an intra macroblock has none, and gets the last.
     pub fn get(&self, reference: Reference) -> &Picture
-        requires { reference ≢ Intra }
         ensures { result.now ≡ picture_of self.now reference }
     {
         match reference {
@@ -62,17 +59,11 @@ impl Refs {
     }
 
     /// Takes a frame's picture, after its loop filter, and changes the references as its header says.
-    pub fn update(
-        &mut self,
-        alloc: Global,
-        header: &Header,
-        picture: Picture,
-    ) -> Result<(), AllocError>
-        ensures ok { OnOk result (self.new ≡ updated header.now picture self.old) }
+    pub fn update(&mut self, header: &Header, newest: Rc<Picture>) -> Result<(), AllocError>
+        ensures ok { OnOk result (self.new ≡ updated header.now newest.value self.old) }
         ensures memory { OnErr result (self.new ≡ self.old) }
     {
         let updates = &header.updates;
-        let newest = Rc::new(alloc, picture)?;
         let alt = copied(updates.copy_to_alt, &self.last, &self.golden, &self.alt)?;
         let golden = copied(updates.copy_to_golden, &self.last, &alt, &self.golden)?;
         let alt = refreshed(header.key || updates.refresh_alt, &newest, &alt)?;

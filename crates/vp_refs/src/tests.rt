@@ -1,4 +1,6 @@
 use super::*;
+use std::alloc::{AllocError, Global};
+use std::rc::Rc;
 use std::test::Fail;
 use vp_base::{Dim, Limits, Picture};
 use vp_head::{
@@ -57,43 +59,70 @@ fn corner(picture: &Picture) -> Option<u8> {
     Some(plane.get(0, 0))
 }
 
-// As libvpx does: altref takes the last picture, and then golden takes altref's.
-#[test]
-fn altref_is_copied_before_golden(rt: HostRuntime) -> Result<(), Fail> {
-    let dim = Dim::new(16, 16, &Limits::usual()).ok().ok_or("a size")?;
-    let nothing = ReferenceUpdates {
-        refresh_golden: false,
-        refresh_alt: false,
-        copy_to_golden: ReferenceCopy::Nothing,
-        copy_to_alt: ReferenceCopy::Nothing,
-        refresh_last: false,
-    };
-    let mut refs = Refs::of_key(rt.alloc(), Picture::new(rt.alloc(), dim, 1)?)?;
-    let takes_last = ReferenceUpdates {
-        refresh_last: true,
-        ..nothing
-    };
-    refs.update(
-        rt.alloc(),
-        &asking_for(takes_last),
-        Picture::new(rt.alloc(), dim, 2)?,
-    )?;
-    let copies = ReferenceUpdates {
-        copy_to_golden: ReferenceCopy::Other,
-        copy_to_alt: ReferenceCopy::Last,
-        ..nothing
-    };
-    refs.update(
-        rt.alloc(),
-        &asking_for(copies),
-        Picture::new(rt.alloc(), dim, 3)?,
-    )?;
-    let seen = [
+// A picture of one value.
+fn flat(alloc: Global, dim: Dim, value: u8) -> Result<Rc<Picture>, AllocError> {
+    Rc::new(alloc, Picture::new(alloc, dim, value)?)
+}
+
+const NOTHING: ReferenceUpdates = ReferenceUpdates {
+    refresh_golden: false,
+    refresh_alt: false,
+    copy_to_golden: ReferenceCopy::Nothing,
+    copy_to_alt: ReferenceCopy::Nothing,
+    refresh_last: false,
+};
+
+// The first pixels of last, golden, altref and the newest picture.
+fn corners(refs: &Refs) -> [Option<u8>; 4] {
+    [
         corner(refs.get(Reference::Last)),
         corner(refs.get(Reference::Golden)),
         corner(refs.get(Reference::Alt)),
         corner(refs.newest()),
-    ];
-    assert_eq!(rt; seen, [Some(2), Some(2), Some(2), Some(3)]);
+    ]
+}
+
+// As libvpx does: altref takes the last picture, and then golden takes altref's.
+#[test]
+fn altref_is_copied_before_golden(rt: HostRuntime) -> Result<(), Fail> {
+    let dim = Dim::new(16, 16, &Limits::usual()).ok().ok_or("a size")?;
+    let mut refs = Refs::of_key(flat(rt.alloc(), dim, 1)?)?;
+    let takes_last = ReferenceUpdates {
+        refresh_last: true,
+        ..NOTHING
+    };
+    refs.update(&asking_for(takes_last), flat(rt.alloc(), dim, 2)?)?;
+    let copies = ReferenceUpdates {
+        copy_to_golden: ReferenceCopy::Other,
+        copy_to_alt: ReferenceCopy::Last,
+        ..NOTHING
+    };
+    refs.update(&asking_for(copies), flat(rt.alloc(), dim, 3)?)?;
+    assert_eq!(rt; corners(&refs), [Some(2), Some(2), Some(2), Some(3)]);
+    Ok(())
+}
+
+// Copy number 3 copies nothing.
+#[test]
+fn unused_number_copies_nothing(rt: HostRuntime) -> Result<(), Fail> {
+    let dim = Dim::new(16, 16, &Limits::usual()).ok().ok_or("a size")?;
+    let mut refs = Refs::of_key(flat(rt.alloc(), dim, 1)?)?;
+    let golden = ReferenceUpdates {
+        refresh_golden: true,
+        ..NOTHING
+    };
+    refs.update(&asking_for(golden), flat(rt.alloc(), dim, 2)?)?;
+    let alt = ReferenceUpdates {
+        refresh_alt: true,
+        ..NOTHING
+    };
+    refs.update(&asking_for(alt), flat(rt.alloc(), dim, 3)?)?;
+    let unused = ReferenceUpdates {
+        copy_to_golden: ReferenceCopy::Unused,
+        copy_to_alt: ReferenceCopy::Unused,
+        ..NOTHING
+    };
+    refs.update(&asking_for(unused), flat(rt.alloc(), dim, 4)?)?;
+    assert_eq!(rt; corners(&refs), [Some(1), Some(2), Some(3), Some(4)]);
     Ok(())
 }

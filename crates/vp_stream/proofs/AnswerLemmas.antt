@@ -100,7 +100,8 @@ keyless limits b says other =
 
 still_none : (limits : Limits) (b : List ℕ) → SaysInter limits → ¬ IsKeyPacket b → (step limits None b).0 ≡ None
 unfolding step opened
-still_none limits b says other = none_kept (tag_of limits b) b (keyless limits b says other)
+still_none limits [] says other = refl
+still_none limits (x ∷ xs) says other = none_kept (tag_of limits (x ∷ xs)) (x ∷ xs) (keyless limits (x ∷ xs) says other)
 
 stays_none : (limits : Limits) (ps : List Packet) (n : ℕ) → SaysInter limits → ((k : ℕ) → k < n → ¬ IsKeyAt ps k)
     → state_after limits None (take n ps) ≡ None

@@ -1,34 +1,27 @@
 -- The sizes of shown pictures: frames keep the size of the key frame before them.
 use Rattle.std.proofs.Common.{◌≡◌, ℕ, zero, suc, ◌+◌, ◌-◌, ◌<◌, ◌≤◌, Bool, true, false, cond, List, [], ◌∷◌, drop, Option, Some, None, refl, sym, ap, ◌∙◌, arith}
-use Rattle.std.specs.Prelude.{slice_get, Result, Ok, Err, IfOk, IsNone, IsSome, is_some, nat_lt, length, option_map}
+use Rattle.std.specs.Prelude.{slice_get, Result, Ok, Err, IfOk, IfSome, IsNone, IsSome, is_some, nat_lt, length, option_map}
 use Rattle.std.proofs.lemmas.Option.{same_Some, none-some}
 use Rattle.vp_bool.specs.Bools.{State, start}
 use Rattle.vp_base.specs.declared.limits.Limits.{Limits}
-use Rattle.vp_base.specs.Image.{Image, blank_image}
+use Rattle.vp_base.specs.Image.{Image, blank_image, macroblocks}
 use Rattle.vp_base.specs.Over.{over}
 use Rattle.vp_head.specs.declared.fields.Tag.{Tag}
 use Rattle.vp_head.specs.declared.fields.KeyTag.{KeyTag}
 use Rattle.vp_head.specs.declared.fields.Saved.{Saved}
 use Rattle.vp_head.specs.declared.fields.Header.{Header}
 use Rattle.vp_head.specs.declared.fault.PacketFault.{PacketFault}
-use Rattle.vp_head.specs.declared.fault.PacketFault.TheVariants.{FirstPartition}
+use Rattle.vp_head.specs.declared.fault.PacketFault.TheVariants.{FirstPartition, NoReference}
 use Rattle.vp_head.specs.Saved.{defaults}
 use Rattle.vp_head.specs.Header.{header}
 use Rattle.vp_head.specs.Tag.{IsKeyPacket, tag_of}
 use Rattle.vp_ivf.specs.declared.packet.Packet.{Packet}
-use Rattle.vp_modes.specs.declared.entry.Modes.{Modes}
-use Rattle.vp_motion.specs.declared.vector.Entry.{Entry}
-use Rattle.vp_tokens.specs.declared.contexts.Tokens.{Tokens}
-use Rattle.vp_quant.specs.declared.factors.Factors.{Factors}
-use Rattle.vp_recon.specs.Rebuilt.{rebuilt}
-use Rattle.vp_refs.specs.References.{References}
+use Rattle.vp_recon.specs.Rebuilt.{row_rebuilt}
 use Rattle.vp_loop.specs.declared.strength.Level.{Level}
 use Rattle.vp_loop.specs.Filtered.{filtered, row_filtered}
-use Rattle.vp_modes.specs.Modes.{is_intra}
-use Rattle.vp_decode.specs.declared.maps.Maps.{Maps}
-use Rattle.vp_decode.specs.Frame.{Basis, inter_at, rebuilt_by, unfiltered, picture_of}
+use Rattle.vp_decode.specs.Frame.{Frame, levels_of, unfiltered, picture_of}
 use Rattle.vp_tokens.specs.Partitions.{cut_of}
-use Rattle.vp_decode.specs.Step.{Opened, Kept, Answer, Shown, Hidden, Fault, step, step_on, frame_step, kept_step, answer, opened, opened_tag, opened_saved, opened_parts, first_part, tag_length, count_of}
+use Rattle.vp_decode.specs.Step.{Opened, Kept, Answer, Shown, Hidden, Fault, step, step_on, frame_step, kept_step, key_frame, inter_frame, key_kept, inter_kept, shown_after, shown_again, repeated, answer, opened, opened_tag, opened_saved, opened_parts, first_part, tag_length, count_of}
 use Rattle.vp_stream.specs.Answers.{answers_from}
 use Rattle.vp_stream.specs.Seeking.{told_or_none, answer_at, HasKey, IsKeyAt, IsKeyBefore, key_before, size_in, size_in_key, size_in_packet, size_at}
 use Rattle.vp_stream.specs.Seeking as told_is
@@ -53,30 +46,18 @@ filtered-size : (levels : List Level) (p : Image) → size_of (filtered levels p
 unfolding filtered
 filtered-size levels p = over-keeps size_of _ _ p (λ row x. row-size _ row x)
 
-intra_or_inter : (b : Bool) (refs : Option References) (modes : Modes) (motion : Entry) (tokens : Tokens) (factors : Factors) (version row column : ℕ) (p : Image)
-    → size_of (cond b (rebuilt p column row modes tokens factors) (inter_at refs modes motion tokens factors version row column p)) ≡ size_of p
-intra_or_inter true refs modes motion tokens factors version row column p = refl
-intra_or_inter false None modes motion tokens factors version row column p = refl
-intra_or_inter false (Some r) modes motion tokens factors version row column p = refl
-
-rebuilt-size : (refs : Option References) (modes : Modes) (motion : Entry) (tokens : Tokens) (factors : Factors) (version row column : ℕ) (p : Image)
-    → size_of (rebuilt_by refs modes motion tokens factors version row column p) ≡ size_of p
-unfolding rebuilt_by
-rebuilt-size refs modes motion tokens factors version row column p = intra_or_inter (is_intra modes.reference) refs modes motion tokens factors version row column p
-
-unfiltered-size : (b : Basis) (m : Maps) (tokens : ℕ → ℕ → Tokens) (p : Image) → size_of (unfiltered b m tokens p) ≡ size_of p
-unfolding unfiltered
-unfiltered-size b m tokens p = over-keeps size_of _ _ p (λ row x. over-keeps size_of _ _ x (λ column y. rebuilt-size _ _ _ _ _ _ row column y))
-
-picture-size : (b : Basis) (m : Maps) (partitions : List State) (width height : ℕ) → size_of (picture_of b m partitions width height) ≡ (width, height)
-unfolding picture_of
-picture-size b m partitions width height = filtered-size _ _ ∙ unfiltered-size b m _ (blank_image width height 0)
+picture-size : (f : Frame) → size_of (picture_of f) ≡ (f.width, f.height)
+unfolding picture_of unfiltered
+picture-size f =
+    filtered-size (levels_of f) (unfiltered f)
+    ∙ over-keeps size_of (macroblocks f.height) (row_rebuilt (macroblocks f.width) f.macroblock) (blank_image f.width f.height 0)
+    (λ row x. over-keeps size_of (macroblocks f.width) _ x (λ column y. refl))
 
 -- ---- a packet's step keeps the size, or takes that of its tag
 
 abbrev HasSize : Option Kept → Option (ℕ × ℕ) → Type 0
 HasSize None z = Unit {0}
-HasSize (Some k) z = z ≡ Some (size_of k.refs.newest)
+HasSize (Some k) z = (z ≡ Some (size_of k.references.newest)) × IfSome k.shown (λ p. z ≡ Some (size_of p))
 
 record IsSized (r : Option Kept × Answer) (z : Option (ℕ × ℕ)) : Type 0 where
   kept : HasSize r.0 z
@@ -89,11 +70,25 @@ shown_is : (show : Bool) (p q : Image) → answer show p ≡ Shown q → p ≡ q
 shown_is true p q e = cc
 shown_is false p q e = absurd cc
 
-kept_sized : (o : Opened) (k : Kept) (z : Option (ℕ × ℕ)) → z ≡ Some (size_of k.refs.newest) → IsSized (kept_step o k) z
-kept_sized o k z e = record {
-  kept = e;
-  shown = λ p is_shown. e ∙ ap (λ (q : Image). Some (size_of q)) (shown_is o.tag.show k.refs.newest p is_shown);
+kept_sized : (o : Opened) (k : Kept) (z : Option (ℕ × ℕ)) → HasSize (Some k) z → IsSized (kept_step o k) z
+kept_sized o k z h = record {
+  kept = h;
+  shown = λ p is_shown. h.0 ∙ ap (λ (q : Image). Some (size_of q)) (shown_is o.tag.show k.references.newest p is_shown);
 }
+
+shown_sized : (show : Bool) (p : Image) (before : Option Image) (z : Option (ℕ × ℕ)) → z ≡ Some (size_of p) → IfSome before (λ q. z ≡ Some (size_of q))
+    → IfSome (shown_after show p before) (λ q. z ≡ Some (size_of q))
+shown_sized true p before z e h = e
+shown_sized false p before z e h = h
+
+-- the last shown picture again
+again_is : (before : Option Image) (p : Image) (z : Option (ℕ × ℕ)) → IfSome before (λ q. z ≡ Some (size_of q)) → shown_again before ≡ Shown p → z ≡ Some (size_of p)
+again_is None p z h e = absurd cc
+again_is (Some q) p z h e = h ∙ ap (λ (x : Image). Some (size_of x)) (let same : q ≡ p = cc in same)
+
+repeated_sized : (s : Option Kept) (z : Option (ℕ × ℕ)) → HasSize s z → IsSized (repeated s) z
+repeated_sized None z h = faulty NoReference z
+repeated_sized (Some k) z h = record { kept = h; shown = λ p e. again_is k.shown p z h.1 e }
 
 -- the size after a frame whose tag has this key part
 abbrev Follows : Option KeyTag → Option Kept → Option (ℕ × ℕ) → Type 0
@@ -101,9 +96,13 @@ Follows (Some key) s z = z ≡ Some (key.dim.w, key.dim.h)
 Follows None s z = HasSize s z
 
 frame_sized : (o : Opened) (key : Option KeyTag) (s : Option Kept) (z : Option (ℕ × ℕ)) → Follows key s z → IsSized (frame_step o key s) z
-frame_sized o (Some key) s z h = kept_sized o _ z (h ∙ ap (λ (x : ℕ × ℕ). Some x) (sym (picture-size _ _ _ key.dim.w key.dim.h)))
+frame_sized o (Some key) s z h =
+    let e : z ≡ Some (size_of (picture_of (key_frame o key.dim))) = h ∙ ap (λ (x : ℕ × ℕ). Some x) (sym (picture-size (key_frame o key.dim))) in
+    kept_sized o (key_kept o key.dim) z (e, shown_sized o.tag.show (picture_of (key_frame o key.dim)) None z e tt)
 frame_sized o None None z h = faulty _ z
-frame_sized o None (Some k) z h = kept_sized o _ z (h ∙ ap (λ (x : ℕ × ℕ). Some x) (sym (picture-size _ _ _ k.refs.newest.width k.refs.newest.height)))
+frame_sized o None (Some k) z h =
+    let e : z ≡ Some (size_of (picture_of (inter_frame o k))) = h.0 ∙ ap (λ (x : ℕ × ℕ). Some x) (sym (picture-size (inter_frame o k))) in
+    kept_sized o (inter_kept o k) z (e, shown_sized o.tag.show (picture_of (inter_frame o k)) k.shown z e h.1)
 
 parts_sized : (tag : Tag) (read : (Header × Saved) × State) (parts : Result (List (List ℕ)) PacketFault) (s : Option Kept) (z : Option (ℕ × ℕ))
     → Follows tag.key s z → IsSized (step_on (opened_parts tag read parts) s) z
@@ -132,9 +131,10 @@ tag_sized : (r : Result Tag PacketFault) (saved : Option Saved) (s : Option Kept
 tag_sized (Err f) saved s z packet h = faulty f z
 tag_sized (Ok tag) saved s z packet h = saved_sized tag (cond (is_some tag.key) (Some defaults) saved) s z packet h
 
-step_sized : (limits : Limits) (s : Option Kept) (packet : List ℕ) (z : Option (ℕ × ℕ)) → FollowsIn (tag_of limits packet) s z → IsSized (step limits s packet) z
+step_sized : (limits : Limits) (s : Option Kept) (packet : List ℕ) (z : Option (ℕ × ℕ)) → FollowsIn (tag_of limits packet) s z → (length packet ≡ 0 → HasSize s z) → IsSized (step limits s packet) z
 unfolding step opened
-step_sized limits s packet z h = tag_sized (tag_of limits packet) (option_map (λ k. k.saved) s) s z packet h
+step_sized limits s [] z h none = repeated_sized s z (none refl)
+step_sized limits s (b ∷ bs) z h none = tag_sized (tag_of limits (b ∷ bs)) (option_map (λ k. k.saved) s) s z (b ∷ bs) h
 
 -- ---- key packets, and others
 
@@ -164,9 +164,9 @@ sized_from : (limits : Limits) (s : Option Kept) (ps : List Packet) (j : ℕ) (z
     → (p : Image) → slice_get (answers_from limits s ps) j ≡ Some (Shown p) → z ≡ Some (size_of p)
 sized_from limits s [] j z says h other p e = absurd (none-some (Shown p) e)
 sized_from limits s (q ∷ ps) zero z says h other p e =
-    (step_sized limits s q.bytes z (keeps (tag_of limits q.bytes) s z (keyless limits q.bytes says (other 0 (omega arith))) h)).shown p (same_Some _ _ e)
+    (step_sized limits s q.bytes z (keeps (tag_of limits q.bytes) s z (keyless limits q.bytes says (other 0 (omega arith))) h) (λ _. h)).shown p (same_Some _ _ e)
 sized_from limits s (q ∷ ps) (suc j) z says h other p e =
-    let r = step_sized limits s q.bytes z (keeps (tag_of limits q.bytes) s z (keyless limits q.bytes says (other 0 (omega arith))) h) in
+    let r = step_sized limits s q.bytes z (keeps (tag_of limits q.bytes) s z (keyless limits q.bytes says (other 0 (omega arith))) h) (λ _. h) in
     sized_from limits (step limits s q.bytes).0 ps j z says r.kept (λ i l. other (suc i) (omega arith)) p e
 
 -- the same behind a key packet
@@ -174,10 +174,10 @@ sized_key : (limits : Limits) (q : Packet) (ps : List Packet) (j : ℕ) → Says
     → ((i : ℕ) → 0 < i → i ≤ j → ¬ IsKeyAt (q ∷ ps) i)
     → (p : Image) → slice_get (answers_from limits None (q ∷ ps)) j ≡ Some (Shown p) → size_in (tag_of limits q.bytes) ≡ Some (size_of p)
 sized_key limits q ps zero key says is_key other p e =
-    (step_sized limits None q.bytes (size_in (tag_of limits q.bytes)) (takes (tag_of limits q.bytes) None (key q.bytes is_key))).shown p (same_Some _ _ e)
+    (step_sized limits None q.bytes (size_in (tag_of limits q.bytes)) (takes (tag_of limits q.bytes) None (key q.bytes is_key)) (λ none. tt)).shown p (same_Some _ _ e)
 sized_key limits q ps (suc j) key says is_key other p e =
     let z = size_in (tag_of limits q.bytes) in
-    let r = step_sized limits None q.bytes z (takes (tag_of limits q.bytes) None (key q.bytes is_key)) in
+    let r = step_sized limits None q.bytes z (takes (tag_of limits q.bytes) None (key q.bytes is_key)) (λ none. tt) in
     sized_from limits (step limits None q.bytes).0 ps j z says r.kept (λ i l. other (suc i) (omega arith) (omega arith)) p e
 
 -- ---- what an answer tells

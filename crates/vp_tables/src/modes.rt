@@ -1,3 +1,6 @@
+ghost use Rattle.std.specs.Prelude.{◌≡◌};
+ghost use Rattle.vp_tables.specs.Modes.{is_by_subblocks, is_split};
+
 /// How the luma of an intra macroblock is predicted (RFC 6386, chapter 8.2, 11.2).
 #[derive(Clone, Copy, Debug, PartialEq, Eq)]
 pub enum LumaMode {
@@ -11,6 +14,15 @@ pub enum LumaMode {
     Tm,
     /// Each of the sixteen subblocks by a mode of its own (`B_PRED`).
     B,
+}
+
+impl LumaMode {
+    /// Whether each luma subblock has a mode of its own.
+    pub fn is_by_subblocks(self) -> bool
+        ensures { result ≡ is_by_subblocks self }
+    {
+        matches!(self, LumaMode::B)
+    }
 }
 
 /// How both chroma planes of an intra macroblock are predicted (chapters 8.2, 11.4).
@@ -53,6 +65,15 @@ pub enum VectorMode {
     Near,
     New,
     Split,
+}
+
+impl VectorMode {
+    /// Whether the parts of the macroblock have vectors of their own.
+    pub fn is_split(self) -> bool
+        ensures { result ≡ is_split self }
+    {
+        matches!(self, VectorMode::Split)
+    }
 }
 
 /// How a macroblock with split vectors is parted (chapter 16.4).

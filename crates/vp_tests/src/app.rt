@@ -1,6 +1,6 @@
 //! The command line over worked files.
 
-use crate::files::{HEAD, HIDDEN, INTER, KEY, file, file_and, runs, y4m};
+use crate::files::{HEAD, HIDDEN, INTER, KEY, append_runs, file, file_and, runs, y4m};
 use std::fs;
 use std::test::Fail;
 use vp_app::command;
@@ -157,6 +157,17 @@ fn info_lists_faults(rt: HostRuntime) -> Result<(), Fail> {
     let file = file(rt.alloc(), &[&KEY[..9], &INTER, &KEY])?;
     let output = b"size 16x16\nrate 30/1\npackets 3\n0 9 Truncated\n1 3 NoReference\n2 10 Shown\n";
     assert_eq!(rt; listed(&rt, &file, output, b""), (0, true, true));
+    Ok(())
+}
+
+#[test]
+fn empty_packets(rt: HostRuntime) -> Result<(), Fail> {
+    let file = file(rt.alloc(), &[&KEY, &[]])?;
+    let output = b"size 16x16\nrate 30/1\npackets 2\n0 10 Shown\n1 0 Shown\n";
+    assert_eq!(rt; listed(&rt, &file, output, b""), (0, true, true));
+    let mut pictures = runs(rt.alloc(), [64, 192, 128])?;
+    append_runs(&mut pictures, [64, 192, 128])?;
+    assert_eq!(rt; decoded(&rt, &file, &pictures, b""), (0, true, true));
     Ok(())
 }
 

@@ -1,6 +1,6 @@
 //! Worked packets, one after another.
 
-use crate::files::{INTER, KEY};
+use crate::files::{HIDDEN, INTER, KEY};
 use std::alloc::{AllocError, Global};
 use std::test::Fail;
 use vp_base::Limits;
@@ -114,6 +114,40 @@ fn hidden_packet(rt: HostRuntime) -> Result<(), Fail> {
         )?
     );
     assert!(rt; decoder.picture().is_none());
+    Ok(())
+}
+
+#[test]
+fn empty_packets(rt: HostRuntime) -> Result<(), Fail> {
+    let bytes = shown(rt.alloc(), &[&KEY, &INTER, &[]])?;
+    assert_eq!(rt; bytes.len(), 384);
+    assert!(rt; is_all(&bytes, 128));
+    Ok(())
+}
+
+#[test]
+fn empty_packets_behind_hidden_ones(rt: HostRuntime) -> Result<(), Fail> {
+    let mut decoder = Decoder::new(rt.alloc(), Limits::usual());
+    assert!(rt;
+        gives(
+            &mut decoder,
+            &[
+                (&[], Outcome::Fault(PacketFault::NoReference)),
+                (&KEY, Outcome::Shown),
+                (&[0x01, 0, 0], Outcome::Hidden),
+                (&[], Outcome::Shown),
+            ]
+        )?
+    );
+    let bytes = pixels(rt.alloc(), &decoder)?;
+    assert_eq!(rt; bytes.len(), 384);
+    assert!(rt; is_empty_picture(&bytes, 256));
+    assert!(rt;
+        gives(
+            &mut decoder,
+            &[(&HIDDEN, Outcome::Hidden), (&[], Outcome::Hidden)]
+        )?
+    );
     Ok(())
 }
 

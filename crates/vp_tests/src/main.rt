@@ -13,6 +13,8 @@ mod files;
 mod stream_files;
 #[cfg(test)]
 mod stream_seeking;
+#[cfg(test)]
+mod window;
 
 use md5::{Digest, Md5};
 use std::alloc::Global;

@@ -1,6 +1,6 @@
 //! `Stream`: files that grow, asked for any packet.
 
-use crate::files::{HEAD, INTER, KEY, file};
+use crate::files::{HEAD, HIDDEN, INTER, KEY, file};
 use std::alloc::{AllocError, Global};
 use std::test::Fail;
 use vp_base::Limits;
@@ -180,6 +180,26 @@ fn hidden_packet(rt: HostRuntime) -> Result<(), Fail> {
     assert!(rt; is_hidden_at(&stream, 1)?);
     assert!(rt; shows_at(&stream, 0, 128, 129)?);
     assert!(rt; is_none_at(&stream, 2)?);
+    Ok(())
+}
+
+#[test]
+fn empty_packets(rt: HostRuntime) -> Result<(), Fail> {
+    let stream = stream_of(rt.alloc(), &[&KEY, &INTER, &[]])?;
+    assert!(rt; shows_by(&stream, 2, (128, 128), 3)?);
+    let stream = stream_of(rt.alloc(), &[&KEY, &[0x01, 0, 0], &[]])?;
+    assert!(rt; shows_by(&stream, 2, (128, 129), 3)?);
+    let stream = stream_of(rt.alloc(), &[&KEY, &HIDDEN, &[]])?;
+    assert!(rt; is_hidden_at(&stream, 1)?);
+    assert!(rt; is_hidden_at(&stream, 2)?);
+    Ok(())
+}
+
+#[test]
+fn empty_packet_before_a_key_packet(rt: HostRuntime) -> Result<(), Fail> {
+    let stream = stream_of(rt.alloc(), &[&[], &KEY])?;
+    assert!(rt; is_fault_by(&stream, 0, PacketFault::NoReference, 1)?);
+    assert!(rt; shows_by(&stream, 1, (128, 129), 1)?);
     Ok(())
 }
 

@@ -1,4 +1,5 @@
 pub mod PartitionLemmas
 pub mod LevelLemmas
-pub mod Coordinates
+pub mod Around
+pub mod Reading
 pub mod Steps

@@ -1,4 +1,6 @@
 pub mod Partitions
+pub mod Block
 pub mod Levels
 pub mod Blocks
+pub mod Contexts
 pub mod Flagged

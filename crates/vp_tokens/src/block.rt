@@ -1,18 +1,32 @@
 ghost use Rattle.std.specs.Prelude.{◌≡◌, ◌≤◌, ◌<◌};
-ghost use Rattle.vp_tokens.specs.Levels.{Probabilities, bands_of, first_of, row, token, is_end, pair_after, block, has_token, IsBlock};
+ghost use Rattle.vp_tokens.specs.Block.{has_token};
+ghost use Rattle.vp_tokens.specs.Levels.{Probabilities, bands_of, first_of, row, token, is_end, pair_after, block};
 
 use crate::sizes::{read_signed, read_size};
+use std::marker::Model;
 use vp_bool::BoolDecoder;
 use vp_tables::{TOKEN_TREE, Token, band};
 use vp_tree::read_tree_from;
 
-/// The levels of a block of 4 by 4 coefficients.
+/// The levels of a block of 4 by 4 coefficients: none is further than 2,114 from 0, and none stands behind the last token.
 #[derive(Clone, Copy, Debug, PartialEq, Eq)]
 pub struct Block {
     /// By position, in the order in which they are read; the residue layer puts them into raster order.
     pub levels: [i16; 16],
     /// The position behind the last token that was read before the end of the block; 0 where none was.
     pub tokens: u8,
+}
+
+impl Model for Block {
+    ghost use Rattle.vp_tokens.specs.Block.{Block, IsBlock};
+
+    ghost Value = { Block };
+
+    ghost view = { λ b. record { levels = b.levels; tokens = b.tokens } };
+
+    ghost invariant = { λ b. IsBlock (record { levels = b.levels; tokens = b.tokens }) };
+
+    ghost inverse = { λ b. record { levels = b.levels; tokens = b.tokens } };
 }
 
 /// The types of block, by which probabilities are chosen (RFC 6386, chapter 13.3).
@@ -119,7 +133,6 @@ pub(crate) fn read_block(
     requires { context < 3 }
     ensures value { result ≡ (block probabilities.now kind context d.old).0 }
     ensures rest { d.new ≡ (block probabilities.now kind context d.old).1 }
-    ensures block { IsBlock result }
 {
     let bands = bands_of(probabilities, kind);
     let mut levels = [0i16; 16];

@@ -1,11 +1,14 @@
-ghost use Rattle.std.specs.Prelude.{◌≡◌, ℕ, ◌+◌, ◌*◌, ◌<◌, ◌≤◌, List, [], ◌∷◌, ◌++◌, length, slice_index_or, IfOk};
-ghost use Rattle.vp_tokens.specs.Levels.{Probabilities, IsBlock, no_tokens};
-ghost use Rattle.vp_tokens.specs.Blocks.{Blocks, Flags, StandsFor, blocks_of, had_of, flag, both, kind_of, macroblock, unless, any_token, AreBlocks};
-ghost use Rattle.vp_tokens.specs.Flagged.{above_flag, left_flag, flagged_block, all_flagged, next_flagged, advanced, below, beside};
+ghost use Rattle.std.specs.Prelude.{◌≡◌, ℕ, ◌<◌, ◌≤◌, [], length, slice_index_or, IfOk};
+ghost use Rattle.vp_base.specs.declared.place.Place.{Place};
+ghost use Rattle.vp_base.specs.Grid.{Grid, Has, all, with_entry};
+ghost use Rattle.vp_tokens.specs.Blocks.{Blocks, unread, blocks_of, had_of, flag, both, kind_of, y2_or, block_at, all_blocks, no_blocks, macroblock, any_token};
+ghost use Rattle.vp_tokens.specs.Contexts.{StandsFor, lowest, rightmost, right};
+ghost use Rattle.vp_tokens.specs.Flagged.{above_flag, left_flag, by_flags, left_at, behind};
 
 use crate::block::{Block, BlockKind, read_block};
 use std::alloc::{AllocError, Global};
 use std::marker::Model;
+use vp_base::Place;
 use vp_bool::BoolDecoder;
 
 /// The blocks of a macroblock: Y2, 16 of Y, 4 of U, 4 of V, each plane in raster order (RFC 6386, chapter 13).
@@ -31,18 +34,14 @@ impl Tokens {
 pub struct Contexts {
     above: Vec<[bool; 9]>,
     left: [bool; 9],
-    column: usize,
 }
 
 impl Model for Contexts {
-    ghost use Rattle.std.specs.Prelude.{◌≡◌, ◌<◌, ◌≤◌, length, vec_len};
-    ghost use Rattle.vp_tokens.specs.Blocks.{Flags};
+    ghost use Rattle.vp_tokens.specs.Contexts.{Contexts};
 
-    ghost Value = { Flags };
+    ghost Value = { Contexts };
 
-    ghost view = { λ a. record { above = a.above.items; left = a.left; column = a.column } };
-
-    ghost invariant = { λ a. (a.column < vec_len a.above) × (vec_len a.above ≤ 1024) };
+    ghost view = { λ c. record { above = c.above.items; left = c.left } };
 }
 
 /// How many of the two.
@@ -127,8 +126,8 @@ fn kind_of(has_y2: bool, k: usize) -> BlockKind
 }
 
 /// Reads block k, where the macroblock has it.
-#[tactic(auto, unfolding(crate::specs::Flagged::flagged_block, vp_bool::specs::Reader::bind))]
-fn read_flagged(
+#[tactic(auto, unfolding(crate::specs::Blocks::block_at, vp_bool::specs::Reader::bind))]
+fn read_at(
     probabilities: &[[[[u8; 11]; 3]; 8]; 4],
     above: &[bool; 9],
     left: &[bool; 9],
@@ -137,11 +136,9 @@ fn read_flagged(
     blocks: &mut [Block; 25],
     d: &mut BoolDecoder,
 )
-    requires place { k < 25 }
-    requires good { (j : ℕ) → IsBlock (slice_index_or blocks.old j no_tokens) }
-    ensures value { blocks.new ≡ (flagged_block probabilities.now above.now left.now has_y2 k blocks.old d.old).0 }
-    ensures rest { d.new ≡ (flagged_block probabilities.now above.now left.now has_y2 k blocks.old d.old).1 }
-    ensures good { (j : ℕ) → IsBlock (slice_index_or blocks.new j no_tokens) }
+    requires { k < 25 }
+    ensures value { blocks.new ≡ (block_at probabilities.now has_y2 (by_flags above.now left.now) k blocks.old d.old).0 }
+    ensures rest { d.new ≡ (block_at probabilities.now has_y2 (by_flags above.now left.now) k blocks.old d.old).1 }
 {
     if k > 0 || has_y2 {
         let context = count(had_above(above, blocks, k), had_left(left, blocks, k));
@@ -149,30 +146,40 @@ fn read_flagged(
     }
 }
 
-/// Reads all blocks.
+/// Reads all blocks, which have no tokens yet, unless the macroblock is skipped.
+#[tactic(auto, unfolding(crate::specs::Blocks::all_blocks))]
 fn read_all(
     probabilities: &[[[[u8; 11]; 3]; 8]; 4],
     above: &[bool; 9],
     left: &[bool; 9],
     has_y2: bool,
+    skipped: bool,
     blocks: &mut [Block; 25],
     d: &mut BoolDecoder,
 )
-    requires { (j : ℕ) → IsBlock (slice_index_or blocks.old j no_tokens) }
-    ensures value { blocks.new ≡ (all_flagged probabilities.now above.now left.now has_y2 blocks.old d.old).0 }
-    ensures rest { d.new ≡ (all_flagged probabilities.now above.now left.now has_y2 blocks.old d.old).1 }
-    ensures good { (j : ℕ) → IsBlock (slice_index_or blocks.new j no_tokens) }
+    requires { blocks.old ≡ no_blocks }
+    ensures value { blocks.new ≡ (all_blocks probabilities.now has_y2 skipped (by_flags above.now left.now) d.old).0 }
+    ensures rest { d.new ≡ (all_blocks probabilities.now has_y2 skipped (by_flags above.now left.now) d.old).1 }
 {
+    if skipped {
+        return;
+    }
     for k in 0..25 {
-        read_flagged(probabilities, above, left, has_y2, k, blocks, d);
+        read_at(probabilities, above, left, has_y2, k, blocks, d);
     }
 }
 
-/// The flags below a macroblock, where `old` are those above it.
-fn flags_below(old: &[bool; 9], has_y2: bool, blocks: &[Block; 25]) -> [bool; 9]
-    ensures { result ≡ below old.now has_y2 (had_of blocks.now) }
+/// The Y2 flag behind a macroblock, where `old` is the one before it.
+fn y2_flag(old: bool, has_y2: bool, blocks: &[Block; 25]) -> bool
+    ensures { result ≡ y2_or (record { has_y2 = has_y2; had = had_of blocks.now }) old }
 {
-    let y2 = if has_y2 { had(blocks, 0) } else { old[8] };
+    if has_y2 { had(blocks, 0) } else { old }
+}
+
+/// The flags below a macroblock, with that of Y2.
+fn lowest(blocks: &[Block; 25], y2: bool) -> [bool; 9]
+    ensures { result ≡ lowest (had_of blocks.now) y2 }
+{
     [
         had(blocks, 13),
         had(blocks, 14),
@@ -186,11 +193,10 @@ fn flags_below(old: &[bool; 9], has_y2: bool, blocks: &[Block; 25]) -> [bool; 9]
     ]
 }
 
-/// The flags to the right of a macroblock, where `old` are those to its left.
-fn flags_beside(old: &[bool; 9], has_y2: bool, blocks: &[Block; 25]) -> [bool; 9]
-    ensures { result ≡ beside old.now has_y2 (had_of blocks.now) }
+/// The flags to the right of a macroblock, with that of Y2.
+fn rightmost(blocks: &[Block; 25], y2: bool) -> [bool; 9]
+    ensures { result ≡ rightmost (had_of blocks.now) y2 }
 {
-    let y2 = if has_y2 { had(blocks, 0) } else { old[8] };
     [
         had(blocks, 4),
         had(blocks, 8),
@@ -205,85 +211,81 @@ fn flags_beside(old: &[bool; 9], has_y2: bool, blocks: &[Block; 25]) -> [bool; 9
 }
 
 impl Contexts {
-    /// At the first macroblock of a frame of so many columns of macroblocks.
-    pub fn new(alloc: Global, mb_cols: usize) -> Result<Contexts, AllocError>
-        requires some { 0 < mb_cols }
-        requires bound { mb_cols ≤ 1024 }
-        ensures { IfOk result (λ c. StandsFor mb_cols [] c) }
+    /// Before the first macroblock of a frame of so many columns of macroblocks.
+    pub fn new(alloc: Global, columns: usize) -> Result<Contexts, AllocError>
+        ensures stands { IfOk result (λ c. (rows : ℕ) → StandsFor (all columns rows unread) (record { column = 0; row = 0 }) c) }
+        ensures columns { IfOk result (λ c. length c.above ≡ columns) }
     {
-        let above = vec![in alloc; [false; 9]; mb_cols]?;
+        let above = vec![in alloc; [false; 9]; columns]?;
         Ok(Contexts {
             above,
             left: [false; 9],
-            column: 0,
         })
     }
 
-    /// Reads the next macroblock's blocks, which have no tokens yet, unless it is skipped.
-    fn read_next(
-        &self,
-        probabilities: &[[[[u8; 11]; 3]; 8]; 4],
-        has_y2: bool,
-        skipped: bool,
-        blocks: &mut [Block; 25],
-        d: &mut BoolDecoder,
-    )
-        requires { (j : ℕ) → IsBlock (slice_index_or blocks.old j no_tokens) }
-        ensures value { blocks.new ≡ (unless skipped (next_flagged probabilities.now self.now has_y2 blocks.old) blocks.old d.old).0 }
-        ensures rest { d.new ≡ (unless skipped (next_flagged probabilities.now self.now has_y2 blocks.old) blocks.old d.old).1 }
-        ensures good { (j : ℕ) → IsBlock (slice_index_or blocks.new j no_tokens) }
+    /// The flags above the macroblock at a place.
+    fn above_of(&self, place: Place) -> [bool; 9]
+        requires { place.column < length self.now.above }
+        ensures { result ≡ slice_index_or self.now.above place.column [] }
     {
-        if !skipped {
-            read_all(
-                probabilities,
-                &self.above[self.column],
-                &self.left,
-                has_y2,
-                blocks,
-                d,
-            );
+        self.above[place.column]
+    }
+
+    /// The flags to the left of the macroblock at a place.
+    fn left_of(&self, place: Place) -> [bool; 9]
+        ensures { result ≡ left_at self.now place }
+    {
+        if place.column == 0 {
+            [false; 9]
+        } else {
+            self.left
         }
     }
 
-    /// Goes on behind a macroblock with these blocks.
-    #[tactic(auto, unfolding(crate::specs::Flagged::advanced))]
-    fn advance(&mut self, has_y2: bool, blocks: &[Block; 25])
-        ensures { self.new ≡ advanced self.old has_y2 (had_of blocks.now) }
+    /// Keeps which blocks of the macroblock at a place had a token.
+    fn keep(&mut self, place: Place, has_y2: bool, blocks: &[Block; 25])
+        requires { place.column < length self.old.above }
+        ensures { self.new ≡ behind self.old place (record { has_y2 = has_y2; had = had_of blocks.now }) }
     {
-        let below = flags_below(&self.above[self.column], has_y2, blocks);
-        self.above[self.column] = below;
-        if self.column + 1 == self.above.len() {
-            self.left = [false; 9];
-            self.column = 0;
-        } else {
-            self.left = flags_beside(&self.left, has_y2, blocks);
-            self.column += 1;
-        }
+        let above = y2_flag(self.above_of(place)[8], has_y2, blocks);
+        let left = y2_flag(self.left_of(place)[8], has_y2, blocks);
+        self.above[place.column] = lowest(blocks, above);
+        self.left = rightmost(blocks, left);
     }
 }
 
-/// The tokens of the next macroblock in raster order, from the partition of its row.
+/// The tokens of the macroblock at a place, from the partition of its row. A frame's macroblocks are read in raster order.
 ///
 /// `has_y2` is false where the luma is predicted or moved by subblocks. Of a skipped macroblock nothing is read.
 pub fn read_macroblock(
     probabilities: &[[[[u8; 11]; 3]; 8]; 4],
+    contexts: &mut Contexts,
+    place: Place,
     has_y2: bool,
     skipped: bool,
-    contexts: &mut Contexts,
     d: &mut BoolDecoder,
 ) -> Tokens
-    ensures value { (cols : ℕ) (h : List Blocks) (x y : ℕ) → StandsFor cols h contexts.old
-        → x < cols → length h ≡ y * cols + x
-        → result ≡ (macroblock probabilities.now cols h x y has_y2 skipped d.old).0 }
-    ensures rest { (cols : ℕ) (h : List Blocks) (x y : ℕ) → StandsFor cols h contexts.old
-        → x < cols → length h ≡ y * cols + x
-        → d.new ≡ (macroblock probabilities.now cols h x y has_y2 skipped d.old).1 }
-    ensures stands { (cols : ℕ) (h : List Blocks) → StandsFor cols h contexts.old
-        → StandsFor cols (h ++ blocks_of has_y2 result ∷ []) contexts.new }
-    ensures blocks { AreBlocks result }
+    requires { place.column < length contexts.old.above }
+    ensures value { (g : Grid Blocks) → StandsFor g place contexts.old
+        → result ≡ (macroblock probabilities.now g place has_y2 skipped d.old).0 }
+    ensures rest { (g : Grid Blocks) → StandsFor g place contexts.old
+        → d.new ≡ (macroblock probabilities.now g place has_y2 skipped d.old).1 }
+    ensures stands { (g : Grid Blocks) → Has g place → StandsFor g place contexts.old
+        → StandsFor (with_entry g place (blocks_of has_y2 result)) (right place) contexts.new }
+    ensures columns { length contexts.new.above ≡ length contexts.old.above }
 {
     let mut blocks = [Block::NONE; 25];
-    contexts.read_next(probabilities, has_y2, skipped, &mut blocks, d);
-    contexts.advance(has_y2, &blocks);
+    let above = contexts.above_of(place);
+    let left = contexts.left_of(place);
+    read_all(
+        probabilities,
+        &above,
+        &left,
+        has_y2,
+        skipped,
+        &mut blocks,
+        d,
+    );
+    contexts.keep(place, has_y2, &blocks);
     Tokens { blocks }
 }

@@ -27,10 +27,10 @@ each-all b [] h k = omega arith
 each-all b (x ∷ xs) h zero = h zero x (omega arith)
 each-all b (x ∷ xs) h (suc k) = each-all b xs (All-tail (λ z. unsigned_abs z ≤ b) x xs h) k
 
-at_most : (b : ℕ) (block : List ℤ) → EachWithin b block → (k : ℕ) → AtMost b (get block k)
+pub at_most : (b : ℕ) (block : List ℤ) → EachWithin b block → (k : ℕ) → AtMost b (get block k)
 at_most b block h k = record { size = h k }
 
-each-block_of : (n : ℕ) (f : ℕ → ℕ → ℤ) → ((r c : ℕ) → AtMost n (f r c)) → EachWithin n (block_of f)
+pub each-block_of : (n : ℕ) (f : ℕ → ℕ → ℤ) → ((r c : ℕ) → AtMost n (f r c)) → EachWithin n (block_of f)
 each-block_of n f h =
     each-all n (block_of f) (All-map (λ z. unsigned_abs z ≤ n) (λ place. f (place / 4) (place % 4)) (range_with_len 0 16) (λ k d l. (h _ _).size))
 
@@ -85,7 +85,7 @@ module _ (b : ℕ) (block : List ℤ) (small : EachWithin b block) where
   column_size-at_most : (c : ℕ) → column_size block c ≤ 4 * b
   column_size-at_most c = omega (arith, (here (4 * 0 + c)).size, (here (4 * 1 + c)).size, (here (4 * 2 + c)).size, (here (4 * 3 + c)).size)
 
-  row_size-at_most : (r : ℕ) → row_size (hadamard_times block) r ≤ 16 * b
+  pub row_size-at_most : (r : ℕ) → row_size (hadamard_times block) r ≤ 16 * b
   row_size-at_most r = omega (arith, (across (4 * r + 0)).size, (across (4 * r + 1)).size, (across (4 * r + 2)).size, (across (4 * r + 3)).size)
 
   pub iwht_fits : b ≤ 2 ^ 40 → IwhtFits block

@@ -1,3 +1,4 @@
 pub mod Fits
 pub mod Steps
 pub mod Transform
+pub mod Forward

@@ -13,7 +13,7 @@ pub fn iwht(block: &[i64; 16]) -> [i64; 16]
     by_rows(&by_columns(block))
 }
 
-fn by_columns(x: &[i64; 16]) -> [i64; 16]
+pub(crate) fn by_columns(x: &[i64; 16]) -> [i64; 16]
     requires { IwhtFits x.now }
     ensures { result ≡ hadamard_times x.now }
 {
@@ -68,7 +68,7 @@ fn round(z: i64) -> i64
 }
 
 /// The sums of four numbers with the signs of the matrix's rows.
-fn mix(i0: i64, i1: i64, i2: i64, i3: i64) -> [i64; 4]
+pub(crate) fn mix(i0: i64, i1: i64, i2: i64, i3: i64) -> [i64; 4]
     requires { unsigned_abs i0 + unsigned_abs i1 + unsigned_abs i2 + unsigned_abs i3 < 2 ^ 63 }
     ensures { result ≡ mixed i0 i1 i2 i3 }
 {

@@ -1,10 +1,14 @@
-//! The inverse transforms of a block (RFC 6386, chapter 14).
+//! The transforms of a block: the inverse ones (RFC 6386, chapter 14), and the encoder's.
 #![tactic(auto)]
 
 mod cosine;
+mod forward_cosine;
+mod forward_hadamard;
 mod hadamard;
 #[cfg(test)]
 mod tests;
 
 pub use cosine::{idct, idct_of_first};
+pub use forward_cosine::fdct;
+pub use forward_hadamard::fwht;
 pub use hadamard::iwht;

@@ -26,3 +26,28 @@ fn kernel_examples(rt: HostRuntime) -> Result<(), Fail> {
     );
     Ok(())
 }
+
+/// The second block's numbers were worked out from the formulas by a script apart from this program.
+#[test]
+fn forward_examples(rt: HostRuntime) {
+    let mut even = [0; 16];
+    even[0] = 576;
+    assert_eq!(rt; fdct(&[72; 16]), even);
+    let block = [
+        -700, 123, -45, 6, 77, -888, 99, -10, 11, 12, -1313, 14, -15, 160, 17, -1818,
+    ];
+    assert_eq!(rt;
+        fdct(&block),
+        [
+            -2135, 947, -300, -104, 829, -2440, 682, -78, -137, 654, -2482, 292, -80, -143, 642,
+            -2382
+        ]
+    );
+    assert_eq!(rt;
+        fwht(&block),
+        [
+            -2135, 915, -300, 266, 797, -2353, 384, -66, -137, 493, -2482, 520, 243, -131, 854,
+            -2468
+        ]
+    );
+}

@@ -8,7 +8,8 @@ use Rattle.vp_bool.specs.Bools.{State, read}
 use Rattle.vp_bool.specs.Reader.{Reader, ◌>>=◌, give, Reads}
 use Rattle.vp_tree.specs.declared.entry.Entry.{Entry}
 use Rattle.vp_tree.specs.declared.entry.Entry.TheVariants.{Leaf, Pair}
-use Rattle.vp_tree.specs.Tree.{is_tree, Step, entry_of, IsPath, Leads, OnePath, OneLeaf, spelled, leads_to, are_led_to, leaf_passes, leaves_pass, next, walk, walk_from}
+use Rattle.vp_tree.specs.declared.steps.Step.{Step}
+use Rattle.vp_tree.specs.Tree.{is_tree, entry_of, IsPath, Leads, OnePath, OneLeaf, spelled, leads_to, are_led_to, leaf_passes, leaves_pass, next, walk, walk_from}
 use Rattle.vp_tree.proofs.Walks.{and_left, and_right, further, bit_small, once, twos}
 
 -- ---- a walk takes a path

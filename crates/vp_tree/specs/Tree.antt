@@ -1,10 +1,12 @@
 -- Trees of bools, the paths to their leaves, and the leaf that the bools of a state lead to (RFC 6386, chapter 8.1).
-use Rattle.std.specs.Prelude.{◌≡◌, ℕ, zero, suc, ◌+◌, ◌-◌, ◌*◌, ◌/◌, ◌%◌, Bool, true, false, ◌&&◌, ◌==◌, nat_lt, List, [], ◌∷◌, length, map, count_by, Option, Some, None, slice_get, slice_index}
+use Rattle.std.specs.Prelude.{◌≡◌, ℕ, zero, suc, ◌+◌, ◌-◌, ◌*◌, ◌/◌, ◌%◌, ◌<◌, Bool, true, false, ◌&&◌, ◌==◌, nat_lt, List, [], ◌∷◌, length, map, count_by, Option, Some, None, slice_get, slice_index}
 use Rattle.std.specs.Int.{from_bool}
 use Rattle.vp_bool.specs.Bools.{State, read}
 use Rattle.vp_bool.specs.Reader.{Reader, ◌>>=◌, give, Reads}
+use Rattle.vp_bool.specs.Writing.{Takes}
 use Rattle.vp_tree.specs.declared.entry.Entry.{Entry}
 use Rattle.vp_tree.specs.declared.entry.Entry.TheVariants.{Leaf, Pair}
+use Rattle.vp_tree.specs.declared.steps.Step.{Step}
 
 -- ---- Tables that are trees. The entries at places 0 and 1 are a pair, those at 2 and 3, and so on.
 
@@ -33,10 +35,6 @@ is_tree t = nat_lt 1 (length t) && (length t % 2 == 0) && are_entries (length t)
 -- ---- Paths
 
 -- A step goes from the pair at a place to its first entry by a 0, and to its second by a 1.
-pub record Step : Type 0 where
-  pub pair : ℕ
-  pub bit : Bool
-
 abbrev pub entry_of : Step → ℕ
 entry_of step = step.pair + from_bool step.bit
 
@@ -46,6 +44,12 @@ IsPath t i [] k = ⊥
 IsPath t i (step ∷ []) k = (step.pair ≡ i) × (entry_of step ≡ k)
 IsPath t i (step ∷ (following ∷ path)) k =
     (step.pair ≡ i) × (slice_get t (entry_of step) ≡ Some (Pair following.pair)) × IsPath t following.pair (following ∷ path) k
+
+-- The path leads from the pair at place i to the leaf x.
+pub record IsPathTo {T : Type 0} (t : List (Entry T)) (i : ℕ) (path : List Step) (x : T) : Type 0 where
+  pub place : ℕ
+  pub is_path : IsPath t i path place
+  pub is_leaf : slice_get t place ≡ Some (Leaf x)
 
 -- the bools of a path, each with the probability of its pair
 abbrev pub spelled : List ℕ → List Step → List (Bool × ℕ)
@@ -99,3 +103,9 @@ walk default t probabilities (suc n) i = do
 -- the walk to a leaf from the pair at place i (default is never met in a tree)
 unfoldable pub walk_from : {T : Type 0} → T → List (Entry T) → List ℕ → ℕ → Reader T
 walk_from default t probabilities i = walk default t probabilities (length t - i) i
+
+-- Where the bools of a path come first, the walk gives its leaf, and they are gone.
+abbrev pub TakesPaths : {T : Type 0} → List (Entry T) → Type 0
+TakesPaths {T} t =
+    (default : T) (probabilities : List ℕ) (i : ℕ) (path : List Step) (x : T) → i + 1 < length t → IsPathTo t i path x
+    → Takes (spelled probabilities path) (walk_from default t probabilities i) (give x)

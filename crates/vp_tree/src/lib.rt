@@ -4,10 +4,14 @@
 mod entry;
 mod laws;
 mod reading;
+mod steps;
+mod writing;
 
 pub use entry::Entry;
-pub use laws::{one_leaf, one_path};
+pub use laws::{one_leaf, one_path, takes_paths};
 pub use reading::{read_tree, read_tree_from};
+pub use steps::{Step, path, path_from};
+pub use writing::{write_tree, write_tree_from};
 
 #[cfg(test)]
 mod tests;

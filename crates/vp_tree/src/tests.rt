@@ -1,6 +1,7 @@
 use crate::Entry::{self, Leaf, Pair};
-use crate::{read_tree, read_tree_from};
-use vp_bool::BoolDecoder;
+use crate::{Step, path, path_from, read_tree, read_tree_from, write_tree, write_tree_from};
+use std::test::Fail;
+use vp_bool::{BoolDecoder, BoolEncoder};
 
 #[derive(Clone, Copy, Debug, Drop, PartialEq)]
 enum Season {
@@ -45,4 +46,40 @@ fn reads_leaves(rt: HostRuntime) {
         read_tree_from(&SEASONS, &even, 4, &mut one),
         Season::Autumn
     );
+}
+
+#[test]
+fn finds_paths(rt: HostRuntime) {
+    let to_autumn = [
+        Step { pair: 0, bit: true },
+        Step {
+            pair: 2,
+            bit: false,
+        },
+        Step { pair: 4, bit: true },
+    ];
+    assert_eq!(rt;
+        path(&SEASONS, Season::Autumn).as_slice(),
+        to_autumn.as_slice()
+    );
+    assert_eq!(rt;
+        path_from(&SEASONS, 2, Season::Autumn).as_slice(),
+        &to_autumn[1..]
+    );
+}
+
+#[test]
+fn writes_leaves(rt: HostRuntime) -> Result<(), Fail> {
+    let even = [128; 3];
+    // The bools 1, 0, 1: the number 5 in three bits.
+    let mut five = BoolEncoder::new(rt.alloc());
+    write_tree(&SEASONS, &even, Season::Autumn, &mut five)?;
+    let five = five.finish()?;
+    assert_eq!(rt; five.as_slice(), [0x9f, 0xc0].as_slice());
+    // A single 1.
+    let mut one = BoolEncoder::new(rt.alloc());
+    write_tree_from(&SEASONS, &even, 4, Season::Autumn, &mut one)?;
+    let one = one.finish()?;
+    assert_eq!(rt; one.as_slice(), [0x80, 0].as_slice());
+    Ok(())
 }

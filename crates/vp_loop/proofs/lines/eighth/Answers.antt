@@ -5,7 +5,7 @@ use mir.Val.{SFits}
 use mir.Syntax.{w32}
 use lib.Signed.{shr_z}
 use Rattle.vp_loop.proofs.Shift.{shift_is}
-use Rattle.vp_loop.proofs.Ranges.{InByte, clamp8_in, eighth_in}
+use Rattle.vp_lanes.proofs.Ranges.{InByte, clamp8_in, eighth_in}
 use Rattle.vp_loop.proofs.lines.eighth.Goals as goal
 
 pub returns-clause-value : goal.returns-clause-value

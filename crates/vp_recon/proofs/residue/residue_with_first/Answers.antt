@@ -3,17 +3,19 @@ use Rattle.vp_transform.proofs.Bounds.{idct_fits}
 use Rattle.vp_transform.proofs.Words.{coded, read}
 use Rattle.vp_transform.proofs.Sizes.{fits-below}
 use Rattle.vp_transform.specs.Transform.{idct}
-use Rattle.vp_recon.specs.Added.{IsKept}
+use Rattle.vp_tokens.specs.Block.{Block, IsBlock}
+use Rattle.vp_recon.specs.Kept.{IsKept}
 use Rattle.vp_recon.proofs.ResidueLemmas.{within_set, first_alone}
 use Rattle.vp_recon.proofs.residue.residue_with_first.Goals as goal
 
-pub returns-then-is_first_alone : goal.returns-then-is_first_alone
-returns-then-is_first_alone c =
-    let P : List ℤ → Type 0 = λ (zs : List ℤ). IsKept c.even_residue.result (idct zs) in
+pub returns-then-block-le1 : goal.returns-then-block-le1
+returns-then-block-le1 c =
     let dc : ℤ = c.args.first in
     let exact : coded dc ≡ dc = read dc (fits-below dc (omega (arith, c.requires))) in
-    subst P (ap (λ (z : ℤ). z ∷ replicate 15 (pos 0)) exact
-    ∙ first_alone c.args.levels.now dc c.args.ac (c.is_first_alone.ensures c.if-is_first_alone.true)) c.even_residue.ensures
+    let is : IsBlock c.args.block.now = subst IsBlock c.block.view_is c.block.invariant in
+    let few : c.args.block.now.tokens ≤ 1 = let e : c.block.inside.tokens ≡ c.args.block.now.tokens = ap (λ (b : Block). b.tokens) c.block.view_is in omega (arith, e, c.if-block-le1.true) in
+    subst (λ (zs : List ℤ). IsKept c.even_residue.result (idct zs))
+    (ap (λ (z : ℤ). z ∷ replicate 15 (pos 0)) exact ∙ first_alone c.args.block.now is dc c.args.ac few) c.even_residue.ensures
 
 pub idct-requires : goal.idct-requires
 idct-requires c =

@@ -1,6 +1,6 @@
 use Rattle.std.proofs.Common.{◌≡◌, true, length}
 use Rattle.vp_recon.specs.Residue.{luma_residue}
-use Rattle.vp_recon.specs.Added.{AreKept}
+use Rattle.vp_recon.specs.Kept.{AreKept}
 use Rattle.vp_recon.proofs.residue.residues_with_y2.Given as goal
 
 abbrev pub invariant-loop-k : goal.invariant-loop-k

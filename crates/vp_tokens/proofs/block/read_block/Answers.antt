@@ -1,4 +1,4 @@
-use Rattle.std.proofs.Common.{◌≡◌, ◌∙◌, sym, refl, arith, length-set, rules, true, false}
+use Rattle.std.proofs.Common.{◌≡◌, ◌∙◌, sym, arith, rules, true, false}
 use Rattle.std.proofs.lemmas.Int.{to_z-of_z}
 use mir.Syntax.{w16}
 use mir.Val.{SFits}
@@ -9,7 +9,6 @@ use Rattle.vp_tokens.proofs.block.read_block.Goals as goal
 
 pub loop-i-init : goal.loop-i-init
 loop-i-init c = record {
-  len = refl;
   context_in = c.requires;
   start_in = omega arith;
   good = no_tokens-good;
@@ -22,7 +21,7 @@ returns-then-is_end c =
     let t = c.read_token-token in
     let e = sym c.loop-i.invariant.so_far ∙ level_end _ c.loop-i.i c.loop-i.context c.loop-i.from _ _ _ _ c.loop-i-test.true t.ensures.value t.ensures.rest (let e : is_end t.result ≡ true = cc in e) in
     let g = gives _ _ _ e in
-    record { value = g.value; rest = g.rest; block = c.loop-i.invariant.good }
+    record { value = g.value; rest = g.rest }
 
 pub loop-i-preserved : goal.loop-i-preserved
 loop-i-preserved c =
@@ -33,10 +32,9 @@ loop-i-preserved c =
     let more = level_more c.bands_of-bands.result.now c.loop-i.i c.loop-i.context c.loop-i.from _ _ _ (record { levels = c.loop-i.levels; tokens = c.loop-i.tokens }) _ _ _ _ c.loop-i-test.true t.ensures.value t.ensures.rest (let e : is_end t.result ≡ false = cc in e)
     m.ensures.value m.ensures.rest r.ensures.value r.ensures.rest in
     record {
-      len = length-set _ _ _ ∙ c.loop-i.invariant.len;
       context_in = omega (arith, c.min-context.ensures);
       start_in = c.start_after-from.ensures.small;
-      good = rw (to_z-of_z w16 r.result fits) (good-more (record { levels = c.loop-i.levels; tokens = c.loop-i.tokens }) c.loop-i.i r.result c.loop-i.invariant.len c.loop-i-test.true c.loop-i.invariant.good c.loop-i.invariant.before r.ensures.within);
+      good = rw (to_z-of_z w16 r.result fits) (good-more (record { levels = c.loop-i.levels; tokens = c.loop-i.tokens }) c.loop-i.i r.result c.loop-i-test.true c.loop-i.invariant.good c.loop-i.invariant.before r.ensures.within);
       before = omega arith;
       so_far = rw (to_z-of_z w16 r.result fits, c.min-context.ensures, c.start_after-from.ensures.value) (sym more ∙ c.loop-i.invariant.so_far);
     }
@@ -45,4 +43,4 @@ pub returns : goal.returns
 returns c =
     let e = sym c.loop-i.invariant.so_far ∙ level_done _ c.loop-i.i c.loop-i.context c.loop-i.from _ c.loop-i.d c.loop-i-test.false in
     let g = gives _ _ _ e in
-    record { value = g.value; rest = g.rest; block = c.loop-i.invariant.good }
+    record { value = g.value; rest = g.rest }

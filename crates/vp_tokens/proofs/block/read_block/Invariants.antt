@@ -1,11 +1,11 @@
-use Rattle.std.proofs.Common.{◌≡◌, ◌<◌, ◌≤◌, ◌-◌, length}
-use Rattle.vp_tokens.specs.Levels.{block, IsBlock}
+use Rattle.std.proofs.Common.{◌≡◌, ◌<◌, ◌≤◌, ◌-◌}
+use Rattle.vp_tokens.specs.Block.{IsBlock}
+use Rattle.vp_tokens.specs.Levels.{block}
 use Rattle.vp_tokens.proofs.LevelLemmas.{tokens_from}
 use Rattle.vp_tokens.proofs.block.read_block.Given as goal
 
 abbrev pub invariant-loop-i : goal.invariant-loop-i
 invariant-loop-i l = record {
-  len : length l.levels ≡ 16;
   context_in : l.context < 3;
   start_in : l.from ≤ 2;
   good : IsBlock (record { levels = l.levels; tokens = l.tokens });

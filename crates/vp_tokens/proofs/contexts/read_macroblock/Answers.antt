@@ -1,26 +1,24 @@
-use Rattle.std.proofs.Common.{sym, ◌∙◌, ◌++◌, ◌∷◌, [], ap, subst, List}
-use Rattle.vp_tokens.specs.declared.block.Block.{Block}
+use Rattle.std.proofs.Common.{sym, ◌∙◌, ap, subst, arith, List, length, length-set}
 use Rattle.vp_tokens.specs.declared.contexts.Tokens.{Tokens}
-use Rattle.vp_tokens.specs.Blocks.{Blocks, Flags, StandsFor, had_of}
-use Rattle.vp_tokens.proofs.Steps.{step, macroblock-value, macroblock-rest, no_blocks-good}
+use Rattle.vp_tokens.specs.Block.{Block}
+use Rattle.vp_tokens.specs.Blocks.{Blocks, had_of}
+use Rattle.vp_tokens.specs.Contexts.{Contexts, StandsFor, right}
+use Rattle.vp_base.specs.Grid.{Grid, with_entry}
+use Rattle.vp_tokens.proofs.Steps.{step}
+use Rattle.vp_tokens.proofs.Reading.{above_at-is, left_at-is, macroblock-is}
 use Rattle.vp_tokens.proofs.contexts.read_macroblock.Goals as goal
 
-pub read_next-requires : goal.read_next-requires
-read_next-requires c = no_blocks-good
-
-pub returns-clause-value : goal.returns-clause-value
-returns-clause-value c = λ cols h x y f xb place.
-    ap (λ (z : List Block). let t : Tokens = record { blocks = z } in t) c.read_next.ensures.value ∙ macroblock-value c.args.probabilities.now cols h _ x y c.args.has_y2 c.args.skipped f xb place c.args.d.now
-
-pub returns-clause-rest : goal.returns-clause-rest
-returns-clause-rest c = λ cols h x y f xb place.
-    c.read_next.ensures.rest ∙ macroblock-rest c.args.probabilities.now cols h _ x y c.args.has_y2 c.args.skipped f xb place c.args.d.now
-
-pub returns-clause-stands : goal.returns-clause-stands
-returns-clause-stands c = λ cols h f.
-    let m : Blocks = record { has_y2 = c.args.has_y2; had = had_of c.read_next.new.blocks } in
-    let P = λ (w : Flags). StandsFor cols (h ++ m ∷ []) w in
-    subst P (sym c.advance.ensures) (step cols h m c.args.contexts.now f)
-
-pub returns-clause-blocks : goal.returns-clause-blocks
-returns-clause-blocks c = c.read_next.ensures.good
+pub returns : goal.returns
+returns c =
+    let p = c.args.place in
+    let old = c.args.contexts.now in
+    let above = λ (g : Grid Blocks) (f : StandsFor g p old). c.above_of-above.ensures ∙ above_at-is g p old f (let e = f.columns in omega arith) in
+    let left = λ (g : Grid Blocks) (f : StandsFor g p old). c.left_of-left.ensures ∙ left_at-is g p old f in
+    let same = λ (g : Grid Blocks) (f : StandsFor g p old). macroblock-is c.args.probabilities.now g p c.args.has_y2 c.args.skipped _ _ (above g f) (left g f) c.args.d.now in
+    let m : Blocks = record { has_y2 = c.args.has_y2; had = had_of c.read_all.new.blocks } in
+    record {
+      value = λ g f. ap (λ (z : List Block). let t : Tokens = record { blocks = z } in t) c.read_all.ensures.value ∙ (λ i. (same g f i).0);
+      rest = λ g f. c.read_all.ensures.rest ∙ (λ i. (same g f i).1);
+      stands = λ g has f. subst (λ (w : Contexts). StandsFor (with_entry g p m) (right p) w) (sym c.keep.ensures) (step g p m f.whole has old f);
+      columns = ap (λ (w : Contexts). length w.above) c.keep.ensures ∙ length-set old.above p.column _;
+    }

@@ -1,8 +1,10 @@
-use Rattle.std.proofs.Common.{◌≡◌, ◌*◌, ◌%◌, ◌^◌, ◌<◌, ◌≤◌, arith, ◌∙◌, ap, sym}
+use Rattle.std.proofs.Math.Dec.{leb}
+use Rattle.std.proofs.Common.{◌≡◌, ◌*◌, ◌/◌, ◌%◌, ◌^◌, ◌<◌, ◌≤◌, arith, ◌∙◌, ap, sym}
 use Rattle.vp_bool.specs.Bools.{read, split_of, rest_of}
 use Rattle.vp_bool.specs.Window.{state, AreBytes}
 use Rattle.vp_bool.specs.Fields.{state_of}
 use Rattle.vp_bool.proofs.BoolLemmas.{IsTaken, doublings, doubles, window_bool, window_split, window_above, window_below, rest_true, rest_false, rest-taken, sound-read, read-bool, read-after, low_window, bound_whole, range_whole}
+use Rattle.vp_bool.proofs.LawLemmas.{reads_on}
 use Rattle.vp_bool.proofs.WindowLemmas.{advanced_within}
 use Rattle.vp_bool.proofs.decoder.BoolDecoder.read.Goals as goal
 use Rattle.vp_bool.proofs.decoder.BoolDecoder.read.Goals.{then-bit, else-bit, then-shift-window, else-shift-window, Joined-bit}
@@ -80,13 +82,20 @@ invariant_of-self c =
       bytes = (window c).1;
     }
 
-pub returns-clause-value : goal.returns-clause-value
-returns-clause-value c =
+value : (c : goal.After-self-3-1) → leb c.from-3.result (c.self.inside.window.value / 2 ^ c.self.inside.window.count) ≡ (read c.args.probability c.args.self.now).0
+value c =
     let j = (goal.at.invariant_of-self c).Joined-bit in
     rw (split_too j, ← c.self.view_is)
     (window_split c.self.inside.window.value (split_of c.args.probability c.self.inside.range) c.self.inside.window.count
     ∙ window_bool c.args.probability c.self.inside.window.value c.self.inside.range c.self.inside.window.count c.self.inside.window.rest.now c.self.invariant.bytes
     ∙ sym (read-bool c.args.probability (state_of c.self.inside)))
 
+pub returns-clause-value : goal.returns-clause-value
+returns-clause-value c = value c
+
 pub returns-clause-rest : goal.returns-clause-rest
 returns-clause-rest c = after c ∙ ap (λ s. (read c.args.probability s).1) c.self.view_is
+
+pub returns-clause-run : goal.returns-clause-run
+returns-clause-run c =
+    reads_on c.args.probability c.args.self.now _ _ (omega arith) (value c) (after c ∙ ap (λ s. (read c.args.probability s).1) c.self.view_is)

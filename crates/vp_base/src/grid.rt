@@ -1,0 +1,121 @@
+//! One entry for each macroblock of a frame.
+
+ghost use Rattle.std.specs.Prelude.{◌≡◌, ◌≢◌, ◌≤◌, ◌<◌, ◌*◌, length, Some, IfOk};
+ghost use Rattle.vp_base.specs.Grid.{Has, all, entry, with_entry};
+ghost use Rattle.vp_base.specs.declared.place.Place.{Place};
+
+use crate::place::Place;
+use std::alloc::{AllocError, Global};
+use std::marker::Model;
+
+/// Entries in columns and rows.
+#[derive(Drop)]
+pub struct Grid<T> {
+    columns: usize,
+    rows: usize,
+    entries: Vec<T>,
+}
+
+impl<T> Model for Grid<T> {
+    ghost use Rattle.std.specs.Prelude.{◌≡◌, ◌*◌, ◌≤◌, length};
+    ghost use Rattle.vp_base.specs.Grid.{Grid};
+
+    ghost Value = { Grid T };
+
+    ghost view = { λ g. record { columns = g.columns; rows = g.rows; entries = g.entries.items } };
+
+    ghost invariant = { λ g. (length g.entries.items ≡ g.rows * g.columns) × (g.columns ≤ 1024) × (g.rows ≤ 1024) };
+}
+
+impl<T: Copy> Grid<T> {
+    /// A grid with `value` at each place.
+    #[tactic(auto, unfolding(crate::specs::Grid::repeated))]
+    pub fn new(alloc: Global, columns: usize, rows: usize, value: T) -> Result<Grid<T>, AllocError>
+        requires columns { columns ≤ 1024 }
+        requires rows { rows ≤ 1024 }
+        ensures { IfOk result (λ g. g ≡ all columns rows value) }
+    {
+        let mut entries = Vec::with_capacity(alloc, rows * columns)?;
+        for _ in 0..rows * columns {
+            entries.push(value)?;
+        }
+        Ok(Grid {
+            columns,
+            rows,
+            entries,
+        })
+    }
+
+    /// An equal grid.
+    pub fn copy(&self, alloc: Global) -> Result<Grid<T>, AllocError>
+        ensures { IfOk result (λ g. g ≡ self.now) }
+    {
+        let entries = Vec::from_slice(alloc, &self.entries)?;
+        Ok(Grid {
+            columns: self.columns,
+            rows: self.rows,
+            entries,
+        })
+    }
+
+    /// Changes the entry at a place, and no other.
+    #[tactic(auto, unfolding(crate::specs::Grid::changed))]
+    pub fn set(&mut self, place: Place, value: T)
+        requires { Has self.old place }
+        ensures changed { self.new ≡ with_entry self.old place value }
+        ensures here { entry self.new place ≡ Some value }
+        ensures elsewhere { (p : Place) → p ≢ place → entry self.new p ≡ entry self.old p }
+    {
+        let at = place.row * self.columns + place.column;
+        self.entries[at] = value;
+    }
+}
+
+impl<T> Grid<T> {
+    /// How many columns it has.
+    pub fn columns(&self) -> usize
+        ensures value { result ≡ self.now.columns }
+        ensures bound { result ≤ 1024 }
+    {
+        self.columns
+    }
+
+    /// How many rows it has.
+    pub fn rows(&self) -> usize
+        ensures value { result ≡ self.now.rows }
+        ensures bound { result ≤ 1024 }
+    {
+        self.rows
+    }
+
+    /// These entries, row after row.
+    pub fn of(columns: usize, rows: usize, entries: Vec<T>) -> Grid<T>
+        requires columns { columns ≤ 1024 }
+        requires rows { rows ≤ 1024 }
+        requires whole { length entries.items ≡ rows * columns }
+        ensures { result ≡ record { columns = columns; rows = rows; entries = entries.items } }
+    {
+        Grid {
+            columns,
+            rows,
+            entries,
+        }
+    }
+
+    /// The entries, row after row.
+    pub fn as_slice(&self) -> &[T]
+        ensures value { result.now ≡ self.now.entries }
+        ensures whole { length result.now ≡ self.now.rows * self.now.columns }
+    {
+        &self.entries
+    }
+
+    /// The entry at a place.
+    #[tactic(auto, unfolding(crate::specs::Grid::entry))]
+    pub fn get(&self, place: Place) -> &T
+        requires { Has self.now place }
+        ensures { entry self.now place ≡ Some result.now }
+    {
+        &self.entries[place.row * self.columns + place.column]
+    }
+}

@@ -1,0 +1,53 @@
+//! The blocks round a block.
+
+ghost use Rattle.std.specs.Prelude.{◌≡◌, ◌<◌};
+ghost use Rattle.vp_base.specs.Place.{above, left};
+ghost use Rattle.vp_base.specs.Near.{block, seen_from, IsBefore};
+
+use crate::place::Place;
+
+/// Where a block of 4 by 4 pixels lies, seen from a macroblock. A macroblock's blocks are numbered row after row,
+/// from 0 to 15.
+#[derive(Clone, Copy, Debug, PartialEq, Eq)]
+pub enum Near {
+    /// In the macroblock itself.
+    Here(usize),
+    /// In the macroblock at another place.
+    There(Place, usize),
+    /// Outside the frame.
+    Outside,
+}
+
+impl Place {
+    /// Where the block above block `k` of the macroblock at this place lies.
+    #[tactic(auto, using(crate::proofs::NearLemmas::above_here, crate::proofs::NearLemmas::above_there, crate::proofs::NearLemmas::above_outside))]
+    pub fn above_block(self, k: usize) -> Near
+        requires { k < 16 }
+        ensures value { result ≡ seen_from 4 self (above (block 4 self k)) }
+        ensures before { IsBefore self result }
+    {
+        if k >= 4 {
+            return Near::Here(k - 4);
+        }
+        match self.above() {
+            Some(above) => Near::There(above, k + 12),
+            None => Near::Outside,
+        }
+    }
+
+    /// Where the block to the left of block `k` of the macroblock at this place lies.
+    #[tactic(auto, using(crate::proofs::NearLemmas::left_here, crate::proofs::NearLemmas::left_there, crate::proofs::NearLemmas::left_outside))]
+    pub fn left_block(self, k: usize) -> Near
+        requires { k < 16 }
+        ensures value { result ≡ seen_from 4 self (left (block 4 self k)) }
+        ensures before { IsBefore self result }
+    {
+        if k % 4 > 0 {
+            return Near::Here(k - 1);
+        }
+        match self.left() {
+            Some(left) => Near::There(left, k + 3),
+            None => Near::Outside,
+        }
+    }
+}

@@ -1,0 +1,99 @@
+-- The rows of a frame, rebuilt and filtered one behind.
+use Rattle.std.proofs.Common.{◌≡◌, ◌∙◌, ℕ, ◌-◌, ◌*◌, ◌<◌, ◌≤◌, List, Some, refl, sym, ap, subst, arith}
+use Rattle.vp_bool.specs.Bools.{State}
+use Rattle.vp_base.specs.declared.place.Place.{Place}
+use Rattle.vp_base.specs.Grid.{Grid, entry, listed}
+use Rattle.vp_base.specs.Image.{Image, IsAligned, AreWhole, macroblocks, blank_image}
+use Rattle.vp_base.specs.Over.{over}
+use Rattle.vp_base.specs.Rows.{AreOneSize, AreSameAbove, AreSameFrom}
+use Rattle.vp_base.proofs.OverLemmas.{over-holds, over-kept}
+use Rattle.vp_loop.specs.declared.strength.Level.{Level}
+use Rattle.vp_loop.specs.Filtered.{filtered, row_filtered, row_levels}
+use Rattle.vp_recon.specs.Source.{Macroblock}
+use Rattle.vp_recon.specs.Rebuilt.{rebuilt, row_rebuilt}
+use Rattle.vp_decode.specs.Maps.{place}
+use Rattle.vp_decode.specs.Frame.{Plan, frame_of, level_at, tokens_of, levels_of, unfiltered, picture_of}
+use Rattle.vp_decode.specs.Window.{IsShaped, IsBelow}
+use Rattle.vp_decode.proofs.WindowLemmas.{below_over}
+use Rattle.vp_decode.proofs.FilterLemmas.{row_by_entries}
+
+-- the filter of row k of a frame of so many columns and rows of pixels, and the rebuilding of that row
+abbrev pub row_filter : Plan → List State → ℕ → ℕ → ℕ → Image → Image
+row_filter f ps width height k = row_filtered (row_levels (levels_of (frame_of f ps width height)) (macroblocks width) k) k
+
+abbrev pub row_builder : Plan → List State → ℕ → ℕ → Image → Image
+row_builder f ps width k = row_rebuilt (macroblocks width) (λ p. (frame_of f ps 0 0).macroblock p) k
+
+-- what the laws of rebuilding say
+pub record Rebuilds : Type 0 where
+  pub size : (m : Macroblock) (place : Place) (p : Image) → AreOneSize (rebuilt m place p) p
+  pub aligned : (m : Macroblock) (place : Place) (p : Image) → IsAligned p → IsAligned (rebuilt m place p)
+  pub whole : (m : Macroblock) (place : Place) (p : Image) → AreWhole p → AreWhole (rebuilt m place p)
+  pub above : (m : Macroblock) (place : Place) (p : Image) → AreSameAbove (16 * place.row) (8 * place.row) (rebuilt m place p) p
+  pub reads : (m : Macroblock) (place : Place) (p q : Image) (a b : ℕ) → IsAligned p → IsAligned q → AreOneSize p q → place.column < macroblocks p.width → place.row < macroblocks p.height
+      → a ≤ 16 * place.row - 1 → b ≤ 8 * place.row - 1 → AreSameFrom a b p q → AreSameFrom a b (rebuilt m place p) (rebuilt m place q)
+
+fewer : (a b : ℕ) (p q : Image) (c d : ℕ) → c ≤ a → d ≤ b → AreSameAbove a b p q → AreSameAbove c d p q
+fewer a b p q c d ca db same = record {
+  luma = λ u v uin vin less. same.luma u v uin vin (omega arith);
+  u = λ u v uin vin less. same.u u v uin vin (omega arith);
+  v = λ u v uin vin less. same.v u v uin vin (omega arith);
+}
+
+shaped_by : Rebuilds → (width height : ℕ) (m : Macroblock) (q : Place) (p : Image) → IsShaped width height p → IsShaped width height (rebuilt m q p)
+shaped_by laws width height m q p s = record {
+  width_is = (laws.size m q p).width ∙ s.width_is;
+  height_is = (laws.size m q p).height ∙ s.height_is;
+  aligned = laws.aligned m q p s.aligned;
+  whole = laws.whole m q p s.whole;
+}
+
+macroblock_is_below : Rebuilds → (width height k : ℕ) (m : Macroblock) (q : Place) → q.column < macroblocks width → q.row < macroblocks height → k < q.row
+    → IsBelow width height k (rebuilt m q)
+macroblock_is_below laws width height k m q column row later = record {
+  shaped = shaped_by laws width height m q;
+  keeps = λ p s. fewer (16 * q.row) (8 * q.row) (rebuilt m q p) p (16 * k) (8 * k) (omega arith) (omega arith) (laws.above m q p);
+  reads = λ p r sp sr same.
+      laws.reads m q p r (16 * k) (8 * k) sp.aligned sr.aligned (record { width = sp.width_is ∙ sym sr.width_is; height = sp.height_is ∙ sym sr.height_is })
+      (subst (λ (n : ℕ). q.column < macroblocks n) (sym sp.width_is) column) (subst (λ (n : ℕ). q.row < macroblocks n) (sym sp.height_is) row)
+      (omega arith) (omega arith) same;
+}
+
+-- rebuilding a row reads one row above it at most, and changes its own alone
+pub row_is_below : Rebuilds → (width height row k : ℕ) (f : Place → Macroblock) → row < macroblocks height → k < row → IsBelow width height k (row_rebuilt (macroblocks width) f row)
+row_is_below laws width height row k f inside later =
+    below_over width height k (macroblocks width) (λ column. rebuilt (f (place row column)) (place row column))
+    (λ column within. macroblock_is_below laws width height k (f (place row column)) (place row column) within inside later)
+
+pub row_keeps_shape : Rebuilds → (width height row : ℕ) (f : Place → Macroblock) (p : Image) → IsShaped width height p → IsShaped width height (row_rebuilt (macroblocks width) f row p)
+row_keeps_shape laws width height row f p s =
+    over-holds (IsShaped width height) (macroblocks width) (λ column. rebuilt (f (place row column)) (place row column)) p
+    (λ column within q t. shaped_by laws width height (f (place row column)) (place row column) q t) s
+
+-- ---- the whole frame
+
+-- all rows rebuilt, and then all filtered
+pub frame_made : (f : Plan) (ps : List State) (width height : ℕ) (p : Image) → p ≡ blank_image width height 0
+    → over (macroblocks height) (row_filter f ps width height) (over (macroblocks height) (row_builder f ps width) p) ≡ picture_of (frame_of f ps width height)
+unfolding picture_of unfiltered filtered
+frame_made f ps width height p blank =
+    let ls : List Level = levels_of (frame_of f ps width height) in
+    let q : Image = over (macroblocks height) (row_builder f ps width) (blank_image width height 0) in
+    let wide : q.width ≡ width =
+    over-kept (λ (i : Image). i.width) (macroblocks height) (row_builder f ps width) (blank_image width height 0)
+    (λ k b. over-kept (λ (i : Image). i.width) (macroblocks width) _ b (λ column i. refl)) in
+    let high : q.height ≡ height =
+    over-kept (λ (i : Image). i.height) (macroblocks height) (row_builder f ps width) (blank_image width height 0)
+    (λ k b. over-kept (λ (i : Image). i.height) (macroblocks width) _ b (λ column i. refl)) in
+    ap (λ (i : Image). over (macroblocks height) (row_filter f ps width height) (over (macroblocks height) (row_builder f ps width) i)) blank
+    ∙ ap (λ (n : ℕ). over (macroblocks n) (λ row. row_filtered (row_levels ls (macroblocks width) row) row) q) (sym high)
+    ∙ ap (λ (n : ℕ). over (macroblocks q.height) (λ row. row_filtered (row_levels ls (macroblocks n) row) row) q) (sym wide)
+
+-- row k filtered by the levels that are found so far
+pub filtered_by_levels : (f : Plan) (ps : List State) (width height k : ℕ) (g : Grid Level) (p : Image)
+    → g.columns ≡ macroblocks width → p.width ≡ width → k < macroblocks height
+    → ((column : ℕ) → column < macroblocks width → entry g (place k column) ≡ Some (level_at f (place k column) (tokens_of f ps (place k column))))
+    → row_filtered (row_levels g.entries g.columns k) k p ≡ row_filter f ps width height k p
+filtered_by_levels f ps width height k g p wide size inside each =
+    row_by_entries g (frame_of f ps width height).level (macroblocks height) k p (ap (λ (n : ℕ). macroblocks n) size ∙ sym wide) inside (λ column within. each column (omega (arith, wide)))
+    ∙ ap (λ (n : ℕ). row_filtered (row_levels (listed n (macroblocks height) (frame_of f ps width height).level) n k) k p) wide

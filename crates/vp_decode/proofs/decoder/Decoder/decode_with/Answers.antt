@@ -1,0 +1,35 @@
+use Rattle.std.proofs.Common.{◌≡◌, ◌∙◌, ℕ, true, false, Option, length, sym, ap, subst, arith}
+use Rattle.std.specs.Prelude.{◌==◌, OnOk, OnErr, IfOk}
+use Rattle.std.proofs.lemmas.Bool.{eq-eqb}
+use Rattle.std.proofs.lemmas.Bool.Decides.{nat_tests}
+use Rattle.vp_decode.specs.Step.{Kept, Answer, after, outcome, IsDecoded}
+use Rattle.vp_decode.proofs.SizeLemmas.{step-empty, step-decoded}
+use Rattle.vp_decode.proofs.decoder.Decoder.decode_with.Goals as goal
+
+pub returns-then-is_empty-clause-after : goal.returns-then-is_empty-clause-after
+returns-then-is_empty-clause-after g c =
+    let none : length c.args.packet.now ≡ 0 = grind (arith, nat_tests, c.is_empty.ensures, c.if-is_empty.true) in
+    c.repeat.ensures.after ∙ ap (λ s. after c.args.self.now s) (sym (step-empty c.args.self.now.limits c.args.self.now.state c.args.packet.now none))
+
+pub returns-then-is_empty-clause-outcome : goal.returns-then-is_empty-clause-outcome
+returns-then-is_empty-clause-outcome g c =
+    let none : length c.args.packet.now ≡ 0 = grind (arith, nat_tests, c.is_empty.ensures, c.if-is_empty.true) in
+    c.repeat.ensures.outcome ∙ ap (λ s. outcome s.1) (sym (step-empty c.args.self.now.limits c.args.self.now.state c.args.packet.now none))
+
+some_bytes : (n : ℕ) → false ≡ (n == 0) → ¬ (n ≡ 0)
+some_bytes n other none = absurd (let never : false ≡ true = other ∙ eq-eqb n 0 none in cc)
+
+pub returns-clause-after : goal.returns-clause-after
+returns-clause-after g c =
+    subst (λ (s : Option Kept × Answer). OnOk c.decode_packet.result (c.decode_packet.new.self ≡ after c.args.self.now s))
+    (sym (step-decoded c.args.self.now.limits c.args.self.now.state c.args.packet.now (some_bytes (length c.args.packet.now) c.if-is_empty.ensures))) c.decode_packet.ensures.after
+
+pub returns-clause-outcome : goal.returns-clause-outcome
+returns-clause-outcome g c =
+    subst (λ (s : Option Kept × Answer). IfOk c.decode_packet.result (λ o. o ≡ outcome s.1))
+    (sym (step-decoded c.args.self.now.limits c.args.self.now.state c.args.packet.now (some_bytes (length c.args.packet.now) c.if-is_empty.ensures))) c.decode_packet.ensures.outcome
+
+pub returns-clause-late : goal.returns-clause-late
+returns-clause-late g c =
+    subst (λ (s : Option Kept × Answer). OnErr c.decode_packet.result (IsDecoded s.1))
+    (sym (step-decoded c.args.self.now.limits c.args.self.now.state c.args.packet.now (some_bytes (length c.args.packet.now) c.if-is_empty.ensures))) c.decode_packet.ensures.late

@@ -1,0 +1,19 @@
+use Rattle.std.proofs.Common.{◌≡◌, ◌∙◌, Some, sym, ap, subst}
+use Rattle.vp_tokens.specs.Contexts.{StandsFor}
+use Rattle.vp_recon.specs.Source.{source_of}
+use Rattle.vp_loop.specs.declared.strength.Level.{Level}
+use Rattle.vp_decode.specs.Frame.{Plan}
+use Rattle.vp_decode.specs.Rebuilding.{Rebuilding, IsStep}
+use Rattle.vp_decode.proofs.ReadingLemmas.{step_made}
+use Rattle.vp_decode.proofs.rebuilding.Rebuilding.macroblock.Goals as goal
+
+pub returns-clause-step : goal.returns-clause-step
+returns-clause-step c = λ g has stands.
+    let f : Plan = c.self.inside.plan.now in
+    let new : Rebuilding = record { plan = f; contexts = c.read_tokens-tokens.new.contexts; picture = c.rebuild_macroblock.new.picture; levels = c.set.new.self } in
+    let made : (a : Rebuilding) → a ≡ c.args.self.now → StandsFor g c.args.place a.contexts = λ a e. subst (λ (z : Rebuilding). StandsFor g c.args.place z.contexts) (sym e) stands in
+    let here : StandsFor g c.args.place c.self.inside.contexts = made _ c.self.view_is in
+    subst (λ (a : Rebuilding). IsStep a.plan c.args.place g c.args.d.now c.read_tokens-tokens.new.d a new) c.self.view_is
+    (step_made f c.args.place g c.args.d.now c.read_tokens-tokens.new.d _ new (source_of c.source-source.result) c.read_tokens-tokens.result c.factors-factors.result
+    (c.read_tokens-tokens.ensures.value g here) (c.read_tokens-tokens.ensures.rest g here) (c.read_tokens-tokens.ensures.stands g has here)
+    c.source-source.ensures c.factors-factors.ensures c.rebuild_macroblock.ensures (c.set.ensures.here ∙ ap (λ (l : Level). Some l) c.level.ensures) c.set.ensures.elsewhere)

@@ -1,0 +1,216 @@
+//! What is known of a frame once its first partition is read.
+
+ghost use Rattle.std.specs.Prelude.{◌≡◌, ◌<◌, ◌≤◌, length, option_map};
+ghost use Rattle.vp_base.specs.Grid.{Grid, Has, with_entry};
+ghost use Rattle.vp_tokens.specs.Blocks.{Blocks, blocks_of};
+ghost use Rattle.vp_tokens.specs.Contexts.{StandsFor, right};
+ghost use Rattle.vp_recon.specs.Source.{source_of, has_y2};
+ghost use Rattle.vp_decode.specs.Maps.{modes_in, motion_in};
+ghost use Rattle.vp_decode.specs.Frame.{source_by, source_at, tokens_read, factors_at, inter_prediction, prediction_of, level_at};
+
+use crate::maps::Maps;
+use std::marker::Model;
+use vp_base::Place;
+use vp_bool::BoolDecoder;
+use vp_head::Header;
+use vp_loop::{Level, MacroblockKind, Prediction, levels};
+use vp_modes::Modes;
+use vp_motion::Entry;
+use vp_quant::{Factors, segment_index};
+use vp_recon::Source;
+use vp_refs::Refs;
+use vp_tables::VectorMode;
+use vp_tokens::{Contexts, Tokens, read_macroblock};
+
+/// What is known of a frame once its first partition is read.
+#[derive(Drop)]
+pub(crate) struct Plan<'a> {
+    header: &'a Header,
+    /// That of the frame's tag.
+    version: u8,
+    /// None in a key frame.
+    references: Option<&'a Refs>,
+    maps: Maps,
+}
+
+impl<'a> Model for Plan<'a> {
+    ghost use Rattle.std.specs.Prelude.{option_map};
+    ghost use Rattle.vp_decode.specs.Frame.{Plan};
+
+    ghost Value = { Plan };
+
+    ghost view = { λ f. record { header = f.header.now; version = f.version; references = option_map (λ r. r.now) f.references; maps = f.maps } };
+}
+
+fn inter_prediction(mode: VectorMode) -> Prediction
+    ensures { result ≡ inter_prediction mode }
+{
+    match mode {
+        VectorMode::Zero => Prediction::Zero,
+        VectorMode::Split => Prediction::Split,
+        _ => Prediction::Moved,
+    }
+}
+
+/// How a macroblock is predicted, as far as its filter level asks.
+fn prediction_of(source: &Source) -> Prediction
+    ensures { result ≡ prediction_of (source_of source.now) }
+{
+    match source {
+        Source::Intra(modes) => {
+            if modes.luma.is_by_subblocks() {
+                Prediction::Subblocks
+            } else {
+                Prediction::Whole
+            }
+        }
+        Source::Inter { motion, .. } => inter_prediction(motion.mode),
+    }
+}
+
+/// What a macroblock is predicted from: where there are no references, from its own picture.
+fn source_by<'a>(
+    references: Option<&'a Refs>,
+    version: u8,
+    modes: &'a Modes,
+    motion: &'a Entry,
+) -> Source<'a>
+    ensures { source_of result ≡ source_by (option_map (λ r. r.now) references.entry) version modes.now motion.now }
+{
+    let Some(references) = references else {
+        return Source::Intra(modes);
+    };
+    if modes.reference.is_intra() {
+        return Source::Intra(modes);
+    }
+    Source::Inter {
+        motion,
+        reference: references.get(modes.reference),
+        version,
+    }
+}
+
+impl<'a> Plan<'a> {
+    pub(crate) fn new(
+        header: &'a Header,
+        version: u8,
+        references: Option<&'a Refs>,
+        maps: Maps,
+    ) -> Plan<'a>
+        ensures { result ≡ record { header = header.now; version = version; references = option_map (λ r. r.now) references.entry; maps = maps } }
+    {
+        Plan {
+            header,
+            version,
+            references,
+            maps,
+        }
+    }
+
+    /// How many macroblocks a row has.
+    pub(crate) fn columns(&self) -> usize
+        ensures value { result ≡ self.now.maps.modes.columns }
+        ensures bound { result ≤ 1024 }
+    {
+        self.maps.modes.columns()
+    }
+
+    /// How many rows of macroblocks there are.
+    pub(crate) fn rows(&self) -> usize
+        ensures value { result ≡ self.now.maps.modes.rows }
+        ensures bound { result ≤ 1024 }
+    {
+        self.maps.modes.rows()
+    }
+
+    /// The modes of the macroblock at a place.
+    pub(crate) fn modes(&self, place: Place) -> &Modes
+        requires { Has self.now.maps.modes place }
+        ensures { result.now ≡ modes_in self.now.maps place }
+    {
+        self.maps.modes.get(place)
+    }
+
+    /// The motion of the macroblock at a place.
+    fn motion(&self, place: Place) -> &Entry
+        requires { Has self.now.maps.modes place }
+        ensures { result.now ≡ motion_in self.now.maps place }
+    {
+        self.maps.motion.get(place)
+    }
+
+    /// What the macroblock at a place is predicted from.
+    #[tactic(auto, unfolding(crate::specs::Frame::source_at))]
+    pub(crate) fn source(&self, place: Place) -> Source<'_>
+        requires { Has self.now.maps.modes place }
+        ensures { source_of result ≡ source_at self.now place }
+    {
+        source_by(
+            self.references,
+            self.version,
+            self.modes(place),
+            self.motion(place),
+        )
+    }
+
+    /// Whether the macroblock at a place has no tokens.
+    fn is_skipped(&self, place: Place) -> bool
+        requires { Has self.now.maps.modes place }
+        ensures { result ≡ (modes_in self.now.maps place).skip }
+    {
+        self.modes(place).skip
+    }
+
+    /// The tokens of the macroblock at a place, where those before it in raster order are read.
+    #[tactic(auto, unfolding(crate::specs::Frame::tokens_read))]
+    pub(crate) fn read_tokens(
+        &self,
+        place: Place,
+        contexts: &mut Contexts,
+        d: &mut BoolDecoder,
+    ) -> Tokens
+        requires place { Has self.now.maps.modes place }
+        requires column { place.column < length contexts.old.above }
+        ensures value { (g : Grid Blocks) → StandsFor g place contexts.old → result ≡ (tokens_read self.now place g d.old).0 }
+        ensures rest { (g : Grid Blocks) → StandsFor g place contexts.old → d.new ≡ (tokens_read self.now place g d.old).1 }
+        ensures stands { (g : Grid Blocks) → Has g place → StandsFor g place contexts.old → StandsFor (with_entry g place (blocks_of (has_y2 (source_at self.now place)) result)) (right place) contexts.new }
+        ensures columns { length contexts.new.above ≡ length contexts.old.above }
+    {
+        read_macroblock(
+            &self.header.probabilities.coefficients,
+            contexts,
+            place,
+            self.source(place).has_y2(),
+            self.is_skipped(place),
+            d,
+        )
+    }
+
+    /// The factors of the macroblock at a place.
+    #[tactic(auto, unfolding(crate::specs::Frame::factors_at))]
+    pub(crate) fn factors(&self, place: Place) -> Factors
+        requires { Has self.now.maps.modes place }
+        ensures { result ≡ factors_at self.now place }
+    {
+        let modes = self.modes(place);
+        Factors::of(
+            segment_index(self.header, modes.segment),
+            &self.header.quantiser,
+        )
+    }
+
+    /// How the macroblock at a place is filtered.
+    #[tactic(auto, unfolding(crate::specs::Frame::level_at))]
+    pub(crate) fn level(&self, place: Place, tokens: &Tokens) -> Level
+        requires { Has self.now.maps.modes place }
+        ensures { result ≡ level_at self.now place tokens.now }
+    {
+        let modes = self.modes(place);
+        let kind = MacroblockKind {
+            reference: modes.reference,
+            prediction: prediction_of(&self.source(place)),
+            coded: tokens.any(),
+        };
+        levels(self.header, modes.segment, &kind)
+    }
+}

@@ -1,0 +1,177 @@
+//! A frame's picture while its rows are rebuilt and filtered.
+
+ghost use Rattle.std.specs.Prelude.{◌≡◌, ℕ, ◌+◌, ◌*◌, ◌<◌, ◌≤◌, IfOk, [], length, map, slice_index_or};
+ghost use Rattle.vp_base.specs.Grid.{Grid, Has, all};
+ghost use Rattle.vp_base.specs.Image.{blank_image, macroblocks};
+ghost use Rattle.vp_bool.specs.Bools.{start};
+ghost use Rattle.vp_loop.specs.Filtered.{row_filtered, row_levels};
+ghost use Rattle.vp_tokens.specs.Blocks.{Blocks, unread};
+ghost use Rattle.vp_tokens.specs.Contexts.{StandsFor};
+ghost use Rattle.vp_decode.specs.Maps.{place};
+ghost use Rattle.vp_decode.specs.Frame.{frame_of, picture_of};
+ghost use Rattle.vp_decode.specs.Rebuilding.{IsStep, IsRow};
+
+use crate::plan::Plan;
+use std::alloc::{AllocError, Global};
+use std::marker::Model;
+use vp_base::{Dim, Grid, Picture, Place};
+use vp_bool::BoolDecoder;
+use vp_loop::{Level, RowFilter};
+use vp_recon::{
+    rebuild_macroblock, rebuilding_keeps_rows_above, rebuilding_keeps_shape,
+    rebuilding_reads_one_row_above,
+};
+use vp_tokens::{Contexts, Partitions};
+
+const NO_LEVEL: Level = Level {
+    edge: 0,
+    inner: 0,
+    interior: 0,
+    hev: 0,
+};
+
+/// A frame's picture while its rows are rebuilt and filtered, and what is kept from macroblock to macroblock.
+#[derive(Drop)]
+pub(crate) struct Rebuilding<'a> {
+    plan: &'a Plan<'a>,
+    contexts: Contexts,
+    picture: Picture,
+    levels: Grid<Level>,
+}
+
+impl<'a> Model for Rebuilding<'a> {
+    ghost use Rattle.vp_decode.specs.Rebuilding.{Rebuilding, IsOneFrame};
+
+    ghost Value = { Rebuilding };
+
+    ghost view = { λ b. record { plan = b.plan.now; contexts = b.contexts; picture = b.picture; levels = b.levels } };
+
+    ghost invariant = { λ b. IsOneFrame (record { plan = b.plan.now; contexts = b.contexts; picture = b.picture; levels = b.levels }) };
+}
+
+impl<'a> Rebuilding<'a> {
+    /// Before the first row, of a picture of this size, which starts as 0.
+    pub(crate) fn new(
+        alloc: Global,
+        plan: &'a Plan<'a>,
+        dim: Dim,
+    ) -> Result<Rebuilding<'a>, AllocError>
+        requires columns { plan.now.maps.modes.columns ≡ macroblocks dim.w }
+        requires rows { plan.now.maps.modes.rows ≡ macroblocks dim.h }
+        ensures plan { IfOk result (λ b. b.plan ≡ plan.now) }
+        ensures contexts { IfOk result (λ b. StandsFor (all plan.now.maps.modes.columns plan.now.maps.modes.rows unread) (place 0 0) b.contexts) }
+        ensures picture { IfOk result (λ b. b.picture ≡ blank_image dim.w dim.h 0) }
+    {
+        let columns = plan.columns();
+        let contexts = Contexts::new(alloc, columns)?;
+        let picture = Picture::new(alloc, dim, 0)?;
+        let levels = Grid::new(alloc, columns, plan.rows(), NO_LEVEL)?;
+        Ok(Rebuilding {
+            plan,
+            contexts,
+            picture,
+            levels,
+        })
+    }
+
+    /// Reads the tokens of the macroblock at a place, rebuilds it, and finds its filter level.
+    fn macroblock(&mut self, place: Place, d: &mut BoolDecoder)
+        requires { Has self.old.plan.maps.modes place }
+        ensures plan { self.new.plan ≡ self.old.plan }
+        ensures width { self.new.picture.width ≡ self.old.picture.width }
+        ensures height { self.new.picture.height ≡ self.old.picture.height }
+        ensures columns { self.new.levels.columns ≡ self.old.levels.columns }
+        ensures step { (g : Grid Blocks) → Has g place → StandsFor g place self.old.contexts → IsStep self.old.plan place g d.old d.new self.old self.new }
+    {
+        let plan = self.plan;
+        let tokens = plan.read_tokens(place, &mut self.contexts, d);
+        let source = plan.source(place);
+        let factors = plan.factors(place);
+        rebuild_macroblock(&mut self.picture, place, &source, &tokens, &factors);
+        self.levels.set(place, plan.level(place, &tokens));
+    }
+
+    /// Reads the tokens of a row of macroblocks, and rebuilds it.
+    fn row(&mut self, row: usize, d: &mut BoolDecoder)
+        requires { row < self.old.plan.maps.modes.rows }
+        ensures plan { self.new.plan ≡ self.old.plan }
+        ensures width { self.new.picture.width ≡ self.old.picture.width }
+        ensures height { self.new.picture.height ≡ self.old.picture.height }
+        ensures columns { self.new.levels.columns ≡ self.old.levels.columns }
+        ensures row { (g : Grid Blocks) → g.columns ≡ self.old.plan.maps.modes.columns → row < g.rows → StandsFor g (place row 0) self.old.contexts → IsRow self.old.plan row self.old.plan.maps.modes.columns g d.old d.new self.old self.new }
+    {
+        for column in 0..self.plan.columns() {
+            self.macroblock(Place { column, row }, d);
+        }
+    }
+
+    /// Filters the row before a row, where there is one.
+    fn filter_before<F: RowFilter>(&mut self, row: usize, filter: &mut F)
+        requires { row ≤ self.old.plan.maps.modes.rows }
+        ensures plan { self.new.plan ≡ self.old.plan }
+        ensures contexts { self.new.contexts ≡ self.old.contexts }
+        ensures levels { self.new.levels ≡ self.old.levels }
+        ensures width { self.new.picture.width ≡ self.old.picture.width }
+        ensures height { self.new.picture.height ≡ self.old.picture.height }
+        ensures none { row ≡ 0 → self.new.picture ≡ self.old.picture }
+        ensures one { (k : ℕ) → row ≡ k + 1 → self.new.picture ≡ row_filtered (row_levels self.old.levels.entries self.old.levels.columns k) k self.old.picture }
+    {
+        if row > 0 {
+            filter.row(&mut self.picture, self.levels.as_slice(), row - 1);
+        }
+    }
+
+    /// Rebuilds all rows; each is filtered once the row below it is rebuilt.
+    fn rows<F: RowFilter>(&mut self, decoders: &mut [BoolDecoder], filter: &mut F)
+        requires some { 0 < length decoders.old }
+        requires contexts { StandsFor (all self.old.plan.maps.modes.columns self.old.plan.maps.modes.rows unread) (place 0 0) self.old.contexts }
+        requires blank { self.old.picture ≡ blank_image self.old.picture.width self.old.picture.height 0 }
+        ensures { self.new.picture ≡ picture_of (frame_of self.old.plan decoders.old self.old.picture.width self.old.picture.height) }
+    {
+        rebuilding_keeps_shape();
+        rebuilding_keeps_rows_above();
+        rebuilding_reads_one_row_above();
+        let rows = self.plan.rows();
+        for row in 0..rows {
+            let at = row % decoders.len();
+            let decoder = &mut decoders[at];
+            self.row(row, decoder);
+            self.filter_before(row, filter);
+        }
+        self.filter_before(rows, filter);
+    }
+
+    /// The frame's picture, from its token partitions.
+    pub(crate) fn picture<F: RowFilter>(mut self, parts: &Partitions, filter: &mut F) -> Picture
+        requires some { 0 < length parts.now }
+        requires few { length parts.now ≤ 8 }
+        requires contexts { StandsFor (all self.plan.maps.modes.columns self.plan.maps.modes.rows unread) (place 0 0) self.contexts }
+        requires blank { self.picture ≡ blank_image self.picture.width self.picture.height 0 }
+        ensures { result ≡ picture_of (frame_of self.entry.plan (map start parts.now) self.entry.picture.width self.entry.picture.height) }
+    {
+        let mut decoders = [
+            BoolDecoder::new(part_or_none(parts, 0)),
+            BoolDecoder::new(part_or_none(parts, 1)),
+            BoolDecoder::new(part_or_none(parts, 2)),
+            BoolDecoder::new(part_or_none(parts, 3)),
+            BoolDecoder::new(part_or_none(parts, 4)),
+            BoolDecoder::new(part_or_none(parts, 5)),
+            BoolDecoder::new(part_or_none(parts, 6)),
+            BoolDecoder::new(part_or_none(parts, 7)),
+        ];
+        let count = parts.count();
+        self.rows(&mut decoders[..count], filter);
+        self.picture
+    }
+}
+
+/// A token partition, empty where there is none.
+fn part_or_none<'a>(parts: &Partitions<'a>, i: usize) -> &'a [u8]
+    ensures { result.now ≡ slice_index_or parts.now i [] }
+{
+    if i < parts.count() {
+        parts.part(i)
+    } else {
+        &[]
+    }
+}

@@ -1,0 +1,23 @@
+use Rattle.std.proofs.Common.{◌≡◌, [], arith, add-one, get_or}
+use Rattle.vp_bool.proofs.WritingLemmas.{each-written, each-unwritten}
+use Rattle.vp_head.specs.Probabilities.{component_at, vectors}
+use Rattle.vp_tables.specs.declared.mode_probabilities.TheConstants.{VECTOR_UPDATES}
+use Rattle.vp_head.proofs.Mixed.{mixed-at, mixed-more, mixed-all}
+use Rattle.vp_head.proofs.probability_writing.write_vectors.Goals as goal
+
+pub loop-i-init : goal.loop-i-init
+loop-i-init c = each-unwritten _ _ _ _
+
+pub loop-i-preserved : goal.loop-i-preserved
+loop-i-preserved c =
+    let at = mixed-at [] c.loop-i.i c.args.new.now c.args.old.now (omega arith) in
+    let more = mixed-more [] c.loop-i.i c.args.new.now c.args.old.now (omega arith) (omega arith) in
+    each-written [] c.loop-i.i (component_at VECTOR_UPDATES) c.args.old.now _ _ (get_or c.args.new.now c.loop-i.i []) c.loop-i.invariant (rw at c.in_ok-write_component.ensures) (rw add-one more)
+
+pub returns : goal.returns
+unfolding vectors
+returns c =
+    let e : c.loop-i.i ≡ 2 = omega arith in
+    let all = mixed-all 2 c.args.new.now c.args.old.now c.told-new c.told-old in
+    let w = rw e at c.loop-i.invariant in
+    rw (← all) w

@@ -1,0 +1,152 @@
+-- What the lanes compute on one line is the line step.
+use Rattle.std.proofs.Common.{◌≡◌, ℕ, ◌<◌, Bool, true, false, cond, ◌&&◌, ◌||◌, nat_le, nat_lt, max, refl, ap, ap₂, ◌∙◌, arith, ℤ, pos, ◌+ℤ◌, ◌-ℤ◌, ◌*ℤ◌, unsigned_abs}
+use Rattle.std.proofs.lemmas.Int.{ints, clamps}
+use Rattle.std.specs.Int.{int_min, int_max}
+use lib.Signed.{shr_z}
+use Rattle.vp_lanes.specs.Lane.{to_byte}
+use Rattle.vp_loop.specs.declared.lines.Line.{Line}
+use Rattle.vp_loop.specs.LineSteps.{clamp8, signed, pixel_from, pull, eighth, half_step, share, drawn, inner_changed, macroblock_changed}
+
+-- ---- tests
+pub le_max : (a b i : ℕ) → nat_le (max a b) i ≡ (nat_le a i && nat_le b i)
+le_max a b i = grind arith
+
+pub lt_max : (i a b : ℕ) → nat_lt i (max a b) ≡ (nat_lt i a || nat_lt i b)
+lt_max i a b = grind arith
+
+three_more : (x d e f : Bool) → (x && ((d && e) && f)) ≡ (((x && d) && e) && f)
+three_more true d e f = refl
+three_more false d e f = refl
+
+pub smooth_is : (i a b c d e f : ℕ) → nat_le (max (max (max a b) c) (max (max d e) f)) i
+    ≡ (nat_le a i && nat_le b i && nat_le c i && nat_le d i && nat_le e i && nat_le f i)
+smooth_is i a b c d e f =
+    le_max (max (max a b) c) (max (max d e) f) i
+    ∙ (ap₂ (λ x y. x && y)
+    (le_max (max a b) c i ∙ ap (λ x. x && nat_le c i) (le_max a b i))
+    (le_max (max d e) f i ∙ ap (λ x. x && nat_le f i) (le_max d e i))
+    ∙ three_more ((nat_le a i && nat_le b i) && nat_le c i) (nat_le d i) (nat_le e i) (nat_le f i))
+
+pub all_smooth : (s : Bool) (a b : ℕ) → a < 256 → b < 256 → (s && nat_le (max a b) 255) ≡ s
+all_smooth true a b p q = grind arith
+all_smooth false a b p q = refl
+
+-- ---- pixels: 128 less and 128 more cancel out
+apart_is : (a b : ℕ) → pos a -ℤ pos b ≡ signed a -ℤ signed b
+apart_is a b = omega (arith, ints)
+
+up_is : (x : ℕ) (t : ℤ) → to_byte (pos x +ℤ t) ≡ pixel_from (signed x +ℤ t)
+up_is x t = let e : int_min (pos 255) (int_max (pos 0) (pos x +ℤ t)) ≡ clamp8 (signed x +ℤ t) +ℤ pos 128 = omega (arith, ints, clamps) in ap unsigned_abs e
+
+down_is : (x : ℕ) (t : ℤ) → to_byte (pos x -ℤ t) ≡ pixel_from (signed x -ℤ t)
+down_is x t = let e : int_min (pos 255) (int_max (pos 0) (pos x -ℤ t)) ≡ clamp8 (signed x -ℤ t) +ℤ pos 128 = omega (arith, ints, clamps) in ap unsigned_abs e
+
+up_zero : (x : ℕ) → x < 256 → to_byte (pos x +ℤ pos 0) ≡ x
+up_zero x h = let e : int_min (pos 255) (int_max (pos 0) (pos x +ℤ pos 0)) ≡ pos x = omega (arith, ints, clamps) in ap unsigned_abs e
+
+down_zero : (x : ℕ) → x < 256 → to_byte (pos x -ℤ pos 0) ≡ x
+down_zero x h = let e : int_min (pos 255) (int_max (pos 0) (pos x -ℤ pos 0)) ≡ pos x = omega (arith, ints, clamps) in ap unsigned_abs e
+
+-- ---- what the lanes compute: m is the mask, outer whether p1 and q1 pull too
+module _ (m outer : Bool) (l : Line) where
+  abbrev pub lane_pull : ℤ
+  lane_pull = cond m (clamp8 (cond outer (clamp8 (pos l.p1 -ℤ pos l.q1)) (pos 0) +ℤ pos 3 *ℤ (pos l.q0 -ℤ pos l.p0))) (pos 0)
+
+  abbrev pub lane_eighth : ℤ → ℤ
+  lane_eighth k = shr_z (clamp8 (lane_pull +ℤ k)) 8
+
+  abbrev pub lane_half : ℤ
+  lane_half = cond outer (pos 0) (shr_z (lane_eighth (pos 4) +ℤ pos 1) 2)
+
+  abbrev pub lane_share : ℤ → ℤ
+  lane_share k = clamp8 (shr_z (lane_pull *ℤ k +ℤ pos 63) 128)
+
+pull_is : (outer : Bool) (l : Line) → lane_pull true outer l ≡ pull outer l
+pull_is outer l = ap₂ (λ x y. clamp8 (cond outer (clamp8 x) (pos 0) +ℤ pos 3 *ℤ y)) (apart_is l.p1 l.q1) (apart_is l.q0 l.p0)
+
+eighth_is : (outer : Bool) (l : Line) (k : ℤ) → lane_eighth true outer l k ≡ eighth (pull outer l) k
+eighth_is outer l k = ap (λ a. eighth a k) (pull_is outer l)
+
+half_is : (outer : Bool) (l : Line) → lane_half true outer l ≡ half_step outer l
+half_is outer l = ap (λ f. cond outer (pos 0) (shr_z (f +ℤ pos 1) 2)) (eighth_is outer l (pos 4))
+
+half_zero : (outer : Bool) (l : Line) → lane_half false outer l ≡ pos 0
+half_zero true l = refl
+half_zero false l = refl
+
+share_is : (l : Line) (k : ℤ) → lane_share true true l k ≡ share k l
+share_is l k = ap (λ w. clamp8 (shr_z (w *ℤ k +ℤ pos 63) 128)) (pull_is true l)
+
+-- the simple step
+abbrev pub lane_drawn : Bool → Line → Line
+lane_drawn m l = record l { p0 = to_byte (pos l.p0 +ℤ lane_eighth m true l (pos 3)); q0 = to_byte (pos l.q0 -ℤ lane_eighth m true l (pos 4)) }
+
+pub drawn_is : (m : Bool) (l : Line) → l.p0 < 256 → l.q0 < 256 → lane_drawn m l ≡ cond m (drawn true l) l
+drawn_is true l b0 c0 =
+    let a = ap (λ t. to_byte (pos l.p0 +ℤ t)) (eighth_is true l (pos 3)) ∙ up_is l.p0 (eighth (pull true l) (pos 3)) in
+    let c = ap (λ t. to_byte (pos l.q0 -ℤ t)) (eighth_is true l (pos 4)) ∙ down_is l.q0 (eighth (pull true l) (pos 4)) in
+    λ i. record l { p0 = a i; q0 = c i }
+drawn_is false l b0 c0 =
+    let a = up_zero l.p0 b0 in
+    let c = down_zero l.q0 c0 in
+    λ i. record l { p0 = a i; q0 = c i }
+
+-- the inner step
+abbrev pub lane_inner : Bool → Bool → Line → Line
+lane_inner m high l = record l {
+  p1 = to_byte (pos l.p1 +ℤ lane_half m high l);
+  p0 = to_byte (pos l.p0 +ℤ lane_eighth m high l (pos 3));
+  q0 = to_byte (pos l.q0 -ℤ lane_eighth m high l (pos 4));
+  q1 = to_byte (pos l.q1 -ℤ lane_half m high l);
+}
+
+pub inner_is : (m high : Bool) (l : Line) → l.p1 < 256 → l.p0 < 256 → l.q0 < 256 → l.q1 < 256 → lane_inner m high l ≡ cond m (inner_changed high l) l
+inner_is true high l b1 b0 c0 c1 =
+    let e1 = ap (λ t. to_byte (pos l.p1 +ℤ t)) (half_is high l) ∙ up_is l.p1 (half_step high l) in
+    let e0 = ap (λ t. to_byte (pos l.p0 +ℤ t)) (eighth_is high l (pos 3)) ∙ up_is l.p0 (eighth (pull high l) (pos 3)) in
+    let f0 = ap (λ t. to_byte (pos l.q0 -ℤ t)) (eighth_is high l (pos 4)) ∙ down_is l.q0 (eighth (pull high l) (pos 4)) in
+    let f1 = ap (λ t. to_byte (pos l.q1 -ℤ t)) (half_is high l) ∙ down_is l.q1 (half_step high l) in
+    λ i. record l { p1 = e1 i; p0 = e0 i; q0 = f0 i; q1 = f1 i }
+inner_is false high l b1 b0 c0 c1 =
+    let e1 = ap (λ t. to_byte (pos l.p1 +ℤ t)) (half_zero high l) ∙ up_zero l.p1 b1 in
+    let e0 = up_zero l.p0 b0 in
+    let f0 = down_zero l.q0 c0 in
+    let f1 = ap (λ t. to_byte (pos l.q1 -ℤ t)) (half_zero high l) ∙ down_zero l.q1 c1 in
+    λ i. record l { p1 = e1 i; p0 = e0 i; q0 = f0 i; q1 = f1 i }
+
+-- the step over the edge of a macroblock
+abbrev pub lane_outer : Bool → Bool → Line → Line
+lane_outer m high l = record l {
+  p2 = to_byte (pos l.p2 +ℤ cond high (pos 0) (lane_share m true l (pos 9)));
+  p1 = to_byte (pos l.p1 +ℤ cond high (pos 0) (lane_share m true l (pos 18)));
+  p0 = to_byte (pos l.p0 +ℤ cond high (lane_eighth m true l (pos 3)) (lane_share m true l (pos 27)));
+  q0 = to_byte (pos l.q0 -ℤ cond high (lane_eighth m true l (pos 4)) (lane_share m true l (pos 27)));
+  q1 = to_byte (pos l.q1 -ℤ cond high (pos 0) (lane_share m true l (pos 18)));
+  q2 = to_byte (pos l.q2 -ℤ cond high (pos 0) (lane_share m true l (pos 9)));
+}
+
+unchanged : (l : Line) (high : Bool) → l.p2 < 256 → l.p1 < 256 → l.p0 < 256 → l.q0 < 256 → l.q1 < 256 → l.q2 < 256 → lane_outer false high l ≡ l
+unchanged l high b2 b1 b0 c0 c1 c2 = go high
+  where
+    go : (high : Bool) → lane_outer false high l ≡ l
+    go true = λ i. record l { p2 = up_zero l.p2 b2 i; p1 = up_zero l.p1 b1 i; p0 = up_zero l.p0 b0 i; q0 = down_zero l.q0 c0 i; q1 = down_zero l.q1 c1 i; q2 = down_zero l.q2 c2 i }
+    go false = λ i. record l { p2 = up_zero l.p2 b2 i; p1 = up_zero l.p1 b1 i; p0 = up_zero l.p0 b0 i; q0 = down_zero l.q0 c0 i; q1 = down_zero l.q1 c1 i; q2 = down_zero l.q2 c2 i }
+
+pub outer_is : (m high : Bool) (l : Line) → l.p2 < 256 → l.p1 < 256 → l.p0 < 256 → l.q0 < 256 → l.q1 < 256 → l.q2 < 256 → lane_outer m high l ≡ cond m (macroblock_changed high l) l
+outer_is true true l b2 b1 b0 c0 c1 c2 =
+    let e2 = up_zero l.p2 b2 in
+    let e1 = up_zero l.p1 b1 in
+    let e0 = ap (λ t. to_byte (pos l.p0 +ℤ t)) (eighth_is true l (pos 3)) ∙ up_is l.p0 (eighth (pull true l) (pos 3)) in
+    let f0 = ap (λ t. to_byte (pos l.q0 -ℤ t)) (eighth_is true l (pos 4)) ∙ down_is l.q0 (eighth (pull true l) (pos 4)) in
+    let f1 = down_zero l.q1 c1 in
+    let f2 = down_zero l.q2 c2 in
+    λ i. record l { p2 = e2 i; p1 = e1 i; p0 = e0 i; q0 = f0 i; q1 = f1 i; q2 = f2 i }
+outer_is true false l b2 b1 b0 c0 c1 c2 =
+    let e2 = ap (λ t. to_byte (pos l.p2 +ℤ t)) (share_is l (pos 9)) ∙ up_is l.p2 (share (pos 9) l) in
+    let e1 = ap (λ t. to_byte (pos l.p1 +ℤ t)) (share_is l (pos 18)) ∙ up_is l.p1 (share (pos 18) l) in
+    let e0 = ap (λ t. to_byte (pos l.p0 +ℤ t)) (share_is l (pos 27)) ∙ up_is l.p0 (share (pos 27) l) in
+    let f0 = ap (λ t. to_byte (pos l.q0 -ℤ t)) (share_is l (pos 27)) ∙ down_is l.q0 (share (pos 27) l) in
+    let f1 = ap (λ t. to_byte (pos l.q1 -ℤ t)) (share_is l (pos 18)) ∙ down_is l.q1 (share (pos 18) l) in
+    let f2 = ap (λ t. to_byte (pos l.q2 -ℤ t)) (share_is l (pos 9)) ∙ down_is l.q2 (share (pos 9) l) in
+    λ i. record l { p2 = e2 i; p1 = e1 i; p0 = e0 i; q0 = f0 i; q1 = f1 i; q2 = f2 i }
+outer_is false high l b2 b1 b0 c0 c1 c2 = unchanged l high b2 b1 b0 c0 c1 c2

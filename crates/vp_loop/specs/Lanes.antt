@@ -1,0 +1,30 @@
+-- Sixteen lines side by side, as the lanes hold them.
+use Rattle.std.specs.Prelude.{ℕ, List, slice_index}
+use Rattle.vp_loop.specs.declared.lines.Line.{Line}
+use Rattle.vp_loop.specs.declared.lanes.Lines.{Lines}
+
+-- line j of them
+abbrev pub line_of : Lines → ℕ → Line
+line_of l j = record {
+  p3 = slice_index l.p3 j;
+  p2 = slice_index l.p2 j;
+  p1 = slice_index l.p1 j;
+  p0 = slice_index l.p0 j;
+  q0 = slice_index l.q0 j;
+  q1 = slice_index l.q1 j;
+  q2 = slice_index l.q2 j;
+  q3 = slice_index l.q3 j;
+}
+
+-- the line whose pixels are the first eight numbers of a list
+abbrev pub line_in : List ℕ → Line
+line_in r = record {
+  p3 = slice_index r 0;
+  p2 = slice_index r 1;
+  p1 = slice_index r 2;
+  p0 = slice_index r 3;
+  q0 = slice_index r 4;
+  q1 = slice_index r 5;
+  q2 = slice_index r 6;
+  q3 = slice_index r 7;
+}

@@ -1,0 +1,137 @@
+//! The line step on sixteen lines at once: mask and high edge variance are of each line.
+
+ghost use Rattle.std.specs.Prelude.{◌≡◌, ℕ, ◌<◌, ◌*◌, ◌/◌, ◌+◌, slice_index, max, cond, ◌&&◌, true};
+ghost use Rattle.std.specs.Int.{abs_diff};
+ghost use Rattle.vp_loop.specs.declared.lines.Line.{Line};
+ghost use Rattle.vp_loop.specs.LineSteps.{stepped, drawn, inner_changed, macroblock_changed, is_small_step, is_smooth, is_high};
+ghost use Rattle.vp_loop.specs.Lanes.{line_of};
+
+use crate::lines::{EdgeKind, LineStep};
+use std::simd::prelude::*;
+use vp_lanes::{
+    abs_diff16, difference, eighth, either, half, larger, lowered, masked, pull, raised, share,
+    step_size, where_high, where_low,
+};
+
+/// Sixteen lines: a vector for each of their eight pixels.
+#[derive(Clone, Copy)]
+pub(crate) struct Lines {
+    pub(crate) p3: u8x16,
+    pub(crate) p2: u8x16,
+    pub(crate) p1: u8x16,
+    pub(crate) p0: u8x16,
+    pub(crate) q0: u8x16,
+    pub(crate) q1: u8x16,
+    pub(crate) q2: u8x16,
+    pub(crate) q3: u8x16,
+}
+
+/// How far neighbours on one side of an edge are apart at most.
+fn most_apart(l: Lines) -> u8x16
+    ensures { (j : ℕ) → j < 16 → slice_index result j
+        ≡ max (max (max (abs_diff (slice_index l.p3 j) (slice_index l.p2 j)) (abs_diff (slice_index l.p2 j) (slice_index l.p1 j))) (abs_diff (slice_index l.p1 j) (slice_index l.p0 j)))
+        (max (max (abs_diff (slice_index l.q1 j) (slice_index l.q0 j)) (abs_diff (slice_index l.q2 j) (slice_index l.q1 j))) (abs_diff (slice_index l.q3 j) (slice_index l.q2 j))) }
+{
+    let p = larger(
+        larger(abs_diff16(l.p3, l.p2), abs_diff16(l.p2, l.p1)),
+        abs_diff16(l.p1, l.p0),
+    );
+    let q = larger(
+        larger(abs_diff16(l.q1, l.q0), abs_diff16(l.q2, l.q1)),
+        abs_diff16(l.q3, l.q2),
+    );
+    larger(p, q)
+}
+
+/// How far the two pixels next to an edge are apart at most, on either side.
+fn inner_apart(l: Lines) -> u8x16
+    ensures { (j : ℕ) → j < 16 → slice_index result j ≡ max (abs_diff (slice_index l.p1 j) (slice_index l.p0 j)) (abs_diff (slice_index l.q1 j) (slice_index l.q0 j)) }
+{
+    larger(abs_diff16(l.p1, l.p0), abs_diff16(l.q1, l.q0))
+}
+
+/// The inner step.
+fn inner(l: Lines, limit: u8, interior: u8, threshold: u8) -> Lines
+    ensures { (j : ℕ) → j < 16 → line_of result j ≡ cond (is_small_step limit (line_of l j) && is_smooth interior (line_of l j)) (inner_changed (is_high threshold (line_of l j)) (line_of l j)) (line_of l j) }
+{
+    let most = most_apart(l);
+    let apart = inner_apart(l);
+    let size = step_size(l.p1, l.p0, l.q0, l.q1);
+    let d = difference(l.p1, l.q1);
+    let w = where_high(d, apart, threshold);
+    let s = pull(w, l.p0, l.q0);
+    let a = masked(s, size, limit, most, interior);
+    let f1 = eighth(a, 4);
+    let f2 = eighth(a, 3);
+    let h = half(f1);
+    let t = where_low(h, apart, threshold);
+    Lines {
+        p1: raised(l.p1, t),
+        p0: raised(l.p0, f2),
+        q0: lowered(l.q0, f1),
+        q1: lowered(l.q1, t),
+        ..l
+    }
+}
+
+/// The step over the edge of a macroblock.
+fn outer(l: Lines, limit: u8, interior: u8, threshold: u8) -> Lines
+    ensures { (j : ℕ) → j < 16 → line_of result j ≡ cond (is_small_step limit (line_of l j) && is_smooth interior (line_of l j)) (macroblock_changed (is_high threshold (line_of l j)) (line_of l j)) (line_of l j) }
+{
+    let most = most_apart(l);
+    let apart = inner_apart(l);
+    let size = step_size(l.p1, l.p0, l.q0, l.q1);
+    let d = difference(l.p1, l.q1);
+    let s = pull(d, l.p0, l.q0);
+    let w = masked(s, size, limit, most, interior);
+    let f1 = eighth(w, 4);
+    let f2 = eighth(w, 3);
+    let t0 = share(w, 27);
+    let t1 = share(w, 18);
+    let t2 = share(w, 9);
+    let u0 = either(f2, t0, apart, threshold);
+    let v0 = either(f1, t0, apart, threshold);
+    let u1 = where_low(t1, apart, threshold);
+    let u2 = where_low(t2, apart, threshold);
+    Lines {
+        p2: raised(l.p2, u2),
+        p1: raised(l.p1, u1),
+        p0: raised(l.p0, u0),
+        q0: lowered(l.q0, v0),
+        q1: lowered(l.q1, u1),
+        q2: lowered(l.q2, u2),
+        ..l
+    }
+}
+
+/// The step of the simple filter.
+fn simple(l: Lines, limit: u8) -> Lines
+    ensures { (j : ℕ) → j < 16 → line_of result j ≡ cond (is_small_step limit (line_of l j)) (drawn true (line_of l j)) (line_of l j) }
+{
+    let size = step_size(l.p1, l.p0, l.q0, l.q1);
+    let d = difference(l.p1, l.q1);
+    let s = pull(d, l.p0, l.q0);
+    // no byte is above 255, so that smoothness is not asked
+    let w = masked(s, size, limit, larger(l.p0, l.q0), 255);
+    let f1 = eighth(w, 4);
+    let f2 = eighth(w, 3);
+    Lines {
+        p0: raised(l.p0, f2),
+        q0: lowered(l.q0, f1),
+        ..l
+    }
+}
+
+impl LineStep {
+    /// Sixteen lines as the filter leaves them.
+    #[tactic(auto, unfolding(crate::specs::LineSteps::stepped))]
+    pub(crate) fn apply_to_all(self, lines: Lines) -> Lines
+        ensures { (j : ℕ) → j < 16 → line_of result j ≡ stepped self (line_of lines j) }
+    {
+        match self.kind {
+            EdgeKind::Simple => simple(lines, self.limit),
+            EdgeKind::Inner => inner(lines, self.limit, self.interior, self.hev),
+            EdgeKind::Macroblock => outer(lines, self.limit, self.interior, self.hev),
+        }
+    }
+}

@@ -1,0 +1,26 @@
+-- What a macroblock says of itself, but for its vectors (RFC 6386, chapter 19.3).
+use Rattle.std.specs.Prelude.{ℕ, Bool, false, List, replicate}
+use Rattle.vp_head.specs.declared.fields.Reference.{Reference}
+use Rattle.vp_head.specs.declared.fields.Reference.TheVariants as reference_is
+use Rattle.vp_tables.specs.declared.modes.ChromaMode.{ChromaMode}
+use Rattle.vp_tables.specs.declared.modes.ChromaMode.TheVariants as chroma_is
+use Rattle.vp_tables.specs.declared.modes.LumaMode.{LumaMode}
+use Rattle.vp_tables.specs.declared.modes.LumaMode.TheVariants as luma_is
+use Rattle.vp_tables.specs.declared.modes.SubMode.{SubMode}
+use Rattle.vp_tables.specs.declared.modes.SubMode.TheVariants as sub_is
+
+pub record Modes : Type 0 where
+  pub segment : ℕ
+  pub skip : Bool
+  pub reference : Reference
+  pub luma : LumaMode
+  pub subs : List SubMode
+  pub chroma : ChromaMode
+
+-- intra, not skipped, of segment 0, with DC modes
+unfoldable pub plain : Modes
+plain = record { segment = 0; skip = false; reference = reference_is.Intra; luma = luma_is.Dc; subs = replicate 16 sub_is.Dc; chroma = chroma_is.Dc }
+
+-- plain, but of a segment
+abbrev pub plain_of : ℕ → Modes
+plain_of segment = record plain { segment = segment }

@@ -1,0 +1,20 @@
+use std::marker::Model;
+
+/// Which of a frame's four segments a macroblock belongs to (RFC 6386, chapter 9.3).
+#[derive(Clone, Copy, Debug, PartialEq, Eq)]
+pub struct Segment {
+    /// 0 to 3.
+    pub number: u8,
+}
+
+impl Model for Segment {
+    ghost use Rattle.std.specs.Prelude.{ℕ, ◌<◌};
+
+    ghost Value = { ℕ };
+
+    ghost view = { λ s. s.number };
+
+    ghost invariant = { λ s. s.number < 4 };
+
+    ghost inverse = { λ n. record { number = n } };
+}

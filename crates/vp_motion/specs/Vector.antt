@@ -1,0 +1,57 @@
+-- Motion vectors, and what is kept of a macroblock's motion, without where it lies in memory.
+use Rattle.std.specs.Prelude.{ℕ, ◌≡◌, ◌<◌, false, List, replicate, slice_index, slice_index_or, ℤ, pos, neg_ℤ, ◌≤ℤ◌}
+use Rattle.vp_head.specs.declared.fields.Reference.{Reference}
+use Rattle.vp_tables.specs.declared.modes.VectorMode.{VectorMode}
+use Rattle.vp_tables.specs.Modes.{is_split}
+
+-- in quarter luma pixels, down and to the right (RFC 6386, chapter 5)
+pub record Vector : Type 0 where
+  pub row : ℤ
+  pub column : ℤ
+
+abbrev pub still : Vector
+still = record { row = pos 0; column = pos 0 }
+
+-- each part of a vector is n quarter pixels at most
+pub record IsWithin (n : ℕ) (v : Vector) : Type 0 where
+  pub low_row : neg_ℤ (pos n) ≤ℤ v.row
+  pub high_row : v.row ≤ℤ pos n
+  pub low_column : neg_ℤ (pos n) ≤ℤ v.column
+  pub high_column : v.column ≤ℤ pos n
+
+-- 1,024 macroblocks, and what one vector adds
+abbrev pub IsSmall : Vector → Type 0
+IsSmall v = IsWithin 66559 v
+
+-- A macroblock's own vector is that of its last block.
+abbrev pub last_of : List Vector → Vector
+last_of vectors = slice_index_or vectors 15 still
+
+-- unless the mode is split, all blocks have one vector
+abbrev pub AreOne : VectorMode → List Vector → Type 0
+AreOne mode vectors = is_split mode ≡ false → vectors ≡ replicate 16 (last_of vectors)
+
+-- how an inter macroblock moves: the vectors of its blocks
+pub record Motion : Type 0 where
+  pub mode : VectorMode
+  pub vectors : List Vector
+
+-- what is kept of it; of an intra macroblock the mode and the vectors have no meaning
+pub record Entry : Type 0 where
+  pub reference : Reference
+  pub mode : VectorMode
+  pub vectors : List Vector
+
+-- what a macroblock's own vector may be, or may be near (chapter 16.3): the weights of zero vectors, of nearest, of near and of split neighbours, and what a new vector is added to
+pub record Candidates : Type 0 where
+  pub counts : List ℕ
+  pub best : Vector
+  pub nearest : Vector
+  pub near : Vector
+
+-- each is no more than a frame's size, and the weights are below 6
+pub record AreCandidates (c : Candidates) : Type 0 where
+  pub counts : (k : ℕ) → slice_index c.counts k < 6
+  pub best : IsWithin 65536 c.best
+  pub nearest : IsWithin 65536 c.nearest
+  pub near : IsWithin 65536 c.near

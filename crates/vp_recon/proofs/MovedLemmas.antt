@@ -1,0 +1,103 @@
+-- A block that is moved, as a whole or subblock after subblock.
+use Rattle.std.proofs.Common.{◌≡◌, ◌∙◌, ℕ, ◌+◌, ◌*◌, ◌/◌, ◌%◌, ◌<◌, ◌≤◌, ℤ, pos, ◌+ℤ◌, false, List, [], ◌∷◌, map, get_or, sym, ap, arith}
+use Rattle.std.proofs.lemmas.List.{get_or-replicate}
+use Rattle.std.proofs.lemmas.Int.{ints}
+use Rattle.vp_base.specs.Raster.{Raster}
+use Rattle.vp_tables.specs.Modes.{is_split}
+use Rattle.vp_motion.specs.Vector.{Vector, Entry, AreOne, last_of, still}
+use Rattle.vp_inter.specs.declared.vector.PlaneVector.{PlaneVector}
+use Rattle.vp_inter.specs.Inter.{reference_pixel, across, inter_pixel}
+use Rattle.vp_inter.specs.Vectors.{fraction, start, luma_vector, chroma_vector}
+use Rattle.vp_inter.specs.Filter.{taps, filter_six}
+use Rattle.vp_recon.specs.Rebuilt.{summed}
+use Rattle.vp_recon.specs.Prediction.{moved_pixel, four_from, luma_moved, chroma_moved}
+use Rattle.vp_recon.specs.Kept.{moved_sum}
+use Rattle.vp_recon.proofs.Parts.{sub_at, subblock_has}
+
+moved_at : (version : ℕ) (reference : Raster) (x y : ℕ) (vector : ℕ → PlaneVector) (residue : ℕ → List ℤ) (a b n r c a' b' n' r' c' : ℕ)
+    → a ≡ a' → b ≡ b' → n ≡ n' → r ≡ r' → c ≡ c'
+    → summed (inter_pixel version reference (x + 4 * a) (y + 4 * b) (vector n) r c) (get_or (residue n) (4 * r + c) (pos 0))
+    ≡ summed (inter_pixel version reference (x + 4 * a') (y + 4 * b') (vector n') r' c') (get_or (residue n') (4 * r' + c') (pos 0))
+moved_at version reference x y vector residue a b n r c a' b' n' r' c' ea eb en er ec = cc
+
+-- a pixel of subblock k
+pub moved_part : (version : ℕ) (reference : Raster) (x y across : ℕ) (vector : ℕ → PlaneVector) (residue : ℕ → List ℤ) (k r c : ℕ) → 0 < across → r < 4 → c < 4
+    → summed (inter_pixel version reference (x + 4 * (k % across)) (y + 4 * (k / across)) (vector k) r c) (get_or (residue k) (4 * r + c) (pos 0))
+    ≡ moved_sum version reference x y across vector residue (4 * (k / across) + r) (4 * (k % across) + c)
+moved_part version reference x y across vector residue k r c some rin cin =
+    sym (moved_at version reference x y vector residue
+    ((4 * (k % across) + c) / 4) ((4 * (k / across) + r) / 4) (sub_at across (4 * (k / across) + r) (4 * (k % across) + c)) ((4 * (k / across) + r) % 4) ((4 * (k % across) + c) % 4)
+    (k % across) (k / across) k r c
+    (omega arith) (omega arith) (subblock_has across k r c some rin cin) (omega arith) (omega arith))
+
+-- ---- a block that moves as a whole
+
+six_same : (weights : List ℤ) (f g : ℕ → ℕ) → ((k : ℕ) → f k ≡ g k) → filter_six weights f ≡ filter_six weights g
+six_same weights f g same =
+    let a : f 0 ≡ g 0 = same 0 in
+    let b : f 1 ≡ g 1 = same 1 in
+    let c : f 2 ≡ g 2 = same 2 in
+    let d : f 3 ≡ g 3 = same 3 in
+    let e : f 4 ≡ g 4 = same 4 in
+    let h : f 5 ≡ g 5 = same 5 in
+    cc
+
+start_on : (x a c j : ℕ) (e : ℤ) → start (x + a) e +ℤ pos (c + j) ≡ start x e +ℤ pos (a + c + j)
+unfolding start
+start_on x a c j e = omega (arith, ints)
+
+top_on : (y b i : ℕ) (e : ℤ) → start (y + b) e +ℤ pos i ≡ start y e +ℤ pos (b + i)
+unfolding start
+top_on y b i e = omega (arith, ints)
+
+across_on : (weights : List ℤ) (p : Raster) (x y a b i c : ℕ) (e f : ℤ)
+    → across weights p (start (x + a) e) (start (y + b) f) i c ≡ across weights p (start x e) (start y f) (b + i) (a + c)
+unfolding across
+across_on weights p x y a b i c e f =
+    six_same weights (λ (k : ℕ). reference_pixel p (start (x + a) e +ℤ pos (c + k)) (start (y + b) f +ℤ pos i))
+    (λ (k : ℕ). reference_pixel p (start x e +ℤ pos (a + c + k)) (start y f +ℤ pos (b + i)))
+    (λ k. ap (λ (z : ℤ). reference_pixel p z (start (y + b) f +ℤ pos i)) (start_on x a c k e)
+    ∙ ap (reference_pixel p (start x e +ℤ pos (a + c + k))) (top_on y b i f))
+
+-- a block's part is predicted as the whole is
+inter_part : (version : ℕ) (p : Raster) (x y a b : ℕ) (v : PlaneVector) (r c : ℕ)
+    → inter_pixel version p (x + a) (y + b) v r c ≡ inter_pixel version p x y v (b + r) (a + c)
+unfolding inter_pixel
+inter_part version p x y a b v r c =
+    let weights : List ℤ = taps version (fraction v.column) in
+    six_same (taps version (fraction v.row))
+    (λ (k : ℕ). across weights p (start (x + a) v.column) (start (y + b) v.row) (r + k) c)
+    (λ (k : ℕ). across weights p (start x v.column) (start y v.row) (b + r + k) (a + c))
+    (λ k. across_on weights p x y a b (r + k) c v.column v.row
+    ∙ ap (λ (i : ℕ). across weights p (start x v.column) (start y v.row) i (a + c)) (let e : b + (r + k) ≡ b + r + k = omega arith in e))
+
+-- all subblocks move as the first one
+pub moved_alike : (version : ℕ) (reference : Raster) (x y n : ℕ) (vector : ℕ → PlaneVector) (r c : ℕ) → vector (sub_at n r c) ≡ vector 0
+    → inter_pixel version reference x y (vector 0) r c ≡ moved_pixel version reference x y n vector r c
+moved_alike version reference x y n vector r c same =
+    ap (λ (i : ℕ). inter_pixel version reference x y (vector 0) i c) (let e : r ≡ 4 * (r / 4) + r % 4 = omega arith in e)
+    ∙ ap (inter_pixel version reference x y (vector 0) (4 * (r / 4) + r % 4)) (let e : c ≡ 4 * (c / 4) + c % 4 = omega arith in e)
+    ∙ sym (inter_part version reference x y (4 * (c / 4)) (4 * (r / 4)) (vector 0) (r % 4) (c % 4))
+    ∙ ap (λ (w : PlaneVector). inter_pixel version reference (x + 4 * (c / 4)) (y + 4 * (r / 4)) w (r % 4) (c % 4)) (sym same)
+
+-- ---- a macroblock that isn't split
+
+pub luma_one : (e : Entry) (k : ℕ) → AreOne e.mode e.vectors → is_split e.mode ≡ false → k < 16 → luma_moved e k ≡ luma_moved e 0
+unfolding luma_moved
+luma_one e k one whole below =
+    let v : Vector = last_of e.vectors in
+    let at : (j : ℕ) → j < 16 → get_or e.vectors j still ≡ v = λ j jin. ap (λ (vs : List Vector). get_or vs j still) (one whole) ∙ get_or-replicate 16 j v still jin in
+    ap (λ (w : Vector). luma_vector w.row w.column) (at k below ∙ sym (at 0 (omega arith)))
+
+pub chroma_one : (version : ℕ) (e : Entry) (k : ℕ) → AreOne e.mode e.vectors → is_split e.mode ≡ false → k < 4 → chroma_moved version e k ≡ chroma_moved version e 0
+unfolding chroma_moved
+chroma_one version e k one whole below =
+    let v : Vector = last_of e.vectors in
+    let at : (j : ℕ) → j < 16 → get_or e.vectors j still ≡ v = λ j jin. ap (λ (vs : List Vector). get_or vs j still) (one whole) ∙ get_or-replicate 16 j v still jin in
+    let four : (j : ℕ) → j ≤ 10 → four_from e.vectors j ≡ v ∷ v ∷ v ∷ v ∷ [] = λ j jin.
+    let a = at j (omega arith) in
+    let b = at (j + 1) (omega arith) in
+    let c = at (j + 4) (omega arith) in
+    let d = at (j + 5) (omega arith) in
+    cc in
+    ap (λ (vs : List Vector). chroma_vector version (map (λ w. w.row) vs) (map (λ w. w.column) vs)) (four (8 * (k / 2) + 2 * (k % 2)) (omega arith) ∙ sym (four 0 (omega arith)))

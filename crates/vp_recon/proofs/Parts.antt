@@ -1,0 +1,160 @@
+-- A block that is made subblock after subblock.
+use Rattle.std.proofs.Common.{◌≡◌, ◌∙◌, ℕ, ◌+◌, ◌-◌, ◌*◌, ◌/◌, ◌%◌, ◌<◌, ◌≤◌, Bool, true, false, cond, nat_lt, refl, sym, ap, arith, inl, inr}
+use Rattle.std.proofs.lemmas.Bool.{cases_Bool, cases_order, lt-ltb, le-ltb}
+use Rattle.std.proofs.lemmas.Bool.Decides.{nat_tests}
+use Rattle.std.proofs.lemmas.Nat.{div-mul-add, mod-mul-add, div-add-mod', mod_below, div_below, row_fits}
+use Rattle.std.proofs.Math.Nat.{mul_comm}
+use Rattle.vp_base.specs.Raster.{Raster, pixel}
+use Rattle.vp_base.specs.Block.{is_in_block, with_block, IsWhole}
+use Rattle.vp_base.proofs.BlockLemmas.{pixel-with_block, IsWhole-with_block, same_raster, with_block_same}
+
+-- ---- a block written over a part of another
+
+pub is_in : (x y n h u v : ℕ) → is_in_block x y n h u v ≡ true → (x ≤ u) × (u < x + n) × (y ≤ v) × (v < y + h)
+is_in x y n h u v e = (grind (arith, nat_tests), grind (arith, nat_tests), grind (arith, nat_tests), grind (arith, nat_tests))
+
+pub in_it : (x y n h u v : ℕ) → x ≤ u → u < x + n → y ≤ v → v < y + h → is_in_block x y n h u v ≡ true
+in_it x y n h u v a b c d = grind (arith, nat_tests)
+
+moved : (x y a b n u v : ℕ) → x ≤ u → y ≤ v → is_in_block (x + a) (y + b) n n u v ≡ false → is_in_block a b n n (u - x) (v - y) ≡ false
+moved x y a b n u v left top e = grind (arith, nat_tests)
+
+-- p with a block of what it has there is p
+pub with_block_of : (p : Raster) (x y n : ℕ) → IsWhole p → p ≡ with_block p x y n n (λ r c. pixel p (x + c) (y + r))
+with_block_of p x y n whole =
+    same_raster p (with_block p x y n n (λ r c. pixel p (x + c) (y + r))) refl refl whole (IsWhole-with_block p x y n n (λ r c. pixel p (x + c) (y + r)))
+    (λ u v uin vin. sym (
+    pixel-with_block p x y n n (λ r c. pixel p (x + c) (y + r)) u v uin vin
+    ∙ elim (cases_Bool (is_in_block x y n n u v)) [
+      | inl within ↦
+          let at = is_in x y n n u v within in
+          ap (λ (t : Bool). cond t (pixel p (x + (u - x)) (y + (v - y))) (pixel p u v)) within
+          ∙ ap (λ (i : ℕ). pixel p i (y + (v - y))) (let e : x + (u - x) ≡ u = omega (arith, at) in e)
+          ∙ ap (pixel p u) (let e : y + (v - y) ≡ v = omega (arith, at) in e)
+      | inr past ↦ ap (λ (t : Bool). cond t (pixel p (x + (u - x)) (y + (v - y))) (pixel p u v)) past
+    ]))
+
+with_block_inside : (p : Raster) (x y n : ℕ) (f : ℕ → ℕ → ℕ) (a b m : ℕ) (g h : ℕ → ℕ → ℕ) → a + m ≤ n → b + m ≤ n
+    → ((r c : ℕ) → r < m → c < m → g r c ≡ h (b + r) (a + c))
+    → ((r c : ℕ) → r < n → c < n → is_in_block a b m m c r ≡ false → f r c ≡ h r c)
+    → with_block (with_block p x y n n f) (x + a) (y + b) m m g ≡ with_block p x y n n h
+with_block_inside p x y n f a b m g h afits bfits inside outside =
+    same_raster (with_block (with_block p x y n n f) (x + a) (y + b) m m g) (with_block p x y n n h) refl refl
+    (IsWhole-with_block (with_block p x y n n f) (x + a) (y + b) m m g) (IsWhole-with_block p x y n n h)
+    (λ u v uin vin.
+    pixel-with_block (with_block p x y n n f) (x + a) (y + b) m m g u v uin vin
+    ∙ elim (cases_Bool (is_in_block (x + a) (y + b) m m u v)) [
+      | inl within ↦
+          let at = is_in (x + a) (y + b) m m u v within in
+          let whole : is_in_block x y n n u v ≡ true = in_it x y n n u v (omega (arith, at)) (omega (arith, at)) (omega (arith, at)) (omega (arith, at)) in
+          ap (λ (t : Bool). cond t (g (v - (y + b)) (u - (x + a))) (pixel (with_block p x y n n f) u v)) within
+          ∙ inside (v - (y + b)) (u - (x + a)) (omega (arith, at)) (omega (arith, at))
+          ∙ ap (λ (r : ℕ). h r (a + (u - (x + a)))) (let e : b + (v - (y + b)) ≡ v - y = omega (arith, at) in e)
+          ∙ ap (h (v - y)) (let e : a + (u - (x + a)) ≡ u - x = omega (arith, at) in e)
+          ∙ ap (λ (t : Bool). cond t (h (v - y) (u - x)) (pixel p u v)) (sym whole)
+      | inr past ↦
+          ap (λ (t : Bool). cond t (g (v - (y + b)) (u - (x + a))) (pixel (with_block p x y n n f) u v)) past
+          ∙ pixel-with_block p x y n n f u v uin vin
+          ∙ elim (cases_Bool (is_in_block x y n n u v)) [
+            | inl whole ↦
+                let at = is_in x y n n u v whole in
+                ap (λ (t : Bool). cond t (f (v - y) (u - x)) (pixel p u v)) whole
+                ∙ outside (v - y) (u - x) (omega (arith, at)) (omega (arith, at)) (moved x y a b m u v at.0 at.2 past)
+                ∙ ap (λ (t : Bool). cond t (h (v - y) (u - x)) (pixel p u v)) (sym whole)
+            | inr none ↦
+                ap (λ (t : Bool). cond t (f (v - y) (u - x)) (pixel p u v)) none
+                ∙ ap (λ (t : Bool). cond t (h (v - y) (u - x)) (pixel p u v)) (sym none)
+          ]
+    ]
+    ∙ sym (pixel-with_block p x y n n h u v uin vin))
+
+-- ---- subblock after subblock
+
+-- which subblock of a block row r and column c lie in
+abbrev pub sub_at : ℕ → ℕ → ℕ → ℕ
+sub_at across r c = across * (r / 4) + c / 4
+
+-- it is one of them
+pub sub_below : (across r c : ℕ) → r < 4 * across → c < 4 * across → sub_at across r c < across * across
+sub_below across r c rin cin =
+    let turn : across * (r / 4) ≡ r / 4 * across = mul_comm across (r / 4) in
+    let room : r / 4 * across + across ≤ across * across = row_fits (r / 4) across across across (omega arith) (omega arith) in
+    omega arith
+
+-- row r and column c of subblock k
+subblock_is : (across k r c : ℕ) → 0 < across → c < 4 * across → sub_at across r c ≡ k → (r / 4 ≡ k / across) × (c / 4 ≡ k % across)
+subblock_is across k r c some cin e =
+    let turn : across * (r / 4) ≡ r / 4 * across = mul_comm across (r / 4) in
+    let low : c / 4 < across = omega arith in
+    let is : r / 4 * across + c / 4 ≡ k = omega arith in
+    (sym (div-mul-add (r / 4) across (c / 4) low) ∙ ap (λ (n : ℕ). n / across) is, sym (mod-mul-add (r / 4) across (c / 4) low) ∙ ap (λ (n : ℕ). n % across) is)
+
+pub subblock_has : (across k r c : ℕ) → 0 < across → r < 4 → c < 4 → sub_at across (4 * (k / across) + r) (4 * (k % across) + c) ≡ k
+subblock_has across k r c some rin cin =
+    let turn : across * (k / across) ≡ k / across * across = mul_comm across (k / across) in
+    let a : (4 * (k / across) + r) / 4 ≡ k / across = omega arith in
+    let b : (4 * (k % across) + c) / 4 ≡ k % across = omega arith in
+    ap (λ (n : ℕ). across * n + (4 * (k % across) + c) / 4) a ∙ ap (λ (n : ℕ). across * (k / across) + n) b ∙ (let e : k / across * across + k % across ≡ k = div-add-mod' k across in omega arith)
+
+-- subblock k lies within the block
+pub part_fits : (across k : ℕ) → 0 < across → k < across * across → (4 * (k % across) + 4 ≤ 4 * across) × (4 * (k / across) + 4 ≤ 4 * across)
+part_fits across k some below =
+    let low : k % across < across = mod_below k across some in
+    let row : k / across < across = div_below k across across some below in
+    (omega arith, omega arith)
+
+-- the pixels f of the subblocks before k, and g of the others
+abbrev pub until : ℕ → ℕ → (ℕ → ℕ → ℕ) → (ℕ → ℕ → ℕ) → ℕ → ℕ → ℕ
+until across k f g r c = cond (nat_lt (sub_at across r c) k) (f r c) (g r c)
+
+module _ (p : Raster) (x y across : ℕ) (f g : ℕ → ℕ → ℕ) where
+  pub until_none : with_block p x y (4 * across) (4 * across) g ≡ with_block p x y (4 * across) (4 * across) (until across 0 f g)
+  until_none = with_block_same p x y (4 * across) (4 * across) g (until across 0 f g)
+      (λ r c rin cin. ap (λ (t : Bool). cond t (f r c) (g r c)) (sym (le-ltb (sub_at across r c) 0 (omega arith))))
+
+  later : (k r c : ℕ) → (sub_at across r c ≡ k → ⊥) → until across k f g r c ≡ until across (k + 1) f g r c
+  later k r c apart = ap (λ (t : Bool). cond t (f r c) (g r c)) (elim (cases_order (sub_at across r c) k) [
+    | inl same ↦ absurd (apart same)
+    | inr (inl below) ↦ lt-ltb (sub_at across r c) k below ∙ sym (lt-ltb (sub_at across r c) (k + 1) (omega arith))
+    | inr (inr above) ↦ le-ltb (sub_at across r c) k (omega arith) ∙ sym (le-ltb (sub_at across r c) (k + 1) (omega arith))
+  ])
+
+  -- subblock k is as it was
+  pub until_same : (k : ℕ) → ((r c : ℕ) → r < 4 * across → c < 4 * across → sub_at across r c ≡ k → f r c ≡ g r c)
+      → with_block p x y (4 * across) (4 * across) (until across k f g) ≡ with_block p x y (4 * across) (4 * across) (until across (k + 1) f g)
+  until_same k alike = with_block_same p x y (4 * across) (4 * across) (until across k f g) (until across (k + 1) f g)
+      (λ r c rin cin. elim (cases_order (sub_at across r c) k) [
+        | inl same ↦
+            ap (λ (t : Bool). cond t (f r c) (g r c)) (le-ltb (sub_at across r c) k (omega arith))
+            ∙ sym (alike r c rin cin same)
+            ∙ sym (ap (λ (t : Bool). cond t (f r c) (g r c)) (lt-ltb (sub_at across r c) (k + 1) (omega arith)))
+        | inr (inl below) ↦ later k r c (λ e. omega arith)
+        | inr (inr above) ↦ later k r c (λ e. omega arith)
+      ])
+
+  -- subblock k is written
+  pub until_more : (k : ℕ) (h : ℕ → ℕ → ℕ) → 0 < across → k < across * across
+      → ((r c : ℕ) → r < 4 → c < 4 → h r c ≡ f (4 * (k / across) + r) (4 * (k % across) + c))
+      → with_block (with_block p x y (4 * across) (4 * across) (until across k f g)) (x + 4 * (k % across)) (y + 4 * (k / across)) 4 4 h
+      ≡ with_block p x y (4 * across) (4 * across) (until across (k + 1) f g)
+  until_more k h some total is =
+      let fits = part_fits across k some total in
+      with_block_inside p x y (4 * across) (until across k f g) (4 * (k % across)) (4 * (k / across)) 4 h (until across (k + 1) f g)
+      fits.0 fits.1
+      (λ r c rin cin.
+      let has : sub_at across (4 * (k / across) + r) (4 * (k % across) + c) ≡ k = subblock_has across k r c some rin cin in
+      is r c rin cin
+      ∙ sym (ap (λ (t : Bool). cond t (f (4 * (k / across) + r) (4 * (k % across) + c)) (g (4 * (k / across) + r) (4 * (k % across) + c)))
+      (lt-ltb (sub_at across (4 * (k / across) + r) (4 * (k % across) + c)) (k + 1) (omega arith))))
+      (λ r c rin cin past. later k r c (λ same.
+      let at : (r / 4 ≡ k / across) × (c / 4 ≡ k % across) = subblock_is across k r c some cin same in
+      let inside : is_in_block (4 * (k % across)) (4 * (k / across)) 4 4 c r ≡ true = in_it (4 * (k % across)) (4 * (k / across)) 4 4 c r (omega (arith, at)) (omega (arith, at)) (omega (arith, at)) (omega (arith, at)) in
+      let never : true ≡ false = sym inside ∙ past in cc))
+
+  -- all of them
+  pub until_all : (k : ℕ) → k ≡ across * across
+      → with_block p x y (4 * across) (4 * across) (until across k f g) ≡ with_block p x y (4 * across) (4 * across) f
+  until_all k all = with_block_same p x y (4 * across) (4 * across) (until across k f g) f
+      (λ r c rin cin.
+      let below : sub_at across r c < across * across = sub_below across r c rin cin in
+      ap (λ (t : Bool). cond t (f r c) (g r c)) (lt-ltb (sub_at across r c) k (omega arith)))

@@ -1,5 +1,0 @@
-use Rattle.vp_recon.proofs.Unique.{one}
-use Rattle.vp_recon.proofs.law.unfiltered_equation_has_one_solution.Goals as goal
-
-pub returns : goal.returns
-returns c = one

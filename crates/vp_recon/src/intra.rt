@@ -1,0 +1,110 @@
+//! Macroblocks that are predicted from their own picture (chapter 12).
+
+ghost use Rattle.std.specs.Prelude.{◌≡◌, ◌+◌, ◌*◌, ◌<◌, ◌≤◌, true, false};
+ghost use Rattle.vp_base.specs.Image.{plane_of, with_plane};
+ghost use Rattle.vp_tables.specs.Modes.{is_by_subblocks};
+ghost use Rattle.vp_recon.specs.Source.{Intra, macroblock_of};
+ghost use Rattle.vp_recon.specs.Residue.{residue};
+ghost use Rattle.vp_recon.specs.Rebuilt.{luma_rebuilt, chroma_rebuilt, with_sub};
+
+use crate::kept::with_residue;
+use crate::residue::{block_of, chroma_residues, luma_residues, residue_of};
+use crate::whole::write_whole;
+use vp_base::{Picture, Place};
+use vp_intra::{predict_chroma, predict_luma, predict_sub};
+use vp_modes::Modes;
+use vp_quant::Factors;
+use vp_tables::SubMode;
+use vp_tokens::{Block, Tokens};
+
+/// Rebuilds the luma block at the place `block` among all luma blocks, from the pixels round it, and without a Y2 block.
+pub fn rebuild_subblock(
+    picture: &mut Picture,
+    block: Place,
+    mode: SubMode,
+    levels: &Block,
+    factors: &Factors,
+)
+    requires columns { 4 * block.column + 4 ≤ picture.old.luma.width }
+    requires rows { 4 * block.row + 4 ≤ picture.old.luma.height }
+    ensures { picture.new ≡ with_plane picture.old 0 (with_sub picture.old.luma block mode (residue levels.now.levels factors.now.y_dc factors.now.y_ac)) }
+{
+    let _width = picture.plane(0).width();
+    let _height = picture.plane(0).height();
+    let x = 4 * block.column;
+    let y = 4 * block.row;
+    let prediction = predict_sub(picture.plane(0), x, y, mode);
+    let kept = residue_of(levels, factors.y_dc, factors.y_ac);
+    let pixels = with_residue(&prediction, &kept);
+    picture.write_block(0, x, y, 4, 4, &pixels);
+}
+
+/// Luma of a macroblock whose subblocks have modes of their own.
+pub(crate) fn rebuild_subs(
+    picture: &mut Picture,
+    place: Place,
+    modes: &Modes,
+    tokens: &Tokens,
+    factors: &Factors,
+)
+    requires columns { 16 * place.column + 16 ≤ picture.old.luma.width }
+    requires rows { 16 * place.row + 16 ≤ picture.old.luma.height }
+    requires subs { is_by_subblocks modes.now.luma ≡ true }
+    ensures { picture.new ≡ with_plane picture.old 0 (luma_rebuilt (macroblock_of (Intra modes.now) tokens.now factors.now) place picture.old.luma) }
+{
+    let _width = picture.plane(0).width();
+    let _height = picture.plane(0).height();
+    for k in 0..16 {
+        let block = Place {
+            column: place.column * 4 + k % 4,
+            row: place.row * 4 + k / 4,
+        };
+        let levels = block_of(tokens, 1 + k);
+        rebuild_subblock(picture, block, modes.subs[k], levels, factors);
+    }
+}
+
+/// Luma of a macroblock that is predicted at once.
+pub(crate) fn rebuild_at_once(
+    picture: &mut Picture,
+    place: Place,
+    modes: &Modes,
+    tokens: &Tokens,
+    factors: &Factors,
+)
+    requires columns { 16 * place.column + 16 ≤ picture.old.luma.width }
+    requires rows { 16 * place.row + 16 ≤ picture.old.luma.height }
+    requires whole { is_by_subblocks modes.now.luma ≡ false }
+    ensures { picture.new ≡ with_plane picture.old 0 (luma_rebuilt (macroblock_of (Intra modes.now) tokens.now factors.now) place picture.old.luma) }
+{
+    let _width = picture.plane(0).width();
+    let _height = picture.plane(0).height();
+    let x = 16 * place.column;
+    let y = 16 * place.row;
+    let prediction = predict_luma(picture.plane(0), x, y, modes.luma);
+    let kept = luma_residues(true, tokens, factors);
+    write_whole::<4>(picture, 0, x, y, &prediction, &kept);
+}
+
+/// One of the colour planes of an intra macroblock.
+pub(crate) fn rebuild_intra_chroma(
+    picture: &mut Picture,
+    plane: usize,
+    place: Place,
+    modes: &Modes,
+    tokens: &Tokens,
+    factors: &Factors,
+)
+    requires plane { plane < 3 }
+    requires columns { 8 * place.column + 8 ≤ (plane_of picture.old plane).width }
+    requires rows { 8 * place.row + 8 ≤ (plane_of picture.old plane).height }
+    ensures { picture.new ≡ with_plane picture.old plane (chroma_rebuilt (macroblock_of (Intra modes.now) tokens.now factors.now) plane place (plane_of picture.old plane)) }
+{
+    let _width = picture.plane(plane).width();
+    let _height = picture.plane(plane).height();
+    let x = 8 * place.column;
+    let y = 8 * place.row;
+    let prediction = predict_chroma(picture.plane(plane), x, y, modes.chroma);
+    let kept = chroma_residues(tokens, factors, plane);
+    write_whole::<2>(picture, plane, x, y, &prediction, &kept);
+}

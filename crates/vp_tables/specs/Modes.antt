@@ -1,0 +1,22 @@
+-- What the modes of a macroblock say of themselves (RFC 6386, chapters 8.2 and 16.3).
+use Rattle.std.specs.Prelude.{Bool, true, false}
+use Rattle.vp_tables.specs.declared.modes.LumaMode.{LumaMode}
+use Rattle.vp_tables.specs.declared.modes.LumaMode.TheVariants as luma_is
+use Rattle.vp_tables.specs.declared.modes.VectorMode.{VectorMode}
+use Rattle.vp_tables.specs.declared.modes.VectorMode.TheVariants as vector_is
+
+-- each luma subblock has a mode of its own (B_PRED)
+abbrev pub is_by_subblocks : LumaMode → Bool
+is_by_subblocks luma_is.Dc = false
+is_by_subblocks luma_is.V = false
+is_by_subblocks luma_is.H = false
+is_by_subblocks luma_is.Tm = false
+is_by_subblocks luma_is.B = true
+
+-- the parts of the macroblock have vectors of their own
+abbrev pub is_split : VectorMode → Bool
+is_split vector_is.Zero = false
+is_split vector_is.Nearest = false
+is_split vector_is.Near = false
+is_split vector_is.New = false
+is_split vector_is.Split = true

@@ -1,0 +1,43 @@
+-- What is kept, while a frame's tokens are read, of those that were read before (RFC 6386, chapter 13.3), and what it stands for.
+use Rattle.std.specs.Prelude.{◌≡◌, ◌<◌, ℕ, ◌+◌, ◌*◌, Bool, nat_lt, List, [], ◌∷◌, length, slice_index_or, if◌then◌else◌}
+use Rattle.vp_base.specs.declared.place.Place.{Place}
+use Rattle.vp_base.specs.Place as place
+use Rattle.vp_base.specs.Grid.{Grid, look}
+use Rattle.vp_tokens.specs.Blocks.{Blocks, unread, flag, y2_above, y2_left}
+
+-- nine flags of each column, and nine of the row: 4 of Y, 2 of U, 2 of V, 1 of Y2
+pub record Contexts : Type 0 where
+  pub above : List (List Bool)
+  pub left : List Bool
+
+-- which of the lowest blocks of a macroblock had a token, and which of those at its right side; behind them stands a flag of Y2
+abbrev pub lowest : List Bool → Bool → List Bool
+lowest had y2 =
+    flag had 13 ∷ flag had 14 ∷ flag had 15 ∷ flag had 16 ∷ flag had 19 ∷ flag had 20 ∷ flag had 23 ∷ flag had 24 ∷ y2 ∷ []
+
+abbrev pub rightmost : List Bool → Bool → List Bool
+rightmost had y2 =
+    flag had 4 ∷ flag had 8 ∷ flag had 12 ∷ flag had 16 ∷ flag had 18 ∷ flag had 20 ∷ flag had 22 ∷ flag had 24 ∷ y2 ∷ []
+
+-- the flags above the macroblock at p, and to its left
+unfoldable pub above_flags : Grid Blocks → Place → List Bool
+above_flags g p = lowest (look unread g (place.above p)).had (y2_above g p)
+
+unfoldable pub left_flags : Grid Blocks → Place → List Bool
+left_flags g p = rightmost (look unread g (place.left p)).had (y2_left g p)
+
+-- the first macroblock of column u that wasn't read, where those before p, in raster order, were
+abbrev pub first_unread : Place → ℕ → Place
+first_unread p u = record { column = u; row = (if nat_lt u p.column then p.row + 1 else p.row) }
+
+-- The flags stand for what g has of the macroblocks before p, in raster order. Behind a row p is the place right of the row's last one,
+-- or the first of the next row.
+pub record StandsFor (g : Grid Blocks) (p : Place) (c : Contexts) : Type 0 where
+  pub whole : length g.entries ≡ g.rows * g.columns
+  pub columns : length c.above ≡ g.columns
+  pub above : (u : ℕ) → u < g.columns → slice_index_or c.above u [] ≡ above_flags g (first_unread p u)
+  pub left : 0 < p.column → c.left ≡ left_flags g p
+
+-- the place of the next macroblock of a row
+abbrev pub right : Place → Place
+right p = record { column = p.column + 1; row = p.row }

@@ -1,0 +1,47 @@
+-- The forward transforms of a block's sixteen numbers, over whole numbers that never wrap. RFC 6386 leaves them open: this is the
+-- choice of this repository's encoder.
+use Rattle.std.specs.Prelude.{ℤ, pos, ◌+ℤ◌, ◌-ℤ◌, ◌*ℤ◌, List, [], ◌∷◌, slice_index_or}
+use Rattle.vp_transform.specs.Transform.{at, block_of, product, hadamard, hadamard_times}
+use lib.Signed.{shr_z}
+
+-- ---- the Walsh-Hadamard transform
+
+-- (X H + 1) / 2, rounded down, where H is `hadamard` and X the block
+unfoldable pub times_hadamard_halved : List ℤ → List ℤ
+times_hadamard_halved block = block_of (λ r c. shr_z (product (at block) (at hadamard) r c +ℤ pos 1) 2)
+
+-- (H X H + 1) / 2, rounded down
+unfoldable pub fwht : List ℤ → List ℤ
+fwht block = times_hadamard_halved (hadamard_times block)
+
+-- ---- the DCT: 2217 and 5352 are sqrt 2 times the sine and the cosine of pi / 8, times 2^12
+
+-- the transform of the four numbers of a row, times 8
+abbrev pub row_waves : ℤ → ℤ → ℤ → ℤ → List ℤ
+row_waves i0 i1 i2 i3 =
+    let a = pos 8 *ℤ (i0 +ℤ i3) in
+    let b = pos 8 *ℤ (i1 +ℤ i2) in
+    let c = pos 8 *ℤ (i1 -ℤ i2) in
+    let d = pos 8 *ℤ (i0 -ℤ i3) in
+    (a +ℤ b) ∷ shr_z (pos 2217 *ℤ c +ℤ pos 5352 *ℤ d +ℤ pos 2048) 4096 ∷ (a -ℤ b) ∷ shr_z (pos 2217 *ℤ d -ℤ pos 5352 *ℤ c +ℤ pos 2048) 4096 ∷ []
+
+-- the transform of the four numbers of a column, over 16
+abbrev pub column_waves : ℤ → ℤ → ℤ → ℤ → List ℤ
+column_waves i0 i1 i2 i3 =
+    let a = i0 +ℤ i3 in
+    let b = i1 +ℤ i2 in
+    let c = i1 -ℤ i2 in
+    let d = i0 -ℤ i3 in
+    shr_z (a +ℤ b +ℤ pos 7) 16 ∷ shr_z (pos 2217 *ℤ c +ℤ pos 5352 *ℤ d +ℤ pos 32768) 65536 ∷ shr_z (a -ℤ b +ℤ pos 7) 16 ∷ shr_z (pos 2217 *ℤ d -ℤ pos 5352 *ℤ c +ℤ pos 32768) 65536 ∷ []
+
+-- each row transformed
+unfoldable pub across : List ℤ → List ℤ
+across block = block_of (λ r c. slice_index_or (row_waves (at block r 0) (at block r 1) (at block r 2) (at block r 3)) c (pos 0))
+
+-- each column transformed
+unfoldable pub down : List ℤ → List ℤ
+down block = block_of (λ r c. slice_index_or (column_waves (at block 0 c) (at block 1 c) (at block 2 c) (at block 3 c)) r (pos 0))
+
+-- first the rows, then the columns
+unfoldable pub fdct : List ℤ → List ℤ
+fdct block = down (across block)
