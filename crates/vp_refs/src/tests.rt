@@ -61,7 +61,7 @@ fn corner(picture: &Picture) -> Option<u8> {
 
 // A picture of one value.
 fn flat(alloc: Global, dim: Dim, value: u8) -> Result<Rc<Picture>, AllocError> {
-    Rc::new(alloc, Picture::new(alloc, dim, value)?)
+    Ok(Rc::new(alloc, Picture::new(alloc, dim, value)?)?)
 }
 
 const NOTHING: ReferenceUpdates = ReferenceUpdates {

@@ -1,0 +1,243 @@
+-- What a cache keeps after a question.
+use Rattle.std.proofs.Common.{◌≡◌, ◌≢◌, ℕ, zero, suc, ◌-◌, ◌<◌, ◌≤◌, ◌^◌, ◌⊎◌, Bool, true, false, ◌&&◌, nat_eq, List, [], ◌∷◌, take, Contains, Option, Some, None, refl, sym, ap, subst, inl, inr, ◌∙◌, arith}
+use Rattle.std.specs.Prelude.{Result, Ok, Err, OnErr, length, slice_get}
+use Rattle.std.specs.Option.{option_map_or}
+use Rattle.std.specs.Map.{lookup, lookup_entry, remove_entry}
+use Rattle.std.proofs.lemmas.Bool.{eqb-true}
+use Rattle.std.proofs.lemmas.Option.{same_Some}
+use Rattle.lru.specs.LruCache.{LruCache, lru_cache, promoted, put_entries}
+use Rattle.lru.proofs.Splits.{Contains-cons}
+use Rattle.lru.proofs.CallerLemmas.{Contains-lookup, Contains-remove_entry, Contains-take}
+use Rattle.vp_ivf.specs.declared.packet.Packet.{Packet}
+use Rattle.vp_stream.specs.Seeking.{Told, Shown, Hidden, Fault, NoPacket, answer_at, work_of, counted}
+use Rattle.vp_base.specs.declared.limits.Limits.{Limits}
+use Rattle.vp_decode.specs.Step.{step, Kept as DecoderState}
+use Rattle.vp_stream.specs.Answers.{answers_from}
+use Rattle.vp_stream.specs.Seeking.{told_or_none}
+use Rattle.vp_stream.specs.Stream.{State as StreamState}
+use Rattle.vp_cache.specs.Kept.{Pixels, Entry, State, AreAnswersOf, IsAfter, IsAnswerIf, brought, shown, option_shown, pair_eq, held, in_front, put, work_beside}
+
+both : (a b : Bool) → (a && b) ≡ true → (a ≡ true) × (b ≡ true)
+both true b h = (refl, h)
+both false b h = cc
+
+-- keys that the test takes for equal are
+pub same_key : (a b : ℕ × ℕ) → pair_eq a b ≡ true → a ≡ b
+same_key a b h =
+    let p = both (nat_eq a.0 b.0) (nat_eq a.1 b.1) h in
+    let first : a.0 ≡ b.0 = eqb-true a.0 b.0 p.0 in
+    let second : a.1 ≡ b.1 = eqb-true a.1 b.1 p.1 in
+    λ i. (first i, second i)
+
+-- ---- what is found under a key
+
+entry_found : (key : ℕ × ℕ) (es : List Entry) (p : Pixels) → lookup (pair_eq key) es ≡ Some p → lookup_entry (pair_eq key) es ≡ Some (key, p)
+entry_found key [] p h = cc
+entry_found key (f ∷ es) p h = (elim (pair_eq key f.0) as (λ y. pair_eq key f.0 ≡ y → lookup_entry (pair_eq key) (f ∷ es) ≡ Some (key, p)) [
+  | true ↦ λ t.
+      let at : Some f.1 ≡ Some p = rw t at h in
+      let value : f.1 ≡ p = same_Some f.1 p at in
+      let keys : f.0 ≡ key = sym (same_key key f.0 t) in
+      rw t (λ i. Some (keys i, value i))
+  | false ↦ λ t. rw t (entry_found key es p (rw t at h))
+]) refl
+
+no_entry : (key : ℕ × ℕ) (es : List Entry) → lookup (pair_eq key) es ≡ None → lookup_entry (pair_eq key) es ≡ None
+no_entry key [] h = refl
+no_entry key (f ∷ es) h = (elim (pair_eq key f.0) as (λ y. pair_eq key f.0 ≡ y → lookup_entry (pair_eq key) (f ∷ es) ≡ None) [
+  | true ↦ λ t. let at : Some f.1 ≡ None = rw t at h in cc
+  | false ↦ λ t. rw t (no_entry key es (rw t at h))
+]) refl
+
+-- a key that is found comes to the front with what is found
+pub promoted-found : (key : ℕ × ℕ) (es : List Entry) (p : Pixels) → lookup (pair_eq key) es ≡ Some p → promoted (pair_eq key) es ≡ in_front key p es
+promoted-found key es p h =
+    ap (λ (o : Option Entry). option_map_or (λ e. e ∷ remove_entry (pair_eq key) es) o es) (entry_found key es p h)
+
+cut : (cap : ℕ) (e : Entry) (es : List Entry) → 0 < cap → e ∷ take (cap - 1) es ≡ take cap (e ∷ es)
+cut zero e es h = let no : ⊥ = omega (arith, h) in absurd no
+cut (suc n) e es h = let k : suc n - 1 ≡ n = omega arith in ap (λ m. e ∷ take m es) k
+
+-- a new key comes to the front, and the list is cut
+pub put_entries-new : (key : ℕ × ℕ) (p : Pixels) (c : LruCache (ℕ × ℕ) Pixels) → 0 < c.cap → lookup (pair_eq key) c.entries ≡ None
+    → put_entries pair_eq c key p ≡ take c.cap ((key, p) ∷ c.entries)
+put_entries-new key p c room h =
+    ap (λ (o : Option Entry). option_map_or (λ e. (e.0, p) ∷ remove_entry (pair_eq key) c.entries) o ((key, p) ∷ take (c.cap - 1) c.entries)) (no_entry key c.entries h)
+    ∙ cut c.cap (key, p) c.entries room
+
+-- ---- an answer that was found, or not
+
+abbrev pub IsFound : Option Pixels → Told → Type 0
+IsFound o a = (p : Pixels) × (o ≡ Some p) × (a ≡ shown p)
+
+pub found : (o : Option Pixels) (a : Told) → Some a ≡ option_shown o → IsFound o a
+found (Some p) a h = (p, refl, same_Some a (shown p) h)
+found None a h = cc
+
+pub not_found : (o : Option Pixels) → None ≡ option_shown o → o ≡ None
+not_found (Some p) h = cc
+not_found None h = refl
+
+-- a cache as its entries and its capacity
+abbrev pub seen : LruCache (ℕ × ℕ) Pixels → State
+seen c = record { entries = c.entries; capacity = c.cap }
+
+after_hit : (old : State) (number n : ℕ) (a : Told) → Some a ≡ option_shown (held number n old.entries)
+    → IsAfter old number n (held number n old.entries) a (record { entries = promoted (pair_eq (number, n)) old.entries; capacity = old.capacity })
+after_hit old number n a h =
+    let f = found (held number n old.entries) a h in
+    rw f.1 (ap (λ (es : List Entry). record old { entries = es }) (promoted-found (number, n) old.entries f.0 f.1))
+
+pub after_found : (old : State) (inside new : LruCache (ℕ × ℕ) Pixels) (number n : ℕ) (a : Told) → seen inside ≡ old
+    → new ≡ lru_cache (promoted (pair_eq (number, n)) inside.entries) inside.cap → Some a ≡ option_shown (held number n old.entries)
+    → IsAfter old number n (held number n old.entries) a (seen new)
+after_found old inside new number n a was is h =
+    let e : seen new ≡ record { entries = promoted (pair_eq (number, n)) old.entries; capacity = old.capacity } =
+    ap seen is ∙ ap (λ (s : State). record { entries = promoted (pair_eq (number, n)) s.entries; capacity = s.capacity }) was in
+    subst (λ (s : State). IsAfter old number n (held number n old.entries) a s) (sym e) (after_hit old number n a h)
+
+abbrev pub IsPutOrNot : ℕ × ℕ → Told → LruCache (ℕ × ℕ) Pixels → LruCache (ℕ × ℕ) Pixels → Type 0
+IsPutOrNot key a old new = (new ≡ old) ⊎ (new ≡ lru_cache (put key a old.cap old.entries) old.cap)
+
+after_miss : (old new : State) (number n : ℕ) (a : Told) → None ≡ option_shown (held number n old.entries)
+    → (new ≡ old) ⊎ (new ≡ record old { entries = put (number, n) a old.capacity old.entries })
+    → IsAfter old number n (held number n old.entries) a new
+after_miss old new number n a h is = rw (not_found (held number n old.entries) h) is
+
+pub after_not_found : (old : State) (inside new : LruCache (ℕ × ℕ) Pixels) (number n : ℕ) (a : Told) → seen inside ≡ old
+    → IsPutOrNot (number, n) a inside new → None ≡ option_shown (held number n old.entries)
+    → IsAfter old number n (held number n old.entries) a (seen new)
+after_not_found old inside new number n a was is h = after_miss old (seen new) number n a h (elim is [
+  | inl same ↦ inl (ap seen same ∙ was)
+  | inr fresh ↦ inr (ap seen fresh ∙ ap (λ (s : State). record s { entries = put (number, n) a s.capacity s.entries }) was)
+])
+
+-- ---- each entry was there, or is the answer
+
+abbrev pub IsNew : Told → ℕ → ℕ → Entry → Type 0
+IsNew a number n e = (e.0 ≡ (number, n)) × (a ≡ shown e.1)
+
+put_entry : (old : State) (number n : ℕ) (a : Told) (e : Entry) → Contains (put (number, n) a old.capacity old.entries) e
+    → Contains old.entries e ⊎ IsNew a number n e
+put_entry old number n (Shown width height pixels) e c =
+    let p : Pixels = record { width = width; height = height; pixels = pixels } in
+    elim (Contains-cons ((number, n), p) old.entries e (Contains-take old.capacity (((number, n), p) ∷ old.entries) e c)) [
+      | inl same ↦ inr (ap (λ (x : Entry). x.0) (sym same), ap (λ (x : Entry). shown x.1) same)
+      | inr was ↦ inl was
+    ]
+put_entry old number n Hidden e c = inl c
+put_entry old number n (Fault f) e c = inl c
+put_entry old number n NoPacket e c = inl c
+
+pub entry_after : (old new : State) (number n : ℕ) (o : Option Pixels) (a : Told) (e : Entry) → held number n old.entries ≡ o
+    → IsAfter old number n o a new → Contains new.entries e → Contains old.entries e ⊎ IsNew a number n e
+entry_after old new number n (Some p) a e h is c =
+    let was = Contains-lookup (pair_eq (number, n)) old.entries p h in
+    elim (Contains-cons ((number, n), p) (remove_entry (pair_eq (number, n)) old.entries) e (subst (λ (s : State). Contains s.entries e) is c)) [
+      | inl same ↦ inl (subst (Contains old.entries) ((λ i. (sym (same_key (number, n) was.0 was.2) i, p)) ∙ same) was.1)
+      | inr more ↦ inl (Contains-remove_entry (pair_eq (number, n)) old.entries e more)
+    ]
+entry_after old new number n None a e h is c = elim is [
+  | inl same ↦ inl (subst (λ (s : State). Contains s.entries e) same c)
+  | inr fresh ↦ put_entry old number n a e (subst (λ (s : State). Contains s.entries e) fresh c)
+]
+
+pub kept_on : (old new : State) (number n : ℕ) (a : Told) (s : StreamState) → a ≡ answer_at s.limits s.reading.packets n
+    → IsAfter old number n (held number n old.entries) a new → AreAnswersOf number s old.entries → AreAnswersOf number s new.entries
+kept_on old new number n a s answer is kept = record {
+  each = λ e c same. elim (entry_after old new number n (held number n old.entries) a e refl is c) [
+    | inl was ↦ kept.each e was same
+    | inr fresh ↦ ap (λ (k : ℕ × ℕ). answer_at s.limits s.reading.packets k.1) fresh.0 ∙ (sym answer ∙ fresh.1)
+  ];
+}
+
+pub others_on : (old new : State) (number n : ℕ) (a : Told) (other : ℕ) (s : StreamState) → other ≢ number
+    → IsAfter old number n (held number n old.entries) a new → AreAnswersOf other s old.entries → AreAnswersOf other s new.entries
+others_on old new number n a other s apart is kept = record {
+  each = λ e c same. elim (entry_after old new number n (held number n old.entries) a e refl is c) [
+    | inl was ↦ kept.each e was same
+    | inr fresh ↦ absurd (apart (sym same ∙ ap (λ (k : ℕ × ℕ). k.0) fresh.0))
+  ];
+}
+
+-- ---- the answer that was found is the stream's
+
+pub found_is_answer : (number n : ℕ) (a : Told) (s : StreamState) (es : List Entry) → Some a ≡ option_shown (held number n es)
+    → AreAnswersOf number s es → a ≡ answer_at s.limits s.reading.packets n
+found_is_answer number n a s es h kept =
+    let f = found (held number n es) a h in
+    let was = Contains-lookup (pair_eq (number, n)) es f.0 f.1 in
+    let key : (number, n) ≡ was.0 = same_key (number, n) was.0 was.2 in
+    f.2 ∙ (sym (kept.each (was.0, f.0) was.1 (ap (λ (k : ℕ × ℕ). k.0) (sym key)))
+    ∙ ap (λ (k : ℕ × ℕ). answer_at s.limits s.reading.packets k.1) (sym key))
+
+-- ---- the count
+
+pub counted_hit : (o : Option Pixels) (a : Told) (ps : List Packet) (n work : ℕ) → work < 2 ^ 64 → Some a ≡ option_shown o
+    → work ≡ counted work (work_beside o ps n)
+counted_hit (Some p) a ps n work range h = omega (arith, range)
+counted_hit None a ps n work range h = cc
+
+pub counted_miss : (o : Option Pixels) (ps : List Packet) (n : ℕ) → None ≡ option_shown o → work_of ps n ≡ work_beside o ps n
+counted_miss (Some p) ps n h = cc
+counted_miss None ps n h = refl
+
+pub nothing_counted : {X Y : Type 0} (r : Result X Y) (work more : ℕ) → work < 2 ^ 64 → OnErr r ((work ≤ work) × (work ≤ counted work more))
+nothing_counted (Ok x) work more range = tt
+nothing_counted (Err y) work more range = (omega arith, omega (arith, range))
+
+-- ---- a picture that is brought to the front
+
+not_promoted : (key : ℕ × ℕ) (es : List Entry) → lookup (pair_eq key) es ≡ None → promoted (pair_eq key) es ≡ es
+not_promoted key es h =
+    ap (λ (o : Option Entry). option_map_or (λ e. e ∷ remove_entry (pair_eq key) es) o es) (no_entry key es h)
+
+promoted_is : (old : State) (number n : ℕ) (o : Option Pixels) → held number n old.entries ≡ o
+    → record { entries = promoted (pair_eq (number, n)) old.entries; capacity = old.capacity } ≡ brought old number n o
+promoted_is old number n (Some p) h = ap (λ (es : List Entry). record old { entries = es }) (promoted-found (number, n) old.entries p h)
+promoted_is old number n None h = ap (λ (es : List Entry). record old { entries = es }) (not_promoted (number, n) old.entries h)
+
+pub brought_is : (old : State) (inside new : LruCache (ℕ × ℕ) Pixels) (number n : ℕ) → seen inside ≡ old
+    → new ≡ lru_cache (promoted (pair_eq (number, n)) inside.entries) inside.cap → seen new ≡ brought old number n (held number n old.entries)
+brought_is old inside new number n was is =
+    ap seen is ∙ ap (λ (s : State). record { entries = promoted (pair_eq (number, n)) s.entries; capacity = s.capacity }) was
+    ∙ promoted_is old number n (held number n old.entries) refl
+
+brought_entry : (old : State) (number n : ℕ) (o : Option Pixels) (e : Entry) → held number n old.entries ≡ o
+    → Contains (brought old number n o).entries e → Contains old.entries e
+brought_entry old number n (Some p) e h c =
+    let was = Contains-lookup (pair_eq (number, n)) old.entries p h in
+    elim (Contains-cons ((number, n), p) (remove_entry (pair_eq (number, n)) old.entries) e c) [
+      | inl same ↦ subst (Contains old.entries) ((λ i. (sym (same_key (number, n) was.0 was.2) i, p)) ∙ same) was.1
+      | inr more ↦ Contains-remove_entry (pair_eq (number, n)) old.entries e more
+    ]
+brought_entry old number n None e h c = c
+
+-- each entry was there
+pub brought_keeps : (old : State) (number n other : ℕ) (s : StreamState) → AreAnswersOf other s old.entries
+    → AreAnswersOf other s (brought old number n (held number n old.entries)).entries
+brought_keeps old number n other s kept = record {
+  each = λ e c same. kept.each e (brought_entry old number n (held number n old.entries) e refl c) same;
+}
+
+-- ---- what is kept is the stream's answer
+
+held_by : (number n : ℕ) (s : StreamState) (es : List Entry) (o : Option Pixels) → held number n es ≡ o → AreAnswersOf number s es → IsAnswerIf o s n
+held_by number n s es (Some p) h kept = sym (found_is_answer number n (shown p) s es (ap option_shown (sym h)) kept)
+held_by number n s es None h kept = tt
+
+pub held_answer : (number n : ℕ) (s : StreamState) (es : List Entry) → AreAnswersOf number s es → IsAnswerIf (held number n es) s n
+held_answer number n s es kept = held_by number n s es (held number n es) refl kept
+
+shown_there : (limits : Limits) (state : Option DecoderState) (ps : List Packet) (n : ℕ) (p : Pixels)
+    → told_or_none (slice_get (answers_from limits state ps) n) ≡ shown p → n < length ps
+shown_there limits state [] n p h = let no : NoPacket ≡ shown p = h in cc
+shown_there limits state (q ∷ ps) zero p h = omega arith
+shown_there limits state (q ∷ ps) (suc n) p h = omega (arith, shown_there limits (step limits state q.bytes).0 ps n p h)
+
+-- a picture that is kept is of a packet that is there
+pub kept_there : {X Y : Type 0} (r : Result X Y) (number n : ℕ) (p : Pixels) (s : StreamState) (es : List Entry) → Some p ≡ held number n es
+    → AreAnswersOf number s es → OnErr r (n < length s.reading.packets)
+kept_there (Ok x) number n p s es h kept = tt
+kept_there (Err y) number n p s es h kept =
+    shown_there s.limits None s.reading.packets n p (held_by number n s es (Some p) (sym h) kept)

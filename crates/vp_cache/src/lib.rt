@@ -1,0 +1,12 @@
+//! Pictures of streams, the last ones asked for kept.
+#![tactic(auto)]
+
+mod cache;
+mod kept;
+mod laws;
+#[cfg(test)]
+mod tests;
+
+pub use cache::Cache;
+pub use kept::Kept;
+pub use laws::{feeding_keeps_answers, growing_keeps_entries};

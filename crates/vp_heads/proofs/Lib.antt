@@ -1,0 +1,5 @@
+pub mod FieldLemmas
+pub mod HeadLemmas
+pub mod NumberLemmas
+pub mod Pages
+pub mod ReplyLemmas

@@ -1,0 +1,21 @@
+-- Numbers in decimal.
+use Rattle.std.specs.Prelude.{ℕ, List, Bool, ◌&&◌, ◌||◌, ◌==◌, ◌^◌, ◌-◌, not, min, nat_lt, nat_le, length, slice_index, Option, Some, None, if◌then◌else◌}
+use Rattle.std.specs.Char.{is_ascii_digit}
+use Rattle.std.specs.List.{list_all}
+use Rattle.std.specs.Str.Parse.{digits_value}
+
+-- a number of one digit or more; one over the greatest 64-bit number counts as that
+abbrev pub count_in : List ℕ → Option ℕ
+count_in text = if list_all is_ascii_digit text && nat_lt 0 (length text) then Some (min (digits_value 10 text) (2 ^ 64 - 1)) else None
+
+-- no digit stands behind a leading zero
+abbrev pub starts_plainly : List ℕ → Bool
+starts_plainly text = nat_le (length text) 1 || not (slice_index text 0 == 48)
+
+abbrev pub below_32_bits : Option ℕ → Option ℕ
+below_32_bits None = None
+below_32_bits (Some n) = if nat_lt n (2 ^ 32) then Some n else None
+
+-- the number of a packet: without leading zeros, at most 4,294,967,295
+abbrev pub packet_in : List ℕ → Option ℕ
+packet_in text = if starts_plainly text then below_32_bits (count_in text) else None

@@ -1,0 +1,100 @@
+-- The bytes of a reply (RFC 9112, chapter 4; RFC 9110, chapters 8, 14 and 15).
+use Rattle.std.specs.Prelude.{ℕ, Bool, List, [], ◌∷◌, ◌++◌, decimal, codes, length, if◌then◌else◌, unwrap_or}
+use Rattle.http.specs.StatusCode.{reason_phrase}
+use Rattle.vp_heads.specs.declared.status.Status.{Status}
+use Rattle.vp_heads.specs.declared.status.Status.TheVariants as status
+use Rattle.vp_heads.specs.declared.request.Request.{Request}
+use Rattle.vp_heads.specs.declared.ranges.Part.{Part}
+use Rattle.vp_heads.specs.declared.ranges.Part.TheVariants.{All, Slice, Beyond}
+use Rattle.vp_heads.specs.Ranges.{part_of, slice_of}
+use Rattle.vp_heads.specs.Requests.{unreadable}
+
+abbrev pub code_of : Status → ℕ
+code_of status.Good = 200
+code_of status.Partial = 206
+code_of status.BadRequest = 400
+code_of status.NotFound = 404
+code_of status.MethodNotAllowed = 405
+code_of status.RangeNotSatisfiable = 416
+code_of status.Unprocessable = 422
+code_of status.TooLong = 431
+
+-- the phrase that HTTP has for it
+unfoldable pub phrase_of : Status → List ℕ
+phrase_of s = unwrap_or (reason_phrase (code_of s)) []
+
+abbrev pub plain : List ℕ
+plain = codes "text/plain"
+
+abbrev pub octets : List ℕ
+octets = codes "application/octet-stream"
+
+abbrev pub closing_line : Bool → List ℕ
+closing_line closing = if closing then codes "Connection: close\r\n" else []
+
+-- the lines before a body of so many bytes; there may be one more line, and the one that says that the connection closes
+unfoldable pub head_text : ℕ → List ℕ → List ℕ → ℕ → List ℕ → List ℕ → List ℕ
+head_text code phrase kind size more close =
+    codes "HTTP/1.1 " ++ (decimal code ++ (codes " " ++ (phrase
+    ++ (codes "\r\nContent-Type: " ++ (kind
+    ++ (codes "\r\nContent-Length: " ++ (decimal size ++ (codes "\r\n"
+    ++ (more ++ (close ++ codes "\r\n"))))))))))
+
+-- a reply: the lines, and the body, where the request wants one
+abbrev pub reply_text : Request → Status → List ℕ → List ℕ → List ℕ → List ℕ
+reply_text request s kind more body =
+    head_text (code_of s) (phrase_of s) kind (length body) more (closing_line request.closing) ++ (if request.silent then [] else body)
+
+-- the body of an error: its phrase, as a line
+abbrev pub phrase_line : Status → List ℕ
+phrase_line s = phrase_of s ++ 10 ∷ []
+
+abbrev pub allow_line : List ℕ
+allow_line = codes "Allow: GET, HEAD\r\n"
+
+-- an error; where the method is wrong, with those that are allowed
+abbrev pub allowing : Status → List ℕ
+allowing status.Good = []
+allowing status.Partial = []
+allowing status.BadRequest = []
+allowing status.NotFound = []
+allowing status.MethodNotAllowed = allow_line
+allowing status.RangeNotSatisfiable = []
+allowing status.Unprocessable = []
+allowing status.TooLong = []
+
+abbrev pub error_text : Request → Status → List ℕ
+error_text request s = reply_text request s plain (allowing s) (phrase_line s)
+
+abbrev pub range_line : ℕ → ℕ → ℕ → List ℕ
+range_line first last size =
+    codes "Content-Range: bytes " ++ (decimal first ++ (codes "-" ++ (decimal last ++ (codes "/" ++ (decimal size ++ codes "\r\n")))))
+
+abbrev pub no_range_line : ℕ → List ℕ
+no_range_line size = codes "Content-Range: bytes */" ++ (decimal size ++ codes "\r\n")
+
+-- pixels, or a part of them
+abbrev pub part_text : Part → Request → List ℕ → List ℕ
+part_text All request body = reply_text request status.Good octets [] body
+part_text (Slice first last) request body =
+    reply_text request status.Partial octets (range_line first last (length body)) (slice_of first last body)
+part_text Beyond request body =
+    reply_text request status.RangeNotSatisfiable plain (no_range_line (length body)) (phrase_line status.RangeNotSatisfiable)
+
+-- what was found for a request
+pub data Content : Type 0 where
+  Lines : List ℕ → Content
+  Pixels : List ℕ → Content
+  Faulted : List ℕ → Content
+  Failed : Status → Content
+
+-- the reply to a request: lines of text, pixels, the name of a packet's fault, or an error
+unfoldable pub reply_to : Request → Content → List ℕ
+reply_to request (Lines body) = reply_text request status.Good plain [] body
+reply_to request (Pixels body) = part_text (part_of request.range (length body)) request body
+reply_to request (Faulted name) = reply_text request status.Unprocessable plain [] (name ++ 10 ∷ [])
+reply_to request (Failed s) = error_text request s
+
+-- the reply to 8,192 bytes without a head's end
+unfoldable pub too_long : List ℕ
+too_long = error_text unreadable status.TooLong

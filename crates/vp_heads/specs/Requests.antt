@@ -1,0 +1,69 @@
+-- What a head asks for, judged in order.
+use Rattle.std.specs.Prelude.{◌≡◌, ◌⊎◌, ◌==◌, ◌||◌, not, ℕ, Bool, true, false, nat_eq, List, map, codes, count_by, if◌then◌else◌}
+use Rattle.std.specs.List.{list_any, starts_with, before_first}
+use Rattle.std.specs.Str.{bytes_eq}
+use Rattle.httparse.specs.Grammar.{RequestHead}
+use Rattle.httparse.specs.Spans.{name_and_value}
+use Rattle.vp_heads.specs.declared.request.Request.{Request}
+use Rattle.vp_heads.specs.declared.request.Wanted.{Wanted}
+use Rattle.vp_heads.specs.declared.request.Wanted.TheVariants.{Bad, WrongMethod, Missing, Streams, Info, Frame, Video}
+use Rattle.vp_heads.specs.declared.ranges.Range.{Range}
+use Rattle.vp_heads.specs.declared.ranges.Range.TheVariants.{Whole}
+use Rattle.vp_heads.specs.Heads.{IsHeadOf, HasNoHead}
+use Rattle.vp_heads.specs.Fields.{Pair, is_named, is_body_field, is_host_wrong, is_closing_field}
+use Rattle.vp_heads.specs.Ranges.{range_in}
+use Rattle.vp_heads.specs.Routes.{at_path}
+
+abbrev pub is_get : List ℕ → Bool
+is_get method = bytes_eq method (codes "GET")
+
+abbrev pub is_head : List ℕ → Bool
+is_head method = bytes_eq method (codes "HEAD")
+
+abbrev pub is_question : ℕ → Bool
+is_question b = b == 63
+
+-- what is wanted, by the method, the target, the version, how many Host fields there are, and whether a body is announced
+unfoldable pub wanted_by : List (List ℕ) → List ℕ → List ℕ → ℕ → ℕ → Bool → Wanted
+wanted_by names method target minor hosts body =
+    if body then Bad else
+    if is_host_wrong minor hosts then Bad else
+    if not (is_get method || is_head method) then WrongMethod else
+    if not (starts_with nat_eq target (codes "/")) then Bad else at_path names (before_first is_question target)
+
+abbrev pub is_bad : Wanted → Bool
+is_bad Bad = true
+is_bad WrongMethod = false
+is_bad Missing = false
+is_bad Streams = false
+is_bad (Info stream) = false
+is_bad (Frame stream n) = false
+is_bad (Video stream n) = false
+
+-- a bad request closes the connection; so does HTTP/1.0, and a Connection that says so
+abbrev pub request_by : Wanted → List ℕ → ℕ → Bool → Range → Request
+request_by wanted method minor closing range = record {
+  wanted = wanted;
+  silent = is_head method;
+  closing = is_bad wanted || (minor == 0 || closing);
+  range = if is_get method then range else Whole;
+}
+
+-- what a head asks for, by its parts
+abbrev pub asked_by : List (List ℕ) → List ℕ → List ℕ → ℕ → List Pair → Request
+asked_by names method target minor fields =
+    request_by (wanted_by names method target minor (count_by (is_named (codes "host")) fields) (list_any is_body_field fields))
+    method minor (list_any is_closing_field fields) (range_in fields)
+
+-- what a head asks for
+abbrev pub asked : List (List ℕ) → RequestHead → Request
+asked names h = asked_by names h.method h.target h.minor (map name_and_value h.fields)
+
+-- bytes that are no head: a bad request
+abbrev pub unreadable : Request
+unreadable = record { wanted = Bad; silent = false; closing = true; range = Whole }
+
+-- what the bytes of a head ask for, of streams with these names
+abbrev pub IsAsked : List (List ℕ) → List ℕ → Request → Type 0
+IsAsked names bytes request =
+    ((h : RequestHead) × IsHeadOf bytes h × (request ≡ asked names h)) ⊎ (HasNoHead bytes × (request ≡ unreadable))

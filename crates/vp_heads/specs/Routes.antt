@@ -1,0 +1,84 @@
+-- The routes of the server, and what a path asks for.
+use Rattle.std.specs.Prelude.{◌≡◌, ◌==◌, ℕ, Bool, List, [], drop, position, Option, Some, None, Result, Ok, Err, codes, option_map, if◌then◌else◌}
+use Rattle.std.specs.List.{before_first, after_first}
+use Rattle.std.specs.Str.{is_utf8, bytes_eq}
+use Rattle.matchit.specs.Rows.{RowsOf}
+use Rattle.matchit.specs.Seek.{first}
+use Rattle.matchit.specs.Order.{placed}
+use Rattle.matchit.specs.Route.{Scan, parse_route}
+use Rattle.matchit.specs.Router.{RouteOf, route_from, nearest}
+use Rattle.matchit.specs.declared.error.InsertError.{InsertError}
+use Rattle.vp_heads.specs.declared.routes.Page.{Page}
+use Rattle.vp_heads.specs.declared.routes.Page.TheVariants as page
+use Rattle.vp_heads.specs.declared.request.Wanted.{Wanted}
+use Rattle.vp_heads.specs.declared.request.Wanted.TheVariants.{Missing, Streams, Info, Frame, Video}
+use Rattle.vp_heads.specs.Numbers.{packet_in}
+
+-- the rows with one more route
+abbrev pub with_scan : Result Scan InsertError → Page → RowsOf (RouteOf Page) → RowsOf (RouteOf Page)
+with_scan (Ok s) p rows = placed (s.pattern, route_from s p) rows
+with_scan (Err e) p rows = rows
+
+abbrev pub with_route : List ℕ → Page → RowsOf (RouteOf Page) → RowsOf (RouteOf Page)
+with_route text p rows = with_scan (parse_route text) p rows
+
+-- the four routes
+unfoldable pub our_routes : RowsOf (RouteOf Page)
+our_routes =
+    with_route (codes "/s/{name}/y4m/{n}") page.Video
+    (with_route (codes "/s/{name}/frame/{n}") page.Frame
+    (with_route (codes "/s/{name}/info") page.Info
+    (with_route (codes "/streams") page.Streams [])))
+
+-- the page of a path: none where no route fits, or where it isn't UTF-8
+abbrev pub page_at : List ℕ → Option Page
+page_at path = if is_utf8 path then option_map (λ r. r.value) (first our_routes path) else None
+
+-- the route can be read, and conflicts with none
+abbrev pub ScanHasPlace : Result Scan InsertError → RowsOf (RouteOf Page) → Type 0
+ScanHasPlace (Ok s) rows = nearest s.pattern rows ≡ None
+ScanHasPlace (Err e) rows = ⊥
+
+abbrev pub HasPlace : List ℕ → RowsOf (RouteOf Page) → Type 0
+HasPlace text rows = ScanHasPlace (parse_route text) rows
+
+-- ---- the stream's name and the packet's number: what stands behind `/s/`, and behind the slash after the page's word
+
+abbrev pub is_slash : ℕ → Bool
+is_slash b = b == 47
+
+abbrev pub name_in : List ℕ → List ℕ
+name_in path = before_first is_slash (drop 3 path)
+
+abbrev pub number_in : List ℕ → List ℕ
+number_in path = after_first is_slash (after_first is_slash (drop 3 path))
+
+-- the place of a name among names
+abbrev pub place_of : List (List ℕ) → List ℕ → Option ℕ
+place_of names name = position (λ x. bytes_eq x name) names
+
+-- ---- what a path asks for; nothing where there is no such stream, or no number
+
+abbrev pub info_of : Option ℕ → Wanted
+info_of None = Missing
+info_of (Some stream) = Info stream
+
+abbrev pub frame_of : Option ℕ → Option ℕ → Wanted
+frame_of (Some stream) (Some n) = Frame stream n
+frame_of (Some stream) None = Missing
+frame_of None n = Missing
+
+abbrev pub video_of : Option ℕ → Option ℕ → Wanted
+video_of (Some stream) (Some n) = Video stream n
+video_of (Some stream) None = Missing
+video_of None n = Missing
+
+abbrev pub on_page : Option Page → List (List ℕ) → List ℕ → Wanted
+on_page None names path = Missing
+on_page (Some page.Streams) names path = Streams
+on_page (Some page.Info) names path = info_of (place_of names (name_in path))
+on_page (Some page.Frame) names path = frame_of (place_of names (name_in path)) (packet_in (number_in path))
+on_page (Some page.Video) names path = video_of (place_of names (name_in path)) (packet_in (number_in path))
+
+unfoldable pub at_path : List (List ℕ) → List ℕ → Wanted
+at_path names path = on_page (page_at path) names path

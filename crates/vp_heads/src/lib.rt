@@ -1,0 +1,21 @@
+//! Heads of requests, read and judged, and the bytes of replies.
+#![tactic(auto)]
+
+mod buffer;
+mod fields;
+mod heads;
+mod laws;
+mod numbers;
+mod ranges;
+mod reply;
+mod request;
+mod routes;
+mod status;
+
+pub use buffer::Buffer;
+pub use laws::heads_are_unique;
+pub use ranges::{Part, Range};
+pub use reply::{put_error, put_faulted, put_lines, put_pixels, put_too_long};
+pub use request::{Request, Wanted, read_request};
+pub use routes::{Page, place_of, router};
+pub use status::Status;

@@ -1,0 +1,41 @@
+//! Numbers in decimal.
+
+ghost use Rattle.std.specs.Prelude.{◌≡◌, ◌&&◌, ◌==◌, ◌||◌, not, length, slice_index};
+ghost use Rattle.std.specs.Char.{is_ascii_digit};
+ghost use Rattle.std.specs.List.{list_all};
+ghost use Rattle.vp_heads.specs.Numbers.{count_in, starts_plainly, packet_in};
+
+fn all_digits(text: &[u8]) -> bool
+    ensures { result ≡ list_all is_ascii_digit text.now }
+{
+    text.iter().all(|c| c.is_ascii_digit())
+}
+
+/// A number of one digit or more; one over the greatest counts as that.
+pub(crate) fn count(text: &[u8]) -> Option<u64>
+    ensures { result ≡ count_in text.now }
+{
+    if text.is_empty() || !all_digits(text) {
+        return None;
+    }
+    let Ok(text) = std::str::from_utf8(text) else {
+        return None;
+    };
+    Some(text.parse::<u64>().unwrap_or(u64::MAX))
+}
+
+fn is_plain(text: &[u8]) -> bool
+    ensures { result ≡ starts_plainly text.now }
+{
+    text.len() <= 1 || text[0] != b'0'
+}
+
+/// The number of a packet.
+pub(crate) fn packet(text: &[u8]) -> Option<u32>
+    ensures { result ≡ packet_in text.now }
+{
+    if !is_plain(text) {
+        return None;
+    }
+    u32::try_from(count(text)?).ok()
+}

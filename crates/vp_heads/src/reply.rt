@@ -1,0 +1,306 @@
+//! Replies.
+
+ghost use Rattle.std.specs.Prelude.{◌≡◌, ◌++◌, ◌+◌, ◌-◌, ◌<◌, ◌≤◌, ◌∷◌, [], length, take, drop, IfOk, OnOk, codes, true};
+ghost use Rattle.std.specs.String.{string_bytes};
+ghost use Rattle.vp_heads.specs.Replies.{code_of, phrase_of, phrase_line, plain, octets, closing_line, head_text, reply_text, error_text, allowing, range_line, no_range_line, reply_to, part_text, too_long, Lines, Pixels, Faulted, Failed};
+ghost use Rattle.vp_heads.specs.Ranges.{slice_of};
+
+use crate::buffer::Buffer;
+use crate::ranges::{Part, part_of};
+use crate::request::{Request, unreadable};
+use crate::status::Status;
+use std::alloc::{AllocError, Global};
+
+/// The lines before a body of `length` bytes.
+#[tactic(auto, unfolding(crate::specs::Replies::head_text))]
+fn head(
+    alloc: Global,
+    code: u16,
+    phrase: &str,
+    kind: &str,
+    length: usize,
+    more: &str,
+    close: &str,
+) -> Result<String, AllocError>
+    ensures { IfOk result (λ r. string_bytes r ≡ head_text code phrase.now kind.now length more.now close.now) }
+{
+    format!(in alloc;
+        "HTTP/1.1 {code} {phrase}\r\nContent-Type: {kind}\r\nContent-Length: {length}\r\n{more}{close}\r\n"
+    )
+}
+
+fn close_line(closing: bool) -> &'static str
+    ensures { result.now ≡ closing_line closing }
+{
+    if closing { "Connection: close\r\n" } else { "" }
+}
+
+fn put_head(
+    alloc: Global,
+    request: Request,
+    status: Status,
+    kind: &str,
+    length: usize,
+    more: &str,
+    out: &mut Buffer,
+) -> Result<(), AllocError>
+    ensures { OnOk result (out.new ≡ out.old
+        ++ head_text (code_of status) (phrase_of status) kind.now length more.now (closing_line request.closing)) }
+{
+    let code = status.code().as_u16();
+    let close = close_line(request.closing);
+    let text = head(alloc, code, status.phrase(), kind, length, more, close)?;
+    out.append(text.as_bytes())
+}
+
+fn put_both(front: &[u8], back: &[u8], out: &mut Buffer) -> Result<(), AllocError>
+    ensures { OnOk result (out.new ≡ out.old ++ (front.now ++ back.now)) }
+{
+    out.append(front)?;
+    out.append(back)
+}
+
+/// A reply of one line and its line feed.
+fn put_line(
+    alloc: Global,
+    request: Request,
+    status: Status,
+    more: &str,
+    line: &str,
+    out: &mut Buffer,
+) -> Result<(), AllocError>
+    ensures { OnOk result (out.new ≡ out.old ++ reply_text request status plain more.now (line.now ++ 10 ∷ [])) }
+{
+    put_head(
+        alloc,
+        request,
+        status,
+        "text/plain",
+        line.len() + 1,
+        more,
+        out,
+    )?;
+    if request.silent {
+        return Ok(());
+    }
+    put_both(line.as_bytes(), b"\n", out)
+}
+
+/// The bytes from `first` to before `end` of two pieces, one behind the other.
+fn put_slice(
+    front: &[u8],
+    back: &[u8],
+    first: usize,
+    end: usize,
+    out: &mut Buffer,
+) -> Result<(), AllocError>
+    requires order { first ≤ end }
+    requires within { end ≤ length (front.now ++ back.now) }
+    ensures { OnOk result (out.new ≡ out.old ++ take (end - first) (drop first (front.now ++ back.now))) }
+{
+    let place = front.len();
+    if end <= place {
+        return out.append(&front[first..end]);
+    }
+    if first >= place {
+        return out.append(&back[first - place..end - place]);
+    }
+    out.append(&front[first..])?;
+    out.append(&back[..end - place])
+}
+
+fn size_of(front: &[u8], back: &[u8]) -> usize
+    ensures { result ≡ length (front.now ++ back.now) }
+{
+    front.len() + back.len()
+}
+
+/// The whole of the pixels.
+fn put_all(
+    alloc: Global,
+    request: Request,
+    front: &[u8],
+    back: &[u8],
+    out: &mut Buffer,
+) -> Result<(), AllocError>
+    ensures { OnOk result (out.new ≡ out.old ++ part_text Part.All request (front.now ++ back.now)) }
+{
+    let size = size_of(front, back);
+    put_head(
+        alloc,
+        request,
+        Status::Good,
+        "application/octet-stream",
+        size,
+        "",
+        out,
+    )?;
+    if request.silent {
+        return Ok(());
+    }
+    put_both(front, back, out)
+}
+
+fn range_text(alloc: Global, first: usize, last: usize, size: usize) -> Result<String, AllocError>
+    ensures { IfOk result (λ r. string_bytes r ≡ range_line first last size) }
+{
+    format!(in alloc; "Content-Range: bytes {first}-{last}/{size}\r\n")
+}
+
+fn no_range_text(alloc: Global, size: usize) -> Result<String, AllocError>
+    ensures { IfOk result (λ r. string_bytes r ≡ no_range_line size) }
+{
+    format!(in alloc; "Content-Range: bytes */{size}\r\n")
+}
+
+/// The part of the pixels from the first byte to the last.
+fn put_part(
+    alloc: Global,
+    request: Request,
+    front: &[u8],
+    back: &[u8],
+    first: usize,
+    last: usize,
+    out: &mut Buffer,
+) -> Result<(), AllocError>
+    requires order { first ≤ last }
+    requires within { last < length (front.now ++ back.now) }
+    ensures { OnOk result (out.new ≡ out.old ++ part_text (Part.Slice first last) request (front.now ++ back.now)) }
+{
+    let size = size_of(front, back);
+    let line = range_text(alloc, first, last, size)?;
+    let length = last + 1 - first;
+    put_head(
+        alloc,
+        request,
+        Status::Partial,
+        "application/octet-stream",
+        length,
+        line.as_str(),
+        out,
+    )?;
+    if request.silent {
+        return Ok(());
+    }
+    put_slice(front, back, first, last + 1, out)
+}
+
+/// No part of the pixels.
+fn put_no_part(
+    alloc: Global,
+    request: Request,
+    size: usize,
+    out: &mut Buffer,
+) -> Result<(), AllocError>
+    ensures { OnOk result (out.new ≡ out.old
+        ++ reply_text request Status.RangeNotSatisfiable plain (no_range_line size) (phrase_line Status.RangeNotSatisfiable)) }
+{
+    let status = Status::RangeNotSatisfiable;
+    let line = no_range_text(alloc, size)?;
+    put_line(alloc, request, status, line.as_str(), status.phrase(), out)
+}
+
+/// Puts the reply whose body is these lines of text. After want of memory `out` may have a part of it.
+#[tactic(auto, unfolding(crate::specs::Replies::reply_to))]
+pub fn put_lines(
+    alloc: Global,
+    request: Request,
+    body: &[u8],
+    out: &mut Buffer,
+) -> Result<(), AllocError>
+    ensures { OnOk result (out.new ≡ out.old ++ reply_to request (Lines body.now)) }
+{
+    put_head(
+        alloc,
+        request,
+        Status::Good,
+        "text/plain",
+        body.len(),
+        "",
+        out,
+    )?;
+    if request.silent {
+        return Ok(());
+    }
+    out.append(body)
+}
+
+/// Puts the reply whose body is a picture, or the part of it that the request asks for. The picture's text is
+/// `front` and then `back`. After want of memory `out` may have a part of the reply.
+#[tactic(auto, unfolding(crate::specs::Replies::reply_to))]
+pub fn put_pixels(
+    alloc: Global,
+    request: Request,
+    front: &[u8],
+    back: &[u8],
+    out: &mut Buffer,
+) -> Result<(), AllocError>
+    ensures { OnOk result (out.new ≡ out.old ++ reply_to request (Pixels (front.now ++ back.now))) }
+{
+    let size = size_of(front, back);
+    match part_of(request.range, size) {
+        Part::All => put_all(alloc, request, front, back, out),
+        Part::Slice(first, last) => put_part(alloc, request, front, back, first, last, out),
+        Part::Beyond => put_no_part(alloc, request, size, out),
+    }
+}
+
+/// Puts the reply to a request for a packet with a fault of this name. After want of memory `out` may have a part
+/// of it.
+#[tactic(auto, unfolding(crate::specs::Replies::reply_to))]
+pub fn put_faulted(
+    alloc: Global,
+    request: Request,
+    name: &str,
+    out: &mut Buffer,
+) -> Result<(), AllocError>
+    ensures { OnOk result (out.new ≡ out.old ++ reply_to request (Faulted name.now)) }
+{
+    put_line(alloc, request, Status::Unprocessable, "", name, out)
+}
+
+/// The line that says which methods are allowed, where the status is that another one came.
+fn allowed(status: Status) -> &'static str
+    ensures { result.now ≡ allowing status }
+{
+    match status {
+        Status::MethodNotAllowed => "Allow: GET, HEAD\r\n",
+        _ => "",
+    }
+}
+
+/// Puts the reply that is an error. After want of memory `out` may have a part of it.
+#[tactic(auto, unfolding(crate::specs::Replies::reply_to))]
+pub fn put_error(
+    alloc: Global,
+    request: Request,
+    status: Status,
+    out: &mut Buffer,
+) -> Result<(), AllocError>
+    ensures { OnOk result (out.new ≡ out.old ++ reply_to request (Failed status)) }
+{
+    put_line(
+        alloc,
+        request,
+        status,
+        allowed(status),
+        status.phrase(),
+        out,
+    )
+}
+
+/// Puts the reply to 8,192 bytes without a head's end. After want of memory `out` may have a part of it.
+#[tactic(auto, unfolding(crate::specs::Replies::too_long))]
+pub fn put_too_long(alloc: Global, out: &mut Buffer) -> Result<(), AllocError>
+    ensures { OnOk result (out.new ≡ out.old ++ too_long) }
+{
+    let status = Status::TooLong;
+    put_line(
+        alloc,
+        unreadable(),
+        status,
+        allowed(status),
+        status.phrase(),
+        out,
+    )
+}

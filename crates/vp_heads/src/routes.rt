@@ -1,0 +1,150 @@
+//! Routes.
+
+ghost use Rattle.std.specs.Prelude.{◌≡◌, ◌==◌, ◌+◌, ◌<◌, ℕ, List, [], Option, Some, None, IfOk, OnOk, IfSome, length, position, drop};
+ghost use Rattle.std.specs.List.{before_first, after_first, position_or_len};
+ghost use Rattle.vp_heads.specs.Routes.{our_routes, page_at, with_route, HasPlace, is_slash, name_in, number_in, at_path};
+ghost use Rattle.vp_heads.specs.Routes.{place_of as place_in};
+
+use crate::numbers::packet;
+use crate::request::Wanted;
+use matchit::{InsertError, Router};
+use std::alloc::{AllocError, Global};
+use std::str::from_utf8;
+use vp_base::ByteList;
+
+/// What a route gives.
+#[derive(Clone, Copy, Debug, PartialEq, Eq, Drop)]
+pub enum Page {
+    /// The names of all streams.
+    Streams,
+    /// What is known of a stream.
+    Info,
+    /// A packet's picture as I420.
+    Frame,
+    /// A packet's picture as a Y4M file.
+    Video,
+}
+
+/// The router of the four pages.
+#[tactic(auto, unfolding(crate::specs::Routes::our_routes))]
+pub fn router(alloc: Global) -> Result<Router<Page>, AllocError>
+    ensures { IfOk result (λ r. r ≡ our_routes) }
+{
+    let mut router = Router::new(alloc);
+    add(&mut router, "/streams", Page::Streams)?;
+    add(&mut router, "/s/{name}/info", Page::Info)?;
+    add(&mut router, "/s/{name}/frame/{n}", Page::Frame)?;
+    add(&mut router, "/s/{name}/y4m/{n}", Page::Video)?;
+    Ok(router)
+}
+
+/// Adds a route that conflicts with none.
+fn add(router: &mut Router<Page>, route: &str, page: Page) -> Result<(), AllocError>
+    requires { HasPlace route.now router.old }
+    ensures { OnOk result (router.new ≡ with_route route.now page router.old) }
+{
+    match router.insert(route, page) {
+        Ok(()) => Ok(()),
+        Err(InsertError::OutOfMemory) => Err(AllocError),
+        Err(_) => unreachable!(),
+    }
+}
+
+/// The page of a path.
+fn page_of(router: &Router<Page>, path: &[u8]) -> Option<Page>
+    requires { router.now ≡ our_routes }
+    ensures { result ≡ page_at path.now }
+{
+    let Ok(text) = from_utf8(path) else {
+        return None;
+    };
+    match router.at(text) {
+        Ok(found) => Some(*found.value),
+        Err(_) => None,
+    }
+}
+
+fn slash_place(path: &[u8]) -> Option<usize>
+    ensures place { result ≡ position is_slash path.now }
+    ensures there { IfSome result (λ i. i < length path.now) }
+{
+    path.iter().position(|b| *b == b'/')
+}
+
+/// The bytes before the first slash, or all of them.
+fn part(path: &[u8]) -> &[u8]
+    ensures { result.now ≡ before_first is_slash path.now }
+{
+    match slash_place(path) {
+        Some(place) => &path[..place],
+        None => path,
+    }
+}
+
+/// The bytes behind the first slash, or none.
+fn rest(path: &[u8]) -> &[u8]
+    ensures { result.now ≡ after_first is_slash path.now }
+{
+    match slash_place(path) {
+        Some(place) => &path[place + 1..],
+        None => &[],
+    }
+}
+
+/// The bytes behind the first three, or none.
+fn behind_three(path: &[u8]) -> &[u8]
+    ensures { result.now ≡ drop 3 path.now }
+{
+    match path {
+        [_, _, _, rest @ ..] => rest,
+        _ => &[],
+    }
+}
+
+fn name_of(path: &[u8]) -> &[u8]
+    ensures { result.now ≡ name_in path.now }
+{
+    part(behind_three(path))
+}
+
+fn number_of(path: &[u8]) -> &[u8]
+    ensures { result.now ≡ number_in path.now }
+{
+    rest(rest(behind_three(path)))
+}
+
+/// The place of a name among names.
+pub fn place_of(names: &[ByteList], name: &[u8]) -> Option<usize>
+    ensures place { result ≡ place_in names.now name.now }
+    ensures there { IfSome result (λ i. i < length names.now) }
+{
+    names.iter().position(|x| x.as_slice() == name)
+}
+
+/// What a path asks for.
+#[tactic(auto, unfolding(crate::specs::Routes::at_path))]
+pub(crate) fn wanted_at(router: &Router<Page>, names: &[ByteList], path: &[u8]) -> Wanted
+    requires { router.now ≡ our_routes }
+    ensures { result ≡ at_path names.now path.now }
+{
+    let Some(page) = page_of(router, path) else {
+        return Wanted::Missing;
+    };
+    if page == Page::Streams {
+        return Wanted::Streams;
+    }
+    let Some(stream) = place_of(names, name_of(path)) else {
+        return Wanted::Missing;
+    };
+    if page == Page::Info {
+        return Wanted::Info(stream);
+    }
+    let Some(n) = packet(number_of(path)) else {
+        return Wanted::Missing;
+    };
+    if page == Page::Frame {
+        Wanted::Frame(stream, n)
+    } else {
+        Wanted::Video(stream, n)
+    }
+}

@@ -1,0 +1,10 @@
+pub mod Serving
+pub mod Places
+pub mod Links
+pub mod Isolation
+pub mod Cutting
+pub mod Kept
+pub mod PageLemmas
+pub mod Growing
+pub mod NameLemmas
+pub mod Fed

@@ -1,0 +1,75 @@
+-- A connection by its place.
+use Rattle.std.proofs.Common.{suc, ◌+◌, Ok, not, ◌∙◌, sym, IfSome, ◌≡◌, ◌==◌, ◌<◌, ℕ, List, [], ◌∷◌, Option, Some, None, length, get_or, set, cond, refl, ap, arith, Bool, true, false, nat_lt}
+use Rattle.std.specs.List.{position, position_or_len}
+use Rattle.std.proofs.lemmas.Bool.Decides.{nat_tests}
+use Rattle.vp_hub.specs.declared.connection.Link.{Link}
+use Rattle.vp_hub.specs.declared.connection.Connection.{Connection}
+use Rattle.std.proofs.lemmas.List.Quantifiers.{position-Some}
+use Rattle.std.proofs.lemmas.Bool.{eqb-true}
+use Rattle.vp_hub.specs.Hub.{link_of, with_link, without, shut, no_bytes, Outcome, IsPlaceOf}
+
+abbrev pub is_of : ℕ → Connection → Bool
+is_of c x = x.number == c
+
+shift : (p n : ℕ) (a : Option Link) → cond (nat_lt (1 + p) (suc n)) a None ≡ cond (nat_lt p n) a None
+shift p n a =
+    let h : nat_lt (1 + p) (suc n) ≡ nat_lt p n = grind (arith, nat_tests) in
+    ap (λ b. cond b a None) h
+
+pub link_of-place : (c : ℕ) (xs : List Connection) (d : Connection)
+    → link_of c xs ≡ cond (nat_lt (position_or_len (is_of c) xs) (length xs)) (Some (get_or xs (position_or_len (is_of c) xs) d).link) None
+link_of-place c [] d = refl
+link_of-place c (x ∷ xs) d = step (link_of-place c xs d) (is_of c x)
+  where
+    step : link_of c xs ≡ cond (nat_lt (position_or_len (is_of c) xs) (length xs)) (Some (get_or xs (position_or_len (is_of c) xs) d).link) None → (t : Bool) → cond t (Some x.link) (link_of c xs) ≡ cond (nat_lt (cond (not t) (1 + position_or_len (is_of c) xs) 0) (length (x ∷ xs))) (Some (get_or (x ∷ xs) (cond (not t) (1 + position_or_len (is_of c) xs) 0) d).link) None
+    step e true =
+        let h : nat_lt 0 (suc (length xs)) ≡ true = grind (arith, nat_tests) in
+        sym (ap (λ b. cond b (Some x.link) None) h)
+    step e false =
+        let h : 1 + position_or_len (is_of c) xs ≡ suc (position_or_len (is_of c) xs) = omega arith in
+        let g : get_or (x ∷ xs) (1 + position_or_len (is_of c) xs) d ≡ get_or xs (position_or_len (is_of c) xs) d = rw h refl in
+        e ∙ sym (shift (position_or_len (is_of c) xs) (length xs) (Some (get_or xs (position_or_len (is_of c) xs) d).link))
+        ∙ ap (λ y. cond (nat_lt (1 + position_or_len (is_of c) xs) (suc (length xs))) (Some y.link) None) (sym g)
+
+pub with_link-place : (c : ℕ) (link : Link) (xs : List Connection)
+    → with_link c link xs ≡ set xs (position_or_len (is_of c) xs) (record { number = c; link = link })
+with_link-place c link [] = refl
+with_link-place c link (x ∷ xs) = step (with_link-place c link xs) (is_of c x)
+  where
+    step : with_link c link xs ≡ set xs (position_or_len (is_of c) xs) (record { number = c; link = link }) → (t : Bool) → cond t (record { number = c; link = link } ∷ xs) (x ∷ with_link c link xs) ≡ set (x ∷ xs) (cond (not t) (1 + position_or_len (is_of c) xs) 0) (record { number = c; link = link })
+    step e true = refl
+    step e false =
+        let h : 1 + position_or_len (is_of c) xs ≡ suc (position_or_len (is_of c) xs) = omega arith in
+        rw h (ap (λ ys. x ∷ ys) e)
+
+chosen : (b : Bool) (i p : ℕ) → Some i ≡ cond b (Some p) None → (p ≡ i) × (b ≡ true)
+chosen true i p h = (cc, refl)
+chosen false i p h = cc
+
+not_chosen : (b : Bool) (p : ℕ) → None ≡ cond b (Some p) None → b ≡ false
+not_chosen true p h = cc
+not_chosen false p h = refl
+
+pub place-none : (c : ℕ) (xs : List Connection) → None ≡ position (is_of c) xs → link_of c xs ≡ None
+place-none c [] h = refl
+place-none c (x ∷ xs) h =
+    let e = not_chosen (nat_lt (position_or_len (is_of c) (x ∷ xs)) (length (x ∷ xs))) (position_or_len (is_of c) (x ∷ xs)) h in
+    link_of-place c (x ∷ xs) x ∙ rw e refl
+
+pub place-some : (c : ℕ) (xs : List Connection) (i : ℕ) → Some i ≡ position (is_of c) xs → IsPlaceOf c xs i
+place-some c xs i h =
+    let e = chosen (nat_lt (position_or_len (is_of c) xs) (length xs)) i (position_or_len (is_of c) xs) h in
+    record {
+      there = (position-Some (is_of c) xs i (record { number = 0; link = record { pending = []; closed = false } }) (sym h)).0;
+      number = λ d. eqb-true (get_or xs i d).number c (position-Some (is_of c) xs i d (sym h)).1;
+      link = λ d. link_of-place c xs d ∙ rw (e.1, e.0) refl;
+      set = λ link. sym (with_link-place c link xs ∙ rw e.0 refl);
+    }
+
+pub place-of : (c : ℕ) (xs : List Connection) (r : Option ℕ) → r ≡ position (is_of c) xs → IfSome r (IsPlaceOf c xs)
+place-of c xs None h = tt
+place-of c xs (Some i) h = place-some c xs i h
+
+pub shut-some : (c : ℕ) (xs ys : List Connection) (link : Link) → link_of c ys ≡ Some link → ys ≡ xs
+    → ◌≡◌ {A = List Connection × Outcome} (without c xs, Ok no_bytes) (shut c xs (link_of c xs))
+shut-some c xs ys link h e = sym (ap (shut c xs) (sym (ap (link_of c) e) ∙ h))

@@ -1,0 +1,23 @@
+use Rattle.std.proofs.Common.{rules, ◌+◌, take, arith}
+use Rattle.std.proofs.lemmas.List.{take_more}
+use Rattle.vp_hub.proofs.Fed.{all_fed_at_end}
+use Rattle.vp_hub.proofs.Isolation.{isolated_at_end, run_more}
+use Rattle.vp_hub.proofs.hub.Hub.run.Goals as goal
+
+pub loop-event-preserved : goal.loop-event-preserved
+loop-event-preserved c = record {
+  room = search rules;
+  len = search rules;
+  run = rw (take_more c.args.events.now c.loop-event.event-index c.event-item.result c.loop-event-test.true, ← c.event-item.is, c.put.ensures.items)
+      (run_more _ _ _ _ _ _ _ c.loop-event.invariant.run c.step-res.ensures.step);
+}
+
+pub returns-clause-isolated : goal.returns-clause-isolated
+returns-clause-isolated c =
+    isolated_at_end c.args.self.now.state c.args.events.now c.loop-event.results.items c.loop-event.self.state c.loop-event.event-index
+    (omega (arith, c.loop-event-test.false, c.loop-event.auto.event-index-end)) c.loop-event.invariant.run
+
+pub returns-clause-pieces : goal.returns-clause-pieces
+returns-clause-pieces c =
+    all_fed_at_end c.args.self.now.state c.args.events.now c.loop-event.results.items c.loop-event.self.state c.loop-event.event-index
+    (omega (arith, c.loop-event-test.false, c.loop-event.auto.event-index-end)) c.loop-event.invariant.run

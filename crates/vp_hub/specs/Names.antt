@@ -1,0 +1,20 @@
+-- The names that streams may have.
+use Rattle.std.specs.Prelude.{ℕ, ◌==◌, ◌&&◌, ◌||◌, not, nat_le, Bool, true, List, [], ◌∷◌, length}
+use Rattle.std.specs.List.{list_all, list_any}
+use Rattle.std.specs.Str.{bytes_eq}
+
+-- a lower-case letter, a digit, `-` or `_`
+abbrev pub is_name_byte : ℕ → Bool
+is_name_byte b = (nat_le 97 b && nat_le b 122) || ((nat_le 48 b && nat_le b 57) || (b == 45 || b == 95))
+
+-- 1 to 32 of them
+abbrev pub is_name : List ℕ → Bool
+is_name name = nat_le 1 (length name) && (nat_le (length name) 32 && list_all is_name_byte name)
+
+unfoldable pub are_distinct : List (List ℕ) → Bool
+are_distinct [] = true
+are_distinct (name ∷ more) = not (list_any (λ x. bytes_eq x name) more) && are_distinct more
+
+-- 1 to 16 distinct names
+abbrev pub are_names : List (List ℕ) → Bool
+are_names names = nat_le 1 (length names) && (nat_le (length names) 16 && (list_all is_name names && are_distinct names))

@@ -1,0 +1,84 @@
+-- What is found for a request: the pages of the server.
+use Rattle.std.specs.Prelude.{◌≡◌, ℕ, Bool, true, false, List, [], ◌∷◌, ◌++◌, length, codes, decimal, Option, Some, None, Result, Ok, Err, slice_get}
+use Rattle.std.specs.List.{flat_map}
+use Rattle.vp_ivf.specs.declared.fault.FileFault.{FileFault}
+use Rattle.vp_ivf.specs.declared.packet.IvfHead.{IvfHead}
+use Rattle.vp_ivf.specs.Names.{name_of as file_fault_name}
+use Rattle.vp_head.specs.Names.{name_of as packet_fault_name}
+use Rattle.vp_y4m.specs.Text.{header_text}
+use Rattle.vp_stream.specs.Stream.{refusal}
+use Rattle.vp_stream.specs.Seeking.{Told, Shown, Hidden, Fault, NoPacket, answer_at}
+use Rattle.vp_heads.specs.declared.request.Request.{Request}
+use Rattle.vp_heads.specs.declared.request.Wanted.{Wanted}
+use Rattle.vp_heads.specs.declared.request.Wanted.TheVariants as wanted
+use Rattle.vp_heads.specs.declared.status.Status.TheVariants.{BadRequest, NotFound, MethodNotAllowed}
+use Rattle.vp_heads.specs.Requests.{IsAsked}
+use Rattle.vp_heads.specs.Replies.{Content, Lines, Pixels, Faulted, Failed, reply_to}
+use Rattle.vp_hub.specs.declared.source.Source.{Source}
+use Rattle.vp_hub.specs.declared.source.Ending.{Ending}
+use Rattle.vp_hub.specs.declared.source.Ending.TheVariants.{Open, Good, Faulty}
+
+-- the streams: their names, and in the same order what is known of each
+pub record Streams : Type 0 where
+  pub names : List (List ℕ)
+  pub sources : List Source
+
+-- ---- the names: each and a line feed
+
+abbrev pub names_text : List (List ℕ) → List ℕ
+names_text names = flat_map (λ (name : List ℕ). name ++ 10 ∷ []) names
+
+-- ---- what is known of a stream: its state, how many packets are whole, and once its head is good what that says
+
+-- the fault that it has, also that it is torn where its end was told, or whether the end was told
+abbrev pub state_by : Ending → Option FileFault → List ℕ
+state_by (Faulty f) fault = file_fault_name f
+state_by Good fault = codes "ended"
+state_by Open (Some f) = file_fault_name f
+state_by Open None = codes "open"
+
+abbrev pub head_lines : Option IvfHead → List ℕ
+head_lines None = []
+head_lines (Some h) =
+    codes "size " ++ (decimal h.w ++ (codes "x" ++ (decimal h.h ++ (codes "\nrate " ++ (decimal h.rate ++ (codes "/" ++ (decimal h.scale ++ codes "\n")))))))
+
+unfoldable pub info_text : Source → List ℕ
+info_text s =
+    codes "state " ++ (state_by s.end (refusal s.stream) ++ (codes "\npackets " ++ (decimal (length s.stream.reading.packets)
+    ++ (codes "\n" ++ head_lines s.stream.reading.head))))
+
+abbrev pub info_of : Option Source → Content
+info_of None = Failed NotFound
+info_of (Some s) = Lines (info_text s)
+
+-- ---- a packet's picture: its I420; before it, in a Y4M file, the line of the header and that of the picture
+
+abbrev pub front_by : Bool → Option IvfHead → ℕ → ℕ → List ℕ
+front_by false head w h = []
+front_by true None w h = codes "FRAME\n"
+front_by true (Some head) w h = header_text w h head.rate head.scale ++ codes "FRAME\n"
+
+abbrev pub picture_by : Bool → Option IvfHead → Told → Content
+picture_by video head (Shown w h pixels) = Pixels (front_by video head w h ++ pixels)
+picture_by video head Hidden = Failed NotFound
+picture_by video head NoPacket = Failed NotFound
+picture_by video head (Fault f) = Faulted (packet_fault_name f)
+
+abbrev pub picture_of : Bool → Option Source → ℕ → Content
+picture_of video None n = Failed NotFound
+picture_of video (Some s) n = picture_by video s.stream.reading.head (answer_at s.stream.limits s.stream.reading.packets n)
+
+-- what is found for what is wanted
+abbrev pub content_of : Streams → Wanted → Content
+content_of s wanted.Bad = Failed BadRequest
+content_of s wanted.WrongMethod = Failed MethodNotAllowed
+content_of s wanted.Missing = Failed NotFound
+content_of s wanted.Streams = Lines (names_text s.names)
+content_of s (wanted.Info k) = info_of (slice_get s.sources k)
+content_of s (wanted.Frame k n) = picture_of false (slice_get s.sources k) n
+content_of s (wanted.Video k n) = picture_of true (slice_get s.sources k) n
+
+-- the reply to a head, and whether it closes the connection
+unfoldable pub IsReply : Streams → List ℕ → List ℕ × Bool → Type 0
+IsReply s head r =
+    (request : Request) × IsAsked s.names head request × (r ≡ (reply_to request (content_of s request.wanted), request.closing))

@@ -1,0 +1,126 @@
+-- What one connection sees of a run, and the results that it must have.
+use Rattle.std.specs.Prelude.{◌≡◌, ◌≢◌, ◌==◌, ◌<◌, ℕ, nat_lt, Bool, true, false, cond, length, List, [], ◌∷◌, ◌++◌, Option, Some, None, Result, Ok, Err, slice_get, if◌then◌else◌}
+use Rattle.vp_hub.specs.declared.event.Event.{Event}
+use Rattle.vp_hub.specs.declared.event.Event.TheVariants.{Feed, End, Open, Bytes, Shut}
+use Rattle.vp_hub.specs.declared.event.Reply.{Reply}
+use Rattle.vp_hub.specs.Pages.{Streams}
+use Rattle.vp_hub.specs.declared.connection.Link.{Link}
+use Rattle.vp_hub.specs.declared.event.HubFault.{HubFault}
+use Rattle.vp_hub.specs.declared.event.HubFault.TheVariants.{UnknownStream, Ended, UnknownConn, AlreadyOpen, TooMany, Failed, Memory}
+use Rattle.vp_hub.specs.Hub.{Outcome, State, link_of, fed, ended, at_name, Gets, no_bytes, new_link, IsStep}
+
+-- events as one connection sees them; the last is that the hub closed it
+pub data Seen : Type 0 where
+  Fed : (name piece : List ℕ) → Seen
+  Over : (name : List ℕ) → Seen
+  Opened : Seen
+  Got : (piece : List ℕ) → Seen
+  Gone : Seen
+  Lost : Seen
+
+abbrev pub is_memory : Outcome → Bool
+is_memory (Err Memory) = true
+is_memory (Err TooMany) = false
+is_memory (Err UnknownStream) = false
+is_memory (Err Ended) = false
+is_memory (Err UnknownConn) = false
+is_memory (Err AlreadyOpen) = false
+is_memory (Err Failed) = false
+is_memory (Ok reply) = false
+
+abbrev pub is_too_many : Outcome → Bool
+is_too_many (Err Memory) = false
+is_too_many (Err TooMany) = true
+is_too_many (Err UnknownStream) = false
+is_too_many (Err Ended) = false
+is_too_many (Err UnknownConn) = false
+is_too_many (Err AlreadyOpen) = false
+is_too_many (Err Failed) = false
+is_too_many (Ok reply) = false
+
+-- what connection c sees of one event with its result: a piece of a stream or an opening that memory was
+-- refused for isn't seen, nor an opening that was one too many; bytes that memory was refused for close
+abbrev pub seen : ℕ → Event → Outcome → List Seen
+seen c (Feed name piece) o = if is_memory o then [] else Fed name piece ∷ []
+seen c (End name) o = Over name ∷ []
+seen c (Open d) o = if d == c then (if is_memory o then [] else if is_too_many o then [] else Opened ∷ []) else []
+seen c (Bytes d piece) o = if d == c then (if is_memory o then Lost ∷ [] else Got piece ∷ []) else []
+seen c (Shut d) o = if d == c then Gone ∷ [] else []
+
+-- the view of connection c, and the results of the events in it
+abbrev pub view_of : ℕ → List Event → List Outcome → List Seen
+view_of c [] os = []
+view_of c (e ∷ es) [] = []
+view_of c (e ∷ es) (o ∷ os) = seen c e o ++ view_of c es os
+
+abbrev pub told : List Seen → Outcome → List Outcome
+told [] o = []
+told (e ∷ es) o = o ∷ []
+
+abbrev pub results_of : ℕ → List Event → List Outcome → List Outcome
+results_of c [] os = []
+results_of c (e ∷ es) [] = []
+results_of c (e ∷ es) (o ∷ os) = told (seen c e o) o ++ results_of c es os
+
+-- what a connection's results depend on: the streams, and what is kept of it
+pub record Sight : Type 0 where
+  pub streams : Streams
+  pub link : Option Link
+
+abbrev pub sight : ℕ → State → Sight
+sight c s = record { streams = s.streams; link = link_of c s.connections }
+
+abbrev pub open_again : Option Link → Option Link × Outcome
+open_again (Some link) = (Some link, Err AlreadyOpen)
+open_again None = (Some new_link, Ok no_bytes)
+
+abbrev pub AsksAgain : Streams → List ℕ → Option Link → Option Link × Outcome → Type 0
+AsksAgain streams piece None r = r ≡ (None, Err UnknownConn)
+AsksAgain streams piece (Some link) r = (g : Link × Outcome) × Gets streams piece link g × (r ≡ (Some g.0, g.1))
+
+abbrev pub go : Option Link → Option Link × Outcome
+go None = (None, Err UnknownConn)
+go (Some link) = (None, Ok no_bytes)
+
+abbrev pub lose : Option Link → Option Link
+lose None = None
+lose (Some link) = Some (record { pending = []; closed = true })
+
+abbrev pub with_streams_of : Sight → Streams × Outcome → Sight × Outcome
+with_streams_of v r = (record { streams = r.0; link = v.link }, r.1)
+
+abbrev pub with_link_of : Sight → Option Link × Outcome → Sight × Outcome
+with_link_of v r = (record { streams = v.streams; link = r.0 }, r.1)
+
+-- one event of a view: what is kept after it, and its result
+abbrev pub See : Seen → Sight → Sight × Outcome → Type 0
+See (Fed name piece) v r = r ≡ with_streams_of v (at_name (fed piece) name v.streams)
+See (Over name) v r = r ≡ with_streams_of v (at_name ended name v.streams)
+See Opened v r = r ≡ with_link_of v (open_again v.link)
+See (Got piece) v r = AsksAgain v.streams piece v.link (r.0.link, r.1) × (r.0.streams ≡ v.streams)
+See Gone v r = r ≡ with_link_of v (go v.link)
+See Lost v r = r ≡ with_link_of v (lose v.link, Err Memory)
+
+-- from a, the events of a view have these results and lead to b
+abbrev pub Leads : List Seen → Sight → List Outcome → Sight → Type 0
+Leads [] a [] b = b ≡ a
+Leads (e ∷ es) a (o ∷ os) b = (mid : Sight) × See e a (mid, o) × Leads es mid os b
+Leads [] a (o ∷ os) b = ⊥
+Leads (e ∷ es) a [] b = ⊥
+
+-- a run: each event with its result
+abbrev pub IsRun : State → List Event → List Outcome → State → Type 0
+IsRun old [] [] new = new ≡ old
+IsRun old (e ∷ es) (o ∷ os) new = (mid : State) × IsStep old e o mid × IsRun mid es os new
+IsRun old [] (o ∷ os) new = ⊥
+IsRun old (e ∷ es) [] new = ⊥
+
+-- each connection gets the results that its view gives
+abbrev pub IsIsolated : State → List Event → List Outcome → State → Type 0
+IsIsolated s es os new = (c : ℕ) → Leads (view_of c es os) (sight c s) (results_of c es os) (sight c new)
+
+-- two runs, from hubs alike to connection c, whose views of c are equal answer c alike
+abbrev pub AnswersAlike : Type 0
+AnswersAlike = (c : ℕ) (s t : State) (es fs : List Event) (os ps : List Outcome) (new mid : State)
+    → IsRun s es os new → IsRun t fs ps mid → sight c s ≡ sight c t → view_of c es os ≡ view_of c fs ps
+    → results_of c es os ≡ results_of c fs ps

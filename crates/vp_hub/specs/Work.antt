@@ -1,0 +1,133 @@
+-- How many packets are decoded, and what the cache keeps.
+use Rattle.std.specs.Prelude.{◌≡◌, ◌≢◌, ◌≤◌, ◌⊎◌, ◌+◌, ℕ, Bool, true, List, [], ◌∷◌, ◌++◌, Option, Some, None, Err, slice_get}
+use Rattle.vp_stream.specs.Seeking.{answer_at, counted}
+use Rattle.vp_cache.specs.Kept.{IsAfter, held, work_beside}
+use Rattle.vp_cache.specs.Kept.{State as Cache}
+use Rattle.vp_heads.specs.declared.request.Request.{Request}
+use Rattle.vp_heads.specs.declared.request.Wanted.{Wanted}
+use Rattle.vp_heads.specs.declared.request.Wanted.TheVariants as wanted
+use Rattle.vp_heads.specs.Requests.{IsAsked}
+use Rattle.vp_hub.specs.declared.source.Source.{Source}
+use Rattle.vp_hub.specs.declared.connection.Link.{Link}
+use Rattle.vp_hub.specs.declared.event.Event.{Event}
+use Rattle.vp_hub.specs.declared.event.Event.TheVariants.{Feed, End, Open, Bytes, Shut}
+use Rattle.vp_hub.specs.declared.event.HubFault.TheVariants.{Memory}
+use Rattle.vp_hub.specs.Pages.{Streams}
+use Rattle.vp_hub.specs.Hub.{Chosen, Outcome, ends_head, TakesByte, State, link_of}
+
+-- ---- one request
+
+-- the packets that are decoded for packet n of stream k: none where its picture is kept or there is no such packet, else
+-- those from the last key packet on
+abbrev pub picture_cost : Option Source → ℕ → ℕ → Cache → ℕ
+picture_cost None k n cache = 0
+picture_cost (Some s) k n cache = work_beside (held k n cache.entries) s.stream.reading.packets n
+
+abbrev pub cost_of : Streams → Wanted → Cache → ℕ
+cost_of streams wanted.Bad cache = 0
+cost_of streams wanted.WrongMethod cache = 0
+cost_of streams wanted.Missing cache = 0
+cost_of streams wanted.Streams cache = 0
+cost_of streams (wanted.Info k) cache = 0
+cost_of streams (wanted.Frame k n) cache = picture_cost (slice_get streams.sources k) k n cache
+cost_of streams (wanted.Video k n) cache = picture_cost (slice_get streams.sources k) k n cache
+
+-- the cache after it: a shown picture is the newest entry, but where there was no memory for it
+abbrev pub IsAfterPicture : Option Source → ℕ → ℕ → Cache → Cache → Type 0
+IsAfterPicture None k n old new = new ≡ old
+IsAfterPicture (Some s) k n old new =
+    IsAfter old k n (held k n old.entries) (answer_at s.stream.limits s.stream.reading.packets n) new
+
+abbrev pub IsAfterAsked : Streams → Wanted → Cache → Cache → Type 0
+IsAfterAsked streams wanted.Bad old new = new ≡ old
+IsAfterAsked streams wanted.WrongMethod old new = new ≡ old
+IsAfterAsked streams wanted.Missing old new = new ≡ old
+IsAfterAsked streams wanted.Streams old new = new ≡ old
+IsAfterAsked streams (wanted.Info k) old new = new ≡ old
+IsAfterAsked streams (wanted.Frame k n) old new = IsAfterPicture (slice_get streams.sources k) k n old new
+IsAfterAsked streams (wanted.Video k n) old new = IsAfterPicture (slice_get streams.sources k) k n old new
+
+-- ---- the bytes of a connection
+
+-- what a request costs
+pub record IsCost (streams : Streams) (head : List ℕ) (old new : Cache) (cost : ℕ) : Type 0 where
+  pub request : Request
+  pub asked : IsAsked streams.names head request
+  pub after : IsAfterAsked streams request.wanted old new
+  pub cost_is : cost ≡ cost_of streams request.wanted old
+
+-- what it costs at most, where memory was refused on the way
+pub record IsMostCost (streams : Streams) (head : List ℕ) (old : Cache) (cost : ℕ) : Type 0 where
+  pub request : Request
+  pub asked : IsAsked streams.names head request
+  pub cost_is : cost ≡ cost_of streams request.wanted old
+
+-- a byte costs what the head does that it ends, if it ends one
+abbrev pub CostsByte : Streams → ℕ → Link → Cache → Cache → ℕ → Type 0
+CostsByte streams b link old new cost =
+    Chosen link.closed ((new ≡ old) × (cost ≡ 0))
+    (Chosen (ends_head (link.pending ++ b ∷ [])) (IsCost streams (link.pending ++ b ∷ []) old new cost) ((new ≡ old) × (cost ≡ 0)))
+
+-- each byte in turn: what is kept of the connection and written after it, the cache after it, and what it costs in all
+abbrev pub Costs : Streams → List ℕ → Link × List ℕ → Link × List ℕ → Cache → Cache → ℕ → Type 0
+Costs streams [] v w old new cost = (w ≡ v) × (new ≡ old) × (cost ≡ 0)
+Costs streams (b ∷ bs) v w old new cost =
+    (mid : Link × List ℕ) × (cache : Cache) × (first rest : ℕ)
+    × TakesByte streams b v mid × CostsByte streams b v.0 old cache first × Costs streams bs mid w cache new rest × (cost ≡ first + rest)
+
+-- the same for a connection that stands, or doesn't
+abbrev pub CostsPiece : Streams → List ℕ → Option Link → Cache → Cache → ℕ → Type 0
+CostsPiece streams piece None old new cost = (new ≡ old) × (cost ≡ 0)
+CostsPiece streams piece (Some link) old new cost = (w : Link × List ℕ) × Costs streams piece (link, []) w old new cost
+
+-- ---- an event
+
+-- the cache after an event, and how many packets are decoded: none but for the bytes of a connection
+abbrev pub IsWork : Event → State → Cache → Cache → ℕ → Type 0
+IsWork (Feed name piece) s old new work = (new ≡ old) × (work ≡ 0)
+IsWork (End name) s old new work = (new ≡ old) × (work ≡ 0)
+IsWork (Open c) s old new work = (new ≡ old) × (work ≡ 0)
+IsWork (Bytes c piece) s old new work = CostsPiece s.streams piece (link_of c s.connections) old new work
+IsWork (Shut c) s old new work = (new ≡ old) × (work ≡ 0)
+
+-- where memory was refused at a byte: nothing is decoded, or no more than for the head that the byte ends
+abbrev pub CostsByteAtMost : Streams → ℕ → Link → Cache → ℕ → Type 0
+CostsByteAtMost streams b link old cost =
+    (cost ≡ 0) ⊎ ((ends_head (link.pending ++ b ∷ []) ≡ true) × IsMostCost streams (link.pending ++ b ∷ []) old cost)
+
+-- the bytes before that one cost what they do
+pub record CostsAtMost (streams : Streams) (piece : List ℕ) (v : Link × List ℕ) (old : Cache) (cost : ℕ) : Type 0 where
+  pub front : List ℕ
+  pub byte : ℕ
+  pub back : List ℕ
+  pub mid : Link × List ℕ
+  pub cache : Cache
+  pub before : ℕ
+  pub last : ℕ
+  pub piece_is : piece ≡ front ++ byte ∷ back
+  pub costs : Costs streams front v mid old cache before
+  pub ends : CostsByteAtMost streams byte mid.0 cache last
+  pub cost_is : cost ≡ before + last
+
+abbrev pub CostsPieceAtMost : Streams → List ℕ → Option Link → Cache → ℕ → Type 0
+CostsPieceAtMost streams piece None old cost = cost ≡ 0
+CostsPieceAtMost streams piece (Some link) old cost = CostsAtMost streams piece (link, []) old cost
+
+-- where memory was refused to an event
+abbrev pub IsWorkAtMost : Event → State → Cache → ℕ → Type 0
+IsWorkAtMost (Feed name piece) s old work = work ≡ 0
+IsWorkAtMost (End name) s old work = work ≡ 0
+IsWorkAtMost (Open c) s old work = work ≡ 0
+IsWorkAtMost (Bytes c piece) s old work = CostsPieceAtMost s.streams piece (link_of c s.connections) old work
+IsWorkAtMost (Shut c) s old work = work ≡ 0
+
+-- ---- a hub: its state, its cache, and the work of the last event
+pub record Whole : Type 0 where
+  pub state : State
+  pub cache : Cache
+  pub work : ℕ
+
+-- after an event the work is that number, which stays at the greatest; where memory was refused no more than that
+pub record IsWorked (old : Whole) (e : Event) (o : Outcome) (new : Whole) : Type 0 where
+  pub work : o ≢ Err Memory → (cost : ℕ) × IsWork e old.state old.cache new.cache cost × (new.work ≡ counted 0 cost)
+  pub most : o ≡ Err Memory → (cost : ℕ) × IsWorkAtMost e old.state old.cache cost × (new.work ≤ counted 0 cost)

@@ -1,0 +1,94 @@
+//! Connections by their numbers.
+
+ghost use Rattle.std.specs.Prelude.{◌≡◌, ◌≢◌, ◌==◌, ◌<◌, Ok, Err, None, IsOk, IfSome, length, position};
+ghost use Rattle.vp_hub.specs.declared.event.HubFault.TheVariants.{Memory};
+ghost use Rattle.vp_hub.specs.Hub.{IsPlaceOf, link_of, without, opened, shut};
+
+use crate::event::{HubFault, Reply};
+use crate::source::nothing;
+use std::alloc::Global;
+use vp_heads::Buffer;
+
+/// What is kept of a connection.
+#[derive(Drop)]
+pub struct Link {
+    /// What it sent behind the last whole head.
+    pub pending: Buffer,
+    /// Whether the hub closed it.
+    pub closed: bool,
+}
+
+/// A connection with its number.
+#[derive(Drop)]
+pub struct Connection {
+    /// Its number.
+    pub number: u32,
+    /// What is kept of it.
+    pub link: Link,
+}
+
+fn place_of(connections: &[Connection], number: u32) -> Option<usize>
+    ensures place { result ≡ position (λ x. x.number == number) connections.now }
+    ensures there { IfSome result (λ i. i < length connections.now) }
+{
+    connections.iter().position(|x| x.number == number)
+}
+
+/// The place of the connection of a number.
+pub(crate) fn find(connections: &[Connection], number: u32) -> Option<usize>
+    ensures none { result ≡ None → link_of number connections.now ≡ None }
+    ensures some { IfSome result (IsPlaceOf number connections.now) }
+{
+    place_of(connections, number)
+}
+
+/// A connection that comes.
+pub(crate) fn open_one(
+    alloc: Global,
+    connections: &mut Vec<Connection>,
+    number: u32,
+) -> Result<Reply, HubFault>
+    ensures memory { result ≡ Err Memory → connections.new.items ≡ connections.old.items }
+    ensures fine { result ≡ Err Memory → IsOk (opened number connections.old.items (link_of number connections.old.items)).1 }
+    ensures step { result ≢ Err Memory → (connections.new.items, result)
+        ≡ opened number connections.old.items (link_of number connections.old.items) }
+{
+    if let Some(_) = find(connections, number) {
+        return Err(HubFault::AlreadyOpen);
+    }
+    if connections.len() >= 64 {
+        return Err(HubFault::TooMany);
+    }
+    let link = Link {
+        pending: Buffer::new(alloc),
+        closed: false,
+    };
+    let Ok(()) = connections.push(Connection { number, link }) else {
+        return Err(HubFault::Memory);
+    };
+    Ok(nothing(alloc))
+}
+
+/// A connection that goes.
+pub(crate) fn shut_one(
+    alloc: Global,
+    connections: &mut Vec<Connection>,
+    number: u32,
+) -> Result<Reply, HubFault>
+    ensures memory { result ≢ Err Memory }
+    ensures step { (connections.new.items, result)
+        ≡ shut number connections.old.items (link_of number connections.old.items) }
+{
+    let Some(_) = find(connections, number) else {
+        return Err(HubFault::UnknownConn);
+    };
+    remove_all(connections, number);
+    Ok(nothing(alloc))
+}
+
+/// Leaves each other connection.
+fn remove_all(connections: &mut Vec<Connection>, number: u32)
+    ensures { connections.new.items ≡ without number connections.old.items }
+{
+    connections.retain(|x| x.number != number);
+}

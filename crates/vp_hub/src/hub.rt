@@ -1,0 +1,211 @@
+//! The hub.
+
+ghost use Rattle.std.specs.Prelude.{◌≡◌, ◌≢◌, ◌↔◌, ◌≤◌, ◌<◌, ◌+◌, ◌++◌, ◌∷◌, [], ℕ, List, true, false, Some, Ok, Err, IfOk, OnOk, OnErr, length, vec_len};
+ghost use Rattle.std.specs.Vec.{vec_capacity};
+ghost use Rattle.vp_stream.specs.Seeking.{counted};
+ghost use Rattle.vp_cache.specs.Kept.{empty};
+ghost use Rattle.vp_hub.specs.declared.event.HubFault.TheVariants.{Memory};
+ghost use Rattle.vp_hub.specs.declared.names.NewFault.{NewFault};
+ghost use Rattle.vp_hub.specs.Heads.{AllKeepPartial};
+ghost use Rattle.vp_hub.specs.Names.{are_names as may_be_names};
+ghost use Rattle.vp_hub.specs.Hub.{AreKept, IsStep, State, fresh, link_of, with_link, Gets, Asks, is_open};
+ghost use Rattle.vp_hub.specs.Pieces.{AreAcceptedPieces};
+ghost use Rattle.vp_hub.specs.View.{IsRun, IsIsolated};
+ghost use Rattle.vp_hub.specs.Work.{Costs, CostsAtMost, CostsPiece, CostsPieceAtMost, IsWorked};
+
+use crate::connection::{Connection, Link, find, open_one, shut_one};
+use crate::event::{Event, HubFault, Reply};
+use crate::names::{NewFault, are_names};
+use crate::pictures::Pictures;
+use crate::serve::serve;
+use crate::shelf::Shelf;
+use std::alloc::{AllocError, Global};
+use std::marker::Model;
+use vp_base::{ByteList, Limits};
+use vp_cache::Cache;
+use vp_heads::Buffer;
+
+/// Streams that grow, and connections that ask for their pictures.
+#[derive(Drop)]
+pub struct Hub {
+    alloc: Global,
+    shelf: Shelf,
+    connections: Vec<Connection>,
+    pictures: Pictures,
+}
+
+impl Model for Hub {
+    ghost use Rattle.vp_hub.specs.Hub.{AreKept};
+    ghost use Rattle.vp_hub.specs.Work.{Whole};
+
+    ghost Value = { Whole };
+
+    ghost view = { λ h. record {
+      state = record { streams = h.shelf; connections = h.connections.items };
+      cache = h.pictures.cache;
+      work = h.pictures.work;
+    } };
+
+    // Whatever is kept is what the streams answer.
+    ghost invariant = { λ h. AreKept h.shelf.sources h.pictures.cache.entries };
+}
+
+impl Hub {
+    /// A hub of streams of these names, with no bytes and no connections. Of the limits, `cache` is how many
+    /// pictures are kept.
+    pub fn new(alloc: Global, names: Vec<ByteList>, limits: Limits) -> Result<Hub, NewFault>
+        ensures names { (result ≡ Err NewFault.Names) ↔ (may_be_names names.items ≡ false) }
+        ensures hub { IfOk result (λ h. h ≡ record { state = fresh names.items limits; cache = empty limits.cache; work = 0 }) }
+        ensures partial { IfOk result (λ h. AllKeepPartial h.state) }
+    {
+        if !are_names(&names) {
+            return Err(NewFault::Names);
+        }
+        let Ok(shelf) = Shelf::new(alloc, names, limits) else {
+            return Err(NewFault::Memory);
+        };
+        let Ok(cache) = Cache::new(alloc, limits.cache) else {
+            return Err(NewFault::Memory);
+        };
+        Ok(Hub {
+            alloc,
+            shelf,
+            connections: Vec::new(alloc),
+            pictures: Pictures { cache, work: 0 },
+        })
+    }
+
+    /// One event.
+    pub fn step(&mut self, event: &Event) -> Result<Reply, HubFault>
+        ensures step { IsStep self.old.state event.now result self.new.state }
+        ensures partial { AllKeepPartial self.old.state → AllKeepPartial self.new.state }
+        ensures worked { IsWorked self.old event.now result self.new }
+    {
+        self.turn(event)
+    }
+
+    /// How many packets were decoded for the last event, refused or not. It stays at the greatest number.
+    pub fn work(&self) -> u64
+        ensures { result ≡ self.now.work }
+    {
+        self.pictures.work
+    }
+
+    // One event, by its kind.
+    fn turn(&mut self, event: &Event) -> Result<Reply, HubFault>
+        ensures step { IsStep self.old.state event.now result self.new.state }
+        ensures worked { IsWorked self.old event.now result self.new }
+    {
+        self.pictures.work = 0;
+        match event {
+            Event::Feed(name, piece) => {
+                self.shelf
+                    .feed(self.alloc, name.as_slice(), piece.as_slice())
+            }
+            Event::End(name) => self.shelf.end(self.alloc, name.as_slice()),
+            Event::Open(number) => open_one(self.alloc, &mut self.connections, *number),
+            Event::Bytes(number, piece) => ask(
+                self.alloc,
+                &self.shelf,
+                &mut self.pictures,
+                &mut self.connections,
+                *number,
+                piece.as_slice(),
+            ),
+            Event::Shut(number) => shut_one(self.alloc, &mut self.connections, *number),
+        }
+    }
+
+    /// A list of events, the room for their results taken first.
+    pub fn run(&mut self, events: &[Event]) -> Result<Vec<Result<Reply, HubFault>>, AllocError>
+        ensures run { IfOk result (λ results. IsRun self.old.state events.now results.items self.new.state) }
+        ensures isolated { IfOk result (λ results. IsIsolated self.old.state events.now results.items self.new.state) }
+        ensures pieces { IfOk result (λ results. AreAcceptedPieces self.old.state events.now results.items self.new.state) }
+        ensures err { OnErr result (self.new ≡ self.old) }
+    {
+        let mut results = Vec::with_capacity(self.alloc, events.len())?;
+        for event in events {
+            let res = self.step(event);
+            put(&mut results, res);
+        }
+        Ok(results)
+    }
+}
+
+/// Puts a result where there is room.
+fn put(results: &mut Vec<Result<Reply, HubFault>>, res: Result<Reply, HubFault>)
+    requires { vec_len results.old < vec_capacity results.old }
+    ensures items { results.new.items ≡ results.old.items ++ res ∷ [] }
+    ensures len { vec_len results.new ≡ vec_len results.old + 1 }
+    ensures room { vec_capacity results.old ≤ vec_capacity results.new }
+{
+    let Ok(()) = results.push(res) else {
+        unreachable!();
+    };
+}
+
+/// Bytes of a connection.
+fn ask(
+    alloc: Global,
+    shelf: &Shelf,
+    pictures: &mut Pictures,
+    connections: &mut Vec<Connection>,
+    number: u32,
+    piece: &[u8],
+) -> Result<Reply, HubFault>
+    requires kept { AreKept shelf.now.sources pictures.old.cache.entries }
+    requires idle { pictures.old.work ≡ 0 }
+    ensures kept { AreKept shelf.now.sources pictures.new.cache.entries }
+    ensures memory { result ≡ Err Memory → connections.new.items
+        ≡ with_link number (record { pending = []; closed = true }) connections.old.items }
+    ensures fine { result ≡ Err Memory → is_open (link_of number connections.old.items) ≡ true }
+    ensures step { result ≢ Err Memory →
+        Asks shelf.now number piece.now connections.old.items (link_of number connections.old.items) (connections.new.items, result) }
+    ensures work { result ≢ Err Memory → (cost : ℕ)
+        × CostsPiece shelf.now piece.now (link_of number connections.old.items) pictures.old.cache pictures.new.cache cost
+        × (pictures.new.work ≡ counted 0 cost) }
+    ensures most { result ≡ Err Memory → (cost : ℕ)
+        × CostsPieceAtMost shelf.now piece.now (link_of number connections.old.items) pictures.old.cache cost
+        × (pictures.new.work ≤ counted 0 cost) }
+{
+    let Some(place) = find(connections, number) else {
+        return Err(HubFault::UnknownConn);
+    };
+    answer(alloc, shelf, pictures, &mut connections[place].link, piece)
+}
+
+/// Bytes of the connection that is there.
+fn answer(
+    alloc: Global,
+    shelf: &Shelf,
+    pictures: &mut Pictures,
+    link: &mut Link,
+    piece: &[u8],
+) -> Result<Reply, HubFault>
+    requires kept { AreKept shelf.now.sources pictures.old.cache.entries }
+    requires idle { pictures.old.work ≡ 0 }
+    ensures kept { AreKept shelf.now.sources pictures.new.cache.entries }
+    ensures memory { result ≡ Err Memory → link.new ≡ record { pending = []; closed = true } }
+    ensures fine { result ≡ Err Memory → link.old.closed ≡ false }
+    ensures step { result ≢ Err Memory → Gets shelf.now piece.now link.old (link.new, result) }
+    ensures work { result ≢ Err Memory → (cost : ℕ)
+        × CostsPiece shelf.now piece.now (Some link.old) pictures.old.cache pictures.new.cache cost
+        × (pictures.new.work ≡ counted 0 cost) }
+    ensures most { result ≡ Err Memory → (cost : ℕ)
+        × CostsPieceAtMost shelf.now piece.now (Some link.old) pictures.old.cache cost
+        × (pictures.new.work ≤ counted 0 cost) }
+{
+    if link.closed {
+        return Err(HubFault::Failed);
+    }
+    let mut out = Buffer::new(alloc);
+    let Ok(()) = serve(alloc, shelf, pictures, piece, link, &mut out) else {
+        link.pending.clear();
+        link.closed = true;
+        return Err(HubFault::Memory);
+    };
+    Ok(Reply {
+        bytes: out.into_list(),
+        close: link.closed,
+    })
+}

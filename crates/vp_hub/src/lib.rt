@@ -1,0 +1,22 @@
+//! The core of the frame server: events in, replies out.
+#![tactic(auto)]
+
+mod connection;
+mod event;
+mod hub;
+mod laws;
+mod names;
+mod pages;
+mod pictures;
+mod serve;
+mod shelf;
+mod source;
+#[cfg(test)]
+mod tests;
+
+pub use connection::{Connection, Link};
+pub use event::{Event, HubFault, Reply};
+pub use hub::Hub;
+pub use laws::{answers_alike, cut_into_heads};
+pub use names::NewFault;
+pub use source::{Ending, Source};

@@ -1,0 +1,284 @@
+//! What is found for a request.
+
+ghost use Rattle.std.specs.Prelude.{◌≡◌, ◌≢◌, ◌≤◌, ◌++◌, ℕ, List, codes, decimal, Some, IfOk, OnOk, OnErr, slice_get};
+ghost use Rattle.std.specs.String.{string_bytes};
+ghost use Rattle.vp_y4m.specs.Text.{header_text};
+ghost use Rattle.vp_stream.specs.Stream.{refusal};
+ghost use Rattle.vp_stream.specs.Stream.{State as StreamState};
+ghost use Rattle.vp_stream.specs.Seeking.{Shown, told, counted};
+ghost use Rattle.vp_cache.specs.Kept.{AreAnswersOf};
+ghost use Rattle.vp_heads.specs.Replies.{Lines, reply_to};
+ghost use Rattle.vp_hub.specs.Pages.{IsReply, content_of, names_text, info_text, info_of, head_lines, state_by, front_by, picture_by, picture_of};
+ghost use Rattle.vp_hub.specs.Hub.{AreKept, lent_source};
+ghost use Rattle.vp_hub.specs.Work.{IsAfterAsked, IsAfterPicture, IsCost, IsMostCost, cost_of, picture_cost};
+
+use crate::pictures::Pictures;
+use crate::shelf::Shelf;
+use crate::source::{Ending, Source};
+use std::alloc::{AllocError, Global};
+use vp_base::{ByteList, Dim};
+use vp_heads::{Buffer, Request, Status, Wanted, put_error, put_faulted, put_lines, put_pixels};
+use vp_ivf::IvfHead;
+use vp_stream::Answer;
+
+/// Each name and a line feed.
+fn names_lines(alloc: Global, names: &[ByteList]) -> Result<Buffer, AllocError>
+    ensures { IfOk result (λ text. text ≡ names_text names.now) }
+{
+    let mut text = Buffer::new(alloc);
+    for name in names {
+        text.append(name.as_slice())?;
+        text.push(b'\n')?;
+    }
+    Ok(text)
+}
+
+/// The word for a stream's state.
+fn state_word(alloc: Global, source: &Source) -> Result<String, AllocError>
+    ensures { IfOk result (λ r. string_bytes r ≡ state_by source.now.end (refusal source.now.stream)) }
+{
+    match source.end {
+        Ending::Faulty(fault) => format!(in alloc; "{fault}"),
+        Ending::Good => format!(in alloc; "ended"),
+        Ending::Open => match source.stream.refusal() {
+            Some(fault) => format!(in alloc; "{fault}"),
+            None => format!(in alloc; "open"),
+        },
+    }
+}
+
+/// What a stream's head says, once it is good.
+fn head_text(alloc: Global, head: Option<IvfHead>) -> Result<String, AllocError>
+    ensures { IfOk result (λ r. string_bytes r ≡ head_lines head) }
+{
+    let Some(IvfHead { w, h, rate, scale }) = head else {
+        return Ok(String::new(alloc));
+    };
+    format!(in alloc; "size {w}x{h}\nrate {rate}/{scale}\n")
+}
+
+fn info_lines(alloc: Global, state: &str, count: u32, head: &str) -> Result<String, AllocError>
+    ensures { IfOk result (λ r. string_bytes r ≡ codes "state " ++ (state.now
+        ++ (codes "\npackets " ++ (decimal count ++ (codes "\n" ++ head.now))))) }
+{
+    format!(in alloc; "state {state}\npackets {count}\n{head}")
+}
+
+/// What is known of a stream.
+#[tactic(auto, unfolding(crate::specs::Pages::info_text))]
+fn info(alloc: Global, source: &Source) -> Result<String, AllocError>
+    ensures { IfOk result (λ r. string_bytes r ≡ info_text source.now) }
+{
+    let state = state_word(alloc, source)?;
+    let head = head_text(alloc, source.stream.head())?;
+    info_lines(alloc, state.as_str(), source.stream.count(), head.as_str())
+}
+
+fn put_info(
+    alloc: Global,
+    request: Request,
+    source: Option<&Source>,
+    out: &mut Buffer,
+) -> Result<(), AllocError>
+    ensures { OnOk result (out.new ≡ out.old ++ reply_to request (info_of (lent_source source.entry))) }
+{
+    let Some(source) = source else {
+        return put_error(alloc, request, Status::NotFound, out);
+    };
+    let text = info(alloc, source)?;
+    put_lines(alloc, request, text.as_bytes(), out)
+}
+
+fn put_names(
+    alloc: Global,
+    request: Request,
+    names: &[ByteList],
+    out: &mut Buffer,
+) -> Result<(), AllocError>
+    ensures { OnOk result (out.new ≡ out.old ++ reply_to request (Lines (names_text names.now))) }
+{
+    let text = names_lines(alloc, names)?;
+    put_lines(alloc, request, text.as_slice(), out)
+}
+
+/// The line of a Y4M file's header and that of its picture.
+#[tactic(auto, unfolding(vp_y4m::specs::Text::header_text))]
+fn video_front(alloc: Global, w: u16, h: u16, rate: u32, scale: u32) -> Result<String, AllocError>
+    ensures { IfOk result (λ r. string_bytes r ≡ header_text w h rate scale ++ codes "FRAME\n") }
+{
+    format!(in alloc; "YUV4MPEG2 W{w} H{h} F{rate}:{scale} Ip A0:0 C420jpeg\nFRAME\n")
+}
+
+/// What stands before a picture's I420.
+fn front_text(
+    alloc: Global,
+    video: bool,
+    head: Option<IvfHead>,
+    dim: Dim,
+) -> Result<String, AllocError>
+    ensures { IfOk result (λ r. string_bytes r ≡ front_by video head dim.w dim.h) }
+{
+    if !video {
+        return Ok(String::new(alloc));
+    }
+    match head {
+        Some(head) => video_front(alloc, dim.w, dim.h, head.rate, head.scale),
+        None => format!(in alloc; "FRAME\n"),
+    }
+}
+
+fn put_shown(
+    alloc: Global,
+    request: Request,
+    video: bool,
+    head: Option<IvfHead>,
+    dim: Dim,
+    pixels: &[u8],
+    out: &mut Buffer,
+) -> Result<(), AllocError>
+    ensures { OnOk result (out.new ≡ out.old ++ reply_to request (picture_by video head (Shown dim.w dim.h pixels.now))) }
+{
+    let front = front_text(alloc, video, head, dim)?;
+    put_pixels(alloc, request, front.as_bytes(), pixels, out)
+}
+
+fn put_answer(
+    alloc: Global,
+    request: Request,
+    video: bool,
+    head: Option<IvfHead>,
+    answer: &Answer,
+    out: &mut Buffer,
+) -> Result<(), AllocError>
+    ensures { OnOk result (out.new ≡ out.old ++ reply_to request (picture_by video head (told answer.now))) }
+{
+    match answer {
+        Answer::Shown(dim, pixels) => {
+            put_shown(alloc, request, video, head, *dim, pixels.as_slice(), out)
+        }
+        Answer::Fault(fault) => {
+            let name = format!(in alloc; "{fault}")?;
+            put_faulted(alloc, request, name.as_str(), out)
+        }
+        Answer::Hidden | Answer::NoPacket => put_error(alloc, request, Status::NotFound, out),
+    }
+}
+
+/// The reply to a request for packet `n` of the stream at a place. A picture that is kept is lent.
+fn put_picture(
+    alloc: Global,
+    source: &Source,
+    pictures: &mut Pictures,
+    request: Request,
+    video: bool,
+    place: usize,
+    n: u32,
+    out: &mut Buffer,
+) -> Result<(), AllocError>
+    requires { AreAnswersOf place source.now.stream pictures.old.cache.entries }
+    ensures content { OnOk result (out.new ≡ out.old ++ reply_to request (picture_of video (Some source.now) n)) }
+    ensures work { OnOk result (pictures.new.work ≡ counted pictures.old.work (picture_cost (Some source.now) place n pictures.old.cache)) }
+    ensures most { OnErr result (pictures.new.work ≤ counted pictures.old.work (picture_cost (Some source.now) place n pictures.old.cache)) }
+    ensures after { OnOk result (IsAfterPicture (Some source.now) place n pictures.old.cache pictures.new.cache) }
+    ensures kept { AreAnswersOf place source.now.stream pictures.new.cache.entries }
+    ensures others { (other : ℕ) (s : StreamState) → other ≢ place →
+        AreAnswersOf other s pictures.old.cache.entries → AreAnswersOf other s pictures.new.cache.entries }
+{
+    let _work = pictures.work;
+    let head = source.stream.head();
+    if let Some(kept) = pictures.cache.held(place, n) {
+        put_shown(
+            alloc,
+            request,
+            video,
+            head,
+            kept.dim(),
+            kept.as_slice(),
+            out,
+        )?;
+        pictures.cache.bring(place, n);
+        return Ok(());
+    }
+    let answer = pictures
+        .cache
+        .picture(place, &source.stream, n, &mut pictures.work)?;
+    put_answer(alloc, request, video, head, &answer, out)
+}
+
+/// The same, where there may be no such stream.
+fn put_picture_of(
+    alloc: Global,
+    shelf: &Shelf,
+    pictures: &mut Pictures,
+    request: Request,
+    video: bool,
+    place: usize,
+    n: u32,
+    out: &mut Buffer,
+) -> Result<(), AllocError>
+    requires { AreKept shelf.now.sources pictures.old.cache.entries }
+    ensures content { OnOk result (out.new ≡ out.old ++ reply_to request (picture_of video (slice_get shelf.now.sources place) n)) }
+    ensures work { OnOk result (pictures.new.work ≡ counted pictures.old.work (picture_cost (slice_get shelf.now.sources place) place n pictures.old.cache)) }
+    ensures most { OnErr result (pictures.new.work ≤ counted pictures.old.work (picture_cost (slice_get shelf.now.sources place) place n pictures.old.cache)) }
+    ensures after { OnOk result (IsAfterPicture (slice_get shelf.now.sources place) place n pictures.old.cache pictures.new.cache) }
+    ensures kept { AreKept shelf.now.sources pictures.new.cache.entries }
+{
+    let _work = pictures.work;
+    match shelf.source(place) {
+        Some(source) => put_picture(alloc, source, pictures, request, video, place, n, out),
+        None => put_error(alloc, request, Status::NotFound, out),
+    }
+}
+
+/// The reply to a request.
+fn put_content(
+    alloc: Global,
+    shelf: &Shelf,
+    pictures: &mut Pictures,
+    request: Request,
+    out: &mut Buffer,
+) -> Result<(), AllocError>
+    requires { AreKept shelf.now.sources pictures.old.cache.entries }
+    ensures content { OnOk result (out.new ≡ out.old ++ reply_to request (content_of shelf.now request.wanted)) }
+    ensures work { OnOk result (pictures.new.work ≡ counted pictures.old.work (cost_of shelf.now request.wanted pictures.old.cache)) }
+    ensures most { OnErr result (pictures.new.work ≤ counted pictures.old.work (cost_of shelf.now request.wanted pictures.old.cache)) }
+    ensures after { OnOk result (IsAfterAsked shelf.now request.wanted pictures.old.cache pictures.new.cache) }
+    ensures kept { AreKept shelf.now.sources pictures.new.cache.entries }
+{
+    let _work = pictures.work;
+    match request.wanted {
+        Wanted::Bad => put_error(alloc, request, Status::BadRequest, out),
+        Wanted::WrongMethod => put_error(alloc, request, Status::MethodNotAllowed, out),
+        Wanted::Missing => put_error(alloc, request, Status::NotFound, out),
+        Wanted::Streams => put_names(alloc, request, shelf.names(), out),
+        Wanted::Info(place) => put_info(alloc, request, shelf.source(place), out),
+        Wanted::Frame(place, n) => {
+            put_picture_of(alloc, shelf, pictures, request, false, place, n, out)
+        }
+        Wanted::Video(place, n) => {
+            put_picture_of(alloc, shelf, pictures, request, true, place, n, out)
+        }
+    }
+}
+
+/// Puts the reply to a head, and says whether it closes the connection.
+#[tactic(auto, unfolding(crate::specs::Pages::IsReply))]
+pub(crate) fn put_reply(
+    alloc: Global,
+    shelf: &Shelf,
+    pictures: &mut Pictures,
+    head: &[u8],
+    out: &mut Buffer,
+) -> Result<bool, AllocError>
+    requires { AreKept shelf.now.sources pictures.old.cache.entries }
+    ensures reply { IfOk result (λ close. (bytes : List ℕ) × IsReply shelf.now head.now (bytes, close) × (out.new ≡ out.old ++ bytes)) }
+    ensures work { OnOk result ((cost : ℕ) × IsCost shelf.now head.now pictures.old.cache pictures.new.cache cost
+        × (pictures.new.work ≡ counted pictures.old.work cost)) }
+    ensures most { OnErr result ((cost : ℕ) × IsMostCost shelf.now head.now pictures.old.cache cost
+        × (pictures.new.work ≤ counted pictures.old.work cost)) }
+    ensures kept { AreKept shelf.now.sources pictures.new.cache.entries }
+{
+    let request = shelf.read(head);
+    put_content(alloc, shelf, pictures, request, out)?;
+    Ok(request.closing)
+}

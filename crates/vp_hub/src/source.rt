@@ -1,0 +1,91 @@
+//! One stream of the hub.
+
+ghost use Rattle.std.specs.Prelude.{◌≡◌, ◌≢◌, Ok, Err, IsOk};
+ghost use Rattle.vp_hub.specs.declared.event.HubFault.TheVariants.{Memory};
+ghost use Rattle.vp_cache.specs.Streams.{IsGrown};
+ghost use Rattle.vp_hub.specs.Hub.{fed, ended, is_open_end, no_bytes};
+
+use crate::event::{HubFault, Reply};
+use std::alloc::Global;
+use vp_base::ByteList;
+use vp_cache::feeding_keeps_answers;
+use vp_ivf::{FeedError, FileFault};
+use vp_stream::Stream;
+
+/// What a stream said of its end.
+#[derive(Clone, Copy, Debug, PartialEq, Eq, Drop)]
+pub enum Ending {
+    /// The end isn't told.
+    Open,
+    /// It ended well.
+    Good,
+    /// It has this fault.
+    Faulty(FileFault),
+}
+
+/// A stream, and what it said of its end.
+#[derive(Drop)]
+pub struct Source {
+    /// The stream.
+    pub stream: Stream,
+    /// What it said of its end.
+    pub end: Ending,
+}
+
+/// Nothing to send.
+pub(crate) fn nothing(alloc: Global) -> Reply
+    ensures { result ≡ no_bytes }
+{
+    Reply {
+        bytes: ByteList::from_vec(Vec::new(alloc)),
+        close: false,
+    }
+}
+
+fn is_open(end: Ending) -> bool
+    ensures { result ≡ is_open_end end }
+{
+    matches!(end, Ending::Open)
+}
+
+/// A piece of the stream.
+pub(crate) fn feed_source(
+    alloc: Global,
+    source: &mut Source,
+    piece: &[u8],
+) -> Result<Reply, HubFault>
+    ensures memory { result ≡ Err Memory → source.new ≡ source.old }
+    ensures fine { result ≡ Err Memory → IsOk (fed piece.now source.old).1 }
+    ensures step { result ≢ Err Memory → (source.new, result) ≡ fed piece.now source.old }
+    ensures grown { IsGrown source.old.stream source.new.stream }
+{
+    feeding_keeps_answers();
+    if !is_open(source.end) {
+        return Err(HubFault::Ended);
+    }
+    match source.stream.refusal() {
+        Some(FileFault::Ended) => Err(HubFault::Ended),
+        Some(_) => Err(HubFault::Failed),
+        None => match source.stream.feed(piece) {
+            Err(FeedError::Memory) => Err(HubFault::Memory),
+            _ => Ok(nothing(alloc)),
+        },
+    }
+}
+
+/// The stream's end.
+pub(crate) fn end_source(alloc: Global, source: &mut Source) -> Result<Reply, HubFault>
+    ensures memory { result ≢ Err Memory }
+    ensures step { (source.new, result) ≡ ended source.old }
+    ensures grown { IsGrown source.old.stream source.new.stream }
+{
+    feeding_keeps_answers();
+    if !is_open(source.end) {
+        return Err(HubFault::Ended);
+    }
+    source.end = match source.stream.finish() {
+        Ok(()) => Ending::Good,
+        Err(fault) => Ending::Faulty(fault),
+    };
+    Ok(nothing(alloc))
+}

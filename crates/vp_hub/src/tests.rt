@@ -1,0 +1,324 @@
+//! Streams and requests written by hand; what is wanted follows from the standards' own rules.
+
+use super::*;
+use std::alloc::{AllocError, Global};
+use std::test::Fail;
+use vp_base::{ByteList, Limits};
+
+// The head of an IVF file of 16 columns and 16 rows, 30 pictures a second.
+const HEAD: [u8; 32] = [
+    0x44, 0x4b, 0x49, 0x46, 0, 0, 0x20, 0, 0x56, 0x50, 0x38, 0x30, 0x10, 0, 0x10, 0, 0x1e, 0, 0, 0,
+    1, 0, 0, 0, 1, 0, 0, 0, 0, 0, 0, 0,
+];
+
+// A key packet of 16 by 16 pixels without a coefficient, and the twelve bytes before it.
+const KEY: [u8; 22] = [
+    0x0a, 0, 0, 0, 0, 0, 0, 0, 0, 0, 0, 0, 0x10, 0, 0, 0x9d, 0x01, 0x2a, 0x10, 0, 0x10, 0,
+];
+
+// An inter packet that changes nothing, and the twelve bytes before it.
+const INTER: [u8; 15] = [3, 0, 0, 0, 0, 0, 0, 0, 0, 0, 0, 0, 0x11, 0, 0];
+
+// The same, not to be shown.
+const HIDDEN: [u8; 15] = [3, 0, 0, 0, 0, 0, 0, 0, 0, 0, 0, 0, 0x01, 0, 0];
+
+// The lines before a whole picture.
+const LINES: &[u8] =
+    b"HTTP/1.1 200 OK\r\nContent-Type: application/octet-stream\r\nContent-Length: 384\r\n\r\n";
+
+const NOT_FOUND: &[u8] =
+    b"HTTP/1.1 404 Not Found\r\nContent-Type: text/plain\r\nContent-Length: 10\r\n\r\nNot Found\n";
+
+fn list(alloc: Global, bytes: &[u8]) -> Result<ByteList, AllocError> {
+    Ok(ByteList::from_vec(bytes.to_vec(alloc)?))
+}
+
+/// A hub of one stream `a` with these packets, which keeps so many pictures; connection 1 stands.
+fn hub_of(alloc: Global, packets: &[&[u8]], cache: u32) -> Result<Option<Hub>, AllocError> {
+    let mut names = Vec::new(alloc);
+    names.push(list(alloc, b"a")?)?;
+    let Some(limits) = Limits::new(16384, 16384, 100, cache) else {
+        return Ok(None);
+    };
+    let Ok(mut hub) = Hub::new(alloc, names, limits) else {
+        return Ok(None);
+    };
+    let _ = hub.step(&Event::Open(1));
+    for packet in packets {
+        let _ = hub.step(&Event::Feed(list(alloc, b"a")?, list(alloc, packet)?));
+    }
+    Ok(Some(hub))
+}
+
+/// Whether a connection's bytes are answered by these, and the connection stays open, or is closed.
+fn answers(
+    alloc: Global,
+    hub: &mut Hub,
+    number: u32,
+    sent: &[u8],
+    wanted: &[u8],
+    close: bool,
+) -> Result<bool, AllocError> {
+    match hub.step(&Event::Bytes(number, list(alloc, sent)?)) {
+        Ok(reply) => Ok(reply.bytes.as_slice() == wanted && reply.close == close),
+        Err(_) => Ok(false),
+    }
+}
+
+/// The picture of the key packet: luma rows 0 to 3 are 128, rows 4 to 15 are 129, colour is 128.
+fn key_reply(alloc: Global) -> Result<Vec<u8>, AllocError> {
+    let mut reply = LINES.to_vec(alloc)?;
+    reply.extend_from_slice(&[128; 64])?;
+    reply.extend_from_slice(&[129; 192])?;
+    reply.extend_from_slice(&[128; 128])?;
+    Ok(reply)
+}
+
+/// The picture of the inter packet behind it: 128 everywhere.
+fn inter_reply(alloc: Global) -> Result<Vec<u8>, AllocError> {
+    let mut reply = LINES.to_vec(alloc)?;
+    reply.extend_from_slice(&[128; 384])?;
+    Ok(reply)
+}
+
+/// Whether connection 1 of a hub of one stream with these packets is answered so: what it sends, what is wanted, and
+/// whether it is closed behind that.
+fn talk(
+    alloc: Global,
+    packets: &[&[u8]],
+    turns: &[(&[u8], &[u8], bool)],
+) -> Result<bool, AllocError> {
+    let Some(mut hub) = hub_of(alloc, packets, 16)? else {
+        return Ok(false);
+    };
+    for (sent, wanted, close) in turns {
+        if !answers(alloc, &mut hub, 1, sent, wanted, *close)? {
+            return Ok(false);
+        }
+    }
+    Ok(true)
+}
+
+/// Whether packet 0 of the stream is answered by its picture, and packet 9 by none.
+fn serves_one(alloc: Global) -> Result<bool, AllocError> {
+    let key = key_reply(alloc)?;
+    talk(
+        alloc,
+        &[&HEAD, &KEY],
+        &[
+            (b"GET /s/a/frame/0 HTTP/1.1\r\nHost: x\r\n\r\n", &key, false),
+            (
+                b"GET /s/a/frame/9 HTTP/1.1\r\nHost: x\r\n\r\n",
+                NOT_FOUND,
+                false,
+            ),
+        ],
+    )
+}
+
+#[test]
+fn serve_one_frame(rt: HostRuntime) -> Result<(), Fail> {
+    assert!(rt; serves_one(rt.alloc())?);
+    Ok(())
+}
+
+#[test]
+fn hidden_packet(rt: HostRuntime) -> Result<(), Fail> {
+    let sent = b"GET /s/a/frame/1 HTTP/1.1\r\nHost: x\r\n\r\n";
+    assert!(rt;
+        talk(
+            rt.alloc(),
+            &[&HEAD, &KEY, &HIDDEN],
+            &[(sent, NOT_FOUND, false)]
+        )?
+    );
+    Ok(())
+}
+
+/// Whether a frame is answered so, and with so much work.
+fn works(
+    alloc: Global,
+    hub: &mut Hub,
+    number: u32,
+    sent: &[u8],
+    wanted: &[u8],
+    work: u64,
+) -> Result<bool, AllocError> {
+    Ok(answers(alloc, hub, number, sent, wanted, false)? && hub.work() == work)
+}
+
+/// Frames 3, 0 and 3 over two connections, the last with so much work.
+fn asks_three(alloc: Global, cache: u32, last: u64) -> Result<bool, AllocError> {
+    let Some(mut hub) = hub_of(alloc, &[&HEAD, &KEY, &INTER, &KEY, &INTER], cache)? else {
+        return Ok(false);
+    };
+    let _ = hub.step(&Event::Open(2));
+    let key = key_reply(alloc)?;
+    let inter = inter_reply(alloc)?;
+    let third = b"GET /s/a/frame/3 HTTP/1.1\r\nHost: x\r\n\r\n";
+    let first = b"GET /s/a/frame/0 HTTP/1.1\r\nHost: x\r\n\r\n";
+    Ok(
+        works(alloc, &mut hub, 1, third, &inter, 2)?
+            && works(alloc, &mut hub, 2, first, &key, 1)?
+            && works(alloc, &mut hub, 1, third, &inter, last)?,
+    )
+}
+
+#[test]
+fn frames_out_of_order(rt: HostRuntime) -> Result<(), Fail> {
+    assert!(rt; asks_three(rt.alloc(), 1, 2)? && asks_three(rt.alloc(), 2, 0)?);
+    Ok(())
+}
+
+#[test]
+fn packet_fault_served(rt: HostRuntime) -> Result<(), Fail> {
+    let sent = b"GET /s/a/frame/1 HTTP/1.1\r\nHost: x\r\n\r\n";
+    let wanted =
+        b"HTTP/1.1 422 Unprocessable Entity\r\nContent-Type: text/plain\r\nContent-Length: 12\r\n\r\nNoReference\n";
+    assert!(rt;
+        talk(
+            rt.alloc(),
+            &[&HEAD, &INTER, &INTER],
+            &[(sent, wanted, false)]
+        )?
+    );
+    Ok(())
+}
+
+#[test]
+fn method_and_host_refused(rt: HostRuntime) -> Result<(), Fail> {
+    let post = b"POST /streams HTTP/1.1\r\nHost: x\r\n\r\n";
+    let wrong =
+        b"HTTP/1.1 405 Method Not Allowed\r\nContent-Type: text/plain\r\nContent-Length: 19\r\nAllow: GET, HEAD\r\n\r\nMethod Not Allowed\n";
+    let no_host = b"GET /streams HTTP/1.1\r\n\r\nGET /streams HTTP/1.1\r\nHost: x\r\n\r\n";
+    let bad =
+        b"HTTP/1.1 400 Bad Request\r\nContent-Type: text/plain\r\nContent-Length: 12\r\nConnection: close\r\n\r\nBad Request\n";
+    assert!(rt;
+        talk(
+            rt.alloc(),
+            &[&HEAD],
+            &[(post, wrong, false), (no_host, bad, true)]
+        )?
+    );
+    Ok(())
+}
+
+fn is_refused(answer: &Result<Reply, HubFault>, fault: HubFault) -> bool {
+    match answer {
+        Ok(_) => false,
+        Err(found) => *found == fault,
+    }
+}
+
+/// Whether a second connection 1 is refused, and a 65th one.
+fn refuses_connections(hub: &mut Hub) -> bool {
+    for number in 2..65 {
+        let _ = hub.step(&Event::Open(number));
+    }
+    is_refused(&hub.step(&Event::Open(1)), HubFault::AlreadyOpen)
+        && is_refused(&hub.step(&Event::Open(65)), HubFault::TooMany)
+}
+
+fn refuses_events(alloc: Global) -> Result<bool, AllocError> {
+    let Some(mut hub) = hub_of(alloc, &[], 16)? else {
+        return Ok(false);
+    };
+    let feed = Event::Feed(list(alloc, b"b")?, list(alloc, &KEY)?);
+    Ok(is_refused(&hub.step(&feed), HubFault::UnknownStream) && refuses_connections(&mut hub))
+}
+
+#[test]
+fn settings_and_events_refused(rt: HostRuntime) -> Result<(), Fail> {
+    assert!(rt; refuses_events(rt.alloc())?);
+    Ok(())
+}
+
+#[test]
+fn head_too_long(rt: HostRuntime) -> Result<(), Fail> {
+    let wanted =
+        b"HTTP/1.1 431 Request Header Fields Too Large\r\nContent-Type: text/plain\r\nContent-Length: 32\r\nConnection: close\r\n\r\nRequest Header Fields Too Large\n";
+    assert!(rt;
+        talk(
+            rt.alloc(),
+            &[],
+            &[(&[b'x'; 8191], b"", false), (b"x", wanted, true)]
+        )?
+    );
+    Ok(())
+}
+
+fn fed_between(alloc: Global) -> Result<bool, AllocError> {
+    let Some(mut hub) = hub_of(alloc, &[&HEAD], 16)? else {
+        return Ok(false);
+    };
+    let key = key_reply(alloc)?;
+    let sent = b"GET /s/a/frame/0 HTTP/1.1\r\nHost: x\r\n\r\n";
+    let before = answers(alloc, &mut hub, 1, sent, NOT_FOUND, false)?;
+    let begun = answers(alloc, &mut hub, 1, &sent[..37], b"", false)?;
+    let _ = hub.step(&Event::Feed(list(alloc, b"a")?, list(alloc, &KEY)?));
+    Ok(before && begun && answers(alloc, &mut hub, 1, &sent[37..], &key, false)?)
+}
+
+#[test]
+fn feed_between_bytes(rt: HostRuntime) -> Result<(), Fail> {
+    assert!(rt; fed_between(rt.alloc())?);
+    Ok(())
+}
+
+#[test]
+fn byte_ranges(rt: HostRuntime) -> Result<(), Fail> {
+    let middle = b"GET /s/a/frame/0 HTTP/1.1\r\nHost: x\r\nRange: bytes=62-65\r\n\r\n";
+    let four =
+        b"HTTP/1.1 206 Partial Content\r\nContent-Type: application/octet-stream\r\nContent-Length: 4\r\nContent-Range: bytes 62-65/384\r\n\r\n\x80\x80\x81\x81";
+    let last = b"GET /s/a/frame/0 HTTP/1.1\r\nHost: x\r\nRange: bytes=-2\r\n\r\n";
+    let two =
+        b"HTTP/1.1 206 Partial Content\r\nContent-Type: application/octet-stream\r\nContent-Length: 2\r\nContent-Range: bytes 382-383/384\r\n\r\n\x80\x80";
+    let behind = b"GET /s/a/frame/0 HTTP/1.1\r\nHost: x\r\nRange: bytes=384-\r\n\r\n";
+    let none =
+        b"HTTP/1.1 416 Range Not Satisfiable\r\nContent-Type: text/plain\r\nContent-Length: 22\r\nContent-Range: bytes */384\r\n\r\nRange Not Satisfiable\n";
+    assert!(rt;
+        talk(
+            rt.alloc(),
+            &[&HEAD, &KEY],
+            &[
+                (middle, four, false),
+                (last, two, false),
+                (behind, none, false)
+            ]
+        )?
+    );
+    Ok(())
+}
+
+fn whole_for_other_ranges(alloc: Global) -> Result<bool, AllocError> {
+    let key = key_reply(alloc)?;
+    let back = b"GET /s/a/frame/0 HTTP/1.1\r\nHost: x\r\nRange: bytes=5-2\r\n\r\n";
+    let two = b"GET /s/a/frame/0 HTTP/1.1\r\nHost: x\r\nRange: bytes=0-1,4-5\r\n\r\n";
+    talk(
+        alloc,
+        &[&HEAD, &KEY],
+        &[(back, &key, false), (two, &key, false)],
+    )
+}
+
+#[test]
+fn other_ranges(rt: HostRuntime) -> Result<(), Fail> {
+    assert!(rt; whole_for_other_ranges(rt.alloc())?);
+    Ok(())
+}
+
+#[test]
+fn head_requests(rt: HostRuntime) -> Result<(), Fail> {
+    let there = b"HEAD /s/a/frame/0 HTTP/1.1\r\nHost: x\r\n\r\n";
+    let not_there = b"HEAD /s/a/frame/9 HTTP/1.1\r\nHost: x\r\n\r\n";
+    let wanted =
+        b"HTTP/1.1 404 Not Found\r\nContent-Type: text/plain\r\nContent-Length: 10\r\n\r\n";
+    assert!(rt;
+        talk(
+            rt.alloc(),
+            &[&HEAD, &KEY],
+            &[(there, LINES, false), (not_there, wanted, false)]
+        )?
+    );
+    Ok(())
+}
