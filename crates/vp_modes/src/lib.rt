@@ -3,15 +3,19 @@
 
 mod contexts;
 mod entry;
+mod laws;
 mod map;
 mod reading;
 mod segment;
+mod writing;
 
 pub use entry::Modes;
+pub use laws::what_is_read_can_be_written;
 pub use map::ModeMap;
 pub use reading::read_modes;
 pub use segment::Segment;
 pub use vp_base::Place;
+pub use writing::write_modes;
 
 #[cfg(test)]
 mod tests;

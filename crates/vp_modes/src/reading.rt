@@ -126,7 +126,7 @@ fn read_chroma(header: &Header, d: &mut BoolDecoder) -> ChromaMode
 
 /// The probabilities of the mode of subblock k of the macroblock at a place, whose subblocks before k are in found.
 #[tactic(auto, unfolding(crate::specs::Modes::sub_probabilities))]
-fn probabilities_of(
+pub(crate) fn probabilities_of(
     header: &Header,
     map: &ModeMap,
     place: Place,
