@@ -2,6 +2,8 @@
 #![tactic(auto)]
 
 mod connection;
+#[cfg(test)]
+mod connection_tests;
 mod event;
 mod hub;
 mod laws;

@@ -22,6 +22,9 @@ const INTER: [u8; 15] = [3, 0, 0, 0, 0, 0, 0, 0, 0, 0, 0, 0, 0x11, 0, 0];
 // The same, not to be shown.
 const HIDDEN: [u8; 15] = [3, 0, 0, 0, 0, 0, 0, 0, 0, 0, 0, 0, 0x01, 0, 0];
 
+// A packet without a byte, and the twelve bytes before it.
+const EMPTY: [u8; 12] = [0, 0, 0, 0, 0, 0, 0, 0, 0, 0, 0, 0];
+
 // The lines before a whole picture.
 const LINES: &[u8] =
     b"HTTP/1.1 200 OK\r\nContent-Type: application/octet-stream\r\nContent-Length: 384\r\n\r\n";
@@ -29,7 +32,7 @@ const LINES: &[u8] =
 const NOT_FOUND: &[u8] =
     b"HTTP/1.1 404 Not Found\r\nContent-Type: text/plain\r\nContent-Length: 10\r\n\r\nNot Found\n";
 
-fn list(alloc: Global, bytes: &[u8]) -> Result<ByteList, AllocError> {
+pub(crate) fn list(alloc: Global, bytes: &[u8]) -> Result<ByteList, AllocError> {
     Ok(ByteList::from_vec(bytes.to_vec(alloc)?))
 }
 
@@ -320,5 +323,92 @@ fn head_requests(rt: HostRuntime) -> Result<(), Fail> {
             &[(there, LINES, false), (not_there, wanted, false)]
         )?
     );
+    Ok(())
+}
+
+/// The picture before a packet without a byte, served again: two packets are decoded for it.
+fn repeats_the_picture(alloc: Global) -> Result<bool, AllocError> {
+    let Some(mut hub) = hub_of(alloc, &[&HEAD, &KEY, &EMPTY], 16)? else {
+        return Ok(false);
+    };
+    let key = key_reply(alloc)?;
+    let sent = b"GET /s/a/frame/1 HTTP/1.1\r\nHost: x\r\n\r\n";
+    works(alloc, &mut hub, 1, sent, &key, 2)
+}
+
+#[test]
+fn empty_packets(rt: HostRuntime) -> Result<(), Fail> {
+    assert!(rt; repeats_the_picture(rt.alloc())?);
+    Ok(())
+}
+
+/// A picture as a file of one frame.
+fn serves_video(alloc: Global) -> Result<bool, AllocError> {
+    let mut wanted =
+        b"HTTP/1.1 200 OK\r\nContent-Type: application/octet-stream\r\nContent-Length: 431\r\n\r\nYUV4MPEG2 W16 H16 F30:1 Ip A0:0 C420jpeg\nFRAME\n".to_vec(
+            alloc,
+        )?;
+    wanted.extend_from_slice(&[128; 64])?;
+    wanted.extend_from_slice(&[129; 192])?;
+    wanted.extend_from_slice(&[128; 128])?;
+    let sent = b"GET /s/a/y4m/0 HTTP/1.1\r\nHost: x\r\n\r\n";
+    talk(alloc, &[&HEAD, &KEY], &[(sent, &wanted, false)])
+}
+
+#[test]
+fn a_picture_as_video(rt: HostRuntime) -> Result<(), Fail> {
+    assert!(rt; serves_video(rt.alloc())?);
+    Ok(())
+}
+
+/// A stream that goes on, and one that met a fault in its head.
+#[test]
+fn states_of_streams(rt: HostRuntime) -> Result<(), Fail> {
+    let sent = b"GET /s/a/info HTTP/1.1\r\nHost: x\r\n\r\n";
+    let open =
+        b"HTTP/1.1 200 OK\r\nContent-Type: text/plain\r\nContent-Length: 42\r\n\r\nstate open\npackets 1\nsize 16x16\nrate 30/1\n";
+    let fault =
+        b"HTTP/1.1 200 OK\r\nContent-Type: text/plain\r\nContent-Length: 26\r\n\r\nstate Signature\npackets 0\n";
+    assert!(rt; talk(rt.alloc(), &[&HEAD, &KEY], &[(sent, open, false)])?);
+    assert!(rt; talk(rt.alloc(), &[&[b'x'; 32]], &[(sent, fault, false)])?);
+    Ok(())
+}
+
+/// Whether a hub of streams of these names is refused for them.
+fn refuses_names(alloc: Global, wanted: &[&[u8]]) -> Result<bool, AllocError> {
+    let mut names = Vec::new(alloc);
+    for name in wanted {
+        names.push(list(alloc, name)?)?;
+    }
+    match Hub::new(alloc, names, Limits::usual()) {
+        Ok(_) => Ok(false),
+        Err(fault) => Ok(fault == NewFault::Names),
+    }
+}
+
+/// None, an empty one, a capital, one of 33 bytes, and one that stands twice; one of 32 bytes may be.
+#[test]
+fn names_refused(rt: HostRuntime) -> Result<(), Fail> {
+    let alloc = rt.alloc();
+    assert!(rt; refuses_names(alloc, &[])? && refuses_names(alloc, &[b""])?);
+    assert!(rt; refuses_names(alloc, &[b"A"])? && refuses_names(alloc, &[&[b'a'; 33]])?);
+    assert!(rt; refuses_names(alloc, &[b"a", b"b", b"a"])?);
+    assert!(rt; !refuses_names(alloc, &[&[b'a'; 32], b"0-_"])?);
+    Ok(())
+}
+
+/// Whether the cache is filled: a second request for a picture decodes nothing.
+fn fills_the_cache(alloc: Global) -> Result<bool, AllocError> {
+    let Some(mut hub) = hub_of(alloc, &[&HEAD, &KEY, &INTER], 2)? else {
+        return Ok(false);
+    };
+    let inter = inter_reply(alloc)?;
+    let sent = b"GET /s/a/frame/1 HTTP/1.1\r\nHost: x\r\n\r\n";
+    Ok(works(alloc, &mut hub, 1, sent, &inter, 2)? && works(alloc, &mut hub, 1, sent, &inter, 0)?)
+}
+
+#[test]
+fn cache_is_filled(rt: HostRuntime) -> Result<(), Fail> {
+    assert!(rt; fills_the_cache(rt.alloc())?);
     Ok(())
 }
