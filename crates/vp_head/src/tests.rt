@@ -325,3 +325,27 @@ fn headers_read_back(rt: HostRuntime) -> Result<(), Fail> {
     assert!(rt; parts_of(&inter.probabilities) == ([255; 4], [255; 3], [[254; 19]; 2]));
     Ok(())
 }
+
+fn is_told_as(alloc: Global, fault: PacketFault, name: &str) -> Result<bool, Fail> {
+    Ok(format!(in alloc; "{fault}")?.as_str() == name)
+}
+
+/// The faults by their names, a partition with its number.
+#[test]
+fn names_of_packet_faults(rt: HostRuntime) -> Result<(), Fail> {
+    let names = [
+        (PacketFault::Truncated, "Truncated"),
+        (PacketFault::Version, "Version"),
+        (PacketFault::StartCode, "StartCode"),
+        (PacketFault::Size, "Size"),
+        (PacketFault::TooLarge, "TooLarge"),
+        (PacketFault::NoReference, "NoReference"),
+        (PacketFault::FirstPartition, "FirstPartition"),
+        (PacketFault::PartitionTable, "PartitionTable"),
+        (PacketFault::Partition(2), "Partition 2"),
+    ];
+    for (fault, name) in names {
+        assert!(rt; is_told_as(rt.alloc(), fault, name)?);
+    }
+    Ok(())
+}

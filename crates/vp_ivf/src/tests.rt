@@ -2,6 +2,7 @@ ghost use Rattle.std.specs.Prelude.{◌<◌};
 
 use super::*;
 use std::alloc::Global;
+use std::test::Fail;
 use vp_base::{Counted, Dim, FailAt, Limits};
 
 // A file of one packet, 16 columns and 16 rows, whose frame is an empty key frame of ten bytes.
@@ -197,4 +198,24 @@ fn fails_at_each_write(rt: HostRuntime) {
     assert!(rt; fails_after(rt.alloc(), dim, 0, &[]));
     assert!(rt; fails_after(rt.alloc(), dim, 1, &FILE[..32]));
     assert!(rt; fails_after(rt.alloc(), dim, 2, &FILE[..44]));
+}
+
+fn is_told_as(alloc: Global, fault: FileFault, name: &str) -> Result<bool, Fail> {
+    Ok(format!(in alloc; "{fault}")?.as_str() == name)
+}
+
+#[test]
+fn names_of_file_faults(rt: HostRuntime) -> Result<(), Fail> {
+    let names = [
+        (FileFault::Signature, "Signature"),
+        (FileFault::Codec, "Codec"),
+        (FileFault::TooMany, "TooMany"),
+        (FileFault::PacketTooLarge, "PacketTooLarge"),
+        (FileFault::Torn, "Torn"),
+        (FileFault::Ended, "Ended"),
+    ];
+    for (fault, name) in names {
+        assert!(rt; is_told_as(rt.alloc(), fault, name)?);
+    }
+    Ok(())
 }

@@ -91,6 +91,92 @@ fn filter_one_line(rt: HostRuntime) {
     }
 }
 
+/// The strength of a key frame's macroblock whose subblocks have modes of their own, with these levels and sharpness: the
+/// frame's, the segment's in its place if there is one, and what reference and mode add.
+fn level_with(dim: Dim, own: u8, sharpness: u8, segment: Option<i8>, deltas: [i8; 2]) -> Level {
+    let mut header = header(dim);
+    header.filter.level = own;
+    header.filter.sharpness = sharpness;
+    header.segmentation.enabled = segment.is_some();
+    header.segmentation.values.absolute = true;
+    header.segmentation.values.levels[0] = segment.unwrap_or(0);
+    header.deltas_enabled = true;
+    header.deltas.reference[0] = deltas[0];
+    header.deltas.mode[0] = deltas[1];
+    levels(
+        &header,
+        0,
+        &MacroblockKind {
+            reference: Reference::Intra,
+            prediction: Prediction::Subblocks,
+            coded: true,
+        },
+    )
+}
+
+fn strength(edge: u8, inner: u8, interior: u8, hev: u8) -> Level {
+    Level {
+        edge,
+        inner,
+        interior,
+        hev,
+    }
+}
+
+/// Where levels are held to 0 to 63: the segment's before the deltas, and their sum, but not between the two deltas; key
+/// frames have the delta of intra macroblocks too. The interior limit is 1 at least.
+#[test]
+fn levels_are_held(rt: HostRuntime) -> Result<(), Fail> {
+    let Ok(dim) = Dim::new(16, 16, &Limits::usual()) else {
+        panic!(rt; "the size is refused");
+    };
+    assert_eq!(rt;
+        level_with(dim, 16, 0, Some(-5), [10, 0]),
+        strength(34, 30, 10, 0)
+    );
+    assert_eq!(rt;
+        level_with(dim, 60, 0, None, [20, -30]),
+        strength(154, 150, 50, 2)
+    );
+    assert_eq!(rt;
+        level_with(dim, 60, 0, None, [20, 0]),
+        strength(193, 189, 63, 2)
+    );
+    assert_eq!(rt;
+        level_with(dim, 16, 0, None, [4, 0]),
+        strength(64, 60, 20, 1)
+    );
+    assert_eq!(rt; level_with(dim, 1, 7, None, [0, 0]), strength(7, 3, 1, 0));
+    Ok(())
+}
+
+/// Differences and steps are held to -128 to 127.
+#[test]
+fn steps_are_held(rt: HostRuntime) {
+    let simple = LineStep {
+        kind: EdgeKind::Simple,
+        limit: 193,
+        interior: 0,
+        hev: 0,
+    };
+    let apart = line([255, 255, 255, 128, 108, 0, 0, 0]);
+    assert_eq!(rt;
+        simple.apply(apart),
+        line([255, 255, 255, 136, 100, 0, 0, 0])
+    );
+    let wide = LineStep {
+        kind: EdgeKind::Macroblock,
+        limit: 193,
+        interior: 63,
+        hev: 3,
+    };
+    let far = line([90, 90, 90, 90, 160, 160, 160, 160]);
+    assert_eq!(rt;
+        wide.apply(far),
+        line([90, 99, 108, 117, 133, 142, 151, 160])
+    );
+}
+
 #[test]
 fn filter_two_macroblocks(rt: HostRuntime) -> Result<(), Fail> {
     let Ok(dim) = Dim::new(32, 16, &Limits::usual()) else {

@@ -1,6 +1,7 @@
 use super::*;
 use std::test::Fail;
-use vp_head::QuantiserIndices;
+use vp_bool::BoolDecoder;
+use vp_head::{Header, QuantiserIndices, Saved, Tag};
 
 /// The first and the last numbers of RFC 6386's tables (chapter 14.1), and their bounds.
 #[test]
@@ -49,6 +50,30 @@ fn factors_of_both_ends(rt: HostRuntime) -> Result<(), Fail> {
     };
     assert_eq!(rt; Factors::of(122, &mixed), near_the_end);
     Ok(())
+}
+
+/// The factor of a luma block's first level, for the frame's index, what its segment adds to that, and the frame's
+/// difference.
+fn first_factor(y_ac: u8, of_segment: i8, y_dc: i8) -> u16 {
+    let tag = Tag {
+        version: 0,
+        show: true,
+        first_partition: 0,
+        key: None,
+    };
+    let (mut header, _) = Header::read(&Saved::defaults(), &tag, &mut BoolDecoder::new(&[]));
+    header.quantiser.y_ac = y_ac;
+    header.quantiser.y_dc = y_dc;
+    header.segmentation.enabled = true;
+    header.segmentation.values.quantisers[0] = of_segment;
+    Factors::of(segment_index(&header, 0), &header.quantiser).y_dc
+}
+
+/// A segment's index is held to 0 to 127 before the frame's difference is added: 112 and 15 here, not 125 and 0.
+#[test]
+fn indices_are_held(rt: HostRuntime) {
+    assert_eq!(rt; first_factor(120, 20, -15), 122);
+    assert_eq!(rt; first_factor(5, -20, 15), 17);
 }
 
 /// The zigzag of chapter 13: positions 2 and 3 stand at places 4 and 8.

@@ -224,3 +224,22 @@ fn survey_of_three_packets(rt: HostRuntime) -> Result<(), Fail> {
     assert_eq!(rt; failed.err(), Some(SurveyFault::Device));
     Ok(())
 }
+
+fn is_told_as(alloc: Global, fault: DecodeFault, name: &str) -> Result<bool, Fail> {
+    Ok(format!(in alloc; "{fault}")?.as_str() == name)
+}
+
+#[test]
+fn names_of_decode_faults(rt: HostRuntime) -> Result<(), Fail> {
+    let names = [
+        (DecodeFault::File(FileFault::Torn), "Torn"),
+        (DecodeFault::SizeChange, "SizeChange"),
+        (DecodeFault::Device, "Device"),
+        (DecodeFault::ReadTurns, "ReadTurns"),
+        (DecodeFault::Memory, "Memory"),
+    ];
+    for (fault, name) in names {
+        assert!(rt; is_told_as(rt.alloc(), fault, name)?);
+    }
+    Ok(())
+}

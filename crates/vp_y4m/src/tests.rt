@@ -114,6 +114,10 @@ fn header_lines(rt: HostRuntime) -> Result<(), Fail> {
     assert_eq!(rt; said_of(line, 2_000), Some((7, 2, 24, 1)));
     let small = b"YUV4MPEG2 W1 H1\nFRAME\n";
     assert_eq!(rt; said_of(small, 16), Some((1, 1, 25, 1)));
+    let plain = b"YUV4MPEG2 W1 H1 C420\n";
+    assert_eq!(rt; said_of(plain, 2_000), Some((1, 1, 25, 1)));
+    let mpeg2 = b"YUV4MPEG2 W1 H1 C420mpeg2\n";
+    assert_eq!(rt; said_of(mpeg2, 2_000), Some((1, 1, 25, 1)));
     Ok(())
 }
 
