@@ -73,7 +73,7 @@ same_number-true (pos m) (negsuc n) h = absurd (false≢true h)
 same_number-true (negsuc m) (pos n) h = absurd (false≢true h)
 same_number-true (negsuc m) (negsuc n) h = ap negsuc (eqb-true m n h)
 
-same-true : (u v : Vector) → same u v ≡ true → u ≡ v
+pub same-true : (u v : Vector) → same u v ≡ true → u ≡ v
 unfolding same
 same-true u v h =
     let p = and_parts (same_number u.row v.row) (same_number u.column v.column) h in

@@ -2,12 +2,12 @@
 use Rattle.std.specs.Prelude.{ℕ, List, replicate, slice_index_or, if◌then◌else◌}
 use Rattle.vp_base.specs.declared.place.Place.{Place}
 use Rattle.vp_base.specs.Place.{above, left}
-use Rattle.vp_base.specs.Grid.{Grid}
+use Rattle.vp_base.specs.Grid.{Grid, at}
 use Rattle.vp_base.specs.Near.{block, seen_from, value}
 use Rattle.vp_head.specs.Reference.{is_intra}
 use Rattle.vp_head.specs.declared.fields.Reference.TheVariants as reference_is
 use Rattle.vp_tables.specs.declared.modes.VectorMode.TheVariants as vector_is
-use Rattle.vp_motion.specs.Vector.{Vector, Entry, still, last_of}
+use Rattle.vp_motion.specs.Vector.{Vector, Entry, IsWithin, still, last_of}
 
 -- intra, with zero vectors
 unfoldable pub intra : Entry
@@ -15,6 +15,10 @@ intra = record { reference = reference_is.Intra; mode = vector_is.Zero; vectors 
 
 unfoldable pub own : Entry → Vector
 own e = last_of e.vectors
+
+-- each macroblock's own vector is n quarter pixels at most
+abbrev pub AreWithin : ℕ → Grid Entry → Type 0
+AreWithin n g = (p : Place) → IsWithin n (own (at intra g p))
 
 -- the vector of block b: 0 for an intra macroblock
 unfoldable pub vector_of : Entry → ℕ → Vector

@@ -1,0 +1,24 @@
+-- What a macroblock with one vector can say of it, over the candidates (RFC 6386, chapters 16.3, 17.1).
+use Rattle.std.specs.Prelude.{◌≡◌, ℕ, ◌/◌, ◌%◌, ◌^◌, ◌==◌, ◌-ℤ◌, if◌then◌else◌}
+use Rattle.vp_tables.specs.declared.modes.VectorMode.{VectorMode}
+use Rattle.vp_tables.specs.declared.modes.VectorMode.TheVariants as vector_is
+use Rattle.vp_motion.specs.Vector.{Vector, Motion, Candidates, IsWithin, last_of, still}
+
+-- what bit i adds to a number
+abbrev pub bit_of : ℕ → ℕ → ℕ
+bit_of n i = if n / 2 ^ i % 2 == 1 then 2 ^ i else 0
+
+abbrev pub difference_of : Vector → Vector → Vector
+difference_of v u = record { row = v.row -ℤ u.row; column = v.column -ℤ u.column }
+
+-- The mode gives the vector to the whole macroblock: new gives any within 1,023 quarter pixels of the best one, split gives none.
+abbrev pub Gives : Candidates → VectorMode → Vector → Type 0
+Gives c vector_is.Zero v = v ≡ still
+Gives c vector_is.Nearest v = v ≡ c.nearest
+Gives c vector_is.Near v = v ≡ c.near
+Gives c vector_is.New v = IsWithin 1023 (difference_of v c.best)
+Gives c vector_is.Split v = ⊥
+
+-- A motion can be written where its mode gives its vector; so split is never written.
+abbrev pub CanBeWritten : Candidates → Motion → Type 0
+CanBeWritten c m = Gives c m.mode (last_of m.vectors)
