@@ -3,3 +3,11 @@ pub mod LevelLemmas
 pub mod Around
 pub mod Reading
 pub mod Steps
+pub mod WritingLemmas
+pub mod TokenLemmas
+pub mod FrontLemmas
+pub mod BlockWriting
+pub mod MacroblockWriting
+pub mod PuttingLemmas
+pub mod Making
+pub mod ReadBack

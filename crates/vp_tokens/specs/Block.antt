@@ -1,5 +1,5 @@
 -- The levels of a block of 4 by 4 coefficients (RFC 6386, chapter 13).
-use Rattle.std.specs.Prelude.{◌≡◌, ◌≤◌, ℕ, ℤ, pos, Bool, nat_lt, List, length, replicate, slice_index_or, unsigned_abs}
+use Rattle.std.specs.Prelude.{◌≡◌, ◌≢◌, ◌<◌, ◌≤◌, ℕ, ◌-◌, ℤ, pos, Bool, nat_lt, List, length, replicate, slice_index_or, unsigned_abs}
 
 -- the levels by position, in the order in which they are read, and the position behind the last token before the end of the block
 pub record Block : Type 0 where
@@ -23,3 +23,7 @@ pub record IsBlock (b : Block) : Type 0 where
   pub within : (i : ℕ) → unsigned_abs (level_of b i) ≤ 2114
   pub behind : (i : ℕ) → b.tokens ≤ i → level_of b i ≡ pos 0
   pub count : b.tokens ≤ 16
+
+-- no zero token stands behind the last level that isn't 0, nor in a block without one
+abbrev pub IsTight : Block → Type 0
+IsTight b = 0 < b.tokens → level_of b (b.tokens - 1) ≢ pos 0

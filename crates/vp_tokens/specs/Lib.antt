@@ -4,3 +4,5 @@ pub mod Levels
 pub mod Blocks
 pub mod Contexts
 pub mod Flagged
+pub mod Spelled
+pub mod Written

@@ -1,5 +1,5 @@
-ghost use Rattle.std.specs.Prelude.{◌≡◌, ◌≤◌, ◌<◌};
-ghost use Rattle.vp_tokens.specs.Block.{has_token};
+ghost use Rattle.std.specs.Prelude.{◌≡◌, ◌≤◌, ◌<◌, ℕ, pos, slice_index_or, unsigned_abs};
+ghost use Rattle.vp_tokens.specs.Block.{has_token, IsTight, IsBlock};
 ghost use Rattle.vp_tokens.specs.Levels.{Probabilities, bands_of, first_of, row, token, is_end, pair_after, block};
 
 use crate::sizes::{read_signed, read_size};
@@ -49,6 +49,23 @@ impl Block {
         tokens: 0,
     };
 
+    /// The block of these levels: its tokens end with the last level that isn't 0.
+    pub fn of_levels(levels: &[i16; 16]) -> Block
+        requires { (i : ℕ) → unsigned_abs (slice_index_or levels.now i (pos 0)) ≤ 2114 }
+        ensures levels { result.levels ≡ levels.now }
+        ensures tight { IsTight result }
+        ensures block { IsBlock result }
+    {
+        let mut tokens = 16;
+        while tokens > 0 && levels[tokens - 1] == 0 {
+            tokens -= 1;
+        }
+        Block {
+            levels: *levels,
+            tokens: tokens as u8,
+        }
+    }
+
     /// Whether a token was read before the end of the block.
     pub fn has_token(&self) -> bool
         ensures { result ≡ has_token self.now }
@@ -58,7 +75,10 @@ impl Block {
 }
 
 /// The probabilities of a type of block, by band, context and pair of the tree.
-fn bands_of(probabilities: &[[[[u8; 11]; 3]; 8]; 4], kind: BlockKind) -> &[[[u8; 11]; 3]; 8]
+pub(crate) fn bands_of(
+    probabilities: &[[[[u8; 11]; 3]; 8]; 4],
+    kind: BlockKind,
+) -> &[[[u8; 11]; 3]; 8]
     ensures { result.now ≡ bands_of probabilities.now kind }
 {
     match kind {
@@ -70,7 +90,7 @@ fn bands_of(probabilities: &[[[[u8; 11]; 3]; 8]; 4], kind: BlockKind) -> &[[[u8;
 }
 
 /// The position of the first token.
-fn first_of(kind: BlockKind) -> usize
+pub(crate) fn first_of(kind: BlockKind) -> usize
     ensures value { result ≡ first_of kind }
     ensures small { result ≤ 1 }
 {
@@ -82,7 +102,7 @@ fn first_of(kind: BlockKind) -> usize
 
 /// The probabilities at a position and in a context.
 #[tactic(auto, unfolding(crate::specs::Levels::row))]
-fn row_of(bands: &[[[u8; 11]; 3]; 8], position: usize, context: usize) -> &[u8; 11]
+pub(crate) fn row_of(bands: &[[[u8; 11]; 3]; 8], position: usize, context: usize) -> &[u8; 11]
     requires position_in { position < 16 }
     requires context_in { context < 3 }
     ensures { result.now ≡ row bands.now position context }
@@ -116,7 +136,7 @@ fn is_end(token: Token) -> bool
 }
 
 /// The pair where the walk after a level of this size starts: none ends a block right behind a 0.
-fn start_after(size: u16) -> usize
+pub(crate) fn start_after(size: u16) -> usize
     ensures value { result ≡ pair_after size }
     ensures small { result ≤ 2 }
 {

@@ -1,9 +1,10 @@
-ghost use Rattle.std.specs.Prelude.{◌≡◌, ℕ, ◌<◌, ◌≤◌, [], length, slice_index_or, IfOk};
+ghost use Rattle.std.specs.Prelude.{◌≡◌, ℕ, pos, Bool, true, false, ◌<◌, ◌≤◌, [], length, slice_index_or, unsigned_abs, IfOk};
 ghost use Rattle.vp_base.specs.declared.place.Place.{Place};
 ghost use Rattle.vp_base.specs.Grid.{Grid, Has, all, with_entry};
-ghost use Rattle.vp_tokens.specs.Blocks.{Blocks, unread, blocks_of, had_of, flag, both, kind_of, y2_or, block_at, all_blocks, no_blocks, macroblock, any_token};
+ghost use Rattle.vp_tokens.specs.Blocks.{Blocks, unread, blocks_of, had_of, flag, both, kind_of, y2_or, block_of, block_at, all_blocks, no_blocks, macroblock, any_token};
 ghost use Rattle.vp_tokens.specs.Contexts.{StandsFor, lowest, rightmost, right};
 ghost use Rattle.vp_tokens.specs.Flagged.{above_flag, left_flag, by_flags, left_at, behind};
+ghost use Rattle.vp_tokens.specs.Spelled.{levels_of, AreLevels, AreSpelled, AreTight};
 
 use crate::block::{Block, BlockKind, read_block};
 use std::alloc::{AllocError, Global};
@@ -19,6 +20,21 @@ pub struct Tokens {
 }
 
 impl Tokens {
+    /// The blocks of these levels: the tokens of each end with its last level that isn't 0.
+    pub fn of_levels(levels: &[[i16; 16]; 25]) -> Tokens
+        requires { (k i : ℕ) → unsigned_abs (slice_index_or (levels_of levels.now k) i (pos 0)) ≤ 2114 }
+        ensures levels { (k : ℕ) → k < 25 → (block_of result k).levels ≡ levels_of levels.now k }
+        ensures tight { AreTight result.blocks }
+        ensures spelled { (has_y2 : Bool) → AreLevels has_y2 levels.now → AreSpelled has_y2 result.blocks }
+        ensures none { any_token result ≡ false → result.blocks ≡ no_blocks }
+    {
+        let mut blocks = [Block::NONE; 25];
+        for k in 0..25 {
+            blocks[k] = Block::of_levels(&levels[k]);
+        }
+        Tokens { blocks }
+    }
+
     /// Whether some block had a token before its end.
     pub fn any(&self) -> bool
         ensures { result ≡ any_token self.now }
@@ -45,7 +61,7 @@ impl Model for Contexts {
 }
 
 /// How many of the two.
-fn count(above: bool, left: bool) -> usize
+pub(crate) fn count(above: bool, left: bool) -> usize
     ensures value { result ≡ both above left }
     ensures small { result ≤ 2 }
 {
@@ -62,7 +78,7 @@ fn had(blocks: &[Block; 25], k: usize) -> bool
 
 /// Whether the block above block k had a token.
 #[tactic(auto, unfolding(crate::specs::Flagged::above_flag))]
-fn had_above(above: &[bool; 9], blocks: &[Block; 25], k: usize) -> bool
+pub(crate) fn had_above(above: &[bool; 9], blocks: &[Block; 25], k: usize) -> bool
     requires { k < 25 }
     ensures { result ≡ above_flag above.now (had_of blocks.now) k }
 {
@@ -85,7 +101,7 @@ fn had_above(above: &[bool; 9], blocks: &[Block; 25], k: usize) -> bool
 
 /// Whether the block to the left of block k had a token.
 #[tactic(auto, unfolding(crate::specs::Flagged::left_flag))]
-fn had_left(left: &[bool; 9], blocks: &[Block; 25], k: usize) -> bool
+pub(crate) fn had_left(left: &[bool; 9], blocks: &[Block; 25], k: usize) -> bool
     requires { k < 25 }
     ensures { result ≡ left_flag left.now (had_of blocks.now) k }
 {
@@ -111,7 +127,7 @@ fn had_left(left: &[bool; 9], blocks: &[Block; 25], k: usize) -> bool
 }
 
 /// The type of block k.
-fn kind_of(has_y2: bool, k: usize) -> BlockKind
+pub(crate) fn kind_of(has_y2: bool, k: usize) -> BlockKind
     ensures { result ≡ kind_of has_y2 k }
 {
     if k == 0 {
@@ -224,7 +240,7 @@ impl Contexts {
     }
 
     /// The flags above the macroblock at a place.
-    fn above_of(&self, place: Place) -> [bool; 9]
+    pub(crate) fn above_of(&self, place: Place) -> [bool; 9]
         requires { place.column < length self.now.above }
         ensures { result ≡ slice_index_or self.now.above place.column [] }
     {
@@ -232,7 +248,7 @@ impl Contexts {
     }
 
     /// The flags to the left of the macroblock at a place.
-    fn left_of(&self, place: Place) -> [bool; 9]
+    pub(crate) fn left_of(&self, place: Place) -> [bool; 9]
         ensures { result ≡ left_at self.now place }
     {
         if place.column == 0 {
@@ -243,7 +259,7 @@ impl Contexts {
     }
 
     /// Keeps which blocks of the macroblock at a place had a token.
-    fn keep(&mut self, place: Place, has_y2: bool, blocks: &[Block; 25])
+    pub(crate) fn keep(&mut self, place: Place, has_y2: bool, blocks: &[Block; 25])
         requires { place.column < length self.old.above }
         ensures { self.new ≡ behind self.old place (record { has_y2 = has_y2; had = had_of blocks.now }) }
     {
@@ -273,6 +289,9 @@ pub fn read_macroblock(
     ensures stands { (g : Grid Blocks) → Has g place → StandsFor g place contexts.old
         → StandsFor (with_entry g place (blocks_of has_y2 result)) (right place) contexts.new }
     ensures columns { length contexts.new.above ≡ length contexts.old.above }
+    // What is read can be written.
+    ensures spelled { AreSpelled has_y2 result.blocks }
+    ensures none { skipped ≡ true → result.blocks ≡ no_blocks }
 {
     let mut blocks = [Block::NONE; 25];
     let above = contexts.above_of(place);

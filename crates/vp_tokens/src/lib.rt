@@ -1,14 +1,19 @@
-//! The token partitions of a packet, and the coefficient levels of its macroblocks (RFC 6386, chapters 9.5 and 13).
+//! The token partitions of a packet, and the coefficient levels of its macroblocks, read and written (RFC 6386, chapters 9.5
+//! and 13).
 #![tactic(auto)]
 
 mod block;
+mod block_writing;
 mod contexts;
 mod partitions;
+mod size_writing;
 mod sizes;
+mod writing;
 
 pub use block::Block;
 pub use contexts::{Contexts, Tokens, read_macroblock};
 pub use partitions::Partitions;
+pub use writing::write_macroblock;
 
 #[cfg(test)]
 mod tests;

@@ -5,6 +5,8 @@ use Rattle.vp_tokens.specs.Blocks.{Blocks, had_of}
 use Rattle.vp_tokens.specs.Contexts.{Contexts, StandsFor, right}
 use Rattle.vp_base.specs.Grid.{Grid, with_entry}
 use Rattle.vp_tokens.proofs.Steps.{step}
+use Rattle.vp_tokens.specs.Flagged.{by_flags}
+use Rattle.vp_tokens.proofs.ReadBack.{all_spelled, skipped_none}
 use Rattle.vp_tokens.proofs.Reading.{above_at-is, left_at-is, macroblock-is}
 use Rattle.vp_tokens.proofs.contexts.read_macroblock.Goals as goal
 
@@ -20,5 +22,7 @@ returns c =
       value = λ g f. ap (λ (z : List Block). let t : Tokens = record { blocks = z } in t) c.read_all.ensures.value ∙ (λ i. (same g f i).0);
       rest = λ g f. c.read_all.ensures.rest ∙ (λ i. (same g f i).1);
       stands = λ g has f. subst (λ (w : Contexts). StandsFor (with_entry g p m) (right p) w) (sym c.keep.ensures) (step g p m f.whole has old f);
+      spelled = rw c.read_all.ensures.value (all_spelled c.args.probabilities.now c.args.has_y2 (by_flags c.above_of-above.result c.left_of-left.result) c.args.skipped c.args.d.now);
+      none = λ e. c.read_all.ensures.value ∙ skipped_none c.args.probabilities.now c.args.has_y2 (by_flags c.above_of-above.result c.left_of-left.result) c.args.skipped c.args.d.now e;
       columns = ap (λ (w : Contexts). length w.above) c.keep.ensures ∙ length-set old.above p.column _;
     }

@@ -1,0 +1,22 @@
+-- Inside the crate: how far writing has come, and the token that tells a size.
+use Rattle.std.specs.Prelude.{◌≡◌, ◌<◌, ◌≤◌, ℕ, zero, suc, ◌+◌, ◌^◌, false, List, [], ◌∷◌, length}
+use Rattle.vp_tables.specs.declared.modes.Token.{Token}
+use Rattle.vp_tables.specs.Tables.{least_size, extra_probabilities}
+use Rattle.vp_tokens.specs.Block.{Block, no_tokens}
+use Rattle.vp_tokens.specs.Levels.{is_end}
+
+-- The token tells the size s: what s is above the token's least size is told by its extra bits.
+pub record IsTokenOf (t : Token) (s : ℕ) : Type 0 where
+  pub goes_on : is_end t ≡ false
+  pub least : least_size t ≤ s
+  pub extra : s < least_size t + 2 ^ length (extra_probabilities t)
+
+-- the first n items, and others for what stands behind them
+abbrev pub front : {X : Type 0} → X → ℕ → List X → List X
+front other n [] = []
+front other zero (x ∷ xs) = other ∷ front other zero xs
+front other (suc n) (x ∷ xs) = x ∷ front other n xs
+
+-- the blocks before block k; the others have no tokens yet
+abbrev pub front_blocks : ℕ → List Block → List Block
+front_blocks k blocks = front no_tokens k blocks

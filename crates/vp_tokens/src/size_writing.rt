@@ -1,0 +1,65 @@
+ghost use Rattle.std.specs.Prelude.{◌≡◌, ◌<◌, ◌≤◌, ◌^◌, length, unsigned_abs, OnOk};
+ghost use Rattle.vp_bool.specs.Writing.{Writes};
+ghost use Rattle.vp_tokens.specs.Levels.{bits, size, signed};
+ghost use Rattle.vp_tokens.specs.Written.{IsTokenOf};
+
+use std::alloc::AllocError;
+use vp_bool::BoolEncoder;
+use vp_tables::{Token, extra_probabilities, least_size};
+
+/// A number of one bit for each probability, the most significant first.
+fn write_bits(value: u16, probabilities: &[u8], e: &mut BoolEncoder) -> Result<(), AllocError>
+    requires few { length probabilities.now ≤ 11 }
+    requires fits { value < 2 ^ length probabilities.now }
+    ensures { OnOk result (Writes (bits 0 probabilities.now) e.old e.new value) }
+{
+    let n = probabilities.len();
+    for i in 0..n {
+        let bit = (value >> (n - 1 - i)) % 2 == 1;
+        e.write(bit, probabilities[i])?;
+    }
+    Ok(())
+}
+
+/// The token of a size.
+#[tactic(auto, unfolding(vp_tables::specs::Tables::least_size, vp_tables::specs::Tables::extra_probabilities))]
+pub(crate) fn token_of(value: u16) -> Token
+    requires { value ≤ 2114 }
+    ensures { IsTokenOf result value }
+{
+    match value {
+        0 => Token::Zero,
+        1 => Token::One,
+        2 => Token::Two,
+        3 => Token::Three,
+        4 => Token::Four,
+        5..=6 => Token::Category1,
+        7..=10 => Token::Category2,
+        11..=18 => Token::Category3,
+        19..=34 => Token::Category4,
+        35..=66 => Token::Category5,
+        _ => Token::Category6,
+    }
+}
+
+/// What follows a token to tell a size.
+#[tactic(auto, unfolding(crate::specs::Levels::size))]
+pub(crate) fn write_size(token: Token, value: u16, e: &mut BoolEncoder) -> Result<(), AllocError>
+    requires { IsTokenOf token value }
+    ensures { OnOk result (Writes (size token) e.old e.new value) }
+{
+    write_bits(value - least_size(token), extra_probabilities(token), e)?;
+    Ok(())
+}
+
+/// The sign of a level that isn't 0.
+pub(crate) fn write_signed(level: i16, e: &mut BoolEncoder) -> Result<(), AllocError>
+    requires { unsigned_abs level ≤ 2114 }
+    ensures { OnOk result (Writes (signed (unsigned_abs level)) e.old e.new level) }
+{
+    if level == 0 {
+        return Ok(());
+    }
+    e.write(level < 0, 128)?;
+    Ok(())
+}

@@ -1,0 +1,98 @@
+ghost use Rattle.std.specs.Prelude.{◌≡◌, ◌<◌, ◌+◌, ℕ, true, false, length, slice_index_or, OnOk, OnErr};
+ghost use Rattle.vp_base.specs.Grid.{Grid, Has, with_entry};
+ghost use Rattle.vp_bool.specs.Writing.{Writes};
+ghost use Rattle.vp_tokens.specs.Blocks.{Blocks, blocks_of, block_at, all_blocks, no_blocks, macroblock};
+ghost use Rattle.vp_tokens.specs.Contexts.{StandsFor, right};
+ghost use Rattle.vp_tokens.specs.Flagged.{by_flags};
+ghost use Rattle.vp_tokens.specs.Spelled.{AreSpelled};
+ghost use Rattle.vp_tokens.specs.Written.{front_blocks};
+
+use crate::block::Block;
+use crate::block_writing::write_block;
+use crate::contexts::{Contexts, Tokens, count, had_above, had_left, kind_of};
+use std::alloc::AllocError;
+use vp_base::Place;
+use vp_bool::BoolEncoder;
+
+/// Writes block k, where the macroblock has it.
+fn write_at(
+    probabilities: &[[[[u8; 11]; 3]; 8]; 4],
+    above: &[bool; 9],
+    left: &[bool; 9],
+    has_y2: bool,
+    k: usize,
+    blocks: &[Block; 25],
+    e: &mut BoolEncoder,
+) -> Result<(), AllocError>
+    requires k_in { k < 25 }
+    requires spelled { AreSpelled has_y2 blocks.now }
+    ensures { OnOk result (Writes (block_at probabilities.now has_y2 (by_flags above.now left.now) k (front_blocks k blocks.now)) e.old e.new (front_blocks (k + 1) blocks.now)) }
+{
+    if k > 0 || has_y2 {
+        let context = count(had_above(above, blocks, k), had_left(left, blocks, k));
+        write_block(probabilities, kind_of(has_y2, k), context, &blocks[k], e)?;
+    }
+    Ok(())
+}
+
+/// Writes all blocks, unless the macroblock is skipped.
+fn write_all(
+    probabilities: &[[[[u8; 11]; 3]; 8]; 4],
+    above: &[bool; 9],
+    left: &[bool; 9],
+    has_y2: bool,
+    skipped: bool,
+    blocks: &[Block; 25],
+    e: &mut BoolEncoder,
+) -> Result<(), AllocError>
+    requires spelled { AreSpelled has_y2 blocks.now }
+    requires skipped { skipped ≡ true → blocks.now ≡ no_blocks }
+    ensures { OnOk result (Writes (all_blocks probabilities.now has_y2 skipped (by_flags above.now left.now)) e.old e.new blocks.now) }
+{
+    if skipped {
+        return Ok(());
+    }
+    for k in 0..25 {
+        write_at(probabilities, above, left, has_y2, k, blocks, e)?;
+    }
+    Ok(())
+}
+
+/// Writes the tokens of the macroblock at a place into the partition of its row, and keeps the contexts as
+/// [`read_macroblock`](crate::read_macroblock) does. A frame's macroblocks are written in raster order.
+///
+/// `has_y2` is false where the luma is predicted or moved by subblocks. Of a skipped macroblock nothing is written, and
+/// its blocks have no tokens. Where memory is refused, a part of the tokens may have been written.
+pub fn write_macroblock(
+    probabilities: &[[[[u8; 11]; 3]; 8]; 4],
+    contexts: &mut Contexts,
+    place: Place,
+    has_y2: bool,
+    skipped: bool,
+    tokens: &Tokens,
+    e: &mut BoolEncoder,
+) -> Result<(), AllocError>
+    requires column { place.column < length contexts.old.above }
+    requires spelled { AreSpelled has_y2 tokens.now.blocks }
+    requires skipped { skipped ≡ true → tokens.now.blocks ≡ no_blocks }
+    // What was written is read as these tokens, whatever follows.
+    ensures writes { OnOk result ((g : Grid Blocks) → StandsFor g place contexts.old → Writes (macroblock probabilities.now g place has_y2 skipped) e.old e.new tokens.now) }
+    ensures stands { OnOk result ((g : Grid Blocks) → Has g place → StandsFor g place contexts.old
+        → StandsFor (with_entry g place (blocks_of has_y2 tokens.now)) (right place) contexts.new) }
+    ensures columns { length contexts.new.above ≡ length contexts.old.above }
+    ensures err { OnErr result (contexts.new ≡ contexts.old) }
+{
+    let above = contexts.above_of(place);
+    let left = contexts.left_of(place);
+    write_all(
+        probabilities,
+        &above,
+        &left,
+        has_y2,
+        skipped,
+        &tokens.blocks,
+        e,
+    )?;
+    contexts.keep(place, has_y2, &tokens.blocks);
+    Ok(())
+}
