@@ -1,0 +1,125 @@
+-- Lemmas on the neighbours of a vector.
+use Rattle.std.proofs.Common.{◌≡◌, ◌≢◌, ℕ, ℤ, zero, suc, ◌+◌, ◌<◌, ◌≤◌, ◌+ℤ◌, ◌-ℤ◌, List, length, set, get_or, get_or-set_other, get_or-set_same, below_more, refl, sym, ap, subst, inl, inr, pos, ◌∙◌, arith}
+use Rattle.std.specs.Prelude.{unsigned_abs}
+use Rattle.std.proofs.lemmas.Int.{ints}
+use Rattle.std.proofs.lemmas.Bool.{cases_lt}
+use Rattle.vp_search.specs.declared.vector.WholeVector.{WholeVector}
+use Rattle.vp_search.specs.declared.vector.QuarterVector.{QuarterVector}
+use Rattle.vp_search.specs.FirstLeast.{IsFirstLeast}
+use Rattle.vp_search.specs.Vectors.{quarters}
+use Rattle.vp_search.specs.Refined.{places, neighbour, IsBestOf, IsRefined}
+
+-- the first of the least by another function with the same numbers
+pub first_same : (n : ℕ) (f g : ℕ → ℕ) (best : ℕ) → ((k : ℕ) → k < n → f k ≡ g k) → IsFirstLeast n f best → IsFirstLeast n g best
+first_same n f g best same p =
+    let w = p.within in
+    let b = same best w in
+    record {
+      within = w;
+      least = λ k h. let l = p.least k h in let e = same k h in omega arith;
+      first = λ k h. let l = p.first k h in let e = same k (omega arith) in omega arith;
+    }
+
+-- a fact of nine places
+pub below_nine : (P : ℕ → Type 0) → P 0 → P 1 → P 2 → P 3 → P 4 → P 5 → P 6 → P 7 → P 8 → (k : ℕ) → k < 9 → P k
+below_nine P a b c d e f g h i zero l = a
+below_nine P a b c d e f g h i (suc zero) l = b
+below_nine P a b c d e f g h i (suc (suc zero)) l = c
+below_nine P a b c d e f g h i (suc (suc (suc zero))) l = d
+below_nine P a b c d e f g h i (suc (suc (suc (suc zero)))) l = e
+below_nine P a b c d e f g h i (suc (suc (suc (suc (suc zero))))) l = f
+below_nine P a b c d e f g h i (suc (suc (suc (suc (suc (suc zero)))))) l = g
+below_nine P a b c d e f g h i (suc (suc (suc (suc (suc (suc (suc zero))))))) l = h
+below_nine P a b c d e f g h i (suc (suc (suc (suc (suc (suc (suc (suc zero)))))))) l = i
+below_nine P a b c d e f g h i (suc (suc (suc (suc (suc (suc (suc (suc (suc k))))))))) l = absurd (omega arith)
+
+-- the default of a read inside does not matter
+pub at_place : (centre : QuarterVector) (d : ℤ) (z : QuarterVector) (k : ℕ) → k < 9 → get_or (places centre d) k z ≡ neighbour centre d k
+at_place centre d z k h = below_nine (λ k. get_or (places centre d) k z ≡ neighbour centre d k) refl refl refl refl refl refl refl refl refl k h
+
+abbrev IsBeside : ℤ → ℤ → ℤ → Type 0
+IsBeside from d to = unsigned_abs (to -ℤ from) ≤ unsigned_abs d
+
+at_it : (x d : ℤ) → IsBeside x d x
+at_it x d = omega (arith, ints)
+
+less : (x d : ℤ) → IsBeside x d (x -ℤ d)
+less x d = omega (arith, ints)
+
+more : (x d : ℤ) → IsBeside x d (x +ℤ d)
+more x d = omega (arith, ints)
+
+pub row_beside : (centre : QuarterVector) (d : ℤ) (k : ℕ) → k < 9 → unsigned_abs ((neighbour centre d k).row -ℤ centre.row) ≤ unsigned_abs d
+row_beside centre d k h =
+    let x : ℤ = centre.row in
+    below_nine (λ k. IsBeside x d (neighbour centre d k).row) (at_it x d) (less x d) (less x d) (less x d) (at_it x d) (at_it x d) (more x d) (more x d) (more x d) k h
+
+pub column_beside : (centre : QuarterVector) (d : ℤ) (k : ℕ) → k < 9 → unsigned_abs ((neighbour centre d k).column -ℤ centre.column) ≤ unsigned_abs d
+column_beside centre d k h =
+    let x : ℤ = centre.column in
+    below_nine (λ k. IsBeside x d (neighbour centre d k).column) (at_it x d) (less x d) (at_it x d) (more x d) (less x d) (more x d) (less x d) (at_it x d) (more x d) k h
+
+-- the best of nine by the list of their costs
+pub best_is : (cost : QuarterVector → ℕ) (centre : QuarterVector) (d : ℤ) (vectors : List QuarterVector) (z : QuarterVector) (costs : List ℕ) (best : ℕ)
+    → vectors ≡ places centre d → ((k : ℕ) → k < 9 → get_or costs k 0 ≡ cost (neighbour centre d k)) → IsFirstLeast 9 (λ k. get_or costs k 0) best
+    → IsBestOf cost centre d (get_or vectors best z)
+best_is cost centre d vectors z costs best e all first = record {
+  number = best;
+  first = first_same 9 (λ k. get_or costs k 0) (λ k. cost (neighbour centre d k)) best all first;
+  is = ap (λ (l : List QuarterVector). get_or l best z) e ∙ at_place centre d z best first.within;
+}
+
+listed : (centre : QuarterVector) (d : ℤ) (vectors : List QuarterVector) (z : QuarterVector) (k : ℕ) → vectors ≡ places centre d → k < 9 → get_or vectors k z ≡ neighbour centre d k
+listed centre d vectors z k e h = ap (λ (l : List QuarterVector). get_or l k z) e ∙ at_place centre d z k h
+
+pub listed_row : (centre : QuarterVector) (d : ℤ) (vectors : List QuarterVector) (z : QuarterVector) (k : ℕ) → vectors ≡ places centre d → k < 9
+    → unsigned_abs ((get_or vectors k z).row -ℤ centre.row) ≤ unsigned_abs d
+listed_row centre d vectors z k e h =
+    subst (λ (v : QuarterVector). unsigned_abs (v.row -ℤ centre.row) ≤ unsigned_abs d) (sym (listed centre d vectors z k e h)) (row_beside centre d k h)
+
+pub listed_column : (centre : QuarterVector) (d : ℤ) (vectors : List QuarterVector) (z : QuarterVector) (k : ℕ) → vectors ≡ places centre d → k < 9
+    → unsigned_abs ((get_or vectors k z).column -ℤ centre.column) ≤ unsigned_abs d
+listed_column centre d vectors z k e h =
+    subst (λ (v : QuarterVector). unsigned_abs (v.column -ℤ centre.column) ≤ unsigned_abs d) (sym (listed centre d vectors z k e h)) (column_beside centre d k h)
+
+pub listed_cost : (cost : QuarterVector → ℕ) (centre : QuarterVector) (d : ℤ) (vectors : List QuarterVector) (z : QuarterVector) (k : ℕ) → vectors ≡ places centre d → k < 9
+    → cost (get_or vectors k z) ≡ cost (neighbour centre d k)
+listed_cost cost centre d vectors z k e h = ap cost (listed centre d vectors z k e h)
+
+-- one cost more
+pub costs_more : (cost : ℕ → ℕ) (costs : List ℕ) (k new : ℕ) → length costs ≡ 9 → k < 9 → ((j : ℕ) → j < k → get_or costs j 0 ≡ cost j) → new ≡ cost k
+    → (j : ℕ) → j < k + 1 → get_or (set costs k new) j 0 ≡ cost j
+costs_more cost costs k new long kin done here =
+    below_more _ _
+    (λ j h. let ne : j ≢ k = omega arith in rw get_or-set_other (done j h))
+    (let lt : k < length costs = omega arith in rw get_or-set_same here)
+
+-- the best by a cost that is the same everywhere
+pub best_same : (f g : QuarterVector → ℕ) (centre : QuarterVector) (d : ℤ) (best : QuarterVector) → ((v : QuarterVector) → f v ≡ g v) → IsBestOf f centre d best → IsBestOf g centre d best
+best_same f g centre d best same p = record {
+  number = p.number;
+  first = first_same 9 (λ k. f (neighbour centre d k)) (λ k. g (neighbour centre d k)) p.number (λ k h. same (neighbour centre d k)) p.first;
+  is = p.is;
+}
+
+-- ---- one answer
+
+first_is_one : (n : ℕ) (f : ℕ → ℕ) (a b : ℕ) → IsFirstLeast n f a → IsFirstLeast n f b → a ≡ b
+first_is_one n f a b p q =
+    elim (cases_lt a b) [
+      | inl less ↦ (let h = q.first a less in let k = p.least b q.within in absurd (omega arith))
+      | inr more ↦ elim (cases_lt b a) [
+        | inl less ↦ (let h = p.first b less in let k = q.least a p.within in absurd (omega arith))
+        | inr same ↦ omega arith
+      ]
+    ]
+
+best_is_one : (cost : QuarterVector → ℕ) (centre : QuarterVector) (d : ℤ) (v w : QuarterVector) → IsBestOf cost centre d v → IsBestOf cost centre d w → v ≡ w
+best_is_one cost centre d v w p q =
+    p.is ∙ ap (neighbour centre d) (first_is_one 9 (λ k. cost (neighbour centre d k)) p.number q.number p.first q.first) ∙ sym q.is
+
+-- a refinement has one answer
+pub refined_is_one : (cost : QuarterVector → ℕ) (centre : WholeVector) (v w : QuarterVector) → IsRefined cost centre v → IsRefined cost centre w → v ≡ w
+refined_is_one cost centre v w p q =
+    let same : p.halfway ≡ q.halfway = best_is_one cost (quarters centre) (pos 2) p.halfway q.halfway p.first q.first in
+    best_is_one cost q.halfway (pos 1) v w (subst (λ (u : QuarterVector). IsBestOf cost u (pos 1) v) same p.second) q.second

@@ -1,0 +1,49 @@
+-- Rows of sixteen pixels in lanes.
+use Rattle.std.proofs.Common.{◌≡◌, ℕ, ◌+◌, ◌*◌, ◌<◌, List, get_or, sym, ap, ap₂, ◌∙◌, arith, rules}
+use Rattle.std.proofs.lemmas.List.{places}
+use Rattle.std.specs.Int.{abs_diff}
+use lib.Lanes.{chunk}
+use Rattle.vp_search.specs.Sums.{sum_below}
+use Rattle.vp_search.specs.Differences.{sum_of_differences, block_in}
+use Rattle.vp_search.proofs.SumLemmas.{sum_below-same, sum_below-plus, sum_below-four, sum_of_differences-add}
+
+chunk-at : (xs : List ℕ) (x j : ℕ) → j < 16 → get_or (chunk x 16 xs) j 0 ≡ get_or xs (x + j) 0
+chunk-at xs x j h = search (rules, places)
+
+-- a lane of a row's differences
+pub lane_is_pixel : (p q d a b : List ℕ) (x y x' y' : ℕ) → p ≡ chunk x 16 a → q ≡ chunk y 16 b → x ≡ x' → y ≡ y'
+    → ((j : ℕ) → j < 16 → get_or d j 0 ≡ abs_diff (get_or p j 0) (get_or q j 0))
+    → (j : ℕ) → j < 16 → get_or d j 0 ≡ abs_diff (get_or a (x' + j) 0) (get_or b (y' + j) 0)
+lane_is_pixel p q d a b x y x' y' ep eq ex ey all j h =
+    let left : get_or p j 0 ≡ get_or a (x' + j) 0 = ap (λ (l : List ℕ). get_or l j 0) ep ∙ chunk-at a x j h ∙ ap (λ k. get_or a (k + j) 0) ex in
+    let right : get_or q j 0 ≡ get_or b (y' + j) 0 = ap (λ (l : List ℕ). get_or l j 0) eq ∙ chunk-at b y j h ∙ ap (λ k. get_or b (k + j) 0) ey in
+    all j h ∙ ap₂ abs_diff left right
+
+-- lanes that hold the sums of four rows
+pub four_sums : (row : ℕ → ℕ → ℕ) (e : List ℕ) → ((j : ℕ) → j < 16 → get_or e j 0 ≡ (row 0 j + row 1 j) + (row 2 j + row 3 j))
+    → sum_below 16 (λ j. get_or e j 0) ≡ sum_below 4 (λ r. sum_below 16 (row r))
+four_sums row e all =
+    sum_below-same 16 (λ j. get_or e j 0) (λ j. (row 0 j + row 1 j) + (row 2 j + row 3 j)) all
+    ∙ sum_below-plus 16 (λ j. row 0 j + row 1 j) (λ j. row 2 j + row 3 j)
+    ∙ ap₂ (λ x y. x + y) (sum_below-plus 16 (row 0) (row 1)) (sum_below-plus 16 (row 2) (row 3))
+    ∙ sym (sum_below-four (λ r. sum_below 16 (row r)))
+
+-- a block of sixteen rows by fours
+pub by_fours : (a b : List ℕ) (at s : ℕ) → sum_of_differences 16 16 (block_in a 0 16) (block_in b at s)
+    ≡ sum_of_differences 4 16 (block_in a 0 16) (block_in b at s) + sum_of_differences 4 16 (block_in a 64 16) (block_in b (at + 4 * s) s)
+    + sum_of_differences 4 16 (block_in a 128 16) (block_in b (at + 8 * s) s) + sum_of_differences 4 16 (block_in a 192 16) (block_in b (at + 12 * s) s)
+by_fours a b at s =
+    let e1 : sum_of_differences 16 16 (block_in a 0 16) (block_in b at s)
+    ≡ sum_of_differences 4 16 (block_in a 0 16) (block_in b at s) + sum_of_differences 12 16 (block_in a 64 16) (block_in b (at + 4 * s) s) =
+    sum_of_differences-add a b 0 16 at s 4 12 in
+    let y2 : at + 4 * s + 4 * s ≡ at + 8 * s = omega arith in
+    let e2 : sum_of_differences 12 16 (block_in a 64 16) (block_in b (at + 4 * s) s)
+    ≡ sum_of_differences 4 16 (block_in a 64 16) (block_in b (at + 4 * s) s) + sum_of_differences 8 16 (block_in a 128 16) (block_in b (at + 8 * s) s) =
+    sum_of_differences-add a b 64 16 (at + 4 * s) s 4 8
+    ∙ ap (λ y. sum_of_differences 4 16 (block_in a 64 16) (block_in b (at + 4 * s) s) + sum_of_differences 8 16 (block_in a 128 16) (block_in b y s)) y2 in
+    let y3 : at + 8 * s + 4 * s ≡ at + 12 * s = omega arith in
+    let e3 : sum_of_differences 8 16 (block_in a 128 16) (block_in b (at + 8 * s) s)
+    ≡ sum_of_differences 4 16 (block_in a 128 16) (block_in b (at + 8 * s) s) + sum_of_differences 4 16 (block_in a 192 16) (block_in b (at + 12 * s) s) =
+    sum_of_differences-add a b 128 16 (at + 8 * s) s 4 4
+    ∙ ap (λ y. sum_of_differences 4 16 (block_in a 128 16) (block_in b (at + 8 * s) s) + sum_of_differences 4 16 (block_in a 192 16) (block_in b y s)) y3 in
+    omega arith

@@ -1,0 +1,170 @@
+-- Lemmas on the window that is searched.
+use Rattle.std.proofs.Common.{◌≡◌, ℕ, ℤ, pos, negsuc, ◌+◌, ◌*◌, ◌-◌, ◌/◌, ◌%◌, ◌<◌, ◌≤◌, ◌+ℤ◌, ◌-ℤ◌, ◌*ℤ◌, List, length, get_or, refl, sym, ap, ap₂, subst, inl, inr, ◌⊎◌, ◌∙◌, arith}
+use Rattle.std.specs.Prelude.{unsigned_abs}
+use Rattle.std.specs.Int.{int_rem_euclid}
+use lib.Signed.{shr_z}
+use Rattle.std.proofs.lemmas.Int.{ints}
+use Rattle.vp_base.specs.declared.place.Place.{Place}
+use Rattle.vp_base.specs.Raster.{Raster, row_of}
+use Rattle.vp_inter.specs.Vectors.{whole, fraction, start, luma_vector}
+use Rattle.std.proofs.lemmas.Bool.{cases_lt}
+use Rattle.vp_inter.specs.Inter.{nearest, reference_pixel}
+use Rattle.vp_inter.proofs.ReferenceLemmas.{line_beyond}
+use Rattle.vp_inter.proofs.PassLemmas.{inter_whole}
+use Rattle.vp_search.specs.declared.vector.WholeVector.{WholeVector}
+use Rattle.vp_search.specs.declared.vector.QuarterVector.{QuarterVector}
+use Rattle.vp_search.specs.declared.vector.Found.{Found}
+use Rattle.vp_search.specs.Vectors.{quarters, IsNear}
+use Rattle.vp_search.specs.Differences.{sum_of_differences, block_in, block16}
+use Rattle.vp_search.specs.Blocks.{moved_block, predicted_block, whole_cost, quarter_cost}
+use Rattle.vp_search.specs.Least.{NoLarger, IsLeast}
+use Rattle.vp_search.specs.Window.{searched_pixel, vector_at, window_place, window_cost, IsKept}
+use Rattle.vp_search.proofs.SumLemmas.{sum_of_differences-same}
+use Rattle.vp_search.proofs.OrderLemmas.{index, near_at}
+
+-- the cost of the vector at a place of the window
+pub cost_at : (block window : List ℕ) (range i j : ℕ) → window_cost block window range (vector_at range i j) ≡ sum_of_differences 16 16 (block_in block 0 16) (block_in window (i * 144 + j) 144)
+unfolding window_cost
+cost_at block window range i j =
+    let r : unsigned_abs (pos i -ℤ pos range +ℤ pos range) ≡ i = omega (arith, ints) in
+    let c : unsigned_abs (pos j -ℤ pos range +ℤ pos range) ≡ j = omega (arith, ints) in
+    ap₂ (λ x y. sum_of_differences 16 16 (block_in block 0 16) (block_in window (x * 144 + y) 144)) r c
+
+-- the square of the window is filled
+abbrev pub IsFilled : List ℕ → Raster → Place → ℕ → Type 0
+IsFilled window p place range = (i j : ℕ) → i < 2 * range + 16 → j < 2 * range + 16 → get_or window (i * 144 + j) 0 ≡ searched_pixel p place range i j
+
+-- the pixels of a vector's block in the window are those that it moves
+pub window_pixel : (window : List ℕ) (p : Raster) (place : Place) (range : ℕ) (v : WholeVector) → IsFilled window p place range → IsNear range v
+    → (r c : ℕ) → r < 16 → c < 16 → block_in window (window_place range v) 144 r c ≡ moved_block p place v r c
+window_pixel window p place range v filled near r c rin cin =
+    let x = index range v.row near.0 in
+    let y = index range v.column near.1 in
+    let i : ℕ = x.at in
+    let j : ℕ = y.at in
+    let xw : i ≤ 2 * range = x.within in
+    let yw : j ≤ 2 * range = y.within in
+    let ex : v.row ≡ pos i -ℤ pos range = x.is in
+    let ey : v.column ≡ pos j -ℤ pos range = y.is in
+    let e : unsigned_abs (v.row +ℤ pos range) ≡ i = omega (arith, ints) in
+    let f : unsigned_abs (v.column +ℤ pos range) ≡ j = omega (arith, ints) in
+    let at : window_place range v + r * 144 + c ≡ (i + r) * 144 + (j + c) = omega arith in
+    let column : pos (16 * place.column + (j + c)) -ℤ pos range ≡ pos (16 * place.column + c) +ℤ v.column = omega (arith, ints) in
+    let row : pos (16 * place.row + (i + r)) -ℤ pos range ≡ pos (16 * place.row + r) +ℤ v.row = omega (arith, ints) in
+    ap (λ (k : ℕ). get_or window k 0) at
+    ∙ filled (i + r) (j + c) (omega arith) (omega arith)
+    ∙ ap₂ (reference_pixel p) column row
+
+-- so their costs are the same
+pub window_cost-whole : (block window : List ℕ) (p : Raster) (place : Place) (range : ℕ) (v : WholeVector) → IsFilled window p place range → IsNear range v
+    → window_cost block window range v ≡ whole_cost (block16 block) p place v
+unfolding window_cost whole_cost
+window_cost-whole block window p place range v filled near =
+    sum_of_differences-same 16 16 (block_in block 0 16) (block16 block) (block_in window (window_place range v) 144) (moved_block p place v)
+    (λ r c h k. let e : 0 + r * 16 + c ≡ r * 16 + c = omega arith in ap (λ (i : ℕ). get_or block i 0) e)
+    (window_pixel window p place range v filled near)
+
+-- the least by one cost is the least by another that is the same within range
+pub least_same : (range : ℕ) (f g : WholeVector → ℕ) (best : WholeVector) → ((v : WholeVector) → IsNear range v → f v ≡ g v) → IsLeast range f best → IsLeast range g best
+least_same range f g best same p = record {
+  near = p.near;
+  least = λ v h. subst (λ (k : ℕ). NoLarger k best (g v) v) (same best p.near) (subst (λ (k : ℕ). NoLarger (f best) best k v) (same v h) (p.least v h));
+}
+
+-- ---- a vector in whole pixels as a vector in quarters
+
+whole_eight : (z : ℤ) → whole (pos 2 *ℤ (pos 4 *ℤ z)) ≡ z
+unfolding whole
+whole_eight (pos n) =
+    let e : 2 * (4 * n) / 8 ≡ n = omega arith in ap (λ (k : ℕ). pos k) e
+whole_eight (negsuc n) =
+    let e : pos 2 *ℤ (pos 4 *ℤ negsuc n) ≡ negsuc (8 * n + 7) = omega (arith, ints) in
+    let f : (8 * n + 7) / 8 ≡ n = omega arith in
+    ap (λ (y : ℤ). shr_z y 8) e ∙ ap (λ (k : ℕ). negsuc k) f
+
+fraction_eight : (z : ℤ) → fraction (pos 2 *ℤ (pos 4 *ℤ z)) ≡ 0
+unfolding fraction
+fraction_eight (pos n) = let e : 2 * (4 * n) % 8 ≡ 0 = omega arith in e
+fraction_eight (negsuc n) =
+    let e : pos 2 *ℤ (pos 4 *ℤ negsuc n) ≡ negsuc (8 * n + 7) = omega (arith, ints) in
+    let f : 7 - (8 * n + 7) % 8 ≡ 0 = omega arith in
+    ap (λ (y : ℤ). unsigned_abs (int_rem_euclid y (pos 8))) e ∙ f
+
+start_eight : (at k : ℕ) (z : ℤ) → start at (pos 2 *ℤ (pos 4 *ℤ z)) +ℤ pos 2 +ℤ pos k ≡ pos (at + k) +ℤ z
+unfolding start
+start_eight at k z = let e = whole_eight z in omega (arith, ints)
+
+-- what it predicts is what it moves, where that are bytes
+pub predicted_whole : (p : Raster) (place : Place) (v : WholeVector) (r c : ℕ) → moved_block p place v r c ≤ 255
+    → moved_block p place v r c ≡ predicted_block p place (quarters v) r c
+unfolding luma_vector
+predicted_whole p place v r c byte =
+    let column : start (16 * place.column) (pos 2 *ℤ (pos 4 *ℤ v.column)) +ℤ pos 2 +ℤ pos c ≡ pos (16 * place.column + c) +ℤ v.column = start_eight (16 * place.column) c v.column in
+    let row : start (16 * place.row) (pos 2 *ℤ (pos 4 *ℤ v.row)) +ℤ pos 2 +ℤ pos r ≡ pos (16 * place.row + r) +ℤ v.row = start_eight (16 * place.row) r v.row in
+    let same = ap₂ (reference_pixel p) column row in
+    sym same
+    ∙ inter_whole 0 p (16 * place.column) (16 * place.row) (luma_vector (pos 4 *ℤ v.row) (pos 4 *ℤ v.column)) r c (fraction_eight v.row) (fraction_eight v.column)
+    (subst (λ (n : ℕ). n ≤ 255) (sym same) byte)
+
+pub quarter_cost-whole : (f : ℕ → ℕ → ℕ) (p : Raster) (place : Place) (v : WholeVector) → ((r c : ℕ) → r < 16 → c < 16 → moved_block p place v r c ≤ 255)
+    → whole_cost f p place v ≡ quarter_cost f p place (quarters v)
+unfolding whole_cost quarter_cost
+quarter_cost-whole f p place v bytes =
+    sum_of_differences-same 16 16 f f (moved_block p place v) (predicted_block p place (quarters v)) (λ r c h k. refl)
+    (λ r c h k. predicted_whole p place v r c (bytes r c h k))
+
+-- ---- a block that was cut
+
+pub whole_cost-same : (f g : ℕ → ℕ → ℕ) (p : Raster) (place : Place) (v : WholeVector) → ((r c : ℕ) → r < 16 → c < 16 → f r c ≡ g r c)
+    → whole_cost f p place v ≡ whole_cost g p place v
+unfolding whole_cost
+whole_cost-same f g p place v same = sum_of_differences-same 16 16 f g (moved_block p place v) (moved_block p place v) same (λ r c h k. refl)
+
+pub quarter_cost-same : (f g : ℕ → ℕ → ℕ) (p : Raster) (place : Place) (v : QuarterVector) → ((r c : ℕ) → r < 16 → c < 16 → f r c ≡ g r c)
+    → quarter_cost f p place v ≡ quarter_cost g p place v
+unfolding quarter_cost
+quarter_cost-same f g p place v same = sum_of_differences-same 16 16 f g (predicted_block p place v) (predicted_block p place v) same (λ r c h k. refl)
+
+-- ---- one place more
+
+-- the vector at a place with its cost
+pub kept_at : (block window : List ℕ) (range i j cost : ℕ) (v : WholeVector) → i ≤ 2 * range → j ≤ 2 * range → v ≡ vector_at range i j
+    → cost ≡ sum_of_differences 16 16 (block_in block 0 16) (block_in window (i * 144 + j) 144) → IsKept range (window_cost block window range) (record { vector = v; cost = cost })
+kept_at block window range i j cost v hi hj e known = record {
+  near = subst (λ (u : WholeVector). IsNear range u) (sym e) (near_at range i j hi hj);
+  known = known ∙ sym (cost_at block window range i j) ∙ ap (window_cost block window range) (sym e);
+}
+
+-- .. and it is no larger than itself
+pub taken_at : (block window : List ℕ) (range i j a cost : ℕ) (u v : WholeVector) → v ≡ vector_at range i j
+    → cost ≡ sum_of_differences 16 16 (block_in block 0 16) (block_in window (i * 144 + j) 144) → NoLarger a u cost v
+    → NoLarger a u (window_cost block window range (vector_at range i j)) (vector_at range i j)
+taken_at block window range i j a cost u v e known p =
+    subst (λ (w : WholeVector). NoLarger a u (window_cost block window range (vector_at range i j)) w) e
+    (subst (λ (k : ℕ). NoLarger a u k v) (known ∙ sym (cost_at block window range i j)) p)
+
+-- the kept one of two
+pub kept_of : (range : ℕ) (cost : WholeVector → ℕ) (old new found : Found) → IsKept range cost old → IsKept range cost new → (found ≡ old) ⊎ (found ≡ new) → IsKept range cost found
+kept_of range cost old new found p q (inl e) = subst (λ (f : Found). IsKept range cost f) (sym e) p
+kept_of range cost old new found p q (inr e) = subst (λ (f : Found). IsKept range cost f) (sym e) q
+
+-- one row more of the window
+pub filled_more : (p : Raster) (place : Place) (range i : ℕ) (old new line : List ℕ) (left top : ℤ) → range ≤ 64 → 0 < p.width
+    → line ≡ row_of p (nearest p.height top) → length line ≡ p.width
+    → left ≡ pos (16 * place.column) -ℤ pos range → top ≡ pos (16 * place.row + i) -ℤ pos range
+    → ((k j : ℕ) → k < i → j < 2 * range + 16 → get_or old (k * 144 + j) 0 ≡ searched_pixel p place range k j)
+    → ((j : ℕ) → j < 2 * range + 16 → get_or new (i * 144 + j) 0 ≡ get_or line (nearest (length line) (left +ℤ pos j)) 0)
+    → ((k : ℕ) → k < i * 144 → get_or new k 0 ≡ get_or old k 0)
+    → (k j : ℕ) → k < i + 1 → j < 2 * range + 16 → get_or new (k * 144 + j) 0 ≡ searched_pixel p place range k j
+filled_more p place range i old new line left top small wide e long el et done here before k j kin jin =
+    elim (cases_lt k i) [
+      | inl less ↦ before (k * 144 + j) (omega arith) ∙ done k j less jin
+      | inr more ↦
+          let same : k ≡ i = omega arith in
+          let column : left +ℤ pos j ≡ pos (16 * place.column + j) -ℤ pos range = omega (arith, ints) in
+          ap (λ (n : ℕ). get_or new (n * 144 + j) 0) same
+          ∙ here j jin
+          ∙ line_beyond p line (left +ℤ pos j) top e long wide
+          ∙ ap₂ (reference_pixel p) column et
+          ∙ ap (λ (n : ℕ). searched_pixel p place range n j) (sym same)
+    ]

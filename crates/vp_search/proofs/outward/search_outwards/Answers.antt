@@ -1,0 +1,56 @@
+use Rattle.std.proofs.Common.{◌≡◌, ℕ, ◌+◌, ◌*◌, sym, ap, ◌∙◌, arith, subst, inl, inr, ◌-◌}
+use Rattle.vp_search.specs.declared.vector.WholeVector.{WholeVector}
+use Rattle.vp_search.specs.declared.vector.Found.{Found}
+use Rattle.vp_search.specs.Least.{NoLarger}
+use Rattle.vp_search.specs.Window.{window_cost, vector_at}
+use Rattle.vp_search.specs.Differences.{sum_of_differences, block_in}
+use Rattle.std.proofs.lemmas.Bool.{cases_eq}
+use Rattle.vp_search.proofs.WindowLemmas.{cost_at}
+use Rattle.vp_search.proofs.OrderLemmas.{index, vector_is, near_at, along}
+use Rattle.vp_search.proofs.outward.search_outwards.Goals as goal
+
+pub consider_row-best-requires-clause-best : goal.consider_row-best-requires-clause-best
+consider_row-best-requires-clause-best c =
+    let b = c.args.block.now in let w = c.args.window.now in let r = c.args.range in
+    let m : c.from-middle.result ≡ r = c.from-middle.ensures in
+    let e : c.vector_at-vector.result ≡ vector_at r r r = c.vector_at-vector.ensures ∙ ap (λ (k : ℕ). vector_at r k k) m in
+    let x : c.sad_within-cost.result ≡ sum_of_differences 16 16 (block_in b 0 16) (block_in w (c.from-middle.result * 144 + c.from-middle.result) 144) = c.sad_within-cost.ensures.exact (omega (arith, c.sad_within-cost.ensures.bound)) in
+    let y : c.sad_within-cost.result ≡ window_cost b w r (vector_at r r r) = x ∙ ap (λ (k : ℕ). sum_of_differences 16 16 (block_in b 0 16) (block_in w (k * 144 + k) 144)) m ∙ sym (cost_at b w r r r) in
+    rw e (record { near = near_at r r r (omega arith) (omega arith); known = y })
+
+pub loop-d-preserved : goal.loop-d-preserved
+loop-d-preserved c =
+    let b = c.args.block.now in let w = c.args.window.now in let r = c.args.range in let d = c.loop-d.d in
+    let f : Found = c.loop-d.best in let g : Found = c.consider_row-best-in-loop-d.result in let h : Found = c.consider_row-best-in-loop-d-2.result in
+    let m : c.from-middle.result ≡ r = c.from-middle.ensures in
+    let one = c.consider_row-best-in-loop-d.ensures in let two = c.consider_row-best-in-loop-d-2.ensures in
+    let inv = c.loop-d.invariant in
+    record {
+      kept = two.kept;
+      seen = λ p q low high wide. elim (cases_eq p (c.from-middle.result - 1 - d)) [
+        | inl e ↦ (let n : NoLarger g.cost g.vector (window_cost b w r (vector_at r p q)) (vector_at r p q) =
+            subst (λ (k : ℕ). NoLarger g.cost g.vector (window_cost b w r (vector_at r k q)) (vector_at r k q)) (sym e) (one.here q wide) in
+            along h.cost h.vector g.cost g.vector _ (vector_at r p q) two.old n)
+        | inr u ↦ elim (cases_eq p (c.from-middle.result + 1 + d)) [
+          | inl e ↦ subst (λ (k : ℕ). NoLarger h.cost h.vector (window_cost b w r (vector_at r k q)) (vector_at r k q)) (sym e) (two.here q wide)
+          | inr v ↦ along h.cost h.vector g.cost g.vector _ (vector_at r p q) two.old
+              (along g.cost g.vector f.cost f.vector _ (vector_at r p q) one.old (inv.seen p q (omega arith) (omega arith) wide))
+        ]
+      ];
+    }
+
+pub returns-clause-least : goal.returns-clause-least
+returns-clause-least c =
+    let r = c.args.range in let f : Found = c.loop-d.best in
+    let cost = window_cost c.args.block.now c.args.window.now r in
+    let m : c.from-middle.result ≡ r = c.from-middle.ensures in
+    let t = c.loop-d-test.false in
+    record {
+      near = c.loop-d.invariant.kept.near;
+      least = λ v near.
+          let x = index r v.row near.0 in let y = index r v.column near.1 in
+          let xw = x.within in let yw = y.within in
+          let e : vector_at r x.at y.at ≡ v = vector_is (vector_at r x.at y.at) v (sym x.is) (sym y.is) in
+          subst (λ (k : ℕ). NoLarger k f.vector (cost v) v) c.loop-d.invariant.kept.known
+          (subst (λ (u : WholeVector). NoLarger f.cost f.vector (cost u) u) e (c.loop-d.invariant.seen x.at y.at (omega arith) (omega arith) yw));
+    }

@@ -1,0 +1,30 @@
+-- The luma block of a macroblock, the blocks that predict it, and what they cost (RFC 6386, chapters 5 and 18).
+use Rattle.std.specs.Prelude.{ℕ, pos, ◌+◌, ◌*◌, ◌+ℤ◌}
+use Rattle.vp_base.specs.declared.place.Place.{Place}
+use Rattle.vp_base.specs.Raster.{Raster, pixel}
+use Rattle.vp_inter.specs.Vectors.{luma_vector}
+use Rattle.vp_inter.specs.Inter.{reference_pixel, inter_pixel}
+use Rattle.vp_search.specs.declared.vector.WholeVector.{WholeVector}
+use Rattle.vp_search.specs.declared.vector.QuarterVector.{QuarterVector}
+use Rattle.vp_search.specs.Differences.{sum_of_differences}
+
+-- the pixels of the macroblock at a place
+abbrev pub block_at : Raster → Place → ℕ → ℕ → ℕ
+block_at p place r c = pixel p (16 * place.column + c) (16 * place.row + r)
+
+-- the pixels of a reference that a vector in whole pixels moves there; a reference goes on outside the plane
+abbrev pub moved_block : Raster → Place → WholeVector → ℕ → ℕ → ℕ
+moved_block p place v r c =
+    reference_pixel p (pos (16 * place.column + c) +ℤ v.column) (pos (16 * place.row + r) +ℤ v.row)
+
+-- the pixels that are predicted there by a vector in quarter pixels, by the six taps of version 0
+abbrev pub predicted_block : Raster → Place → QuarterVector → ℕ → ℕ → ℕ
+predicted_block p place v = inter_pixel 0 p (16 * place.column) (16 * place.row) (luma_vector v.row v.column)
+
+-- how much the block f differs from what a vector in whole pixels moves there
+unfoldable pub whole_cost : (ℕ → ℕ → ℕ) → Raster → Place → WholeVector → ℕ
+whole_cost f reference place v = sum_of_differences 16 16 f (moved_block reference place v)
+
+-- how much it differs from what a vector in quarter pixels predicts
+unfoldable pub quarter_cost : (ℕ → ℕ → ℕ) → Raster → Place → QuarterVector → ℕ
+quarter_cost f reference place v = sum_of_differences 16 16 f (predicted_block reference place v)

@@ -1,0 +1,8 @@
+-- The first of the least.
+use Rattle.std.specs.Prelude.{ℕ, ◌<◌, ◌≤◌}
+
+-- of f 0 .. f (n - 1) none is less than the one at `best`, and those before it are larger
+pub record IsFirstLeast (n : ℕ) (f : ℕ → ℕ) (best : ℕ) : Type 0 where
+  pub within : best < n
+  pub least : (k : ℕ) → k < n → f best ≤ f k
+  pub first : (k : ℕ) → k < best → f best < f k

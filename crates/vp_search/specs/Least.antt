@@ -1,0 +1,20 @@
+-- The least vector.
+use Rattle.std.specs.Prelude.{◌≡◌, ℕ, ◌≤◌, ◌≤ℤ◌}
+use Rattle.vp_search.specs.declared.vector.WholeVector.{WholeVector}
+use Rattle.vp_search.specs.Vectors.{size, IsNear}
+
+-- a vector v of cost a is no larger than a vector w of cost b: by cost, then size, then row, then column
+pub record NoLarger (a : ℕ) (v : WholeVector) (b : ℕ) (w : WholeVector) : Type 0 where
+  pub by_cost : a ≤ b
+  pub by_size : a ≡ b → size v ≤ size w
+  pub by_row : a ≡ b → size v ≡ size w → v.row ≤ℤ w.row
+  pub by_column : a ≡ b → size v ≡ size w → v.row ≡ w.row → v.column ≤ℤ w.column
+
+-- a vector within range that is no larger than any other there
+pub record IsLeast (range : ℕ) (cost : WholeVector → ℕ) (best : WholeVector) : Type 0 where
+  pub near : IsNear range best
+  pub least : (v : WholeVector) → IsNear range v → NoLarger (cost best) best (cost v) v
+
+-- two least vectors are one
+abbrev pub LeastIsOne : Type 0
+LeastIsOne = (range : ℕ) (cost : WholeVector → ℕ) (v w : WholeVector) → IsLeast range cost v → IsLeast range cost w → v ≡ w

@@ -1,0 +1,40 @@
+-- The refinement of a vector, in two stages.
+use Rattle.std.specs.Prelude.{◌≡◌, ℕ, ℤ, pos, ◌+ℤ◌, ◌-ℤ◌, List, [], ◌∷◌, slice_index_or}
+use Rattle.vp_search.specs.declared.vector.WholeVector.{WholeVector}
+use Rattle.vp_search.specs.declared.vector.QuarterVector.{QuarterVector}
+use Rattle.vp_search.specs.Vectors.{quarters}
+use Rattle.vp_search.specs.FirstLeast.{IsFirstLeast}
+
+-- a centre, and then its eight neighbours at a distance, row after row
+abbrev pub places : QuarterVector → ℤ → List QuarterVector
+places centre d =
+    centre
+    ∷ record { row = centre.row -ℤ d; column = centre.column -ℤ d }
+    ∷ record { row = centre.row -ℤ d; column = centre.column }
+    ∷ record { row = centre.row -ℤ d; column = centre.column +ℤ d }
+    ∷ record { row = centre.row; column = centre.column -ℤ d }
+    ∷ record { row = centre.row; column = centre.column +ℤ d }
+    ∷ record { row = centre.row +ℤ d; column = centre.column -ℤ d }
+    ∷ record { row = centre.row +ℤ d; column = centre.column }
+    ∷ record { row = centre.row +ℤ d; column = centre.column +ℤ d }
+    ∷ []
+
+abbrev pub neighbour : QuarterVector → ℤ → ℕ → QuarterVector
+neighbour centre d k = slice_index_or (places centre d) k centre
+
+-- the first of them with the least cost
+pub record IsBestOf (cost : QuarterVector → ℕ) (centre : QuarterVector) (d : ℤ) (best : QuarterVector) : Type 0 where
+  pub number : ℕ
+  pub first : IsFirstLeast 9 (λ k. cost (neighbour centre d k)) number
+  pub is : best ≡ neighbour centre d number
+
+-- the best of a vector in whole pixels and its neighbours half a pixel away, and then of that one and its neighbours a
+-- quarter of a pixel away
+pub record IsRefined (cost : QuarterVector → ℕ) (centre : WholeVector) (best : QuarterVector) : Type 0 where
+  pub halfway : QuarterVector
+  pub first : IsBestOf cost (quarters centre) (pos 2) halfway
+  pub second : IsBestOf cost halfway (pos 1) best
+
+-- two refinements are one
+abbrev pub RefinedIsOne : Type 0
+RefinedIsOne = (cost : QuarterVector → ℕ) (centre : WholeVector) (v w : QuarterVector) → IsRefined cost centre v → IsRefined cost centre w → v ≡ w

@@ -1,0 +1,38 @@
+//! Sums of absolute differences of blocks of 16 by 16 pixels.
+
+ghost use Rattle.std.specs.Prelude.{◌≡◌, ◌+◌, ◌*◌, ◌<◌, ◌≤◌, length};
+ghost use Rattle.vp_search.specs.Differences.{sum_of_differences, block_in, block16};
+
+use crate::kernel::four_rows;
+
+/// The sum of absolute differences of two blocks of 16 by 16 pixels, each row after row.
+pub fn sad16(a: &[u8; 256], b: &[u8; 256]) -> u32
+    ensures value { result ≡ sum_of_differences 16 16 (block16 a.now) (block16 b.now) }
+    ensures bound { result ≤ 65280 }
+{
+    sad_within(a, b, 0, 16, u32::MAX)
+}
+
+/// The sum of absolute differences of a block and the one at `at` in rows of `stride`, where it is at most `limit`, else
+/// a number above `limit`.
+pub(crate) fn sad_within(block: &[u8], window: &[u8], at: usize, stride: usize, limit: u32) -> u32
+    requires block { 256 ≤ length block.now }
+    requires window { at + 15 * stride + 16 ≤ length window.now }
+    ensures exact { result ≤ limit → result ≡ sum_of_differences 16 16 (block_in block.now 0 16) (block_in window.now at stride) }
+    ensures over { limit < result → limit < sum_of_differences 16 16 (block_in block.now 0 16) (block_in window.now at stride) }
+    ensures bound { result ≤ 65280 }
+{
+    let first = four_rows(block, window, 0, 16, at, stride);
+    if first > limit {
+        return first;
+    }
+    let second = first + four_rows(block, window, 64, 16, at + 4 * stride, stride);
+    if second > limit {
+        return second;
+    }
+    let third = second + four_rows(block, window, 128, 16, at + 8 * stride, stride);
+    if third > limit {
+        return third;
+    }
+    third + four_rows(block, window, 192, 16, at + 12 * stride, stride)
+}

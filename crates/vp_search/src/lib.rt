@@ -1,0 +1,25 @@
+//! The motion search of the encoder: how much blocks differ, and the vectors by which they differ least.
+#![tactic(auto)]
+
+mod block;
+mod difference;
+mod kernel;
+mod laws;
+mod least;
+mod outward;
+mod refinement;
+mod search;
+mod squares;
+#[cfg(test)]
+mod tests;
+mod vector;
+mod window;
+
+pub use block::macroblock;
+pub use difference::sad16;
+pub use laws::{least_vector_is_one, refined_vector_is_one};
+pub use least::first_least;
+pub use refinement::refine;
+pub use search::full_search;
+pub use squares::sse;
+pub use vector::{Found, QuarterVector, Refined, WholeVector};

@@ -1,0 +1,104 @@
+//! The least vector of a window, by rows from the middle outwards: a search finds the same vector in any order.
+
+ghost use Rattle.std.specs.Prelude.{◌≡◌, ℕ, ◌+◌, ◌*◌, ◌<◌, ◌≤◌, ◌⊎◌, length, slice_index};
+ghost use Rattle.vp_search.specs.Vectors.{IsNear};
+ghost use Rattle.vp_search.specs.Least.{IsLeast, NoLarger};
+ghost use Rattle.vp_search.specs.Window.{vector_at, window_cost, IsKept};
+
+use crate::difference::sad_within;
+use crate::vector::{Found, size, vector_at};
+
+/// How many pixels a row of the window has: a block, and 64 to each side.
+pub(crate) const STRIDE: usize = 144;
+
+/// The less of a known vector and the one at row `i` and column `j`.
+fn consider(block: &[u8], window: &[u8], range: u8, best: Found, i: usize, j: usize) -> Found
+    requires block { 256 ≤ length block.now }
+    requires window { (2 * range + 16) * 144 ≤ length window.now }
+    requires range { range ≤ 64 }
+    requires i { i ≤ 2 * range }
+    requires j { j ≤ 2 * range }
+    requires best { IsKept range (window_cost block.now window.now range) best }
+    ensures kept { IsKept range (window_cost block.now window.now range) result }
+    ensures old { NoLarger result.cost result.vector best.cost best.vector }
+    ensures here { NoLarger result.cost result.vector (window_cost block.now window.now range (vector_at range i j)) (vector_at range i j) }
+{
+    let cost = sad_within(block, window, i * STRIDE + j, STRIDE, best.cost);
+    if cost > best.cost {
+        return best;
+    }
+    lesser(
+        best,
+        Found {
+            vector: vector_at(i, j, range),
+            cost,
+        },
+    )
+}
+
+/// The less of two: by cost, then how far it goes, then row, then column.
+fn lesser(old: Found, new: Found) -> Found
+    requires old { IsNear 64 old.vector }
+    requires new { IsNear 64 new.vector }
+    ensures old { NoLarger result.cost result.vector old.cost old.vector }
+    ensures new { NoLarger result.cost result.vector new.cost new.vector }
+    ensures one { (result ≡ old) ⊎ (result ≡ new) }
+{
+    if new.cost != old.cost {
+        return if new.cost < old.cost { new } else { old };
+    }
+    let (new_size, old_size) = (size(new.vector), size(old.vector));
+    if new_size != old_size {
+        return if new_size < old_size { new } else { old };
+    }
+    if new.vector.row != old.vector.row {
+        return if new.vector.row < old.vector.row {
+            new
+        } else {
+            old
+        };
+    }
+    if new.vector.column < old.vector.column {
+        new
+    } else {
+        old
+    }
+}
+
+/// The less of a known vector and those of row `i`.
+fn consider_row(block: &[u8], window: &[u8], range: u8, best: Found, i: usize) -> Found
+    requires block { 256 ≤ length block.now }
+    requires window { (2 * range + 16) * 144 ≤ length window.now }
+    requires range { range ≤ 64 }
+    requires i { i ≤ 2 * range }
+    requires best { IsKept range (window_cost block.now window.now range) best }
+    ensures kept { IsKept range (window_cost block.now window.now range) result }
+    ensures old { NoLarger result.cost result.vector best.cost best.vector }
+    ensures here { (j : ℕ) → j ≤ 2 * range → NoLarger result.cost result.vector (window_cost block.now window.now range (vector_at range i j)) (vector_at range i j) }
+{
+    let mut found = best;
+    for j in 0..2 * usize::from(range) + 1 {
+        found = consider(block, window, range, found, i, j);
+    }
+    found
+}
+
+/// The least vector of a window.
+pub(crate) fn search_outwards(block: &[u8], window: &[u8], range: u8) -> Found
+    requires block { 256 ≤ length block.now }
+    requires window { (2 * range + 16) * 144 ≤ length window.now }
+    requires range { range ≤ 64 }
+    ensures cost { result.cost ≡ window_cost block.now window.now range result.vector }
+    ensures least { IsLeast range (window_cost block.now window.now range) result.vector }
+    ensures bytes { (k : ℕ) → slice_index window.now k ≤ 255 }
+{
+    let middle = usize::from(range);
+    let vector = vector_at(middle, middle, range);
+    let cost = sad_within(block, window, middle * STRIDE + middle, STRIDE, u32::MAX);
+    let mut best = consider_row(block, window, range, Found { vector, cost }, middle);
+    for d in 0..middle {
+        best = consider_row(block, window, range, best, middle - 1 - d);
+        best = consider_row(block, window, range, best, middle + 1 + d);
+    }
+    best
+}

@@ -1,0 +1,117 @@
+//! The refinement of a vector to quarter pixels.
+
+ghost use Rattle.std.specs.Prelude.{◌≡◌, pos, ◌+◌, ◌*◌, ◌<◌, ◌≤◌, ◌-ℤ◌, ◌*ℤ◌, unsigned_abs};
+ghost use Rattle.vp_search.specs.Vectors.{quarters, IsNear};
+ghost use Rattle.vp_search.specs.Differences.{block16};
+ghost use Rattle.vp_search.specs.Blocks.{block_at, quarter_cost};
+ghost use Rattle.vp_search.specs.Refined.{places, IsBestOf, IsRefined};
+
+use crate::block::macroblock;
+use crate::difference::sad16;
+use crate::least::first_least;
+use crate::vector::{QuarterVector, Refined, WholeVector, quarters};
+use vp_base::{Place, Plane};
+use vp_inter::{luma_vector, predict_block16};
+
+/// The vector in quarter pixels that predicts the source's macroblock at `place` best: of `centre` and its eight
+/// neighbours half a pixel away, and then of that one and its eight neighbours a quarter of a pixel away. Of equal ones
+/// the middle one is taken, then the first by rows. Prediction is version 0's, of six taps (RFC 6386, chapter 18).
+pub fn refine(source: &Plane, reference: &Plane, place: Place, centre: WholeVector) -> Refined
+    requires columns { 16 * place.column + 16 ≤ source.now.width }
+    requires rows { 16 * place.row + 16 ≤ source.now.height }
+    requires wide { 0 < reference.now.width }
+    requires high { 0 < reference.now.height }
+    requires near { IsNear 16384 centre }
+    ensures cost { result.cost ≡ quarter_cost (block_at source.now place) reference.now place result.vector }
+    ensures refined { IsRefined (quarter_cost (block_at source.now place) reference.now place) centre result.vector }
+    ensures row { unsigned_abs (result.vector.row -ℤ pos 4 *ℤ centre.row) ≤ 3 }
+    ensures column { unsigned_abs (result.vector.column -ℤ pos 4 *ℤ centre.column) ≤ 3 }
+{
+    let _size = [source.width(), source.height()];
+    let block = macroblock(source, place);
+    let middle = quarters(centre);
+    let halfway = best_of(&block, reference, place, middle, 2);
+    best_of(&block, reference, place, halfway.vector, 1)
+}
+
+/// The best of `centre` and its eight neighbours at a distance.
+fn best_of(
+    block: &[u8; 256],
+    reference: &Plane,
+    place: Place,
+    centre: QuarterVector,
+    distance: i32,
+) -> Refined
+    requires columns { 16 * place.column ≤ 16384 }
+    requires rows { 16 * place.row ≤ 16384 }
+    requires wide { 0 < reference.now.width }
+    requires high { 0 < reference.now.height }
+    requires row { unsigned_abs centre.row ≤ 100000 }
+    requires column { unsigned_abs centre.column ≤ 100000 }
+    requires distance { unsigned_abs distance ≤ 2 }
+    ensures cost { result.cost ≡ quarter_cost (block16 block.now) reference.now place result.vector }
+    ensures best { IsBestOf (quarter_cost (block16 block.now) reference.now place) centre distance result.vector }
+    ensures row { unsigned_abs (result.vector.row -ℤ centre.row) ≤ unsigned_abs distance }
+    ensures column { unsigned_abs (result.vector.column -ℤ centre.column) ≤ unsigned_abs distance }
+{
+    let vectors = around(centre, distance);
+    let mut costs = [0; 9];
+    for k in 0..9 {
+        costs[k] = cost_of(block, reference, place, vectors[k]);
+    }
+    let best = first_least(&costs);
+    Refined {
+        vector: vectors[best],
+        cost: costs[best],
+    }
+}
+
+/// A vector, and then its eight neighbours at a distance, row after row.
+fn around(centre: QuarterVector, distance: i32) -> [QuarterVector; 9]
+    requires row { unsigned_abs centre.row ≤ 100000 }
+    requires column { unsigned_abs centre.column ≤ 100000 }
+    requires distance { unsigned_abs distance ≤ 2 }
+    ensures { result ≡ places centre distance }
+{
+    let QuarterVector { row, column } = centre;
+    let (above, below) = (row - distance, row + distance);
+    let (left, right) = (column - distance, column + distance);
+    [
+        centre,
+        QuarterVector {
+            row: above,
+            column: left,
+        },
+        QuarterVector { row: above, column },
+        QuarterVector {
+            row: above,
+            column: right,
+        },
+        QuarterVector { row, column: left },
+        QuarterVector { row, column: right },
+        QuarterVector {
+            row: below,
+            column: left,
+        },
+        QuarterVector { row: below, column },
+        QuarterVector {
+            row: below,
+            column: right,
+        },
+    ]
+}
+
+/// How much a block differs from what a vector predicts.
+fn cost_of(block: &[u8; 256], reference: &Plane, place: Place, vector: QuarterVector) -> u32
+    requires columns { 16 * place.column ≤ 16384 }
+    requires rows { 16 * place.row ≤ 16384 }
+    requires wide { 0 < reference.now.width }
+    requires high { 0 < reference.now.height }
+    requires row { unsigned_abs vector.row ≤ 100002 }
+    requires column { unsigned_abs vector.column ≤ 100002 }
+    ensures { result ≡ quarter_cost (block16 block.now) reference.now place vector }
+{
+    let [x, y] = [16 * place.column, 16 * place.row];
+    let prediction = predict_block16(reference, x, y, luma_vector(vector.row, vector.column), 0);
+    sad16(block, &prediction)
+}

@@ -1,0 +1,59 @@
+//! The window of a reference that is searched.
+
+ghost use Rattle.std.specs.Prelude.{◌≡◌, ℕ, ℤ, pos, negsuc, ◌+◌, ◌*◌, ◌<◌, ◌≤◌, ◌+ℤ◌, ◌≤ℤ◌, length, slice_index};
+ghost use Rattle.vp_inter.specs.Inter.{nearest};
+ghost use Rattle.vp_search.specs.Window.{searched_pixel};
+
+use crate::outward::STRIDE;
+use vp_base::{Place, Plane};
+
+/// The nearest to `at` of 0 to `size - 1`.
+fn nearest(at: i32, size: usize) -> usize
+    requires { 0 < size }
+    ensures value { result ≡ nearest size at }
+    ensures bound { result < size }
+{
+    if at < 0 {
+        0
+    } else {
+        (at as usize).min(size - 1)
+    }
+}
+
+/// Fills the window with the pixels round the macroblock at `place`, `range` of them to each side.
+pub(crate) fn cut_window(window: &mut [u8], reference: &Plane, place: Place, range: u8)
+    requires range { range ≤ 64 }
+    requires room { (2 * range + 16) * 144 ≤ length window.old }
+    requires columns { 16 * place.column ≤ 16384 }
+    requires rows { 16 * place.row ≤ 16384 }
+    requires wide { 0 < reference.now.width }
+    requires high { 0 < reference.now.height }
+    ensures { (i j : ℕ) → i < 2 * range + 16 → j < 2 * range + 16 → slice_index window.new (i * 144 + j) ≡ searched_pixel reference.now place range i j }
+{
+    let side = 2 * usize::from(range) + 16;
+    let left = (16 * place.column) as i32 - i32::from(range);
+    let top = (16 * place.row) as i32 - i32::from(range);
+    for i in 0..side {
+        let line = reference.row(nearest(top + i as i32, reference.height()));
+        cut_row(window, i * STRIDE, side, line, left);
+    }
+}
+
+/// Writes, from `at` on, the `side` numbers of `line` nearest to `left` and the places behind it.
+fn cut_row(window: &mut [u8], at: usize, side: usize, line: &[u8], left: i32)
+    requires room { at + side ≤ length window.old }
+    requires side { side ≤ 144 }
+    requires some { 0 < length line.now }
+    requires near { (negsuc 100000 ≤ℤ left) × (left ≤ℤ pos 100000) }
+    ensures here { (c : ℕ) → c < side → slice_index window.new (at + c) ≡ slice_index line.now (nearest (length line.now) (left +ℤ pos c)) }
+    ensures before { (k : ℕ) → k < at → slice_index window.new k ≡ slice_index window.old k }
+{
+    if left >= 0 && left as usize + side <= line.len() {
+        let start = left as usize;
+        window[at..at + side].copy_from_slice(&line[start..start + side]);
+    } else {
+        for c in 0..side {
+            window[at + c] = line[nearest(left + c as i32, line.len())];
+        }
+    }
+}
