@@ -2,3 +2,5 @@ pub mod Sums
 pub mod ReferenceLemmas
 pub mod FilterLemmas
 pub mod PassLemmas
+pub mod NarrowLemmas
+pub mod PlainLemmas

@@ -1,7 +1,6 @@
 -- Lemmas on the two passes over a block.
-use Rattle.std.proofs.Common.{◌≡◌, ◌∙◌, ℕ, ◌+◌, ◌*◌, ◌<◌, ◌≤◌, ℤ, pos, ◌+ℤ◌, List, length, get_or, slice_range, ap, subst, sym, arith, rules, inl, inr}
+use Rattle.std.proofs.Common.{◌≡◌, ◌∙◌, ℕ, ◌+◌, ◌*◌, ◌<◌, ◌≤◌, ℤ, pos, ◌+ℤ◌, List, get_or, ap, subst, sym, arith, inl, inr}
 use Rattle.std.proofs.lemmas.Int.{ints}
-use Rattle.std.proofs.lemmas.List.{places}
 use Rattle.std.proofs.lemmas.Nat.{row_fits}
 use Rattle.std.proofs.lemmas.Bool.{cases_lt}
 use Rattle.vp_base.specs.Raster.{Raster}
@@ -27,36 +26,6 @@ rows_more n i old new row value done here before last k c kin cin =
           let e : k ≡ i = omega arith in
           ap (λ (j : ℕ). get_or new (j * n + c) 0) e ∙ here c cin ∙ last c cin ∙ ap (λ (j : ℕ). value j c) (sym e)
     ]
-
--- the horizontal pass over a line of the reference
-pub across_line : (weights : List ℤ) (p : Raster) (left row : ℤ) (n w : ℕ) (line : List ℕ) → w ≡ n + 5
-    → ((c : ℕ) → c < w → get_or line c 0 ≡ reference_pixel p (left +ℤ pos c) row)
-    → (c : ℕ) → c < n → filter_six weights (λ k. get_or line (c + k) 0) ≡ filter_six weights (λ k. reference_pixel p (left +ℤ pos (c + k)) row)
-across_line weights p left row n w line e same c cin =
-    filter_six-same weights (λ k. get_or line (c + k) 0) (λ k. reference_pixel p (left +ℤ pos (c + k)) row) (λ k kin. same (c + k) (omega arith))
-
-in_six : (rows : List ℕ) (n r k c : ℕ) → r < n → k < 6 → c < n → length rows ≡ (n + 5) * n
-    → get_or (slice_range rows (r * n) (r * n + 6 * n)) (k * n + c) 0 ≡ get_or rows ((r + k) * n + c) 0
-in_six rows n r k c rin kin cin long =
-    let fits : r * n + 6 * n ≤ length rows = six_fit in
-    let room : k * n + n ≤ 6 * n = row_fits k n 6 n kin (omega arith) in
-    let at : k * n + c < 6 * n = omega arith in
-    let e : (r * n) + (k * n + c) ≡ (r + k) * n + c = grind arith in
-    (let s : get_or (slice_range rows (r * n) (r * n + 6 * n)) (k * n + c) 0 ≡ get_or rows ((r * n) + (k * n + c)) 0 = search (rules, places) in s)
-    ∙ ap (λ (j : ℕ). get_or rows j 0) e
-  where
-    six_fit : r * n + 6 * n ≤ length rows
-    six_fit =
-        let a : (r + 5) * n + n ≤ (n + 5) * n = row_fits (r + 5) n (n + 5) n (omega arith) (omega arith) in
-        let b : (r + 5) * n ≡ r * n + 5 * n = grind arith in
-        omega arith
-
--- the vertical pass over six rows of n
-pub down_rows : (weights : List ℤ) (rows : List ℕ) (n r : ℕ) → r < n → length rows ≡ (n + 5) * n → (c : ℕ) → c < n
-    → filter_six weights (λ k. get_or (slice_range rows (r * n) (r * n + 6 * n)) (k * n + c) 0) ≡ filter_six weights (λ k. get_or rows ((r + k) * n + c) 0)
-down_rows weights rows n r rin long c cin =
-    filter_six-same weights (λ k. get_or (slice_range rows (r * n) (r * n + 6 * n)) (k * n + c) 0) (λ k. get_or rows ((r + k) * n + c) 0)
-    (λ k kin. in_six rows n r k c rin kin cin long)
 
 -- both passes
 pub inter_both : (version : ℕ) (p : Raster) (x y : ℕ) (v : PlaneVector) (n : ℕ) (rows : List ℕ)
@@ -91,14 +60,14 @@ inter_level version p x y v r c none =
 pub rows_bytes : (n i : ℕ) (value : ℕ → ℕ → ℕ) (row : List ℕ)
     → ((k c : ℕ) → k < i → c < n → value k c ≤ 255)
     → ((c : ℕ) → c < n → get_or row c 0 ≡ value i c)
-    → ((c : ℕ) → get_or row c 0 ≤ 255)
+    → ((c : ℕ) → c < n → get_or row c 0 ≤ 255)
     → (k c : ℕ) → k < i + 1 → c < n → value k c ≤ 255
 rows_bytes n i value row done last bytes k c kin cin =
     elim (cases_lt k i) [
       | inl less ↦ done k c less cin
       | inr same ↦
           let e : k ≡ i = omega arith in
-          subst (λ (v : ℕ). v ≤ 255) (last c cin ∙ ap (λ (j : ℕ). value j c) (sym e)) (bytes c)
+          subst (λ (v : ℕ). v ≤ 255) (last c cin ∙ ap (λ (j : ℕ). value j c) (sym e)) (bytes c cin)
     ]
 
 -- at whole rows and columns neither pass does anything
@@ -115,3 +84,15 @@ inter_whole version p x y v r c rows columns byte =
     ∙ sym (filter_six-whole version line (subst (λ (n : ℕ). n ≤ 255) at byte))
     ∙ ap (λ (n : ℕ). filter_six (taps version n) line) (sym columns)
     ∙ inter_level version p x y v r c rows
+
+-- at whole columns the horizontal pass does nothing
+pub across_whole : (version eighths : ℕ) (p : Raster) (left top : ℤ) (i c : ℕ) → eighths ≡ 0 → reference_pixel p (left +ℤ pos 2 +ℤ pos c) (top +ℤ pos i) ≤ 255
+    → reference_pixel p (left +ℤ pos 2 +ℤ pos c) (top +ℤ pos i) ≡ across (taps version eighths) p left top i c
+unfolding across
+across_whole version eighths p left top i c none byte =
+    let line : ℕ → ℕ = λ (k : ℕ). reference_pixel p (left +ℤ pos (c + k)) (top +ℤ pos i) in
+    let e : left +ℤ pos 2 +ℤ pos c ≡ left +ℤ pos (c + 2) = omega (arith, ints) in
+    let at : reference_pixel p (left +ℤ pos 2 +ℤ pos c) (top +ℤ pos i) ≡ line 2 = ap (λ (z : ℤ). reference_pixel p z (top +ℤ pos i)) e in
+    at
+    ∙ sym (filter_six-whole version line (subst (λ (n : ℕ). n ≤ 255) at byte))
+    ∙ ap (λ (n : ℕ). filter_six (taps version n) line) (sym none)

@@ -1,5 +1,5 @@
 -- Inter prediction (RFC 6386, chapter 18).
-use Rattle.std.specs.Prelude.{ℕ, ℤ, pos, negsuc, ◌+◌, ◌-◌, ◌+ℤ◌, min, List}
+use Rattle.std.specs.Prelude.{ℕ, ℤ, pos, negsuc, ◌+◌, ◌-◌, ◌+ℤ◌, ◌≤ℤ◌, min, List}
 use Rattle.vp_base.specs.Raster.{Raster, pixel}
 use Rattle.vp_inter.specs.declared.vector.PlaneVector.{PlaneVector}
 use Rattle.vp_inter.specs.Vectors.{fraction, start}
@@ -13,6 +13,11 @@ nearest size (negsuc _) = 0
 -- a reference has a pixel at each column and row: outside the plane it is the nearest pixel of the plane
 unfoldable pub reference_pixel : Raster → ℤ → ℤ → ℕ
 reference_pixel p column row = pixel p (nearest p.width column) (nearest p.height row)
+
+-- a block of so many columns and rows at a place lies inside the plane
+abbrev pub IsInside : Raster → ℤ → ℤ → ℕ → ℕ → Type 0
+IsInside p left top columns rows =
+    (pos 0 ≤ℤ left) × ((left +ℤ pos columns) ≤ℤ pos p.width) × (pos 0 ≤ℤ top) × ((top +ℤ pos rows) ≤ℤ pos p.height)
 
 -- the horizontal pass: the pixel made of the six from column left + c on, at row top + i
 unfoldable pub across : List ℤ → Raster → ℤ → ℤ → ℕ → ℕ → ℕ

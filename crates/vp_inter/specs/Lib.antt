@@ -1,3 +1,4 @@
 pub mod Vectors
 pub mod Filter
+pub mod Narrow
 pub mod Inter

@@ -1,12 +1,14 @@
 //! Blocks of an earlier picture, moved by a vector (RFC 6386, chapter 18).
 
-ghost use Rattle.std.specs.Prelude.{◌≡◌, ℕ, ℤ, pos, negsuc, ◌+◌, ◌*◌, ◌<◌, ◌≤◌, ◌+ℤ◌, ◌≤ℤ◌, length, slice_index};
-ghost use Rattle.vp_inter.specs.Filter.{taps, filter_six};
-ghost use Rattle.vp_inter.specs.Inter.{reference_pixel, across, inter_pixel};
+ghost use Rattle.std.specs.Prelude.{◌≡◌, ℕ, ℤ, pos, negsuc, ◌+◌, ◌*◌, ◌%◌, ◌<◌, ◌≤◌, ◌+ℤ◌, ◌≤ℤ◌, length, slice_index, IsTrue};
+ghost use Rattle.vp_inter.specs.Filter.{filter_six};
+ghost use Rattle.vp_inter.specs.Narrow.{AreGentle};
+ghost use Rattle.vp_inter.specs.Inter.{reference_pixel, across, inter_pixel, IsInside};
 
-use crate::filter::{pass_column, pass_row};
-use crate::reference::reference_row;
+use crate::filter::{pass, taps};
+use crate::reference::{lies_inside, plain_row, reference_row};
 use crate::vector::{PlaneVector, fraction, start};
+use std::simd::prelude::*;
 use vp_base::Plane;
 
 /// The 16 by 16 block that `vector` moves to column `x` of row `y`, row after row, out of the reference `plane`.
@@ -61,8 +63,8 @@ pub fn predict_block4(
     predict::<4, 9, 36, 16>(plane, x, y, vector, version)
 }
 
-/// A block of rows of `N`; each is made of a line of `W` pixels, and six rows of the horizontal pass, of which there are
-/// `L` pixels. A block at whole rows needs no others.
+/// A block of rows of `N`. The vertical pass makes it of `W` rows, five more, with `L` pixels; a block at whole rows needs
+/// no others than its own, and one at whole columns no horizontal pass.
 fn predict<const N: usize, const W: usize, const L: usize, const M: usize>(
     plane: &Plane,
     x: usize,
@@ -74,6 +76,7 @@ fn predict<const N: usize, const W: usize, const L: usize, const M: usize>(
     requires line { W ≡ N + 5 }
     requires between { (L ≡ W * N) × (L ≤ 336) }
     requires square { (M ≡ N * N) × (M ≤ 256) }
+    requires pieces { M % 16 ≡ 0 }
     requires columns { x ≤ 16384 }
     requires rows { y ≤ 16384 }
     requires wide { 0 < plane.now.width }
@@ -87,34 +90,46 @@ fn predict<const N: usize, const W: usize, const L: usize, const M: usize>(
     let across = fraction(vector.column);
     let down = fraction(vector.row);
     if down == 0 && across == 0 {
-        copied_rows::<N, M>(plane, left + 2, top + 2)
+        copied_rows::<N, M>(plane, left + 2, top + 2, N)
     } else if down == 0 {
-        pass_rows::<N, W, M>(plane, left, top + 2, version, across, N)
+        pass_rows::<N, W, M>(plane, left, top + 2, &taps(version, across), N)
+    } else if across == 0 {
+        pass_columns::<N, M>(
+            &copied_rows::<N, L>(plane, left + 2, top, W),
+            &taps(version, down),
+        )
     } else {
         pass_columns::<N, M>(
-            &pass_rows::<N, W, L>(plane, left, top, version, across, W),
-            version,
-            down,
+            &pass_rows::<N, W, L>(plane, left, top, &taps(version, across), W),
+            &taps(version, down),
         )
     }
 }
 
-/// `N` rows of the reference as they stand.
-fn copied_rows<const N: usize, const M: usize>(plane: &Plane, left: i32, top: i32) -> [u8; M]
+/// `rows` rows of the reference as they stand.
+fn copied_rows<const N: usize, const L: usize>(
+    plane: &Plane,
+    left: i32,
+    top: i32,
+    rows: usize,
+) -> [u8; L]
     requires size { N ≤ 16 }
-    requires square { M ≡ N * N }
-    requires room { M ≤ 256 }
+    requires rows { rows ≤ 21 }
+    requires all { L ≡ rows * N }
+    requires room { L ≤ 336 }
     requires columns { 0 < plane.now.width }
     requires height { 0 < plane.now.height }
     requires near { (negsuc 400000000 ≤ℤ left) × (left ≤ℤ pos 400000000) }
     requires beside { (negsuc 400000000 ≤ℤ top) × (top ≤ℤ pos 400000000) }
-    ensures value { (r c : ℕ) → r < N → c < N → slice_index result (r * N + c) ≡ reference_pixel plane.now (left +ℤ pos c) (top +ℤ pos r) }
-    ensures bytes { (r c : ℕ) → r < N → c < N → reference_pixel plane.now (left +ℤ pos c) (top +ℤ pos r) ≤ 255 }
+    ensures len { length result ≡ L }
+    ensures value { (r c : ℕ) → r < rows → c < N → slice_index result (r * N + c) ≡ reference_pixel plane.now (left +ℤ pos c) (top +ℤ pos r) }
+    ensures bytes { (r c : ℕ) → r < rows → c < N → reference_pixel plane.now (left +ℤ pos c) (top +ℤ pos r) ≤ 255 }
 {
-    let mut pixels = [0; M];
-    for r in 0..N {
-        let row = reference_row::<N>(plane, left, top + r as i32);
-        put_row::<N>(&mut pixels, r, &row);
+    let inside = lies_inside(plane, left, top, N, rows);
+    let mut pixels = [0; L];
+    for r in 0..rows {
+        let row = plain_row::<N>(plane, inside, left, top + r as i32);
+        put_lanes(&mut pixels, r, row);
     }
     pixels
 }
@@ -124,8 +139,7 @@ fn pass_rows<const N: usize, const W: usize, const L: usize>(
     plane: &Plane,
     left: i32,
     top: i32,
-    version: u8,
-    eighths: usize,
+    weights: &[i16; 6],
     rows: usize,
 ) -> [u8; L]
     requires size { N ≤ 16 }
@@ -133,83 +147,76 @@ fn pass_rows<const N: usize, const W: usize, const L: usize>(
     requires rows { rows ≤ 21 }
     requires all { L ≡ rows * N }
     requires room { L ≤ 336 }
-    requires eighths { eighths < 8 }
+    requires gentle { AreGentle weights.now }
     requires columns { 0 < plane.now.width }
     requires height { 0 < plane.now.height }
     requires near { (negsuc 400000000 ≤ℤ left) × (left ≤ℤ pos 400000000) }
     requires beside { (negsuc 400000000 ≤ℤ top) × (top ≤ℤ pos 400000000) }
     ensures len { length result ≡ L }
-    ensures value { (i c : ℕ) → i < rows → c < N → slice_index result (i * N + c) ≡ across (taps version eighths) plane.now left top i c }
+    ensures value { (i c : ℕ) → i < rows → c < N → slice_index result (i * N + c) ≡ across weights.now plane.now left top i c }
 {
+    let inside = lies_inside(plane, left, top, W, rows);
     let mut pixels = [0; L];
     for i in 0..rows {
-        let row = moved_row::<N, W>(plane, left, top + i as i32, version, eighths);
-        put_row::<N>(&mut pixels, i, &row);
+        let row = moved_row::<N, W>(plane, inside, left, top + i as i32, weights);
+        put_lanes(&mut pixels, i, row);
     }
     pixels
 }
 
-/// The vertical pass over rows of `N`, of which there are five more than it makes.
-fn pass_columns<const N: usize, const M: usize>(rows: &[u8], version: u8, eighths: usize) -> [u8; M]
+/// The vertical pass over rows of `N`, of which there are five more than it makes: sixteen pixels at a time, whatever
+/// the rows that they stand in.
+fn pass_columns<const N: usize, const M: usize>(rows: &[u8], weights: &[i16; 6]) -> [u8; M]
     requires size { N ≤ 16 }
     requires all { length rows.now ≡ (N + 5) * N }
     requires square { M ≡ N * N }
     requires room { M ≤ 256 }
-    requires eighths { eighths < 8 }
+    requires pieces { M % 16 ≡ 0 }
+    requires gentle { AreGentle weights.now }
     ensures len { length result ≡ M }
-    ensures value { (r c : ℕ) → r < N → c < N → slice_index result (r * N + c) ≡ filter_six (taps version eighths) (λ k. slice_index rows.now ((r + k) * N + c)) }
+    ensures value { (r c : ℕ) → r < N → c < N → slice_index result (r * N + c) ≡ filter_six weights.now (λ k. slice_index rows.now ((r + k) * N + c)) }
 {
     let mut pixels = [0; M];
-    for r in 0..N {
-        let row = joined_row::<N>(rows, r, version, eighths);
-        put_row::<N>(&mut pixels, r, &row);
+    for i in 0..M / 16 {
+        let piece = pass::<16>(rows, 16 * i, N, weights);
+        put_lanes(&mut pixels, i, piece);
     }
     pixels
 }
 
-/// The horizontal pass over one row of the reference.
+/// The horizontal pass over one row of the reference, straight from the plane where `inside` says so.
+#[inline(always)]
 fn moved_row<const N: usize, const W: usize>(
     plane: &Plane,
+    inside: bool,
     left: i32,
     row: i32,
-    version: u8,
-    eighths: usize,
-) -> [u8; N]
+    weights: &[i16; 6],
+) -> Simd<u8, N>
     requires size { N ≤ 16 }
     requires line { W ≡ N + 5 }
-    requires eighths { eighths < 8 }
+    requires inside { IsTrue inside → IsInside plane.now left row W 1 }
+    requires gentle { AreGentle weights.now }
     requires columns { 0 < plane.now.width }
     requires height { 0 < plane.now.height }
     requires near { (negsuc 400000000 ≤ℤ left) × (left ≤ℤ pos 400000000) }
-    ensures len { length result ≡ N }
-    ensures value { (c : ℕ) → c < N → slice_index result c ≡ filter_six (taps version eighths) (λ k. reference_pixel plane.now (left +ℤ pos (c + k)) row) }
+    ensures { (c : ℕ) → c < N → slice_index result c ≡ filter_six weights.now (λ k. reference_pixel plane.now (left +ℤ pos (c + k)) row) }
 {
+    if inside {
+        return pass(plane.row(row as usize), left as usize, 1, weights);
+    }
     let line = reference_row::<W>(plane, left, row);
-    pass_row::<W, N>(&line, version, eighths)
+    pass(&line, 0, 1, weights)
 }
 
-/// The vertical pass that makes row `r`.
-fn joined_row<const N: usize>(rows: &[u8], r: usize, version: u8, eighths: usize) -> [u8; N]
+/// Writes row `r` of rows of `N`.
+#[inline(always)]
+fn put_lanes<const N: usize>(pixels: &mut [u8], r: usize, row: Simd<u8, N>)
     requires size { N ≤ 16 }
-    requires row { r < N }
-    requires all { length rows.now ≡ (N + 5) * N }
-    requires eighths { eighths < 8 }
-    ensures len { length result ≡ N }
-    ensures value { (c : ℕ) → c < N → slice_index result c ≡ filter_six (taps version eighths) (λ k. slice_index rows.now ((r + k) * N + c)) }
-{
-    let at = r * N;
-    pass_column::<N>(&rows[at..at + 6 * N], version, eighths)
-}
-
-/// Writes row `r` of a block of rows of `N`.
-fn put_row<const N: usize>(pixels: &mut [u8], r: usize, row: &[u8])
-    requires size { N ≤ 16 }
-    requires row { length row.now ≡ N }
     requires room { r * N + N ≤ length pixels.old }
-    ensures here { (c : ℕ) → c < N → slice_index pixels.new (r * N + c) ≡ slice_index row.now c }
+    ensures here { (c : ℕ) → c < N → slice_index pixels.new (r * N + c) ≡ slice_index row.entry c }
     ensures before { (i : ℕ) → i < r * N → slice_index pixels.new i ≡ slice_index pixels.old i }
-    ensures bytes { (c : ℕ) → slice_index row.now c ≤ 255 }
+    ensures bytes { (c : ℕ) → c < N → slice_index row.entry c ≤ 255 }
 {
-    let at = r * N;
-    pixels[at..at + N].copy_from_slice(row);
+    row.copy_to_slice(&mut pixels[r * N..]);
 }

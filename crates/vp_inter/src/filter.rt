@@ -1,15 +1,20 @@
-//! The filters between pixels (RFC 6386, chapter 18.3).
+//! The filters between pixels (RFC 6386, chapter 18.3), in lanes of one pixel each.
 
-ghost use Rattle.std.specs.Prelude.{◌≡◌, ℕ, ℤ, pos, negsuc, ◌+◌, ◌*◌, ◌<◌, ◌≤◌, ◌*ℤ◌, ◌+ℤ◌, ◌≤ℤ◌, length, slice_index};
-ghost use Rattle.vp_inter.specs.Filter.{taps, held, filtered, filter_six};
+ghost use Rattle.std.specs.Prelude.{◌≡◌, ℕ, ℤ, pos, negsuc, ◌+◌, ◌*◌, ◌<◌, ◌≤◌, ◌*ℤ◌, ◌+ℤ◌, ◌-ℤ◌, ◌≤ℤ◌, length, slice_index, IsTrue};
+ghost use lib.Signed.{shr_z};
+ghost use Rattle.vp_lanes.specs.Lane.{lane, to_byte};
+ghost use Rattle.vp_inter.specs.Filter.{taps, filter_six};
+ghost use Rattle.vp_inter.specs.Narrow.{IsFrom, IsShort, pair, sum_of_two, sum_of_four, sum_of_six, AreGentle};
 
+use std::simd::prelude::*;
 use vp_tables::six_taps;
 
 /// The weights of the pixels at -2 to 3.
 #[tactic(auto, unfolding(crate::specs::Filter::taps))]
-fn taps(version: u8, eighths: usize) -> [i16; 6]
+pub(crate) fn taps(version: u8, eighths: usize) -> [i16; 6]
     requires { eighths < 8 }
-    ensures { result ≡ taps version eighths }
+    ensures value { result ≡ taps version eighths }
+    ensures gentle { AreGentle result }
 {
     if version == 0 {
         *six_taps(eighths)
@@ -19,108 +24,132 @@ fn taps(version: u8, eighths: usize) -> [i16; 6]
     }
 }
 
-fn weigh(pixel: u8, weight: i16) -> i32
-    ensures value { result ≡ pos pixel *ℤ weight }
-    ensures range { (negsuc 8388607 ≤ℤ result) × (result ≤ℤ pos 8388608) }
+/// The `N` bytes from `at` on.
+#[inline(always)]
+pub(crate) fn load<const N: usize>(s: &[u8], at: usize) -> Simd<u8, N>
+    requires { at + N ≤ length s.now }
+    ensures { (j : ℕ) → j < N → slice_index result j ≡ slice_index s.now (at + j) }
 {
-    i32::from(pixel) * i32::from(weight)
+    Simd::from_slice(&s[at..])
 }
 
-fn weigh_two(a: u8, b: u8, weight_a: i16, weight_b: i16) -> i32
-    ensures value { result ≡ pos a *ℤ weight_a +ℤ pos b *ℤ weight_b }
-    ensures range { (negsuc 16777215 ≤ℤ result) × (result ≤ℤ pos 16777216) }
+/// The sum of the two pixels in the middle, a half added for rounding and 8192 taken away, so that an i16 holds it.
+fn begun<const N: usize>(
+    a: Simd<u8, N>,
+    b: Simd<u8, N>,
+    weight_a: i16,
+    weight_b: i16,
+) -> Simd<i16, N>
+    requires lanes { N ≤ 16 }
+    requires first { IsFrom (pos 0) (pos 128) weight_a }
+    requires second { IsFrom (pos 0) (pos 128) weight_b }
+    requires both { (weight_a +ℤ weight_b) ≤ℤ pos 154 }
+    ensures { (j : ℕ) → j < N → lane result j ≡ pair (slice_index a.entry j) (slice_index b.entry j) weight_a weight_b -ℤ pos 8128 }
 {
-    weigh(a, weight_a) + weigh(b, weight_b)
+    a.cast::<i16>() * Simd::splat(weight_a)
+        + Simd::splat(64 - 8192)
+        + b.cast::<i16>() * Simd::splat(weight_b)
 }
 
-#[tactic(auto, unfolding(crate::specs::Filter::filtered))]
-fn filtered(weights: &[i16; 6], a: u8, b: u8, c: u8, d: u8, e: u8, f: u8) -> u8
-    ensures { result ≡ filtered weights.now a b c d e f }
+/// The sum and two pixels more.
+fn more<const N: usize>(
+    sum: Simd<i16, N>,
+    a: Simd<u8, N>,
+    b: Simd<u8, N>,
+    weight_a: i16,
+    weight_b: i16,
+) -> Simd<i16, N>
+    requires lanes { N ≤ 16 }
+    requires first { IsFrom (negsuc 15) (pos 16) weight_a }
+    requires second { IsFrom (negsuc 15) (pos 16) weight_b }
+    requires fits { (j : ℕ) → j < N → IsShort (lane sum j +ℤ pair (slice_index a j) (slice_index b j) weight_a weight_b) }
+    ensures { (j : ℕ) → j < N → lane result j ≡ lane sum.entry j +ℤ pair (slice_index a.entry j) (slice_index b.entry j) weight_a weight_b }
 {
-    let first = weigh_two(a, b, weights[0], weights[1]);
-    let middle = weigh_two(c, d, weights[2], weights[3]);
-    let last = weigh_two(e, f, weights[4], weights[5]);
-    held((first + middle + last + 64) >> 7)
+    sum + (a.cast::<i16>() * Simd::splat(weight_a) + b.cast::<i16>() * Simd::splat(weight_b))
 }
 
-fn held(number: i32) -> u8
-    ensures { result ≡ held number }
+/// The pixels that sums give: 128ths rounded down, the 8192 put back, held to a byte.
+fn ended<const N: usize>(sum: Simd<i16, N>) -> Simd<u8, N>
+    requires { N ≤ 16 }
+    ensures { (j : ℕ) → j < N → slice_index result j ≡ to_byte (shr_z (lane sum.entry j) 128 +ℤ pos 64) }
 {
-    number.clamp(0, 255) as u8
+    ((sum >> 7) + Simd::splat(64))
+        .simd_clamp(Simd::splat(0), Simd::splat(255))
+        .cast::<u8>()
 }
 
-/// The horizontal pass over one row: each pixel of the six from its column on.
-pub(crate) fn pass_row<const W: usize, const N: usize>(
-    line: &[u8; W],
-    version: u8,
-    eighths: usize,
-) -> [u8; N]
-    requires size { N ≤ 16 }
-    requires width { W ≡ N + 5 }
-    requires eighths { eighths < 8 }
-    ensures len { length result ≡ N }
-    ensures value { (c : ℕ) → c < N → slice_index result c ≡ filter_six (taps version eighths) (λ k. slice_index line.now (c + k)) }
+/// The sum of the two pixels in the middle of six, `step` apart and the first at `at`.
+fn middle<const N: usize>(s: &[u8], at: usize, step: usize, weights: &[i16; 6]) -> Simd<i16, N>
+    requires lanes { N ≤ 16 }
+    requires room { at + 5 * step + N ≤ length s.now }
+    requires gentle { AreGentle weights.now }
+    ensures { (j : ℕ) → j < N → lane result j ≡ sum_of_two weights.now (λ k. slice_index s.now (at + k * step + j)) }
 {
-    if eighths == 0 {
-        let pixels = &line[..];
-        copied(&pixels[2..2 + N])
-    } else {
-        filtered_row(line, &taps(version, eighths))
+    begun::<N>(
+        load::<N>(s, at + 2 * step),
+        load::<N>(s, at + 3 * step),
+        weights[2],
+        weights[3],
+    )
+}
+
+/// The sum of the four pixels in the middle of six.
+fn inner<const N: usize>(s: &[u8], at: usize, step: usize, weights: &[i16; 6]) -> Simd<i16, N>
+    requires lanes { N ≤ 16 }
+    requires room { at + 5 * step + N ≤ length s.now }
+    requires gentle { AreGentle weights.now }
+    ensures { (j : ℕ) → j < N → lane result j ≡ sum_of_four weights.now (λ k. slice_index s.now (at + k * step + j)) }
+{
+    more::<N>(
+        middle::<N>(s, at, step, weights),
+        load::<N>(s, at + step),
+        load::<N>(s, at + 4 * step),
+        weights[1],
+        weights[4],
+    )
+}
+
+/// The sum of all six pixels.
+fn whole_sum<const N: usize>(s: &[u8], at: usize, step: usize, weights: &[i16; 6]) -> Simd<i16, N>
+    requires lanes { N ≤ 16 }
+    requires room { at + 5 * step + N ≤ length s.now }
+    requires gentle { AreGentle weights.now }
+    ensures { (j : ℕ) → j < N → lane result j ≡ sum_of_six weights.now (λ k. slice_index s.now (at + k * step + j)) }
+{
+    more::<N>(
+        inner::<N>(s, at, step, weights),
+        load::<N>(s, at),
+        load::<N>(s, at + 5 * step),
+        weights[0],
+        weights[5],
+    )
+}
+
+/// Whether two pixels weigh nothing.
+fn both_zero(a: i16, b: i16) -> bool
+    ensures { IsTrue result → (a ≡ pos 0) × (b ≡ pos 0) }
+{
+    a == 0 && b == 0
+}
+
+/// A pass of `N` pixels: each is made of six, `step` apart, the first of them at `at` and its own place. Weights of 0 at
+/// the ends, or beside them too, take no work.
+pub(crate) fn pass<const N: usize>(
+    s: &[u8],
+    at: usize,
+    step: usize,
+    weights: &[i16; 6],
+) -> Simd<u8, N>
+    requires lanes { N ≤ 16 }
+    requires room { at + 5 * step + N ≤ length s.now }
+    requires gentle { AreGentle weights.now }
+    ensures { (j : ℕ) → j < N → slice_index result j ≡ filter_six weights.now (λ k. slice_index s.now (at + k * step + j)) }
+{
+    if !both_zero(weights[0], weights[5]) {
+        return ended::<N>(whole_sum::<N>(s, at, step, weights));
     }
-}
-
-/// The vertical pass that makes one row: each pixel of the six in its column, out of six rows.
-pub(crate) fn pass_column<const N: usize>(rows: &[u8], version: u8, eighths: usize) -> [u8; N]
-    requires size { N ≤ 16 }
-    requires rows { length rows.now ≡ 6 * N }
-    requires eighths { eighths < 8 }
-    ensures len { length result ≡ N }
-    ensures value { (c : ℕ) → c < N → slice_index result c ≡ filter_six (taps version eighths) (λ k. slice_index rows.now (k * N + c)) }
-{
-    let weights = taps(version, eighths);
-    let mut row = [0; N];
-    for c in 0..N {
-        row[c] = filtered(
-            &weights,
-            rows[c],
-            rows[N + c],
-            rows[2 * N + c],
-            rows[3 * N + c],
-            rows[4 * N + c],
-            rows[5 * N + c],
-        );
+    if !both_zero(weights[1], weights[4]) {
+        return ended::<N>(inner::<N>(s, at, step, weights));
     }
-    row
-}
-
-fn copied<const N: usize>(line: &[u8]) -> [u8; N]
-    requires size { N ≤ 16 }
-    requires length { length line.now ≡ N }
-    ensures value { result ≡ line.now }
-    ensures bytes { (i : ℕ) → slice_index result i ≤ 255 }
-{
-    let mut row = [0; N];
-    row.copy_from_slice(line);
-    row
-}
-
-fn filtered_row<const W: usize, const N: usize>(line: &[u8; W], weights: &[i16; 6]) -> [u8; N]
-    requires size { N ≤ 16 }
-    requires width { W ≡ N + 5 }
-    ensures len { length result ≡ N }
-    ensures value { (c : ℕ) → c < N → slice_index result c ≡ filter_six weights.now (λ k. slice_index line.now (c + k)) }
-{
-    let mut row = [0; N];
-    for c in 0..N {
-        row[c] = filtered(
-            weights,
-            line[c],
-            line[c + 1],
-            line[c + 2],
-            line[c + 3],
-            line[c + 4],
-            line[c + 5],
-        );
-    }
-    row
+    ended::<N>(middle::<N>(s, at, step, weights))
 }

@@ -3,6 +3,8 @@
 
 mod block;
 mod filter;
+#[cfg(test)]
+mod plain;
 mod reference;
 #[cfg(test)]
 mod tests;

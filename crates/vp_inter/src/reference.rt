@@ -1,8 +1,10 @@
 //! The pixels of a reference, which go on outside the plane (RFC 6386, chapter 5).
 
-ghost use Rattle.std.specs.Prelude.{◌≡◌, ℕ, ℤ, pos, negsuc, ◌+◌, ◌<◌, ◌≤◌, ◌+ℤ◌, ◌≤ℤ◌, length, slice_index};
-ghost use Rattle.vp_inter.specs.Inter.{nearest, reference_pixel};
+ghost use Rattle.std.specs.Prelude.{◌≡◌, ℕ, ℤ, pos, negsuc, ◌+◌, ◌<◌, ◌≤◌, ◌+ℤ◌, ◌≤ℤ◌, length, slice_index, IsTrue};
+ghost use Rattle.vp_inter.specs.Inter.{nearest, reference_pixel, IsInside};
 
+use crate::filter::load;
+use std::simd::prelude::*;
 use vp_base::Plane;
 
 /// The nearest to `at` of 0 to `size - 1`.
@@ -18,7 +20,41 @@ fn nearest(at: i32, size: usize) -> usize
     }
 }
 
-/// The `W` pixels from column `left` of row `row` on.
+/// Whether the plane has all of the block of so many columns and rows that begins at column `left` of row `top`.
+pub(crate) fn lies_inside(plane: &Plane, left: i32, top: i32, columns: usize, rows: usize) -> bool
+    requires columns { columns ≤ 21 }
+    requires rows { rows ≤ 21 }
+    ensures { IsTrue result → IsInside plane.now left top columns rows }
+{
+    left >= 0
+        && top >= 0
+        && left as usize + columns <= plane.width()
+        && top as usize + rows <= plane.height()
+}
+
+/// The `N` pixels from column `left` of row `row` on, straight from the plane where `inside` says so.
+#[inline(always)]
+pub(crate) fn plain_row<const N: usize>(
+    plane: &Plane,
+    inside: bool,
+    left: i32,
+    row: i32,
+) -> Simd<u8, N>
+    requires size { N ≤ 16 }
+    requires inside { IsTrue inside → IsInside plane.now left row N 1 }
+    requires columns { 0 < plane.now.width }
+    requires rows { 0 < plane.now.height }
+    requires near { (negsuc 400000000 ≤ℤ left) × (left ≤ℤ pos 400000000) }
+    ensures { (c : ℕ) → c < N → slice_index result c ≡ reference_pixel plane.now (left +ℤ pos c) row }
+{
+    if inside {
+        return load(plane.row(row as usize), left as usize);
+    }
+    load(&reference_row::<N>(plane, left, row), 0)
+}
+
+/// The `W` pixels from column `left` of row `row` on, wherever they are.
+#[inline(never)]
 pub(crate) fn reference_row<const W: usize>(plane: &Plane, left: i32, row: i32) -> [u8; W]
     requires size { W ≤ 21 }
     requires columns { 0 < plane.now.width }
@@ -30,14 +66,14 @@ pub(crate) fn reference_row<const W: usize>(plane: &Plane, left: i32, row: i32) 
     let width = plane.width();
     let line = plane.row(nearest(row, plane.height()));
     if left >= 0 && left as usize + W <= width {
-        inside(line, left as usize)
+        piece(line, left as usize)
     } else {
         beyond(line, left)
     }
 }
 
 /// The `W` numbers from `start` on.
-fn inside<const W: usize>(line: &[u8], start: usize) -> [u8; W]
+fn piece<const W: usize>(line: &[u8], start: usize) -> [u8; W]
     requires size { W ≤ 21 }
     requires room { start + W ≤ length line.now }
     ensures len { length result ≡ W }

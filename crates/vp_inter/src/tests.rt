@@ -1,4 +1,7 @@
+ghost use Rattle.std.specs.Prelude.{◌<◌};
+
 use super::*;
+use std::test::Fail;
 use vp_base::Plane;
 
 /// Makes three columns 0, of a plane of 16 columns.
@@ -41,4 +44,80 @@ fn kernel_examples(rt: HostRuntime) {
         chroma_vector(3, &[-1, -1, -1, -2], &[9, 9, 9, 9]),
         PlaneVector { row: -8, column: 8 }
     );
+}
+
+/// Whole pixels that a block is moved by: far outside, across each border, just outside and just inside, for each size.
+static OFFSETS: [i32; 19] = [
+    -1000, -18, -17, -16, -15, -14, 0, 13, 14, 16, 17, 21, 22, 24, 25, 26, 28, 29, 1000,
+];
+
+/// Fills a row with 0, 51 and so on to 255, far apart from one pixel to the next.
+fn fill(row: &mut [u8], y: usize) {
+    for x in 0..row.len() {
+        let mixed = x
+            .wrapping_mul(x.wrapping_mul(31).wrapping_add(y))
+            .wrapping_add(y.wrapping_mul(57));
+        row[x] = (mixed % 6) as u8 * 51;
+    }
+}
+
+/// Whether the lanes and the plain passes differ in a block of some size.
+fn differ(plane: &Plane, vector: PlaneVector, version: u8) -> bool
+    requires wide { 0 < plane.now.width }
+    requires high { 0 < plane.now.height }
+{
+    let large = plain::predict::<16, 21, 336, 256>(plane, 16, 16, vector, version);
+    let middle = plain::predict::<8, 13, 104, 64>(plane, 16, 16, vector, version);
+    let small = plain::predict::<4, 9, 36, 16>(plane, 16, 16, vector, version);
+    predict_block16(plane, 16, 16, vector, version).as_slice() != large.as_slice()
+        || predict_block8(plane, 16, 16, vector, version).as_slice() != middle.as_slice()
+        || predict_block4(plane, 16, 16, vector, version).as_slice() != small.as_slice()
+}
+
+/// The first vector of those whole pixels, with any eighths, and version where they differ.
+fn difference_at(plane: &Plane, row: i32, column: i32) -> Option<(PlaneVector, u8)>
+    requires wide { 0 < plane.now.width }
+    requires high { 0 < plane.now.height }
+{
+    for eighths in 0..64 {
+        let vector = PlaneVector {
+            row: row.wrapping_mul(8).wrapping_add(eighths / 8),
+            column: column.wrapping_mul(8).wrapping_add(eighths % 8),
+        };
+        for version in 0..4 {
+            if differ(plane, vector, version) {
+                return Some((vector, version));
+            }
+        }
+    }
+    None
+}
+
+/// The first of all of them: across one border, and across two at a corner.
+fn first_difference(plane: &Plane) -> Option<(PlaneVector, u8)>
+    requires wide { 0 < plane.now.width }
+    requires high { 0 < plane.now.height }
+{
+    for offset in OFFSETS {
+        let turned = 0i32.wrapping_sub(offset);
+        for (row, column) in [(offset, 0), (0, offset), (offset, offset), (turned, offset)] {
+            let found = difference_at(plane, row, column);
+            if found.is_some() {
+                return found;
+            }
+        }
+    }
+    None
+}
+
+#[test]
+fn lanes_predict_as_pixels(rt: HostRuntime) -> Result<(), Fail> {
+    let mut plane = Plane::new(rt.alloc(), 48, 48, 0)?;
+    for y in 0..48 {
+        assert!(rt; y < plane.height());
+        fill(plane.row_mut(y), y);
+    }
+    assert!(rt; 0 < plane.width() && 0 < plane.height());
+    assert_eq!(rt; first_difference(&plane), None);
+    Ok(())
 }

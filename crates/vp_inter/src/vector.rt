@@ -55,7 +55,7 @@ pub fn luma_vector(row: i32, column: i32) -> PlaneVector
 }
 
 /// The vector of a block of 4 by 4 colour pixels, of the rows and the columns, in quarters of a pixel, of the vectors of
-/// the four luma blocks of 4 by 4 that it lies under. `version` is the stream's.
+/// the four luma blocks of 4 by 4 that it lies under. `version` is the frame's.
 #[tactic(auto, unfolding(crate::specs::Vectors::chroma_vector))]
 pub fn chroma_vector(version: u8, rows: &[i32; 4], columns: &[i32; 4]) -> PlaneVector
     requires rows { AreNear rows.now }

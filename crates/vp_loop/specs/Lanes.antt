@@ -1,4 +1,4 @@
--- Sixteen lines side by side, as the lanes hold them.
+-- Inside the crate: sixteen lines side by side, as the lanes hold them.
 use Rattle.std.specs.Prelude.{ℕ, List, slice_index}
 use Rattle.vp_loop.specs.declared.lines.Line.{Line}
 use Rattle.vp_loop.specs.declared.lanes.Lines.{Lines}

@@ -1,4 +1,4 @@
--- How the code keeps a residue: in small numbers, since no pixel is further than 255 from another.
+-- Inside the crate: how the code keeps a residue: in small numbers, since no pixel is further than 255 from another.
 use Rattle.std.specs.Prelude.{ℕ, ◌+◌, ◌*◌, ◌<◌, ◌≡◌, min, ℤ, pos, negsuc, List, Option, Some, None, slice_index, slice_index_or, map}
 use Rattle.std.specs.List.{range_with_len}
 use Rattle.vp_base.specs.Raster.{Raster}

@@ -1,4 +1,4 @@
--- The window of a reference that is searched: rows of 144 pixels, of which a square is filled.
+-- Inside the crate: the window of a reference that is searched: rows of 144 pixels, of which a square is filled.
 use Rattle.std.specs.Prelude.{◌≡◌, ℕ, pos, ◌+◌, ◌*◌, ◌+ℤ◌, ◌-ℤ◌, List, unsigned_abs}
 use Rattle.vp_base.specs.declared.place.Place.{Place}
 use Rattle.vp_base.specs.Raster.{Raster}

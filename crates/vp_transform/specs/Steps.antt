@@ -1,4 +1,4 @@
--- What the steps of the inverse Walsh-Hadamard transform give.
+-- Inside the crate: what the steps of the inverse Walsh-Hadamard transform give.
 use Rattle.std.specs.Prelude.{ℕ, ℤ, ◌+ℤ◌, ◌-ℤ◌, List, [], ◌∷◌}
 use Rattle.vp_transform.specs.Transform.{product, at, hadamard}
 

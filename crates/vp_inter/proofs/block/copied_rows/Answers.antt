@@ -5,6 +5,18 @@ use Rattle.vp_inter.specs.Inter.{reference_pixel}
 use Rattle.vp_inter.proofs.PassLemmas.{rows_more, rows_bytes}
 use Rattle.vp_inter.proofs.block.copied_rows.Goals as goal
 
+pub plain_row-row-requires : goal.plain_row-row-requires
+plain_row-row-requires g c = (
+  omega arith,
+  (
+    omega arith,
+    (
+      (λ t. let i = c.lies_inside-inside.ensures t in (i.0, i.1, omega (arith, ints), omega (arith, ints))),
+      (c.requires.columns, (c.requires.height, (omega (arith, ints), omega (arith, ints)))),
+    ),
+  ),
+)
+
 pub loop-r-preserved : goal.loop-r-preserved
 loop-r-preserved g c =
     let p : Raster = c.args.plane.now in
@@ -12,13 +24,13 @@ loop-r-preserved g c =
     let top : ℤ = to_z w32 (of_z w32 c.args.top) in
     let value : ℕ → ℕ → ℕ = λ (k i : ℕ). reference_pixel p (left +ℤ pos i) (top +ℤ pos k) in
     let row : to_z w32 (of_z w32 (top +ℤ to_z w32 c.loop-r.r)) ≡ top +ℤ pos c.loop-r.r = omega (arith, ints) in
-    let last : (k : ℕ) → k < g.row.N → get_or c.reference_row-row.result k 0 ≡ value c.loop-r.r k =
-    λ k kin. c.reference_row-row.ensures.value k kin ∙ ap (λ (z : ℤ). reference_pixel p (left +ℤ pos k) z) row in
+    let last : (k : ℕ) → k < g.row.N → get_or c.plain_row-row.result k 0 ≡ value c.loop-r.r k =
+    λ k kin. c.plain_row-row.ensures k kin ∙ ap (λ (z : ℤ). reference_pixel p (left +ℤ pos k) z) row in
     record {
       size = search rules;
-      done = rows_more g.row.N c.loop-r.r c.loop-r.pixels c.put_row.new.pixels c.reference_row-row.result value
-          c.loop-r.invariant.done c.put_row.ensures.here c.put_row.ensures.before last;
-      bytes = rows_bytes g.row.N c.loop-r.r value c.reference_row-row.result c.loop-r.invariant.bytes last c.put_row.ensures.bytes;
+      done = rows_more g.row.N c.loop-r.r c.loop-r.pixels c.put_lanes.new.pixels c.plain_row-row.result value
+          c.loop-r.invariant.done c.put_lanes.ensures.here c.put_lanes.ensures.before last;
+      bytes = rows_bytes g.row.N c.loop-r.r value c.plain_row-row.result c.loop-r.invariant.bytes last c.put_lanes.ensures.bytes;
     }
 
 pub returns-clause-bytes : goal.returns-clause-bytes

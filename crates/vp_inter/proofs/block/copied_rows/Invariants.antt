@@ -4,7 +4,7 @@ use Rattle.vp_inter.proofs.block.copied_rows.Given as goal
 
 abbrev pub invariant-loop-r : goal.invariant-loop-r
 invariant-loop-r g l = record {
-  size : length l.pixels ≡ g.row.M;
+  size : length l.pixels ≡ g.row.L;
   done : (k c : ℕ) → k < l.r → c < g.row.N → get_or l.pixels (k * g.row.N + c) 0 ≡ reference_pixel l.plane (l.left +ℤ pos c) (l.top +ℤ pos k);
   bytes : (k c : ℕ) → k < l.r → c < g.row.N → reference_pixel l.plane (l.left +ℤ pos c) (l.top +ℤ pos k) ≤ 255;
 }

@@ -1,18 +1,40 @@
-use Rattle.std.proofs.Common.{◌∙◌, ℤ, pos, ◌+◌, ◌+ℤ◌, List, ap, to_z, of_z, w32}
+use Rattle.std.proofs.Common.{◌≡◌, ◌∙◌, ℕ, ℤ, pos, ◌+◌, ◌*◌, ◌<◌, ◌+ℤ◌, List, ap, get_or, arith, to_z, of_z, w32}
 use Rattle.std.proofs.lemmas.Int.{to_z-of_z}
+use lib.IntN.{nat_abs}
 use Rattle.vp_base.specs.Raster.{Raster}
-use Rattle.vp_inter.specs.Filter.{taps, filter_six}
 use Rattle.vp_inter.specs.Inter.{reference_pixel}
-use Rattle.vp_inter.proofs.PassLemmas.{across_line}
+use Rattle.vp_inter.proofs.FilterLemmas.{filter_six-same}
+use Rattle.vp_inter.proofs.ReferenceLemmas.{line_straight}
 use Rattle.vp_inter.proofs.block.moved_row.Goals as goal
 
-pub returns-clause-value : goal.returns-clause-value
-returns-clause-value g c k kin =
+pub returns-then-inside : goal.returns-then-inside
+returns-then-inside g c k kin =
     let p : Raster = c.args.plane.now in
-    let weights : List ℤ = taps c.args.version c.args.eighths in
-    let left : ℤ = to_z w32 (of_z w32 c.args.left) in
+    let w : List ℤ = c.args.weights.now in
+    let line : List ℕ = c.row.result.now in
+    let start : ℕ = nat_abs (to_z w32 (of_z w32 c.args.left)) in
+    let y : ℕ = nat_abs (to_z w32 (of_z w32 c.args.row)) in
+    c.pass.ensures k kin
+    ∙ filter_six-same w (λ i. get_or line (start + i * 1 + k) 0) (λ i. reference_pixel p (c.args.left +ℤ pos (k + i)) c.args.row)
+    (λ i iin.
+    let place : start + i * 1 + k ≡ start + (k + i) = omega arith in
+    let below : k + i < g.row.W = omega arith in
+    ap (λ (j : ℕ). get_or line j 0) place
+    ∙ line_straight p line c.args.left c.args.row start y g.row.W (k + i) (c.requires.inside c.if-inside.true) c.row.ensures.value c.row.ensures.len
+    (ap nat_abs (to_z-of_z w32 c.args.left c.ranges.left)) (ap nat_abs (to_z-of_z w32 c.args.row c.ranges.row)) below)
+
+pub returns : goal.returns
+returns g c k kin =
+    let p : Raster = c.args.plane.now in
+    let w : List ℤ = c.args.weights.now in
+    let line : List ℕ = c.reference_row-line.result in
     let row : ℤ = to_z w32 (of_z w32 c.args.row) in
-    c.pass_row.ensures.value k kin
-    ∙ across_line weights p left row g.row.N g.row.W c.reference_row-line.result c.requires.line c.reference_row-line.ensures.value k kin
-    ∙ ap (λ (z : ℤ). filter_six weights (λ i. reference_pixel p (z +ℤ pos (k + i)) row)) (to_z-of_z w32 c.args.left c.ranges.left)
-    ∙ ap (λ (z : ℤ). filter_six weights (λ i. reference_pixel p (c.args.left +ℤ pos (k + i)) z)) (to_z-of_z w32 c.args.row c.ranges.row)
+    c.pass-2.ensures k kin
+    ∙ filter_six-same w (λ i. get_or line (0 + i * 1 + k) 0) (λ i. reference_pixel p (c.args.left +ℤ pos (k + i)) c.args.row)
+    (λ i iin.
+    let place : 0 + i * 1 + k ≡ k + i = omega arith in
+    let below : k + i < g.row.W = omega arith in
+    ap (λ (j : ℕ). get_or line j 0) place
+    ∙ c.reference_row-line.ensures.value (k + i) below
+    ∙ ap (λ (z : ℤ). reference_pixel p (z +ℤ pos (k + i)) row) (to_z-of_z w32 c.args.left c.ranges.left)
+    ∙ ap (λ (z : ℤ). reference_pixel p (c.args.left +ℤ pos (k + i)) z) (to_z-of_z w32 c.args.row c.ranges.row))

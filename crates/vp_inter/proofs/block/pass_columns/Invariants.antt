@@ -1,9 +1,10 @@
 use Rattle.std.proofs.Common.{◌≡◌, ℕ, ◌+◌, ◌*◌, ◌<◌, get_or, length}
-use Rattle.vp_inter.specs.Filter.{taps, filter_six}
+use Rattle.vp_inter.specs.Filter.{filter_six}
 use Rattle.vp_inter.proofs.block.pass_columns.Given as goal
 
-abbrev pub invariant-loop-r : goal.invariant-loop-r
-invariant-loop-r g l = record {
+-- whole pieces of sixteen
+abbrev pub invariant-loop-i : goal.invariant-loop-i
+invariant-loop-i g l = record {
   size : length l.pixels ≡ g.row.M;
-  done : (k c : ℕ) → k < l.r → c < g.row.N → get_or l.pixels (k * g.row.N + c) 0 ≡ filter_six (taps l.version l.eighths) (λ i. get_or l.rows ((k + i) * g.row.N + c) 0);
+  done : (k c : ℕ) → k < l.i → c < 16 → get_or l.pixels (k * 16 + c) 0 ≡ filter_six l.weights (λ i. get_or l.rows (16 * k + i * g.row.N + c) 0);
 }

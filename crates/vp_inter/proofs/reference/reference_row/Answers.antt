@@ -13,7 +13,7 @@ returns-then-left-width-clause-value g c k below =
     let line : c.row-line.result.now ≡ row_of p (nearest p.height c.args.row) =
     c.row-line.ensures.value ∙ ap (row_of p) (c.nearest.ensures.value ∙ ap (nearest c.height.result) (to_z-of_z w32 c.args.row c.ranges.row) ∙ ap (λ (n : ℕ). nearest n c.args.row) c.height.ensures.value) in
     let room : start + k < p.width = omega arith in
-    c.inside.ensures.value k below
+    c.piece.ensures.value k below
     ∙ line_inside p c.row-line.result.now c.args.left c.args.row start k line c.row-line.ensures.len
     (at_or_above (to_z w32 (of_z w32 c.args.left)) c.args.left c.if-left-ge0.true (to_z-of_z w32 c.args.left c.ranges.left)) room
 

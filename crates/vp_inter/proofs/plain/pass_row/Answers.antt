@@ -2,7 +2,7 @@ use Rattle.std.proofs.Common.{◌≡◌, ◌∙◌, ℕ, ◌+◌, ◌≤◌, Lis
 use Rattle.std.proofs.lemmas.List.{places}
 use Rattle.vp_inter.specs.Filter.{taps, filter_six}
 use Rattle.vp_inter.proofs.FilterLemmas.{filter_six-whole}
-use Rattle.vp_inter.proofs.filter.pass_row.Goals as goal
+use Rattle.vp_inter.proofs.plain.pass_row.Goals as goal
 
 pub returns-then-eighths-eq0-clause-value : goal.returns-then-eighths-eq0-clause-value
 returns-then-eighths-eq0-clause-value g c k below =

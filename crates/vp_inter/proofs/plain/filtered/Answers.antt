@@ -4,7 +4,7 @@ use lib.Signed.{shr_z}
 use mir.Val.{SFits}
 use Rattle.vp_inter.specs.Filter.{held, filtered}
 use Rattle.vp_inter.proofs.Sums.{same, IsSmall, small_fits, small_same, shift_same, two, passed}
-use Rattle.vp_inter.proofs.filter.filtered.Goals as goal
+use Rattle.vp_inter.proofs.plain.filtered.Goals as goal
 
 pub overflow_add-first : goal.overflow_add-first
 overflow_add-first c =

@@ -1,7 +1,7 @@
 use Rattle.std.proofs.Common.{◌∙◌}
 use Rattle.vp_inter.specs.Filter.{taps}
-use Rattle.vp_inter.proofs.PassLemmas.{down_rows}
-use Rattle.vp_inter.proofs.block.joined_row.Goals as goal
+use Rattle.vp_inter.proofs.PlainLemmas.{down_rows}
+use Rattle.vp_inter.proofs.plain.joined_row.Goals as goal
 
 pub returns-clause-value : goal.returns-clause-value
 returns-clause-value g c k kin =

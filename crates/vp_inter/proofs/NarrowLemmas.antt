@@ -1,0 +1,109 @@
+-- Weighed sums that an i16 holds.
+use Rattle.std.proofs.Common.{◌≡◌, ◌∙◌, ℕ, zero, suc, ◌*◌, ◌<◌, ◌≤◌, ◌^◌, ap, arith, ℤ, pos, negsuc, ◌+ℤ◌, ◌-ℤ◌, ◌*ℤ◌, ◌≤ℤ◌, List, w16, refl}
+use Rattle.std.proofs.lemmas.Int.{ints, clamps}
+use lib.Signed.{shr_z}
+use mir.Val.{SFits}
+use Rattle.vp_lanes.specs.Lane.{to_byte}
+use Rattle.vp_tables.specs.Tables.{six_taps}
+use Rattle.vp_inter.specs.Filter.{held, weighed, filtered}
+use Rattle.vp_inter.specs.Narrow.{IsFrom, IsShort, weight, pair, AreGentle}
+
+-- ---- one product
+times : (x n : ℕ) → x < 256 → x * n ≤ 255 * n
+times x n p = grind arith
+
+-- a byte times a weight that isn't negative
+pub raised_in : (x : ℕ) (t : ℤ) → x < 256 → pos 0 ≤ℤ t → (pos 0 ≤ℤ (pos x *ℤ t)) × ((pos x *ℤ t) ≤ℤ (pos 255 *ℤ t))
+raised_in x (pos n) p q = let m : x * n ≤ 255 * n = times x n p in (omega (arith, ints), omega (arith, ints))
+raised_in x (negsuc n) p q = absurd (omega (arith, ints))
+
+-- and one that isn't positive
+pub lowered_in : (x : ℕ) (t : ℤ) → x < 256 → t ≤ℤ pos 0 → ((pos 255 *ℤ t) ≤ℤ (pos x *ℤ t)) × ((pos x *ℤ t) ≤ℤ pos 0)
+lowered_in x (pos zero) p q = (omega (arith, ints), omega (arith, ints))
+lowered_in x (pos (suc n)) p q = absurd (omega (arith, ints))
+lowered_in x (negsuc n) p q = let m : x * suc n ≤ 255 * suc n = times x (suc n) p in (omega (arith, ints), omega (arith, ints))
+
+-- and a small one
+pub small_in : (x : ℕ) (t : ℤ) → x < 256 → IsFrom (negsuc 15) (pos 16) t → IsFrom (negsuc 4079) (pos 4080) (pos x *ℤ t)
+small_in x (pos n) p q = let r = raised_in x (pos n) p (omega (arith, ints)) in (omega (arith, ints), omega (arith, ints))
+small_in x (negsuc n) p q = let r = lowered_in x (negsuc n) p (omega (arith, ints)) in (omega (arith, ints), omega (arith, ints))
+
+-- ---- sums
+pub pair_same : (a b c d : ℕ) (u v s t : ℤ) → a ≡ c → b ≡ d → u ≡ s → v ≡ t → pair a b u v ≡ pair c d s t
+pair_same a b c d u v s t e f g h = cc
+
+pub inner_fits : (weights : List ℤ) (b c d e : ℕ) → AreGentle weights → b < 256 → c < 256 → d < 256 → e < 256
+    → IsShort (pair c d (weight weights 2) (weight weights 3) -ℤ pos 8128 +ℤ pair b e (weight weights 1) (weight weights 4))
+inner_fits weights b c d e g pb pc pd pe =
+    let rb = lowered_in b (weight weights 1) pb g.1.1 in
+    let rc = raised_in c (weight weights 2) pc g.2.0 in
+    let rd = raised_in d (weight weights 3) pd g.3.0 in
+    let re = lowered_in e (weight weights 4) pe g.5.1 in
+    (omega (arith, ints), omega (arith, ints))
+
+pub whole_fits : (weights : List ℤ) (a b c d e f : ℕ) → AreGentle weights → a < 256 → b < 256 → c < 256 → d < 256 → e < 256 → f < 256
+    → IsShort (pair c d (weight weights 2) (weight weights 3) -ℤ pos 8128 +ℤ pair b e (weight weights 1) (weight weights 4) +ℤ pair a f (weight weights 0) (weight weights 5))
+whole_fits weights a b c d e f g pa pb pc pd pe pf =
+    let ra = raised_in a (weight weights 0) pa g.0.0 in
+    let rb = lowered_in b (weight weights 1) pb g.1.1 in
+    let rc = raised_in c (weight weights 2) pc g.2.0 in
+    let rd = raised_in d (weight weights 3) pd g.3.0 in
+    let re = lowered_in e (weight weights 4) pe g.5.1 in
+    let rf = raised_in f (weight weights 5) pf g.6.0 in
+    (omega (arith, ints), omega (arith, ints))
+
+-- ---- the end of a sum
+pub ended_fits : (z : ℤ) → SFits w16 z → IsShort (shr_z z 128 +ℤ pos 64)
+ended_fits (pos n) p = let h : n < 2 ^ 15 = p.sfits in (omega (arith, ints), omega (arith, ints))
+ended_fits (negsuc n) p = let h : n < 2 ^ 15 = p.sfits in (omega (arith, ints), omega (arith, ints))
+
+floor : (z : ℤ) → ((pos 128 *ℤ shr_z z 128) ≤ℤ z) × (z ≤ℤ (pos 128 *ℤ shr_z z 128 +ℤ pos 127))
+floor (pos n) = (omega (arith, ints), omega (arith, ints))
+floor (negsuc n) = (omega (arith, ints), omega (arith, ints))
+
+-- 8192 that was taken away before the shift is 64 after it
+pub put_back : (z y : ℤ) → y ≡ z +ℤ pos 8192 → shr_z z 128 +ℤ pos 64 ≡ shr_z y 128
+put_back z y e = let p = floor z in let q = floor y in omega (arith, ints)
+
+pub held_is : (z : ℤ) → to_byte z ≡ held z
+held_is z = omega (arith, ints, clamps)
+
+pub whole_is : (weights : List ℤ) (a b c d e f : ℕ)
+    → to_byte (shr_z (pair c d (weight weights 2) (weight weights 3) -ℤ pos 8128 +ℤ pair b e (weight weights 1) (weight weights 4) +ℤ pair a f (weight weights 0) (weight weights 5)) 128 +ℤ pos 64)
+    ≡ filtered weights a b c d e f
+unfolding filtered
+whole_is weights a b c d e f =
+    let s : ℤ = pair c d (weight weights 2) (weight weights 3) -ℤ pos 8128 +ℤ pair b e (weight weights 1) (weight weights 4) +ℤ pair a f (weight weights 0) (weight weights 5) in
+    ap to_byte (put_back s (weighed weights a b c d e f +ℤ pos 64) (omega (arith, ints)))
+    ∙ held_is (shr_z (weighed weights a b c d e f +ℤ pos 64) 128)
+
+pub inner_is : (weights : List ℤ) (a b c d e f : ℕ) → weight weights 0 ≡ pos 0 → weight weights 5 ≡ pos 0
+    → to_byte (shr_z (pair c d (weight weights 2) (weight weights 3) -ℤ pos 8128 +ℤ pair b e (weight weights 1) (weight weights 4)) 128 +ℤ pos 64)
+    ≡ filtered weights a b c d e f
+inner_is weights a b c d e f first last =
+    let s : ℤ = pair c d (weight weights 2) (weight weights 3) -ℤ pos 8128 +ℤ pair b e (weight weights 1) (weight weights 4) in
+    let none : pair a f (weight weights 0) (weight weights 5) ≡ pos 0 = pair_same a f a f _ _ (pos 0) (pos 0) refl refl first last ∙ (let z : pair a f (pos 0) (pos 0) ≡ pos 0 = omega (arith, ints) in z) in
+    let same : s ≡ s +ℤ pair a f (weight weights 0) (weight weights 5) = omega (arith, ints) in
+    ap (λ (z : ℤ). to_byte (shr_z z 128 +ℤ pos 64)) same ∙ whole_is weights a b c d e f
+
+pub middle_is : (weights : List ℤ) (a b c d e f : ℕ) → weight weights 0 ≡ pos 0 → weight weights 1 ≡ pos 0 → weight weights 4 ≡ pos 0 → weight weights 5 ≡ pos 0
+    → to_byte (shr_z (pair c d (weight weights 2) (weight weights 3) -ℤ pos 8128) 128 +ℤ pos 64)
+    ≡ filtered weights a b c d e f
+middle_is weights a b c d e f first second fifth last =
+    let s : ℤ = pair c d (weight weights 2) (weight weights 3) -ℤ pos 8128 in
+    let none : pair b e (weight weights 1) (weight weights 4) ≡ pos 0 = pair_same b e b e _ _ (pos 0) (pos 0) refl refl second fifth ∙ (let z : pair b e (pos 0) (pos 0) ≡ pos 0 = omega (arith, ints) in z) in
+    let same : s ≡ s +ℤ pair b e (weight weights 1) (weight weights 4) = omega (arith, ints) in
+    ap (λ (z : ℤ). to_byte (shr_z z 128 +ℤ pos 64)) same ∙ inner_is weights a b c d e f first last
+
+-- ---- the weights of the table
+pub six_taps-gentle : (eighths : ℕ) → eighths < 8 → AreGentle (six_taps eighths)
+unfolding six_taps
+six_taps-gentle zero p = ((omega (arith, ints), omega (arith, ints)), (omega (arith, ints), omega (arith, ints)), (omega (arith, ints), omega (arith, ints)), (omega (arith, ints), omega (arith, ints)), omega (arith, ints), (omega (arith, ints), omega (arith, ints)), (omega (arith, ints), omega (arith, ints)))
+six_taps-gentle (suc zero) p = ((omega (arith, ints), omega (arith, ints)), (omega (arith, ints), omega (arith, ints)), (omega (arith, ints), omega (arith, ints)), (omega (arith, ints), omega (arith, ints)), omega (arith, ints), (omega (arith, ints), omega (arith, ints)), (omega (arith, ints), omega (arith, ints)))
+six_taps-gentle (suc (suc zero)) p = ((omega (arith, ints), omega (arith, ints)), (omega (arith, ints), omega (arith, ints)), (omega (arith, ints), omega (arith, ints)), (omega (arith, ints), omega (arith, ints)), omega (arith, ints), (omega (arith, ints), omega (arith, ints)), (omega (arith, ints), omega (arith, ints)))
+six_taps-gentle (suc (suc (suc zero))) p = ((omega (arith, ints), omega (arith, ints)), (omega (arith, ints), omega (arith, ints)), (omega (arith, ints), omega (arith, ints)), (omega (arith, ints), omega (arith, ints)), omega (arith, ints), (omega (arith, ints), omega (arith, ints)), (omega (arith, ints), omega (arith, ints)))
+six_taps-gentle (suc (suc (suc (suc zero)))) p = ((omega (arith, ints), omega (arith, ints)), (omega (arith, ints), omega (arith, ints)), (omega (arith, ints), omega (arith, ints)), (omega (arith, ints), omega (arith, ints)), omega (arith, ints), (omega (arith, ints), omega (arith, ints)), (omega (arith, ints), omega (arith, ints)))
+six_taps-gentle (suc (suc (suc (suc (suc zero))))) p = ((omega (arith, ints), omega (arith, ints)), (omega (arith, ints), omega (arith, ints)), (omega (arith, ints), omega (arith, ints)), (omega (arith, ints), omega (arith, ints)), omega (arith, ints), (omega (arith, ints), omega (arith, ints)), (omega (arith, ints), omega (arith, ints)))
+six_taps-gentle (suc (suc (suc (suc (suc (suc zero)))))) p = ((omega (arith, ints), omega (arith, ints)), (omega (arith, ints), omega (arith, ints)), (omega (arith, ints), omega (arith, ints)), (omega (arith, ints), omega (arith, ints)), omega (arith, ints), (omega (arith, ints), omega (arith, ints)), (omega (arith, ints), omega (arith, ints)))
+six_taps-gentle (suc (suc (suc (suc (suc (suc (suc zero))))))) p = ((omega (arith, ints), omega (arith, ints)), (omega (arith, ints), omega (arith, ints)), (omega (arith, ints), omega (arith, ints)), (omega (arith, ints), omega (arith, ints)), omega (arith, ints), (omega (arith, ints), omega (arith, ints)), (omega (arith, ints), omega (arith, ints)))
+six_taps-gentle (suc (suc (suc (suc (suc (suc (suc (suc n)))))))) p = absurd (omega arith)

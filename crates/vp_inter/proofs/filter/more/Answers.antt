@@ -1,0 +1,18 @@
+use Rattle.std.proofs.Common.{ℕ, ◌<◌, arith, get_or, Fits, w8}
+use Rattle.std.proofs.lemmas.Int.{ints}
+use Rattle.vp_lanes.proofs.Shape.{lane_fits}
+use Rattle.vp_lanes.proofs.Signed.{widened, signed_param, signed_splat, stands_of, signed_mul, signed_add, signed_out}
+use Rattle.vp_inter.proofs.NarrowLemmas.{small_in}
+use Rattle.vp_inter.proofs.filter.more.Goals as goal
+
+pub returns : goal.returns
+returns g c j h =
+    let n : ℕ = g.row.N in
+    let pa = λ (i : ℕ) (k : i < n). small_in (get_or c.args.a i 0) c.args.weight_a (lane_fits (Fits w8) 0 n c.args.a c.fits-a.0 c.fits-a.1 i k).fits c.requires.first in
+    let pb = λ (i : ℕ) (k : i < n). small_in (get_or c.args.b i 0) c.args.weight_b (lane_fits (Fits w8) 0 n c.args.b c.fits-b.0 c.fits-b.1 i k).fits c.requires.second in
+    let x = signed_mul (widened n c.args.a c.fits-a.0 c.fits-a.1) (signed_splat n _ c.args.weight_a (stands_of c.args.weight_a c.ranges.weight_a))
+    (λ i k. let p = pa i k in (omega (arith, ints), omega (arith, ints))) in
+    let y = signed_mul (widened n c.args.b c.fits-b.0 c.fits-b.1) (signed_splat n _ c.args.weight_b (stands_of c.args.weight_b c.ranges.weight_b))
+    (λ i k. let p = pb i k in (omega (arith, ints), omega (arith, ints))) in
+    let t = signed_add x y (λ i k. let p = pa i k in let q = pb i k in (omega (arith, ints), omega (arith, ints))) in
+    signed_out (signed_add (signed_param n c.args.sum _ c.well_formed.0) t c.requires.fits) j h

@@ -1,0 +1,32 @@
+use Rattle.std.proofs.Common.{◌≡◌, ◌∙◌, ℕ, ◌<◌, ◌≤◌, ℤ, pos, ◌+ℤ◌, ap, subst, get_or, arith, rules, to_z, of_z, w32}
+use Rattle.std.proofs.lemmas.Int.{ints, to_z-of_z}
+use Rattle.vp_base.specs.Raster.{Raster}
+use Rattle.vp_inter.specs.Inter.{reference_pixel}
+use Rattle.vp_inter.proofs.PassLemmas.{rows_more, rows_bytes}
+use Rattle.vp_inter.proofs.plain.copied_rows.Goals as goal
+
+pub loop-r-preserved : goal.loop-r-preserved
+loop-r-preserved g c =
+    let p : Raster = c.args.plane.now in
+    let left : ℤ = to_z w32 (of_z w32 c.args.left) in
+    let top : ℤ = to_z w32 (of_z w32 c.args.top) in
+    let value : ℕ → ℕ → ℕ = λ (k i : ℕ). reference_pixel p (left +ℤ pos i) (top +ℤ pos k) in
+    let row : to_z w32 (of_z w32 (top +ℤ to_z w32 c.loop-r.r)) ≡ top +ℤ pos c.loop-r.r = omega (arith, ints) in
+    let last : (k : ℕ) → k < g.row.N → get_or c.reference_row-row.result k 0 ≡ value c.loop-r.r k =
+    λ k kin. c.reference_row-row.ensures.value k kin ∙ ap (λ (z : ℤ). reference_pixel p (left +ℤ pos k) z) row in
+    record {
+      size = search rules;
+      done = rows_more g.row.N c.loop-r.r c.loop-r.pixels c.put_row.new.pixels c.reference_row-row.result value
+          c.loop-r.invariant.done c.put_row.ensures.here c.put_row.ensures.before last;
+      bytes = rows_bytes g.row.N c.loop-r.r value c.reference_row-row.result c.loop-r.invariant.bytes last (λ k kin. c.put_row.ensures.bytes k);
+    }
+
+pub returns-clause-bytes : goal.returns-clause-bytes
+returns-clause-bytes g c r k rin kin =
+    let p : Raster = c.args.plane.now in
+    let top : ℤ = to_z w32 (of_z w32 c.args.top) in
+    let passed : r < c.loop-r.r = omega arith in
+    subst (λ (v : ℕ). v ≤ 255)
+    (ap (λ (z : ℤ). reference_pixel p (z +ℤ pos k) (top +ℤ pos r)) (to_z-of_z w32 c.args.left c.ranges.left)
+    ∙ ap (λ (z : ℤ). reference_pixel p (c.args.left +ℤ pos k) (z +ℤ pos r)) (to_z-of_z w32 c.args.top c.ranges.top))
+    (c.loop-r.invariant.bytes r k passed kin)

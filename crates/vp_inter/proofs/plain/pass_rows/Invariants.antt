@@ -1,0 +1,10 @@
+use Rattle.std.proofs.Common.{◌≡◌, ℕ, ◌+◌, ◌*◌, ◌<◌, get_or, length}
+use Rattle.vp_inter.specs.Filter.{taps}
+use Rattle.vp_inter.specs.Inter.{across}
+use Rattle.vp_inter.proofs.plain.pass_rows.Given as goal
+
+abbrev pub invariant-loop-i : goal.invariant-loop-i
+invariant-loop-i g l = record {
+  size : length l.pixels ≡ g.row.L;
+  done : (k c : ℕ) → k < l.i → c < g.row.N → get_or l.pixels (k * g.row.N + c) 0 ≡ across (taps l.version l.eighths) l.plane l.left l.top k c;
+}
