@@ -32,10 +32,10 @@ rounded-at_most z k n h g =
     let l : unsigned_abs z ≤ 8 * n = g.size in
     record { size = shr_3-at_most (z +ℤ pos k) n (omega (arith, ints)) (omega (arith, ints)) }
 
-times-at_most : (k : ℕ) {z : ℤ} {n : ℕ} → AtMost n z → AtMost (n * k) (z *ℤ pos k)
+pub times-at_most : (k : ℕ) {z : ℤ} {n : ℕ} → AtMost n z → AtMost (n * k) (z *ℤ pos k)
 times-at_most k {z} {n} h = record { size = subst (λ v. v ≤ n * k) (sym (unsigned_abs-mul z (pos k))) (mul-le-mul_right k h.size) }
 
-scaled-at_most : (k : ℕ) {z : ℤ} {n : ℕ} → k ≤ 65536 → AtMost n z → AtMost n (scaled z k)
+pub scaled-at_most : (k : ℕ) {z : ℤ} {n : ℕ} → k ≤ 65536 → AtMost n z → AtMost n (scaled z k)
 scaled-at_most k {z} {n} l h =
     let e : n * k ≤ n * 65536 = mul-le-mul_left n l in
     record { size = shr_16-at_most (z *ℤ pos k) n (omega (arith, (times-at_most k h).size)) }
@@ -48,22 +48,22 @@ more-at_most h l = record { size = omega (arith, h.size) }
 
 -- ---- the transform of four numbers of at most b
 module _ (b : ℕ) {i0 i1 i2 i3 : ℤ} (h0 : AtMost b i0) (h1 : AtMost b i1) (h2 : AtMost b i2) (h3 : AtMost b i3) where
-  c-at_most : AtMost (b + (b + b)) (scaled i1 35468 -ℤ (i3 +ℤ scaled i3 20091))
+  pub c-at_most : AtMost (b + (b + b)) (scaled i1 35468 -ℤ (i3 +ℤ scaled i3 20091))
   c-at_most = difference-at_most (scaled-at_most 35468 (omega arith) h1) (sum-at_most h3 (scaled-at_most 20091 (omega arith) h3))
 
-  d-at_most : AtMost (b + b + b) ((i1 +ℤ scaled i1 20091) +ℤ scaled i3 35468)
+  pub d-at_most : AtMost (b + b + b) ((i1 +ℤ scaled i1 20091) +ℤ scaled i3 35468)
   d-at_most = sum-at_most (sum-at_most h1 (scaled-at_most 20091 (omega arith) h1)) (scaled-at_most 35468 (omega arith) h3)
 
-  first-at_most : AtMost (5 * b) ((i0 +ℤ i2) +ℤ ((i1 +ℤ scaled i1 20091) +ℤ scaled i3 35468))
+  pub first-at_most : AtMost (5 * b) ((i0 +ℤ i2) +ℤ ((i1 +ℤ scaled i1 20091) +ℤ scaled i3 35468))
   first-at_most = more-at_most (sum-at_most (sum-at_most h0 h2) d-at_most) (omega arith)
 
-  second-at_most : AtMost (5 * b) ((i0 -ℤ i2) +ℤ (scaled i1 35468 -ℤ (i3 +ℤ scaled i3 20091)))
+  pub second-at_most : AtMost (5 * b) ((i0 -ℤ i2) +ℤ (scaled i1 35468 -ℤ (i3 +ℤ scaled i3 20091)))
   second-at_most = more-at_most (sum-at_most (difference-at_most h0 h2) c-at_most) (omega arith)
 
-  third-at_most : AtMost (5 * b) ((i0 -ℤ i2) -ℤ (scaled i1 35468 -ℤ (i3 +ℤ scaled i3 20091)))
+  pub third-at_most : AtMost (5 * b) ((i0 -ℤ i2) -ℤ (scaled i1 35468 -ℤ (i3 +ℤ scaled i3 20091)))
   third-at_most = more-at_most (difference-at_most (difference-at_most h0 h2) c-at_most) (omega arith)
 
-  fourth-at_most : AtMost (5 * b) ((i0 +ℤ i2) -ℤ ((i1 +ℤ scaled i1 20091) +ℤ scaled i3 35468))
+  pub fourth-at_most : AtMost (5 * b) ((i0 +ℤ i2) -ℤ ((i1 +ℤ scaled i1 20091) +ℤ scaled i3 35468))
   fourth-at_most = more-at_most (difference-at_most (sum-at_most h0 h2) d-at_most) (omega arith)
 
   pub turned-at_most : (k : ℕ) → AtMost (5 * b) (slice_index_or (turned i0 i1 i2 i3) k (pos 0))

@@ -2,3 +2,4 @@ pub mod Fits
 pub mod Steps
 pub mod Transform
 pub mod Forward
+pub mod Narrow

@@ -34,6 +34,10 @@ product m n r c = m r 0 *ℤ n 0 c +ℤ m r 1 *ℤ n 1 c +ℤ m r 2 *ℤ n 2 c +
 unfoldable pub hadamard_times : List ℤ → List ℤ
 hadamard_times block = block_of (product (at hadamard) (at block))
 
+-- X H
+unfoldable pub times_hadamard : List ℤ → List ℤ
+times_hadamard block = block_of (product (at block) (at hadamard))
+
 -- (X H + 3) / 8, rounded down
 unfoldable pub times_hadamard_rounded : List ℤ → List ℤ
 times_hadamard_rounded block = block_of (λ r c. shr_z (product (at block) (at hadamard) r c +ℤ pos 3) 8)

@@ -1,6 +1,9 @@
 ghost use Rattle.std.specs.Prelude.{map, ◌∷◌, replicate, ◌≡◌, ℕ, ◌+◌, ◌*◌, ◌<◌, ◌≤◌, length, unsigned_abs, pos, ◌+ℤ◌};
 ghost use Rattle.vp_transform.specs.Fits.{Fits, TurnFits, TurnAndRoundFits, ColumnsFit, RowsFit, IdctFits, EachWithin};
 ghost use Rattle.vp_transform.specs.Transform.{at, column_turned, row_turned, turned, rounded, vertical, horizontal, idct};
+
+use crate::lanes::{is_narrow, narrow_idct};
+
 /// sqrt 2 * sin (pi / 8), times 2^16.
 const SINE: i64 = 35468;
 /// sqrt 2 * cos (pi / 8) - 1, times 2^16.
@@ -11,6 +14,18 @@ pub fn idct(block: &[i64; 16]) -> [i64; 16]
     requires { IdctFits block.now }
     ensures value { result ≡ idct block.now }
     ensures within { (b : ℕ) → EachWithin b block.now → EachWithin (4 * b) result }
+{
+    if is_narrow(block) {
+        narrow_idct(block)
+    } else {
+        wide_idct(block)
+    }
+}
+
+/// The same in i64, for every block that can be transformed.
+pub(crate) fn wide_idct(block: &[i64; 16]) -> [i64; 16]
+    requires { IdctFits block.now }
+    ensures { result ≡ idct block.now }
 {
     by_rows(&by_columns(block))
 }

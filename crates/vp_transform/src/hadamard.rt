@@ -1,7 +1,7 @@
-ghost use Rattle.std.specs.Prelude.{◌≡◌, ℕ, ◌+◌, ◌*◌, ◌<◌, ◌≤◌, ◌^◌, pos, ◌+ℤ◌, map, unsigned_abs};
+ghost use Rattle.std.specs.Prelude.{◌≡◌, ℕ, ◌+◌, ◌*◌, ◌<◌, ◌≤◌, ◌^◌, pos, ◌+ℤ◌, map, slice_index_or, unsigned_abs};
 ghost use Rattle.vp_transform.specs.Steps.{mixed, column_product, row_product};
 ghost use Rattle.vp_transform.specs.Fits.{Fits, IwhtFits, EachWithin, column_size, row_size};
-ghost use Rattle.vp_transform.specs.Transform.{iwht, hadamard_times, times_hadamard_rounded};
+ghost use Rattle.vp_transform.specs.Transform.{iwht, hadamard_times, times_hadamard};
 ghost use lib.Signed.{shr_z};
 
 /// The inverse Walsh-Hadamard transform of a block: sixteen numbers, row after row (RFC 6386, chapter 14.3).
@@ -10,7 +10,7 @@ pub fn iwht(block: &[i64; 16]) -> [i64; 16]
     ensures value { result ≡ iwht block.now }
     ensures within { (b : ℕ) → EachWithin b block.now → EachWithin (2 * b) result }
 {
-    by_rows(&by_columns(block))
+    all_rounded(&by_rows(&by_columns(block)))
 }
 
 pub(crate) fn by_columns(x: &[i64; 16]) -> [i64; 16]
@@ -36,9 +36,11 @@ fn column(x: &[i64; 16], c: usize) -> [i64; 4]
     mix(x[c], x[4 + c], x[8 + c], x[12 + c])
 }
 
-fn by_rows(x: &[i64; 16]) -> [i64; 16]
+/// The block times the matrix.
+pub(crate) fn by_rows(x: &[i64; 16]) -> [i64; 16]
     requires { (r : ℕ) → r < 4 → row_size x.now r + 3 < 2 ^ 63 }
-    ensures { result ≡ times_hadamard_rounded x.now }
+    ensures value { result ≡ times_hadamard x.now }
+    ensures sizes { (k : ℕ) → k < 16 → unsigned_abs (slice_index_or result k (pos 0)) + 3 < 2 ^ 63 }
 {
     let a = row(x, 0);
     let b = row(x, 1);
@@ -50,14 +52,25 @@ fn by_rows(x: &[i64; 16]) -> [i64; 16]
     ]
 }
 
-/// Row r times the matrix, rounded.
+/// Row r times the matrix.
 fn row(x: &[i64; 16], r: usize) -> [i64; 4]
     requires inside { r < 4 }
     requires fits { row_size x.now r + 3 < 2 ^ 63 }
-    ensures { result ≡ map (λ z. shr_z (z +ℤ pos 3) 8) (row_product x.now r) }
+    ensures { result ≡ row_product x.now r }
 {
-    let [i0, i1, i2, i3] = mix(x[4 * r], x[4 * r + 1], x[4 * r + 2], x[4 * r + 3]);
-    [round(i0), round(i1), round(i2), round(i3)]
+    mix(x[4 * r], x[4 * r + 1], x[4 * r + 2], x[4 * r + 3])
+}
+
+/// Sixteen numbers, each rounded.
+fn all_rounded(x: &[i64; 16]) -> [i64; 16]
+    requires { (k : ℕ) → k < 16 → unsigned_abs (slice_index_or x.now k (pos 0)) + 3 < 2 ^ 63 }
+    ensures { result ≡ map (λ z. shr_z (z +ℤ pos 3) 8) x.now }
+{
+    let mut block = [0; 16];
+    for i in 0..16 {
+        block[i] = round(x[i]);
+    }
+    block
 }
 
 fn round(z: i64) -> i64

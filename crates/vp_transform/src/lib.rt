@@ -5,6 +5,7 @@ mod cosine;
 mod forward_cosine;
 mod forward_hadamard;
 mod hadamard;
+mod lanes;
 #[cfg(test)]
 mod tests;
 
@@ -12,3 +13,4 @@ pub use cosine::{idct, idct_of_first};
 pub use forward_cosine::fdct;
 pub use forward_hadamard::fwht;
 pub use hadamard::iwht;
+pub use lanes::idct_short;

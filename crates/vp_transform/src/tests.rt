@@ -1,4 +1,7 @@
+ghost use Rattle.vp_transform.specs.Fits.{IdctFits};
+
 use super::*;
+use crate::cosine::wide_idct;
 use std::test::Fail;
 
 /// The second block's numbers are those that RFC 6386's own program gives (chapters 14.3, 14.4).
@@ -27,6 +30,20 @@ fn kernel_examples(rt: HostRuntime) -> Result<(), Fail> {
     Ok(())
 }
 
+/// The same block in i16.
+#[test]
+fn short_example(rt: HostRuntime) {
+    let block = [
+        -700, 123, -45, 6, 77, -888, 99, -10, 11, 12, -1313, 14, -15, 160, 17, -1818,
+    ];
+    assert_eq!(rt;
+        idct_short(&block),
+        [
+            -447, 174, -18, -7, 146, -669, 181, 16, 28, 192, -694, 88, -18, 5, 174, -551
+        ]
+    );
+}
+
 /// The second block's numbers were worked out from the formulas by a script apart from this program.
 #[test]
 fn forward_examples(rt: HostRuntime) {
@@ -50,4 +67,27 @@ fn forward_examples(rt: HostRuntime) {
             -2468
         ]
     );
+}
+
+/// Whether `idct` gives what the plain formula does.
+fn is_as_plain(block: &[i64; 16]) -> bool
+    requires { IdctFits block.now }
+{
+    idct(block) == wide_idct(block)
+}
+
+/// Numbers at the bounds of the lanes and one beyond, in the first place and in the last, and the largest of a stream.
+#[test]
+fn narrow_and_wide_blocks(rt: HostRuntime) {
+    assert!(rt; is_as_plain(&[-2114 * 157; 16]));
+    let mut block = [
+        8191, -8192, 8191, 8191, -8192, -8192, 8191, -8192, -8192, 8191, -8192, 8191, 8191, 8191,
+        -8192, -8192,
+    ];
+    assert!(rt; is_as_plain(&block));
+    block[15] = -8193;
+    assert!(rt; is_as_plain(&block));
+    block[15] = 8192;
+    block[0] = 2114 * 157;
+    assert!(rt; is_as_plain(&block));
 }

@@ -1,11 +1,10 @@
-use Rattle.std.proofs.Common.{subst, sym, ◌*◌, ap, ◌∙◌}
+use Rattle.std.proofs.Common.{subst, sym, ◌*◌}
 use Rattle.vp_transform.proofs.Bounds.{idct-within}
 use Rattle.vp_transform.specs.Fits.{EachWithin}
-use Rattle.vp_transform.specs.Transform.{idct, horizontal}
 use Rattle.vp_transform.proofs.cosine.idct.Goals as goal
 
-pub returns : goal.returns
-unfolding idct
-returns c =
-    let e = c.by_rows.ensures ∙ ap (λ v. horizontal v) c.by_columns.ensures in
-    record { value = e; within = λ b h. subst (λ v. EachWithin (4 * b) v) (sym e) (idct-within b c.args.block.now h) }
+pub returns-then-is_narrow-clause-within : goal.returns-then-is_narrow-clause-within
+returns-then-is_narrow-clause-within c b h = subst (λ v. EachWithin (4 * b) v) (sym c.narrow_idct.ensures) (idct-within b c.args.block.now h)
+
+pub returns-else-is_narrow-clause-within : goal.returns-else-is_narrow-clause-within
+returns-else-is_narrow-clause-within c b h = subst (λ v. EachWithin (4 * b) v) (sym c.wide_idct.ensures) (idct-within b c.args.block.now h)

@@ -1,0 +1,11 @@
+use Rattle.std.proofs.Common.{pos, arith}
+use Rattle.std.proofs.lemmas.Int.{ints}
+use Rattle.vp_transform.proofs.Words32.{signed_param, signed_splat, stands_pos, signed_add, signed_shr, signed_out}
+use Rattle.vp_transform.proofs.lanes.round.Goals as goal
+
+pub returns : goal.returns
+returns c j h =
+    let z = signed_param 4 c.args.z _ c.well_formed.0 in
+    let s = signed_add z (signed_splat 4 4 (pos 4) (stands_pos 4 (omega arith)))
+    (λ i k. let r = c.requires i k in (omega (arith, ints), omega (arith, ints))) in
+    signed_out (signed_shr s 3) j h
