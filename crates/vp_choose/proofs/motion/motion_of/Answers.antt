@@ -1,0 +1,28 @@
+use Rattle.std.proofs.Common.{◌≡◌, ℤ, to_z, of_z, w32, subst, arith}
+use Rattle.std.proofs.lemmas.Int.{ints}
+use Rattle.vp_motion.specs.Vector.{Vector, Candidates, IsWithin}
+use Rattle.vp_motion.proofs.Sizes.{candidates-short, new-short}
+use Rattle.vp_motion.specs.Near.{candidates}
+use Rattle.vp_choose.specs.Frame.{no_biases}
+use Rattle.vp_choose.specs.Inter.{IsFirstGiving}
+use Rattle.vp_choose.proofs.Giving.{first_gives}
+use Rattle.vp_choose.proofs.motion.motion_of.Goals as goal
+
+pub returns-clause-written : goal.returns-clause-written
+returns-clause-written c =
+    let row : ℤ = c.args.moved.now.vector.row in
+    let column : ℤ = c.args.moved.now.vector.column in
+    let s = c.requires.short in
+    let row_read : to_z w32 (of_z w32 row) ≡ row = omega (arith, ints, s) in
+    let column_read : to_z w32 (of_z w32 column) ≡ column = omega (arith, ints, s) in
+    let v : Vector = record { row = to_z w32 (of_z w32 row); column = to_z w32 (of_z w32 column) } in
+    let all : Candidates = candidates c.args.vectors.now c.args.place c.args.moved.now.reference no_biases in
+    let near : IsWithin 511 v = record {
+      low_row = omega (arith, ints, s);
+      high_row = omega (arith, ints, s);
+      low_column = omega (arith, ints, s);
+      high_column = omega (arith, ints, s);
+    } in
+    let first : IsFirstGiving all v c.mode_of.result = subst (λ (a : Candidates). IsFirstGiving a v c.mode_of.result) c.near-candidates.ensures c.mode_of.ensures in
+    first_gives all v c.mode_of.result
+    (new-short v all.best near (candidates-short 511 c.args.vectors.now c.args.place c.args.moved.now.reference no_biases c.requires.map).best) first

@@ -1,0 +1,32 @@
+use Rattle.std.proofs.Common.{◌∙◌, ℕ, ℤ, List, refl, ap, subst}
+use Rattle.vp_base.specs.Raster.{Raster}
+use Rattle.vp_base.specs.Image.{Image, with_plane}
+use Rattle.vp_recon.specs.Residue.{residue}
+use Rattle.vp_recon.specs.Rebuilt.{with_sub}
+use Rattle.vp_search.specs.FirstLeast.{IsFirstLeast}
+use Rattle.vp_choose.specs.Costs.{sub_cost}
+use Rattle.vp_choose.specs.Subblocks.{mode_at, sub_levels}
+use Rattle.vp_choose.proofs.subblocks.choose_subblock.Goals as goal
+
+pub returns : goal.returns
+returns c =
+    let p : Image = c.args.picture.now in
+    let n : ℕ = c.best_mode-number.result.0 in
+    record {
+      mode = λ f e. record {
+        number = n;
+        first = subst (λ (q : Raster). IsFirstLeast 10 (λ i. sub_cost f q c.args.place (mode_at i)) n) c.plane-3.ensures (c.best_mode-number.ensures.best f e);
+        is = refl;
+      };
+      levels = λ f e.
+          c.levels_by-levels.ensures.value f e
+          ∙ ap (λ (q : Raster). sub_levels f q c.args.place (mode_at n) c.args.factors.now) c.plane-4.ensures;
+      cost = λ f e.
+          c.best_mode-number.ensures.cost f e
+          ∙ ap (λ (q : Raster). sub_cost f q c.args.place (mode_at n)) c.plane-3.ensures;
+      rebuilt =
+          c.rebuild_subblock.ensures
+          ∙ ap (λ (l : List ℤ). with_plane p 0 (with_sub p.luma c.args.place (mode_at n) (residue l c.args.factors.now.y_dc c.args.factors.now.y_ac))) c.of_levels.ensures.levels;
+      within = c.levels_by-levels.ensures.within;
+      bound = c.best_mode-number.ensures.bound;
+    }

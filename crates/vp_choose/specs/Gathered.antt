@@ -1,0 +1,28 @@
+-- Inside the crate: levels as the code lists them.
+use Rattle.std.specs.Prelude.{◌≡◌, ℕ, ◌+◌, ◌-◌, ◌<◌, ◌==◌, nat_lt, if◌then◌else◌, ◌≤◌, ℤ, pos, List, [], slice_index_or, unsigned_abs}
+use Rattle.vp_tokens.specs.declared.contexts.Tokens.{Tokens}
+use Rattle.vp_tokens.specs.Blocks.{block_of as tokens_of}
+use Rattle.vp_choose.specs.declared.tokens.Chroma.{Chroma}
+
+-- n lists that are each 0, each 1, ..
+abbrev pub AreListed : ℕ → List (List ℤ) → (ℕ → List ℤ) → Type 0
+AreListed n all each = (k : ℕ) → k < n → slice_index_or all k [] ≡ each k
+
+-- no level is further than 2047 from 0
+abbrev pub AreSmall : List (List ℤ) → Type 0
+AreSmall all = (k i : ℕ) → unsigned_abs (slice_index_or (slice_index_or all k []) i (pos 0)) ≤ 2047
+
+-- the levels of block n: Y2, luma, U and V
+unfoldable pub gathered : List ℤ → List (List ℤ) → List (List ℤ) → List (List ℤ) → ℕ → List ℤ
+gathered y2 luma u v n =
+    if n == 0 then y2
+    else if nat_lt n 17 then slice_index_or luma (n - 1) []
+    else if nat_lt n 21 then slice_index_or u (n - 17) []
+    else slice_index_or v (n - 21) []
+
+-- the blocks of a macroblock have these levels
+pub record IsGathered (first : List ℤ) (all : List (List ℤ)) (chroma : Chroma) (t : Tokens) : Type 0 where
+  pub y2 : (tokens_of t 0).levels ≡ first
+  pub luma : (k : ℕ) → k < 16 → (tokens_of t (1 + k)).levels ≡ slice_index_or all k []
+  pub u : (k : ℕ) → k < 4 → (tokens_of t (17 + k)).levels ≡ slice_index_or chroma.u k []
+  pub v : (k : ℕ) → k < 4 → (tokens_of t (21 + k)).levels ≡ slice_index_or chroma.v k []

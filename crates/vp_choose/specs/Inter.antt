@@ -1,0 +1,86 @@
+-- The choice of a macroblock's reference, vector and mode, and its levels.
+use Rattle.std.specs.Prelude.{◌≡◌, ◌≢◌, ◌<◌, ◌≤◌, ℕ, true, false, replicate, unsigned_abs}
+use Rattle.vp_base.specs.declared.place.Place.{Place}
+use Rattle.vp_base.specs.Grid.{Grid}
+use Rattle.vp_base.specs.Raster.{Raster}
+use Rattle.vp_base.specs.Image.{Image}
+use Rattle.vp_tables.specs.declared.modes.VectorMode.{VectorMode}
+use Rattle.vp_tables.specs.declared.modes.VectorMode.TheVariants as vector_is
+use Rattle.vp_head.specs.declared.fields.Reference.{Reference}
+use Rattle.vp_head.specs.declared.fields.Reference.TheVariants as reference_is
+use Rattle.vp_modes.specs.Modes.{unread}
+use Rattle.vp_motion.specs.Vector.{Vector, Entry, Candidates, still}
+use Rattle.vp_motion.specs.Near.{candidates}
+use Rattle.vp_quant.specs.declared.factors.Factors.{Factors}
+use Rattle.vp_refs.specs.References.{picture_of}
+use Rattle.vp_recon.specs.Source.{Source, Inter}
+use Rattle.vp_recon.specs.Prediction.{luma_prediction, chroma_prediction}
+use Rattle.vp_search.specs.declared.vector.WholeVector.{WholeVector}
+use Rattle.vp_search.specs.declared.vector.QuarterVector.{QuarterVector}
+use Rattle.vp_search.specs.declared.vector.Refined.{Refined}
+use Rattle.vp_search.specs.Vectors.{quarters}
+use Rattle.vp_search.specs.Blocks.{whole_cost, quarter_cost}
+use Rattle.vp_search.specs.Least.{IsLeast}
+use Rattle.vp_search.specs.Refined.{IsRefined}
+use Rattle.vp_choose.specs.declared.motion.Moved.{Moved}
+use Rattle.vp_choose.specs.declared.frame.Choice.{Choice}
+use Rattle.vp_choose.specs.Costs.{block_of}
+use Rattle.vp_choose.specs.Levels.{HasLumaAndY2, HasChroma}
+use Rattle.vp_choose.specs.Frame.{Search, entry_of, no_biases}
+
+-- what a vector costs in a reference
+abbrev pub vector_cost : Raster → Raster → Place → QuarterVector → ℕ
+vector_cost source reference place v = quarter_cost (block_of 16 source place) reference place v
+
+-- the least vector of a reference in whole pixels, and then refined or not; and its cost
+pub record IsFound (s : Search) (source reference : Raster) (place : Place) (found : Refined) : Type 0 where
+  pub whole : WholeVector
+  pub least : IsLeast s.range (whole_cost (block_of 16 source place) reference place) whole
+  pub refined : s.subpel ≡ true → IsRefined (vector_cost source reference place) whole found.vector
+  pub unrefined : s.subpel ≡ false → found.vector ≡ quarters whole
+  pub cost : found.cost ≡ vector_cost source reference place found.vector
+
+abbrev pub found_in : Reference → Refined → Moved
+found_in reference found = record { reference = reference; vector = found.vector; cost = found.cost }
+
+-- Golden is taken where it costs less than last.
+pub record IsLess (s : Search) (source : Raster) (place : Place) (last : Refined) (m : Moved) : Type 0 where
+  pub golden : Refined
+  pub in_golden : IsFound s source s.references.golden.luma place golden
+  pub less : golden.cost < last.cost → m ≡ found_in reference_is.Golden golden
+  pub not_less : last.cost ≤ golden.cost → m ≡ found_in reference_is.Last last
+
+-- the reference that is taken, with its vector
+pub record IsMoved (s : Search) (source : Raster) (place : Place) (m : Moved) : Type 0 where
+  pub last : Refined
+  pub in_last : IsFound s source s.references.last.luma place last
+  pub last_alone : s.golden ≡ false → m ≡ found_in reference_is.Last last
+  pub golden_too : s.golden ≡ true → IsLess s source place last m
+
+-- the first of zero, nearest, near and new that gives a vector
+abbrev pub IsFirstGiving : Candidates → Vector → VectorMode → Type 0
+IsFirstGiving c v vector_is.Zero = v ≡ still
+IsFirstGiving c v vector_is.Nearest = (v ≢ still) × (v ≡ c.nearest)
+IsFirstGiving c v vector_is.Near = (v ≢ still) × (v ≢ c.nearest) × (v ≡ c.near)
+IsFirstGiving c v vector_is.New = (v ≢ still) × (v ≢ c.nearest) × (v ≢ c.near)
+IsFirstGiving c v vector_is.Split = ⊥
+
+abbrev pub vector_of : Moved → Vector
+vector_of m = record { row = m.vector.row; column = m.vector.column }
+
+-- as short as a vector is that is searched for within 64 pixels: 256 quarters, and 3 by its refinement
+abbrev pub IsShort : QuarterVector → Type 0
+IsShort v = (unsigned_abs v.row ≤ 259) × (unsigned_abs v.column ≤ 259)
+
+-- what an inter macroblock is predicted from
+abbrev pub moved_source : Search → Moved → Choice → Source
+moved_source s m c = Inter (entry_of c) (picture_of s.references m.reference) 0
+
+-- an inter macroblock that is moved so: it has no intra modes
+pub record IsInter (source : Image) (factors : Factors) (s : Search) (g : Grid Entry) (place : Place) (p : Image) (m : Moved) (c : Choice) : Type 0 where
+  pub modes : c.modes ≡ unread 0 c.modes.skip m.reference
+  pub vectors : c.motion.vectors ≡ replicate 16 (vector_of m)
+  pub mode : IsFirstGiving (candidates g place m.reference no_biases) (vector_of m) c.motion.mode
+  pub luma : HasLumaAndY2 (block_of 16 source.luma place) (luma_prediction (moved_source s m c) place p.luma) factors c.tokens
+  pub u : HasChroma (block_of 8 source.u place) (chroma_prediction (moved_source s m c) 1 place p.u) factors c.tokens 1
+  pub v : HasChroma (block_of 8 source.v place) (chroma_prediction (moved_source s m c) 2 place p.v) factors c.tokens 2

@@ -1,0 +1,72 @@
+-- The choice of a macroblock's intra modes, and its levels.
+use Rattle.std.specs.Prelude.{◌≡◌, ℕ, ◌+◌, ◌<◌, pos, false, true, List, [], ◌∷◌, replicate, slice_index_or, if◌then◌else◌}
+use Rattle.vp_base.specs.declared.place.Place.{Place}
+use Rattle.vp_base.specs.Raster.{Raster}
+use Rattle.vp_base.specs.Image.{Image}
+use Rattle.vp_tables.specs.declared.modes.LumaMode.{LumaMode}
+use Rattle.vp_tables.specs.declared.modes.LumaMode.TheVariants as luma_is
+use Rattle.vp_tables.specs.declared.modes.ChromaMode.{ChromaMode}
+use Rattle.vp_tables.specs.declared.modes.ChromaMode.TheVariants as chroma_is
+use Rattle.vp_tables.specs.declared.modes.SubMode.TheVariants as sub_is
+use Rattle.vp_tables.specs.Modes.{is_by_subblocks}
+use Rattle.vp_head.specs.declared.fields.Reference.TheVariants as reference_is
+use Rattle.vp_modes.specs.Entry.{Modes}
+use Rattle.vp_tokens.specs.declared.contexts.Tokens.{Tokens}
+use Rattle.vp_tokens.specs.Blocks.{block_of as tokens_of}
+use Rattle.vp_quant.specs.declared.factors.Factors.{Factors}
+use Rattle.vp_recon.specs.Source.{Intra}
+use Rattle.vp_recon.specs.Prediction.{luma_prediction, chroma_prediction}
+use Rattle.vp_search.specs.FirstLeast.{IsFirstLeast}
+use Rattle.vp_choose.specs.declared.subblocks.Subblocks.{Subblocks}
+use Rattle.vp_choose.specs.declared.luma.Luma.{Luma}
+use Rattle.vp_choose.specs.Costs.{block_of, whole_cost, chroma_cost}
+use Rattle.vp_choose.specs.Levels.{HasLumaAndY2, HasChroma}
+use Rattle.vp_choose.specs.Subblocks.{AreChosen, levels_in}
+
+-- the luma modes in the order in which ties are broken
+abbrev pub luma_order : List LumaMode
+luma_order = luma_is.Dc ∷ luma_is.V ∷ luma_is.H ∷ luma_is.Tm ∷ luma_is.B ∷ []
+
+abbrev pub luma_at : ℕ → LumaMode
+luma_at i = slice_index_or luma_order i luma_is.Dc
+
+-- what a mode costs the luma f: B_PRED, whose subblocks cost so much, costs 128 more
+abbrev pub luma_cost : (ℕ → ℕ → ℕ) → Raster → Place → ℕ → LumaMode → ℕ
+luma_cost f p place subblocks mode = if is_by_subblocks mode then subblocks + 128 else whole_cost f p place mode
+
+-- the first luma mode of the least cost, its cost, and what B_PRED chooses for the subblocks
+pub record IsLuma (f : ℕ → ℕ → ℕ) (factors : Factors) (place : Place) (p : Raster) (l : Luma) : Type 0 where
+  pub subblocks : AreChosen f factors place p l.subblocks
+  pub number : ℕ
+  pub first : IsFirstLeast 5 (λ i. luma_cost f p place l.subblocks.cost (luma_at i)) number
+  pub mode : l.mode ≡ luma_at number
+  pub cost : l.cost ≡ luma_cost f p place l.subblocks.cost l.mode
+
+abbrev pub chroma_order : List ChromaMode
+chroma_order = chroma_is.Dc ∷ chroma_is.V ∷ chroma_is.H ∷ chroma_is.Tm ∷ []
+
+abbrev pub chroma_at : ℕ → ChromaMode
+chroma_at i = slice_index_or chroma_order i chroma_is.Dc
+
+-- the first chroma mode of the least cost, over U and V
+pub record IsChroma (source : Image) (place : Place) (p : Image) (mode : ChromaMode) : Type 0 where
+  pub number : ℕ
+  pub first : IsFirstLeast 4 (λ i. chroma_cost source p place (chroma_at i)) number
+  pub is : mode ≡ chroma_at number
+
+-- luma where each subblock has a mode of its own: the levels that were chosen with them, and no Y2 block
+pub record HasSubblocks (s : Subblocks) (t : Tokens) : Type 0 where
+  pub y2 : (tokens_of t 0).levels ≡ replicate 16 (pos 0)
+  pub luma : (k : ℕ) → k < 16 → (tokens_of t (1 + k)).levels ≡ levels_in s k
+
+-- the modes of an intra macroblock with this luma, and its levels
+pub record IsIntra (source : Image) (factors : Factors) (place : Place) (p : Image) (l : Luma) (m : Modes) (t : Tokens) : Type 0 where
+  pub reference : m.reference ≡ reference_is.Intra
+  pub luma : m.luma ≡ l.mode
+  pub subs : m.subs ≡ (if is_by_subblocks l.mode then l.subblocks.modes else replicate 16 sub_is.Dc)
+  pub chroma : IsChroma source place p m.chroma
+  pub by_subblocks : is_by_subblocks l.mode ≡ true → HasSubblocks l.subblocks t
+  pub at_once : is_by_subblocks l.mode ≡ false
+      → HasLumaAndY2 (block_of 16 source.luma place) (luma_prediction (Intra m) place p.luma) factors t
+  pub u : HasChroma (block_of 8 source.u place) (chroma_prediction (Intra m) 1 place p.u) factors t 1
+  pub v : HasChroma (block_of 8 source.v place) (chroma_prediction (Intra m) 2 place p.v) factors t 2

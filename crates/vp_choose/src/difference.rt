@@ -1,0 +1,36 @@
+//! Sums of absolute differences of small blocks.
+
+ghost use Rattle.std.specs.Prelude.{◌≡◌, ◌*◌, ◌≤◌, length, slice_index};
+ghost use Rattle.std.specs.Int.{abs_diff};
+ghost use Rattle.vp_search.specs.Sums.{sum_below};
+ghost use Rattle.vp_search.specs.Differences.{sum_of_differences};
+ghost use Rattle.vp_choose.specs.Costs.{rows_of};
+
+fn differences(a: &[u8], b: &[u8]) -> u32
+    requires same { length a.now ≡ length b.now }
+    requires size { length a.now ≤ 64 }
+    ensures value { result ≡ sum_below (length a.now) (λ i. abs_diff (slice_index a.now i) (slice_index b.now i)) }
+    ensures bound { result ≤ 255 * length a.now }
+{
+    let mut sum = 0;
+    for i in 0..a.len() {
+        sum += u32::from(a[i].abs_diff(b[i]));
+    }
+    sum
+}
+
+/// The sum of absolute differences of two blocks of 4 by 4 pixels, each row after row.
+pub(crate) fn sad4(a: &[u8; 16], b: &[u8; 16]) -> u32
+    ensures value { result ≡ sum_of_differences 4 4 (rows_of 4 a.now) (rows_of 4 b.now) }
+    ensures bound { result ≤ 4080 }
+{
+    differences(a, b)
+}
+
+/// The sum of absolute differences of two blocks of 8 by 8 pixels, each row after row.
+pub(crate) fn sad8(a: &[u8; 64], b: &[u8; 64]) -> u32
+    ensures value { result ≡ sum_of_differences 8 8 (rows_of 8 a.now) (rows_of 8 b.now) }
+    ensures bound { result ≤ 16320 }
+{
+    differences(a, b)
+}

@@ -1,0 +1,56 @@
+//! The levels of a block: forward transforms of source less prediction, quantised.
+
+ghost use Rattle.std.specs.Prelude.{◌≡◌, ℕ, ◌+◌, ◌*◌, ◌/◌, ◌%◌, ◌<◌, ◌≤◌, pos, length, slice_index_or, unsigned_abs};
+ghost use Rattle.vp_transform.specs.Fits.{EachWithin};
+ghost use Rattle.vp_intra.specs.Edges.{block as listed};
+ghost use Rattle.vp_choose.specs.Levels.{part, coefficients, levels_of};
+
+use vp_quant::quantise;
+use vp_tables::zigzag;
+use vp_transform::fdct;
+
+/// Subblock `k` of a block that is `ACROSS` subblocks wide and high.
+pub(crate) fn part_of<const ACROSS: usize>(block: &[u8], k: usize) -> [u8; 16]
+    requires some { 0 < ACROSS }
+    requires size { ACROSS ≤ 4 }
+    requires block { length block.now ≡ 4 * ACROSS * (4 * ACROSS) }
+    requires k { k < ACROSS * ACROSS }
+    ensures { (f : ℕ → ℕ → ℕ) → block.now ≡ listed (4 * ACROSS) f → result ≡ listed 4 (part ACROSS f k) }
+{
+    let width = 4 * ACROSS;
+    let first = 4 * (k / ACROSS) * width + 4 * (k % ACROSS);
+    let mut part = [0; 16];
+    for i in 0..16 {
+        part[i] = block[first + i / 4 * width + i % 4];
+    }
+    part
+}
+
+/// The coefficients of a subblock, by its prediction.
+#[tactic(auto, unfolding(crate::specs::Levels::coefficients))]
+pub(crate) fn coefficients(source: &[u8; 16], prediction: &[u8; 16]) -> [i64; 16]
+    ensures value { (f g : ℕ → ℕ → ℕ) → source.now ≡ listed 4 f → prediction.now ≡ listed 4 g → result ≡ coefficients f g }
+    ensures within { EachWithin 2040 result }
+{
+    let mut less = [0; 16];
+    for i in 0..16 {
+        less[i] = i64::from(source[i]) - i64::from(prediction[i]);
+    }
+    fdct(&less)
+}
+
+/// The levels of a block of coefficients, by position: the first by the factor `dc`, the others by `ac`.
+#[tactic(auto, unfolding(crate::specs::Levels::levels_of))]
+pub(crate) fn levels_of(coefficients: &[i64; 16], dc: u16, ac: u16) -> [i16; 16]
+    requires dc { 1 ≤ dc }
+    requires ac { 1 ≤ ac }
+    ensures value { result ≡ levels_of coefficients.now dc ac }
+    ensures within { (i : ℕ) → unsigned_abs (slice_index_or result i (pos 0)) ≤ 2047 }
+{
+    let mut levels = [0; 16];
+    for position in 0..16 {
+        let factor = if position == 0 { dc } else { ac };
+        levels[position] = quantise(coefficients[zigzag(position)], factor);
+    }
+    levels
+}

@@ -1,0 +1,17 @@
+//! What the encoder chooses for one macroblock: its modes, its vector and its levels. RFC 6386 leaves all of it open.
+#![tactic(auto)]
+
+mod chroma;
+mod difference;
+mod frame;
+mod levels;
+mod luma;
+mod macroblock;
+mod motion;
+mod subblocks;
+#[cfg(test)]
+mod tests;
+mod tokens;
+
+pub use frame::{Choice, Frame, Search};
+pub use macroblock::choose_macroblock;

@@ -1,0 +1,86 @@
+//! The choice of an intra macroblock's luma mode.
+
+ghost use Rattle.std.specs.Prelude.{◌≡◌, ℕ, ◌+◌, ◌*◌, ◌≤◌};
+ghost use Rattle.vp_intra.specs.Edges.{block as listed};
+ghost use Rattle.vp_choose.specs.Costs.{HasMacroblock, block_of, whole_cost};
+ghost use Rattle.vp_choose.specs.Levels.{ArePositive};
+ghost use Rattle.vp_choose.specs.Gathered.{AreSmall};
+ghost use Rattle.vp_choose.specs.Intra.{IsLuma};
+
+use crate::subblocks::{Subblocks, choose_subblocks};
+use vp_base::{Picture, Place, Plane};
+use vp_intra::predict_luma;
+use vp_quant::Factors;
+use vp_search::{first_least, macroblock, sad16};
+use vp_tables::LumaMode;
+
+/// The modes in the order in which ties are broken.
+const ORDER: [LumaMode; 5] = [
+    LumaMode::Dc,
+    LumaMode::V,
+    LumaMode::H,
+    LumaMode::Tm,
+    LumaMode::B,
+];
+
+/// What is chosen for an intra macroblock's luma, and what it costs.
+#[derive(Clone, Copy)]
+pub(crate) struct Luma {
+    pub(crate) mode: LumaMode,
+    pub(crate) subblocks: Subblocks,
+    pub(crate) cost: u32,
+}
+
+/// The luma of a macroblock, row after row.
+pub(crate) fn luma_block(plane: &Plane, place: Place) -> [u8; 256]
+    requires columns { 16 * place.column + 16 ≤ plane.now.width }
+    requires rows { 16 * place.row + 16 ≤ plane.now.height }
+    ensures { result ≡ listed 16 (block_of 16 plane.now place) }
+{
+    macroblock(plane, place)
+}
+
+fn cost_of(block: &[u8; 256], plane: &Plane, place: Place, mode: LumaMode) -> u32
+    requires columns { 16 * place.column + 16 ≤ plane.now.width }
+    requires rows { 16 * place.row + 16 ≤ plane.now.height }
+    requires whole { ¬ (mode ≡ LumaMode.B) }
+    ensures value { (f : ℕ → ℕ → ℕ) → block.now ≡ listed 16 f → result ≡ whole_cost f plane.now place mode }
+    ensures bound { result ≤ 65280 }
+{
+    let _size = [plane.width(), plane.height()];
+    let prediction = predict_luma(plane, 16 * place.column, 16 * place.row, mode);
+    sad16(block, &prediction)
+}
+
+/// The best luma mode of a macroblock. The picture is afterwards as it was.
+pub(crate) fn choose_luma(
+    source: &Picture,
+    factors: &Factors,
+    picture: &mut Picture,
+    place: Place,
+) -> Luma
+    requires source { HasMacroblock source.now place }
+    requires picture { HasMacroblock picture.old place }
+    requires factors { ArePositive factors.now }
+    ensures luma { IsLuma (block_of 16 source.now.luma place) factors.now place picture.old.luma result }
+    ensures kept { picture.new ≡ picture.old }
+    ensures within { AreSmall result.subblocks.levels }
+{
+    let _dims = [source.dim(), picture.dim()];
+    let block = luma_block(source.plane(0), place);
+    let subblocks = choose_subblocks(&block, factors, picture, place);
+    let plane = picture.plane(0);
+    let costs = [
+        cost_of(&block, plane, place, LumaMode::Dc),
+        cost_of(&block, plane, place, LumaMode::V),
+        cost_of(&block, plane, place, LumaMode::H),
+        cost_of(&block, plane, place, LumaMode::Tm),
+        subblocks.cost + 128,
+    ];
+    let best = first_least(&costs);
+    Luma {
+        mode: ORDER[best],
+        subblocks,
+        cost: costs[best],
+    }
+}

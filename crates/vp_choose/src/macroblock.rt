@@ -1,0 +1,257 @@
+//! The choice for one macroblock.
+
+ghost use Rattle.std.specs.Prelude.{◌≡◌, ◌*◌, ◌<◌, ◌≤◌, true, false, not, IfSome, replicate, if◌then◌else◌};
+ghost use Rattle.vp_base.specs.Grid.{Has};
+ghost use Rattle.vp_base.specs.Image.{macroblocks};
+ghost use Rattle.vp_base.specs.Raster.{Raster};
+ghost use Rattle.vp_base.specs.Rows.{AreOneSize};
+ghost use Rattle.vp_tables.specs.Modes.{is_by_subblocks};
+ghost use Rattle.vp_head.specs.Reference.{is_intra};
+ghost use Rattle.vp_motion.specs.Vector.{Entry, IsWithin, last_of, still};
+ghost use Rattle.vp_motion.specs.Map.{AreWithin};
+ghost use Rattle.vp_motion.specs.Near.{candidates};
+ghost use Rattle.vp_motion.specs.Spelled.{CanBeWritten};
+ghost use Rattle.vp_tokens.specs.Blocks.{any_token, no_blocks};
+ghost use Rattle.vp_tokens.specs.Spelled.{AreSpelled, AreTight};
+ghost use Rattle.vp_intra.specs.Whole.{luma_pixel, chroma_pixel};
+ghost use Rattle.vp_recon.specs.Source.{Intra, Inter, macroblock_of, has_y2};
+ghost use Rattle.vp_recon.specs.Prediction.{luma_prediction, chroma_prediction};
+ghost use Rattle.vp_recon.specs.Rebuilt.{rebuilt};
+ghost use Rattle.vp_choose.specs.Costs.{HasMacroblock, block_of};
+ghost use Rattle.vp_choose.specs.Levels.{ArePositive, HasLumaAndY2, HasChroma};
+ghost use Rattle.vp_choose.specs.Gathered.{AreSmall};
+ghost use Rattle.vp_choose.specs.Intra.{IsIntra, HasSubblocks};
+ghost use Rattle.vp_choose.specs.Frame.{frame_of, search_of, source_by, no_biases};
+ghost use Rattle.vp_choose.specs.Inter.{IsInter, IsShort, moved_source, vector_of};
+ghost use Rattle.vp_choose.specs.Choice.{IsChoice};
+
+use crate::chroma::choose_chroma;
+use crate::frame::{Choice, Frame, Search};
+use crate::luma::{Luma, choose_luma};
+use crate::motion::{Moved, choose_reference, motion_of};
+use crate::tokens::{chroma_of, tokens_with_y2, tokens_without_y2};
+use vp_base::{Picture, Place};
+use vp_head::Reference;
+use vp_inter::{PlaneVector, chroma_vector, luma_vector, predict_block8, predict_block16};
+use vp_intra::{predict_chroma, predict_luma};
+use vp_modes::Modes;
+use vp_motion::{Entry, Motion, Vector, VectorMap};
+use vp_quant::Factors;
+use vp_recon::{Source, rebuild_macroblock};
+use vp_search::QuarterVector;
+use vp_tables::{ChromaMode, LumaMode, SubMode, VectorMode};
+use vp_tokens::Tokens;
+
+/// The levels of an intra macroblock.
+fn intra_tokens(
+    source: &Picture,
+    factors: &Factors,
+    picture: &Picture,
+    place: Place,
+    luma: &Luma,
+    mode: ChromaMode,
+) -> Tokens
+    requires source { HasMacroblock source.now place }
+    requires picture { HasMacroblock picture.now place }
+    requires factors { ArePositive factors.now }
+    requires small { AreSmall luma.now.subblocks.levels }
+    ensures by_subblocks { is_by_subblocks luma.now.mode ≡ true → HasSubblocks luma.now.subblocks result }
+    ensures at_once { is_by_subblocks luma.now.mode ≡ false → HasLumaAndY2 (block_of 16 source.now.luma place) (luma_pixel luma.now.mode picture.now.luma (16 * place.column) (16 * place.row)) factors.now result }
+    ensures u { HasChroma (block_of 8 source.now.u place) (chroma_pixel mode picture.now.u (8 * place.column) (8 * place.row)) factors.now result 1 }
+    ensures v { HasChroma (block_of 8 source.now.v place) (chroma_pixel mode picture.now.v (8 * place.column) (8 * place.row)) factors.now result 2 }
+    ensures tight { AreTight result.blocks }
+    ensures none { any_token result ≡ false → result.blocks ≡ no_blocks }
+    ensures spelled { AreSpelled (not (is_by_subblocks luma.now.mode)) result.blocks }
+{
+    let _dims = [source.dim(), picture.dim()];
+    let [x, y] = [8 * place.column, 8 * place.row];
+    let u = predict_chroma(picture.plane(1), x, y, mode);
+    let v = predict_chroma(picture.plane(2), x, y, mode);
+    let chroma = chroma_of(source, factors, place, &u, &v);
+    if luma.mode.is_by_subblocks() {
+        return tokens_without_y2(&luma.subblocks.levels, &chroma);
+    }
+    let [x, y] = [16 * place.column, 16 * place.row];
+    let prediction = predict_luma(picture.plane(0), x, y, luma.mode);
+    tokens_with_y2(source, factors, place, &prediction, &chroma)
+}
+
+/// The intra modes of a macroblock, by its levels.
+fn intra_modes(luma: &Luma, chroma: ChromaMode, tokens: &Tokens) -> Modes
+    ensures { result ≡ record { segment = 0; skip = not (any_token tokens.now); reference = Reference.Intra; luma = luma.now.mode; subs = (if is_by_subblocks luma.now.mode then luma.now.subblocks.modes else replicate 16 SubMode.Dc); chroma = chroma } }
+{
+    let subs = if luma.mode.is_by_subblocks() {
+        luma.subblocks.modes
+    } else {
+        [SubMode::Dc; 16]
+    };
+    Modes {
+        segment: 0,
+        skip: !tokens.any(),
+        reference: Reference::Intra,
+        luma: luma.mode,
+        subs,
+        chroma,
+    }
+}
+
+fn choose_intra(
+    source: &Picture,
+    factors: &Factors,
+    picture: &mut Picture,
+    place: Place,
+    luma: &Luma,
+) -> Choice
+    requires source { HasMacroblock source.now place }
+    requires picture { HasMacroblock picture.old place }
+    requires factors { ArePositive factors.now }
+    requires small { AreSmall luma.now.subblocks.levels }
+    ensures intra { IsIntra source.now factors.now place picture.old luma.now result.modes result.tokens }
+    ensures rebuilt { picture.new ≡ rebuilt (macroblock_of (Intra result.modes) result.tokens factors.now) place picture.old }
+    ensures segment { result.modes.segment ≡ 0 }
+    ensures skip { result.modes.skip ≡ not (any_token result.tokens) }
+    ensures tight { AreTight result.tokens.blocks }
+    ensures none { any_token result.tokens ≡ false → result.tokens.blocks ≡ no_blocks }
+    ensures spelled { AreSpelled (has_y2 (Intra result.modes)) result.tokens.blocks }
+    ensures vectors { result.motion.vectors ≡ replicate 16 still }
+{
+    let chroma = choose_chroma(source, picture, place);
+    let tokens = intra_tokens(source, factors, picture, place, luma, chroma);
+    let modes = intra_modes(luma, chroma, &tokens);
+    rebuild_macroblock(picture, place, &Source::Intra(&modes), &tokens, factors);
+    let motion = Motion {
+        mode: VectorMode::Zero,
+        vectors: [Vector { row: 0, column: 0 }; 16],
+    };
+    Choice {
+        modes,
+        motion,
+        tokens,
+    }
+}
+
+/// The levels of an inter macroblock.
+fn inter_tokens(
+    source: &Picture,
+    factors: &Factors,
+    reference: &Picture,
+    place: Place,
+    moved: &Moved,
+) -> Tokens
+    requires source { HasMacroblock source.now place }
+    requires factors { ArePositive factors.now }
+    requires short { IsShort moved.now.vector }
+    ensures luma { (e : Entry) (p : Raster) → e.vectors ≡ replicate 16 (vector_of moved.now) → HasLumaAndY2 (block_of 16 source.now.luma place) (luma_prediction (Inter e reference.now 0) place p) factors.now result }
+    ensures u { (e : Entry) (p : Raster) → e.vectors ≡ replicate 16 (vector_of moved.now) → HasChroma (block_of 8 source.now.u place) (chroma_prediction (Inter e reference.now 0) 1 place p) factors.now result 1 }
+    ensures v { (e : Entry) (p : Raster) → e.vectors ≡ replicate 16 (vector_of moved.now) → HasChroma (block_of 8 source.now.v place) (chroma_prediction (Inter e reference.now 0) 2 place p) factors.now result 2 }
+    ensures tight { AreTight result.blocks }
+    ensures none { any_token result ≡ false → result.blocks ≡ no_blocks }
+    ensures spelled { AreSpelled true result.blocks }
+{
+    let _dims = [source.dim(), reference.dim()];
+    let [x, y] = [8 * place.column, 8 * place.row];
+    let QuarterVector { row, column } = moved.vector;
+    let vector = chroma_vector(0, &[row; 4], &[column; 4]);
+    let u = predict_block8(reference.plane(1), x, y, vector, 0);
+    let v = predict_block8(reference.plane(2), x, y, vector, 0);
+    let chroma = chroma_of(source, factors, place, &u, &v);
+    let vector = luma_vector(row, column);
+    let [x, y] = [16 * place.column, 16 * place.row];
+    let prediction = predict_block16(reference.plane(0), x, y, vector, 0);
+    tokens_with_y2(source, factors, place, &prediction, &chroma)
+}
+
+/// How a macroblock moves, as it is kept.
+fn entry_of(reference: Reference, motion: &Motion) -> Entry
+    ensures { result ≡ record { reference = reference; mode = motion.now.mode; vectors = motion.now.vectors } }
+{
+    let vectors = motion.vectors;
+    Entry {
+        reference,
+        mode: motion.mode,
+        vectors,
+    }
+}
+
+fn choose_inter(
+    frame: &Frame,
+    search: &Search,
+    picture: &mut Picture,
+    vectors: &VectorMap,
+    place: Place,
+    moved: &Moved,
+) -> Choice
+    requires source { HasMacroblock (frame_of frame.now).source place }
+    requires picture { HasMacroblock picture.old place }
+    requires factors { ArePositive (frame_of frame.now).factors }
+    requires place { Has vectors.now place }
+    requires map { AreWithin 511 vectors.now }
+    requires short { IsShort moved.now.vector }
+    requires reference { is_intra moved.now.reference ≡ false }
+    ensures inter { IsInter (frame_of frame.now).source (frame_of frame.now).factors (search_of search.now) vectors.now place picture.old moved.now result }
+    ensures rebuilt { picture.new ≡ rebuilt (macroblock_of (moved_source (search_of search.now) moved.now result) result.tokens (frame_of frame.now).factors) place picture.old }
+    ensures skip { result.modes.skip ≡ not (any_token result.tokens) }
+    ensures tight { AreTight result.tokens.blocks }
+    ensures none { any_token result.tokens ≡ false → result.tokens.blocks ≡ no_blocks }
+    ensures spelled { AreSpelled true result.tokens.blocks }
+    ensures written { CanBeWritten (candidates vectors.now place moved.now.reference no_biases) result.motion }
+    ensures short { IsWithin 259 (last_of result.motion.vectors) }
+{
+    let reference = search.references.get(moved.reference);
+    let tokens = inter_tokens(frame.source, frame.factors, reference, place, moved);
+    let motion = motion_of(vectors, place, moved);
+    let entry = entry_of(moved.reference, &motion);
+    let source = Source::Inter {
+        motion: &entry,
+        reference,
+        version: 0,
+    };
+    rebuild_macroblock(picture, place, &source, &tokens, frame.factors);
+    let modes = Modes {
+        segment: 0,
+        skip: !tokens.any(),
+        reference: moved.reference,
+        luma: LumaMode::Dc,
+        subs: [SubMode::Dc; 16],
+        chroma: ChromaMode::Dc,
+    };
+    Choice {
+        modes,
+        motion,
+        tokens,
+    }
+}
+
+/// Chooses for the macroblock at `place`, and rebuilds it.
+///
+/// `picture` has the macroblocks before it, in raster order, rebuilt and not filtered yet; `vectors` has their motion.
+/// The macroblock's own motion isn't put there. No memory is taken.
+pub fn choose_macroblock(
+    frame: &Frame,
+    picture: &mut Picture,
+    vectors: &VectorMap,
+    place: Place,
+) -> Choice
+    requires column { place.column < macroblocks picture.old.width }
+    requires row { place.row < macroblocks picture.old.height }
+    requires size { AreOneSize (frame_of frame.now).source picture.old }
+    requires factors { ArePositive (frame_of frame.now).factors }
+    requires range { IfSome (frame_of frame.now).search (λ s. s.range ≤ 64) }
+    requires map { Has vectors.now place }
+    requires short { AreWithin 511 vectors.now }
+    ensures chosen { IsChoice (frame_of frame.now) picture.old vectors.now place result }
+    ensures rebuilt { picture.new ≡ rebuilt (macroblock_of (source_by (frame_of frame.now).search result) result.tokens (frame_of frame.now).factors) place picture.old }
+    // `write_motion` can say the motion at this place, where no vector is turned round.
+    ensures written { is_intra result.modes.reference ≡ false → CanBeWritten (candidates vectors.now place result.modes.reference no_biases) result.motion }
+    ensures short { IsWithin 259 (last_of result.motion.vectors) }
+{
+    let _dims = [frame.source.dim(), picture.dim()];
+    let luma = choose_luma(frame.source, frame.factors, picture, place);
+    if let Some(search) = &frame.search {
+        let moved = choose_reference(search, frame.source.plane(0), place);
+        if moved.cost <= luma.cost {
+            return choose_inter(frame, search, picture, vectors, place, &moved);
+        }
+    }
+    choose_intra(frame.source, frame.factors, picture, place, &luma)
+}

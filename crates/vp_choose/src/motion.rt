@@ -1,0 +1,134 @@
+//! The choice of a macroblock's reference, vector and mode.
+
+ghost use Rattle.std.specs.Prelude.{◌≡◌, ℕ, ◌+◌, ◌*◌, ◌<◌, ◌≤◌, true, false, unsigned_abs, replicate};
+ghost use Rattle.vp_base.specs.Grid.{Has};
+ghost use Rattle.vp_head.specs.Reference.{is_intra};
+ghost use Rattle.vp_motion.specs.Vector.{IsWithin, last_of};
+ghost use Rattle.vp_motion.specs.Map.{AreWithin};
+ghost use Rattle.vp_motion.specs.Near.{candidates};
+ghost use Rattle.vp_motion.specs.Spelled.{CanBeWritten};
+ghost use Rattle.vp_refs.specs.References.{picture_of};
+ghost use Rattle.vp_choose.specs.Frame.{search_of, no_biases};
+ghost use Rattle.vp_choose.specs.Inter.{IsFound, IsMoved, IsFirstGiving, IsShort, found_in, vector_of};
+
+use crate::frame::Search;
+use vp_base::{Place, Plane};
+use vp_head::{Reference, SignBiases};
+use vp_motion::{Candidates, Motion, Vector, VectorMap, near};
+use vp_search::{QuarterVector, Refined, full_search, refine};
+use vp_tables::VectorMode;
+
+/// A reference, the vector that is found in it, and what that costs.
+#[derive(Clone, Copy)]
+pub(crate) struct Moved {
+    pub(crate) reference: Reference,
+    pub(crate) vector: QuarterVector,
+    pub(crate) cost: u32,
+}
+
+/// The vector that is found in a reference.
+fn find(search: &Search, source: &Plane, reference: &Plane, place: Place) -> Refined
+    requires columns { 16 * place.column + 16 ≤ source.now.width }
+    requires rows { 16 * place.row + 16 ≤ source.now.height }
+    requires wide { 0 < reference.now.width }
+    requires high { 0 < reference.now.height }
+    requires range { search.now.range ≤ 64 }
+    ensures found { IsFound (search_of search.now) source.now reference.now place result }
+    ensures short { IsShort result.vector }
+{
+    let found = full_search(source, reference, place, search.range);
+    if search.subpel {
+        return refine(source, reference, place, found.vector);
+    }
+    let vector = QuarterVector {
+        row: 4 * found.vector.row,
+        column: 4 * found.vector.column,
+    };
+    Refined {
+        vector,
+        cost: found.cost,
+    }
+}
+
+fn found_in(reference: Reference, found: Refined) -> Moved
+    ensures { result ≡ found_in reference found }
+{
+    Moved {
+        reference,
+        vector: found.vector,
+        cost: found.cost,
+    }
+}
+
+/// The vector that is found in one of the references.
+fn find_in(search: &Search, source: &Plane, reference: Reference, place: Place) -> Refined
+    requires columns { 16 * place.column + 16 ≤ source.now.width }
+    requires rows { 16 * place.row + 16 ≤ source.now.height }
+    requires range { search.now.range ≤ 64 }
+    ensures found { IsFound (search_of search.now) source.now (picture_of search.now.references.now reference).luma place result }
+    ensures short { IsShort result.vector }
+{
+    let picture = search.references.get(reference);
+    let _dim = picture.dim();
+    find(search, source, picture.plane(0), place)
+}
+
+/// The reference and the vector of a macroblock, if it is moved.
+pub(crate) fn choose_reference(search: &Search, source: &Plane, place: Place) -> Moved
+    requires columns { 16 * place.column + 16 ≤ source.now.width }
+    requires rows { 16 * place.row + 16 ≤ source.now.height }
+    requires range { search.now.range ≤ 64 }
+    ensures moved { IsMoved (search_of search.now) source.now place result }
+    ensures short { IsShort result.vector }
+    ensures inter { is_intra result.reference ≡ false }
+{
+    let last = find_in(search, source, Reference::Last, place);
+    if search.golden {
+        let golden = find_in(search, source, Reference::Golden, place);
+        if golden.cost < last.cost {
+            return found_in(Reference::Golden, golden);
+        }
+    }
+    found_in(Reference::Last, last)
+}
+
+/// The first mode that gives a vector.
+fn mode_of(candidates: &Candidates, vector: Vector) -> VectorMode
+    ensures { IsFirstGiving candidates.now vector result }
+{
+    if candidates.can_give(VectorMode::Zero, vector) {
+        return VectorMode::Zero;
+    }
+    if candidates.can_give(VectorMode::Nearest, vector) {
+        return VectorMode::Nearest;
+    }
+    if candidates.can_give(VectorMode::Near, vector) {
+        return VectorMode::Near;
+    }
+    VectorMode::New
+}
+
+/// How a macroblock that is moved says so.
+pub(crate) fn motion_of(vectors: &VectorMap, place: Place, moved: &Moved) -> Motion
+    requires place { Has vectors.now place }
+    requires map { AreWithin 511 vectors.now }
+    requires short { IsShort moved.now.vector }
+    ensures vectors { result.vectors ≡ replicate 16 (vector_of moved.now) }
+    ensures mode { IsFirstGiving (candidates vectors.now place moved.now.reference no_biases) (vector_of moved.now) result.mode }
+    ensures written { CanBeWritten (candidates vectors.now place moved.now.reference no_biases) result }
+    ensures short { IsWithin 259 (last_of result.vectors) }
+{
+    let vector = Vector {
+        row: moved.vector.row,
+        column: moved.vector.column,
+    };
+    let biases = SignBiases {
+        golden: false,
+        alt: false,
+    };
+    let candidates = near(vectors, place, moved.reference, biases);
+    Motion {
+        mode: mode_of(&candidates, vector),
+        vectors: [vector; 16],
+    }
+}

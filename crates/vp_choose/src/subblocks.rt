@@ -1,0 +1,185 @@
+//! The choice of the luma subblocks' modes.
+
+ghost use Rattle.std.specs.Prelude.{◌≡◌, ℕ, ◌+◌, ◌*◌, ◌<◌, ◌≤◌, pos, slice_index_or, unsigned_abs};
+ghost use Rattle.vp_base.specs.Image.{with_plane};
+ghost use Rattle.vp_intra.specs.Edges.{block as listed};
+ghost use Rattle.vp_recon.specs.Rebuilt.{with_sub};
+ghost use Rattle.vp_recon.specs.Residue.{residue};
+ghost use Rattle.vp_search.specs.FirstLeast.{IsFirstLeast};
+ghost use Rattle.vp_choose.specs.Costs.{sub_cost};
+ghost use Rattle.vp_choose.specs.Levels.{ArePositive};
+ghost use Rattle.vp_choose.specs.Gathered.{AreSmall};
+ghost use Rattle.vp_choose.specs.Subblocks.{IsBestMode, AreChosen, mode_at, sub_levels, after};
+
+use crate::difference::sad4;
+use crate::levels::{coefficients, levels_of, part_of};
+use vp_base::{Picture, Place, Plane};
+use vp_intra::predict_sub;
+use vp_quant::Factors;
+use vp_recon::rebuild_subblock;
+use vp_search::{first_least, macroblock};
+use vp_tables::SubMode;
+use vp_tokens::Block;
+
+/// The modes in the order in which ties are broken.
+const ORDER: [SubMode; 10] = [
+    SubMode::Dc,
+    SubMode::Tm,
+    SubMode::Ve,
+    SubMode::He,
+    SubMode::Ld,
+    SubMode::Rd,
+    SubMode::Vr,
+    SubMode::Vl,
+    SubMode::Hd,
+    SubMode::Hu,
+];
+
+/// What is chosen for the luma subblocks, in raster order, and what it costs.
+#[derive(Clone, Copy)]
+pub(crate) struct Subblocks {
+    pub(crate) modes: [SubMode; 16],
+    pub(crate) levels: [[i16; 16]; 16],
+    pub(crate) cost: u32,
+}
+
+/// What is chosen for one of them.
+#[derive(Clone, Copy)]
+struct Subblock {
+    mode: SubMode,
+    levels: [i16; 16],
+    cost: u32,
+}
+
+fn cost_of(block: &[u8; 16], plane: &Plane, place: Place, mode: SubMode) -> u32
+    requires columns { 4 * place.column + 4 ≤ plane.now.width }
+    requires rows { 4 * place.row + 4 ≤ plane.now.height }
+    ensures value { (f : ℕ → ℕ → ℕ) → block.now ≡ listed 4 f → result ≡ sub_cost f plane.now place mode }
+    ensures bound { result ≤ 4080 }
+{
+    let _size = [plane.width(), plane.height()];
+    let prediction = predict_sub(plane, 4 * place.column, 4 * place.row, mode);
+    sad4(block, &prediction)
+}
+
+/// The number of the best mode, and its cost.
+fn best_mode(block: &[u8; 16], plane: &Plane, place: Place) -> (usize, u32)
+    requires columns { 4 * place.column + 4 ≤ plane.now.width }
+    requires rows { 4 * place.row + 4 ≤ plane.now.height }
+    ensures best { (f : ℕ → ℕ → ℕ) → block.now ≡ listed 4 f → IsFirstLeast 10 (λ i. sub_cost f plane.now place (mode_at i)) result.0 }
+    ensures cost { (f : ℕ → ℕ → ℕ) → block.now ≡ listed 4 f → result.1 ≡ sub_cost f plane.now place (mode_at result.0) }
+    ensures number { result.0 < 10 }
+    ensures bound { result.1 ≤ 4080 }
+{
+    let mut costs = [0; 10];
+    for i in 0..10 {
+        costs[i] = cost_of(block, plane, place, ORDER[i]);
+    }
+    let best = first_least(&costs);
+    (best, costs[best])
+}
+
+/// The levels of a subblock by a mode.
+fn levels_by(
+    block: &[u8; 16],
+    factors: &Factors,
+    plane: &Plane,
+    place: Place,
+    mode: SubMode,
+) -> [i16; 16]
+    requires columns { 4 * place.column + 4 ≤ plane.now.width }
+    requires rows { 4 * place.row + 4 ≤ plane.now.height }
+    requires factors { ArePositive factors.now }
+    ensures value { (f : ℕ → ℕ → ℕ) → block.now ≡ listed 4 f → result ≡ sub_levels f plane.now place mode factors.now }
+    ensures within { (i : ℕ) → unsigned_abs (slice_index_or result i (pos 0)) ≤ 2047 }
+{
+    let _size = [plane.width(), plane.height()];
+    let prediction = predict_sub(plane, 4 * place.column, 4 * place.row, mode);
+    let numbers = coefficients(block, &prediction);
+    levels_of(&numbers, factors.y_dc, factors.y_ac)
+}
+
+/// Chooses for one subblock, and rebuilds it.
+fn choose_subblock(
+    block: &[u8; 16],
+    factors: &Factors,
+    picture: &mut Picture,
+    place: Place,
+) -> Subblock
+    requires columns { 4 * place.column + 4 ≤ picture.old.luma.width }
+    requires rows { 4 * place.row + 4 ≤ picture.old.luma.height }
+    requires factors { ArePositive factors.now }
+    ensures mode { (f : ℕ → ℕ → ℕ) → block.now ≡ listed 4 f → IsBestMode f picture.old.luma place result.mode }
+    ensures levels { (f : ℕ → ℕ → ℕ) → block.now ≡ listed 4 f → result.levels ≡ sub_levels f picture.old.luma place result.mode factors.now }
+    ensures cost { (f : ℕ → ℕ → ℕ) → block.now ≡ listed 4 f → result.cost ≡ sub_cost f picture.old.luma place result.mode }
+    ensures rebuilt { picture.new ≡ with_plane picture.old 0 (with_sub picture.old.luma place result.mode (residue result.levels factors.now.y_dc factors.now.y_ac)) }
+    ensures within { (i : ℕ) → unsigned_abs (slice_index_or result.levels i (pos 0)) ≤ 2047 }
+    ensures bound { result.cost ≤ 4080 }
+{
+    let _size = [picture.plane(0).width(), picture.plane(0).height()];
+    let (number, cost) = best_mode(block, picture.plane(0), place);
+    let mode = ORDER[number];
+    let levels = levels_by(block, factors, picture.plane(0), place, mode);
+    rebuild_subblock(picture, place, mode, &Block::of_levels(&levels), factors);
+    Subblock { mode, levels, cost }
+}
+
+/// Chooses for all subblocks of a macroblock, and rebuilds them.
+fn choose_all(
+    source: &[u8; 256],
+    factors: &Factors,
+    picture: &mut Picture,
+    place: Place,
+) -> Subblocks
+    requires columns { 16 * place.column + 16 ≤ picture.old.luma.width }
+    requires rows { 16 * place.row + 16 ≤ picture.old.luma.height }
+    requires factors { ArePositive factors.now }
+    ensures chosen { (f : ℕ → ℕ → ℕ) → source.now ≡ listed 16 f → AreChosen f factors.now place picture.old.luma result }
+    ensures rebuilt { picture.new ≡ with_plane picture.old 0 (after factors.now place picture.old.luma result 16) }
+    ensures within { AreSmall result.levels }
+    ensures bound { result.cost ≤ 65280 }
+{
+    let _size = [picture.plane(0).width(), picture.plane(0).height()];
+    let mut modes = [SubMode::Dc; 16];
+    let mut levels = [[0; 16]; 16];
+    let mut cost = 0;
+    for k in 0..16 {
+        let here = Place {
+            column: place.column * 4 + k % 4,
+            row: place.row * 4 + k / 4,
+        };
+        let block = part_of::<4>(source, k);
+        let chosen = choose_subblock(&block, factors, picture, here);
+        modes[k] = chosen.mode;
+        let own = chosen.levels;
+        levels[k] = own;
+        cost += chosen.cost;
+    }
+    Subblocks {
+        modes,
+        levels,
+        cost,
+    }
+}
+
+/// What would be chosen for all subblocks of a macroblock. The picture is afterwards as it was.
+pub(crate) fn choose_subblocks(
+    source: &[u8; 256],
+    factors: &Factors,
+    picture: &mut Picture,
+    place: Place,
+) -> Subblocks
+    requires columns { 16 * place.column + 16 ≤ picture.old.luma.width }
+    requires rows { 16 * place.row + 16 ≤ picture.old.luma.height }
+    requires factors { ArePositive factors.now }
+    ensures chosen { (f : ℕ → ℕ → ℕ) → source.now ≡ listed 16 f → AreChosen f factors.now place picture.old.luma result }
+    ensures kept { picture.new ≡ picture.old }
+    ensures within { AreSmall result.levels }
+    ensures bound { result.cost ≤ 65280 }
+{
+    let _size = [picture.plane(0).width(), picture.plane(0).height()];
+    let kept = macroblock(picture.plane(0), place);
+    let chosen = choose_all(source, factors, picture, place);
+    picture.write_block(0, 16 * place.column, 16 * place.row, 16, 16, &kept);
+    chosen
+}

@@ -1,0 +1,201 @@
+//! The levels of a macroblock, from its predictions.
+
+ghost use Rattle.std.specs.Prelude.{◌≡◌, ℕ, ◌+◌, ◌*◌, ◌<◌, ◌≤◌, true, false, ℤ, pos, List, [], slice_index_or, slice_set, replicate, unsigned_abs};
+ghost use Rattle.vp_tokens.specs.Blocks.{block_of as tokens_of, any_token, no_blocks};
+ghost use Rattle.vp_tokens.specs.Spelled.{AreSpelled, AreTight};
+ghost use Rattle.vp_transform.specs.Fits.{EachWithin};
+ghost use Rattle.vp_transform.specs.Forward.{fwht};
+ghost use Rattle.vp_intra.specs.Edges.{block as listed};
+ghost use Rattle.vp_choose.specs.Costs.{HasMacroblock, block_of};
+ghost use Rattle.vp_choose.specs.Levels.{ArePositive, HasLumaAndY2, firsts, levels_of, part_coefficients};
+ghost use Rattle.vp_choose.specs.Gathered.{AreListed, AreSmall, IsGathered, gathered};
+
+use crate::chroma::chroma_block;
+use crate::levels::{coefficients, levels_of, part_of};
+use crate::luma::luma_block;
+use vp_base::{Picture, Place};
+use vp_quant::Factors;
+use vp_tokens::Tokens;
+use vp_transform::fwht;
+
+/// The levels of a plane's blocks in raster order.
+pub(crate) type Levels<const N: usize> = [[i16; 16]; N];
+
+/// The coefficients of the sixteen luma subblocks.
+fn luma_coefficients(source: &[u8; 256], prediction: &[u8; 256]) -> [[i64; 16]; 16]
+    ensures value { (f g : ℕ → ℕ → ℕ) → source.now ≡ listed 16 f → prediction.now ≡ listed 16 g → AreListed 16 result (part_coefficients 4 f g) }
+    ensures within { (k : ℕ) → EachWithin 2040 (slice_index_or result k []) }
+{
+    let mut all = [[0; 16]; 16];
+    for k in 0..16 {
+        all[k] = coefficients(&part_of::<4>(source, k), &part_of::<4>(prediction, k));
+    }
+    all
+}
+
+/// The first coefficients of the sixteen luma subblocks.
+#[tactic(auto, unfolding(crate::specs::Levels::firsts))]
+fn firsts(all: &[[i64; 16]; 16]) -> [i64; 16]
+    requires { (k : ℕ) → EachWithin 2040 (slice_index_or all.now k []) }
+    ensures value { (each : ℕ → List ℤ) → AreListed 16 all.now each → result ≡ firsts each }
+    ensures within { EachWithin 2040 result }
+{
+    let mut firsts = [0; 16];
+    for k in 0..16 {
+        firsts[k] = all[k][0];
+    }
+    firsts
+}
+
+/// The levels of the Y2 block.
+fn y2_levels(all: &[[i64; 16]; 16], factors: &Factors) -> [i16; 16]
+    requires within { (k : ℕ) → EachWithin 2040 (slice_index_or all.now k []) }
+    requires factors { ArePositive factors.now }
+    ensures value { (each : ℕ → List ℤ) → AreListed 16 all.now each → result ≡ levels_of (fwht (firsts each)) factors.now.y2_dc factors.now.y2_ac }
+    ensures within { (i : ℕ) → unsigned_abs (slice_index_or result i (pos 0)) ≤ 2047 }
+{
+    let firsts = firsts(all);
+    levels_of(&fwht(&firsts), factors.y2_dc, factors.y2_ac)
+}
+
+/// The levels of the luma subblocks behind a Y2 block, which has those of position 0.
+fn luma_levels(all: &[[i64; 16]; 16], factors: &Factors) -> Levels<16>
+    requires { ArePositive factors.now }
+    ensures value { (each : ℕ → List ℤ) → AreListed 16 all.now each → AreListed 16 result (λ k. slice_set (levels_of (each k) factors.now.y_dc factors.now.y_ac) 0 (pos 0)) }
+    ensures within { AreSmall result }
+    ensures first { (k : ℕ) → k < 16 → slice_index_or (slice_index_or result k []) 0 (pos 0) ≡ pos 0 }
+{
+    let mut levels = [[0; 16]; 16];
+    for k in 0..16 {
+        let mut own = levels_of(&all[k], factors.y_dc, factors.y_ac);
+        own[0] = 0;
+        levels[k] = own;
+    }
+    levels
+}
+
+/// The levels of the four subblocks of a plane of colour.
+fn chroma_levels(source: &[u8; 64], prediction: &[u8; 64], factors: &Factors) -> Levels<4>
+    requires { ArePositive factors.now }
+    ensures value { (f g : ℕ → ℕ → ℕ) → source.now ≡ listed 8 f → prediction.now ≡ listed 8 g → AreListed 4 result (λ k. levels_of (part_coefficients 2 f g k) factors.now.uv_dc factors.now.uv_ac) }
+    ensures within { AreSmall result }
+{
+    let mut levels = [[0; 16]; 4];
+    for k in 0..4 {
+        let numbers = coefficients(&part_of::<2>(source, k), &part_of::<2>(prediction, k));
+        levels[k] = levels_of(&numbers, factors.uv_dc, factors.uv_ac);
+    }
+    levels
+}
+
+/// The levels of the planes of colour.
+#[derive(Clone, Copy)]
+pub(crate) struct Chroma {
+    u: Levels<4>,
+    v: Levels<4>,
+}
+
+pub(crate) fn chroma_of(
+    source: &Picture,
+    factors: &Factors,
+    place: Place,
+    u: &[u8; 64],
+    v: &[u8; 64],
+) -> Chroma
+    requires place { HasMacroblock source.now place }
+    requires factors { ArePositive factors.now }
+    ensures u { (g : ℕ → ℕ → ℕ) → u.now ≡ listed 8 g → AreListed 4 result.u (λ k. levels_of (part_coefficients 2 (block_of 8 source.now.u place) g k) factors.now.uv_dc factors.now.uv_ac) }
+    ensures v { (g : ℕ → ℕ → ℕ) → v.now ≡ listed 8 g → AreListed 4 result.v (λ k. levels_of (part_coefficients 2 (block_of 8 source.now.v place) g k) factors.now.uv_dc factors.now.uv_ac) }
+    ensures within_u { AreSmall result.u }
+    ensures within_v { AreSmall result.v }
+{
+    let _dim = source.dim();
+    let source_u = chroma_block(source.plane(1), place);
+    let source_v = chroma_block(source.plane(2), place);
+    Chroma {
+        u: chroma_levels(&source_u, u, factors),
+        v: chroma_levels(&source_v, v, factors),
+    }
+}
+
+/// The levels of block `n`: Y2, luma, U and V.
+#[tactic(auto, unfolding(crate::specs::Gathered::gathered))]
+fn levels_at(y2: &[i16; 16], luma: &Levels<16>, chroma: &Chroma, n: usize) -> [i16; 16]
+    requires { n < 25 }
+    ensures { result ≡ gathered y2.now luma.now chroma.now.u chroma.now.v n }
+{
+    if n == 0 {
+        return *y2;
+    }
+    if n < 17 {
+        return luma[n - 1];
+    }
+    if n < 21 {
+        return chroma.u[n - 17];
+    }
+    chroma.v[n - 21]
+}
+
+/// The blocks of a macroblock.
+fn gather(y2: &[i16; 16], luma: &Levels<16>, chroma: &Chroma) -> Tokens
+    requires y2 { (i : ℕ) → unsigned_abs (slice_index_or y2.now i (pos 0)) ≤ 2047 }
+    requires luma { AreSmall luma.now }
+    requires u { AreSmall chroma.now.u }
+    requires v { AreSmall chroma.now.v }
+    ensures levels { IsGathered y2.now luma.now chroma.now result }
+    ensures tight { AreTight result.blocks }
+    ensures none { any_token result ≡ false → result.blocks ≡ no_blocks }
+    ensures with_y2 { ((k : ℕ) → k < 16 → slice_index_or (slice_index_or luma.now k []) 0 (pos 0) ≡ pos 0) → AreSpelled true result.blocks }
+    ensures without_y2 { y2.now ≡ replicate 16 (pos 0) → AreSpelled false result.blocks }
+{
+    let mut all = [[0; 16]; 25];
+    for n in 0..25 {
+        all[n] = levels_at(y2, luma, chroma, n);
+    }
+    Tokens::of_levels(&all)
+}
+
+/// The blocks of a macroblock whose luma is predicted at once.
+pub(crate) fn tokens_with_y2(
+    source: &Picture,
+    factors: &Factors,
+    place: Place,
+    prediction: &[u8; 256],
+    chroma: &Chroma,
+) -> Tokens
+    requires place { HasMacroblock source.now place }
+    requires factors { ArePositive factors.now }
+    requires u { AreSmall chroma.now.u }
+    requires v { AreSmall chroma.now.v }
+    ensures luma { (g : ℕ → ℕ → ℕ) → prediction.now ≡ listed 16 g → HasLumaAndY2 (block_of 16 source.now.luma place) g factors.now result }
+    ensures u { (k : ℕ) → k < 4 → (tokens_of result (17 + k)).levels ≡ slice_index_or chroma.now.u k [] }
+    ensures v { (k : ℕ) → k < 4 → (tokens_of result (21 + k)).levels ≡ slice_index_or chroma.now.v k [] }
+    ensures tight { AreTight result.blocks }
+    ensures none { any_token result ≡ false → result.blocks ≡ no_blocks }
+    ensures spelled { AreSpelled true result.blocks }
+{
+    let _dim = source.dim();
+    let block = luma_block(source.plane(0), place);
+    let all = luma_coefficients(&block, prediction);
+    gather(
+        &y2_levels(&all, factors),
+        &luma_levels(&all, factors),
+        chroma,
+    )
+}
+
+/// The blocks of a macroblock without a Y2 block.
+pub(crate) fn tokens_without_y2(luma: &Levels<16>, chroma: &Chroma) -> Tokens
+    requires luma { AreSmall luma.now }
+    requires u { AreSmall chroma.now.u }
+    requires v { AreSmall chroma.now.v }
+    ensures y2 { (tokens_of result 0).levels ≡ replicate 16 (pos 0) }
+    ensures luma { (k : ℕ) → k < 16 → (tokens_of result (1 + k)).levels ≡ slice_index_or luma.now k [] }
+    ensures u { (k : ℕ) → k < 4 → (tokens_of result (17 + k)).levels ≡ slice_index_or chroma.now.u k [] }
+    ensures v { (k : ℕ) → k < 4 → (tokens_of result (21 + k)).levels ≡ slice_index_or chroma.now.v k [] }
+    ensures tight { AreTight result.blocks }
+    ensures none { any_token result ≡ false → result.blocks ≡ no_blocks }
+    ensures spelled { AreSpelled false result.blocks }
+{
+    gather(&[0; 16], luma, chroma)
+}
