@@ -1,0 +1,49 @@
+-- Candidates look at the macroblocks above and to the left alone.
+use Rattle.std.proofs.Common.{◌≡◌, ◌+◌, ◌*◌, ◌++◌, refl, arith}
+use Rattle.std.specs.Prelude.{Option, Some, None, neg_ℤ, pos, ◌-◌}
+use Rattle.std.specs.Int.{from_bool}
+use Rattle.std.specs.Option.{option_and_then}
+use Rattle.vp_base.specs.declared.place.Place.{Place}
+use Rattle.vp_base.specs.Place.{above, left, corner}
+use Rattle.vp_base.specs.Grid.{Grid, at, look}
+use Rattle.vp_base.proofs.NearLemmas.{above-some, left-some}
+use Rattle.vp_head.specs.declared.fields.Reference.{Reference}
+use Rattle.vp_head.specs.declared.fields.SignBiases.{SignBiases}
+use Rattle.vp_motion.specs.Vector.{Entry}
+use Rattle.vp_motion.specs.Map.{intra}
+use Rattle.vp_motion.specs.Near.{neighbours, counted, split_count, splits, within, clamped, candidates, from_entries, still_weight, moving, runs}
+
+look-same : (g h : Grid Entry) (o : Option Place) → ((q : Place) → o ≡ Some q → at intra g q ≡ at intra h q) → look intra g o ≡ look intra h o
+look-same g h None same = refl
+look-same g h (Some q) same = same q refl
+
+and_then-some : (f : Place → Option Place) (o : Option Place) (q : Place) → option_and_then f o ≡ Some q → (r : Place) × (o ≡ Some r) × (f r ≡ Some q)
+and_then-some f None q e = absurd cc
+and_then-some f (Some r) q e = (r, refl, e)
+
+-- two grids of one size that are alike above and to the left of a place
+pub record AreAlikeAround (g h : Grid Entry) (p : Place) : Type 0 where
+  pub columns : g.columns ≡ h.columns
+  pub rows : g.rows ≡ h.rows
+  pub above_it : (q : Place) → q.column ≡ p.column → p.row ≡ q.row + 1 → at intra g q ≡ at intra h q
+  pub left_of_it : (q : Place) → p.column ≡ q.column + 1 → q.row ≡ p.row → at intra g q ≡ at intra h q
+  pub corner_of_it : (q : Place) → p.column ≡ q.column + 1 → p.row ≡ q.row + 1 → at intra g q ≡ at intra h q
+
+pub candidates-same : (g h : Grid Entry) (p : Place) (r : Reference) (b : SignBiases) → AreAlikeAround g h p → candidates g p r b ≡ candidates h p r b
+unfolding candidates neighbours split_count within
+candidates-same g h p r b alike =
+    let up = look-same g h (above p) (λ q e. let f = above-some p q e in alike.above_it q f.0 f.1) in
+    let back = look-same g h (left p) (λ q e. let f = left-some p q e in alike.left_of_it q f.0 f.1) in
+    let across = look-same g h (corner p) (λ q e.
+    let f = and_then-some left (above p) q e in
+    let u = above-some p f.0 f.1 in
+    let v = left-some f.0 q f.2 in
+    alike.corner_of_it q (omega arith) (omega arith)) in
+    λ i.
+    let ws = counted r b 2 (up i) ++ (counted r b 2 (back i) ++ counted r b 1 (across i)) in
+    from_entries
+    (λ v. record {
+      row = clamped (neg_ℤ (pos (64 * (p.row + 1)))) (pos (64 * (alike.rows i - p.row))) v.row;
+      column = clamped (neg_ℤ (pos (64 * (p.column + 1)))) (pos (64 * (alike.columns i - p.column))) v.column;
+    })
+    (still_weight ws) (2 * from_bool (splits (up i)) + 2 * from_bool (splits (back i)) + from_bool (splits (across i))) (runs (moving ws))

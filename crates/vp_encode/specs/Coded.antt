@@ -1,0 +1,64 @@
+-- What a frame is told to be, and what it can be told to be (RFC 6386, chapters 5, 9, 13, 16 and 19).
+use Rattle.std.specs.Prelude.{◌≡◌, Bool, true, false, not, replicate, if◌then◌else◌}
+use Rattle.vp_base.specs.declared.place.Place.{Place}
+use Rattle.vp_base.specs.Grid.{Grid, Has, at, mapped}
+use Rattle.vp_tables.specs.declared.modes.VectorMode.TheVariants as vector_is
+use Rattle.vp_tables.specs.Modes.{is_by_subblocks, is_split}
+use Rattle.vp_head.specs.declared.fields.Saved.{Saved}
+use Rattle.vp_head.specs.Reference.{is_intra}
+use Rattle.vp_head.specs.Spelled as head
+use Rattle.vp_modes.specs.Entry.{Modes, plain}
+use Rattle.vp_modes.specs.Spelled as modes
+use Rattle.vp_motion.specs.Vector.{Entry, still}
+use Rattle.vp_motion.specs.Map.{intra}
+use Rattle.vp_motion.specs.Near.{candidates}
+use Rattle.vp_motion.specs.Spelled as motion
+use Rattle.vp_tokens.specs.Blocks.{no_blocks}
+use Rattle.vp_tokens.specs.Spelled.{AreSpelled}
+use Rattle.vp_encode.specs.declared.coded.Macroblock.{Macroblock}
+use Rattle.vp_encode.specs.declared.coded.Coded.{Coded}
+
+-- what counts as standing outside the frame
+unfoldable pub nothing : Macroblock
+nothing = record {
+  modes = plain;
+  motion = record { mode = vector_is.Zero; vectors = replicate 16 still };
+  tokens = record { blocks = no_blocks };
+}
+
+abbrev pub macroblock_at : Coded → Place → Macroblock
+macroblock_at c p = at nothing c.macroblocks p
+
+-- what is kept of a macroblock's motion
+abbrev pub entry_of : Macroblock → Entry
+entry_of m =
+    if is_intra m.modes.reference then intra
+    else record { reference = m.modes.reference; mode = m.motion.mode; vectors = m.motion.vectors }
+
+-- the motion of the frame
+abbrev pub motion_of : Coded → Grid Entry
+motion_of c = mapped entry_of c.macroblocks
+
+-- whether a macroblock has a Y2 block (chapter 13)
+abbrev pub has_y2 : Macroblock → Bool
+has_y2 m = if is_intra m.modes.reference then not (is_by_subblocks m.modes.luma) else not (is_split m.motion.mode)
+
+-- Each part is one that its own writer can spell. Modes are told over those that stood before the frame.
+abbrev pub AreModesSpelled : Coded → Grid Modes → Type 0
+AreModesSpelled c before = (p : Place) → Has c.macroblocks p → modes.IsSpelled c.header before p (macroblock_at c p).modes
+
+-- Vectors are told over those of the macroblocks above and to the left.
+abbrev pub IsMotionSpelled : Coded → Type 0
+IsMotionSpelled c = (p : Place) → Has c.macroblocks p → is_intra (macroblock_at c p).modes.reference ≡ false
+    → motion.CanBeWritten (candidates (motion_of c) p (macroblock_at c p).modes.reference c.header.biases) (macroblock_at c p).motion
+
+pub record AreTokensSpelled (c : Coded) : Type 0 where
+  pub blocks : (p : Place) → Has c.macroblocks p → AreSpelled (has_y2 (macroblock_at c p)) (macroblock_at c p).tokens.blocks
+  pub skipped : (p : Place) → Has c.macroblocks p → (macroblock_at c p).modes.skip ≡ true → (macroblock_at c p).tokens.blocks ≡ no_blocks
+
+-- A frame that can be told: a key frame or another one, over the values that are kept and the modes before it.
+pub record CanBeTold (key : Bool) (kept : Saved) (before : Grid Modes) (c : Coded) : Type 0 where
+  pub header : head.IsSpelled key kept c.header
+  pub modes : AreModesSpelled c before
+  pub motion : IsMotionSpelled c
+  pub tokens : AreTokensSpelled c

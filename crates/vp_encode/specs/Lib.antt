@@ -1,0 +1,3 @@
+pub mod Coded
+pub mod Said
+pub mod Written

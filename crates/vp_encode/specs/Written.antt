@@ -1,0 +1,173 @@
+-- Inside the crate: how far writing has come.
+use Rattle.std.specs.Prelude.{◌≡◌, ◌≢◌, ◌<◌, ◌≤◌, ◌*◌, ◌^◌, ◌+◌, ◌/◌, ◌%◌, ℕ, Bool, true, false, List, [], ◌∷◌, ◌++◌, length, map, slice_index_or, Option, Some, None, Ok}
+use Rattle.vp_bool.specs.Bools.{State, start}
+use Rattle.vp_bool.specs.Reader.{Reads}
+use Rattle.vp_bool.specs.Intervals.{Interval, all}
+use Rattle.vp_bool.specs.Writing.{AreProbabilities, HasWritten, Writes}
+use Rattle.vp_base.specs.declared.place.Place.{Place}
+use Rattle.vp_base.specs.Grid.{Grid, Has, at, all as everywhere}
+use Rattle.vp_head.specs.declared.fields.Tag.{Tag}
+use Rattle.vp_head.specs.declared.fields.KeyTag.{KeyTag}
+use Rattle.vp_head.specs.declared.fields.Saved.{Saved}
+use Rattle.vp_head.specs.Header.{header}
+use Rattle.vp_head.specs.Saved.{kept_after}
+use Rattle.vp_head.specs.Spelled.{kept_before}
+use Rattle.vp_head.specs.Reference.{is_intra}
+use Rattle.vp_modes.specs.Entry.{Modes, plain}
+use Rattle.vp_motion.specs.Map.{intra}
+use Rattle.vp_tokens.specs.Blocks.{Blocks, unread}
+use Rattle.vp_tokens.specs.Contexts.{Contexts, StandsFor}
+use Rattle.vp_tokens.specs.Partitions.{cut_of}
+use Rattle.vp_decode.specs.Maps.{Maps, modes_in, motion_in, place, maps_read}
+use Rattle.vp_decode.specs.Frame.{Plan, row_seen, row_tokens, readings, tokens_of}
+use Rattle.vp_decode.specs.Step.{count_of}
+use Rattle.vp_encode.specs.declared.coded.Macroblock.{Macroblock}
+use Rattle.vp_encode.specs.declared.coded.Coded.{Coded}
+use Rattle.vp_encode.specs.Coded.{macroblock_at, entry_of}
+use Rattle.vp_encode.specs.Said.{IsClosed}
+
+-- ---- modes and motion
+
+-- maps of the frame's size
+pub record AreOf (c : Coded) (m : Maps) : Type 0 where
+  pub columns : m.modes.columns ≡ c.macroblocks.columns
+  pub rows : m.modes.rows ≡ c.macroblocks.rows
+  pub motion_columns : m.motion.columns ≡ c.macroblocks.columns
+  pub motion_rows : m.motion.rows ≡ c.macroblocks.rows
+
+-- what the maps have of the macroblock at p
+pub record Have (c : Coded) (p : Place) (m : Maps) : Type 0 where
+  pub modes : modes_in m p ≡ (macroblock_at c p).modes
+  pub motion : motion_in m p ≡ entry_of (macroblock_at c p)
+
+-- at p the maps are alike
+pub record AreAlike (p : Place) (m n : Maps) : Type 0 where
+  pub modes : modes_in m p ≡ modes_in n p
+  pub motion : motion_in m p ≡ motion_in n p
+
+-- at p the maps have what x is told to be, and elsewhere they are as before
+pub record IsTold (p : Place) (x : Macroblock) (old new : Maps) : Type 0 where
+  pub columns : new.modes.columns ≡ old.modes.columns
+  pub rows : new.modes.rows ≡ old.modes.rows
+  pub motion_columns : new.motion.columns ≡ old.motion.columns
+  pub motion_rows : new.motion.rows ≡ old.motion.rows
+  pub modes : modes_in new p ≡ x.modes
+  pub unmoved : is_intra x.modes.reference ≡ true → motion_in new p ≡ motion_in old p
+  pub moved : is_intra x.modes.reference ≡ false → motion_in new p ≡ entry_of x
+  pub elsewhere : (q : Place) → q ≢ p → AreAlike q new old
+
+-- the rows before one are told; from it on the maps are as before, without motion
+pub record AreRowsTold (c : Coded) (before : Grid Modes) (row : ℕ) (m : Maps) : Type 0 where
+  pub size : AreOf c m
+  pub told : (p : Place) → p.row < row → p.column < c.macroblocks.columns → Have c p m
+  pub ahead : (p : Place) → row ≤ p.row → modes_in m p ≡ at plain before p
+  pub unmoved : (p : Place) → row ≤ p.row → motion_in m p ≡ intra
+
+-- the first n macroblocks of a row are told, and all others are as they were
+pub record IsRowTold (c : Coded) (row n : ℕ) (old new : Maps) : Type 0 where
+  pub size : AreOf c new
+  pub told : (column : ℕ) → column < n → Have c (place row column) new
+  pub others : (p : Place) → (p.row ≡ row → n ≤ p.column) → AreAlike p new old
+
+-- ---- the first partition
+
+-- From these bytes the header is read, and then these modes and this motion.
+pub record IsFirst (kept : Saved) (tag : Tag) (before : Maps) (c : Coded) (bytes : List ℕ) : Type 0 where
+  pub maps : Maps
+  pub behind : State
+  pub rest : State
+  pub header_read : header kept tag (start bytes) ≡ ((c.header, kept_after (kept_before kept tag) c.header), behind)
+  pub maps_are : maps_read c.header before behind ≡ (maps, rest)
+  pub size : AreOf c maps
+  pub told : (p : Place) → Has c.macroblocks p → Have c p maps
+  pub closed : IsClosed bytes
+
+-- ---- the token partitions
+
+-- a plan of the frame: it has the frame's header, modes and motion, and without references all is intra
+pub record IsPlanOf (c : Coded) (f : Plan) : Type 0 where
+  pub header : f.header ≡ c.header
+  pub size : AreOf c f.maps
+  pub told : (p : Place) → Has c.macroblocks p → Have c p f.maps
+  pub own : f.references ≡ None → (p : Place) → Has c.macroblocks p → is_intra (macroblock_at c p).modes.reference ≡ true
+
+-- before all macroblocks
+abbrev pub none_seen : ℕ → ℕ → Grid Blocks
+none_seen columns rows = everywhere columns rows unread
+
+-- what was written of the first n macroblocks of a row, where g was seen before
+pub record IsTokenRow (f : Plan) (c : Coded) (row n : ℕ) (g : Grid Blocks) (contexts : Contexts) (old new : Interval) : Type 0 where
+  pub seen : Grid Blocks
+  pub columns : seen.columns ≡ g.columns
+  pub rows : seen.rows ≡ g.rows
+  pub stands : StandsFor seen (place row n) contexts
+  pub written : Writes (row_seen f row n g) old new seen
+  pub tokens : (s t : State) → Reads written.bools s t → (column : ℕ) → column < n → row_tokens f row g s column ≡ (macroblock_at c (place row column)).tokens
+
+-- the bools bss, one list for each partition, are read from the states ss, and ts are left
+abbrev pub AllRead : List (List (Bool × ℕ)) → List State → List State → Type 0
+AllRead bss ss ts = (length ss ≡ length bss) × (length ts ≡ length bss)
+    × ((i : ℕ) → i < length bss → Reads (slice_index_or bss i []) (slice_index_or ss i (start [])) (slice_index_or ts i (start [])))
+
+-- what was written of the rows before one, each into the partition of its row
+pub record AreTokenRows (f : Plan) (c : Coded) (row : ℕ) (contexts : Contexts) (es : List Interval) : Type 0 where
+  pub seen : Grid Blocks
+  pub columns : seen.columns ≡ c.macroblocks.columns
+  pub rows : seen.rows ≡ c.macroblocks.rows
+  pub stands : StandsFor seen (place row 0) contexts
+  pub bools : List (List (Bool × ℕ))
+  pub count : length bools ≡ length es
+  pub probabilities : (i : ℕ) → AreProbabilities (slice_index_or bools i [])
+  pub written : (i : ℕ) → i < length es → HasWritten (slice_index_or bools i []) (slice_index_or es i all)
+  pub taken : (ss ts : List State) → AllRead bools ss ts → readings f ss row ≡ record { seen = seen; rests = ts }
+  pub tokens : (ss ts : List State) → AllRead bools ss ts
+      → (p : Place) → p.row < row → p.column < c.macroblocks.columns → tokens_of f ss p ≡ (macroblock_at c p).tokens
+
+-- All that was written is read from the bytes, which end with a byte of 0.
+pub record IsFinished (e : Interval) (bytes : List ℕ) : Type 0 where
+  pub read : (xs : List (Bool × ℕ)) → AreProbabilities xs → HasWritten xs e → (t : State) × Reads xs (start bytes) t
+  pub closed : IsClosed bytes
+
+-- the token partitions of the frame
+pub record AreTokenPartitions (c : Coded) (parts : List (List ℕ)) : Type 0 where
+  pub count : length parts ≡ count_of c.header.log2_partitions
+  pub read : (f : Plan) → IsPlanOf c f → (p : Place) → Has c.macroblocks p → tokens_of f (map start parts) p ≡ (macroblock_at c p).tokens
+  pub closed : (i : ℕ) → i < length parts → IsClosed (slice_index_or parts i [])
+
+-- ---- the tag
+
+-- a number of 24 bits, the lowest byte first
+abbrev pub three_bytes : ℕ → List ℕ
+three_bytes w = w % 256 ∷ w / 256 % 256 ∷ w / 65536 ∷ []
+
+abbrev pub two_bytes : ℕ → List ℕ
+two_bytes w = w % 256 ∷ w / 256 ∷ []
+
+-- a shown packet of version 0, not scaled, with a first partition of so many bytes
+abbrev pub tag_bytes : Option KeyTag → ℕ → List ℕ
+tag_bytes (Some key) first = three_bytes (32 * first + 16) ++ (0x9d ∷ 0x01 ∷ 0x2a ∷ []) ++ two_bytes key.dim.w ++ two_bytes key.dim.h
+tag_bytes None first = three_bytes (32 * first + 17)
+
+-- ---- the packet
+
+abbrev pub tag_with : Option KeyTag → ℕ → Tag
+tag_with key first = record { version = 0; show = true; first_partition = first; key = key }
+
+-- what a frame with this tag starts from
+abbrev pub kept_by : Saved → Option KeyTag → Saved
+kept_by saved key = kept_before saved (tag_with key 0)
+
+-- The bytes are the tag, a first partition and token partitions behind their table.
+pub record IsPutTogether (key : Option KeyTag) (first : List ℕ) (parts : List (List ℕ)) (bytes : List ℕ) : Type 0 where
+  pub rest : List ℕ
+  pub cut : cut_of rest (length parts) ≡ Ok parts
+  pub bytes_are : bytes ≡ tag_bytes key (length first) ++ (first ++ rest)
+
+-- The bytes are a packet of the frame.
+pub record IsPacket (key : Option KeyTag) (saved : Saved) (before : Maps) (c : Coded) (bytes : List ℕ) : Type 0 where
+  pub first : List ℕ
+  pub parts : List (List ℕ)
+  pub together : IsPutTogether key first parts bytes
+  pub short : length first < 2 ^ 19
+  pub first_is : IsFirst saved (tag_with key 0) before c first
+  pub parts_are : AreTokenPartitions c parts

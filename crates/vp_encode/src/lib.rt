@@ -1,0 +1,15 @@
+//! Frames written as packets (RFC 6386, chapters 9 and 19).
+#![tactic(auto)]
+
+mod coded;
+mod fault;
+mod maps;
+mod packet;
+mod tag;
+#[cfg(test)]
+mod tests;
+mod tokens;
+
+pub use coded::{Coded, Macroblock};
+pub use fault::PacketError;
+pub use packet::{write_inter_packet, write_key_packet};

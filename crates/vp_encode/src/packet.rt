@@ -1,0 +1,164 @@
+//! A frame, written as a packet.
+
+ghost use Rattle.std.specs.Prelude.{◌≡◌, ◌≤◌, ◌<◌, ◌*◌, ◌^◌, ◌-◌, ◌↔◌, true, false, Option, length, take, IsTrue, IfOk, IsOkAnd, is_some};
+ghost use Rattle.vp_base.specs.declared.limits.Limits.{Limits};
+ghost use Rattle.vp_base.specs.Image.{macroblocks};
+ghost use Rattle.vp_head.specs.declared.fields.Saved.{Saved};
+ghost use Rattle.vp_head.specs.Saved.{defaults};
+ghost use Rattle.vp_modes.specs.Map.{of_segments};
+ghost use Rattle.vp_refs.specs.References.{References};
+ghost use Rattle.vp_tokens.specs.Partitions.{lists, AreBelow24Bits};
+ghost use Rattle.vp_decode.specs.Step.{opened, key_before, maps_before};
+ghost use Rattle.vp_encode.specs.Coded.{CanBeTold};
+ghost use Rattle.vp_encode.specs.Said.{key_tag, Says};
+ghost use Rattle.vp_encode.specs.Written.{IsFirst, AreTokenPartitions, IsPutTogether, IsPacket, tag_with, kept_by};
+
+use crate::coded::Coded;
+use crate::fault::PacketError;
+use crate::maps::Maps;
+use crate::tag::put_tag;
+use crate::tokens::{finish, write_tokens};
+use std::alloc::{AllocError, Global};
+use vp_base::{ByteList, Dim, Grid};
+use vp_bool::BoolEncoder;
+use vp_head::{KeyTag, Saved, Tag};
+use vp_modes::{ModeMap, Segment};
+use vp_motion::VectorMap;
+use vp_tokens::Partitions;
+
+/// The most bytes of a first partition, which has 19 bits for its size.
+const MOST_FIRST: usize = 524_287;
+
+/// The most bytes of a token partition but the last, which has 24 bits for its size.
+const MOST_PART: usize = 16_777_215;
+
+/// Writes the packet of a key frame of this size: the frame tag, the first partition with the header, the modes and the
+/// motion, and the token partitions, as many as the header says. A byte of 0 stands behind each partition.
+pub fn write_key_packet(alloc: Global, dim: Dim, coded: &Coded) -> Result<ByteList, PacketError>
+    requires columns { coded.now.macroblocks.columns ≡ macroblocks dim.w }
+    requires rows { coded.now.macroblocks.rows ≡ macroblocks dim.h }
+    requires told { CanBeTold true defaults (key_before dim) coded.now }
+    ensures { IfOk result (λ v. (limits : Limits) (saved : Option Saved) → dim.w * dim.h ≤ limits.pixels
+        → IsOkAnd (opened limits saved v) (Says (Some (key_tag dim)) defaults None (key_before dim) dim.w dim.h coded.now v)) }
+{
+    let key = KeyTag {
+        dim,
+        horizontal_scale: 0,
+        vertical_scale: 0,
+    };
+    let before = ModeMap::new(alloc, dim)?;
+    let packet = write_packet(alloc, Some(key), dim, &Saved::defaults(), before, coded)?;
+    Ok(packet)
+}
+
+/// Writes the packet of an inter frame of the size of the references, over the values and the segments that are kept.
+pub fn write_inter_packet(
+    alloc: Global,
+    dim: Dim,
+    saved: &Saved,
+    segments: &Grid<Segment>,
+    coded: &Coded,
+) -> Result<ByteList, PacketError>
+    requires columns { coded.now.macroblocks.columns ≡ macroblocks dim.w }
+    requires rows { coded.now.macroblocks.rows ≡ macroblocks dim.h }
+    requires segment_columns { segments.now.columns ≡ macroblocks dim.w }
+    requires segment_rows { segments.now.rows ≡ macroblocks dim.h }
+    requires told { CanBeTold false saved.now (of_segments segments.now) coded.now }
+    ensures { IfOk result (λ v. (limits : Limits) (references : References)
+        → IsOkAnd (opened limits (Some saved.now) v) (Says None saved.now (Some references) (of_segments segments.now) dim.w dim.h coded.now v)) }
+{
+    let before = ModeMap::of_segments(alloc, segments)?;
+    let packet = write_packet(alloc, None, dim, saved, before, coded)?;
+    Ok(packet)
+}
+
+fn write_packet(
+    alloc: Global,
+    key: Option<KeyTag>,
+    dim: Dim,
+    saved: &Saved,
+    before: ModeMap,
+    coded: &Coded,
+) -> Result<ByteList, PacketError>
+    requires columns { coded.now.macroblocks.columns ≡ macroblocks dim.w }
+    requires rows { coded.now.macroblocks.rows ≡ macroblocks dim.h }
+    requires before_columns { before.columns ≡ macroblocks dim.w }
+    requires before_rows { before.rows ≡ macroblocks dim.h }
+    requires told { CanBeTold (is_some key) (kept_by saved.now key) before coded.now }
+    ensures { IfOk result (λ v. IsPacket key saved.now (maps_before before dim.w dim.h) coded.now v) }
+{
+    let first = write_first(alloc, key, dim, saved, before, coded)?;
+    let parts = write_tokens(alloc, coded)?;
+    if first.len() > MOST_FIRST || !are_short(&parts[..parts.len() - 1]) {
+        return Err(PacketError::TooLong);
+    }
+    let bytes = put_together(alloc, key, &first, &parts)?;
+    Ok(ByteList::from_vec(bytes))
+}
+
+/// The first partition: the header, and what the macroblocks say of themselves.
+fn write_first(
+    alloc: Global,
+    key: Option<KeyTag>,
+    dim: Dim,
+    saved: &Saved,
+    before: ModeMap,
+    coded: &Coded,
+) -> Result<Vec<u8>, AllocError>
+    requires columns { coded.now.macroblocks.columns ≡ macroblocks dim.w }
+    requires rows { coded.now.macroblocks.rows ≡ macroblocks dim.h }
+    requires before_columns { before.columns ≡ macroblocks dim.w }
+    requires before_rows { before.rows ≡ macroblocks dim.h }
+    requires told { CanBeTold (is_some key) (kept_by saved.now key) before coded.now }
+    ensures { IfOk result (λ v. IsFirst saved.now (tag_with key 0) (maps_before before dim.w dim.h) coded.now v.items) }
+{
+    let tag = Tag {
+        version: 0,
+        show: true,
+        first_partition: 0,
+        key,
+    };
+    let motion = VectorMap::new(alloc, dim)?;
+    let mut maps = Maps {
+        modes: before,
+        motion,
+    };
+    let mut encoder = BoolEncoder::new(alloc);
+    coded.header.write(saved, &tag, &mut encoder)?;
+    maps.write(coded, &mut encoder)?;
+    let bytes = finish(encoder)?;
+    Ok(bytes)
+}
+
+/// Whether each part's size can be said in 24 bits.
+fn are_short(parts: &[Vec<u8>]) -> bool
+    ensures { IsTrue result ↔ AreBelow24Bits (lists parts.now) }
+{
+    for part in parts {
+        if part.len() > MOST_PART {
+            return false;
+        }
+    }
+    true
+}
+
+/// The tag, the first partition and the token partitions behind their table.
+fn put_together(
+    alloc: Global,
+    key: Option<KeyTag>,
+    first: &[u8],
+    parts: &[Vec<u8>],
+) -> Result<Vec<u8>, AllocError>
+    requires first { length first.now < 2 ^ 19 }
+    requires some { 0 < length parts.now }
+    requires few { length parts.now ≤ 8 }
+    requires sizes { AreBelow24Bits (take (length parts.now - 1) (lists parts.now)) }
+    ensures { IfOk result (λ v. IsPutTogether key first.now (lists parts.now) v.items) }
+{
+    let rest = Partitions::put(alloc, parts)?;
+    let mut bytes = Vec::new(alloc);
+    put_tag(key, first.len() as u32, &mut bytes)?;
+    bytes.extend_from_slice(first)?;
+    bytes.extend_from_slice(&rest)?;
+    Ok(bytes)
+}

@@ -1,0 +1,127 @@
+//! The token partitions of a frame, written.
+
+ghost use Rattle.std.specs.Prelude.{◌≡◌, ◌<◌, ◌≤◌, ◌+◌, ◌^◌, ℕ, [], length, slice_index_or, OnOk, IfOk};
+ghost use Rattle.vp_base.specs.Grid.{Grid};
+ghost use Rattle.vp_bool.specs.Intervals.{all};
+ghost use Rattle.vp_tokens.specs.Blocks.{Blocks};
+ghost use Rattle.vp_tokens.specs.Contexts.{StandsFor};
+ghost use Rattle.vp_tokens.specs.Partitions.{lists};
+ghost use Rattle.vp_decode.specs.Maps.{place};
+ghost use Rattle.vp_decode.specs.Frame.{Plan};
+ghost use Rattle.vp_decode.specs.Step.{count_of};
+ghost use Rattle.vp_encode.specs.Coded.{AreTokensSpelled};
+ghost use Rattle.vp_encode.specs.Written.{IsPlanOf, IsTokenRow, AreTokenRows, none_seen, IsFinished, AreTokenPartitions};
+
+use crate::coded::Coded;
+use std::alloc::{AllocError, Global};
+use vp_base::Place;
+use vp_bool::BoolEncoder;
+use vp_tokens::{Contexts, write_macroblock};
+
+/// Writes the tokens of a row of macroblocks into the partition of the row.
+fn write_row(
+    coded: &Coded,
+    row: usize,
+    contexts: &mut Contexts,
+    e: &mut BoolEncoder,
+) -> Result<(), AllocError>
+    requires row { row < coded.now.macroblocks.rows }
+    requires columns { length contexts.old.above ≡ coded.now.macroblocks.columns }
+    requires spelled { AreTokensSpelled coded.now }
+    ensures row { OnOk result ((f : Plan) (g : Grid Blocks) → IsPlanOf coded.now f → g.columns ≡ coded.now.macroblocks.columns → g.rows ≡ coded.now.macroblocks.rows
+        → StandsFor g (place row 0) contexts.old → IsTokenRow f coded.now row coded.now.macroblocks.columns g contexts.new e.old e.new) }
+    ensures columns { length contexts.new.above ≡ length contexts.old.above }
+{
+    for column in 0..coded.macroblocks.columns() {
+        let place = Place { column, row };
+        let macroblock = coded.macroblocks.get(place);
+        write_macroblock(
+            &coded.header.probabilities.coefficients,
+            contexts,
+            place,
+            macroblock.has_y2(),
+            macroblock.modes.skip,
+            &macroblock.tokens,
+            e,
+        )?;
+    }
+    Ok(())
+}
+
+/// Writes the tokens of all rows, each into the partition whose number is that of the row modulo the number of partitions.
+fn write_rows(
+    coded: &Coded,
+    contexts: &mut Contexts,
+    encoders: &mut [BoolEncoder],
+) -> Result<(), AllocError>
+    requires some { 0 < length encoders.old }
+    requires columns { length contexts.old.above ≡ coded.now.macroblocks.columns }
+    requires stands { (rows : ℕ) → StandsFor (none_seen coded.now.macroblocks.columns rows) (place 0 0) contexts.old }
+    requires empty { (i : ℕ) → i < length encoders.old → slice_index_or encoders.old i all ≡ all }
+    requires spelled { AreTokensSpelled coded.now }
+    ensures { OnOk result ((f : Plan) → IsPlanOf coded.now f → AreTokenRows f coded.now coded.now.macroblocks.rows contexts.new encoders.new) }
+{
+    for row in 0..coded.macroblocks.rows() {
+        let at = row % encoders.len();
+        let encoder = &mut encoders[at];
+        write_row(coded, row, contexts, encoder)?;
+    }
+    Ok(())
+}
+
+/// So many encoders.
+fn new_encoders(alloc: Global, count: usize) -> Result<Vec<BoolEncoder>, AllocError>
+    ensures count { IfOk result (λ v. length v.items ≡ count) }
+    ensures empty { IfOk result (λ v. (i : ℕ) → i < count → slice_index_or v.items i all ≡ all) }
+{
+    let mut encoders = Vec::with_capacity(alloc, count)?;
+    for _ in 0..count {
+        encoders.push(BoolEncoder::new(alloc))?;
+    }
+    Ok(encoders)
+}
+
+/// The partition of what was written, and a byte of 0 behind it: readers that look ahead find one.
+pub(crate) fn finish(encoder: BoolEncoder) -> Result<Vec<u8>, AllocError>
+    ensures { IfOk result (λ v. IsFinished encoder v.items) }
+{
+    let mut bytes = encoder.finish()?;
+    bytes.push(0)?;
+    Ok(bytes)
+}
+
+/// The partitions of what was written.
+fn finish_all(alloc: Global, encoders: Vec<BoolEncoder>) -> Result<Vec<Vec<u8>>, AllocError>
+    ensures count { IfOk result (λ v. length v.items ≡ length encoders.items) }
+    ensures finished { IfOk result (λ v. (i : ℕ) → i < length encoders.items → IsFinished (slice_index_or encoders.items i all) (slice_index_or (lists v.items) i [])) }
+{
+    let mut parts = Vec::with_capacity(alloc, encoders.len())?;
+    for encoder in encoders {
+        let part = finish(encoder)?;
+        parts.push(part)?;
+    }
+    Ok(parts)
+}
+
+/// The token partitions of a frame, as many as its header says.
+pub(crate) fn write_tokens(alloc: Global, coded: &Coded) -> Result<Vec<Vec<u8>>, AllocError>
+    requires few { coded.now.header.log2_partitions ≤ 3 }
+    requires spelled { AreTokensSpelled coded.now }
+    ensures { IfOk result (λ v. AreTokenPartitions coded.now (lists v.items)) }
+{
+    let mut contexts = Contexts::new(alloc, coded.macroblocks.columns())?;
+    let mut encoders = new_encoders(alloc, partition_count(coded.header.log2_partitions))?;
+    write_rows(coded, &mut contexts, &mut encoders)?;
+    let parts = finish_all(alloc, encoders)?;
+    Ok(parts)
+}
+
+/// How many token partitions there are.
+fn partition_count(log2: u8) -> usize
+    requires { log2 ≤ 3 }
+    ensures value { result ≡ count_of log2 }
+    ensures few { result ≤ 8 }
+    ensures some { 0 < result }
+{
+    1 << log2
+}
