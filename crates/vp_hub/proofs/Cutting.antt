@@ -1,12 +1,12 @@
 -- Byte by byte is head by head.
-use Rattle.std.proofs.Common.{zero, suc, append-nil, append_assoc, ◌≡◌, ◌<◌, ◌≤◌, ◌+◌, ◌++◌, ℕ, List, [], ◌∷◌, cond, refl, ap, sym, subst, ◌∙◌, arith, Bool, true, false, nat_lt, length, take, inl, inr}
+use Rattle.std.proofs.Common.{zero, suc, append-nil, append_assoc, ◌≡◌, ◌≤◌, ◌++◌, ℕ, List, [], ◌∷◌, cond, refl, ap, sym, subst, ◌∙◌, arith, Bool, true, false, nat_lt, length, take, inl, inr}
 use Rattle.std.proofs.lemmas.List.{take-append-le, take_all, length_push}
 use Rattle.std.proofs.lemmas.Bool.Decides.{nat_tests}
 use Rattle.vp_hub.specs.Pages.{Streams, IsReply}
 use Rattle.vp_hub.specs.declared.connection.Link.{Link}
-use Rattle.vp_heads.specs.Replies.{too_long, reply_to}
-use Rattle.vp_hub.specs.Hub.{ends_head, Chosen, Settles, TakesByte, Serves}
-use Rattle.vp_hub.specs.Heads.{HasNoEnd, IsHead, IsPartial, IsLong, gone, Answers, IsCutIntoHeads}
+use Rattle.vp_heads.specs.Replies.{too_long}
+use Rattle.vp_hub.specs.Hub.{ends_head, Chosen, Serves}
+use Rattle.vp_hub.specs.Heads.{HasNoEnd, IsHead, IsPartial, gone, Answers, IsCutIntoHeads}
 use Rattle.vp_hub.proofs.Serving.{serves-closed, serves_unique}
 
 take_shorter : (xs ys : List ℕ) (k : ℕ) → k ≤ length xs → take k (xs ++ ys) ≡ take k xs

@@ -1,6 +1,6 @@
 -- Each step adds the piece that it accepts.
 use Rattle.std.proofs.Common.{append-nil, append_assoc, ◌≡◌, ◌==◌, ◌++◌, ◌≤◌, ℕ, zero, suc, List, [], ◌∷◌, Option, Some, None, Ok, Err, cond, refl, ap, sym, ◌∙◌, arith, Bool, true, false, length, subst, take}
-use Rattle.std.specs.Prelude.{if◌then◌else◌, slice_get, slice_set, Result}
+use Rattle.std.specs.Prelude.{slice_get, slice_set}
 use Rattle.std.proofs.lemmas.List.{take_all}
 use Rattle.std.proofs.lemmas.Option.{same_Some, none-some}
 use Rattle.std.proofs.lemmas.Bool.{eqb-true}
@@ -16,11 +16,10 @@ use Rattle.vp_stream.specs.Stream.{refusal, after_end}
 use Rattle.vp_heads.specs.Routes.{place_of}
 use Rattle.vp_hub.specs.declared.event.Event.{Event}
 use Rattle.vp_hub.specs.declared.event.Event.TheVariants.{Feed, End, Open, Bytes, Shut}
-use Rattle.vp_hub.specs.declared.event.HubFault.TheVariants.{UnknownStream, Ended, Failed, Memory}
+use Rattle.vp_hub.specs.declared.event.HubFault.TheVariants.{Ended, Memory}
 use Rattle.vp_hub.specs.declared.source.Source.{Source}
-use Rattle.vp_hub.specs.declared.source.Ending.{Ending}
 use Rattle.vp_hub.specs.Pages.{Streams}
-use Rattle.vp_hub.specs.Hub.{Outcome, State, HubStep, IsFine, after_memory, IsStep, at_source, at_place, at_name, fed, fed_by, ended, is_open_end, ending_by, no_bytes}
+use Rattle.vp_hub.specs.Hub.{Outcome, State, HubStep, after_memory, IsStep, at_source, at_place, fed, fed_by, ended, is_open_end, ending_by, no_bytes}
 use Rattle.vp_hub.specs.View.{is_memory, IsRun}
 use Rattle.vp_hub.specs.Pieces.{IsReadFrom, is_at, accepted, all_accepted, AreAcceptedPieces}
 use Rattle.vp_hub.proofs.Isolation.{memory_is, memory_isn't}

@@ -5,11 +5,11 @@ use Rattle.std.proofs.lemmas.Bool.{eqb-true}
 use Rattle.std.proofs.lemmas.Bool.Decides.{nat_tests}
 use Rattle.vp_hub.specs.declared.event.Event.{Event}
 use Rattle.vp_hub.specs.declared.event.Event.TheVariants.{Feed, End, Open, Bytes, Shut}
-use Rattle.vp_hub.specs.Pages.{Streams, IsReply}
+use Rattle.vp_hub.specs.Pages.{Streams}
 use Rattle.vp_hub.specs.declared.connection.Link.{Link}
 use Rattle.vp_hub.specs.declared.connection.Connection.{Connection}
 use Rattle.vp_hub.specs.declared.event.HubFault.TheVariants.{UnknownStream, Ended, UnknownConn, AlreadyOpen, TooMany, Failed, Memory}
-use Rattle.vp_hub.specs.Hub.{Outcome, State, HubStep, IsFine, after_memory, IsRefused, IsStep, link_of, with_link, without, opened, Asks, shut, Gets, Serves, new_link, no_bytes}
+use Rattle.vp_hub.specs.Hub.{Outcome, State, HubStep, IsFine, after_memory, IsStep, link_of, without, opened, Asks, shut, Gets, Serves, new_link, no_bytes}
 use Rattle.vp_hub.specs.View.{Seen, Fed, Over, Opened, Got, Gone, Lost, Sight, sight, See, AsksAgain, Leads, lose, AnswersAlike, told, seen, view_of, results_of, IsRun, IsIsolated, is_memory, is_too_many}
 use Rattle.vp_hub.proofs.Links.{first_of, link_of-push, link_of-with_link, link_of_other-with_link, link_of-without, link_of_other-without}
 use Rattle.vp_hub.proofs.Serving.{serves_unique, chosen_unique}

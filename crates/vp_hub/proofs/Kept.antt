@@ -1,10 +1,10 @@
 -- What is kept of a connection is less than a head.
 use Rattle.std.proofs.Common.{◌≡◌, ◌++◌, ℕ, List, [], ◌∷◌, Option, Some, None, Ok, Err, refl, ap, sym, subst, ◌∙◌, Bool, true, false, inl, inr}
 use Rattle.vp_hub.specs.declared.event.Event.{Event}
-use Rattle.vp_hub.specs.Pages.{Streams, IsReply}
+use Rattle.vp_hub.specs.Pages.{Streams}
 use Rattle.vp_hub.specs.declared.connection.Link.{Link}
 use Rattle.vp_hub.specs.declared.event.HubFault.TheVariants.{Failed}
-use Rattle.vp_hub.specs.Hub.{Chosen, Outcome, State, IsStep, Gets, Serves, new_link, link_of}
+use Rattle.vp_hub.specs.Hub.{Chosen, Outcome, State, IsStep, Gets, Serves, new_link}
 use Rattle.vp_hub.specs.Heads.{IsPartial, Answers, gone, KeepsPartial, AllKeepPartial}
 use Rattle.vp_hub.specs.View.{Seen, Fed, Over, Opened, Got, Gone, Lost, Sight, sight, See, AsksAgain, Leads, open_again, go, lose, told, seen}
 use Rattle.vp_hub.proofs.Cutting.{cut_into_heads, no_bytes_yet}

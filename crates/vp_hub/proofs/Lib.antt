@@ -8,3 +8,5 @@ pub mod PageLemmas
 pub mod Growing
 pub mod NameLemmas
 pub mod Fed
+pub mod Visiting
+pub mod StandingLemmas

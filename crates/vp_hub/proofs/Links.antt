@@ -1,5 +1,5 @@
 -- What is kept of a connection, after a connection came, changed or went.
-use Rattle.std.proofs.Common.{◌≡◌, ◌==◌, ◌++◌, ℕ, List, [], ◌∷◌, Option, Some, None, cond, not, refl, ap, arith, Bool, true, false, nat_eq, option_map}
+use Rattle.std.proofs.Common.{◌≡◌, ◌==◌, ◌++◌, ℕ, List, [], ◌∷◌, Option, Some, None, cond, refl, arith, Bool, true, false, option_map}
 use Rattle.std.proofs.lemmas.Bool.Decides.{nat_tests}
 use Rattle.vp_hub.specs.declared.connection.Link.{Link}
 use Rattle.vp_hub.specs.declared.connection.Connection.{Connection}

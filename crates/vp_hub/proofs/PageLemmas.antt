@@ -1,5 +1,5 @@
 -- The texts of pages.
-use Rattle.std.proofs.Common.{◌≡◌, ◌++◌, ◌∙◌, ℕ, List, codes, append_assoc, refl, ap, sym}
+use Rattle.std.proofs.Common.{◌≡◌, ◌++◌, ◌∙◌, ℕ, List, codes, append_assoc, ap, sym}
 use Rattle.std.specs.Fmt.{decimal}
 use Rattle.vp_y4m.specs.Text.{header_text}
 

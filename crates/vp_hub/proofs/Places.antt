@@ -1,5 +1,5 @@
 -- A connection by its place.
-use Rattle.std.proofs.Common.{suc, ◌+◌, Ok, not, ◌∙◌, sym, IfSome, ◌≡◌, ◌==◌, ◌<◌, ℕ, List, [], ◌∷◌, Option, Some, None, length, get_or, set, cond, refl, ap, arith, Bool, true, false, nat_lt}
+use Rattle.std.proofs.Common.{suc, ◌+◌, Ok, not, ◌∙◌, sym, IfSome, ◌≡◌, ◌==◌, ℕ, List, [], ◌∷◌, Option, Some, None, length, get_or, set, cond, refl, ap, arith, Bool, true, false, nat_lt}
 use Rattle.std.specs.List.{position, position_or_len}
 use Rattle.std.proofs.lemmas.Bool.Decides.{nat_tests}
 use Rattle.vp_hub.specs.declared.connection.Link.{Link}

@@ -1,5 +1,5 @@
 -- A connection's bytes, cut into heads.
-use Rattle.std.specs.Prelude.{◌≡◌, ◌<◌, ◌≤◌, ◌⊎◌, ℕ, Bool, true, false, List, [], ◌∷◌, ◌++◌, length, take, Option, Some}
+use Rattle.std.specs.Prelude.{◌≡◌, ◌<◌, ◌≤◌, ◌⊎◌, ℕ, true, false, List, [], ◌∷◌, ◌++◌, length, take, Option, Some}
 use Rattle.vp_heads.specs.Replies.{too_long}
 use Rattle.vp_hub.specs.Pages.{Streams, IsReply}
 use Rattle.vp_hub.specs.declared.connection.Link.{Link}

@@ -1,5 +1,5 @@
 -- The hub as a machine: its state, and what each event makes of it and is answered.
-use Rattle.std.specs.Prelude.{◌≡◌, ◌≢◌, ◌==◌, ◌<◌, slice_index_or, ◌+◌, ◌||◌, not, ℕ, nat_lt, nat_eq, Bool, true, false, cond, codes, List, [], ◌∷◌, ◌++◌, length, map, filter, Option, Some, None, Result, Ok, Err, IsOk, All, slice_get, slice_set, if◌then◌else◌}
+use Rattle.std.specs.Prelude.{◌≡◌, ◌≢◌, ◌==◌, ◌<◌, slice_index_or, not, ℕ, nat_lt, nat_eq, Bool, true, false, codes, List, [], ◌∷◌, ◌++◌, length, map, filter, Option, Some, None, Result, Ok, Err, IsOk, slice_get, slice_set, if◌then◌else◌}
 use Rattle.std.specs.Borrow.{Bor}
 use Rattle.std.specs.Option.{option_map}
 use Rattle.std.specs.List.{ends_with}

@@ -5,3 +5,5 @@ pub mod View
 pub mod Work
 pub mod Names
 pub mod Pieces
+pub mod Visits
+pub mod Standing

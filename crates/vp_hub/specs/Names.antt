@@ -1,7 +1,11 @@
--- The names that streams may have.
-use Rattle.std.specs.Prelude.{ℕ, ◌==◌, ◌&&◌, ◌||◌, not, nat_le, Bool, true, List, [], ◌∷◌, length}
+-- The names that streams may have, and those of faults.
+use Rattle.std.specs.Prelude.{ℕ, ◌==◌, ◌&&◌, ◌||◌, not, nat_le, Bool, true, List, [], ◌∷◌, length, codes}
 use Rattle.std.specs.List.{list_all, list_any}
 use Rattle.std.specs.Str.{bytes_eq}
+use Rattle.vp_hub.specs.declared.event.HubFault.{HubFault}
+use Rattle.vp_hub.specs.declared.event.HubFault.TheVariants.{UnknownStream, Ended, UnknownConn, AlreadyOpen, TooMany, Failed, Memory}
+use Rattle.vp_hub.specs.declared.visit.ServeFault.{ServeFault}
+use Rattle.vp_hub.specs.declared.visit.ServeFault.TheVariants.{Hub, Device, ReadTurns}
 
 -- a lower-case letter, a digit, `-` or `_`
 abbrev pub is_name_byte : ℕ → Bool
@@ -18,3 +22,19 @@ are_distinct (name ∷ more) = not (list_any (λ x. bytes_eq x name) more) && ar
 -- 1 to 16 distinct names
 abbrev pub are_names : List (List ℕ) → Bool
 are_names names = nat_le 1 (length names) && (nat_le (length names) 16 && (list_all is_name names && are_distinct names))
+
+-- ---- the names of faults, as they are told
+
+abbrev pub hub_fault_name : HubFault → List ℕ
+hub_fault_name UnknownStream = codes "UnknownStream"
+hub_fault_name Ended = codes "Ended"
+hub_fault_name UnknownConn = codes "UnknownConn"
+hub_fault_name AlreadyOpen = codes "AlreadyOpen"
+hub_fault_name TooMany = codes "TooMany"
+hub_fault_name Failed = codes "Failed"
+hub_fault_name Memory = codes "Memory"
+
+abbrev pub serve_fault_name : ServeFault → List ℕ
+serve_fault_name (Hub fault) = hub_fault_name fault
+serve_fault_name Device = codes "Device"
+serve_fault_name ReadTurns = codes "ReadTurns"

@@ -1,11 +1,9 @@
 -- What one connection sees of a run, and the results that it must have.
-use Rattle.std.specs.Prelude.{◌≡◌, ◌≢◌, ◌==◌, ◌<◌, ℕ, nat_lt, Bool, true, false, cond, length, List, [], ◌∷◌, ◌++◌, Option, Some, None, Result, Ok, Err, slice_get, if◌then◌else◌}
+use Rattle.std.specs.Prelude.{◌≡◌, ◌==◌, ℕ, Bool, true, false, List, [], ◌∷◌, ◌++◌, Option, Some, None, Ok, Err, if◌then◌else◌}
 use Rattle.vp_hub.specs.declared.event.Event.{Event}
 use Rattle.vp_hub.specs.declared.event.Event.TheVariants.{Feed, End, Open, Bytes, Shut}
-use Rattle.vp_hub.specs.declared.event.Reply.{Reply}
 use Rattle.vp_hub.specs.Pages.{Streams}
 use Rattle.vp_hub.specs.declared.connection.Link.{Link}
-use Rattle.vp_hub.specs.declared.event.HubFault.{HubFault}
 use Rattle.vp_hub.specs.declared.event.HubFault.TheVariants.{UnknownStream, Ended, UnknownConn, AlreadyOpen, TooMany, Failed, Memory}
 use Rattle.vp_hub.specs.Hub.{Outcome, State, link_of, fed, ended, at_name, Gets, no_bytes, new_link, IsStep}
 

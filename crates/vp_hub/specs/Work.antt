@@ -1,5 +1,5 @@
 -- How many packets are decoded, and what the cache keeps.
-use Rattle.std.specs.Prelude.{◌≡◌, ◌≢◌, ◌≤◌, ◌⊎◌, ◌+◌, ℕ, Bool, true, List, [], ◌∷◌, ◌++◌, Option, Some, None, Err, slice_get}
+use Rattle.std.specs.Prelude.{◌≡◌, ◌≢◌, ◌≤◌, ◌⊎◌, ◌+◌, ℕ, true, List, [], ◌∷◌, ◌++◌, Option, Some, None, Err, slice_get}
 use Rattle.vp_stream.specs.Seeking.{answer_at, counted}
 use Rattle.vp_cache.specs.Kept.{IsAfter, held, work_beside}
 use Rattle.vp_cache.specs.Kept.{State as Cache}

@@ -1,5 +1,9 @@
 //! What comes to the hub, and what it answers.
 
+ghost use Rattle.std.specs.Prelude.{Some};
+ghost use Rattle.vp_hub.specs.Names.{hub_fault_name};
+
+use std::fmt;
 use vp_base::ByteList;
 
 /// What comes to the hub.
@@ -43,4 +47,21 @@ pub enum HubFault {
     Failed,
     /// Memory was refused.
     Memory,
+}
+
+/// The fault's name, as it is told.
+impl fmt::Display for HubFault {
+    ghost output = { λ fault. Some (hub_fault_name fault) };
+
+    fn fmt<W: fmt::Write>(&self, f: &mut fmt::Formatter<W>) -> fmt::Result {
+        f.write_str(match self {
+            HubFault::UnknownStream => "UnknownStream",
+            HubFault::Ended => "Ended",
+            HubFault::UnknownConn => "UnknownConn",
+            HubFault::AlreadyOpen => "AlreadyOpen",
+            HubFault::TooMany => "TooMany",
+            HubFault::Failed => "Failed",
+            HubFault::Memory => "Memory",
+        })
+    }
 }

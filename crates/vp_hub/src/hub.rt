@@ -4,6 +4,7 @@ ghost use Rattle.std.specs.Prelude.{◌≡◌, ◌≢◌, ◌↔◌, ◌≤◌, 
 ghost use Rattle.std.specs.Vec.{vec_capacity};
 ghost use Rattle.vp_stream.specs.Seeking.{counted};
 ghost use Rattle.vp_cache.specs.Kept.{empty};
+ghost use Rattle.vp_hub.specs.declared.event.Event.{Event};
 ghost use Rattle.vp_hub.specs.declared.event.HubFault.TheVariants.{Memory};
 ghost use Rattle.vp_hub.specs.declared.names.NewFault.{NewFault};
 ghost use Rattle.vp_hub.specs.Heads.{AllKeepPartial};
@@ -96,7 +97,7 @@ impl Hub {
         ensures step { IsStep self.old.state event.now result self.new.state }
         ensures worked { IsWorked self.old event.now result self.new }
     {
-        self.pictures.work = 0;
+        self.pictures.begin();
         match event {
             Event::Feed(name, piece) => {
                 self.shelf
@@ -104,16 +105,25 @@ impl Hub {
             }
             Event::End(name) => self.shelf.end(self.alloc, name.as_slice()),
             Event::Open(number) => open_one(self.alloc, &mut self.connections, *number),
-            Event::Bytes(number, piece) => ask(
-                self.alloc,
-                &self.shelf,
-                &mut self.pictures,
-                &mut self.connections,
-                *number,
-                piece.as_slice(),
-            ),
+            Event::Bytes(number, piece) => self.bytes(*number, piece.as_slice()),
             Event::Shut(number) => shut_one(self.alloc, &mut self.connections, *number),
         }
+    }
+
+    /// A piece of what the connection of a number sends.
+    pub(crate) fn bytes(&mut self, number: u32, piece: &[u8]) -> Result<Reply, HubFault>
+        ensures step { IsStep self.old.state (Event.Bytes number piece.now) result self.new.state }
+        ensures worked { IsWorked self.old (Event.Bytes number piece.now) result self.new }
+    {
+        self.pictures.begin();
+        ask(
+            self.alloc,
+            &self.shelf,
+            &mut self.pictures,
+            &mut self.connections,
+            number,
+            piece,
+        )
     }
 
     /// A list of events, the room for their results taken first.

@@ -15,10 +15,14 @@ mod shelf;
 mod source;
 #[cfg(test)]
 mod tests;
+mod visit;
+#[cfg(test)]
+mod visit_tests;
 
 pub use connection::{Connection, Link};
 pub use event::{Event, HubFault, Reply};
 pub use hub::Hub;
-pub use laws::{answers_alike, cut_into_heads};
+pub use laws::{answers_alike, cut_into_heads, is_too_many_by_history, stands_to_shut};
 pub use names::NewFault;
 pub use source::{Ending, Source};
+pub use visit::{ServeFault, serve_one};

@@ -1,5 +1,7 @@
 //! Pictures for requests, by the cache.
 
+ghost use Rattle.std.specs.Prelude.{◌≡◌};
+
 use vp_cache::Cache;
 
 /// The cache, and how many packets were decoded for the last event.
@@ -9,4 +11,13 @@ pub struct Pictures {
     pub cache: Cache,
     /// How many packets were decoded, which stays at the greatest number.
     pub work: u64,
+}
+
+impl Pictures {
+    /// An event begins: nothing was decoded for it yet.
+    pub(crate) fn begin(&mut self)
+        ensures { self.new ≡ record self.old { work = 0 } }
+    {
+        self.work = 0;
+    }
 }

@@ -6,13 +6,13 @@ use std::test::Fail;
 use vp_base::{ByteList, Limits};
 
 // The head of an IVF file of 16 columns and 16 rows, 30 pictures a second.
-const HEAD: [u8; 32] = [
+pub(crate) const HEAD: [u8; 32] = [
     0x44, 0x4b, 0x49, 0x46, 0, 0, 0x20, 0, 0x56, 0x50, 0x38, 0x30, 0x10, 0, 0x10, 0, 0x1e, 0, 0, 0,
     1, 0, 0, 0, 1, 0, 0, 0, 0, 0, 0, 0,
 ];
 
 // A key packet of 16 by 16 pixels without a coefficient, and the twelve bytes before it.
-const KEY: [u8; 22] = [
+pub(crate) const KEY: [u8; 22] = [
     0x0a, 0, 0, 0, 0, 0, 0, 0, 0, 0, 0, 0, 0x10, 0, 0, 0x9d, 0x01, 0x2a, 0x10, 0, 0x10, 0,
 ];
 
@@ -37,7 +37,11 @@ pub(crate) fn list(alloc: Global, bytes: &[u8]) -> Result<ByteList, AllocError> 
 }
 
 /// A hub of one stream `a` with these packets, which keeps so many pictures; connection 1 stands.
-fn hub_of(alloc: Global, packets: &[&[u8]], cache: u32) -> Result<Option<Hub>, AllocError> {
+pub(crate) fn hub_of(
+    alloc: Global,
+    packets: &[&[u8]],
+    cache: u32,
+) -> Result<Option<Hub>, AllocError> {
     let mut names = Vec::new(alloc);
     names.push(list(alloc, b"a")?)?;
     let Some(limits) = Limits::new(16384, 16384, 100, cache) else {
@@ -69,7 +73,7 @@ fn answers(
 }
 
 /// The picture of the key packet: luma rows 0 to 3 are 128, rows 4 to 15 are 129, colour is 128.
-fn key_reply(alloc: Global) -> Result<Vec<u8>, AllocError> {
+pub(crate) fn key_reply(alloc: Global) -> Result<Vec<u8>, AllocError> {
     let mut reply = LINES.to_vec(alloc)?;
     reply.extend_from_slice(&[128; 64])?;
     reply.extend_from_slice(&[129; 192])?;
@@ -206,7 +210,7 @@ fn method_and_host_refused(rt: HostRuntime) -> Result<(), Fail> {
     Ok(())
 }
 
-fn is_refused(answer: &Result<Reply, HubFault>, fault: HubFault) -> bool {
+pub(crate) fn is_refused(answer: &Result<Reply, HubFault>, fault: HubFault) -> bool {
     match answer {
         Ok(_) => false,
         Err(found) => *found == fault,

@@ -1,4 +1,4 @@
-use Rattle.std.proofs.Common.{◌≡◌, None, sym, ◌∙◌}
+use Rattle.std.proofs.Common.{sym, ◌∙◌}
 use Rattle.vp_hub.proofs.Places.{place-none, place-of}
 use Rattle.vp_hub.proofs.connection.find.Goals as goal
 

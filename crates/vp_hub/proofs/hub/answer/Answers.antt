@@ -1,5 +1,4 @@
-use Rattle.std.proofs.Common.{◌≡◌, [], rules}
-use Rattle.vp_stream.specs.Seeking.{counted}
+use Rattle.std.proofs.Common.{[]}
 use Rattle.vp_hub.proofs.Serving.{costs-closed}
 use Rattle.vp_hub.proofs.hub.answer.Goals as goal
 

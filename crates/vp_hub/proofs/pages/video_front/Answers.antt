@@ -1,4 +1,3 @@
-use Rattle.std.proofs.Common.{rules}
 use Rattle.vp_hub.proofs.PageLemmas.{front_is}
 use Rattle.vp_hub.proofs.pages.video_front.Goals as goal
 

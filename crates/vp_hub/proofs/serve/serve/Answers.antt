@@ -1,6 +1,5 @@
-use Rattle.std.proofs.Common.{◌≡◌, ◌+◌, take, length, subst, sym}
+use Rattle.std.proofs.Common.{◌+◌, take}
 use Rattle.std.proofs.lemmas.List.{take_more, take_all}
-use Rattle.vp_hub.specs.Work.{Costs}
 use Rattle.vp_hub.proofs.Serving.{costs-push, costs_to_end, costs_served, at_most, counted_more}
 use Rattle.vp_hub.proofs.serve.serve.Goals as goal
 

@@ -1,4 +1,4 @@
-use Rattle.std.proofs.Common.{rules, ◌+◌, take, arith}
+use Rattle.std.proofs.Common.{rules, arith}
 use Rattle.std.proofs.lemmas.List.{take_more}
 use Rattle.vp_hub.proofs.Fed.{all_fed_at_end}
 use Rattle.vp_hub.proofs.Isolation.{isolated_at_end, run_more}

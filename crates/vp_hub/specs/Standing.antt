@@ -1,0 +1,46 @@
+-- Which connections stand, by the events and their results alone.
+use Rattle.std.specs.Prelude.{◌≡◌, ◌==◌, ◌≤◌, ◌↔◌, ℕ, not, Bool, false, List, [], ◌∷◌, ◌++◌, length, map, filter, Ok, Err}
+use Rattle.std.specs.List.{list_any}
+use Rattle.vp_hub.specs.declared.event.Event.{Event}
+use Rattle.vp_hub.specs.declared.event.Event.TheVariants.{Feed, End, Open, Bytes, Shut}
+use Rattle.vp_hub.specs.declared.event.HubFault.TheVariants.{TooMany}
+use Rattle.vp_hub.specs.declared.connection.Connection.{Connection}
+use Rattle.vp_hub.specs.Hub.{Outcome, State, IsStep}
+use Rattle.vp_hub.specs.View.{IsRun}
+
+-- the numbers of connections
+abbrev pub numbers : List Connection → List ℕ
+numbers connections = map (λ x. x.number) connections
+
+-- an opening that was accepted adds its number; a shutting takes its number away
+abbrev pub standing_after : List ℕ → Event → Outcome → List ℕ
+standing_after cs (Open c) (Ok reply) = cs ++ c ∷ []
+standing_after cs (Open c) (Err fault) = cs
+standing_after cs (Shut c) o = filter (λ x. not (x == c)) cs
+standing_after cs (Bytes c piece) o = cs
+standing_after cs (Feed name piece) o = cs
+standing_after cs (End name) o = cs
+
+-- the numbers that stand after a history, where these stood before it
+abbrev pub standing : List ℕ → List Event → List Outcome → List ℕ
+standing cs [] os = cs
+standing cs (e ∷ es) [] = cs
+standing cs (e ∷ es) (o ∷ os) = standing (standing_after cs e o) es os
+
+abbrev pub stands : ℕ → List ℕ → Bool
+stands c cs = list_any (λ x. x == c) cs
+
+-- 64 others stand
+abbrev pub IsFull : ℕ → List ℕ → Type 0
+IsFull c cs = (stands c cs ≡ false) × (64 ≤ length cs)
+
+-- a connection stands from its accepted opening to its shutting, and no longer
+abbrev pub StandsToShut : Type 0
+StandsToShut = (s new : State) (es : List Event) (os : List Outcome) → IsRun s es os new
+    → numbers new.connections ≡ standing (numbers s.connections) es os
+
+-- behind a history an opening is one too many exactly where 64 others stand by it
+abbrev pub IsTooManyByHistory : Type 0
+IsTooManyByHistory = (s mid new : State) (es : List Event) (os : List Outcome) (c : ℕ) (o : Outcome)
+    → IsRun s es os mid → IsStep mid (Open c) o new
+    → (o ≡ Err TooMany) ↔ IsFull c (standing (numbers s.connections) es os)

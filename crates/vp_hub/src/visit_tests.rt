@@ -1,0 +1,128 @@
+//! Connections served over memory.
+
+use crate::tests::{HEAD, KEY, hub_of, is_refused, key_reply};
+use crate::{Event, Hub, HubFault, ServeFault, serve_one};
+use std::alloc::{AllocError, Global};
+use std::io;
+use std::io::Read;
+use std::test::Fail;
+use vp_base::{Counted, FailAt};
+
+// What asks for the picture of the first packet.
+const SENT: &[u8] = b"GET /s/a/frame/0 HTTP/1.1\r\nHost: x\r\n\r\n";
+
+/// Gives one byte at each read.
+#[derive(Drop)]
+struct Single<'a>(&'a [u8]);
+
+impl Read for Single<'_> {
+    fn read(&mut self, buf: &mut [u8]) -> io::Result<usize> {
+        let end = buf.len().min(1);
+        self.0.read(&mut buf[..end])
+    }
+}
+
+/// Serves connection 2 over single bytes, where so many reads and so many writes come before one fails: how it ended, and
+/// whether these bytes were written.
+fn serve_two(
+    alloc: Global,
+    hub: &mut Hub,
+    sent: &[u8],
+    (reads, writes): (u64, u64),
+    wanted: &[u8],
+) -> (Result<(), ServeFault>, bool) {
+    let mut written = Vec::new(alloc);
+    let mut reader = Counted::new(FailAt::new(Single(sent), reads));
+    let mut writer = Counted::new(FailAt::new(&mut written, writes));
+    let served = serve_one(hub, 2, &mut reader, &mut writer);
+    (served, written.as_slice() == wanted)
+}
+
+fn serves_in_single_bytes(alloc: Global) -> Result<bool, AllocError> {
+    let Some(mut hub) = hub_of(alloc, &[&HEAD, &KEY], 16)? else {
+        return Ok(false);
+    };
+    let wanted = key_reply(alloc)?;
+    Ok(serve_two(alloc, &mut hub, SENT, (1000, 1000), &wanted) == (Ok(()), true))
+}
+
+#[test]
+fn serve_one_in_single_bytes(rt: HostRuntime) -> Result<(), Fail> {
+    assert!(rt; serves_in_single_bytes(rt.alloc())?);
+    Ok(())
+}
+
+/// Whether 5,000 reads of less than a head are taken, and nothing is replied.
+fn takes_many_reads(alloc: Global) -> Result<bool, AllocError> {
+    let Some(mut hub) = hub_of(alloc, &[], 16)? else {
+        return Ok(false);
+    };
+    Ok(serve_two(alloc, &mut hub, &[b'x'; 5000], (6000, 0), b"") == (Ok(()), true))
+}
+
+#[test]
+fn reads_are_not_refused(rt: HostRuntime) -> Result<(), Fail> {
+    assert!(rt; takes_many_reads(rt.alloc())?);
+    Ok(())
+}
+
+/// Whether the connection no longer stands, and another of its number is taken.
+fn has_gone(hub: &mut Hub) -> bool {
+    is_refused(&hub.step(&Event::Shut(2)), HubFault::UnknownConn)
+        && hub.step(&Event::Open(2)).is_ok()
+        && hub.step(&Event::Shut(2)).is_ok()
+}
+
+/// Whether two requests are served up to a read or a write that fails: the replies before it are written.
+fn fails_at(alloc: Global, reads: u64, writes: u64, replies: usize) -> Result<bool, AllocError> {
+    let Some(mut hub) = hub_of(alloc, &[&HEAD, &KEY], 16)? else {
+        return Ok(false);
+    };
+    let mut sent = SENT.to_vec(alloc)?;
+    sent.extend_from_slice(SENT)?;
+    let mut wanted = Vec::new(alloc);
+    for _ in 0..replies {
+        wanted.extend_from_slice(&key_reply(alloc)?)?;
+    }
+    let served = serve_two(alloc, &mut hub, &sent, (reads, writes), &wanted);
+    Ok(served == (Err(ServeFault::Device), true) && has_gone(&mut hub))
+}
+
+#[test]
+fn each_write_fails(rt: HostRuntime) -> Result<(), Fail> {
+    let alloc = rt.alloc();
+    assert!(rt; fails_at(alloc, 1000, 0, 0)? && fails_at(alloc, 1000, 1, 1)?);
+    Ok(())
+}
+
+#[test]
+fn each_read_fails(rt: HostRuntime) -> Result<(), Fail> {
+    let alloc = rt.alloc();
+    for k in 0..38 {
+        assert!(rt; fails_at(alloc, k, 1000, 0)?);
+        assert!(rt; fails_at(alloc, 38 + k, 1000, 1)?);
+    }
+    assert!(rt; fails_at(alloc, 76, 1000, 2)?);
+    Ok(())
+}
+
+/// Whether a connection of a number that stands is refused, and nothing is read or written.
+fn turns_away(alloc: Global) -> Result<bool, AllocError> {
+    let Some(mut hub) = hub_of(alloc, &[&HEAD, &KEY], 16)? else {
+        return Ok(false);
+    };
+    let mut reader = Counted::new(SENT);
+    let mut writer = Counted::new(Vec::new(alloc));
+    let served = serve_one(&mut hub, 1, &mut reader, &mut writer);
+    Ok(
+        served == Err(ServeFault::Hub(HubFault::AlreadyOpen))
+            && reader.into_inner() == SENT
+            && writer.into_inner().is_empty(),
+    )
+}
+
+#[test]
+fn refused_opening_reads_nothing(rt: HostRuntime) -> Result<(), Fail> {
+    assert!(rt; turns_away(rt.alloc())?);
+    Ok(())
+}
