@@ -3,6 +3,9 @@
 
 mod listing;
 mod program;
+mod service;
+#[cfg(test)]
+mod tests;
 mod words;
 
-pub use program::command;
+pub use program::{command, command_line};

@@ -1,15 +1,17 @@
 //! The program, over any streams.
 
-ghost use Rattle.std.specs.Prelude.{◌≡◌, ◌≢◌, ◌≤◌, IfOk, IsOk, None};
+ghost use Rattle.std.specs.Prelude.{◌≡◌, ◌≢◌, ◌≤◌, ◌↔◌, IfOk, IsOk, None, Ok, true};
 ghost use Rattle.vp_app.specs.Status.{status_of};
 
 use crate::listing::print_survey;
-use crate::words::{Plan, read_words};
+use crate::service::{ServiceFault, serve};
+use crate::words::{Plan, Refusal, read_words};
 use clap::Error;
 use clap::error::ErrorKind;
 use std::io::{Read, Write};
-use std::rt::Files;
-use std::{fs, io};
+use std::net::{Net, TcpListener, TcpStream};
+use std::rt::{Env, Files};
+use std::{env, fmt, fs, io};
 use vp_base::{Counted, Limits};
 use vp_stream::{DecodeFault, Form, Report, Survey, decode_all, survey};
 
@@ -19,8 +21,15 @@ use vp_stream::{DecodeFault, Form, Report, Survey, decode_all, survey};
 /// `vp8 decode IN OUT` writes the pictures of an IVF file as I420, `vp8 decode --y4m IN OUT` as YUV4MPEG2. Faults
 /// are named on `errors`, a line each: `vp8: NAME` where the work ended by it, else `vp8: packet N: NAME`.
 /// Words that ask for nothing are told there too, and then nothing was read and nothing written.
-/// `vp8 info IN` prints what an IVF file holds, the packets' faults too. The name `-` is `input` or `output`.
-pub fn command<H: Files + AllocGlobal, R: Read, W: Write, E: Write>(
+/// `vp8 info IN` prints what an IVF file holds, the packets' faults too. `vp8 serve --listen ADDR --connections N
+/// NAME=FILE...` serves the pictures of files over HTTP, until so many connections were served; a fault of a connection is
+/// named, and the next one is served. The name `-` is `input` or `output`.
+pub fn command<
+    H: Files + AllocGlobal + Net<Stream = TcpStream, Listener = TcpListener>,
+    R: Read,
+    W: Write,
+    E: Write,
+>(
     rt: &H,
     words: &[&str],
     input: &mut Counted<R>,
@@ -39,8 +48,13 @@ pub fn command<H: Files + AllocGlobal, R: Read, W: Write, E: Write>(
             },
         ) => tell(decode(rt, form, from, to, input, output), errors),
         Ok(Plan::Info { input: from }) => tell_survey(look(rt, from, input), output, errors),
+        Ok(Plan::Serve(service)) => tell_service(
+            serve(rt, &service, input, output, errors),
+            errors,
+        ),
         Ok(Plan::Unknown) => 2,
-        Err(error) => explain(&error, output, errors),
+        Err(Refusal::Value(text)) => refuse(text, errors),
+        Err(Refusal::Words(error)) => explain(&error, output, errors),
     }
 }
 
@@ -108,7 +122,7 @@ fn file_fault(error: &io::Error) -> DecodeFault {
 }
 
 // Names the fault that the work ended by.
-fn name_end<E: Write>(fault: DecodeFault, errors: &mut Counted<E>) -> u8
+fn name_end<F: fmt::Display + Drop, E: Write>(fault: F, errors: &mut Counted<E>) -> u8
     ensures { result ≡ 1 }
 {
     let _ = writeln!(errors, "vp8: {fault}");
@@ -171,5 +185,56 @@ fn explain<W: Write, E: Write>(
     match write!(output, "{error}") {
         Ok(()) => 0,
         Err(_) => name_end(DecodeFault::Device, errors),
+    }
+}
+
+// Says what is wrong with a value.
+fn refuse<E: Write>(text: &str, errors: &mut Counted<E>) -> u8
+    ensures { result ≡ 2 }
+{
+    let _ = writeln!(errors, "error: {text}");
+    2
+}
+
+// Names the fault that kept the server from serving, and gives the status.
+fn tell_service<E: Write>(done: Result<bool, ServiceFault>, errors: &mut Counted<E>) -> u8
+    ensures status { result ≤ 1 }
+    ensures well { result ≡ 0 ↔ done ≡ Ok true }
+{
+    match done {
+        Ok(true) => 0,
+        Ok(false) => 1,
+        Err(fault) => name_end(fault, errors),
+    }
+}
+
+/// As `command`, with the words that the program was started with. A word that isn't UTF-8 asks for nothing.
+pub fn command_line<
+    H: Files + AllocGlobal + Env + Net<Stream = TcpStream, Listener = TcpListener>,
+    R: Read,
+    W: Write,
+    E: Write,
+>(rt: &H, input: &mut Counted<R>, output: &mut Counted<W>, errors: &mut Counted<E>) -> u8
+    ensures status { result ≤ 2 }
+    ensures usage { result ≡ 2 → (input.new ≡ input.old) × (output.new ≡ output.old) }
+{
+    let owned = match env::args(rt) {
+        Ok(args) => args,
+        Err(error) if error.kind() == io::ErrorKind::OutOfMemory => {
+            return name_end(DecodeFault::Memory, errors);
+        }
+        Err(_) => return refuse("a word isn't UTF-8", errors),
+    };
+    let owned: Vec<String> = match owned.collect(rt.alloc()) {
+        Ok(owned) => owned,
+        Err(_) => return name_end(DecodeFault::Memory, errors),
+    };
+    match owned
+        .iter()
+        .map(|word| word.as_str())
+        .collect::<Vec<&str>>(rt.alloc())
+    {
+        Ok(words) => command(rt, &words, input, output, errors),
+        Err(_) => name_end(DecodeFault::Memory, errors),
     }
 }

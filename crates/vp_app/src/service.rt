@@ -1,0 +1,258 @@
+//! The server: files are fed into a hub, and then connections are served, one after another.
+
+ghost use Rattle.std.specs.Prelude.{◌≡◌, ◌<◌, ◌≤◌, ◌↔◌, ℕ, List, Ok, Err, IfOk, true, false};
+ghost use Rattle.std.specs.Io.KnownBytes.{Consumes};
+ghost use Rattle.vp_base.specs.Counted.{counted_remaining};
+ghost use Rattle.vp_app.specs.declared.service.ServiceFault.{ServiceFault};
+ghost use Rattle.vp_app.specs.Feeding.{FeedsPiece, IsFed};
+
+use std::alloc::{AllocError, Global};
+use std::io::{Read, Write};
+use std::net::{Net, Shutdown, TcpListener, TcpStream};
+use std::rt::Files;
+use std::time::Duration;
+use std::{fmt, fs, io};
+use vp_base::{ByteList, Counted, Limits};
+use vp_hub::{Event, Hub, HubFault, NewFault, ServeFault, serve_one};
+
+/// A stream's name, and the file that holds it.
+#[derive(Clone, Copy, Debug, PartialEq, Eq)]
+pub struct Named<'a> {
+    /// The name.
+    pub name: &'a str,
+    /// The file, or `-` for the standard input.
+    pub file: &'a str,
+}
+
+/// What is to be served, and where.
+#[derive(Drop)]
+pub struct Service<'a> {
+    /// The address and port to listen at.
+    pub listen: &'a str,
+    /// How many connections are served.
+    pub connections: u32,
+    /// How many pictures are kept.
+    pub cache: u32,
+    /// Whether the address is printed.
+    pub show_address: bool,
+    /// The streams.
+    pub streams: Vec<Named<'a>>,
+    ghost cache_in_range: { 0 < cache × cache ≤ 4096 },
+}
+
+/// Why nothing is served.
+#[derive(Clone, Copy, Debug, PartialEq, Eq)]
+pub(crate) enum ServiceFault {
+    /// The names may not be streams' names.
+    Names,
+    /// A file can't be opened or read, or the address can't be listened at or printed.
+    Device,
+    /// A file didn't end within 4,294,967,295 reads.
+    ReadTurns,
+    /// Memory was refused.
+    Memory,
+}
+
+/// The fault's name, as it is told.
+impl fmt::Display for ServiceFault {
+    fn fmt<W: fmt::Write>(&self, f: &mut fmt::Formatter<W>) -> fmt::Result {
+        f.write_str(match self {
+            ServiceFault::Names => "Names",
+            ServiceFault::Device => "Device",
+            ServiceFault::ReadTurns => "ReadTurns",
+            ServiceFault::Memory => "Memory",
+        })
+    }
+}
+
+impl From<AllocError> for ServiceFault {
+    fn from(_: AllocError) -> ServiceFault {
+        ServiceFault::Memory
+    }
+}
+
+impl From<io::Error> for ServiceFault {
+    fn from(error: io::Error) -> ServiceFault {
+        if error.kind() == io::ErrorKind::OutOfMemory {
+            ServiceFault::Memory
+        } else {
+            ServiceFault::Device
+        }
+    }
+}
+
+/// Feeds each file to its end, or to what is wrong with it, and then serves as many connections as are asked for; where
+/// that is none it listens nowhere. True where each connection was served to its end; what ends one is named on `errors`.
+pub(crate) fn serve<
+    H: Files + AllocGlobal + Net<Stream = TcpStream, Listener = TcpListener>,
+    R: Read,
+    W: Write,
+    E: Write,
+>(
+    rt: &H,
+    service: &Service<'_>,
+    input: &mut Counted<R>,
+    output: &mut Counted<W>,
+    errors: &mut Counted<E>,
+) -> Result<bool, ServiceFault> {
+    let mut hub = new_hub(rt.alloc(), service)?;
+    for stream in &service.streams {
+        feed_stream(rt, &mut hub, *stream, input)?;
+    }
+    if service.connections == 0 {
+        return Ok(true);
+    }
+    let listener = TcpListener::bind(rt, service.listen)?;
+    if service.show_address {
+        let address = listener.local_addr()?;
+        writeln!(output, "{address}")?;
+        output.flush()?;
+    }
+    Ok(serve_each(&mut hub, &listener, service.connections, errors))
+}
+
+// A hub of the streams, which were fed nothing.
+fn new_hub(alloc: Global, service: &Service<'_>) -> Result<Hub, ServiceFault> {
+    let usual = Limits::usual();
+    let Some(limits) = Limits::new(
+        usual.pixels,
+        usual.packet_bytes,
+        usual.packets,
+        service.cache,
+    ) else {
+        unreachable!();
+    };
+    let mut names = Vec::new(alloc);
+    for stream in &service.streams {
+        let name = byte_list(alloc, stream.name.as_bytes())?;
+        if names.push(name).is_err() {
+            return Err(ServiceFault::Memory);
+        }
+    }
+    match Hub::new(alloc, names, limits) {
+        Ok(hub) => Ok(hub),
+        Err(NewFault::Names) => Err(ServiceFault::Names),
+        Err(NewFault::Memory) => Err(ServiceFault::Memory),
+    }
+}
+
+fn byte_list(alloc: Global, bytes: &[u8]) -> Result<ByteList, AllocError>
+    ensures { IfOk result (λ l. l ≡ bytes.now) }
+{
+    Ok(ByteList::from_vec(bytes.to_vec(alloc)?))
+}
+
+// Feeds the file of a stream, and tells its end.
+fn feed_stream<H: Files + AllocGlobal, R: Read>(
+    rt: &H,
+    hub: &mut Hub,
+    stream: Named<'_>,
+    input: &mut Counted<R>,
+) -> Result<(), ServiceFault> {
+    if stream.file == "-" {
+        return feed(rt.alloc(), hub, stream.name, input);
+    }
+    let file = fs::open(rt, stream.file)?;
+    feed(rt.alloc(), hub, stream.name, &mut Counted::new(file))
+}
+
+fn feed<R: Read>(
+    alloc: Global,
+    hub: &mut Hub,
+    name: &str,
+    reader: &mut Counted<R>,
+) -> Result<(), ServiceFault>
+    ensures { IfOk result (λ _. (file : List ℕ)
+        × Consumes (counted_remaining R.remaining reader.old) (counted_remaining R.remaining reader.new) file
+        × IsFed name.now hub.old.state hub.new.state file (counted_remaining R.remaining reader.new)) }
+{
+    for _turn in 0..u32::MAX {
+        if !feed_piece(alloc, hub, name, reader)? {
+            return Ok(());
+        }
+    }
+    Err(ServiceFault::ReadTurns)
+}
+
+// Reads once, and feeds what was read; at the end, and behind what is wrong with the file, the stream is ended and there
+// is no more.
+fn feed_piece<R: Read>(
+    alloc: Global,
+    hub: &mut Hub,
+    name: &str,
+    reader: &mut Counted<R>,
+) -> Result<bool, ServiceFault>
+    ensures { (piece : List ℕ)
+        × Consumes (counted_remaining R.remaining reader.old) (counted_remaining R.remaining reader.new) piece
+        × FeedsPiece name.now hub.old.state hub.new.state result piece (counted_remaining R.remaining reader.new) }
+{
+    let mut buffer = [0; 4096];
+    let count = reader.read(&mut buffer)?;
+    let name = byte_list(alloc, name.as_bytes())?;
+    if count == 0 {
+        let _ = hub.step(&Event::End(name));
+        return Ok(false);
+    }
+    let piece = byte_list(alloc, &buffer[..count])?;
+    let end = byte_list(alloc, name.as_slice())?;
+    match hub.step(&Event::Feed(name, piece)) {
+        Ok(_) => Ok(true),
+        Err(HubFault::Memory) => Err(ServiceFault::Memory),
+        Err(_) => {
+            let _ = hub.step(&Event::End(end));
+            Ok(false)
+        }
+    }
+}
+
+// Serves connections one after another; true where each was served to its end.
+pub(crate) fn serve_each<E: Write>(
+    hub: &mut Hub,
+    listener: &TcpListener,
+    connections: u32,
+    errors: &mut Counted<E>,
+) -> bool {
+    let mut well = true;
+    for number in 0..connections {
+        if let Err(fault) = serve_next(hub, listener, number) {
+            let _ = writeln!(errors, "vp8: {fault}");
+            well = false;
+        }
+    }
+    well
+}
+
+fn serve_next(hub: &mut Hub, listener: &TcpListener, number: u32) -> Result<(), ServeFault> {
+    let Ok((stream, _)) = listener.accept() else {
+        return Err(ServeFault::Device);
+    };
+    let _ = stream.set_nodelay(true);
+    let served = serve_one(
+        hub,
+        number,
+        &mut Counted::new(&stream),
+        &mut Counted::new(&stream),
+    );
+    part(&stream);
+    served
+}
+
+// Ends what is written, and reads what still comes, for a while: a socket that is dropped with bytes unread takes the last
+// reply back from a peer that hasn't read it.
+fn part(stream: &TcpStream) {
+    let _ = stream.shutdown(Shutdown::Write);
+    if stream
+        .set_read_timeout(Some(Duration::from_secs(1)))
+        .is_err()
+    {
+        return;
+    }
+    let mut reader = stream;
+    let mut buffer = [0; 4096];
+    for _ in 0..256 {
+        match reader.read(&mut buffer) {
+            Ok(0) | Err(_) => return,
+            Ok(_) => {}
+        }
+    }
+}
