@@ -2,24 +2,24 @@
 use Rattle.std.proofs.Common.{◌≡◌, ◌∙◌, ℕ, ◌-◌, ◌*◌, ◌<◌, ◌≤◌, List, Some, refl, sym, ap, subst, arith}
 use Rattle.vp_bool.specs.Bools.{State}
 use Rattle.vp_base.specs.declared.place.Place.{Place}
-use Rattle.vp_base.specs.Grid.{Grid, entry, listed}
+use Rattle.vp_base.specs.Grid.{Grid, entry}
 use Rattle.vp_base.specs.Image.{Image, IsAligned, AreWhole, macroblocks, blank_image}
 use Rattle.vp_base.specs.Over.{over}
 use Rattle.vp_base.specs.Rows.{AreOneSize, AreSameAbove, AreSameFrom}
 use Rattle.vp_base.proofs.OverLemmas.{over-holds, over-kept}
 use Rattle.vp_loop.specs.declared.strength.Level.{Level}
-use Rattle.vp_loop.specs.Filtered.{filtered, row_filtered, row_levels}
+use Rattle.vp_loop.specs.Filtered.{filtered, row_filtered, level_in}
 use Rattle.vp_recon.specs.Source.{Macroblock}
 use Rattle.vp_recon.specs.Rebuilt.{rebuilt, row_rebuilt}
 use Rattle.vp_decode.specs.Maps.{place}
-use Rattle.vp_decode.specs.Frame.{Plan, frame_of, level_at, tokens_of, levels_of, unfiltered, picture_of}
+use Rattle.vp_decode.specs.Frame.{Plan, frame_of, level_at, tokens_of, unfiltered, picture_of}
 use Rattle.vp_decode.specs.Window.{IsShaped, IsBelow}
 use Rattle.vp_decode.proofs.WindowLemmas.{below_over}
 use Rattle.vp_decode.proofs.FilterLemmas.{row_by_entries}
 
 -- the filter of row k of a frame of so many columns and rows of pixels, and the rebuilding of that row
 abbrev pub row_filter : Plan → List State → ℕ → ℕ → ℕ → Image → Image
-row_filter f ps width height k = row_filtered (row_levels (levels_of (frame_of f ps width height)) (macroblocks width) k) k
+row_filter f ps width height = row_filtered (frame_of f ps width height).level
 
 abbrev pub row_builder : Plan → List State → ℕ → ℕ → Image → Image
 row_builder f ps width k = row_rebuilt (macroblocks width) (λ p. (frame_of f ps 0 0).macroblock p) k
@@ -77,23 +77,17 @@ pub frame_made : (f : Plan) (ps : List State) (width height : ℕ) (p : Image) �
     → over (macroblocks height) (row_filter f ps width height) (over (macroblocks height) (row_builder f ps width) p) ≡ picture_of (frame_of f ps width height)
 unfolding picture_of unfiltered filtered
 frame_made f ps width height p blank =
-    let ls : List Level = levels_of (frame_of f ps width height) in
     let q : Image = over (macroblocks height) (row_builder f ps width) (blank_image width height 0) in
-    let wide : q.width ≡ width =
-    over-kept (λ (i : Image). i.width) (macroblocks height) (row_builder f ps width) (blank_image width height 0)
-    (λ k b. over-kept (λ (i : Image). i.width) (macroblocks width) _ b (λ column i. refl)) in
     let high : q.height ≡ height =
     over-kept (λ (i : Image). i.height) (macroblocks height) (row_builder f ps width) (blank_image width height 0)
     (λ k b. over-kept (λ (i : Image). i.height) (macroblocks width) _ b (λ column i. refl)) in
     ap (λ (i : Image). over (macroblocks height) (row_filter f ps width height) (over (macroblocks height) (row_builder f ps width) i)) blank
-    ∙ ap (λ (n : ℕ). over (macroblocks n) (λ row. row_filtered (row_levels ls (macroblocks width) row) row) q) (sym high)
-    ∙ ap (λ (n : ℕ). over (macroblocks q.height) (λ row. row_filtered (row_levels ls (macroblocks n) row) row) q) (sym wide)
+    ∙ ap (λ (n : ℕ). over (macroblocks n) (row_filter f ps width height) q) (sym high)
 
 -- row k filtered by the levels that are found so far
 pub filtered_by_levels : (f : Plan) (ps : List State) (width height k : ℕ) (g : Grid Level) (p : Image)
-    → g.columns ≡ macroblocks width → p.width ≡ width → k < macroblocks height
+    → g.columns ≡ macroblocks width → p.width ≡ width
     → ((column : ℕ) → column < macroblocks width → entry g (place k column) ≡ Some (level_at f (place k column) (tokens_of f ps (place k column))))
-    → row_filtered (row_levels g.entries g.columns k) k p ≡ row_filter f ps width height k p
-filtered_by_levels f ps width height k g p wide size inside each =
-    row_by_entries g (frame_of f ps width height).level (macroblocks height) k p (ap (λ (n : ℕ). macroblocks n) size ∙ sym wide) inside (λ column within. each column (omega (arith, wide)))
-    ∙ ap (λ (n : ℕ). row_filtered (row_levels (listed n (macroblocks height) (frame_of f ps width height).level) n k) k p) wide
+    → row_filtered (level_in g.entries g.columns) k p ≡ row_filter f ps width height k p
+filtered_by_levels f ps width height k g p wide size each =
+    row_by_entries g (frame_of f ps width height).level k p (ap (λ (n : ℕ). macroblocks n) size ∙ sym wide) (λ column within. each column (omega (arith, wide)))

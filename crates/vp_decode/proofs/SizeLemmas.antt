@@ -14,13 +14,13 @@ use Rattle.vp_head.specs.declared.fields.KeyTag.{KeyTag}
 use Rattle.vp_head.specs.declared.fields.ReferenceCopy.{ReferenceCopy}
 use Rattle.vp_head.specs.declared.fields.ReferenceCopy.TheVariants.{Nothing, Last, Other, Unused}
 use Rattle.vp_loop.specs.declared.strength.Level.{Level}
-use Rattle.vp_loop.specs.Filtered.{filtered, row_filtered, row_levels}
+use Rattle.vp_loop.specs.Filtered.{filtered, row_filtered}
 use Rattle.vp_loop.proofs.WindowLemmas.{row_size, row_aligned, row_whole}
 use Rattle.vp_modes.specs.Entry.{Modes}
 use Rattle.vp_refs.specs.References.{References, copied_by}
 use Rattle.vp_recon.specs.Source.{Macroblock}
 use Rattle.vp_recon.specs.Rebuilt.{all_rebuilt}
-use Rattle.vp_decode.specs.Frame.{Frame, levels_of, unfiltered, picture_of}
+use Rattle.vp_decode.specs.Frame.{Frame, unfiltered, picture_of}
 use Rattle.vp_decode.specs.Equation.{IsOneSize}
 use Rattle.vp_decode.specs.Window.{IsShaped}
 use Rattle.vp_decode.specs.Step.{Opened, Kept, key_before, key_frame, inter_frame, key_kept, inter_kept, plan_of, shown_after, frame_step, step_on, repeated, decoded, step, opened}
@@ -40,19 +40,18 @@ blank_shaped width height = record {
   );
 }
 
-row_shaped : (width height row : ℕ) (levels : List Level) (p : Image) → IsShaped width height p → IsShaped width height (row_filtered levels row p)
-row_shaped width height row levels p s = record {
-  width_is = (row_size levels row p).width ∙ s.width_is;
-  height_is = (row_size levels row p).height ∙ s.height_is;
-  aligned = row_aligned levels row p s.aligned;
-  whole = row_whole levels row p s.whole;
+row_shaped : (width height row : ℕ) (level : Place → Level) (p : Image) → IsShaped width height p → IsShaped width height (row_filtered level row p)
+row_shaped width height row level p s = record {
+  width_is = (row_size level row p).width ∙ s.width_is;
+  height_is = (row_size level row p).height ∙ s.height_is;
+  aligned = row_aligned level row p s.aligned;
+  whole = row_whole level row p s.whole;
 }
 
-filtered_shaped : (width height : ℕ) (levels : List Level) (p : Image) → IsShaped width height p → IsShaped width height (filtered levels p)
+filtered_shaped : (width height : ℕ) (level : Place → Level) (p : Image) → IsShaped width height p → IsShaped width height (filtered level p)
 unfolding filtered
-filtered_shaped width height levels p s =
-    over-holds (IsShaped width height) (macroblocks p.height) (λ row. row_filtered (row_levels levels (macroblocks p.width) row) row) p
-    (λ row below q t. row_shaped width height row (row_levels levels (macroblocks p.width) row) q t) s
+filtered_shaped width height level p s =
+    over-holds (IsShaped width height) (macroblocks p.height) (row_filtered level) p (λ row below q t. row_shaped width height row level q t) s
 
 -- what the law of rebuilding says
 pub record KeepsShape : Type 0 where
@@ -74,7 +73,7 @@ unfiltered_shaped law f =
 
 pub picture_shaped : KeepsShape → (f : Frame) → IsShaped f.width f.height (picture_of f)
 unfolding picture_of
-picture_shaped law f = filtered_shaped f.width f.height (levels_of f) (unfiltered f) (unfiltered_shaped law f)
+picture_shaped law f = filtered_shaped f.width f.height f.level (unfiltered f) (unfiltered_shaped law f)
 
 -- ---- what stands between packets
 

@@ -4,7 +4,7 @@ ghost use Rattle.std.specs.Prelude.{◌≡◌, ℕ, ◌+◌, ◌*◌, ◌<◌, �
 ghost use Rattle.vp_base.specs.Grid.{Grid, Has, all};
 ghost use Rattle.vp_base.specs.Image.{blank_image, macroblocks};
 ghost use Rattle.vp_bool.specs.Bools.{start};
-ghost use Rattle.vp_loop.specs.Filtered.{row_filtered, row_levels};
+ghost use Rattle.vp_loop.specs.Filtered.{row_filtered, level_in};
 ghost use Rattle.vp_tokens.specs.Blocks.{Blocks, unread};
 ghost use Rattle.vp_tokens.specs.Contexts.{StandsFor};
 ghost use Rattle.vp_decode.specs.Maps.{place};
@@ -114,7 +114,7 @@ impl<'a> Rebuilding<'a> {
         ensures width { self.new.picture.width ≡ self.old.picture.width }
         ensures height { self.new.picture.height ≡ self.old.picture.height }
         ensures none { row ≡ 0 → self.new.picture ≡ self.old.picture }
-        ensures one { (k : ℕ) → row ≡ k + 1 → self.new.picture ≡ row_filtered (row_levels self.old.levels.entries self.old.levels.columns k) k self.old.picture }
+        ensures one { (k : ℕ) → row ≡ k + 1 → self.new.picture ≡ row_filtered (level_in self.old.levels.entries self.old.levels.columns) k self.old.picture }
     {
         if row > 0 {
             filter.row(&mut self.picture, self.levels.as_slice(), row - 1);

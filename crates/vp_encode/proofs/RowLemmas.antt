@@ -12,7 +12,7 @@ use Rattle.vp_motion.specs.Map.{intra}
 use Rattle.vp_motion.specs.Near.{candidates}
 use Rattle.vp_motion.specs.Spelled.{CanBeWritten}
 use Rattle.vp_decode.specs.Maps.{Maps, motion_in, place}
-use Rattle.vp_encode.specs.declared.coded.Macroblock.{Macroblock}
+use Rattle.vp_choose.specs.declared.frame.Choice.{Choice}
 use Rattle.vp_encode.specs.declared.coded.Coded.{Coded}
 use Rattle.vp_encode.specs.Coded.{nothing, macroblock_at, entry_of, motion_of, IsMotionSpelled}
 use Rattle.vp_encode.specs.Written.{AreOf, Have, AreRowsTold, IsRowTold}
@@ -24,17 +24,17 @@ entry_of-nothing : entry_of nothing ≡ intra
 unfolding nothing plain
 entry_of-nothing = refl
 
-chosen-map : (b : Bool) (o : Option Macroblock) → (if b then option_map entry_of o else None) ≡ option_map entry_of (if b then o else None)
+chosen-map : (b : Bool) (o : Option Choice) → (if b then option_map entry_of o else None) ≡ option_map entry_of (if b then o else None)
 chosen-map true o = refl
 chosen-map false o = refl
 
-mapped-entry : (g : Grid Macroblock) (p : Place) → entry (mapped entry_of g) p ≡ option_map entry_of (entry g p)
+mapped-entry : (g : Grid Choice) (p : Place) → entry (mapped entry_of g) p ≡ option_map entry_of (entry g p)
 unfolding entry
 mapped-entry g p =
     ap (λ (o : Option Entry). if nat_lt p.column g.columns then o else None) (slice_get-map entry_of g.entries (p.row * g.columns + p.column))
     ∙ chosen-map (nat_lt p.column g.columns) (slice_get g.entries (p.row * g.columns + p.column))
 
-or_nothing : (o : Option Macroblock) → unwrap_or (option_map entry_of o) intra ≡ entry_of (unwrap_or o nothing)
+or_nothing : (o : Option Choice) → unwrap_or (option_map entry_of o) intra ≡ entry_of (unwrap_or o nothing)
 or_nothing None = sym entry_of-nothing
 or_nothing (Some x) = refl
 
@@ -60,14 +60,14 @@ alike_around c row n old m made within above =
       corner_of_it = λ q next up. earlier q (omega arith) (omega arith);
     }
 
-pub gives : (c : Coded) (row n : ℕ) (old m : Maps) (x : Macroblock) → IsRowTold c row n old m → n < c.macroblocks.columns → row < c.macroblocks.rows
+pub gives : (c : Coded) (row n : ℕ) (old m : Maps) (x : Choice) → IsRowTold c row n old m → n < c.macroblocks.columns → row < c.macroblocks.rows
     → ((p : Place) → p.row < row → p.column < c.macroblocks.columns → motion_in old p ≡ entry_of (macroblock_at c p))
     → IsMotionSpelled c → entry c.macroblocks (place row n) ≡ Some x → is_intra x.modes.reference ≡ false
     → CanBeWritten (candidates m.motion (place row n) x.modes.reference c.header.biases) x.motion
 gives c row n old m x made within inside above spelled is away =
     let same : macroblock_at c (place row n) ≡ x = ap (λ o. unwrap_or o nothing) is in
     let can : is_intra x.modes.reference ≡ false → CanBeWritten (candidates (motion_of c) (place row n) x.modes.reference c.header.biases) x.motion =
-    subst (λ (y : Macroblock). is_intra y.modes.reference ≡ false → CanBeWritten (candidates (motion_of c) (place row n) y.modes.reference c.header.biases) y.motion) same
+    subst (λ (y : Choice). is_intra y.modes.reference ≡ false → CanBeWritten (candidates (motion_of c) (place row n) y.modes.reference c.header.biases) y.motion) same
     (spelled (place row n) (record { column = within; row = inside })) in
     subst (λ (k : Candidates). CanBeWritten k x.motion)
     (candidates-same (motion_of c) m.motion (place row n) x.modes.reference c.header.biases (alike_around c row n old m made within above))

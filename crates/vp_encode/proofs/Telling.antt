@@ -17,7 +17,7 @@ use Rattle.vp_motion.specs.Vector.{Motion, Entry}
 use Rattle.vp_motion.specs.Map.{intra}
 use Rattle.vp_motion.specs.Motion.{motion_at}
 use Rattle.vp_decode.specs.Maps.{Maps, motion_in, with_modes, with_motion, place, macroblock_read, motion_read}
-use Rattle.vp_encode.specs.declared.coded.Macroblock.{Macroblock}
+use Rattle.vp_choose.specs.declared.frame.Choice.{Choice}
 use Rattle.vp_encode.specs.declared.coded.Coded.{Coded}
 use Rattle.vp_encode.specs.Coded.{macroblock_at}
 use Rattle.vp_encode.specs.Written.{AreOf, Have, AreAlike, IsTold, IsRowTold}
@@ -39,7 +39,7 @@ inter_written h p m x v moved w u = Writes-then _ w (rw moved (Writes-then _ u (
 standing : {A : Type 0} (outside : A) (g : Grid A) (p : Place) (a : A) → entry g p ≡ Some a → at outside g p ≡ a
 standing outside g p a e = ap (λ o. unwrap_or o outside) e
 
-pub intra_told : (p : Place) (x : Macroblock) (old : Maps) (g : Grid Modes) → is_intra x.modes.reference ≡ true
+pub intra_told : (p : Place) (x : Choice) (old : Maps) (g : Grid Modes) → is_intra x.modes.reference ≡ true
     → g ≡ with_entry old.modes p x.modes → entry g p ≡ Some x.modes → ((q : Place) → q ≢ p → entry g q ≡ entry old.modes q)
     → IsTold p x old (record { modes = g; motion = old.motion })
 intra_told p x old g own changed here elsewhere = record {
@@ -54,10 +54,10 @@ intra_told p x old g own changed here elsewhere = record {
 }
 
 -- the motion that is kept of an inter macroblock
-abbrev pub moved_entry : Macroblock → Entry
+abbrev pub moved_entry : Choice → Entry
 moved_entry x = record { reference = x.modes.reference; mode = x.motion.mode; vectors = x.motion.vectors }
 
-pub inter_told : (p : Place) (x : Macroblock) (old : Maps) (g : Grid Modes) (k : Grid Entry) (e : Entry) → is_intra x.modes.reference ≡ false → e ≡ moved_entry x
+pub inter_told : (p : Place) (x : Choice) (old : Maps) (g : Grid Modes) (k : Grid Entry) (e : Entry) → is_intra x.modes.reference ≡ false → e ≡ moved_entry x
     → g ≡ with_entry old.modes p x.modes → entry g p ≡ Some x.modes → ((q : Place) → q ≢ p → entry g q ≡ entry old.modes q)
     → k ≡ with_entry old.motion p e → entry k p ≡ Some e → ((q : Place) → q ≢ p → entry k q ≡ entry old.motion q)
     → IsTold p x old (record { modes = g; motion = k })
@@ -73,7 +73,7 @@ inter_told p x old g k e away is changed here elsewhere changed_too here_too els
 }
 
 -- the same, in what the code has at hand
-pub inter_written_as : (h : Header) (p : Place) (m : Maps) (x : Macroblock) (r : Reference) (e : Entry) (g : Grid Modes) (k : Grid Entry) {old mid new : Interval} → is_intra x.modes.reference ≡ false
+pub inter_written_as : (h : Header) (p : Place) (m : Maps) (x : Choice) (r : Reference) (e : Entry) (g : Grid Modes) (k : Grid Entry) {old mid new : Interval} → is_intra x.modes.reference ≡ false
     → r ≡ x.modes.reference → e ≡ moved_entry x → g ≡ with_entry m.modes p x.modes → k ≡ with_entry m.motion p e
     → Writes (modes_at h m.modes p) old mid x.modes → Writes (motion_at h m.motion p r) mid new x.motion
     → Writes (macroblock_read h p m) old new (record { modes = g; motion = k })

@@ -24,7 +24,7 @@ use Rattle.vp_tokens.specs.Contexts.{Contexts, StandsFor, right}
 use Rattle.vp_tokens.proofs.Steps.{row_begins}
 use Rattle.vp_decode.specs.Maps.{place}
 use Rattle.vp_decode.specs.Frame.{Plan, Readings, source_by, source_at, tokens_read, seen_read, row_seen, row_tokens, rest_of, token_row, none_read, readings, tokens_of}
-use Rattle.vp_encode.specs.declared.coded.Macroblock.{Macroblock}
+use Rattle.vp_choose.specs.declared.frame.Choice.{Choice}
 use Rattle.vp_encode.specs.declared.coded.Coded.{Coded}
 use Rattle.vp_encode.specs.Coded.{nothing, macroblock_at, entry_of, has_y2}
 use Rattle.vp_encode.specs.Said.{IsClosed}
@@ -54,7 +54,7 @@ finished e bytes all_bytes back is = rw is (record {
 
 -- ---- what a plan of the frame reads at a place
 
-source_y2 : (references : Option References) (version : ℕ) (x : Macroblock) → (references ≡ None → is_intra x.modes.reference ≡ true)
+source_y2 : (references : Option References) (version : ℕ) (x : Choice) → (references ≡ None → is_intra x.modes.reference ≡ true)
     → source_has_y2 (source_by references version x.modes (entry_of x)) ≡ has_y2 x
 source_y2 None version x own = let e : is_intra x.modes.reference ≡ true = own refl in rw e refl
 source_y2 (Some r) version x own = elim (cases_Bool (is_intra x.modes.reference)) [ inl e ↦ rw e refl | inr e ↦ rw e refl ]
@@ -113,7 +113,7 @@ token_row_none f c row g contexts e stands = record {
   tokens = λ s t r column never. absurd (omega arith);
 }
 
-pub token_row_next : (f : Plan) (c : Coded) (row n : ℕ) (g : Grid Blocks) (x : Macroblock) (y2 skip : Bool) (tokens : Tokens) (contexts after : Contexts) {old mid new : Interval}
+pub token_row_next : (f : Plan) (c : Coded) (row n : ℕ) (g : Grid Blocks) (x : Choice) (y2 skip : Bool) (tokens : Tokens) (contexts after : Contexts) {old mid new : Interval}
     → IsPlanOf c f → n < c.macroblocks.columns → row < c.macroblocks.rows → g.columns ≡ c.macroblocks.columns → g.rows ≡ c.macroblocks.rows
     → entry c.macroblocks (place row n) ≡ Some x → y2 ≡ has_y2 x → skip ≡ x.modes.skip → tokens ≡ x.tokens
     → IsTokenRow f c row n g contexts old mid
@@ -127,7 +127,7 @@ token_row_next f c row n g x y2 skip tokens contexts after {old = old} {mid = mi
     let y2_is : source_has_y2 (source_at f p) ≡ y2 = plan_y2 c f p plan there ∙ ap has_y2 same ∙ sym kind in
     let reader : macroblock c.header.probabilities.coefficients made.seen p y2 skip ≡ tokens_read f p made.seen =
     (λ i. macroblock c.header.probabilities.coefficients made.seen p (kind i) (skip_is i))
-    ∙ ap (λ (z : Macroblock). macroblock c.header.probabilities.coefficients made.seen p (has_y2 z) z.modes.skip) (sym same)
+    ∙ ap (λ (z : Choice). macroblock c.header.probabilities.coefficients made.seen p (has_y2 z) z.modes.skip) (sym same)
     ∙ plan_tokens c f p made.seen plan there in
     let w : Writes (tokens_read f p made.seen) mid new tokens = subst (λ r. Writes r mid new tokens) reader (writes made.seen made.stands) in
     let bs = made.written.bools in
@@ -147,7 +147,7 @@ token_row_next f c row n g x y2 skip tokens contexts after {old = old} {mid = mi
         | inl earlier ↦ made.tokens s h.0 h.1 k earlier
         | inr late ↦ let at_n : n ≡ k = omega arith in
             subst (λ (j : ℕ). row_tokens f row g s j ≡ (macroblock_at c (place row j)).tokens) at_n
-            (tokens_given f row n g made.seen s h.0 u tokens (made.written.taken s h.0 h.1) (w.taken h.0 u h.2) ∙ tokens_are ∙ ap (λ (z : Macroblock). z.tokens) (sym same))
+            (tokens_given f row n g made.seen s h.0 u tokens (made.written.taken s h.0 h.1) (w.taken h.0 u h.2) ∙ tokens_are ∙ ap (λ (z : Choice). z.tokens) (sym same))
       ];
     }
 

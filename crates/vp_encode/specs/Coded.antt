@@ -15,22 +15,22 @@ use Rattle.vp_motion.specs.Near.{candidates}
 use Rattle.vp_motion.specs.Spelled as motion
 use Rattle.vp_tokens.specs.Blocks.{no_blocks}
 use Rattle.vp_tokens.specs.Spelled.{AreSpelled}
-use Rattle.vp_encode.specs.declared.coded.Macroblock.{Macroblock}
+use Rattle.vp_choose.specs.declared.frame.Choice.{Choice}
 use Rattle.vp_encode.specs.declared.coded.Coded.{Coded}
 
 -- what counts as standing outside the frame
-unfoldable pub nothing : Macroblock
+unfoldable pub nothing : Choice
 nothing = record {
   modes = plain;
   motion = record { mode = vector_is.Zero; vectors = replicate 16 still };
   tokens = record { blocks = no_blocks };
 }
 
-abbrev pub macroblock_at : Coded → Place → Macroblock
+abbrev pub macroblock_at : Coded → Place → Choice
 macroblock_at c p = at nothing c.macroblocks p
 
 -- what is kept of a macroblock's motion
-abbrev pub entry_of : Macroblock → Entry
+abbrev pub entry_of : Choice → Entry
 entry_of m =
     if is_intra m.modes.reference then intra
     else record { reference = m.modes.reference; mode = m.motion.mode; vectors = m.motion.vectors }
@@ -40,7 +40,7 @@ abbrev pub motion_of : Coded → Grid Entry
 motion_of c = mapped entry_of c.macroblocks
 
 -- whether a macroblock has a Y2 block (chapter 13)
-abbrev pub has_y2 : Macroblock → Bool
+abbrev pub has_y2 : Choice → Bool
 has_y2 m = if is_intra m.modes.reference then not (is_by_subblocks m.modes.luma) else not (is_split m.motion.mode)
 
 -- Each part is one that its own writer can spell. Modes are told over those that stood before the frame.

@@ -21,7 +21,7 @@ use Rattle.vp_tokens.specs.Partitions.{cut_of}
 use Rattle.vp_decode.specs.Maps.{Maps, modes_in, motion_in, place, maps_read}
 use Rattle.vp_decode.specs.Frame.{Plan, row_seen, row_tokens, readings, tokens_of}
 use Rattle.vp_decode.specs.Step.{count_of}
-use Rattle.vp_encode.specs.declared.coded.Macroblock.{Macroblock}
+use Rattle.vp_choose.specs.declared.frame.Choice.{Choice}
 use Rattle.vp_encode.specs.declared.coded.Coded.{Coded}
 use Rattle.vp_encode.specs.Coded.{macroblock_at, entry_of}
 use Rattle.vp_encode.specs.Said.{IsClosed}
@@ -46,7 +46,7 @@ pub record AreAlike (p : Place) (m n : Maps) : Type 0 where
   pub motion : motion_in m p ≡ motion_in n p
 
 -- at p the maps have what x is told to be, and elsewhere they are as before
-pub record IsTold (p : Place) (x : Macroblock) (old new : Maps) : Type 0 where
+pub record IsTold (p : Place) (x : Choice) (old new : Maps) : Type 0 where
   pub columns : new.modes.columns ≡ old.modes.columns
   pub rows : new.modes.rows ≡ old.modes.rows
   pub motion_columns : new.motion.columns ≡ old.motion.columns

@@ -5,11 +5,13 @@ mod coded;
 mod fault;
 mod maps;
 mod packet;
+mod settings;
 mod tag;
 #[cfg(test)]
 mod tests;
 mod tokens;
 
-pub use coded::{Coded, Macroblock};
+pub use coded::Coded;
 pub use fault::PacketError;
 pub use packet::{write_inter_packet, write_key_packet};
+pub use settings::Settings;

@@ -13,11 +13,12 @@ ghost use Rattle.vp_decode.specs.Maps.{macroblock_read, row_read, maps_read, mot
 ghost use Rattle.vp_encode.specs.Coded.{macroblock_at, entry_of, AreModesSpelled, IsMotionSpelled};
 ghost use Rattle.vp_encode.specs.Written.{AreOf, IsTold, AreRowsTold, IsRowTold};
 
-use crate::coded::{Coded, Macroblock};
+use crate::coded::Coded;
 use std::alloc::AllocError;
 use std::marker::Model;
 use vp_base::Place;
 use vp_bool::BoolEncoder;
+use vp_choose::Choice;
 use vp_head::Header;
 use vp_modes::{ModeMap, write_modes};
 use vp_motion::{VectorMap, write_motion};
@@ -46,7 +47,7 @@ impl Maps {
         &mut self,
         header: &Header,
         place: Place,
-        macroblock: &Macroblock,
+        macroblock: &Choice,
         e: &mut BoolEncoder,
     ) -> Result<(), AllocError>
         requires place { Has self.old.modes place }

@@ -10,10 +10,11 @@ ghost use Rattle.vp_modes.specs.Spelled.{IsSpelled as modes_spelled};
 ghost use Rattle.vp_tokens.specs.Blocks.{no_blocks};
 ghost use Rattle.vp_encode.specs.Coded.{has_y2, CanBeTold};
 
-use crate::{Coded, Macroblock, write_key_packet};
+use crate::{Coded, write_key_packet};
 use std::alloc::{AllocError, Global};
 use std::test::Fail;
 use vp_base::{Dim, Grid, Limits};
+use vp_choose::Choice;
 use vp_decode::{Decoder, Outcome};
 use vp_head::{
     Filter, Header, QuantiserIndices, Reference, ReferenceCopy, ReferenceProbabilities,
@@ -77,13 +78,13 @@ fn key_header(log2_partitions: u8) -> Header
 }
 
 /// Intra with DC modes, and skipped.
-fn macroblock() -> Macroblock
+fn macroblock() -> Choice
     ensures modes { (h : Header) (g : Grid Modes) (p : Place) → h.key ≡ true → IsSome h.skip → modes_spelled h g p result.modes }
     ensures intra { is_intra result.modes.reference ≡ true }
     ensures y2 { has_y2 result ≡ true }
     ensures none { result.tokens.blocks ≡ no_blocks }
 {
-    Macroblock {
+    Choice {
         modes: Modes {
             segment: 0,
             skip: true,

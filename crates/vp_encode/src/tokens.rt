@@ -12,7 +12,7 @@ ghost use Rattle.vp_decode.specs.Step.{count_of};
 ghost use Rattle.vp_encode.specs.Coded.{AreTokensSpelled};
 ghost use Rattle.vp_encode.specs.Written.{IsPlanOf, IsTokenRow, AreTokenRows, none_seen, IsFinished, AreTokenPartitions};
 
-use crate::coded::Coded;
+use crate::coded::{Coded, has_y2};
 use std::alloc::{AllocError, Global};
 use vp_base::Place;
 use vp_bool::BoolEncoder;
@@ -39,7 +39,7 @@ fn write_row(
             &coded.header.probabilities.coefficients,
             contexts,
             place,
-            macroblock.has_y2(),
+            has_y2(macroblock),
             macroblock.modes.skip,
             &macroblock.tokens,
             e,

@@ -1,5 +1,6 @@
 -- The macroblocks of a row, and the rows of a picture.
 use Rattle.std.proofs.Common.{◌≡◌, ◌∙◌, ℕ, ◌+◌, ◌*◌, ◌==◌, Bool, true, false, cond, List, get_or, refl, ap, sym, subst}
+use Rattle.vp_base.specs.declared.place.Place.{Place}
 use Rattle.vp_base.specs.Raster.{Raster}
 use Rattle.vp_base.specs.Image.{Image, macroblocks, IsAligned}
 use Rattle.vp_base.specs.Over.{over}
@@ -7,7 +8,7 @@ use Rattle.vp_base.proofs.OverLemmas.{over-none, over-more, over-kept}
 use Rattle.vp_loop.specs.declared.strength.Level.{Level}
 use Rattle.vp_loop.specs.Levels.{no_level}
 use Rattle.vp_loop.specs.Edges.{block_filtered}
-use Rattle.vp_loop.specs.Filtered.{colour_filtered, macroblock_filtered, row_filtered, row_levels, filtered}
+use Rattle.vp_loop.specs.Filtered.{colour_filtered, macroblock_filtered, row_filtered, filtered}
 use Rattle.vp_loop.proofs.StepLemmas.{width-edge_lines, height-edge_lines}
 use Rattle.vp_loop.proofs.EdgeLemmas.{keeps_block}
 
@@ -66,56 +67,56 @@ sizes-macroblock_filtered level column row p =
 
 -- ---- the first n macroblocks of a row
 
-unfoldable pub first_macroblocks : List Level → ℕ → ℕ → Image → Image
-first_macroblocks levels row n p = over n (λ column. macroblock_filtered (get_or levels column no_level) column row) p
+unfoldable pub first_macroblocks : (Place → Level) → ℕ → ℕ → Image → Image
+first_macroblocks level row n p = over n (λ column. macroblock_filtered (level (record { column = column; row = row })) column row) p
 
-pub first_macroblocks-none : (levels : List Level) (row : ℕ) (p : Image) → first_macroblocks levels row 0 p ≡ p
+pub first_macroblocks-none : (level : Place → Level) (row : ℕ) (p : Image) → first_macroblocks level row 0 p ≡ p
 unfolding first_macroblocks
-first_macroblocks-none levels row p = over-none (λ column. macroblock_filtered (get_or levels column no_level) column row) p
+first_macroblocks-none level row p = over-none (λ column. macroblock_filtered (level (record { column = column; row = row })) column row) p
 
-pub first_macroblocks-more : (levels : List Level) (row n : ℕ) (p : Image)
-    → macroblock_filtered (get_or levels n no_level) n row (first_macroblocks levels row n p) ≡ first_macroblocks levels row (n + 1) p
+pub first_macroblocks-more : (level : Place → Level) (row n : ℕ) (p : Image)
+    → macroblock_filtered (level (record { column = n; row = row })) n row (first_macroblocks level row n p) ≡ first_macroblocks level row (n + 1) p
 unfolding first_macroblocks
-first_macroblocks-more levels row n p = sym (over-more n (λ column. macroblock_filtered (get_or levels column no_level) column row) p)
+first_macroblocks-more level row n p = sym (over-more n (λ column. macroblock_filtered (level (record { column = column; row = row })) column row) p)
 
-pub sizes-first_macroblocks : (levels : List Level) (row n : ℕ) (p : Image) → sizes (first_macroblocks levels row n p) ≡ sizes p
+pub sizes-first_macroblocks : (level : Place → Level) (row n : ℕ) (p : Image) → sizes (first_macroblocks level row n p) ≡ sizes p
 unfolding first_macroblocks
-sizes-first_macroblocks levels row n p =
-    over-kept sizes n (λ column. macroblock_filtered (get_or levels column no_level) column row) p
-    (λ k q. sizes-macroblock_filtered (get_or levels k no_level) k row q)
+sizes-first_macroblocks level row n p =
+    over-kept sizes n (λ column. macroblock_filtered (level (record { column = column; row = row })) column row) p
+    (λ k q. sizes-macroblock_filtered (level (record { column = k; row = row })) k row q)
 
-pub row_filtered-all : (levels : List Level) (row : ℕ) (p : Image) → first_macroblocks levels row (macroblocks p.width) p ≡ row_filtered levels row p
+pub row_filtered-all : (level : Place → Level) (row : ℕ) (p : Image) → first_macroblocks level row (macroblocks p.width) p ≡ row_filtered level row p
 unfolding first_macroblocks row_filtered
-row_filtered-all levels row p = refl
+row_filtered-all level row p = refl
 
 -- the sizes of a filtered row are those of the picture
-pub sizes-row_filtered : (levels : List Level) (row : ℕ) (p : Image) → sizes (row_filtered levels row p) ≡ sizes p
-sizes-row_filtered levels row p = ap sizes (sym (row_filtered-all levels row p)) ∙ sizes-first_macroblocks levels row (macroblocks p.width) p
+pub sizes-row_filtered : (level : Place → Level) (row : ℕ) (p : Image) → sizes (row_filtered level row p) ≡ sizes p
+sizes-row_filtered level row p = ap sizes (sym (row_filtered-all level row p)) ∙ sizes-first_macroblocks level row (macroblocks p.width) p
 
 -- ---- the first n rows of a picture
 
-unfoldable pub first_rows : List Level → ℕ → ℕ → Image → Image
-first_rows levels cols n p = over n (λ row. row_filtered (row_levels levels cols row) row) p
+unfoldable pub first_rows : (Place → Level) → ℕ → Image → Image
+first_rows level n p = over n (row_filtered level) p
 
-pub first_rows-none : (levels : List Level) (cols : ℕ) (p : Image) → first_rows levels cols 0 p ≡ p
+pub first_rows-none : (level : Place → Level) (p : Image) → first_rows level 0 p ≡ p
 unfolding first_rows
-first_rows-none levels cols p = over-none (λ row. row_filtered (row_levels levels cols row) row) p
+first_rows-none level p = over-none (row_filtered level) p
 
-pub first_rows-more : (levels : List Level) (cols n : ℕ) (p : Image)
-    → row_filtered (row_levels levels cols n) n (first_rows levels cols n p) ≡ first_rows levels cols (n + 1) p
+pub first_rows-more : (level : Place → Level) (n : ℕ) (p : Image)
+    → row_filtered level n (first_rows level n p) ≡ first_rows level (n + 1) p
 unfolding first_rows
-first_rows-more levels cols n p = sym (over-more n (λ row. row_filtered (row_levels levels cols row) row) p)
+first_rows-more level n p = sym (over-more n (row_filtered level) p)
 
-pub sizes-first_rows : (levels : List Level) (cols n : ℕ) (p : Image) → sizes (first_rows levels cols n p) ≡ sizes p
+pub sizes-first_rows : (level : Place → Level) (n : ℕ) (p : Image) → sizes (first_rows level n p) ≡ sizes p
 unfolding first_rows
-sizes-first_rows levels cols n p = over-kept sizes n (λ row. row_filtered (row_levels levels cols row) row) p (λ k q. sizes-row_filtered (row_levels levels cols k) k q)
+sizes-first_rows level n p = over-kept sizes n (row_filtered level) p (λ k q. sizes-row_filtered level k q)
 
-pub filtered-all : (levels : List Level) (p : Image) → first_rows levels (macroblocks p.width) (macroblocks p.height) p ≡ filtered levels p
+pub filtered-all : (level : Place → Level) (p : Image) → first_rows level (macroblocks p.height) p ≡ filtered level p
 unfolding first_rows filtered
-filtered-all levels p = refl
+filtered-all level p = refl
 
-pub sizes-filtered : (levels : List Level) (p : Image) → sizes (filtered levels p) ≡ sizes p
-sizes-filtered levels p = ap sizes (sym (filtered-all levels p)) ∙ sizes-first_rows levels (macroblocks p.width) (macroblocks p.height) p
+pub sizes-filtered : (level : Place → Level) (p : Image) → sizes (filtered level p) ≡ sizes p
+sizes-filtered level p = ap sizes (sym (filtered-all level p)) ∙ sizes-first_rows level (macroblocks p.height) p
 
 -- a picture of the sizes of an aligned one is aligned
 pub aligned-sizes : (p q : Image) → sizes q ≡ sizes p → IsAligned p → IsAligned q

@@ -1,6 +1,7 @@
 -- What a filtered row of macroblocks keeps, and what it depends on.
 use Rattle.std.proofs.Common.{◌≡◌, ◌∙◌, ℕ, zero, suc, ◌+◌, ◌-◌, ◌*◌, ◌<◌, ◌≤◌, Bool, true, false, cond, List, get_or, refl, ap, sym, subst, arith}
 use Rattle.std.proofs.lemmas.Bool.Decides.{nat_tests}
+use Rattle.vp_base.specs.declared.place.Place.{Place}
 use Rattle.vp_base.specs.Raster.{Raster, pixel}
 use Rattle.vp_base.specs.Block.{is_in_block, IsWhole}
 use Rattle.vp_base.specs.Image.{Image, macroblocks, IsCovering}
@@ -134,9 +135,9 @@ unfolding over
 over-look look zero f g a each = refl
 over-look look (suc n) f g a each = each n (over n f a) ∙ ap (g n) (over-look look n f g a each)
 
-module _ (levels : List Level) (row : ℕ) where
+module _ (level : Place → Level) (row : ℕ) where
   abbrev own : ℕ → Level
-  own column = get_or levels column no_level
+  own column = level (record { column = column; row = row })
 
   abbrev luma_step : ℕ → Raster → Raster
   luma_step column = block_filtered 16 (own column) (16 * column) (16 * row)
@@ -144,22 +145,22 @@ module _ (levels : List Level) (row : ℕ) where
   abbrev colour_step : ℕ → Raster → Raster
   colour_step column = colour_filtered (own column) (8 * column) (8 * row)
 
-  luma-row : (p : Image) → (row_filtered levels row p).luma ≡ over (macroblocks p.width) luma_step p.luma
+  luma-row : (p : Image) → (row_filtered level row p).luma ≡ over (macroblocks p.width) luma_step p.luma
   unfolding first_macroblocks
   luma-row p =
-      ap (λ (q : Image). q.luma) (sym (row_filtered-all levels row p))
+      ap (λ (q : Image). q.luma) (sym (row_filtered-all level row p))
       ∙ over-look (λ (q : Image). q.luma) (macroblocks p.width) (λ column. macroblock_filtered (own column) column row) luma_step p (λ k q. refl)
 
-  u-row : (p : Image) → (row_filtered levels row p).u ≡ over (macroblocks p.width) colour_step p.u
+  u-row : (p : Image) → (row_filtered level row p).u ≡ over (macroblocks p.width) colour_step p.u
   unfolding first_macroblocks
   u-row p =
-      ap (λ (q : Image). q.u) (sym (row_filtered-all levels row p))
+      ap (λ (q : Image). q.u) (sym (row_filtered-all level row p))
       ∙ over-look (λ (q : Image). q.u) (macroblocks p.width) (λ column. macroblock_filtered (own column) column row) colour_step p (λ k q. refl)
 
-  v-row : (p : Image) → (row_filtered levels row p).v ≡ over (macroblocks p.width) colour_step p.v
+  v-row : (p : Image) → (row_filtered level row p).v ≡ over (macroblocks p.width) colour_step p.v
   unfolding first_macroblocks
   v-row p =
-      ap (λ (q : Image). q.v) (sym (row_filtered-all levels row p))
+      ap (λ (q : Image). q.v) (sym (row_filtered-all level row p))
       ∙ over-look (λ (q : Image). q.v) (macroblocks p.width) (λ column. macroblock_filtered (own column) column row) colour_step p (λ k q. refl)
 
   module _ (P : (Raster → Raster) → Type 0) (same : P (λ p. p)) (next : (f g : Raster → Raster) → P f → P g → P (λ p. g (f p))) where
@@ -234,23 +235,23 @@ read_above w h k f p q r t low a s u e g same i j iin jin above =
     ∙ sym (ap (λ (x : Raster). pixel x i j) g))
 
 pub row_keeps : RowKeepsBelow
-row_keeps levels row p aligned below =
+row_keeps level row p aligned below =
     let cols = macroblocks p.width in
     let rows = macroblocks p.height in
     record {
-      luma = kept_below (16 * cols) (16 * rows) (16 * (row + 1)) (over cols (luma_step levels row)) p.luma (row_filtered levels row p).luma (above-luma levels row cols rows below) aligned.0 (luma-row levels row p);
-      u = kept_below (8 * cols) (8 * rows) (8 * (row + 1)) (over cols (colour_step levels row)) p.u (row_filtered levels row p).u (above-colours levels row cols rows below) aligned.1 (u-row levels row p);
-      v = kept_below (8 * cols) (8 * rows) (8 * (row + 1)) (over cols (colour_step levels row)) p.v (row_filtered levels row p).v (above-colours levels row cols rows below) aligned.2 (v-row levels row p);
+      luma = kept_below (16 * cols) (16 * rows) (16 * (row + 1)) (over cols (luma_step level row)) p.luma (row_filtered level row p).luma (above-luma level row cols rows below) aligned.0 (luma-row level row p);
+      u = kept_below (8 * cols) (8 * rows) (8 * (row + 1)) (over cols (colour_step level row)) p.u (row_filtered level row p).u (above-colours level row cols rows below) aligned.1 (u-row level row p);
+      v = kept_below (8 * cols) (8 * rows) (8 * (row + 1)) (over cols (colour_step level row)) p.v (row_filtered level row p).v (above-colours level row cols rows below) aligned.2 (v-row level row p);
     }
 
 pub row_final : RowKeepsAbove
-row_final levels row p aligned below =
+row_final level row p aligned below =
     let cols = macroblocks p.width in
     let rows = macroblocks p.height in
     record {
-      luma = kept_above (16 * cols) (16 * rows) (16 * row - 3) (over cols (luma_step levels row)) p.luma (row_filtered levels row p).luma (from-luma levels row cols rows) aligned.0 (luma-row levels row p);
-      u = kept_above (8 * cols) (8 * rows) (8 * row - 3) (over cols (colour_step levels row)) p.u (row_filtered levels row p).u (from-colours levels row cols rows) aligned.1 (u-row levels row p);
-      v = kept_above (8 * cols) (8 * rows) (8 * row - 3) (over cols (colour_step levels row)) p.v (row_filtered levels row p).v (from-colours levels row cols rows) aligned.2 (v-row levels row p);
+      luma = kept_above (16 * cols) (16 * rows) (16 * row - 3) (over cols (luma_step level row)) p.luma (row_filtered level row p).luma (from-luma level row cols rows) aligned.0 (luma-row level row p);
+      u = kept_above (8 * cols) (8 * rows) (8 * row - 3) (over cols (colour_step level row)) p.u (row_filtered level row p).u (from-colours level row cols rows) aligned.1 (u-row level row p);
+      v = kept_above (8 * cols) (8 * rows) (8 * row - 3) (over cols (colour_step level row)) p.v (row_filtered level row p).v (from-colours level row cols rows) aligned.2 (v-row level row p);
     }
 
 same_cols : (w n : ℕ) (f : ℕ → Raster → Raster) (p r : Raster) → w ≡ n → r ≡ over (macroblocks n) f p → r ≡ over (macroblocks w) f p
@@ -260,36 +261,36 @@ same_size : (size w h u v : ℕ) (q : Raster) → w ≡ u → h ≡ v → IsCove
 same_size size w h u v q e f s = (s.0 ∙ ap (λ (n : ℕ). size * macroblocks n) (sym e), s.1 ∙ ap (λ (n : ℕ). size * macroblocks n) (sym f))
 
 pub row_reads : RowReadsAbove
-row_reads levels row p q aligned other size below same =
+row_reads level row p q aligned other size below same =
     let cols = macroblocks p.width in
     let rows = macroblocks p.height in
     let wide = size.width in
     let high = size.height in
-    let p' = row_filtered levels row p in
-    let q' = row_filtered levels row q in
+    let p' = row_filtered level row p in
+    let q' = row_filtered level row q in
     let low : 16 * (row + 1) ≤ 16 * rows = omega arith in
     let low' : 8 * (row + 1) ≤ 8 * rows = omega arith in
     record {
-      luma = read_above (16 * cols) (16 * rows) (16 * (row + 1)) (over cols (luma_step levels row)) p.luma q.luma p'.luma q'.luma low (above-luma levels row cols rows below)
-          aligned.0 (same_size 16 p.width p.height q.width q.height q.luma wide high other.0) (luma-row levels row p) (same_cols p.width q.width (luma_step levels row) q.luma q'.luma wide (luma-row levels row q)) same.luma;
-      u = read_above (8 * cols) (8 * rows) (8 * (row + 1)) (over cols (colour_step levels row)) p.u q.u p'.u q'.u low' (above-colours levels row cols rows below)
-          aligned.1 (same_size 8 p.width p.height q.width q.height q.u wide high other.1) (u-row levels row p) (same_cols p.width q.width (colour_step levels row) q.u q'.u wide (u-row levels row q)) same.u;
-      v = read_above (8 * cols) (8 * rows) (8 * (row + 1)) (over cols (colour_step levels row)) p.v q.v p'.v q'.v low' (above-colours levels row cols rows below)
-          aligned.2 (same_size 8 p.width p.height q.width q.height q.v wide high other.2) (v-row levels row p) (same_cols p.width q.width (colour_step levels row) q.v q'.v wide (v-row levels row q)) same.v;
+      luma = read_above (16 * cols) (16 * rows) (16 * (row + 1)) (over cols (luma_step level row)) p.luma q.luma p'.luma q'.luma low (above-luma level row cols rows below)
+          aligned.0 (same_size 16 p.width p.height q.width q.height q.luma wide high other.0) (luma-row level row p) (same_cols p.width q.width (luma_step level row) q.luma q'.luma wide (luma-row level row q)) same.luma;
+      u = read_above (8 * cols) (8 * rows) (8 * (row + 1)) (over cols (colour_step level row)) p.u q.u p'.u q'.u low' (above-colours level row cols rows below)
+          aligned.1 (same_size 8 p.width p.height q.width q.height q.u wide high other.1) (u-row level row p) (same_cols p.width q.width (colour_step level row) q.u q'.u wide (u-row level row q)) same.u;
+      v = read_above (8 * cols) (8 * rows) (8 * (row + 1)) (over cols (colour_step level row)) p.v q.v p'.v q'.v low' (above-colours level row cols rows below)
+          aligned.2 (same_size 8 p.width p.height q.width q.height q.v wide high other.2) (v-row level row p) (same_cols p.width q.width (colour_step level row) q.v q'.v wide (v-row level row q)) same.v;
     }
 
 pub row_size : RowKeepsSize
-row_size levels row p =
-    let e = sizes-row_filtered levels row p in
+row_size level row p =
+    let e = sizes-row_filtered level row p in
     record { width = ap (λ (s : Sizes). s.width) e; height = ap (λ (s : Sizes). s.height) e }
 
 pub row_aligned : RowKeepsAligned
-row_aligned levels row p = aligned-sizes p (row_filtered levels row p) (sizes-row_filtered levels row p)
+row_aligned level row p = aligned-sizes p (row_filtered level row p) (sizes-row_filtered level row p)
 
 pub row_whole : RowKeepsWhole
-row_whole levels row p whole =
+row_whole level row p whole =
     let cols = macroblocks p.width in (
-      subst IsWhole (sym (luma-row levels row p)) (whole-luma levels row cols p.luma whole.0),
-      subst IsWhole (sym (u-row levels row p)) (whole-colours levels row cols p.u whole.1),
-      subst IsWhole (sym (v-row levels row p)) (whole-colours levels row cols p.v whole.2),
+      subst IsWhole (sym (luma-row level row p)) (whole-luma level row cols p.luma whole.0),
+      subst IsWhole (sym (u-row level row p)) (whole-colours level row cols p.u whole.1),
+      subst IsWhole (sym (v-row level row p)) (whole-colours level row cols p.v whole.2),
     )

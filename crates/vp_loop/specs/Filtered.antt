@@ -1,5 +1,6 @@
 -- The filtered picture (RFC 6386, chapter 15): all line steps of a frame, one after another.
-use Rattle.std.specs.Prelude.{ℕ, List, ◌+◌, ◌*◌, ◌==◌, slice_index_or, slice_range, if◌then◌else◌}
+use Rattle.std.specs.Prelude.{ℕ, List, ◌+◌, ◌*◌, ◌==◌, slice_index_or, if◌then◌else◌}
+use Rattle.vp_base.specs.declared.place.Place.{Place}
 use Rattle.vp_base.specs.Raster.{Raster}
 use Rattle.vp_base.specs.Image.{Image, macroblocks}
 use Rattle.vp_base.specs.Over.{over}
@@ -19,16 +20,15 @@ macroblock_filtered level column row p = record p {
   v = colour_filtered level (8 * column) (8 * row) p.v;
 }
 
--- a row of macroblocks, from left to right, by the row's levels
-unfoldable pub row_filtered : List Level → ℕ → Image → Image
-row_filtered levels row p =
-    over (macroblocks p.width) (λ column. macroblock_filtered (slice_index_or levels column no_level) column row) p
-
--- the levels of one row of macroblocks, of the levels of all in raster order
-abbrev pub row_levels : List Level → ℕ → ℕ → List Level
-row_levels levels cols row = slice_range levels (row * cols) (row * cols + cols)
+-- a row of macroblocks, from left to right, each by its own level
+unfoldable pub row_filtered : (Place → Level) → ℕ → Image → Image
+row_filtered level row p =
+    over (macroblocks p.width) (λ column. macroblock_filtered (level (record { column = column; row = row })) column row) p
 
 -- the rows of macroblocks, from the top
-unfoldable pub filtered : List Level → Image → Image
-filtered levels p =
-    over (macroblocks p.height) (λ row. row_filtered (row_levels levels (macroblocks p.width) row) row) p
+unfoldable pub filtered : (Place → Level) → Image → Image
+filtered level p = over (macroblocks p.height) (row_filtered level) p
+
+-- the level at a place, of those of all macroblocks in raster order
+abbrev pub level_in : List Level → ℕ → Place → Level
+level_in levels columns p = slice_index_or levels (p.row * columns + p.column) no_level

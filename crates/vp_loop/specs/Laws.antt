@@ -1,5 +1,6 @@
 -- Laws of line steps (RFC 6386, chapter 15.1): which of them may change places, and which rows they touch.
 use Rattle.std.specs.Prelude.{ℕ, ◌≡◌, ◌+◌, ◌-◌, ◌*◌, ◌≤◌, ◌<◌, ◌==◌, nat_lt, Bool, ◌&&◌, List, if◌then◌else◌}
+use Rattle.vp_base.specs.declared.place.Place.{Place}
 use Rattle.vp_base.specs.Raster.{Raster}
 use Rattle.vp_base.specs.Block.{is_in_block, with_block, IsWhole}
 use Rattle.vp_base.specs.Image.{Image, macroblocks, IsAligned, AreWhole}
@@ -41,31 +42,31 @@ DisjointStepsCommute =
 -- filtering a row of macroblocks changes nothing below the row
 abbrev pub RowKeepsBelow : Type 0
 RowKeepsBelow =
-    (levels : List Level) (row : ℕ) (p : Image) → IsAligned p → row < macroblocks p.height
-    → AreSameFrom (16 * (row + 1)) (8 * (row + 1)) (row_filtered levels row p) p
+    (level : Place → Level) (row : ℕ) (p : Image) → IsAligned p → row < macroblocks p.height
+    → AreSameFrom (16 * (row + 1)) (8 * (row + 1)) (row_filtered level row p) p
 
 -- what it makes of the rest depends on the rest alone
 abbrev pub RowReadsAbove : Type 0
 RowReadsAbove =
-    (levels : List Level) (row : ℕ) (p q : Image) → IsAligned p → IsAligned q → AreOneSize p q → row < macroblocks p.height
+    (level : Place → Level) (row : ℕ) (p q : Image) → IsAligned p → IsAligned q → AreOneSize p q → row < macroblocks p.height
     → AreSameAbove (16 * (row + 1)) (8 * (row + 1)) p q
-    → AreSameAbove (16 * (row + 1)) (8 * (row + 1)) (row_filtered levels row p) (row_filtered levels row q)
+    → AreSameAbove (16 * (row + 1)) (8 * (row + 1)) (row_filtered level row p) (row_filtered level row q)
 
 -- and it changes nothing above the last three rows of pixels over its own
 abbrev pub RowKeepsAbove : Type 0
 RowKeepsAbove =
-    (levels : List Level) (row : ℕ) (p : Image) → IsAligned p → row < macroblocks p.height
-    → AreSameAbove (16 * row - 3) (8 * row - 3) (row_filtered levels row p) p
+    (level : Place → Level) (row : ℕ) (p : Image) → IsAligned p → row < macroblocks p.height
+    → AreSameAbove (16 * row - 3) (8 * row - 3) (row_filtered level row p) p
 
 -- filtering keeps a picture's size, and the sizes of its planes
 abbrev pub RowKeepsSize : Type 0
-RowKeepsSize = (levels : List Level) (row : ℕ) (p : Image) → AreOneSize (row_filtered levels row p) p
+RowKeepsSize = (level : Place → Level) (row : ℕ) (p : Image) → AreOneSize (row_filtered level row p) p
 
 abbrev pub RowKeepsAligned : Type 0
-RowKeepsAligned = (levels : List Level) (row : ℕ) (p : Image) → IsAligned p → IsAligned (row_filtered levels row p)
+RowKeepsAligned = (level : Place → Level) (row : ℕ) (p : Image) → IsAligned p → IsAligned (row_filtered level row p)
 
 abbrev pub RowKeepsWhole : Type 0
-RowKeepsWhole = (levels : List Level) (row : ℕ) (p : Image) → AreWhole p → AreWhole (row_filtered levels row p)
+RowKeepsWhole = (level : Place → Level) (row : ℕ) (p : Image) → AreWhole p → AreWhole (row_filtered level row p)
 
 -- ---- plane by plane, or edge by edge
 

@@ -3,7 +3,7 @@
 ghost use Rattle.std.specs.Prelude.{◌≡◌, ℕ, ◌+◌, ◌*◌, ◌/◌, ◌<◌, ◌≤◌, length};
 ghost use Rattle.vp_base.specs.Image.{Image, macroblocks, plane_of, with_plane};
 ghost use Rattle.vp_loop.specs.Edges.{block_filtered, on_luma, on_colours};
-ghost use Rattle.vp_loop.specs.Filtered.{macroblock_filtered, row_filtered, row_levels, filtered};
+ghost use Rattle.vp_loop.specs.Filtered.{macroblock_filtered, row_filtered, filtered, level_in};
 
 use crate::edges::{filter_colours, filter_luma};
 use crate::strength::Level;
@@ -27,20 +27,19 @@ fn filter_macroblock(picture: &mut Picture, level: Level, column: usize, row: us
 pub fn filter_row(picture: &mut Picture, levels: &[Level], row: usize)
     requires row { row < macroblocks picture.old.height }
     requires levels { row * macroblocks picture.old.width + macroblocks picture.old.width ≤ length levels.now }
-    ensures { picture.new ≡ row_filtered (row_levels levels.now (macroblocks picture.old.width) row) row picture.old }
+    ensures { picture.new ≡ row_filtered (level_in levels.now (macroblocks picture.old.width)) row picture.old }
 {
     let cols = usize::from(picture.dim().mb_cols());
     let start = row * cols;
-    let own = &levels[start..start + cols];
     for column in 0..cols {
-        filter_macroblock(picture, own[column], column, row);
+        filter_macroblock(picture, levels[start + column], column, row);
     }
 }
 
 /// Filters a whole picture, by the levels of its macroblocks in raster order.
 pub fn filter_picture(picture: &mut Picture, levels: &[Level])
     requires { macroblocks picture.old.height * macroblocks picture.old.width ≤ length levels.now }
-    ensures { picture.new ≡ filtered levels.now picture.old }
+    ensures { picture.new ≡ filtered (level_in levels.now (macroblocks picture.old.width)) picture.old }
 {
     let rows = usize::from(picture.dim().mb_rows());
     for row in 0..rows {
@@ -54,7 +53,7 @@ pub trait RowFilter {
     fn row(&mut self, picture: &mut Picture, levels: &[Level], row: usize)
         requires row { row < macroblocks picture.old.height }
         requires levels { row * macroblocks picture.old.width + macroblocks picture.old.width ≤ length levels.now }
-        ensures { picture.new ≡ row_filtered (row_levels levels.now (macroblocks picture.old.width) row) row picture.old };
+        ensures { picture.new ≡ row_filtered (level_in levels.now (macroblocks picture.old.width)) row picture.old };
 }
 
 /// The filter of this crate.

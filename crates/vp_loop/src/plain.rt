@@ -6,7 +6,7 @@ ghost use Rattle.vp_base.specs.Image.{Image, macroblocks, plane_of, with_plane};
 ghost use Rattle.vp_loop.specs.LineSteps.{stepped};
 ghost use Rattle.vp_loop.specs.declared.lines.Line.{Line};
 ghost use Rattle.vp_loop.specs.Edges.{along, down, line_at, pixels_of, line_step, edge_lines, inner_edges, block_edges, block_filtered, on_plane};
-ghost use Rattle.vp_loop.specs.Filtered.{macroblock_filtered, row_filtered, row_levels, filtered};
+ghost use Rattle.vp_loop.specs.Filtered.{macroblock_filtered, row_filtered, filtered, level_in};
 
 use crate::lines::{Line, LineStep};
 use crate::strength::Level;
@@ -298,20 +298,19 @@ fn filter_macroblock(picture: &mut Picture, level: Level, column: usize, row: us
 fn filter_row(picture: &mut Picture, levels: &[Level], row: usize)
     requires row { row < macroblocks picture.old.height }
     requires levels { row * macroblocks picture.old.width + macroblocks picture.old.width ≤ length levels.now }
-    ensures { picture.new ≡ row_filtered (row_levels levels.now (macroblocks picture.old.width) row) row picture.old }
+    ensures { picture.new ≡ row_filtered (level_in levels.now (macroblocks picture.old.width)) row picture.old }
 {
     let cols = usize::from(picture.dim().mb_cols());
     let start = row * cols;
-    let own = &levels[start..start + cols];
     for column in 0..cols {
-        filter_macroblock(picture, own[column], column, row);
+        filter_macroblock(picture, levels[start + column], column, row);
     }
 }
 
 /// Filters a whole picture, by the levels of its macroblocks in raster order.
 pub(crate) fn filter_picture(picture: &mut Picture, levels: &[Level])
     requires { macroblocks picture.old.height * macroblocks picture.old.width ≤ length levels.now }
-    ensures { picture.new ≡ filtered levels.now picture.old }
+    ensures { picture.new ≡ filtered (level_in levels.now (macroblocks picture.old.width)) picture.old }
 {
     let rows = usize::from(picture.dim().mb_rows());
     for row in 0..rows {

@@ -3,6 +3,7 @@ use Rattle.std.proofs.Common.{◌≡◌, ℕ, zero, suc, ◌+◌, ◌-◌, ◌<�
 use Rattle.std.specs.Prelude.{slice_get, Result, Ok, Err, IfOk, IfSome, IsNone, IsSome, is_some, nat_lt, length, option_map}
 use Rattle.std.proofs.lemmas.Option.{same_Some, none-some}
 use Rattle.vp_bool.specs.Bools.{State, start}
+use Rattle.vp_base.specs.declared.place.Place.{Place}
 use Rattle.vp_base.specs.declared.limits.Limits.{Limits}
 use Rattle.vp_base.specs.Image.{Image, blank_image, macroblocks}
 use Rattle.vp_base.specs.Over.{over}
@@ -19,7 +20,7 @@ use Rattle.vp_ivf.specs.declared.packet.Packet.{Packet}
 use Rattle.vp_recon.specs.Rebuilt.{row_rebuilt}
 use Rattle.vp_loop.specs.declared.strength.Level.{Level}
 use Rattle.vp_loop.specs.Filtered.{filtered, row_filtered}
-use Rattle.vp_decode.specs.Frame.{Frame, levels_of, unfiltered, picture_of}
+use Rattle.vp_decode.specs.Frame.{Frame, unfiltered, picture_of}
 use Rattle.vp_tokens.specs.Partitions.{cut_of}
 use Rattle.vp_decode.specs.Step.{Opened, Kept, Answer, Shown, Hidden, Fault, step, step_on, frame_step, kept_step, key_frame, inter_frame, key_kept, inter_kept, shown_after, shown_again, repeated, answer, opened, opened_tag, opened_saved, opened_parts, first_part, tag_length, count_of}
 use Rattle.vp_stream.specs.Answers.{answers_from}
@@ -38,18 +39,18 @@ unfolding over
 over-keeps F zero f a h = refl
 over-keeps F (suc n) f a h = h n (over n f a) ∙ over-keeps F n f a h
 
-row-size : (levels : List Level) (row : ℕ) (p : Image) → size_of (row_filtered levels row p) ≡ size_of p
+row-size : (level : Place → Level) (row : ℕ) (p : Image) → size_of (row_filtered level row p) ≡ size_of p
 unfolding row_filtered
-row-size levels row p = over-keeps size_of _ _ p (λ i x. refl)
+row-size level row p = over-keeps size_of _ _ p (λ i x. refl)
 
-filtered-size : (levels : List Level) (p : Image) → size_of (filtered levels p) ≡ size_of p
+filtered-size : (level : Place → Level) (p : Image) → size_of (filtered level p) ≡ size_of p
 unfolding filtered
-filtered-size levels p = over-keeps size_of _ _ p (λ row x. row-size _ row x)
+filtered-size level p = over-keeps size_of _ _ p (λ row x. row-size _ row x)
 
 picture-size : (f : Frame) → size_of (picture_of f) ≡ (f.width, f.height)
 unfolding picture_of unfiltered
 picture-size f =
-    filtered-size (levels_of f) (unfiltered f)
+    filtered-size f.level (unfiltered f)
     ∙ over-keeps size_of (macroblocks f.height) (row_rebuilt (macroblocks f.width) f.macroblock) (blank_image f.width f.height 0)
     (λ row x. over-keeps size_of (macroblocks f.width) _ x (λ column y. refl))
 

@@ -1,9 +1,9 @@
 use Rattle.std.proofs.Common.{sym, ap}
 use Rattle.vp_base.specs.Image.{Image}
 use Rattle.vp_loop.specs.Filtered.{filtered}
-use Rattle.vp_decode.specs.Frame.{levels_of, picture_of}
+use Rattle.vp_decode.specs.Frame.{picture_of}
 use Rattle.vp_decode.proofs.laws.the_picture_is_the_filtered_solution.Goals as goal
 
 pub returns : goal.returns
 unfolding picture_of
-returns c f p is = ap (λ (q : Image). filtered (levels_of f) q) (sym (c.unfiltered_picture_is_the_one_solution.ensures.one f p is))
+returns c f p is = ap (λ (q : Image). filtered f.level q) (sym (c.unfiltered_picture_is_the_one_solution.ensures.one f p is))

@@ -6,7 +6,7 @@ use Rattle.std.proofs.lemmas.Option.{unwrap_or-slice_get}
 use Rattle.vp_base.specs.declared.place.Place.{Place}
 use Rattle.vp_base.specs.Grid.{Grid, Has, at, entry, repeated, all}
 use Rattle.vp_base.proofs.GridLemmas.{number_fits}
-use Rattle.vp_encode.specs.declared.coded.Macroblock.{Macroblock}
+use Rattle.vp_choose.specs.declared.frame.Choice.{Choice}
 use Rattle.vp_encode.specs.declared.coded.Coded.{Coded}
 use Rattle.vp_encode.specs.Coded.{nothing, macroblock_at}
 use Rattle.vp_head.specs.Reference.{is_intra}
@@ -15,7 +15,7 @@ use Rattle.vp_tokens.specs.Blocks.{no_blocks}
 use Rattle.vp_tokens.specs.Spelled.{AreSpelled}
 use Rattle.vp_encode.proofs.tests.column_of.Goals as goal
 
-all_at : (columns rows : ℕ) (m : Macroblock) (p : Place) → p.column < columns → p.row < rows → at nothing (all columns rows m) p ≡ m
+all_at : (columns rows : ℕ) (m : Choice) (p : Place) → p.column < columns → p.row < rows → at nothing (all columns rows m) p ≡ m
 unfolding entry repeated
 all_at columns rows m p h k =
     rw (lt-ltb p.column columns h)
@@ -45,12 +45,12 @@ returns-clause-told c before =
     let grid : c.in_ok-macroblocks.macroblocks ≡ all 1 c.args.rows m = c.in_ok-macroblocks.ensures in
     let coded : Coded = record { header = h; macroblocks = c.in_ok-macroblocks.macroblocks } in
     let at_p : (p : Place) → Has c.in_ok-macroblocks.macroblocks p → macroblock_at coded p ≡ m = λ p inside.
-    ap (λ (g : Grid Macroblock). at nothing g p) grid
-    ∙ all_at 1 c.args.rows m p (omega (arith, inside.column, ap (λ (g : Grid Macroblock). g.columns) grid)) (omega (arith, inside.row, ap (λ (g : Grid Macroblock). g.rows) grid)) in
+    ap (λ (g : Grid Choice). at nothing g p) grid
+    ∙ all_at 1 c.args.rows m p (omega (arith, inside.column, ap (λ (g : Grid Choice). g.columns) grid)) (omega (arith, inside.row, ap (λ (g : Grid Choice). g.rows) grid)) in
     record {
       header = c.key_header.ensures.spelled;
       modes = λ p inside. rw (at_p p inside) (f.modes h before p c.key_header.ensures.spelled.kind c.key_header.ensures.skip);
-      motion = λ p inside away. absurd (let e : true ≡ false = sym f.intra ∙ ap (λ (x : Macroblock). is_intra x.modes.reference) (sym (at_p p inside)) ∙ away in cc);
+      motion = λ p inside away. absurd (let e : true ≡ false = sym f.intra ∙ ap (λ (x : Choice). is_intra x.modes.reference) (sym (at_p p inside)) ∙ away in cc);
       tokens = record {
         blocks = λ p inside. rw (at_p p inside, f.y2, f.none) none_spelled;
         skipped = λ p inside e. rw (at_p p inside) f.none;

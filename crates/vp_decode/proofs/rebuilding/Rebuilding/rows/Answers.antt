@@ -99,7 +99,7 @@ loop-row-preserved g c =
           ∙ ap (λ (n : ℕ). over n (λ column. rebuilt (macroblock_at f (place row column) (tokens_of f ps (place row column))) (place row column)) c.loop-row.self.picture) columns)
           c.filter_before.ensures.none
           (λ k e. c.filter_before.ensures.one k e
-          ∙ filtered_by_levels f ps p.width p.height k c.row.new.self.levels c.row.new.self.picture level_columns size (omega arith)
+          ∙ filtered_by_levels f ps p.width p.height k c.row.new.self.levels c.row.new.self.picture level_columns size
           (λ column below. next.levels (place k column) (omega arith) (omega (arith, columns))));
     }
 
@@ -120,6 +120,6 @@ returns g c =
     (c.loop-row.invariant.picture ∙ ap (λ (n : ℕ). over (n - 1) (row_filter f ps p.width p.height) (over n (row_builder f ps p.width) p)) all)
     (λ none. c.filter_before-2.ensures.none (rows_all ∙ none))
     (λ k e. c.filter_before-2.ensures.one k (rows_all ∙ e)
-    ∙ filtered_by_levels f ps p.width p.height k c.loop-row.self.levels c.loop-row.self.picture level_columns c.loop-row.invariant.width (omega arith)
+    ∙ filtered_by_levels f ps p.width p.height k c.loop-row.self.levels c.loop-row.self.picture level_columns c.loop-row.invariant.width
     (λ column below. made.levels (place k column) (omega arith) (omega (arith, columns))))
     ∙ frame_made f ps p.width p.height p c.requires.blank

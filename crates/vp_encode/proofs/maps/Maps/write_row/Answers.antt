@@ -4,7 +4,7 @@ use Rattle.vp_bool.specs.Reader.{rows}
 use Rattle.vp_bool.specs.Writing.{Writes}
 use Rattle.vp_encode.proofs.Rows.{rows-written, rows-unwritten}
 use Rattle.vp_decode.specs.Maps.{macroblock_read, row_read, place}
-use Rattle.vp_encode.specs.declared.coded.Macroblock.{Macroblock}
+use Rattle.vp_choose.specs.declared.frame.Choice.{Choice}
 use Rattle.vp_encode.specs.Coded.{nothing, macroblock_at}
 use Rattle.vp_encode.specs.Written.{IsTold}
 use Rattle.vp_encode.proofs.Telling.{row_none, row_next}
@@ -21,7 +21,7 @@ write_macroblock-requires-clause-motion c =
 pub loop-column-preserved : goal.loop-column-preserved
 loop-column-preserved c =
     let same : c.get-macroblock.result.now ≡ macroblock_at c.args.coded.now (place c.args.row c.loop-column.column) = sym (ap (λ o. unwrap_or o nothing) c.get-macroblock.ensures) in
-    let one = subst (λ (x : Macroblock). IsTold (place c.args.row c.loop-column.column) x c.loop-column.self c.write_macroblock.new.self) same c.in_ok-write_macroblock.ensures.told in
+    let one = subst (λ (x : Choice). IsTold (place c.args.row c.loop-column.column) x c.loop-column.self c.write_macroblock.new.self) same c.in_ok-write_macroblock.ensures.told in
     record {
       so_far = rows-written c.loop-column.column (λ column. macroblock_read c.args.coded.now.header (place c.args.row column)) _ _ _ c.loop-column.invariant.so_far c.in_ok-write_macroblock.ensures.writes;
       told = row_next c.args.coded.now c.args.row c.loop-column.column c.args.self.now c.loop-column.self c.write_macroblock.new.self c.loop-column.invariant.told one (c.requires.unmoved _ refl);

@@ -1,0 +1,52 @@
+-- The encoder's choice for a frame, as a packet says it.
+use Rattle.std.specs.Prelude.{◌≡◌, ◌<◌, ◌≤◌, ◌*◌, ℕ, true, List, Ok, map, option_map}
+use Rattle.vp_bool.specs.Bools.{State, start}
+use Rattle.vp_base.specs.declared.limits.Limits.{Limits}
+use Rattle.vp_base.specs.declared.place.Place.{Place}
+use Rattle.vp_base.specs.Image.{Image, blank_image, macroblocks, i420}
+use Rattle.vp_base.specs.Over.{over}
+use Rattle.vp_recon.specs.Source.{Macroblock}
+use Rattle.vp_recon.specs.Rebuilt.{rebuilt, row_rebuilt}
+use Rattle.vp_search.specs.Differences.{sum_of_squares}
+use Rattle.vp_choose.specs.declared.frame.Choice.{Choice}
+use Rattle.vp_choose.specs.Choice.{IsChoice}
+use Rattle.vp_decode.specs.Maps.{modes_in, motion_in, place}
+use Rattle.vp_decode.specs.Frame.{Plan, Frame, frame_of, tokens_of}
+use Rattle.vp_decode.specs.Step.{Opened, opened, plan_of}
+use Rattle.vp_encode.specs.Encoder.{Encoding, kept_for, saved_in, references_in, modes_before, tag_key, header_of, frame_for}
+
+-- a frame's picture before the macroblock at p is rebuilt: the rows above are, and what stands left of it
+abbrev pub rebuilt_before : Frame → Place → Image
+rebuilt_before f p =
+    over p.column (λ column. rebuilt (f.macroblock (place p.row column)) (place p.row column))
+    (over p.row (row_rebuilt (macroblocks f.width) f.macroblock) (blank_image f.width f.height 0))
+
+-- what is read of the macroblock at p
+abbrev pub choice_read : Plan → List State → Place → Choice
+choice_read f partitions p = record {
+  modes = modes_in f.maps p;
+  motion = record { mode = (motion_in f.maps p).mode; vectors = (motion_in f.maps p).vectors };
+  tokens = tokens_of f partitions p;
+}
+
+-- Each macroblock is the choice for the source, over the picture that those before it make and over their motion.
+abbrev pub AreChoices : Encoding → Image → Plan → List State → Type 0
+AreChoices e source f partitions = (p : Place) → p.column < macroblocks e.dim.w → p.row < macroblocks e.dim.h
+    → IsChoice (frame_for e source) (rebuilt_before (frame_of f partitions e.dim.w e.dim.h) p) f.maps.motion p (choice_read f partitions p)
+
+-- The packet, as it is read, is shown and of version 0, has the encoder's header, and is the choice for the source.
+pub record IsChosen (e : Encoding) (source : Image) (packet : List ℕ) : Type 0 where
+  pub opening : Opened
+  pub opens : (limits : Limits) → e.dim.w * e.dim.h ≤ limits.pixels
+      → opened limits (option_map (λ k. k.saved) e.state) packet ≡ Ok opening
+  pub version : opening.tag.version ≡ 0
+  pub shown : opening.tag.show ≡ true
+  pub key : opening.tag.key ≡ tag_key e.dim (kept_for e)
+  pub header : opening.header ≡ header_of e
+  pub choices : AreChoices e source
+      (plan_of opening (references_in (kept_for e)) (modes_before e.dim (kept_for e)) e.dim.w e.dim.h)
+      (map start opening.partitions)
+
+-- the squared distance of two pictures of one size: over the pixels that are shown, of Y, U and V
+abbrev pub squared_distance : Image → Image → ℕ
+squared_distance p q = sum_of_squares (i420 p) (i420 q)

@@ -1,0 +1,160 @@
+-- What an encoder is set to, what it keeps between frames, and what its frames are chosen by.
+use Rattle.std.specs.Prelude.{◌≡◌, ◌<◌, ◌≤◌, ◌⊎◌, ℕ, ◌+◌, ◌-◌, ◌/◌, ◌%◌, ◌==◌, ◌&&◌, min, pos, not, Bool, true, false, Option, Some, None, ◌∷◌, [], is_none, if◌then◌else◌}
+use Rattle.vp_base.specs.declared.limits.Dim.{Dim}
+use Rattle.vp_base.specs.Raster.{Raster, pixel}
+use Rattle.vp_base.specs.Block.{numbers}
+use Rattle.vp_base.specs.Grid.{Grid}
+use Rattle.vp_base.specs.Image.{Image}
+use Rattle.vp_head.specs.declared.fields.Header.{Header}
+use Rattle.vp_head.specs.declared.fields.KeyTag.{KeyTag}
+use Rattle.vp_head.specs.declared.fields.Saved.{Saved}
+use Rattle.vp_head.specs.declared.fields.Segmentation.{Segmentation}
+use Rattle.vp_head.specs.declared.fields.QuantiserIndices.{QuantiserIndices}
+use Rattle.vp_head.specs.declared.fields.ReferenceUpdates.{ReferenceUpdates}
+use Rattle.vp_head.specs.declared.fields.ReferenceProbabilities.{ReferenceProbabilities}
+use Rattle.vp_head.specs.declared.fields.ReferenceCopy.TheVariants.{Nothing}
+use Rattle.vp_head.specs.Header.{no_references}
+use Rattle.vp_head.specs.Saved.{defaults}
+use Rattle.vp_modes.specs.Entry.{Modes}
+use Rattle.vp_modes.specs.Map.{of_segments}
+use Rattle.vp_quant.specs.Quant.{factors}
+use Rattle.vp_refs.specs.References.{References}
+use Rattle.vp_choose.specs.Frame.{Frame, Search, no_biases}
+use Rattle.vp_decode.specs.Step.{Kept, key_before}
+use Rattle.vp_encode.specs.declared.settings.Settings.{Settings}
+use Rattle.vp_encode.specs.Said.{key_tag}
+
+-- settings that an encoder takes
+pub record AreAllowed (s : Settings) : Type 0 where
+  pub quantiser : s.qi ≤ 127
+  pub level : s.level ≤ 63
+  pub sharpness : s.sharpness ≤ 7
+  pub key_every : 0 < s.key_every
+  pub range : s.range ≤ 64
+  pub partitions : (s.partitions ≡ 1) ⊎ (s.partitions ≡ 2) ⊎ (s.partitions ≡ 4) ⊎ (s.partitions ≡ 8)
+
+-- an encoder between frames: what its packets leave, none before the first frame and after a refusal; and how many frames
+-- came since the last key frame began, with that one
+pub record Encoding : Type 0 where
+  pub dim : Dim
+  pub settings : Settings
+  pub state : Option Kept
+  pub since : ℕ
+
+-- ---- the kind of the next frame
+
+-- what it is told over: nothing for a key frame, which comes where no state stands and after every `key_every` frames
+abbrev pub kept_for : Encoding → Option Kept
+kept_for e = if e.since == e.settings.key_every then None else e.state
+
+abbrev pub is_key : Encoding → Bool
+is_key e = is_none (kept_for e)
+
+-- An inter frame refreshes golden where its distance from the key frame is a multiple of `golden_every`.
+abbrev pub refreshes_golden : Encoding → Bool
+refreshes_golden e = not (e.settings.golden_every == 0) && e.since % e.settings.golden_every == 0
+
+-- ---- what is kept for it
+
+abbrev pub saved_in : Option Kept → Saved
+saved_in None = defaults
+saved_in (Some k) = k.saved
+
+abbrev pub references_in : Option Kept → Option References
+references_in None = None
+references_in (Some k) = Some k.references
+
+abbrev pub modes_before : Dim → Option Kept → Grid Modes
+modes_before dim None = key_before dim
+modes_before dim (Some k) = of_segments k.segments
+
+abbrev pub tag_key : Dim → Option Kept → Option KeyTag
+tag_key dim None = Some (key_tag dim)
+tag_key dim (Some k) = None
+
+-- ---- its header (RFC 6386, chapter 9)
+
+-- no segments
+abbrev pub segmentation : Saved → Segmentation
+segmentation saved = record {
+  enabled = false;
+  update_map = false;
+  values = saved.segments;
+  tree_probabilities = 255 ∷ 255 ∷ 255 ∷ [];
+}
+
+-- one index for all factors
+abbrev pub quantiser : ℕ → QuantiserIndices
+quantiser index = record { y_ac = index; y_dc = pos 0; y2_dc = pos 0; y2_ac = pos 0; uv_dc = pos 0; uv_ac = pos 0 }
+
+-- A key frame refreshes all, an inter frame last, and golden at times.
+abbrev pub updates : Bool → Bool → ReferenceUpdates
+updates key golden = record {
+  refresh_golden = if key then true else golden;
+  refresh_alt = key;
+  copy_to_golden = Nothing;
+  copy_to_alt = Nothing;
+  refresh_last = true;
+}
+
+abbrev pub even : ReferenceProbabilities
+even = record { intra = 128; last = 128; golden = 128 }
+
+abbrev pub log2_of : ℕ → ℕ
+log2_of partitions = if partitions == 1 then 0 else if partitions == 2 then 1 else if partitions == 4 then 2 else 3
+
+-- the header of a frame that is told over these values
+abbrev pub header_over : Saved → Bool → Bool → Settings → Header
+header_over saved key golden s = record {
+  key = key;
+  color_space = false;
+  clamping_type = false;
+  segmentation = segmentation saved;
+  filter = record { simple = s.simple; level = s.level; sharpness = s.sharpness };
+  deltas_enabled = false;
+  deltas = saved.deltas;
+  log2_partitions = log2_of s.partitions;
+  quantiser = quantiser s.qi;
+  updates = updates key golden;
+  biases = no_biases;
+  refresh_entropy = true;
+  probabilities = saved.probabilities;
+  skip = Some 128;
+  references = if key then no_references else even;
+}
+
+abbrev pub header_of : Encoding → Header
+header_of e = header_over (saved_in (kept_for e)) (is_key e) (refreshes_golden e) e.settings
+
+-- ---- what its macroblocks are chosen by
+
+-- a plane of which so many columns and rows are the source's: all other numbers are the nearest of those
+abbrev pub continued_plane : ℕ → ℕ → Raster → Raster
+continued_plane width height p = record p {
+  pixels = numbers p.width p.height (λ r c. pixel p (min c (width - 1)) (min r (height - 1)));
+}
+
+-- a colour plane has half as many
+unfoldable pub continued : Image → Image
+continued p = record p {
+  luma = continued_plane p.width p.height p.luma;
+  u = continued_plane ((p.width + 1) / 2) ((p.height + 1) / 2) p.u;
+  v = continued_plane ((p.width + 1) / 2) ((p.height + 1) / 2) p.v;
+}
+
+-- A key frame isn't searched. Golden is searched where it is ever refreshed.
+abbrev pub search_in : Settings → Option Kept → Option Search
+search_in s None = None
+search_in s (Some k) = Some (record {
+  references = k.references;
+  golden = not (s.golden_every == 0);
+  range = s.range;
+  subpel = s.subpel;
+})
+
+abbrev pub frame_for : Encoding → Image → Frame
+frame_for e source = record {
+  source = continued source;
+  factors = factors e.settings.qi (quantiser e.settings.qi);
+  search = search_in e.settings (kept_for e);
+}
