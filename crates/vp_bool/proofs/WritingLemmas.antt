@@ -2,7 +2,7 @@
 use Rattle.std.proofs.Common.{◌≡◌, ℕ, zero, suc, ◌+◌, ◌<◌, ◌^◌, Bool, List, [], ◌∷◌, ◌++◌, refl, sym, ap, ◌∙◌, arith, add-one}
 use Rattle.std.specs.Prelude.{slice_index_or, slice_set}
 use Rattle.vp_bool.specs.Bools.{State, read, literal, start}
-use Rattle.vp_bool.specs.Reader.{Reader, bind, ◌>>=◌, give, each, Reads}
+use Rattle.vp_bool.specs.Reader.{Reader, bind, ◌>>=◌, give, each, rows, Reads}
 use Rattle.vp_bool.specs.Intervals.{Interval, all, write, write_literal}
 use Rattle.vp_bool.specs.Writing.{write_all, AreProbabilities, HasWritten, Continues, Writes}
 use Rattle.vp_bool.specs.RoundTrip.{literal_bools, AreReadBack}
@@ -121,3 +121,15 @@ pub written-said : {A : Type 0} (m : Reader A) (a : A) (old new : Interval) (byt
 written-said m a old new bytes more w o back are =
     let r = back w.bools more w.probabilities (w.appended ∙ ap (write_all w.bools) o) are in
     (r.0, w.taken (start (bytes ++ more)) r.0 r.1)
+
+-- ---- rows
+
+-- one more row
+pub rows-written : {A : Type 0} (n : ℕ) (row : ℕ → A → Reader A) (a b c : A) {old mid new : Interval} → Writes (rows n row a) old mid b → Writes (row n b) mid new c
+    → Writes (rows (n + 1) row a) old new c
+unfolding rows
+rows-written n row a b c so_far one = rw add-one (Writes-then (row n) so_far one)
+
+pub rows-unwritten : {A : Type 0} (row : ℕ → A → Reader A) (a : A) (old : Interval) → Writes (rows 0 row a) old old a
+unfolding rows
+rows-unwritten row a old = Continues-none _ old

@@ -1,4 +1,3 @@
-pub mod Rows
 pub mod Candidates
 pub mod Telling
 pub mod RowLemmas

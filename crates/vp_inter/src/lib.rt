@@ -11,4 +11,5 @@ mod tests;
 mod vector;
 
 pub use block::{predict_block4, predict_block8, predict_block16};
+pub use reference::nearest;
 pub use vector::{PlaneVector, chroma_vector, luma_vector};

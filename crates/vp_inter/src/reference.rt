@@ -7,8 +7,8 @@ use crate::filter::load;
 use std::simd::prelude::*;
 use vp_base::Plane;
 
-/// The nearest to `at` of 0 to `size - 1`.
-fn nearest(at: i32, size: usize) -> usize
+/// The nearest to `at` of 0 to `size - 1`: a reference goes on with its outermost pixels (RFC 6386, chapter 18.1).
+pub fn nearest(at: i32, size: usize) -> usize
     requires some { 0 < size }
     ensures value { result ≡ nearest size at }
     ensures bound { result < size }

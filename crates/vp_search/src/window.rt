@@ -6,19 +6,7 @@ ghost use Rattle.vp_search.specs.Window.{searched_pixel};
 
 use crate::outward::STRIDE;
 use vp_base::{Place, Plane};
-
-/// The nearest to `at` of 0 to `size - 1`.
-fn nearest(at: i32, size: usize) -> usize
-    requires { 0 < size }
-    ensures value { result ≡ nearest size at }
-    ensures bound { result < size }
-{
-    if at < 0 {
-        0
-    } else {
-        (at as usize).min(size - 1)
-    }
-}
+use vp_inter::nearest;
 
 /// Fills the window with the pixels round the macroblock at `place`, `range` of them to each side.
 pub(crate) fn cut_window(window: &mut [u8], reference: &Plane, place: Place, range: u8)

@@ -77,14 +77,9 @@ module _ (p : Probabilities) (has_y2 : Bool) (above left : List Bool) where
 
 -- ---- all of them
 
-pub rows-written : {A : Type 0} (n : ℕ) (row : ℕ → A → Reader A) (a b c : A) {old mid new : Interval} → Writes (rows n row a) old mid b → Writes (row n b) mid new c
-    → Writes (rows (n + 1) row a) old new c
+pub rows-begun : {A : Type 0} (row : ℕ → A → Reader A) (a b : A) (old : Interval) → a ≡ b → Writes (rows 0 row a) old old b
 unfolding rows
-rows-written n row a b c so_far one = rw add-one (Writes-then (row n) so_far one)
-
-pub rows-unwritten : {A : Type 0} (row : ℕ → A → Reader A) (a b : A) (old : Interval) → a ≡ b → Writes (rows 0 row a) old old b
-unfolding rows
-rows-unwritten row a b old same = Continues-given same old
+rows-begun row a b old same = Continues-given same old
 
 pub front_blocks-none : (blocks : List Block) → length blocks ≡ 25 → no_blocks ≡ front_blocks 0 blocks
 front_blocks-none blocks whole = sym (front-none no_tokens 0 blocks (λ k h. absurd (omega arith)) ∙ ap (λ n. replicate n no_tokens) whole)

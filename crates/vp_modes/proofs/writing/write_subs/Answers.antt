@@ -11,7 +11,7 @@ use Rattle.vp_head.specs.declared.fields.Header.{Header}
 use Rattle.vp_head.proofs.Mixed.{mixed, mixed-more, mixed-all}
 use Rattle.vp_modes.specs.Entry.{Modes}
 use Rattle.vp_modes.specs.Modes.{sub_row, sub_mode, sub_modes, sub_probabilities}
-use Rattle.vp_modes.proofs.Rows.{rows-written, rows-unwritten}
+use Rattle.vp_bool.proofs.WritingLemmas.{rows-written, rows-unwritten}
 use Rattle.vp_modes.proofs.writing.write_subs.Goals as goal
 
 row_written : (h : Header) (g : Grid Modes) (p : Place) (k : ℕ) (found : List SubMode) (ps : List ℕ) (m : SubMode) {old new : Interval} → ps ≡ sub_probabilities h g p found k

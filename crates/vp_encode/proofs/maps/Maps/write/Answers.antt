@@ -1,7 +1,7 @@
 use Rattle.std.proofs.Common.{◌≡◌, ◌∙◌, ℕ, sym, subst, arith}
 use Rattle.vp_bool.specs.Reader.{rows}
 use Rattle.vp_bool.specs.Writing.{Writes}
-use Rattle.vp_encode.proofs.Rows.{rows-written, rows-unwritten}
+use Rattle.vp_bool.proofs.WritingLemmas.{rows-written, rows-unwritten}
 use Rattle.vp_decode.specs.Maps.{row_read, maps_read}
 use Rattle.vp_encode.proofs.RowLemmas.{rows_none, rows_next}
 use Rattle.vp_encode.proofs.maps.Maps.write.Goals as goal

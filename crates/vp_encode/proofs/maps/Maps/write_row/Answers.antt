@@ -2,7 +2,7 @@ use Rattle.std.proofs.Common.{◌≡◌, ℕ, refl, sym, ap, subst, arith}
 use Rattle.std.specs.Prelude.{unwrap_or}
 use Rattle.vp_bool.specs.Reader.{rows}
 use Rattle.vp_bool.specs.Writing.{Writes}
-use Rattle.vp_encode.proofs.Rows.{rows-written, rows-unwritten}
+use Rattle.vp_bool.proofs.WritingLemmas.{rows-written, rows-unwritten}
 use Rattle.vp_decode.specs.Maps.{macroblock_read, row_read, place}
 use Rattle.vp_choose.specs.declared.frame.Choice.{Choice}
 use Rattle.vp_encode.specs.Coded.{nothing, macroblock_at}
