@@ -4,3 +4,4 @@ pub mod Prediction
 pub mod Rebuilt
 pub mod Equation
 pub mod Kept
+pub mod Laws

@@ -159,7 +159,11 @@ fn write_moved<const ACROSS: usize>(
     requires rows { 4 * ACROSS * place.row + 4 * ACROSS ≤ (plane_of picture.old plane).height }
     requires wide { 0 < (plane_of reference.now plane).width }
     requires high { 0 < (plane_of reference.now plane).height }
-    ensures { (vector : ℕ → PlaneVector) → (residue : ℕ → List ℤ) → AreVectors (ACROSS * ACROSS) vectors.now vector → AreKept (ACROSS * ACROSS) kept.now residue → picture.new ≡ with_plane picture.old plane (with_block (plane_of picture.old plane) (4 * ACROSS * place.column) (4 * ACROSS * place.row) (4 * ACROSS) (4 * ACROSS) (moved_sum version (plane_of reference.now plane) (4 * ACROSS * place.column) (4 * ACROSS * place.row) ACROSS vector residue)) }
+    ensures { (vector : ℕ → PlaneVector) → (residue : ℕ → List ℤ) → AreVectors (ACROSS * ACROSS) vectors.now vector
+        → AreKept (ACROSS * ACROSS) kept.now residue
+        → picture.new ≡ with_plane picture.old plane
+        (with_block (plane_of picture.old plane) (4 * ACROSS * place.column) (4 * ACROSS * place.row) (4 * ACROSS) (4 * ACROSS)
+        (moved_sum version (plane_of reference.now plane) (4 * ACROSS * place.column) (4 * ACROSS * place.row) ACROSS vector residue)) }
 {
     let _width = picture.plane(plane).width();
     let _height = picture.plane(plane).height();

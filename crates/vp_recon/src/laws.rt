@@ -1,24 +1,18 @@
 //! What holds of a whole unfiltered picture, and of what one macroblock reads and writes, whatever its source.
 
-ghost use Rattle.std.specs.Prelude.{◌≡◌, ℕ, ◌+◌, ◌*◌, ◌-◌, ◌<◌, ◌≤◌, true, slice_index_or};
+ghost use Rattle.std.specs.Prelude.{ℕ, ◌*◌};
 ghost use Rattle.vp_base.specs.declared.place.Place.{Place};
 ghost use Rattle.vp_base.specs.Raster.{Raster};
-ghost use Rattle.vp_base.specs.Image.{Image, IsAligned, AreWhole, macroblocks};
-ghost use Rattle.vp_base.specs.Rows.{AreSameAbove, AreSameFrom, AreOneSize};
-ghost use Rattle.vp_base.specs.Near.{block};
-ghost use Rattle.vp_base.specs.Over.{over};
-ghost use Rattle.vp_tables.specs.Modes.{is_by_subblocks};
+ghost use Rattle.vp_base.specs.Image.{Image, IsAligned, AreWhole};
+ghost use Rattle.vp_base.specs.Rows.{AreSameAbove, AreOneSize};
 ghost use Rattle.vp_modes.specs.Entry.{Modes};
 ghost use Rattle.vp_motion.specs.Vector.{Entry};
 ghost use Rattle.vp_tokens.specs.declared.contexts.Tokens.{Tokens};
-ghost use Rattle.vp_tokens.specs.Blocks.{block_of};
 ghost use Rattle.vp_quant.specs.declared.factors.Factors.{Factors};
-ghost use Rattle.vp_recon.specs.Source.{Macroblock, Intra, Inter, macroblock_of};
-ghost use Rattle.vp_recon.specs.Residue.{residue};
-ghost use Rattle.vp_recon.specs.Rebuilt.{luma_rebuilt, rebuilt, all_rebuilt, with_sub};
+ghost use Rattle.vp_recon.specs.Source.{Macroblock, Inter, macroblock_of};
+ghost use Rattle.vp_recon.specs.Rebuilt.{rebuilt, all_rebuilt};
 ghost use Rattle.vp_recon.specs.Equation.{IsUnfiltered};
-
-use vp_tables::SubMode;
+ghost use Rattle.vp_recon.specs.Laws.{HasOneSolution, ReadsOneRowAbove, ReadsNoRowAbove, IsBySubblocks};
 
 /// Each pixel of a picture whose macroblocks are all rebuilt is its prediction from that picture itself or from a
 /// reference, and its residue (RFC 6386, chapters 5, 12, 14.5 and 18). The picture has the size of that before.
@@ -31,7 +25,7 @@ pub fn unfiltered_picture_solves_its_equation()
 
 /// Two pictures of one size that solve the equation of a frame are equal.
 pub fn unfiltered_equation_has_one_solution()
-    ensures { (f : Place → Macroblock) (p q : Image) → IsAligned p → IsAligned q → AreOneSize p q → AreWhole p → AreWhole q → IsUnfiltered f p → IsUnfiltered f q → p ≡ q }
+    ensures { (f : Place → Macroblock) → HasOneSolution f }
 {}
 
 /// A picture with a macroblock rebuilt has the size of that before, and its planes are as whole.
@@ -50,11 +44,12 @@ pub fn rebuilding_keeps_rows_above()
 /// macroblock is one of them: 1 row of luma and of chroma. An inter macroblock needs no such row: it reads none of its own
 /// picture.
 pub fn rebuilding_reads_one_row_above()
-    ensures any { (m : Macroblock) (place : Place) (p q : Image) (a b : ℕ) → IsAligned p → IsAligned q → AreOneSize p q → place.column < macroblocks p.width → place.row < macroblocks p.height → a ≤ 16 * place.row - 1 → b ≤ 8 * place.row - 1 → AreSameFrom a b p q → AreSameFrom a b (rebuilt m place p) (rebuilt m place q) }
-    ensures inter { (motion : Entry) (reference : Image) (version : ℕ) (tokens : Tokens) (factors : Factors) (place : Place) (p q : Image) (a b : ℕ) → IsAligned p → IsAligned q → AreOneSize p q → AreSameFrom a b p q → AreSameFrom a b (rebuilt (macroblock_of (Inter motion reference version) tokens factors) place p) (rebuilt (macroblock_of (Inter motion reference version) tokens factors) place q) }
+    ensures any { (m : Macroblock) (place : Place) → ReadsOneRowAbove m place }
+    ensures inter { (motion : Entry) (reference : Image) (version : ℕ) (tokens : Tokens) (factors : Factors) (place : Place)
+        → ReadsNoRowAbove (macroblock_of (Inter motion reference version) tokens factors) place }
 {}
 
 /// Luma whose subblocks have modes of their own is rebuilt one of them after another.
 pub fn luma_is_rebuilt_by_subblocks()
-    ensures { (modes : Modes) (tokens : Tokens) (factors : Factors) (place : Place) (p : Raster) → is_by_subblocks modes.luma ≡ true → luma_rebuilt (macroblock_of (Intra modes) tokens factors) place p ≡ over 16 (λ k q. with_sub q (block 4 place k) (slice_index_or modes.subs k SubMode.Dc) (residue (block_of tokens (1 + k)).levels factors.y_dc factors.y_ac)) p }
+    ensures { (modes : Modes) (tokens : Tokens) (factors : Factors) (place : Place) (p : Raster) → IsBySubblocks modes tokens factors place p }
 {}

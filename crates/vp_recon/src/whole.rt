@@ -26,7 +26,10 @@ pub(crate) fn write_whole<const ACROSS: usize>(
     requires kept { length kept.now ≡ ACROSS * ACROSS }
     requires columns { x + 4 * ACROSS ≤ (plane_of picture.old plane).width }
     requires rows { y + 4 * ACROSS ≤ (plane_of picture.old plane).height }
-    ensures { (residue : ℕ → List ℤ) → AreKept (ACROSS * ACROSS) kept.now residue → picture.new ≡ with_plane picture.old plane (with_block (plane_of picture.old plane) x y (4 * ACROSS) (4 * ACROSS) (λ r c. summed (slice_index prediction.now (r * (4 * ACROSS) + c)) (residue_at ACROSS residue r c))) }
+    ensures { (residue : ℕ → List ℤ) → AreKept (ACROSS * ACROSS) kept.now residue
+        → picture.new ≡ with_plane picture.old plane
+        (with_block (plane_of picture.old plane) x y (4 * ACROSS) (4 * ACROSS)
+        (λ r c. summed (slice_index prediction.now (r * (4 * ACROSS) + c)) (residue_at ACROSS residue r c))) }
 {
     let _width = picture.plane(plane).width();
     let _height = picture.plane(plane).height();
