@@ -1,0 +1,29 @@
+-- What a file holds, as lines of text.
+use Rattle.std.specs.Prelude.{ℕ, zero, suc, List, [], ◌∷◌, ◌++◌, length, slice_index_or, codes, decimal}
+use Rattle.vp_head.specs.Names.{name_of}
+use Rattle.vp_decode.specs.declared.decoder.Outcome.{Outcome}
+use Rattle.vp_decode.specs.declared.decoder.Outcome.TheVariants as outcome
+use Rattle.vp_stream.specs.declared.outcomes.Survey.{Survey}
+use Rattle.vp_hub.specs.Pages.{head_lines}
+
+-- what became of a packet
+abbrev pub word_of : Outcome → List ℕ
+word_of outcome.Shown = codes "Shown"
+word_of outcome.Hidden = codes "Hidden"
+word_of (outcome.Fault fault) = name_of fault
+
+-- its number, its bytes, and what became of it
+abbrev pub packet_line : ℕ → ℕ → Outcome → List ℕ
+packet_line number bytes o = decimal number ++ (codes " " ++ (decimal bytes ++ (codes " " ++ (word_of o ++ codes "\n"))))
+
+-- the lines of the first n packets
+unfoldable pub packet_lines : List (ℕ × Outcome) → ℕ → List ℕ
+packet_lines packets zero = []
+packet_lines packets (suc n) =
+    let packet = slice_index_or packets n (0, outcome.Shown) in
+    packet_lines packets n ++ packet_line n packet.0 packet.1
+
+-- the size and the rate, where the head is good, how many packets there are, and a line for each
+abbrev pub survey_text : Survey → List ℕ
+survey_text s =
+    head_lines s.head ++ (codes "packets " ++ (decimal (length s.packets) ++ (codes "\n" ++ packet_lines s.packets (length s.packets))))
