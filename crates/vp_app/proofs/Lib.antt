@@ -1,2 +1,3 @@
 pub mod FeedingLemmas
 pub mod ListingLemmas
+pub mod ServingLemmas

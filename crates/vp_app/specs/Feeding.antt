@@ -1,10 +1,12 @@
 -- Inside the crate: a file that is fed into a hub.
-use Rattle.std.specs.Prelude.{◌≡◌, ◌⊎◌, ℕ, Bool, true, false, List, [], ◌∷◌, ◌++◌, Option, Result, Ok, Err}
+use Rattle.std.specs.Prelude.{◌≡◌, ◌≢◌, ◌⊎◌, ℕ, Bool, true, false, List, [], ◌∷◌, ◌++◌, Option, Some, None, Result, Ok, Err, All, IsOk}
 use Rattle.std.specs.List.{concat}
+use Rattle.std.specs.Option.{option_to_list, option_map}
 use Rattle.std.specs.Io.KnownBytes.{IsAtEnd}
 use Rattle.vp_hub.specs.declared.event.Event.{Event}
 use Rattle.vp_hub.specs.declared.event.Event.TheVariants.{Feed, End}
 use Rattle.vp_hub.specs.declared.event.HubFault.{HubFault}
+use Rattle.vp_hub.specs.declared.event.HubFault.TheVariants.{Memory}
 use Rattle.vp_hub.specs.declared.event.Reply.{Reply}
 use Rattle.vp_hub.specs.Hub.{Outcome, State, IsStep}
 use Rattle.vp_hub.specs.View.{IsRun}
@@ -15,22 +17,32 @@ abbrev pub feeds : List ℕ → List (List ℕ) → List Event
 feeds name [] = []
 feeds name (piece ∷ pieces) = Feed name piece ∷ feeds name pieces
 
--- the last piece was refused, since something is wrong with the file
-abbrev pub IsRefusedLast : List Outcome → Type 0
-IsRefusedLast results = (front : List Outcome) × (fault : HubFault) × (o : Outcome) × (results ≡ front ++ Err fault ∷ o ∷ [])
+-- a piece that was refused, if there is one
+abbrev pub refused : Option HubFault → List Outcome
+refused None = []
+refused (Some fault) = Err fault ∷ []
 
--- the pieces of a file were fed, and then its end was told: all of the file, or up to what is wrong with it
+-- no piece is refused and the reader is at its end; or one is, and not for want of memory
+abbrev pub IsWhole : Option HubFault → Option (List ℕ) → Type 0
+IsWhole None left = IsAtEnd left
+IsWhole (Some fault) left = fault ≢ Memory
+
+-- the pieces of a file were fed, and then its end was told. Each piece is taken, to the end of the file; or up to one that is
+-- refused, since the stream has a fault
 pub record IsFed (name : List ℕ) (old new : State) (file : List ℕ) (left : Option (List ℕ)) : Type 0 where
   pub pieces : List (List ℕ)
-  pub results : List Outcome
+  pub taken : List Outcome
+  pub fault : Option HubFault
+  pub told : Outcome
   pub file_is : file ≡ concat pieces
-  pub run : IsRun old (feeds name pieces ++ End name ∷ []) results new
-  pub whole : IsAtEnd left ⊎ IsRefusedLast results
+  pub run : IsRun old (feeds name pieces ++ End name ∷ []) ((taken ++ refused fault) ++ told ∷ []) new
+  pub all_taken : All IsOk taken
+  pub whole : IsWhole fault left
 
 -- one read: a piece was fed; or the end was told, at the reader's end or behind a piece that was refused
 abbrev pub FeedsPiece : List ℕ → State → State → Result Bool ServiceFault → List ℕ → Option (List ℕ) → Type 0
 FeedsPiece name old new (Ok true) piece left = (reply : Reply) × IsStep old (Feed name piece) (Ok reply) new
 FeedsPiece name old new (Ok false) piece left =
     ((piece ≡ []) × IsAtEnd left × ((o : Outcome) × IsStep old (End name) o new))
-    ⊎ ((fault : HubFault) × (mid : State) × (o : Outcome) × IsStep old (Feed name piece) (Err fault) mid × IsStep mid (End name) o new)
+    ⊎ ((fault : HubFault) × (mid : State) × (o : Outcome) × (fault ≢ Memory) × IsStep old (Feed name piece) (Err fault) mid × IsStep mid (End name) o new)
 FeedsPiece name old new (Err fault) piece left = Unit {0}

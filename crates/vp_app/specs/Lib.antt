@@ -1,3 +1,4 @@
 pub mod Status
 pub mod Feeding
 pub mod Listing
+pub mod Serving

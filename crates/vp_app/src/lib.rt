@@ -1,6 +1,9 @@
 //! The program `vp8`, over any streams.
 #![tactic(auto)]
 
+mod encoding;
+#[cfg(test)]
+mod encoding_tests;
 mod listing;
 mod program;
 mod service;

@@ -3,6 +3,7 @@
 ghost use Rattle.std.specs.Prelude.{◌≡◌, ◌≢◌, ◌≤◌, ◌↔◌, IfOk, IsOk, None, Ok, true};
 ghost use Rattle.vp_app.specs.Status.{status_of};
 
+use crate::encoding::encode;
 use crate::listing::print_survey;
 use crate::service::{ServiceFault, serve};
 use crate::words::{Plan, Refusal, read_words};
@@ -13,6 +14,7 @@ use std::net::{Net, TcpListener, TcpStream};
 use std::rt::{Env, Files};
 use std::{env, fmt, fs, io};
 use vp_base::{Counted, Limits};
+use vp_encode::{EncodeAllFault, EncodeReport};
 use vp_stream::{DecodeFault, Form, Report, Survey, decode_all, survey};
 
 /// Does what the words ask for, of which the first is the program's name, and gives the status that the
@@ -21,6 +23,8 @@ use vp_stream::{DecodeFault, Form, Report, Survey, decode_all, survey};
 /// `vp8 decode IN OUT` writes the pictures of an IVF file as I420, `vp8 decode --y4m IN OUT` as YUV4MPEG2. Faults
 /// are named on `errors`, a line each: `vp8: NAME` where the work ended by it, else `vp8: packet N: NAME`.
 /// Words that ask for nothing are told there too, and then nothing was read and nothing written.
+/// `vp8 encode IN OUT` writes the pictures of a YUV4MPEG2 file as VP8 in an IVF file, once they are all encoded, and tells
+/// `frames N error E` on `errors`: how many there are, and the sum of their squared errors.
 /// `vp8 info IN` prints what an IVF file holds, the packets' faults too. `vp8 serve --listen ADDR --connections N
 /// NAME=FILE...` serves the pictures of files over HTTP, until so many connections were served; a fault of a connection is
 /// named, and the next one is served. The name `-` is `input` or `output`.
@@ -47,6 +51,10 @@ pub fn command<
                 output: to,
             },
         ) => tell(decode(rt, form, from, to, input, output), errors),
+        Ok(Plan::Encode(encoding)) => tell_encoding(
+            encode(rt, &encoding, input, output, errors),
+            errors,
+        ),
         Ok(Plan::Info { input: from }) => tell_survey(look(rt, from, input), output, errors),
         Ok(Plan::Serve(service)) => tell_service(
             serve(rt, &service, input, output, errors),
@@ -142,6 +150,23 @@ fn tell<E: Write>(done: Result<Report, DecodeFault>, errors: &mut Counted<E>) ->
         let _ = writeln!(errors, "vp8: packet {packet}: {fault}");
     }
     if report.faults.is_empty() { 0 } else { 1 }
+}
+
+// Tells how many frames there are and the sum of their squared errors, or names the fault, and gives the status.
+fn tell_encoding<E: Write>(
+    done: Result<EncodeReport, EncodeAllFault>,
+    errors: &mut Counted<E>,
+) -> u8
+    ensures status { result ≤ 1 }
+    ensures well { result ≡ 0 ↔ IsOk done }
+{
+    match done {
+        Ok(report) => {
+            let _ = writeln!(errors, "frames {} error {}", report.frames, report.error);
+            0
+        }
+        Err(fault) => name_end(fault, errors),
+    }
 }
 
 // Prints what was found in a file, names what is wrong with it, and gives the status.

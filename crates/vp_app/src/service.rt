@@ -1,10 +1,13 @@
 //! The server: files are fed into a hub, and then connections are served, one after another.
 
-ghost use Rattle.std.specs.Prelude.{◌≡◌, ◌<◌, ◌≤◌, ◌↔◌, ℕ, List, Ok, Err, IfOk, true, false};
+ghost use Rattle.std.specs.Prelude.{◌≡◌, ◌<◌, ◌≤◌, ℕ, List, Err, IfOk, false};
 ghost use Rattle.std.specs.Io.KnownBytes.{Consumes};
 ghost use Rattle.vp_base.specs.Counted.{counted_remaining};
+ghost use Rattle.vp_hub.specs.Names.{are_names};
+ghost use Rattle.vp_hub.specs.View.{is_memory as hub_is_memory};
 ghost use Rattle.vp_app.specs.declared.service.ServiceFault.{ServiceFault};
 ghost use Rattle.vp_app.specs.Feeding.{FeedsPiece, IsFed};
+ghost use Rattle.vp_app.specs.Serving.{IsFileFed, IsNewHub, IsServed, IsServing, names_of};
 
 use std::alloc::{AllocError, Global};
 use std::io::{Read, Write};
@@ -94,11 +97,12 @@ pub(crate) fn serve<
     input: &mut Counted<R>,
     output: &mut Counted<W>,
     errors: &mut Counted<E>,
-) -> Result<bool, ServiceFault> {
+) -> Result<bool, ServiceFault>
+    // Nothing is printed but the address, where that is asked for.
+    ensures { service.now.show_address ≡ false → output.new ≡ output.old }
+{
     let mut hub = new_hub(rt.alloc(), service)?;
-    for stream in &service.streams {
-        feed_stream(rt, &mut hub, *stream, input)?;
-    }
+    feed_all(rt, &mut hub, &service.streams, input)?;
     if service.connections == 0 {
         return Ok(true);
     }
@@ -112,7 +116,10 @@ pub(crate) fn serve<
 }
 
 // A hub of the streams, which were fed nothing.
-fn new_hub(alloc: Global, service: &Service<'_>) -> Result<Hub, ServiceFault> {
+fn new_hub(alloc: Global, service: &Service<'_>) -> Result<Hub, ServiceFault>
+    ensures hub { IfOk result (λ hub. IsNewHub service.now.streams.items service.now.cache hub) }
+    ensures names { result ≡ Err ServiceFault.Names → are_names (names_of service.now.streams.items) ≡ false }
+{
     let usual = Limits::usual();
     let Some(limits) = Limits::new(
         usual.pixels,
@@ -122,18 +129,24 @@ fn new_hub(alloc: Global, service: &Service<'_>) -> Result<Hub, ServiceFault> {
     ) else {
         unreachable!();
     };
-    let mut names = Vec::new(alloc);
-    for stream in &service.streams {
-        let name = byte_list(alloc, stream.name.as_bytes())?;
-        if names.push(name).is_err() {
-            return Err(ServiceFault::Memory);
-        }
-    }
+    let Ok(names) = stream_names(alloc, &service.streams) else {
+        return Err(ServiceFault::Memory);
+    };
     match Hub::new(alloc, names, limits) {
         Ok(hub) => Ok(hub),
         Err(NewFault::Names) => Err(ServiceFault::Names),
         Err(NewFault::Memory) => Err(ServiceFault::Memory),
     }
+}
+
+fn stream_names(alloc: Global, streams: &[Named<'_>]) -> Result<Vec<ByteList>, AllocError>
+    ensures { IfOk result (λ names. names.items ≡ names_of streams.now) }
+{
+    let mut names = Vec::new(alloc);
+    for stream in streams {
+        names.push(byte_list(alloc, stream.name.as_bytes())?)?;
+    }
+    Ok(names)
 }
 
 fn byte_list(alloc: Global, bytes: &[u8]) -> Result<ByteList, AllocError>
@@ -142,13 +155,29 @@ fn byte_list(alloc: Global, bytes: &[u8]) -> Result<ByteList, AllocError>
     Ok(ByteList::from_vec(bytes.to_vec(alloc)?))
 }
 
+// Feeds each stream in turn.
+fn feed_all<H: Files + AllocGlobal, R: Read>(
+    rt: &H,
+    hub: &mut Hub,
+    streams: &[Named<'_>],
+    input: &mut Counted<R>,
+) -> Result<(), ServiceFault> {
+    for stream in streams {
+        feed_stream(rt, hub, stream, input)?;
+    }
+    Ok(())
+}
+
 // Feeds the file of a stream, and tells its end.
 fn feed_stream<H: Files + AllocGlobal, R: Read>(
     rt: &H,
     hub: &mut Hub,
-    stream: Named<'_>,
+    stream: &Named<'_>,
     input: &mut Counted<R>,
-) -> Result<(), ServiceFault> {
+) -> Result<(), ServiceFault>
+    ensures { IfOk result (λ _. IsFileFed stream.now hub.old.state hub.new.state
+        (counted_remaining R.remaining input.old) (counted_remaining R.remaining input.new)) }
+{
     if stream.file == "-" {
         return feed(rt.alloc(), hub, stream.name, input);
     }
@@ -195,14 +224,20 @@ fn feed_piece<R: Read>(
     }
     let piece = byte_list(alloc, &buffer[..count])?;
     let end = byte_list(alloc, name.as_slice())?;
-    match hub.step(&Event::Feed(name, piece)) {
-        Ok(_) => Ok(true),
-        Err(HubFault::Memory) => Err(ServiceFault::Memory),
-        Err(_) => {
-            let _ = hub.step(&Event::End(end));
-            Ok(false)
-        }
+    let Err(fault) = hub.step(&Event::Feed(name, piece)) else {
+        return Ok(true);
+    };
+    if is_memory(fault) {
+        return Err(ServiceFault::Memory);
     }
+    let _ = hub.step(&Event::End(end));
+    Ok(false)
+}
+
+fn is_memory(fault: HubFault) -> bool
+    ensures { result ≡ hub_is_memory (Err fault) }
+{
+    matches!(fault, HubFault::Memory)
 }
 
 // Serves connections one after another; true where each was served to its end.
@@ -211,7 +246,10 @@ pub(crate) fn serve_each<E: Write>(
     listener: &TcpListener,
     connections: u32,
     errors: &mut Counted<E>,
-) -> bool {
+) -> bool
+    ensures served { IsServing connections hub.old.state result }
+    ensures stays { hub.new.state ≡ hub.old.state }
+{
     let mut well = true;
     for number in 0..connections {
         if let Err(fault) = serve_next(hub, listener, number) {
@@ -222,17 +260,18 @@ pub(crate) fn serve_each<E: Write>(
     well
 }
 
-fn serve_next(hub: &mut Hub, listener: &TcpListener, number: u32) -> Result<(), ServeFault> {
+// Serves the next connection that comes, under this number.
+fn serve_next(hub: &mut Hub, listener: &TcpListener, number: u32) -> Result<(), ServeFault>
+    ensures served { IsServed number hub.old.state result }
+    ensures stays { hub.new.state ≡ hub.old.state }
+{
     let Ok((stream, _)) = listener.accept() else {
         return Err(ServeFault::Device);
     };
     let _ = stream.set_nodelay(true);
-    let served = serve_one(
-        hub,
-        number,
-        &mut Counted::new(&stream),
-        &mut Counted::new(&stream),
-    );
+    let mut reader = Counted::new(&stream);
+    let mut writer = Counted::new(&stream);
+    let served = serve_one(hub, number, &mut reader, &mut writer);
     part(&stream);
     served
 }

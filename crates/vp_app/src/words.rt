@@ -2,9 +2,11 @@
 
 ghost use Rattle.std.specs.Prelude.{◌≡◌};
 
+use crate::encoding::Encoding;
 use crate::service::{Named, Service};
 use clap::{Arg, ArgAction, ArgMatches, Command, Error};
 use std::alloc::{AllocError, Global};
+use vp_encode::Settings;
 use vp_stream::Form;
 
 /// What the words ask for. A file named `-` is a standard stream.
@@ -16,6 +18,8 @@ pub enum Plan<'a> {
         input: &'a str,
         output: &'a str,
     },
+    /// To encode a file of pictures.
+    Encode(Encoding<'a>),
     /// To tell what the file `input` holds.
     Info {
         input: &'a str,
@@ -52,6 +56,7 @@ pub(crate) fn read_words<'a>(alloc: Global, words: &'a [&'a str]) -> Result<Plan
     let matches = program(alloc)?.try_get_matches_from(words)?;
     match matches.subcommand() {
         Some(("decode", found)) => Ok(decode_plan(found)),
+        Some(("encode", found)) => encode_plan(found),
         Some(("info", found)) => Ok(info_plan(found)),
         Some(("serve", found)) => serve_plan(alloc, found),
         _ => Ok(Plan::Unknown),
@@ -60,11 +65,12 @@ pub(crate) fn read_words<'a>(alloc: Global, words: &'a [&'a str]) -> Result<Plan
 
 fn program<'a>(alloc: Global) -> Result<Command<'a>, AllocError> {
     Command::new(alloc, "vp8")
-        .about("Decodes and serves VP8 video")
+        .about("Decodes, encodes and serves VP8 video")
         .version("0.1.0")
         .disable_help_subcommand(true)
         .subcommand_required(true)
         .subcommand(decode_command(alloc)?)?
+        .subcommand(encode_command(alloc)?)?
         .subcommand(info_command(alloc)?)?
         .subcommand(serve_command(alloc)?)
 }
@@ -72,17 +78,85 @@ fn program<'a>(alloc: Global) -> Result<Command<'a>, AllocError> {
 fn decode_command<'a>(alloc: Global) -> Result<Command<'a>, AllocError> {
     Command::new(alloc, "decode")
         .about("Decodes an IVF file into the pictures that are shown, one after another")
-        .arg(
-            Arg::new(alloc, "y4m")
-                .long("y4m")
-                .help("Writes YUV4MPEG2 with size and rate, in place of bare I420")
-                .action(ArgAction::SetTrue),
-        )?
+        .arg(flag(
+            alloc,
+            "y4m",
+            "Writes YUV4MPEG2 with size and rate, in place of bare I420",
+        ))?
         .arg(operand(alloc, "IN", "The IVF file, or - for standard input"))?
         .arg(operand(
             alloc,
             "OUT",
             "The file of pictures, or - for standard output",
+        ))
+}
+
+fn encode_command<'a>(alloc: Global) -> Result<Command<'a>, AllocError> {
+    let command = Command::new(alloc, "encode").about(
+        "Encodes the pictures of a YUV4MPEG2 file as VP8 in an IVF file, and tells how many there are and the sum of their squared errors",
+    );
+    let command = with_frame_settings(alloc, with_macroblock_settings(alloc, command)?)?;
+    command
+        .arg(flag(
+            alloc,
+            "progress",
+            "Tells on standard error after every tenth frame how many are encoded",
+        ))?
+        .arg(operand(alloc, "IN", "The YUV4MPEG2 file, or - for standard input"))?
+        .arg(operand(alloc, "OUT", "The IVF file, or - for standard output"))
+}
+
+// How macroblocks are coded and filtered.
+fn with_macroblock_settings<'a>(
+    alloc: Global,
+    command: Command<'a>,
+) -> Result<Command<'a>, AllocError> {
+    command
+        .arg(setting(
+            alloc,
+            "qi",
+            "The quantiser index, from 0, which loses least, to 127; 32 unless it is said",
+        ))?
+        .arg(setting(
+            alloc,
+            "filter",
+            "The loop filter's level, from 0, which filters nothing, to 63; 16 unless it is said",
+        ))?
+        .arg(setting(
+            alloc,
+            "sharpness",
+            "The loop filter's sharpness, from 0 to 7; 0 unless it is said",
+        ))?
+        .arg(flag(
+            alloc,
+            "simple",
+            "Filters by the simple loop filter, which leaves colour alone",
+        ))
+}
+
+// How frames follow one another.
+fn with_frame_settings<'a>(alloc: Global, command: Command<'a>) -> Result<Command<'a>, AllocError> {
+    command
+        .arg(setting(
+            alloc,
+            "key-every",
+            "How many frames there are from one key frame to the next, at least 1; 64 unless it is said",
+        ))?
+        .arg(setting(
+            alloc,
+            "golden-every",
+            "How many frames there are from one golden picture to the next, or 0 for none but the key frame's; 0 unless it is said",
+        ))?
+        .arg(setting(
+            alloc,
+            "range",
+            "How many pixels a motion vector goes each way at most, from 0 to 64; 16 unless it is said",
+        ))?
+        .arg(flag(alloc, "subpel", "Refines motion vectors to quarter pixels"))?
+        .arg(setting(
+            alloc,
+            "partitions",
+            "How many token partitions a packet has: 1, 2, 4 or 8; 1 unless it is said",
         ))
 }
 
@@ -106,14 +180,11 @@ fn serve_command<'a>(alloc: Global) -> Result<Command<'a>, AllocError> {
             "cache",
             "How many pictures are kept, from 1 to 4096; 16 unless it is said",
         ))?
-        .arg(
-            Arg::new(alloc, "show-address")
-                .long("show-address")
-                .help(
-                    "Prints the address and port that it listens at, which shows the port that was found where 0 is asked for",
-                )
-                .action(ArgAction::SetTrue),
-        )?
+        .arg(flag(
+            alloc,
+            "show-address",
+            "Prints the address and port that it listens at, which shows the port that was found where 0 is asked for",
+        ))?
         .arg(
             operand(
                 alloc,
@@ -130,6 +201,13 @@ fn setting<'a>(alloc: Global, name: &'a str, help: &'a str) -> Arg<'a> {
         .long(name)
         .help(help)
         .action(ArgAction::Set)
+}
+
+fn flag<'a>(alloc: Global, name: &'a str, help: &'a str) -> Arg<'a> {
+    Arg::new(alloc, name)
+        .long(name)
+        .help(help)
+        .action(ArgAction::SetTrue)
 }
 
 fn operand<'a>(alloc: Global, name: &'a str, help: &'a str) -> Arg<'a> {
@@ -152,6 +230,79 @@ fn decode_plan<'a>(found: &ArgMatches<'a>) -> Plan<'a> {
             output,
         },
         _ => Plan::Unknown,
+    }
+}
+
+fn encode_plan<'a>(found: &ArgMatches<'a>) -> Result<Plan<'a>, Refusal> {
+    let (Some(input), Some(output)) = (found.get_str("IN"), found.get_str("OUT")) else {
+        return Ok(Plan::Unknown);
+    };
+    Ok(Plan::Encode(Encoding {
+        settings: encoder_settings(found)?,
+        progress: found.get_flag("progress"),
+        input,
+        output,
+    }))
+}
+
+fn encoder_settings(found: &ArgMatches<'_>) -> Result<Settings, Refusal> {
+    Ok(Settings {
+        qi: byte(
+            found.get_str("qi"),
+            32,
+            "--qi is a decimal number up to 255",
+        )?,
+        level: byte(
+            found.get_str("filter"),
+            16,
+            "--filter is a decimal number up to 255",
+        )?,
+        sharpness: byte(
+            found.get_str("sharpness"),
+            0,
+            "--sharpness is a decimal number up to 255",
+        )?,
+        simple: found.get_flag("simple"),
+        key_every: count(
+            found.get_str("key-every"),
+            64,
+            "--key-every is a decimal number",
+        )?,
+        golden_every: count(
+            found.get_str("golden-every"),
+            0,
+            "--golden-every is a decimal number",
+        )?,
+        range: byte(
+            found.get_str("range"),
+            16,
+            "--range is a decimal number up to 255",
+        )?,
+        subpel: found.get_flag("subpel"),
+        partitions: byte(
+            found.get_str("partitions"),
+            1,
+            "--partitions is a decimal number up to 255",
+        )?,
+    })
+}
+
+// A number of 32 bits, or the usual one where none is said.
+fn count(text: Option<&str>, usual: u32, refusal: &'static str) -> Result<u32, Refusal> {
+    let Some(text) = text else {
+        return Ok(usual);
+    };
+    match decimal(text) {
+        Some(number) => Ok(number),
+        None => Err(Refusal::Value(refusal)),
+    }
+}
+
+// A number of 8 bits, or the usual one where none is said.
+fn byte(text: Option<&str>, usual: u8, refusal: &'static str) -> Result<u8, Refusal> {
+    match u8::try_from(count(text, u32::from(usual), refusal)?) {
+        Ok(number) => Ok(number),
+        Err(_) => Err(Refusal::Value(refusal)),
     }
 }
 

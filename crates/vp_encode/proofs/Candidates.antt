@@ -1,17 +1,21 @@
 -- Candidates look at the macroblocks above and to the left alone.
-use Rattle.std.proofs.Common.{◌≡◌, ◌+◌, ◌*◌, ◌++◌, refl, arith}
-use Rattle.std.specs.Prelude.{Option, Some, None, neg_ℤ, pos, ◌-◌}
+use Rattle.std.proofs.Common.{◌≡◌, ◌∙◌, ◌+◌, ◌*◌, ◌++◌, Bool, true, false, refl, sym, ap, arith}
+use Rattle.std.specs.Prelude.{Option, Some, None, option_map, unwrap_or, nat_lt, slice_get, neg_ℤ, pos, ◌-◌, if◌then◌else◌}
+use Rattle.std.proofs.lemmas.Option.{slice_get-map}
 use Rattle.std.specs.Int.{from_bool}
 use Rattle.std.specs.Option.{option_and_then}
 use Rattle.vp_base.specs.declared.place.Place.{Place}
 use Rattle.vp_base.specs.Place.{above, left, corner}
-use Rattle.vp_base.specs.Grid.{Grid, at, look}
+use Rattle.vp_base.specs.Grid.{Grid, at, look, entry, mapped}
 use Rattle.vp_base.proofs.NearLemmas.{above-some, left-some}
 use Rattle.vp_head.specs.declared.fields.Reference.{Reference}
 use Rattle.vp_head.specs.declared.fields.SignBiases.{SignBiases}
+use Rattle.vp_modes.specs.Entry.{plain}
 use Rattle.vp_motion.specs.Vector.{Entry}
 use Rattle.vp_motion.specs.Map.{intra}
 use Rattle.vp_motion.specs.Near.{neighbours, counted, split_count, splits, within, clamped, candidates, from_entries, still_weight, moving, runs}
+use Rattle.vp_choose.specs.declared.frame.Choice.{Choice}
+use Rattle.vp_encode.specs.Coded.{nothing, entry_of}
 
 look-same : (g h : Grid Entry) (o : Option Place) → ((q : Place) → o ≡ Some q → at intra g q ≡ at intra h q) → look intra g o ≡ look intra h o
 look-same g h None same = refl
@@ -47,3 +51,26 @@ candidates-same g h p r b alike =
       column = clamped (neg_ℤ (pos (64 * (p.column + 1)))) (pos (64 * (alike.columns i - p.column))) v.column;
     })
     (still_weight ws) (2 * from_bool (splits (up i)) + 2 * from_bool (splits (back i)) + from_bool (splits (across i))) (runs (moving ws))
+
+-- ---- the motion of choices
+
+entry_of-nothing : entry_of nothing ≡ intra
+unfolding nothing plain
+entry_of-nothing = refl
+
+chosen-map : (b : Bool) (o : Option Choice) → (if b then option_map entry_of o else None) ≡ option_map entry_of (if b then o else None)
+chosen-map true o = refl
+chosen-map false o = refl
+
+mapped-entry : (g : Grid Choice) (p : Place) → entry (mapped entry_of g) p ≡ option_map entry_of (entry g p)
+unfolding entry
+mapped-entry g p =
+    ap (λ (o : Option Entry). if nat_lt p.column g.columns then o else None) (slice_get-map entry_of g.entries (p.row * g.columns + p.column))
+    ∙ chosen-map (nat_lt p.column g.columns) (slice_get g.entries (p.row * g.columns + p.column))
+
+or_nothing : (o : Option Choice) → unwrap_or (option_map entry_of o) intra ≡ entry_of (unwrap_or o nothing)
+or_nothing None = sym entry_of-nothing
+or_nothing (Some x) = refl
+
+pub motion_by-at : (g : Grid Choice) (p : Place) → at intra (mapped entry_of g) p ≡ entry_of (at nothing g p)
+motion_by-at g p = ap (λ o. unwrap_or o intra) (mapped-entry g p) ∙ or_nothing (entry g p)

@@ -1,6 +1,17 @@
 pub mod Candidates
 pub mod Telling
 pub mod RowLemmas
+pub mod ChoosingLemmas
+pub mod Told
+pub mod SourceLemmas
+pub mod DistanceLemmas
+pub mod Carried
 pub mod TokenLemmas
 pub mod TagLemmas
 pub mod PacketLemmas
+pub mod Showing
+pub mod EncoderLemmas
+pub mod TestLemmas
+pub mod FileLemmas
+pub mod WritingLemmas
+pub mod PlayingLemmas

@@ -1,16 +1,17 @@
 -- What is opened of a packet that was put together.
-use Rattle.std.proofs.Common.{◌≡◌, ◌∙◌, ℕ, zero, suc, ◌+◌, ◌-◌, ◌*◌, ◌^◌, ◌<◌, ◌≤◌, Bool, true, false, List, [], ◌++◌, length, take, drop, map, replicate, refl, sym, ap, subst, arith, append_assoc, length-append}
-use Rattle.std.specs.Prelude.{Option, Some, None, Result, Ok, IsOkAnd, Vec, nat_lt, unwrap_or, slice_get, slice_index_or, if◌then◌else◌}
+use Rattle.std.proofs.Common.{◌≡◌, ◌∙◌, ℕ, zero, suc, ◌+◌, ◌-◌, ◌*◌, ◌^◌, ◌<◌, ◌≤◌, Bool, true, false, List, [], ◌∷◌, ◌++◌, length, take, drop, map, replicate, refl, sym, ap, subst, arith, append_assoc, length-append}
+use Rattle.std.specs.Prelude.{Option, Some, None, Result, Ok, Vec, nat_lt, unwrap_or, slice_get, slice_index_or, if◌then◌else◌}
 use Rattle.std.specs.Global.{Global}
-use Rattle.std.proofs.lemmas.List.{drop_at, take_at, take-map}
+use Rattle.std.proofs.lemmas.List.{drop_at, take_at, take-map, get_or-take, length-map, length-take}
 use Rattle.vp_bool.specs.Bools.{State, start}
 use Rattle.vp_bool.specs.Intervals.{Interval, all}
-use Rattle.vp_bool.specs.Writing.{Writes, HasWritten, write_all}
-use Rattle.vp_bool.proofs.RoundTripLemmas.{write_all-append}
-use Rattle.vp_bool.proofs.WritingLemmas.{reads-append, probabilities-append}
+use Rattle.vp_bool.specs.Reader.{bind, ◌>>=◌, give, Reads}
+use Rattle.vp_bool.specs.Writing.{Continues, Writes, write_all}
+use Rattle.vp_bool.specs.RoundTrip.{partition_of}
+use Rattle.vp_bool.proofs.RoundTripLemmas.{reads_back}
+use Rattle.vp_bool.proofs.WritingLemmas.{Writes-then, Continues-none}
 use Rattle.vp_base.specs.declared.place.Place.{Place}
 use Rattle.vp_base.specs.declared.limits.Dim.{Dim}
-use Rattle.vp_base.specs.declared.limits.Limits.{Limits}
 use Rattle.vp_base.specs.Grid.{Grid, Has, at, entry, repeated, all as everywhere}
 use Rattle.vp_head.specs.declared.fields.Tag.{Tag}
 use Rattle.vp_head.specs.declared.fields.KeyTag.{KeyTag}
@@ -23,18 +24,20 @@ use Rattle.vp_head.specs.Saved.{defaults, kept_after}
 use Rattle.vp_head.specs.Spelled.{kept_before}
 use Rattle.vp_head.specs.Reference.{is_intra}
 use Rattle.vp_modes.specs.Entry.{Modes}
+use Rattle.vp_modes.specs.Map.{of_segments}
 use Rattle.vp_motion.specs.Vector.{Entry}
 use Rattle.vp_motion.specs.Map.{intra}
 use Rattle.vp_refs.specs.References.{References}
 use Rattle.vp_tokens.specs.Partitions.{cut_of, lists, AreBelow24Bits}
 use Rattle.vp_decode.specs.Maps.{Maps, maps_read}
 use Rattle.vp_decode.specs.Frame.{Plan, tokens_of}
-use Rattle.vp_decode.specs.Step.{Opened, opened, opened_saved, opened_tag, plan_of, maps_before, tag_length, first_part, count_of}
+use Rattle.vp_decode.specs.Step.{Opened, opened, opened_saved, opened_tag, plan_of, maps_before, key_before, tag_length, first_part, count_of}
 use Rattle.vp_decode.proofs.CutLemmas.{opened_ok}
 use Rattle.vp_encode.specs.declared.coded.Coded.{Coded}
 use Rattle.vp_encode.specs.Coded.{macroblock_at}
-use Rattle.vp_encode.specs.Said.{key_tag, IsClosed, Says}
-use Rattle.vp_encode.specs.Written.{AreOf, Have, IsFirst, IsPlanOf, IsFinished, IsPacket, tag_bytes, tag_with}
+use Rattle.vp_encode.specs.Said.{key_tag, IsClosed, Says, IsKeyPacket, IsInterPacket}
+use Rattle.vp_encode.specs.Written.{AreOf, Have, finished, first_read, IsFirst, IsPlanOf, IsPacket, tag_bytes, tag_with}
+use Rattle.vp_encode.proofs.TokenLemmas.{one_zero, closed_by, parts_read, parts_closed}
 use Rattle.vp_encode.proofs.TagLemmas.{inter_tag, key_tag_read}
 
 -- ---- the first partition
@@ -54,22 +57,52 @@ unfolding entry repeated
 all_still columns rows p = chosen (nat_lt p.column columns) (slice_get (replicate (rows * columns) intra) (p.row * columns + p.column)) (got (rows * columns) (p.row * columns + p.column))
 
 pub first_said : (kept : Saved) (tag : Tag) (before : Maps) (c : Coded) (maps : Maps) (bytes : List ℕ) {old mid new : Interval} → old ≡ all
-    → Writes (header kept tag) old mid (c.header, kept_after (kept_before kept tag) c.header) → Writes (maps_read c.header before) mid new maps → IsFinished new bytes
+    → Writes (header kept tag) old mid (c.header, kept_after (kept_before kept tag) c.header) → Writes (maps_read c.header before) mid new maps → bytes ≡ finished new
     → AreOf c maps → ((p : Place) → Has c.macroblocks p → Have c p maps) → IsFirst kept tag before c bytes
+unfolding first_read
 first_said kept tag before c maps bytes {old = old} {mid = mid} {new = new} begins h m done size told =
-    let xs = h.bools ++ m.bools in
-    let written : HasWritten xs new = m.appended ∙ ap (write_all m.bools) (h.appended ∙ ap (write_all h.bools) begins) ∙ sym (write_all-append h.bools m.bools all) in
-    let r = done.read xs (probabilities-append h.bools m.bools h.probabilities m.probabilities) written in
-    let parts = reads-append h.bools m.bools (start bytes) r.0 r.1 in
+    let head : Header × Saved = (c.header, kept_after (kept_before kept tag) c.header) in
+    let behind : Continues (maps_read c.header before >>= λ ms. give (head, ms)) (give (head, maps)) mid new =
+    Writes-then (λ ms. give (head, ms)) m (Continues-none (give (head, maps)) new) in
+    let all_of : Writes (first_read kept tag before) old new (head, maps) = Writes-then (λ (x : Header × Saved). maps_read x.0 before >>= λ ms. give (x, ms)) h behind in
     record {
+      bools = all_of.bools;
+      probabilities = all_of.probabilities;
+      bytes_are = done ∙ ap finished (all_of.appended ∙ ap (write_all all_of.bools) begins);
       maps = maps;
-      behind = parts.0;
-      rest = r.0;
-      header_read = h.taken (start bytes) parts.0 parts.1;
-      maps_are = m.taken parts.0 r.0 parts.2;
+      taken = all_of.taken;
       size = size;
       told = told;
-      closed = done.closed;
+    }
+
+-- what is read of a first partition
+record IsReadFirst (kept : Saved) (tag : Tag) (before : Maps) (c : Coded) (bytes : List ℕ) : Type 0 where
+  maps : Maps
+  behind : State
+  rest : State
+  header_read : header kept tag (start bytes) ≡ ((c.header, kept_after (kept_before kept tag) c.header), behind)
+  maps_are : maps_read c.header before behind ≡ (maps, rest)
+  size : AreOf c maps
+  told : (p : Place) → Has c.macroblocks p → Have c p maps
+  closed : IsClosed bytes
+
+first_again : (kept : Saved) (tag : Tag) (before : Maps) (c : Coded) (bytes : List ℕ) → IsFirst kept tag before c bytes → IsReadFirst kept tag before c bytes
+unfolding first_read bind
+first_again kept tag before c bytes x =
+    let r = reads_back x.bools (0 ∷ []) x.probabilities one_zero in
+    let s : State = start bytes in
+    let reads : Reads x.bools s r.0 = subst (λ (b : List ℕ). Reads x.bools (start b) r.0) (sym x.bytes_are) r.1 in
+    let said : first_read kept tag before s ≡ (((c.header, kept_after (kept_before kept tag) c.header), x.maps), r.0) = x.taken s r.0 reads in
+    let head : (header kept tag s).0 ≡ (c.header, kept_after (kept_before kept tag) c.header) = ap (λ (z : ((Header × Saved) × Maps) × State). z.0.0) said in
+    record {
+      maps = x.maps;
+      behind = (header kept tag s).1;
+      rest = r.0;
+      header_read = λ i. (head i, (header kept tag s).1);
+      maps_are = ap (λ (z : Header × Saved). maps_read z.0 before (header kept tag s).1) (sym head) ∙ ap (λ (z : ((Header × Saved) × Maps) × State). (z.0.1, z.1)) said;
+      size = x.size;
+      told = x.told;
+      closed = subst IsClosed (sym x.bytes_are) (closed_by (partition_of x.bools));
     }
 
 -- ---- opening
@@ -112,28 +145,29 @@ same_header kept key m n s = refl
 
 -- ---- what is opened says the frame
 
-module _ (key : Option KeyTag) (kept base : Saved) (references : Option References) (before : Grid Modes) (width height : ℕ) (c : Coded) (packet : List ℕ) where
+module _ (key : Option KeyTag) (kept base : Saved) (before : Grid Modes) (width height : ℕ) (c : Coded) (packet : List ℕ) where
   abbrev maps0 : Maps
   maps0 = maps_before before width height
 
-  says : (x : IsPacket key kept maps0 c packet) (o : Opened) → o ≡ opened_of (tag_with key (length x.first)) c (kept_after base c.header) x.first_is.behind x.parts
+  says : (x : IsPacket key kept maps0 c packet) (first : IsReadFirst kept (tag_with key 0) maps0 c x.first) (o : Opened) (references : Option References)
+      → o ≡ opened_of (tag_with key (length x.first)) c (kept_after base c.header) first.behind x.parts
       → first_part o.tag packet ≡ x.first
       → (references ≡ None → (p : Place) → Has c.macroblocks p → is_intra (macroblock_at c p).modes.reference ≡ true)
       → Says key base references before width height c packet o
   unfolding plan_of
-  says x o is first own =
-      let o_is : Opened = opened_of (tag_with key (length x.first)) c (kept_after base c.header) x.first_is.behind x.parts in
+  says x first o references is first_is own =
       let plan : Plan = plan_of o references before width height in
-      let maps_are : plan.maps ≡ x.first_is.maps =
-      ap (λ (z : Opened). (maps_read z.header maps0 z.first).0) is ∙ ap (λ (r : Maps × State). r.0) x.first_is.maps_are in
-      let told : (p : Place) → Has c.macroblocks p → Have c p plan.maps = λ p inside. subst (λ (m : Maps). Have c p m) (sym maps_are) (x.first_is.told p inside) in
+      let maps_are : plan.maps ≡ first.maps =
+      ap (λ (z : Opened). (maps_read z.header maps0 z.first).0) is ∙ ap (λ (r : Maps × State). r.0) first.maps_are in
+      let told : (p : Place) → Has c.macroblocks p → Have c p plan.maps = λ p inside. subst (λ (m : Maps). Have c p m) (sym maps_are) (first.told p inside) in
       let parts_are : o.partitions ≡ x.parts = ap (λ (z : Opened). z.partitions) is in
       let plan_is : IsPlanOf c plan = record {
         header = ap (λ (z : Opened). z.header) is;
-        size = subst (AreOf c) (sym maps_are) x.first_is.size;
+        size = subst (AreOf c) (sym maps_are) first.size;
         told = told;
         own = own;
       } in
+      let each = x.parts_are.each plan plan_is in
       record {
         version = ap (λ (z : Opened). z.tag.version) is;
         shown = ap (λ (z : Opened). z.tag.show) is;
@@ -142,51 +176,55 @@ module _ (key : Option KeyTag) (kept base : Saved) (references : Option Referenc
         saved = ap (λ (z : Opened). z.saved) is;
         modes = λ p inside. (told p inside).modes;
         motion = λ p inside. (told p inside).motion;
-        tokens = λ p inside. ap (λ (ps : List (List ℕ)). tokens_of plan (map start ps) p) parts_are ∙ x.parts_are.read plan plan_is p inside;
-        first_closed = subst IsClosed (sym first) x.first_is.closed;
-        closed = subst (λ (ps : List (List ℕ)). (i : ℕ) → i < length ps → IsClosed (slice_index_or ps i [])) (sym parts_are) x.parts_are.closed;
+        tokens = λ p inside. ap (λ (ps : List (List ℕ)). tokens_of plan (map start ps) p) parts_are ∙ parts_read plan c each.0 x.parts each.1 each.2 p inside;
+        first_closed = subst IsClosed (sym first_is) first.closed;
+        closed = subst (λ (ps : List (List ℕ)). (i : ℕ) → i < length ps → IsClosed (slice_index_or ps i [])) (sym parts_are) (parts_closed each.0 x.parts each.2);
       }
 
-is_ok_and : (P : Opened → Type 0) (r : Result Opened PacketFault) (o : Opened) → r ≡ Ok o → P o → IsOkAnd r P
-is_ok_and P r o is h = subst (λ (z : Result Opened PacketFault). IsOkAnd z P) (sym is) h
-
-pub key_said : (limits : Limits) (saved : Option Saved) (dim : Dim) (before : Grid Modes) (c : Coded) (packet : List ℕ) → dim.w * dim.h ≤ limits.pixels
-    → IsPacket (Some (key_tag dim)) defaults (maps_before before dim.w dim.h) c packet
-    → ((p : Place) → Has c.macroblocks p → is_intra (macroblock_at c p).modes.reference ≡ true)
-    → IsOkAnd (opened limits saved packet) (Says (Some (key_tag dim)) defaults None before dim.w dim.h c packet)
+pub key_said : (dim : Dim) (c : Coded) (packet : List ℕ) → IsPacket (Some (key_tag dim)) defaults (maps_before (key_before dim) dim.w dim.h) c packet
+    → ((p : Place) → Has c.macroblocks p → is_intra (macroblock_at c p).modes.reference ≡ true) → IsKeyPacket dim c packet
 unfolding opened
-key_said limits saved dim before c packet fits x own =
+key_said dim c packet x own =
     let key : Option KeyTag = Some (key_tag dim) in
+    let before : Grid Modes = key_before dim in
     let n = length x.first in
     let front = tag_bytes key n in
+    let first = first_again defaults (tag_with key 0) (maps_before before dim.w dim.h) c x.first x.first_is in
     let bytes : packet ≡ front ++ (x.first ++ x.together.rest) = x.together.bytes_are in
-    let o : Opened = opened_of (tag_with key n) c (kept_after defaults c.header) x.first_is.behind x.parts in
-    let tag_read : tag_of limits packet ≡ Ok (tag_with key n) = ap (tag_of limits) bytes ∙ key_tag_read limits dim n (x.first ++ x.together.rest) x.short fits in
+    let o : Opened = opened_of (tag_with key n) c (kept_after defaults c.header) first.behind x.parts in
     let first_is : first_part (tag_with key n) packet ≡ x.first = ap (first_part (tag_with key n)) bytes ∙ first_part_is (tag_with key n) front x.first x.together.rest refl refl in
-    let is : opened_tag (tag_of limits packet) saved packet ≡ Ok o =
-    ap (λ (r : Result Tag PacketFault). opened_tag r saved packet) tag_read
-    ∙ ap (opened_saved (tag_with key n) (Some defaults)) bytes
-    ∙ opened_by (tag_with key n) defaults front x.first x.together.rest c (kept_after defaults c.header) x.first_is.behind x.parts refl refl
-    (same_header defaults key n 0 (start x.first) ∙ x.first_is.header_read) x.parts_are.count x.together.cut in
-    is_ok_and (Says key defaults None before dim.w dim.h c packet) (opened_tag (tag_of limits packet) saved packet) o is (says key defaults defaults None before dim.w dim.h c packet x o refl first_is (λ none. own))
+    record {
+      opening = o;
+      opens = λ limits saved fits.
+          let tag_read : tag_of limits packet ≡ Ok (tag_with key n) = ap (tag_of limits) bytes ∙ key_tag_read limits dim n (x.first ++ x.together.rest) x.short fits in
+          ap (λ (r : Result Tag PacketFault). opened_tag r saved packet) tag_read
+          ∙ ap (opened_saved (tag_with key n) (Some defaults)) bytes
+          ∙ opened_by (tag_with key n) defaults front x.first x.together.rest c (kept_after defaults c.header) first.behind x.parts refl refl
+          (same_header defaults key n 0 (start x.first) ∙ first.header_read) x.parts_are.count x.together.cut;
+      says = says key defaults defaults before dim.w dim.h c packet x first o None refl first_is (λ none. own);
+    }
 
-pub inter_said : (limits : Limits) (saved : Saved) (references : References) (before : Grid Modes) (width height : ℕ) (c : Coded) (packet : List ℕ)
-    → IsPacket None saved (maps_before before width height) c packet
-    → IsOkAnd (opened limits (Some saved) packet) (Says None saved (Some references) before width height c packet)
+pub inter_said : (dim : Dim) (saved : Saved) (segments : Grid ℕ) (c : Coded) (packet : List ℕ) → IsPacket None saved (maps_before (of_segments segments) dim.w dim.h) c packet
+    → IsInterPacket dim saved segments c packet
 unfolding opened
-inter_said limits saved references before width height c packet x =
+inter_said dim saved segments c packet x =
+    let before : Grid Modes = of_segments segments in
     let n = length x.first in
     let front = tag_bytes None n in
+    let first = first_again saved (tag_with None 0) (maps_before before dim.w dim.h) c x.first x.first_is in
     let bytes : packet ≡ front ++ (x.first ++ x.together.rest) = x.together.bytes_are in
-    let o : Opened = opened_of (tag_with None n) c (kept_after saved c.header) x.first_is.behind x.parts in
-    let tag_read : tag_of limits packet ≡ Ok (tag_with None n) = ap (tag_of limits) bytes ∙ inter_tag limits n (x.first ++ x.together.rest) x.short in
+    let o : Opened = opened_of (tag_with None n) c (kept_after saved c.header) first.behind x.parts in
     let first_is : first_part (tag_with None n) packet ≡ x.first = ap (first_part (tag_with None n)) bytes ∙ first_part_is (tag_with None n) front x.first x.together.rest refl refl in
-    let is : opened_tag (tag_of limits packet) (Some saved) packet ≡ Ok o =
-    ap (λ (r : Result Tag PacketFault). opened_tag r (Some saved) packet) tag_read
-    ∙ ap (opened_saved (tag_with None n) (Some saved)) bytes
-    ∙ opened_by (tag_with None n) saved front x.first x.together.rest c (kept_after saved c.header) x.first_is.behind x.parts refl refl
-    (same_header saved None n 0 (start x.first) ∙ x.first_is.header_read) x.parts_are.count x.together.cut in
-    is_ok_and (Says None saved (Some references) before width height c packet) (opened_tag (tag_of limits packet) (Some saved) packet) o is (says None saved saved (Some references) before width height c packet x o refl first_is (λ none. absurd cc))
+    record {
+      opening = o;
+      opens = λ limits.
+          let tag_read : tag_of limits packet ≡ Ok (tag_with None n) = ap (tag_of limits) bytes ∙ inter_tag limits n (x.first ++ x.together.rest) x.short in
+          ap (λ (r : Result Tag PacketFault). opened_tag r (Some saved) packet) tag_read
+          ∙ ap (opened_saved (tag_with None n) (Some saved)) bytes
+          ∙ opened_by (tag_with None n) saved front x.first x.together.rest c (kept_after saved c.header) first.behind x.parts refl refl
+          (same_header saved None n 0 (start x.first) ∙ first.header_read) x.parts_are.count x.together.cut;
+      says = λ references. says None saved saved before dim.w dim.h c packet x first o (Some references) refl first_is (λ none. absurd cc);
+    }
 
 -- ---- how many partitions
 
@@ -199,7 +237,24 @@ count_small (suc (suc (suc zero))) h = (omega arith, omega arith)
 count_small (suc (suc (suc (suc n)))) h = absurd (omega (arith, h))
 
 -- the parts but the last, in what the code has at hand
+parts_but_last : (xs ys : List (Vec ℕ Global)) (n : ℕ) → xs ≡ ys → n ≡ length ys → lists (take (n - 1) xs) ≡ take (length ys - 1) (lists ys)
+parts_but_last xs ys n same long = (λ i. lists (take (long i - 1) (same i))) ∙ sym (take-map (λ v. v.items) (length ys - 1) ys)
+
 pub short_parts : (xs ys : List (Vec ℕ Global)) (n : ℕ) → xs ≡ ys → n ≡ length ys → AreBelow24Bits (lists (take (n - 1) xs)) → AreBelow24Bits (take (length ys - 1) (lists ys))
-short_parts xs ys n same long below =
-    let e : lists (take (n - 1) xs) ≡ take (length ys - 1) (lists ys) = (λ i. lists (take (long i - 1) (same i))) ∙ sym (take-map (λ v. v.items) (length ys - 1) ys) in
-    subst AreBelow24Bits e below
+short_parts xs ys n same long below = subst AreBelow24Bits (parts_but_last xs ys n same long) below
+
+-- a part that is not the last is as long among all
+within_all : (ps : List (List ℕ)) (k i : ℕ) → i < length (take k ps) → 2 ^ 24 ≤ length (slice_index_or (take k ps) i []) → (i < k) × (2 ^ 24 ≤ length (slice_index_or ps i []))
+within_all ps k i below long =
+    let inside : i < k = omega (arith, length-take k ps) in
+    (inside, subst (λ (p : List ℕ). 2 ^ 24 ≤ length p) (get_or-take k ps i [] inside) long)
+
+pub long_part : (xs ys : List (Vec ℕ Global)) (n : ℕ) → xs ≡ ys → n ≡ length ys
+    → (i : ℕ) × (i < length (take (n - 1) xs)) × (2 ^ 24 ≤ length (slice_index_or (lists (take (n - 1) xs)) i []))
+    → (i : ℕ) × (i < length (lists ys) - 1) × (2 ^ 24 ≤ length (slice_index_or (lists ys) i []))
+long_part xs ys n same long found =
+    let i = found.0 in
+    let e : lists (take (n - 1) xs) ≡ take (length ys - 1) (lists ys) = parts_but_last xs ys n same long in
+    let inside : i < length (take (length ys - 1) (lists ys)) = omega (arith, found.1, length-map (take (n - 1) xs) (λ v. v.items), ap length e) in
+    let is = within_all (lists ys) (length ys - 1) i inside (subst (λ (ps : List (List ℕ)). 2 ^ 24 ≤ length (slice_index_or ps i [])) e found.2) in
+    (i, omega (arith, is.0, length-map ys (λ v. v.items)), is.1)

@@ -1,13 +1,12 @@
 -- How rows of macroblocks follow one another in the first partition.
-use Rattle.std.proofs.Common.{◌≡◌, ◌∙◌, ℕ, ◌+◌, ◌<◌, ◌*◌, Bool, true, false, refl, sym, ap, subst, arith, inl, inr}
-use Rattle.std.specs.Prelude.{Option, Some, None, option_map, unwrap_or, nat_lt, slice_get, if◌then◌else◌}
+use Rattle.std.proofs.Common.{◌≡◌, ◌∙◌, ℕ, ◌+◌, ◌<◌, false, refl, sym, ap, subst, arith, inl, inr}
+use Rattle.std.specs.Prelude.{Some, unwrap_or}
 use Rattle.std.proofs.lemmas.Bool.{cases_lt}
-use Rattle.std.proofs.lemmas.Option.{slice_get-map}
 use Rattle.vp_base.specs.declared.place.Place.{Place}
-use Rattle.vp_base.specs.Grid.{Grid, at, entry, mapped}
+use Rattle.vp_base.specs.Grid.{Grid, at, entry}
 use Rattle.vp_head.specs.Reference.{is_intra}
-use Rattle.vp_modes.specs.Entry.{Modes, plain}
-use Rattle.vp_motion.specs.Vector.{Entry, Candidates}
+use Rattle.vp_modes.specs.Entry.{Modes}
+use Rattle.vp_motion.specs.Vector.{Candidates}
 use Rattle.vp_motion.specs.Map.{intra}
 use Rattle.vp_motion.specs.Near.{candidates}
 use Rattle.vp_motion.specs.Spelled.{CanBeWritten}
@@ -16,30 +15,12 @@ use Rattle.vp_choose.specs.declared.frame.Choice.{Choice}
 use Rattle.vp_encode.specs.declared.coded.Coded.{Coded}
 use Rattle.vp_encode.specs.Coded.{nothing, macroblock_at, entry_of, motion_of, IsMotionSpelled}
 use Rattle.vp_encode.specs.Written.{AreOf, Have, AreRowsTold, IsRowTold}
-use Rattle.vp_encode.proofs.Candidates.{AreAlikeAround, candidates-same}
+use Rattle.vp_encode.proofs.Candidates.{AreAlikeAround, candidates-same, motion_by-at}
 
 -- ---- the motion of the frame
 
-entry_of-nothing : entry_of nothing ≡ intra
-unfolding nothing plain
-entry_of-nothing = refl
-
-chosen-map : (b : Bool) (o : Option Choice) → (if b then option_map entry_of o else None) ≡ option_map entry_of (if b then o else None)
-chosen-map true o = refl
-chosen-map false o = refl
-
-mapped-entry : (g : Grid Choice) (p : Place) → entry (mapped entry_of g) p ≡ option_map entry_of (entry g p)
-unfolding entry
-mapped-entry g p =
-    ap (λ (o : Option Entry). if nat_lt p.column g.columns then o else None) (slice_get-map entry_of g.entries (p.row * g.columns + p.column))
-    ∙ chosen-map (nat_lt p.column g.columns) (slice_get g.entries (p.row * g.columns + p.column))
-
-or_nothing : (o : Option Choice) → unwrap_or (option_map entry_of o) intra ≡ entry_of (unwrap_or o nothing)
-or_nothing None = sym entry_of-nothing
-or_nothing (Some x) = refl
-
 pub motion_of-at : (c : Coded) (p : Place) → at intra (motion_of c) p ≡ entry_of (macroblock_at c p)
-motion_of-at c p = ap (λ o. unwrap_or o intra) (mapped-entry c.macroblocks p) ∙ or_nothing (entry c.macroblocks p)
+motion_of-at c p = motion_by-at c.macroblocks p
 
 -- ---- the vectors of a macroblock are told over those of the frame
 

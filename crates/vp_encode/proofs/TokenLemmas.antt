@@ -2,15 +2,14 @@
 use Rattle.std.proofs.Common.{◌≡◌, ◌∙◌, ℕ, zero, suc, ◌+◌, ◌-◌, ◌%◌, ◌<◌, Bool, true, List, [], ◌∷◌, ◌++◌, length, replicate, map, refl, sym, ap, subst, arith, inl, inr, get_or, length-append, add-one}
 use Rattle.std.specs.Prelude.{slice_index, slice_index_or, slice_set, Option, Some, None, unwrap_or}
 use Rattle.std.proofs.lemmas.Bool.{cases_Bool, cases_lt, cases_eq}
-use Rattle.std.proofs.lemmas.List.{length-set, get_or-set_same, get_or-set_other, length-replicate, ext_get_or, length-map}
-use Rattle.std.proofs.Math.ListN.{get_or-map}
+use Rattle.std.proofs.lemmas.List.{length-set, get_or-set_same, get_or-set_other, length-replicate, ext_get_or, length-map, get_or-map}
 use Rattle.vp_bool.specs.Bools.{State, start}
 use Rattle.vp_bool.specs.Reader.{Reads, bind, rows}
 use Rattle.vp_bool.specs.Intervals.{Interval, all}
 use Rattle.vp_bool.specs.Writing.{Writes, AreProbabilities, HasWritten, write_all}
-use Rattle.vp_bool.specs.RoundTrip.{AreReadBack}
+use Rattle.vp_bool.specs.RoundTrip.{partition_of}
 use Rattle.vp_bool.specs.Window.{AreBytes}
-use Rattle.vp_bool.proofs.RoundTripLemmas.{write_all-append}
+use Rattle.vp_bool.proofs.RoundTripLemmas.{write_all-append, reads_back}
 use Rattle.vp_bool.proofs.WritingLemmas.{reads-append, probabilities-append, probabilities-none, written-none, written-more}
 use Rattle.vp_base.specs.declared.place.Place.{Place}
 use Rattle.vp_base.specs.Grid.{Grid, Has, at, entry, with_entry}
@@ -28,11 +27,11 @@ use Rattle.vp_choose.specs.declared.frame.Choice.{Choice}
 use Rattle.vp_encode.specs.declared.coded.Coded.{Coded}
 use Rattle.vp_encode.specs.Coded.{nothing, macroblock_at, entry_of, has_y2}
 use Rattle.vp_encode.specs.Said.{IsClosed}
-use Rattle.vp_encode.specs.Written.{IsPlanOf, IsTokenRow, AllRead, AreTokenRows, none_seen, IsFinished}
+use Rattle.vp_encode.specs.Written.{finished, partition, IsPlanOf, IsTokenRow, AllRead, AreTokenRows, AreTokens, none_seen}
 
 -- ---- a partition with its byte of 0
 
-one_zero : AreBytes (0 ∷ [])
+pub one_zero : AreBytes (0 ∷ [])
 one_zero zero = omega arith
 one_zero (suc i) = omega arith
 
@@ -40,17 +39,11 @@ last_is : (xs : List ℕ) (x : ℕ) → slice_index (xs ++ x ∷ []) (length xs)
 last_is [] x = refl
 last_is (y ∷ ys) x = last_is ys x
 
-closed_by : (xs : List ℕ) → IsClosed (xs ++ 0 ∷ [])
+pub closed_by : (xs : List ℕ) → IsClosed (xs ++ 0 ∷ [])
 closed_by xs = record {
   some = omega (arith, length-append xs (0 ∷ []));
   last = let e : length (xs ++ 0 ∷ []) - 1 ≡ length xs = omega (arith, length-append xs (0 ∷ [])) in rw e (last_is xs 0);
 }
-
-pub finished : (e : Interval) (bytes all_bytes : List ℕ) → AreReadBack e bytes → all_bytes ≡ bytes ++ 0 ∷ [] → IsFinished e all_bytes
-finished e bytes all_bytes back is = rw is (record {
-  read = λ xs ps w. back xs (0 ∷ []) ps w one_zero;
-  closed = closed_by bytes;
-})
 
 -- ---- what a plan of the frame reads at a place
 
@@ -308,31 +301,53 @@ states_of (suc n) P each =
     at_each n P t ts here there zero below = here
     at_each n P t ts here there (suc i) below = there i (omega arith)
 
-pub frame_read : (f : Plan) (c : Coded) (contexts : Contexts) (es : List Interval) (parts : List (List ℕ)) → AreTokenRows f c c.macroblocks.rows contexts es
-    → length parts ≡ length es → ((i : ℕ) → i < length es → IsFinished (slice_index_or es i all) (slice_index_or parts i []))
+-- the partitions of bools, by what was written into each
+same_partitions : (bss : List (List (Bool × ℕ))) (es : List Interval) → length bss ≡ length es
+    → ((i : ℕ) → i < length es → HasWritten (slice_index_or bss i []) (slice_index_or es i all)) → map finished es ≡ map partition bss
+same_partitions [] [] same written = refl
+same_partitions [] (e ∷ es) same written = absurd (omega arith)
+same_partitions (bs ∷ bss) [] same written = absurd (omega arith)
+same_partitions (bs ∷ bss) (e ∷ es) same written =
+    let first = written 0 (omega arith) in
+    let more = same_partitions bss es (omega arith) (λ i below. written (suc i) (omega arith)) in
+    λ i. finished (first i) ∷ more i
+
+pub frame_written : (f : Plan) (c : Coded) (contexts : Contexts) (es : List Interval) (parts : List (List ℕ)) → AreTokenRows f c c.macroblocks.rows contexts es
+    → parts ≡ map finished es → (bools : List (List (Bool × ℕ))) × AreTokens f c bools × (parts ≡ map partition bools)
+frame_written f c contexts es parts made are = (
+  made.bools,
+  record {
+    probabilities = made.probabilities;
+    tokens = λ ss ts reads p inside. made.tokens ss ts reads p inside.row inside.column;
+    rests = λ ss ts reads. ap (λ (r : Readings). r.rests) (made.taken ss ts reads);
+  },
+  are ∙ same_partitions made.bools es made.count made.written,
+)
+
+-- one of the partitions
+part_is : (bools : List (List (Bool × ℕ))) (parts : List (List ℕ)) (i : ℕ) → parts ≡ map partition bools → i < length bools → slice_index_or parts i [] ≡ partition (bools_of bools i)
+part_is bools parts i are below = ap (λ (ps : List (List ℕ)). slice_index_or ps i []) are ∙ get_or-map partition bools i [] [] below
+
+pub parts_read : (f : Plan) (c : Coded) (bools : List (List (Bool × ℕ))) (parts : List (List ℕ)) → AreTokens f c bools → parts ≡ map partition bools
     → (p : Place) → Has c.macroblocks p → tokens_of f (map start parts) p ≡ (macroblock_at c p).tokens
-frame_read f c contexts es parts made count finished_ p inside =
-    let n : length (map start parts) ≡ length made.bools = length-map parts start ∙ count ∙ sym made.count in
-    let each : (i : ℕ) → i < length made.bools → (t : State) × Reads (bools_of made.bools i) (left (map start parts) i) t =
+parts_read f c bools parts x are p inside =
+    let count : length parts ≡ length bools = ap length are ∙ length-map bools partition in
+    let n : length (map start parts) ≡ length bools = length-map parts start ∙ count in
+    let each : (i : ℕ) → i < length bools → (t : State) × Reads (bools_of bools i) (left (map start parts) i) t =
     λ i below.
-    let there : i < length es = omega (arith, made.count) in
-    let r = (finished_ i there).read (bools_of made.bools i) (made.probabilities i) (made.written i there) in
-    (r.0, rw (get_or-map start parts i []) r.1) in
-    let ts = states_of (length made.bools) (λ i t. Reads (bools_of made.bools i) (left (map start parts) i) t) each in
-    made.tokens (map start parts) ts.0 (n, ts.1, ts.2) p inside.row inside.column
+    let r = reads_back (bools_of bools i) (0 ∷ []) (x.probabilities i) one_zero in
+    let here : left (map start parts) i ≡ start (partition (bools_of bools i)) =
+    get_or-map start parts i [] (start []) (omega arith) ∙ ap start (part_is bools parts i are below) in
+    (r.0, subst (λ (s : State). Reads (bools_of bools i) s r.0) (sym here) r.1) in
+    let ts = states_of (length bools) (λ i t. Reads (bools_of bools i) (left (map start parts) i) t) each in
+    x.tokens (map start parts) ts.0 (n, ts.1, ts.2) p inside
+
+pub parts_closed : (bools : List (List (Bool × ℕ))) (parts : List (List ℕ)) → parts ≡ map partition bools → (i : ℕ) → i < length parts → IsClosed (slice_index_or parts i [])
+parts_closed bools parts are i below =
+    let within : i < length bools = omega (arith, ap length are, length-map bools partition) in
+    subst IsClosed (sym (part_is bools parts i are within)) (closed_by (partition_of (bools_of bools i)))
 
 -- ---- one after another
-
-pub finished_more : (es : List Interval) (ps : List (List ℕ)) (e : Interval) (p : List ℕ) → length ps ≡ length es
-    → ((i : ℕ) → i < length es → IsFinished (slice_index_or es i all) (slice_index_or ps i [])) → IsFinished e p
-    → (i : ℕ) → i < length (es ++ e ∷ []) → IsFinished (slice_index_or (es ++ e ∷ []) i all) (slice_index_or (ps ++ p ∷ []) i [])
-finished_more [] [] e p same each last zero below = last
-finished_more [] [] e p same each last (suc i) below = absurd (omega arith)
-finished_more [] (q ∷ ps) e p same each last i below = absurd (omega arith)
-finished_more (x ∷ es) [] e p same each last i below = absurd (omega arith)
-finished_more (x ∷ es) (q ∷ ps) e p same each last zero below = each 0 (omega arith)
-finished_more (x ∷ es) (q ∷ ps) e p same each last (suc i) below =
-    finished_more es ps e p (omega arith) (λ j under. each (suc j) (omega arith)) last i (omega arith)
 
 pub no_items : {A : Type 0} (xs : List A) → length xs ≡ 0 → xs ≡ []
 no_items [] e = refl

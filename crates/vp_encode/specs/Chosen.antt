@@ -6,20 +6,19 @@ use Rattle.vp_base.specs.declared.place.Place.{Place}
 use Rattle.vp_base.specs.Image.{Image, blank_image, macroblocks, i420}
 use Rattle.vp_base.specs.Over.{over}
 use Rattle.vp_recon.specs.Source.{Macroblock}
-use Rattle.vp_recon.specs.Rebuilt.{rebuilt, row_rebuilt}
+use Rattle.vp_recon.specs.Rebuilt.{row_rebuilt}
 use Rattle.vp_search.specs.Differences.{sum_of_squares}
 use Rattle.vp_choose.specs.declared.frame.Choice.{Choice}
 use Rattle.vp_choose.specs.Choice.{IsChoice}
-use Rattle.vp_decode.specs.Maps.{modes_in, motion_in, place}
-use Rattle.vp_decode.specs.Frame.{Plan, Frame, frame_of, tokens_of}
+use Rattle.vp_decode.specs.Maps.{modes_in, motion_in}
+use Rattle.vp_decode.specs.Frame.{Plan, frame_of, tokens_of}
 use Rattle.vp_decode.specs.Step.{Opened, opened, plan_of}
-use Rattle.vp_encode.specs.Encoder.{Encoding, kept_for, saved_in, references_in, modes_before, tag_key, header_of, frame_for}
+use Rattle.vp_encode.specs.Encoder.{Encoding, kept_for, references_in, modes_before, tag_key, header_of, frame_for}
 
--- a frame's picture before the macroblock at p is rebuilt: the rows above are, and what stands left of it
-abbrev pub rebuilt_before : Frame → Place → Image
-rebuilt_before f p =
-    over p.column (λ column. rebuilt (f.macroblock (place p.row column)) (place p.row column))
-    (over p.row (row_rebuilt (macroblocks f.width) f.macroblock) (blank_image f.width f.height 0))
+-- a picture of so many columns and rows before the macroblock at p is rebuilt: the rows above are, and what stands left of it
+abbrev pub rebuilt_before : ℕ → ℕ → (Place → Macroblock) → Place → Image
+rebuilt_before width height f p =
+    row_rebuilt p.column f p.row (over p.row (row_rebuilt (macroblocks width) f) (blank_image width height 0))
 
 -- what is read of the macroblock at p
 abbrev pub choice_read : Plan → List State → Place → Choice
@@ -32,7 +31,7 @@ choice_read f partitions p = record {
 -- Each macroblock is the choice for the source, over the picture that those before it make and over their motion.
 abbrev pub AreChoices : Encoding → Image → Plan → List State → Type 0
 AreChoices e source f partitions = (p : Place) → p.column < macroblocks e.dim.w → p.row < macroblocks e.dim.h
-    → IsChoice (frame_for e source) (rebuilt_before (frame_of f partitions e.dim.w e.dim.h) p) f.maps.motion p (choice_read f partitions p)
+    → IsChoice (frame_for e source) (rebuilt_before e.dim.w e.dim.h (frame_of f partitions e.dim.w e.dim.h).macroblock p) f.maps.motion p (choice_read f partitions p)
 
 -- The packet, as it is read, is shown and of version 0, has the encoder's header, and is the choice for the source.
 pub record IsChosen (e : Encoding) (source : Image) (packet : List ℕ) : Type 0 where

@@ -131,7 +131,7 @@ header_of e = header_over (saved_in (kept_for e)) (is_key e) (refreshes_golden e
 -- a plane of which so many columns and rows are the source's: all other numbers are the nearest of those
 abbrev pub continued_plane : ℕ → ℕ → Raster → Raster
 continued_plane width height p = record p {
-  pixels = numbers p.width p.height (λ r c. pixel p (min c (width - 1)) (min r (height - 1)));
+  pixels = numbers p.width p.height (λ x y. pixel p (min x (width - 1)) (min y (height - 1)));
 }
 
 -- a colour plane has half as many
@@ -152,9 +152,12 @@ search_in s (Some k) = Some (record {
   subpel = s.subpel;
 })
 
-abbrev pub frame_for : Encoding → Image → Frame
-frame_for e source = record {
+abbrev pub frame_over : Option Kept → Settings → Image → Frame
+frame_over kept s source = record {
   source = continued source;
-  factors = factors e.settings.qi (quantiser e.settings.qi);
-  search = search_in e.settings (kept_for e);
+  factors = factors s.qi (quantiser s.qi);
+  search = search_in s kept;
 }
+
+abbrev pub frame_for : Encoding → Image → Frame
+frame_for e source = frame_over (kept_for e) e.settings source

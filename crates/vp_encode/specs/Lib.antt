@@ -2,4 +2,14 @@ pub mod Coded
 pub mod Said
 pub mod Encoder
 pub mod Chosen
+pub mod Choosing
+pub mod Continued
 pub mod Written
+pub mod TooLong
+pub mod Between
+pub mod Encoded
+pub mod Pictures
+pub mod File
+pub mod Names
+pub mod Run
+pub mod Playing

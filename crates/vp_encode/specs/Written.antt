@@ -1,13 +1,14 @@
--- Inside the crate: how far writing has come.
-use Rattle.std.specs.Prelude.{◌≡◌, ◌≢◌, ◌<◌, ◌≤◌, ◌*◌, ◌^◌, ◌+◌, ◌/◌, ◌%◌, ℕ, Bool, true, false, List, [], ◌∷◌, ◌++◌, length, map, slice_index_or, Option, Some, None, Ok}
+-- What the bytes of a packet are, and, inside the crate, how far writing has come (RFC 6386, chapters 9 and 19).
+use Rattle.std.specs.Prelude.{◌≡◌, ◌≢◌, ◌<◌, ◌≤◌, ◌⊎◌, ◌*◌, ◌^◌, ◌+◌, ◌-◌, ◌/◌, ◌%◌, ℕ, Bool, true, false, List, [], ◌∷◌, ◌++◌, length, map, slice_index_or, Option, Some, None, Ok}
 use Rattle.vp_bool.specs.Bools.{State, start}
-use Rattle.vp_bool.specs.Reader.{Reads}
-use Rattle.vp_bool.specs.Intervals.{Interval, all}
-use Rattle.vp_bool.specs.Writing.{AreProbabilities, HasWritten, Writes}
+use Rattle.vp_bool.specs.Reader.{Reader, ◌>>=◌, give, Reads}
+use Rattle.vp_bool.specs.Intervals.{Interval, all, spelled}
+use Rattle.vp_bool.specs.Writing.{write_all, AreProbabilities, HasWritten, Takes, Writes}
 use Rattle.vp_base.specs.declared.place.Place.{Place}
 use Rattle.vp_base.specs.Grid.{Grid, Has, at, all as everywhere}
 use Rattle.vp_head.specs.declared.fields.Tag.{Tag}
 use Rattle.vp_head.specs.declared.fields.KeyTag.{KeyTag}
+use Rattle.vp_head.specs.declared.fields.Header.{Header}
 use Rattle.vp_head.specs.declared.fields.Saved.{Saved}
 use Rattle.vp_head.specs.Header.{header}
 use Rattle.vp_head.specs.Saved.{kept_after}
@@ -24,7 +25,6 @@ use Rattle.vp_decode.specs.Step.{count_of}
 use Rattle.vp_choose.specs.declared.frame.Choice.{Choice}
 use Rattle.vp_encode.specs.declared.coded.Coded.{Coded}
 use Rattle.vp_encode.specs.Coded.{macroblock_at, entry_of}
-use Rattle.vp_encode.specs.Said.{IsClosed}
 
 -- ---- modes and motion
 
@@ -71,16 +71,30 @@ pub record IsRowTold (c : Coded) (row n : ℕ) (old new : Maps) : Type 0 where
 
 -- ---- the first partition
 
--- From these bytes the header is read, and then these modes and this motion.
+-- The bytes of all that was written, and a byte of 0 behind them.
+abbrev pub finished : Interval → List ℕ
+finished e = spelled e ++ 0 ∷ []
+
+-- the partition of these bools
+abbrev pub partition : List (Bool × ℕ) → List ℕ
+partition bools = finished (write_all bools all)
+
+-- how the first partition is read: the header, and then the modes and the motion
+unfoldable pub first_read : Saved → Tag → Maps → Reader ((Header × Saved) × Maps)
+first_read kept tag before = do
+  head ← header kept tag
+  maps ← maps_read head.0 before
+  give (head, maps)
+
+-- The partition of bools of which the header is read, and then these modes and this motion: of all of them, and of no others.
 pub record IsFirst (kept : Saved) (tag : Tag) (before : Maps) (c : Coded) (bytes : List ℕ) : Type 0 where
+  pub bools : List (Bool × ℕ)
+  pub probabilities : AreProbabilities bools
+  pub bytes_are : bytes ≡ partition bools
   pub maps : Maps
-  pub behind : State
-  pub rest : State
-  pub header_read : header kept tag (start bytes) ≡ ((c.header, kept_after (kept_before kept tag) c.header), behind)
-  pub maps_are : maps_read c.header before behind ≡ (maps, rest)
+  pub taken : Takes bools (first_read kept tag before) (give ((c.header, kept_after (kept_before kept tag) c.header), maps))
   pub size : AreOf c maps
   pub told : (p : Place) → Has c.macroblocks p → Have c p maps
-  pub closed : IsClosed bytes
 
 -- ---- the token partitions
 
@@ -123,16 +137,16 @@ pub record AreTokenRows (f : Plan) (c : Coded) (row : ℕ) (contexts : Contexts)
   pub tokens : (ss ts : List State) → AllRead bools ss ts
       → (p : Place) → p.row < row → p.column < c.macroblocks.columns → tokens_of f ss p ≡ (macroblock_at c p).tokens
 
--- All that was written is read from the bytes, which end with a byte of 0.
-pub record IsFinished (e : Interval) (bytes : List ℕ) : Type 0 where
-  pub read : (xs : List (Bool × ℕ)) → AreProbabilities xs → HasWritten xs e → (t : State) × Reads xs (start bytes) t
-  pub closed : IsClosed bytes
+-- Of these bools, a list for each partition, all tokens of the frame are read, and no bools are left.
+pub record AreTokens (f : Plan) (c : Coded) (bools : List (List (Bool × ℕ))) : Type 0 where
+  pub probabilities : (i : ℕ) → AreProbabilities (slice_index_or bools i [])
+  pub tokens : (ss ts : List State) → AllRead bools ss ts → (p : Place) → Has c.macroblocks p → tokens_of f ss p ≡ (macroblock_at c p).tokens
+  pub rests : (ss ts : List State) → AllRead bools ss ts → (readings f ss c.macroblocks.rows).rests ≡ ts
 
 -- the token partitions of the frame
 pub record AreTokenPartitions (c : Coded) (parts : List (List ℕ)) : Type 0 where
   pub count : length parts ≡ count_of c.header.log2_partitions
-  pub read : (f : Plan) → IsPlanOf c f → (p : Place) → Has c.macroblocks p → tokens_of f (map start parts) p ≡ (macroblock_at c p).tokens
-  pub closed : (i : ℕ) → i < length parts → IsClosed (slice_index_or parts i [])
+  pub each : (f : Plan) → IsPlanOf c f → (bools : List (List (Bool × ℕ))) × AreTokens f c bools × (parts ≡ map partition bools)
 
 -- ---- the tag
 
@@ -171,3 +185,12 @@ pub record IsPacket (key : Option KeyTag) (saved : Saved) (before : Maps) (c : C
   pub short : length first < 2 ^ 19
   pub first_is : IsFirst saved (tag_with key 0) before c first
   pub parts_are : AreTokenPartitions c parts
+
+-- ---- a frame that no packet holds
+
+-- A partition is longer than its size can be said: the first one in 19 bits (chapter 9.1), or a token partition but the last
+-- in 24 (chapter 9.5).
+abbrev pub HasLongPartition : Option KeyTag → Saved → Maps → Coded → Type 0
+HasLongPartition key saved before c =
+    ((first : List ℕ) × IsFirst saved (tag_with key 0) before c first × (2 ^ 19 ≤ length first))
+    ⊎ ((parts : List (List ℕ)) × AreTokenPartitions c parts × ((i : ℕ) × (i < length parts - 1) × (2 ^ 24 ≤ length (slice_index_or parts i []))))

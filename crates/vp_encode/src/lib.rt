@@ -1,17 +1,36 @@
-//! Frames written as packets (RFC 6386, chapters 9 and 19).
+//! Frames encoded (RFC 6386, chapters 5, 9 and 19): what is chosen for them, their packets, what decoders show of them, and
+//! files of pictures as files of packets.
 #![tactic(auto)]
 
+mod choosing;
+#[cfg(test)]
+mod choosing_tests;
 mod coded;
+mod distance;
+mod encoder;
+mod encoding;
 mod fault;
+#[cfg(test)]
+mod file_tests;
+mod frame;
+mod header;
+mod laws;
 mod maps;
 mod packet;
+mod report;
+mod run;
 mod settings;
+mod source;
 mod tag;
 #[cfg(test)]
 mod tests;
 mod tokens;
 
 pub use coded::Coded;
-pub use fault::PacketError;
+pub use encoder::{Encoded, Encoder};
+pub use encoding::{Unwatched, Watcher, encode_all, encode_all_watched};
+pub use fault::{EncodeFault, PacketError, SettingsFault};
+pub use laws::encoded_files_play_back;
 pub use packet::{write_inter_packet, write_key_packet};
+pub use report::{EncodeAllFault, EncodeReport};
 pub use settings::Settings;

@@ -1,17 +1,15 @@
 //! A frame, written as a packet.
 
-ghost use Rattle.std.specs.Prelude.{◌≡◌, ◌≤◌, ◌<◌, ◌*◌, ◌^◌, ◌-◌, ◌↔◌, true, false, Option, length, take, IsTrue, IfOk, IsOkAnd, is_some};
-ghost use Rattle.vp_base.specs.declared.limits.Limits.{Limits};
+ghost use Rattle.std.specs.Prelude.{◌≡◌, ◌≤◌, ◌<◌, ◌^◌, ◌-◌, ℕ, true, false, length, take, slice_index_or, [], IfOk, IfErr, is_some};
 ghost use Rattle.vp_base.specs.Image.{macroblocks};
-ghost use Rattle.vp_head.specs.declared.fields.Saved.{Saved};
 ghost use Rattle.vp_head.specs.Saved.{defaults};
 ghost use Rattle.vp_modes.specs.Map.{of_segments};
-ghost use Rattle.vp_refs.specs.References.{References};
 ghost use Rattle.vp_tokens.specs.Partitions.{lists, AreBelow24Bits};
-ghost use Rattle.vp_decode.specs.Step.{opened, key_before, maps_before};
+ghost use Rattle.vp_decode.specs.Step.{key_before, maps_before};
 ghost use Rattle.vp_encode.specs.Coded.{CanBeTold};
-ghost use Rattle.vp_encode.specs.Said.{key_tag, Says};
-ghost use Rattle.vp_encode.specs.Written.{IsFirst, AreTokenPartitions, IsPutTogether, IsPacket, tag_with, kept_by};
+ghost use Rattle.vp_encode.specs.Said.{key_tag, IsKeyPacket, IsInterPacket};
+ghost use Rattle.vp_encode.specs.Written.{IsFirst, AreTokenPartitions, IsPutTogether, IsPacket, HasLongPartition, tag_with, kept_by};
+ghost use Rattle.vp_encode.specs.declared.fault.PacketError.{PacketError};
 
 use crate::coded::Coded;
 use crate::fault::PacketError;
@@ -38,8 +36,8 @@ pub fn write_key_packet(alloc: Global, dim: Dim, coded: &Coded) -> Result<ByteLi
     requires columns { coded.now.macroblocks.columns ≡ macroblocks dim.w }
     requires rows { coded.now.macroblocks.rows ≡ macroblocks dim.h }
     requires told { CanBeTold true defaults (key_before dim) coded.now }
-    ensures { IfOk result (λ v. (limits : Limits) (saved : Option Saved) → dim.w * dim.h ≤ limits.pixels
-        → IsOkAnd (opened limits saved v) (Says (Some (key_tag dim)) defaults None (key_before dim) dim.w dim.h coded.now v)) }
+    ensures packet { IfOk result (λ v. IsKeyPacket dim coded.now v) }
+    ensures too_long { IfErr result (λ e. e ≡ PacketError.TooLong → HasLongPartition (Some (key_tag dim)) defaults (maps_before (key_before dim) dim.w dim.h) coded.now) }
 {
     let key = KeyTag {
         dim,
@@ -47,8 +45,7 @@ pub fn write_key_packet(alloc: Global, dim: Dim, coded: &Coded) -> Result<ByteLi
         vertical_scale: 0,
     };
     let before = ModeMap::new(alloc, dim)?;
-    let packet = write_packet(alloc, Some(key), dim, &Saved::defaults(), before, coded)?;
-    Ok(packet)
+    write_packet(alloc, Some(key), dim, &Saved::defaults(), before, coded)
 }
 
 /// Writes the packet of an inter frame of the size of the references, over the values and the segments that are kept.
@@ -64,12 +61,11 @@ pub fn write_inter_packet(
     requires segment_columns { segments.now.columns ≡ macroblocks dim.w }
     requires segment_rows { segments.now.rows ≡ macroblocks dim.h }
     requires told { CanBeTold false saved.now (of_segments segments.now) coded.now }
-    ensures { IfOk result (λ v. (limits : Limits) (references : References)
-        → IsOkAnd (opened limits (Some saved.now) v) (Says None saved.now (Some references) (of_segments segments.now) dim.w dim.h coded.now v)) }
+    ensures packet { IfOk result (λ v. IsInterPacket dim saved.now segments.now coded.now v) }
+    ensures too_long { IfErr result (λ e. e ≡ PacketError.TooLong → HasLongPartition None saved.now (maps_before (of_segments segments.now) dim.w dim.h) coded.now) }
 {
     let before = ModeMap::of_segments(alloc, segments)?;
-    let packet = write_packet(alloc, None, dim, saved, before, coded)?;
-    Ok(packet)
+    write_packet(alloc, None, dim, saved, before, coded)
 }
 
 fn write_packet(
@@ -85,11 +81,15 @@ fn write_packet(
     requires before_columns { before.columns ≡ macroblocks dim.w }
     requires before_rows { before.rows ≡ macroblocks dim.h }
     requires told { CanBeTold (is_some key) (kept_by saved.now key) before coded.now }
-    ensures { IfOk result (λ v. IsPacket key saved.now (maps_before before dim.w dim.h) coded.now v) }
+    ensures packet { IfOk result (λ v. IsPacket key saved.now (maps_before before dim.w dim.h) coded.now v) }
+    ensures too_long { IfErr result (λ e. e ≡ PacketError.TooLong → HasLongPartition key saved.now (maps_before before dim.w dim.h) coded.now) }
 {
     let first = write_first(alloc, key, dim, saved, before, coded)?;
+    if first.len() > MOST_FIRST {
+        return Err(PacketError::TooLong);
+    }
     let parts = write_tokens(alloc, coded)?;
-    if first.len() > MOST_FIRST || !are_short(&parts[..parts.len() - 1]) {
+    if !are_short(&parts[..parts.len() - 1]) {
         return Err(PacketError::TooLong);
     }
     let bytes = put_together(alloc, key, &first, &parts)?;
@@ -132,7 +132,8 @@ fn write_first(
 
 /// Whether each part's size can be said in 24 bits.
 fn are_short(parts: &[Vec<u8>]) -> bool
-    ensures { IsTrue result ↔ AreBelow24Bits (lists parts.now) }
+    ensures short { result ≡ true → AreBelow24Bits (lists parts.now) }
+    ensures long { result ≡ false → (i : ℕ) × (i < length parts.now) × (2 ^ 24 ≤ length (slice_index_or (lists parts.now) i [])) }
 {
     for part in parts {
         if part.len() > MOST_PART {

@@ -1,39 +1,48 @@
-ghost use Rattle.std.specs.Prelude.{◌≡◌, ◌≤◌, true, IsSome, IfOk};
+ghost use Rattle.std.specs.Prelude.{◌≡◌, ◌≤◌, true, false, IsSome, IfOk};
 ghost use Rattle.vp_base.specs.declared.place.Place.{Place};
-ghost use Rattle.vp_base.specs.Grid.{Grid};
+ghost use Rattle.vp_base.specs.Grid.{Grid, at, all};
 ghost use Rattle.vp_head.specs.declared.fields.Header.{Header};
 ghost use Rattle.vp_head.specs.Reference.{is_intra};
 ghost use Rattle.vp_head.specs.Saved.{defaults};
 ghost use Rattle.vp_head.specs.Spelled.{IsSpelled};
-ghost use Rattle.vp_modes.specs.Entry.{Modes};
+ghost use Rattle.vp_tables.specs.Modes.{is_by_subblocks};
+ghost use Rattle.vp_tables.specs.declared.modes.LumaMode.TheVariants.{Dc};
+ghost use Rattle.vp_head.specs.declared.fields.Reference.TheVariants.{Intra};
+ghost use Rattle.vp_modes.specs.Entry.{Modes, plain};
+ghost use Rattle.vp_modes.specs.Map.{of_segments};
+ghost use Rattle.vp_motion.specs.Vector.{Candidates};
+ghost use Rattle.vp_motion.specs.Spelled.{CanBeWritten};
 ghost use Rattle.vp_modes.specs.Spelled.{IsSpelled as modes_spelled};
 ghost use Rattle.vp_tokens.specs.Blocks.{no_blocks};
 ghost use Rattle.vp_encode.specs.Coded.{has_y2, CanBeTold};
 
-use crate::{Coded, write_key_packet};
+use crate::{
+    Coded, EncodeFault, Encoder, Settings, SettingsFault, write_inter_packet, write_key_packet,
+};
 use std::alloc::{AllocError, Global};
 use std::test::Fail;
-use vp_base::{Dim, Grid, Limits};
+use vp_base::{ByteList, Dim, Grid, Limits, Picture};
 use vp_choose::Choice;
 use vp_decode::{Decoder, Outcome};
 use vp_head::{
     Filter, Header, QuantiserIndices, Reference, ReferenceCopy, ReferenceProbabilities,
     ReferenceUpdates, Saved, Segmentation,
 };
-use vp_modes::Modes;
+use vp_modes::{Modes, Segment};
 use vp_motion::{Motion, Vector};
 use vp_tables::{ChromaMode, LumaMode, SubMode, VectorMode};
 use vp_tokens::{Block, Tokens};
 
-/// A key frame's header with quantiser index 0, without a loop filter.
-fn key_header(log2_partitions: u8) -> Header
+/// A header over the defaults with quantiser index 0, without a loop filter.
+fn header(key: bool, log2_partitions: u8) -> Header
     requires { log2_partitions ≤ 3 }
-    ensures spelled { IsSpelled true defaults result }
+    ensures spelled { IsSpelled key defaults result }
     ensures skip { IsSome result.skip }
 {
     let saved = Saved::defaults();
+    let even = if key { 0 } else { 128 };
     Header {
-        key: true,
+        key,
         color_space: false,
         clamping_type: false,
         segmentation: Segmentation {
@@ -59,8 +68,8 @@ fn key_header(log2_partitions: u8) -> Header
             uv_ac: 0,
         },
         updates: ReferenceUpdates {
-            refresh_golden: true,
-            refresh_alt: true,
+            refresh_golden: key,
+            refresh_alt: key,
             copy_to_golden: ReferenceCopy::Nothing,
             copy_to_alt: ReferenceCopy::Nothing,
             refresh_last: true,
@@ -70,17 +79,21 @@ fn key_header(log2_partitions: u8) -> Header
         probabilities: saved.probabilities,
         skip: Some(128),
         references: ReferenceProbabilities {
-            intra: 0,
-            last: 0,
-            golden: 0,
+            intra: even,
+            last: even,
+            golden: even,
         },
     }
 }
 
-/// Intra with DC modes, and skipped.
-fn macroblock() -> Choice
-    ensures modes { (h : Header) (g : Grid Modes) (p : Place) → h.key ≡ true → IsSome h.skip → modes_spelled h g p result.modes }
-    ensures intra { is_intra result.modes.reference ≡ true }
+/// Without levels and motion, and skipped.
+fn macroblock(reference: Reference, luma: LumaMode) -> Choice
+    requires { is_by_subblocks luma ≡ false }
+    ensures intra { reference ≡ Intra → (h : Header) (g : Grid Modes) (p : Place) → h.key ≡ true → IsSome h.skip → modes_spelled h g p result.modes }
+    ensures inter { is_intra reference ≡ false → luma ≡ Dc → (h : Header) (g : Grid Modes) (p : Place) → h.key ≡ false → IsSome h.skip → (at plain g p).segment ≡ 0
+        → modes_spelled h g p result.modes }
+    ensures reference { result.modes.reference ≡ reference }
+    ensures still { (c : Candidates) → CanBeWritten c result.motion }
     ensures y2 { has_y2 result ≡ true }
     ensures none { result.tokens.blocks ≡ no_blocks }
 {
@@ -88,8 +101,8 @@ fn macroblock() -> Choice
         modes: Modes {
             segment: 0,
             skip: true,
-            reference: Reference::Intra,
-            luma: LumaMode::Dc,
+            reference,
+            luma,
             subs: [SubMode::Dc; 16],
             chroma: ChromaMode::Dc,
         },
@@ -103,26 +116,48 @@ fn macroblock() -> Choice
     }
 }
 
-/// A frame of one column of so many skipped macroblocks.
-fn column_of(alloc: Global, log2_partitions: u8, rows: usize) -> Result<Coded, AllocError>
+/// A key frame of one column of so many skipped macroblocks of one luma mode.
+fn column_of(
+    alloc: Global,
+    log2_partitions: u8,
+    rows: usize,
+    luma: LumaMode,
+) -> Result<Coded, AllocError>
     requires partitions { log2_partitions ≤ 3 }
     requires rows { rows ≤ 1024 }
+    requires luma { is_by_subblocks luma ≡ false }
     ensures columns { IfOk result (λ c. c.macroblocks.columns ≡ 1) }
     ensures rows { IfOk result (λ c. c.macroblocks.rows ≡ rows) }
     ensures told { IfOk result (λ c. (before : Grid Modes) → CanBeTold true defaults before c) }
 {
-    let macroblocks = Grid::new(alloc, 1, rows, macroblock())?;
+    let macroblocks = Grid::new(alloc, 1, rows, macroblock(Reference::Intra, luma))?;
     Ok(Coded {
-        header: key_header(log2_partitions),
+        header: header(true, log2_partitions),
         macroblocks,
     })
 }
 
-/// The luma of the first column, one pixel of each row of macroblocks, as a decoder shows it.
-fn first_column(alloc: Global, packet: &[u8]) -> Result<Vec<u8>, AllocError> {
+/// An inter frame of one macroblock that stays as it is in the last picture.
+fn still_frame(alloc: Global) -> Result<Coded, AllocError>
+    ensures columns { IfOk result (λ c. c.macroblocks.columns ≡ 1) }
+    ensures rows { IfOk result (λ c. c.macroblocks.rows ≡ 1) }
+    ensures told { IfOk result (λ c. CanBeTold false defaults (of_segments (all 1 1 0)) c) }
+{
+    let macroblocks = Grid::new(alloc, 1, 1, macroblock(Reference::Last, LumaMode::Dc))?;
+    Ok(Coded {
+        header: header(false, 0),
+        macroblocks,
+    })
+}
+
+/// The luma of the first column, one pixel of each row of macroblocks, as the decoder shows it behind this packet.
+fn first_column(
+    alloc: Global,
+    decoder: &mut Decoder,
+    packet: &ByteList,
+) -> Result<Vec<u8>, AllocError> {
     let mut found = Vec::new(alloc);
-    let mut decoder = Decoder::new(alloc, Limits::usual());
-    if decoder.decode(packet)? == Outcome::Shown {
+    if decoder.decode(packet.as_slice())? == Outcome::Shown {
         if let Some(picture) = decoder.picture() {
             for row in 0..usize::from(picture.dim().mb_rows()) {
                 found.push(picture.plane(0).get(0, 16 * row))?;
@@ -134,20 +169,111 @@ fn first_column(alloc: Global, packet: &[u8]) -> Result<Vec<u8>, AllocError> {
 
 #[test]
 fn flat_macroblock(rt: HostRuntime) -> Result<(), Fail> {
-    let coded = column_of(rt.alloc(), 0, 1)?;
+    let coded = column_of(rt.alloc(), 0, 1, LumaMode::Dc)?;
     let dim = Dim::new(16, 16, &Limits::usual())?;
     let packet = write_key_packet(rt.alloc(), dim, &coded)?;
-    let shown = first_column(rt.alloc(), packet.as_slice())?;
+    let mut decoder = Decoder::new(rt.alloc(), Limits::usual());
+    let shown = first_column(rt.alloc(), &mut decoder, &packet)?;
     assert_eq!(rt; shown.as_slice(), [128].as_slice());
     Ok(())
 }
 
 #[test]
 fn eight_partitions(rt: HostRuntime) -> Result<(), Fail> {
-    let coded = column_of(rt.alloc(), 3, 9)?;
+    let coded = column_of(rt.alloc(), 3, 9, LumaMode::Dc)?;
     let dim = Dim::new(16, 144, &Limits::usual())?;
     let packet = write_key_packet(rt.alloc(), dim, &coded)?;
-    let shown = first_column(rt.alloc(), packet.as_slice())?;
+    let mut decoder = Decoder::new(rt.alloc(), Limits::usual());
+    let shown = first_column(rt.alloc(), &mut decoder, &packet)?;
     assert_eq!(rt; shown.as_slice(), [128; 9].as_slice());
+    Ok(())
+}
+
+/// Above a frame stands 127, which a still inter frame keeps; an intra one would have 128.
+#[test]
+fn still_frame_keeps_last(rt: HostRuntime) -> Result<(), Fail> {
+    let dim = Dim::new(16, 16, &Limits::usual())?;
+    let key = column_of(rt.alloc(), 0, 1, LumaMode::V)?;
+    let still = still_frame(rt.alloc())?;
+    let segments = Grid::new(rt.alloc(), 1, 1, Segment { number: 0 })?;
+    let first = write_key_packet(rt.alloc(), dim, &key)?;
+    let second = write_inter_packet(rt.alloc(), dim, &Saved::defaults(), &segments, &still)?;
+    let mut decoder = Decoder::new(rt.alloc(), Limits::usual());
+    let shown = first_column(rt.alloc(), &mut decoder, &first)?;
+    assert_eq!(rt; shown.as_slice(), [127].as_slice());
+    let shown = first_column(rt.alloc(), &mut decoder, &second)?;
+    assert_eq!(rt; shown.as_slice(), [127].as_slice());
+    Ok(())
+}
+
+/// Nothing is lost but by the quantiser, and all frames but the first are inter frames.
+fn plain_settings(qi: u8) -> Settings {
+    Settings {
+        qi,
+        level: 0,
+        sharpness: 0,
+        simple: false,
+        key_every: 64,
+        golden_every: 0,
+        range: 16,
+        subpel: false,
+        partitions: 1,
+    }
+}
+
+/// The lowest bit of an inter packet is 1.
+fn is_inter(packet: &ByteList) -> bool {
+    packet.as_slice().first().is_some_and(|byte| byte % 2 == 1)
+}
+
+/// The pixels that the decoder shows for a packet.
+fn shown(alloc: Global, decoder: &mut Decoder, packet: &ByteList) -> Result<Vec<u8>, AllocError> {
+    if decoder.decode(packet.as_slice())? == Outcome::Shown {
+        if let Some(picture) = decoder.picture() {
+            return picture.crop_i420(alloc);
+        }
+    }
+    Ok(Vec::new(alloc))
+}
+
+#[test]
+fn encode_flat_key(rt: HostRuntime) -> Result<(), Fail> {
+    let dim = Dim::new(16, 16, &Limits::usual())?;
+    let source = Picture::new(rt.alloc(), dim, 128)?;
+    let mut encoder = Encoder::new(rt.alloc(), dim, plain_settings(0))?;
+    let encoded = encoder.encode(&source)?;
+    assert_eq!(rt; encoded.squared_error, 0);
+    let mut decoder = Decoder::new(rt.alloc(), Limits::usual());
+    let pixels = shown(rt.alloc(), &mut decoder, &encoded.packet)?;
+    assert_eq!(rt; pixels.as_slice(), [128; 384].as_slice());
+    Ok(())
+}
+
+#[test]
+fn encode_flat_inter(rt: HostRuntime) -> Result<(), Fail> {
+    let dim = Dim::new(16, 16, &Limits::usual())?;
+    let source = Picture::new(rt.alloc(), dim, 128)?;
+    let mut encoder = Encoder::new(rt.alloc(), dim, plain_settings(0))?;
+    let mut decoder = Decoder::new(rt.alloc(), Limits::usual());
+    let key = encoder.encode(&source)?;
+    shown(rt.alloc(), &mut decoder, &key.packet)?;
+    let inter = encoder.encode(&source)?;
+    assert!(rt; is_inter(&inter.packet));
+    assert_eq!(rt; inter.squared_error, 0);
+    let pixels = shown(rt.alloc(), &mut decoder, &inter.packet)?;
+    assert_eq!(rt; pixels.as_slice(), [128; 384].as_slice());
+    Ok(())
+}
+
+#[test]
+fn settings_and_events_refused(rt: HostRuntime) -> Result<(), Fail> {
+    let dim = Dim::new(16, 16, &Limits::usual())?;
+    let refused = Encoder::new(rt.alloc(), dim, plain_settings(128)).err();
+    assert_eq!(rt; refused, Some(SettingsFault::Settings));
+    let taller = Dim::new(16, 32, &Limits::usual())?;
+    let source = Picture::new(rt.alloc(), taller, 128)?;
+    let mut encoder = Encoder::new(rt.alloc(), dim, plain_settings(0))?;
+    let refused = encoder.encode(&source).err();
+    assert_eq!(rt; refused, Some(EncodeFault::SourceSize));
     Ok(())
 }

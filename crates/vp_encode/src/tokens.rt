@@ -1,6 +1,6 @@
 //! The token partitions of a frame, written.
 
-ghost use Rattle.std.specs.Prelude.{◌≡◌, ◌<◌, ◌≤◌, ◌+◌, ◌^◌, ℕ, [], length, slice_index_or, OnOk, IfOk};
+ghost use Rattle.std.specs.Prelude.{◌≡◌, ◌<◌, ◌≤◌, ◌+◌, ◌^◌, ℕ, length, map, slice_index_or, OnOk, IfOk};
 ghost use Rattle.vp_base.specs.Grid.{Grid};
 ghost use Rattle.vp_bool.specs.Intervals.{all};
 ghost use Rattle.vp_tokens.specs.Blocks.{Blocks};
@@ -10,7 +10,7 @@ ghost use Rattle.vp_decode.specs.Maps.{place};
 ghost use Rattle.vp_decode.specs.Frame.{Plan};
 ghost use Rattle.vp_decode.specs.Step.{count_of};
 ghost use Rattle.vp_encode.specs.Coded.{AreTokensSpelled};
-ghost use Rattle.vp_encode.specs.Written.{IsPlanOf, IsTokenRow, AreTokenRows, none_seen, IsFinished, AreTokenPartitions};
+ghost use Rattle.vp_encode.specs.Written.{IsPlanOf, IsTokenRow, AreTokenRows, none_seen, finished, AreTokenPartitions};
 
 use crate::coded::{Coded, has_y2};
 use std::alloc::{AllocError, Global};
@@ -83,7 +83,7 @@ fn new_encoders(alloc: Global, count: usize) -> Result<Vec<BoolEncoder>, AllocEr
 
 /// The partition of what was written, and a byte of 0 behind it: readers that look ahead find one.
 pub(crate) fn finish(encoder: BoolEncoder) -> Result<Vec<u8>, AllocError>
-    ensures { IfOk result (λ v. IsFinished encoder v.items) }
+    ensures { IfOk result (λ v. v.items ≡ finished encoder) }
 {
     let mut bytes = encoder.finish()?;
     bytes.push(0)?;
@@ -92,8 +92,7 @@ pub(crate) fn finish(encoder: BoolEncoder) -> Result<Vec<u8>, AllocError>
 
 /// The partitions of what was written.
 fn finish_all(alloc: Global, encoders: Vec<BoolEncoder>) -> Result<Vec<Vec<u8>>, AllocError>
-    ensures count { IfOk result (λ v. length v.items ≡ length encoders.items) }
-    ensures finished { IfOk result (λ v. (i : ℕ) → i < length encoders.items → IsFinished (slice_index_or encoders.items i all) (slice_index_or (lists v.items) i [])) }
+    ensures { IfOk result (λ v. lists v.items ≡ map finished encoders.items) }
 {
     let mut parts = Vec::with_capacity(alloc, encoders.len())?;
     for encoder in encoders {

@@ -1,14 +1,14 @@
 -- Each step adds the piece that it accepts.
-use Rattle.std.proofs.Common.{append-nil, append_assoc, ◌≡◌, ◌==◌, ◌++◌, ◌≤◌, ℕ, zero, suc, List, [], ◌∷◌, Option, Some, None, Ok, Err, cond, refl, ap, sym, ◌∙◌, arith, Bool, true, false, length, subst, take}
+use Rattle.std.proofs.Common.{append-nil, append_assoc, ◌≡◌, ◌==◌, ◌++◌, ◌≤◌, ℕ, zero, suc, List, [], ◌∷◌, Option, Some, None, Ok, Err, cond, refl, ap, sym, ◌∙◌, arith, Bool, true, false, length, subst, take, option_map}
 use Rattle.std.specs.Prelude.{slice_get, slice_set}
 use Rattle.std.proofs.lemmas.List.{take_all}
-use Rattle.std.proofs.lemmas.Option.{same_Some, none-some}
+use Rattle.std.proofs.lemmas.Option.{same_Some, none-some, slice_get-map, slice_get-get_or}
 use Rattle.std.proofs.lemmas.Bool.{eqb-true}
 use Rattle.std.proofs.lemmas.Bool.Decides.{nat_tests}
 use Rattle.vp_base.specs.declared.limits.Limits.{Limits}
 use Rattle.vp_ivf.specs.declared.fault.FileFault.{FileFault}
 use Rattle.vp_ivf.specs.declared.fault.FileFault.TheVariants as file_fault
-use Rattle.vp_ivf.specs.Ivf.{Contents, resume}
+use Rattle.vp_ivf.specs.Ivf.{Contents, resume, read, next_head}
 use Rattle.vp_ivf.proofs.Growing.{reads_in_pieces}
 use Rattle.vp_stream.specs.Answers.{reading_of}
 use Rattle.vp_ivf.specs.Reader.{finish_answer}
@@ -19,9 +19,9 @@ use Rattle.vp_hub.specs.declared.event.Event.TheVariants.{Feed, End, Open, Bytes
 use Rattle.vp_hub.specs.declared.event.HubFault.TheVariants.{Ended, Memory}
 use Rattle.vp_hub.specs.declared.source.Source.{Source}
 use Rattle.vp_hub.specs.Pages.{Streams}
-use Rattle.vp_hub.specs.Hub.{Outcome, State, HubStep, after_memory, IsStep, at_source, at_place, fed, fed_by, ended, is_open_end, ending_by, no_bytes}
+use Rattle.vp_hub.specs.Hub.{Outcome, State, HubStep, after_memory, IsStep, at_source, at_place, fed, fed_by, ended, is_open_end, ending_by, no_bytes, new_source}
 use Rattle.vp_hub.specs.View.{is_memory, IsRun}
-use Rattle.vp_hub.specs.Pieces.{IsReadFrom, is_at, accepted, all_accepted, AreAcceptedPieces}
+use Rattle.vp_hub.specs.Pieces.{IsReadFrom, is_at, accepted, all_accepted, AreAcceptedPieces, NewStreamsHaveNoBytes}
 use Rattle.vp_hub.proofs.Isolation.{memory_is, memory_isn't}
 
 -- a stream is what these bytes make of it
@@ -199,3 +199,13 @@ all_fed s (e ∷ es) [] new run limits k bytes r = absurd run
 
 pub all_fed_at_end : (s : State) (es : List Event) (os : List Outcome) (new : State) (i : ℕ) → length es ≤ i → IsRun s (take i es) os new → AreAcceptedPieces s es os new
 all_fed_at_end s es os new i h run = all_fed s es os new (subst (λ xs. IsRun s xs os new) (take_all i es h) run)
+
+-- at first there are none
+pub none_fed : NewStreamsHaveNoBytes
+unfolding read next_head
+none_fed names limits k there = record {
+  source = new_source limits;
+  there = slice_get-map (λ _. new_source limits) names k ∙ ap (option_map (λ (_ : List ℕ). new_source limits)) (slice_get-get_or names k [] there);
+  limits_are = refl;
+  reading = refl;
+}

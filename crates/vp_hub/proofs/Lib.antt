@@ -10,3 +10,4 @@ pub mod NameLemmas
 pub mod Fed
 pub mod Visiting
 pub mod StandingLemmas
+pub mod LimitsLemmas

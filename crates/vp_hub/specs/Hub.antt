@@ -1,8 +1,9 @@
 -- The hub as a machine: its state, and what each event makes of it and is answered.
-use Rattle.std.specs.Prelude.{◌≡◌, ◌≢◌, ◌==◌, ◌<◌, slice_index_or, not, ℕ, nat_lt, nat_eq, Bool, true, false, codes, List, [], ◌∷◌, ◌++◌, length, map, filter, Option, Some, None, Result, Ok, Err, IsOk, slice_get, slice_set, if◌then◌else◌}
+use Rattle.std.specs.Prelude.{◌≡◌, ◌≢◌, ◌==◌, ◌<◌, ◌≤◌, slice_index_or, not, ℕ, nat_lt, nat_eq, Bool, true, false, codes, List, [], ◌∷◌, ◌++◌, length, map, filter, Option, Some, None, Result, Ok, Err, IsOk, slice_get, slice_set, if◌then◌else◌}
 use Rattle.std.specs.Borrow.{Bor}
 use Rattle.std.specs.Option.{option_map}
 use Rattle.std.specs.List.{ends_with}
+use Rattle.std.proofs.Common.{lit<, lit≤}
 use Rattle.vp_hub.specs.declared.event.Event.{Event}
 use Rattle.vp_hub.specs.declared.event.Event.TheVariants.{Feed, End, Open, Bytes, Shut}
 use Rattle.vp_hub.specs.declared.event.Reply.{Reply}
@@ -74,9 +75,25 @@ pub record State : Type 0 where
   pub streams : Streams
   pub connections : List Connection
 
+pub one_is_in_range : (0 < 1) × (1 ≤ 4096)
+one_is_in_range = (lit< tt, lit≤ tt)
+
+-- what a stream is held to: the hub's limits but for the cache's number, which is left at 1, since a stream keeps no pictures
+abbrev pub stream_limits : Limits → Limits
+stream_limits limits = record {
+  pixels = limits.pixels;
+  packet_bytes = limits.packet_bytes;
+  packets = limits.packets;
+  cache = 1;
+  pixels_in_range = limits.pixels_in_range;
+  packet_bytes_in_range = limits.packet_bytes_in_range;
+  packets_in_range = limits.packets_in_range;
+  cache_in_range = one_is_in_range;
+}
+
 -- a hub that no event came to: streams of these names, which were fed nothing
 abbrev pub new_source : Limits → Source
-new_source limits = record { stream = fresh_stream limits; end = ending.Open }
+new_source limits = record { stream = fresh_stream (stream_limits limits); end = ending.Open }
 
 abbrev pub fresh : List (List ℕ) → Limits → State
 fresh names limits = record { streams = record { names = names; sources = map (λ _. new_source limits) names }; connections = [] }

@@ -1,5 +1,5 @@
 -- The bytes of a stream are its accepted pieces.
-use Rattle.std.specs.Prelude.{◌≡◌, ◌==◌, ◌++◌, ℕ, Bool, false, List, [], ◌∷◌, Option, Some, None, Ok, Err, slice_get, if◌then◌else◌}
+use Rattle.std.specs.Prelude.{◌≡◌, ◌==◌, ◌<◌, ◌++◌, ℕ, Bool, false, List, [], ◌∷◌, length, Option, Some, None, Ok, Err, slice_get, if◌then◌else◌}
 use Rattle.vp_base.specs.declared.limits.Limits.{Limits}
 use Rattle.vp_stream.specs.Answers.{reading_of}
 use Rattle.vp_heads.specs.Routes.{place_of}
@@ -7,7 +7,8 @@ use Rattle.vp_hub.specs.declared.event.Event.{Event}
 use Rattle.vp_hub.specs.declared.event.Event.TheVariants.{Feed, End, Open, Bytes, Shut}
 use Rattle.vp_hub.specs.declared.source.Source.{Source}
 use Rattle.vp_hub.specs.Pages.{Streams}
-use Rattle.vp_hub.specs.Hub.{Outcome, State}
+use Rattle.vp_hub.specs.Hub.{Outcome, State, fresh, stream_limits}
+use Rattle.vp_hub.specs.View.{IsRun}
 
 -- the stream at a place is what these bytes make of it
 pub record IsReadFrom (limits : Limits) (k : ℕ) (streams : Streams) (bytes : List ℕ) : Type 0 where
@@ -38,3 +39,10 @@ all_accepted names k (e ∷ es) (o ∷ os) = accepted names k e o ++ all_accepte
 abbrev pub AreAcceptedPieces : State → List Event → List Outcome → State → Type 0
 AreAcceptedPieces s es os new = (limits : Limits) (k : ℕ) (bytes : List ℕ) → IsReadFrom limits k s.streams bytes
     → IsReadFrom limits k new.streams (bytes ++ all_accepted s.streams.names k es os)
+
+abbrev pub RunsAddAcceptedPieces : Type 0
+RunsAddAcceptedPieces = (s new : State) (es : List Event) (os : List Outcome) → IsRun s es os new → AreAcceptedPieces s es os new
+
+-- the streams of a new hub have no bytes
+abbrev pub NewStreamsHaveNoBytes : Type 0
+NewStreamsHaveNoBytes = (names : List (List ℕ)) (limits : Limits) (k : ℕ) → k < length names → IsReadFrom (stream_limits limits) k (fresh names limits).streams []

@@ -1,11 +1,12 @@
 -- What one connection sees of a run, and the results that it must have.
 use Rattle.std.specs.Prelude.{◌≡◌, ◌==◌, ℕ, Bool, true, false, List, [], ◌∷◌, ◌++◌, Option, Some, None, Ok, Err, if◌then◌else◌}
+use Rattle.vp_base.specs.declared.limits.Limits.{Limits}
 use Rattle.vp_hub.specs.declared.event.Event.{Event}
 use Rattle.vp_hub.specs.declared.event.Event.TheVariants.{Feed, End, Open, Bytes, Shut}
 use Rattle.vp_hub.specs.Pages.{Streams}
 use Rattle.vp_hub.specs.declared.connection.Link.{Link}
 use Rattle.vp_hub.specs.declared.event.HubFault.TheVariants.{UnknownStream, Ended, UnknownConn, AlreadyOpen, TooMany, Failed, Memory}
-use Rattle.vp_hub.specs.Hub.{Outcome, State, link_of, fed, ended, at_name, Gets, no_bytes, new_link, IsStep}
+use Rattle.vp_hub.specs.Hub.{Outcome, State, link_of, fed, ended, at_name, Gets, no_bytes, new_link, IsStep, fresh}
 
 -- events as one connection sees them; the last is that the hub closed it
 pub data Seen : Type 0 where
@@ -117,8 +118,23 @@ IsRun old (e ∷ es) [] new = ⊥
 abbrev pub IsIsolated : State → List Event → List Outcome → State → Type 0
 IsIsolated s es os new = (c : ℕ) → Leads (view_of c es os) (sight c s) (results_of c es os) (sight c new)
 
+abbrev pub RunsAreIsolated : Type 0
+RunsAreIsolated = (s new : State) (es : List Event) (os : List Outcome) → IsRun s es os new → IsIsolated s es os new
+
 -- two runs, from hubs alike to connection c, whose views of c are equal answer c alike
 abbrev pub AnswersAlike : Type 0
 AnswersAlike = (c : ℕ) (s t : State) (es fs : List Event) (os ps : List Outcome) (new mid : State)
     → IsRun s es os new → IsRun t fs ps mid → sight c s ≡ sight c t → view_of c es os ≡ view_of c fs ps
+    → results_of c es os ≡ results_of c fs ps
+
+-- the same limits, but for how many pictures are kept
+pub record AreLimitsBesideCache (a b : Limits) : Type 0 where
+  pub pixels : a.pixels ≡ b.pixels
+  pub packet_bytes : a.packet_bytes ≡ b.packet_bytes
+  pub packets : a.packets ≡ b.packets
+
+-- so do two new hubs of the same names, however many pictures each keeps
+abbrev pub NewHubsAnswerAlike : Type 0
+NewHubsAnswerAlike = (names : List (List ℕ)) (a b : Limits) (c : ℕ) (es fs : List Event) (os ps : List Outcome) (new mid : State)
+    → AreLimitsBesideCache a b → IsRun (fresh names a) es os new → IsRun (fresh names b) fs ps mid → view_of c es os ≡ view_of c fs ps
     → results_of c es os ≡ results_of c fs ps

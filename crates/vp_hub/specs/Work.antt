@@ -113,13 +113,13 @@ abbrev pub CostsPieceAtMost : Streams → List ℕ → Option Link → Cache →
 CostsPieceAtMost streams piece None old cost = cost ≡ 0
 CostsPieceAtMost streams piece (Some link) old cost = CostsAtMost streams piece (link, []) old cost
 
--- where memory was refused to an event
-abbrev pub IsWorkAtMost : Event → State → Cache → ℕ → Type 0
-IsWorkAtMost (Feed name piece) s old work = work ≡ 0
-IsWorkAtMost (End name) s old work = work ≡ 0
-IsWorkAtMost (Open c) s old work = work ≡ 0
-IsWorkAtMost (Bytes c piece) s old work = CostsPieceAtMost s.streams piece (link_of c s.connections) old work
-IsWorkAtMost (Shut c) s old work = work ≡ 0
+-- where memory was refused to an event; what the cache keeps is left open where that was a piece of a connection
+abbrev pub IsWorkAtMost : Event → State → Cache → Cache → ℕ → Type 0
+IsWorkAtMost (Feed name piece) s old new work = (new ≡ old) × (work ≡ 0)
+IsWorkAtMost (End name) s old new work = (new ≡ old) × (work ≡ 0)
+IsWorkAtMost (Open c) s old new work = (new ≡ old) × (work ≡ 0)
+IsWorkAtMost (Bytes c piece) s old new work = CostsPieceAtMost s.streams piece (link_of c s.connections) old work
+IsWorkAtMost (Shut c) s old new work = (new ≡ old) × (work ≡ 0)
 
 -- ---- a hub: its state, its cache, and the work of the last event
 pub record Whole : Type 0 where
@@ -130,4 +130,4 @@ pub record Whole : Type 0 where
 -- after an event the work is that number, which stays at the greatest; where memory was refused no more than that
 pub record IsWorked (old : Whole) (e : Event) (o : Outcome) (new : Whole) : Type 0 where
   pub work : o ≢ Err Memory → (cost : ℕ) × IsWork e old.state old.cache new.cache cost × (new.work ≡ counted 0 cost)
-  pub most : o ≡ Err Memory → (cost : ℕ) × IsWorkAtMost e old.state old.cache cost × (new.work ≤ counted 0 cost)
+  pub most : o ≡ Err Memory → (cost : ℕ) × IsWorkAtMost e old.state old.cache new.cache cost × (new.work ≤ counted 0 cost)

@@ -1,17 +1,30 @@
 //! What holds of all hubs, each as the contract of a function that does nothing.
 
 ghost use Rattle.vp_hub.specs.Heads.{IsCutIntoHeads};
+ghost use Rattle.vp_hub.specs.Pieces.{NewStreamsHaveNoBytes, RunsAddAcceptedPieces};
 ghost use Rattle.vp_hub.specs.Standing.{StandsToShut, IsTooManyByHistory};
-ghost use Rattle.vp_hub.specs.View.{AnswersAlike};
+ghost use Rattle.vp_hub.specs.View.{AnswersAlike, NewHubsAnswerAlike, RunsAreIsolated};
 
 /// Bytes are answered by the heads that they are cut into.
 pub fn cut_into_heads()
     ensures { IsCutIntoHeads }
 {}
 
-/// Two runs whose views of a connection are equal answer it alike.
+/// Of every run of steps each connection gets the results that its own view gives.
+pub fn runs_are_isolated()
+    ensures { RunsAreIsolated }
+{}
+
+/// Two runs whose views of a connection are equal answer it alike, also of two hubs that keep different numbers of pictures.
 pub fn answers_alike()
-    ensures { AnswersAlike }
+    ensures alike { AnswersAlike }
+    ensures new { NewHubsAnswerAlike }
+{}
+
+/// By every run of steps a stream's bytes grow by the pieces that were accepted; at first there are none.
+pub fn bytes_are_accepted_pieces()
+    ensures runs { RunsAddAcceptedPieces }
+    ensures new { NewStreamsHaveNoBytes }
 {}
 
 /// A connection stands from its accepted opening to its shutting.

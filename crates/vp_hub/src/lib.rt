@@ -5,6 +5,10 @@ mod connection;
 #[cfg(test)]
 mod connection_tests;
 mod event;
+#[cfg(test)]
+mod event_tests;
+#[cfg(test)]
+mod head_tests;
 mod hub;
 mod laws;
 mod names;
@@ -22,7 +26,10 @@ mod visit_tests;
 pub use connection::{Connection, Link};
 pub use event::{Event, HubFault, Reply};
 pub use hub::Hub;
-pub use laws::{answers_alike, cut_into_heads, is_too_many_by_history, stands_to_shut};
+pub use laws::{
+    answers_alike, bytes_are_accepted_pieces, cut_into_heads, is_too_many_by_history,
+    runs_are_isolated, stands_to_shut,
+};
 pub use names::NewFault;
 pub use source::{Ending, Source};
 pub use visit::{ServeFault, serve_one};

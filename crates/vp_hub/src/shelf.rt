@@ -5,7 +5,7 @@ ghost use Rattle.vp_cache.specs.Kept.{Entry};
 ghost use Rattle.vp_heads.specs.Requests.{IsAsked};
 ghost use Rattle.vp_heads.specs.Routes.{place_of as place_in};
 ghost use Rattle.vp_hub.specs.declared.event.HubFault.TheVariants.{Memory};
-ghost use Rattle.vp_hub.specs.Hub.{AreKept, at_name, at_place, at_source, fed, ended, fresh, lent_source, new_source};
+ghost use Rattle.vp_hub.specs.Hub.{AreKept, at_name, at_place, at_source, fed, ended, fresh, lent_source, new_source, stream_limits};
 
 use crate::event::{HubFault, Reply};
 use crate::source::{Ending, Source, end_source, feed_source};
@@ -36,6 +36,18 @@ impl Model for Shelf {
     ghost invariant = { λ a. a.router ≡ our_routes };
 }
 
+/// What a stream is held to. It keeps no pictures, so it isn't told how many the hub keeps.
+fn limits_of_stream(limits: Limits) -> Limits
+    ensures { result ≡ stream_limits limits }
+{
+    Limits {
+        pixels: limits.pixels,
+        packet_bytes: limits.packet_bytes,
+        packets: limits.packets,
+        cache: 1,
+    }
+}
+
 /// As many streams as there are names, which were fed nothing.
 fn new_sources(alloc: Global, names: &[ByteList], limits: Limits) -> Result<Vec<Source>, AllocError>
     ensures { IfOk result (λ sources. sources.items ≡ map (λ _. new_source limits) names.now) }
@@ -43,7 +55,7 @@ fn new_sources(alloc: Global, names: &[ByteList], limits: Limits) -> Result<Vec<
     let mut sources = Vec::new(alloc);
     for _name in names {
         sources.push(Source {
-            stream: Stream::new(alloc, limits),
+            stream: Stream::new(alloc, limits_of_stream(limits)),
             end: Ending::Open,
         })?;
     }

@@ -17,7 +17,7 @@ pub(crate) const KEY: [u8; 22] = [
 ];
 
 // An inter packet that changes nothing, and the twelve bytes before it.
-const INTER: [u8; 15] = [3, 0, 0, 0, 0, 0, 0, 0, 0, 0, 0, 0, 0x11, 0, 0];
+pub(crate) const INTER: [u8; 15] = [3, 0, 0, 0, 0, 0, 0, 0, 0, 0, 0, 0, 0x11, 0, 0];
 
 // The same, not to be shown.
 const HIDDEN: [u8; 15] = [3, 0, 0, 0, 0, 0, 0, 0, 0, 0, 0, 0, 0x01, 0, 0];
@@ -26,10 +26,10 @@ const HIDDEN: [u8; 15] = [3, 0, 0, 0, 0, 0, 0, 0, 0, 0, 0, 0, 0x01, 0, 0];
 const EMPTY: [u8; 12] = [0, 0, 0, 0, 0, 0, 0, 0, 0, 0, 0, 0];
 
 // The lines before a whole picture.
-const LINES: &[u8] =
+pub(crate) const LINES: &[u8] =
     b"HTTP/1.1 200 OK\r\nContent-Type: application/octet-stream\r\nContent-Length: 384\r\n\r\n";
 
-const NOT_FOUND: &[u8] =
+pub(crate) const NOT_FOUND: &[u8] =
     b"HTTP/1.1 404 Not Found\r\nContent-Type: text/plain\r\nContent-Length: 10\r\n\r\nNot Found\n";
 
 pub(crate) fn list(alloc: Global, bytes: &[u8]) -> Result<ByteList, AllocError> {
@@ -58,7 +58,7 @@ pub(crate) fn hub_of(
 }
 
 /// Whether a connection's bytes are answered by these, and the connection stays open, or is closed.
-fn answers(
+pub(crate) fn answers(
     alloc: Global,
     hub: &mut Hub,
     number: u32,
@@ -82,7 +82,7 @@ pub(crate) fn key_reply(alloc: Global) -> Result<Vec<u8>, AllocError> {
 }
 
 /// The picture of the inter packet behind it: 128 everywhere.
-fn inter_reply(alloc: Global) -> Result<Vec<u8>, AllocError> {
+pub(crate) fn inter_reply(alloc: Global) -> Result<Vec<u8>, AllocError> {
     let mut reply = LINES.to_vec(alloc)?;
     reply.extend_from_slice(&[128; 384])?;
     Ok(reply)
@@ -143,7 +143,7 @@ fn hidden_packet(rt: HostRuntime) -> Result<(), Fail> {
 }
 
 /// Whether a frame is answered so, and with so much work.
-fn works(
+pub(crate) fn works(
     alloc: Global,
     hub: &mut Hub,
     number: u32,

@@ -48,8 +48,8 @@ pub fn serve_one<R: Read, W: Write>(
     reader: &mut Counted<R>,
     writer: &mut Counted<W>,
 ) -> Result<(), ServeFault>
-    // Where the opening is refused nothing is read and nothing written.
-    ensures served { (IsTurnedAway conn hub.old.state hub.new.state result × (reader.new ≡ reader.old) × (writer.new ≡ writer.old))
+    // Where the opening is refused nothing is read and nothing written, and the cache stays too.
+    ensures served { (IsTurnedAway conn hub.old.state hub.new.state result × (hub.new.cache ≡ hub.old.cache) × (reader.new ≡ reader.old) × (writer.new ≡ writer.old))
         ⊎ ((read : List ℕ)
         × Consumes (counted_remaining R.remaining reader.old) (counted_remaining R.remaining reader.new) read
         × IsVisit conn hub.old.state hub.new.state result read (counted_remaining R.remaining reader.new)

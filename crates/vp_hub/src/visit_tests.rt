@@ -3,8 +3,9 @@
 use crate::tests::{HEAD, KEY, hub_of, is_refused, key_reply};
 use crate::{Event, Hub, HubFault, ServeFault, serve_one};
 use std::alloc::{AllocError, Global};
+use std::cell::Cell;
 use std::io;
-use std::io::Read;
+use std::io::{Error, ErrorKind, Read, Write};
 use std::test::Fail;
 use vp_base::{Counted, FailAt};
 
@@ -124,5 +125,61 @@ fn turns_away(alloc: Global) -> Result<bool, AllocError> {
 #[test]
 fn refused_opening_reads_nothing(rt: HostRuntime) -> Result<(), Fail> {
     assert!(rt; turns_away(rt.alloc())?);
+    Ok(())
+}
+
+/// Gives the first request, and the second only once something was written.
+#[derive(Drop)]
+struct Asking<'a> {
+    first: &'a [u8],
+    second: &'a [u8],
+    written: &'a Cell<bool>,
+}
+
+impl Read for Asking<'_> {
+    fn read(&mut self, buf: &mut [u8]) -> io::Result<usize> {
+        if !self.first.is_empty() {
+            return self.first.read(buf);
+        }
+        if !self.written.get() {
+            return Err(Error::from(ErrorKind::Other));
+        }
+        self.second.read(buf)
+    }
+}
+
+/// Notes that something was written.
+#[derive(Drop)]
+struct Noting<'a>(&'a Cell<bool>);
+
+impl Write for Noting<'_> {
+    fn write(&mut self, buf: &[u8]) -> io::Result<usize> {
+        self.0.set(true);
+        Ok(buf.len())
+    }
+
+    fn flush(&mut self) -> io::Result<()> {
+        Ok(())
+    }
+}
+
+/// Whether the first reply is written before what follows its request is read.
+fn replies_before_reading(alloc: Global) -> Result<bool, AllocError> {
+    let Some(mut hub) = hub_of(alloc, &[&HEAD, &KEY], 16)? else {
+        return Ok(false);
+    };
+    let written = Cell::new(false);
+    let mut reader = Counted::new(Asking {
+        first: SENT,
+        second: SENT,
+        written: &written,
+    });
+    let mut writer = Counted::new(Noting(&written));
+    Ok(serve_one(&mut hub, 2, &mut reader, &mut writer) == Ok(()))
+}
+
+#[test]
+fn replies_come_before_the_next_read(rt: HostRuntime) -> Result<(), Fail> {
+    assert!(rt; replies_before_reading(rt.alloc())?);
     Ok(())
 }

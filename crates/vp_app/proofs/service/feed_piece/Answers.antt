@@ -1,9 +1,10 @@
-use Rattle.std.proofs.Common.{rules, inr}
+use Rattle.std.proofs.Common.{◌∙◌, rules, sym, inr}
+use Rattle.vp_app.proofs.FeedingLemmas.{not_memory}
 use Rattle.vp_app.proofs.service.feed_piece.Goals as goal
 
-pub returns-in-Err : goal.returns-in-Err
-returns-in-Err g c = (
+pub returns : goal.returns
+returns g c = (
   c.in_ok-piece.piece,
   search rules,
-  inr (c.in-Err.field-0, c.step-2.new.self.state, c.step-in-Err.result, search rules, search rules),
+  inr (c.in-Err.fault, c.step-2.new.self.state, c.step-3.result, not_memory c.in-Err.fault (sym c.is_memory.ensures ∙ c.if-is_memory.false), search rules, search rules),
 )

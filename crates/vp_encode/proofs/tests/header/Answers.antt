@@ -1,8 +1,9 @@
-use Rattle.std.proofs.Common.{◌≡◌, List, refl, ap, arith, lit<, ℕ}
-use Rattle.std.specs.Prelude.{ℤ, pos, slice_index_or}
+use Rattle.std.proofs.Common.{◌≡◌, ◌∙◌, List, [], refl, sym, ap, arith, lit<, ℕ, true, false}
+use Rattle.std.specs.Prelude.{ℤ, pos, slice_index, slice_index_or}
 use Rattle.vp_head.specs.declared.fields.Saved.{Saved}
 use Rattle.vp_head.specs.Spelled.{AreSigned}
-use Rattle.vp_encode.proofs.tests.key_header.Goals as goal
+use Rattle.vp_encode.proofs.tests.header.Goals as goal
+use Rattle.vp_encode.proofs.tests.header.Goals.{then-key, else-key}
 
 as_kept : (n : ℕ) (old new : List ℤ) → new ≡ old → AreSigned n old new
 as_kept n old new e = record {
@@ -39,11 +40,11 @@ returns-clause-spelled c =
         uv_dc = λ ne. absurd (ne refl);
         uv_ac = λ ne. absurd (ne refl);
       };
-      updates = record { golden = λ e. refl; alt = λ e. refl; last = λ e. refl; no_copy_to_golden = λ e. refl; no_copy_to_alt = λ e. refl };
+      updates = record { golden = λ e. e; alt = λ e. e; last = λ e. refl; no_copy_to_golden = λ e. refl; no_copy_to_alt = λ e. refl };
       biases = λ e. ap (λ (s : Saved). s.biases) d;
-      references = λ e. refl;
+      references = λ e. let zero : c.if-key.even ≡ 0 = elim c.if-key.branch [ then-key w ↦ w.even-is | else-key w ↦ absurd (let never : true ≡ false = sym e ∙ w.if-key.false in cc) ] in rw zero refl;
       luma = λ e. ap (λ (s : Saved). s.probabilities.luma) d;
       chroma = λ e. ap (λ (s : Saved). s.probabilities.chroma) d;
       vectors = λ e. ap (λ (s : Saved). s.probabilities.vectors) d;
-      vector = λ e. absurd cc;
+      vector = λ e i j ne. absurd (ne (ap (λ (s : Saved). slice_index (slice_index_or s.probabilities.vectors i []) j) d));
     }

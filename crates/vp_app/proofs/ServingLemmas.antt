@@ -1,0 +1,48 @@
+-- One more file, and one more connection.
+use Rattle.std.proofs.Common.{◌≡◌, ◌++◌, ◌+◌, ℕ, List, [], ◌∷◌, Option, None, Result, refl, ap, sym, subst, ◌∙◌, Bool, true, false, length, arith, inl, inr, add-zero}
+use Rattle.std.specs.Prelude.{◌&&◌, Ok, Err, IfOk, codes, is_ok, MatchBool}
+use Rattle.std.specs.Str.{bytes_eq}
+use Rattle.std.specs.Io.KnownBytes.{Consumes}
+use Rattle.vp_app.specs.declared.service.ServiceFault.{ServiceFault}
+use Rattle.vp_app.specs.Feeding.{IsFed}
+use Rattle.std.specs.List.{list_all}
+use Rattle.vp_hub.specs.declared.visit.ServeFault.{ServeFault}
+use Rattle.vp_hub.specs.Hub.{State}
+use Rattle.vp_app.specs.declared.service.Named.{Named}
+use Rattle.vp_app.specs.Serving.{AreServed, IsFileFed, IsServed}
+
+pub served_more : (os : List (Result (Unit {0}) ServeFault)) (number : ℕ) (s : State) (o : Result (Unit {0}) ServeFault)
+    → AreServed number s os → IsServed (number + length os) s o → AreServed number s (os ++ o ∷ [])
+served_more [] number s o h one = (subst (λ n. IsServed n s o) (omega arith) one, tt)
+served_more (x ∷ os) number s o h one = (h.0, served_more os (number + 1) s o h.1 (subst (λ n. IsServed n s o) (omega arith) one))
+
+-- whether all are well, where one more isn't, and where it is
+pub well_no_more : (os : List (Result (Unit {0}) ServeFault)) (o : Result (Unit {0}) ServeFault) → is_ok o ≡ false → false ≡ list_all is_ok (os ++ o ∷ [])
+well_no_more [] o h = rw h refl
+well_no_more (x ∷ os) o h = no (is_ok x) (list_all is_ok (os ++ o ∷ [])) (well_no_more os o h)
+  where
+    no : (a b : Bool) → false ≡ b → false ≡ (a && b)
+    no true b e = e
+    no false b e = refl
+
+pub well_more : (os : List (Result (Unit {0}) ServeFault)) (o : Result (Unit {0}) ServeFault) → is_ok o ≡ true → list_all is_ok os ≡ list_all is_ok (os ++ o ∷ [])
+well_more [] o h = rw h refl
+well_more (x ∷ os) o h = ap (λ b. is_ok x && b) (well_more os o h)
+
+pub from_input : (s : Named) (old new : State) (before after : Option (List ℕ)) (r : Result (Unit {0}) ServiceFault) → bytes_eq s.file.now (codes "-") ≡ true
+    → IfOk r (λ _. (file : List ℕ) × Consumes before after file × IsFed s.name.now old new file after) → IfOk r (λ _. IsFileFed s old new before after)
+from_input s old new before after (Ok u) e h = (
+  h.0,
+  subst (λ b. MatchBool b (Consumes before after h.0 × IsFed s.name.now old new h.0 after)
+      ((after ≡ before) × ((left : Option (List ℕ)) × IsFed s.name.now old new h.0 left))) (sym e) (h.1, h.2),
+)
+from_input s old new before after (Err f) e h = h
+
+pub from_file : (s : Named) (old new : State) (before first left : Option (List ℕ)) (r : Result (Unit {0}) ServiceFault) → bytes_eq s.file.now (codes "-") ≡ false
+    → IfOk r (λ _. (file : List ℕ) × Consumes first left file × IsFed s.name.now old new file left) → IfOk r (λ _. IsFileFed s old new before before)
+from_file s old new before first left (Ok u) e h = (
+  h.0,
+  subst (λ b. MatchBool b (Consumes before before h.0 × IsFed s.name.now old new h.0 before)
+      ((before ≡ before) × ((left : Option (List ℕ)) × IsFed s.name.now old new h.0 left))) (sym e) (refl, (left, h.2)),
+)
+from_file s old new before first left (Err f) e h = h

@@ -1,0 +1,20 @@
+use Rattle.std.proofs.Common.{None, inl, inr, subst}
+use Rattle.vp_base.specs.Counted.{counted_failures, HasFailed}
+use Rattle.vp_hub.specs.Visits.{IsTurnedAway, IsVisit}
+use Rattle.vp_app.proofs.service.serve_next.Goals as goal
+
+pub returns-clause-served : goal.returns-clause-served
+returns-clause-served c =
+    let old = c.args.hub.now.state in
+    let o = c.serve_one-served.result in
+    let stays = c.serve_one-served.ensures.stays in
+    let failures = counted_failures c.serve_one-served.new.writer in
+    elim c.serve_one-served.ensures.served [
+      | inl x ↦ inr (inl (subst (λ s. IsTurnedAway c.args.number old s o) stays x.0))
+      | inr (read, consumed, visit) ↦ inr (inr (
+        read,
+        failures,
+        subst (λ n. IsVisit c.args.number old old o read None None None (HasFailed n failures)) c.new-writer.ensures.failures
+            (subst (λ s. IsVisit c.args.number old s o read None None None (HasFailed (counted_failures c.new-writer.result) failures)) stays visit),
+      ))
+    ]

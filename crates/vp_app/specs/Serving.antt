@@ -1,0 +1,62 @@
+-- Inside the crate: a new hub, a stream's file that is fed into it, and connections that are served, one after another.
+use Rattle.std.specs.Prelude.{◌≡◌, ◌⊎◌, ◌+◌, ℕ, Bool, List, [], ◌∷◌, length, map, codes, Option, None, Result, Err, is_ok, MatchBool}
+use Rattle.std.specs.List.{list_all}
+use Rattle.std.specs.Str.{bytes_eq}
+use Rattle.std.specs.Io.KnownBytes.{Consumes}
+use Rattle.vp_base.specs.Counted.{HasFailed}
+use Rattle.vp_base.specs.declared.limits.Limits.{Limits}
+use Rattle.vp_cache.specs.Kept.{empty}
+use Rattle.vp_hub.specs.declared.visit.ServeFault.{ServeFault}
+use Rattle.vp_hub.specs.declared.visit.ServeFault.TheVariants.{Device}
+use Rattle.vp_hub.specs.Hub.{State, fresh}
+use Rattle.vp_hub.specs.Work.{Whole}
+use Rattle.vp_hub.specs.Visits.{IsVisit, IsTurnedAway}
+use Rattle.vp_app.specs.declared.service.Named.{Named}
+use Rattle.vp_app.specs.Feeding.{IsFed}
+
+-- ---- the hub
+
+-- the limits of the program's commands, with so many pictures to be kept
+pub record AreLimits (cache : ℕ) (limits : Limits) : Type 0 where
+  pub pixels : limits.pixels ≡ 16777216
+  pub packet_bytes : limits.packet_bytes ≡ 16777216
+  pub packets : limits.packets ≡ 1048576
+  pub cache_is : limits.cache ≡ cache
+
+abbrev pub names_of : List Named → List (List ℕ)
+names_of streams = map (λ s. s.name.now) streams
+
+-- a hub of the streams, which no event came to
+abbrev pub IsNewHub : List Named → ℕ → Whole → Type 0
+IsNewHub streams cache hub =
+    (limits : Limits) × AreLimits cache limits × (hub ≡ record { state = fresh (names_of streams) limits; cache = empty limits.cache; work = 0 })
+
+-- ---- the files
+
+-- the stream was fed its file, which for `-` is what the input has from here on
+abbrev pub IsFileFed : Named → State → State → Option (List ℕ) → Option (List ℕ) → Type 0
+IsFileFed s old new before after =
+    (file : List ℕ) × MatchBool (bytes_eq s.file.now (codes "-"))
+    (Consumes before after file × IsFed s.name.now old new file after)
+    ((after ≡ before) × ((left : Option (List ℕ)) × IsFed s.name.now old new file left))
+
+-- ---- the connections
+
+-- no connection of this number could be accepted; or it was turned away; or it was served, over a socket, whose bytes nobody
+-- knows. The hub's state is as before.
+abbrev pub IsServed : ℕ → State → Result (Unit {0}) ServeFault → Type 0
+IsServed number s o =
+    (o ≡ Err Device) ⊎ (IsTurnedAway number s s o
+    ⊎ ((read : List ℕ) × (failures : ℕ) × IsVisit number s s o read None None None (HasFailed 0 failures)))
+
+-- each in turn, numbered from this number on
+abbrev pub AreServed : ℕ → State → List (Result (Unit {0}) ServeFault) → Type 0
+AreServed number s [] = Unit {0}
+AreServed number s (o ∷ os) = IsServed number s o × AreServed (number + 1) s os
+
+-- so many connections were served, and whether each was served to its end
+pub record IsServing (connections : ℕ) (s : State) (well : Bool) : Type 0 where
+  pub outcomes : List (Result (Unit {0}) ServeFault)
+  pub count : length outcomes ≡ connections
+  pub served : AreServed 0 s outcomes
+  pub well_is : well ≡ list_all is_ok outcomes

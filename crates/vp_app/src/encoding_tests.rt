@@ -1,0 +1,145 @@
+//! The words of `encode`, and what it tells.
+
+use crate::command;
+use std::alloc::{AllocError, Global};
+use std::test::Fail;
+use vp_base::Counted;
+
+/// The line of a source of 16 by 16 pixels, 30 pictures a second.
+const LINE: &[u8] = b"YUV4MPEG2 W16 H16 F30:1 Ip A0:0 C420jpeg\n";
+
+/// The status of the program with these words and a source as its input, how many bytes it writes, and whether it tells
+/// just this on `errors`.
+fn run(rt: &HostRuntime, words: &[&str], source: &[u8], told: &[u8]) -> (u8, usize, bool) {
+    let mut input = Counted::new(source);
+    let mut output = Counted::new(Vec::new(rt.alloc()));
+    let mut errors = Counted::new(Vec::new(rt.alloc()));
+    let status = command(rt, words, &mut input, &mut output, &mut errors);
+    (
+        status,
+        output.into_inner().len(),
+        errors.into_inner().as_slice() == told,
+    )
+}
+
+/// The same for `encode` with an option and its value.
+fn encoded(
+    rt: &HostRuntime,
+    option: &str,
+    value: &str,
+    source: &[u8],
+    told: &[u8],
+) -> (u8, usize, bool) {
+    run(
+        rt,
+        &["vp8", "encode", option, value, "-", "-"],
+        source,
+        told,
+    )
+}
+
+#[test]
+fn a_source_without_pictures(rt: HostRuntime) -> Result<(), Fail> {
+    let told = b"frames 0 error 0\n";
+    assert_eq!(rt; encoded(&rt, "--qi", "0", LINE, told), (0, 32, true));
+    let words = [
+        "vp8",
+        "encode",
+        "--simple",
+        "--subpel",
+        "--progress",
+        "-",
+        "-",
+    ];
+    assert_eq!(rt; run(&rt, &words, LINE, told), (0, 32, true));
+    Ok(())
+}
+
+#[test]
+fn settings_are_refused(rt: HostRuntime) -> Result<(), Fail> {
+    let told = b"vp8: Settings\n";
+    assert_eq!(rt; encoded(&rt, "--qi", "200", LINE, told), (1, 0, true));
+    assert_eq!(rt; encoded(&rt, "--filter", "64", LINE, told), (1, 0, true));
+    assert_eq!(rt; encoded(&rt, "--sharpness", "8", LINE, told), (1, 0, true));
+    assert_eq!(rt; encoded(&rt, "--key-every", "0", LINE, told), (1, 0, true));
+    assert_eq!(rt; encoded(&rt, "--range", "65", LINE, told), (1, 0, true));
+    assert_eq!(rt; encoded(&rt, "--partitions", "3", LINE, told), (1, 0, true));
+    Ok(())
+}
+
+#[test]
+fn values_are_refused(rt: HostRuntime) -> Result<(), Fail> {
+    let byte = b"error: --qi is a decimal number up to 255\n";
+    assert_eq!(rt; encoded(&rt, "--qi", "300", LINE, byte), (2, 0, true));
+    assert_eq!(rt; encoded(&rt, "--qi", "+3", LINE, byte), (2, 0, true));
+    let count = b"error: --key-every is a decimal number\n";
+    assert_eq!(rt; encoded(&rt, "--key-every", "", LINE, count), (2, 0, true));
+    assert_eq!(rt;
+        encoded(&rt, "--key-every", "4294967296", LINE, count),
+        (2, 0, true)
+    );
+    Ok(())
+}
+
+#[test]
+fn the_input_is_opened_first(rt: HostRuntime) -> Result<(), Fail> {
+    let words = ["vp8", "encode", "no/such/file", "no/such/place"];
+    assert_eq!(rt; run(&rt, &words, LINE, b"vp8: Device\n"), (1, 0, true));
+    assert_eq!(rt;
+        encoded(&rt, "--qi", "0", b"YUV4MPEG2 W1", b"vp8: Torn\n"),
+        (1, 0, true)
+    );
+    assert_eq!(rt; run(&rt, &["vp8", "encode", "-"], LINE, b"").0, 2);
+    Ok(())
+}
+
+/// A source of so many pictures: the first four rows of luma are 128, the others 129, colour is 128.
+fn source(alloc: Global, pictures: u32) -> Result<Vec<u8>, AllocError> {
+    let mut bytes = LINE.to_vec(alloc)?;
+    for _ in 0..pictures {
+        bytes.extend_from_slice(b"FRAME\n")?;
+        bytes.extend_from_slice(&[128; 64])?;
+        bytes.extend_from_slice(&[129; 192])?;
+        bytes.extend_from_slice(&[128; 128])?;
+    }
+    Ok(bytes)
+}
+
+/// What `vp8 decode --y4m` makes of what `vp8 encode --qi 0` makes of a source, where both tell just this.
+fn decoded_back(rt: &HostRuntime, source: &[u8], told: &[u8]) -> Option<Vec<u8>> {
+    let mut input = Counted::new(source);
+    let mut packets = Counted::new(Vec::new(rt.alloc()));
+    let mut errors = Counted::new(Vec::new(rt.alloc()));
+    let encode = ["vp8", "encode", "--qi", "0", "-", "-"];
+    let encoded = command(rt, &encode, &mut input, &mut packets, &mut errors);
+    let packets = packets.into_inner();
+    let mut input = Counted::new(packets.as_slice());
+    let mut pictures = Counted::new(Vec::new(rt.alloc()));
+    let decode = ["vp8", "decode", "--y4m", "-", "-"];
+    let decoded = command(rt, &decode, &mut input, &mut pictures, &mut errors);
+    if encoded == 0 && decoded == 0 && errors.into_inner().as_slice() == told {
+        Some(pictures.into_inner())
+    } else {
+        None
+    }
+}
+
+#[test]
+fn encode_and_decode_back(rt: HostRuntime) -> Result<(), Fail> {
+    let bytes = source(rt.alloc(), 1)?;
+    assert_eq!(rt; bytes.len(), 431);
+    let Some(back) = decoded_back(&rt, &bytes, b"frames 1 error 0\n") else {
+        return Err(Fail::new("it isn't encoded and decoded"));
+    };
+    assert!(rt; back.as_slice() == bytes.as_slice());
+    Ok(())
+}
+
+#[test]
+fn progress_is_told(rt: HostRuntime) -> Result<(), Fail> {
+    let bytes = source(rt.alloc(), 11)?;
+    let words = ["vp8", "encode", "--qi", "0", "--progress", "-", "-"];
+    let (status, _, told) = run(&rt, &words, &bytes, b"frame 10\nframes 11 error 0\n");
+    assert_eq!(rt; (status, told), (0, true));
+    Ok(())
+}

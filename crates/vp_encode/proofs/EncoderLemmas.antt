@@ -1,0 +1,203 @@
+-- What an encoder's packet leaves.
+use Rattle.std.proofs.Common.{◌≡◌, ◌∙◌, ℕ, ◌*◌, ◌≤◌, Bool, true, false, List, refl, sym, ap, subst, arith, inl, inr, eqb}
+use Rattle.std.specs.Prelude.{◌⊎◌, Option, Some, None, IfSome, Result, Ok, IsOkAnd, option_map, if◌then◌else◌}
+use Rattle.vp_base.specs.declared.place.Place.{Place}
+use Rattle.vp_base.specs.declared.limits.Dim.{Dim}
+use Rattle.vp_base.specs.declared.limits.Limits.{Limits}
+use Rattle.vp_base.specs.Grid.{Has}
+use Rattle.vp_base.specs.Image.{Image, macroblocks}
+use Rattle.vp_head.specs.declared.fault.PacketFault.{PacketFault}
+use Rattle.vp_head.specs.Saved.{defaults}
+use Rattle.vp_modes.specs.Map.{of_segments, segments_of}
+use Rattle.vp_decode.specs.Step.{Opened, opened, Kept, Answer, Shown, Hidden, Fault, key_before, key_frame, key_kept, inter_frame, inter_kept, plan_of, step}
+use Rattle.vp_decode.proofs.SizeLemmas.{KeepsShape, picture_shaped}
+use Rattle.vp_encode.specs.declared.coded.Coded.{Coded}
+use Rattle.vp_encode.specs.Coded.{macroblock_at}
+use Rattle.vp_encode.specs.Said.{key_tag, Says}
+use Rattle.vp_encode.specs.Encoder.{Encoding, AreAllowed, kept_for, saved_in, references_in, modes_before, tag_key, header_of, continued, frame_for}
+use Rattle.vp_encode.specs.Chosen.{IsChosen}
+use Rattle.vp_encode.specs.Choosing.{AreUnsegmented}
+use Rattle.vp_encode.specs.TooLong.{IsFrameFor}
+use Rattle.vp_encode.specs.Between.{HasSize, IsPacketOver, IsKeptFor, IsSound, Shows}
+use Rattle.vp_encode.proofs.Showing.{key_shows, inter_shows}
+use Rattle.vp_encode.proofs.Carried.{segments_stay, chosen_unsegmented, carried}
+
+-- Limits that are wide enough for every picture are so for this one.
+product : (w h : ℕ) → w ≤ 16383 → h ≤ 16383 → w * h ≤ 268402689
+product w h a b = grind arith
+
+size_fits : (dim : Dim) (pixels : ℕ) → 268402689 ≤ pixels → dim.w * dim.h ≤ pixels
+size_fits dim pixels wide = let p = product dim.w dim.h dim.w_in_range.1 dim.h_in_range.1 in omega arith
+
+-- what the packet leaves, under all limits that its size passes
+pub record Leaves (dim : Dim) (state : Option Kept) (packet : List ℕ) : Type 0 where
+  pub kept : Kept
+  pub sound : IsKeptFor dim kept
+  pub is : (limits : Limits) → dim.w * dim.h ≤ limits.pixels → step limits state packet ≡ (Some kept, Shown kept.references.newest)
+
+-- a frame of this size, whose macroblocks are of segment 0
+pub record IsPlain (dim : Dim) (c : Coded) : Type 0 where
+  pub columns : c.macroblocks.columns ≡ macroblocks dim.w
+  pub rows : c.macroblocks.rows ≡ macroblocks dim.h
+  pub zero : (p : Place) → Has c.macroblocks p → (macroblock_at c p).modes.segment ≡ 0
+
+key_leaves : KeepsShape → (dim : Dim) (state : Option Kept) (c : Coded) (packet : List ℕ) → IsPlain dim c → IsPacketOver dim None c packet → Leaves dim state packet
+key_leaves law dim state c packet simple x =
+    let o : Opened = x.opening in
+    let s = picture_shaped law (key_frame o dim) in
+    record {
+      kept = key_kept o dim;
+      sound = record {
+        size = record { width = s.width_is; height = s.height_is };
+        segments = segments_stay dim (Some (key_tag dim)) defaults None (key_before dim) c packet o refl refl simple.columns simple.rows x.says simple.zero;
+      };
+      is = λ limits fits. key_shows dim c packet x limits state fits;
+    }
+
+inter_leaves : KeepsShape → (dim : Dim) (k : Kept) (c : Coded) (packet : List ℕ) → IsPlain dim c → IsKeptFor dim k → IsPacketOver dim (Some k) c packet → Leaves dim (Some k) packet
+inter_leaves law dim k c packet simple sound x =
+    let o : Opened = x.opening in
+    let s = picture_shaped law (inter_frame o k) in
+    let stay : AreUnsegmented dim (segments_of (plan_of o (Some k.references) (of_segments k.segments) dim.w dim.h).maps.modes) =
+    segments_stay dim None k.saved (Some k.references) (of_segments k.segments) c packet o sound.segments.columns sound.segments.rows simple.columns simple.rows (x.says k.references) simple.zero in
+    let same : segments_of (plan_of o (Some k.references) (of_segments k.segments) dim.w dim.h).maps.modes
+    ≡ segments_of (plan_of o (Some k.references) (of_segments k.segments) k.references.newest.width k.references.newest.height).maps.modes =
+    λ i. segments_of (plan_of o (Some k.references) (of_segments k.segments) (sym sound.size.width i) (sym sound.size.height i)).maps.modes in
+    record {
+      kept = inter_kept o k;
+      sound = record {
+        size = record { width = s.width_is ∙ sound.size.width; height = s.height_is ∙ sound.size.height };
+        segments = subst (AreUnsegmented dim) same stay;
+      };
+      is = λ limits fits. inter_shows dim k c packet x limits;
+    }
+
+-- What the next frame is told over is nothing, or the state that stands.
+none_or : (b : Bool) (state : Option Kept) → ((if b then None else state) ≡ None) ⊎ ((if b then None else state) ≡ state)
+none_or true state = inl refl
+none_or false state = inr refl
+
+kept_is : (e : Encoding) → (kept_for e ≡ None) ⊎ (kept_for e ≡ e.state)
+kept_is e = none_or (eqb e.since e.settings.key_every) e.state
+
+packet_leaves : KeepsShape → (dim : Dim) (state kept : Option Kept) (c : Coded) (packet : List ℕ) → (kept ≡ None) ⊎ (kept ≡ state)
+    → IsPlain dim c → IfSome state (IsKeptFor dim) → IsPacketOver dim kept c packet → Leaves dim state packet
+packet_leaves law dim state None c packet is simple sound x = key_leaves law dim state c packet simple x
+packet_leaves law dim state (Some k) c packet is simple sound x = elim is [
+  | inl e ↦ absurd cc
+  | inr e ↦ subst (λ (s : Option Kept). Leaves dim s packet) e (inter_leaves law dim k c packet simple (subst (λ (s : Option Kept). IfSome s (IsKeptFor dim)) (sym e) sound) x)
+]
+
+-- ---- what the packet says
+
+abbrev SaysOver : Dim → Option Kept → Coded → List ℕ → Opened → Type 0
+SaysOver dim kept c packet o = Says (tag_key dim kept) (saved_in kept) (references_in kept) (modes_before dim kept) dim.w dim.h c packet o
+
+is_ok_and : (P : Opened → Type 0) (r : Result Opened PacketFault) (o : Opened) → r ≡ Ok o → P o → IsOkAnd r P
+is_ok_and P r o is h = subst (λ (z : Result Opened PacketFault). IsOkAnd z P) (sym is) h
+
+packet_says : (dim : Dim) (state kept : Option Kept) (c : Coded) (packet : List ℕ) → (kept ≡ None) ⊎ (kept ≡ state) → IsPacketOver dim kept c packet
+    → (l : Limits) → dim.w * dim.h ≤ l.pixels → IsOkAnd (opened l (option_map (λ k. k.saved) state) packet) (SaysOver dim kept c packet)
+packet_says dim state None c packet is x l fits =
+    is_ok_and (SaysOver dim None c packet) (opened l (option_map (λ k. k.saved) state) packet) x.opening (x.opens l (option_map (λ k. k.saved) state) fits) x.says
+packet_says dim state (Some k) c packet is x l fits = elim is [
+  | inl e ↦ absurd cc
+  | inr e ↦ subst (λ (s : Option Kept). IsOkAnd (opened l (option_map (λ k. k.saved) s) packet) (SaysOver dim (Some k) c packet)) e
+      (is_ok_and (SaysOver dim (Some k) c packet) (opened l (Some k.saved) packet) x.opening (x.opens l) (x.says k.references))
+]
+
+-- ---- the frame that is chosen
+
+module _ (e : Encoding) (source : Image) (c : Coded) (allowed : AreAllowed e.settings) (sound : IfSome e.state (IsKeptFor e.dim)) (size : HasSize e.dim source) (is : IsFrameFor e source c) where
+  width : (frame_for e source).source.width ≡ e.dim.w
+  unfolding continued
+  width = size.width
+
+  height : (frame_for e source).source.height ≡ e.dim.h
+  unfolding continued
+  height = size.height
+
+  whole : record { header = header_of e; macroblocks = c.macroblocks } ≡ c
+  whole = λ i. record { header = sym is.header i; macroblocks = c.macroblocks }
+
+  pub frame_plain : IsPlain e.dim c
+  frame_plain = record {
+    columns = is.chosen.columns ∙ ap macroblocks width;
+    rows = is.chosen.rows ∙ ap macroblocks height;
+    zero = λ p has. chosen_unsegmented (frame_for e source) c.macroblocks is.chosen p has;
+  }
+
+  module _ (packet : List ℕ) (over : IsPacketOver e.dim (kept_for e) c packet) where
+    pub frame_leaves : KeepsShape → Leaves e.dim e.state packet
+    frame_leaves law = packet_leaves law e.dim e.state (kept_for e) c packet (kept_is e) frame_plain sound over
+
+    pub frame_chosen : (limits : Limits) → 268402689 ≤ limits.pixels → IsChosen e source packet
+    frame_chosen limits wide =
+        carried e source packet c.macroblocks allowed size.width size.height is.chosen limits (size_fits e.dim limits.pixels wide)
+        (λ l fits. subst (λ (x : Coded). IsOkAnd (opened l (option_map (λ k. k.saved) e.state) packet) (SaysOver e.dim (kept_for e) x packet)) (sym whole)
+        (packet_says e.dim e.state (kept_for e) c packet (kept_is e) over l fits))
+
+-- ---- what is shown
+
+-- what is left and shown, where the decoder's step is known
+pub record IsShown (dim : Dim) (state : Option Kept) (packet : List ℕ) (new : Option Kept) (recon : Image) : Type 0 where
+  pub decoded : (limits : Limits) → dim.w * dim.h ≤ limits.pixels → step limits state packet ≡ (new, Shown recon)
+  pub size : HasSize dim recon
+  pub kept : IfSome new (IsKeptFor dim)
+
+picture_or : Image → Answer → Image
+picture_or p (Shown q) = q
+picture_or p Hidden = p
+picture_or p (Fault f) = p
+
+same_picture : (p q : Image) → Shown p ≡ Shown q → p ≡ q
+unfolding picture_or
+same_picture p q e = ap (picture_or p) e
+
+is_shown : (limits : Limits) (dim : Dim) (state : Option Kept) (packet : List ℕ) (new : Option Kept) (recon : Image) → 268402689 ≤ limits.pixels
+    → Leaves dim state packet → step limits state packet ≡ (new, Shown recon) → IsShown dim state packet new recon
+is_shown limits dim state packet new recon wide l e =
+    let both : (Some l.kept, Shown l.kept.references.newest) ≡ (new, Shown recon) = sym (l.is limits (size_fits dim limits.pixels wide)) ∙ e in
+    let same : l.kept.references.newest ≡ recon = same_picture l.kept.references.newest recon (ap (λ (s : Option Kept × Answer). s.1) both) in
+    record {
+      decoded = λ other fits. l.is other fits ∙ both;
+      size = subst (HasSize dim) same l.sound.size;
+      kept = subst (λ (s : Option Kept). IfSome s (IsKeptFor dim)) (ap (λ (s : Option Kept × Answer). s.0) both) l.sound;
+    }
+
+-- the state where the decoder came to an end or did not begin
+either_sound : (limits : Limits) (dim : Dim) (state : Option Kept) (packet : List ℕ) (new : Option Kept) → 268402689 ≤ limits.pixels → Leaves dim state packet
+    → IfSome state (IsKeptFor dim) → (new ≡ state) ⊎ (new ≡ (step limits state packet).0) → IfSome new (IsKeptFor dim)
+either_sound limits dim state packet new wide l sound is =
+    let P : Option Kept → Type 0 = λ s. IfSome s (IsKeptFor dim) in
+    elim is [
+      | inl e ↦ subst P (sym e) sound
+      | inr e ↦ subst P (sym (e ∙ ap (λ (s : Option Kept × Answer). s.0) (l.is limits (size_fits dim limits.pixels wide)))) l.sound
+    ]
+
+-- ---- the same, in what the code has at hand: an encoder z that is open, and the bytes of a packet that are lent
+
+module _ (law : KeepsShape) (limits : Limits) (z e : Encoding) (source : Image) (c : Coded) (packet bytes : List ℕ) (same : z ≡ e) (lent : bytes ≡ packet)
+    (sound : IsSound limits z) (size : HasSize e.dim source) (is : IsFrameFor e source c) (over : IsPacketOver e.dim (kept_for e) c packet) where
+  sound_too : IsSound limits e
+  sound_too = subst (IsSound limits) same sound
+
+  leaves : Leaves e.dim e.state packet
+  leaves = frame_leaves e source c sound_too.settings sound_too.kept size is packet over law
+
+  leaves_here : Leaves z.dim z.state bytes
+  leaves_here = subst (λ (x : Encoding). Leaves x.dim x.state bytes) (sym same) (subst (Leaves e.dim e.state) (sym lent) leaves)
+
+  pub packet_shows : Shows limits z.state bytes
+  packet_shows = record { kept = leaves_here.kept; is = leaves_here.is limits (size_fits z.dim limits.pixels sound.wide) }
+
+  pub packet_shown : (new : Option Kept) (recon : Image) → step limits z.state bytes ≡ (new, Shown recon) → IsShown e.dim e.state packet new recon
+  packet_shown new recon shown =
+      let there : step limits z.state bytes ≡ step limits e.state packet = λ i. step limits (same i).state (lent i) in
+      is_shown limits e.dim e.state packet new recon sound.wide leaves (sym there ∙ shown)
+
+  pub packet_kept : (new : Option Kept) (recon : Image) → step limits z.state bytes ≡ (new, Shown recon) → IfSome new (IsKeptFor z.dim)
+  packet_kept new recon shown = subst (λ (x : Encoding). IfSome new (IsKeptFor x.dim)) (sym same) (packet_shown new recon shown).kept
+
+  pub either_kept : (new : Option Kept) → (new ≡ z.state) ⊎ (new ≡ (step limits z.state bytes).0) → IfSome new (IsKeptFor z.dim)
+  either_kept new either = either_sound limits z.dim z.state bytes new sound.wide leaves_here sound.kept either

@@ -1,0 +1,265 @@
+-- A file's pictures are encoded, one after another.
+use Rattle.std.proofs.Common.{◌≡◌, ◌≢◌, ℕ, ◌+◌, ◌^◌, ◌<◌, ◌≤◌, List, [], ◌∷◌, ◌++◌, length, map, Option, Some, None, Result, Ok, Err, refl, sym, ap, subst, ◌∙◌, inl, inr, append_assoc, add-zero, arith}
+use Rattle.std.specs.List.{All, sum_by}
+use Rattle.std.specs.Io.KnownBytes.{Appends, Consumes, IsAtEnd}
+use Rattle.std.proofs.KnownBytes.{Consumes-nil, Consumes-trans}
+use Rattle.std.proofs.lemmas.List.{length-append, append-nil, map-append, length-map}
+use Rattle.std.proofs.lemmas.List.Elements.{All-nil, All-push, All-same, All-map, All-weaker}
+use Rattle.std.proofs.lemmas.List.Sums.{sum_by-cons, sum_by-append}
+use Rattle.vp_base.specs.declared.limits.Limits.{Limits}
+use Rattle.vp_base.specs.Image.{Image, i420}
+use Rattle.vp_base.specs.Counted.{AppendsFront}
+use Rattle.vp_y4m.specs.declared.fault.SourceFault.{SourceFault}
+use Rattle.vp_y4m.specs.declared.fault.SourceFault.TheVariants as source
+use Rattle.vp_y4m.specs.Header.{Head}
+use Rattle.vp_y4m.specs.Pictures.{file_head, next_of}
+use Rattle.vp_y4m.specs.Reads.{Shows, ShowsAtEnd, Fails}
+use Rattle.vp_y4m.specs.Frames.{GivesPicture}
+use Rattle.vp_y4m.specs.Source.{Answers}
+use Rattle.vp_encode.specs.declared.settings.Settings.{Settings}
+use Rattle.vp_encode.specs.declared.report.EncodeReport.{EncodeReport}
+use Rattle.vp_encode.specs.declared.report.EncodeAllFault.{EncodeAllFault}
+use Rattle.vp_encode.specs.declared.report.EncodeAllFault.TheVariants as fault
+use Rattle.vp_encode.specs.Encoder.{Encoding}
+use Rattle.vp_encode.specs.Encoded.{EncodedFrame, IsEncoded, AreEncoded, fresh, error_of}
+use Rattle.vp_encode.specs.Pictures.{IsPicture, BeginWith}
+use Rattle.vp_encode.specs.File.{Work, IsDone, IsWhole, HasOneMore, IsReported, IsEndedBy, source_of, packet_of, ivf_text, text_of, fault_by}
+use Rattle.vp_encode.specs.Run.{Running, IsAdded, IsRefused, IsHeadLine, IsBegun, IsAt, IsRun, Ends, start}
+
+-- ---- one more picture
+
+begins_more : (w h : ℕ) (bytes : List ℕ) (ps : List Image) (mid : List ℕ) (p : Image) (rest : List ℕ)
+    → BeginWith w h bytes ps mid → IsPicture w h p → next_of w h mid ≡ Ok (Some (i420 p, rest)) → BeginWith w h bytes (ps ++ p ∷ []) rest
+begins_more w h bytes [] mid p rest e is next = (rest, is, ap (next_of w h) e ∙ next, refl)
+begins_more w h bytes (q ∷ ps) mid p rest b is next = (b.0, b.1, b.2, begins_more w h b.0 ps mid p rest b.3 is next)
+
+encoded_more : (e : Encoding) (fs : List EncodedFrame) (mid : Encoding) (f : EncodedFrame) (last : Encoding)
+    → AreEncoded e fs mid → IsEncoded mid f last → AreEncoded e (fs ++ f ∷ []) last
+encoded_more e [] mid f last is h = let P : Encoding → Type 0 = λ x. IsEncoded x f last in (last, subst P is h, refl)
+encoded_more e (g ∷ fs) mid f last r h = (r.0, r.1, encoded_more r.0 fs mid f last r.2 h)
+
+sum_one : {X : Type 0} (g : X → ℕ) (x : X) → sum_by g (x ∷ []) ≡ g x
+sum_one g x = sum_by-cons g x [] ∙ add-zero (g x)
+
+sum_more : {X : Type 0} (g : X → ℕ) (xs : List X) (x : X) → sum_by g (xs ++ x ∷ []) ≡ sum_by g xs + g x
+sum_more g xs x = sum_by-append g xs (x ∷ []) ∙ ap (λ n. sum_by g xs + n) (sum_one g x)
+
+pub at_start : (head : Head) (begun : Running) → (begun ≡ start begun.limits (fresh begun.encoder.dim begun.encoder.settings)) → IsAt head begun begun [] []
+at_start head begun first = record {
+  pictures = λ rest. refl;
+  encoded = refl;
+  dim = refl;
+  limits = refl;
+  packets = ap (λ (r : Running). r.packets) first;
+  error = ap (λ (r : Running). r.error) first;
+  few = omega arith;
+  small = All-nil (λ f. length f.packet ≤ begun.limits.packet_bytes);
+}
+
+pub at_more : (head : Head) (begun now new : Running) (bytes taken : List ℕ) (frames : List EncodedFrame) (f : EncodedFrame)
+    → IsAt head begun now bytes frames → IsPicture head.w head.h f.source
+    → ((rest : List ℕ) → next_of head.w head.h (taken ++ rest) ≡ Ok (Some (i420 f.source, rest)))
+    → IsAdded now f new → IsAt head begun new (bytes ++ taken) (frames ++ f ∷ [])
+at_more head begun now new bytes taken frames f h is next a =
+    let P : EncodedFrame → Type 0 = λ x. length x.packet ≤ begun.limits.packet_bytes in
+    let many : length now.packets ≡ length frames = ap length h.packets ∙ length-map frames packet_of in
+    record {
+      pictures = λ rest.
+          let B : List ℕ → Type 0 = λ b. BeginWith head.w head.h b (map source_of (frames ++ f ∷ [])) rest in
+          let Q : List Image → Type 0 = λ ps. BeginWith head.w head.h (bytes ++ (taken ++ rest)) ps rest in
+          subst B (sym (append_assoc bytes taken rest))
+          (subst Q (sym (map-append source_of frames (f ∷ [])))
+          (begins_more head.w head.h (bytes ++ (taken ++ rest)) (map source_of frames) (taken ++ rest) f.source rest (h.pictures (taken ++ rest)) is (next rest)));
+      encoded = encoded_more begun.encoder frames now.encoder f new.encoder h.encoded a.encoded;
+      dim = a.encoded.dim ∙ h.dim;
+      limits = a.limits ∙ h.limits;
+      packets = a.packets ∙ (ap (λ ps. ps ++ f.packet ∷ []) h.packets ∙ sym (map-append packet_of frames (f ∷ [])));
+      error = a.error ∙ (ap (λ n. n + error_of f) h.error ∙ sym (sum_more error_of frames f));
+      few = let room = a.room in let same = ap (λ (l : Limits). l.packets) h.limits in omega (arith, length-append frames (f ∷ []));
+      small = All-push P frames f h.small (let L : Limits → Type 0 = λ l. length f.packet ≤ l.packet_bytes in subst L h.limits a.small);
+    }
+
+-- ---- the ends
+
+module _ (front : List ℕ) (head : Head) (begun now : Running) (bytes : List ℕ) (frames : List EncodedFrame)
+    (b : IsBegun front head begun) (h : IsAt head begun now bytes frames) where
+  abbrev work : List ℕ → Work
+  work rest = record { head = head; frames = frames; encoder = now.encoder; rest = rest }
+
+  done : (rest : List ℕ) → IsDone begun.limits begun.encoder.settings (front ++ (bytes ++ rest)) (work rest)
+  done rest = let E : Encoding → Type 0 = λ e. AreEncoded e frames now.encoder in record {
+    body = bytes ++ rest;
+    headed = b.line (bytes ++ rest);
+    allowed = b.allowed;
+    pictures = h.pictures rest;
+    dim = begun.encoder.dim;
+    width = b.width;
+    height = b.height;
+    encoded = subst E (ap (λ (r : Running). r.encoder) b.first) h.encoded;
+    few = h.few;
+    small = h.small;
+  }
+
+  one_more : (taken : List ℕ) (p : Image) → IsPicture head.w head.h p
+      → ((rest : List ℕ) → next_of head.w head.h (taken ++ rest) ≡ Ok (Some (i420 p, rest))) → HasOneMore (work taken) p
+  one_more taken p is next = ([], is, ap (next_of head.w head.h) (sym (append-nil taken)) ∙ next [], refl)
+
+  many : length now.packets ≡ length frames
+  many = ap length h.packets ∙ length-map frames packet_of
+
+  most : now.limits.packets ≡ begun.limits.packets
+  most = ap (λ (l : Limits). l.packets) h.limits
+
+  -- the run refuses a picture
+  pub refused : (taken : List ℕ) (p : Image) → IsPicture head.w head.h p
+      → ((rest : List ℕ) → next_of head.w head.h (taken ++ rest) ≡ Ok (Some (i420 p, rest)))
+      → (f : EncodeAllFault) → IsRefused now p f → (written : Option (List ℕ)) → IsEndedBy begun.limits begun.encoder.settings f (front ++ (bytes ++ taken)) written written
+  refused taken p is next fault.Magic r written = absurd r
+  refused taken p is next fault.Size r written = absurd r
+  refused taken p is next fault.Colour r written = absurd r
+  refused taken p is next fault.Interlaced r written = absurd r
+  refused taken p is next fault.Torn r written = absurd r
+  refused taken p is next fault.Settings r written = absurd r
+  refused taken p is next fault.TooMany r written = (work taken, p, done taken, one_more taken p is next, sym many ∙ (r ∙ most))
+  refused taken p is next fault.TooLong r written =
+      let room = r.0 in let same = most in let counted = many in
+      (work taken, p, done taken, one_more taken p is next, omega arith, r.1)
+  refused taken p is next fault.PacketTooLarge r written =
+      let room = r.3 in let same = most in let counted = many in
+      let M : Image → Type 0 = λ q. HasOneMore (work taken) q in
+      let L : Limits → Type 0 = λ l. l.packet_bytes < length r.0.packet in
+      (work taken, r.0, r.1, done taken, subst M (sym r.2) (one_more taken p is next), omega arith, r.4, subst L h.limits r.5)
+  refused taken p is next fault.Device r written = absurd r
+  refused taken p is next fault.Memory r written = tt
+
+  -- the source has a fault behind these pictures
+  shown_end : (f : SourceFault) (taken : List ℕ) → ((rest : List ℕ) → next_of head.w head.h (taken ++ rest) ≡ Err f) → next_of head.w head.h taken ≡ Err f
+  shown_end f taken next = ap (next_of head.w head.h) (sym (append-nil taken)) ∙ next []
+
+  pub failed : (f : SourceFault) (before after : Option (List ℕ)) → Fails (next_of head.w head.h) f before after
+      → (taken : List ℕ) × Consumes before after taken
+      × ((written : Option (List ℕ)) → IsEndedBy begun.limits begun.encoder.settings (fault_by f) (front ++ (bytes ++ taken)) written written)
+  failed source.Magic before after s = (s.taken, s.consumed, λ written. inr (work s.taken, done s.taken, shown_end source.Magic s.taken s.shown))
+  failed source.Size before after s = (s.taken, s.consumed, λ written. inr (work s.taken, done s.taken, shown_end source.Size s.taken s.shown))
+  failed source.Colour before after s = (s.taken, s.consumed, λ written. inr (work s.taken, done s.taken, shown_end source.Colour s.taken s.shown))
+  failed source.Interlaced before after s = (s.taken, s.consumed, λ written. inr (work s.taken, done s.taken, shown_end source.Interlaced s.taken s.shown))
+  failed source.Torn before after s = (s.taken, s.consumed, λ written. inr (work s.taken, done s.taken, s.shown))
+  failed source.Device before after s = (s.0, s.1, λ written. inl refl)
+  failed source.Memory before after s = absurd s
+
+  pub next_failed : (f : SourceFault) (before after : Option (List ℕ)) → (f ≢ source.Memory → Fails (next_of head.w head.h) f before after)
+      → (f ≡ source.Memory → after ≡ before)
+      → (taken : List ℕ) × Consumes before after taken
+      × ((written : Option (List ℕ)) → IsEndedBy begun.limits begun.encoder.settings (fault_by f) (front ++ (bytes ++ taken)) written written)
+  next_failed source.Magic before after s m = failed source.Magic before after (s (λ e. cc))
+  next_failed source.Size before after s m = failed source.Size before after (s (λ e. cc))
+  next_failed source.Colour before after s m = failed source.Colour before after (s (λ e. cc))
+  next_failed source.Interlaced before after s m = failed source.Interlaced before after (s (λ e. cc))
+  next_failed source.Torn before after s m = failed source.Torn before after (s (λ e. cc))
+  next_failed source.Device before after s m = failed source.Device before after (s (λ e. cc))
+  next_failed source.Memory before after s m =
+      let C : Option (List ℕ) → Type 0 = λ a. Consumes before a [] in ([], subst C (sym (m refl)) (Consumes-nil before), λ written. tt)
+
+  -- all pictures were encoded
+  pub ended : (before after : Option (List ℕ)) → ShowsAtEnd (next_of head.w head.h) (Ok None) before after
+      → (taken : List ℕ) × Consumes before after taken × IsAtEnd after
+      × ((w : Work) × IsDone begun.limits begun.encoder.settings (front ++ (bytes ++ taken)) w × IsWhole w × (w.head ≡ head) × IsRun w now)
+  ended before after s =
+      (s.taken, s.consumed, s.at_end, (work s.taken, done s.taken, s.shown, refl, record { packets = h.packets; error = h.error }))
+
+-- ---- the head
+
+head_shown_end : (pixels : ℕ) (f : SourceFault) (taken : List ℕ) → ((rest : List ℕ) → file_head pixels (taken ++ rest) ≡ Err f) → file_head pixels taken ≡ Err f
+head_shown_end pixels f taken shown = ap (file_head pixels) (sym (append-nil taken)) ∙ shown []
+
+pub head_failed : (limits : Limits) (settings : Settings) (f : SourceFault) (before after : Option (List ℕ)) → Fails (file_head limits.pixels) f before after
+    → (file : List ℕ) × Consumes before after file × ((written : Option (List ℕ)) → IsEndedBy limits settings (fault_by f) file written written)
+head_failed limits settings source.Magic before after s = (s.taken, s.consumed, λ written. inl (head_shown_end limits.pixels source.Magic s.taken s.shown))
+head_failed limits settings source.Size before after s = (s.taken, s.consumed, λ written. inl (head_shown_end limits.pixels source.Size s.taken s.shown))
+head_failed limits settings source.Colour before after s = (s.taken, s.consumed, λ written. inl (head_shown_end limits.pixels source.Colour s.taken s.shown))
+head_failed limits settings source.Interlaced before after s = (s.taken, s.consumed, λ written. inl (head_shown_end limits.pixels source.Interlaced s.taken s.shown))
+head_failed limits settings source.Torn before after s = (s.taken, s.consumed, λ written. inl s.shown)
+head_failed limits settings source.Device before after s = (s.0, s.1, λ written. inl refl)
+head_failed limits settings source.Memory before after s = absurd s
+
+-- ---- the answers of a source
+
+pub faulty_answer : (head now : Head) (f : SourceFault) (before after : Option (List ℕ)) → now ≡ head
+    → (let r : Result (Option Image) SourceFault = Err f in let m : Result (Option Image) SourceFault = Err source.Memory in r ≢ m → Answers now.w now.h r before after)
+    → f ≢ source.Memory → Fails (next_of head.w head.h) f before after
+faulty_answer head now f before after same a n =
+    let P : Head → Type 0 = λ h. Fails (next_of h.w h.h) f before after in subst P same (a (λ e. n cc))
+
+pub given_answer : (head now : Head) (o : Option Image) (p : Image) (before after : Option (List ℕ)) → now ≡ head → o ≡ Some p
+    → Answers now.w now.h (Ok o) before after → GivesPicture head.w head.h p before after
+given_answer head now o p before after same is a =
+    let P : Head → Type 0 = λ h. GivesPicture h.w h.h p before after in
+    let Q : Option Image → Type 0 = λ x. Answers now.w now.h (Ok x) before after in
+    subst P same (subst Q is a)
+
+pub end_answer : (head now : Head) (o : Option Image) (before after : Option (List ℕ)) → now ≡ head → o ≡ None
+    → Answers now.w now.h (Ok o) before after → ShowsAtEnd (next_of head.w head.h) (Ok None) before after
+end_answer head now o before after same is a =
+    let P : Head → Type 0 = λ h. ShowsAtEnd (next_of h.w h.h) (Ok None) before after in
+    let Q : Option Image → Type 0 = λ x. Answers now.w now.h (Ok x) before after in
+    subst P same (subst Q is a)
+
+pub is_picture : (w h : ℕ) (p : Image) (before after : Option (List ℕ)) → GivesPicture w h p before after → IsPicture w h p
+is_picture w h p before after s = record { width = s.width; height = s.height; outside = s.outside }
+
+pub at_next : (head : Head) (begun now new : Running) (bytes : List ℕ) (frames : List EncodedFrame) (p : Image) (before after : Option (List ℕ))
+    → IsAt head begun now bytes frames → (s : GivesPicture head.w head.h p before after) → (f : EncodedFrame) → f.source ≡ p → IsAdded now f new
+    → IsAt head begun new (bytes ++ s.shown.taken) (frames ++ f ∷ [])
+at_next head begun now new bytes frames p before after h s f is a =
+    let P : Image → Type 0 = λ q. IsPicture head.w head.h q × ((rest : List ℕ) → next_of head.w head.h (s.shown.taken ++ rest) ≡ Ok (Some (i420 q, rest))) in
+    let k = subst P (sym is) (is_picture head.w head.h p before after s, s.shown.shown) in
+    at_more head begun now new bytes s.shown.taken frames f h k.0 k.1 a
+
+-- ---- the whole file
+
+-- the head, and then what encoding the pictures behind it came to
+pub work_ends : (limits : Limits) (settings : Settings) (run after : Running) (head now : Head) (before mid opened left : Option (List ℕ)) (result : Result (Unit {0}) EncodeAllFault)
+    → run.limits ≡ limits → run.encoder.settings ≡ settings → now ≡ head → opened ≡ mid
+    → Shows (file_head limits.pixels) (λ rest. Ok (head, rest)) before mid
+    → ((front : List ℕ) → IsHeadLine run.limits.pixels front now → (bytes : List ℕ) × Consumes opened left bytes × Ends run.limits run.encoder.settings result now (front ++ bytes) after)
+    → (file : List ℕ) × Consumes before left file × Ends limits settings result head file after
+work_ends limits settings run after head now before mid opened left result same set is bytes_are s ends =
+    let L : Limits → Head → Type 0 = λ l h. IsHeadLine l.pixels s.taken h in
+    let line : IsHeadLine run.limits.pixels s.taken now = subst (λ (h : Head). L run.limits h) (sym is) (subst (λ (l : Limits). L l head) (sym same) s.shown) in
+    let e = ends s.taken line in
+    let E : Limits → Settings → Head → Type 0 = λ l x h. Ends l x result h (s.taken ++ e.0) after in
+    let C : Option (List ℕ) → Type 0 = λ o. Consumes o left e.0 in (
+      s.taken ++ e.0,
+      Consumes-trans before mid left s.taken e.0 s.consumed (subst C bytes_are e.1),
+      subst (λ (l : Limits). E l settings head) same (subst (λ (x : Settings). E run.limits x head) set (subst (λ (h : Head). E run.limits run.encoder.settings h) is e.2)),
+    )
+
+module _ (limits : Limits) (settings : Settings) (head : Head) (file : List ℕ) (after : Running) (packets : List (List ℕ)) (same : packets ≡ after.packets)
+    (e : (w : Work) × IsDone limits settings file w × IsWhole w × (w.head ≡ head) × IsRun w after) where
+  packets_are : packets ≡ map packet_of e.0.frames
+  packets_are = same ∙ e.4.packets
+
+  pub all_small : All (λ p. length p < 2 ^ 32) packets
+  all_small =
+      let P : List ℕ → Type 0 = λ p. length p < 2 ^ 32 in
+      let range = limits.packet_bytes_in_range in
+      All-same P packets (map packet_of e.0.frames) packets_are
+      (All-map P packet_of e.0.frames
+      (All-weaker (λ (f : EncodedFrame). length f.packet ≤ limits.packet_bytes) (λ (f : EncodedFrame). length f.packet < 2 ^ 32) (λ f h. omega arith) e.0.frames e.1.small))
+
+  text_is : ivf_text head packets ≡ text_of e.0
+  text_is = ap (λ (h : Head). ivf_text h packets) (sym e.3) ∙ ap (ivf_text e.0.head) packets_are
+
+  pub written_front : (before now : Option (List ℕ)) → AppendsFront before now (ivf_text head packets) → IsEndedBy limits settings fault.Device file before now
+  written_front before now w = let P : List ℕ → Type 0 = λ t. AppendsFront before now t in inr (e.0, e.1, e.2, subst P text_is w)
+
+  pub written_whole : (before now : Option (List ℕ)) (report : EncodeReport) → report ≡ record { frames = length after.packets; error = after.error }
+      → Appends before now (ivf_text head packets) → IsReported limits settings report file before now
+  written_whole before now report is w = let P : List ℕ → Type 0 = λ t. Appends before now t in record {
+    work = e.0;
+    done = e.1;
+    whole = e.2;
+    frames = ap (λ (r : EncodeReport). r.frames) is ∙ (ap length e.4.packets ∙ length-map e.0.frames packet_of);
+    error = ap (λ (r : EncodeReport). r.error) is ∙ e.4.error;
+    writes = subst P text_is w;
+  }

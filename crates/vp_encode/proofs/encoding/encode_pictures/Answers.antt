@@ -1,0 +1,86 @@
+use Rattle.std.proofs.Common.{◌≡◌, ◌++◌, ◌∷◌, [], None, Ok, Err, refl, ap, ◌∙◌, arith}
+use Rattle.std.proofs.lemmas.Grind.{common_steps}
+use Rattle.std.proofs.lemmas.Result.{err_from_is_err_and}
+use Rattle.std.proofs.KnownBytes.{Consumes-nil, Consumes-trans}
+use Rattle.vp_y4m.specs.Source.{bytes_left, head_of, progress_after}
+use Rattle.vp_y4m.specs.Frames.{GivesPicture}
+use Rattle.vp_y4m.specs.Reads.{ShowsAtEnd}
+use Rattle.vp_y4m.specs.Pictures.{next_of}
+use Rattle.vp_encode.specs.Run.{IsBegun}
+use Rattle.vp_encode.proofs.FileLemmas.{at_start, next_failed, refused, ended, faulty_answer, given_answer, end_answer, is_picture, at_next}
+use Rattle.vp_encode.proofs.encoding.encode_pictures.Goals as goal
+
+pub loop-picture-init : goal.loop-picture-init
+loop-picture-init g c = (
+  [],
+  [],
+  Consumes-nil (bytes_left g.R.Read.remaining c.args.source.now),
+  at_start (head_of c.args.source.now) c.args.run.now c.requires.start,
+  refl,
+  refl,
+  c.requires.open,
+  refl,
+)
+
+pub returns-in_err-picture-clause-ends : goal.returns-in_err-picture-clause-ends
+returns-in_err-picture-clause-ends g c = λ front line.
+    let inv = c.loop-picture.invariant in
+    let b : IsBegun front (head_of c.args.source.now) c.args.run.now = record { line = line; first = c.requires.start; allowed = c.requires.allowed; width = c.requires.width; height = c.requires.height } in
+    let p = err_from_is_err_and c.from_residual.result c.from_residual.ensures.1 in
+    let now = next_failed front (head_of c.args.source.now) c.args.run.now c.loop-picture.run inv.0 inv.1 b inv.3 c.in_err-picture.field-0.0
+    (bytes_left g.R.Read.remaining c.loop-picture.source) (bytes_left g.R.Read.remaining c.next_picture.new.self)
+    (faulty_answer (head_of c.args.source.now) (head_of c.loop-picture.source) c.in_err-picture.field-0.0
+    (bytes_left g.R.Read.remaining c.loop-picture.source) (bytes_left g.R.Read.remaining c.next_picture.new.self) inv.5 (c.in_err-picture.ensures.answer inv.6))
+    (λ e. ap (bytes_left g.R.Read.remaining) (c.in_err-picture.ensures.memory inv.6 (ap Err e))) in
+    rw (p.1, p.2) (
+      inv.0 ++ now.0,
+      Consumes-trans (bytes_left g.R.Read.remaining c.args.source.now) (bytes_left g.R.Read.remaining c.loop-picture.source) (bytes_left g.R.Read.remaining c.next_picture.new.self) inv.0 now.0 inv.2 now.1,
+      now.2,
+    )
+
+pub returns-in_err-picture-2-clause-ends : goal.returns-in_err-picture-2-clause-ends
+returns-in_err-picture-2-clause-ends g c = λ front line.
+    let inv = c.loop-picture.invariant in
+    let b : IsBegun front (head_of c.args.source.now) c.args.run.now = record { line = line; first = c.requires.start; allowed = c.requires.allowed; width = c.requires.width; height = c.requires.height } in
+    let p = err_from_is_err_and c.from_residual-in_err-picture-2.result c.from_residual-in_err-picture-2.ensures.1 in
+    let given : GivesPicture (head_of c.args.source.now).w (head_of c.args.source.now).h c.in-Some.picture (bytes_left g.R.Read.remaining c.loop-picture.source) (bytes_left g.R.Read.remaining c.next_picture.new.self) =
+    given_answer (head_of c.args.source.now) (head_of c.loop-picture.source) c.in_ok-picture.field-0 c.in-Some.picture
+    (bytes_left g.R.Read.remaining c.loop-picture.source) (bytes_left g.R.Read.remaining c.next_picture.new.self) inv.5 c.in-Some.is (c.in_ok-picture.ensures.answer inv.6 (λ e. cc)) in
+    let is = is_picture (head_of c.args.source.now).w (head_of c.args.source.now).h c.in-Some.picture (bytes_left g.R.Read.remaining c.loop-picture.source) (bytes_left g.R.Read.remaining c.next_picture.new.self) given in
+    rw (p.1, p.2) (
+      inv.0 ++ given.shown.taken,
+      Consumes-trans (bytes_left g.R.Read.remaining c.args.source.now) (bytes_left g.R.Read.remaining c.loop-picture.source) (bytes_left g.R.Read.remaining c.next_picture.new.self) inv.0 given.shown.taken inv.2 given.shown.consumed,
+      refused front (head_of c.args.source.now) c.args.run.now c.loop-picture.run inv.0 inv.1 b inv.3 given.shown.taken c.in-Some.picture is given.shown.shown c.in_err-picture-2.field-0.0 c.in_err-picture-2.ensures,
+    )
+
+pub loop-picture-preserved : goal.loop-picture-preserved
+loop-picture-preserved g c =
+    let inv = c.loop-picture.invariant in
+    let given : GivesPicture (head_of c.args.source.now).w (head_of c.args.source.now).h c.in-Some.picture (bytes_left g.R.Read.remaining c.loop-picture.source) (bytes_left g.R.Read.remaining c.next_picture.new.self) =
+    given_answer (head_of c.args.source.now) (head_of c.loop-picture.source) c.in_ok-picture.field-0 c.in-Some.picture
+    (bytes_left g.R.Read.remaining c.loop-picture.source) (bytes_left g.R.Read.remaining c.next_picture.new.self) inv.5 c.in-Some.is (c.in_ok-picture.ensures.answer inv.6 (λ e. cc)) in
+    let f = c.in_ok-picture-2.ensures in (
+      inv.0 ++ given.shown.taken,
+      inv.1 ++ f.0 ∷ [],
+      Consumes-trans (bytes_left g.R.Read.remaining c.args.source.now) (bytes_left g.R.Read.remaining c.loop-picture.source) (bytes_left g.R.Read.remaining c.next_picture.new.self) inv.0 given.shown.taken inv.2 given.shown.consumed,
+      at_next (head_of c.args.source.now) c.args.run.now c.loop-picture.run c.picture-in-Some.new.self inv.0 inv.1 c.in-Some.picture
+          (bytes_left g.R.Read.remaining c.loop-picture.source) (bytes_left g.R.Read.remaining c.next_picture.new.self) inv.3 given f.0 f.1 f.2,
+      c.in_ok-picture.ensures.same_reference ∙ inv.4,
+      c.in_ok-picture.ensures.head ∙ inv.5,
+      c.in_ok-picture.ensures.progress inv.6 (λ e. cc) ∙ ap progress_after (ap Ok c.in-Some.is),
+      c.in_ok-picture.ensures.quiet inv.6 (λ e. cc) ∙ inv.7,
+    )
+
+pub returns-clause-ends : goal.returns-clause-ends
+returns-clause-ends g c = λ front line.
+    let inv = c.loop-picture.invariant in
+    let b : IsBegun front (head_of c.args.source.now) c.args.run.now = record { line = line; first = c.requires.start; allowed = c.requires.allowed; width = c.requires.width; height = c.requires.height } in
+    let last : ShowsAtEnd (next_of (head_of c.args.source.now).w (head_of c.args.source.now).h) (Ok None) (bytes_left g.R.Read.remaining c.loop-picture.source) (bytes_left g.R.Read.remaining c.next_picture.new.self) =
+    let none : c.in_ok-picture.field-0 ≡ None = grind (arith, common_steps) in
+    end_answer (head_of c.args.source.now) (head_of c.loop-picture.source) c.in_ok-picture.field-0
+    (bytes_left g.R.Read.remaining c.loop-picture.source) (bytes_left g.R.Read.remaining c.next_picture.new.self) inv.5 none (c.in_ok-picture.ensures.answer inv.6 (λ e. cc)) in
+    let now = ended front (head_of c.args.source.now) c.args.run.now c.loop-picture.run inv.0 inv.1 b inv.3 (bytes_left g.R.Read.remaining c.loop-picture.source) (bytes_left g.R.Read.remaining c.next_picture.new.self) last in (
+      inv.0 ++ now.0,
+      Consumes-trans (bytes_left g.R.Read.remaining c.args.source.now) (bytes_left g.R.Read.remaining c.loop-picture.source) (bytes_left g.R.Read.remaining c.next_picture.new.self) inv.0 now.0 inv.2 now.1,
+      now.3,
+    )

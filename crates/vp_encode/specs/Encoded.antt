@@ -1,0 +1,41 @@
+-- What an encoder makes of pictures, one after another.
+use Rattle.std.specs.Prelude.{◌≡◌, ◌≤◌, ◌*◌, ◌+◌, ℕ, List, [], ◌∷◌, None, if◌then◌else◌}
+use Rattle.std.specs.List.{sum_by}
+use Rattle.vp_base.specs.declared.limits.Dim.{Dim}
+use Rattle.vp_base.specs.declared.limits.Limits.{Limits}
+use Rattle.vp_base.specs.Image.{Image}
+use Rattle.vp_decode.specs.Step.{Shown, step}
+use Rattle.vp_encode.specs.declared.settings.Settings.{Settings}
+use Rattle.vp_encode.specs.Encoder.{Encoding, is_key}
+use Rattle.vp_encode.specs.Chosen.{IsChosen, squared_distance}
+
+-- before the first frame
+abbrev pub fresh : Dim → Settings → Encoding
+fresh dim settings = record { dim = dim; settings = settings; state = None; since = 0 }
+
+-- a picture, its packet, and the picture that this is decoded to
+pub record EncodedFrame : Type 0 where
+  pub source : Image
+  pub packet : List ℕ
+  pub recon : Image
+
+-- The packet is the choice for the source. Decoding it over what is kept shows the reconstruction, and what it leaves is kept
+-- for the next frame.
+pub record IsEncoded (e : Encoding) (f : EncodedFrame) (next : Encoding) : Type 0 where
+  pub chosen : IsChosen e f.source f.packet
+  pub decoded : (limits : Limits) → e.dim.w * e.dim.h ≤ limits.pixels → step limits e.state f.packet ≡ (next.state, Shown f.recon)
+  pub dim : next.dim ≡ e.dim
+  pub settings : next.settings ≡ e.settings
+  pub since : next.since ≡ (if is_key e then 1 else e.since + 1)
+
+-- one frame after another
+abbrev pub AreEncoded : Encoding → List EncodedFrame → Encoding → Type 0
+AreEncoded e [] last = last ≡ e
+AreEncoded e (f ∷ fs) last = (next : Encoding) × IsEncoded e f next × AreEncoded next fs last
+
+-- how far the reconstruction is from the source
+abbrev pub error_of : EncodedFrame → ℕ
+error_of f = squared_distance f.source f.recon
+
+abbrev pub errors_of : List EncodedFrame → ℕ
+errors_of frames = sum_by error_of frames

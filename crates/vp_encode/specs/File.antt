@@ -1,0 +1,118 @@
+-- How the work on a source file ends.
+use Rattle.std.specs.Prelude.{◌≡◌, ◌≤◌, ◌<◌, ◌⊎◌, ℕ, List, [], ◌∷◌, Option, None, Result, Ok, Err, length, map}
+use Rattle.std.specs.List.{All, enumerate_from}
+use Rattle.std.specs.Io.KnownBytes.{Appends}
+use Rattle.vp_base.specs.declared.limits.Dim.{Dim}
+use Rattle.vp_base.specs.declared.limits.Limits.{Limits}
+use Rattle.vp_base.specs.Image.{Image}
+use Rattle.vp_base.specs.Counted.{AppendsFront}
+use Rattle.vp_ivf.specs.declared.packet.Packet.{Packet}
+use Rattle.vp_ivf.specs.Text.{file_text}
+use Rattle.vp_y4m.specs.declared.fault.SourceFault.{SourceFault}
+use Rattle.vp_y4m.specs.declared.fault.SourceFault.TheVariants as source
+use Rattle.vp_y4m.specs.Header.{Head}
+use Rattle.vp_y4m.specs.Pictures.{file_head, next_of}
+use Rattle.vp_encode.specs.declared.settings.Settings.{Settings}
+use Rattle.vp_encode.specs.declared.report.EncodeReport.{EncodeReport}
+use Rattle.vp_encode.specs.declared.report.EncodeAllFault.{EncodeAllFault}
+use Rattle.vp_encode.specs.declared.report.EncodeAllFault.TheVariants as fault
+use Rattle.vp_encode.specs.Encoder.{Encoding, AreAllowed}
+use Rattle.vp_encode.specs.Encoded.{EncodedFrame, IsEncoded, AreEncoded, fresh, errors_of}
+use Rattle.vp_encode.specs.Pictures.{BeginWith}
+use Rattle.vp_encode.specs.TooLong.{IsTooLong}
+
+-- ---- what was done: the head was read, the first pictures behind it were encoded, and some bytes are left
+
+pub record Work : Type 0 where
+  pub head : Head
+  pub frames : List EncodedFrame
+  pub encoder : Encoding
+  pub rest : List ℕ
+
+abbrev pub source_of : EncodedFrame → Image
+source_of f = f.source
+
+-- with these settings, under the limits
+pub record IsDone (limits : Limits) (settings : Settings) (file : List ℕ) (w : Work) : Type 0 where
+  pub body : List ℕ
+  pub headed : file_head limits.pixels file ≡ Ok (w.head, body)
+  pub allowed : AreAllowed settings
+  pub pictures : BeginWith w.head.w w.head.h body (map source_of w.frames) w.rest
+  pub dim : Dim
+  pub width : dim.w ≡ w.head.w
+  pub height : dim.h ≡ w.head.h
+  pub encoded : AreEncoded (fresh dim settings) w.frames w.encoder
+  pub few : length w.frames ≤ limits.packets
+  pub small : All (λ f. length f.packet ≤ limits.packet_bytes) w.frames
+
+-- the pictures are all of the file
+abbrev pub IsWhole : Work → Type 0
+IsWhole w = next_of w.head.w w.head.h w.rest ≡ Ok None
+
+-- nothing is left behind one more picture
+abbrev pub HasOneMore : Work → Image → Type 0
+HasOneMore w p = BeginWith w.head.w w.head.h w.rest (p ∷ []) []
+
+-- ---- what is written: the packets behind the source's size and rate, with times 0, 1, ..
+
+abbrev pub timed : ℕ × List ℕ → Packet
+timed e = record { time = e.0; bytes = e.1 }
+
+abbrev pub ivf_text : Head → List (List ℕ) → List ℕ
+ivf_text head packets =
+    file_text (record { w = head.w; h = head.h; rate = head.rate; scale = head.scale }) (length packets) (map timed (enumerate_from 0 packets))
+
+abbrev pub packet_of : EncodedFrame → List ℕ
+packet_of f = f.packet
+
+abbrev pub text_of : Work → List ℕ
+text_of w = ivf_text w.head (map packet_of w.frames)
+
+-- ---- the ends
+
+-- what a fault of the source is for the whole work
+abbrev pub fault_by : SourceFault → EncodeAllFault
+fault_by source.Magic = fault.Magic
+fault_by source.Size = fault.Size
+fault_by source.Colour = fault.Colour
+fault_by source.Interlaced = fault.Interlaced
+fault_by source.Torn = fault.Torn
+fault_by source.Device = fault.Device
+fault_by source.Memory = fault.Memory
+
+pub record IsReported (limits : Limits) (settings : Settings) (report : EncodeReport) (file : List ℕ) (before after : Option (List ℕ)) : Type 0 where
+  pub work : Work
+  pub done : IsDone limits settings file work
+  pub whole : IsWhole work
+  pub frames : report.frames ≡ length work.frames
+  pub error : report.error ≡ errors_of work.frames
+  pub writes : Appends before after (text_of work)
+
+-- the head has this fault, or what stands behind the pictures
+abbrev pub IsFaulty : Limits → Settings → SourceFault → List ℕ → Type 0
+IsFaulty limits settings fault file =
+    (file_head limits.pixels file ≡ Err fault)
+    ⊎ ((w : Work) × IsDone limits settings file w × (next_of w.head.w w.head.h w.rest ≡ Err fault))
+
+-- A device that fails at a write leaves a front of the whole text.
+abbrev pub IsEndedBy : Limits → Settings → EncodeAllFault → List ℕ → Option (List ℕ) → Option (List ℕ) → Type 0
+IsEndedBy limits settings fault.Magic file before after = IsFaulty limits settings source.Magic file
+IsEndedBy limits settings fault.Size file before after = IsFaulty limits settings source.Size file
+IsEndedBy limits settings fault.Colour file before after = IsFaulty limits settings source.Colour file
+IsEndedBy limits settings fault.Interlaced file before after = IsFaulty limits settings source.Interlaced file
+IsEndedBy limits settings fault.Torn file before after = IsFaulty limits settings source.Torn file
+IsEndedBy limits settings fault.Settings file before after = (h : Head) × (file_head limits.pixels file ≡ Ok (h, [])) × ¬ AreAllowed settings
+IsEndedBy limits settings fault.TooMany file before after =
+    (w : Work) × (p : Image) × IsDone limits settings file w × HasOneMore w p × (length w.frames ≡ limits.packets)
+IsEndedBy limits settings fault.TooLong file before after =
+    (w : Work) × (p : Image) × IsDone limits settings file w × HasOneMore w p × (length w.frames < limits.packets) × IsTooLong w.encoder p
+IsEndedBy limits settings fault.PacketTooLarge file before after =
+    (w : Work) × (f : EncodedFrame) × (next : Encoding) × IsDone limits settings file w × HasOneMore w f.source
+    × (length w.frames < limits.packets) × IsEncoded w.encoder f next × (limits.packet_bytes < length f.packet)
+IsEndedBy limits settings fault.Device file before after =
+    (after ≡ before) ⊎ ((w : Work) × IsDone limits settings file w × IsWhole w × AppendsFront before after (text_of w))
+IsEndedBy limits settings fault.Memory file before after = Unit {0}
+
+abbrev pub IsAnswerFor : Limits → Settings → Result EncodeReport EncodeAllFault → List ℕ → Option (List ℕ) → Option (List ℕ) → Type 0
+IsAnswerFor limits settings (Ok report) file before after = IsReported limits settings report file before after
+IsAnswerFor limits settings (Err fault) file before after = IsEndedBy limits settings fault file before after

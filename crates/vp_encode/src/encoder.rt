@@ -1,0 +1,231 @@
+//! Frames encoded, one after another.
+
+ghost use Rattle.std.specs.Prelude.{◌≡◌, ◌≢◌, ◌⊎◌, ◌≤◌, ◌+◌, ◌*◌, ◌↔◌, None, Err, IsErr, IfOk, IfErr, IfSome, IsTrue, option_map, if◌then◌else◌};
+ghost use Rattle.vp_base.specs.declared.limits.Limits.{Limits};
+ghost use Rattle.vp_base.specs.Image.{macroblocks};
+ghost use Rattle.vp_decode.specs.Step.{Shown, step};
+ghost use Rattle.vp_encode.specs.declared.fault.EncodeFault.{EncodeFault};
+ghost use Rattle.vp_encode.specs.declared.fault.PacketError.{PacketError};
+ghost use Rattle.vp_encode.specs.Coded.{CanBeTold};
+ghost use Rattle.vp_encode.specs.Encoder.{AreAllowed, is_key, kept_for, saved_in, modes_before, refreshes_golden};
+ghost use Rattle.vp_encode.specs.TooLong.{IsFrameFor, IsTooLong, IsTooLongOver};
+ghost use Rattle.vp_encode.specs.Between.{HasSize, IsPacketOver, IsKeptFor, Shows};
+ghost use Rattle.vp_encode.specs.Chosen.{IsChosen, squared_distance};
+
+use crate::coded::Coded;
+use crate::distance::squared_distance;
+use crate::fault::{EncodeFault, PacketError, SettingsFault};
+use crate::frame::choose_frame;
+use crate::packet::{write_inter_packet, write_key_packet};
+use crate::settings::Settings;
+use std::alloc::{AllocError, Global};
+use std::marker::Model;
+use std::rc::Rc;
+use vp_base::{ByteList, Dim, Limits, Picture};
+use vp_decode::{Decoder, Kept};
+use vp_recon::unfiltered_picture_solves_its_equation;
+
+/// A frame that is encoded.
+#[derive(Drop)]
+pub struct Encoded {
+    /// One packet, to be decoded behind those of the frames before it.
+    pub packet: ByteList,
+    /// The picture that decoders show for it.
+    pub recon: Rc<Picture>,
+    /// The sum of the squares of the differences between the source's shown pixels and `recon`'s, of Y, U and V.
+    pub squared_error: u64,
+}
+
+/// Encodes the frames of one stream, in order, each as it is shown (RFC 6386, chapter 5). It holds the decoder of its own
+/// packets, so what frames are predicted from is what decoders have.
+#[derive(Drop)]
+pub struct Encoder {
+    alloc: Global,
+    dim: Dim,
+    settings: Settings,
+    decoder: Decoder,
+    /// How many frames came since the last key frame began, with that one.
+    since: u32,
+}
+
+impl Model for Encoder {
+    ghost use Rattle.vp_encode.specs.Encoder.{Encoding};
+    ghost use Rattle.vp_encode.specs.Between.{IsSound};
+
+    ghost Value = { Encoding };
+
+    ghost view = { λ e. record { dim = e.dim; settings = e.settings; state = e.decoder.state; since = e.since } };
+
+    ghost invariant = { λ e. IsSound e.decoder.limits (record { dim = e.dim; settings = e.settings; state = e.decoder.state; since = e.since }) };
+}
+
+/// Limits that pictures of every size pass.
+fn widest() -> Limits
+    ensures { result.pixels ≡ 268402689 }
+{
+    let Some(limits) = Limits::new(268_402_689, 1, 1, 1) else {
+        unreachable!();
+    };
+    limits
+}
+
+/// Whether each setting is in its range.
+fn are_allowed(settings: &Settings) -> bool
+    ensures { IsTrue result ↔ AreAllowed settings.now }
+{
+    if settings.qi > 127 || settings.level > 63 || settings.sharpness > 7 {
+        return false;
+    }
+    if settings.key_every == 0 || settings.range > 64 {
+        return false;
+    }
+    matches!(settings.partitions, 1 | 2 | 4 | 8)
+}
+
+/// Decodes a packet, and shares the picture that it shows.
+fn decode_shown(decoder: &mut Decoder, packet: &[u8]) -> Result<Rc<Picture>, AllocError>
+    requires { Shows decoder.old.limits decoder.old.state packet.now }
+    ensures limits { decoder.new.limits ≡ decoder.old.limits }
+    ensures shown { IfOk result (λ r. step decoder.old.limits decoder.old.state packet.now ≡ (decoder.new.state, Shown r.value)) }
+    // Memory may be refused before the packet is decoded, or behind it.
+    ensures state { (decoder.new.state ≡ decoder.old.state) ⊎ (decoder.new.state ≡ (step decoder.old.limits decoder.old.state packet.now).0) }
+{
+    decoder.decode(packet)?;
+    match decoder.kept() {
+        Some(kept) => kept.references().newest().clone(),
+        None => unreachable!(),
+    }
+}
+
+impl Encoder {
+    /// An encoder before its first frame.
+    pub fn new(alloc: Global, dim: Dim, settings: Settings) -> Result<Encoder, SettingsFault>
+        ensures ok { IfOk result (λ e. e ≡ record { dim = dim; settings = settings; state = None; since = 0 }) }
+        ensures allowed { IfOk result (λ _. AreAllowed settings) }
+        ensures settings { IsErr result → ¬ (AreAllowed settings) }
+    {
+        if !are_allowed(&settings) {
+            return Err(SettingsFault::Settings);
+        }
+        Ok(Encoder {
+            alloc,
+            dim,
+            settings,
+            decoder: Decoder::new(alloc, widest()),
+            since: 0,
+        })
+    }
+
+    /// Encodes a frame: a key frame at first, after `key_every` frames and after a refusal, and else an inter frame.
+    /// `TooLong` and `Memory` may be met again with the same source; the next frame is then a key frame.
+    pub fn encode(&mut self, source: &Picture) -> Result<Encoded, EncodeFault>
+        ensures size { result ≡ Err EncodeFault.SourceSize ↔ ((source.now.width ≢ self.old.dim.w) ⊎ (source.now.height ≢ self.old.dim.h)) }
+        ensures unchanged { result ≡ Err EncodeFault.SourceSize → self.new ≡ self.old }
+        ensures dim { self.new.dim ≡ self.old.dim }
+        ensures settings { self.new.settings ≡ self.old.settings }
+        // The packet shows the reconstruction, and leaves the state that the next frame is encoded over.
+        ensures decoded { IfOk result (λ r. (limits : Limits) → self.old.dim.w * self.old.dim.h ≤ limits.pixels
+            → step limits self.old.state r.packet ≡ (self.new.state, Shown r.recon.value)) }
+        ensures choice { IfOk result (λ r. IsChosen self.old source.now r.packet) }
+        ensures error { IfOk result (λ r. r.squared_error ≡ squared_distance source.now r.recon.value) }
+        ensures since { IfOk result (λ _. self.new.since ≡ (if is_key self.old then 1 else self.old.since + 1)) }
+        // A refused frame leaves no state, so that the next one is a key frame.
+        ensures forgotten { (result ≡ Err EncodeFault.TooLong) ⊎ (result ≡ Err EncodeFault.Memory) → self.new.state ≡ None }
+        ensures too_long { result ≡ Err EncodeFault.TooLong → IsTooLong self.old source.now }
+    {
+        let dim = source.dim();
+        if dim.w != self.dim.w || dim.h != self.dim.h {
+            return Err(EncodeFault::SourceSize);
+        }
+        match self.encode_frame(source) {
+            Ok(encoded) => Ok(encoded),
+            Err(error) => {
+                self.decoder = Decoder::new(self.alloc, widest());
+                Err(EncodeFault::from(error))
+            }
+        }
+    }
+
+    /// Encodes a frame of the encoder's size. Where it is refused, the state that stands is of no meaning.
+    fn encode_frame(&mut self, source: &Picture) -> Result<Encoded, PacketError>
+        requires { HasSize self.old.dim source.now }
+        ensures dim { self.new.dim ≡ self.old.dim }
+        ensures settings { self.new.settings ≡ self.old.settings }
+        ensures decoded { IfOk result (λ r. (limits : Limits) → self.old.dim.w * self.old.dim.h ≤ limits.pixels
+            → step limits self.old.state r.packet ≡ (self.new.state, Shown r.recon.value)) }
+        ensures choice { IfOk result (λ r. IsChosen self.old source.now r.packet) }
+        ensures error { IfOk result (λ r. r.squared_error ≡ squared_distance source.now r.recon.value) }
+        ensures since { IfOk result (λ _. self.new.since ≡ (if is_key self.old then 1 else self.old.since + 1)) }
+        ensures too_long { IfErr result (λ e. e ≡ PacketError.TooLong → IsTooLong self.old source.now) }
+    {
+        unfiltered_picture_solves_its_equation();
+        let since = self.next_since();
+        let coded = self.choose(source)?;
+        let packet = self.write(&coded)?;
+        let recon = decode_shown(&mut self.decoder, packet.as_slice())?;
+        self.since = since;
+        let squared_error = squared_distance(source, &recon);
+        Ok(Encoded {
+            packet,
+            recon,
+            squared_error,
+        })
+    }
+
+    /// What the next frame is told over: nothing for a key frame.
+    fn kept(&self) -> Option<&Kept>
+        ensures value { option_map (λ k. k.now) result ≡ kept_for self.now }
+        ensures kept { IfSome result (λ k. IsKeptFor self.now.dim k.now) }
+    {
+        if self.since == self.settings.key_every {
+            return None;
+        }
+        self.decoder.kept()
+    }
+
+    /// How many frames came since the last key frame began, once the next frame is encoded.
+    fn next_since(&self) -> u32
+        ensures value { result ≡ (if is_key self.now then 1 else self.now.since + 1) }
+        ensures few { result ≤ self.now.settings.key_every }
+    {
+        if self.since == self.settings.key_every || self.decoder.kept().is_none() {
+            return 1;
+        }
+        self.since + 1
+    }
+
+    /// Whether an inter frame refreshes golden.
+    fn refreshes_golden(&self) -> bool
+        ensures { result ≡ refreshes_golden self.now }
+    {
+        let every = self.settings.golden_every;
+        every != 0 && self.since % every == 0
+    }
+
+    /// The frame that is chosen for a source.
+    fn choose(&self, source: &Picture) -> Result<Coded, AllocError>
+        requires { HasSize self.now.dim source.now }
+        ensures frame { IfOk result (λ c. IsFrameFor self.now source.now c) }
+        ensures told { IfOk result (λ c. CanBeTold (is_key self.now) (saved_in (kept_for self.now)) (modes_before self.now.dim (kept_for self.now)) c) }
+    {
+        let golden = self.refreshes_golden();
+        let kept = self.kept();
+        choose_frame(self.alloc, self.dim, &self.settings, kept, golden, source)
+    }
+
+    /// Writes the packet of the next frame.
+    fn write(&self, coded: &Coded) -> Result<ByteList, PacketError>
+        requires columns { coded.now.macroblocks.columns ≡ macroblocks self.now.dim.w }
+        requires rows { coded.now.macroblocks.rows ≡ macroblocks self.now.dim.h }
+        requires told { CanBeTold (is_key self.now) (saved_in (kept_for self.now)) (modes_before self.now.dim (kept_for self.now)) coded.now }
+        ensures packet { IfOk result (λ v. IsPacketOver self.now.dim (kept_for self.now) coded.now v) }
+        ensures too_long { IfErr result (λ e. e ≡ PacketError.TooLong → IsTooLongOver self.now.dim (kept_for self.now) coded.now) }
+    {
+        match self.kept() {
+            Some(kept) => {
+                write_inter_packet(self.alloc, self.dim, kept.saved(), kept.segments(), coded)
+            }
+            None => write_key_packet(self.alloc, self.dim, coded),
+        }
+    }
+}

@@ -1,0 +1,173 @@
+//! Encoding a whole file.
+
+ghost use Rattle.std.specs.Prelude.{◌≡◌, ◌≢◌, ◌⊎◌, ◌<◌, ◌^◌, ◌++◌, ℕ, List, length, OnOk, OnErr, Err};
+ghost use Rattle.std.specs.List.{All};
+ghost use Rattle.std.specs.Io.KnownBytes.{Appends, Consumes, IsAtEnd};
+ghost use Rattle.vp_base.specs.Counted.{counted_remaining, counted_contents, counted_failures, HasFailed, AppendsFront};
+ghost use Rattle.vp_y4m.specs.declared.source.Progress.{Progress};
+ghost use Rattle.vp_y4m.specs.Shown.{head_shown};
+ghost use Rattle.vp_y4m.specs.Source.{reader_name, bytes_left, failures_of, head_of, progress_of};
+ghost use Rattle.vp_encode.specs.declared.report.EncodeAllFault.{EncodeAllFault};
+ghost use Rattle.vp_encode.specs.Encoder.{AreAllowed};
+ghost use Rattle.vp_encode.specs.Encoded.{fresh};
+ghost use Rattle.vp_encode.specs.File.{IsAnswerFor, ivf_text};
+ghost use Rattle.vp_encode.specs.Run.{start, IsHeadLine, Ends};
+
+use crate::encoder::Encoder;
+use crate::report::{EncodeAllFault, EncodeReport};
+use crate::run::Run;
+use crate::settings::Settings;
+use std::alloc::Global;
+use std::io::{Read, Write};
+use vp_base::{ByteList, Counted, Device, Limits};
+use vp_ivf::Writer;
+use vp_y4m::{Source, SourceHead};
+
+/// Is told of each picture of a file that is encoded.
+pub trait Watcher {
+    /// So many pictures are encoded.
+    fn encoded(&mut self, frames: u32);
+}
+
+/// Looks at nothing.
+#[derive(Clone, Copy, Debug, PartialEq, Eq)]
+pub struct Unwatched;
+
+impl Watcher for Unwatched {
+    fn encoded(&mut self, _frames: u32) {}
+}
+
+/// Encodes the pictures of a YUV4MPEG2 file to its end, and then writes them as an IVF file, with the source's size and
+/// rate, and times 0, 1, and so on. All packets are held until then, for the file's head says how many there are.
+///
+/// What refuses comes in the order of the work: what is wrong with the head, the settings, and then for each picture
+/// what is wrong with it, `TooMany`, `TooLong` and `PacketTooLarge`. Nothing is written but a whole file, or a front of it
+/// where a write fails.
+pub fn encode_all<R: Read, W: Write>(
+    alloc: Global,
+    reader: &mut Counted<R>,
+    writer: &mut Counted<W>,
+    settings: Settings,
+    limits: Limits,
+) -> Result<EncodeReport, EncodeAllFault>
+    ensures encoded { (file : List ℕ)
+        × Consumes (counted_remaining R.remaining reader.old) (counted_remaining R.remaining reader.new) file
+        × IsAnswerFor limits settings result file (counted_contents W.contents writer.old)
+        (counted_contents W.contents writer.new) }
+    ensures unwritten { (fault : EncodeAllFault) → result ≡ Err fault → fault ≢ EncodeAllFault.Device
+        → writer.new ≡ writer.old }
+
+    // A report, and `Torn`, come only at the reader's end.
+    ensures end { OnOk result (IsAtEnd (counted_remaining R.remaining reader.new)) }
+    ensures torn { result ≡ Err EncodeAllFault.Torn → IsAtEnd (counted_remaining R.remaining reader.new) }
+
+    // `Device` comes where a read or a write failed, and only there.
+    ensures device { result ≡ Err EncodeAllFault.Device →
+        HasFailed (counted_failures reader.old) (counted_failures reader.new)
+        ⊎ HasFailed (counted_failures writer.old) (counted_failures writer.new) }
+    ensures quiet { result ≢ Err EncodeAllFault.Device →
+        (counted_failures reader.new ≡ counted_failures reader.old)
+        × (counted_failures writer.new ≡ counted_failures writer.old) }
+{
+    encode_all_watched(alloc, reader, writer, settings, limits, &mut Unwatched)
+}
+
+/// The same, and `watcher` is told of each picture.
+pub fn encode_all_watched<R: Read, W: Write, T: Watcher>(
+    alloc: Global,
+    reader: &mut Counted<R>,
+    writer: &mut Counted<W>,
+    settings: Settings,
+    limits: Limits,
+    watcher: &mut T,
+) -> Result<EncodeReport, EncodeAllFault>
+    ensures encoded { (file : List ℕ)
+        × Consumes (counted_remaining R.remaining reader.old) (counted_remaining R.remaining reader.new) file
+        × IsAnswerFor limits settings result file (counted_contents W.contents writer.old)
+        (counted_contents W.contents writer.new) }
+    ensures unwritten { (fault : EncodeAllFault) → result ≡ Err fault → fault ≢ EncodeAllFault.Device
+        → writer.new ≡ writer.old }
+
+    // A report, and `Torn`, come only at the reader's end.
+    ensures end { OnOk result (IsAtEnd (counted_remaining R.remaining reader.new)) }
+    ensures torn { result ≡ Err EncodeAllFault.Torn → IsAtEnd (counted_remaining R.remaining reader.new) }
+
+    // `Device` comes where a read or a write failed, and only there.
+    ensures device { result ≡ Err EncodeAllFault.Device →
+        HasFailed (counted_failures reader.old) (counted_failures reader.new)
+        ⊎ HasFailed (counted_failures writer.old) (counted_failures writer.new) }
+    ensures quiet { result ≢ Err EncodeAllFault.Device →
+        (counted_failures reader.new ≡ counted_failures reader.old)
+        × (counted_failures writer.new ≡ counted_failures writer.old) }
+{
+    let head = SourceHead::read(reader, limits)?;
+    let encoder = Encoder::new(alloc, head.dim, settings)?;
+    let mut run = Run::new(alloc, encoder, limits);
+    let mut source = Source::open(alloc, reader, head);
+    encode_pictures(&mut source, &mut run, watcher)?;
+    write_file(head, run.packets(), writer)?;
+    Ok(run.report())
+}
+
+/// Encodes the pictures behind a file's head.
+fn encode_pictures<R: Read, T: Watcher>(
+    source: &mut Source<'_, R>,
+    run: &mut Run,
+    watcher: &mut T,
+) -> Result<(), EncodeAllFault>
+    requires open { progress_of source.old ≡ Progress.Open }
+    requires start { run.old ≡ start run.old.limits (fresh run.old.encoder.dim run.old.encoder.settings) }
+    requires allowed { AreAllowed run.old.encoder.settings }
+    requires width { run.old.encoder.dim.w ≡ (head_of source.old).w }
+    requires height { run.old.encoder.dim.h ≡ (head_of source.old).h }
+    ensures same_reference { reader_name source.new ≡ reader_name source.old }
+    ensures ends { (front : List ℕ) → IsHeadLine run.old.limits.pixels front (head_of source.old)
+        → (bytes : List ℕ)
+        × Consumes (bytes_left R.remaining source.old) (bytes_left R.remaining source.new) bytes
+        × Ends run.old.limits run.old.encoder.settings result (head_of source.old) (front ++ bytes) run.new }
+    ensures end { OnOk result (IsAtEnd (bytes_left R.remaining source.new)) }
+    ensures torn { result ≡ Err EncodeAllFault.Torn → IsAtEnd (bytes_left R.remaining source.new) }
+    ensures device { result ≡ Err EncodeAllFault.Device → HasFailed (failures_of source.old) (failures_of source.new) }
+    ensures quiet { result ≢ Err EncodeAllFault.Device → failures_of source.new ≡ failures_of source.old }
+{
+    while let Some(picture) = source.next_picture()? {
+        run.picture(&picture)?;
+        watcher.encoded(run.frames());
+    }
+    Ok(())
+}
+
+/// Writes a whole file of packets.
+fn write_file<W: Write>(
+    head: SourceHead,
+    packets: &[ByteList],
+    writer: &mut Counted<W>,
+) -> Result<(), Device>
+    requires few { length packets.now < 2 ^ 32 }
+    requires small { All (λ p. length p < 2 ^ 32) packets.now }
+    ensures ok { OnOk result (Appends (counted_contents W.contents writer.old)
+        (counted_contents W.contents writer.new) (ivf_text (head_shown head) packets.now)) }
+    ensures prefix { OnErr result (AppendsFront (counted_contents W.contents writer.old)
+        (counted_contents W.contents writer.new) (ivf_text (head_shown head) packets.now)) }
+    ensures device { OnErr result (HasFailed (counted_failures writer.old) (counted_failures writer.new)) }
+    ensures quiet { OnOk result (counted_failures writer.new ≡ counted_failures writer.old) }
+{
+    let mut file = Writer::begin(
+        writer,
+        head.dim,
+        head.rate,
+        head.scale,
+        packets.len() as u32,
+    );
+    let mut time = 0;
+    for packet in packets {
+        if file.packet(time, packet.as_slice()).is_err() {
+            return Err(Device);
+        }
+        time += 1;
+    }
+    match file.finish() {
+        Ok(()) => Ok(()),
+        Err(_) => Err(Device),
+    }
+}

@@ -1,0 +1,80 @@
+//! A frame, as it is to be told.
+
+ghost use Rattle.std.specs.Prelude.{◌≡◌, ◌≤◌, Option, IfOk, IfSome, is_none, option_map};
+ghost use Rattle.vp_choose.specs.Frame.{search_of};
+ghost use Rattle.vp_decode.specs.Step.{Kept};
+ghost use Rattle.vp_encode.specs.Coded.{CanBeTold};
+ghost use Rattle.vp_encode.specs.Encoder.{AreAllowed, saved_in, modes_before, header_over, search_in, frame_over};
+ghost use Rattle.vp_encode.specs.Choosing.{AreChosen, AreUnsegmented};
+
+use crate::choosing::choose_macroblocks;
+use crate::coded::Coded;
+use crate::header::{header_over, quantiser};
+use crate::settings::Settings;
+use crate::source::continued;
+use std::alloc::{AllocError, Global};
+use vp_base::{Dim, Picture};
+use vp_choose::{Frame, Search};
+use vp_decode::Kept;
+use vp_head::Saved;
+use vp_quant::Factors;
+
+/// Where the vectors of a frame are searched that is told over what is kept.
+fn search_in<'a>(settings: &Settings, kept: Option<&'a Kept>) -> Option<Search<'a>>
+    requires { settings.now.range ≤ 64 }
+    ensures value { option_map search_of result ≡ search_in settings.now (option_map (λ k. k.now) kept.entry) }
+    ensures range { IfSome (option_map search_of result) (λ s. s.range ≤ 64) }
+{
+    match kept {
+        Some(kept) => Some(Search {
+            references: kept.references(),
+            golden: settings.golden_every != 0,
+            range: settings.range,
+            subpel: settings.subpel,
+        }),
+        None => None,
+    }
+}
+
+/// The values that a frame's header is told over.
+fn saved_in(kept: Option<&Kept>) -> Saved
+    ensures { result ≡ saved_in (option_map (λ k. k.now) kept.entry) }
+{
+    match kept {
+        Some(kept) => *kept.saved(),
+        None => Saved::defaults(),
+    }
+}
+
+/// Chooses a frame for the source, over what is kept: a key frame where nothing is. `golden` is whether an inter frame
+/// refreshes golden.
+pub(crate) fn choose_frame(
+    alloc: Global,
+    dim: Dim,
+    settings: &Settings,
+    kept: Option<&Kept>,
+    golden: bool,
+    source: &Picture,
+) -> Result<Coded, AllocError>
+    requires allowed { AreAllowed settings.now }
+    requires width { source.now.width ≡ dim.w }
+    requires height { source.now.height ≡ dim.h }
+    requires segments { IfSome (option_map (λ k. k.now) kept) (λ k. AreUnsegmented dim k.segments) }
+    ensures header { IfOk result (λ c. c.header ≡ header_over (saved_in (option_map (λ k. k.now) kept.entry)) (is_none kept.entry) golden settings.now) }
+    ensures chosen { IfOk result (λ c. AreChosen (frame_over (option_map (λ k. k.now) kept.entry) settings.now source.now) c.macroblocks) }
+    ensures told { IfOk result (CanBeTold (is_none kept.entry) (saved_in (option_map (λ k. k.now) kept.entry)) (modes_before dim (option_map (λ k. k.now) kept.entry))) }
+{
+    let source = continued(alloc, source)?;
+    let factors = Factors::of(settings.qi, &quantiser(settings.qi));
+    let frame = Frame {
+        source: &source,
+        factors: &factors,
+        search: search_in(settings, kept),
+    };
+    let macroblocks = choose_macroblocks(alloc, &frame)?;
+    let header = header_over(&saved_in(kept), kept.is_none(), golden, settings);
+    Ok(Coded {
+        header,
+        macroblocks,
+    })
+}

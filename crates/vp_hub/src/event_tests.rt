@@ -1,0 +1,164 @@
+//! Events in order, and what is refused; streams written by hand.
+
+use crate::tests::{
+    HEAD, INTER, KEY, answers, hub_of, inter_reply, is_refused, key_reply, list, works,
+};
+use crate::{Event, Hub, HubFault};
+use std::alloc::{AllocError, Global};
+use std::test::Fail;
+
+/// Whether connection 1, once it sent this, is refused one byte more, goes, and comes again.
+fn fails_behind(alloc: Global, sent: &[u8]) -> Result<bool, AllocError> {
+    let Some(mut hub) = hub_of(alloc, &[], 16)? else {
+        return Ok(false);
+    };
+    let _ = hub.step(&Event::Bytes(1, list(alloc, sent)?));
+    let more = Event::Bytes(1, list(alloc, b"x")?);
+    Ok(
+        is_refused(&hub.step(&more), HubFault::Failed)
+            && is_refused(&hub.step(&Event::Open(1)), HubFault::AlreadyOpen)
+            && hub.step(&Event::Shut(1)).is_ok()
+            && is_refused(&hub.step(&more), HubFault::UnknownConn)
+            && is_refused(&hub.step(&Event::Shut(1)), HubFault::UnknownConn)
+            && hub.step(&Event::Open(1)).is_ok()
+            && hub.step(&more).is_ok(),
+    )
+}
+
+/// Behind a bad request, behind too many bytes without a head's end, and behind a request that closes.
+#[test]
+fn closed_connections_fail(rt: HostRuntime) -> Result<(), Fail> {
+    let alloc = rt.alloc();
+    assert!(rt; fails_behind(alloc, b"GET /streams HTTP/1.1\r\n\r\n")?);
+    assert!(rt; fails_behind(alloc, &[b'x'; 8192])?);
+    assert!(rt; fails_behind(alloc, b"GET /streams HTTP/1.0\r\n\r\n")?);
+    Ok(())
+}
+
+/// Whether a stream that is fed this then answers so to a piece, to its end, to a second piece and to a second end.
+fn ends_so(alloc: Global, fed: &[u8], piece: Option<HubFault>) -> Result<bool, AllocError> {
+    let Some(mut hub) = hub_of(alloc, &[fed], 16)? else {
+        return Ok(false);
+    };
+    let more = Event::Feed(list(alloc, b"a")?, list(alloc, b"x")?);
+    let end = Event::End(list(alloc, b"a")?);
+    let taken = match piece {
+        Some(fault) => is_refused(&hub.step(&more), fault),
+        None => hub.step(&more).is_ok(),
+    };
+    Ok(
+        taken
+            && hub.step(&end).is_ok()
+            && is_refused(&hub.step(&more), HubFault::Ended)
+            && is_refused(&hub.step(&end), HubFault::Ended),
+    )
+}
+
+/// A stream that goes on, and one whose head isn't a file's.
+#[test]
+fn streams_end(rt: HostRuntime) -> Result<(), Fail> {
+    let alloc = rt.alloc();
+    assert!(rt; ends_so(alloc, &HEAD, None)?);
+    assert!(rt; ends_so(alloc, &[b'x'; 32], Some(HubFault::Failed))?);
+    Ok(())
+}
+
+fn refuses_other_names(alloc: Global) -> Result<bool, AllocError> {
+    let Some(mut hub) = hub_of(alloc, &[&HEAD], 16)? else {
+        return Ok(false);
+    };
+    let end = Event::End(list(alloc, b"aa")?);
+    Ok(is_refused(&hub.step(&end), HubFault::UnknownStream))
+}
+
+#[test]
+fn other_names_are_refused(rt: HostRuntime) -> Result<(), Fail> {
+    assert!(rt; refuses_other_names(rt.alloc())?);
+    Ok(())
+}
+
+/// A stream that ends inside a packet.
+fn tells_torn(alloc: Global) -> Result<bool, AllocError> {
+    let Some(mut hub) = hub_of(alloc, &[&HEAD, &KEY, &KEY[..21]], 16)? else {
+        return Ok(false);
+    };
+    let _ = hub.step(&Event::End(list(alloc, b"a")?));
+    let sent = b"GET /s/a/info HTTP/1.1\r\nHost: x\r\n\r\n";
+    let wanted =
+        b"HTTP/1.1 200 OK\r\nContent-Type: text/plain\r\nContent-Length: 42\r\n\r\nstate Torn\npackets 1\nsize 16x16\nrate 30/1\n";
+    answers(alloc, &mut hub, 1, sent, wanted, false)
+}
+
+#[test]
+fn a_torn_stream(rt: HostRuntime) -> Result<(), Fail> {
+    assert!(rt; tells_torn(rt.alloc())?);
+    Ok(())
+}
+
+// A key packet without its last byte, and the twelve bytes before it.
+const SHORT: [u8; 21] = [
+    9, 0, 0, 0, 0, 0, 0, 0, 0, 0, 0, 0, 0x10, 0, 0, 0x9d, 0x01, 0x2a, 0x10, 0, 0x10,
+];
+
+/// Packets with faults, of which one is decoded for each request.
+fn tells_faults(alloc: Global) -> Result<bool, AllocError> {
+    let Some(mut hub) = hub_of(alloc, &[&HEAD, &SHORT, &INTER], 16)? else {
+        return Ok(false);
+    };
+    let short =
+        b"HTTP/1.1 422 Unprocessable Entity\r\nContent-Type: text/plain\r\nContent-Length: 10\r\n\r\nTruncated\n";
+    let first = b"GET /s/a/frame/0 HTTP/1.1\r\nHost: x\r\n\r\n";
+    let silent =
+        b"HTTP/1.1 422 Unprocessable Entity\r\nContent-Type: text/plain\r\nContent-Length: 12\r\n\r\n";
+    let second = b"HEAD /s/a/y4m/1 HTTP/1.1\r\nHost: x\r\n\r\n";
+    Ok(works(alloc, &mut hub, 1, first, short, 1)? && works(alloc, &mut hub, 1, second, silent, 2)?)
+}
+
+#[test]
+fn faults_of_packets(rt: HostRuntime) -> Result<(), Fail> {
+    assert!(rt; tells_faults(rt.alloc())?);
+    Ok(())
+}
+
+/// Sends a byte, and puts what is replied behind.
+fn send(
+    alloc: Global,
+    hub: &mut Hub,
+    number: u32,
+    byte: u8,
+    got: &mut Vec<u8>,
+) -> Result<(), AllocError> {
+    if let Ok(reply) = hub.step(&Event::Bytes(number, list(alloc, &[byte])?)) {
+        got.extend_from_slice(reply.bytes.as_slice())?;
+    }
+    Ok(())
+}
+
+/// Whether two connections that ask in turn, byte by byte, while a third comes, goes and is refused, each get their picture.
+fn asks_in_turn(alloc: Global, cache: u32) -> Result<bool, AllocError> {
+    let Some(mut hub) = hub_of(alloc, &[&HEAD, &KEY, &INTER], cache)? else {
+        return Ok(false);
+    };
+    let _ = hub.step(&Event::Open(2));
+    let first = b"GET /s/a/frame/0 HTTP/1.1\r\nHost: x\r\n\r\n";
+    let second = b"GET /s/a/frame/1 HTTP/1.1\r\nHost: x\r\n\r\n";
+    let mut keys = Vec::new(alloc);
+    let mut inters = Vec::new(alloc);
+    for (a, b) in first.iter().zip(second) {
+        send(alloc, &mut hub, 1, *a, &mut keys)?;
+        let _ = hub.step(&Event::Open(3));
+        let _ = hub.step(&Event::Bytes(3, list(alloc, b"\r\n\r\n")?));
+        send(alloc, &mut hub, 2, *b, &mut inters)?;
+        let _ = hub.step(&Event::Shut(3));
+    }
+    Ok(
+        keys.as_slice() == key_reply(alloc)?.as_slice()
+            && inters.as_slice() == inter_reply(alloc)?.as_slice(),
+    )
+}
+
+#[test]
+fn connections_in_turn(rt: HostRuntime) -> Result<(), Fail> {
+    assert!(rt; asks_in_turn(rt.alloc(), 1)? && asks_in_turn(rt.alloc(), 2)?);
+    Ok(())
+}
