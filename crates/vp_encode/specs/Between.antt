@@ -5,17 +5,9 @@ use Rattle.vp_base.specs.declared.limits.Limits.{Limits}
 use Rattle.vp_base.specs.Image.{Image}
 use Rattle.vp_decode.specs.Step.{Kept, Shown, step}
 use Rattle.vp_encode.specs.declared.coded.Coded.{Coded}
-use Rattle.vp_encode.specs.declared.fault.PacketError.{PacketError}
-use Rattle.vp_encode.specs.declared.fault.PacketError.TheVariants as packet_error
-use Rattle.vp_encode.specs.declared.fault.EncodeFault.{EncodeFault}
-use Rattle.vp_encode.specs.declared.fault.EncodeFault.TheVariants as encode_fault
 use Rattle.vp_encode.specs.Encoder.{AreAllowed, Encoding}
 use Rattle.vp_encode.specs.Said.{IsKeyPacket, IsInterPacket}
 use Rattle.vp_encode.specs.Choosing.{AreUnsegmented}
-
-abbrev pub fault_of : PacketError → EncodeFault
-fault_of packet_error.TooLong = encode_fault.TooLong
-fault_of packet_error.Memory = encode_fault.Memory
 
 -- so many columns and rows are shown
 pub record HasSize (dim : Dim) (p : Image) : Type 0 where

@@ -5,6 +5,7 @@ pub mod Chosen
 pub mod Choosing
 pub mod Continued
 pub mod Written
+pub mod Faults
 pub mod TooLong
 pub mod Between
 pub mod Encoded

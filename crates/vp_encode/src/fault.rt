@@ -42,7 +42,7 @@ pub enum EncodeFault {
 
 impl From<PacketError> for EncodeFault {
     ghost use Rattle.std.specs.Prelude.{◌≡◌};
-    ghost use Rattle.vp_encode.specs.Between.{fault_of};
+    ghost use Rattle.vp_encode.specs.Faults.{fault_of};
 
     ghost from_gives = { λ error r. r ≡ fault_of error };
 
