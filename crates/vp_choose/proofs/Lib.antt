@@ -6,3 +6,6 @@ pub mod After
 pub mod Restored
 pub mod Moving
 pub mod Giving
+pub mod OneLuma
+pub mod OneMotion
+pub mod OneChoice

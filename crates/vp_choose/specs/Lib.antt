@@ -6,3 +6,4 @@ pub mod Intra
 pub mod Frame
 pub mod Inter
 pub mod Choice
+pub mod One

@@ -4,6 +4,7 @@
 mod chroma;
 mod difference;
 mod frame;
+mod laws;
 mod levels;
 mod luma;
 mod macroblock;
@@ -14,4 +15,5 @@ mod tests;
 mod tokens;
 
 pub use frame::{Choice, Frame, Search};
+pub use laws::choice_is_one;
 pub use macroblock::choose_macroblock;

@@ -104,7 +104,7 @@ best_same f g centre d best same p = record {
 
 -- ---- one answer
 
-first_is_one : (n : ℕ) (f : ℕ → ℕ) (a b : ℕ) → IsFirstLeast n f a → IsFirstLeast n f b → a ≡ b
+pub first_is_one : (n : ℕ) (f : ℕ → ℕ) (a b : ℕ) → IsFirstLeast n f a → IsFirstLeast n f b → a ≡ b
 first_is_one n f a b p q =
     elim (cases_lt a b) [
       | inl less ↦ (let h = q.first a less in let k = p.least b q.within in absurd (omega arith))

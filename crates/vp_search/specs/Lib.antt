@@ -6,3 +6,4 @@ pub mod Least
 pub mod FirstLeast
 pub mod Refined
 pub mod Window
+pub mod Predicted

@@ -17,7 +17,7 @@ mod window;
 
 pub use block::macroblock;
 pub use difference::sad16;
-pub use laws::{least_vector_is_one, refined_vector_is_one};
+pub use laws::{least_vector_is_one, refined_vector_is_one, whole_vectors_are_predicted};
 pub use least::first_least;
 pub use refinement::refine;
 pub use search::full_search;

@@ -52,6 +52,18 @@ fn fill_slope(plane: &mut Plane) {
     }
 }
 
+/// Fills a plane of 48 by 48 with noise that is the same along lines: `slant` rows down and a column to the left.
+fn fill_lines(plane: &mut Plane, slant: usize, later: usize) {
+    for y in 0..48 {
+        for x in 0..48 {
+            if x < plane.width() && y < plane.height() {
+                let at = slant.wrapping_mul(x).wrapping_add(y);
+                plane.set(x, y, noise(at.wrapping_add(later), 0));
+            }
+        }
+    }
+}
+
 fn found(row: i32, column: i32, cost: u32) -> Found {
     Found {
         vector: WholeVector { row, column },
@@ -80,6 +92,18 @@ fn search(
 fn is_found(source: &mut Plane, reference: &Plane, at: [usize; 2], down: i32, right: i32) -> bool {
     fill(source, down, right);
     search(source, reference, at[0], at[1], 16) == Some(found(down, right, 0))
+}
+
+/// Where the middle macroblock comes from, of a source that is `later` rows up in a plane of lines.
+fn along_lines(
+    source: &mut Plane,
+    reference: &mut Plane,
+    slant: usize,
+    later: usize,
+) -> Option<Found> {
+    fill_lines(reference, slant, 0);
+    fill_lines(source, slant, later);
+    search(source, reference, 1, 1, 4)
 }
 
 /// What `refine` gives for the middle macroblock of a plane, out of `reference`.
@@ -170,6 +194,7 @@ fn moved_blocks_are_found(rt: HostRuntime) -> Result<(), Fail> {
     fill(&mut reference, 0, 0);
     assert!(rt; is_found(&mut source, &reference, [1, 1], 5, -9));
     assert!(rt; is_found(&mut source, &reference, [1, 1], -16, 16));
+    assert!(rt; is_found(&mut source, &reference, [1, 1], 16, -16));
     assert!(rt; is_found(&mut source, &reference, [0, 1], 3, -12));
     assert!(rt; is_found(&mut source, &reference, [2, 1], -2, 15));
     assert!(rt; is_found(&mut source, &reference, [1, 0], -14, 1));
@@ -188,6 +213,42 @@ fn far_outside_the_shortest_is_taken(rt: HostRuntime) -> Result<(), Fail> {
         search(&source, &reference, 1, 1, 64),
         Some(found(31, -31, 0))
     );
+    Ok(())
+}
+
+/// Along lines many vectors find the same pixels. A column to the right, or a row down: the least row. Three columns to
+/// the right, or two and two rows down: the shortest, both directions added. Every second column: the least one.
+#[test]
+fn of_equal_vectors_by_length_row_and_column(rt: HostRuntime) -> Result<(), Fail> {
+    let mut reference = Plane::new(rt.alloc(), 48, 48, 0)?;
+    let mut source = Plane::new(rt.alloc(), 48, 48, 0)?;
+    assert_eq!(rt;
+        along_lines(&mut source, &mut reference, 1, 1),
+        Some(found(0, 1, 0))
+    );
+    assert_eq!(rt;
+        along_lines(&mut source, &mut reference, 2, 6),
+        Some(found(0, 3, 0))
+    );
+    assert_eq!(rt;
+        along_lines(&mut source, &mut reference, 32, 32),
+        Some(found(0, -1, 0))
+    );
+    Ok(())
+}
+
+/// Half a pixel to the right is half a pixel down along lines that go as far down as to the left: the first by rows.
+#[test]
+fn of_equal_neighbours_by_rows(rt: HostRuntime) -> Result<(), Fail> {
+    let mut reference = Plane::new(rt.alloc(), 48, 48, 0)?;
+    let mut source = Plane::new(rt.alloc(), 48, 48, 0)?;
+    fill_lines(&mut reference, 1, 0);
+    predict_middle(&mut source, &reference, 2, 0);
+    let best = Refined {
+        vector: QuarterVector { row: 0, column: 2 },
+        cost: 0,
+    };
+    assert_eq!(rt; refined(&source, &reference, 0, 0), Some(best));
     Ok(())
 }
 

@@ -1,0 +1,13 @@
+-- That vectors in whole pixels move what is predicted by them in quarters.
+use Rattle.std.specs.Prelude.{◌≡◌, ℕ, ℤ, ◌≤◌}
+use Rattle.vp_base.specs.declared.place.Place.{Place}
+use Rattle.vp_base.specs.Raster.{Raster}
+use Rattle.vp_inter.specs.Inter.{reference_pixel}
+use Rattle.vp_search.specs.declared.vector.WholeVector.{WholeVector}
+use Rattle.vp_search.specs.Vectors.{quarters}
+use Rattle.vp_search.specs.Blocks.{whole_cost, quarter_cost}
+
+-- in a plane of bytes a vector in whole pixels costs as much as the same one in quarters
+abbrev pub WholeIsPredicted : Type 0
+WholeIsPredicted = (f : ℕ → ℕ → ℕ) (p : Raster) (place : Place) (v : WholeVector) → ((x y : ℤ) → reference_pixel p x y ≤ 255)
+    → whole_cost f p place v ≡ quarter_cost f p place (quarters v)
