@@ -1,7 +1,8 @@
 -- One more file, and one more connection.
-use Rattle.std.proofs.Common.{◌≡◌, ◌++◌, ◌+◌, ℕ, List, [], ◌∷◌, Option, None, Result, refl, ap, sym, subst, ◌∙◌, Bool, true, false, length, arith, inl, inr, add-zero}
+use Rattle.std.proofs.Common.{◌≡◌, ◌<◌, ◌++◌, ◌+◌, ℕ, List, [], ◌∷◌, Option, Result, refl, ap, sym, subst, Bool, true, false, length, take, get_or, arith}
 use Rattle.std.specs.Prelude.{◌&&◌, Ok, Err, IfOk, codes, is_ok, MatchBool}
 use Rattle.std.specs.Str.{bytes_eq}
+use Rattle.std.proofs.lemmas.List.{take_more}
 use Rattle.std.specs.Io.KnownBytes.{Consumes}
 use Rattle.vp_app.specs.declared.service.ServiceFault.{ServiceFault}
 use Rattle.vp_app.specs.Feeding.{IsFed}
@@ -9,7 +10,19 @@ use Rattle.std.specs.List.{list_all}
 use Rattle.vp_hub.specs.declared.visit.ServeFault.{ServeFault}
 use Rattle.vp_hub.specs.Hub.{State}
 use Rattle.vp_app.specs.declared.service.Named.{Named}
-use Rattle.vp_app.specs.Serving.{AreServed, IsFileFed, IsServed}
+use Rattle.vp_app.specs.Serving.{AreFilesFed, AreServed, IsFileFed, IsServed}
+
+pub files_more : (streams : List Named) (s : Named) (old mid new : State) (before between after : Option (List ℕ))
+    → AreFilesFed streams old mid before between → IsFileFed s mid new between after → AreFilesFed (streams ++ s ∷ []) old new before after
+files_more [] s old mid new before between after h fed =
+    (new, after, subst (λ x. IsFileFed s x new before after) h.0 (subst (λ x. IsFileFed s mid new x after) h.1 fed), (refl, refl))
+files_more (x ∷ streams) s old mid new before between after h fed =
+    (h.0, h.1, h.2, files_more streams s h.0 mid new h.1 between after h.3 fed)
+
+pub files_next : (streams : List Named) (i : ℕ) (d : Named) (old mid new : State) (before between after : Option (List ℕ)) → i < length streams
+    → AreFilesFed (take i streams) old mid before between → IsFileFed (get_or streams i d) mid new between after → AreFilesFed (take (i + 1) streams) old new before after
+files_next streams i d old mid new before between after lt h fed = subst (λ l. AreFilesFed l old new before after) (sym (take_more streams i d lt))
+    (files_more (take i streams) (get_or streams i d) old mid new before between after h fed)
 
 pub served_more : (os : List (Result (Unit {0}) ServeFault)) (number : ℕ) (s : State) (o : Result (Unit {0}) ServeFault)
     → AreServed number s os → IsServed (number + length os) s o → AreServed number s (os ++ o ∷ [])

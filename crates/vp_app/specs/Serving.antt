@@ -1,4 +1,4 @@
--- Inside the crate: a new hub, a stream's file that is fed into it, and connections that are served, one after another.
+-- Inside the crate: a service. The streams' files are fed into a new hub, and then connections are served, one after another.
 use Rattle.std.specs.Prelude.{◌≡◌, ◌⊎◌, ◌+◌, ℕ, Bool, List, [], ◌∷◌, length, map, codes, Option, None, Result, Err, is_ok, MatchBool}
 use Rattle.std.specs.List.{list_all}
 use Rattle.std.specs.Str.{bytes_eq}
@@ -40,6 +40,12 @@ IsFileFed s old new before after =
     (Consumes before after file × IsFed s.name.now old new file after)
     ((after ≡ before) × ((left : Option (List ℕ)) × IsFed s.name.now old new file left))
 
+-- each stream in turn
+abbrev pub AreFilesFed : List Named → State → State → Option (List ℕ) → Option (List ℕ) → Type 0
+AreFilesFed [] old new before after = (new ≡ old) × (after ≡ before)
+AreFilesFed (s ∷ streams) old new before after =
+    (mid : State) × (between : Option (List ℕ)) × IsFileFed s old mid before between × AreFilesFed streams mid new between after
+
 -- ---- the connections
 
 -- no connection of this number could be accepted; or it was turned away; or it was served, over a socket, whose bytes nobody
@@ -60,3 +66,11 @@ pub record IsServing (connections : ℕ) (s : State) (well : Bool) : Type 0 wher
   pub count : length outcomes ≡ connections
   pub served : AreServed 0 s outcomes
   pub well_is : well ≡ list_all is_ok outcomes
+
+-- ---- the whole: all files are fed into a new hub, and then the connections are served
+pub record IsService (streams : List Named) (cache connections : ℕ) (well : Bool) (before after : Option (List ℕ)) : Type 0 where
+  pub hub : Whole
+  pub fed : State
+  pub begins : IsNewHub streams cache hub
+  pub feeds : AreFilesFed streams hub.state fed before after
+  pub serves : IsServing connections fed well

@@ -7,7 +7,7 @@ ghost use Rattle.vp_hub.specs.Names.{are_names};
 ghost use Rattle.vp_hub.specs.View.{is_memory as hub_is_memory};
 ghost use Rattle.vp_app.specs.declared.service.ServiceFault.{ServiceFault};
 ghost use Rattle.vp_app.specs.Feeding.{FeedsPiece, IsFed};
-ghost use Rattle.vp_app.specs.Serving.{IsFileFed, IsNewHub, IsServed, IsServing, names_of};
+ghost use Rattle.vp_app.specs.Serving.{AreFilesFed, IsFileFed, IsNewHub, IsServed, IsService, IsServing, names_of};
 
 use std::alloc::{AllocError, Global};
 use std::io::{Read, Write};
@@ -98,8 +98,11 @@ pub(crate) fn serve<
     output: &mut Counted<W>,
     errors: &mut Counted<E>,
 ) -> Result<bool, ServiceFault>
+    ensures served { IfOk result (λ well. IsService service.now.streams.items service.now.cache service.now.connections well
+        (counted_remaining R.remaining input.old) (counted_remaining R.remaining input.new)) }
+
     // Nothing is printed but the address, where that is asked for.
-    ensures { service.now.show_address ≡ false → output.new ≡ output.old }
+    ensures quiet { service.now.show_address ≡ false → output.new ≡ output.old }
 {
     let mut hub = new_hub(rt.alloc(), service)?;
     feed_all(rt, &mut hub, &service.streams, input)?;
@@ -161,7 +164,10 @@ fn feed_all<H: Files + AllocGlobal, R: Read>(
     hub: &mut Hub,
     streams: &[Named<'_>],
     input: &mut Counted<R>,
-) -> Result<(), ServiceFault> {
+) -> Result<(), ServiceFault>
+    ensures { IfOk result (λ _. AreFilesFed streams.now hub.old.state hub.new.state
+        (counted_remaining R.remaining input.old) (counted_remaining R.remaining input.new)) }
+{
     for stream in streams {
         feed_stream(rt, hub, stream, input)?;
     }
