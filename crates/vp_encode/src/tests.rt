@@ -22,11 +22,12 @@ use crate::{
 use std::alloc::{AllocError, Global};
 use std::test::Fail;
 use vp_base::{ByteList, Dim, Grid, Limits, Picture};
+use vp_bool::BoolDecoder;
 use vp_choose::Choice;
 use vp_decode::{Decoder, Outcome};
 use vp_head::{
     Filter, Header, QuantiserIndices, Reference, ReferenceCopy, ReferenceProbabilities,
-    ReferenceUpdates, Saved, Segmentation,
+    ReferenceUpdates, Saved, Segmentation, Tag,
 };
 use vp_modes::{Modes, Segment};
 use vp_motion::{Motion, Vector};
@@ -275,5 +276,61 @@ fn settings_and_events_refused(rt: HostRuntime) -> Result<(), Fail> {
     let mut encoder = Encoder::new(rt.alloc(), dim, plain_settings(0))?;
     let refused = encoder.encode(&source).err();
     assert_eq!(rt; refused, Some(EncodeFault::SourceSize));
+    Ok(())
+}
+
+/// What kind of packet it is.
+#[derive(Clone, Copy, Debug, PartialEq, Eq)]
+enum Kind {
+    Key,
+    /// An inter packet that refreshes golden.
+    Golden,
+    /// One that doesn't.
+    Plain,
+    Other,
+}
+
+fn kind_of(packet: &[u8]) -> Kind {
+    let Ok(tag) = Tag::read(packet, &Limits::usual()) else {
+        return Kind::Other;
+    };
+    if tag.key.is_some() {
+        return Kind::Key;
+    }
+    let Some(first) = packet.get(3..) else {
+        return Kind::Other;
+    };
+    let (header, _) = Header::read(&Saved::defaults(), &tag, &mut BoolDecoder::new(first));
+    if header.updates.refresh_golden {
+        Kind::Golden
+    } else {
+        Kind::Plain
+    }
+}
+
+/// The kinds of the packets of a flat picture that is encoded four times, each without an error.
+fn four_kinds(alloc: Global, settings: Settings) -> Result<[Kind; 4], Fail> {
+    let dim = Dim::new(16, 16, &Limits::usual())?;
+    let source = Picture::new(alloc, dim, 128)?;
+    let mut encoder = Encoder::new(alloc, dim, settings)?;
+    let mut kinds = [Kind::Other; 4];
+    for i in 0..4 {
+        let encoded = encoder.encode(&source)?;
+        if encoded.squared_error == 0 {
+            kinds[i] = kind_of(encoded.packet.as_slice());
+        }
+    }
+    Ok(kinds)
+}
+
+#[test]
+fn golden_and_key_distances(rt: HostRuntime) -> Result<(), Fail> {
+    let mut settings = plain_settings(0);
+    settings.golden_every = 2;
+    let kinds = four_kinds(rt.alloc(), settings)?;
+    assert_eq!(rt; kinds, [Kind::Key, Kind::Plain, Kind::Golden, Kind::Plain]);
+    settings.key_every = 3;
+    let kinds = four_kinds(rt.alloc(), settings)?;
+    assert_eq!(rt; kinds, [Kind::Key, Kind::Plain, Kind::Golden, Kind::Key]);
     Ok(())
 }
