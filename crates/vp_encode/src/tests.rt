@@ -251,6 +251,18 @@ fn encode_flat_key(rt: HostRuntime) -> Result<(), Fail> {
 }
 
 #[test]
+fn encode_succeeds(rt: HostRuntime) -> Result<(), Fail> {
+    let dim = Dim::new(16, 16, &Limits::usual())?;
+    let source = Picture::new(rt.alloc(), dim, 200)?;
+    let mut encoder = Encoder::new(rt.alloc(), dim, plain_settings(0))?;
+    let encoded = encoder.encode(&source)?;
+    assert_eq!(rt; encoded.squared_error, 0);
+    let pixels = encoded.recon.crop_i420(rt.alloc())?;
+    assert_eq!(rt; pixels.as_slice(), [200; 384].as_slice());
+    Ok(())
+}
+
+#[test]
 fn encode_flat_inter(rt: HostRuntime) -> Result<(), Fail> {
     let dim = Dim::new(16, 16, &Limits::usual())?;
     let source = Picture::new(rt.alloc(), dim, 128)?;
