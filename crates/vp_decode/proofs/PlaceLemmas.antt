@@ -79,12 +79,12 @@ unfolding macroblock_read motion_read bind
 macroblock-elsewhere h p q m s maps has apart =
     let here : Has m.motion p = record { column = omega (arith, has.column, maps.columns); row = omega (arith, has.row, maps.rows) } in
     elim (cases_Bool (is_intra (modes_at h m.modes p s).0.reference)) [
-  | inl own ↦ rw own (record { modes = ap (λ o. unwrap_or o plain) (entry-elsewhere m.modes p _ q has apart); motion = refl })
-  | inr away ↦ rw away (record {
-      modes = ap (λ o. unwrap_or o plain) (entry-elsewhere m.modes p _ q has apart);
-      motion = ap (λ o. unwrap_or o intra) (entry-elsewhere m.motion p _ q here apart);
-    })
-]
+      | inl own ↦ rw own (record { modes = ap (λ o. unwrap_or o plain) (entry-elsewhere m.modes p _ q has apart); motion = refl })
+      | inr away ↦ rw away (record {
+        modes = ap (λ o. unwrap_or o plain) (entry-elsewhere m.modes p _ q has apart);
+        motion = ap (λ o. unwrap_or o intra) (entry-elsewhere m.motion p _ q here apart);
+      })
+    ]
 
 -- the macroblock at p is read over m, where its partition stands at s, and n is left
 record IsRead (h : Header) (p : Place) (m : Maps) (s : State) (n : Maps) : Type 0 where
@@ -98,17 +98,17 @@ unfolding macroblock_read motion_read bind
 macroblock-here h p m s maps has =
     let here : Has m.motion p = record { column = omega (arith, has.column, maps.columns); row = omega (arith, has.row, maps.rows) } in
     elim (cases_Bool (is_intra (modes_at h m.modes p s).0.reference)) [
-  | inl own ↦ rw own (record {
-      modes = ap (λ o. unwrap_or o plain) (entry-here m.modes p _ maps.modes has);
-      motion = λ away. absurd (let never : true ≡ false = sym own ∙ away in cc);
-      unmoved = λ e. refl;
-    })
-  | inr away ↦ rw away (record {
-      modes = ap (λ o. unwrap_or o plain) (entry-here m.modes p _ maps.modes has);
-      motion = λ e. ap (λ o. unwrap_or o intra) (entry-here m.motion p _ maps.motion here);
-      unmoved = λ own. absurd (let never : true ≡ false = sym own ∙ away in cc);
-    })
-]
+      | inl own ↦ rw own (record {
+        modes = ap (λ o. unwrap_or o plain) (entry-here m.modes p _ maps.modes has);
+        motion = λ away. absurd (let never : true ≡ false = sym own ∙ away in cc);
+        unmoved = λ e. refl;
+      })
+      | inr away ↦ rw away (record {
+        modes = ap (λ o. unwrap_or o plain) (entry-here m.modes p _ maps.modes has);
+        motion = λ e. ap (λ o. unwrap_or o intra) (entry-here m.motion p _ maps.motion here);
+        unmoved = λ own. absurd (let never : true ≡ false = sym own ∙ away in cc);
+      })
+    ]
 
 -- ---- all of them
 
