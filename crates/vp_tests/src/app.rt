@@ -251,7 +251,7 @@ fn told(rt: &HostRuntime, words: &[&str]) -> (u8, bool, bool) {
 fn words(rt: HostRuntime) -> Result<(), Fail> {
     assert_eq!(rt; told(&rt, &["vp8", "decode", "-"]), (2, false, true));
     assert_eq!(rt; told(&rt, &["vp8"]), (2, false, true));
-    assert_eq!(rt; told(&rt, &["vp8", "encode", "-", "-"]), (2, false, true));
+    assert_eq!(rt; told(&rt, &["vp8", "encode", "-"]), (2, false, true));
     assert_eq!(rt;
         told(&rt, &["vp8", "decode", "--y4m", "--y4m", "-", "-"]),
         (2, false, true)
