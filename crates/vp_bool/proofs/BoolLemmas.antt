@@ -5,10 +5,10 @@ use Rattle.std.specs.Prelude.{◌==◌}
 use Rattle.std.proofs.Math.Dec.{leb}
 use Rattle.std.proofs.lemmas.Nat.{pow-add, pow_pos, leading_top, mul-le, div_below, shl_whole}
 use Rattle.std.specs.Int.Count.{count_leading_zeros}
-use Rattle.std.proofs.Math.Nat.{le-div_iff_mul-le, pow-suc, le_of_mul-le-mul_right, mod-eq_of_lt}
+use Rattle.std.proofs.Math.Nat.{pow-suc, mod-eq_of_lt}
 use Rattle.vp_bool.specs.Bools.{State, number, doubled, doubled_at, normal, split_of, bool_of, rest_of, read, start, whole, literal}
 use mir.Val.{bool_byte}
-use Rattle.vp_bool.specs.Window.{st, state, advanced, IsSound, AreBytes}
+use Rattle.vp_bool.specs.Window.{st, state, advanced, IsSound, IsTaken, AreBytes}
 use Rattle.vp_bool.proofs.Numbers.{scaled, power_up, double_pow}
 use Rattle.vp_bool.proofs.WindowLemmas.{number-bound}
 
@@ -135,24 +135,6 @@ pub window_bool : (p v r n : ℕ) (bs : List ℕ) → AreBytes bs → leb (split
 window_bool p v r n bs bytes =
     rw (bound_at (split_of p r) n (8 * length bs)) (sym (front_leb (split_of p r * 2 ^ n) v (number bs) (2 ^ (8 * length bs)) (number-bound bs bytes)))
 
--- a value held against a bound by what of it stands before the point
-pub window_above : (v b n : ℕ) → b ≤ v / 2 ^ n → b * 2 ^ n ≤ v
-window_above v b n h = (le-div_iff_mul-le (pow_pos n)).0 h
-
-pub window_below : (v b n : ℕ) → v / 2 ^ n < b → v < b * 2 ^ n
-window_below v b n h =
-    elim (cases_lt v (b * 2 ^ n)) [
-      | inl less ↦ less
-      | inr more ↦ let most : b ≤ v / 2 ^ n = (le-div_iff_mul-le (pow_pos n)).1 more in absurd (omega arith)
-    ]
-
-pub window_split : (v b n : ℕ) → leb b (v / 2 ^ n) ≡ leb (b * 2 ^ n) v
-window_split v b n =
-    elim (cases_lt (v / 2 ^ n) b) [
-      | inl less ↦ lt-leb _ _ less ∙ sym (lt-leb _ _ (window_below v b n less))
-      | inr more ↦ le-leb _ _ more ∙ sym (le-leb _ _ (window_above v b n more))
-    ]
-
 pub taken_off : (v b d x q : ℕ) → b + d ≡ v → d * q + x ≡ v * q + x - b * q
 taken_off v b d x q e = rw (← e) (omega arith)
 
@@ -168,12 +150,6 @@ pub rest_false : (p v r n : ℕ) (bs : List ℕ) → AreBytes bs → v < split_o
 rest_false p v r n bs bytes below =
     let b : bool_of p (state v r n bs) ≡ false = sym (window_bool p v r n bs bytes) ∙ lt-leb _ _ below in
     rw b refl
-
--- a bool taken, and the range not yet doubled
-pub record IsTaken (s : State) : Type 0 where
-  pub below : s.value ≤ s.range * 2 ^ s.scale
-  pub some : 0 < s.range
-  pub byte : s.range < 256
 
 less_split : (v b d q : ℕ) → v ≤ (b + d) * q → v - b * q ≤ d * q
 less_split v b d q high = omega arith
@@ -211,24 +187,6 @@ sound-normal s taken =
       byte = d.high;
     })
 
-pub sound-read : (p : ℕ) (s : State) → p < 256 → IsSound s → IsSound (read p s).1
-unfolding read
-sound-read p s byte sound = sound-normal (rest_of p s) (rest-taken p s byte sound)
-
--- what is left, in a window whose point is still to be moved
-pub read-after : (p : ℕ) (s : State) (v r n : ℕ) (bs : List ℕ) → rest_of p s ≡ state v r n bs → 0 < r → r < 256 → advanced (doublings r) (state v (r * 2 ^ doublings r) n bs) ≡ (read p s).1
-unfolding read
-read-after p s v r n bs e some byte =
-    sym (ap (normal 7) e ∙ normal-shifted (state v r n bs) some byte)
-
-pub low_window : (v r n : ℕ) (bs : List ℕ) → IsTaken (state v r n bs) → n < 8 → v < 2 ^ 16
-low_window v r n bs taken few =
-    let q : r * 2 ^ (n + 8 * length bs) ≡ r * 2 ^ n * 2 ^ (8 * length bs) = bound_at r n (8 * length bs) in
-    let front : v * 2 ^ (8 * length bs) ≤ r * 2 ^ n * 2 ^ (8 * length bs) = omega (arith, taken.below) in
-    let less : v ≤ r * 2 ^ n = le_of_mul-le-mul_right front (pow_pos (8 * length bs)) in
-    let power : 2 ^ n ≤ 2 ^ 7 = power_up n 7 (omega arith) in
-    omega (arith, mul-le r (2 ^ n) 255 (2 ^ 7) (omega (arith, taken.byte)) power)
-
 -- the bound as the code computes it
 pub bound_whole : (p r n b : ℕ) → p < 256 → 128 ≤ r → r < 256 → n ≤ 56 → b ≡ split_of p r → b * 2 ^ n % 2 ^ 64 ≡ split_of p r * 2 ^ n
 bound_whole p r n b byte low high few e =
@@ -240,10 +198,6 @@ pub range_whole : (r : ℕ) → 0 < r → r < 256 → r * 2 ^ doublings r % 2 ^ 
 range_whole r some byte =
     let d = doubles r some byte in
     mod-eq_of_lt (omega arith)
-
-pub read-bool : (p : ℕ) (s : State) → (read p s).0 ≡ bool_of p s
-unfolding read
-read-bool p s = refl
 
 -- ---- the first state
 

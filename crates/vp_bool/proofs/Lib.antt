@@ -7,3 +7,5 @@ pub mod IntervalLemmas
 pub mod RoundTripLemmas
 pub mod WritingLemmas
 pub mod ReaderLemmas
+mod TopLemmas
+mod PartLemmas

@@ -1,17 +1,18 @@
 ghost use Rattle.std.specs.Prelude.{◌≡◌, ℕ, ◌+◌, ◌-◌, ◌*◌, ◌/◌, ◌^◌, ◌<◌, ◌≤◌, length, List, [], ◌∷◌};
-ghost use Rattle.vp_bool.specs.Bools.{read, literal, start};
+ghost use Rattle.vp_bool.specs.Bools.{read, literal, start, normal, number};
 ghost use Rattle.vp_bool.specs.Laws.{StandsFor, ReadsOn, ReadsNumberOn};
-ghost use Rattle.vp_bool.specs.Window.{seen, advanced, AreBytes};
+ghost use Rattle.vp_bool.specs.Window.{state, front, seen, AreBytes, IsAligned, IsTaken, IsWindow};
 
 use std::marker::Model;
 
 /// The bits taken from a partition, less what the bools took away, and the bytes behind them.
 ///
-/// The point stands behind the bits that the range is held against, so that nothing but the count
-/// changes where the point moves on.
+/// The value stands at the top of its word, so that it is held against a split at a fixed place: eight
+/// bits and `count` more, and zeros below them.
 #[derive(Clone, Copy)]
 struct Window<'a> {
     value: u64,
+    range: u32,
     /// How many of the value's bits stand behind the point.
     count: u32,
     rest: &'a [u8],
@@ -24,7 +25,6 @@ struct Window<'a> {
 #[derive(Drop)]
 pub struct BoolDecoder<'a> {
     window: Window<'a>,
-    range: u32,
 }
 
 impl<'a> Model for BoolDecoder<'a> {
@@ -54,43 +54,61 @@ impl<'a> BoolDecoder<'a> {
         };
         BoolDecoder {
             window: Window {
-                value: u64::from(first),
+                value: u64::from(first) << 56,
+                range: 255,
                 count: 0,
                 rest,
             },
-            range: 255,
+        }
+    }
+
+    /// A second decoder at the same place. In a loop the compiler keeps a local one in registers.
+    #[inline(always)]
+    pub fn copy(&self) -> Self
+        ensures { result ≡ self.now }
+    {
+        BoolDecoder {
+            window: self.window,
         }
     }
 
     /// Reads the next bool. It is false with `probability` chances in 256 (0 is as good as 1).
+    #[inline(always)]
     pub fn read(&mut self, probability: u8) -> bool
         ensures value { result ≡ (read probability self.old).0 }
         ensures rest { self.new ≡ (read probability self.old).1 }
         ensures run { (bytes ps : List ℕ) → AreBytes bytes → AreBytes ps → StandsFor bytes ps self.old → ReadsOn bytes ps (probability ∷ []) (result ∷ []) self.new }
     {
-        let split = 1 + (((self.range - 1) * u32::from(probability)) >> 8);
-        let bound = u64::from(split) << self.window.count;
-        // The bits before the point decide, and they are known before the bound is.
-        let bit = self.window.value >> self.window.count >= u64::from(split);
+        let window = self.window;
+        let split = 1 + (((window.range - 1) * u32::from(probability)) >> 8);
+        let bound = u64::from(split) << 56;
+        if window.value >= bound {
+            self.window = settled(window, window.value - bound, window.range - split);
+            true
+        } else {
+            self.window = settled(window, window.value, split);
+            false
+        }
+    }
+
+    /// Reads the next bool, which is as likely false as true.
+    #[inline(always)]
+    pub fn read_even(&mut self) -> bool
+        ensures value { result ≡ (read 128 self.old).0 }
+        ensures rest { self.new ≡ (read 128 self.old).1 }
+        ensures run { (bytes ps : List ℕ) → AreBytes bytes → AreBytes ps → StandsFor bytes ps self.old → ReadsOn bytes ps (128 ∷ []) (result ∷ []) self.new }
+    {
+        let window = self.window;
+        let split = (window.range + 1) >> 1;
+        let bound = u64::from(split) << 56;
+        let bit = window.value >= bound;
+        // No processor foresees such a bool, so both outcomes are worked out and one is chosen.
         let (value, range) = if bit {
-            (self.window.value - bound, self.range - split)
+            (window.value - bound, window.range - split)
         } else {
-            (self.window.value, split)
+            (window.value, split)
         };
-        let shift = range.leading_zeros() - 24;
-        let window = Window {
-            value,
-            ..self.window
-        };
-        self.window = if shift <= window.count {
-            Window {
-                count: window.count - shift,
-                ..window
-            }
-        } else {
-            advance(window, shift)
-        };
-        self.range = range << shift;
+        self.window = settled(window, value, range);
         bit
     }
 
@@ -103,37 +121,62 @@ impl<'a> BoolDecoder<'a> {
     {
         let mut value: u32 = 0;
         for _bit in 0..bits {
-            value = 2 * value + u32::from(self.read(128));
+            value = 2 * value + u32::from(self.read_even());
         }
         value as u8
     }
 }
 
-/// Takes bytes, and moves the point on, past the last bit by 0 bits.
+/// How often a range doubles until it is 128 or more.
+const DOUBLINGS: [u8; 256] = [
+    0, 7, 6, 6, 5, 5, 5, 5, 4, 4, 4, 4, 4, 4, 4, 4, 3, 3, 3, 3, 3, 3, 3, 3, 3, 3, 3, 3, 3, 3, 3, 3,
+    2, 2, 2, 2, 2, 2, 2, 2, 2, 2, 2, 2, 2, 2, 2, 2, 2, 2, 2, 2, 2, 2, 2, 2, 2, 2, 2, 2, 2, 2, 2, 2,
+    1, 1, 1, 1, 1, 1, 1, 1, 1, 1, 1, 1, 1, 1, 1, 1, 1, 1, 1, 1, 1, 1, 1, 1, 1, 1, 1, 1, 1, 1, 1, 1,
+    1, 1, 1, 1, 1, 1, 1, 1, 1, 1, 1, 1, 1, 1, 1, 1, 1, 1, 1, 1, 1, 1, 1, 1, 1, 1, 1, 1, 1, 1, 1, 1,
+    0, 0, 0, 0, 0, 0, 0, 0, 0, 0, 0, 0, 0, 0, 0, 0, 0, 0, 0, 0, 0, 0, 0, 0, 0, 0, 0, 0, 0, 0, 0, 0,
+    0, 0, 0, 0, 0, 0, 0, 0, 0, 0, 0, 0, 0, 0, 0, 0, 0, 0, 0, 0, 0, 0, 0, 0, 0, 0, 0, 0, 0, 0, 0, 0,
+    0, 0, 0, 0, 0, 0, 0, 0, 0, 0, 0, 0, 0, 0, 0, 0, 0, 0, 0, 0, 0, 0, 0, 0, 0, 0, 0, 0, 0, 0, 0, 0,
+    0, 0, 0, 0, 0, 0, 0, 0, 0, 0, 0, 0, 0, 0, 0, 0, 0, 0, 0, 0, 0, 0, 0, 0, 0, 0, 0, 0, 0, 0, 0, 0,
+];
+
+/// The window with this value and range, doubled until the range is 128 or more.
+#[inline(always)]
+fn settled<'a>(window: Window<'a>, value: u64, range: u32) -> Window<'a>
+    requires few { window.count ≤ 56 }
+    requires bytes { AreBytes window.rest.now }
+    requires aligned { IsAligned value window.count }
+    requires taken { IsTaken (state (front value window.count) range window.count window.rest.now) }
+    ensures after { seen result ≡ normal 7 (state (front value window.entry.count) range window.entry.count window.entry.rest.now) }
+    ensures window { IsWindow result }
+{
+    let shift = u32::from(DOUBLINGS[range as usize]);
+    let (value, count, rest) = if shift <= window.count {
+        (value, window.count, window.rest)
+    } else {
+        let taken = window.rest.len().min(6);
+        let count = window.count + 8 * taken as u32;
+        let bytes = number_of(&window.rest[..taken]) << (56 - count);
+        (value + bytes, count.max(shift), &window.rest[taken..])
+    };
+    Window {
+        value: value << shift,
+        range: range << shift,
+        count: count - shift,
+        rest,
+    }
+}
+
+/// The number that bytes spell.
 #[cold]
 #[inline(never)]
-fn advance<'a>(window: Window<'a>, shift: u32) -> Window<'a>
-    requires low { window.value < 2 ^ 16 }
-    requires few { window.count < shift }
-    requires shift { shift < 8 }
-    requires bytes { AreBytes window.rest.now }
-    ensures advanced { (range : ℕ) → seen result range ≡ advanced shift (seen window.entry range) }
-    ensures count { result.count ≤ 56 }
-    ensures bytes { AreBytes result.rest.now }
+fn number_of(bytes: &[u8]) -> u64
+    requires { length bytes.now ≤ 6 }
+    ensures value { result ≡ number bytes.now }
+    ensures small { result < 2 ^ (8 * length bytes.now) }
 {
-    let mut value = window.value;
-    let mut count = window.count;
-    let mut rest = window.rest;
-    while count < 40 && !rest.is_empty() {
-        value = (value << 8) | u64::from(rest[0]);
-        count += 8;
-        rest = &rest[1..];
+    let mut value: u64 = 0;
+    for byte in bytes {
+        value = value * 256 + u64::from(*byte);
     }
-    if shift <= count {
-        count -= shift;
-    } else {
-        value <<= shift - count;
-        count = 0;
-    }
-    Window { value, count, rest }
+    value
 }

@@ -9,7 +9,7 @@ loop-bit-preserved c =
     let left = c.args.bits - c.loop-bit._bit in
     let behind = c.args.bits - (c.loop-bit._bit + 1) in
     let one : left ≡ suc behind = omega arith in
-    rw (c.from.ensures, c.read.ensures.value, c.read.ensures.rest)
+    rw (c.from.ensures, c.read_even.ensures.value, c.read_even.ensures.rest)
     (record {
       value = literal-value c.loop-bit.value left behind c.loop-bit.self one ∙ c.loop-bit.invariant.value;
       after = literal-after left behind c.loop-bit.self one ∙ c.loop-bit.invariant.after;
