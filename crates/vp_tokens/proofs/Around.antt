@@ -45,7 +45,7 @@ next P n here above k low high = elim (cases_eq k n) [
   | inr apart ↦ above k (omega arith) high
 ]
 
-each_block : (P : ℕ → Type 0) → P 0 → P 1 → P 2 → P 3 → P 4 → P 5 → P 6 → P 7 → P 8 → P 9 → P 10 → P 11 → P 12 → P 13 → P 14 → P 15 → P 16 → P 17 → P 18 → P 19 → P 20 → P 21 → P 22 → P 23 → P 24 → (k : ℕ) → k < 25 → P k
+pub each_block : (P : ℕ → Type 0) → P 0 → P 1 → P 2 → P 3 → P 4 → P 5 → P 6 → P 7 → P 8 → P 9 → P 10 → P 11 → P 12 → P 13 → P 14 → P 15 → P 16 → P 17 → P 18 → P 19 → P 20 → P 21 → P 22 → P 23 → P 24 → (k : ℕ) → k < 25 → P k
 each_block P p0 p1 p2 p3 p4 p5 p6 p7 p8 p9 p10 p11 p12 p13 p14 p15 p16 p17 p18 p19 p20 p21 p22 p23 p24 k b =
     next P 0 p0 (next P 1 p1 (next P 2 p2 (next P 3 p3 (next P 4 p4 (
     next P 5 p5 (next P 6 p6 (next P 7 p7 (next P 8 p8 (next P 9 p9 (

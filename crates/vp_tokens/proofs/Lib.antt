@@ -1,10 +1,12 @@
 pub mod PartitionLemmas
 pub mod LevelLemmas
 pub mod Around
+pub mod FlagLemmas
 pub mod Reading
 pub mod Steps
 pub mod WritingLemmas
 pub mod TokenLemmas
+pub mod WalkLemmas
 pub mod FrontLemmas
 pub mod BlockWriting
 pub mod MacroblockWriting

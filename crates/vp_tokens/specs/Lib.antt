@@ -6,3 +6,5 @@ pub mod Contexts
 pub mod Flagged
 pub mod Spelled
 pub mod Written
+pub mod Walks
+pub mod Placed

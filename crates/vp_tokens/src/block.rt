@@ -1,12 +1,14 @@
-ghost use Rattle.std.specs.Prelude.{◌≡◌, ◌≤◌, ◌<◌, ℕ, pos, slice_index_or, unsigned_abs};
-ghost use Rattle.vp_tokens.specs.Block.{has_token, IsTight, IsBlock};
-ghost use Rattle.vp_tokens.specs.Levels.{Probabilities, bands_of, first_of, row, token, is_end, pair_after, block};
+ghost use Rattle.std.specs.Prelude.{◌≡◌, ◌≤◌, ◌<◌, ◌+◌, ℕ, pos, slice_index_or, slice_set, unsigned_abs};
+ghost use Rattle.vp_tokens.specs.Block.{has_token, no_tokens, IsTight, IsBlock};
+ghost use Rattle.vp_tokens.specs.Levels.{Probabilities, bands_of, first_of, row, token, is_end, pair_after};
+ghost use Rattle.vp_tokens.specs.Placed.{banded};
+ghost use Rattle.vp_tokens.specs.Walks.{IsStart};
 
-use crate::sizes::{read_signed, read_size};
+use crate::sizes::{context_behind, read_signed, read_size};
+use crate::walks::walked;
 use std::marker::Model;
 use vp_bool::BoolDecoder;
-use vp_tables::{TOKEN_TREE, Token, band};
-use vp_tree::read_tree_from;
+use vp_tables::{Token, band};
 
 /// The levels of a block of 4 by 4 coefficients: none is further than 2,114 from 0, and none stands behind the last token.
 #[derive(Clone, Copy, Debug, PartialEq, Eq)]
@@ -72,6 +74,18 @@ impl Block {
     {
         self.tokens > 0
     }
+
+    /// Puts the level of the next token.
+    #[inline(always)]
+    fn put(&mut self, position: usize, level: i16)
+        requires position { position < 16 }
+        requires behind { self.old.tokens ≤ position }
+        requires within { unsigned_abs level ≤ 2114 }
+        ensures { self.new ≡ record { levels = slice_set self.old.levels position level; tokens = position + 1 } }
+    {
+        self.levels[position] = level;
+        self.tokens = position as u8 + 1;
+    }
 }
 
 /// The probabilities of a type of block, by band, context and pair of the tree.
@@ -111,6 +125,7 @@ pub(crate) fn row_of(bands: &[[[u8; 11]; 3]; 8], position: usize, context: usize
 }
 
 /// The token at a position, from a pair of the tree on.
+#[inline(always)]
 #[tactic(auto, unfolding(crate::specs::Levels::token))]
 fn read_token(
     bands: &[[[u8; 11]; 3]; 8],
@@ -121,11 +136,11 @@ fn read_token(
 ) -> Token
     requires position_in { position < 16 }
     requires context_in { context < 3 }
-    requires from_in { from ≤ 2 }
+    requires from_in { IsStart from }
     ensures value { result ≡ (token bands.now position context from d.old).0 }
     ensures rest { d.new ≡ (token bands.now position context from d.old).1 }
 {
-    read_tree_from(&TOKEN_TREE, row_of(bands, position, context), from, d)
+    walked(row_of(bands, position, context), from, d)
 }
 
 /// Whether no further token of the block follows.
@@ -138,37 +153,36 @@ fn is_end(token: Token) -> bool
 /// The pair where the walk after a level of this size starts: none ends a block right behind a 0.
 pub(crate) fn start_after(size: u16) -> usize
     ensures value { result ≡ pair_after size }
-    ensures small { result ≤ 2 }
+    ensures start { IsStart result }
 {
     if size == 0 { 2 } else { 0 }
 }
 
-/// The tokens of a block of this type in this context.
+/// Reads the tokens of a block by the probabilities of its type, from its first position on, in this context.
+#[inline(always)]
 pub(crate) fn read_block(
-    probabilities: &[[[[u8; 11]; 3]; 8]; 4],
-    kind: BlockKind,
+    bands: &[[[u8; 11]; 3]; 8],
+    first: usize,
     context: usize,
+    found: &mut Block,
     d: &mut BoolDecoder,
-) -> Block
-    requires { context < 3 }
-    ensures value { result ≡ (block probabilities.now kind context d.old).0 }
-    ensures rest { d.new ≡ (block probabilities.now kind context d.old).1 }
+)
+    requires first_in { first ≤ 1 }
+    requires context_in { context < 3 }
+    requires none { found.old ≡ no_tokens }
+    ensures value { found.new ≡ (banded bands.now first context d.old).0 }
+    ensures rest { d.new ≡ (banded bands.now first context d.old).1 }
 {
-    let bands = bands_of(probabilities, kind);
-    let mut levels = [0i16; 16];
-    let mut tokens = 0;
     let mut context = context;
     let mut from = 0;
-    for i in first_of(kind)..16 {
+    for i in first..16 {
         let token = read_token(bands, i, context, from, d);
         if is_end(token) {
-            return Block { levels, tokens };
+            return;
         }
+        context = context_behind(token);
         let size = read_size(token, d);
-        levels[i] = read_signed(size, d);
-        tokens = i as u8 + 1;
-        context = size.min(2) as usize;
+        found.put(i, read_signed(size, d));
         from = start_after(size);
     }
-    Block { levels, tokens }
 }

@@ -1,4 +1,4 @@
-ghost use Rattle.std.specs.Prelude.{◌≡◌, ℕ, pos, Bool, true, false, ◌<◌, ◌≤◌, [], length, slice_index_or, unsigned_abs, IfOk};
+ghost use Rattle.std.specs.Prelude.{◌≡◌, ℕ, pos, Bool, true, false, ◌<◌, ◌≤◌, [], length, slice_index_or, slice_set, unsigned_abs, IfOk};
 ghost use Rattle.vp_base.specs.declared.place.Place.{Place};
 ghost use Rattle.vp_base.specs.Grid.{Grid, Has, all, with_entry};
 ghost use Rattle.vp_tokens.specs.Blocks.{Blocks, unread, blocks_of, had_of, flag, both, kind_of, y2_or, block_of, block_at, all_blocks, no_blocks, macroblock, any_token};
@@ -6,11 +6,10 @@ ghost use Rattle.vp_tokens.specs.Contexts.{StandsFor, lowest, rightmost, right};
 ghost use Rattle.vp_tokens.specs.Flagged.{above_flag, left_flag, by_flags, left_at, behind};
 ghost use Rattle.vp_tokens.specs.Spelled.{levels_of, AreLevels, AreSpelled, AreTight};
 
-use crate::block::{Block, BlockKind, read_block};
+use crate::block::{Block, BlockKind};
 use std::alloc::{AllocError, Global};
 use std::marker::Model;
 use vp_base::Place;
-use vp_bool::BoolDecoder;
 
 /// The blocks of a macroblock: Y2, 16 of Y, 4 of U, 4 of V, each plane in raster order (RFC 6386, chapter 13).
 #[derive(Clone, Copy, Debug, PartialEq, Eq)]
@@ -141,50 +140,6 @@ pub(crate) fn kind_of(has_y2: bool, k: usize) -> BlockKind
     }
 }
 
-/// Reads block k, where the macroblock has it.
-#[tactic(auto, unfolding(crate::specs::Blocks::block_at, vp_bool::specs::Reader::bind))]
-fn read_at(
-    probabilities: &[[[[u8; 11]; 3]; 8]; 4],
-    above: &[bool; 9],
-    left: &[bool; 9],
-    has_y2: bool,
-    k: usize,
-    blocks: &mut [Block; 25],
-    d: &mut BoolDecoder,
-)
-    requires { k < 25 }
-    ensures value { blocks.new ≡ (block_at probabilities.now has_y2 (by_flags above.now left.now) k blocks.old d.old).0 }
-    ensures rest { d.new ≡ (block_at probabilities.now has_y2 (by_flags above.now left.now) k blocks.old d.old).1 }
-{
-    if k > 0 || has_y2 {
-        let context = count(had_above(above, blocks, k), had_left(left, blocks, k));
-        blocks[k] = read_block(probabilities, kind_of(has_y2, k), context, d);
-    }
-}
-
-/// Reads all blocks, which have no tokens yet, unless the macroblock is skipped.
-#[tactic(auto, unfolding(crate::specs::Blocks::all_blocks))]
-fn read_all(
-    probabilities: &[[[[u8; 11]; 3]; 8]; 4],
-    above: &[bool; 9],
-    left: &[bool; 9],
-    has_y2: bool,
-    skipped: bool,
-    blocks: &mut [Block; 25],
-    d: &mut BoolDecoder,
-)
-    requires { blocks.old ≡ no_blocks }
-    ensures value { blocks.new ≡ (all_blocks probabilities.now has_y2 skipped (by_flags above.now left.now) d.old).0 }
-    ensures rest { d.new ≡ (all_blocks probabilities.now has_y2 skipped (by_flags above.now left.now) d.old).1 }
-{
-    if skipped {
-        return;
-    }
-    for k in 0..25 {
-        read_at(probabilities, above, left, has_y2, k, blocks, d);
-    }
-}
-
 /// The Y2 flag behind a macroblock, where `old` is the one before it.
 fn y2_flag(old: bool, has_y2: bool, blocks: &[Block; 25]) -> bool
     ensures { result ≡ y2_or (record { has_y2 = has_y2; had = had_of blocks.now }) old }
@@ -265,46 +220,15 @@ impl Contexts {
     {
         let above = y2_flag(self.above_of(place)[8], has_y2, blocks);
         let left = y2_flag(self.left_of(place)[8], has_y2, blocks);
-        self.above[place.column] = lowest(blocks, above);
-        self.left = rightmost(blocks, left);
+        self.put(place, lowest(blocks, above), rightmost(blocks, left));
     }
-}
 
-/// The tokens of the macroblock at a place, from the partition of its row. A frame's macroblocks are read in raster order.
-///
-/// `has_y2` is false where the luma is predicted or moved by subblocks. Of a skipped macroblock nothing is read.
-pub fn read_macroblock(
-    probabilities: &[[[[u8; 11]; 3]; 8]; 4],
-    contexts: &mut Contexts,
-    place: Place,
-    has_y2: bool,
-    skipped: bool,
-    d: &mut BoolDecoder,
-) -> Tokens
-    requires { place.column < length contexts.old.above }
-    ensures value { (g : Grid Blocks) → StandsFor g place contexts.old
-        → result ≡ (macroblock probabilities.now g place has_y2 skipped d.old).0 }
-    ensures rest { (g : Grid Blocks) → StandsFor g place contexts.old
-        → d.new ≡ (macroblock probabilities.now g place has_y2 skipped d.old).1 }
-    ensures stands { (g : Grid Blocks) → Has g place → StandsFor g place contexts.old
-        → StandsFor (with_entry g place (blocks_of has_y2 result)) (right place) contexts.new }
-    ensures columns { length contexts.new.above ≡ length contexts.old.above }
-    // What is read can be written.
-    ensures spelled { AreSpelled has_y2 result.blocks }
-    ensures none { skipped ≡ true → result.blocks ≡ no_blocks }
-{
-    let mut blocks = [Block::NONE; 25];
-    let above = contexts.above_of(place);
-    let left = contexts.left_of(place);
-    read_all(
-        probabilities,
-        &above,
-        &left,
-        has_y2,
-        skipped,
-        &mut blocks,
-        d,
-    );
-    contexts.keep(place, has_y2, &blocks);
-    Tokens { blocks }
+    /// Keeps the flags below the macroblock at a place, and those to its right.
+    pub(crate) fn put(&mut self, place: Place, lower: [bool; 9], right: [bool; 9])
+        requires { place.column < length self.old.above }
+        ensures { self.new ≡ record { above = slice_set self.old.above place.column lower; left = right } }
+    {
+        self.above[place.column] = lower;
+        self.left = right;
+    }
 }

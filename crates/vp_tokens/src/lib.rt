@@ -5,13 +5,16 @@
 mod block;
 mod block_writing;
 mod contexts;
+mod macroblock;
 mod partitions;
 mod size_writing;
 mod sizes;
+mod walks;
 mod writing;
 
 pub use block::Block;
-pub use contexts::{Contexts, Tokens, read_macroblock};
+pub use contexts::{Contexts, Tokens};
+pub use macroblock::read_macroblock;
 pub use partitions::Partitions;
 pub use writing::write_macroblock;
 

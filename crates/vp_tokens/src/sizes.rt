@@ -1,10 +1,13 @@
 ghost use Rattle.std.specs.Prelude.{◌≡◌, ◌≤◌, ◌<◌, ◌^◌, length, unsigned_abs};
-ghost use Rattle.vp_tokens.specs.Levels.{bits, size, signed};
+ghost use Rattle.vp_tables.specs.Tables.{least_size};
+ghost use Rattle.vp_tokens.specs.Levels.{bits, size, signed, context_after};
+ghost use Rattle.vp_tokens.specs.Walks.{context_behind};
 
 use vp_bool::BoolDecoder;
 use vp_tables::{Token, extra_probabilities, least_size};
 
 /// A number of one bit for each probability, the most significant first.
+#[inline(always)]
 fn read_bits(probabilities: &[u8], d: &mut BoolDecoder) -> u16
     requires { length probabilities.now ≤ 11 }
     ensures value { result ≡ (bits 0 probabilities.now d.old).0 }
@@ -18,18 +21,59 @@ fn read_bits(probabilities: &[u8], d: &mut BoolDecoder) -> u16
     value
 }
 
-/// The size that a token stands for.
+/// The size that a token stands for which has extra bits.
+#[inline(always)]
 #[tactic(auto, unfolding(crate::specs::Levels::size, vp_bool::specs::Reader::bind))]
-pub(crate) fn read_size(token: Token, d: &mut BoolDecoder) -> u16
+fn read_category(token: Token, d: &mut BoolDecoder) -> u16
     ensures value { result ≡ (size token d.old).0 }
     ensures rest { d.new ≡ (size token d.old).1 }
     ensures small { result ≤ 2114 }
+    ensures least { least_size token ≤ result }
 {
     let extra = read_bits(extra_probabilities(token), d);
     least_size(token) + extra
 }
 
+/// The size that a token stands for.
+#[inline(always)]
+#[tactic(auto, unfolding(crate::specs::Levels::size, crate::specs::Levels::bits, vp_tables::specs::Tables::least_size, vp_tables::specs::Tables::extra_probabilities, vp_bool::specs::Reader::bind))]
+pub(crate) fn read_size(token: Token, d: &mut BoolDecoder) -> u16
+    ensures value { result ≡ (size token d.old).0 }
+    ensures rest { d.new ≡ (size token d.old).1 }
+    ensures small { result ≤ 2114 }
+    ensures context { context_behind token ≡ context_after result }
+{
+    // Each type has an arm of its own, so that it is compiled with its own probabilities.
+    match token {
+        Token::EndOfBlock | Token::Zero => 0,
+        Token::One => 1,
+        Token::Two => 2,
+        Token::Three => 3,
+        Token::Four => 4,
+        Token::Category1 => read_category(Token::Category1, d),
+        Token::Category2 => read_category(Token::Category2, d),
+        Token::Category3 => read_category(Token::Category3, d),
+        Token::Category4 => read_category(Token::Category4, d),
+        Token::Category5 => read_category(Token::Category5, d),
+        Token::Category6 => read_category(Token::Category6, d),
+    }
+}
+
+/// The context behind a token.
+#[inline(always)]
+pub(crate) fn context_behind(token: Token) -> usize
+    ensures value { result ≡ context_behind token }
+    ensures small { result < 3 }
+{
+    match token {
+        Token::EndOfBlock | Token::Zero => 0,
+        Token::One => 1,
+        _ => 2,
+    }
+}
+
 /// The level of this size, whose sign is read where it isn't 0.
+#[inline(always)]
 #[tactic(auto, unfolding(crate::specs::Levels::signed, vp_bool::specs::Reader::bind))]
 pub(crate) fn read_signed(size: u16, d: &mut BoolDecoder) -> i16
     requires { size ≤ 2114 }
@@ -40,7 +84,7 @@ pub(crate) fn read_signed(size: u16, d: &mut BoolDecoder) -> i16
     if size == 0 {
         return 0;
     }
-    if d.read(128) {
+    if d.read_even() {
         -(size as i16)
     } else {
         size as i16

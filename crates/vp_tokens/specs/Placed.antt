@@ -1,0 +1,46 @@
+-- Inside the crate: the blocks of a macroblock by nine flags above them and nine to their left, which go along.
+use Rattle.std.specs.Prelude.{ℕ, ◌+◌, ◌-◌, Bool, List, slice_index, slice_set}
+use Rattle.vp_bool.specs.Reader.{Reader, ◌>>=◌, give, when, rows}
+use Rattle.vp_tokens.specs.declared.block.BlockKind.{BlockKind}
+use Rattle.vp_tokens.specs.declared.block.BlockKind.TheVariants as kind_is
+use Rattle.vp_tokens.specs.declared.macroblock.Flags.{Flags}
+use Rattle.vp_tokens.specs.declared.macroblock.TheConstants.{ABOVE, LEFT}
+use Rattle.vp_tokens.specs.Block.{Block, has_token}
+use Rattle.vp_tokens.specs.Levels.{Probabilities, bands_of, first_of, levels, block_with}
+use Rattle.vp_tokens.specs.Blocks.{flag, both, kind_of}
+
+-- the blocks of a macroblock while they are read, and the flags round those to come
+pub record Reading : Type 0 where
+  pub blocks : List Block
+  pub above : List Bool
+  pub left : List Bool
+
+abbrev pub reading : List Block → Flags → Reading
+reading blocks flags = record { blocks = blocks; above = flags.above; left = flags.left }
+
+-- a block by the probabilities of its type, from its first position on
+unfoldable pub banded : List (List (List ℕ)) → ℕ → ℕ → Reader Block
+banded bands first context = do
+  found ← levels bands (16 - first) first context 0
+  give (block_with first found)
+
+-- block k, whose flag stands for it from then on
+unfoldable pub placed : List (List (List ℕ)) → ℕ → ℕ → Reading → Reader Reading
+placed bands first k r = do
+  b ← banded bands first (both (flag r.above (slice_index ABOVE k)) (flag r.left (slice_index LEFT k)))
+  give (record {
+    blocks = slice_set r.blocks k b;
+    above = slice_set r.above (slice_index ABOVE k) (has_token b);
+    left = slice_set r.left (slice_index LEFT k) (has_token b);
+  })
+
+-- n blocks of one type, from block k on
+unfoldable pub plane : Probabilities → BlockKind → ℕ → ℕ → Reading → Reader Reading
+plane probabilities kind k n = rows n (λ j. placed (bands_of probabilities kind) (first_of kind) (k + j))
+
+-- those of a macroblock
+unfoldable pub all_placed : Probabilities → Bool → Reading → Reader Reading
+all_placed probabilities has_y2 r = do
+  y2 ← when has_y2 (plane probabilities kind_is.Y2 0 1 r) r
+  luma ← plane probabilities (kind_of has_y2 1) 1 16 y2
+  plane probabilities kind_is.Chroma 17 8 luma

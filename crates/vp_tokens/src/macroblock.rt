@@ -1,0 +1,172 @@
+//! Reading the tokens of a macroblock (RFC 6386, chapter 13).
+ghost use Rattle.std.specs.Prelude.{◌≡◌, ℕ, true, ◌+◌, ◌<◌, ◌≤◌, length, slice_index_or};
+ghost use Rattle.vp_base.specs.Grid.{Grid, Has, with_entry};
+ghost use Rattle.vp_tokens.specs.Block.{no_tokens};
+ghost use Rattle.vp_tokens.specs.Blocks.{Blocks, blocks_of, had_of, flag, y2_or, all_blocks, no_blocks, macroblock};
+ghost use Rattle.vp_tokens.specs.Contexts.{StandsFor, lowest, rightmost, right};
+ghost use Rattle.vp_tokens.specs.Flagged.{by_flags};
+ghost use Rattle.vp_tokens.specs.Placed.{reading, placed, plane, all_placed};
+ghost use Rattle.vp_tokens.specs.Spelled.{AreSpelled};
+
+use crate::block::{Block, BlockKind, bands_of, first_of, read_block};
+use crate::contexts::{Contexts, Tokens, count, kind_of};
+use vp_base::Place;
+use vp_bool::BoolDecoder;
+
+/// Whether the blocks above and to the left of those to come had a token: 4 of Y, 2 of U, 2 of V, 1 of Y2.
+#[derive(Clone, Copy)]
+struct Flags {
+    above: [bool; 9],
+    left: [bool; 9],
+}
+
+/// Where the flag of each block stands among the nine above.
+const ABOVE: [u8; 25] = [
+    8, 0, 1, 2, 3, 0, 1, 2, 3, 0, 1, 2, 3, 0, 1, 2, 3, 4, 5, 4, 5, 6, 7, 6, 7,
+];
+
+/// Where it stands among the nine to the left.
+const LEFT: [u8; 25] = [
+    8, 0, 0, 0, 0, 1, 1, 1, 1, 2, 2, 2, 2, 3, 3, 3, 3, 4, 4, 5, 5, 6, 6, 7, 7,
+];
+
+/// Reads block k, and keeps its flag for the blocks below it and to its right.
+#[inline(always)]
+#[tactic(auto, unfolding(crate::specs::Placed::placed, vp_bool::specs::Reader::bind))]
+fn read_placed(
+    bands: &[[[u8; 11]; 3]; 8],
+    first: usize,
+    k: usize,
+    blocks: &mut [Block; 25],
+    flags: &mut Flags,
+    d: &mut BoolDecoder,
+)
+    requires first_in { first ≤ 1 }
+    requires k_in { k < 25 }
+    requires none { slice_index_or blocks.old k no_tokens ≡ no_tokens }
+    ensures value { reading blocks.new flags.new ≡ (placed bands.now first k (reading blocks.old flags.old) d.old).0 }
+    ensures rest { d.new ≡ (placed bands.now first k (reading blocks.old flags.old) d.old).1 }
+{
+    let up = ABOVE[k] as usize;
+    let side = LEFT[k] as usize;
+    let context = count(flags.above[up], flags.left[side]);
+    read_block(bands, first, context, &mut blocks[k], d);
+    let had = blocks[k].has_token();
+    flags.above[up] = had;
+    flags.left[side] = had;
+}
+
+/// Reads so many blocks of one type, from block k on, which have no tokens yet.
+#[inline(never)]
+fn read_plane(
+    probabilities: &[[[[u8; 11]; 3]; 8]; 4],
+    kind: BlockKind,
+    k: usize,
+    count: usize,
+    blocks: &mut [Block; 25],
+    flags: &mut Flags,
+    d: &mut BoolDecoder,
+)
+    requires inside { k + count ≤ 25 }
+    requires none { (j : ℕ) → k ≤ j → slice_index_or blocks.old j no_tokens ≡ no_tokens }
+    ensures value { reading blocks.new flags.new ≡ (plane probabilities.now kind k count (reading blocks.old flags.old) d.old).0 }
+    ensures rest { d.new ≡ (plane probabilities.now kind k count (reading blocks.old flags.old) d.old).1 }
+    ensures none { (j : ℕ) → k + count ≤ j → slice_index_or blocks.new j no_tokens ≡ no_tokens }
+{
+    let bands = bands_of(probabilities, kind);
+    let first = first_of(kind);
+    // The compiler keeps a decoder of its own in registers.
+    let mut own = d.copy();
+    for i in 0..count {
+        read_placed(bands, first, k + i, blocks, flags, &mut own);
+    }
+    *d = own;
+}
+
+/// Reads all blocks, which have no tokens yet.
+fn read_all(
+    probabilities: &[[[[u8; 11]; 3]; 8]; 4],
+    has_y2: bool,
+    blocks: &mut [Block; 25],
+    flags: &mut Flags,
+    d: &mut BoolDecoder,
+)
+    requires { blocks.old ≡ no_blocks }
+    ensures value { reading blocks.new flags.new ≡ (all_placed probabilities.now has_y2 (reading blocks.old flags.old) d.old).0 }
+    ensures rest { d.new ≡ (all_placed probabilities.now has_y2 (reading blocks.old flags.old) d.old).1 }
+{
+    if has_y2 {
+        read_plane(probabilities, BlockKind::Y2, 0, 1, blocks, flags, d);
+    }
+    let luma = kind_of(has_y2, 1);
+    read_plane(probabilities, luma, 1, 16, blocks, flags, d);
+    read_plane(probabilities, BlockKind::Chroma, 17, 8, blocks, flags, d);
+}
+
+/// The flags behind a macroblock without tokens.
+fn flags_without(old: &[bool; 9], has_y2: bool) -> [bool; 9]
+    ensures lowest { result ≡ lowest (had_of no_blocks) (y2_or (record { has_y2 = has_y2; had = had_of no_blocks }) (flag old.now 8)) }
+    ensures rightmost { result ≡ rightmost (had_of no_blocks) (y2_or (record { has_y2 = has_y2; had = had_of no_blocks }) (flag old.now 8)) }
+{
+    let y2 = !has_y2 && old[8];
+    [false, false, false, false, false, false, false, false, y2]
+}
+
+/// Reads all blocks, which have no tokens yet, unless the macroblock is skipped.
+fn read_unless(
+    skipped: bool,
+    probabilities: &[[[[u8; 11]; 3]; 8]; 4],
+    has_y2: bool,
+    blocks: &mut [Block; 25],
+    flags: &mut Flags,
+    d: &mut BoolDecoder,
+)
+    requires { blocks.old ≡ no_blocks }
+    ensures value { blocks.new ≡ (all_blocks probabilities.now has_y2 skipped (by_flags flags.old.above flags.old.left) d.old).0 }
+    ensures rest { d.new ≡ (all_blocks probabilities.now has_y2 skipped (by_flags flags.old.above flags.old.left) d.old).1 }
+    ensures above { flags.new.above ≡ lowest (had_of blocks.new) (y2_or (record { has_y2 = has_y2; had = had_of blocks.new }) (flag flags.old.above 8)) }
+    ensures left { flags.new.left ≡ rightmost (had_of blocks.new) (y2_or (record { has_y2 = has_y2; had = had_of blocks.new }) (flag flags.old.left 8)) }
+{
+    if skipped {
+        flags.above = flags_without(&flags.above, has_y2);
+        flags.left = flags_without(&flags.left, has_y2);
+    } else {
+        read_all(probabilities, has_y2, blocks, flags, d);
+    }
+}
+
+/// The tokens of the macroblock at a place, from the partition of its row. A frame's macroblocks are read in raster order.
+///
+/// `has_y2` is false where the luma is predicted or moved by subblocks. Of a skipped macroblock nothing is read.
+pub fn read_macroblock(
+    probabilities: &[[[[u8; 11]; 3]; 8]; 4],
+    contexts: &mut Contexts,
+    place: Place,
+    has_y2: bool,
+    skipped: bool,
+    d: &mut BoolDecoder,
+) -> Tokens
+    requires { place.column < length contexts.old.above }
+    ensures value { (g : Grid Blocks) → StandsFor g place contexts.old
+        → result ≡ (macroblock probabilities.now g place has_y2 skipped d.old).0 }
+    ensures rest { (g : Grid Blocks) → StandsFor g place contexts.old
+        → d.new ≡ (macroblock probabilities.now g place has_y2 skipped d.old).1 }
+    ensures stands { (g : Grid Blocks) → Has g place → StandsFor g place contexts.old
+        → StandsFor (with_entry g place (blocks_of has_y2 result)) (right place) contexts.new }
+    ensures columns { length contexts.new.above ≡ length contexts.old.above }
+    // What is read can be written.
+    ensures spelled { AreSpelled has_y2 result.blocks }
+    ensures none { skipped ≡ true → result.blocks ≡ no_blocks }
+{
+    let mut tokens = Tokens {
+        blocks: [Block::NONE; 25],
+    };
+    let mut flags = Flags {
+        above: contexts.above_of(place),
+        left: contexts.left_of(place),
+    };
+    let blocks = &mut tokens.blocks;
+    read_unless(skipped, probabilities, has_y2, blocks, &mut flags, d);
+    contexts.put(place, flags.above, flags.left);
+    tokens
+}
