@@ -1,14 +1,14 @@
 -- For callers: blocks of numbers that are at most b can be transformed, and how large the results are. Blocks of zeros, and blocks
 -- whose first number alone is not 0.
-use Rattle.std.proofs.Common.{Bool, true, false, T, leb, ◌&&◌, ◌≡◌, ℕ, zero, suc, ◌+◌, ◌*◌, ◌/◌, ◌%◌, ◌^◌, ◌≤◌, ℤ, pos, ◌+ℤ◌, List, [], ◌∷◌, replicate, map, unsigned_abs, refl, ap, ◌∙◌, arith}
+use Rattle.std.proofs.Common.{Bool, true, false, T, leb, ◌&&◌, ◌≡◌, ℕ, zero, suc, ◌+◌, ◌*◌, ◌/◌, ◌%◌, ◌^◌, ◌≤◌, ℤ, pos, ◌+ℤ◌, List, [], ◌∷◌, replicate, map, unsigned_abs, refl, ap, sym, ◌∙◌, arith}
 use Rattle.std.specs.List.{All, range_with_len}
 use Rattle.std.proofs.lemmas.Int.{ints}
 use Rattle.std.proofs.lemmas.List.Elements.{All-map, All-tail}
 use Rattle.vp_transform.specs.Fits.{EachWithin, IdctFits, IwhtFits, column_size, row_size}
-use Rattle.vp_transform.specs.Steps.{column_product, row_product}
-use Rattle.vp_transform.specs.Transform.{block_of, turned, rounded, column_turned, row_turned, vertical, horizontal, idct, hadamard_times, times_hadamard_rounded, iwht}
+use Rattle.vp_transform.specs.Steps.{mixed, column_product, row_product}
+use Rattle.vp_transform.specs.Transform.{at, block_of, turned, rounded, column_turned, row_turned, vertical, horizontal, idct, hadamard_times, times_hadamard_rounded, iwht}
 use Rattle.vp_transform.proofs.Along.{get, by_columns, columns_along, rows_along}
-use Rattle.vp_transform.proofs.Signs.{column-at_most, product_row-at_most}
+use Rattle.vp_transform.proofs.Signs.{mixed-column, mixed-row, column-at_most, product_row-at_most}
 use Rattle.vp_transform.proofs.Sizes.{AtMost, sum-at_most, more-at_most, rounded-at_most, fits-at_most, four-at_most, turned-at_most, turn_fits}
 use Rattle.vp_transform.proofs.Words.{four}
 use lib.Dec.{leb→le}
@@ -73,7 +73,7 @@ module _ (b : ℕ) (block : List ℤ) (small : EachWithin b block) where
       each-block_of (4 * b) (λ r c. rounded (get (row_turned (vertical block) r) c))
       (λ r c. rounded-at_most _ 4 (4 * b) (omega arith) (more-at_most (turned-at_most (5 * b) (below _) (below _) (below _) (below _) c) (omega arith)))
 
-  hadamard_times-within : EachWithin (4 * b) (hadamard_times block)
+  pub hadamard_times-within : EachWithin (4 * b) (hadamard_times block)
   unfolding hadamard_times
   hadamard_times-within =
       each-block_of (4 * b) (λ r c. get (column_product block c) r)
@@ -116,9 +116,22 @@ idct-first_alone z =
 pub idct-zeros : idct (replicate 16 (pos 0)) ≡ replicate 16 (pos 0)
 idct-zeros = idct-first_alone (pos 0)
 
-pub iwht-zeros : iwht (replicate 16 (pos 0)) ≡ replicate 16 (pos 0)
+mixed-first : (z : ℤ) → mixed z (pos 0) (pos 0) (pos 0) ≡ z ∷ z ∷ z ∷ z ∷ []
+mixed-first z = four (omega (arith, ints)) (omega (arith, ints)) (omega (arith, ints)) (omega (arith, ints))
+
+pub iwht-first_alone : (z : ℤ) → iwht (first_alone z) ≡ replicate 16 (shr_z (z +ℤ pos 3) 8)
 unfolding iwht hadamard_times times_hadamard_rounded
-iwht-zeros = refl
+iwht-first_alone z =
+    let nothing : List ℤ = replicate 4 (pos 0) in
+    let same : nothing ≡ nothing = refl in
+    let all : List ℤ = by_columns (z ∷ z ∷ z ∷ z ∷ []) nothing nothing nothing in
+    let columns : hadamard_times (first_alone z) ≡ all = columns_along (sym (mixed-column (first_alone z) 0) ∙ mixed-first z) same same same in
+    let row : (r : ℕ) → mixed (at all r 0) (at all r 1) (at all r 2) (at all r 3) ≡ z ∷ z ∷ z ∷ z ∷ [] → map (λ v. shr_z (v +ℤ pos 3) 8) (row_product all r) ≡ replicate 4 (shr_z (z +ℤ pos 3) 8) =
+    λ r e. ap (λ v. map (λ w. shr_z (w +ℤ pos 3) 8) v) (sym (mixed-row all r) ∙ e) in
+    ap (λ v. times_hadamard_rounded v) columns ∙ rows_along (row 0 (mixed-first z)) (row 1 (mixed-first z)) (row 2 (mixed-first z)) (row 3 (mixed-first z))
+
+pub iwht-zeros : iwht (replicate 16 (pos 0)) ≡ replicate 16 (pos 0)
+iwht-zeros = iwht-first_alone (pos 0)
 
 -- of a block whose numbers are known
 pub idct_fits_tested : (block : List ℤ) → T (are_within (2 ^ 40) block) → IdctFits block

@@ -9,3 +9,4 @@ pub mod Words32
 pub mod Narrow
 pub mod Vectors
 pub mod Products
+pub mod Mixing

@@ -1,9 +1,10 @@
 -- Small numbers: nothing that the transform of four of them computes leaves i32.
-use Rattle.std.proofs.Common.{ℕ, zero, suc, ◌+◌, ◌<◌, ◌≤◌, ℤ, pos, negsuc, ◌+ℤ◌, ◌-ℤ◌, ◌*ℤ◌, List, [], ◌∷◌, length, of_z, w64, ◌%◌, ◌^◌, sym, subst, arith, unsigned_abs, slice_index_or, bit_or, inl, inr}
+use Rattle.std.proofs.Common.{◌≡◌, ap, min, ℕ, zero, suc, ◌+◌, ◌*◌, ◌<◌, ◌≤◌, ℤ, pos, negsuc, ◌+ℤ◌, ◌-ℤ◌, ◌*ℤ◌, List, [], ◌∷◌, length, of_z, w64, ◌%◌, ◌^◌, sym, subst, arith, unsigned_abs, slice_index_or, bit_or, inl, inr}
 use Rattle.std.proofs.Math.Nat.{eq-or-lt_of_le}
 use Rattle.std.proofs.lemmas.Int.{ints}
 use Rattle.std.proofs.lemmas.Nat.{le_or_l, le_or_r}
 use Rattle.vp_transform.specs.Fits.{Fits, EachWithin}
+use Rattle.vp_transform.specs.Short.{cut}
 use Rattle.vp_transform.specs.Transform.{scaled}
 use Rattle.vp_transform.proofs.Sizes.{AtMost, sum-at_most, difference-at_most, times-at_most, scaled-at_most, c-at_most, d-at_most, first-at_most, second-at_most, third-at_most, fourth-at_most}
 use Rattle.vp_transform.proofs.Words32.{IsLong}
@@ -46,25 +47,31 @@ turn_is_long h0 h1 h2 h3 = record {
   fourth = long-at_most (fourth-at_most 40960 h0 h1 h2 h3) (omega arith);
 }
 
--- ---- the test of a block: the bits of its numbers, each with 8192 added, together
-pub record RaisedWithin (bits : ℕ) (z : ℤ) : Type 0 where
+-- ---- the test of a block: the bits of its numbers, each with b added, together
+pub record RaisedWithin (b bits : ℕ) (z : ℤ) : Type 0 where
   pub fits : Fits z
-  pub raised : (of_z w64 z + 8192) % 2 ^ 64 ≤ bits
+  pub raised : (of_z w64 z + b) % 2 ^ 64 ≤ bits
 
-raised-more : {m n : ℕ} {z : ℤ} → RaisedWithin m z → m ≤ n → RaisedWithin n z
+raised-more : {b m n : ℕ} {z : ℤ} → RaisedWithin b m z → m ≤ n → RaisedWithin b n z
 raised-more h l = let r = h.raised in record { fits = h.fits; raised = omega (arith, r) }
 
-pub all_bits : (xs : List ℤ) (i bits u : ℕ) → ((k : ℕ) → k < i → RaisedWithin bits (slice_index_or xs k (pos 0))) → RaisedWithin u (slice_index_or xs i (pos 0))
-    → (k : ℕ) → k < i + 1 → RaisedWithin (bit_or bits u) (slice_index_or xs k (pos 0))
-all_bits xs i bits u h g k l =
-    elim (eq-or-lt_of_le {n = k} {m = i} (omega (arith, l))) as (λ _. RaisedWithin (bit_or bits u) (slice_index_or xs k (pos 0)))
-    [ inl e ↦ subst (λ v. RaisedWithin (bit_or bits u) (slice_index_or xs v (pos 0))) (sym e) (raised-more g (le_or_r bits u)) | inr e ↦ raised-more (h k e) (le_or_l bits u) ]
+pub all_bits : (b : ℕ) (xs : List ℤ) (i bits u : ℕ) → ((k : ℕ) → k < i → RaisedWithin b bits (slice_index_or xs k (pos 0))) → RaisedWithin b u (slice_index_or xs i (pos 0))
+    → (k : ℕ) → k < i + 1 → RaisedWithin b (bit_or bits u) (slice_index_or xs k (pos 0))
+all_bits b xs i bits u h g k l =
+    elim (eq-or-lt_of_le {n = k} {m = i} (omega (arith, l))) as (λ _. RaisedWithin b (bit_or bits u) (slice_index_or xs k (pos 0)))
+    [ inl e ↦ subst (λ v. RaisedWithin b (bit_or bits u) (slice_index_or xs v (pos 0))) (sym e) (raised-more g (le_or_r bits u)) | inr e ↦ raised-more (h k e) (le_or_l bits u) ]
 
-small_of : (z : ℤ) (bits : ℕ) → RaisedWithin bits z → bits < 16384 → unsigned_abs z ≤ 8192
-small_of (pos n) bits h l = let m = h.fits.sfits in let r = h.raised in omega (arith, m, r)
-small_of (negsuc n) bits h l = let m = h.fits.sfits in let r = h.raised in omega (arith, m, r)
+small_of : (b : ℕ) (z : ℤ) (bits : ℕ) → b ≤ 2 ^ 40 → RaisedWithin b bits z → bits < 2 * b → unsigned_abs z ≤ b
+small_of b (pos n) bits s h l = let m = h.fits.sfits in let r = h.raised in omega (arith, m, r)
+small_of b (negsuc n) bits s h l = let m = h.fits.sfits in let r = h.raised in omega (arith, m, r)
 
-pub each_small : (bits : ℕ) (xs : List ℤ) → ((k : ℕ) → k < length xs → RaisedWithin bits (slice_index_or xs k (pos 0))) → bits < 16384 → EachWithin 8192 xs
-each_small bits [] h l k = omega arith
-each_small bits (x ∷ xs) h l zero = small_of x bits (h 0 (omega arith)) l
-each_small bits (x ∷ xs) h l (suc k) = each_small bits xs (λ j m. h (suc j) (omega arith)) l k
+pub each_small : (b bits : ℕ) (xs : List ℤ) → b ≤ 2 ^ 40 → ((k : ℕ) → k < length xs → RaisedWithin b bits (slice_index_or xs k (pos 0))) → bits < 2 * b → EachWithin b xs
+each_small b bits [] s h l k = omega arith
+each_small b bits (x ∷ xs) s h l zero = small_of b x bits s (h 0 (omega arith)) l
+each_small b bits (x ∷ xs) s h l (suc k) = each_small b bits xs s (λ j m. h (suc j) (omega arith)) l k
+
+-- ---- small numbers aren't cut
+pub cut-small : (z : ℤ) → unsigned_abs z ≤ 32764 → cut z ≡ z
+unfolding cut
+cut-small (pos n) l = ap (λ m. pos m) (let e : min n 32767 ≡ n = omega arith in e)
+cut-small (negsuc n) l = ap (λ m. negsuc m) (let e : min n 32767 ≡ n = omega arith in e)

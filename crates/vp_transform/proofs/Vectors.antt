@@ -1,5 +1,5 @@
 -- Vectors of four lanes of i32, passed, joined and widened.
-use Rattle.std.proofs.Common.{◌≡◌, ℕ, zero, suc, ◌+◌, ◌-◌, ◌*◌, ◌<◌, ◌≤◌, ℤ, pos, negsuc, List, [], ◌∷◌, ◌++◌, map, get_or, to_z, of_z, w32, w64, lit<, refl, ap, sym, subst, ◌∙◌, arith, slice_index_or, unsigned_abs}
+use Rattle.std.proofs.Common.{◌≡◌, ℕ, zero, suc, ◌+◌, ◌-◌, ◌*◌, ◌^◌, ◌<◌, ◌≤◌, ℤ, pos, negsuc, List, [], ◌∷◌, ◌++◌, map, get_or, to_z, of_z, w32, w64, lit<, refl, ap, sym, subst, ◌∙◌, arith, slice_index_or, unsigned_abs}
 use Rattle.std.proofs.lemmas.Int.{to_z-of_z}
 use Rattle.std.proofs.lemmas.List.{get_or_append_left, get_or-append_right}
 use mir.Syntax.{w16, signed, cast}
@@ -117,7 +117,7 @@ rounded_across q0 q1 q2 q3 p0 p1 p2 p3 o r k h f0 f1 f2 f3 f g =
     (p2.at k h ∙ f2 ∙ ap (λ z. rounded z) (q2.at k h)) (p3.at k h ∙ f3 ∙ ap (λ z. rounded z) (q3.at k h)) ∙ ap (λ v. map (λ z. rounded z) v) g
 
 -- ---- the numbers of a row
-module _ (xs : List ℤ) (small : EachWithin 8192 xs) (k : ℕ) where
+module _ (xs : List ℤ) (small : EachWithin (2 ^ 26) xs) (k : ℕ) where
   short_at : SFits w32 (get xs k)
   short_at = let l = small k in short_fits (get xs k) (omega arith)
 

@@ -3,3 +3,4 @@ pub mod Steps
 pub mod Transform
 pub mod Forward
 pub mod Narrow
+pub mod Short

@@ -9,13 +9,16 @@ const SINE: i64 = 35468;
 /// sqrt 2 * cos (pi / 8) - 1, times 2^16.
 const COSINE: i64 = 20091;
 
+/// Blocks of numbers below this are transformed in lanes of i32.
+const NARROW: u64 = 1 << 13;
+
 /// The inverse DCT of a block: sixteen numbers, row after row (RFC 6386, chapter 14.4).
 pub fn idct(block: &[i64; 16]) -> [i64; 16]
     requires { IdctFits block.now }
     ensures value { result ≡ idct block.now }
     ensures within { (b : ℕ) → EachWithin b block.now → EachWithin (4 * b) result }
 {
-    if is_narrow(block) {
+    if is_narrow(block, NARROW) {
         narrow_idct(block)
     } else {
         wide_idct(block)

@@ -1,8 +1,14 @@
-ghost use Rattle.std.specs.Prelude.{◌≡◌, ℕ, ◌+◌, ◌*◌, ◌<◌, ◌≤◌, ◌^◌, pos, ◌+ℤ◌, map, slice_index_or, unsigned_abs};
+ghost use Rattle.std.specs.Prelude.{◌≡◌, ℕ, ◌+◌, ◌*◌, ◌<◌, ◌≤◌, ◌^◌, ◌∷◌, replicate, pos, ◌+ℤ◌, map, slice_index_or, unsigned_abs};
 ghost use Rattle.vp_transform.specs.Steps.{mixed, column_product, row_product};
 ghost use Rattle.vp_transform.specs.Fits.{Fits, IwhtFits, EachWithin, column_size, row_size};
 ghost use Rattle.vp_transform.specs.Transform.{iwht, hadamard_times, times_hadamard};
 ghost use lib.Signed.{shr_z};
+
+use crate::hadamard_lanes::narrow_iwht;
+use crate::lanes::is_narrow;
+
+/// Blocks of numbers below this are transformed in lanes of i32: no stream's are larger.
+const NARROW: u64 = 1 << 26;
 
 /// The inverse Walsh-Hadamard transform of a block: sixteen numbers, row after row (RFC 6386, chapter 14.3).
 pub fn iwht(block: &[i64; 16]) -> [i64; 16]
@@ -10,7 +16,28 @@ pub fn iwht(block: &[i64; 16]) -> [i64; 16]
     ensures value { result ≡ iwht block.now }
     ensures within { (b : ℕ) → EachWithin b block.now → EachWithin (2 * b) result }
 {
+    if is_narrow(block, NARROW) {
+        narrow_iwht(block)
+    } else {
+        wide_iwht(block)
+    }
+}
+
+/// The same in i64, for every block that can be transformed.
+pub(crate) fn wide_iwht(block: &[i64; 16]) -> [i64; 16]
+    requires { IwhtFits block.now }
+    ensures { result ≡ iwht block.now }
+{
     all_rounded(&by_rows(&by_columns(block)))
+}
+
+/// What `iwht` gives in each place where all of the block's numbers but the first, `dc`, are 0.
+pub fn iwht_of_first(dc: i64) -> i64
+    requires { unsigned_abs dc + 3 < 2 ^ 63 }
+    ensures value { iwht (dc ∷ replicate 15 (pos 0)) ≡ replicate 16 result }
+    ensures within { unsigned_abs result ≤ unsigned_abs dc }
+{
+    round(dc)
 }
 
 pub(crate) fn by_columns(x: &[i64; 16]) -> [i64; 16]

@@ -1,6 +1,6 @@
 //! Blocks in lanes of i32, a row to a vector: for numbers so small that nothing which is computed of them leaves i32.
 
-ghost use Rattle.std.specs.Prelude.{◌≡◌, ℕ, ◌<◌, ◌≤◌, List, true, length, map, pos};
+ghost use Rattle.std.specs.Prelude.{◌≡◌, ℕ, ◌*◌, ◌^◌, ◌<◌, ◌≤◌, List, true, length, map, pos};
 ghost use Rattle.vp_lanes.specs.Lane.{lane};
 ghost use Rattle.vp_transform.specs.Fits.{EachWithin};
 ghost use Rattle.vp_transform.specs.Narrow.{column_of, block_in, LanesWithin};
@@ -13,21 +13,22 @@ const SINE: i32 = 35468;
 /// sqrt 2 * cos (pi / 8) - 1, times 2^16.
 const COSINE: i32 = 20091;
 
-/// Whether each number is from -8192 to 8191.
-pub(crate) fn is_narrow(block: &[i64; 16]) -> bool
-    ensures { result ≡ true → EachWithin 8192 block.now }
+/// Whether each number is from `-bound` to `bound - 1`, where `bound` is a power of two.
+pub(crate) fn is_narrow(block: &[i64; 16], bound: u64) -> bool
+    requires { bound ≤ 2 ^ 40 }
+    ensures { result ≡ true → EachWithin bound block.now }
 {
     let mut bits = 0u64;
     for i in 0..16 {
-        bits |= block[i].cast_unsigned().wrapping_add(8192);
+        bits |= block[i].cast_unsigned().wrapping_add(bound);
     }
-    bits < 16384
+    bits < 2 * bound
 }
 
 /// Row `r` of a block of small numbers.
 pub(crate) fn row(block: &[i64; 16], r: usize) -> i32x4
     requires inside { r < 4 }
-    requires small { EachWithin 8192 block.now }
+    requires small { EachWithin (2 ^ 26) block.now }
     ensures { (j : ℕ) → j < 4 → lane result j ≡ at block.now r j }
 {
     let i = 4 * r;
@@ -134,7 +135,7 @@ fn short_row(block: &[i16; 16], r: usize) -> i32x4
 }
 
 /// The block whose rows are four vectors, in i16.
-fn short_joined(a: i32x4, b: i32x4, c: i32x4, d: i32x4) -> [i16; 16]
+pub(crate) fn short_joined(a: i32x4, b: i32x4, c: i32x4, d: i32x4) -> [i16; 16]
     requires first { LanesWithin 32764 a }
     requires second { LanesWithin 32764 b }
     requires third { LanesWithin 32764 c }

@@ -5,12 +5,15 @@ mod cosine;
 mod forward_cosine;
 mod forward_hadamard;
 mod hadamard;
+mod hadamard_lanes;
 mod lanes;
+mod short;
 #[cfg(test)]
 mod tests;
 
 pub use cosine::{idct, idct_of_first};
 pub use forward_cosine::fdct;
 pub use forward_hadamard::fwht;
-pub use hadamard::iwht;
+pub use hadamard::{iwht, iwht_of_first};
 pub use lanes::idct_short;
+pub use short::{cut, idct_cut};

@@ -1,7 +1,10 @@
-ghost use Rattle.vp_transform.specs.Fits.{IdctFits};
+ghost use Rattle.std.specs.Prelude.{ℕ, ◌*◌, ◌^◌, ◌≤◌, unsigned_abs};
+ghost use Rattle.vp_transform.specs.Fits.{EachWithin, IdctFits, IwhtFits};
 
 use super::*;
 use crate::cosine::wide_idct;
+use crate::hadamard::wide_iwht;
+use crate::short::all_cut;
 use std::test::Fail;
 
 /// The second block's numbers are those that RFC 6386's own program gives (chapters 14.3, 14.4).
@@ -12,6 +15,7 @@ fn kernel_examples(rt: HostRuntime) -> Result<(), Fail> {
     assert_eq!(rt; iwht(&first), [1; 16]);
     assert_eq!(rt; idct(&first), [1; 16]);
     assert_eq!(rt; idct_of_first(8), 1);
+    assert_eq!(rt; iwht_of_first(12), 1);
     let block = [
         -700, 123, -45, 6, 77, -888, 99, -10, 11, 12, -1313, 14, -15, 160, 17, -1818,
     ];
@@ -90,4 +94,80 @@ fn narrow_and_wide_blocks(rt: HostRuntime) {
     block[15] = 8192;
     block[0] = 2114 * 157;
     assert!(rt; is_as_plain(&block));
+}
+
+/// Whether `idct_cut` gives what the plain formula does, cut.
+fn cut_is_as_plain(block: &[i64; 16]) -> bool
+    requires { IdctFits block.now }
+{
+    idct_cut(block) == all_cut(&wide_idct(block))
+}
+
+/// Numbers whose transform is cut, numbers at the bounds of the lanes, and one beyond.
+#[test]
+fn cut_blocks(rt: HostRuntime) {
+    assert_eq!(rt; cut(-32769), -32768);
+    assert_eq!(rt; cut(32768), 32767);
+    assert!(rt; cut_is_as_plain(&[-2114 * 157; 16]));
+    let mut block = [
+        4095, -4096, 4095, 4095, -4096, -4096, 4095, -4096, -4096, 4095, -4096, 4095, 4095, 4095,
+        -4096, -4096,
+    ];
+    assert!(rt; cut_is_as_plain(&block));
+    block[15] = 4096;
+    assert!(rt; cut_is_as_plain(&block));
+    block[15] = -4097;
+    assert!(rt; cut_is_as_plain(&block));
+}
+
+/// Whether `iwht` gives what the plain formula does.
+fn hadamard_is_as_plain(block: &[i64; 16]) -> bool
+    requires { IwhtFits block.now }
+{
+    iwht(block) == wide_iwht(block)
+}
+
+/// The same of `iwht`, whose lanes take larger numbers.
+#[test]
+fn narrow_and_wide_hadamard_blocks(rt: HostRuntime) {
+    assert!(rt; hadamard_is_as_plain(&[-2114 * 157; 16]));
+    let mut block = [
+        67108863, -67108864, 67108863, 67108863, -67108864, -67108864, 67108863, -67108864,
+        -67108864, 67108863, -67108864, 67108863, 67108863, 67108863, -67108864, -67108864,
+    ];
+    assert!(rt; hadamard_is_as_plain(&block));
+    block[15] = -67108865;
+    assert!(rt; hadamard_is_as_plain(&block));
+    block[15] = 67108864;
+    block[0] = 1 << 40;
+    assert!(rt; hadamard_is_as_plain(&block));
+}
+
+/// A number that looks like chance.
+fn scattered(seed: u64) -> i64
+    ensures { unsigned_abs result ≤ 2 ^ 14 }
+{
+    (seed.wrapping_mul(6364136223846793005) >> 49) as i64 - 16384
+}
+
+/// Sixteen such numbers.
+fn scattered_block(seed: u64) -> [i64; 16]
+    ensures { EachWithin (2 ^ 14) result }
+{
+    let mut block = [0; 16];
+    for i in 0..16 {
+        block[i] = scattered(seed.wrapping_mul(16).wrapping_add(i as u64));
+    }
+    block
+}
+
+/// Both transforms against their plain formulas, of numbers that fit the lanes and of others.
+#[test]
+fn scattered_blocks(rt: HostRuntime) {
+    for seed in 1..50 {
+        let block = scattered_block(seed);
+        assert!(rt; is_as_plain(&block));
+        assert!(rt; cut_is_as_plain(&block));
+        assert!(rt; hadamard_is_as_plain(&block));
+    }
 }

@@ -1,18 +1,10 @@
-use Rattle.std.proofs.Common.{◌*◌, ◌+◌, ◌<◌, ◌^◌, ap, ◌∙◌, subst, sym, map, pos, ◌+ℤ◌}
-use Rattle.vp_transform.specs.Fits.{row_size}
-use Rattle.vp_transform.proofs.Bounds.{iwht-within}
+use Rattle.std.proofs.Common.{◌*◌, subst, sym}
 use Rattle.vp_transform.specs.Fits.{EachWithin}
-use Rattle.vp_transform.specs.Transform.{iwht, times_hadamard_rounded}
-use Rattle.vp_transform.specs.Transform.{times_hadamard}
-use Rattle.vp_transform.proofs.Signs.{rows_fit}
+use Rattle.vp_transform.proofs.Bounds.{iwht-within}
 use Rattle.vp_transform.proofs.hadamard.iwht.Goals as goal
-use lib.Signed.{shr_z}
 
-pub by_rows-requires : goal.by_rows-requires
-by_rows-requires c r l = subst (λ v. row_size v r + 3 < 2 ^ 63) (sym c.by_columns.ensures) (rows_fit c.args.block.now r l c.requires)
+pub returns-then-is_narrow-clause-within : goal.returns-then-is_narrow-clause-within
+returns-then-is_narrow-clause-within c b h = subst (λ v. EachWithin (2 * b) v) (sym c.narrow_iwht.ensures) (iwht-within b c.args.block.now h)
 
-pub returns : goal.returns
-unfolding iwht times_hadamard times_hadamard_rounded
-returns c =
-    let e = c.all_rounded.ensures ∙ ap (λ v. map (λ z. shr_z (z +ℤ pos 3) 8) v) (c.by_rows.ensures.value ∙ ap (λ v. times_hadamard v) c.by_columns.ensures) in
-    record { value = e; within = λ b h. subst (λ v. EachWithin (2 * b) v) (sym e) (iwht-within b c.args.block.now h) }
+pub returns-else-is_narrow-clause-within : goal.returns-else-is_narrow-clause-within
+returns-else-is_narrow-clause-within c b h = subst (λ v. EachWithin (2 * b) v) (sym c.wide_iwht.ensures) (iwht-within b c.args.block.now h)

@@ -1,0 +1,7 @@
+-- Numbers cut to 16 bits.
+use Rattle.std.specs.Prelude.{min, ℤ, pos, negsuc}
+
+-- z, or the nearest of -32768 and 32767
+unfoldable pub cut : ℤ → ℤ
+cut (pos n) = pos (min n 32767)
+cut (negsuc n) = negsuc (min n 32767)

@@ -1,0 +1,50 @@
+//! The inverse Walsh-Hadamard transform in lanes of i32, a row to a vector: for numbers so small that nothing which is
+//! computed of them leaves i32.
+
+ghost use Rattle.std.specs.Prelude.{◌≡◌, ℕ, ◌^◌, ◌<◌, ◌≤◌, pos, ◌+ℤ◌, map};
+ghost use Rattle.vp_transform.specs.Fits.{EachWithin};
+ghost use Rattle.vp_transform.specs.Narrow.{block_in};
+ghost use Rattle.vp_transform.specs.Transform.{hadamard_times, iwht};
+ghost use lib.Signed.{shr_z};
+
+use crate::lanes::{across, joined, row};
+use std::simd::prelude::*;
+
+/// The matrix times the block whose rows are the vectors: the rows of the product.
+fn mix(i0: i32x4, i1: i32x4, i2: i32x4, i3: i32x4) -> (i32x4, i32x4, i32x4, i32x4)
+    requires { EachWithin (2 ^ 28) (block_in i0 i1 i2 i3) }
+    ensures { block_in result.0 result.1 result.2 result.3 ≡ hadamard_times (block_in i0 i1 i2 i3) }
+{
+    let a = i0 + i3;
+    let b = i1 + i2;
+    let c = i1 - i2;
+    let d = i0 - i3;
+    (a + b, c + d, a - b, d - c)
+}
+
+/// The lanes over 8, rounded.
+fn rounded(a: i32x4, b: i32x4, c: i32x4, d: i32x4) -> (i32x4, i32x4, i32x4, i32x4)
+    requires { EachWithin (2 ^ 30) (block_in a b c d) }
+    ensures { block_in result.0 result.1 result.2 result.3 ≡ map (λ z. shr_z (z +ℤ pos 3) 8) (block_in a b c d) }
+{
+    let three = i32x4::splat(3);
+    (
+        (a + three) >> 3,
+        (b + three) >> 3,
+        (c + three) >> 3,
+        (d + three) >> 3,
+    )
+}
+
+/// The inverse Walsh-Hadamard transform of a block of small numbers.
+pub(crate) fn narrow_iwht(block: &[i64; 16]) -> [i64; 16]
+    requires { EachWithin (2 ^ 26) block.now }
+    ensures { result ≡ iwht block.now }
+{
+    let (a, b, c, d) = mix(row(block, 0), row(block, 1), row(block, 2), row(block, 3));
+    let (a, b, c, d) = across(a, b, c, d);
+    let (a, b, c, d) = mix(a, b, c, d);
+    let (a, b, c, d) = rounded(a, b, c, d);
+    let (a, b, c, d) = across(a, b, c, d);
+    joined(a, b, c, d)
+}

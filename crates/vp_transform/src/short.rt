@@ -1,0 +1,52 @@
+//! The inverse DCT into i16, for a residue that is added to pixels: a number that i16 doesn't hold is cut to the nearest.
+
+ghost use Rattle.std.specs.Prelude.{◌≡◌, ℕ, ◌<◌, pos, slice_index_or};
+ghost use Rattle.vp_transform.specs.Fits.{EachWithin, IdctFits};
+ghost use Rattle.vp_transform.specs.Transform.{idct};
+ghost use Rattle.vp_transform.specs.Short.{cut};
+
+use crate::cosine::wide_idct;
+use crate::lanes::{is_narrow, row, short_joined, turned_back};
+
+/// Blocks of numbers below this are transformed in lanes of i32, and the results fit i16.
+const NARROW: u64 = 1 << 12;
+
+/// The inverse DCT of a block, each number cut.
+pub fn idct_cut(block: &[i64; 16]) -> [i16; 16]
+    requires { IdctFits block.now }
+    ensures { (i : ℕ) → i < 16 → slice_index_or result i (pos 0) ≡ cut (slice_index_or (idct block.now) i (pos 0)) }
+{
+    if is_narrow(block, NARROW) {
+        narrow_idct_cut(block)
+    } else {
+        all_cut(&wide_idct(block))
+    }
+}
+
+/// The same of a block of numbers from -4096 to 4096: none has to be cut.
+fn narrow_idct_cut(block: &[i64; 16]) -> [i16; 16]
+    requires { EachWithin 4096 block.now }
+    ensures { result ≡ idct block.now }
+{
+    let (a, b, c, d) = turned_back(row(block, 0), row(block, 1), row(block, 2), row(block, 3));
+    short_joined(a, b, c, d)
+}
+
+/// Sixteen numbers, each cut.
+pub(crate) fn all_cut(numbers: &[i64; 16]) -> [i16; 16]
+    ensures { (i : ℕ) → i < 16 → slice_index_or result i (pos 0) ≡ cut (slice_index_or numbers.now i (pos 0)) }
+{
+    let mut kept = [0; 16];
+    for i in 0..16 {
+        kept[i] = cut(numbers[i]);
+    }
+    kept
+}
+
+/// The nearest number that i16 holds.
+#[tactic(auto, unfolding(crate::specs::Short::cut))]
+pub fn cut(z: i64) -> i16
+    ensures { result ≡ cut z }
+{
+    z.clamp(-32768, 32767) as i16
+}
