@@ -1,6 +1,8 @@
 -- The coefficients of blocks with few tokens, and of blocks whose first one stands apart.
-use Rattle.std.proofs.Common.{◌≡◌, ◌∙◌, refl, ◌*ℤ◌, ℕ, zero, suc, ◌-◌, ◌≤◌, ℤ, pos, List, [], ◌∷◌, get_or, set, replicate, unsigned_abs, sym, ap, arith, inl, inr}
+use Rattle.std.proofs.Common.{◌≡◌, ◌∙◌, refl, ◌*ℤ◌, ℕ, zero, suc, ◌-◌, ◌≤◌, ℤ, pos, List, [], ◌∷◌, get_or, set, replicate, unsigned_abs, sym, ap, arith, inl, inr, nat_lt, false}
 use Rattle.std.proofs.lemmas.Bool.{cases_lt}
+use Rattle.std.proofs.lemmas.Bool.Decides.{nat_tests}
+use Rattle.std.proofs.lemmas.Int.{ints}
 use Rattle.std.proofs.lemmas.List.{ext_get_or, get_or-replicate}
 use Rattle.std.proofs.Math.IntN.{zero-*ℤ}
 use Rattle.vp_tokens.specs.Block.{Block, IsBlock}
@@ -57,3 +59,13 @@ any_first levels first dc ac = refl
 pub own_first : (levels : List ℤ) (dc ac : ℕ) → set (dequantised levels 0 ac) 0 (get_or levels 0 (pos 0) *ℤ pos dc) ≡ dequantised levels dc ac
 unfolding dequantised
 own_first levels dc ac = refl
+
+-- a first coefficient that is 0 is a level times 0
+pub no_first : (levels : List ℤ) (dc ac : ℕ) → set (dequantised levels dc ac) 0 (pos 0) ≡ dequantised levels 0 ac
+no_first levels dc ac =
+    sym (any_first levels (pos 0) dc ac)
+    ∙ ap (λ (z : ℤ). set (dequantised levels 0 ac) 0 z) (let e : pos 0 ≡ get_or levels 0 (pos 0) *ℤ pos 0 = omega (arith, ints) in e)
+    ∙ own_first levels 0 ac
+
+pub not_above : (n : ℕ) → nat_lt 0 n ≡ false → n ≡ 0
+not_above n e = grind (arith, nat_tests)

@@ -1,9 +1,9 @@
 -- A block that is predicted at once, and its subblocks with what is kept of their residues.
-use Rattle.std.proofs.Common.{◌≡◌, ◌∙◌, ℕ, ◌+◌, ◌*◌, ◌/◌, ◌%◌, ◌<◌, ◌≤◌, ℤ, pos, List, Option, Some, None, get_or, refl, sym, ap, subst, arith}
+use Rattle.std.proofs.Common.{◌≡◌, ◌∙◌, ℕ, ◌+◌, ◌*◌, ◌/◌, ◌%◌, ◌<◌, ◌≤◌, ℤ, pos, List, get_or, sym, ap, arith}
 use Rattle.std.proofs.lemmas.List.FromFn.{get_or-map-range_with_len}
 use Rattle.std.proofs.Math.Nat.{add-mul}
 use Rattle.vp_recon.specs.Rebuilt.{summed, residue_at}
-use Rattle.vp_recon.specs.Kept.{sixteen, IsKept, AreSums}
+use Rattle.vp_recon.specs.Kept.{sixteen, IsNothing, AreSums}
 use Rattle.vp_recon.proofs.Parts.{sub_at, subblock_has}
 use Rattle.vp_recon.proofs.KeptLemmas.{summed-zero}
 
@@ -15,10 +15,9 @@ abbrev pub whole_sum : ℕ → List ℕ → (ℕ → List ℤ) → ℕ → ℕ �
 whole_sum across prediction residue r c = summed (read across prediction r c) (residue_at across residue r c)
 
 -- subblock k has no residue
-pub sum_none : (across : ℕ) (prediction : List ℕ) (residue : ℕ → List ℤ) (o : Option (List ℤ)) (k r c : ℕ) → IsKept o (residue k) → o ≡ None
+pub sum_none : (across : ℕ) (prediction : List ℕ) (residue : ℕ → List ℤ) (k r c : ℕ) → IsNothing (residue k)
     → read across prediction r c ≤ 255 → sub_at across r c ≡ k → whole_sum across prediction residue r c ≡ read across prediction r c
-sum_none across prediction residue o k r c is none byte same =
-    let zeros = subst (λ (q : Option (List ℤ)). IsKept q (residue k)) none is in
+sum_none across prediction residue k r c zeros byte same =
     ap (summed (read across prediction r c))
     (ap (λ (j : ℕ). get_or (residue j) (4 * (r % 4) + c % 4) (pos 0)) same ∙ zeros (4 * (r % 4) + c % 4) (omega arith))
     ∙ summed-zero (read across prediction r c) byte
@@ -49,7 +48,3 @@ sum_some across prediction part pixels residue k r c some part_is sums rin cin =
     ∙ ap (λ (n : ℕ). summed (read across prediction (row + r) (column + c)) (get_or (residue n) (4 * r + c) (pos 0))) (sym has)
     ∙ ap (λ (n : ℕ). summed (read across prediction (row + r) (column + c)) (get_or (residue (sub_at across (row + r) (column + c))) (4 * n + c) (pos 0))) (sym i)
     ∙ ap (λ (n : ℕ). summed (read across prediction (row + r) (column + c)) (get_or (residue (sub_at across (row + r) (column + c))) (4 * ((row + r) % 4) + n) (pos 0))) (sym j)
-
-pub none_left : {A : Type 0} (o : Option A) → ((x : A) → o ≡ Some x → ⊥) → o ≡ None
-none_left None other = refl
-none_left (Some x) other = absurd (other x refl)

@@ -3,17 +3,16 @@ use Rattle.std.specs.Prelude.{◌≡◌, ℕ, ◌+◌, ◌-◌, ◌*◌, ◌<◌
 use Rattle.vp_base.specs.declared.place.Place.{Place}
 use Rattle.vp_base.specs.Raster.{Raster}
 use Rattle.vp_base.specs.Image.{Image, IsAligned, AreWhole, macroblocks}
-use Rattle.vp_base.specs.Rows.{AreSameAbove, AreSameFrom, AreOneSize}
+use Rattle.vp_base.specs.Rows.{AreSameFrom, AreOneSize}
 use Rattle.vp_base.specs.Near.{block}
 use Rattle.vp_base.specs.Over.{over}
 use Rattle.vp_tables.specs.declared.modes.SubMode.TheVariants.{Dc}
 use Rattle.vp_tables.specs.Modes.{is_by_subblocks}
 use Rattle.vp_modes.specs.Entry.{Modes}
-use Rattle.vp_motion.specs.Vector.{Entry}
 use Rattle.vp_tokens.specs.declared.contexts.Tokens.{Tokens}
 use Rattle.vp_tokens.specs.Blocks.{block_of}
 use Rattle.vp_quant.specs.declared.factors.Factors.{Factors}
-use Rattle.vp_recon.specs.Source.{Macroblock, Intra, Inter, macroblock_of}
+use Rattle.vp_recon.specs.Source.{Macroblock, Intra, macroblock_of}
 use Rattle.vp_recon.specs.Residue.{residue}
 use Rattle.vp_recon.specs.Rebuilt.{luma_rebuilt, rebuilt, with_sub}
 use Rattle.vp_recon.specs.Equation.{IsUnfiltered}

@@ -4,4 +4,5 @@ pub mod Prediction
 pub mod Rebuilt
 pub mod Equation
 pub mod Kept
+pub mod Parts
 pub mod Laws

@@ -9,10 +9,10 @@ ghost use Rattle.vp_inter.specs.Vectors.{chroma_vector};
 ghost use Rattle.vp_recon.specs.Source.{Inter, macroblock_of};
 ghost use Rattle.vp_recon.specs.Prediction.{four_from, luma_moved, chroma_moved};
 ghost use Rattle.vp_recon.specs.Rebuilt.{luma_rebuilt, chroma_rebuilt};
-ghost use Rattle.vp_recon.specs.Kept.{AreKept, AreVectors, moved_sum};
+ghost use Rattle.vp_recon.specs.Kept.{AreVectors, moved_sum};
+ghost use Rattle.vp_recon.specs.Parts.{AreSmall, Gives};
 
-use crate::kept::{Kept, with_residue};
-use crate::residue::{chroma_residues, luma_residues};
+use crate::residue::{Residues, chroma_residues, luma_residues};
 use crate::whole::write_whole;
 use vp_base::{Picture, Place};
 use vp_inter::{
@@ -39,15 +39,15 @@ pub(crate) fn rebuild_inter_luma(
     let _size = [picture.plane(0).width(), picture.plane(0).height()];
     let _dim = reference.dim();
     let split = motion.mode.is_split();
-    let kept = luma_residues(!split, tokens, factors);
+    let residues = luma_residues(!split, tokens, factors);
     if split {
         let vectors = luma_vectors(motion);
-        write_moved::<4>(picture, 0, place, reference, version, &vectors, &kept);
+        write_moved::<4>(picture, 0, place, reference, version, &vectors, &residues);
     } else {
         let [x, y] = [16 * place.column, 16 * place.row];
         let vector = luma_vector_of(motion, 0);
         let prediction = predict_block16(reference.plane(0), x, y, vector, version);
-        write_whole::<4>(picture, 0, x, y, &prediction, &kept);
+        write_whole::<4>(picture, 0, x, y, &prediction, &residues);
     }
 }
 
@@ -69,15 +69,17 @@ pub(crate) fn rebuild_inter_chroma(
 {
     let _size = [picture.plane(plane).width(), picture.plane(plane).height()];
     let _dim = reference.dim();
-    let kept = chroma_residues(tokens, factors, plane);
+    let residues = chroma_residues(tokens, factors, plane);
     if motion.mode.is_split() {
         let vectors = chroma_vectors(version, motion);
-        write_moved::<2>(picture, plane, place, reference, version, &vectors, &kept);
+        write_moved::<2>(
+            picture, plane, place, reference, version, &vectors, &residues,
+        );
     } else {
         let [x, y] = [8 * place.column, 8 * place.row];
         let vector = chroma_vector_of(version, motion, 0);
         let prediction = predict_block8(reference.plane(plane), x, y, vector, version);
-        write_whole::<2>(picture, plane, x, y, &prediction, &kept);
+        write_whole::<2>(picture, plane, x, y, &prediction, &residues);
     }
 }
 
@@ -140,7 +142,7 @@ fn chroma_vectors(version: u8, motion: &Entry) -> [PlaneVector; 4]
 }
 
 /// Writes a macroblock's block of one plane, `ACROSS` by `ACROSS` subblocks, each moved by a vector of its own and with
-/// what is kept of its residue.
+/// its residue.
 fn write_moved<const ACROSS: usize>(
     picture: &mut Picture,
     plane: usize,
@@ -148,19 +150,20 @@ fn write_moved<const ACROSS: usize>(
     reference: &Picture,
     version: u8,
     vectors: &[PlaneVector],
-    kept: &[Kept],
+    residues: &Residues,
 )
     requires plane { plane < 3 }
     requires some { 0 < ACROSS }
     requires size { ACROSS ≤ 4 }
     requires vectors { length vectors.now ≡ ACROSS * ACROSS }
-    requires kept { length kept.now ≡ ACROSS * ACROSS }
+    requires blocks { residues.now.first + ACROSS * ACROSS ≤ 25 }
+    requires small { AreSmall residues.now }
     requires columns { 4 * ACROSS * place.column + 4 * ACROSS ≤ (plane_of picture.old plane).width }
     requires rows { 4 * ACROSS * place.row + 4 * ACROSS ≤ (plane_of picture.old plane).height }
     requires wide { 0 < (plane_of reference.now plane).width }
     requires high { 0 < (plane_of reference.now plane).height }
     ensures { (vector : ℕ → PlaneVector) → (residue : ℕ → List ℤ) → AreVectors (ACROSS * ACROSS) vectors.now vector
-        → AreKept (ACROSS * ACROSS) kept.now residue
+        → Gives (ACROSS * ACROSS) residues.now residue
         → picture.new ≡ with_plane picture.old plane
         (with_block (plane_of picture.old plane) (4 * ACROSS * place.column) (4 * ACROSS * place.row) (4 * ACROSS) (4 * ACROSS)
         (moved_sum version (plane_of reference.now plane) (4 * ACROSS * place.column) (4 * ACROSS * place.row) ACROSS vector residue)) }
@@ -174,7 +177,7 @@ fn write_moved<const ACROSS: usize>(
         let column = x + 4 * (k % ACROSS);
         let row = y + 4 * (k / ACROSS);
         let prediction = predict_block4(source, column, row, vectors[k], version);
-        let pixels = with_residue(&prediction, &kept[k]);
+        let pixels = residues.added(&prediction, k);
         picture.write_block(plane, column, row, 4, 4, &pixels);
     }
 }

@@ -7,8 +7,7 @@ ghost use Rattle.vp_recon.specs.Source.{Intra, macroblock_of};
 ghost use Rattle.vp_recon.specs.Residue.{residue};
 ghost use Rattle.vp_recon.specs.Rebuilt.{luma_rebuilt, chroma_rebuilt, with_sub};
 
-use crate::kept::with_residue;
-use crate::residue::{block_of, chroma_residues, luma_residues, residue_of};
+use crate::residue::{block_of, chroma_residues, luma_residues, with_residue};
 use crate::whole::write_whole;
 use vp_base::{Picture, Place};
 use vp_intra::{predict_chroma, predict_luma, predict_sub};
@@ -34,8 +33,7 @@ pub fn rebuild_subblock(
     let x = 4 * block.column;
     let y = 4 * block.row;
     let prediction = predict_sub(picture.plane(0), x, y, mode);
-    let kept = residue_of(levels, factors.y_dc, factors.y_ac);
-    let pixels = with_residue(&prediction, &kept);
+    let pixels = with_residue(&prediction, levels, factors.y_dc, factors.y_ac);
     picture.write_block(0, x, y, 4, 4, &pixels);
 }
 
@@ -82,8 +80,8 @@ pub(crate) fn rebuild_at_once(
     let x = 16 * place.column;
     let y = 16 * place.row;
     let prediction = predict_luma(picture.plane(0), x, y, modes.luma);
-    let kept = luma_residues(true, tokens, factors);
-    write_whole::<4>(picture, 0, x, y, &prediction, &kept);
+    let residues = luma_residues(true, tokens, factors);
+    write_whole::<4>(picture, 0, x, y, &prediction, &residues);
 }
 
 /// One of the colour planes of an intra macroblock.
@@ -105,6 +103,6 @@ pub(crate) fn rebuild_intra_chroma(
     let x = 8 * place.column;
     let y = 8 * place.row;
     let prediction = predict_chroma(picture.plane(plane), x, y, modes.chroma);
-    let kept = chroma_residues(tokens, factors, plane);
-    write_whole::<2>(picture, plane, x, y, &prediction, &kept);
+    let residues = chroma_residues(tokens, factors, plane);
+    write_whole::<2>(picture, plane, x, y, &prediction, &residues);
 }

@@ -1,17 +1,18 @@
 //! The residues of a macroblock's subblocks (chapter 14).
 
-ghost use Rattle.std.specs.Prelude.{◌≡◌, ℕ, ◌+◌, ◌*◌, ◌<◌, ◌≤◌, ◌^◌, ℤ, pos, ◌*ℤ◌, List, ◌∷◌, length, replicate, slice_index_or, slice_set, unsigned_abs, true};
+ghost use Rattle.std.specs.Prelude.{◌≡◌, ℕ, ◌+◌, ◌*◌, ◌<◌, ◌≤◌, ◌^◌, ℤ, pos, ◌*ℤ◌, List, ◌∷◌, length, replicate, slice_index_or, slice_set, unsigned_abs, false, true};
 ghost use Rattle.vp_transform.specs.Fits.{EachWithin};
 ghost use Rattle.vp_transform.specs.Transform.{idct, iwht};
 ghost use Rattle.vp_quant.specs.Quant.{dequantised};
 ghost use Rattle.vp_tokens.specs.Blocks.{block_of};
 ghost use Rattle.vp_recon.specs.Residue.{residue, luma_firsts, luma_residue, chroma_residue};
-ghost use Rattle.vp_recon.specs.Kept.{IsKept, AreKept};
+ghost use Rattle.vp_recon.specs.Kept.{AreSums, IsKept, IsNothing};
+ghost use Rattle.vp_recon.specs.Parts.{AreSmall, Gives, residue_in};
 
-use crate::kept::{Kept, all_shortened, shortened};
+use crate::kept::sums;
 use vp_quant::{Factors, dequant};
 use vp_tokens::{Block, Tokens};
-use vp_transform::{idct, idct_of_first, iwht};
+use vp_transform::{cut, idct_cut, idct_of_first, iwht, iwht_of_first};
 
 /// Block `n`: 0 is Y2, 1 to 16 are luma, 17 to 20 U and 21 to 24 V.
 pub(crate) fn block_of(tokens: &Tokens, n: usize) -> &Block
@@ -19,16 +20,6 @@ pub(crate) fn block_of(tokens: &Tokens, n: usize) -> &Block
     ensures { result.now ≡ block_of tokens.now n }
 {
     &tokens.blocks[n]
-}
-
-/// What is kept of the residue of a subblock, the first of whose levels is multiplied by `dc`, the others by `ac`.
-pub(crate) fn residue_of(block: &Block, dc: u16, ac: u16) -> Kept
-    ensures { IsKept result (residue block.now.levels dc ac) }
-{
-    if block.tokens == 0 {
-        return None;
-    }
-    residue_with_first(block, first_of(&block.levels, dc), ac)
 }
 
 /// The first coefficient of a subblock of levels.
@@ -40,26 +31,84 @@ fn first_of(levels: &[i16; 16], dc: u16) -> i64
 }
 
 /// What is kept of the residue of a subblock whose first coefficient is `first`; the others are its levels times `ac`.
-fn residue_with_first(block: &Block, first: i64, ac: u16) -> Kept
+fn residue_with_first(block: &Block, first: i64, ac: u16) -> [i16; 16]
     requires { unsigned_abs first ≤ 2 ^ 40 }
     ensures { IsKept result (idct (slice_set (dequantised block.now.levels 0 ac) 0 first)) }
 {
     if block.tokens <= 1 {
-        return even_residue(first);
+        return [cut(idct_of_first(first)); 16];
     }
     let mut coefficients = dequant(&block.levels, 0, ac);
     coefficients[0] = first;
-    Some(all_shortened(&idct(&coefficients)))
+    idct_cut(&coefficients)
 }
 
-/// What is kept of the residue of a subblock whose coefficients but the first are 0.
-fn even_residue(first: i64) -> Kept
-    requires { unsigned_abs first ≤ 2 ^ 40 }
-    ensures { IsKept result (idct (first ∷ replicate 15 (pos 0))) }
+/// The pixels of a subblock with its residue, the first of whose levels is multiplied by `dc`, the others by `ac`.
+pub(crate) fn with_residue(prediction: &[u8; 16], block: &Block, dc: u16, ac: u16) -> [u8; 16]
+    ensures len { length result ≡ 16 }
+    ensures value { AreSums result prediction.now (residue block.now.levels dc ac) }
 {
-    match shortened(idct_of_first(first)) {
-        0 => None,
-        even => Some([even; 16]),
+    if block.tokens == 0 {
+        return *prediction;
+    }
+    let first = first_of(&block.levels, dc);
+    sums(prediction, &residue_with_first(block, first, ac))
+}
+
+/// What the residues of the subblocks of a plane are made of.
+#[derive(Clone, Copy)]
+pub(crate) struct Residues<'a> {
+    tokens: &'a Tokens,
+    /// The number of the first subblock's block.
+    first: usize,
+    /// What a block's first level is multiplied by.
+    dc: u16,
+    /// What its other levels are multiplied by.
+    ac: u16,
+    /// The first coefficients, where a Y2 block gives them.
+    firsts: Option<[i64; 16]>,
+}
+
+impl<'a> Residues<'a> {
+    /// Whether subblock `k` may have a residue that is not 0.
+    pub(crate) fn has(&self, k: usize) -> bool
+        requires { self.now.first + k < 25 }
+        ensures { result ≡ false → IsNothing (residue_in self.now k) }
+    {
+        let block = block_of(self.tokens, self.first + k);
+        match &self.firsts {
+            None => block.tokens > 0,
+            Some(_) => true,
+        }
+    }
+
+    /// What is kept of the residue of subblock `k`.
+    pub(crate) fn kept(&self, k: usize) -> [i16; 16]
+        requires subblock { k < 16 }
+        requires block { self.now.first + k < 25 }
+        requires small { AreSmall self.now }
+        ensures { IsKept result (residue_in self.now k) }
+    {
+        let block = block_of(self.tokens, self.first + k);
+        match &self.firsts {
+            None => residue_with_first(block, first_of(&block.levels, self.dc), self.ac),
+            Some(firsts) => residue_with_first(block, firsts[k], self.ac),
+        }
+    }
+
+    /// The pixels of subblock `k` with its residue.
+    pub(crate) fn added(&self, prediction: &[u8; 16], k: usize) -> [u8; 16]
+        requires subblock { k < 16 }
+        requires block { self.now.first + k < 25 }
+        requires small { AreSmall self.now }
+        ensures len { length result ≡ 16 }
+        ensures value { AreSums result prediction.now (residue_in self.now k) }
+    {
+        if self.has(k) {
+            sums(prediction, &self.kept(k))
+        } else {
+            *prediction
+        }
     }
 }
 
@@ -70,57 +119,74 @@ fn luma_firsts(tokens: &Tokens, factors: &Factors) -> [i64; 16]
     ensures within { EachWithin (2 ^ 40) result }
 {
     let block = block_of(tokens, 0);
-    if block.tokens == 0 {
-        return [0; 16];
+    if block.tokens <= 1 {
+        return [iwht_of_first(first_of(&block.levels, factors.y2_dc)); 16];
     }
     iwht(&dequant(&block.levels, factors.y2_dc, factors.y2_ac))
 }
 
-/// What is kept of the residues of the luma subblocks of a macroblock, with a Y2 block or without.
+/// The residues of the luma subblocks of a macroblock, with a Y2 block or without.
 #[tactic(auto, unfolding(crate::specs::Residue::luma_residue, crate::specs::Residue::luma_coefficients))]
-pub(crate) fn luma_residues(y2: bool, tokens: &Tokens, factors: &Factors) -> [Kept; 16]
-    ensures len { length result ≡ 16 }
-    ensures value { AreKept 16 result (luma_residue y2 tokens.now factors.now) }
+pub(crate) fn luma_residues<'a>(y2: bool, tokens: &'a Tokens, factors: &Factors) -> Residues<'a>
+    ensures first { result.first ≡ 1 }
+    ensures small { AreSmall result }
+    ensures value { Gives 16 result (luma_residue y2 tokens.now factors.now) }
 {
     if y2 {
-        residues_with_y2(tokens, factors)
-    } else {
-        residues_of::<16>(tokens, 1, factors.y_dc, factors.y_ac)
+        return residues_with_y2(tokens, factors);
+    }
+    Residues {
+        tokens,
+        first: 1,
+        dc: factors.y_dc,
+        ac: factors.y_ac,
+        firsts: None,
     }
 }
 
-fn residues_with_y2(tokens: &Tokens, factors: &Factors) -> [Kept; 16]
-    ensures len { length result ≡ 16 }
-    ensures value { AreKept 16 result (luma_residue true tokens.now factors.now) }
+/// The same with a Y2 block: where that has no tokens, the first coefficients are 0.
+fn residues_with_y2<'a>(tokens: &'a Tokens, factors: &Factors) -> Residues<'a>
+    ensures first { result.first ≡ 1 }
+    ensures small { AreSmall result }
+    ensures value { Gives 16 result (luma_residue true tokens.now factors.now) }
 {
+    let block = block_of(tokens, 0);
+    if block.tokens == 0 {
+        return Residues {
+            tokens,
+            first: 1,
+            dc: 0,
+            ac: factors.y_ac,
+            firsts: None,
+        };
+    }
     let firsts = luma_firsts(tokens, factors);
-    let mut kept = [None; 16];
-    for k in 0..16 {
-        kept[k] = residue_with_first(block_of(tokens, 1 + k), firsts[k], factors.y_ac);
+    Residues {
+        tokens,
+        first: 1,
+        dc: 0,
+        ac: factors.y_ac,
+        firsts: Some(firsts),
     }
-    kept
 }
 
-/// What is kept of the residues of four chroma subblocks of a plane, 1 or 2.
+/// The residues of the four subblocks of a plane of colour, 1 or 2.
 #[tactic(auto, unfolding(crate::specs::Residue::chroma_residue))]
-pub(crate) fn chroma_residues(tokens: &Tokens, factors: &Factors, plane: usize) -> [Kept; 4]
+pub(crate) fn chroma_residues<'a>(
+    tokens: &'a Tokens,
+    factors: &Factors,
+    plane: usize,
+) -> Residues<'a>
     requires { plane < 3 }
-    ensures len { length result ≡ 4 }
-    ensures value { AreKept 4 result (chroma_residue tokens.now factors.now plane) }
+    ensures first { result.first ≡ 13 + 4 * plane }
+    ensures small { AreSmall result }
+    ensures value { Gives 4 result (chroma_residue tokens.now factors.now plane) }
 {
-    residues_of::<4>(tokens, 13 + 4 * plane, factors.uv_dc, factors.uv_ac)
-}
-
-/// What is kept of the residues of `N` blocks from block number `first` on, by these factors.
-fn residues_of<const N: usize>(tokens: &Tokens, first: usize, dc: u16, ac: u16) -> [Kept; N]
-    requires size { N ≤ 16 }
-    requires blocks { first + N ≤ 25 }
-    ensures len { length result ≡ N }
-    ensures value { AreKept N result (λ k. residue (block_of tokens.now (first + k)).levels dc ac) }
-{
-    let mut kept = [None; N];
-    for k in 0..N {
-        kept[k] = residue_of(block_of(tokens, first + k), dc, ac);
+    Residues {
+        tokens,
+        first: 13 + 4 * plane,
+        dc: factors.uv_dc,
+        ac: factors.uv_ac,
+        firsts: None,
     }
-    kept
 }

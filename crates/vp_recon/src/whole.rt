@@ -4,29 +4,31 @@ ghost use Rattle.std.specs.Prelude.{◌≡◌, ℕ, ◌+◌, ◌*◌, ◌/◌, �
 ghost use Rattle.vp_base.specs.Block.{with_block};
 ghost use Rattle.vp_base.specs.Image.{plane_of, with_plane};
 ghost use Rattle.vp_recon.specs.Rebuilt.{summed, residue_at};
-ghost use Rattle.vp_recon.specs.Kept.{AreKept, sixteen};
+ghost use Rattle.vp_recon.specs.Kept.{sixteen};
+ghost use Rattle.vp_recon.specs.Parts.{AreSmall, Gives};
 
-use crate::kept::{Kept, sums};
+use crate::kept::sums;
+use crate::residue::Residues;
 use vp_base::Picture;
 
-/// Writes a block predicted as a whole, with what is kept of the residues of its subblocks, of which `ACROSS` stand side
-/// by side.
+/// Writes a block predicted as a whole, with the residues of its subblocks, of which `ACROSS` stand side by side.
 pub(crate) fn write_whole<const ACROSS: usize>(
     picture: &mut Picture,
     plane: usize,
     x: usize,
     y: usize,
     prediction: &[u8],
-    kept: &[Kept],
+    residues: &Residues,
 )
     requires plane { plane < 3 }
     requires some { 0 < ACROSS }
     requires size { ACROSS ≤ 4 }
     requires prediction { length prediction.now ≡ 4 * ACROSS * (4 * ACROSS) }
-    requires kept { length kept.now ≡ ACROSS * ACROSS }
+    requires blocks { residues.now.first + ACROSS * ACROSS ≤ 25 }
+    requires small { AreSmall residues.now }
     requires columns { x + 4 * ACROSS ≤ (plane_of picture.old plane).width }
     requires rows { y + 4 * ACROSS ≤ (plane_of picture.old plane).height }
-    ensures { (residue : ℕ → List ℤ) → AreKept (ACROSS * ACROSS) kept.now residue
+    ensures { (residue : ℕ → List ℤ) → Gives (ACROSS * ACROSS) residues.now residue
         → picture.new ≡ with_plane picture.old plane
         (with_block (plane_of picture.old plane) x y (4 * ACROSS) (4 * ACROSS)
         (λ r c. summed (slice_index prediction.now (r * (4 * ACROSS) + c)) (residue_at ACROSS residue r c))) }
@@ -36,11 +38,11 @@ pub(crate) fn write_whole<const ACROSS: usize>(
     let width = 4 * ACROSS;
     picture.write_block(plane, x, y, width, width, prediction);
     for k in 0..ACROSS * ACROSS {
-        if let Some(numbers) = &kept[k] {
+        if residues.has(k) {
             let column = 4 * (k % ACROSS);
             let row = 4 * (k / ACROSS);
             let part = part_of(prediction, width, row * width + column);
-            let pixels = sums(&part, numbers);
+            let pixels = sums(&part, &residues.kept(k));
             picture.write_block(plane, x + column, y + row, 4, 4, &pixels);
         }
     }

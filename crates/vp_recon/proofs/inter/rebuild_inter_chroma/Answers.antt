@@ -17,7 +17,7 @@ use Rattle.vp_recon.proofs.inter.rebuild_inter_chroma.Goals as goal
 pub returns-then-is_split : goal.returns-then-is_split
 returns-then-is_split c =
     c.write_moved.ensures (chroma_moved c.args.version c.args.motion.now) (chroma_residue c.args.tokens.now c.args.factors.now c.args.plane)
-    c.chroma_vectors-vectors.ensures.value c.chroma_residues-kept.ensures.value
+    c.chroma_vectors-vectors.ensures.value c.chroma_residues-residues.ensures.value
 
 pub returns-else-is_split : goal.returns-else-is_split
 returns-else-is_split c =
@@ -31,7 +31,7 @@ returns-else-is_split c =
     let own = chroma_residue c.args.tokens.now c.args.factors.now c.args.plane in
     let whole : is_split c.args.motion.now.mode ≡ false = ap (λ (a : Entry). is_split a.mode) (sym c.motion.view_is) ∙ sym c.is_split.ensures ∙ c.if-is_split.false in
     let one : AreOne e.mode e.vectors = subst (λ (a : Entry). AreOne a.mode a.vectors) c.motion.view_is c.motion.invariant in
-    c.write_whole.ensures own c.chroma_residues-kept.ensures.value
+    c.write_whole.ensures own c.chroma_residues-residues.ensures.value
     ∙ ap (with_plane p c.args.plane) (with_block_same q x y 8 8
     (λ r j. summed (get_or c.predict_block8-prediction.result (r * 8 + j) 0) (residue_at 2 own r j)) (moved_sum c.args.version ref x y 2 moved own)
     (λ r j rin jin.

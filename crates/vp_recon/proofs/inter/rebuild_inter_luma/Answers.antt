@@ -11,7 +11,7 @@ use Rattle.vp_recon.specs.Source.{Macroblock, Inter, macroblock_of}
 use Rattle.vp_recon.specs.Residue.{luma_residue}
 use Rattle.vp_recon.specs.Prediction.{luma_moved}
 use Rattle.vp_recon.specs.Rebuilt.{summed, residue_at, luma_made}
-use Rattle.vp_recon.specs.Kept.{AreKept}
+use Rattle.vp_recon.specs.Parts.{Gives}
 use Rattle.vp_recon.proofs.Parts.{sub_at, sub_below}
 use Rattle.vp_recon.proofs.LumaLemmas.{luma_at_once}
 use Rattle.vp_recon.proofs.MovedLemmas.{moved_alike, luma_one}
@@ -23,7 +23,7 @@ returns-then-split c =
     let m : Macroblock = macroblock_of (Inter c.args.motion.now c.args.reference.now c.args.version) c.args.tokens.now c.args.factors.now in
     let own = luma_residue (not (is_split c.args.motion.now.mode)) c.args.tokens.now c.args.factors.now in
     let split : c.is_split-split.result ≡ is_split c.args.motion.now.mode = c.is_split-split.ensures ∙ ap (λ (a : Entry). is_split a.mode) c.motion.view_is in
-    let kept = subst (λ (b : Bool). AreKept 16 c.luma_residues-kept.result (luma_residue (not b) c.args.tokens.now c.args.factors.now)) split c.luma_residues-kept.ensures.value in
+    let kept = subst (λ (b : Bool). Gives 16 c.luma_residues-residues.result (luma_residue (not b) c.args.tokens.now c.args.factors.now)) split c.luma_residues-residues.ensures.value in
     c.write_moved.ensures (luma_moved c.args.motion.now) own c.luma_vectors-vectors.ensures.value kept
     ∙ ap (with_plane p 0) (luma_at_once m c.args.place p.luma refl)
 
@@ -37,7 +37,7 @@ returns-else-split c =
     let m : Macroblock = macroblock_of (Inter c.args.motion.now c.args.reference.now c.args.version) c.args.tokens.now c.args.factors.now in
     let own = luma_residue (not (is_split c.args.motion.now.mode)) c.args.tokens.now c.args.factors.now in
     let split : c.is_split-split.result ≡ is_split c.args.motion.now.mode = c.is_split-split.ensures ∙ ap (λ (a : Entry). is_split a.mode) c.motion.view_is in
-    let kept = subst (λ (b : Bool). AreKept 16 c.luma_residues-kept.result (luma_residue (not b) c.args.tokens.now c.args.factors.now)) split c.luma_residues-kept.ensures.value in
+    let kept = subst (λ (b : Bool). Gives 16 c.luma_residues-residues.result (luma_residue (not b) c.args.tokens.now c.args.factors.now)) split c.luma_residues-residues.ensures.value in
     let one : AreOne e.mode e.vectors = subst (λ (a : Entry). AreOne a.mode a.vectors) c.motion.view_is c.motion.invariant in
     c.write_whole.ensures own kept
     ∙ ap (with_plane p 0) (with_block_same p.luma x y 16 16

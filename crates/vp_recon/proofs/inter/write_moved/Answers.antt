@@ -1,4 +1,4 @@
-use Rattle.std.proofs.Common.{◌≡◌, ◌∙◌, ℕ, ◌+◌, ◌*◌, ◌/◌, ◌%◌, pos, get_or, refl, sym, ap, arith}
+use Rattle.std.proofs.Common.{◌≡◌, ◌∙◌, ℕ, ◌+◌, ◌*◌, ◌/◌, ◌%◌, ℤ, pos, List, get_or, refl, sym, ap, arith}
 use Rattle.vp_base.specs.Raster.{Raster, pixel}
 use Rattle.vp_base.specs.Image.{Image, plane_of, with_plane}
 use Rattle.vp_base.specs.Block.{with_block, IsWhole}
@@ -42,7 +42,7 @@ loop-k-preserved g c =
     let y : ℕ = 4 * g.row.ACROSS * c.args.place.row in
     let u : ℕ = 4 * g.row.ACROSS * c.args.place.column + 4 * (c.loop-k.k % g.row.ACROSS) in
     let v : ℕ = 4 * g.row.ACROSS * c.args.place.row + 4 * (c.loop-k.k / g.row.ACROSS) in
-    let f = λ (r : ℕ) (j : ℕ). get_or c.with_residue-pixels.result (r * 4 + j) 0 in
+    let f = λ (r : ℕ) (j : ℕ). get_or c.added-pixels.result (r * 4 + j) 0 in
     let was = λ (r : ℕ) (j : ℕ). pixel q (x + j) (y + r) in
     let ref : Raster = c.plane-source.result.now in
     record {
@@ -51,7 +51,7 @@ loop-k-preserved g c =
           block_next p now next n u v 4 4 f c.write_block.ensures (with_block q x y (4 * a) (4 * a) (until a k sum was)) (c.loop-k.invariant.pixels vector residue moved are)
           ∙ ap (with_plane p n) (until_more q x y a sum was k f c.requires.some c.loop-k-test.true
           (λ r j rin jin.
-          c.with_residue-pixels.ensures.value (residue k) (are k c.loop-k-test.true) r j rin jin
+          c.added-pixels.ensures.value r j rin jin ∙ ap (λ (zs : List ℤ). summed (get_or c.predict_block4-prediction.result (r * 4 + j) 0) (get_or zs (4 * r + j) (pos 0))) (are k c.loop-k-test.true)
           ∙ ap (λ (w : ℕ). summed w (get_or (residue k) (4 * r + j) (pos 0)))
           (c.predict_block4-prediction.ensures r j rin jin
           ∙ ap (λ (w : PlaneVector). inter_pixel c.args.version ref u v w r j) (moved k c.loop-k-test.true))

@@ -3,13 +3,14 @@ use Rattle.vp_base.specs.Raster.{pixel}
 use Rattle.vp_base.specs.Image.{plane_of, with_plane}
 use Rattle.vp_base.specs.Block.{with_block}
 use Rattle.vp_inter.specs.declared.vector.PlaneVector.{PlaneVector}
-use Rattle.vp_recon.specs.Kept.{AreKept, AreVectors, moved_sum}
+use Rattle.vp_recon.specs.Kept.{AreVectors, moved_sum}
+use Rattle.vp_recon.specs.Parts.{Gives}
 use Rattle.vp_recon.proofs.Parts.{until}
 use Rattle.vp_recon.proofs.inter.write_moved.Given as goal
 
 abbrev pub invariant-loop-k : goal.invariant-loop-k
 invariant-loop-k g l = record {
-  pixels : (vector : ℕ → PlaneVector) → (residue : ℕ → List ℤ) → AreVectors (g.row.ACROSS * g.row.ACROSS) l.vectors vector → AreKept (g.row.ACROSS * g.row.ACROSS) l.kept residue
+  pixels : (vector : ℕ → PlaneVector) → (residue : ℕ → List ℤ) → AreVectors (g.row.ACROSS * g.row.ACROSS) l.vectors vector → Gives (g.row.ACROSS * g.row.ACROSS) l.residues residue
       → l.picture ≡ with_plane l.fn.picture l.plane (with_block (plane_of l.fn.picture l.plane) l.x l.y (4 * g.row.ACROSS) (4 * g.row.ACROSS)
       (until g.row.ACROSS l.k (moved_sum l.version l.source l.x l.y g.row.ACROSS vector residue) (λ r c. pixel (plane_of l.fn.picture l.plane) (l.x + c) (l.y + r))));
   wide : (plane_of l.picture l.plane).width ≡ (plane_of l.fn.picture l.plane).width;

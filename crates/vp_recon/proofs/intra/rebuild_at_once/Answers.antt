@@ -20,7 +20,7 @@ returns c =
     let modes : Modes = c.args.modes.now in
     let m : Macroblock = macroblock_of (Intra c.args.modes.now) c.args.tokens.now c.args.factors.now in
     let own = luma_residue true c.args.tokens.now c.args.factors.now in
-    c.write_whole.ensures own c.luma_residues-kept.ensures.value
+    c.write_whole.ensures own c.luma_residues-residues.ensures.value
     ∙ ap (with_plane p 0) (with_block_same p.luma x y 16 16
     (λ r j. summed (get_or c.predict_luma-prediction.result (r * 16 + j) 0) (residue_at 4 own r j)) (luma_made m c.args.place p.luma)
     (λ r j rin jin. ap (λ (v : ℕ). summed v (residue_at 4 own r j))

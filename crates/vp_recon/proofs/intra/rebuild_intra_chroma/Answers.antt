@@ -18,7 +18,7 @@ returns c =
     let y : ℕ = 8 * c.args.place.row in
     let mode = c.args.modes.now.chroma in
     let own = chroma_residue c.args.tokens.now c.args.factors.now c.args.plane in
-    c.write_whole.ensures own c.chroma_residues-kept.ensures.value
+    c.write_whole.ensures own c.chroma_residues-residues.ensures.value
     ∙ ap (with_plane p c.args.plane) (with_block_same q x y 8 8
     (λ r j. summed (get_or c.predict_chroma-prediction.result (r * 8 + j) 0) (residue_at 2 own r j)) (λ r j. summed (chroma_pixel mode q x y r j) (residue_at 2 own r j))
     (λ r j rin jin. ap (λ (v : ℕ). summed v (residue_at 2 own r j))

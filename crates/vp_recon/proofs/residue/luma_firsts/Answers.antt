@@ -1,21 +1,32 @@
-use Rattle.std.proofs.Common.{◌≡◌, ◌∙◌, ◌^◌, sym, ap, subst, arith}
+use Rattle.std.proofs.Common.{◌≡◌, ◌∙◌, ◌^◌, ◌≤◌, ◌*ℤ◌, ◌∷◌, ℤ, pos, replicate, get_or, unsigned_abs, sym, ap, subst, arith}
 use Rattle.vp_transform.proofs.Bounds.{iwht_fits}
+use Rattle.vp_transform.proofs.Words.{coded, read}
+use Rattle.vp_transform.proofs.Sizes.{fits-below}
 use Rattle.vp_transform.specs.Transform.{iwht}
 use Rattle.vp_quant.specs.Quant.{dequantised}
 use Rattle.vp_quant.specs.declared.factors.Factors.{Factors}
 use Rattle.vp_tokens.specs.Block.{Block, IsBlock}
 use Rattle.vp_recon.specs.Residue.{luma_firsts}
-use Rattle.vp_recon.proofs.ResidueLemmas.{no_firsts}
+use Rattle.vp_recon.proofs.ResidueLemmas.{first_alone, own_first}
 use Rattle.vp_recon.proofs.residue.luma_firsts.Goals as goal
 
-pub returns-then-block-eq0-clause-value : goal.returns-then-block-eq0-clause-value
+pub returns-then-block-le1-clause-value : goal.returns-then-block-le1-clause-value
 unfolding luma_firsts
-returns-then-block-eq0-clause-value c =
+returns-then-block-le1-clause-value c =
     let b : Block = c.block_of-block.result.now in
     let f : Factors = c.args.factors.now in
     let is : IsBlock c.block_of-block.result.now = subst IsBlock c.block.view_is c.block.invariant in
-    let none : c.block_of-block.result.now.tokens ≡ 0 = ap (λ (a : Block). a.tokens) (sym c.block.view_is) ∙ c.if-block-eq0.true in
-    sym (no_firsts b is f.y2_dc f.y2_ac none) ∙ ap (λ (a : Block). iwht (dequantised a.levels f.y2_dc f.y2_ac)) c.block_of-block.ensures
+    let few : c.block_of-block.result.now.tokens ≤ 1 = let e : c.block.inside.tokens ≡ c.block_of-block.result.now.tokens = ap (λ (a : Block). a.tokens) c.block.view_is in omega (arith, e, c.if-block-le1.true) in
+    let first : ℤ = c.first_of.result in
+    let exact : coded first ≡ first = read first (fits-below first (omega (arith, c.first_of.ensures.within))) in
+    let own : ℤ = get_or b.levels 0 (pos 0) *ℤ pos f.y2_dc in
+    let all : ℤ = c.iwht_of_first.result in
+    let whole : coded all ≡ all = read all (fits-below all (omega (arith, ap unsigned_abs exact, c.first_of.ensures.within, c.iwht_of_first.ensures.within))) in
+    ap (λ (z : ℤ). replicate 16 z) whole
+    ∙ sym c.iwht_of_first.ensures.value
+    ∙ ap (λ (z : ℤ). iwht (z ∷ replicate 15 (pos 0))) (exact ∙ c.first_of.ensures.value ∙ ap (λ (a : Block). get_or a.levels 0 (pos 0) *ℤ pos f.y2_dc) c.block.view_is)
+    ∙ ap iwht (first_alone b is own f.y2_ac few ∙ own_first b.levels f.y2_dc f.y2_ac)
+    ∙ ap (λ (a : Block). iwht (dequantised a.levels f.y2_dc f.y2_ac)) c.block_of-block.ensures
 
 pub iwht-requires : goal.iwht-requires
 iwht-requires c = iwht_fits (2 ^ 31) c.dequant.result c.dequant.ensures.within (omega arith)

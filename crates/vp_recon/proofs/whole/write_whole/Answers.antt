@@ -1,12 +1,12 @@
-use Rattle.std.proofs.Common.{◌≡◌, ◌∙◌, ℕ, ℤ, ◌+◌, ◌*◌, ◌/◌, ◌%◌, List, Option, get_or, None, ap, subst, arith}
+use Rattle.std.proofs.Common.{◌≡◌, ◌∙◌, ℕ, ℤ, ◌+◌, ◌*◌, ◌/◌, ◌%◌, List, get_or, ap, subst, arith}
 use Rattle.vp_base.specs.Image.{Image, plane_of, with_plane}
 use Rattle.vp_base.specs.Block.{with_block}
-use Rattle.vp_recon.specs.Kept.{IsKept}
+use Rattle.vp_recon.specs.Kept.{IsKept, IsNothing}
 use Rattle.vp_recon.proofs.Parts.{until, until_same, until_more, until_all}
 use Rattle.vp_recon.proofs.PlaneLemmas.{block_next, block_wide, block_high}
-use Rattle.vp_recon.proofs.WholeLemmas.{read, whole_sum, sum_none, sum_some, none_left}
+use Rattle.vp_recon.proofs.WholeLemmas.{read, whole_sum, sum_none, sum_some}
 use Rattle.vp_recon.proofs.whole.write_whole.Goals as goal
-use Rattle.vp_recon.proofs.whole.write_whole.Goals.{in-Some, in_default}
+use Rattle.vp_recon.proofs.whole.write_whole.Goals.{then-has, else-has}
 
 pub loop-k-preserved : goal.loop-k-preserved
 loop-k-preserved g c =
@@ -17,13 +17,13 @@ loop-k-preserved g c =
     let a : ℕ = g.row.ACROSS in
     let k : ℕ = c.loop-k.k in
     let was = read a c.args.prediction.now in
-    elim c.match-kept-k.branch [
-      | in-Some w ↦
+    elim c.if-has.branch [
+      | then-has w ↦
           let f = λ (r : ℕ) (j : ℕ). get_or w.sums-pixels.result (r * 4 + j) 0 in
           let u = c.args.x + 4 * (c.loop-k.k % a) in
           let v = c.args.y + 4 * (c.loop-k.k / a) in
-          let next : Image = c.match-kept-k.picture in
-          let is : next ≡ with_plane now n (with_block (plane_of now n) u v 4 4 f) = w.picture-is ∙ w.write_block-in-Some.ensures in
+          let next : Image = c.if-has.picture in
+          let is : next ≡ with_plane now n (with_block (plane_of now n) u v 4 4 f) = w.picture-is ∙ w.write_block-then-has.ensures in
           record {
             pixels = λ residue are.
                 let sum = whole_sum a c.args.prediction.now residue in
@@ -31,17 +31,17 @@ loop-k-preserved g c =
                 ∙ ap (with_plane p n) (until_more q c.args.x c.args.y a sum was k f c.requires.some c.loop-k-test.true
                 (λ r j rin jin. sum_some a c.args.prediction.now w.part_of-part.result w.sums-pixels.result residue k r j c.requires.some
                 w.part_of-part.ensures
-                (w.sums-pixels.ensures.value (residue k) (subst (λ (o : Option (List ℤ)). IsKept o (residue k)) w.in-Some.is (are k c.loop-k-test.true))) rin jin));
+                (w.sums-pixels.ensures.value (residue k) (subst (λ (zs : List ℤ). IsKept w.kept.result zs) (are k c.loop-k-test.true) w.kept.ensures)) rin jin));
             wide = block_wide p now next n u v 4 4 f is ∙ c.loop-k.invariant.wide;
             high = block_high p now next n u v 4 4 f is ∙ c.loop-k.invariant.high;
           }
-      | in_default w ↦
+      | else-has w ↦
           record {
             pixels = λ residue are.
                 w.picture-is ∙ c.loop-k.invariant.pixels residue are
                 ∙ ap (with_plane p n) (until_same q c.args.x c.args.y a (whole_sum a c.args.prediction.now residue) was k
-                (λ r j rin jin same. sum_none a c.args.prediction.now residue (get_or c.args.kept.now c.loop-k.k None) k r j (are k c.loop-k-test.true)
-                (none_left (get_or c.args.kept.now c.loop-k.k None) w.in_default.not-Some) (omega (arith, c.type_inv.prediction (r * (4 * a) + j))) same));
+                (λ r j rin jin same. sum_none a c.args.prediction.now residue k r j (subst IsNothing (are k c.loop-k-test.true) (c.has.ensures w.if-has.false))
+                (omega (arith, c.type_inv.prediction (r * (4 * a) + j))) same));
             wide = ap (λ (i : Image). (plane_of i n).width) w.picture-is ∙ c.loop-k.invariant.wide;
             high = ap (λ (i : Image). (plane_of i n).height) w.picture-is ∙ c.loop-k.invariant.high;
           }

@@ -1,0 +1,31 @@
+use Rattle.std.proofs.Common.{◌≡◌, ◌∙◌, ◌*ℤ◌, ℤ, pos, List, get_or, set, sym, ap, subst, refl, arith}
+use Rattle.std.proofs.lemmas.List.{get_or-replicate}
+use Rattle.vp_transform.specs.Transform.{idct}
+use Rattle.vp_transform.proofs.Words.{coded, read}
+use Rattle.vp_transform.proofs.Sizes.{fits-below}
+use Rattle.vp_tokens.specs.Block.{Block, IsBlock}
+use Rattle.vp_quant.specs.Quant.{dequantised}
+use Rattle.vp_recon.specs.Residue.{residue}
+use Rattle.vp_recon.specs.Kept.{IsKept}
+use Rattle.vp_recon.proofs.KeptLemmas.{nothing_added}
+use Rattle.vp_recon.proofs.ResidueLemmas.{no_residue, own_first}
+use Rattle.vp_recon.proofs.residue.with_residue.Goals as goal
+
+pub returns-then-block-eq0-clause-value : goal.returns-then-block-eq0-clause-value
+returns-then-block-eq0-clause-value c =
+    let b : Block = c.args.block.now in
+    let is : IsBlock c.args.block.now = subst IsBlock c.block.view_is c.block.invariant in
+    let none : c.args.block.now.tokens ≡ 0 = ap (λ (b : Block). b.tokens) (sym c.block.view_is) ∙ c.if-block-eq0.true in
+    nothing_added c.args.prediction.now c.args.prediction.now (residue b.levels c.args.dc c.args.ac)
+    (λ i below. ap (λ (zs : List ℤ). get_or zs i (pos 0)) (no_residue b is c.args.dc c.args.ac none) ∙ get_or-replicate 16 i (pos 0) (pos 0) below)
+    refl (λ i below. omega (arith, c.fits-prediction i))
+
+pub returns-clause-value : goal.returns-clause-value
+returns-clause-value c =
+    let first : ℤ = c.first_of-first.result in
+    let exact : coded first ≡ first = read first (fits-below first (omega (arith, c.first_of-first.ensures.within))) in
+    c.sums.ensures.value (residue c.args.block.now.levels c.args.dc c.args.ac)
+    (subst (λ (zs : List ℤ). IsKept c.residue_with_first.result (idct zs))
+    (ap (λ (z : ℤ). set (dequantised c.args.block.now.levels 0 c.args.ac) 0 z)
+    (exact ∙ c.first_of-first.ensures.value ∙ ap (λ (b : Block). get_or b.levels 0 (pos 0) *ℤ pos c.args.dc) c.block.view_is)
+    ∙ own_first c.args.block.now.levels c.args.dc c.args.ac) c.residue_with_first.ensures)

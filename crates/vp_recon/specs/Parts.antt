@@ -1,0 +1,24 @@
+-- Inside the crate: what the residues of a plane's subblocks are made of.
+use Rattle.std.specs.Prelude.{◌≡◌, ℕ, ◌+◌, ◌<◌, ◌^◌, ℤ, pos, List, Option, Some, None, slice_index_or, slice_set}
+use Rattle.vp_tokens.specs.Blocks.{block_of}
+use Rattle.vp_quant.specs.Quant.{dequantised}
+use Rattle.vp_transform.specs.Fits.{EachWithin}
+use Rattle.vp_transform.specs.Transform.{idct}
+use Rattle.vp_recon.specs.declared.residue.Residues.{Residues}
+
+-- a subblock's coefficients, of which the first is number k of those that stand apart, where there are such
+abbrev pub with_first : Option (List ℤ) → ℕ → List ℤ → List ℤ
+with_first None k own = own
+with_first (Some firsts) k own = slice_set own 0 (slice_index_or firsts k (pos 0))
+
+-- the residue of subblock k
+abbrev pub residue_in : Residues → ℕ → List ℤ
+residue_in r k = idct (with_first r.firsts k (dequantised (block_of r.tokens.now (r.first + k)).levels r.dc r.ac))
+
+-- the residues of n subblocks are these
+abbrev pub Gives : ℕ → Residues → (ℕ → List ℤ) → Type 0
+Gives n r residue = (k : ℕ) → k < n → residue_in r k ≡ residue k
+
+-- first coefficients that stand apart are small enough to be transformed
+abbrev pub AreSmall : Residues → Type 0
+AreSmall r = (firsts : List ℤ) → r.firsts ≡ Some firsts → EachWithin (2 ^ 40) firsts
