@@ -1,13 +1,11 @@
 -- What filtering a row of macroblocks rests on: the levels of that row, and the pixels above the next one.
-use Rattle.std.proofs.Common.{◌≡◌, ◌∙◌, ℕ, ◌+◌, ◌-◌, ◌*◌, ◌<◌, Some, List, sym, ap, subst, arith, drop, get_or}
-use Rattle.std.specs.Prelude.{slice_index_or}
-use Rattle.std.proofs.lemmas.List.{get_or-take, get_or-drop}
+use Rattle.std.proofs.Common.{◌≡◌, ◌∙◌, ℕ, ◌+◌, ◌*◌, ◌<◌, Some, sym, ap, subst, arith, get_or}
 use Rattle.std.proofs.lemmas.Option.{get_or_from_slice_get}
 use Rattle.vp_base.specs.declared.place.Place.{Place}
-use Rattle.vp_base.specs.Grid.{Grid, entry, listed}
+use Rattle.vp_base.specs.Grid.{Grid, entry}
 use Rattle.vp_base.specs.Image.{Image, macroblocks}
 use Rattle.vp_base.proofs.OverLemmas.{over-same}
-use Rattle.vp_base.proofs.GridLemmas.{entry-inside, entry-filled}
+use Rattle.vp_base.proofs.GridLemmas.{entry-inside}
 use Rattle.vp_loop.specs.declared.strength.Level.{Level}
 use Rattle.vp_loop.specs.Levels.{no_level}
 use Rattle.vp_loop.specs.Filtered.{row_filtered, level_in, macroblock_filtered}

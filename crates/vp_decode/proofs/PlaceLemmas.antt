@@ -1,5 +1,5 @@
 -- Where the modes and the motion of a macroblock are read.
-use Rattle.std.proofs.Common.{◌≡◌, ◌∙◌, ◌≢◌, ℕ, zero, suc, ◌*◌, ◌<◌, ◌≤◌, Bool, true, false, length, Some, refl, sym, ap, subst, arith, inl, inr}
+use Rattle.std.proofs.Common.{◌≡◌, ◌∙◌, ◌≢◌, ℕ, zero, suc, ◌<◌, true, false, length, refl, sym, ap, subst, arith, inl, inr}
 use Rattle.std.specs.Prelude.{unwrap_or}
 use Rattle.std.proofs.lemmas.Bool.{cases_Bool, cases_lt}
 use Rattle.std.proofs.lemmas.List.{length-set}
@@ -12,11 +12,11 @@ use Rattle.vp_head.specs.declared.fields.Header.{Header}
 use Rattle.vp_head.specs.Reference.{is_intra}
 use Rattle.vp_modes.specs.Entry.{Modes, plain}
 use Rattle.vp_modes.specs.Modes.{modes_at}
-use Rattle.vp_motion.specs.Vector.{Entry, Motion}
+use Rattle.vp_motion.specs.Vector.{Entry}
 use Rattle.vp_motion.specs.Map.{intra}
 use Rattle.vp_motion.specs.Motion.{motion_at}
 use Rattle.vp_decode.specs.Maps.{Maps, modes_in, motion_in, macroblock_read, motion_read, row_read, maps_read, place}
-use Rattle.vp_decode.specs.Places.{AreMaps, AreSaid, moved, modes_said, read_before}
+use Rattle.vp_decode.specs.Places.{AreMaps, AreSaid, moved, read_before}
 
 -- ---- rows in general
 

@@ -1,6 +1,6 @@
 -- The sizes of a frame's picture and of what stands between packets.
-use Rattle.std.proofs.Common.{◌≡◌, ◌∙◌, ℕ, suc, ◌*◌, length, Bool, true, false, cond, List, [], ◌∷◌, Some, None, refl, sym, ap, arith}
-use Rattle.std.specs.Prelude.{Option, Result, Ok, Err, IfSome, option_map, ◌||◌}
+use Rattle.std.proofs.Common.{◌≡◌, ◌∙◌, ℕ, suc, ◌*◌, length, Bool, true, false, cond, List, [], ◌∷◌, Some, None, refl, sym, ap, subst, arith}
+use Rattle.std.specs.Prelude.{Option, Result, Ok, Err, IfSome, ◌||◌}
 use Rattle.vp_base.specs.declared.place.Place.{Place}
 use Rattle.vp_base.specs.declared.limits.Dim.{Dim}
 use Rattle.vp_base.specs.declared.limits.Limits.{Limits}
@@ -11,19 +11,22 @@ use Rattle.vp_base.proofs.BlockLemmas.{IsWhole-blank}
 use Rattle.vp_base.proofs.OverLemmas.{over-holds}
 use Rattle.vp_head.specs.declared.fault.PacketFault.{PacketFault}
 use Rattle.vp_head.specs.declared.fields.KeyTag.{KeyTag}
+use Rattle.vp_head.specs.declared.fields.Header.{Header}
+use Rattle.vp_head.specs.declared.fields.Saved.{Saved}
 use Rattle.vp_head.specs.declared.fields.ReferenceCopy.{ReferenceCopy}
 use Rattle.vp_head.specs.declared.fields.ReferenceCopy.TheVariants.{Nothing, Last, Other, Unused}
 use Rattle.vp_loop.specs.declared.strength.Level.{Level}
 use Rattle.vp_loop.specs.Filtered.{filtered, row_filtered}
 use Rattle.vp_loop.proofs.WindowLemmas.{row_size, row_aligned, row_whole}
-use Rattle.vp_modes.specs.Entry.{Modes}
 use Rattle.vp_refs.specs.References.{References, copied_by}
 use Rattle.vp_recon.specs.Source.{Macroblock}
 use Rattle.vp_recon.specs.Rebuilt.{all_rebuilt}
 use Rattle.vp_decode.specs.Frame.{Frame, unfiltered, picture_of}
 use Rattle.vp_decode.specs.Equation.{IsOneSize}
 use Rattle.vp_decode.specs.Window.{IsShaped}
-use Rattle.vp_decode.specs.Step.{Opened, Kept, key_before, key_frame, inter_frame, key_kept, inter_kept, plan_of, shown_after, frame_step, step_on, repeated, decoded, step, opened}
+use Rattle.vp_decode.specs.Keeping.{IsSized, AreSized, IsWhole}
+use Rattle.vp_decode.specs.Step.{Kept, standing, Basis, key_basis, inter_basis, basis_of, Opened, opened, plan_of, said, references_after, shown_after, left_by, decoded, repeated, step}
+use Rattle.vp_decode.proofs.CutLemmas.{opened-is}
 use Rattle.vp_decode.proofs.MapLemmas.{IsMapped, maps_read-mapped}
 
 -- ---- the picture of a frame
@@ -77,9 +80,6 @@ picture_shaped law f = filtered_shaped f.width f.height f.level (unfiltered f) (
 
 -- ---- what stands between packets
 
-one_size : (p q r : Image) → AreOneSize p q → AreOneSize q r → AreOneSize p r
-one_size p q r a b = record { width = a.width ∙ b.width; height = a.height ∙ b.height }
-
 same_size : (p : Image) → AreOneSize p p
 same_size p = record { width = refl; height = refl }
 
@@ -97,78 +97,108 @@ shown_size : (show : Bool) (p r : Image) (before : Option Image) → AreOneSize 
 shown_size true p r before a b = a
 shown_size false p r before a b = b
 
-if_size : (before : Option Image) (q r : Image) → AreOneSize q r → IfSome before (λ p. AreOneSize p q) → IfSome before (λ p. AreOneSize p r)
-if_size None q r e h = tt
-if_size (Some p) q r e h = one_size p q r h e
-
-plan-mapped : (o : Opened) (references : Option References) (before : Grid Modes) (width height : ℕ)
-    → IsMapped before.columns before.rows (plan_of o references before width height).maps
+plan-mapped : (o : Opened) → IsMapped o.basis.modes.columns o.basis.modes.rows (plan_of o).maps
 unfolding plan_of
-plan-mapped o references before width height =
-    maps_read-mapped o.header before.columns before.rows _ o.first (record { columns_are = refl; rows_are = refl })
+plan-mapped o = maps_read-mapped o.header o.basis.modes.columns o.basis.modes.rows _ o.first (record { columns_are = refl; rows_are = refl })
 
-pub key-one_size : KeepsShape → (o : Opened) (dim : Dim) → IsOneSize (key_kept o dim)
-key-one_size law o dim =
-    let p : Image = picture_of (key_frame o dim) in
-    let s : IsShaped dim.w dim.h p = picture_shaped law (key_frame o dim) in
-    let m = plan-mapped o None (key_before dim) dim.w dim.h in
+same_as : (width height : ℕ) (p q : Image) → IsSized width height p → IsSized width height q → AreOneSize p q
+same_as width height p q a b = record { width = a.width_is ∙ sym b.width_is; height = a.height_is ∙ sym b.height_is }
+
+if_same : (width height : ℕ) (before : Option Image) (p : Image) → IfSome before (IsSized width height) → IsSized width height p → IfSome before (λ q. AreOneSize q p)
+if_same width height None p h s = tt
+if_same width height (Some q) p h s = same_as width height q p h s
+
+pub newest_is : (before : Option References) (h : Header) (p : Image) → (references_after before h p).newest ≡ p
+newest_is None h p = refl
+newest_is (Some r) h p = refl
+
+-- what is kept over references of one size
+kept-one_size : (width height : ℕ) (before : Option References) (h : Header) (saved : Saved) (segments : Grid ℕ) (p : Image) (shown : Option Image)
+    → IfSome before (AreSized width height) → IsSized width height p → IfSome shown (λ q. AreOneSize q p) → segments.columns ≡ macroblocks width → segments.rows ≡ macroblocks height
+    → IsOneSize (record { saved = saved; segments = segments; references = references_after before h p; shown = shown })
+kept-one_size width height None h saved segments p shown one s again columns rows = record {
+  last = same_size p;
+  golden = same_size p;
+  alt = same_size p;
+  shown = again;
+  columns = columns ∙ ap (λ (n : ℕ). macroblocks n) (sym s.width_is);
+  rows = rows ∙ ap (λ (n : ℕ). macroblocks n) (sym s.height_is);
+}
+kept-one_size width height (Some k) h saved segments p shown one s again columns rows =
+    let last : AreOneSize k.last p = same_as width height k.last p one.last s in
+    let golden : AreOneSize k.golden p = same_as width height k.golden p one.golden s in
+    let alt : AreOneSize k.alt p = same_as width height k.alt p one.alt s in
+    let u = h.updates in
+    let new_alt : AreOneSize (copied_by u.copy_to_alt k.last k.golden k.alt) p = copied_size u.copy_to_alt k.last k.golden k.alt p last golden alt in
+    let new_golden : AreOneSize (copied_by u.copy_to_golden k.last (copied_by u.copy_to_alt k.last k.golden k.alt) k.golden) p =
+    copied_size u.copy_to_golden k.last (copied_by u.copy_to_alt k.last k.golden k.alt) k.golden p last new_alt golden in
     record {
-      last = same_size p;
-      golden = same_size p;
-      alt = same_size p;
-      shown = shown_size o.tag.show p p None (same_size p) tt;
-      columns = m.columns_are ∙ ap (λ (n : ℕ). macroblocks n) (sym s.width_is);
-      rows = m.rows_are ∙ ap (λ (n : ℕ). macroblocks n) (sym s.height_is);
+      last = either_size (h.key || u.refresh_last) p k.last p (same_size p) last;
+      golden = either_size (h.key || u.refresh_golden) p _ p (same_size p) new_golden;
+      alt = either_size (h.key || u.refresh_alt) p _ p (same_size p) new_alt;
+      shown = again;
+      columns = columns ∙ ap (λ (n : ℕ). macroblocks n) (sym s.width_is);
+      rows = rows ∙ ap (λ (n : ℕ). macroblocks n) (sym s.height_is);
     }
 
-pub inter-one_size : KeepsShape → (o : Opened) (k : Kept) → IsOneSize k → IsOneSize (inter_kept o k)
-inter-one_size law o k one =
-    let old : Image = k.references.newest in
-    let f : Frame = inter_frame o k in
-    let p : Image = picture_of f in
-    let s : IsShaped old.width old.height p = picture_shaped law f in
-    let back : AreOneSize old p = record { width = sym s.width_is; height = sym s.height_is } in
-    let last : AreOneSize k.references.last p = one_size k.references.last old p one.last back in
-    let golden : AreOneSize k.references.golden p = one_size k.references.golden old p one.golden back in
-    let alt : AreOneSize k.references.alt p = one_size k.references.alt old p one.alt back in
-    let u = o.header.updates in
-    let new_alt : AreOneSize (copied_by u.copy_to_alt k.references.last k.references.golden k.references.alt) p =
-    copied_size u.copy_to_alt k.references.last k.references.golden k.references.alt p last golden alt in
-    let new_golden : AreOneSize (copied_by u.copy_to_golden k.references.last (copied_by u.copy_to_alt k.references.last k.references.golden k.references.alt) k.references.golden) p =
-    copied_size u.copy_to_golden k.references.last (copied_by u.copy_to_alt k.references.last k.references.golden k.references.alt) k.references.golden p last new_alt golden in
-    let m = plan-mapped o (Some k.references) _ old.width old.height in
+pub left-one_size : KeepsShape → (o : Opened) → IsWhole o.basis → IsOneSize (left_by o)
+left-one_size law o one =
+    let p : Image = picture_of (said o) in
+    let s : IsShaped o.basis.width o.basis.height p = picture_shaped law (said o) in
+    let sized : IsSized o.basis.width o.basis.height p = record { width_is = s.width_is; height_is = s.height_is } in
+    let m = plan-mapped o in
+    kept-one_size o.basis.width o.basis.height o.basis.references o.header o.saved _ p _ one.references sized
+    (shown_size o.tag.show p p o.basis.shown (same_size p) (if_same o.basis.width o.basis.height o.basis.shown p one.shown sized))
+    (m.columns_are ∙ one.columns) (m.rows_are ∙ one.rows)
+
+-- ---- what a frame is decoded over
+
+pub key-whole : (dim : Dim) → IsWhole (key_basis dim)
+key-whole dim = record { references = tt; shown = tt; columns = refl; rows = refl }
+
+sized : (p q : Image) → AreOneSize p q → IsSized q.width q.height p
+sized p q e = record { width_is = e.width; height_is = e.height }
+
+if_sized : (before : Option Image) (q : Image) → IfSome before (λ p. AreOneSize p q) → IfSome before (IsSized q.width q.height)
+if_sized None q h = tt
+if_sized (Some p) q h = sized p q h
+
+pub inter-whole : (k : Kept) → IsOneSize k → IsWhole (inter_basis k)
+inter-whole k one =
+    let q : Image = k.references.newest in
     record {
-      last = either_size (o.header.key || u.refresh_last) p k.references.last p (same_size p) last;
-      golden = either_size (o.header.key || u.refresh_golden) p _ p (same_size p) new_golden;
-      alt = either_size (o.header.key || u.refresh_alt) p _ p (same_size p) new_alt;
-      shown = shown_size o.tag.show p p k.shown (same_size p) (if_size k.shown old p back one.shown);
-      columns = m.columns_are ∙ one.columns ∙ ap (λ (n : ℕ). macroblocks n) back.width;
-      rows = m.rows_are ∙ one.rows ∙ ap (λ (n : ℕ). macroblocks n) back.height;
+      references = record { last = sized k.references.last q one.last; golden = sized k.references.golden q one.golden; alt = sized k.references.alt q one.alt };
+      shown = if_sized k.shown q one.shown;
+      columns = one.columns;
+      rows = one.rows;
     }
 
-frame-one_size : KeepsShape → (o : Opened) (key : Option KeyTag) (state : Option Kept) → IfSome state IsOneSize → IfSome (frame_step o key state).0 IsOneSize
-frame-one_size law o (Some key) state one = key-one_size law o key.dim
-frame-one_size law o None None one = tt
-frame-one_size law o None (Some k) one = inter-one_size law o k one
+basis-whole : (key : Option KeyTag) (state : Option Kept) (b : Basis) → basis_of key state ≡ Ok b → IfSome state IsOneSize → IsWhole b
+basis-whole (Some key) state b e one = let same : key_basis key.dim ≡ b = cc in subst IsWhole same (key-whole key.dim)
+basis-whole None None b e one = absurd cc
+basis-whole None (Some k) b e one = let same : inter_basis k ≡ b = cc in subst IsWhole same (inter-whole k one)
 
-on-one_size : KeepsShape → (r : Result Opened PacketFault) (state : Option Kept) → IfSome state IsOneSize → IfSome (step_on r state).0 IsOneSize
-on-one_size law (Err f) state one = tt
-on-one_size law (Ok o) state one = frame-one_size law o o.tag.key state one
+-- ---- a step
+
+decoded-one_size : KeepsShape → (r : Result Opened PacketFault) → ((o : Opened) → r ≡ Ok o → IsWhole o.basis) → IfSome (decoded r).0 IsOneSize
+decoded-one_size law (Err f) whole = tt
+decoded-one_size law (Ok o) whole = left-one_size law o (whole o refl)
 
 pub step-one_size : KeepsShape → (limits : Limits) (state : Option Kept) (packet : List ℕ) → IfSome state IsOneSize → IfSome (step limits state packet).0 IsOneSize
 unfolding step
 step-one_size law limits None [] one = tt
 step-one_size law limits (Some k) [] one = one
-step-one_size law limits state (b ∷ bs) one = on-one_size law (opened limits (option_map (λ k. k.saved) state) (b ∷ bs)) state one
+step-one_size law limits state (b ∷ bs) one =
+    decoded-one_size law (opened limits state (b ∷ bs)) (λ o e. basis-whole o.tag.key state o.basis (opened-is limits state (b ∷ bs) o e).basis_is one)
 
 -- ---- the two cases of a step
 
-pub step-empty : (limits : Limits) (state : Option Kept) (packet : List ℕ) → length packet ≡ 0 → step limits state packet ≡ repeated state
+pub step-empty : (limits : Limits) (state : Option Kept) (packet : List ℕ) → length packet ≡ 0 → step limits state packet ≡ repeated (standing state)
 unfolding step
 step-empty limits state [] none = refl
 step-empty limits state (b ∷ bs) none = absurd (let no : suc (length bs) ≡ 0 = none in omega arith)
 
-pub step-decoded : (limits : Limits) (state : Option Kept) (packet : List ℕ) → ¬ (length packet ≡ 0) → step limits state packet ≡ decoded limits state packet
+pub step-decoded : (limits : Limits) (state : Option Kept) (packet : List ℕ) → ¬ (length packet ≡ 0) → step limits state packet ≡ decoded (opened limits state packet)
 unfolding step
 step-decoded limits state [] some = absurd (some refl)
 step-decoded limits state (b ∷ bs) some = refl

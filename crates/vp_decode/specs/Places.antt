@@ -1,5 +1,5 @@
 -- What the first partition says of the macroblock at a place: what is read where reading comes to it.
-use Rattle.std.specs.Prelude.{◌≡◌, ◌*◌, ℕ, true, false, length}
+use Rattle.std.specs.Prelude.{◌≡◌, ◌*◌, true, false, length}
 use Rattle.vp_bool.specs.Bools.{State}
 use Rattle.vp_bool.specs.Reader.{Reader, ◌>>=◌, rows}
 use Rattle.vp_base.specs.declared.place.Place.{Place}

@@ -29,12 +29,12 @@ use Rattle.vp_choose.specs.declared.frame.Choice.{Choice}
 use Rattle.vp_choose.specs.Frame.{Frame, source_by, no_biases}
 use Rattle.vp_decode.specs.Maps.{Maps, modes_in, motion_in, place, macroblock_read, motion_read, row_read, maps_read}
 use Rattle.vp_decode.specs.Frame.{Plan, frame_of, source_at, factors_at, source_by as source_read_by}
-use Rattle.vp_decode.specs.Step.{Opened, Kept, opened_tag, opened, plan_of, maps_before}
+use Rattle.vp_decode.specs.Step.{Kept, Basis, ◌>>=◌, basis_of, Opened, opened_over, opened, plan_of, maps_before}
 use Rattle.vp_encode.specs.declared.settings.Settings.{Settings}
 use Rattle.vp_encode.specs.declared.coded.Coded.{Coded}
 use Rattle.vp_encode.specs.Coded.{macroblock_at, entry_of}
 use Rattle.vp_encode.specs.Said.{Says}
-use Rattle.vp_encode.specs.Encoder.{Encoding, AreAllowed, kept_for, saved_in, references_in, modes_before, tag_key, header_of, frame_for, search_in, continued, quantiser}
+use Rattle.vp_encode.specs.Encoder.{Encoding, AreAllowed, kept_for, basis_over, basis_for, tag_key, header_of, frame_for, search_in, continued, quantiser}
 use Rattle.vp_encode.specs.Choosing.{choice_at, macroblock_by, picture_before, motion_by, AreChosen, AreUnsegmented}
 use Rattle.vp_encode.specs.Chosen.{rebuilt_before, choice_read, AreChoices, IsChosen}
 use Rattle.vp_encode.proofs.Candidates.{candidates-same, motion_by-at}
@@ -110,14 +110,14 @@ unfolding tag_of
 one_tag l m packet =
     unless (nat_lt (length packet) 3) Truncated (tag_of_word l (tag_word packet) packet) (tag_of_word m (tag_word packet) packet) (one_word l m (tag_word packet) packet)
 
-one_by_tag : (r t : Result Tag PacketFault) (saved : Option Saved) (packet : List ℕ) → Agree r t → Agree (opened_tag r saved packet) (opened_tag t saved packet)
-one_by_tag (Ok a) (Ok b) saved packet e = subst (λ (z : Tag). Agree (opened_tag (Ok a) saved packet) (opened_tag (Ok z) saved packet)) e (agree-self (opened_tag (Ok a) saved packet))
-one_by_tag (Ok a) (Err f) saved packet e = agree-err (opened_tag (Ok a) saved packet) f
-one_by_tag (Err f) t saved packet e = tt
+one_then : {A B : Type 0} (r t : Result A PacketFault) (next : A → Result B PacketFault) → Agree r t → Agree (r >>= next) (t >>= next)
+one_then (Ok a) (Ok b) next e = subst (λ z. Agree (next a) (next z)) e (agree-self (next a))
+one_then (Ok a) (Err f) next e = agree-err (next a) f
+one_then (Err f) t next e = tt
 
-one_opened : (l m : Limits) (saved : Option Saved) (packet : List ℕ) → Agree (opened l saved packet) (opened m saved packet)
+one_opened : (l m : Limits) (state : Option Kept) (packet : List ℕ) → Agree (opened l state packet) (opened m state packet)
 unfolding opened
-one_opened l m saved packet = one_by_tag (tag_of l packet) (tag_of m packet) saved packet (one_tag l m packet)
+one_opened l m state packet = one_then (tag_of l packet) (tag_of m packet) (λ tag. basis_of tag.key state >>= λ basis. opened_over tag basis packet) (one_tag l m packet)
 
 -- what is there
 found : {A : Type 0} (P : A → Type 0) (r : Result A PacketFault) → IsOkAnd r P → (a : A) × (r ≡ Ok a) × P a
@@ -156,10 +156,9 @@ maps-sized h m s =
     (λ row a t. rows-kept (AreSized m) m.modes.columns (λ column. macroblock_read h (place row column)) a t
     (λ column b u. macroblock-sized h (place row column) m b u)) (record { columns = refl; rows = refl; motion_columns = refl; motion_rows = refl })
 
-plan-sized : (o : Opened) (references : Option References) (before : Grid Modes) (width height : ℕ)
-    → AreSized (maps_before before width height) (plan_of o references before width height).maps
+plan-sized : (o : Opened) → AreSized (maps_before o.basis.modes) (plan_of o).maps
 unfolding plan_of
-plan-sized o references before width height = maps-sized o.header (maps_before before width height) o.first
+plan-sized o = maps-sized o.header (maps_before o.basis.modes) o.first
 
 -- ---- segments that are 0 stay so
 
@@ -176,19 +175,21 @@ segment_at g p =
     ∙ segment_or (nat_lt p.column g.columns) (slice_get g.entries (p.row * g.columns + p.column))
 
 -- where the macroblocks that are told are of segment 0
-pub segments_stay : (dim : Dim) (key : Option KeyTag) (kept : Saved) (references : Option References) (before : Grid Modes) (c : Coded) (packet : List ℕ) (o : Opened)
-    → before.columns ≡ macroblocks dim.w → before.rows ≡ macroblocks dim.h → c.macroblocks.columns ≡ macroblocks dim.w → c.macroblocks.rows ≡ macroblocks dim.h
-    → Says key kept references before dim.w dim.h c packet o → ((p : Place) → Has c.macroblocks p → (macroblock_at c p).modes.segment ≡ 0)
-    → AreUnsegmented dim (segments_of (plan_of o references before dim.w dim.h).maps.modes)
-segments_stay dim key kept references before c packet o wide high columns rows says none =
-    let m : Maps = (plan_of o references before dim.w dim.h).maps in
-    let sized = plan-sized o references before dim.w dim.h in
+pub segments_stay : (dim : Dim) (key : Option KeyTag) (basis : Basis) (c : Coded) (packet : List ℕ) (o : Opened)
+    → basis.modes.columns ≡ macroblocks dim.w → basis.modes.rows ≡ macroblocks dim.h → c.macroblocks.columns ≡ macroblocks dim.w → c.macroblocks.rows ≡ macroblocks dim.h
+    → Says key basis c packet o → ((p : Place) → Has c.macroblocks p → (macroblock_at c p).modes.segment ≡ 0)
+    → AreUnsegmented dim (segments_of (plan_of o).maps.modes)
+segments_stay dim key basis c packet o wide high columns rows says none =
+    let m : Maps = (plan_of o).maps in
+    let sized = plan-sized o in
+    let wide_too = sized.columns ∙ ap (λ (z : Basis). z.modes.columns) says.basis_is ∙ wide in
+    let high_too = sized.rows ∙ ap (λ (z : Basis). z.modes.rows) says.basis_is ∙ high in
     record {
-      columns = sized.columns ∙ wide;
-      rows = sized.rows ∙ high;
+      columns = wide_too;
+      rows = high_too;
       zero = λ p has.
-          let column : p.column < c.macroblocks.columns = let a = has.column in let b = sized.columns in omega arith in
-          let row : p.row < c.macroblocks.rows = let a = has.row in let b = sized.rows in omega arith in
+          let column : p.column < c.macroblocks.columns = let a = has.column in let b = wide_too in omega arith in
+          let row : p.row < c.macroblocks.rows = let a = has.row in let b = high_too in omega arith in
           let inside : Has c.macroblocks p = record { column = column; row = row } in
           segment_at m.modes p ∙ ap (λ (x : Modes). x.segment) (says.modes p inside) ∙ none p inside;
     }
@@ -199,10 +200,10 @@ chosen_unsegmented frame g chosen p has = (chosen.each p has).is.segment
 -- ---- a macroblock, as it is read
 
 -- what it is predicted from
-source_read : (s : Settings) (kept : Option Kept) (version : ℕ) (modes : Modes) (motion : Entry) (c : Choice)
-    → version ≡ 0 → modes ≡ c.modes → motion ≡ entry_of c → source_read_by (references_in kept) version modes motion ≡ source_by (search_in s kept) c
-source_read s None version modes motion c v m e = ap Intra m
-source_read s (Some k) version modes motion c v m e = elim (cases_Bool (is_intra c.modes.reference)) [
+source_read : (s : Settings) (dim : Dim) (kept : Option Kept) (version : ℕ) (modes : Modes) (motion : Entry) (c : Choice)
+    → version ≡ 0 → modes ≡ c.modes → motion ≡ entry_of c → source_read_by (basis_over dim kept).references version modes motion ≡ source_by (search_in s kept) c
+source_read s dim None version modes motion c v m e = ap Intra m
+source_read s dim (Some k) version modes motion c v m e = elim (cases_Bool (is_intra c.modes.reference)) [
   | inl own ↦
       let too : is_intra modes.reference ≡ true = ap (λ (x : Modes). is_intra x.reference) m ∙ own in
       rw (own, too) (ap Intra m)
@@ -218,7 +219,8 @@ index_same n h = omega arith
 -- ---- the frame, as it is read
 
 module _ (e : Encoding) (source : Image) (packet : List ℕ) (g : Grid Choice) (allowed : AreAllowed e.settings)
-    (wide : source.width ≡ e.dim.w) (high : source.height ≡ e.dim.h) (chosen : AreChosen (frame_for e source) g) where
+    (wide : source.width ≡ e.dim.w) (high : source.height ≡ e.dim.h) (chosen : AreChosen (frame_for e source) g)
+    (columns_over : (basis_for e).modes.columns ≡ macroblocks e.dim.w) (rows_over : (basis_for e).modes.rows ≡ macroblocks e.dim.h) where
   abbrev c : Coded
   c = record { header = header_of e; macroblocks = g }
 
@@ -226,7 +228,7 @@ module _ (e : Encoding) (source : Image) (packet : List ℕ) (g : Grid Choice) (
   frame = frame_for e source
 
   abbrev SaysSo : Opened → Type 0
-  SaysSo = Says (tag_key e.dim (kept_for e)) (saved_in (kept_for e)) (references_in (kept_for e)) (modes_before e.dim (kept_for e)) e.dim.w e.dim.h c packet
+  SaysSo = Says (tag_key e.dim (kept_for e)) (basis_for e) c packet
 
   frame_width : frame.source.width ≡ e.dim.w
   unfolding continued
@@ -238,14 +240,16 @@ module _ (e : Encoding) (source : Image) (packet : List ℕ) (g : Grid Choice) (
 
   module _ (o : Opened) (says : SaysSo o) where
     abbrev plan : Plan
-    plan = plan_of o (references_in (kept_for e)) (modes_before e.dim (kept_for e)) e.dim.w e.dim.h
+    plan = plan_of o
 
     abbrev parts : List State
     parts = map start o.partitions
 
     source_same : (p : Place) → Has g p → source_at plan p ≡ source_by frame.search (choice_at g p)
     unfolding source_at plan_of
-    source_same p has = source_read e.settings (kept_for e) o.tag.version (modes_in plan.maps p) (motion_in plan.maps p) (choice_at g p) says.version (says.modes p has) (says.motion p has)
+    source_same p has =
+        ap (λ (b : Basis). source_read_by b.references o.tag.version (modes_in plan.maps p) (motion_in plan.maps p)) says.basis_is
+        ∙ source_read e.settings e.dim (kept_for e) o.tag.version (modes_in plan.maps p) (motion_in plan.maps p) (choice_at g p) says.version (says.modes p has) (says.motion p has)
 
     factors_same : (p : Place) → factors_at plan p ≡ frame.factors
     unfolding factors_at plan_of
@@ -276,10 +280,12 @@ module _ (e : Encoding) (source : Image) (packet : List ℕ) (g : Grid Choice) (
 
     candidates_same : (p : Place) → Has g p → AreSameCandidates (motion_by g) plan.maps.motion p
     candidates_same p has r =
-        let sized = plan-sized o (references_in (kept_for e)) (modes_before e.dim (kept_for e)) e.dim.w e.dim.h in
+        let sized = plan-sized o in
+        let motion_columns = sized.motion_columns ∙ ap (λ (b : Basis). b.modes.columns) says.basis_is ∙ columns_over in
+        let motion_rows = sized.motion_rows ∙ ap (λ (b : Basis). b.modes.rows) says.basis_is ∙ rows_over in
         let row = has.row in
         candidates-same (motion_by g) plan.maps.motion p r no_biases (around (motion_by g) plan.maps.motion p
-        (chosen.columns ∙ ap macroblocks frame_width ∙ sym sized.motion_columns) (chosen.rows ∙ ap macroblocks frame_height ∙ sym sized.motion_rows) has.column
+        (chosen.columns ∙ ap macroblocks frame_width ∙ sym motion_columns) (chosen.rows ∙ ap macroblocks frame_height ∙ sym motion_rows) has.column
         (λ q inside earlier. motion_by-at g q ∙ sym (says.motion q (let up = earlier.row in record { column = inside; row = omega arith }))))
 
     choices_read : AreChoices e source plan parts
@@ -292,18 +298,17 @@ module _ (e : Encoding) (source : Image) (packet : List ℕ) (g : Grid Choice) (
 
   -- The packet is read within some limits at least.
   pub carried : (limits : Limits) → e.dim.w * e.dim.h ≤ limits.pixels
-      → ((l : Limits) → e.dim.w * e.dim.h ≤ l.pixels → IsOkAnd (opened l (option_map (λ k. k.saved) e.state) packet) SaysSo) → IsChosen e source packet
+      → ((l : Limits) → e.dim.w * e.dim.h ≤ l.pixels → IsOkAnd (opened l e.state packet) SaysSo) → IsChosen e source packet
   carried limits fits told =
-      let saved : Option Saved = option_map (λ k. k.saved) e.state in
-      let one = found SaysSo (opened limits saved packet) (told limits fits) in
+      let one = found SaysSo (opened limits e.state packet) (told limits fits) in
       let says : SaysSo one.0 = one.2 in
       record {
         opening = one.0;
-        opens = λ l within. same_found SaysSo one.0 (opened l saved packet)
-            (subst (λ (r : Result Opened PacketFault). Agree r (opened l saved packet)) one.1 (one_opened limits l saved packet)) (told l within);
+        opens = λ l within. same_found SaysSo one.0 (opened l e.state packet)
+            (subst (λ (r : Result Opened PacketFault). Agree r (opened l e.state packet)) one.1 (one_opened limits l e.state packet)) (told l within);
         version = says.version;
         shown = says.shown;
-        key = says.key;
+        key = says.key_is;
         header = says.header;
         choices = choices_read one.0 says;
       }

@@ -1,25 +1,24 @@
 -- What an encoder's packet leaves.
 use Rattle.std.proofs.Common.{◌≡◌, ◌∙◌, ℕ, ◌*◌, ◌≤◌, Bool, true, false, List, refl, sym, ap, subst, arith, inl, inr, eqb}
-use Rattle.std.specs.Prelude.{◌⊎◌, Option, Some, None, IfSome, Result, Ok, IsOkAnd, option_map, if◌then◌else◌}
+use Rattle.std.specs.Prelude.{◌⊎◌, Option, Some, None, IfSome, Result, Ok, IsOkAnd, if◌then◌else◌}
 use Rattle.vp_base.specs.declared.place.Place.{Place}
 use Rattle.vp_base.specs.declared.limits.Dim.{Dim}
 use Rattle.vp_base.specs.declared.limits.Limits.{Limits}
 use Rattle.vp_base.specs.Grid.{Has}
 use Rattle.vp_base.specs.Image.{Image, macroblocks}
 use Rattle.vp_head.specs.declared.fault.PacketFault.{PacketFault}
-use Rattle.vp_head.specs.Saved.{defaults}
-use Rattle.vp_modes.specs.Map.{of_segments, segments_of}
-use Rattle.vp_decode.specs.Step.{Opened, opened, Kept, Answer, Shown, Hidden, Fault, key_before, key_frame, key_kept, inter_frame, inter_kept, plan_of, step}
-use Rattle.vp_decode.proofs.SizeLemmas.{KeepsShape, picture_shaped}
+use Rattle.vp_head.specs.declared.fields.KeyTag.{KeyTag}
+use Rattle.vp_decode.specs.Frame.{picture_of}
+use Rattle.vp_decode.specs.Step.{Kept, Basis, key_basis, inter_basis, basis_of, Opened, opened, said, left_by, Answer, Shown, Hidden, Fault, step}
+use Rattle.vp_decode.proofs.SizeLemmas.{KeepsShape, newest_is, picture_shaped}
 use Rattle.vp_encode.specs.declared.coded.Coded.{Coded}
 use Rattle.vp_encode.specs.Coded.{macroblock_at}
-use Rattle.vp_encode.specs.Said.{key_tag, Says}
-use Rattle.vp_encode.specs.Encoder.{Encoding, AreAllowed, kept_for, saved_in, references_in, modes_before, tag_key, header_of, continued, frame_for}
+use Rattle.vp_encode.specs.Said.{key_tag, Says, Tells}
+use Rattle.vp_encode.specs.Encoder.{Encoding, AreAllowed, kept_for, basis_over, tag_key, header_of, continued, frame_for}
 use Rattle.vp_encode.specs.Chosen.{IsChosen}
-use Rattle.vp_encode.specs.Choosing.{AreUnsegmented}
 use Rattle.vp_encode.specs.TooLong.{IsFrameFor}
 use Rattle.vp_encode.specs.Between.{HasSize, IsPacketOver, IsKeptFor, IsSound, Shows}
-use Rattle.vp_encode.proofs.Showing.{key_shows, inter_shows}
+use Rattle.vp_encode.proofs.Showing.{told_shows}
 use Rattle.vp_encode.proofs.Carried.{segments_stay, chosen_unsegmented, carried}
 
 -- Limits that are wide enough for every picture are so for this one.
@@ -41,36 +40,36 @@ pub record IsPlain (dim : Dim) (c : Coded) : Type 0 where
   pub rows : c.macroblocks.rows ≡ macroblocks dim.h
   pub zero : (p : Place) → Has c.macroblocks p → (macroblock_at c p).modes.segment ≡ 0
 
-key_leaves : KeepsShape → (dim : Dim) (state : Option Kept) (c : Coded) (packet : List ℕ) → IsPlain dim c → IsPacketOver dim None c packet → Leaves dim state packet
-key_leaves law dim state c packet simple x =
+-- a basis of this size
+record IsBasisOf (dim : Dim) (basis : Basis) : Type 0 where
+  width_is : basis.width ≡ dim.w
+  height_is : basis.height ≡ dim.h
+  columns : basis.modes.columns ≡ macroblocks dim.w
+  rows : basis.modes.rows ≡ macroblocks dim.h
+
+told_leaves : KeepsShape → (dim : Dim) (key : Option KeyTag) (basis : Basis) (state : Option Kept) (c : Coded) (packet : List ℕ) → IsPlain dim c → IsBasisOf dim basis → basis_of key state ≡ Ok basis
+    → ((limits : Limits) → dim.w * dim.h ≤ limits.pixels → IfSome key (λ k. k.dim.w * k.dim.h ≤ limits.pixels)) → Tells key basis c packet → Leaves dim state packet
+told_leaves law dim key basis state c packet simple sized over within x =
     let o : Opened = x.opening in
-    let s = picture_shaped law (key_frame o dim) in
+    let s = picture_shaped law (said o) in
+    let newest = newest_is o.basis.references o.header (picture_of (said o)) in
     record {
-      kept = key_kept o dim;
+      kept = left_by o;
       sound = record {
-        size = record { width = s.width_is; height = s.height_is };
-        segments = segments_stay dim (Some (key_tag dim)) defaults None (key_before dim) c packet o refl refl simple.columns simple.rows x.says simple.zero;
+        size = record {
+          width = ap (λ (p : Image). p.width) newest ∙ s.width_is ∙ ap (λ (b : Basis). b.width) x.says.basis_is ∙ sized.width_is;
+          height = ap (λ (p : Image). p.height) newest ∙ s.height_is ∙ ap (λ (b : Basis). b.height) x.says.basis_is ∙ sized.height_is;
+        };
+        segments = segments_stay dim key basis c packet o sized.columns sized.rows simple.columns simple.rows x.says simple.zero;
       };
-      is = λ limits fits. key_shows dim c packet x limits state fits;
+      is = λ limits fits. told_shows key basis c packet x limits state over (within limits fits) ∙ ap (λ (p : Image). (Some (left_by o), Shown p)) (sym newest);
     }
 
-inter_leaves : KeepsShape → (dim : Dim) (k : Kept) (c : Coded) (packet : List ℕ) → IsPlain dim c → IsKeptFor dim k → IsPacketOver dim (Some k) c packet → Leaves dim (Some k) packet
-inter_leaves law dim k c packet simple sound x =
-    let o : Opened = x.opening in
-    let s = picture_shaped law (inter_frame o k) in
-    let stay : AreUnsegmented dim (segments_of (plan_of o (Some k.references) (of_segments k.segments) dim.w dim.h).maps.modes) =
-    segments_stay dim None k.saved (Some k.references) (of_segments k.segments) c packet o sound.segments.columns sound.segments.rows simple.columns simple.rows (x.says k.references) simple.zero in
-    let same : segments_of (plan_of o (Some k.references) (of_segments k.segments) dim.w dim.h).maps.modes
-    ≡ segments_of (plan_of o (Some k.references) (of_segments k.segments) k.references.newest.width k.references.newest.height).maps.modes =
-    λ i. segments_of (plan_of o (Some k.references) (of_segments k.segments) (sym sound.size.width i) (sym sound.size.height i)).maps.modes in
-    record {
-      kept = inter_kept o k;
-      sound = record {
-        size = record { width = s.width_is ∙ sound.size.width; height = s.height_is ∙ sound.size.height };
-        segments = subst (AreUnsegmented dim) same stay;
-      };
-      is = λ limits fits. inter_shows dim k c packet x limits;
-    }
+key_sized : (dim : Dim) → IsBasisOf dim (key_basis dim)
+key_sized dim = record { width_is = refl; height_is = refl; columns = refl; rows = refl }
+
+inter_sized : (dim : Dim) (k : Kept) → IsKeptFor dim k → IsBasisOf dim (inter_basis k)
+inter_sized dim k sound = record { width_is = sound.size.width; height_is = sound.size.height; columns = sound.segments.columns; rows = sound.segments.rows }
 
 -- What the next frame is told over is nothing, or the state that stands.
 none_or : (b : Bool) (state : Option Kept) → ((if b then None else state) ≡ None) ⊎ ((if b then None else state) ≡ state)
@@ -80,30 +79,38 @@ none_or false state = inr refl
 kept_is : (e : Encoding) → (kept_for e ≡ None) ⊎ (kept_for e ≡ e.state)
 kept_is e = none_or (eqb e.since e.settings.key_every) e.state
 
+basis_sized : (dim : Dim) (state kept : Option Kept) → (kept ≡ None) ⊎ (kept ≡ state) → IfSome state (IsKeptFor dim) → IsBasisOf dim (basis_over dim kept)
+basis_sized dim state None is sound = key_sized dim
+basis_sized dim state (Some k) is sound = elim is [
+  | inl e ↦ absurd cc
+  | inr e ↦ inter_sized dim k (subst (λ (s : Option Kept). IfSome s (IsKeptFor dim)) (sym e) sound)
+]
+
 packet_leaves : KeepsShape → (dim : Dim) (state kept : Option Kept) (c : Coded) (packet : List ℕ) → (kept ≡ None) ⊎ (kept ≡ state)
     → IsPlain dim c → IfSome state (IsKeptFor dim) → IsPacketOver dim kept c packet → Leaves dim state packet
-packet_leaves law dim state None c packet is simple sound x = key_leaves law dim state c packet simple x
+packet_leaves law dim state None c packet is simple sound x =
+    told_leaves law dim (Some (key_tag dim)) (key_basis dim) state c packet simple (key_sized dim) refl (λ limits fits. fits) x
 packet_leaves law dim state (Some k) c packet is simple sound x = elim is [
   | inl e ↦ absurd cc
-  | inr e ↦ subst (λ (s : Option Kept). Leaves dim s packet) e (inter_leaves law dim k c packet simple (subst (λ (s : Option Kept). IfSome s (IsKeptFor dim)) (sym e) sound) x)
+  | inr e ↦ subst (λ (s : Option Kept). Leaves dim s packet) e
+      (told_leaves law dim None (inter_basis k) (Some k) c packet simple (basis_sized dim state (Some k) (inr e) sound) refl (λ limits fits. tt) (x k refl refl))
 ]
 
 -- ---- what the packet says
 
 abbrev SaysOver : Dim → Option Kept → Coded → List ℕ → Opened → Type 0
-SaysOver dim kept c packet o = Says (tag_key dim kept) (saved_in kept) (references_in kept) (modes_before dim kept) dim.w dim.h c packet o
+SaysOver dim kept c packet = Says (tag_key dim kept) (basis_over dim kept) c packet
 
 is_ok_and : (P : Opened → Type 0) (r : Result Opened PacketFault) (o : Opened) → r ≡ Ok o → P o → IsOkAnd r P
 is_ok_and P r o is h = subst (λ (z : Result Opened PacketFault). IsOkAnd z P) (sym is) h
 
 packet_says : (dim : Dim) (state kept : Option Kept) (c : Coded) (packet : List ℕ) → (kept ≡ None) ⊎ (kept ≡ state) → IsPacketOver dim kept c packet
-    → (l : Limits) → dim.w * dim.h ≤ l.pixels → IsOkAnd (opened l (option_map (λ k. k.saved) state) packet) (SaysOver dim kept c packet)
-packet_says dim state None c packet is x l fits =
-    is_ok_and (SaysOver dim None c packet) (opened l (option_map (λ k. k.saved) state) packet) x.opening (x.opens l (option_map (λ k. k.saved) state) fits) x.says
+    → (l : Limits) → dim.w * dim.h ≤ l.pixels → IsOkAnd (opened l state packet) (SaysOver dim kept c packet)
+packet_says dim state None c packet is x l fits = is_ok_and (SaysOver dim None c packet) (opened l state packet) x.opening (x.opens l state refl fits) x.says
 packet_says dim state (Some k) c packet is x l fits = elim is [
   | inl e ↦ absurd cc
-  | inr e ↦ subst (λ (s : Option Kept). IsOkAnd (opened l (option_map (λ k. k.saved) s) packet) (SaysOver dim (Some k) c packet)) e
-      (is_ok_and (SaysOver dim (Some k) c packet) (opened l (Some k.saved) packet) x.opening (x.opens l) (x.says k.references))
+  | inr e ↦ subst (λ (s : Option Kept). IsOkAnd (opened l s packet) (SaysOver dim (Some k) c packet)) e
+      (is_ok_and (SaysOver dim (Some k) c packet) (opened l (Some k) packet) (x k refl refl).opening ((x k refl refl).opens l (Some k) refl tt) (x k refl refl).says)
 ]
 
 -- ---- the frame that is chosen
@@ -133,8 +140,9 @@ module _ (e : Encoding) (source : Image) (c : Coded) (allowed : AreAllowed e.set
 
     pub frame_chosen : (limits : Limits) → 268402689 ≤ limits.pixels → IsChosen e source packet
     frame_chosen limits wide =
-        carried e source packet c.macroblocks allowed size.width size.height is.chosen limits (size_fits e.dim limits.pixels wide)
-        (λ l fits. subst (λ (x : Coded). IsOkAnd (opened l (option_map (λ k. k.saved) e.state) packet) (SaysOver e.dim (kept_for e) x packet)) (sym whole)
+        let sized = basis_sized e.dim e.state (kept_for e) (kept_is e) sound in
+        carried e source packet c.macroblocks allowed size.width size.height is.chosen sized.columns sized.rows limits (size_fits e.dim limits.pixels wide)
+        (λ l fits. subst (λ (x : Coded). IsOkAnd (opened l e.state packet) (SaysOver e.dim (kept_for e) x packet)) (sym whole)
         (packet_says e.dim e.state (kept_for e) c packet (kept_is e) over l fits))
 
 -- ---- what is shown

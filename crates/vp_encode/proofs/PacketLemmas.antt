@@ -1,6 +1,6 @@
 -- What is opened of a packet that was put together.
 use Rattle.std.proofs.Common.{◌≡◌, ◌∙◌, ℕ, zero, suc, ◌+◌, ◌-◌, ◌*◌, ◌^◌, ◌<◌, ◌≤◌, Bool, true, false, List, [], ◌∷◌, ◌++◌, length, take, drop, map, replicate, refl, sym, ap, subst, arith, append_assoc, length-append}
-use Rattle.std.specs.Prelude.{Option, Some, None, Result, Ok, Vec, nat_lt, unwrap_or, slice_get, slice_index_or, if◌then◌else◌}
+use Rattle.std.specs.Prelude.{Option, Some, None, IfSome, Result, Ok, Vec, nat_lt, unwrap_or, slice_get, slice_index_or, if◌then◌else◌}
 use Rattle.std.specs.Global.{Global}
 use Rattle.std.proofs.lemmas.List.{drop_at, take_at, take-map, get_or-take, length-map, length-take}
 use Rattle.vp_bool.specs.Bools.{State, start}
@@ -12,6 +12,7 @@ use Rattle.vp_bool.proofs.RoundTripLemmas.{reads_back}
 use Rattle.vp_bool.proofs.WritingLemmas.{Writes-then, Continues-none}
 use Rattle.vp_base.specs.declared.place.Place.{Place}
 use Rattle.vp_base.specs.declared.limits.Dim.{Dim}
+use Rattle.vp_base.specs.declared.limits.Limits.{Limits}
 use Rattle.vp_base.specs.Grid.{Grid, Has, at, entry, repeated, all as everywhere}
 use Rattle.vp_head.specs.declared.fields.Tag.{Tag}
 use Rattle.vp_head.specs.declared.fields.KeyTag.{KeyTag}
@@ -31,11 +32,11 @@ use Rattle.vp_refs.specs.References.{References}
 use Rattle.vp_tokens.specs.Partitions.{cut_of, lists, AreBelow24Bits}
 use Rattle.vp_decode.specs.Maps.{Maps, maps_read}
 use Rattle.vp_decode.specs.Frame.{Plan, tokens_of}
-use Rattle.vp_decode.specs.Step.{Opened, opened, opened_saved, opened_tag, plan_of, maps_before, key_before, tag_length, first_part, count_of}
-use Rattle.vp_decode.proofs.CutLemmas.{opened_ok}
+use Rattle.vp_decode.specs.Step.{Kept, Basis, key_basis, inter_basis, Opened, opened_over, plan_of, maps_before, tag_length, first_part, count_of}
+use Rattle.vp_decode.proofs.CutLemmas.{opened_ok, opened-by}
 use Rattle.vp_encode.specs.declared.coded.Coded.{Coded}
 use Rattle.vp_encode.specs.Coded.{macroblock_at}
-use Rattle.vp_encode.specs.Said.{key_tag, IsClosed, Says, IsKeyPacket, IsInterPacket}
+use Rattle.vp_encode.specs.Said.{key_tag, IsClosed, Says, Tells, IsKeyPacket, IsInterPacket}
 use Rattle.vp_encode.specs.Written.{AreOf, Have, finished, first_read, IsFirst, IsPlanOf, IsPacket, tag_bytes, tag_with}
 use Rattle.vp_encode.proofs.TokenLemmas.{one_zero, closed_by, parts_read, parts_closed}
 use Rattle.vp_encode.proofs.TagLemmas.{inter_tag, key_tag_read}
@@ -121,15 +122,15 @@ behind_is tag front first rest e f =
     ∙ ap (drop (length (front ++ first))) (sym (append_assoc front first rest))
     ∙ drop_at (front ++ first) rest (length (front ++ first)) refl
 
-abbrev opened_of : Tag → Coded → Saved → State → List (List ℕ) → Opened
-opened_of tag c kept d parts = record { tag = tag; header = c.header; saved = kept; first = d; partitions = parts }
+abbrev opened_of : Tag → Basis → Coded → Saved → State → List (List ℕ) → Opened
+opened_of tag basis c kept d parts = record { tag = tag; basis = basis; header = c.header; saved = kept; first = d; partitions = parts }
 
-opened_by : (tag : Tag) (base : Saved) (front first rest : List ℕ) (c : Coded) (kept : Saved) (d : State) (parts : List (List ℕ))
-    → length front ≡ tag_length tag → tag.first_partition ≡ length first → header base tag (start first) ≡ ((c.header, kept), d)
+opened_by : (tag : Tag) (basis : Basis) (front first rest : List ℕ) (c : Coded) (kept : Saved) (d : State) (parts : List (List ℕ))
+    → length front ≡ tag_length tag → tag.first_partition ≡ length first → header basis.saved tag (start first) ≡ ((c.header, kept), d)
     → length parts ≡ count_of c.header.log2_partitions → cut_of rest (length parts) ≡ Ok parts
-    → opened_saved tag (Some base) (front ++ (first ++ rest)) ≡ Ok (opened_of tag c kept d parts)
-opened_by tag base front first rest c kept d parts e f read count cut =
-    sym (opened_ok tag base (front ++ (first ++ rest)) (start first) (c.header, kept) d (length parts) rest parts
+    → opened_over tag basis (front ++ (first ++ rest)) ≡ Ok (opened_of tag basis c kept d parts)
+opened_by tag basis front first rest c kept d parts e f read count cut =
+    sym (opened_ok tag basis (front ++ (first ++ rest)) (start first) (c.header, kept) d (length parts) rest parts
     (omega (arith, e, f, length-append front (first ++ rest), length-append first rest))
     (ap start (sym (first_part_is tag front first rest e f)))
     (ap (λ (z : (Header × Saved) × State). z.0) (sym read))
@@ -145,86 +146,75 @@ same_header kept key m n s = refl
 
 -- ---- what is opened says the frame
 
-module _ (key : Option KeyTag) (kept base : Saved) (before : Grid Modes) (width height : ℕ) (c : Coded) (packet : List ℕ) where
-  abbrev maps0 : Maps
-  maps0 = maps_before before width height
+module _ (key : Option KeyTag) (basis : Basis) (c : Coded) (packet : List ℕ) (x : IsPacket key basis.saved (maps_before basis.modes) c packet) where
+  abbrev tag : Tag
+  tag = tag_with key (length x.first)
 
-  says : (x : IsPacket key kept maps0 c packet) (first : IsReadFirst kept (tag_with key 0) maps0 c x.first) (o : Opened) (references : Option References)
-      → o ≡ opened_of (tag_with key (length x.first)) c (kept_after base c.header) first.behind x.parts
-      → first_part o.tag packet ≡ x.first
-      → (references ≡ None → (p : Place) → Has c.macroblocks p → is_intra (macroblock_at c p).modes.reference ≡ true)
-      → Says key base references before width height c packet o
+  abbrev first : IsReadFirst basis.saved (tag_with key 0) (maps_before basis.modes) c x.first
+  first = first_again basis.saved (tag_with key 0) (maps_before basis.modes) c x.first x.first_is
+
+  abbrev opening : Opened
+  opening = opened_of tag basis c (kept_after (kept_before basis.saved tag) c.header) first.behind x.parts
+
+  abbrev front : List ℕ
+  front = tag_bytes key (length x.first)
+
+  first_is : length front ≡ tag_length tag → first_part tag packet ≡ x.first
+  first_is long = ap (first_part tag) x.together.bytes_are ∙ first_part_is tag front x.first x.together.rest long refl
+
+  says : kept_before basis.saved tag ≡ basis.saved → length front ≡ tag_length tag
+      → (basis.references ≡ None → (p : Place) → Has c.macroblocks p → is_intra (macroblock_at c p).modes.reference ≡ true) → Says key basis c packet opening
   unfolding plan_of
-  says x first o references is first_is own =
-      let plan : Plan = plan_of o references before width height in
-      let maps_are : plan.maps ≡ first.maps =
-      ap (λ (z : Opened). (maps_read z.header maps0 z.first).0) is ∙ ap (λ (r : Maps × State). r.0) first.maps_are in
+  says begun long own =
+      let plan : Plan = plan_of opening in
+      let maps_are : plan.maps ≡ first.maps = ap (λ (r : Maps × State). r.0) first.maps_are in
       let told : (p : Place) → Has c.macroblocks p → Have c p plan.maps = λ p inside. subst (λ (m : Maps). Have c p m) (sym maps_are) (first.told p inside) in
-      let parts_are : o.partitions ≡ x.parts = ap (λ (z : Opened). z.partitions) is in
-      let plan_is : IsPlanOf c plan = record {
-        header = ap (λ (z : Opened). z.header) is;
-        size = subst (AreOf c) (sym maps_are) first.size;
-        told = told;
-        own = own;
-      } in
+      let plan_is : IsPlanOf c plan = record { header = refl; size = subst (AreOf c) (sym maps_are) first.size; told = told; own = own } in
       let each = x.parts_are.each plan plan_is in
       record {
-        version = ap (λ (z : Opened). z.tag.version) is;
-        shown = ap (λ (z : Opened). z.tag.show) is;
-        key = ap (λ (z : Opened). z.tag.key) is;
-        header = ap (λ (z : Opened). z.header) is;
-        saved = ap (λ (z : Opened). z.saved) is;
+        version = refl;
+        shown = refl;
+        key_is = refl;
+        basis_is = refl;
+        header = refl;
+        saved = ap (λ (k : Saved). kept_after k c.header) begun;
         modes = λ p inside. (told p inside).modes;
         motion = λ p inside. (told p inside).motion;
-        tokens = λ p inside. ap (λ (ps : List (List ℕ)). tokens_of plan (map start ps) p) parts_are ∙ parts_read plan c each.0 x.parts each.1 each.2 p inside;
-        first_closed = subst IsClosed (sym first_is) first.closed;
-        closed = subst (λ (ps : List (List ℕ)). (i : ℕ) → i < length ps → IsClosed (slice_index_or ps i [])) (sym parts_are) (parts_closed each.0 x.parts each.2);
+        tokens = parts_read plan c each.0 x.parts each.1 each.2;
+        first_closed = subst IsClosed (sym (first_is long)) first.closed;
+        closed = parts_closed each.0 x.parts each.2;
       }
 
-pub key_said : (dim : Dim) (c : Coded) (packet : List ℕ) → IsPacket (Some (key_tag dim)) defaults (maps_before (key_before dim) dim.w dim.h) c packet
-    → ((p : Place) → Has c.macroblocks p → is_intra (macroblock_at c p).modes.reference ≡ true) → IsKeyPacket dim c packet
-unfolding opened
-key_said dim c packet x own =
-    let key : Option KeyTag = Some (key_tag dim) in
-    let before : Grid Modes = key_before dim in
-    let n = length x.first in
-    let front = tag_bytes key n in
-    let first = first_again defaults (tag_with key 0) (maps_before before dim.w dim.h) c x.first x.first_is in
-    let bytes : packet ≡ front ++ (x.first ++ x.together.rest) = x.together.bytes_are in
-    let o : Opened = opened_of (tag_with key n) c (kept_after defaults c.header) first.behind x.parts in
-    let first_is : first_part (tag_with key n) packet ≡ x.first = ap (first_part (tag_with key n)) bytes ∙ first_part_is (tag_with key n) front x.first x.together.rest refl refl in
-    record {
-      opening = o;
-      opens = λ limits saved fits.
-          let tag_read : tag_of limits packet ≡ Ok (tag_with key n) = ap (tag_of limits) bytes ∙ key_tag_read limits dim n (x.first ++ x.together.rest) x.short fits in
-          ap (λ (r : Result Tag PacketFault). opened_tag r saved packet) tag_read
-          ∙ ap (opened_saved (tag_with key n) (Some defaults)) bytes
-          ∙ opened_by (tag_with key n) defaults front x.first x.together.rest c (kept_after defaults c.header) first.behind x.parts refl refl
-          (same_header defaults key n 0 (start x.first) ∙ first.header_read) x.parts_are.count x.together.cut;
-      says = says key defaults defaults before dim.w dim.h c packet x first o None refl first_is (λ none. own);
-    }
+  opens : length front ≡ tag_length tag → opened_over tag basis packet ≡ Ok opening
+  opens long =
+      ap (opened_over tag basis) x.together.bytes_are
+      ∙ opened_by tag basis front x.first x.together.rest c (kept_after (kept_before basis.saved tag) c.header) first.behind x.parts long refl
+      (same_header basis.saved key (length x.first) 0 (start x.first) ∙ first.header_read) x.parts_are.count x.together.cut
 
-pub inter_said : (dim : Dim) (saved : Saved) (segments : Grid ℕ) (c : Coded) (packet : List ℕ) → IsPacket None saved (maps_before (of_segments segments) dim.w dim.h) c packet
-    → IsInterPacket dim saved segments c packet
-unfolding opened
-inter_said dim saved segments c packet x =
-    let before : Grid Modes = of_segments segments in
-    let n = length x.first in
-    let front = tag_bytes None n in
-    let first = first_again saved (tag_with None 0) (maps_before before dim.w dim.h) c x.first x.first_is in
-    let bytes : packet ≡ front ++ (x.first ++ x.together.rest) = x.together.bytes_are in
-    let o : Opened = opened_of (tag_with None n) c (kept_after saved c.header) first.behind x.parts in
-    let first_is : first_part (tag_with None n) packet ≡ x.first = ap (first_part (tag_with None n)) bytes ∙ first_part_is (tag_with None n) front x.first x.together.rest refl refl in
-    record {
-      opening = o;
-      opens = λ limits.
-          let tag_read : tag_of limits packet ≡ Ok (tag_with None n) = ap (tag_of limits) bytes ∙ inter_tag limits n (x.first ++ x.together.rest) x.short in
-          ap (λ (r : Result Tag PacketFault). opened_tag r (Some saved) packet) tag_read
-          ∙ ap (opened_saved (tag_with None n) (Some saved)) bytes
-          ∙ opened_by (tag_with None n) saved front x.first x.together.rest c (kept_after saved c.header) first.behind x.parts refl refl
-          (same_header saved None n 0 (start x.first) ∙ first.header_read) x.parts_are.count x.together.cut;
-      says = λ references. says None saved saved before dim.w dim.h c packet x first o (Some references) refl first_is (λ none. absurd cc);
-    }
+  pub told_by : kept_before basis.saved tag ≡ basis.saved → length front ≡ tag_length tag
+      → (basis.references ≡ None → (p : Place) → Has c.macroblocks p → is_intra (macroblock_at c p).modes.reference ≡ true)
+      → ((limits : Limits) → IfSome key (λ k. k.dim.w * k.dim.h ≤ limits.pixels) → tag_of limits (front ++ (x.first ++ x.together.rest)) ≡ Ok tag) → Tells key basis c packet
+  told_by begun long own read = record {
+    opening = opening;
+    opens = λ limits state over fits. opened-by limits state packet tag basis (Ok opening) (ap (tag_of limits) x.together.bytes_are ∙ read limits fits) over (opens long);
+    says = says begun long own;
+  }
+
+pub key_said : (dim : Dim) (c : Coded) (packet : List ℕ) → IsPacket (Some (key_tag dim)) (key_basis dim).saved (maps_before (key_basis dim).modes) c packet
+    → ((p : Place) → Has c.macroblocks p → is_intra (macroblock_at c p).modes.reference ≡ true) → IsKeyPacket dim c packet
+key_said dim c packet x own =
+    told_by (Some (key_tag dim)) (key_basis dim) c packet x refl refl (λ none. own)
+    (λ limits fits. key_tag_read limits dim (length x.first) (x.first ++ x.together.rest) x.short fits)
+
+-- over any state with these values and segments
+pub inter_said : (saved : Saved) (segments : Grid ℕ) (c : Coded) (packet : List ℕ) → IsPacket None saved (maps_before (of_segments segments)) c packet
+    → IsInterPacket saved segments c packet
+inter_said saved segments c packet x k same_saved same_segments =
+    let here : IsPacket None k.saved (maps_before (of_segments k.segments)) c packet =
+    subst (λ (g : Grid ℕ). IsPacket None k.saved (maps_before (of_segments g)) c packet) (sym same_segments)
+    (subst (λ (s : Saved). IsPacket None s (maps_before (of_segments segments)) c packet) (sym same_saved) x) in
+    told_by None (inter_basis k) c packet here refl refl (λ none. absurd cc)
+    (λ limits fits. inter_tag limits (length here.first) (here.first ++ here.together.rest) here.short)
 
 -- ---- how many partitions
 

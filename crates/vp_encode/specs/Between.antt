@@ -17,7 +17,7 @@ pub record HasSize (dim : Dim) (p : Image) : Type 0 where
 -- the packet of a frame that is told over what is kept: a key packet over nothing
 abbrev pub IsPacketOver : Dim → Option Kept → Coded → List ℕ → Type 0
 IsPacketOver dim None c packet = IsKeyPacket dim c packet
-IsPacketOver dim (Some k) c packet = IsInterPacket dim k.saved k.segments c packet
+IsPacketOver dim (Some k) c packet = IsInterPacket k.saved k.segments c packet
 
 -- The packet shows the picture that it leaves as the newest one.
 pub record Shows (limits : Limits) (state : Option Kept) (packet : List ℕ) : Type 0 where

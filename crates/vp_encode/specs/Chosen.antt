@@ -1,5 +1,5 @@
 -- The encoder's choice for a frame, as a packet says it.
-use Rattle.std.specs.Prelude.{◌≡◌, ◌<◌, ◌≤◌, ◌*◌, ℕ, true, List, Ok, map, option_map}
+use Rattle.std.specs.Prelude.{◌≡◌, ◌<◌, ◌≤◌, ◌*◌, ℕ, true, List, Ok, map}
 use Rattle.vp_bool.specs.Bools.{State, start}
 use Rattle.vp_base.specs.declared.limits.Limits.{Limits}
 use Rattle.vp_base.specs.declared.place.Place.{Place}
@@ -13,7 +13,7 @@ use Rattle.vp_choose.specs.Choice.{IsChoice}
 use Rattle.vp_decode.specs.Maps.{modes_in, motion_in}
 use Rattle.vp_decode.specs.Frame.{Plan, frame_of, tokens_of}
 use Rattle.vp_decode.specs.Step.{Opened, opened, plan_of}
-use Rattle.vp_encode.specs.Encoder.{Encoding, kept_for, references_in, modes_before, tag_key, header_of, frame_for}
+use Rattle.vp_encode.specs.Encoder.{Encoding, kept_for, tag_key, header_of, frame_for}
 
 -- a picture of so many columns and rows before the macroblock at p is rebuilt: the rows above are, and what stands left of it
 abbrev pub rebuilt_before : ℕ → ℕ → (Place → Macroblock) → Place → Image
@@ -37,14 +37,12 @@ AreChoices e source f partitions = (p : Place) → p.column < macroblocks e.dim.
 pub record IsChosen (e : Encoding) (source : Image) (packet : List ℕ) : Type 0 where
   pub opening : Opened
   pub opens : (limits : Limits) → e.dim.w * e.dim.h ≤ limits.pixels
-      → opened limits (option_map (λ k. k.saved) e.state) packet ≡ Ok opening
+      → opened limits e.state packet ≡ Ok opening
   pub version : opening.tag.version ≡ 0
   pub shown : opening.tag.show ≡ true
   pub key : opening.tag.key ≡ tag_key e.dim (kept_for e)
   pub header : opening.header ≡ header_of e
-  pub choices : AreChoices e source
-      (plan_of opening (references_in (kept_for e)) (modes_before e.dim (kept_for e)) e.dim.w e.dim.h)
-      (map start opening.partitions)
+  pub choices : AreChoices e source (plan_of opening) (map start opening.partitions)
 
 -- the squared distance of two pictures of one size: over the pixels that are shown, of Y, U and V
 abbrev pub squared_distance : Image → Image → ℕ

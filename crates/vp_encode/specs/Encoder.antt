@@ -3,7 +3,6 @@ use Rattle.std.specs.Prelude.{◌≡◌, ◌<◌, ◌≤◌, ◌⊎◌, ℕ, ◌
 use Rattle.vp_base.specs.declared.limits.Dim.{Dim}
 use Rattle.vp_base.specs.Raster.{Raster, pixel}
 use Rattle.vp_base.specs.Block.{numbers}
-use Rattle.vp_base.specs.Grid.{Grid}
 use Rattle.vp_base.specs.Image.{Image}
 use Rattle.vp_head.specs.declared.fields.Header.{Header}
 use Rattle.vp_head.specs.declared.fields.KeyTag.{KeyTag}
@@ -14,13 +13,9 @@ use Rattle.vp_head.specs.declared.fields.ReferenceUpdates.{ReferenceUpdates}
 use Rattle.vp_head.specs.declared.fields.ReferenceProbabilities.{ReferenceProbabilities}
 use Rattle.vp_head.specs.declared.fields.ReferenceCopy.TheVariants.{Nothing}
 use Rattle.vp_head.specs.Header.{no_references}
-use Rattle.vp_head.specs.Saved.{defaults}
-use Rattle.vp_modes.specs.Entry.{Modes}
-use Rattle.vp_modes.specs.Map.{of_segments}
 use Rattle.vp_quant.specs.Quant.{factors}
-use Rattle.vp_refs.specs.References.{References}
 use Rattle.vp_choose.specs.Frame.{Frame, Search, no_biases}
-use Rattle.vp_decode.specs.Step.{Kept, key_before}
+use Rattle.vp_decode.specs.Step.{Kept, Basis, key_basis, inter_basis}
 use Rattle.vp_encode.specs.declared.settings.Settings.{Settings}
 use Rattle.vp_encode.specs.Said.{key_tag}
 
@@ -54,19 +49,14 @@ is_key e = is_none (kept_for e)
 abbrev pub refreshes_golden : Encoding → Bool
 refreshes_golden e = not (e.settings.golden_every == 0) && e.since % e.settings.golden_every == 0
 
--- ---- what is kept for it
+-- ---- what it is decoded over
 
-abbrev pub saved_in : Option Kept → Saved
-saved_in None = defaults
-saved_in (Some k) = k.saved
+abbrev pub basis_over : Dim → Option Kept → Basis
+basis_over dim None = key_basis dim
+basis_over dim (Some k) = inter_basis k
 
-abbrev pub references_in : Option Kept → Option References
-references_in None = None
-references_in (Some k) = Some k.references
-
-abbrev pub modes_before : Dim → Option Kept → Grid Modes
-modes_before dim None = key_before dim
-modes_before dim (Some k) = of_segments k.segments
+abbrev pub basis_for : Encoding → Basis
+basis_for e = basis_over e.dim (kept_for e)
 
 abbrev pub tag_key : Dim → Option Kept → Option KeyTag
 tag_key dim None = Some (key_tag dim)
@@ -124,7 +114,7 @@ header_over saved key golden s = record {
 }
 
 abbrev pub header_of : Encoding → Header
-header_of e = header_over (saved_in (kept_for e)) (is_key e) (refreshes_golden e) e.settings
+header_of e = header_over (basis_for e).saved (is_key e) (refreshes_golden e) e.settings
 
 -- ---- what its macroblocks are chosen by
 

@@ -4,7 +4,7 @@ use Rattle.vp_base.specs.declared.limits.Dim.{Dim}
 use Rattle.vp_base.specs.Image.{Image}
 use Rattle.vp_decode.specs.Step.{Kept, maps_before}
 use Rattle.vp_encode.specs.declared.coded.Coded.{Coded}
-use Rattle.vp_encode.specs.Encoder.{Encoding, kept_for, saved_in, modes_before, tag_key, header_of, frame_for}
+use Rattle.vp_encode.specs.Encoder.{Encoding, kept_for, basis_over, tag_key, header_of, frame_for}
 use Rattle.vp_encode.specs.Choosing.{AreChosen}
 use Rattle.vp_encode.specs.Written.{HasLongPartition}
 
@@ -15,7 +15,7 @@ pub record IsFrameFor (e : Encoding) (source : Image) (c : Coded) : Type 0 where
 
 -- A frame that is told over what is kept has a partition that is too long.
 abbrev pub IsTooLongOver : Dim → Option Kept → Coded → Type 0
-IsTooLongOver dim kept c = HasLongPartition (tag_key dim kept) (saved_in kept) (maps_before (modes_before dim kept) dim.w dim.h) c
+IsTooLongOver dim kept c = HasLongPartition (tag_key dim kept) (basis_over dim kept).saved (maps_before (basis_over dim kept).modes) c
 
 -- The frame that is chosen for the source has one.
 pub record IsTooLong (e : Encoding) (source : Image) : Type 0 where

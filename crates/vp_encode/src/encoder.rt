@@ -7,7 +7,7 @@ ghost use Rattle.vp_decode.specs.Step.{Shown, step};
 ghost use Rattle.vp_encode.specs.declared.fault.EncodeFault.{EncodeFault};
 ghost use Rattle.vp_encode.specs.declared.fault.PacketError.{PacketError};
 ghost use Rattle.vp_encode.specs.Coded.{CanBeTold};
-ghost use Rattle.vp_encode.specs.Encoder.{AreAllowed, is_key, kept_for, saved_in, modes_before, refreshes_golden};
+ghost use Rattle.vp_encode.specs.Encoder.{AreAllowed, is_key, kept_for, basis_for, refreshes_golden};
 ghost use Rattle.vp_encode.specs.TooLong.{IsFrameFor, IsTooLong, IsTooLongOver};
 ghost use Rattle.vp_encode.specs.Between.{HasSize, IsPacketOver, IsKeptFor, Shows};
 ghost use Rattle.vp_encode.specs.Chosen.{IsChosen, squared_distance};
@@ -206,7 +206,7 @@ impl Encoder {
     fn choose(&self, source: &Picture) -> Result<Coded, AllocError>
         requires { HasSize self.now.dim source.now }
         ensures frame { IfOk result (λ c. IsFrameFor self.now source.now c) }
-        ensures told { IfOk result (λ c. CanBeTold (is_key self.now) (saved_in (kept_for self.now)) (modes_before self.now.dim (kept_for self.now)) c) }
+        ensures told { IfOk result (λ c. CanBeTold (is_key self.now) (basis_for self.now).saved (basis_for self.now).modes c) }
     {
         let golden = self.refreshes_golden();
         let kept = self.kept();
@@ -217,7 +217,7 @@ impl Encoder {
     fn write(&self, coded: &Coded) -> Result<ByteList, PacketError>
         requires columns { coded.now.macroblocks.columns ≡ macroblocks self.now.dim.w }
         requires rows { coded.now.macroblocks.rows ≡ macroblocks self.now.dim.h }
-        requires told { CanBeTold (is_key self.now) (saved_in (kept_for self.now)) (modes_before self.now.dim (kept_for self.now)) coded.now }
+        requires told { CanBeTold (is_key self.now) (basis_for self.now).saved (basis_for self.now).modes coded.now }
         ensures packet { IfOk result (λ v. IsPacketOver self.now.dim (kept_for self.now) coded.now v) }
         ensures too_long { IfErr result (λ e. e ≡ PacketError.TooLong → IsTooLongOver self.now.dim (kept_for self.now) coded.now) }
     {

@@ -1,10 +1,11 @@
 //! A frame, as it is to be told.
 
 ghost use Rattle.std.specs.Prelude.{◌≡◌, ◌≤◌, Option, IfOk, IfSome, is_none, option_map};
+ghost use Rattle.vp_base.specs.declared.limits.Dim.{Dim};
 ghost use Rattle.vp_choose.specs.Frame.{search_of};
 ghost use Rattle.vp_decode.specs.Step.{Kept};
 ghost use Rattle.vp_encode.specs.Coded.{CanBeTold};
-ghost use Rattle.vp_encode.specs.Encoder.{AreAllowed, saved_in, modes_before, header_over, search_in, frame_over};
+ghost use Rattle.vp_encode.specs.Encoder.{AreAllowed, basis_over, header_over, search_in, frame_over};
 ghost use Rattle.vp_encode.specs.Choosing.{AreChosen, AreUnsegmented};
 
 use crate::choosing::choose_macroblocks;
@@ -38,7 +39,7 @@ fn search_in<'a>(settings: &Settings, kept: Option<&'a Kept>) -> Option<Search<'
 
 /// The values that a frame's header is told over.
 fn saved_in(kept: Option<&Kept>) -> Saved
-    ensures { result ≡ saved_in (option_map (λ k. k.now) kept.entry) }
+    ensures { (dim : Dim) → result ≡ (basis_over dim (option_map (λ k. k.now) kept.entry)).saved }
 {
     match kept {
         Some(kept) => *kept.saved(),
@@ -60,9 +61,9 @@ pub(crate) fn choose_frame(
     requires width { source.now.width ≡ dim.w }
     requires height { source.now.height ≡ dim.h }
     requires segments { IfSome (option_map (λ k. k.now) kept) (λ k. AreUnsegmented dim k.segments) }
-    ensures header { IfOk result (λ c. c.header ≡ header_over (saved_in (option_map (λ k. k.now) kept.entry)) (is_none kept.entry) golden settings.now) }
+    ensures header { IfOk result (λ c. c.header ≡ header_over (basis_over dim (option_map (λ k. k.now) kept.entry)).saved (is_none kept.entry) golden settings.now) }
     ensures chosen { IfOk result (λ c. AreChosen (frame_over (option_map (λ k. k.now) kept.entry) settings.now source.now) c.macroblocks) }
-    ensures told { IfOk result (CanBeTold (is_none kept.entry) (saved_in (option_map (λ k. k.now) kept.entry)) (modes_before dim (option_map (λ k. k.now) kept.entry))) }
+    ensures told { IfOk result (CanBeTold (is_none kept.entry) (basis_over dim (option_map (λ k. k.now) kept.entry)).saved (basis_over dim (option_map (λ k. k.now) kept.entry)).modes) }
 {
     let source = continued(alloc, source)?;
     let factors = Factors::of(settings.qi, &quantiser(settings.qi));

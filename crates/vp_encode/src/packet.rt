@@ -2,10 +2,9 @@
 
 ghost use Rattle.std.specs.Prelude.{◌≡◌, ◌≤◌, ◌<◌, ◌^◌, ◌-◌, ℕ, true, false, length, take, slice_index_or, [], IfOk, IfErr, is_some};
 ghost use Rattle.vp_base.specs.Image.{macroblocks};
-ghost use Rattle.vp_head.specs.Saved.{defaults};
 ghost use Rattle.vp_modes.specs.Map.{of_segments};
 ghost use Rattle.vp_tokens.specs.Partitions.{lists, AreBelow24Bits};
-ghost use Rattle.vp_decode.specs.Step.{key_before, maps_before};
+ghost use Rattle.vp_decode.specs.Step.{key_basis, maps_before};
 ghost use Rattle.vp_encode.specs.Coded.{CanBeTold};
 ghost use Rattle.vp_encode.specs.Said.{key_tag, IsKeyPacket, IsInterPacket};
 ghost use Rattle.vp_encode.specs.Written.{IsFirst, AreTokenPartitions, IsPutTogether, IsPacket, HasLongPartition, tag_with, kept_by};
@@ -35,9 +34,9 @@ const MOST_PART: usize = 16_777_215;
 pub fn write_key_packet(alloc: Global, dim: Dim, coded: &Coded) -> Result<ByteList, PacketError>
     requires columns { coded.now.macroblocks.columns ≡ macroblocks dim.w }
     requires rows { coded.now.macroblocks.rows ≡ macroblocks dim.h }
-    requires told { CanBeTold true defaults (key_before dim) coded.now }
+    requires told { CanBeTold true (key_basis dim).saved (key_basis dim).modes coded.now }
     ensures packet { IfOk result (λ v. IsKeyPacket dim coded.now v) }
-    ensures too_long { IfErr result (λ e. e ≡ PacketError.TooLong → HasLongPartition (Some (key_tag dim)) defaults (maps_before (key_before dim) dim.w dim.h) coded.now) }
+    ensures too_long { IfErr result (λ e. e ≡ PacketError.TooLong → HasLongPartition (Some (key_tag dim)) (key_basis dim).saved (maps_before (key_basis dim).modes) coded.now) }
 {
     let key = KeyTag {
         dim,
@@ -61,8 +60,8 @@ pub fn write_inter_packet(
     requires segment_columns { segments.now.columns ≡ macroblocks dim.w }
     requires segment_rows { segments.now.rows ≡ macroblocks dim.h }
     requires told { CanBeTold false saved.now (of_segments segments.now) coded.now }
-    ensures packet { IfOk result (λ v. IsInterPacket dim saved.now segments.now coded.now v) }
-    ensures too_long { IfErr result (λ e. e ≡ PacketError.TooLong → HasLongPartition None saved.now (maps_before (of_segments segments.now) dim.w dim.h) coded.now) }
+    ensures packet { IfOk result (λ v. IsInterPacket saved.now segments.now coded.now v) }
+    ensures too_long { IfErr result (λ e. e ≡ PacketError.TooLong → HasLongPartition None saved.now (maps_before (of_segments segments.now)) coded.now) }
 {
     let before = ModeMap::of_segments(alloc, segments)?;
     write_packet(alloc, None, dim, saved, before, coded)
@@ -81,8 +80,8 @@ fn write_packet(
     requires before_columns { before.columns ≡ macroblocks dim.w }
     requires before_rows { before.rows ≡ macroblocks dim.h }
     requires told { CanBeTold (is_some key) (kept_by saved.now key) before coded.now }
-    ensures packet { IfOk result (λ v. IsPacket key saved.now (maps_before before dim.w dim.h) coded.now v) }
-    ensures too_long { IfErr result (λ e. e ≡ PacketError.TooLong → HasLongPartition key saved.now (maps_before before dim.w dim.h) coded.now) }
+    ensures packet { IfOk result (λ v. IsPacket key saved.now (maps_before before) coded.now v) }
+    ensures too_long { IfErr result (λ e. e ≡ PacketError.TooLong → HasLongPartition key saved.now (maps_before before) coded.now) }
 {
     let first = write_first(alloc, key, dim, saved, before, coded)?;
     if first.len() > MOST_FIRST {
@@ -110,7 +109,7 @@ fn write_first(
     requires before_columns { before.columns ≡ macroblocks dim.w }
     requires before_rows { before.rows ≡ macroblocks dim.h }
     requires told { CanBeTold (is_some key) (kept_by saved.now key) before coded.now }
-    ensures { IfOk result (λ v. IsFirst saved.now (tag_with key 0) (maps_before before dim.w dim.h) coded.now v.items) }
+    ensures { IfOk result (λ v. IsFirst saved.now (tag_with key 0) (maps_before before) coded.now v.items) }
 {
     let tag = Tag {
         version: 0,

@@ -1,6 +1,6 @@
 -- Answers, and where decoding may begin.
-use Rattle.std.proofs.Common.{◌≡◌, ◌≢◌, ℕ, zero, suc, ◌+◌, ◌-◌, ◌<◌, ◌≤◌, ◌%◌, Bool, false, cond, List, [], ◌∷◌, ◌++◌, length, take, drop, Option, Some, None, refl, sym, ap, ◌∙◌, inl, inr, ◌⊎◌, zero-add, arith}
-use Rattle.std.specs.Prelude.{slice_get, slice_index, slice_range, get_or, Result, Ok, Err, IfOk, IsNone, is_some}
+use Rattle.std.proofs.Common.{◌≡◌, ◌≢◌, ℕ, zero, suc, ◌+◌, ◌-◌, ◌<◌, ◌≤◌, ◌%◌, List, [], ◌∷◌, ◌++◌, length, take, drop, Option, Some, None, refl, sym, ap, ◌∙◌, inl, inr, ◌⊎◌, zero-add, arith}
+use Rattle.std.specs.Prelude.{slice_get, slice_index, slice_range, get_or, Result, Ok, Err, IfOk, IsNone}
 use Rattle.std.specs.Option.{unwrap_or}
 use Rattle.std.proofs.lemmas.Bool.{cases_lt, cases_eq, lt-ltb, le-ltb}
 use Rattle.std.proofs.lemmas.Option.{same_Some, none-some, slice_get_past, slice_get_read}
@@ -9,10 +9,10 @@ use Rattle.vp_base.specs.declared.limits.Limits.{Limits}
 use Rattle.vp_head.specs.declared.fields.Tag.{Tag}
 use Rattle.vp_head.specs.declared.fields.KeyTag.{KeyTag}
 use Rattle.vp_head.specs.declared.fault.PacketFault.{PacketFault}
-use Rattle.vp_head.specs.Saved.{defaults}
+use Rattle.vp_head.specs.declared.fault.PacketFault.TheVariants.{NoReference}
 use Rattle.vp_head.specs.Tag.{IsKeyPacket, IsInterPacket, tag_of}
 use Rattle.vp_ivf.specs.declared.packet.Packet.{Packet}
-use Rattle.vp_decode.specs.Step.{Kept, Answer, Decoding, step, after, step_on, opened, opened_tag, opened_saved}
+use Rattle.vp_decode.specs.Step.{Kept, Basis, ◌>>=◌, basis_of, opened_over, opened, decoded, Answer, Decoding, step, after}
 use Rattle.vp_stream.specs.Answers.{answers_from}
 use Rattle.vp_stream.specs.Seeking.{Told, NoPacket, told_of, told_or_none, work_of, answer_at, state_after, HasKey, IsKeyAt, IsKeyBefore, first_of, key_before}
 use Rattle.vp_stream.proofs.KeyLemmas.{is_key_before}
@@ -68,14 +68,13 @@ from_key limits ps n k p reset there key le =
 abbrev pub SaysInter : Limits → Type 0
 SaysInter limits = (packet : List ℕ) → IsInterPacket packet → IfOk (tag_of limits packet) (λ tag. IsNone tag.key)
 
-without_key : (key : Option KeyTag) → IsNone key → is_some key ≡ false
-without_key None h = refl
-without_key (Some k) h = absurd cc
+no_basis : (key : Option KeyTag) → IsNone key → basis_of key None ≡ Err NoReference
+no_basis None h = refl
+no_basis (Some k) h = absurd cc
 
-none_kept : (r : Result Tag PacketFault) (b : List ℕ) → IfOk r (λ tag. IsNone tag.key) → (step_on (opened_tag r None b) None).0 ≡ None
+none_kept : (r : Result Tag PacketFault) (b : List ℕ) → IfOk r (λ tag. IsNone tag.key) → (decoded (r >>= λ (tag : Tag). basis_of tag.key None >>= λ (basis : Basis). opened_over tag basis b)).0 ≡ None
 none_kept (Err f) b h = refl
-none_kept (Ok tag) b h =
-    ap (λ (x : Bool). (step_on (opened_saved tag (cond x (Some defaults) None) b) None).0) (without_key tag.key h)
+none_kept (Ok tag) b h = ap (λ (r : Result Basis PacketFault). (decoded (r >>= λ (basis : Basis). opened_over tag basis b)).0) (no_basis tag.key h)
 
 short : (limits : Limits) (b : List ℕ) → length b < 3 → IfOk (tag_of limits b) (λ tag. IsNone tag.key)
 unfolding tag_of

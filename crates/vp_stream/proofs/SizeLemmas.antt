@@ -1,28 +1,24 @@
 -- The sizes of shown pictures: frames keep the size of the key frame before them.
-use Rattle.std.proofs.Common.{◌≡◌, ℕ, zero, suc, ◌+◌, ◌-◌, ◌<◌, ◌≤◌, Bool, true, false, cond, List, [], ◌∷◌, drop, Option, Some, None, refl, sym, ap, ◌∙◌, arith}
+use Rattle.std.proofs.Common.{◌≡◌, ℕ, zero, suc, ◌+◌, ◌-◌, ◌<◌, ◌≤◌, Bool, true, false, cond, List, [], ◌∷◌, drop, Option, Some, None, refl, sym, ap, subst, ◌∙◌, arith}
 use Rattle.std.specs.Prelude.{slice_get, Result, Ok, Err, IfOk, IfSome, IsNone, IsSome, is_some, nat_lt, length, option_map}
 use Rattle.std.proofs.lemmas.Option.{same_Some, none-some}
-use Rattle.vp_bool.specs.Bools.{State, start}
 use Rattle.vp_base.specs.declared.place.Place.{Place}
 use Rattle.vp_base.specs.declared.limits.Limits.{Limits}
 use Rattle.vp_base.specs.Image.{Image, blank_image, macroblocks}
 use Rattle.vp_base.specs.Over.{over}
 use Rattle.vp_head.specs.declared.fields.Tag.{Tag}
 use Rattle.vp_head.specs.declared.fields.KeyTag.{KeyTag}
-use Rattle.vp_head.specs.declared.fields.Saved.{Saved}
-use Rattle.vp_head.specs.declared.fields.Header.{Header}
 use Rattle.vp_head.specs.declared.fault.PacketFault.{PacketFault}
-use Rattle.vp_head.specs.declared.fault.PacketFault.TheVariants.{FirstPartition, NoReference}
-use Rattle.vp_head.specs.Saved.{defaults}
-use Rattle.vp_head.specs.Header.{header}
+use Rattle.vp_head.specs.declared.fault.PacketFault.TheVariants.{NoReference}
 use Rattle.vp_head.specs.Tag.{IsKeyPacket, tag_of}
 use Rattle.vp_ivf.specs.declared.packet.Packet.{Packet}
 use Rattle.vp_recon.specs.Rebuilt.{row_rebuilt}
 use Rattle.vp_loop.specs.declared.strength.Level.{Level}
 use Rattle.vp_loop.specs.Filtered.{filtered, row_filtered}
 use Rattle.vp_decode.specs.Frame.{Frame, unfiltered, picture_of}
-use Rattle.vp_tokens.specs.Partitions.{cut_of}
-use Rattle.vp_decode.specs.Step.{Opened, Kept, Answer, Shown, Hidden, Fault, step, step_on, frame_step, kept_step, key_frame, inter_frame, key_kept, inter_kept, shown_after, shown_again, repeated, answer, opened, opened_tag, opened_saved, opened_parts, first_part, tag_length, count_of}
+use Rattle.vp_decode.specs.Step.{Kept, standing, Basis, key_basis, inter_basis, basis_of, Opened, opened, said, shown_after, Answer, Shown, Hidden, Fault, answer, decoded, shown_again, repeated, step}
+use Rattle.vp_decode.proofs.SizeLemmas.{newest_is}
+use Rattle.vp_decode.proofs.CutLemmas.{opened-is}
 use Rattle.vp_stream.specs.Answers.{answers_from}
 use Rattle.vp_stream.specs.Seeking.{told_or_none, answer_at, HasKey, IsKeyAt, IsKeyBefore, key_before, size_in, size_in_key, size_in_packet, size_at}
 use Rattle.vp_stream.specs.Seeking as told_is
@@ -71,12 +67,6 @@ shown_is : (show : Bool) (p q : Image) → answer show p ≡ Shown q → p ≡ q
 shown_is true p q e = cc
 shown_is false p q e = absurd cc
 
-kept_sized : (o : Opened) (k : Kept) (z : Option (ℕ × ℕ)) → HasSize (Some k) z → IsSized (kept_step o k) z
-kept_sized o k z h = record {
-  kept = h;
-  shown = λ p is_shown. h.0 ∙ ap (λ (q : Image). Some (size_of q)) (shown_is o.tag.show k.references.newest p is_shown);
-}
-
 shown_sized : (show : Bool) (p : Image) (before : Option Image) (z : Option (ℕ × ℕ)) → z ≡ Some (size_of p) → IfSome before (λ q. z ≡ Some (size_of q))
     → IfSome (shown_after show p before) (λ q. z ≡ Some (size_of q))
 shown_sized true p before z e h = e
@@ -87,55 +77,47 @@ again_is : (before : Option Image) (p : Image) (z : Option (ℕ × ℕ)) → IfS
 again_is None p z h e = absurd cc
 again_is (Some q) p z h e = h ∙ ap (λ (x : Image). Some (size_of x)) (let same : q ≡ p = cc in same)
 
-repeated_sized : (s : Option Kept) (z : Option (ℕ × ℕ)) → HasSize s z → IsSized (repeated s) z
+repeated_sized : (s : Option Kept) (z : Option (ℕ × ℕ)) → HasSize s z → IsSized (repeated (standing s)) z
 repeated_sized None z h = faulty NoReference z
 repeated_sized (Some k) z h = record { kept = h; shown = λ p e. again_is k.shown p z h.1 e }
+
+-- what a frame is decoded over has this size
+abbrev IsOver : Basis → Option (ℕ × ℕ) → Type 0
+IsOver b z = (z ≡ Some (b.width, b.height)) × IfSome b.shown (λ p. z ≡ Some (size_of p))
+
+decoded_sized : (r : Result Opened PacketFault) (z : Option (ℕ × ℕ)) → ((o : Opened) → r ≡ Ok o → IsOver o.basis z) → IsSized (decoded r) z
+decoded_sized (Err f) z over = faulty f z
+decoded_sized (Ok o) z over =
+    let p : Image = picture_of (said o) in
+    let h : IsOver o.basis z = over o refl in
+    let e : z ≡ Some (size_of p) = h.0 ∙ ap (λ (x : ℕ × ℕ). Some x) (sym (picture-size (said o))) in
+    record {
+      kept = (e ∙ ap (λ (q : Image). Some (size_of q)) (sym (newest_is o.basis.references o.header p)), shown_sized o.tag.show p o.basis.shown z e h.1);
+      shown = λ q is_shown. e ∙ ap (λ (x : Image). Some (size_of x)) (shown_is o.tag.show p q is_shown);
+    }
 
 -- the size after a frame whose tag has this key part
 abbrev Follows : Option KeyTag → Option Kept → Option (ℕ × ℕ) → Type 0
 Follows (Some key) s z = z ≡ Some (key.dim.w, key.dim.h)
 Follows None s z = HasSize s z
 
-frame_sized : (o : Opened) (key : Option KeyTag) (s : Option Kept) (z : Option (ℕ × ℕ)) → Follows key s z → IsSized (frame_step o key s) z
-frame_sized o (Some key) s z h =
-    let e : z ≡ Some (size_of (picture_of (key_frame o key.dim))) = h ∙ ap (λ (x : ℕ × ℕ). Some x) (sym (picture-size (key_frame o key.dim))) in
-    kept_sized o (key_kept o key.dim) z (e, shown_sized o.tag.show (picture_of (key_frame o key.dim)) None z e tt)
-frame_sized o None None z h = faulty _ z
-frame_sized o None (Some k) z h =
-    let e : z ≡ Some (size_of (picture_of (inter_frame o k))) = h.0 ∙ ap (λ (x : ℕ × ℕ). Some x) (sym (picture-size (inter_frame o k))) in
-    kept_sized o (inter_kept o k) z (e, shown_sized o.tag.show (picture_of (inter_frame o k)) k.shown z e h.1)
-
-parts_sized : (tag : Tag) (read : (Header × Saved) × State) (parts : Result (List (List ℕ)) PacketFault) (s : Option Kept) (z : Option (ℕ × ℕ))
-    → Follows tag.key s z → IsSized (step_on (opened_parts tag read parts) s) z
-parts_sized tag read (Err f) s z h = faulty f z
-parts_sized tag read (Ok parts) s z h = frame_sized (record { tag = tag; header = read.0.0; saved = read.0.1; first = read.1; partitions = parts }) tag.key s z h
-
-short_sized : (b : Bool) (f : PacketFault) (r : Result Opened PacketFault) (s : Option Kept) (z : Option (ℕ × ℕ))
-    → IsSized (step_on r s) z → IsSized (step_on (cond b (Err f) r) s) z
-short_sized true f r s z h = faulty f z
-short_sized false f r s z h = h
-
-saved_sized : (tag : Tag) (saved : Option Saved) (s : Option Kept) (z : Option (ℕ × ℕ)) (packet : List ℕ)
-    → Follows tag.key s z → IsSized (step_on (opened_saved tag saved packet) s) z
-saved_sized tag None s z packet h = faulty _ z
-saved_sized tag (Some saved) s z packet h =
-    let read : (Header × Saved) × State = header saved tag (start (first_part tag packet)) in
-    let parts : Result (List (List ℕ)) PacketFault = cut_of (drop (tag_length tag + tag.first_partition) packet) (count_of read.0.0.log2_partitions) in
-    short_sized (nat_lt (length packet) (tag_length tag + tag.first_partition)) FirstPartition (opened_parts tag read parts) s z (parts_sized tag read parts s z h)
+basis_sized : (key : Option KeyTag) (s : Option Kept) (b : Basis) (z : Option (ℕ × ℕ)) → basis_of key s ≡ Ok b → Follows key s z → IsOver b z
+basis_sized (Some key) s b z e h = let same : key_basis key.dim ≡ b = cc in subst (λ (x : Basis). IsOver x z) same (h, tt)
+basis_sized None None b z e h = absurd cc
+basis_sized None (Some k) b z e h = let same : inter_basis k ≡ b = cc in subst (λ (x : Basis). IsOver x z) same h
 
 abbrev FollowsIn : Result Tag PacketFault → Option Kept → Option (ℕ × ℕ) → Type 0
 FollowsIn (Err f) s z = Unit {0}
 FollowsIn (Ok tag) s z = Follows tag.key s z
 
-tag_sized : (r : Result Tag PacketFault) (saved : Option Saved) (s : Option Kept) (z : Option (ℕ × ℕ)) (packet : List ℕ)
-    → FollowsIn r s z → IsSized (step_on (opened_tag r saved packet) s) z
-tag_sized (Err f) saved s z packet h = faulty f z
-tag_sized (Ok tag) saved s z packet h = saved_sized tag (cond (is_some tag.key) (Some defaults) saved) s z packet h
-
 step_sized : (limits : Limits) (s : Option Kept) (packet : List ℕ) (z : Option (ℕ × ℕ)) → FollowsIn (tag_of limits packet) s z → (length packet ≡ 0 → HasSize s z) → IsSized (step limits s packet) z
-unfolding step opened
+unfolding step
 step_sized limits s [] z h none = repeated_sized s z (none refl)
-step_sized limits s (b ∷ bs) z h none = tag_sized (tag_of limits (b ∷ bs)) (option_map (λ k. k.saved) s) s z (b ∷ bs) h
+step_sized limits s (b ∷ bs) z h none =
+    decoded_sized (opened limits s (b ∷ bs)) z
+    (λ o e.
+    let is = opened-is limits s (b ∷ bs) o e in
+    basis_sized o.tag.key s o.basis z is.basis_is (subst (λ (r : Result Tag PacketFault). FollowsIn r s z) is.tag_is h))
 
 -- ---- key packets, and others
 
