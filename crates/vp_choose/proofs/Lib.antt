@@ -6,6 +6,7 @@ pub mod After
 pub mod Restored
 pub mod Moving
 pub mod Giving
+pub mod Found
 pub mod OneLuma
 pub mod OneMotion
 pub mod OneChoice

@@ -1,24 +1,21 @@
 -- Two choices for one macroblock are one.
-use Rattle.std.proofs.Common.{◌≡◌, ◌∙◌, ℕ, ℤ, pos, ◌+◌, ◌-◌, ◌*◌, ◌<◌, ◌≤◌, Bool, true, false, not, List, length, get_or, replicate, Option, Some, None, refl, sym, ap, ap₂, subst, arith, inl, inr, ext_get_or, true≢false, if◌then◌else◌}
+use Rattle.std.proofs.Common.{◌≡◌, ◌∙◌, ℕ, ℤ, pos, ◌+◌, ◌-◌, ◌*◌, ◌<◌, Bool, false, not, List, get_or, replicate, Option, Some, None, sym, ap, subst, arith, inl, inr, ext_get_or, true≢false, if◌then◌else◌}
 use Rattle.std.specs.Prelude.{slice_set}
 use Rattle.std.proofs.lemmas.Bool.{cases_lt}
 use Rattle.vp_base.specs.declared.place.Place.{Place}
 use Rattle.vp_base.specs.Grid.{Grid}
 use Rattle.vp_base.specs.Image.{Image}
 use Rattle.vp_tables.specs.declared.modes.SubMode.{SubMode}
-use Rattle.vp_tables.specs.declared.modes.LumaMode.{LumaMode}
-use Rattle.vp_tables.specs.declared.modes.ChromaMode.{ChromaMode}
 use Rattle.vp_tables.specs.declared.modes.SubMode.TheVariants as sub_is
 use Rattle.vp_tables.specs.Modes.{is_by_subblocks}
-use Rattle.vp_head.specs.declared.fields.Reference.{Reference}
 use Rattle.vp_head.specs.declared.fields.Reference.TheVariants as reference_is
 use Rattle.vp_head.specs.Reference.{is_intra}
 use Rattle.vp_modes.specs.Entry.{Modes}
 use Rattle.vp_modes.specs.Modes.{unread}
-use Rattle.vp_motion.specs.Vector.{Vector, Entry}
+use Rattle.vp_motion.specs.Vector.{Entry}
 use Rattle.vp_motion.specs.Near.{candidates}
 use Rattle.vp_tokens.specs.declared.contexts.Tokens.{Tokens}
-use Rattle.vp_tokens.specs.Block.{Block, IsBlock, IsTight, level_of, no_tokens}
+use Rattle.vp_tokens.specs.Block.{Block, IsBlock, IsTight, no_tokens}
 use Rattle.vp_tokens.specs.Blocks.{block_of as tokens_of, any_token}
 use Rattle.vp_tokens.specs.Spelled.{AreTight}
 use Rattle.vp_quant.specs.declared.factors.Factors.{Factors}
@@ -31,9 +28,9 @@ use Rattle.vp_choose.specs.declared.motion.Moved.{Moved}
 use Rattle.vp_choose.specs.declared.frame.Choice.{Choice}
 use Rattle.vp_choose.specs.Costs.{block_of}
 use Rattle.vp_choose.specs.Levels.{HasLumaAndY2, HasChroma, levels_of, firsts, part_coefficients}
-use Rattle.vp_choose.specs.Frame.{Frame, Search, entry_of, no_biases}
-use Rattle.vp_choose.specs.Intra.{IsIntra, HasSubblocks}
-use Rattle.vp_choose.specs.Inter.{IsInter, IsFirstGiving, moved_source, vector_of}
+use Rattle.vp_choose.specs.Frame.{Frame, Search, no_biases}
+use Rattle.vp_choose.specs.Intra.{IsIntra}
+use Rattle.vp_choose.specs.Inter.{IsInter, moved_source, vector_of}
 use Rattle.vp_choose.specs.Choice.{IsChoice, IsTaken, IsWeighed, IsIntraChoice}
 use Rattle.vp_choose.specs.One.{IsWhole, AreOne, ChoiceIsOne}
 use Rattle.vp_choose.proofs.OneLuma.{either, AreSameLuma, luma_is_one, chroma_is_one}

@@ -1,6 +1,5 @@
 -- What is chosen for the motion of a macroblock is one.
-use Rattle.std.proofs.Common.{◌≡◌, ◌∙◌, ℕ, ◌<◌, ◌≤◌, true, false, refl, sym, ap, subst, arith, inl, inr}
-use Rattle.std.specs.Prelude.{◌≤ℤ◌}
+use Rattle.std.proofs.Common.{◌≡◌, ◌∙◌, ℕ, refl, sym, ap, subst, arith, inl, inr}
 use Rattle.std.proofs.lemmas.Int.{ints}
 use Rattle.std.proofs.lemmas.Bool.{cases_lt}
 use Rattle.vp_base.specs.declared.place.Place.{Place}
@@ -10,7 +9,6 @@ use Rattle.vp_tables.specs.declared.modes.VectorMode.TheVariants as vector_is
 use Rattle.vp_head.specs.declared.fields.Reference.TheVariants as reference_is
 use Rattle.vp_motion.specs.Vector.{Vector, Candidates}
 use Rattle.vp_search.specs.declared.vector.WholeVector.{WholeVector}
-use Rattle.vp_search.specs.declared.vector.QuarterVector.{QuarterVector}
 use Rattle.vp_search.specs.declared.vector.Refined.{Refined}
 use Rattle.vp_search.specs.Vectors.{size, quarters}
 use Rattle.vp_search.specs.Blocks.{whole_cost}

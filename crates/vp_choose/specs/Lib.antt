@@ -1,4 +1,5 @@
 pub mod Costs
+pub mod Cut
 pub mod Levels
 pub mod Gathered
 pub mod Subblocks

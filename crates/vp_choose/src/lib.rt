@@ -1,6 +1,7 @@
 //! What the encoder chooses for one macroblock: its modes, its vector and its levels. RFC 6386 leaves all of it open.
 #![tactic(auto)]
 
+mod blocks;
 mod chroma;
 mod difference;
 mod frame;
@@ -9,6 +10,8 @@ mod levels;
 mod luma;
 mod macroblock;
 mod motion;
+#[cfg(test)]
+mod order_tests;
 mod subblocks;
 #[cfg(test)]
 mod tests;

@@ -2,7 +2,7 @@
 
 ghost use Rattle.std.specs.Prelude.{◌≡◌, ℕ, ◌+◌, ◌*◌, ◌≤◌};
 ghost use Rattle.vp_intra.specs.Edges.{block as listed};
-ghost use Rattle.vp_choose.specs.Costs.{HasMacroblock, block_of, whole_cost};
+ghost use Rattle.vp_choose.specs.Costs.{HasMacroblock, whole_cost};
 ghost use Rattle.vp_choose.specs.Levels.{ArePositive};
 ghost use Rattle.vp_choose.specs.Gathered.{AreSmall};
 ghost use Rattle.vp_choose.specs.Intra.{IsLuma};
@@ -11,7 +11,7 @@ use crate::subblocks::{Subblocks, choose_subblocks};
 use vp_base::{Picture, Place, Plane};
 use vp_intra::predict_luma;
 use vp_quant::Factors;
-use vp_search::{first_least, macroblock, sad16};
+use vp_search::{first_least, sad16};
 use vp_tables::LumaMode;
 
 /// The modes in the order in which ties are broken.
@@ -31,15 +31,6 @@ pub(crate) struct Luma {
     pub(crate) cost: u32,
 }
 
-/// The luma of a macroblock, row after row.
-pub(crate) fn luma_block(plane: &Plane, place: Place) -> [u8; 256]
-    requires columns { 16 * place.column + 16 ≤ plane.now.width }
-    requires rows { 16 * place.row + 16 ≤ plane.now.height }
-    ensures { result ≡ listed 16 (block_of 16 plane.now place) }
-{
-    macroblock(plane, place)
-}
-
 fn cost_of(block: &[u8; 256], plane: &Plane, place: Place, mode: LumaMode) -> u32
     requires columns { 16 * place.column + 16 ≤ plane.now.width }
     requires rows { 16 * place.row + 16 ≤ plane.now.height }
@@ -52,29 +43,27 @@ fn cost_of(block: &[u8; 256], plane: &Plane, place: Place, mode: LumaMode) -> u3
     sad16(block, &prediction)
 }
 
-/// The best luma mode of a macroblock. The picture is afterwards as it was.
+/// The best luma mode of a macroblock whose source is `block`. The picture is afterwards as it was.
 pub(crate) fn choose_luma(
-    source: &Picture,
+    block: &[u8; 256],
     factors: &Factors,
     picture: &mut Picture,
     place: Place,
 ) -> Luma
-    requires source { HasMacroblock source.now place }
     requires picture { HasMacroblock picture.old place }
     requires factors { ArePositive factors.now }
-    ensures luma { IsLuma (block_of 16 source.now.luma place) factors.now place picture.old.luma result }
+    ensures luma { (f : ℕ → ℕ → ℕ) → block.now ≡ listed 16 f → IsLuma f factors.now place picture.old.luma result }
     ensures kept { picture.new ≡ picture.old }
     ensures within { AreSmall result.subblocks.levels }
 {
-    let _dims = [source.dim(), picture.dim()];
-    let block = luma_block(source.plane(0), place);
-    let subblocks = choose_subblocks(&block, factors, picture, place);
+    let _dim = picture.dim();
+    let subblocks = choose_subblocks(block, factors, picture, place);
     let plane = picture.plane(0);
     let costs = [
-        cost_of(&block, plane, place, LumaMode::Dc),
-        cost_of(&block, plane, place, LumaMode::V),
-        cost_of(&block, plane, place, LumaMode::H),
-        cost_of(&block, plane, place, LumaMode::Tm),
+        cost_of(block, plane, place, LumaMode::Dc),
+        cost_of(block, plane, place, LumaMode::V),
+        cost_of(block, plane, place, LumaMode::H),
+        cost_of(block, plane, place, LumaMode::Tm),
         subblocks.cost + 128,
     ];
     let best = first_least(&costs);

@@ -1,8 +1,8 @@
 //! The choice for one macroblock.
 
-ghost use Rattle.std.specs.Prelude.{◌≡◌, ◌*◌, ◌<◌, ◌≤◌, true, false, not, IfSome, replicate, if◌then◌else◌};
+ghost use Rattle.std.specs.Prelude.{◌≡◌, ℕ, ◌*◌, ◌<◌, ◌≤◌, true, false, not, IfSome, replicate, if◌then◌else◌};
 ghost use Rattle.vp_base.specs.Grid.{Has};
-ghost use Rattle.vp_base.specs.Image.{macroblocks};
+ghost use Rattle.vp_base.specs.Image.{Image, macroblocks};
 ghost use Rattle.vp_base.specs.Raster.{Raster};
 ghost use Rattle.vp_base.specs.Rows.{AreOneSize};
 ghost use Rattle.vp_tables.specs.Modes.{is_by_subblocks};
@@ -13,11 +13,13 @@ ghost use Rattle.vp_motion.specs.Near.{candidates};
 ghost use Rattle.vp_motion.specs.Spelled.{CanBeWritten};
 ghost use Rattle.vp_tokens.specs.Blocks.{any_token, no_blocks};
 ghost use Rattle.vp_tokens.specs.Spelled.{AreSpelled, AreTight};
+ghost use Rattle.vp_intra.specs.Edges.{block as listed};
 ghost use Rattle.vp_intra.specs.Whole.{luma_pixel, chroma_pixel};
 ghost use Rattle.vp_recon.specs.Source.{Intra, Inter, macroblock_of, has_y2};
 ghost use Rattle.vp_recon.specs.Prediction.{luma_prediction, chroma_prediction};
 ghost use Rattle.vp_recon.specs.Rebuilt.{rebuilt};
-ghost use Rattle.vp_choose.specs.Costs.{HasMacroblock, block_of};
+ghost use Rattle.vp_choose.specs.Costs.{HasMacroblock};
+ghost use Rattle.vp_choose.specs.Cut.{AreCut};
 ghost use Rattle.vp_choose.specs.Levels.{ArePositive, HasLumaAndY2, HasChroma};
 ghost use Rattle.vp_choose.specs.Gathered.{AreSmall};
 ghost use Rattle.vp_choose.specs.Intra.{IsIntra, HasSubblocks};
@@ -25,6 +27,7 @@ ghost use Rattle.vp_choose.specs.Frame.{frame_of, search_of, source_by, no_biase
 ghost use Rattle.vp_choose.specs.Inter.{IsInter, IsShort, moved_source, vector_of};
 ghost use Rattle.vp_choose.specs.Choice.{IsChoice};
 
+use crate::blocks::{Blocks, cut_blocks};
 use crate::chroma::choose_chroma;
 use crate::frame::{Choice, Frame, Search};
 use crate::luma::{Luma, choose_luma};
@@ -44,36 +47,35 @@ use vp_tokens::Tokens;
 
 /// The levels of an intra macroblock.
 fn intra_tokens(
-    source: &Picture,
+    blocks: &Blocks,
     factors: &Factors,
     picture: &Picture,
     place: Place,
     luma: &Luma,
     mode: ChromaMode,
 ) -> Tokens
-    requires source { HasMacroblock source.now place }
     requires picture { HasMacroblock picture.now place }
     requires factors { ArePositive factors.now }
     requires small { AreSmall luma.now.subblocks.levels }
     ensures by_subblocks { is_by_subblocks luma.now.mode ≡ true → HasSubblocks luma.now.subblocks result }
-    ensures at_once { is_by_subblocks luma.now.mode ≡ false → HasLumaAndY2 (block_of 16 source.now.luma place) (luma_pixel luma.now.mode picture.now.luma (16 * place.column) (16 * place.row)) factors.now result }
-    ensures u { HasChroma (block_of 8 source.now.u place) (chroma_pixel mode picture.now.u (8 * place.column) (8 * place.row)) factors.now result 1 }
-    ensures v { HasChroma (block_of 8 source.now.v place) (chroma_pixel mode picture.now.v (8 * place.column) (8 * place.row)) factors.now result 2 }
+    ensures at_once { (f : ℕ → ℕ → ℕ) → blocks.now.luma ≡ listed 16 f → is_by_subblocks luma.now.mode ≡ false → HasLumaAndY2 f (luma_pixel luma.now.mode picture.now.luma (16 * place.column) (16 * place.row)) factors.now result }
+    ensures u { (f : ℕ → ℕ → ℕ) → blocks.now.u ≡ listed 8 f → HasChroma f (chroma_pixel mode picture.now.u (8 * place.column) (8 * place.row)) factors.now result 1 }
+    ensures v { (f : ℕ → ℕ → ℕ) → blocks.now.v ≡ listed 8 f → HasChroma f (chroma_pixel mode picture.now.v (8 * place.column) (8 * place.row)) factors.now result 2 }
     ensures tight { AreTight result.blocks }
     ensures none { any_token result ≡ false → result.blocks ≡ no_blocks }
     ensures spelled { AreSpelled (not (is_by_subblocks luma.now.mode)) result.blocks }
 {
-    let _dims = [source.dim(), picture.dim()];
+    let _dim = picture.dim();
     let [x, y] = [8 * place.column, 8 * place.row];
     let u = predict_chroma(picture.plane(1), x, y, mode);
     let v = predict_chroma(picture.plane(2), x, y, mode);
-    let chroma = chroma_of(source, factors, place, &u, &v);
+    let chroma = chroma_of(blocks, factors, &u, &v);
     if luma.mode.is_by_subblocks() {
         return tokens_without_y2(&luma.subblocks.levels, &chroma);
     }
     let [x, y] = [16 * place.column, 16 * place.row];
     let prediction = predict_luma(picture.plane(0), x, y, luma.mode);
-    tokens_with_y2(source, factors, place, &prediction, &chroma)
+    tokens_with_y2(&blocks.luma, factors, &prediction, &chroma)
 }
 
 /// The intra modes of a macroblock, by its levels.
@@ -96,17 +98,16 @@ fn intra_modes(luma: &Luma, chroma: ChromaMode, tokens: &Tokens) -> Modes
 }
 
 fn choose_intra(
-    source: &Picture,
+    blocks: &Blocks,
     factors: &Factors,
     picture: &mut Picture,
     place: Place,
     luma: &Luma,
 ) -> Choice
-    requires source { HasMacroblock source.now place }
     requires picture { HasMacroblock picture.old place }
     requires factors { ArePositive factors.now }
     requires small { AreSmall luma.now.subblocks.levels }
-    ensures intra { IsIntra source.now factors.now place picture.old luma.now result.modes result.tokens }
+    ensures intra { (source : Image) → AreCut source place blocks.now → IsIntra source factors.now place picture.old luma.now result.modes result.tokens }
     ensures rebuilt { picture.new ≡ rebuilt (macroblock_of (Intra result.modes) result.tokens factors.now) place picture.old }
     ensures segment { result.modes.segment ≡ 0 }
     ensures skip { result.modes.skip ≡ not (any_token result.tokens) }
@@ -115,8 +116,8 @@ fn choose_intra(
     ensures spelled { AreSpelled (has_y2 (Intra result.modes)) result.tokens.blocks }
     ensures vectors { result.motion.vectors ≡ replicate 16 still }
 {
-    let chroma = choose_chroma(source, picture, place);
-    let tokens = intra_tokens(source, factors, picture, place, luma, chroma);
+    let chroma = choose_chroma(blocks, picture, place);
+    let tokens = intra_tokens(blocks, factors, picture, place, luma, chroma);
     let modes = intra_modes(luma, chroma, &tokens);
     rebuild_macroblock(picture, place, &Source::Intra(&modes), &tokens, factors);
     let motion = Motion {
@@ -132,33 +133,34 @@ fn choose_intra(
 
 /// The levels of an inter macroblock.
 fn inter_tokens(
-    source: &Picture,
+    blocks: &Blocks,
     factors: &Factors,
     reference: &Picture,
     place: Place,
     moved: &Moved,
 ) -> Tokens
-    requires source { HasMacroblock source.now place }
+    requires columns { 16 * place.column ≤ 16384 }
+    requires rows { 16 * place.row ≤ 16384 }
     requires factors { ArePositive factors.now }
     requires short { IsShort moved.now.vector }
-    ensures luma { (e : Entry) (p : Raster) → e.vectors ≡ replicate 16 (vector_of moved.now) → HasLumaAndY2 (block_of 16 source.now.luma place) (luma_prediction (Inter e reference.now 0) place p) factors.now result }
-    ensures u { (e : Entry) (p : Raster) → e.vectors ≡ replicate 16 (vector_of moved.now) → HasChroma (block_of 8 source.now.u place) (chroma_prediction (Inter e reference.now 0) 1 place p) factors.now result 1 }
-    ensures v { (e : Entry) (p : Raster) → e.vectors ≡ replicate 16 (vector_of moved.now) → HasChroma (block_of 8 source.now.v place) (chroma_prediction (Inter e reference.now 0) 2 place p) factors.now result 2 }
+    ensures luma { (e : Entry) (p : Raster) (f : ℕ → ℕ → ℕ) → e.vectors ≡ replicate 16 (vector_of moved.now) → blocks.now.luma ≡ listed 16 f → HasLumaAndY2 f (luma_prediction (Inter e reference.now 0) place p) factors.now result }
+    ensures u { (e : Entry) (p : Raster) (f : ℕ → ℕ → ℕ) → e.vectors ≡ replicate 16 (vector_of moved.now) → blocks.now.u ≡ listed 8 f → HasChroma f (chroma_prediction (Inter e reference.now 0) 1 place p) factors.now result 1 }
+    ensures v { (e : Entry) (p : Raster) (f : ℕ → ℕ → ℕ) → e.vectors ≡ replicate 16 (vector_of moved.now) → blocks.now.v ≡ listed 8 f → HasChroma f (chroma_prediction (Inter e reference.now 0) 2 place p) factors.now result 2 }
     ensures tight { AreTight result.blocks }
     ensures none { any_token result ≡ false → result.blocks ≡ no_blocks }
     ensures spelled { AreSpelled true result.blocks }
 {
-    let _dims = [source.dim(), reference.dim()];
+    let _dim = reference.dim();
     let [x, y] = [8 * place.column, 8 * place.row];
     let QuarterVector { row, column } = moved.vector;
     let vector = chroma_vector(0, &[row; 4], &[column; 4]);
     let u = predict_block8(reference.plane(1), x, y, vector, 0);
     let v = predict_block8(reference.plane(2), x, y, vector, 0);
-    let chroma = chroma_of(source, factors, place, &u, &v);
+    let chroma = chroma_of(blocks, factors, &u, &v);
     let vector = luma_vector(row, column);
     let [x, y] = [16 * place.column, 16 * place.row];
     let prediction = predict_block16(reference.plane(0), x, y, vector, 0);
-    tokens_with_y2(source, factors, place, &prediction, &chroma)
+    tokens_with_y2(&blocks.luma, factors, &prediction, &chroma)
 }
 
 /// How a macroblock moves, as it is kept.
@@ -174,22 +176,22 @@ fn entry_of(reference: Reference, motion: &Motion) -> Entry
 }
 
 fn choose_inter(
-    frame: &Frame,
+    blocks: &Blocks,
+    factors: &Factors,
     search: &Search,
     picture: &mut Picture,
     vectors: &VectorMap,
     place: Place,
     moved: &Moved,
 ) -> Choice
-    requires source { HasMacroblock (frame_of frame.now).source place }
     requires picture { HasMacroblock picture.old place }
-    requires factors { ArePositive (frame_of frame.now).factors }
+    requires factors { ArePositive factors.now }
     requires place { Has vectors.now place }
     requires map { AreWithin 511 vectors.now }
     requires short { IsShort moved.now.vector }
     requires reference { is_intra moved.now.reference ≡ false }
-    ensures inter { IsInter (frame_of frame.now).source (frame_of frame.now).factors (search_of search.now) vectors.now place picture.old moved.now result }
-    ensures rebuilt { picture.new ≡ rebuilt (macroblock_of (moved_source (search_of search.now) moved.now result) result.tokens (frame_of frame.now).factors) place picture.old }
+    ensures inter { (source : Image) → AreCut source place blocks.now → IsInter source factors.now (search_of search.now) vectors.now place picture.old moved.now result }
+    ensures rebuilt { picture.new ≡ rebuilt (macroblock_of (moved_source (search_of search.now) moved.now result) result.tokens factors.now) place picture.old }
     ensures skip { result.modes.skip ≡ not (any_token result.tokens) }
     ensures tight { AreTight result.tokens.blocks }
     ensures none { any_token result.tokens ≡ false → result.tokens.blocks ≡ no_blocks }
@@ -197,8 +199,9 @@ fn choose_inter(
     ensures written { CanBeWritten (candidates vectors.now place moved.now.reference no_biases) result.motion }
     ensures short { IsWithin 259 (last_of result.motion.vectors) }
 {
+    let _dim = picture.dim();
     let reference = search.references.get(moved.reference);
-    let tokens = inter_tokens(frame.source, frame.factors, reference, place, moved);
+    let tokens = inter_tokens(blocks, factors, reference, place, moved);
     let motion = motion_of(vectors, place, moved);
     let entry = entry_of(moved.reference, &motion);
     let source = Source::Inter {
@@ -206,7 +209,7 @@ fn choose_inter(
         reference,
         version: 0,
     };
-    rebuild_macroblock(picture, place, &source, &tokens, frame.factors);
+    rebuild_macroblock(picture, place, &source, &tokens, factors);
     let modes = Modes {
         segment: 0,
         skip: !tokens.any(),
@@ -246,12 +249,21 @@ pub fn choose_macroblock(
     ensures short { IsWithin 259 (last_of result.motion.vectors) }
 {
     let _dims = [frame.source.dim(), picture.dim()];
-    let luma = choose_luma(frame.source, frame.factors, picture, place);
+    let blocks = cut_blocks(frame.source, place);
+    let luma = choose_luma(&blocks.luma, frame.factors, picture, place);
     if let Some(search) = &frame.search {
-        let moved = choose_reference(search, frame.source.plane(0), place);
+        let moved = choose_reference(search, &blocks.luma, place);
         if moved.cost <= luma.cost {
-            return choose_inter(frame, search, picture, vectors, place, &moved);
+            return choose_inter(
+                &blocks,
+                frame.factors,
+                search,
+                picture,
+                vectors,
+                place,
+                &moved,
+            );
         }
     }
-    choose_intra(frame.source, frame.factors, picture, place, &luma)
+    choose_intra(&blocks, frame.factors, picture, place, &luma)
 }

@@ -2,12 +2,15 @@
 
 ghost use Rattle.std.specs.Prelude.{◌≡◌, ℕ, ◌+◌, ◌*◌, ◌<◌, ◌≤◌, true, false, unsigned_abs, replicate};
 ghost use Rattle.vp_base.specs.Grid.{Has};
+ghost use Rattle.vp_base.specs.Raster.{Raster};
 ghost use Rattle.vp_head.specs.Reference.{is_intra};
 ghost use Rattle.vp_motion.specs.Vector.{IsWithin, last_of};
 ghost use Rattle.vp_motion.specs.Map.{AreWithin};
 ghost use Rattle.vp_motion.specs.Near.{candidates};
 ghost use Rattle.vp_motion.specs.Spelled.{CanBeWritten};
 ghost use Rattle.vp_refs.specs.References.{picture_of};
+ghost use Rattle.vp_intra.specs.Edges.{block as listed};
+ghost use Rattle.vp_choose.specs.Costs.{block_of};
 ghost use Rattle.vp_choose.specs.Frame.{search_of, no_biases};
 ghost use Rattle.vp_choose.specs.Inter.{IsFound, IsMoved, IsFirstGiving, IsShort, found_in, vector_of};
 
@@ -15,7 +18,7 @@ use crate::frame::Search;
 use vp_base::{Place, Plane};
 use vp_head::{Reference, SignBiases};
 use vp_motion::{Candidates, Motion, Vector, VectorMap, near};
-use vp_search::{QuarterVector, Refined, full_search, refine};
+use vp_search::{QuarterVector, Refined, refine_block, search_block};
 use vp_tables::VectorMode;
 
 /// A reference, the vector that is found in it, and what that costs.
@@ -26,19 +29,19 @@ pub(crate) struct Moved {
     pub(crate) cost: u32,
 }
 
-/// The vector that is found in a reference.
-fn find(search: &Search, source: &Plane, reference: &Plane, place: Place) -> Refined
-    requires columns { 16 * place.column + 16 ≤ source.now.width }
-    requires rows { 16 * place.row + 16 ≤ source.now.height }
+/// The vector that is found in a reference for the luma `block` of a macroblock at `place`.
+fn find(search: &Search, block: &[u8; 256], reference: &Plane, place: Place) -> Refined
+    requires columns { 16 * place.column ≤ 16384 }
+    requires rows { 16 * place.row ≤ 16384 }
     requires wide { 0 < reference.now.width }
     requires high { 0 < reference.now.height }
     requires range { search.now.range ≤ 64 }
-    ensures found { IsFound (search_of search.now) source.now reference.now place result }
+    ensures found { (source : Raster) → block.now ≡ listed 16 (block_of 16 source place) → IsFound (search_of search.now) source reference.now place result }
     ensures short { IsShort result.vector }
 {
-    let found = full_search(source, reference, place, search.range);
+    let found = search_block(block, reference, place, search.range);
     if search.subpel {
-        return refine(source, reference, place, found.vector);
+        return refine_block(block, reference, place, found.vector);
     }
     let vector = QuarterVector {
         row: 4 * found.vector.row,
@@ -61,30 +64,30 @@ fn found_in(reference: Reference, found: Refined) -> Moved
 }
 
 /// The vector that is found in one of the references.
-fn find_in(search: &Search, source: &Plane, reference: Reference, place: Place) -> Refined
-    requires columns { 16 * place.column + 16 ≤ source.now.width }
-    requires rows { 16 * place.row + 16 ≤ source.now.height }
+fn find_in(search: &Search, block: &[u8; 256], reference: Reference, place: Place) -> Refined
+    requires columns { 16 * place.column ≤ 16384 }
+    requires rows { 16 * place.row ≤ 16384 }
     requires range { search.now.range ≤ 64 }
-    ensures found { IsFound (search_of search.now) source.now (picture_of search.now.references.now reference).luma place result }
+    ensures found { (source : Raster) → block.now ≡ listed 16 (block_of 16 source place) → IsFound (search_of search.now) source (picture_of search.now.references.now reference).luma place result }
     ensures short { IsShort result.vector }
 {
     let picture = search.references.get(reference);
     let _dim = picture.dim();
-    find(search, source, picture.plane(0), place)
+    find(search, block, picture.plane(0), place)
 }
 
 /// The reference and the vector of a macroblock, if it is moved.
-pub(crate) fn choose_reference(search: &Search, source: &Plane, place: Place) -> Moved
-    requires columns { 16 * place.column + 16 ≤ source.now.width }
-    requires rows { 16 * place.row + 16 ≤ source.now.height }
+pub(crate) fn choose_reference(search: &Search, block: &[u8; 256], place: Place) -> Moved
+    requires columns { 16 * place.column ≤ 16384 }
+    requires rows { 16 * place.row ≤ 16384 }
     requires range { search.now.range ≤ 64 }
-    ensures moved { IsMoved (search_of search.now) source.now place result }
+    ensures moved { (source : Raster) → block.now ≡ listed 16 (block_of 16 source place) → IsMoved (search_of search.now) source place result }
     ensures short { IsShort result.vector }
     ensures inter { is_intra result.reference ≡ false }
 {
-    let last = find_in(search, source, Reference::Last, place);
+    let last = find_in(search, block, Reference::Last, place);
     if search.golden {
-        let golden = find_in(search, source, Reference::Golden, place);
+        let golden = find_in(search, block, Reference::Golden, place);
         if golden.cost < last.cost {
             return found_in(Reference::Golden, golden);
         }
@@ -93,7 +96,7 @@ pub(crate) fn choose_reference(search: &Search, source: &Plane, place: Place) ->
 }
 
 /// The first mode that gives a vector.
-fn mode_of(candidates: &Candidates, vector: Vector) -> VectorMode
+pub(crate) fn mode_of(candidates: &Candidates, vector: Vector) -> VectorMode
     ensures { IsFirstGiving candidates.now vector result }
 {
     if candidates.can_give(VectorMode::Zero, vector) {

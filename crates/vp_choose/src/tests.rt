@@ -9,7 +9,7 @@ use vp_refs::Refs;
 use vp_tables::{ChromaMode, LumaMode, SubMode, VectorMode};
 
 /// Those of quantiser index 0.
-const FACTORS: Factors = Factors {
+pub(crate) const FACTORS: Factors = Factors {
     y_dc: 4,
     y_ac: 4,
     y2_dc: 8,

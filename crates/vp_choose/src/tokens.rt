@@ -6,14 +6,11 @@ ghost use Rattle.vp_tokens.specs.Spelled.{AreSpelled, AreTight};
 ghost use Rattle.vp_transform.specs.Fits.{EachWithin};
 ghost use Rattle.vp_transform.specs.Forward.{fwht};
 ghost use Rattle.vp_intra.specs.Edges.{block as listed};
-ghost use Rattle.vp_choose.specs.Costs.{HasMacroblock, block_of};
 ghost use Rattle.vp_choose.specs.Levels.{ArePositive, HasLumaAndY2, firsts, levels_of, part_coefficients};
 ghost use Rattle.vp_choose.specs.Gathered.{AreListed, AreSmall, IsGathered, gathered};
 
-use crate::chroma::chroma_block;
+use crate::blocks::Blocks;
 use crate::levels::{coefficients, levels_of, part_of};
-use crate::luma::luma_block;
-use vp_base::{Picture, Place};
 use vp_quant::Factors;
 use vp_tokens::Tokens;
 use vp_transform::fwht;
@@ -95,26 +92,17 @@ pub(crate) struct Chroma {
     v: Levels<4>,
 }
 
-pub(crate) fn chroma_of(
-    source: &Picture,
-    factors: &Factors,
-    place: Place,
-    u: &[u8; 64],
-    v: &[u8; 64],
-) -> Chroma
-    requires place { HasMacroblock source.now place }
-    requires factors { ArePositive factors.now }
-    ensures u { (g : ℕ → ℕ → ℕ) → u.now ≡ listed 8 g → AreListed 4 result.u (λ k. levels_of (part_coefficients 2 (block_of 8 source.now.u place) g k) factors.now.uv_dc factors.now.uv_ac) }
-    ensures v { (g : ℕ → ℕ → ℕ) → v.now ≡ listed 8 g → AreListed 4 result.v (λ k. levels_of (part_coefficients 2 (block_of 8 source.now.v place) g k) factors.now.uv_dc factors.now.uv_ac) }
+/// The levels of both, from their predictions.
+pub(crate) fn chroma_of(blocks: &Blocks, factors: &Factors, u: &[u8; 64], v: &[u8; 64]) -> Chroma
+    requires { ArePositive factors.now }
+    ensures u { (f g : ℕ → ℕ → ℕ) → blocks.now.u ≡ listed 8 f → u.now ≡ listed 8 g → AreListed 4 result.u (λ k. levels_of (part_coefficients 2 f g k) factors.now.uv_dc factors.now.uv_ac) }
+    ensures v { (f g : ℕ → ℕ → ℕ) → blocks.now.v ≡ listed 8 f → v.now ≡ listed 8 g → AreListed 4 result.v (λ k. levels_of (part_coefficients 2 f g k) factors.now.uv_dc factors.now.uv_ac) }
     ensures within_u { AreSmall result.u }
     ensures within_v { AreSmall result.v }
 {
-    let _dim = source.dim();
-    let source_u = chroma_block(source.plane(1), place);
-    let source_v = chroma_block(source.plane(2), place);
     Chroma {
-        u: chroma_levels(&source_u, u, factors),
-        v: chroma_levels(&source_v, v, factors),
+        u: chroma_levels(&blocks.u, u, factors),
+        v: chroma_levels(&blocks.v, v, factors),
     }
 }
 
@@ -157,26 +145,22 @@ fn gather(y2: &[i16; 16], luma: &Levels<16>, chroma: &Chroma) -> Tokens
 
 /// The blocks of a macroblock whose luma is predicted at once.
 pub(crate) fn tokens_with_y2(
-    source: &Picture,
+    block: &[u8; 256],
     factors: &Factors,
-    place: Place,
     prediction: &[u8; 256],
     chroma: &Chroma,
 ) -> Tokens
-    requires place { HasMacroblock source.now place }
     requires factors { ArePositive factors.now }
     requires u { AreSmall chroma.now.u }
     requires v { AreSmall chroma.now.v }
-    ensures luma { (g : ℕ → ℕ → ℕ) → prediction.now ≡ listed 16 g → HasLumaAndY2 (block_of 16 source.now.luma place) g factors.now result }
+    ensures luma { (f g : ℕ → ℕ → ℕ) → block.now ≡ listed 16 f → prediction.now ≡ listed 16 g → HasLumaAndY2 f g factors.now result }
     ensures u { (k : ℕ) → k < 4 → (tokens_of result (17 + k)).levels ≡ slice_index_or chroma.now.u k [] }
     ensures v { (k : ℕ) → k < 4 → (tokens_of result (21 + k)).levels ≡ slice_index_or chroma.now.v k [] }
     ensures tight { AreTight result.blocks }
     ensures none { any_token result ≡ false → result.blocks ≡ no_blocks }
     ensures spelled { AreSpelled true result.blocks }
 {
-    let _dim = source.dim();
-    let block = luma_block(source.plane(0), place);
-    let all = luma_coefficients(&block, prediction);
+    let all = luma_coefficients(block, prediction);
     gather(
         &y2_levels(&all, factors),
         &luma_levels(&all, factors),

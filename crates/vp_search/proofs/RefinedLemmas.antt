@@ -102,6 +102,14 @@ best_same f g centre d best same p = record {
   is = p.is;
 }
 
+-- .. and a refinement by it
+pub refined_same : (f g : QuarterVector → ℕ) (centre : WholeVector) (best : QuarterVector) → ((v : QuarterVector) → f v ≡ g v) → IsRefined f centre best → IsRefined g centre best
+refined_same f g centre best same p = record {
+  halfway = p.halfway;
+  first = best_same f g (quarters centre) (pos 2) p.halfway same p.first;
+  second = best_same f g p.halfway (pos 1) best same p.second;
+}
+
 -- ---- one answer
 
 pub first_is_one : (n : ℕ) (f : ℕ → ℕ) (a b : ℕ) → IsFirstLeast n f a → IsFirstLeast n f b → a ≡ b

@@ -1,9 +1,27 @@
 //! Blocks cut from a plane.
 
 ghost use Rattle.std.specs.Prelude.{◌≡◌, ℕ, ◌+◌, ◌*◌, ◌<◌, ◌≤◌, slice_index, length};
+ghost use Rattle.vp_base.specs.Raster.{pixel};
 ghost use Rattle.vp_search.specs.Blocks.{block_at};
 
 use vp_base::{Place, Plane};
+
+/// The pixels of the block at `place` among all blocks of `SIDE` by `SIDE` pixels, row after row.
+pub fn cut_block<const SIDE: usize, const AREA: usize>(plane: &Plane, place: Place) -> [u8; AREA]
+    requires side { SIDE ≤ 16 }
+    requires area { AREA ≡ SIDE * SIDE }
+    requires columns { SIDE * place.column + SIDE ≤ plane.now.width }
+    requires rows { SIDE * place.row + SIDE ≤ plane.now.height }
+    ensures { (r c : ℕ) → r < SIDE → c < SIDE → slice_index result (r * SIDE + c) ≡ pixel plane.now (SIDE * place.column + c) (SIDE * place.row + r) }
+{
+    let _size = [plane.width(), plane.height()];
+    let mut pixels = [0; AREA];
+    for r in 0..SIDE {
+        let line = plane.row(SIDE * place.row + r);
+        put_row::<SIDE>(&mut pixels, r, line, SIDE * place.column);
+    }
+    pixels
+}
 
 /// The pixels of the macroblock of luma at `place`, row after row.
 pub fn macroblock(plane: &Plane, place: Place) -> [u8; 256]
@@ -11,27 +29,16 @@ pub fn macroblock(plane: &Plane, place: Place) -> [u8; 256]
     requires rows { 16 * place.row + 16 ≤ plane.now.height }
     ensures { (r c : ℕ) → r < 16 → c < 16 → slice_index result (r * 16 + c) ≡ block_at plane.now place r c }
 {
-    let _size = [plane.width(), plane.height()];
-    let mut pixels = [0; 256];
-    for r in 0..16 {
-        put_row(
-            &mut pixels,
-            r,
-            plane.row(16 * place.row + r),
-            16 * place.column,
-        );
-    }
-    pixels
+    cut_block::<16, 256>(plane, place)
 }
 
-/// Writes row `r` of a block of 16 columns, from the numbers of `line` from `start` on.
-fn put_row(pixels: &mut [u8], r: usize, line: &[u8], start: usize)
-    requires row { r < 16 }
-    requires size { length pixels.old ≡ 256 }
-    requires room { start + 16 ≤ length line.now }
-    ensures here { (c : ℕ) → c < 16 → slice_index pixels.new (r * 16 + c) ≡ slice_index line.now (start + c) }
-    ensures before { (i : ℕ) → i < r * 16 → slice_index pixels.new i ≡ slice_index pixels.old i }
+/// Writes row `r` of a block of `SIDE` columns, from the numbers of `line` from `start` on.
+fn put_row<const SIDE: usize>(pixels: &mut [u8], r: usize, line: &[u8], start: usize)
+    requires row { r * SIDE + SIDE ≤ length pixels.old }
+    requires room { start + SIDE ≤ length line.now }
+    ensures here { (c : ℕ) → c < SIDE → slice_index pixels.new (r * SIDE + c) ≡ slice_index line.now (start + c) }
+    ensures before { (i : ℕ) → i < r * SIDE → slice_index pixels.new i ≡ slice_index pixels.old i }
 {
-    let at = 16 * r;
-    pixels[at..at + 16].copy_from_slice(&line[start..start + 16]);
+    let at = r * SIDE;
+    pixels[at..at + SIDE].copy_from_slice(&line[start..start + SIDE]);
 }

@@ -15,11 +15,11 @@ mod tests;
 mod vector;
 mod window;
 
-pub use block::macroblock;
+pub use block::{cut_block, macroblock};
 pub use difference::sad16;
 pub use laws::{least_vector_is_one, refined_vector_is_one, whole_vectors_are_predicted};
 pub use least::first_least;
-pub use refinement::refine;
-pub use search::full_search;
+pub use refinement::{refine, refine_block};
+pub use search::{full_search, search_block};
 pub use squares::sse;
 pub use vector::{Found, QuarterVector, Refined, WholeVector};

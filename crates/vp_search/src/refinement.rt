@@ -28,10 +28,29 @@ pub fn refine(source: &Plane, reference: &Plane, place: Place, centre: WholeVect
     ensures column { unsigned_abs (result.vector.column -ℤ pos 4 *ℤ centre.column) ≤ 3 }
 {
     let _size = [source.width(), source.height()];
-    let block = macroblock(source, place);
+    refine_block(&macroblock(source, place), reference, place, centre)
+}
+
+/// What `refine` finds for a macroblock at `place` whose luma is `block`, row after row.
+pub fn refine_block(
+    block: &[u8; 256],
+    reference: &Plane,
+    place: Place,
+    centre: WholeVector,
+) -> Refined
+    requires columns { 16 * place.column ≤ 16384 }
+    requires rows { 16 * place.row ≤ 16384 }
+    requires wide { 0 < reference.now.width }
+    requires high { 0 < reference.now.height }
+    requires near { IsNear 16384 centre }
+    ensures cost { result.cost ≡ quarter_cost (block16 block.now) reference.now place result.vector }
+    ensures refined { IsRefined (quarter_cost (block16 block.now) reference.now place) centre result.vector }
+    ensures row { unsigned_abs (result.vector.row -ℤ pos 4 *ℤ centre.row) ≤ 3 }
+    ensures column { unsigned_abs (result.vector.column -ℤ pos 4 *ℤ centre.column) ≤ 3 }
+{
     let middle = quarters(centre);
-    let halfway = best_of(&block, reference, place, middle, 2);
-    best_of(&block, reference, place, halfway.vector, 1)
+    let halfway = best_of(block, reference, place, middle, 2);
+    best_of(block, reference, place, halfway.vector, 1)
 }
 
 /// The best of `centre` and its eight neighbours at a distance.

@@ -27,15 +27,28 @@ pub fn full_search(source: &Plane, reference: &Plane, place: Place, range: u8) -
     ensures predicted { result.cost ≡ quarter_cost (block_at source.now place) reference.now place (quarters result.vector) }
 {
     let _size = [source.width(), source.height()];
-    let block = macroblock(source, place);
+    search_block(&macroblock(source, place), reference, place, range)
+}
+
+/// What `full_search` finds for a macroblock at `place` whose luma is `block`, row after row.
+pub fn search_block(block: &[u8; 256], reference: &Plane, place: Place, range: u8) -> Found
+    requires columns { 16 * place.column ≤ 16384 }
+    requires rows { 16 * place.row ≤ 16384 }
+    requires wide { 0 < reference.now.width }
+    requires high { 0 < reference.now.height }
+    requires range { range ≤ 64 }
+    ensures cost { result.cost ≡ whole_cost (block16 block.now) reference.now place result.vector }
+    ensures least { IsLeast range (whole_cost (block16 block.now) reference.now place) result.vector }
+    ensures predicted { result.cost ≡ quarter_cost (block16 block.now) reference.now place (quarters result.vector) }
+{
     if range <= 16 {
-        search_in::<6912>(&block, reference, place, range)
+        search_in::<6912>(block, reference, place, range)
     } else {
-        search_in::<20736>(&block, reference, place, range)
+        search_in::<20736>(block, reference, place, range)
     }
 }
 
-/// The same of a block, through a window of `L` pixels.
+/// The same through a window of `L` pixels.
 fn search_in<const L: usize>(block: &[u8; 256], reference: &Plane, place: Place, range: u8) -> Found
     requires range { range ≤ 64 }
     requires room { (2 * range + 16) * 144 ≤ L }

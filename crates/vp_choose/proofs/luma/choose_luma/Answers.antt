@@ -2,20 +2,16 @@ use Rattle.std.proofs.Common.{◌≡◌, ◌∙◌, ℕ, ◌+◌, ◌<◌, List,
 use Rattle.vp_base.specs.Raster.{Raster}
 use Rattle.vp_base.specs.Image.{Image}
 use Rattle.vp_tables.specs.declared.modes.LumaMode.TheVariants as luma_is
-use Rattle.vp_intra.specs.Edges.{block}
 use Rattle.vp_search.specs.FirstLeast.{IsFirstLeast}
 use Rattle.vp_search.proofs.RefinedLemmas.{first_same}
-use Rattle.vp_choose.specs.Costs.{block_of, whole_cost}
+use Rattle.vp_choose.specs.Costs.{whole_cost}
 use Rattle.vp_choose.specs.Intra.{luma_at, luma_cost}
 use Rattle.vp_choose.proofs.Orders.{below_five}
 use Rattle.vp_choose.proofs.luma.choose_luma.Goals as goal
 
 pub returns-clause-luma : goal.returns-clause-luma
-returns-clause-luma c =
+returns-clause-luma c f own =
     let p : Raster = c.args.picture.now.luma in
-    let f : ℕ → ℕ → ℕ = block_of 16 c.args.source.now.luma c.args.place in
-    let own : c.luma_block-block.result ≡ block 16 f =
-    c.luma_block-block.ensures ∙ ap (λ (a : Raster). block 16 (block_of 16 a c.args.place)) c.plane.ensures in
     let is : c.plane-plane.result.now ≡ p = c.plane-plane.ensures ∙ ap (λ (i : Image). i.luma) c.choose_subblocks-subblocks.ensures.kept in
     let n : ℕ = c.first_least-best.result in
     let b : ℕ = c.choose_subblocks-subblocks.result.cost in

@@ -8,18 +8,17 @@ use Rattle.vp_choose.specs.Levels.{HasLumaAndY2, HasChroma}
 use Rattle.vp_choose.proofs.macroblock.choose_inter.Goals as goal
 
 pub returns-clause-inter : goal.returns-clause-inter
-returns-clause-inter c =
-    let source : Image = c.args.frame.now.source.now in
+returns-clause-inter c source cut =
     let p : Image = c.args.picture.now in
     let e : Entry = record { reference = c.args.moved.now.reference; mode = c.motion_of-motion.result.mode; vectors = c.motion_of-motion.result.vectors } in
     record {
       modes = refl;
       vectors = c.motion_of-motion.ensures.vectors;
       mode = c.motion_of-motion.ensures.mode;
-      luma = subst (λ (r : Image). HasLumaAndY2 (block_of 16 source.luma c.args.place) (luma_prediction (Inter e r 0) c.args.place p.luma) c.args.frame.now.factors.now c.inter_tokens-tokens.result)
-          c.get-reference.ensures (c.inter_tokens-tokens.ensures.luma e p.luma c.motion_of-motion.ensures.vectors);
-      u = subst (λ (r : Image). HasChroma (block_of 8 source.u c.args.place) (chroma_prediction (Inter e r 0) 1 c.args.place p.u) c.args.frame.now.factors.now c.inter_tokens-tokens.result 1)
-          c.get-reference.ensures (c.inter_tokens-tokens.ensures.u e p.u c.motion_of-motion.ensures.vectors);
-      v = subst (λ (r : Image). HasChroma (block_of 8 source.v c.args.place) (chroma_prediction (Inter e r 0) 2 c.args.place p.v) c.args.frame.now.factors.now c.inter_tokens-tokens.result 2)
-          c.get-reference.ensures (c.inter_tokens-tokens.ensures.v e p.v c.motion_of-motion.ensures.vectors);
+      luma = subst (λ (r : Image). HasLumaAndY2 (block_of 16 source.luma c.args.place) (luma_prediction (Inter e r 0) c.args.place p.luma) c.args.factors.now c.inter_tokens-tokens.result)
+          c.get-reference.ensures (c.inter_tokens-tokens.ensures.luma e p.luma (block_of 16 source.luma c.args.place) c.motion_of-motion.ensures.vectors cut.luma);
+      u = subst (λ (r : Image). HasChroma (block_of 8 source.u c.args.place) (chroma_prediction (Inter e r 0) 1 c.args.place p.u) c.args.factors.now c.inter_tokens-tokens.result 1)
+          c.get-reference.ensures (c.inter_tokens-tokens.ensures.u e p.u (block_of 8 source.u c.args.place) c.motion_of-motion.ensures.vectors cut.u);
+      v = subst (λ (r : Image). HasChroma (block_of 8 source.v c.args.place) (chroma_prediction (Inter e r 0) 2 c.args.place p.v) c.args.factors.now c.inter_tokens-tokens.result 2)
+          c.get-reference.ensures (c.inter_tokens-tokens.ensures.v e p.v (block_of 8 source.v c.args.place) c.motion_of-motion.ensures.vectors cut.v);
     }

@@ -16,9 +16,8 @@ use Rattle.vp_choose.specs.Intra.{IsChroma}
 use Rattle.vp_choose.proofs.macroblock.choose_intra.Goals as goal
 
 pub returns-clause-intra : goal.returns-clause-intra
-returns-clause-intra c =
+returns-clause-intra c source cut =
     let p : Image = c.args.picture.now in
-    let source : Image = c.args.source.now in
     let m : Modes = c.intra_modes-modes.result in
     let t : Tokens = c.intra_tokens-tokens.result in
     let x : ℕ = 16 * c.args.place.column in
@@ -30,13 +29,13 @@ returns-clause-intra c =
       reference = ap (λ (a : Modes). a.reference) is;
       luma = luma;
       subs = ap (λ (a : Modes). a.subs) is;
-      chroma = subst (λ (a : ChromaMode). IsChroma source c.args.place p a) (sym chroma) c.choose_chroma-chroma.ensures;
+      chroma = subst (λ (a : ChromaMode). IsChroma source c.args.place p a) (sym chroma) (c.choose_chroma-chroma.ensures source cut);
       by_subblocks = c.intra_tokens-tokens.ensures.by_subblocks;
       at_once = λ whole.
           let same : luma_pixel c.args.luma.now.mode p.luma x y ≡ luma_prediction (Intra m) c.args.place p.luma =
           ap (λ (a : LumaMode). luma_pixel a p.luma x y) (sym luma)
           ∙ sym (fun_ext (λ r. fun_ext (λ j. whole_prediction m c.args.place p.luma r j (ap (λ (a : LumaMode). is_by_subblocks a) luma ∙ whole)))) in
-          subst (λ (g : ℕ → ℕ → ℕ). HasLumaAndY2 (block_of 16 source.luma c.args.place) g c.args.factors.now t) same (c.intra_tokens-tokens.ensures.at_once whole);
-      u = subst (λ (a : ChromaMode). HasChroma (block_of 8 source.u c.args.place) (chroma_pixel a p.u (8 * c.args.place.column) (8 * c.args.place.row)) c.args.factors.now t 1) (sym chroma) c.intra_tokens-tokens.ensures.u;
-      v = subst (λ (a : ChromaMode). HasChroma (block_of 8 source.v c.args.place) (chroma_pixel a p.v (8 * c.args.place.column) (8 * c.args.place.row)) c.args.factors.now t 2) (sym chroma) c.intra_tokens-tokens.ensures.v;
+          subst (λ (g : ℕ → ℕ → ℕ). HasLumaAndY2 (block_of 16 source.luma c.args.place) g c.args.factors.now t) same (c.intra_tokens-tokens.ensures.at_once (block_of 16 source.luma c.args.place) cut.luma whole);
+      u = subst (λ (a : ChromaMode). HasChroma (block_of 8 source.u c.args.place) (chroma_pixel a p.u (8 * c.args.place.column) (8 * c.args.place.row)) c.args.factors.now t 1) (sym chroma) (c.intra_tokens-tokens.ensures.u (block_of 8 source.u c.args.place) cut.u);
+      v = subst (λ (a : ChromaMode). HasChroma (block_of 8 source.v c.args.place) (chroma_pixel a p.v (8 * c.args.place.column) (8 * c.args.place.row)) c.args.factors.now t 2) (sym chroma) (c.intra_tokens-tokens.ensures.v (block_of 8 source.v c.args.place) cut.v);
     }

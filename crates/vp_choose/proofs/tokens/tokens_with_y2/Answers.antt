@@ -1,16 +1,10 @@
-use Rattle.std.proofs.Common.{◌≡◌, ◌∙◌, ℕ, ap}
-use Rattle.vp_base.specs.Raster.{Raster}
-use Rattle.vp_intra.specs.Edges.{block}
-use Rattle.vp_choose.specs.Costs.{block_of}
+use Rattle.std.proofs.Common.{◌∙◌}
 use Rattle.vp_choose.specs.Levels.{part_coefficients}
 use Rattle.vp_choose.specs.Gathered.{AreListed}
 use Rattle.vp_choose.proofs.tokens.tokens_with_y2.Goals as goal
 
 pub returns-clause-luma : goal.returns-clause-luma
-returns-clause-luma c g e =
-    let f : ℕ → ℕ → ℕ = block_of 16 c.args.source.now.luma c.args.place in
-    let own : c.luma_block-block.result ≡ block 16 f =
-    c.luma_block-block.ensures ∙ ap (λ (p : Raster). block 16 (block_of 16 p c.args.place)) c.plane.ensures in
+returns-clause-luma c f g own e =
     let are : AreListed 16 c.luma_coefficients-all.result (part_coefficients 4 f g) = c.luma_coefficients-all.ensures.value f g own e in
     record {
       y2 = c.gather.ensures.levels.y2 ∙ c.y2_levels.ensures.value (part_coefficients 4 f g) are;

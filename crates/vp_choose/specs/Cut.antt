@@ -1,0 +1,13 @@
+-- Inside the crate: the source of a macroblock as the code cuts it.
+use Rattle.std.specs.Prelude.{◌≡◌}
+use Rattle.vp_base.specs.declared.place.Place.{Place}
+use Rattle.vp_base.specs.Image.{Image}
+use Rattle.vp_intra.specs.Edges.{block as listed}
+use Rattle.vp_choose.specs.declared.blocks.Blocks.{Blocks}
+use Rattle.vp_choose.specs.Costs.{block_of}
+
+-- the blocks of the macroblock at a place of a source
+pub record AreCut (source : Image) (place : Place) (b : Blocks) : Type 0 where
+  pub luma : b.luma ≡ listed 16 (block_of 16 source.luma place)
+  pub u : b.u ≡ listed 8 (block_of 8 source.u place)
+  pub v : b.v ≡ listed 8 (block_of 8 source.v place)

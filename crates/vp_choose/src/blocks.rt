@@ -1,0 +1,28 @@
+//! The source of a macroblock.
+
+ghost use Rattle.vp_choose.specs.Costs.{HasMacroblock};
+ghost use Rattle.vp_choose.specs.Cut.{AreCut};
+
+use vp_base::{Picture, Place};
+use vp_search::{cut_block, macroblock};
+
+/// The pixels of a macroblock's source, each plane's row after row.
+#[derive(Clone, Copy)]
+pub(crate) struct Blocks {
+    pub(crate) luma: [u8; 256],
+    pub(crate) u: [u8; 64],
+    pub(crate) v: [u8; 64],
+}
+
+/// The blocks of the macroblock at `place`.
+pub(crate) fn cut_blocks(source: &Picture, place: Place) -> Blocks
+    requires { HasMacroblock source.now place }
+    ensures { AreCut source.now place result }
+{
+    let _dim = source.dim();
+    Blocks {
+        luma: macroblock(source.plane(0), place),
+        u: cut_block::<8, 64>(source.plane(1), place),
+        v: cut_block::<8, 64>(source.plane(2), place),
+    }
+}

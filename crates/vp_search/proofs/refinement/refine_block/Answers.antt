@@ -1,0 +1,31 @@
+use Rattle.std.proofs.Common.{◌≡◌, pos, ◌*ℤ◌, ap, subst, arith}
+use Rattle.std.proofs.lemmas.Int.{ints}
+use Rattle.vp_search.specs.declared.vector.QuarterVector.{QuarterVector}
+use Rattle.vp_search.specs.Differences.{block16}
+use Rattle.vp_search.specs.Blocks.{quarter_cost}
+use Rattle.vp_search.specs.Refined.{IsBestOf}
+use Rattle.vp_search.proofs.refinement.refine_block.Goals as goal
+
+pub best_of-requires-clause-row : goal.best_of-requires-clause-row
+best_of-requires-clause-row c =
+    let near = c.requires.near.0 in
+    let e : c.quarters-middle.result.row ≡ pos 4 *ℤ c.args.centre.row = ap (λ (v : QuarterVector). v.row) c.quarters-middle.ensures in
+    let b = c.best_of-halfway.ensures.row in
+    omega (arith, ints)
+
+pub best_of-requires-clause-column : goal.best_of-requires-clause-column
+best_of-requires-clause-column c =
+    let near = c.requires.near.1 in
+    let e : c.quarters-middle.result.column ≡ pos 4 *ℤ c.args.centre.column = ap (λ (v : QuarterVector). v.column) c.quarters-middle.ensures in
+    let b = c.best_of-halfway.ensures.column in
+    omega (arith, ints)
+
+pub returns-clause-refined : goal.returns-clause-refined
+returns-clause-refined c =
+    let halfway : QuarterVector = c.best_of-halfway.result.vector in
+    record {
+      halfway = halfway;
+      first = subst (λ (v : QuarterVector). IsBestOf (quarter_cost (block16 c.args.block.now) c.args.reference.now c.args.place) v (pos 2) halfway)
+          c.quarters-middle.ensures c.best_of-halfway.ensures.best;
+      second = c.best_of.ensures.best;
+    }
