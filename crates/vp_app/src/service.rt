@@ -3,6 +3,7 @@
 ghost use Rattle.std.specs.Prelude.{◌≡◌, ◌<◌, ◌≤◌, ℕ, List, Err, IfOk, false};
 ghost use Rattle.std.specs.Io.KnownBytes.{Consumes};
 ghost use Rattle.vp_base.specs.Counted.{counted_remaining};
+ghost use Rattle.vp_hub.specs.Hub.{State};
 ghost use Rattle.vp_hub.specs.Names.{are_names};
 ghost use Rattle.vp_hub.specs.View.{is_memory as hub_is_memory};
 ghost use Rattle.vp_app.specs.declared.service.ServiceFault.{ServiceFault};
@@ -105,17 +106,54 @@ pub(crate) fn serve<
     ensures quiet { service.now.show_address ≡ false → output.new ≡ output.old }
 {
     let mut hub = new_hub(rt.alloc(), service)?;
-    feed_all(rt, &mut hub, &service.streams, input)?;
+    serve_over(rt, &mut hub, service, input, output, errors)
+}
+
+// The same over a new hub.
+fn serve_over<
+    H: Files + AllocGlobal + Net<Stream = TcpStream, Listener = TcpListener>,
+    R: Read,
+    W: Write,
+    E: Write,
+>(
+    rt: &H,
+    hub: &mut Hub,
+    service: &Service<'_>,
+    input: &mut Counted<R>,
+    output: &mut Counted<W>,
+    errors: &mut Counted<E>,
+) -> Result<bool, ServiceFault>
+    ensures served { IfOk result (λ well. (fed : State) × AreFilesFed service.now.streams.items hub.old.state fed
+        (counted_remaining R.remaining input.old) (counted_remaining R.remaining input.new) × IsServing service.now.connections fed well) }
+    ensures quiet { service.now.show_address ≡ false → output.new ≡ output.old }
+{
+    feed_all(rt, hub, &service.streams, input)?;
     if service.connections == 0 {
         return Ok(true);
     }
+    let listener = listen(rt, service, output)?;
+    Ok(serve_each(hub, &listener, service.connections, errors))
+}
+
+// Listens at the address, and prints it where that is asked for.
+fn listen<H: AllocGlobal + Net<Stream = TcpStream, Listener = TcpListener>, W: Write>(
+    rt: &H,
+    service: &Service<'_>,
+    output: &mut Counted<W>,
+) -> Result<TcpListener, ServiceFault>
+    ensures quiet { service.now.show_address ≡ false → output.new ≡ output.old }
+{
     let listener = TcpListener::bind(rt, service.listen)?;
     if service.show_address {
-        let address = listener.local_addr()?;
-        writeln!(output, "{address}")?;
-        output.flush()?;
+        print_address(&listener, output)?;
     }
-    Ok(serve_each(&mut hub, &listener, service.connections, errors))
+    Ok(listener)
+}
+
+fn print_address<W: Write>(listener: &TcpListener, output: &mut Counted<W>) -> io::Result<()> {
+    let address = listener.local_addr()?;
+    writeln!(output, "{address}")?;
+    output.flush()
 }
 
 // A hub of the streams, which were fed nothing.

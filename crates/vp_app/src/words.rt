@@ -247,49 +247,46 @@ fn encode_plan<'a>(found: &ArgMatches<'a>) -> Result<Plan<'a>, Refusal> {
 
 fn encoder_settings(found: &ArgMatches<'_>) -> Result<Settings, Refusal> {
     Ok(Settings {
-        qi: byte(
-            found.get_str("qi"),
-            32,
-            "--qi is a decimal number up to 255",
-        )?,
+        qi: byte(found, "qi", 32, "--qi is a decimal number up to 255")?,
         level: byte(
-            found.get_str("filter"),
+            found,
+            "filter",
             16,
             "--filter is a decimal number up to 255",
         )?,
         sharpness: byte(
-            found.get_str("sharpness"),
+            found,
+            "sharpness",
             0,
             "--sharpness is a decimal number up to 255",
         )?,
         simple: found.get_flag("simple"),
-        key_every: count(
-            found.get_str("key-every"),
-            64,
-            "--key-every is a decimal number",
-        )?,
+        key_every: count(found, "key-every", 64, "--key-every is a decimal number")?,
         golden_every: count(
-            found.get_str("golden-every"),
+            found,
+            "golden-every",
             0,
             "--golden-every is a decimal number",
         )?,
-        range: byte(
-            found.get_str("range"),
-            16,
-            "--range is a decimal number up to 255",
-        )?,
+        range: byte(found, "range", 16, "--range is a decimal number up to 255")?,
         subpel: found.get_flag("subpel"),
         partitions: byte(
-            found.get_str("partitions"),
+            found,
+            "partitions",
             1,
             "--partitions is a decimal number up to 255",
         )?,
     })
 }
 
-// A number of 32 bits, or the usual one where none is said.
-fn count(text: Option<&str>, usual: u32, refusal: &'static str) -> Result<u32, Refusal> {
-    let Some(text) = text else {
+// The number of 32 bits that an option says, or the usual one where it isn't said.
+fn count(
+    found: &ArgMatches<'_>,
+    option: &str,
+    usual: u32,
+    refusal: &'static str,
+) -> Result<u32, Refusal> {
+    let Some(text) = found.get_str(option) else {
         return Ok(usual);
     };
     match decimal(text) {
@@ -298,9 +295,14 @@ fn count(text: Option<&str>, usual: u32, refusal: &'static str) -> Result<u32, R
     }
 }
 
-// A number of 8 bits, or the usual one where none is said.
-fn byte(text: Option<&str>, usual: u8, refusal: &'static str) -> Result<u8, Refusal> {
-    match u8::try_from(count(text, u32::from(usual), refusal)?) {
+// The number of 8 bits that an option says, or the usual one where it isn't said.
+fn byte(
+    found: &ArgMatches<'_>,
+    option: &str,
+    usual: u8,
+    refusal: &'static str,
+) -> Result<u8, Refusal> {
+    match u8::try_from(count(found, option, u32::from(usual), refusal)?) {
         Ok(number) => Ok(number),
         Err(_) => Err(Refusal::Value(refusal)),
     }
