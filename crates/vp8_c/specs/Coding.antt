@@ -1,0 +1,77 @@
+-- The encoder that a handle leads to.
+use Rattle.std.specs.Prelude.{◌≡◌, ◌≢◌, ◌==◌, not, ℕ, List, Option, Some, None, option_and_then}
+use Rattle.vp_base.specs.Image.{Image}
+use Rattle.vp_encode.specs.declared.encoder.Encoded.{Encoded}
+use Rattle.vp_encode.specs.declared.settings.Settings.{Settings}
+use Rattle.vp_encode.specs.Chosen.{squared_distance}
+use Rattle.vp_encode.specs.Encoder.{Encoding}
+use Rattle.vp_encode.specs.Encoded.{IsEncoded}
+use Rattle.vp_encode.specs.TooLong.{IsTooLong}
+use Rattle.vp8_c.specs.Rows.{AreRowsOf}
+use Rattle.vp8_c.specs.declared.settings.EncoderSettings.{EncoderSettings}
+use Rattle.vp8_c.specs.declared.coding.Coding.{Coding}
+use Rattle.vp8_c.specs.declared.held.Held.{Held}
+use Rattle.vp8_c.specs.declared.held.Held.TheVariants.{Decoder, Stream, Encoder}
+use Rattle.vp8_c.specs.declared.handle.Handle.{Handle}
+use Rattle.vp8_c.specs.Handle.{held_in}
+
+abbrev pub encoder_of : Held → Option Coding
+encoder_of (Decoder d) = None
+encoder_of (Stream a) = None
+encoder_of (Encoder e) = Some e
+
+abbrev pub encoder_in : Handle → Option Coding
+encoder_in h = option_and_then encoder_of (held_in h)
+
+-- the frame that it encoded last
+abbrev pub encoded_in : Handle → Option Encoded
+encoded_in h = option_and_then (λ e. e.encoded) (encoder_in h)
+
+-- the settings that C's stand for
+abbrev pub settings_in : EncoderSettings → Settings
+settings_in s = record {
+  qi = s.qi;
+  level = s.level;
+  sharpness = s.sharpness;
+  simple = not (s.simple == 0);
+  key_every = s.key_every;
+  golden_every = s.golden_every;
+  range = s.range;
+  subpel = not (s.subpel == 0);
+  partitions = s.partitions;
+}
+
+-- an encoder of pictures of this size before its first frame
+pub record IsReady (width height : ℕ) (settings : Settings) (e : Coding) : Type 0 where
+  pub columns_are : e.encoder.dim.w ≡ width
+  pub rows_are : e.encoder.dim.h ≡ height
+  pub settings_are : e.encoder.settings ≡ settings
+  pub state : e.encoder.state ≡ None
+  pub since : e.encoder.since ≡ 0
+  pub encoded : e.encoded ≡ None
+
+-- The frame that is kept after e is the source, encoded over what e keeps.
+pub record EncodesSource (e : Encoding) (source : Image) (next : Coding) : Type 0 where
+  pub frame : Encoded
+  pub kept : next.encoded ≡ Some frame
+  pub encoded : IsEncoded e (record { source = source; packet = frame.packet; recon = frame.recon.value }) next.encoder
+  pub error : frame.squared_error ≡ squared_distance source frame.recon.value
+
+-- .. of a source whose shown pixels are the caller's rows
+pub record EncodesRows (e : Encoding) (y : List ℕ) (y_stride : ℕ) (u : List ℕ) (u_stride : ℕ) (v : List ℕ) (v_stride : ℕ) (next : Coding) : Type 0 where
+  pub source : Image
+  pub rows : AreRowsOf e.dim.w e.dim.h y y_stride u u_stride v v_stride source
+  pub encodes : EncodesSource e source next
+
+-- a source with the caller's rows, one of whose partitions is too long
+pub record AreTooLong (e : Encoding) (y : List ℕ) (y_stride : ℕ) (u : List ℕ) (u_stride : ℕ) (v : List ℕ) (v_stride : ℕ) : Type 0 where
+  pub source : Image
+  pub rows : AreRowsOf e.dim.w e.dim.h y y_stride u u_stride v v_stride source
+  pub too_long : IsTooLong e source
+
+-- a frame was refused: the next one is a key frame
+pub record IsForgotten (e : Encoding) (next : Coding) : Type 0 where
+  pub dim : next.encoder.dim ≡ e.dim
+  pub settings : next.encoder.settings ≡ e.settings
+  pub state : next.encoder.state ≡ None
+  pub encoded : next.encoded ≡ None

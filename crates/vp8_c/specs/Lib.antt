@@ -1,0 +1,9 @@
+pub mod Asking
+pub mod Bytes
+pub mod Coding
+pub mod Decoding
+pub mod Handle
+pub mod Names
+pub mod Rows
+pub mod Slot
+pub mod Status

@@ -1,0 +1,20 @@
+-- What a slot owns.
+use Rattle.std.specs.Prelude.{Option, Some, None}
+use Rattle.std.specs.Coded.{Coded, coded_option}
+use Rattle.std.specs.Box.Ownership.{box_owns}
+use Rattle.libc.specs.Heap.{chunk}
+use base.Fml.{Fml, ftrue}
+use denote.RawPtr.{Ptr}
+use Rattle.vp8_c.specs.contracts.held.Held.{the_row}
+
+-- what a slot leads to, if to anything
+abbrev pub MaybeHeld : Type 0
+MaybeHeld = Option the_row.Denot
+
+abbrev pub coded_held : Coded MaybeHeld
+coded_held = coded_option the_row.coded
+
+-- the block of the C library's heap that the pointer leads to, with what lies there, and the right to free it
+abbrev pub slot_owns : Ptr → MaybeHeld → Fml
+slot_owns p None = ftrue
+slot_owns p (Some x) = box_owns (λ ty q. chunk ty q) the_row p x

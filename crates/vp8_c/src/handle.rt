@@ -1,0 +1,58 @@
+//! Handles, as C has them.
+
+ghost use Rattle.std.specs.Prelude.{◌≡◌, Some, None, option_map, is_some, if◌then◌else◌};
+
+use crate::held::Held;
+use crate::parts::Parts;
+use crate::slot::Slot;
+use std::alloc::Global;
+use std::mem;
+
+/// A handle in the caller's memory: closed where both fields are 0.
+#[repr(C)]
+pub struct Handle {
+    in_use: u32,
+    slot: Slot,
+    ghost told: { in_use ≡ (if is_some slot.held then 1 else 0) },
+}
+
+impl Handle {
+    ghost use Rattle.vp8_c.specs.Handle.{held_in};
+
+    /// Whether it leads to something.
+    pub fn is_open(&self) -> bool
+        ensures { result ≡ is_some (held_in self.now) }
+    {
+        self.in_use != 0
+    }
+
+    /// Takes what it leads to out of it.
+    pub fn take(&mut self, alloc: Global) -> Option<Box<Held, Global>>
+        ensures taken { option_map (λ b. b.value) result ≡ held_in self.old }
+        ensures closed { held_in self.new ≡ None }
+    {
+        let closed = Handle {
+            in_use: 0,
+            slot: Slot::empty(),
+        };
+        let Handle { in_use, slot } = mem::replace(self, closed);
+        if in_use == 0 {
+            slot.forget();
+            return None;
+        }
+        Some(slot.into_parts(alloc).into_box())
+    }
+
+    /// Makes a closed handle lead to this.
+    pub fn put(&mut self, held: Box<Held, Global>)
+        requires { held_in self.old ≡ None }
+        ensures { held_in self.new ≡ Some held.value }
+    {
+        let open = Handle {
+            in_use: 1,
+            slot: Slot::of_parts(Parts::of(held)),
+        };
+        let Handle { in_use: _, slot } = mem::replace(self, open);
+        slot.forget();
+    }
+}

@@ -1,0 +1,17 @@
+//! Decoding, encoding and IVF files for callers in C, over the crates of the library. `include/vp8.h` is its header.
+#![tactic(auto)]
+
+mod asked;
+mod bytes;
+mod coding;
+mod decoder;
+mod encoder;
+mod handle;
+mod held;
+mod names;
+mod parts;
+mod rows;
+mod settings;
+mod slot;
+mod status;
+mod stream;

@@ -1,0 +1,59 @@
+//! A box, or nothing, behind a plain pointer.
+
+ghost use Rattle.std.specs.Prelude.{◌≡◌, Some, None, IsSome};
+ghost use Rattle.vp8_c.specs.Slot.{MaybeHeld, slot_owns, coded_held};
+
+use crate::held::Held;
+use crate::parts::Parts;
+use std::alloc::Global;
+use std::marker::Model;
+use std::ptr;
+
+/// A pointer to what a handle leads to, which it owns, or null. C sees a `void *`. It can't be let go while it owns something.
+#[repr(C)]
+pub struct Slot {
+    at: *mut u8,
+    pub ghost held: { MaybeHeld } by { coded_held },
+}
+
+impl Model for Slot {
+    ghost also_owns = { λ s. slot_owns s.at s.held };
+}
+
+impl Slot {
+    /// A slot that owns nothing.
+    pub fn empty() -> Slot
+        ensures { result.held ≡ None }
+    {
+        Slot {
+            at: ptr::null_mut(),
+        }
+    }
+
+    /// A slot that owns what a box did.
+    pub fn of_parts(parts: Parts<Held, Global>) -> Slot
+        ensures { result.held ≡ Some parts.value }
+    {
+        let Parts { ptr, alloc: _ } = parts;
+        Slot { at: ptr as *mut u8 }
+    }
+
+    /// What the box was made of.
+    pub fn into_parts(self, alloc: Global) -> Parts<Held, Global>
+        requires { IsSome self.held }
+        ensures { Some result.value ≡ self.held }
+    {
+        let Slot { at } = self;
+        Parts {
+            ptr: at as *mut Held,
+            alloc,
+        }
+    }
+
+    /// Lets a slot go that owns nothing.
+    pub fn forget(self)
+        requires { self.held ≡ None }
+    {
+        let Slot { at: _ } = self;
+    }
+}

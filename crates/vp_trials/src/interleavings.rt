@@ -1,0 +1,185 @@
+//! Connections and a stream whose bytes come in turn: each connection is answered as if it were alone.
+
+ghost use Rattle.std.specs.Prelude.{◌≤◌};
+
+use crate::files::FILE;
+use crate::hubs::{
+    ASKS_INTER, ASKS_KEY, NOT_FOUND, feeds, hub_of, is_answered, is_inter, is_key, is_refused,
+    parts, replied, says,
+};
+use Turn::{First, Second, Stream, Third};
+use std::alloc::Global;
+use std::test::Fail;
+use vp_hub::{Event, Hub, HubFault};
+
+/// Someone who sends bytes, one in each turn.
+#[derive(Drop)]
+struct Peer<'a> {
+    number: u32,
+    left: &'a [u8],
+    got: Vec<u8>,
+}
+
+/// The peer's turn: its next byte, if there is one, is sent, and what is replied is put behind. False where memory is short.
+fn speaks(alloc: Global, hub: &mut Hub, peer: &mut Peer<'_>) -> bool {
+    let Some((byte, rest)) = peer.left.split_first() else {
+        return true;
+    };
+    peer.left = rest;
+    match says(alloc, hub, peer.number, &[*byte]) {
+        Ok(reply) => peer.got.extend_from_slice(reply.bytes.as_slice()).is_ok(),
+        Err(_) => false,
+    }
+}
+
+/// Connection 2 comes, is refused a second time, sends a bad request, is refused what it sends behind it, goes, and is
+/// refused to go again. False where it isn't answered so.
+fn a_third_comes(alloc: Global, hub: &mut Hub) -> bool {
+    let bad = b"GET /streams HTTP/1.1\r\n\r\n";
+    hub.step(&Event::Open(2)).is_ok()
+        && is_refused(&hub.step(&Event::Open(2)), HubFault::AlreadyOpen)
+        && says(alloc, hub, 2, bad).is_ok()
+        && is_refused(&says(alloc, hub, 2, bad), HubFault::Failed)
+        && hub.step(&Event::Shut(2)).is_ok()
+        && is_refused(&hub.step(&Event::Shut(2)), HubFault::UnknownConn)
+        && is_refused(&says(alloc, hub, 2, bad), HubFault::UnknownConn)
+}
+
+/// What speaks in turn: two connections, and a stream of which these bytes are left.
+#[derive(Drop)]
+struct Speakers<'a> {
+    first: Peer<'a>,
+    second: Peer<'a>,
+    stream: &'a [u8],
+}
+
+/// The stream's turn: the next of the bytes that are left, if there is one, is fed.
+fn grows(alloc: Global, hub: &mut Hub, speakers: &mut Speakers<'_>) -> bool {
+    let Some((byte, rest)) = speakers.stream.split_first() else {
+        return true;
+    };
+    speakers.stream = rest;
+    feeds(alloc, hub, &[*byte]).is_ok()
+}
+
+/// Whose turn it is.
+#[derive(Clone, Copy, Debug)]
+enum Turn {
+    First,
+    Second,
+    Stream,
+    /// That of a connection that comes and goes.
+    Third,
+}
+
+/// One turn.
+fn take(alloc: Global, hub: &mut Hub, speakers: &mut Speakers<'_>, turn: Turn) -> bool {
+    match turn {
+        First => speaks(alloc, hub, &mut speakers.first),
+        Second => speaks(alloc, hub, &mut speakers.second),
+        Stream => grows(alloc, hub, speakers),
+        Third => a_third_comes(alloc, hub),
+    }
+}
+
+/// Turns of this order again and again, until nobody has a byte left: each has 38 at most, and a turn in each eight.
+fn take_all(alloc: Global, hub: &mut Hub, speakers: &mut Speakers<'_>, order: [Turn; 8]) -> bool {
+    for number in 0..8 * 38 {
+        if !take(alloc, hub, speakers, order[number % 8]) {
+            return false;
+        }
+    }
+    true
+}
+
+/// A key packet and an inter packet more, with the twelve bytes before each.
+const MORE: [u8; 37] = [
+    10, 0, 0, 0, 0, 0, 0, 0, 0, 0, 0, 0, 0x10, 0, 0, 0x9d, 0x01, 0x2a, 0x10, 0, 0x10, 0, 3, 0, 0,
+    0, 0, 0, 0, 0, 0, 0, 0, 0, 0x11, 0, 0,
+];
+
+const INFO: &[u8] =
+    b"HTTP/1.1 200 OK\r\nContent-Type: text/plain\r\nContent-Length: 42\r\n\r\nstate open\npackets 4\nsize 16x16\nrate 30/1\n";
+
+/// Whether the stream has four packets, of which the last is shown.
+fn has_grown(alloc: Global, hub: &mut Hub) -> bool {
+    let info = b"GET /s/a/info HTTP/1.1\r\nHost: x\r\n\r\n";
+    let last = b"GET /s/a/frame/3 HTTP/1.1\r\nHost: x\r\n\r\n";
+    is_answered(&says(alloc, hub, 1, info), INFO) && is_inter(replied(&says(alloc, hub, 3, last)))
+}
+
+/// Whether two connections that ask for two pictures in turns of this order, while the stream grows and a third connection
+/// comes and goes, are each answered by their picture.
+fn asks_in(alloc: Global, cache: u32, order: [Turn; 8]) -> bool {
+    let Some(mut hub) = hub_of(alloc, &[b"a"], &parts(), cache) else {
+        return false;
+    };
+    let first = Peer {
+        number: 1,
+        left: &ASKS_KEY,
+        got: Vec::new(alloc),
+    };
+    let second = Peer {
+        number: 3,
+        left: &ASKS_INTER,
+        got: Vec::new(alloc),
+    };
+    let mut speakers = Speakers {
+        first,
+        second,
+        stream: &MORE,
+    };
+    take_all(alloc, &mut hub, &mut speakers, order)
+        && is_key(&speakers.first.got)
+        && is_inter(&speakers.second.got)
+        && has_grown(alloc, &mut hub)
+}
+
+#[test]
+fn bytes_in_turn(rt: HostRuntime) -> Result<(), Fail> {
+    for order in [
+        [First, Second, Stream, Third, First, Second, Stream, Third],
+        [Third, Stream, Second, First, Third, Stream, Second, First],
+        [Stream, Second, Third, Third, First, Second, First, Stream],
+        [First, First, First, First, Second, Second, Third, Stream],
+        [Second, Third, Second, Stream, Stream, Stream, Stream, First],
+        [
+            First, Stream, Stream, Second, Second, Second, Second, Second,
+        ],
+    ] {
+        assert!(rt;
+            asks_in(rt.alloc(), 1, order),
+            "{order:?}, one picture is kept"
+        );
+        assert!(rt;
+            asks_in(rt.alloc(), 2, order),
+            "{order:?}, two pictures are kept"
+        );
+    }
+    Ok(())
+}
+
+/// Whether a request is answered by the picture where the packet's last byte is fed before the request's last one, and else
+/// by none: so many bytes of the request come before it.
+fn fed_behind(alloc: Global, place: usize) -> bool
+    requires { place ≤ 38 }
+{
+    let Some(mut hub) = hub_of(alloc, &[b"a"], &[&FILE[..53]], 1) else {
+        return false;
+    };
+    let early = says(alloc, &mut hub, 1, &ASKS_KEY[..place]);
+    let fed = feeds(alloc, &mut hub, &FILE[53..54]);
+    let late = says(alloc, &mut hub, 1, &ASKS_KEY[place..]);
+    if place == 38 {
+        return is_answered(&early, NOT_FOUND) && is_answered(&fed, b"") && is_answered(&late, b"");
+    }
+    is_answered(&early, b"") && is_answered(&fed, b"") && is_key(replied(&late))
+}
+
+#[test]
+fn fed_between_each_two_bytes(rt: HostRuntime) -> Result<(), Fail> {
+    for place in 0..=38 {
+        assert!(rt; fed_behind(rt.alloc(), place), "behind {place} bytes");
+    }
+    Ok(())
+}

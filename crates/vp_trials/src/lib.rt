@@ -1,0 +1,20 @@
+//! Trials that go through all layers: refusals, cut files, changed bytes, failing devices, interleavings. There is nothing
+//! here but tests; what they want is worked by hand from the rules of the formats.
+#![tactic(auto)]
+
+#[cfg(test)]
+mod changed_bytes;
+#[cfg(test)]
+mod connections;
+#[cfg(test)]
+mod cut_files;
+#[cfg(test)]
+mod failing_devices;
+#[cfg(test)]
+mod files;
+#[cfg(test)]
+mod hubs;
+#[cfg(test)]
+mod interleavings;
+#[cfg(test)]
+mod refusals;

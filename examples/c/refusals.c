@@ -1,0 +1,98 @@
+/* refusals: calls what include/vp8.h says is refused, and ends with 1 where an answer is another one. */
+#include <stdio.h>
+#include <string.h>
+
+#include "vp8.h"
+
+static int failed;
+
+static void expect(const char *what, vp8_status got, vp8_status wanted)
+{
+  if (got == wanted) return;
+  printf("%s: status %u and not %u\n", what, got, wanted);
+  failed = 1;
+}
+
+/* A key packet of 16 by 16 pixels without a coefficient, and an inter packet that changes nothing. */
+static const uint8_t KEY[10] = { 0x10, 0, 0, 0x9d, 0x01, 0x2a, 0x10, 0, 0x10, 0 };
+static const uint8_t INTER[3] = { 0x11, 0, 0 };
+static const uint8_t HIDDEN[3] = { 0x01, 0, 0 };
+
+static void decoders(void)
+{
+  uint8_t y[256], u[64], v[64];
+  uint32_t width = 7, height = 7;
+  vp8_decoder decoder = VP8_INIT;
+  expect("closed", vp8_decoder_decode(&decoder, KEY, sizeof KEY), VP8_CLOSED);
+  expect("no limits", vp8_decoder_new(&decoder, 0), VP8_LIMITS);
+  expect("new", vp8_decoder_new(&decoder, 256), VP8_OK);
+  expect("new again", vp8_decoder_new(&decoder, 256), VP8_OPEN);
+  expect("no picture", vp8_decoder_size(&decoder, &width, &height), VP8_NO_PICTURE);
+  expect("inter first", vp8_decoder_decode(&decoder, INTER, sizeof INTER), VP8_NO_REFERENCE);
+  expect("cut", vp8_decoder_decode(&decoder, KEY, 9), VP8_TRUNCATED);
+  expect("key", vp8_decoder_decode(&decoder, KEY, sizeof KEY), VP8_OK);
+  expect("size", vp8_decoder_size(&decoder, &width, &height), VP8_OK);
+  expect("16 by 16", width * 1000 + height, 16016);
+  expect("short row", vp8_decoder_copy(&decoder, y, 256, 15, u, 64, 8, v, 64, 8), VP8_BUFFER);
+  expect("short plane", vp8_decoder_copy(&decoder, y, 256, 16, u, 63, 8, v, 64, 8), VP8_BUFFER);
+  expect("copy", vp8_decoder_copy(&decoder, y, 256, 16, u, 64, 8, v, 64, 8), VP8_OK);
+  /* The first four rows of such a packet are 128, those below 129; colour is 128. */
+  expect("pixels", y[63] * 1000000 + y[64] * 1000 + u[63], 128129128);
+  expect("hidden", vp8_decoder_decode(&decoder, HIDDEN, sizeof HIDDEN), VP8_HIDDEN);
+  expect("nothing shown", vp8_decoder_size(&decoder, &width, &height), VP8_NO_PICTURE);
+  vp8_decoder_free(&decoder);
+  vp8_decoder_free(&decoder);
+  expect("after free", vp8_decoder_decode(&decoder, KEY, sizeof KEY), VP8_CLOSED);
+}
+
+static void streams(void)
+{
+  uint8_t picture[384];
+  vp8_stream stream = VP8_INIT;
+  vp8_stream_info info;
+  expect("closed stream", vp8_stream_picture_at(&stream, 0), VP8_CLOSED);
+  expect("no IVF file", vp8_stream_new(&stream, (const uint8_t *)"no IVF file, but over 32 bytes of a text", 40), VP8_OK);
+  expect("its info", vp8_stream_get_info(&stream, &info), VP8_OK);
+  expect("its fault", info.fault, VP8_SIGNATURE);
+  expect("its packets", vp8_stream_picture_at(&stream, 0), VP8_NO_PACKET);
+  expect("its picture", vp8_stream_copy_i420(&stream, picture, sizeof picture), VP8_NO_PICTURE);
+  vp8_stream_free(&stream);
+}
+
+static void encoders(void)
+{
+  uint8_t grey[256];
+  size_t size;
+  uint64_t error;
+  vp8_settings settings = { .qi = 128, .key_every = 1, .partitions = 1 };
+  vp8_encoder encoder = VP8_INIT;
+  memset(grey, 128, sizeof grey);
+  expect("settings", vp8_encoder_new(&encoder, 16, 16, &settings), VP8_SETTINGS);
+  settings.qi = 0;
+  expect("sides", vp8_encoder_new(&encoder, 16, 0, &settings), VP8_DIMENSIONS);
+  expect("encoder", vp8_encoder_new(&encoder, 16, 16, &settings), VP8_OK);
+  expect("no packet", vp8_encoder_packet_size(&encoder, &size), VP8_NO_PICTURE);
+  expect("short source", vp8_encoder_encode(&encoder, grey, 255, 16, grey, 64, 8, grey, 64, 8), VP8_BUFFER);
+  expect("encode", vp8_encoder_encode(&encoder, grey, 256, 16, grey, 64, 8, grey, 64, 8), VP8_OK);
+  expect("error", vp8_encoder_squared_error(&encoder, &error), VP8_OK);
+  vp8_encoder_free(&encoder);
+  expect("freed", vp8_encoder_squared_error(&encoder, &error), VP8_CLOSED);
+}
+
+static void names(void)
+{
+  uint8_t name[32];
+  expect("a name's length", vp8_status_name(VP8_TOO_LARGE, name, sizeof name), 8);
+  expect("a name", strcmp((char *)name, "TooLarge") == 0, 1);
+  expect("a partition's name", vp8_status_name(VP8_PARTITION + 2, name, sizeof name) == 11 && strcmp((char *)name, "Partition 2") == 0, 1);
+  expect("no status", vp8_status_name(999999, name, sizeof name), 0);
+}
+
+int main(void)
+{
+  decoders();
+  streams();
+  encoders();
+  names();
+  return failed;
+}

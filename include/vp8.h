@@ -1,0 +1,214 @@
+/* vp8: decode and encode VP8 video (RFC 6386), from C.
+ *
+ * Each function is a proved one of the Rattle libraries: it does what its comment says whatever the bytes are, reads and
+ * writes only the memory that it is handed, always returns, and never ends the process. The contracts behind the comments
+ * stand in crates/vp8_c/src.
+ *
+ * What no contract can hold a caller to, and a caller has to keep:
+ *   - No pointer is null, also where the length beside it is 0, and behind each are as many bytes as its length says.
+ *   - Memory that a call writes to is handed to it once: two buffers of one call do not overlap, nor a buffer and a handle.
+ *   - A handle is used by one thread at a time, is never copied, and its fields are never written.
+ *   - malloc, realloc and free come from one allocator, and give blocks aligned as C's do. No call is made from a signal
+ *     handler, or from the forked child of a process with threads.
+ *
+ * A handle (vp8_decoder, vp8_encoder, vp8_stream) lies in the caller's memory, and is closed before `new` and after `free`:
+ *
+ *     vp8_decoder decoder = VP8_INIT;
+ *     vp8_status status = vp8_decoder_new(&decoder, 16777216);
+ *
+ * A call with a closed handle is refused with VP8_CLOSED, and `new` with an open one with VP8_OPEN; neither changes anything.
+ * `free` of a closed handle does nothing.
+ *
+ * Pictures are I420: a plane of luma (Y) as large as the picture, and two of colour (U, V), whose sides are half of its,
+ * rounded up. A plane in the caller's memory is a pointer, a length and a stride, all in bytes: row r begins r strides
+ * behind the pointer. It fits where the stride is no less than the plane's width, and the last row ends within the length;
+ * a plane that is too small is refused with VP8_BUFFER, and nothing is written.
+ */
+#ifndef VP8_H
+#define VP8_H
+
+#include <stddef.h>
+#include <stdint.h>
+
+#ifdef __cplusplus
+extern "C" {
+#endif
+
+/* What a call came to. vp8_status_name gives the names. */
+typedef uint32_t vp8_status;
+
+enum {
+  /* It is done. Of a packet: it is decoded, and its picture is shown. */
+  VP8_OK = 0,
+  /* The packet is decoded, and no picture is shown for it. */
+  VP8_HIDDEN = 1,
+
+  /* The packet can't be decoded. */
+  VP8_TRUNCATED = 16,       /* fewer than 3 bytes, or fewer than 10 of a key packet */
+  VP8_VERSION = 17,         /* a version over 3 */
+  VP8_START_CODE = 18,      /* a key packet without the start code 9d 01 2a */
+  VP8_SIZE = 19,            /* a side of 0 */
+  VP8_TOO_LARGE = 20,       /* more pixels than the decoder allows */
+  VP8_NO_REFERENCE = 21,    /* an inter packet where no key packet was decoded before, or a fault came since */
+  VP8_FIRST_PARTITION = 22, /* the first partition passes the end of the packet */
+  VP8_PARTITION_TABLE = 23, /* the table of the token partitions' sizes passes the end */
+  VP8_PARTITION = 256,      /* VP8_PARTITION + n: token partition n, from 0, is the first that passes the end */
+
+  /* The file can't be read on. */
+  VP8_SIGNATURE = 32,        /* its head doesn't begin with DKIF */
+  VP8_CODEC = 33,            /* its head doesn't say VP80 */
+  VP8_TOO_MANY = 34,         /* it has more packets than 1,048,576 */
+  VP8_PACKET_TOO_LARGE = 35, /* a packet is larger than 16,777,216 bytes */
+  VP8_TORN = 36,             /* it ends inside its head or a packet */
+
+  /* The frame can't be encoded. */
+  VP8_SETTINGS = 48, /* a setting is out of its range */
+  VP8_TOO_LONG = 49, /* a partition of the packet is too long for the format */
+
+  /* The call is refused. */
+  VP8_CLOSED = 64,     /* the handle is closed */
+  VP8_OPEN = 65,       /* the handle is open already */
+  VP8_MEMORY = 66,     /* memory was refused */
+  VP8_LIMITS = 67,     /* max_pixels is 0, or over 268,402,689 */
+  VP8_DIMENSIONS = 68, /* a side is 0, or over 16,383 */
+  VP8_NO_PICTURE = 69, /* there is no picture to give: none is shown, or none was encoded */
+  VP8_NO_PACKET = 70,  /* the file has no packet of this number */
+  VP8_BUFFER = 71      /* a length or a stride is too small */
+};
+
+/* Copies the name of a status, as "TooLarge" or "Partition 2", and a 0 behind it, to `out`, where there is room for both;
+ * else `out` is left as it is. Returns the name's length without the 0, which is 0 for a number that is no status; no name
+ * has more than 14 characters, and token partitions have names up to 7. */
+size_t vp8_status_name(vp8_status status, uint8_t *out, size_t out_len);
+
+/* A closed handle. */
+#define VP8_INIT { 0, 0 }
+
+/* ---- decoding packets, one after another */
+
+typedef struct vp8_decoder {
+  uint32_t in_use;
+  void *state;
+} vp8_decoder;
+
+/* Opens a decoder that refuses pictures of more pixels (width times height) than max_pixels, from 1 to 268,402,689.
+ * VP8_OPEN, VP8_LIMITS, VP8_MEMORY. */
+vp8_status vp8_decoder_new(vp8_decoder *decoder, uint32_t max_pixels);
+
+/* Decodes a packet, which is one frame: a key packet at first, and then each packet over those before it. A packet of no
+ * bytes is a frame that its sender dropped: the last shown picture is shown again.
+ * VP8_OK: its picture is shown, and vp8_decoder_copy gives it. VP8_HIDDEN: it is not to be shown.
+ * VP8_TRUNCATED to VP8_PARTITION_TABLE, VP8_PARTITION + n: it can't be decoded; then packets are VP8_NO_REFERENCE until a
+ * key packet is decoded. VP8_MEMORY: the decoder is as before, and the packet may be tried again. VP8_CLOSED. */
+vp8_status vp8_decoder_decode(vp8_decoder *decoder, const uint8_t *packet, size_t packet_len);
+
+/* The size in pixels of the picture that the last packet showed. VP8_NO_PICTURE, VP8_CLOSED: nothing is written. */
+vp8_status vp8_decoder_size(vp8_decoder *decoder, uint32_t *width, uint32_t *height);
+
+/* Copies the picture that the last packet showed, row by row, and leaves each other byte of the buffers as it is.
+ * VP8_NO_PICTURE, VP8_BUFFER, VP8_CLOSED: nothing is written. */
+vp8_status vp8_decoder_copy(vp8_decoder *decoder,
+                            uint8_t *y, size_t y_len, size_t y_stride,
+                            uint8_t *u, size_t u_len, size_t u_stride,
+                            uint8_t *v, size_t v_len, size_t v_stride);
+
+/* Frees what the decoder holds, and closes it. */
+void vp8_decoder_free(vp8_decoder *decoder);
+
+/* ---- an IVF file in memory, whose pictures are asked for by number */
+
+typedef struct vp8_stream {
+  uint32_t in_use;
+  void *state;
+} vp8_stream;
+
+/* What is known of a file. */
+typedef struct vp8_stream_info {
+  uint32_t width;   /* the width and height in pixels that the head says, which need not be a picture's */
+  uint32_t height;
+  uint32_t rate;    /* the head's rate and scale: rate / scale pictures a second */
+  uint32_t scale;
+  uint32_t packets; /* how many packets are whole; they are numbered from 0 */
+  uint32_t fault;   /* VP8_OK, or why no more are read: VP8_SIGNATURE to VP8_TORN */
+} vp8_stream_info;
+
+/* Opens a stream, and copies the bytes of a whole IVF file into it. Pictures have at most 16,777,216 pixels.
+ * What is wrong with the file is told by vp8_stream_info: its whole packets can be asked for all the same.
+ * VP8_OPEN, VP8_MEMORY: the stream is as before. */
+vp8_status vp8_stream_new(vp8_stream *stream, const uint8_t *bytes, size_t bytes_len);
+
+/* What is known of the file; all 0 but `fault`, where its head isn't whole or good. VP8_CLOSED: nothing is written. */
+vp8_status vp8_stream_get_info(vp8_stream *stream, vp8_stream_info *info);
+
+/* Decodes packet n, from the last key packet before it on, and keeps its picture for the calls below.
+ * VP8_OK, VP8_HIDDEN and the faults as vp8_decoder_decode's. VP8_NO_PACKET. VP8_MEMORY, VP8_CLOSED: what was kept before
+ * is kept on. */
+vp8_status vp8_stream_picture_at(vp8_stream *stream, uint32_t n);
+
+/* The size in pixels of the picture that is kept. VP8_NO_PICTURE, VP8_CLOSED: nothing is written. */
+vp8_status vp8_stream_size(vp8_stream *stream, uint32_t *width, uint32_t *height);
+
+/* Copies the picture that is kept as Y, U and V, each row after row with nothing between: width * height bytes, and twice
+ * ((width + 1) / 2) * ((height + 1) / 2). Bytes behind them stay as they are.
+ * VP8_NO_PICTURE, VP8_BUFFER, VP8_CLOSED: nothing is written. */
+vp8_status vp8_stream_copy_i420(vp8_stream *stream, uint8_t *out, size_t out_len);
+
+/* Frees what the stream holds, and closes it. */
+void vp8_stream_free(vp8_stream *stream);
+
+/* ---- encoding pictures, one after another */
+
+typedef struct vp8_encoder {
+  uint32_t in_use;
+  void *state;
+} vp8_encoder;
+
+typedef struct vp8_settings {
+  uint8_t qi;            /* the quantiser index, 0 to 127: 0 loses least */
+  uint8_t level;         /* the loop filter's level, 0 to 63; 0 filters nothing */
+  uint8_t sharpness;     /* the loop filter's sharpness, 0 to 7 */
+  uint8_t simple;        /* not 0: the simple loop filter */
+  uint32_t key_every;    /* frames from one key frame to the next, from 1; 1 makes each one a key frame */
+  uint32_t golden_every; /* frames from one golden picture to the next; 0: none but the key frame's */
+  uint8_t range;         /* how many whole pixels a vector goes at most, 0 to 64 */
+  uint8_t subpel;        /* not 0: vectors in quarter pixels */
+  uint8_t partitions;    /* token partitions of a packet: 1, 2, 4 or 8 */
+} vp8_settings;
+
+/* Opens an encoder of pictures of this size in pixels; each side from 1 to 16,383.
+ * VP8_OPEN, VP8_DIMENSIONS, VP8_SETTINGS, VP8_MEMORY. */
+vp8_status vp8_encoder_new(vp8_encoder *encoder, uint32_t width, uint32_t height, const vp8_settings *settings);
+
+/* Encodes a picture of the encoder's size as one packet, to be decoded behind those before it, and keeps the packet and the
+ * picture that decoders show for it.
+ * VP8_TOO_LONG, VP8_MEMORY: nothing is kept, and the next frame is a key frame. VP8_BUFFER, VP8_CLOSED: nothing changes. */
+vp8_status vp8_encoder_encode(vp8_encoder *encoder,
+                              const uint8_t *y, size_t y_len, size_t y_stride,
+                              const uint8_t *u, size_t u_len, size_t u_stride,
+                              const uint8_t *v, size_t v_len, size_t v_stride);
+
+/* The length in bytes of the packet that is kept. VP8_NO_PICTURE, VP8_CLOSED: nothing is written. */
+vp8_status vp8_encoder_packet_size(vp8_encoder *encoder, size_t *size);
+
+/* Copies the packet that is kept; bytes behind it stay as they are.
+ * VP8_NO_PICTURE, VP8_BUFFER, VP8_CLOSED: nothing is written. */
+vp8_status vp8_encoder_packet(vp8_encoder *encoder, uint8_t *out, size_t out_len);
+
+/* Copies the picture that decoders show for that packet, as vp8_decoder_copy does. */
+vp8_status vp8_encoder_reconstruction(vp8_encoder *encoder,
+                                      uint8_t *y, size_t y_len, size_t y_stride,
+                                      uint8_t *u, size_t u_len, size_t u_stride,
+                                      uint8_t *v, size_t v_len, size_t v_stride);
+
+/* The sum of the squares of the differences between the source's pixels and that picture's, of Y, U and V.
+ * VP8_NO_PICTURE, VP8_CLOSED: nothing is written. */
+vp8_status vp8_encoder_squared_error(vp8_encoder *encoder, uint64_t *error);
+
+/* Frees what the encoder holds, and closes it. */
+void vp8_encoder_free(vp8_encoder *encoder);
+
+#ifdef __cplusplus
+}
+#endif
+
+#endif
