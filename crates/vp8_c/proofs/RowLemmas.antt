@@ -1,10 +1,10 @@
 -- Rows written one after another.
 use borrow.Author.Rules.{rules}
-use Rattle.std.proofs.Common.{◌≡◌, ◌≢◌, ◌≤◌, ◌<◌, ◌∙◌, ℕ, ◌+◌, ◌-◌, ◌*◌, ◌/◌, ap₂, List, length, take, get_or, refl, ap, sym, subst, inl, inr, arith, mul-le-mul_left}
+use Rattle.std.proofs.Common.{◌≡◌, ◌≤◌, ◌<◌, ◌∙◌, ℕ, ◌+◌, ◌-◌, ◌*◌, ◌/◌, ap₂, List, length, take, get_or, refl, ap, sym, subst, inl, inr, arith}
 use Rattle.std.proofs.lemmas.Nat.{rows}
 use Rattle.std.proofs.lemmas.Bool.{cases_lt}
 use Rattle.std.specs.Prelude.{slice_range}
-use Rattle.std.proofs.lemmas.List.{get_or-take, length-take, places}
+use Rattle.std.proofs.lemmas.List.{get_or-take, places}
 use Rattle.vp_base.specs.Raster.{Raster, overlay, pixel, row_of, with_run}
 use Rattle.vp_base.specs.Block.{IsWhole}
 use Rattle.vp_base.specs.Image.{Image, plane_of, with_plane}

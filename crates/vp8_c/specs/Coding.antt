@@ -1,5 +1,5 @@
 -- The encoder that a handle leads to.
-use Rattle.std.specs.Prelude.{◌≡◌, ◌≢◌, ◌==◌, not, ℕ, List, Option, Some, None, option_and_then}
+use Rattle.std.specs.Prelude.{◌≡◌, ◌==◌, not, ℕ, List, Option, Some, None, option_and_then}
 use Rattle.vp_base.specs.Image.{Image}
 use Rattle.vp_encode.specs.declared.encoder.Encoded.{Encoded}
 use Rattle.vp_encode.specs.declared.settings.Settings.{Settings}

@@ -13,7 +13,6 @@ use Rattle.vp_bool.specs.Reader.{Reader, bind, rows as rows_of}
 use Rattle.vp_head.specs.declared.fault.PacketFault.{PacketFault}
 use Rattle.vp_head.specs.declared.fields.Header.{Header}
 use Rattle.vp_head.specs.declared.fields.KeyTag.{KeyTag}
-use Rattle.vp_head.specs.declared.fields.Saved.{Saved}
 use Rattle.vp_head.specs.declared.fields.Tag.{Tag}
 use Rattle.vp_head.specs.Reference.{is_intra}
 use Rattle.vp_head.specs.Tag.{bits, has_start_code, word_at, tag_word, within, size_of, key_with, key_of, tag_with, tag_with_key, tag_of_word, tag_of}
@@ -23,7 +22,7 @@ use Rattle.vp_modes.specs.Map.{segments_of}
 use Rattle.vp_modes.specs.Modes.{modes_at}
 use Rattle.vp_motion.specs.Vector.{Entry}
 use Rattle.vp_quant.specs.Quant.{factors, index_of}
-use Rattle.vp_refs.specs.References.{References, picture_of}
+use Rattle.vp_refs.specs.References.{picture_of}
 use Rattle.vp_recon.specs.Source.{Intra, Inter, macroblock_of}
 use Rattle.vp_choose.specs.declared.frame.Choice.{Choice}
 use Rattle.vp_choose.specs.Frame.{Frame, source_by, no_biases}

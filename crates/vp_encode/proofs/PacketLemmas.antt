@@ -1,6 +1,6 @@
 -- What is opened of a packet that was put together.
 use Rattle.std.proofs.Common.{◌≡◌, ◌∙◌, ℕ, zero, suc, ◌+◌, ◌-◌, ◌*◌, ◌^◌, ◌<◌, ◌≤◌, Bool, true, false, List, [], ◌∷◌, ◌++◌, length, take, drop, map, replicate, refl, sym, ap, subst, arith, append_assoc, length-append}
-use Rattle.std.specs.Prelude.{Option, Some, None, IfSome, Result, Ok, Vec, nat_lt, unwrap_or, slice_get, slice_index_or, if◌then◌else◌}
+use Rattle.std.specs.Prelude.{Option, Some, None, IfSome, Ok, Vec, nat_lt, unwrap_or, slice_get, slice_index_or, if◌then◌else◌}
 use Rattle.std.specs.Global.{Global}
 use Rattle.std.proofs.lemmas.List.{drop_at, take_at, take-map, get_or-take, length-map, length-take}
 use Rattle.vp_bool.specs.Bools.{State, start}
@@ -18,21 +18,18 @@ use Rattle.vp_head.specs.declared.fields.Tag.{Tag}
 use Rattle.vp_head.specs.declared.fields.KeyTag.{KeyTag}
 use Rattle.vp_head.specs.declared.fields.Header.{Header}
 use Rattle.vp_head.specs.declared.fields.Saved.{Saved}
-use Rattle.vp_head.specs.declared.fault.PacketFault.{PacketFault}
 use Rattle.vp_head.specs.Tag.{tag_of}
 use Rattle.vp_head.specs.Header.{header}
-use Rattle.vp_head.specs.Saved.{defaults, kept_after}
+use Rattle.vp_head.specs.Saved.{kept_after}
 use Rattle.vp_head.specs.Spelled.{kept_before}
 use Rattle.vp_head.specs.Reference.{is_intra}
-use Rattle.vp_modes.specs.Entry.{Modes}
 use Rattle.vp_modes.specs.Map.{of_segments}
 use Rattle.vp_motion.specs.Vector.{Entry}
 use Rattle.vp_motion.specs.Map.{intra}
-use Rattle.vp_refs.specs.References.{References}
 use Rattle.vp_tokens.specs.Partitions.{cut_of, lists, AreBelow24Bits}
 use Rattle.vp_decode.specs.Maps.{Maps, maps_read}
-use Rattle.vp_decode.specs.Frame.{Plan, tokens_of}
-use Rattle.vp_decode.specs.Step.{Kept, Basis, key_basis, inter_basis, Opened, opened_over, plan_of, maps_before, tag_length, first_part, count_of}
+use Rattle.vp_decode.specs.Frame.{Plan}
+use Rattle.vp_decode.specs.Step.{Basis, key_basis, inter_basis, Opened, opened_over, plan_of, maps_before, tag_length, first_part, count_of}
 use Rattle.vp_decode.proofs.CutLemmas.{opened_ok, opened-by}
 use Rattle.vp_encode.specs.declared.coded.Coded.{Coded}
 use Rattle.vp_encode.specs.Coded.{macroblock_at}

@@ -1,9 +1,8 @@
 -- What a packet that says a frame leaves: its picture is shown, and kept.
 use Rattle.std.proofs.Common.{◌≡◌, ◌∙◌, ℕ, ◌*◌, ◌≤◌, Bool, List, [], ◌∷◌, ap}
-use Rattle.std.specs.Prelude.{Option, Some, IfSome, Result, Ok}
+use Rattle.std.specs.Prelude.{Option, Some, IfSome, Ok}
 use Rattle.vp_base.specs.declared.limits.Limits.{Limits}
 use Rattle.vp_head.specs.declared.fields.KeyTag.{KeyTag}
-use Rattle.vp_head.specs.declared.fault.PacketFault.{PacketFault}
 use Rattle.vp_head.specs.Tag.{tag_of}
 use Rattle.vp_decode.specs.Frame.{picture_of}
 use Rattle.vp_decode.specs.Step.{Kept, Basis, basis_of, Opened, opened, said, left_by, Shown, answer, decoded, step}

@@ -1,4 +1,4 @@
-use Rattle.std.proofs.Common.{◌≡◌, ◌<◌, ◌∙◌, length, ap, arith}
+use Rattle.std.proofs.Common.{◌≡◌, ◌∙◌, length, ap, arith}
 use Rattle.vp8_c.specs.Names.{name_of}
 use Rattle.vp8_c.proofs.NameLemmas.{put_ended}
 use Rattle.vp8_c.proofs.names.vp8_status_name.Goals as goal

@@ -1,6 +1,6 @@
 use Rattle.std.proofs.Common.{◌≡◌, ◌≤◌, ◌+◌, ◌*◌, ◌∙◌, List, ℕ, length, take, arith, sym, subst}
 use Rattle.std.proofs.lemmas.List.{length-take}
-use Rattle.vp_base.specs.Raster.{overlay, pixel}
+use Rattle.vp_base.specs.Raster.{pixel}
 use Rattle.vp8_c.specs.Rows.{HoldsRows}
 use Rattle.vp8_c.proofs.RowLemmas.{holds_none, holds_more, row_is, ends_within}
 use Rattle.vp8_c.proofs.rows.copy_plane.Goals as goal

@@ -1,4 +1,4 @@
-use Rattle.std.proofs.Common.{◌≡◌, ◌≤◌, ◌+◌, ◌*◌, List, ℕ, length, arith, subst}
+use Rattle.std.proofs.Common.{◌≤◌, ◌+◌, ◌*◌, length, arith, subst}
 use Rattle.std.specs.Prelude.{slice_range}
 use Rattle.vp_base.specs.Block.{IsWhole}
 use Rattle.vp_base.specs.Raster.{Raster}

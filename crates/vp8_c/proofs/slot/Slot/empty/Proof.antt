@@ -1,12 +1,11 @@
 -- An empty slot owns nothing.
 use Rattle.std.proofs.Common.{lit<, ◌≡◌, [], ◌∷◌, refl}
 use Rattle.std.specs.Prelude.{None}
-use mir.Val.{Val}
 use base.Logic.{emp}
 use base.Fml.{ftrue}
 use contract.Monad.{fact, fact_i}
-use types.Kit.{‵, raw, ◌⊛◌, split, ◌$◌, ◌∵◌, !, qed, by, keep, drop, use0}
-use types.Run.{enter, of_opd, lit, no_more, and_then, returns}
+use types.Kit.{‵, raw, ◌⊛◌, split, ◌$◌, ◌∵◌, !, qed, by, keep, use0}
+use types.Run.{enter, lit, no_more, and_then, returns}
 use types.ByLocal.{alloc_all, pass_all, free_all, look_at, sets}
 use types.Part.{agg}
 use denote.RawPtr.{null_ptr}
