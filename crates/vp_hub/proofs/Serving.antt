@@ -6,12 +6,13 @@ use Rattle.vp_heads.proofs.HeadLemmas.{asked_unique}
 use Rattle.vp_hub.specs.Pages.{Streams, IsReply, content_of}
 use Rattle.vp_hub.specs.declared.connection.Link.{Link}
 use Rattle.vp_heads.specs.Replies.{too_long, reply_to}
-use Rattle.vp_hub.specs.Hub.{Chosen, ends_head, Settles, TakesByte, Serves}
+use Rattle.vp_hub.specs.declared.event.Event.{Event}
+use Rattle.vp_hub.specs.Hub.{Chosen, Outcome, ends_head, Settles, TakesByte, Serves, IsStep}
 use Rattle.vp_cache.specs.Kept.{State as Cache}
 use Rattle.std.specs.Prelude.{Result, Ok, Err, OnErr, slice_index}
 use Rattle.std.proofs.lemmas.List.{take-append-drop, drop_more}
 use Rattle.vp_stream.specs.Seeking.{counted}
-use Rattle.vp_hub.specs.Work.{CostsByte, CostsByteAtMost, Costs, CostsAtMost}
+use Rattle.vp_hub.specs.Work.{CostsByte, CostsByteAtMost, Costs, CostsAtMost, Whole, IsWorked, IsWorkedRun}
 
 chosen_true : (t : Bool) (A B : Type 0) → t ≡ true → A → Chosen t A B
 chosen_true true A B h a = a
@@ -83,32 +84,32 @@ costs_served ss (b ∷ bs) v w c d n (mid, cache, first, rest, takes, costs, mor
 pub counted_more : (n k work old : ℕ) → old ≡ counted 0 n → work ≡ counted old k → work ≡ counted 0 (n + k)
 counted_more n k work old first more = omega (arith, first, more)
 
+at_least_of : (n work old : ℕ) → old ≡ counted 0 n → old ≤ work → counted 0 n ≤ work
+at_least_of n work old first more = omega (arith, first, more)
+
 at_most_of : (n k work old : ℕ) → old ≡ counted 0 n → work ≤ counted old k → work ≤ counted 0 (n + k)
 at_most_of n k work old first more = omega (arith, first, more)
 
 -- memory was refused at a byte
-pub at_most : {X Y : Type 0} (r : Result X Y) (ss : Streams) (piece : List ℕ) (i : ℕ) (v w : Link × List ℕ) (c d : Cache) (n work old : ℕ) → i < length piece
+pub at_most : {X Y : Type 0} (r : Result X Y) (ss : Streams) (piece : List ℕ) (i : ℕ) (v w : Link × List ℕ) (c d e : Cache) (n work old : ℕ) → i < length piece
     → Costs ss (take i piece) v w c d n → old ≡ counted 0 n
-    → ((k : ℕ) × CostsByteAtMost ss (slice_index piece i) w.0 d k × (work ≤ counted old k))
-    → OnErr r ((k : ℕ) × CostsAtMost ss piece v c k × (work ≤ counted 0 k))
-at_most (Ok x) ss piece i v w c d n work old at h first most = tt
-at_most (Err y) ss piece i v w c d n work old at h first (k, ends, bound) = (
-  n + k,
-  record {
-    front = take i piece;
-    byte = slice_index piece i;
-    back = drop (i + 1) piece;
-    mid = w;
-    cache = d;
-    before = n;
-    last = k;
-    piece_is = sym (take-append-drop i piece) ∙ ap (λ ys. take i piece ++ ys) (drop_more piece i 0 at);
-    costs = h;
-    ends = ends;
-    cost_is = refl;
-  },
-  at_most_of n k work old first bound,
-)
+    → ((k : ℕ) × CostsByteAtMost ss (slice_index piece i) w.0 d e k × (old ≤ work) × (work ≤ counted old k))
+    → OnErr r (CostsAtMost ss piece v c e work)
+at_most (Ok x) ss piece i v w c d e n work old at h first most = tt
+at_most (Err y) ss piece i v w c d e n work old at h first (k, ends, least, most) = record {
+  front = take i piece;
+  byte = slice_index piece i;
+  back = drop (i + 1) piece;
+  mid = w;
+  cache = d;
+  before = n;
+  last = k;
+  piece_is = sym (take-append-drop i piece) ∙ ap (λ ys. take i piece ++ ys) (drop_more piece i 0 at);
+  costs = h;
+  ends = ends;
+  least = at_least_of n work old first least;
+  most = at_most_of n k work old first most;
+}
 
 -- behind the place where a connection was closed, nothing more is taken
 pub costs_to_end : (ss : Streams) (piece : List ℕ) (i : ℕ) (v w : Link × List ℕ) (c d : Cache) (n : ℕ) → w.0.closed ≡ true
@@ -120,3 +121,13 @@ costs_to_end ss piece i v w c d n closed h =
   where
     sum : (n : ℕ) → n + 0 ≡ n
     sum n = omega arith
+
+-- ---- a run goes on by one step
+
+pub worked_more : (s : Whole) (es : List Event) (os : List Outcome) (mid : Whole) (e : Event) (o : Outcome) (new : Whole)
+    → IsWorkedRun s es os mid → IsStep mid.state e o new.state → IsWorked mid e o new → IsWorkedRun s (es ++ e ∷ []) (os ++ o ∷ []) new
+worked_more s [] [] mid e o new run step work =
+    (new, subst (λ (x : Whole). IsStep x.state e o new.state) run step, subst (λ x. IsWorked x e o new) run work, refl)
+worked_more s (d ∷ es) (p ∷ os) mid e o new run step work = (run.0, run.1, run.2, worked_more run.0 es os mid e o new run.3 step work)
+worked_more s [] (p ∷ os) mid e o new run step work = absurd run
+worked_more s (d ∷ es) [] mid e o new run step work = absurd run

@@ -13,7 +13,7 @@ use Rattle.vp_hub.specs.declared.event.Event.{Event}
 use Rattle.vp_hub.specs.declared.event.Event.TheVariants.{Feed, End, Open, Bytes, Shut}
 use Rattle.vp_hub.specs.declared.event.HubFault.TheVariants.{Memory}
 use Rattle.vp_hub.specs.Pages.{Streams}
-use Rattle.vp_hub.specs.Hub.{Chosen, Outcome, ends_head, TakesByte, State, link_of}
+use Rattle.vp_hub.specs.Hub.{Chosen, Outcome, ends_head, TakesByte, State, link_of, IsStep}
 
 -- ---- one request
 
@@ -56,10 +56,11 @@ pub record IsCost (streams : Streams) (head : List ℕ) (old new : Cache) (cost 
   pub after : IsAfterAsked streams request.wanted old new
   pub cost_is : cost ≡ cost_of streams request.wanted old
 
--- what it costs at most, where memory was refused on the way
-pub record IsMostCost (streams : Streams) (head : List ℕ) (old : Cache) (cost : ℕ) : Type 0 where
+-- what it costs at most, where memory was refused on the way; its picture is kept by then, or not
+pub record IsMostCost (streams : Streams) (head : List ℕ) (old new : Cache) (cost : ℕ) : Type 0 where
   pub request : Request
   pub asked : IsAsked streams.names head request
+  pub after : (new ≡ old) ⊎ IsAfterAsked streams request.wanted old new
   pub cost_is : cost ≡ cost_of streams request.wanted old
 
 -- a byte costs what the head does that it ends, if it ends one
@@ -91,12 +92,12 @@ IsWork (Bytes c piece) s old new work = CostsPiece s.streams piece (link_of c s.
 IsWork (Shut c) s old new work = (new ≡ old) × (work ≡ 0)
 
 -- where memory was refused at a byte: nothing is decoded, or no more than for the head that the byte ends
-abbrev pub CostsByteAtMost : Streams → ℕ → Link → Cache → ℕ → Type 0
-CostsByteAtMost streams b link old cost =
-    (cost ≡ 0) ⊎ ((ends_head (link.pending ++ b ∷ []) ≡ true) × IsMostCost streams (link.pending ++ b ∷ []) old cost)
+abbrev pub CostsByteAtMost : Streams → ℕ → Link → Cache → Cache → ℕ → Type 0
+CostsByteAtMost streams b link old new cost =
+    ((new ≡ old) × (cost ≡ 0)) ⊎ ((ends_head (link.pending ++ b ∷ []) ≡ true) × IsMostCost streams (link.pending ++ b ∷ []) old new cost)
 
--- the bytes before that one cost what they do
-pub record CostsAtMost (streams : Streams) (piece : List ℕ) (v : Link × List ℕ) (old : Cache) (cost : ℕ) : Type 0 where
+-- the bytes before that one cost what they do, and no less is counted
+pub record CostsAtMost (streams : Streams) (piece : List ℕ) (v : Link × List ℕ) (old new : Cache) (work : ℕ) : Type 0 where
   pub front : List ℕ
   pub byte : ℕ
   pub back : List ℕ
@@ -106,19 +107,20 @@ pub record CostsAtMost (streams : Streams) (piece : List ℕ) (v : Link × List 
   pub last : ℕ
   pub piece_is : piece ≡ front ++ byte ∷ back
   pub costs : Costs streams front v mid old cache before
-  pub ends : CostsByteAtMost streams byte mid.0 cache last
-  pub cost_is : cost ≡ before + last
+  pub ends : CostsByteAtMost streams byte mid.0 cache new last
+  pub least : counted 0 before ≤ work
+  pub most : work ≤ counted 0 (before + last)
 
-abbrev pub CostsPieceAtMost : Streams → List ℕ → Option Link → Cache → ℕ → Type 0
-CostsPieceAtMost streams piece None old cost = cost ≡ 0
-CostsPieceAtMost streams piece (Some link) old cost = CostsAtMost streams piece (link, []) old cost
+abbrev pub CostsPieceAtMost : Streams → List ℕ → Option Link → Cache → Cache → ℕ → Type 0
+CostsPieceAtMost streams piece None old new work = (new ≡ old) × (work ≡ 0)
+CostsPieceAtMost streams piece (Some link) old new work = CostsAtMost streams piece (link, []) old new work
 
--- where memory was refused to an event; what the cache keeps is left open where that was a piece of a connection
+-- where memory was refused to an event
 abbrev pub IsWorkAtMost : Event → State → Cache → Cache → ℕ → Type 0
 IsWorkAtMost (Feed name piece) s old new work = (new ≡ old) × (work ≡ 0)
 IsWorkAtMost (End name) s old new work = (new ≡ old) × (work ≡ 0)
 IsWorkAtMost (Open c) s old new work = (new ≡ old) × (work ≡ 0)
-IsWorkAtMost (Bytes c piece) s old new work = CostsPieceAtMost s.streams piece (link_of c s.connections) old work
+IsWorkAtMost (Bytes c piece) s old new work = CostsPieceAtMost s.streams piece (link_of c s.connections) old new work
 IsWorkAtMost (Shut c) s old new work = (new ≡ old) × (work ≡ 0)
 
 -- ---- a hub: its state, its cache, and the work of the last event
@@ -127,7 +129,15 @@ pub record Whole : Type 0 where
   pub cache : Cache
   pub work : ℕ
 
--- after an event the work is that number, which stays at the greatest; where memory was refused no more than that
+-- after an event the work is that number, which stays at the greatest; where memory was refused no more than that, and no less than for the
+-- bytes before the one that it was refused at
 pub record IsWorked (old : Whole) (e : Event) (o : Outcome) (new : Whole) : Type 0 where
   pub work : o ≢ Err Memory → (cost : ℕ) × IsWork e old.state old.cache new.cache cost × (new.work ≡ counted 0 cost)
-  pub most : o ≡ Err Memory → (cost : ℕ) × IsWorkAtMost e old.state old.cache new.cache cost × (new.work ≤ counted 0 cost)
+  pub most : o ≡ Err Memory → IsWorkAtMost e old.state old.cache new.cache new.work
+
+-- a run: each event with its result and its work, and what the cache keeps after it
+abbrev pub IsWorkedRun : Whole → List Event → List Outcome → Whole → Type 0
+IsWorkedRun old [] [] new = new ≡ old
+IsWorkedRun old (e ∷ es) (o ∷ os) new = (mid : Whole) × IsStep old.state e o mid.state × IsWorked old e o mid × IsWorkedRun mid es os new
+IsWorkedRun old [] (o ∷ os) new = ⊥
+IsWorkedRun old (e ∷ es) [] new = ⊥

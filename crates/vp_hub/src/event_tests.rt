@@ -6,6 +6,7 @@ use crate::tests::{
 use crate::{Event, Hub, HubFault};
 use std::alloc::{AllocError, Global};
 use std::test::Fail;
+use vp_base::Limits;
 
 /// Whether connection 1, once it sent this, is refused one byte more, goes, and comes again.
 fn fails_behind(alloc: Global, sent: &[u8]) -> Result<bool, AllocError> {
@@ -77,21 +78,55 @@ fn other_names_are_refused(rt: HostRuntime) -> Result<(), Fail> {
     Ok(())
 }
 
-/// A stream that ends inside a packet.
-fn tells_torn(alloc: Global) -> Result<bool, AllocError> {
-    let Some(mut hub) = hub_of(alloc, &[&HEAD, &KEY, &KEY[..21]], 16)? else {
+/// Whether this is told of a stream with these packets once its end was told.
+fn tells_at_end(alloc: Global, packets: &[&[u8]], wanted: &[u8]) -> Result<bool, AllocError> {
+    let Some(mut hub) = hub_of(alloc, packets, 16)? else {
         return Ok(false);
     };
     let _ = hub.step(&Event::End(list(alloc, b"a")?));
     let sent = b"GET /s/a/info HTTP/1.1\r\nHost: x\r\n\r\n";
-    let wanted =
-        b"HTTP/1.1 200 OK\r\nContent-Type: text/plain\r\nContent-Length: 42\r\n\r\nstate Torn\npackets 1\nsize 16x16\nrate 30/1\n";
     answers(alloc, &mut hub, 1, sent, wanted, false)
 }
 
+/// A stream that ends inside a packet, and one that had a fault before its end.
 #[test]
-fn a_torn_stream(rt: HostRuntime) -> Result<(), Fail> {
-    assert!(rt; tells_torn(rt.alloc())?);
+fn faults_at_the_end(rt: HostRuntime) -> Result<(), Fail> {
+    let torn =
+        b"HTTP/1.1 200 OK\r\nContent-Type: text/plain\r\nContent-Length: 42\r\n\r\nstate Torn\npackets 1\nsize 16x16\nrate 30/1\n";
+    assert!(rt; tells_at_end(rt.alloc(), &[&HEAD, &KEY, &KEY[..21]], torn)?);
+    let fault =
+        b"HTTP/1.1 200 OK\r\nContent-Type: text/plain\r\nContent-Length: 26\r\n\r\nstate Signature\npackets 0\n";
+    assert!(rt; tells_at_end(rt.alloc(), &[&[b'x'; 32]], fault)?);
+    Ok(())
+}
+
+/// Whether the same packet of another stream is answered by its own fault, and not by the picture that is kept.
+fn tells_streams_apart(alloc: Global) -> Result<bool, AllocError> {
+    let mut names = Vec::new(alloc);
+    names.push(list(alloc, b"a")?)?;
+    names.push(list(alloc, b"b")?)?;
+    let Ok(mut hub) = Hub::new(alloc, names, Limits::usual()) else {
+        return Ok(false);
+    };
+    for (name, packet) in [(b"a", KEY.as_slice()), (b"b", INTER.as_slice())] {
+        let _ = hub.step(&Event::Feed(list(alloc, name)?, list(alloc, &HEAD)?));
+        let _ = hub.step(&Event::Feed(list(alloc, name)?, list(alloc, packet)?));
+    }
+    let _ = hub.step(&Event::Open(1));
+    let fault =
+        b"HTTP/1.1 422 Unprocessable Entity\r\nContent-Type: text/plain\r\nContent-Length: 12\r\n\r\nNoReference\n";
+    let first = b"GET /s/a/frame/0 HTTP/1.1\r\nHost: x\r\n\r\n";
+    let second = b"GET /s/b/frame/0 HTTP/1.1\r\nHost: x\r\n\r\n";
+    let key = key_reply(alloc)?;
+    Ok(
+        answers(alloc, &mut hub, 1, first, &key, false)?
+            && answers(alloc, &mut hub, 1, second, fault, false)?,
+    )
+}
+
+#[test]
+fn streams_apart(rt: HostRuntime) -> Result<(), Fail> {
+    assert!(rt; tells_streams_apart(rt.alloc())?);
     Ok(())
 }
 

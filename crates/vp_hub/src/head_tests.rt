@@ -16,6 +16,9 @@ const STREAMS: &[u8] =
 const LAST_STREAMS: &[u8] =
     b"HTTP/1.1 200 OK\r\nContent-Type: text/plain\r\nContent-Length: 2\r\nConnection: close\r\n\r\na\n";
 
+const WRONG_METHOD: &[u8] =
+    b"HTTP/1.1 405 Method Not Allowed\r\nContent-Type: text/plain\r\nContent-Length: 19\r\nAllow: GET, HEAD\r\n\r\nMethod Not Allowed\n";
+
 const BEHIND: &[u8] =
     b"HTTP/1.1 416 Range Not Satisfiable\r\nContent-Type: text/plain\r\nContent-Length: 22\r\nContent-Range: bytes */384\r\n\r\nRange Not Satisfiable\n";
 
@@ -45,7 +48,7 @@ fn are_answered(alloc: Global, rows: &[(&[u8], &[u8])]) -> Result<bool, AllocErr
     Ok(true)
 }
 
-/// More than one Host, none in HTTP/1.1, and none in HTTP/1.0, which closes.
+/// More than one Host, none in HTTP/1.1, and none in HTTP/1.0, which closes; a wrong method comes behind that.
 #[test]
 fn hosts_are_counted(rt: HostRuntime) -> Result<(), Fail> {
     assert!(rt;
@@ -56,6 +59,7 @@ fn hosts_are_counted(rt: HostRuntime) -> Result<(), Fail> {
                 (b"GET /streams HTTP/1.1\r\n\r\n", BAD),
                 (b"GET /streams HTTP/1.0\r\n\r\n", LAST_STREAMS),
                 (b"GET /streams HTTP/1.0\r\nHost: x\r\nHost: x\r\n\r\n", BAD),
+                (b"POST /streams HTTP/1.1\r\n\r\n", BAD),
             ]
         )?
     );
@@ -124,7 +128,8 @@ fn members_close(rt: HostRuntime) -> Result<(), Fail> {
     Ok(())
 }
 
-/// A target up to a question mark, one that begins with no slash, and numbers and paths that aren't there.
+/// A target up to a question mark, one that begins with no slash, which a wrong method comes before, and numbers and
+/// paths that aren't there.
 #[test]
 fn targets_are_judged(rt: HostRuntime) -> Result<(), Fail> {
     assert!(rt;
@@ -133,6 +138,7 @@ fn targets_are_judged(rt: HostRuntime) -> Result<(), Fail> {
             &[
                 (b"GET /streams?a/b?c HTTP/1.1\r\nHost: x\r\n\r\n", STREAMS),
                 (b"GET streams HTTP/1.1\r\nHost: x\r\n\r\n", BAD),
+                (b"OPTIONS * HTTP/1.1\r\nHost: x\r\n\r\n", WRONG_METHOD),
                 (b"GET http://x/streams HTTP/1.1\r\nHost: x\r\n\r\n", BAD),
                 (b"GET /streams/ HTTP/1.1\r\nHost: x\r\n\r\n", NOT_FOUND),
                 (b"GET /s/A/frame/0 HTTP/1.1\r\nHost: x\r\n\r\n", NOT_FOUND),
@@ -158,6 +164,27 @@ fn with_fields(alloc: Global, count: usize) -> Result<Vec<u8>, AllocError> {
     Ok(sent)
 }
 
+/// A request of so many bytes, but of fewer than 39 none.
+fn of_length(alloc: Global, length: usize) -> Result<Vec<u8>, AllocError> {
+    let mut sent = b"GET /streams HTTP/1.1\r\nHost: x\r\nA: ".to_vec(alloc)?;
+    for _ in 39..length {
+        sent.push(b'b')?;
+    }
+    sent.extend_from_slice(b"\r\n\r\n")?;
+    Ok(sent)
+}
+
+/// A head of 8,192 bytes is the longest.
+#[test]
+fn the_longest_head(rt: HostRuntime) -> Result<(), Fail> {
+    let longest = of_length(rt.alloc(), 8192)?;
+    let too_long = of_length(rt.alloc(), 8193)?;
+    let wanted =
+        b"HTTP/1.1 431 Request Header Fields Too Large\r\nContent-Type: text/plain\r\nContent-Length: 32\r\nConnection: close\r\n\r\nRequest Header Fields Too Large\n";
+    assert!(rt; are_answered(rt.alloc(), &[(&longest, STREAMS), (&too_long, wanted)])?);
+    Ok(())
+}
+
 /// A head ends where the bytes end, and has at most 32 fields.
 #[test]
 fn heads_are_whole(rt: HostRuntime) -> Result<(), Fail> {
@@ -179,6 +206,34 @@ const FIRST_TWO: &[u8] =
 
 const LAST_ONE: &[u8] =
     b"HTTP/1.1 206 Partial Content\r\nContent-Type: application/octet-stream\r\nContent-Length: 1\r\nContent-Range: bytes 383-383/384\r\n\r\n\x80";
+
+/// Of a picture as a file of 431 bytes, whose pixels are the last 384.
+const OVER_THE_FRONT: &[u8] =
+    b"HTTP/1.1 206 Partial Content\r\nContent-Type: application/octet-stream\r\nContent-Length: 8\r\nContent-Range: bytes 41-48/431\r\n\r\nFRAME\n\x80\x80";
+
+const LAST_TWO: &[u8] =
+    b"HTTP/1.1 206 Partial Content\r\nContent-Type: application/octet-stream\r\nContent-Length: 2\r\nContent-Range: bytes 429-430/431\r\n\r\n\x80\x80";
+
+/// Parts of a picture as a file.
+#[test]
+fn parts_of_a_file_are_cut(rt: HostRuntime) -> Result<(), Fail> {
+    assert!(rt;
+        are_answered(
+            rt.alloc(),
+            &[
+                (
+                    b"GET /s/a/y4m/0 HTTP/1.1\r\nHost: x\r\nRange: bytes=41-48\r\n\r\n",
+                    OVER_THE_FRONT
+                ),
+                (
+                    b"GET /s/a/y4m/0 HTTP/1.1\r\nHost: x\r\nRange: bytes=-2\r\n\r\n",
+                    LAST_TWO
+                ),
+            ]
+        )?
+    );
+    Ok(())
+}
 
 /// Parts of the picture, also by numbers past the greatest of 64 bits.
 #[test]

@@ -12,7 +12,7 @@ ghost use Rattle.vp_hub.specs.Names.{are_names as may_be_names};
 ghost use Rattle.vp_hub.specs.Hub.{AreKept, IsStep, State, fresh, link_of, with_link, Gets, Asks, is_open};
 ghost use Rattle.vp_hub.specs.Pieces.{AreAcceptedPieces};
 ghost use Rattle.vp_hub.specs.View.{IsRun, IsIsolated};
-ghost use Rattle.vp_hub.specs.Work.{Costs, CostsAtMost, CostsPiece, CostsPieceAtMost, IsWorked};
+ghost use Rattle.vp_hub.specs.Work.{Costs, CostsAtMost, CostsPiece, CostsPieceAtMost, IsWorked, IsWorkedRun};
 
 use crate::connection::{Connection, Link, find, open_one, shut_one};
 use crate::event::{Event, HubFault, Reply};
@@ -129,6 +129,7 @@ impl Hub {
     /// A list of events, the room for their results taken first.
     pub fn run(&mut self, events: &[Event]) -> Result<Vec<Result<Reply, HubFault>>, AllocError>
         ensures run { IfOk result (λ results. IsRun self.old.state events.now results.items self.new.state) }
+        ensures worked { IfOk result (λ results. IsWorkedRun self.old events.now results.items self.new) }
         ensures isolated { IfOk result (λ results. IsIsolated self.old.state events.now results.items self.new.state) }
         ensures pieces { IfOk result (λ results. AreAcceptedPieces self.old.state events.now results.items self.new.state) }
         ensures err { OnErr result (self.new ≡ self.old) }
@@ -174,9 +175,8 @@ fn ask(
     ensures work { result ≢ Err Memory → (cost : ℕ)
         × CostsPiece shelf.now piece.now (link_of number connections.old.items) pictures.old.cache pictures.new.cache cost
         × (pictures.new.work ≡ counted 0 cost) }
-    ensures most { result ≡ Err Memory → (cost : ℕ)
-        × CostsPieceAtMost shelf.now piece.now (link_of number connections.old.items) pictures.old.cache cost
-        × (pictures.new.work ≤ counted 0 cost) }
+    ensures most { result ≡ Err Memory →
+        CostsPieceAtMost shelf.now piece.now (link_of number connections.old.items) pictures.old.cache pictures.new.cache pictures.new.work }
 {
     let Some(place) = find(connections, number) else {
         return Err(HubFault::UnknownConn);
@@ -201,9 +201,8 @@ fn answer(
     ensures work { result ≢ Err Memory → (cost : ℕ)
         × CostsPiece shelf.now piece.now (Some link.old) pictures.old.cache pictures.new.cache cost
         × (pictures.new.work ≡ counted 0 cost) }
-    ensures most { result ≡ Err Memory → (cost : ℕ)
-        × CostsPieceAtMost shelf.now piece.now (Some link.old) pictures.old.cache cost
-        × (pictures.new.work ≤ counted 0 cost) }
+    ensures most { result ≡ Err Memory →
+        CostsPieceAtMost shelf.now piece.now (Some link.old) pictures.old.cache pictures.new.cache pictures.new.work }
 {
     if link.closed {
         return Err(HubFault::Failed);

@@ -1,6 +1,6 @@
 //! What is found for a request.
 
-ghost use Rattle.std.specs.Prelude.{◌≡◌, ◌≢◌, ◌≤◌, ◌++◌, ℕ, List, codes, decimal, Some, IfOk, OnOk, OnErr, slice_get};
+ghost use Rattle.std.specs.Prelude.{◌≡◌, ◌≢◌, ◌≤◌, ◌⊎◌, ◌++◌, ℕ, List, codes, decimal, Some, IfOk, OnOk, OnErr, slice_get};
 ghost use Rattle.std.specs.String.{string_bytes};
 ghost use Rattle.vp_y4m.specs.Text.{header_text};
 ghost use Rattle.vp_stream.specs.Stream.{refusal};
@@ -178,8 +178,9 @@ fn put_picture(
     requires { AreAnswersOf place source.now.stream pictures.old.cache.entries }
     ensures content { OnOk result (out.new ≡ out.old ++ reply_to request (picture_of video (Some source.now) n)) }
     ensures work { OnOk result (pictures.new.work ≡ counted pictures.old.work (picture_cost (Some source.now) place n pictures.old.cache)) }
-    ensures most { OnErr result (pictures.new.work ≤ counted pictures.old.work (picture_cost (Some source.now) place n pictures.old.cache)) }
+    ensures most { OnErr result ((pictures.old.work ≤ pictures.new.work) × (pictures.new.work ≤ counted pictures.old.work (picture_cost (Some source.now) place n pictures.old.cache))) }
     ensures after { OnOk result (IsAfterPicture (Some source.now) place n pictures.old.cache pictures.new.cache) }
+    ensures left { OnErr result ((pictures.new.cache ≡ pictures.old.cache) ⊎ IsAfterPicture (Some source.now) place n pictures.old.cache pictures.new.cache) }
     ensures kept { AreAnswersOf place source.now.stream pictures.new.cache.entries }
     ensures others { (other : ℕ) (s : StreamState) → other ≢ place →
         AreAnswersOf other s pictures.old.cache.entries → AreAnswersOf other s pictures.new.cache.entries }
@@ -219,8 +220,9 @@ fn put_picture_of(
     requires { AreKept shelf.now.sources pictures.old.cache.entries }
     ensures content { OnOk result (out.new ≡ out.old ++ reply_to request (picture_of video (slice_get shelf.now.sources place) n)) }
     ensures work { OnOk result (pictures.new.work ≡ counted pictures.old.work (picture_cost (slice_get shelf.now.sources place) place n pictures.old.cache)) }
-    ensures most { OnErr result (pictures.new.work ≤ counted pictures.old.work (picture_cost (slice_get shelf.now.sources place) place n pictures.old.cache)) }
+    ensures most { OnErr result ((pictures.old.work ≤ pictures.new.work) × (pictures.new.work ≤ counted pictures.old.work (picture_cost (slice_get shelf.now.sources place) place n pictures.old.cache))) }
     ensures after { OnOk result (IsAfterPicture (slice_get shelf.now.sources place) place n pictures.old.cache pictures.new.cache) }
+    ensures left { OnErr result ((pictures.new.cache ≡ pictures.old.cache) ⊎ IsAfterPicture (slice_get shelf.now.sources place) place n pictures.old.cache pictures.new.cache) }
     ensures kept { AreKept shelf.now.sources pictures.new.cache.entries }
 {
     let _work = pictures.work;
@@ -241,8 +243,9 @@ fn put_content(
     requires { AreKept shelf.now.sources pictures.old.cache.entries }
     ensures content { OnOk result (out.new ≡ out.old ++ reply_to request (content_of shelf.now request.wanted)) }
     ensures work { OnOk result (pictures.new.work ≡ counted pictures.old.work (cost_of shelf.now request.wanted pictures.old.cache)) }
-    ensures most { OnErr result (pictures.new.work ≤ counted pictures.old.work (cost_of shelf.now request.wanted pictures.old.cache)) }
+    ensures most { OnErr result ((pictures.old.work ≤ pictures.new.work) × (pictures.new.work ≤ counted pictures.old.work (cost_of shelf.now request.wanted pictures.old.cache))) }
     ensures after { OnOk result (IsAfterAsked shelf.now request.wanted pictures.old.cache pictures.new.cache) }
+    ensures left { OnErr result ((pictures.new.cache ≡ pictures.old.cache) ⊎ IsAfterAsked shelf.now request.wanted pictures.old.cache pictures.new.cache) }
     ensures kept { AreKept shelf.now.sources pictures.new.cache.entries }
 {
     let _work = pictures.work;
@@ -274,8 +277,8 @@ pub(crate) fn put_reply(
     ensures reply { IfOk result (λ close. (bytes : List ℕ) × IsReply shelf.now head.now (bytes, close) × (out.new ≡ out.old ++ bytes)) }
     ensures work { OnOk result ((cost : ℕ) × IsCost shelf.now head.now pictures.old.cache pictures.new.cache cost
         × (pictures.new.work ≡ counted pictures.old.work cost)) }
-    ensures most { OnErr result ((cost : ℕ) × IsMostCost shelf.now head.now pictures.old.cache cost
-        × (pictures.new.work ≤ counted pictures.old.work cost)) }
+    ensures most { OnErr result ((cost : ℕ) × IsMostCost shelf.now head.now pictures.old.cache pictures.new.cache cost
+        × (pictures.old.work ≤ pictures.new.work) × (pictures.new.work ≤ counted pictures.old.work cost)) }
     ensures kept { AreKept shelf.now.sources pictures.new.cache.entries }
 {
     let request = shelf.read(head);

@@ -35,8 +35,8 @@ fn take(
     ensures took { OnOk result (TakesByte shelf.now byte (link.old, out.old) (link.new, out.new)) }
     ensures work { OnOk result ((cost : ℕ) × CostsByte shelf.now byte link.old pictures.old.cache pictures.new.cache cost
         × (pictures.new.work ≡ counted pictures.old.work cost)) }
-    ensures most { OnErr result ((cost : ℕ) × CostsByteAtMost shelf.now byte link.old pictures.old.cache cost
-        × (pictures.new.work ≤ counted pictures.old.work cost)) }
+    ensures most { OnErr result ((cost : ℕ) × CostsByteAtMost shelf.now byte link.old pictures.old.cache pictures.new.cache cost
+        × (pictures.old.work ≤ pictures.new.work) × (pictures.new.work ≤ counted pictures.old.work cost)) }
 {
     let _work = pictures.work;
     link.pending.push(byte)?;
@@ -68,8 +68,7 @@ pub(crate) fn serve(
     ensures work { OnOk result ((cost : ℕ)
         × Costs shelf.now piece.now (link.old, out.old) (link.new, out.new) pictures.old.cache pictures.new.cache cost
         × (pictures.new.work ≡ counted 0 cost)) }
-    ensures most { OnErr result ((cost : ℕ) × CostsAtMost shelf.now piece.now (link.old, out.old) pictures.old.cache cost
-        × (pictures.new.work ≤ counted 0 cost)) }
+    ensures most { OnErr result (CostsAtMost shelf.now piece.now (link.old, out.old) pictures.old.cache pictures.new.cache pictures.new.work) }
 {
     for byte in piece {
         if link.closed {

@@ -1,5 +1,10 @@
 //! Streams and requests written by hand; what is wanted follows from the standards' own rules.
 
+ghost use Rattle.std.specs.Prelude.{◌≡◌, ◌++◌, ◌↔◌, IsTrue, IfOk, IfSome, Ok, Err, replicate};
+ghost use Rattle.vp_hub.specs.Heads.{AllKeepPartial};
+ghost use Rattle.vp_hub.specs.declared.event.Event.{Event};
+ghost use Rattle.vp_hub.specs.Hub.{IsStep};
+
 use super::*;
 use std::alloc::{AllocError, Global};
 use std::test::Fail;
@@ -32,7 +37,9 @@ pub(crate) const LINES: &[u8] =
 pub(crate) const NOT_FOUND: &[u8] =
     b"HTTP/1.1 404 Not Found\r\nContent-Type: text/plain\r\nContent-Length: 10\r\n\r\nNot Found\n";
 
-pub(crate) fn list(alloc: Global, bytes: &[u8]) -> Result<ByteList, AllocError> {
+pub(crate) fn list(alloc: Global, bytes: &[u8]) -> Result<ByteList, AllocError>
+    ensures { IfOk result (λ l. l ≡ bytes.now) }
+{
     Ok(ByteList::from_vec(bytes.to_vec(alloc)?))
 }
 
@@ -41,7 +48,9 @@ pub(crate) fn hub_of(
     alloc: Global,
     packets: &[&[u8]],
     cache: u32,
-) -> Result<Option<Hub>, AllocError> {
+) -> Result<Option<Hub>, AllocError>
+    ensures { IfOk result (λ made. IfSome made (λ hub. AllKeepPartial hub.state)) }
+{
     let mut names = Vec::new(alloc);
     names.push(list(alloc, b"a")?)?;
     let Some(limits) = Limits::new(16384, 16384, 100, cache) else {
@@ -65,7 +74,10 @@ pub(crate) fn answers(
     sent: &[u8],
     wanted: &[u8],
     close: bool,
-) -> Result<bool, AllocError> {
+) -> Result<bool, AllocError>
+    ensures { IfOk result (λ so. IsTrue so →
+        IsStep hub.old.state (Event.Bytes number sent.now) (Ok (record { bytes = wanted.now; close = close })) hub.new.state) }
+{
     match hub.step(&Event::Bytes(number, list(alloc, sent)?)) {
         Ok(reply) => Ok(reply.bytes.as_slice() == wanted && reply.close == close),
         Err(_) => Ok(false),
@@ -73,7 +85,9 @@ pub(crate) fn answers(
 }
 
 /// The picture of the key packet: luma rows 0 to 3 are 128, rows 4 to 15 are 129, colour is 128.
-pub(crate) fn key_reply(alloc: Global) -> Result<Vec<u8>, AllocError> {
+pub(crate) fn key_reply(alloc: Global) -> Result<Vec<u8>, AllocError>
+    ensures { IfOk result (λ reply. reply.items ≡ ((LINES.now ++ replicate 64 128) ++ replicate 192 129) ++ replicate 128 128) }
+{
     let mut reply = LINES.to_vec(alloc)?;
     reply.extend_from_slice(&[128; 64])?;
     reply.extend_from_slice(&[129; 192])?;
@@ -82,7 +96,9 @@ pub(crate) fn key_reply(alloc: Global) -> Result<Vec<u8>, AllocError> {
 }
 
 /// The picture of the inter packet behind it: 128 everywhere.
-pub(crate) fn inter_reply(alloc: Global) -> Result<Vec<u8>, AllocError> {
+pub(crate) fn inter_reply(alloc: Global) -> Result<Vec<u8>, AllocError>
+    ensures { IfOk result (λ reply. reply.items ≡ LINES.now ++ replicate 384 128) }
+{
     let mut reply = LINES.to_vec(alloc)?;
     reply.extend_from_slice(&[128; 384])?;
     Ok(reply)
@@ -150,7 +166,9 @@ pub(crate) fn works(
     sent: &[u8],
     wanted: &[u8],
     work: u64,
-) -> Result<bool, AllocError> {
+) -> Result<bool, AllocError>
+    ensures { IfOk result (λ so. IsTrue so → hub.new.work ≡ work) }
+{
     Ok(answers(alloc, hub, number, sent, wanted, false)? && hub.work() == work)
 }
 
@@ -210,26 +228,32 @@ fn method_and_host_refused(rt: HostRuntime) -> Result<(), Fail> {
     Ok(())
 }
 
-pub(crate) fn is_refused(answer: &Result<Reply, HubFault>, fault: HubFault) -> bool {
+pub(crate) fn is_refused(answer: &Result<Reply, HubFault>, fault: HubFault) -> bool
+    ensures { IsTrue result ↔ answer.now ≡ Err fault }
+{
     match answer {
         Ok(_) => false,
         Err(found) => *found == fault,
     }
 }
 
-/// Whether a second connection 1 is refused, and a 65th one.
+/// Whether a second connection 1 is refused, and a 65th one, until connection 1 goes.
 fn refuses_connections(hub: &mut Hub) -> bool {
     for number in 2..65 {
         let _ = hub.step(&Event::Open(number));
     }
     is_refused(&hub.step(&Event::Open(1)), HubFault::AlreadyOpen)
         && is_refused(&hub.step(&Event::Open(65)), HubFault::TooMany)
+        && hub.step(&Event::Shut(1)).is_ok()
+        && hub.step(&Event::Open(65)).is_ok()
 }
 
+/// A connection that the hub closed stands until it goes.
 fn refuses_events(alloc: Global) -> Result<bool, AllocError> {
     let Some(mut hub) = hub_of(alloc, &[], 16)? else {
         return Ok(false);
     };
+    let _ = hub.step(&Event::Bytes(1, list(alloc, b"\r\n\r\n")?));
     let feed = Event::Feed(list(alloc, b"b")?, list(alloc, &KEY)?);
     Ok(is_refused(&hub.step(&feed), HubFault::UnknownStream) && refuses_connections(&mut hub))
 }
@@ -346,7 +370,7 @@ fn empty_packets(rt: HostRuntime) -> Result<(), Fail> {
     Ok(())
 }
 
-/// A picture as a file of one frame.
+/// A picture as a file of one frame, also where the picture is kept.
 fn serves_video(alloc: Global) -> Result<bool, AllocError> {
     let mut wanted =
         b"HTTP/1.1 200 OK\r\nContent-Type: application/octet-stream\r\nContent-Length: 431\r\n\r\nYUV4MPEG2 W16 H16 F30:1 Ip A0:0 C420jpeg\nFRAME\n".to_vec(
@@ -356,7 +380,8 @@ fn serves_video(alloc: Global) -> Result<bool, AllocError> {
     wanted.extend_from_slice(&[129; 192])?;
     wanted.extend_from_slice(&[128; 128])?;
     let sent = b"GET /s/a/y4m/0 HTTP/1.1\r\nHost: x\r\n\r\n";
-    talk(alloc, &[&HEAD, &KEY], &[(sent, &wanted, false)])
+    let turn: (&[u8], &[u8], bool) = (sent, &wanted, false);
+    talk(alloc, &[&HEAD, &KEY], &[turn, turn])
 }
 
 #[test]
@@ -390,25 +415,67 @@ fn refuses_names(alloc: Global, wanted: &[&[u8]]) -> Result<bool, AllocError> {
     }
 }
 
-/// None, an empty one, a capital, one of 33 bytes, and one that stands twice; one of 32 bytes may be.
+// Names as many as may be, and one more.
+const NAMES: [&[u8]; 17] = [
+    b"a", b"z", b"0", b"9", b"-", b"_", b"b", b"c", b"d", b"e", b"f", b"g", b"h", b"i", b"j", b"k",
+    b"l",
+];
+
+/// None, an empty one, bytes beside those that may be, one of 33 bytes, one that stands twice, and 17; one of 32 bytes
+/// may be, and 16.
 #[test]
 fn names_refused(rt: HostRuntime) -> Result<(), Fail> {
     let alloc = rt.alloc();
     assert!(rt; refuses_names(alloc, &[])? && refuses_names(alloc, &[b""])?);
     assert!(rt; refuses_names(alloc, &[b"A"])? && refuses_names(alloc, &[&[b'a'; 33]])?);
     assert!(rt; refuses_names(alloc, &[b"a", b"b", b"a"])?);
+    assert!(rt; refuses_names(alloc, &[b"`"])? && refuses_names(alloc, &[b"{"])?);
+    assert!(rt; refuses_names(alloc, &[b"/"])? && refuses_names(alloc, &[b":"])?);
     assert!(rt; !refuses_names(alloc, &[&[b'a'; 32], b"0-_"])?);
+    assert!(rt; !refuses_names(alloc, &NAMES[..16])? && refuses_names(alloc, &NAMES)?);
     Ok(())
 }
 
-/// Whether the cache is filled: a second request for a picture decodes nothing.
-fn fills_the_cache(alloc: Global) -> Result<bool, AllocError> {
-    let Some(mut hub) = hub_of(alloc, &[&HEAD, &KEY, &INTER], 2)? else {
+/// Whether connection 1 of a hub that keeps two pictures is answered so, each time with so much work.
+fn works_in_turn(
+    alloc: Global,
+    packets: &[&[u8]],
+    turns: &[(&[u8], &[u8], u64)],
+) -> Result<bool, AllocError> {
+    let Some(mut hub) = hub_of(alloc, packets, 2)? else {
         return Ok(false);
     };
+    for (sent, wanted, work) in turns {
+        if !works(alloc, &mut hub, 1, sent, wanted, *work)? {
+            return Ok(false);
+        }
+    }
+    Ok(true)
+}
+
+/// Whether the cache is filled: a second request for a picture decodes nothing, and makes it the newest, so that the
+/// other one is dropped. Two requests in one piece are counted together.
+fn fills_the_cache(alloc: Global) -> Result<bool, AllocError> {
+    let key = key_reply(alloc)?;
     let inter = inter_reply(alloc)?;
-    let sent = b"GET /s/a/frame/1 HTTP/1.1\r\nHost: x\r\n\r\n";
-    Ok(works(alloc, &mut hub, 1, sent, &inter, 2)? && works(alloc, &mut hub, 1, sent, &inter, 0)?)
+    let zero = b"GET /s/a/frame/0 HTTP/1.1\r\nHost: x\r\n\r\n";
+    let one = b"GET /s/a/frame/1 HTTP/1.1\r\nHost: x\r\n\r\n";
+    let two = b"GET /s/a/frame/2 HTTP/1.1\r\nHost: x\r\n\r\n";
+    let mut both = zero.to_vec(alloc)?;
+    both.extend_from_slice(one)?;
+    let mut replies = key_reply(alloc)?;
+    replies.extend_from_slice(&inter)?;
+    works_in_turn(
+        alloc,
+        &[&HEAD, &KEY, &INTER, &KEY],
+        &[
+            (&both, &replies, 3),
+            (zero, &key, 0),
+            (two, &key, 1),
+            (zero, &key, 0),
+            (one, &inter, 2),
+        ],
+    )
 }
 
 #[test]

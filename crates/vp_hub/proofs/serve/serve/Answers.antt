@@ -6,7 +6,7 @@ use Rattle.vp_hub.proofs.serve.serve.Goals as goal
 pub returns-in_err-take-clause-most : goal.returns-in_err-take-clause-most
 returns-in_err-take-clause-most c =
     at_most c.from_residual.result c.args.shelf.now c.args.piece.now c.loop-byte.byte-index (c.args.link.now, c.args.out.now) (c.loop-byte.link, c.loop-byte.out)
-    c.args.pictures.now.cache c.loop-byte.pictures.cache c.loop-byte.invariant.cost c.take.new.pictures.work c.loop-byte.pictures.work
+    c.args.pictures.now.cache c.loop-byte.pictures.cache c.take.new.pictures.cache c.loop-byte.invariant.cost c.take.new.pictures.work c.loop-byte.pictures.work
     c.loop-byte-test.true c.loop-byte.invariant.costs c.loop-byte.invariant.work c.in_err-take.ensures.most
 
 pub loop-byte-preserved : goal.loop-byte-preserved

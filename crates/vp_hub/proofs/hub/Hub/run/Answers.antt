@@ -2,6 +2,7 @@ use Rattle.std.proofs.Common.{rules, arith}
 use Rattle.std.proofs.lemmas.List.{take_more}
 use Rattle.vp_hub.proofs.Fed.{all_fed_at_end}
 use Rattle.vp_hub.proofs.Isolation.{isolated_at_end, run_more}
+use Rattle.vp_hub.proofs.Serving.{worked_more}
 use Rattle.vp_hub.proofs.hub.Hub.run.Goals as goal
 
 pub loop-event-preserved : goal.loop-event-preserved
@@ -10,6 +11,8 @@ loop-event-preserved c = record {
   len = search rules;
   run = rw (take_more c.args.events.now c.loop-event.event-index c.event-item.result c.loop-event-test.true, ← c.event-item.is, c.put.ensures.items)
       (run_more _ _ _ _ _ _ _ c.loop-event.invariant.run c.step-res.ensures.step);
+  worked = rw (take_more c.args.events.now c.loop-event.event-index c.event-item.result c.loop-event-test.true, ← c.event-item.is, c.put.ensures.items)
+      (worked_more _ _ _ _ _ _ _ c.loop-event.invariant.worked c.step-res.ensures.step c.step-res.ensures.worked);
 }
 
 pub returns-clause-isolated : goal.returns-clause-isolated
