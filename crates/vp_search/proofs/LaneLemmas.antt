@@ -11,7 +11,7 @@ use mir.Syntax.{signed, unsigned, lt, mask, cast}
 use borrow.Rule.Simd.Lanes.{act1, act2, Asks1}
 use borrow.Table.Row.{s_int}
 use Rattle.vp_lanes.proofs.Shape.{ByLane, lanes_of, lane_is, mapped, zipped, selected, each_lane, length-ByLane}
-use Rattle.vp_search.proofs.Signed32.{Signed, Stands, lt_is}
+use Rattle.vp_lanes.proofs.Signed32.{Signed, Stands, lt_is}
 
 abbrev below32 : ℕ → ℕ → ℕ
 below32 = act2 (mask (lt signed)) (s_int w32) (s_int w32) (s_int w32)

@@ -1,5 +1,4 @@
 pub mod SumLemmas
-pub mod Signed32
 pub mod LaneLemmas
 pub mod RowLemmas
 pub mod OrderLemmas

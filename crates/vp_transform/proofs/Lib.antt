@@ -5,7 +5,6 @@ pub mod Signs
 pub mod Bounds
 pub mod Known
 pub mod Waves
-pub mod Words32
 pub mod Narrow
 pub mod Vectors
 pub mod Products

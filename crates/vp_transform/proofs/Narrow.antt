@@ -7,7 +7,7 @@ use Rattle.vp_transform.specs.Fits.{Fits, EachWithin}
 use Rattle.vp_transform.specs.Short.{cut}
 use Rattle.vp_transform.specs.Transform.{scaled}
 use Rattle.vp_transform.proofs.Sizes.{AtMost, sum-at_most, difference-at_most, times-at_most, scaled-at_most, c-at_most, d-at_most, first-at_most, second-at_most, third-at_most, fourth-at_most}
-use Rattle.vp_transform.proofs.Words32.{IsLong}
+use Rattle.vp_lanes.proofs.Signed32.{IsLong}
 
 pub long-at_most : {n : ℕ} {z : ℤ} → AtMost n z → n < 2147483648 → IsLong z
 long-at_most h l = (omega (arith, ints, h.size), omega (arith, ints, h.size))

@@ -18,7 +18,7 @@ use Rattle.vp_transform.specs.Transform.{at, block_of, turned, rounded, idct, ve
 use Rattle.vp_transform.proofs.Along.{get, turned_along}
 use Rattle.vp_transform.proofs.Sizes.{turned-at_most, fits-below}
 use Rattle.vp_transform.proofs.Words.{four, coded, read}
-use Rattle.vp_transform.proofs.Words32.{Signed, Stands, sfits_from, signed_param, signed_out}
+use Rattle.vp_lanes.proofs.Signed32.{Signed, Stands, sfits_from, signed_param, signed_out}
 
 abbrev pub coded32 : ℤ → ℤ
 coded32 z = to_z w32 (of_z w32 z)

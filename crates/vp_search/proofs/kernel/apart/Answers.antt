@@ -2,7 +2,7 @@ use Rattle.std.proofs.Common.{ℕ, ◌<◌, ◌≤◌, get_or, ◌∙◌, arith,
 use Rattle.std.specs.Int.{abs_diff}
 use Rattle.std.proofs.lemmas.Int.{ints}
 use Rattle.vp_lanes.proofs.Shape.{lane_fits}
-use Rattle.vp_search.proofs.Signed32.{widened, signed_sub, signed_splat, stands_pos}
+use Rattle.vp_lanes.proofs.Signed32.{widened, signed_sub, signed_splat, stands_pos}
 use Rattle.vp_search.proofs.LaneLemmas.{small, signed_abs, to_unsigned_fits, to_unsigned_out, distance}
 use Rattle.vp_search.proofs.kernel.apart.Goals as goal
 

@@ -5,7 +5,7 @@ use Rattle.vp_transform.proofs.Narrow.{long-at_most}
 use Rattle.vp_transform.proofs.Sizes.{AtMost, sum-at_most, difference-at_most}
 use Rattle.vp_transform.proofs.Vectors.{within_first, within_second, within_third, within_fourth}
 use Rattle.vp_transform.proofs.Words.{four}
-use Rattle.vp_transform.proofs.Words32.{signed_param, signed_add, signed_sub, signed_out}
+use Rattle.vp_lanes.proofs.Signed32.{signed_param, signed_add, signed_sub, signed_out}
 use Rattle.vp_transform.proofs.hadamard_lanes.mix.Goals as goal
 
 pub returns : goal.returns

@@ -4,7 +4,7 @@ use Rattle.vp_transform.proofs.Mixing.{rows_rounded}
 use Rattle.vp_transform.proofs.Narrow.{long-at_most}
 use Rattle.vp_transform.proofs.Sizes.{AtMost, sum-at_most}
 use Rattle.vp_transform.proofs.Vectors.{within_first, within_second, within_third, within_fourth}
-use Rattle.vp_transform.proofs.Words32.{signed_param, signed_splat, stands_pos, signed_add, signed_shr, signed_out}
+use Rattle.vp_lanes.proofs.Signed32.{signed_param, signed_splat, stands_pos, signed_add, signed_shr, signed_out}
 use Rattle.vp_transform.proofs.hadamard_lanes.rounded.Goals as goal
 
 pub returns : goal.returns

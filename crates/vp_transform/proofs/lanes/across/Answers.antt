@@ -1,7 +1,7 @@
 use Rattle.std.proofs.Common.{refl, arith}
 use Rattle.vp_transform.proofs.Vectors.{from_first, from_second}
 use Rattle.vp_transform.proofs.Words.{four}
-use Rattle.vp_transform.proofs.Words32.{signed_param}
+use Rattle.vp_lanes.proofs.Signed32.{signed_param}
 use Rattle.vp_transform.proofs.lanes.across.Goals as goal
 
 pub returns-clause-first : goal.returns-clause-first

@@ -1,6 +1,6 @@
 use Rattle.std.proofs.Common.{pos, arith}
 use Rattle.std.proofs.lemmas.Int.{ints}
-use Rattle.vp_transform.proofs.Words32.{signed_param, signed_splat, stands_pos, signed_add, signed_shr, signed_out}
+use Rattle.vp_lanes.proofs.Signed32.{signed_param, signed_splat, stands_pos, signed_add, signed_shr, signed_out}
 use Rattle.vp_transform.proofs.lanes.round.Goals as goal
 
 pub returns : goal.returns

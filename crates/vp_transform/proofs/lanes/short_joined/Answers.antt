@@ -1,6 +1,6 @@
 use Rattle.std.proofs.Common.{arith}
 use Rattle.vp_transform.proofs.Vectors.{sixteen, short_cast, short_lane}
-use Rattle.vp_transform.proofs.Words32.{signed_param}
+use Rattle.vp_lanes.proofs.Signed32.{signed_param}
 use Rattle.vp_transform.proofs.lanes.short_joined.Goals as goal
 
 pub overflow_cast-a0 : goal.overflow_cast-a0

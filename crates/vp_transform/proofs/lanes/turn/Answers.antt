@@ -2,7 +2,7 @@ use Rattle.std.proofs.Common.{pos, ◌<◌, ℕ, arith}
 use Rattle.vp_lanes.specs.Lane.{lane}
 use Rattle.vp_transform.proofs.Narrow.{TurnIsLong, turn_is_long}
 use Rattle.vp_transform.proofs.Words.{four}
-use Rattle.vp_transform.proofs.Words32.{signed_param, signed_splat, stands_pos, signed_add, signed_sub, signed_mul, signed_shr, signed_out}
+use Rattle.vp_lanes.proofs.Signed32.{signed_param, signed_splat, stands_pos, signed_add, signed_sub, signed_mul, signed_shr, signed_out}
 use Rattle.vp_transform.proofs.lanes.turn.Goals as goal
 
 pub returns : goal.returns

@@ -1,15 +1,15 @@
--- Vectors of i32, as vp_lanes has them of i16: as the logic holds them: the list xs of their bits. `Signed n Z xs` says that lane j is the number Z j.
-use Rattle.std.proofs.Common.{◌≡◌, ℕ, ◌+◌, ◌-◌, ◌*◌, ◌%◌, ◌^◌, ◌<◌, List, map, length, get_or, replicate, sym, ◌∙◌, subst, arith, ℤ, pos, negsuc, ◌+ℤ◌, ◌-ℤ◌, ◌*ℤ◌, ◌≤ℤ◌, to_z, of_z, w32, FitsSigned}
+-- Vectors of i32, as the logic holds them: the list xs of their bits. `Signed n Z xs` says that lane j is the number Z j.
+use Rattle.std.proofs.Common.{◌≡◌, ℕ, ◌+◌, ◌-◌, ◌*◌, ◌%◌, ◌^◌, ◌<◌, true, false, cond, List, map, length, get_or, replicate, refl, sym, ◌∙◌, subst, arith, ℤ, pos, negsuc, ◌+ℤ◌, ◌-ℤ◌, ◌*ℤ◌, ◌≤ℤ◌, to_z, of_z, Fits, w8, w32, FitsSigned}
 use Rattle.std.proofs.lemmas.Int.{ints, to_z-of_z, to_z_pos, wrapping_add-bits, wrapping_sub-bits, wrapping_mul-bits, int_wrap_fits}
-use lib.Lanes.{zip2}
-use lib.Signed.{shr_z, mag_shr, mag}
-use mir.Syntax.{signed, shr, wrap_add, wrap_sub, wrap_mul}
+use lib.Lanes.{zip2, top, Each1}
+use lib.Signed.{lt_z, shr_z, mag_shr, mag}
+use mir.Syntax.{signed, unsigned, shr, cast, wrap_add, wrap_sub, wrap_mul}
 use mir.Val.{Val, SFits}
 use mir.ValLaws.{of_z_fits, to_z-Fits}
 use denote.Laws.{Is}
 use denote.Array.{Array}
 use borrow.Kind.Array.{e_s_int}
-use borrow.Rule.Simd.Lanes.{act2}
+use borrow.Rule.Simd.Lanes.{act1, act2}
 use borrow.Table.Row.{s_int}
 use Rattle.vp_lanes.specs.Lane.{lane}
 use Rattle.vp_lanes.proofs.Shape.{ByLane, lanes_of, lane_is, lane_fits, mapped, zipped, splatted, length-ByLane, signed_lanes}
@@ -32,24 +32,29 @@ stands_of z p = record { small = (of_z_fits w32 z p).fits; is = to_z-of_z w32 z 
 pub stands_pos : (n : ℕ) → n < 2147483648 → Stands n (pos n)
 stands_pos n p = record { small = omega arith; is = to_z_pos w32 n p }
 
-short_fits : (z : ℤ) → IsLong z → FitsSigned w32 z
-short_fits z p = fits_range z p.0 p.1
+long_fits : (z : ℤ) → IsLong z → FitsSigned w32 z
+long_fits z p = fits_range z p.0 p.1
 
 module _ {m n : ℕ} {a b : ℤ} (p : Stands m a) (q : Stands n b) where
   pub stands_add : IsLong (a +ℤ b) → Stands ((m + n) % 4294967296) (a +ℤ b)
   stands_add s =
       let ea : to_z w32 m ≡ a = p.is in let eb : to_z w32 n ≡ b = q.is in
-      record { small = omega arith; is = wrapping_add-bits w32 m n p.small q.small ∙ rw (ea, eb) (int_wrap_fits w32 (a +ℤ b) (short_fits _ s)) }
+      record { small = omega arith; is = wrapping_add-bits w32 m n p.small q.small ∙ rw (ea, eb) (int_wrap_fits w32 (a +ℤ b) (long_fits _ s)) }
 
   pub stands_sub : IsLong (a -ℤ b) → Stands ((m + (4294967296 - n)) % 4294967296) (a -ℤ b)
   stands_sub s =
       let ea : to_z w32 m ≡ a = p.is in let eb : to_z w32 n ≡ b = q.is in
-      record { small = omega arith; is = wrapping_sub-bits w32 m n p.small q.small ∙ rw (ea, eb) (int_wrap_fits w32 (a -ℤ b) (short_fits _ s)) }
+      record { small = omega arith; is = wrapping_sub-bits w32 m n p.small q.small ∙ rw (ea, eb) (int_wrap_fits w32 (a -ℤ b) (long_fits _ s)) }
 
   pub stands_mul : IsLong (a *ℤ b) → Stands ((m * n) % 4294967296) (a *ℤ b)
   stands_mul s =
       let ea : to_z w32 m ≡ a = p.is in let eb : to_z w32 n ≡ b = q.is in
-      record { small = omega arith; is = wrapping_mul-bits w32 m n p.small q.small ∙ rw (ea, eb) (int_wrap_fits w32 (a *ℤ b) (short_fits _ s)) }
+      record { small = omega arith; is = wrapping_mul-bits w32 m n p.small q.small ∙ rw (ea, eb) (int_wrap_fits w32 (a *ℤ b) (long_fits _ s)) }
+
+  pub lt_is : top 31 (cond (lt_z (to_z w32 m) (to_z w32 n)) 4294967295 0) ≡ lt_z a b
+  lt_is =
+      let ea : to_z w32 m ≡ a = p.is in let eb : to_z w32 n ≡ b = q.is in
+      rw (ea, eb) (elim (lt_z a b) as (λ t. top 31 (cond t 4294967295 0) ≡ t) [ true ↦ refl | false ↦ refl ])
 
 shr_fits : (z : ℤ) (k : ℕ) → SFits w32 z → SFits w32 (shr_z z k)
 shr_fits z k p = let h : mag z < 2 ^ 31 = p.sfits in record { sfits = omega (arith, mag_shr z k) }
@@ -73,6 +78,12 @@ pub signed_param : (n : ℕ) (a : List ℤ) (vs : List Val) → Is (Array (e_s_i
 signed_param n a vs p =
     let k = signed_lanes w32 n a vs p in
     by_lanes (lane a) (mapped (of_z w32) (lanes_of (pos 0) n a k.0)) (λ j h. stands_of (lane a j) (lane_fits (SFits w32) (pos 0) n a k.0 k.1 j h))
+
+-- widened bytes
+pub widened : (n : ℕ) (x : List ℕ) → length x ≡ n → Each1 (Fits w8) x → Signed n (λ k. pos (get_or x k 0)) (map (act1 (cast unsigned signed w32) (s_int w8) (s_int w32)) x)
+widened n x long fits =
+    by_lanes (λ k. pos (get_or x k 0)) (mapped (act1 (cast unsigned signed w32) (s_int w8) (s_int w32)) (lanes_of 0 n x long))
+    (λ j h. let f : get_or x j 0 < 256 = (lane_fits (Fits w8) 0 n x long fits j h).fits in stands_pos _ (omega arith))
 
 pub signed_splat : (n y : ℕ) (z : ℤ) → Stands y z → Signed n (λ _. z) (replicate n y)
 signed_splat n y z p = by_lanes (λ _. z) (splatted n y) (λ j h. p)
