@@ -7,4 +7,5 @@ pub mod Within
 pub mod Faithful
 pub mod Growing
 pub mod Written
+pub mod Determined
 pub mod Writing

@@ -108,7 +108,7 @@ faulty_suc : (l max size : ℕ) (f : FileFault) (r : Result (Option ℕ) FileFau
 faulty_suc l max size f r e is = (grind (arith, nat_tests), grind (arith, nat_tests), grind (arith, nat_tests))
 
 -- a fault at the cut is shown by the bytes there
-shows_next : (max n : ℕ) (b : List ℕ) (h : Option IvfHead) (f : FileFault) → next_size max n b ≡ Err f
+pub shows_next : (max n : ℕ) (b : List ℕ) (h : Option IvfHead) (f : FileFault) → next_size max n b ≡ Err f
     → Shows f max (record { head = h; packets = []; left = n; fault = Some f; rest = b })
 unfolding next_size
 shows_next max zero b h f e =
@@ -118,7 +118,7 @@ shows_next max (suc n) b h f e =
     let is = faulty_suc (length b) max (size_of b) f _ e refl in
     rw is.0 (omega arith, is.1, is.2)
 
-shows_front : (f : FileFault) (max : ℕ) (front : List Packet) (r : Contents) → Shows f max r → Shows f max (with_front front r)
+pub shows_front : (f : FileFault) (max : ℕ) (front : List Packet) (r : Contents) → Shows f max r → Shows f max (with_front front r)
 shows_front Signature max front r s = s
 shows_front Codec max front r s = s
 shows_front TooMany max front r s = s
@@ -168,7 +168,7 @@ head_faulty l false b h f r e is = let why : (f ≡ Signature) × (32 ≤ l) = (
 head_faulty l true false h f r e is = let why : (f ≡ Codec) × (32 ≤ l) = (grind (arith, nat_tests), grind (arith, nat_tests)) in rw why.0 (why.1, refl, refl)
 head_faulty l true true h f r e is = absurd (grind (arith, nat_tests))
 
-head_shows : (max n : ℕ) (b : List ℕ) (f : FileFault) → IsHeadFault (length b) (starts_with nat_eq b (codes "DKIF")) (starts_with nat_eq (drop 8 b) (codes "VP80")) f → Shows f max (stop None n (Some f) b)
+pub head_shows : (max n : ℕ) (b : List ℕ) (f : FileFault) → IsHeadFault (length b) (starts_with nat_eq b (codes "DKIF")) (starts_with nat_eq (drop 8 b) (codes "VP80")) f → Shows f max (stop None n (Some f) b)
 head_shows max n b Signature s = s
 head_shows max n b Codec s = s
 head_shows max n b TooMany s = absurd s
@@ -176,7 +176,7 @@ head_shows max n b PacketTooLarge s = absurd s
 head_shows max n b Torn s = s
 head_shows max n b Ended s = s
 
-next_head-fault : (b : List ℕ) (f : FileFault) → next_head b ≡ Err f → IsHeadFault (length b) (starts_with nat_eq b (codes "DKIF")) (starts_with nat_eq (drop 8 b) (codes "VP80")) f
+pub next_head-fault : (b : List ℕ) (f : FileFault) → next_head b ≡ Err f → IsHeadFault (length b) (starts_with nat_eq b (codes "DKIF")) (starts_with nat_eq (drop 8 b) (codes "VP80")) f
 unfolding next_head
 next_head-fault b f e = head_faulty (length b) (starts_with nat_eq b (codes "DKIF")) (starts_with nat_eq (drop 8 b) (codes "VP80")) (head_of b) f _ e refl
 

@@ -1,5 +1,5 @@
 -- What is written is read back.
-use Rattle.std.proofs.Common.{◌≡◌, ℕ, zero, suc, ◌-◌, ◌+◌, ◌^◌, ◌≤◌, ◌<◌, false, nat_lt, List, [], ◌∷◌, ◌++◌, length, drop, Option, Some, None, Ok, refl, ap, arith}
+use Rattle.std.proofs.Common.{◌≡◌, ℕ, zero, suc, ◌-◌, ◌+◌, ◌^◌, ◌≤◌, ◌<◌, false, nat_lt, List, [], ◌∷◌, ◌++◌, length, drop, Option, Some, None, Ok, refl, sym, ap, append_assoc, append-nil, arith}
 use Rattle.std.proofs.lemmas.List.{length-append, drop_at, take_at}
 use Rattle.std.proofs.lemmas.Bool.{le-ltb}
 use Rattle.byteorder.specs.Endian.{little_number, little_bytes}
@@ -51,18 +51,25 @@ unfolding next_size
 next-none max zero = refl
 next-none max (suc n) = refl
 
+-- packets that stand before a rest are cut from it
+pub cuts-before : (head : Option IvfHead) (max n : ℕ) (ps : List Packet) (rest : List ℕ) → AllPacketsFit max ps → length ps ≤ n
+    → cuts head max n (packets_text ps ++ rest) ≡ with_front ps (cuts head max (n - length ps) rest)
+cuts-before head max n [] rest f le = let e : n - 0 ≡ n = omega arith in rw e refl
+cuts-before head max zero (p ∷ ps) rest f le = absurd (omega arith)
+cuts-before head max (suc n) (p ∷ ps) rest f le =
+    let e : suc n - suc (length ps) ≡ n - length ps = omega arith in
+    let text = packet_text p.time p.bytes in
+    let tail = packets_text ps ++ rest in
+    let joined : packets_text (p ∷ ps) ++ rest ≡ text ++ tail = append_assoc text (packets_text ps) rest in
+    let back : drop (12 + length p.bytes) (text ++ tail) ≡ tail
+    = drop_at text tail (12 + length p.bytes) (omega (arith, length-append (packet_head_text (length p.bytes) p.time) p.bytes, length-packet_head (length p.bytes) p.time)) in
+    rw (joined, cuts-whole head max n _ (length p.bytes) (next-packet max n p tail f.0), packet-back max p tail f.0, back, e)
+    (ap (λ (r : Contents). with_front (p ∷ []) r) (cuts-before head max n ps rest f.1 (omega arith)))
+
 pub cuts-text : (head : Option IvfHead) (max n : ℕ) (ps : List Packet) → AllPacketsFit max ps → length ps ≤ n
     → cuts head max n (packets_text ps) ≡ record { head = head; packets = ps; left = n - length ps; fault = None; rest = [] }
-cuts-text head max n [] f le =
-    let e : n - 0 ≡ n = omega arith in
-    rw (cuts-stop head max n [] (next-none max n), e) refl
-cuts-text head max zero (p ∷ ps) f le = absurd (omega arith)
-cuts-text head max (suc n) (p ∷ ps) f le =
-    let e : suc n - suc (length ps) ≡ n - length ps = omega arith in
-    let back : drop (12 + length p.bytes) (packet_text p.time p.bytes ++ packets_text ps) ≡ packets_text ps
-    = drop_at (packet_text p.time p.bytes) (packets_text ps) (12 + length p.bytes) (omega (arith, length-append (packet_head_text (length p.bytes) p.time) p.bytes, length-packet_head (length p.bytes) p.time)) in
-    rw (cuts-whole head max n _ (length p.bytes) (next-packet max n p (packets_text ps) f.0), packet-back max p (packets_text ps) f.0, back, e)
-    (ap (λ (r : Contents). with_front (p ∷ []) r) (cuts-text head max n ps f.1 (omega arith)))
+cuts-text head max n ps f le =
+    rw (sym (append-nil (packets_text ps)), cuts-before head max n ps [] f le, cuts-stop head max (n - length ps) [] (next-none max (n - length ps)), append-nil ps) refl
 
 head-back : (h : IvfHead) (count : ℕ) (rest : List ℕ) → IsHead h
     → next_head (head_text h.w h.h h.rate h.scale count ++ rest) ≡ Ok (Some h)

@@ -1,11 +1,11 @@
 -- What holds of all files.
-use Rattle.std.specs.Prelude.{◌≡◌, ◌<◌, ◌≤◌, ◌^◌, ◌-◌, ◌+◌, ◌⊎◌, ℕ, true, false, nat_eq, codes, List, [], ◌∷◌, ◌++◌, length, drop, slice_index, Option, Some, None, Ok}
+use Rattle.std.specs.Prelude.{◌≡◌, ◌≢◌, ◌<◌, ◌≤◌, ◌^◌, ◌-◌, ◌+◌, ◌⊎◌, ℕ, true, false, nat_eq, codes, List, [], ◌∷◌, ◌++◌, length, drop, slice_index, Option, Some, None, Ok}
 use Rattle.std.specs.List.{starts_with}
 use Rattle.vp_ivf.specs.declared.packet.Packet.{Packet}
 use Rattle.vp_ivf.specs.declared.packet.IvfHead.{IvfHead}
 use Rattle.vp_ivf.specs.declared.fault.FileFault.{FileFault}
 use Rattle.vp_ivf.specs.declared.fault.FileFault.TheVariants.{Signature, Codec, TooMany, PacketTooLarge, Torn, Ended}
-use Rattle.vp_ivf.specs.Ivf.{Contents, size_of, read, resume}
+use Rattle.vp_ivf.specs.Ivf.{Contents, size_of, head_of, read, resume}
 use Rattle.vp_ivf.specs.Reader.{IsSettled, finish_answer}
 use Rattle.vp_ivf.specs.Text.{packets_text, file_text}
 
@@ -93,3 +93,47 @@ Shows Ended max r = ⊥
 -- a fault is met only where the bytes show it
 abbrev pub ShowsFaults : Type 0
 ShowsFaults = (max n : ℕ) (b : List ℕ) (f : FileFault) → (read max n b).fault ≡ Some f → Shows f max (read max n b)
+
+-- ---- all of it at once
+
+-- the bytes begin with a good head, which says this
+abbrev pub IsHeadIn : List ℕ → IvfHead → Type 0
+IsHeadIn b h = (32 ≤ length b) × (starts_with nat_eq b (codes "DKIF") ≡ true) × (starts_with nat_eq (drop 8 b) (codes "VP80") ≡ true) × (h ≡ head_of b)
+
+-- without a head nothing is cut; behind a good one stand the packets that are cut, and then a rest
+abbrev pub IsCut : List ℕ → Option IvfHead → List Packet → List ℕ → Type 0
+IsCut b None packets rest = (packets ≡ []) × (rest ≡ b)
+IsCut b (Some h) packets rest = IsHeadIn b h × (drop 32 b ≡ packets_text packets ++ rest)
+
+-- the faults of a head come without one, those of a packet behind one
+abbrev pub ComesWith : FileFault → Option IvfHead → Type 0
+ComesWith Signature head = head ≡ None
+ComesWith Codec head = head ≡ None
+ComesWith TooMany head = head ≢ None
+ComesWith PacketTooLarge head = head ≢ None
+ComesWith Torn head = ⊥
+ComesWith Ended head = ⊥
+
+-- what is left may still become a head; or a packet, which is allowed
+abbrev pub MayGrow : Option IvfHead → ℕ → ℕ → List ℕ → Type 0
+MayGrow None max left rest = length rest < 32
+MayGrow (Some h) max left rest = (length rest < 12) ⊎ ((1 ≤ left) × (size_of rest ≤ max) × (length rest < 12 + size_of rest))
+
+-- what is left may still become a whole; or it shows the fault
+abbrev pub IsEndedBy : ℕ → Contents → Option FileFault → Type 0
+IsEndedBy max r None = MayGrow r.head max r.left r.rest
+IsEndedBy max r (Some f) = Shows f max r × ComesWith f r.head
+
+-- the plain laws of a reading
+pub record KeepsLaws (max n : ℕ) (b : List ℕ) (r : Contents) : Type 0 where
+  pub cut : IsCut b r.head r.packets r.rest
+  pub fits : AllPacketsFit max r.packets
+  pub count : r.left + length r.packets ≡ n
+  pub ended : IsEndedBy max r r.fault
+
+-- a file's contents obey them, and nothing else does
+abbrev pub ObeysLaws : Type 0
+ObeysLaws = (max n : ℕ) (b : List ℕ) → AreBytes b → KeepsLaws max n b (read max n b)
+
+abbrev pub IsDetermined : Type 0
+IsDetermined = (max n : ℕ) (b : List ℕ) (r : Contents) → KeepsLaws max n b r → r ≡ read max n b

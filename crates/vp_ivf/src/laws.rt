@@ -1,6 +1,6 @@
 //! What holds of all files, each as the contract of a function that does nothing.
 
-ghost use Rattle.vp_ivf.specs.Laws.{IsFaithful, IsReadInPieces, KeepsPackets, KeepsHead, KeepsFault, IsReadBack, EndsWell, CutsAll, LeavesNoPacket, CountsPackets, CutsWhatFits, ShowsFaults};
+ghost use Rattle.vp_ivf.specs.Laws.{IsFaithful, IsReadInPieces, KeepsPackets, KeepsHead, KeepsFault, IsReadBack, EndsWell, CutsAll, LeavesNoPacket, CountsPackets, CutsWhatFits, ShowsFaults, ObeysLaws, IsDetermined};
 
 /// Behind a good head a file is the packets that are cut, and then a rest: no byte is lost or moved.
 pub fn reading_is_faithful()
@@ -18,6 +18,12 @@ pub fn reading_keeps_to_limits()
     ensures counts { CountsPackets }
     ensures fits { CutsWhatFits }
     ensures faults { ShowsFaults }
+{}
+
+/// The plain laws determine the reading: what a file holds obeys them all, and nothing else does.
+pub fn laws_determine_the_reading()
+    ensures obeyed { ObeysLaws }
+    ensures determined { IsDetermined }
 {}
 
 /// A growing file: bytes that are added change no packet, head or fault that was read before.

@@ -219,3 +219,16 @@ fn names_of_file_faults(rt: HostRuntime) -> Result<(), Fail> {
     }
     Ok(())
 }
+
+// Version, length and count of the head are not checked: the packets stand from byte 32 on.
+#[test]
+fn other_numbers_of_a_head(rt: HostRuntime) {
+    let mut bytes = FILE;
+    bytes[4..8].copy_from_slice(&[1, 0, 44, 0]);
+    bytes[24..32].copy_from_slice(&[9; 8]);
+    let mut reader = Reader::new(rt.alloc(), Limits::usual());
+    assert_eq!(rt; reader.feed(&bytes), Ok(()));
+    assert_eq!(rt; reader.head(), Some(HEAD));
+    assert!(rt; gives(&mut reader, 0, &FILE[44..]));
+    assert_eq!(rt; reader.finish(), Ok(()));
+}
