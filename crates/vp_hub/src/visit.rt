@@ -1,8 +1,8 @@
 //! One connection over a reader and a writer.
 
-ghost use Rattle.std.specs.Prelude.{◌≡◌, ◌≢◌, ◌⊎◌, ℕ, List, Some, Ok, Err};
+ghost use Rattle.std.specs.Prelude.{◌≡◌, ◌≢◌, ◌⊎◌, ◌^◌, ℕ, List, Some, Ok, Err};
 ghost use Rattle.std.specs.Io.KnownBytes.{Consumes};
-ghost use Rattle.vp_base.specs.Counted.{counted_remaining, counted_contents, counted_failures, HasFailed};
+ghost use Rattle.vp_base.specs.Counted.{counted_remaining, counted_contents, counted_failures, counted_reads, one_more, HasFailed, HasRisenBy};
 ghost use Rattle.vp_hub.specs.declared.visit.ServeFault.{ServeFault};
 ghost use Rattle.vp_hub.specs.Hub.{link_of, new_link};
 ghost use Rattle.vp_hub.specs.Names.{serve_fault_name};
@@ -66,6 +66,10 @@ pub fn serve_one<R: Read, W: Write>(
     ensures quiet { result ≢ Err ServeFault.Device →
         (counted_failures reader.new ≡ counted_failures reader.old)
         × (counted_failures writer.new ≡ counted_failures writer.old) }
+
+    // `ReadTurns` comes behind so many reads.
+    ensures turns { result ≡ Err ServeFault.ReadTurns →
+        HasRisenBy (2 ^ 20) (counted_reads reader.old) (counted_reads reader.new) }
 {
     if let Err(fault) = hub.step(&Event::Open(conn)) {
         return Err(ServeFault::Hub(fault));
@@ -95,6 +99,8 @@ fn talk<R: Read, W: Write>(
     ensures quiet { result ≢ Err ServeFault.Device →
         (counted_failures reader.new ≡ counted_failures reader.old)
         × (counted_failures writer.new ≡ counted_failures writer.old) }
+    ensures turns { result ≡ Err ServeFault.ReadTurns →
+        HasRisenBy (2 ^ 20) (counted_reads reader.old) (counted_reads reader.new) }
 {
     for _turn in 0..1_048_576u32 {
         if !exchange(hub, conn, reader, writer)? {
@@ -122,6 +128,7 @@ fn exchange<R: Read, W: Write>(
     ensures quiet { result ≢ Err ServeFault.Device →
         (counted_failures reader.new ≡ counted_failures reader.old)
         × (counted_failures writer.new ≡ counted_failures writer.old) }
+    ensures counts { counted_reads reader.new ≡ one_more (counted_reads reader.old) }
 {
     let mut buffer = [0; 4096];
     let Ok(count) = reader.read(&mut buffer) else {

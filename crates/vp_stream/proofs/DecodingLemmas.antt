@@ -1,5 +1,5 @@
 -- A file's packets are decoded, one after another, and their text is written.
-use Rattle.std.proofs.Common.{◌≡◌, ℕ, ◌+◌, ◌-◌, ◌<◌, true, false, List, [], ◌∷◌, ◌++◌, length, Option, Some, None, refl, sym, ap, subst, ◌∙◌, arith}
+use Rattle.std.proofs.Common.{◌≡◌, ℕ, ◌+◌, ◌-◌, ◌<◌, true, false, List, [], ◌∷◌, ◌++◌, length, Option, Some, None, refl, sym, ap, subst, ◌∙◌, arith, inl, inr}
 use Rattle.std.specs.Option.{option_to_list}
 use Rattle.std.specs.Io.KnownBytes.{Appends}
 use Rattle.std.proofs.lemmas.List.{length-append}
@@ -27,7 +27,7 @@ use Rattle.vp_stream.specs.declared.fault.Interruption.TheVariants as interrupte
 use Rattle.vp_stream.specs.Answers.{answers_from, reading_of}
 use Rattle.vp_stream.specs.Texts.{shown_in, text, text_of, pictures_of, changes_size}
 use Rattle.vp_stream.specs.Reports.{report_of}
-use Rattle.vp_stream.specs.Incoming.{Incoming, IsReading, IsFront, IsStoppedBy, Ends, start}
+use Rattle.vp_stream.specs.Incoming.{Incoming, IsReading, IsFront, IsStoppedBy, AreGivenAt, Ends, start}
 use Rattle.vp_stream.specs.Progress.{Sizing, Progress, with_outcome, fresh, after_packet, after_packets, answers_to, answer_to, picture_to, with_shown, fits_shown, shown_text, fault_by, read_fault_by}
 use Rattle.vp_stream.specs.Written.{WritesText, WritesFront, WritesAll, IsReported, IsEndedBy}
 use Rattle.vp_stream.proofs.CountLemmas.{count-read}
@@ -134,28 +134,29 @@ module _ (limits : Limits) (form : Form) (source : Incoming) (run : Progress) (b
       let whole = text_of_front limits form (fed ++ more) given f in
       (text form (reading_of limits (fed ++ more)).head (shown_of limits given), whole.0, whole.1, so_far)
 
-  -- a read fails, or the reads run out, or memory is refused
-  pub failed : (f : SurveyFault) → IsStoppedBy f (fed ++ more) × IsFront limits (fed ++ more) given → IsEndedBy limits form (read_fault_by f) (fed ++ more) before now
-  failed reading.Device p = stopped p.1
-  failed reading.ReadTurns p = (p.0, stopped p.1)
-  failed reading.Memory p = stopped p.1
-
-  all_written : (fault : Option FileFault) (s : Incoming) (left : Option (List ℕ)) → Ends limits s left (fed ++ more) given fault → WritesAll limits form (fed ++ more) before now
-  all_written fault s left e =
+  all_written : (reading_of limits (fed ++ more)).packets ≡ given → WritesAll limits form (fed ++ more) before now
+  all_written all =
       let P : List Packet → Type 0 = λ ps. Appends before now (text form (reading_of limits (fed ++ more)).head (shown_of limits ps)) in
-      (ap (λ (ps : List Packet). changes_size form (shown_of limits ps)) e.packets ∙ h.sizes, subst P (sym e.packets) so_far)
+      (ap (λ (ps : List Packet). changes_size form (shown_of limits ps)) all ∙ h.sizes, subst P (sym all) so_far)
+
+  -- a read fails, or the reads run out, or memory is refused
+  pub failed : (W : Type 0) (f : SurveyFault) → IsStoppedBy f (fed ++ more) × AreGivenAt f limits (fed ++ more) given
+      → IsEndedBy limits form (read_fault_by f) W (fed ++ more) before now
+  failed W reading.Device p = inl (all_written p.1)
+  failed W reading.ReadTurns p = (p.0, all_written p.1)
+  failed W reading.Memory p = stopped p.1
 
   pub reported : (s : Incoming) (left : Option (List ℕ)) → Ends limits s left (fed ++ more) given None → IsReported limits form run.report (fed ++ more) before now
   reported s left e = record {
     ends = e.answer;
     counts = ap (λ (r : Progress). r.report) h.progress ∙ (report_of_packets limits form given
         ∙ ap (λ (ps : List Packet). report_of (answers_from limits None ps)) (sym e.packets));
-    writes = all_written None s left e;
+    writes = all_written e.packets;
   }
 
-  pub faulty : (fault : FileFault) (s : Incoming) (left : Option (List ℕ)) → Ends limits s left (fed ++ more) given (Some fault)
-      → IsEndedBy limits form (File fault) (fed ++ more) before now
-  faulty fault s left e = (e.answer, all_written (Some fault) s left e)
+  pub faulty : (W : Type 0) (fault : FileFault) (s : Incoming) (left : Option (List ℕ)) → Ends limits s left (fed ++ more) given (Some fault)
+      → IsEndedBy limits form (File fault) W (fed ++ more) before now
+  faulty W fault s left e = (e.answer, all_written e.packets)
 
   module _ (packet : Packet) (head : IvfHead) (later : Incoming)
       (r : IsReading limits later (fed ++ more) (given ++ packet ∷ []) × ((reading_of limits (fed ++ more)).head ≡ Some head)) where
@@ -216,13 +217,14 @@ module _ (limits : Limits) (form : Form) (source : Incoming) (run : Progress) (b
         )
 
     -- decoding or writing stops
-    pub cut : (i : Interruption) (written : Option (List ℕ))
+    pub cut : (W : Type 0) (i : Interruption) (written : Option (List ℕ))
+        → (i ≡ interrupted.Device → W)
         → (i ≡ interrupted.SizeChange → fits_shown run.sizing (picture_to run packet.bytes) ≡ false)
         → AppendsFront now written (shown_text run.sizing head (picture_to run packet.bytes))
-        → IsEndedBy limits form (fault_by i) (fed ++ more) before written
-    cut interrupted.SizeChange written change w = changed written (change refl) w
-    cut interrupted.Device written change w = cut_front written w
-    cut interrupted.Memory written change w = cut_front written w
+        → IsEndedBy limits form (fault_by i) W (fed ++ more) before written
+    cut W interrupted.SizeChange written fails change w = changed written (change refl) w
+    cut W interrupted.Device written fails change w = inr (fails refl, cut_front written w)
+    cut W interrupted.Memory written fails change w = cut_front written w
 
     -- the packet is decoded, and its text is written
     pub goes_on : (after : Progress) (written : Option (List ℕ)) → after ≡ after_packet run packet.bytes

@@ -19,7 +19,7 @@ use Rattle.vp_ivf.proofs.Stands.{settled_first}
 use Rattle.vp_stream.specs.declared.fault.SurveyFault.{SurveyFault}
 use Rattle.vp_stream.specs.declared.fault.SurveyFault.TheVariants.{Device, ReadTurns, Memory}
 use Rattle.vp_stream.specs.Answers.{reading_of}
-use Rattle.vp_stream.specs.Incoming.{Incoming, IsReading, IsStoppedBy, Took, start, headed, next_waiting, without_front, without_next, resumed, ending, Ends, IsFront}
+use Rattle.vp_stream.specs.Incoming.{Incoming, IsReading, IsStoppedBy, Took, start, headed, next_waiting, without_front, without_next, resumed, ending, Ends, IsFront, AreGivenAt}
 use Rattle.vp_stream.proofs.CountLemmas.{fault-read}
 
 -- ---- before the first read
@@ -183,17 +183,30 @@ still_front limits s fed more given h =
 
 -- ---- one turn of reading
 
+-- where nothing more was read, all packets of the file were given
+given_all : (limits : Limits) (s : Incoming) (fed piece : List ℕ) (given : List Packet) → IsReading limits s fed given → s.file.reading.packets ≡ []
+    → piece ≡ [] → (reading_of limits (fed ++ piece)).packets ≡ given
+given_all limits s fed piece given h none nothing =
+    ap (λ (xs : List ℕ). (reading_of limits xs).packets) (ap (λ (xs : List ℕ). fed ++ xs) nothing ∙ append-nil fed)
+    ∙ (ap (λ (r : Contents). r.packets) h.reading ∙ (ap (λ (ps : List Packet). given ++ ps) none ∙ append-nil given))
+
+given_at : (f : SurveyFault) (limits : Limits) (old new : Incoming) (left : Option (List ℕ)) (fed piece : List ℕ) (given : List Packet)
+    → IsReading limits old fed given → old.file.reading.packets ≡ [] → Took (Err f) old new left piece → AreGivenAt f limits (fed ++ piece) given
+given_at Device limits old new left fed piece given h none t = given_all limits old fed piece given h none t
+given_at ReadTurns limits old new left fed piece given h none t = given_all limits old fed piece given h none t.0
+given_at Memory limits old new left fed piece given h none t = still_front limits old fed piece given h
+
 stopped_by : (f : SurveyFault) (limits : Limits) (old new : Incoming) (left : Option (List ℕ)) (fed piece : List ℕ) (given : List Packet)
     → IsReading limits old fed given → Took (Err f) old new left piece → IsStoppedBy f (fed ++ piece)
 stopped_by Device limits old new left fed piece given h t = tt
-stopped_by ReadTurns limits old new left fed piece given h t = let some = h.turns in let both = length-append fed piece in omega arith
+stopped_by ReadTurns limits old new left fed piece given h t = let some = h.turns in let over = t.1 in let both = length-append fed piece in omega arith
 stopped_by Memory limits old new left fed piece given h t = tt
 
 took_none : (b : Bool) (old new : Incoming) (left : Option (List ℕ)) (piece : List ℕ) → b ≡ false → Took (Ok b) old new left piece → (piece ≡ []) × IsAtEnd left × (new ≡ old)
 took_none true old new left piece e t = cc
 took_none false old new left piece e t = t
 
-took_some : (b : Bool) (old new : Incoming) (left : Option (List ℕ)) (piece : List ℕ) → b ≡ true → Took (Ok b) old new left piece → (0 < length piece) × (0 < old.turns) × (new ≡ resumed old piece)
+pub took_some : (b : Bool) (old new : Incoming) (left : Option (List ℕ)) (piece : List ℕ) → b ≡ true → Took (Ok b) old new left piece → (0 < length piece) × (0 < old.turns) × (new ≡ resumed old piece)
 took_some true old new left piece e t = t
 took_some false old new left piece e t = cc
 
@@ -221,7 +234,7 @@ module _ (first s same : Incoming) (r0 r : Option (List ℕ))
 
   pub next_failed : (new : Incoming) (r2 : Option (List ℕ)) (f : SurveyFault) → (piece : List ℕ) × Consumes r r2 piece × Took (Err f) same new r2 piece
       → (limits : Limits) (fed : List ℕ) (given : List Packet) → IsReading limits first fed given
-      → (more : List ℕ) × Consumes r0 r2 more × (IsStoppedBy f (fed ++ more) × IsFront limits (fed ++ more) given)
+      → (more : List ℕ) × Consumes r0 r2 more × (IsStoppedBy f (fed ++ more) × AreGivenAt f limits (fed ++ more) given)
   next_failed new r2 f took limits fed given h =
       let now = here limits fed given h in
       let files = append_assoc fed now.0 took.0 in (
@@ -229,7 +242,7 @@ module _ (first s same : Incoming) (r0 r : Option (List ℕ))
         Consumes-trans r0 r r2 now.0 took.0 now.1 took.1,
         (
           subst (λ (file : List ℕ). IsStoppedBy f file) files (stopped_by f limits same new r2 (fed ++ now.0) took.0 given now.2 took.2),
-          subst (λ (file : List ℕ). IsFront limits file given) files (still_front limits same (fed ++ now.0) took.0 given now.2),
+          subst (λ (file : List ℕ). AreGivenAt f limits file given) files (given_at f limits same new r2 (fed ++ now.0) took.0 given now.2 now.3 took.2),
         ),
       )
 

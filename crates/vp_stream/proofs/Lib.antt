@@ -4,6 +4,7 @@ pub mod SizeLemmas
 pub mod KeptLemmas
 pub mod CountLemmas
 pub mod IncomingLemmas
+pub mod ReadLemmas
 pub mod ReportLemmas
 pub mod TextLemmas
 pub mod PictureLemmas

@@ -2,6 +2,7 @@
 use Rattle.std.specs.Prelude.{◌≡◌, ℕ, ◌+◌, ◌-◌, ◌≤◌, ◌<◌, ◌^◌, Bool, true, false, List, [], ◌∷◌, ◌++◌, length, Option, Some, None, Result, Ok, Err, slice_get}
 use Rattle.std.specs.Io.KnownBytes.{IsAtEnd}
 use Rattle.vp_base.specs.declared.limits.Limits.{Limits}
+use Rattle.vp_base.specs.Counted.{HasRisenBy}
 use Rattle.vp_ivf.specs.declared.packet.Packet.{Packet}
 use Rattle.vp_ivf.specs.declared.packet.IvfHead.{IvfHead}
 use Rattle.vp_ivf.specs.declared.fault.FileFault.{FileFault}
@@ -31,6 +32,10 @@ pub record IsReading (limits : Limits) (s : Incoming) (fed : List ℕ) (given : 
   pub unended : s.file.ended ≡ false
   pub turns : 2 ^ 32 - 1 ≤ s.turns + length fed
 
+-- the turns that are gone were calls of `read`
+abbrev pub HasRead : Incoming → ℕ → ℕ → Type 0
+HasRead s before now = (calls : ℕ) × (calls + s.turns ≡ 2 ^ 32 - 1) × HasRisenBy calls before now
+
 -- ---- the packet in front, and what stays
 
 abbrev pub headed : Option IvfHead → Option Packet → Option (IvfHead × Packet)
@@ -54,12 +59,12 @@ without_next s = record s { file = without_front s.file.reading.head s.file }
 abbrev pub resumed : Incoming → List ℕ → Incoming
 resumed s piece = record { file = record s.file { reading = resume s.file.max s.file.reading piece }; turns = s.turns - 1 }
 
--- a piece was fed; or the reader was at its end; or the pieces that may be read were
+-- a piece was fed; or the reader was at its end; or the pieces that may be read were; or the read failed, and gave nothing
 abbrev pub Took : Result Bool SurveyFault → Incoming → Incoming → Option (List ℕ) → List ℕ → Type 0
 Took (Ok true) old new left piece = (0 < length piece) × (0 < old.turns) × (new ≡ resumed old piece)
 Took (Ok false) old new left piece = (piece ≡ []) × IsAtEnd left × (new ≡ old)
-Took (Err ReadTurns) old new left piece = old.turns ≡ 0
-Took (Err Device) old new left piece = Unit {0}
+Took (Err ReadTurns) old new left piece = (piece ≡ []) × (old.turns ≡ 0)
+Took (Err Device) old new left piece = piece ≡ []
 Took (Err Memory) old new left piece = Unit {0}
 
 -- ---- what is given
@@ -87,9 +92,23 @@ IsStoppedBy ReadTurns file = 2 ^ 32 - 1 ≤ length file
 IsStoppedBy Device file = Unit {0}
 IsStoppedBy Memory file = Unit {0}
 
+-- a failed read, and the last one, come behind all packets of the file's; where memory is refused its first ones were given
+abbrev pub AreGivenAt : SurveyFault → Limits → List ℕ → List Packet → Type 0
+AreGivenAt ReadTurns limits file given = (reading_of limits file).packets ≡ given
+AreGivenAt Device limits file given = (reading_of limits file).packets ≡ given
+AreGivenAt Memory limits file given = IsFront limits file given
+
 -- what comes behind the packets that were given
 abbrev pub Gives : Limits → Result Next SurveyFault → Incoming → Option (List ℕ) → List ℕ → List Packet → Type 0
 Gives limits (Ok (next.Packet head packet)) s left file given =
     IsReading limits s file (given ++ packet ∷ []) × ((reading_of limits file).head ≡ Some head)
 Gives limits (Ok (next.End fault)) s left file given = Ends limits s left file given fault
-Gives limits (Err fault) s left file given = IsStoppedBy fault file × IsFront limits file given
+Gives limits (Err fault) s left file given = IsStoppedBy fault file × AreGivenAt fault limits file given
+
+-- behind a packet the turns that are gone were calls of `read`, and where the reads ran out all of them
+abbrev pub CountsReads : Result Next SurveyFault → Incoming → ℕ → ℕ → Type 0
+CountsReads (Ok (next.Packet head packet)) s before now = HasRead s before now
+CountsReads (Ok (next.End fault)) s before now = Unit {0}
+CountsReads (Err ReadTurns) s before now = HasRisenBy (2 ^ 32 - 1) before now
+CountsReads (Err Device) s before now = Unit {0}
+CountsReads (Err Memory) s before now = Unit {0}

@@ -1,5 +1,5 @@
 -- How the work on a file ends.
-use Rattle.std.specs.Prelude.{◌≡◌, ◌≤◌, ◌-◌, ◌^◌, ℕ, true, false, List, Option, Result, Ok, Err, length}
+use Rattle.std.specs.Prelude.{◌≡◌, ◌≤◌, ◌-◌, ◌^◌, ◌⊎◌, ℕ, true, false, List, Option, Result, Ok, Err, length}
 use Rattle.std.specs.Io.KnownBytes.{Appends}
 use Rattle.vp_base.specs.declared.limits.Limits.{Limits}
 use Rattle.vp_base.specs.Counted.{AppendsFront}
@@ -35,20 +35,22 @@ pub record IsReported (limits : Limits) (form : Form) (report : Report) (file : 
   pub writes : WritesAll limits form file before after
 
 -- by a fault of the file, once the text of all packets before it is written; by a picture of another size, once the text
--- before it is written; by another fault, with a front of the text written. Where the reads ran out each gave a byte.
-abbrev pub IsEndedBy : Limits → Form → DecodeFault → List ℕ → Option (List ℕ) → Option (List ℕ) → Type 0
-IsEndedBy limits form (File fault) file before after =
+-- before it is written; where a read failed, or the reads ran out, once the text of all packets that were read is written;
+-- where a write failed, or memory is refused, with a front of the text written. Where the reads ran out each gave a byte.
+abbrev pub IsEndedBy : Limits → Form → DecodeFault → Type 0 → List ℕ → Option (List ℕ) → Option (List ℕ) → Type 0
+IsEndedBy limits form (File fault) write_failed file before after =
     (finish_answer (reading_of limits file) ≡ Err fault) × WritesAll limits form file before after
-IsEndedBy limits form SizeChange file before after =
+IsEndedBy limits form SizeChange write_failed file before after =
     (changes_size form (pictures_of limits file) ≡ true) × WritesText limits form file before after
-IsEndedBy limits form Device file before after = WritesFront limits form file before after
-IsEndedBy limits form ReadTurns file before after =
-    (2 ^ 32 - 1 ≤ length file) × WritesFront limits form file before after
-IsEndedBy limits form Memory file before after = WritesFront limits form file before after
+IsEndedBy limits form Device write_failed file before after =
+    WritesAll limits form file before after ⊎ (write_failed × WritesFront limits form file before after)
+IsEndedBy limits form ReadTurns write_failed file before after =
+    (2 ^ 32 - 1 ≤ length file) × WritesAll limits form file before after
+IsEndedBy limits form Memory write_failed file before after = WritesFront limits form file before after
 
-abbrev pub IsAnswerFor : Limits → Form → Result Report DecodeFault → List ℕ → Option (List ℕ) → Option (List ℕ) → Type 0
-IsAnswerFor limits form (Ok report) file before after = IsReported limits form report file before after
-IsAnswerFor limits form (Err fault) file before after = IsEndedBy limits form fault file before after
+abbrev pub IsAnswerFor : Limits → Form → Result Report DecodeFault → Type 0 → List ℕ → Option (List ℕ) → Option (List ℕ) → Type 0
+IsAnswerFor limits form (Ok report) write_failed file before after = IsReported limits form report file before after
+IsAnswerFor limits form (Err fault) write_failed file before after = IsEndedBy limits form fault write_failed file before after
 
 -- ---- a survey
 

@@ -1,8 +1,8 @@
 //! Decoding a whole file.
 
-ghost use Rattle.std.specs.Prelude.{◌≡◌, ◌≢◌, ◌⊎◌, ℕ, List, OnOk, Err};
+ghost use Rattle.std.specs.Prelude.{◌≡◌, ◌≢◌, ◌⊎◌, ◌-◌, ◌^◌, ℕ, List, OnOk, Err};
 ghost use Rattle.std.specs.Io.KnownBytes.{Consumes, IsAtEnd};
-ghost use Rattle.vp_base.specs.Counted.{counted_remaining, counted_contents, counted_failures, HasFailed};
+ghost use Rattle.vp_base.specs.Counted.{counted_remaining, counted_contents, counted_failures, counted_reads, HasFailed, HasRisenBy};
 ghost use Rattle.vp_ivf.specs.declared.fault.FileFault.{FileFault};
 ghost use Rattle.vp_stream.specs.declared.fault.DecodeFault.{DecodeFault};
 ghost use Rattle.vp_stream.specs.Written.{IsAnswerFor};
@@ -28,8 +28,8 @@ pub fn decode_all<R: Read, W: Write>(
 ) -> Result<Report, DecodeFault>
     ensures decoded { (file : List ℕ)
         × Consumes (counted_remaining R.remaining reader.old) (counted_remaining R.remaining reader.new) file
-        × IsAnswerFor limits form result file (counted_contents W.contents writer.old)
-        (counted_contents W.contents writer.new) }
+        × IsAnswerFor limits form result (HasFailed (counted_failures writer.old) (counted_failures writer.new)) file
+        (counted_contents W.contents writer.old) (counted_contents W.contents writer.new) }
 
     // A report, and `Torn`, come only at the reader's end.
     ensures end { OnOk result (IsAtEnd (counted_remaining R.remaining reader.new)) }
@@ -43,6 +43,10 @@ pub fn decode_all<R: Read, W: Write>(
     ensures quiet { result ≢ Err DecodeFault.Device →
         (counted_failures reader.new ≡ counted_failures reader.old)
         × (counted_failures writer.new ≡ counted_failures writer.old) }
+
+    // `ReadTurns` comes behind so many reads.
+    ensures turns { result ≡ Err DecodeFault.ReadTurns →
+        HasRisenBy (2 ^ 32 - 1) (counted_reads reader.old) (counted_reads reader.new) }
 {
     let mut file = PacketReader::new(alloc, limits);
     let mut run = Run::new(alloc, limits, form);

@@ -3,11 +3,11 @@
 ghost use Rattle.std.specs.Prelude.{◌≡◌, ◌≢◌, ◌++◌, ◌-◌, ◌^◌, ◌<◌, ℕ, List, None, Err, Ok, true};
 ghost use Rattle.std.specs.Io.KnownBytes.{Consumes, IsAtEnd};
 ghost use Rattle.vp_base.specs.declared.limits.Limits.{Limits};
-ghost use Rattle.vp_base.specs.Counted.{counted_remaining, counted_failures, HasFailed};
+ghost use Rattle.vp_base.specs.Counted.{counted_remaining, counted_failures, counted_reads, one_more, HasFailed};
 ghost use Rattle.vp_ivf.specs.declared.packet.Packet.{Packet};
 ghost use Rattle.vp_ivf.specs.Reader.{refusal};
 ghost use Rattle.vp_stream.specs.declared.fault.SurveyFault.{SurveyFault};
-ghost use Rattle.vp_stream.specs.Incoming.{start, IsReading, Gives, Took, next_waiting, without_next};
+ghost use Rattle.vp_stream.specs.Incoming.{start, IsReading, HasRead, Gives, CountsReads, Took, next_waiting, without_next};
 
 use crate::fault::SurveyFault;
 use std::alloc::Global;
@@ -69,6 +69,8 @@ impl PacketReader {
             HasFailed (counted_failures reader.old) (counted_failures reader.new) }
         ensures quiet { result ≢ Err SurveyFault.Device →
             counted_failures reader.new ≡ counted_failures reader.old }
+        ensures reads { (before : ℕ) → HasRead self.old before (counted_reads reader.old)
+            → CountsReads result self.new before (counted_reads reader.new) }
     {
         'reading: loop {
             if let Some((head, packet)) = self.waiting() {
@@ -103,6 +105,9 @@ impl PacketReader {
             HasFailed (counted_failures reader.old) (counted_failures reader.new) }
         ensures quiet { result ≢ Err SurveyFault.Device →
             counted_failures reader.new ≡ counted_failures reader.old }
+        ensures counts { result ≢ Err SurveyFault.ReadTurns →
+            counted_reads reader.new ≡ one_more (counted_reads reader.old) }
+        ensures rests { result ≡ Err SurveyFault.ReadTurns → counted_reads reader.new ≡ counted_reads reader.old }
     {
         if self.turns == 0 {
             return Err(SurveyFault::ReadTurns);

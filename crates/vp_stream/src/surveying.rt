@@ -1,8 +1,8 @@
 //! Going through a whole file.
 
-ghost use Rattle.std.specs.Prelude.{◌≡◌, ◌≢◌, ℕ, List, None, Some, IfOk, Err};
+ghost use Rattle.std.specs.Prelude.{◌≡◌, ◌≢◌, ◌-◌, ◌^◌, ℕ, List, None, Some, IfOk, Err};
 ghost use Rattle.std.specs.Io.KnownBytes.{Consumes, IsAtEnd};
-ghost use Rattle.vp_base.specs.Counted.{counted_remaining, counted_failures, HasFailed};
+ghost use Rattle.vp_base.specs.Counted.{counted_remaining, counted_failures, counted_reads, HasFailed, HasRisenBy};
 ghost use Rattle.vp_ivf.specs.declared.fault.FileFault.{FileFault};
 ghost use Rattle.vp_stream.specs.declared.fault.SurveyFault.{SurveyFault};
 ghost use Rattle.vp_stream.specs.Written.{IsSurveyFor};
@@ -36,6 +36,10 @@ pub fn survey<R: Read>(
         HasFailed (counted_failures reader.old) (counted_failures reader.new) }
     ensures quiet { result ≢ Err SurveyFault.Device →
         counted_failures reader.new ≡ counted_failures reader.old }
+
+    // `ReadTurns` comes behind so many reads.
+    ensures turns { result ≡ Err SurveyFault.ReadTurns →
+        HasRisenBy (2 ^ 32 - 1) (counted_reads reader.old) (counted_reads reader.new) }
 {
     let mut file = PacketReader::new(alloc, limits);
     let mut decoder = Decoder::new(alloc, limits);

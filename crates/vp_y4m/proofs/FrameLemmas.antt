@@ -1,5 +1,5 @@
 -- A line, and what is read behind it.
-use Rattle.std.proofs.Common.{◌≡◌, ◌∙◌, ℕ, ◌<◌, ◌+◌, List, ◌++◌, length, take, drop, false, Option, Some, None, Result, Ok, Err, ◌⊎◌, inl, inr, refl, sym, ap, append_assoc, length-append, arith}
+use Rattle.std.proofs.Common.{◌≡◌, ◌≢◌, ◌∙◌, ℕ, ◌<◌, ◌+◌, List, ◌++◌, length, take, drop, false, Option, Some, None, Result, Ok, Err, ◌⊎◌, inl, inr, refl, sym, ap, append_assoc, length-append, arith}
 use Rattle.std.specs.Prelude.{codes}
 use Rattle.std.proofs.KnownBytes.{Consumes-trans}
 use Rattle.std.proofs.lemmas.Bool.Decides.{nat_tests}
@@ -8,22 +8,40 @@ use Rattle.vp_base.specs.Image.{Image, i420}
 use Rattle.vp_y4m.specs.declared.fault.SourceFault.{SourceFault}
 use Rattle.vp_y4m.specs.declared.fault.SourceFault.TheVariants.{Magic, Size, Colour, Interlaced, Torn, Device, Memory}
 use Rattle.vp_y4m.specs.Text.{i420_length}
-use Rattle.vp_y4m.specs.Reads.{Shows, ShowsAtEnd, Fails}
-use Rattle.vp_y4m.specs.Lines.{first_line}
+use Rattle.vp_y4m.specs.Reads.{Shows, ShowsFault, ShowsAtEnd, Fails}
+use Rattle.vp_y4m.specs.Lines.{first_line, LineFails}
 use Rattle.vp_y4m.specs.Header.{Head, begins_with, head_in}
 use Rattle.vp_y4m.specs.Pictures.{StopsShort, split_off, frame_line, next_of, with_rest, head_line, file_head}
 use Rattle.vp_y4m.specs.Pixels.{ReadsPicture}
 use Rattle.vp_y4m.specs.Frames.{ReadsFrameLine, GivesPicture}
+use Rattle.vp_y4m.proofs.LineLemmas.{IsUnfinished, too_long, unfinished_line, unfinished_long}
 use Rattle.vp_y4m.proofs.PictureLemmas.{length-i420}
+
+-- bytes that don't reach a line's end show no picture's fault
+next_unfinished : (w h : ℕ) (bytes : List ℕ) → IsUnfinished bytes → next_of w h bytes ≢ Err Magic
+unfolding next_of
+next_unfinished w h bytes u is = elim u [
+  | inl none ↦ (let clash = sym (ap (frame_line (i420_length w h)) none) ∙ is in cc)
+  | inr torn ↦ (let clash = sym (ap (frame_line (i420_length w h)) torn) ∙ is in cc)
+]
+
+-- and no head's
+head_unfinished : (pixels : ℕ) (bytes : List ℕ) → IsUnfinished bytes → file_head pixels bytes ≡ Err Torn
+unfolding file_head
+head_unfinished pixels bytes u = elim u [
+  | inl none ↦ ap (head_line pixels) none
+  | inr torn ↦ ap (head_line pixels) torn
+]
 
 -- a line of another word
 pub other_line : (line : List ℕ) (a b : Option (List ℕ)) → Shows first_line (λ rest. Ok (Some (line, rest))) a b → begins_with (codes "FRAME") line ≡ false
-    → (w h : ℕ) → Shows (next_of w h) (λ rest. Err Magic) a b
+    → (w h : ℕ) → ShowsFault (next_of w h) Magic a b
 unfolding next_of
 other_line line a b s other w h = record {
   taken = s.taken;
   consumed = s.consumed;
   shown = λ rest. ap (frame_line (i420_length w h)) (s.shown rest) ∙ rw other refl;
+  tight = λ n less. next_unfinished w h (take n s.taken) (unfinished_line s.taken line s.shown n less);
 }
 
 pub end_before_line : (a b : Option (List ℕ)) → ShowsAtEnd first_line (Ok None) a b → (w h : ℕ) → ShowsAtEnd (next_of w h) (Ok None) a b
@@ -35,27 +53,21 @@ end_before_line a b s w h = record {
   shown = ap (frame_line (i420_length w h)) s.shown;
 }
 
--- a fault of what is read first is one of the whole
-shows_on : {A B : Type 0} (read : List ℕ → Result A SourceFault) (whole : List ℕ → Result B SourceFault) (f : SourceFault) (a b : Option (List ℕ)) → ((bytes : List ℕ) → read bytes ≡ Err f → whole bytes ≡ Err f)
-    → Shows read (λ rest. Err f) a b → Shows whole (λ rest. Err f) a b
-shows_on read whole f a b on s = record { taken = s.taken; consumed = s.consumed; shown = λ rest. on (s.taken ++ rest) (s.shown rest) }
-
-fails_on : {A B : Type 0} (read : List ℕ → Result A SourceFault) (whole : List ℕ → Result B SourceFault) (f : SourceFault) (a b : Option (List ℕ)) → ((g : SourceFault) (bytes : List ℕ) → read bytes ≡ Err g → whole bytes ≡ Err g)
-    → Fails read f a b → Fails whole f a b
-fails_on read whole Torn a b on s = record { taken = s.taken; consumed = s.consumed; at_end = s.at_end; shown = on Torn s.taken s.shown }
-fails_on read whole Device a b on s = s
-fails_on read whole Memory a b on s = s
-fails_on read whole Magic a b on s = shows_on read whole Magic a b (on Magic) s
-fails_on read whole Size a b on s = shows_on read whole Size a b (on Size) s
-fails_on read whole Colour a b on s = shows_on read whole Colour a b (on Colour) s
-fails_on read whole Interlaced a b on s = shows_on read whole Interlaced a b (on Interlaced) s
-
-line_fault_is_next : (w h : ℕ) (g : SourceFault) (bytes : List ℕ) → first_line bytes ≡ Err g → next_of w h bytes ≡ Err g
+-- a line's fault is the picture's
+pub line_fault : (f : SourceFault) (a b : Option (List ℕ)) → LineFails f a b → (w h : ℕ) → Fails (next_of w h) f a b
 unfolding next_of
-line_fault_is_next w h g bytes e = ap (frame_line (i420_length w h)) e
-
-pub line_fault : (f : SourceFault) (a b : Option (List ℕ)) → Fails first_line f a b → (w h : ℕ) → Fails (next_of w h) f a b
-line_fault f a b s w h = fails_on first_line (next_of w h) f a b (line_fault_is_next w h) s
+line_fault Magic a b s w h = record {
+  taken = s.taken;
+  consumed = s.consumed;
+  shown = λ rest. ap (frame_line (i420_length w h)) (too_long s.taken (let long = s.long in omega arith) s.no_feed rest);
+  tight = λ n less. next_unfinished w h (take n s.taken) (unfinished_long s.taken s.long s.no_feed n less);
+}
+line_fault Torn a b s w h = record { taken = s.taken; consumed = s.consumed; at_end = s.at_end; shown = ap (frame_line (i420_length w h)) s.shown }
+line_fault Device a b s w h = s
+line_fault Size a b s w h = absurd s
+line_fault Colour a b s w h = absurd s
+line_fault Interlaced a b s w h = absurd s
+line_fault Memory a b s w h = absurd s
 
 pub split_whole : (n : ℕ) (xs rest : List ℕ) → length xs ≡ n → split_off n (xs ++ rest) ≡ Ok (Some (xs, rest))
 split_whole n xs rest e =
@@ -100,12 +112,21 @@ frame_short w h f a b c s p = elim p.named [
   | inr device ↦ rw device (s.shown.taken ++ p.taken, Consumes-trans a b c s.shown.taken p.taken s.shown.consumed p.consumed)
 ]
 
-head_fault_is_file : (pixels : ℕ) (g : SourceFault) (bytes : List ℕ) → first_line bytes ≡ Err g → file_head pixels bytes ≡ Err g
+-- a line's fault is the head's
+pub head_fault : (pixels : ℕ) (f : SourceFault) (a b : Option (List ℕ)) → LineFails f a b → Fails (file_head pixels) f a b
 unfolding file_head
-head_fault_is_file pixels g bytes e = ap (head_line pixels) e
-
-pub head_fault : (pixels : ℕ) (f : SourceFault) (a b : Option (List ℕ)) → Fails first_line f a b → Fails (file_head pixels) f a b
-head_fault pixels f a b s = fails_on first_line (file_head pixels) f a b (head_fault_is_file pixels) s
+head_fault pixels Magic a b s = record {
+  taken = s.taken;
+  consumed = s.consumed;
+  shown = λ rest. ap (head_line pixels) (too_long s.taken (let long = s.long in omega arith) s.no_feed rest);
+  tight = λ n less is. let clash = sym (head_unfinished pixels (take n s.taken) (unfinished_long s.taken s.long s.no_feed n less)) ∙ is in cc;
+}
+head_fault pixels Torn a b s = record { taken = s.taken; consumed = s.consumed; at_end = s.at_end; shown = ap (head_line pixels) s.shown }
+head_fault pixels Device a b s = s
+head_fault pixels Size a b s = absurd s
+head_fault pixels Colour a b s = absurd s
+head_fault pixels Interlaced a b s = absurd s
+head_fault pixels Memory a b s = absurd s
 
 -- nothing stands where the head should
 pub no_head : (pixels : ℕ) (a b : Option (List ℕ)) → ShowsAtEnd first_line (Ok None) a b → ShowsAtEnd (file_head pixels) (Err Torn) a b
@@ -121,13 +142,24 @@ head_judged pixels line r a b s e = record {
   shown = λ rest. ap (head_line pixels) (s.shown rest) ∙ ap (λ (j : Result Head SourceFault). with_rest j rest) (sym e);
 }
 
+-- the fault of a line that was read and judged
+judged_line : (pixels : ℕ) (line : List ℕ) (f : SourceFault) (a b : Option (List ℕ)) → Shows first_line (λ rest. Ok (Some (line, rest))) a b → Err f ≡ head_in pixels line
+    → (let r : Result (Head × List ℕ) SourceFault = Err f in r ≢ Err Torn) → ShowsFault (file_head pixels) f a b
+unfolding file_head
+judged_line pixels line f a b s e other = record {
+  taken = s.taken;
+  consumed = s.consumed;
+  shown = λ rest. ap (head_line pixels) (s.shown rest) ∙ ap (λ (j : Result Head SourceFault). with_rest j rest) (sym e);
+  tight = λ n less is. other (sym is ∙ head_unfinished pixels (take n s.taken) (unfinished_line s.taken line s.shown n less));
+}
+
 -- a line is judged by four faults only
 pub judged_fault : (pixels : ℕ) (line : List ℕ) (f : SourceFault) (a b : Option (List ℕ)) → Shows first_line (λ rest. Ok (Some (line, rest))) a b → Err f ≡ head_in pixels line → (f ≡ Magic) ⊎ ((f ≡ Size) ⊎ ((f ≡ Colour) ⊎ (f ≡ Interlaced)))
     → Fails (file_head pixels) f a b
-judged_fault pixels line Magic a b s e n = head_judged pixels line (Err Magic) a b s e
-judged_fault pixels line Size a b s e n = head_judged pixels line (Err Size) a b s e
-judged_fault pixels line Colour a b s e n = head_judged pixels line (Err Colour) a b s e
-judged_fault pixels line Interlaced a b s e n = head_judged pixels line (Err Interlaced) a b s e
+judged_fault pixels line Magic a b s e n = judged_line pixels line Magic a b s e (λ same. cc)
+judged_fault pixels line Size a b s e n = judged_line pixels line Size a b s e (λ same. cc)
+judged_fault pixels line Colour a b s e n = judged_line pixels line Colour a b s e (λ same. cc)
+judged_fault pixels line Interlaced a b s e n = judged_line pixels line Interlaced a b s e (λ same. cc)
 judged_fault pixels line Torn a b s e (inl n) = cc
 judged_fault pixels line Torn a b s e (inr (inl n)) = cc
 judged_fault pixels line Torn a b s e (inr (inr (inl n))) = cc

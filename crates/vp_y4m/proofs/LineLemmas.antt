@@ -1,16 +1,17 @@
 -- A line that is read byte by byte.
-use Rattle.std.proofs.Common.{◌≡◌, ◌∙◌, ℕ, zero, suc, Result, ◌<◌, ◌≤◌, ◌+◌, List, [], ◌∷◌, ◌++◌, length, take, drop, Bool, true, false, not, cond, Option, Some, None, Ok, Err, eqb, refl, sym, append_assoc, length-append, arith, add-zero}
+use Rattle.std.proofs.Common.{◌≡◌, ◌∙◌, ℕ, zero, suc, Result, ◌<◌, ◌≤◌, ◌+◌, List, [], ◌∷◌, ◌++◌, length, take, drop, Bool, true, false, not, cond, Option, Some, None, Ok, Err, eqb, ◌⊎◌, inl, inr, refl, sym, ap, append_assoc, length-append, arith, add-zero}
 use Rattle.std.specs.List.{position_or_len}
 use Rattle.std.specs.Io.KnownBytes.{Consumes, IsAtEnd}
 use Rattle.std.proofs.KnownBytes.{Consumes-nil, Consumes-trans}
-use Rattle.std.proofs.lemmas.List.{append-nil, length-take}
+use Rattle.std.proofs.lemmas.Bool.{cases_lt}
+use Rattle.std.proofs.lemmas.List.{append-nil, length-take, length-drop}
 use Rattle.std.proofs.Math.Seq.{take-append_seam, drop-append-add}
 use Rattle.std.proofs.lemmas.List.Sums.{prefix_len-le-length}
 use Rattle.std.proofs.lemmas.Bool.Decides.{nat_tests}
 use Rattle.vp_y4m.specs.declared.fault.SourceFault.{SourceFault}
 use Rattle.vp_y4m.specs.declared.fault.SourceFault.TheVariants.{Magic, Torn}
 use Rattle.vp_y4m.specs.Reads.{Shows, ShowsAtEnd}
-use Rattle.vp_y4m.specs.Lines.{is_line_feed, first_line, ReadsLine}
+use Rattle.vp_y4m.specs.Lines.{is_line_feed, first_line, ReadsLine, IsTooLong}
 
 -- no element passes
 abbrev pub NonePasses : (ℕ → Bool) → List ℕ → Type 0
@@ -75,18 +76,74 @@ whole_line xs before now after short h c = record {
 }
 
 -- one byte too many
-pub long_line : (xs : List ℕ) (before after : Option (List ℕ)) → 1024 < length xs → IsLineSoFar xs before after → Shows first_line (λ rest. Err Magic) before after
-unfolding first_line
-long_line xs before after long h = record {
-  taken = xs;
-  consumed = h.consumed;
-  shown = λ rest. by_tests_long (xs ++ rest) (let e = position-append is_line_feed xs rest h.no_feed in omega arith);
-}
+pub too_long : (xs : List ℕ) → 1024 < length xs → NonePasses is_line_feed xs → (rest : List ℕ) → first_line (xs ++ rest) ≡ Err Magic
+too_long xs long none rest = by_tests_long (xs ++ rest) (let e = position-append is_line_feed xs rest none in omega arith)
 
 -- a byte behind the greatest line
-pub longer_line : (xs : List ℕ) (b : ℕ) (before now after : Option (List ℕ)) → length xs ≡ 1024 → IsLineSoFar xs before now → Consumes now after (b ∷ []) → (b ≡ 10 → ⊥) → Shows first_line (λ rest. Err Magic) before after
+pub longer_line : (xs : List ℕ) (b : ℕ) (before now after : Option (List ℕ)) → length xs ≡ 1024 → IsLineSoFar xs before now → Consumes now after (b ∷ []) → (b ≡ 10 → ⊥) → IsTooLong before after
 longer_line xs b before now after long h c other =
-    long_line (xs ++ b ∷ []) before after (simp length-append (omega arith)) (one_more_byte xs b before now after h c (grind (arith, nat_tests)))
+    let all = one_more_byte xs b before now after h c (grind (arith, nat_tests)) in
+    record { taken = xs ++ b ∷ []; consumed = all.consumed; long = simp length-append (omega arith); no_feed = all.no_feed }
+
+-- ---- fewer bytes than a line
+
+-- neither a line nor a fault but the end
+abbrev pub IsUnfinished : List ℕ → Type 0
+IsUnfinished bytes = (first_line bytes ≡ Ok None) ⊎ (first_line bytes ≡ Err Torn)
+
+none_in_front : (p : ℕ → Bool) (xs : List ℕ) (n : ℕ) → n ≤ position_or_len p xs → NonePasses p (take n xs)
+none_in_front p xs zero h = refl
+none_in_front p [] (suc n) h = refl
+none_in_front p (x ∷ xs) (suc n) h = go (p x) h (none_in_front p xs n)
+  where
+    go : (b : Bool) → suc n ≤ cond (not b) (1 + position_or_len p xs) 0 → (n ≤ position_or_len p xs → NonePasses p (take n xs))
+        → cond (not b) (1 + position_or_len p (take n xs)) 0 ≡ suc (length (take n xs))
+    go true h more = absurd (omega arith)
+    go false h more = let m = more (omega arith) in omega arith
+
+without_feed : (xs : List ℕ) → NonePasses is_line_feed xs → length xs ≤ 1024 → IsUnfinished xs
+unfolding first_line
+without_feed [] none short = inl refl
+without_feed (x ∷ xs) none short = inr (by_tests_torn (x ∷ xs) none (omega arith) short)
+
+fewer : (xs : List ℕ) (n : ℕ) → n ≤ position_or_len is_line_feed xs → n ≤ 1024 → IsUnfinished (take n xs)
+fewer xs n before_it short = let l = length-take n xs in without_feed (take n xs) (none_in_front is_line_feed xs n before_it) (omega arith)
+
+abbrev rest_in : Result (Option (List ℕ × List ℕ)) SourceFault → List ℕ
+rest_in (Ok (Some x)) = x.1
+rest_in (Ok None) = []
+rest_in (Err fault) = []
+
+line_end : (bytes line : List ℕ) → first_line bytes ≡ Ok (Some (line, [])) → (position_or_len is_line_feed bytes ≤ 1024) × (length bytes ≤ position_or_len is_line_feed bytes + 1)
+line_end bytes line e =
+    let n = position_or_len is_line_feed bytes in
+    let le : n ≤ length bytes = prefix_len-le-length _ bytes in
+    elim (cases_lt 0 (length bytes)) [
+      | inr none ↦ (omega arith, omega arith)
+      | inl some ↦ elim (cases_lt 1024 n) [
+        | inl long ↦ (let clash = sym (by_tests_long bytes long) ∙ e in cc)
+        | inr short ↦ elim (cases_lt n (length bytes)) [
+          | inl inside ↦
+              let nothing : drop (n + 1) bytes ≡ [] = ap rest_in (sym (by_tests bytes n refl some (omega arith) inside) ∙ e) in
+              let none = ap length nothing in
+              let l = length-drop (n + 1) bytes in
+              (omega arith, omega arith)
+          | inr all ↦ (omega arith, omega arith)
+        ]
+      ]
+    ]
+
+-- no fewer bytes than the line's and its line feed
+pub unfinished_line : (taken line : List ℕ) → ((rest : List ℕ) → first_line (taken ++ rest) ≡ Ok (Some (line, rest))) → (n : ℕ) → n < length taken → IsUnfinished (take n taken)
+unfinished_line taken line shown n less =
+    let end = line_end taken line (ap first_line (sym (append-nil taken)) ∙ shown []) in
+    let short = end.0 in
+    let all = end.1 in
+    fewer taken n (omega arith) (omega arith)
+
+-- no fewer than the first 1,025 bytes
+pub unfinished_long : (taken : List ℕ) → length taken ≡ 1025 → NonePasses is_line_feed taken → (n : ℕ) → n < length taken → IsUnfinished (take n taken)
+unfinished_long taken long none n less = fewer taken n (omega arith) (omega arith)
 
 -- the end behind some bytes
 pub torn_line : (xs : List ℕ) (before now after : Option (List ℕ)) → 0 < length xs → length xs ≤ 1024 → IsLineSoFar xs before now → Consumes now after [] → IsAtEnd after → ShowsAtEnd first_line (Err Torn) before after

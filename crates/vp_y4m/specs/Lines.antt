@@ -3,8 +3,8 @@ use Rattle.std.specs.Prelude.{ℕ, ◌≤◌, ◌≡◌, ◌==◌, Bool, List, [
 use Rattle.std.specs.Io.KnownBytes.{Consumes, IsAtEnd}
 use Rattle.std.specs.List.{position_or_len, before_first, after_first}
 use Rattle.vp_y4m.specs.declared.fault.SourceFault.{SourceFault}
-use Rattle.vp_y4m.specs.declared.fault.SourceFault.TheVariants.{Magic, Torn, Device}
-use Rattle.vp_y4m.specs.Reads.{Shows, ShowsAtEnd, Fails}
+use Rattle.vp_y4m.specs.declared.fault.SourceFault.TheVariants.{Magic, Size, Colour, Interlaced, Torn, Device, Memory}
+use Rattle.vp_y4m.specs.Reads.{Shows, ShowsAtEnd, Takes}
 
 abbrev pub is_line_feed : ℕ → Bool
 is_line_feed byte = byte == 10
@@ -23,8 +23,25 @@ ReadsByte (Ok (Some byte)) before after = Consumes before after (byte ∷ [])
 ReadsByte (Ok None) before after = Consumes before after [] × IsAtEnd after
 ReadsByte (Err fault) before after = (fault ≡ Device) × Consumes before after []
 
+-- 1,025 bytes without a line feed were taken
+pub record IsTooLong (before after : Option (List ℕ)) : Type 0 where
+  pub taken : List ℕ
+  pub consumed : Consumes before after taken
+  pub long : length taken ≡ 1025
+  pub no_feed : position_or_len is_line_feed taken ≡ length taken
+
+-- a line is too long, or the end comes inside it, or a read failed
+abbrev pub LineFails : SourceFault → Option (List ℕ) → Option (List ℕ) → Type 0
+LineFails Magic before after = IsTooLong before after
+LineFails Torn before after = ShowsAtEnd first_line (Err Torn) before after
+LineFails Device before after = Takes before after
+LineFails Size before after = ⊥
+LineFails Colour before after = ⊥
+LineFails Interlaced before after = ⊥
+LineFails Memory before after = ⊥
+
 -- a line was read into the front of some bytes: its length, or none where the end was met first
 abbrev pub ReadsLine : Result (Option ℕ) SourceFault → List ℕ → Option (List ℕ) → Option (List ℕ) → Type 0
 ReadsLine (Ok (Some n)) bytes before after = (n ≤ 1024) × Shows first_line (λ rest. Ok (Some (take n bytes, rest))) before after
 ReadsLine (Ok None) bytes before after = ShowsAtEnd first_line (Ok None) before after
-ReadsLine (Err fault) bytes before after = Fails first_line fault before after
+ReadsLine (Err fault) bytes before after = LineFails fault before after

@@ -1,5 +1,5 @@
 -- What the bytes that were taken from a reader show of a definition over all of a file's bytes.
-use Rattle.std.specs.Prelude.{ℕ, ◌≡◌, List, ◌++◌, Option, Result, Err}
+use Rattle.std.specs.Prelude.{ℕ, ◌≡◌, ◌≢◌, ◌<◌, List, ◌++◌, length, take, Option, Result, Err}
 use Rattle.std.specs.Io.KnownBytes.{Consumes, IsAtEnd}
 use Rattle.vp_y4m.specs.declared.fault.SourceFault.{SourceFault}
 use Rattle.vp_y4m.specs.declared.fault.SourceFault.TheVariants.{Magic, Size, Colour, Interlaced, Torn, Device, Memory}
@@ -17,16 +17,23 @@ pub record ShowsAtEnd {A : Type 0} (read : List ℕ → A) (answer : A) (before 
   pub at_end : IsAtEnd after
   pub shown : read taken ≡ answer
 
+-- the bytes taken show the fault, whatever rest follows them, and no fewer of them have it
+pub record ShowsFault {A : Type 0} (read : List ℕ → Result A SourceFault) (fault : SourceFault) (before after : Option (List ℕ)) : Type 0 where
+  pub taken : List ℕ
+  pub consumed : Consumes before after taken
+  pub shown : (rest : List ℕ) → read (taken ++ rest) ≡ Err fault
+  pub tight : (n : ℕ) → n < length taken → read (take n taken) ≢ Err fault
+
 -- some bytes were taken
 abbrev pub Takes : Option (List ℕ) → Option (List ℕ) → Type 0
 Takes before after = (taken : List ℕ) × Consumes before after taken
 
--- a fault of the bytes is shown by those taken, and `Torn` only at the reader's end. Where a read failed, nothing is known of what follows; reading takes no memory
+-- a fault of the bytes is shown by those taken, which are those through the line that has it, and `Torn` only at the reader's end. Where a read failed, nothing is known of what follows; reading takes no memory
 abbrev pub Fails : {A : Type 0} → (List ℕ → Result A SourceFault) → SourceFault → Option (List ℕ) → Option (List ℕ) → Type 0
 Fails read Torn before after = ShowsAtEnd read (Err Torn) before after
 Fails read Device before after = Takes before after
 Fails read Memory before after = ⊥
-Fails read Magic before after = Shows read (λ rest. Err Magic) before after
-Fails read Size before after = Shows read (λ rest. Err Size) before after
-Fails read Colour before after = Shows read (λ rest. Err Colour) before after
-Fails read Interlaced before after = Shows read (λ rest. Err Interlaced) before after
+Fails read Magic before after = ShowsFault read Magic before after
+Fails read Size before after = ShowsFault read Size before after
+Fails read Colour before after = ShowsFault read Colour before after
+Fails read Interlaced before after = ShowsFault read Interlaced before after

@@ -10,7 +10,7 @@ ghost use Rattle.vp_y4m.specs.Shown.{outcome_shown, text_of, sides_of};
 use crate::fault::SourceFault;
 use vp_base::{Dim, Limits};
 
-/// What a file says before its pictures.
+/// What a file says before its pictures. Its fields are public, so it may also be one that no file said.
 #[derive(Clone, Copy, Debug, PartialEq, Eq)]
 pub struct SourceHead {
     /// The size of all its pictures.

@@ -17,7 +17,8 @@ use std::io::Read;
 use vp_base::{Counted, Dim, Limits, Picture};
 
 impl SourceHead {
-    /// Reads the line before all pictures, and no byte behind it.
+    /// Reads the line before all pictures, and no byte behind it. No fault is remembered: a second call reads the
+    /// next line.
     pub fn read<R: Read>(reader: &mut Counted<R>, limits: Limits) -> Result<SourceHead, SourceFault>
         ensures ok { IfOk result (λ head. Shows (file_head limits.pixels) (λ rest. Ok (head_shown head, rest))
             (counted_remaining R.remaining reader.old) (counted_remaining R.remaining reader.new)) }

@@ -218,3 +218,37 @@ fn fails_at_each_write(rt: HostRuntime) -> Result<(), Fail> {
     assert_eq!(rt; write_all(rt.alloc(), 2), (Some((true, fault)), 47));
     Ok(())
 }
+
+/// The rows of Y, of U and of V follow one another, those of colour as wide as half of three, rounded up.
+#[test]
+fn planes_stand_in_order(rt: HostRuntime) -> Result<(), Fail> {
+    let mut reader = Counted::new(b"YUV4MPEG2 W3 H1\nFRAME\nabcdefg".as_slice());
+    let Ok(head) = SourceHead::read(&mut reader, Limits::usual()) else {
+        panic!(rt; "a head");
+    };
+    let mut source = Source::open(rt.alloc(), &mut reader, head);
+    assert!(rt; gives(rt.alloc(), &mut source, b"abcdefg"));
+    Ok(())
+}
+
+/// What the pictures behind a head of one pixel end with.
+fn end_of(alloc: Global, file: &[u8]) -> (u64, Option<SourceFault>) {
+    let mut reader = Counted::new(FailAt::new(file, 2_000));
+    match SourceHead::read(&mut reader, Limits::usual()) {
+        Ok(head) => pictures_of(&mut Source::open(alloc, &mut reader, head)),
+        Err(fault) => (0, Some(fault)),
+    }
+}
+
+/// The first word of a line is whole, not only the beginning of one.
+#[test]
+fn first_words_are_whole(rt: HostRuntime) -> Result<(), Fail> {
+    let longer = b"YUV4MPEG22 W1 H1\nFRAME\nabc";
+    let magic = Some(SourceFault::Magic);
+    assert_eq!(rt; end_of(rt.alloc(), longer), (0, magic));
+    let frames = b"YUV4MPEG2 W1 H1\nFRAMES\nabc";
+    assert_eq!(rt; end_of(rt.alloc(), frames), (0, magic));
+    let frames_and_word = b"YUV4MPEG2 W1 H1\nFRAME\nabcFRAMES x\nabc";
+    assert_eq!(rt; end_of(rt.alloc(), frames_and_word), (1, magic));
+    Ok(())
+}

@@ -1,7 +1,8 @@
-use Rattle.std.proofs.Common.{◌∙◌, ◌++◌, [], Ok, Err, refl, subst, arith}
+use Rattle.std.proofs.Common.{◌≡◌, ◌∙◌, ◌+◌, ◌^◌, ◌++◌, [], Ok, Err, refl, sym, subst, arith}
 use Rattle.std.proofs.KnownBytes.{Consumes-nil, Consumes-trans}
 use Rattle.std.proofs.lemmas.Result.{err_from_is_err_and}
-use Rattle.vp_base.specs.Counted.{counted_remaining, counted_contents, counted_failures, HasFailed}
+use Rattle.vp_base.specs.Counted.{counted_remaining, counted_contents, counted_failures, counted_reads, HasFailed, HasRisenBy}
+use Rattle.vp_base.proofs.CallLemmas.{risen_by_none, risen_by_one_more}
 use Rattle.vp_hub.specs.Visits.{Exchanges}
 use Rattle.vp_hub.proofs.Visiting.{at_first, ends_faulty, ends_well, talks_on, runs_out}
 use Rattle.vp_hub.proofs.visit.talk.Goals as goal
@@ -13,6 +14,7 @@ loop-turn-init g c = (
   at_first c.args.conn c.args.hub.now.state (counted_contents g.W.Write.contents c.args.writer.now) c.requires,
   refl,
   refl,
+  risen_by_none (counted_reads c.args.reader.now),
 )
 
 pub returns-in_err-exchange-clause-talked : goal.returns-in_err-exchange-clause-talked
@@ -73,7 +75,14 @@ loop-turn-preserved g c =
           (HasFailed (counted_failures c.loop-turn.writer) (counted_failures c.exchange.new.writer)) inv.2 c.in_ok-exchange.field-0 c.if-not-branch.false now.2,
       (c.in_ok-exchange.ensures.quiet (λ e. cc)).0 ∙ inv.3,
       (c.in_ok-exchange.ensures.quiet (λ e. cc)).1 ∙ inv.4,
+      subst (λ n. HasRisenBy (c.loop-turn._turn + 1) (counted_reads c.args.reader.now) n) (sym c.in_ok-exchange.ensures.counts)
+          (risen_by_one_more c.loop-turn._turn (counted_reads c.args.reader.now) (counted_reads c.loop-turn.reader) inv.5),
     )
+
+pub returns-clause-turns : goal.returns-clause-turns
+returns-clause-turns g c =
+    let all : c.loop-turn._turn ≡ 2 ^ 20 = omega (arith, c.loop-turn-test.false, c.loop-turn.auto._turn-end) in
+    λ e. subst (λ n. HasRisenBy n (counted_reads c.args.reader.now) (counted_reads c.loop-turn.reader)) all c.loop-turn.invariant.5
 
 pub returns-clause-talked : goal.returns-clause-talked
 returns-clause-talked g c =

@@ -1,6 +1,6 @@
 use Rattle.std.proofs.Common.{◌≡◌, ℕ, List}
 use Rattle.std.specs.Io.KnownBytes.{Consumes}
-use Rattle.vp_base.specs.Counted.{counted_remaining, counted_contents, counted_failures}
+use Rattle.vp_base.specs.Counted.{counted_remaining, counted_contents, counted_failures, counted_reads, HasRisenBy}
 use Rattle.vp_hub.proofs.Visiting.{IsSpeaking}
 use Rattle.vp_hub.proofs.visit.talk.Given as goal
 
@@ -11,3 +11,4 @@ invariant-loop-turn g l =
     × IsSpeaking l.fn.conn l.fn.hub.state l.hub.state read (counted_contents g.W.Write.contents l.fn.writer) (counted_contents g.W.Write.contents l.writer) l._turn
     × (counted_failures l.reader ≡ counted_failures l.fn.reader)
     × (counted_failures l.writer ≡ counted_failures l.fn.writer)
+    × HasRisenBy l._turn (counted_reads l.fn.reader) (counted_reads l.reader)

@@ -1,13 +1,14 @@
-use Rattle.std.proofs.Common.{◌∙◌, ◌++◌, ◌∷◌, [], Ok, Err, sym, ap, subst, arith}
+use Rattle.std.proofs.Common.{◌∙◌, ℕ, ◌++◌, ◌∷◌, [], Ok, Err, sym, ap, subst, arith}
 use Rattle.std.proofs.lemmas.Result.{err_from_is_err_and}
 use Rattle.std.proofs.KnownBytes.{Consumes-trans}
-use Rattle.vp_base.specs.Counted.{counted_remaining, counted_contents}
+use Rattle.vp_base.specs.Counted.{counted_remaining, counted_contents, counted_failures, counted_reads, HasFailed}
 use Rattle.vp_stream.specs.declared.packet_reader.Next.{Next}
 use Rattle.vp_stream.specs.declared.packet_reader.Next.TheVariants as next
 use Rattle.vp_stream.specs.declared.report.Report.{Report}
-use Rattle.vp_stream.specs.Incoming.{Gives}
+use Rattle.vp_stream.specs.Incoming.{Gives, CountsReads}
 use Rattle.vp_stream.specs.Written.{IsReported}
 use Rattle.vp_stream.proofs.DecodingLemmas.{failed, reported, faulty, room, cut, goes_on, fewer_left}
+use Rattle.vp_stream.proofs.ReadLemmas.{decode_ran_out}
 use Rattle.vp_stream.proofs.decoding.decode_all.Goals as goal
 
 pub returns-in_err-head-clause-decoded : goal.returns-in_err-head-clause-decoded
@@ -18,8 +19,15 @@ returns-in_err-head-clause-decoded g c =
     rw (p.1, p.2) (
       inv.0 ++ now.0,
       Consumes-trans (counted_remaining g.R.Read.remaining c.args.reader.now) (counted_remaining g.R.Read.remaining c.packets.reader) (counted_remaining g.R.Read.remaining c.next.new.reader) inv.0 now.0 inv.2 now.1,
-      failed c.args.limits c.args.form c.packets.file c.packets.run (counted_contents g.W.Write.contents c.args.writer.now) (counted_contents g.W.Write.contents c.packets.writer) inv.0 now.0 inv.1 inv.3 c.in_err-head.field-0.0 now.2,
+      failed c.args.limits c.args.form c.packets.file c.packets.run (counted_contents g.W.Write.contents c.args.writer.now) (counted_contents g.W.Write.contents c.packets.writer) inv.0 now.0 inv.1 inv.3
+          (HasFailed (counted_failures c.args.writer.now) (counted_failures c.packets.writer)) c.in_err-head.field-0.0 now.2,
     )
+
+pub returns-in_err-head-clause-turns : goal.returns-in_err-head-clause-turns
+returns-in_err-head-clause-turns g c =
+    let reads = c.in_err-head.ensures.reads (counted_reads c.args.reader.now) c.packets.invariant.6 in
+    let p = err_from_is_err_and c.from_residual.result c.from_residual.ensures.1 in
+    rw (p.1, p.2) (decode_ran_out c.in_err-head.field-0.0 c.next.new.self (counted_reads c.args.reader.now) (counted_reads c.next.new.reader) reads)
 
 pub packet-requires : goal.packet-requires
 packet-requires g c =
@@ -42,7 +50,9 @@ returns-in_err-packet-in-Packet-clause-decoded g c =
       inv.0 ++ now.0,
       Consumes-trans (counted_remaining g.R.Read.remaining c.args.reader.now) (counted_remaining g.R.Read.remaining c.packets.reader) (counted_remaining g.R.Read.remaining c.next.new.reader) inv.0 now.0 inv.2 now.1,
       cut c.args.limits c.args.form c.packets.file c.packets.run (counted_contents g.W.Write.contents c.args.writer.now) (counted_contents g.W.Write.contents c.packets.writer) inv.0 now.0 inv.1 inv.3
-          c.in-Packet.packet c.in-Packet.head c.next.new.self r c.in_err-packet-in-Packet.field-0.0 (counted_contents g.W.Write.contents c.packet.new.writer)
+          c.in-Packet.packet c.in-Packet.head c.next.new.self r (HasFailed (counted_failures c.args.writer.now) (counted_failures c.packet.new.writer))
+          c.in_err-packet-in-Packet.field-0.0 (counted_contents g.W.Write.contents c.packet.new.writer)
+          (λ e. subst (λ (n : ℕ). HasFailed n (counted_failures c.packet.new.writer)) inv.5 (c.in_err-packet-in-Packet.ensures.device (ap Err e)))
           (λ e. change (ap Err e)) prefix,
     )
 
@@ -69,6 +79,8 @@ packets-preserved g c =
           c.in-Packet.packet c.in-Packet.head c.next.new.self r c.packet.new.self (counted_contents g.W.Write.contents c.packet.new.writer) after fits written,
       c.in_ok-head.ensures.quiet (λ e. cc) ∙ inv.4,
       c.in_ok-packet-in-Packet.ensures.quiet (λ e. cc) ∙ inv.5,
+      subst (λ (n : Next). CountsReads (Ok n) c.next.new.self (counted_reads c.args.reader.now) (counted_reads c.next.new.reader)) c.in-Packet.is
+          (c.in_ok-head.ensures.reads (counted_reads c.args.reader.now) inv.6),
     )
 
 pub returns-in-End-None-clause-decoded : goal.returns-in-End-None-clause-decoded
@@ -89,5 +101,6 @@ returns-in-End-Some-clause-decoded g c =
     let ends = subst (λ (n : Next). Gives c.args.limits (Ok n) c.next.new.self (counted_remaining g.R.Read.remaining c.next.new.reader) (inv.0 ++ now.0) inv.1) (c.in-End-Some.is ∙ ap next.End c.in-End-Some.field-0-is) now.2 in (
       inv.0 ++ now.0,
       Consumes-trans (counted_remaining g.R.Read.remaining c.args.reader.now) (counted_remaining g.R.Read.remaining c.packets.reader) (counted_remaining g.R.Read.remaining c.next.new.reader) inv.0 now.0 inv.2 now.1,
-      faulty c.args.limits c.args.form c.packets.file c.packets.run (counted_contents g.W.Write.contents c.args.writer.now) (counted_contents g.W.Write.contents c.packets.writer) inv.0 now.0 inv.1 inv.3 c.in-End-Some.fault c.next.new.self (counted_remaining g.R.Read.remaining c.next.new.reader) ends,
+      faulty c.args.limits c.args.form c.packets.file c.packets.run (counted_contents g.W.Write.contents c.args.writer.now) (counted_contents g.W.Write.contents c.packets.writer) inv.0 now.0 inv.1 inv.3
+          (HasFailed (counted_failures c.args.writer.now) (counted_failures c.packets.writer)) c.in-End-Some.fault c.next.new.self (counted_remaining g.R.Read.remaining c.next.new.reader) ends,
     )

@@ -1,7 +1,8 @@
 use Rattle.std.proofs.Common.{◌≡◌, ◌-◌, ℕ, List}
 use Rattle.std.specs.Io.KnownBytes.{Consumes}
-use Rattle.vp_base.specs.Counted.{counted_remaining, counted_contents, counted_failures}
+use Rattle.vp_base.specs.Counted.{counted_remaining, counted_contents, counted_failures, counted_reads}
 use Rattle.vp_ivf.specs.declared.packet.Packet.{Packet}
+use Rattle.vp_stream.specs.Incoming.{HasRead}
 use Rattle.vp_stream.proofs.DecodingLemmas.{IsAt}
 use Rattle.vp_stream.proofs.decoding.decode_all.Given as goal
 
@@ -12,6 +13,7 @@ invariant-packets g l =
     × IsAt l.fn.limits l.fn.form l.file l.run (counted_contents g.W.Write.contents l.fn.writer) (counted_contents g.W.Write.contents l.writer) fed given
     × (counted_failures l.reader ≡ counted_failures l.fn.reader)
     × (counted_failures l.writer ≡ counted_failures l.fn.writer)
+    × HasRead l.file (counted_reads l.fn.reader) (counted_reads l.reader)
 
 abbrev pub decreases-packets : goal.decreases-packets
 decreases-packets g l = l.fn.limits.packets - l.run.report.packets

@@ -1,10 +1,11 @@
 use Rattle.std.proofs.Common.{◌∙◌, ◌++◌, ◌∷◌, [], Ok, subst}
 use Rattle.std.proofs.lemmas.Result.{err_from_is_err_and}
 use Rattle.std.proofs.KnownBytes.{Consumes-trans}
-use Rattle.vp_base.specs.Counted.{counted_remaining}
+use Rattle.vp_base.specs.Counted.{counted_remaining, counted_reads}
 use Rattle.vp_stream.specs.declared.packet_reader.Next.{Next}
-use Rattle.vp_stream.specs.Incoming.{Gives}
+use Rattle.vp_stream.specs.Incoming.{Gives, CountsReads}
 use Rattle.vp_stream.proofs.SurveyLemmas.{surveyed, room, told_on, fewer_told}
+use Rattle.vp_stream.proofs.ReadLemmas.{survey_ran_out}
 use Rattle.vp_stream.proofs.surveying.survey.Goals as goal
 
 pub returns-in_err-packet-clause-surveyed : goal.returns-in_err-packet-clause-surveyed
@@ -17,6 +18,12 @@ returns-in_err-packet-clause-surveyed g c =
       Consumes-trans (counted_remaining g.R.Read.remaining c.args.reader.now) (counted_remaining g.R.Read.remaining c.packets.reader) (counted_remaining g.R.Read.remaining c.next.new.reader) inv.0 now.0 inv.2 now.1,
       now.2.0,
     )
+
+pub returns-in_err-packet-clause-turns : goal.returns-in_err-packet-clause-turns
+returns-in_err-packet-clause-turns g c =
+    let reads = c.in_err-packet.ensures.reads (counted_reads c.args.reader.now) c.packets.invariant.5 in
+    let p = err_from_is_err_and c.from_residual.result c.from_residual.ensures.1 in
+    rw (p.1, p.2) (survey_ran_out c.in_err-packet.field-0.0 c.next.new.self (counted_reads c.args.reader.now) (counted_reads c.next.new.reader) reads)
 
 pub returns-in_err-outcome-in-Packet-clause-surveyed : goal.returns-in_err-outcome-in-Packet-clause-surveyed
 returns-in_err-outcome-in-Packet-clause-surveyed g c =
@@ -62,6 +69,8 @@ packets-preserved g c =
       told_on c.args.limits c.packets.file c.packets.decoder c.packets.packets inv.0 now.0 inv.1 inv.3 c.in-Packet.packet c.next.new.self r.0
           c.decode.new.self c.in_ok-outcome-in-Packet.outcome c.push.new.self after outcome pushed,
       c.in_ok-packet.ensures.quiet (λ e. cc) ∙ inv.4,
+      subst (λ (n : Next). CountsReads (Ok n) c.next.new.self (counted_reads c.args.reader.now) (counted_reads c.next.new.reader)) c.in-Packet.is
+          (c.in_ok-packet.ensures.reads (counted_reads c.args.reader.now) inv.5),
     )
 
 pub returns-in-End-clause-surveyed : goal.returns-in-End-clause-surveyed

@@ -1,4 +1,4 @@
-use Rattle.std.proofs.Common.{◌≡◌, ◌∙◌, None, sym, ap}
+use Rattle.std.proofs.Common.{◌≡◌, ◌∙◌, None, Err, refl, sym, ap}
 use Rattle.std.proofs.lemmas.Grind.{common_steps}
 use Rattle.std.proofs.Common.{arith}
 use Rattle.std.proofs.lemmas.Result.{err_from_is_err_and}
@@ -7,6 +7,7 @@ use Rattle.vp_base.specs.Counted.{counted_remaining}
 use Rattle.vp_ivf.specs.Reader.{State, refusal, finish_answer}
 use Rattle.vp_stream.specs.Incoming.{Incoming, next_waiting}
 use Rattle.vp_stream.proofs.IncomingLemmas.{next_refused, next_failed, next_ended, next_read}
+use Rattle.vp_stream.proofs.ReadLemmas.{same_reads, read_once, all_read}
 use Rattle.vp_stream.proofs.packet_reader.PacketReader.next.Goals as goal
 
 pub returns-in-Some-refusal-clause-given : goal.returns-in-Some-refusal-clause-given
@@ -47,4 +48,24 @@ reading-preserved g c =
           c.read_piece.new.self (counted_remaining g.R.Read.remaining c.read_piece.new.reader) c.in_ok-read_piece.field-0
           c.if-not-branch.false c.in_ok-read_piece.ensures.took,
       c.in_ok-read_piece.ensures.quiet (λ e. cc) ∙ c.reading.invariant.1,
+      λ before h.
+          let first = c.reading.invariant.2 before h in
+          let here = same_reads c.reading.self c.waiting.new.self before _ _ (ap (λ (s : Incoming). s.turns) c.waiting.ensures.rest) refl first in
+          let took = c.in_ok-read_piece.ensures.took in
+          read_once c.in_ok-read_piece.field-0 c.waiting.new.self c.read_piece.new.self _ before _ _ c.if-not-branch.false took.0 took.2
+          (c.in_ok-read_piece.ensures.counts (λ e. cc)) here,
     )
+
+pub returns-in_err-read_piece-clause-reads : goal.returns-in_err-read_piece-clause-reads
+returns-in_err-read_piece-clause-reads g c = λ before h.
+    let first = c.reading.invariant.2 before h in
+    let here = same_reads c.reading.self c.waiting.new.self before _ _ (ap (λ (s : Incoming). s.turns) c.waiting.ensures.rest) refl first in
+    let took = c.in_err-read_piece.ensures.took in
+    let p = err_from_is_err_and c.from_residual.result c.from_residual.ensures.1 in
+    rw (p.1, p.2)
+    (all_read c.in_err-read_piece.field-0.0 c.waiting.new.self c.read_piece.new.self _ took.0 before _ _ took.2
+    (λ e. c.in_err-read_piece.ensures.rests (ap Err e)) here)
+
+pub returns-in-Some-clause-reads : goal.returns-in-Some-clause-reads
+returns-in-Some-clause-reads g c = λ before h.
+    same_reads c.reading.self c.waiting.new.self before _ _ (ap (λ (s : Incoming). s.turns) c.waiting.ensures.rest) refl (c.reading.invariant.2 before h)
