@@ -2,7 +2,8 @@
 
 ghost use Rattle.std.specs.Prelude.{◌≡◌, ◌<◌, ◌≤◌, length, option_map};
 ghost use Rattle.vp_base.specs.Grid.{Grid, Has, with_entry};
-ghost use Rattle.vp_tokens.specs.Blocks.{Blocks, blocks_of};
+ghost use Rattle.vp_tokens.specs.declared.contexts.Tokens.{Tokens};
+ghost use Rattle.vp_tokens.specs.Blocks.{Blocks, any_token, blocks_of};
 ghost use Rattle.vp_tokens.specs.Contexts.{StandsFor, right};
 ghost use Rattle.vp_recon.specs.Source.{source_of, has_y2};
 ghost use Rattle.vp_decode.specs.Maps.{modes_in, motion_in};
@@ -161,29 +162,35 @@ impl<'a> Plan<'a> {
         self.modes(place).skip
     }
 
-    /// The tokens of the macroblock at a place, where those before it in raster order are read.
+    /// Reads the tokens of the macroblock at a place, where those before it in raster order are read, and says whether
+    /// there are any.
     #[tactic(auto, unfolding(crate::specs::Frame::tokens_read))]
     pub(crate) fn read_tokens(
         &self,
         place: Place,
         contexts: &mut Contexts,
+        tokens: &mut Tokens,
         d: &mut BoolDecoder,
-    ) -> Tokens
+    ) -> bool
         requires place { Has self.now.maps.modes place }
         requires column { place.column < length contexts.old.above }
-        ensures value { (g : Grid Blocks) → StandsFor g place contexts.old → result ≡ (tokens_read self.now place g d.old).0 }
+        ensures value { (g : Grid Blocks) → StandsFor g place contexts.old → tokens.new ≡ (tokens_read self.now place g d.old).0 }
         ensures rest { (g : Grid Blocks) → StandsFor g place contexts.old → d.new ≡ (tokens_read self.now place g d.old).1 }
-        ensures stands { (g : Grid Blocks) → Has g place → StandsFor g place contexts.old → StandsFor (with_entry g place (blocks_of (has_y2 (source_at self.now place)) result)) (right place) contexts.new }
+        ensures stands { (g : Grid Blocks) → Has g place → StandsFor g place contexts.old → StandsFor (with_entry g place (blocks_of (has_y2 (source_at self.now place)) tokens.new)) (right place) contexts.new }
+        ensures any { result ≡ any_token tokens.new }
         ensures columns { length contexts.new.above ≡ length contexts.old.above }
     {
+        let skipped = self.is_skipped(place);
         read_macroblock(
             &self.header.probabilities.coefficients,
             contexts,
             place,
             self.source(place).has_y2(),
-            self.is_skipped(place),
+            skipped,
+            tokens,
             d,
-        )
+        );
+        !skipped && tokens.any()
     }
 
     /// The factors of the macroblock at a place.
@@ -199,17 +206,17 @@ impl<'a> Plan<'a> {
         )
     }
 
-    /// How the macroblock at a place is filtered.
+    /// How the macroblock at a place is filtered, where it has tokens or none.
     #[tactic(auto, unfolding(crate::specs::Frame::level_at))]
-    pub(crate) fn level(&self, place: Place, tokens: &Tokens) -> Level
+    pub(crate) fn level(&self, place: Place, coded: bool) -> Level
         requires { Has self.now.maps.modes place }
-        ensures { result ≡ level_at self.now place tokens.now }
+        ensures { (tokens : Tokens) → coded ≡ any_token tokens → result ≡ level_at self.now place tokens }
     {
         let modes = self.modes(place);
         let kind = MacroblockKind {
             reference: modes.reference,
             prediction: prediction_of(&self.source(place)),
-            coded: tokens.any(),
+            coded,
         };
         levels(self.header, modes.segment, &kind)
     }

@@ -21,7 +21,7 @@ use vp_recon::{
     rebuild_macroblock, rebuilding_keeps_rows_above, rebuilding_keeps_shape,
     rebuilding_reads_one_row_above,
 };
-use vp_tokens::{Contexts, Partitions};
+use vp_tokens::{Block, Contexts, Partitions, Tokens};
 
 const NO_LEVEL: Level = Level {
     edge: 0,
@@ -37,6 +37,8 @@ pub(crate) struct Rebuilding<'a> {
     contexts: Contexts,
     picture: Picture,
     levels: Grid<Level>,
+    /// Those of the macroblock that was read last.
+    tokens: Tokens,
 }
 
 impl<'a> Model for Rebuilding<'a> {
@@ -71,6 +73,9 @@ impl<'a> Rebuilding<'a> {
             contexts,
             picture,
             levels,
+            tokens: Tokens {
+                blocks: [Block::NONE; 25],
+            },
         })
     }
 
@@ -84,11 +89,11 @@ impl<'a> Rebuilding<'a> {
         ensures step { (g : Grid Blocks) → Has g place → StandsFor g place self.old.contexts → IsStep self.old.plan place g d.old d.new self.old self.new }
     {
         let plan = self.plan;
-        let tokens = plan.read_tokens(place, &mut self.contexts, d);
+        let coded = plan.read_tokens(place, &mut self.contexts, &mut self.tokens, d);
         let source = plan.source(place);
         let factors = plan.factors(place);
-        rebuild_macroblock(&mut self.picture, place, &source, &tokens, &factors);
-        self.levels.set(place, plan.level(place, &tokens));
+        rebuild_macroblock(&mut self.picture, place, &source, &self.tokens, &factors);
+        self.levels.set(place, plan.level(place, coded));
     }
 
     /// Reads the tokens of a row of macroblocks, and rebuilds it.

@@ -82,6 +82,19 @@ impl<'a> Residues<'a> {
         }
     }
 
+    /// Whether none of the first `count` subblocks has a residue that is not 0.
+    pub(crate) fn has_none(&self, count: usize) -> bool
+        requires { self.now.first + count ≤ 25 }
+        ensures { result ≡ true → (k : ℕ) → k < count → IsNothing (residue_in self.now k) }
+    {
+        for k in 0..count {
+            if self.has(k) {
+                return false;
+            }
+        }
+        true
+    }
+
     /// What is kept of the residue of subblock `k`.
     pub(crate) fn kept(&self, k: usize) -> [i16; 16]
         requires subblock { k < 16 }

@@ -37,6 +37,9 @@ pub(crate) fn write_whole<const ACROSS: usize>(
     let _height = picture.plane(plane).height();
     let width = 4 * ACROSS;
     picture.write_block(plane, x, y, width, width, prediction);
+    if residues.has_none(ACROSS * ACROSS) {
+        return;
+    }
     for k in 0..ACROSS * ACROSS {
         if residues.has(k) {
             let column = 4 * (k % ACROSS);

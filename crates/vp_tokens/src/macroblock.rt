@@ -135,7 +135,8 @@ fn read_unless(
     }
 }
 
-/// The tokens of the macroblock at a place, from the partition of its row. A frame's macroblocks are read in raster order.
+/// Reads the tokens of the macroblock at a place, from the partition of its row, over whatever `tokens` were. A frame's
+/// macroblocks are read in raster order.
 ///
 /// `has_y2` is false where the luma is predicted or moved by subblocks. Of a skipped macroblock nothing is read.
 pub fn read_macroblock(
@@ -144,29 +145,29 @@ pub fn read_macroblock(
     place: Place,
     has_y2: bool,
     skipped: bool,
+    tokens: &mut Tokens,
     d: &mut BoolDecoder,
-) -> Tokens
+)
     requires { place.column < length contexts.old.above }
     ensures value { (g : Grid Blocks) → StandsFor g place contexts.old
-        → result ≡ (macroblock probabilities.now g place has_y2 skipped d.old).0 }
+        → tokens.new ≡ (macroblock probabilities.now g place has_y2 skipped d.old).0 }
     ensures rest { (g : Grid Blocks) → StandsFor g place contexts.old
         → d.new ≡ (macroblock probabilities.now g place has_y2 skipped d.old).1 }
     ensures stands { (g : Grid Blocks) → Has g place → StandsFor g place contexts.old
-        → StandsFor (with_entry g place (blocks_of has_y2 result)) (right place) contexts.new }
+        → StandsFor (with_entry g place (blocks_of has_y2 tokens.new)) (right place) contexts.new }
     ensures columns { length contexts.new.above ≡ length contexts.old.above }
     // What is read can be written.
-    ensures spelled { AreSpelled has_y2 result.blocks }
-    ensures none { skipped ≡ true → result.blocks ≡ no_blocks }
+    ensures spelled { AreSpelled has_y2 tokens.new.blocks }
+    ensures none { skipped ≡ true → tokens.new.blocks ≡ no_blocks }
 {
-    let mut tokens = Tokens {
-        blocks: [Block::NONE; 25],
-    };
     let mut flags = Flags {
         above: contexts.above_of(place),
         left: contexts.left_of(place),
     };
+    *tokens = Tokens {
+        blocks: [Block::NONE; 25],
+    };
     let blocks = &mut tokens.blocks;
     read_unless(skipped, probabilities, has_y2, blocks, &mut flags, d);
     contexts.put(place, flags.above, flags.left);
-    tokens
 }

@@ -1,12 +1,38 @@
-use Rattle.std.proofs.Common.{◌≡◌, ◌∙◌, ℕ, ℤ, ◌+◌, ◌*◌, ◌/◌, ◌%◌, List, get_or, ap, subst, arith}
+use Rattle.std.proofs.Common.{◌≡◌, ◌∙◌, ℕ, ℤ, ◌+◌, ◌*◌, ◌/◌, ◌%◌, ◌≤◌, List, get_or, refl, sym, ap, subst, arith}
+use Rattle.std.proofs.lemmas.Nat.{row_fits}
+use Rattle.std.proofs.Math.Nat.{add-mul}
 use Rattle.vp_base.specs.Image.{Image, plane_of, with_plane}
 use Rattle.vp_base.specs.Block.{with_block}
+use Rattle.vp_base.proofs.BlockLemmas.{with_block_same}
 use Rattle.vp_recon.specs.Kept.{IsKept, IsNothing}
-use Rattle.vp_recon.proofs.Parts.{until, until_same, until_more, until_all}
+use Rattle.vp_recon.proofs.Parts.{sub_at, sub_below, part_fits, until, until_same, until_more, until_all}
 use Rattle.vp_recon.proofs.PlaneLemmas.{block_next, block_wide, block_high}
 use Rattle.vp_recon.proofs.WholeLemmas.{read, whole_sum, sum_none, sum_some}
 use Rattle.vp_recon.proofs.whole.write_whole.Goals as goal
 use Rattle.vp_recon.proofs.whole.write_whole.Goals.{then-has, else-has}
+
+pub returns-then-has_none : goal.returns-then-has_none
+returns-then-has_none g c residue are =
+    let p : Image = c.args.picture.now in
+    let a : ℕ = g.row.ACROSS in
+    let was = read a c.args.prediction.now in
+    c.write_block.ensures
+    ∙ ap (with_plane p c.args.plane) (with_block_same (plane_of p c.args.plane) c.args.x c.args.y (4 * a) (4 * a) was (whole_sum a c.args.prediction.now residue)
+    (λ r j rin jin.
+    let k : ℕ = sub_at a r j in
+    let below = sub_below a r j rin jin in
+    sym (sum_none a c.args.prediction.now residue k r j (subst IsNothing (are k below) (c.has_none.ensures c.if-has_none.true k below))
+    (omega (arith, c.type_inv.prediction (r * (4 * a) + j))) refl)))
+
+pub part_of-part-requires-clause-room : goal.part_of-part-requires-clause-room
+part_of-part-requires-clause-room g c =
+    let a : ℕ = g.row.ACROSS in
+    let row : ℕ = 4 * (c.loop-k.k / a) in
+    let w : ℕ = 4 * a in
+    let at = part_fits a c.loop-k.k c.requires.some c.loop-k-test.true in
+    let three : (row + 3) * w ≡ row * w + 3 * w = add-mul row 3 w in
+    let room : (row + 3) * w + w ≤ w * w = row_fits (row + 3) w w w (omega (arith, at)) (omega arith) in
+    omega (arith, at, c.requires.prediction)
 
 pub loop-k-preserved : goal.loop-k-preserved
 loop-k-preserved g c =

@@ -10,10 +10,10 @@ use Rattle.vp_decode.proofs.rebuilding.Rebuilding.macroblock.Goals as goal
 pub returns-clause-step : goal.returns-clause-step
 returns-clause-step c = λ g has stands.
     let f : Plan = c.self.inside.plan.now in
-    let new : Rebuilding = record { plan = f; contexts = c.read_tokens-tokens.new.contexts; picture = c.rebuild_macroblock.new.picture; levels = c.set.new.self } in
+    let new : Rebuilding = record { plan = f; contexts = c.read_tokens-coded.new.contexts; picture = c.rebuild_macroblock.new.picture; levels = c.set.new.self } in
     let made : (a : Rebuilding) → a ≡ c.args.self.now → StandsFor g c.args.place a.contexts = λ a e. subst (λ (z : Rebuilding). StandsFor g c.args.place z.contexts) (sym e) stands in
     let here : StandsFor g c.args.place c.self.inside.contexts = made _ c.self.view_is in
-    subst (λ (a : Rebuilding). IsStep a.plan c.args.place g c.args.d.now c.read_tokens-tokens.new.d a new) c.self.view_is
-    (step_made f c.args.place g c.args.d.now c.read_tokens-tokens.new.d _ new (source_of c.source-source.result) c.read_tokens-tokens.result c.factors-factors.result
-    (c.read_tokens-tokens.ensures.value g here) (c.read_tokens-tokens.ensures.rest g here) (c.read_tokens-tokens.ensures.stands g has here)
-    c.source-source.ensures c.factors-factors.ensures c.rebuild_macroblock.ensures (c.set.ensures.here ∙ ap (λ (l : Level). Some l) c.level.ensures) c.set.ensures.elsewhere)
+    subst (λ (a : Rebuilding). IsStep a.plan c.args.place g c.args.d.now c.read_tokens-coded.new.d a new) c.self.view_is
+    (step_made f c.args.place g c.args.d.now c.read_tokens-coded.new.d _ new (source_of c.source-source.result) c.read_tokens-coded.new.tokens c.factors-factors.result
+    (c.read_tokens-coded.ensures.value g here) (c.read_tokens-coded.ensures.rest g here) (c.read_tokens-coded.ensures.stands g has here)
+    c.source-source.ensures c.factors-factors.ensures c.rebuild_macroblock.ensures (c.set.ensures.here ∙ ap (λ (l : Level). Some l) (c.level.ensures _ c.read_tokens-coded.ensures.any)) c.set.ensures.elsewhere)
