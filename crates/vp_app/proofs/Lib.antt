@@ -1,3 +1,6 @@
+pub mod CommandLemmas
 pub mod FeedingLemmas
 pub mod ListingLemmas
+pub mod PlainWords
 pub mod ServingLemmas
+pub mod WordsLemmas

@@ -1,4 +1,6 @@
 pub mod Status
-pub mod Feeding
 pub mod Listing
+pub mod Words
+pub mod Commands
+pub mod Feeding
 pub mod Serving

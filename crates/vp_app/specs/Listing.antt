@@ -1,4 +1,4 @@
--- Inside the crate: what a file holds, as lines of text.
+-- What a file holds, as lines of text.
 use Rattle.std.specs.Prelude.{ℕ, zero, suc, List, [], ◌∷◌, ◌++◌, length, slice_index_or, codes, decimal}
 use Rattle.vp_head.specs.Names.{name_of}
 use Rattle.vp_decode.specs.declared.decoder.Outcome.{Outcome}

@@ -12,16 +12,10 @@ use Rattle.vp_hub.specs.Hub.{State, fresh}
 use Rattle.vp_hub.specs.Work.{Whole}
 use Rattle.vp_hub.specs.Visits.{IsVisit, IsTurnedAway}
 use Rattle.vp_app.specs.declared.service.Named.{Named}
+use Rattle.vp_app.specs.Commands.{AreLimits}
 use Rattle.vp_app.specs.Feeding.{IsFed}
 
 -- ---- the hub
-
--- the limits of the program's commands, with so many pictures to be kept
-pub record AreLimits (cache : ℕ) (limits : Limits) : Type 0 where
-  pub pixels : limits.pixels ≡ 16777216
-  pub packet_bytes : limits.packet_bytes ≡ 16777216
-  pub packets : limits.packets ≡ 1048576
-  pub cache_is : limits.cache ≡ cache
 
 abbrev pub names_of : List Named → List (List ℕ)
 names_of streams = map (λ s. s.name.now) streams

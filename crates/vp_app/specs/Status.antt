@@ -1,4 +1,4 @@
--- Inside the crate: the status of the program.
+-- The status of the program.
 use Rattle.std.specs.Prelude.{ℕ, List, [], ◌∷◌, Result, Ok, Err}
 use Rattle.vp_head.specs.declared.fault.PacketFault.{PacketFault}
 use Rattle.vp_stream.specs.declared.report.Report.{Report}

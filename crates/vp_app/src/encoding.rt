@@ -1,5 +1,10 @@
 //! Encoding a file.
 
+ghost use Rattle.std.specs.Prelude.{◌≡◌, ◌⊎◌, false};
+ghost use Rattle.vp_encode.specs.declared.report.EncodeAllFault.{EncodeAllFault};
+ghost use Rattle.vp_app.specs.Commands.{is_stream, read_side, written_side, Encodes, EncodesInto, IsEncoded};
+
+use std::alloc::Global;
 use std::io::{ErrorKind, Read, Write};
 use std::rt::Files;
 use std::{fs, io};
@@ -35,13 +40,20 @@ impl<E: Write> Watcher for Progress<'_, E> {
 }
 
 /// Opens the file of pictures, and then makes that of packets, and encodes.
+#[tactic(auto, using(crate::proofs::CommandLemmas::pictures_stream, crate::proofs::CommandLemmas::pictures_file, crate::proofs::CommandLemmas::pictures_none))]
 pub(crate) fn encode<H: Files + AllocGlobal, R: Read, W: Write, E: Write>(
     rt: &H,
     encoding: &Encoding<'_>,
     input: &mut Counted<R>,
     output: &mut Counted<W>,
     errors: &mut Counted<E>,
-) -> Result<EncodeReport, EncodeAllFault> {
+) -> Result<EncodeReport, EncodeAllFault>
+    ensures encoded { Encodes encoding.now.settings encoding.now.input.now encoding.now.output.now result
+        (read_side R.remaining input.old) (read_side R.remaining input.new)
+        (written_side W.contents output.old) (written_side W.contents output.new) }
+    ensures unread { is_stream encoding.now.input.now ≡ false → input.new ≡ input.old }
+    ensures unwritten { is_stream encoding.now.output.now ≡ false → output.new ≡ output.old }
+{
     let mut watcher = Progress {
         errors,
         told: encoding.progress,
@@ -55,28 +67,52 @@ pub(crate) fn encode<H: Files + AllocGlobal, R: Read, W: Write, E: Write>(
     }
 }
 
+#[tactic(auto, using(crate::proofs::CommandLemmas::encode_stream, crate::proofs::CommandLemmas::encode_file, crate::proofs::CommandLemmas::encode_none))]
 fn encode_into<H: Files + AllocGlobal, R: Read, W: Write, T: Watcher>(
     rt: &H,
     encoding: &Encoding<'_>,
     input: &mut Counted<R>,
     output: &mut Counted<W>,
     watcher: &mut T,
-) -> Result<EncodeReport, EncodeAllFault> {
+) -> Result<EncodeReport, EncodeAllFault>
+    ensures encoded { EncodesInto encoding.now.settings encoding.now.output.now result
+        (read_side R.remaining input.old) (read_side R.remaining input.new)
+        (written_side W.contents output.old) (written_side W.contents output.new) }
+    ensures unwritten { is_stream encoding.now.output.now ≡ false → output.new ≡ output.old }
+{
     let settings = encoding.settings;
-    let limits = Limits::usual();
     if encoding.output == "-" {
-        return encode_all_watched(rt.alloc(), input, output, settings, limits, watcher);
+        return encode_over(rt.alloc(), settings, input, output, watcher);
     }
     match fs::create(rt, encoding.output) {
-        Ok(file) => {
-            let mut file = Counted::new(file);
-            encode_all_watched(rt.alloc(), input, &mut file, settings, limits, watcher)
-        }
+        Ok(file) => encode_over(
+            rt.alloc(),
+            settings,
+            input,
+            &mut Counted::new(file),
+            watcher,
+        ),
         Err(error) => Err(file_fault(&error)),
     }
 }
 
-fn file_fault(error: &io::Error) -> EncodeAllFault {
+fn encode_over<R: Read, W: Write, T: Watcher>(
+    alloc: Global,
+    settings: Settings,
+    input: &mut Counted<R>,
+    output: &mut Counted<W>,
+    watcher: &mut T,
+) -> Result<EncodeReport, EncodeAllFault>
+    ensures { IsEncoded settings result
+        (read_side R.remaining input.old) (read_side R.remaining input.new)
+        (written_side W.contents output.old) (written_side W.contents output.new) }
+{
+    encode_all_watched(alloc, input, output, settings, Limits::usual(), watcher)
+}
+
+fn file_fault(error: &io::Error) -> EncodeAllFault
+    ensures { (result ≡ EncodeAllFault.Device) ⊎ (result ≡ EncodeAllFault.Memory) }
+{
     if error.kind() == ErrorKind::OutOfMemory {
         EncodeAllFault::Memory
     } else {

@@ -4,6 +4,7 @@
 mod encoding;
 #[cfg(test)]
 mod encoding_tests;
+mod laws;
 mod listing;
 mod program;
 mod service;
@@ -11,4 +12,5 @@ mod service;
 mod tests;
 mod words;
 
+pub use laws::{decode_words, info_words};
 pub use program::{command, command_line};

@@ -1,7 +1,14 @@
 //! The program, over any streams.
 
-ghost use Rattle.std.specs.Prelude.{◌≡◌, ◌≢◌, ◌≤◌, ◌↔◌, IfOk, IsOk, None, Ok, true};
+ghost use Rattle.std.specs.Prelude.{◌≡◌, ◌≢◌, ◌≤◌, ◌↔◌, ◌⊎◌, [], IfOk, IsOk, None, Ok, false, true};
+ghost use Rattle.clap.specs.Values.{kind_of};
+ghost use Rattle.clap.specs.Walk.{texts};
+ghost use Rattle.clap.specs.declared.error.kind.ErrorKind.{ErrorKind};
+ghost use Rattle.vp_stream.specs.declared.fault.DecodeFault.{DecodeFault};
+ghost use Rattle.vp_base.specs.Counted.{counted_contents};
+ghost use Rattle.vp_app.specs.Commands.{is_stream, read_side, written_side, status_by_report, Decodes, DecodesInto, Does, IsDecoded, IsLooked, Looks, LooksOver, Tells};
 ghost use Rattle.vp_app.specs.Status.{status_of};
+ghost use Rattle.vp_app.specs.Words.{asked_of, faults_of, Asked, IsForMemory, IsOfValue, IsPlanFor};
 
 use crate::encoding::encode;
 use crate::listing::print_survey;
@@ -9,13 +16,14 @@ use crate::service::{ServiceFault, serve};
 use crate::words::{Plan, Refusal, read_words};
 use clap::Error;
 use clap::error::ErrorKind;
+use std::alloc::Global;
 use std::io::{Read, Write};
 use std::net::{Net, TcpListener, TcpStream};
 use std::rt::{Env, Files};
 use std::{env, fmt, fs, io};
 use vp_base::{Counted, Limits};
 use vp_encode::{EncodeAllFault, EncodeReport};
-use vp_stream::{DecodeFault, Form, Report, Survey, decode_all, survey};
+use vp_stream::{DecodeFault, Form, Report, Survey, SurveyFault, decode_all, survey};
 
 /// Does what the words ask for, of which the first is the program's name, and gives the status that the
 /// program ends with: 0, or 1 after a fault, or 2 where the words ask for nothing that there is.
@@ -28,6 +36,7 @@ use vp_stream::{DecodeFault, Form, Report, Survey, decode_all, survey};
 /// `vp8 info IN` prints what an IVF file holds, the packets' faults too. `vp8 serve --listen ADDR --connections N
 /// NAME=FILE...` serves the pictures of files over HTTP, until so many connections were served; a fault of a connection is
 /// named, and the next one is served. The name `-` is `input` or `output`.
+#[tactic(auto, using(crate::proofs::CommandLemmas::does_refused))]
 pub fn command<
     H: Files + AllocGlobal + Net<Stream = TcpStream, Listener = TcpListener>,
     R: Read,
@@ -42,31 +51,75 @@ pub fn command<
 ) -> u8
     ensures status { result ≤ 2 }
     ensures usage { result ≡ 2 → (input.new ≡ input.old) × (output.new ≡ output.old) }
+
+    // Words without a fault are done as they ask.
+    ensures does { faults_of (texts words.now) ≡ [] → Does (asked_of (texts words.now)) result
+        (read_side R.remaining input.old) (read_side R.remaining input.new)
+        (written_side W.contents output.old) (written_side W.contents output.new) }
 {
     match read_words(rt.alloc(), words) {
-        Ok(
-            Plan::Decode {
-                form,
-                input: from,
-                output: to,
-            },
-        ) => tell(decode(rt, form, from, to, input, output), errors),
-        Ok(Plan::Encode(encoding)) => tell_encoding(
-            encode(rt, &encoding, input, output, errors),
+        Ok(plan) => carry_out(rt, &plan, input, output, errors),
+        Err(refusal) => turn_down(&refusal, output, errors),
+    }
+}
+
+// Does what is planned, and gives the status.
+#[tactic(auto, using(crate::proofs::CommandLemmas::does_decode, crate::proofs::CommandLemmas::does_encode, crate::proofs::CommandLemmas::does_tell, crate::proofs::CommandLemmas::does_serve, crate::proofs::CommandLemmas::does_nothing))]
+fn carry_out<
+    H: Files + AllocGlobal + Net<Stream = TcpStream, Listener = TcpListener>,
+    R: Read,
+    W: Write,
+    E: Write,
+>(
+    rt: &H,
+    plan: &Plan<'_>,
+    input: &mut Counted<R>,
+    output: &mut Counted<W>,
+    errors: &mut Counted<E>,
+) -> u8
+    ensures status { result ≤ 2 }
+    ensures usage { result ≡ 2 → (input.new ≡ input.old) × (output.new ≡ output.old) }
+    ensures does { (asked : Asked) → IsPlanFor asked plan.now → Does asked result
+        (read_side R.remaining input.old) (read_side R.remaining input.new)
+        (written_side W.contents output.old) (written_side W.contents output.new) }
+{
+    match plan {
+        Plan::Decode {
+            form,
+            input: from,
+            output: to,
+        } => tell(decode(rt, *form, from, to, input, output), errors),
+        Plan::Encode(encoding) => tell_encoding(
+            encode(rt, encoding, input, output, errors),
             errors,
         ),
-        Ok(Plan::Info { input: from }) => tell_survey(look(rt, from, input), output, errors),
-        Ok(Plan::Serve(service)) => tell_service(
-            serve(rt, &service, input, output, errors),
-            errors,
-        ),
-        Ok(Plan::Unknown) => 2,
-        Err(Refusal::Value(text)) => refuse(text, errors),
-        Err(Refusal::Words(error)) => explain(&error, output, errors),
+        Plan::Info { input: from } => tell_survey(look(rt, from, input), output, errors),
+        Plan::Serve(service) => tell_service(serve(rt, service, input, output, errors), errors),
+        Plan::Unknown => 2,
+    }
+}
+
+// Says why nothing is done, and gives the status.
+fn turn_down<W: Write, E: Write>(
+    refusal: &Refusal,
+    output: &mut Counted<W>,
+    errors: &mut Counted<E>,
+) -> u8
+    ensures status { result ≤ 2 }
+    ensures usage { result ≡ 2 → output.new ≡ output.old }
+    ensures memory { IsForMemory refusal.now → (result ≡ 1)
+        × (written_side W.contents output.new ≡ written_side W.contents output.old) }
+    ensures value { IsOfValue refusal.now → (result ≡ 2)
+        × (written_side W.contents output.new ≡ written_side W.contents output.old) }
+{
+    match refusal {
+        Refusal::Value(text) => refuse(text, errors),
+        Refusal::Words(error) => explain(error, output, errors),
     }
 }
 
 // Opens the files, and decodes.
+#[tactic(auto, using(crate::proofs::CommandLemmas::from_stream, crate::proofs::CommandLemmas::from_file, crate::proofs::CommandLemmas::from_none))]
 fn decode<H: Files + AllocGlobal, R: Read, W: Write>(
     rt: &H,
     form: Form,
@@ -74,7 +127,13 @@ fn decode<H: Files + AllocGlobal, R: Read, W: Write>(
     to: &str,
     input: &mut Counted<R>,
     output: &mut Counted<W>,
-) -> Result<Report, DecodeFault> {
+) -> Result<Report, DecodeFault>
+    ensures decoded { Decodes form from.now to.now result
+        (read_side R.remaining input.old) (read_side R.remaining input.new)
+        (written_side W.contents output.old) (written_side W.contents output.new) }
+    ensures unread { is_stream from.now ≡ false → input.new ≡ input.old }
+    ensures unwritten { is_stream to.now ≡ false → output.new ≡ output.old }
+{
     if from == "-" {
         return decode_into(rt, form, to, input, output);
     }
@@ -84,44 +143,78 @@ fn decode<H: Files + AllocGlobal, R: Read, W: Write>(
     }
 }
 
+#[tactic(auto, using(crate::proofs::CommandLemmas::into_stream, crate::proofs::CommandLemmas::into_file, crate::proofs::CommandLemmas::into_none))]
 fn decode_into<H: Files + AllocGlobal, R: Read, W: Write>(
     rt: &H,
     form: Form,
     to: &str,
     input: &mut Counted<R>,
     output: &mut Counted<W>,
-) -> Result<Report, DecodeFault> {
+) -> Result<Report, DecodeFault>
+    ensures decoded { DecodesInto form to.now result
+        (read_side R.remaining input.old) (read_side R.remaining input.new)
+        (written_side W.contents output.old) (written_side W.contents output.new) }
+    ensures unwritten { is_stream to.now ≡ false → output.new ≡ output.old }
+{
     if to == "-" {
-        return decode_all(rt.alloc(), input, output, form, Limits::usual());
+        return decode_over(rt.alloc(), form, input, output);
     }
     match fs::create(rt, to) {
-        Ok(file) => decode_all(
-            rt.alloc(),
-            input,
-            &mut Counted::new(file),
-            form,
-            Limits::usual(),
-        ),
+        Ok(file) => decode_over(rt.alloc(), form, input, &mut Counted::new(file)),
         Err(error) => Err(file_fault(&error)),
     }
 }
 
+fn decode_over<R: Read, W: Write>(
+    alloc: Global,
+    form: Form,
+    input: &mut Counted<R>,
+    output: &mut Counted<W>,
+) -> Result<Report, DecodeFault>
+    ensures { IsDecoded form result
+        (read_side R.remaining input.old) (read_side R.remaining input.new)
+        (written_side W.contents output.old) (written_side W.contents output.new) }
+{
+    decode_all(alloc, input, output, form, Limits::usual())
+}
+
 // Opens the file, and goes through it.
+#[tactic(auto, using(crate::proofs::CommandLemmas::look_stream, crate::proofs::CommandLemmas::look_file, crate::proofs::CommandLemmas::look_none))]
 fn look<H: Files + AllocGlobal, R: Read>(
     rt: &H,
     from: &str,
     input: &mut Counted<R>,
-) -> Result<Survey, DecodeFault> {
+) -> Result<Survey, DecodeFault>
+    ensures looked { Looks from.now result (read_side R.remaining input.old) (read_side R.remaining input.new) }
+    ensures unread { is_stream from.now ≡ false → input.new ≡ input.old }
+{
     if from == "-" {
-        return Ok(survey(rt.alloc(), input, Limits::usual())?);
+        return look_over(rt.alloc(), input);
     }
     match fs::open(rt, from) {
-        Ok(file) => Ok(survey(rt.alloc(), &mut Counted::new(file), Limits::usual())?),
+        Ok(file) => look_over(rt.alloc(), &mut Counted::new(file)),
         Err(error) => Err(file_fault(&error)),
     }
 }
 
-fn file_fault(error: &io::Error) -> DecodeFault {
+fn look_over<R: Read>(alloc: Global, input: &mut Counted<R>) -> Result<Survey, DecodeFault>
+    ensures { LooksOver result (read_side R.remaining input.old) (read_side R.remaining input.new) }
+{
+    match survey_over(alloc, input) {
+        Ok(survey) => Ok(survey),
+        Err(fault) => Err(DecodeFault::from(fault)),
+    }
+}
+
+fn survey_over<R: Read>(alloc: Global, input: &mut Counted<R>) -> Result<Survey, SurveyFault>
+    ensures { IsLooked result (read_side R.remaining input.old) (read_side R.remaining input.new) }
+{
+    survey(alloc, input, Limits::usual())
+}
+
+fn file_fault(error: &io::Error) -> DecodeFault
+    ensures { (result ≡ DecodeFault.Device) ⊎ (result ≡ DecodeFault.Memory) }
+{
     if error.kind() == io::ErrorKind::OutOfMemory {
         DecodeFault::Memory
     } else {
@@ -158,7 +251,7 @@ fn tell_encoding<E: Write>(
     errors: &mut Counted<E>,
 ) -> u8
     ensures status { result ≤ 1 }
-    ensures well { result ≡ 0 ↔ IsOk done }
+    ensures by { result ≡ status_by_report done }
 {
     match done {
         Ok(report) => {
@@ -177,6 +270,7 @@ fn tell_survey<W: Write, E: Write>(
 ) -> u8
     ensures status { result ≤ 1 }
     ensures well { result ≡ 0 → IsOk done × IfOk done (λ s. s.fault ≡ None) }
+    ensures told { Tells done result (counted_contents W.contents output.old) (counted_contents W.contents output.new) }
 {
     let survey = match done {
         Ok(survey) => survey,
@@ -199,6 +293,9 @@ fn explain<W: Write, E: Write>(
 ) -> u8
     ensures status { result ≤ 2 }
     ensures usage { result ≡ 2 → output.new ≡ output.old }
+    ensures memory { kind_of error.now ≡ ErrorKind.OutOfMemory → (result ≡ 1) × (output.new ≡ output.old) }
+    ensures mistake { kind_of error.now ≢ ErrorKind.OutOfMemory → kind_of error.now ≢ ErrorKind.DisplayHelp
+        → kind_of error.now ≢ ErrorKind.DisplayVersion → result ≡ 2 }
 {
     if error.kind() == ErrorKind::OutOfMemory {
         return name_end(DecodeFault::Memory, errors);

@@ -1,6 +1,13 @@
 //! The words of the program.
 
-ghost use Rattle.std.specs.Prelude.{◌≡◌};
+ghost use Rattle.std.specs.Prelude.{◌≡◌, [], IfErr, IfOk, IfSome, codes, false, option_map};
+ghost use Rattle.std.specs.Str.Parse.{digits_value, without_leading_plus};
+ghost use Rattle.clap.specs.Words.{app_of, found_of, rows_of, rule_of, subcommand_rows_of};
+ghost use Rattle.clap.specs.Kinds.{HasKind};
+ghost use Rattle.clap.specs.Simple.{subcommand_of};
+ghost use Rattle.clap.specs.Walk.{first_of, one_of, texts};
+ghost use Rattle.clap.specs.declared.builder.command.Command.TheViews.{out-Command as fields_of};
+ghost use Rattle.vp_app.specs.Words.{asked_at, asked_by, asked_of, encodes, faults_of, AreSettings, Gains, IsFlag, IsNoPlanFor, IsNumber, IsOfValue, IsPlanFor, IsRefusalFor, decode_app, encode_app, flag_rule, frame_rules, info_app, macroblock_rules, operand_rule, operands_rule, program, serve_app, serves, setting_rule, with_rules};
 
 use crate::encoding::Encoding;
 use crate::service::{Named, Service};
@@ -40,20 +47,49 @@ pub enum Refusal {
 }
 
 impl From<Error> for Refusal {
+    ghost use Rattle.std.specs.Prelude.{◌≡◌};
+    ghost use Rattle.vp_app.specs.declared.words.Refusal.{Refusal};
+
+    ghost from_gives = { λ error refusal. refusal ≡ Refusal.Words error };
+
     fn from(error: Error) -> Refusal {
         Refusal::Words(error)
     }
 }
 
 impl From<AllocError> for Refusal {
+    ghost use Rattle.vp_app.specs.Words.{IsForMemory};
+
+    ghost from_gives = { λ _ refusal. IsForMemory refusal };
+
     fn from(error: AllocError) -> Refusal {
         Refusal::Words(Error::from(error))
     }
 }
 
 /// Reads the words, of which the first is the program's name.
-pub(crate) fn read_words<'a>(alloc: Global, words: &'a [&'a str]) -> Result<Plan<'a>, Refusal> {
-    let matches = program(alloc)?.try_get_matches_from(words)?;
+pub(crate) fn read_words<'a>(alloc: Global, words: &'a [&'a str]) -> Result<Plan<'a>, Refusal>
+    ensures plan { IfOk result (λ plan. (faults_of (texts words.now) ≡ [])
+        × IsPlanFor (asked_of (texts words.now)) plan) }
+    ensures refusal { IfErr result (IsRefusalFor (texts words.now)) }
+{
+    let matches = parse_words(alloc, words)?;
+    read_matches(alloc, &matches)
+}
+
+fn parse_words<'a>(alloc: Global, words: &'a [&'a str]) -> Result<ArgMatches<'a>, Error>
+    ensures found { IfOk result (λ m. (faults_of (texts words.now) ≡ [])
+        × (subcommand_rows_of m ≡ subcommand_of program (texts words.now))) }
+    ensures fault { IfErr result (HasKind (faults_of (texts words.now))) }
+{
+    program(alloc)?.try_get_matches_from(words)
+}
+
+// Reads what was found for the words.
+fn read_matches<'a>(alloc: Global, matches: &ArgMatches<'a>) -> Result<Plan<'a>, Refusal>
+    ensures plan { IfOk result (IsPlanFor (asked_by (subcommand_rows_of matches.now))) }
+    ensures refusal { IfErr result (IsNoPlanFor (asked_by (subcommand_rows_of matches.now))) }
+{
     match matches.subcommand() {
         Some(("decode", found)) => Ok(decode_plan(found)),
         Some(("encode", found)) => encode_plan(found),
@@ -63,7 +99,9 @@ pub(crate) fn read_words<'a>(alloc: Global, words: &'a [&'a str]) -> Result<Plan
     }
 }
 
-fn program<'a>(alloc: Global) -> Result<Command<'a>, AllocError> {
+fn program<'a>(alloc: Global) -> Result<Command<'a>, AllocError>
+    ensures { IfOk result (λ c. app_of c ≡ program) }
+{
     Command::new(alloc, "vp8")
         .about("Decodes, encodes and serves VP8 video")
         .version("0.1.0")
@@ -75,7 +113,10 @@ fn program<'a>(alloc: Global) -> Result<Command<'a>, AllocError> {
         .subcommand(serve_command(alloc)?)
 }
 
-fn decode_command<'a>(alloc: Global) -> Result<Command<'a>, AllocError> {
+fn decode_command<'a>(alloc: Global) -> Result<Command<'a>, AllocError>
+    ensures app { IfOk result (λ c. app_of c ≡ decode_app) }
+    ensures local { IfOk result (λ c. (fields_of c).has_globals ≡ false) }
+{
     Command::new(alloc, "decode")
         .about("Decodes an IVF file into the pictures that are shown, one after another")
         .arg(flag(
@@ -91,7 +132,10 @@ fn decode_command<'a>(alloc: Global) -> Result<Command<'a>, AllocError> {
         ))
 }
 
-fn encode_command<'a>(alloc: Global) -> Result<Command<'a>, AllocError> {
+fn encode_command<'a>(alloc: Global) -> Result<Command<'a>, AllocError>
+    ensures app { IfOk result (λ c. app_of c ≡ encode_app) }
+    ensures local { IfOk result (λ c. (fields_of c).has_globals ≡ false) }
+{
     let command = Command::new(alloc, "encode").about(
         "Encodes the pictures of a YUV4MPEG2 file as VP8 in an IVF file, and tells how many there are and the sum of their squared errors",
     );
@@ -110,7 +154,9 @@ fn encode_command<'a>(alloc: Global) -> Result<Command<'a>, AllocError> {
 fn with_macroblock_settings<'a>(
     alloc: Global,
     command: Command<'a>,
-) -> Result<Command<'a>, AllocError> {
+) -> Result<Command<'a>, AllocError>
+    ensures { IfOk result (Gains command.entry macroblock_rules) }
+{
     command
         .arg(setting(
             alloc,
@@ -135,7 +181,9 @@ fn with_macroblock_settings<'a>(
 }
 
 // How frames follow one another.
-fn with_frame_settings<'a>(alloc: Global, command: Command<'a>) -> Result<Command<'a>, AllocError> {
+fn with_frame_settings<'a>(alloc: Global, command: Command<'a>) -> Result<Command<'a>, AllocError>
+    ensures { IfOk result (Gains command.entry frame_rules) }
+{
     command
         .arg(setting(
             alloc,
@@ -160,7 +208,10 @@ fn with_frame_settings<'a>(alloc: Global, command: Command<'a>) -> Result<Comman
         ))
 }
 
-fn info_command<'a>(alloc: Global) -> Result<Command<'a>, AllocError> {
+fn info_command<'a>(alloc: Global) -> Result<Command<'a>, AllocError>
+    ensures app { IfOk result (λ c. app_of c ≡ info_app) }
+    ensures local { IfOk result (λ c. (fields_of c).has_globals ≡ false) }
+{
     Command::new(alloc, "info")
         .about(
             "Prints the size in pixels, the rate in pictures a second and the packets of an IVF file: for each its number, its bytes, and Shown, Hidden or its fault",
@@ -168,7 +219,10 @@ fn info_command<'a>(alloc: Global) -> Result<Command<'a>, AllocError> {
         .arg(operand(alloc, "IN", "The IVF file, or - for standard input"))
 }
 
-fn serve_command<'a>(alloc: Global) -> Result<Command<'a>, AllocError> {
+fn serve_command<'a>(alloc: Global) -> Result<Command<'a>, AllocError>
+    ensures app { IfOk result (λ c. app_of c ≡ serve_app) }
+    ensures local { IfOk result (λ c. (fields_of c).has_globals ≡ false) }
+{
     Command::new(alloc, "serve")
         .about(
             "Serves the pictures of IVF files over HTTP, one connection after another, and then ends",
@@ -185,45 +239,76 @@ fn serve_command<'a>(alloc: Global) -> Result<Command<'a>, AllocError> {
             "show-address",
             "Prints the address and port that it listens at, which shows the port that was found where 0 is asked for",
         ))?
-        .arg(
-            operand(
-                alloc,
-                "NAME=FILE",
-                "A stream's name and its IVF file, or - for standard input",
-            )
-            .num_args(1..)
-            .action(ArgAction::Append),
-        )
+        .arg(operands(
+            alloc,
+            "NAME=FILE",
+            "A stream's name and its IVF file, or - for standard input",
+        ))
 }
 
-fn setting<'a>(alloc: Global, name: &'a str, help: &'a str) -> Arg<'a> {
+fn setting<'a>(alloc: Global, name: &'a str, help: &'a str) -> Arg<'a>
+    ensures rule { rule_of result ≡ setting_rule name.entry.now }
+    ensures local { result.global ≡ false }
+{
     Arg::new(alloc, name)
         .long(name)
         .help(help)
         .action(ArgAction::Set)
 }
 
-fn flag<'a>(alloc: Global, name: &'a str, help: &'a str) -> Arg<'a> {
+fn flag<'a>(alloc: Global, name: &'a str, help: &'a str) -> Arg<'a>
+    ensures rule { rule_of result ≡ flag_rule name.entry.now }
+    ensures local { result.global ≡ false }
+{
     Arg::new(alloc, name)
         .long(name)
         .help(help)
         .action(ArgAction::SetTrue)
 }
 
-fn operand<'a>(alloc: Global, name: &'a str, help: &'a str) -> Arg<'a> {
+fn operand<'a>(alloc: Global, name: &'a str, help: &'a str) -> Arg<'a>
+    ensures rule { rule_of result ≡ operand_rule name.entry.now }
+    ensures local { result.global ≡ false }
+{
     Arg::new(alloc, name)
         .help(help)
         .required(true)
         .action(ArgAction::Set)
 }
 
-fn decode_plan<'a>(found: &ArgMatches<'a>) -> Plan<'a> {
-    let form = if found.get_flag("y4m") {
+// One operand or more.
+fn operands<'a>(alloc: Global, name: &'a str, help: &'a str) -> Arg<'a>
+    ensures rule { rule_of result ≡ operands_rule name.entry.now }
+    ensures local { result.global ≡ false }
+{
+    operand(alloc, name, help)
+        .num_args(1..)
+        .action(ArgAction::Append)
+}
+
+// The first text that was found for an argument.
+fn text_of<'a>(found: &ArgMatches<'a>, name: &str) -> Option<&'a str>
+    ensures { option_map (λ t. t.now) result ≡ first_of name.now (rows_of (found_of found.now)) }
+{
+    found.get_str(name)
+}
+
+// Whether a flag is set.
+fn is_set(found: &ArgMatches<'_>, name: &str) -> bool
+    ensures { IsFlag (one_of name.now (rows_of (found_of found.now))) result }
+{
+    found.get_flag(name)
+}
+
+fn decode_plan<'a>(found: &ArgMatches<'a>) -> Plan<'a>
+    ensures { IsPlanFor (asked_at (codes "decode") (rows_of (found_of found.now))) result }
+{
+    let form = if is_set(found, "y4m") {
         Form::Y4m
     } else {
         Form::I420
     };
-    match (found.get_str("IN"), found.get_str("OUT")) {
+    match (text_of(found, "IN"), text_of(found, "OUT")) {
         (Some(input), Some(output)) => Plan::Decode {
             form,
             input,
@@ -233,19 +318,36 @@ fn decode_plan<'a>(found: &ArgMatches<'a>) -> Plan<'a> {
     }
 }
 
-fn encode_plan<'a>(found: &ArgMatches<'a>) -> Result<Plan<'a>, Refusal> {
-    let (Some(input), Some(output)) = (found.get_str("IN"), found.get_str("OUT")) else {
-        return Ok(Plan::Unknown);
-    };
+fn encode_plan<'a>(found: &ArgMatches<'a>) -> Result<Plan<'a>, Refusal>
+    ensures plan { IfOk result (IsPlanFor (asked_at (codes "encode") (rows_of (found_of found.now)))) }
+    ensures refusal { IfErr result (IsNoPlanFor (asked_at (codes "encode") (rows_of (found_of found.now)))) }
+{
+    match (text_of(found, "IN"), text_of(found, "OUT")) {
+        (Some(input), Some(output)) => encoding_plan(found, input, output),
+        _ => Ok(Plan::Unknown),
+    }
+}
+
+fn encoding_plan<'a>(
+    found: &ArgMatches<'a>,
+    input: &'a str,
+    output: &'a str,
+) -> Result<Plan<'a>, Refusal>
+    ensures plan { IfOk result (IsPlanFor (encodes (rows_of (found_of found.now)) input.entry.now output.entry.now)) }
+    ensures refusal { IfErr result (IsNoPlanFor (encodes (rows_of (found_of found.now)) input.entry.now output.entry.now)) }
+{
     Ok(Plan::Encode(Encoding {
         settings: encoder_settings(found)?,
-        progress: found.get_flag("progress"),
+        progress: is_set(found, "progress"),
         input,
         output,
     }))
 }
 
-fn encoder_settings(found: &ArgMatches<'_>) -> Result<Settings, Refusal> {
+fn encoder_settings(found: &ArgMatches<'_>) -> Result<Settings, Refusal>
+    ensures settings { IfOk result (AreSettings (rows_of (found_of found.now))) }
+    ensures refusal { IfErr result IsOfValue }
+{
     Ok(Settings {
         qi: byte(found, "qi", 32, "--qi is a decimal number up to 255")?,
         level: byte(
@@ -260,7 +362,7 @@ fn encoder_settings(found: &ArgMatches<'_>) -> Result<Settings, Refusal> {
             0,
             "--sharpness is a decimal number up to 255",
         )?,
-        simple: found.get_flag("simple"),
+        simple: is_set(found, "simple"),
         key_every: count(found, "key-every", 64, "--key-every is a decimal number")?,
         golden_every: count(
             found,
@@ -269,7 +371,7 @@ fn encoder_settings(found: &ArgMatches<'_>) -> Result<Settings, Refusal> {
             "--golden-every is a decimal number",
         )?,
         range: byte(found, "range", 16, "--range is a decimal number up to 255")?,
-        subpel: found.get_flag("subpel"),
+        subpel: is_set(found, "subpel"),
         partitions: byte(
             found,
             "partitions",
@@ -285,8 +387,11 @@ fn count(
     option: &str,
     usual: u32,
     refusal: &'static str,
-) -> Result<u32, Refusal> {
-    let Some(text) = found.get_str(option) else {
+) -> Result<u32, Refusal>
+    ensures number { IfOk result (IsNumber (first_of option.now (rows_of (found_of found.now))) usual) }
+    ensures refusal { IfErr result IsOfValue }
+{
+    let Some(text) = text_of(found, option) else {
         return Ok(usual);
     };
     match decimal(text) {
@@ -301,21 +406,29 @@ fn byte(
     option: &str,
     usual: u8,
     refusal: &'static str,
-) -> Result<u8, Refusal> {
+) -> Result<u8, Refusal>
+    ensures number { IfOk result (IsNumber (first_of option.now (rows_of (found_of found.now))) usual) }
+    ensures refusal { IfErr result IsOfValue }
+{
     match u8::try_from(count(found, option, u32::from(usual), refusal)?) {
         Ok(number) => Ok(number),
         Err(_) => Err(Refusal::Value(refusal)),
     }
 }
 
-fn info_plan<'a>(found: &ArgMatches<'a>) -> Plan<'a> {
-    match found.get_str("IN") {
+fn info_plan<'a>(found: &ArgMatches<'a>) -> Plan<'a>
+    ensures { IsPlanFor (asked_at (codes "info") (rows_of (found_of found.now))) result }
+{
+    match text_of(found, "IN") {
         Some(input) => Plan::Info { input },
         None => Plan::Unknown,
     }
 }
 
-fn serve_plan<'a>(alloc: Global, found: &ArgMatches<'a>) -> Result<Plan<'a>, Refusal> {
+fn serve_plan<'a>(alloc: Global, found: &ArgMatches<'a>) -> Result<Plan<'a>, Refusal>
+    ensures plan { IfOk result (IsPlanFor (asked_at (codes "serve") (rows_of (found_of found.now)))) }
+    ensures refusal { IfErr result (IsNoPlanFor (asked_at (codes "serve") (rows_of (found_of found.now)))) }
+{
     let (Some(listen), Some(operands)) = (found.get_str("listen"), found.get_strs("NAME=FILE"))
     else {
         return Ok(Plan::Unknown);
@@ -339,7 +452,9 @@ fn serve_plan<'a>(alloc: Global, found: &ArgMatches<'a>) -> Result<Plan<'a>, Ref
 }
 
 // Names and files, parted at the first `=` of each operand.
-fn named_files<'a>(alloc: Global, operands: &[&'a str]) -> Result<Vec<Named<'a>>, Refusal> {
+fn named_files<'a>(alloc: Global, operands: &[&'a str]) -> Result<Vec<Named<'a>>, Refusal>
+    ensures { IfErr result (IsNoPlanFor serves) }
+{
     let mut streams = Vec::new(alloc);
     for operand in operands {
         let Some((name, file)) = operand.split_once("=") else {
@@ -353,7 +468,9 @@ fn named_files<'a>(alloc: Global, operands: &[&'a str]) -> Result<Vec<Named<'a>>
 }
 
 // A decimal number without a sign.
-fn decimal(text: &str) -> Option<u32> {
+fn decimal(text: &str) -> Option<u32>
+    ensures { IfSome result (λ n. n ≡ digits_value 10 (without_leading_plus text.now)) }
+{
     if !text.bytes().all(|c| c.is_ascii_digit()) {
         return None;
     }

@@ -1,0 +1,193 @@
+-- What the commands do.
+use Rattle.std.proofs.Common.{◌≡◌, ◌⊎◌, inl, inr, List, [], ◌∷◌, ℕ, Option, Bool, true, false, refl, sym, subst}
+use Rattle.std.specs.Prelude.{codes, Result, Ok, Err, MatchBool}
+use Rattle.std.specs.Borrow.{Bor}
+use Rattle.clap.specs.Kinds.{HasKind, Kinds}
+use Rattle.clap.specs.Values.{kind_of}
+use Rattle.clap.specs.Walk.{Text}
+use Rattle.clap.specs.declared.error.Error.{Error}
+use Rattle.clap.specs.declared.error.kind.ErrorKind.TheVariants.{OutOfMemory}
+use Rattle.vp_stream.specs.declared.form.Form.{Form}
+use Rattle.vp_stream.specs.declared.report.Report.{Report}
+use Rattle.vp_stream.specs.declared.outcomes.Survey.{Survey}
+use Rattle.vp_stream.specs.declared.fault.DecodeFault.{DecodeFault}
+use Rattle.vp_stream.specs.declared.fault.DecodeFault.TheVariants.{Device, Memory}
+use Rattle.vp_encode.specs.declared.settings.Settings.{Settings}
+use Rattle.vp_encode.specs.declared.report.EncodeReport.{EncodeReport}
+use Rattle.vp_encode.specs.declared.report.EncodeAllFault.{EncodeAllFault}
+use Rattle.vp_encode.specs.declared.report.EncodeAllFault.TheVariants as encode_fault
+use Rattle.vp_app.specs.declared.encoding.Encoding.{Encoding}
+use Rattle.vp_app.specs.declared.service.Service.{Service}
+use Rattle.vp_app.specs.declared.words.Plan.{Plan}
+use Rattle.vp_app.specs.declared.words.Plan.TheVariants.{Decode, Encode, Info, Serve, Unknown}
+use Rattle.vp_app.specs.declared.words.Refusal.{Refusal}
+use Rattle.vp_app.specs.declared.words.Refusal.TheVariants.{Words, Value}
+use Rattle.vp_app.specs.Status.{status_of}
+use Rattle.vp_app.specs.Words.{Asked, decodes, encodes, tells, serves, nothing, asked_of, faults_of, IsForMemory, IsOfValue, IsPlanFor, IsRefusalFor, MayBeRefused}
+use Rattle.vp_app.specs.Commands.{Decodes, DecodesInto, Does, Encodes, EncodesInto, IsDecoded, IsEncoded, IsNotOpened, IsUnbegun, IsUnopened, IsUsageFault, Looks, LooksOver, Over, Side, Tells, is_stream, status_by_report}
+
+pub over_stream : (name : List ℕ) (Work : Side → Side → Type 0) (old new : Side) → is_stream name ≡ true → Work old new → Over name Work old new
+over_stream name Work old new e h =
+    subst (λ b. MatchBool b (Work old new) ((new ≡ old) × ((a : Side) × (b : Side) × Work a b))) (sym e) h
+
+pub over_file : (name : List ℕ) (Work : Side → Side → Type 0) (old a b : Side) → is_stream name ≡ false → Work a b → Over name Work old old
+over_file name Work old a b e h =
+    subst (λ x. MatchBool x (Work old old) ((old ≡ old) × ((a : Side) × (b : Side) × Work a b))) (sym e) (refl, (a, b, h))
+
+pub unopened : {T : Type 0} (name : List ℕ) (fault : DecodeFault) → is_stream name ≡ false → (fault ≡ Device) ⊎ (fault ≡ Memory)
+    → IsUnopened name {T = T} (Err fault)
+unopened name fault e (inl f) = (e, inl (rw f refl))
+unopened name fault e (inr f) = (e, inr (rw f refl))
+
+pub not_opened : (name : List ℕ) (fault : EncodeAllFault) → is_stream name ≡ false → (fault ≡ encode_fault.Device) ⊎ (fault ≡ encode_fault.Memory)
+    → IsNotOpened name (Err fault)
+not_opened name fault e (inl f) = (e, inl (rw f refl))
+not_opened name fault e (inr f) = (e, inr (rw f refl))
+
+-- ---- to decode
+
+pub into_stream : (form : Form) (to : List ℕ) (done : Result Report DecodeFault) (i i' o o' : Side) → is_stream to ≡ true
+    → IsDecoded form done i i' o o' → DecodesInto form to done i i' o o'
+into_stream form to done i i' o o' e h = inr (over_stream to (IsDecoded form done i i') o o' e h)
+
+pub into_file : (form : Form) (to : List ℕ) (done : Result Report DecodeFault) (i i' o a b : Side) → is_stream to ≡ false
+    → IsDecoded form done i i' a b → DecodesInto form to done i i' o o
+into_file form to done i i' o a b e h = inr (over_file to (IsDecoded form done i i') o a b e h)
+
+pub into_none : (form : Form) (to : List ℕ) (fault : DecodeFault) (i o : Side) → is_stream to ≡ false → (fault ≡ Device) ⊎ (fault ≡ Memory)
+    → DecodesInto form to (Err fault) i i o o
+into_none form to fault i o e f = inl (unopened to fault e f, refl, refl)
+
+pub from_stream : (form : Form) (from to : List ℕ) (done : Result Report DecodeFault) (i i' o o' : Side) → is_stream from ≡ true
+    → DecodesInto form to done i i' o o' → Decodes form from to done i i' o o'
+from_stream form from to done i i' o o' e h = inr (over_stream from (λ a b. DecodesInto form to done a b o o') i i' e h)
+
+pub from_file : (form : Form) (from to : List ℕ) (done : Result Report DecodeFault) (i a b o o' : Side) → is_stream from ≡ false
+    → DecodesInto form to done a b o o' → Decodes form from to done i i o o'
+from_file form from to done i a b o o' e h = inr (over_file from (λ a b. DecodesInto form to done a b o o') i a b e h)
+
+pub from_none : (form : Form) (from to : List ℕ) (fault : DecodeFault) (i o : Side) → is_stream from ≡ false → (fault ≡ Device) ⊎ (fault ≡ Memory)
+    → Decodes form from to (Err fault) i i o o
+from_none form from to fault i o e f = inl (unopened from fault e f, refl, refl)
+
+-- ---- to look
+
+pub look_stream : (from : List ℕ) (done : Result Survey DecodeFault) (i i' : Side) → is_stream from ≡ true → LooksOver done i i' → Looks from done i i'
+look_stream from done i i' e h = inr (over_stream from (LooksOver done) i i' e h)
+
+pub look_file : (from : List ℕ) (done : Result Survey DecodeFault) (i a b : Side) → is_stream from ≡ false → LooksOver done a b → Looks from done i i
+look_file from done i a b e h = inr (over_file from (LooksOver done) i a b e h)
+
+pub look_none : (from : List ℕ) (fault : DecodeFault) (i : Side) → is_stream from ≡ false → (fault ≡ Device) ⊎ (fault ≡ Memory) → Looks from (Err fault) i i
+look_none from fault i e f = inl (unopened from fault e f, refl)
+
+-- ---- to encode
+
+pub encode_stream : (s : Settings) (to : List ℕ) (done : Result EncodeReport EncodeAllFault) (i i' o o' : Side) → is_stream to ≡ true
+    → IsEncoded s done i i' o o' → EncodesInto s to done i i' o o'
+encode_stream s to done i i' o o' e h = inr (over_stream to (IsEncoded s done i i') o o' e h)
+
+pub encode_file : (s : Settings) (to : List ℕ) (done : Result EncodeReport EncodeAllFault) (i i' o a b : Side) → is_stream to ≡ false
+    → IsEncoded s done i i' a b → EncodesInto s to done i i' o o
+encode_file s to done i i' o a b e h = inr (over_file to (IsEncoded s done i i') o a b e h)
+
+pub encode_none : (s : Settings) (to : List ℕ) (fault : EncodeAllFault) (i o : Side) → is_stream to ≡ false
+    → (fault ≡ encode_fault.Device) ⊎ (fault ≡ encode_fault.Memory) → EncodesInto s to (Err fault) i i o o
+encode_none s to fault i o e f = inl (not_opened to fault e f, refl, refl)
+
+pub pictures_stream : (s : Settings) (from to : List ℕ) (done : Result EncodeReport EncodeAllFault) (i i' o o' : Side) → is_stream from ≡ true
+    → EncodesInto s to done i i' o o' → Encodes s from to done i i' o o'
+pictures_stream s from to done i i' o o' e h = inr (over_stream from (λ a b. EncodesInto s to done a b o o') i i' e h)
+
+pub pictures_file : (s : Settings) (from to : List ℕ) (done : Result EncodeReport EncodeAllFault) (i a b o o' : Side) → is_stream from ≡ false
+    → EncodesInto s to done a b o o' → Encodes s from to done i i o o'
+pictures_file s from to done i a b o o' e h = inr (over_file from (λ a b. EncodesInto s to done a b o o') i a b e h)
+
+pub pictures_none : (s : Settings) (from to : List ℕ) (fault : EncodeAllFault) (i o : Side) → is_stream from ≡ false
+    → (fault ≡ encode_fault.Device) ⊎ (fault ≡ encode_fault.Memory) → Encodes s from to (Err fault) i i o o
+pictures_none s from to fault i o e f = inl (not_opened from fault e f, refl, refl)
+
+-- ---- what is planned is done
+
+pub does_decode : (asked : Asked) (plan : Plan) (form : Form) (from to : Bor (List ℕ)) (done : Result Report DecodeFault) (status : ℕ) (i i' o o' : Side)
+    → plan ≡ Decode form from to → IsPlanFor asked plan → status ≡ status_of done → Decodes form from.now to.now done i i' o o'
+    → Does asked status i i' o o'
+does_decode asked plan form from to done status i i' o o' e h s d = go asked (subst (IsPlanFor asked) e h)
+  where
+    go : (x : Asked) → IsPlanFor x (Decode form from to) → Does x status i i' o o'
+    go (decodes flag f t) p = rw (← p.1, ← p.2) (inl (form, done, p.0, s, d))
+    go (encodes rows f t) p = absurd p
+    go (tells f) p = absurd p
+    go serves p = absurd p
+    go nothing p = absurd p
+
+pub does_encode : (asked : Asked) (plan : Plan) (encoding : Encoding) (done : Result EncodeReport EncodeAllFault) (status : ℕ) (i i' o o' : Side)
+    → plan ≡ Encode encoding → IsPlanFor asked plan → status ≡ status_by_report done
+    → Encodes encoding.settings encoding.input.now encoding.output.now done i i' o o' → Does asked status i i' o o'
+does_encode asked plan encoding done status i i' o o' e h s d = go asked (subst (IsPlanFor asked) e h)
+  where
+    go : (x : Asked) → IsPlanFor x (Encode encoding) → Does x status i i' o o'
+    go (decodes flag f t) p = absurd p
+    go (encodes rows f t) p = rw (← p.2, ← p.3) (inl (encoding.settings, done, p.0, s, d))
+    go (tells f) p = absurd p
+    go serves p = absurd p
+    go nothing p = absurd p
+
+pub does_tell : (asked : Asked) (plan : Plan) (from : Bor (List ℕ)) (done : Result Survey DecodeFault) (status : ℕ) (i i' o o' : Side)
+    → plan ≡ Info from → IsPlanFor asked plan → Looks from.now done i i' → Tells done status o.bytes o'.bytes → Does asked status i i' o o'
+does_tell asked plan from done status i i' o o' e h d t = go asked (subst (IsPlanFor asked) e h)
+  where
+    go : (x : Asked) → IsPlanFor x (Info from) → Does x status i i' o o'
+    go (decodes flag f g) p = absurd p
+    go (encodes rows f g) p = absurd p
+    go (tells f) p = rw (← p) (inl (done, d, t))
+    go serves p = absurd p
+    go nothing p = absurd p
+
+pub does_serve : (asked : Asked) (plan : Plan) (service : Service) (status : ℕ) (i i' o o' : Side) → plan ≡ Serve service → IsPlanFor asked plan
+    → Does asked status i i' o o'
+does_serve asked plan service status i i' o o' e h = go asked (subst (IsPlanFor asked) e h)
+  where
+    go : (x : Asked) → IsPlanFor x (Serve service) → Does x status i i' o o'
+    go (decodes flag f g) p = absurd p
+    go (encodes rows f g) p = absurd p
+    go (tells f) p = absurd p
+    go serves p = tt
+    go nothing p = absurd p
+
+pub does_nothing : (asked : Asked) (plan : Plan) (i o : Side) → plan ≡ Unknown → IsPlanFor asked plan → Does asked 2 i i o o
+does_nothing asked plan i o e h = go asked (subst (IsPlanFor asked) e h)
+  where
+    go : (x : Asked) → IsPlanFor x Unknown → Does x 2 i i o o
+    go (decodes flag f g) p = absurd p
+    go (encodes rows f g) p = absurd p
+    go (tells f) p = absurd p
+    go serves p = tt
+    go nothing p = inr (refl, refl, refl)
+
+unbegun : (asked : Asked) (status : ℕ) (i i' o o' : Side) → IsUnbegun status i i' o o' → Does asked status i i' o o'
+unbegun (decodes flag f g) status i i' o o' h = inr h
+unbegun (encodes rows f g) status i i' o o' h = inr (inl h)
+unbegun (tells f) status i i' o o' h = inr h
+unbegun serves status i i' o o' h = tt
+unbegun nothing status i i' o o' h = inl h
+
+misused : (asked : Asked) (status : ℕ) (i i' o o' : Side) → MayBeRefused asked → IsUsageFault status i i' o o' → Does asked status i i' o o'
+misused (decodes flag f g) status i i' o o' m h = absurd m
+misused (encodes rows f g) status i i' o o' m h = inr (inr h)
+misused (tells f) status i i' o o' m h = absurd m
+misused serves status i i' o o' m h = tt
+misused nothing status i i' o o' m h = absurd m
+
+for_memory : (e : Error) (kinds : Kinds) → kinds ≡ [] → HasKind kinds e → kind_of e ≡ OutOfMemory
+for_memory e [] none (inl h) = h
+for_memory e [] none (inr h) = absurd h
+for_memory e (k ∷ ks) none h = cc
+
+pub does_refused : (words : List Text) (refusal : Refusal) (status : ℕ) (i o o' : Side) → IsRefusalFor words refusal
+    → (IsForMemory refusal → (status ≡ 1) × (o' ≡ o)) → (IsOfValue refusal → (status ≡ 2) × (o' ≡ o)) → faults_of words ≡ []
+    → Does (asked_of words) status i i o o'
+does_refused words (Words e) status i o o' h memory value none =
+    let m = memory (for_memory e (faults_of words) none h) in unbegun (asked_of words) status i i o o' (m.0, refl, m.1)
+does_refused words (Value t) status i o o' h memory value none =
+    let v = value tt in misused (asked_of words) status i i o o' h.1 (v.0, refl, v.1)

@@ -1,0 +1,94 @@
+-- What was found for words, and the plan.
+use Rattle.std.proofs.Common.{◌≡◌, ◌∙◌, ◌⊎◌, ◌∷◌, ◌++◌, [], inl, inr, List, Option, Some, None, Bool, true, false, refl, sym, ap, subst}
+use Rattle.std.specs.Prelude.{◌||◌, codes, option_map, Result, Ok, Err, IfOk, IfErr}
+use Rattle.std.specs.Borrow.{Bor}
+use Rattle.clap.specs.Built.{AddsArg, AddsSubcommand}
+use Rattle.clap.specs.Walk.{Row, Rule, Text, one_of, rule_of}
+use Rattle.clap.specs.Kinds.{FailsBy, HasKind}
+use Rattle.clap.specs.Faults.{fault_of, is_simple_and_free}
+use Rattle.clap.specs.Simple.{App, HasMatchesOf, app_of, is_simple, subcommand_of, subcommand_rows_of, with_rule, with_subcommand}
+use Rattle.clap.proofs.OnLiterals.{clap_on_literals}
+use Rattle.clap.specs.declared.error.Error.{Error}
+use Rattle.clap.specs.declared.builder.arg.Arg.{Arg}
+use Rattle.clap.specs.declared.builder.command.Command.{Command}
+use Rattle.clap.specs.declared.builder.command.Command.TheViews.{out-Command as fields_of}
+use Rattle.clap.specs.declared.parser.matches.ArgMatches.{ArgMatches}
+use Rattle.vp_stream.specs.declared.form.Form.{Form}
+use Rattle.vp_app.specs.declared.words.Plan.TheVariants.{Decode, Encode, Info, Unknown}
+use Rattle.vp_app.specs.declared.words.Refusal.{Refusal}
+use Rattle.vp_app.specs.declared.encoding.Encoding.{Encoding}
+use Rattle.vp_app.specs.Words.{Asked, decodes, encodes, tells, decode_app, encode_app, faults_of, info_app, serve_app, vp8_app, Gains, IsFlag, IsNoPlanFor, IsPlanFor, is_y4m, program, with_operand, with_operands, with_rules}
+
+-- ---- the commands
+
+with_one_more : (a : App) (rules : List Rule) (r : Rule) → with_rules a (rules ++ r ∷ []) ≡ with_rule (with_rules a rules) r
+with_one_more a [] r = refl
+with_one_more a (x ∷ rules) r = with_one_more (with_rule a x) rules r
+
+globals_stay : (b c : Bool) → c ≡ false → (b || c) ≡ b
+globals_stay b c e = rw e (or_false b)
+  where
+    or_false : (x : Bool) → (x || false) ≡ x
+    or_false true = refl
+    or_false false = refl
+
+pub gains_one : (old : Command) (rules : List Rule) (mid : Command) (a : Arg) (r : Rule) (new : Command) → Gains old rules mid → AddsArg mid a new
+    → a.global ≡ false → rule_of a ≡ r → Gains old (rules ++ r ∷ []) new
+gains_one old rules mid a r new h adds local is = (
+  adds.shape local ∙ (ap (λ x. with_rule (app_of mid) x) is ∙ (ap (λ x. with_rule x r) h.0 ∙ sym (with_one_more (app_of old) rules r))),
+  adds.globals ∙ (globals_stay (fields_of mid).has_globals a.global local ∙ h.1),
+)
+
+pub sub_met : (old sub new : Command) (a b : App) → app_of old ≡ a → app_of sub ≡ b → (fields_of sub).has_globals ≡ false → AddsSubcommand old sub new
+    → app_of new ≡ with_subcommand a b.top
+sub_met old sub new a b e f local adds = adds.shape local ∙ (ap (λ x. with_subcommand x (app_of sub).top) e ∙ ap (λ (x : App). with_subcommand a x.top) f)
+
+pub all_met : (a : App) → a ≡ with_subcommand (with_subcommand (with_subcommand (with_subcommand vp8_app decode_app.top) encode_app.top) info_app.top) serve_app.top
+    → a ≡ program
+unfolding program
+all_met a e = e
+
+-- ---- the words
+
+is_free : is_simple_and_free program ≡ true
+unfolding program clap_on_literals
+is_free = refl
+
+is_plain : is_simple program ≡ true
+unfolding program clap_on_literals
+is_plain = refl
+
+pub is_found : (r : Result ArgMatches Error) (app : App) (words : List Text) → app ≡ program → IfOk r (HasMatchesOf app words)
+    → (is_simple_and_free app ≡ true → FailsBy (fault_of app words) r)
+    → IfOk r (λ m. (faults_of words ≡ []) × (subcommand_rows_of m ≡ subcommand_of program words))
+is_found (Ok m) app words e h k =
+    (subst (λ a. fault_of a words ≡ []) e (k (ap is_simple_and_free e ∙ is_free)), (h (ap is_simple e ∙ is_plain)).1 ∙ ap (λ a. subcommand_of a words) e)
+is_found (Err f) app words e h k = tt
+
+pub is_fault : (r : Result ArgMatches Error) (app : App) (words : List Text) → app ≡ program
+    → (is_simple_and_free app ≡ true → FailsBy (fault_of app words) r) → IfErr r (HasKind (faults_of words))
+is_fault (Ok m) app words e k = tt
+is_fault (Err f) app words e k = subst (λ a. HasKind (fault_of a words) f) e (k (ap is_simple_and_free e ∙ is_free))
+
+-- ---- the plan
+
+pub flag_is : (text : Option Text) (flag : Bool) → (text ≡ None → flag ≡ false) → (text ≡ Some (codes "true") → flag ≡ true)
+    → (text ≡ Some (codes "false") → flag ≡ false) → IsFlag text flag
+flag_is None flag absent set unset = absent refl
+flag_is (Some t) flag absent set unset = (λ e. set (rw e refl), λ e. unset (rw e refl))
+
+pub to_decode : (flag from to : Option Text) (form : Form) (input output : Bor Text) → IsFlag flag (is_y4m form) → Some input.now ≡ from → Some output.now ≡ to
+    → IsPlanFor (with_operands (decodes flag) from to) (Decode form input output)
+to_decode flag from to form input output is e f = rw (← e, ← f) (is, refl, refl)
+
+pub no_operands : (ask : Text → Text → Asked) (from to : Option Text) → (from ≡ None) ⊎ (to ≡ None) → IsPlanFor (with_operands ask from to) Unknown
+no_operands ask None to e = tt
+no_operands ask (Some a) None e = tt
+no_operands ask (Some a) (Some b) (inl e) = cc
+no_operands ask (Some a) (Some b) (inr e) = cc
+
+pub to_tell : (from : Option Text) (input : Bor Text) → Some input.now ≡ from → IsPlanFor (with_operand tells from) (Info input)
+to_tell from input e = rw (← e) refl
+
+pub no_operand : (from : Option Text) → from ≡ None → IsPlanFor (with_operand tells from) Unknown
+no_operand from e = rw e tt

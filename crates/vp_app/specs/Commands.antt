@@ -1,0 +1,175 @@
+-- What the commands do to the standard streams.
+use Rattle.std.specs.Prelude.{◌≡◌, ◌≢◌, ◌⊎◌, ℕ, Bool, true, false, List, codes, Option, Some, None, Result, Ok, Err, OnOk, IfOk, MatchBool}
+use Rattle.std.specs.Str.{bytes_eq}
+use Rattle.std.specs.Io.KnownBytes.{Appends, Consumes, IsAtEnd}
+use Rattle.vp_base.specs.declared.limits.Limits.{Limits}
+use Rattle.vp_base.specs.declared.counted.Counted.{Counted}
+use Rattle.vp_base.specs.Counted.{counted_contents, counted_failures, counted_remaining, HasFailed}
+use Rattle.vp_ivf.specs.declared.fault.FileFault.{FileFault}
+use Rattle.vp_ivf.specs.declared.fault.FileFault.TheVariants as file_fault
+use Rattle.vp_encode.specs.declared.settings.Settings.{Settings}
+use Rattle.vp_encode.specs.declared.report.EncodeReport.{EncodeReport}
+use Rattle.vp_encode.specs.declared.report.EncodeAllFault.{EncodeAllFault}
+use Rattle.vp_encode.specs.declared.report.EncodeAllFault.TheVariants as encode_fault
+use Rattle.vp_encode.specs.File.{IsAnswerFor as IsEncoderAnswerFor}
+use Rattle.vp_stream.specs.declared.form.Form.{Form}
+use Rattle.vp_stream.specs.declared.report.Report.{Report}
+use Rattle.vp_stream.specs.declared.fault.DecodeFault.{DecodeFault}
+use Rattle.vp_stream.specs.declared.fault.DecodeFault.TheVariants.{File, Device, Memory}
+use Rattle.vp_stream.specs.declared.fault.SurveyFault.{SurveyFault}
+use Rattle.vp_stream.specs.declared.outcomes.Survey.{Survey}
+use Rattle.vp_stream.specs.Progress.{read_fault_by}
+use Rattle.vp_stream.specs.Written.{IsAnswerFor, IsSurveyFor}
+use Rattle.clap.specs.Walk.{Row}
+use Rattle.vp_app.specs.Listing.{survey_text}
+use Rattle.vp_app.specs.Status.{status_of}
+use Rattle.vp_app.specs.Words.{Asked, decodes, encodes, tells, serves, nothing, AreSettings, IsFlag, is_y4m}
+
+-- ---- the limits
+
+-- those of the program's commands, with so many pictures to be kept
+pub record AreLimits (cache : ℕ) (limits : Limits) : Type 0 where
+  pub pixels : limits.pixels ≡ 16777216
+  pub packet_bytes : limits.packet_bytes ≡ 16777216
+  pub packets : limits.packets ≡ 1048576
+  pub cache_is : limits.cache ≡ cache
+
+-- ---- the streams
+
+-- what a reader has left, or what a writer holds, where that is known, and how many of its calls failed
+pub record Side : Type 0 where
+  pub bytes : Option (List ℕ)
+  pub failures : ℕ
+
+abbrev pub read_side : {R : Type 0} → (R → Option (List ℕ)) → Counted R → Side
+read_side remaining r = record { bytes = counted_remaining remaining r; failures = counted_failures r }
+
+abbrev pub written_side : {W : Type 0} → (W → Option (List ℕ)) → Counted W → Side
+written_side contents w = record { bytes = counted_contents contents w; failures = counted_failures w }
+
+abbrev pub is_stream : List ℕ → Bool
+is_stream name = bytes_eq name (codes "-")
+
+-- the work was done over the stream where the name is `-`; else over a file, of whose bytes nothing is known, and the stream
+-- is as before
+abbrev pub Over : List ℕ → (Side → Side → Type 0) → Side → Side → Type 0
+Over name Work old new = MatchBool (is_stream name) (Work old new) ((new ≡ old) × ((a : Side) × (b : Side) × Work a b))
+
+-- ---- to decode
+
+-- as the whole decoder says
+pub record IsDecoded (form : Form) (done : Result Report DecodeFault) (input input' output output' : Side) : Type 0 where
+  pub limits : Limits
+  pub usual : AreLimits 16 limits
+  pub file : List ℕ
+  pub consumed : Consumes input.bytes input'.bytes file
+  pub answer : IsAnswerFor limits form done (HasFailed output.failures output'.failures) file output.bytes output'.bytes
+  pub end : OnOk done (IsAtEnd input'.bytes)
+  pub torn : done ≡ Err (File file_fault.Torn) → IsAtEnd input'.bytes
+  pub device : done ≡ Err Device → HasFailed input.failures input'.failures ⊎ HasFailed output.failures output'.failures
+  pub quiet : done ≢ Err Device → (input'.failures ≡ input.failures) × (output'.failures ≡ output.failures)
+
+-- a named file couldn't be opened or made
+abbrev pub IsUnopened : List ℕ → {T : Type 0} → Result T DecodeFault → Type 0
+IsUnopened name done = (is_stream name ≡ false) × ((done ≡ Err Device) ⊎ (done ≡ Err Memory))
+
+abbrev pub DecodesInto : Form → List ℕ → Result Report DecodeFault → Side → Side → Side → Side → Type 0
+DecodesInto form to done input input' output output' =
+    (IsUnopened to done × (input' ≡ input) × (output' ≡ output)) ⊎ Over to (IsDecoded form done input input') output output'
+
+abbrev pub Decodes : Form → List ℕ → List ℕ → Result Report DecodeFault → Side → Side → Side → Side → Type 0
+Decodes form from to done input input' output output' =
+    (IsUnopened from done × (input' ≡ input) × (output' ≡ output))
+    ⊎ Over from (λ a b. DecodesInto form to done a b output output') input input'
+
+-- ---- to tell what a file holds
+
+pub record IsLooked (told : Result Survey SurveyFault) (input input' : Side) : Type 0 where
+  pub limits : Limits
+  pub usual : AreLimits 16 limits
+  pub file : List ℕ
+  pub consumed : Consumes input.bytes input'.bytes file
+  pub answer : IsSurveyFor limits told file
+  pub end : IfOk told (λ s. s.fault ≡ None → IsAtEnd input'.bytes)
+  pub torn : IfOk told (λ s. s.fault ≡ Some file_fault.Torn → IsAtEnd input'.bytes)
+  pub device : told ≡ Err SurveyFault.Device → HasFailed input.failures input'.failures
+  pub quiet : told ≢ Err SurveyFault.Device → input'.failures ≡ input.failures
+
+abbrev pub told_as : Result Survey SurveyFault → Result Survey DecodeFault
+told_as (Ok survey) = Ok survey
+told_as (Err fault) = Err (read_fault_by fault)
+
+abbrev pub LooksOver : Result Survey DecodeFault → Side → Side → Type 0
+LooksOver done input input' = (told : Result Survey SurveyFault) × (done ≡ told_as told) × IsLooked told input input'
+
+abbrev pub Looks : List ℕ → Result Survey DecodeFault → Side → Side → Type 0
+Looks from done input input' = (IsUnopened from done × (input' ≡ input)) ⊎ Over from (LooksOver done) input input'
+
+abbrev pub status_by_fault : Option FileFault → ℕ
+status_by_fault None = 0
+status_by_fault (Some fault) = 1
+
+-- the text of a survey is printed, or a write failed
+abbrev pub Tells : Result Survey DecodeFault → ℕ → Option (List ℕ) → Option (List ℕ) → Type 0
+Tells (Ok survey) status before after = ((status ≡ status_by_fault survey.fault) × Appends before after (survey_text survey)) ⊎ (status ≡ 1)
+Tells (Err fault) status before after = (status ≡ 1) × (after ≡ before)
+
+-- ---- to encode
+
+pub record IsEncoded (settings : Settings) (done : Result EncodeReport EncodeAllFault) (input input' output output' : Side) : Type 0 where
+  pub limits : Limits
+  pub usual : AreLimits 16 limits
+  pub file : List ℕ
+  pub consumed : Consumes input.bytes input'.bytes file
+  pub answer : IsEncoderAnswerFor limits settings done file output.bytes output'.bytes
+  pub end : OnOk done (IsAtEnd input'.bytes)
+  pub torn : done ≡ Err encode_fault.Torn → IsAtEnd input'.bytes
+  pub device : done ≡ Err encode_fault.Device → HasFailed input.failures input'.failures ⊎ HasFailed output.failures output'.failures
+  pub quiet : done ≢ Err encode_fault.Device → (input'.failures ≡ input.failures) × (output'.failures ≡ output.failures)
+
+abbrev pub IsNotOpened : List ℕ → Result EncodeReport EncodeAllFault → Type 0
+IsNotOpened name done = (is_stream name ≡ false) × ((done ≡ Err encode_fault.Device) ⊎ (done ≡ Err encode_fault.Memory))
+
+abbrev pub EncodesInto : Settings → List ℕ → Result EncodeReport EncodeAllFault → Side → Side → Side → Side → Type 0
+EncodesInto settings to done input input' output output' =
+    (IsNotOpened to done × (input' ≡ input) × (output' ≡ output)) ⊎ Over to (IsEncoded settings done input input') output output'
+
+abbrev pub Encodes : Settings → List ℕ → List ℕ → Result EncodeReport EncodeAllFault → Side → Side → Side → Side → Type 0
+Encodes settings from to done input input' output output' =
+    (IsNotOpened from done × (input' ≡ input) × (output' ≡ output))
+    ⊎ Over from (λ a b. EncodesInto settings to done a b output output') input input'
+
+abbrev pub status_by_report : Result EncodeReport EncodeAllFault → ℕ
+status_by_report (Ok report) = 0
+status_by_report (Err fault) = 1
+
+-- ---- what is asked for is done, with this status
+
+-- memory was refused before anything was done
+abbrev pub IsUnbegun : ℕ → Side → Side → Side → Side → Type 0
+IsUnbegun status input input' output output' = (status ≡ 1) × (input' ≡ input) × (output' ≡ output)
+
+abbrev pub IsUsageFault : ℕ → Side → Side → Side → Side → Type 0
+IsUsageFault status input input' output output' = (status ≡ 2) × (input' ≡ input) × (output' ≡ output)
+
+abbrev pub DoesDecode : Option (List ℕ) → List ℕ → List ℕ → ℕ → Side → Side → Side → Side → Type 0
+DoesDecode flag from to status input input' output output' =
+    (form : Form) × (done : Result Report DecodeFault) × IsFlag flag (is_y4m form) × (status ≡ status_of done) × Decodes form from to done input input' output output'
+
+abbrev pub DoesEncode : List Row → List ℕ → List ℕ → ℕ → Side → Side → Side → Side → Type 0
+DoesEncode rows from to status input input' output output' =
+    (settings : Settings) × (done : Result EncodeReport EncodeAllFault) × AreSettings rows settings × (status ≡ status_by_report done) × Encodes settings from to done input input' output output'
+
+abbrev pub DoesTell : List ℕ → ℕ → Side → Side → Side → Side → Type 0
+DoesTell from status input input' output output' =
+    (done : Result Survey DecodeFault) × Looks from done input input' × Tells done status output.bytes output'.bytes
+
+abbrev pub Does : Asked → ℕ → Side → Side → Side → Side → Type 0
+Does (decodes flag from to) status input input' output output' =
+    DoesDecode flag from to status input input' output output' ⊎ IsUnbegun status input input' output output'
+Does (encodes rows from to) status input input' output output' =
+    DoesEncode rows from to status input input' output output' ⊎ (IsUnbegun status input input' output output' ⊎ IsUsageFault status input input' output output')
+Does (tells from) status input input' output output' =
+    DoesTell from status input input' output output' ⊎ IsUnbegun status input input' output output'
+Does serves status input input' output output' = Unit {0}
+Does nothing status input input' output output' = IsUnbegun status input input' output output' ⊎ IsUsageFault status input input' output output'
