@@ -30,9 +30,9 @@ pub extern "C" fn vp8_encoder_new(
 ) -> u32
     ensures answer { (result ≡ OK) ⊎ (result ≡ OPEN) ⊎ (result ≡ DIMENSIONS) ⊎ (result ≡ SETTINGS) ⊎ (result ≡ MEMORY) }
     ensures open { (result ≡ OPEN) ↔ IsSome (held_in encoder.old) }
-    ensures dimensions { result ≡ DIMENSIONS → IsNoSide width ⊎ IsNoSide height }
-    ensures settings { result ≡ SETTINGS → ¬ (AreAllowed (settings_in settings.now)) }
-    ensures allowed { result ≡ OK → AreAllowed (settings_in settings.now) }
+    ensures dimensions { held_in encoder.old ≡ None → (result ≡ DIMENSIONS) ↔ (IsNoSide width ⊎ IsNoSide height) }
+    ensures settings { held_in encoder.old ≡ None → ¬ (IsNoSide width ⊎ IsNoSide height)
+        → (result ≡ SETTINGS) ↔ ¬ (AreAllowed (settings_in settings.now)) }
     ensures opened { result ≡ OK → IsSomeAnd (encoder_in encoder.new) (IsReady width height (settings_in settings.now)) }
     ensures refused { result ≢ OK → held_in encoder.new ≡ held_in encoder.old }
 {

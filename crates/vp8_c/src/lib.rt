@@ -15,3 +15,5 @@ mod settings;
 mod slot;
 mod status;
 mod stream;
+#[cfg(test)]
+mod tests;

@@ -349,3 +349,12 @@ fn names_of_packet_faults(rt: HostRuntime) -> Result<(), Fail> {
     }
     Ok(())
 }
+
+/// A key packet of fewer than ten bytes is cut short, whatever its start code and its sizes are.
+#[test]
+fn truncated_before_start_code(rt: HostRuntime) -> Result<(), Fail> {
+    assert!(rt; tag_of(&OTHER[..9]) == Err(PacketFault::Truncated));
+    assert!(rt; tag_of(&OTHER[..6]) == Err(PacketFault::Truncated));
+    assert!(rt; tag_of(&OTHER[..3]) == Err(PacketFault::Truncated));
+    Ok(())
+}

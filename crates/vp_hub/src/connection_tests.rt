@@ -2,11 +2,12 @@
 
 ghost use Rattle.std.specs.Prelude.{◌<◌};
 
+use crate::event_tests::send;
 use crate::tests::list;
 use crate::{Event, Hub};
 use std::alloc::{AllocError, Global};
 use std::test::Fail;
-use vp_base::Limits;
+use vp_base::{ByteList, Limits};
 
 // A file's head, of 48 columns and 48 rows, 25 pictures a second.
 const HEAD: [u8; 32] = [
@@ -17,17 +18,28 @@ const HEAD: [u8; 32] = [
 // Four packets without a byte, at time 0.
 const PACKETS: [u8; 48] = [0; 48];
 
-/// A hub of three streams; the last has ended behind four packets. Connection 7 stands.
-fn hub_of_three(alloc: Global) -> Result<Option<Hub>, AllocError> {
+fn names_of_three(alloc: Global) -> Result<Vec<ByteList>, AllocError> {
     let mut names = Vec::new(alloc);
     names.push(list(alloc, b"a")?)?;
     names.push(list(alloc, b"b-2")?)?;
     names.push(list(alloc, b"c_")?)?;
-    let Ok(mut hub) = Hub::new(alloc, names, Limits::usual()) else {
+    Ok(names)
+}
+
+/// Feeds the stream `c_`.
+fn feed(alloc: Global, hub: &mut Hub, bytes: &[u8]) -> Result<(), AllocError> {
+    let name = list(alloc, b"c_")?;
+    let _ = hub.step(&Event::Feed(name, list(alloc, bytes)?));
+    Ok(())
+}
+
+/// A hub of three streams; the last has ended behind four packets. Connection 7 stands.
+fn hub_of_three(alloc: Global) -> Result<Option<Hub>, AllocError> {
+    let Ok(mut hub) = Hub::new(alloc, names_of_three(alloc)?, Limits::usual()) else {
         return Ok(None);
     };
-    let _ = hub.step(&Event::Feed(list(alloc, b"c_")?, list(alloc, &HEAD)?));
-    let _ = hub.step(&Event::Feed(list(alloc, b"c_")?, list(alloc, &PACKETS)?));
+    feed(alloc, &mut hub, &HEAD)?;
+    feed(alloc, &mut hub, &PACKETS)?;
     let _ = hub.step(&Event::End(list(alloc, b"c_")?));
     let _ = hub.step(&Event::Open(7));
     Ok(Some(hub))
@@ -42,9 +54,7 @@ fn is_answered(alloc: Global, sent: &[u8], size: usize, wanted: &[u8]) -> Result
     };
     let mut got = Vec::new(alloc);
     for piece in sent.chunks(size) {
-        if let Ok(reply) = hub.step(&Event::Bytes(7, list(alloc, piece)?)) {
-            got.extend_from_slice(reply.bytes.as_slice())?;
-        }
+        send(alloc, &mut hub, 7, piece, &mut got)?;
     }
     Ok(got.as_slice() == wanted)
 }

@@ -1,5 +1,7 @@
 //! Events in order, and what is refused; streams written by hand.
 
+ghost use Rattle.std.specs.Prelude.{◌≡◌, OnErr};
+
 use crate::tests::{
     HEAD, INTER, KEY, answers, hub_of, inter_reply, is_refused, key_reply, list, works,
 };
@@ -8,22 +10,30 @@ use std::alloc::{AllocError, Global};
 use std::test::Fail;
 use vp_base::Limits;
 
+/// Whether connection 1 takes no more, isn't opened again, and goes.
+fn takes_no_more(hub: &mut Hub, more: &Event) -> bool {
+    is_refused(&hub.step(more), HubFault::Failed)
+        && is_refused(&hub.step(&Event::Open(1)), HubFault::AlreadyOpen)
+        && hub.step(&Event::Shut(1)).is_ok()
+}
+
+/// Whether connection 1 isn't there, and comes again.
+fn comes_again(hub: &mut Hub, more: &Event) -> bool {
+    is_refused(&hub.step(more), HubFault::UnknownConn)
+        && is_refused(&hub.step(&Event::Shut(1)), HubFault::UnknownConn)
+        && hub.step(&Event::Open(1)).is_ok()
+        && hub.step(more).is_ok()
+}
+
 /// Whether connection 1, once it sent this, is refused one byte more, goes, and comes again.
 fn fails_behind(alloc: Global, sent: &[u8]) -> Result<bool, AllocError> {
+    let more = Event::Bytes(1, list(alloc, b"x")?);
+    let sent = Event::Bytes(1, list(alloc, sent)?);
     let Some(mut hub) = hub_of(alloc, &[], 16)? else {
         return Ok(false);
     };
-    let _ = hub.step(&Event::Bytes(1, list(alloc, sent)?));
-    let more = Event::Bytes(1, list(alloc, b"x")?);
-    Ok(
-        is_refused(&hub.step(&more), HubFault::Failed)
-            && is_refused(&hub.step(&Event::Open(1)), HubFault::AlreadyOpen)
-            && hub.step(&Event::Shut(1)).is_ok()
-            && is_refused(&hub.step(&more), HubFault::UnknownConn)
-            && is_refused(&hub.step(&Event::Shut(1)), HubFault::UnknownConn)
-            && hub.step(&Event::Open(1)).is_ok()
-            && hub.step(&more).is_ok(),
-    )
+    let _ = hub.step(&sent);
+    Ok(takes_no_more(&mut hub, &more) && comes_again(&mut hub, &more))
 }
 
 /// Behind a bad request, behind too many bytes without a head's end, and behind a request that closes.
@@ -38,11 +48,12 @@ fn closed_connections_fail(rt: HostRuntime) -> Result<(), Fail> {
 
 /// Whether a stream that is fed this then answers so to a piece, to its end, to a second piece and to a second end.
 fn ends_so(alloc: Global, fed: &[u8], piece: Option<HubFault>) -> Result<bool, AllocError> {
+    let end = Event::End(list(alloc, b"a")?);
+    let name = list(alloc, b"a")?;
+    let more = Event::Feed(name, list(alloc, b"x")?);
     let Some(mut hub) = hub_of(alloc, &[fed], 16)? else {
         return Ok(false);
     };
-    let more = Event::Feed(list(alloc, b"a")?, list(alloc, b"x")?);
-    let end = Event::End(list(alloc, b"a")?);
     let taken = match piece {
         Some(fault) => is_refused(&hub.step(&more), fault),
         None => hub.step(&more).is_ok(),
@@ -80,10 +91,11 @@ fn other_names_are_refused(rt: HostRuntime) -> Result<(), Fail> {
 
 /// Whether this is told of a stream with these packets once its end was told.
 fn tells_at_end(alloc: Global, packets: &[&[u8]], wanted: &[u8]) -> Result<bool, AllocError> {
+    let end = Event::End(list(alloc, b"a")?);
     let Some(mut hub) = hub_of(alloc, packets, 16)? else {
         return Ok(false);
     };
-    let _ = hub.step(&Event::End(list(alloc, b"a")?));
+    let _ = hub.step(&end);
     let sent = b"GET /s/a/info HTTP/1.1\r\nHost: x\r\n\r\n";
     answers(alloc, &mut hub, 1, sent, wanted, false)
 }
@@ -155,22 +167,33 @@ fn faults_of_packets(rt: HostRuntime) -> Result<(), Fail> {
     Ok(())
 }
 
-/// Sends a byte, and puts what is replied behind.
-fn send(
+/// Sends a piece, and puts what is replied behind.
+pub(crate) fn send(
     alloc: Global,
     hub: &mut Hub,
     number: u32,
-    byte: u8,
+    piece: &[u8],
     got: &mut Vec<u8>,
-) -> Result<(), AllocError> {
-    if let Ok(reply) = hub.step(&Event::Bytes(number, list(alloc, &[byte])?)) {
+) -> Result<(), AllocError>
+    ensures { OnErr result (got.new.items ≡ got.old.items) }
+{
+    let event = Event::Bytes(number, list(alloc, piece)?);
+    if let Ok(reply) = hub.step(&event) {
         got.extend_from_slice(reply.bytes.as_slice())?;
     }
     Ok(())
 }
 
+/// Connection 3 comes, sends this, and goes.
+fn come_and_go(hub: &mut Hub, bytes: &Event) {
+    let _ = hub.step(&Event::Open(3));
+    let _ = hub.step(bytes);
+    let _ = hub.step(&Event::Shut(3));
+}
+
 /// Whether two connections that ask in turn, byte by byte, while a third comes, goes and is refused, each get their picture.
 fn asks_in_turn(alloc: Global, cache: u32) -> Result<bool, AllocError> {
+    let bytes = Event::Bytes(3, list(alloc, b"\r\n\r\n")?);
     let Some(mut hub) = hub_of(alloc, &[&HEAD, &KEY, &INTER], cache)? else {
         return Ok(false);
     };
@@ -180,11 +203,9 @@ fn asks_in_turn(alloc: Global, cache: u32) -> Result<bool, AllocError> {
     let mut keys = Vec::new(alloc);
     let mut inters = Vec::new(alloc);
     for (a, b) in first.iter().zip(second) {
-        send(alloc, &mut hub, 1, *a, &mut keys)?;
-        let _ = hub.step(&Event::Open(3));
-        let _ = hub.step(&Event::Bytes(3, list(alloc, b"\r\n\r\n")?));
-        send(alloc, &mut hub, 2, *b, &mut inters)?;
-        let _ = hub.step(&Event::Shut(3));
+        send(alloc, &mut hub, 1, &[*a], &mut keys)?;
+        come_and_go(&mut hub, &bytes);
+        send(alloc, &mut hub, 2, &[*b], &mut inters)?;
     }
     Ok(
         keys.as_slice() == key_reply(alloc)?.as_slice()

@@ -334,3 +334,17 @@ fn ranges_are_left_out(rt: HostRuntime) -> Result<(), Fail> {
     assert!(rt; ranges_left_out(rt.alloc())?);
     Ok(())
 }
+
+/// A range that ends before it begins names nothing, also behind the end: the whole picture.
+fn turned_round(alloc: Global) -> Result<bool, AllocError> {
+    let key = key_reply(alloc)?;
+    let sent = b"GET /s/a/frame/0 HTTP/1.1\r\nHost: x\r\nRange: bytes=500-400\r\n\r\n";
+    let behind = b"GET /s/a/frame/0 HTTP/1.1\r\nHost: x\r\nRange: bytes=400-500\r\n\r\n";
+    are_answered(alloc, &[(sent, &key), (behind, BEHIND)])
+}
+
+#[test]
+fn a_range_turned_round_behind_the_end(rt: HostRuntime) -> Result<(), Fail> {
+    assert!(rt; turned_round(rt.alloc())?);
+    Ok(())
+}

@@ -43,6 +43,28 @@ pub(crate) fn list(alloc: Global, bytes: &[u8]) -> Result<ByteList, AllocError>
     Ok(ByteList::from_vec(bytes.to_vec(alloc)?))
 }
 
+/// A hub of one stream `a`, which keeps so many pictures.
+fn empty_hub(alloc: Global, cache: u32) -> Result<Option<Hub>, AllocError>
+    ensures { IfOk result (λ made. IfSome made (λ hub. AllKeepPartial hub.state)) }
+{
+    let mut names = Vec::new(alloc);
+    names.push(list(alloc, b"a")?)?;
+    let Some(limits) = Limits::new(16384, 16384, 100, cache) else {
+        return Ok(None);
+    };
+    Ok(Hub::new(alloc, names, limits).ok())
+}
+
+/// Feeds the stream `a`.
+fn feed(alloc: Global, hub: &mut Hub, bytes: &[u8]) -> Result<(), AllocError>
+    ensures { AllKeepPartial hub.old.state → AllKeepPartial hub.new.state }
+{
+    let name = list(alloc, b"a")?;
+    let piece = list(alloc, bytes)?;
+    let _ = hub.step(&Event::Feed(name, piece));
+    Ok(())
+}
+
 /// A hub of one stream `a` with these packets, which keeps so many pictures; connection 1 stands.
 pub(crate) fn hub_of(
     alloc: Global,
@@ -51,17 +73,12 @@ pub(crate) fn hub_of(
 ) -> Result<Option<Hub>, AllocError>
     ensures { IfOk result (λ made. IfSome made (λ hub. AllKeepPartial hub.state)) }
 {
-    let mut names = Vec::new(alloc);
-    names.push(list(alloc, b"a")?)?;
-    let Some(limits) = Limits::new(16384, 16384, 100, cache) else {
-        return Ok(None);
-    };
-    let Ok(mut hub) = Hub::new(alloc, names, limits) else {
+    let Some(mut hub) = empty_hub(alloc, cache)? else {
         return Ok(None);
     };
     let _ = hub.step(&Event::Open(1));
     for packet in packets {
-        let _ = hub.step(&Event::Feed(list(alloc, b"a")?, list(alloc, packet)?));
+        feed(alloc, &mut hub, packet)?;
     }
     Ok(Some(hub))
 }
@@ -104,22 +121,30 @@ pub(crate) fn inter_reply(alloc: Global) -> Result<Vec<u8>, AllocError>
     Ok(reply)
 }
 
-/// Whether connection 1 of a hub of one stream with these packets is answered so: what it sends, what is wanted, and
-/// whether it is closed behind that.
+/// Whether connection 1 is answered so, turn by turn: what it sends, what is wanted, and whether it is closed behind that.
+fn are_answered(
+    alloc: Global,
+    hub: &mut Hub,
+    turns: &[(&[u8], &[u8], bool)],
+) -> Result<bool, AllocError> {
+    for (sent, wanted, close) in turns {
+        if !answers(alloc, hub, 1, sent, wanted, *close)? {
+            return Ok(false);
+        }
+    }
+    Ok(true)
+}
+
+/// The same of a new hub of one stream with these packets.
 fn talk(
     alloc: Global,
     packets: &[&[u8]],
     turns: &[(&[u8], &[u8], bool)],
 ) -> Result<bool, AllocError> {
-    let Some(mut hub) = hub_of(alloc, packets, 16)? else {
-        return Ok(false);
-    };
-    for (sent, wanted, close) in turns {
-        if !answers(alloc, &mut hub, 1, sent, wanted, *close)? {
-            return Ok(false);
-        }
+    match hub_of(alloc, packets, 16)? {
+        Some(mut hub) => are_answered(alloc, &mut hub, turns),
+        None => Ok(false),
     }
-    Ok(true)
 }
 
 /// Whether packet 0 of the stream is answered by its picture, and packet 9 by none.
@@ -237,11 +262,16 @@ pub(crate) fn is_refused(answer: &Result<Reply, HubFault>, fault: HubFault) -> b
     }
 }
 
-/// Whether a second connection 1 is refused, and a 65th one, until connection 1 goes.
-fn refuses_connections(hub: &mut Hub) -> bool {
+/// Opens connections 2 to 64.
+fn open_many(hub: &mut Hub) {
     for number in 2..65 {
         let _ = hub.step(&Event::Open(number));
     }
+}
+
+/// Whether a second connection 1 is refused, and a 65th one, until connection 1 goes.
+fn refuses_connections(hub: &mut Hub) -> bool {
+    open_many(hub);
     is_refused(&hub.step(&Event::Open(1)), HubFault::AlreadyOpen)
         && is_refused(&hub.step(&Event::Open(65)), HubFault::TooMany)
         && hub.step(&Event::Shut(1)).is_ok()
@@ -250,11 +280,13 @@ fn refuses_connections(hub: &mut Hub) -> bool {
 
 /// A connection that the hub closed stands until it goes.
 fn refuses_events(alloc: Global) -> Result<bool, AllocError> {
+    let bytes = Event::Bytes(1, list(alloc, b"\r\n\r\n")?);
+    let name = list(alloc, b"b")?;
+    let feed = Event::Feed(name, list(alloc, &KEY)?);
     let Some(mut hub) = hub_of(alloc, &[], 16)? else {
         return Ok(false);
     };
-    let _ = hub.step(&Event::Bytes(1, list(alloc, b"\r\n\r\n")?));
-    let feed = Event::Feed(list(alloc, b"b")?, list(alloc, &KEY)?);
+    let _ = hub.step(&bytes);
     Ok(is_refused(&hub.step(&feed), HubFault::UnknownStream) && refuses_connections(&mut hub))
 }
 
@@ -436,21 +468,30 @@ fn names_refused(rt: HostRuntime) -> Result<(), Fail> {
     Ok(())
 }
 
-/// Whether connection 1 of a hub that keeps two pictures is answered so, each time with so much work.
+/// Whether connection 1 is answered so, each time with so much work.
+fn all_work(
+    alloc: Global,
+    hub: &mut Hub,
+    turns: &[(&[u8], &[u8], u64)],
+) -> Result<bool, AllocError> {
+    for (sent, wanted, work) in turns {
+        if !works(alloc, hub, 1, sent, wanted, *work)? {
+            return Ok(false);
+        }
+    }
+    Ok(true)
+}
+
+/// The same of a hub that keeps two pictures.
 fn works_in_turn(
     alloc: Global,
     packets: &[&[u8]],
     turns: &[(&[u8], &[u8], u64)],
 ) -> Result<bool, AllocError> {
-    let Some(mut hub) = hub_of(alloc, packets, 2)? else {
-        return Ok(false);
-    };
-    for (sent, wanted, work) in turns {
-        if !works(alloc, &mut hub, 1, sent, wanted, *work)? {
-            return Ok(false);
-        }
+    match hub_of(alloc, packets, 2)? {
+        Some(mut hub) => all_work(alloc, &mut hub, turns),
+        None => Ok(false),
     }
-    Ok(true)
 }
 
 /// Whether the cache is filled: a second request for a picture decodes nothing, and makes it the newest, so that the

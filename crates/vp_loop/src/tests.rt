@@ -6,7 +6,7 @@ use std::alloc::{AllocError, Global};
 use std::test::Fail;
 use vp_base::{Dim, Limits, Picture};
 use vp_bool::BoolDecoder;
-use vp_head::{Header, KeyTag, Reference, Saved, Tag};
+use vp_head::{Header, KeyTag, LevelDeltas, Reference, Saved, Tag};
 
 /// A key frame's header with filter level 16 and sharpness 0, all else 0 or as by default.
 fn header(dim: Dim) -> Header {
@@ -290,5 +290,120 @@ fn lanes_filter_as_lines(rt: HostRuntime) -> Result<(), Fail> {
             assert_eq!(rt; difference_at(rt.alloc(), dim, strength)?, None);
         }
     }
+    Ok(())
+}
+
+/// The threshold of a level, in a key frame or another.
+fn threshold(dim: Dim, key: bool, own: u8) -> u8 {
+    let mut header = header(dim);
+    header.key = key;
+    header.filter.level = own;
+    let kind = MacroblockKind {
+        reference: Reference::Intra,
+        prediction: Prediction::Whole,
+        coded: true,
+    };
+    levels(&header, 0, &kind).hev
+}
+
+/// Levels at the ends of each threshold's run: in key frames from 15 and 40 on, in others from 15, 20 and 40 on.
+#[test]
+fn thresholds_by_frame(rt: HostRuntime) -> Result<(), Fail> {
+    let Ok(dim) = Dim::new(16, 16, &Limits::usual()) else {
+        panic!(rt; "the size is refused");
+    };
+    for (own, key, inter) in [
+        (1, 0, 0),
+        (14, 0, 0),
+        (15, 1, 1),
+        (19, 1, 1),
+        (20, 1, 2),
+        (39, 1, 2),
+        (40, 2, 3),
+        (63, 2, 3),
+    ] {
+        assert_eq!(rt; threshold(dim, true, own), key);
+        assert_eq!(rt; threshold(dim, false, own), inter);
+    }
+    Ok(())
+}
+
+/// A half of the level from sharpness 1 on, a fourth from 5 on, at most 9 less the sharpness, at least 1.
+#[test]
+fn interior_limits(rt: HostRuntime) -> Result<(), Fail> {
+    let Ok(dim) = Dim::new(16, 16, &Limits::usual()) else {
+        panic!(rt; "the size is refused");
+    };
+    for (own, sharpness, interior) in [
+        (63, 0, 63),
+        (63, 1, 8),
+        (15, 1, 7),
+        (8, 4, 4),
+        (63, 4, 5),
+        (8, 5, 2),
+        (63, 5, 4),
+        (8, 7, 2),
+        (63, 7, 2),
+        (1, 1, 1),
+    ] {
+        assert_eq!(rt;
+            level_with(dim, own, sharpness, None, [0, 0]).interior,
+            interior
+        );
+    }
+    Ok(())
+}
+
+/// The strength for a kind of macroblock without coefficients, at level 20 with eight deltas that differ.
+fn strength_of(dim: Dim, reference: Reference, prediction: Prediction) -> Level {
+    let mut header = header(dim);
+    header.key = false;
+    header.filter.level = 20;
+    header.deltas_enabled = true;
+    header.deltas = LevelDeltas {
+        reference: [1, 2, 3, 4],
+        mode: [9, -10, 5, 7],
+    };
+    let kind = MacroblockKind {
+        reference,
+        prediction,
+        coded: false,
+    };
+    levels(&header, 0, &kind)
+}
+
+/// Each reference and each mode has its own delta; inner edges without coefficients are those of subblock modes and of
+/// split macroblocks alone. The levels are 21, 30, 12, 28 and 31.
+#[test]
+fn deltas_by_kind(rt: HostRuntime) -> Result<(), Fail> {
+    let Ok(dim) = Dim::new(16, 16, &Limits::usual()) else {
+        panic!(rt; "the size is refused");
+    };
+    for (reference, prediction, wanted) in [
+        (Reference::Intra, Prediction::Whole, strength(67, 0, 21, 2)),
+        (
+            Reference::Intra,
+            Prediction::Subblocks,
+            strength(94, 90, 30, 2),
+        ),
+        (Reference::Last, Prediction::Zero, strength(40, 0, 12, 0)),
+        (Reference::Golden, Prediction::Moved, strength(88, 0, 28, 2)),
+        (Reference::Alt, Prediction::Split, strength(97, 93, 31, 2)),
+    ] {
+        assert_eq!(rt; strength_of(dim, reference, prediction), wanted);
+    }
+    Ok(())
+}
+
+/// A frame's level of 0 filters nothing, whatever segments and deltas add.
+#[test]
+fn no_level_no_filter(rt: HostRuntime) -> Result<(), Fail> {
+    let Ok(dim) = Dim::new(16, 16, &Limits::usual()) else {
+        panic!(rt; "the size is refused");
+    };
+    assert_eq!(rt;
+        level_with(dim, 0, 0, Some(30), [20, 0]),
+        strength(0, 0, 0, 0)
+    );
     Ok(())
 }

@@ -252,3 +252,21 @@ fn split_vectors_far_outside(rt: HostRuntime) -> Result<(), Fail> {
     assert!(rt; is_all(&bytes, 128));
     Ok(())
 }
+
+// An inter packet whose first partition passes its end: without a key packet before it that isn't the fault.
+#[test]
+fn no_reference_before_first_partition(rt: HostRuntime) -> Result<(), Fail> {
+    let long: [u8; 3] = [0x31, 0, 0];
+    let mut decoder = Decoder::new(rt.alloc(), Limits::usual());
+    assert!(rt;
+        gives(
+            &mut decoder,
+            &[
+                (&long, Outcome::Fault(PacketFault::NoReference)),
+                (&KEY, Outcome::Shown),
+                (&long, Outcome::Fault(PacketFault::FirstPartition)),
+            ]
+        )?
+    );
+    Ok(())
+}

@@ -264,3 +264,13 @@ fn packets_with_faults(rt: HostRuntime) -> Result<(), Fail> {
     assert!(rt; is_fault_by(&stream, 3, PacketFault::NoReference, 2)?);
     Ok(())
 }
+
+// Three bytes are a key packet where the first one is even, though no more of it stands there.
+#[test]
+fn a_key_packet_of_three_bytes(rt: HostRuntime) -> Result<(), Fail> {
+    let stream = stream_of(rt.alloc(), &[&KEY, &KEY[..3], &INTER])?;
+    assert!(rt; have_keys(&stream, &[(0, 0), (1, 1), (2, 1)]));
+    assert!(rt; is_fault_by(&stream, 1, PacketFault::Truncated, 1)?);
+    assert!(rt; is_fault_by(&stream, 2, PacketFault::NoReference, 2)?);
+    Ok(())
+}

@@ -1,6 +1,6 @@
 //! The file of the trials, its pictures byte by byte, and readers and writers that move a few bytes at a time.
 
-ghost use Rattle.std.specs.Prelude.{◌≡◌, ◌≤◌, ◌<◌, IsTrue};
+ghost use Rattle.std.specs.Prelude.{◌≡◌, ◌≤◌, ◌<◌, IsTrue, length};
 
 use std::io;
 use std::io::{Read, Write};
@@ -82,7 +82,9 @@ fn picture_byte(i: usize) -> u8
 }
 
 /// Whether the bytes are the first ones of the picture, written again and again.
-pub(crate) fn are_pictures(bytes: &[u8]) -> bool {
+pub(crate) fn are_pictures(bytes: &[u8]) -> bool
+    ensures { length bytes.now ≡ 0 → IsTrue result }
+{
     for (i, byte) in bytes.iter().enumerate() {
         if *byte != picture_byte(i % 384) {
             return false;
@@ -95,7 +97,9 @@ pub(crate) fn are_pictures(bytes: &[u8]) -> bool {
 pub const LINE: &[u8; 41] = b"YUV4MPEG2 W16 H16 F30:1 Ip A0:0 C420jpeg\n";
 
 /// Byte `i` of a YUV4MPEG2 file of that line in which the picture comes again and again, each time behind a line of its own.
-pub(crate) fn video_byte(i: usize) -> u8 {
+pub(crate) fn video_byte(i: usize) -> u8
+    ensures { result ≤ 129 }
+{
     if i < 41 {
         return LINE[i];
     }
@@ -107,7 +111,9 @@ pub(crate) fn video_byte(i: usize) -> u8 {
 }
 
 /// Whether the bytes are the first ones of that file.
-pub(crate) fn are_video(bytes: &[u8]) -> bool {
+pub(crate) fn are_video(bytes: &[u8]) -> bool
+    ensures { length bytes.now ≡ 0 → IsTrue result }
+{
     for (i, byte) in bytes.iter().enumerate() {
         if *byte != video_byte(i) {
             return false;

@@ -1,9 +1,10 @@
 //! Hubs of a stream written by hand, and what is replied to their connections.
 
-ghost use Rattle.std.specs.Prelude.{◌≡◌, ◌≢◌, ◌↔◌, [], ℕ, List, IfOk, IfSome, IsTrue, OnErr, Ok, Err, false, length, vec_len};
+ghost use Rattle.std.specs.Prelude.{◌≡◌, ◌≢◌, ◌↔◌, ◌+◌, [], ℕ, List, IfOk, IfSome, IsTrue, OnErr, Ok, Err, false, length, vec_len};
 ghost use Rattle.vp_hub.specs.declared.event.Event.{Event};
 ghost use Rattle.vp_hub.specs.declared.event.HubFault.{HubFault};
 ghost use Rattle.vp_hub.specs.Hub.{IsStep};
+ghost use Rattle.vp_hub.specs.Heads.{AllKeepPartial};
 
 use crate::files::{FILE, are_pictures};
 use std::alloc::{AllocError, Global};
@@ -41,7 +42,9 @@ pub(crate) fn list(alloc: Global, bytes: &[u8]) -> Result<ByteList, AllocError>
 }
 
 /// The file's head, its key packet and the inter packet, the twelve bytes of each before it.
-pub(crate) fn parts() -> [&'static [u8]; 3] {
+pub(crate) fn parts() -> [&'static [u8]; 3]
+    ensures { length result.2 ≡ 15 }
+{
     [&FILE[..32], &FILE[32..54], &INTER]
 }
 
@@ -58,7 +61,8 @@ fn names_of(alloc: Global, names: &[&[u8]]) -> Result<Vec<ByteList>, AllocError>
 
 /// A hub of streams of these names, which keeps so many pictures, of at most 16,384 pixels.
 fn new_hub(alloc: Global, names: &[&[u8]], cache: u32) -> Option<Hub>
-    ensures { IfSome result (λ hub. hub.state.connections ≡ []) }
+    ensures connections { IfSome result (λ hub. hub.state.connections ≡ []) }
+    ensures partial { IfSome result (λ hub. AllKeepPartial hub.state) }
 {
     let limits = Limits::new(16_384, 16_384, 100, cache)?;
     let names = names_of(alloc, names).ok()?;
@@ -66,7 +70,9 @@ fn new_hub(alloc: Global, names: &[&[u8]], cache: u32) -> Option<Hub>
 }
 
 /// Such a hub whose first stream is `a` and was fed these bytes; connections 1 and 3 stand.
-pub(crate) fn hub_of(alloc: Global, names: &[&[u8]], fed: &[&[u8]], cache: u32) -> Option<Hub> {
+pub(crate) fn hub_of(alloc: Global, names: &[&[u8]], fed: &[&[u8]], cache: u32) -> Option<Hub>
+    ensures { IfSome result (λ hub. AllKeepPartial hub.state) }
+{
     let mut hub = new_hub(alloc, names, cache)?;
     let _ = hub.step(&Event::Open(1));
     let _ = hub.step(&Event::Open(3));
@@ -93,7 +99,8 @@ pub(crate) fn says(
 
 /// What comes of a piece of the stream `a`.
 pub(crate) fn feeds(alloc: Global, hub: &mut Hub, bytes: &[u8]) -> Result<Reply, HubFault>
-    ensures { result ≢ Err HubFault.Memory → (name : List ℕ) × IsStep hub.old.state (Event.Feed name bytes.now) result hub.new.state }
+    ensures step { result ≢ Err HubFault.Memory → (name : List ℕ) × IsStep hub.old.state (Event.Feed name bytes.now) result hub.new.state }
+    ensures partial { AllKeepPartial hub.old.state → AllKeepPartial hub.new.state }
 {
     let (Ok(name), Ok(bytes)) = (list(alloc, b"a"), list(alloc, bytes)) else {
         return Err(HubFault::Memory);
@@ -102,7 +109,9 @@ pub(crate) fn feeds(alloc: Global, hub: &mut Hub, bytes: &[u8]) -> Result<Reply,
 }
 
 /// Whether the bytes are these lines and the key packet's picture.
-pub(crate) fn is_key_behind(lines: &[u8], bytes: &[u8]) -> bool {
+pub(crate) fn is_key_behind(lines: &[u8], bytes: &[u8]) -> bool
+    ensures { IsTrue result → length bytes.now ≡ length lines.now + 384 }
+{
     match bytes.strip_prefix(lines) {
         Some(picture) => picture.len() == 384 && are_pictures(picture),
         None => false,
@@ -110,12 +119,16 @@ pub(crate) fn is_key_behind(lines: &[u8], bytes: &[u8]) -> bool {
 }
 
 /// Whether the bytes are the reply of the key packet's picture.
-pub(crate) fn is_key(bytes: &[u8]) -> bool {
+pub(crate) fn is_key(bytes: &[u8]) -> bool
+    ensures { IsTrue result → length bytes.now ≡ 464 }
+{
     is_key_behind(LINES, bytes)
 }
 
 /// Whether the bytes are the reply of the inter packet's picture behind it: 128 everywhere.
-pub(crate) fn is_inter(bytes: &[u8]) -> bool {
+pub(crate) fn is_inter(bytes: &[u8]) -> bool
+    ensures { IsTrue result → length bytes.now ≡ 464 }
+{
     match bytes.strip_prefix(LINES) {
         Some(picture) => picture.len() == 384 && picture.iter().all(|byte| *byte == 128),
         None => false,
@@ -123,7 +136,9 @@ pub(crate) fn is_inter(bytes: &[u8]) -> bool {
 }
 
 /// Whether the bytes are both replies, one behind the other. Each has 80 bytes of lines and 384 of its picture.
-pub(crate) fn are_both(bytes: &[u8]) -> bool {
+pub(crate) fn are_both(bytes: &[u8]) -> bool
+    ensures { IsTrue result → length bytes.now ≡ 928 }
+{
     match bytes.split_at_checked(464) {
         Some((first, second)) => is_key(first) && is_inter(second),
         None => false,
