@@ -23,16 +23,8 @@ use Rattle.vp_stream.specs.Written.{IsAnswerFor, IsSurveyFor}
 use Rattle.clap.specs.Walk.{Row}
 use Rattle.vp_app.specs.Listing.{survey_text}
 use Rattle.vp_app.specs.Status.{status_of}
+use Rattle.vp_app.specs.Usual.{AreLimits}
 use Rattle.vp_app.specs.Words.{Asked, decodes, encodes, tells, serves, nothing, AreSettings, IsFlag, is_y4m}
-
--- ---- the limits
-
--- those of the program's commands, with so many pictures to be kept
-pub record AreLimits (cache : ℕ) (limits : Limits) : Type 0 where
-  pub pixels : limits.pixels ≡ 16777216
-  pub packet_bytes : limits.packet_bytes ≡ 16777216
-  pub packets : limits.packets ≡ 1048576
-  pub cache_is : limits.cache ≡ cache
 
 -- ---- the streams
 

@@ -1,3 +1,4 @@
+pub mod Usual
 pub mod Status
 pub mod Listing
 pub mod Words

@@ -12,7 +12,7 @@ use Rattle.vp_hub.specs.Hub.{State, fresh}
 use Rattle.vp_hub.specs.Work.{Whole}
 use Rattle.vp_hub.specs.Visits.{IsVisit, IsTurnedAway}
 use Rattle.vp_app.specs.declared.service.Named.{Named}
-use Rattle.vp_app.specs.Commands.{AreLimits}
+use Rattle.vp_app.specs.Usual.{AreLimits}
 use Rattle.vp_app.specs.Feeding.{IsFed}
 
 -- ---- the hub
