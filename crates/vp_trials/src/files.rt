@@ -1,6 +1,6 @@
 //! The file of the trials, its pictures byte by byte, and readers and writers that move a few bytes at a time.
 
-ghost use Rattle.std.specs.Prelude.{◌≡◌, ◌≤◌, ◌<◌, IsTrue, length};
+ghost use Rattle.std.specs.Prelude.{◌≡◌, ◌≤◌, ◌<◌, ◌-◌, ◌%◌, IsTrue, length};
 
 use std::io;
 use std::io::{Read, Write};
@@ -98,7 +98,7 @@ pub const LINE: &[u8; 41] = b"YUV4MPEG2 W16 H16 F30:1 Ip A0:0 C420jpeg\n";
 
 /// Byte `i` of a YUV4MPEG2 file of that line in which the picture comes again and again, each time behind a line of its own.
 pub(crate) fn video_byte(i: usize) -> u8
-    ensures { result ≤ 129 }
+    ensures { 41 ≤ i → 6 ≤ (i - 41) % 390 → 128 ≤ result }
 {
     if i < 41 {
         return LINE[i];

@@ -43,7 +43,7 @@ pub(crate) fn list(alloc: Global, bytes: &[u8]) -> Result<ByteList, AllocError>
 
 /// The file's head, its key packet and the inter packet, the twelve bytes of each before it.
 pub(crate) fn parts() -> [&'static [u8]; 3]
-    ensures { length result.2 ≡ 15 }
+    ensures { length result ≡ 3 }
 {
     [&FILE[..32], &FILE[32..54], &INTER]
 }
