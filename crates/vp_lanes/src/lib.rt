@@ -10,7 +10,7 @@ mod steps;
 
 use std::simd::prelude::*;
 pub use steps::{
-    difference, eighth, either, half, larger, lowered, masked, pull, raised, share, step_size,
+    above, difference, eighth, either, gap, half, larger, lowered, masked, pull, raised, share,
     where_high, where_low,
 };
 

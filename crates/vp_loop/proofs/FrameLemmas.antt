@@ -1,12 +1,11 @@
 -- The macroblocks of a row, and the rows of a picture.
-use Rattle.std.proofs.Common.{◌≡◌, ◌∙◌, ℕ, ◌+◌, ◌*◌, ◌==◌, Bool, true, false, cond, List, get_or, refl, ap, sym, subst}
+use Rattle.std.proofs.Common.{◌≡◌, ◌∙◌, ℕ, ◌+◌, ◌*◌, ◌==◌, Bool, true, false, cond, refl, ap, sym, subst}
 use Rattle.vp_base.specs.declared.place.Place.{Place}
 use Rattle.vp_base.specs.Raster.{Raster}
 use Rattle.vp_base.specs.Image.{Image, macroblocks, IsAligned}
 use Rattle.vp_base.specs.Over.{over}
 use Rattle.vp_base.proofs.OverLemmas.{over-none, over-more, over-kept}
 use Rattle.vp_loop.specs.declared.strength.Level.{Level}
-use Rattle.vp_loop.specs.Levels.{no_level}
 use Rattle.vp_loop.specs.Edges.{block_filtered}
 use Rattle.vp_loop.specs.Filtered.{colour_filtered, macroblock_filtered, row_filtered, filtered}
 use Rattle.vp_loop.proofs.StepLemmas.{width-edge_lines, height-edge_lines}

@@ -27,9 +27,9 @@ smooth_is i a b c d e f =
     (le_max (max d e) f i ∙ ap (λ x. x && nat_le f i) (le_max d e i))
     ∙ three_more ((nat_le a i && nat_le b i) && nat_le c i) (nat_le d i) (nat_le e i) (nat_le f i))
 
-pub all_smooth : (s : Bool) (a b : ℕ) → a < 256 → b < 256 → (s && nat_le (max a b) 255) ≡ s
-all_smooth true a b p q = grind arith
-all_smooth false a b p q = refl
+pub all_smooth : (s : Bool) (a : ℕ) → a < 256 → (s && nat_le a 255) ≡ s
+all_smooth true a p = grind arith
+all_smooth false a p = refl
 
 -- ---- pixels: 128 less and 128 more cancel out
 apart_is : (a b : ℕ) → pos a -ℤ pos b ≡ signed a -ℤ signed b

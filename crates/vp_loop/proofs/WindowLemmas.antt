@@ -1,5 +1,5 @@
 -- What a filtered row of macroblocks keeps, and what it depends on.
-use Rattle.std.proofs.Common.{◌≡◌, ◌∙◌, ℕ, zero, suc, ◌+◌, ◌-◌, ◌*◌, ◌<◌, ◌≤◌, Bool, true, false, cond, List, get_or, refl, ap, sym, subst, arith}
+use Rattle.std.proofs.Common.{◌≡◌, ◌∙◌, ℕ, zero, suc, ◌+◌, ◌-◌, ◌*◌, ◌<◌, ◌≤◌, Bool, true, false, cond, refl, ap, sym, subst, arith}
 use Rattle.std.proofs.lemmas.Bool.Decides.{nat_tests}
 use Rattle.vp_base.specs.declared.place.Place.{Place}
 use Rattle.vp_base.specs.Raster.{Raster, pixel}
@@ -10,7 +10,6 @@ use Rattle.vp_base.specs.Over.{over}
 use Rattle.vp_loop.specs.declared.lines.Line.{Line}
 use Rattle.vp_loop.specs.declared.lines.LineStep.{LineStep}
 use Rattle.vp_loop.specs.declared.strength.Level.{Level}
-use Rattle.vp_loop.specs.Levels.{no_level}
 use Rattle.vp_loop.specs.LineSteps.{stepped}
 use Rattle.vp_loop.specs.Edges.{Way, along, down, columns_of, rows_of, line_at, pixel_at, line_step, block_filtered}
 use Rattle.vp_loop.specs.Filtered.{colour_filtered, macroblock_filtered, row_filtered}

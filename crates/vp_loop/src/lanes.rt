@@ -9,8 +9,8 @@ ghost use Rattle.vp_loop.specs.Lanes.{line_of};
 use crate::lines::{EdgeKind, LineStep};
 use std::simd::prelude::*;
 use vp_lanes::{
-    abs_diff16, difference, eighth, either, half, larger, lowered, masked, pull, raised, share,
-    step_size, where_high, where_low,
+    abs_diff16, difference, eighth, either, gap, half, larger, lowered, masked, pull, raised,
+    share, where_high, where_low,
 };
 
 /// Sixteen lines: a vector for each of their eight pixels.
@@ -27,6 +27,7 @@ pub(crate) struct Lines {
 }
 
 /// How far neighbours on one side of an edge are apart at most.
+#[inline(always)]
 fn most_apart(l: Lines) -> u8x16
     ensures { (j : ℕ) → j < 16 → slice_index result j
         ≡ max (max (max (abs_diff (slice_index l.p3 j) (slice_index l.p2 j)) (abs_diff (slice_index l.p2 j) (slice_index l.p1 j))) (abs_diff (slice_index l.p1 j) (slice_index l.p0 j)))
@@ -44,6 +45,7 @@ fn most_apart(l: Lines) -> u8x16
 }
 
 /// How far the two pixels next to an edge are apart at most, on either side.
+#[inline(always)]
 fn inner_apart(l: Lines) -> u8x16
     ensures { (j : ℕ) → j < 16 → slice_index result j ≡ max (abs_diff (slice_index l.p1 j) (slice_index l.p0 j)) (abs_diff (slice_index l.q1 j) (slice_index l.q0 j)) }
 {
@@ -51,39 +53,43 @@ fn inner_apart(l: Lines) -> u8x16
 }
 
 /// The inner step.
+#[inline(always)]
 fn inner(l: Lines, limit: u8, interior: u8, threshold: u8) -> Lines
     ensures { (j : ℕ) → j < 16 → line_of result j ≡ cond (is_small_step limit (line_of l j) && is_smooth interior (line_of l j)) (inner_changed (is_high threshold (line_of l j)) (line_of l j)) (line_of l j) }
 {
     let most = most_apart(l);
     let apart = inner_apart(l);
-    let size = step_size(l.p1, l.p0, l.q0, l.q1);
+    let edge = gap(l.p0, l.q0);
+    let outer = gap(l.p1, l.q1);
     let d = difference(l.p1, l.q1);
-    let w = where_high(d, apart, threshold);
+    let w = where_high(d, apart, threshold, 128);
     let s = pull(w, l.p0, l.q0);
-    let a = masked(s, size, limit, most, interior);
+    let a = masked(s, edge, outer, limit, most, interior);
     let f1 = eighth(a, 4);
     let f2 = eighth(a, 3);
     let h = half(f1);
-    let t = where_low(h, apart, threshold);
+    let t = where_low(h, apart, threshold, 8);
     Lines {
-        p1: raised(l.p1, t),
-        p0: raised(l.p0, f2),
-        q0: lowered(l.q0, f1),
-        q1: lowered(l.q1, t),
+        p1: raised(l.p1, t, 8),
+        p0: raised(l.p0, f2, 16),
+        q0: lowered(l.q0, f1, 16),
+        q1: lowered(l.q1, t, 8),
         ..l
     }
 }
 
 /// The step over the edge of a macroblock.
+#[inline(always)]
 fn outer(l: Lines, limit: u8, interior: u8, threshold: u8) -> Lines
     ensures { (j : ℕ) → j < 16 → line_of result j ≡ cond (is_small_step limit (line_of l j) && is_smooth interior (line_of l j)) (macroblock_changed (is_high threshold (line_of l j)) (line_of l j)) (line_of l j) }
 {
     let most = most_apart(l);
     let apart = inner_apart(l);
-    let size = step_size(l.p1, l.p0, l.q0, l.q1);
+    let edge = gap(l.p0, l.q0);
+    let outer = gap(l.p1, l.q1);
     let d = difference(l.p1, l.q1);
     let s = pull(d, l.p0, l.q0);
-    let w = masked(s, size, limit, most, interior);
+    let w = masked(s, edge, outer, limit, most, interior);
     let f1 = eighth(w, 4);
     let f2 = eighth(w, 3);
     let t0 = share(w, 27);
@@ -91,33 +97,35 @@ fn outer(l: Lines, limit: u8, interior: u8, threshold: u8) -> Lines
     let t2 = share(w, 9);
     let u0 = either(f2, t0, apart, threshold);
     let v0 = either(f1, t0, apart, threshold);
-    let u1 = where_low(t1, apart, threshold);
-    let u2 = where_low(t2, apart, threshold);
+    let u1 = where_low(t1, apart, threshold, 18);
+    let u2 = where_low(t2, apart, threshold, 9);
     Lines {
-        p2: raised(l.p2, u2),
-        p1: raised(l.p1, u1),
-        p0: raised(l.p0, u0),
-        q0: lowered(l.q0, v0),
-        q1: lowered(l.q1, u1),
-        q2: lowered(l.q2, u2),
+        p2: raised(l.p2, u2, 9),
+        p1: raised(l.p1, u1, 18),
+        p0: raised(l.p0, u0, 27),
+        q0: lowered(l.q0, v0, 27),
+        q1: lowered(l.q1, u1, 18),
+        q2: lowered(l.q2, u2, 9),
         ..l
     }
 }
 
 /// The step of the simple filter.
+#[inline(always)]
 fn simple(l: Lines, limit: u8) -> Lines
     ensures { (j : ℕ) → j < 16 → line_of result j ≡ cond (is_small_step limit (line_of l j)) (drawn true (line_of l j)) (line_of l j) }
 {
-    let size = step_size(l.p1, l.p0, l.q0, l.q1);
+    let edge = gap(l.p0, l.q0);
+    let outer = gap(l.p1, l.q1);
     let d = difference(l.p1, l.q1);
     let s = pull(d, l.p0, l.q0);
     // no byte is above 255, so that smoothness is not asked
-    let w = masked(s, size, limit, larger(l.p0, l.q0), 255);
+    let w = masked(s, edge, outer, limit, l.p0, 255);
     let f1 = eighth(w, 4);
     let f2 = eighth(w, 3);
     Lines {
-        p0: raised(l.p0, f2),
-        q0: lowered(l.q0, f1),
+        p0: raised(l.p0, f2, 16),
+        q0: lowered(l.q0, f1, 16),
         ..l
     }
 }
@@ -125,6 +133,7 @@ fn simple(l: Lines, limit: u8) -> Lines
 impl LineStep {
     /// Sixteen lines as the filter leaves them.
     #[tactic(auto, unfolding(crate::specs::LineSteps::stepped))]
+    #[inline(always)]
     pub(crate) fn apply_to_all(self, lines: Lines) -> Lines
         ensures { (j : ℕ) → j < 16 → line_of result j ≡ stepped self (line_of lines j) }
     {

@@ -1,18 +1,19 @@
-use Rattle.std.proofs.Common.{subst, sym, ℤ, arith, ◌∙◌, ap, ◌+ℤ◌}
-use Rattle.std.proofs.lemmas.Int.{ints}
-use lib.Signed.{shr_z}
-use Rattle.vp_lanes.specs.Lane.{clamp8, lane}
-use Rattle.vp_lanes.proofs.Signed.{signed_param, signed_splat, stands_of, signed_add, signed_shr, signed_out}
-use Rattle.vp_lanes.proofs.Ranges.{InByte, clamp8_in, eighth_in}
+use Rattle.std.proofs.Common.{◌∙◌, ap, ℕ, pos, ◌-ℤ◌, ◌<◌, subst, sym}
+use Rattle.vp_lanes.proofs.Shape.{unsigned_lanes, lanes_of, zipped, splatted, lane_is}
+use mir.Syntax.{w8, shr, unsigned}
+use borrow.Rule.Simd.Lanes.{act2}
+use borrow.Table.Row.{s_int}
+use Rattle.vp_lanes.proofs.Bytes.{byte_lane, splat_lane, eighth_is, eighth_small}
 use Rattle.vp_lanes.proofs.steps.eighth.Goals as goal
 
 pub returns-clause-value : goal.returns-clause-value
 returns-clause-value c j h =
-    let a = signed_param 16 c.args.a _ c.well_formed.0 in
-    let s = signed_add a (signed_splat 16 _ c.args.by (stands_of c.args.by c.ranges.by))
-    (λ i k. let r = c.requires.a_in i k in let b = c.requires.by_in in (omega (arith, ints), omega (arith, ints))) in
-    signed_out (signed_shr (signed_param 16 c.clamp_i16.result _ c.clamp_i16.type_inv) 3) j h
-    ∙ ap (λ z. shr_z z 8) (c.clamp_i16.ensures j h ∙ ap clamp8 (signed_out s j h))
+    let s = unsigned_lanes w8 16 c.sum.result _ c.sum.type_inv in
+    let e = lane_is 0 (zipped (act2 (shr unsigned) (s_int w8) (s_int w8) (s_int w8)) (lanes_of 0 16 c.sum.result s.0) (splatted 16 3)) j h in
+    ap (λ (n : ℕ). pos n -ℤ pos 16) e ∙ eighth_is _ c.args.by _ _ (byte_lane _ c.fits-a j h) (splat_lane c.args.by j h) (c.sum.ensures j h)
 
 pub returns-clause-range : goal.returns-clause-range
-returns-clause-range c j h = subst (λ (z : ℤ). InByte z) (sym (returns-clause-value c j h)) (eighth_in (clamp8 (lane c.args.a j +ℤ c.args.by)) (clamp8_in (lane c.args.a j +ℤ c.args.by)))
+returns-clause-range c j h =
+    let s = unsigned_lanes w8 16 c.sum.result _ c.sum.type_inv in
+    let e = lane_is 0 (zipped (act2 (shr unsigned) (s_int w8) (s_int w8) (s_int w8)) (lanes_of 0 16 c.sum.result s.0) (splatted 16 3)) j h in
+    subst (λ (n : ℕ). n < 32) (sym e) (eighth_small _ _ _ (c.sum.ensures j h))

@@ -1,20 +1,24 @@
-use Rattle.std.proofs.Common.{ℤ, pos, arith, ◌∙◌, ap, sym, subst, ◌+ℤ◌, ◌*ℤ◌}
-use Rattle.std.proofs.lemmas.Int.{ints}
-use lib.Signed.{shr_z}
-use Rattle.vp_lanes.specs.Lane.{lane, clamp8}
-use Rattle.vp_lanes.proofs.Signed.{signed_param, signed_splat, stands_of, stands_pos, signed_mul, signed_add, signed_shr, signed_out}
-use Rattle.vp_lanes.proofs.Ranges.{InByte, clamp8_in}
-use Rattle.vp_lanes.proofs.Ranges.{weight_in}
+use Rattle.std.proofs.Common.{◌∙◌, ap, ℕ, pos, ◌-ℤ◌}
+use Rattle.vp_lanes.proofs.Shape.{lanes_of, mapped, zipped, splatted, lane_is, each_lane}
+use mir.Syntax.{w8, w16, shr, cast, unsigned, wrap_add, wrap_mul}
+use borrow.Rule.Simd.Lanes.{act1, act2}
+use borrow.Table.Row.{s_int}
+use borrow.Rule.Simd.Lanes.{Asks1}
+use Rattle.vp_lanes.proofs.Bytes.{byte_lane, shared_small, share_is}
 use Rattle.vp_lanes.proofs.steps.share.Goals as goal
 
-pub returns-clause-value : goal.returns-clause-value
-returns-clause-value c j h =
-    let w = signed_param 16 c.args.w _ c.well_formed.0 in
-    let m = signed_mul w (signed_splat 16 _ c.args.k (stands_of c.args.k c.ranges.k))
-    (λ i g. let p = weight_in (lane c.args.w i) c.args.k (c.requires.w_in i g) c.requires.k_in.0 c.requires.k_in.1 in (omega (arith, ints), omega (arith, ints))) in
-    let s = signed_add m (signed_splat 16 63 (pos 63) (stands_pos 63 (omega arith)))
-    (λ i g. let p = weight_in (lane c.args.w i) c.args.k (c.requires.w_in i g) c.requires.k_in.0 c.requires.k_in.1 in (omega (arith, ints), omega (arith, ints))) in
-    signed_out (signed_param 16 c.clamp_i16.result _ c.clamp_i16.type_inv) j h ∙ (c.clamp_i16.ensures j h ∙ ap clamp8 (signed_out (signed_shr s 7) j h))
+pub overflow_cast-result-3 : goal.overflow_cast-result-3
+overflow_cast-result-3 c =
+    let w = mapped (act1 (cast unsigned unsigned w16) (s_int w8) (s_int w16)) (lanes_of 0 16 c.args.w c.fits-w.0) in
+    let m = zipped (act2 wrap_mul (s_int w16) (s_int w16) (s_int w16)) w (splatted 16 c.args.k) in
+    let s = zipped (act2 wrap_add (s_int w16) (s_int w16) (s_int w16)) m (splatted 16 63) in
+    each_lane (Asks1 (cast unsigned unsigned w8) (s_int w16)) (zipped (act2 (shr unsigned) (s_int w16) (s_int w16) (s_int w16)) s (splatted 16 7))
+    (λ j h. record { fits = shared_small _ c.args.k (byte_lane _ c.fits-w j h) c.requires })
 
-pub returns-clause-range : goal.returns-clause-range
-returns-clause-range c j h = subst (λ (z : ℤ). InByte z) (sym (returns-clause-value c j h)) (clamp8_in (shr_z (lane c.args.w j *ℤ c.args.k +ℤ pos 63) 128))
+pub returns : goal.returns
+returns c j h =
+    let w = mapped (act1 (cast unsigned unsigned w16) (s_int w8) (s_int w16)) (lanes_of 0 16 c.args.w c.fits-w.0) in
+    let m = zipped (act2 wrap_mul (s_int w16) (s_int w16) (s_int w16)) w (splatted 16 c.args.k) in
+    let s = zipped (act2 wrap_add (s_int w16) (s_int w16) (s_int w16)) m (splatted 16 63) in
+    let t = mapped (act1 (cast unsigned unsigned w8) (s_int w16) (s_int w8)) (zipped (act2 (shr unsigned) (s_int w16) (s_int w16) (s_int w16)) s (splatted 16 7)) in
+    ap (λ (n : ℕ). pos n -ℤ pos c.args.k) (lane_is 0 t j h) ∙ share_is _ c.args.k (byte_lane _ c.fits-w j h) c.requires

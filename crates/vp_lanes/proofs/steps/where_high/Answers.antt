@@ -1,23 +1,16 @@
-use Rattle.std.proofs.Common.{subst, sym, ℤ, nat_lt, get_or, arith, ◌∙◌, ap, cond, pos}
-use Rattle.vp_lanes.proofs.Shape.{lanes_of, mapped, zipped, splatted}
-use Rattle.vp_lanes.proofs.Signed.{signed_param, signed_splat, stands_pos, signed_select, signed_out}
-use Rattle.vp_lanes.specs.Lane.{lane}
-use mir.Syntax.{w8, w16, lt, mask, cast, unsigned}
+use Rattle.std.proofs.Common.{◌∙◌, ap, ℕ, Bool, cond, get_or, pos, ◌-ℤ◌}
+use Rattle.vp_lanes.proofs.Shape.{lanes_of, mapped, zipped, selected, splatted, lane_is}
+use mir.Syntax.{w8, lt, mask, unsigned}
 use lib.Lanes.{top}
-use borrow.Rule.Simd.Lanes.{act1, act2}
+use borrow.Rule.Simd.Lanes.{act2}
 use borrow.Table.Row.{s_int}
-use Rattle.vp_lanes.proofs.Bytes.{one_top}
-use Rattle.vp_lanes.proofs.Ranges.{InByte, pick_in, zero_in}
+use Rattle.vp_lanes.proofs.Bytes.{one_top, high_is}
 use Rattle.vp_lanes.proofs.steps.where_high.Goals as goal
 
-pub returns-clause-value : goal.returns-clause-value
-returns-clause-value c j h =
-    let high = zipped (act2 (mask (lt unsigned)) (s_int w16) (s_int w16) (s_int w16)) (splatted 16 c.args.threshold)
-    (mapped (act1 (cast unsigned unsigned w16) (s_int w8) (s_int w16)) (lanes_of 0 16 c.args.apart c.fits-apart.0)) in
-    let w = signed_param 16 c.args.w _ c.well_formed.0 in
-    let zero = signed_splat 16 0 (pos 0) (stands_pos 0 (omega arith)) in
-    signed_out (signed_select w zero (mapped (top 15) high)) j h
-    ∙ ap (λ t. cond t (lane c.args.w j) (pos 0)) (one_top _)
-
-pub returns-clause-range : goal.returns-clause-range
-returns-clause-range c j h = subst (λ (z : ℤ). InByte z) (sym (returns-clause-value c j h)) (pick_in (nat_lt c.args.threshold (get_or c.args.apart j 0)) (lane c.args.w j) (pos 0) (c.requires j h) zero_in)
+pub returns : goal.returns
+returns c j h =
+    let w = lanes_of 0 16 c.args.w c.fits-w.0 in
+    let z = splatted 16 c.args.held_by in
+    let high = mapped (top 7) (zipped (act2 (mask (lt unsigned)) (s_int w8) (s_int w8) (s_int w8)) (splatted 16 c.args.threshold) (lanes_of 0 16 c.args.apart c.fits-apart.0)) in
+    ap (λ (n : ℕ). pos n -ℤ pos c.args.held_by) (lane_is 0 (selected high w z) j h
+    ∙ ap (λ (t : Bool). cond t (get_or c.args.w j 0) c.args.held_by) (one_top _)) ∙ high_is _ _ c.args.held_by
