@@ -135,6 +135,7 @@ fn copied_rows<const N: usize, const L: usize>(
 }
 
 /// The horizontal pass over `rows` rows of the reference.
+#[inline(never)]
 fn pass_rows<const N: usize, const W: usize, const L: usize>(
     plane: &Plane,
     left: i32,
@@ -166,6 +167,7 @@ fn pass_rows<const N: usize, const W: usize, const L: usize>(
 
 /// The vertical pass over rows of `N`, of which there are five more than it makes: sixteen pixels at a time, whatever
 /// the rows that they stand in.
+#[inline(never)]
 fn pass_columns<const N: usize, const M: usize>(rows: &[u8], weights: &[i16; 6]) -> [u8; M]
     requires size { N ≤ 16 }
     requires all { length rows.now ≡ (N + 5) * N }

@@ -3,6 +3,7 @@
 
 mod block;
 mod filter;
+mod into;
 #[cfg(test)]
 mod plain;
 mod reference;
@@ -11,5 +12,6 @@ mod tests;
 mod vector;
 
 pub use block::{predict_block4, predict_block8, predict_block16};
+pub use into::{predict_into4, predict_into8, predict_into16};
 pub use reference::nearest;
 pub use vector::{PlaneVector, chroma_vector, luma_vector};

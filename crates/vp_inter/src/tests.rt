@@ -1,8 +1,9 @@
-ghost use Rattle.std.specs.Prelude.{◌<◌};
+ghost use Rattle.std.specs.Prelude.{◌<◌, ◌≤◌};
 
 use super::*;
+use std::alloc::{AllocError, Global};
 use std::test::Fail;
-use vp_base::Plane;
+use vp_base::{Dim, Limits, Picture, Plane};
 
 /// Makes three columns 0, of a plane of 16 columns.
 fn darken(plane: &mut Plane) {
@@ -119,5 +120,81 @@ fn lanes_predict_as_pixels(rt: HostRuntime) -> Result<(), Fail> {
     }
     assert!(rt; 0 < plane.width() && 0 < plane.height());
     assert_eq!(rt; first_difference(&plane), None);
+    Ok(())
+}
+
+/// The pixel wanted at a place: of the block of rows of `size` that begins at column and row `at`, or 7 round it.
+fn wanted(block: &[u8], size: usize, at: usize, x: usize, y: usize) -> u8 {
+    let [column, row] = [x.wrapping_sub(at), y.wrapping_sub(at)];
+    if column >= size || row >= size {
+        return 7;
+    }
+    match block.get(row.wrapping_mul(size).wrapping_add(column)) {
+        Some(pixel) => *pixel,
+        None => 0,
+    }
+}
+
+/// Whether row `y` has the pixels wanted.
+fn has_row(row: &[u8], block: &[u8], size: usize, at: usize, y: usize) -> bool {
+    for x in 0..row.len() {
+        if row[x] != wanted(block, size, at, x, y) {
+            return false;
+        }
+    }
+    true
+}
+
+/// Whether a plane has the block at column and row `at`, and 7 round it.
+fn has_block(plane: &Plane, block: &[u8], size: usize, at: usize) -> bool {
+    for y in 0..plane.height() {
+        if !has_row(plane.row(y), block, size, at, y) {
+            return false;
+        }
+    }
+    true
+}
+
+/// Whether blocks of each size, written to the three planes of a picture of 7, stand there and leave the rest.
+fn are_written(
+    alloc: Global,
+    dim: Dim,
+    reference: &Plane,
+    vector: PlaneVector,
+) -> Result<bool, AllocError>
+    requires wide { 0 < reference.now.width }
+    requires high { 0 < reference.now.height }
+    requires columns { 48 ≤ dim.w }
+    requires rows { 48 ≤ dim.h }
+{
+    let large = plain::predict::<16, 21, 336, 256>(reference, 16, 16, vector, 0);
+    let middle = plain::predict::<8, 13, 104, 64>(reference, 8, 8, vector, 0);
+    let small = plain::predict::<4, 9, 36, 16>(reference, 8, 8, vector, 0);
+    let mut picture = Picture::new(alloc, dim, 7)?;
+    predict_into16(&mut picture, 0, 16, 16, reference, vector, 0);
+    predict_into8(&mut picture, 1, 8, 8, reference, vector, 0);
+    predict_into4(&mut picture, 2, 8, 8, reference, vector, 0);
+    Ok(
+        has_block(picture.plane(0), &large, 16, 16)
+            && has_block(picture.plane(1), &middle, 8, 8)
+            && has_block(picture.plane(2), &small, 4, 8),
+    )
+}
+
+#[test]
+fn blocks_are_written_where_they_stand(rt: HostRuntime) -> Result<(), Fail> {
+    let mut reference = Plane::new(rt.alloc(), 48, 48, 0)?;
+    for y in 0..48 {
+        assert!(rt; y < reference.height());
+        fill(reference.row_mut(y), y);
+    }
+    assert!(rt; 0 < reference.width() && 0 < reference.height());
+    let Ok(dim) = Dim::new(48, 48, &Limits::usual()) else {
+        panic!(rt; "a usual size");
+    };
+    for (row, column) in [(0, 0), (16, -8), (3, 5), (-4000, 4001)] {
+        let vector = PlaneVector { row, column };
+        assert!(rt; are_written(rt.alloc(), dim, &reference, vector)?);
+    }
     Ok(())
 }

@@ -1,8 +1,10 @@
 -- What is kept of residues, and its sum with prediction.
-use Rattle.std.proofs.Common.{◌≡◌, ◌∙◌, ℕ, ◌+◌, ◌*◌, ◌<◌, ◌≤◌, ℤ, pos, negsuc, ◌+ℤ◌, ◌≤ℤ◌, min, List, ◌∷◌, unsigned_abs, get_or, to_z, of_z, w16, ◌^◌, replicate, refl, sym, ap, arith, inl, inr}
+use Rattle.std.proofs.Common.{◌≡◌, ◌∙◌, ℕ, ◌+◌, ◌*◌, ◌<◌, ◌≤◌, ℤ, pos, negsuc, ◌+ℤ◌, ◌≤ℤ◌, min, List, [], ◌∷◌, map, zero, suc, unsigned_abs, get_or, to_z, of_z, w16, ◌^◌, replicate, refl, sym, ap, arith, inl, inr}
 use Rattle.std.proofs.lemmas.Bool.{cases_lt}
-use Rattle.std.proofs.lemmas.Int.{ints, to_z-of_z}
+use Rattle.std.proofs.lemmas.Int.{ints, clamps, to_z-of_z}
 use Rattle.std.proofs.lemmas.List.{get_or-replicate}
+use Rattle.std.specs.Int.{int_min, int_max}
+use mir.Val.{SFits}
 use Rattle.vp_transform.proofs.Sizes.{fits-below}
 use Rattle.vp_transform.proofs.Words.{coded, read}
 use Rattle.vp_transform.specs.Transform.{idct}
@@ -30,6 +32,28 @@ summed-cut p (negsuc n) fits = elim (cases_lt n 32767) [
   | inr large ↦ summed-low p (min n 32767) (omega arith) ∙ sym (summed-low p n (omega arith))
 ]
 
+-- ---- in lanes
+lanes_byte : (z : ℤ) → unsigned_abs (int_min (pos 255) (int_max (pos 0) z)) ≡ to_byte z
+lanes_byte (pos n) = let e : int_min (pos 255) (int_max (pos 0) (pos n)) ≡ pos (min n 255) = omega (arith, ints, clamps) in ap unsigned_abs e
+lanes_byte (negsuc n) = let e : int_min (pos 255) (int_max (pos 0) (negsuc n)) ≡ pos 0 = omega (arith, ints, clamps) in ap unsigned_abs e
+
+-- A number of i16 held to 255 adds as much as the number itself.
+pub lanes_sum : (p : ℕ) (z : ℤ) → p < 256 → unsigned_abs (int_min (pos 255) (int_max (pos 0) (pos p +ℤ int_min (pos 255) (int_max (negsuc 32767) z)))) ≡ summed p z
+unfolding summed
+lanes_sum p z byte =
+    let e : int_min (pos 255) (int_max (pos 0) (pos p +ℤ int_min (pos 255) (int_max (negsuc 32767) z))) ≡ int_min (pos 255) (int_max (pos 0) (pos p +ℤ z)) = omega (arith, ints, clamps) in
+    ap unsigned_abs e ∙ lanes_byte (pos p +ℤ z)
+
+-- numbers of i16, as lanes have them
+pub lane_kept : (numbers : List ℤ) (i : ℕ) → SFits w16 (get_or numbers i (pos 0)) → get_or (map (to_z w16) (map (of_z w16) numbers)) i (pos 0) ≡ get_or numbers i (pos 0)
+lane_kept numbers i fits = coded_at numbers i ∙ to_z-of_z w16 (get_or numbers i (pos 0)) fits
+  where
+    coded_at : (zs : List ℤ) (j : ℕ) → get_or (map (to_z w16) (map (of_z w16) zs)) j (pos 0) ≡ to_z w16 (of_z w16 (get_or zs j (pos 0)))
+    coded_at [] j = refl
+    coded_at (z ∷ zs) zero = refl
+    coded_at (z ∷ zs) (suc j) = coded_at zs j
+
+-- ---- what is kept
 -- a number that is cut gives the sums of the whole one
 pub cut_kept : (kept residue : List ℤ) → ((i : ℕ) → i < 16 → get_or kept i (pos 0) ≡ cut (get_or residue i (pos 0))) → IsKept kept residue
 cut_kept kept residue e i below pixel byte = ap (summed pixel) (e i below) ∙ summed-cut pixel (get_or residue i (pos 0)) byte

@@ -1,7 +1,8 @@
 pub mod Parts
 pub mod KeptLemmas
-pub mod WholeLemmas
+pub mod SubblockLemmas
 pub mod PlaneLemmas
+pub mod AddLemmas
 pub mod MovedLemmas
 pub mod LumaLemmas
 pub mod ResidueLemmas

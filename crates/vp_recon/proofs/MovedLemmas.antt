@@ -9,26 +9,43 @@ use Rattle.vp_inter.specs.declared.vector.PlaneVector.{PlaneVector}
 use Rattle.vp_inter.specs.Inter.{reference_pixel, across, inter_pixel}
 use Rattle.vp_inter.specs.Vectors.{fraction, start, luma_vector, chroma_vector}
 use Rattle.vp_inter.specs.Filter.{taps, filter_six}
-use Rattle.vp_recon.specs.Rebuilt.{summed}
+use Rattle.vp_inter.proofs.FilterLemmas.{filtered_bound}
 use Rattle.vp_recon.specs.Prediction.{moved_pixel, four_from, luma_moved, chroma_moved}
-use Rattle.vp_recon.specs.Kept.{moved_sum}
+use Rattle.vp_recon.specs.Kept.{sub_of_quarter}
 use Rattle.vp_recon.proofs.Parts.{sub_at, subblock_has}
 
-moved_at : (version : ℕ) (reference : Raster) (x y : ℕ) (vector : ℕ → PlaneVector) (residue : ℕ → List ℤ) (a b n r c a' b' n' r' c' : ℕ)
-    → a ≡ a' → b ≡ b' → n ≡ n' → r ≡ r' → c ≡ c'
-    → summed (inter_pixel version reference (x + 4 * a) (y + 4 * b) (vector n) r c) (get_or (residue n) (4 * r + c) (pos 0))
-    ≡ summed (inter_pixel version reference (x + 4 * a') (y + 4 * b') (vector n') r' c') (get_or (residue n') (4 * r' + c') (pos 0))
-moved_at version reference x y vector residue a b n r c a' b' n' r' c' ea eb en er ec = cc
+moved_at : (version : ℕ) (reference : Raster) (vector : ℕ → PlaneVector) (x y n r c x' y' n' r' c' : ℕ)
+    → x ≡ x' → y ≡ y' → n ≡ n' → r ≡ r' → c ≡ c' → inter_pixel version reference x y (vector n) r c ≡ inter_pixel version reference x' y' (vector n') r' c'
+moved_at version reference vector x y n r c x' y' n' r' c' ex ey en er ec = cc
 
 -- a pixel of subblock k
-pub moved_part : (version : ℕ) (reference : Raster) (x y across : ℕ) (vector : ℕ → PlaneVector) (residue : ℕ → List ℤ) (k r c : ℕ) → 0 < across → r < 4 → c < 4
-    → summed (inter_pixel version reference (x + 4 * (k % across)) (y + 4 * (k / across)) (vector k) r c) (get_or (residue k) (4 * r + c) (pos 0))
-    ≡ moved_sum version reference x y across vector residue (4 * (k / across) + r) (4 * (k % across) + c)
-moved_part version reference x y across vector residue k r c some rin cin =
-    sym (moved_at version reference x y vector residue
-    ((4 * (k % across) + c) / 4) ((4 * (k / across) + r) / 4) (sub_at across (4 * (k / across) + r) (4 * (k % across) + c)) ((4 * (k / across) + r) % 4) ((4 * (k % across) + c) % 4)
-    (k % across) (k / across) k r c
+pub moved_part : (version : ℕ) (reference : Raster) (x y across : ℕ) (vector : ℕ → PlaneVector) (k r c : ℕ) → 0 < across → r < 4 → c < 4
+    → inter_pixel version reference (x + 4 * (k % across)) (y + 4 * (k / across)) (vector k) r c
+    ≡ moved_pixel version reference x y across vector (4 * (k / across) + r) (4 * (k % across) + c)
+moved_part version reference x y across vector k r c some rin cin =
+    sym (moved_at version reference vector
+    (x + 4 * ((4 * (k % across) + c) / 4)) (y + 4 * ((4 * (k / across) + r) / 4)) (sub_at across (4 * (k / across) + r) (4 * (k % across) + c)) ((4 * (k / across) + r) % 4) ((4 * (k % across) + c) % 4)
+    (x + 4 * (k % across)) (y + 4 * (k / across)) k r c
     (omega arith) (omega arith) (subblock_has across k r c some rin cin) (omega arith) (omega arith))
+
+-- a pixel of a quarter of luma
+pub moved_quarter : (version : ℕ) (reference : Raster) (x y : ℕ) (vector : ℕ → PlaneVector) (n r c : ℕ) → r < 8 → c < 8
+    → moved_pixel version reference (x + 8 * (n % 2)) (y + 8 * (n / 2)) 2 (λ k. vector (sub_of_quarter n k)) r c
+    ≡ moved_pixel version reference x y 4 vector (8 * (n / 2) + r) (8 * (n % 2) + c)
+moved_quarter version reference x y vector n r c rin cin =
+    moved_at version reference vector
+    (x + 8 * (n % 2) + 4 * (c / 4)) (y + 8 * (n / 2) + 4 * (r / 4)) (sub_of_quarter n (2 * (r / 4) + c / 4)) (r % 4) (c % 4)
+    (x + 4 * ((8 * (n % 2) + c) / 4)) (y + 4 * ((8 * (n / 2) + r) / 4)) (4 * ((8 * (n / 2) + r) / 4) + (8 * (n % 2) + c) / 4) ((8 * (n / 2) + r) % 4) ((8 * (n % 2) + c) % 4)
+    (omega arith) (omega arith) (omega arith) (omega arith) (omega arith)
+
+-- pixels that are moved are bytes
+pub inter_bound : (version : ℕ) (reference : Raster) (x y : ℕ) (v : PlaneVector) (r c : ℕ) → inter_pixel version reference x y v r c ≤ 255
+unfolding inter_pixel
+inter_bound version reference x y v r c =
+    filtered_bound (taps version (fraction v.row)) (above 0) (above 1) (above 2) (above 3) (above 4) (above 5)
+  where
+    above : ℕ → ℕ
+    above k = across (taps version (fraction v.column)) reference (start x v.column) (start y v.row) (r + k) c
 
 -- ---- a block that moves as a whole
 

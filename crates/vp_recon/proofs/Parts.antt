@@ -103,58 +103,90 @@ part_fits across k some below =
     let row : k / across < across = div_below k across across some below in
     (omega arith, omega arith)
 
--- the pixels f of the subblocks before k, and g of the others
-abbrev pub until : ℕ → ℕ → (ℕ → ℕ → ℕ) → (ℕ → ℕ → ℕ) → ℕ → ℕ → ℕ
-until across k f g r c = cond (nat_lt (sub_at across r c) k) (f r c) (g r c)
+-- the pixels f of the parts before k, and g of the others, where row r and column c lie in part `at r c`
+abbrev pub until : (ℕ → ℕ → ℕ) → ℕ → (ℕ → ℕ → ℕ) → (ℕ → ℕ → ℕ) → ℕ → ℕ → ℕ
+until at k f g r c = cond (nat_lt (at r c) k) (f r c) (g r c)
 
-module _ (p : Raster) (x y across : ℕ) (f g : ℕ → ℕ → ℕ) where
-  pub until_none : with_block p x y (4 * across) (4 * across) g ≡ with_block p x y (4 * across) (4 * across) (until across 0 f g)
-  until_none = with_block_same p x y (4 * across) (4 * across) g (until across 0 f g)
-      (λ r c rin cin. ap (λ (t : Bool). cond t (f r c) (g r c)) (sym (le-ltb (sub_at across r c) 0 (omega arith))))
+module _ (p : Raster) (x y n : ℕ) (at : ℕ → ℕ → ℕ) (f g : ℕ → ℕ → ℕ) where
+  pub until_none : with_block p x y n n g ≡ with_block p x y n n (until at 0 f g)
+  until_none = with_block_same p x y n n g (until at 0 f g)
+      (λ r c rin cin. ap (λ (t : Bool). cond t (f r c) (g r c)) (sym (le-ltb (at r c) 0 (omega arith))))
 
-  later : (k r c : ℕ) → (sub_at across r c ≡ k → ⊥) → until across k f g r c ≡ until across (k + 1) f g r c
-  later k r c apart = ap (λ (t : Bool). cond t (f r c) (g r c)) (elim (cases_order (sub_at across r c) k) [
+  later : (k r c : ℕ) → (at r c ≡ k → ⊥) → until at k f g r c ≡ until at (k + 1) f g r c
+  later k r c apart = ap (λ (t : Bool). cond t (f r c) (g r c)) (elim (cases_order (at r c) k) [
     | inl same ↦ absurd (apart same)
-    | inr (inl below) ↦ lt-ltb (sub_at across r c) k below ∙ sym (lt-ltb (sub_at across r c) (k + 1) (omega arith))
-    | inr (inr above) ↦ le-ltb (sub_at across r c) k (omega arith) ∙ sym (le-ltb (sub_at across r c) (k + 1) (omega arith))
+    | inr (inl below) ↦ lt-ltb (at r c) k below ∙ sym (lt-ltb (at r c) (k + 1) (omega arith))
+    | inr (inr above) ↦ le-ltb (at r c) k (omega arith) ∙ sym (le-ltb (at r c) (k + 1) (omega arith))
   ])
 
-  -- subblock k is as it was
-  pub until_same : (k : ℕ) → ((r c : ℕ) → r < 4 * across → c < 4 * across → sub_at across r c ≡ k → f r c ≡ g r c)
-      → with_block p x y (4 * across) (4 * across) (until across k f g) ≡ with_block p x y (4 * across) (4 * across) (until across (k + 1) f g)
-  until_same k alike = with_block_same p x y (4 * across) (4 * across) (until across k f g) (until across (k + 1) f g)
-      (λ r c rin cin. elim (cases_order (sub_at across r c) k) [
+  -- part k is as it was
+  pub until_same : (k : ℕ) → ((r c : ℕ) → r < n → c < n → at r c ≡ k → f r c ≡ g r c)
+      → with_block p x y n n (until at k f g) ≡ with_block p x y n n (until at (k + 1) f g)
+  until_same k alike = with_block_same p x y n n (until at k f g) (until at (k + 1) f g)
+      (λ r c rin cin. elim (cases_order (at r c) k) [
         | inl same ↦
-            ap (λ (t : Bool). cond t (f r c) (g r c)) (le-ltb (sub_at across r c) k (omega arith))
+            ap (λ (t : Bool). cond t (f r c) (g r c)) (le-ltb (at r c) k (omega arith))
             ∙ sym (alike r c rin cin same)
-            ∙ sym (ap (λ (t : Bool). cond t (f r c) (g r c)) (lt-ltb (sub_at across r c) (k + 1) (omega arith)))
+            ∙ sym (ap (λ (t : Bool). cond t (f r c) (g r c)) (lt-ltb (at r c) (k + 1) (omega arith)))
         | inr (inl below) ↦ later k r c (λ e. omega arith)
         | inr (inr above) ↦ later k r c (λ e. omega arith)
       ])
 
-  -- subblock k is written
-  pub until_more : (k : ℕ) (h : ℕ → ℕ → ℕ) → 0 < across → k < across * across
-      → ((r c : ℕ) → r < 4 → c < 4 → h r c ≡ f (4 * (k / across) + r) (4 * (k % across) + c))
-      → with_block (with_block p x y (4 * across) (4 * across) (until across k f g)) (x + 4 * (k % across)) (y + 4 * (k / across)) 4 4 h
-      ≡ with_block p x y (4 * across) (4 * across) (until across (k + 1) f g)
-  until_more k h some total is =
-      let fits = part_fits across k some total in
-      with_block_inside p x y (4 * across) (until across k f g) (4 * (k % across)) (4 * (k / across)) 4 h (until across (k + 1) f g)
-      fits.0 fits.1
+  -- part k is written: m columns and rows from column a of row b on
+  pub until_written : (k a b m : ℕ) (h : ℕ → ℕ → ℕ) → a + m ≤ n → b + m ≤ n
+      → ((r c : ℕ) → r < m → c < m → at (b + r) (a + c) ≡ k)
+      → ((r c : ℕ) → r < n → c < n → at r c ≡ k → is_in_block a b m m c r ≡ true)
+      → ((r c : ℕ) → r < m → c < m → h r c ≡ f (b + r) (a + c))
+      → with_block (with_block p x y n n (until at k f g)) (x + a) (y + b) m m h ≡ with_block p x y n n (until at (k + 1) f g)
+  until_written k a b m h afits bfits has lies is =
+      with_block_inside p x y n (until at k f g) a b m h (until at (k + 1) f g) afits bfits
       (λ r c rin cin.
-      let has : sub_at across (4 * (k / across) + r) (4 * (k % across) + c) ≡ k = subblock_has across k r c some rin cin in
-      is r c rin cin
-      ∙ sym (ap (λ (t : Bool). cond t (f (4 * (k / across) + r) (4 * (k % across) + c)) (g (4 * (k / across) + r) (4 * (k % across) + c)))
-      (lt-ltb (sub_at across (4 * (k / across) + r) (4 * (k % across) + c)) (k + 1) (omega arith))))
+      let e : at (b + r) (a + c) ≡ k = has r c rin cin in
+      is r c rin cin ∙ sym (ap (λ (t : Bool). cond t (f (b + r) (a + c)) (g (b + r) (a + c))) (lt-ltb (at (b + r) (a + c)) (k + 1) (omega arith))))
       (λ r c rin cin past. later k r c (λ same.
-      let at : (r / 4 ≡ k / across) × (c / 4 ≡ k % across) = subblock_is across k r c some cin same in
-      let inside : is_in_block (4 * (k % across)) (4 * (k / across)) 4 4 c r ≡ true = in_it (4 * (k % across)) (4 * (k / across)) 4 4 c r (omega (arith, at)) (omega (arith, at)) (omega (arith, at)) (omega (arith, at)) in
+      let inside : is_in_block a b m m c r ≡ true = lies r c rin cin same in
       let never : true ≡ false = sym inside ∙ past in cc))
 
   -- all of them
-  pub until_all : (k : ℕ) → k ≡ across * across
-      → with_block p x y (4 * across) (4 * across) (until across k f g) ≡ with_block p x y (4 * across) (4 * across) f
-  until_all k all = with_block_same p x y (4 * across) (4 * across) (until across k f g) f
+  pub until_all : (k : ℕ) → ((r c : ℕ) → r < n → c < n → at r c < k) → with_block p x y n n (until at k f g) ≡ with_block p x y n n f
+  until_all k all = with_block_same p x y n n (until at k f g) f
       (λ r c rin cin.
-      let below : sub_at across r c < across * across = sub_below across r c rin cin in
-      ap (λ (t : Bool). cond t (f r c) (g r c)) (lt-ltb (sub_at across r c) k (omega arith)))
+      let below : at r c < k = all r c rin cin in
+      ap (λ (t : Bool). cond t (f r c) (g r c)) (lt-ltb (at r c) k (omega arith)))
+
+-- ---- by subblocks
+module _ (p : Raster) (x y across : ℕ) (f g : ℕ → ℕ → ℕ) where
+  pub sub_written : (k : ℕ) (h : ℕ → ℕ → ℕ) → 0 < across → k < across * across
+      → ((r c : ℕ) → r < 4 → c < 4 → h r c ≡ f (4 * (k / across) + r) (4 * (k % across) + c))
+      → with_block (with_block p x y (4 * across) (4 * across) (until (sub_at across) k f g)) (x + 4 * (k % across)) (y + 4 * (k / across)) 4 4 h
+      ≡ with_block p x y (4 * across) (4 * across) (until (sub_at across) (k + 1) f g)
+  sub_written k h some total is =
+      let fits = part_fits across k some total in
+      until_written p x y (4 * across) (sub_at across) f g k (4 * (k % across)) (4 * (k / across)) 4 h fits.0 fits.1
+      (λ r c rin cin. subblock_has across k r c some rin cin)
+      (λ r c rin cin same.
+      let at : (r / 4 ≡ k / across) × (c / 4 ≡ k % across) = subblock_is across k r c some cin same in
+      in_it (4 * (k % across)) (4 * (k / across)) 4 4 c r (omega (arith, at)) (omega (arith, at)) (omega (arith, at)) (omega (arith, at)))
+      is
+
+  pub subs_all : (k : ℕ) → k ≡ across * across
+      → with_block p x y (4 * across) (4 * across) (until (sub_at across) k f g) ≡ with_block p x y (4 * across) (4 * across) f
+  subs_all k all = until_all p x y (4 * across) (sub_at across) f g k
+      (λ r c rin cin. let below : sub_at across r c < across * across = sub_below across r c rin cin in omega arith)
+
+-- ---- by quarters of 16 by 16 pixels
+abbrev pub quarter_at : ℕ → ℕ → ℕ
+quarter_at r c = 2 * (r / 8) + c / 8
+
+module _ (p : Raster) (x y : ℕ) (f g : ℕ → ℕ → ℕ) where
+  pub quarter_written : (k : ℕ) (h : ℕ → ℕ → ℕ) → k < 4
+      → ((r c : ℕ) → r < 8 → c < 8 → h r c ≡ f (8 * (k / 2) + r) (8 * (k % 2) + c))
+      → with_block (with_block p x y 16 16 (until quarter_at k f g)) (x + 8 * (k % 2)) (y + 8 * (k / 2)) 8 8 h ≡ with_block p x y 16 16 (until quarter_at (k + 1) f g)
+  quarter_written k h total is =
+      until_written p x y 16 quarter_at f g k (8 * (k % 2)) (8 * (k / 2)) 8 h (omega arith) (omega arith)
+      (λ r c rin cin. omega arith)
+      (λ r c rin cin same. in_it (8 * (k % 2)) (8 * (k / 2)) 8 8 c r (omega arith) (omega arith) (omega arith) (omega arith))
+      is
+
+  pub quarters_all : (k : ℕ) → k ≡ 4 → with_block p x y 16 16 (until quarter_at k f g) ≡ with_block p x y 16 16 f
+  quarters_all k all = until_all p x y 16 quarter_at f g k (λ r c rin cin. omega arith)

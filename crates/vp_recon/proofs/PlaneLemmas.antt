@@ -1,20 +1,18 @@
--- One plane of a picture written block after block.
+-- One plane of a picture written step after step.
 use Rattle.std.proofs.Common.{◌≡◌, ◌∙◌, ℕ, ap}
 use Rattle.vp_base.specs.Raster.{Raster}
 use Rattle.vp_base.specs.Image.{Image, plane_of, with_plane}
-use Rattle.vp_base.specs.Block.{with_block}
 use Rattle.vp_base.proofs.ImageLemmas.{plane_of-with_plane, with_plane-with_plane}
 
-module _ (p now next : Image) (n x y w h : ℕ) (f : ℕ → ℕ → ℕ) (written : next ≡ with_plane now n (with_block (plane_of now n) x y w h f)) where
-  pub block_next : (q : Raster) → now ≡ with_plane p n q → next ≡ with_plane p n (with_block q x y w h f)
-  block_next q is =
+module _ (p now next : Image) (n : ℕ) (step : Raster → Raster) (written : next ≡ with_plane now n (step (plane_of now n))) where
+  -- the plane was q, and now is q with a step more
+  pub plane_next : (q : Raster) → now ≡ with_plane p n q → next ≡ with_plane p n (step q)
+  plane_next q is =
       written
-      ∙ ap (λ (i : Image). with_plane i n (with_block (plane_of i n) x y w h f)) is
-      ∙ with_plane-with_plane p n q (with_block (plane_of (with_plane p n q) n) x y w h f)
-      ∙ ap (λ (r : Raster). with_plane p n (with_block r x y w h f)) (plane_of-with_plane p n q)
+      ∙ ap (λ (i : Image). with_plane i n (step (plane_of i n))) is
+      ∙ with_plane-with_plane p n q (step (plane_of (with_plane p n q) n))
+      ∙ ap (λ (r : Raster). with_plane p n (step r)) (plane_of-with_plane p n q)
 
-  pub block_wide : (plane_of next n).width ≡ (plane_of now n).width
-  block_wide = ap (λ (i : Image). (plane_of i n).width) written ∙ ap (λ (r : Raster). r.width) (plane_of-with_plane now n (with_block (plane_of now n) x y w h f))
-
-  pub block_high : (plane_of next n).height ≡ (plane_of now n).height
-  block_high = ap (λ (i : Image). (plane_of i n).height) written ∙ ap (λ (r : Raster). r.height) (plane_of-with_plane now n (with_block (plane_of now n) x y w h f))
+  -- what the step keeps of the plane
+  pub plane_kept : (look : Raster → ℕ) → look (step (plane_of now n)) ≡ look (plane_of now n) → look (plane_of next n) ≡ look (plane_of now n)
+  plane_kept look keeps = ap (λ (i : Image). look (plane_of i n)) written ∙ ap look (plane_of-with_plane now n (step (plane_of now n))) ∙ keeps

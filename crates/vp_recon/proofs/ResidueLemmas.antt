@@ -1,5 +1,5 @@
 -- The coefficients of blocks with few tokens, and of blocks whose first one stands apart.
-use Rattle.std.proofs.Common.{◌≡◌, ◌∙◌, refl, ◌*ℤ◌, ℕ, zero, suc, ◌-◌, ◌≤◌, ℤ, pos, List, [], ◌∷◌, get_or, set, replicate, unsigned_abs, sym, ap, arith, inl, inr, nat_lt, false}
+use Rattle.std.proofs.Common.{◌≡◌, ◌∙◌, refl, ◌*ℤ◌, ℕ, zero, suc, ◌-◌, ◌≤◌, ℤ, pos, List, [], ◌∷◌, get_or, set, replicate, unsigned_abs, sym, ap, arith, inl, inr, nat_lt, false, ◌+◌, Option, None}
 use Rattle.std.proofs.lemmas.Bool.{cases_lt}
 use Rattle.std.proofs.lemmas.Bool.Decides.{nat_tests}
 use Rattle.std.proofs.lemmas.Int.{ints}
@@ -9,7 +9,11 @@ use Rattle.vp_tokens.specs.Block.{Block, IsBlock}
 use Rattle.vp_transform.specs.Fits.{EachWithin}
 use Rattle.vp_transform.specs.Transform.{idct, vertical, horizontal, iwht, hadamard_times, times_hadamard_rounded}
 use Rattle.vp_quant.specs.Quant.{dequantised}
+use Rattle.vp_tokens.specs.Blocks.{block_of}
 use Rattle.vp_recon.specs.Residue.{residue}
+use Rattle.vp_recon.specs.declared.residue.Residues.{Residues}
+use Rattle.vp_recon.specs.Parts.{with_first, residue_in}
+use Rattle.vp_recon.specs.Kept.{IsNothing}
 
 pub within_set : (b : ℕ) (zs : List ℤ) (z : ℤ) → EachWithin b zs → unsigned_abs z ≤ b → EachWithin b (set zs 0 z)
 within_set b [] z small fits i = small i
@@ -69,3 +73,10 @@ no_first levels dc ac =
 
 pub not_above : (n : ℕ) → nat_lt 0 n ≡ false → n ≡ 0
 not_above n e = grind (arith, nat_tests)
+
+-- a subblock without tokens, whose first coefficient doesn't stand apart
+pub nothing_in : (r : Residues) (k : ℕ) (b : Block) → IsBlock b → b ≡ block_of r.tokens.now (r.first + k) → r.firsts ≡ None → b.tokens ≡ 0 → IsNothing (residue_in r k)
+nothing_in r k b is same apart none i below =
+    ap (λ (o : Option (List ℤ)). get_or (idct (with_first o k (dequantised (block_of r.tokens.now (r.first + k)).levels r.dc r.ac))) i (pos 0)) apart
+    ∙ ap (λ (a : Block). get_or (idct (dequantised a.levels r.dc r.ac)) i (pos 0)) (sym same)
+    ∙ ap (λ (zs : List ℤ). get_or zs i (pos 0)) (no_residue b is r.dc r.ac none) ∙ get_or-replicate 16 i (pos 0) (pos 0) below

@@ -7,22 +7,20 @@ ghost use Rattle.vp_tables.specs.Modes.{is_split};
 ghost use Rattle.vp_inter.specs.declared.vector.PlaneVector.{PlaneVector};
 ghost use Rattle.vp_inter.specs.Vectors.{chroma_vector};
 ghost use Rattle.vp_recon.specs.Source.{Inter, macroblock_of};
-ghost use Rattle.vp_recon.specs.Prediction.{four_from, luma_moved, chroma_moved};
+ghost use Rattle.vp_recon.specs.Prediction.{four_from, moved_pixel, luma_moved, chroma_moved};
 ghost use Rattle.vp_recon.specs.Rebuilt.{luma_rebuilt, chroma_rebuilt};
-ghost use Rattle.vp_recon.specs.Kept.{AreVectors, moved_sum};
-ghost use Rattle.vp_recon.specs.Parts.{AreSmall, Gives};
+ghost use Rattle.vp_recon.specs.Kept.{AreVectors, sub_of_quarter};
 
-use crate::residue::{Residues, chroma_residues, luma_residues};
-use crate::whole::write_whole;
-use vp_base::{Picture, Place};
-use vp_inter::{
-    PlaneVector, chroma_vector, luma_vector, predict_block4, predict_block8, predict_block16,
-};
+use crate::add::add_residues;
+use crate::moved::predict_four;
+use crate::residue::{chroma_residues, luma_residues};
+use vp_base::{Picture, Place, Plane};
+use vp_inter::{PlaneVector, chroma_vector, luma_vector, predict_into8, predict_into16};
 use vp_motion::{Entry, Vector};
 use vp_quant::Factors;
 use vp_tokens::Tokens;
 
-/// Luma of an inter macroblock: at once, unless its parts have vectors of their own.
+/// Luma of an inter macroblock.
 pub(crate) fn rebuild_inter_luma(
     picture: &mut Picture,
     place: Place,
@@ -37,17 +35,32 @@ pub(crate) fn rebuild_inter_luma(
     ensures { picture.new ≡ with_plane picture.old 0 (luma_rebuilt (macroblock_of (Inter motion.now reference.now version) tokens.now factors.now) place picture.old.luma) }
 {
     let _size = [picture.plane(0).width(), picture.plane(0).height()];
+    let [x, y] = [16 * place.column, 16 * place.row];
+    predict_luma(picture, x, y, motion, reference, version);
+    let residues = luma_residues(!motion.mode.is_split(), tokens, factors);
+    add_residues::<4>(picture, 0, x, y, &residues);
+}
+
+/// Predicts luma: at once, unless its parts have vectors of their own.
+fn predict_luma(
+    picture: &mut Picture,
+    x: usize,
+    y: usize,
+    motion: &Entry,
+    reference: &Picture,
+    version: u8,
+)
+    requires columns { x + 16 ≤ picture.old.luma.width }
+    requires rows { y + 16 ≤ picture.old.luma.height }
+    ensures { picture.new ≡ with_plane picture.old 0 (with_block picture.old.luma x y 16 16 (moved_pixel version reference.now.luma x y 4 (luma_moved motion.now))) }
+{
     let _dim = reference.dim();
-    let split = motion.mode.is_split();
-    let residues = luma_residues(!split, tokens, factors);
-    if split {
-        let vectors = luma_vectors(motion);
-        write_moved::<4>(picture, 0, place, reference, version, &vectors, &residues);
+    let source = reference.plane(0);
+    if motion.mode.is_split() {
+        predict_quarters(picture, x, y, source, motion, version);
     } else {
-        let [x, y] = [16 * place.column, 16 * place.row];
         let vector = luma_vector_of(motion, 0);
-        let prediction = predict_block16(reference.plane(0), x, y, vector, version);
-        write_whole::<4>(picture, 0, x, y, &prediction, &residues);
+        predict_into16(picture, 0, x, y, source, vector, version);
     }
 }
 
@@ -68,18 +81,35 @@ pub(crate) fn rebuild_inter_chroma(
     ensures { picture.new ≡ with_plane picture.old plane (chroma_rebuilt (macroblock_of (Inter motion.now reference.now version) tokens.now factors.now) plane place (plane_of picture.old plane)) }
 {
     let _size = [picture.plane(plane).width(), picture.plane(plane).height()];
-    let _dim = reference.dim();
+    let [x, y] = [8 * place.column, 8 * place.row];
+    predict_chroma(picture, plane, x, y, motion, reference, version);
     let residues = chroma_residues(tokens, factors, plane);
+    add_residues::<2>(picture, plane, x, y, &residues);
+}
+
+/// Predicts one of the colour planes.
+fn predict_chroma(
+    picture: &mut Picture,
+    plane: usize,
+    x: usize,
+    y: usize,
+    motion: &Entry,
+    reference: &Picture,
+    version: u8,
+)
+    requires plane { plane < 3 }
+    requires columns { x + 8 ≤ (plane_of picture.old plane).width }
+    requires rows { y + 8 ≤ (plane_of picture.old plane).height }
+    ensures { picture.new ≡ with_plane picture.old plane (with_block (plane_of picture.old plane) x y 8 8 (moved_pixel version (plane_of reference.now plane) x y 2 (chroma_moved version motion.now))) }
+{
+    let _dim = reference.dim();
+    let source = reference.plane(plane);
     if motion.mode.is_split() {
         let vectors = chroma_vectors(version, motion);
-        write_moved::<2>(
-            picture, plane, place, reference, version, &vectors, &residues,
-        );
+        predict_four(picture, plane, x, y, source, &vectors, version);
     } else {
-        let [x, y] = [8 * place.column, 8 * place.row];
         let vector = chroma_vector_of(version, motion, 0);
-        let prediction = predict_block8(reference.plane(plane), x, y, vector, version);
-        write_whole::<2>(picture, plane, x, y, &prediction, &residues);
+        predict_into8(picture, plane, x, y, source, vector, version);
     }
 }
 
@@ -116,16 +146,19 @@ fn vector_of_four(version: u8, vectors: &[Vector; 16], first: usize) -> PlaneVec
     )
 }
 
-/// How the luma subblocks move.
-fn luma_vectors(motion: &Entry) -> [PlaneVector; 16]
-    ensures len { length result ≡ 16 }
-    ensures value { AreVectors 16 result (luma_moved motion.now) }
+/// How the four subblocks of a quarter of luma move.
+fn quarter_vectors(motion: &Entry, quarter: usize) -> [PlaneVector; 4]
+    requires { quarter < 4 }
+    ensures len { length result ≡ 4 }
+    ensures value { AreVectors 4 result (λ k. luma_moved motion.now (sub_of_quarter quarter k)) }
 {
-    let mut vectors = [PlaneVector { row: 0, column: 0 }; 16];
-    for k in 0..16 {
-        vectors[k] = luma_vector_of(motion, k);
-    }
-    vectors
+    let first = 8 * (quarter / 2) + 2 * (quarter % 2);
+    [
+        luma_vector_of(motion, first),
+        luma_vector_of(motion, first + 1),
+        luma_vector_of(motion, first + 4),
+        luma_vector_of(motion, first + 5),
+    ]
 }
 
 /// How the subblocks of either colour plane move.
@@ -141,43 +174,27 @@ fn chroma_vectors(version: u8, motion: &Entry) -> [PlaneVector; 4]
     ]
 }
 
-/// Writes a macroblock's block of one plane, `ACROSS` by `ACROSS` subblocks, each moved by a vector of its own and with
-/// its residue.
-fn write_moved<const ACROSS: usize>(
+/// Predicts luma whose subblocks have vectors of their own, a quarter after another.
+fn predict_quarters(
     picture: &mut Picture,
-    plane: usize,
-    place: Place,
-    reference: &Picture,
+    x: usize,
+    y: usize,
+    source: &Plane,
+    motion: &Entry,
     version: u8,
-    vectors: &[PlaneVector],
-    residues: &Residues,
 )
-    requires plane { plane < 3 }
-    requires some { 0 < ACROSS }
-    requires size { ACROSS ≤ 4 }
-    requires vectors { length vectors.now ≡ ACROSS * ACROSS }
-    requires blocks { residues.now.first + ACROSS * ACROSS ≤ 25 }
-    requires small { AreSmall residues.now }
-    requires columns { 4 * ACROSS * place.column + 4 * ACROSS ≤ (plane_of picture.old plane).width }
-    requires rows { 4 * ACROSS * place.row + 4 * ACROSS ≤ (plane_of picture.old plane).height }
-    requires wide { 0 < (plane_of reference.now plane).width }
-    requires high { 0 < (plane_of reference.now plane).height }
-    ensures { (vector : ℕ → PlaneVector) → (residue : ℕ → List ℤ) → AreVectors (ACROSS * ACROSS) vectors.now vector
-        → Gives (ACROSS * ACROSS) residues.now residue
-        → picture.new ≡ with_plane picture.old plane
-        (with_block (plane_of picture.old plane) (4 * ACROSS * place.column) (4 * ACROSS * place.row) (4 * ACROSS) (4 * ACROSS)
-        (moved_sum version (plane_of reference.now plane) (4 * ACROSS * place.column) (4 * ACROSS * place.row) ACROSS vector residue)) }
+    requires columns { x + 16 ≤ picture.old.luma.width }
+    requires rows { y + 16 ≤ picture.old.luma.height }
+    requires wide { 0 < source.now.width }
+    requires high { 0 < source.now.height }
+    ensures { picture.new ≡ with_plane picture.old 0 (with_block picture.old.luma x y 16 16 (moved_pixel version source.now x y 4 (luma_moved motion.now))) }
 {
-    let _width = picture.plane(plane).width();
-    let _height = picture.plane(plane).height();
-    let x = 4 * ACROSS * place.column;
-    let y = 4 * ACROSS * place.row;
-    let source = reference.plane(plane);
-    for k in 0..ACROSS * ACROSS {
-        let column = x + 4 * (k % ACROSS);
-        let row = y + 4 * (k / ACROSS);
-        let prediction = predict_block4(source, column, row, vectors[k], version);
-        let pixels = residues.added(&prediction, k);
-        picture.write_block(plane, column, row, 4, 4, &pixels);
+    let _width = picture.plane(0).width();
+    let _height = picture.plane(0).height();
+    for quarter in 0..4 {
+        let column = x + 8 * (quarter % 2);
+        let row = y + 8 * (quarter / 2);
+        let vectors = quarter_vectors(motion, quarter);
+        predict_four(picture, 0, column, row, source, &vectors, version);
     }
 }

@@ -7,8 +7,10 @@ ghost use Rattle.vp_recon.specs.Source.{Intra, macroblock_of};
 ghost use Rattle.vp_recon.specs.Residue.{residue};
 ghost use Rattle.vp_recon.specs.Rebuilt.{luma_rebuilt, chroma_rebuilt, with_sub};
 
+use crate::add::add_residues;
 use crate::residue::{block_of, chroma_residues, luma_residues, with_residue};
-use crate::whole::write_whole;
+use crate::subblock::store_subblock;
+use std::simd::prelude::*;
 use vp_base::{Picture, Place};
 use vp_intra::{predict_chroma, predict_luma, predict_sub};
 use vp_modes::Modes;
@@ -33,8 +35,9 @@ pub fn rebuild_subblock(
     let x = 4 * block.column;
     let y = 4 * block.row;
     let prediction = predict_sub(picture.plane(0), x, y, mode);
-    let pixels = with_residue(&prediction, levels, factors.y_dc, factors.y_ac);
-    picture.write_block(0, x, y, 4, 4, &pixels);
+    let prediction = u8x16::from_array(prediction);
+    let pixels = with_residue(prediction, levels, factors.y_dc, factors.y_ac);
+    store_subblock(picture, 0, x, y, pixels);
 }
 
 /// Luma of a macroblock whose subblocks have modes of their own.
@@ -80,8 +83,8 @@ pub(crate) fn rebuild_at_once(
     let x = 16 * place.column;
     let y = 16 * place.row;
     let prediction = predict_luma(picture.plane(0), x, y, modes.luma);
-    let residues = luma_residues(true, tokens, factors);
-    write_whole::<4>(picture, 0, x, y, &prediction, &residues);
+    picture.write_block(0, x, y, 16, 16, &prediction);
+    add_residues::<4>(picture, 0, x, y, &luma_residues(true, tokens, factors));
 }
 
 /// One of the colour planes of an intra macroblock.
@@ -103,6 +106,7 @@ pub(crate) fn rebuild_intra_chroma(
     let x = 8 * place.column;
     let y = 8 * place.row;
     let prediction = predict_chroma(picture.plane(plane), x, y, modes.chroma);
+    picture.write_block(plane, x, y, 8, 8, &prediction);
     let residues = chroma_residues(tokens, factors, plane);
-    write_whole::<2>(picture, plane, x, y, &prediction, &residues);
+    add_residues::<2>(picture, plane, x, y, &residues);
 }

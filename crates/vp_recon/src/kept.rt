@@ -1,24 +1,25 @@
 //! Sums of prediction and residue (chapter 14.5).
 
-ghost use Rattle.std.specs.Prelude.{◌≡◌, ℕ, ◌+◌, ◌*◌, ◌<◌, ◌≤◌, ℤ, pos, List, length, slice_index, slice_index_or};
+ghost use Rattle.std.specs.Prelude.{◌≡◌, ℕ, ◌+◌, ◌*◌, ◌<◌, ℤ, List, slice_index};
+ghost use Rattle.vp_lanes.specs.Lane.{lane};
 ghost use Rattle.vp_recon.specs.Rebuilt.{summed};
 ghost use Rattle.vp_recon.specs.Kept.{IsKept, AreSums};
 
-#[tactic(auto, unfolding(crate::specs::Rebuilt::summed))]
-fn add(pixel: u8, residue: i16) -> u8
-    ensures { result ≡ summed pixel residue }
+use std::simd::prelude::*;
+use vp_lanes::clamp_i16;
+
+/// Each pixel with its number. Numbers above 255 add no more than that.
+fn add(pixels: u8x16, numbers: i16x16) -> u8x16
+    ensures { (j : ℕ) → j < 16 → slice_index result j ≡ summed (slice_index pixels j) (lane numbers j) }
 {
-    (i32::from(pixel) + i32::from(residue)).clamp(0, 255) as u8
+    (pixels.cast::<i16>() + clamp_i16(numbers, i16::MIN, 255))
+        .simd_clamp(i16x16::splat(0), i16x16::splat(255))
+        .cast::<u8>()
 }
 
 /// The pixels of a subblock with the numbers that are kept of its residue.
-pub(crate) fn sums(prediction: &[u8; 16], numbers: &[i16; 16]) -> [u8; 16]
-    ensures len { length result ≡ 16 }
-    ensures value { (residue : List ℤ) → IsKept numbers.now residue → AreSums result prediction.now residue }
+pub(crate) fn sums(prediction: u8x16, numbers: [i16; 16]) -> u8x16
+    ensures { (residue : List ℤ) → IsKept numbers residue → AreSums result prediction residue }
 {
-    let mut pixels = [0; 16];
-    for i in 0..16 {
-        pixels[i] = add(prediction[i], numbers[i]);
-    }
-    pixels
+    add(prediction, i16x16::from_array(numbers))
 }

@@ -1,6 +1,7 @@
 //! Rebuilding of one macroblock: prediction plus residue (RFC 6386, chapters 12, 14 and 18).
 #![tactic(auto)]
 
+mod add;
 mod inter;
 #[cfg(test)]
 mod inter_tests;
@@ -8,11 +9,12 @@ mod intra;
 mod kept;
 mod laws;
 mod macroblock;
+mod moved;
 mod residue;
 mod source;
+mod subblock;
 #[cfg(test)]
 mod tests;
-mod whole;
 
 pub use intra::rebuild_subblock;
 pub use laws::{

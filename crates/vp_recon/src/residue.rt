@@ -10,6 +10,7 @@ ghost use Rattle.vp_recon.specs.Kept.{AreSums, IsKept, IsNothing};
 ghost use Rattle.vp_recon.specs.Parts.{AreSmall, Gives, residue_in};
 
 use crate::kept::sums;
+use std::simd::prelude::*;
 use vp_quant::{Factors, dequant};
 use vp_tokens::{Block, Tokens};
 use vp_transform::{cut, idct_cut, idct_of_first, iwht, iwht_of_first};
@@ -44,15 +45,14 @@ fn residue_with_first(block: &Block, first: i64, ac: u16) -> [i16; 16]
 }
 
 /// The pixels of a subblock with its residue, the first of whose levels is multiplied by `dc`, the others by `ac`.
-pub(crate) fn with_residue(prediction: &[u8; 16], block: &Block, dc: u16, ac: u16) -> [u8; 16]
-    ensures len { length result ≡ 16 }
-    ensures value { AreSums result prediction.now (residue block.now.levels dc ac) }
+pub(crate) fn with_residue(prediction: u8x16, block: &Block, dc: u16, ac: u16) -> u8x16
+    ensures { AreSums result prediction (residue block.now.levels dc ac) }
 {
     if block.tokens == 0 {
-        return *prediction;
+        return prediction;
     }
     let first = first_of(&block.levels, dc);
-    sums(prediction, &residue_with_first(block, first, ac))
+    sums(prediction, residue_with_first(block, first, ac))
 }
 
 /// What the residues of the subblocks of a plane are made of.
@@ -82,17 +82,16 @@ impl<'a> Residues<'a> {
         }
     }
 
-    /// Whether none of the first `count` subblocks has a residue that is not 0.
+    /// Whether none of the first `count` subblocks has a residue that is not 0, as far as that is seen at once.
     pub(crate) fn has_none(&self, count: usize) -> bool
         requires { self.now.first + count ≤ 25 }
         ensures { result ≡ true → (k : ℕ) → k < count → IsNothing (residue_in self.now k) }
     {
+        let mut tokens = 0;
         for k in 0..count {
-            if self.has(k) {
-                return false;
-            }
+            tokens |= block_of(self.tokens, self.first + k).tokens;
         }
-        true
+        tokens == 0 && self.firsts.is_none()
     }
 
     /// What is kept of the residue of subblock `k`.
@@ -106,21 +105,6 @@ impl<'a> Residues<'a> {
         match &self.firsts {
             None => residue_with_first(block, first_of(&block.levels, self.dc), self.ac),
             Some(firsts) => residue_with_first(block, firsts[k], self.ac),
-        }
-    }
-
-    /// The pixels of subblock `k` with its residue.
-    pub(crate) fn added(&self, prediction: &[u8; 16], k: usize) -> [u8; 16]
-        requires subblock { k < 16 }
-        requires block { self.now.first + k < 25 }
-        requires small { AreSmall self.now }
-        ensures len { length result ≡ 16 }
-        ensures value { AreSums result prediction.now (residue_in self.now k) }
-    {
-        if self.has(k) {
-            sums(prediction, &self.kept(k))
-        } else {
-            *prediction
         }
     }
 }

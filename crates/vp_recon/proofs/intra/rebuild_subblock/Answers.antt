@@ -16,12 +16,12 @@ returns c =
     let y : ℕ = 4 * c.args.block.row in
     let f = c.args.factors.now in
     let own = residue c.args.levels.now.levels f.y_dc f.y_ac in
-    c.write_block.ensures
+    c.store_subblock.ensures
     ∙ ap (with_plane p 0) (with_block_same p.luma x y 4 4
     (λ r j. get_or c.with_residue-pixels.result (r * 4 + j) 0)
     (λ r j. summed (sub_pixel c.args.mode p.luma x y r j) (get_or own (4 * r + j) (pos 0)))
     (λ r j rin jin.
-    c.with_residue-pixels.ensures.value r j rin jin
+    c.with_residue-pixels.ensures r j rin jin
     ∙ ap (λ (q : ℕ). summed q (get_or own (4 * r + j) (pos 0)))
     (ap (λ (ps : List ℕ). get_or ps (r * 4 + j) 0) (c.predict_sub-prediction.ensures ∙ ap (λ (s : Raster). block 4 (sub_pixel c.args.mode s x y)) c.plane-3.ensures)
     ∙ read_block 4 (sub_pixel c.args.mode p.luma x y) r j rin jin)))

@@ -7,24 +7,25 @@ use Rattle.vp_tokens.specs.Block.{Block, IsBlock}
 use Rattle.vp_quant.specs.Quant.{dequantised}
 use Rattle.vp_recon.specs.Residue.{residue}
 use Rattle.vp_recon.specs.Kept.{IsKept}
+use Rattle.vp_lanes.proofs.Bytes.{byte_lane}
 use Rattle.vp_recon.proofs.KeptLemmas.{nothing_added}
 use Rattle.vp_recon.proofs.ResidueLemmas.{no_residue, own_first}
 use Rattle.vp_recon.proofs.residue.with_residue.Goals as goal
 
-pub returns-then-block-eq0-clause-value : goal.returns-then-block-eq0-clause-value
-returns-then-block-eq0-clause-value c =
+pub returns-then-block-eq0 : goal.returns-then-block-eq0
+returns-then-block-eq0 c =
     let b : Block = c.args.block.now in
     let is : IsBlock c.args.block.now = subst IsBlock c.block.view_is c.block.invariant in
     let none : c.args.block.now.tokens ≡ 0 = ap (λ (b : Block). b.tokens) (sym c.block.view_is) ∙ c.if-block-eq0.true in
-    nothing_added c.args.prediction.now c.args.prediction.now (residue b.levels c.args.dc c.args.ac)
+    nothing_added c.args.prediction c.args.prediction (residue b.levels c.args.dc c.args.ac)
     (λ i below. ap (λ (zs : List ℤ). get_or zs i (pos 0)) (no_residue b is c.args.dc c.args.ac none) ∙ get_or-replicate 16 i (pos 0) (pos 0) below)
-    refl (λ i below. omega (arith, c.fits-prediction i))
+    refl (λ i below. let b = byte_lane c.args.prediction c.fits-prediction i below in omega arith)
 
-pub returns-clause-value : goal.returns-clause-value
-returns-clause-value c =
+pub returns : goal.returns
+returns c =
     let first : ℤ = c.first_of-first.result in
     let exact : coded first ≡ first = read first (fits-below first (omega (arith, c.first_of-first.ensures.within))) in
-    c.sums.ensures.value (residue c.args.block.now.levels c.args.dc c.args.ac)
+    c.sums.ensures (residue c.args.block.now.levels c.args.dc c.args.ac)
     (subst (λ (zs : List ℤ). IsKept c.residue_with_first.result (idct zs))
     (ap (λ (z : ℤ). set (dequantised c.args.block.now.levels 0 c.args.ac) 0 z)
     (exact ∙ c.first_of-first.ensures.value ∙ ap (λ (b : Block). get_or b.levels 0 (pos 0) *ℤ pos c.args.dc) c.block.view_is)

@@ -1,0 +1,114 @@
+-- Residues added to what a plane has.
+use Rattle.std.proofs.Common.{◌≡◌, ◌∙◌, ℕ, ◌+◌, ◌-◌, ◌*◌, ◌/◌, ◌%◌, ◌<◌, ◌≤◌, ℤ, pos, Bool, cond, List, get_or, refl, sym, ap, subst, arith, inl, inr}
+use Rattle.std.proofs.lemmas.Bool.{cases_Bool, le-ltb}
+use Rattle.vp_base.specs.Raster.{Raster, pixel}
+use Rattle.vp_base.specs.Block.{is_in_block, with_block}
+use Rattle.vp_base.specs.Image.{Image, plane_of, with_plane}
+use Rattle.vp_base.proofs.BlockLemmas.{pixel-with_block, IsWhole-with_block, same_raster}
+use Rattle.vp_base.proofs.ImageLemmas.{plane_of-with_plane}
+use Rattle.vp_recon.specs.Rebuilt.{summed, residue_at}
+use Rattle.vp_recon.specs.Kept.{IsNothing, AreBytes}
+use Rattle.vp_recon.proofs.Parts.{is_in, in_it, sub_at, subblock_has, part_fits, until}
+use Rattle.vp_recon.proofs.KeptLemmas.{summed-zero}
+use Rattle.vp_recon.proofs.PlaneLemmas.{plane_next}
+
+-- a pixel of the block at a place, and its sum
+abbrev pub was : Raster → ℕ → ℕ → ℕ → ℕ → ℕ
+was p x y r c = pixel p (x + c) (y + r)
+
+abbrev pub added : ℕ → Raster → ℕ → ℕ → (ℕ → List ℤ) → ℕ → ℕ → ℕ
+added across p x y residue r c = summed (was p x y r c) (residue_at across residue r c)
+
+-- ---- a block that is written
+
+pub block_pixel : (p : Raster) (x y n : ℕ) (f : ℕ → ℕ → ℕ) (r c : ℕ) → x + n ≤ p.width → y + n ≤ p.height → r < n → c < n
+    → pixel (with_block p x y n n f) (x + c) (y + r) ≡ f r c
+block_pixel p x y n f r c columns rows rin cin =
+    pixel-with_block p x y n n f (x + c) (y + r) (omega arith) (omega arith)
+    ∙ ap (λ (t : Bool). cond t (f (y + r - y) (x + c - x)) (pixel p (x + c) (y + r))) (in_it x y n n (x + c) (y + r) (omega arith) (omega arith) (omega arith) (omega arith))
+    ∙ ap (λ (i : ℕ). f i (x + c - x)) (let e : y + r - y ≡ r = omega arith in e)
+    ∙ ap (f r) (let e : x + c - x ≡ c = omega arith in e)
+
+-- it is written over
+pub over_block : (p : Raster) (x y n : ℕ) (f g h : ℕ → ℕ → ℕ) → ((r c : ℕ) → r < n → c < n → g r c ≡ h r c)
+    → with_block (with_block p x y n n f) x y n n g ≡ with_block p x y n n h
+over_block p x y n f g h same =
+    let q : Raster = with_block p x y n n f in
+    same_raster (with_block q x y n n g) (with_block p x y n n h) refl refl (IsWhole-with_block q x y n n g) (IsWhole-with_block p x y n n h)
+    (λ u v uin vin.
+    pixel-with_block q x y n n g u v uin vin
+    ∙ elim (cases_Bool (is_in_block x y n n u v)) [
+      | inl within ↦
+          let at = is_in x y n n u v within in
+          ap (λ (t : Bool). cond t (g (v - y) (u - x)) (pixel q u v)) within
+          ∙ same (v - y) (u - x) (omega (arith, at)) (omega (arith, at))
+          ∙ ap (λ (t : Bool). cond t (h (v - y) (u - x)) (pixel p u v)) (sym within)
+      | inr past ↦
+          ap (λ (t : Bool). cond t (g (v - y) (u - x)) (pixel q u v)) past
+          ∙ pixel-with_block p x y n n f u v uin vin
+          ∙ ap (λ (t : Bool). cond t (f (v - y) (u - x)) (pixel p u v)) past
+          ∙ ap (λ (t : Bool). cond t (h (v - y) (u - x)) (pixel p u v)) (sym past)
+    ]
+    ∙ sym (pixel-with_block p x y n n h u v uin vin))
+
+module _ (p now : Image) (n x y size : ℕ) (f : ℕ → ℕ → ℕ) (columns : x + size ≤ (plane_of p n).width) (rows : y + size ≤ (plane_of p n).height)
+    (predicted : now ≡ with_plane p n (with_block (plane_of p n) x y size size f)) where
+  plane_is : plane_of now n ≡ with_block (plane_of p n) x y size size f
+  plane_is = ap (λ (i : Image). plane_of i n) predicted ∙ plane_of-with_plane p n (with_block (plane_of p n) x y size size f)
+
+  pub still_wide : x + size ≤ (plane_of now n).width
+  still_wide = let e : (plane_of now n).width ≡ (plane_of p n).width = ap (λ (r : Raster). r.width) plane_is in omega arith
+
+  pub still_high : y + size ≤ (plane_of now n).height
+  still_high = let e : (plane_of now n).height ≡ (plane_of p n).height = ap (λ (r : Raster). r.height) plane_is in omega arith
+
+  pub predicted_bytes : ((r c : ℕ) → r < size → c < size → f r c ≤ 255) → AreBytes (plane_of now n) x y size
+  predicted_bytes bytes r c rin cin =
+      subst (λ (v : ℕ). v ≤ 255) (sym (ap (λ (q : Raster). pixel q (x + c) (y + r)) plane_is ∙ block_pixel (plane_of p n) x y size f r c columns rows rin cin)) (bytes r c rin cin)
+
+  -- residues are added to what was predicted
+  pub summed_onto : (next : Image) (residue : ℕ → ℕ → ℤ)
+      → next ≡ with_plane now n (with_block (plane_of now n) x y size size (λ r c. summed (pixel (plane_of now n) (x + c) (y + r)) (residue r c)))
+      → next ≡ with_plane p n (with_block (plane_of p n) x y size size (λ r c. summed (f r c) (residue r c)))
+  summed_onto next residue written =
+      let q : Raster = with_block (plane_of p n) x y size size f in
+      let step : Raster → Raster = λ s. with_block s x y size size (λ r c. summed (pixel s (x + c) (y + r)) (residue r c)) in
+      plane_next p now next n step written q predicted
+      ∙ ap (with_plane p n) (over_block (plane_of p n) x y size f (λ r c. summed (pixel q (x + c) (y + r)) (residue r c)) (λ r c. summed (f r c) (residue r c))
+      (λ r c rin cin. ap (λ (v : ℕ). summed v (residue r c)) (block_pixel (plane_of p n) x y size f r c columns rows rin cin)))
+
+-- ---- subblock after subblock
+
+-- subblock k, which is as it was
+pub until_pixel : (p : Raster) (x y across : ℕ) (f g : ℕ → ℕ → ℕ) (k r c : ℕ) → 0 < across → k < across * across
+    → x + 4 * across ≤ p.width → y + 4 * across ≤ p.height → r < 4 → c < 4
+    → pixel (with_block p x y (4 * across) (4 * across) (until (sub_at across) k f g)) (x + 4 * (k % across) + c) (y + 4 * (k / across) + r)
+    ≡ g (4 * (k / across) + r) (4 * (k % across) + c)
+until_pixel p x y across f g k r c some total columns rows rin cin =
+    let q : Raster = with_block p x y (4 * across) (4 * across) (until (sub_at across) k f g) in
+    let fits = part_fits across k some total in
+    let i : ℕ = 4 * (k / across) + r in
+    let j : ℕ = 4 * (k % across) + c in
+    let has : sub_at across (4 * (k / across) + r) (4 * (k % across) + c) ≡ k = subblock_has across k r c some rin cin in
+    ap (λ (u : ℕ). pixel q u (y + 4 * (k / across) + r)) (let e : x + 4 * (k % across) + c ≡ x + (4 * (k % across) + c) = omega arith in e)
+    ∙ ap (pixel q (x + (4 * (k % across) + c))) (let e : y + 4 * (k / across) + r ≡ y + (4 * (k / across) + r) = omega arith in e)
+    ∙ block_pixel p x y (4 * across) (until (sub_at across) k f g) i j columns rows (omega (arith, fits)) (omega (arith, fits))
+    ∙ ap (λ (t : Bool). cond t (f i j) (g i j)) (le-ltb (sub_at across (4 * (k / across) + r) (4 * (k % across) + c)) k (omega arith))
+
+residue_same : (residue : ℕ → List ℤ) (n n' r r' c c' : ℕ) → n ≡ n' → r ≡ r' → c ≡ c' → get_or (residue n) (4 * r + c) (pos 0) ≡ get_or (residue n') (4 * r' + c') (pos 0)
+residue_same residue n n' r r' c c' en er ec = cc
+
+-- its residue
+pub residue_part : (across : ℕ) (residue : ℕ → List ℤ) (k r c : ℕ) → 0 < across → r < 4 → c < 4
+    → get_or (residue k) (4 * r + c) (pos 0) ≡ residue_at across residue (4 * (k / across) + r) (4 * (k % across) + c)
+residue_part across residue k r c some rin cin =
+    sym (residue_same residue (sub_at across (4 * (k / across) + r) (4 * (k % across) + c)) k ((4 * (k / across) + r) % 4) r ((4 * (k % across) + c) % 4) c
+    (subblock_has across k r c some rin cin) (omega arith) (omega arith))
+
+-- it has none
+pub sum_none : (across : ℕ) (p : Raster) (x y : ℕ) (residue : ℕ → List ℤ) (k r c : ℕ) → IsNothing (residue k) → was p x y r c ≤ 255 → sub_at across r c ≡ k
+    → added across p x y residue r c ≡ was p x y r c
+sum_none across p x y residue k r c zeros byte same =
+    ap (summed (was p x y r c))
+    (ap (λ (j : ℕ). get_or (residue j) (4 * (r % 4) + c % 4) (pos 0)) same ∙ zeros (4 * (r % 4) + c % 4) (omega arith))
+    ∙ summed-zero (was p x y r c) byte
