@@ -7,7 +7,7 @@ ghost use Rattle.vp_tokens.specs.Blocks.{Blocks, any_token, blocks_of};
 ghost use Rattle.vp_tokens.specs.Contexts.{StandsFor, right};
 ghost use Rattle.vp_recon.specs.Source.{source_of, has_y2};
 ghost use Rattle.vp_decode.specs.Maps.{modes_in, motion_in};
-ghost use Rattle.vp_decode.specs.Frame.{source_by, source_at, tokens_read, factors_at, inter_prediction, prediction_of, level_at};
+ghost use Rattle.vp_decode.specs.Frame.{source_by, source_at, tokens_read, factors_of, factors_at, inter_prediction, prediction_of, level_at};
 
 use crate::maps::Maps;
 use std::marker::Model;
@@ -32,15 +32,19 @@ pub(crate) struct Plan<'a> {
     /// None in a key frame.
     references: Option<&'a Refs>,
     maps: Maps,
+    /// Those of the four segments.
+    factors: [Factors; 4],
 }
 
 impl<'a> Model for Plan<'a> {
-    ghost use Rattle.std.specs.Prelude.{option_map};
-    ghost use Rattle.vp_decode.specs.Frame.{Plan};
+    ghost use Rattle.std.specs.Prelude.{◌≡◌, option_map};
+    ghost use Rattle.vp_decode.specs.Frame.{Plan, segment_factors};
 
     ghost Value = { Plan };
 
     ghost view = { λ f. record { header = f.header.now; version = f.version; references = option_map (λ r. r.now) f.references; maps = f.maps } };
+
+    ghost invariant = { λ f. f.factors ≡ segment_factors f.header.now };
 }
 
 fn inter_prediction(mode: VectorMode) -> Prediction
@@ -91,6 +95,14 @@ fn source_by<'a>(
     }
 }
 
+/// The factors of a segment.
+fn factors_of(header: &Header, segment: u8) -> Factors
+    requires { segment < 4 }
+    ensures { result ≡ factors_of header.now segment }
+{
+    Factors::of(segment_index(header, segment), &header.quantiser)
+}
+
 impl<'a> Plan<'a> {
     pub(crate) fn new(
         header: &'a Header,
@@ -105,6 +117,12 @@ impl<'a> Plan<'a> {
             version,
             references,
             maps,
+            factors: [
+                factors_of(header, 0),
+                factors_of(header, 1),
+                factors_of(header, 2),
+                factors_of(header, 3),
+            ],
         }
     }
 
@@ -199,11 +217,7 @@ impl<'a> Plan<'a> {
         requires { Has self.now.maps.modes place }
         ensures { result ≡ factors_at self.now place }
     {
-        let modes = self.modes(place);
-        Factors::of(
-            segment_index(self.header, modes.segment),
-            &self.header.quantiser,
-        )
+        self.factors[usize::from(self.modes(place).segment)]
     }
 
     /// How the macroblock at a place is filtered, where it has tokens or none.
