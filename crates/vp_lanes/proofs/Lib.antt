@@ -4,4 +4,3 @@ pub mod Signed
 pub mod Signed32
 pub mod Ranges
 pub mod Bytes
-pub mod Passed

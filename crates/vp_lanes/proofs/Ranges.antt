@@ -1,5 +1,5 @@
 -- Numbers from -128 to 127, as negsuc 127 to pos 127.
-use Rattle.std.proofs.Common.{◌≡◌, ◌*◌, ◌≤◌, Bool, true, false, cond, arith, ℤ, pos, negsuc, ◌+ℤ◌, ◌*ℤ◌, ◌≤ℤ◌, unsigned_abs}
+use Rattle.std.proofs.Common.{◌≡◌, ◌*◌, ◌≤◌, arith, ℤ, pos, negsuc, ◌*ℤ◌, ◌≤ℤ◌, unsigned_abs}
 use Rattle.std.proofs.lemmas.Int.{ints, clamps, unsigned_abs-mul}
 use Rattle.std.proofs.Math.Nat.{mul-le-mul_left}
 use lib.Signed.{shr_z}
@@ -12,23 +12,9 @@ InByte z = (negsuc 127 ≤ℤ z) × (z ≤ℤ pos 127)
 pub clamp8_in : (z : ℤ) → InByte (clamp8 z)
 clamp8_in z = (omega (arith, ints, clamps), omega (arith, ints, clamps))
 
-pub pick_in : (t : Bool) (a b : ℤ) → InByte a → InByte b → InByte (cond t a b)
-pick_in true a b p q = p
-pick_in false a b p q = q
-
-pub zero_in : InByte (pos 0)
-zero_in = (omega (arith, ints), omega (arith, ints))
-
 pub eighth_in : (z : ℤ) → InByte z → InByte (shr_z z 8)
 eighth_in (pos n) p = (omega (arith, ints), omega (arith, ints))
 eighth_in (negsuc n) p = (omega (arith, ints), omega (arith, ints))
-
-half_shr : (z : ℤ) → negsuc 127 ≤ℤ z → z ≤ℤ pos 128 → InByte (shr_z z 2)
-half_shr (pos n) p q = (omega (arith, ints), omega (arith, ints))
-half_shr (negsuc n) p q = (omega (arith, ints), omega (arith, ints))
-
-pub half_in : (z : ℤ) → InByte z → InByte (shr_z (z +ℤ pos 1) 2)
-half_in z p = half_shr (z +ℤ pos 1) (omega (arith, ints)) (omega (arith, ints))
 
 -- ---- products with a weight
 abs_128 : (z : ℤ) → InByte z → unsigned_abs z ≤ 128

@@ -114,9 +114,6 @@ pub filtered-all : (level : Place → Level) (p : Image) → first_rows level (m
 unfolding first_rows filtered
 filtered-all level p = refl
 
-pub sizes-filtered : (level : Place → Level) (p : Image) → sizes (filtered level p) ≡ sizes p
-sizes-filtered level p = ap sizes (sym (filtered-all level p)) ∙ sizes-first_rows level (macroblocks p.height) p
-
 -- a picture of the sizes of an aligned one is aligned
 pub aligned-sizes : (p q : Image) → sizes q ≡ sizes p → IsAligned p → IsAligned q
 aligned-sizes p q e h =

@@ -12,3 +12,4 @@ pub mod LaneLines
 pub mod Turned
 pub mod Loads
 pub mod WriteLemmas
+pub mod KeptLemmas

@@ -4,7 +4,7 @@ use Rattle.std.proofs.lemmas.List.{get_or_append_left, get_or-append_right}
 use Rattle.vp_loop.specs.declared.lines.Line.{Line}
 use Rattle.vp_loop.specs.Lanes.{line_in}
 
-below_four : (P : ℕ → Type 0) → P 0 → P 1 → P 2 → P 3 → (j : ℕ) → j < 4 → P j
+pub below_four : (P : ℕ → Type 0) → P 0 → P 1 → P 2 → P 3 → (j : ℕ) → j < 4 → P j
 below_four P p0 p1 p2 p3 zero h = p0
 below_four P p0 p1 p2 p3 (suc zero) h = p1
 below_four P p0 p1 p2 p3 (suc (suc zero)) h = p2
@@ -79,3 +79,18 @@ joined_is c0 c1 c2 c3 c4 c5 c6 c7 m l0 l1 l2 l3 h =
     let e6 = get_or-append_right c2 c6 16 (16 + m) 0 l2 (omega arith) ∙ ap (λ n. get_or c6 n 0) z in
     let e7 = get_or-append_right c3 c7 16 (16 + m) 0 l3 (omega arith) ∙ ap (λ n. get_or c7 n 0) z in
     λ i. e0 i ∷ e1 i ∷ e2 i ∷ e3 i ∷ e4 i ∷ e5 i ∷ e6 i ∷ e7 i ∷ []
+
+-- .. and of four
+abbrev pub joined_four : List ℕ → List ℕ → List ℕ → List ℕ → ℕ → List ℕ
+joined_four c0 c1 c2 c3 m =
+    get_or (c0 ++ c2) m 0 ∷ get_or (c1 ++ c3) m 0 ∷ get_or (c0 ++ c2) (16 + m) 0 ∷ get_or (c1 ++ c3) (16 + m) 0 ∷ []
+
+pub joined_four_is : (c0 c1 c2 c3 : List ℕ) (m : ℕ) → length c0 ≡ 16 → length c1 ≡ 16 → m < 16
+    → joined_four c0 c1 c2 c3 m ≡ (get_or c0 m 0 ∷ get_or c1 m 0 ∷ get_or c2 m 0 ∷ get_or c3 m 0 ∷ [])
+joined_four_is c0 c1 c2 c3 m l0 l1 h =
+    let z : 16 + m - 16 ≡ m = omega arith in
+    let e0 = get_or_append_left c0 c2 0 m (omega arith) in
+    let e1 = get_or_append_left c1 c3 0 m (omega arith) in
+    let e2 = get_or-append_right c0 c2 16 (16 + m) 0 l0 (omega arith) ∙ ap (λ n. get_or c2 n 0) z in
+    let e3 = get_or-append_right c1 c3 16 (16 + m) 0 l1 (omega arith) ∙ ap (λ n. get_or c3 n 0) z in
+    λ i. e0 i ∷ e1 i ∷ e2 i ∷ e3 i ∷ []

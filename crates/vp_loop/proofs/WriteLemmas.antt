@@ -57,22 +57,15 @@ rows_along step n x y p lines long whole columns rows same =
     let f : ℕ → ℕ → ℕ = λ r c. get_or (get_or lines r []) c 0 in
     ap (λ (m : ℕ). with_block p x y 8 m f) long ∙ edge_along step n x y p f whole columns rows (λ r c h g. ap (λ l. get_or l c 0) (same r h))
 
-pub rows_down : (step : LineStep) (x y : ℕ) (p : Raster) (rs : List (List ℕ)) → length rs ≡ 8 → IsWhole p → x + 8 ≤ p.width → y + 8 ≤ p.height
-    → ((r c : ℕ) → r < 8 → c < 8 → get_or (get_or rs r []) c 0 ≡ pixel_at (stepped step (line_at down p (x + c) y)) r)
-    → with_block p x y 8 (length rs) (λ r c. get_or (get_or rs r []) c 0) ≡ edge_lines down step 8 x y p
-rows_down step x y p rs long whole columns rows same =
-    let f : ℕ → ℕ → ℕ = λ r c. get_or (get_or rs r []) c 0 in
-    ap (λ (m : ℕ). with_block p x y 8 m f) long ∙ edge_down step 8 x y p f whole columns rows same
-
 -- the rows of sixteen lines, written one after another
 pub rows_pixel : (l : Lines) (d r : ℕ) → r < 8 → get_or (get_or (l.p3 ∷ l.p2 ∷ l.p1 ∷ l.p0 ∷ l.q0 ∷ l.q1 ∷ l.q2 ∷ l.q3 ∷ []) r []) d 0 ≡ pixel_at (line_of l d) r
 rows_pixel l d = below_eight _ refl refl refl refl refl refl refl refl
 
--- sixteen lines, each from a plane, stepped and turned back
-pub turned_line : (step : LineStep) (p q : Raster) (x y i : ℕ) (row : List ℕ) (l m : Line) → row ≡ pixels_of l → l ≡ stepped step m → m ≡ line_at along q x y → q ≡ p
-    → row ≡ pixels_of (stepped step (line_at along p x y))
-turned_line step p q x y i row l m e f g h =
-    e ∙ (ap pixels_of f ∙ ap (λ (k : Line). pixels_of (stepped step k)) (g ∙ ap (λ (r : Raster). line_at along r x y) h))
+-- what is read of sixteen lines, each from a plane and stepped
+pub turned_line : {X : Type 0} (look : Line → X) (step : LineStep) (p q : Raster) (x y : ℕ) (row : X) (l m : Line) → row ≡ look l → l ≡ stepped step m → m ≡ line_at along q x y → q ≡ p
+    → row ≡ look (stepped step (line_at along p x y))
+turned_line look step p q x y row l m e f g h =
+    e ∙ (ap look f ∙ ap (λ (k : Line). look (stepped step k)) (g ∙ ap (λ (r : Raster). line_at along r x y) h))
 
 pub down_pixel_is : (step : LineStep) (p q : Raster) (x y r v : ℕ) (l m : Line) → v ≡ pixel_at l r → l ≡ stepped step m → m ≡ line_at down q x y → q ≡ p
     → v ≡ pixel_at (stepped step (line_at down p x y)) r

@@ -1,7 +1,10 @@
 -- Inside the crate: sixteen lines side by side, as the lanes hold them.
-use Rattle.std.specs.Prelude.{ℕ, List, slice_index}
+use Rattle.std.specs.Prelude.{ℕ, ◌≡◌, ◌<◌, ◌-◌, List, [], ◌∷◌, slice_index}
 use Rattle.vp_loop.specs.declared.lines.Line.{Line}
+use Rattle.vp_loop.specs.declared.lines.LineStep.{LineStep}
 use Rattle.vp_loop.specs.declared.lanes.Lines.{Lines}
+use Rattle.vp_loop.specs.LineSteps.{stepped}
+use Rattle.vp_loop.specs.Edges.{pixel_at}
 
 -- line j of them
 abbrev pub line_of : Lines → ℕ → Line
@@ -28,3 +31,13 @@ line_in r = record {
   q2 = slice_index r 6;
   q3 = slice_index r 7;
 }
+
+-- the first n and the last n pixels of a line stay as they are
+abbrev pub KeepsEnds : ℕ → LineStep → Type 0
+KeepsEnds n step =
+    (l : Line) (k : ℕ) → k < n
+    → (pixel_at (stepped step l) k ≡ pixel_at l k) × (pixel_at (stepped step l) (7 - k) ≡ pixel_at l (7 - k))
+
+-- the four pixels at the edge
+abbrev pub middle_of : Line → List ℕ
+middle_of l = l.p1 ∷ l.p0 ∷ l.q0 ∷ l.q1 ∷ []

@@ -2,18 +2,20 @@
 
 ghost use Rattle.std.specs.Prelude.{◌≡◌, ℕ, ◌+◌, ◌<◌, ◌≤◌};
 ghost use Rattle.vp_base.specs.Image.{Image};
+ghost use Rattle.vp_loop.specs.Lanes.{KeepsEnds};
 ghost use Rattle.vp_loop.specs.Edges.{along, down, edge_lines, inner_edges, block_edges, block_filtered, outer_step, inner_step, on_luma, on_colours};
 
 use crate::lines::{EdgeKind, LineStep};
-use crate::store::{write_rows8, write_rows16};
+use crate::store::{write_rows4, write_rows8, write_rows16};
 use crate::strength::Level;
 use crate::turn::{
-    first_eight, first_halves, last_eight, lines_along, lines_along_both, lines_down,
-    lines_down_both, second_halves, turned_back,
+    first_halves, lines_along, lines_along_both, lines_down, lines_down_both, middles_back,
+    second_halves, turned_back,
 };
 use vp_base::Picture;
 
 impl Level {
+    #[inline(always)]
     pub(crate) fn outer_step(self) -> LineStep
         ensures { result ≡ outer_step self }
     {
@@ -29,6 +31,7 @@ impl Level {
         }
     }
 
+    #[inline(always)]
     pub(crate) fn inner_step(self) -> LineStep
         ensures { result ≡ inner_step self }
     {
@@ -46,6 +49,7 @@ impl Level {
 }
 
 /// Filters over a vertical edge of luma: sixteen lines, the first of which begins at column `x` of row `y`.
+#[inline(always)]
 fn filter_luma_along(picture: &mut Picture, x: usize, y: usize, step: LineStep)
     requires columns { x + 8 ≤ picture.old.luma.width }
     requires rows { y + 16 ≤ picture.old.luma.height }
@@ -59,26 +63,43 @@ fn filter_luma_along(picture: &mut Picture, x: usize, y: usize, step: LineStep)
     write_rows8(picture, 0, x, y, &lines);
 }
 
-/// Filters over a horizontal edge of luma: sixteen lines, the first of which begins at column `x` of row `y`.
-fn filter_luma_down(picture: &mut Picture, x: usize, y: usize, step: LineStep)
+/// Filters over a vertical edge inside a macroblock of luma: of its sixteen lines, the first of which begins at column `x`
+/// of row `y`, the four pixels at the edge are written.
+#[inline(always)]
+fn filter_luma_inside_along(picture: &mut Picture, x: usize, y: usize, step: LineStep)
+    requires columns { x + 8 ≤ picture.old.luma.width }
+    requires rows { y + 16 ≤ picture.old.luma.height }
+    requires ends { KeepsEnds 2 step }
+    ensures value { picture.new ≡ on_luma (edge_lines along step 16 x y) picture.old }
+    ensures wide { picture.new.luma.width ≡ picture.old.luma.width }
+    ensures high { picture.new.luma.height ≡ picture.old.luma.height }
+{
+    let _width = picture.plane(0).width();
+    let l = step.apply_to_all(lines_along(picture.plane(0), x, y));
+    let lines = middles_back(l.p1, l.p0, l.q0, l.q1);
+    write_rows4(picture, 0, x + 2, y, &lines);
+}
+
+/// Filters over a horizontal edge of luma: sixteen lines, the first of which begins at column `x` of row `y`. The `kept`
+/// rows at each end of the lines, which the step leaves as they are, are not written.
+#[inline(always)]
+fn filter_luma_down(picture: &mut Picture, x: usize, y: usize, step: LineStep, kept: usize)
     requires columns { x + 16 ≤ picture.old.luma.width }
     requires rows { y + 8 ≤ picture.old.luma.height }
+    requires few { kept ≤ 4 }
+    requires ends { KeepsEnds kept step }
     ensures value { picture.new ≡ on_luma (edge_lines down step 16 x y) picture.old }
     ensures wide { picture.new.luma.width ≡ picture.old.luma.width }
     ensures high { picture.new.luma.height ≡ picture.old.luma.height }
 {
     let _height = picture.plane(0).height();
     let l = step.apply_to_all(lines_down(picture.plane(0), x, y));
-    write_rows16(
-        picture,
-        0,
-        x,
-        y,
-        &[l.p3, l.p2, l.p1, l.p0, l.q0, l.q1, l.q2, l.q3],
-    );
+    let rows = [l.p3, l.p2, l.p1, l.p0, l.q0, l.q1, l.q2, l.q3];
+    write_rows16(picture, 0, x, y + kept, &rows[kept..8 - kept]);
 }
 
 /// Filters over a vertical edge of both planes of colour: eight lines of each.
+#[inline(always)]
 fn filter_colours_along(picture: &mut Picture, x: usize, y: usize, step: LineStep)
     requires u_columns { x + 8 ≤ picture.old.u.width }
     requires u_rows { y + 8 ≤ picture.old.u.height }
@@ -94,16 +115,19 @@ fn filter_colours_along(picture: &mut Picture, x: usize, y: usize, step: LineSte
     let _v_height = picture.plane(2).height();
     let l = step.apply_to_all(lines_along_both(picture.plane(1), picture.plane(2), x, y));
     let lines = turned_back(l.p3, l.p2, l.p1, l.p0, l.q0, l.q1, l.q2, l.q3);
-    write_rows8(picture, 1, x, y, &first_eight(&lines));
-    write_rows8(picture, 2, x, y, &last_eight(&lines));
+    write_rows8(picture, 1, x, y, &lines[0..8]);
+    write_rows8(picture, 2, x, y, &lines[8..16]);
 }
 
-/// Filters over a horizontal edge of both planes of colour: eight lines of each.
-fn filter_colours_down(picture: &mut Picture, x: usize, y: usize, step: LineStep)
+/// Filters over a horizontal edge of both planes of colour: eight lines of each, but for the `kept` rows at each end.
+#[inline(always)]
+fn filter_colours_down(picture: &mut Picture, x: usize, y: usize, step: LineStep, kept: usize)
     requires u_columns { x + 8 ≤ picture.old.u.width }
     requires u_rows { y + 8 ≤ picture.old.u.height }
     requires v_columns { x + 8 ≤ picture.old.v.width }
     requires v_rows { y + 8 ≤ picture.old.v.height }
+    requires few { kept ≤ 4 }
+    requires ends { KeepsEnds kept step }
     ensures value { picture.new ≡ on_colours (edge_lines down step 8 x y) picture.old }
     ensures u_wide { picture.new.u.width ≡ picture.old.u.width }
     ensures u_high { picture.new.u.height ≡ picture.old.u.height }
@@ -113,70 +137,87 @@ fn filter_colours_down(picture: &mut Picture, x: usize, y: usize, step: LineStep
     let _u_height = picture.plane(1).height();
     let _v_height = picture.plane(2).height();
     let l = step.apply_to_all(lines_down_both(picture.plane(1), picture.plane(2), x, y));
-    write_rows8(picture, 1, x, y, &first_halves(l));
-    write_rows8(picture, 2, x, y, &second_halves(l));
+    let u_rows = first_halves(l);
+    let v_rows = second_halves(l);
+    write_rows8(picture, 1, x, y + kept, &u_rows[kept..8 - kept]);
+    write_rows8(picture, 2, x, y + kept, &v_rows[kept..8 - kept]);
 }
 
 /// Filters over the vertical edges inside a macroblock of luma.
+#[inline(always)]
 fn filter_inner_luma_along(picture: &mut Picture, x: usize, y: usize, step: LineStep)
     requires columns { x + 16 ≤ picture.old.luma.width }
     requires rows { y + 16 ≤ picture.old.luma.height }
+    requires ends { KeepsEnds 2 step }
     ensures value { picture.new ≡ on_luma (inner_edges along step 16 x y) picture.old }
     ensures wide { picture.new.luma.width ≡ picture.old.luma.width }
     ensures high { picture.new.luma.height ≡ picture.old.luma.height }
 {
     let _width = picture.plane(0).width();
     for i in 0..3 {
-        filter_luma_along(picture, x + 4 * i, y, step);
+        filter_luma_inside_along(picture, x + 4 * i, y, step);
     }
 }
 
 /// Filters over the horizontal edges inside a macroblock of luma.
+#[inline(always)]
 fn filter_inner_luma_down(picture: &mut Picture, x: usize, y: usize, step: LineStep)
     requires columns { x + 16 ≤ picture.old.luma.width }
     requires rows { y + 16 ≤ picture.old.luma.height }
+    requires ends { KeepsEnds 2 step }
     ensures value { picture.new ≡ on_luma (inner_edges down step 16 x y) picture.old }
     ensures wide { picture.new.luma.width ≡ picture.old.luma.width }
     ensures high { picture.new.luma.height ≡ picture.old.luma.height }
 {
     let _height = picture.plane(0).height();
     for i in 0..3 {
-        filter_luma_down(picture, x, y + 4 * i, step);
+        filter_luma_down(picture, x, y + 4 * i, step, 2);
     }
 }
 
-/// Filters over the vertical edge inside a macroblock of both planes of colour.
+/// Filters over the vertical edge inside a macroblock of both planes of colour: of the lines the four pixels at the edge
+/// are written.
+#[inline(always)]
 fn filter_inner_colours_along(picture: &mut Picture, x: usize, y: usize, step: LineStep)
     requires u_columns { x + 8 ≤ picture.old.u.width }
     requires u_rows { y + 8 ≤ picture.old.u.height }
     requires v_columns { x + 8 ≤ picture.old.v.width }
     requires v_rows { y + 8 ≤ picture.old.v.height }
+    requires ends { KeepsEnds 2 step }
     ensures value { picture.new ≡ on_colours (inner_edges along step 8 x y) picture.old }
     ensures u_wide { picture.new.u.width ≡ picture.old.u.width }
     ensures u_high { picture.new.u.height ≡ picture.old.u.height }
     ensures v_wide { picture.new.v.width ≡ picture.old.v.width }
     ensures v_high { picture.new.v.height ≡ picture.old.v.height }
 {
-    filter_colours_along(picture, x, y, step);
+    let _u_width = picture.plane(1).width();
+    let _v_width = picture.plane(2).width();
+    let l = step.apply_to_all(lines_along_both(picture.plane(1), picture.plane(2), x, y));
+    let lines = middles_back(l.p1, l.p0, l.q0, l.q1);
+    write_rows4(picture, 1, x + 2, y, &lines[0..8]);
+    write_rows4(picture, 2, x + 2, y, &lines[8..16]);
 }
 
 /// Filters over the horizontal edge inside a macroblock of both planes of colour.
+#[inline(always)]
 fn filter_inner_colours_down(picture: &mut Picture, x: usize, y: usize, step: LineStep)
     requires u_columns { x + 8 ≤ picture.old.u.width }
     requires u_rows { y + 8 ≤ picture.old.u.height }
     requires v_columns { x + 8 ≤ picture.old.v.width }
     requires v_rows { y + 8 ≤ picture.old.v.height }
+    requires ends { KeepsEnds 2 step }
     ensures value { picture.new ≡ on_colours (inner_edges down step 8 x y) picture.old }
     ensures u_wide { picture.new.u.width ≡ picture.old.u.width }
     ensures u_high { picture.new.u.height ≡ picture.old.u.height }
     ensures v_wide { picture.new.v.width ≡ picture.old.v.width }
     ensures v_high { picture.new.v.height ≡ picture.old.v.height }
 {
-    filter_colours_down(picture, x, y, step);
+    filter_colours_down(picture, x, y, step, 2);
 }
 
 /// Filters over the vertical edges of a macroblock of luma, the left one unless the plane begins there.
 #[tactic(auto, unfolding(crate::specs::Edges::block_edges))]
+#[inline(always)]
 fn filter_all_luma_along(picture: &mut Picture, x: usize, y: usize, level: Level)
     requires columns { x + 16 ≤ picture.old.luma.width }
     requires rows { y + 16 ≤ picture.old.luma.height }
@@ -195,6 +236,7 @@ fn filter_all_luma_along(picture: &mut Picture, x: usize, y: usize, level: Level
 
 /// Filters over the horizontal edges of a macroblock of luma, the top one unless the plane begins there.
 #[tactic(auto, unfolding(crate::specs::Edges::block_edges))]
+#[inline(always)]
 fn filter_all_luma_down(picture: &mut Picture, x: usize, y: usize, level: Level)
     requires columns { x + 16 ≤ picture.old.luma.width }
     requires rows { y + 16 ≤ picture.old.luma.height }
@@ -204,7 +246,7 @@ fn filter_all_luma_down(picture: &mut Picture, x: usize, y: usize, level: Level)
     ensures high { picture.new.luma.height ≡ picture.old.luma.height }
 {
     if y > 0 {
-        filter_luma_down(picture, x, y - 4, level.outer_step());
+        filter_luma_down(picture, x, y - 4, level.outer_step(), 1);
     }
     if level.inner > 0 {
         filter_inner_luma_down(picture, x, y, level.inner_step());
@@ -213,6 +255,7 @@ fn filter_all_luma_down(picture: &mut Picture, x: usize, y: usize, level: Level)
 
 /// The same of both planes of colour, whose macroblocks have one edge of each way inside.
 #[tactic(auto, unfolding(crate::specs::Edges::block_edges))]
+#[inline(always)]
 fn filter_all_colours_along(picture: &mut Picture, x: usize, y: usize, level: Level)
     requires u_columns { x + 8 ≤ picture.old.u.width }
     requires u_rows { y + 8 ≤ picture.old.u.height }
@@ -234,6 +277,7 @@ fn filter_all_colours_along(picture: &mut Picture, x: usize, y: usize, level: Le
 }
 
 #[tactic(auto, unfolding(crate::specs::Edges::block_edges))]
+#[inline(always)]
 fn filter_all_colours_down(picture: &mut Picture, x: usize, y: usize, level: Level)
     requires u_columns { x + 8 ≤ picture.old.u.width }
     requires u_rows { y + 8 ≤ picture.old.u.height }
@@ -247,7 +291,7 @@ fn filter_all_colours_down(picture: &mut Picture, x: usize, y: usize, level: Lev
     ensures v_high { picture.new.v.height ≡ picture.old.v.height }
 {
     if y > 0 {
-        filter_colours_down(picture, x, y - 4, level.outer_step());
+        filter_colours_down(picture, x, y - 4, level.outer_step(), 1);
     }
     if level.inner > 0 {
         filter_inner_colours_down(picture, x, y, level.inner_step());
@@ -256,6 +300,7 @@ fn filter_all_colours_down(picture: &mut Picture, x: usize, y: usize, level: Lev
 
 /// Filters a macroblock of luma, whose first pixel is at column `x` of row `y`.
 #[tactic(auto, unfolding(crate::specs::Edges::block_filtered))]
+#[inline(always)]
 pub(crate) fn filter_luma(picture: &mut Picture, x: usize, y: usize, level: Level)
     requires columns { x + 16 ≤ picture.old.luma.width }
     requires rows { y + 16 ≤ picture.old.luma.height }
@@ -271,6 +316,7 @@ pub(crate) fn filter_luma(picture: &mut Picture, x: usize, y: usize, level: Leve
 
 /// Filters a macroblock of both planes of colour, whose first pixels are at column `x` of row `y`.
 #[tactic(auto, unfolding(crate::specs::Edges::block_filtered))]
+#[inline(always)]
 pub(crate) fn filter_colours(picture: &mut Picture, x: usize, y: usize, level: Level)
     requires u_columns { x + 8 ≤ picture.old.u.width }
     requires u_rows { y + 8 ≤ picture.old.u.height }

@@ -10,6 +10,7 @@ use crate::strength::Level;
 use vp_base::Picture;
 
 /// Filters one macroblock.
+#[inline(always)]
 fn filter_macroblock(picture: &mut Picture, level: Level, column: usize, row: usize)
     requires column { column < macroblocks picture.old.width }
     requires row { row < macroblocks picture.old.height }

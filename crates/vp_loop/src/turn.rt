@@ -109,23 +109,32 @@ pub(crate) fn turned_back(
     ]
 }
 
-/// The first eight of sixteen rows.
-pub(crate) fn first_eight(rows: &[u8x8; 16]) -> [u8x8; 8]
-    ensures len { length result ≡ 8 }
-    ensures value { (j : ℕ) → j < 8 → slice_index_or result j [] ≡ slice_index_or rows.now j [] }
+/// The four pixels at the edge, of each of sixteen lines, line after line.
+pub(crate) fn middles_back(p1: u8x16, p0: u8x16, q0: u8x16, q1: u8x16) -> [u8x4; 16]
+    ensures len { length result ≡ 16 }
+    ensures value { (j : ℕ) → j < 16 → slice_index_or result j [] ≡ (slice_index p1 j ∷ slice_index p0 j ∷ slice_index q0 j ∷ slice_index q1 j ∷ []) }
 {
+    let (a0, a1) = p1.interleave(q0);
+    let (b0, b1) = p0.interleave(q1);
+    let (v0, v1) = a0.interleave(b0);
+    let (v2, v3) = a1.interleave(b1);
     [
-        rows[0], rows[1], rows[2], rows[3], rows[4], rows[5], rows[6], rows[7],
-    ]
-}
-
-/// The last eight of sixteen rows.
-pub(crate) fn last_eight(rows: &[u8x8; 16]) -> [u8x8; 8]
-    ensures len { length result ≡ 8 }
-    ensures value { (j : ℕ) → j < 8 → slice_index_or result j [] ≡ slice_index_or rows.now (8 + j) [] }
-{
-    [
-        rows[8], rows[9], rows[10], rows[11], rows[12], rows[13], rows[14], rows[15],
+        v0.extract::<0, 4>(),
+        v0.extract::<4, 4>(),
+        v0.extract::<8, 4>(),
+        v0.extract::<12, 4>(),
+        v1.extract::<0, 4>(),
+        v1.extract::<4, 4>(),
+        v1.extract::<8, 4>(),
+        v1.extract::<12, 4>(),
+        v2.extract::<0, 4>(),
+        v2.extract::<4, 4>(),
+        v2.extract::<8, 4>(),
+        v2.extract::<12, 4>(),
+        v3.extract::<0, 4>(),
+        v3.extract::<4, 4>(),
+        v3.extract::<8, 4>(),
+        v3.extract::<12, 4>(),
     ]
 }
 

@@ -1,4 +1,5 @@
-use Rattle.std.proofs.Common.{◌≡◌, ◌∙◌, ◌+◌, ◌<◌, ℕ, [], get_or, ap, ap₂, subst, arith, length}
+use Rattle.std.proofs.Common.{◌≡◌, ◌∙◌, ◌+◌, ◌-◌, ◌<◌, ℕ, List, [], get_or, ap, ap₂, subst, arith, length}
+use Rattle.std.specs.List.{slice_range}
 use Rattle.vp_base.specs.Raster.{Raster}
 use Rattle.vp_base.specs.Image.{Image}
 use Rattle.vp_base.specs.Block.{with_block, IsWhole}
@@ -6,7 +7,8 @@ use Rattle.vp_loop.specs.LineSteps.{stepped}
 use Rattle.vp_loop.specs.Lanes.{line_of}
 use Rattle.vp_loop.specs.Edges.{down, line_at, pixel_at}
 use Rattle.vp_loop.proofs.StepLemmas.{width-edge_lines, height-edge_lines}
-use Rattle.vp_loop.proofs.WriteLemmas.{rows_down, down_pixel_is}
+use Rattle.vp_loop.proofs.WriteLemmas.{down_pixel_is}
+use Rattle.vp_loop.proofs.KeptLemmas.{rows_down}
 use Rattle.vp_loop.proofs.edges.filter_colours_down.Goals as goal
 
 pub returns-clause-value : goal.returns-clause-value
@@ -16,20 +18,21 @@ returns-clause-value c =
     let y = c.args.y in
     let step = c.args.step in
     let whole_u : IsWhole p.u = subst IsWhole c.plane.ensures c.height-u_height.ensures.whole in
-    let f_u : ℕ → ℕ → ℕ = λ r d. get_or (get_or c.first_halves.result r []) d 0 in
+    let f_u : ℕ → ℕ → ℕ = λ r d. get_or (get_or c.first_halves-u_rows.result r []) d 0 in
     let at_u : (r d : ℕ) → r < 8 → d < 8 → f_u r d ≡ pixel_at (stepped step (line_at down p.u (x + d) y)) r =
     λ r d h g. down_pixel_is step p.u c.plane-3.result.now (x + d) y r (f_u r d) (line_of c.apply_to_all-l.result d) (line_of c.lines_down_both.result d)
-    (c.first_halves.ensures.value d g r h) (c.apply_to_all-l.ensures d (let i : d < 16 = omega arith in i)) (c.lines_down_both.ensures.first d g) c.plane-3.ensures in
+    (c.first_halves-u_rows.ensures.value d g r h) (c.apply_to_all-l.ensures d (let i : d < 16 = omega arith in i)) (c.lines_down_both.ensures.first d g) c.plane-3.ensures in
     let whole_v : IsWhole p.v = subst IsWhole c.plane-2.ensures c.height-v_height.ensures.whole in
-    let f_v : ℕ → ℕ → ℕ = λ r d. get_or (get_or c.second_halves.result r []) d 0 in
+    let f_v : ℕ → ℕ → ℕ = λ r d. get_or (get_or c.second_halves-v_rows.result r []) d 0 in
     let at_v : (r d : ℕ) → r < 8 → d < 8 → f_v r d ≡ pixel_at (stepped step (line_at down p.v (x + d) y)) r =
     λ r d h g. down_pixel_is step p.v c.plane-4.result.now (x + d) y r (f_v r d) (line_of c.apply_to_all-l.result (8 + d)) (line_of c.lines_down_both.result (8 + d))
-    (c.second_halves.ensures.value d g r h) (c.apply_to_all-l.ensures (8 + d) (let i : 8 + d < 16 = omega arith in i)) (c.lines_down_both.ensures.second d g) c.plane-4.ensures in
-    let f : Raster → Raster = λ q. with_block q x y 8 (length c.second_halves.result) f_v in
+    (c.second_halves-v_rows.ensures.value d g r h) (c.apply_to_all-l.ensures (8 + d) (let i : 8 + d < 16 = omega arith in i)) (c.lines_down_both.ensures.second d g) c.plane-4.ensures in
+    let part : List (List ℕ) = slice_range c.second_halves-v_rows.result c.args.kept (8 - c.args.kept) in
+    let f : Raster → Raster = λ q. with_block q x (y + c.args.kept) 8 (length part) (λ r d. get_or (get_or part r []) d 0) in
     c.write_rows8-2.ensures
     ∙ (ap (λ (q : Image). record q { v = f q.v }) c.write_rows8.ensures
-    ∙ ap₂ (λ (a b : Raster). record p { u = a; v = b }) (rows_down step x y p.u c.first_halves.result c.first_halves.ensures.len whole_u c.requires.u_columns c.requires.u_rows at_u)
-    (rows_down step x y p.v c.second_halves.result c.second_halves.ensures.len whole_v c.requires.v_columns c.requires.v_rows at_v))
+    ∙ ap₂ (λ (a b : Raster). record p { u = a; v = b }) (rows_down step 8 c.args.kept x y p.u c.first_halves-u_rows.result c.first_halves-u_rows.ensures.len whole_u c.requires.u_columns c.requires.u_rows c.requires.few c.requires.ends at_u)
+    (rows_down step 8 c.args.kept x y p.v c.second_halves-v_rows.result c.second_halves-v_rows.ensures.len whole_v c.requires.v_columns c.requires.v_rows c.requires.few c.requires.ends at_v))
 
 pub returns-clause-u_wide : goal.returns-clause-u_wide
 returns-clause-u_wide c = ap (λ (p : Image). p.u.width) (returns-clause-value c) ∙ width-edge_lines down c.args.step 8 c.args.x c.args.y c.args.picture.now.u

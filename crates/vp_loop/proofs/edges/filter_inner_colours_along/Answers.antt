@@ -1,10 +1,54 @@
-use Rattle.std.proofs.Common.{◌∙◌, ap₂}
+use Rattle.std.proofs.Common.{◌≡◌, ◌∙◌, ◌+◌, ◌<◌, ℕ, List, [], get_or, ap, ap₂, sym, subst, arith, length, rules, length-drop}
+use Rattle.std.specs.List.{slice_range}
+use Rattle.std.proofs.lemmas.List.{length-take, places}
 use Rattle.vp_base.specs.Raster.{Raster}
-use Rattle.vp_loop.proofs.WriteLemmas.{inner_along}
+use Rattle.vp_base.specs.Image.{Image}
+use Rattle.vp_base.specs.Block.{with_block, IsWhole}
+use Rattle.vp_loop.specs.LineSteps.{stepped}
+use Rattle.vp_loop.specs.Lanes.{line_of, middle_of}
+use Rattle.vp_loop.specs.Edges.{along, line_at}
+use Rattle.vp_loop.proofs.StepLemmas.{width-edge_lines, height-edge_lines}
+use Rattle.vp_loop.proofs.WriteLemmas.{turned_line, inner_along}
+use Rattle.vp_loop.proofs.KeptLemmas.{middles_along}
 use Rattle.vp_loop.proofs.edges.filter_inner_colours_along.Goals as goal
 
 pub returns-clause-value : goal.returns-clause-value
 returns-clause-value c =
     let p = c.args.picture.now in
-    c.filter_colours_along.ensures.value
-    ∙ ap₂ (λ (a b : Raster). record p { u = a; v = b }) (inner_along c.args.step c.args.x c.args.y p.u) (inner_along c.args.step c.args.x c.args.y p.v)
+    let x = c.args.x in
+    let y = c.args.y in
+    let step = c.args.step in
+    let lines = c.middles_back-lines.result in
+    let long : length lines ≡ 16 = c.middles_back-lines.ensures.len in
+    let whole_u : IsWhole p.u = subst IsWhole c.plane.ensures c.width-u_width.ensures.whole in
+    let rows_u : List (List ℕ) = slice_range lines 0 8 in
+    let long_u : length rows_u ≡ 8 = simp (length-take, length-drop) (omega arith) in
+    let row_u : (r : ℕ) → r < 8 → get_or rows_u r [] ≡ middle_of (stepped step (line_at along p.u x (y + r))) =
+    λ r h. (let own : get_or rows_u r [] ≡ get_or lines r [] = search (rules, places) in own)
+    ∙ turned_line middle_of step p.u c.plane-3.result.now x (y + r) (get_or lines r []) (line_of c.apply_to_all-l.result r) (line_of c.lines_along_both.result r)
+    (c.middles_back-lines.ensures.value r (let i : r < 16 = omega arith in i)) (c.apply_to_all-l.ensures r (let i : r < 16 = omega arith in i)) (c.lines_along_both.ensures.first r h) c.plane-3.ensures in
+    let whole_v : IsWhole p.v = subst IsWhole c.plane-2.ensures c.width-v_width.ensures.whole in
+    let rows_v : List (List ℕ) = slice_range lines 8 16 in
+    let long_v : length rows_v ≡ 8 = simp (length-take, length-drop) (omega arith) in
+    let row_v : (r : ℕ) → r < 8 → get_or rows_v r [] ≡ middle_of (stepped step (line_at along p.v x (y + r))) =
+    λ r h. (let own : get_or rows_v r [] ≡ get_or lines (8 + r) [] = search (rules, places) in own)
+    ∙ turned_line middle_of step p.v c.plane-4.result.now x (y + r) (get_or lines (8 + r) []) (line_of c.apply_to_all-l.result (8 + r)) (line_of c.lines_along_both.result (8 + r))
+    (c.middles_back-lines.ensures.value (8 + r) (let i : 8 + r < 16 = omega arith in i)) (c.apply_to_all-l.ensures (8 + r) (let i : 8 + r < 16 = omega arith in i)) (c.lines_along_both.ensures.second r h) c.plane-4.ensures in
+    let f : Raster → Raster = λ q. with_block q (x + 2) y 4 (length rows_v) (λ r d. get_or (get_or rows_v r []) d 0) in
+    c.write_rows4-2.ensures
+    ∙ (ap (λ (q : Image). record q { v = f q.v }) c.write_rows4.ensures
+    ∙ (ap₂ (λ (a b : Raster). record p { u = a; v = b }) (middles_along step 8 x y p.u rows_u long_u whole_u c.requires.u_columns c.requires.u_rows c.requires.ends row_u)
+    (middles_along step 8 x y p.v rows_v long_v whole_v c.requires.v_columns c.requires.v_rows c.requires.ends row_v)
+    ∙ ap₂ (λ (a b : Raster). record p { u = a; v = b }) (inner_along step x y p.u) (inner_along step x y p.v)))
+
+pub returns-clause-u_wide : goal.returns-clause-u_wide
+returns-clause-u_wide c = ap (λ (p : Image). p.u.width) (returns-clause-value c ∙ sym (ap₂ (λ (a b : Raster). record c.args.picture.now { u = a; v = b }) (inner_along c.args.step c.args.x c.args.y c.args.picture.now.u) (inner_along c.args.step c.args.x c.args.y c.args.picture.now.v))) ∙ width-edge_lines along c.args.step 8 c.args.x c.args.y c.args.picture.now.u
+
+pub returns-clause-u_high : goal.returns-clause-u_high
+returns-clause-u_high c = ap (λ (p : Image). p.u.height) (returns-clause-value c ∙ sym (ap₂ (λ (a b : Raster). record c.args.picture.now { u = a; v = b }) (inner_along c.args.step c.args.x c.args.y c.args.picture.now.u) (inner_along c.args.step c.args.x c.args.y c.args.picture.now.v))) ∙ height-edge_lines along c.args.step 8 c.args.x c.args.y c.args.picture.now.u
+
+pub returns-clause-v_wide : goal.returns-clause-v_wide
+returns-clause-v_wide c = ap (λ (p : Image). p.v.width) (returns-clause-value c ∙ sym (ap₂ (λ (a b : Raster). record c.args.picture.now { u = a; v = b }) (inner_along c.args.step c.args.x c.args.y c.args.picture.now.u) (inner_along c.args.step c.args.x c.args.y c.args.picture.now.v))) ∙ width-edge_lines along c.args.step 8 c.args.x c.args.y c.args.picture.now.v
+
+pub returns-clause-v_high : goal.returns-clause-v_high
+returns-clause-v_high c = ap (λ (p : Image). p.v.height) (returns-clause-value c ∙ sym (ap₂ (λ (a b : Raster). record c.args.picture.now { u = a; v = b }) (inner_along c.args.step c.args.x c.args.y c.args.picture.now.u) (inner_along c.args.step c.args.x c.args.y c.args.picture.now.v))) ∙ height-edge_lines along c.args.step 8 c.args.x c.args.y c.args.picture.now.v

@@ -10,15 +10,15 @@ loop-i-init c =
     let p = c.args.picture.now in
     ap (λ (q : Raster). record p { luma = q }) (sym (first_edges-none along c.args.step 16 c.args.x c.args.y p.luma))
 
-pub filter_luma_along-requires-clause-columns : goal.filter_luma_along-requires-clause-columns
-filter_luma_along-requires-clause-columns c =
+pub filter_luma_inside_along-requires-clause-columns : goal.filter_luma_inside_along-requires-clause-columns
+filter_luma_inside_along-requires-clause-columns c =
     let w : c.loop-i.picture.luma.width ≡ c.args.picture.now.luma.width =
     ap (λ (p : Image). p.luma.width) c.loop-i.invariant ∙ width-first_edges along c.args.step c.loop-i.i 16 c.args.x c.args.y c.args.picture.now.luma in
     let n = c.requires.columns in
     omega arith
 
-pub filter_luma_along-requires-clause-rows : goal.filter_luma_along-requires-clause-rows
-filter_luma_along-requires-clause-rows c =
+pub filter_luma_inside_along-requires-clause-rows : goal.filter_luma_inside_along-requires-clause-rows
+filter_luma_inside_along-requires-clause-rows c =
     let w : c.loop-i.picture.luma.height ≡ c.args.picture.now.luma.height =
     ap (λ (p : Image). p.luma.height) c.loop-i.invariant ∙ height-first_edges along c.args.step c.loop-i.i 16 c.args.x c.args.y c.args.picture.now.luma in
     let n = c.requires.rows in
@@ -27,7 +27,7 @@ filter_luma_along-requires-clause-rows c =
 pub loop-i-preserved : goal.loop-i-preserved
 loop-i-preserved c =
     let p = c.args.picture.now in
-    c.filter_luma_along.ensures.value
+    c.filter_luma_inside_along.ensures.value
     ∙ (ap (on_luma (edge_lines along c.args.step 16 (c.args.x + 4 * c.loop-i.i) c.args.y)) c.loop-i.invariant
     ∙ ap (λ (q : Raster). record p { luma = q }) (first_edges-along c.args.step c.loop-i.i 16 c.args.x c.args.y p.luma))
 

@@ -1,4 +1,4 @@
-use Rattle.std.proofs.Common.{◌≡◌, ◌∙◌, ◌+◌, ◌<◌, ℕ, List, [], ◌∷◌, get_or, ap, subst}
+use Rattle.std.proofs.Common.{◌≡◌, ◌∙◌, ◌+◌, ◌<◌, ℕ, List, [], ◌∷◌, get_or, refl, ap, subst}
 use Rattle.vp_base.specs.Raster.{Raster}
 use Rattle.vp_base.specs.Image.{Image}
 use Rattle.vp_base.specs.Block.{IsWhole}
@@ -6,7 +6,8 @@ use Rattle.vp_loop.specs.LineSteps.{stepped}
 use Rattle.vp_loop.specs.Lanes.{line_of}
 use Rattle.vp_loop.specs.Edges.{down, line_at, pixel_at}
 use Rattle.vp_loop.proofs.StepLemmas.{width-edge_lines, height-edge_lines}
-use Rattle.vp_loop.proofs.WriteLemmas.{edge_down, down_pixel_is, rows_pixel}
+use Rattle.vp_loop.proofs.WriteLemmas.{down_pixel_is, rows_pixel}
+use Rattle.vp_loop.proofs.KeptLemmas.{rows_down}
 use Rattle.vp_loop.proofs.edges.filter_luma_down.Goals as goal
 
 pub returns-clause-value : goal.returns-clause-value
@@ -18,11 +19,10 @@ returns-clause-value c =
     let l = c.apply_to_all-l.result in
     let rows : List (List ℕ) = l.p3 ∷ l.p2 ∷ l.p1 ∷ l.p0 ∷ l.q0 ∷ l.q1 ∷ l.q2 ∷ l.q3 ∷ [] in
     let whole : IsWhole p.luma = subst IsWhole c.plane.ensures c.height-height.ensures.whole in
-    let f : ℕ → ℕ → ℕ = λ r d. get_or (get_or rows r []) d 0 in
-    let at : (r d : ℕ) → r < 8 → d < 16 → f r d ≡ pixel_at (stepped step (line_at down p.luma (x + d) y)) r =
-    λ r d h g. down_pixel_is step p.luma c.plane-2.result.now (x + d) y r (f r d) (line_of l d) (line_of c.lines_down.result d)
+    let at : (r d : ℕ) → r < 8 → d < 16 → get_or (get_or rows r []) d 0 ≡ pixel_at (stepped step (line_at down p.luma (x + d) y)) r =
+    λ r d h g. down_pixel_is step p.luma c.plane-2.result.now (x + d) y r (get_or (get_or rows r []) d 0) (line_of l d) (line_of c.lines_down.result d)
     (rows_pixel l d r h) (c.apply_to_all-l.ensures d g) (c.lines_down.ensures d g) c.plane-2.ensures in
-    c.write_rows16.ensures ∙ ap (λ (q : Raster). record p { luma = q }) (edge_down step 16 x y p.luma f whole c.requires.columns c.requires.rows at)
+    c.write_rows16.ensures ∙ ap (λ (q : Raster). record p { luma = q }) (rows_down step 16 c.args.kept x y p.luma rows refl whole c.requires.columns c.requires.rows c.requires.few c.requires.ends at)
 
 pub returns-clause-wide : goal.returns-clause-wide
 returns-clause-wide c = ap (λ (p : Image). p.luma.width) (returns-clause-value c) ∙ width-edge_lines down c.args.step 16 c.args.x c.args.y c.args.picture.now.luma

@@ -1,6 +1,5 @@
-use Rattle.std.proofs.Common.{◌≡◌, ◌∙◌, ℕ, ap, sym, arith, get_or}
+use Rattle.std.proofs.Common.{◌≡◌, ◌∙◌, ℕ, ap, sym, arith}
 use Rattle.vp_base.specs.Image.{Image, macroblocks}
-use Rattle.vp_loop.specs.Levels.{no_level}
 use Rattle.vp_loop.specs.Filtered.{macroblock_filtered, level_in}
 use Rattle.vp_loop.proofs.FrameLemmas.{Sizes, first_macroblocks, first_macroblocks-none, first_macroblocks-more, sizes-first_macroblocks, row_filtered-all}
 use Rattle.vp_loop.proofs.plain.filter_row.Goals as goal

@@ -1,0 +1,162 @@
+-- A part of a block is written, and the rest, which stays as it is, is not.
+use Rattle.std.proofs.Common.{◌≡◌, ◌∙◌, ℕ, zero, suc, ◌+◌, ◌-◌, ◌<◌, ◌≤◌, ◌==◌, Bool, true, false, cond, List, [], length, get_or, refl, ap, sym, subst, arith, rules, inl, inr, length-drop}
+use Rattle.std.specs.List.{slice_range}
+use Rattle.std.proofs.lemmas.List.{length-take, places}
+use Rattle.std.proofs.lemmas.Bool.{cases_lt}
+use Rattle.std.proofs.lemmas.Bool.Decides.{nat_tests}
+use Rattle.vp_base.specs.Raster.{Raster, pixel}
+use Rattle.vp_base.specs.Block.{with_block, is_in_block, IsWhole}
+use Rattle.vp_base.proofs.BlockLemmas.{pixel-with_block, IsWhole-with_block, same_raster}
+use Rattle.vp_loop.specs.declared.lines.Line.{Line}
+use Rattle.vp_loop.specs.declared.lines.LineStep.{LineStep}
+use Rattle.vp_loop.specs.declared.lines.EdgeKind.TheVariants.{Simple, Inner}
+use Rattle.vp_loop.specs.declared.strength.Level.{Level}
+use Rattle.vp_loop.specs.LineSteps.{is_changed, changed, stepped}
+use Rattle.vp_loop.specs.Lanes.{KeepsEnds, middle_of}
+use Rattle.vp_loop.specs.Edges.{along, down, line_at, pixel_at, edge_lines, inner_step}
+use Rattle.vp_loop.proofs.StepLemmas.{stepped_ends, pixel_at-line_at}
+use Rattle.vp_loop.proofs.WriteLemmas.{edge_along, edge_down}
+use Rattle.vp_loop.proofs.Turned.{below_four}
+
+-- ---- what the steps keep
+
+pub keeps_last : (step : LineStep) → KeepsEnds 1 step
+keeps_last step l zero h = stepped_ends step l
+keeps_last step l (suc n) h = absurd (omega arith)
+
+second_kept : (b : Bool) (l m : Line) → (m.p2 ≡ l.p2) × (m.q2 ≡ l.q2) → ((cond b m l).p2 ≡ l.p2) × ((cond b m l).q2 ≡ l.q2)
+second_kept true l m same = same
+second_kept false l m same = (refl, refl)
+
+-- a step inside a macroblock
+abbrev inside : Bool → Level → LineStep
+inside simple level = record { kind = cond simple Simple Inner; limit = level.inner; interior = level.interior; hev = level.hev }
+
+inside_kept : (simple : Bool) (level : Level) (l : Line) → ((changed (inside simple level) l).p2 ≡ l.p2) × ((changed (inside simple level) l).q2 ≡ l.q2)
+inside_kept true level l = (refl, refl)
+inside_kept false level l = (refl, refl)
+
+pub keeps_two : (level : Level) → KeepsEnds 2 (inner_step level)
+unfolding stepped
+keeps_two level l zero h = stepped_ends (inner_step level) l
+keeps_two level l (suc zero) h =
+    second_kept (is_changed (inner_step level) l) l (changed (inner_step level) l) (inside_kept (level.interior == 0) level l)
+keeps_two level l (suc (suc n)) h = absurd (omega arith)
+
+end_kept : (k : ℕ) (step : LineStep) → KeepsEnds k step → (l : Line) (r : ℕ) → r < 8 → (k ≤ r → 8 - k ≤ r) → pixel_at (stepped step l) r ≡ pixel_at l r
+end_kept k step keeps l r small outside =
+    elim (cases_lt r k) [
+      | inl first ↦ (keeps l r first).0
+      | inr later ↦
+          let late : 8 - k ≤ r = outside later in
+          let place : 7 - (7 - r) ≡ r = omega arith in
+          subst (λ (i : ℕ). pixel_at (stepped step l) i ≡ pixel_at l i) place (keeps l (7 - r) (omega arith)).1
+    ]
+
+-- ---- a part of a block
+
+in_both : (x y w h s t u v i j : ℕ) → x ≤ s → s + u ≤ x + w → y ≤ t → t + v ≤ y + h → is_in_block s t u v i j ≡ true
+    → (is_in_block x y w h i j ≡ true) × (s ≤ i) × (i < s + u) × (t ≤ j) × (j < t + v)
+in_both x y w h s t u v i j left right top bottom e = grind (arith, nat_tests)
+
+in_whole : (x y w h i j : ℕ) → is_in_block x y w h i j ≡ true → (x ≤ i) × (i < x + w) × (y ≤ j) × (j < y + h)
+in_whole x y w h i j e = grind (arith, nat_tests)
+
+-- the part of u columns and v rows that begins at column s of row t, of the block of w columns and h rows at x y
+module _ (p : Raster) (x y w h s t u v : ℕ) (f g : ℕ → ℕ → ℕ) (left : x ≤ s) (right : s + u ≤ x + w) (top : y ≤ t) (bottom : t + v ≤ y + h)
+    (same : (i j : ℕ) → is_in_block s t u v i j ≡ true → g (j - t) (i - s) ≡ f (j - y) (i - x))
+    (kept : (i j : ℕ) → is_in_block x y w h i j ≡ true → is_in_block s t u v i j ≡ false → f (j - y) (i - x) ≡ pixel p i j) where
+  part_pixel : (i j : ℕ) (m n : Bool) → is_in_block s t u v i j ≡ m → is_in_block x y w h i j ≡ n
+      → cond m (g (j - t) (i - s)) (pixel p i j) ≡ cond n (f (j - y) (i - x)) (pixel p i j)
+  part_pixel i j true n inside whole =
+      same i j inside
+      ∙ ap (λ (b : Bool). cond b (f (j - y) (i - x)) (pixel p i j)) (sym (in_both x y w h s t u v i j left right top bottom inside).0 ∙ whole)
+  part_pixel i j false true outside whole = sym (kept i j whole outside)
+  part_pixel i j false false outside whole = refl
+
+  pub kept_part : with_block p s t u v g ≡ with_block p x y w h f
+  kept_part =
+      same_raster (with_block p s t u v g) (with_block p x y w h f) refl refl (IsWhole-with_block p s t u v g) (IsWhole-with_block p x y w h f) (λ i j iin jin.
+      pixel-with_block p s t u v g i j iin jin
+      ∙ (part_pixel i j (is_in_block s t u v i j) (is_in_block x y w h i j) refl refl
+      ∙ sym (pixel-with_block p x y w h f i j iin jin)))
+
+-- ---- rows of lines, but for those that the step keeps
+
+not_in_rows : (x y n k i j : ℕ) → is_in_block x y n 8 i j ≡ true → is_in_block x (y + k) n (8 - k - k) i j ≡ false → k ≤ j - y → 8 - k ≤ j - y
+not_in_rows x y n k i j e d low = grind (arith, nat_tests)
+
+pub rows_down : (step : LineStep) (n k x y : ℕ) (p : Raster) (rs : List (List ℕ)) → length rs ≡ 8 → IsWhole p → x + n ≤ p.width → y + 8 ≤ p.height
+    → k ≤ 4 → KeepsEnds k step
+    → ((r c : ℕ) → r < 8 → c < n → get_or (get_or rs r []) c 0 ≡ pixel_at (stepped step (line_at down p (x + c) y)) r)
+    → with_block p x (y + k) n (length (slice_range rs k (8 - k))) (λ r c. get_or (get_or (slice_range rs k (8 - k)) r []) c 0) ≡ edge_lines down step n x y p
+rows_down step n k x y p rs long whole columns rows few keeps same =
+    let part : List (List ℕ) = slice_range rs k (8 - k) in
+    let f : ℕ → ℕ → ℕ = λ r c. get_or (get_or rs r []) c 0 in
+    let g : ℕ → ℕ → ℕ = λ r c. get_or (get_or part r []) c 0 in
+    let size : length part ≡ 8 - k - k = simp (length-take, length-drop) (omega arith) in
+    let row : (r : ℕ) → r < 8 - k - k → get_or part r [] ≡ get_or rs (k + r) [] = λ r h. search (rules, places) in
+    ap (λ (m : ℕ). with_block p x (y + k) n m g) size
+    ∙ (kept_part p x y n 8 x (y + k) n (8 - k - k) f g (omega arith) (omega arith) (omega arith) (omega arith)
+    (λ i j e.
+    let here = in_whole x (y + k) n (8 - k - k) i j e in
+    let low = here.2 in
+    let high = here.3 in
+    let place : k + (j - (y + k)) ≡ j - y = omega arith in
+    ap (λ (v : List ℕ). get_or v (i - x) 0) (row (j - (y + k)) (omega arith) ∙ ap (λ (m : ℕ). get_or rs m []) place))
+    (λ i j e d.
+    let here = in_whole x y n 8 i j e in
+    let left = here.0 in
+    let right = here.1 in
+    let low = here.2 in
+    let high = here.3 in
+    let l = line_at down p (x + (i - x)) y in
+    let small : j - y < 8 = omega arith in
+    let column : x + (i - x) ≡ i = omega arith in
+    let line : y + (j - y) ≡ j = omega arith in
+    same (j - y) (i - x) small (omega arith)
+    ∙ (end_kept k step keeps l (j - y) small (not_in_rows x y n k i j e d)
+    ∙ (pixel_at-line_at down p (x + (i - x)) y (j - y) small
+    ∙ (ap (λ (m : ℕ). pixel p m (y + (j - y))) column ∙ ap (λ (m : ℕ). pixel p i m) line))))
+    ∙ edge_down step n x y p f whole columns rows same)
+
+-- ---- the four columns at a vertical edge
+
+not_in_columns : (x y n i j : ℕ) → is_in_block x y 8 n i j ≡ true → is_in_block (x + 2) y 4 n i j ≡ false → 2 ≤ i - x → 6 ≤ i - x
+not_in_columns x y n i j e d low = grind (arith, nat_tests)
+
+middle_pixel : (l : Line) (c : ℕ) → c < 4 → get_or (middle_of l) c 0 ≡ pixel_at l (2 + c)
+middle_pixel l = below_four (λ c. get_or (middle_of l) c 0 ≡ pixel_at l (2 + c)) refl refl refl refl
+
+pub middles_along : (step : LineStep) (n x y : ℕ) (p : Raster) (rs : List (List ℕ)) → length rs ≡ n → IsWhole p → x + 8 ≤ p.width → y + n ≤ p.height
+    → KeepsEnds 2 step
+    → ((r : ℕ) → r < n → get_or rs r [] ≡ middle_of (stepped step (line_at along p x (y + r))))
+    → with_block p (x + 2) y 4 (length rs) (λ r c. get_or (get_or rs r []) c 0) ≡ edge_lines along step n x y p
+middles_along step n x y p rs long whole columns rows keeps same =
+    let f : ℕ → ℕ → ℕ = λ r c. pixel_at (stepped step (line_at along p x (y + r))) c in
+    let g : ℕ → ℕ → ℕ = λ r c. get_or (get_or rs r []) c 0 in
+    ap (λ (m : ℕ). with_block p (x + 2) y 4 m g) long
+    ∙ (kept_part p x y 8 n (x + 2) y 4 n f g (omega arith) (omega arith) (omega arith) (omega arith)
+    (λ i j e.
+    let here = in_whole (x + 2) y 4 n i j e in
+    let left = here.0 in
+    let right = here.1 in
+    let low = here.2 in
+    let high = here.3 in
+    let place : 2 + (i - (x + 2)) ≡ i - x = omega arith in
+    let l = stepped step (line_at along p x (y + (j - y))) in
+    ap (λ (v : List ℕ). get_or v (i - (x + 2)) 0) (same (j - y) (omega arith))
+    ∙ (middle_pixel l (i - (x + 2)) (omega arith) ∙ ap (λ (m : ℕ). pixel_at l m) place))
+    (λ i j e d.
+    let here = in_whole x y 8 n i j e in
+    let left = here.0 in
+    let right = here.1 in
+    let low = here.2 in
+    let l = line_at along p x (y + (j - y)) in
+    let small : i - x < 8 = omega arith in
+    let column : x + (i - x) ≡ i = omega arith in
+    let line : y + (j - y) ≡ j = omega arith in
+    end_kept 2 step keeps l (i - x) small (not_in_columns x y n i j e d)
+    ∙ (pixel_at-line_at along p x (y + (j - y)) (i - x) small
+    ∙ (ap (λ (m : ℕ). pixel p m (y + (j - y))) column ∙ ap (λ (m : ℕ). pixel p i m) line)))
+    ∙ edge_along step n x y p f whole columns rows (λ r c h g. refl))
