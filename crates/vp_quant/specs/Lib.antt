@@ -1,2 +1,3 @@
 pub mod Quant
 pub mod Level
+pub mod Short

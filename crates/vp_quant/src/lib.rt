@@ -5,9 +5,11 @@
 mod block;
 mod factors;
 mod level;
+mod short;
 #[cfg(test)]
 mod tests;
 
 pub use block::dequant;
 pub use factors::{Factors, segment_index};
 pub use level::quantise;
+pub use short::dequant_short;

@@ -97,3 +97,24 @@ fn kernel_examples(rt: HostRuntime) {
     assert_eq!(rt; quantise(-7, 4), -2);
     assert_eq!(rt; quantise(1 << 40, 4), 2047);
 }
+
+/// The same numbers as the plain way, in 16 bits: as far as 8191, and no further.
+#[test]
+fn short_coefficients(rt: HostRuntime) {
+    let mut levels = [0i16; 16];
+    levels[0] = -3;
+    levels[2] = 5;
+    levels[3] = -7;
+    levels[15] = 11;
+    let mut wanted = [0i16; 16];
+    wanted[0] = -30;
+    wanted[4] = 100;
+    wanted[8] = -140;
+    wanted[15] = 220;
+    assert_eq!(rt; dequant_short(levels, 10, 20), Some(wanted));
+    assert_eq!(rt; dequant_short([-8191; 16], 1, 1), Some([-8191; 16]));
+    assert_eq!(rt;
+        dequant_short([0, 0, 0, 0, 0, 0, 0, 8, 0, 0, 0, 0, 0, 0, 0, 0], 1024, 4),
+        None
+    );
+}

@@ -12,9 +12,8 @@ use vp_lanes::clamp_i16;
 fn add(pixels: u8x16, numbers: i16x16) -> u8x16
     ensures { (j : ℕ) → j < 16 → slice_index result j ≡ summed (slice_index pixels j) (lane numbers j) }
 {
-    (pixels.cast::<i16>() + clamp_i16(numbers, i16::MIN, 255))
-        .simd_clamp(i16x16::splat(0), i16x16::splat(255))
-        .cast::<u8>()
+    let sums = pixels.cast::<i16>() + clamp_i16(numbers, i16::MIN, 255);
+    clamp_i16(sums, 0, 255).cast::<u8>()
 }
 
 /// The pixels of a subblock with the numbers that are kept of its residue.

@@ -11,9 +11,9 @@ ghost use Rattle.vp_recon.specs.Parts.{AreSmall, Gives, residue_in};
 
 use crate::kept::sums;
 use std::simd::prelude::*;
-use vp_quant::{Factors, dequant};
+use vp_quant::{Factors, dequant, dequant_short};
 use vp_tokens::{Block, Tokens};
-use vp_transform::{cut, idct_cut, idct_of_first, iwht, iwht_of_first};
+use vp_transform::{cut, idct_cut, idct_of_first, idct_short, iwht, iwht_of_first};
 
 /// Block `n`: 0 is Y2, 1 to 16 are luma, 17 to 20 U and 21 to 24 V.
 pub(crate) fn block_of(tokens: &Tokens, n: usize) -> &Block
@@ -39,6 +39,20 @@ fn residue_with_first(block: &Block, first: i64, ac: u16) -> [i16; 16]
     if block.tokens <= 1 {
         return [cut(idct_of_first(first)); 16];
     }
+    match dequant_short(block.levels, 0, ac) {
+        Some(mut coefficients) if first.unsigned_abs() <= 8191 => {
+            coefficients[0] = first as i16;
+            idct_short(&coefficients)
+        }
+        _ => large_residue(block, first, ac),
+    }
+}
+
+/// The same by way of i64, however large the coefficients are.
+fn large_residue(block: &Block, first: i64, ac: u16) -> [i16; 16]
+    requires { unsigned_abs first ≤ 2 ^ 40 }
+    ensures { IsKept result (idct (slice_set (dequantised block.now.levels 0 ac) 0 first)) }
+{
     let mut coefficients = dequant(&block.levels, 0, ac);
     coefficients[0] = first;
     idct_cut(&coefficients)

@@ -6,7 +6,7 @@ use Rattle.vp_recon.specs.Prediction.{moved_pixel}
 use Rattle.vp_recon.specs.Kept.{AreVectors}
 use Rattle.vp_recon.proofs.Parts.{sub_at, until}
 use Rattle.vp_recon.proofs.AddLemmas.{was}
-use Rattle.vp_recon.proofs.moved.predict_each.Given as goal
+use Rattle.vp_recon.proofs.moved.predict_four.Given as goal
 
 abbrev pub invariant-loop-k : goal.invariant-loop-k
 invariant-loop-k l = record {

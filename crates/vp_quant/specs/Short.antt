@@ -1,0 +1,14 @@
+-- When a block's coefficients are small enough to be computed in sixteen bits.
+use Rattle.std.specs.Prelude.{ℕ, ◌*◌, ◌<◌, ◌≤◌, max, ℤ, pos, List, slice_index_or, unsigned_abs}
+
+-- the larger factor, or 1
+abbrev pub largest : ℕ → ℕ → ℕ
+largest dc ac = max (max dc ac) 1
+
+-- the level's product with either factor is from -8191 to 8191, and so is the level
+abbrev pub IsNear : ℤ → ℕ → ℕ → Type 0
+IsNear level dc ac = unsigned_abs level * largest dc ac ≤ 8191
+
+-- each of a block's levels is so near to 0
+abbrev pub AreShort : List ℤ → ℕ → ℕ → Type 0
+AreShort levels dc ac = (i : ℕ) → i < 16 → IsNear (slice_index_or levels i (pos 0)) dc ac

@@ -1,0 +1,58 @@
+//! Blocks of levels times factors in lanes of i16, for products from -8191 to 8191.
+
+ghost use Rattle.std.specs.Prelude.{◌≡◌, ◌≢◌, ℕ, ◌*◌, ◌/◌, ◌<◌, ◌≤◌, pos, ◌*ℤ◌, ℤ, List, Some, None, true, false, max, min, unsigned_abs, slice_index_or, ◌==◌, if◌then◌else◌};
+ghost use Rattle.vp_lanes.specs.Lane.{lane};
+ghost use Rattle.vp_quant.specs.Quant.{position_at, dequantised};
+ghost use Rattle.vp_quant.specs.Short.{largest, AreShort, IsNear};
+
+use std::simd::prelude::*;
+use vp_lanes::clamp_i16;
+
+/// What `dequant` gives, in 16 bits, where each product of a level and the larger factor is from -8191 to 8191, and so
+/// is each level; else nothing.
+pub fn dequant_short(levels: [i16; 16], dc: u16, ac: u16) -> Option<[i16; 16]>
+    ensures value { (block : List ℤ) → result ≡ Some block → block ≡ dequantised levels dc ac }
+    ensures small { (block : List ℤ) → result ≡ Some block → (i : ℕ) → unsigned_abs (slice_index_or block i (pos 0)) ≤ 8191 }
+    ensures some { AreShort levels dc ac → result ≢ None }
+{
+    let read = i16x16::from_array(levels);
+    let most = most_of(dc, ac);
+    let held = clamp_i16(read, -most, most);
+    if are_same(held, read) {
+        Some(placed(products(held, dc, ac)).to_array())
+    } else {
+        None
+    }
+}
+
+/// How far from 0 a level may be for that.
+fn most_of(dc: u16, ac: u16) -> i16
+    ensures { result ≡ pos (8191 / largest dc ac) }
+{
+    (8191 / dc.max(ac).max(1)) as i16
+}
+
+/// Whether all lanes are the same.
+fn are_same(a: i16x16, b: i16x16) -> bool
+    ensures same { result ≡ true → (j : ℕ) → j < 16 → lane a j ≡ lane b j }
+    ensures other { ((j : ℕ) → j < 16 → lane a j ≡ lane b j) → result ≡ true }
+{
+    a.simd_eq(b).all()
+}
+
+/// The levels, of which none is further from 0 than the factors let it be, times their factors.
+fn products(levels: i16x16, dc: u16, ac: u16) -> i16x16
+    requires { (j : ℕ) → j < 16 → IsNear (lane levels j) dc ac }
+    ensures { (j : ℕ) → j < 16 → lane result j ≡ lane levels j *ℤ pos (if j == 0 then dc else ac) }
+{
+    let mut factors = [ac.min(8191) as i16; 16];
+    factors[0] = dc.min(8191) as i16;
+    levels * i16x16::from_array(factors)
+}
+
+/// The lanes by position, each at its place.
+fn placed(v: i16x16) -> i16x16
+    ensures { (place : ℕ) → place < 16 → lane result place ≡ lane v (position_at place) }
+{
+    v.swizzle::<16>([0, 1, 5, 6, 2, 4, 7, 12, 3, 8, 11, 13, 9, 10, 14, 15])
+}
