@@ -6,17 +6,17 @@ use Rattle.vp_hub.specs.declared.connection.Link.{Link}
 use Rattle.vp_hub.specs.declared.event.HubFault.TheVariants.{Failed}
 use Rattle.vp_hub.specs.Hub.{Chosen, Outcome, State, IsStep, Gets, Serves, new_link}
 use Rattle.vp_hub.specs.Heads.{IsPartial, Answers, gone, KeepsPartial, AllKeepPartial}
-use Rattle.vp_hub.specs.View.{Seen, Fed, Over, Opened, Got, Gone, Lost, Sight, sight, See, AsksAgain, Leads, open_again, go, lose, told, seen}
+use Rattle.vp_hub.specs.View.{IsRun, Seen, Fed, Over, Opened, Got, Gone, Lost, Sight, sight, See, AsksAgain, Leads, open_again, go, lose, told, seen}
 use Rattle.vp_hub.proofs.Cutting.{cut_into_heads, no_bytes_yet}
 use Rattle.vp_hub.proofs.Isolation.{follows}
 
-not_gone : (v : Link × List ℕ) (o : List ℕ) → v ≡ (gone, o) → v.0.closed ≡ false → ⊥
+pub not_gone : (v : Link × List ℕ) (o : List ℕ) → v ≡ (gone, o) → v.0.closed ≡ false → ⊥
 not_gone v o e h = differ (sym (ap (λ (x : Link × List ℕ). x.0.closed) e) ∙ h)
   where
     differ : true ≡ false → ⊥
     differ h = cc
 
-answers_partial : (ss : Streams) (hs : List (List ℕ)) (bytes : List ℕ) (v : Link × List ℕ) → Answers ss hs bytes v → v.0.closed ≡ false → IsPartial v.0.pending
+pub answers_partial : (ss : Streams) (hs : List (List ℕ)) (bytes : List ℕ) (v : Link × List ℕ) → Answers ss hs bytes v → v.0.closed ≡ false → IsPartial v.0.pending
 answers_partial ss [] bytes v (inl a) h = subst (λ (x : Link × List ℕ). IsPartial x.0.pending) (sym a.1) a.0
 answers_partial ss [] bytes v (inr a) h = absurd (not_gone v _ a.4 h)
 answers_partial ss (x ∷ hs) bytes v (rest, reply, is, e, inl a) h = absurd (not_gone v reply a.2 h)
@@ -83,3 +83,9 @@ leads_partial (e ∷ vs) a b [] h k = absurd h
 
 pub step_partial : (old new : State) (e : Event) (o : Outcome) → IsStep old e o new → AllKeepPartial old → AllKeepPartial new
 step_partial old new e o step k c = leads_partial (seen c e o) (sight c old) (sight c new) (told (seen c e o) o) (follows c old new e o step) (k c)
+
+pub run_partial : (es : List Event) (os : List Outcome) (old new : State) → IsRun old es os new → AllKeepPartial old → AllKeepPartial new
+run_partial [] [] old new h k = subst AllKeepPartial (sym h) k
+run_partial (e ∷ es) (o ∷ os) old new h k = run_partial es os h.0 new h.2 (step_partial old h.0 e o h.1 k)
+run_partial [] (o ∷ os) old new h k = absurd h
+run_partial (e ∷ es) [] old new h k = absurd h

@@ -4,6 +4,7 @@ pub mod Links
 pub mod Isolation
 pub mod Cutting
 pub mod Kept
+pub mod Turning
 pub mod PageLemmas
 pub mod Growing
 pub mod NameLemmas

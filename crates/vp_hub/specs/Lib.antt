@@ -2,6 +2,7 @@ pub mod Hub
 pub mod Pages
 pub mod Heads
 pub mod View
+pub mod Turns
 pub mod Work
 pub mod Names
 pub mod Pieces

@@ -129,6 +129,7 @@ impl Hub {
     /// A list of events, the room for their results taken first.
     pub fn run(&mut self, events: &[Event]) -> Result<Vec<Result<Reply, HubFault>>, AllocError>
         ensures run { IfOk result (λ results. IsRun self.old.state events.now results.items self.new.state) }
+        ensures partial { AllKeepPartial self.old.state → AllKeepPartial self.new.state }
         ensures worked { IfOk result (λ results. IsWorkedRun self.old events.now results.items self.new) }
         ensures isolated { IfOk result (λ results. IsIsolated self.old.state events.now results.items self.new.state) }
         ensures pieces { IfOk result (λ results. AreAcceptedPieces self.old.state events.now results.items self.new.state) }

@@ -3,11 +3,17 @@
 ghost use Rattle.vp_hub.specs.Heads.{IsCutIntoHeads};
 ghost use Rattle.vp_hub.specs.Pieces.{NewStreamsHaveNoBytes, RunsAddAcceptedPieces};
 ghost use Rattle.vp_hub.specs.Standing.{StandsToShut, IsTooManyByHistory};
+ghost use Rattle.vp_hub.specs.Turns.{HistoriesAreCut};
 ghost use Rattle.vp_hub.specs.View.{AnswersAlike, NewHubsAnswerAlike, RunsAreIsolated};
 
 /// Bytes are answered by the heads that they are cut into.
 pub fn cut_into_heads()
     ensures { IsCutIntoHeads }
+{}
+
+/// All bytes of a connection since its opening are cut into heads, each answered at the event that brings its last byte.
+pub fn histories_are_cut()
+    ensures { HistoriesAreCut }
 {}
 
 /// Of every run of steps each connection gets the results that its own view gives.

@@ -27,8 +27,8 @@ pub use connection::{Connection, Link};
 pub use event::{Event, HubFault, Reply};
 pub use hub::Hub;
 pub use laws::{
-    answers_alike, bytes_are_accepted_pieces, cut_into_heads, is_too_many_by_history,
-    runs_are_isolated, stands_to_shut,
+    answers_alike, bytes_are_accepted_pieces, cut_into_heads, histories_are_cut,
+    is_too_many_by_history, runs_are_isolated, stands_to_shut,
 };
 pub use names::NewFault;
 pub use source::{Ending, Source};
