@@ -1,8 +1,9 @@
 -- Weighed sums that an i16 holds.
-use Rattle.std.proofs.Common.{◌≡◌, ◌∙◌, ℕ, zero, suc, ◌*◌, ◌<◌, ◌≤◌, ◌^◌, ap, arith, ℤ, pos, negsuc, ◌+ℤ◌, ◌-ℤ◌, ◌*ℤ◌, ◌≤ℤ◌, List, w16, refl}
+use Rattle.std.proofs.Common.{◌≡◌, ◌∙◌, ℕ, zero, suc, ◌*◌, ◌<◌, ◌≤◌, ap, arith, ℤ, pos, negsuc, ◌+ℤ◌, ◌-ℤ◌, ◌*ℤ◌, ◌≤ℤ◌, List, refl}
 use Rattle.std.proofs.lemmas.Int.{ints, clamps}
 use lib.Signed.{shr_z}
-use mir.Val.{SFits}
+use Rattle.std.specs.Prelude.{unsigned_abs}
+use Rattle.std.specs.Int.{int_min, int_max}
 use Rattle.vp_lanes.specs.Lane.{to_byte}
 use Rattle.vp_tables.specs.Tables.{six_taps}
 use Rattle.vp_inter.specs.Filter.{held, weighed, filtered}
@@ -33,7 +34,7 @@ pub pair_same : (a b c d : ℕ) (u v s t : ℤ) → a ≡ c → b ≡ d → u �
 pair_same a b c d u v s t e f g h = cc
 
 pub inner_fits : (weights : List ℤ) (b c d e : ℕ) → AreGentle weights → b < 256 → c < 256 → d < 256 → e < 256
-    → IsShort (pair c d (weight weights 2) (weight weights 3) -ℤ pos 8128 +ℤ pair b e (weight weights 1) (weight weights 4))
+    → IsShort (pair c d (weight weights 2) (weight weights 3) -ℤ pos 16320 +ℤ pair b e (weight weights 1) (weight weights 4))
 inner_fits weights b c d e g pb pc pd pe =
     let rb = lowered_in b (weight weights 1) pb g.1.1 in
     let rc = raised_in c (weight weights 2) pc g.2.0 in
@@ -42,7 +43,7 @@ inner_fits weights b c d e g pb pc pd pe =
     (omega (arith, ints), omega (arith, ints))
 
 pub whole_fits : (weights : List ℤ) (a b c d e f : ℕ) → AreGentle weights → a < 256 → b < 256 → c < 256 → d < 256 → e < 256 → f < 256
-    → IsShort (pair c d (weight weights 2) (weight weights 3) -ℤ pos 8128 +ℤ pair b e (weight weights 1) (weight weights 4) +ℤ pair a f (weight weights 0) (weight weights 5))
+    → IsShort (pair c d (weight weights 2) (weight weights 3) -ℤ pos 16320 +ℤ pair b e (weight weights 1) (weight weights 4) +ℤ pair a f (weight weights 0) (weight weights 5))
 whole_fits weights a b c d e f g pa pb pc pd pe pf =
     let ra = raised_in a (weight weights 0) pa g.0.0 in
     let rb = lowered_in b (weight weights 1) pb g.1.1 in
@@ -53,47 +54,50 @@ whole_fits weights a b c d e f g pa pb pc pd pe pf =
     (omega (arith, ints), omega (arith, ints))
 
 -- ---- the end of a sum
-pub ended_fits : (z : ℤ) → SFits w16 z → IsShort (shr_z z 128 +ℤ pos 64)
-ended_fits (pos n) p = let h : n < 2 ^ 15 = p.sfits in (omega (arith, ints), omega (arith, ints))
-ended_fits (negsuc n) p = let h : n < 2 ^ 15 = p.sfits in (omega (arith, ints), omega (arith, ints))
+-- what a signed byte holds, and 128 more, is a byte
+pub ended_byte : (z : ℤ) → IsFrom (pos 0) (pos 255) (int_min (pos 127) (int_max (negsuc 127) z) +ℤ pos 128)
+ended_byte z = (omega (arith, ints, clamps), omega (arith, ints, clamps))
+
+pub ended_is : (z : ℤ) → unsigned_abs (int_min (pos 127) (int_max (negsuc 127) z) +ℤ pos 128) ≡ to_byte (z +ℤ pos 128)
+ended_is z = omega (arith, ints, clamps)
 
 floor : (z : ℤ) → ((pos 128 *ℤ shr_z z 128) ≤ℤ z) × (z ≤ℤ (pos 128 *ℤ shr_z z 128 +ℤ pos 127))
 floor (pos n) = (omega (arith, ints), omega (arith, ints))
 floor (negsuc n) = (omega (arith, ints), omega (arith, ints))
 
--- 8192 that was taken away before the shift is 64 after it
-pub put_back : (z y : ℤ) → y ≡ z +ℤ pos 8192 → shr_z z 128 +ℤ pos 64 ≡ shr_z y 128
+-- 16384 that was taken away before the shift is 128 after it
+pub put_back : (z y : ℤ) → y ≡ z +ℤ pos 16384 → shr_z z 128 +ℤ pos 128 ≡ shr_z y 128
 put_back z y e = let p = floor z in let q = floor y in omega (arith, ints)
 
 pub held_is : (z : ℤ) → to_byte z ≡ held z
 held_is z = omega (arith, ints, clamps)
 
 pub whole_is : (weights : List ℤ) (a b c d e f : ℕ)
-    → to_byte (shr_z (pair c d (weight weights 2) (weight weights 3) -ℤ pos 8128 +ℤ pair b e (weight weights 1) (weight weights 4) +ℤ pair a f (weight weights 0) (weight weights 5)) 128 +ℤ pos 64)
+    → to_byte (shr_z (pair c d (weight weights 2) (weight weights 3) -ℤ pos 16320 +ℤ pair b e (weight weights 1) (weight weights 4) +ℤ pair a f (weight weights 0) (weight weights 5)) 128 +ℤ pos 128)
     ≡ filtered weights a b c d e f
 unfolding filtered
 whole_is weights a b c d e f =
-    let s : ℤ = pair c d (weight weights 2) (weight weights 3) -ℤ pos 8128 +ℤ pair b e (weight weights 1) (weight weights 4) +ℤ pair a f (weight weights 0) (weight weights 5) in
+    let s : ℤ = pair c d (weight weights 2) (weight weights 3) -ℤ pos 16320 +ℤ pair b e (weight weights 1) (weight weights 4) +ℤ pair a f (weight weights 0) (weight weights 5) in
     ap to_byte (put_back s (weighed weights a b c d e f +ℤ pos 64) (omega (arith, ints)))
     ∙ held_is (shr_z (weighed weights a b c d e f +ℤ pos 64) 128)
 
 pub inner_is : (weights : List ℤ) (a b c d e f : ℕ) → weight weights 0 ≡ pos 0 → weight weights 5 ≡ pos 0
-    → to_byte (shr_z (pair c d (weight weights 2) (weight weights 3) -ℤ pos 8128 +ℤ pair b e (weight weights 1) (weight weights 4)) 128 +ℤ pos 64)
+    → to_byte (shr_z (pair c d (weight weights 2) (weight weights 3) -ℤ pos 16320 +ℤ pair b e (weight weights 1) (weight weights 4)) 128 +ℤ pos 128)
     ≡ filtered weights a b c d e f
 inner_is weights a b c d e f first last =
-    let s : ℤ = pair c d (weight weights 2) (weight weights 3) -ℤ pos 8128 +ℤ pair b e (weight weights 1) (weight weights 4) in
+    let s : ℤ = pair c d (weight weights 2) (weight weights 3) -ℤ pos 16320 +ℤ pair b e (weight weights 1) (weight weights 4) in
     let none : pair a f (weight weights 0) (weight weights 5) ≡ pos 0 = pair_same a f a f _ _ (pos 0) (pos 0) refl refl first last ∙ (let z : pair a f (pos 0) (pos 0) ≡ pos 0 = omega (arith, ints) in z) in
     let same : s ≡ s +ℤ pair a f (weight weights 0) (weight weights 5) = omega (arith, ints) in
-    ap (λ (z : ℤ). to_byte (shr_z z 128 +ℤ pos 64)) same ∙ whole_is weights a b c d e f
+    ap (λ (z : ℤ). to_byte (shr_z z 128 +ℤ pos 128)) same ∙ whole_is weights a b c d e f
 
 pub middle_is : (weights : List ℤ) (a b c d e f : ℕ) → weight weights 0 ≡ pos 0 → weight weights 1 ≡ pos 0 → weight weights 4 ≡ pos 0 → weight weights 5 ≡ pos 0
-    → to_byte (shr_z (pair c d (weight weights 2) (weight weights 3) -ℤ pos 8128) 128 +ℤ pos 64)
+    → to_byte (shr_z (pair c d (weight weights 2) (weight weights 3) -ℤ pos 16320) 128 +ℤ pos 128)
     ≡ filtered weights a b c d e f
 middle_is weights a b c d e f first second fifth last =
-    let s : ℤ = pair c d (weight weights 2) (weight weights 3) -ℤ pos 8128 in
+    let s : ℤ = pair c d (weight weights 2) (weight weights 3) -ℤ pos 16320 in
     let none : pair b e (weight weights 1) (weight weights 4) ≡ pos 0 = pair_same b e b e _ _ (pos 0) (pos 0) refl refl second fifth ∙ (let z : pair b e (pos 0) (pos 0) ≡ pos 0 = omega (arith, ints) in z) in
     let same : s ≡ s +ℤ pair b e (weight weights 1) (weight weights 4) = omega (arith, ints) in
-    ap (λ (z : ℤ). to_byte (shr_z z 128 +ℤ pos 64)) same ∙ inner_is weights a b c d e f first last
+    ap (λ (z : ℤ). to_byte (shr_z z 128 +ℤ pos 128)) same ∙ inner_is weights a b c d e f first last
 
 -- ---- the weights of the table
 pub six_taps-gentle : (eighths : ℕ) → eighths < 8 → AreGentle (six_taps eighths)

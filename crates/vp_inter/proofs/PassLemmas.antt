@@ -1,9 +1,9 @@
 -- Lemmas on the two passes over a block.
-use Rattle.std.proofs.Common.{◌≡◌, ◌∙◌, ℕ, ◌+◌, ◌*◌, ◌<◌, ◌≤◌, ℤ, pos, ◌+ℤ◌, List, get_or, ap, subst, sym, arith, inl, inr}
+use Rattle.std.proofs.Common.{◌≡◌, ◌∙◌, ℕ, ◌+◌, ◌-◌, ◌*◌, ◌<◌, ◌≤◌, ℤ, pos, ◌+ℤ◌, List, get_or, ap, subst, sym, arith, inl, inr, min}
 use Rattle.std.proofs.lemmas.Int.{ints}
 use Rattle.std.proofs.lemmas.Nat.{row_fits}
 use Rattle.std.proofs.lemmas.Bool.{cases_lt}
-use Rattle.vp_base.specs.Raster.{Raster}
+use Rattle.vp_base.specs.Raster.{Raster, pixel}
 use Rattle.vp_inter.specs.declared.vector.PlaneVector.{PlaneVector}
 use Rattle.vp_inter.specs.Vectors.{fraction, start}
 use Rattle.vp_inter.specs.Filter.{taps, filter_six}
@@ -96,3 +96,21 @@ across_whole version eighths p left top i c none byte =
     at
     ∙ sym (filter_six-whole version line (subst (λ (n : ℕ). n ≤ 255) at byte))
     ∙ ap (λ (n : ℕ). filter_six (taps version n) line) (sym none)
+
+-- a pixel inside the plane
+pub inside_pixel : (p : Raster) (column row : ℕ) → column < p.width → row < p.height → reference_pixel p (pos column) (pos row) ≡ pixel p column row
+unfolding reference_pixel
+inside_pixel p column row xin yin =
+    ap (λ (n : ℕ). pixel p n (min row (p.height - 1))) (let e : min column (p.width - 1) ≡ column = omega arith in e)
+    ∙ ap (λ (n : ℕ). pixel p column n) (let e : min row (p.height - 1) ≡ row = omega arith in e)
+
+-- a block that lies inside the reference and is moved by whole pixels
+pub inter_copied : (version : ℕ) (p : Raster) (x y : ℕ) (v : PlaneVector) (column row r c : ℕ) → column + c < p.width → row + r < p.height
+    → pos column ≡ start x v.column +ℤ pos 2 → pos row ≡ start y v.row +ℤ pos 2 → fraction v.row ≡ 0 → fraction v.column ≡ 0
+    → pixel p (column + c) (row + r) ≤ 255 → pixel p (column + c) (row + r) ≡ inter_pixel version p x y v r c
+inter_copied version p x y v column row r c xin yin left top rows columns byte =
+    let at : pixel p (column + c) (row + r) ≡ reference_pixel p (start x v.column +ℤ pos 2 +ℤ pos c) (start y v.row +ℤ pos 2 +ℤ pos r) =
+    sym (inside_pixel p (column + c) (row + r) xin yin)
+    ∙ ap (λ (z : ℤ). reference_pixel p (z +ℤ pos c) (pos row +ℤ pos r)) left
+    ∙ ap (λ (z : ℤ). reference_pixel p (start x v.column +ℤ pos 2 +ℤ pos c) (z +ℤ pos r)) top in
+    at ∙ inter_whole version p x y v r c rows columns (subst (λ (n : ℕ). n ≤ 255) at byte)

@@ -2,10 +2,10 @@
 
 ghost use Rattle.std.specs.Prelude.{◌≡◌, ℕ, ℤ, pos, negsuc, ◌+◌, ◌*◌, ◌%◌, ◌<◌, ◌≤◌, ◌+ℤ◌, ◌≤ℤ◌, length, slice_index, IsTrue};
 ghost use Rattle.vp_inter.specs.Filter.{filter_six};
-ghost use Rattle.vp_inter.specs.Narrow.{AreGentle};
+ghost use Rattle.vp_inter.specs.Narrow.{AreFew, AreGentle};
 ghost use Rattle.vp_inter.specs.Inter.{reference_pixel, across, inter_pixel, IsInside};
 
-use crate::filter::{pass, taps};
+use crate::filter::{ends_are_zero, pass, seconds_are_zero, taps};
 use crate::reference::{lies_inside, plain_row, reference_row};
 use crate::vector::{PlaneVector, fraction, start};
 use std::simd::prelude::*;
@@ -90,20 +90,21 @@ fn predict<const N: usize, const W: usize, const L: usize, const M: usize>(
     let across = fraction(vector.column);
     let down = fraction(vector.row);
     if down == 0 && across == 0 {
-        copied_rows::<N, M>(plane, left + 2, top + 2, N)
-    } else if down == 0 {
-        pass_rows::<N, W, M>(plane, left, top + 2, &taps(version, across), N)
-    } else if across == 0 {
-        pass_columns::<N, M>(
-            &copied_rows::<N, L>(plane, left + 2, top, W),
-            &taps(version, down),
-        )
-    } else {
-        pass_columns::<N, M>(
-            &pass_rows::<N, W, L>(plane, left, top, &taps(version, across), W),
-            &taps(version, down),
-        )
+        return copied_rows::<N, M>(plane, left + 2, top + 2, N);
     }
+    let mut block = [0; M];
+    if down == 0 {
+        let weights = taps(version, across);
+        pass_rows::<N, W>(&mut block, plane, left, top + 2, &weights, N);
+    } else if across == 0 {
+        let rows = copied_rows::<N, L>(plane, left + 2, top, W);
+        pass_columns::<N, M>(&mut block, &rows, &taps(version, down));
+    } else {
+        let mut rows = [0; L];
+        pass_rows::<N, W>(&mut rows, plane, left, top, &taps(version, across), W);
+        pass_columns::<N, M>(&mut block, &rows, &taps(version, down));
+    }
+    block
 }
 
 /// `rows` rows of the reference as they stand.
@@ -134,81 +135,166 @@ fn copied_rows<const N: usize, const L: usize>(
     pixels
 }
 
-/// The horizontal pass over `rows` rows of the reference.
+/// The horizontal pass over `rows` rows of the reference. What holds for the whole block, where it lies and which weights
+/// count, is asked before the loop over its rows.
 #[inline(never)]
-fn pass_rows<const N: usize, const W: usize, const L: usize>(
+fn pass_rows<const N: usize, const W: usize>(
+    pixels: &mut [u8],
     plane: &Plane,
     left: i32,
     top: i32,
     weights: &[i16; 6],
     rows: usize,
-) -> [u8; L]
+)
     requires size { N ≤ 16 }
     requires line { W ≡ N + 5 }
     requires rows { rows ≤ 21 }
-    requires all { L ≡ rows * N }
-    requires room { L ≤ 336 }
+    requires all { length pixels.old ≡ rows * N }
     requires gentle { AreGentle weights.now }
     requires columns { 0 < plane.now.width }
     requires height { 0 < plane.now.height }
     requires near { (negsuc 400000000 ≤ℤ left) × (left ≤ℤ pos 400000000) }
     requires beside { (negsuc 400000000 ≤ℤ top) × (top ≤ℤ pos 400000000) }
-    ensures len { length result ≡ L }
-    ensures value { (i c : ℕ) → i < rows → c < N → slice_index result (i * N + c) ≡ across weights.now plane.now left top i c }
+    ensures { (i c : ℕ) → i < rows → c < N → slice_index pixels.new (i * N + c) ≡ across weights.now plane.now left top i c }
 {
-    let inside = lies_inside(plane, left, top, W, rows);
-    let mut pixels = [0; L];
-    for i in 0..rows {
-        let row = moved_row::<N, W>(plane, inside, left, top + i as i32, weights);
-        put_lanes(&mut pixels, i, row);
+    if lies_inside(plane, left, top, W, rows) {
+        counted_rows::<N, W, true>(pixels, plane, left, top, weights, rows);
+    } else {
+        counted_rows::<N, W, false>(pixels, plane, left, top, weights, rows);
     }
-    pixels
 }
 
-/// The vertical pass over rows of `N`, of which there are five more than it makes: sixteen pixels at a time, whatever
-/// the rows that they stand in.
-#[inline(never)]
-fn pass_columns<const N: usize, const M: usize>(rows: &[u8], weights: &[i16; 6]) -> [u8; M]
-    requires size { N ≤ 16 }
-    requires all { length rows.now ≡ (N + 5) * N }
-    requires square { M ≡ N * N }
-    requires room { M ≤ 256 }
-    requires pieces { M % 16 ≡ 0 }
-    requires gentle { AreGentle weights.now }
-    ensures len { length result ≡ M }
-    ensures value { (r c : ℕ) → r < N → c < N → slice_index result (r * N + c) ≡ filter_six weights.now (λ k. slice_index rows.now ((r + k) * N + c)) }
-{
-    let mut pixels = [0; M];
-    for i in 0..M / 16 {
-        let piece = pass::<16>(rows, 16 * i, N, weights);
-        put_lanes(&mut pixels, i, piece);
-    }
-    pixels
-}
-
-/// The horizontal pass over one row of the reference, straight from the plane where `inside` says so.
+/// The same, with rows that all lie inside the plane if `INSIDE` says so.
 #[inline(always)]
-fn moved_row<const N: usize, const W: usize>(
+fn counted_rows<const N: usize, const W: usize, const INSIDE: bool>(
+    pixels: &mut [u8],
     plane: &Plane,
-    inside: bool,
+    left: i32,
+    top: i32,
+    weights: &[i16; 6],
+    rows: usize,
+)
+    requires size { N ≤ 16 }
+    requires line { W ≡ N + 5 }
+    requires rows { rows ≤ 21 }
+    requires all { length pixels.old ≡ rows * N }
+    requires gentle { AreGentle weights.now }
+    requires inside { IsTrue INSIDE → IsInside plane.now left top W rows }
+    requires columns { 0 < plane.now.width }
+    requires height { 0 < plane.now.height }
+    requires near { (negsuc 400000000 ≤ℤ left) × (left ≤ℤ pos 400000000) }
+    requires beside { (negsuc 400000000 ≤ℤ top) × (top ≤ℤ pos 400000000) }
+    ensures { (i c : ℕ) → i < rows → c < N → slice_index pixels.new (i * N + c) ≡ across weights.now plane.now left top i c }
+{
+    if !ends_are_zero(weights) {
+        moved_rows::<N, W, INSIDE, 6>(pixels, plane, left, top, weights, rows);
+    } else if !seconds_are_zero(weights) {
+        moved_rows::<N, W, INSIDE, 4>(pixels, plane, left, top, weights, rows);
+    } else {
+        moved_rows::<N, W, INSIDE, 2>(pixels, plane, left, top, weights, rows);
+    }
+}
+
+/// The same, by `COUNT` weights. The loop reads a copy of them, which no write to `pixels` can change, so that each stays
+/// in a register.
+#[inline(always)]
+fn moved_rows<const N: usize, const W: usize, const INSIDE: bool, const COUNT: usize>(
+    pixels: &mut [u8],
+    plane: &Plane,
+    left: i32,
+    top: i32,
+    weights: &[i16; 6],
+    rows: usize,
+)
+    requires size { N ≤ 16 }
+    requires line { W ≡ N + 5 }
+    requires rows { rows ≤ 21 }
+    requires all { length pixels.old ≡ rows * N }
+    requires gentle { AreGentle weights.now }
+    requires inside { IsTrue INSIDE → IsInside plane.now left top W rows }
+    requires few { AreFew weights.now COUNT }
+    requires columns { 0 < plane.now.width }
+    requires height { 0 < plane.now.height }
+    requires near { (negsuc 400000000 ≤ℤ left) × (left ≤ℤ pos 400000000) }
+    requires beside { (negsuc 400000000 ≤ℤ top) × (top ≤ℤ pos 400000000) }
+    ensures { (i c : ℕ) → i < rows → c < N → slice_index pixels.new (i * N + c) ≡ across weights.now plane.now left top i c }
+{
+    let own = *weights;
+    for i in 0..rows {
+        let row = moved_row::<N, W, INSIDE, COUNT>(plane, left, top + i as i32, &own);
+        put_lanes(pixels, i, row);
+    }
+}
+
+/// The horizontal pass over one row of the reference, straight from the plane if `INSIDE` says so.
+#[inline(always)]
+fn moved_row<const N: usize, const W: usize, const INSIDE: bool, const COUNT: usize>(
+    plane: &Plane,
     left: i32,
     row: i32,
     weights: &[i16; 6],
 ) -> Simd<u8, N>
     requires size { N ≤ 16 }
     requires line { W ≡ N + 5 }
-    requires inside { IsTrue inside → IsInside plane.now left row W 1 }
+    requires inside { IsTrue INSIDE → IsInside plane.now left row W 1 }
     requires gentle { AreGentle weights.now }
+    requires few { AreFew weights.now COUNT }
     requires columns { 0 < plane.now.width }
     requires height { 0 < plane.now.height }
     requires near { (negsuc 400000000 ≤ℤ left) × (left ≤ℤ pos 400000000) }
     ensures { (c : ℕ) → c < N → slice_index result c ≡ filter_six weights.now (λ k. reference_pixel plane.now (left +ℤ pos (c + k)) row) }
 {
-    if inside {
-        return pass(plane.row(row as usize), left as usize, 1, weights);
+    if INSIDE {
+        return pass::<N, COUNT>(plane.row(row as usize), left as usize, 1, weights);
     }
     let line = reference_row::<W>(plane, left, row);
-    pass(&line, 0, 1, weights)
+    pass::<N, COUNT>(&line, 0, 1, weights)
+}
+
+/// The vertical pass over rows of `N`, of which there are five more than it makes.
+#[inline(never)]
+fn pass_columns<const N: usize, const M: usize>(pixels: &mut [u8], rows: &[u8], weights: &[i16; 6])
+    requires size { N ≤ 16 }
+    requires all { length rows.now ≡ (N + 5) * N }
+    requires square { M ≡ N * N }
+    requires whole { length pixels.old ≡ M }
+    requires room { M ≤ 256 }
+    requires pieces { M % 16 ≡ 0 }
+    requires gentle { AreGentle weights.now }
+    ensures { (r c : ℕ) → r < N → c < N → slice_index pixels.new (r * N + c) ≡ filter_six weights.now (λ k. slice_index rows.now ((r + k) * N + c)) }
+{
+    if !ends_are_zero(weights) {
+        counted_columns::<N, M, 6>(pixels, rows, weights);
+    } else if !seconds_are_zero(weights) {
+        counted_columns::<N, M, 4>(pixels, rows, weights);
+    } else {
+        counted_columns::<N, M, 2>(pixels, rows, weights);
+    }
+}
+
+/// The same by `COUNT` weights, of which the loop reads a copy, as `moved_rows` does: sixteen pixels at a time, whatever
+/// the rows that they stand in.
+#[inline(always)]
+fn counted_columns<const N: usize, const M: usize, const COUNT: usize>(
+    pixels: &mut [u8],
+    rows: &[u8],
+    weights: &[i16; 6],
+)
+    requires size { N ≤ 16 }
+    requires all { length rows.now ≡ (N + 5) * N }
+    requires square { M ≡ N * N }
+    requires whole { length pixels.old ≡ M }
+    requires room { M ≤ 256 }
+    requires pieces { M % 16 ≡ 0 }
+    requires gentle { AreGentle weights.now }
+    requires few { AreFew weights.now COUNT }
+    ensures { (r c : ℕ) → r < N → c < N → slice_index pixels.new (r * N + c) ≡ filter_six weights.now (λ k. slice_index rows.now ((r + k) * N + c)) }
+{
+    let own = *weights;
+    for i in 0..M / 16 {
+        let piece = pass::<16, COUNT>(rows, 16 * i, N, &own);
+        put_lanes(pixels, i, piece);
+    }
 }
 
 /// Writes row `r` of rows of `N`.

@@ -4,7 +4,7 @@ ghost use Rattle.std.specs.Prelude.{◌≡◌, ℕ, ℤ, pos, negsuc, ◌+◌, �
 ghost use lib.Signed.{shr_z};
 ghost use Rattle.vp_lanes.specs.Lane.{lane, to_byte};
 ghost use Rattle.vp_inter.specs.Filter.{taps, filter_six};
-ghost use Rattle.vp_inter.specs.Narrow.{IsFrom, IsShort, pair, sum_of_two, sum_of_four, sum_of_six, AreGentle};
+ghost use Rattle.vp_inter.specs.Narrow.{IsFrom, IsShort, pair, sum_of_two, sum_of_four, sum_of_six, weight, AreFew, AreGentle};
 
 use std::simd::prelude::*;
 use vp_tables::six_taps;
@@ -33,7 +33,7 @@ pub(crate) fn load<const N: usize>(s: &[u8], at: usize) -> Simd<u8, N>
     Simd::from_slice(&s[at..])
 }
 
-/// The sum of the two pixels in the middle, a half added for rounding and 8192 taken away, so that an i16 holds it.
+/// The sum of the two pixels in the middle, a half added for rounding and 16384 taken away, so that an i16 holds it.
 fn begun<const N: usize>(
     a: Simd<u8, N>,
     b: Simd<u8, N>,
@@ -44,10 +44,10 @@ fn begun<const N: usize>(
     requires first { IsFrom (pos 0) (pos 128) weight_a }
     requires second { IsFrom (pos 0) (pos 128) weight_b }
     requires both { (weight_a +ℤ weight_b) ≤ℤ pos 154 }
-    ensures { (j : ℕ) → j < N → lane result j ≡ pair (slice_index a.entry j) (slice_index b.entry j) weight_a weight_b -ℤ pos 8128 }
+    ensures { (j : ℕ) → j < N → lane result j ≡ pair (slice_index a.entry j) (slice_index b.entry j) weight_a weight_b -ℤ pos 16320 }
 {
     a.cast::<i16>() * Simd::splat(weight_a)
-        + Simd::splat(64 - 8192)
+        + Simd::splat(64 - 16384)
         + b.cast::<i16>() * Simd::splat(weight_b)
 }
 
@@ -68,14 +68,12 @@ fn more<const N: usize>(
     sum + (a.cast::<i16>() * Simd::splat(weight_a) + b.cast::<i16>() * Simd::splat(weight_b))
 }
 
-/// The pixels that sums give: 128ths rounded down, the 8192 put back, held to a byte.
+/// The pixels that sums give: 128ths rounded down, held to what a signed byte holds, and the 16384 put back.
 fn ended<const N: usize>(sum: Simd<i16, N>) -> Simd<u8, N>
     requires { N ≤ 16 }
-    ensures { (j : ℕ) → j < N → slice_index result j ≡ to_byte (shr_z (lane sum.entry j) 128 +ℤ pos 64) }
+    ensures { (j : ℕ) → j < N → slice_index result j ≡ to_byte (shr_z (lane sum.entry j) 128 +ℤ pos 128) }
 {
-    ((sum >> 7) + Simd::splat(64))
-        .simd_clamp(Simd::splat(0), Simd::splat(255))
-        .cast::<u8>()
+    ((sum >> 7).simd_clamp(Simd::splat(-128), Simd::splat(127)) + Simd::splat(128)).cast::<u8>()
 }
 
 /// The sum of the two pixels in the middle of six, `step` apart and the first at `at`.
@@ -125,16 +123,24 @@ fn whole_sum<const N: usize>(s: &[u8], at: usize, step: usize, weights: &[i16; 6
     )
 }
 
-/// Whether two pixels weigh nothing.
-fn both_zero(a: i16, b: i16) -> bool
-    ensures { IsTrue result → (a ≡ pos 0) × (b ≡ pos 0) }
+/// Whether the weights at both ends are 0.
+pub(crate) fn ends_are_zero(weights: &[i16; 6]) -> bool
+    ensures { IsTrue result → (weight weights.now 0 ≡ pos 0) × (weight weights.now 5 ≡ pos 0) }
 {
-    a == 0 && b == 0
+    weights[0] == 0 && weights[5] == 0
 }
 
-/// A pass of `N` pixels: each is made of six, `step` apart, the first of them at `at` and its own place. Weights of 0 at
-/// the ends, or beside them too, take no work.
-pub(crate) fn pass<const N: usize>(
+/// Whether the weights beside those at the ends are 0.
+pub(crate) fn seconds_are_zero(weights: &[i16; 6]) -> bool
+    ensures { IsTrue result → (weight weights.now 1 ≡ pos 0) × (weight weights.now 4 ≡ pos 0) }
+{
+    weights[1] == 0 && weights[4] == 0
+}
+
+/// A pass of `N` pixels: each is made of six, `step` apart, the first of them at `at` and its own place. Only `COUNT` of
+/// the weights, which is 6, 4 or 2, take work: those that are 0 at the ends, or beside them too, take none.
+#[inline(always)]
+pub(crate) fn pass<const N: usize, const COUNT: usize>(
     s: &[u8],
     at: usize,
     step: usize,
@@ -143,12 +149,13 @@ pub(crate) fn pass<const N: usize>(
     requires lanes { N ≤ 16 }
     requires room { at + 5 * step + N ≤ length s.now }
     requires gentle { AreGentle weights.now }
+    requires few { AreFew weights.now COUNT }
     ensures { (j : ℕ) → j < N → slice_index result j ≡ filter_six weights.now (λ k. slice_index s.now (at + k * step + j)) }
 {
-    if !both_zero(weights[0], weights[5]) {
+    if COUNT >= 6 {
         return ended::<N>(whole_sum::<N>(s, at, step, weights));
     }
-    if !both_zero(weights[1], weights[4]) {
+    if COUNT >= 4 {
         return ended::<N>(inner::<N>(s, at, step, weights));
     }
     ended::<N>(middle::<N>(s, at, step, weights))

@@ -1,12 +1,14 @@
 //! Blocks of an earlier picture, moved by a vector and written to a picture (RFC 6386, chapter 18).
 
-ghost use Rattle.std.specs.Prelude.{◌≡◌, ◌+◌, ◌<◌, ◌≤◌};
+ghost use Rattle.std.specs.Prelude.{◌≡◌, ℕ, pos, ◌+◌, ◌+ℤ◌, ◌<◌, ◌≤◌, IfSome, IsTrue};
 ghost use Rattle.vp_base.specs.Block.{with_block};
 ghost use Rattle.vp_base.specs.Image.{plane_of, with_plane};
+ghost use Rattle.vp_inter.specs.Vectors.{fraction, start};
 ghost use Rattle.vp_inter.specs.Inter.{inter_pixel};
 
 use crate::block::{predict_block4, predict_block8, predict_block16};
-use crate::vector::PlaneVector;
+use crate::reference::lies_inside;
+use crate::vector::{PlaneVector, fraction, start};
 use vp_base::{Picture, Plane};
 
 /// Writes to plane `k` of `picture` the 16 by 16 block at column `x` of row `y` that `vector` moves there, out of the
@@ -28,8 +30,10 @@ pub fn predict_into16(
     ensures { picture.new ≡ with_plane picture.old k (with_block (plane_of picture.old k) x y 16 16 (inter_pixel version reference.now x y vector)) }
 {
     let _size = [picture.plane(k).width(), picture.plane(k).height()];
-    let block = predict_block16(reference, x, y, vector, version);
-    picture.write_block(k, x, y, 16, 16, &block);
+    if !copied_whole::<16>(picture, k, x, y, reference, vector) {
+        let block = predict_block16(reference, x, y, vector, version);
+        picture.write_block(k, x, y, 16, 16, &block);
+    }
 }
 
 /// The same of 8 by 8.
@@ -50,8 +54,10 @@ pub fn predict_into8(
     ensures { picture.new ≡ with_plane picture.old k (with_block (plane_of picture.old k) x y 8 8 (inter_pixel version reference.now x y vector)) }
 {
     let _size = [picture.plane(k).width(), picture.plane(k).height()];
-    let block = predict_block8(reference, x, y, vector, version);
-    picture.write_block(k, x, y, 8, 8, &block);
+    if !copied_whole::<8>(picture, k, x, y, reference, vector) {
+        let block = predict_block8(reference, x, y, vector, version);
+        picture.write_block(k, x, y, 8, 8, &block);
+    }
 }
 
 /// The same of 4 by 4.
@@ -72,6 +78,61 @@ pub fn predict_into4(
     ensures { picture.new ≡ with_plane picture.old k (with_block (plane_of picture.old k) x y 4 4 (inter_pixel version reference.now x y vector)) }
 {
     let _size = [picture.plane(k).width(), picture.plane(k).height()];
-    let block = predict_block4(reference, x, y, vector, version);
-    picture.write_block(k, x, y, 4, 4, &block);
+    if !copied_whole::<4>(picture, k, x, y, reference, vector) {
+        let block = predict_block4(reference, x, y, vector, version);
+        picture.write_block(k, x, y, 4, 4, &block);
+    }
+}
+
+/// Copies the block of `N` by `N` that a vector of whole pixels moves, where the reference has all of it, and says whether
+/// it did.
+fn copied_whole<const N: usize>(
+    picture: &mut Picture,
+    k: usize,
+    x: usize,
+    y: usize,
+    reference: &Plane,
+    vector: PlaneVector,
+) -> bool
+    requires size { N ≤ 16 }
+    requires plane { k < 3 }
+    requires column { x ≤ 16384 }
+    requires row { y ≤ 16384 }
+    requires columns { x + N ≤ (plane_of picture.old k).width }
+    requires rows { y + N ≤ (plane_of picture.old k).height }
+    ensures written { (version : ℕ) → IsTrue result → picture.new ≡ with_plane picture.old k (with_block (plane_of picture.old k) x y N N (inter_pixel version reference.now x y vector)) }
+    ensures kept { (IsTrue result → ⊥) → picture.new ≡ picture.old }
+{
+    if let Some((column, row)) = whole_place(reference, x, y, vector, N) {
+        picture.copy_block::<N>(k, x, y, reference, column, row);
+        return true;
+    }
+    false
+}
+
+/// The column and row of the reference at which the block of so many columns and rows stands that a vector of whole pixels
+/// moves to column `x` of row `y`, if the reference has all of it.
+fn whole_place(
+    reference: &Plane,
+    x: usize,
+    y: usize,
+    vector: PlaneVector,
+    size: usize,
+) -> Option<(usize, usize)>
+    requires size { size ≤ 16 }
+    requires column { x ≤ 16384 }
+    requires row { y ≤ 16384 }
+    ensures inside { IfSome result (λ at. (at.0 + size ≤ reference.now.width) × (at.1 + size ≤ reference.now.height)) }
+    ensures whole { IfSome result (λ at. (fraction vector.column ≡ 0) × (fraction vector.row ≡ 0)) }
+    ensures place { IfSome result (λ at. (pos at.0 ≡ start x vector.column +ℤ pos 2) × (pos at.1 ≡ start y vector.row +ℤ pos 2)) }
+{
+    if fraction(vector.column) != 0 || fraction(vector.row) != 0 {
+        return None;
+    }
+    let left = start(x, vector.column) + 2;
+    let top = start(y, vector.row) + 2;
+    if !lies_inside(reference, left, top, size, size) {
+        return None;
+    }
+    Some((left as usize, top as usize))
 }

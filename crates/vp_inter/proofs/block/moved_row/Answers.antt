@@ -1,4 +1,5 @@
-use Rattle.std.proofs.Common.{◌≡◌, ◌∙◌, ℕ, ℤ, pos, ◌+◌, ◌*◌, ◌<◌, ◌+ℤ◌, List, ap, get_or, arith, to_z, of_z, w32}
+use Rattle.std.proofs.Common.{◌≡◌, ◌∙◌, ℕ, ℤ, pos, ◌+◌, ◌*◌, ◌<◌, ◌+ℤ◌, List, ap, get_or, arith, to_z, of_z, w32, not, eqb, true}
+use Rattle.std.proofs.lemmas.Bool.Decides.{nat_tests}
 use Rattle.std.proofs.lemmas.Int.{to_z-of_z}
 use lib.IntN.{nat_abs}
 use Rattle.vp_base.specs.Raster.{Raster}
@@ -7,8 +8,12 @@ use Rattle.vp_inter.proofs.FilterLemmas.{filter_six-same}
 use Rattle.vp_inter.proofs.ReferenceLemmas.{line_straight}
 use Rattle.vp_inter.proofs.block.moved_row.Goals as goal
 
-pub returns-then-inside : goal.returns-then-inside
-returns-then-inside g c k kin =
+-- a bool that isn't 0
+is_set : (n : ℕ) → (n ≡ 0 → ⊥) → not (eqb n 0) ≡ true
+is_set n h = grind (arith, nat_tests)
+
+pub returns-then-this-ne0 : goal.returns-then-this-ne0
+returns-then-this-ne0 g c k kin =
     let p : Raster = c.args.plane.now in
     let w : List ℤ = c.args.weights.now in
     let line : List ℕ = c.row.result.now in
@@ -20,7 +25,7 @@ returns-then-inside g c k kin =
     let place : start + i * 1 + k ≡ start + (k + i) = omega arith in
     let below : k + i < g.row.W = omega arith in
     ap (λ (j : ℕ). get_or line j 0) place
-    ∙ line_straight p line c.args.left c.args.row start y g.row.W (k + i) (c.requires.inside c.if-inside.true) c.row.ensures.value c.row.ensures.len
+    ∙ line_straight p line c.args.left c.args.row start y g.row.W (k + i) (c.requires.inside (is_set g.row.INSIDE c.if-this-ne0.true)) c.row.ensures.value c.row.ensures.len
     (ap nat_abs (to_z-of_z w32 c.args.left c.ranges.left)) (ap nat_abs (to_z-of_z w32 c.args.row c.ranges.row)) below)
 
 pub returns : goal.returns

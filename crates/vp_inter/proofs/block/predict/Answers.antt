@@ -22,8 +22,8 @@ returns-then-down-eq0-2 g c r k rin kin =
     (let e : same (same c.start-top.result +ℤ pos 2) ≡ c.start-top.result +ℤ pos 2 = omega (arith, ints) in e)
     ∙ ap (λ (z : ℤ). z +ℤ pos 2) (c.start-top.ensures.value ∙ ap (start c.args.y) row) in
     let across_is : c.fraction-across.result ≡ fraction c.args.vector.column = c.fraction-across.ensures.value ∙ ap fraction column in
-    let weights : c.taps.result ≡ taps c.args.version (fraction c.args.vector.column) = c.taps.ensures.value ∙ ap (taps c.args.version) across_is in
-    c.pass_rows.ensures.value r k rin kin
+    let weights : c.taps-weights.result ≡ taps c.args.version (fraction c.args.vector.column) = c.taps-weights.ensures.value ∙ ap (taps c.args.version) across_is in
+    c.pass_rows.ensures r k rin kin
     ∙ ap (λ (w : List ℤ). across w p (same c.start-left.result) (same (same c.start-top.result +ℤ pos 2)) r k) weights
     ∙ ap (λ (z : ℤ). across (taps c.args.version (fraction c.args.vector.column)) p z (same (same c.start-top.result +ℤ pos 2)) r k) left
     ∙ ap (λ (z : ℤ). across (taps c.args.version (fraction c.args.vector.column)) p (start c.args.x c.args.vector.column) z r k) top
@@ -42,13 +42,13 @@ returns-else-across-eq0-2 g c r k rin kin =
     small_same c.start-top.result (omega (arith, ints), omega (arith, ints)) ∙ (c.start-top.ensures.value ∙ ap (start c.args.y) row) in
     let across_is : c.fraction-across.result ≡ fraction c.args.vector.column = c.fraction-across.ensures.value ∙ ap fraction column in
     let down_is : c.fraction-down.result ≡ fraction c.args.vector.row = c.fraction-down.ensures.value ∙ ap fraction row in
-    let rows : List ℕ = c.pass_rows-else-across-eq0-2.result in
+    let rows : List ℕ = c.pass_rows-else-across-eq0-2.new.pixels in
     let first : c.taps-else-across-eq0-2.result ≡ taps c.args.version (fraction c.args.vector.column) = c.taps-else-across-eq0-2.ensures.value ∙ ap (taps c.args.version) across_is in
     let second : c.taps-else-across-eq0-2-2.result ≡ taps c.args.version (fraction c.args.vector.row) = c.taps-else-across-eq0-2-2.ensures.value ∙ ap (taps c.args.version) down_is in
-    c.pass_columns-else-across-eq0-2.ensures.value r k rin kin
+    c.pass_columns-else-across-eq0-2.ensures r k rin kin
     ∙ ap (λ (w : List ℤ). filter_six w (λ j. get_or rows ((r + j) * g.row.N + k) 0)) second
     ∙ inter_both c.args.version p c.args.x c.args.y c.args.vector g.row.N rows
-    (λ i j iin jin. c.pass_rows-else-across-eq0-2.ensures.value i j (let h : i < g.row.W = omega arith in h) jin
+    (λ i j iin jin. c.pass_rows-else-across-eq0-2.ensures i j (let h : i < g.row.W = omega arith in h) jin
     ∙ ap (λ (w : List ℤ). across w p (same c.start-left.result) (same c.start-top.result) i j) first
     ∙ ap (λ (z : ℤ). across (taps c.args.version (fraction c.args.vector.column)) p z (same c.start-top.result) i j) left
     ∙ ap (λ (z : ℤ). across (taps c.args.version (fraction c.args.vector.column)) p (start c.args.x c.args.vector.column) z i j) top)
@@ -67,21 +67,21 @@ returns-then-across-eq0-2 g c r k rin kin =
     let top : same c.start-top.result ≡ start c.args.y c.args.vector.row =
     small_same c.start-top.result (omega (arith, ints), omega (arith, ints)) ∙ (c.start-top.ensures.value ∙ ap (start c.args.y) row) in
     let down_is : c.fraction-down.result ≡ fraction c.args.vector.row = c.fraction-down.ensures.value ∙ ap fraction row in
-    let rows : List ℕ = c.copied_rows-then-across-eq0-2.result in
+    let rows : List ℕ = c.copied_rows-rows.result in
     let x : ℤ = start c.args.x c.args.vector.column in
     let y : ℤ = start c.args.y c.args.vector.row in
     let none : fraction c.args.vector.column ≡ 0 = sym (ap fraction column) ∙ sym c.fraction-across.ensures.value ∙ c.if-across-eq0-2.true in
-    let weights : c.taps-then-across-eq0-2.result ≡ taps c.args.version (fraction c.args.vector.row) = c.taps-then-across-eq0-2.ensures.value ∙ ap (taps c.args.version) down_is in
+    let weights : c.taps.result ≡ taps c.args.version (fraction c.args.vector.row) = c.taps.ensures.value ∙ ap (taps c.args.version) down_is in
     let moved : (i j : ℕ) → reference_pixel p (same (same c.start-left.result +ℤ pos 2) +ℤ pos j) (same c.start-top.result +ℤ pos i) ≡ reference_pixel p (x +ℤ pos 2 +ℤ pos j) (y +ℤ pos i) =
     λ i j. ap (λ (z : ℤ). reference_pixel p (z +ℤ pos j) (same c.start-top.result +ℤ pos i)) left ∙ ap (λ (z : ℤ). reference_pixel p (x +ℤ pos 2 +ℤ pos j) (z +ℤ pos i)) top in
-    c.pass_columns.ensures.value r k rin kin
+    c.pass_columns.ensures r k rin kin
     ∙ ap (λ (w : List ℤ). filter_six w (λ j. get_or rows ((r + j) * g.row.N + k) 0)) weights
     ∙ inter_both c.args.version p c.args.x c.args.y c.args.vector g.row.N rows
     (λ i j iin jin.
     let within : i < g.row.W = omega arith in
-    c.copied_rows-then-across-eq0-2.ensures.value i j within jin
+    c.copied_rows-rows.ensures.value i j within jin
     ∙ moved i j
-    ∙ across_whole c.args.version (fraction c.args.vector.column) p x y i j none (subst (λ (v : ℕ). v ≤ 255) (moved i j) (c.copied_rows-then-across-eq0-2.ensures.bytes i j within jin)))
+    ∙ across_whole c.args.version (fraction c.args.vector.column) p x y i j none (subst (λ (v : ℕ). v ≤ 255) (moved i j) (c.copied_rows-rows.ensures.bytes i j within jin)))
     r k rin kin
 
 pub returns-then-across-eq0 : goal.returns-then-across-eq0

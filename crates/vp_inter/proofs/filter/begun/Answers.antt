@@ -14,7 +14,7 @@ returns g c j h =
     (λ i k. let p = pa i k in (omega (arith, ints), omega (arith, ints))) in
     let y = signed_mul (widened n c.args.b c.fits-b.0 c.fits-b.1) (signed_splat n _ c.args.weight_b (stands_of c.args.weight_b c.ranges.weight_b))
     (λ i k. let p = pb i k in (omega (arith, ints), omega (arith, ints))) in
-    let s = signed_add x (signed_splat n 57408 (negsuc 8127) (stands_of (negsuc 8127) (record { sfits = omega arith })))
+    let s = signed_add x (signed_splat n 49216 (negsuc 16319) (stands_of (negsuc 16319) (record { sfits = omega arith })))
     (λ i k. let p = pa i k in (omega (arith, ints), omega (arith, ints))) in
     let t = signed_add s y (λ i k. let p = pa i k in let q = pb i k in (omega (arith, ints), omega (arith, ints))) in
     signed_out t j h ∙ omega (arith, ints)

@@ -11,4 +11,4 @@ returns g c j h =
     let f3 : SFits w16 (get_or c.args.weights.now 3 (pos 0)) = search rules in
     signed_out (signed_param g.row.N c.begun.result _ c.begun.type_inv) j h
     ∙ c.begun.ensures j h
-    ∙ ap (λ (z : ℤ). z -ℤ pos 8128) (pair_same _ _ _ _ _ _ _ _ (c.load.ensures j h) (c.load-2.ensures j h) (to_z-of_z w16 _ f2) (to_z-of_z w16 _ f3))
+    ∙ ap (λ (z : ℤ). z -ℤ pos 16320) (pair_same _ _ _ _ _ _ _ _ (c.load.ensures j h) (c.load-2.ensures j h) (to_z-of_z w16 _ f2) (to_z-of_z w16 _ f3))

@@ -1,6 +1,6 @@
 use Rattle.std.proofs.Common.{◌≡◌, ℕ, ◌+◌, ◌*◌, ◌<◌, get_or, length}
 use Rattle.vp_inter.specs.Filter.{filter_six}
-use Rattle.vp_inter.proofs.block.pass_columns.Given as goal
+use Rattle.vp_inter.proofs.block.counted_columns.Given as goal
 
 -- whole pieces of sixteen
 abbrev pub invariant-loop-i : goal.invariant-loop-i

@@ -1,9 +1,9 @@
-use Rattle.std.proofs.Common.{◌≡◌, ◌∙◌, ℤ, pos, ◌+◌, ◌+ℤ◌, ap, arith, to_z, of_z, w32, rules}
-use Rattle.std.proofs.lemmas.Int.{ints}
+use Rattle.std.proofs.Common.{◌≡◌, ◌∙◌, ℤ, pos, ◌+◌, ◌<◌, ◌+ℤ◌, ap, arith, to_z, of_z, w32, rules}
+use Rattle.std.proofs.lemmas.Int.{ints, to_z-of_z}
 use Rattle.vp_inter.specs.Filter.{filter_six}
 use Rattle.vp_inter.specs.Inter.{reference_pixel, across}
 use Rattle.vp_inter.proofs.PassLemmas.{rows_more}
-use Rattle.vp_inter.proofs.block.pass_rows.Goals as goal
+use Rattle.vp_inter.proofs.block.moved_rows.Goals as goal
 
 pub moved_row-row-requires : goal.moved_row-row-requires
 moved_row-row-requires g c = (
@@ -13,8 +13,8 @@ moved_row-row-requires g c = (
     (
       c.requires.line,
       (
-        (λ t. let i = c.lies_inside-inside.ensures t in (i.0, i.1, omega (arith, ints), omega (arith, ints))),
-        (c.requires.gentle, (c.requires.columns, (c.requires.height, (omega (arith, ints), omega (arith, ints))))),
+        (λ t. let i = c.requires.inside t in (omega (arith, ints), omega (arith, ints), omega (arith, ints), omega (arith, ints))),
+        (c.requires.gentle, (c.requires.few, (c.requires.columns, (c.requires.height, (omega (arith, ints), omega (arith, ints)))))),
       ),
     ),
   ),
@@ -32,3 +32,10 @@ loop-i-preserved g c =
           c.loop-i.invariant.done c.put_lanes.ensures.here c.put_lanes.ensures.before
           (λ k kin. c.moved_row-row.ensures k kin ∙ ap (λ (z : ℤ). filter_six c.args.weights.now (λ j. reference_pixel c.args.plane.now (left +ℤ pos (k + j)) z)) row);
     }
+
+pub returns : goal.returns
+returns g c i k iin kin =
+    let passed : i < c.loop-i.i = omega arith in
+    c.loop-i.invariant.done i k passed kin
+    ∙ ap (λ (z : ℤ). across c.args.weights.now c.args.plane.now z (to_z w32 (of_z w32 c.args.top)) i k) (to_z-of_z w32 c.args.left c.ranges.left)
+    ∙ ap (λ (z : ℤ). across c.args.weights.now c.args.plane.now c.args.left z i k) (to_z-of_z w32 c.args.top c.ranges.top)

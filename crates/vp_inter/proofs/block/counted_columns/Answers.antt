@@ -3,7 +3,7 @@ use Rattle.std.proofs.lemmas.Nat.{row_fits}
 use Rattle.vp_inter.specs.Filter.{filter_six}
 use Rattle.vp_inter.proofs.FilterLemmas.{filter_six-same}
 use Rattle.vp_inter.proofs.PassLemmas.{rows_more}
-use Rattle.vp_inter.proofs.block.pass_columns.Goals as goal
+use Rattle.vp_inter.proofs.block.counted_columns.Goals as goal
 
 pub loop-i-preserved : goal.loop-i-preserved
 loop-i-preserved g c = record {
@@ -17,8 +17,8 @@ loop-i-preserved g c = record {
 piece_place : (n r j k q t : ℕ) → q * 16 + t ≡ r * n + k → 16 * q + j * n + t ≡ (r + j) * n + k
 piece_place n r j k q t e = omega arith
 
-pub returns-clause-value : goal.returns-clause-value
-returns-clause-value g c r k rin kin =
+pub returns : goal.returns
+returns g c r k rin kin =
     let n : ℕ = g.row.N in
     let i : ℕ = r * n + k in
     let w : List ℤ = c.args.weights.now in
