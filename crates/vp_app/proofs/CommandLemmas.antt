@@ -2,7 +2,7 @@
 use Rattle.std.proofs.Common.{◌≡◌, ◌⊎◌, inl, inr, List, [], ◌∷◌, ℕ, Option, Bool, true, false, refl, sym, subst}
 use Rattle.std.specs.Prelude.{codes, Result, Ok, Err, MatchBool}
 use Rattle.std.specs.Borrow.{Bor}
-use Rattle.clap.specs.Kinds.{HasKind, Kinds}
+use Rattle.clap.specs.Kinds.{HasKind, IsAmong, Kinds}
 use Rattle.clap.specs.Values.{kind_of}
 use Rattle.clap.specs.Walk.{Text}
 use Rattle.clap.specs.declared.error.Error.{Error}
@@ -17,14 +17,15 @@ use Rattle.vp_encode.specs.declared.report.EncodeReport.{EncodeReport}
 use Rattle.vp_encode.specs.declared.report.EncodeAllFault.{EncodeAllFault}
 use Rattle.vp_encode.specs.declared.report.EncodeAllFault.TheVariants as encode_fault
 use Rattle.vp_app.specs.declared.encoding.Encoding.{Encoding}
-use Rattle.vp_app.specs.declared.service.Service.{Service}
+use Rattle.vp_app.specs.declared.served.Service.{Service}
+use Rattle.vp_app.specs.declared.service.ServiceFault.{ServiceFault}
 use Rattle.vp_app.specs.declared.words.Plan.{Plan}
 use Rattle.vp_app.specs.declared.words.Plan.TheVariants.{Decode, Encode, Info, Serve, Unknown}
 use Rattle.vp_app.specs.declared.words.Refusal.{Refusal}
 use Rattle.vp_app.specs.declared.words.Refusal.TheVariants.{Words, Value}
 use Rattle.vp_app.specs.Status.{status_of}
-use Rattle.vp_app.specs.Words.{Asked, decodes, encodes, tells, serves, nothing, asked_of, faults_of, IsForMemory, IsOfValue, IsPlanFor, IsRefusalFor, MayBeRefused}
-use Rattle.vp_app.specs.Commands.{Decodes, DecodesInto, Does, Encodes, EncodesInto, IsDecoded, IsEncoded, IsNotOpened, IsUnbegun, IsUnopened, IsUsageFault, Looks, LooksOver, Over, Side, Tells, is_stream, status_by_report}
+use Rattle.vp_app.specs.Words.{Asked, decodes, encodes, tells, serves, nothing, asked_of, faults_of, IsForMemory, IsOfValue, IsPlanFor, IsMistake, IsRefusalFor, IsRefused, AreMistaken}
+use Rattle.vp_app.specs.Commands.{Decodes, DecodesInto, Does, Encodes, EncodesInto, IsDecoded, IsEncoded, IsNotOpened, IsUnbegun, IsUnopened, IsUsageFault, Looks, LooksOver, Over, Serves, Side, Tells, is_stream, status_by_report, status_by_service}
 
 pub over_stream : (name : List ℕ) (Work : Side → Side → Type 0) (old new : Side) → is_stream name ≡ true → Work old new → Over name Work old new
 over_stream name Work old new e h =
@@ -118,7 +119,7 @@ does_decode asked plan form from to done status i i' o o' e h s d = go asked (su
     go (decodes flag f t) p = rw (← p.1, ← p.2) (inl (form, done, p.0, s, d))
     go (encodes rows f t) p = absurd p
     go (tells f) p = absurd p
-    go serves p = absurd p
+    go (serves r a c t) p = absurd p
     go nothing p = absurd p
 
 pub does_encode : (asked : Asked) (plan : Plan) (encoding : Encoding) (done : Result EncodeReport EncodeAllFault) (status : ℕ) (i i' o o' : Side)
@@ -130,7 +131,7 @@ does_encode asked plan encoding done status i i' o o' e h s d = go asked (subst 
     go (decodes flag f t) p = absurd p
     go (encodes rows f t) p = rw (← p.2, ← p.3) (inl (encoding.settings, done, p.0, s, d))
     go (tells f) p = absurd p
-    go serves p = absurd p
+    go (serves r a c t) p = absurd p
     go nothing p = absurd p
 
 pub does_tell : (asked : Asked) (plan : Plan) (from : Bor (List ℕ)) (done : Result Survey DecodeFault) (status : ℕ) (i i' o o' : Side)
@@ -141,18 +142,19 @@ does_tell asked plan from done status i i' o o' e h d t = go asked (subst (IsPla
     go (decodes flag f g) p = absurd p
     go (encodes rows f g) p = absurd p
     go (tells f) p = rw (← p) (inl (done, d, t))
-    go serves p = absurd p
+    go (serves r a c t) p = absurd p
     go nothing p = absurd p
 
-pub does_serve : (asked : Asked) (plan : Plan) (service : Service) (status : ℕ) (i i' o o' : Side) → plan ≡ Serve service → IsPlanFor asked plan
+pub does_serve : (asked : Asked) (plan : Plan) (service : Service) (done : Result Bool ServiceFault) (status : ℕ) (i i' o o' : Side)
+    → plan ≡ Serve service → IsPlanFor asked plan → status ≡ status_by_service done → Serves service done i i' → (service.show_address ≡ false → o' ≡ o)
     → Does asked status i i' o o'
-does_serve asked plan service status i i' o o' e h = go asked (subst (IsPlanFor asked) e h)
+does_serve asked plan service done status i i' o o' e h s d q = go asked (subst (IsPlanFor asked) e h)
   where
     go : (x : Asked) → IsPlanFor x (Serve service) → Does x status i i' o o'
     go (decodes flag f g) p = absurd p
     go (encodes rows f g) p = absurd p
     go (tells f) p = absurd p
-    go serves p = tt
+    go (serves rows address connections operands) p = inl (service, done, p, s, d, q)
     go nothing p = absurd p
 
 pub does_nothing : (asked : Asked) (plan : Plan) (i o : Side) → plan ≡ Unknown → IsPlanFor asked plan → Does asked 2 i i o o
@@ -162,21 +164,21 @@ does_nothing asked plan i o e h = go asked (subst (IsPlanFor asked) e h)
     go (decodes flag f g) p = absurd p
     go (encodes rows f g) p = absurd p
     go (tells f) p = absurd p
-    go serves p = tt
+    go (serves r a c t) p = absurd p
     go nothing p = inr (refl, refl, refl)
 
 unbegun : (asked : Asked) (status : ℕ) (i i' o o' : Side) → IsUnbegun status i i' o o' → Does asked status i i' o o'
 unbegun (decodes flag f g) status i i' o o' h = inr h
 unbegun (encodes rows f g) status i i' o o' h = inr (inl h)
 unbegun (tells f) status i i' o o' h = inr h
-unbegun serves status i i' o o' h = tt
+unbegun (serves r a c t) status i i' o o' h = inr (inl h)
 unbegun nothing status i i' o o' h = inl h
 
-misused : (asked : Asked) (status : ℕ) (i i' o o' : Side) → MayBeRefused asked → IsUsageFault status i i' o o' → Does asked status i i' o o'
+misused : (asked : Asked) (status : ℕ) (i i' o o' : Side) → IsRefused asked → IsUsageFault status i i' o o' → Does asked status i i' o o'
 misused (decodes flag f g) status i i' o o' m h = absurd m
-misused (encodes rows f g) status i i' o o' m h = inr (inr h)
+misused (encodes rows f g) status i i' o o' m h = inr (inr (m, h))
 misused (tells f) status i i' o o' m h = absurd m
-misused serves status i i' o o' m h = tt
+misused (serves r a c t) status i i' o o' m h = inr (inr (m, h))
 misused nothing status i i' o o' m h = absurd m
 
 for_memory : (e : Error) (kinds : Kinds) → kinds ≡ [] → HasKind kinds e → kind_of e ≡ OutOfMemory
@@ -191,3 +193,15 @@ does_refused words (Words e) status i o o' h memory value none =
     let m = memory (for_memory e (faults_of words) none h) in unbegun (asked_of words) status i i o o' (m.0, refl, m.1)
 does_refused words (Value t) status i o o' h memory value none =
     let v = value tt in misused (asked_of words) status i i o o' h.1 (v.0, refl, v.1)
+
+-- ---- words with a fault
+
+-- the error of mistaken words is for want of memory, or a mistake
+pub mistaken_words : (words : List Text) (refusal : Refusal) → IsRefusalFor words refusal → AreMistaken words → IsForMemory refusal ⊎ IsMistake refusal
+mistaken_words words (Words e) (inl memory) m = inl memory
+mistaken_words words (Words e) (inr among) m =
+    inr (λ k. m.no_help (subst (λ x. IsAmong x (faults_of words)) k among), λ k. m.no_version (subst (λ x. IsAmong x (faults_of words)) k among))
+mistaken_words words (Value t) h m = absurd (m.some h.0)
+
+pub never_mistaken : (words : List Text) → faults_of words ≡ [] → AreMistaken words → ⊥
+never_mistaken words e m = m.some e

@@ -9,7 +9,7 @@ use Rattle.vp_app.specs.Feeding.{IsFed}
 use Rattle.std.specs.List.{list_all}
 use Rattle.vp_hub.specs.declared.visit.ServeFault.{ServeFault}
 use Rattle.vp_hub.specs.Hub.{State}
-use Rattle.vp_app.specs.declared.service.Named.{Named}
+use Rattle.vp_app.specs.declared.served.Named.{Named}
 use Rattle.vp_app.specs.Serving.{AreFilesFed, AreServed, IsFileFed, IsServed}
 
 pub files_more : (streams : List Named) (s : Named) (old mid new : State) (before between after : Option (List ℕ))

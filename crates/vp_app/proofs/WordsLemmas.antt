@@ -1,9 +1,11 @@
 -- What was found for words, and the plan.
-use Rattle.std.proofs.Common.{◌≡◌, ◌∙◌, ◌⊎◌, ◌∷◌, ◌++◌, [], inl, inr, List, Option, Some, None, Bool, true, false, refl, sym, ap, subst}
-use Rattle.std.specs.Prelude.{◌||◌, codes, option_map, Result, Ok, Err, IfOk, IfErr}
+use Rattle.std.proofs.Common.{◌≡◌, ◌∙◌, ◌⊎◌, ◌<◌, ◌∷◌, ◌++◌, [], inl, inr, ℕ, zero, suc, List, Option, Some, None, Bool, true, false, refl, sym, ap, subst, length, get_or, le_of_suc-le-suc, le_refl, not-suc-le-zero}
+use Rattle.std.proofs.lemmas.Bool.{le-ltb}
+use Rattle.std.specs.List.{list_all, position_or_len}
+use Rattle.std.specs.Prelude.{◌&&◌, ◌||◌, codes, option_map, Result, Ok, Err, IfOk, IfErr}
 use Rattle.std.specs.Borrow.{Bor}
 use Rattle.clap.specs.Built.{AddsArg, AddsSubcommand}
-use Rattle.clap.specs.Walk.{Row, Rule, Text, one_of, rule_of}
+use Rattle.clap.specs.Walk.{Row, Rule, Text, one_of, rule_of, texts}
 use Rattle.clap.specs.Kinds.{FailsBy, HasKind}
 use Rattle.clap.specs.Faults.{fault_of, is_simple_and_free}
 use Rattle.clap.specs.Simple.{App, HasMatchesOf, app_of, is_simple, subcommand_of, subcommand_rows_of, with_rule, with_subcommand}
@@ -16,8 +18,9 @@ use Rattle.clap.specs.declared.parser.matches.ArgMatches.{ArgMatches}
 use Rattle.vp_stream.specs.declared.form.Form.{Form}
 use Rattle.vp_app.specs.declared.words.Plan.TheVariants.{Decode, Encode, Info, Unknown}
 use Rattle.vp_app.specs.declared.words.Refusal.{Refusal}
+use Rattle.vp_app.specs.declared.words.Refusal.TheVariants.{Words, Value}
 use Rattle.vp_app.specs.declared.encoding.Encoding.{Encoding}
-use Rattle.vp_app.specs.Words.{Asked, decodes, encodes, tells, decode_app, encode_app, faults_of, info_app, serve_app, vp8_app, Gains, IsFlag, IsNoPlanFor, IsPlanFor, is_y4m, program, with_operand, with_operands, with_rules}
+use Rattle.vp_app.specs.Words.{Asked, decodes, encodes, serves, tells, decode_app, encode_app, faults_of, info_app, serve_app, vp8_app, Gains, IsFlag, IsForMemory, IsNoNaming, IsNoPlanFor, IsPlanFor, is_equals, is_parted, is_y4m, program, with_operand, with_operands, with_rules, with_service}
 
 -- ---- the commands
 
@@ -92,3 +95,36 @@ to_tell from input e = rw (← e) refl
 
 pub no_operand : (from : Option Text) → from ≡ None → IsPlanFor (with_operand tells from) Unknown
 no_operand from e = rw e tt
+
+pub to_serve : (rows : List Row) (address connections : Option Text) (operands : Option (List Text)) (a c : Text) (o : List Text)
+    → Some a ≡ address → Some c ≡ connections → Some o ≡ operands → (P : Asked → Type 0) → P (serves rows a c o)
+    → P (with_service rows address connections operands)
+to_serve rows address connections operands a c o e f g P h = rw (← e, ← f, ← g) h
+
+pub no_service : (rows : List Row) (address connections : Option Text) (operands : Option (List Text))
+    → (address ≡ None) ⊎ ((connections ≡ None) ⊎ (operands ≡ None)) → IsPlanFor (with_service rows address connections operands) Unknown
+no_service rows None connections operands e = tt
+no_service rows (Some a) None operands e = tt
+no_service rows (Some a) (Some c) None e = tt
+no_service rows (Some a) (Some c) (Some o) (inl e) = cc
+no_service rows (Some a) (Some c) (Some o) (inr (inl e)) = cc
+no_service rows (Some a) (Some c) (Some o) (inr (inr e)) = cc
+
+-- ---- operands that aren't parted
+
+unparted : (text : Text) → position_or_len is_equals text ≡ length text → is_parted text ≡ false
+unparted text e = rw e (le-ltb (length text) (length text) (le_refl _))
+
+pub no_naming : (operands : List (Bor Text)) (i : ℕ) (d : Bor Text) → i < length operands
+    → position_or_len is_equals (get_or operands i d).now ≡ length (get_or operands i d).now → list_all is_parted (texts operands) ≡ false
+no_naming [] i d lt e = absurd (not-suc-le-zero lt)
+no_naming (x ∷ xs) zero d lt e = rw (unparted x.now e) refl
+no_naming (x ∷ xs) (suc i) d lt e = still (is_parted x.now) (list_all is_parted (texts xs)) (no_naming xs i d (le_of_suc-le-suc lt) e)
+  where
+    still : (a b : Bool) → b ≡ false → (a && b) ≡ false
+    still true b e = e
+    still false b e = refl
+
+pub naming_memory : (operands : List Text) (r : Refusal) → IsForMemory r → IsNoNaming operands r
+naming_memory operands (Words e) h = h
+naming_memory operands (Value t) h = absurd h

@@ -24,7 +24,10 @@ use Rattle.clap.specs.Walk.{Row}
 use Rattle.vp_app.specs.Listing.{survey_text}
 use Rattle.vp_app.specs.Status.{status_of}
 use Rattle.vp_app.specs.Usual.{AreLimits}
-use Rattle.vp_app.specs.Words.{Asked, decodes, encodes, tells, serves, nothing, AreSettings, IsFlag, is_y4m}
+use Rattle.vp_app.specs.declared.served.Service.{Service}
+use Rattle.vp_app.specs.declared.service.ServiceFault.{ServiceFault}
+use Rattle.vp_app.specs.Serving.{IsService}
+use Rattle.vp_app.specs.Words.{Asked, decodes, encodes, tells, serves, nothing, AreNoSettings, AreSettings, IsFlag, IsNoService, IsServiceFor, is_y4m}
 
 -- ---- the streams
 
@@ -61,7 +64,7 @@ pub record IsDecoded (form : Form) (done : Result Report DecodeFault) (input inp
   pub device : done ≡ Err Device → HasFailed input.failures input'.failures ⊎ HasFailed output.failures output'.failures
   pub quiet : done ≢ Err Device → (input'.failures ≡ input.failures) × (output'.failures ≡ output.failures)
 
--- a named file couldn't be opened or made
+-- a named file couldn't be opened or made, or is the one that is read
 abbrev pub IsUnopened : List ℕ → {T : Type 0} → Result T DecodeFault → Type 0
 IsUnopened name done = (is_stream name ≡ false) × ((done ≡ Err Device) ⊎ (done ≡ Err Memory))
 
@@ -156,12 +159,30 @@ abbrev pub DoesTell : List ℕ → ℕ → Side → Side → Side → Side → T
 DoesTell from status input input' output output' =
     (done : Result Survey DecodeFault) × Looks from done input input' × Tells done status output.bytes output'.bytes
 
+-- the connections were served, or a fault of files, names, addresses or memory came before
+abbrev pub Serves : Service → Result Bool ServiceFault → Side → Side → Type 0
+Serves service (Ok well) input input' = IsService service.streams.items service.cache service.connections well input.bytes input'.bytes
+Serves service (Err fault) input input' = Unit {0}
+
+abbrev pub status_by_service : Result Bool ServiceFault → ℕ
+status_by_service (Ok true) = 0
+status_by_service _ = 1
+
+-- nothing is printed but the address, where that is asked for
+abbrev pub DoesServe : List Row → List ℕ → List ℕ → List (List ℕ) → ℕ → Side → Side → Side → Side → Type 0
+DoesServe rows address connections operands status input input' output output' =
+    (service : Service) × (done : Result Bool ServiceFault) × IsServiceFor rows address connections operands service
+    × (status ≡ status_by_service done) × Serves service done input input' × (service.show_address ≡ false → output' ≡ output)
+
 abbrev pub Does : Asked → ℕ → Side → Side → Side → Side → Type 0
 Does (decodes flag from to) status input input' output output' =
     DoesDecode flag from to status input input' output output' ⊎ IsUnbegun status input input' output output'
 Does (encodes rows from to) status input input' output output' =
-    DoesEncode rows from to status input input' output output' ⊎ (IsUnbegun status input input' output output' ⊎ IsUsageFault status input input' output output')
+    DoesEncode rows from to status input input' output output'
+    ⊎ (IsUnbegun status input input' output output' ⊎ (AreNoSettings rows × IsUsageFault status input input' output output'))
 Does (tells from) status input input' output output' =
     DoesTell from status input input' output output' ⊎ IsUnbegun status input input' output output'
-Does serves status input input' output output' = Unit {0}
+Does (serves rows address connections operands) status input input' output output' =
+    DoesServe rows address connections operands status input input' output output'
+    ⊎ (IsUnbegun status input input' output output' ⊎ (IsNoService rows connections operands × IsUsageFault status input input' output output'))
 Does nothing status input input' output output' = IsUnbegun status input input' output output' ⊎ IsUsageFault status input input' output output'

@@ -2,6 +2,6 @@ pub mod Usual
 pub mod Status
 pub mod Listing
 pub mod Words
-pub mod Commands
 pub mod Feeding
 pub mod Serving
+pub mod Commands

@@ -1,4 +1,4 @@
--- Inside the crate: a service. The streams' files are fed into a new hub, and then connections are served, one after another.
+-- A service. The streams' files are fed into a new hub, and then connections are served, one after another.
 use Rattle.std.specs.Prelude.{◌≡◌, ◌⊎◌, ◌+◌, ℕ, Bool, List, [], ◌∷◌, length, map, codes, Option, None, Result, Err, is_ok, MatchBool}
 use Rattle.std.specs.List.{list_all}
 use Rattle.std.specs.Str.{bytes_eq}
@@ -11,7 +11,7 @@ use Rattle.vp_hub.specs.declared.visit.ServeFault.TheVariants.{Device}
 use Rattle.vp_hub.specs.Hub.{State, fresh}
 use Rattle.vp_hub.specs.Work.{Whole}
 use Rattle.vp_hub.specs.Visits.{IsVisit, IsTurnedAway}
-use Rattle.vp_app.specs.declared.service.Named.{Named}
+use Rattle.vp_app.specs.declared.served.Named.{Named}
 use Rattle.vp_app.specs.Usual.{AreLimits}
 use Rattle.vp_app.specs.Feeding.{IsFed}
 

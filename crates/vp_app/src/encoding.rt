@@ -39,7 +39,8 @@ impl<E: Write> Watcher for Progress<'_, E> {
     }
 }
 
-/// Opens the file of pictures, and then makes that of packets, and encodes.
+/// Opens the file of pictures, and then makes that of packets, and encodes. A file that is to be read isn't written, for
+/// making it anew empties it.
 #[tactic(auto, using(crate::proofs::CommandLemmas::pictures_stream, crate::proofs::CommandLemmas::pictures_file, crate::proofs::CommandLemmas::pictures_none))]
 pub(crate) fn encode<H: Files + AllocGlobal, R: Read, W: Write, E: Write>(
     rt: &H,
@@ -60,6 +61,9 @@ pub(crate) fn encode<H: Files + AllocGlobal, R: Read, W: Write, E: Write>(
     };
     if encoding.input == "-" {
         return encode_into(rt, encoding, input, output, &mut watcher);
+    }
+    if encoding.input == encoding.output {
+        return Err(EncodeAllFault::Device);
     }
     match fs::open(rt, encoding.input) {
         Ok(file) => encode_into(rt, encoding, &mut Counted::new(file), output, &mut watcher),

@@ -7,6 +7,7 @@ mod encoding_tests;
 mod laws;
 mod listing;
 mod program;
+mod served;
 mod service;
 #[cfg(test)]
 mod tests;

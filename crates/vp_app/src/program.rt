@@ -1,14 +1,14 @@
 //! The program, over any streams.
 
-ghost use Rattle.std.specs.Prelude.{◌≡◌, ◌≢◌, ◌≤◌, ◌↔◌, ◌⊎◌, [], IfOk, IsOk, None, Ok, false, true};
+ghost use Rattle.std.specs.Prelude.{◌≡◌, ◌≢◌, ◌≤◌, ◌⊎◌, [], IfOk, IsOk, None, false};
 ghost use Rattle.clap.specs.Values.{kind_of};
 ghost use Rattle.clap.specs.Walk.{texts};
 ghost use Rattle.clap.specs.declared.error.kind.ErrorKind.{ErrorKind};
 ghost use Rattle.vp_stream.specs.declared.fault.DecodeFault.{DecodeFault};
 ghost use Rattle.vp_base.specs.Counted.{counted_contents};
-ghost use Rattle.vp_app.specs.Commands.{is_stream, read_side, written_side, status_by_report, Decodes, DecodesInto, Does, IsDecoded, IsLooked, Looks, LooksOver, Tells};
+ghost use Rattle.vp_app.specs.Commands.{is_stream, read_side, written_side, status_by_report, status_by_service, Decodes, DecodesInto, Does, IsDecoded, IsLooked, Looks, LooksOver, Tells};
 ghost use Rattle.vp_app.specs.Status.{status_of};
-ghost use Rattle.vp_app.specs.Words.{asked_of, faults_of, Asked, IsForMemory, IsOfValue, IsPlanFor};
+ghost use Rattle.vp_app.specs.Words.{asked_of, faults_of, AreMistaken, Asked, IsForMemory, IsMistake, IsOfValue, IsPlanFor};
 
 use crate::encoding::encode;
 use crate::listing::print_survey;
@@ -36,7 +36,7 @@ use vp_stream::{DecodeFault, Form, Report, Survey, SurveyFault, decode_all, surv
 /// `vp8 info IN` prints what an IVF file holds, the packets' faults too. `vp8 serve --listen ADDR --connections N
 /// NAME=FILE...` serves the pictures of files over HTTP, until so many connections were served; a fault of a connection is
 /// named, and the next one is served. The name `-` is `input` or `output`.
-#[tactic(auto, using(crate::proofs::CommandLemmas::does_refused))]
+#[tactic(auto, using(crate::proofs::CommandLemmas::does_refused, crate::proofs::CommandLemmas::mistaken_words, crate::proofs::CommandLemmas::never_mistaken))]
 pub fn command<
     H: Files + AllocGlobal + Net<Stream = TcpStream, Listener = TcpListener>,
     R: Read,
@@ -56,6 +56,9 @@ pub fn command<
     ensures does { faults_of (texts words.now) ≡ [] → Does (asked_of (texts words.now)) result
         (read_side R.remaining input.old) (read_side R.remaining input.new)
         (written_side W.contents output.old) (written_side W.contents output.new) }
+
+    // Words with a fault are a usage fault, unless they ask for the help or the version or memory is refused.
+    ensures mistaken { AreMistaken (texts words.now) → (result ≡ 2) ⊎ ((result ≡ 1) × (input.new ≡ input.old) × (output.new ≡ output.old)) }
 {
     match read_words(rt.alloc(), words) {
         Ok(plan) => carry_out(rt, &plan, input, output, errors),
@@ -107,10 +110,9 @@ fn turn_down<W: Write, E: Write>(
 ) -> u8
     ensures status { result ≤ 2 }
     ensures usage { result ≡ 2 → output.new ≡ output.old }
-    ensures memory { IsForMemory refusal.now → (result ≡ 1)
-        × (written_side W.contents output.new ≡ written_side W.contents output.old) }
-    ensures value { IsOfValue refusal.now → (result ≡ 2)
-        × (written_side W.contents output.new ≡ written_side W.contents output.old) }
+    ensures memory { IsForMemory refusal.now → (result ≡ 1) × (output.new ≡ output.old) }
+    ensures mistake { IsMistake refusal.now → (result ≡ 2) ⊎ ((result ≡ 1) × (output.new ≡ output.old)) }
+    ensures value { IsOfValue refusal.now → (result ≡ 2) × (output.new ≡ output.old) }
 {
     match refusal {
         Refusal::Value(text) => refuse(text, errors),
@@ -118,7 +120,7 @@ fn turn_down<W: Write, E: Write>(
     }
 }
 
-// Opens the files, and decodes.
+// Opens the files, and decodes. A file that is to be read isn't written, for making it anew empties it.
 #[tactic(auto, using(crate::proofs::CommandLemmas::from_stream, crate::proofs::CommandLemmas::from_file, crate::proofs::CommandLemmas::from_none))]
 fn decode<H: Files + AllocGlobal, R: Read, W: Write>(
     rt: &H,
@@ -136,6 +138,9 @@ fn decode<H: Files + AllocGlobal, R: Read, W: Write>(
 {
     if from == "-" {
         return decode_into(rt, form, to, input, output);
+    }
+    if from == to {
+        return Err(DecodeFault::Device);
     }
     match fs::open(rt, from) {
         Ok(file) => decode_into(rt, form, to, &mut Counted::new(file), output),
@@ -294,8 +299,8 @@ fn explain<W: Write, E: Write>(
     ensures status { result ≤ 2 }
     ensures usage { result ≡ 2 → output.new ≡ output.old }
     ensures memory { kind_of error.now ≡ ErrorKind.OutOfMemory → (result ≡ 1) × (output.new ≡ output.old) }
-    ensures mistake { kind_of error.now ≢ ErrorKind.OutOfMemory → kind_of error.now ≢ ErrorKind.DisplayHelp
-        → kind_of error.now ≢ ErrorKind.DisplayVersion → result ≡ 2 }
+    ensures mistake { kind_of error.now ≢ ErrorKind.DisplayHelp → kind_of error.now ≢ ErrorKind.DisplayVersion
+        → (result ≡ 2) ⊎ ((result ≡ 1) × (output.new ≡ output.old)) }
 {
     if error.kind() == ErrorKind::OutOfMemory {
         return name_end(DecodeFault::Memory, errors);
@@ -321,7 +326,7 @@ fn refuse<E: Write>(text: &str, errors: &mut Counted<E>) -> u8
 // Names the fault that kept the server from serving, and gives the status.
 fn tell_service<E: Write>(done: Result<bool, ServiceFault>, errors: &mut Counted<E>) -> u8
     ensures status { result ≤ 1 }
-    ensures well { result ≡ 0 ↔ done ≡ Ok true }
+    ensures by { result ≡ status_by_service done }
 {
     match done {
         Ok(true) => 0,

@@ -1,15 +1,17 @@
 //! The server: files are fed into a hub, and then connections are served, one after another.
 
-ghost use Rattle.std.specs.Prelude.{◌≡◌, ◌<◌, ◌≤◌, ℕ, List, Err, IfOk, false};
+ghost use Rattle.std.specs.Prelude.{◌≡◌, ℕ, List, Err, IfOk, false};
 ghost use Rattle.std.specs.Io.KnownBytes.{Consumes};
 ghost use Rattle.vp_base.specs.Counted.{counted_remaining};
 ghost use Rattle.vp_hub.specs.Hub.{State};
 ghost use Rattle.vp_hub.specs.Names.{are_names};
 ghost use Rattle.vp_hub.specs.View.{is_memory as hub_is_memory};
 ghost use Rattle.vp_app.specs.declared.service.ServiceFault.{ServiceFault};
+ghost use Rattle.vp_app.specs.Commands.{read_side, Serves};
 ghost use Rattle.vp_app.specs.Feeding.{FeedsPiece, IsFed};
-ghost use Rattle.vp_app.specs.Serving.{AreFilesFed, IsFileFed, IsNewHub, IsServed, IsService, IsServing, names_of};
+ghost use Rattle.vp_app.specs.Serving.{AreFilesFed, IsFileFed, IsNewHub, IsServed, IsServing, names_of};
 
+use crate::served::{Named, Service};
 use std::alloc::{AllocError, Global};
 use std::io::{Read, Write};
 use std::net::{Net, Shutdown, TcpListener, TcpStream};
@@ -18,31 +20,6 @@ use std::time::Duration;
 use std::{fmt, fs, io};
 use vp_base::{ByteList, Counted, Limits};
 use vp_hub::{Event, Hub, HubFault, NewFault, ServeFault, serve_one};
-
-/// A stream's name, and the file that holds it.
-#[derive(Clone, Copy, Debug, PartialEq, Eq)]
-pub struct Named<'a> {
-    /// The name.
-    pub name: &'a str,
-    /// The file, or `-` for the standard input.
-    pub file: &'a str,
-}
-
-/// What is to be served, and where.
-#[derive(Drop)]
-pub struct Service<'a> {
-    /// The address and port to listen at.
-    pub listen: &'a str,
-    /// How many connections are served.
-    pub connections: u32,
-    /// How many pictures are kept.
-    pub cache: u32,
-    /// Whether the address is printed.
-    pub show_address: bool,
-    /// The streams.
-    pub streams: Vec<Named<'a>>,
-    ghost cache_in_range: { 0 < cache × cache ≤ 4096 },
-}
 
 /// Why nothing is served.
 #[derive(Clone, Copy, Debug, PartialEq, Eq)]
@@ -99,8 +76,7 @@ pub(crate) fn serve<
     output: &mut Counted<W>,
     errors: &mut Counted<E>,
 ) -> Result<bool, ServiceFault>
-    ensures served { IfOk result (λ well. IsService service.now.streams.items service.now.cache service.now.connections well
-        (counted_remaining R.remaining input.old) (counted_remaining R.remaining input.new)) }
+    ensures served { Serves service.now result (read_side R.remaining input.old) (read_side R.remaining input.new) }
 
     // Nothing is printed but the address, where that is asked for.
     ensures quiet { service.now.show_address ≡ false → output.new ≡ output.old }

@@ -1,13 +1,16 @@
 //! The server's words, and one connection over TCP.
 
 use crate::command;
+use crate::served::{Named, Service};
 use crate::service::serve_each;
+use crate::words::{Plan, read_words};
 use std::alloc::{AllocError, Global};
-use std::io;
 use std::io::{Read, Write};
 use std::net::{Shutdown, TcpListener, TcpStream};
 use std::test::Fail;
+use std::{fs, io};
 use vp_base::{ByteList, Counted, Limits};
+use vp_encode::Settings;
 use vp_hub::{Event, Hub};
 
 // A file of one key packet without a coefficient, of 16 by 16 pixels.
@@ -97,6 +100,82 @@ fn keeps(rt: &HostRuntime, cache: &str) -> u8 {
 fn caches_are_refused(rt: HostRuntime) -> Result<(), Fail> {
     assert_eq!(rt; (keeps(&rt, "0"), keeps(&rt, "1")), (2, 0));
     assert_eq!(rt; (keeps(&rt, "4096"), keeps(&rt, "4097")), (0, 2));
+    Ok(())
+}
+
+/// What these words ask to be served.
+fn asked<'a>(alloc: Global, words: &'a [&'a str]) -> Option<Service<'a>> {
+    match read_words(alloc, words) {
+        Ok(Plan::Serve(service)) => Some(service),
+        _ => None,
+    }
+}
+
+#[test]
+fn served_as_asked(rt: HostRuntime) -> Result<(), Fail> {
+    let words = [
+        "vp8",
+        "serve",
+        "--listen",
+        "x:1",
+        "--connections",
+        "7",
+        "a=b=c",
+    ];
+    let Some(service) = asked(rt.alloc(), &words) else {
+        return Err(Fail::new("nothing is served"));
+    };
+    assert_eq!(rt; (service.listen, service.connections), ("x:1", 7));
+    assert_eq!(rt; (service.cache, service.show_address), (16, false));
+    assert_eq!(rt;
+        service.streams.as_slice(),
+        [Named {
+            name: "a",
+            file: "b=c"
+        }]
+        .as_slice()
+    );
+    Ok(())
+}
+
+/// What these words ask to be encoded, and how.
+fn asked_settings(alloc: Global, words: &[&str]) -> Option<Settings> {
+    match read_words(alloc, words) {
+        Ok(Plan::Encode(encoding)) => Some(encoding.settings),
+        _ => None,
+    }
+}
+
+#[test]
+fn usual_settings(rt: HostRuntime) -> Result<(), Fail> {
+    let usual = Settings {
+        qi: 32,
+        level: 16,
+        sharpness: 0,
+        simple: false,
+        key_every: 64,
+        golden_every: 0,
+        range: 16,
+        subpel: false,
+        partitions: 1,
+    };
+    assert!(rt; asked_settings(rt.alloc(), &["vp8", "encode", "a", "b"]) == Some(usual));
+    Ok(())
+}
+
+/// What decoding a file into itself comes to, and what the file holds then.
+fn decode_into_itself(rt: &HostRuntime) -> io::Result<(u8, bool, Vec<u8>)> {
+    fs::write(rt, "itself.ivf", FILE.as_slice())?;
+    let words = ["vp8", "decode", "itself.ivf", "itself.ivf"];
+    let (status, told) = run(rt, &words, b"vp8: Device\n");
+    Ok((status, told, fs::read(rt, "itself.ivf")?))
+}
+
+#[test]
+fn files_are_not_decoded_into_themselves(rt: HostRuntime) -> Result<(), Fail> {
+    let (status, told, left) = decode_into_itself(&rt)?;
+    assert_eq!(rt; (status, told), (1, true));
+    assert!(rt; left.as_slice() == FILE.as_slice());
     Ok(())
 }
 

@@ -1,16 +1,15 @@
 //! The words of the program.
 
-ghost use Rattle.std.specs.Prelude.{◌≡◌, [], IfErr, IfOk, IfSome, codes, false, option_map};
-ghost use Rattle.std.specs.Str.Parse.{digits_value, without_leading_plus};
+ghost use Rattle.std.specs.Prelude.{◌≡◌, ◌<◌, ◌≤◌, ◌^◌, [], IfErr, IfOk, IfSome, None, codes, false, option_map};
 ghost use Rattle.clap.specs.Words.{app_of, found_of, rows_of, rule_of, subcommand_rows_of};
 ghost use Rattle.clap.specs.Kinds.{HasKind};
 ghost use Rattle.clap.specs.Simple.{subcommand_of};
-ghost use Rattle.clap.specs.Walk.{first_of, one_of, texts};
+ghost use Rattle.clap.specs.Walk.{all_of, first_of, one_of, texts};
 ghost use Rattle.clap.specs.declared.builder.command.Command.TheViews.{out-Command as fields_of};
-ghost use Rattle.vp_app.specs.Words.{asked_at, asked_by, asked_of, encodes, faults_of, AreSettings, Gains, IsFlag, IsNoPlanFor, IsNumber, IsOfValue, IsPlanFor, IsRefusalFor, decode_app, encode_app, flag_rule, frame_rules, info_app, macroblock_rules, operand_rule, operands_rule, program, serve_app, serves, setting_rule, with_rules};
+ghost use Rattle.vp_app.specs.Words.{asked_at, asked_by, asked_of, encodes, faults_of, AreNamed, AreNoSettings, AreSettings, Gains, IsDecimal, IsFlag, IsMisnumbered, IsNoCache, IsNoDecimal, IsNoNaming, IsNoPlanFor, IsNumber, IsOfValue, IsPlanFor, IsRefusalFor, decode_app, encode_app, flag_rule, frame_rules, info_app, macroblock_rules, operand_rule, operands_rule, program, serve_app, serves, setting_rule, with_rules};
 
 use crate::encoding::Encoding;
-use crate::service::{Named, Service};
+use crate::served::{Named, Service};
 use clap::{Arg, ArgAction, ArgMatches, Command, Error};
 use std::alloc::{AllocError, Global};
 use vp_encode::Settings;
@@ -293,6 +292,13 @@ fn text_of<'a>(found: &ArgMatches<'a>, name: &str) -> Option<&'a str>
     found.get_str(name)
 }
 
+// All texts that were found for an argument.
+fn texts_of<'a, 'b>(found: &'b ArgMatches<'a>, name: &str) -> Option<&'b [&'a str]>
+    ensures { option_map (λ all. texts all.now) result ≡ all_of name.now (rows_of (found_of found.now)) }
+{
+    found.get_strs(name)
+}
+
 // Whether a flag is set.
 fn is_set(found: &ArgMatches<'_>, name: &str) -> bool
     ensures { IsFlag (one_of name.now (rows_of (found_of found.now))) result }
@@ -346,7 +352,7 @@ fn encoding_plan<'a>(
 
 fn encoder_settings(found: &ArgMatches<'_>) -> Result<Settings, Refusal>
     ensures settings { IfOk result (AreSettings (rows_of (found_of found.now))) }
-    ensures refusal { IfErr result IsOfValue }
+    ensures refusal { IfErr result (λ r. IsOfValue r × AreNoSettings (rows_of (found_of found.now))) }
 {
     Ok(Settings {
         qi: byte(found, "qi", 32, "--qi is a decimal number up to 255")?,
@@ -389,7 +395,7 @@ fn count(
     refusal: &'static str,
 ) -> Result<u32, Refusal>
     ensures number { IfOk result (IsNumber (first_of option.now (rows_of (found_of found.now))) usual) }
-    ensures refusal { IfErr result IsOfValue }
+    ensures refusal { IfErr result (λ r. IsOfValue r × IsMisnumbered (2 ^ 32) (first_of option.now (rows_of (found_of found.now)))) }
 {
     let Some(text) = text_of(found, option) else {
         return Ok(usual);
@@ -401,6 +407,7 @@ fn count(
 }
 
 // The number of 8 bits that an option says, or the usual one where it isn't said.
+#[tactic(auto, using(crate::proofs::NumberLemmas::misnumbered_byte, crate::proofs::NumberLemmas::misnumbered_still))]
 fn byte(
     found: &ArgMatches<'_>,
     option: &str,
@@ -408,7 +415,7 @@ fn byte(
     refusal: &'static str,
 ) -> Result<u8, Refusal>
     ensures number { IfOk result (IsNumber (first_of option.now (rows_of (found_of found.now))) usual) }
-    ensures refusal { IfErr result IsOfValue }
+    ensures refusal { IfErr result (λ r. IsOfValue r × IsMisnumbered 256 (first_of option.now (rows_of (found_of found.now)))) }
 {
     match u8::try_from(count(found, option, u32::from(usual), refusal)?) {
         Ok(number) => Ok(number),
@@ -429,35 +436,61 @@ fn serve_plan<'a>(alloc: Global, found: &ArgMatches<'a>) -> Result<Plan<'a>, Ref
     ensures plan { IfOk result (IsPlanFor (asked_at (codes "serve") (rows_of (found_of found.now)))) }
     ensures refusal { IfErr result (IsNoPlanFor (asked_at (codes "serve") (rows_of (found_of found.now)))) }
 {
-    let (Some(listen), Some(operands)) = (found.get_str("listen"), found.get_strs("NAME=FILE"))
-    else {
-        return Ok(Plan::Unknown);
-    };
-    let Some(connections) = found.get_str("connections").and_then(decimal) else {
+    match (
+        text_of(found, "listen"),
+        text_of(found, "connections"),
+        texts_of(found, "NAME=FILE"),
+    ) {
+        (Some(listen), Some(connections), Some(operands)) => {
+            service_plan(alloc, found, listen, connections, operands)
+        }
+        _ => Ok(Plan::Unknown),
+    }
+}
+
+fn service_plan<'a>(
+    alloc: Global,
+    found: &ArgMatches<'a>,
+    listen: &'a str,
+    connections: &str,
+    operands: &[&'a str],
+) -> Result<Plan<'a>, Refusal>
+    ensures plan { IfOk result (IsPlanFor (serves (rows_of (found_of found.now)) listen.entry.now connections.now (texts operands.now))) }
+    ensures refusal { IfErr result (IsNoPlanFor (serves (rows_of (found_of found.now)) listen.entry.now connections.now (texts operands.now))) }
+{
+    let Some(connections) = decimal(connections) else {
         return Err(Refusal::Value("--connections is a decimal number"));
     };
-    let Some(cache) = decimal(found.get_str("cache").unwrap_or("16")) else {
-        return Err(Refusal::Value("--cache is a decimal number"));
-    };
-    if cache == 0 || cache > 4096 {
-        return Err(Refusal::Value("--cache is a number from 1 to 4096"));
-    }
+    let cache = kept_pictures(found)?;
     Ok(Plan::Serve(Service {
         listen,
         connections,
         cache,
-        show_address: found.get_flag("show-address"),
+        show_address: is_set(found, "show-address"),
         streams: named_files(alloc, operands)?,
     }))
 }
 
+// How many pictures are kept.
+fn kept_pictures(found: &ArgMatches<'_>) -> Result<u32, Refusal>
+    ensures number { IfOk result (λ n. IsNumber (first_of (codes "cache") (rows_of (found_of found.now))) 16 n × (0 < n) × (n ≤ 4096)) }
+    ensures refusal { IfErr result (λ r. IsOfValue r × IsNoCache (first_of (codes "cache") (rows_of (found_of found.now)))) }
+{
+    let cache = count(found, "cache", 16, "--cache is a decimal number")?;
+    if cache == 0 || cache > 4096 {
+        return Err(Refusal::Value("--cache is a number from 1 to 4096"));
+    }
+    Ok(cache)
+}
+
 // Names and files, parted at the first `=` of each operand.
 fn named_files<'a>(alloc: Global, operands: &[&'a str]) -> Result<Vec<Named<'a>>, Refusal>
-    ensures { IfErr result (IsNoPlanFor serves) }
+    ensures named { IfOk result (λ streams. AreNamed (texts operands.now) streams.items) }
+    ensures refusal { IfErr result (IsNoNaming (texts operands.now)) }
 {
     let mut streams = Vec::new(alloc);
     for operand in operands {
-        let Some((name, file)) = operand.split_once("=") else {
+        let Some((name, file)) = operand.split_once('=') else {
             return Err(Refusal::Value("an operand of serve is NAME=FILE"));
         };
         if streams.push(Named { name, file }).is_err() {
@@ -468,10 +501,12 @@ fn named_files<'a>(alloc: Global, operands: &[&'a str]) -> Result<Vec<Named<'a>>
 }
 
 // A decimal number without a sign.
+#[tactic(auto, using(crate::proofs::NumberLemmas::no_plus, crate::proofs::NumberLemmas::no_signed_numeral))]
 fn decimal(text: &str) -> Option<u32>
-    ensures { IfSome result (λ n. n ≡ digits_value 10 (without_leading_plus text.now)) }
+    ensures number { IfSome result (IsDecimal text.now) }
+    ensures none { result ≡ None → IsNoDecimal (2 ^ 32) text.now }
 {
-    if !text.bytes().all(|c| c.is_ascii_digit()) {
+    if text.starts_with('+') {
         return None;
     }
     text.parse::<u32>().ok()
