@@ -2,13 +2,7 @@
 #![tactic(auto)]
 
 mod connection;
-#[cfg(test)]
-mod connection_tests;
 mod event;
-#[cfg(test)]
-mod event_tests;
-#[cfg(test)]
-mod head_tests;
 mod hub;
 mod laws;
 mod names;
@@ -17,11 +11,7 @@ mod pictures;
 mod serve;
 mod shelf;
 mod source;
-#[cfg(test)]
-mod tests;
 mod visit;
-#[cfg(test)]
-mod visit_tests;
 
 pub use connection::{Connection, Link};
 pub use event::{Event, HubFault, Reply};

@@ -18,3 +18,23 @@ mod hubs;
 mod interleavings;
 #[cfg(test)]
 mod refusals;
+#[cfg(test)]
+mod serving;
+#[cfg(test)]
+mod serving_connections;
+#[cfg(test)]
+mod serving_events;
+#[cfg(test)]
+mod serving_heads;
+#[cfg(test)]
+mod serving_limits;
+#[cfg(test)]
+mod serving_reads;
+#[cfg(test)]
+mod serving_sizes;
+#[cfg(test)]
+mod serving_visits;
+#[cfg(test)]
+mod serving_work;
+#[cfg(test)]
+mod worked_rows;

@@ -1,10 +1,12 @@
-//! Events that are refused, and change nothing.
+//! Events that are refused, and change nothing; events for which nothing is decoded.
 
 ghost use Rattle.std.specs.Prelude.{◌≡◌, IfOk, vec_len};
 
 use crate::hubs::{
     ASKS_KEY, BAD, hub_of, is_answered, is_key, is_refused, list, parts, replied, says,
 };
+use crate::serving::{HEAD, KEY};
+use crate::serving_events::SHORT;
 use std::alloc::{AllocError, Global};
 use std::test::Fail;
 use vp_hub::{Event, Hub, HubFault, Reply};
@@ -161,5 +163,59 @@ fn goes_on(alloc: Global) -> bool {
 #[test]
 fn refused_events_change_nothing(rt: HostRuntime) -> Result<(), Fail> {
     assert!(rt; goes_on(rt.alloc()));
+    Ok(())
+}
+
+/// What asks for a packet that is too short. One packet is decoded for it, each time.
+const ASKS_SHORT: &[u8] = b"GET /s/a/frame/0 HTTP/1.1\r\nHost: x\r\n\r\n";
+
+/// Events for which nothing is decoded, taken or refused. Stream `a` begins with the packet that is too short; connections 1
+/// and 3 stand, and 1 asks between them.
+const FREE: [Told; 18] = [
+    Told::Feed(b"a", &KEY),
+    Told::Feed(b"a", b""),
+    Told::Feed(b"d", &KEY),
+    Told::Open(2),
+    Told::Open(2),
+    Told::Bytes(2, b"GET /s/a/frame/0 HTTP/1.1\r\nHost: x\r\n\r"),
+    Told::Bytes(9, ASKS_SHORT),
+    Told::Bytes(3, b"GET /streams HTTP/1.1\r\nHost: x\r\n\r\n"),
+    Told::Bytes(3, b"GET /s/a/info HTTP/1.1\r\nHost: x\r\n\r\n"),
+    Told::Bytes(3, b"GET /s/a/frame/2 HTTP/1.1\r\nHost: x\r\n\r\n"),
+    Told::Bytes(3, b"PUT /s/a/frame/0 HTTP/1.1\r\nHost: x\r\n\r\n"),
+    Told::Bytes(3, b"GET /s/a/frame/0 HTTP/1.1\r\n\r\n"),
+    Told::Bytes(3, ASKS_SHORT),
+    Told::Shut(2),
+    Told::Shut(2),
+    Told::End(b"a"),
+    Told::End(b"a"),
+    Told::Feed(b"a", &KEY),
+];
+
+/// Whether nothing is decoded for the event, behind one for which a packet is.
+fn is_free(alloc: Global, hub: &mut Hub, told: Told) -> Result<bool, AllocError> {
+    let event = event(alloc, told)?;
+    let _ = says(alloc, hub, 1, ASKS_SHORT);
+    let before = hub.work();
+    let _ = hub.step(&event);
+    Ok(before == 1 && hub.work() == 0)
+}
+
+/// Whether nothing is decoded for any of them.
+fn are_free(alloc: Global) -> Result<bool, AllocError> {
+    let Some(mut hub) = hub_of(alloc, &[b"a"], &[&HEAD, &SHORT], 2) else {
+        return Ok(false);
+    };
+    for told in &FREE {
+        if !is_free(alloc, &mut hub, *told)? {
+            return Ok(false);
+        }
+    }
+    Ok(true)
+}
+
+#[test]
+fn only_pictures_cost(rt: HostRuntime) -> Result<(), Fail> {
+    assert!(rt; are_free(rt.alloc())?);
     Ok(())
 }

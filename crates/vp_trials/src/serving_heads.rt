@@ -1,13 +1,11 @@
 //! Heads and what is replied to them, a rule at a time, over a stream `a` of one picture of 384 bytes. What is wanted
 //! follows from the rules' own words.
 
-use crate::tests::{HEAD, KEY, LINES, NOT_FOUND, hub_of, key_reply, list};
-use crate::{Event, Hub};
+use crate::hubs::{BAD, LINES, NOT_FOUND, list};
+use crate::serving::{HEAD, KEY, hub_with, key_reply};
 use std::alloc::{AllocError, Global};
 use std::test::Fail;
-
-const BAD: &[u8] =
-    b"HTTP/1.1 400 Bad Request\r\nContent-Type: text/plain\r\nContent-Length: 12\r\nConnection: close\r\n\r\nBad Request\n";
+use vp_hub::{Event, Hub};
 
 // The list of the streams, where the connection stays open, and where it is closed.
 const STREAMS: &[u8] =
@@ -38,7 +36,7 @@ fn is_answered(
 /// Whether each row's bytes are answered by just these, each over a hub of its own.
 fn are_answered(alloc: Global, rows: &[(&[u8], &[u8])]) -> Result<bool, AllocError> {
     for (sent, wanted) in rows {
-        let Some(mut hub) = hub_of(alloc, &[&HEAD, &KEY], 16)? else {
+        let Some(mut hub) = hub_with(alloc, &[&HEAD, &KEY], 16)? else {
             return Ok(false);
         };
         if !is_answered(alloc, &mut hub, sent, wanted)? {

@@ -2,12 +2,12 @@
 
 ghost use Rattle.std.specs.Prelude.{◌<◌};
 
-use crate::event_tests::send;
-use crate::tests::list;
-use crate::{Event, Hub};
+use crate::hubs::list;
+use crate::serving_events::send;
 use std::alloc::{AllocError, Global};
 use std::test::Fail;
 use vp_base::{ByteList, Limits};
+use vp_hub::{Event, Hub};
 
 // A file's head, of 48 columns and 48 rows, 25 pictures a second.
 const HEAD: [u8; 32] = [

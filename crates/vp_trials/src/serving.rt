@@ -1,14 +1,15 @@
 //! Streams and requests written by hand; what is wanted follows from the standards' own rules.
 
-ghost use Rattle.std.specs.Prelude.{◌≡◌, ◌++◌, ◌↔◌, IsTrue, IfOk, IfSome, Ok, Err, replicate};
+ghost use Rattle.std.specs.Prelude.{◌≡◌, ◌++◌, IsTrue, IfOk, IfSome, Ok, replicate};
 ghost use Rattle.vp_hub.specs.Heads.{AllKeepPartial};
 ghost use Rattle.vp_hub.specs.declared.event.Event.{Event};
 ghost use Rattle.vp_hub.specs.Hub.{IsStep};
 
-use super::*;
+use crate::hubs::{INTER, LINES, NOT_FOUND, is_refused, list};
 use std::alloc::{AllocError, Global};
 use std::test::Fail;
-use vp_base::{ByteList, Limits};
+use vp_base::Limits;
+use vp_hub::{Event, Hub, HubFault, NewFault};
 
 // The head of an IVF file of 16 columns and 16 rows, 30 pictures a second.
 pub(crate) const HEAD: [u8; 32] = [
@@ -21,27 +22,11 @@ pub(crate) const KEY: [u8; 22] = [
     0x0a, 0, 0, 0, 0, 0, 0, 0, 0, 0, 0, 0, 0x10, 0, 0, 0x9d, 0x01, 0x2a, 0x10, 0, 0x10, 0,
 ];
 
-// An inter packet that changes nothing, and the twelve bytes before it.
-pub(crate) const INTER: [u8; 15] = [3, 0, 0, 0, 0, 0, 0, 0, 0, 0, 0, 0, 0x11, 0, 0];
-
-// The same, not to be shown.
+// An inter packet that changes nothing and isn't to be shown, and the twelve bytes before it.
 const HIDDEN: [u8; 15] = [3, 0, 0, 0, 0, 0, 0, 0, 0, 0, 0, 0, 0x01, 0, 0];
 
 // A packet without a byte, and the twelve bytes before it.
-const EMPTY: [u8; 12] = [0, 0, 0, 0, 0, 0, 0, 0, 0, 0, 0, 0];
-
-// The lines before a whole picture.
-pub(crate) const LINES: &[u8] =
-    b"HTTP/1.1 200 OK\r\nContent-Type: application/octet-stream\r\nContent-Length: 384\r\n\r\n";
-
-pub(crate) const NOT_FOUND: &[u8] =
-    b"HTTP/1.1 404 Not Found\r\nContent-Type: text/plain\r\nContent-Length: 10\r\n\r\nNot Found\n";
-
-pub(crate) fn list(alloc: Global, bytes: &[u8]) -> Result<ByteList, AllocError>
-    ensures { IfOk result (λ l. l ≡ bytes.now) }
-{
-    Ok(ByteList::from_vec(bytes.to_vec(alloc)?))
-}
+pub(crate) const EMPTY: [u8; 12] = [0, 0, 0, 0, 0, 0, 0, 0, 0, 0, 0, 0];
 
 /// A hub of one stream `a`, which keeps so many pictures.
 fn empty_hub(alloc: Global, cache: u32) -> Result<Option<Hub>, AllocError>
@@ -66,7 +51,7 @@ fn feed(alloc: Global, hub: &mut Hub, bytes: &[u8]) -> Result<(), AllocError>
 }
 
 /// A hub of one stream `a` with these packets, which keeps so many pictures; connection 1 stands.
-pub(crate) fn hub_of(
+pub(crate) fn hub_with(
     alloc: Global,
     packets: &[&[u8]],
     cache: u32,
@@ -141,7 +126,7 @@ fn talk(
     packets: &[&[u8]],
     turns: &[(&[u8], &[u8], bool)],
 ) -> Result<bool, AllocError> {
-    match hub_of(alloc, packets, 16)? {
+    match hub_with(alloc, packets, 16)? {
         Some(mut hub) => are_answered(alloc, &mut hub, turns),
         None => Ok(false),
     }
@@ -199,7 +184,7 @@ pub(crate) fn works(
 
 /// Frames 3, 0 and 3 over two connections, the last with so much work.
 fn asks_three(alloc: Global, cache: u32, last: u64) -> Result<bool, AllocError> {
-    let Some(mut hub) = hub_of(alloc, &[&HEAD, &KEY, &INTER, &KEY, &INTER], cache)? else {
+    let Some(mut hub) = hub_with(alloc, &[&HEAD, &KEY, &INTER, &KEY, &INTER], cache)? else {
         return Ok(false);
     };
     let _ = hub.step(&Event::Open(2));
@@ -253,15 +238,6 @@ fn method_and_host_refused(rt: HostRuntime) -> Result<(), Fail> {
     Ok(())
 }
 
-pub(crate) fn is_refused(answer: &Result<Reply, HubFault>, fault: HubFault) -> bool
-    ensures { IsTrue result ↔ answer.now ≡ Err fault }
-{
-    match answer {
-        Ok(_) => false,
-        Err(found) => *found == fault,
-    }
-}
-
 /// Opens connections 2 to 64.
 fn open_many(hub: &mut Hub) {
     for number in 2..65 {
@@ -283,7 +259,7 @@ fn refuses_events(alloc: Global) -> Result<bool, AllocError> {
     let bytes = Event::Bytes(1, list(alloc, b"\r\n\r\n")?);
     let name = list(alloc, b"b")?;
     let feed = Event::Feed(name, list(alloc, &KEY)?);
-    let Some(mut hub) = hub_of(alloc, &[], 16)? else {
+    let Some(mut hub) = hub_with(alloc, &[], 16)? else {
         return Ok(false);
     };
     let _ = hub.step(&bytes);
@@ -311,7 +287,7 @@ fn head_too_long(rt: HostRuntime) -> Result<(), Fail> {
 }
 
 fn fed_between(alloc: Global) -> Result<bool, AllocError> {
-    let Some(mut hub) = hub_of(alloc, &[&HEAD], 16)? else {
+    let Some(mut hub) = hub_with(alloc, &[&HEAD], 16)? else {
         return Ok(false);
     };
     let key = key_reply(alloc)?;
@@ -388,7 +364,7 @@ fn head_requests(rt: HostRuntime) -> Result<(), Fail> {
 
 /// The picture before a packet without a byte, served again: two packets are decoded for it.
 fn repeats_the_picture(alloc: Global) -> Result<bool, AllocError> {
-    let Some(mut hub) = hub_of(alloc, &[&HEAD, &KEY, &EMPTY], 16)? else {
+    let Some(mut hub) = hub_with(alloc, &[&HEAD, &KEY, &EMPTY], 16)? else {
         return Ok(false);
     };
     let key = key_reply(alloc)?;
@@ -488,7 +464,7 @@ fn works_in_turn(
     packets: &[&[u8]],
     turns: &[(&[u8], &[u8], u64)],
 ) -> Result<bool, AllocError> {
-    match hub_of(alloc, packets, 2)? {
+    match hub_with(alloc, packets, 2)? {
         Some(mut hub) => all_work(alloc, &mut hub, turns),
         None => Ok(false),
     }

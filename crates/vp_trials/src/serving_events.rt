@@ -2,13 +2,12 @@
 
 ghost use Rattle.std.specs.Prelude.{◌≡◌, OnErr};
 
-use crate::tests::{
-    HEAD, INTER, KEY, answers, hub_of, inter_reply, is_refused, key_reply, list, works,
-};
-use crate::{Event, Hub, HubFault};
+use crate::hubs::{INTER, is_refused, list};
+use crate::serving::{HEAD, KEY, answers, hub_with, inter_reply, key_reply, works};
 use std::alloc::{AllocError, Global};
 use std::test::Fail;
 use vp_base::Limits;
+use vp_hub::{Event, Hub, HubFault};
 
 /// Whether connection 1 takes no more, isn't opened again, and goes.
 fn takes_no_more(hub: &mut Hub, more: &Event) -> bool {
@@ -29,7 +28,7 @@ fn comes_again(hub: &mut Hub, more: &Event) -> bool {
 fn fails_behind(alloc: Global, sent: &[u8]) -> Result<bool, AllocError> {
     let more = Event::Bytes(1, list(alloc, b"x")?);
     let sent = Event::Bytes(1, list(alloc, sent)?);
-    let Some(mut hub) = hub_of(alloc, &[], 16)? else {
+    let Some(mut hub) = hub_with(alloc, &[], 16)? else {
         return Ok(false);
     };
     let _ = hub.step(&sent);
@@ -51,7 +50,7 @@ fn ends_so(alloc: Global, fed: &[u8], piece: Option<HubFault>) -> Result<bool, A
     let end = Event::End(list(alloc, b"a")?);
     let name = list(alloc, b"a")?;
     let more = Event::Feed(name, list(alloc, b"x")?);
-    let Some(mut hub) = hub_of(alloc, &[fed], 16)? else {
+    let Some(mut hub) = hub_with(alloc, &[fed], 16)? else {
         return Ok(false);
     };
     let taken = match piece {
@@ -76,7 +75,7 @@ fn streams_end(rt: HostRuntime) -> Result<(), Fail> {
 }
 
 fn refuses_other_names(alloc: Global) -> Result<bool, AllocError> {
-    let Some(mut hub) = hub_of(alloc, &[&HEAD], 16)? else {
+    let Some(mut hub) = hub_with(alloc, &[&HEAD], 16)? else {
         return Ok(false);
     };
     let end = Event::End(list(alloc, b"aa")?);
@@ -92,7 +91,7 @@ fn other_names_are_refused(rt: HostRuntime) -> Result<(), Fail> {
 /// Whether this is told of a stream with these packets once its end was told.
 fn tells_at_end(alloc: Global, packets: &[&[u8]], wanted: &[u8]) -> Result<bool, AllocError> {
     let end = Event::End(list(alloc, b"a")?);
-    let Some(mut hub) = hub_of(alloc, packets, 16)? else {
+    let Some(mut hub) = hub_with(alloc, packets, 16)? else {
         return Ok(false);
     };
     let _ = hub.step(&end);
@@ -143,13 +142,13 @@ fn streams_apart(rt: HostRuntime) -> Result<(), Fail> {
 }
 
 // A key packet without its last byte, and the twelve bytes before it.
-const SHORT: [u8; 21] = [
+pub(crate) const SHORT: [u8; 21] = [
     9, 0, 0, 0, 0, 0, 0, 0, 0, 0, 0, 0, 0x10, 0, 0, 0x9d, 0x01, 0x2a, 0x10, 0, 0x10,
 ];
 
 /// Packets with faults, of which one is decoded for each request.
 fn tells_faults(alloc: Global) -> Result<bool, AllocError> {
-    let Some(mut hub) = hub_of(alloc, &[&HEAD, &SHORT, &INTER], 16)? else {
+    let Some(mut hub) = hub_with(alloc, &[&HEAD, &SHORT, &INTER], 16)? else {
         return Ok(false);
     };
     let short =
@@ -194,7 +193,7 @@ fn come_and_go(hub: &mut Hub, bytes: &Event) {
 /// Whether two connections that ask in turn, byte by byte, while a third comes, goes and is refused, each get their picture.
 fn asks_in_turn(alloc: Global, cache: u32) -> Result<bool, AllocError> {
     let bytes = Event::Bytes(3, list(alloc, b"\r\n\r\n")?);
-    let Some(mut hub) = hub_of(alloc, &[&HEAD, &KEY, &INTER], cache)? else {
+    let Some(mut hub) = hub_with(alloc, &[&HEAD, &KEY, &INTER], cache)? else {
         return Ok(false);
     };
     let _ = hub.step(&Event::Open(2));

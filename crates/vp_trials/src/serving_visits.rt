@@ -1,13 +1,14 @@
 //! Connections served over memory.
 
-use crate::tests::{HEAD, KEY, hub_of, is_refused, key_reply};
-use crate::{Event, Hub, HubFault, ServeFault, serve_one};
+use crate::hubs::is_refused;
+use crate::serving::{HEAD, KEY, hub_with, key_reply};
 use std::alloc::{AllocError, Global};
 use std::cell::Cell;
 use std::io;
 use std::io::{Error, ErrorKind, Read, Write};
 use std::test::Fail;
 use vp_base::{Counted, FailAt};
+use vp_hub::{Event, Hub, HubFault, ServeFault, serve_one};
 
 // What asks for the picture of the first packet.
 const SENT: &[u8] = b"GET /s/a/frame/0 HTTP/1.1\r\nHost: x\r\n\r\n";
@@ -40,7 +41,7 @@ fn serve_two(
 }
 
 fn serves_in_single_bytes(alloc: Global) -> Result<bool, AllocError> {
-    let Some(mut hub) = hub_of(alloc, &[&HEAD, &KEY], 16)? else {
+    let Some(mut hub) = hub_with(alloc, &[&HEAD, &KEY], 16)? else {
         return Ok(false);
     };
     let wanted = key_reply(alloc)?;
@@ -55,7 +56,7 @@ fn serve_one_in_single_bytes(rt: HostRuntime) -> Result<(), Fail> {
 
 /// Whether 5,000 reads of less than a head are taken, and nothing is replied.
 fn takes_many_reads(alloc: Global) -> Result<bool, AllocError> {
-    let Some(mut hub) = hub_of(alloc, &[], 16)? else {
+    let Some(mut hub) = hub_with(alloc, &[], 16)? else {
         return Ok(false);
     };
     Ok(serve_two(alloc, &mut hub, &[b'x'; 5000], (6000, 0), b"") == (Ok(()), true))
@@ -76,7 +77,7 @@ fn has_gone(hub: &mut Hub) -> bool {
 
 /// Whether two requests are served up to a read or a write that fails: the replies before it are written.
 fn fails_at(alloc: Global, reads: u64, writes: u64, replies: usize) -> Result<bool, AllocError> {
-    let Some(mut hub) = hub_of(alloc, &[&HEAD, &KEY], 16)? else {
+    let Some(mut hub) = hub_with(alloc, &[&HEAD, &KEY], 16)? else {
         return Ok(false);
     };
     let mut sent = SENT.to_vec(alloc)?;
@@ -109,7 +110,7 @@ fn each_read_fails(rt: HostRuntime) -> Result<(), Fail> {
 
 /// Whether a connection of a number that stands is refused, and nothing is read or written.
 fn turns_away(alloc: Global) -> Result<bool, AllocError> {
-    let Some(mut hub) = hub_of(alloc, &[&HEAD, &KEY], 16)? else {
+    let Some(mut hub) = hub_with(alloc, &[&HEAD, &KEY], 16)? else {
         return Ok(false);
     };
     let mut reader = Counted::new(SENT);
@@ -165,7 +166,7 @@ impl Write for Noting<'_> {
 
 /// Whether the first reply is written before what follows its request is read.
 fn replies_before_reading(alloc: Global) -> Result<bool, AllocError> {
-    let Some(mut hub) = hub_of(alloc, &[&HEAD, &KEY], 16)? else {
+    let Some(mut hub) = hub_with(alloc, &[&HEAD, &KEY], 16)? else {
         return Ok(false);
     };
     let written = Cell::new(false);
