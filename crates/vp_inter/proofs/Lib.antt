@@ -4,3 +4,5 @@ pub mod FilterLemmas
 pub mod PassLemmas
 pub mod NarrowLemmas
 pub mod PlainLemmas
+pub mod LongLanes
+pub mod WideLemmas

@@ -7,7 +7,7 @@ use Rattle.std.specs.Int.{int_min, int_max}
 use Rattle.vp_lanes.specs.Lane.{to_byte}
 use Rattle.vp_tables.specs.Tables.{six_taps}
 use Rattle.vp_inter.specs.Filter.{held, weighed, filtered}
-use Rattle.vp_inter.specs.Narrow.{IsFrom, IsShort, weight, pair, AreGentle}
+use Rattle.vp_inter.specs.Narrow.{IsFrom, IsShort, weight, pair, sum_of_six, AreGentle, ArePairable}
 
 -- ---- one product
 times : (x n : ℕ) → x < 256 → x * n ≤ 255 * n
@@ -33,6 +33,25 @@ small_in x (negsuc n) p q = let r = lowered_in x (negsuc n) p (omega (arith, int
 pub pair_same : (a b c d : ℕ) (u v s t : ℤ) → a ≡ c → b ≡ d → u ≡ s → v ≡ t → pair a b u v ≡ pair c d s t
 pair_same a b c d u v s t e f g h = cc
 
+-- two pixels, whose weights come to little
+pub pairable_fits : (a b : ℕ) (u v : ℤ) → ArePairable u v → a < 256 → b < 256 → IsShort (pair a b u v)
+pairable_fits a b (pos m) (pos n) g pa pb =
+    let ra = raised_in a (pos m) pa (omega (arith, ints)) in
+    let rb = raised_in b (pos n) pb (omega (arith, ints)) in
+    (omega (arith, ints), omega (arith, ints))
+pairable_fits a b (pos m) (negsuc n) g pa pb =
+    let ra = raised_in a (pos m) pa (omega (arith, ints)) in
+    let rb = lowered_in b (negsuc n) pb (omega (arith, ints)) in
+    (omega (arith, ints), omega (arith, ints))
+pairable_fits a b (negsuc m) (pos n) g pa pb =
+    let ra = lowered_in a (negsuc m) pa (omega (arith, ints)) in
+    let rb = raised_in b (pos n) pb (omega (arith, ints)) in
+    (omega (arith, ints), omega (arith, ints))
+pairable_fits a b (negsuc m) (negsuc n) g pa pb =
+    let ra = lowered_in a (negsuc m) pa (omega (arith, ints)) in
+    let rb = lowered_in b (negsuc n) pb (omega (arith, ints)) in
+    (omega (arith, ints), omega (arith, ints))
+
 pub inner_fits : (weights : List ℤ) (b c d e : ℕ) → AreGentle weights → b < 256 → c < 256 → d < 256 → e < 256
     → IsShort (pair c d (weight weights 2) (weight weights 3) -ℤ pos 16320 +ℤ pair b e (weight weights 1) (weight weights 4))
 inner_fits weights b c d e g pb pc pd pe =
@@ -52,6 +71,38 @@ whole_fits weights a b c d e f g pa pb pc pd pe pf =
     let re = lowered_in e (weight weights 4) pe g.5.1 in
     let rf = raised_in f (weight weights 5) pf g.6.0 in
     (omega (arith, ints), omega (arith, ints))
+
+-- pixels side by side, by twos
+pub near_fits : (weights : List ℤ) (a b c d e f : ℕ) → AreGentle weights → a < 256 → b < 256 → c < 256 → d < 256 → e < 256 → f < 256
+    → IsShort (pair b c (weight weights 1) (weight weights 2) -ℤ pos 16320) × IsShort (pair b c (weight weights 1) (weight weights 2) -ℤ pos 16320 +ℤ pair d e (weight weights 3) (weight weights 4))
+    × IsShort (pair a b (weight weights 0) (pos 0) +ℤ pair e f (pos 0) (weight weights 5)) × IsShort (pair b c (weight weights 1) (weight weights 2) -ℤ pos 16320 +ℤ pair d e (weight weights 3) (weight weights 4) +ℤ (pair a b (weight weights 0) (pos 0) +ℤ pair e f (pos 0) (weight weights 5)))
+near_fits weights a b c d e f g pa pb pc pd pe pf =
+    let ra = raised_in a (weight weights 0) pa g.0.0 in
+    let rb = lowered_in b (weight weights 1) pb g.1.1 in
+    let rc = raised_in c (weight weights 2) pc g.2.0 in
+    let rd = raised_in d (weight weights 3) pd g.3.0 in
+    let re = lowered_in e (weight weights 4) pe g.5.1 in
+    let rf = raised_in f (weight weights 5) pf g.6.0 in
+    ((omega (arith, ints), omega (arith, ints)), (omega (arith, ints), omega (arith, ints)), (omega (arith, ints), omega (arith, ints)), (omega (arith, ints), omega (arith, ints)))
+
+pub near_is : (weights : List ℤ) (pixel : ℕ → ℕ) → pair (pixel 1) (pixel 2) (weight weights 1) (weight weights 2) -ℤ pos 16320 +ℤ pair (pixel 3) (pixel 4) (weight weights 3) (weight weights 4) +ℤ (pair (pixel 0) (pixel 1) (weight weights 0) (pos 0) +ℤ pair (pixel 4) (pixel 5) (pos 0) (weight weights 5)) ≡ sum_of_six weights pixel
+near_is weights pixel = omega (arith, ints)
+
+-- rows three apart, by twos
+pub far_fits : (weights : List ℤ) (a b c d e f : ℕ) → AreGentle weights → a < 256 → b < 256 → c < 256 → d < 256 → e < 256 → f < 256
+    → IsShort (pair a d (weight weights 0) (weight weights 3) -ℤ pos 16320) × IsShort (pair a d (weight weights 0) (weight weights 3) -ℤ pos 16320 +ℤ pair b e (weight weights 1) (weight weights 4))
+    × IsShort (pair a d (weight weights 0) (weight weights 3) -ℤ pos 16320 +ℤ pair b e (weight weights 1) (weight weights 4) +ℤ pair c f (weight weights 2) (weight weights 5))
+far_fits weights a b c d e f g pa pb pc pd pe pf =
+    let ra = raised_in a (weight weights 0) pa g.0.0 in
+    let rb = lowered_in b (weight weights 1) pb g.1.1 in
+    let rc = raised_in c (weight weights 2) pc g.2.0 in
+    let rd = raised_in d (weight weights 3) pd g.3.0 in
+    let re = lowered_in e (weight weights 4) pe g.5.1 in
+    let rf = raised_in f (weight weights 5) pf g.6.0 in
+    ((omega (arith, ints), omega (arith, ints)), (omega (arith, ints), omega (arith, ints)), (omega (arith, ints), omega (arith, ints)))
+
+pub far_is : (weights : List ℤ) (pixel : ℕ → ℕ) → pair (pixel 0) (pixel 3) (weight weights 0) (weight weights 3) -ℤ pos 16320 +ℤ pair (pixel 1) (pixel 4) (weight weights 1) (weight weights 4) +ℤ pair (pixel 2) (pixel 5) (weight weights 2) (weight weights 5) ≡ sum_of_six weights pixel
+far_is weights pixel = omega (arith, ints)
 
 -- ---- the end of a sum
 -- what a signed byte holds, and 128 more, is a byte
@@ -102,12 +153,12 @@ middle_is weights a b c d e f first second fifth last =
 -- ---- the weights of the table
 pub six_taps-gentle : (eighths : ℕ) → eighths < 8 → AreGentle (six_taps eighths)
 unfolding six_taps
-six_taps-gentle zero p = ((omega (arith, ints), omega (arith, ints)), (omega (arith, ints), omega (arith, ints)), (omega (arith, ints), omega (arith, ints)), (omega (arith, ints), omega (arith, ints)), omega (arith, ints), (omega (arith, ints), omega (arith, ints)), (omega (arith, ints), omega (arith, ints)))
-six_taps-gentle (suc zero) p = ((omega (arith, ints), omega (arith, ints)), (omega (arith, ints), omega (arith, ints)), (omega (arith, ints), omega (arith, ints)), (omega (arith, ints), omega (arith, ints)), omega (arith, ints), (omega (arith, ints), omega (arith, ints)), (omega (arith, ints), omega (arith, ints)))
-six_taps-gentle (suc (suc zero)) p = ((omega (arith, ints), omega (arith, ints)), (omega (arith, ints), omega (arith, ints)), (omega (arith, ints), omega (arith, ints)), (omega (arith, ints), omega (arith, ints)), omega (arith, ints), (omega (arith, ints), omega (arith, ints)), (omega (arith, ints), omega (arith, ints)))
-six_taps-gentle (suc (suc (suc zero))) p = ((omega (arith, ints), omega (arith, ints)), (omega (arith, ints), omega (arith, ints)), (omega (arith, ints), omega (arith, ints)), (omega (arith, ints), omega (arith, ints)), omega (arith, ints), (omega (arith, ints), omega (arith, ints)), (omega (arith, ints), omega (arith, ints)))
-six_taps-gentle (suc (suc (suc (suc zero)))) p = ((omega (arith, ints), omega (arith, ints)), (omega (arith, ints), omega (arith, ints)), (omega (arith, ints), omega (arith, ints)), (omega (arith, ints), omega (arith, ints)), omega (arith, ints), (omega (arith, ints), omega (arith, ints)), (omega (arith, ints), omega (arith, ints)))
-six_taps-gentle (suc (suc (suc (suc (suc zero))))) p = ((omega (arith, ints), omega (arith, ints)), (omega (arith, ints), omega (arith, ints)), (omega (arith, ints), omega (arith, ints)), (omega (arith, ints), omega (arith, ints)), omega (arith, ints), (omega (arith, ints), omega (arith, ints)), (omega (arith, ints), omega (arith, ints)))
-six_taps-gentle (suc (suc (suc (suc (suc (suc zero)))))) p = ((omega (arith, ints), omega (arith, ints)), (omega (arith, ints), omega (arith, ints)), (omega (arith, ints), omega (arith, ints)), (omega (arith, ints), omega (arith, ints)), omega (arith, ints), (omega (arith, ints), omega (arith, ints)), (omega (arith, ints), omega (arith, ints)))
-six_taps-gentle (suc (suc (suc (suc (suc (suc (suc zero))))))) p = ((omega (arith, ints), omega (arith, ints)), (omega (arith, ints), omega (arith, ints)), (omega (arith, ints), omega (arith, ints)), (omega (arith, ints), omega (arith, ints)), omega (arith, ints), (omega (arith, ints), omega (arith, ints)), (omega (arith, ints), omega (arith, ints)))
+six_taps-gentle zero p = ((omega (arith, ints), omega (arith, ints)), (omega (arith, ints), omega (arith, ints)), (omega (arith, ints), omega (arith, ints)), (omega (arith, ints), omega (arith, ints)), omega (arith, ints), (omega (arith, ints), omega (arith, ints)), (omega (arith, ints), omega (arith, ints)), omega (arith, ints), omega (arith, ints))
+six_taps-gentle (suc zero) p = ((omega (arith, ints), omega (arith, ints)), (omega (arith, ints), omega (arith, ints)), (omega (arith, ints), omega (arith, ints)), (omega (arith, ints), omega (arith, ints)), omega (arith, ints), (omega (arith, ints), omega (arith, ints)), (omega (arith, ints), omega (arith, ints)), omega (arith, ints), omega (arith, ints))
+six_taps-gentle (suc (suc zero)) p = ((omega (arith, ints), omega (arith, ints)), (omega (arith, ints), omega (arith, ints)), (omega (arith, ints), omega (arith, ints)), (omega (arith, ints), omega (arith, ints)), omega (arith, ints), (omega (arith, ints), omega (arith, ints)), (omega (arith, ints), omega (arith, ints)), omega (arith, ints), omega (arith, ints))
+six_taps-gentle (suc (suc (suc zero))) p = ((omega (arith, ints), omega (arith, ints)), (omega (arith, ints), omega (arith, ints)), (omega (arith, ints), omega (arith, ints)), (omega (arith, ints), omega (arith, ints)), omega (arith, ints), (omega (arith, ints), omega (arith, ints)), (omega (arith, ints), omega (arith, ints)), omega (arith, ints), omega (arith, ints))
+six_taps-gentle (suc (suc (suc (suc zero)))) p = ((omega (arith, ints), omega (arith, ints)), (omega (arith, ints), omega (arith, ints)), (omega (arith, ints), omega (arith, ints)), (omega (arith, ints), omega (arith, ints)), omega (arith, ints), (omega (arith, ints), omega (arith, ints)), (omega (arith, ints), omega (arith, ints)), omega (arith, ints), omega (arith, ints))
+six_taps-gentle (suc (suc (suc (suc (suc zero))))) p = ((omega (arith, ints), omega (arith, ints)), (omega (arith, ints), omega (arith, ints)), (omega (arith, ints), omega (arith, ints)), (omega (arith, ints), omega (arith, ints)), omega (arith, ints), (omega (arith, ints), omega (arith, ints)), (omega (arith, ints), omega (arith, ints)), omega (arith, ints), omega (arith, ints))
+six_taps-gentle (suc (suc (suc (suc (suc (suc zero)))))) p = ((omega (arith, ints), omega (arith, ints)), (omega (arith, ints), omega (arith, ints)), (omega (arith, ints), omega (arith, ints)), (omega (arith, ints), omega (arith, ints)), omega (arith, ints), (omega (arith, ints), omega (arith, ints)), (omega (arith, ints), omega (arith, ints)), omega (arith, ints), omega (arith, ints))
+six_taps-gentle (suc (suc (suc (suc (suc (suc (suc zero))))))) p = ((omega (arith, ints), omega (arith, ints)), (omega (arith, ints), omega (arith, ints)), (omega (arith, ints), omega (arith, ints)), (omega (arith, ints), omega (arith, ints)), omega (arith, ints), (omega (arith, ints), omega (arith, ints)), (omega (arith, ints), omega (arith, ints)), omega (arith, ints), omega (arith, ints))
 six_taps-gentle (suc (suc (suc (suc (suc (suc (suc (suc n)))))))) p = absurd (omega arith)

@@ -2,3 +2,4 @@ pub mod Vectors
 pub mod Filter
 pub mod Narrow
 pub mod Inter
+pub mod Turns

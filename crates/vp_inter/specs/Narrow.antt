@@ -34,10 +34,15 @@ AreFew weights count =
     × (count < 4 → (weight weights 1 ≡ pos 0) × (weight weights 4 ≡ pos 0))
 
 -- weights of a sum that fits: the two in the middle aren't negative and come to at most 154, those beside them lie from
--- -16 to 0, those at the ends from 0 to 3
+-- -16 to 0, those at the ends from 0 to 3, and those three apart come to at most 128
 abbrev pub AreGentle : List ℤ → Type 0
 AreGentle weights =
     IsFrom (pos 0) (pos 3) (weight weights 0) × IsFrom (negsuc 15) (pos 0) (weight weights 1)
     × IsFrom (pos 0) (pos 128) (weight weights 2) × IsFrom (pos 0) (pos 128) (weight weights 3)
     × ((weight weights 2 +ℤ weight weights 3) ≤ℤ pos 154)
     × IsFrom (negsuc 15) (pos 0) (weight weights 4) × IsFrom (pos 0) (pos 3) (weight weights 5)
+    × ((weight weights 0 +ℤ weight weights 3) ≤ℤ pos 128) × ((weight weights 2 +ℤ weight weights 5) ≤ℤ pos 128)
+
+-- two weights of a pair of pixels that an i16 holds
+abbrev pub ArePairable : ℤ → ℤ → Type 0
+ArePairable u v = IsFrom (negsuc 15) (pos 127) u × IsFrom (negsuc 15) (pos 127) v × ((u +ℤ v) ≤ℤ pos 128)

@@ -8,6 +8,7 @@ ghost use Rattle.vp_inter.specs.Inter.{reference_pixel, across, inter_pixel, IsI
 use crate::filter::{ends_are_zero, pass, seconds_are_zero, taps};
 use crate::reference::{lies_inside, plain_row, reference_row};
 use crate::vector::{PlaneVector, fraction, start};
+use crate::wide::{both_ends_count, six_columns, six_rows};
 use std::simd::prelude::*;
 use vp_base::Plane;
 
@@ -157,7 +158,10 @@ fn pass_rows<const N: usize, const W: usize>(
     requires beside { (negsuc 400000000 ≤ℤ top) × (top ≤ℤ pos 400000000) }
     ensures { (i c : ℕ) → i < rows → c < N → slice_index pixels.new (i * N + c) ≡ across weights.now plane.now left top i c }
 {
-    if lies_inside(plane, left, top, W, rows) {
+    let inside = lies_inside(plane, left, top, W, rows);
+    if N == 16 && both_ends_count(weights) {
+        six_rows(pixels, plane, left, top, weights, rows, inside);
+    } else if inside {
         counted_rows::<N, W, true>(pixels, plane, left, top, weights, rows);
     } else {
         counted_rows::<N, W, false>(pixels, plane, left, top, weights, rows);
@@ -263,7 +267,9 @@ fn pass_columns<const N: usize, const M: usize>(pixels: &mut [u8], rows: &[u8], 
     requires gentle { AreGentle weights.now }
     ensures { (r c : ℕ) → r < N → c < N → slice_index pixels.new (r * N + c) ≡ filter_six weights.now (λ k. slice_index rows.now ((r + k) * N + c)) }
 {
-    if !ends_are_zero(weights) {
+    if N == 16 && both_ends_count(weights) {
+        six_columns(pixels, rows, weights);
+    } else if !ends_are_zero(weights) {
         counted_columns::<N, M, 6>(pixels, rows, weights);
     } else if !seconds_are_zero(weights) {
         counted_columns::<N, M, 4>(pixels, rows, weights);
@@ -299,7 +305,7 @@ fn counted_columns<const N: usize, const M: usize, const COUNT: usize>(
 
 /// Writes row `r` of rows of `N`.
 #[inline(always)]
-fn put_lanes<const N: usize>(pixels: &mut [u8], r: usize, row: Simd<u8, N>)
+pub(crate) fn put_lanes<const N: usize>(pixels: &mut [u8], r: usize, row: Simd<u8, N>)
     requires size { N ≤ 16 }
     requires room { r * N + N ≤ length pixels.old }
     ensures here { (c : ℕ) → c < N → slice_index pixels.new (r * N + c) ≡ slice_index row.entry c }

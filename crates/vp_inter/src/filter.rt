@@ -69,7 +69,7 @@ fn more<const N: usize>(
 }
 
 /// The pixels that sums give: 128ths rounded down, held to what a signed byte holds, and the 16384 put back.
-fn ended<const N: usize>(sum: Simd<i16, N>) -> Simd<u8, N>
+pub(crate) fn ended<const N: usize>(sum: Simd<i16, N>) -> Simd<u8, N>
     requires { N ≤ 16 }
     ensures { (j : ℕ) → j < N → slice_index result j ≡ to_byte (shr_z (lane sum.entry j) 128 +ℤ pos 128) }
 {

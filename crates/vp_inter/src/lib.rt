@@ -4,12 +4,14 @@
 mod block;
 mod filter;
 mod into;
+mod pairs;
 #[cfg(test)]
 mod plain;
 mod reference;
 #[cfg(test)]
 mod tests;
 mod vector;
+mod wide;
 
 pub use block::{predict_block4, predict_block8, predict_block16};
 pub use into::{predict_into4, predict_into8, predict_into16};

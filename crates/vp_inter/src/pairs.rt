@@ -1,0 +1,90 @@
+//! Bytes times weights, summed by twos. The compiler knows this form of them, of weights that it reads from memory, as
+//! one instruction for eight sums.
+
+ghost use Rattle.std.specs.Prelude.{◌≡◌, ℕ, pos, negsuc, ◌+◌, ◌*◌, ◌<◌, ◌≤◌, ◌+ℤ◌, ◌*ℤ◌, length, slice_index};
+ghost use Rattle.std.specs.Int.{int_max, int_min};
+ghost use Rattle.vp_lanes.specs.Lane.{lane};
+ghost use Rattle.vp_inter.specs.Narrow.{IsFrom, IsShort, pair, ArePairable};
+ghost use Rattle.vp_inter.specs.Turns.{AreByTurns};
+
+use crate::filter::load;
+use std::simd::prelude::*;
+
+/// Two weights by turns.
+pub(crate) fn by_turns(even: i16, odd: i16) -> i8x16
+    requires even { IsFrom (negsuc 127) (pos 127) even }
+    requires odd { IsFrom (negsuc 127) (pos 127) odd }
+    ensures { AreByTurns result even odd }
+{
+    i8x16::splat(even as i8)
+        .interleave(i8x16::splat(odd as i8))
+        .0
+}
+
+fn evens(a: u8x16) -> u8x8
+    ensures { (j : ℕ) → j < 8 → slice_index result j ≡ slice_index a (2 * j) }
+{
+    a.swizzle::<8>([0, 2, 4, 6, 8, 10, 12, 14])
+}
+
+fn odds(a: u8x16) -> u8x8
+    ensures { (j : ℕ) → j < 8 → slice_index result j ≡ slice_index a (2 * j + 1) }
+{
+    a.swizzle::<8>([1, 3, 5, 7, 9, 11, 13, 15])
+}
+
+fn even_weights(w: i8x16) -> i8x8
+    ensures { (j : ℕ) → j < 8 → lane result j ≡ lane w (2 * j) }
+{
+    w.swizzle::<8>([0, 2, 4, 6, 8, 10, 12, 14])
+}
+
+fn odd_weights(w: i8x16) -> i8x8
+    ensures { (j : ℕ) → j < 8 → lane result j ≡ lane w (2 * j + 1) }
+{
+    w.swizzle::<8>([1, 3, 5, 7, 9, 11, 13, 15])
+}
+
+fn products(a: u8x8, w: i8x8) -> i32x8
+    ensures value { (j : ℕ) → j < 8 → lane result j ≡ pos (slice_index a j) *ℤ lane w j }
+    ensures range { (j : ℕ) → j < 8 → IsFrom (negsuc 32639) (pos 32640) (lane result j) }
+{
+    a.cast::<i32>() * w.cast::<i32>()
+}
+
+fn added(a: i32x8, b: i32x8) -> i32x8
+    requires first { (j : ℕ) → j < 8 → IsFrom (negsuc 32639) (pos 32640) (lane a j) }
+    requires second { (j : ℕ) → j < 8 → IsFrom (negsuc 32639) (pos 32640) (lane b j) }
+    ensures { (j : ℕ) → j < 8 → lane result j ≡ lane a j +ℤ lane b j }
+{
+    a + b
+}
+
+/// The numbers, held to what an i16 holds.
+fn short(sum: i32x8) -> i16x8
+    ensures { (j : ℕ) → j < 8 → lane result j ≡ int_min (pos 32767) (int_max (negsuc 32767) (lane sum j)) }
+{
+    sum.simd_clamp(i32x8::splat(-32768), i32x8::splat(32767))
+        .cast::<i16>()
+}
+
+/// Sixteen bytes, each times its weight, summed by twos.
+pub(crate) fn pair_sums(a: u8x16, w: i8x16) -> i16x8
+    requires { (j : ℕ) → j < 8 → IsShort (pos (slice_index a (2 * j)) *ℤ lane w (2 * j) +ℤ pos (slice_index a (2 * j + 1)) *ℤ lane w (2 * j + 1)) }
+    ensures { (j : ℕ) → j < 8 → lane result j ≡ pos (slice_index a (2 * j)) *ℤ lane w (2 * j) +ℤ pos (slice_index a (2 * j + 1)) *ℤ lane w (2 * j + 1) }
+{
+    short(added(
+        products(evens(a), even_weights(w)),
+        products(odds(a), odd_weights(w)),
+    ))
+}
+
+/// The sums by twos of the bytes from `at` on, times two weights by turns.
+pub(crate) fn turn_sums(s: &[u8], at: usize, w: i8x16, even: i16, odd: i16) -> i16x8
+    requires room { at + 16 ≤ length s.now }
+    requires turns { AreByTurns w even odd }
+    requires fits { ArePairable even odd }
+    ensures { (j : ℕ) → j < 8 → lane result j ≡ pair (slice_index s.now (at + 2 * j)) (slice_index s.now (at + (2 * j + 1))) even odd }
+{
+    pair_sums(load::<16>(s, at), w)
+}
