@@ -42,6 +42,10 @@ pub record Entry : Type 0 where
   pub mode : VectorMode
   pub vectors : List Vector
 
+-- what is kept where a macroblock of this reference moves so
+abbrev pub entry_of : Reference → Motion → Entry
+entry_of reference motion = record { reference = reference; mode = motion.mode; vectors = motion.vectors }
+
 -- what a macroblock's own vector may be, or may be near (chapter 16.3): the weights of zero vectors, of nearest, of near and of split neighbours, and what a new vector is added to
 pub record Candidates : Type 0 where
   pub counts : List ℕ
