@@ -6,6 +6,7 @@ pub mod AddLemmas
 pub mod MovedLemmas
 pub mod LumaLemmas
 pub mod ResidueLemmas
+pub mod NothingLemmas
 pub mod Alike
 pub mod SubAlike
 pub mod Walk

@@ -42,7 +42,7 @@ pub(crate) fn rebuild_inter_luma(
 }
 
 /// Predicts luma: at once, unless its parts have vectors of their own.
-fn predict_luma(
+pub(crate) fn predict_luma(
     picture: &mut Picture,
     x: usize,
     y: usize,
@@ -88,7 +88,7 @@ pub(crate) fn rebuild_inter_chroma(
 }
 
 /// Predicts one of the colour planes.
-fn predict_chroma(
+pub(crate) fn predict_chroma(
     picture: &mut Picture,
     plane: usize,
     x: usize,

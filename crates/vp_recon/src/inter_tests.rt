@@ -41,7 +41,15 @@ fn lit_at(alloc: Global, dim: Dim, x: usize, y: usize) -> Option<Picture>
     Some(picture)
 }
 
-/// Whether the macroblock that is moved so, without residue, is lit from one place to another.
+/// Whether a picture is lit from one place to another.
+fn shows(alloc: Global, picture: &Picture, from: usize, to: usize) -> bool {
+    match picture.crop_i420(alloc) {
+        Ok(bytes) => is_lit(&bytes, from, to),
+        Err(_) => false,
+    }
+}
+
+/// Whether the macroblock that is moved so, without residue, is lit from one place to another, by either call.
 fn moves_to(
     alloc: Global,
     dim: Dim,
@@ -56,7 +64,10 @@ fn moves_to(
     let tokens = Tokens {
         blocks: [Block::NONE; 25],
     };
-    let Ok(mut picture) = Picture::new(alloc, dim, 0) else {
+    let (Ok(mut rebuilt), Ok(mut moved)) = (
+        Picture::new(alloc, dim, 0),
+        Picture::new(alloc, dim, 0),
+    ) else {
         return false;
     };
     let source = Source::Inter {
@@ -64,11 +75,9 @@ fn moves_to(
         reference,
         version: 0,
     };
-    rebuild_macroblock(&mut picture, TOP, &source, &tokens, &FACTORS);
-    match picture.crop_i420(alloc) {
-        Ok(bytes) => is_lit(&bytes, from, to),
-        Err(_) => false,
-    }
+    rebuild_macroblock(&mut rebuilt, TOP, &source, &tokens, &FACTORS);
+    move_macroblock(&mut moved, TOP, motion, reference, 0);
+    shows(alloc, &rebuilt, from, to) && shows(alloc, &moved, from, to)
 }
 
 fn moved() -> Entry {

@@ -10,6 +10,7 @@ mod kept;
 mod laws;
 mod macroblock;
 mod moved;
+mod moved_whole;
 mod residue;
 mod source;
 mod subblock;
@@ -23,4 +24,5 @@ pub use laws::{
     unfiltered_picture_solves_its_equation,
 };
 pub use macroblock::rebuild_macroblock;
+pub use moved_whole::move_macroblock;
 pub use source::Source;

@@ -1,0 +1,104 @@
+-- Macroblocks without tokens have no residue.
+use Rattle.std.proofs.Common.{◌≡◌, ◌∙◌, ℕ, ◌+◌, ◌*◌, ◌/◌, ◌%◌, ◌<◌, ◌≤◌, ℤ, pos, Bool, true, false, List, get_or, set, replicate, unsigned_abs, refl, sym, ap, subst, arith, inl, inr}
+use Rattle.std.proofs.lemmas.Bool.{cases_lt}
+use Rattle.std.proofs.lemmas.List.{get_or-replicate, get_or_past}
+use Rattle.vp_transform.specs.Transform.{idct, iwht}
+use Rattle.vp_quant.specs.Quant.{dequantised}
+use Rattle.vp_quant.specs.declared.factors.Factors.{Factors}
+use Rattle.vp_tokens.specs.declared.contexts.Tokens.{Tokens}
+use Rattle.vp_tokens.specs.Block.{Block, IsBlock, no_tokens}
+use Rattle.vp_tokens.specs.Blocks.{block_of, no_blocks}
+use Rattle.vp_recon.specs.Residue.{residue, luma_residue, luma_coefficients, luma_firsts, chroma_residue}
+use Rattle.std.specs.Prelude.{not}
+use Rattle.vp_base.specs.declared.place.Place.{Place}
+use Rattle.vp_base.specs.Raster.{Raster}
+use Rattle.vp_base.specs.Block.{with_block}
+use Rattle.vp_base.specs.Image.{Image, plane_of}
+use Rattle.vp_base.proofs.BlockLemmas.{with_block_same}
+use Rattle.vp_tables.specs.Modes.{is_split}
+use Rattle.vp_motion.specs.Vector.{Entry}
+use Rattle.vp_recon.specs.Source.{Macroblock, Inter, macroblock_of}
+use Rattle.vp_recon.specs.Prediction.{luma_moved, chroma_moved, moved_pixel}
+use Rattle.vp_recon.specs.Rebuilt.{summed, residue_at, luma_made, chroma_made, luma_rebuilt, chroma_rebuilt}
+use Rattle.vp_recon.proofs.Parts.{sub_at}
+use Rattle.vp_recon.proofs.LumaLemmas.{luma_at_once}
+use Rattle.vp_recon.proofs.MovedLemmas.{inter_bound}
+use Rattle.vp_recon.specs.Kept.{IsNothing}
+use Rattle.vp_recon.proofs.KeptLemmas.{summed-zero}
+use Rattle.vp_recon.proofs.ResidueLemmas.{no_residue, no_firsts, no_first}
+
+zero_at : (i : ℕ) → get_or (replicate 16 (pos 0)) i (pos 0) ≡ pos 0
+zero_at i = elim (cases_lt i 16) [
+  | inl low ↦ get_or-replicate 16 i (pos 0) (pos 0) low
+  | inr high ↦ get_or_past (replicate 16 (pos 0)) i (pos 0) high
+]
+
+no_tokens_is : IsBlock no_tokens
+no_tokens_is = record {
+  whole = refl;
+  within = λ i. subst (λ (z : ℤ). unsigned_abs z ≤ 2114) (sym (zero_at i)) (omega arith);
+  behind = λ i later. zero_at i;
+  count = omega arith;
+}
+
+module _ (t : Tokens) (none : t.blocks ≡ no_blocks) (f : Factors) where
+  block_none : (n : ℕ) → n < 25 → block_of t n ≡ no_tokens
+  block_none n below = ap (λ (bs : List Block). get_or bs n no_tokens) none ∙ get_or-replicate 25 n no_tokens no_tokens below
+
+  residue_none : (n dc ac : ℕ) → n < 25 → residue (block_of t n).levels dc ac ≡ replicate 16 (pos 0)
+  residue_none n dc ac below = ap (λ (b : Block). residue b.levels dc ac) (block_none n below) ∙ no_residue no_tokens no_tokens_is dc ac refl
+
+  pub luma_nothing : (y2 : Bool) (k : ℕ) → k < 16 → IsNothing (luma_residue y2 t f k)
+  unfolding luma_residue luma_coefficients luma_firsts
+  luma_nothing false k below i inside =
+      ap (λ (zs : List ℤ). get_or zs i (pos 0)) (residue_none (1 + k) f.y_dc f.y_ac (omega arith)) ∙ get_or-replicate 16 i (pos 0) (pos 0) inside
+  luma_nothing true k below i inside =
+      let levels : List ℤ = (block_of t (1 + k)).levels in
+      let firsts : luma_firsts t f ≡ replicate 16 (pos 0) =
+      ap (λ (b : Block). iwht (dequantised b.levels f.y2_dc f.y2_ac)) (block_none 0 (omega arith)) ∙ no_firsts no_tokens no_tokens_is f.y2_dc f.y2_ac refl in
+      ap (λ (zs : List ℤ). get_or zs i (pos 0))
+      (ap (λ (zs : List ℤ). idct (set (dequantised levels f.y_dc f.y_ac) 0 (get_or zs k (pos 0)))) firsts
+      ∙ ap (λ (z : ℤ). idct (set (dequantised levels f.y_dc f.y_ac) 0 z)) (get_or-replicate 16 k (pos 0) (pos 0) below)
+      ∙ ap idct (no_first levels f.y_dc f.y_ac)
+      ∙ residue_none (1 + k) 0 f.y_ac (omega arith))
+      ∙ get_or-replicate 16 i (pos 0) (pos 0) inside
+
+  pub chroma_nothing : (plane k : ℕ) → plane < 3 → k < 4 → IsNothing (chroma_residue t f plane k)
+  unfolding chroma_residue
+  chroma_nothing plane k colour below i inside =
+      ap (λ (zs : List ℤ). get_or zs i (pos 0)) (residue_none (13 + 4 * plane + k) f.uv_dc f.uv_ac (omega arith)) ∙ get_or-replicate 16 i (pos 0) (pos 0) inside
+
+-- a pixel with no residue is its prediction
+pub alone : (across : ℕ) (own : ℕ → List ℤ) (pixel r c : ℕ) → ((k : ℕ) → k < across * across → IsNothing (own k)) → across * (r / 4) + c / 4 < across * across → pixel ≤ 255
+    → pixel ≡ summed pixel (residue_at across own r c)
+alone across own pixel r c nothing below byte =
+    sym (ap (summed pixel) (nothing (across * (r / 4) + c / 4) below (4 * (r % 4) + c % 4) (omega arith)) ∙ summed-zero pixel byte)
+
+-- the luma, and a colour plane, of a macroblock that moves and has no residue
+module _ (t : Tokens) (none : t.blocks ≡ no_blocks) (f : Factors) (motion : Entry) (reference : Image) (version : ℕ) (place : Place) where
+  pub luma_moved_alone : (p : Raster)
+      → with_block p (16 * place.column) (16 * place.row) 16 16 (moved_pixel version reference.luma (16 * place.column) (16 * place.row) 4 (luma_moved motion))
+      ≡ luma_rebuilt (macroblock_of (Inter motion reference version) t f) place p
+  luma_moved_alone p =
+      let x : ℕ = 16 * place.column in
+      let y : ℕ = 16 * place.row in
+      let m : Macroblock = macroblock_of (Inter motion reference version) t f in
+      let own = moved_pixel version reference.luma x y 4 (luma_moved motion) in
+      with_block_same p x y 16 16 own (luma_made m place p)
+      (λ r j rin jin.
+      alone 4 (luma_residue (not (is_split motion.mode)) t f) (own r j) r j (luma_nothing t none f (not (is_split motion.mode))) (omega arith)
+      (inter_bound version reference.luma (x + 4 * (j / 4)) (y + 4 * (r / 4)) (luma_moved motion (sub_at 4 r j)) (r % 4) (j % 4)))
+      ∙ luma_at_once m place p refl
+
+  pub chroma_moved_alone : (k : ℕ) (p : Raster) → k < 3
+      → with_block p (8 * place.column) (8 * place.row) 8 8 (moved_pixel version (plane_of reference k) (8 * place.column) (8 * place.row) 2 (chroma_moved version motion))
+      ≡ chroma_rebuilt (macroblock_of (Inter motion reference version) t f) k place p
+  chroma_moved_alone k p colour =
+      let x : ℕ = 8 * place.column in
+      let y : ℕ = 8 * place.row in
+      let m : Macroblock = macroblock_of (Inter motion reference version) t f in
+      let own = moved_pixel version (plane_of reference k) x y 2 (chroma_moved version motion) in
+      with_block_same p x y 8 8 own (chroma_made m k place p)
+      (λ r j rin jin.
+      alone 2 (chroma_residue t f k) (own r j) r j (λ i below. chroma_nothing t none f k i colour below) (omega arith)
+      (inter_bound version (plane_of reference k) (x + 4 * (j / 4)) (y + 4 * (r / 4)) (chroma_moved version motion (sub_at 2 r j)) (r % 4) (j % 4)))
