@@ -12,12 +12,11 @@ use Rattle.vp_tokens.specs.declared.contexts.Tokens.{Tokens}
 use Rattle.vp_tokens.specs.Blocks.{Blocks, blocks_of}
 use Rattle.vp_tokens.specs.Contexts.{Contexts, StandsFor, right}
 use Rattle.vp_tokens.proofs.Steps.{row_begins}
-use Rattle.vp_quant.specs.declared.factors.Factors.{Factors}
-use Rattle.vp_recon.specs.Source.{Source, macroblock_of, has_y2}
+use Rattle.vp_recon.specs.Source.{has_y2}
 use Rattle.vp_loop.specs.declared.strength.Level.{Level}
 use Rattle.vp_recon.specs.Rebuilt.{rebuilt}
 use Rattle.vp_decode.specs.Maps.{place}
-use Rattle.vp_decode.specs.Frame.{Plan, Readings, source_at, factors_at, tokens_read, seen_read, row_seen, row_tokens, rest_of, token_row, none_read, readings, tokens_of, macroblock_at, level_at}
+use Rattle.vp_decode.specs.Frame.{Plan, Readings, source_at, tokens_read, seen_read, row_seen, row_tokens, rest_of, token_row, none_read, readings, tokens_of, macroblock_at, level_at}
 use Rattle.vp_decode.specs.Rebuilding.{Rebuilding, IsStep, IsRow, AreRows}
 
 -- ---- a row
@@ -89,18 +88,18 @@ row_next f row n g s t u a b c made last =
     }
 
 -- what the code does for a macroblock
-pub step_made : (f : Plan) (p : Place) (g : Grid Blocks) (s t : State) (a b : Rebuilding) (x : Source) (tokens : Tokens) (factor : Factors)
+pub step_made : (f : Plan) (p : Place) (g : Grid Blocks) (s t : State) (a b : Rebuilding) (tokens : Tokens)
     → tokens ≡ (tokens_read f p g s).0 → t ≡ (tokens_read f p g s).1
     → StandsFor (with_entry g p (blocks_of (has_y2 (source_at f p)) tokens)) (right p) b.contexts
-    → x ≡ source_at f p → factor ≡ factors_at f p → b.picture ≡ rebuilt (macroblock_of x tokens factor) p a.picture
+    → b.picture ≡ rebuilt (macroblock_at f p tokens) p a.picture
     → entry b.levels p ≡ Some (level_at f p tokens) → ((q : Place) → q ≢ p → entry b.levels q ≡ entry a.levels q)
     → IsStep f p g s t a b
 unfolding seen_read bind
-step_made f p g s t a b x tokens factor value rest stands source factors_are picture here elsewhere = record {
+step_made f p g s t a b tokens value rest stands picture here elsewhere = record {
   contexts = stands_seen (with_entry g p (blocks_of (has_y2 (source_at f p)) tokens)) (with_entry g p (blocks_of (has_y2 (source_at f p)) (tokens_read f p g s).0)) (right p) b.contexts
       (ap (λ (z : Tokens). with_entry g p (blocks_of (has_y2 (source_at f p)) z)) value) stands;
   rest = rest;
-  picture = picture ∙ (λ i. rebuilt (macroblock_of (source i) (value i) (factors_are i)) p a.picture);
+  picture = picture ∙ ap (λ (z : Tokens). rebuilt (macroblock_at f p z) p a.picture) value;
   here = here ∙ ap (λ (z : Tokens). Some (level_at f p z)) value;
   elsewhere = elsewhere;
 }

@@ -1,24 +1,26 @@
 //! What is known of a frame once its first partition is read.
 
-ghost use Rattle.std.specs.Prelude.{◌≡◌, ◌<◌, ◌≤◌, length, option_map};
+ghost use Rattle.std.specs.Prelude.{◌≡◌, ◌<◌, ◌≤◌, true, length, option_map};
 ghost use Rattle.vp_base.specs.Grid.{Grid, Has, with_entry};
 ghost use Rattle.vp_tokens.specs.declared.contexts.Tokens.{Tokens};
-ghost use Rattle.vp_tokens.specs.Blocks.{Blocks, any_token, blocks_of};
+ghost use Rattle.vp_base.specs.Image.{macroblocks};
+ghost use Rattle.vp_tokens.specs.Blocks.{Blocks, any_token, blocks_of, no_blocks};
 ghost use Rattle.vp_tokens.specs.Contexts.{StandsFor, right};
 ghost use Rattle.vp_recon.specs.Source.{source_of, has_y2};
+ghost use Rattle.vp_recon.specs.Rebuilt.{rebuilt};
 ghost use Rattle.vp_decode.specs.Maps.{modes_in, motion_in};
-ghost use Rattle.vp_decode.specs.Frame.{source_by, source_at, tokens_read, factors_of, factors_at, inter_prediction, prediction_of, level_at};
+ghost use Rattle.vp_decode.specs.Frame.{source_by, source_at, tokens_read, factors_of, factors_at, inter_prediction, prediction_of, level_at, macroblock_at};
 
 use crate::maps::Maps;
 use std::marker::Model;
-use vp_base::Place;
+use vp_base::{Picture, Place};
 use vp_bool::BoolDecoder;
 use vp_head::Header;
 use vp_loop::{Level, MacroblockKind, Prediction, levels};
 use vp_modes::Modes;
 use vp_motion::Entry;
 use vp_quant::{Factors, segment_index};
-use vp_recon::Source;
+use vp_recon::{Source, move_macroblock, rebuild_macroblock};
 use vp_refs::Refs;
 use vp_tables::VectorMode;
 use vp_tokens::{Contexts, Tokens, read_macroblock};
@@ -196,6 +198,7 @@ impl<'a> Plan<'a> {
         ensures rest { (g : Grid Blocks) → StandsFor g place contexts.old → d.new ≡ (tokens_read self.now place g d.old).1 }
         ensures stands { (g : Grid Blocks) → Has g place → StandsFor g place contexts.old → StandsFor (with_entry g place (blocks_of (has_y2 (source_at self.now place)) tokens.new)) (right place) contexts.new }
         ensures any { result ≡ any_token tokens.new }
+        ensures none { (modes_in self.now.maps place).skip ≡ true → tokens.new.blocks ≡ no_blocks }
         ensures columns { length contexts.new.above ≡ length contexts.old.above }
     {
         let skipped = self.is_skipped(place);
@@ -211,9 +214,32 @@ impl<'a> Plan<'a> {
         !skipped && tokens.any()
     }
 
+    /// Rebuilds the macroblock at a place from its tokens, of which a skipped one has none.
+    pub(crate) fn rebuild(&self, place: Place, tokens: &Tokens, picture: &mut Picture)
+        requires place { Has self.now.maps.modes place }
+        requires column { place.column < macroblocks picture.old.width }
+        requires row { place.row < macroblocks picture.old.height }
+        requires none { (modes_in self.now.maps place).skip ≡ true → tokens.now.blocks ≡ no_blocks }
+        ensures { picture.new ≡ rebuilt (macroblock_at self.now place tokens.now) place picture.old }
+    {
+        let source = self.source(place);
+        if self.is_skipped(place) {
+            if let Source::Inter {
+                motion,
+                reference,
+                version,
+            } = source
+            {
+                move_macroblock(picture, place, motion, reference, version);
+                return;
+            }
+        }
+        rebuild_macroblock(picture, place, &source, tokens, &self.factors(place));
+    }
+
     /// The factors of the macroblock at a place.
     #[tactic(auto, unfolding(crate::specs::Frame::factors_at))]
-    pub(crate) fn factors(&self, place: Place) -> Factors
+    fn factors(&self, place: Place) -> Factors
         requires { Has self.now.maps.modes place }
         ensures { result ≡ factors_at self.now place }
     {

@@ -18,8 +18,7 @@ use vp_base::{Dim, Grid, Picture, Place};
 use vp_bool::BoolDecoder;
 use vp_loop::{Level, RowFilter};
 use vp_recon::{
-    rebuild_macroblock, rebuilding_keeps_rows_above, rebuilding_keeps_shape,
-    rebuilding_reads_one_row_above,
+    rebuilding_keeps_rows_above, rebuilding_keeps_shape, rebuilding_reads_one_row_above,
 };
 use vp_tokens::{Block, Contexts, Partitions, Tokens};
 
@@ -90,9 +89,7 @@ impl<'a> Rebuilding<'a> {
     {
         let plan = self.plan;
         let coded = plan.read_tokens(place, &mut self.contexts, &mut self.tokens, d);
-        let source = plan.source(place);
-        let factors = plan.factors(place);
-        rebuild_macroblock(&mut self.picture, place, &source, &self.tokens, &factors);
+        plan.rebuild(place, &self.tokens, &mut self.picture);
         self.levels.set(place, plan.level(place, coded));
     }
 
