@@ -1,5 +1,5 @@
 -- The prediction of a macroblock whose blocks have one vector.
-use Rattle.std.proofs.Common.{◌≡◌, ◌∙◌, ℕ, ◌+◌, ◌*◌, ◌/◌, ◌%◌, ◌<◌, List, [], ◌∷◌, length, map, get_or, replicate, sym, ap, arith}
+use Rattle.std.proofs.Common.{◌≡◌, ◌∙◌, ℕ, ◌+◌, ◌*◌, ◌/◌, ◌%◌, ◌<◌, List, [], ◌∷◌, length, map, get_or, replicate, sym, ap, ap₂, arith}
 use Rattle.std.proofs.lemmas.List.{get_or-replicate}
 use Rattle.vp_base.specs.declared.place.Place.{Place}
 use Rattle.vp_base.specs.Raster.{Raster}
@@ -35,25 +35,26 @@ module _ (e : Entry) (v : Vector) (are : e.vectors ≡ replicate 16 v) where
       cc in
       ap (λ (vs : List Vector). chroma_vector 0 (map (λ w. w.row) vs) (map (λ w. w.column) vs)) four
 
-  pub luma_listed : (reference : Image) (place : Place) (p : Raster) (xs : List ℕ) → length xs ≡ 256
-      → ((r c : ℕ) → r < 16 → c < 16 → get_or xs (r * 16 + c) 0 ≡ inter_pixel 0 reference.luma (16 * place.column) (16 * place.row) (luma_vector v.row v.column) r c)
+  pub luma_listed : (reference : Image) (place : Place) (p plane : Raster) (turned : PlaneVector) (xs : List ℕ) → length xs ≡ 256
+      → plane ≡ reference.luma → turned ≡ luma_vector v.row v.column
+      → ((r c : ℕ) → r < 16 → c < 16 → get_or xs (r * 16 + c) 0 ≡ inter_pixel 0 plane (16 * place.column) (16 * place.row) turned r c)
       → xs ≡ block 16 (luma_prediction (Inter e reference 0) place p)
-  luma_listed reference place p xs len same =
+  luma_listed reference place p plane turned xs len plane_is turned_is same =
       let x : ℕ = 16 * place.column in
       let y : ℕ = 16 * place.row in
       is_block 16 (luma_prediction (Inter e reference 0) place p) xs len (λ r c rin cin.
       same r c rin cin
-      ∙ ap (λ (w : PlaneVector). inter_pixel 0 reference.luma x y w r c) (sym (luma_is 0 (omega arith)))
+      ∙ ap₂ (λ (q : Raster) (w : PlaneVector). inter_pixel 0 q x y w r c) plane_is (turned_is ∙ sym (luma_is 0 (omega arith)))
       ∙ moved_alike 0 reference.luma x y 4 (luma_moved e) r c (luma_is (sub_at 4 r c) (sub_below 4 r c rin cin) ∙ sym (luma_is 0 (omega arith))))
 
-  pub chroma_listed : (reference : Image) (n : ℕ) (place : Place) (p : Raster) (xs : List ℕ) → length xs ≡ 64
-      → ((r c : ℕ) → r < 8 → c < 8 → get_or xs (r * 8 + c) 0 ≡ inter_pixel 0 (plane_of reference n) (8 * place.column) (8 * place.row)
-      (chroma_vector 0 (v.row ∷ v.row ∷ v.row ∷ v.row ∷ []) (v.column ∷ v.column ∷ v.column ∷ v.column ∷ [])) r c)
+  pub chroma_listed : (reference : Image) (n : ℕ) (place : Place) (p plane : Raster) (turned : PlaneVector) (xs : List ℕ) → length xs ≡ 64
+      → plane ≡ plane_of reference n → turned ≡ chroma_vector 0 (v.row ∷ v.row ∷ v.row ∷ v.row ∷ []) (v.column ∷ v.column ∷ v.column ∷ v.column ∷ [])
+      → ((r c : ℕ) → r < 8 → c < 8 → get_or xs (r * 8 + c) 0 ≡ inter_pixel 0 plane (8 * place.column) (8 * place.row) turned r c)
       → xs ≡ block 8 (chroma_prediction (Inter e reference 0) n place p)
-  chroma_listed reference n place p xs len same =
+  chroma_listed reference n place p plane turned xs len plane_is turned_is same =
       let x : ℕ = 8 * place.column in
       let y : ℕ = 8 * place.row in
       is_block 8 (chroma_prediction (Inter e reference 0) n place p) xs len (λ r c rin cin.
       same r c rin cin
-      ∙ ap (λ (w : PlaneVector). inter_pixel 0 (plane_of reference n) x y w r c) (sym (chroma_is 0 (omega arith)))
+      ∙ ap₂ (λ (q : Raster) (w : PlaneVector). inter_pixel 0 q x y w r c) plane_is (turned_is ∙ sym (chroma_is 0 (omega arith)))
       ∙ moved_alike 0 (plane_of reference n) x y 2 (chroma_moved 0 e) r c (chroma_is (sub_at 2 r c) (sub_below 2 r c rin cin) ∙ sym (chroma_is 0 (omega arith))))

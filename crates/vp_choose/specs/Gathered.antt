@@ -1,7 +1,8 @@
 -- Inside the crate: levels as the code lists them.
-use Rattle.std.specs.Prelude.{◌≡◌, ℕ, ◌+◌, ◌-◌, ◌<◌, ◌==◌, nat_lt, if◌then◌else◌, ◌≤◌, ℤ, pos, List, [], slice_index_or, unsigned_abs}
+use Rattle.std.specs.Prelude.{◌≡◌, ℕ, ◌+◌, ◌-◌, ◌<◌, ◌==◌, nat_lt, if◌then◌else◌, ◌≤◌, ℤ, pos, Bool, false, List, [], slice_index_or, unsigned_abs}
 use Rattle.vp_tokens.specs.declared.contexts.Tokens.{Tokens}
-use Rattle.vp_tokens.specs.Blocks.{block_of as tokens_of}
+use Rattle.vp_tokens.specs.Blocks.{block_of as tokens_of, any_token, no_blocks}
+use Rattle.vp_tokens.specs.Spelled.{AreSpelled, AreTight}
 use Rattle.vp_choose.specs.declared.tokens.Chroma.{Chroma}
 
 -- n lists that are each 0, each 1, ..
@@ -19,6 +20,13 @@ gathered y2 luma u v n =
     else if nat_lt n 17 then slice_index_or luma (n - 1) []
     else if nat_lt n 21 then slice_index_or u (n - 17) []
     else slice_index_or v (n - 21) []
+
+-- Blocks can be written as they stand: each ends behind its last level that isn't 0, all are empty where there is no token,
+-- and what they say can be spelled, with a Y2 block or without.
+pub record AreWritable (with_y2 : Bool) (t : Tokens) : Type 0 where
+  pub tight : AreTight t.blocks
+  pub none : any_token t ≡ false → t.blocks ≡ no_blocks
+  pub spelled : AreSpelled with_y2 t.blocks
 
 -- the blocks of a macroblock have these levels
 pub record IsGathered (first : List ℤ) (all : List (List ℤ)) (chroma : Chroma) (t : Tokens) : Type 0 where

@@ -17,6 +17,7 @@ use vp_tables::ChromaMode;
 /// The modes in the order in which ties are broken.
 const ORDER: [ChromaMode; 4] = [ChromaMode::Dc, ChromaMode::V, ChromaMode::H, ChromaMode::Tm];
 
+/// What a mode costs one plane of colour.
 fn plane_cost(block: &[u8; 64], plane: &Plane, place: Place, mode: ChromaMode) -> u32
     requires columns { 8 * place.column + 8 ≤ plane.now.width }
     requires rows { 8 * place.row + 8 ≤ plane.now.height }

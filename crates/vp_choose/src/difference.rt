@@ -6,6 +6,7 @@ ghost use Rattle.vp_search.specs.Sums.{sum_below};
 ghost use Rattle.vp_search.specs.Differences.{sum_of_differences};
 ghost use Rattle.vp_choose.specs.Costs.{rows_of};
 
+/// The sum of absolute differences of two slices of one length.
 fn differences(a: &[u8], b: &[u8]) -> u32
     requires same { length a.now ≡ length b.now }
     requires size { length a.now ≤ 64 }

@@ -10,6 +10,7 @@ use vp_tokens::Tokens;
 /// Where and how the vectors of an inter frame are searched.
 #[derive(Clone, Copy)]
 pub struct Search<'a> {
+    /// The pictures that vectors point into: last is always searched.
     pub references: &'a Refs,
     /// Whether golden is searched too.
     pub golden: bool,
@@ -33,8 +34,10 @@ pub struct Frame<'a> {
 /// What is chosen for a macroblock.
 #[derive(Clone, Copy)]
 pub struct Choice {
+    /// What is said of it before its levels: whether it is skipped, its reference, and the modes of an intra macroblock.
     pub modes: Modes,
     /// Zero, and of no meaning, for an intra macroblock.
     pub motion: Motion,
+    /// The levels of its blocks; no token at all where it is skipped.
     pub tokens: Tokens,
 }

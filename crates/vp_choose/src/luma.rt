@@ -31,6 +31,7 @@ pub(crate) struct Luma {
     pub(crate) cost: u32,
 }
 
+/// What a mode costs that predicts all luma at once.
 fn cost_of(block: &[u8; 256], plane: &Plane, place: Place, mode: LumaMode) -> u32
     requires columns { 16 * place.column + 16 ≤ plane.now.width }
     requires rows { 16 * place.row + 16 ≤ plane.now.height }

@@ -11,8 +11,7 @@ ghost use Rattle.vp_motion.specs.Vector.{Entry, IsWithin, last_of, still};
 ghost use Rattle.vp_motion.specs.Map.{AreWithin};
 ghost use Rattle.vp_motion.specs.Near.{candidates};
 ghost use Rattle.vp_motion.specs.Spelled.{CanBeWritten};
-ghost use Rattle.vp_tokens.specs.Blocks.{any_token, no_blocks};
-ghost use Rattle.vp_tokens.specs.Spelled.{AreSpelled, AreTight};
+ghost use Rattle.vp_tokens.specs.Blocks.{any_token};
 ghost use Rattle.vp_intra.specs.Edges.{block as listed};
 ghost use Rattle.vp_intra.specs.Whole.{luma_pixel, chroma_pixel};
 ghost use Rattle.vp_recon.specs.Source.{Intra, Inter, macroblock_of, has_y2};
@@ -21,7 +20,7 @@ ghost use Rattle.vp_recon.specs.Rebuilt.{rebuilt};
 ghost use Rattle.vp_choose.specs.Costs.{HasMacroblock};
 ghost use Rattle.vp_choose.specs.Cut.{AreCut};
 ghost use Rattle.vp_choose.specs.Levels.{ArePositive, HasLumaAndY2, HasChroma};
-ghost use Rattle.vp_choose.specs.Gathered.{AreSmall};
+ghost use Rattle.vp_choose.specs.Gathered.{AreSmall, AreWritable};
 ghost use Rattle.vp_choose.specs.Intra.{IsIntra, HasSubblocks};
 ghost use Rattle.vp_choose.specs.Frame.{frame_of, search_of, source_by, no_biases};
 ghost use Rattle.vp_choose.specs.Inter.{IsInter, IsShort, moved_source, vector_of};
@@ -61,9 +60,7 @@ fn intra_tokens(
     ensures at_once { (f : ℕ → ℕ → ℕ) → blocks.now.luma ≡ listed 16 f → is_by_subblocks luma.now.mode ≡ false → HasLumaAndY2 f (luma_pixel luma.now.mode picture.now.luma (16 * place.column) (16 * place.row)) factors.now result }
     ensures u { (f : ℕ → ℕ → ℕ) → blocks.now.u ≡ listed 8 f → HasChroma f (chroma_pixel mode picture.now.u (8 * place.column) (8 * place.row)) factors.now result 1 }
     ensures v { (f : ℕ → ℕ → ℕ) → blocks.now.v ≡ listed 8 f → HasChroma f (chroma_pixel mode picture.now.v (8 * place.column) (8 * place.row)) factors.now result 2 }
-    ensures tight { AreTight result.blocks }
-    ensures none { any_token result ≡ false → result.blocks ≡ no_blocks }
-    ensures spelled { AreSpelled (not (is_by_subblocks luma.now.mode)) result.blocks }
+    ensures writable { AreWritable (not (is_by_subblocks luma.now.mode)) result }
 {
     let _dim = picture.dim();
     let [x, y] = [8 * place.column, 8 * place.row];
@@ -97,6 +94,7 @@ fn intra_modes(luma: &Luma, chroma: ChromaMode, tokens: &Tokens) -> Modes
     }
 }
 
+/// Chooses for an intra macroblock whose luma is chosen, and rebuilds it.
 fn choose_intra(
     blocks: &Blocks,
     factors: &Factors,
@@ -111,9 +109,9 @@ fn choose_intra(
     ensures rebuilt { picture.new ≡ rebuilt (macroblock_of (Intra result.modes) result.tokens factors.now) place picture.old }
     ensures segment { result.modes.segment ≡ 0 }
     ensures skip { result.modes.skip ≡ not (any_token result.tokens) }
-    ensures tight { AreTight result.tokens.blocks }
-    ensures none { any_token result.tokens ≡ false → result.tokens.blocks ≡ no_blocks }
-    ensures spelled { AreSpelled (has_y2 (Intra result.modes)) result.tokens.blocks }
+    ensures writable { AreWritable (has_y2 (Intra result.modes)) result.tokens }
+    ensures reference { is_intra result.modes.reference ≡ true }
+    ensures mode { result.motion.mode ≡ VectorMode.Zero }
     ensures vectors { result.motion.vectors ≡ replicate 16 still }
 {
     let chroma = choose_chroma(blocks, picture, place);
@@ -146,9 +144,7 @@ fn inter_tokens(
     ensures luma { (e : Entry) (p : Raster) (f : ℕ → ℕ → ℕ) → e.vectors ≡ replicate 16 (vector_of moved.now) → blocks.now.luma ≡ listed 16 f → HasLumaAndY2 f (luma_prediction (Inter e reference.now 0) place p) factors.now result }
     ensures u { (e : Entry) (p : Raster) (f : ℕ → ℕ → ℕ) → e.vectors ≡ replicate 16 (vector_of moved.now) → blocks.now.u ≡ listed 8 f → HasChroma f (chroma_prediction (Inter e reference.now 0) 1 place p) factors.now result 1 }
     ensures v { (e : Entry) (p : Raster) (f : ℕ → ℕ → ℕ) → e.vectors ≡ replicate 16 (vector_of moved.now) → blocks.now.v ≡ listed 8 f → HasChroma f (chroma_prediction (Inter e reference.now 0) 2 place p) factors.now result 2 }
-    ensures tight { AreTight result.blocks }
-    ensures none { any_token result ≡ false → result.blocks ≡ no_blocks }
-    ensures spelled { AreSpelled true result.blocks }
+    ensures writable { AreWritable true result }
 {
     let _dim = reference.dim();
     let [x, y] = [8 * place.column, 8 * place.row];
@@ -175,6 +171,7 @@ fn entry_of(reference: Reference, motion: &Motion) -> Entry
     }
 }
 
+/// Chooses for a macroblock whose vector is chosen, and rebuilds it.
 fn choose_inter(
     blocks: &Blocks,
     factors: &Factors,
@@ -193,11 +190,10 @@ fn choose_inter(
     ensures inter { (source : Image) → AreCut source place blocks.now → IsInter source factors.now (search_of search.now) vectors.now place picture.old moved.now result }
     ensures rebuilt { picture.new ≡ rebuilt (macroblock_of (moved_source (search_of search.now) moved.now result) result.tokens factors.now) place picture.old }
     ensures skip { result.modes.skip ≡ not (any_token result.tokens) }
-    ensures tight { AreTight result.tokens.blocks }
-    ensures none { any_token result.tokens ≡ false → result.tokens.blocks ≡ no_blocks }
-    ensures spelled { AreSpelled true result.tokens.blocks }
+    ensures writable { AreWritable true result.tokens }
     ensures written { CanBeWritten (candidates vectors.now place moved.now.reference no_biases) result.motion }
     ensures short { IsWithin 259 (last_of result.motion.vectors) }
+    ensures reference { is_intra result.modes.reference ≡ false }
 {
     let _dim = picture.dim();
     let reference = search.references.get(moved.reference);
@@ -247,6 +243,7 @@ pub fn choose_macroblock(
     // `write_motion` can say the motion at this place, where no vector is turned round.
     ensures written { is_intra result.modes.reference ≡ false → CanBeWritten (candidates vectors.now place result.modes.reference no_biases) result.motion }
     ensures short { IsWithin 259 (last_of result.motion.vectors) }
+    ensures unmoved { is_intra result.modes.reference ≡ true → (result.motion.mode ≡ VectorMode.Zero) × (result.motion.vectors ≡ replicate 16 still) }
 {
     let _dims = [frame.source.dim(), picture.dim()];
     let blocks = cut_blocks(frame.source, place);

@@ -15,10 +15,10 @@ ghost use Rattle.vp_choose.specs.Frame.{search_of, no_biases};
 ghost use Rattle.vp_choose.specs.Inter.{IsFound, IsMoved, IsFirstGiving, IsShort, found_in, vector_of};
 
 use crate::frame::Search;
-use vp_base::{Place, Plane};
+use vp_base::Place;
 use vp_head::{Reference, SignBiases};
 use vp_motion::{Candidates, Motion, Vector, VectorMap, near};
-use vp_search::{QuarterVector, Refined, refine_block, search_block};
+use vp_search::{QuarterVector, Refined, quarters, refine_block, search_block};
 use vp_tables::VectorMode;
 
 /// A reference, the vector that is found in it, and what that costs.
@@ -29,42 +29,8 @@ pub(crate) struct Moved {
     pub(crate) cost: u32,
 }
 
-/// The vector that is found in a reference for the luma `block` of a macroblock at `place`.
-fn find(search: &Search, block: &[u8; 256], reference: &Plane, place: Place) -> Refined
-    requires columns { 16 * place.column ≤ 16384 }
-    requires rows { 16 * place.row ≤ 16384 }
-    requires wide { 0 < reference.now.width }
-    requires high { 0 < reference.now.height }
-    requires range { search.now.range ≤ 64 }
-    ensures found { (source : Raster) → block.now ≡ listed 16 (block_of 16 source place) → IsFound (search_of search.now) source reference.now place result }
-    ensures short { IsShort result.vector }
-{
-    let found = search_block(block, reference, place, search.range);
-    if search.subpel {
-        return refine_block(block, reference, place, found.vector);
-    }
-    let vector = QuarterVector {
-        row: 4 * found.vector.row,
-        column: 4 * found.vector.column,
-    };
-    Refined {
-        vector,
-        cost: found.cost,
-    }
-}
-
-fn found_in(reference: Reference, found: Refined) -> Moved
-    ensures { result ≡ found_in reference found }
-{
-    Moved {
-        reference,
-        vector: found.vector,
-        cost: found.cost,
-    }
-}
-
-/// The vector that is found in one of the references.
-fn find_in(search: &Search, block: &[u8; 256], reference: Reference, place: Place) -> Refined
+/// The vector that is found in one of the references for the luma `block` of a macroblock at `place`.
+fn find(search: &Search, block: &[u8; 256], reference: Reference, place: Place) -> Refined
     requires columns { 16 * place.column ≤ 16384 }
     requires rows { 16 * place.row ≤ 16384 }
     requires range { search.now.range ≤ 64 }
@@ -73,7 +39,26 @@ fn find_in(search: &Search, block: &[u8; 256], reference: Reference, place: Plac
 {
     let picture = search.references.get(reference);
     let _dim = picture.dim();
-    find(search, block, picture.plane(0), place)
+    let plane = picture.plane(0);
+    let whole = search_block(block, plane, place, search.range);
+    if search.subpel {
+        return refine_block(block, plane, place, whole.vector);
+    }
+    Refined {
+        vector: quarters(whole.vector),
+        cost: whole.cost,
+    }
+}
+
+/// What is found, with the reference that it is found in.
+fn found_in(reference: Reference, found: Refined) -> Moved
+    ensures { result ≡ found_in reference found }
+{
+    Moved {
+        reference,
+        vector: found.vector,
+        cost: found.cost,
+    }
 }
 
 /// The reference and the vector of a macroblock, if it is moved.
@@ -85,9 +70,9 @@ pub(crate) fn choose_reference(search: &Search, block: &[u8; 256], place: Place)
     ensures short { IsShort result.vector }
     ensures inter { is_intra result.reference ≡ false }
 {
-    let last = find_in(search, block, Reference::Last, place);
+    let last = find(search, block, Reference::Last, place);
     if search.golden {
-        let golden = find_in(search, block, Reference::Golden, place);
+        let golden = find(search, block, Reference::Golden, place);
         if golden.cost < last.cost {
             return found_in(Reference::Golden, golden);
         }

@@ -51,6 +51,7 @@ struct Subblock {
     cost: u32,
 }
 
+/// What a mode costs one of them.
 fn cost_of(block: &[u8; 16], plane: &Plane, place: Place, mode: SubMode) -> u32
     requires columns { 4 * place.column + 4 ≤ plane.now.width }
     requires rows { 4 * place.row + 4 ≤ plane.now.height }

@@ -1,13 +1,12 @@
 //! The levels of a macroblock, from its predictions.
 
 ghost use Rattle.std.specs.Prelude.{◌≡◌, ℕ, ◌+◌, ◌*◌, ◌<◌, ◌≤◌, true, false, ℤ, pos, List, [], slice_index_or, slice_set, replicate, unsigned_abs};
-ghost use Rattle.vp_tokens.specs.Blocks.{block_of as tokens_of, any_token, no_blocks};
-ghost use Rattle.vp_tokens.specs.Spelled.{AreSpelled, AreTight};
+ghost use Rattle.vp_tokens.specs.Blocks.{block_of as tokens_of};
 ghost use Rattle.vp_transform.specs.Fits.{EachWithin};
 ghost use Rattle.vp_transform.specs.Forward.{fwht};
 ghost use Rattle.vp_intra.specs.Edges.{block as listed};
 ghost use Rattle.vp_choose.specs.Levels.{ArePositive, HasLumaAndY2, firsts, levels_of, part_coefficients};
-ghost use Rattle.vp_choose.specs.Gathered.{AreListed, AreSmall, IsGathered, gathered};
+ghost use Rattle.vp_choose.specs.Gathered.{AreListed, AreSmall, AreWritable, IsGathered, gathered};
 
 use crate::blocks::Blocks;
 use crate::levels::{coefficients, levels_of, part_of};
@@ -131,10 +130,8 @@ fn gather(y2: &[i16; 16], luma: &Levels<16>, chroma: &Chroma) -> Tokens
     requires u { AreSmall chroma.now.u }
     requires v { AreSmall chroma.now.v }
     ensures levels { IsGathered y2.now luma.now chroma.now result }
-    ensures tight { AreTight result.blocks }
-    ensures none { any_token result ≡ false → result.blocks ≡ no_blocks }
-    ensures with_y2 { ((k : ℕ) → k < 16 → slice_index_or (slice_index_or luma.now k []) 0 (pos 0) ≡ pos 0) → AreSpelled true result.blocks }
-    ensures without_y2 { y2.now ≡ replicate 16 (pos 0) → AreSpelled false result.blocks }
+    ensures with_y2 { ((k : ℕ) → k < 16 → slice_index_or (slice_index_or luma.now k []) 0 (pos 0) ≡ pos 0) → AreWritable true result }
+    ensures without_y2 { y2.now ≡ replicate 16 (pos 0) → AreWritable false result }
 {
     let mut all = [[0; 16]; 25];
     for n in 0..25 {
@@ -156,9 +153,7 @@ pub(crate) fn tokens_with_y2(
     ensures luma { (f g : ℕ → ℕ → ℕ) → block.now ≡ listed 16 f → prediction.now ≡ listed 16 g → HasLumaAndY2 f g factors.now result }
     ensures u { (k : ℕ) → k < 4 → (tokens_of result (17 + k)).levels ≡ slice_index_or chroma.now.u k [] }
     ensures v { (k : ℕ) → k < 4 → (tokens_of result (21 + k)).levels ≡ slice_index_or chroma.now.v k [] }
-    ensures tight { AreTight result.blocks }
-    ensures none { any_token result ≡ false → result.blocks ≡ no_blocks }
-    ensures spelled { AreSpelled true result.blocks }
+    ensures writable { AreWritable true result }
 {
     let all = luma_coefficients(block, prediction);
     gather(
@@ -177,9 +172,7 @@ pub(crate) fn tokens_without_y2(luma: &Levels<16>, chroma: &Chroma) -> Tokens
     ensures luma { (k : ℕ) → k < 16 → (tokens_of result (1 + k)).levels ≡ slice_index_or luma.now k [] }
     ensures u { (k : ℕ) → k < 4 → (tokens_of result (17 + k)).levels ≡ slice_index_or chroma.now.u k [] }
     ensures v { (k : ℕ) → k < 4 → (tokens_of result (21 + k)).levels ≡ slice_index_or chroma.now.v k [] }
-    ensures tight { AreTight result.blocks }
-    ensures none { any_token result ≡ false → result.blocks ≡ no_blocks }
-    ensures spelled { AreSpelled false result.blocks }
+    ensures writable { AreWritable false result }
 {
     gather(&[0; 16], luma, chroma)
 }

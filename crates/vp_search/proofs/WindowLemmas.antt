@@ -14,6 +14,7 @@ use Rattle.vp_inter.proofs.PassLemmas.{inter_whole}
 use Rattle.vp_search.specs.declared.vector.WholeVector.{WholeVector}
 use Rattle.vp_search.specs.declared.vector.QuarterVector.{QuarterVector}
 use Rattle.vp_search.specs.declared.vector.Found.{Found}
+use Rattle.vp_search.specs.declared.window.TheConstants.{WINDOW_WIDTH}
 use Rattle.vp_search.specs.Vectors.{quarters, IsNear}
 use Rattle.vp_search.specs.Differences.{sum_of_differences, block_in, block16}
 use Rattle.vp_search.specs.Blocks.{moved_block, predicted_block, whole_cost, quarter_cost}
@@ -23,20 +24,20 @@ use Rattle.vp_search.proofs.SumLemmas.{sum_of_differences-same}
 use Rattle.vp_search.proofs.OrderLemmas.{index, near_at}
 
 -- the cost of the vector at a place of the window
-pub cost_at : (block window : List ℕ) (range i j : ℕ) → window_cost block window range (vector_at range i j) ≡ sum_of_differences 16 16 (block_in block 0 16) (block_in window (i * 144 + j) 144)
+pub cost_at : (block window : List ℕ) (range i j : ℕ) → window_cost block window range (vector_at range i j) ≡ sum_of_differences 16 16 (block_in block 0 16) (block_in window (i * WINDOW_WIDTH + j) WINDOW_WIDTH)
 unfolding window_cost
 cost_at block window range i j =
     let r : unsigned_abs (pos i -ℤ pos range +ℤ pos range) ≡ i = omega (arith, ints) in
     let c : unsigned_abs (pos j -ℤ pos range +ℤ pos range) ≡ j = omega (arith, ints) in
-    ap₂ (λ x y. sum_of_differences 16 16 (block_in block 0 16) (block_in window (x * 144 + y) 144)) r c
+    ap₂ (λ x y. sum_of_differences 16 16 (block_in block 0 16) (block_in window (x * WINDOW_WIDTH + y) WINDOW_WIDTH)) r c
 
 -- the square of the window is filled
 abbrev pub IsFilled : List ℕ → Raster → Place → ℕ → Type 0
-IsFilled window p place range = (i j : ℕ) → i < 2 * range + 16 → j < 2 * range + 16 → get_or window (i * 144 + j) 0 ≡ searched_pixel p place range i j
+IsFilled window p place range = (i j : ℕ) → i < 2 * range + 16 → j < 2 * range + 16 → get_or window (i * WINDOW_WIDTH + j) 0 ≡ searched_pixel p place range i j
 
 -- the pixels of a vector's block in the window are those that it moves
 pub window_pixel : (window : List ℕ) (p : Raster) (place : Place) (range : ℕ) (v : WholeVector) → IsFilled window p place range → IsNear range v
-    → (r c : ℕ) → r < 16 → c < 16 → block_in window (window_place range v) 144 r c ≡ moved_block p place v r c
+    → (r c : ℕ) → r < 16 → c < 16 → block_in window (window_place range v) WINDOW_WIDTH r c ≡ moved_block p place v r c
 window_pixel window p place range v filled near r c rin cin =
     let x = index range v.row near.0 in
     let y = index range v.column near.1 in
@@ -48,7 +49,7 @@ window_pixel window p place range v filled near r c rin cin =
     let ey : v.column ≡ pos j -ℤ pos range = y.is in
     let e : unsigned_abs (v.row +ℤ pos range) ≡ i = omega (arith, ints) in
     let f : unsigned_abs (v.column +ℤ pos range) ≡ j = omega (arith, ints) in
-    let at : window_place range v + r * 144 + c ≡ (i + r) * 144 + (j + c) = omega arith in
+    let at : window_place range v + r * WINDOW_WIDTH + c ≡ (i + r) * WINDOW_WIDTH + (j + c) = omega arith in
     let column : pos (16 * place.column + (j + c)) -ℤ pos range ≡ pos (16 * place.column + c) +ℤ v.column = omega (arith, ints) in
     let row : pos (16 * place.row + (i + r)) -ℤ pos range ≡ pos (16 * place.row + r) +ℤ v.row = omega (arith, ints) in
     ap (λ (k : ℕ). get_or window k 0) at
@@ -60,7 +61,7 @@ pub window_cost-whole : (block window : List ℕ) (p : Raster) (place : Place) (
     → window_cost block window range v ≡ whole_cost (block16 block) p place v
 unfolding window_cost whole_cost
 window_cost-whole block window p place range v filled near =
-    sum_of_differences-same 16 16 (block_in block 0 16) (block16 block) (block_in window (window_place range v) 144) (moved_block p place v)
+    sum_of_differences-same 16 16 (block_in block 0 16) (block16 block) (block_in window (window_place range v) WINDOW_WIDTH) (moved_block p place v)
     (λ r c h k. let e : 0 + r * 16 + c ≡ r * 16 + c = omega arith in ap (λ (i : ℕ). get_or block i 0) e)
     (window_pixel window p place range v filled near)
 
@@ -129,7 +130,7 @@ quarter_cost-same f g p place v same = sum_of_differences-same 16 16 f g (predic
 
 -- the vector at a place with its cost
 pub kept_at : (block window : List ℕ) (range i j cost : ℕ) (v : WholeVector) → i ≤ 2 * range → j ≤ 2 * range → v ≡ vector_at range i j
-    → cost ≡ sum_of_differences 16 16 (block_in block 0 16) (block_in window (i * 144 + j) 144) → IsKept range (window_cost block window range) (record { vector = v; cost = cost })
+    → cost ≡ sum_of_differences 16 16 (block_in block 0 16) (block_in window (i * WINDOW_WIDTH + j) WINDOW_WIDTH) → IsKept range (window_cost block window range) (record { vector = v; cost = cost })
 kept_at block window range i j cost v hi hj e known = record {
   near = subst (λ (u : WholeVector). IsNear range u) (sym e) (near_at range i j hi hj);
   known = known ∙ sym (cost_at block window range i j) ∙ ap (window_cost block window range) (sym e);
@@ -137,7 +138,7 @@ kept_at block window range i j cost v hi hj e known = record {
 
 -- .. and it is no larger than itself
 pub taken_at : (block window : List ℕ) (range i j a cost : ℕ) (u v : WholeVector) → v ≡ vector_at range i j
-    → cost ≡ sum_of_differences 16 16 (block_in block 0 16) (block_in window (i * 144 + j) 144) → NoLarger a u cost v
+    → cost ≡ sum_of_differences 16 16 (block_in block 0 16) (block_in window (i * WINDOW_WIDTH + j) WINDOW_WIDTH) → NoLarger a u cost v
     → NoLarger a u (window_cost block window range (vector_at range i j)) (vector_at range i j)
 taken_at block window range i j a cost u v e known p =
     subst (λ (w : WholeVector). NoLarger a u (window_cost block window range (vector_at range i j)) w) e
@@ -152,17 +153,17 @@ kept_of range cost old new found p q (inr e) = subst (λ (f : Found). IsKept ran
 pub filled_more : (p : Raster) (place : Place) (range i : ℕ) (old new line : List ℕ) (left top : ℤ) → range ≤ 64 → 0 < p.width
     → line ≡ row_of p (nearest p.height top) → length line ≡ p.width
     → left ≡ pos (16 * place.column) -ℤ pos range → top ≡ pos (16 * place.row + i) -ℤ pos range
-    → ((k j : ℕ) → k < i → j < 2 * range + 16 → get_or old (k * 144 + j) 0 ≡ searched_pixel p place range k j)
-    → ((j : ℕ) → j < 2 * range + 16 → get_or new (i * 144 + j) 0 ≡ get_or line (nearest (length line) (left +ℤ pos j)) 0)
-    → ((k : ℕ) → k < i * 144 → get_or new k 0 ≡ get_or old k 0)
-    → (k j : ℕ) → k < i + 1 → j < 2 * range + 16 → get_or new (k * 144 + j) 0 ≡ searched_pixel p place range k j
+    → ((k j : ℕ) → k < i → j < 2 * range + 16 → get_or old (k * WINDOW_WIDTH + j) 0 ≡ searched_pixel p place range k j)
+    → ((j : ℕ) → j < 2 * range + 16 → get_or new (i * WINDOW_WIDTH + j) 0 ≡ get_or line (nearest (length line) (left +ℤ pos j)) 0)
+    → ((k : ℕ) → k < i * WINDOW_WIDTH → get_or new k 0 ≡ get_or old k 0)
+    → (k j : ℕ) → k < i + 1 → j < 2 * range + 16 → get_or new (k * WINDOW_WIDTH + j) 0 ≡ searched_pixel p place range k j
 filled_more p place range i old new line left top small wide e long el et done here before k j kin jin =
     elim (cases_lt k i) [
-      | inl less ↦ before (k * 144 + j) (omega arith) ∙ done k j less jin
+      | inl less ↦ before (k * WINDOW_WIDTH + j) (omega arith) ∙ done k j less jin
       | inr more ↦
           let same : k ≡ i = omega arith in
           let column : left +ℤ pos j ≡ pos (16 * place.column + j) -ℤ pos range = omega (arith, ints) in
-          ap (λ (n : ℕ). get_or new (n * 144 + j) 0) same
+          ap (λ (n : ℕ). get_or new (n * WINDOW_WIDTH + j) 0) same
           ∙ here j jin
           ∙ line_beyond p line (left +ℤ pos j) top e long wide
           ∙ ap₂ (reference_pixel p) column et

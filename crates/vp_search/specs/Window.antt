@@ -1,10 +1,11 @@
--- Inside the crate: the window of a reference that is searched: rows of 144 pixels, of which a square is filled.
+-- Inside the crate: the window of a reference that is searched: rows of one width, of which a square is filled.
 use Rattle.std.specs.Prelude.{◌≡◌, ℕ, pos, ◌+◌, ◌*◌, ◌+ℤ◌, ◌-ℤ◌, List, unsigned_abs}
 use Rattle.vp_base.specs.declared.place.Place.{Place}
 use Rattle.vp_base.specs.Raster.{Raster}
 use Rattle.vp_inter.specs.Inter.{reference_pixel}
 use Rattle.vp_search.specs.declared.vector.WholeVector.{WholeVector}
 use Rattle.vp_search.specs.declared.vector.Found.{Found}
+use Rattle.vp_search.specs.declared.window.TheConstants.{WINDOW_WIDTH}
 use Rattle.vp_search.specs.Vectors.{IsNear}
 use Rattle.vp_search.specs.Differences.{sum_of_differences, block_in}
 
@@ -19,11 +20,11 @@ vector_at range i j = record { row = pos i -ℤ pos range; column = pos j -ℤ p
 
 -- where a vector's block begins in the window
 abbrev pub window_place : ℕ → WholeVector → ℕ
-window_place range v = unsigned_abs (v.row +ℤ pos range) * 144 + unsigned_abs (v.column +ℤ pos range)
+window_place range v = unsigned_abs (v.row +ℤ pos range) * WINDOW_WIDTH + unsigned_abs (v.column +ℤ pos range)
 
 -- how much a block differs from what a vector moves there out of the window
 unfoldable pub window_cost : List ℕ → List ℕ → ℕ → WholeVector → ℕ
-window_cost block window range v = sum_of_differences 16 16 (block_in block 0 16) (block_in window (window_place range v) 144)
+window_cost block window range v = sum_of_differences 16 16 (block_in block 0 16) (block_in window (window_place range v) WINDOW_WIDTH)
 
 -- a vector within range with its cost
 pub record IsKept (range : ℕ) (cost : WholeVector → ℕ) (found : Found) : Type 0 where

@@ -20,19 +20,19 @@ pub(crate) fn sad_within(block: &[u8], window: &[u8], at: usize, stride: usize, 
     requires window { at + 15 * stride + 16 ≤ length window.now }
     ensures exact { result ≤ limit → result ≡ sum_of_differences 16 16 (block_in block.now 0 16) (block_in window.now at stride) }
     ensures over { limit < result → limit < sum_of_differences 16 16 (block_in block.now 0 16) (block_in window.now at stride) }
-    ensures bound { result ≤ 65280 }
+    ensures bound { result ≤ 16 * 16 * 255 }
 {
     let first = four_rows(block, window, 0, 16, at, stride);
     if first > limit {
         return first;
     }
-    let second = first + four_rows(block, window, 64, 16, at + 4 * stride, stride);
+    let second = first + four_rows(block, window, 4 * 16, 16, at + 4 * stride, stride);
     if second > limit {
         return second;
     }
-    let third = second + four_rows(block, window, 128, 16, at + 8 * stride, stride);
+    let third = second + four_rows(block, window, 8 * 16, 16, at + 8 * stride, stride);
     if third > limit {
         return third;
     }
-    third + four_rows(block, window, 192, 16, at + 12 * stride, stride)
+    third + four_rows(block, window, 12 * 16, 16, at + 12 * stride, stride)
 }

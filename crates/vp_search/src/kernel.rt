@@ -16,26 +16,29 @@ fn apart(p: u8x16, q: u8x16) -> u32x16
     (p.cast::<i32>() - q.cast::<i32>()).abs().cast::<u32>()
 }
 
+/// Two sums added, each of two differences at most.
 fn both(a: u32x16, b: u32x16) -> u32x16
-    requires a_in { (j : ℕ) → j < 16 → slice_index a j ≤ 510 }
-    requires b_in { (j : ℕ) → j < 16 → slice_index b j ≤ 510 }
+    requires a_in { (j : ℕ) → j < 16 → slice_index a j ≤ 2 * 255 }
+    requires b_in { (j : ℕ) → j < 16 → slice_index b j ≤ 2 * 255 }
     ensures { (j : ℕ) → j < 16 → slice_index result j ≡ slice_index a j + slice_index b j }
 {
     a + b
 }
 
+/// The squares of differences.
 fn squared(a: u32x16) -> u32x16
     requires { (j : ℕ) → j < 16 → slice_index a j ≤ 255 }
     ensures value { (j : ℕ) → j < 16 → slice_index result j ≡ slice_index a j * slice_index a j }
-    ensures range { (j : ℕ) → j < 16 → slice_index result j ≤ 65025 }
+    ensures range { (j : ℕ) → j < 16 → slice_index result j ≤ 255 * 255 }
 {
     a * a
 }
 
+/// The sum of all lanes, each a sum of four differences at most, or the square of one.
 fn total(a: u32x16) -> u32
-    requires { (j : ℕ) → j < 16 → slice_index a j ≤ 65535 }
+    requires { (j : ℕ) → j < 16 → slice_index a j ≤ 255 * 255 }
     ensures value { result ≡ sum_below 16 (slice_index a) }
-    ensures bound { result ≤ 1048560 }
+    ensures bound { result ≤ 16 * 255 * 255 }
 {
     a.strict_reduce_sum()
 }
@@ -52,7 +55,7 @@ pub(crate) fn four_rows(
     requires a_room { from_a + 3 * step_a + 16 ≤ length a.now }
     requires b_room { from_b + 3 * step_b + 16 ≤ length b.now }
     ensures value { result ≡ sum_of_differences 4 16 (block_in a.now from_a step_a) (block_in b.now from_b step_b) }
-    ensures bound { result ≤ 16320 }
+    ensures bound { result ≤ 4 * 16 * 255 }
 {
     let first = apart(load16(a, from_a), load16(b, from_b));
     let second = apart(load16(a, from_a + step_a), load16(b, from_b + step_b));
@@ -72,7 +75,7 @@ pub(crate) fn squares16(a: &[u8], b: &[u8], at: usize) -> u32
     requires a_room { at + 16 ≤ length a.now }
     requires b_room { at + 16 ≤ length b.now }
     ensures value { result ≡ sum_below 16 (λ j. squared_difference a.now b.now (at + j)) }
-    ensures bound { result ≤ 1040400 }
+    ensures bound { result ≤ 16 * 255 * 255 }
 {
     total(squared(apart(load16(a, at), load16(b, at))))
 }

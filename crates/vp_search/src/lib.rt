@@ -22,4 +22,4 @@ pub use least::first_least;
 pub use refinement::{refine, refine_block};
 pub use search::{full_search, search_block};
 pub use squares::sse;
-pub use vector::{Found, QuarterVector, Refined, WholeVector};
+pub use vector::{Found, QuarterVector, Refined, WholeVector, quarters};

@@ -7,14 +7,12 @@ ghost use Rattle.vp_search.specs.Window.{vector_at, window_cost, IsKept};
 
 use crate::difference::sad_within;
 use crate::vector::{Found, size, vector_at};
-
-/// How many pixels a row of the window has: a block, and 64 to each side.
-pub(crate) const STRIDE: usize = 144;
+use crate::window::WINDOW_WIDTH;
 
 /// The less of a known vector and the one at row `i` and column `j`.
 fn consider(block: &[u8], window: &[u8], range: u8, best: Found, i: usize, j: usize) -> Found
     requires block { 256 ≤ length block.now }
-    requires window { (2 * range + 16) * 144 ≤ length window.now }
+    requires window { (2 * range + 16) * WINDOW_WIDTH ≤ length window.now }
     requires range { range ≤ 64 }
     requires i { i ≤ 2 * range }
     requires j { j ≤ 2 * range }
@@ -23,7 +21,7 @@ fn consider(block: &[u8], window: &[u8], range: u8, best: Found, i: usize, j: us
     ensures old { NoLarger result.cost result.vector best.cost best.vector }
     ensures here { NoLarger result.cost result.vector (window_cost block.now window.now range (vector_at range i j)) (vector_at range i j) }
 {
-    let cost = sad_within(block, window, i * STRIDE + j, STRIDE, best.cost);
+    let cost = sad_within(block, window, i * WINDOW_WIDTH + j, WINDOW_WIDTH, best.cost);
     if cost > best.cost {
         return best;
     }
@@ -68,7 +66,7 @@ fn lesser(old: Found, new: Found) -> Found
 /// The less of a known vector and those of row `i`.
 fn consider_row(block: &[u8], window: &[u8], range: u8, best: Found, i: usize) -> Found
     requires block { 256 ≤ length block.now }
-    requires window { (2 * range + 16) * 144 ≤ length window.now }
+    requires window { (2 * range + 16) * WINDOW_WIDTH ≤ length window.now }
     requires range { range ≤ 64 }
     requires i { i ≤ 2 * range }
     requires best { IsKept range (window_cost block.now window.now range) best }
@@ -86,7 +84,7 @@ fn consider_row(block: &[u8], window: &[u8], range: u8, best: Found, i: usize) -
 /// The least vector of a window.
 pub(crate) fn search_outwards(block: &[u8], window: &[u8], range: u8) -> Found
     requires block { 256 ≤ length block.now }
-    requires window { (2 * range + 16) * 144 ≤ length window.now }
+    requires window { (2 * range + 16) * WINDOW_WIDTH ≤ length window.now }
     requires range { range ≤ 64 }
     ensures cost { result.cost ≡ window_cost block.now window.now range result.vector }
     ensures least { IsLeast range (window_cost block.now window.now range) result.vector }
@@ -94,7 +92,13 @@ pub(crate) fn search_outwards(block: &[u8], window: &[u8], range: u8) -> Found
 {
     let middle = usize::from(range);
     let vector = vector_at(middle, middle, range);
-    let cost = sad_within(block, window, middle * STRIDE + middle, STRIDE, u32::MAX);
+    let cost = sad_within(
+        block,
+        window,
+        middle * WINDOW_WIDTH + middle,
+        WINDOW_WIDTH,
+        u32::MAX,
+    );
     let mut best = consider_row(block, window, range, Found { vector, cost }, middle);
     for d in 0..middle {
         best = consider_row(block, window, range, best, middle - 1 - d);

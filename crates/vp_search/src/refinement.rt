@@ -53,7 +53,8 @@ pub fn refine_block(
     best_of(block, reference, place, halfway.vector, 1)
 }
 
-/// The best of `centre` and its eight neighbours at a distance.
+/// The best of `centre` and its eight neighbours at a distance. `centre` is a vector in whole pixels, which are at most 16,384
+/// either way, or one of its neighbours, which is two quarters further at most.
 fn best_of(
     block: &[u8; 256],
     reference: &Plane,
@@ -65,8 +66,8 @@ fn best_of(
     requires rows { 16 * place.row ≤ 16384 }
     requires wide { 0 < reference.now.width }
     requires high { 0 < reference.now.height }
-    requires row { unsigned_abs centre.row ≤ 100000 }
-    requires column { unsigned_abs centre.column ≤ 100000 }
+    requires row { unsigned_abs centre.row ≤ 4 * 16384 + 2 }
+    requires column { unsigned_abs centre.column ≤ 4 * 16384 + 2 }
     requires distance { unsigned_abs distance ≤ 2 }
     ensures cost { result.cost ≡ quarter_cost (block16 block.now) reference.now place result.vector }
     ensures best { IsBestOf (quarter_cost (block16 block.now) reference.now place) centre distance result.vector }
@@ -87,8 +88,8 @@ fn best_of(
 
 /// A vector, and then its eight neighbours at a distance, row after row.
 fn around(centre: QuarterVector, distance: i32) -> [QuarterVector; 9]
-    requires row { unsigned_abs centre.row ≤ 100000 }
-    requires column { unsigned_abs centre.column ≤ 100000 }
+    requires row { unsigned_abs centre.row ≤ 4 * 16384 + 2 }
+    requires column { unsigned_abs centre.column ≤ 4 * 16384 + 2 }
     requires distance { unsigned_abs distance ≤ 2 }
     ensures { result ≡ places centre distance }
 {
@@ -120,14 +121,14 @@ fn around(centre: QuarterVector, distance: i32) -> [QuarterVector; 9]
     ]
 }
 
-/// How much a block differs from what a vector predicts.
+/// How much a block differs from what a vector predicts, one that `best_of` tries.
 fn cost_of(block: &[u8; 256], reference: &Plane, place: Place, vector: QuarterVector) -> u32
     requires columns { 16 * place.column ≤ 16384 }
     requires rows { 16 * place.row ≤ 16384 }
     requires wide { 0 < reference.now.width }
     requires high { 0 < reference.now.height }
-    requires row { unsigned_abs vector.row ≤ 100002 }
-    requires column { unsigned_abs vector.column ≤ 100002 }
+    requires row { unsigned_abs vector.row ≤ 4 * 16384 + 4 }
+    requires column { unsigned_abs vector.column ≤ 4 * 16384 + 4 }
     ensures { result ≡ quarter_cost (block16 block.now) reference.now place vector }
 {
     let [x, y] = [16 * place.column, 16 * place.row];

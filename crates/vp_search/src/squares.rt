@@ -28,9 +28,9 @@ fn add_rest(a: &[u8], b: &[u8], start: usize, sum: u64) -> u64
     requires fits { length a.now < 2 ^ 48 }
     requires start { start ≤ length a.now }
     requires sum { sum ≡ sum_below start (squared_difference a.now b.now) }
-    requires bound { sum ≤ 65025 * start }
+    requires bound { sum ≤ 255 * 255 * start }
     ensures value { result ≡ sum_of_squares a.now b.now }
-    ensures bound { result ≤ 65025 * length a.now }
+    ensures bound { result ≤ 255 * 255 * length a.now }
 {
     let mut total = sum;
     for i in start..a.len() {
@@ -39,9 +39,10 @@ fn add_rest(a: &[u8], b: &[u8], start: usize, sum: u64) -> u64
     total
 }
 
+/// The square of how far two pixels are apart.
 fn squared_difference(x: u8, y: u8) -> u64
     ensures value { result ≡ abs_diff x y * abs_diff x y }
-    ensures bound { result ≤ 65025 }
+    ensures bound { result ≤ 255 * 255 }
 {
     let difference = u64::from(x.abs_diff(y));
     difference * difference

@@ -25,14 +25,18 @@ pub struct QuarterVector {
 /// A vector in whole pixels, and the sum of absolute differences that it leaves.
 #[derive(Clone, Copy, Debug, PartialEq, Eq)]
 pub struct Found {
+    /// From the macroblock to the pixels of the reference that it moves there.
     pub vector: WholeVector,
+    /// How much the source's luma differs from those pixels.
     pub cost: u32,
 }
 
 /// A vector in quarter pixels, and the sum of absolute differences that it leaves.
 #[derive(Clone, Copy, Debug, PartialEq, Eq)]
 pub struct Refined {
+    /// From the macroblock to where the reference predicts it.
     pub vector: QuarterVector,
+    /// How much the source's luma differs from that prediction.
     pub cost: u32,
 }
 
@@ -58,7 +62,7 @@ pub(crate) fn size(vector: WholeVector) -> u32
 }
 
 /// The same vector in quarter pixels.
-pub(crate) fn quarters(vector: WholeVector) -> QuarterVector
+pub fn quarters(vector: WholeVector) -> QuarterVector
     requires { IsNear 16384 vector }
     ensures { result ≡ quarters vector }
 {

@@ -1,38 +1,44 @@
 //! The window of a reference that is searched.
 
-ghost use Rattle.std.specs.Prelude.{◌≡◌, ℕ, ℤ, pos, negsuc, ◌+◌, ◌*◌, ◌<◌, ◌≤◌, ◌+ℤ◌, ◌≤ℤ◌, length, slice_index};
+ghost use Rattle.std.specs.Prelude.{◌≡◌, ℕ, pos, ◌+◌, ◌*◌, ◌<◌, ◌≤◌, ◌+ℤ◌, length, slice_index, unsigned_abs};
 ghost use Rattle.vp_inter.specs.Inter.{nearest};
 ghost use Rattle.vp_search.specs.Window.{searched_pixel};
 
-use crate::outward::STRIDE;
 use vp_base::{Place, Plane};
 use vp_inter::nearest;
+
+/// How far a search goes at most, in whole pixels.
+pub(crate) const GREATEST_RANGE: usize = 64;
+
+/// How many pixels each row of a window has, whatever the range: the sixteen of a block, and the greatest range on each
+/// side of it. A search of a lesser range fills the first of them, and reads no others.
+pub(crate) const WINDOW_WIDTH: usize = 16 + 2 * GREATEST_RANGE;
 
 /// Fills the window with the pixels round the macroblock at `place`, `range` of them to each side.
 pub(crate) fn cut_window(window: &mut [u8], reference: &Plane, place: Place, range: u8)
     requires range { range ≤ 64 }
-    requires room { (2 * range + 16) * 144 ≤ length window.old }
+    requires room { (2 * range + 16) * WINDOW_WIDTH ≤ length window.old }
     requires columns { 16 * place.column ≤ 16384 }
     requires rows { 16 * place.row ≤ 16384 }
     requires wide { 0 < reference.now.width }
     requires high { 0 < reference.now.height }
-    ensures { (i j : ℕ) → i < 2 * range + 16 → j < 2 * range + 16 → slice_index window.new (i * 144 + j) ≡ searched_pixel reference.now place range i j }
+    ensures { (i j : ℕ) → i < 2 * range + 16 → j < 2 * range + 16 → slice_index window.new (i * WINDOW_WIDTH + j) ≡ searched_pixel reference.now place range i j }
 {
     let side = 2 * usize::from(range) + 16;
     let left = (16 * place.column) as i32 - i32::from(range);
     let top = (16 * place.row) as i32 - i32::from(range);
     for i in 0..side {
         let line = reference.row(nearest(top + i as i32, reference.height()));
-        cut_row(window, i * STRIDE, side, line, left);
+        cut_row(window, i * WINDOW_WIDTH, side, line, left);
     }
 }
 
 /// Writes, from `at` on, the `side` numbers of `line` nearest to `left` and the places behind it.
 fn cut_row(window: &mut [u8], at: usize, side: usize, line: &[u8], left: i32)
     requires room { at + side ≤ length window.old }
-    requires side { side ≤ 144 }
+    requires side { side ≤ WINDOW_WIDTH }
     requires some { 0 < length line.now }
-    requires near { (negsuc 100000 ≤ℤ left) × (left ≤ℤ pos 100000) }
+    requires near { unsigned_abs left ≤ 16384 }
     ensures here { (c : ℕ) → c < side → slice_index window.new (at + c) ≡ slice_index line.now (nearest (length line.now) (left +ℤ pos c)) }
     ensures before { (k : ℕ) → k < at → slice_index window.new k ≡ slice_index window.old k }
 {

@@ -1,10 +1,9 @@
-use Rattle.std.proofs.Common.{◌≡◌, ◌∙◌, ℕ, ◌*◌, ℤ, to_z, of_z, w32, replicate, length, ap, arith, rules}
+use Rattle.std.proofs.Common.{◌≡◌, ◌∙◌, ◌≤◌, ℤ, to_z, of_z, w32, replicate, length, ap₂, arith, rules}
+use Rattle.std.specs.Prelude.{unsigned_abs}
 use Rattle.std.proofs.lemmas.Int.{ints}
-use Rattle.vp_base.specs.Raster.{Raster}
 use Rattle.vp_base.specs.Image.{Image}
 use Rattle.vp_motion.specs.Vector.{Vector}
 use Rattle.vp_inter.specs.declared.vector.PlaneVector.{PlaneVector}
-use Rattle.vp_inter.specs.Inter.{inter_pixel}
 use Rattle.vp_inter.specs.Vectors.{luma_vector, chroma_vector}
 use Rattle.vp_recon.specs.Source.{Inter}
 use Rattle.vp_recon.specs.Prediction.{luma_prediction, chroma_prediction}
@@ -12,64 +11,41 @@ use Rattle.vp_choose.specs.Inter.{vector_of}
 use Rattle.vp_choose.proofs.Moving.{luma_listed, chroma_listed}
 use Rattle.vp_choose.proofs.macroblock.inter_tokens.Goals as goal
 
+read : (z : ℤ) → unsigned_abs z ≤ 259 → to_z w32 (of_z w32 z) ≡ z
+read z short = omega (arith, ints)
+
+-- the vector of colour, from the parts as they are passed
+turned : (v : Vector) (w : PlaneVector) → unsigned_abs v.row ≤ 259 → unsigned_abs v.column ≤ 259
+    → w ≡ chroma_vector 0 (replicate 4 (to_z w32 (of_z w32 v.row))) (replicate 4 (to_z w32 (of_z w32 v.column)))
+    → w ≡ chroma_vector 0 (replicate 4 v.row) (replicate 4 v.column)
+turned v w row column is = is ∙ ap₂ (λ (y x : ℤ). chroma_vector 0 (replicate 4 y) (replicate 4 x)) (read v.row row) (read v.column column)
+
 pub returns-clause-luma : goal.returns-clause-luma
 returns-clause-luma c e p f are own =
     let v : Vector = vector_of c.args.moved.now in
     let reference : Image = c.args.reference.now in
-    let x : ℕ = 16 * c.args.place.column in
-    let y : ℕ = 16 * c.args.place.row in
-    let s = c.requires.short in
-    let row : to_z w32 (of_z w32 v.row) ≡ v.row = omega (arith, ints, s) in
-    let column : to_z w32 (of_z w32 v.column) ≡ v.column = omega (arith, ints, s) in
-    let vector : c.luma_vector-vector.result ≡ luma_vector v.row v.column =
-    c.luma_vector-vector.ensures
-    ∙ ap (λ (z : ℤ). luma_vector z (to_z w32 (of_z w32 v.column))) row
-    ∙ ap (λ (z : ℤ). luma_vector v.row z) column in
     let long : length c.predict_block16-prediction.result ≡ 256 = search rules in
     c.tokens_with_y2.ensures.luma f (luma_prediction (Inter e reference 0) c.args.place p)
-    own (luma_listed e v are reference c.args.place p c.predict_block16-prediction.result long (λ r j rin jin.
-    c.predict_block16-prediction.ensures r j rin jin
-    ∙ ap (λ (s : Raster). inter_pixel 0 s x y c.luma_vector-vector.result r j) c.plane-3.ensures
-    ∙ ap (λ (w : PlaneVector). inter_pixel 0 reference.luma x y w r j) vector))
+    own (luma_listed e v are reference c.args.place p c.plane-3.result.now c.luma_vector-vector.result c.predict_block16-prediction.result long c.plane-3.ensures
+    (c.luma_vector-vector.ensures ∙ ap₂ luma_vector (read v.row c.requires.short.0) (read v.column c.requires.short.1))
+    c.predict_block16-prediction.ensures)
 
 pub returns-clause-u : goal.returns-clause-u
 returns-clause-u c e p f are own k below =
     let v : Vector = vector_of c.args.moved.now in
     let reference : Image = c.args.reference.now in
-    let x : ℕ = 8 * c.args.place.column in
-    let y : ℕ = 8 * c.args.place.row in
-    let s = c.requires.short in
-    let row : to_z w32 (of_z w32 v.row) ≡ v.row = omega (arith, ints, s) in
-    let column : to_z w32 (of_z w32 v.column) ≡ v.column = omega (arith, ints, s) in
-    let vector : c.chroma_vector-vector.result ≡ chroma_vector 0 (replicate 4 v.row) (replicate 4 v.column) =
-    c.chroma_vector-vector.ensures
-    ∙ ap (λ (z : ℤ). chroma_vector 0 (replicate 4 z) (replicate 4 (to_z w32 (of_z w32 v.column)))) row
-    ∙ ap (λ (z : ℤ). chroma_vector 0 (replicate 4 v.row) (replicate 4 z)) column in
     let long : length c.predict_block8-u.result ≡ 64 = search rules in
     c.tokens_with_y2.ensures.u k below
     ∙ c.chroma_of-chroma.ensures.u f (chroma_prediction (Inter e reference 0) 1 c.args.place p)
-    own (chroma_listed e v are reference 1 c.args.place p c.predict_block8-u.result long (λ r j rin jin.
-    c.predict_block8-u.ensures r j rin jin
-    ∙ ap (λ (s : Raster). inter_pixel 0 s x y c.chroma_vector-vector.result r j) c.plane.ensures
-    ∙ ap (λ (w : PlaneVector). inter_pixel 0 reference.u x y w r j) vector)) k below
+    own (chroma_listed e v are reference 1 c.args.place p c.plane.result.now c.chroma_vector-vector.result c.predict_block8-u.result long c.plane.ensures
+    (turned v c.chroma_vector-vector.result c.requires.short.0 c.requires.short.1 c.chroma_vector-vector.ensures) c.predict_block8-u.ensures) k below
 
 pub returns-clause-v : goal.returns-clause-v
 returns-clause-v c e p f are own k below =
     let v : Vector = vector_of c.args.moved.now in
     let reference : Image = c.args.reference.now in
-    let x : ℕ = 8 * c.args.place.column in
-    let y : ℕ = 8 * c.args.place.row in
-    let s = c.requires.short in
-    let row : to_z w32 (of_z w32 v.row) ≡ v.row = omega (arith, ints, s) in
-    let column : to_z w32 (of_z w32 v.column) ≡ v.column = omega (arith, ints, s) in
-    let vector : c.chroma_vector-vector.result ≡ chroma_vector 0 (replicate 4 v.row) (replicate 4 v.column) =
-    c.chroma_vector-vector.ensures
-    ∙ ap (λ (z : ℤ). chroma_vector 0 (replicate 4 z) (replicate 4 (to_z w32 (of_z w32 v.column)))) row
-    ∙ ap (λ (z : ℤ). chroma_vector 0 (replicate 4 v.row) (replicate 4 z)) column in
     let long : length c.predict_block8-v.result ≡ 64 = search rules in
     c.tokens_with_y2.ensures.v k below
     ∙ c.chroma_of-chroma.ensures.v f (chroma_prediction (Inter e reference 0) 2 c.args.place p)
-    own (chroma_listed e v are reference 2 c.args.place p c.predict_block8-v.result long (λ r j rin jin.
-    c.predict_block8-v.ensures r j rin jin
-    ∙ ap (λ (s : Raster). inter_pixel 0 s x y c.chroma_vector-vector.result r j) c.plane-2.ensures
-    ∙ ap (λ (w : PlaneVector). inter_pixel 0 reference.v x y w r j) vector)) k below
+    own (chroma_listed e v are reference 2 c.args.place p c.plane-2.result.now c.chroma_vector-vector.result c.predict_block8-v.result long c.plane-2.ensures
+    (turned v c.chroma_vector-vector.result c.requires.short.0 c.requires.short.1 c.chroma_vector-vector.ensures) c.predict_block8-v.ensures) k below

@@ -38,17 +38,21 @@ returns-clause-with_y2 c first =
     let ch = c.args.chroma.now in
     let y = c.args.y2.now in
     let l = c.args.luma.now in
-    c.of_levels.ensures.spelled true (record {
-      before = λ k i below h.
-          let is = only_luma k i h in
-          let e : k ≡ 1 + (k - 1) = omega (arith, is) in
-          let row : get_or c.loop-n.all k [] ≡ get_or l (k - 1) [] =
-          c.loop-n.invariant.done k (omega arith) ∙ ap (λ (j : ℕ). gathered y l ch.u ch.v j) e ∙ gathered_luma y l ch.u ch.v (k - 1) (omega (arith, is)) in
-          ap (λ (j : ℕ). get_or (get_or c.loop-n.all k []) j (pos 0)) is.0
-          ∙ ap (λ (xs : List ℤ). get_or xs 0 (pos 0)) row
-          ∙ first (k - 1) (omega (arith, is));
-      no_y2 = λ e. absurd (let wrong : ⊥ = cc in wrong);
-    })
+    record {
+      tight = c.of_levels.ensures.tight;
+      none = c.of_levels.ensures.none;
+      spelled = c.of_levels.ensures.spelled true (record {
+        before = λ k i below h.
+            let is = only_luma k i h in
+            let e : k ≡ 1 + (k - 1) = omega (arith, is) in
+            let row : get_or c.loop-n.all k [] ≡ get_or l (k - 1) [] =
+            c.loop-n.invariant.done k (omega arith) ∙ ap (λ (j : ℕ). gathered y l ch.u ch.v j) e ∙ gathered_luma y l ch.u ch.v (k - 1) (omega (arith, is)) in
+            ap (λ (j : ℕ). get_or (get_or c.loop-n.all k []) j (pos 0)) is.0
+            ∙ ap (λ (xs : List ℤ). get_or xs 0 (pos 0)) row
+            ∙ first (k - 1) (omega (arith, is));
+        no_y2 = λ e. absurd (let wrong : ⊥ = cc in wrong);
+      });
+    }
 
 pub returns-clause-without_y2 : goal.returns-clause-without_y2
 returns-clause-without_y2 c none =
@@ -56,9 +60,13 @@ returns-clause-without_y2 c none =
     let ch = c.args.chroma.now in
     let y = c.args.y2.now in
     let l = c.args.luma.now in
-    c.of_levels.ensures.spelled false (record {
-      before = λ k i below h. absurd (all_begin k i h);
-      no_y2 = λ e i.
-          ap (λ (xs : List ℤ). get_or xs i (pos 0)) (c.loop-n.invariant.done 0 (omega arith) ∙ gathered_first y l ch.u ch.v 0 ∙ none)
-          ∙ zeros_at 16 i;
-    })
+    record {
+      tight = c.of_levels.ensures.tight;
+      none = c.of_levels.ensures.none;
+      spelled = c.of_levels.ensures.spelled false (record {
+        before = λ k i below h. absurd (all_begin k i h);
+        no_y2 = λ e i.
+            ap (λ (xs : List ℤ). get_or xs i (pos 0)) (c.loop-n.invariant.done 0 (omega arith) ∙ gathered_first y l ch.u ch.v 0 ∙ none)
+            ∙ zeros_at 16 i;
+      });
+    }

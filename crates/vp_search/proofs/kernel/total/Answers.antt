@@ -7,7 +7,7 @@ use Rattle.vp_search.proofs.kernel.total.Goals as goal
 
 pub overflow_add-result : goal.overflow_add-result
 overflow_add-result c =
-    let s : sum_l c.args.a ≤ 16 * 65535 = below_all 16 65535 c.args.a c.fits-a.0 c.requires in
+    let s : sum_l c.args.a ≤ 16 * 65025 = below_all 16 65025 c.args.a c.fits-a.0 c.requires in
     sum_fits w32 0 c.args.a (omega arith)
 
 pub returns-clause-value : goal.returns-clause-value
@@ -15,5 +15,5 @@ returns-clause-value c = fold-sum 0 c.args.a ∙ zero-add (sum_l c.args.a) ∙ s
 
 pub returns-clause-bound : goal.returns-clause-bound
 returns-clause-bound c =
-    let s : sum_l c.args.a ≤ 16 * 65535 = below_all 16 65535 c.args.a c.fits-a.0 c.requires in
+    let s : sum_l c.args.a ≤ 16 * 65025 = below_all 16 65025 c.args.a c.fits-a.0 c.requires in
     omega (arith, fold-sum 0 c.args.a)
