@@ -1,5 +1,7 @@
 //! Worked packets, one after another.
 
+ghost use Rattle.std.specs.Prelude.{◌≤◌};
+
 use crate::files::{HIDDEN, INTER, KEY};
 use std::alloc::{AllocError, Global};
 use std::test::Fail;
@@ -202,17 +204,44 @@ fn all_ones_partition(rt: HostRuntime) -> Result<(), Fail> {
     Ok(())
 }
 
+/// The rows of luma subblock 0, and of each subblock of colour, where all levels are -2114.
+const ALL_ONES: [[u8; 4]; 4] = [
+    [0, 255, 0, 0],
+    [255, 0, 255, 251],
+    [0, 255, 0, 5],
+    [0, 251, 5, 104],
+];
+
+/// The first of so many rows, each `width` bytes behind the one before, that doesn't begin so.
+fn other_row(bytes: &[u8], from: usize, width: usize, count: usize) -> Option<usize>
+    requires from { from ≤ 384 }
+    requires width { width ≤ 16 }
+    requires count { count ≤ 16 }
+{
+    for row in 0..count {
+        if !stands_at(bytes, from + width * row, &ALL_ONES[row % 4]) {
+            return Some(row);
+        }
+    }
+    None
+}
+
 #[test]
 fn all_ones_tokens(rt: HostRuntime) -> Result<(), Fail> {
     let packet = [0x10, 0, 0, 0x9d, 0x01, 0x2a, 16, 0, 16, 0, 0xff];
     let bytes = shown(rt.alloc(), &[&packet])?;
     assert_eq!(rt; bytes.len(), 384);
-    assert!(rt; stands_at(&bytes, 0, &[0, 255, 0, 0]));
-    assert!(rt; stands_at(&bytes, 16, &[255, 0, 255, 251]));
-    assert!(rt; stands_at(&bytes, 32, &[0, 255, 0, 5]));
-    assert!(rt; stands_at(&bytes, 48, &[0, 251, 5, 104]));
-    assert!(rt; stands_at(&bytes, 256, &[0, 255, 0, 0, 0, 255, 0, 0]));
-    assert!(rt; stands_at(&bytes, 376, &[0, 251, 5, 104, 0, 251, 5, 104]));
+    assert_eq!(rt; other_row(&bytes, 0, 16, 4), None, "luma subblock 0");
+    assert_eq!(rt;
+        other_row(&bytes, 256, 8, 16),
+        None,
+        "the left half of U and V"
+    );
+    assert_eq!(rt;
+        other_row(&bytes, 260, 8, 16),
+        None,
+        "the right half of U and V"
+    );
     Ok(())
 }
 
