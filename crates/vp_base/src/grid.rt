@@ -1,6 +1,6 @@
 //! One entry for each macroblock of a frame.
 
-ghost use Rattle.std.specs.Prelude.{◌≡◌, ◌≢◌, ◌≤◌, ◌<◌, ◌*◌, length, Some, IfOk};
+ghost use Rattle.std.specs.Prelude.{◌≡◌, ◌≢◌, ◌≤◌, ◌<◌, ◌*◌, length, Some, IfOk, []};
 ghost use Rattle.vp_base.specs.Grid.{Has, all, entry, with_entry};
 ghost use Rattle.vp_base.specs.declared.place.Place.{Place};
 
@@ -29,16 +29,24 @@ impl<T> Model for Grid<T> {
 
 impl<T: Copy> Grid<T> {
     /// A grid with `value` at each place.
-    #[tactic(auto, unfolding(crate::specs::Grid::repeated))]
     pub fn new(alloc: Global, columns: usize, rows: usize, value: T) -> Result<Grid<T>, AllocError>
         requires columns { columns ≤ 1024 }
         requires rows { rows ≤ 1024 }
         ensures { IfOk result (λ g. g ≡ all columns rows value) }
     {
-        let mut entries = Vec::with_capacity(alloc, rows * columns)?;
-        for _ in 0..rows * columns {
-            entries.push(value)?;
-        }
+        Grid::empty(alloc).refill(columns, rows, value)
+    }
+
+    /// A grid with `value` at each place, in the memory of this one: more is asked for only where that is too little.
+    #[tactic(auto, unfolding(crate::specs::Grid::repeated))]
+    pub fn refill(self, columns: usize, rows: usize, value: T) -> Result<Grid<T>, AllocError>
+        requires columns { columns ≤ 1024 }
+        requires rows { rows ≤ 1024 }
+        ensures { IfOk result (λ g. g ≡ all columns rows value) }
+    {
+        let mut entries = self.entries;
+        entries.truncate(0);
+        entries.resize(rows * columns, value)?;
         Ok(Grid {
             columns,
             rows,
@@ -72,6 +80,24 @@ impl<T: Copy> Grid<T> {
 }
 
 impl<T> Grid<T> {
+    /// A grid of no columns and no rows, for which no memory is asked.
+    pub fn empty(alloc: Global) -> Grid<T>
+        ensures { result ≡ record { columns = 0; rows = 0; entries = [] } }
+    {
+        Grid {
+            columns: 0,
+            rows: 0,
+            entries: Vec::new(alloc),
+        }
+    }
+
+    /// The entries alone, row after row.
+    pub fn into_entries(self) -> Vec<T>
+        ensures { result.items ≡ self.entries }
+    {
+        self.entries
+    }
+
     /// How many columns it has.
     pub fn columns(&self) -> usize
         ensures value { result ≡ self.now.columns }

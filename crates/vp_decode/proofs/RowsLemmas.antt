@@ -1,19 +1,22 @@
 -- The rows of a frame, rebuilt and filtered one behind.
-use Rattle.std.proofs.Common.{◌≡◌, ◌∙◌, ℕ, ◌-◌, ◌*◌, ◌<◌, ◌≤◌, List, Some, refl, sym, ap, subst, arith}
+use Rattle.std.proofs.Common.{◌≡◌, ◌∙◌, ℕ, ◌-◌, ◌*◌, ◌<◌, ◌≤◌, List, Some, sym, ap, subst, arith}
 use Rattle.vp_bool.specs.Bools.{State}
 use Rattle.vp_base.specs.declared.place.Place.{Place}
 use Rattle.vp_base.specs.Grid.{Grid, entry}
-use Rattle.vp_base.specs.Image.{Image, IsAligned, AreWhole, macroblocks, blank_image}
+use Rattle.vp_base.specs.Image.{Image, IsAligned, AreWhole, macroblocks}
 use Rattle.vp_base.specs.Over.{over}
 use Rattle.vp_base.specs.Rows.{AreOneSize, AreSameAbove, AreSameFrom}
-use Rattle.vp_base.proofs.OverLemmas.{over-holds, over-kept}
+use Rattle.vp_base.proofs.OverLemmas.{over-holds}
 use Rattle.vp_loop.specs.declared.strength.Level.{Level}
 use Rattle.vp_loop.specs.Filtered.{filtered, row_filtered, level_in}
 use Rattle.vp_recon.specs.Source.{Macroblock}
-use Rattle.vp_recon.specs.Rebuilt.{rebuilt, row_rebuilt}
+use Rattle.vp_recon.specs.Rebuilt.{rebuilt, row_rebuilt, all_rebuilt}
+use Rattle.vp_recon.specs.Equation.{IsUnfiltered}
 use Rattle.vp_decode.specs.Maps.{place}
-use Rattle.vp_decode.specs.Frame.{Plan, frame_of, level_at, tokens_of, unfiltered, picture_of}
+use Rattle.vp_decode.specs.Frame.{Plan, Frame, frame_of, level_at, tokens_of, unfiltered, picture_of}
+use Rattle.vp_decode.specs.Equation.{IsSolution}
 use Rattle.vp_decode.specs.Window.{IsShaped, IsBelow}
+use Rattle.vp_decode.proofs.SizeLemmas.{KeepsShape, unfiltered_shaped}
 use Rattle.vp_decode.proofs.WindowLemmas.{below_over}
 use Rattle.vp_decode.proofs.FilterLemmas.{row_by_entries}
 
@@ -72,17 +75,25 @@ row_keeps_shape laws width height row f p s =
 
 -- ---- the whole frame
 
--- all rows rebuilt, and then all filtered
-pub frame_made : (f : Plan) (ps : List State) (width height : ℕ) (p : Image) → p ≡ blank_image width height 0
+-- all rows rebuilt, and then all filtered, whatever stood in the picture before
+pub frame_made : KeepsShape → ((m : Place → Macroblock) (p : Image) → IsAligned p → IsUnfiltered m (all_rebuilt m p)) → ((f : Frame) (p : Image) → IsSolution f p → p ≡ unfiltered f)
+    → (f : Plan) (ps : List State) (width height : ℕ) (p : Image) → IsShaped width height p
     → over (macroblocks height) (row_filter f ps width height) (over (macroblocks height) (row_builder f ps width) p) ≡ picture_of (frame_of f ps width height)
-unfolding picture_of unfiltered filtered
-frame_made f ps width height p blank =
-    let q : Image = over (macroblocks height) (row_builder f ps width) (blank_image width height 0) in
-    let high : q.height ≡ height =
-    over-kept (λ (i : Image). i.height) (macroblocks height) (row_builder f ps width) (blank_image width height 0)
-    (λ k b. over-kept (λ (i : Image). i.height) (macroblocks width) _ b (λ column i. refl)) in
-    ap (λ (i : Image). over (macroblocks height) (row_filter f ps width height) (over (macroblocks height) (row_builder f ps width) i)) blank
-    ∙ ap (λ (n : ℕ). over (macroblocks n) (row_filter f ps width height) q) (sym high)
+unfolding picture_of filtered
+frame_made law solves one f ps width height p s =
+    let frame : Frame = frame_of f ps width height in
+    let made : Image = all_rebuilt frame.macroblock p in
+    let rows : over (macroblocks height) (row_builder f ps width) p ≡ made =
+    (λ i. over (macroblocks (sym s.height_is i)) (row_rebuilt (macroblocks (sym s.width_is i)) frame.macroblock) p) in
+    let is : IsSolution frame made = record {
+      width_is = (law.size frame.macroblock p).width ∙ s.width_is;
+      height_is = (law.size frame.macroblock p).height ∙ s.height_is;
+      aligned = law.aligned frame.macroblock p s.aligned;
+      whole = law.whole frame.macroblock p s.whole;
+      solves = solves frame.macroblock p s.aligned;
+    } in
+    ap (λ (q : Image). over (macroblocks height) (row_filter f ps width height) q) (rows ∙ one frame made is)
+    ∙ ap (λ (n : ℕ). over (macroblocks n) (row_filter f ps width height) (unfiltered frame)) (sym (unfiltered_shaped law frame).height_is)
 
 -- row k filtered by the levels that are found so far
 pub filtered_by_levels : (f : Plan) (ps : List State) (width height k : ℕ) (g : Grid Level) (p : Image)

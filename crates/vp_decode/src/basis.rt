@@ -1,10 +1,11 @@
 //! What a frame is decoded over.
 
 ghost use Rattle.std.specs.Prelude.{◌≡◌, Ok, Err, IfOk, MatchResult, option_map};
-ghost use Rattle.vp_decode.specs.Step.{standing, basis_of};
+ghost use Rattle.vp_decode.specs.Step.{standing, basis_of, maps_before};
 
 use crate::decoder::Kept;
-use std::alloc::{AllocError, Global};
+use crate::maps::Maps;
+use std::alloc::AllocError;
 use std::marker::Model;
 use std::rc::Rc;
 use vp_base::{Dim, Grid, Picture};
@@ -75,13 +76,22 @@ impl<'a> Basis<'a> {
         self.references
     }
 
-    /// The modes before the frame.
-    pub(crate) fn modes(&self, alloc: Global) -> Result<ModeMap, AllocError>
+    /// The maps before the frame, in the memory of `room`.
+    pub(crate) fn maps_before(&self, room: Maps) -> Result<Maps, AllocError>
+        ensures { IfOk result (λ m. m ≡ maps_before self.now.modes) }
+    {
+        let modes = self.modes(room.modes)?;
+        let motion = room.motion.refill(self.dim)?;
+        Ok(Maps { modes, motion })
+    }
+
+    /// The modes before the frame, in the memory of `room`.
+    fn modes(&self, room: ModeMap) -> Result<ModeMap, AllocError>
         ensures { IfOk result (λ m. m ≡ self.now.modes) }
     {
         match self.segments {
-            Some(segments) => ModeMap::of_segments(alloc, segments),
-            None => ModeMap::new(alloc, self.dim),
+            Some(segments) => room.refill_of(segments),
+            None => room.refill(self.dim),
         }
     }
 }

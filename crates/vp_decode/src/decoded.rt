@@ -12,13 +12,14 @@ use crate::maps::Maps;
 use crate::opening::Opening;
 use crate::plan::Plan;
 use crate::rebuilding::Rebuilding;
+use crate::room::Room;
 use std::alloc::{AllocError, Global};
+use std::mem;
 use std::rc::Rc;
 use vp_base::{Dim, Grid, Picture};
 use vp_head::{Header, Saved};
 use vp_loop::RowFilter;
 use vp_modes::Segment;
-use vp_motion::VectorMap;
 use vp_recon::unfiltered_picture_solves_its_equation;
 use vp_tokens::Partitions;
 
@@ -36,6 +37,7 @@ pub(crate) struct Decoded {
 /// The picture of a frame, from its token partitions.
 fn plan_picture<F: RowFilter>(
     alloc: Global,
+    room: &mut Room,
     plan: &Plan,
     dim: Dim,
     partitions: &Partitions,
@@ -47,8 +49,8 @@ fn plan_picture<F: RowFilter>(
     requires few { length partitions.now ≤ 8 }
     ensures { IfOk result (λ p. p ≡ picture_of (frame_of plan.now (map start partitions.now) dim.w dim.h)) }
 {
-    let rebuilding = Rebuilding::new(alloc, plan, dim)?;
-    Ok(rebuilding.picture(partitions, filter))
+    let rebuilding = Rebuilding::new(alloc, room, plan, dim)?;
+    Ok(rebuilding.picture(partitions, filter, room))
 }
 
 /// The last picture that was shown, where this one is shown or not.
@@ -68,9 +70,10 @@ fn shown_after(
     }
 }
 
-/// Decodes the frame of a packet.
+/// Decodes the frame of a packet, in the memory of `room`.
 pub(crate) fn decode_frame<F: RowFilter>(
     alloc: Global,
+    room: &mut Room,
     opening: Opening,
     filter: &mut F,
 ) -> Result<Decoded, AllocError>
@@ -83,19 +86,19 @@ pub(crate) fn decode_frame<F: RowFilter>(
 {
     unfiltered_picture_solves_its_equation();
     let basis = opening.basis;
-    let modes = basis.modes(alloc)?;
-    let motion = VectorMap::new(alloc, basis.dim)?;
-    let mut maps = Maps { modes, motion };
+    let mut maps = basis.maps_before(mem::replace(&mut room.maps, Maps::empty(alloc)))?;
     let mut first = opening.first;
     maps.read(&opening.header, &mut first);
-    let segments = maps.modes.segments(alloc)?;
+    let kept = mem::replace(&mut room.segments, Grid::empty(alloc));
+    let segments = maps.modes.segments_in(kept)?;
     let plan = Plan::new(
         &opening.header,
         opening.tag.version,
         basis.references(),
         maps,
     );
-    let picture = plan_picture(alloc, &plan, basis.dim, &opening.partitions, filter)?;
+    let picture = plan_picture(alloc, room, &plan, basis.dim, &opening.partitions, filter)?;
+    room.maps = plan.into_maps();
     let picture = Rc::new(alloc, picture)?;
     let shown = shown_after(opening.tag.show, &picture, basis.shown)?;
     Ok(Decoded {

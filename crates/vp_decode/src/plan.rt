@@ -128,6 +128,13 @@ impl<'a> Plan<'a> {
         }
     }
 
+    /// The maps, whose memory is used again.
+    pub(crate) fn into_maps(self) -> Maps
+        ensures { result ≡ self.entry.maps }
+    {
+        self.maps
+    }
+
     /// How many macroblocks a row has.
     pub(crate) fn columns(&self) -> usize
         ensures value { result ≡ self.now.maps.modes.columns }

@@ -2,7 +2,7 @@
 
 ghost use Rattle.std.specs.Prelude.{◌≡◌, ℕ, ◌+◌, ◌*◌, ◌<◌, ◌≤◌, IfOk, [], length, map, slice_index_or};
 ghost use Rattle.vp_base.specs.Grid.{Grid, Has, all};
-ghost use Rattle.vp_base.specs.Image.{blank_image, macroblocks};
+ghost use Rattle.vp_base.specs.Image.{macroblocks};
 ghost use Rattle.vp_bool.specs.Bools.{start};
 ghost use Rattle.vp_loop.specs.Filtered.{row_filtered, level_in};
 ghost use Rattle.vp_tokens.specs.Blocks.{Blocks, unread};
@@ -10,15 +10,20 @@ ghost use Rattle.vp_tokens.specs.Contexts.{StandsFor};
 ghost use Rattle.vp_decode.specs.Maps.{place};
 ghost use Rattle.vp_decode.specs.Frame.{frame_of, picture_of};
 ghost use Rattle.vp_decode.specs.Rebuilding.{IsStep, IsRow};
+ghost use Rattle.vp_decode.specs.Window.{IsShaped};
 
+use crate::laws::unfiltered_picture_is_the_one_solution;
 use crate::plan::Plan;
+use crate::room::Room;
 use std::alloc::{AllocError, Global};
 use std::marker::Model;
+use std::mem;
 use vp_base::{Dim, Grid, Picture, Place};
 use vp_bool::BoolDecoder;
 use vp_loop::{Level, RowFilter};
 use vp_recon::{
     rebuilding_keeps_rows_above, rebuilding_keeps_shape, rebuilding_reads_one_row_above,
+    unfiltered_picture_solves_its_equation,
 };
 use vp_tokens::{Block, Contexts, Partitions, Tokens};
 
@@ -51,9 +56,10 @@ impl<'a> Model for Rebuilding<'a> {
 }
 
 impl<'a> Rebuilding<'a> {
-    /// Before the first row, of a picture of this size, which starts as 0.
+    /// Before the first row, of a picture of this size, whatever stands in it, and in the memory of `room`.
     pub(crate) fn new(
         alloc: Global,
+        room: &mut Room,
         plan: &'a Plan<'a>,
         dim: Dim,
     ) -> Result<Rebuilding<'a>, AllocError>
@@ -61,12 +67,18 @@ impl<'a> Rebuilding<'a> {
         requires rows { plan.now.maps.modes.rows ≡ macroblocks dim.h }
         ensures plan { IfOk result (λ b. b.plan ≡ plan.now) }
         ensures contexts { IfOk result (λ b. StandsFor (all plan.now.maps.modes.columns plan.now.maps.modes.rows unread) (place 0 0) b.contexts) }
-        ensures picture { IfOk result (λ b. b.picture ≡ blank_image dim.w dim.h 0) }
+        ensures width { IfOk result (λ b. b.picture.width ≡ dim.w) }
+        ensures height { IfOk result (λ b. b.picture.height ≡ dim.h) }
+        ensures shaped { IfOk result (λ b. IsShaped b.picture.width b.picture.height b.picture) }
     {
         let columns = plan.columns();
-        let contexts = Contexts::new(alloc, columns)?;
-        let picture = Picture::new(alloc, dim, 0)?;
-        let levels = Grid::new(alloc, columns, plan.rows(), NO_LEVEL)?;
+        let picture = room.picture(alloc, dim)?;
+        let contexts = mem::replace(&mut room.contexts, Contexts::empty(alloc)).refill(columns)?;
+        let levels = mem::replace(&mut room.levels, Grid::empty(alloc)).refill(
+            columns,
+            plan.rows(),
+            NO_LEVEL,
+        )?;
         Ok(Rebuilding {
             plan,
             contexts,
@@ -127,12 +139,14 @@ impl<'a> Rebuilding<'a> {
     fn rows<F: RowFilter>(&mut self, decoders: &mut [BoolDecoder], filter: &mut F)
         requires some { 0 < length decoders.old }
         requires contexts { StandsFor (all self.old.plan.maps.modes.columns self.old.plan.maps.modes.rows unread) (place 0 0) self.old.contexts }
-        requires blank { self.old.picture ≡ blank_image self.old.picture.width self.old.picture.height 0 }
+        requires shaped { IsShaped self.old.picture.width self.old.picture.height self.old.picture }
         ensures { self.new.picture ≡ picture_of (frame_of self.old.plan decoders.old self.old.picture.width self.old.picture.height) }
     {
         rebuilding_keeps_shape();
         rebuilding_keeps_rows_above();
         rebuilding_reads_one_row_above();
+        unfiltered_picture_solves_its_equation();
+        unfiltered_picture_is_the_one_solution();
         let rows = self.plan.rows();
         for row in 0..rows {
             let at = row % decoders.len();
@@ -143,12 +157,17 @@ impl<'a> Rebuilding<'a> {
         self.filter_before(rows, filter);
     }
 
-    /// The frame's picture, from its token partitions.
-    pub(crate) fn picture<F: RowFilter>(mut self, parts: &Partitions, filter: &mut F) -> Picture
+    /// The frame's picture, from its token partitions. The rest goes back into `room`.
+    pub(crate) fn picture<F: RowFilter>(
+        mut self,
+        parts: &Partitions,
+        filter: &mut F,
+        room: &mut Room,
+    ) -> Picture
         requires some { 0 < length parts.now }
         requires few { length parts.now ≤ 8 }
         requires contexts { StandsFor (all self.plan.maps.modes.columns self.plan.maps.modes.rows unread) (place 0 0) self.contexts }
-        requires blank { self.picture ≡ blank_image self.picture.width self.picture.height 0 }
+        requires shaped { IsShaped self.picture.width self.picture.height self.picture }
         ensures { result ≡ picture_of (frame_of self.entry.plan (map start parts.now) self.entry.picture.width self.entry.picture.height) }
     {
         let mut decoders = [
@@ -163,6 +182,8 @@ impl<'a> Rebuilding<'a> {
         ];
         let count = parts.count();
         self.rows(&mut decoders[..count], filter);
+        room.contexts = self.contexts;
+        room.levels = self.levels;
         self.picture
     }
 }

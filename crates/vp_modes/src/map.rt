@@ -1,4 +1,4 @@
-ghost use Rattle.std.specs.Prelude.{◌≡◌, ◌≢◌, ◌<◌, ◌≤◌, Some, IfOk};
+ghost use Rattle.std.specs.Prelude.{◌≡◌, ◌≢◌, ◌<◌, ◌≤◌, Some, IfOk, []};
 ghost use Rattle.vp_base.specs.declared.place.Place.{Place};
 ghost use Rattle.vp_base.specs.Grid.{Has, all, entry, with_entry};
 ghost use Rattle.vp_base.specs.Image.{macroblocks};
@@ -49,14 +49,30 @@ fn plain_of(segment: Segment) -> Modes
 }
 
 impl ModeMap {
+    /// A map of no macroblocks, for which no memory is asked.
+    pub fn empty(alloc: Global) -> ModeMap
+        ensures { result ≡ record { columns = 0; rows = 0; entries = [] } }
+    {
+        ModeMap {
+            grid: Grid::empty(alloc),
+        }
+    }
+
     /// A map for frames of this size, in which every macroblock is intra, not skipped, of segment 0 and with DC modes.
-    #[tactic(auto, unfolding(crate::specs::Entry::plain))]
     pub fn new(alloc: Global, dim: Dim) -> Result<ModeMap, AllocError>
+        ensures { IfOk result (λ m. m ≡ all (macroblocks dim.w) (macroblocks dim.h) plain) }
+    {
+        ModeMap::empty(alloc).refill(dim)
+    }
+
+    /// The same, in the memory of this map.
+    #[tactic(auto, unfolding(crate::specs::Entry::plain))]
+    pub fn refill(self, dim: Dim) -> Result<ModeMap, AllocError>
         ensures { IfOk result (λ m. m ≡ all (macroblocks dim.w) (macroblocks dim.h) plain) }
     {
         let columns = usize::from(dim.mb_cols());
         let rows = usize::from(dim.mb_rows());
-        let grid = Grid::new(alloc, columns, rows, PLAIN)?;
+        let grid = self.grid.refill(columns, rows, PLAIN)?;
         Ok(ModeMap { grid })
     }
 
@@ -72,8 +88,17 @@ impl ModeMap {
     pub fn of_segments(alloc: Global, segments: &Grid<Segment>) -> Result<ModeMap, AllocError>
         ensures { IfOk result (λ m. m ≡ of_segments segments.now) }
     {
+        ModeMap::empty(alloc).refill_of(segments)
+    }
+
+    /// The same, in the memory of this map.
+    pub fn refill_of(self, segments: &Grid<Segment>) -> Result<ModeMap, AllocError>
+        ensures { IfOk result (λ m. m ≡ of_segments segments.now) }
+    {
         let kept = segments.as_slice();
-        let mut entries = Vec::with_capacity(alloc, kept.len())?;
+        let mut entries = self.grid.into_entries();
+        entries.truncate(0);
+        entries.reserve(kept.len())?;
         for segment in kept {
             entries.push(plain_of(*segment))?;
         }
@@ -85,8 +110,17 @@ impl ModeMap {
     pub fn segments(&self, alloc: Global) -> Result<Grid<Segment>, AllocError>
         ensures { IfOk result (λ g. g ≡ segments_of self.now) }
     {
+        self.segments_in(Grid::empty(alloc))
+    }
+
+    /// The same, in the memory of `room`.
+    pub fn segments_in(&self, room: Grid<Segment>) -> Result<Grid<Segment>, AllocError>
+        ensures { IfOk result (λ g. g ≡ segments_of self.now) }
+    {
         let entries = self.grid.as_slice();
-        let mut segments = Vec::with_capacity(alloc, entries.len())?;
+        let mut segments = room.into_entries();
+        segments.truncate(0);
+        segments.reserve(entries.len())?;
         for modes in entries {
             segments.push(Segment {
                 number: modes.segment,

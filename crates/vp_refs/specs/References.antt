@@ -1,5 +1,5 @@
 -- The pictures that later ones refer to (RFC 6386, chapters 5, 9.7 and 9.8).
-use Rattle.std.specs.Prelude.{◌||◌, if◌then◌else◌}
+use Rattle.std.specs.Prelude.{◌≡◌, ◌⊎◌, ◌||◌, if◌then◌else◌}
 use Rattle.vp_base.specs.Image.{Image}
 use Rattle.vp_head.specs.declared.fields.Header.{Header}
 use Rattle.vp_head.specs.declared.fields.ReferenceUpdates.{ReferenceUpdates}
@@ -14,6 +14,10 @@ pub record References : Type 0 where
   pub golden : Image
   pub alt : Image
   pub newest : Image
+
+-- p is the picture of a reference, or the newest
+abbrev pub IsOneOf : References → Image → Type 0
+IsOneOf refs p = (p ≡ refs.last) ⊎ (p ≡ refs.golden) ⊎ (p ≡ refs.alt) ⊎ (p ≡ refs.newest)
 
 -- what a key frame leaves: its picture is all of them
 abbrev pub all_of : Image → References

@@ -1,7 +1,7 @@
 //! The three pictures that inter frames are predicted from.
 
-ghost use Rattle.std.specs.Prelude.{◌≡◌, IfOk, OnOk, OnErr, if◌then◌else◌};
-ghost use Rattle.vp_refs.specs.References.{all_of, copied_by, picture_of, updated};
+ghost use Rattle.std.specs.Prelude.{◌≡◌, IfOk, IfSome, OnOk, OnErr, if◌then◌else◌};
+ghost use Rattle.vp_refs.specs.References.{IsOneOf, all_of, copied_by, picture_of, updated};
 
 use std::alloc::AllocError;
 use std::marker::Model;
@@ -56,6 +56,29 @@ impl Refs {
         ensures { result.now.value ≡ self.now.newest }
     {
         &self.newest
+    }
+
+    /// The same pictures, shared.
+    pub fn share(&self) -> Result<Refs, AllocError>
+        ensures { IfOk result (λ r. r ≡ self.now) }
+    {
+        Ok(Refs {
+            last: self.last.clone()?,
+            golden: self.golden.clone()?,
+            alt: self.alt.clone()?,
+            newest: self.newest.clone()?,
+        })
+    }
+
+    /// One of the pictures, where nothing else holds one; the others are let go.
+    pub fn into_unshared(self) -> Option<Picture>
+        ensures { IfSome result (λ p. IsOneOf self p) }
+    {
+        let last = Rc::into_inner(self.last);
+        let golden = Rc::into_inner(self.golden);
+        let alt = Rc::into_inner(self.alt);
+        let newest = Rc::into_inner(self.newest);
+        last.or(golden).or(alt).or(newest)
     }
 
     /// Takes a frame's picture, after its loop filter, and changes the references as its header says.

@@ -97,8 +97,13 @@ fn altref_is_copied_before_golden(rt: HostRuntime) -> Result<(), Fail> {
         copy_to_alt: ReferenceCopy::Last,
         ..NOTHING
     };
+    let before = refs.share()?;
     refs.update(&asking_for(copies), flat(rt.alloc(), dim, 3)?)?;
     assert_eq!(rt; corners(&refs), [Some(2), Some(2), Some(2), Some(3)]);
+    // The first picture is held by nothing else now.
+    assert_eq!(rt; corners(&before), [Some(2), Some(1), Some(1), Some(2)]);
+    let unshared = before.into_unshared().ok_or("a picture")?;
+    assert_eq!(rt; corner(&unshared), Some(1));
     Ok(())
 }
 

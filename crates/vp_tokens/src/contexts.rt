@@ -182,12 +182,32 @@ fn rightmost(blocks: &[Block; 25], y2: bool) -> [bool; 9]
 }
 
 impl Contexts {
+    /// Those of no columns, for which no memory is asked.
+    pub fn empty(alloc: Global) -> Contexts
+        ensures { result.above ≡ [] }
+    {
+        Contexts {
+            above: Vec::new(alloc),
+            left: [false; 9],
+        }
+    }
+
     /// Before the first macroblock of a frame of so many columns of macroblocks.
     pub fn new(alloc: Global, columns: usize) -> Result<Contexts, AllocError>
         ensures stands { IfOk result (λ c. (rows : ℕ) → StandsFor (all columns rows unread) (record { column = 0; row = 0 }) c) }
         ensures columns { IfOk result (λ c. length c.above ≡ columns) }
     {
-        let above = vec![in alloc; [false; 9]; columns]?;
+        Contexts::empty(alloc).refill(columns)
+    }
+
+    /// The same, in the memory of these.
+    pub fn refill(self, columns: usize) -> Result<Contexts, AllocError>
+        ensures stands { IfOk result (λ c. (rows : ℕ) → StandsFor (all columns rows unread) (record { column = 0; row = 0 }) c) }
+        ensures columns { IfOk result (λ c. length c.above ≡ columns) }
+    {
+        let mut above = self.above;
+        above.truncate(0);
+        above.resize(columns, [false; 9])?;
         Ok(Contexts {
             above,
             left: [false; 9],

@@ -1,27 +1,20 @@
-use Rattle.std.proofs.Common.{◌≡◌, ◌∙◌, ℕ, sym, ap, subst}
+use Rattle.std.proofs.Common.{◌≡◌, ◌∙◌, ap, subst}
 use Rattle.std.specs.Prelude.{Option, map}
 use Rattle.vp_bool.specs.Bools.{start}
-use Rattle.vp_base.specs.Grid.{Grid, all}
-use Rattle.vp_base.specs.Image.{Image, macroblocks}
-use Rattle.vp_modes.specs.Entry.{Modes}
+use Rattle.vp_base.specs.Image.{Image}
 use Rattle.vp_modes.specs.Map.{segments_of}
-use Rattle.vp_motion.specs.Vector.{Entry}
-use Rattle.vp_motion.specs.Map.{intra}
 use Rattle.vp_refs.specs.References.{References}
 use Rattle.vp_decode.specs.Maps.{Maps, maps_read}
 use Rattle.vp_decode.specs.Frame.{Plan, frame_of, picture_of}
 use Rattle.vp_decode.specs.Keeping.{IsWhole}
-use Rattle.vp_decode.specs.Step.{Basis, Opened, plan_of, said, shown_after}
+use Rattle.vp_decode.specs.Step.{Basis, Opened, maps_before, plan_of, said, shown_after}
 use Rattle.vp_decode.proofs.SizeLemmas.{left-one_size}
 use Rattle.vp_decode.proofs.decoded.decode_frame.Goals as goal
 
 -- the maps that are read are the plan's
-read_maps : (o : Opened) (w h : ℕ) (modes : Grid Modes) (motion : Grid Entry) (maps : Maps) → modes ≡ o.basis.modes → motion ≡ all (macroblocks w) (macroblocks h) intra
-    → o.basis.modes.columns ≡ macroblocks w → o.basis.modes.rows ≡ macroblocks h → maps ≡ (maps_read o.header (record { modes = modes; motion = motion }) o.first).0
-    → maps ≡ (plan_of o).maps
+read_maps : (o : Opened) (before maps : Maps) → before ≡ maps_before o.basis.modes → maps ≡ (maps_read o.header before o.first).0 → maps ≡ (plan_of o).maps
 unfolding plan_of
-read_maps o w h modes motion maps m v columns rows read =
-    read ∙ (λ i. (maps_read o.header (record { modes = m i; motion = (v ∙ (λ j. all (sym columns j) (sym rows j) intra)) i }) o.first).0)
+read_maps o before maps b read = read ∙ ap (λ (m : Maps). (maps_read o.header m o.first).0) b
 
 -- a plan of these maps is the frame's
 planned : (o : Opened) (references : Option References) (maps : Maps) → references ≡ o.basis.references → maps ≡ (plan_of o).maps
@@ -32,19 +25,13 @@ planned o references maps r m = λ i. record { header = o.header; version = o.ta
 pub returns-clause-segments : goal.returns-clause-segments
 returns-clause-segments g c =
     let o : Opened = record { tag = c.opening.inside.tag; basis = c.opening.inside.basis; header = c.opening.inside.header; saved = c.opening.inside.saved; first = c.opening.inside.first; partitions = c.opening.inside.partitions } in
-    let columns = ap (λ (b : Basis). b.modes.columns) (sym c.basis.view_is) ∙ c.basis.invariant.columns in
-    let rows = ap (λ (b : Basis). b.modes.rows) (sym c.basis.view_is) ∙ c.basis.invariant.rows in
-    let maps = read_maps o c.basis.inside.dim.w c.basis.inside.dim.h c.in_ok-modes.modes c.in_ok-motion.motion c.read.new.self
-    c.in_ok-modes.ensures c.in_ok-motion.ensures columns rows c.read.ensures.value in
+    let maps = read_maps o c.in_ok-maps.maps c.read.new.self c.in_ok-maps.ensures c.read.ensures.value in
     c.in_ok-segments.ensures ∙ ap (λ (m : Maps). segments_of m.modes) (c.maps.view_is ∙ maps) ∙ ap (λ (z : Opened). segments_of (plan_of z).maps.modes) c.opening.view_is
 
 pub returns-clause-picture : goal.returns-clause-picture
 returns-clause-picture g c =
     let o : Opened = record { tag = c.opening.inside.tag; basis = c.opening.inside.basis; header = c.opening.inside.header; saved = c.opening.inside.saved; first = c.opening.inside.first; partitions = c.opening.inside.partitions } in
-    let columns = ap (λ (b : Basis). b.modes.columns) (sym c.basis.view_is) ∙ c.basis.invariant.columns in
-    let rows = ap (λ (b : Basis). b.modes.rows) (sym c.basis.view_is) ∙ c.basis.invariant.rows in
-    let maps = read_maps o c.basis.inside.dim.w c.basis.inside.dim.h c.in_ok-modes.modes c.in_ok-motion.motion c.read.new.self
-    c.in_ok-modes.ensures c.in_ok-motion.ensures columns rows c.read.ensures.value in
+    let maps = read_maps o c.in_ok-maps.maps c.read.new.self c.in_ok-maps.ensures c.read.ensures.value in
     let plan = planned o _ _ c.references.ensures maps in
     let size : frame_of (plan_of o) (map start o.partitions) c.basis.inside.dim.w c.basis.inside.dim.h ≡ said o =
     ap (λ (b : Basis). frame_of (plan_of o) (map start o.partitions) b.width b.height) c.basis.view_is in

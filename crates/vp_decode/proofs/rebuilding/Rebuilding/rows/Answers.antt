@@ -9,10 +9,8 @@ use Rattle.vp_recon.specs.Rebuilt.{rebuilt}
 use Rattle.vp_tokens.specs.Blocks.{Blocks}
 use Rattle.vp_decode.specs.Maps.{place}
 use Rattle.vp_decode.specs.Frame.{Plan, frame_of, readings, rest_of, tokens_of, macroblock_at}
-use Rattle.vp_decode.specs.Window.{IsShaped}
 use Rattle.vp_decode.specs.Rebuilding.{Rebuilding, IsRow, IsOneFrame, AreRows}
 use Rattle.vp_decode.proofs.ReadingLemmas.{rows_none, rows_next, rows_kept, row_of_frame, seen_columns, seen_rows}
-use Rattle.vp_decode.proofs.SizeLemmas.{blank_shaped}
 use Rattle.vp_decode.proofs.FilterLemmas.{filter_is_above}
 use Rattle.vp_decode.proofs.WindowLemmas.{window_next, window_end}
 use Rattle.vp_decode.proofs.RowsLemmas.{Rebuilds, row_filter, row_builder, row_is_below, row_keeps_shape, filtered_by_levels, frame_made}
@@ -93,7 +91,7 @@ loop-row-preserved g c =
           (λ k below. filter_is_above p.width p.height k _ below)
           (λ s k below earlier. row_is_below laws p.width p.height s k (frame_of f ps 0 0).macroblock below earlier)
           (λ k below q shaped. row_keeps_shape laws p.width p.height k (frame_of f ps 0 0).macroblock q shaped)
-          (subst (IsShaped p.width p.height) (sym c.requires.blank) (blank_shaped p.width p.height)) within
+          c.requires.shaped within
           c.loop-row.invariant.picture
           (row_of_frame f ps row f.maps.modes.columns state c.row.new.d c.loop-row.self c.row.new.self own made
           ∙ ap (λ (n : ℕ). over n (λ column. rebuilt (macroblock_at f (place row column) (tokens_of f ps (place row column))) (place row column)) c.loop-row.self.picture) columns)
@@ -116,10 +114,12 @@ returns g c =
     let rows_all : c.rows-rows.result ≡ macroblocks p.height = omega arith in
     let level_columns : c.loop-row.self.levels.columns ≡ macroblocks p.width = c.loop-row.invariant.columns ∙ one.level_columns in
     let made : AreRows f ps c.loop-row.row c.loop-row.decoders c.loop-row.self = c.loop-row.invariant.rows in
+    let law = c.unfiltered_picture_solves_its_equation.ensures in
     window_end (macroblocks p.height) (row_filter f ps p.width p.height) (over (macroblocks p.height) (row_builder f ps p.width) p) c.loop-row.self.picture c.filter_before-2.new.self.picture
     (c.loop-row.invariant.picture ∙ ap (λ (n : ℕ). over (n - 1) (row_filter f ps p.width p.height) (over n (row_builder f ps p.width) p)) all)
     (λ none. c.filter_before-2.ensures.none (rows_all ∙ none))
     (λ k e. c.filter_before-2.ensures.one k (rows_all ∙ e)
     ∙ filtered_by_levels f ps p.width p.height k c.loop-row.self.levels c.loop-row.self.picture level_columns c.loop-row.invariant.width
     (λ column below. made.levels (place k column) (omega arith) (omega (arith, columns))))
-    ∙ frame_made f ps p.width p.height p c.requires.blank
+    ∙ frame_made (record { size = law.size; aligned = law.aligned; whole = law.whole }) law.solves c.unfiltered_picture_is_the_one_solution.ensures.one
+    f ps p.width p.height p c.requires.shaped
