@@ -1,5 +1,5 @@
 -- Lemmas on the two passes over a block.
-use Rattle.std.proofs.Common.{◌≡◌, ◌∙◌, ℕ, ◌+◌, ◌-◌, ◌*◌, ◌<◌, ◌≤◌, ℤ, pos, ◌+ℤ◌, List, get_or, ap, subst, sym, arith, inl, inr, min}
+use Rattle.std.proofs.Common.{◌≡◌, ◌∙◌, refl, ℕ, ◌+◌, ◌-◌, ◌*◌, ◌<◌, ◌≤◌, ℤ, pos, ◌+ℤ◌, List, get_or, ap, subst, sym, arith, inl, inr, min}
 use Rattle.std.proofs.lemmas.Int.{ints}
 use Rattle.std.proofs.lemmas.Nat.{row_fits}
 use Rattle.std.proofs.lemmas.Bool.{cases_lt}
@@ -37,6 +37,12 @@ inter_both version p x y v n rows same r c rin cin =
     filter_six-same (taps version (fraction v.row)) (λ k. get_or rows ((r + k) * n + c) 0)
     (λ k. across (taps version (fraction v.column)) p (start x v.column) (start y v.row) (r + k) c)
     (λ k kin. same (r + k) c (omega arith) cin)
+
+-- both passes, of weights and places that are as they should be
+pub inter_passes : (version : ℕ) (p : Raster) (x y : ℕ) (v : PlaneVector) (r c : ℕ)
+    → filter_six (taps version (fraction v.row)) (λ k. across (taps version (fraction v.column)) p (start x v.column) (start y v.row) (r + k) c) ≡ inter_pixel version p x y v r c
+unfolding inter_pixel
+inter_passes version p x y v r c = refl
 
 across_bound : (weights : List ℤ) (p : Raster) (left top : ℤ) (i c : ℕ) → across weights p left top i c ≤ 255
 unfolding across

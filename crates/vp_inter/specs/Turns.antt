@@ -1,9 +1,10 @@
 -- Inside the crate: the weights of six taps as lanes that are two weights by turns.
-use Rattle.std.specs.Prelude.{◌≡◌, ◌+◌, ◌*◌, ◌<◌, ◌≤ℤ◌, ℕ, ℤ, pos, List}
+use Rattle.std.specs.Prelude.{◌≡◌, ◌+◌, ◌*◌, ◌/◌, ◌%◌, ◌<◌, ◌≤ℤ◌, ℕ, zero, suc, ℤ, pos, List, slice_index}
 use Rattle.vp_lanes.specs.Lane.{lane}
 use Rattle.vp_inter.specs.Narrow.{weight, AreGentle}
 use Rattle.vp_inter.specs.declared.wide.Near.{Near}
 use Rattle.vp_inter.specs.declared.wide.Far.{Far}
+use Rattle.vp_inter.specs.declared.both.Pair.{Pair}
 
 -- sixteen lanes that are two weights by turns
 abbrev pub AreByTurns : List ℤ → ℤ → ℤ → Type 0
@@ -24,3 +25,28 @@ AreFar weights far =
 -- weights of six taps: those at both ends are above 0
 abbrev pub AreSix : List ℤ → Type 0
 AreSix weights = AreGentle weights × (pos 1 ≤ℤ weight weights 0) × (pos 1 ≤ℤ weight weights 5)
+
+-- the place of column c in a row that has its even columns before its odd ones
+abbrev pub half_place : ℕ → ℕ
+half_place c = 8 * (c % 2) + c / 2
+
+-- and in two such rows by turns, of the first (0) or of the second (1)
+abbrev pub pair_place : ℕ → ℕ → ℕ
+pair_place c t = 16 * (c % 2) + 2 * (c / 2) + t
+
+-- one of three
+abbrev pub one_of_three : List ℕ → List ℕ → List ℕ → ℕ → List ℕ
+one_of_three a b c zero = a
+one_of_three a b c (suc zero) = b
+one_of_three a b c (suc (suc _)) = c
+
+-- a run of pairs of rows that begins with an empty pair: each of every third row, from `from` on, and of the row three below
+abbrev pub HoldsPairs : List ℕ → (ℕ → ℕ → ℕ) → ℕ → ℕ → Type 0
+HoldsPairs run pixel from count =
+    (e c t : ℕ) → e < count → c < 16 → t < 2 → slice_index run (32 * (e + 1) + pair_place c t) ≡ pixel (3 * e + from + 3 * t) c
+
+-- the even and the odd columns of row r and of the row three below, by turns
+abbrev pub IsPair : Pair → (ℕ → ℕ → ℕ) → ℕ → Type 0
+IsPair pair pixel r =
+    (j t : ℕ) → j < 8 → t < 2
+    → (slice_index pair.even (2 * j + t) ≡ pixel (r + 3 * t) (2 * j)) × (slice_index pair.odd (2 * j + t) ≡ pixel (r + 3 * t) (2 * j + 1))

@@ -5,6 +5,7 @@ ghost use Rattle.vp_inter.specs.Filter.{filter_six};
 ghost use Rattle.vp_inter.specs.Narrow.{AreFew, AreGentle};
 ghost use Rattle.vp_inter.specs.Inter.{reference_pixel, across, inter_pixel, IsInside};
 
+use crate::both::six_both;
 use crate::filter::{ends_are_zero, pass, seconds_are_zero, taps};
 use crate::reference::{lies_inside, plain_row, reference_row};
 use crate::vector::{PlaneVector, fraction, start};
@@ -101,11 +102,43 @@ fn predict<const N: usize, const W: usize, const L: usize, const M: usize>(
         let rows = copied_rows::<N, L>(plane, left + 2, top, W);
         pass_columns::<N, M>(&mut block, &rows, &taps(version, down));
     } else {
-        let mut rows = [0; L];
-        pass_rows::<N, W>(&mut rows, plane, left, top, &taps(version, across), W);
-        pass_columns::<N, M>(&mut block, &rows, &taps(version, down));
+        let rows = taps(version, across);
+        let columns = taps(version, down);
+        pass_both::<N, W, L, M>(&mut block, plane, left, top, &rows, &columns);
     }
     block
+}
+
+/// Both passes. Between them stand `W` rows with `L` pixels, but for a large block and six weights that all count.
+fn pass_both<const N: usize, const W: usize, const L: usize, const M: usize>(
+    pixels: &mut [u8],
+    plane: &Plane,
+    left: i32,
+    top: i32,
+    row_weights: &[i16; 6],
+    column_weights: &[i16; 6],
+)
+    requires size { (0 < N) × (N ≤ 16) }
+    requires line { W ≡ N + 5 }
+    requires between { (L ≡ W * N) × (L ≤ 336) }
+    requires square { (M ≡ N * N) × (M ≤ 256) }
+    requires pieces { M % 16 ≡ 0 }
+    requires whole { length pixels.old ≡ M }
+    requires across { AreGentle row_weights.now }
+    requires down { AreGentle column_weights.now }
+    requires columns { 0 < plane.now.width }
+    requires height { 0 < plane.now.height }
+    requires near { (negsuc 400000000 ≤ℤ left) × (left ≤ℤ pos 400000000) }
+    requires beside { (negsuc 400000000 ≤ℤ top) × (top ≤ℤ pos 400000000) }
+    ensures { (r c : ℕ) → r < N → c < N → slice_index pixels.new (r * N + c) ≡ filter_six column_weights.now (λ k. across row_weights.now plane.now left top (r + k) c) }
+{
+    if N == 16 && both_ends_count(row_weights) && both_ends_count(column_weights) {
+        six_both(pixels, plane, left, top, row_weights, column_weights);
+        return;
+    }
+    let mut rows = [0; L];
+    pass_rows::<N, W>(&mut rows, plane, left, top, row_weights, W);
+    pass_columns::<N, M>(pixels, &rows, column_weights);
 }
 
 /// `rows` rows of the reference as they stand.

@@ -2,6 +2,7 @@
 #![tactic(auto)]
 
 mod block;
+mod both;
 mod filter;
 mod into;
 mod pairs;

@@ -79,6 +79,15 @@ pub(crate) fn pair_sums(a: u8x16, w: i8x16) -> i16x8
     ))
 }
 
+/// The sums by twos of sixteen bytes, times two weights by turns.
+pub(crate) fn turned_sums(a: u8x16, w: i8x16, even: i16, odd: i16) -> i16x8
+    requires turns { AreByTurns w even odd }
+    requires fits { ArePairable even odd }
+    ensures { (j : ℕ) → j < 8 → lane result j ≡ pair (slice_index a (2 * j)) (slice_index a (2 * j + 1)) even odd }
+{
+    pair_sums(a, w)
+}
+
 /// The sums by twos of the bytes from `at` on, times two weights by turns.
 pub(crate) fn turn_sums(s: &[u8], at: usize, w: i8x16, even: i16, odd: i16) -> i16x8
     requires room { at + 16 ≤ length s.now }

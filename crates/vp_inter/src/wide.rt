@@ -5,11 +5,11 @@ ghost use Rattle.vp_lanes.specs.Lane.{lane};
 ghost use Rattle.vp_inter.specs.Filter.{filter_six};
 ghost use Rattle.vp_inter.specs.Inter.{reference_pixel, across, IsInside};
 ghost use Rattle.vp_inter.specs.Narrow.{IsShort, sum_of_six, weight};
-ghost use Rattle.vp_inter.specs.Turns.{AreNear, AreFar, AreSix};
+ghost use Rattle.vp_inter.specs.Turns.{AreNear, AreFar, AreSix, one_of_three, half_place};
 
 use crate::block::put_lanes;
 use crate::filter::{ended, load};
-use crate::pairs::{by_turns, turn_sums};
+use crate::pairs::{by_turns, turn_sums, turned_sums};
 use crate::reference::reference_row;
 use std::simd::prelude::*;
 use vp_base::Plane;
@@ -83,7 +83,7 @@ fn sum_of_three(a: i16x8, b: i16x8, c: i16x8) -> i16x8
 }
 
 /// The eight bytes of each, by turns.
-fn zipped(even: u8x8, odd: u8x8) -> u8x16
+pub(crate) fn zipped(even: u8x8, odd: u8x8) -> u8x16
     ensures even { (j : ℕ) → j < 8 → slice_index result (2 * j) ≡ slice_index even j }
     ensures odd { (j : ℕ) → j < 8 → slice_index result (2 * j + 1) ≡ slice_index odd j }
 {
@@ -116,16 +116,15 @@ fn near_sums(s: &[u8], at: usize, weights: &[i16; 6], near: &Near) -> i16x8
 }
 
 /// The sums of six rows, of which those three apart stand by turns.
-fn far_sums(pairs: &[u8], at: usize, weights: &[i16; 6], far: &Far) -> i16x8
-    requires room { at + 80 ≤ length pairs.now }
+fn far_sums(a: u8x16, b: u8x16, c: u8x16, weights: &[i16; 6], far: &Far) -> i16x8
     requires six { AreSix weights.now }
     requires turns { AreFar weights.now far.now }
-    ensures { (j : ℕ) → j < 8 → lane result j ≡ sum_of_six weights.now (λ k. slice_index pairs.now (at + 32 * (k % 3) + (2 * j + k / 3))) }
+    ensures { (j : ℕ) → j < 8 → lane result j ≡ sum_of_six weights.now (λ k. slice_index (one_of_three a b c (k % 3)) (2 * j + k / 3)) }
 {
     sum_of_three(
-        turn_sums(pairs, at, far.first, weights[0], weights[3]),
-        turn_sums(pairs, at + 32, far.second, weights[1], weights[4]),
-        turn_sums(pairs, at + 64, far.third, weights[2], weights[5]),
+        turned_sums(a, far.first, weights[0], weights[3]),
+        turned_sums(b, far.second, weights[1], weights[4]),
+        turned_sums(c, far.third, weights[2], weights[5]),
     )
 }
 
@@ -140,23 +139,22 @@ fn near_eight(s: &[u8], at: usize, weights: &[i16; 6], near: &Near) -> u8x8
 }
 
 /// Eight pixels, each made of six rows, of which those three apart stand by turns.
-fn far_eight(pairs: &[u8], at: usize, weights: &[i16; 6], far: &Far) -> u8x8
-    requires room { at + 80 ≤ length pairs.now }
+pub(crate) fn far_eight(a: u8x16, b: u8x16, c: u8x16, weights: &[i16; 6], far: &Far) -> u8x8
     requires six { AreSix weights.now }
     requires turns { AreFar weights.now far.now }
-    ensures { (j : ℕ) → j < 8 → slice_index result j ≡ filter_six weights.now (λ k. slice_index pairs.now (at + 32 * (k % 3) + (2 * j + k / 3))) }
+    ensures { (j : ℕ) → j < 8 → slice_index result j ≡ filter_six weights.now (λ k. slice_index (one_of_three a b c (k % 3)) (2 * j + k / 3)) }
 {
-    ended::<8>(far_sums(pairs, at, weights, far))
+    ended::<8>(far_sums(a, b, c, weights, far))
 }
 
-/// Sixteen pixels, each made of six side by side, from its own place on.
-fn near_sixteen(s: &[u8], at: usize, weights: &[i16; 6], near: &Near) -> u8x16
+/// Sixteen pixels, each made of six side by side, from its own place on: those at even places before the others.
+fn near_halves(s: &[u8], at: usize, weights: &[i16; 6], near: &Near) -> u8x16
     requires room { at + 21 ≤ length s.now }
     requires six { AreSix weights.now }
     requires turns { AreNear weights.now near.now }
-    ensures { (j : ℕ) → j < 16 → slice_index result j ≡ filter_six weights.now (λ k. slice_index s.now (at + j + k)) }
+    ensures { (c : ℕ) → c < 16 → slice_index result (half_place c) ≡ filter_six weights.now (λ k. slice_index s.now (at + c + k)) }
 {
-    zipped(
+    joined(
         near_eight(s, at, weights, near),
         near_eight(s, at + 1, weights, near),
     )
@@ -169,14 +167,26 @@ fn far_sixteen(pairs: &[u8], at: usize, weights: &[i16; 6], far: &Far) -> u8x16
     requires turns { AreFar weights.now far.now }
     ensures { (j : ℕ) → j < 16 → slice_index result j ≡ filter_six weights.now (λ k. slice_index pairs.now (at + 32 * (k % 3) + (2 * j + k / 3))) }
 {
-    joined(
-        far_eight(pairs, at, weights, far),
-        far_eight(pairs, at + 16, weights, far),
-    )
+    let front = far_eight(
+        load(pairs, at),
+        load(pairs, at + 32),
+        load(pairs, at + 64),
+        weights,
+        far,
+    );
+    let back = far_eight(
+        load(pairs, at + 16),
+        load(pairs, at + 48),
+        load(pairs, at + 80),
+        weights,
+        far,
+    );
+    joined(front, back)
 }
 
-/// The horizontal pass over one row of the reference, straight from the plane if `INSIDE` says so.
-fn wide_row<const INSIDE: bool>(
+/// The horizontal pass over one row of the reference, straight from the plane if `INSIDE` says so: even columns before
+/// odd ones.
+pub(crate) fn halves_row<const INSIDE: bool>(
     plane: &Plane,
     left: i32,
     row: i32,
@@ -189,13 +199,20 @@ fn wide_row<const INSIDE: bool>(
     requires columns { 0 < plane.now.width }
     requires height { 0 < plane.now.height }
     requires near { (negsuc 400000000 ≤ℤ left) × (left ≤ℤ pos 400000000) }
-    ensures { (c : ℕ) → c < 16 → slice_index result c ≡ filter_six weights.now (λ k. reference_pixel plane.now (left +ℤ pos (c + k)) row) }
+    ensures { (c : ℕ) → c < 16 → slice_index result (half_place c) ≡ filter_six weights.now (λ k. reference_pixel plane.now (left +ℤ pos (c + k)) row) }
 {
     if INSIDE {
-        return near_sixteen(plane.row(row as usize), left as usize, weights, near);
+        return near_halves(plane.row(row as usize), left as usize, weights, near);
     }
     let line = reference_row::<21>(plane, left, row);
-    near_sixteen(&line, 0, weights, near)
+    near_halves(&line, 0, weights, near)
+}
+
+/// Sixteen pixels in their order, of which those at even places came before the others.
+fn in_order(halves: u8x16) -> u8x16
+    ensures { (c : ℕ) → c < 16 → slice_index result c ≡ slice_index halves (half_place c) }
+{
+    halves.swizzle::<16>([0, 8, 1, 9, 2, 10, 3, 11, 4, 12, 5, 13, 6, 14, 7, 15])
 }
 
 /// The horizontal pass over `rows` rows of the reference. The loop reads the weights from memory again and again: what
@@ -222,8 +239,8 @@ fn wide_rows<const INSIDE: bool>(
     ensures { (i c : ℕ) → i < rows → c < 16 → slice_index pixels.new (i * 16 + c) ≡ across weights.now plane.now left top i c }
 {
     for i in 0..rows {
-        let row = wide_row::<INSIDE>(plane, left, top + i as i32, weights, near);
-        put_lanes::<16>(pixels, i, row);
+        let halves = halves_row::<INSIDE>(plane, left, top + i as i32, weights, near);
+        put_lanes::<16>(pixels, i, in_order(halves));
     }
 }
 

@@ -6,7 +6,7 @@ use Rattle.vp_inter.specs.Vectors.{fraction, start}
 use Rattle.vp_inter.specs.Filter.{taps, filter_six}
 use Rattle.vp_inter.specs.Inter.{reference_pixel, across}
 use Rattle.vp_inter.proofs.Sums.{same, small_same}
-use Rattle.vp_inter.proofs.PassLemmas.{inter_both, inter_level, inter_whole, across_whole}
+use Rattle.vp_inter.proofs.PassLemmas.{inter_both, inter_passes, inter_level, inter_whole, across_whole}
 use Rattle.vp_inter.proofs.block.predict.Goals as goal
 
 pub returns-then-down-eq0-2 : goal.returns-then-down-eq0-2
@@ -42,17 +42,14 @@ returns-else-across-eq0-2 g c r k rin kin =
     small_same c.start-top.result (omega (arith, ints), omega (arith, ints)) ∙ (c.start-top.ensures.value ∙ ap (start c.args.y) row) in
     let across_is : c.fraction-across.result ≡ fraction c.args.vector.column = c.fraction-across.ensures.value ∙ ap fraction column in
     let down_is : c.fraction-down.result ≡ fraction c.args.vector.row = c.fraction-down.ensures.value ∙ ap fraction row in
-    let rows : List ℕ = c.pass_rows-else-across-eq0-2.new.pixels in
-    let first : c.taps-else-across-eq0-2.result ≡ taps c.args.version (fraction c.args.vector.column) = c.taps-else-across-eq0-2.ensures.value ∙ ap (taps c.args.version) across_is in
-    let second : c.taps-else-across-eq0-2-2.result ≡ taps c.args.version (fraction c.args.vector.row) = c.taps-else-across-eq0-2-2.ensures.value ∙ ap (taps c.args.version) down_is in
-    c.pass_columns-else-across-eq0-2.ensures r k rin kin
-    ∙ ap (λ (w : List ℤ). filter_six w (λ j. get_or rows ((r + j) * g.row.N + k) 0)) second
-    ∙ inter_both c.args.version p c.args.x c.args.y c.args.vector g.row.N rows
-    (λ i j iin jin. c.pass_rows-else-across-eq0-2.ensures i j (let h : i < g.row.W = omega arith in h) jin
-    ∙ ap (λ (w : List ℤ). across w p (same c.start-left.result) (same c.start-top.result) i j) first
-    ∙ ap (λ (z : ℤ). across (taps c.args.version (fraction c.args.vector.column)) p z (same c.start-top.result) i j) left
-    ∙ ap (λ (z : ℤ). across (taps c.args.version (fraction c.args.vector.column)) p (start c.args.x c.args.vector.column) z i j) top)
-    r k rin kin
+    let first : c.taps-rows.result ≡ taps c.args.version (fraction c.args.vector.column) = c.taps-rows.ensures.value ∙ ap (taps c.args.version) across_is in
+    let second : c.taps-columns.result ≡ taps c.args.version (fraction c.args.vector.row) = c.taps-columns.ensures.value ∙ ap (taps c.args.version) down_is in
+    c.pass_both.ensures r k rin kin
+    ∙ ap (λ (w : List ℤ). filter_six w (λ j. across c.taps-rows.result p (same c.start-left.result) (same c.start-top.result) (r + j) k)) second
+    ∙ ap (λ (w : List ℤ). filter_six (taps c.args.version (fraction c.args.vector.row)) (λ j. across w p (same c.start-left.result) (same c.start-top.result) (r + j) k)) first
+    ∙ ap (λ (z : ℤ). filter_six (taps c.args.version (fraction c.args.vector.row)) (λ j. across (taps c.args.version (fraction c.args.vector.column)) p z (same c.start-top.result) (r + j) k)) left
+    ∙ ap (λ (z : ℤ). filter_six (taps c.args.version (fraction c.args.vector.row)) (λ j. across (taps c.args.version (fraction c.args.vector.column)) p (start c.args.x c.args.vector.column) z (r + j) k)) top
+    ∙ inter_passes c.args.version p c.args.x c.args.y c.args.vector r k
 
 pub returns-then-across-eq0-2 : goal.returns-then-across-eq0-2
 returns-then-across-eq0-2 g c r k rin kin =

@@ -1,4 +1,4 @@
-use Rattle.std.proofs.Common.{◌∙◌, ℕ, ◌+◌, ◌*◌, ◌/◌, ◌%◌, ℤ, pos, ◌+ℤ◌, List, ap, get_or, w16}
+use Rattle.std.proofs.Common.{◌∙◌, ◌+◌, ◌*◌, ℤ, pos, ◌+ℤ◌, ap, get_or, w16}
 use lib.Signed.{shr_z}
 use Rattle.vp_lanes.specs.Lane.{to_byte}
 use Rattle.vp_inter.proofs.LongLanes.{passed}
@@ -7,7 +7,6 @@ use Rattle.vp_inter.proofs.wide.far_eight.Goals as goal
 
 pub returns : goal.returns
 returns c j h =
-    let s : List ℕ = c.args.pairs.now in
     c.ended.ensures j h
     ∙ ap (λ (z : ℤ). to_byte (shr_z z 128 +ℤ pos 128)) (passed w16 8 c.far_sums.result _ c.far_sums.type_inv j h ∙ c.far_sums.ensures j h)
-    ∙ whole_is c.args.weights.now (get_or s (c.args.at + 32 * (0 % 3) + (2 * j + 0 / 3)) 0) (get_or s (c.args.at + 32 * (1 % 3) + (2 * j + 1 / 3)) 0) (get_or s (c.args.at + 32 * (2 % 3) + (2 * j + 2 / 3)) 0) (get_or s (c.args.at + 32 * (3 % 3) + (2 * j + 3 / 3)) 0) (get_or s (c.args.at + 32 * (4 % 3) + (2 * j + 4 / 3)) 0) (get_or s (c.args.at + 32 * (5 % 3) + (2 * j + 5 / 3)) 0)
+    ∙ whole_is c.args.weights.now (get_or c.args.a (2 * j + 0) 0) (get_or c.args.b (2 * j + 0) 0) (get_or c.args.c (2 * j + 0) 0) (get_or c.args.a (2 * j + 1) 0) (get_or c.args.b (2 * j + 1) 0) (get_or c.args.c (2 * j + 1) 0)

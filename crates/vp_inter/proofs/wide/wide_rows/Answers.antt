@@ -5,8 +5,8 @@ use Rattle.vp_inter.specs.Inter.{reference_pixel, across}
 use Rattle.vp_inter.proofs.PassLemmas.{rows_more}
 use Rattle.vp_inter.proofs.wide.wide_rows.Goals as goal
 
-pub wide_row-row-requires-clause-inside : goal.wide_row-row-requires-clause-inside
-wide_row-row-requires-clause-inside g c t = let i = c.requires.inside t in (omega (arith, ints), omega (arith, ints), omega (arith, ints), omega (arith, ints))
+pub halves_row-halves-requires-clause-inside : goal.halves_row-halves-requires-clause-inside
+halves_row-halves-requires-clause-inside g c t = let i = c.requires.inside t in (omega (arith, ints), omega (arith, ints), omega (arith, ints), omega (arith, ints))
 
 pub loop-i-preserved : goal.loop-i-preserved
 unfolding across
@@ -16,9 +16,9 @@ loop-i-preserved g c =
     let row : to_z w32 (of_z w32 (top +ℤ to_z w32 c.loop-i.i)) ≡ top +ℤ pos c.loop-i.i = omega (arith, ints) in
     record {
       size = search rules;
-      done = rows_more 16 c.loop-i.i c.loop-i.pixels c.put_lanes.new.pixels c.wide_row-row.result (across c.args.weights.now c.args.plane.now left top)
+      done = rows_more 16 c.loop-i.i c.loop-i.pixels c.put_lanes.new.pixels c.in_order.result (across c.args.weights.now c.args.plane.now left top)
           c.loop-i.invariant.done c.put_lanes.ensures.here c.put_lanes.ensures.before
-          (λ k kin. c.wide_row-row.ensures k kin ∙ ap (λ (z : ℤ). filter_six c.args.weights.now (λ j. reference_pixel c.args.plane.now (left +ℤ pos (k + j)) z)) row);
+          (λ k kin. c.in_order.ensures k kin ∙ c.halves_row-halves.ensures k kin ∙ ap (λ (z : ℤ). filter_six c.args.weights.now (λ j. reference_pixel c.args.plane.now (left +ℤ pos (k + j)) z)) row);
     }
 
 pub returns : goal.returns

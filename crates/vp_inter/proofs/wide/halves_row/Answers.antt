@@ -6,7 +6,7 @@ use Rattle.vp_base.specs.Raster.{Raster}
 use Rattle.vp_inter.specs.Inter.{reference_pixel}
 use Rattle.vp_inter.proofs.FilterLemmas.{filter_six-same}
 use Rattle.vp_inter.proofs.ReferenceLemmas.{line_straight}
-use Rattle.vp_inter.proofs.wide.wide_row.Goals as goal
+use Rattle.vp_inter.proofs.wide.halves_row.Goals as goal
 
 -- a bool that isn't 0
 is_set : (n : ℕ) → (n ≡ 0 → ⊥) → not (eqb n 0) ≡ true
@@ -19,7 +19,7 @@ returns-then-this-ne0 g c k kin =
     let line : List ℕ = c.row.result.now in
     let start : ℕ = nat_abs (to_z w32 (of_z w32 c.args.left)) in
     let y : ℕ = nat_abs (to_z w32 (of_z w32 c.args.row)) in
-    c.near_sixteen.ensures k kin
+    c.near_halves.ensures k kin
     ∙ filter_six-same w (λ i. get_or line (start + k + i) 0) (λ i. reference_pixel p (c.args.left +ℤ pos (k + i)) c.args.row)
     (λ i iin.
     let place : start + k + i ≡ start + (k + i) = omega arith in
@@ -34,7 +34,7 @@ returns g c k kin =
     let w : List ℤ = c.args.weights.now in
     let line : List ℕ = c.reference_row-line.result in
     let row : ℤ = to_z w32 (of_z w32 c.args.row) in
-    c.near_sixteen-2.ensures k kin
+    c.near_halves-2.ensures k kin
     ∙ filter_six-same w (λ i. get_or line (0 + k + i) 0) (λ i. reference_pixel p (c.args.left +ℤ pos (k + i)) c.args.row)
     (λ i iin.
     let place : 0 + k + i ≡ k + i = omega arith in
