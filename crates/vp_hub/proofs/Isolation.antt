@@ -178,6 +178,18 @@ run_more s (d ∷ es) (p ∷ os) mid e o new run step = (run.0, run.1, run_more 
 run_more s [] (p ∷ os) mid e o new run step = absurd run
 run_more s (d ∷ es) [] mid e o new run step = absurd run
 
+-- one run behind another is a run
+pub runs_joined : (s : State) (es : List Event) (os : List Outcome) (mid : State) (fs : List Event) (ps : List Outcome) (new : State)
+    → IsRun s es os mid → IsRun mid fs ps new → IsRun s (es ++ fs) (os ++ ps) new
+runs_joined s [] [] mid fs ps new run more = subst (λ x. IsRun x fs ps new) run more
+runs_joined s (d ∷ es) (p ∷ os) mid fs ps new run more = (run.0, run.1, runs_joined run.0 es os mid fs ps new run.2 more)
+runs_joined s [] (p ∷ os) mid fs ps new run more = absurd run
+runs_joined s (d ∷ es) [] mid fs ps new run more = absurd run
+
+pub joined_at_end : (s : State) (es : List Event) (os : List Outcome) (mid : State) (fs : List Event) (ps : List Outcome) (new : State) (i : ℕ)
+    → length fs ≤ i → IsRun s es os mid → IsRun mid (take i fs) ps new → IsRun s (es ++ fs) (os ++ ps) new
+joined_at_end s es os mid fs ps new i h run more = runs_joined s es os mid fs ps new run (subst (λ xs. IsRun mid xs ps new) (take_all i fs h) more)
+
 pub isolated_at_end : (s : State) (es : List Event) (os : List Outcome) (new : State) (i : ℕ) → length es ≤ i → IsRun s (take i es) os new → IsIsolated s es os new
 isolated_at_end s es os new i h run = isolated s es os new (subst (λ xs. IsRun s xs os new) (take_all i es h) run)
 

@@ -10,7 +10,7 @@ use Rattle.vp_hub.specs.declared.event.Event.{Event}
 use Rattle.vp_hub.specs.Hub.{Chosen, Outcome, ends_head, Settles, TakesByte, Serves, IsStep}
 use Rattle.vp_cache.specs.Kept.{State as Cache}
 use Rattle.std.specs.Prelude.{Result, Ok, Err, OnErr, slice_index}
-use Rattle.std.proofs.lemmas.List.{take-append-drop, drop_more}
+use Rattle.std.proofs.lemmas.List.{take-append-drop, take_all, drop_more}
 use Rattle.vp_stream.specs.Seeking.{counted}
 use Rattle.vp_hub.specs.Work.{CostsByte, CostsByteAtMost, Costs, CostsAtMost, Whole, IsWorked, IsWorkedRun}
 
@@ -131,3 +131,15 @@ worked_more s [] [] mid e o new run step work =
 worked_more s (d ∷ es) (p ∷ os) mid e o new run step work = (run.0, run.1, run.2, worked_more run.0 es os mid e o new run.3 step work)
 worked_more s [] (p ∷ os) mid e o new run step work = absurd run
 worked_more s (d ∷ es) [] mid e o new run step work = absurd run
+
+pub worked_joined : (s : Whole) (es : List Event) (os : List Outcome) (mid : Whole) (fs : List Event) (ps : List Outcome) (new : Whole)
+    → IsWorkedRun s es os mid → IsWorkedRun mid fs ps new → IsWorkedRun s (es ++ fs) (os ++ ps) new
+worked_joined s [] [] mid fs ps new run more = subst (λ (x : Whole). IsWorkedRun x fs ps new) run more
+worked_joined s (d ∷ es) (p ∷ os) mid fs ps new run more = (run.0, run.1, run.2, worked_joined run.0 es os mid fs ps new run.3 more)
+worked_joined s [] (p ∷ os) mid fs ps new run more = absurd run
+worked_joined s (d ∷ es) [] mid fs ps new run more = absurd run
+
+pub worked_joined_at_end : (s : Whole) (es : List Event) (os : List Outcome) (mid : Whole) (fs : List Event) (ps : List Outcome) (new : Whole) (i : ℕ)
+    → length fs ≤ i → IsWorkedRun s es os mid → IsWorkedRun mid (take i fs) ps new → IsWorkedRun s (es ++ fs) (os ++ ps) new
+worked_joined_at_end s es os mid fs ps new i h run more =
+    worked_joined s es os mid fs ps new run (subst (λ xs. IsWorkedRun mid xs ps new) (take_all i fs h) more)

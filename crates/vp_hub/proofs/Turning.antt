@@ -3,9 +3,9 @@ use Rattle.std.proofs.Common.{◌≡◌, ◌++◌, ℕ, List, [], ◌∷◌, Opt
 use Rattle.std.specs.List.{concat}
 use Rattle.vp_hub.specs.Pages.{Streams}
 use Rattle.vp_hub.specs.declared.connection.Link.{Link}
-use Rattle.vp_hub.specs.Hub.{Chosen, Outcome, Serves}
+use Rattle.vp_hub.specs.Hub.{Chosen, Outcome}
 use Rattle.vp_hub.specs.Heads.{Answers, IsPartial}
-use Rattle.vp_hub.specs.View.{Seen, Fed, Over, Opened, Got, Gone, Lost, Sight, See, AsksAgain, Leads, open_again, with_link_of}
+use Rattle.vp_hub.specs.View.{Seen, Fed, Over, Opened, Got, Gone, Lost, Sight, AsksAgain, Leads, open_again}
 use Rattle.vp_hub.specs.Turns.{AreCutInTurn, HistoriesAreCut, bytes_seen, keeps}
 use Rattle.vp_hub.proofs.Cutting.{cut_into_heads, no_bytes_yet}
 use Rattle.vp_hub.proofs.Kept.{answers_partial, not_gone}

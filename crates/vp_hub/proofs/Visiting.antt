@@ -1,5 +1,5 @@
 -- What is read and replied while one connection is served.
-use Rattle.std.proofs.Common.{◌≡◌, ◌≢◌, ◌==◌, ◌++◌, ◌+◌, ◌^◌, ℕ, List, [], ◌∷◌, Option, Some, None, Result, Ok, Err, cond, refl, ap, sym, subst, ◌∙◌, append_assoc, append-nil, arith, Bool, true, false, nat_lt, length, option_map, inl, inr, not}
+use Rattle.std.proofs.Common.{◌≡◌, ◌≢◌, ◌==◌, ◌++◌, ◌+◌, ◌^◌, ◌<◌, ◌≤◌, ℕ, List, [], ◌∷◌, Option, Some, None, Result, Ok, Err, cond, refl, ap, sym, subst, ◌∙◌, append_assoc, append-nil, arith, Bool, true, false, nat_lt, length, option_map, inl, inr, not}
 use Rattle.std.specs.Prelude.{All}
 use Rattle.std.specs.List.{concat}
 use Rattle.std.specs.Option.{option_to_list}
@@ -9,6 +9,7 @@ use Rattle.std.proofs.lemmas.Bool.Decides.{nat_tests}
 use Rattle.std.proofs.lemmas.List.{length_push}
 use Rattle.std.proofs.lemmas.List.Elements.{All-push}
 use Rattle.std.proofs.lemmas.List.Folds.{concat-append}
+use Rattle.vp_base.specs.Counted.{one_more, HasRisenBy}
 use Rattle.vp_base.proofs.Writes.{appends_none, appends_both, front_second}
 use Rattle.vp_heads.specs.Replies.{too_long}
 use Rattle.vp_hub.specs.declared.event.Event.{Event}
@@ -458,3 +459,18 @@ gone c old first last new reply o h apart step =
           ∙ (ap (λ (ss : Streams). record { streams = ss; connections = without c last.connections }) streams
           ∙ ap (λ (ys : List Connection). record { streams = old.streams; connections = ys }) left),
     )
+
+-- ---- the reads
+
+pub risen_at_most : (n old new : ℕ) → HasRisenBy n old new → new ≤ old + n
+risen_at_most n old new (inl e) = omega arith
+risen_at_most n old new (inr e) =
+    let first = e.0 in
+    let second = e.1 in
+    omega arith
+
+-- fewer than all, and one more
+pub one_read_more : (n most old mid new : ℕ) → n < most → HasRisenBy n old mid → new ≡ one_more mid → new ≤ old + most
+one_read_more n most old mid new few risen once =
+    let before = risen_at_most n old mid risen in
+    omega arith

@@ -1,13 +1,17 @@
--- The bytes of a stream are its accepted pieces.
-use Rattle.std.specs.Prelude.{◌≡◌, ◌==◌, ◌<◌, ◌++◌, ℕ, Bool, false, List, [], ◌∷◌, length, Option, Some, None, Ok, Err, slice_get, if◌then◌else◌}
+-- The bytes of a stream are its accepted pieces, and it ends where an End of it is accepted.
+use Rattle.std.specs.Prelude.{◌≡◌, ◌==◌, ◌<◌, ◌++◌, ◌&&◌, ◌||◌, ℕ, Bool, true, false, List, [], ◌∷◌, length, Option, Some, None, Ok, Err, is_none, slice_get, if◌then◌else◌}
 use Rattle.vp_base.specs.declared.limits.Limits.{Limits}
+use Rattle.vp_ivf.specs.Ivf.{Contents}
+use Rattle.vp_ivf.specs.Reader.{finish_answer}
 use Rattle.vp_stream.specs.Answers.{reading_of}
 use Rattle.vp_heads.specs.Routes.{place_of}
 use Rattle.vp_hub.specs.declared.event.Event.{Event}
 use Rattle.vp_hub.specs.declared.event.Event.TheVariants.{Feed, End, Open, Bytes, Shut}
 use Rattle.vp_hub.specs.declared.source.Source.{Source}
+use Rattle.vp_hub.specs.declared.source.Ending.{Ending}
+use Rattle.vp_hub.specs.declared.source.Ending.TheVariants as ending
 use Rattle.vp_hub.specs.Pages.{Streams}
-use Rattle.vp_hub.specs.Hub.{Outcome, State, fresh, stream_limits}
+use Rattle.vp_hub.specs.Hub.{Outcome, State, fresh, stream_limits, ending_by}
 use Rattle.vp_hub.specs.View.{IsRun}
 
 -- the stream at a place is what these bytes make of it
@@ -46,3 +50,44 @@ RunsAddAcceptedPieces = (s new : State) (es : List Event) (os : List Outcome) �
 -- the streams of a new hub have no bytes
 abbrev pub NewStreamsHaveNoBytes : Type 0
 NewStreamsHaveNoBytes = (names : List (List ℕ)) (limits : Limits) (k : ℕ) → k < length names → IsReadFrom (stream_limits limits) k (fresh names limits).streams []
+
+-- ---- the end
+
+-- the event told the end of that stream, and was accepted
+abbrev pub accepts_end : List (List ℕ) → ℕ → Event → Outcome → Bool
+accepts_end names k (End name) (Ok reply) = is_at k (place_of names name)
+accepts_end names k (End name) (Err f) = false
+accepts_end names k (Feed name piece) o = false
+accepts_end names k (Open c) o = false
+accepts_end names k (Bytes c piece) o = false
+accepts_end names k (Shut c) o = false
+
+-- one of the events did
+abbrev pub end_accepted : List (List ℕ) → ℕ → List Event → List Outcome → Bool
+end_accepted names k [] os = false
+end_accepted names k (e ∷ es) [] = false
+end_accepted names k (e ∷ es) (o ∷ os) = accepts_end names k e o || end_accepted names k es os
+
+-- what is said of the end: nothing before it is told, `Torn` neither; from then on what is wrong with the bytes
+abbrev pub end_by : Bool → Contents → Ending
+end_by false reading = ending.Open
+end_by true reading = ending_by (finish_answer reading)
+
+-- the stream at a place is what these bytes make of it, and its end is told, or it isn't
+pub record IsEndedFrom (limits : Limits) (k : ℕ) (streams : Streams) (bytes : List ℕ) (told : Bool) : Type 0 where
+  pub read : IsReadFrom limits k streams bytes
+  pub end : read.source.end ≡ end_by told (reading_of limits bytes)
+  pub ended : read.source.stream.ended ≡ (told && is_none (reading_of limits bytes).fault)
+
+-- after a run the end of each stream is told where it was, or where the run accepted an End of it, and nowhere else
+abbrev pub AreAcceptedEnds : State → List Event → List Outcome → State → Type 0
+AreAcceptedEnds s es os new = (limits : Limits) (k : ℕ) (bytes : List ℕ) (told : Bool) → IsEndedFrom limits k s.streams bytes told
+    → IsEndedFrom limits k new.streams (bytes ++ all_accepted s.streams.names k es os) (told || end_accepted s.streams.names k es os)
+
+abbrev pub RunsEndAtAcceptedEnds : Type 0
+RunsEndAtAcceptedEnds = (s new : State) (es : List Event) (os : List Outcome) → IsRun s es os new → AreAcceptedEnds s es os new
+
+-- the streams of a new hub are open
+abbrev pub NewStreamsAreOpen : Type 0
+NewStreamsAreOpen = (names : List (List ℕ)) (limits : Limits) (k : ℕ) → k < length names
+    → IsEndedFrom (stream_limits limits) k (fresh names limits).streams [] false

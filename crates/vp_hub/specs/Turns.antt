@@ -1,5 +1,5 @@
 -- All bytes of a connection since its opening, cut into heads, over the events that it sees.
-use Rattle.std.specs.Prelude.{◌≡◌, true, false, ℕ, List, [], ◌∷◌, ◌++◌, Option, Some, None, Ok, IfSome}
+use Rattle.std.specs.Prelude.{◌≡◌, false, ℕ, List, [], ◌∷◌, ◌++◌, Option, Some, None, Ok, IfSome}
 use Rattle.std.specs.List.{concat}
 use Rattle.vp_hub.specs.declared.connection.Link.{Link}
 use Rattle.vp_hub.specs.Hub.{Chosen, Outcome}

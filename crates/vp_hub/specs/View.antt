@@ -114,6 +114,11 @@ IsRun old (e ∷ es) (o ∷ os) new = (mid : State) × IsStep old e o mid × IsR
 IsRun old [] (o ∷ os) new = ⊥
 IsRun old (e ∷ es) [] new = ⊥
 
+-- one run behind another is a run
+abbrev pub RunsAreJoined : Type 0
+RunsAreJoined = (s mid new : State) (es fs : List Event) (os ps : List Outcome) → IsRun s es os mid → IsRun mid fs ps new
+    → IsRun s (es ++ fs) (os ++ ps) new
+
 -- each connection gets the results that its view gives
 abbrev pub IsIsolated : State → List Event → List Outcome → State → Type 0
 IsIsolated s es os new = (c : ℕ) → Leads (view_of c es os) (sight c s) (results_of c es os) (sight c new)

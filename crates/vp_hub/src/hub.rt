@@ -9,10 +9,10 @@ ghost use Rattle.vp_hub.specs.declared.event.HubFault.TheVariants.{Memory};
 ghost use Rattle.vp_hub.specs.declared.names.NewFault.{NewFault};
 ghost use Rattle.vp_hub.specs.Heads.{AllKeepPartial};
 ghost use Rattle.vp_hub.specs.Names.{are_names as may_be_names};
-ghost use Rattle.vp_hub.specs.Hub.{AreKept, IsStep, State, fresh, link_of, with_link, Gets, Asks, is_open};
-ghost use Rattle.vp_hub.specs.Pieces.{AreAcceptedPieces};
+ghost use Rattle.vp_hub.specs.Hub.{AreKept, IsStep, Outcome, State, fresh, link_of, with_link, Gets, Asks, is_open};
+ghost use Rattle.vp_hub.specs.Pieces.{AreAcceptedEnds, AreAcceptedPieces};
 ghost use Rattle.vp_hub.specs.View.{IsRun, IsIsolated};
-ghost use Rattle.vp_hub.specs.Work.{Costs, CostsAtMost, CostsPiece, CostsPieceAtMost, IsWorked, IsWorkedRun};
+ghost use Rattle.vp_hub.specs.Work.{Costs, CostsAtMost, CostsPiece, CostsPieceAtMost, IsWorked, IsWorkedRun, Whole};
 
 use crate::connection::{Connection, Link, find, open_one, shut_one};
 use crate::event::{Event, HubFault, Reply};
@@ -58,6 +58,7 @@ impl Hub {
         ensures names { (result ≡ Err NewFault.Names) ↔ (may_be_names names.items ≡ false) }
         ensures hub { IfOk result (λ h. h ≡ record { state = fresh names.items limits; cache = empty limits.cache; work = 0 }) }
         ensures partial { IfOk result (λ h. AllKeepPartial h.state) }
+        ensures stands { IfOk result (λ h. IsRun (fresh names.items limits) [] [] h.state) }
     {
         if !are_names(&names) {
             return Err(NewFault::Names);
@@ -81,6 +82,12 @@ impl Hub {
         ensures step { IsStep self.old.state event.now result self.new.state }
         ensures partial { AllKeepPartial self.old.state → AllKeepPartial self.new.state }
         ensures worked { IsWorked self.old event.now result self.new }
+
+        // Each run that led here goes on by this event with its result, also a refusal, and with its work.
+        ensures stands { (s : State) (events : List Event) (results : List Outcome) → IsRun s events results self.old.state
+            → IsRun s (events ++ event.now ∷ []) (results ++ result ∷ []) self.new.state }
+        ensures stands_worked { (s : Whole) (events : List Event) (results : List Outcome) → IsWorkedRun s events results self.old
+            → IsWorkedRun s (events ++ event.now ∷ []) (results ++ result ∷ []) self.new }
     {
         self.turn(event)
     }
@@ -133,7 +140,14 @@ impl Hub {
         ensures worked { IfOk result (λ results. IsWorkedRun self.old events.now results.items self.new) }
         ensures isolated { IfOk result (λ results. IsIsolated self.old.state events.now results.items self.new.state) }
         ensures pieces { IfOk result (λ results. AreAcceptedPieces self.old.state events.now results.items self.new.state) }
+        ensures ends { IfOk result (λ results. AreAcceptedEnds self.old.state events.now results.items self.new.state) }
         ensures err { OnErr result (self.new ≡ self.old) }
+
+        // Each run that led here goes on by these events with their results, also with their work.
+        ensures stands { IfOk result (λ results. (s : State) (before : List Event) (had : List Outcome) → IsRun s before had self.old.state
+            → IsRun s (before ++ events.now) (had ++ results.items) self.new.state) }
+        ensures stands_worked { IfOk result (λ results. (s : Whole) (before : List Event) (had : List Outcome) → IsWorkedRun s before had self.old
+            → IsWorkedRun s (before ++ events.now) (had ++ results.items) self.new) }
     {
         let mut results = Vec::with_capacity(self.alloc, events.len())?;
         for event in events {

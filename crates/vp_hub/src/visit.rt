@@ -1,6 +1,6 @@
 //! One connection over a reader and a writer.
 
-ghost use Rattle.std.specs.Prelude.{◌≡◌, ◌≢◌, ◌⊎◌, ◌^◌, ℕ, List, Some, Ok, Err};
+ghost use Rattle.std.specs.Prelude.{◌≡◌, ◌≢◌, ◌⊎◌, ◌≤◌, ◌+◌, ◌^◌, ℕ, List, Some, Ok, Err};
 ghost use Rattle.std.specs.Io.KnownBytes.{Consumes};
 ghost use Rattle.vp_base.specs.Counted.{counted_remaining, counted_contents, counted_failures, counted_reads, one_more, HasFailed, HasRisenBy};
 ghost use Rattle.vp_hub.specs.declared.visit.ServeFault.{ServeFault};
@@ -67,7 +67,8 @@ pub fn serve_one<R: Read, W: Write>(
         (counted_failures reader.new ≡ counted_failures reader.old)
         × (counted_failures writer.new ≡ counted_failures writer.old) }
 
-    // `ReadTurns` comes behind so many reads.
+    // However it ends, no more reads are made than these. `ReadTurns` comes behind all of them.
+    ensures reads { counted_reads reader.new ≤ counted_reads reader.old + 2 ^ 20 }
     ensures turns { result ≡ Err ServeFault.ReadTurns →
         HasRisenBy (2 ^ 20) (counted_reads reader.old) (counted_reads reader.new) }
 {
@@ -99,6 +100,7 @@ fn talk<R: Read, W: Write>(
     ensures quiet { result ≢ Err ServeFault.Device →
         (counted_failures reader.new ≡ counted_failures reader.old)
         × (counted_failures writer.new ≡ counted_failures writer.old) }
+    ensures reads { counted_reads reader.new ≤ counted_reads reader.old + 2 ^ 20 }
     ensures turns { result ≡ Err ServeFault.ReadTurns →
         HasRisenBy (2 ^ 20) (counted_reads reader.old) (counted_reads reader.new) }
 {

@@ -1,5 +1,5 @@
 -- The calls of `read` are counted.
-use Rattle.std.proofs.Common.{◌≡◌, ℕ, ◌+◌, ◌-◌, ◌^◌, Bool, true, List, Option, Result, Ok, Err, refl, sym, ap, subst, arith}
+use Rattle.std.proofs.Common.{◌≡◌, ◌≢◌, ◌<◌, ◌≤◌, ℕ, ◌+◌, ◌-◌, ◌^◌, Bool, true, List, Option, Result, Ok, Err, inl, inr, refl, sym, ap, subst, arith}
 use Rattle.vp_base.specs.declared.limits.Limits.{Limits}
 use Rattle.vp_base.specs.Counted.{one_more, HasRisenBy}
 use Rattle.vp_base.proofs.CallLemmas.{risen_by_none, risen_by_one_more}
@@ -55,3 +55,31 @@ pub decode_ran_out : (f : SurveyFault) (s : Incoming) (before now : ℕ) → Cou
 decode_ran_out Device s before now h e = cc
 decode_ran_out Memory s before now h e = cc
 decode_ran_out ReadTurns s before now h e = h
+
+-- ---- no more reads than turns
+
+risen_at_most : (n old new : ℕ) → HasRisenBy n old new → new ≤ old + n
+risen_at_most n old new (inl e) = omega arith
+risen_at_most n old new (inr e) =
+    let first = e.0 in
+    let second = e.1 in
+    omega arith
+
+pub few_reads : (s : Incoming) (before now : ℕ) → HasRead s before now → now ≤ before + (2 ^ 32 - 1)
+few_reads s before now h =
+    let all = h.1 in
+    let most = risen_at_most h.0 before now h.2 in
+    omega arith
+
+one_read_more : (s : Incoming) (before now then : ℕ) → 0 < s.turns → then ≡ one_more now → HasRead s before now → then ≤ before + (2 ^ 32 - 1)
+one_read_more s before now then left rose h =
+    let all = h.1 in
+    let most = risen_at_most h.0 before now h.2 in
+    omega arith
+
+pub few_after : (r : Result Bool SurveyFault) (s : Incoming) (before now then : ℕ) → (r ≢ Err ReadTurns → 0 < s.turns)
+    → (r ≢ Err ReadTurns → then ≡ one_more now) → (r ≡ Err ReadTurns → then ≡ now) → HasRead s before now → then ≤ before + (2 ^ 32 - 1)
+few_after (Ok b) s before now then left rose same h = one_read_more s before now then (left (λ e. cc)) (rose (λ e. cc)) h
+few_after (Err Device) s before now then left rose same h = one_read_more s before now then (left (λ e. cc)) (rose (λ e. cc)) h
+few_after (Err Memory) s before now then left rose same h = one_read_more s before now then (left (λ e. cc)) (rose (λ e. cc)) h
+few_after (Err ReadTurns) s before now then left rose same h = subst (λ (n : ℕ). n ≤ before + (2 ^ 32 - 1)) (sym (same refl)) (few_reads s before now h)

@@ -1,6 +1,6 @@
 //! Decoding a whole file.
 
-ghost use Rattle.std.specs.Prelude.{◌≡◌, ◌≢◌, ◌⊎◌, ◌-◌, ◌^◌, ℕ, List, OnOk, Err};
+ghost use Rattle.std.specs.Prelude.{◌≡◌, ◌≢◌, ◌⊎◌, ◌≤◌, ◌+◌, ◌-◌, ◌^◌, ℕ, List, OnOk, Err};
 ghost use Rattle.std.specs.Io.KnownBytes.{Consumes, IsAtEnd};
 ghost use Rattle.vp_base.specs.Counted.{counted_remaining, counted_contents, counted_failures, counted_reads, HasFailed, HasRisenBy};
 ghost use Rattle.vp_ivf.specs.declared.fault.FileFault.{FileFault};
@@ -44,7 +44,8 @@ pub fn decode_all<R: Read, W: Write>(
         (counted_failures reader.new ≡ counted_failures reader.old)
         × (counted_failures writer.new ≡ counted_failures writer.old) }
 
-    // `ReadTurns` comes behind so many reads.
+    // However it ends, no more reads are made than these. `ReadTurns` comes behind all of them.
+    ensures reads { counted_reads reader.new ≤ counted_reads reader.old + (2 ^ 32 - 1) }
     ensures turns { result ≡ Err DecodeFault.ReadTurns →
         HasRisenBy (2 ^ 32 - 1) (counted_reads reader.old) (counted_reads reader.new) }
 {

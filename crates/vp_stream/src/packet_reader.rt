@@ -1,6 +1,6 @@
 //! The packets of a file, read as they are asked for.
 
-ghost use Rattle.std.specs.Prelude.{◌≡◌, ◌≢◌, ◌++◌, ◌-◌, ◌^◌, ◌<◌, ℕ, List, None, Err, Ok, true};
+ghost use Rattle.std.specs.Prelude.{◌≡◌, ◌≢◌, ◌++◌, ◌+◌, ◌-◌, ◌^◌, ◌<◌, ◌≤◌, ℕ, List, None, Err, Ok, true};
 ghost use Rattle.std.specs.Io.KnownBytes.{Consumes, IsAtEnd};
 ghost use Rattle.vp_base.specs.declared.limits.Limits.{Limits};
 ghost use Rattle.vp_base.specs.Counted.{counted_remaining, counted_failures, counted_reads, one_more, HasFailed};
@@ -71,6 +71,8 @@ impl PacketReader {
             counted_failures reader.new ≡ counted_failures reader.old }
         ensures reads { (before : ℕ) → HasRead self.old before (counted_reads reader.old)
             → CountsReads result self.new before (counted_reads reader.new) }
+        ensures most { (before : ℕ) → HasRead self.old before (counted_reads reader.old)
+            → counted_reads reader.new ≤ before + (2 ^ 32 - 1) }
     {
         'reading: loop {
             if let Some((head, packet)) = self.waiting() {
@@ -108,6 +110,7 @@ impl PacketReader {
         ensures counts { result ≢ Err SurveyFault.ReadTurns →
             counted_reads reader.new ≡ one_more (counted_reads reader.old) }
         ensures rests { result ≡ Err SurveyFault.ReadTurns → counted_reads reader.new ≡ counted_reads reader.old }
+        ensures turns { result ≢ Err SurveyFault.ReadTurns → 0 < self.old.turns }
     {
         if self.turns == 0 {
             return Err(SurveyFault::ReadTurns);

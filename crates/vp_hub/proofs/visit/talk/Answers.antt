@@ -4,7 +4,7 @@ use Rattle.std.proofs.lemmas.Result.{err_from_is_err_and}
 use Rattle.vp_base.specs.Counted.{counted_remaining, counted_contents, counted_failures, counted_reads, HasFailed, HasRisenBy}
 use Rattle.vp_base.proofs.CallLemmas.{risen_by_none, risen_by_one_more}
 use Rattle.vp_hub.specs.Visits.{Exchanges}
-use Rattle.vp_hub.proofs.Visiting.{at_first, ends_faulty, ends_well, talks_on, runs_out}
+use Rattle.vp_hub.proofs.Visiting.{at_first, ends_faulty, ends_well, talks_on, runs_out, risen_at_most, one_read_more}
 use Rattle.vp_hub.proofs.visit.talk.Goals as goal
 
 pub loop-turn-init : goal.loop-turn-init
@@ -78,6 +78,22 @@ loop-turn-preserved g c =
       subst (λ n. HasRisenBy (c.loop-turn._turn + 1) (counted_reads c.args.reader.now) n) (sym c.in_ok-exchange.ensures.counts)
           (risen_by_one_more c.loop-turn._turn (counted_reads c.args.reader.now) (counted_reads c.loop-turn.reader) inv.5),
     )
+
+pub returns-in_err-exchange-clause-reads : goal.returns-in_err-exchange-clause-reads
+returns-in_err-exchange-clause-reads g c =
+    one_read_more c.loop-turn._turn (2 ^ 20) (counted_reads c.args.reader.now) (counted_reads c.loop-turn.reader) (counted_reads c.exchange.new.reader)
+    c.loop-turn-test.true c.loop-turn.invariant.5 c.in_err-exchange.ensures.counts
+
+pub returns-then-not-branch-clause-reads : goal.returns-then-not-branch-clause-reads
+returns-then-not-branch-clause-reads g c =
+    one_read_more c.loop-turn._turn (2 ^ 20) (counted_reads c.args.reader.now) (counted_reads c.loop-turn.reader) (counted_reads c.exchange.new.reader)
+    c.loop-turn-test.true c.loop-turn.invariant.5 c.in_ok-exchange.ensures.counts
+
+pub returns-clause-reads : goal.returns-clause-reads
+returns-clause-reads g c =
+    let all : c.loop-turn._turn ≡ 2 ^ 20 = omega (arith, c.loop-turn-test.false, c.loop-turn.auto._turn-end) in
+    let most = risen_at_most c.loop-turn._turn (counted_reads c.args.reader.now) (counted_reads c.loop-turn.reader) c.loop-turn.invariant.5 in
+    omega arith
 
 pub returns-clause-turns : goal.returns-clause-turns
 returns-clause-turns g c =

@@ -104,3 +104,15 @@ returns-in-End-Some-clause-decoded g c =
       faulty c.args.limits c.args.form c.packets.file c.packets.run (counted_contents g.W.Write.contents c.args.writer.now) (counted_contents g.W.Write.contents c.packets.writer) inv.0 now.0 inv.1 inv.3
           (HasFailed (counted_failures c.args.writer.now) (counted_failures c.packets.writer)) c.in-End-Some.fault c.next.new.self (counted_remaining g.R.Read.remaining c.next.new.reader) ends,
     )
+
+pub returns-in_err-head-clause-reads : goal.returns-in_err-head-clause-reads
+returns-in_err-head-clause-reads g c = c.in_err-head.ensures.most (counted_reads c.args.reader.now) c.packets.invariant.6
+
+pub returns-in_err-packet-in-Packet-clause-reads : goal.returns-in_err-packet-in-Packet-clause-reads
+returns-in_err-packet-in-Packet-clause-reads g c = c.in_ok-head.ensures.most (counted_reads c.args.reader.now) c.packets.invariant.6
+
+pub returns-in-End-None-clause-reads : goal.returns-in-End-None-clause-reads
+returns-in-End-None-clause-reads g c = c.in_ok-head.ensures.most (counted_reads c.args.reader.now) c.packets.invariant.6
+
+pub returns-in-End-Some-clause-reads : goal.returns-in-End-Some-clause-reads
+returns-in-End-Some-clause-reads g c = c.in_ok-head.ensures.most (counted_reads c.args.reader.now) c.packets.invariant.6

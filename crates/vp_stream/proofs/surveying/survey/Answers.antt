@@ -82,3 +82,15 @@ returns-in-End-clause-surveyed g c =
       Consumes-trans (counted_remaining g.R.Read.remaining c.args.reader.now) (counted_remaining g.R.Read.remaining c.packets.reader) (counted_remaining g.R.Read.remaining c.next.new.reader) inv.0 now.0 inv.2 now.1,
       surveyed c.args.limits c.packets.file c.packets.decoder c.packets.packets inv.0 now.0 inv.1 inv.3 c.next.new.self (counted_remaining g.R.Read.remaining c.next.new.reader) c.in-End.fault c.head.result ends c.head.ensures,
     )
+
+pub returns-in_err-packet-clause-reads : goal.returns-in_err-packet-clause-reads
+returns-in_err-packet-clause-reads g c = c.in_err-packet.ensures.most (counted_reads c.args.reader.now) c.packets.invariant.5
+
+pub returns-in_err-outcome-in-Packet-clause-reads : goal.returns-in_err-outcome-in-Packet-clause-reads
+returns-in_err-outcome-in-Packet-clause-reads g c = c.in_ok-packet.ensures.most (counted_reads c.args.reader.now) c.packets.invariant.5
+
+pub returns-in_err-push-in-Packet-clause-reads : goal.returns-in_err-push-in-Packet-clause-reads
+returns-in_err-push-in-Packet-clause-reads g c = c.in_ok-packet.ensures.most (counted_reads c.args.reader.now) c.packets.invariant.5
+
+pub returns-in-End-clause-reads : goal.returns-in-End-clause-reads
+returns-in-End-clause-reads g c = c.in_ok-packet.ensures.most (counted_reads c.args.reader.now) c.packets.invariant.5

@@ -1,4 +1,4 @@
-use Rattle.std.proofs.Common.{◌≡◌, ◌∙◌, None, Err, refl, sym, ap}
+use Rattle.std.proofs.Common.{◌≡◌, ◌∙◌, None, Ok, Err, refl, sym, ap}
 use Rattle.std.proofs.lemmas.Grind.{common_steps}
 use Rattle.std.proofs.Common.{arith}
 use Rattle.std.proofs.lemmas.Result.{err_from_is_err_and}
@@ -7,7 +7,7 @@ use Rattle.vp_base.specs.Counted.{counted_remaining}
 use Rattle.vp_ivf.specs.Reader.{State, refusal, finish_answer}
 use Rattle.vp_stream.specs.Incoming.{Incoming, next_waiting}
 use Rattle.vp_stream.proofs.IncomingLemmas.{next_refused, next_failed, next_ended, next_read}
-use Rattle.vp_stream.proofs.ReadLemmas.{same_reads, read_once, all_read}
+use Rattle.vp_stream.proofs.ReadLemmas.{same_reads, read_once, all_read, few_reads, few_after}
 use Rattle.vp_stream.proofs.packet_reader.PacketReader.next.Goals as goal
 
 pub returns-in-Some-refusal-clause-given : goal.returns-in-Some-refusal-clause-given
@@ -69,3 +69,21 @@ returns-in_err-read_piece-clause-reads g c = λ before h.
 pub returns-in-Some-clause-reads : goal.returns-in-Some-clause-reads
 returns-in-Some-clause-reads g c = λ before h.
     same_reads c.reading.self c.waiting.new.self before _ _ (ap (λ (s : Incoming). s.turns) c.waiting.ensures.rest) refl (c.reading.invariant.2 before h)
+
+pub returns-in-Some-clause-most : goal.returns-in-Some-clause-most
+returns-in-Some-clause-most g c = λ before h. few_reads c.reading.self before _ (c.reading.invariant.2 before h)
+
+pub returns-in-Some-refusal-clause-most : goal.returns-in-Some-refusal-clause-most
+returns-in-Some-refusal-clause-most g c = λ before h. few_reads c.reading.self before _ (c.reading.invariant.2 before h)
+
+pub returns-in_err-read_piece-clause-most : goal.returns-in_err-read_piece-clause-most
+returns-in_err-read_piece-clause-most g c = λ before h.
+    let here = same_reads c.reading.self c.waiting.new.self before _ _ (ap (λ (s : Incoming). s.turns) c.waiting.ensures.rest) refl (c.reading.invariant.2 before h) in
+    few_after (Err c.in_err-read_piece.field-0.0) c.waiting.new.self before _ _
+    c.in_err-read_piece.ensures.turns c.in_err-read_piece.ensures.counts c.in_err-read_piece.ensures.rests here
+
+pub returns-then-not-branch-clause-most : goal.returns-then-not-branch-clause-most
+returns-then-not-branch-clause-most g c = λ before h.
+    let here = same_reads c.reading.self c.waiting.new.self before _ _ (ap (λ (s : Incoming). s.turns) c.waiting.ensures.rest) refl (c.reading.invariant.2 before h) in
+    few_after (Ok c.in_ok-read_piece.field-0) c.waiting.new.self before _ _
+    c.in_ok-read_piece.ensures.turns c.in_ok-read_piece.ensures.counts c.in_ok-read_piece.ensures.rests here
