@@ -20,12 +20,12 @@ use Rattle.vp_app.specs.declared.encoding.Encoding.{Encoding}
 use Rattle.vp_app.specs.declared.served.Service.{Service}
 use Rattle.vp_app.specs.declared.service.ServiceFault.{ServiceFault}
 use Rattle.vp_app.specs.declared.words.Plan.{Plan}
-use Rattle.vp_app.specs.declared.words.Plan.TheVariants.{Decode, Encode, Info, Serve, Unknown}
+use Rattle.vp_app.specs.declared.words.Plan.TheVariants.{Decode, Encode, Info, Serve, Nothing}
 use Rattle.vp_app.specs.declared.words.Refusal.{Refusal}
 use Rattle.vp_app.specs.declared.words.Refusal.TheVariants.{Words, Value}
 use Rattle.vp_app.specs.Status.{status_of}
 use Rattle.vp_app.specs.Words.{Asked, decodes, encodes, tells, serves, nothing, asked_of, faults_of, IsForMemory, IsOfValue, IsPlanFor, IsMistake, IsRefusalFor, IsRefused, AreMistaken}
-use Rattle.vp_app.specs.Commands.{Decodes, DecodesInto, Does, Encodes, EncodesInto, IsDecoded, IsEncoded, IsNotOpened, IsUnbegun, IsUnopened, IsUsageFault, Looks, LooksOver, Over, Serves, Side, Tells, is_stream, status_by_report, status_by_service}
+use Rattle.vp_app.specs.Commands.{Decodes, DecodesInto, Does, Encodes, EncodesInto, IsDecoded, IsEncoded, IsUnbegun, IsUnopened, IsUsageFault, Looks, LooksOver, Over, Serves, Side, Tells, is_stream, status_by_report, status_by_service}
 
 pub over_stream : (name : List ℕ) (Work : Side → Side → Type 0) (old new : Side) → is_stream name ≡ true → Work old new → Over name Work old new
 over_stream name Work old new e h =
@@ -35,15 +35,10 @@ pub over_file : (name : List ℕ) (Work : Side → Side → Type 0) (old a b : S
 over_file name Work old a b e h =
     subst (λ x. MatchBool x (Work old old) ((old ≡ old) × ((a : Side) × (b : Side) × Work a b))) (sym e) (refl, (a, b, h))
 
-pub unopened : {T : Type 0} (name : List ℕ) (fault : DecodeFault) → is_stream name ≡ false → (fault ≡ Device) ⊎ (fault ≡ Memory)
-    → IsUnopened name {T = T} (Err fault)
-unopened name fault e (inl f) = (e, inl (rw f refl))
-unopened name fault e (inr f) = (e, inr (rw f refl))
-
-pub not_opened : (name : List ℕ) (fault : EncodeAllFault) → is_stream name ≡ false → (fault ≡ encode_fault.Device) ⊎ (fault ≡ encode_fault.Memory)
-    → IsNotOpened name (Err fault)
-not_opened name fault e (inl f) = (e, inl (rw f refl))
-not_opened name fault e (inr f) = (e, inr (rw f refl))
+pub unopened : {T F : Type 0} (device memory : F) (name : List ℕ) (fault : F) → is_stream name ≡ false → (fault ≡ device) ⊎ (fault ≡ memory)
+    → IsUnopened {T = T} device memory name (Err fault)
+unopened device memory name fault e (inl f) = (e, inl (rw f refl))
+unopened device memory name fault e (inr f) = (e, inr (rw f refl))
 
 -- ---- to decode
 
@@ -57,7 +52,7 @@ into_file form to done i i' o a b e h = inr (over_file to (IsDecoded form done i
 
 pub into_none : (form : Form) (to : List ℕ) (fault : DecodeFault) (i o : Side) → is_stream to ≡ false → (fault ≡ Device) ⊎ (fault ≡ Memory)
     → DecodesInto form to (Err fault) i i o o
-into_none form to fault i o e f = inl (unopened to fault e f, refl, refl)
+into_none form to fault i o e f = inl (unopened Device Memory to fault e f, refl, refl)
 
 pub from_stream : (form : Form) (from to : List ℕ) (done : Result Report DecodeFault) (i i' o o' : Side) → is_stream from ≡ true
     → DecodesInto form to done i i' o o' → Decodes form from to done i i' o o'
@@ -69,7 +64,7 @@ from_file form from to done i a b o o' e h = inr (over_file from (λ a b. Decode
 
 pub from_none : (form : Form) (from to : List ℕ) (fault : DecodeFault) (i o : Side) → is_stream from ≡ false → (fault ≡ Device) ⊎ (fault ≡ Memory)
     → Decodes form from to (Err fault) i i o o
-from_none form from to fault i o e f = inl (unopened from fault e f, refl, refl)
+from_none form from to fault i o e f = inl (unopened Device Memory from fault e f, refl, refl)
 
 -- ---- to look
 
@@ -80,7 +75,7 @@ pub look_file : (from : List ℕ) (done : Result Survey DecodeFault) (i a b : Si
 look_file from done i a b e h = inr (over_file from (LooksOver done) i a b e h)
 
 pub look_none : (from : List ℕ) (fault : DecodeFault) (i : Side) → is_stream from ≡ false → (fault ≡ Device) ⊎ (fault ≡ Memory) → Looks from (Err fault) i i
-look_none from fault i e f = inl (unopened from fault e f, refl)
+look_none from fault i e f = inl (unopened Device Memory from fault e f, refl)
 
 -- ---- to encode
 
@@ -94,7 +89,7 @@ encode_file s to done i i' o a b e h = inr (over_file to (IsEncoded s done i i')
 
 pub encode_none : (s : Settings) (to : List ℕ) (fault : EncodeAllFault) (i o : Side) → is_stream to ≡ false
     → (fault ≡ encode_fault.Device) ⊎ (fault ≡ encode_fault.Memory) → EncodesInto s to (Err fault) i i o o
-encode_none s to fault i o e f = inl (not_opened to fault e f, refl, refl)
+encode_none s to fault i o e f = inl (unopened encode_fault.Device encode_fault.Memory to fault e f, refl, refl)
 
 pub pictures_stream : (s : Settings) (from to : List ℕ) (done : Result EncodeReport EncodeAllFault) (i i' o o' : Side) → is_stream from ≡ true
     → EncodesInto s to done i i' o o' → Encodes s from to done i i' o o'
@@ -106,7 +101,7 @@ pictures_file s from to done i a b o o' e h = inr (over_file from (λ a b. Encod
 
 pub pictures_none : (s : Settings) (from to : List ℕ) (fault : EncodeAllFault) (i o : Side) → is_stream from ≡ false
     → (fault ≡ encode_fault.Device) ⊎ (fault ≡ encode_fault.Memory) → Encodes s from to (Err fault) i i o o
-pictures_none s from to fault i o e f = inl (not_opened from fault e f, refl, refl)
+pictures_none s from to fault i o e f = inl (unopened encode_fault.Device encode_fault.Memory from fault e f, refl, refl)
 
 -- ---- what is planned is done
 
@@ -157,10 +152,10 @@ does_serve asked plan service done status i i' o o' e h s d q = go asked (subst 
     go (serves rows address connections operands) p = inl (service, done, p, s, d, q)
     go nothing p = absurd p
 
-pub does_nothing : (asked : Asked) (plan : Plan) (i o : Side) → plan ≡ Unknown → IsPlanFor asked plan → Does asked 2 i i o o
+pub does_nothing : (asked : Asked) (plan : Plan) (i o : Side) → plan ≡ Nothing → IsPlanFor asked plan → Does asked 2 i i o o
 does_nothing asked plan i o e h = go asked (subst (IsPlanFor asked) e h)
   where
-    go : (x : Asked) → IsPlanFor x Unknown → Does x 2 i i o o
+    go : (x : Asked) → IsPlanFor x Nothing → Does x 2 i i o o
     go (decodes flag f g) p = absurd p
     go (encodes rows f g) p = absurd p
     go (tells f) p = absurd p

@@ -16,7 +16,7 @@ use Rattle.clap.specs.declared.builder.command.Command.{Command}
 use Rattle.clap.specs.declared.builder.command.Command.TheViews.{out-Command as fields_of}
 use Rattle.clap.specs.declared.parser.matches.ArgMatches.{ArgMatches}
 use Rattle.vp_stream.specs.declared.form.Form.{Form}
-use Rattle.vp_app.specs.declared.words.Plan.TheVariants.{Decode, Encode, Info, Unknown}
+use Rattle.vp_app.specs.declared.words.Plan.TheVariants.{Decode, Encode, Info, Nothing}
 use Rattle.vp_app.specs.declared.words.Refusal.{Refusal}
 use Rattle.vp_app.specs.declared.words.Refusal.TheVariants.{Words, Value}
 use Rattle.vp_app.specs.declared.encoding.Encoding.{Encoding}
@@ -84,7 +84,7 @@ pub to_decode : (flag from to : Option Text) (form : Form) (input output : Bor T
     → IsPlanFor (with_operands (decodes flag) from to) (Decode form input output)
 to_decode flag from to form input output is e f = rw (← e, ← f) (is, refl, refl)
 
-pub no_operands : (ask : Text → Text → Asked) (from to : Option Text) → (from ≡ None) ⊎ (to ≡ None) → IsPlanFor (with_operands ask from to) Unknown
+pub no_operands : (ask : Text → Text → Asked) (from to : Option Text) → (from ≡ None) ⊎ (to ≡ None) → IsPlanFor (with_operands ask from to) Nothing
 no_operands ask None to e = tt
 no_operands ask (Some a) None e = tt
 no_operands ask (Some a) (Some b) (inl e) = cc
@@ -93,7 +93,7 @@ no_operands ask (Some a) (Some b) (inr e) = cc
 pub to_tell : (from : Option Text) (input : Bor Text) → Some input.now ≡ from → IsPlanFor (with_operand tells from) (Info input)
 to_tell from input e = rw (← e) refl
 
-pub no_operand : (from : Option Text) → from ≡ None → IsPlanFor (with_operand tells from) Unknown
+pub no_operand : (from : Option Text) → from ≡ None → IsPlanFor (with_operand tells from) Nothing
 no_operand from e = rw e tt
 
 pub to_serve : (rows : List Row) (address connections : Option Text) (operands : Option (List Text)) (a c : Text) (o : List Text)
@@ -102,7 +102,7 @@ pub to_serve : (rows : List Row) (address connections : Option Text) (operands :
 to_serve rows address connections operands a c o e f g P h = rw (← e, ← f, ← g) h
 
 pub no_service : (rows : List Row) (address connections : Option Text) (operands : Option (List Text))
-    → (address ≡ None) ⊎ ((connections ≡ None) ⊎ (operands ≡ None)) → IsPlanFor (with_service rows address connections operands) Unknown
+    → (address ≡ None) ⊎ ((connections ≡ None) ⊎ (operands ≡ None)) → IsPlanFor (with_service rows address connections operands) Nothing
 no_service rows None connections operands e = tt
 no_service rows (Some a) None operands e = tt
 no_service rows (Some a) (Some c) None e = tt

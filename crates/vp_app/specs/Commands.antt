@@ -64,17 +64,17 @@ pub record IsDecoded (form : Form) (done : Result Report DecodeFault) (input inp
   pub device : done ≡ Err Device → HasFailed input.failures input'.failures ⊎ HasFailed output.failures output'.failures
   pub quiet : done ≢ Err Device → (input'.failures ≡ input.failures) × (output'.failures ≡ output.failures)
 
--- a named file couldn't be opened or made, or is the one that is read
-abbrev pub IsUnopened : List ℕ → {T : Type 0} → Result T DecodeFault → Type 0
-IsUnopened name done = (is_stream name ≡ false) × ((done ≡ Err Device) ⊎ (done ≡ Err Memory))
+-- a named file couldn't be opened or made, or is the one that is read: it ended by one of these faults
+abbrev pub IsUnopened : {T F : Type 0} → F → F → List ℕ → Result T F → Type 0
+IsUnopened device memory name done = (is_stream name ≡ false) × ((done ≡ Err device) ⊎ (done ≡ Err memory))
 
 abbrev pub DecodesInto : Form → List ℕ → Result Report DecodeFault → Side → Side → Side → Side → Type 0
 DecodesInto form to done input input' output output' =
-    (IsUnopened to done × (input' ≡ input) × (output' ≡ output)) ⊎ Over to (IsDecoded form done input input') output output'
+    (IsUnopened Device Memory to done × (input' ≡ input) × (output' ≡ output)) ⊎ Over to (IsDecoded form done input input') output output'
 
 abbrev pub Decodes : Form → List ℕ → List ℕ → Result Report DecodeFault → Side → Side → Side → Side → Type 0
 Decodes form from to done input input' output output' =
-    (IsUnopened from done × (input' ≡ input) × (output' ≡ output))
+    (IsUnopened Device Memory from done × (input' ≡ input) × (output' ≡ output))
     ⊎ Over from (λ a b. DecodesInto form to done a b output output') input input'
 
 -- ---- to tell what a file holds
@@ -98,7 +98,7 @@ abbrev pub LooksOver : Result Survey DecodeFault → Side → Side → Type 0
 LooksOver done input input' = (told : Result Survey SurveyFault) × (done ≡ told_as told) × IsLooked told input input'
 
 abbrev pub Looks : List ℕ → Result Survey DecodeFault → Side → Side → Type 0
-Looks from done input input' = (IsUnopened from done × (input' ≡ input)) ⊎ Over from (LooksOver done) input input'
+Looks from done input input' = (IsUnopened Device Memory from done × (input' ≡ input)) ⊎ Over from (LooksOver done) input input'
 
 abbrev pub status_by_fault : Option FileFault → ℕ
 status_by_fault None = 0
@@ -122,16 +122,13 @@ pub record IsEncoded (settings : Settings) (done : Result EncodeReport EncodeAll
   pub device : done ≡ Err encode_fault.Device → HasFailed input.failures input'.failures ⊎ HasFailed output.failures output'.failures
   pub quiet : done ≢ Err encode_fault.Device → (input'.failures ≡ input.failures) × (output'.failures ≡ output.failures)
 
-abbrev pub IsNotOpened : List ℕ → Result EncodeReport EncodeAllFault → Type 0
-IsNotOpened name done = (is_stream name ≡ false) × ((done ≡ Err encode_fault.Device) ⊎ (done ≡ Err encode_fault.Memory))
-
 abbrev pub EncodesInto : Settings → List ℕ → Result EncodeReport EncodeAllFault → Side → Side → Side → Side → Type 0
 EncodesInto settings to done input input' output output' =
-    (IsNotOpened to done × (input' ≡ input) × (output' ≡ output)) ⊎ Over to (IsEncoded settings done input input') output output'
+    (IsUnopened encode_fault.Device encode_fault.Memory to done × (input' ≡ input) × (output' ≡ output)) ⊎ Over to (IsEncoded settings done input input') output output'
 
 abbrev pub Encodes : Settings → List ℕ → List ℕ → Result EncodeReport EncodeAllFault → Side → Side → Side → Side → Type 0
 Encodes settings from to done input input' output output' =
-    (IsNotOpened from done × (input' ≡ input) × (output' ≡ output))
+    (IsUnopened encode_fault.Device encode_fault.Memory from done × (input' ≡ input) × (output' ≡ output))
     ⊎ Over from (λ a b. EncodesInto settings to done a b output output') input input'
 
 abbrev pub status_by_report : Result EncodeReport EncodeAllFault → ℕ

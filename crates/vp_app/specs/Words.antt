@@ -21,7 +21,7 @@ use Rattle.vp_app.specs.declared.served.Service.{Service}
 use Rattle.vp_app.specs.declared.words.Plan.{Plan}
 use Rattle.vp_app.specs.declared.words.Refusal.{Refusal}
 use Rattle.vp_app.specs.declared.words.Refusal.TheVariants.{Words, Value}
-use Rattle.vp_app.specs.declared.words.Plan.TheVariants.{Decode, Encode, Info, Serve, Unknown}
+use Rattle.vp_app.specs.declared.words.Plan.TheVariants.{Decode, Encode, Info, Serve, Nothing}
 
 -- ---- the commands
 
@@ -191,7 +191,7 @@ IsPlanFor (encodes rows from to) (Encode e) =
     AreSettings rows e.settings × IsFlag (one_of (codes "progress") rows) e.progress × (e.input.now ≡ from) × (e.output.now ≡ to)
 IsPlanFor (tells from) (Info input) = input.now ≡ from
 IsPlanFor (serves rows address connections operands) (Serve s) = IsServiceFor rows address connections operands s
-IsPlanFor nothing Unknown = Unit {0}
+IsPlanFor nothing Nothing = Unit {0}
 IsPlanFor _ _ = ⊥
 
 -- ---- what is refused

@@ -1,13 +1,13 @@
 //! Encoding a file.
 
-ghost use Rattle.std.specs.Prelude.{◌≡◌, ◌⊎◌, false};
-ghost use Rattle.vp_encode.specs.declared.report.EncodeAllFault.{EncodeAllFault};
+ghost use Rattle.std.specs.Prelude.{◌≡◌, ⊤, false};
 ghost use Rattle.vp_app.specs.Commands.{is_stream, read_side, written_side, Encodes, EncodesInto, IsEncoded};
 
+use crate::files::file_fault;
 use std::alloc::Global;
-use std::io::{ErrorKind, Read, Write};
+use std::fs;
+use std::io::{Read, Write};
 use std::rt::Files;
-use std::{fs, io};
 use vp_base::{Counted, Limits};
 use vp_encode::{EncodeAllFault, EncodeReport, Settings, Watcher, encode_all_watched};
 
@@ -28,12 +28,14 @@ pub struct Encoding<'a> {
 #[derive(Drop)]
 struct Progress<'a, E: Write> {
     errors: &'a mut Counted<E>,
-    told: bool,
+    asked: bool,
 }
 
 impl<E: Write> Watcher for Progress<'_, E> {
+    ghost told = { λ _ _. ⊤ };
+
     fn encoded(&mut self, frames: u32) {
-        if self.told && frames % 10 == 0 {
+        if self.asked && frames % 10 == 0 {
             let _ = writeln!(self.errors, "frame {frames}");
         }
     }
@@ -57,7 +59,7 @@ pub(crate) fn encode<H: Files + AllocGlobal, R: Read, W: Write, E: Write>(
 {
     let mut watcher = Progress {
         errors,
-        told: encoding.progress,
+        asked: encoding.progress,
     };
     if encoding.input == "-" {
         return encode_into(rt, encoding, input, output, &mut watcher);
@@ -67,7 +69,7 @@ pub(crate) fn encode<H: Files + AllocGlobal, R: Read, W: Write, E: Write>(
     }
     match fs::open(rt, encoding.input) {
         Ok(file) => encode_into(rt, encoding, &mut Counted::new(file), output, &mut watcher),
-        Err(error) => Err(file_fault(&error)),
+        Err(error) => Err(file_fault(&error, EncodeAllFault::Device, EncodeAllFault::Memory)),
     }
 }
 
@@ -96,7 +98,7 @@ fn encode_into<H: Files + AllocGlobal, R: Read, W: Write, T: Watcher>(
             &mut Counted::new(file),
             watcher,
         ),
-        Err(error) => Err(file_fault(&error)),
+        Err(error) => Err(file_fault(&error, EncodeAllFault::Device, EncodeAllFault::Memory)),
     }
 }
 
@@ -112,14 +114,4 @@ fn encode_over<R: Read, W: Write, T: Watcher>(
         (written_side W.contents output.old) (written_side W.contents output.new) }
 {
     encode_all_watched(alloc, input, output, settings, Limits::usual(), watcher)
-}
-
-fn file_fault(error: &io::Error) -> EncodeAllFault
-    ensures { (result ≡ EncodeAllFault.Device) ⊎ (result ≡ EncodeAllFault.Memory) }
-{
-    if error.kind() == ErrorKind::OutOfMemory {
-        EncodeAllFault::Memory
-    } else {
-        EncodeAllFault::Device
-    }
 }

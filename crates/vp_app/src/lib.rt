@@ -4,6 +4,7 @@
 mod encoding;
 #[cfg(test)]
 mod encoding_tests;
+mod files;
 mod laws;
 mod listing;
 mod program;

@@ -11,6 +11,7 @@ ghost use Rattle.vp_app.specs.Status.{status_of};
 ghost use Rattle.vp_app.specs.Words.{asked_of, faults_of, AreMistaken, Asked, IsForMemory, IsMistake, IsOfValue, IsPlanFor};
 
 use crate::encoding::encode;
+use crate::files::file_fault;
 use crate::listing::print_survey;
 use crate::service::{ServiceFault, serve};
 use crate::words::{Plan, Refusal, read_words};
@@ -98,7 +99,7 @@ fn carry_out<
         ),
         Plan::Info { input: from } => tell_survey(look(rt, from, input), output, errors),
         Plan::Serve(service) => tell_service(serve(rt, service, input, output, errors), errors),
-        Plan::Unknown => 2,
+        Plan::Nothing => 2,
     }
 }
 
@@ -144,7 +145,7 @@ fn decode<H: Files + AllocGlobal, R: Read, W: Write>(
     }
     match fs::open(rt, from) {
         Ok(file) => decode_into(rt, form, to, &mut Counted::new(file), output),
-        Err(error) => Err(file_fault(&error)),
+        Err(error) => Err(file_fault(&error, DecodeFault::Device, DecodeFault::Memory)),
     }
 }
 
@@ -166,7 +167,7 @@ fn decode_into<H: Files + AllocGlobal, R: Read, W: Write>(
     }
     match fs::create(rt, to) {
         Ok(file) => decode_over(rt.alloc(), form, input, &mut Counted::new(file)),
-        Err(error) => Err(file_fault(&error)),
+        Err(error) => Err(file_fault(&error, DecodeFault::Device, DecodeFault::Memory)),
     }
 }
 
@@ -198,7 +199,7 @@ fn look<H: Files + AllocGlobal, R: Read>(
     }
     match fs::open(rt, from) {
         Ok(file) => look_over(rt.alloc(), &mut Counted::new(file)),
-        Err(error) => Err(file_fault(&error)),
+        Err(error) => Err(file_fault(&error, DecodeFault::Device, DecodeFault::Memory)),
     }
 }
 
@@ -215,16 +216,6 @@ fn survey_over<R: Read>(alloc: Global, input: &mut Counted<R>) -> Result<Survey,
     ensures { IsLooked result (read_side R.remaining input.old) (read_side R.remaining input.new) }
 {
     survey(alloc, input, Limits::usual())
-}
-
-fn file_fault(error: &io::Error) -> DecodeFault
-    ensures { (result ≡ DecodeFault.Device) ⊎ (result ≡ DecodeFault.Memory) }
-{
-    if error.kind() == io::ErrorKind::OutOfMemory {
-        DecodeFault::Memory
-    } else {
-        DecodeFault::Device
-    }
 }
 
 // Names the fault that the work ended by.

@@ -11,6 +11,7 @@ ghost use Rattle.vp_app.specs.Commands.{read_side, Serves};
 ghost use Rattle.vp_app.specs.Feeding.{FeedsPiece, IsFed};
 ghost use Rattle.vp_app.specs.Serving.{AreFilesFed, IsFileFed, IsNewHub, IsServed, IsServing, names_of};
 
+use crate::files::file_fault;
 use crate::served::{Named, Service};
 use std::alloc::{AllocError, Global};
 use std::io::{Read, Write};
@@ -54,11 +55,7 @@ impl From<AllocError> for ServiceFault {
 
 impl From<io::Error> for ServiceFault {
     fn from(error: io::Error) -> ServiceFault {
-        if error.kind() == io::ErrorKind::OutOfMemory {
-            ServiceFault::Memory
-        } else {
-            ServiceFault::Device
-        }
+        file_fault(&error, ServiceFault::Device, ServiceFault::Memory)
     }
 }
 

@@ -32,8 +32,8 @@ pub enum Plan<'a> {
     },
     /// To serve streams.
     Serve(Service<'a>),
-    /// Nothing that is built.
-    Unknown,
+    /// Nothing that there is.
+    Nothing,
 }
 
 /// Why the words ask for nothing.
@@ -94,7 +94,7 @@ fn read_matches<'a>(alloc: Global, matches: &ArgMatches<'a>) -> Result<Plan<'a>,
         Some(("encode", found)) => encode_plan(found),
         Some(("info", found)) => Ok(info_plan(found)),
         Some(("serve", found)) => serve_plan(alloc, found),
-        _ => Ok(Plan::Unknown),
+        _ => Ok(Plan::Nothing),
     }
 }
 
@@ -320,7 +320,7 @@ fn decode_plan<'a>(found: &ArgMatches<'a>) -> Plan<'a>
             input,
             output,
         },
-        _ => Plan::Unknown,
+        _ => Plan::Nothing,
     }
 }
 
@@ -330,7 +330,7 @@ fn encode_plan<'a>(found: &ArgMatches<'a>) -> Result<Plan<'a>, Refusal>
 {
     match (text_of(found, "IN"), text_of(found, "OUT")) {
         (Some(input), Some(output)) => encoding_plan(found, input, output),
-        _ => Ok(Plan::Unknown),
+        _ => Ok(Plan::Nothing),
     }
 }
 
@@ -428,7 +428,7 @@ fn info_plan<'a>(found: &ArgMatches<'a>) -> Plan<'a>
 {
     match text_of(found, "IN") {
         Some(input) => Plan::Info { input },
-        None => Plan::Unknown,
+        None => Plan::Nothing,
     }
 }
 
@@ -444,7 +444,7 @@ fn serve_plan<'a>(alloc: Global, found: &ArgMatches<'a>) -> Result<Plan<'a>, Ref
         (Some(listen), Some(connections), Some(operands)) => {
             service_plan(alloc, found, listen, connections, operands)
         }
-        _ => Ok(Plan::Unknown),
+        _ => Ok(Plan::Nothing),
     }
 }
 

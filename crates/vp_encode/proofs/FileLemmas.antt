@@ -1,5 +1,5 @@
 -- A file's pictures are encoded, one after another.
-use Rattle.std.proofs.Common.{◌≡◌, ◌≢◌, ℕ, ◌+◌, ◌^◌, ◌<◌, ◌≤◌, List, [], ◌∷◌, ◌++◌, length, map, Option, Some, None, Result, Ok, Err, refl, sym, ap, subst, ◌∙◌, inl, inr, append_assoc, add-zero, arith}
+use Rattle.std.proofs.Common.{◌≡◌, ◌≢◌, ℕ, ◌+◌, ◌^◌, ◌<◌, ◌≤◌, List, [], ◌∷◌, ◌++◌, length, map, Option, Some, None, Result, Ok, Err, refl, sym, ap, subst, ◌∙◌, inl, inr, append_assoc, add-zero, add-one, suc, arith}
 use Rattle.std.specs.List.{All, sum_by}
 use Rattle.std.specs.Io.KnownBytes.{Appends, Consumes, IsAtEnd}
 use Rattle.std.proofs.KnownBytes.{Consumes-nil, Consumes-trans}
@@ -23,7 +23,7 @@ use Rattle.vp_encode.specs.declared.report.EncodeAllFault.TheVariants as fault
 use Rattle.vp_encode.specs.Encoder.{Encoding}
 use Rattle.vp_encode.specs.Encoded.{EncodedFrame, IsEncoded, AreEncoded, fresh, error_of}
 use Rattle.vp_encode.specs.Pictures.{IsPicture, BeginWith}
-use Rattle.vp_encode.specs.File.{Work, IsDone, IsWhole, HasOneMore, IsReported, IsEndedBy, source_of, packet_of, ivf_text, text_of, fault_by}
+use Rattle.vp_encode.specs.File.{IsToldMore, Work, IsDone, IsWhole, HasOneMore, IsReported, IsEndedBy, source_of, packet_of, ivf_text, text_of, fault_by, numbers_to}
 use Rattle.vp_encode.specs.Run.{Running, IsAdded, IsRefused, IsHeadLine, IsBegun, IsAt, IsRun, Ends, start}
 
 -- ---- one more picture
@@ -78,6 +78,22 @@ at_more head begun now new bytes taken frames f h is next a =
       few = let room = a.room in let same = ap (λ (l : Limits). l.packets) h.limits in omega (arith, length-append frames (f ∷ []));
       small = All-push P frames f h.small (let L : Limits → Type 0 = λ l. length f.packet ≤ l.packet_bytes in subst L h.limits a.small);
     }
+
+-- ---- what a watcher is told
+
+pub told_first : (r : Running) (told : List ℕ → Type 0) → r ≡ start r.limits (fresh r.encoder.dim r.encoder.settings) → IsToldMore told told (numbers_to (length r.packets))
+told_first r told first = λ earlier is.
+    let none : length r.packets ≡ 0 = ap (λ (x : Running). length x.packets) first in
+    subst (λ (n : ℕ). told (earlier ++ numbers_to n)) (sym none) (subst told (sym (append-nil earlier)) is)
+
+pub told_more : (before mid after : List ℕ → Type 0) (now new : Running) (f : EncodedFrame) (frames : ℕ) → IsToldMore before mid (numbers_to (length now.packets))
+    → IsAdded now f new → frames ≡ length new.packets → IsToldMore mid after (frames ∷ []) → IsToldMore before after (numbers_to (length new.packets))
+told_more before mid after now new f frames told added is more = λ earlier was.
+    let many : length new.packets ≡ suc (length now.packets) = ap length added.packets ∙ length-append now.packets (f.packet ∷ []) ∙ add-one (length now.packets) in
+    let told_now = more (earlier ++ numbers_to (length now.packets)) (told earlier was) in
+    subst (λ (n : ℕ). after (earlier ++ numbers_to n)) (sym many)
+    (subst after (append_assoc earlier (numbers_to (length now.packets)) (suc (length now.packets) ∷ []))
+    (subst (λ (n : ℕ). after ((earlier ++ numbers_to (length now.packets)) ++ n ∷ [])) (is ∙ many) told_now))
 
 -- ---- the ends
 

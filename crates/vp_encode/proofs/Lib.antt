@@ -15,3 +15,4 @@ pub mod TestLemmas
 pub mod FileLemmas
 pub mod WritingLemmas
 pub mod PlayingLemmas
+pub mod CallLemmas

@@ -21,7 +21,7 @@ use Rattle.vp_y4m.specs.Pictures.{file_head, head_line, with_rest}
 use Rattle.vp_encode.specs.Encoder.{Encoding}
 use Rattle.vp_encode.specs.Encoded.{EncodedFrame, AreEncoded, fresh}
 use Rattle.vp_encode.specs.File.{timed, packet_of}
-use Rattle.vp_encode.specs.Playing.{answers_from, EncodedFilesPlayBack, EncodedFilesFit, shown}
+use Rattle.vp_encode.specs.Playing.{answers_to, bytes_of, EncodedFilesPlayBack, EncodedFilesFit, shown}
 
 -- ---- a head's numbers are small, and its size is within the limits
 
@@ -135,7 +135,7 @@ file_small pixels file h body e = first_small pixels (first_line file) h body e
 -- ---- decoding shows the reconstructions
 
 answers_are : (limits : Limits) (n : ℕ) (e : Encoding) (fs : List EncodedFrame) (last : Encoding) → AreEncoded e fs last → e.dim.w * e.dim.h ≤ limits.pixels
-    → answers_from limits e.state (map timed (enumerate_from n (map packet_of fs))) ≡ map shown fs
+    → answers_to limits e.state (map bytes_of (map timed (enumerate_from n (map packet_of fs)))) ≡ map shown fs
 answers_are limits n e [] last h fit = refl
 answers_are limits n e (f ∷ fs) last h fit =
     let one = h.1.decoded limits fit in
@@ -174,6 +174,6 @@ plays limits others settings file w d fit =
     let fit_dim : d.dim.w * d.dim.h ≤ others.pixels = subst (λ (x : ℕ). Q x d.dim.h) (sym same_w) (subst (λ (y : ℕ). Q w.head.w y) (sym same_h) fit.pixels) in
     record {
       ends = ends_well others.packet_bytes others.packets head (length (map packet_of w.frames)) packets is_head allowed long;
-      pictures = ap (λ (c : Contents). answers_from others None c.packets) (read_back others.packet_bytes others.packets head (length (map packet_of w.frames)) packets is_head allowed long)
+      pictures = ap (λ (c : Contents). answers_to others None (map bytes_of c.packets)) (read_back others.packet_bytes others.packets head (length (map packet_of w.frames)) packets is_head allowed long)
           ∙ answers_are others 0 (fresh d.dim settings) w.frames w.encoder d.encoded fit_dim;
     }

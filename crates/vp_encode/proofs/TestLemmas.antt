@@ -1,5 +1,5 @@
 -- Frames of one kind of macroblock.
-use Rattle.std.proofs.Common.{◌≡◌, ◌∙◌, [], ◌∷◌, map, ◌<◌, ◌+◌, ◌*◌, ℕ, zero, suc, Bool, true, false, get_or, refl, ap, arith, replicate}
+use Rattle.std.proofs.Common.{◌≡◌, ◌∙◌, [], ◌∷◌, map, ◌<◌, ◌+◌, ◌*◌, ℕ, zero, suc, Bool, false, get_or, refl, ap, arith, replicate}
 use Rattle.std.specs.Prelude.{pos, unwrap_or, slice_get}
 use Rattle.std.proofs.lemmas.Bool.{lt-ltb}
 use Rattle.std.proofs.lemmas.List.{get_or-replicate}
@@ -36,32 +36,32 @@ none_at (suc n) zero = refl
 none_at (suc n) (suc i) = none_at n i
 
 -- blocks without tokens can be told
-none_spelled : AreSpelled true no_blocks
-none_spelled = record {
+none_spelled : (y2 : Bool) → AreSpelled y2 no_blocks
+none_spelled y2 = record {
   each = λ k below. rw (get_or-replicate 25 k no_tokens no_tokens below) (record {
     before = λ i h. none_at 16 i;
     begun = λ h. absurd (omega arith);
     ended = λ h. absurd (omega arith);
   });
-  no_y2 = λ e. absurd cc;
+  no_y2 = λ e. get_or-replicate 25 0 no_tokens no_tokens (omega arith);
 }
 
--- a frame of one column of one macroblock without levels
-pub flat_told : (rows : ℕ) (key : Bool) (before : Grid Modes) (h : Header) (m : Choice) (g : Grid Choice) → g ≡ all 1 rows m → head.IsSpelled key defaults h
-    → ((p : Place) → p.column < 1 → p.row < rows → modes.IsSpelled h before p m.modes) → has_y2 m ≡ true → m.tokens.blocks ≡ no_blocks
+-- a frame of one macroblock without levels, at each place
+pub flat_told : (columns rows : ℕ) (key : Bool) (before : Grid Modes) (h : Header) (m : Choice) (g : Grid Choice) → g ≡ all columns rows m → head.IsSpelled key defaults h
+    → ((p : Place) → p.column < columns → p.row < rows → modes.IsSpelled h before p m.modes) → m.tokens.blocks ≡ no_blocks
     → (is_intra m.modes.reference ≡ false → (c : Candidates) → CanBeWritten c m.motion) → CanBeTold key defaults before (record { header = h; macroblocks = g })
-flat_told rows key before h m g grid spelled told y2 none still =
+flat_told columns rows key before h m g grid spelled told none still =
     let coded : Coded = record { header = h; macroblocks = g } in
-    let column : (p : Place) → Has g p → p.column < 1 = λ p inside. omega (arith, inside.column, ap (λ (g : Grid Choice). g.columns) grid) in
+    let column : (p : Place) → Has g p → p.column < columns = λ p inside. omega (arith, inside.column, ap (λ (g : Grid Choice). g.columns) grid) in
     let row : (p : Place) → Has g p → p.row < rows = λ p inside. omega (arith, inside.row, ap (λ (g : Grid Choice). g.rows) grid) in
     let at_p : (p : Place) → Has g p → macroblock_at coded p ≡ m = λ p inside.
-    ap (λ (g : Grid Choice). at nothing g p) grid ∙ all_at 1 rows m p (column p inside) (row p inside) in
+    ap (λ (g : Grid Choice). at nothing g p) grid ∙ all_at columns rows m p (column p inside) (row p inside) in
     record {
       header = spelled;
       modes = λ p inside. rw (at_p p inside) (told p (column p inside) (row p inside));
       motion = λ p inside away. let away_too = rw (at_p p inside) at away in rw (at_p p inside) (still away_too (candidates (motion_of coded) p m.modes.reference h.biases));
       tokens = record {
-        blocks = λ p inside. rw (at_p p inside, y2, none) none_spelled;
+        blocks = λ p inside. rw (at_p p inside, none) (none_spelled (has_y2 m));
         skipped = λ p inside e. rw (at_p p inside) none;
       };
     }

@@ -1,11 +1,12 @@
 -- How the work on a source file ends.
-use Rattle.std.specs.Prelude.{◌≡◌, ◌≤◌, ◌<◌, ◌⊎◌, ℕ, List, [], ◌∷◌, Option, None, Result, Ok, Err, length, map}
+use Rattle.std.specs.Prelude.{◌≡◌, ◌≢◌, ◌≤◌, ◌<◌, ◌⊎◌, ℕ, zero, suc, List, [], ◌∷◌, ◌++◌, Option, None, Result, Ok, Err, OnOk, IfOk, length, map}
 use Rattle.std.specs.List.{All, enumerate_from}
-use Rattle.std.specs.Io.KnownBytes.{Appends}
+use Rattle.std.specs.Io.KnownBytes.{Appends, Consumes, IsAtEnd}
 use Rattle.vp_base.specs.declared.limits.Dim.{Dim}
 use Rattle.vp_base.specs.declared.limits.Limits.{Limits}
 use Rattle.vp_base.specs.Image.{Image}
-use Rattle.vp_base.specs.Counted.{AppendsFront}
+use Rattle.vp_base.specs.declared.counted.Counted.{Counted}
+use Rattle.vp_base.specs.Counted.{AppendsFront, HasFailed, counted_contents, counted_failures, counted_remaining}
 use Rattle.vp_ivf.specs.declared.packet.Packet.{Packet}
 use Rattle.vp_ivf.specs.Text.{file_text}
 use Rattle.vp_y4m.specs.declared.fault.SourceFault.{SourceFault}
@@ -116,3 +117,36 @@ IsEndedBy limits settings fault.Memory file before after = Unit {0}
 abbrev pub IsAnswerFor : Limits → Settings → Result EncodeReport EncodeAllFault → List ℕ → Option (List ℕ) → Option (List ℕ) → Type 0
 IsAnswerFor limits settings (Ok report) file before after = IsReported limits settings report file before after
 IsAnswerFor limits settings (Err fault) file before after = IsEndedBy limits settings fault file before after
+
+-- ---- the whole work, from a reader to a writer
+
+-- what is read and written, where their bytes are known
+pub record IsAnswerOver {R W : Type 0} (remaining : R → Option (List ℕ)) (contents : W → Option (List ℕ)) (limits : Limits) (settings : Settings)
+    (result : Result EncodeReport EncodeAllFault) (reader reader' : Counted R) (writer writer' : Counted W) : Type 0 where
+  pub file : List ℕ
+  pub consumed : Consumes (counted_remaining remaining reader) (counted_remaining remaining reader') file
+  pub answer : IsAnswerFor limits settings result file (counted_contents contents writer) (counted_contents contents writer')
+  pub unwritten : (f : EncodeAllFault) → result ≡ Err f → f ≢ fault.Device → writer' ≡ writer
+  -- A report, and `Torn`, come only at the reader's end.
+  pub end : OnOk result (IsAtEnd (counted_remaining remaining reader'))
+  pub torn : result ≡ Err fault.Torn → IsAtEnd (counted_remaining remaining reader')
+  -- `Device` comes where a read or a write failed, and only there.
+  pub device : result ≡ Err fault.Device
+      → HasFailed (counted_failures reader) (counted_failures reader') ⊎ HasFailed (counted_failures writer) (counted_failures writer')
+  pub quiet : result ≢ Err fault.Device
+      → (counted_failures reader' ≡ counted_failures reader) × (counted_failures writer' ≡ counted_failures writer)
+
+-- 1, 2, .. n
+abbrev pub numbers_to : ℕ → List ℕ
+numbers_to zero = []
+numbers_to (suc n) = numbers_to n ++ suc n ∷ []
+
+-- Whatever numbers a watcher was told before, it was told these behind them.
+abbrev pub IsToldMore : (before after : List ℕ → Type 0) → List ℕ → Type 0
+IsToldMore before after numbers = (earlier : List ℕ) → before earlier → after (earlier ++ numbers)
+
+-- A watcher was told the number of each picture, once it was encoded: all of them, where there is a report.
+pub record IsWatched (result : Result EncodeReport EncodeAllFault) (before after : List ℕ → Type 0) : Type 0 where
+  pub pictures : ℕ
+  pub told : IsToldMore before after (numbers_to pictures)
+  pub all : IfOk result (λ r. r.frames ≡ pictures)

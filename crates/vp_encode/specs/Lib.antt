@@ -14,3 +14,4 @@ pub mod File
 pub mod Names
 pub mod Run
 pub mod Playing
+pub mod Calls

@@ -11,9 +11,9 @@ use Rattle.vp_encode.specs.Encoded.{EncodedFrame}
 use Rattle.vp_encode.specs.File.{Work, IsDone, text_of}
 
 -- the answers for packets, one after another, from a state (RFC 6386, chapter 5)
-abbrev pub answers_from : Limits → Option Kept → List Packet → List Answer
-answers_from limits state [] = []
-answers_from limits state (p ∷ ps) = (step limits state p.bytes).1 ∷ answers_from limits (step limits state p.bytes).0 ps
+abbrev pub answers_to : Limits → Option Kept → List (List ℕ) → List Answer
+answers_to limits state [] = []
+answers_to limits state (p ∷ ps) = (step limits state p).1 ∷ answers_to limits (step limits state p).0 ps
 
 -- what was written, read again
 abbrev pub written : Limits → Work → Contents
@@ -25,13 +25,16 @@ pub record FitsLimits (limits : Limits) (w : Work) : Type 0 where
   pub packets : length w.frames ≤ limits.packets
   pub packet_bytes : All (λ f. length f.packet ≤ limits.packet_bytes) w.frames
 
+abbrev pub bytes_of : Packet → List ℕ
+bytes_of p = p.bytes
+
 abbrev pub shown : EncodedFrame → Answer
 shown f = Shown f.recon
 
 -- It ends well, and its packets, the first one decoded from no state, show the reconstructions: one for each picture, in order.
 pub record PlaysBack (limits : Limits) (w : Work) : Type 0 where
   pub ends : finish_answer (written limits w) ≡ Ok tt
-  pub pictures : answers_from limits None (written limits w).packets ≡ map shown w.frames
+  pub pictures : answers_to limits None (map bytes_of (written limits w).packets) ≡ map shown w.frames
 
 -- so does each file, under all limits that it fits
 abbrev pub EncodedFilesPlayBack : Type 0

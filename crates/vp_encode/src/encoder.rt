@@ -1,6 +1,6 @@
 //! Frames encoded, one after another.
 
-ghost use Rattle.std.specs.Prelude.{◌≡◌, ◌≢◌, ◌⊎◌, ◌≤◌, ◌+◌, ◌*◌, ◌↔◌, None, Err, IsErr, IfOk, IfErr, IfSome, IsTrue, option_map, if◌then◌else◌};
+ghost use Rattle.std.specs.Prelude.{◌≡◌, ◌≢◌, ◌⊎◌, ◌≤◌, ◌+◌, ◌*◌, ◌↔◌, ◌++◌, ◌∷◌, [], List, None, Err, IsErr, IfOk, IfErr, IfSome, IsTrue, option_map, if◌then◌else◌};
 ghost use Rattle.vp_base.specs.declared.limits.Limits.{Limits};
 ghost use Rattle.vp_base.specs.Image.{macroblocks};
 ghost use Rattle.vp_decode.specs.Step.{Shown, step};
@@ -11,6 +11,7 @@ ghost use Rattle.vp_encode.specs.Encoder.{AreAllowed, is_key, kept_for, basis_fo
 ghost use Rattle.vp_encode.specs.TooLong.{IsFrameFor, IsTooLong, IsTooLongOver};
 ghost use Rattle.vp_encode.specs.Between.{HasSize, IsPacketOver, IsKeptFor, Shows};
 ghost use Rattle.vp_encode.specs.Chosen.{IsChosen, squared_distance};
+ghost use Rattle.vp_encode.specs.Calls.{Call, StandsFor};
 
 use crate::coded::Coded;
 use crate::distance::squared_distance;
@@ -103,6 +104,7 @@ impl Encoder {
         ensures ok { IfOk result (λ e. e ≡ record { dim = dim; settings = settings; state = None; since = 0 }) }
         ensures allowed { IfOk result (λ _. AreAllowed settings) }
         ensures settings { IsErr result → ¬ (AreAllowed settings) }
+        ensures stands { IfOk result (λ e. StandsFor e []) }
     {
         if !are_allowed(&settings) {
             return Err(SettingsFault::Settings);
@@ -132,6 +134,9 @@ impl Encoder {
         // A refused frame leaves no state, so that the next one is a key frame.
         ensures forgotten { (result ≡ Err EncodeFault.TooLong) ⊎ (result ≡ Err EncodeFault.Memory) → self.new.state ≡ None }
         ensures too_long { result ≡ Err EncodeFault.TooLong → IsTooLong self.old source.now }
+        // What stands for the calls since `new` stands for them and this one.
+        ensures stands { (calls : List Call) → StandsFor self.old calls
+            → StandsFor self.new (calls ++ record { source = source.now; result = result } ∷ []) }
     {
         let dim = source.dim();
         if dim.w != self.dim.w || dim.h != self.dim.h {

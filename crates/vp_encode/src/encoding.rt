@@ -1,16 +1,16 @@
 //! Encoding a whole file.
 
-ghost use Rattle.std.specs.Prelude.{◌≡◌, ◌≢◌, ◌⊎◌, ◌<◌, ◌^◌, ◌++◌, ℕ, List, length, OnOk, OnErr, Err};
+ghost use Rattle.std.specs.Prelude.{◌≡◌, ◌≢◌, ◌<◌, ◌^◌, ◌++◌, ◌∷◌, ℕ, List, [], ⊤, length, OnOk, OnErr, Err};
 ghost use Rattle.std.specs.List.{All};
 ghost use Rattle.std.specs.Io.KnownBytes.{Appends, Consumes, IsAtEnd};
-ghost use Rattle.vp_base.specs.Counted.{counted_remaining, counted_contents, counted_failures, HasFailed, AppendsFront};
+ghost use Rattle.vp_base.specs.Counted.{counted_contents, counted_failures, HasFailed, AppendsFront};
 ghost use Rattle.vp_y4m.specs.declared.source.Progress.{Progress};
 ghost use Rattle.vp_y4m.specs.Shown.{head_shown};
 ghost use Rattle.vp_y4m.specs.Source.{reader_name, bytes_left, failures_of, head_of, progress_of};
 ghost use Rattle.vp_encode.specs.declared.report.EncodeAllFault.{EncodeAllFault};
 ghost use Rattle.vp_encode.specs.Encoder.{AreAllowed};
 ghost use Rattle.vp_encode.specs.Encoded.{fresh};
-ghost use Rattle.vp_encode.specs.File.{IsAnswerFor, ivf_text};
+ghost use Rattle.vp_encode.specs.File.{IsAnswerOver, IsToldMore, IsWatched, ivf_text, numbers_to};
 ghost use Rattle.vp_encode.specs.Run.{start, IsHeadLine, Ends};
 
 use crate::encoder::Encoder;
@@ -25,8 +25,12 @@ use vp_y4m::{Source, SourceHead};
 
 /// Is told of each picture of a file that is encoded.
 pub trait Watcher {
+    /// What it is where it was told these numbers, one after another.
+    ghost told: { Self → List ℕ → Type 0 };
+
     /// So many pictures are encoded.
-    fn encoded(&mut self, frames: u32);
+    fn encoded(&mut self, frames: u32)
+        ensures { (before : List ℕ) → told self.old before → told self.new (before ++ frames ∷ []) };
 }
 
 /// Looks at nothing.
@@ -34,6 +38,8 @@ pub trait Watcher {
 pub struct Unwatched;
 
 impl Watcher for Unwatched {
+    ghost told = { λ _ _. ⊤ };
+
     fn encoded(&mut self, _frames: u32) {}
 }
 
@@ -50,29 +56,12 @@ pub fn encode_all<R: Read, W: Write>(
     settings: Settings,
     limits: Limits,
 ) -> Result<EncodeReport, EncodeAllFault>
-    ensures encoded { (file : List ℕ)
-        × Consumes (counted_remaining R.remaining reader.old) (counted_remaining R.remaining reader.new) file
-        × IsAnswerFor limits settings result file (counted_contents W.contents writer.old)
-        (counted_contents W.contents writer.new) }
-    ensures unwritten { (fault : EncodeAllFault) → result ≡ Err fault → fault ≢ EncodeAllFault.Device
-        → writer.new ≡ writer.old }
-
-    // A report, and `Torn`, come only at the reader's end.
-    ensures end { OnOk result (IsAtEnd (counted_remaining R.remaining reader.new)) }
-    ensures torn { result ≡ Err EncodeAllFault.Torn → IsAtEnd (counted_remaining R.remaining reader.new) }
-
-    // `Device` comes where a read or a write failed, and only there.
-    ensures device { result ≡ Err EncodeAllFault.Device →
-        HasFailed (counted_failures reader.old) (counted_failures reader.new)
-        ⊎ HasFailed (counted_failures writer.old) (counted_failures writer.new) }
-    ensures quiet { result ≢ Err EncodeAllFault.Device →
-        (counted_failures reader.new ≡ counted_failures reader.old)
-        × (counted_failures writer.new ≡ counted_failures writer.old) }
+    ensures answer { IsAnswerOver R.remaining W.contents limits settings result reader.old reader.new writer.old writer.new }
 {
     encode_all_watched(alloc, reader, writer, settings, limits, &mut Unwatched)
 }
 
-/// The same, and `watcher` is told of each picture.
+/// The same, and `watcher` is told of each picture once it is encoded, by how many there are.
 pub fn encode_all_watched<R: Read, W: Write, T: Watcher>(
     alloc: Global,
     reader: &mut Counted<R>,
@@ -81,24 +70,8 @@ pub fn encode_all_watched<R: Read, W: Write, T: Watcher>(
     limits: Limits,
     watcher: &mut T,
 ) -> Result<EncodeReport, EncodeAllFault>
-    ensures encoded { (file : List ℕ)
-        × Consumes (counted_remaining R.remaining reader.old) (counted_remaining R.remaining reader.new) file
-        × IsAnswerFor limits settings result file (counted_contents W.contents writer.old)
-        (counted_contents W.contents writer.new) }
-    ensures unwritten { (fault : EncodeAllFault) → result ≡ Err fault → fault ≢ EncodeAllFault.Device
-        → writer.new ≡ writer.old }
-
-    // A report, and `Torn`, come only at the reader's end.
-    ensures end { OnOk result (IsAtEnd (counted_remaining R.remaining reader.new)) }
-    ensures torn { result ≡ Err EncodeAllFault.Torn → IsAtEnd (counted_remaining R.remaining reader.new) }
-
-    // `Device` comes where a read or a write failed, and only there.
-    ensures device { result ≡ Err EncodeAllFault.Device →
-        HasFailed (counted_failures reader.old) (counted_failures reader.new)
-        ⊎ HasFailed (counted_failures writer.old) (counted_failures writer.new) }
-    ensures quiet { result ≢ Err EncodeAllFault.Device →
-        (counted_failures reader.new ≡ counted_failures reader.old)
-        × (counted_failures writer.new ≡ counted_failures writer.old) }
+    ensures answer { IsAnswerOver R.remaining W.contents limits settings result reader.old reader.new writer.old writer.new }
+    ensures watched { IsWatched result (T.told watcher.old) (T.told watcher.new) }
 {
     let head = SourceHead::read(reader, limits)?;
     let encoder = Encoder::new(alloc, head.dim, settings)?;
@@ -129,6 +102,7 @@ fn encode_pictures<R: Read, T: Watcher>(
     ensures torn { result ≡ Err EncodeAllFault.Torn → IsAtEnd (bytes_left R.remaining source.new) }
     ensures device { result ≡ Err EncodeAllFault.Device → HasFailed (failures_of source.old) (failures_of source.new) }
     ensures quiet { result ≢ Err EncodeAllFault.Device → failures_of source.new ≡ failures_of source.old }
+    ensures watched { (n : ℕ) × IsToldMore (T.told watcher.old) (T.told watcher.new) (numbers_to n) × OnOk result (n ≡ length run.new.packets) }
 {
     while let Some(picture) = source.next_picture()? {
         run.picture(&picture)?;

@@ -1,6 +1,8 @@
 //! Whole files: what is written, and what is refused.
 
-use crate::{EncodeAllFault, Settings, encode_all};
+ghost use Rattle.std.specs.Prelude.{◌≡◌, false};
+
+use crate::{EncodeAllFault, Settings, Watcher, encode_all, encode_all_watched};
 use std::alloc::{AllocError, Global};
 use std::test::Fail;
 use vp_base::{Counted, FailAt, Limits};
@@ -167,6 +169,45 @@ fn fails_at_the_first_write(rt: HostRuntime) -> Result<(), Fail> {
     );
     assert_eq!(rt; done.err(), Some(EncodeAllFault::Device));
     assert_eq!(rt; writer.failures(), 1);
+    Ok(())
+}
+
+/// Keeps the numbers that it is told, unless memory is refused.
+#[derive(Drop)]
+struct Keeping {
+    numbers: Vec<u32>,
+    refused: bool,
+}
+
+impl Watcher for Keeping {
+    ghost told = { λ w numbers. w.refused ≡ false → w.numbers.items ≡ numbers };
+
+    fn encoded(&mut self, frames: u32) {
+        if self.numbers.push(frames).is_err() {
+            self.refused = true;
+        }
+    }
+}
+
+#[test]
+fn pictures_are_told(rt: HostRuntime) -> Result<(), Fail> {
+    let bytes = source(rt.alloc(), 3)?;
+    let mut reader = Counted::new(bytes.as_slice());
+    let mut writer = Counted::new(Vec::new(rt.alloc()));
+    let mut watcher = Keeping {
+        numbers: Vec::new(rt.alloc()),
+        refused: false,
+    };
+    let done = encode_all_watched(
+        rt.alloc(),
+        &mut reader,
+        &mut writer,
+        settings(0),
+        Limits::usual(),
+        &mut watcher,
+    );
+    assert!(rt; done.is_ok());
+    assert_eq!(rt; watcher.numbers.as_slice(), [1, 2, 3].as_slice());
     Ok(())
 }
 

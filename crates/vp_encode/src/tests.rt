@@ -17,7 +17,8 @@ ghost use Rattle.vp_tokens.specs.Blocks.{no_blocks};
 ghost use Rattle.vp_encode.specs.Coded.{has_y2, CanBeTold};
 
 use crate::{
-    Coded, EncodeFault, Encoder, Settings, SettingsFault, write_inter_packet, write_key_packet,
+    Coded, EncodeFault, Encoder, PacketError, Settings, SettingsFault, write_inter_packet,
+    write_key_packet,
 };
 use std::alloc::{AllocError, Global};
 use std::test::Fail;
@@ -151,6 +152,45 @@ fn still_frame(alloc: Global) -> Result<Coded, AllocError>
     })
 }
 
+/// A skipped macroblock whose subblocks are predicted left and down, and vertical right, as the fields of a chessboard are
+/// white and black: side by side, no others take more bools to be told.
+fn chessboard() -> Choice
+    ensures spelled { (h : Header) (g : Grid Modes) (p : Place) → h.key ≡ true → IsSome h.skip → modes_spelled h g p result.modes }
+    ensures reference { result.modes.reference ≡ Intra }
+    ensures none { result.tokens.blocks ≡ no_blocks }
+{
+    let [a, b] = [SubMode::Ld, SubMode::Vr];
+    Choice {
+        modes: Modes {
+            segment: 0,
+            skip: true,
+            reference: Reference::Intra,
+            luma: LumaMode::B,
+            subs: [a, b, a, b, b, a, b, a, a, b, a, b, b, a, b, a],
+            chroma: ChromaMode::Dc,
+        },
+        motion: Motion {
+            mode: VectorMode::Zero,
+            vectors: [Vector { row: 0, column: 0 }; 16],
+        },
+        tokens: Tokens {
+            blocks: [Block::NONE; 25],
+        },
+    }
+}
+
+/// The key packet of a frame of this size that has no other macroblocks.
+fn chessboard_packet(alloc: Global, dim: Dim) -> Result<ByteList, PacketError> {
+    let columns = usize::from(dim.mb_cols());
+    let rows = usize::from(dim.mb_rows());
+    let macroblocks = Grid::new(alloc, columns, rows, chessboard())?;
+    let coded = Coded {
+        header: header(true, 0),
+        macroblocks,
+    };
+    write_key_packet(alloc, dim, &coded)
+}
+
 /// The luma of the first column, one pixel of each row of macroblocks, as the decoder shows it behind this packet.
 fn first_column(
     alloc: Global,
@@ -204,6 +244,18 @@ fn still_frame_keeps_last(rt: HostRuntime) -> Result<(), Fail> {
     assert_eq!(rt; shown.as_slice(), [127].as_slice());
     let shown = first_column(rt.alloc(), &mut decoder, &second)?;
     assert_eq!(rt; shown.as_slice(), [127].as_slice());
+    Ok(())
+}
+
+/// The first partition of one row of macroblocks less has 522,772 bytes, and this one 526,705, by a script apart from this
+/// program; its size has 19 bits.
+#[test]
+fn first_partition_too_long(rt: HostRuntime) -> Result<(), Fail> {
+    let fits = Dim::new(2400, 2128, &Limits::usual())?;
+    assert!(rt; chessboard_packet(rt.alloc(), fits).is_ok());
+    let taller = Dim::new(2400, 2144, &Limits::usual())?;
+    let refused = chessboard_packet(rt.alloc(), taller).err();
+    assert_eq!(rt; refused, Some(PacketError::TooLong));
     Ok(())
 }
 

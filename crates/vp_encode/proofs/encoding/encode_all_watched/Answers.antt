@@ -10,27 +10,54 @@ use Rattle.vp_encode.specs.Run.{Running}
 use Rattle.vp_encode.proofs.FileLemmas.{head_failed, work_ends, all_small, written_front, written_whole}
 use Rattle.vp_encode.proofs.encoding.encode_all_watched.Goals as goal
 
-pub returns-in_err-head-clause-encoded : goal.returns-in_err-head-clause-encoded
-returns-in_err-head-clause-encoded g c =
+pub returns-in_err-head-clause-answer : goal.returns-in_err-head-clause-answer
+returns-in_err-head-clause-answer g c =
     let p = err_from_is_err_and c.from_residual.result c.from_residual.ensures.1 in
     let now = head_failed c.args.limits c.args.settings c.in_err-head.field-0.0 (counted_remaining g.R.Read.remaining c.args.reader.now) (counted_remaining g.R.Read.remaining c.read.new.reader) c.in_err-head.ensures.err in
-    rw (p.1, p.2) (now.0, now.1, now.2 (counted_contents g.W.Write.contents c.args.writer.now))
+    record {
+      file = now.0;
+      consumed = now.1;
+      answer = rw (p.1, p.2) (now.2 (counted_contents g.W.Write.contents c.args.writer.now));
+      unwritten = search rules;
+      end = search rules;
+      torn = search rules;
+      device = search rules;
+      quiet = search rules;
+    }
 
-pub returns-in_err-encoder-clause-encoded : goal.returns-in_err-encoder-clause-encoded
-returns-in_err-encoder-clause-encoded g c =
+pub returns-in_err-encoder-clause-answer : goal.returns-in_err-encoder-clause-answer
+returns-in_err-encoder-clause-answer g c =
     let p = err_from_is_err_and c.from_residual-in_err-encoder.result c.from_residual-in_err-encoder.ensures.1 in
     let s = c.in_ok-head.ensures.ok in
-    rw (p.1, p.2) (s.taken, s.consumed, (head_shown c.in_ok-head.head, ap (file_head c.args.limits.pixels) (sym (append-nil s.taken)) ∙ s.shown [], c.in_err-encoder.ensures.settings refl))
+    record {
+      file = s.taken;
+      consumed = s.consumed;
+      answer = rw (p.1, p.2) (head_shown c.in_ok-head.head, ap (file_head c.args.limits.pixels) (sym (append-nil s.taken)) ∙ s.shown [], c.in_err-encoder.ensures.settings refl);
+      unwritten = search rules;
+      end = search rules;
+      torn = search rules;
+      device = search rules;
+      quiet = search rules;
+    }
 
-pub returns-in_err-encode_pictures-clause-encoded :
-    goal.returns-in_err-encode_pictures-clause-encoded
-returns-in_err-encode_pictures-clause-encoded g c =
+pub returns-in_err-encode_pictures-clause-answer :
+    goal.returns-in_err-encode_pictures-clause-answer
+returns-in_err-encode_pictures-clause-answer g c =
     let p = err_from_is_err_and c.from_residual-in_err-encode_pictures.result c.from_residual-in_err-encode_pictures.ensures.1 in
     let set : c.new-run.result.encoder.settings ≡ c.args.settings = ap (λ (r : Running). r.encoder.settings) c.new-run.ensures ∙ ap (λ (e : Encoding). e.settings) c.in_ok-encoder.ensures.ok in
     let k = work_ends c.args.limits c.args.settings c.new-run.result c.encode_pictures.new.run (head_shown c.in_ok-head.head) (head_of c.open-source.result)
     (counted_remaining g.R.Read.remaining c.args.reader.now) (counted_remaining g.R.Read.remaining c.read.new.reader) (bytes_left g.R.Read.remaining c.open-source.result) (bytes_left g.R.Read.remaining c.encode_pictures.new.source) (Err c.in_err-encode_pictures.field-0.0)
     (ap (λ (r : Running). r.limits) c.new-run.ensures) set c.open-source.ensures.head c.open-source.ensures.bytes c.in_ok-head.ensures.ok c.in_err-encode_pictures.ensures.ends in
-    rw (p.1, p.2) (k.0, search (rules, k.1), k.2 (counted_contents g.W.Write.contents c.args.writer.now))
+    record {
+      file = k.0;
+      consumed = search (rules, k.1);
+      answer = rw (p.1, p.2) (k.2 (counted_contents g.W.Write.contents c.args.writer.now));
+      unwritten = search rules;
+      end = search rules;
+      torn = search rules;
+      device = search rules;
+      quiet = search rules;
+    }
 
 pub write_file-requires-clause-small : goal.write_file-requires-clause-small
 write_file-requires-clause-small g c =
@@ -40,28 +67,51 @@ write_file-requires-clause-small g c =
     (ap (λ (r : Running). r.limits) c.new-run.ensures) set c.open-source.ensures.head c.open-source.ensures.bytes c.in_ok-head.ensures.ok c.in_ok-encode_pictures.ensures.ends in
     all_small c.args.limits c.args.settings (head_shown c.in_ok-head.head) k.0 c.encode_pictures.new.run c.packets.result.now c.packets.ensures k.2
 
-pub returns-in_err-write_file-clause-encoded : goal.returns-in_err-write_file-clause-encoded
-returns-in_err-write_file-clause-encoded g c =
+pub returns-in_err-write_file-clause-answer : goal.returns-in_err-write_file-clause-answer
+returns-in_err-write_file-clause-answer g c =
     let p = err_from_is_err_and c.from_residual-in_err-write_file.result c.from_residual-in_err-write_file.ensures.1 in
     let set : c.new-run.result.encoder.settings ≡ c.args.settings = ap (λ (r : Running). r.encoder.settings) c.new-run.ensures ∙ ap (λ (e : Encoding). e.settings) c.in_ok-encoder.ensures.ok in
     let k = work_ends c.args.limits c.args.settings c.new-run.result c.encode_pictures.new.run (head_shown c.in_ok-head.head) (head_of c.open-source.result)
     (counted_remaining g.R.Read.remaining c.args.reader.now) (counted_remaining g.R.Read.remaining c.read.new.reader) (bytes_left g.R.Read.remaining c.open-source.result) (bytes_left g.R.Read.remaining c.encode_pictures.new.source) (Ok c.in_ok-encode_pictures.field-0)
     (ap (λ (r : Running). r.limits) c.new-run.ensures) set c.open-source.ensures.head c.open-source.ensures.bytes c.in_ok-head.ensures.ok c.in_ok-encode_pictures.ensures.ends in
-    rw (p.1, p.2) (
-      k.0,
-      search (rules, k.1),
-      written_front c.args.limits c.args.settings (head_shown c.in_ok-head.head) k.0 c.encode_pictures.new.run c.packets.result.now c.packets.ensures k.2
-          (counted_contents g.W.Write.contents c.args.writer.now) (counted_contents g.W.Write.contents c.write_file.new.writer) c.in_err-write_file.ensures.prefix,
-    )
+    record {
+      file = k.0;
+      consumed = search (rules, k.1);
+      answer = rw (p.1, p.2) (written_front c.args.limits c.args.settings (head_shown c.in_ok-head.head) k.0 c.encode_pictures.new.run c.packets.result.now c.packets.ensures k.2
+          (counted_contents g.W.Write.contents c.args.writer.now) (counted_contents g.W.Write.contents c.write_file.new.writer) c.in_err-write_file.ensures.prefix);
+      unwritten = search rules;
+      end = search rules;
+      torn = search rules;
+      device = search rules;
+      quiet = search rules;
+    }
 
-pub returns-clause-encoded : goal.returns-clause-encoded
-returns-clause-encoded g c =
+pub returns-clause-answer : goal.returns-clause-answer
+returns-clause-answer g c =
     let set : c.new-run.result.encoder.settings ≡ c.args.settings = ap (λ (r : Running). r.encoder.settings) c.new-run.ensures ∙ ap (λ (e : Encoding). e.settings) c.in_ok-encoder.ensures.ok in
     let k = work_ends c.args.limits c.args.settings c.new-run.result c.encode_pictures.new.run (head_shown c.in_ok-head.head) (head_of c.open-source.result)
     (counted_remaining g.R.Read.remaining c.args.reader.now) (counted_remaining g.R.Read.remaining c.read.new.reader) (bytes_left g.R.Read.remaining c.open-source.result) (bytes_left g.R.Read.remaining c.encode_pictures.new.source) (Ok c.in_ok-encode_pictures.field-0)
-    (ap (λ (r : Running). r.limits) c.new-run.ensures) set c.open-source.ensures.head c.open-source.ensures.bytes c.in_ok-head.ensures.ok c.in_ok-encode_pictures.ensures.ends in (
-      k.0,
-      search (rules, k.1),
-      written_whole c.args.limits c.args.settings (head_shown c.in_ok-head.head) k.0 c.encode_pictures.new.run c.packets.result.now c.packets.ensures k.2
-          (counted_contents g.W.Write.contents c.args.writer.now) (counted_contents g.W.Write.contents c.write_file.new.writer) c.report.result c.report.ensures c.in_ok-write_file.ensures.ok,
-    )
+    (ap (λ (r : Running). r.limits) c.new-run.ensures) set c.open-source.ensures.head c.open-source.ensures.bytes c.in_ok-head.ensures.ok c.in_ok-encode_pictures.ensures.ends in
+    record {
+      file = k.0;
+      consumed = search (rules, k.1);
+      answer = written_whole c.args.limits c.args.settings (head_shown c.in_ok-head.head) k.0 c.encode_pictures.new.run c.packets.result.now c.packets.ensures k.2
+          (counted_contents g.W.Write.contents c.args.writer.now) (counted_contents g.W.Write.contents c.write_file.new.writer) c.report.result c.report.ensures c.in_ok-write_file.ensures.ok;
+      unwritten = search rules;
+      end = search rules;
+      torn = search rules;
+      device = search rules;
+      quiet = search rules;
+    }
+
+pub returns-in_err-encode_pictures-clause-watched : goal.returns-in_err-encode_pictures-clause-watched
+returns-in_err-encode_pictures-clause-watched g c =
+    let p = err_from_is_err_and c.from_residual-in_err-encode_pictures.result c.from_residual-in_err-encode_pictures.ensures.1 in
+    let told = c.in_err-encode_pictures.ensures.watched in
+    record { pictures = told.0; told = told.1; all = rw p.1 tt }
+
+pub returns-in_err-write_file-clause-watched : goal.returns-in_err-write_file-clause-watched
+returns-in_err-write_file-clause-watched g c =
+    let p = err_from_is_err_and c.from_residual-in_err-write_file.result c.from_residual-in_err-write_file.ensures.1 in
+    let told = c.in_ok-encode_pictures.ensures.watched in
+    record { pictures = told.0; told = told.1; all = rw p.1 tt }

@@ -1,4 +1,4 @@
-use Rattle.std.proofs.Common.{◌≡◌, ◌++◌, ◌∷◌, [], None, Ok, Err, refl, ap, ◌∙◌, arith}
+use Rattle.std.proofs.Common.{◌≡◌, ◌++◌, ◌∷◌, [], None, Ok, Err, length, refl, ap, ◌∙◌, arith}
 use Rattle.std.proofs.lemmas.Grind.{common_steps}
 use Rattle.std.proofs.lemmas.Result.{err_from_is_err_and}
 use Rattle.std.proofs.KnownBytes.{Consumes-nil, Consumes-trans}
@@ -7,7 +7,7 @@ use Rattle.vp_y4m.specs.Frames.{GivesPicture}
 use Rattle.vp_y4m.specs.Reads.{ShowsAtEnd}
 use Rattle.vp_y4m.specs.Pictures.{next_of}
 use Rattle.vp_encode.specs.Run.{IsBegun}
-use Rattle.vp_encode.proofs.FileLemmas.{at_start, next_failed, refused, ended, faulty_answer, given_answer, end_answer, is_picture, at_next}
+use Rattle.vp_encode.proofs.FileLemmas.{at_start, next_failed, refused, ended, faulty_answer, given_answer, end_answer, is_picture, at_next, told_first, told_more}
 use Rattle.vp_encode.proofs.encoding.encode_pictures.Goals as goal
 
 pub loop-picture-init : goal.loop-picture-init
@@ -20,6 +20,7 @@ loop-picture-init g c = (
   refl,
   c.requires.open,
   refl,
+  told_first c.args.run.now (g.T.Watcher.told c.args.watcher.now) c.requires.start,
 )
 
 pub returns-in_err-picture-clause-ends : goal.returns-in_err-picture-clause-ends
@@ -38,6 +39,11 @@ returns-in_err-picture-clause-ends g c = λ front line.
       now.2,
     )
 
+pub returns-in_err-picture-clause-watched : goal.returns-in_err-picture-clause-watched
+returns-in_err-picture-clause-watched g c =
+    let p = err_from_is_err_and c.from_residual.result c.from_residual.ensures.1 in
+    rw p.1 (length c.loop-picture.run.packets, c.loop-picture.invariant.8, tt)
+
 pub returns-in_err-picture-2-clause-ends : goal.returns-in_err-picture-2-clause-ends
 returns-in_err-picture-2-clause-ends g c = λ front line.
     let inv = c.loop-picture.invariant in
@@ -52,6 +58,11 @@ returns-in_err-picture-2-clause-ends g c = λ front line.
       Consumes-trans (bytes_left g.R.Read.remaining c.args.source.now) (bytes_left g.R.Read.remaining c.loop-picture.source) (bytes_left g.R.Read.remaining c.next_picture.new.self) inv.0 given.shown.taken inv.2 given.shown.consumed,
       refused front (head_of c.args.source.now) c.args.run.now c.loop-picture.run inv.0 inv.1 b inv.3 given.shown.taken c.in-Some.picture is given.shown.shown c.in_err-picture-2.field-0.0 c.in_err-picture-2.ensures,
     )
+
+pub returns-in_err-picture-2-clause-watched : goal.returns-in_err-picture-2-clause-watched
+returns-in_err-picture-2-clause-watched g c =
+    let p = err_from_is_err_and c.from_residual-in_err-picture-2.result c.from_residual-in_err-picture-2.ensures.1 in
+    rw p.1 (length c.loop-picture.run.packets, c.loop-picture.invariant.8, tt)
 
 pub loop-picture-preserved : goal.loop-picture-preserved
 loop-picture-preserved g c =
@@ -69,6 +80,7 @@ loop-picture-preserved g c =
       c.in_ok-picture.ensures.head ∙ inv.5,
       c.in_ok-picture.ensures.progress inv.6 (λ e. cc) ∙ ap progress_after (ap Ok c.in-Some.is),
       c.in_ok-picture.ensures.quiet inv.6 (λ e. cc) ∙ inv.7,
+      told_more (g.T.Watcher.told c.args.watcher.now) (g.T.Watcher.told c.loop-picture.watcher) (g.T.Watcher.told c.encoded.new.self) c.loop-picture.run c.picture-in-Some.new.self f.0 c.frames.result inv.8 f.2 c.frames.ensures c.encoded.ensures,
     )
 
 pub returns-clause-ends : goal.returns-clause-ends
@@ -84,3 +96,6 @@ returns-clause-ends g c = λ front line.
       Consumes-trans (bytes_left g.R.Read.remaining c.args.source.now) (bytes_left g.R.Read.remaining c.loop-picture.source) (bytes_left g.R.Read.remaining c.next_picture.new.self) inv.0 now.0 inv.2 now.1,
       now.3,
     )
+
+pub returns-clause-watched : goal.returns-clause-watched
+returns-clause-watched g c = (length c.loop-picture.run.packets, c.loop-picture.invariant.8, refl)

@@ -3,6 +3,7 @@ use Rattle.std.specs.Io.KnownBytes.{Consumes}
 use Rattle.vp_y4m.specs.declared.source.Progress.TheVariants.{Open}
 use Rattle.vp_y4m.specs.Source.{reader_name, bytes_left, failures_of, head_of, progress_of}
 use Rattle.vp_encode.specs.Encoded.{EncodedFrame}
+use Rattle.vp_encode.specs.File.{IsToldMore, numbers_to}
 use Rattle.vp_encode.specs.Run.{IsAt}
 use Rattle.vp_encode.proofs.encoding.encode_pictures.Given as goal
 
@@ -15,6 +16,7 @@ invariant-loop-picture g l =
     × (head_of l.source ≡ head_of l.fn.source)
     × (progress_of l.source ≡ Open)
     × (failures_of l.source ≡ failures_of l.fn.source)
+    × IsToldMore (g.T.Watcher.told l.fn.watcher) (g.T.Watcher.told l.watcher) (numbers_to (length l.run.packets))
 
 abbrev pub decreases-loop-picture : goal.decreases-loop-picture
 decreases-loop-picture g l = l.fn.run.limits.packets - length l.run.packets

@@ -6,5 +6,5 @@ use Rattle.vp_encode.proofs.tests.column_of.Goals as goal
 pub returns-clause-told : goal.returns-clause-told
 returns-clause-told c before =
     let f = c.macroblock.ensures in
-    flat_told c.args.rows true before c.header.result c.macroblock.result _ c.in_ok-macroblocks.ensures c.header.ensures.spelled
-    (λ p inside below. f.intra refl c.header.result before p c.header.ensures.spelled.kind c.header.ensures.skip) f.y2 f.none (λ away. absurd (let never : true ≡ false = ap is_intra (sym f.reference) ∙ away in cc))
+    flat_told 1 c.args.rows true before c.header.result c.macroblock.result _ c.in_ok-macroblocks.ensures c.header.ensures.spelled
+    (λ p inside below. f.intra refl c.header.result before p c.header.ensures.spelled.kind c.header.ensures.skip) f.none (λ away. absurd (let never : true ≡ false = ap is_intra (sym f.reference) ∙ away in cc))

@@ -7,5 +7,5 @@ use Rattle.vp_encode.proofs.tests.still_frame.Goals as goal
 pub returns-clause-told : goal.returns-clause-told
 returns-clause-told c =
     let f = c.macroblock.ensures in
-    flat_told 1 false (of_segments (all 1 1 0)) c.header.result c.macroblock.result _ c.in_ok-macroblocks.ensures c.header.ensures.spelled
-    (λ p inside below. f.inter refl refl c.header.result (of_segments (all 1 1 0)) p c.header.ensures.spelled.kind c.header.ensures.skip (zero_segment p inside below)) f.y2 f.none (λ away. f.still)
+    flat_told 1 1 false (of_segments (all 1 1 0)) c.header.result c.macroblock.result _ c.in_ok-macroblocks.ensures c.header.ensures.spelled
+    (λ p inside below. f.inter refl refl c.header.result (of_segments (all 1 1 0)) p c.header.ensures.spelled.kind c.header.ensures.skip (zero_segment p inside below)) f.none (λ away. f.still)

@@ -1,0 +1,29 @@
+use Rattle.std.proofs.Common.{Ok, Err, refl, ap, ◌∙◌}
+use Rattle.vp_decode.specs.Step.{Decoding}
+use Rattle.vp_encode.specs.declared.fault.EncodeFault.TheVariants.{SourceSize}
+use Rattle.vp_encode.specs.Encoder.{Encoding}
+use Rattle.vp_encode.specs.Calls.{IsTold}
+use Rattle.vp_encode.proofs.CallLemmas.{stands_after, stands_refused}
+use Rattle.vp_encode.proofs.encoder.Encoder.encode.Goals as goal
+
+pub returns-then-dim-self-clause-stands : goal.returns-then-dim-self-clause-stands
+returns-then-dim-self-clause-stands c = λ calls stands.
+    stands_after c.args.self.now calls c.args.source.now (Err SourceSize) c.args.self.now stands refl
+
+pub returns-in-Ok-clause-stands : goal.returns-in-Ok-clause-stands
+returns-in-Ok-clause-stands c = λ calls stands.
+    let f = c.in-Ok.ensures in
+    let told : IsTold c.args.self.now c.args.source.now c.in-Ok.encoded c.encode_frame.new.self = record {
+      frame = record { chosen = f.choice; decoded = f.decoded; dim = f.dim; settings = f.settings; since = f.since };
+      error = f.error;
+    } in
+    stands_after c.args.self.now calls c.args.source.now (Ok c.in-Ok.encoded) c.encode_frame.new.self stands told
+
+pub returns-in-Err-clause-stands : goal.returns-in-Err-clause-stands
+returns-in-Err-clause-stands c = λ calls stands.
+    let next : Encoding = record { dim = c.self-2.inside.dim; settings = c.self-2.inside.settings; state = c.new.result.state; since = c.self-2.inside.since } in
+    stands_refused c.args.self.now calls c.args.source.now c.in-Err.error c.from.result next stands c.from.ensures (record {
+      dim = ap (λ (x : Encoding). x.dim) c.self-2.view_is ∙ c.in-Err.ensures.dim;
+      settings = ap (λ (x : Encoding). x.settings) c.self-2.view_is ∙ c.in-Err.ensures.settings;
+      state = ap (λ (x : Decoding). x.state) c.new.ensures;
+    })

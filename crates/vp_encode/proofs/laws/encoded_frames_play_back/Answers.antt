@@ -1,0 +1,5 @@
+use Rattle.vp_encode.proofs.CallLemmas.{calls_are_played_back}
+use Rattle.vp_encode.proofs.laws.encoded_frames_play_back.Goals as goal
+
+pub returns : goal.returns
+returns c = calls_are_played_back
