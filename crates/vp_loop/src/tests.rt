@@ -280,14 +280,31 @@ fn difference_at(
     Ok(None)
 }
 
+/// The sides of the pictures.
+const SIDES: [u16; 6] = [1, 15, 16, 17, 33, 48];
+
+/// The first height at which they differ on a picture of this width and level, or which is no side.
+fn height_of_difference(
+    alloc: Global,
+    width: u16,
+    strength: u8,
+) -> Result<Option<u16>, AllocError> {
+    for height in SIDES {
+        let Ok(dim) = Dim::new(width, height, &Limits::usual()) else {
+            return Ok(Some(height));
+        };
+        if difference_at(alloc, dim, strength)?.is_some() {
+            return Ok(Some(height));
+        }
+    }
+    Ok(None)
+}
+
 #[test]
 fn lanes_filter_as_lines(rt: HostRuntime) -> Result<(), Fail> {
-    for (width, height) in [(1, 48), (15, 17), (16, 33), (17, 16), (33, 1), (48, 15)] {
-        let Ok(dim) = Dim::new(width, height, &Limits::usual()) else {
-            panic!(rt; "the size is refused");
-        };
+    for width in SIDES {
         for strength in [0, 1, 16, 63] {
-            assert_eq!(rt; difference_at(rt.alloc(), dim, strength)?, None);
+            assert_eq!(rt; height_of_difference(rt.alloc(), width, strength)?, None);
         }
     }
     Ok(())

@@ -1,10 +1,10 @@
-//! Three packets one after another, of which one byte takes each of its values.
+//! Three packets, each behind a key packet; one byte of one takes each of its values.
 
 ghost use Rattle.std.specs.Prelude.{◌≡◌, ◌<◌, ◌≤◌, ◌^◌, Some, None, true, false, length};
 ghost use Rattle.vp_head.specs.declared.fault.PacketFault.{PacketFault};
 ghost use Rattle.vp_decode.specs.declared.decoder.Outcome.{Outcome};
 
-use crate::files::{KEY, are_pictures};
+use crate::files::{INTER, KEY, are_pictures};
 use std::alloc::Global;
 use std::test::Fail;
 use vp_base::Limits;
@@ -69,9 +69,9 @@ fn key_fault(packet: &[u8]) -> Option<PacketFault>
     }
 }
 
-/// The fault of a packet's tag, of what a key packet has behind it, of an inter packet where no state stands, and of the
-/// first partition's size, in that order.
-fn tag_fault(packet: &[u8], stands: bool) -> Option<PacketFault>
+/// The fault of a packet's tag, of what a key packet has behind it, and of the first partition's size, in that order, where
+/// a key packet was shown before.
+fn tag_fault(packet: &[u8]) -> Option<PacketFault>
     requires { 3 ≤ length packet.now }
 {
     let tag = tag_of(packet);
@@ -82,14 +82,24 @@ fn tag_fault(packet: &[u8], stands: bool) -> Option<PacketFault>
     if fault.is_some() {
         return fault;
     }
-    if !tag.key && !stands {
-        return Some(PacketFault::NoReference);
-    }
     let begin = if tag.key { 10 } else { 3 };
     if packet.len() < begin + tag.first {
         return Some(PacketFault::FirstPartition);
     }
     None
+}
+
+/// The fault of the first packet behind its tag, if that is one of an inter packet whose first partition fits. What stands
+/// for a start code and a size is then that partition: its bools say four or eight token partitions, whose sizes take nine
+/// or 21 bytes, and six at most are left. An empty one says one token partition.
+fn turned_fault(packet: &[u8]) -> Option<PacketFault>
+    requires { 3 ≤ length packet.now }
+{
+    let tag = tag_of(packet);
+    if tag.key || tag.first == 0 {
+        return None;
+    }
+    Some(PacketFault::PartitionTable)
 }
 
 /// The fault of the third packet behind its tag, which says a first partition that fits. One of ones that has more than one
@@ -120,34 +130,40 @@ fn outcome_by(fault: Option<PacketFault>, tag: Tag) -> Outcome
     }
 }
 
-/// What comes of the packet in which byte `at` was changed; the packets before it are shown.
-fn changed_outcome(bytes: &[u8; SIZE], at: usize) -> Outcome
-    requires { at < SIZE }
+/// What comes of the packet that byte `at` was changed in, behind a key packet.
+fn changed_outcome(packet: &[u8], at: usize) -> Outcome
+    requires first { at < 10 → length packet.now ≡ 10 }
+    requires second { 10 ≤ at → at < 13 → length packet.now ≡ 3 }
+    requires third { 13 ≤ at → at < SIZE × length packet.now ≡ 25 }
+{
+    let fault = match at {
+        0..10 => tag_fault(packet).or(turned_fault(packet)),
+        10..13 => tag_fault(packet),
+        _ => tag_fault(packet).or(table_fault(packet, at - 13)),
+    };
+    outcome_by(fault, tag_of(packet))
+}
+
+/// The packet that byte `at` stands in.
+fn packet_of(bytes: &[u8; SIZE], at: usize) -> &[u8]
+    ensures first { at < 10 → length result.now ≡ 10 }
+    ensures second { 10 ≤ at → at < 13 → length result.now ≡ 3 }
+    ensures third { 13 ≤ at → length result.now ≡ 25 }
 {
     match at {
-        0..10 => outcome_by(tag_fault(&bytes[..10], false), tag_of(&bytes[..10])),
-        10..13 => outcome_by(tag_fault(&bytes[10..13], true), tag_of(&bytes[10..13])),
-        _ => {
-            let packet = &bytes[13..];
-            let fault = tag_fault(packet, true).or(table_fault(packet, at - 13));
-            outcome_by(fault, tag_of(packet))
-        }
+        0..10 => &bytes[..10],
+        10..13 => &bytes[10..13],
+        _ => &bytes[13..],
     }
 }
 
-/// What comes of the three packets: an inter packet behind a fault has no reference.
-fn outcomes(bytes: &[u8; SIZE], at: usize) -> [Outcome; 3]
-    requires { at < SIZE }
+/// What comes of an inter packet behind one of which this came.
+fn outcome_behind(outcome: Outcome) -> Outcome
+    ensures { (f : PacketFault) → outcome ≡ Outcome.Fault f → result ≡ Outcome.Fault PacketFault.NoReference }
 {
-    let changed = changed_outcome(bytes, at);
-    let behind = match changed {
+    match outcome {
         Outcome::Fault(_) => Outcome::Fault(PacketFault::NoReference),
         _ => Outcome::Shown,
-    };
-    match at {
-        0..10 => [changed, behind, behind],
-        10..13 => [Outcome::Shown, changed, behind],
-        _ => [Outcome::Shown, Outcome::Shown, changed],
     }
 }
 
@@ -170,26 +186,27 @@ fn shows_key(alloc: Global, decoder: &Decoder) -> bool {
     }
 }
 
-/// Whether the three packets, byte `at` of them being this one, come to what they should, and the key packet behind them to
-/// its picture.
+/// Whether the packet that byte `at` stands in, that byte being this one, comes to what it should behind a key packet, and so
+/// an inter packet behind it, and the key packet behind that to its picture.
 fn stands(alloc: Global, at: usize, value: u8) -> bool
     requires { at < SIZE }
 {
     let mut bytes = PACKETS;
     bytes[at] = value;
-    let [first, second, third] = outcomes(&bytes, at);
+    let packet = packet_of(&bytes, at);
+    let changed = changed_outcome(packet, at);
     let Some(limits) = Limits::new(PIXELS, 16_384, 100, 1) else {
         return false;
     };
     let mut decoder = Decoder::new(alloc, limits);
-    gives(&mut decoder, &bytes[..10], first)
-        && gives(&mut decoder, &bytes[10..13], second)
-        && gives(&mut decoder, &bytes[13..], third)
+    gives(&mut decoder, &KEY, Outcome::Shown)
+        && gives(&mut decoder, packet, changed)
+        && gives(&mut decoder, &INTER, outcome_behind(changed))
         && gives(&mut decoder, &KEY, Outcome::Shown)
         && shows_key(alloc, &decoder)
 }
 
-/// The first value of byte `at` at which the packets don't come to what they should.
+/// The first value of byte `at` at which something else comes of the packets.
 fn first_wrong(alloc: Global, at: usize) -> Option<u8>
     requires { at < SIZE }
 {

@@ -29,6 +29,8 @@ mod serving_heads;
 #[cfg(test)]
 mod serving_limits;
 #[cfg(test)]
+mod serving_parts;
+#[cfg(test)]
 mod serving_reads;
 #[cfg(test)]
 mod serving_sizes;
@@ -36,5 +38,7 @@ mod serving_sizes;
 mod serving_visits;
 #[cfg(test)]
 mod serving_work;
+#[cfg(test)]
+mod worked_encoding;
 #[cfg(test)]
 mod worked_rows;

@@ -1,7 +1,7 @@
 //! Worked packets, files and pictures: what stands behind a packet, what is counted of a file that ends early, what is
 //! refused, and what is encoded into several token partitions.
 
-ghost use Rattle.std.specs.Prelude.{◌≤◌, ◌<◌};
+ghost use Rattle.std.specs.Prelude.{◌≡◌, ◌≤◌, ◌<◌};
 
 use crate::files::{FILE, INTER, KEY};
 use crate::hubs::{ASKS_INTER, hub_of, is_answered, says};
@@ -81,7 +81,10 @@ fn other_reference(
 }
 
 /// The settings of an encoder that loses by the quantiser alone.
-fn settings(qi: u8, partitions: u8) -> Settings {
+pub(crate) fn settings(qi: u8, partitions: u8) -> Settings
+    ensures qi { result.qi ≡ qi }
+    ensures partitions { result.partitions ≡ partitions }
+{
     Settings {
         qi,
         level: 0,

@@ -1,0 +1,206 @@
+//! Replies to HEAD, and parts of a picture where the connection closes behind them, each with the packets that are decoded
+//! for it. What is wanted follows from the rules' own words.
+
+use crate::hubs::{BAD, INTER, LAST_LINES, LINES};
+use crate::serving::{HEAD, KEY, answers, hub_with};
+use crate::serving_events::SHORT;
+use std::alloc::{AllocError, Global};
+use std::test::Fail;
+use vp_hub::Hub;
+
+/// Bytes 62 to 65 of the picture: the end of row 3 of luma, and the beginning of row 4.
+const LAST_PART: &[u8] =
+    b"HTTP/1.1 206 Partial Content\r\nContent-Type: application/octet-stream\r\nContent-Length: 4\r\nContent-Range: bytes 62-65/384\r\nConnection: close\r\n\r\n\x80\x80\x81\x81";
+
+const PART: &[u8] =
+    b"HTTP/1.1 206 Partial Content\r\nContent-Type: application/octet-stream\r\nContent-Length: 4\r\nContent-Range: bytes 62-65/384\r\n\r\n\x80\x80\x81\x81";
+
+const LAST_BEHIND: &[u8] =
+    b"HTTP/1.1 416 Range Not Satisfiable\r\nContent-Type: text/plain\r\nContent-Length: 22\r\nContent-Range: bytes */384\r\nConnection: close\r\n\r\nRange Not Satisfiable\n";
+
+const BEHIND: &[u8] =
+    b"HTTP/1.1 416 Range Not Satisfiable\r\nContent-Type: text/plain\r\nContent-Length: 22\r\nContent-Range: bytes */384\r\n\r\nRange Not Satisfiable\n";
+
+/// The lines of a bad request, of a packet that is too short, and of one without a reference.
+const BAD_LINES: &[u8] =
+    b"HTTP/1.1 400 Bad Request\r\nContent-Type: text/plain\r\nContent-Length: 12\r\nConnection: close\r\n\r\n";
+
+const SHORT_LINES: &[u8] =
+    b"HTTP/1.1 422 Unprocessable Entity\r\nContent-Type: text/plain\r\nContent-Length: 10\r\n\r\n";
+
+const LAST_SHORT_LINES: &[u8] =
+    b"HTTP/1.1 422 Unprocessable Entity\r\nContent-Type: text/plain\r\nContent-Length: 10\r\nConnection: close\r\n\r\n";
+
+const NO_REFERENCE_LINES: &[u8] =
+    b"HTTP/1.1 422 Unprocessable Entity\r\nContent-Type: text/plain\r\nContent-Length: 12\r\n\r\n";
+
+/// The first turn that connection 1 isn't answered so: what it sends, what is wanted, whether it is closed behind that, and
+/// for how many packets.
+fn wrong_turn(
+    alloc: Global,
+    hub: &mut Hub,
+    turns: &[(&[u8], &[u8], bool, u64)],
+) -> Result<Option<usize>, AllocError> {
+    for (i, (sent, wanted, close, work)) in turns.iter().enumerate() {
+        if !answers(alloc, hub, 1, sent, wanted, *close)? || hub.work() != *work {
+            return Ok(Some(i));
+        }
+    }
+    Ok(None)
+}
+
+/// The same over a new hub: of stream `a` packet 0 is a key packet, packet 1 one that is a byte too short, and packet 2 an
+/// inter packet behind that.
+fn wrong_in_turn(
+    alloc: Global,
+    turns: &[(&[u8], &[u8], bool, u64)],
+) -> Result<Option<usize>, AllocError> {
+    match hub_with(alloc, &[&HEAD, &KEY, &SHORT, &INTER], 16)? {
+        Some(mut hub) => wrong_turn(alloc, &mut hub, turns),
+        None => Ok(Some(0)),
+    }
+}
+
+/// The same, each turn over a hub of its own.
+fn wrong_alone(
+    alloc: Global,
+    turns: &[(&[u8], &[u8], bool, u64)],
+) -> Result<Option<usize>, AllocError> {
+    for (i, turn) in turns.iter().enumerate() {
+        if wrong_in_turn(alloc, &[*turn])?.is_some() {
+            return Ok(Some(i));
+        }
+    }
+    Ok(None)
+}
+
+/// A part, none behind the end, and a part with a request behind it, which is dropped.
+#[test]
+fn parts_that_close(rt: HostRuntime) -> Result<(), Fail> {
+    assert_eq!(rt;
+        wrong_alone(
+            rt.alloc(),
+            &[
+                (
+                    b"GET /s/a/frame/0 HTTP/1.1\r\nHost: x\r\nRange: bytes=62-65\r\nConnection: close\r\n\r\n",
+                    LAST_PART,
+                    true,
+                    1,
+                ),
+                (
+                    b"GET /s/a/frame/0 HTTP/1.1\r\nHost: x\r\nConnection: close\r\nRange: bytes=384-\r\n\r\n",
+                    LAST_BEHIND,
+                    true,
+                    1,
+                ),
+                (
+                    b"GET /s/a/frame/0 HTTP/1.0\r\nRange: bytes=62-65\r\n\r\nGET /s/a/frame/2 HTTP/1.1\r\nHost: x\r\n\r\n",
+                    LAST_PART,
+                    true,
+                    1,
+                ),
+            ]
+        )?,
+        None
+    );
+    Ok(())
+}
+
+/// Packets with a fault have their status and no body; a range counts for nothing.
+#[test]
+fn heads_of_packets(rt: HostRuntime) -> Result<(), Fail> {
+    assert_eq!(rt;
+        wrong_alone(
+            rt.alloc(),
+            &[
+                (
+                    b"HEAD /s/a/frame/1 HTTP/1.1\r\nHost: x\r\n\r\n",
+                    SHORT_LINES,
+                    false,
+                    1,
+                ),
+                (
+                    b"HEAD /s/a/frame/1 HTTP/1.1\r\nHost: x\r\nConnection: close\r\n\r\n",
+                    LAST_SHORT_LINES,
+                    true,
+                    1,
+                ),
+                (
+                    b"HEAD /s/a/frame/2 HTTP/1.1\r\nHost: x\r\nRange: bytes=0-1\r\n\r\n",
+                    NO_REFERENCE_LINES,
+                    false,
+                    2,
+                ),
+                (
+                    b"HEAD /s/a/frame/0 HTTP/1.1\r\nHost: x\r\nRange: bytes=384-\r\n\r\n",
+                    LINES,
+                    false,
+                    1,
+                ),
+                (
+                    b"HEAD /s/a/frame/0 HTTP/1.1\r\nHost: x\r\nRange: bytes=62-65\r\nConnection: close\r\n\r\n",
+                    LAST_LINES,
+                    true,
+                    1,
+                ),
+            ]
+        )?,
+        None
+    );
+    Ok(())
+}
+
+/// A head that can't be read has a body, whatever its method is; one that is read and refused has none. No packet is decoded
+/// for either.
+#[test]
+fn heads_that_are_bad(rt: HostRuntime) -> Result<(), Fail> {
+    assert_eq!(rt;
+        wrong_alone(
+            rt.alloc(),
+            &[
+                (b"HEAD /s/a/frame/0 HTTP/1.1\r\nHost\r\n\r\n", BAD, true, 0),
+                (
+                    b"HEAD /s/a/frame/0 HTTP/1.1\r\nHost: x\r\nContent-Length: 1\r\n\r\n",
+                    BAD_LINES,
+                    true,
+                    0,
+                ),
+                (b"HEAD /s/a/frame/0 HTTP/1.1\r\n\r\n", BAD_LINES, true, 0),
+                (
+                    b"HEAD s/a/frame/0 HTTP/1.1\r\nHost: x\r\n\r\n",
+                    BAD_LINES,
+                    true,
+                    0,
+                ),
+            ]
+        )?,
+        None
+    );
+    Ok(())
+}
+
+/// What a reply behind the end decoded is kept for a part and for a head; two heads in one piece are counted together.
+fn wrong_of_kept(alloc: Global) -> Result<Option<usize>, AllocError> {
+    let behind = b"GET /s/a/frame/0 HTTP/1.1\r\nHost: x\r\nRange: bytes=-0\r\n\r\n";
+    let part = b"GET /s/a/frame/0 HTTP/1.1\r\nHost: x\r\nRange: bytes=62-65\r\n\r\n";
+    let head = b"HEAD /s/a/frame/0 HTTP/1.1\r\nHost: x\r\n\r\n";
+    let two =
+        b"HEAD /s/a/frame/2 HTTP/1.1\r\nHost: x\r\n\r\nHEAD /s/a/frame/1 HTTP/1.1\r\nHost: x\r\n\r\n";
+    let mut both = NO_REFERENCE_LINES.to_vec(alloc)?;
+    both.extend_from_slice(SHORT_LINES)?;
+    wrong_in_turn(
+        alloc,
+        &[
+            (behind, BEHIND, false, 1),
+            (part, PART, false, 0),
+            (head, LINES, false, 0),
+            (two, &both, false, 3),
+        ],
+    )
+}
+
+#[test]
+fn parts_of_kept_pictures(rt: HostRuntime) -> Result<(), Fail> {
+    assert_eq!(rt; wrong_of_kept(rt.alloc())?, None);
+    Ok(())
+}

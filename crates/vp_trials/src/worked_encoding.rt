@@ -1,0 +1,64 @@
+//! A long run of an encoder, and the forward transforms of the largest numbers that a stream's levels and factors give.
+
+use crate::worked_rows::settings;
+use std::test::Fail;
+use vp_base::{Dim, Limits, Picture};
+use vp_encode::Encoder;
+use vp_transform::{fdct, fwht};
+
+/// Whether a packet is a key frame's, by its lowest bit (RFC 6386, chapter 9.1).
+fn is_key(packet: &[u8]) -> bool {
+    match packet.first() {
+        Some(byte) => byte % 2 == 0,
+        None => false,
+    }
+}
+
+/// The first of so many frames that is a key frame where it shouldn't be, or isn't one where it should: one comes, and 63
+/// others behind it.
+fn other_kind(
+    encoder: &mut Encoder,
+    source: &Picture,
+    frames: usize,
+) -> Result<Option<usize>, Fail> {
+    for number in 0..frames {
+        let encoded = encoder.encode(source)?;
+        if is_key(encoded.packet.as_slice()) != (number % 64 == 0) {
+            return Ok(Some(number));
+        }
+    }
+    Ok(None)
+}
+
+/// Where `key_every` is 64, the frames of the numbers 0 and 64 are key frames.
+#[test]
+fn a_key_frame_behind_64_frames(rt: HostRuntime) -> Result<(), Fail> {
+    let dim = Dim::new(16, 16, &Limits::usual())?;
+    let source = Picture::new(rt.alloc(), dim, 128)?;
+    let mut encoder = Encoder::new(rt.alloc(), dim, settings(0, 1))?;
+    assert_eq!(rt; other_kind(&mut encoder, &source, 66)?, None);
+    Ok(())
+}
+
+/// Sixteen times the least level by the greatest factor, and the same with turns of sign like a chessboard's. What is wanted
+/// was worked out from the formulas by a script apart from this program.
+#[test]
+fn largest_numbers_forward(rt: HostRuntime) {
+    let equal = [-2114 * 157; 16];
+    let mut first = [0; 16];
+    first[0] = -2_655_184;
+    assert_eq!(rt; fdct(&equal), first);
+    assert_eq!(rt; fwht(&equal), first);
+    let [low, high] = [-2114 * 157, 2114 * 157];
+    let turned = [
+        low, high, low, high, high, low, high, low, low, high, low, high, high, low, high, low,
+    ];
+    let mut last = [0; 16];
+    last[15] = -2_655_184;
+    assert_eq!(rt; fwht(&turned), last);
+    last[5] = -388_857;
+    last[7] = -938_838;
+    last[13] = -938_838;
+    last[15] = -2_266_688;
+    assert_eq!(rt; fdct(&turned), last);
+}
