@@ -73,7 +73,7 @@ abbrev pub end_by : Bool → Contents → Ending
 end_by false reading = ending.Open
 end_by true reading = ending_by (finish_answer reading)
 
--- the stream at a place is what these bytes make of it, and its end is told, or it isn't
+-- the stream at a place is what these bytes make of it, and its end is told, or it isn't; a fault that was met stays in its place
 pub record IsEndedFrom (limits : Limits) (k : ℕ) (streams : Streams) (bytes : List ℕ) (told : Bool) : Type 0 where
   pub read : IsReadFrom limits k streams bytes
   pub end : read.source.end ≡ end_by told (reading_of limits bytes)
