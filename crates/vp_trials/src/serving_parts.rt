@@ -106,7 +106,7 @@ fn parts_that_close(rt: HostRuntime) -> Result<(), Fail> {
     Ok(())
 }
 
-/// Packets with a fault have their status and no body; a range counts for nothing.
+/// HEAD of a packet with a fault gives its status and no body; a range counts for nothing.
 #[test]
 fn heads_of_packets(rt: HostRuntime) -> Result<(), Fail> {
     assert_eq!(rt;
@@ -150,8 +150,8 @@ fn heads_of_packets(rt: HostRuntime) -> Result<(), Fail> {
     Ok(())
 }
 
-/// A head that can't be read has a body, whatever its method is; one that is read and refused has none. No packet is decoded
-/// for either.
+/// The reply to a head that can't be read has a body, whatever its method is; that to a HEAD which is read and refused has
+/// none. No packet is decoded for either.
 #[test]
 fn heads_that_are_bad(rt: HostRuntime) -> Result<(), Fail> {
     assert_eq!(rt;
@@ -179,7 +179,7 @@ fn heads_that_are_bad(rt: HostRuntime) -> Result<(), Fail> {
     Ok(())
 }
 
-/// What a reply behind the end decoded is kept for a part and for a head; two heads in one piece are counted together.
+/// What is decoded for a range behind the end is kept for a part and for a head; two heads in one piece are counted together.
 fn wrong_of_kept(alloc: Global) -> Result<Option<usize>, AllocError> {
     let behind = b"GET /s/a/frame/0 HTTP/1.1\r\nHost: x\r\nRange: bytes=-0\r\n\r\n";
     let part = b"GET /s/a/frame/0 HTTP/1.1\r\nHost: x\r\nRange: bytes=62-65\r\n\r\n";

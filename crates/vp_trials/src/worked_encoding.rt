@@ -1,4 +1,4 @@
-//! A long run of an encoder, and the forward transforms of the largest numbers that a stream's levels and factors give.
+//! A long run of an encoder, and the forward transforms of numbers far over any residue.
 
 use crate::worked_rows::settings;
 use std::test::Fail;
@@ -40,10 +40,10 @@ fn a_key_frame_behind_64_frames(rt: HostRuntime) -> Result<(), Fail> {
     Ok(())
 }
 
-/// Sixteen times the least level by the greatest factor, and the same with turns of sign like a chessboard's. What is wanted
+/// Sixteen times the least level by the greatest luma DC factor, and the same with turns of sign like a chessboard's. What is wanted
 /// was worked out from the formulas by a script apart from this program.
 #[test]
-fn largest_numbers_forward(rt: HostRuntime) {
+fn great_numbers_forward(rt: HostRuntime) {
     let equal = [-2114 * 157; 16];
     let mut first = [0; 16];
     first[0] = -2_655_184;
