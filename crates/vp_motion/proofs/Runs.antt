@@ -1,7 +1,7 @@
 -- Entries of neighbours.
 use Rattle.std.proofs.Common.{◌≡◌, ◌∙◌, ℕ, zero, suc, ◌+◌, ◌*◌, ◌<◌, ◌≤◌, Bool, true, false, cond, List, [], ◌∷◌, ◌++◌, length, get_or, take, refl, ap, sym, arith, inl, inr, ℤ, pos, negsuc, add_assoc, append_assoc}
 use Rattle.std.proofs.lemmas.List.{append-nil, get_or_default}
-use Rattle.std.proofs.lemmas.Bool.{cases_Bool, and_parts, eqb-true, false≢true}
+use Rattle.std.proofs.lemmas.Bool.{cases_Bool, and_parts, eqb-true, false≢true, lt-ltb, le-ltb}
 use Rattle.vp_motion.specs.declared.vector.Weighted.{Weighted}
 use Rattle.vp_head.specs.declared.fields.Reference.{Reference}
 use Rattle.vp_head.specs.declared.fields.SignBiases.{SignBiases}
@@ -10,9 +10,10 @@ use Rattle.vp_base.specs.Place.{above, left, corner}
 use Rattle.vp_base.specs.Grid.{Grid, look}
 use Rattle.vp_motion.specs.Vector.{Vector, Entry, still}
 use Rattle.std.specs.Int.{from_bool}
+use Rattle.std.specs.Prelude.{nat_lt}
 use Rattle.vp_head.specs.Reference.{is_intra}
 use Rattle.vp_motion.specs.Map.{intra}
-use Rattle.vp_motion.specs.Near.{from_entries, within, candidates, split_count, splits, same, same_number, still_weight, moving, onto, runs, neighbours, joined, total, nobody, counted, seen, AreHeavy, IsTally}
+use Rattle.vp_motion.specs.Near.{from_entries, from_two, first_of, entry, within, candidates, split_count, splits, same, same_number, still_weight, moving, onto, runs, neighbours, joined, total, nobody, counted, seen, AreHeavy, IsTally}
 
 -- the last entry, and one more
 pub joined-last : (es : List Weighted) (n : ℕ) (w : Weighted) → length es ≡ n + 1 → same (get_or es n nobody).vector w.vector ≡ true
@@ -154,3 +155,19 @@ near_is g place r b a l k count total_splits es p q s n t =
 -- an entry that is there is that, whatever counts as standing past the end
 pub there : (es : List Weighted) (k : ℕ) (r : Weighted) → k < length es → r ≡ get_or es k r → r ≡ get_or es k nobody
 there es k r within is = is ∙ get_or_default es k r nobody within
+
+-- where the second entry is heavier, it is the nearest
+pub second-first : (clamp : Vector → Vector) (count total_splits : ℕ) (es : List Weighted) (first second : Weighted) → first ≡ first_of es → second ≡ entry es 1
+    → first.weight < second.weight → from_two clamp count total_splits second first ≡ from_entries clamp count total_splits es
+unfolding from_entries
+second-first clamp count total_splits es first second p q h =
+    let l : nat_lt (first_of es).weight (entry es 1).weight ≡ true = rw (← p, ← q) (lt-ltb first.weight second.weight h) in
+    rw l (rw (p, q) refl)
+
+-- else the first is
+pub first-second : (clamp : Vector → Vector) (count total_splits : ℕ) (es : List Weighted) (first second : Weighted) → first ≡ first_of es → second ≡ entry es 1
+    → second.weight ≤ first.weight → from_two clamp count total_splits first second ≡ from_entries clamp count total_splits es
+unfolding from_entries
+first-second clamp count total_splits es first second p q h =
+    let l : nat_lt (first_of es).weight (entry es 1).weight ≡ false = rw (← p, ← q) (le-ltb first.weight second.weight h) in
+    rw l (rw (p, q) refl)

@@ -10,6 +10,7 @@ use Rattle.vp_head.specs.Reference.{is_intra}
 use Rattle.vp_base.specs.declared.place.Place.{Place}
 use Rattle.vp_base.specs.Place.{above, left, corner}
 use Rattle.vp_base.specs.Grid.{Grid, look}
+use Rattle.vp_motion.specs.declared.vector.Nearby.{Nearby}
 use Rattle.vp_motion.specs.declared.vector.Weighted.{Weighted}
 use Rattle.vp_motion.specs.Vector.{Vector, Entry, Candidates, still}
 use Rattle.vp_motion.specs.Map.{intra, own}
@@ -102,6 +103,10 @@ within g p v = record {
   row = clamped (neg_ℤ (pos (64 * (p.row + 1)))) (pos (64 * (g.rows - p.row))) v.row;
   column = clamped (neg_ℤ (pos (64 * (p.column + 1)))) (pos (64 * (g.columns - p.column))) v.column;
 }
+
+-- what was found, each vector clamped
+abbrev pub clamped_by : (Vector → Vector) → Nearby → Candidates
+clamped_by clamp n = record { counts = n.counts; best = clamp n.best; nearest = clamp n.nearest; near = clamp n.near }
 
 -- the candidates, where nearest and near are already the heavier and the lighter of the first two entries
 abbrev pub from_two : (Vector → Vector) → ℕ → ℕ → Weighted → Weighted → Candidates

@@ -1,12 +1,12 @@
-ghost use Rattle.std.specs.Prelude.{◌≡◌, ℕ, ◌+◌, ◌-◌, ◌*◌, ◌<◌, ◌≤◌, List, ◌++◌, length, IfSome, pos, neg_ℤ, ◌≤ℤ◌};
+ghost use Rattle.std.specs.Prelude.{◌≡◌, ℕ, ◌+◌, ◌-◌, ◌*◌, ◌<◌, ◌≤◌, List, ◌++◌, length, slice_index, IfSome, pos, neg_ℤ, ◌≤ℤ◌};
 ghost use Rattle.std.specs.Int.{from_bool};
 ghost use Rattle.vp_base.specs.Grid.{Has, look};
 ghost use Rattle.vp_motion.specs.Map.{intra};
-ghost use Rattle.vp_motion.specs.Vector.{IsWithin};
-ghost use Rattle.vp_motion.specs.Near.{AreHeavy, IsTally, bias_of, candidates, clamped, counted, entry, first_of, from_entries, from_two, joined, same, seen, splits, total, within};
+ghost use Rattle.vp_motion.specs.Vector.{IsWithin, Vector};
+ghost use Rattle.vp_motion.specs.Near.{AreHeavy, IsTally, bias_of, candidates, clamped, clamped_by, counted, entry, first_of, from_entries, from_two, joined, same, seen, splits, total, within};
 
 use crate::map::{VectorMap, outside};
-use crate::vector::{Candidates, Entry, STILL, Vector, Weighted};
+use crate::vector::{Candidates, Entry, Nearby, STILL, Vector, Weighted};
 use arrayvec::ArrayVec;
 use vp_base::Place;
 use vp_head::{Reference, SignBiases};
@@ -55,8 +55,9 @@ fn clamp(low: i32, high: i32, z: i32) -> i32
     }
 }
 
+/// The vector, or the nearest that moves the macroblock past the frame's edges by its own size at most.
 #[tactic(auto, unfolding(crate::specs::Near::within))]
-fn clamp_vector(map: &VectorMap, place: Place, vector: Vector) -> Vector
+pub(crate) fn clamp_vector(map: &VectorMap, place: Place, vector: Vector) -> Vector
     requires place { Has map.now place }
     ensures value { result ≡ within map.now place vector }
     ensures short { IsWithin 65536 result }
@@ -220,57 +221,44 @@ fn first_entry(entries: &ArrayVec<Weighted, 3>) -> Weighted
     }
 }
 
-/// The candidates, where the heavier and the lighter of the first two entries are known.
-fn candidates_of(
-    map: &VectorMap,
-    place: Place,
-    zeros: u8,
-    splits: u8,
-    nearest: Weighted,
-    near: Weighted,
-) -> Candidates
-    requires place { Has map.now place }
+/// What `near` finds before it is clamped to the frame, by the heavier and the lighter of the first two entries.
+fn nearby_of(zeros: u8, splits: u8, nearest: Weighted, near: Weighted) -> Nearby
     requires zeros { zeros ≤ 5 }
     requires splits { splits ≤ 5 }
     requires nearest { nearest.weight ≤ 5 }
     requires near { near.weight ≤ 5 }
-    ensures value { result ≡ from_two (within map.now place) zeros splits nearest near }
+    ensures value { (clamp : Vector → Vector) → clamped_by clamp result ≡ from_two clamp zeros splits nearest near }
+    ensures light { (k : ℕ) → slice_index result.counts k < 6 }
 {
     let best = if zeros <= nearest.weight {
         nearest.vector
     } else {
         STILL
     };
-    Candidates {
+    Nearby {
         counts: [zeros, nearest.weight, near.weight, splits],
-        best: clamp_vector(map, place, best),
-        nearest: clamp_vector(map, place, nearest.vector),
-        near: clamp_vector(map, place, near.vector),
+        best,
+        nearest: nearest.vector,
+        near: near.vector,
     }
 }
 
-/// The candidates of the entries found.
+/// The same of the entries found.
 #[tactic(auto, unfolding(crate::specs::Near::from_entries))]
-fn choose(
-    map: &VectorMap,
-    place: Place,
-    zeros: u8,
-    splits: u8,
-    entries: &ArrayVec<Weighted, 3>,
-) -> Candidates
-    requires place { Has map.now place }
+fn choose(zeros: u8, splits: u8, entries: &ArrayVec<Weighted, 3>) -> Nearby
     requires zeros { zeros ≤ 5 }
     requires splits { splits ≤ 5 }
     requires light { total entries.now.items ≤ 5 }
     requires heavy { AreHeavy entries.now.items }
-    ensures value { result ≡ from_entries (within map.now place) zeros splits entries.now.items }
+    ensures value { (clamp : Vector → Vector) → clamped_by clamp result ≡ from_entries clamp zeros splits entries.now.items }
+    ensures light { (k : ℕ) → slice_index result.counts k < 6 }
 {
     let first = first_entry(entries);
     let second = entry_at(entries, 1);
     if first.weight < second.weight {
-        candidates_of(map, place, zeros, splits, second, first)
+        nearby_of(zeros, splits, second, first)
     } else {
-        candidates_of(map, place, zeros, splits, first, second)
+        nearby_of(zeros, splits, first, second)
     }
 }
 
@@ -281,13 +269,16 @@ fn splits_of(above: bool, left: bool, corner: bool) -> u8
     2 * above as u8 + 2 * left as u8 + corner as u8
 }
 
-/// The vectors near the macroblock at a place, by those of the macroblocks above, to the left and above-left of it
-/// (RFC 6386, chapter 16.3).
-///
-/// `reference` is the macroblock's own: a neighbour's vector is turned round where its reference has another bias.
-pub fn near(map: &VectorMap, place: Place, reference: Reference, biases: SignBiases) -> Candidates
+/// What `near` finds before it is clamped to the frame.
+pub(crate) fn nearby(
+    map: &VectorMap,
+    place: Place,
+    reference: Reference,
+    biases: SignBiases,
+) -> Nearby
     requires place { Has map.now place }
-    ensures { result ≡ candidates map.now place reference biases }
+    ensures value { clamped_by (within map.now place) result ≡ candidates map.now place reference biases }
+    ensures light { (k : ℕ) → slice_index result.counts k < 6 }
 {
     let outside = outside();
     let above = look(map, &outside, place.above());
@@ -301,5 +292,23 @@ pub fn near(map: &VectorMap, place: Place, reference: Reference, biases: SignBia
     consider(&mut found, left, 2, reference, biases);
     consider(&mut found, corner, 1, reference, biases);
     let splits = splits_of(has_split(above), has_split(left), has_split(corner));
-    choose(map, place, found.zeros, splits, &found.entries)
+    choose(found.zeros, splits, &found.entries)
+}
+
+/// The vectors near the macroblock at a place, by those of the macroblocks above, to the left and above-left of it
+/// (RFC 6386, chapter 16.3).
+///
+/// `reference` is the macroblock's own: a neighbour's vector is turned round where its reference has another bias.
+pub fn near(map: &VectorMap, place: Place, reference: Reference, biases: SignBiases) -> Candidates
+    requires place { Has map.now place }
+    ensures { result ≡ candidates map.now place reference biases }
+{
+    let found = nearby(map, place, reference, biases);
+    let counts = found.counts;
+    Candidates {
+        counts,
+        best: clamp_vector(map, place, found.best),
+        nearest: clamp_vector(map, place, found.nearest),
+        near: clamp_vector(map, place, found.near),
+    }
 }
