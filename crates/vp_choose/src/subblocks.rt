@@ -181,6 +181,6 @@ pub(crate) fn choose_subblocks(
     let _size = [picture.plane(0).width(), picture.plane(0).height()];
     let kept = macroblock(picture.plane(0), place);
     let chosen = choose_all(source, factors, picture, place);
-    picture.write_block(0, 16 * place.column, 16 * place.row, 16, 16, &kept);
+    picture.write_block::<16>(0, 16 * place.column, 16 * place.row, &kept);
     chosen
 }

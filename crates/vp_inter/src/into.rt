@@ -32,7 +32,7 @@ pub fn predict_into16(
     let _size = [picture.plane(k).width(), picture.plane(k).height()];
     if !copied_whole::<16>(picture, k, x, y, reference, vector) {
         let block = predict_block16(reference, x, y, vector, version);
-        picture.write_block(k, x, y, 16, 16, &block);
+        picture.write_block::<16>(k, x, y, &block);
     }
 }
 
@@ -56,7 +56,7 @@ pub fn predict_into8(
     let _size = [picture.plane(k).width(), picture.plane(k).height()];
     if !copied_whole::<8>(picture, k, x, y, reference, vector) {
         let block = predict_block8(reference, x, y, vector, version);
-        picture.write_block(k, x, y, 8, 8, &block);
+        picture.write_block::<8>(k, x, y, &block);
     }
 }
 
@@ -80,7 +80,7 @@ pub fn predict_into4(
     let _size = [picture.plane(k).width(), picture.plane(k).height()];
     if !copied_whole::<4>(picture, k, x, y, reference, vector) {
         let block = predict_block4(reference, x, y, vector, version);
-        picture.write_block(k, x, y, 4, 4, &block);
+        picture.write_block::<4>(k, x, y, &block);
     }
 }
 

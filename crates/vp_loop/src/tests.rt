@@ -183,8 +183,8 @@ fn filter_two_macroblocks(rt: HostRuntime) -> Result<(), Fail> {
         panic!(rt; "the size is refused");
     };
     let mut picture = Picture::new(rt.alloc(), dim, 128)?;
-    picture.write_block(0, 0, 0, 16, 16, &[100; 256]);
-    picture.write_block(0, 16, 0, 16, 16, &[110; 256]);
+    picture.write_block::<16>(0, 0, 0, &[100; 256]);
+    picture.write_block::<16>(0, 16, 0, &[110; 256]);
     filter_picture(&mut picture, &[level(dim, false); 2]);
     let mut row = [100; 32];
     row[12..20].copy_from_slice(&[100, 101, 103, 104, 106, 107, 109, 110]);

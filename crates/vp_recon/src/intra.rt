@@ -83,7 +83,7 @@ pub(crate) fn rebuild_at_once(
     let x = 16 * place.column;
     let y = 16 * place.row;
     let prediction = predict_luma(picture.plane(0), x, y, modes.luma);
-    picture.write_block(0, x, y, 16, 16, &prediction);
+    picture.write_block::<16>(0, x, y, &prediction);
     add_residues::<4>(picture, 0, x, y, &luma_residues(true, tokens, factors));
 }
 
@@ -106,7 +106,7 @@ pub(crate) fn rebuild_intra_chroma(
     let x = 8 * place.column;
     let y = 8 * place.row;
     let prediction = predict_chroma(picture.plane(plane), x, y, modes.chroma);
-    picture.write_block(plane, x, y, 8, 8, &prediction);
+    picture.write_block::<8>(plane, x, y, &prediction);
     let residues = chroma_residues(tokens, factors, plane);
     add_residues::<2>(picture, plane, x, y, &residues);
 }

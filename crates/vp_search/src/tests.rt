@@ -127,7 +127,7 @@ fn predict_middle(source: &mut Plane, reference: &Plane, row: i32, column: i32)
     let is_wide = source.width() == 48 && reference.width() == 48;
     if is_wide && source.height() == 48 && reference.height() == 48 {
         let block = predict_block16(reference, 16, 16, luma_vector(row, column), 0);
-        source.write_block(16, 16, 16, 16, &block);
+        source.write_block::<16>(16, 16, &block);
     }
 }
 

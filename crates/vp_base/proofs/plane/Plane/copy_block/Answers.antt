@@ -1,56 +1,28 @@
-use Rattle.std.proofs.Common.{◌≡◌, ◌∙◌, ℕ, ◌+◌, ◌-◌, ◌≤◌, ◌<◌, List, sym, ap, subst, arith, rules, length, length-drop, get_or, take, drop, inl, inr}
-use Rattle.std.proofs.lemmas.List.{length-take, places}
-use Rattle.std.proofs.lemmas.Bool.{cases_lt}
-use Rattle.vp_base.specs.Raster.{Raster, pixel, row_of, with_run}
-use Rattle.vp_base.specs.Block.{IsWhole}
-use Rattle.vp_base.proofs.BlockLemmas.{with_block_none, with_block_more, get_or-row_of}
+use Rattle.std.proofs.Common.{◌≡◌, ◌∙◌, ℕ, ◌+◌, ◌*◌, ◌≤◌, List, length, sym, ap, subst, arith, get_or}
+use Rattle.vp_base.specs.Raster.{Raster, pixel}
+use Rattle.vp_base.proofs.BlockLemmas.{row_of_block_fits}
 use Rattle.vp_base.proofs.plane.Plane.copy_block.Goals as goal
 
--- n numbers of a line from `left` on
-part : List ℕ → ℕ → ℕ → List ℕ
-part line left n = take (left + n - left) (drop left line)
+pub copy_rows-requires-clause-room : goal.copy_rows-requires-clause-room
+copy_rows-requires-clause-room g c r within =
+    let wide : c.self.inside.width ≡ c.args.self.now.width = ap (λ (p : Raster). p.width) c.self.view_is in
+    let high : c.self.inside.height ≡ c.args.self.now.height = ap (λ (p : Raster). p.height) c.self.view_is in
+    row_of_block_fits c.args.x c.args.y c.self.inside.width c.self.inside.height g.row.N r (length c.as_mut_slice-to.result.now)
+    (ap length c.as_mut_slice-to.ensures.value ∙ sym c.self.inside.bytes.ok.0 ∙ c.self.invariant.0) (omega arith) (omega arith) within
 
-length-part : (line : List ℕ) (left n : ℕ) → left + n ≤ length line → length (part line left n) ≡ n
-unfolding part
-length-part line left n fits = simp (length-take, length-drop) (omega arith)
+pub copy_rows-requires-clause-source : goal.copy_rows-requires-clause-source
+copy_rows-requires-clause-source g c r within =
+    let wide : c.from.inside.width ≡ c.args.from.now.width = ap (λ (p : Raster). p.width) c.from.view_is in
+    let high : c.from.inside.height ≡ c.args.from.now.height = ap (λ (p : Raster). p.height) c.from.view_is in
+    row_of_block_fits c.args.left c.args.top c.from.inside.width c.from.inside.height g.row.N r (length c.deref.result.now)
+    (ap length c.deref.ensures.value ∙ sym c.from.inside.bytes.ok.0 ∙ c.from.invariant.0) (omega arith) (omega arith) within
 
-get_or-part : (line : List ℕ) (left n k : ℕ) → left + n ≤ length line → k < n → get_or (part line left n) k 0 ≡ get_or line (left + k) 0
-unfolding part
-get_or-part line left n k fits within = search (rules, places)
-
--- a number of a row of a plane
-line_is : (p : Raster) (line : List ℕ) (x y : ℕ) → line ≡ row_of p y → x < p.width → get_or line x 0 ≡ pixel p x y
-line_is p line x y e xin = ap (λ (l : List ℕ). get_or l x 0) e ∙ get_or-row_of p x y xin
-
-pub loop-r-init : goal.loop-r-init
-loop-r-init g c =
-    let whole : IsWhole c.args.self.now = rw (← c.self.view_is) (sym c.self.inside.bytes.ok.0 ∙ c.self.invariant.0) in
-    record {
-      copied = sym (with_block_none c.args.self.now c.args.x c.args.y g.row.N (λ r k. pixel c.args.from.now (c.args.left + k) (c.args.top + r)) whole);
-      bytes = λ r k below. absurd (omega arith);
-    }
-
-pub loop-r-preserved : goal.loop-r-preserved
-unfolding part
-loop-r-preserved g c =
-    let p : Raster = c.args.from.now in
-    let line : List ℕ = c.row.result.now in
-    let run : List ℕ = part line c.args.left g.row.N in
-    let fits : c.args.left + g.row.N ≤ length line = omega arith in
-    let value : (k : ℕ) → k < g.row.N → get_or line (c.args.left + k) 0 ≡ pixel p (c.args.left + k) (c.args.top + c.loop-r.r) =
-    λ k within. line_is p line (c.args.left + k) (c.args.top + c.loop-r.r) c.row.ensures.value (omega arith) in
-    record {
-      copied = c.write_run.ensures
-          ∙ ap (λ (q : Raster). with_run q c.args.x (c.args.y + c.loop-r.r) run) c.loop-r.invariant.copied
-          ∙ with_block_more c.args.self.now c.args.x c.args.y g.row.N c.loop-r.r (λ r k. pixel p (c.args.left + k) (c.args.top + r)) run
-          c.requires.columns (omega arith) (length-part line c.args.left g.row.N fits)
-          (λ k within. get_or-part line c.args.left g.row.N k fits within ∙ value k within);
-      bytes = λ r k below within. elim (cases_lt r c.loop-r.r) [
-        | inl less ↦ c.loop-r.invariant.bytes r k less within
-        | inr same ↦
-            let e : c.loop-r.r ≡ r = omega arith in
-            let small : get_or line (c.args.left + k) 0 ≤ 255 =
-            subst (λ (v : ℕ). v ≤ 255) (get_or-part line c.args.left g.row.N k fits within) (c.are_bytes.ensures k) in
-            subst (λ (v : ℕ). v ≤ 255) (value k within ∙ ap (λ (j : ℕ). pixel p (c.args.left + k) (c.args.top + j)) e) small
-      ];
-    }
+pub returns-clause-bytes : goal.returns-clause-bytes
+returns-clause-bytes g c r k below within =
+    let width : ℕ = c.from.inside.width in
+    let place : c.args.top * width + c.args.left + r * width + k ≡ (c.args.top + r) * width + (c.args.left + k) = omega arith in
+    subst (λ (p : Raster). pixel p (c.args.left + k) (c.args.top + r) ≤ 255) c.from.view_is
+    (subst (λ (v : ℕ). v ≤ 255)
+    (ap (λ (ns : List ℕ). get_or ns (c.args.top * width + c.args.left + r * width + k) 0) c.deref.ensures.value
+    ∙ ap (λ (i : ℕ). get_or c.from.inside.bytes.items i 0) place)
+    (c.copy_rows.ensures.bytes r k below within))
