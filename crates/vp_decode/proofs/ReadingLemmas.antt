@@ -1,5 +1,5 @@
 -- How the tokens of a frame are read, macroblock after macroblock and row after row.
-use Rattle.std.proofs.Common.{◌≡◌, ◌∙◌, ◌≢◌, ℕ, zero, suc, ◌+◌, ◌%◌, ◌<◌, List, length, Some, refl, sym, ap, subst, arith, inl, inr, add-one}
+use Rattle.std.proofs.Common.{◌≡◌, ◌∙◌, ℕ, zero, suc, ◌+◌, ◌%◌, ◌<◌, Bool, List, length, Some, refl, sym, ap, subst, arith, inl, inr, add-one}
 use Rattle.std.specs.Prelude.{slice_set}
 use Rattle.std.proofs.lemmas.Bool.{cases_lt}
 use Rattle.vp_bool.specs.Bools.{State}
@@ -9,7 +9,7 @@ use Rattle.vp_base.specs.Grid.{Grid, Has, entry, with_entry}
 use Rattle.vp_base.specs.Over.{over}
 use Rattle.vp_base.proofs.OverLemmas.{over-none, over-more, over-next}
 use Rattle.vp_tokens.specs.declared.contexts.Tokens.{Tokens}
-use Rattle.vp_tokens.specs.Blocks.{Blocks, blocks_of}
+use Rattle.vp_tokens.specs.Blocks.{Blocks, blocks_of, any_token}
 use Rattle.vp_tokens.specs.Contexts.{Contexts, StandsFor, right}
 use Rattle.vp_tokens.proofs.Steps.{row_begins}
 use Rattle.vp_recon.specs.Source.{has_y2}
@@ -17,7 +17,7 @@ use Rattle.vp_loop.specs.declared.strength.Level.{Level}
 use Rattle.vp_recon.specs.Rebuilt.{rebuilt}
 use Rattle.vp_decode.specs.Maps.{place}
 use Rattle.vp_decode.specs.Frame.{Plan, Readings, source_at, tokens_read, seen_read, row_seen, row_tokens, rest_of, token_row, none_read, readings, tokens_of, macroblock_at, level_at}
-use Rattle.vp_decode.specs.Rebuilding.{Rebuilding, IsStep, IsRow, AreRows}
+use Rattle.vp_decode.specs.Rebuilding.{Rebuilding, IsRebuilt, IsStep, IsRow, AreRows}
 
 -- ---- a row
 
@@ -87,21 +87,23 @@ row_next f row n g s t u a b c made last =
       elsewhere = λ q other. step.elsewhere q (λ e. other (ap (λ (z : Place). z.row) e)) ∙ made.elsewhere q other;
     }
 
--- what the code does for a macroblock
-pub step_made : (f : Plan) (p : Place) (g : Grid Blocks) (s t : State) (a b : Rebuilding) (tokens : Tokens)
+-- contexts of an equal state
+pub seen_here : (g : Grid Blocks) (p : Place) (a b : Rebuilding) → a ≡ b → StandsFor g p b.contexts → StandsFor g p a.contexts
+seen_here g p a b e stands = subst (λ (z : Rebuilding). StandsFor g p z.contexts) (sym e) stands
+
+-- what the code does for a macroblock, with tokens or without
+pub rebuilt_made : (f : Plan) (p : Place) (g : Grid Blocks) (s t : State) (coded : Bool) (a b : Rebuilding) (tokens : Tokens)
     → tokens ≡ (tokens_read f p g s).0 → t ≡ (tokens_read f p g s).1
     → StandsFor (with_entry g p (blocks_of (has_y2 (source_at f p)) tokens)) (right p) b.contexts
-    → b.picture ≡ rebuilt (macroblock_at f p tokens) p a.picture
-    → entry b.levels p ≡ Some (level_at f p tokens) → ((q : Place) → q ≢ p → entry b.levels q ≡ entry a.levels q)
-    → IsStep f p g s t a b
+    → b.picture ≡ rebuilt (macroblock_at f p tokens) p a.picture → coded ≡ any_token tokens
+    → IsRebuilt f p g s t coded a b
 unfolding seen_read bind
-step_made f p g s t a b tokens value rest stands picture here elsewhere = record {
+rebuilt_made f p g s t coded a b tokens value rest stands picture any = record {
   contexts = stands_seen (with_entry g p (blocks_of (has_y2 (source_at f p)) tokens)) (with_entry g p (blocks_of (has_y2 (source_at f p)) (tokens_read f p g s).0)) (right p) b.contexts
       (ap (λ (z : Tokens). with_entry g p (blocks_of (has_y2 (source_at f p)) z)) value) stands;
   rest = rest;
   picture = picture ∙ ap (λ (z : Tokens). rebuilt (macroblock_at f p z) p a.picture) value;
-  here = here ∙ ap (λ (z : Tokens). Some (level_at f p z)) value;
-  elsewhere = elsewhere;
+  any = any ∙ ap any_token value;
 }
 
 -- ---- from row to row

@@ -1,13 +1,13 @@
 -- Inside the crate: a frame while its rows are rebuilt, what one step and one row make of it, and what all rows leave
 -- beside the picture, whose window has words of its own.
-use Rattle.std.specs.Prelude.{◌≡◌, ◌≢◌, ◌<◌, ℕ, ◌+◌, List, Some, length}
+use Rattle.std.specs.Prelude.{◌≡◌, ◌≢◌, ◌<◌, ℕ, ◌+◌, Bool, List, Some, length}
 use Rattle.vp_bool.specs.Bools.{State}
 use Rattle.vp_base.specs.declared.place.Place.{Place}
 use Rattle.vp_base.specs.Grid.{Grid, entry}
 use Rattle.vp_base.specs.Image.{Image, macroblocks}
 use Rattle.vp_base.specs.Over.{over}
-use Rattle.vp_tokens.specs.Blocks.{Blocks}
-use Rattle.vp_tokens.specs.Contexts.{Contexts, StandsFor}
+use Rattle.vp_tokens.specs.Blocks.{Blocks, any_token}
+use Rattle.vp_tokens.specs.Contexts.{Contexts, StandsFor, right}
 use Rattle.vp_recon.specs.Rebuilt.{rebuilt}
 use Rattle.vp_loop.specs.declared.strength.Level.{Level}
 use Rattle.vp_decode.specs.Maps.{place}
@@ -26,6 +26,14 @@ pub record IsOneFrame (b : Rebuilding) : Type 0 where
   pub level_columns : b.levels.columns ≡ macroblocks b.picture.width
   pub level_rows : b.levels.rows ≡ macroblocks b.picture.height
   pub contexts : length b.contexts.above ≡ macroblocks b.picture.width
+
+-- What the macroblock at p of a frame makes of a before its level is found, where g was seen before and the partition stands
+-- at s: b, with t left of the partition, and whether it has any tokens.
+pub record IsRebuilt (f : Plan) (p : Place) (g : Grid Blocks) (s t : State) (coded : Bool) (a b : Rebuilding) : Type 0 where
+  pub contexts : StandsFor (seen_read f p g s).0 (right p) b.contexts
+  pub rest : t ≡ (seen_read f p g s).1
+  pub picture : b.picture ≡ rebuilt (macroblock_at f p (tokens_read f p g s).0) p a.picture
+  pub any : coded ≡ any_token (tokens_read f p g s).0
 
 -- What the macroblock at p of a frame makes of a, where g was seen before and the partition stands at s: b, with t left of
 -- the partition.

@@ -1,10 +1,11 @@
 //! What is known of a frame once its first partition is read.
 
-ghost use Rattle.std.specs.Prelude.{◌≡◌, ◌<◌, ◌≤◌, true, length, option_map};
+ghost use Rattle.std.specs.Prelude.{◌≡◌, ◌<◌, ◌≤◌, true, false, length, option_map};
+ghost use Rattle.vp_bool.specs.Bools.{State};
 ghost use Rattle.vp_base.specs.Grid.{Grid, Has, with_entry};
 ghost use Rattle.vp_tokens.specs.declared.contexts.Tokens.{Tokens};
 ghost use Rattle.vp_base.specs.Image.{macroblocks};
-ghost use Rattle.vp_tokens.specs.Blocks.{Blocks, any_token, blocks_of, no_blocks};
+ghost use Rattle.vp_tokens.specs.Blocks.{Blocks, any_token, blocks_of, without_tokens};
 ghost use Rattle.vp_tokens.specs.Contexts.{StandsFor, right};
 ghost use Rattle.vp_recon.specs.Source.{source_of, has_y2};
 ghost use Rattle.vp_recon.specs.Rebuilt.{rebuilt};
@@ -23,7 +24,7 @@ use vp_quant::{Factors, segment_index};
 use vp_recon::{Source, move_macroblock, rebuild_macroblock};
 use vp_refs::Refs;
 use vp_tables::VectorMode;
-use vp_tokens::{Contexts, Tokens, read_macroblock};
+use vp_tokens::{Contexts, Tokens, pass_macroblock, read_macroblock};
 
 /// What is known of a frame once its first partition is read.
 #[derive(Drop)]
@@ -182,66 +183,96 @@ impl<'a> Plan<'a> {
     }
 
     /// Whether the macroblock at a place has no tokens.
-    fn is_skipped(&self, place: Place) -> bool
+    pub(crate) fn is_skipped(&self, place: Place) -> bool
         requires { Has self.now.maps.modes place }
         ensures { result ≡ (modes_in self.now.maps place).skip }
     {
         self.modes(place).skip
     }
 
-    /// Reads the tokens of the macroblock at a place, where those before it in raster order are read, and says whether
-    /// there are any.
+    /// Passes the skipped macroblock at a place, of which nothing is read, where those before it in raster order are read.
+    #[tactic(auto, unfolding(crate::specs::Frame::tokens_read))]
+    pub(crate) fn pass(&self, place: Place, source: &Source, contexts: &mut Contexts)
+        requires source { source_of source.now ≡ source_at self.now place }
+        requires skipped { (modes_in self.now.maps place).skip ≡ true }
+        requires column { place.column < length contexts.old.above }
+        ensures value { (g : Grid Blocks) (d : State) → StandsFor g place contexts.old → tokens_read self.now place g d ≡ (without_tokens, d) }
+        ensures stands { (g : Grid Blocks) → Has g place → StandsFor g place contexts.old → StandsFor (with_entry g place (blocks_of (has_y2 (source_at self.now place)) without_tokens)) (right place) contexts.new }
+        ensures columns { length contexts.new.above ≡ length contexts.old.above }
+    {
+        pass_macroblock(contexts, place, source.has_y2());
+    }
+
+    /// Reads the tokens of the macroblock at a place, which isn't skipped, where those before it in raster order are read,
+    /// and says whether there are any.
     #[tactic(auto, unfolding(crate::specs::Frame::tokens_read))]
     pub(crate) fn read_tokens(
         &self,
         place: Place,
+        source: &Source,
         contexts: &mut Contexts,
         tokens: &mut Tokens,
         d: &mut BoolDecoder,
     ) -> bool
-        requires place { Has self.now.maps.modes place }
+        requires source { source_of source.now ≡ source_at self.now place }
+        requires read { (modes_in self.now.maps place).skip ≡ false }
         requires column { place.column < length contexts.old.above }
         ensures value { (g : Grid Blocks) → StandsFor g place contexts.old → tokens.new ≡ (tokens_read self.now place g d.old).0 }
         ensures rest { (g : Grid Blocks) → StandsFor g place contexts.old → d.new ≡ (tokens_read self.now place g d.old).1 }
         ensures stands { (g : Grid Blocks) → Has g place → StandsFor g place contexts.old → StandsFor (with_entry g place (blocks_of (has_y2 (source_at self.now place)) tokens.new)) (right place) contexts.new }
         ensures any { result ≡ any_token tokens.new }
-        ensures none { (modes_in self.now.maps place).skip ≡ true → tokens.new.blocks ≡ no_blocks }
         ensures columns { length contexts.new.above ≡ length contexts.old.above }
     {
-        let skipped = self.is_skipped(place);
         read_macroblock(
             &self.header.probabilities.coefficients,
             contexts,
             place,
-            self.source(place).has_y2(),
-            skipped,
+            source.has_y2(),
+            false,
             tokens,
             d,
         );
-        !skipped && tokens.any()
+        tokens.any()
     }
 
-    /// Rebuilds the macroblock at a place from its tokens, of which a skipped one has none.
-    pub(crate) fn rebuild(&self, place: Place, tokens: &Tokens, picture: &mut Picture)
+    /// Rebuilds the macroblock at a place from its tokens.
+    pub(crate) fn rebuild(
+        &self,
+        place: Place,
+        source: &Source,
+        tokens: &Tokens,
+        picture: &mut Picture,
+    )
         requires place { Has self.now.maps.modes place }
+        requires source { source_of source.now ≡ source_at self.now place }
         requires column { place.column < macroblocks picture.old.width }
         requires row { place.row < macroblocks picture.old.height }
-        requires none { (modes_in self.now.maps place).skip ≡ true → tokens.now.blocks ≡ no_blocks }
         ensures { picture.new ≡ rebuilt (macroblock_at self.now place tokens.now) place picture.old }
     {
-        let source = self.source(place);
-        if self.is_skipped(place) {
-            if let Source::Inter {
+        rebuild_macroblock(picture, place, source, tokens, &self.factors(place));
+    }
+
+    /// Rebuilds the macroblock at a place, which has no tokens: one that moves is only moved.
+    pub(crate) fn rebuild_without_tokens(
+        &self,
+        place: Place,
+        source: &Source,
+        picture: &mut Picture,
+    )
+        requires place { Has self.now.maps.modes place }
+        requires source { source_of source.now ≡ source_at self.now place }
+        requires column { place.column < macroblocks picture.old.width }
+        requires row { place.row < macroblocks picture.old.height }
+        ensures { picture.new ≡ rebuilt (macroblock_at self.now place without_tokens) place picture.old }
+    {
+        match source {
+            Source::Intra(_) => self.rebuild(place, source, &Tokens::NONE, picture),
+            Source::Inter {
                 motion,
                 reference,
                 version,
-            } = source
-            {
-                move_macroblock(picture, place, motion, reference, version);
-                return;
-            }
+            } => move_macroblock(picture, place, motion, reference, *version),
         }
-        rebuild_macroblock(picture, place, &source, tokens, &self.factors(place));
     }
 
     /// The factors of the macroblock at a place.
@@ -255,14 +286,15 @@ impl<'a> Plan<'a> {
 
     /// How the macroblock at a place is filtered, where it has tokens or none.
     #[tactic(auto, unfolding(crate::specs::Frame::level_at))]
-    pub(crate) fn level(&self, place: Place, coded: bool) -> Level
-        requires { Has self.now.maps.modes place }
+    pub(crate) fn level(&self, place: Place, source: &Source, coded: bool) -> Level
+        requires place { Has self.now.maps.modes place }
+        requires source { source_of source.now ≡ source_at self.now place }
         ensures { (tokens : Tokens) → coded ≡ any_token tokens → result ≡ level_at self.now place tokens }
     {
         let modes = self.modes(place);
         let kind = MacroblockKind {
             reference: modes.reference,
-            prediction: prediction_of(&self.source(place)),
+            prediction: prediction_of(source),
             coded,
         };
         levels(self.header, modes.segment, &kind)

@@ -1,15 +1,16 @@
 //! A frame's picture while its rows are rebuilt and filtered.
 
-ghost use Rattle.std.specs.Prelude.{◌≡◌, ℕ, ◌+◌, ◌*◌, ◌<◌, ◌≤◌, IfOk, [], length, map, slice_index_or};
+ghost use Rattle.std.specs.Prelude.{◌≡◌, ℕ, ◌+◌, ◌*◌, ◌<◌, ◌≤◌, true, false, IfOk, [], length, map, slice_index_or};
 ghost use Rattle.vp_base.specs.Grid.{Grid, Has, all};
 ghost use Rattle.vp_base.specs.Image.{macroblocks};
-ghost use Rattle.vp_bool.specs.Bools.{start};
+ghost use Rattle.vp_bool.specs.Bools.{State, start};
 ghost use Rattle.vp_loop.specs.Filtered.{row_filtered, level_in};
 ghost use Rattle.vp_tokens.specs.Blocks.{Blocks, unread};
 ghost use Rattle.vp_tokens.specs.Contexts.{StandsFor};
-ghost use Rattle.vp_decode.specs.Maps.{place};
-ghost use Rattle.vp_decode.specs.Frame.{frame_of, picture_of};
-ghost use Rattle.vp_decode.specs.Rebuilding.{IsStep, IsRow};
+ghost use Rattle.vp_recon.specs.Source.{source_of};
+ghost use Rattle.vp_decode.specs.Maps.{modes_in, place};
+ghost use Rattle.vp_decode.specs.Frame.{source_at, frame_of, picture_of};
+ghost use Rattle.vp_decode.specs.Rebuilding.{IsRebuilt, IsStep, IsRow};
 ghost use Rattle.vp_decode.specs.Window.{IsShaped};
 
 use crate::laws::unfiltered_picture_is_the_one_solution;
@@ -22,10 +23,10 @@ use vp_base::{Dim, Grid, Picture, Place};
 use vp_bool::BoolDecoder;
 use vp_loop::{Level, RowFilter};
 use vp_recon::{
-    rebuilding_keeps_rows_above, rebuilding_keeps_shape, rebuilding_reads_one_row_above,
+    Source, rebuilding_keeps_rows_above, rebuilding_keeps_shape, rebuilding_reads_one_row_above,
     unfiltered_picture_solves_its_equation,
 };
-use vp_tokens::{Block, Contexts, Partitions, Tokens};
+use vp_tokens::{Contexts, Partitions, Tokens};
 
 const NO_LEVEL: Level = Level {
     edge: 0,
@@ -41,7 +42,7 @@ pub(crate) struct Rebuilding<'a> {
     contexts: Contexts,
     picture: Picture,
     levels: Grid<Level>,
-    /// Those of the macroblock that was read last.
+    /// Those of the macroblock that was read last; a skipped one isn't read.
     tokens: Tokens,
 }
 
@@ -84,13 +85,62 @@ impl<'a> Rebuilding<'a> {
             contexts,
             picture,
             levels,
-            tokens: Tokens {
-                blocks: [Block::NONE; 25],
-            },
+            tokens: Tokens::NONE,
         })
     }
 
-    /// Reads the tokens of the macroblock at a place, rebuilds it, and finds its filter level.
+    /// Passes the skipped macroblock at a place, and rebuilds it.
+    fn pass(&mut self, place: Place, source: &Source)
+        requires place { Has self.old.plan.maps.modes place }
+        requires source { source_of source.now ≡ source_at self.old.plan place }
+        requires skipped { (modes_in self.old.plan.maps place).skip ≡ true }
+        ensures plan { self.new.plan ≡ self.old.plan }
+        ensures levels { self.new.levels ≡ self.old.levels }
+        ensures width { self.new.picture.width ≡ self.old.picture.width }
+        ensures height { self.new.picture.height ≡ self.old.picture.height }
+        ensures made { (g : Grid Blocks) (d : State) → Has g place → StandsFor g place self.old.contexts → IsRebuilt self.old.plan place g d d false self.old self.new }
+    {
+        let plan = self.plan;
+        plan.pass(place, source, &mut self.contexts);
+        plan.rebuild_without_tokens(place, source, &mut self.picture);
+    }
+
+    /// Reads the tokens of the macroblock at a place, which isn't skipped, and rebuilds it. Says whether there are any.
+    fn read(&mut self, place: Place, source: &Source, d: &mut BoolDecoder) -> bool
+        requires place { Has self.old.plan.maps.modes place }
+        requires source { source_of source.now ≡ source_at self.old.plan place }
+        requires read { (modes_in self.old.plan.maps place).skip ≡ false }
+        ensures plan { self.new.plan ≡ self.old.plan }
+        ensures levels { self.new.levels ≡ self.old.levels }
+        ensures width { self.new.picture.width ≡ self.old.picture.width }
+        ensures height { self.new.picture.height ≡ self.old.picture.height }
+        ensures made { (g : Grid Blocks) → Has g place → StandsFor g place self.old.contexts → IsRebuilt self.old.plan place g d.old d.new result self.old self.new }
+    {
+        let plan = self.plan;
+        let coded = plan.read_tokens(place, source, &mut self.contexts, &mut self.tokens, d);
+        plan.rebuild(place, source, &self.tokens, &mut self.picture);
+        coded
+    }
+
+    /// Passes the macroblock at a place or reads its tokens, and rebuilds it. Says whether it has any.
+    fn rebuild(&mut self, place: Place, source: &Source, d: &mut BoolDecoder) -> bool
+        requires place { Has self.old.plan.maps.modes place }
+        requires source { source_of source.now ≡ source_at self.old.plan place }
+        ensures plan { self.new.plan ≡ self.old.plan }
+        ensures levels { self.new.levels ≡ self.old.levels }
+        ensures width { self.new.picture.width ≡ self.old.picture.width }
+        ensures height { self.new.picture.height ≡ self.old.picture.height }
+        ensures made { (g : Grid Blocks) → Has g place → StandsFor g place self.old.contexts → IsRebuilt self.old.plan place g d.old d.new result self.old self.new }
+    {
+        if self.plan.is_skipped(place) {
+            self.pass(place, source);
+            false
+        } else {
+            self.read(place, source, d)
+        }
+    }
+
+    /// Passes or reads the macroblock at a place, rebuilds it, and finds its filter level.
     fn macroblock(&mut self, place: Place, d: &mut BoolDecoder)
         requires { Has self.old.plan.maps.modes place }
         ensures plan { self.new.plan ≡ self.old.plan }
@@ -100,9 +150,9 @@ impl<'a> Rebuilding<'a> {
         ensures step { (g : Grid Blocks) → Has g place → StandsFor g place self.old.contexts → IsStep self.old.plan place g d.old d.new self.old self.new }
     {
         let plan = self.plan;
-        let coded = plan.read_tokens(place, &mut self.contexts, &mut self.tokens, d);
-        plan.rebuild(place, &self.tokens, &mut self.picture);
-        self.levels.set(place, plan.level(place, coded));
+        let source = plan.source(place);
+        let coded = self.rebuild(place, &source, d);
+        self.levels.set(place, plan.level(place, &source, coded));
     }
 
     /// Reads the tokens of a row of macroblocks, and rebuilds it.

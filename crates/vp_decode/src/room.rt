@@ -50,6 +50,8 @@ impl Room {
         ensures width { IfOk result (λ p. p.width ≡ dim.w) }
         ensures height { IfOk result (λ p. p.height ≡ dim.h) }
         ensures shaped { IfOk result (λ p. IsShaped p.width p.height p) }
+        // The room has no picture any more, and keeps all else.
+        ensures used { self.new ≡ record self.old { picture = None } }
     {
         let picture = match self.picture.take() {
             Some(picture) if picture.dim() == dim => picture,

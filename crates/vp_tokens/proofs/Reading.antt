@@ -9,7 +9,7 @@ use Rattle.vp_bool.specs.Reader.{Reader, rows, bind, when}
 use Rattle.vp_tokens.specs.declared.contexts.Tokens.{Tokens}
 use Rattle.vp_tokens.specs.Block.{Block}
 use Rattle.vp_tokens.specs.Levels.{Probabilities}
-use Rattle.vp_tokens.specs.Blocks.{Blocks, had_of, context, block_at, all_blocks, no_blocks, macroblock}
+use Rattle.vp_tokens.specs.Blocks.{Blocks, had_of, context, block_at, all_blocks, no_blocks, without_tokens, macroblock}
 use Rattle.vp_tokens.specs.Contexts.{Contexts, StandsFor, above_flags, left_flags}
 use Rattle.vp_tokens.specs.Flagged.{by_flags, left_at}
 use Rattle.vp_tokens.proofs.Around.{above_is, left_is, left_flags-first}
@@ -59,3 +59,8 @@ unfolding macroblock bind
 macroblock-is p g at has_y2 skipped above left a l s =
     ap (λ (z : List Block × State). let t : Tokens × State = (record { blocks = z.0 }, z.1) in t)
     (blocks-same p has_y2 skipped (by_flags above left) (context g at) (λ found k b. rw (a, l, above_is g at found k b, left_is g at found k b) refl) s)
+
+-- Of a skipped macroblock nothing is read.
+pub macroblock-skipped : (p : Probabilities) (g : Grid Blocks) (at : Place) (has_y2 : Bool) (s : State) → macroblock p g at has_y2 true s ≡ (without_tokens, s)
+unfolding macroblock all_blocks bind
+macroblock-skipped p g at has_y2 s = refl

@@ -19,6 +19,11 @@ pub struct Tokens {
 }
 
 impl Tokens {
+    /// Those of a skipped macroblock: no block has any.
+    pub const NONE: Tokens = Tokens {
+        blocks: [Block::NONE; 25],
+    };
+
     /// The blocks of these levels: the tokens of each end with its last level that isn't 0.
     pub fn of_levels(levels: &[[i16; 16]; 25]) -> Tokens
         requires { (k i : ℕ) → unsigned_abs (slice_index_or (levels_of levels.now k) i (pos 0)) ≤ 2114 }

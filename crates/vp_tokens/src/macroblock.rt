@@ -1,8 +1,10 @@
 //! Reading the tokens of a macroblock (RFC 6386, chapter 13).
 ghost use Rattle.std.specs.Prelude.{◌≡◌, ℕ, true, ◌+◌, ◌<◌, ◌≤◌, length, slice_index_or};
 ghost use Rattle.vp_base.specs.Grid.{Grid, Has, with_entry};
+ghost use Rattle.vp_bool.specs.Bools.{State};
 ghost use Rattle.vp_tokens.specs.Block.{no_tokens};
-ghost use Rattle.vp_tokens.specs.Blocks.{Blocks, blocks_of, had_of, flag, y2_or, all_blocks, no_blocks, macroblock};
+ghost use Rattle.vp_tokens.specs.Levels.{Probabilities};
+ghost use Rattle.vp_tokens.specs.Blocks.{Blocks, blocks_of, had_of, flag, y2_or, all_blocks, no_blocks, without_tokens, macroblock};
 ghost use Rattle.vp_tokens.specs.Contexts.{StandsFor, lowest, rightmost, right};
 ghost use Rattle.vp_tokens.specs.Flagged.{by_flags};
 ghost use Rattle.vp_tokens.specs.Placed.{reading, placed, plane, all_placed};
@@ -164,10 +166,25 @@ pub fn read_macroblock(
         above: contexts.above_of(place),
         left: contexts.left_of(place),
     };
-    *tokens = Tokens {
-        blocks: [Block::NONE; 25],
-    };
+    *tokens = Tokens::NONE;
     let blocks = &mut tokens.blocks;
     read_unless(skipped, probabilities, has_y2, blocks, &mut flags, d);
     contexts.put(place, flags.above, flags.left);
+}
+
+/// Passes the skipped macroblock at a place: nothing is read of it, its tokens are [`Tokens::NONE`], and the contexts are
+/// left as [`read_macroblock`] leaves them. A frame's macroblocks are passed and read in raster order.
+///
+/// `has_y2` is false where the luma is predicted or moved by subblocks.
+pub fn pass_macroblock(contexts: &mut Contexts, place: Place, has_y2: bool)
+    requires { place.column < length contexts.old.above }
+    ensures value { (g : Grid Blocks) (d : State) (probabilities : Probabilities) → StandsFor g place contexts.old
+        → macroblock probabilities g place has_y2 true d ≡ (without_tokens, d) }
+    ensures stands { (g : Grid Blocks) → Has g place → StandsFor g place contexts.old
+        → StandsFor (with_entry g place (blocks_of has_y2 without_tokens)) (right place) contexts.new }
+    ensures columns { length contexts.new.above ≡ length contexts.old.above }
+{
+    let above = flags_without(&contexts.above_of(place), has_y2);
+    let left = flags_without(&contexts.left_of(place), has_y2);
+    contexts.put(place, above, left);
 }
