@@ -1,9 +1,10 @@
 -- A file's pictures are encoded, one after another.
-use Rattle.std.proofs.Common.{◌≡◌, ◌≢◌, ℕ, ◌+◌, ◌^◌, ◌<◌, ◌≤◌, List, [], ◌∷◌, ◌++◌, length, map, Option, Some, None, Result, Ok, Err, refl, sym, ap, subst, ◌∙◌, inl, inr, append_assoc, add-zero, add-one, suc, arith}
+use Rattle.std.proofs.Common.{◌≡◌, ◌≢◌, ℕ, ◌+◌, ◌^◌, ◌<◌, ◌≤◌, ◌*◌, ◌/◌, List, [], ◌∷◌, ◌++◌, length, map, Option, Some, None, Result, Ok, Err, refl, sym, ap, subst, ◌∙◌, inl, inr, append_assoc, add-zero, add-one, suc, arith}
 use Rattle.std.specs.List.{All, sum_by}
 use Rattle.std.specs.Io.KnownBytes.{Appends, Consumes, IsAtEnd}
 use Rattle.std.proofs.KnownBytes.{Consumes-nil, Consumes-trans}
 use Rattle.std.proofs.lemmas.List.{length-append, append-nil, map-append, length-map}
+use Rattle.std.proofs.lemmas.Nat.{row_fits, mul-le}
 use Rattle.std.proofs.lemmas.List.Elements.{All-nil, All-push, All-same, All-map, All-weaker}
 use Rattle.std.proofs.lemmas.List.Sums.{sum_by-cons, sum_by-append}
 use Rattle.vp_base.specs.declared.limits.Limits.{Limits}
@@ -13,7 +14,9 @@ use Rattle.vp_y4m.specs.declared.fault.SourceFault.{SourceFault}
 use Rattle.vp_y4m.specs.declared.fault.SourceFault.TheVariants as source
 use Rattle.vp_y4m.specs.Header.{Head}
 use Rattle.vp_y4m.specs.Pictures.{file_head, next_of}
-use Rattle.vp_y4m.specs.Reads.{Shows, ShowsAtEnd, Fails}
+use Rattle.vp_y4m.specs.Reads.{Shows, ShowsAtEnd, Fails, TakesInReads}
+use Rattle.vp_y4m.specs.Text.{i420_length}
+use Rattle.vp_y4m.proofs.ReadLemmas.{reads_then}
 use Rattle.vp_y4m.specs.Frames.{GivesPicture}
 use Rattle.vp_y4m.specs.Source.{Answers}
 use Rattle.vp_encode.specs.declared.settings.Settings.{Settings}
@@ -23,7 +26,7 @@ use Rattle.vp_encode.specs.declared.report.EncodeAllFault.TheVariants as fault
 use Rattle.vp_encode.specs.Encoder.{Encoding}
 use Rattle.vp_encode.specs.Encoded.{EncodedFrame, IsEncoded, AreEncoded, fresh, error_of}
 use Rattle.vp_encode.specs.Pictures.{IsPicture, BeginWith}
-use Rattle.vp_encode.specs.File.{IsToldMore, Work, IsDone, IsWhole, HasOneMore, IsReported, IsEndedBy, source_of, packet_of, ivf_text, text_of, fault_by, numbers_to}
+use Rattle.vp_encode.specs.File.{IsToldMore, Work, IsDone, IsWhole, HasOneMore, IsEndedBehind, IsAnswerBehind, HasDone, most_reads, source_of, packet_of, ivf_text, text_of, fault_by, numbers_to}
 use Rattle.vp_encode.specs.Run.{Running, IsAdded, IsRefused, IsHeadLine, IsBegun, IsAt, IsRun, Ends, start}
 
 -- ---- one more picture
@@ -81,6 +84,9 @@ at_more head begun now new bytes taken frames f h is next a =
 
 -- ---- what a watcher is told
 
+pub told_none : (told : List ℕ → Type 0) → IsToldMore told told (numbers_to 0)
+told_none told earlier is = subst told (sym (append-nil earlier)) is
+
 pub told_first : (r : Running) (told : List ℕ → Type 0) → r ≡ start r.limits (fresh r.encoder.dim r.encoder.settings) → IsToldMore told told (numbers_to (length r.packets))
 told_first r told first = λ earlier is.
     let none : length r.packets ≡ 0 = ap (λ (x : Running). length x.packets) first in
@@ -123,30 +129,42 @@ module _ (front : List ℕ) (head : Head) (begun now : Running) (bytes : List �
   many : length now.packets ≡ length frames
   many = ap length h.packets ∙ length-map frames packet_of
 
+  -- as many as there are packets
+  counted : (taken : List ℕ) → HasDone (length now.packets) begun.limits begun.encoder.settings (front ++ (bytes ++ taken)) (work taken)
+  counted taken = (done taken, sym many)
+
   most : now.limits.packets ≡ begun.limits.packets
   most = ap (λ (l : Limits). l.packets) h.limits
 
   -- the run refuses a picture
-  pub refused : (taken : List ℕ) (p : Image) → IsPicture head.w head.h p
+  refused : (taken : List ℕ) (p : Image) → IsPicture head.w head.h p
       → ((rest : List ℕ) → next_of head.w head.h (taken ++ rest) ≡ Ok (Some (i420 p, rest)))
-      → (f : EncodeAllFault) → IsRefused now p f → (written : Option (List ℕ)) → IsEndedBy begun.limits begun.encoder.settings f (front ++ (bytes ++ taken)) written written
+      → (f : EncodeAllFault) → IsRefused now p f → (written : Option (List ℕ)) → IsEndedBehind (length now.packets) begun.limits begun.encoder.settings f (front ++ (bytes ++ taken)) written written
   refused taken p is next fault.Magic r written = absurd r
   refused taken p is next fault.Size r written = absurd r
   refused taken p is next fault.Colour r written = absurd r
   refused taken p is next fault.Interlaced r written = absurd r
   refused taken p is next fault.Torn r written = absurd r
   refused taken p is next fault.Settings r written = absurd r
-  refused taken p is next fault.TooMany r written = (work taken, p, done taken, one_more taken p is next, sym many ∙ (r ∙ most))
+  refused taken p is next fault.TooMany r written = (work taken, p, counted taken, one_more taken p is next, sym many ∙ (r ∙ most))
   refused taken p is next fault.TooLong r written =
-      let room = r.0 in let same = most in let counted = many in
-      (work taken, p, done taken, one_more taken p is next, omega arith, r.1)
+      let room = r.0 in let same = most in let number = many in
+      (work taken, p, counted taken, one_more taken p is next, omega arith, r.1)
   refused taken p is next fault.PacketTooLarge r written =
-      let room = r.3 in let same = most in let counted = many in
+      let room = r.3 in let same = most in let number = many in
       let M : Image → Type 0 = λ q. HasOneMore (work taken) q in
       let L : Limits → Type 0 = λ l. l.packet_bytes < length r.0.packet in
-      (work taken, r.0, r.1, done taken, subst M (sym r.2) (one_more taken p is next), omega arith, r.4, subst L h.limits r.5)
+      (work taken, r.0, r.1, counted taken, subst M (sym r.2) (one_more taken p is next), omega arith, r.4, subst L h.limits r.5)
   refused taken p is next fault.Device r written = absurd r
-  refused taken p is next fault.Memory r written = tt
+  refused taken p is next fault.Memory r written = inr (work taken, counted taken)
+
+  -- and has the same packets as before
+  pub refused_same : (taken : List ℕ) (p : Image) → IsPicture head.w head.h p
+      → ((rest : List ℕ) → next_of head.w head.h (taken ++ rest) ≡ Ok (Some (i420 p, rest)))
+      → (f : EncodeAllFault) → IsRefused now p f → (packets : List (List ℕ)) → packets ≡ now.packets
+      → (written : Option (List ℕ)) → IsEndedBehind (length packets) begun.limits begun.encoder.settings f (front ++ (bytes ++ taken)) written written
+  refused_same taken p is next f r packets same written =
+      subst (λ (ps : List (List ℕ)). IsEndedBehind (length ps) begun.limits begun.encoder.settings f (front ++ (bytes ++ taken)) written written) (sym same) (refused taken p is next f r written)
 
   -- the source has a fault behind these pictures
   shown_end : (f : SourceFault) (taken : List ℕ) → ((rest : List ℕ) → next_of head.w head.h (taken ++ rest) ≡ Err f) → next_of head.w head.h taken ≡ Err f
@@ -154,19 +172,19 @@ module _ (front : List ℕ) (head : Head) (begun now : Running) (bytes : List �
 
   pub failed : (f : SourceFault) (before after : Option (List ℕ)) → Fails (next_of head.w head.h) f before after
       → (taken : List ℕ) × Consumes before after taken
-      × ((written : Option (List ℕ)) → IsEndedBy begun.limits begun.encoder.settings (fault_by f) (front ++ (bytes ++ taken)) written written)
-  failed source.Magic before after s = (s.taken, s.consumed, λ written. inr (work s.taken, done s.taken, shown_end source.Magic s.taken s.shown))
-  failed source.Size before after s = (s.taken, s.consumed, λ written. inr (work s.taken, done s.taken, shown_end source.Size s.taken s.shown))
-  failed source.Colour before after s = (s.taken, s.consumed, λ written. inr (work s.taken, done s.taken, shown_end source.Colour s.taken s.shown))
-  failed source.Interlaced before after s = (s.taken, s.consumed, λ written. inr (work s.taken, done s.taken, shown_end source.Interlaced s.taken s.shown))
-  failed source.Torn before after s = (s.taken, s.consumed, λ written. inr (work s.taken, done s.taken, s.shown))
-  failed source.Device before after s = (s.0, s.1, λ written. inl refl)
+      × ((written : Option (List ℕ)) → IsEndedBehind (length now.packets) begun.limits begun.encoder.settings (fault_by f) (front ++ (bytes ++ taken)) written written)
+  failed source.Magic before after s = (s.taken, s.consumed, λ written. inr (work s.taken, counted s.taken, shown_end source.Magic s.taken s.shown))
+  failed source.Size before after s = (s.taken, s.consumed, λ written. inr (work s.taken, counted s.taken, shown_end source.Size s.taken s.shown))
+  failed source.Colour before after s = (s.taken, s.consumed, λ written. inr (work s.taken, counted s.taken, shown_end source.Colour s.taken s.shown))
+  failed source.Interlaced before after s = (s.taken, s.consumed, λ written. inr (work s.taken, counted s.taken, shown_end source.Interlaced s.taken s.shown))
+  failed source.Torn before after s = (s.taken, s.consumed, λ written. inr (work s.taken, counted s.taken, s.shown))
+  failed source.Device before after s = (s.0, s.1, λ written. inl (refl, inr (work s.0, counted s.0)))
   failed source.Memory before after s = absurd s
 
   pub next_failed : (f : SourceFault) (before after : Option (List ℕ)) → (f ≢ source.Memory → Fails (next_of head.w head.h) f before after)
       → (f ≡ source.Memory → after ≡ before)
       → (taken : List ℕ) × Consumes before after taken
-      × ((written : Option (List ℕ)) → IsEndedBy begun.limits begun.encoder.settings (fault_by f) (front ++ (bytes ++ taken)) written written)
+      × ((written : Option (List ℕ)) → IsEndedBehind (length now.packets) begun.limits begun.encoder.settings (fault_by f) (front ++ (bytes ++ taken)) written written)
   next_failed source.Magic before after s m = failed source.Magic before after (s (λ e. cc))
   next_failed source.Size before after s m = failed source.Size before after (s (λ e. cc))
   next_failed source.Colour before after s m = failed source.Colour before after (s (λ e. cc))
@@ -174,7 +192,7 @@ module _ (front : List ℕ) (head : Head) (begun now : Running) (bytes : List �
   next_failed source.Torn before after s m = failed source.Torn before after (s (λ e. cc))
   next_failed source.Device before after s m = failed source.Device before after (s (λ e. cc))
   next_failed source.Memory before after s m =
-      let C : Option (List ℕ) → Type 0 = λ a. Consumes before a [] in ([], subst C (sym (m refl)) (Consumes-nil before), λ written. tt)
+      let C : Option (List ℕ) → Type 0 = λ a. Consumes before a [] in ([], subst C (sym (m refl)) (Consumes-nil before), λ written. inr (work [], counted []))
 
   -- all pictures were encoded
   pub ended : (before after : Option (List ℕ)) → ShowsAtEnd (next_of head.w head.h) (Ok None) before after
@@ -189,13 +207,13 @@ head_shown_end : (pixels : ℕ) (f : SourceFault) (taken : List ℕ) → ((rest 
 head_shown_end pixels f taken shown = ap (file_head pixels) (sym (append-nil taken)) ∙ shown []
 
 pub head_failed : (limits : Limits) (settings : Settings) (f : SourceFault) (before after : Option (List ℕ)) → Fails (file_head limits.pixels) f before after
-    → (file : List ℕ) × Consumes before after file × ((written : Option (List ℕ)) → IsEndedBy limits settings (fault_by f) file written written)
-head_failed limits settings source.Magic before after s = (s.taken, s.consumed, λ written. inl (head_shown_end limits.pixels source.Magic s.taken s.shown))
-head_failed limits settings source.Size before after s = (s.taken, s.consumed, λ written. inl (head_shown_end limits.pixels source.Size s.taken s.shown))
-head_failed limits settings source.Colour before after s = (s.taken, s.consumed, λ written. inl (head_shown_end limits.pixels source.Colour s.taken s.shown))
-head_failed limits settings source.Interlaced before after s = (s.taken, s.consumed, λ written. inl (head_shown_end limits.pixels source.Interlaced s.taken s.shown))
-head_failed limits settings source.Torn before after s = (s.taken, s.consumed, λ written. inl s.shown)
-head_failed limits settings source.Device before after s = (s.0, s.1, λ written. inl refl)
+    → (file : List ℕ) × Consumes before after file × ((written : Option (List ℕ)) → IsEndedBehind 0 limits settings (fault_by f) file written written)
+head_failed limits settings source.Magic before after s = (s.taken, s.consumed, λ written. inl (head_shown_end limits.pixels source.Magic s.taken s.shown, refl))
+head_failed limits settings source.Size before after s = (s.taken, s.consumed, λ written. inl (head_shown_end limits.pixels source.Size s.taken s.shown, refl))
+head_failed limits settings source.Colour before after s = (s.taken, s.consumed, λ written. inl (head_shown_end limits.pixels source.Colour s.taken s.shown, refl))
+head_failed limits settings source.Interlaced before after s = (s.taken, s.consumed, λ written. inl (head_shown_end limits.pixels source.Interlaced s.taken s.shown, refl))
+head_failed limits settings source.Torn before after s = (s.taken, s.consumed, λ written. inl (s.shown, refl))
+head_failed limits settings source.Device before after s = (s.0, s.1, λ written. inl (refl, inl refl))
 head_failed limits settings source.Memory before after s = absurd s
 
 -- ---- the answers of a source
@@ -250,6 +268,55 @@ work_ends limits settings run after head now before mid opened left result same 
       subst (λ (l : Limits). E l settings head) same (subst (λ (x : Settings). E run.limits x head) set (subst (λ (h : Head). E run.limits run.encoder.settings h) is e.2)),
     )
 
+-- the reads of the head, and then those of the pictures
+pub read_through : (before mid opened left : Option (List ℕ)) (old now begun new : ℕ) → opened ≡ mid → begun ≡ now
+    → TakesInReads 0 before mid old now → TakesInReads 1 opened left begun new → TakesInReads 1 before left old new
+read_through before mid opened left old now begun new same kept s t =
+    reads_then 1 before mid left old now new s
+    (subst (λ (o : Option (List ℕ)). TakesInReads 1 o left now new) same (subst (λ (n : ℕ). TakesInReads 1 opened left n new) kept t))
+
+-- ---- no more reads than these
+
+abbrev each : Head → ℕ
+each h = 1025 + i420_length h.w h.h
+
+pub few_now : (head : Head) (begun now : Running) (bytes : List ℕ) (frames : List EncodedFrame) → IsAt head begun now bytes frames → length now.packets ≤ begun.limits.packets
+few_now head begun now bytes frames h =
+    let many = ap length h.packets ∙ length-map frames packet_of in
+    let few = h.few in
+    omega arith
+
+-- those of one more picture
+pub within_more : (n most : ℕ) (head now : Head) (old mid new : ℕ) → n ≤ most → now ≡ head → mid ≤ old + n * each head → new ≤ mid + each now → new ≤ old + (most + 1) * each head
+within_more n most head now old mid new le same before more =
+    let e : each now ≡ each head = ap each same in
+    let fits = row_fits n (each head) (most + 1) (each head) (omega arith) (omega arith) in
+    omega arith
+
+pub within_next : (head now : Head) (old mid new : ℕ) (run next : Running) (f : EncodedFrame) → now ≡ head → IsAdded run f next
+    → mid ≤ old + length run.packets * each head → new ≤ mid + each now → new ≤ old + length next.packets * each head
+within_next head now old mid new run next f same added before more =
+    let many : length next.packets ≡ length run.packets + 1 = ap length added.packets ∙ length-append run.packets (f.packet ∷ []) in
+    subst (λ (n : ℕ). new ≤ old + n * each head) (sym many)
+    (within_more (length run.packets) (length run.packets) head now old mid new (omega arith) same before more)
+
+half_fits : (n : ℕ) → (n + 1) / 2 ≤ n
+half_fits n = omega arith
+
+i420_fits : (w h pixels : ℕ) → w * h ≤ pixels → i420_length w h ≤ 3 * pixels
+i420_fits w h pixels small =
+    let halves = mul-le ((w + 1) / 2) ((h + 1) / 2) w h (half_fits w) (half_fits h) in
+    omega arith
+
+-- those of the line and of all pictures
+pub within_limits : (limits now : Limits) (head opened : Head) (old mid begun new : ℕ) → now ≡ limits → opened ≡ head → begun ≡ mid → head.w * head.h ≤ limits.pixels
+    → mid ≤ old + 1025 → new ≤ begun + (now.packets + 1) * each opened → new ≤ old + most_reads limits
+within_limits limits now head opened old mid begun new same is kept small line pictures =
+    let n : (now.packets + 1) * each opened ≡ (limits.packets + 1) * each head = λ i. ((same i).packets + 1) * each (is i) in
+    let fits : each head ≤ 1025 + 3 * limits.pixels = let f = i420_fits head.w head.h limits.pixels small in omega arith in
+    let all = mul-le (limits.packets + 1) (each head) (limits.packets + 1) (1025 + 3 * limits.pixels) (omega arith) fits in
+    omega arith
+
 module _ (limits : Limits) (settings : Settings) (head : Head) (file : List ℕ) (after : Running) (packets : List (List ℕ)) (same : packets ≡ after.packets)
     (e : (w : Work) × IsDone limits settings file w × IsWhole w × (w.head ≡ head) × IsRun w after) where
   packets_are : packets ≡ map packet_of e.0.frames
@@ -263,19 +330,26 @@ module _ (limits : Limits) (settings : Settings) (head : Head) (file : List ℕ)
       (All-map P packet_of e.0.frames
       (All-weaker (λ (f : EncodedFrame). length f.packet ≤ limits.packet_bytes) (λ (f : EncodedFrame). length f.packet < 2 ^ 32) (λ f h. omega arith) e.0.frames e.1.small))
 
+  -- as many pictures as packets
+  all_counted : length e.0.frames ≡ length after.packets
+  all_counted = sym (length-map e.0.frames packet_of) ∙ sym (ap length e.4.packets)
+
   text_is : ivf_text head packets ≡ text_of e.0
   text_is = ap (λ (h : Head). ivf_text h packets) (sym e.3) ∙ ap (ivf_text e.0.head) packets_are
 
-  pub written_front : (before now : Option (List ℕ)) → AppendsFront before now (ivf_text head packets) → IsEndedBy limits settings fault.Device file before now
-  written_front before now w = let P : List ℕ → Type 0 = λ t. AppendsFront before now t in inr (e.0, e.1, e.2, subst P text_is w)
+  pub written_front : (before now : Option (List ℕ)) → AppendsFront before now (ivf_text head packets) → IsEndedBehind (length after.packets) limits settings fault.Device file before now
+  written_front before now w = let P : List ℕ → Type 0 = λ t. AppendsFront before now t in inr (e.0, (e.1, all_counted), e.2, subst P text_is w)
 
   pub written_whole : (before now : Option (List ℕ)) (report : EncodeReport) → report ≡ record { frames = length after.packets; error = after.error }
-      → Appends before now (ivf_text head packets) → IsReported limits settings report file before now
-  written_whole before now report is w = let P : List ℕ → Type 0 = λ t. Appends before now t in record {
-    work = e.0;
-    done = e.1;
-    whole = e.2;
-    frames = ap (λ (r : EncodeReport). r.frames) is ∙ (ap length e.4.packets ∙ length-map e.0.frames packet_of);
-    error = ap (λ (r : EncodeReport). r.error) is ∙ e.4.error;
-    writes = subst P text_is w;
-  }
+      → Appends before now (ivf_text head packets) → IsAnswerBehind (length after.packets) limits settings (Ok report) file before now
+  written_whole before now report is w = let P : List ℕ → Type 0 = λ t. Appends before now t in (
+    record {
+      work = e.0;
+      done = e.1;
+      whole = e.2;
+      frames = ap (λ (r : EncodeReport). r.frames) is ∙ sym all_counted;
+      error = ap (λ (r : EncodeReport). r.error) is ∙ e.4.error;
+      writes = subst P text_is w;
+    },
+    ap (λ (r : EncodeReport). r.frames) is,
+  )

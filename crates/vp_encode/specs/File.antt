@@ -1,5 +1,5 @@
 -- How the work on a source file ends.
-use Rattle.std.specs.Prelude.{◌≡◌, ◌≢◌, ◌≤◌, ◌<◌, ◌⊎◌, ℕ, zero, suc, List, [], ◌∷◌, ◌++◌, Option, None, Result, Ok, Err, OnOk, IfOk, length, map}
+use Rattle.std.specs.Prelude.{◌≡◌, ◌≢◌, ◌≤◌, ◌<◌, ◌+◌, ◌*◌, ◌⊎◌, ℕ, zero, suc, List, [], ◌∷◌, ◌++◌, Option, None, Result, Ok, Err, OnOk, length, map}
 use Rattle.std.specs.List.{All, enumerate_from}
 use Rattle.std.specs.Io.KnownBytes.{Appends, Consumes, IsAtEnd}
 use Rattle.vp_base.specs.declared.limits.Dim.{Dim}
@@ -89,34 +89,52 @@ pub record IsReported (limits : Limits) (settings : Settings) (report : EncodeRe
   pub error : report.error ≡ errors_of work.frames
   pub writes : Appends before after (text_of work)
 
--- the head has this fault, or what stands behind the pictures
-abbrev pub IsFaulty : Limits → Settings → SourceFault → List ℕ → Type 0
-IsFaulty limits settings fault file =
-    (file_head limits.pixels file ≡ Err fault)
-    ⊎ ((w : Work) × IsDone limits settings file w × (next_of w.head.w w.head.h w.rest ≡ Err fault))
+-- so many pictures were encoded
+abbrev pub HasDone : ℕ → Limits → Settings → List ℕ → Work → Type 0
+HasDone pictures limits settings file w = IsDone limits settings file w × (length w.frames ≡ pictures)
 
--- A device that fails at a write leaves a front of the whole text.
-abbrev pub IsEndedBy : Limits → Settings → EncodeAllFault → List ℕ → Option (List ℕ) → Option (List ℕ) → Type 0
-IsEndedBy limits settings fault.Magic file before after = IsFaulty limits settings source.Magic file
-IsEndedBy limits settings fault.Size file before after = IsFaulty limits settings source.Size file
-IsEndedBy limits settings fault.Colour file before after = IsFaulty limits settings source.Colour file
-IsEndedBy limits settings fault.Interlaced file before after = IsFaulty limits settings source.Interlaced file
-IsEndedBy limits settings fault.Torn file before after = IsFaulty limits settings source.Torn file
-IsEndedBy limits settings fault.Settings file before after = (h : Head) × (file_head limits.pixels file ≡ Ok (h, [])) × ¬ AreAllowed settings
-IsEndedBy limits settings fault.TooMany file before after =
-    (w : Work) × (p : Image) × IsDone limits settings file w × HasOneMore w p × (length w.frames ≡ limits.packets)
-IsEndedBy limits settings fault.TooLong file before after =
-    (w : Work) × (p : Image) × IsDone limits settings file w × HasOneMore w p × (length w.frames < limits.packets) × IsTooLong w.encoder p
-IsEndedBy limits settings fault.PacketTooLarge file before after =
-    (w : Work) × (f : EncodedFrame) × (next : Encoding) × IsDone limits settings file w × HasOneMore w f.source
+-- the head has this fault, or what stands behind the pictures
+abbrev pub IsFaulty : ℕ → Limits → Settings → SourceFault → List ℕ → Type 0
+IsFaulty pictures limits settings fault file =
+    ((file_head limits.pixels file ≡ Err fault) × (pictures ≡ 0))
+    ⊎ ((w : Work) × HasDone pictures limits settings file w × (next_of w.head.w w.head.h w.rest ≡ Err fault))
+
+-- no picture was encoded yet, or so many
+abbrev pub IsUnderWay : ℕ → Limits → Settings → List ℕ → Type 0
+IsUnderWay pictures limits settings file = (pictures ≡ 0) ⊎ ((w : Work) × HasDone pictures limits settings file w)
+
+-- The work ended behind so many pictures. A device that fails at a write leaves a front of the whole text.
+abbrev pub IsEndedBehind : ℕ → Limits → Settings → EncodeAllFault → List ℕ → Option (List ℕ) → Option (List ℕ) → Type 0
+IsEndedBehind pictures limits settings fault.Magic file before after = IsFaulty pictures limits settings source.Magic file
+IsEndedBehind pictures limits settings fault.Size file before after = IsFaulty pictures limits settings source.Size file
+IsEndedBehind pictures limits settings fault.Colour file before after = IsFaulty pictures limits settings source.Colour file
+IsEndedBehind pictures limits settings fault.Interlaced file before after = IsFaulty pictures limits settings source.Interlaced file
+IsEndedBehind pictures limits settings fault.Torn file before after = IsFaulty pictures limits settings source.Torn file
+IsEndedBehind pictures limits settings fault.Settings file before after =
+    (h : Head) × (file_head limits.pixels file ≡ Ok (h, [])) × (¬ AreAllowed settings) × (pictures ≡ 0)
+IsEndedBehind pictures limits settings fault.TooMany file before after =
+    (w : Work) × (p : Image) × HasDone pictures limits settings file w × HasOneMore w p × (length w.frames ≡ limits.packets)
+IsEndedBehind pictures limits settings fault.TooLong file before after =
+    (w : Work) × (p : Image) × HasDone pictures limits settings file w × HasOneMore w p × (length w.frames < limits.packets) × IsTooLong w.encoder p
+IsEndedBehind pictures limits settings fault.PacketTooLarge file before after =
+    (w : Work) × (f : EncodedFrame) × (next : Encoding) × HasDone pictures limits settings file w × HasOneMore w f.source
     × (length w.frames < limits.packets) × IsEncoded w.encoder f next × (limits.packet_bytes < length f.packet)
-IsEndedBy limits settings fault.Device file before after =
-    (after ≡ before) ⊎ ((w : Work) × IsDone limits settings file w × IsWhole w × AppendsFront before after (text_of w))
-IsEndedBy limits settings fault.Memory file before after = Unit {0}
+IsEndedBehind pictures limits settings fault.Device file before after =
+    ((after ≡ before) × IsUnderWay pictures limits settings file)
+    ⊎ ((w : Work) × HasDone pictures limits settings file w × IsWhole w × AppendsFront before after (text_of w))
+IsEndedBehind pictures limits settings fault.Memory file before after = IsUnderWay pictures limits settings file
+
+abbrev pub IsEndedBy : Limits → Settings → EncodeAllFault → List ℕ → Option (List ℕ) → Option (List ℕ) → Type 0
+IsEndedBy limits settings fault file before after = (pictures : ℕ) × IsEndedBehind pictures limits settings fault file before after
 
 abbrev pub IsAnswerFor : Limits → Settings → Result EncodeReport EncodeAllFault → List ℕ → Option (List ℕ) → Option (List ℕ) → Type 0
 IsAnswerFor limits settings (Ok report) file before after = IsReported limits settings report file before after
 IsAnswerFor limits settings (Err fault) file before after = IsEndedBy limits settings fault file before after
+
+-- the same, where it is known behind how many pictures
+abbrev pub IsAnswerBehind : ℕ → Limits → Settings → Result EncodeReport EncodeAllFault → List ℕ → Option (List ℕ) → Option (List ℕ) → Type 0
+IsAnswerBehind pictures limits settings (Ok report) file before after = IsReported limits settings report file before after × (report.frames ≡ pictures)
+IsAnswerBehind pictures limits settings (Err fault) file before after = IsEndedBehind pictures limits settings fault file before after
 
 -- ---- the whole work, from a reader to a writer
 
@@ -145,8 +163,18 @@ numbers_to (suc n) = numbers_to n ++ suc n ∷ []
 abbrev pub IsToldMore : (before after : List ℕ → Type 0) → List ℕ → Type 0
 IsToldMore before after numbers = (earlier : List ℕ) → before earlier → after (earlier ++ numbers)
 
--- A watcher was told the number of each picture, once it was encoded: all of them, where there is a report.
-pub record IsWatched (result : Result EncodeReport EncodeAllFault) (before after : List ℕ → Type 0) : Type 0 where
+-- A watcher was told the number of each picture, once it was encoded: of all that the work ended behind.
+pub record IsWatched {R W : Type 0} (remaining : R → Option (List ℕ)) (contents : W → Option (List ℕ)) (limits : Limits) (settings : Settings)
+    (result : Result EncodeReport EncodeAllFault) (reader reader' : Counted R) (writer writer' : Counted W) (before after : List ℕ → Type 0) : Type 0 where
   pub pictures : ℕ
   pub told : IsToldMore before after (numbers_to pictures)
-  pub all : IfOk result (λ r. r.frames ≡ pictures)
+  pub file : List ℕ
+  pub consumed : Consumes (counted_remaining remaining reader) (counted_remaining remaining reader') file
+  pub answer : IsAnswerBehind pictures limits settings result file (counted_contents contents writer) (counted_contents contents writer')
+
+-- ---- how often the source is read
+
+-- a read for each byte of the greatest file under the limits, with one picture more: lines of 1,025 bytes, and three numbers
+-- for a pixel at most
+abbrev pub most_reads : Limits → ℕ
+most_reads limits = 1025 + (limits.packets + 1) * (1025 + 3 * limits.pixels)

@@ -11,7 +11,7 @@ use Rattle.vp_encode.specs.declared.report.EncodeAllFault.TheVariants as fault
 use Rattle.vp_encode.specs.Encoder.{Encoding, AreAllowed}
 use Rattle.vp_encode.specs.Encoded.{EncodedFrame, IsEncoded, AreEncoded, fresh, error_of, errors_of}
 use Rattle.vp_encode.specs.Pictures.{BeginWith}
-use Rattle.vp_encode.specs.File.{Work, IsDone, IsWhole, IsEndedBy, source_of, packet_of}
+use Rattle.vp_encode.specs.File.{Work, IsDone, IsWhole, IsEndedBehind, source_of, packet_of}
 use Rattle.vp_encode.specs.TooLong.{IsTooLong}
 
 -- the encoder, the limits, the packets that it made, and the sum of their errors
@@ -25,7 +25,7 @@ pub record Running : Type 0 where
 abbrev pub start : Limits → Encoding → Running
 start limits encoder = record { limits = limits; encoder = encoder; packets = []; error = 0 }
 
--- ---- one picture
+-- ---- one picture: what is refused adds no packet
 
 -- there was room for one more frame, and this one was added
 pub record IsAdded (old : Running) (f : EncodedFrame) (new : Running) : Type 0 where
@@ -52,7 +52,7 @@ IsRefused r p fault.Memory = Unit {0}
 
 abbrev pub Takes : Running → Image → Result (Unit {0}) EncodeAllFault → Running → Type 0
 Takes old p (Ok done) new = (f : EncodedFrame) × (f.source ≡ p) × IsAdded old f new
-Takes old p (Err fault) new = IsRefused old p fault
+Takes old p (Err fault) new = IsRefused old p fault × (new.packets ≡ old.packets)
 
 -- ---- all of them
 
@@ -87,4 +87,4 @@ pub record IsRun (w : Work) (r : Running) : Type 0 where
 -- the pictures of a file with this head were encoded, or the work ended before anything was written
 abbrev pub Ends : Limits → Settings → Result (Unit {0}) EncodeAllFault → Head → List ℕ → Running → Type 0
 Ends limits settings (Ok done) head file r = (w : Work) × IsDone limits settings file w × IsWhole w × (w.head ≡ head) × IsRun w r
-Ends limits settings (Err fault) head file r = (written : Option (List ℕ)) → IsEndedBy limits settings fault file written written
+Ends limits settings (Err fault) head file r = (written : Option (List ℕ)) → IsEndedBehind (length r.packets) limits settings fault file written written

@@ -1,16 +1,18 @@
 //! Encoding a whole file.
 
-ghost use Rattle.std.specs.Prelude.{◌≡◌, ◌≢◌, ◌<◌, ◌^◌, ◌++◌, ◌∷◌, ℕ, List, [], ⊤, length, OnOk, OnErr, Err};
+ghost use Rattle.std.specs.Prelude.{◌≡◌, ◌≢◌, ◌<◌, ◌≤◌, ◌+◌, ◌*◌, ◌^◌, ◌++◌, ◌∷◌, ℕ, List, [], ⊤, length, OnOk, OnErr, IfSome, Err};
 ghost use Rattle.std.specs.List.{All};
 ghost use Rattle.std.specs.Io.KnownBytes.{Appends, Consumes, IsAtEnd};
-ghost use Rattle.vp_base.specs.Counted.{counted_contents, counted_failures, HasFailed, AppendsFront};
+ghost use Rattle.vp_base.specs.Counted.{counted_remaining, counted_contents, counted_failures, counted_reads, HasFailed, AppendsFront};
 ghost use Rattle.vp_y4m.specs.declared.source.Progress.{Progress};
 ghost use Rattle.vp_y4m.specs.Shown.{head_shown};
-ghost use Rattle.vp_y4m.specs.Source.{reader_name, bytes_left, failures_of, head_of, progress_of};
+ghost use Rattle.vp_y4m.specs.Source.{reader_name, bytes_left, failures_of, reads_of, head_of, progress_of};
+ghost use Rattle.vp_y4m.specs.Reads.{TakesInReads};
+ghost use Rattle.vp_y4m.specs.Text.{i420_length};
 ghost use Rattle.vp_encode.specs.declared.report.EncodeAllFault.{EncodeAllFault};
 ghost use Rattle.vp_encode.specs.Encoder.{AreAllowed};
 ghost use Rattle.vp_encode.specs.Encoded.{fresh};
-ghost use Rattle.vp_encode.specs.File.{IsAnswerOver, IsToldMore, IsWatched, ivf_text, numbers_to};
+ghost use Rattle.vp_encode.specs.File.{IsAnswerOver, IsToldMore, IsWatched, ivf_text, most_reads, numbers_to};
 ghost use Rattle.vp_encode.specs.Run.{start, IsHeadLine, Ends};
 
 use crate::encoder::Encoder;
@@ -57,11 +59,20 @@ pub fn encode_all<R: Read, W: Write>(
     limits: Limits,
 ) -> Result<EncodeReport, EncodeAllFault>
     ensures answer { IsAnswerOver R.remaining W.contents limits settings result reader.old reader.new writer.old writer.new }
+
+    // However it ends, each read but the last took a byte or more. So no more reads are made than these, of any reader and
+    // of one whose bytes are known.
+    ensures reads { TakesInReads 1 (counted_remaining R.remaining reader.old) (counted_remaining R.remaining reader.new)
+        (counted_reads reader.old) (counted_reads reader.new) }
+    ensures within { counted_reads reader.new ≤ counted_reads reader.old + most_reads limits }
+    ensures most { IfSome (counted_remaining R.remaining reader.old) (λ bytes.
+        counted_reads reader.new ≤ counted_reads reader.old + (length bytes + 1)) }
 {
     encode_all_watched(alloc, reader, writer, settings, limits, &mut Unwatched)
 }
 
-/// The same, and `watcher` is told of each picture once it is encoded, by how many there are.
+/// The same, and `watcher` is told of each picture once it is encoded, by how many there are: of all of them where there is
+/// a report, and else of those before what refuses.
 pub fn encode_all_watched<R: Read, W: Write, T: Watcher>(
     alloc: Global,
     reader: &mut Counted<R>,
@@ -71,7 +82,16 @@ pub fn encode_all_watched<R: Read, W: Write, T: Watcher>(
     watcher: &mut T,
 ) -> Result<EncodeReport, EncodeAllFault>
     ensures answer { IsAnswerOver R.remaining W.contents limits settings result reader.old reader.new writer.old writer.new }
-    ensures watched { IsWatched result (T.told watcher.old) (T.told watcher.new) }
+    ensures watched { IsWatched R.remaining W.contents limits settings result reader.old reader.new writer.old writer.new
+        (T.told watcher.old) (T.told watcher.new) }
+
+    // However it ends, each read but the last took a byte or more. So no more reads are made than these, of any reader and
+    // of one whose bytes are known.
+    ensures reads { TakesInReads 1 (counted_remaining R.remaining reader.old) (counted_remaining R.remaining reader.new)
+        (counted_reads reader.old) (counted_reads reader.new) }
+    ensures within { counted_reads reader.new ≤ counted_reads reader.old + most_reads limits }
+    ensures most { IfSome (counted_remaining R.remaining reader.old) (λ bytes.
+        counted_reads reader.new ≤ counted_reads reader.old + (length bytes + 1)) }
 {
     let head = SourceHead::read(reader, limits)?;
     let encoder = Encoder::new(alloc, head.dim, settings)?;
@@ -102,7 +122,11 @@ fn encode_pictures<R: Read, T: Watcher>(
     ensures torn { result ≡ Err EncodeAllFault.Torn → IsAtEnd (bytes_left R.remaining source.new) }
     ensures device { result ≡ Err EncodeAllFault.Device → HasFailed (failures_of source.old) (failures_of source.new) }
     ensures quiet { result ≢ Err EncodeAllFault.Device → failures_of source.new ≡ failures_of source.old }
-    ensures watched { (n : ℕ) × IsToldMore (T.told watcher.old) (T.told watcher.new) (numbers_to n) × OnOk result (n ≡ length run.new.packets) }
+    ensures reads { TakesInReads 1 (bytes_left R.remaining source.old) (bytes_left R.remaining source.new)
+        (reads_of source.old) (reads_of source.new) }
+    ensures within { reads_of source.new ≤ reads_of source.old
+        + (run.old.limits.packets + 1) * (1025 + i420_length (head_of source.old).w (head_of source.old).h) }
+    ensures watched { IsToldMore (T.told watcher.old) (T.told watcher.new) (numbers_to (length run.new.packets)) }
 {
     while let Some(picture) = source.next_picture()? {
         run.picture(&picture)?;

@@ -156,6 +156,24 @@ fn fails_at_each_read(rt: HostRuntime) -> Result<(), Fail> {
     Ok(())
 }
 
+/// The line's 24 bytes and the next line's 6 are read one by one, then 16 rows of Y, 8 of U and 8 of V, and then the end.
+#[test]
+fn reads_are_counted(rt: HostRuntime) -> Result<(), Fail> {
+    let bytes = source(rt.alloc(), 1)?;
+    let mut reader = Counted::new(bytes.as_slice());
+    let mut writer = Counted::new(Vec::new(rt.alloc()));
+    let done = encode_all(
+        rt.alloc(),
+        &mut reader,
+        &mut writer,
+        settings(0),
+        Limits::usual(),
+    );
+    assert!(rt; done.is_ok());
+    assert_eq!(rt; reader.reads(), 63);
+    Ok(())
+}
+
 #[test]
 fn fails_at_the_first_write(rt: HostRuntime) -> Result<(), Fail> {
     let mut reader = Counted::new(LINE);
@@ -208,6 +226,29 @@ fn pictures_are_told(rt: HostRuntime) -> Result<(), Fail> {
     );
     assert!(rt; done.is_ok());
     assert_eq!(rt; watcher.numbers.as_slice(), [1, 2, 3].as_slice());
+    Ok(())
+}
+
+/// The third picture is refused.
+#[test]
+fn pictures_before_a_fault_are_told(rt: HostRuntime) -> Result<(), Fail> {
+    let bytes = source(rt.alloc(), 3)?;
+    let mut reader = Counted::new(bytes.as_slice());
+    let mut writer = Counted::new(Vec::new(rt.alloc()));
+    let mut watcher = Keeping {
+        numbers: Vec::new(rt.alloc()),
+        refused: false,
+    };
+    let done = encode_all_watched(
+        rt.alloc(),
+        &mut reader,
+        &mut writer,
+        settings(0),
+        limits(16_777_216, 2),
+        &mut watcher,
+    );
+    assert_eq!(rt; done.err(), Some(EncodeAllFault::TooMany));
+    assert_eq!(rt; watcher.numbers.as_slice(), [1, 2].as_slice());
     Ok(())
 }
 

@@ -6,3 +6,4 @@ mod PixelLemmas
 mod PictureLemmas
 mod FrameLemmas
 mod LawLemmas
+pub mod ReadLemmas

@@ -1,5 +1,5 @@
--- What the bytes that were taken from a reader show of a definition over all of a file's bytes.
-use Rattle.std.specs.Prelude.{ℕ, ◌≡◌, ◌≢◌, ◌<◌, List, ◌++◌, length, take, Option, Result, Err}
+-- What the bytes that were taken from a reader show of a definition over all of a file's bytes, and in how many reads.
+use Rattle.std.specs.Prelude.{ℕ, ◌≡◌, ◌≢◌, ◌<◌, ◌≤◌, ◌+◌, List, ◌++◌, length, take, Option, Some, None, Result, Ok, Err}
 use Rattle.std.specs.Io.KnownBytes.{Consumes, IsAtEnd}
 use Rattle.vp_y4m.specs.declared.fault.SourceFault.{SourceFault}
 use Rattle.vp_y4m.specs.declared.fault.SourceFault.TheVariants.{Magic, Size, Colour, Interlaced, Torn, Device, Memory}
@@ -37,3 +37,28 @@ Fails read Magic before after = ShowsFault read Magic before after
 Fails read Size before after = ShowsFault read Size before after
 Fails read Colour before after = ShowsFault read Colour before after
 Fails read Interlaced before after = ShowsFault read Interlaced before after
+
+-- ---- how often a reader was read
+
+-- Bytes were taken, in no more reads than there are of them and so many that took none.
+abbrev pub TakesInReads : ℕ → Option (List ℕ) → Option (List ℕ) → (old new : ℕ) → Type 0
+TakesInReads idle before after old new = (taken : List ℕ) × Consumes before after taken × (new ≤ old + (length taken + idle))
+
+-- A read that took none is made at the reader's end, and one that failed took none. Behind it there is no other.
+abbrev pub idle_behind : SourceFault → ℕ
+idle_behind Torn = 1
+idle_behind Device = 1
+idle_behind Magic = 0
+idle_behind Size = 0
+idle_behind Colour = 0
+idle_behind Interlaced = 0
+idle_behind Memory = 0
+
+-- the same where there is an answer, which tells by itself whether it was made at the end
+abbrev pub idle_reads : {A : Type 0} → (A → ℕ) → Result A SourceFault → ℕ
+idle_reads idle (Ok answer) = idle answer
+idle_reads idle (Err fault) = idle_behind fault
+
+abbrev pub idle_at_none : {A : Type 0} → Option A → ℕ
+idle_at_none (Some x) = 0
+idle_at_none None = 1

@@ -1,6 +1,6 @@
 -- What a source has.
 use Rattle.std.specs.Prelude.{ℕ, List, Option, Some, None, Result, Ok, Err}
-use Rattle.vp_base.specs.Counted.{counted_remaining, counted_failures}
+use Rattle.vp_base.specs.Counted.{counted_remaining, counted_failures, counted_reads}
 use Rattle.vp_y4m.specs.declared.fault.SourceFault.{SourceFault}
 use Rattle.vp_y4m.specs.declared.source.Source.{Source}
 use Rattle.vp_y4m.specs.declared.source.Progress.{Progress}
@@ -23,6 +23,10 @@ bytes_left remaining source = counted_remaining remaining source.reader.now
 -- how many of its reader's calls failed
 abbrev pub failures_of : {R : Type 0} → Source R → ℕ
 failures_of source = counted_failures source.reader.now
+
+-- how often its reader was read
+abbrev pub reads_of : {R : Type 0} → Source R → ℕ
+reads_of source = counted_reads source.reader.now
 
 abbrev pub head_of : {R : Type 0} → Source R → Head
 head_of source = head_shown source.head

@@ -1,9 +1,11 @@
 //! Reading of one picture with its line.
 
-ghost use Rattle.std.specs.Prelude.{◌≡◌, ◌≢◌, Err};
+ghost use Rattle.std.specs.Prelude.{◌≡◌, ◌≢◌, ◌≤◌, ◌+◌, if◌then◌else◌, Err};
 ghost use Rattle.vp_base.specs.Image.{blank_image};
-ghost use Rattle.vp_base.specs.Counted.{counted_remaining, counted_failures, HasFailed};
+ghost use Rattle.vp_base.specs.Counted.{counted_remaining, counted_failures, counted_reads, HasFailed};
 ghost use Rattle.vp_y4m.specs.declared.fault.SourceFault.{SourceFault};
+ghost use Rattle.vp_y4m.specs.Text.{i420_length};
+ghost use Rattle.vp_y4m.specs.Reads.{TakesInReads, idle_reads};
 ghost use Rattle.vp_y4m.specs.Frames.{FindsFrame, FindsPicture};
 
 use crate::fault::SourceFault;
@@ -20,6 +22,9 @@ fn read_frame_line<R: Read>(reader: &mut Counted<R>) -> Result<bool, SourceFault
     ensures device { result ≡ Err SourceFault.Device
         → HasFailed (counted_failures reader.old) (counted_failures reader.new) }
     ensures quiet { result ≢ Err SourceFault.Device → counted_failures reader.new ≡ counted_failures reader.old }
+    ensures reads { TakesInReads (idle_reads (λ found. if found then 0 else 1) result) (counted_remaining R.remaining reader.old)
+        (counted_remaining R.remaining reader.new) (counted_reads reader.old) (counted_reads reader.new) }
+    ensures within { counted_reads reader.new ≤ counted_reads reader.old + 1025 }
 {
     let mut line = [0; 1024];
     match read_line(reader, &mut line) {
@@ -45,6 +50,9 @@ pub(crate) fn read_frame<R: Read>(
     ensures device { result ≡ Err SourceFault.Device
         → HasFailed (counted_failures reader.old) (counted_failures reader.new) }
     ensures quiet { result ≢ Err SourceFault.Device → counted_failures reader.new ≡ counted_failures reader.old }
+    ensures reads { TakesInReads (idle_reads (λ found. if found then 0 else 1) result) (counted_remaining R.remaining reader.old)
+        (counted_remaining R.remaining reader.new) (counted_reads reader.old) (counted_reads reader.new) }
+    ensures within { counted_reads reader.new ≤ counted_reads reader.old + (1025 + i420_length picture.old.width picture.old.height) }
 {
     match read_frame_line(reader) {
         Ok(true) => {}

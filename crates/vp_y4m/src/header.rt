@@ -1,6 +1,6 @@
 //! What the line before all pictures says.
 
-ghost use Rattle.std.specs.Prelude.{◌≡◌, ◌==◌, ◌<◌, length, position, IfSome, IfErr, MatchOption, ◌⊎◌};
+ghost use Rattle.std.specs.Prelude.{◌≡◌, ◌==◌, ◌<◌, ◌≤◌, ◌*◌, length, position, IfSome, IfOk, IfErr, MatchOption, ◌⊎◌};
 ghost use Rattle.std.specs.Char.{is_ascii_digit};
 ghost use Rattle.std.specs.List.{list_all, position_or_len, before_first, after_first};
 ghost use Rattle.vp_y4m.specs.declared.fault.SourceFault.{SourceFault};
@@ -114,7 +114,8 @@ fn side(text: Option<&[u8]>) -> Option<u32>
 
 // The size, where both sides are a picture's and the limits allow it.
 fn size_of(w: Option<u32>, h: Option<u32>, limits: Limits) -> Option<Dim>
-    ensures { sides_of result ≡ size_within limits.pixels (both w h) }
+    ensures sides { sides_of result ≡ size_within limits.pixels (both w h) }
+    ensures small { IfSome result (λ d. d.w * d.h ≤ limits.pixels) }
 {
     let w = u16::try_from(w?).ok()?;
     let h = u16::try_from(h?).ok()?;
@@ -150,6 +151,7 @@ pub(crate) fn read_head_line(line: &[u8], limits: Limits) -> Result<SourceHead, 
     ensures value { outcome_shown result ≡ head_in limits.pixels line.now }
     ensures faults { IfErr result (λ f. (f ≡ SourceFault.Magic) ⊎ ((f ≡ SourceFault.Size)
         ⊎ ((f ≡ SourceFault.Colour) ⊎ (f ≡ SourceFault.Interlaced)))) }
+    ensures small { IfOk result (λ head. head.dim.w * head.dim.h ≤ limits.pixels) }
 {
     if !is_first_token(line, b"YUV4MPEG2") {
         return Err(SourceFault::Magic);

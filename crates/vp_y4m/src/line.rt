@@ -1,9 +1,10 @@
 //! Reading of lines.
 
-ghost use Rattle.std.specs.Prelude.{◌≡◌, ◌≢◌, ◌==◌, if◌then◌else◌, length, None, Ok, Err};
-ghost use Rattle.vp_base.specs.Counted.{counted_remaining, counted_failures, HasFailed};
+ghost use Rattle.std.specs.Prelude.{◌≡◌, ◌≢◌, ◌==◌, ◌≤◌, ◌+◌, if◌then◌else◌, length, None, Ok, Err};
+ghost use Rattle.vp_base.specs.Counted.{counted_remaining, counted_failures, counted_reads, one_more, HasFailed};
 ghost use Rattle.vp_y4m.specs.declared.fault.SourceFault.{SourceFault};
 ghost use Rattle.vp_y4m.specs.Lines.{ReadsByte, ReadsLine};
+ghost use Rattle.vp_y4m.specs.Reads.{TakesInReads, idle_reads, idle_at_none};
 
 use crate::fault::SourceFault;
 use std::io::Read;
@@ -16,6 +17,7 @@ fn read_byte<R: Read>(reader: &mut Counted<R>) -> Result<Option<u8>, SourceFault
     ensures device { result ≡ Err SourceFault.Device
         → HasFailed (counted_failures reader.old) (counted_failures reader.new) }
     ensures quiet { result ≢ Err SourceFault.Device → counted_failures reader.new ≡ counted_failures reader.old }
+    ensures reads { counted_reads reader.new ≡ one_more (counted_reads reader.old) }
 {
     let mut byte = [0];
     match reader.read(&mut byte) {
@@ -37,6 +39,9 @@ pub(crate) fn read_line<R: Read>(
     ensures device { result ≡ Err SourceFault.Device
         → HasFailed (counted_failures reader.old) (counted_failures reader.new) }
     ensures quiet { result ≢ Err SourceFault.Device → counted_failures reader.new ≡ counted_failures reader.old }
+    ensures reads { TakesInReads (idle_reads idle_at_none result) (counted_remaining R.remaining reader.old)
+        (counted_remaining R.remaining reader.new) (counted_reads reader.old) (counted_reads reader.new) }
+    ensures within { counted_reads reader.new ≤ counted_reads reader.old + 1025 }
 {
     for n in 0..1024 {
         match read_byte(reader) {

@@ -1,12 +1,13 @@
 //! Reading of pixels.
 
-ghost use Rattle.std.specs.Prelude.{◌≡◌, ◌≢◌, ◌<◌, ◌≤◌, ◌*◌, ℕ, List, length, take, drop, OnOk, IfErr, Err};
+ghost use Rattle.std.specs.Prelude.{◌≡◌, ◌≢◌, ◌<◌, ◌≤◌, ◌*◌, ◌+◌, ℕ, List, length, take, drop, OnOk, IfErr, Err};
 ghost use Rattle.std.specs.Io.KnownBytes.{Consumes};
 ghost use Rattle.vp_base.specs.Raster.{with_run};
 ghost use Rattle.vp_base.specs.Block.{IsWhole};
 ghost use Rattle.vp_base.specs.Image.{plane_of, with_plane, blank_image};
-ghost use Rattle.vp_base.specs.Counted.{counted_remaining, counted_failures, HasFailed};
+ghost use Rattle.vp_base.specs.Counted.{counted_remaining, counted_failures, counted_reads, HasFailed};
 ghost use Rattle.vp_y4m.specs.declared.fault.SourceFault.{SourceFault};
+ghost use Rattle.vp_y4m.specs.Reads.{TakesInReads, idle_reads};
 ghost use Rattle.vp_y4m.specs.Pictures.{StopsShort};
 ghost use Rattle.vp_y4m.specs.Text.{i420_length};
 ghost use Rattle.vp_y4m.specs.Pixels.{ReadsRows, ReadsPicture, shown_side};
@@ -26,6 +27,9 @@ fn fill<R: Read>(reader: &mut Counted<R>, row: &mut [u8], w: usize) -> Result<()
     ensures device { result ≡ Err SourceFault.Device
         → HasFailed (counted_failures reader.old) (counted_failures reader.new) }
     ensures quiet { result ≢ Err SourceFault.Device → counted_failures reader.new ≡ counted_failures reader.old }
+    ensures reads { TakesInReads (idle_reads (λ _. 0) result) (counted_remaining R.remaining reader.old)
+        (counted_remaining R.remaining reader.new) (counted_reads reader.old) (counted_reads reader.new) }
+    ensures within { counted_reads reader.new ≤ counted_reads reader.old + w }
 {
     let mut filled = 0;
     while filled < w {
@@ -58,6 +62,9 @@ fn read_row<R: Read>(
     ensures device { result ≡ Err SourceFault.Device
         → HasFailed (counted_failures reader.old) (counted_failures reader.new) }
     ensures quiet { result ≢ Err SourceFault.Device → counted_failures reader.new ≡ counted_failures reader.old }
+    ensures reads { TakesInReads (idle_reads (λ _. 0) result) (counted_remaining R.remaining reader.old)
+        (counted_remaining R.remaining reader.new) (counted_reads reader.old) (counted_reads reader.new) }
+    ensures within { counted_reads reader.new ≤ counted_reads reader.old + w }
 {
     fill(reader, picture.row_mut(k, y), w)
 }
@@ -80,6 +87,9 @@ fn read_plane<R: Read>(
     ensures device { result ≡ Err SourceFault.Device
         → HasFailed (counted_failures reader.old) (counted_failures reader.new) }
     ensures quiet { result ≢ Err SourceFault.Device → counted_failures reader.new ≡ counted_failures reader.old }
+    ensures reads { TakesInReads (idle_reads (λ _. 0) result) (counted_remaining R.remaining reader.old)
+        (counted_remaining R.remaining reader.new) (counted_reads reader.old) (counted_reads reader.new) }
+    ensures within { counted_reads reader.new ≤ counted_reads reader.old + h * w }
 {
     let _width = picture.plane(k).width();
     for y in 0..h {
@@ -106,6 +116,9 @@ fn read_shown<R: Read>(
     ensures device { result ≡ Err SourceFault.Device
         → HasFailed (counted_failures reader.old) (counted_failures reader.new) }
     ensures quiet { result ≢ Err SourceFault.Device → counted_failures reader.new ≡ counted_failures reader.old }
+    ensures reads { TakesInReads (idle_reads (λ _. 0) result) (counted_remaining R.remaining reader.old)
+        (counted_remaining R.remaining reader.new) (counted_reads reader.old) (counted_reads reader.new) }
+    ensures within { counted_reads reader.new ≤ counted_reads reader.old + shown_side k picture.old.height * shown_side k picture.old.width }
 {
     let dim = picture.dim();
     let w = usize::from(dim.w);
@@ -130,6 +143,9 @@ pub(crate) fn read_pixels<R: Read>(
     ensures device { result ≡ Err SourceFault.Device
         → HasFailed (counted_failures reader.old) (counted_failures reader.new) }
     ensures quiet { result ≢ Err SourceFault.Device → counted_failures reader.new ≡ counted_failures reader.old }
+    ensures reads { TakesInReads (idle_reads (λ _. 0) result) (counted_remaining R.remaining reader.old)
+        (counted_remaining R.remaining reader.new) (counted_reads reader.old) (counted_reads reader.new) }
+    ensures within { counted_reads reader.new ≤ counted_reads reader.old + i420_length picture.old.width picture.old.height }
 {
     match read_shown(reader, picture, 0) {
         Ok(()) => {}

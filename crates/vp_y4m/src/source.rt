@@ -1,12 +1,13 @@
 //! A file that is read picture by picture.
 
-ghost use Rattle.std.specs.Prelude.{◌≡◌, ◌≢◌, None, Ok, Err, IfOk, IfErr};
-ghost use Rattle.vp_base.specs.Counted.{counted_remaining, counted_failures, HasFailed};
+ghost use Rattle.std.specs.Prelude.{◌≡◌, ◌≢◌, ◌≤◌, ◌+◌, ◌*◌, length, None, Ok, Err, IfOk, IfErr, IfSome};
+ghost use Rattle.vp_base.specs.Counted.{counted_remaining, counted_failures, counted_reads, HasFailed};
 ghost use Rattle.vp_y4m.specs.declared.fault.SourceFault.{SourceFault};
 ghost use Rattle.vp_y4m.specs.declared.source.Progress.{Progress};
-ghost use Rattle.vp_y4m.specs.Reads.{Shows, Fails};
+ghost use Rattle.vp_y4m.specs.Reads.{Shows, Fails, TakesInReads, idle_reads, idle_at_none};
 ghost use Rattle.vp_y4m.specs.Shown.{head_shown};
 ghost use Rattle.vp_y4m.specs.Pictures.{file_head};
+ghost use Rattle.vp_y4m.specs.Text.{i420_length};
 
 use crate::fault::SourceFault;
 use crate::frame::read_frame;
@@ -22,11 +23,20 @@ impl SourceHead {
     pub fn read<R: Read>(reader: &mut Counted<R>, limits: Limits) -> Result<SourceHead, SourceFault>
         ensures ok { IfOk result (λ head. Shows (file_head limits.pixels) (λ rest. Ok (head_shown head, rest))
             (counted_remaining R.remaining reader.old) (counted_remaining R.remaining reader.new)) }
+        ensures small { IfOk result (λ head. head.dim.w * head.dim.h ≤ limits.pixels) }
         ensures err { IfErr result (λ f. Fails (file_head limits.pixels) f
             (counted_remaining R.remaining reader.old) (counted_remaining R.remaining reader.new)) }
         ensures device { result ≡ Err SourceFault.Device
             → HasFailed (counted_failures reader.old) (counted_failures reader.new) }
         ensures quiet { result ≢ Err SourceFault.Device → counted_failures reader.new ≡ counted_failures reader.old }
+
+        // However it ends, each read but the last took a byte or more, and the last one too where the line is whole. So
+        // no more reads are made than these, of any reader and of one whose bytes are known.
+        ensures reads { TakesInReads (idle_reads (λ _. 0) result) (counted_remaining R.remaining reader.old)
+            (counted_remaining R.remaining reader.new) (counted_reads reader.old) (counted_reads reader.new) }
+        ensures within { counted_reads reader.new ≤ counted_reads reader.old + 1025 }
+        ensures most { IfSome (counted_remaining R.remaining reader.old) (λ bytes.
+            counted_reads reader.new ≤ counted_reads reader.old + (length bytes + 1)) }
     {
         let mut line = [0; 1024];
         match read_line(reader, &mut line) {
@@ -62,7 +72,7 @@ pub struct Source<'a, R: Read> {
 }
 
 impl<'a, R: Read> Source<'a, R> {
-    ghost use Rattle.vp_y4m.specs.Source.{reader_name, bytes_left, failures_of, head_of, progress_of, progress_after, Answers};
+    ghost use Rattle.vp_y4m.specs.Source.{reader_name, bytes_left, failures_of, reads_of, head_of, progress_of, progress_after, Answers};
 
     /// The pictures behind a head that was read from this reader.
     pub fn open(alloc: Global, reader: &'a mut Counted<R>, head: SourceHead) -> Source<'a, R>
@@ -71,6 +81,7 @@ impl<'a, R: Read> Source<'a, R> {
         ensures open { progress_of result ≡ Progress.Open }
         ensures bytes { bytes_left R.remaining result ≡ counted_remaining R.remaining reader.entry.now }
         ensures failures { failures_of result ≡ counted_failures reader.entry.now }
+        ensures reads { reads_of result ≡ counted_reads reader.entry.now }
     {
         Source {
             alloc,
@@ -123,6 +134,15 @@ impl<'a, R: Read> Source<'a, R> {
             → HasFailed (failures_of self.old) (failures_of self.new) }
         ensures quiet { progress_of self.old ≡ Progress.Open → result ≢ Err SourceFault.Device
             → failures_of self.new ≡ failures_of self.old }
+
+        // However it ends, each read but the last took a byte or more, and the last one too where there is a picture. So
+        // no more reads are made than these, of any reader and of one whose bytes are known.
+        ensures reads { TakesInReads (idle_reads idle_at_none result) (bytes_left R.remaining self.old)
+            (bytes_left R.remaining self.new) (reads_of self.old) (reads_of self.new) }
+        ensures within { reads_of self.new
+            ≤ reads_of self.old + (1025 + i420_length (head_of self.old).w (head_of self.old).h) }
+        ensures most { IfSome (bytes_left R.remaining self.old) (λ bytes.
+            reads_of self.new ≤ reads_of self.old + (length bytes + 1)) }
     {
         match self.progress {
             Progress::Open => {}

@@ -203,6 +203,30 @@ fn fails_at_each_read(rt: HostRuntime) -> Result<(), Fail> {
     Ok(())
 }
 
+/// Sixteen bytes of line, six of the next line and three of pixels are read one by one, and then the end once.
+#[test]
+fn reads_are_counted(rt: HostRuntime) -> Result<(), Fail> {
+    let file = b"YUV4MPEG2 W1 H1\nFRAME\nabc".as_slice();
+    let mut reader = Counted::new(FailAt::new(file, 2_000));
+    let Ok(head) = SourceHead::read(&mut reader, Limits::usual()) else {
+        panic!(rt; "a head");
+    };
+    assert_eq!(rt; reader.reads(), 16);
+    let ended = pictures_of(&mut Source::open(rt.alloc(), &mut reader, head));
+    assert_eq!(rt; (ended, reader.reads()), ((1, None), 26));
+    Ok(())
+}
+
+/// No read comes behind one that failed.
+#[test]
+fn a_failed_read_is_the_last(rt: HostRuntime) -> Result<(), Fail> {
+    let mut reader = Counted::new(FailAt::new(SMALL, 3));
+    let fault = SourceHead::read(&mut reader, Limits::usual()).err();
+    assert_eq!(rt; fault, Some(SourceFault::Device));
+    assert_eq!(rt; reader.reads(), 4);
+    Ok(())
+}
+
 // What becomes of header and picture, and the bytes written, at a writer that fails after k writes.
 fn write_all(alloc: Global, k: u64) -> (Option<(bool, Result<(), PictureFault>)>, usize) {
     let mut file = Counted::new(FailAt::new(Vec::new(alloc), k));

@@ -1,4 +1,4 @@
-use Rattle.std.proofs.Common.{◌≡◌, ◌++◌, ◌∷◌, [], None, Ok, Err, length, refl, ap, ◌∙◌, arith}
+use Rattle.std.proofs.Common.{◌≡◌, ℕ, List, ◌++◌, ◌∷◌, [], None, Ok, Err, length, refl, sym, ap, subst, ◌∙◌, arith}
 use Rattle.std.proofs.lemmas.Grind.{common_steps}
 use Rattle.std.proofs.lemmas.Result.{err_from_is_err_and}
 use Rattle.std.proofs.KnownBytes.{Consumes-nil, Consumes-trans}
@@ -6,8 +6,10 @@ use Rattle.vp_y4m.specs.Source.{bytes_left, head_of, progress_after}
 use Rattle.vp_y4m.specs.Frames.{GivesPicture}
 use Rattle.vp_y4m.specs.Reads.{ShowsAtEnd}
 use Rattle.vp_y4m.specs.Pictures.{next_of}
+use Rattle.vp_y4m.proofs.ReadLemmas.{no_reads, one_at_most, one_at_an_answer, reads_more, reads_then}
+use Rattle.vp_encode.specs.File.{IsToldMore, numbers_to}
 use Rattle.vp_encode.specs.Run.{IsBegun}
-use Rattle.vp_encode.proofs.FileLemmas.{at_start, next_failed, refused, ended, faulty_answer, given_answer, end_answer, is_picture, at_next, told_first, told_more}
+use Rattle.vp_encode.proofs.FileLemmas.{at_start, next_failed, refused_same, ended, faulty_answer, given_answer, end_answer, is_picture, at_next, told_first, told_more, few_now, within_next, within_more}
 use Rattle.vp_encode.proofs.encoding.encode_pictures.Goals as goal
 
 pub loop-picture-init : goal.loop-picture-init
@@ -21,6 +23,8 @@ loop-picture-init g c = (
   c.requires.open,
   refl,
   told_first c.args.run.now (g.T.Watcher.told c.args.watcher.now) c.requires.start,
+  no_reads 0 _ _,
+  omega arith,
 )
 
 pub returns-in_err-picture-clause-ends : goal.returns-in_err-picture-clause-ends
@@ -39,11 +43,6 @@ returns-in_err-picture-clause-ends g c = λ front line.
       now.2,
     )
 
-pub returns-in_err-picture-clause-watched : goal.returns-in_err-picture-clause-watched
-returns-in_err-picture-clause-watched g c =
-    let p = err_from_is_err_and c.from_residual.result c.from_residual.ensures.1 in
-    rw p.1 (length c.loop-picture.run.packets, c.loop-picture.invariant.8, tt)
-
 pub returns-in_err-picture-2-clause-ends : goal.returns-in_err-picture-2-clause-ends
 returns-in_err-picture-2-clause-ends g c = λ front line.
     let inv = c.loop-picture.invariant in
@@ -56,13 +55,13 @@ returns-in_err-picture-2-clause-ends g c = λ front line.
     rw (p.1, p.2) (
       inv.0 ++ given.shown.taken,
       Consumes-trans (bytes_left g.R.Read.remaining c.args.source.now) (bytes_left g.R.Read.remaining c.loop-picture.source) (bytes_left g.R.Read.remaining c.next_picture.new.self) inv.0 given.shown.taken inv.2 given.shown.consumed,
-      refused front (head_of c.args.source.now) c.args.run.now c.loop-picture.run inv.0 inv.1 b inv.3 given.shown.taken c.in-Some.picture is given.shown.shown c.in_err-picture-2.field-0.0 c.in_err-picture-2.ensures,
+      refused_same front (head_of c.args.source.now) c.args.run.now c.loop-picture.run inv.0 inv.1 b inv.3 given.shown.taken c.in-Some.picture is given.shown.shown c.in_err-picture-2.field-0.0 c.in_err-picture-2.ensures.0 c.picture-in-Some.new.self.packets c.in_err-picture-2.ensures.1,
     )
 
 pub returns-in_err-picture-2-clause-watched : goal.returns-in_err-picture-2-clause-watched
 returns-in_err-picture-2-clause-watched g c =
-    let p = err_from_is_err_and c.from_residual-in_err-picture-2.result c.from_residual-in_err-picture-2.ensures.1 in
-    rw p.1 (length c.loop-picture.run.packets, c.loop-picture.invariant.8, tt)
+    let T : List (List ℕ) → Type 0 = λ ps. IsToldMore (g.T.Watcher.told c.args.watcher.now) (g.T.Watcher.told c.loop-picture.watcher) (numbers_to (length ps)) in
+    subst T (sym c.in_err-picture-2.ensures.1) c.loop-picture.invariant.8
 
 pub loop-picture-preserved : goal.loop-picture-preserved
 loop-picture-preserved g c =
@@ -81,6 +80,8 @@ loop-picture-preserved g c =
       c.in_ok-picture.ensures.progress inv.6 (λ e. cc) ∙ ap progress_after (ap Ok c.in-Some.is),
       c.in_ok-picture.ensures.quiet inv.6 (λ e. cc) ∙ inv.7,
       told_more (g.T.Watcher.told c.args.watcher.now) (g.T.Watcher.told c.loop-picture.watcher) (g.T.Watcher.told c.encoded.new.self) c.loop-picture.run c.picture-in-Some.new.self f.0 c.frames.result inv.8 f.2 c.frames.ensures c.encoded.ensures,
+      reads_then 0 _ _ _ _ _ _ inv.9 (rw c.in-Some.is at c.in_ok-picture.ensures.reads),
+      within_next (head_of c.args.source.now) (head_of c.loop-picture.source) _ _ _ c.loop-picture.run c.picture-in-Some.new.self f.0 inv.5 f.2 inv.10 c.in_ok-picture.ensures.within,
     )
 
 pub returns-clause-ends : goal.returns-clause-ends
@@ -97,5 +98,29 @@ returns-clause-ends g c = λ front line.
       now.3,
     )
 
-pub returns-clause-watched : goal.returns-clause-watched
-returns-clause-watched g c = (length c.loop-picture.run.packets, c.loop-picture.invariant.8, refl)
+pub returns-in_err-picture-clause-reads : goal.returns-in_err-picture-clause-reads
+returns-in_err-picture-clause-reads g c = reads_then 1 _ _ _ _ _ _ c.loop-picture.invariant.9 (reads_more _ 1 _ _ _ _ (one_at_most c.in_err-picture.field-0.0) c.in_err-picture.ensures.reads)
+
+pub returns-in_err-picture-clause-within : goal.returns-in_err-picture-clause-within
+returns-in_err-picture-clause-within g c =
+    let inv = c.loop-picture.invariant in
+    within_more (length c.loop-picture.run.packets) c.args.run.now.limits.packets (head_of c.args.source.now) (head_of c.loop-picture.source) _ _ _
+    (few_now (head_of c.args.source.now) c.args.run.now c.loop-picture.run inv.0 inv.1 inv.3) inv.5 inv.10 c.in_err-picture.ensures.within
+
+pub returns-in_err-picture-2-clause-reads : goal.returns-in_err-picture-2-clause-reads
+returns-in_err-picture-2-clause-reads g c = reads_then 1 _ _ _ _ _ _ c.loop-picture.invariant.9 (reads_more 0 1 _ _ _ _ (omega arith) (rw c.in-Some.is at c.in_ok-picture.ensures.reads))
+
+pub returns-in_err-picture-2-clause-within : goal.returns-in_err-picture-2-clause-within
+returns-in_err-picture-2-clause-within g c =
+    let inv = c.loop-picture.invariant in
+    within_more (length c.loop-picture.run.packets) c.args.run.now.limits.packets (head_of c.args.source.now) (head_of c.loop-picture.source) _ _ _
+    (few_now (head_of c.args.source.now) c.args.run.now c.loop-picture.run inv.0 inv.1 inv.3) inv.5 inv.10 c.in_ok-picture.ensures.within
+
+pub returns-clause-reads : goal.returns-clause-reads
+returns-clause-reads g c = reads_then 1 _ _ _ _ _ _ c.loop-picture.invariant.9 (reads_more _ 1 _ _ _ _ (one_at_an_answer c.in_ok-picture.field-0) c.in_ok-picture.ensures.reads)
+
+pub returns-clause-within : goal.returns-clause-within
+returns-clause-within g c =
+    let inv = c.loop-picture.invariant in
+    within_more (length c.loop-picture.run.packets) c.args.run.now.limits.packets (head_of c.args.source.now) (head_of c.loop-picture.source) _ _ _
+    (few_now (head_of c.args.source.now) c.args.run.now c.loop-picture.run inv.0 inv.1 inv.3) inv.5 inv.10 c.in_ok-picture.ensures.within

@@ -1,7 +1,9 @@
-use Rattle.std.proofs.Common.{◌≡◌, ◌-◌, ℕ, List, length}
+use Rattle.std.proofs.Common.{◌≡◌, ◌≤◌, ◌-◌, ◌+◌, ◌*◌, ℕ, List, length}
 use Rattle.std.specs.Io.KnownBytes.{Consumes}
 use Rattle.vp_y4m.specs.declared.source.Progress.TheVariants.{Open}
-use Rattle.vp_y4m.specs.Source.{reader_name, bytes_left, failures_of, head_of, progress_of}
+use Rattle.vp_y4m.specs.Source.{reader_name, bytes_left, failures_of, reads_of, head_of, progress_of}
+use Rattle.vp_y4m.specs.Text.{i420_length}
+use Rattle.vp_y4m.specs.Reads.{TakesInReads}
 use Rattle.vp_encode.specs.Encoded.{EncodedFrame}
 use Rattle.vp_encode.specs.File.{IsToldMore, numbers_to}
 use Rattle.vp_encode.specs.Run.{IsAt}
@@ -17,6 +19,8 @@ invariant-loop-picture g l =
     × (progress_of l.source ≡ Open)
     × (failures_of l.source ≡ failures_of l.fn.source)
     × IsToldMore (g.T.Watcher.told l.fn.watcher) (g.T.Watcher.told l.watcher) (numbers_to (length l.run.packets))
+    × TakesInReads 0 (bytes_left g.R.Read.remaining l.fn.source) (bytes_left g.R.Read.remaining l.source) (reads_of l.fn.source) (reads_of l.source)
+    × (reads_of l.source ≤ reads_of l.fn.source + length l.run.packets * (1025 + i420_length (head_of l.fn.source).w (head_of l.fn.source).h))
 
 abbrev pub decreases-loop-picture : goal.decreases-loop-picture
 decreases-loop-picture g l = l.fn.run.limits.packets - length l.run.packets

@@ -17,8 +17,8 @@ returns-then-len-self-2 c =
       settings = c.in-Ok.ensures.settings;
       since = c.in-Ok.ensures.since;
     } in
-    let P : Running → Type 0 = λ r. IsRefused r c.args.picture.now fault.PacketTooLarge in
-    subst P c.self.view_is (frame, c.encode.new.self, refl, room, made, large)
+    let P : Running → Type 0 = λ r. IsRefused r c.args.picture.now fault.PacketTooLarge × (c.self.inside.packets.items ≡ r.packets) in
+    subst P c.self.view_is ((frame, c.encode.new.self, refl, room, made, large), refl)
 
 pub returns : goal.returns
 returns c =
