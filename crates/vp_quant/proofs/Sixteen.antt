@@ -82,94 +82,90 @@ held_near z most = omega (arith, ints, clamps)
 pub held_same : (z : ℤ) (most : ℕ) → unsigned_abs z ≤ most → int_min (pos most) (int_max (neg_ℤ (pos most)) z) ≡ z
 held_same z most h = omega (arith, ints, clamps)
 
-pub limit_is : (r : ℤ) (most : ℕ) → r ≡ pos (8191 / most) → to_z w16 (of_z w16 r) ≡ pos (8191 / most)
-limit_is r most e = ap (λ z. to_z w16 (of_z w16 z)) e ∙ plain_at (8191 / most) (div-le_self 8191 most)
+pub limit_is : (r : ℤ) (most : ℕ) → r ≡ pos (2200 / most) → to_z w16 (of_z w16 r) ≡ pos (2200 / most)
+limit_is r most e = ap (λ z. to_z w16 (of_z w16 z)) e ∙ plain_at (2200 / most) (div-le_self 2200 most)
   where
-    plain_at : (n : ℕ) → n ≤ 8191 → to_z w16 (of_z w16 (pos n)) ≡ pos n
+    plain_at : (n : ℕ) → n ≤ 2200 → to_z w16 (of_z w16 (pos n)) ≡ pos n
     plain_at n h = omega (arith, ints)
 
-pub negative_is : (r : ℤ) (most : ℕ) → r ≡ pos (8191 / most) → to_z w16 (of_z w16 (pos 0 -ℤ to_z w16 (of_z w16 r))) ≡ neg_ℤ (pos (8191 / most))
-negative_is r most e = ap (λ z. to_z w16 (of_z w16 (pos 0 -ℤ to_z w16 (of_z w16 z)))) e ∙ turned_at (8191 / most) (div-le_self 8191 most)
+pub negative_is : (r : ℤ) (most : ℕ) → r ≡ pos (2200 / most) → to_z w16 (of_z w16 (pos 0 -ℤ to_z w16 (of_z w16 r))) ≡ neg_ℤ (pos (2200 / most))
+negative_is r most e = ap (λ z. to_z w16 (of_z w16 (pos 0 -ℤ to_z w16 (of_z w16 z)))) e ∙ turned_at (2200 / most) (div-le_self 2200 most)
   where
-    turned_at : (n : ℕ) → n ≤ 8191 → to_z w16 (of_z w16 (pos 0 -ℤ to_z w16 (of_z w16 (pos n)))) ≡ neg_ℤ (pos n)
+    turned_at : (n : ℕ) → n ≤ 2200 → to_z w16 (of_z w16 (pos 0 -ℤ to_z w16 (of_z w16 (pos n)))) ≡ neg_ℤ (pos n)
     turned_at n h = omega (arith, ints)
 
 -- the clamp of a level by the limit
 abbrev pub held_in : ℤ → ℤ → ℤ
 held_in r z = int_min (to_z w16 (of_z w16 r)) (int_max (to_z w16 (of_z w16 (pos 0 -ℤ to_z w16 (of_z w16 r)))) z)
 
-module _ (r z : ℤ) (dc ac : ℕ) (e : r ≡ pos (8191 / largest dc ac)) where
-  held_is : held_in r z ≡ int_min (pos (8191 / largest dc ac)) (int_max (neg_ℤ (pos (8191 / largest dc ac))) z)
+module _ (r z : ℤ) (dc ac : ℕ) (e : r ≡ pos (2200 / largest dc ac)) where
+  held_is : held_in r z ≡ int_min (pos (2200 / largest dc ac)) (int_max (neg_ℤ (pos (2200 / largest dc ac))) z)
   held_is =
       ap (λ high. int_min high (int_max (to_z w16 (of_z w16 (pos 0 -ℤ to_z w16 (of_z w16 r)))) z)) (limit_is r (largest dc ac) e)
-      ∙ ap (λ low. int_min (pos (8191 / largest dc ac)) (int_max low z)) (negative_is r (largest dc ac) e)
+      ∙ ap (λ low. int_min (pos (2200 / largest dc ac)) (int_max low z)) (negative_is r (largest dc ac) e)
 
   pub held_in_near : IsNear (held_in r z) dc ac
   held_in_near =
-      let m : unsigned_abs (int_min (pos (8191 / largest dc ac)) (int_max (neg_ℤ (pos (8191 / largest dc ac))) z)) * largest dc ac ≤ 8191 / largest dc ac * largest dc ac =
-      mul-le-mul (held_near z (8191 / largest dc ac)) (omega arith) in
-      subst (λ v. IsNear v dc ac) (sym held_is) (omega (arith, m, div-mul-le_self 8191 (largest dc ac)))
+      let m : unsigned_abs (int_min (pos (2200 / largest dc ac)) (int_max (neg_ℤ (pos (2200 / largest dc ac))) z)) * largest dc ac ≤ 2200 / largest dc ac * largest dc ac =
+      mul-le-mul (held_near z (2200 / largest dc ac)) (omega arith) in
+      subst (λ v. IsNear v dc ac) (sym held_is) (omega (arith, m, div-mul-le_self 2200 (largest dc ac)))
 
   pub held_in_same : IsNear z dc ac → held_in r z ≡ z
-  held_in_same near = held_is ∙ held_same z (8191 / largest dc ac) (from_product near)
+  held_in_same near = held_is ∙ held_same z (2200 / largest dc ac) (from_product near)
     where
-      from_product : unsigned_abs z * largest dc ac ≤ 8191 → unsigned_abs z ≤ 8191 / largest dc ac
+      from_product : unsigned_abs z * largest dc ac ≤ 2200 → unsigned_abs z ≤ 2200 / largest dc ac
       from_product h = (le-div_iff_mul-le (omega arith)).1 h
 
 -- ---- the factors
-pub factor_lanes : (d a : ℕ) → d < 32768 → a < 32768
-    → Signed 16 (λ j. pos (if j == 0 then d else a)) (of_z w16 (to_z w16 d) ∷ replicate 15 (of_z w16 (to_z w16 a)))
+pub factor_lanes : (d a : ℕ) → d < 32768 → a < 32768 → Signed 16 (λ j. pos (if j == 0 then d else a)) (d ∷ replicate 15 a)
 factor_lanes d a p q = record { long = refl; at = at }
   where
-    plain : (n : ℕ) → n < 32768 → of_z w16 (to_z w16 n) ≡ n
-    plain n h = omega (arith, ints)
-
-    at : (j : ℕ) → j < 16 → Stands (get_or (of_z w16 (to_z w16 d) ∷ replicate 15 (of_z w16 (to_z w16 a))) j 0) (pos (if j == 0 then d else a))
-    at zero h = subst (λ n. Stands n (pos d)) (sym (plain d p)) (stands_pos d p)
+    at : (j : ℕ) → j < 16 → Stands (get_or (d ∷ replicate 15 a) j 0) (pos (if j == 0 then d else a))
+    at zero h = stands_pos d p
     at (suc j) h =
         let e : (suc j == 0) ≡ false = grind arith in
-        subst (λ (t : Bool). Stands (get_or (of_z w16 (to_z w16 d) ∷ replicate 15 (of_z w16 (to_z w16 a))) (suc j) 0) (pos (if t then d else a))) (sym e) (
-        subst (λ n. Stands n (pos a)) (sym (get_or-replicate 15 j (of_z w16 (to_z w16 a)) 0 (omega arith) ∙ plain a q)) (stands_pos a q))
+        subst (λ (t : Bool). Stands (get_or (d ∷ replicate 15 a) (suc j) 0) (pos (if t then d else a))) (sym e) (
+        subst (λ n. Stands n (pos a)) (sym (get_or-replicate 15 j a 0 (omega arith))) (stands_pos a q))
 
 -- ---- a level times a factor
-pub near_product : (z : ℤ) (dc ac f : ℕ) → IsNear z dc ac → f ≤ largest dc ac → unsigned_abs (z *ℤ pos f) ≤ 8191
+pub near_product : (z : ℤ) (dc ac f : ℕ) → IsNear z dc ac → f ≤ largest dc ac → unsigned_abs (z *ℤ pos f) ≤ 2200
 near_product z dc ac f near most =
     let m : unsigned_abs z * f ≤ unsigned_abs z * largest dc ac = mul-le-mul (omega arith) most in
     let e : unsigned_abs (z *ℤ pos f) ≡ unsigned_abs z * f = unsigned_abs-mul z (pos f) in
     omega arith
 
--- A factor above 8191 stands beside zeros alone.
-zero_alone : (n most : ℕ) → n * most ≤ 8191 → 8191 < most → n ≡ 0
+-- A factor above 2200 stands beside zeros alone.
+zero_alone : (n most : ℕ) → n * most ≤ 2200 → 2200 < most → n ≡ 0
 zero_alone zero most h more = refl
 zero_alone (suc n) most h more = absurd (omega arith)
 
-pub near_factor : (z : ℤ) (dc ac f : ℕ) → IsNear z dc ac → f ≤ largest dc ac → z *ℤ pos (min f 8191) ≡ z *ℤ pos f
+pub near_factor : (z : ℤ) (dc ac f : ℕ) → IsNear z dc ac → f ≤ largest dc ac → z *ℤ pos (min f 2200) ≡ z *ℤ pos f
 near_factor (pos zero) dc ac f near most = omega (arith, ints)
 near_factor (pos (suc n)) dc ac f near most =
-    let e : min f 8191 ≡ f = held in
+    let e : min f 2200 ≡ f = held in
     ap (λ k. pos (suc n) *ℤ pos k) e
   where
-    held : min f 8191 ≡ f
+    held : min f 2200 ≡ f
     held = let z = zero_alone (suc n) (largest dc ac) near in grind arith
 near_factor (negsuc n) dc ac f near most =
-    let e : min f 8191 ≡ f = held in
+    let e : min f 2200 ≡ f = held in
     ap (λ k. negsuc n *ℤ pos k) e
   where
-    held : min f 8191 ≡ f
+    held : min f 2200 ≡ f
     held = let z = zero_alone (suc n) (largest dc ac) near in grind arith
 
-pub short_of : (z : ℤ) → unsigned_abs z ≤ 8191 → IsShort z
+pub short_of : (z : ℤ) → unsigned_abs z ≤ 2200 → IsShort z
 short_of (pos n) h = (omega (arith, ints), omega (arith, ints))
 short_of (negsuc n) h = (omega (arith, ints), omega (arith, ints))
 
-module _ (z : ℤ) (dc ac d a : ℕ) (near : IsNear z dc ac) (first : d ≡ min dc 8191) (others : a ≡ min ac 8191) where
+module _ (z : ℤ) (dc ac d a : ℕ) (near : IsNear z dc ac) (first : d ≡ min dc 2200) (others : a ≡ min ac 2200) where
   pub by_factor : (t : Bool) → z *ℤ pos (if t then d else a) ≡ z *ℤ pos (if t then dc else ac)
   by_factor true = ap (λ k. z *ℤ pos k) first ∙ near_factor z dc ac dc near (omega arith)
   by_factor false = ap (λ k. z *ℤ pos k) others ∙ near_factor z dc ac ac near (omega arith)
 
   pub product_short : (t : Bool) → IsShort (z *ℤ pos (if t then d else a))
-  product_short true = short_of _ (subst (λ v. unsigned_abs v ≤ 8191) (sym (by_factor true)) (near_product z dc ac dc near (omega arith)))
-  product_short false = short_of _ (subst (λ v. unsigned_abs v ≤ 8191) (sym (by_factor false)) (near_product z dc ac ac near (omega arith)))
+  product_short true = short_of _ (subst (λ v. unsigned_abs v ≤ 2200) (sym (by_factor true)) (near_product z dc ac dc near (omega arith)))
+  product_short false = short_of _ (subst (λ v. unsigned_abs v ≤ 2200) (sym (by_factor false)) (near_product z dc ac ac near (omega arith)))
 
 -- ---- the places
 module _ (f g : ℕ → ℤ) (same : (k : ℕ) → k < 16 → f k ≡ g k) where
@@ -235,11 +231,11 @@ module _ (block levels : List ℤ) (dc ac : ℕ) (long : length block ≡ 16) (l
       ∙ map_same (λ k. get_or block k (pos 0)) (λ place. coefficient levels dc ac (position_at place)) 0 16
       (λ k h. let e : k ≡ 0 + k = omega arith in subst (λ i. get_or block i (pos 0) ≡ coefficient levels dc ac (position_at i)) e (lanes k h))
 
-  pub block_within : ((j : ℕ) → j < 16 → IsNear (lane levels j) dc ac) → (i : ℕ) → unsigned_abs (get_or block i (pos 0)) ≤ 8191
+  pub block_within : ((j : ℕ) → j < 16 → IsNear (lane levels j) dc ac) → (i : ℕ) → unsigned_abs (get_or block i (pos 0)) ≤ 2200
   block_within near i = elim (cases_lt i 16) [
     | inl inside ↦
         let p = position_at i in
-        subst (λ v. unsigned_abs v ≤ 8191) (sym (lanes i inside))
+        subst (λ v. unsigned_abs v ≤ 2200) (sym (lanes i inside))
         (near_product (lane levels (position_at i)) dc ac (if position_at i == 0 then dc else ac) (near (position_at i) (position_below i inside)) (factor_within (position_at i == 0) dc ac))
-    | inr outside ↦ subst (λ v. unsigned_abs v ≤ 8191) (sym (get_or_past block i (pos 0) (omega arith))) (omega arith)
+    | inr outside ↦ subst (λ v. unsigned_abs v ≤ 2200) (sym (get_or_past block i (pos 0) (omega arith))) (omega arith)
   ]

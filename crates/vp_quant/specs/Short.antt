@@ -5,9 +5,9 @@ use Rattle.std.specs.Prelude.{ℕ, ◌*◌, ◌<◌, ◌≤◌, max, ℤ, pos, L
 abbrev pub largest : ℕ → ℕ → ℕ
 largest dc ac = max (max dc ac) 1
 
--- the level's product with either factor is from -8191 to 8191, and so is the level
+-- the level's product with either factor is from -2200 to 2200, and so is the level
 abbrev pub IsNear : ℤ → ℕ → ℕ → Type 0
-IsNear level dc ac = unsigned_abs level * largest dc ac ≤ 8191
+IsNear level dc ac = unsigned_abs level * largest dc ac ≤ 2200
 
 -- each of a block's levels is so near to 0
 abbrev pub AreShort : List ℤ → ℕ → ℕ → Type 0

@@ -1,4 +1,4 @@
-//! Blocks of levels times factors in lanes of i16, for products from -8191 to 8191.
+//! Blocks of levels times factors in lanes of i16, for products from -2200 to 2200.
 
 ghost use Rattle.std.specs.Prelude.{◌≡◌, ◌≢◌, ℕ, ◌*◌, ◌/◌, ◌<◌, ◌≤◌, pos, ◌*ℤ◌, ℤ, List, Some, None, true, false, max, min, unsigned_abs, slice_index_or, ◌==◌, if◌then◌else◌};
 ghost use Rattle.vp_lanes.specs.Lane.{lane};
@@ -8,18 +8,21 @@ ghost use Rattle.vp_quant.specs.Short.{largest, AreShort, IsNear};
 use std::simd::prelude::*;
 use vp_lanes::clamp_i16;
 
-/// What `dequant` gives, in 16 bits, where each product of a level and the larger factor is from -8191 to 8191, and so
+/// How far from 0 a coefficient may be.
+const MOST: u16 = 2200;
+
+/// What `dequant` gives, in 16 bits, where each product of a level and the larger factor is from -2200 to 2200, and so
 /// is each level; else nothing.
 pub fn dequant_short(levels: [i16; 16], dc: u16, ac: u16) -> Option<[i16; 16]>
     ensures value { (block : List ℤ) → result ≡ Some block → block ≡ dequantised levels dc ac }
-    ensures small { (block : List ℤ) → result ≡ Some block → (i : ℕ) → unsigned_abs (slice_index_or block i (pos 0)) ≤ 8191 }
+    ensures small { (block : List ℤ) → result ≡ Some block → (i : ℕ) → unsigned_abs (slice_index_or block i (pos 0)) ≤ 2200 }
     ensures some { AreShort levels dc ac → result ≢ None }
 {
     let read = i16x16::from_array(levels);
     let most = most_of(dc, ac);
     let held = clamp_i16(read, -most, most);
     if are_same(held, read) {
-        Some(placed(products(held, dc, ac)).to_array())
+        Some(placed(products(read, dc, ac)).to_array())
     } else {
         None
     }
@@ -27,9 +30,9 @@ pub fn dequant_short(levels: [i16; 16], dc: u16, ac: u16) -> Option<[i16; 16]>
 
 /// How far from 0 a level may be for that.
 fn most_of(dc: u16, ac: u16) -> i16
-    ensures { result ≡ pos (8191 / largest dc ac) }
+    ensures { result ≡ pos (2200 / largest dc ac) }
 {
-    (8191 / dc.max(ac).max(1)) as i16
+    (MOST / dc.max(ac).max(1)) as i16
 }
 
 /// Whether all lanes are the same.
@@ -45,9 +48,13 @@ fn products(levels: i16x16, dc: u16, ac: u16) -> i16x16
     requires { (j : ℕ) → j < 16 → IsNear (lane levels j) dc ac }
     ensures { (j : ℕ) → j < 16 → lane result j ≡ lane levels j *ℤ pos (if j == 0 then dc else ac) }
 {
-    let mut factors = [ac.min(8191) as i16; 16];
-    factors[0] = dc.min(8191) as i16;
-    levels * i16x16::from_array(factors)
+    let first = i16x16::splat(dc.min(MOST) as i16);
+    let others = i16x16::splat(ac.min(MOST) as i16);
+    levels
+        * others.shuffle::<16>(
+            first,
+            [16, 1, 2, 3, 4, 5, 6, 7, 8, 9, 10, 11, 12, 13, 14, 15],
+        )
 }
 
 /// The lanes by position, each at its place.

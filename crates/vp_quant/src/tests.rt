@@ -98,7 +98,7 @@ fn kernel_examples(rt: HostRuntime) {
     assert_eq!(rt; quantise(1 << 40, 4), 2047);
 }
 
-/// The same numbers as the plain way, in 16 bits: as far as 8191, and no further.
+/// The same numbers as the plain way, in 16 bits: as far as 2200, and no further.
 #[test]
 fn short_coefficients(rt: HostRuntime) {
     let mut levels = [0i16; 16];
@@ -112,9 +112,10 @@ fn short_coefficients(rt: HostRuntime) {
     wanted[8] = -140;
     wanted[15] = 220;
     assert_eq!(rt; dequant_short(levels, 10, 20), Some(wanted));
-    assert_eq!(rt; dequant_short([-8191; 16], 1, 1), Some([-8191; 16]));
+    assert_eq!(rt; dequant_short([-2200; 16], 1, 1), Some([-2200; 16]));
+    assert_eq!(rt; dequant_short([2201; 16], 1, 1), None);
     assert_eq!(rt;
-        dequant_short([0, 0, 0, 0, 0, 0, 0, 8, 0, 0, 0, 0, 0, 0, 0, 0], 1024, 4),
+        dequant_short([0, 0, 0, 0, 0, 0, 0, 8, 0, 0, 0, 0, 0, 0, 0, 0], 276, 4),
         None
     );
 }

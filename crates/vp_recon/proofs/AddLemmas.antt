@@ -1,5 +1,5 @@
 -- Residues added to what a plane has.
-use Rattle.std.proofs.Common.{◌≡◌, ◌∙◌, ℕ, ◌+◌, ◌-◌, ◌*◌, ◌/◌, ◌%◌, ◌<◌, ◌≤◌, ℤ, pos, Bool, cond, List, get_or, refl, sym, ap, subst, arith, inl, inr}
+use Rattle.std.proofs.Common.{◌≡◌, ◌∙◌, ℕ, zero, suc, ◌+◌, ◌-◌, ◌*◌, ◌/◌, ◌%◌, ◌<◌, ◌≤◌, ℤ, pos, Bool, cond, List, get_or, refl, sym, ap, subst, arith, inl, inr}
 use Rattle.std.proofs.lemmas.Bool.{cases_Bool, le-ltb}
 use Rattle.vp_base.specs.Raster.{Raster, pixel}
 use Rattle.vp_base.specs.Block.{is_in_block, with_block}
@@ -8,7 +8,8 @@ use Rattle.vp_base.proofs.BlockLemmas.{pixel-with_block, IsWhole-with_block, sam
 use Rattle.vp_base.proofs.ImageLemmas.{plane_of-with_plane}
 use Rattle.vp_recon.specs.Rebuilt.{summed, residue_at}
 use Rattle.vp_recon.specs.Kept.{IsNothing, AreBytes}
-use Rattle.vp_recon.proofs.Parts.{is_in, in_it, sub_at, subblock_has, part_fits, until}
+use Rattle.vp_recon.specs.Pairs.{with_added, with_both_added}
+use Rattle.vp_recon.proofs.Parts.{is_in, in_it, sub_at, subblock_has, part_fits, until, sub_written}
 use Rattle.vp_recon.proofs.KeptLemmas.{summed-zero}
 use Rattle.vp_recon.proofs.PlaneLemmas.{plane_next}
 
@@ -104,6 +105,49 @@ pub residue_part : (across : ℕ) (residue : ℕ → List ℤ) (k r c : ℕ) →
 residue_part across residue k r c some rin cin =
     sym (residue_same residue (sub_at across (4 * (k / across) + r) (4 * (k % across) + c)) k ((4 * (k / across) + r) % 4) r ((4 * (k % across) + c) % 4) c
     (subblock_has across k r c some rin cin) (omega arith) (omega arith))
+
+-- it is added to subblock k, which is as it was
+pub sub_added : (p : Raster) (x y across : ℕ) (residue : ℕ → List ℤ) (k : ℕ) → 0 < across → k < across * across → x + 4 * across ≤ p.width → y + 4 * across ≤ p.height
+    → with_added (with_block p x y (4 * across) (4 * across) (until (sub_at across) k (added across p x y residue) (was p x y))) (x + 4 * (k % across)) (y + 4 * (k / across)) (residue k)
+    ≡ with_block p x y (4 * across) (4 * across) (until (sub_at across) (k + 1) (added across p x y residue) (was p x y))
+sub_added p x y across residue k some total columns rows =
+    let before : Raster = with_block p x y (4 * across) (4 * across) (until (sub_at across) k (added across p x y residue) (was p x y)) in
+    sub_written p x y across (added across p x y residue) (was p x y) k
+    (λ r j. summed (pixel before (x + 4 * (k % across) + j) (y + 4 * (k / across) + r)) (get_or (residue k) (4 * r + j) (pos 0))) some total
+    (λ r j rin jin.
+    ap (λ (b : ℕ). summed b (get_or (residue k) (4 * r + j) (pos 0))) (until_pixel p x y across (added across p x y residue) (was p x y) k r j some total columns rows rin jin)
+    ∙ ap (summed (was p x y (4 * (k / across) + r) (4 * (k % across) + j))) (residue_part across residue k r j some rin jin))
+
+-- ---- subblocks by twos
+
+-- where the second of two stands
+pub beside : (across k : ℕ) → 0 < across → across ≤ 4 → across % 2 ≡ 0 → k % 2 ≡ 0 → ((k + 1) % across ≡ k % across + 1) × ((k + 1) / across ≡ k / across)
+beside zero k some few even start = absurd (omega arith)
+beside (suc zero) k some few even start = absurd (omega arith)
+beside (suc (suc zero)) k some few even start = (omega arith, omega arith)
+beside (suc (suc (suc zero))) k some few even start = absurd (omega arith)
+beside (suc (suc (suc (suc zero)))) k some few even start = (omega arith, omega arith)
+beside (suc (suc (suc (suc (suc n))))) k some few even start = absurd (omega arith)
+
+pub square_even : (across : ℕ) → across ≤ 4 → across % 2 ≡ 0 → 2 * (across * across / 2) ≡ across * across
+square_even zero few even = omega arith
+square_even (suc zero) few even = absurd (omega arith)
+square_even (suc (suc zero)) few even = omega arith
+square_even (suc (suc (suc zero))) few even = absurd (omega arith)
+square_even (suc (suc (suc (suc zero)))) few even = omega arith
+square_even (suc (suc (suc (suc (suc n))))) few even = absurd (omega arith)
+
+pub two_added : (p : Raster) (x y across : ℕ) (residue : ℕ → List ℤ) (k : ℕ) → 0 < across → across ≤ 4 → across % 2 ≡ 0 → k % 2 ≡ 0 → k + 1 < across * across
+    → x + 4 * across ≤ p.width → y + 4 * across ≤ p.height
+    → with_both_added (with_block p x y (4 * across) (4 * across) (until (sub_at across) k (added across p x y residue) (was p x y))) (x + 4 * (k % across)) (y + 4 * (k / across)) (residue k) (residue (k + 1))
+    ≡ with_block p x y (4 * across) (4 * across) (until (sub_at across) (k + 1 + 1) (added across p x y residue) (was p x y))
+two_added p x y across residue k some few even start total columns rows =
+    let next = beside across k some few even start in
+    let half : Raster = with_block p x y (4 * across) (4 * across) (until (sub_at across) (k + 1) (added across p x y residue) (was p x y)) in
+    ap (λ (s : Raster). with_added s (x + 4 * (k % across) + 4) (y + 4 * (k / across)) (residue (k + 1))) (sub_added p x y across residue k some (omega arith) columns rows)
+    ∙ ap (λ (n : ℕ). with_added half n (y + 4 * (k / across)) (residue (k + 1))) (let e : x + 4 * (k % across) + 4 ≡ x + 4 * ((k + 1) % across) = omega (arith, next) in e)
+    ∙ ap (λ (n : ℕ). with_added half (x + 4 * ((k + 1) % across)) n (residue (k + 1))) (let e : y + 4 * (k / across) ≡ y + 4 * ((k + 1) / across) = omega (arith, next) in e)
+    ∙ sub_added p x y across residue (k + 1) some total columns rows
 
 -- it has none
 pub sum_none : (across : ℕ) (p : Raster) (x y : ℕ) (residue : ℕ → List ℤ) (k r c : ℕ) → IsNothing (residue k) → was p x y r c ≤ 255 → sub_at across r c ≡ k

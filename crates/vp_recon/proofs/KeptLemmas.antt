@@ -37,6 +37,10 @@ lanes_byte : (z : ℤ) → unsigned_abs (int_min (pos 255) (int_max (pos 0) z)) 
 lanes_byte (pos n) = let e : int_min (pos 255) (int_max (pos 0) (pos n)) ≡ pos (min n 255) = omega (arith, ints, clamps) in ap unsigned_abs e
 lanes_byte (negsuc n) = let e : int_min (pos 255) (int_max (pos 0) (negsuc n)) ≡ pos 0 = omega (arith, ints, clamps) in ap unsigned_abs e
 
+pub lanes_summed : (p : ℕ) (z : ℤ) → unsigned_abs (int_min (pos 255) (int_max (pos 0) (pos p +ℤ z))) ≡ summed p z
+unfolding summed
+lanes_summed p z = lanes_byte (pos p +ℤ z)
+
 -- A number of i16 held to 255 adds as much as the number itself.
 pub lanes_sum : (p : ℕ) (z : ℤ) → p < 256 → unsigned_abs (int_min (pos 255) (int_max (pos 0) (pos p +ℤ int_min (pos 255) (int_max (negsuc 32767) z)))) ≡ summed p z
 unfolding summed

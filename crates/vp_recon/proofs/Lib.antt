@@ -3,6 +3,7 @@ pub mod KeptLemmas
 pub mod SubblockLemmas
 pub mod PlaneLemmas
 pub mod AddLemmas
+pub mod PairLemmas
 pub mod MovedLemmas
 pub mod LumaLemmas
 pub mod ResidueLemmas

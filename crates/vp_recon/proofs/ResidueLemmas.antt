@@ -1,5 +1,5 @@
 -- The coefficients of blocks with few tokens, and of blocks whose first one stands apart.
-use Rattle.std.proofs.Common.{◌≡◌, ◌∙◌, refl, ◌*ℤ◌, ℕ, zero, suc, ◌-◌, ◌≤◌, ℤ, pos, List, [], ◌∷◌, get_or, set, replicate, unsigned_abs, sym, ap, arith, inl, inr, nat_lt, false, ◌+◌, Option, None}
+use Rattle.std.proofs.Common.{◌≡◌, ◌∙◌, refl, ◌*ℤ◌, ℕ, zero, suc, ◌-◌, ◌≤◌, ℤ, pos, List, [], ◌∷◌, get_or, set, length, replicate, unsigned_abs, sym, ap, arith, inl, inr, nat_lt, false, ◌+◌, Option, None}
 use Rattle.std.proofs.lemmas.Bool.{cases_lt}
 use Rattle.std.proofs.lemmas.Bool.Decides.{nat_tests}
 use Rattle.std.proofs.lemmas.Int.{ints}
@@ -19,6 +19,19 @@ pub within_set : (b : ℕ) (zs : List ℤ) (z : ℤ) → EachWithin b zs → uns
 within_set b [] z small fits i = small i
 within_set b (y ∷ zs) z small fits zero = fits
 within_set b (y ∷ zs) z small fits (suc i) = small (suc i)
+
+-- a block with another first number
+pub set_long : (n : ℕ) (zs : List ℤ) (z : ℤ) → length zs ≡ n → length (set zs 0 z) ≡ n
+set_long n [] z l = l
+set_long n (y ∷ zs) z l = l
+
+pub set_first : (zs : List ℤ) (z : ℤ) → length zs ≡ 16 → z ≡ get_or (set zs 0 z) 0 (pos 0)
+set_first [] z l = absurd (omega arith)
+set_first (y ∷ zs) z l = refl
+
+pub set_behind : (zs : List ℤ) (z : ℤ) (k : ℕ) → get_or zs (suc k) (pos 0) ≡ get_or (set zs 0 z) (suc k) (pos 0)
+set_behind [] z k = refl
+set_behind (y ∷ zs) z k = refl
 
 module _ (b : Block) (is : IsBlock b) where
   -- with at most one token there is no level but the first
@@ -70,6 +83,9 @@ no_first levels dc ac =
     sym (any_first levels (pos 0) dc ac)
     ∙ ap (λ (z : ℤ). set (dequantised levels 0 ac) 0 z) (let e : pos 0 ≡ get_or levels 0 (pos 0) *ℤ pos 0 = omega (arith, ints) in e)
     ∙ own_first levels 0 ac
+
+pub not_more : (n : ℕ) → nat_lt 1 n ≡ false → n ≤ 1
+not_more n e = grind (arith, nat_tests)
 
 pub not_above : (n : ℕ) → nat_lt 0 n ≡ false → n ≡ 0
 not_above n e = grind (arith, nat_tests)

@@ -25,17 +25,17 @@ pub loaded : (p : Raster) (x y n c : ℕ) (row r : List ℕ) → row ≡ row_of 
 loaded p x y n c row r e f fits within =
     ap (λ l. get_or l c 0) f ∙ (get_or-chunk x n row c 0 within ∙ (ap (λ l. get_or l (x + c) 0) e ∙ get_or-row_of p (x + c) y (omega arith)))
 
--- four rows of four, written one after another
-pub four_runs : (p : Raster) (x y : ℕ) (f : ℕ → ℕ → ℕ) (a b c d : List ℕ) → IsWhole p → x + 4 ≤ p.width → y + 4 ≤ p.height
-    → length a ≡ 4 → length b ≡ 4 → length c ≡ 4 → length d ≡ 4
-    → ((j : ℕ) → j < 4 → get_or a j 0 ≡ f 0 j) → ((j : ℕ) → j < 4 → get_or b j 0 ≡ f 1 j) → ((j : ℕ) → j < 4 → get_or c j 0 ≡ f 2 j) → ((j : ℕ) → j < 4 → get_or d j 0 ≡ f 3 j)
-    → with_run (with_run (with_run (with_run p x y a) x (y + 1) b) x (y + 2) c) x (y + 3) d ≡ with_block p x y 4 4 f
-four_runs p x y f a b c d whole fits yfits la lb lc ld ea eb ec ed =
-    let first : with_run p x y a ≡ with_block p x y 4 1 f =
-    ap (λ (q : Raster). with_run q x y a) (sym (with_block_none p x y 4 f whole))
-    ∙ ap (λ (n : ℕ). with_run (with_block p x y 4 0 f) x n a) (let e : y ≡ y + 0 = omega arith in e)
-    ∙ with_block_more p x y 4 0 f a fits (omega arith) la ea in
+-- four rows of n, written one after another
+pub four_runs : (p : Raster) (x y n : ℕ) (f : ℕ → ℕ → ℕ) (a b c d : List ℕ) → IsWhole p → x + n ≤ p.width → y + 4 ≤ p.height
+    → length a ≡ n → length b ≡ n → length c ≡ n → length d ≡ n
+    → ((j : ℕ) → j < n → get_or a j 0 ≡ f 0 j) → ((j : ℕ) → j < n → get_or b j 0 ≡ f 1 j) → ((j : ℕ) → j < n → get_or c j 0 ≡ f 2 j) → ((j : ℕ) → j < n → get_or d j 0 ≡ f 3 j)
+    → with_run (with_run (with_run (with_run p x y a) x (y + 1) b) x (y + 2) c) x (y + 3) d ≡ with_block p x y n 4 f
+four_runs p x y n f a b c d whole fits yfits la lb lc ld ea eb ec ed =
+    let first : with_run p x y a ≡ with_block p x y n 1 f =
+    ap (λ (q : Raster). with_run q x y a) (sym (with_block_none p x y n f whole))
+    ∙ ap (λ (k : ℕ). with_run (with_block p x y n 0 f) x k a) (let e : y ≡ y + 0 = omega arith in e)
+    ∙ with_block_more p x y n 0 f a fits (omega arith) la ea in
     ap (λ (q : Raster). with_run (with_run (with_run q x (y + 1) b) x (y + 2) c) x (y + 3) d) first
-    ∙ ap (λ (q : Raster). with_run (with_run q x (y + 2) c) x (y + 3) d) (with_block_more p x y 4 1 f b fits (omega arith) lb eb)
-    ∙ ap (λ (q : Raster). with_run q x (y + 3) d) (with_block_more p x y 4 2 f c fits (omega arith) lc ec)
-    ∙ with_block_more p x y 4 3 f d fits (omega arith) ld ed
+    ∙ ap (λ (q : Raster). with_run (with_run q x (y + 2) c) x (y + 3) d) (with_block_more p x y n 1 f b fits (omega arith) lb eb)
+    ∙ ap (λ (q : Raster). with_run q x (y + 3) d) (with_block_more p x y n 2 f c fits (omega arith) lc ec)
+    ∙ with_block_more p x y n 3 f d fits (omega arith) ld ed

@@ -6,3 +6,4 @@ pub mod Equation
 pub mod Kept
 pub mod Parts
 pub mod Laws
+pub mod Pairs

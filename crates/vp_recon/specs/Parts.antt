@@ -11,9 +11,13 @@ abbrev pub with_first : Option (List ℤ) → ℕ → List ℤ → List ℤ
 with_first None k own = own
 with_first (Some firsts) k own = slice_set own 0 (slice_index_or firsts k (pos 0))
 
--- the residue of subblock k
+-- the coefficients of subblock k
+abbrev pub coefficients_in : Residues → ℕ → List ℤ
+coefficients_in r k = with_first r.firsts k (dequantised (block_of r.tokens.now (r.first + k)).levels r.dc r.ac)
+
+-- its residue
 abbrev pub residue_in : Residues → ℕ → List ℤ
-residue_in r k = idct (with_first r.firsts k (dequantised (block_of r.tokens.now (r.first + k)).levels r.dc r.ac))
+residue_in r k = idct (coefficients_in r k)
 
 -- the residues of n subblocks are these
 abbrev pub Gives : ℕ → Residues → (ℕ → List ℤ) → Type 0

@@ -11,6 +11,7 @@ mod laws;
 mod macroblock;
 mod moved;
 mod moved_whole;
+mod pair;
 mod residue;
 mod source;
 mod subblock;

@@ -1,13 +1,13 @@
 //! The residues of a macroblock's subblocks (chapter 14).
 
-ghost use Rattle.std.specs.Prelude.{◌≡◌, ℕ, ◌+◌, ◌*◌, ◌<◌, ◌≤◌, ◌^◌, ℤ, pos, ◌*ℤ◌, List, ◌∷◌, length, replicate, slice_index_or, slice_set, unsigned_abs, false, true};
+ghost use Rattle.std.specs.Prelude.{◌≡◌, ℕ, ◌+◌, ◌*◌, ◌<◌, ◌≤◌, ◌^◌, ℤ, pos, ◌*ℤ◌, List, ◌∷◌, length, replicate, slice_index_or, slice_set, unsigned_abs, Some, false, true};
 ghost use Rattle.vp_transform.specs.Fits.{EachWithin};
 ghost use Rattle.vp_transform.specs.Transform.{idct, iwht};
 ghost use Rattle.vp_quant.specs.Quant.{dequantised};
 ghost use Rattle.vp_tokens.specs.Blocks.{block_of};
 ghost use Rattle.vp_recon.specs.Residue.{residue, luma_firsts, luma_residue, chroma_residue};
 ghost use Rattle.vp_recon.specs.Kept.{AreSums, IsKept, IsNothing};
-ghost use Rattle.vp_recon.specs.Parts.{AreSmall, Gives, residue_in};
+ghost use Rattle.vp_recon.specs.Parts.{AreSmall, Gives, coefficients_in, residue_in};
 
 use crate::kept::sums;
 use std::simd::prelude::*;
@@ -39,13 +39,46 @@ fn residue_with_first(block: &Block, first: i64, ac: u16) -> [i16; 16]
     if block.tokens <= 1 {
         return [cut(idct_of_first(first)); 16];
     }
-    match dequant_short(block.levels, 0, ac) {
-        Some(mut coefficients) if first.unsigned_abs() <= 8191 => {
-            coefficients[0] = first as i16;
-            idct_short(&coefficients)
-        }
-        _ => large_residue(block, first, ac),
+    match short_with_first(block, first, ac) {
+        Some(coefficients) => idct_short(&coefficients),
+        None => large_residue(block, first, ac),
     }
+}
+
+/// The coefficients of a subblock whose first one is `first`, where all are from -2200 to 2200 and its levels are as small.
+fn short_with_first(block: &Block, first: i64, ac: u16) -> Option<[i16; 16]>
+    ensures value { (zs : List ℤ) → result ≡ Some zs → zs ≡ slice_set (dequantised block.now.levels 0 ac) 0 first }
+    ensures small { (zs : List ℤ) → result ≡ Some zs → EachWithin 2200 zs }
+{
+    match dequant_short(block.levels, 0, ac) {
+        Some(own) => with_small_first(own, first),
+        None => None,
+    }
+}
+
+/// The block with another first number, where that is from -2200 to 2200.
+fn with_small_first(block: [i16; 16], first: i64) -> Option<[i16; 16]>
+    requires { EachWithin 2200 block }
+    ensures value { (zs : List ℤ) → result ≡ Some zs → zs ≡ slice_set block 0 first }
+    ensures small { (zs : List ℤ) → result ≡ Some zs → EachWithin 2200 zs }
+{
+    if first.unsigned_abs() <= 2200 {
+        Some(with_first(block, first as i16))
+    } else {
+        None
+    }
+}
+
+/// The block with another first number.
+fn with_first(block: [i16; 16], first: i16) -> [i16; 16]
+    ensures { result ≡ slice_set block 0 first }
+{
+    i16x16::from_array(block)
+        .shuffle::<16>(
+            i16x16::splat(first),
+            [16, 1, 2, 3, 4, 5, 6, 7, 8, 9, 10, 11, 12, 13, 14, 15],
+        )
+        .to_array()
 }
 
 /// The same by way of i64, however large the coefficients are.
@@ -84,8 +117,17 @@ pub(crate) struct Residues<'a> {
 }
 
 impl<'a> Residues<'a> {
+    /// Whether subblock `k` or the next may have a residue that is not 0.
+    pub(crate) fn has_in_pair(&self, k: usize) -> bool
+        requires { self.now.first + k + 1 < 25 }
+        ensures left { result ≡ false → IsNothing (residue_in self.now k) }
+        ensures right { result ≡ false → IsNothing (residue_in self.now (k + 1)) }
+    {
+        self.has(k) || self.has(k + 1)
+    }
+
     /// Whether subblock `k` may have a residue that is not 0.
-    pub(crate) fn has(&self, k: usize) -> bool
+    fn has(&self, k: usize) -> bool
         requires { self.now.first + k < 25 }
         ensures { result ≡ false → IsNothing (residue_in self.now k) }
     {
@@ -108,6 +150,46 @@ impl<'a> Residues<'a> {
         tokens == 0 && self.firsts.is_none()
     }
 
+    /// The first coefficient of subblock `k`.
+    pub(crate) fn first_coefficient(&self, k: usize) -> i64
+        requires subblock { k < 16 }
+        requires block { self.now.first + k < 25 }
+        requires small { AreSmall self.now }
+        ensures value { slice_set (dequantised (block_of self.now.tokens.now (self.now.first + k)).levels 0 self.now.ac) 0 result ≡ coefficients_in self.now k }
+        ensures within { unsigned_abs result ≤ 2 ^ 40 }
+    {
+        match &self.firsts {
+            None => first_of(&block_of(self.tokens, self.first + k).levels, self.dc),
+            Some(firsts) => firsts[k],
+        }
+    }
+
+    /// Whether subblock `k` may have other coefficients that are not 0.
+    pub(crate) fn has_others(&self, k: usize) -> bool
+        requires { self.now.first + k < 25 }
+        ensures { result ≡ false → (first : ℤ) → slice_set (dequantised (block_of self.now.tokens.now (self.now.first + k)).levels 0 self.now.ac) 0 first ≡ first ∷ replicate 15 (pos 0) }
+    {
+        block_of(self.tokens, self.first + k).tokens > 1
+    }
+
+    /// The coefficients of subblock `k`, where all are from -2200 to 2200 and its levels are as small.
+    pub(crate) fn small_coefficients(&self, k: usize) -> Option<[i16; 16]>
+        requires subblock { k < 16 }
+        requires block { self.now.first + k < 25 }
+        requires small { AreSmall self.now }
+        ensures value { (zs : List ℤ) → result ≡ Some zs → zs ≡ coefficients_in self.now k }
+        ensures small { (zs : List ℤ) → result ≡ Some zs → EachWithin 2200 zs }
+    {
+        let block = block_of(self.tokens, self.first + k);
+        let Some(own) = dequant_short(block.levels, self.dc, self.ac) else {
+            return None;
+        };
+        match &self.firsts {
+            None => Some(own),
+            Some(firsts) => with_small_first(own, firsts[k]),
+        }
+    }
+
     /// What is kept of the residue of subblock `k`.
     pub(crate) fn kept(&self, k: usize) -> [i16; 16]
         requires subblock { k < 16 }
@@ -116,10 +198,7 @@ impl<'a> Residues<'a> {
         ensures { IsKept result (residue_in self.now k) }
     {
         let block = block_of(self.tokens, self.first + k);
-        match &self.firsts {
-            None => residue_with_first(block, first_of(&block.levels, self.dc), self.ac),
-            Some(firsts) => residue_with_first(block, firsts[k], self.ac),
-        }
+        residue_with_first(block, self.first_coefficient(k), self.ac)
     }
 }
 

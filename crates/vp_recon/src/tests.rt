@@ -1,4 +1,4 @@
-ghost use Rattle.std.specs.Prelude.{◌≡◌, ◌≤◌};
+ghost use Rattle.std.specs.Prelude.{◌≡◌, ◌≤◌, ◌≤ℤ◌, pos, negsuc};
 
 use super::*;
 use std::alloc::Global;
@@ -178,4 +178,98 @@ fn first_coefficients_of_y2(rt: HostRuntime) {
     rebuild_macroblock(&mut picture, TOP, &source, &tokens, &FACTORS);
     assert!(rt; has_block(picture.plane(0), 4, &MIXED));
     assert!(rt; has_corners(picture.plane(0), 128, 129));
+}
+
+const OTHER: Block = Block {
+    levels: [3, 0, 0, 40, 0, -25, 0, 0, 0, 0, 0, 0, 0, 0, 0, 0],
+    tokens: 6,
+};
+
+/// Its coefficients are too large for two subblocks at once.
+const LARGE: Block = Block {
+    levels: [0, 600, 0, 0, 0, 0, 0, 0, 0, 0, 0, 0, 0, 0, 0, 0],
+    tokens: 2,
+};
+
+/// A block whose first level alone is not 0.
+fn first_alone(level: i16) -> Block
+    requires low { negsuc 99 ≤ℤ level }
+    requires high { level ≤ℤ pos 100 }
+{
+    let mut levels = [0; 16];
+    levels[0] = level;
+    Block { levels, tokens: 1 }
+}
+
+/// Subblocks side by side: both with more than a first coefficient, with that alone, one of each, and one too large.
+fn tokens_of_pairs() -> Tokens {
+    let mut blocks = [Block::NONE; 25];
+    blocks[1] = SIXTH;
+    blocks[2] = OTHER;
+    blocks[3] = LARGE;
+    blocks[4] = SIXTH;
+    blocks[17] = first_alone(30);
+    blocks[18] = first_alone(-7);
+    blocks[21] = first_alone(9);
+    blocks[22] = OTHER;
+    Tokens { blocks }
+}
+
+/// Whether the plane has these four rows of eight pixels from column `x` of its first row on.
+fn has_pair(plane: &Plane, x: usize, wanted: &[[u8; 8]; 4]) -> bool
+    requires { x ≤ 8 }
+{
+    if plane.width() < x + 8 || plane.height() < 4 {
+        return false;
+    }
+    for (y, row) in wanted.iter().enumerate() {
+        if &plane.row(y)[x..x + 8] != row.as_slice() {
+            return false;
+        }
+    }
+    true
+}
+
+/// The sums were worked out from RFC 6386's formulas (chapter 14) by a script apart from this program: the prediction is
+/// 128 everywhere.
+#[test]
+fn subblocks_side_by_side(rt: HostRuntime) {
+    let Ok(dim) = Dim::new(16, 16, &Limits::usual()) else {
+        panic!(rt; "a size");
+    };
+    let Ok(mut picture) = Picture::new(rt.alloc(), dim, 0) else {
+        panic!(rt; "a picture");
+    };
+    let modes = modes(LumaMode::Dc);
+    let tokens = tokens_of_pairs();
+    rebuild_macroblock(&mut picture, TOP, &Source::Intra(&modes), &tokens, &FACTORS);
+    let both = [
+        [127, 124, 120, 118, 136, 161, 161, 136],
+        [130, 127, 124, 121, 96, 121, 121, 96],
+        [135, 132, 129, 126, 96, 121, 121, 96],
+        [139, 136, 132, 130, 136, 161, 161, 136],
+    ];
+    assert!(rt; has_pair(picture.plane(0), 0, &both));
+    let large = [
+        [255, 255, 0, 0, 127, 124, 120, 118],
+        [255, 255, 0, 0, 130, 127, 124, 121],
+        [255, 255, 0, 0, 135, 132, 129, 126],
+        [255, 255, 0, 0, 139, 136, 132, 130],
+    ];
+    assert!(rt; has_pair(picture.plane(0), 8, &large));
+    assert!(rt;
+        has_pair(
+            picture.plane(1),
+            0,
+            &[[143, 143, 143, 143, 125, 125, 125, 125]; 4]
+        )
+    );
+    let mixed = [
+        [133, 133, 133, 133, 137, 162, 162, 137],
+        [133, 133, 133, 133, 97, 122, 122, 97],
+        [133, 133, 133, 133, 97, 122, 122, 97],
+        [133, 133, 133, 133, 137, 162, 162, 137],
+    ];
+    assert!(rt; has_pair(picture.plane(2), 0, &mixed));
+    assert!(rt; has_corners(picture.plane(0), 127, 128));
 }

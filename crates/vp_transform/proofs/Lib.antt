@@ -9,3 +9,5 @@ pub mod Narrow
 pub mod Vectors
 pub mod Products
 pub mod Mixing
+pub mod Eights
+pub mod Turning

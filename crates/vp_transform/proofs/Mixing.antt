@@ -3,6 +3,7 @@ use Rattle.std.proofs.Common.{◌≡◌, ℕ, ◌+◌, ◌*◌, ◌^◌, ◌<◌
 use Rattle.vp_lanes.specs.Lane.{lane}
 use Rattle.vp_transform.specs.Fits.{EachWithin}
 use Rattle.vp_transform.specs.Narrow.{column_of, block_in, LanesWithin}
+use Rattle.vp_transform.specs.Pair.{transposed}
 use Rattle.vp_transform.specs.Steps.{mixed, column_product, row_product}
 use Rattle.vp_transform.specs.Transform.{at, block_of, hadamard_times, times_hadamard_rounded, iwht, idct}
 use Rattle.vp_transform.proofs.Along.{columns_along, rows_along}
@@ -11,9 +12,6 @@ use Rattle.vp_transform.proofs.Signs.{mixed-column, mixed-row}
 use Rattle.vp_transform.proofs.Sizes.{rounded-at_most}
 use Rattle.vp_transform.proofs.Vectors.{sixteen, handed, small_passes, within_first, within_second, within_third, within_fourth, block_handed, block_read, idct_of_rows}
 use lib.Signed.{shr_z}
-
-abbrev pub transposed : List ℤ → List ℤ
-transposed block = block_of (λ r c. at block c r)
 
 -- (z + 3) / 8, rounded down
 abbrev pub eighth : ℤ → ℤ
@@ -45,7 +43,7 @@ exchanged v =
     (row 2 (sym (mixed-column (transposed v) 2) ∙ mixed-row v 2)) (row 3 (sym (mixed-column (transposed v) 3) ∙ mixed-row v 3))
 
 -- ---- how large the numbers are
-transposed-within : (n : ℕ) (v : List ℤ) → EachWithin n v → EachWithin n (transposed v)
+pub transposed-within : (n : ℕ) (v : List ℤ) → EachWithin n v → EachWithin n (transposed v)
 transposed-within n v w = each-block_of n (λ r c. at v c r) (λ r c. at_most n v w _)
 
 eighths-within : (n : ℕ) (v : List ℤ) → EachWithin (8 * n) v → EachWithin n (eighths v)

@@ -17,7 +17,7 @@ pub difference-at_most : {x y : ℤ} {m n : ℕ} → AtMost m x → AtMost n y �
 difference-at_most h k = record { size = omega (arith, ints, h.size, k.size) }
 
 -- z / 65536, rounded down
-shr_16-at_most : (z : ℤ) (n : ℕ) → unsigned_abs z ≤ 65536 * n → unsigned_abs (shr_z z 65536) ≤ n
+pub shr_16-at_most : (z : ℤ) (n : ℕ) → unsigned_abs z ≤ 65536 * n → unsigned_abs (shr_z z 65536) ≤ n
 shr_16-at_most (pos a) n h = omega arith
 shr_16-at_most (negsuc a) n h = omega arith
 

@@ -174,7 +174,7 @@ unfolding idct vertical horizontal
 idct_of_rows x = refl
 
 -- ---- i16
-short16_fits : (z : ℤ) → unsigned_abs z < 32768 → SFits w16 z
+pub short16_fits : (z : ℤ) → unsigned_abs z < 32768 → SFits w16 z
 short16_fits (pos n) l = record { sfits = omega arith }
 short16_fits (negsuc n) l = record { sfits = omega arith }
 

@@ -4,3 +4,4 @@ pub mod Transform
 pub mod Forward
 pub mod Narrow
 pub mod Short
+pub mod Pair

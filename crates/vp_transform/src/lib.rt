@@ -7,6 +7,7 @@ mod forward_hadamard;
 mod hadamard;
 mod hadamard_lanes;
 mod lanes;
+mod pair;
 mod short;
 #[cfg(test)]
 mod tests;
@@ -16,4 +17,5 @@ pub use forward_cosine::fdct;
 pub use forward_hadamard::fwht;
 pub use hadamard::{iwht, iwht_of_first};
 pub use lanes::idct_short;
+pub use pair::idct_pair;
 pub use short::{cut, idct_cut};

@@ -48,6 +48,68 @@ fn short_example(rt: HostRuntime) {
     );
 }
 
+/// The same block and that of the first example, side by side, in either order.
+#[test]
+fn pair_example(rt: HostRuntime) {
+    let block = [
+        -700, 123, -45, 6, 77, -888, 99, -10, 11, 12, -1313, 14, -15, 160, 17, -1818,
+    ];
+    let mut first = [0; 16];
+    first[0] = 8;
+    let (top, upper, lower, bottom) = idct_pair(&block, &first);
+    assert_eq!(rt; top.to_array(), [-447, 174, -18, -7, 1, 1, 1, 1]);
+    assert_eq!(rt; upper.to_array(), [146, -669, 181, 16, 1, 1, 1, 1]);
+    assert_eq!(rt; lower.to_array(), [28, 192, -694, 88, 1, 1, 1, 1]);
+    assert_eq!(rt; bottom.to_array(), [-18, 5, 174, -551, 1, 1, 1, 1]);
+    let (top, upper, lower, bottom) = idct_pair(&first, &block);
+    assert_eq!(rt; top.to_array(), [1, 1, 1, 1, -447, 174, -18, -7]);
+    assert_eq!(rt; upper.to_array(), [1, 1, 1, 1, 146, -669, 181, 16]);
+    assert_eq!(rt; lower.to_array(), [1, 1, 1, 1, 28, 192, -694, 88]);
+    assert_eq!(rt; bottom.to_array(), [1, 1, 1, 1, -18, 5, 174, -551]);
+}
+
+/// Two blocks whose numbers are as far from 0 as they may be, and one of numbers that look like chance: what the formulas
+/// of RFC 6386 (chapter 14.4) give was worked out by a script apart from this program.
+#[test]
+fn scattered_pairs(rt: HostRuntime) {
+    let far = [
+        -2200, -2200, 2200, 2200, -2200, -2200, 2200, 2200, 2200, 2200, -2200, -2200, -2200, 2200,
+        -2200, 2200,
+    ];
+    let (top, upper, lower, bottom) = idct_pair(&[2200; 16], &far);
+    assert_eq!(rt;
+        top.to_array(),
+        [4071, -810, 810, 161, -298, -1496, 59, -297]
+    );
+    assert_eq!(rt;
+        upper.to_array(),
+        [-810, 161, -161, -32, -480, -2414, -381, 1918]
+    );
+    assert_eq!(rt;
+        lower.to_array(),
+        [810, -161, 161, 32, -362, -1819, 214, -1075]
+    );
+    assert_eq!(rt; bottom.to_array(), [162, -32, 32, 7, 298, 1496, -59, 298]);
+    let scattered = [
+        -108, 737, 2142, -1963, 1614, -160, -1776, -916, -1273, 845, 1642, -181, 919, -1365, -158,
+        -2093,
+    ];
+    let (top, upper, lower, bottom) = idct_pair(&scattered, &[2200; 16]);
+    assert_eq!(rt; top.to_array(), [126, 754, -793, 525, 4071, -810, 810, 161]);
+    assert_eq!(rt;
+        upper.to_array(),
+        [363, 169, 104, -217, -810, 161, -161, -32]
+    );
+    assert_eq!(rt;
+        lower.to_array(),
+        [-224, 564, -505, 910, 810, -161, 161, 32]
+    );
+    assert_eq!(rt;
+        bottom.to_array(),
+        [701, -1131, -1413, -150, 162, -32, 32, 7]
+    );
+}
+
 /// The second block's numbers were worked out from the formulas by a script apart from this program.
 #[test]
 fn forward_examples(rt: HostRuntime) {

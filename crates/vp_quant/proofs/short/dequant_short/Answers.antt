@@ -7,17 +7,18 @@ use Rattle.vp_quant.specs.Short.{IsNear}
 use Rattle.vp_quant.proofs.Sixteen.{handed, held_in_near, held_in_same, position_below, block_is, block_within}
 use Rattle.vp_quant.proofs.short.dequant_short.Goals as goal
 
-pub products-requires : goal.products-requires
-products-requires c j h =
-    let held = signed_param 16 c.clamp_i16-held.result _ c.clamp_i16-held.type_inv in
-    subst (λ (z : ℤ). IsNear z c.args.dc c.args.ac) (sym (handed c.clamp_i16-held.result held j h ∙ c.clamp_i16-held.ensures j h))
-    (held_in_near c.most_of-most.result (lane (map (to_z w16) (map (of_z w16) c.args.levels)) j) c.args.dc c.args.ac c.most_of-most.ensures)
-
 near_at : (c : goal.After-row_known-1) (j : ℕ) → j < 16 → IsNear (lane (map (to_z w16) (map (of_z w16) c.clamp_i16-held.result)) j) c.args.dc c.args.ac
 near_at c j h =
     let held = signed_param 16 c.clamp_i16-held.result _ c.clamp_i16-held.type_inv in
     subst (λ (z : ℤ). IsNear z c.args.dc c.args.ac) (sym (handed c.clamp_i16-held.result held j h ∙ c.clamp_i16-held.ensures j h))
     (held_in_near c.most_of-most.result (lane (map (to_z w16) (map (of_z w16) c.args.levels)) j) c.args.dc c.args.ac c.most_of-most.ensures)
+
+pub products-requires : goal.products-requires
+products-requires c j h =
+    let held = signed_param 16 c.clamp_i16-held.result _ c.clamp_i16-held.type_inv in
+    subst (λ (z : ℤ). IsNear z c.args.dc c.args.ac) (c.are_same.ensures.same c.if-are_same.true j h)
+    (subst (λ (z : ℤ). IsNear z c.args.dc c.args.ac) (sym (handed c.clamp_i16-held.result held j h ∙ c.clamp_i16-held.ensures j h))
+    (held_in_near c.most_of-most.result (lane (map (to_z w16) (map (of_z w16) c.args.levels)) j) c.args.dc c.args.ac c.most_of-most.ensures))
 
 coefficient_at : (c : goal.After-row_known-1) (place : ℕ) → place < 16
     → lane (map (to_z w16) (map (of_z w16) c.placed.result)) place ≡ coefficient c.args.levels c.args.dc c.args.ac (position_at place)
@@ -29,7 +30,7 @@ coefficient_at c place h =
     let placed = signed_param 16 c.placed.result _ c.placed.type_inv in
     handed c.placed.result placed place h ∙ c.placed.ensures place h
     ∙ handed c.products.result products p below ∙ c.products.ensures p below
-    ∙ ap (λ (z : ℤ). z *ℤ pos (if p == 0 then c.args.dc else c.args.ac)) (c.are_same.ensures.same c.if-are_same.true p below ∙ handed c.args.levels levels p below)
+    ∙ ap (λ (z : ℤ). z *ℤ pos (if p == 0 then c.args.dc else c.args.ac)) (handed c.args.levels levels p below)
 
 abbrev inside : Option (List ℤ) → List ℤ
 inside None = []
@@ -45,7 +46,7 @@ returns-then-are_same-clause-value c block is =
 pub returns-then-are_same-clause-small : goal.returns-then-are_same-clause-small
 returns-then-are_same-clause-small c block is =
     let levels = signed_param 16 c.args.levels _ c.well_formed.0 in
-    subst (λ (zs : List ℤ). (i : ℕ) → unsigned_abs (get_or zs i (pos 0)) ≤ 8191) (ap inside is)
+    subst (λ (zs : List ℤ). (i : ℕ) → unsigned_abs (get_or zs i (pos 0)) ≤ 2200) (ap inside is)
     (block_within (map (to_z w16) (map (of_z w16) c.placed.result)) c.args.levels c.args.dc c.args.ac (long c) (coefficient_at c)
     (λ j h. subst (λ (z : ℤ). IsNear z c.args.dc c.args.ac) (c.are_same.ensures.same c.if-are_same.true j h ∙ handed c.args.levels levels j h) (near_at c j h)))
 

@@ -22,6 +22,6 @@ returns c =
     plane_next p c.write4-3.new.picture c.write4-4.new.picture n (λ (s : Raster). with_run s x (y + 3) (row 3)) c.write4-4.ensures.value three
     (plane_next p c.write4-2.new.picture c.write4-3.new.picture n (λ (s : Raster). with_run s x (y + 2) (row 2)) c.write4-3.ensures.value two
     (plane_next p c.write4.new.picture c.write4-2.new.picture n (λ (s : Raster). with_run s x (y + 1) (row 1)) c.write4-2.ensures.value one c.write4.ensures.value))
-    ∙ ap (with_plane p n) (four_runs q x y (λ i j. get_or c.args.pixels (i * 4 + j) 0) (row 0) (row 1) (row 2) (row 3) whole c.requires.columns c.requires.rows
+    ∙ ap (with_plane p n) (four_runs q x y 4 (λ i j. get_or c.args.pixels (i * 4 + j) 0) (row 0) (row 1) (row 2) (row 3) whole c.requires.columns c.requires.rows
     c.write4.ensures.long c.write4-2.ensures.long c.write4-3.ensures.long c.write4-4.ensures.long
     (is 0 (omega arith)) (is 1 (omega arith)) (is 2 (omega arith)) (is 3 (omega arith)))

@@ -1,4 +1,4 @@
-use Rattle.std.proofs.Common.{◌≡◌, ◌∙◌, ◌+◌, ◌*ℤ◌, ℤ, pos, List, Option, get_or, set, sym, ap, subst, arith}
+use Rattle.std.proofs.Common.{◌≡◌, ◌∙◌, ◌+◌, ℤ, List, set, ap, subst, arith}
 use Rattle.vp_transform.specs.Transform.{idct}
 use Rattle.vp_transform.proofs.Words.{coded, read}
 use Rattle.vp_transform.proofs.Sizes.{fits-below}
@@ -6,32 +6,14 @@ use Rattle.vp_tokens.specs.Block.{Block}
 use Rattle.vp_tokens.specs.Blocks.{block_of}
 use Rattle.vp_quant.specs.Quant.{dequantised}
 use Rattle.vp_recon.specs.Kept.{IsKept}
-use Rattle.vp_recon.specs.Parts.{with_first}
-use Rattle.vp_recon.proofs.ResidueLemmas.{any_first, own_first}
 use Rattle.vp_recon.proofs.residue.Residues.kept.Goals as goal
 
-pub returns-in-Some : goal.returns-in-Some
-returns-in-Some c =
+pub returns : goal.returns
+returns c =
     let r = c.args.self.now in
-    let firsts : List ℤ = c.in-Some.firsts in
-    let first : ℤ = get_or firsts c.args.k (pos 0) in
-    let exact : coded first ≡ first = read first (fits-below first (omega (arith, c.requires.small firsts c.in-Some.is c.args.k))) in
-    let levels : List ℤ = (block_of r.tokens.now (r.first + c.args.k)).levels in
-    subst (λ (zs : List ℤ). IsKept c.residue_with_first-in-Some.result (idct zs))
-    (ap (λ (b : Block). set (dequantised b.levels 0 r.ac) 0 (coded first)) c.block_of-block.ensures
-    ∙ ap (λ (z : ℤ). set (dequantised levels 0 r.ac) 0 z) exact
-    ∙ any_first levels first r.dc r.ac
-    ∙ ap (λ (o : Option (List ℤ)). with_first o c.args.k (dequantised levels r.dc r.ac)) (sym c.in-Some.is)) c.residue_with_first-in-Some.ensures
-
-pub returns-in-None : goal.returns-in-None
-returns-in-None c =
-    let r = c.args.self.now in
-    let first : ℤ = c.first_of.result in
-    let exact : coded first ≡ first = read first (fits-below first (omega (arith, c.first_of.ensures.within))) in
-    let b : Block = block_of r.tokens.now (r.first + c.args.k) in
+    let first : ℤ = c.first_coefficient.result in
+    let exact : coded first ≡ first = read first (fits-below first (omega (arith, c.first_coefficient.ensures.within))) in
     subst (λ (zs : List ℤ). IsKept c.residue_with_first.result (idct zs))
-    (ap (λ (z : ℤ). set (dequantised c.block_of-block.result.now.levels 0 r.ac) 0 z)
-    (exact ∙ c.first_of.ensures.value ∙ ap (λ (b : Block). get_or b.levels 0 (pos 0) *ℤ pos r.dc) c.block.view_is)
-    ∙ own_first c.block_of-block.result.now.levels r.dc r.ac
-    ∙ ap (λ (b : Block). dequantised b.levels r.dc r.ac) c.block_of-block.ensures
-    ∙ ap (λ (o : Option (List ℤ)). with_first o c.args.k (dequantised b.levels r.dc r.ac)) (sym c.in-None.is)) c.residue_with_first.ensures
+    (ap (λ (b : Block). set (dequantised b.levels 0 r.ac) 0 (coded first)) c.block_of-block.ensures
+    ∙ ap (λ (z : ℤ). set (dequantised (block_of r.tokens.now (r.first + c.args.k)).levels 0 r.ac) 0 z) exact
+    ∙ c.first_coefficient.ensures.value) c.residue_with_first.ensures

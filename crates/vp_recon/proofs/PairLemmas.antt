@@ -1,0 +1,163 @@
+-- Two subblocks side by side: one block of eight columns and four rows.
+use Rattle.std.proofs.Common.{◌≡◌, ◌∙◌, ℕ, ◌+◌, ◌-◌, ◌*◌, ◌<◌, ◌≤◌, ℤ, pos, negsuc, ◌+ℤ◌, ◌≤ℤ◌, min, List, Bool, true, false, cond, get_or, w16, unsigned_abs, refl, sym, ap, subst, arith, inl, inr}
+use Rattle.std.proofs.lemmas.Bool.{cases_Bool, cases_lt}
+use Rattle.std.proofs.lemmas.Int.{ints, clamps, to_z-of_z}
+use Rattle.std.specs.Int.{int_min, int_max}
+use Rattle.std.proofs.lemmas.Bool.Decides.{nat_tests}
+use Rattle.vp_base.specs.Raster.{Raster, pixel}
+use Rattle.vp_base.specs.Block.{is_in_block, with_block}
+use Rattle.vp_base.proofs.BlockLemmas.{pixel-with_block, IsWhole-with_block, same_raster}
+use Rattle.vp_lanes.specs.Lane.{lane}
+use Rattle.vp_transform.specs.Fits.{EachWithin}
+use Rattle.vp_transform.specs.Pair.{row_in}
+use Rattle.vp_transform.specs.Transform.{idct}
+use Rattle.vp_transform.proofs.Bounds.{idct-within}
+use Rattle.vp_transform.proofs.Eights.{coded16, handed16, passed16, below_eight}
+use Rattle.vp_transform.proofs.Vectors.{short16_fits}
+use Rattle.vp_recon.specs.Rebuilt.{summed, to_byte}
+use Rattle.vp_recon.specs.Pairs.{with_added, with_both_added, number_in, AreRows, AreLow}
+use Rattle.vp_recon.proofs.SubblockLemmas.{below_four}
+use Rattle.vp_recon.proofs.Parts.{is_in, in_it}
+
+pub low_handed : (xs : List ℤ) → AreLow xs → AreLow (handed16 xs)
+low_handed xs low j h = subst (λ z. unsigned_abs z ≤ 8800) (sym (passed16 xs j 8800 (omega arith) (low j h))) (low j h)
+
+-- what vectors have as they are handed on
+module _ (a b c d : List ℤ) (la : AreLow a) (lb : AreLow b) (lc : AreLow c) (ld : AreLow d) where
+  pub number_handed : (r j : ℕ) → r < 4 → j < 8 → number_in (handed16 a) (handed16 b) (handed16 c) (handed16 d) r j ≡ number_in a b c d r j
+  number_handed r j rin jin =
+      below_four (λ i. number_in (handed16 a) (handed16 b) (handed16 c) (handed16 d) i j ≡ number_in a b c d i j)
+      (passed16 a j 8800 (omega arith) (la j jin)) (passed16 b j 8800 (omega arith) (lb j jin))
+      (passed16 c j 8800 (omega arith) (lc j jin)) (passed16 d j 8800 (omega arith) (ld j jin)) r rin
+
+-- ---- two residues of one number each
+module _ (row : List ℤ) (l m : ℤ) (el : (j : ℕ) → j < 4 → lane row j ≡ l) (em : (j : ℕ) → j < 4 → lane row (4 + j) ≡ m) where
+  pub even_low : unsigned_abs l ≤ 255 → unsigned_abs m ≤ 255 → AreLow row
+  even_low sl sm =
+      let at_left : (j : ℕ) → j < 4 → unsigned_abs (lane row j) ≤ 8800 = λ j h. subst (λ z. unsigned_abs z ≤ 8800) (sym (el j h)) (omega arith) in
+      let at_right : (j : ℕ) → j < 4 → unsigned_abs (lane row (4 + j)) ≤ 8800 = λ j h. subst (λ z. unsigned_abs z ≤ 8800) (sym (em j h)) (omega arith) in
+      below_eight (λ j. unsigned_abs (lane row j) ≤ 8800) (at_left 0 (omega arith)) (at_left 1 (omega arith)) (at_left 2 (omega arith)) (at_left 3 (omega arith))
+      (at_right 0 (omega arith)) (at_right 1 (omega arith)) (at_right 2 (omega arith)) (at_right 3 (omega arith))
+
+  pub even_rows : (left right : List ℤ) → AreLow row → ((i pixel : ℕ) → i < 16 → pixel ≤ 255 → summed pixel l ≡ summed pixel (get_or left i (pos 0)))
+      → ((i pixel : ℕ) → i < 16 → pixel ≤ 255 → summed pixel m ≡ summed pixel (get_or right i (pos 0)))
+      → AreRows (handed16 row) (handed16 row) (handed16 row) (handed16 row) left right
+  even_rows left right low sl sm r j rin jin pixel byte =
+      let first : lane (handed16 row) j ≡ l = passed16 row j 8800 (omega arith) (low j (omega arith)) ∙ el j jin in
+      let second : lane (handed16 row) (4 + j) ≡ m = passed16 row (4 + j) 8800 (omega arith) (low (4 + j) (omega arith)) ∙ em j jin in
+      let h : List ℤ = handed16 row in (
+        ap (summed pixel) (below_four (λ i. number_in h h h h i j ≡ l) first first first first r rin) ∙ sl (4 * r + j) pixel (omega arith) byte,
+        ap (summed pixel) (below_four (λ i. number_in h h h h i (4 + j) ≡ m) second second second second r rin) ∙ sm (4 * r + j) pixel (omega arith) byte,
+      )
+
+-- ---- two residues whose coefficients are small
+row_first : (x y : List ℤ) (r j : ℕ) → j < 4 → lane (row_in x y r) j ≡ get_or x (4 * r + j) (pos 0)
+row_first x y r = below_four (λ j. lane (row_in x y r) j ≡ get_or x (4 * r + j) (pos 0)) refl refl refl refl
+
+row_second : (x y : List ℤ) (r j : ℕ) → j < 4 → lane (row_in x y r) (4 + j) ≡ get_or y (4 * r + j) (pos 0)
+row_second x y r = below_four (λ j. lane (row_in x y r) (4 + j) ≡ get_or y (4 * r + j) (pos 0)) refl refl refl refl
+
+module _ (a b : List ℤ) (small_a : EachWithin 2200 a) (small_b : EachWithin 2200 b) where
+  pub row_low : (r : ℕ) (v : List ℤ) → v ≡ row_in (idct a) (idct b) r → AreLow v
+  row_low r v e = subst (λ (u : List ℤ). AreLow u) (sym e)
+      (below_eight (λ j. unsigned_abs (lane (row_in (idct a) (idct b) r) j) ≤ 8800)
+      (idct-within 2200 a small_a (4 * r + 0)) (idct-within 2200 a small_a (4 * r + 1)) (idct-within 2200 a small_a (4 * r + 2)) (idct-within 2200 a small_a (4 * r + 3))
+      (idct-within 2200 b small_b (4 * r + 0)) (idct-within 2200 b small_b (4 * r + 1)) (idct-within 2200 b small_b (4 * r + 2)) (idct-within 2200 b small_b (4 * r + 3)))
+
+  number_first : (r : ℕ) (v : List ℤ) → v ≡ row_in (idct a) (idct b) r → (j : ℕ) → j < 4 → lane (handed16 v) j ≡ get_or (idct a) (4 * r + j) (pos 0)
+  number_first r v e j jin = passed16 v j 8800 (omega arith) (row_low r v e j (omega arith)) ∙ ap (λ (u : List ℤ). lane u j) e ∙ row_first (idct a) (idct b) r j jin
+
+  number_second : (r : ℕ) (v : List ℤ) → v ≡ row_in (idct a) (idct b) r → (j : ℕ) → j < 4 → lane (handed16 v) (4 + j) ≡ get_or (idct b) (4 * r + j) (pos 0)
+  number_second r v e j jin = passed16 v (4 + j) 8800 (omega arith) (row_low r v e (4 + j) (omega arith)) ∙ ap (λ (u : List ℤ). lane u (4 + j)) e ∙ row_second (idct a) (idct b) r j jin
+
+  pub rows_kept : (v0 v1 v2 v3 : List ℤ) → v0 ≡ row_in (idct a) (idct b) 0 → v1 ≡ row_in (idct a) (idct b) 1 → v2 ≡ row_in (idct a) (idct b) 2 → v3 ≡ row_in (idct a) (idct b) 3
+      → AreRows (handed16 v0) (handed16 v1) (handed16 v2) (handed16 v3) (idct a) (idct b)
+  rows_kept v0 v1 v2 v3 e0 e1 e2 e3 r j rin jin pixel byte = (
+    ap (summed pixel) (below_four (λ i. number_in (handed16 v0) (handed16 v1) (handed16 v2) (handed16 v3) i j ≡ get_or (idct a) (4 * i + j) (pos 0))
+        (number_first 0 v0 e0 j jin) (number_first 1 v1 e1 j jin) (number_first 2 v2 e2 j jin) (number_first 3 v3 e3 j jin) r rin),
+    ap (summed pixel) (below_four (λ i. number_in (handed16 v0) (handed16 v1) (handed16 v2) (handed16 v3) i (4 + j) ≡ get_or (idct b) (4 * i + j) (pos 0))
+        (number_second 0 v0 e0 j jin) (number_second 1 v1 e1 j jin) (number_second 2 v2 e2 j jin) (number_second 3 v3 e3 j jin) r rin),
+  )
+
+-- ---- a number held, which the code keeps in i16
+pub short_coded : (z : ℤ) → unsigned_abs z ≤ 255 → coded16 z ≡ z
+short_coded z l = to_z-of_z w16 z (short16_fits z (omega arith))
+
+to_byte-low : (z : ℤ) → z ≤ℤ pos 0 → to_byte z ≡ 0
+to_byte-low (pos n) low = let e : min n 255 ≡ 0 = omega (arith, ints) in e
+to_byte-low (negsuc n) low = refl
+
+pub held_sum : (p : ℕ) (y z : ℤ) → p ≤ 255 → y ≡ int_max (negsuc 254) (int_min z (pos 255)) → summed p y ≡ summed p z
+unfolding summed
+held_sum p y (pos n) byte e =
+    let f : y ≡ pos (min n 255) = e ∙ (let g : int_max (negsuc 254) (int_min (pos n) (pos 255)) ≡ pos (min n 255) = omega (arith, ints, clamps) in g) in
+    ap (λ (v : ℤ). summed p v) f ∙ (let g : min (p + min n 255) 255 ≡ min (p + n) 255 = omega arith in g)
+held_sum p y (negsuc n) byte e = elim (cases_lt n 255) [
+  | inl near ↦
+      ap (λ (v : ℤ). summed p v) (e ∙ (let g : int_max (negsuc 254) (int_min (negsuc n) (pos 255)) ≡ negsuc n = omega (arith, ints, clamps) in g))
+  | inr far ↦
+      ap (λ (v : ℤ). summed p v) (e ∙ (let g : int_max (negsuc 254) (int_min (negsuc n) (pos 255)) ≡ negsuc 254 = omega (arith, ints, clamps) in g))
+      ∙ to_byte-low (pos p +ℤ negsuc 254) (omega (arith, ints)) ∙ sym (to_byte-low (pos p +ℤ negsuc n) (omega (arith, ints)))
+]
+
+left_of : (x y u v : ℕ) → x + 4 ≤ u → is_in_block x y 4 4 u v ≡ false
+left_of x y u v far = grind (arith, nat_tests)
+
+in_neither : (x y u v : ℕ) → is_in_block x y 4 4 u v ≡ false → is_in_block (x + 4) y 4 4 u v ≡ false → is_in_block x y 8 4 u v ≡ false
+in_neither x y u v left right = grind (arith, nat_tests)
+
+at_same : (p : Raster) (a b c d : ℕ) → a ≡ c → b ≡ d → pixel p a b ≡ pixel p c d
+at_same p a b c d e f = ap (λ (n : ℕ). pixel p n b) e ∙ ap (pixel p c) f
+
+module _ (q : Raster) (x y : ℕ) (left right : List ℤ) (f : ℕ → ℕ → ℕ)
+    (is_left : (r c : ℕ) → r < 4 → c < 4 → f r c ≡ summed (pixel q (x + c) (y + r)) (get_or left (4 * r + c) (pos 0)))
+    (is_right : (r c : ℕ) → r < 4 → c < 4 → f r (4 + c) ≡ summed (pixel q (x + (4 + c)) (y + r)) (get_or right (4 * r + c) (pos 0))) where
+  abbrev first : Raster
+  first = with_added q x y left
+
+  abbrev fore : ℕ → ℕ → ℕ
+  fore r c = summed (pixel q (x + c) (y + r)) (get_or left (4 * r + c) (pos 0))
+
+  abbrev next : ℕ → ℕ → ℕ
+  next r c = summed (pixel first (x + 4 + c) (y + r)) (get_or right (4 * r + c) (pos 0))
+
+  kept_right : (u v : ℕ) → u < q.width → v < q.height → x + 4 ≤ u → pixel first u v ≡ pixel q u v
+  kept_right u v uin vin far = pixel-with_block q x y 4 4 fore u v uin vin ∙ ap (λ (t : Bool). cond t (fore (v - y) (u - x)) (pixel q u v)) (left_of x y u v far)
+
+  at : (u v : ℕ) → u < q.width → v < q.height → pixel (with_block q x y 8 4 f) u v ≡ pixel (with_both_added q x y left right) u v
+  at u v uin vin =
+      pixel-with_block q x y 8 4 f u v uin vin
+      ∙ elim (cases_Bool (is_in_block (x + 4) y 4 4 u v)) [
+        | inl within ↦
+            let on = is_in (x + 4) y 4 4 u v within in
+            let whole : is_in_block x y 8 4 u v ≡ true = in_it x y 8 4 u v (omega (arith, on)) (omega (arith, on)) (omega (arith, on)) (omega (arith, on)) in
+            let c : ℕ = u - (x + 4) in
+            let r : ℕ = v - y in
+            ap (λ (t : Bool). cond t (f (v - y) (u - x)) (pixel q u v)) whole
+            ∙ ap (f (v - y)) (let e : u - x ≡ 4 + (u - (x + 4)) = omega (arith, on) in e)
+            ∙ is_right (v - y) (u - (x + 4)) (omega (arith, on)) (omega (arith, on))
+            ∙ ap (λ (b : ℕ). summed b (get_or right (4 * (v - y) + (u - (x + 4))) (pos 0)))
+            (at_same q (x + (4 + (u - (x + 4)))) (y + (v - y)) u v (omega (arith, on)) (omega (arith, on))
+            ∙ sym (kept_right u v uin vin (omega (arith, on)))
+            ∙ at_same first u v (x + 4 + (u - (x + 4))) (y + (v - y)) (omega (arith, on)) (omega (arith, on)))
+            ∙ ap (λ (t : Bool). cond t (next (v - y) (u - (x + 4))) (pixel first u v)) (sym within)
+        | inr past ↦
+            elim (cases_Bool (is_in_block x y 4 4 u v)) [
+              | inl within ↦
+                  let on = is_in x y 4 4 u v within in
+                  let whole : is_in_block x y 8 4 u v ≡ true = in_it x y 8 4 u v (omega (arith, on)) (omega (arith, on)) (omega (arith, on)) (omega (arith, on)) in
+                  ap (λ (t : Bool). cond t (f (v - y) (u - x)) (pixel q u v)) whole
+                  ∙ is_left (v - y) (u - x) (omega (arith, on)) (omega (arith, on))
+                  ∙ ap (λ (t : Bool). cond t (fore (v - y) (u - x)) (pixel q u v)) (sym within)
+                  ∙ sym (pixel-with_block q x y 4 4 fore u v uin vin)
+              | inr none ↦
+                  ap (λ (t : Bool). cond t (f (v - y) (u - x)) (pixel q u v)) (in_neither x y u v none past)
+                  ∙ ap (λ (t : Bool). cond t (fore (v - y) (u - x)) (pixel q u v)) (sym none)
+                  ∙ sym (pixel-with_block q x y 4 4 fore u v uin vin)
+            ]
+            ∙ ap (λ (t : Bool). cond t (next (v - y) (u - (x + 4))) (pixel first u v)) (sym past)
+      ]
+      ∙ sym (pixel-with_block first (x + 4) y 4 4 next u v uin vin)
+
+  pub both_as_one : with_block q x y 8 4 f ≡ with_both_added q x y left right
+  both_as_one = same_raster (with_block q x y 8 4 f) (with_both_added q x y left right) refl refl (IsWhole-with_block q x y 8 4 f) (IsWhole-with_block first (x + 4) y 4 4 next) at

@@ -1,0 +1,31 @@
+use Rattle.std.proofs.Common.{◌≡◌, ◌∙◌, ◌+◌, ◌*ℤ◌, ℤ, pos, List, Option, get_or, set, sym, ap, arith}
+use Rattle.vp_transform.proofs.Words.{coded, read}
+use Rattle.vp_transform.proofs.Sizes.{fits-below}
+use Rattle.vp_tokens.specs.Block.{Block}
+use Rattle.vp_tokens.specs.Blocks.{block_of}
+use Rattle.vp_quant.specs.Quant.{dequantised}
+use Rattle.vp_recon.specs.Parts.{with_first}
+use Rattle.vp_recon.proofs.ResidueLemmas.{any_first, own_first}
+use Rattle.vp_recon.proofs.residue.Residues.first_coefficient.Goals as goal
+
+pub returns-in-None-clause-value : goal.returns-in-None-clause-value
+returns-in-None-clause-value c =
+    let r = c.args.self.now in
+    let first : ℤ = c.first_of.result in
+    let exact : coded first ≡ first = read first (fits-below first (omega (arith, c.first_of.ensures.within))) in
+    let levels : List ℤ = (block_of r.tokens.now (r.first + c.args.k)).levels in
+    ap (λ (z : ℤ). set (dequantised levels 0 r.ac) 0 z)
+    (exact ∙ c.first_of.ensures.value ∙ ap (λ (b : Block). get_or b.levels 0 (pos 0) *ℤ pos r.dc) (c.behind-self.view_is ∙ c.block_of.ensures))
+    ∙ own_first levels r.dc r.ac
+    ∙ ap (λ (o : Option (List ℤ)). with_first o c.args.k (dequantised levels r.dc r.ac)) (sym c.in-None.is)
+
+pub returns-in-Some-clause-value : goal.returns-in-Some-clause-value
+returns-in-Some-clause-value c =
+    let r = c.args.self.now in
+    let firsts : List ℤ = c.in-Some.firsts in
+    let first : ℤ = get_or firsts c.args.k (pos 0) in
+    let exact : coded first ≡ first = read first (fits-below first (omega (arith, c.requires.small firsts c.in-Some.is c.args.k))) in
+    let levels : List ℤ = (block_of r.tokens.now (r.first + c.args.k)).levels in
+    ap (λ (z : ℤ). set (dequantised levels 0 r.ac) 0 z) exact
+    ∙ any_first levels first r.dc r.ac
+    ∙ ap (λ (o : Option (List ℤ)). with_first o c.args.k (dequantised levels r.dc r.ac)) (sym c.in-Some.is)

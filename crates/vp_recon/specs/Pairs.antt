@@ -1,0 +1,30 @@
+-- Inside the crate: two subblocks side by side, and their residues as the code has them in lanes.
+use Rattle.std.specs.Prelude.{◌≡◌, ℕ, ◌+◌, ◌*◌, ◌<◌, ◌≤◌, ℤ, pos, List, [], ◌∷◌, slice_index_or, unsigned_abs}
+use Rattle.vp_base.specs.Raster.{Raster, pixel}
+use Rattle.vp_base.specs.Block.{with_block}
+use Rattle.vp_lanes.specs.Lane.{lane}
+use Rattle.vp_recon.specs.Rebuilt.{summed}
+
+-- p with a residue added to the subblock at column x of row y
+abbrev pub with_added : Raster → ℕ → ℕ → List ℤ → Raster
+with_added p x y residue =
+    with_block p x y 4 4 (λ r c. summed (pixel p (x + c) (y + r)) (slice_index_or residue (4 * r + c) (pos 0)))
+
+-- .. and one to the subblock to the right of it
+abbrev pub with_both_added : Raster → ℕ → ℕ → List ℤ → List ℤ → Raster
+with_both_added p x y left right = with_added (with_added p x y left) (x + 4) y right
+
+-- number j of row r of four vectors
+abbrev pub number_in : List ℤ → List ℤ → List ℤ → List ℤ → ℕ → ℕ → ℤ
+number_in a b c d r j = lane (slice_index_or (a ∷ b ∷ c ∷ d ∷ []) r []) j
+
+-- four rows of eight numbers that give the sums of two residues side by side
+abbrev pub AreRows : List ℤ → List ℤ → List ℤ → List ℤ → List ℤ → List ℤ → Type 0
+AreRows a b c d left right =
+    (r j : ℕ) → r < 4 → j < 4 → (pixel : ℕ) → pixel ≤ 255
+    → (summed pixel (number_in a b c d r j) ≡ summed pixel (slice_index_or left (4 * r + j) (pos 0)))
+    × (summed pixel (number_in a b c d r (4 + j)) ≡ summed pixel (slice_index_or right (4 * r + j) (pos 0)))
+
+-- numbers that a sum of i16 with a byte holds
+abbrev pub AreLow : List ℤ → Type 0
+AreLow xs = (j : ℕ) → j < 8 → unsigned_abs (lane xs j) ≤ 8800

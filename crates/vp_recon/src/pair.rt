@@ -1,0 +1,132 @@
+//! Residues added to two subblocks side by side: four rows of eight pixels.
+
+ghost use Rattle.std.specs.Prelude.{◌≡◌, ℕ, ◌+◌, ◌*◌, ◌<◌, ◌≤◌, ◌^◌, ℤ, pos, List, [], ◌∷◌, replicate, length, slice_index, slice_index_or, unsigned_abs};
+ghost use Rattle.vp_base.specs.Raster.{pixel, with_run};
+ghost use Rattle.vp_base.specs.Block.{with_block};
+ghost use Rattle.vp_base.specs.Image.{plane_of, with_plane};
+ghost use Rattle.vp_lanes.specs.Lane.{lane};
+ghost use Rattle.vp_transform.specs.Transform.{idct};
+ghost use Rattle.vp_recon.specs.Pairs.{with_both_added, number_in, AreRows, AreLow};
+ghost use Rattle.vp_recon.specs.Rebuilt.{summed};
+
+use std::simd::prelude::*;
+use vp_base::{Picture, Plane};
+use vp_lanes::{load8, store8};
+use vp_transform::idct_of_first;
+
+/// What a residue whose coefficients but the first are 0 adds to each pixel.
+pub(crate) fn even_number(first: i64) -> i16
+    requires { unsigned_abs first ≤ 2 ^ 40 }
+    ensures value { (i pixel : ℕ) → i < 16 → pixel ≤ 255 → summed pixel result ≡ summed pixel (slice_index_or (idct (first ∷ replicate 15 (pos 0))) i (pos 0)) }
+    ensures within { unsigned_abs result ≤ 255 }
+{
+    idct_of_first(first).clamp(-255, 255) as i16
+}
+
+/// A row of two subblocks, of one number each.
+pub(crate) fn even_row(left: i16, right: i16) -> i16x8
+    ensures left { (j : ℕ) → j < 4 → lane result j ≡ left }
+    ensures right { (j : ℕ) → j < 4 → lane result (4 + j) ≡ right }
+{
+    i16x8::splat(left).shuffle::<8>(i16x8::splat(right), [0, 1, 2, 3, 8, 9, 10, 11])
+}
+
+/// Each pixel with its number.
+fn added(pixels: u8x8, numbers: i16x8) -> u8x8
+    requires { AreLow numbers }
+    ensures { (j : ℕ) → j < 8 → slice_index result j ≡ summed (slice_index pixels j) (lane numbers j) }
+{
+    (pixels.cast::<i16>() + numbers)
+        .simd_clamp(i16x8::splat(0), i16x8::splat(255))
+        .cast::<u8>()
+}
+
+/// The eight pixels of row `y` from column `x` on, each with its number.
+fn added_row(plane: &Plane, x: usize, y: usize, numbers: i16x8) -> u8x8
+    requires columns { x + 8 ≤ plane.now.width }
+    requires row { y < plane.now.height }
+    requires low { AreLow numbers }
+    ensures value { (j : ℕ) → j < 8 → slice_index result j ≡ summed (pixel plane.now (x + j) y) (lane numbers j) }
+    ensures bytes { (j : ℕ) → j < 8 → pixel plane.now (x + j) y ≤ 255 }
+{
+    added(load8(plane.row(y), x), numbers)
+}
+
+/// Four rows of pixels from row `y` on, each pixel with its number.
+fn added_rows(
+    plane: &Plane,
+    x: usize,
+    y: usize,
+    a: i16x8,
+    b: i16x8,
+    c: i16x8,
+    d: i16x8,
+) -> [u8x8; 4]
+    requires columns { x + 8 ≤ plane.now.width }
+    requires rows { y + 4 ≤ plane.now.height }
+    requires first { AreLow a }
+    requires second { AreLow b }
+    requires third { AreLow c }
+    requires fourth { AreLow d }
+    ensures value { (r : ℕ) → r < 4 → (j : ℕ) → j < 8 → slice_index (slice_index_or result r []) j ≡ summed (pixel plane.now (x + j) (y + r)) (number_in a b c d r j) }
+    ensures bytes { (r : ℕ) → r < 4 → (j : ℕ) → j < 8 → pixel plane.now (x + j) (y + r) ≤ 255 }
+{
+    let _height = plane.height();
+    [
+        added_row(plane, x, y, a),
+        added_row(plane, x, y + 1, b),
+        added_row(plane, x, y + 2, c),
+        added_row(plane, x, y + 3, d),
+    ]
+}
+
+/// Writes eight pixels from column `x` of row `y` on.
+fn write8(picture: &mut Picture, k: usize, x: usize, y: usize, row: u8x8)
+    requires plane { k < 3 }
+    requires columns { x + 8 ≤ (plane_of picture.old k).width }
+    requires row { y < (plane_of picture.old k).height }
+    ensures value { picture.new ≡ with_plane picture.old k (with_run (plane_of picture.old k) x y row) }
+    ensures long { length row ≡ 8 }
+{
+    let _width = picture.plane(k).width();
+    store8(picture.row_mut(k, y), x, row);
+}
+
+/// Writes four rows of eight pixels, the first from column `x` of row `y` on.
+fn write_rows(picture: &mut Picture, k: usize, x: usize, y: usize, rows: [u8x8; 4])
+    requires plane { k < 3 }
+    requires columns { x + 8 ≤ (plane_of picture.old k).width }
+    requires rows { y + 4 ≤ (plane_of picture.old k).height }
+    ensures { picture.new ≡ with_plane picture.old k (with_block (plane_of picture.old k) x y 8 4 (λ r c. slice_index (slice_index_or rows r []) c)) }
+{
+    let _height = picture.plane(k).height();
+    write8(picture, k, x, y, rows[0]);
+    write8(picture, k, x, y + 1, rows[1]);
+    write8(picture, k, x, y + 2, rows[2]);
+    write8(picture, k, x, y + 3, rows[3]);
+}
+
+/// Adds to the subblock at column `x` of row `y` and to the one to the right of it their residues, given row by row.
+pub(crate) fn add_rows(
+    picture: &mut Picture,
+    plane: usize,
+    x: usize,
+    y: usize,
+    a: i16x8,
+    b: i16x8,
+    c: i16x8,
+    d: i16x8,
+)
+    requires plane { plane < 3 }
+    requires columns { x + 8 ≤ (plane_of picture.old plane).width }
+    requires rows { y + 4 ≤ (plane_of picture.old plane).height }
+    requires first { AreLow a }
+    requires second { AreLow b }
+    requires third { AreLow c }
+    requires fourth { AreLow d }
+    ensures { (left right : List ℤ) → AreRows a b c d left right
+        → picture.new ≡ with_plane picture.old plane (with_both_added (plane_of picture.old plane) x y left right) }
+{
+    let rows = added_rows(picture.plane(plane), x, y, a, b, c, d);
+    write_rows(picture, plane, x, y, rows);
+}

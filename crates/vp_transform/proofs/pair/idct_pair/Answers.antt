@@ -1,0 +1,99 @@
+use Rattle.std.proofs.Common.{◌∙◌, arith}
+use Rattle.vp_transform.proofs.Turning.{pair, read-within, even-within, odd-within, turned_pair, crossed_pair, rounded_pair, row_of_both, rows_are}
+use Rattle.vp_transform.proofs.pair.idct_pair.Goals as goal
+
+pub turn-requires-clause-even : goal.turn-requires-clause-even
+turn-requires-clause-even c =
+    let x = c.args.a.now in
+    let y = c.args.b.now in
+    let read = pair 2200 c.by_turns.result.0 c.by_turns.result.1 c.by_turns.result.2 c.by_turns.result.3 (omega arith) c.by_turns.ensures.even c.by_turns.ensures.odd (read-within 2200 x c.requires.first) (read-within 2200 y c.requires.second) in
+    even-within 8466 (omega arith) read
+
+pub turn-requires-clause-odd : goal.turn-requires-clause-odd
+turn-requires-clause-odd c =
+    let x = c.args.a.now in
+    let y = c.args.b.now in
+    let read = pair 2200 c.by_turns.result.0 c.by_turns.result.1 c.by_turns.result.2 c.by_turns.result.3 (omega arith) c.by_turns.ensures.even c.by_turns.ensures.odd (read-within 2200 x c.requires.first) (read-within 2200 y c.requires.second) in
+    odd-within 8466 (omega arith) read
+
+pub turn-requires-2-clause-even : goal.turn-requires-2-clause-even
+turn-requires-2-clause-even c =
+    let x = c.args.a.now in
+    let y = c.args.b.now in
+    let read = pair 2200 c.by_turns.result.0 c.by_turns.result.1 c.by_turns.result.2 c.by_turns.result.3 (omega arith) c.by_turns.ensures.even c.by_turns.ensures.odd (read-within 2200 x c.requires.first) (read-within 2200 y c.requires.second) in
+    let once = turned_pair read c.turn.result.0 c.turn.result.1 c.turn.result.2 c.turn.result.3 1191 675 (omega arith) (omega arith) (omega arith) c.turn.ensures.even c.turn.ensures.odd in
+    let crossed = crossed_pair once c.across.result.0 c.across.result.1 c.across.result.2 c.across.result.3 (omega arith) c.across.ensures.even c.across.ensures.odd in
+    even-within 8466 (omega arith) crossed
+
+pub turn-requires-2-clause-odd : goal.turn-requires-2-clause-odd
+turn-requires-2-clause-odd c =
+    let x = c.args.a.now in
+    let y = c.args.b.now in
+    let read = pair 2200 c.by_turns.result.0 c.by_turns.result.1 c.by_turns.result.2 c.by_turns.result.3 (omega arith) c.by_turns.ensures.even c.by_turns.ensures.odd (read-within 2200 x c.requires.first) (read-within 2200 y c.requires.second) in
+    let once = turned_pair read c.turn.result.0 c.turn.result.1 c.turn.result.2 c.turn.result.3 1191 675 (omega arith) (omega arith) (omega arith) c.turn.ensures.even c.turn.ensures.odd in
+    let crossed = crossed_pair once c.across.result.0 c.across.result.1 c.across.result.2 c.across.result.3 (omega arith) c.across.ensures.even c.across.ensures.odd in
+    odd-within 8466 (omega arith) crossed
+
+pub round-requires-clause-even : goal.round-requires-clause-even
+round-requires-clause-even c =
+    let x = c.args.a.now in
+    let y = c.args.b.now in
+    let read = pair 2200 c.by_turns.result.0 c.by_turns.result.1 c.by_turns.result.2 c.by_turns.result.3 (omega arith) c.by_turns.ensures.even c.by_turns.ensures.odd (read-within 2200 x c.requires.first) (read-within 2200 y c.requires.second) in
+    let once = turned_pair read c.turn.result.0 c.turn.result.1 c.turn.result.2 c.turn.result.3 1191 675 (omega arith) (omega arith) (omega arith) c.turn.ensures.even c.turn.ensures.odd in
+    let crossed = crossed_pair once c.across.result.0 c.across.result.1 c.across.result.2 c.across.result.3 (omega arith) c.across.ensures.even c.across.ensures.odd in
+    let twice = turned_pair crossed c.turn-2.result.0 c.turn-2.result.1 c.turn-2.result.2 c.turn-2.result.3 4582 2596 (omega arith) (omega arith) (omega arith) c.turn-2.ensures.even c.turn-2.ensures.odd in
+    even-within 32763 (omega arith) twice
+
+pub round-requires-clause-odd : goal.round-requires-clause-odd
+round-requires-clause-odd c =
+    let x = c.args.a.now in
+    let y = c.args.b.now in
+    let read = pair 2200 c.by_turns.result.0 c.by_turns.result.1 c.by_turns.result.2 c.by_turns.result.3 (omega arith) c.by_turns.ensures.even c.by_turns.ensures.odd (read-within 2200 x c.requires.first) (read-within 2200 y c.requires.second) in
+    let once = turned_pair read c.turn.result.0 c.turn.result.1 c.turn.result.2 c.turn.result.3 1191 675 (omega arith) (omega arith) (omega arith) c.turn.ensures.even c.turn.ensures.odd in
+    let crossed = crossed_pair once c.across.result.0 c.across.result.1 c.across.result.2 c.across.result.3 (omega arith) c.across.ensures.even c.across.ensures.odd in
+    let twice = turned_pair crossed c.turn-2.result.0 c.turn-2.result.1 c.turn-2.result.2 c.turn-2.result.3 4582 2596 (omega arith) (omega arith) (omega arith) c.turn-2.ensures.even c.turn-2.ensures.odd in
+    odd-within 32763 (omega arith) twice
+
+pub returns-clause-top : goal.returns-clause-top
+returns-clause-top c =
+    let x = c.args.a.now in
+    let y = c.args.b.now in
+    let read = pair 2200 c.by_turns.result.0 c.by_turns.result.1 c.by_turns.result.2 c.by_turns.result.3 (omega arith) c.by_turns.ensures.even c.by_turns.ensures.odd (read-within 2200 x c.requires.first) (read-within 2200 y c.requires.second) in
+    let once = turned_pair read c.turn.result.0 c.turn.result.1 c.turn.result.2 c.turn.result.3 1191 675 (omega arith) (omega arith) (omega arith) c.turn.ensures.even c.turn.ensures.odd in
+    let crossed = crossed_pair once c.across.result.0 c.across.result.1 c.across.result.2 c.across.result.3 (omega arith) c.across.ensures.even c.across.ensures.odd in
+    let twice = turned_pair crossed c.turn-2.result.0 c.turn-2.result.1 c.turn-2.result.2 c.turn-2.result.3 4582 2596 (omega arith) (omega arith) (omega arith) c.turn-2.ensures.even c.turn-2.ensures.odd in
+    let done = rounded_pair 4072 twice c.round.result.0 c.round.result.1 c.round.result.2 c.round.result.3 (omega arith) c.round.ensures.even c.round.ensures.odd in
+    c.side_by_side.ensures.top ∙ (row_of_both 0 done ∙ rows_are 0 x y)
+
+pub returns-clause-upper : goal.returns-clause-upper
+returns-clause-upper c =
+    let x = c.args.a.now in
+    let y = c.args.b.now in
+    let read = pair 2200 c.by_turns.result.0 c.by_turns.result.1 c.by_turns.result.2 c.by_turns.result.3 (omega arith) c.by_turns.ensures.even c.by_turns.ensures.odd (read-within 2200 x c.requires.first) (read-within 2200 y c.requires.second) in
+    let once = turned_pair read c.turn.result.0 c.turn.result.1 c.turn.result.2 c.turn.result.3 1191 675 (omega arith) (omega arith) (omega arith) c.turn.ensures.even c.turn.ensures.odd in
+    let crossed = crossed_pair once c.across.result.0 c.across.result.1 c.across.result.2 c.across.result.3 (omega arith) c.across.ensures.even c.across.ensures.odd in
+    let twice = turned_pair crossed c.turn-2.result.0 c.turn-2.result.1 c.turn-2.result.2 c.turn-2.result.3 4582 2596 (omega arith) (omega arith) (omega arith) c.turn-2.ensures.even c.turn-2.ensures.odd in
+    let done = rounded_pair 4072 twice c.round.result.0 c.round.result.1 c.round.result.2 c.round.result.3 (omega arith) c.round.ensures.even c.round.ensures.odd in
+    c.side_by_side.ensures.upper ∙ (row_of_both 1 done ∙ rows_are 1 x y)
+
+pub returns-clause-lower : goal.returns-clause-lower
+returns-clause-lower c =
+    let x = c.args.a.now in
+    let y = c.args.b.now in
+    let read = pair 2200 c.by_turns.result.0 c.by_turns.result.1 c.by_turns.result.2 c.by_turns.result.3 (omega arith) c.by_turns.ensures.even c.by_turns.ensures.odd (read-within 2200 x c.requires.first) (read-within 2200 y c.requires.second) in
+    let once = turned_pair read c.turn.result.0 c.turn.result.1 c.turn.result.2 c.turn.result.3 1191 675 (omega arith) (omega arith) (omega arith) c.turn.ensures.even c.turn.ensures.odd in
+    let crossed = crossed_pair once c.across.result.0 c.across.result.1 c.across.result.2 c.across.result.3 (omega arith) c.across.ensures.even c.across.ensures.odd in
+    let twice = turned_pair crossed c.turn-2.result.0 c.turn-2.result.1 c.turn-2.result.2 c.turn-2.result.3 4582 2596 (omega arith) (omega arith) (omega arith) c.turn-2.ensures.even c.turn-2.ensures.odd in
+    let done = rounded_pair 4072 twice c.round.result.0 c.round.result.1 c.round.result.2 c.round.result.3 (omega arith) c.round.ensures.even c.round.ensures.odd in
+    c.side_by_side.ensures.lower ∙ (row_of_both 2 done ∙ rows_are 2 x y)
+
+pub returns-clause-bottom : goal.returns-clause-bottom
+returns-clause-bottom c =
+    let x = c.args.a.now in
+    let y = c.args.b.now in
+    let read = pair 2200 c.by_turns.result.0 c.by_turns.result.1 c.by_turns.result.2 c.by_turns.result.3 (omega arith) c.by_turns.ensures.even c.by_turns.ensures.odd (read-within 2200 x c.requires.first) (read-within 2200 y c.requires.second) in
+    let once = turned_pair read c.turn.result.0 c.turn.result.1 c.turn.result.2 c.turn.result.3 1191 675 (omega arith) (omega arith) (omega arith) c.turn.ensures.even c.turn.ensures.odd in
+    let crossed = crossed_pair once c.across.result.0 c.across.result.1 c.across.result.2 c.across.result.3 (omega arith) c.across.ensures.even c.across.ensures.odd in
+    let twice = turned_pair crossed c.turn-2.result.0 c.turn-2.result.1 c.turn-2.result.2 c.turn-2.result.3 4582 2596 (omega arith) (omega arith) (omega arith) c.turn-2.ensures.even c.turn-2.ensures.odd in
+    let done = rounded_pair 4072 twice c.round.result.0 c.round.result.1 c.round.result.2 c.round.result.3 (omega arith) c.round.ensures.even c.round.ensures.odd in
+    c.side_by_side.ensures.bottom ∙ (row_of_both 3 done ∙ rows_are 3 x y)
