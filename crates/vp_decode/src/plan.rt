@@ -252,6 +252,19 @@ impl<'a> Plan<'a> {
         rebuild_macroblock(picture, place, source, tokens, &self.factors(place));
     }
 
+    /// Rebuilds the macroblock at a place, which has no tokens, as one that has. Out of line, so that none are cleared
+    /// where a macroblock is only moved.
+    #[inline(never)]
+    fn rebuild_from_nothing(&self, place: Place, source: &Source, picture: &mut Picture)
+        requires place { Has self.now.maps.modes place }
+        requires source { source_of source.now ≡ source_at self.now place }
+        requires column { place.column < macroblocks picture.old.width }
+        requires row { place.row < macroblocks picture.old.height }
+        ensures { picture.new ≡ rebuilt (macroblock_at self.now place without_tokens) place picture.old }
+    {
+        self.rebuild(place, source, &Tokens::NONE, picture);
+    }
+
     /// Rebuilds the macroblock at a place, which has no tokens: one that moves is only moved.
     pub(crate) fn rebuild_without_tokens(
         &self,
@@ -266,7 +279,7 @@ impl<'a> Plan<'a> {
         ensures { picture.new ≡ rebuilt (macroblock_at self.now place without_tokens) place picture.old }
     {
         match source {
-            Source::Intra(_) => self.rebuild(place, source, &Tokens::NONE, picture),
+            Source::Intra(_) => self.rebuild_from_nothing(place, source, picture),
             Source::Inter {
                 motion,
                 reference,
