@@ -3,6 +3,7 @@
 use crate::command;
 use std::alloc::{AllocError, Global};
 use std::test::Fail;
+use std::{fs, io};
 use vp_base::Counted;
 
 /// The line of a source of 16 by 16 pixels, 30 pictures a second.
@@ -141,5 +142,47 @@ fn progress_is_told(rt: HostRuntime) -> Result<(), Fail> {
     let words = ["vp8", "encode", "--qi", "0", "--progress", "-", "-"];
     let (status, _, told) = run(&rt, &words, &bytes, b"frame 10\nframes 11 error 0\n");
     assert_eq!(rt; (status, told), (0, true));
+    Ok(())
+}
+
+/// What comes of encoding a file of one picture into another file, and of decoding that one into a third, which both write
+/// nothing else: their statuses, whether just this is told, and what the third file holds.
+fn encode_files(
+    rt: &HostRuntime,
+    source: &[u8],
+    told: &[u8],
+) -> io::Result<(u8, u8, bool, Vec<u8>)> {
+    fs::write(rt, "source.y4m", source)?;
+    let encode = ["vp8", "encode", "--qi", "0", "source.y4m", "packets.ivf"];
+    let (encoded, written, told) = run(rt, &encode, b"", told);
+    let decode = ["vp8", "decode", "--y4m", "packets.ivf", "back.y4m"];
+    let (decoded, more, quiet) = run(rt, &decode, b"", b"");
+    let is_quiet = told && quiet && written == 0 && more == 0;
+    Ok((encoded, decoded, is_quiet, fs::read(rt, "back.y4m")?))
+}
+
+#[test]
+fn files_are_encoded(rt: HostRuntime) -> Result<(), Fail> {
+    let bytes = source(rt.alloc(), 1)?;
+    let (encoded, decoded, is_quiet, back) = encode_files(&rt, &bytes, b"frames 1 error 0\n")?;
+    assert_eq!(rt; (encoded, decoded, is_quiet), (0, 0, true));
+    assert!(rt; back.as_slice() == bytes.as_slice());
+    Ok(())
+}
+
+/// What encoding a file into itself comes to, and what the file holds then.
+fn encode_into_itself(rt: &HostRuntime, source: &[u8]) -> io::Result<(u8, bool, Vec<u8>)> {
+    fs::write(rt, "itself.y4m", source)?;
+    let words = ["vp8", "encode", "itself.y4m", "itself.y4m"];
+    let (status, written, told) = run(rt, &words, b"", b"vp8: Device\n");
+    Ok((status, told && written == 0, fs::read(rt, "itself.y4m")?))
+}
+
+#[test]
+fn files_are_not_encoded_into_themselves(rt: HostRuntime) -> Result<(), Fail> {
+    let bytes = source(rt.alloc(), 1)?;
+    let (status, told, left) = encode_into_itself(&rt, &bytes)?;
+    assert_eq!(rt; (status, told), (1, true));
+    assert!(rt; left.as_slice() == bytes.as_slice());
     Ok(())
 }

@@ -83,6 +83,7 @@ fn carry_out<
 ) -> u8
     ensures status { result ≤ 2 }
     ensures usage { result ≡ 2 → (input.new ≡ input.old) × (output.new ≡ output.old) }
+    ensures nothing { plan.now ≡ Plan.Nothing → result ≡ 2 }
     ensures does { (asked : Asked) → IsPlanFor asked plan.now → Does asked result
         (read_side R.remaining input.old) (read_side R.remaining input.new)
         (written_side W.contents output.old) (written_side W.contents output.new) }

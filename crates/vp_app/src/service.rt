@@ -130,7 +130,7 @@ fn print_address<W: Write>(listener: &TcpListener, output: &mut Counted<W>) -> i
 }
 
 // A hub of the streams, which were fed nothing.
-fn new_hub(alloc: Global, service: &Service<'_>) -> Result<Hub, ServiceFault>
+pub(crate) fn new_hub(alloc: Global, service: &Service<'_>) -> Result<Hub, ServiceFault>
     ensures hub { IfOk result (λ hub. IsNewHub service.now.streams.items service.now.cache hub) }
     ensures names { result ≡ Err ServiceFault.Names → are_names (names_of service.now.streams.items) ≡ false }
 {
@@ -170,7 +170,7 @@ fn byte_list(alloc: Global, bytes: &[u8]) -> Result<ByteList, AllocError>
 }
 
 // Feeds each stream in turn.
-fn feed_all<H: Files + AllocGlobal, R: Read>(
+pub(crate) fn feed_all<H: Files + AllocGlobal, R: Read>(
     rt: &H,
     hub: &mut Hub,
     streams: &[Named<'_>],

@@ -2,7 +2,7 @@
 
 use crate::command;
 use crate::served::{Named, Service};
-use crate::service::serve_each;
+use crate::service::{feed_all, new_hub, serve_each};
 use crate::words::{Plan, read_words};
 use std::alloc::{AllocError, Global};
 use std::io::{Read, Write};
@@ -20,13 +20,24 @@ const FILE: [u8; 54] = [
     0x01, 0x2a, 0x10, 0, 0x10, 0,
 ];
 
-/// The status of the program with these words, and whether it tells just this on `errors`.
-fn run(rt: &HostRuntime, words: &[&str], told: &[u8]) -> (u8, bool) {
-    let mut input = Counted::new(FILE.as_slice());
+/// The status of the program with these words over an input, how many bytes of that are left, and whether it tells just
+/// this on `errors`.
+fn run_over(rt: &HostRuntime, words: &[&str], input: &[u8], told: &[u8]) -> (u8, usize, bool) {
+    let mut input = Counted::new(input);
     let mut output = Counted::new(Vec::new(rt.alloc()));
     let mut errors = Counted::new(Vec::new(rt.alloc()));
     let status = command(rt, words, &mut input, &mut output, &mut errors);
-    (status, errors.into_inner().as_slice() == told)
+    (
+        status,
+        input.into_inner().len(),
+        errors.into_inner().as_slice() == told,
+    )
+}
+
+/// The status and what is told with the file as the input.
+fn run(rt: &HostRuntime, words: &[&str], told: &[u8]) -> (u8, bool) {
+    let (status, _, is_told) = run_over(rt, words, FILE.as_slice(), told);
+    (status, is_told)
 }
 
 /// The same for `serve` over so many connections at no address.
@@ -55,6 +66,54 @@ fn files_are_fed(rt: HostRuntime) -> Result<(), Fail> {
     );
     assert_eq!(rt; serves(&rt, "0", "A=-", b"vp8: Names\n"), (1, true));
     assert_eq!(rt; serves(&rt, "1", "a=-", b"vp8: Device\n"), (1, true));
+    Ok(())
+}
+
+/// The same for two streams over no connection, and how many of the file's 54 bytes are left.
+fn serves_two(rt: &HostRuntime, first: &str, second: &str, told: &[u8]) -> (u8, usize, bool) {
+    let words = [
+        "vp8",
+        "serve",
+        "--listen",
+        "nowhere",
+        "--connections",
+        "0",
+        first,
+        second,
+    ];
+    run_over(rt, &words, FILE.as_slice(), told)
+}
+
+#[test]
+fn files_are_opened_in_turn(rt: HostRuntime) -> Result<(), Fail> {
+    let told = b"vp8: Device\n";
+    assert_eq!(rt;
+        serves_two(&rt, "a=-", "b=no/such/file", told),
+        (1, 0, true)
+    );
+    assert_eq!(rt;
+        serves_two(&rt, "b=no/such/file", "a=-", told),
+        (1, 54, true)
+    );
+    assert_eq!(rt; serves_two(&rt, "a=-", "b=-", b""), (0, 0, true));
+    Ok(())
+}
+
+#[test]
+fn names_are_told_before_files(rt: HostRuntime) -> Result<(), Fail> {
+    let told = b"vp8: Names\n";
+    assert_eq!(rt;
+        serves_two(&rt, "a=no/such/file", "A=-", told),
+        (1, 54, true)
+    );
+    assert_eq!(rt;
+        serves_two(&rt, "a=no/such/file", "a=-", told),
+        (1, 54, true)
+    );
+    assert_eq!(rt;
+        serves_two(&rt, "a=-", "=no/such/file", told),
+        (1, 54, true)
+    );
     Ok(())
 }
 
@@ -109,6 +168,80 @@ fn asked<'a>(alloc: Global, words: &'a [&'a str]) -> Option<Service<'a>> {
         Ok(Plan::Serve(service)) => Some(service),
         _ => None,
     }
+}
+
+// The file with an inter packet more, which changes nothing.
+const TWO: [u8; 69] = [
+    0x44, 0x4b, 0x49, 0x46, 0, 0, 0x20, 0, 0x56, 0x50, 0x38, 0x30, 0x10, 0, 0x10, 0, 0x1e, 0, 0, 0,
+    1, 0, 0, 0, 2, 0, 0, 0, 0, 0, 0, 0, 0x0a, 0, 0, 0, 0, 0, 0, 0, 0, 0, 0, 0, 0x10, 0, 0, 0x9d,
+    0x01, 0x2a, 0x10, 0, 0x10, 0, 3, 0, 0, 0, 1, 0, 0, 0, 0, 0, 0, 0, 0x11, 0, 0,
+];
+
+/// A hub of three streams: `a` of a file of two packets, `b` of the input, and `c` of what is left of that.
+fn fed_hub(rt: &HostRuntime) -> io::Result<Option<Hub>> {
+    fs::write(rt, "two.ivf", TWO.as_slice())?;
+    let words = [
+        "vp8",
+        "serve",
+        "--listen",
+        "nowhere",
+        "--connections",
+        "0",
+        "a=two.ivf",
+        "b=-",
+        "c=-",
+    ];
+    let Some(service) = asked(rt.alloc(), &words) else {
+        return Ok(None);
+    };
+    let Ok(mut hub) = new_hub(rt.alloc(), &service) else {
+        return Ok(None);
+    };
+    let mut input = Counted::new(FILE.as_slice());
+    match feed_all(rt, &mut hub, &service.streams, &mut input) {
+        Ok(()) => Ok(Some(hub)),
+        Err(_) => Ok(None),
+    }
+}
+
+/// Whether a connection that sends this is answered with just that.
+fn is_replied(
+    alloc: Global,
+    hub: &mut Hub,
+    sent: &[u8],
+    wanted: &[u8],
+) -> Result<bool, AllocError> {
+    let _ = hub.step(&Event::Open(0));
+    let answer = hub.step(&Event::Bytes(0, ByteList::from_vec(sent.to_vec(alloc)?)));
+    let _ = hub.step(&Event::Shut(0));
+    Ok(match answer {
+        Ok(reply) => reply.bytes.as_slice() == wanted,
+        Err(_) => false,
+    })
+}
+
+/// What is known of the three streams.
+const KNOWN: &[u8] =
+    b"HTTP/1.1 200 OK\r\nContent-Type: text/plain\r\nContent-Length: 43\r\n\r\nstate ended\npackets 2\nsize 16x16\nrate 30/1\nHTTP/1.1 200 OK\r\nContent-Type: text/plain\r\nContent-Length: 43\r\n\r\nstate ended\npackets 1\nsize 16x16\nrate 30/1\nHTTP/1.1 200 OK\r\nContent-Type: text/plain\r\nContent-Length: 21\r\n\r\nstate Torn\npackets 0\n";
+
+#[test]
+fn named_files_are_fed(rt: HostRuntime) -> Result<(), Fail> {
+    let alloc = rt.alloc();
+    let Some(mut hub) = fed_hub(&rt)? else {
+        return Err(Fail::new("the files aren't fed"));
+    };
+    let asks =
+        b"GET /s/a/info HTTP/1.1\r\nHost: x\r\n\r\nGET /s/b/info HTTP/1.1\r\nHost: x\r\n\r\nGET /s/c/info HTTP/1.1\r\nHost: x\r\n\r\n";
+    assert!(rt; is_replied(alloc, &mut hub, asks, KNOWN)?);
+    let asks = b"GET /s/b/frame/0 HTTP/1.1\r\nHost: x\r\nConnection: close\r\n\r\n";
+    let wanted = last_reply(alloc)?;
+    assert!(rt; is_replied(alloc, &mut hub, asks, &wanted)?);
+    let mut wanted = wanted;
+    wanted.truncate(wanted.len().saturating_sub(384));
+    wanted.extend_from_slice(&[128; 384])?;
+    let asks = b"GET /s/a/frame/1 HTTP/1.1\r\nHost: x\r\nConnection: close\r\n\r\n";
+    assert!(rt; is_replied(alloc, &mut hub, asks, &wanted)?);
+    Ok(())
 }
 
 #[test]
@@ -179,6 +312,29 @@ fn files_are_not_decoded_into_themselves(rt: HostRuntime) -> Result<(), Fail> {
     Ok(())
 }
 
+// The file, a packet that is too short, and a key packet of 17 by 1 pixels.
+const OTHER_SIZE: [u8; 90] = [
+    0x44, 0x4b, 0x49, 0x46, 0, 0, 0x20, 0, 0x56, 0x50, 0x38, 0x30, 0x10, 0, 0x10, 0, 0x1e, 0, 0, 0,
+    1, 0, 0, 0, 3, 0, 0, 0, 0, 0, 0, 0, 0x0a, 0, 0, 0, 0, 0, 0, 0, 0, 0, 0, 0, 0x10, 0, 0, 0x9d,
+    0x01, 0x2a, 0x10, 0, 0x10, 0, 2, 0, 0, 0, 1, 0, 0, 0, 0, 0, 0, 0, 0x11, 0, 0x0a, 0, 0, 0, 2, 0,
+    0, 0, 0, 0, 0, 0, 0x10, 0, 0, 0x9d, 0x01, 0x2a, 0x11, 0, 0x01, 0,
+];
+
+/// A fault that ends the work is told without those of the packets before it.
+#[test]
+fn the_fault_that_ends_is_told_alone(rt: HostRuntime) -> Result<(), Fail> {
+    let y4m = ["vp8", "decode", "--y4m", "-", "-"];
+    let told = b"vp8: SizeChange\n";
+    assert_eq!(rt; run_over(&rt, &y4m, &OTHER_SIZE, told), (1, 0, true));
+    let told = b"vp8: packet 1: Truncated\n";
+    assert_eq!(rt; run_over(&rt, &y4m, &OTHER_SIZE[..68], told), (1, 0, true));
+    assert_eq!(rt;
+        run_over(&rt, &y4m, &OTHER_SIZE[..89], b"vp8: Torn\n"),
+        (1, 0, true)
+    );
+    Ok(())
+}
+
 fn hub_of_one(alloc: Global) -> Result<Option<Hub>, AllocError> {
     let mut names = Vec::new(alloc);
     names.push(ByteList::from_vec(b"a".to_vec(alloc)?))?;
@@ -225,5 +381,46 @@ fn one_connection_over_tcp(rt: HostRuntime) -> Result<(), Fail> {
         return Err(Fail::new("there is no hub"));
     };
     assert!(rt; ask(&rt, &mut hub)?.as_slice() == wanted.as_slice());
+    Ok(())
+}
+
+/// What asks for the picture of packet 0, and closes.
+const ASKS: &[u8] = b"GET /s/a/frame/0 HTTP/1.1\r\nHost: x\r\nConnection: close\r\n\r\n";
+
+/// The request is sent, and nothing behind it.
+fn asks_and_ends(client: &mut TcpStream) -> io::Result<()> {
+    client.write_all(ASKS)?;
+    client.shutdown(Shutdown::Write)
+}
+
+/// What comes of two connections that send the same, where the hub has the first one's number already: whether each was
+/// served to its end, what is told, and what each was replied.
+fn ask_twice(rt: &HostRuntime, hub: &mut Hub) -> io::Result<(bool, Vec<u8>, Vec<u8>, Vec<u8>)> {
+    let listener = TcpListener::bind(rt, "127.0.0.1:0")?;
+    let mut first = TcpStream::connect(rt, listener.local_addr()?)?;
+    let mut second = TcpStream::connect(rt, listener.local_addr()?)?;
+    asks_and_ends(&mut first)?;
+    asks_and_ends(&mut second)?;
+    let _ = hub.step(&Event::Open(0));
+    let mut errors = Counted::new(Vec::new(rt.alloc()));
+    let well = serve_each(hub, &listener, 2, &mut errors);
+    let mut refused = Vec::new(rt.alloc());
+    first.read_to_end(&mut refused)?;
+    let mut served = Vec::new(rt.alloc());
+    second.read_to_end(&mut served)?;
+    Ok((well, errors.into_inner(), refused, served))
+}
+
+#[test]
+fn a_connection_behind_a_refused_one_is_served(rt: HostRuntime) -> Result<(), Fail> {
+    let wanted = last_reply(rt.alloc())?;
+    let Some(mut hub) = hub_of_one(rt.alloc())? else {
+        return Err(Fail::new("there is no hub"));
+    };
+    let (well, told, refused, served) = ask_twice(&rt, &mut hub)?;
+    assert!(rt; !well);
+    assert!(rt; told.as_slice() == b"vp8: AlreadyOpen\n".as_slice());
+    assert!(rt; refused.is_empty());
+    assert!(rt; served.as_slice() == wanted.as_slice());
     Ok(())
 }
