@@ -10,10 +10,15 @@ use Rattle.vp_base.specs.Block.{IsWhole}
 use Rattle.vp_base.specs.Image.{Image, plane_of, with_plane}
 use Rattle.vp_base.proofs.ImageLemmas.{plane_of-with_plane, with_plane-plane_of, with_plane-with_plane}
 use Rattle.vp_base.proofs.BlockLemmas.{get_or-overlay_inside, get_or-overlay_below, get_or-overlay_above, get_or-row_of}
-use Rattle.vp8_c.specs.Rows.{AreRows, AreRowsOf, HoldsRows, ReadsPlane, byte_at}
+use Rattle.vp8_c.specs.Planes.{AreRows, AreRowsOf, HoldsRows, Planes, ReadsPlane, byte_at, colour_layout, luma_layout}
+use Rattle.vp8_c.specs.declared.planes.Layout.{Layout}
+
+-- so many columns and rows, a stride apart
+abbrev pub laid : ℕ → ℕ → ℕ → Layout
+laid width height stride = record { width = width; height = height; stride = stride }
 
 -- no row is written
-pub holds_none : (width stride : ℕ) (at : ℕ → ℕ → ℕ) (bytes : List ℕ) → HoldsRows width 0 stride at bytes bytes
+pub holds_none : (width stride : ℕ) (at : ℕ → ℕ → ℕ) (bytes : List ℕ) → HoldsRows (laid width 0 stride) at bytes bytes
 holds_none width stride at bytes = record { rows = λ x y within below. absurd (omega arith); others = λ i within none. refl }
 
 -- a row lies before the next one
@@ -21,9 +26,9 @@ row_before : (stride x y k : ℕ) → x < stride → y < k → y * stride + x < 
 row_before stride x y k within before = grind (arith, rows)
 
 -- a row more
-pub holds_more : (width y stride : ℕ) (at : ℕ → ℕ → ℕ) (before bytes run : List ℕ) → HoldsRows width y stride at before bytes → length bytes ≡ length before
+pub holds_more : (width y stride : ℕ) (at : ℕ → ℕ → ℕ) (before bytes run : List ℕ) → HoldsRows (laid width y stride) at before bytes → length bytes ≡ length before
     → width ≤ stride → length run ≡ width → y * stride + width ≤ length bytes → ((x : ℕ) → x < width → get_or run x 0 ≡ at x y)
-    → HoldsRows width (y + 1) stride at before (overlay bytes (y * stride) run)
+    → HoldsRows (laid width (y + 1) stride) at before (overlay bytes (y * stride) run)
 holds_more width y stride at before bytes run so_far len apart long fits is =
     let fit : y * stride + length run ≤ length bytes = omega arith in
     record {
@@ -59,7 +64,7 @@ ends_within width height stride len y fits below =
 -- ---- rows read into a plane
 
 -- no row is read
-pub read_none : (width stride : ℕ) (bytes : List ℕ) (k : ℕ) (p : Image) → ReadsPlane width 0 stride bytes k p p
+pub read_none : (width stride : ℕ) (bytes : List ℕ) (k : ℕ) (p : Image) → ReadsPlane (laid width 0 stride) bytes k p p
 read_none width stride bytes k p = record {
   rows = holds_none width (plane_of p k).width (byte_at stride bytes) (plane_of p k).pixels;
   columns_is = refl;
@@ -79,10 +84,10 @@ row_within : (w h width y : ℕ) → width ≤ w → y < h → y * w + width ≤
 row_within w h width y wide below = let step : y * w + w ≤ h * w = grind (arith, rows) in omega arith
 
 -- a row more
-pub read_more : (old at new : Image) (k width y stride : ℕ) (bytes run : List ℕ) → ReadsPlane width y stride bytes k old at
+pub read_more : (old at new : Image) (k width y stride : ℕ) (bytes run : List ℕ) → ReadsPlane (laid width y stride) bytes k old at
     → new ≡ with_plane at k (with_run (plane_of at k) 0 y run) → IsWhole (plane_of old k) → IsWhole (plane_of at k)
     → width ≤ (plane_of old k).width → y < (plane_of old k).height → length run ≡ width
-    → ((x : ℕ) → x < width → get_or run x 0 ≡ byte_at stride bytes x y) → ReadsPlane width (y + 1) stride bytes k old new
+    → ((x : ℕ) → x < width → get_or run x 0 ≡ byte_at stride bytes x y) → ReadsPlane (laid width (y + 1) stride) bytes k old new
 read_more old at new k width y stride bytes run so_far is whole whole_at wide below long values =
     let w : ℕ = (plane_of old k).width in let h : ℕ = (plane_of old k).height in let here : Raster = plane_of at k in
     let q : plane_of new k ≡ with_run here 0 y run = ap (λ (p : Image). plane_of p k) is ∙ plane_of-with_plane at k (with_run here 0 y run) in
@@ -91,9 +96,9 @@ read_more old at new k width y stride bytes run so_far is whole whole_at wide be
     let room : y * w + width ≤ h * w = row_within w h width y wide below in
     let place_is : y * w ≡ y * here.width + 0 = ap (λ (n : ℕ). y * n) (sym so_far.columns_is) ∙ (let t : y * here.width ≡ y * here.width + 0 = omega arith in t) in
     let e : overlay here.pixels (y * w) run ≡ (plane_of new k).pixels = ap (λ (j : ℕ). overlay here.pixels j run) place_is ∙ ap (λ (p : Raster). p.pixels) (sym q) in
-    let more : HoldsRows width (y + 1) w (byte_at stride bytes) (plane_of old k).pixels (overlay here.pixels (y * w) run) =
+    let more : HoldsRows (laid width (y + 1) w) (byte_at stride bytes) (plane_of old k).pixels (overlay here.pixels (y * w) run) =
     holds_more width y w (byte_at stride bytes) (plane_of old k).pixels here.pixels run so_far.rows same wide long (let l : length here.pixels ≡ h * w = whole_at ∙ area in omega arith) values in
-    let P : List ℕ → Type 0 = λ ns. HoldsRows width (y + 1) w (byte_at stride bytes) (plane_of old k).pixels ns in
+    let P : List ℕ → Type 0 = λ ns. HoldsRows (laid width (y + 1) w) (byte_at stride bytes) (plane_of old k).pixels ns in
     record {
       rows = subst P e more;
       columns_is = ap (λ (p : Raster). p.width) q ∙ so_far.columns_is;
@@ -103,25 +108,28 @@ read_more old at new k width y stride bytes run so_far is whole whole_at wide be
     }
 
 -- what was read, by columns and rows
-pub read_is : (width height stride : ℕ) (bytes : List ℕ) (k : ℕ) (old new : Image) → ReadsPlane width height stride bytes k old new
-    → AreRows width height stride bytes (pixel (plane_of new k))
-read_is width height stride bytes k old new reads x y within below =
+pub read_is : (l : Layout) (bytes : List ℕ) (k : ℕ) (old new : Image) → ReadsPlane l bytes k old new → AreRows l bytes (pixel (plane_of new k))
+read_is l bytes k old new reads x y within below =
     ap (λ (w : ℕ). get_or (plane_of new k).pixels (y * w + x) 0) reads.columns_is ∙ reads.rows.rows x y within below
 
 -- three planes
-pub all_read : (width height : ℕ) (y : List ℕ) (y_stride : ℕ) (u : List ℕ) (u_stride : ℕ) (v : List ℕ) (v_stride : ℕ) (old a b new : Image)
-    → old.width ≡ width → old.height ≡ height → ReadsPlane width height y_stride y 0 old a
-    → ReadsPlane ((width + 1) / 2) ((height + 1) / 2) u_stride u 1 a b → ReadsPlane ((width + 1) / 2) ((height + 1) / 2) v_stride v 2 b new
-    → AreRowsOf width height y y_stride u u_stride v v_stride new
-all_read width height y y_stride u u_stride v v_stride old a b new wide high first second third =
+pub all_read : (width height : ℕ) (planes : Planes) (old a b new : Image) → old.width ≡ width → old.height ≡ height
+    → ReadsPlane (luma_layout width height planes.strides.y) planes.y 0 old a
+    → ReadsPlane (colour_layout width height planes.strides.u) planes.u 1 a b
+    → ReadsPlane (colour_layout width height planes.strides.v) planes.v 2 b new
+    → AreRowsOf width height planes new
+all_read width height planes old a b new wide high first second third =
     let luma : new.luma ≡ a.luma = ap (λ (p : Image). p.luma) third.others ∙ ap (λ (p : Image). p.luma) second.others in
     let of_u : new.u ≡ b.u = ap (λ (p : Image). p.u) third.others in
-    let L : Raster → Type 0 = λ r. AreRows width height y_stride y (pixel r) in
-    let U : Raster → Type 0 = λ r. AreRows ((width + 1) / 2) ((height + 1) / 2) u_stride u (pixel r) in
+    let Y : Layout = luma_layout width height planes.strides.y in
+    let U : Layout = colour_layout width height planes.strides.u in
+    let V : Layout = colour_layout width height planes.strides.v in
+    let AreLuma : Raster → Type 0 = λ r. AreRows Y planes.y (pixel r) in
+    let AreU : Raster → Type 0 = λ r. AreRows U planes.u (pixel r) in
     record {
       width_is = ap (λ (p : Image). p.width) third.others ∙ ap (λ (p : Image). p.width) second.others ∙ ap (λ (p : Image). p.width) first.others ∙ wide;
       height_is = ap (λ (p : Image). p.height) third.others ∙ ap (λ (p : Image). p.height) second.others ∙ ap (λ (p : Image). p.height) first.others ∙ high;
-      luma = subst L (sym luma) (read_is width height y_stride y 0 old a first);
-      u_rows = subst U (sym of_u) (read_is ((width + 1) / 2) ((height + 1) / 2) u_stride u 1 a b second);
-      v_rows = read_is ((width + 1) / 2) ((height + 1) / 2) v_stride v 2 b new third;
+      y = subst AreLuma (sym luma) (read_is Y planes.y 0 old a first);
+      u = subst AreU (sym of_u) (read_is U planes.u 1 a b second);
+      v = read_is V planes.v 2 b new third;
     }

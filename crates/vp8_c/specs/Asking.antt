@@ -1,14 +1,20 @@
 -- The file that a handle leads to, and what was asked of it.
-use Rattle.std.specs.Prelude.{◌≡◌, ℕ, List, Option, Some, None, option_and_then}
+use Rattle.std.specs.Prelude.{◌≡◌, ◌≢◌, ◌<◌, ℕ, List, length, Option, Some, None, Result, Err, ok_or, option_and_then}
+use Rattle.vp_ivf.specs.declared.packet.IvfHead.{IvfHead}
 use Rattle.vp_ivf.specs.Reader.{finish_answer}
 use Rattle.vp_stream.specs.Answers.{reading_of}
-use Rattle.vp_stream.specs.Seeking.{Told, told}
+use Rattle.vp_stream.specs.Seeking.{Told, answer_at, told}
 use Rattle.vp_stream.specs.Seeking as seeking
+use Rattle.vp8_c.specs.declared.status.TheConstants.{CLOSED, MEMORY, NO_PICTURE}
 use Rattle.vp8_c.specs.declared.asked.Asked.{Asked}
+use Rattle.vp8_c.specs.declared.asked.KeptPicture.{KeptPicture}
+use Rattle.vp8_c.specs.declared.asked.StreamInfo.{StreamInfo}
 use Rattle.vp8_c.specs.declared.held.Held.{Held}
 use Rattle.vp8_c.specs.declared.held.Held.TheVariants.{Decoder, Stream, Encoder}
 use Rattle.vp8_c.specs.declared.handle.Handle.{Handle}
+use Rattle.vp8_c.specs.Given.{Size, given_in, result_map, size_of}
 use Rattle.vp8_c.specs.Handle.{held_in}
+use Rattle.vp8_c.specs.Status.{ending_number, told_number}
 
 abbrev pub stream_of : Held → Option Asked
 stream_of (Decoder d) = None
@@ -39,6 +45,39 @@ picture_in seeking.Hidden = None
 picture_in (seeking.Fault f) = None
 picture_in seeking.NoPacket = None
 
+abbrev pub picture_of : KeptPicture → Picture
+picture_of p = record { width = p.dim.w; height = p.dim.h; i420 = p.i420.now }
+
 -- the picture of the packet that was asked for last
-abbrev pub kept_in : Handle → Option Picture
-kept_in h = option_and_then (λ a. picture_in (told a.answer)) (stream_in h)
+abbrev pub kept_of : Held → Result Picture ℕ
+kept_of (Decoder d) = Err CLOSED
+kept_of (Stream a) = ok_or (picture_in (told a.answer)) NO_PICTURE
+kept_of (Encoder e) = Err CLOSED
+
+-- its columns and rows
+abbrev pub kept_size_in : Handle → Result Size ℕ
+kept_size_in h = result_map (λ p. size_of p.width p.height) (given_in kept_of h)
+
+abbrev pub kept_i420_in : Handle → Result (List ℕ) ℕ
+kept_i420_in h = result_map (λ p. p.i420) (given_in kept_of h)
+
+-- what is known of a file: what its head says, if it is whole and good, how many packets are whole, and why no more are read
+abbrev pub info_with : Option IvfHead → ℕ → ℕ → StreamInfo
+info_with None packets fault = record { width = 0; height = 0; rate = 0; scale = 0; packets = packets; fault = fault }
+info_with (Some h) packets fault = record { width = h.w; height = h.h; rate = h.rate; scale = h.scale; packets = packets; fault = fault }
+
+abbrev pub info_of : Asked → StreamInfo
+info_of a = info_with a.stream.reading.head (length a.stream.reading.packets) (ending_number a.ended)
+
+abbrev pub info_in : Handle → Result StreamInfo ℕ
+info_in h = result_map info_of (ok_or (stream_in h) CLOSED)
+
+-- Packet n was asked for: the number of its answer is answered, and the answer is kept. Or memory was refused, for a packet
+-- that the file has, and nothing changed.
+pub record Answers (n status : ℕ) (old new : Asked) : Type 0 where
+  pub number : status ≢ MEMORY → status ≡ told_number (answer_at old.stream.limits old.stream.reading.packets n)
+  pub answer : status ≢ MEMORY → told new.answer ≡ answer_at old.stream.limits old.stream.reading.packets n
+  pub stream : new.stream ≡ old.stream
+  pub ended : new.ended ≡ old.ended
+  pub refused : status ≡ MEMORY → new ≡ old
+  pub memory : status ≡ MEMORY → n < length old.stream.reading.packets

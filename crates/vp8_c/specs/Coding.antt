@@ -1,5 +1,5 @@
 -- The encoder that a handle leads to.
-use Rattle.std.specs.Prelude.{◌≡◌, ◌==◌, not, ℕ, List, Option, Some, None, option_and_then}
+use Rattle.std.specs.Prelude.{◌≡◌, ◌≢◌, ◌⊎◌, ◌↔◌, ◌==◌, not, ℕ, List, length, Option, Some, None, Result, Err, ok_or, option_and_then}
 use Rattle.vp_base.specs.Image.{Image}
 use Rattle.vp_encode.specs.declared.encoder.Encoded.{Encoded}
 use Rattle.vp_encode.specs.declared.settings.Settings.{Settings}
@@ -7,7 +7,9 @@ use Rattle.vp_encode.specs.Chosen.{squared_distance}
 use Rattle.vp_encode.specs.Encoder.{Encoding}
 use Rattle.vp_encode.specs.Encoded.{IsEncoded}
 use Rattle.vp_encode.specs.TooLong.{IsTooLong}
-use Rattle.vp8_c.specs.Rows.{AreRowsOf}
+use Rattle.vp8_c.specs.Given.{given_in, result_map}
+use Rattle.vp8_c.specs.Planes.{Planes, AllFit, AreRowsOf}
+use Rattle.vp8_c.specs.declared.status.TheConstants.{BUFFER, CLOSED, MEMORY, NO_PICTURE, OK, TOO_LONG}
 use Rattle.vp8_c.specs.declared.settings.EncoderSettings.{EncoderSettings}
 use Rattle.vp8_c.specs.declared.coding.Coding.{Coding}
 use Rattle.vp8_c.specs.declared.held.Held.{Held}
@@ -24,8 +26,28 @@ abbrev pub encoder_in : Handle → Option Coding
 encoder_in h = option_and_then encoder_of (held_in h)
 
 -- the frame that it encoded last
-abbrev pub encoded_in : Handle → Option Encoded
-encoded_in h = option_and_then (λ e. e.encoded) (encoder_in h)
+abbrev pub encoded_of : Held → Result Encoded ℕ
+encoded_of (Decoder d) = Err CLOSED
+encoded_of (Stream a) = Err CLOSED
+encoded_of (Encoder e) = ok_or e.encoded NO_PICTURE
+
+abbrev pub encoded_in : Handle → Result Encoded ℕ
+encoded_in h = given_in encoded_of h
+
+-- its packet
+abbrev pub packet_in : Handle → Result (List ℕ) ℕ
+packet_in h = result_map (λ f. f.packet) (encoded_in h)
+
+abbrev pub packet_size_in : Handle → Result ℕ ℕ
+packet_size_in h = result_map (λ f. length f.packet) (encoded_in h)
+
+-- the picture that decoders show for it
+abbrev pub recon_in : Handle → Result Image ℕ
+recon_in h = result_map (λ f. f.recon.value) (encoded_in h)
+
+-- how far that is from the source
+abbrev pub error_in : Handle → Result ℕ ℕ
+error_in h = result_map (λ f. f.squared_error) (encoded_in h)
 
 -- the settings that C's stand for
 abbrev pub settings_in : EncoderSettings → Settings
@@ -58,15 +80,15 @@ pub record EncodesSource (e : Encoding) (source : Image) (next : Coding) : Type 
   pub error : frame.squared_error ≡ squared_distance source frame.recon.value
 
 -- .. of a source whose shown pixels are the caller's rows
-pub record EncodesRows (e : Encoding) (y : List ℕ) (y_stride : ℕ) (u : List ℕ) (u_stride : ℕ) (v : List ℕ) (v_stride : ℕ) (next : Coding) : Type 0 where
+pub record EncodesRows (e : Encoding) (planes : Planes) (next : Coding) : Type 0 where
   pub source : Image
-  pub rows : AreRowsOf e.dim.w e.dim.h y y_stride u u_stride v v_stride source
+  pub rows : AreRowsOf e.dim.w e.dim.h planes source
   pub encodes : EncodesSource e source next
 
 -- a source with the caller's rows, one of whose partitions is too long
-pub record AreTooLong (e : Encoding) (y : List ℕ) (y_stride : ℕ) (u : List ℕ) (u_stride : ℕ) (v : List ℕ) (v_stride : ℕ) : Type 0 where
+pub record AreTooLong (e : Encoding) (planes : Planes) : Type 0 where
   pub source : Image
-  pub rows : AreRowsOf e.dim.w e.dim.h y y_stride u u_stride v v_stride source
+  pub rows : AreRowsOf e.dim.w e.dim.h planes source
   pub too_long : IsTooLong e source
 
 -- a frame was refused: the next one is a key frame
@@ -75,3 +97,13 @@ pub record IsForgotten (e : Encoding) (next : Coding) : Type 0 where
   pub settings : next.encoder.settings ≡ e.settings
   pub state : next.encoder.state ≡ None
   pub encoded : next.encoded ≡ None
+
+-- Planes are encoded where a picture of the encoder's size fits: its frame is kept, or a partition is too long, or memory
+-- was refused, and then no frame is. Where it doesn't fit, nothing changes.
+pub record Encodes (planes : Planes) (status : ℕ) (old new : Coding) : Type 0 where
+  pub answer : (status ≡ OK) ⊎ (status ≡ BUFFER) ⊎ (status ≡ TOO_LONG) ⊎ (status ≡ MEMORY)
+  pub fits : (status ≢ BUFFER) ↔ AllFit old.encoder.dim.w old.encoder.dim.h planes
+  pub unchanged : status ≡ BUFFER → new ≡ old
+  pub encoded : status ≡ OK → EncodesRows old.encoder planes new
+  pub too_long : status ≡ TOO_LONG → AreTooLong old.encoder planes
+  pub forgotten : (status ≡ TOO_LONG) ⊎ (status ≡ MEMORY) → IsForgotten old.encoder new

@@ -2,8 +2,9 @@ pub mod Asking
 pub mod Bytes
 pub mod Coding
 pub mod Decoding
+pub mod Given
 pub mod Handle
 pub mod Names
-pub mod Rows
+pub mod Planes
 pub mod Slot
 pub mod Status

@@ -1,71 +1,78 @@
 -- The names of what calls answer.
-use Rattle.std.specs.Prelude.{ℕ, List, [], ◌==◌, nat_lt, codes, if◌then◌else◌}
+use Rattle.std.specs.Prelude.{ℕ, List, [], ◌-◌, ◌==◌, nat_lt, codes, if◌then◌else◌}
+use Rattle.vp8_c.specs.declared.status.TheConstants.{OK, HIDDEN, TRUNCATED, VERSION, START_CODE, SIZE, TOO_LARGE, NO_REFERENCE, FIRST_PARTITION, PARTITION_TABLE, PARTITION}
+use Rattle.vp8_c.specs.declared.status.TheConstants.{SIGNATURE, CODEC, TOO_MANY, PACKET_TOO_LARGE, TORN, ENDED, SETTINGS, TOO_LONG, CLOSED, OPEN, MEMORY, LIMITS, DIMENSIONS, NO_PICTURE, NO_PACKET, BUFFER}
+
+-- what is done, by its number
+abbrev pub done_name : ℕ → List ℕ
+done_name n =
+    if n == OK then codes "Ok" else
+    if n == HIDDEN then codes "Hidden" else
+    []
 
 -- a packet's fault, by its number
 abbrev pub packet_name : ℕ → List ℕ
 packet_name n =
-    if n == 16 then codes "Truncated" else
-    if n == 17 then codes "Version" else
-    if n == 18 then codes "StartCode" else
-    if n == 19 then codes "Size" else
-    if n == 20 then codes "TooLarge" else
-    if n == 21 then codes "NoReference" else
-    if n == 22 then codes "FirstPartition" else
-    if n == 23 then codes "PartitionTable" else
-    []
-
--- a token partition's fault, by its number
-abbrev pub partition_name : ℕ → List ℕ
-partition_name n =
-    if n == 256 then codes "Partition 0" else
-    if n == 257 then codes "Partition 1" else
-    if n == 258 then codes "Partition 2" else
-    if n == 259 then codes "Partition 3" else
-    if n == 260 then codes "Partition 4" else
-    if n == 261 then codes "Partition 5" else
-    if n == 262 then codes "Partition 6" else
-    if n == 263 then codes "Partition 7" else
+    if n == TRUNCATED then codes "Truncated" else
+    if n == VERSION then codes "Version" else
+    if n == START_CODE then codes "StartCode" else
+    if n == SIZE then codes "Size" else
+    if n == TOO_LARGE then codes "TooLarge" else
+    if n == NO_REFERENCE then codes "NoReference" else
+    if n == FIRST_PARTITION then codes "FirstPartition" else
+    if n == PARTITION_TABLE then codes "PartitionTable" else
     []
 
 -- a file's fault, by its number
 abbrev pub file_name : ℕ → List ℕ
 file_name n =
-    if n == 32 then codes "Signature" else
-    if n == 33 then codes "Codec" else
-    if n == 34 then codes "TooMany" else
-    if n == 35 then codes "PacketTooLarge" else
-    if n == 36 then codes "Torn" else
-    if n == 37 then codes "Ended" else
+    if n == SIGNATURE then codes "Signature" else
+    if n == CODEC then codes "Codec" else
+    if n == TOO_MANY then codes "TooMany" else
+    if n == PACKET_TOO_LARGE then codes "PacketTooLarge" else
+    if n == TORN then codes "Torn" else
+    if n == ENDED then codes "Ended" else
+    []
+
+-- why a frame isn't encoded, by its number
+abbrev pub frame_name : ℕ → List ℕ
+frame_name n =
+    if n == SETTINGS then codes "Settings" else
+    if n == TOO_LONG then codes "TooLong" else
     []
 
 -- a refused call, by its number
 abbrev pub call_name : ℕ → List ℕ
 call_name n =
-    if n == 64 then codes "Closed" else
-    if n == 65 then codes "Open" else
-    if n == 66 then codes "Memory" else
-    if n == 67 then codes "Limits" else
-    if n == 68 then codes "Dimensions" else
-    if n == 69 then codes "NoPicture" else
-    if n == 70 then codes "NoPacket" else
-    if n == 71 then codes "Buffer" else
+    if n == CLOSED then codes "Closed" else
+    if n == OPEN then codes "Open" else
+    if n == MEMORY then codes "Memory" else
+    if n == LIMITS then codes "Limits" else
+    if n == DIMENSIONS then codes "Dimensions" else
+    if n == NO_PICTURE then codes "NoPicture" else
+    if n == NO_PACKET then codes "NoPacket" else
+    if n == BUFFER then codes "Buffer" else
     []
 
--- what is done, and of an encoder's refusals, by its number
-abbrev pub other_name : ℕ → List ℕ
-other_name n =
-    if n == 0 then codes "Ok" else
-    if n == 1 then codes "Hidden" else
-    if n == 48 then codes "Settings" else
-    if n == 49 then codes "TooLong" else
+-- the fault of token partition i
+abbrev pub partition_name : ℕ → List ℕ
+partition_name i =
+    if i == 0 then codes "Partition 0" else
+    if i == 1 then codes "Partition 1" else
+    if i == 2 then codes "Partition 2" else
+    if i == 3 then codes "Partition 3" else
+    if i == 4 then codes "Partition 4" else
+    if i == 5 then codes "Partition 5" else
+    if i == 6 then codes "Partition 6" else
+    if i == 7 then codes "Partition 7" else
     []
 
 -- the name of a number that a call answers, which is empty where none does
 abbrev pub name_of : ℕ → List ℕ
 name_of n =
-    if nat_lt n 16 then other_name n else
-    if nat_lt n 32 then packet_name n else
-    if nat_lt n 48 then file_name n else
-    if nat_lt n 64 then other_name n else
-    if nat_lt n 256 then call_name n else
-    partition_name n
+    if nat_lt n TRUNCATED then done_name n else
+    if nat_lt n SIGNATURE then packet_name n else
+    if nat_lt n SETTINGS then file_name n else
+    if nat_lt n CLOSED then frame_name n else
+    if nat_lt n PARTITION then call_name n else
+    partition_name (n - PARTITION)

@@ -1,4 +1,4 @@
--- What calls answer, as numbers.
+-- What calls answer: the numbers are those of `include/vp8.h`, which src/status.rt names.
 use Rattle.std.specs.Prelude.{ℕ, ◌+◌, Result, Ok, Err}
 use Rattle.vp_head.specs.declared.fault.PacketFault.{PacketFault}
 use Rattle.vp_head.specs.declared.fault.PacketFault.TheVariants.{Truncated, Version, StartCode, Size, TooLarge, NoReference, FirstPartition, PartitionTable, Partition}
@@ -8,19 +8,19 @@ use Rattle.vp_ivf.specs.declared.fault.FileFault.{FileFault}
 use Rattle.vp_ivf.specs.declared.fault.FileFault.TheVariants as file
 use Rattle.vp_stream.specs.Seeking.{Told}
 use Rattle.vp_stream.specs.Seeking as seeking
-use Rattle.vp8_c.specs.declared.status.TheConstants.{OK, HIDDEN, NO_PACKET}
+use Rattle.vp8_c.specs.declared.status.TheConstants.{OK, HIDDEN, NO_PACKET, TRUNCATED, VERSION, START_CODE, SIZE, TOO_LARGE, NO_REFERENCE, FIRST_PARTITION, PARTITION_TABLE, PARTITION, SIGNATURE, CODEC, TOO_MANY, PACKET_TOO_LARGE, TORN, ENDED}
 
 -- the number of a packet's fault
 abbrev pub fault_number : PacketFault → ℕ
-fault_number Truncated = 16
-fault_number Version = 17
-fault_number StartCode = 18
-fault_number Size = 19
-fault_number TooLarge = 20
-fault_number NoReference = 21
-fault_number FirstPartition = 22
-fault_number PartitionTable = 23
-fault_number (Partition i) = 256 + i
+fault_number Truncated = TRUNCATED
+fault_number Version = VERSION
+fault_number StartCode = START_CODE
+fault_number Size = SIZE
+fault_number TooLarge = TOO_LARGE
+fault_number NoReference = NO_REFERENCE
+fault_number FirstPartition = FIRST_PARTITION
+fault_number PartitionTable = PARTITION_TABLE
+fault_number (Partition i) = PARTITION + i
 
 -- the number of what became of a packet
 abbrev pub outcome_number : Outcome → ℕ
@@ -30,12 +30,12 @@ outcome_number (Fault fault) = fault_number fault
 
 -- the number of a file's fault
 abbrev pub file_number : FileFault → ℕ
-file_number file.Signature = 32
-file_number file.Codec = 33
-file_number file.TooMany = 34
-file_number file.PacketTooLarge = 35
-file_number file.Torn = 36
-file_number file.Ended = 37
+file_number file.Signature = SIGNATURE
+file_number file.Codec = CODEC
+file_number file.TooMany = TOO_MANY
+file_number file.PacketTooLarge = PACKET_TOO_LARGE
+file_number file.Torn = TORN
+file_number file.Ended = ENDED
 
 -- the number of what a file's end was told
 abbrev pub ending_number : Result (Unit {0}) FileFault → ℕ

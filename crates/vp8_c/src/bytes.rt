@@ -1,18 +1,16 @@
 //! Bytes in the caller's memory.
 
-ghost use Rattle.std.specs.Prelude.{◌≡◌, ◌≤◌, ◌↔◌, length, IsTrue};
-ghost use Rattle.std.specs.Bool.{OnTrue, OnFalse};
-ghost use Rattle.vp8_c.specs.Bytes.{BeginsWith};
+ghost use Rattle.vp8_c.specs.Given.{CopiesBytes};
 
-/// Writes bytes to the front, where there is room for them. Gives whether there is.
-pub fn put_front(out: &mut [u8], bytes: &[u8]) -> bool
-    ensures fits { IsTrue result ↔ (length bytes.now ≤ length out.old) }
-    ensures front { OnTrue result (BeginsWith bytes.now out.old out.new) }
-    ensures unchanged { OnFalse result (out.new ≡ out.old) }
+use crate::status::{BUFFER, OK};
+
+/// Copies bytes to the front, where there is room for them.
+pub fn put_front(out: &mut [u8], bytes: &[u8]) -> u32
+    ensures { CopiesBytes bytes.now result out.old out.new }
 {
     if bytes.len() > out.len() {
-        return false;
+        return BUFFER;
     }
     out[..bytes.len()].copy_from_slice(bytes);
-    true
+    OK
 }

@@ -1,16 +1,14 @@
 //! Decoding packets.
 
-ghost use Rattle.std.specs.Prelude.{◌≡◌, ◌≢◌, ◌⊎◌, ◌↔◌, ◌<◌, ◌+◌, ◌/◌, Some, None, length, IsSome, IsSomeAnd, IfSome, option_map};
-ghost use Rattle.vp_base.specs.Raster.{pixel};
-ghost use Rattle.vp_decode.specs.Step.{IsDecoded, after, outcome, step};
-ghost use Rattle.vp8_c.specs.declared.status.TheConstants.{BUFFER, NO_PICTURE};
+ghost use Rattle.std.specs.Prelude.{◌≡◌, ◌⊎◌, ◌↔◌, None, IfSome, IsSomeAnd};
 ghost use Rattle.vp8_c.specs.Handle.{held_in};
-ghost use Rattle.vp8_c.specs.Status.{outcome_number};
-ghost use Rattle.vp8_c.specs.Rows.{AllFit, HoldsRows};
-ghost use Rattle.vp8_c.specs.Decoding.{decoder_in, shown_in, IsFresh, IsNoLimit};
+ghost use Rattle.vp8_c.specs.Given.{CopiesPicture, Gives, IsClosed, Opens, Puts, size_of};
+ghost use Rattle.vp8_c.specs.Planes.{planes_of};
+ghost use Rattle.vp8_c.specs.Decoding.{Decodes, IsFresh, IsNoLimit, decoder_in, shown_in, shown_size_in};
 
 use crate::handle::Handle;
 use crate::held::Held;
+use crate::planes::{CallerPlanesMut, Strides};
 use crate::rows::{put_picture, put_size};
 use crate::status::{CLOSED, LIMITS, MEMORY, OK, OPEN};
 use std::alloc::Global;
@@ -21,10 +19,8 @@ use vp_decode::Decoder;
 #[unsafe(no_mangle)]
 pub extern "C" fn vp8_decoder_new(alloc: Global, decoder: &mut Handle, max_pixels: u32) -> u32
     ensures answer { (result ≡ OK) ⊎ (result ≡ OPEN) ⊎ (result ≡ LIMITS) ⊎ (result ≡ MEMORY) }
-    ensures open { (result ≡ OPEN) ↔ IsSome (held_in decoder.old) }
+    ensures opens { Opens (λ h. IsSomeAnd (decoder_in h) (IsFresh max_pixels)) result decoder.old decoder.new }
     ensures limits { held_in decoder.old ≡ None → ((result ≡ LIMITS) ↔ IsNoLimit max_pixels) }
-    ensures opened { result ≡ OK → IsSomeAnd (decoder_in decoder.new) (IsFresh max_pixels) }
-    ensures refused { result ≢ OK → held_in decoder.new ≡ held_in decoder.old }
 {
     if decoder.is_open() {
         return OPEN;
@@ -44,15 +40,8 @@ pub extern "C" fn vp8_decoder_new(alloc: Global, decoder: &mut Handle, max_pixel
 /// Decodes a packet, which is one frame. A packet of no bytes is a frame that its sender dropped.
 #[unsafe(no_mangle)]
 pub extern "C" fn vp8_decoder_decode(alloc: Global, decoder: &mut Handle, packet: &[u8]) -> u32
-    ensures closed { decoder_in decoder.old ≡ None → (result ≡ CLOSED) × (held_in decoder.new ≡ held_in decoder.old) }
-    ensures outcome { IfSome (decoder_in decoder.old) (λ d. result ≢ MEMORY →
-        result ≡ outcome_number (outcome (step d.limits d.state packet.now).1)) }
-    ensures after { IfSome (decoder_in decoder.old) (λ d. result ≢ MEMORY →
-        decoder_in decoder.new ≡ Some (after d (step d.limits d.state packet.now))) }
-    ensures refused { result ≡ MEMORY → held_in decoder.new ≡ held_in decoder.old }
-    ensures late { IfSome (decoder_in decoder.old) (λ d. result ≡ MEMORY →
-        IsDecoded (step d.limits d.state packet.now).1) }
-    ensures dropped { result ≡ MEMORY → 0 < length packet.now }
+    ensures closed { decoder_in decoder.old ≡ None → IsClosed result decoder.old decoder.new }
+    ensures decoded { IfSome (decoder_in decoder.old) (λ d. IsSomeAnd (decoder_in decoder.new) (Decodes packet.now result d)) }
 {
     let Some(mut held) = decoder.take(alloc) else {
         return CLOSED;
@@ -71,17 +60,14 @@ pub extern "C" fn vp8_decoder_size(
     height: &mut u32,
 ) -> u32
     ensures held { held_in decoder.new ≡ held_in decoder.old }
-    ensures closed { decoder_in decoder.old ≡ None → result ≡ CLOSED }
-    ensures none { IfSome (decoder_in decoder.old) (λ d. d.shown ≡ None → result ≡ NO_PICTURE) }
-    ensures size { IfSome (shown_in decoder.old) (λ p. (result ≡ OK) × (width.new ≡ p.width) × (height.new ≡ p.height)) }
-    ensures unchanged { result ≢ OK → (width.new ≡ width.old) × (height.new ≡ height.old) }
+    ensures size { Gives Puts (shown_size_in decoder.old) result (size_of width.old height.old) (size_of width.new height.new) }
 {
     let Some(held) = decoder.take(alloc) else {
         return CLOSED;
     };
-    let status = match held.decoder() {
-        Some(decoder) => put_size(decoder.picture(), width, height),
-        None => CLOSED,
+    let status = match held.shown() {
+        Ok(picture) => put_size(picture.dim(), width, height),
+        Err(why) => why,
     };
     decoder.put(held);
     status
@@ -100,25 +86,20 @@ pub extern "C" fn vp8_decoder_copy(
     v_stride: usize,
 ) -> u32
     ensures held { held_in decoder.new ≡ held_in decoder.old }
-    ensures closed { decoder_in decoder.old ≡ None → result ≡ CLOSED }
-    ensures none { IfSome (decoder_in decoder.old) (λ d. d.shown ≡ None → result ≡ NO_PICTURE) }
-    ensures answer { IsSome (shown_in decoder.old) → (result ≡ OK) ⊎ (result ≡ BUFFER) }
-    ensures fits { IfSome (shown_in decoder.old) (λ p. (result ≡ OK) ↔ AllFit p.width p.height
-        (length y.old) y_stride (length u.old) u_stride (length v.old) v_stride) }
-    ensures luma { IfSome (shown_in decoder.old) (λ p. result ≡ OK →
-        HoldsRows p.width p.height y_stride (pixel p.luma) y.old y.new) }
-    ensures u { IfSome (shown_in decoder.old) (λ p. result ≡ OK →
-        HoldsRows ((p.width + 1) / 2) ((p.height + 1) / 2) u_stride (pixel p.u) u.old u.new) }
-    ensures v { IfSome (shown_in decoder.old) (λ p. result ≡ OK →
-        HoldsRows ((p.width + 1) / 2) ((p.height + 1) / 2) v_stride (pixel p.v) v.old v.new) }
-    ensures unchanged { result ≢ OK → (y.new ≡ y.old) × (u.new ≡ u.old) × (v.new ≡ v.old) }
+    ensures picture { Gives CopiesPicture (shown_in decoder.old) result
+        (planes_of y.old y_stride u.old u_stride v.old v_stride) (planes_of y.new y_stride u.new u_stride v.new v_stride) }
 {
     let Some(held) = decoder.take(alloc) else {
         return CLOSED;
     };
-    let status = match held.decoder() {
-        Some(decoder) => put_picture(decoder.picture(), y, y_stride, u, u_stride, v, v_stride),
-        None => CLOSED,
+    let strides = Strides {
+        y: y_stride,
+        u: u_stride,
+        v: v_stride,
+    };
+    let status = match held.shown() {
+        Ok(picture) => put_picture(picture, &mut CallerPlanesMut { y, u, v, strides }),
+        Err(why) => why,
     };
     decoder.put(held);
     status

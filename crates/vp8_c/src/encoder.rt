@@ -1,18 +1,18 @@
 //! Encoding pictures.
 
-ghost use Rattle.std.specs.Prelude.{◌≡◌, ◌≢◌, ◌⊎◌, ◌↔◌, ◌≤◌, ◌+◌, ◌/◌, None, length, IsSome, IsSomeAnd, IfSome};
+ghost use Rattle.std.specs.Prelude.{◌≡◌, ◌⊎◌, ◌↔◌, None, IfSome, IsSomeAnd};
 ghost use Rattle.vp_base.specs.Limits.{IsNoSide};
-ghost use Rattle.vp_base.specs.Raster.{pixel};
 ghost use Rattle.vp_encode.specs.Encoder.{AreAllowed};
-ghost use Rattle.vp8_c.specs.declared.status.TheConstants.{BUFFER, NO_PICTURE, TOO_LONG};
 ghost use Rattle.vp8_c.specs.Handle.{held_in};
-ghost use Rattle.vp8_c.specs.Bytes.{BeginsWith};
-ghost use Rattle.vp8_c.specs.Rows.{AllFit, HoldsRows};
-ghost use Rattle.vp8_c.specs.Coding.{encoder_in, encoded_in, settings_in, IsReady, EncodesRows, AreTooLong, IsForgotten};
+ghost use Rattle.vp8_c.specs.Given.{CopiesBytes, CopiesPicture, Gives, IsClosed, Opens, Puts};
+ghost use Rattle.vp8_c.specs.Planes.{planes_of};
+ghost use Rattle.vp8_c.specs.Coding.{Encodes, IsReady, encoder_in, error_in, packet_in, packet_size_in, recon_in, settings_in};
 
+use crate::bytes::put_front;
 use crate::coding::Coding;
 use crate::handle::Handle;
 use crate::held::Held;
+use crate::planes::{CallerPlanes, CallerPlanesMut, Strides};
 use crate::rows::put_picture;
 use crate::settings::{EncoderSettings, dim_of};
 use crate::status::{CLOSED, DIMENSIONS, MEMORY, OK, OPEN, SETTINGS};
@@ -29,12 +29,10 @@ pub extern "C" fn vp8_encoder_new(
     settings: &EncoderSettings,
 ) -> u32
     ensures answer { (result ≡ OK) ⊎ (result ≡ OPEN) ⊎ (result ≡ DIMENSIONS) ⊎ (result ≡ SETTINGS) ⊎ (result ≡ MEMORY) }
-    ensures open { (result ≡ OPEN) ↔ IsSome (held_in encoder.old) }
+    ensures opens { Opens (λ h. IsSomeAnd (encoder_in h) (IsReady width height (settings_in settings.now))) result encoder.old encoder.new }
     ensures dimensions { held_in encoder.old ≡ None → (result ≡ DIMENSIONS) ↔ (IsNoSide width ⊎ IsNoSide height) }
     ensures settings { held_in encoder.old ≡ None → ¬ (IsNoSide width ⊎ IsNoSide height)
         → (result ≡ SETTINGS) ↔ ¬ (AreAllowed (settings_in settings.now)) }
-    ensures opened { result ≡ OK → IsSomeAnd (encoder_in encoder.new) (IsReady width height (settings_in settings.now)) }
-    ensures refused { result ≢ OK → held_in encoder.new ≡ held_in encoder.old }
 {
     if encoder.is_open() {
         return OPEN;
@@ -69,22 +67,19 @@ pub extern "C" fn vp8_encoder_encode(
     v: &[u8],
     v_stride: usize,
 ) -> u32
-    ensures closed { encoder_in encoder.old ≡ None → (result ≡ CLOSED) × (held_in encoder.new ≡ held_in encoder.old) }
-    ensures answer { IsSome (encoder_in encoder.old) → (result ≡ OK) ⊎ (result ≡ BUFFER) ⊎ (result ≡ TOO_LONG) ⊎ (result ≡ MEMORY) }
-    ensures fits { IfSome (encoder_in encoder.old) (λ e. (result ≢ BUFFER) ↔ AllFit e.encoder.dim.w e.encoder.dim.h
-        (length y.now) y_stride (length u.now) u_stride (length v.now) v_stride) }
-    ensures unchanged { result ≡ BUFFER → held_in encoder.new ≡ held_in encoder.old }
-    ensures encoded { IfSome (encoder_in encoder.old) (λ e. result ≡ OK → IsSomeAnd (encoder_in encoder.new)
-        (EncodesRows e.encoder y.now y_stride u.now u_stride v.now v_stride)) }
-    ensures too_long { IfSome (encoder_in encoder.old) (λ e. result ≡ TOO_LONG →
-        AreTooLong e.encoder y.now y_stride u.now u_stride v.now v_stride) }
-    ensures forgotten { IfSome (encoder_in encoder.old) (λ e. (result ≡ TOO_LONG) ⊎ (result ≡ MEMORY) →
-        IsSomeAnd (encoder_in encoder.new) (IsForgotten e.encoder)) }
+    ensures closed { encoder_in encoder.old ≡ None → IsClosed result encoder.old encoder.new }
+    ensures encoded { IfSome (encoder_in encoder.old) (λ e. IsSomeAnd (encoder_in encoder.new)
+        (Encodes (planes_of y.now y_stride u.now u_stride v.now v_stride) result e)) }
 {
     let Some(mut held) = encoder.take(alloc) else {
         return CLOSED;
     };
-    let status = held.encode(y, y_stride, u, u_stride, v, v_stride);
+    let strides = Strides {
+        y: y_stride,
+        u: u_stride,
+        v: v_stride,
+    };
+    let status = held.encode(CallerPlanes { y, u, v, strides });
     encoder.put(held);
     status
 }
@@ -97,17 +92,17 @@ pub extern "C" fn vp8_encoder_packet_size(
     size: &mut usize,
 ) -> u32
     ensures held { held_in encoder.new ≡ held_in encoder.old }
-    ensures closed { encoder_in encoder.old ≡ None → result ≡ CLOSED }
-    ensures none { IsSome (encoder_in encoder.old) → encoded_in encoder.old ≡ None → result ≡ NO_PICTURE }
-    ensures size { IfSome (encoded_in encoder.old) (λ f. (result ≡ OK) × (size.new ≡ length f.packet)) }
-    ensures unchanged { result ≢ OK → size.new ≡ size.old }
+    ensures size { Gives Puts (packet_size_in encoder.old) result size.old size.new }
 {
     let Some(held) = encoder.take(alloc) else {
         return CLOSED;
     };
-    let status = match held.coding() {
-        Some(coding) => coding.put_packet_size(size),
-        None => CLOSED,
+    let status = match held.encoded() {
+        Ok(encoded) => {
+            *size = encoded.packet.len();
+            OK
+        }
+        Err(why) => why,
     };
     encoder.put(held);
     status
@@ -117,19 +112,14 @@ pub extern "C" fn vp8_encoder_packet_size(
 #[unsafe(no_mangle)]
 pub extern "C" fn vp8_encoder_packet(alloc: Global, encoder: &mut Handle, out: &mut [u8]) -> u32
     ensures held { held_in encoder.new ≡ held_in encoder.old }
-    ensures closed { encoder_in encoder.old ≡ None → result ≡ CLOSED }
-    ensures none { IsSome (encoder_in encoder.old) → encoded_in encoder.old ≡ None → result ≡ NO_PICTURE }
-    ensures answer { IsSome (encoded_in encoder.old) → (result ≡ OK) ⊎ (result ≡ BUFFER) }
-    ensures fits { IfSome (encoded_in encoder.old) (λ f. (result ≡ OK) ↔ (length f.packet ≤ length out.old)) }
-    ensures copied { IfSome (encoded_in encoder.old) (λ f. result ≡ OK → BeginsWith f.packet out.old out.new) }
-    ensures unchanged { result ≢ OK → out.new ≡ out.old }
+    ensures packet { Gives CopiesBytes (packet_in encoder.old) result out.old out.new }
 {
     let Some(held) = encoder.take(alloc) else {
         return CLOSED;
     };
-    let status = match held.coding() {
-        Some(coding) => coding.copy_packet(out),
-        None => CLOSED,
+    let status = match held.encoded() {
+        Ok(encoded) => put_front(out, encoded.packet.as_slice()),
+        Err(why) => why,
     };
     encoder.put(held);
     status
@@ -148,25 +138,20 @@ pub extern "C" fn vp8_encoder_reconstruction(
     v_stride: usize,
 ) -> u32
     ensures held { held_in encoder.new ≡ held_in encoder.old }
-    ensures closed { encoder_in encoder.old ≡ None → result ≡ CLOSED }
-    ensures none { IsSome (encoder_in encoder.old) → encoded_in encoder.old ≡ None → result ≡ NO_PICTURE }
-    ensures answer { IsSome (encoded_in encoder.old) → (result ≡ OK) ⊎ (result ≡ BUFFER) }
-    ensures fits { IfSome (encoded_in encoder.old) (λ f. (result ≡ OK) ↔ AllFit f.recon.value.width f.recon.value.height
-        (length y.old) y_stride (length u.old) u_stride (length v.old) v_stride) }
-    ensures luma { IfSome (encoded_in encoder.old) (λ f. result ≡ OK →
-        HoldsRows f.recon.value.width f.recon.value.height y_stride (pixel f.recon.value.luma) y.old y.new) }
-    ensures u { IfSome (encoded_in encoder.old) (λ f. result ≡ OK →
-        HoldsRows ((f.recon.value.width + 1) / 2) ((f.recon.value.height + 1) / 2) u_stride (pixel f.recon.value.u) u.old u.new) }
-    ensures v { IfSome (encoded_in encoder.old) (λ f. result ≡ OK →
-        HoldsRows ((f.recon.value.width + 1) / 2) ((f.recon.value.height + 1) / 2) v_stride (pixel f.recon.value.v) v.old v.new) }
-    ensures unchanged { result ≢ OK → (y.new ≡ y.old) × (u.new ≡ u.old) × (v.new ≡ v.old) }
+    ensures picture { Gives CopiesPicture (recon_in encoder.old) result
+        (planes_of y.old y_stride u.old u_stride v.old v_stride) (planes_of y.new y_stride u.new u_stride v.new v_stride) }
 {
     let Some(held) = encoder.take(alloc) else {
         return CLOSED;
     };
-    let status = match held.coding() {
-        Some(coding) => put_picture(coding.recon(), y, y_stride, u, u_stride, v, v_stride),
-        None => CLOSED,
+    let strides = Strides {
+        y: y_stride,
+        u: u_stride,
+        v: v_stride,
+    };
+    let status = match held.encoded() {
+        Ok(encoded) => put_picture(&encoded.recon, &mut CallerPlanesMut { y, u, v, strides }),
+        Err(why) => why,
     };
     encoder.put(held);
     status
@@ -180,17 +165,17 @@ pub extern "C" fn vp8_encoder_squared_error(
     error: &mut u64,
 ) -> u32
     ensures held { held_in encoder.new ≡ held_in encoder.old }
-    ensures closed { encoder_in encoder.old ≡ None → result ≡ CLOSED }
-    ensures none { IsSome (encoder_in encoder.old) → encoded_in encoder.old ≡ None → result ≡ NO_PICTURE }
-    ensures error { IfSome (encoded_in encoder.old) (λ f. (result ≡ OK) × (error.new ≡ f.squared_error)) }
-    ensures unchanged { result ≢ OK → error.new ≡ error.old }
+    ensures error { Gives Puts (error_in encoder.old) result error.old error.new }
 {
     let Some(held) = encoder.take(alloc) else {
         return CLOSED;
     };
-    let status = match held.coding() {
-        Some(coding) => coding.put_error(error),
-        None => CLOSED,
+    let status = match held.encoded() {
+        Ok(encoded) => {
+            *error = encoded.squared_error;
+            OK
+        }
+        Err(why) => why,
     };
     encoder.put(held);
     status

@@ -1,16 +1,15 @@
 //! What handles lead to.
 
-ghost use Rattle.std.specs.Prelude.{◌≡◌, ◌≢◌, ◌⊎◌, ◌↔◌, ◌<◌, Some, None, length, IsSome, IfSome, IsSomeAnd, option_map};
-ghost use Rattle.vp_stream.specs.Seeking.{answer_at, told};
-ghost use Rattle.vp_decode.specs.Step.{IsDecoded, after, outcome, step};
-ghost use Rattle.vp8_c.specs.Rows.{AllFit};
-ghost use Rattle.vp8_c.specs.declared.status.TheConstants.{BUFFER, OK, TOO_LONG};
-ghost use Rattle.vp8_c.specs.Status.{outcome_number, told_number};
+ghost use Rattle.std.specs.Prelude.{◌≡◌, None, IfSome, IsSomeAnd, option_map};
+ghost use Rattle.vp8_c.specs.Planes.{planes_in};
 
-use crate::asked::Asked;
+use crate::asked::{Asked, KeptPicture};
 use crate::coding::Coding;
-use crate::status::{CLOSED, MEMORY, outcome_number};
+use crate::planes::CallerPlanes;
+use crate::status::{CLOSED, MEMORY, NO_PICTURE, outcome_number};
+use vp_base::Picture;
 use vp_decode::Decoder;
+use vp_encode::Encoded;
 
 /// What a handle leads to.
 #[derive(Drop)]
@@ -21,31 +20,15 @@ pub enum Held {
 }
 
 impl Held {
-    ghost use Rattle.vp8_c.specs.Decoding.{decoder_of};
-    ghost use Rattle.vp8_c.specs.Asking.{stream_of};
-    ghost use Rattle.vp8_c.specs.Coding.{encoder_of, EncodesRows, AreTooLong, IsForgotten};
-
-    /// The decoder, where it is one.
-    pub fn decoder(&self) -> Option<&Decoder>
-        ensures { option_map (λ d. d.now) result ≡ decoder_of self.now }
-    {
-        match self {
-            Held::Decoder(decoder) => Some(decoder),
-            Held::Stream(_) | Held::Encoder(_) => None,
-        }
-    }
+    ghost use Rattle.vp8_c.specs.Decoding.{Decodes, decoder_of, shown_of};
+    ghost use Rattle.vp8_c.specs.Asking.{Answers, kept_of, picture_of, stream_of};
+    ghost use Rattle.vp8_c.specs.Coding.{Encodes, encoded_of, encoder_of};
+    ghost use Rattle.vp8_c.specs.Given.{result_map};
 
     /// Decodes a packet, where it is a decoder.
     pub fn decode(&mut self, packet: &[u8]) -> u32
         ensures closed { decoder_of self.old ≡ None → (result ≡ CLOSED) × (self.new ≡ self.old) }
-        ensures outcome { IfSome (decoder_of self.old) (λ d. result ≢ MEMORY →
-            result ≡ outcome_number (outcome (step d.limits d.state packet.now).1)) }
-        ensures after { IfSome (decoder_of self.old) (λ d. result ≢ MEMORY →
-            decoder_of self.new ≡ Some (after d (step d.limits d.state packet.now))) }
-        ensures refused { result ≡ MEMORY → self.new ≡ self.old }
-        ensures late { IfSome (decoder_of self.old) (λ d. result ≡ MEMORY →
-            IsDecoded (step d.limits d.state packet.now).1) }
-        ensures dropped { result ≡ MEMORY → 0 < length packet.now }
+        ensures decoded { IfSome (decoder_of self.old) (λ d. IsSomeAnd (decoder_of self.new) (Decodes packet.now result d)) }
     {
         match self {
             Held::Decoder(decoder) => match decoder.decode(packet) {
@@ -53,6 +36,19 @@ impl Held {
                 Err(_) => MEMORY,
             },
             Held::Stream(_) | Held::Encoder(_) => CLOSED,
+        }
+    }
+
+    /// The picture that its last packet showed, where it is a decoder; else the status of a call that finds none.
+    pub fn shown(&self) -> Result<&Picture, u32>
+        ensures { result_map (λ p. p.now) result ≡ shown_of self.now }
+    {
+        match self {
+            Held::Decoder(decoder) => match decoder.picture() {
+                Some(picture) => Ok(picture),
+                None => Err(NO_PICTURE),
+            },
+            Held::Stream(_) | Held::Encoder(_) => Err(CLOSED),
         }
     }
 
@@ -69,14 +65,7 @@ impl Held {
     /// Asks for packet `n`, where it is a file.
     pub fn ask(&mut self, n: u32) -> u32
         ensures closed { stream_of self.old ≡ None → (result ≡ CLOSED) × (self.new ≡ self.old) }
-        ensures number { IfSome (stream_of self.old) (λ a. result ≢ MEMORY →
-            result ≡ told_number (answer_at a.stream.limits a.stream.reading.packets n)) }
-        ensures answer { IfSome (stream_of self.old) (λ a. result ≢ MEMORY → IsSomeAnd (stream_of self.new) (λ b.
-            told b.answer ≡ answer_at a.stream.limits a.stream.reading.packets n)) }
-        ensures same { IfSome (stream_of self.old) (λ a. IsSomeAnd (stream_of self.new) (λ b.
-            (b.stream ≡ a.stream) × (b.ended ≡ a.ended))) }
-        ensures refused { result ≡ MEMORY → self.new ≡ self.old }
-        ensures memory { IfSome (stream_of self.old) (λ a. result ≡ MEMORY → n < length a.stream.reading.packets) }
+        ensures answered { IfSome (stream_of self.old) (λ a. IsSomeAnd (stream_of self.new) (Answers n result a)) }
     {
         match self {
             Held::Stream(asked) => asked.ask(n),
@@ -84,41 +73,40 @@ impl Held {
         }
     }
 
-    /// The encoder, where it is one.
-    pub fn coding(&self) -> Option<&Coding>
-        ensures { option_map (λ c. c.now) result ≡ encoder_of self.now }
+    /// The picture of the packet that was asked for last, where it is a file; else the status of a call that finds none.
+    pub fn kept(&self) -> Result<KeptPicture<'_>, u32>
+        ensures { result_map picture_of result ≡ kept_of self.now }
     {
         match self {
-            Held::Encoder(coding) => Some(coding),
-            Held::Decoder(_) | Held::Stream(_) => None,
+            Held::Stream(asked) => match asked.picture() {
+                Some(picture) => Ok(picture),
+                None => Err(NO_PICTURE),
+            },
+            Held::Decoder(_) | Held::Encoder(_) => Err(CLOSED),
         }
     }
 
     /// Encodes the caller's rows, where it is an encoder.
-    pub fn encode(
-        &mut self,
-        y: &[u8],
-        y_stride: usize,
-        u: &[u8],
-        u_stride: usize,
-        v: &[u8],
-        v_stride: usize,
-    ) -> u32
+    pub fn encode(&mut self, planes: CallerPlanes) -> u32
         ensures closed { encoder_of self.old ≡ None → (result ≡ CLOSED) × (self.new ≡ self.old) }
-        ensures answer { IsSome (encoder_of self.old) → (result ≡ OK) ⊎ (result ≡ BUFFER) ⊎ (result ≡ TOO_LONG) ⊎ (result ≡ MEMORY) }
-        ensures fits { IfSome (encoder_of self.old) (λ e. (result ≢ BUFFER) ↔ AllFit e.encoder.dim.w e.encoder.dim.h
-            (length y.now) y_stride (length u.now) u_stride (length v.now) v_stride) }
-        ensures unchanged { result ≡ BUFFER → self.new ≡ self.old }
-        ensures encoded { IfSome (encoder_of self.old) (λ e. result ≡ OK → IsSomeAnd (encoder_of self.new)
-            (EncodesRows e.encoder y.now y_stride u.now u_stride v.now v_stride)) }
-        ensures too_long { IfSome (encoder_of self.old) (λ e. result ≡ TOO_LONG →
-            AreTooLong e.encoder y.now y_stride u.now u_stride v.now v_stride) }
-        ensures forgotten { IfSome (encoder_of self.old) (λ e. (result ≡ TOO_LONG) ⊎ (result ≡ MEMORY) →
-            IsSomeAnd (encoder_of self.new) (IsForgotten e.encoder)) }
+        ensures encoded { IfSome (encoder_of self.old) (λ e. IsSomeAnd (encoder_of self.new) (Encodes (planes_in planes.entry) result e)) }
     {
         match self {
-            Held::Encoder(coding) => coding.encode(y, y_stride, u, u_stride, v, v_stride),
+            Held::Encoder(coding) => coding.encode(planes),
             Held::Decoder(_) | Held::Stream(_) => CLOSED,
+        }
+    }
+
+    /// The frame that was encoded last, where it is an encoder; else the status of a call that finds none.
+    pub fn encoded(&self) -> Result<&Encoded, u32>
+        ensures { result_map (λ f. f.now) result ≡ encoded_of self.now }
+    {
+        match self {
+            Held::Encoder(coding) => match &coding.encoded {
+                Some(encoded) => Ok(encoded),
+                None => Err(NO_PICTURE),
+            },
+            Held::Decoder(_) | Held::Stream(_) => Err(CLOSED),
         }
     }
 }

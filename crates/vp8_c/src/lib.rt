@@ -10,6 +10,7 @@ mod handle;
 mod held;
 mod names;
 mod parts;
+mod planes;
 mod rows;
 mod settings;
 mod slot;

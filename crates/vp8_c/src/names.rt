@@ -2,38 +2,38 @@
 
 ghost use Rattle.std.specs.Prelude.{◌≡◌, ◌≢◌, ◌≤◌, ◌<◌, ◌+◌, ◌++◌, [], ◌∷◌, length};
 ghost use Rattle.vp8_c.specs.Bytes.{BeginsWith};
-ghost use Rattle.vp8_c.specs.Names.{name_of, packet_name, partition_name, file_name, call_name, other_name};
+ghost use Rattle.vp8_c.specs.Names.{name_of, packet_name, partition_name, file_name, call_name, done_name, frame_name};
+
+use crate::status::{
+    BUFFER, CLOSED, CODEC, DIMENSIONS, ENDED, FIRST_PARTITION, HIDDEN, LIMITS, MEMORY, NO_PACKET,
+    NO_PICTURE, NO_REFERENCE, OK, OPEN, PACKET_TOO_LARGE, PARTITION, PARTITION_TABLE, SETTINGS,
+    SIGNATURE, SIZE, START_CODE, TOO_LARGE, TOO_LONG, TOO_MANY, TORN, TRUNCATED, VERSION,
+};
+
+/// The name of what is done.
+fn done_name(status: u32) -> &'static str
+    ensures { result.now ≡ done_name status }
+{
+    match status {
+        OK => "Ok",
+        HIDDEN => "Hidden",
+        _ => "",
+    }
+}
 
 /// The name of a packet's fault.
 fn packet_name(status: u32) -> &'static str
     ensures { result.now ≡ packet_name status }
 {
     match status {
-        16 => "Truncated",
-        17 => "Version",
-        18 => "StartCode",
-        19 => "Size",
-        20 => "TooLarge",
-        21 => "NoReference",
-        22 => "FirstPartition",
-        23 => "PartitionTable",
-        _ => "",
-    }
-}
-
-/// The name of a token partition's fault.
-fn partition_name(status: u32) -> &'static str
-    ensures { result.now ≡ partition_name status }
-{
-    match status {
-        256 => "Partition 0",
-        257 => "Partition 1",
-        258 => "Partition 2",
-        259 => "Partition 3",
-        260 => "Partition 4",
-        261 => "Partition 5",
-        262 => "Partition 6",
-        263 => "Partition 7",
+        TRUNCATED => "Truncated",
+        VERSION => "Version",
+        START_CODE => "StartCode",
+        SIZE => "Size",
+        TOO_LARGE => "TooLarge",
+        NO_REFERENCE => "NoReference",
+        FIRST_PARTITION => "FirstPartition",
+        PARTITION_TABLE => "PartitionTable",
         _ => "",
     }
 }
@@ -43,12 +43,23 @@ fn file_name(status: u32) -> &'static str
     ensures { result.now ≡ file_name status }
 {
     match status {
-        32 => "Signature",
-        33 => "Codec",
-        34 => "TooMany",
-        35 => "PacketTooLarge",
-        36 => "Torn",
-        37 => "Ended",
+        SIGNATURE => "Signature",
+        CODEC => "Codec",
+        TOO_MANY => "TooMany",
+        PACKET_TOO_LARGE => "PacketTooLarge",
+        TORN => "Torn",
+        ENDED => "Ended",
+        _ => "",
+    }
+}
+
+/// The name of why a frame isn't encoded.
+fn frame_name(status: u32) -> &'static str
+    ensures { result.now ≡ frame_name status }
+{
+    match status {
+        SETTINGS => "Settings",
+        TOO_LONG => "TooLong",
         _ => "",
     }
 }
@@ -58,27 +69,31 @@ fn call_name(status: u32) -> &'static str
     ensures { result.now ≡ call_name status }
 {
     match status {
-        64 => "Closed",
-        65 => "Open",
-        66 => "Memory",
-        67 => "Limits",
-        68 => "Dimensions",
-        69 => "NoPicture",
-        70 => "NoPacket",
-        71 => "Buffer",
+        CLOSED => "Closed",
+        OPEN => "Open",
+        MEMORY => "Memory",
+        LIMITS => "Limits",
+        DIMENSIONS => "Dimensions",
+        NO_PICTURE => "NoPicture",
+        NO_PACKET => "NoPacket",
+        BUFFER => "Buffer",
         _ => "",
     }
 }
 
-/// The name of what is done, and of an encoder's refusals.
-fn other_name(status: u32) -> &'static str
-    ensures { result.now ≡ other_name status }
+/// The name of the fault of token partition `i`.
+fn partition_name(i: u32) -> &'static str
+    ensures { result.now ≡ partition_name i }
 {
-    match status {
-        0 => "Ok",
-        1 => "Hidden",
-        48 => "Settings",
-        49 => "TooLong",
+    match i {
+        0 => "Partition 0",
+        1 => "Partition 1",
+        2 => "Partition 2",
+        3 => "Partition 3",
+        4 => "Partition 4",
+        5 => "Partition 5",
+        6 => "Partition 6",
+        7 => "Partition 7",
         _ => "",
     }
 }
@@ -87,13 +102,18 @@ fn other_name(status: u32) -> &'static str
 pub fn name_of(status: u32) -> &'static str
     ensures { result.now ≡ name_of status }
 {
-    match status {
-        0..=15 => other_name(status),
-        16..=31 => packet_name(status),
-        32..=47 => file_name(status),
-        48..=63 => other_name(status),
-        64..=255 => call_name(status),
-        _ => partition_name(status),
+    if status < TRUNCATED {
+        done_name(status)
+    } else if status < SIGNATURE {
+        packet_name(status)
+    } else if status < SETTINGS {
+        file_name(status)
+    } else if status < CLOSED {
+        frame_name(status)
+    } else if status < PARTITION {
+        call_name(status)
+    } else {
+        partition_name(status - PARTITION)
     }
 }
 

@@ -12,6 +12,38 @@ pub const OK: u32 = 0;
 /// The packet is decoded, and its picture isn't to be shown.
 pub const HIDDEN: u32 = 1;
 
+/// A packet has too few bytes.
+pub const TRUNCATED: u32 = 16;
+/// Its version is over 3.
+pub const VERSION: u32 = 17;
+/// A key packet without the start code.
+pub const START_CODE: u32 = 18;
+/// A side of 0.
+pub const SIZE: u32 = 19;
+/// More pixels than are allowed.
+pub const TOO_LARGE: u32 = 20;
+/// An inter packet that has no picture to be decoded over.
+pub const NO_REFERENCE: u32 = 21;
+/// The first partition passes the end of the packet.
+pub const FIRST_PARTITION: u32 = 22;
+/// The table of the token partitions' sizes passes the end.
+pub const PARTITION_TABLE: u32 = 23;
+/// `PARTITION + n`: token partition `n` passes the end.
+pub const PARTITION: u32 = 256;
+
+/// A file's head doesn't begin as one.
+pub const SIGNATURE: u32 = 32;
+/// Its head says another codec.
+pub const CODEC: u32 = 33;
+/// It has more packets than are allowed.
+pub const TOO_MANY: u32 = 34;
+/// A packet is larger than is allowed.
+pub const PACKET_TOO_LARGE: u32 = 35;
+/// It ends inside its head or a packet.
+pub const TORN: u32 = 36;
+/// It had ended before.
+pub const ENDED: u32 = 37;
+
 /// A setting is out of its range.
 pub const SETTINGS: u32 = 48;
 /// A partition of the packet is too long for the format.
@@ -39,15 +71,15 @@ pub fn fault_number(fault: PacketFault) -> u32
     ensures { result ≡ fault_number fault }
 {
     match fault {
-        PacketFault::Truncated => 16,
-        PacketFault::Version => 17,
-        PacketFault::StartCode => 18,
-        PacketFault::Size => 19,
-        PacketFault::TooLarge => 20,
-        PacketFault::NoReference => 21,
-        PacketFault::FirstPartition => 22,
-        PacketFault::PartitionTable => 23,
-        PacketFault::Partition(number) => 256 + u32::from(number),
+        PacketFault::Truncated => TRUNCATED,
+        PacketFault::Version => VERSION,
+        PacketFault::StartCode => START_CODE,
+        PacketFault::Size => SIZE,
+        PacketFault::TooLarge => TOO_LARGE,
+        PacketFault::NoReference => NO_REFERENCE,
+        PacketFault::FirstPartition => FIRST_PARTITION,
+        PacketFault::PartitionTable => PARTITION_TABLE,
+        PacketFault::Partition(number) => PARTITION + u32::from(number),
     }
 }
 
@@ -67,11 +99,11 @@ pub fn file_number(fault: FileFault) -> u32
     ensures { result ≡ file_number fault }
 {
     match fault {
-        FileFault::Signature => 32,
-        FileFault::Codec => 33,
-        FileFault::TooMany => 34,
-        FileFault::PacketTooLarge => 35,
-        FileFault::Torn => 36,
-        FileFault::Ended => 37,
+        FileFault::Signature => SIGNATURE,
+        FileFault::Codec => CODEC,
+        FileFault::TooMany => TOO_MANY,
+        FileFault::PacketTooLarge => PACKET_TOO_LARGE,
+        FileFault::Torn => TORN,
+        FileFault::Ended => ENDED,
     }
 }

@@ -1,16 +1,15 @@
 //! An IVF file in memory, whose pictures are asked for by number.
 
-ghost use Rattle.std.specs.Prelude.{◌≡◌, ◌≢◌, ◌⊎◌, ◌↔◌, ◌<◌, ◌≤◌, None, length, IsSome, IsSomeAnd, IfSome, MatchOption};
-ghost use Rattle.vp_stream.specs.Seeking.{answer_at, told};
-ghost use Rattle.vp8_c.specs.declared.status.TheConstants.{BUFFER, NO_PICTURE};
+ghost use Rattle.std.specs.Prelude.{◌≡◌, ◌⊎◌, None, IfSome, IsSomeAnd};
 ghost use Rattle.vp8_c.specs.Handle.{held_in};
-ghost use Rattle.vp8_c.specs.Status.{ending_number, told_number};
-ghost use Rattle.vp8_c.specs.Asking.{stream_in, kept_in, IsFile};
-ghost use Rattle.vp8_c.specs.Bytes.{BeginsWith};
+ghost use Rattle.vp8_c.specs.Given.{CopiesBytes, Gives, IsClosed, Opens, Puts, size_of};
+ghost use Rattle.vp8_c.specs.Asking.{Answers, IsFile, info_in, kept_i420_in, kept_size_in, stream_in};
 
 use crate::asked::{Asked, StreamInfo};
+use crate::bytes::put_front;
 use crate::handle::Handle;
 use crate::held::Held;
+use crate::rows::put_size;
 use crate::status::{CLOSED, MEMORY, OK, OPEN};
 use std::alloc::Global;
 
@@ -18,9 +17,7 @@ use std::alloc::Global;
 #[unsafe(no_mangle)]
 pub extern "C" fn vp8_stream_new(alloc: Global, stream: &mut Handle, bytes: &[u8]) -> u32
     ensures answer { (result ≡ OK) ⊎ (result ≡ OPEN) ⊎ (result ≡ MEMORY) }
-    ensures open { (result ≡ OPEN) ↔ IsSome (held_in stream.old) }
-    ensures opened { result ≡ OK → IsSomeAnd (stream_in stream.new) (IsFile bytes.now) }
-    ensures refused { result ≢ OK → held_in stream.new ≡ held_in stream.old }
+    ensures opens { Opens (λ h. IsSomeAnd (stream_in h) (IsFile bytes.now)) result stream.old stream.new }
 {
     if stream.is_open() {
         return OPEN;
@@ -45,13 +42,7 @@ pub extern "C" fn vp8_stream_get_info(
     info: &mut StreamInfo,
 ) -> u32
     ensures held { held_in stream.new ≡ held_in stream.old }
-    ensures closed { stream_in stream.old ≡ None → (result ≡ CLOSED) × (info.new ≡ info.old) }
-    ensures ok { IsSome (stream_in stream.old) → result ≡ OK }
-    ensures head { IfSome (stream_in stream.old) (λ a. MatchOption a.stream.reading.head
-        ((info.new.width ≡ 0) × (info.new.height ≡ 0) × (info.new.rate ≡ 0) × (info.new.scale ≡ 0))
-        (λ h. (info.new.width ≡ h.w) × (info.new.height ≡ h.h) × (info.new.rate ≡ h.rate) × (info.new.scale ≡ h.scale))) }
-    ensures packets { IfSome (stream_in stream.old) (λ a. info.new.packets ≡ length a.stream.reading.packets) }
-    ensures fault { IfSome (stream_in stream.old) (λ a. info.new.fault ≡ ending_number a.ended) }
+    ensures info { Gives Puts (info_in stream.old) result info.old info.new }
 {
     let Some(held) = stream.take(alloc) else {
         return CLOSED;
@@ -70,15 +61,8 @@ pub extern "C" fn vp8_stream_get_info(
 /// Decodes packet `n`, from the last key packet before it on, and keeps its picture.
 #[unsafe(no_mangle)]
 pub extern "C" fn vp8_stream_picture_at(alloc: Global, stream: &mut Handle, n: u32) -> u32
-    ensures closed { stream_in stream.old ≡ None → (result ≡ CLOSED) × (held_in stream.new ≡ held_in stream.old) }
-    ensures number { IfSome (stream_in stream.old) (λ a. result ≢ MEMORY →
-        result ≡ told_number (answer_at a.stream.limits a.stream.reading.packets n)) }
-    ensures answer { IfSome (stream_in stream.old) (λ a. result ≢ MEMORY → IsSomeAnd (stream_in stream.new) (λ b.
-        told b.answer ≡ answer_at a.stream.limits a.stream.reading.packets n)) }
-    ensures same { IfSome (stream_in stream.old) (λ a. IsSomeAnd (stream_in stream.new) (λ b.
-        (b.stream ≡ a.stream) × (b.ended ≡ a.ended))) }
-    ensures refused { result ≡ MEMORY → held_in stream.new ≡ held_in stream.old }
-    ensures memory { IfSome (stream_in stream.old) (λ a. result ≡ MEMORY → n < length a.stream.reading.packets) }
+    ensures closed { stream_in stream.old ≡ None → IsClosed result stream.old stream.new }
+    ensures answered { IfSome (stream_in stream.old) (λ a. IsSomeAnd (stream_in stream.new) (Answers n result a)) }
 {
     let Some(mut held) = stream.take(alloc) else {
         return CLOSED;
@@ -97,17 +81,14 @@ pub extern "C" fn vp8_stream_size(
     height: &mut u32,
 ) -> u32
     ensures held { held_in stream.new ≡ held_in stream.old }
-    ensures closed { stream_in stream.old ≡ None → result ≡ CLOSED }
-    ensures none { IsSome (stream_in stream.old) → kept_in stream.old ≡ None → result ≡ NO_PICTURE }
-    ensures size { IfSome (kept_in stream.old) (λ p. (result ≡ OK) × (width.new ≡ p.width) × (height.new ≡ p.height)) }
-    ensures unchanged { result ≢ OK → (width.new ≡ width.old) × (height.new ≡ height.old) }
+    ensures size { Gives Puts (kept_size_in stream.old) result (size_of width.old height.old) (size_of width.new height.new) }
 {
     let Some(held) = stream.take(alloc) else {
         return CLOSED;
     };
-    let status = match held.asked() {
-        Some(asked) => asked.put_size(width, height),
-        None => CLOSED,
+    let status = match held.kept() {
+        Ok(picture) => put_size(picture.dim, width, height),
+        Err(why) => why,
     };
     stream.put(held);
     status
@@ -117,19 +98,14 @@ pub extern "C" fn vp8_stream_size(
 #[unsafe(no_mangle)]
 pub extern "C" fn vp8_stream_copy_i420(alloc: Global, stream: &mut Handle, out: &mut [u8]) -> u32
     ensures held { held_in stream.new ≡ held_in stream.old }
-    ensures closed { stream_in stream.old ≡ None → result ≡ CLOSED }
-    ensures none { IsSome (stream_in stream.old) → kept_in stream.old ≡ None → result ≡ NO_PICTURE }
-    ensures answer { IsSome (kept_in stream.old) → (result ≡ OK) ⊎ (result ≡ BUFFER) }
-    ensures fits { IfSome (kept_in stream.old) (λ p. (result ≡ OK) ↔ (length p.i420 ≤ length out.old)) }
-    ensures copied { IfSome (kept_in stream.old) (λ p. result ≡ OK → BeginsWith p.i420 out.old out.new) }
-    ensures unchanged { result ≢ OK → out.new ≡ out.old }
+    ensures i420 { Gives CopiesBytes (kept_i420_in stream.old) result out.old out.new }
 {
     let Some(held) = stream.take(alloc) else {
         return CLOSED;
     };
-    let status = match held.asked() {
-        Some(asked) => asked.copy_i420(out),
-        None => CLOSED,
+    let status = match held.kept() {
+        Ok(picture) => put_front(out, picture.i420),
+        Err(why) => why,
     };
     stream.put(held);
     status

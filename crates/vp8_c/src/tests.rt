@@ -1,12 +1,19 @@
 //! The numbers that `include/vp8.h` has, and planes whose rows stand apart.
 
+use crate::held::Held;
 use crate::names::name_of;
+use crate::planes::{CallerPlanes, CallerPlanesMut, Strides};
 use crate::rows::{put_picture, put_size, read_picture};
-use crate::status::{BUFFER, HIDDEN, NO_PICTURE, OK, fault_number, file_number, outcome_number};
+use crate::status::{
+    BUFFER, CLOSED, CODEC, DIMENSIONS, ENDED, FIRST_PARTITION, HIDDEN, LIMITS, MEMORY, NO_PACKET,
+    NO_PICTURE, NO_REFERENCE, OK, OPEN, PACKET_TOO_LARGE, PARTITION, PARTITION_TABLE, SETTINGS,
+    SIGNATURE, SIZE, START_CODE, TOO_LARGE, TOO_LONG, TOO_MANY, TORN, TRUNCATED, VERSION,
+    fault_number, file_number, outcome_number,
+};
 use std::alloc::Global;
 use std::test::Fail;
 use vp_base::{Dim, Limits, Picture};
-use vp_decode::Outcome;
+use vp_decode::{Decoder, Outcome};
 use vp_head::PacketFault;
 use vp_ivf::FileFault;
 
@@ -43,6 +50,7 @@ fn numbers_of_file_faults(rt: HostRuntime) {
         (FileFault::TooMany, 34, "TooMany"),
         (FileFault::PacketTooLarge, 35, "PacketTooLarge"),
         (FileFault::Torn, 36, "Torn"),
+        (FileFault::Ended, 37, "Ended"),
     ];
     for (fault, number, name) in faults {
         assert_eq!(rt; file_number(fault), number);
@@ -67,12 +75,59 @@ fn names_of_other_numbers(rt: HostRuntime) {
         (70, "NoPacket"),
         (71, "Buffer"),
         (2, ""),
+        (24, ""),
+        (72, ""),
         (264, ""),
     ];
     for (number, name) in names {
         assert!(rt; name_of(number) == name);
     }
-    assert_eq!(rt; (OK, HIDDEN, NO_PICTURE, BUFFER), (0, 1, 69, 71));
+}
+
+/// The numbers of the header, one by one.
+#[test]
+fn numbers_of_the_header(rt: HostRuntime) {
+    let numbers = [
+        (OK, 0),
+        (HIDDEN, 1),
+        (TRUNCATED, 16),
+        (VERSION, 17),
+        (START_CODE, 18),
+        (SIZE, 19),
+        (TOO_LARGE, 20),
+        (NO_REFERENCE, 21),
+        (FIRST_PARTITION, 22),
+        (PARTITION_TABLE, 23),
+        (SIGNATURE, 32),
+        (CODEC, 33),
+        (TOO_MANY, 34),
+        (PACKET_TOO_LARGE, 35),
+        (TORN, 36),
+        (ENDED, 37),
+        (SETTINGS, 48),
+        (TOO_LONG, 49),
+        (CLOSED, 64),
+        (OPEN, 65),
+        (MEMORY, 66),
+        (LIMITS, 67),
+        (DIMENSIONS, 68),
+        (NO_PICTURE, 69),
+        (NO_PACKET, 70),
+        (BUFFER, 71),
+        (PARTITION, 256),
+    ];
+    for (constant, number) in numbers {
+        assert_eq!(rt; constant, number);
+    }
+}
+
+/// A decoder before its first packet has no picture, and is neither a file nor an encoder.
+#[test]
+fn nothing_to_give(rt: HostRuntime) {
+    let held = Held::Decoder(Decoder::new(rt.alloc(), Limits::usual()));
+    assert!(rt; matches!(held.shown(), Err(NO_PICTURE)));
+    assert!(rt; matches!(held.kept(), Err(CLOSED)));
+    assert!(rt; matches!(held.encoded(), Err(CLOSED)));
 }
 
 /// Rows of 3, 2 and 2 pixels, the first ones 5 bytes apart, with no byte behind the last one.
@@ -82,10 +137,20 @@ const FIRST: [u8; 4] = [10, 11, 12, 13];
 
 const SECOND: [u8; 4] = [14, 15, 16, 17];
 
+fn strides(y: usize, u: usize, v: usize) -> Strides {
+    Strides { y, u, v }
+}
+
 fn picture_of_rows(alloc: Global) -> Result<Picture, Fail> {
     let dim = Dim::new(3, 3, &Limits::usual()).ok().ok_or("a size")?;
     let mut picture = Picture::new(alloc, dim, 128)?;
-    if read_picture(&mut picture, &LUMA, 5, &FIRST, 2, &SECOND, 2) {
+    let planes = CallerPlanes {
+        y: &LUMA,
+        u: &FIRST,
+        v: &SECOND,
+        strides: strides(5, 2, 2),
+    };
+    if read_picture(&mut picture, planes) {
         return Ok(picture);
     }
     Err("the rows don't fit".into())
@@ -101,10 +166,13 @@ fn rows_stand_apart(rt: HostRuntime) -> Result<(), Fail> {
     let mut luma = [99; 11];
     let mut first = [99; 5];
     let mut second = [99; 4];
-    assert_eq!(rt;
-        put_picture(Some(&picture), &mut luma, 4, &mut first, 3, &mut second, 2),
-        OK
-    );
+    let mut planes = CallerPlanesMut {
+        y: &mut luma,
+        u: &mut first,
+        v: &mut second,
+        strides: strides(4, 3, 2),
+    };
+    assert_eq!(rt; put_picture(&picture, &mut planes), OK);
     assert!(rt; luma == [1, 2, 3, 99, 4, 5, 6, 99, 7, 8, 9]);
     assert!(rt; first == [10, 11, 99, 12, 13]);
     assert!(rt; second == SECOND);
@@ -118,21 +186,18 @@ fn rows_that_do_not_fit(rt: HostRuntime) -> Result<(), Fail> {
     let mut luma = [99; 10];
     let mut first = [99; 4];
     let mut second = [99; 4];
-    assert_eq!(rt;
-        put_picture(Some(&picture), &mut luma, 4, &mut first, 2, &mut second, 2),
-        BUFFER
-    );
-    assert_eq!(rt;
-        put_picture(Some(&picture), &mut luma, 2, &mut first, 2, &mut second, 2),
-        BUFFER
-    );
+    let mut planes = CallerPlanesMut {
+        y: &mut luma,
+        u: &mut first,
+        v: &mut second,
+        strides: strides(4, 2, 2),
+    };
+    assert_eq!(rt; put_picture(&picture, &mut planes), BUFFER);
+    planes.strides = strides(2, 2, 2);
+    assert_eq!(rt; put_picture(&picture, &mut planes), BUFFER);
     assert!(rt; luma == [99; 10] && first == [99; 4] && second == [99; 4]);
-    assert_eq!(rt;
-        put_picture(None, &mut luma, 3, &mut first, 2, &mut second, 2),
-        NO_PICTURE
-    );
     let (mut width, mut height) = (0, 0);
-    assert_eq!(rt; put_size(Some(&picture), &mut width, &mut height), OK);
+    assert_eq!(rt; put_size(picture.dim(), &mut width, &mut height), OK);
     assert_eq!(rt; (width, height), (3, 3));
     Ok(())
 }
