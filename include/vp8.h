@@ -60,6 +60,7 @@ enum {
   VP8_TOO_MANY = 34,         /* it has more packets than 1,048,576 */
   VP8_PACKET_TOO_LARGE = 35, /* a packet is larger than 16,777,216 bytes */
   VP8_TORN = 36,             /* it ends inside its head or a packet */
+  VP8_ENDED = 37,            /* it had ended before: no call here answers so, since a file is handed over whole */
 
   /* The frame can't be encoded. */
   VP8_SETTINGS = 48, /* a setting is out of its range */
