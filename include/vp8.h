@@ -62,17 +62,17 @@ enum {
   VP8_TORN = 36,             /* it ends inside its head or a packet */
   VP8_ENDED = 37,            /* it had ended before: no call here answers so, since a file is handed over whole */
 
-  /* The frame can't be encoded. */
+  /* The encoder can't be opened, or the frame not encoded. */
   VP8_SETTINGS = 48, /* a setting is out of its range */
   VP8_TOO_LONG = 49, /* a partition of the packet is too long for the format */
 
   /* The call is refused. */
-  VP8_CLOSED = 64,     /* the handle is closed */
+  VP8_CLOSED = 64,     /* the handle is closed, or of another kind */
   VP8_OPEN = 65,       /* the handle is open already */
   VP8_MEMORY = 66,     /* memory was refused */
   VP8_LIMITS = 67,     /* max_pixels is 0, or over 268,402,689 */
   VP8_DIMENSIONS = 68, /* a side is 0, or over 16,383 */
-  VP8_NO_PICTURE = 69, /* there is no picture to give: none is shown, or none was encoded */
+  VP8_NO_PICTURE = 69, /* there is nothing to give: no picture is shown, or no frame is kept */
   VP8_NO_PACKET = 70,  /* the file has no packet of this number */
   VP8_BUFFER = 71      /* a length or a stride is too small */
 };
@@ -99,8 +99,8 @@ vp8_status vp8_decoder_new(vp8_decoder *decoder, uint32_t max_pixels);
 /* Decodes a packet, which is one frame: a key packet at first, and then each packet over those before it. A packet of no
  * bytes is a frame that its sender dropped: the last shown picture is shown again.
  * VP8_OK: its picture is shown, and vp8_decoder_copy gives it. VP8_HIDDEN: it is not to be shown.
- * VP8_TRUNCATED to VP8_PARTITION_TABLE, VP8_PARTITION + n: it can't be decoded; then packets are VP8_NO_REFERENCE until a
- * key packet is decoded. VP8_MEMORY: the decoder is as before, and the packet may be tried again. VP8_CLOSED. */
+ * VP8_TRUNCATED to VP8_PARTITION_TABLE, VP8_PARTITION + n: it can't be decoded; then inter packets are refused, by
+ * VP8_NO_REFERENCE or a fault that comes before it, until a key packet is decoded. VP8_MEMORY: the decoder is as before, and the packet may be tried again. VP8_CLOSED. */
 vp8_status vp8_decoder_decode(vp8_decoder *decoder, const uint8_t *packet, size_t packet_len);
 
 /* The size in pixels of the picture that the last packet showed. VP8_NO_PICTURE, VP8_CLOSED: nothing is written. */
@@ -134,7 +134,7 @@ typedef struct vp8_stream_info {
 } vp8_stream_info;
 
 /* Opens a stream, and copies the bytes of a whole IVF file into it. Pictures have at most 16,777,216 pixels.
- * What is wrong with the file is told by vp8_stream_info: its whole packets can be asked for all the same.
+ * What is wrong with the file is told by vp8_stream_get_info: its whole packets can be asked for all the same.
  * VP8_OPEN, VP8_MEMORY: the stream is as before. */
 vp8_status vp8_stream_new(vp8_stream *stream, const uint8_t *bytes, size_t bytes_len);
 

@@ -3,7 +3,7 @@
 the calls of its row (or, where a row has several calls, at one of them). Run at the top of the repository."""
 import pathlib, re, sys
 
-CALL = re.compile(r"\s*pub (?:const )?fn (\w+)")
+CALL = re.compile(r"\s*pub (?:const |extern \"C\" )?fn (\w+)")
 
 
 def calls():

@@ -56,3 +56,26 @@ impl Handle {
         slot.forget();
     }
 }
+
+#[cfg(test)]
+impl Handle {
+    ghost use Rattle.vp8_c.specs.Handle.{held_in};
+
+    /// A closed handle, as C makes it.
+    pub fn closed() -> Handle
+        ensures { held_in result ≡ None }
+    {
+        Handle {
+            in_use: 0,
+            slot: Slot::empty(),
+        }
+    }
+
+    /// Lets a closed handle go.
+    pub fn forget(self)
+        requires { held_in self ≡ None }
+    {
+        let Handle { in_use: _, slot } = self;
+        slot.forget();
+    }
+}

@@ -3,6 +3,8 @@
 
 mod asked;
 mod bytes;
+#[cfg(test)]
+mod call_tests;
 mod coding;
 mod decoder;
 mod encoder;

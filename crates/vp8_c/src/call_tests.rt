@@ -1,0 +1,280 @@
+//! Calls as C makes them, on one handle: it is opened, asked, and freed.
+
+use crate::asked::StreamInfo;
+use crate::decoder::{
+    vp8_decoder_copy, vp8_decoder_decode, vp8_decoder_free, vp8_decoder_new, vp8_decoder_size,
+};
+use crate::encoder::{
+    vp8_encoder_encode, vp8_encoder_free, vp8_encoder_new, vp8_encoder_packet,
+    vp8_encoder_packet_size, vp8_encoder_reconstruction, vp8_encoder_squared_error,
+};
+use crate::handle::Handle;
+use crate::names::vp8_status_name;
+use crate::settings::EncoderSettings;
+use crate::stream::{
+    vp8_stream_copy_i420, vp8_stream_free, vp8_stream_get_info, vp8_stream_new,
+    vp8_stream_picture_at, vp8_stream_size,
+};
+use vp_encode::Settings;
+
+/// A key packet of 17 columns and 1 row whose first partition is empty: each pixel of its picture is 128.
+const KEY: [u8; 10] = [0x10, 0, 0, 0x9d, 0x01, 0x2a, 17, 0, 1, 0];
+
+/// A file of 17 columns and 1 row, 30 pictures in 2 seconds: the key packet, a hidden packet, a packet of one byte, and
+/// five of the twelve bytes before a fourth one.
+const FILE: [u8; 87] = [
+    0x44, 0x4b, 0x49, 0x46, 0, 0, 0x20, 0, 0x56, 0x50, 0x38, 0x30, 17, 0, 1, 0, 30, 0, 0, 0, 2, 0,
+    0, 0, 4, 0, 0, 0, 0, 0, 0, 0, 10, 0, 0, 0, 0, 0, 0, 0, 0, 0, 0, 0, 0x10, 0, 0, 0x9d, 0x01,
+    0x2a, 17, 0, 1, 0, 3, 0, 0, 0, 1, 0, 0, 0, 0, 0, 0, 0, 0x01, 0, 0, 1, 0, 0, 0, 2, 0, 0, 0, 0,
+    0, 0, 0, 0x11, 3, 0, 0, 0, 3,
+];
+
+/// Each packet of a file, and one that it doesn't have.
+#[test]
+fn a_file_is_asked(rt: HostRuntime) {
+    let alloc = rt.alloc();
+    let mut stream = Handle::closed();
+    let (mut width, mut height) = (9, 9);
+    let mut i420 = [9; 36];
+    let unopened = vp8_stream_picture_at(alloc, &mut stream, 0);
+    let opened = vp8_stream_new(alloc, &mut stream, &FILE);
+    let unasked = vp8_stream_size(alloc, &mut stream, &mut width, &mut height);
+    let shown = [
+        vp8_stream_picture_at(alloc, &mut stream, 0),
+        vp8_stream_size(alloc, &mut stream, &mut width, &mut height),
+        vp8_stream_copy_i420(alloc, &mut stream, &mut i420[..34]),
+        vp8_stream_copy_i420(alloc, &mut stream, &mut i420),
+    ];
+    let others = [
+        vp8_stream_picture_at(alloc, &mut stream, 1),
+        vp8_stream_copy_i420(alloc, &mut stream, &mut i420),
+        vp8_stream_picture_at(alloc, &mut stream, 2),
+        vp8_stream_picture_at(alloc, &mut stream, 3),
+    ];
+    vp8_stream_free(alloc, &mut stream);
+    stream.forget();
+    assert_eq!(rt; [unopened, opened, unasked], [64, 0, 69]);
+    assert_eq!(rt; shown, [0, 0, 71, 0]);
+    assert_eq!(rt; others, [1, 69, 16, 70]);
+    assert_eq!(rt; (width, height), (17, 1));
+    let mut wanted = [128; 36];
+    wanted[35] = 9;
+    assert!(rt; i420 == wanted);
+}
+
+/// What is known of a file that breaks off in a packet, and of bytes that are no file.
+#[test]
+fn a_file_is_told(rt: HostRuntime) {
+    let alloc = rt.alloc();
+    let mut stream = Handle::closed();
+    let mut info = StreamInfo {
+        width: 9,
+        height: 9,
+        rate: 9,
+        scale: 9,
+        packets: 9,
+        fault: 9,
+    };
+    let mut other = info;
+    let calls = [
+        vp8_stream_new(alloc, &mut stream, &FILE),
+        vp8_stream_new(alloc, &mut stream, b""),
+        vp8_stream_get_info(alloc, &mut stream, &mut info),
+    ];
+    vp8_stream_free(alloc, &mut stream);
+    let again = [
+        vp8_stream_get_info(alloc, &mut stream, &mut other),
+        vp8_stream_new(alloc, &mut stream, &FILE[1..]),
+        vp8_stream_get_info(alloc, &mut stream, &mut other),
+    ];
+    vp8_stream_free(alloc, &mut stream);
+    stream.forget();
+    assert_eq!(rt; calls, [0, 65, 0]);
+    assert_eq!(rt; again, [64, 0, 0]);
+    assert_eq!(rt;
+        (info.width, info.height, info.rate, info.scale),
+        (17, 1, 30, 2)
+    );
+    assert_eq!(rt; (info.packets, info.fault), (3, 36));
+    assert_eq!(rt;
+        (other.width, other.height, other.rate, other.scale),
+        (0, 0, 0, 0)
+    );
+    assert_eq!(rt; (other.packets, other.fault), (0, 32));
+}
+
+/// A packet's picture in the caller's rows, and what no decoder is made for.
+#[test]
+fn a_packet_is_decoded(rt: HostRuntime) {
+    let alloc = rt.alloc();
+    let mut decoder = Handle::closed();
+    let (mut width, mut height) = (9, 9);
+    let (mut y, mut u, mut v) = ([9; 18], [9; 9], [9; 9]);
+    let refused = [
+        vp8_decoder_new(alloc, &mut decoder, 0),
+        vp8_decoder_new(alloc, &mut decoder, 268_402_690),
+        vp8_decoder_decode(alloc, &mut decoder, &KEY),
+    ];
+    let small = [
+        vp8_decoder_new(alloc, &mut decoder, 16),
+        vp8_decoder_decode(alloc, &mut decoder, &KEY),
+        vp8_decoder_size(alloc, &mut decoder, &mut width, &mut height),
+    ];
+    vp8_decoder_free(alloc, &mut decoder);
+    let calls = [
+        vp8_decoder_new(alloc, &mut decoder, 17),
+        vp8_decoder_new(alloc, &mut decoder, 17),
+        vp8_decoder_decode(alloc, &mut decoder, &KEY),
+        vp8_decoder_size(alloc, &mut decoder, &mut width, &mut height),
+        vp8_decoder_copy(alloc, &mut decoder, &mut y, 17, &mut u, 9, &mut v, 9),
+        vp8_decoder_decode(alloc, &mut decoder, &[0x01, 0, 0]),
+        vp8_decoder_copy(alloc, &mut decoder, &mut y, 17, &mut u, 9, &mut v, 9),
+    ];
+    vp8_decoder_free(alloc, &mut decoder);
+    decoder.forget();
+    assert_eq!(rt; refused, [67, 67, 64]);
+    assert_eq!(rt; small, [0, 20, 69]);
+    assert_eq!(rt; calls, [0, 65, 0, 0, 0, 1, 69]);
+    assert_eq!(rt; (width, height), (17, 1));
+    let mut wanted = [128; 18];
+    wanted[17] = 9;
+    assert!(rt; y == wanted && u == [128; 9] && v == [128; 9]);
+}
+
+/// Settings whose numbers all differ.
+fn settings(simple: u8, subpel: u8) -> EncoderSettings {
+    EncoderSettings {
+        qi: 0,
+        level: 2,
+        sharpness: 3,
+        simple,
+        key_every: 4,
+        golden_every: 5,
+        range: 6,
+        subpel,
+        partitions: 8,
+    }
+}
+
+/// Each of C's settings is the library's of its name.
+#[test]
+fn settings_of_c(rt: HostRuntime) {
+    let wanted = Settings {
+        qi: 0,
+        level: 2,
+        sharpness: 3,
+        simple: true,
+        key_every: 4,
+        golden_every: 5,
+        range: 6,
+        subpel: false,
+        partitions: 8,
+    };
+    assert_eq!(rt; settings(7, 0).settings(), wanted);
+    let turned = Settings {
+        simple: false,
+        subpel: true,
+        ..wanted
+    };
+    assert_eq!(rt; settings(0, 1).settings(), turned);
+}
+
+/// A flat picture, which is reconstructed as it is, and rows that don't fit behind it, which change nothing.
+#[test]
+fn a_picture_is_encoded(rt: HostRuntime) {
+    let alloc = rt.alloc();
+    let mut encoder = Handle::closed();
+    let (y, colour) = ([128; 256], [128; 64]);
+    let (mut size, mut after, mut error) = (9, 9, 9);
+    let (mut luma, mut first, mut second) = ([9; 256], [9; 64], [9; 64]);
+    let wrong = EncoderSettings {
+        qi: 128,
+        ..settings(0, 0)
+    };
+    let made = [
+        vp8_encoder_encode(alloc, &mut encoder, &y, 16, &colour, 8, &colour, 8),
+        vp8_encoder_new(alloc, &mut encoder, 16, 0, &wrong),
+        vp8_encoder_new(alloc, &mut encoder, 16, 16, &wrong),
+        vp8_encoder_new(alloc, &mut encoder, 16, 16, &settings(0, 0)),
+        vp8_encoder_new(alloc, &mut encoder, 16, 0, &wrong),
+        vp8_encoder_packet_size(alloc, &mut encoder, &mut size),
+    ];
+    let encoded = [
+        vp8_encoder_encode(alloc, &mut encoder, &y, 16, &colour, 8, &colour, 8),
+        vp8_encoder_packet_size(alloc, &mut encoder, &mut size),
+        vp8_encoder_encode(alloc, &mut encoder, &y[1..], 16, &colour, 8, &colour, 8),
+        vp8_encoder_packet_size(alloc, &mut encoder, &mut after),
+        vp8_encoder_squared_error(alloc, &mut encoder, &mut error),
+        vp8_encoder_reconstruction(
+            alloc,
+            &mut encoder,
+            &mut luma,
+            16,
+            &mut first,
+            8,
+            &mut second,
+            8,
+        ),
+    ];
+    vp8_encoder_free(alloc, &mut encoder);
+    encoder.forget();
+    assert_eq!(rt; made, [64, 68, 48, 0, 65, 69]);
+    assert_eq!(rt; encoded, [0, 0, 71, 0, 0, 0]);
+    assert!(rt; 10 < size && after == size && error == 0);
+    assert!(rt; luma == y && first == colour && second == colour);
+}
+
+/// A packet goes where there is just room for it, and what it holds is decoded to the flat picture again.
+#[test]
+fn a_packet_is_handed_out(rt: HostRuntime) {
+    let alloc = rt.alloc();
+    let mut encoder = Handle::closed();
+    let mut decoder = Handle::closed();
+    let (y, colour) = ([128; 256], [128; 64]);
+    let (mut luma, mut first, mut second) = ([9; 256], [9; 64], [9; 64]);
+    let mut packet = [9; 100];
+    let mut size = 0;
+    let encoded = [
+        vp8_encoder_new(alloc, &mut encoder, 16, 16, &settings(0, 0)),
+        vp8_encoder_encode(alloc, &mut encoder, &y, 16, &colour, 8, &colour, 8),
+        vp8_encoder_packet_size(alloc, &mut encoder, &mut size),
+    ];
+    let size = size.clamp(1, 99);
+    let short = vp8_encoder_packet(alloc, &mut encoder, &mut packet[..size - 1]);
+    let kept = packet[0];
+    let decoded = [
+        vp8_encoder_packet(alloc, &mut encoder, &mut packet[..size]),
+        vp8_decoder_new(alloc, &mut decoder, 256),
+        vp8_decoder_decode(alloc, &mut decoder, &packet[..size]),
+        vp8_decoder_copy(
+            alloc,
+            &mut decoder,
+            &mut luma,
+            16,
+            &mut first,
+            8,
+            &mut second,
+            8,
+        ),
+    ];
+    vp8_encoder_free(alloc, &mut encoder);
+    encoder.forget();
+    vp8_decoder_free(alloc, &mut decoder);
+    decoder.forget();
+    assert_eq!(rt; encoded, [0, 0, 0]);
+    assert_eq!(rt; (short, kept), (71, 9));
+    assert_eq!(rt; decoded, [0, 0, 0, 0]);
+    assert!(rt; luma == y && first == colour && second == colour && packet[size] == 9);
+}
+
+/// A name and the 0 behind it, where there is room for both.
+#[test]
+fn a_name_is_copied(rt: HostRuntime) {
+    let mut out = [9; 10];
+    assert_eq!(rt; vp8_status_name(20, &mut out[..8]), 8);
+    assert_eq!(rt; out, [9; 10]);
+    assert_eq!(rt; vp8_status_name(20, &mut out[..9]), 8);
+    assert!(rt; &out == b"TooLarge\0\t");
+    assert_eq!(rt; vp8_status_name(2, &mut out), 0);
+    assert_eq!(rt; out[0], 0);
+}
