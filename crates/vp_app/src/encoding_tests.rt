@@ -73,6 +73,8 @@ fn values_are_refused(rt: HostRuntime) -> Result<(), Fail> {
     let byte = b"error: --qi is a decimal number up to 255\n";
     assert_eq!(rt; encoded(&rt, "--qi", "300", LINE, byte), (2, 0, true));
     assert_eq!(rt; encoded(&rt, "--qi", "+3", LINE, byte), (2, 0, true));
+    let range = b"error: --range is a decimal number up to 255\n";
+    assert_eq!(rt; encoded(&rt, "--range", "300", LINE, range), (2, 0, true));
     let count = b"error: --key-every is a decimal number\n";
     assert_eq!(rt; encoded(&rt, "--key-every", "", LINE, count), (2, 0, true));
     assert_eq!(rt;
@@ -84,8 +86,9 @@ fn values_are_refused(rt: HostRuntime) -> Result<(), Fail> {
 
 #[test]
 fn the_input_is_opened_first(rt: HostRuntime) -> Result<(), Fail> {
-    let words = ["vp8", "encode", "no/such/file", "no/such/place"];
+    let words = ["vp8", "encode", "no/such/file", "unmade.ivf"];
     assert_eq!(rt; run(&rt, &words, LINE, b"vp8: Device\n"), (1, 0, true));
+    assert!(rt; fs::read(&rt, "unmade.ivf").is_err());
     assert_eq!(rt;
         encoded(&rt, "--qi", "0", b"YUV4MPEG2 W1", b"vp8: Torn\n"),
         (1, 0, true)

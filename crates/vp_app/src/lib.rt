@@ -11,6 +11,8 @@ mod program;
 mod served;
 mod service;
 #[cfg(test)]
+mod serving_tests;
+#[cfg(test)]
 mod tests;
 mod words;
 

@@ -1,6 +1,8 @@
 //! The server: files are fed into a hub, and then connections are served, one after another.
 
-ghost use Rattle.std.specs.Prelude.{◌≡◌, ℕ, List, Err, IfOk, false};
+ghost use Rattle.std.specs.Prelude.{◌≡◌, ◌≢◌, ℕ, List, Err, IfOk, false};
+ghost use Rattle.std.specs.IoError.{error_kind};
+ghost use Rattle.std.specs.declared.io.ErrorKind.{ErrorKind};
 ghost use Rattle.std.specs.Io.KnownBytes.{Consumes};
 ghost use Rattle.vp_base.specs.Counted.{counted_remaining};
 ghost use Rattle.vp_hub.specs.Hub.{State};
@@ -48,12 +50,18 @@ impl fmt::Display for ServiceFault {
 }
 
 impl From<AllocError> for ServiceFault {
+    ghost from_gives = { λ _ fault. fault ≡ ServiceFault.Memory };
+
     fn from(_: AllocError) -> ServiceFault {
         ServiceFault::Memory
     }
 }
 
 impl From<io::Error> for ServiceFault {
+    ghost from_gives = { λ error fault.
+        (error_kind error ≡ ErrorKind.OutOfMemory → fault ≡ ServiceFault.Memory)
+        × (error_kind error ≢ ErrorKind.OutOfMemory → fault ≡ ServiceFault.Device) };
+
     fn from(error: io::Error) -> ServiceFault {
         file_fault(&error, ServiceFault::Device, ServiceFault::Memory)
     }
@@ -109,7 +117,7 @@ fn serve_over<
 }
 
 // Listens at the address, and prints it where that is asked for.
-fn listen<H: AllocGlobal + Net<Stream = TcpStream, Listener = TcpListener>, W: Write>(
+pub(crate) fn listen<H: AllocGlobal + Net<Stream = TcpStream, Listener = TcpListener>, W: Write>(
     rt: &H,
     service: &Service<'_>,
     output: &mut Counted<W>,

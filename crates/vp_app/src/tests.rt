@@ -14,7 +14,7 @@ use vp_encode::Settings;
 use vp_hub::{Event, Hub};
 
 // A file of one key packet without a coefficient, of 16 by 16 pixels.
-const FILE: [u8; 54] = [
+pub(crate) const FILE: [u8; 54] = [
     0x44, 0x4b, 0x49, 0x46, 0, 0, 0x20, 0, 0x56, 0x50, 0x38, 0x30, 0x10, 0, 0x10, 0, 0x1e, 0, 0, 0,
     1, 0, 0, 0, 1, 0, 0, 0, 0, 0, 0, 0, 0x0a, 0, 0, 0, 0, 0, 0, 0, 0, 0, 0, 0, 0x10, 0, 0, 0x9d,
     0x01, 0x2a, 0x10, 0, 0x10, 0,
@@ -163,7 +163,7 @@ fn caches_are_refused(rt: HostRuntime) -> Result<(), Fail> {
 }
 
 /// What these words ask to be served.
-fn asked<'a>(alloc: Global, words: &'a [&'a str]) -> Option<Service<'a>> {
+pub(crate) fn asked<'a>(alloc: Global, words: &'a [&'a str]) -> Option<Service<'a>> {
     match read_words(alloc, words) {
         Ok(Plan::Serve(service)) => Some(service),
         _ => None,
@@ -205,7 +205,7 @@ fn fed_hub(rt: &HostRuntime) -> io::Result<Option<Hub>> {
 }
 
 /// Whether a connection that sends this is answered with just that.
-fn is_replied(
+pub(crate) fn is_replied(
     alloc: Global,
     hub: &mut Hub,
     sent: &[u8],
@@ -293,6 +293,49 @@ fn usual_settings(rt: HostRuntime) -> Result<(), Fail> {
         partitions: 1,
     };
     assert!(rt; asked_settings(rt.alloc(), &["vp8", "encode", "a", "b"]) == Some(usual));
+    Ok(())
+}
+
+#[test]
+fn each_option_sets_its_own(rt: HostRuntime) -> Result<(), Fail> {
+    let words = [
+        "vp8",
+        "encode",
+        "--qi",
+        "1",
+        "--filter",
+        "2",
+        "--sharpness",
+        "3",
+        "--key-every",
+        "4",
+        "--golden-every",
+        "5",
+        "--range",
+        "6",
+        "--partitions",
+        "8",
+        "--simple",
+        "a",
+        "b",
+    ];
+    let wanted = Settings {
+        qi: 1,
+        level: 2,
+        sharpness: 3,
+        simple: true,
+        key_every: 4,
+        golden_every: 5,
+        range: 6,
+        subpel: false,
+        partitions: 8,
+    };
+    assert!(rt; asked_settings(rt.alloc(), &words) == Some(wanted));
+    let words = ["vp8", "encode", "--subpel", "a", "b"];
+    let Some(settings) = asked_settings(rt.alloc(), &words) else {
+        return Err(Fail::new("nothing is encoded"));
+    };
+    assert_eq!(rt; (settings.simple, settings.subpel), (false, true));
     Ok(())
 }
 
