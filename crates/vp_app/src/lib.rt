@@ -11,8 +11,6 @@ mod program;
 mod served;
 mod service;
 #[cfg(test)]
-mod serving_tests;
-#[cfg(test)]
 mod tests;
 mod words;
 
