@@ -131,6 +131,30 @@ fn one_subblock(rt: HostRuntime) {
     assert!(rt; has_block(picture.plane(0), 0, &FIRST_OF_ONES));
 }
 
+/// Two levels, the first of which is multiplied to more than 16 bits hold.
+const GREAT: Block = Block {
+    levels: [300, 1, 0, 0, 0, 0, 0, 0, 0, 0, 0, 0, 0, 0, 0, 0],
+    tokens: 2,
+};
+
+/// 300 times 157 is 47,100, an eighth of which takes each pixel past 255; 16 bits would wrap it to less than nothing.
+#[test]
+fn great_products_do_not_wrap(rt: HostRuntime) {
+    let Ok(dim) = Dim::new(16, 16, &Limits::usual()) else {
+        panic!(rt; "a size");
+    };
+    let Ok(mut picture) = Picture::new(rt.alloc(), dim, 0) else {
+        panic!(rt; "a picture");
+    };
+    let factors = Factors {
+        y_dc: 157,
+        y_ac: 284,
+        ..FACTORS
+    };
+    rebuild_subblock(&mut picture, TOP, SubMode::Dc, &GREAT, &factors);
+    assert!(rt; has_block(picture.plane(0), 0, &[[255; 4]; 4]));
+}
+
 const Y2: Block = Block {
     levels: [5, -3, 0, 0, 0, 0, 0, 0, 0, 0, 0, 0, 0, 0, 0, 0],
     tokens: 2,

@@ -10,7 +10,7 @@ use crate::hubs::{
 use Turn::{First, Second, Stream, Third};
 use std::alloc::Global;
 use std::test::Fail;
-use vp_hub::{Event, Hub, HubFault};
+use vp_hub::{Event, Hub, HubFault, Reply};
 
 /// Someone who sends bytes, one in each turn.
 #[derive(Drop)]
@@ -159,27 +159,78 @@ fn bytes_in_turn(rt: HostRuntime) -> Result<(), Fail> {
     Ok(())
 }
 
-/// Whether a request is answered by the picture where the packet's last byte is fed before the request's last one, and else
-/// by none: so many bytes of the request come before it.
-fn fed_behind(alloc: Global, place: usize) -> bool
+/// What is answered where a file's last bytes are fed behind so many bytes of a request.
+#[derive(Drop)]
+struct Answers {
+    /// Another connection's whole request, before the file's last bytes.
+    before: Result<Reply, HubFault>,
+    /// The bytes of the request that come before them.
+    early: Result<Reply, HubFault>,
+    /// The file's last bytes.
+    fed: Result<Reply, HubFault>,
+    /// The bytes of the request that are left.
+    late: Result<Reply, HubFault>,
+    /// The other connection's request again.
+    behind: Result<Reply, HubFault>,
+}
+
+/// What is answered by a hub whose stream has begun.
+fn ask_around(alloc: Global, begun: &[&[u8]], rest: &[u8], place: usize) -> Option<Answers>
     requires { place ≤ 38 }
 {
-    let Some(mut hub) = hub_of(alloc, &[b"a"], &[&FILE[..53]], 1) else {
-        return false;
-    };
-    let early = says(alloc, &mut hub, 1, &ASKS_KEY[..place]);
-    let fed = feeds(alloc, &mut hub, &FILE[53..54]);
-    let late = says(alloc, &mut hub, 1, &ASKS_KEY[place..]);
+    let mut hub = hub_of(alloc, &[b"a"], begun, 1)?;
+    Some(Answers {
+        before: says(alloc, &mut hub, 3, &ASKS_KEY),
+        early: says(alloc, &mut hub, 1, &ASKS_KEY[..place]),
+        fed: feeds(alloc, &mut hub, rest),
+        late: says(alloc, &mut hub, 1, &ASKS_KEY[place..]),
+        behind: says(alloc, &mut hub, 3, &ASKS_KEY),
+    })
+}
+
+/// Whether the picture is there behind the file's last bytes, and not before them, for the other connection.
+fn are_others(answers: &Answers) -> bool {
+    is_answered(&answers.before, NOT_FOUND)
+        && is_answered(&answers.fed, b"")
+        && is_key(replied(&answers.behind))
+}
+
+/// Whether the request is answered once it is whole: by none, where that is before the file's last bytes.
+fn is_whole(answers: &Answers, place: usize) -> bool {
     if place == 38 {
-        return is_answered(&early, NOT_FOUND) && is_answered(&fed, b"") && is_answered(&late, b"");
+        return is_answered(&answers.early, NOT_FOUND) && is_answered(&answers.late, b"");
     }
-    is_answered(&early, b"") && is_answered(&fed, b"") && is_key(replied(&late))
+    is_answered(&answers.early, b"") && is_key(replied(&answers.late))
+}
+
+/// Whether both connections are answered by what is there at that moment.
+fn fed_behind(alloc: Global, begun: &[&[u8]], rest: &[u8], place: usize) -> bool
+    requires { place ≤ 38 }
+{
+    match ask_around(alloc, begun, rest, place) {
+        Some(answers) => are_others(&answers) && is_whole(&answers, place),
+        None => false,
+    }
 }
 
 #[test]
 fn fed_between_each_two_bytes(rt: HostRuntime) -> Result<(), Fail> {
     for place in 0..=38 {
-        assert!(rt; fed_behind(rt.alloc(), place), "behind {place} bytes");
+        assert!(rt;
+            fed_behind(rt.alloc(), &[&FILE[..53]], &FILE[53..54], place),
+            "behind {place} bytes"
+        );
+    }
+    Ok(())
+}
+
+#[test]
+fn whole_file_fed_between(rt: HostRuntime) -> Result<(), Fail> {
+    for place in 0..=38 {
+        assert!(rt;
+            fed_behind(rt.alloc(), &[], &FILE, place),
+            "behind {place} bytes"
+        );
     }
     Ok(())
 }
