@@ -100,7 +100,8 @@ vp8_status vp8_decoder_new(vp8_decoder *decoder, uint32_t max_pixels);
  * bytes is a frame that its sender dropped: the last shown picture is shown again.
  * VP8_OK: its picture is shown, and vp8_decoder_copy gives it. VP8_HIDDEN: it is not to be shown.
  * VP8_TRUNCATED to VP8_PARTITION_TABLE, VP8_PARTITION + n: it can't be decoded; then inter packets are refused, by
- * VP8_NO_REFERENCE or a fault that comes before it, until a key packet is decoded. VP8_MEMORY: the decoder is as before, and the packet may be tried again. VP8_CLOSED. */
+ * VP8_NO_REFERENCE or a fault that comes before it, until a key packet is decoded. VP8_MEMORY: the decoder is as before,
+ * and the packet may be tried again. VP8_CLOSED. */
 vp8_status vp8_decoder_decode(vp8_decoder *decoder, const uint8_t *packet, size_t packet_len);
 
 /* The size in pixels of the picture that the last packet showed. VP8_NO_PICTURE, VP8_CLOSED: nothing is written. */
