@@ -34,6 +34,26 @@ fn pixel(picture: &Picture, k: usize, x: usize, y: usize) -> Option<u8> {
     None
 }
 
+/// The luma of the last shown column, of one beside it, and of the last corner.
+fn first_luma(picture: &Picture) -> [Option<u8>; 3] {
+    [
+        pixel(picture, 0, 16, 0),
+        pixel(picture, 0, 20, 0),
+        pixel(picture, 0, 31, 15),
+    ]
+}
+
+/// Luma below what is shown, in two columns, U in its last column and beside it, and the last corner of V.
+fn other_pixels(picture: &Picture) -> [Option<u8>; 5] {
+    [
+        pixel(picture, 0, 3, 7),
+        pixel(picture, 0, 15, 15),
+        pixel(picture, 1, 15, 7),
+        pixel(picture, 1, 7, 7),
+        pixel(picture, 2, 15, 7),
+    ]
+}
+
 /// How far two pictures are apart, where they are of one size.
 fn distance(a: &Picture, b: &Picture) -> Option<u64> {
     let [p, q] = [a.dim(), b.dim()];
@@ -58,14 +78,11 @@ fn source_is_continued(rt: HostRuntime) -> Result<(), Fail> {
     put(&mut source, 0, 3, 7, 88);
     put(&mut source, 1, 8, 0, 30);
     let picture = continued(rt.alloc(), &source)?;
-    assert_eq!(rt; pixel(&picture, 0, 16, 0), Some(9));
-    assert_eq!(rt; pixel(&picture, 0, 20, 0), Some(9));
-    assert_eq!(rt; pixel(&picture, 0, 31, 15), Some(9));
-    assert_eq!(rt; pixel(&picture, 0, 3, 7), Some(5));
-    assert_eq!(rt; pixel(&picture, 0, 15, 15), Some(5));
-    assert_eq!(rt; pixel(&picture, 1, 15, 7), Some(30));
-    assert_eq!(rt; pixel(&picture, 1, 7, 7), Some(5));
-    assert_eq!(rt; pixel(&picture, 2, 15, 7), Some(5));
+    assert_eq!(rt; first_luma(&picture), [Some(9); 3]);
+    assert_eq!(rt;
+        other_pixels(&picture),
+        [Some(5), Some(5), Some(30), Some(5), Some(5)]
+    );
     Ok(())
 }
 

@@ -182,21 +182,26 @@ pub(crate) fn works(
     Ok(answers(alloc, hub, number, sent, wanted, false)? && hub.work() == work)
 }
 
-/// Frames 3, 0 and 3 over two connections, the last with so much work.
-fn asks_three(alloc: Global, cache: u32, last: u64) -> Result<bool, AllocError> {
-    let Some(mut hub) = hub_with(alloc, &[&HEAD, &KEY, &INTER, &KEY, &INTER], cache)? else {
-        return Ok(false);
-    };
-    let _ = hub.step(&Event::Open(2));
+/// Frames 3, 0 and 3 over connections 1 and 2, the last with so much work.
+fn gives_three(alloc: Global, hub: &mut Hub, last: u64) -> Result<bool, AllocError> {
     let key = key_reply(alloc)?;
     let inter = inter_reply(alloc)?;
     let third = b"GET /s/a/frame/3 HTTP/1.1\r\nHost: x\r\n\r\n";
     let first = b"GET /s/a/frame/0 HTTP/1.1\r\nHost: x\r\n\r\n";
     Ok(
-        works(alloc, &mut hub, 1, third, &inter, 2)?
-            && works(alloc, &mut hub, 2, first, &key, 1)?
-            && works(alloc, &mut hub, 1, third, &inter, last)?,
+        works(alloc, hub, 1, third, &inter, 2)?
+            && works(alloc, hub, 2, first, &key, 1)?
+            && works(alloc, hub, 1, third, &inter, last)?,
     )
+}
+
+/// The same of a new hub that keeps so many pictures.
+fn asks_three(alloc: Global, cache: u32, last: u64) -> Result<bool, AllocError> {
+    let Some(mut hub) = hub_with(alloc, &[&HEAD, &KEY, &INTER, &KEY, &INTER], cache)? else {
+        return Ok(false);
+    };
+    let _ = hub.step(&Event::Open(2));
+    gives_three(alloc, &mut hub, last)
 }
 
 #[test]
@@ -286,16 +291,22 @@ fn head_too_long(rt: HostRuntime) -> Result<(), Fail> {
     Ok(())
 }
 
-fn fed_between(alloc: Global) -> Result<bool, AllocError> {
-    let Some(mut hub) = hub_with(alloc, &[&HEAD], 16)? else {
-        return Ok(false);
-    };
-    let key = key_reply(alloc)?;
+/// Whether there is no picture before the key packet comes, and one where it comes before a request's last byte.
+fn comes_in_time(alloc: Global, hub: &mut Hub, key: &[u8]) -> Result<bool, AllocError> {
     let sent = b"GET /s/a/frame/0 HTTP/1.1\r\nHost: x\r\n\r\n";
-    let before = answers(alloc, &mut hub, 1, sent, NOT_FOUND, false)?;
-    let begun = answers(alloc, &mut hub, 1, &sent[..37], b"", false)?;
-    let _ = hub.step(&Event::Feed(list(alloc, b"a")?, list(alloc, &KEY)?));
-    Ok(before && begun && answers(alloc, &mut hub, 1, &sent[37..], &key, false)?)
+    let before = answers(alloc, hub, 1, sent, NOT_FOUND, false)?;
+    let begun = answers(alloc, hub, 1, &sent[..37], b"", false)?;
+    feed(alloc, hub, &KEY)?;
+    let late = answers(alloc, hub, 1, &sent[37..], key, false)?;
+    Ok(before && begun && late)
+}
+
+fn fed_between(alloc: Global) -> Result<bool, AllocError> {
+    let key = key_reply(alloc)?;
+    match hub_with(alloc, &[&HEAD], 16)? {
+        Some(mut hub) => comes_in_time(alloc, &mut hub, &key),
+        None => Ok(false),
+    }
 }
 
 #[test]

@@ -2,11 +2,10 @@
 
 ghost use Rattle.std.specs.Prelude.{◌≡◌, OnErr};
 
-use crate::hubs::{INTER, is_refused, list};
+use crate::hubs::{INTER, feeds_to, hub_of, is_refused, list};
 use crate::serving::{HEAD, KEY, answers, hub_with, inter_reply, key_reply, works};
 use std::alloc::{AllocError, Global};
 use std::test::Fail;
-use vp_base::Limits;
 use vp_hub::{Event, Hub, HubFault};
 
 /// Whether connection 1 takes no more, isn't opened again, and goes.
@@ -111,28 +110,29 @@ fn faults_at_the_end(rt: HostRuntime) -> Result<(), Fail> {
     Ok(())
 }
 
+/// A hub of the streams `a`, whose first packet is a key packet, and `b`, whose first is an inter packet.
+fn hub_of_two(alloc: Global) -> Option<Hub> {
+    let mut hub = hub_of(alloc, &[b"a", b"b"], &[&HEAD, &KEY], 16)?;
+    let _ = feeds_to(alloc, &mut hub, b"b", &HEAD);
+    let _ = feeds_to(alloc, &mut hub, b"b", &INTER);
+    Some(hub)
+}
+
 /// Whether the same packet of another stream is answered by its own fault, and not by the picture that is kept.
-fn tells_streams_apart(alloc: Global) -> Result<bool, AllocError> {
-    let mut names = Vec::new(alloc);
-    names.push(list(alloc, b"a")?)?;
-    names.push(list(alloc, b"b")?)?;
-    let Ok(mut hub) = Hub::new(alloc, names, Limits::usual()) else {
-        return Ok(false);
-    };
-    for (name, packet) in [(b"a", KEY.as_slice()), (b"b", INTER.as_slice())] {
-        let _ = hub.step(&Event::Feed(list(alloc, name)?, list(alloc, &HEAD)?));
-        let _ = hub.step(&Event::Feed(list(alloc, name)?, list(alloc, packet)?));
-    }
-    let _ = hub.step(&Event::Open(1));
+fn answers_apart(alloc: Global, hub: &mut Hub, key: &[u8]) -> Result<bool, AllocError> {
     let fault =
         b"HTTP/1.1 422 Unprocessable Entity\r\nContent-Type: text/plain\r\nContent-Length: 12\r\n\r\nNoReference\n";
     let first = b"GET /s/a/frame/0 HTTP/1.1\r\nHost: x\r\n\r\n";
     let second = b"GET /s/b/frame/0 HTTP/1.1\r\nHost: x\r\n\r\n";
+    Ok(answers(alloc, hub, 1, first, key, false)? && answers(alloc, hub, 1, second, fault, false)?)
+}
+
+fn tells_streams_apart(alloc: Global) -> Result<bool, AllocError> {
     let key = key_reply(alloc)?;
-    Ok(
-        answers(alloc, &mut hub, 1, first, &key, false)?
-            && answers(alloc, &mut hub, 1, second, fault, false)?,
-    )
+    match hub_of_two(alloc) {
+        Some(mut hub) => answers_apart(alloc, &mut hub, &key),
+        None => Ok(false),
+    }
 }
 
 #[test]
@@ -190,26 +190,39 @@ fn come_and_go(hub: &mut Hub, bytes: &Event) {
     let _ = hub.step(&Event::Shut(3));
 }
 
-/// Whether two connections that ask in turn, byte by byte, while a third comes, goes and is refused, each get their picture.
-fn asks_in_turn(alloc: Global, cache: u32) -> Result<bool, AllocError> {
+/// Connections 1 and 2 ask in turn, byte by byte, while a third comes, goes and is refused; what each is replied.
+fn ask_in_turn(
+    alloc: Global,
+    hub: &mut Hub,
+    keys: &mut Vec<u8>,
+    inters: &mut Vec<u8>,
+) -> Result<(), AllocError> {
     let bytes = Event::Bytes(3, list(alloc, b"\r\n\r\n")?);
+    let first = b"GET /s/a/frame/0 HTTP/1.1\r\nHost: x\r\n\r\n";
+    let second = b"GET /s/a/frame/1 HTTP/1.1\r\nHost: x\r\n\r\n";
+    for (a, b) in first.iter().zip(second) {
+        send(alloc, hub, 1, &[*a], keys)?;
+        come_and_go(hub, &bytes);
+        send(alloc, hub, 2, &[*b], inters)?;
+    }
+    Ok(())
+}
+
+/// Whether these are the pictures of the key packet and of the inter packet behind it.
+fn are_replies(alloc: Global, keys: &[u8], inters: &[u8]) -> Result<bool, AllocError> {
+    Ok(keys == key_reply(alloc)?.as_slice() && inters == inter_reply(alloc)?.as_slice())
+}
+
+/// Whether two connections that ask so of a hub that keeps so many pictures each get their picture.
+fn asks_in_turn(alloc: Global, cache: u32) -> Result<bool, AllocError> {
     let Some(mut hub) = hub_with(alloc, &[&HEAD, &KEY, &INTER], cache)? else {
         return Ok(false);
     };
     let _ = hub.step(&Event::Open(2));
-    let first = b"GET /s/a/frame/0 HTTP/1.1\r\nHost: x\r\n\r\n";
-    let second = b"GET /s/a/frame/1 HTTP/1.1\r\nHost: x\r\n\r\n";
     let mut keys = Vec::new(alloc);
     let mut inters = Vec::new(alloc);
-    for (a, b) in first.iter().zip(second) {
-        send(alloc, &mut hub, 1, &[*a], &mut keys)?;
-        come_and_go(&mut hub, &bytes);
-        send(alloc, &mut hub, 2, &[*b], &mut inters)?;
-    }
-    Ok(
-        keys.as_slice() == key_reply(alloc)?.as_slice()
-            && inters.as_slice() == inter_reply(alloc)?.as_slice(),
-    )
+    ask_in_turn(alloc, &mut hub, &mut keys, &mut inters)?;
+    are_replies(alloc, &keys, &inters)
 }
 
 #[test]
