@@ -9,8 +9,6 @@ mod near;
 mod picture;
 mod place;
 mod plane;
-#[cfg(test)]
-mod tests;
 
 pub use byte_list::ByteList;
 pub use counted::{Counted, Device, FailAt, put_all};

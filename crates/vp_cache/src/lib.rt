@@ -4,8 +4,6 @@
 mod cache;
 mod kept;
 mod laws;
-#[cfg(test)]
-mod tests;
 
 pub use cache::Cache;
 pub use kept::Kept;

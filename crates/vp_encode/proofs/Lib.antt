@@ -11,7 +11,6 @@ pub mod TagLemmas
 pub mod PacketLemmas
 pub mod Showing
 pub mod EncoderLemmas
-pub mod TestLemmas
 pub mod FileLemmas
 pub mod WritingLemmas
 pub mod PlayingLemmas

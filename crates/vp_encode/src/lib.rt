@@ -3,15 +3,11 @@
 #![tactic(auto)]
 
 mod choosing;
-#[cfg(test)]
-mod choosing_tests;
 mod coded;
 mod distance;
 mod encoder;
 mod encoding;
 mod fault;
-#[cfg(test)]
-mod file_tests;
 mod frame;
 mod header;
 mod laws;
@@ -22,8 +18,6 @@ mod run;
 mod settings;
 mod source;
 mod tag;
-#[cfg(test)]
-mod tests;
 mod tokens;
 
 pub use coded::Coded;

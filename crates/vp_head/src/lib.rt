@@ -11,8 +11,6 @@ mod probability_writing;
 mod row_writing;
 mod rows;
 mod tag;
-#[cfg(test)]
-mod tests;
 
 pub use fault::PacketFault;
 pub use fields::{

@@ -6,11 +6,7 @@ mod both;
 mod filter;
 mod into;
 mod pairs;
-#[cfg(test)]
-mod plain;
 mod reference;
-#[cfg(test)]
-mod tests;
 mod vector;
 mod wide;
 

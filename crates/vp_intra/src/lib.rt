@@ -4,8 +4,6 @@
 mod edges;
 mod modes;
 mod sub;
-#[cfg(test)]
-mod tests;
 mod whole;
 
 pub use sub::predict_sub;

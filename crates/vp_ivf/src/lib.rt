@@ -6,8 +6,6 @@ mod fault;
 mod laws;
 mod packet;
 mod reader;
-#[cfg(test)]
-mod tests;
 mod writer;
 
 pub use fault::{FeedError, FileFault};

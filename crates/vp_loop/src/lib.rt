@@ -6,12 +6,8 @@ mod frame;
 mod lanes;
 mod laws;
 mod lines;
-#[cfg(test)]
-mod plain;
 mod store;
 mod strength;
-#[cfg(test)]
-mod tests;
 mod turn;
 
 pub use frame::{Lanes, RowFilter, filter_picture, filter_row};

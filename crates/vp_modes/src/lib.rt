@@ -16,6 +16,3 @@ pub use reading::read_modes;
 pub use segment::Segment;
 pub use vp_base::Place;
 pub use writing::write_modes;
-
-#[cfg(test)]
-mod tests;

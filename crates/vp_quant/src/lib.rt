@@ -6,8 +6,6 @@ mod block;
 mod factors;
 mod level;
 mod short;
-#[cfg(test)]
-mod tests;
 
 pub use block::dequant;
 pub use factors::{Factors, segment_index};

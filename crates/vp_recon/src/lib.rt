@@ -3,8 +3,6 @@
 
 mod add;
 mod inter;
-#[cfg(test)]
-mod inter_tests;
 mod intra;
 mod kept;
 mod laws;
@@ -15,8 +13,6 @@ mod pair;
 mod residue;
 mod source;
 mod subblock;
-#[cfg(test)]
-mod tests;
 
 pub use intra::rebuild_subblock;
 pub use laws::{

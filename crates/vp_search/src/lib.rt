@@ -10,8 +10,6 @@ mod outward;
 mod refinement;
 mod search;
 mod squares;
-#[cfg(test)]
-mod tests;
 mod vector;
 mod window;
 

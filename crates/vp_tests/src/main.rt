@@ -10,6 +10,8 @@ mod decode;
 #[cfg(test)]
 mod files;
 #[cfg(test)]
+mod layers;
+#[cfg(test)]
 mod stream_files;
 #[cfg(test)]
 mod stream_seeking;

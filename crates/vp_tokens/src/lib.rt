@@ -17,6 +17,3 @@ pub use contexts::{Contexts, Tokens};
 pub use macroblock::{pass_macroblock, read_macroblock};
 pub use partitions::Partitions;
 pub use writing::write_macroblock;
-
-#[cfg(test)]
-mod tests;

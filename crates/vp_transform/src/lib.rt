@@ -9,8 +9,6 @@ mod hadamard_lanes;
 mod lanes;
 mod pair;
 mod short;
-#[cfg(test)]
-mod tests;
 
 pub use cosine::{idct, idct_of_first};
 pub use forward_cosine::fdct;

@@ -12,6 +12,3 @@ pub use laws::{one_leaf, one_path, takes_paths};
 pub use reading::{read_tree, read_tree_from};
 pub use steps::{Step, path, path_from};
 pub use writing::{write_tree, write_tree_from};
-
-#[cfg(test)]
-mod tests;

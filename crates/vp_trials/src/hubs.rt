@@ -60,7 +60,7 @@ fn names_of(alloc: Global, names: &[&[u8]]) -> Result<Vec<ByteList>, AllocError>
 }
 
 /// A hub of streams of these names under these limits.
-fn new_hub(alloc: Global, names: &[&[u8]], limits: Limits) -> Option<Hub>
+pub(crate) fn new_hub(alloc: Global, names: &[&[u8]], limits: Limits) -> Option<Hub>
     ensures connections { IfSome result (λ hub. hub.state.connections ≡ []) }
     ensures partial { IfSome result (λ hub. AllKeepPartial hub.state) }
 {

@@ -1,5 +1,5 @@
-//! Trials that go through all layers: refusals, cut files, changed bytes, failing devices, interleavings. There is nothing
-//! here but tests; what they want is worked by hand from the rules of the formats.
+//! Tests of the encoder and of the hub, and trials that go through all layers: refusals, cut files, changed bytes, failing
+//! devices, interleavings. There is nothing here but tests; what they want is worked by hand from the rules of the formats.
 #![tactic(auto)]
 
 #[cfg(test)]
@@ -8,6 +8,12 @@ mod changed_bytes;
 mod connections;
 #[cfg(test)]
 mod cut_files;
+#[cfg(test)]
+mod encoding;
+#[cfg(test)]
+mod encoding_files;
+#[cfg(test)]
+mod encoding_sources;
 #[cfg(test)]
 mod failing_devices;
 #[cfg(test)]

@@ -5,7 +5,7 @@ ghost use Rattle.vp_hub.specs.Heads.{AllKeepPartial};
 ghost use Rattle.vp_hub.specs.declared.event.Event.{Event};
 ghost use Rattle.vp_hub.specs.Hub.{IsStep};
 
-use crate::hubs::{INTER, LINES, NOT_FOUND, is_refused, list};
+use crate::hubs::{INTER, LINES, NOT_FOUND, is_refused, list, new_hub};
 use std::alloc::{AllocError, Global};
 use std::test::Fail;
 use vp_base::Limits;
@@ -29,15 +29,11 @@ const HIDDEN: [u8; 15] = [3, 0, 0, 0, 0, 0, 0, 0, 0, 0, 0, 0, 0x01, 0, 0];
 pub(crate) const EMPTY: [u8; 12] = [0, 0, 0, 0, 0, 0, 0, 0, 0, 0, 0, 0];
 
 /// A hub of one stream `a`, which keeps so many pictures.
-fn empty_hub(alloc: Global, cache: u32) -> Result<Option<Hub>, AllocError>
-    ensures { IfOk result (λ made. IfSome made (λ hub. AllKeepPartial hub.state)) }
+fn empty_hub(alloc: Global, cache: u32) -> Option<Hub>
+    ensures { IfSome result (λ hub. AllKeepPartial hub.state) }
 {
-    let mut names = Vec::new(alloc);
-    names.push(list(alloc, b"a")?)?;
-    let Some(limits) = Limits::new(16384, 16384, 100, cache) else {
-        return Ok(None);
-    };
-    Ok(Hub::new(alloc, names, limits).ok())
+    let limits = Limits::new(16384, 16384, 100, cache)?;
+    new_hub(alloc, &[b"a"], limits)
 }
 
 /// Feeds the stream `a`.
@@ -58,7 +54,7 @@ pub(crate) fn hub_with(
 ) -> Result<Option<Hub>, AllocError>
     ensures { IfOk result (λ made. IfSome made (λ hub. AllKeepPartial hub.state)) }
 {
-    let Some(mut hub) = empty_hub(alloc, cache)? else {
+    let Some(mut hub) = empty_hub(alloc, cache) else {
         return Ok(None);
     };
     let _ = hub.step(&Event::Open(1));

@@ -2,11 +2,11 @@
 
 ghost use Rattle.std.specs.Prelude.{◌<◌};
 
-use crate::hubs::list;
+use crate::hubs::{list, new_hub};
 use crate::serving_events::send;
 use std::alloc::{AllocError, Global};
 use std::test::Fail;
-use vp_base::{ByteList, Limits};
+use vp_base::Limits;
 use vp_hub::{Event, Hub};
 
 // A file's head, of 48 columns and 48 rows, 25 pictures a second.
@@ -18,14 +18,6 @@ const HEAD: [u8; 32] = [
 // Four packets without a byte, at time 0.
 const PACKETS: [u8; 48] = [0; 48];
 
-fn names_of_three(alloc: Global) -> Result<Vec<ByteList>, AllocError> {
-    let mut names = Vec::new(alloc);
-    names.push(list(alloc, b"a")?)?;
-    names.push(list(alloc, b"b-2")?)?;
-    names.push(list(alloc, b"c_")?)?;
-    Ok(names)
-}
-
 /// Feeds the stream `c_`.
 fn feed(alloc: Global, hub: &mut Hub, bytes: &[u8]) -> Result<(), AllocError> {
     let name = list(alloc, b"c_")?;
@@ -35,7 +27,7 @@ fn feed(alloc: Global, hub: &mut Hub, bytes: &[u8]) -> Result<(), AllocError> {
 
 /// A hub of three streams; the last has ended behind four packets. Connection 7 stands.
 fn hub_of_three(alloc: Global) -> Result<Option<Hub>, AllocError> {
-    let Ok(mut hub) = Hub::new(alloc, names_of_three(alloc)?, Limits::usual()) else {
+    let Some(mut hub) = new_hub(alloc, &[b"a", b"b-2", b"c_"], Limits::usual()) else {
         return Ok(None);
     };
     feed(alloc, &mut hub, &HEAD)?;

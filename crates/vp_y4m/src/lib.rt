@@ -8,8 +8,6 @@ mod laws;
 mod line;
 mod pixels;
 mod source;
-#[cfg(test)]
-mod tests;
 mod writing;
 
 pub use fault::SourceFault;

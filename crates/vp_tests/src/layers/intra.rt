@@ -1,0 +1,139 @@
+//! vp_intra by itself: predicted blocks, worked by hand.
+
+ghost use Rattle.std.specs.Prelude.{◌≡◌};
+
+use std::alloc::{AllocError, Global};
+use vp_base::Plane;
+use vp_intra::{predict_chroma, predict_luma, predict_sub};
+use vp_tables::{ChromaMode, LumaMode, SubMode};
+
+/// A plane of 32 by 32 pixels that differ.
+fn sample(alloc: Global) -> Result<Plane, AllocError> {
+    let mut plane = Plane::new(alloc, 32, 32, 0)?;
+    for y in 0..plane.height() {
+        for x in 0..plane.width() {
+            if x < plane.width() && y < plane.height() {
+                plane.set(x, y, ((x * x * 7 + y * 53 + x * y * 11) % 251) as u8);
+            }
+        }
+    }
+    Ok(plane)
+}
+
+// The pixels of each subblock mode at column 4 of row 4.
+const SUB_MODES: [(SubMode, [u8; 16]); 10] = [
+    (
+        SubMode::Dc,
+        [
+            172, 172, 172, 172, 172, 172, 172, 172, 172, 172, 172, 172, 172, 172, 172, 172,
+        ],
+    ),
+    (
+        SubMode::Tm,
+        [
+            238, 255, 193, 255, 255, 255, 255, 255, 159, 255, 114, 238, 245, 255, 200, 255,
+        ],
+    ),
+    (
+        SubMode::Ve,
+        [
+            156, 189, 173, 172, 156, 189, 173, 172, 156, 189, 173, 172, 156, 189, 173, 172,
+        ],
+    ),
+    (
+        SubMode::He,
+        [
+            156, 156, 156, 156, 179, 179, 179, 179, 140, 140, 140, 140, 142, 142, 142, 142,
+        ],
+    ),
+    (
+        SubMode::Ld,
+        [
+            189, 173, 172, 122, 173, 172, 122, 85, 172, 122, 85, 126, 122, 85, 126, 132,
+        ],
+    ),
+    (
+        SubMode::Rd,
+        [
+            112, 156, 189, 173, 156, 112, 156, 189, 179, 156, 112, 156, 140, 179, 156, 112,
+        ],
+    ),
+    (
+        SubMode::Vr,
+        [
+            111, 200, 178, 169, 112, 156, 189, 173, 156, 111, 200, 178, 179, 112, 156, 189,
+        ],
+    ),
+    (
+        SubMode::Vl,
+        [
+            200, 178, 169, 175, 189, 173, 172, 122, 178, 169, 175, 85, 173, 172, 122, 126,
+        ],
+    ),
+    (
+        SubMode::Hd,
+        [
+            113, 112, 156, 189, 199, 156, 113, 112, 160, 179, 199, 156, 120, 140, 160, 179,
+        ],
+    ),
+    (
+        SubMode::Hu,
+        [
+            199, 179, 160, 140, 160, 140, 120, 142, 120, 142, 163, 163, 163, 163, 163, 163,
+        ],
+    ),
+];
+
+/// Whether each subblock mode predicts its pixels.
+fn predicts_subs(plane: &Plane) -> bool
+    requires width { plane.now.width ≡ 32 }
+    requires height { plane.now.height ≡ 32 }
+{
+    for (mode, pixels) in &SUB_MODES {
+        if predict_sub(plane, 4, 4, *mode) != *pixels {
+            return false;
+        }
+    }
+    true
+}
+
+const RIGHT_OF_MACROBLOCK: [u8; 16] = [
+    79, 100, 158, 178, 100, 158, 178, 105, 158, 178, 105, 75, 178, 105, 75, 139,
+];
+
+const RIGHT_OF_FRAME: [u8; 16] = [
+    95, 89, 106, 105, 89, 106, 105, 87, 106, 105, 87, 87, 105, 87, 87, 87,
+];
+
+#[test]
+fn ten_subblock_modes(rt: HostRuntime) {
+    let Ok(plane) = sample(rt.alloc()) else {
+        panic!(rt; "memory");
+    };
+    assert_eq!(rt; plane.width(), 32);
+    assert_eq!(rt; plane.height(), 32);
+    assert!(rt; predicts_subs(&plane));
+    assert!(rt; predict_sub(&plane, 12, 20, SubMode::Ld) == RIGHT_OF_MACROBLOCK);
+    assert!(rt; predict_sub(&plane, 28, 20, SubMode::Ld) == RIGHT_OF_FRAME);
+}
+
+const ROW_OF_MOTION: [u8; 16] = [
+    255, 220, 128, 255, 237, 187, 151, 129, 121, 127, 147, 181, 229, 255, 255, 206,
+];
+
+#[test]
+fn whole_modes(rt: HostRuntime) {
+    let Ok(plane) = sample(rt.alloc()) else {
+        panic!(rt; "memory");
+    };
+    assert_eq!(rt; plane.width(), 32);
+    assert_eq!(rt; plane.height(), 32);
+    let mean = predict_luma(&plane, 16, 16, LumaMode::Dc);
+    assert_eq!(rt; mean[255], 108);
+    let motion = predict_luma(&plane, 16, 16, LumaMode::Tm);
+    assert!(rt; &motion[48..64] == ROW_OF_MOTION.as_slice());
+    let outside = predict_chroma(&plane, 0, 0, ChromaMode::V);
+    assert_eq!(rt; outside[63], 127);
+    let beside = predict_chroma(&plane, 0, 8, ChromaMode::H);
+    assert_eq!(rt; beside[0], 129);
+}
