@@ -42,9 +42,43 @@ gains_one old rules mid a r new h adds local is = (
   adds.globals ∙ (globals_stay (fields_of mid).has_globals a.global local ∙ h.1),
 )
 
+-- the same of commands that were made, or weren't
+pub gains_next : {E : Type 0} (made : Result Command E) (rules : List Rule) (mid : Result Command E) (a : Arg) (r : Rule) (new : Result Command E)
+    → IfOk mid (λ m. (old : Command) × (made ≡ Ok old) × Gains old rules m)
+    → IfOk new (λ n. (m : Command) × (mid ≡ Ok m) × AddsArg m a n) → a.global ≡ false → rule_of a ≡ r
+    → IfOk new (λ n. (old : Command) × (made ≡ Ok old) × Gains old (rules ++ r ∷ []) n)
+gains_next made rules mid a r (Ok n) h (m, is, adds) local e =
+    let before = subst (λ x. IfOk x (λ m. (old : Command) × (made ≡ Ok old) × Gains old rules m)) is h in
+    (before.0, before.1, gains_one before.0 rules m a r n before.2 adds local e)
+gains_next made rules mid a r (Err f) h k local e = tt
+
+pub gains_first : {E : Type 0} (made : Result Command E) (a : Arg) (r : Rule) (new : Result Command E)
+    → IfOk new (λ n. (m : Command) × (made ≡ Ok m) × AddsArg m a n) → a.global ≡ false → rule_of a ≡ r
+    → IfOk new (λ n. (old : Command) × (made ≡ Ok old) × Gains old (r ∷ []) n)
+gains_first made a r (Ok n) (m, is, adds) local e = (m, is, gains_one m [] m a r n (refl, refl) adds local e)
+gains_first made a r (Err f) k local e = tt
+
+-- a command of this shape, where it was made
+abbrev pub IsMade : App → Command → Type 0
+IsMade a c = (app_of c ≡ a) × ((fields_of c).has_globals ≡ false)
+
+pub gained : {E : Type 0} (made : Result Command E) (a : App) (rules : List Rule) (new : Result Command E) → IfOk made (IsMade a)
+    → IfOk new (λ n. (old : Command) × (made ≡ Ok old) × Gains old rules n) → IfOk new (IsMade (with_rules a rules))
+gained made a rules (Ok n) h (old, is, k) =
+    let before = subst (λ m. IfOk m (IsMade a)) is h in
+    (k.0 ∙ ap (λ x. with_rules x rules) before.0, k.1 ∙ before.1)
+gained made a rules (Err f) h k = tt
+
 pub sub_met : (old sub new : Command) (a b : App) → app_of old ≡ a → app_of sub ≡ b → (fields_of sub).has_globals ≡ false → AddsSubcommand old sub new
     → app_of new ≡ with_subcommand a b.top
 sub_met old sub new a b e f local adds = adds.shape local ∙ (ap (λ x. with_subcommand x (app_of sub).top) e ∙ ap (λ (x : App). with_subcommand a x.top) f)
+
+-- the same of a command that was made, or wasn't
+pub made_met : {E : Type 0} (old : Command) (made : Result Command E) (new : Command) (a b : App) → app_of old ≡ a → IfOk made (λ c. app_of c ≡ b)
+    → IfOk made (λ c. (fields_of c).has_globals ≡ false) → ((sub : Command) × (made ≡ Ok sub) × AddsSubcommand old sub new)
+    → app_of new ≡ with_subcommand a b.top
+made_met old made new a b e f local (sub, is, adds) =
+    sub_met old sub new a b e (subst (λ m. IfOk m (λ c. app_of c ≡ b)) is f) (subst (λ m. IfOk m (λ c. (fields_of c).has_globals ≡ false)) is local) adds
 
 pub all_met : (a : App) → a ≡ with_subcommand (with_subcommand (with_subcommand (with_subcommand vp8_app decode_app.top) encode_app.top) info_app.top) serve_app.top
     → a ≡ program

@@ -1,7 +1,9 @@
 //! Laws of the words.
 
-ghost use Rattle.std.specs.Prelude.{◌≡◌, [], ◌∷◌, Some, codes};
+ghost use Rattle.std.specs.Prelude.{◌≡◌, [], ◌∷◌, Err, Ok, Some, codes, false, true};
 ghost use Rattle.clap.specs.Walk.{Text};
+ghost use Rattle.vp_app.specs.Commands.{status_by_service};
+ghost use Rattle.vp_app.specs.declared.service.ServiceFault.{ServiceFault};
 ghost use Rattle.vp_app.specs.Words.{asked_of, decodes, faults_of, tells, IsOperand};
 
 /// `vp8 decode IN OUT` and `vp8 decode --y4m IN OUT` ask for just that.
@@ -19,4 +21,11 @@ pub fn info_words()
     ensures { (name input : Text) → IsOperand input
         → (faults_of (name ∷ codes "info" ∷ input ∷ []) ≡ [])
         × (asked_of (name ∷ codes "info" ∷ input ∷ []) ≡ tells input) }
+{}
+
+/// A service in which a connection met a fault ends with 1, and so does one that met a fault itself.
+pub fn statuses_of_serve()
+    ensures well { status_by_service (Ok true) ≡ 0 }
+    ensures ill { status_by_service (Ok false) ≡ 1 }
+    ensures fault { (fault : ServiceFault) → status_by_service (Err fault) ≡ 1 }
 {}

@@ -2,17 +2,17 @@
 #![tactic(auto)]
 
 mod encoding;
-#[cfg(test)]
-mod encoding_tests;
 mod files;
 mod laws;
 mod listing;
 mod program;
 mod served;
 mod service;
-#[cfg(test)]
-mod tests;
 mod words;
 
-pub use laws::{decode_words, info_words};
+pub use encoding::Encoding;
+pub use laws::{decode_words, info_words, statuses_of_serve};
 pub use program::{command, command_line};
+pub use served::{Named, Service};
+pub use service::{ServiceFault, feed_all, listen, new_hub, serve_each};
+pub use words::{Plan, Refusal, read_words};

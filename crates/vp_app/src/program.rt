@@ -316,10 +316,7 @@ fn refuse<E: Write>(text: &str, errors: &mut Counted<E>) -> u8
 }
 
 // Names the fault that kept the server from serving, and gives the status.
-pub(crate) fn tell_service<E: Write>(
-    done: Result<bool, ServiceFault>,
-    errors: &mut Counted<E>,
-) -> u8
+fn tell_service<E: Write>(done: Result<bool, ServiceFault>, errors: &mut Counted<E>) -> u8
     ensures status { result ≤ 1 }
     ensures by { result ≡ status_by_service done }
 {

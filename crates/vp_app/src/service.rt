@@ -26,7 +26,7 @@ use vp_hub::{Event, Hub, HubFault, NewFault, ServeFault, serve_one};
 
 /// Why nothing is served.
 #[derive(Clone, Copy, Debug, PartialEq, Eq)]
-pub(crate) enum ServiceFault {
+pub enum ServiceFault {
     /// The names may not be streams' names.
     Names,
     /// A file can't be opened or read, or the address can't be listened at or printed.
@@ -116,8 +116,8 @@ fn serve_over<
     Ok(serve_each(hub, &listener, service.connections, errors))
 }
 
-// Listens at the address, and prints it where that is asked for.
-pub(crate) fn listen<H: AllocGlobal + Net<Stream = TcpStream, Listener = TcpListener>, W: Write>(
+/// Listens at the address, and prints it where that is asked for.
+pub fn listen<H: AllocGlobal + Net<Stream = TcpStream, Listener = TcpListener>, W: Write>(
     rt: &H,
     service: &Service<'_>,
     output: &mut Counted<W>,
@@ -137,8 +137,8 @@ fn print_address<W: Write>(listener: &TcpListener, output: &mut Counted<W>) -> i
     output.flush()
 }
 
-// A hub of the streams, which were fed nothing.
-pub(crate) fn new_hub(alloc: Global, service: &Service<'_>) -> Result<Hub, ServiceFault>
+/// A hub of the streams, which were fed nothing.
+pub fn new_hub(alloc: Global, service: &Service<'_>) -> Result<Hub, ServiceFault>
     ensures hub { IfOk result (λ hub. IsNewHub service.now.streams.items service.now.cache hub) }
     ensures names { result ≡ Err ServiceFault.Names → are_names (names_of service.now.streams.items) ≡ false }
 {
@@ -177,8 +177,8 @@ fn byte_list(alloc: Global, bytes: &[u8]) -> Result<ByteList, AllocError>
     Ok(ByteList::from_vec(bytes.to_vec(alloc)?))
 }
 
-// Feeds each stream in turn.
-pub(crate) fn feed_all<H: Files + AllocGlobal, R: Read>(
+/// Feeds each stream its file, one after another, and tells its end.
+pub fn feed_all<H: Files + AllocGlobal, R: Read>(
     rt: &H,
     hub: &mut Hub,
     streams: &[Named<'_>],
@@ -265,8 +265,8 @@ fn is_memory(fault: HubFault) -> bool
     matches!(fault, HubFault::Memory)
 }
 
-// Serves connections one after another; true where each was served to its end.
-pub(crate) fn serve_each<E: Write>(
+/// Serves so many connections, one after another; true where each was served to its end. What ends one is named on `errors`.
+pub fn serve_each<E: Write>(
     hub: &mut Hub,
     listener: &TcpListener,
     connections: u32,

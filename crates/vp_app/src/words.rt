@@ -1,12 +1,13 @@
 //! The words of the program.
 
-ghost use Rattle.std.specs.Prelude.{◌≡◌, ◌<◌, ◌≤◌, ◌^◌, [], IfErr, IfOk, IfSome, None, codes, false, option_map};
+ghost use Rattle.std.specs.Prelude.{◌≡◌, ◌<◌, ◌≤◌, ◌^◌, [], IfErr, IfOk, IfSome, None, Ok, codes, false, option_map};
 ghost use Rattle.clap.specs.Words.{app_of, found_of, rows_of, rule_of, subcommand_rows_of};
+ghost use Rattle.clap.specs.Built.{AddsArg, AddsSubcommand};
 ghost use Rattle.clap.specs.Kinds.{HasKind};
 ghost use Rattle.clap.specs.Simple.{subcommand_of};
 ghost use Rattle.clap.specs.Walk.{all_of, first_of, one_of, texts};
 ghost use Rattle.clap.specs.declared.builder.command.Command.TheViews.{out-Command as fields_of};
-ghost use Rattle.vp_app.specs.Words.{asked_at, asked_by, asked_of, encodes, faults_of, AreNamed, AreNoSettings, AreSettings, Gains, IsDecimal, IsFlag, IsMisnumbered, IsNoCache, IsNoDecimal, IsNoNaming, IsNoPlanFor, IsNumber, IsOfValue, IsPlanFor, IsRefusalFor, decode_app, encode_app, flag_rule, frame_rules, info_app, macroblock_rules, operand_rule, operands_rule, program, serve_app, serves, setting_rule, with_rules};
+ghost use Rattle.vp_app.specs.Words.{asked_at, asked_by, asked_of, encodes, faults_of, AreNamed, AreNoSettings, AreSettings, Gains, IsDecimal, IsFlag, IsMisnumbered, IsNoCache, IsNoDecimal, IsNoNaming, IsNoPlanFor, IsNumber, IsOfValue, IsPlanFor, IsRefusalFor, decode_app, encode_app, file_rules, flag_rule, frame_rules, info_app, macroblock_rules, operand_rule, operands_rule, program, serve_app, serves, setting_rule, vp8_app, with_rules};
 
 use crate::encoding::Encoding;
 use crate::served::{Named, Service};
@@ -67,7 +68,7 @@ impl From<AllocError> for Refusal {
 }
 
 /// Reads the words, of which the first is the program's name.
-pub(crate) fn read_words<'a>(alloc: Global, words: &'a [&'a str]) -> Result<Plan<'a>, Refusal>
+pub fn read_words<'a>(alloc: Global, words: &'a [&'a str]) -> Result<Plan<'a>, Refusal>
     ensures plan { IfOk result (λ plan. (faults_of (texts words.now) ≡ [])
         × IsPlanFor (asked_of (texts words.now)) plan) }
     ensures refusal { IfErr result (IsRefusalFor (texts words.now)) }
@@ -101,34 +102,62 @@ fn read_matches<'a>(alloc: Global, matches: &ArgMatches<'a>) -> Result<Plan<'a>,
 fn program<'a>(alloc: Global) -> Result<Command<'a>, AllocError>
     ensures { IfOk result (λ c. app_of c ≡ program) }
 {
+    let decodes = with_made(vp8_command(alloc), decode_command(alloc))?;
+    let encodes = with_made(decodes, encode_command(alloc))?;
+    let tells = with_made(encodes, info_command(alloc))?;
+    with_made(tells, serve_command(alloc))
+}
+
+// The program without its commands.
+fn vp8_command<'a>(alloc: Global) -> Command<'a>
+    ensures { app_of result ≡ vp8_app }
+{
     Command::new(alloc, "vp8")
         .about("Decodes, encodes and serves VP8 video")
         .version("0.1.0")
         .disable_help_subcommand(true)
         .subcommand_required(true)
-        .subcommand(decode_command(alloc)?)?
-        .subcommand(encode_command(alloc)?)?
-        .subcommand(info_command(alloc)?)?
-        .subcommand(serve_command(alloc)?)
+}
+
+// With one more command, where that could be made.
+fn with_made<'a>(
+    command: Command<'a>,
+    made: Result<Command<'a>, AllocError>,
+) -> Result<Command<'a>, AllocError>
+    ensures { IfOk result (λ new. (sub : _) × (made.entry ≡ Ok sub) × AddsSubcommand command.entry sub new) }
+{
+    command.subcommand(made?)
 }
 
 fn decode_command<'a>(alloc: Global) -> Result<Command<'a>, AllocError>
     ensures app { IfOk result (λ c. app_of c ≡ decode_app) }
     ensures local { IfOk result (λ c. (fields_of c).has_globals ≡ false) }
 {
-    Command::new(alloc, "decode")
-        .about("Decodes an IVF file into the pictures that are shown, one after another")
-        .arg(flag(
-            alloc,
-            "y4m",
-            "Writes YUV4MPEG2 with size and rate, in place of bare I420",
-        ))?
-        .arg(operand(alloc, "IN", "The IVF file, or - for standard input"))?
-        .arg(operand(
-            alloc,
-            "OUT",
-            "The file of pictures, or - for standard output",
-        ))
+    let command = Command::new(alloc, "decode").about(
+        "Decodes an IVF file into the pictures that are shown, one after another",
+    );
+    let y4m = flag(
+        alloc,
+        "y4m",
+        "Writes YUV4MPEG2 with size and rate, in place of bare I420",
+    );
+    let input = operand(alloc, "IN", "The IVF file, or - for standard input");
+    let output = operand(
+        alloc,
+        "OUT",
+        "The file of pictures, or - for standard output",
+    );
+    with_arg(with_arg(with_arg(Ok(command), y4m), input), output)
+}
+
+// With one more argument, where the command could be made.
+fn with_arg<'a>(
+    command: Result<Command<'a>, AllocError>,
+    arg: Arg<'a>,
+) -> Result<Command<'a>, AllocError>
+    ensures { IfOk result (λ new. (old : _) × (command.entry ≡ Ok old) × AddsArg old arg.entry new) }
+{
+    command?.arg(arg)
 }
 
 fn encode_command<'a>(alloc: Global) -> Result<Command<'a>, AllocError>
@@ -138,73 +167,112 @@ fn encode_command<'a>(alloc: Global) -> Result<Command<'a>, AllocError>
     let command = Command::new(alloc, "encode").about(
         "Encodes the pictures of a YUV4MPEG2 file as VP8 in an IVF file, and tells how many there are and the sum of their squared errors",
     );
-    let command = with_frame_settings(alloc, with_macroblock_settings(alloc, command)?)?;
-    command
-        .arg(flag(
-            alloc,
-            "progress",
-            "Tells on standard error after every tenth frame how many are encoded",
-        ))?
-        .arg(operand(alloc, "IN", "The YUV4MPEG2 file, or - for standard input"))?
-        .arg(operand(alloc, "OUT", "The IVF file, or - for standard output"))
+    let macroblocks = with_macroblock_settings(alloc, Ok(command));
+    let frames = with_frame_settings(alloc, macroblocks);
+    with_files(alloc, frames)
+}
+
+// Whether progress is told, and the files.
+fn with_files<'a>(
+    alloc: Global,
+    command: Result<Command<'a>, AllocError>,
+) -> Result<Command<'a>, AllocError>
+    ensures { IfOk result (λ new. (old : _) × (command.entry ≡ Ok old) × Gains old file_rules new) }
+{
+    let progress = flag(
+        alloc,
+        "progress",
+        "Tells on standard error after every tenth frame how many are encoded",
+    );
+    let input = operand(alloc, "IN", "The YUV4MPEG2 file, or - for standard input");
+    let output = operand(alloc, "OUT", "The IVF file, or - for standard output");
+    with_arg(with_arg(with_arg(command, progress), input), output)
 }
 
 // How macroblocks are coded and filtered.
 fn with_macroblock_settings<'a>(
     alloc: Global,
-    command: Command<'a>,
+    command: Result<Command<'a>, AllocError>,
 ) -> Result<Command<'a>, AllocError>
-    ensures { IfOk result (Gains command.entry macroblock_rules) }
+    ensures { IfOk result (λ new. (old : _) × (command.entry ≡ Ok old) × Gains old macroblock_rules new) }
 {
-    command
-        .arg(setting(
+    let command = with_arg(
+        command,
+        setting(
             alloc,
             "qi",
             "The quantiser index, from 0, which loses least, to 127; 32 unless it is said",
-        ))?
-        .arg(setting(
+        ),
+    );
+    let command = with_arg(
+        command,
+        setting(
             alloc,
             "filter",
             "The loop filter's level, from 0, which filters nothing, to 63; 16 unless it is said",
-        ))?
-        .arg(setting(
+        ),
+    );
+    let command = with_arg(
+        command,
+        setting(
             alloc,
             "sharpness",
             "The loop filter's sharpness, from 0 to 7; 0 unless it is said",
-        ))?
-        .arg(flag(
+        ),
+    );
+    with_arg(
+        command,
+        flag(
             alloc,
             "simple",
             "Filters by the simple loop filter, which leaves colour alone",
-        ))
+        ),
+    )
 }
 
 // How frames follow one another.
-fn with_frame_settings<'a>(alloc: Global, command: Command<'a>) -> Result<Command<'a>, AllocError>
-    ensures { IfOk result (Gains command.entry frame_rules) }
+fn with_frame_settings<'a>(
+    alloc: Global,
+    command: Result<Command<'a>, AllocError>,
+) -> Result<Command<'a>, AllocError>
+    ensures { IfOk result (λ new. (old : _) × (command.entry ≡ Ok old) × Gains old frame_rules new) }
 {
-    command
-        .arg(setting(
+    let command = with_arg(
+        command,
+        setting(
             alloc,
             "key-every",
             "How many frames there are from one key frame to the next, at least 1; 64 unless it is said",
-        ))?
-        .arg(setting(
+        ),
+    );
+    let command = with_arg(
+        command,
+        setting(
             alloc,
             "golden-every",
             "How many frames there are from one golden picture to the next, or 0 for none but the key frame's; 0 unless it is said",
-        ))?
-        .arg(setting(
+        ),
+    );
+    let command = with_arg(
+        command,
+        setting(
             alloc,
             "range",
             "How many pixels a motion vector goes each way at most, from 0 to 64; 16 unless it is said",
-        ))?
-        .arg(flag(alloc, "subpel", "Refines motion vectors to quarter pixels"))?
-        .arg(setting(
+        ),
+    );
+    let command = with_arg(
+        command,
+        flag(alloc, "subpel", "Refines motion vectors to quarter pixels"),
+    );
+    with_arg(
+        command,
+        setting(
             alloc,
             "partitions",
             "How many token partitions a packet has: 1, 2, 4 or 8; 1 unless it is said",
-        ))
+        ),
+    )
 }
 
 fn info_command<'a>(alloc: Global) -> Result<Command<'a>, AllocError>
@@ -222,27 +290,39 @@ fn serve_command<'a>(alloc: Global) -> Result<Command<'a>, AllocError>
     ensures app { IfOk result (λ c. app_of c ≡ serve_app) }
     ensures local { IfOk result (λ c. (fields_of c).has_globals ≡ false) }
 {
-    Command::new(alloc, "serve")
-        .about(
-            "Serves the pictures of IVF files over HTTP, one connection after another, and then ends",
-        )
-        .arg(setting(alloc, "listen", "The address and port to listen at").required(true))?
-        .arg(setting(alloc, "connections", "How many connections are served").required(true))?
-        .arg(setting(
+    let command = Command::new(alloc, "serve").about(
+        "Serves the pictures of IVF files over HTTP, one connection after another, and then ends",
+    );
+    let listen = setting(alloc, "listen", "The address and port to listen at").required(true);
+    let command = with_arg(Ok(command), listen);
+    let connections = setting(alloc, "connections", "How many connections are served").required(
+        true,
+    );
+    let command = with_arg(command, connections);
+    let command = with_arg(
+        command,
+        setting(
             alloc,
             "cache",
             "How many pictures are kept, from 1 to 4096; 16 unless it is said",
-        ))?
-        .arg(flag(
+        ),
+    );
+    let command = with_arg(
+        command,
+        flag(
             alloc,
             "show-address",
             "Prints the address and port that it listens at, which shows the port that was found where 0 is asked for",
-        ))?
-        .arg(operands(
+        ),
+    );
+    with_arg(
+        command,
+        operands(
             alloc,
             "NAME=FILE",
             "A stream's name and its IVF file, or - for standard input",
-        ))
+        ),
+    )
 }
 
 fn setting<'a>(alloc: Global, name: &'a str, help: &'a str) -> Arg<'a>

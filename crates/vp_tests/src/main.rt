@@ -6,6 +6,10 @@
 #[cfg(test)]
 mod app;
 #[cfg(test)]
+mod app_encoding;
+#[cfg(test)]
+mod app_serving;
+#[cfg(test)]
 mod decode;
 #[cfg(test)]
 mod files;

@@ -18,6 +18,7 @@ ghost use Rattle.vp_modes.specs.Spelled.{IsSpelled as modes_spelled};
 ghost use Rattle.vp_tokens.specs.Blocks.{no_blocks};
 ghost use Rattle.vp_encode.specs.Coded.{has_y2, CanBeTold};
 
+use crate::worked_rows::settings;
 use std::alloc::{AllocError, Global};
 use std::test::Fail;
 use vp_base::{ByteList, Dim, Grid, Limits, Picture, Place};
@@ -261,21 +262,6 @@ fn first_partition_too_long(rt: HostRuntime) -> Result<(), Fail> {
     Ok(())
 }
 
-/// Nothing is lost but by the quantiser, and all frames but the first are inter frames.
-pub(crate) fn plain_settings(qi: u8) -> Settings {
-    Settings {
-        qi,
-        level: 0,
-        sharpness: 0,
-        simple: false,
-        key_every: 64,
-        golden_every: 0,
-        range: 16,
-        subpel: false,
-        partitions: 1,
-    }
-}
-
 /// The lowest bit of an inter packet is 1.
 fn is_inter(packet: &ByteList) -> bool {
     packet.as_slice().first().is_some_and(|byte| byte % 2 == 1)
@@ -344,7 +330,7 @@ fn next_packet(encoder: &mut Encoder, source: &Picture) -> Option<ByteList> {
 /// The first two packets of a picture of 16 by 16 pixels that is 128 everywhere.
 fn flat_packets(alloc: Global, dim: Dim) -> Option<(ByteList, ByteList)> {
     let source = Picture::new(alloc, dim, 128).ok()?;
-    let mut encoder = Encoder::new(alloc, dim, plain_settings(0)).ok()?;
+    let mut encoder = Encoder::new(alloc, dim, settings(0, 1)).ok()?;
     let key = next_packet(&mut encoder, &source)?;
     let inter = next_packet(&mut encoder, &source)?;
     Some((key, inter))
@@ -379,7 +365,7 @@ fn encode_flat_inter(rt: HostRuntime) -> Result<(), Fail> {
 fn encode_succeeds(rt: HostRuntime) -> Result<(), Fail> {
     let dim = Dim::new(16, 16, &Limits::usual())?;
     let source = Picture::new(rt.alloc(), dim, 200)?;
-    let mut encoder = Encoder::new(rt.alloc(), dim, plain_settings(0))?;
+    let mut encoder = Encoder::new(rt.alloc(), dim, settings(0, 1))?;
     let encoded = encoder.encode(&source)?;
     assert_eq!(rt; encoded.squared_error, 0);
     assert!(rt; is_all(rt.alloc(), &encoded.recon, 200)?);
@@ -389,11 +375,11 @@ fn encode_succeeds(rt: HostRuntime) -> Result<(), Fail> {
 #[test]
 fn settings_and_events_refused(rt: HostRuntime) -> Result<(), Fail> {
     let dim = Dim::new(16, 16, &Limits::usual())?;
-    let refused = Encoder::new(rt.alloc(), dim, plain_settings(128)).err();
+    let refused = Encoder::new(rt.alloc(), dim, settings(128, 1)).err();
     assert_eq!(rt; refused, Some(SettingsFault::Settings));
     let taller = Dim::new(16, 32, &Limits::usual())?;
     let source = Picture::new(rt.alloc(), taller, 128)?;
-    let mut encoder = Encoder::new(rt.alloc(), dim, plain_settings(0))?;
+    let mut encoder = Encoder::new(rt.alloc(), dim, settings(0, 1))?;
     let refused = encoder.encode(&source).err();
     assert_eq!(rt; refused, Some(EncodeFault::SourceSize));
     Ok(())
@@ -444,12 +430,12 @@ fn four_kinds(alloc: Global, settings: Settings) -> Result<[Kind; 4], Fail> {
 
 #[test]
 fn golden_and_key_distances(rt: HostRuntime) -> Result<(), Fail> {
-    let mut settings = plain_settings(0);
-    settings.golden_every = 2;
-    let kinds = four_kinds(rt.alloc(), settings)?;
+    let mut wanted = settings(0, 1);
+    wanted.golden_every = 2;
+    let kinds = four_kinds(rt.alloc(), wanted)?;
     assert_eq!(rt; kinds, [Kind::Key, Kind::Plain, Kind::Golden, Kind::Plain]);
-    settings.key_every = 3;
-    let kinds = four_kinds(rt.alloc(), settings)?;
+    wanted.key_every = 3;
+    let kinds = four_kinds(rt.alloc(), wanted)?;
     assert_eq!(rt; kinds, [Kind::Key, Kind::Plain, Kind::Golden, Kind::Key]);
     Ok(())
 }

@@ -1,6 +1,6 @@
 //! What is encoded of a source: the pixels that are shown, continued by the nearest of them, and a sum over them alone.
 
-use crate::encoding::plain_settings;
+use crate::worked_rows::settings;
 use std::alloc::{AllocError, Global};
 use std::test::Fail;
 use vp_base::{Dim, Limits, Picture};
@@ -56,7 +56,7 @@ fn narrow(alloc: Global, dim: Dim) -> Result<Picture, AllocError> {
 fn source_is_continued(rt: HostRuntime) -> Result<(), Fail> {
     let dim = Dim::new(17, 1, &Limits::usual())?;
     let source = narrow(rt.alloc(), dim)?;
-    let mut encoder = Encoder::new(rt.alloc(), dim, plain_settings(0))?;
+    let mut encoder = Encoder::new(rt.alloc(), dim, settings(0, 1))?;
     let encoded = encoder.encode(&source)?;
     assert_eq!(rt; encoded.squared_error, 0);
     assert_eq!(rt; first_luma(&encoded.recon), [Some(9); 3]);
@@ -83,7 +83,7 @@ fn distance(alloc: Global, a: &Picture, b: &Picture) -> Result<u64, AllocError> 
 fn error_over_shown_pixels(rt: HostRuntime) -> Result<(), Fail> {
     let dim = Dim::new(17, 1, &Limits::usual())?;
     let source = narrow(rt.alloc(), dim)?;
-    let mut encoder = Encoder::new(rt.alloc(), dim, plain_settings(127))?;
+    let mut encoder = Encoder::new(rt.alloc(), dim, settings(127, 1))?;
     let encoded = encoder.encode(&source)?;
     let wanted = distance(rt.alloc(), &source, &encoded.recon)?;
     assert!(rt; wanted > 0);

@@ -283,7 +283,7 @@ impl Pixels {
 
     /// Filters over the edges inside a block, one in every fourth place.
     fn filter_inside(&mut self, at: usize, apart: usize, next: usize, size: usize, step: LineStep) {
-        for i in 0..size / 4 - size.min(4) / 4 {
+        for i in 0..size.saturating_sub(4) / 4 {
             let edge = at.wrapping_add(apart.wrapping_mul(i.wrapping_mul(4)));
             self.filter_edge(edge, apart, next, size, step);
         }
@@ -294,18 +294,20 @@ impl Pixels {
     fn filter_block(&mut self, x: usize, y: usize, size: usize, level: &Level) {
         let width = self.width;
         let at = width.wrapping_mul(y).wrapping_add(x);
+        let outer = step_of(level, EdgeKind::Macroblock, level.edge);
+        let inner = step_of(level, EdgeKind::Inner, level.inner);
         if x > 0 {
-            self.filter_edge(at.wrapping_sub(4), 1, width, size, outer_step(level));
+            self.filter_edge(at.wrapping_sub(4), 1, width, size, outer);
         }
         if level.inner > 0 {
-            self.filter_inside(at, 1, width, size, inner_step(level));
+            self.filter_inside(at, 1, width, size, inner);
         }
         if y > 0 {
             let above = at.wrapping_sub(width.wrapping_mul(4));
-            self.filter_edge(above, width, 1, size, outer_step(level));
+            self.filter_edge(above, width, 1, size, outer);
         }
         if level.inner > 0 {
-            self.filter_inside(at, width, 1, size, inner_step(level));
+            self.filter_inside(at, width, 1, size, inner);
         }
     }
 
@@ -333,29 +335,15 @@ impl Pixels {
     }
 }
 
-/// The step over edges between macroblocks; a level of the simple filter has an interior limit of 0.
-fn outer_step(level: &Level) -> LineStep {
+/// The step over edges of a kind with this limit; a level of the simple filter has an interior limit of 0.
+fn step_of(level: &Level, kind: EdgeKind, limit: u8) -> LineStep {
     LineStep {
         kind: if level.interior == 0 {
             EdgeKind::Simple
         } else {
-            EdgeKind::Macroblock
+            kind
         },
-        limit: level.edge,
-        interior: level.interior,
-        hev: level.hev,
-    }
-}
-
-/// The step over edges inside macroblocks.
-fn inner_step(level: &Level) -> LineStep {
-    LineStep {
-        kind: if level.interior == 0 {
-            EdgeKind::Simple
-        } else {
-            EdgeKind::Inner
-        },
-        limit: level.inner,
+        limit,
         interior: level.interior,
         hev: level.hev,
     }

@@ -4,52 +4,22 @@ use std::alloc::{AllocError, Global};
 use std::rc::Rc;
 use std::test::Fail;
 use vp_base::{Dim, Limits, Picture};
-use vp_head::{
-    Filter, Header, QuantiserIndices, Reference, ReferenceCopy, ReferenceProbabilities,
-    ReferenceUpdates, Saved, Segmentation,
-};
+use vp_bool::BoolDecoder;
+use vp_head::{Header, Reference, ReferenceCopy, ReferenceUpdates, Saved, Tag};
 use vp_refs::Refs;
+
+const INTER: Tag = Tag {
+    version: 0,
+    show: true,
+    first_partition: 0,
+    key: None,
+};
 
 // An inter frame's header that asks for these updates.
 fn asking_for(updates: ReferenceUpdates) -> Header {
-    let saved = Saved::defaults();
-    Header {
-        key: false,
-        color_space: false,
-        clamping_type: false,
-        segmentation: Segmentation {
-            enabled: false,
-            update_map: false,
-            values: saved.segments,
-            tree_probabilities: [255; 3],
-        },
-        filter: Filter {
-            simple: false,
-            level: 0,
-            sharpness: 0,
-        },
-        deltas_enabled: false,
-        deltas: saved.deltas,
-        log2_partitions: 0,
-        quantiser: QuantiserIndices {
-            y_ac: 0,
-            y_dc: 0,
-            y2_dc: 0,
-            y2_ac: 0,
-            uv_dc: 0,
-            uv_ac: 0,
-        },
-        updates,
-        biases: saved.biases,
-        refresh_entropy: true,
-        probabilities: saved.probabilities,
-        skip: None,
-        references: ReferenceProbabilities {
-            intra: 128,
-            last: 128,
-            golden: 128,
-        },
-    }
+    let (mut header, _) = Header::read(&Saved::defaults(), &INTER, &mut BoolDecoder::new(&[]));
+    header.updates = updates;
+    header
 }
 
 // The first pixel of luma.

@@ -1,15 +1,11 @@
 //! The server's words, its files and connections, and the limits of the commands.
 
-use crate::command;
-use crate::program::tell_service;
-use crate::served::{Named, Service};
-use crate::service::{feed_all, listen, new_hub, serve_each};
-use crate::words::{Plan, read_words};
 use std::alloc::{AllocError, Global};
 use std::io::{Read, Write};
 use std::net::{Shutdown, TcpListener, TcpStream};
 use std::test::Fail;
 use std::{fs, io};
+use vp_app::{Named, Plan, Service, command, feed_all, listen, new_hub, read_words, serve_each};
 use vp_base::{ByteList, Counted, FailAt, Limits};
 use vp_encode::Settings;
 use vp_hub::{Event, Hub};
@@ -225,23 +221,35 @@ fn is_replied(
 const KNOWN: &[u8] =
     b"HTTP/1.1 200 OK\r\nContent-Type: text/plain\r\nContent-Length: 43\r\n\r\nstate ended\npackets 2\nsize 16x16\nrate 30/1\nHTTP/1.1 200 OK\r\nContent-Type: text/plain\r\nContent-Length: 43\r\n\r\nstate ended\npackets 1\nsize 16x16\nrate 30/1\nHTTP/1.1 200 OK\r\nContent-Type: text/plain\r\nContent-Length: 21\r\n\r\nstate Torn\npackets 0\n";
 
+/// Whether the hub is asked for the three streams, for the picture of `b`, and for the last one of `a`, and each reply is
+/// the one that is wanted.
+fn are_known(alloc: Global, hub: &mut Hub) -> Result<bool, AllocError> {
+    let asks =
+        b"GET /s/a/info HTTP/1.1\r\nHost: x\r\n\r\nGET /s/b/info HTTP/1.1\r\nHost: x\r\n\r\nGET /s/c/info HTTP/1.1\r\nHost: x\r\n\r\n";
+    let known = is_replied(alloc, hub, asks, KNOWN)?;
+    let asks = b"GET /s/b/frame/0 HTTP/1.1\r\nHost: x\r\nConnection: close\r\n\r\n";
+    let wanted = last_reply(alloc)?;
+    let shown = is_replied(alloc, hub, asks, &wanted)?;
+    let asks = b"GET /s/a/frame/1 HTTP/1.1\r\nHost: x\r\nConnection: close\r\n\r\n";
+    let wanted = grey_reply(alloc)?;
+    let last = is_replied(alloc, hub, asks, &wanted)?;
+    Ok(known && shown && last)
+}
+
+/// The reply with a picture that is 128 all over.
+fn grey_reply(alloc: Global) -> Result<Vec<u8>, AllocError> {
+    let mut reply = last_reply(alloc)?;
+    reply.truncate(reply.len().saturating_sub(384));
+    reply.extend_from_slice(&[128; 384])?;
+    Ok(reply)
+}
+
 #[test]
 fn named_files_are_fed(rt: HostRuntime) -> Result<(), Fail> {
-    let alloc = rt.alloc();
     let Some(mut hub) = fed_hub(&rt)? else {
         return Err(Fail::new("the files aren't fed"));
     };
-    let asks =
-        b"GET /s/a/info HTTP/1.1\r\nHost: x\r\n\r\nGET /s/b/info HTTP/1.1\r\nHost: x\r\n\r\nGET /s/c/info HTTP/1.1\r\nHost: x\r\n\r\n";
-    assert!(rt; is_replied(alloc, &mut hub, asks, KNOWN)?);
-    let asks = b"GET /s/b/frame/0 HTTP/1.1\r\nHost: x\r\nConnection: close\r\n\r\n";
-    let wanted = last_reply(alloc)?;
-    assert!(rt; is_replied(alloc, &mut hub, asks, &wanted)?);
-    let mut wanted = wanted;
-    wanted.truncate(wanted.len().saturating_sub(384));
-    wanted.extend_from_slice(&[128; 384])?;
-    let asks = b"GET /s/a/frame/1 HTTP/1.1\r\nHost: x\r\nConnection: close\r\n\r\n";
-    assert!(rt; is_replied(alloc, &mut hub, asks, &wanted)?);
+    assert!(rt; are_known(rt.alloc(), &mut hub)?);
     Ok(())
 }
 
@@ -431,28 +439,39 @@ fn one_connection_over_tcp(rt: HostRuntime) -> Result<(), Fail> {
 /// What asks for the picture of packet 0, and closes.
 const ASKS: &[u8] = b"GET /s/a/frame/0 HTTP/1.1\r\nHost: x\r\nConnection: close\r\n\r\n";
 
-/// The request is sent, and nothing behind it.
-fn asks_and_ends(client: &mut TcpStream) -> io::Result<()> {
+/// A connection on which the request was sent, and nothing behind it.
+fn asking(rt: &HostRuntime, listener: &TcpListener) -> io::Result<TcpStream> {
+    let mut client = TcpStream::connect(rt, listener.local_addr()?)?;
     client.write_all(ASKS)?;
-    client.shutdown(Shutdown::Write)
+    client.shutdown(Shutdown::Write)?;
+    Ok(client)
 }
 
-/// What comes of two connections that send the same, where the hub has the first one's number already: whether each was
-/// served to its end, what is told, and what each was replied.
-fn ask_twice(rt: &HostRuntime, hub: &mut Hub) -> io::Result<(bool, Vec<u8>, Vec<u8>, Vec<u8>)> {
+/// What is still read from a connection.
+fn rest_of(alloc: Global, client: &mut TcpStream) -> io::Result<Vec<u8>> {
+    let mut got = Vec::new(alloc);
+    client.read_to_end(&mut got)?;
+    Ok(got)
+}
+
+/// Whether of two connections that send the same, where the hub has the first one's number already, the first one is
+/// refused, which is told, and the second one is replied just this.
+fn is_second_served(rt: &HostRuntime, hub: &mut Hub, wanted: &[u8]) -> io::Result<bool> {
     let listener = TcpListener::bind(rt, "127.0.0.1:0")?;
-    let mut first = TcpStream::connect(rt, listener.local_addr()?)?;
-    let mut second = TcpStream::connect(rt, listener.local_addr()?)?;
-    asks_and_ends(&mut first)?;
-    asks_and_ends(&mut second)?;
+    let mut first = asking(rt, &listener)?;
+    let mut second = asking(rt, &listener)?;
     let _ = hub.step(&Event::Open(0));
     let mut errors = Counted::new(Vec::new(rt.alloc()));
     let well = serve_each(hub, &listener, 2, &mut errors);
-    let mut refused = Vec::new(rt.alloc());
-    first.read_to_end(&mut refused)?;
-    let mut served = Vec::new(rt.alloc());
-    second.read_to_end(&mut served)?;
-    Ok((well, errors.into_inner(), refused, served))
+    let told = errors.into_inner();
+    let refused = rest_of(rt.alloc(), &mut first)?;
+    let served = rest_of(rt.alloc(), &mut second)?;
+    Ok(
+        !well
+            && told.as_slice() == b"vp8: AlreadyOpen\n".as_slice()
+            && refused.is_empty()
+            && served.as_slice() == wanted,
+    )
 }
 
 #[test]
@@ -461,20 +480,7 @@ fn a_connection_behind_a_refused_one_is_served(rt: HostRuntime) -> Result<(), Fa
     let Some(mut hub) = hub_of_one(rt.alloc())? else {
         return Err(Fail::new("there is no hub"));
     };
-    let (well, told, refused, served) = ask_twice(&rt, &mut hub)?;
-    assert!(rt; !well);
-    assert!(rt; told.as_slice() == b"vp8: AlreadyOpen\n".as_slice());
-    assert!(rt; refused.is_empty());
-    assert!(rt; served.as_slice() == wanted.as_slice());
-    Ok(())
-}
-
-#[test]
-fn a_fault_of_a_connection_has_status_1(rt: HostRuntime) -> Result<(), Fail> {
-    let mut errors = Counted::new(Vec::new(rt.alloc()));
-    assert_eq!(rt; tell_service(Ok(true), &mut errors), 0);
-    assert_eq!(rt; tell_service(Ok(false), &mut errors), 1);
-    assert!(rt; errors.into_inner().is_empty());
+    assert!(rt; is_second_served(&rt, &mut hub, &wanted)?);
     Ok(())
 }
 

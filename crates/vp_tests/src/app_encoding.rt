@@ -1,9 +1,9 @@
 //! The words of `encode`, and what it tells.
 
-use crate::command;
 use std::alloc::{AllocError, Global};
 use std::test::Fail;
 use std::{fs, io};
+use vp_app::command;
 use vp_base::Counted;
 
 /// The line of a source of 16 by 16 pixels, 30 pictures a second.
