@@ -1,5 +1,6 @@
 //! The command line over worked files.
 
+use crate::check::equal;
 use crate::files::{HEAD, HIDDEN, INTER, KEY, append_runs, file, file_and, runs, y4m};
 use std::fs;
 use std::test::Fail;
@@ -55,7 +56,7 @@ fn listed(rt: &HostRuntime, file: &[u8], output: &[u8], errors: &[u8]) -> (u8, b
 fn empty_key_frame(rt: HostRuntime) -> Result<(), Fail> {
     let picture = runs(rt.alloc(), [64, 192, 128])?;
     let file = file(rt.alloc(), &[&KEY])?;
-    assert_eq!(rt; decoded(&rt, &file, &picture, b""), (0, true, true));
+    equal(&rt, &decoded(&rt, &file, &picture, b""), &(0, true, true));
     Ok(())
 }
 
@@ -63,7 +64,7 @@ fn empty_key_frame(rt: HostRuntime) -> Result<(), Fail> {
 fn seventeen_by_one(rt: HostRuntime) -> Result<(), Fail> {
     let picture = runs(rt.alloc(), [35, 0, 0])?;
     let file = file(rt.alloc(), &[&key_of([0x11, 0, 0x01, 0])])?;
-    assert_eq!(rt; decoded(&rt, &file, &picture, b""), (0, true, true));
+    equal(&rt, &decoded(&rt, &file, &picture, b""), &(0, true, true));
     Ok(())
 }
 
@@ -71,7 +72,7 @@ fn seventeen_by_one(rt: HostRuntime) -> Result<(), Fail> {
 fn two_macroblock_rows(rt: HostRuntime) -> Result<(), Fail> {
     let picture = runs(rt.alloc(), [64, 448, 256])?;
     let file = file(rt.alloc(), &[&key_of([0x10, 0, 0x20, 0])])?;
-    assert_eq!(rt; decoded(&rt, &file, &picture, b""), (0, true, true));
+    equal(&rt, &decoded(&rt, &file, &picture, b""), &(0, true, true));
     Ok(())
 }
 
@@ -80,7 +81,11 @@ fn truncated_then_no_reference(rt: HostRuntime) -> Result<(), Fail> {
     let picture = runs(rt.alloc(), [64, 192, 128])?;
     let file = file(rt.alloc(), &[&KEY[..9], &INTER, &KEY])?;
     let errors = b"vp8: packet 0: Truncated\nvp8: packet 1: NoReference\n";
-    assert_eq!(rt; decoded(&rt, &file, &picture, errors), (1, true, true));
+    equal(
+        &rt,
+        &decoded(&rt, &file, &picture, errors),
+        &(1, true, true),
+    );
     Ok(())
 }
 
@@ -98,14 +103,16 @@ fn front_decoded(
 #[test]
 fn file_cut_short(rt: HostRuntime) -> Result<(), Fail> {
     let whole = file(rt.alloc(), &[&KEY])?;
-    assert_eq!(rt;
-        front_decoded(&rt, &whole, 31, b"vp8: Torn\n")?,
-        (1, true, true)
+    equal(
+        &rt,
+        &front_decoded(&rt, &whole, 31, b"vp8: Torn\n")?,
+        &(1, true, true),
     );
-    assert_eq!(rt; front_decoded(&rt, &whole, 32, b"")?, (0, true, true));
-    assert_eq!(rt;
-        front_decoded(&rt, &whole, 53, b"vp8: Torn\n")?,
-        (1, true, true)
+    equal(&rt, &front_decoded(&rt, &whole, 32, b"")?, &(0, true, true));
+    equal(
+        &rt,
+        &front_decoded(&rt, &whole, 53, b"vp8: Torn\n")?,
+        &(1, true, true),
     );
     Ok(())
 }
@@ -114,13 +121,18 @@ fn file_cut_short(rt: HostRuntime) -> Result<(), Fail> {
 fn head_faults(rt: HostRuntime) -> Result<(), Fail> {
     let mut signature = HEAD;
     signature[3] = b'X';
-    assert_eq!(rt;
-        decoded(&rt, &signature, b"", b"vp8: Signature\n"),
-        (1, true, true)
+    equal(
+        &rt,
+        &decoded(&rt, &signature, b"", b"vp8: Signature\n"),
+        &(1, true, true),
     );
     let mut codec = HEAD;
     codec[10] = b'9';
-    assert_eq!(rt; decoded(&rt, &codec, b"", b"vp8: Codec\n"), (1, true, true));
+    equal(
+        &rt,
+        &decoded(&rt, &codec, b"", b"vp8: Codec\n"),
+        &(1, true, true),
+    );
     Ok(())
 }
 
@@ -129,10 +141,11 @@ fn a_packet_too_large(rt: HostRuntime) -> Result<(), Fail> {
     let picture = runs(rt.alloc(), [64, 192, 128])?;
     let large = [1, 0, 0, 1, 1, 0, 0, 0, 0, 0, 0, 0];
     let bytes = file_and(rt.alloc(), &[&KEY], &large)?;
-    assert_eq!(rt; picture.len(), 384);
-    assert_eq!(rt;
-        decoded(&rt, &bytes, &picture, b"vp8: PacketTooLarge\n"),
-        (1, true, true)
+    equal(&rt, &picture.len(), &384);
+    equal(
+        &rt,
+        &decoded(&rt, &bytes, &picture, b"vp8: PacketTooLarge\n"),
+        &(1, true, true),
     );
     Ok(())
 }
@@ -141,13 +154,14 @@ fn a_packet_too_large(rt: HostRuntime) -> Result<(), Fail> {
 fn decode_to_y4m(rt: HostRuntime) -> Result<(), Fail> {
     let words = ["vp8", "decode", "--y4m", "-", "-"];
     let text = y4m(rt.alloc())?;
-    assert_eq!(rt; text.len(), 431);
+    equal(&rt, &text.len(), &431);
     let one = file(rt.alloc(), &[&KEY])?;
-    assert_eq!(rt; run(&rt, &words, &one, &text, b""), (0, true, true));
+    equal(&rt, &run(&rt, &words, &one, &text, b""), &(0, true, true));
     let two = file(rt.alloc(), &[&KEY, &key_of([0x11, 0, 0x01, 0])])?;
-    assert_eq!(rt;
-        run(&rt, &words, &two, &text, b"vp8: SizeChange\n"),
-        (1, true, true)
+    equal(
+        &rt,
+        &run(&rt, &words, &two, &text, b"vp8: SizeChange\n"),
+        &(1, true, true),
     );
     Ok(())
 }
@@ -156,7 +170,7 @@ fn decode_to_y4m(rt: HostRuntime) -> Result<(), Fail> {
 fn info_lists_faults(rt: HostRuntime) -> Result<(), Fail> {
     let file = file(rt.alloc(), &[&KEY[..9], &INTER, &KEY])?;
     let output = b"size 16x16\nrate 30/1\npackets 3\n0 9 Truncated\n1 3 NoReference\n2 10 Shown\n";
-    assert_eq!(rt; listed(&rt, &file, output, b""), (0, true, true));
+    equal(&rt, &listed(&rt, &file, output, b""), &(0, true, true));
     Ok(())
 }
 
@@ -164,10 +178,10 @@ fn info_lists_faults(rt: HostRuntime) -> Result<(), Fail> {
 fn empty_packets(rt: HostRuntime) -> Result<(), Fail> {
     let file = file(rt.alloc(), &[&KEY, &[]])?;
     let output = b"size 16x16\nrate 30/1\npackets 2\n0 10 Shown\n1 0 Shown\n";
-    assert_eq!(rt; listed(&rt, &file, output, b""), (0, true, true));
+    equal(&rt, &listed(&rt, &file, output, b""), &(0, true, true));
     let mut pictures = runs(rt.alloc(), [64, 192, 128])?;
     append_runs(&mut pictures, [64, 192, 128])?;
-    assert_eq!(rt; decoded(&rt, &file, &pictures, b""), (0, true, true));
+    equal(&rt, &decoded(&rt, &file, &pictures, b""), &(0, true, true));
     Ok(())
 }
 
@@ -177,21 +191,26 @@ fn info_of_a_wide_file(rt: HostRuntime) {
     bytes[12..18].copy_from_slice(&[0x11, 1, 1, 0, 0x30, 0x75]);
     bytes[20..22].copy_from_slice(&[0xe9, 3]);
     let output = b"size 273x1\nrate 30000/1001\npackets 0\n";
-    assert_eq!(rt; listed(&rt, &bytes, output, b""), (0, true, true));
+    equal(&rt, &listed(&rt, &bytes, output, b""), &(0, true, true));
 }
 
 #[test]
 fn info_of_broken_files(rt: HostRuntime) -> Result<(), Fail> {
     let mut bytes = HEAD;
     bytes[0] = b'X';
-    assert_eq!(rt;
-        listed(&rt, &bytes, b"packets 0\n", b"vp8: Signature\n"),
-        (1, true, true)
+    equal(
+        &rt,
+        &listed(&rt, &bytes, b"packets 0\n", b"vp8: Signature\n"),
+        &(1, true, true),
     );
     let whole = file(rt.alloc(), &[&HIDDEN, &KEY])?;
     let front = whole.get(..75).ok_or("a front")?;
     let output = b"size 16x16\nrate 30/1\npackets 1\n0 10 Hidden\n";
-    assert_eq!(rt; listed(&rt, front, output, b"vp8: Torn\n"), (1, true, true));
+    equal(
+        &rt,
+        &listed(&rt, front, output, b"vp8: Torn\n"),
+        &(1, true, true),
+    );
     Ok(())
 }
 
@@ -205,15 +224,17 @@ fn holds_picture(rt: &HostRuntime, name: &str) -> Result<bool, Fail> {
 fn operands_are_files(rt: HostRuntime) -> Result<(), Fail> {
     let (from, to) = ("operands_are_files.ivf", "operands_are_files.i420");
     fs::write(&rt, from, file(rt.alloc(), &[&KEY])?)?;
-    assert_eq!(rt;
-        run(&rt, &["vp8", "decode", from, to], b"", b"", b""),
-        (0, true, true)
+    equal(
+        &rt,
+        &run(&rt, &["vp8", "decode", from, to], b"", b"", b""),
+        &(0, true, true),
     );
     assert!(rt; holds_picture(&rt, to)?);
     let output = b"size 16x16\nrate 30/1\npackets 1\n0 10 Shown\n";
-    assert_eq!(rt;
-        run(&rt, &["vp8", "info", from], b"", output, b""),
-        (0, true, true)
+    equal(
+        &rt,
+        &run(&rt, &["vp8", "info", from], b"", output, b""),
+        &(0, true, true),
     );
     fs::remove_file(&rt, from)?;
     fs::remove_file(&rt, to)?;
@@ -223,15 +244,16 @@ fn operands_are_files(rt: HostRuntime) -> Result<(), Fail> {
 #[test]
 fn missing_input_makes_no_output(rt: HostRuntime) {
     let (from, to) = ("missing_input.ivf", "missing_input.i420");
-    assert_eq!(rt;
-        run(
+    equal(
+        &rt,
+        &run(
             &rt,
             &["vp8", "decode", from, to],
             b"",
             b"",
-            b"vp8: Device\n"
+            b"vp8: Device\n",
         ),
-        (1, true, true)
+        &(1, true, true),
     );
     assert!(rt; fs::read(&rt, to).is_err());
 }
@@ -249,20 +271,30 @@ fn told(rt: &HostRuntime, words: &[&str]) -> (u8, bool, bool) {
 
 #[test]
 fn words(rt: HostRuntime) -> Result<(), Fail> {
-    assert_eq!(rt; told(&rt, &["vp8", "decode", "-"]), (2, false, true));
-    assert_eq!(rt; told(&rt, &["vp8"]), (2, false, true));
-    assert_eq!(rt; told(&rt, &["vp8", "encode", "-"]), (2, false, true));
-    assert_eq!(rt;
-        told(&rt, &["vp8", "decode", "--y4m", "--y4m", "-", "-"]),
-        (2, false, true)
+    equal(&rt, &told(&rt, &["vp8", "decode", "-"]), &(2, false, true));
+    equal(&rt, &told(&rt, &["vp8"]), &(2, false, true));
+    equal(&rt, &told(&rt, &["vp8", "encode", "-"]), &(2, false, true));
+    equal(
+        &rt,
+        &told(&rt, &["vp8", "decode", "--y4m", "--y4m", "-", "-"]),
+        &(2, false, true),
     );
-    assert_eq!(rt; told(&rt, &["vp8", "info"]), (2, false, true));
-    assert_eq!(rt; told(&rt, &["vp8", "info", "--help"]), (0, true, false));
-    assert_eq!(rt; told(&rt, &["vp8", "decode", "--help"]), (0, true, false));
+    equal(&rt, &told(&rt, &["vp8", "info"]), &(2, false, true));
+    equal(
+        &rt,
+        &told(&rt, &["vp8", "info", "--help"]),
+        &(0, true, false),
+    );
+    equal(
+        &rt,
+        &told(&rt, &["vp8", "decode", "--help"]),
+        &(0, true, false),
+    );
     let missing = ["vp8", "decode", "no/such/file", "-"];
-    assert_eq!(rt;
-        run(&rt, &missing, &HEAD, b"", b"vp8: Device\n"),
-        (1, true, true)
+    equal(
+        &rt,
+        &run(&rt, &missing, &HEAD, b"", b"vp8: Device\n"),
+        &(1, true, true),
     );
     Ok(())
 }

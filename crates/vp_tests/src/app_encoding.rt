@@ -1,5 +1,6 @@
 //! The words of `encode`, and what it tells.
 
+use crate::check::equal;
 use std::alloc::{AllocError, Global};
 use std::test::Fail;
 use std::{fs, io};
@@ -42,7 +43,7 @@ fn encoded(
 #[test]
 fn a_source_without_pictures(rt: HostRuntime) -> Result<(), Fail> {
     let told = b"frames 0 error 0\n";
-    assert_eq!(rt; encoded(&rt, "--qi", "0", LINE, told), (0, 32, true));
+    equal(&rt, &encoded(&rt, "--qi", "0", LINE, told), &(0, 32, true));
     let words = [
         "vp8",
         "encode",
@@ -52,34 +53,63 @@ fn a_source_without_pictures(rt: HostRuntime) -> Result<(), Fail> {
         "-",
         "-",
     ];
-    assert_eq!(rt; run(&rt, &words, LINE, told), (0, 32, true));
+    equal(&rt, &run(&rt, &words, LINE, told), &(0, 32, true));
     Ok(())
 }
 
 #[test]
 fn settings_are_refused(rt: HostRuntime) -> Result<(), Fail> {
     let told = b"vp8: Settings\n";
-    assert_eq!(rt; encoded(&rt, "--qi", "200", LINE, told), (1, 0, true));
-    assert_eq!(rt; encoded(&rt, "--filter", "64", LINE, told), (1, 0, true));
-    assert_eq!(rt; encoded(&rt, "--sharpness", "8", LINE, told), (1, 0, true));
-    assert_eq!(rt; encoded(&rt, "--key-every", "0", LINE, told), (1, 0, true));
-    assert_eq!(rt; encoded(&rt, "--range", "65", LINE, told), (1, 0, true));
-    assert_eq!(rt; encoded(&rt, "--partitions", "3", LINE, told), (1, 0, true));
+    equal(&rt, &encoded(&rt, "--qi", "200", LINE, told), &(1, 0, true));
+    equal(
+        &rt,
+        &encoded(&rt, "--filter", "64", LINE, told),
+        &(1, 0, true),
+    );
+    equal(
+        &rt,
+        &encoded(&rt, "--sharpness", "8", LINE, told),
+        &(1, 0, true),
+    );
+    equal(
+        &rt,
+        &encoded(&rt, "--key-every", "0", LINE, told),
+        &(1, 0, true),
+    );
+    equal(
+        &rt,
+        &encoded(&rt, "--range", "65", LINE, told),
+        &(1, 0, true),
+    );
+    equal(
+        &rt,
+        &encoded(&rt, "--partitions", "3", LINE, told),
+        &(1, 0, true),
+    );
     Ok(())
 }
 
 #[test]
 fn values_are_refused(rt: HostRuntime) -> Result<(), Fail> {
     let byte = b"error: --qi is a decimal number up to 255\n";
-    assert_eq!(rt; encoded(&rt, "--qi", "300", LINE, byte), (2, 0, true));
-    assert_eq!(rt; encoded(&rt, "--qi", "+3", LINE, byte), (2, 0, true));
+    equal(&rt, &encoded(&rt, "--qi", "300", LINE, byte), &(2, 0, true));
+    equal(&rt, &encoded(&rt, "--qi", "+3", LINE, byte), &(2, 0, true));
     let range = b"error: --range is a decimal number up to 255\n";
-    assert_eq!(rt; encoded(&rt, "--range", "300", LINE, range), (2, 0, true));
+    equal(
+        &rt,
+        &encoded(&rt, "--range", "300", LINE, range),
+        &(2, 0, true),
+    );
     let count = b"error: --key-every is a decimal number\n";
-    assert_eq!(rt; encoded(&rt, "--key-every", "", LINE, count), (2, 0, true));
-    assert_eq!(rt;
-        encoded(&rt, "--key-every", "4294967296", LINE, count),
-        (2, 0, true)
+    equal(
+        &rt,
+        &encoded(&rt, "--key-every", "", LINE, count),
+        &(2, 0, true),
+    );
+    equal(
+        &rt,
+        &encoded(&rt, "--key-every", "4294967296", LINE, count),
+        &(2, 0, true),
     );
     Ok(())
 }
@@ -87,13 +117,18 @@ fn values_are_refused(rt: HostRuntime) -> Result<(), Fail> {
 #[test]
 fn the_input_is_opened_first(rt: HostRuntime) -> Result<(), Fail> {
     let words = ["vp8", "encode", "no/such/file", "unmade.ivf"];
-    assert_eq!(rt; run(&rt, &words, LINE, b"vp8: Device\n"), (1, 0, true));
-    assert!(rt; fs::read(&rt, "unmade.ivf").is_err());
-    assert_eq!(rt;
-        encoded(&rt, "--qi", "0", b"YUV4MPEG2 W1", b"vp8: Torn\n"),
-        (1, 0, true)
+    equal(
+        &rt,
+        &run(&rt, &words, LINE, b"vp8: Device\n"),
+        &(1, 0, true),
     );
-    assert_eq!(rt; run(&rt, &["vp8", "encode", "-"], LINE, b"").0, 2);
+    assert!(rt; fs::read(&rt, "unmade.ivf").is_err());
+    equal(
+        &rt,
+        &encoded(&rt, "--qi", "0", b"YUV4MPEG2 W1", b"vp8: Torn\n"),
+        &(1, 0, true),
+    );
+    equal(&rt, &run(&rt, &["vp8", "encode", "-"], LINE, b"").0, &2);
     Ok(())
 }
 
@@ -131,7 +166,7 @@ fn decoded_back(rt: &HostRuntime, source: &[u8], told: &[u8]) -> Option<Vec<u8>>
 #[test]
 fn encode_and_decode_back(rt: HostRuntime) -> Result<(), Fail> {
     let bytes = source(rt.alloc(), 1)?;
-    assert_eq!(rt; bytes.len(), 431);
+    equal(&rt, &bytes.len(), &431);
     let Some(back) = decoded_back(&rt, &bytes, b"frames 1 error 0\n") else {
         return Err(Fail::new("it isn't encoded and decoded"));
     };
@@ -144,7 +179,7 @@ fn progress_is_told(rt: HostRuntime) -> Result<(), Fail> {
     let bytes = source(rt.alloc(), 11)?;
     let words = ["vp8", "encode", "--qi", "0", "--progress", "-", "-"];
     let (status, _, told) = run(&rt, &words, &bytes, b"frame 10\nframes 11 error 0\n");
-    assert_eq!(rt; (status, told), (0, true));
+    equal(&rt, &(status, told), &(0, true));
     Ok(())
 }
 
@@ -168,7 +203,7 @@ fn encode_files(
 fn files_are_encoded(rt: HostRuntime) -> Result<(), Fail> {
     let bytes = source(rt.alloc(), 1)?;
     let (encoded, decoded, is_quiet, back) = encode_files(&rt, &bytes, b"frames 1 error 0\n")?;
-    assert_eq!(rt; (encoded, decoded, is_quiet), (0, 0, true));
+    equal(&rt, &(encoded, decoded, is_quiet), &(0, 0, true));
     assert!(rt; back.as_slice() == bytes.as_slice());
     Ok(())
 }
@@ -185,7 +220,7 @@ fn encode_into_itself(rt: &HostRuntime, source: &[u8]) -> io::Result<(u8, bool, 
 fn files_are_not_encoded_into_themselves(rt: HostRuntime) -> Result<(), Fail> {
     let bytes = source(rt.alloc(), 1)?;
     let (status, told, left) = encode_into_itself(&rt, &bytes)?;
-    assert_eq!(rt; (status, told), (1, true));
+    equal(&rt, &(status, told), &(1, true));
     assert!(rt; left.as_slice() == bytes.as_slice());
     Ok(())
 }

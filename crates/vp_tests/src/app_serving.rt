@@ -1,5 +1,6 @@
 //! The server's words, its files and connections, and the limits of the commands.
 
+use crate::check::equal;
 use std::alloc::{AllocError, Global};
 use std::io::{Read, Write};
 use std::net::{Shutdown, TcpListener, TcpStream};
@@ -56,13 +57,14 @@ fn serves(rt: &HostRuntime, connections: &str, stream: &str, told: &[u8]) -> (u8
 
 #[test]
 fn files_are_fed(rt: HostRuntime) -> Result<(), Fail> {
-    assert_eq!(rt; serves(&rt, "0", "a=-", b""), (0, true));
-    assert_eq!(rt;
-        serves(&rt, "0", "a=no/such/file", b"vp8: Device\n"),
-        (1, true)
+    equal(&rt, &serves(&rt, "0", "a=-", b""), &(0, true));
+    equal(
+        &rt,
+        &serves(&rt, "0", "a=no/such/file", b"vp8: Device\n"),
+        &(1, true),
     );
-    assert_eq!(rt; serves(&rt, "0", "A=-", b"vp8: Names\n"), (1, true));
-    assert_eq!(rt; serves(&rt, "1", "a=-", b"vp8: Device\n"), (1, true));
+    equal(&rt, &serves(&rt, "0", "A=-", b"vp8: Names\n"), &(1, true));
+    equal(&rt, &serves(&rt, "1", "a=-", b"vp8: Device\n"), &(1, true));
     Ok(())
 }
 
@@ -84,50 +86,57 @@ fn serves_two(rt: &HostRuntime, first: &str, second: &str, told: &[u8]) -> (u8, 
 #[test]
 fn files_are_opened_in_turn(rt: HostRuntime) -> Result<(), Fail> {
     let told = b"vp8: Device\n";
-    assert_eq!(rt;
-        serves_two(&rt, "a=-", "b=no/such/file", told),
-        (1, 0, true)
+    equal(
+        &rt,
+        &serves_two(&rt, "a=-", "b=no/such/file", told),
+        &(1, 0, true),
     );
-    assert_eq!(rt;
-        serves_two(&rt, "b=no/such/file", "a=-", told),
-        (1, 54, true)
+    equal(
+        &rt,
+        &serves_two(&rt, "b=no/such/file", "a=-", told),
+        &(1, 54, true),
     );
-    assert_eq!(rt; serves_two(&rt, "a=-", "b=-", b""), (0, 0, true));
+    equal(&rt, &serves_two(&rt, "a=-", "b=-", b""), &(0, 0, true));
     Ok(())
 }
 
 #[test]
 fn names_are_told_before_files(rt: HostRuntime) -> Result<(), Fail> {
     let told = b"vp8: Names\n";
-    assert_eq!(rt;
-        serves_two(&rt, "a=no/such/file", "A=-", told),
-        (1, 54, true)
+    equal(
+        &rt,
+        &serves_two(&rt, "a=no/such/file", "A=-", told),
+        &(1, 54, true),
     );
-    assert_eq!(rt;
-        serves_two(&rt, "a=no/such/file", "a=-", told),
-        (1, 54, true)
+    equal(
+        &rt,
+        &serves_two(&rt, "a=no/such/file", "a=-", told),
+        &(1, 54, true),
     );
-    assert_eq!(rt;
-        serves_two(&rt, "a=-", "=no/such/file", told),
-        (1, 54, true)
+    equal(
+        &rt,
+        &serves_two(&rt, "a=-", "=no/such/file", told),
+        &(1, 54, true),
     );
     Ok(())
 }
 
 #[test]
 fn words_are_refused(rt: HostRuntime) -> Result<(), Fail> {
-    assert_eq!(rt;
-        serves(&rt, "0", "a", b"error: an operand of serve is NAME=FILE\n"),
-        (2, true)
+    equal(
+        &rt,
+        &serves(&rt, "0", "a", b"error: an operand of serve is NAME=FILE\n"),
+        &(2, true),
     );
-    assert_eq!(rt;
-        serves(
+    equal(
+        &rt,
+        &serves(
             &rt,
             "+1",
             "a=-",
-            b"error: --connections is a decimal number\n"
+            b"error: --connections is a decimal number\n",
         ),
-        (2, true)
+        &(2, true),
     );
     Ok(())
 }
@@ -154,8 +163,8 @@ fn keeps(rt: &HostRuntime, cache: &str) -> u8 {
 
 #[test]
 fn caches_are_refused(rt: HostRuntime) -> Result<(), Fail> {
-    assert_eq!(rt; (keeps(&rt, "0"), keeps(&rt, "1")), (2, 0));
-    assert_eq!(rt; (keeps(&rt, "4096"), keeps(&rt, "4097")), (0, 2));
+    equal(&rt, &(keeps(&rt, "0"), keeps(&rt, "1")), &(2, 0));
+    equal(&rt, &(keeps(&rt, "4096"), keeps(&rt, "4097")), &(0, 2));
     Ok(())
 }
 
@@ -174,6 +183,16 @@ const TWO: [u8; 69] = [
     0x01, 0x2a, 0x10, 0, 0x10, 0, 3, 0, 0, 0, 1, 0, 0, 0, 0, 0, 0, 0, 0x11, 0, 0,
 ];
 
+/// A hub of the service's streams, fed from their files and this input.
+fn hub_fed(rt: &HostRuntime, service: &Service, input: &[u8]) -> Option<Hub> {
+    let mut hub = new_hub(rt.alloc(), service).ok()?;
+    let mut input = Counted::new(input);
+    match feed_all(rt, &mut hub, &service.streams, &mut input) {
+        Ok(()) => Some(hub),
+        Err(_) => None,
+    }
+}
+
 /// A hub of three streams: `a` of a file of two packets, `b` of the input, and `c` of what is left of that.
 fn fed_hub(rt: &HostRuntime) -> io::Result<Option<Hub>> {
     fs::write(rt, "two.ivf", TWO.as_slice())?;
@@ -188,16 +207,9 @@ fn fed_hub(rt: &HostRuntime) -> io::Result<Option<Hub>> {
         "b=-",
         "c=-",
     ];
-    let Some(service) = asked(rt.alloc(), &words) else {
-        return Ok(None);
-    };
-    let Ok(mut hub) = new_hub(rt.alloc(), &service) else {
-        return Ok(None);
-    };
-    let mut input = Counted::new(FILE.as_slice());
-    match feed_all(rt, &mut hub, &service.streams, &mut input) {
-        Ok(()) => Ok(Some(hub)),
-        Err(_) => Ok(None),
+    match asked(rt.alloc(), &words) {
+        Some(service) => Ok(hub_fed(rt, &service, &FILE)),
+        None => Ok(None),
     }
 }
 
@@ -209,7 +221,8 @@ fn is_replied(
     wanted: &[u8],
 ) -> Result<bool, AllocError> {
     let _ = hub.step(&Event::Open(0));
-    let answer = hub.step(&Event::Bytes(0, ByteList::from_vec(sent.to_vec(alloc)?)));
+    let bytes = Event::Bytes(0, list(alloc, sent)?);
+    let answer = hub.step(&bytes);
     let _ = hub.step(&Event::Shut(0));
     Ok(match answer {
         Ok(reply) => reply.bytes.as_slice() == wanted,
@@ -228,20 +241,28 @@ fn are_known(alloc: Global, hub: &mut Hub) -> Result<bool, AllocError> {
         b"GET /s/a/info HTTP/1.1\r\nHost: x\r\n\r\nGET /s/b/info HTTP/1.1\r\nHost: x\r\n\r\nGET /s/c/info HTTP/1.1\r\nHost: x\r\n\r\n";
     let known = is_replied(alloc, hub, asks, KNOWN)?;
     let asks = b"GET /s/b/frame/0 HTTP/1.1\r\nHost: x\r\nConnection: close\r\n\r\n";
-    let wanted = last_reply(alloc)?;
-    let shown = is_replied(alloc, hub, asks, &wanted)?;
+    let shown = is_replied(alloc, hub, asks, &last_reply())?;
     let asks = b"GET /s/a/frame/1 HTTP/1.1\r\nHost: x\r\nConnection: close\r\n\r\n";
-    let wanted = grey_reply(alloc)?;
-    let last = is_replied(alloc, hub, asks, &wanted)?;
+    let last = is_replied(alloc, hub, asks, &grey_reply())?;
     Ok(known && shown && last)
 }
 
+/// The lines before a whole picture, where the connection is closed behind it.
+const LAST_LINES: &[u8; 99] =
+    b"HTTP/1.1 200 OK\r\nContent-Type: application/octet-stream\r\nContent-Length: 384\r\nConnection: close\r\n\r\n";
+
 /// The reply with a picture that is 128 all over.
-fn grey_reply(alloc: Global) -> Result<Vec<u8>, AllocError> {
-    let mut reply = last_reply(alloc)?;
-    reply.truncate(reply.len().saturating_sub(384));
-    reply.extend_from_slice(&[128; 384])?;
-    Ok(reply)
+fn grey_reply() -> [u8; 483] {
+    let mut reply = [128; 483];
+    reply[..99].copy_from_slice(LAST_LINES);
+    reply
+}
+
+/// The reply with the file's picture: luma rows 0 to 3 are 128, rows 4 to 15 are 129, colour is 128.
+fn last_reply() -> [u8; 483] {
+    let mut reply = grey_reply();
+    reply[163..355].fill(129);
+    reply
 }
 
 #[test]
@@ -267,15 +288,16 @@ fn served_as_asked(rt: HostRuntime) -> Result<(), Fail> {
     let Some(service) = asked(rt.alloc(), &words) else {
         return Err(Fail::new("nothing is served"));
     };
-    assert_eq!(rt; (service.listen, service.connections), ("x:1", 7));
-    assert_eq!(rt; (service.cache, service.show_address), (16, false));
-    assert_eq!(rt;
-        service.streams.as_slice(),
-        [Named {
+    equal(&rt, &(service.listen, service.connections), &("x:1", 7));
+    equal(&rt, &(service.cache, service.show_address), &(16, false));
+    equal(
+        &rt,
+        &service.streams.as_slice(),
+        &[Named {
             name: "a",
-            file: "b=c"
+            file: "b=c",
         }]
-        .as_slice()
+        .as_slice(),
     );
     Ok(())
 }
@@ -344,7 +366,7 @@ fn each_option_sets_its_own(rt: HostRuntime) -> Result<(), Fail> {
     let Some(settings) = asked_settings(rt.alloc(), &words) else {
         return Err(Fail::new("nothing is encoded"));
     };
-    assert_eq!(rt; (settings.simple, settings.subpel), (false, true));
+    equal(&rt, &(settings.simple, settings.subpel), &(false, true));
     Ok(())
 }
 
@@ -359,7 +381,7 @@ fn decode_into_itself(rt: &HostRuntime) -> io::Result<(u8, bool, Vec<u8>)> {
 #[test]
 fn files_are_not_decoded_into_themselves(rt: HostRuntime) -> Result<(), Fail> {
     let (status, told, left) = decode_into_itself(&rt)?;
-    assert_eq!(rt; (status, told), (1, true));
+    equal(&rt, &(status, told), &(1, true));
     assert!(rt; left.as_slice() == FILE.as_slice());
     Ok(())
 }
@@ -377,37 +399,48 @@ const OTHER_SIZE: [u8; 90] = [
 fn the_fault_that_ends_is_told_alone(rt: HostRuntime) -> Result<(), Fail> {
     let y4m = ["vp8", "decode", "--y4m", "-", "-"];
     let told = b"vp8: SizeChange\n";
-    assert_eq!(rt; run_over(&rt, &y4m, &OTHER_SIZE, told), (1, 0, true));
+    equal(&rt, &run_over(&rt, &y4m, &OTHER_SIZE, told), &(1, 0, true));
     let told = b"vp8: packet 1: Truncated\n";
-    assert_eq!(rt; run_over(&rt, &y4m, &OTHER_SIZE[..68], told), (1, 0, true));
-    assert_eq!(rt;
-        run_over(&rt, &y4m, &OTHER_SIZE[..89], b"vp8: Torn\n"),
-        (1, 0, true)
+    equal(
+        &rt,
+        &run_over(&rt, &y4m, &OTHER_SIZE[..68], told),
+        &(1, 0, true),
+    );
+    equal(
+        &rt,
+        &run_over(&rt, &y4m, &OTHER_SIZE[..89], b"vp8: Torn\n"),
+        &(1, 0, true),
     );
     Ok(())
 }
 
-fn hub_of_one(alloc: Global) -> Result<Option<Hub>, AllocError> {
+/// The bytes as a list.
+fn list(alloc: Global, bytes: &[u8]) -> Result<ByteList, AllocError> {
+    Ok(ByteList::from_vec(bytes.to_vec(alloc)?))
+}
+
+/// The file as a piece of the stream `a`.
+fn whole_file(alloc: Global) -> Result<Event, AllocError> {
+    let name = list(alloc, b"a")?;
+    Ok(Event::Feed(name, list(alloc, &FILE)?))
+}
+
+/// The one name `a`.
+fn names(alloc: Global) -> Result<Vec<ByteList>, AllocError> {
     let mut names = Vec::new(alloc);
-    names.push(ByteList::from_vec(b"a".to_vec(alloc)?))?;
+    names.push(list(alloc, b"a")?)?;
+    Ok(names)
+}
+
+/// A hub of one stream that was fed the file.
+fn hub_of_one(alloc: Global) -> Result<Option<Hub>, AllocError> {
+    let file = whole_file(alloc)?;
+    let names = names(alloc)?;
     let Ok(mut hub) = Hub::new(alloc, names, Limits::usual()) else {
         return Ok(None);
     };
-    let name = ByteList::from_vec(b"a".to_vec(alloc)?);
-    let _ = hub.step(&Event::Feed(name, ByteList::from_vec(FILE.to_vec(alloc)?)));
+    let _ = hub.step(&file);
     Ok(Some(hub))
-}
-
-/// The reply with the picture: luma rows 0 to 3 are 128, rows 4 to 15 are 129, colour is 128.
-fn last_reply(alloc: Global) -> Result<Vec<u8>, AllocError> {
-    let mut reply =
-        b"HTTP/1.1 200 OK\r\nContent-Type: application/octet-stream\r\nContent-Length: 384\r\nConnection: close\r\n\r\n".to_vec(
-            alloc,
-        )?;
-    reply.extend_from_slice(&[128; 64])?;
-    reply.extend_from_slice(&[129; 192])?;
-    reply.extend_from_slice(&[128; 128])?;
-    Ok(reply)
 }
 
 /// What is replied to a request that closes, and to nothing behind it.
@@ -428,11 +461,10 @@ fn ask(rt: &HostRuntime, hub: &mut Hub) -> io::Result<Vec<u8>> {
 
 #[test]
 fn one_connection_over_tcp(rt: HostRuntime) -> Result<(), Fail> {
-    let wanted = last_reply(rt.alloc())?;
     let Some(mut hub) = hub_of_one(rt.alloc())? else {
         return Err(Fail::new("there is no hub"));
     };
-    assert!(rt; ask(&rt, &mut hub)?.as_slice() == wanted.as_slice());
+    assert!(rt; ask(&rt, &mut hub)?.as_slice() == last_reply().as_slice());
     Ok(())
 }
 
@@ -476,11 +508,10 @@ fn is_second_served(rt: &HostRuntime, hub: &mut Hub, wanted: &[u8]) -> io::Resul
 
 #[test]
 fn a_connection_behind_a_refused_one_is_served(rt: HostRuntime) -> Result<(), Fail> {
-    let wanted = last_reply(rt.alloc())?;
     let Some(mut hub) = hub_of_one(rt.alloc())? else {
         return Err(Fail::new("there is no hub"));
     };
-    assert!(rt; is_second_served(&rt, &mut hub, &wanted)?);
+    assert!(rt; is_second_served(&rt, &mut hub, &last_reply())?);
     Ok(())
 }
 
@@ -506,12 +537,7 @@ fn hub_of_input(rt: &HostRuntime, bytes: &[u8]) -> Option<Hub> {
         "a=-",
     ];
     let service = asked(rt.alloc(), &words)?;
-    let mut hub = new_hub(rt.alloc(), &service).ok()?;
-    let mut input = Counted::new(bytes);
-    match feed_all(rt, &mut hub, &service.streams, &mut input) {
-        Ok(()) => Some(hub),
-        Err(_) => None,
-    }
+    hub_fed(rt, &service, bytes)
 }
 
 /// More than a thousand reads are made until the file ends.
@@ -582,7 +608,7 @@ fn info_unprinted(rt: &HostRuntime) -> (u8, bool) {
 
 #[test]
 fn info_that_is_not_printed_has_status_1(rt: HostRuntime) -> Result<(), Fail> {
-    assert_eq!(rt; info_unprinted(&rt), (1, true));
+    equal(&rt, &info_unprinted(&rt), &(1, true));
     Ok(())
 }
 

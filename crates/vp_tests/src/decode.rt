@@ -2,6 +2,7 @@
 
 ghost use Rattle.std.specs.Prelude.{◌≤◌};
 
+use crate::check::equal;
 use crate::files::{HIDDEN, INTER, KEY};
 use std::alloc::{AllocError, Global};
 use std::test::Fail;
@@ -77,7 +78,7 @@ fn stands_at(bytes: &[u8], at: usize, wanted: &[u8]) -> bool {
 #[test]
 fn empty_key_frame(rt: HostRuntime) -> Result<(), Fail> {
     let bytes = shown(rt.alloc(), &[&KEY])?;
-    assert_eq!(rt; bytes.len(), 384);
+    equal(&rt, &bytes.len(), &384);
     assert!(rt; is_empty_picture(&bytes, 256));
     Ok(())
 }
@@ -85,7 +86,7 @@ fn empty_key_frame(rt: HostRuntime) -> Result<(), Fail> {
 #[test]
 fn two_macroblock_rows(rt: HostRuntime) -> Result<(), Fail> {
     let bytes = shown(rt.alloc(), &[&[0x10, 0, 0, 0x9d, 0x01, 0x2a, 16, 0, 32, 0]])?;
-    assert_eq!(rt; bytes.len(), 768);
+    equal(&rt, &bytes.len(), &768);
     assert!(rt; is_empty_picture(&bytes, 512));
     Ok(())
 }
@@ -93,7 +94,7 @@ fn two_macroblock_rows(rt: HostRuntime) -> Result<(), Fail> {
 #[test]
 fn seventeen_by_one(rt: HostRuntime) -> Result<(), Fail> {
     let bytes = shown(rt.alloc(), &[&[0x10, 0, 0, 0x9d, 0x01, 0x2a, 17, 0, 1, 0]])?;
-    assert_eq!(rt; bytes.len(), 35);
+    equal(&rt, &bytes.len(), &35);
     assert!(rt; is_all(&bytes, 128));
     Ok(())
 }
@@ -101,7 +102,7 @@ fn seventeen_by_one(rt: HostRuntime) -> Result<(), Fail> {
 #[test]
 fn inter_keeps_last(rt: HostRuntime) -> Result<(), Fail> {
     let bytes = shown(rt.alloc(), &[&KEY, &INTER])?;
-    assert_eq!(rt; bytes.len(), 384);
+    equal(&rt, &bytes.len(), &384);
     assert!(rt; is_all(&bytes, 128));
     Ok(())
 }
@@ -122,7 +123,7 @@ fn hidden_packet(rt: HostRuntime) -> Result<(), Fail> {
 #[test]
 fn empty_packets(rt: HostRuntime) -> Result<(), Fail> {
     let bytes = shown(rt.alloc(), &[&KEY, &INTER, &[]])?;
-    assert_eq!(rt; bytes.len(), 384);
+    equal(&rt, &bytes.len(), &384);
     assert!(rt; is_all(&bytes, 128));
     Ok(())
 }
@@ -142,7 +143,7 @@ fn empty_packets_behind_hidden_ones(rt: HostRuntime) -> Result<(), Fail> {
         )?
     );
     let bytes = pixels(rt.alloc(), &decoder)?;
-    assert_eq!(rt; bytes.len(), 384);
+    equal(&rt, &bytes.len(), &384);
     assert!(rt; is_empty_picture(&bytes, 256));
     assert!(rt;
         gives(
@@ -199,7 +200,7 @@ fn all_ones_partition(rt: HostRuntime) -> Result<(), Fail> {
     let mut packet = [0; 32];
     packet[..11].copy_from_slice(&[0x30, 0, 0, 0x9d, 0x01, 0x2a, 16, 0, 16, 0, 0xff]);
     let bytes = shown(rt.alloc(), &[&packet])?;
-    assert_eq!(rt; bytes.len(), 384);
+    equal(&rt, &bytes.len(), &384);
     assert!(rt; is_all(&bytes, 129));
     Ok(())
 }
@@ -230,7 +231,7 @@ fn other_row(bytes: &[u8], from: usize, width: usize, count: usize) -> Option<us
 fn all_ones_tokens(rt: HostRuntime) -> Result<(), Fail> {
     let packet = [0x10, 0, 0, 0x9d, 0x01, 0x2a, 16, 0, 16, 0, 0xff];
     let bytes = shown(rt.alloc(), &[&packet])?;
-    assert_eq!(rt; bytes.len(), 384);
+    equal(&rt, &bytes.len(), &384);
     assert_eq!(rt; other_row(&bytes, 0, 16, 4), None, "luma subblock 0");
     assert_eq!(rt;
         other_row(&bytes, 256, 8, 16),
@@ -268,7 +269,7 @@ fn size_limits(rt: HostRuntime) -> Result<(), Fail> {
             ]
         )?
     );
-    assert_eq!(rt; pixels(rt.alloc(), &decoder)?.len(), 24_576);
+    equal(&rt, &pixels(rt.alloc(), &decoder)?.len(), &24_576);
     Ok(())
 }
 
@@ -277,7 +278,7 @@ fn split_vectors_far_outside(rt: HostRuntime) -> Result<(), Fail> {
     let mut packet = [0; 25];
     packet[..4].copy_from_slice(&[0x31, 0, 0, 0xff]);
     let bytes = shown(rt.alloc(), &[&KEY, &packet])?;
-    assert_eq!(rt; bytes.len(), 384);
+    equal(&rt, &bytes.len(), &384);
     assert!(rt; is_all(&bytes, 128));
     Ok(())
 }

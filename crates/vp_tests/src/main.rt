@@ -10,11 +10,11 @@ mod app_encoding;
 #[cfg(test)]
 mod app_serving;
 #[cfg(test)]
+mod check;
+#[cfg(test)]
 mod decode;
 #[cfg(test)]
 mod files;
-#[cfg(test)]
-mod layers;
 #[cfg(test)]
 mod stream_files;
 #[cfg(test)]

@@ -1,5 +1,6 @@
 //! Whole files: `decode_all` and `survey`.
 
+use crate::check::equal;
 use crate::files::{HIDDEN, INTER, KEY, file, file_and, runs, y4m};
 use std::alloc::Global;
 use std::io::Read;
@@ -65,9 +66,10 @@ fn writes(
 fn empty_key_frame(rt: HostRuntime) -> Result<(), Fail> {
     let picture = runs(rt.alloc(), [64, 192, 128])?;
     let file = file(rt.alloc(), &[&KEY])?;
-    assert_eq!(rt;
-        reported(rt.alloc(), &file, Form::I420, &[])?,
-        ((1, 1, 0), 384)
+    equal(
+        &rt,
+        &reported(rt.alloc(), &file, Form::I420, &[])?,
+        &((1, 1, 0), 384),
     );
     assert!(rt; writes(rt.alloc(), &file, Form::I420, None, &picture));
     Ok(())
@@ -77,13 +79,15 @@ fn empty_key_frame(rt: HostRuntime) -> Result<(), Fail> {
 fn numbers_of_a_report(rt: HostRuntime) -> Result<(), Fail> {
     let faults = [(2, PacketFault::Truncated)];
     let file = file(rt.alloc(), &[&HIDDEN, &KEY, &KEY[..2], &HIDDEN])?;
-    assert_eq!(rt;
-        reported(rt.alloc(), &file, Form::I420, &faults)?,
-        ((4, 1, 2), 384)
+    equal(
+        &rt,
+        &reported(rt.alloc(), &file, Form::I420, &faults)?,
+        &((4, 1, 2), 384),
     );
-    assert_eq!(rt;
-        reported(rt.alloc(), &file, Form::Y4m, &faults)?,
-        ((4, 1, 2), 431)
+    equal(
+        &rt,
+        &reported(rt.alloc(), &file, Form::Y4m, &faults)?,
+        &((4, 1, 2), 431),
     );
     Ok(())
 }
@@ -91,19 +95,21 @@ fn numbers_of_a_report(rt: HostRuntime) -> Result<(), Fail> {
 #[test]
 fn decode_to_y4m(rt: HostRuntime) -> Result<(), Fail> {
     let text = y4m(rt.alloc())?;
-    assert_eq!(rt; text.len(), 431);
+    equal(&rt, &text.len(), &431);
     let one = file(rt.alloc(), &[&KEY])?;
-    assert_eq!(rt;
-        reported(rt.alloc(), &one, Form::Y4m, &[])?,
-        ((1, 1, 0), 431)
+    equal(
+        &rt,
+        &reported(rt.alloc(), &one, Form::Y4m, &[])?,
+        &((1, 1, 0), 431),
     );
     assert!(rt; writes(rt.alloc(), &one, Form::Y4m, None, &text));
     let two = file(rt.alloc(), &[&KEY, &WIDE])?;
     let change = Some(DecodeFault::SizeChange);
     assert!(rt; writes(rt.alloc(), &two, Form::Y4m, change, &text));
-    assert_eq!(rt;
-        reported(rt.alloc(), &two, Form::I420, &[])?,
-        ((2, 2, 0), 419)
+    equal(
+        &rt,
+        &reported(rt.alloc(), &two, Form::I420, &[])?,
+        &((2, 2, 0), 419),
     );
     Ok(())
 }
@@ -112,9 +118,10 @@ fn decode_to_y4m(rt: HostRuntime) -> Result<(), Fail> {
 fn no_picture_no_bytes(rt: HostRuntime) -> Result<(), Fail> {
     let faults = [(1, PacketFault::Truncated)];
     let file = file(rt.alloc(), &[&HIDDEN, &KEY[..2]])?;
-    assert_eq!(rt;
-        reported(rt.alloc(), &file, Form::Y4m, &faults)?,
-        ((2, 0, 1), 0)
+    equal(
+        &rt,
+        &reported(rt.alloc(), &file, Form::Y4m, &faults)?,
+        &((2, 0, 1), 0),
     );
     Ok(())
 }
@@ -133,10 +140,10 @@ fn front_ended(
 fn file_cut_short(rt: HostRuntime) -> Result<(), Fail> {
     let whole = file(rt.alloc(), &[&KEY, &WIDE])?;
     let torn = Some(DecodeFault::File(FileFault::Torn));
-    assert_eq!(rt; front_ended(rt.alloc(), &whole, 31)?, (torn, 0));
-    assert_eq!(rt; front_ended(rt.alloc(), &whole, 32)?, (None, 0));
-    assert_eq!(rt; front_ended(rt.alloc(), &whole, 53)?, (torn, 0));
-    assert_eq!(rt; front_ended(rt.alloc(), &whole, 75)?, (torn, 431));
+    equal(&rt, &front_ended(rt.alloc(), &whole, 31)?, &(torn, 0));
+    equal(&rt, &front_ended(rt.alloc(), &whole, 32)?, &(None, 0));
+    equal(&rt, &front_ended(rt.alloc(), &whole, 53)?, &(torn, 0));
+    equal(&rt, &front_ended(rt.alloc(), &whole, 75)?, &(torn, 431));
     Ok(())
 }
 
@@ -145,9 +152,13 @@ fn size_change_before_file_fault(rt: HostRuntime) -> Result<(), Fail> {
     let large = [1, 0, 0, 1, 2, 0, 0, 0, 0, 0, 0, 0];
     let bytes = file_and(rt.alloc(), &[&KEY, &WIDE], &large)?;
     let too_large = Some(DecodeFault::File(FileFault::PacketTooLarge));
-    assert_eq!(rt; ended(rt.alloc(), &bytes, Form::I420), (too_large, 419));
+    equal(
+        &rt,
+        &ended(rt.alloc(), &bytes, Form::I420),
+        &(too_large, 419),
+    );
     let change = Some(DecodeFault::SizeChange);
-    assert_eq!(rt; ended(rt.alloc(), &bytes, Form::Y4m), (change, 431));
+    equal(&rt, &ended(rt.alloc(), &bytes, Form::Y4m), &(change, 431));
     Ok(())
 }
 
@@ -183,7 +194,11 @@ fn a_read_or_a_write_fails(rt: HostRuntime) -> Result<(), Fail> {
         (Form::Y4m, 3, 3, 0, 431),
         (Form::Y4m, 3, 4, 0, 437),
     ] {
-        assert_eq!(rt; failing(rt.alloc(), form, reads, writes)?, (packets, bytes));
+        equal(
+            &rt,
+            &failing(rt.alloc(), form, reads, writes)?,
+            &(packets, bytes),
+        );
     }
     Ok(())
 }
@@ -213,15 +228,16 @@ fn survey_of_three_packets(rt: HostRuntime) -> Result<(), Fail> {
         scale: 1,
     };
     let whole = file(rt.alloc(), &packets)?;
-    assert_eq!(rt; surveyed(rt.alloc(), &whole)?, (Some(head), None));
+    equal(&rt, &surveyed(rt.alloc(), &whole)?, &(Some(head), None));
     let torn = file_and(rt.alloc(), &packets, &[1, 0])?;
-    assert_eq!(rt;
-        surveyed(rt.alloc(), &torn)?,
-        (Some(head), Some(FileFault::Torn))
+    equal(
+        &rt,
+        &surveyed(rt.alloc(), &torn)?,
+        &(Some(head), Some(FileFault::Torn)),
     );
     let mut reader = Counted::new(FailAt::new(torn.as_slice(), 1));
     let failed = survey(rt.alloc(), &mut reader, Limits::usual());
-    assert_eq!(rt; failed.err(), Some(SurveyFault::Device));
+    equal(&rt, &failed.err(), &Some(SurveyFault::Device));
     Ok(())
 }
 

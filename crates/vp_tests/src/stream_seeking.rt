@@ -1,5 +1,6 @@
 //! `Stream`: files that grow, asked for any packet.
 
+use crate::check::equal;
 use crate::files::{HEAD, HIDDEN, INTER, KEY, file};
 use std::alloc::{AllocError, Global};
 use std::test::Fail;
@@ -121,7 +122,7 @@ fn fed_byte_by_byte(rt: HostRuntime) -> Result<(), Fail> {
     };
     let mut stream = Stream::new(rt.alloc(), Limits::usual());
     assert!(rt; is_none_before_the_end(rt.alloc(), &mut stream)?);
-    assert_eq!(rt; stream.count(), 1);
+    equal(&rt, &stream.count(), &1);
     assert!(rt; stream.head() == Some(head));
     assert!(rt; shows_at(&stream, 0, 128, 129)?);
     assert!(rt; ends_once(&mut stream));
@@ -144,14 +145,16 @@ fn end_after(alloc: Global, whole: &[u8], length: usize) -> Result<Result<(), Fi
 #[test]
 fn file_cut_short(rt: HostRuntime) -> Result<(), Fail> {
     let whole = file(rt.alloc(), &[&KEY])?;
-    assert_eq!(rt;
-        end_after(rt.alloc(), whole.as_slice(), 31)?,
-        Err(FileFault::Torn)
+    equal(
+        &rt,
+        &end_after(rt.alloc(), whole.as_slice(), 31)?,
+        &Err(FileFault::Torn),
     );
-    assert_eq!(rt; end_after(rt.alloc(), whole.as_slice(), 32)?, Ok(()));
-    assert_eq!(rt;
-        end_after(rt.alloc(), whole.as_slice(), 53)?,
-        Err(FileFault::Torn)
+    equal(&rt, &end_after(rt.alloc(), whole.as_slice(), 32)?, &Ok(()));
+    equal(
+        &rt,
+        &end_after(rt.alloc(), whole.as_slice(), 53)?,
+        &Err(FileFault::Torn),
     );
     Ok(())
 }
@@ -170,7 +173,7 @@ fn head_faults(rt: HostRuntime) -> Result<(), Fail> {
     assert!(rt; stream.head() == None);
     assert!(rt; stream.finish() == Err(FileFault::Codec));
     assert!(rt; refuses(&mut stream, &KEY, FileFault::Codec));
-    assert_eq!(rt; stream.count(), 0);
+    equal(&rt, &stream.count(), &0);
     Ok(())
 }
 
@@ -226,7 +229,7 @@ fn have_keys(stream: &Stream, packets: &[(u32, u32)]) -> bool {
 #[test]
 fn key_packets(rt: HostRuntime) -> Result<(), Fail> {
     let stream = stream_of(rt.alloc(), &[&KEY, &INTER, &KEY, &INTER])?;
-    assert_eq!(rt; stream.count(), 4);
+    equal(&rt, &stream.count(), &4);
     assert!(rt;
         have_keys(
             &stream,
@@ -241,7 +244,7 @@ fn a_count_stays_at_its_greatest(rt: HostRuntime) -> Result<(), Fail> {
     let stream = stream_of(rt.alloc(), &[&KEY, &INTER])?;
     let mut work = u64::MAX - 1;
     assert!(rt; shows(&stream.picture_counted(1, &mut work)?, 128, 128));
-    assert_eq!(rt; work, u64::MAX);
+    equal(&rt, &work, &u64::MAX);
     Ok(())
 }
 

@@ -1,5 +1,6 @@
 //! Rows of macroblocks are filtered one behind.
 
+use crate::check::equal;
 use std::test::Fail;
 use vp_base::{Limits, Picture};
 use vp_decode::{Decoder, Outcome};
@@ -41,9 +42,10 @@ fn filter_is_one_row_behind(rt: HostRuntime) -> Result<(), Fail> {
     };
     let mut decoder = Decoder::new(rt.alloc(), Limits::usual());
     assert!(rt; decoder.decode_with(&packet, &mut filter)? == Outcome::Shown);
-    assert_eq!(rt;
-        filter.seen,
-        [(0, 129, 0), (1, 129, 129), (2, 129, 129), (9, 9, 9)]
+    equal(
+        &rt,
+        &filter.seen,
+        &[(0, 129, 0), (1, 129, 129), (2, 129, 129), (9, 9, 9)],
     );
     Ok(())
 }

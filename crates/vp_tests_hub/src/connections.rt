@@ -1,0 +1,180 @@
+//! Requests in one piece, and connections of which each read and each write fails in turn.
+
+ghost use Rattle.std.specs.Prelude.{◌≡◌, ◌≤◌};
+
+use crate::hubs::{
+    ASKS_KEY, LAST_LINES, are_both, hub_of, is_answered, is_inter, is_key, is_key_behind,
+    is_refused, parts, replied, says,
+};
+use std::alloc::Global;
+use std::io;
+use std::io::{Read, Write};
+use std::test::Fail;
+use vp_base::{Counted, FailAt};
+use vp_hub::{Hub, HubFault, Reply, ServeFault, serve_one};
+
+/// Two requests, for the key packet's picture and for the inter packet's.
+pub const BOTH: [u8; 76] =
+    *b"GET /s/a/frame/0 HTTP/1.1\r\nHost: x\r\n\r\nGET /s/a/frame/1 HTTP/1.1\r\nHost: x\r\n\r\n";
+
+/// The same, of which the first closes the connection.
+const LAST: [u8; 95] =
+    *b"GET /s/a/frame/0 HTTP/1.1\r\nHost: x\r\nConnection: close\r\n\r\nGET /s/a/frame/1 HTTP/1.1\r\nHost: x\r\n\r\n";
+
+/// Whether an event was answered with the key packet's picture, and the connection closed.
+fn is_answered_last(answer: &Result<Reply, HubFault>) -> bool {
+    match answer {
+        Ok(reply) => is_key_behind(LAST_LINES, reply.bytes.as_slice()) && reply.close,
+        Err(_) => false,
+    }
+}
+
+/// Whether the second isn't answered where the first closes, and nothing is taken behind it.
+fn drops_the_second(alloc: Global) -> bool {
+    let Some(mut hub) = hub_of(alloc, &[b"a"], &parts(), 1) else {
+        return false;
+    };
+    is_answered_last(&says(alloc, &mut hub, 1, &LAST))
+        && is_refused(&says(alloc, &mut hub, 1, &LAST), HubFault::Failed)
+}
+
+/// Whether each of both, sent in two pieces of which the first has so many bytes, is answered with its last byte.
+fn answers_at_the_last_byte(alloc: Global, place: usize) -> bool
+    requires { place ≤ 76 }
+{
+    let Some(mut hub) = hub_of(alloc, &[b"a"], &parts(), 1) else {
+        return false;
+    };
+    let early = says(alloc, &mut hub, 1, &BOTH[..place]);
+    let late = says(alloc, &mut hub, 1, &BOTH[place..]);
+    match place {
+        0..38 => is_answered(&early, b"") && are_both(replied(&late)),
+        38..76 => is_key(replied(&early)) && is_inter(replied(&late)),
+        _ => are_both(replied(&early)) && is_answered(&late, b""),
+    }
+}
+
+#[test]
+fn two_requests_in_one_piece(rt: HostRuntime) -> Result<(), Fail> {
+    assert!(rt; drops_the_second(rt.alloc()));
+    for place in 0..=76 {
+        assert!(rt;
+            answers_at_the_last_byte(rt.alloc(), place),
+            "cut at {place}"
+        );
+    }
+    Ok(())
+}
+
+/// Gives at most `size` bytes at each read.
+#[derive(Drop)]
+struct Pieces<'a> {
+    /// What wasn't read yet.
+    left: &'a [u8],
+    /// The most bytes of a piece.
+    size: usize,
+}
+
+impl Read for Pieces<'_> {
+    fn read(&mut self, buf: &mut [u8]) -> io::Result<usize> {
+        let end = buf.len().min(self.size);
+        self.left.read(&mut buf[..end])
+    }
+}
+
+/// Takes at most 64 bytes at each write.
+#[derive(Drop)]
+struct Narrow(Vec<u8>);
+
+impl Write for Narrow {
+    fn write(&mut self, buf: &[u8]) -> io::Result<usize> {
+        let end = buf.len().min(64);
+        self.0.write(&buf[..end])
+    }
+
+    fn flush(&mut self) -> io::Result<()> {
+        self.0.flush()
+    }
+}
+
+impl Narrow {
+    /// What was written.
+    fn into_bytes(self) -> Vec<u8>
+        ensures { result ≡ self.0 }
+    {
+        let Narrow(bytes) = self;
+        bytes
+    }
+}
+
+/// How serving connection 2 ends that sends both requests in pieces of so many bytes, where so many reads, and so many
+/// writes of 64 bytes, come before one fails; and what is written.
+fn served(
+    alloc: Global,
+    hub: &mut Hub,
+    size: usize,
+    reads: u64,
+    writes: u64,
+) -> (Result<(), ServeFault>, Vec<u8>) {
+    let pieces = Pieces { left: &BOTH, size };
+    let mut reader = Counted::new(FailAt::new(pieces, reads));
+    let mut writer = Counted::new(FailAt::new(Narrow(Vec::new(alloc)), writes));
+    let end = serve_one(hub, 2, &mut reader, &mut writer);
+    (end, writer.into_inner().into_inner().into_bytes())
+}
+
+/// Whether each of the fifteen writes of 928 bytes fails in turn, behind those before it.
+fn fails_at_each_write(alloc: Global, hub: &mut Hub, whole: &[u8]) -> bool {
+    for writes in 0..15usize {
+        let (end, written) = served(alloc, hub, 76, 10, writes as u64);
+        if end != Err(ServeFault::Device) || whole.get(..64 * writes) != Some(written.as_slice()) {
+            return false;
+        }
+    }
+    true
+}
+
+/// Whether each of the twelve reads of seven bytes fails in turn. The first request ends in the sixth, the second in the
+/// eleventh, and the last finds the end.
+fn fails_at_each_read(alloc: Global, hub: &mut Hub, whole: &[u8]) -> bool {
+    for reads in 0..12u64 {
+        let length = match reads {
+            0..6 => 0,
+            6..11 => 464,
+            _ => 928,
+        };
+        let (end, written) = served(alloc, hub, 7, reads, 100);
+        if end != Err(ServeFault::Device) || whole.get(..length) != Some(written.as_slice()) {
+            return false;
+        }
+    }
+    true
+}
+
+/// Whether a hub serves connection 2 to its end, and again after all these failures, by so many reads and writes as there
+/// must be.
+fn serves_again(alloc: Global, hub: &mut Hub) -> bool {
+    let (first, whole) = served(alloc, hub, 76, 10, 100);
+    let is_fine = first == Ok(())
+        && are_both(&whole)
+        && fails_at_each_write(alloc, hub, &whole)
+        && fails_at_each_read(alloc, hub, &whole);
+    let (last, again) = served(alloc, hub, 7, 12, 16);
+    is_fine && last == Ok(()) && again.as_slice() == whole.as_slice()
+}
+
+/// Whether another connection goes on meanwhile with what it had sent before.
+fn goes_on(alloc: Global) -> bool {
+    let Some(mut hub) = hub_of(alloc, &[b"a"], &parts(), 1) else {
+        return false;
+    };
+    is_answered(&says(alloc, &mut hub, 1, &ASKS_KEY[..20]), b"")
+        && serves_again(alloc, &mut hub)
+        && is_key(replied(&says(alloc, &mut hub, 1, &ASKS_KEY[20..])))
+}
+
+#[test]
+fn each_call_of_a_connection_fails(rt: HostRuntime) -> Result<(), Fail> {
+    assert!(rt; goes_on(rt.alloc()));
+    Ok(())
+}

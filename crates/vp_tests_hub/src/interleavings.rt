@@ -1,0 +1,244 @@
+//! Connections and a stream whose bytes come in turn: each connection is answered as if it were alone.
+
+ghost use Rattle.std.specs.Prelude.{◌≤◌};
+
+use crate::hubs::{
+    ASKS_INTER, ASKS_KEY, HEAD, KEY, NOT_FOUND, feeds, hub_of, is_answered, is_inter, is_key,
+    is_refused, parts, replied, says,
+};
+use Turn::{First, Second, Stream, Third};
+use std::alloc::Global;
+use std::test::Fail;
+use vp_hub::{Event, Hub, HubFault, Reply};
+
+/// Someone who sends bytes, one in each turn.
+#[derive(Drop)]
+struct Peer<'a> {
+    number: u32,
+    left: &'a [u8],
+    got: Vec<u8>,
+}
+
+/// The peer's turn: its next byte, if there is one, is sent, and what is replied is put behind. False where memory is short.
+fn speaks(alloc: Global, hub: &mut Hub, peer: &mut Peer<'_>) -> bool {
+    let Some((byte, rest)) = peer.left.split_first() else {
+        return true;
+    };
+    peer.left = rest;
+    match says(alloc, hub, peer.number, &[*byte]) {
+        Ok(reply) => peer.got.extend_from_slice(reply.bytes.as_slice()).is_ok(),
+        Err(_) => false,
+    }
+}
+
+/// Connection 2 comes, is refused a second time, sends a bad request, is refused what it sends behind it, goes, and is
+/// refused to go again. False where it isn't answered so.
+fn a_third_comes(alloc: Global, hub: &mut Hub) -> bool {
+    let bad = b"GET /streams HTTP/1.1\r\n\r\n";
+    hub.step(&Event::Open(2)).is_ok()
+        && is_refused(&hub.step(&Event::Open(2)), HubFault::AlreadyOpen)
+        && says(alloc, hub, 2, bad).is_ok()
+        && is_refused(&says(alloc, hub, 2, bad), HubFault::Failed)
+        && hub.step(&Event::Shut(2)).is_ok()
+        && is_refused(&hub.step(&Event::Shut(2)), HubFault::UnknownConn)
+        && is_refused(&says(alloc, hub, 2, bad), HubFault::UnknownConn)
+}
+
+/// What speaks in turn: two connections, and a stream of which these bytes are left.
+#[derive(Drop)]
+struct Speakers<'a> {
+    first: Peer<'a>,
+    second: Peer<'a>,
+    stream: &'a [u8],
+}
+
+/// The stream's turn: the next of the bytes that are left, if there is one, is fed.
+fn grows(alloc: Global, hub: &mut Hub, speakers: &mut Speakers<'_>) -> bool {
+    let Some((byte, rest)) = speakers.stream.split_first() else {
+        return true;
+    };
+    speakers.stream = rest;
+    feeds(alloc, hub, &[*byte]).is_ok()
+}
+
+/// Whose turn it is.
+#[derive(Clone, Copy, Debug)]
+enum Turn {
+    First,
+    Second,
+    Stream,
+    /// That of a connection that comes and goes.
+    Third,
+}
+
+/// One turn.
+fn take(alloc: Global, hub: &mut Hub, speakers: &mut Speakers<'_>, turn: Turn) -> bool {
+    match turn {
+        First => speaks(alloc, hub, &mut speakers.first),
+        Second => speaks(alloc, hub, &mut speakers.second),
+        Stream => grows(alloc, hub, speakers),
+        Third => a_third_comes(alloc, hub),
+    }
+}
+
+/// Turns of this order again and again, until nobody has a byte left: each has 38 at most, and a turn in each eight.
+fn take_all(alloc: Global, hub: &mut Hub, speakers: &mut Speakers<'_>, order: [Turn; 8]) -> bool {
+    for number in 0..8 * 38 {
+        if !take(alloc, hub, speakers, order[number % 8]) {
+            return false;
+        }
+    }
+    true
+}
+
+/// A key packet and an inter packet more, with the twelve bytes before each.
+const MORE: [u8; 37] = [
+    10, 0, 0, 0, 0, 0, 0, 0, 0, 0, 0, 0, 0x10, 0, 0, 0x9d, 0x01, 0x2a, 0x10, 0, 0x10, 0, 3, 0, 0,
+    0, 0, 0, 0, 0, 0, 0, 0, 0, 0x11, 0, 0,
+];
+
+const INFO: &[u8] =
+    b"HTTP/1.1 200 OK\r\nContent-Type: text/plain\r\nContent-Length: 42\r\n\r\nstate open\npackets 4\nsize 16x16\nrate 30/1\n";
+
+/// Whether the stream has four packets, of which the last is shown.
+fn has_grown(alloc: Global, hub: &mut Hub) -> bool {
+    let info = b"GET /s/a/info HTTP/1.1\r\nHost: x\r\n\r\n";
+    let last = b"GET /s/a/frame/3 HTTP/1.1\r\nHost: x\r\n\r\n";
+    is_answered(&says(alloc, hub, 1, info), INFO) && is_inter(replied(&says(alloc, hub, 3, last)))
+}
+
+/// Whether two connections that ask for two pictures in turns of this order, while the stream grows and a third connection
+/// comes and goes, are each answered by their picture.
+fn asks_in(alloc: Global, cache: u32, order: [Turn; 8]) -> bool {
+    let Some(mut hub) = hub_of(alloc, &[b"a"], &parts(), cache) else {
+        return false;
+    };
+    let first = Peer {
+        number: 1,
+        left: &ASKS_KEY,
+        got: Vec::new(alloc),
+    };
+    let second = Peer {
+        number: 3,
+        left: &ASKS_INTER,
+        got: Vec::new(alloc),
+    };
+    let mut speakers = Speakers {
+        first,
+        second,
+        stream: &MORE,
+    };
+    take_all(alloc, &mut hub, &mut speakers, order)
+        && is_key(&speakers.first.got)
+        && is_inter(&speakers.second.got)
+        && has_grown(alloc, &mut hub)
+}
+
+#[test]
+fn bytes_in_turn(rt: HostRuntime) -> Result<(), Fail> {
+    for order in [
+        [First, Second, Stream, Third, First, Second, Stream, Third],
+        [Third, Stream, Second, First, Third, Stream, Second, First],
+        [Stream, Second, Third, Third, First, Second, First, Stream],
+        [First, First, First, First, Second, Second, Third, Stream],
+        [Second, Third, Second, Stream, Stream, Stream, Stream, First],
+        [
+            First, Stream, Stream, Second, Second, Second, Second, Second,
+        ],
+    ] {
+        assert!(rt;
+            asks_in(rt.alloc(), 1, order),
+            "{order:?}, one picture is kept"
+        );
+        assert!(rt;
+            asks_in(rt.alloc(), 2, order),
+            "{order:?}, two pictures are kept"
+        );
+    }
+    Ok(())
+}
+
+/// What is answered where a file's last bytes are fed behind so many bytes of a request.
+#[derive(Drop)]
+struct Answers {
+    /// Another connection's whole request, before the file's last bytes.
+    before: Result<Reply, HubFault>,
+    /// The bytes of the request that come before them.
+    early: Result<Reply, HubFault>,
+    /// The file's last bytes.
+    fed: Result<Reply, HubFault>,
+    /// The bytes of the request that are left.
+    late: Result<Reply, HubFault>,
+    /// The other connection's request again.
+    behind: Result<Reply, HubFault>,
+}
+
+/// What is answered by a hub whose stream has begun.
+fn ask_around(alloc: Global, begun: &[&[u8]], rest: &[u8], place: usize) -> Option<Answers>
+    requires { place ≤ 38 }
+{
+    let mut hub = hub_of(alloc, &[b"a"], begun, 1)?;
+    Some(Answers {
+        before: says(alloc, &mut hub, 3, &ASKS_KEY),
+        early: says(alloc, &mut hub, 1, &ASKS_KEY[..place]),
+        fed: feeds(alloc, &mut hub, rest),
+        late: says(alloc, &mut hub, 1, &ASKS_KEY[place..]),
+        behind: says(alloc, &mut hub, 3, &ASKS_KEY),
+    })
+}
+
+/// Whether the picture is there behind the file's last bytes, and not before them, for the other connection.
+fn are_others(answers: &Answers) -> bool {
+    is_answered(&answers.before, NOT_FOUND)
+        && is_answered(&answers.fed, b"")
+        && is_key(replied(&answers.behind))
+}
+
+/// Whether the request is answered once it is whole: by none, where that is before the file's last bytes.
+fn is_whole(answers: &Answers, place: usize) -> bool {
+    if place == 38 {
+        return is_answered(&answers.early, NOT_FOUND) && is_answered(&answers.late, b"");
+    }
+    is_answered(&answers.early, b"") && is_key(replied(&answers.late))
+}
+
+/// Whether both connections are answered by what is there at that moment.
+fn fed_behind(alloc: Global, begun: &[&[u8]], rest: &[u8], place: usize) -> bool
+    requires { place ≤ 38 }
+{
+    match ask_around(alloc, begun, rest, place) {
+        Some(answers) => are_others(&answers) && is_whole(&answers, place),
+        None => false,
+    }
+}
+
+#[test]
+fn fed_between_each_two_bytes(rt: HostRuntime) -> Result<(), Fail> {
+    for place in 0..=38 {
+        assert!(rt;
+            fed_behind(rt.alloc(), &[&HEAD, &KEY[..21]], &KEY[21..], place),
+            "behind {place} bytes"
+        );
+    }
+    Ok(())
+}
+
+/// The file's head and its key packet in one piece.
+fn file() -> [u8; 54] {
+    let mut bytes = [0; 54];
+    bytes[..32].copy_from_slice(&HEAD);
+    bytes[32..].copy_from_slice(&KEY);
+    bytes
+}
+
+#[test]
+fn whole_file_fed_between(rt: HostRuntime) -> Result<(), Fail> {
+    let file = file();
+    for place in 0..=38 {
+        assert!(rt;
+            fed_behind(rt.alloc(), &[], &file, place),
+            "behind {place} bytes"
+        );
+    }
+    Ok(())
+}

@@ -1,0 +1,33 @@
+//! vp_bool by itself: worked bools, read and written.
+
+use crate::check::equal;
+use std::test::Fail;
+use vp_bool::{BoolDecoder, BoolEncoder};
+
+#[test]
+fn bool_encoder_examples(rt: HostRuntime) -> Result<(), Fail> {
+    let nothing = BoolEncoder::new(rt.alloc()).finish()?;
+    equal(&rt, &nothing.as_slice(), &[0].as_slice());
+    let mut one = BoolEncoder::new(rt.alloc());
+    one.write(true, 128)?;
+    let one = one.finish()?;
+    equal(&rt, &one.as_slice(), &[0x80, 0].as_slice());
+    let mut five = BoolEncoder::new(rt.alloc());
+    five.literal(5, 3)?;
+    let five = five.finish()?;
+    equal(&rt, &five.as_slice(), &[0x9f, 0xc0].as_slice());
+    Ok(())
+}
+
+#[test]
+fn reads_examples(rt: HostRuntime) {
+    equal(&rt, &BoolDecoder::new(&[0x9f, 0xc0]).literal(3), &5);
+    assert!(rt; BoolDecoder::new(&[0x80, 0]).read(128));
+    let mut zeros = BoolDecoder::new(&[]);
+    let mut ones = BoolDecoder::new(&[255, 0, 0, 0, 0, 0, 0, 0, 0, 0, 0, 0]);
+    for i in 0..1000u32 {
+        let probability = (i % 256) as u8;
+        assert!(rt; !zeros.read(probability));
+        assert!(rt; ones.read(probability));
+    }
+}

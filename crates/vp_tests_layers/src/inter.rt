@@ -1,0 +1,303 @@
+//! vp_inter by itself: moved blocks against chapter 18.3 of RFC 6386, pixel by pixel.
+
+ghost use Rattle.std.specs.Prelude.{◌<◌, ◌≤◌};
+
+use crate::check::equal;
+use std::alloc::{AllocError, Global};
+use std::test::Fail;
+use vp_base::{Dim, Limits, Picture, Plane};
+use vp_inter::{
+    PlaneVector, chroma_vector, luma_vector, predict_block4, predict_block8, predict_block16,
+    predict_into4, predict_into8, predict_into16,
+};
+
+/// Makes three columns 0, of a plane of 16 columns.
+fn darken(plane: &mut Plane) {
+    for y in 0..16 {
+        if plane.width() == 16 && y < plane.height() {
+            plane.write_run(0, y, [0; 3].as_slice());
+        }
+    }
+}
+
+/// Whether the pixels at the edge of the plane are these, moved by a quarter of a pixel and by far.
+fn moves(plane: &Plane) -> bool {
+    if plane.width() != 16 || plane.height() != 16 {
+        return false;
+    }
+    let quarter = luma_vector(0, 1);
+    let turned = luma_vector(-400, 1 - 4000);
+    predict_block4(plane, 0, 0, quarter, 0)[2] == 58
+        && predict_block4(plane, 0, 0, quarter, 1)[2] == 64
+        && predict_block16(plane, 0, 0, quarter, 0)[242] == 58
+        && predict_block8(plane, 8, 8, turned, 0)[63] == 0
+}
+
+/// Three columns of 0 and then 255.
+#[test]
+fn kernel_examples(rt: HostRuntime) {
+    let Ok(mut plane) = Plane::new(rt.alloc(), 16, 16, 255) else {
+        panic!(rt; "memory");
+    };
+    equal(&rt, &plane.width(), &16);
+    equal(&rt, &plane.height(), &16);
+    darken(&mut plane);
+    assert!(rt; moves(&plane));
+    equal(
+        &rt,
+        &chroma_vector(0, &[-1, -1, -1, -2], &[1, 2, 3, 4]),
+        &PlaneVector { row: -1, column: 3 },
+    );
+    equal(
+        &rt,
+        &chroma_vector(3, &[-1, -1, -1, -2], &[9, 9, 9, 9]),
+        &PlaneVector { row: -8, column: 8 },
+    );
+}
+
+/// Whole pixels that a block is moved by: far outside, across each border, just outside and just inside, for each size.
+const OFFSETS: [i32; 19] = [
+    -1000, -18, -17, -16, -15, -14, 0, 13, 14, 16, 17, 21, 22, 24, 25, 26, 28, 29, 1000,
+];
+
+/// Fills a row with 0, 51 and so on to 255, far apart from one pixel to the next.
+fn fill(row: &mut [u8], y: usize) {
+    for x in 0..row.len() {
+        let mixed = x
+            .wrapping_mul(x.wrapping_mul(31).wrapping_add(y))
+            .wrapping_add(y.wrapping_mul(57));
+        row[x] = (mixed % 6) as u8 * 51;
+    }
+}
+
+/// The weights of chapter 18.3's table for each eighth of a pixel, of the pixels at -2 to 3.
+const SIX: [[i32; 6]; 8] = [
+    [0, 0, 128, 0, 0, 0],
+    [0, -6, 123, 12, -1, 0],
+    [2, -11, 108, 36, -8, 1],
+    [0, -9, 93, 50, -6, 0],
+    [3, -16, 77, 77, -16, 3],
+    [0, -6, 50, 93, -9, 0],
+    [1, -8, 36, 108, -11, 2],
+    [0, -1, 12, 123, -6, 0],
+];
+
+/// The weights in a version: six taps, or two in proportion.
+fn weights(version: u8, eighths: i32) -> [i32; 6] {
+    let eighths = (eighths & 7) as usize % 8;
+    if version == 0 {
+        return SIX[eighths];
+    }
+    let second = 16 * eighths as i32;
+    [0, 0, 128 - second, second, 0, 0]
+}
+
+/// The pixel that six make.
+fn weighed(six: [i32; 6], weights: [i32; 6]) -> i32 {
+    let mut sum = 64i32;
+    for k in 0..6 {
+        sum = sum.wrapping_add(six[k].wrapping_mul(weights[k]));
+    }
+    (sum >> 7).clamp(0, 255)
+}
+
+/// The pixel at a place, or where that is outside, the nearest one.
+fn pixel(plane: &Plane, x: i32, y: i32) -> i32 {
+    let x = (x.max(0) as usize).min(plane.width().wrapping_sub(1));
+    let y = (y.max(0) as usize).min(plane.height().wrapping_sub(1));
+    if x < plane.width() && y < plane.height() {
+        i32::from(plane.get(x, y))
+    } else {
+        0
+    }
+}
+
+/// The pixel that those at -2 to 3 of a row make.
+fn across(plane: &Plane, x: i32, y: i32, weights: [i32; 6]) -> i32 {
+    let mut six = [0; 6];
+    for k in 0..6 {
+        six[k] = pixel(plane, x.wrapping_add(k as i32).wrapping_sub(2), y);
+    }
+    weighed(six, weights)
+}
+
+/// Pixels of one row moved to columns 16 to 31.
+fn moved_row(plane: &Plane, y: i32, vector: PlaneVector, version: u8) -> [i32; 16] {
+    let weights = weights(version, vector.column);
+    let x = 16i32.wrapping_add(vector.column >> 3);
+    let mut row = [0; 16];
+    for c in 0..16 {
+        row[c] = across(plane, x.wrapping_add(c as i32), y, weights);
+    }
+    row
+}
+
+/// The rows from which those at 16 to 31 are made: two more above, and three below.
+fn moved_rows(plane: &Plane, vector: PlaneVector, version: u8) -> [[i32; 16]; 21] {
+    let y = 14i32.wrapping_add(vector.row >> 3);
+    let mut rows = [[0; 16]; 21];
+    for i in 0..21 {
+        rows[i] = moved_row(plane, y.wrapping_add(i as i32), vector, version);
+    }
+    rows
+}
+
+/// The pixel that a vector moves to a place of the block, as chapter 18.3 tells it: rows first, then columns.
+fn moved(rows: &[[i32; 16]; 21], column: usize, row: usize, weights: [i32; 6]) -> i32 {
+    let mut six = [0; 6];
+    for k in 0..6 {
+        six[k] = rows[row.wrapping_add(k) % 21][column % 16];
+    }
+    weighed(six, weights)
+}
+
+/// Whether a block of rows of `size` has the pixels that are made of these rows.
+fn is_made_of(block: &[u8], size: usize, rows: &[[i32; 16]; 21], weights: [i32; 6]) -> bool
+    requires { 0 < size }
+{
+    for i in 0..block.len() {
+        if i32::from(block[i]) != moved(rows, i % size, i / size, weights) {
+            return false;
+        }
+    }
+    block.len() == size.wrapping_mul(size)
+}
+
+/// Whether a block of some size, at column and row 16, has other pixels.
+fn differ(plane: &Plane, vector: PlaneVector, version: u8) -> bool
+    requires wide { 0 < plane.now.width }
+    requires high { 0 < plane.now.height }
+{
+    let rows = moved_rows(plane, vector, version);
+    let down = weights(version, vector.row);
+    let large = predict_block16(plane, 16, 16, vector, version);
+    let middle = predict_block8(plane, 16, 16, vector, version);
+    let small = predict_block4(plane, 16, 16, vector, version);
+    !is_made_of(&large, 16, &rows, down)
+        || !is_made_of(&middle, 8, &rows, down)
+        || !is_made_of(&small, 4, &rows, down)
+}
+
+/// The first vector of those whole pixels, with any eighths, and version where they differ.
+fn difference_at(plane: &Plane, row: i32, column: i32) -> Option<(PlaneVector, u8)>
+    requires wide { 0 < plane.now.width }
+    requires high { 0 < plane.now.height }
+{
+    for eighths in 0..64 {
+        let vector = PlaneVector {
+            row: row.wrapping_mul(8).wrapping_add(eighths / 8),
+            column: column.wrapping_mul(8).wrapping_add(eighths % 8),
+        };
+        for version in 0..4 {
+            if differ(plane, vector, version) {
+                return Some((vector, version));
+            }
+        }
+    }
+    None
+}
+
+/// The first of all of them: across one border, and across two at a corner.
+fn first_difference(plane: &Plane) -> Option<(PlaneVector, u8)>
+    requires wide { 0 < plane.now.width }
+    requires high { 0 < plane.now.height }
+{
+    for offset in OFFSETS {
+        let turned = 0i32.wrapping_sub(offset);
+        for (row, column) in [(offset, 0), (0, offset), (offset, offset), (turned, offset)] {
+            let found = difference_at(plane, row, column);
+            if found.is_some() {
+                return found;
+            }
+        }
+    }
+    None
+}
+
+#[test]
+fn lanes_predict_as_pixels(rt: HostRuntime) -> Result<(), Fail> {
+    let mut plane = Plane::new(rt.alloc(), 48, 48, 0)?;
+    for y in 0..48 {
+        assert!(rt; y < plane.height());
+        fill(plane.row_mut(y), y);
+    }
+    assert!(rt; 0 < plane.width() && 0 < plane.height());
+    equal(&rt, &first_difference(&plane), &None);
+    Ok(())
+}
+
+/// The pixel wanted at a place: of the block of rows of `size` that begins at column and row `at`, or 7 round it.
+fn wanted(block: &[u8], size: usize, at: usize, x: usize, y: usize) -> u8 {
+    let [column, row] = [x.wrapping_sub(at), y.wrapping_sub(at)];
+    if column >= size || row >= size {
+        return 7;
+    }
+    match block.get(row.wrapping_mul(size).wrapping_add(column)) {
+        Some(pixel) => *pixel,
+        None => 0,
+    }
+}
+
+/// Whether row `y` has the pixels wanted.
+fn has_row(row: &[u8], block: &[u8], size: usize, at: usize, y: usize) -> bool {
+    for x in 0..row.len() {
+        if row[x] != wanted(block, size, at, x, y) {
+            return false;
+        }
+    }
+    true
+}
+
+/// Whether a plane has the block at column and row `at`, and 7 round it.
+fn has_block(plane: &Plane, block: &[u8], size: usize, at: usize) -> bool {
+    for y in 0..plane.height() {
+        if !has_row(plane.row(y), block, size, at, y) {
+            return false;
+        }
+    }
+    true
+}
+
+/// Whether blocks of each size, written to the three planes of a picture of 7, stand there and leave the rest.
+fn are_written(
+    alloc: Global,
+    dim: Dim,
+    reference: &Plane,
+    vector: PlaneVector,
+) -> Result<bool, AllocError>
+    requires wide { 0 < reference.now.width }
+    requires high { 0 < reference.now.height }
+    requires columns { 48 ≤ dim.w }
+    requires rows { 48 ≤ dim.h }
+{
+    let large = predict_block16(reference, 16, 16, vector, 0);
+    let middle = predict_block8(reference, 8, 8, vector, 0);
+    let small = predict_block4(reference, 8, 8, vector, 0);
+    let mut picture = Picture::new(alloc, dim, 7)?;
+    predict_into16(&mut picture, 0, 16, 16, reference, vector, 0);
+    predict_into8(&mut picture, 1, 8, 8, reference, vector, 0);
+    predict_into4(&mut picture, 2, 8, 8, reference, vector, 0);
+    Ok(
+        has_block(picture.plane(0), &large, 16, 16)
+            && has_block(picture.plane(1), &middle, 8, 8)
+            && has_block(picture.plane(2), &small, 4, 8),
+    )
+}
+
+#[test]
+fn blocks_are_written_where_they_stand(rt: HostRuntime) -> Result<(), Fail> {
+    let mut reference = Plane::new(rt.alloc(), 48, 48, 0)?;
+    for y in 0..48 {
+        assert!(rt; y < reference.height());
+        fill(reference.row_mut(y), y);
+    }
+    assert!(rt; 0 < reference.width() && 0 < reference.height());
+    let Ok(dim) = Dim::new(48, 48, &Limits::usual()) else {
+        panic!(rt; "a usual size");
+    };
+    for (row, column) in [(0, 0), (16, -8), (3, 5), (-4000, 4001)] {
+        let vector = PlaneVector { row, column };
+        assert!(rt; are_written(rt.alloc(), dim, &reference, vector)?);
+    }
+    Ok(())
+}

@@ -1,0 +1,43 @@
+//! Tests of each layer by itself: worked rows of its public calls. There is nothing here but tests.
+#![tactic(auto)]
+
+#[cfg(test)]
+mod base;
+#[cfg(test)]
+mod bools;
+#[cfg(test)]
+mod cache;
+#[cfg(test)]
+mod check;
+#[cfg(test)]
+mod heads;
+#[cfg(test)]
+mod inter;
+#[cfg(test)]
+mod intra;
+#[cfg(test)]
+mod ivf;
+#[cfg(test)]
+mod loop_filter;
+#[cfg(test)]
+mod modes;
+#[cfg(test)]
+mod motion;
+#[cfg(test)]
+mod quantisers;
+#[cfg(test)]
+mod recon;
+#[cfg(test)]
+mod recon_inter;
+#[cfg(test)]
+mod refs;
+#[cfg(test)]
+mod search;
+#[cfg(test)]
+mod tokens;
+#[cfg(test)]
+mod transforms;
+#[cfg(test)]
+mod trees;
+#[cfg(test)]
+mod y4m;

@@ -1,0 +1,265 @@
+//! vp_modes by itself: modes read of worked partitions and of streams, and written again.
+
+ghost use Rattle.std.specs.Prelude.{◌≡◌, ◌<◌};
+
+use crate::check::equal;
+use std::alloc::{AllocError, Global};
+use vp_base::{Dim, Limits};
+use vp_bool::{BoolDecoder, BoolEncoder};
+use vp_head::{Header, KeyTag, Reference, Saved, Tag};
+use vp_modes::{ModeMap, Modes, Place, read_modes, write_modes};
+use vp_tables::SubMode::{Dc, Hd, He, Hu, Ld, Rd, Tm, Ve, Vr};
+use vp_tables::{ChromaMode, LumaMode, SubMode};
+
+fn key_tag(dim: Dim) -> Tag {
+    Tag {
+        version: 0,
+        show: true,
+        first_partition: 1,
+        key: Some(KeyTag {
+            dim,
+            horizontal_scale: 0,
+            vertical_scale: 0,
+        }),
+    }
+}
+
+const FIRST: Place = Place { column: 0, row: 0 };
+
+/// The first macroblock's modes in a partition of their own, after the header of another one.
+fn modes_of(dim: Dim, map: &ModeMap, of_header: &[u8], of_modes: &[u8]) -> Modes
+    requires column { 0 < map.now.columns }
+    requires row { 0 < map.now.rows }
+{
+    let (header, _) = Header::read(
+        &Saved::defaults(),
+        &key_tag(dim),
+        &mut BoolDecoder::new(of_header),
+    );
+    read_modes(&header, map, FIRST, &mut BoolDecoder::new(of_modes))
+}
+
+/// A partition that begins with 255 is ones for ever.
+#[test]
+fn all_ones_header(rt: HostRuntime) {
+    let Ok(dim) = Dim::new(16, 16, &Limits::usual()) else {
+        panic!(rt; "a size");
+    };
+    let Ok(map) = ModeMap::new(rt.alloc(), dim) else {
+        panic!(rt; "a map");
+    };
+    let modes = modes_of(dim, &map, &[255], &[255]);
+    let wanted = Modes {
+        segment: 3,
+        skip: true,
+        reference: Reference::Intra,
+        luma: LumaMode::Tm,
+        subs: modes.subs,
+        chroma: ChromaMode::Tm,
+    };
+    assert!(rt; modes == wanted);
+}
+
+const CHANGED: Modes = Modes {
+    segment: 2,
+    skip: true,
+    reference: Reference::Golden,
+    luma: LumaMode::B,
+    subs: [Hu; 16],
+    chroma: ChromaMode::H,
+};
+
+/// Whether a change of one place of the copy changes no other place, nor the map.
+fn changes_alone(map: &ModeMap, copy: &mut ModeMap) -> bool
+    requires columns { map.now.columns ≡ 2 }
+    requires rows { map.now.rows ≡ 3 }
+    requires copied_columns { copy.old.columns ≡ 2 }
+    requires copied_rows { copy.old.rows ≡ 3 }
+{
+    let place = Place { column: 1, row: 2 };
+    let beside = Place { column: 0, row: 2 };
+    let plain = *map.get(place);
+    copy.set(place, &CHANGED);
+    *copy.get(place) == CHANGED && *copy.get(beside) == plain && *map.get(place) == plain
+}
+
+/// A new map, and one that is copied and then changed.
+#[test]
+fn succeeds_with_memory_maps(rt: HostRuntime) {
+    let Ok(dim) = Dim::new(17, 33, &Limits::usual()) else {
+        panic!(rt; "a size");
+    };
+    let Ok(map) = ModeMap::new(rt.alloc(), dim) else {
+        panic!(rt; "a map");
+    };
+    equal(&rt, &map.columns(), &2);
+    equal(&rt, &map.rows(), &3);
+    let Ok(mut copy) = map.copy(rt.alloc()) else {
+        panic!(rt; "a copy");
+    };
+    assert!(rt; changes_alone(&map, &mut copy));
+}
+
+/// A picture of 16 by 16 pixels that libwebp made.
+const PICTURE: [u8; 20] = [
+    3, 0, 52, 37, 176, 2, 116, 48, 79, 8, 133, 12, 124, 3, 29, 8, 44, 253, 232, 0,
+];
+
+const SUBS_OF_PICTURE: [SubMode; 16] = [
+    Dc, Ld, Dc, Tm, Dc, Ld, Rd, Dc, Ld, Dc, Dc, Tm, Tm, Dc, Hu, Hu,
+];
+
+/// The first macroblock's modes, that follow the header.
+fn modes_after_header(dim: Dim, map: &ModeMap, bytes: &[u8]) -> Modes
+    requires column { 0 < map.now.columns }
+    requires row { 0 < map.now.rows }
+{
+    let mut d = BoolDecoder::new(bytes);
+    let (header, _) = Header::read(&Saved::defaults(), &key_tag(dim), &mut d);
+    read_modes(&header, map, FIRST, &mut d)
+}
+
+#[test]
+fn modes_of_a_picture(rt: HostRuntime) {
+    let Ok(dim) = Dim::new(16, 16, &Limits::usual()) else {
+        panic!(rt; "a size");
+    };
+    let Ok(map) = ModeMap::new(rt.alloc(), dim) else {
+        panic!(rt; "a map");
+    };
+    let modes = modes_after_header(dim, &map, &PICTURE);
+    equal(&rt, &modes.luma, &LumaMode::B);
+    assert!(rt; modes.subs == SUBS_OF_PICTURE);
+    equal(&rt, &modes.chroma, &ChromaMode::V);
+}
+
+/// A header with segmentation and skipping, and four macroblocks with random modes, the first one with a 16x16 mode.
+const FOUR: [u8; 42] = [
+    53, 226, 121, 200, 0, 0, 0, 64, 1, 6, 47, 195, 174, 105, 99, 6, 195, 189, 51, 32, 249, 213, 89,
+    77, 66, 205, 207, 181, 77, 255, 67, 232, 104, 113, 33, 125, 119, 21, 158, 84, 103, 32,
+];
+
+const MODES: [Modes; 4] = [
+    Modes {
+        segment: 3,
+        skip: false,
+        reference: Reference::Intra,
+        luma: LumaMode::V,
+        subs: [Dc; 16],
+        chroma: ChromaMode::V,
+    },
+    Modes {
+        segment: 1,
+        skip: true,
+        reference: Reference::Intra,
+        luma: LumaMode::B,
+        subs: [
+            Rd, Ve, Vr, Dc, Tm, Hd, Tm, Rd, Hu, Dc, Hd, He, Dc, Tm, Vr, Vr,
+        ],
+        chroma: ChromaMode::Tm,
+    },
+    Modes {
+        segment: 2,
+        skip: true,
+        reference: Reference::Intra,
+        luma: LumaMode::B,
+        subs: [
+            Tm, He, Tm, Hd, Vr, Dc, Hu, Tm, He, Hu, Dc, Hu, Hu, Vr, Dc, He,
+        ],
+        chroma: ChromaMode::H,
+    },
+    Modes {
+        segment: 0,
+        skip: false,
+        reference: Reference::Intra,
+        luma: LumaMode::B,
+        subs: [
+            Dc, Hd, Ve, Ld, Vr, Ve, Hd, Tm, Hu, Ld, Hd, Ve, Tm, Hu, Hu, He,
+        ],
+        chroma: ChromaMode::Dc,
+    },
+];
+
+/// Reads a macroblock, puts it into the map, and tells whether it is as wanted.
+fn puts_next(
+    header: &Header,
+    map: &mut ModeMap,
+    place: Place,
+    wanted: &Modes,
+    d: &mut BoolDecoder,
+) -> bool
+    requires columns { map.old.columns ≡ 2 }
+    requires rows { map.old.rows ≡ 2 }
+    requires column { place.column < 2 }
+    requires row { place.row < 2 }
+    ensures columns { map.new.columns ≡ 2 }
+    ensures rows { map.new.rows ≡ 2 }
+{
+    let modes = read_modes(header, map, place, d);
+    map.set(place, &modes);
+    modes == *wanted
+}
+
+/// Whether the next four macroblocks are as wanted.
+fn puts_four(header: &Header, map: &mut ModeMap, wanted: &[Modes; 4], d: &mut BoolDecoder) -> bool
+    requires columns { map.old.columns ≡ 2 }
+    requires rows { map.old.rows ≡ 2 }
+{
+    let [first, second, third, fourth] = wanted;
+    let right = Place { column: 1, row: 0 };
+    let below = Place { column: 0, row: 1 };
+    let last = Place { column: 1, row: 1 };
+    puts_next(header, map, FIRST, first, d)
+        && puts_next(header, map, right, second, d)
+        && puts_next(header, map, below, third, d)
+        && puts_next(header, map, last, fourth, d)
+}
+
+#[test]
+fn modes_by_their_neighbours(rt: HostRuntime) {
+    let Ok(dim) = Dim::new(32, 32, &Limits::usual()) else {
+        panic!(rt; "a size");
+    };
+    let Ok(mut map) = ModeMap::new(rt.alloc(), dim) else {
+        panic!(rt; "a map");
+    };
+    let mut d = BoolDecoder::new(&FOUR);
+    let (header, _) = Header::read(&Saved::defaults(), &key_tag(dim), &mut d);
+    assert!(rt; puts_four(&header, &mut map, &MODES, &mut d));
+}
+
+/// The header and the first macroblock's modes of a partition, written again.
+fn written_again(
+    alloc: Global,
+    dim: Dim,
+    map: &ModeMap,
+    bytes: &[u8],
+) -> Result<Vec<u8>, AllocError>
+    requires column { 0 < map.now.columns }
+    requires row { 0 < map.now.rows }
+{
+    let saved = Saved::defaults();
+    let tag = key_tag(dim);
+    let mut d = BoolDecoder::new(bytes);
+    let (header, _) = Header::read(&saved, &tag, &mut d);
+    let modes = read_modes(&header, map, FIRST, &mut d);
+    let mut e = BoolEncoder::new(alloc);
+    header.write(&saved, &tag, &mut e)?;
+    write_modes(&header, map, FIRST, &modes, &mut e)?;
+    e.finish()
+}
+
+#[test]
+fn a_picture_written_again(rt: HostRuntime) {
+    let Ok(dim) = Dim::new(16, 16, &Limits::usual()) else {
+        panic!(rt; "a size");
+    };
+    let Ok(map) = ModeMap::new(rt.alloc(), dim) else {
+        panic!(rt; "a map");
+    };
+    let Ok(bytes) = written_again(rt.alloc(), dim, &map, &PICTURE) else {
+        panic!(rt; "memory");
+    };
+    // A zero byte more stands behind libwebp's.
+    equal(&rt, &bytes.as_slice(), &&PICTURE[..19]);
+}

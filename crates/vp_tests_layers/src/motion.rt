@@ -1,0 +1,349 @@
+//! vp_motion by itself: vectors by their neighbours, read and written.
+
+ghost use Rattle.std.specs.Prelude.{◌≡◌, ◌<◌, IfOk};
+ghost use Rattle.vp_base.specs.Grid.{Has};
+
+use crate::check::equal;
+use std::alloc::{AllocError, Global};
+use std::process::Abort;
+use std::test::Fail;
+use vp_base::{Dim, Limits};
+use vp_bool::{BoolDecoder, BoolEncoder};
+use vp_head::{Header, Reference, Saved, SignBiases, Tag};
+use vp_modes::{ModeMap, Place, read_modes};
+use vp_motion::{
+    Motion, Vector, VectorMap, near, read_into, read_motion, read_split, read_vector, write_motion,
+    write_vector,
+};
+use vp_tables::VectorMode::{self, Near, Nearest, New, Split, Zero};
+
+const INTER: Tag = Tag {
+    version: 0,
+    show: true,
+    first_partition: 1,
+    key: None,
+};
+
+const UNBIASED: SignBiases = SignBiases {
+    golden: false,
+    alt: false,
+};
+
+const STILL: Vector = Vector { row: 0, column: 0 };
+
+const FIRST: Place = Place { column: 0, row: 0 };
+
+const FAR: Vector = Vector {
+    row: -1023,
+    column: -1023,
+};
+
+const BEST: Vector = Vector {
+    row: 0,
+    column: 1023,
+};
+
+const SIDE: Vector = Vector {
+    row: -1023,
+    column: 0,
+};
+
+/// The reference of the one macroblock of a frame.
+fn reference_of(alloc: Global, header: &Header, d: &mut BoolDecoder) -> Option<Reference> {
+    let dim = Dim::new(16, 16, &Limits::usual()).ok()?;
+    let modes = ModeMap::new(alloc, dim).ok()?;
+    Some(read_modes(header, &modes, FIRST, d).reference)
+}
+
+/// A partition that begins with 255 is ones for ever, and says so of all that an inter packet may say.
+#[test]
+fn split_vectors_far_outside(rt: HostRuntime) -> Result<(), Fail> {
+    let dim = Dim::new(16, 16, &Limits::usual()).ok().ok_or("a size")?;
+    let map = VectorMap::new(rt.alloc(), dim)?;
+    let mut d = BoolDecoder::new(&[255]);
+    let (header, _) = Header::read(&Saved::defaults(), &INTER, &mut d);
+    let reference = reference_of(rt.alloc(), &header, &mut d);
+    equal(&rt, &reference, &Some(Reference::Alt));
+    let motion = read_motion(&header, &map, FIRST, Reference::Alt, &mut d);
+    let wanted = Motion {
+        mode: Split,
+        vectors: [FAR; 16],
+    };
+    assert!(rt; motion == wanted);
+    let probabilities = &header.probabilities.vectors;
+    assert!(rt; read_vector(probabilities, &mut d) == FAR);
+    assert!(rt; read_split(probabilities, &map, FIRST, BEST, &mut d) == [SIDE; 16]);
+    Ok(())
+}
+
+const FOUR: Vector = Vector { row: 4, column: 0 };
+
+fn put_four(map: &mut VectorMap, place: Place)
+    requires column { place.column < map.old.columns }
+    requires row { place.row < map.old.rows }
+    ensures columns { map.new.columns ≡ map.old.columns }
+    ensures rows { map.new.rows ≡ map.old.rows }
+{
+    map.set(place, Reference::Last, New, &[FOUR; 16]);
+}
+
+/// A new map, and what is put into it.
+#[test]
+fn succeeds_with_memory_map(rt: HostRuntime) -> Result<(), Fail> {
+    let dim = Dim::new(48, 33, &Limits::usual()).ok().ok_or("a size")?;
+    let mut map = VectorMap::new(rt.alloc(), dim)?;
+    equal(&rt, &(map.columns(), map.rows()), &(3, 3));
+    put_four(&mut map, Place { column: 1, row: 0 });
+    put_four(&mut map, Place { column: 0, row: 1 });
+    let found = near(&map, Place { column: 1, row: 1 }, Reference::Last, UNBIASED);
+    assert!(rt; found.counts == [0, 4, 0, 0]);
+    assert!(rt; found.best == FOUR);
+    let last = map.get(Place { column: 2, row: 2 }).reference;
+    equal(&rt, &last, &Reference::Intra);
+    Ok(())
+}
+
+// Random bytes, and the motion that they mean for the inter macroblocks of three rows of three, as libvpx reads it,
+// with the probabilities of a key frame.
+const BYTES: [u8; 80] = [
+    107, 218, 150, 93, 61, 147, 228, 23, 119, 170, 253, 218, 157, 52, 25, 178, 23, 196, 104, 26,
+    93, 191, 128, 86, 115, 254, 38, 218, 153, 190, 90, 102, 113, 164, 74, 254, 247, 60, 223, 184,
+    136, 57, 154, 8, 7, 60, 238, 42, 225, 234, 202, 192, 49, 233, 176, 44, 14, 230, 163, 95, 78,
+    67, 191, 77, 197, 250, 148, 198, 97, 25, 153, 170, 194, 197, 150, 42, 11, 216, 3, 96,
+];
+
+const MODES: [VectorMode; 9] = [New, Split, Split, Split, Split, Zero, Split, Near, Nearest];
+
+const ROWS: [[i32; 16]; 9] = [
+    [108; 16],
+    [0, 0, 0, 0, 0, 0, 0, 0, 108, 108, 108, -65, 0, 0, 108, 108],
+    [
+        0, 0, 0, 0, 0, 0, 0, 0, -65, -65, -65, -65, -65, -65, -65, -65,
+    ],
+    [
+        108, 108, 108, 108, 108, 108, 108, 108, 0, 0, 108, 108, 0, 0, 108, 108,
+    ],
+    [
+        0, 0, 108, 108, 0, 0, 108, 108, 108, 108, 108, 108, 108, 108, 108, 108,
+    ],
+    [0; 16],
+    [
+        0, 0, 108, 108, 0, 0, 108, 108, 0, 0, 108, 108, 0, 0, 108, 108,
+    ],
+    [-108; 16],
+    [-108; 16],
+];
+
+const COLUMNS: [[i32; 16]; 9] = [
+    [6; 16],
+    [0, 0, 0, 0, 0, 0, 0, 0, 6, 6, 6, 32, 0, 0, 6, 6],
+    [0, 0, 0, 0, 0, 0, 0, 0, 32, 32, 32, 32, 32, 32, 32, 32],
+    [6, 6, 6, 6, 6, 6, 6, 6, 0, 0, 6, 6, 0, 0, 6, 6],
+    [0, 0, 6, 6, 0, 0, 6, 6, 6, 6, 6, 6, 6, 6, 6, 6],
+    [0; 16],
+    [0, 0, 6, 6, 0, 0, 6, 6, 0, 0, 6, 6, 0, 0, 6, 6],
+    [-6; 16],
+    [-6; 16],
+];
+
+const REFERENCES: [Reference; 9] = [
+    Reference::Last,
+    Reference::Golden,
+    Reference::Last,
+    Reference::Alt,
+    Reference::Last,
+    Reference::Intra,
+    Reference::Golden,
+    Reference::Last,
+    Reference::Alt,
+];
+
+/// Whether these are the vectors of the macroblock i.
+fn are_wanted(vectors: &[Vector; 16], i: usize) -> bool
+    requires { i < 9 }
+{
+    for (b, vector) in vectors.iter().enumerate() {
+        if vector.row != ROWS[i][b] || vector.column != COLUMNS[i][b] {
+            return false;
+        }
+    }
+    true
+}
+
+fn put_next(
+    rt: &impl Abort,
+    header: &Header,
+    map: &mut VectorMap,
+    place: Place,
+    d: &mut BoolDecoder,
+)
+    requires columns { map.old.columns ≡ 3 }
+    requires rows { map.old.rows ≡ 3 }
+    requires column { place.column < 3 }
+    requires row { place.row < 3 }
+    ensures columns { map.new.columns ≡ 3 }
+    ensures rows { map.new.rows ≡ 3 }
+{
+    let i = place.row * 3 + place.column;
+    let motion = read_motion(header, map, place, REFERENCES[i], &mut d.copy());
+    assert_eq!(rt; motion.mode, MODES[i], "at {i}");
+    assert!(rt; are_wanted(&motion.vectors, i), "at {i}");
+    read_into(header, map, place, REFERENCES[i], d);
+    let kept = map.get(place);
+    assert_eq!(rt;
+        (kept.reference, kept.mode),
+        (REFERENCES[i], MODES[i]),
+        "at {i}"
+    );
+    assert!(rt; are_wanted(&kept.vectors, i), "at {i}");
+}
+
+#[test]
+fn vectors_by_their_neighbours(rt: HostRuntime) -> Result<(), Fail> {
+    let dim = Dim::new(48, 48, &Limits::usual()).ok().ok_or("a size")?;
+    let (mut header, _) = Header::read(&Saved::defaults(), &INTER, &mut BoolDecoder::new(&[]));
+    header.biases.golden = true;
+    let mut map = VectorMap::new(rt.alloc(), dim)?;
+    let mut d = BoolDecoder::new(&BYTES);
+    put_next(&rt, &header, &mut map, Place { column: 0, row: 0 }, &mut d);
+    put_next(&rt, &header, &mut map, Place { column: 1, row: 0 }, &mut d);
+    put_next(&rt, &header, &mut map, Place { column: 2, row: 0 }, &mut d);
+    put_next(&rt, &header, &mut map, Place { column: 0, row: 1 }, &mut d);
+    put_next(&rt, &header, &mut map, Place { column: 1, row: 1 }, &mut d);
+    put_next(&rt, &header, &mut map, Place { column: 0, row: 2 }, &mut d);
+    put_next(&rt, &header, &mut map, Place { column: 1, row: 2 }, &mut d);
+    put_next(&rt, &header, &mut map, Place { column: 2, row: 2 }, &mut d);
+    Ok(())
+}
+
+const MIXED: Vector = Vector { row: 4, column: -9 };
+
+/// Two vectors in one partition, by the probabilities that a key frame starts from.
+#[test]
+fn write_vector_examples(rt: HostRuntime) -> Result<(), Fail> {
+    let saved = Saved::defaults();
+    let probabilities = &saved.probabilities.vectors;
+    let mut e = BoolEncoder::new(rt.alloc());
+    write_vector(probabilities, MIXED, &mut e)?;
+    write_vector(probabilities, SIDE, &mut e)?;
+    let bytes = e.finish()?;
+    let mut d = BoolDecoder::new(bytes.as_slice());
+    assert!(rt; read_vector(probabilities, &mut d) == MIXED);
+    assert!(rt; read_vector(probabilities, &mut d) == SIDE);
+    Ok(())
+}
+
+/// Writes a motion in the reference `Last`, if its mode can give its vector, and says whether it does.
+fn write_if_given(
+    header: &Header,
+    map: &VectorMap,
+    place: Place,
+    mode: VectorMode,
+    vector: Vector,
+    e: &mut BoolEncoder,
+) -> Result<bool, AllocError>
+    requires { Has map.now place }
+{
+    let candidates = near(map, place, Reference::Last, header.biases);
+    if !candidates.can_give(mode, vector) {
+        return Ok(false);
+    }
+    let motion = Motion {
+        mode,
+        vectors: [vector; 16],
+    };
+    write_motion(header, map, place, Reference::Last, &motion, e)?;
+    Ok(true)
+}
+
+/// The farthest down from (4, 0), and one further.
+const DOWN: Vector = Vector {
+    row: 1027,
+    column: -1023,
+};
+
+const TOO_FAR: Vector = Vector {
+    row: 1028,
+    column: -1023,
+};
+
+/// Motions between two neighbours with (4, 0), and some that can't be told by their modes.
+const GIVEN: [(VectorMode, Vector); 4] = [
+    (Zero, STILL),
+    (Nearest, FOUR),
+    (Near, STILL),
+    (New, DOWN),
+];
+
+const REFUSED: [(VectorMode, Vector); 4] = [
+    (Zero, FOUR),
+    (Nearest, STILL),
+    (New, TOO_FAR),
+    (Split, FOUR),
+];
+
+/// The first of these that is written, or isn't.
+fn first_given(
+    header: &Header,
+    map: &VectorMap,
+    place: Place,
+    motions: &[(VectorMode, Vector)],
+    is_given: bool,
+    e: &mut BoolEncoder,
+) -> Result<Option<usize>, AllocError>
+    requires { Has map.now place }
+{
+    for (i, (mode, vector)) in motions.iter().enumerate() {
+        if write_if_given(header, map, place, *mode, *vector, e)? == is_given {
+            return Ok(Some(i));
+        }
+    }
+    Ok(None)
+}
+
+/// The first that isn't read back.
+fn first_other(header: &Header, map: &VectorMap, place: Place, d: &mut BoolDecoder) -> Option<usize>
+    requires { Has map.now place }
+{
+    for (i, (mode, vector)) in GIVEN.iter().enumerate() {
+        let wanted = Motion {
+            mode: *mode,
+            vectors: [*vector; 16],
+        };
+        if read_motion(header, map, place, Reference::Last, d) != wanted {
+            return Some(i);
+        }
+    }
+    None
+}
+
+/// Whether just those that can be given are written, and read back.
+fn read_back(
+    alloc: Global,
+    header: &Header,
+    map: &VectorMap,
+    place: Place,
+) -> Result<bool, AllocError>
+    requires { Has map.now place }
+{
+    let mut e = BoolEncoder::new(alloc);
+    let given = first_given(header, map, place, &GIVEN, false, &mut e)?;
+    let refused = first_given(header, map, place, &REFUSED, true, &mut e)?;
+    let bytes = e.finish()?;
+    let other = first_other(header, map, place, &mut BoolDecoder::new(bytes.as_slice()));
+    Ok(given.is_none() && refused.is_none() && other.is_none())
+}
+
+/// All modes but split.
+#[test]
+fn motions_read_back(rt: HostRuntime) -> Result<(), Fail> {
+    let dim = Dim::new(32, 32, &Limits::usual()).ok().ok_or("a size")?;
+    let mut map = VectorMap::new(rt.alloc(), dim)?;
+    equal(&rt, &(map.columns(), map.rows()), &(2, 2));
+    put_four(&mut map, Place { column: 1, row: 0 });
+    put_four(&mut map, Place { column: 0, row: 1 });
+    let (header, _) = Header::read(&Saved::defaults(), &INTER, &mut BoolDecoder::new(&[]));
+    let place = Place { column: 1, row: 1 };
+    assert!(rt; read_back(rt.alloc(), &header, &map, place)?);
+    Ok(())
+}

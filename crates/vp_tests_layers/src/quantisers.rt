@@ -1,0 +1,125 @@
+//! vp_quant by itself: factors by quantiser indices, and levels of coefficients.
+
+use crate::check::equal;
+use std::test::Fail;
+use vp_bool::BoolDecoder;
+use vp_head::{Header, QuantiserIndices, Saved, Tag};
+use vp_quant::{Factors, dequant, dequant_short, quantise, segment_index};
+
+/// The first and the last numbers of RFC 6386's tables (chapter 14.1), and their bounds.
+#[test]
+fn factors_of_both_ends(rt: HostRuntime) -> Result<(), Fail> {
+    let same = QuantiserIndices {
+        y_ac: 0,
+        y_dc: 0,
+        y2_dc: 0,
+        y2_ac: 0,
+        uv_dc: 0,
+        uv_ac: 0,
+    };
+    let least = Factors {
+        y_dc: 4,
+        y_ac: 4,
+        y2_dc: 8,
+        y2_ac: 8,
+        uv_dc: 4,
+        uv_ac: 4,
+    };
+    let greatest = Factors {
+        y_dc: 157,
+        y_ac: 284,
+        y2_dc: 314,
+        y2_ac: 440,
+        uv_dc: 132,
+        uv_ac: 284,
+    };
+    equal(&rt, &Factors::of(0, &same), &least);
+    equal(&rt, &Factors::of(127, &same), &greatest);
+    let mixed = QuantiserIndices {
+        y_dc: 15,
+        y2_dc: -15,
+        y2_ac: -7,
+        uv_dc: 8,
+        uv_ac: 15,
+        ..same
+    };
+    let near_the_end = Factors {
+        y_dc: 157,
+        y_ac: 259,
+        y2_dc: 220,
+        y2_ac: 348,
+        uv_dc: 132,
+        uv_ac: 284,
+    };
+    equal(&rt, &Factors::of(122, &mixed), &near_the_end);
+    Ok(())
+}
+
+/// The factor of a luma block's first level, for the frame's index, what its segment adds to that, and the frame's
+/// difference.
+fn first_factor(y_ac: u8, of_segment: i8, y_dc: i8) -> u16 {
+    let tag = Tag {
+        version: 0,
+        show: true,
+        first_partition: 0,
+        key: None,
+    };
+    let (mut header, _) = Header::read(&Saved::defaults(), &tag, &mut BoolDecoder::new(&[]));
+    header.quantiser.y_ac = y_ac;
+    header.quantiser.y_dc = y_dc;
+    header.segmentation.enabled = true;
+    header.segmentation.values.quantisers[0] = of_segment;
+    Factors::of(segment_index(&header, 0), &header.quantiser).y_dc
+}
+
+/// A segment's index is held to 0 to 127 before the frame's difference is added: 112 and 15 here, not 125 and 0.
+#[test]
+fn indices_are_held(rt: HostRuntime) {
+    equal(&rt, &first_factor(120, 20, -15), &122);
+    equal(&rt, &first_factor(5, -20, 15), &17);
+}
+
+/// The zigzag of chapter 13: positions 2 and 3 stand at places 4 and 8.
+#[test]
+fn levels_at_their_places(rt: HostRuntime) -> Result<(), Fail> {
+    let mut levels = [0i16; 16];
+    levels[0] = -3;
+    levels[2] = 5;
+    levels[3] = -7;
+    let mut wanted = [0i64; 16];
+    wanted[0] = -30;
+    wanted[4] = 100;
+    wanted[8] = -140;
+    equal(&rt, &dequant(&levels, 10, 20), &wanted);
+    Ok(())
+}
+
+#[test]
+fn kernel_examples(rt: HostRuntime) {
+    equal(&rt, &quantise(576, 4), &144);
+    equal(&rt, &quantise(-7, 4), &-2);
+    equal(&rt, &quantise(1 << 40, 4), &2047);
+}
+
+/// The same numbers as the plain way, in 16 bits: as far as 2200, and no further.
+#[test]
+fn short_coefficients(rt: HostRuntime) {
+    let mut levels = [0i16; 16];
+    levels[0] = -3;
+    levels[2] = 5;
+    levels[3] = -7;
+    levels[15] = 11;
+    let mut wanted = [0i16; 16];
+    wanted[0] = -30;
+    wanted[4] = 100;
+    wanted[8] = -140;
+    wanted[15] = 220;
+    equal(&rt, &dequant_short(levels, 10, 20), &Some(wanted));
+    equal(&rt, &dequant_short([-2200; 16], 1, 1), &Some([-2200; 16]));
+    equal(&rt, &dequant_short([2201; 16], 1, 1), &None);
+    equal(
+        &rt,
+        &dequant_short([0, 0, 0, 0, 0, 0, 0, 8, 0, 0, 0, 0, 0, 0, 0, 0], 276, 4),
+        &None,
+    );
+}

@@ -1,0 +1,129 @@
+//! vp_refs by itself: which picture stands where, frame by frame.
+
+use crate::check::equal;
+use std::alloc::{AllocError, Global};
+use std::rc::Rc;
+use std::test::Fail;
+use vp_base::{Dim, Limits, Picture};
+use vp_bool::BoolDecoder;
+use vp_head::{Header, Reference, ReferenceCopy, ReferenceUpdates, Saved, Tag};
+use vp_refs::Refs;
+
+const INTER: Tag = Tag {
+    version: 0,
+    show: true,
+    first_partition: 0,
+    key: None,
+};
+
+// An inter frame's header that asks for these updates.
+fn asking_for(updates: ReferenceUpdates) -> Header {
+    let (mut header, _) = Header::read(&Saved::defaults(), &INTER, &mut BoolDecoder::new(&[]));
+    header.updates = updates;
+    header
+}
+
+// The first pixel of luma.
+fn corner(picture: &Picture) -> Option<u8> {
+    let plane = picture.plane(0);
+    if plane.width() == 0 || plane.height() == 0 {
+        return None;
+    }
+    Some(plane.get(0, 0))
+}
+
+// A picture of one value.
+fn flat(alloc: Global, dim: Dim, value: u8) -> Result<Rc<Picture>, AllocError> {
+    Ok(Rc::new(alloc, Picture::new(alloc, dim, value)?)?)
+}
+
+const NOTHING: ReferenceUpdates = ReferenceUpdates {
+    refresh_golden: false,
+    refresh_alt: false,
+    copy_to_golden: ReferenceCopy::Nothing,
+    copy_to_alt: ReferenceCopy::Nothing,
+    refresh_last: false,
+};
+
+// The first pixels of last, golden, altref and the newest picture.
+fn corners(refs: &Refs) -> [Option<u8>; 4] {
+    [
+        corner(refs.get(Reference::Last)),
+        corner(refs.get(Reference::Golden)),
+        corner(refs.get(Reference::Alt)),
+        corner(refs.newest()),
+    ]
+}
+
+// Behind a frame that asks for these updates, whose picture is of one value.
+fn update(
+    alloc: Global,
+    refs: &mut Refs,
+    dim: Dim,
+    updates: ReferenceUpdates,
+    value: u8,
+) -> Result<(), AllocError> {
+    let picture = flat(alloc, dim, value)?;
+    refs.update(&asking_for(updates), picture)
+}
+
+// Behind a key frame of 1, and one frame for each of these updates, whose pictures are of 2, 3 and so on.
+fn refs_behind(alloc: Global, dim: Dim, updates: &[ReferenceUpdates]) -> Result<Refs, AllocError> {
+    let mut refs = Refs::of_key(flat(alloc, dim, 1)?)?;
+    let mut value = 1u8;
+    for asked in updates {
+        value = value.wrapping_add(1);
+        update(alloc, &mut refs, dim, *asked, value)?;
+    }
+    Ok(refs)
+}
+
+// As libvpx does: altref takes the last picture, and then golden takes altref's.
+#[test]
+fn altref_is_copied_before_golden(rt: HostRuntime) -> Result<(), Fail> {
+    let dim = Dim::new(16, 16, &Limits::usual()).ok().ok_or("a size")?;
+    let takes_last = ReferenceUpdates {
+        refresh_last: true,
+        ..NOTHING
+    };
+    let copies = ReferenceUpdates {
+        copy_to_golden: ReferenceCopy::Other,
+        copy_to_alt: ReferenceCopy::Last,
+        ..NOTHING
+    };
+    let mut refs = refs_behind(rt.alloc(), dim, &[takes_last])?;
+    let before = refs.share()?;
+    update(rt.alloc(), &mut refs, dim, copies, 3)?;
+    equal(&rt, &corners(&refs), &[Some(2), Some(2), Some(2), Some(3)]);
+    // The first picture is held by nothing else now.
+    equal(
+        &rt,
+        &corners(&before),
+        &[Some(2), Some(1), Some(1), Some(2)],
+    );
+    let unshared = before.into_unshared().ok_or("a picture")?;
+    equal(&rt, &corner(&unshared), &Some(1));
+    Ok(())
+}
+
+// Copy number 3 copies nothing.
+#[test]
+fn unused_number_copies_nothing(rt: HostRuntime) -> Result<(), Fail> {
+    let dim = Dim::new(16, 16, &Limits::usual()).ok().ok_or("a size")?;
+    let golden = ReferenceUpdates {
+        refresh_golden: true,
+        ..NOTHING
+    };
+    let alt = ReferenceUpdates {
+        refresh_alt: true,
+        ..NOTHING
+    };
+    let unused = ReferenceUpdates {
+        copy_to_golden: ReferenceCopy::Unused,
+        copy_to_alt: ReferenceCopy::Unused,
+        ..NOTHING
+    };
+    let refs = refs_behind(rt.alloc(), dim, &[golden, alt, unused])?;
+    equal(&rt, &corners(&refs), &[Some(1), Some(2), Some(3), Some(4)]);
+    Ok(())
+}

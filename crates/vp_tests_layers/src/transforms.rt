@@ -1,0 +1,360 @@
+//! vp_transform by itself: worked blocks, and the formulas of RFC 6386 (chapter 14) in plain code.
+
+ghost use Rattle.std.specs.Prelude.{ℕ, ◌*◌, ◌^◌, ◌≤◌, unsigned_abs};
+ghost use Rattle.vp_transform.specs.Fits.{EachWithin, IdctFits, IwhtFits};
+
+use crate::check::equal;
+use std::test::Fail;
+use vp_transform::{
+    cut, fdct, fwht, idct, idct_cut, idct_of_first, idct_pair, idct_short, iwht, iwht_of_first,
+};
+
+/// The second block's numbers are those that RFC 6386's own program gives (chapters 14.3, 14.4).
+#[test]
+fn kernel_examples(rt: HostRuntime) -> Result<(), Fail> {
+    let mut first = [0; 16];
+    first[0] = 8;
+    equal(&rt, &iwht(&first), &[1; 16]);
+    equal(&rt, &idct(&first), &[1; 16]);
+    equal(&rt, &idct_of_first(8), &1);
+    equal(&rt, &iwht_of_first(12), &1);
+    let block = [
+        -700, 123, -45, 6, 77, -888, 99, -10, 11, 12, -1313, 14, -15, 160, 17, -1818,
+    ];
+    equal(
+        &rt,
+        &idct(&block),
+        &[
+            -447, 174, -18, -7, 146, -669, 181, 16, 28, 192, -694, 88, -18, 5, 174, -551,
+        ],
+    );
+    equal(
+        &rt,
+        &iwht(&block),
+        &[
+            -534, 229, -75, 66, 199, -588, 96, -17, -34, 123, -621, 130, 61, -33, 213, -617,
+        ],
+    );
+    Ok(())
+}
+
+/// The same block in i16.
+#[test]
+fn short_example(rt: HostRuntime) {
+    let block = [
+        -700, 123, -45, 6, 77, -888, 99, -10, 11, 12, -1313, 14, -15, 160, 17, -1818,
+    ];
+    equal(
+        &rt,
+        &idct_short(&block),
+        &[
+            -447, 174, -18, -7, 146, -669, 181, 16, 28, 192, -694, 88, -18, 5, 174, -551,
+        ],
+    );
+}
+
+/// The same block and that of the first example, side by side, in either order.
+#[test]
+fn pair_example(rt: HostRuntime) {
+    let block = [
+        -700, 123, -45, 6, 77, -888, 99, -10, 11, 12, -1313, 14, -15, 160, 17, -1818,
+    ];
+    let mut first = [0; 16];
+    first[0] = 8;
+    let (top, upper, lower, bottom) = idct_pair(&block, &first);
+    equal(&rt, &top.to_array(), &[-447, 174, -18, -7, 1, 1, 1, 1]);
+    equal(&rt, &upper.to_array(), &[146, -669, 181, 16, 1, 1, 1, 1]);
+    equal(&rt, &lower.to_array(), &[28, 192, -694, 88, 1, 1, 1, 1]);
+    equal(&rt, &bottom.to_array(), &[-18, 5, 174, -551, 1, 1, 1, 1]);
+    let (top, upper, lower, bottom) = idct_pair(&first, &block);
+    equal(&rt, &top.to_array(), &[1, 1, 1, 1, -447, 174, -18, -7]);
+    equal(&rt, &upper.to_array(), &[1, 1, 1, 1, 146, -669, 181, 16]);
+    equal(&rt, &lower.to_array(), &[1, 1, 1, 1, 28, 192, -694, 88]);
+    equal(&rt, &bottom.to_array(), &[1, 1, 1, 1, -18, 5, 174, -551]);
+}
+
+/// Two blocks whose numbers are as far from 0 as they may be, and one of numbers that look like chance: what the formulas
+/// of RFC 6386 (chapter 14.4) give was worked out by a script apart from this program.
+#[test]
+fn scattered_pairs(rt: HostRuntime) {
+    let far = [
+        -2200, -2200, 2200, 2200, -2200, -2200, 2200, 2200, 2200, 2200, -2200, -2200, -2200, 2200,
+        -2200, 2200,
+    ];
+    let (top, upper, lower, bottom) = idct_pair(&[2200; 16], &far);
+    equal(
+        &rt,
+        &top.to_array(),
+        &[4071, -810, 810, 161, -298, -1496, 59, -297],
+    );
+    equal(
+        &rt,
+        &upper.to_array(),
+        &[-810, 161, -161, -32, -480, -2414, -381, 1918],
+    );
+    equal(
+        &rt,
+        &lower.to_array(),
+        &[810, -161, 161, 32, -362, -1819, 214, -1075],
+    );
+    equal(
+        &rt,
+        &bottom.to_array(),
+        &[162, -32, 32, 7, 298, 1496, -59, 298],
+    );
+    let scattered = [
+        -108, 737, 2142, -1963, 1614, -160, -1776, -916, -1273, 845, 1642, -181, 919, -1365, -158,
+        -2093,
+    ];
+    let (top, upper, lower, bottom) = idct_pair(&scattered, &[2200; 16]);
+    equal(
+        &rt,
+        &top.to_array(),
+        &[126, 754, -793, 525, 4071, -810, 810, 161],
+    );
+    equal(
+        &rt,
+        &upper.to_array(),
+        &[363, 169, 104, -217, -810, 161, -161, -32],
+    );
+    equal(
+        &rt,
+        &lower.to_array(),
+        &[-224, 564, -505, 910, 810, -161, 161, 32],
+    );
+    equal(
+        &rt,
+        &bottom.to_array(),
+        &[701, -1131, -1413, -150, 162, -32, 32, 7],
+    );
+}
+
+/// The second block's numbers were worked out from the formulas by a script apart from this program.
+#[test]
+fn forward_examples(rt: HostRuntime) {
+    let mut even = [0; 16];
+    even[0] = 576;
+    equal(&rt, &fdct(&[72; 16]), &even);
+    let block = [
+        -700, 123, -45, 6, 77, -888, 99, -10, 11, 12, -1313, 14, -15, 160, 17, -1818,
+    ];
+    equal(
+        &rt,
+        &fdct(&block),
+        &[
+            -2135, 947, -300, -104, 829, -2440, 682, -78, -137, 654, -2482, 292, -80, -143, 642,
+            -2382,
+        ],
+    );
+    equal(
+        &rt,
+        &fwht(&block),
+        &[
+            -2135, 915, -300, 266, 797, -2353, 384, -66, -137, 493, -2482, 520, 243, -131, 854,
+            -2468,
+        ],
+    );
+}
+
+/// A number times sqrt(2) sin(pi / 8), as RFC 6386 (chapter 14.4) gives it.
+fn sine(x: i64) -> i64 {
+    x.wrapping_mul(35468) >> 16
+}
+
+/// A number times sqrt(2) cos(pi / 8).
+fn cosine(x: i64) -> i64 {
+    x.wrapping_add(x.wrapping_mul(20091) >> 16)
+}
+
+/// One line of the inverse cosine transform.
+fn cosine_line([a, b, c, d]: [i64; 4]) -> [i64; 4] {
+    let [even, odd] = [a.wrapping_add(c), a.wrapping_sub(c)];
+    let inner = sine(b).wrapping_sub(cosine(d));
+    let outer = cosine(b).wrapping_add(sine(d));
+    [
+        even.wrapping_add(outer),
+        odd.wrapping_add(inner),
+        odd.wrapping_sub(inner),
+        even.wrapping_sub(outer),
+    ]
+}
+
+/// One line of the inverse Walsh-Hadamard transform (chapter 14.3).
+fn hadamard_line([a, b, c, d]: [i64; 4]) -> [i64; 4] {
+    let [outer, inner] = [a.wrapping_add(d), b.wrapping_add(c)];
+    let [apart, beside] = [a.wrapping_sub(d), b.wrapping_sub(c)];
+    [
+        outer.wrapping_add(inner),
+        beside.wrapping_add(apart),
+        outer.wrapping_sub(inner),
+        apart.wrapping_sub(beside),
+    ]
+}
+
+/// Four numbers, each `apart` behind the one before it.
+fn line_of(block: &[i64; 16], first: usize, apart: usize) -> [i64; 4] {
+    let mut four = [0; 4];
+    for k in 0..4 {
+        four[k] = block[first.wrapping_add(apart.wrapping_mul(k)) % 16];
+    }
+    four
+}
+
+/// A block with four such numbers in place of those it has.
+fn with_line(block: &[i64; 16], first: usize, apart: usize, four: [i64; 4]) -> [i64; 16] {
+    let mut block = *block;
+    for k in 0..4 {
+        block[first.wrapping_add(apart.wrapping_mul(k)) % 16] = four[k];
+    }
+    block
+}
+
+/// The eighths of numbers to which `half` is added.
+fn eighths(block: &[i64; 16], half: i64) -> [i64; 16] {
+    let mut rounded = [0; 16];
+    for i in 0..16 {
+        rounded[i] = block[i].wrapping_add(half) >> 3;
+    }
+    rounded
+}
+
+/// The inverse cosine transform as the standard's program has it: columns, then rows.
+fn plain_idct(block: &[i64; 16]) -> [i64; 16] {
+    let mut block = *block;
+    for (first, apart) in LINES {
+        let line = cosine_line(line_of(&block, first, apart));
+        block = with_line(&block, first, apart, line);
+    }
+    eighths(&block, 4)
+}
+
+/// The inverse Walsh-Hadamard transform as the standard's program has it.
+fn plain_iwht(block: &[i64; 16]) -> [i64; 16] {
+    let mut block = *block;
+    for (first, apart) in LINES {
+        let line = hadamard_line(line_of(&block, first, apart));
+        block = with_line(&block, first, apart, line);
+    }
+    eighths(&block, 3)
+}
+
+/// The first of each line and how far its numbers are apart: four columns, then four rows.
+const LINES: [(usize, usize); 8] = [
+    (0, 4),
+    (1, 4),
+    (2, 4),
+    (3, 4),
+    (0, 1),
+    (4, 1),
+    (8, 1),
+    (12, 1),
+];
+
+/// Whether the numbers of a block are those of another, cut.
+fn are_cut(block: &[i16; 16], other: &[i64; 16]) -> bool {
+    for i in 0..16 {
+        if block[i] != cut(other[i]) {
+            return false;
+        }
+    }
+    true
+}
+
+/// Whether `idct` gives what the plain formula does.
+fn is_as_plain(block: &[i64; 16]) -> bool
+    requires { IdctFits block.now }
+{
+    idct(block) == plain_idct(block)
+}
+
+/// Numbers at the bounds of the lanes and one beyond, in the first place and in the last, and the largest of a stream.
+#[test]
+fn narrow_and_wide_blocks(rt: HostRuntime) {
+    assert!(rt; is_as_plain(&[-2114 * 157; 16]));
+    let mut block = [
+        8191, -8192, 8191, 8191, -8192, -8192, 8191, -8192, -8192, 8191, -8192, 8191, 8191, 8191,
+        -8192, -8192,
+    ];
+    assert!(rt; is_as_plain(&block));
+    block[15] = -8193;
+    assert!(rt; is_as_plain(&block));
+    block[15] = 8192;
+    block[0] = 2114 * 157;
+    assert!(rt; is_as_plain(&block));
+}
+
+/// Whether `idct_cut` gives what the plain formula does, cut.
+fn cut_is_as_plain(block: &[i64; 16]) -> bool
+    requires { IdctFits block.now }
+{
+    are_cut(&idct_cut(block), &plain_idct(block))
+}
+
+/// Numbers whose transform is cut, numbers at the bounds of the lanes, and one beyond.
+#[test]
+fn cut_blocks(rt: HostRuntime) {
+    equal(&rt, &cut(-32769), &-32768);
+    equal(&rt, &cut(32768), &32767);
+    assert!(rt; cut_is_as_plain(&[-2114 * 157; 16]));
+    let mut block = [
+        4095, -4096, 4095, 4095, -4096, -4096, 4095, -4096, -4096, 4095, -4096, 4095, 4095, 4095,
+        -4096, -4096,
+    ];
+    assert!(rt; cut_is_as_plain(&block));
+    block[15] = 4096;
+    assert!(rt; cut_is_as_plain(&block));
+    block[15] = -4097;
+    assert!(rt; cut_is_as_plain(&block));
+}
+
+/// Whether `iwht` gives what the plain formula does.
+fn hadamard_is_as_plain(block: &[i64; 16]) -> bool
+    requires { IwhtFits block.now }
+{
+    iwht(block) == plain_iwht(block)
+}
+
+/// The same of `iwht`, whose lanes take larger numbers.
+#[test]
+fn narrow_and_wide_hadamard_blocks(rt: HostRuntime) {
+    assert!(rt; hadamard_is_as_plain(&[-2114 * 157; 16]));
+    let mut block = [
+        67108863, -67108864, 67108863, 67108863, -67108864, -67108864, 67108863, -67108864,
+        -67108864, 67108863, -67108864, 67108863, 67108863, 67108863, -67108864, -67108864,
+    ];
+    assert!(rt; hadamard_is_as_plain(&block));
+    block[15] = -67108865;
+    assert!(rt; hadamard_is_as_plain(&block));
+    block[15] = 67108864;
+    block[0] = 1 << 40;
+    assert!(rt; hadamard_is_as_plain(&block));
+}
+
+/// A number that looks like chance.
+fn scattered(seed: u64) -> i64
+    ensures { unsigned_abs result ≤ 2 ^ 14 }
+{
+    (seed.wrapping_mul(6364136223846793005) >> 49) as i64 - 16384
+}
+
+/// Sixteen such numbers.
+fn scattered_block(seed: u64) -> [i64; 16]
+    ensures { EachWithin (2 ^ 14) result }
+{
+    let mut block = [0; 16];
+    for i in 0..16 {
+        block[i] = scattered(seed.wrapping_mul(16).wrapping_add(i as u64));
+    }
+    block
+}
+
+/// Both transforms against their plain formulas, of numbers that fit the lanes and of others.
+#[test]
+fn scattered_blocks(rt: HostRuntime) {
+    for seed in 1..50 {
+        let block = scattered_block(seed);
+        assert!(rt; is_as_plain(&block));
+        assert!(rt; cut_is_as_plain(&block));
+        assert!(rt; hadamard_is_as_plain(&block));
+    }
+}

@@ -1,0 +1,282 @@
+//! vp_y4m by itself: files written and read back, their faults, and devices that fail.
+
+use crate::check::equal;
+use std::alloc::Global;
+use std::io::Write;
+use std::test::Fail;
+use vp_base::{Counted, Dim, FailAt, Limits, Picture};
+use vp_y4m::{PictureFault, Source, SourceFault, SourceHead, write_header, write_picture};
+
+// A picture of 16 by 16: the first four rows of luma are 128, the others 129, both planes of colour 128.
+fn pixels() -> [u8; 384] {
+    let mut bytes = [128u8; 384];
+    for byte in &mut bytes[64..256] {
+        *byte = 129;
+    }
+    bytes
+}
+
+// What reading the line gives, at a reader that fails after k reads.
+fn head_of(line: &[u8], k: u64) -> Result<SourceHead, SourceFault> {
+    let mut reader = Counted::new(FailAt::new(line, k));
+    SourceHead::read(&mut reader, Limits::usual())
+}
+
+#[test]
+fn header_text(rt: HostRuntime) -> Result<(), Fail> {
+    let dim = Dim::new(16, 16, &Limits::usual()).ok().ok_or("a size")?;
+    let mut file = Counted::new(Vec::new(rt.alloc()));
+    assert!(rt; write_header(&mut file, dim, 30, 1).is_ok());
+    let text = b"YUV4MPEG2 W16 H16 F30:1 Ip A0:0 C420jpeg\n".as_slice();
+    assert!(rt; file.into_inner().as_slice() == text);
+    Ok(())
+}
+
+// What becomes of a picture of 16 by 16 and of one of 16 by 15, in a file of 16 by 16.
+fn write_two<W: Write>(
+    file: &mut Counted<W>,
+) -> Option<(Result<(), PictureFault>, Result<(), PictureFault>)> {
+    let dim = Dim::new(16, 16, &Limits::usual()).ok()?;
+    let other = Dim::new(16, 15, &Limits::usual()).ok()?;
+    let first = write_picture(file, dim, &pixels(), dim);
+    Some((first, write_picture(file, dim, &[0; 368], other)))
+}
+
+#[test]
+fn picture_of_another_size(rt: HostRuntime) -> Result<(), Fail> {
+    let mut file = Counted::new(Vec::new(rt.alloc()));
+    let fault = Err(PictureFault::SizeChange);
+    equal(&rt, &write_two(&mut file), &Some((Ok(()), fault)));
+    equal(&rt, &file.into_inner().len(), &390);
+    Ok(())
+}
+
+// Writes a header and a picture: whether the header is written, and what becomes of the picture.
+fn write_file<W: Write>(file: &mut Counted<W>) -> Option<(bool, Result<(), PictureFault>)> {
+    let dim = Dim::new(16, 16, &Limits::usual()).ok()?;
+    let header = write_header(file, dim, 30, 1).is_ok();
+    Some((header, write_picture(file, dim, &pixels(), dim)))
+}
+
+fn holds(alloc: Global, picture: &Picture, wanted: &[u8]) -> bool {
+    match picture.crop_i420(alloc) {
+        Ok(bytes) => bytes.as_slice() == wanted,
+        Err(_) => false,
+    }
+}
+
+// Whether a picture of these bytes comes next.
+fn gives(alloc: Global, source: &mut Source<'_, &[u8]>, wanted: &[u8]) -> bool {
+    match source.next_picture() {
+        Ok(Some(picture)) => holds(alloc, &picture, wanted),
+        _ => false,
+    }
+}
+
+#[test]
+fn source_reads_back(rt: HostRuntime) -> Result<(), Fail> {
+    let mut file = Counted::new(Vec::new(rt.alloc()));
+    assert!(rt; write_file(&mut file) == Some((true, Ok(()))));
+    let file = file.into_inner();
+    let mut reader = Counted::new(file.as_slice());
+    let Ok(head) = SourceHead::read(&mut reader, Limits::usual()) else {
+        panic!(rt; "a head");
+    };
+    let mut source = Source::open(rt.alloc(), &mut reader, head);
+    assert!(rt; gives(rt.alloc(), &mut source, &pixels()));
+    assert!(rt; matches!(source.next_picture(), Ok(None)));
+    Ok(())
+}
+
+#[test]
+fn source_says_its_head(rt: HostRuntime) -> Result<(), Fail> {
+    let mut reader = Counted::new(b"YUV4MPEG2 W3 H2 F30:1\n".as_slice());
+    let Ok(head) = SourceHead::read(&mut reader, Limits::usual()) else {
+        panic!(rt; "a head");
+    };
+    let source = Source::open(rt.alloc(), &mut reader, head);
+    let dim = source.dim();
+    equal(
+        &rt,
+        &(dim.w, dim.h, source.rate(), source.scale()),
+        &(3, 2, 30, 1),
+    );
+    Ok(())
+}
+
+// Width, height, rate and scale that the line says.
+fn said_of(line: &[u8], k: u64) -> Option<(u16, u16, u32, u32)> {
+    match head_of(line, k) {
+        Ok(head) => Some((head.dim.w, head.dim.h, head.rate, head.scale)),
+        Err(_) => None,
+    }
+}
+
+#[test]
+fn header_lines(rt: HostRuntime) -> Result<(), Fail> {
+    let line = b"YUV4MPEG2  H02 W9 W007 Xany C420paldv I? F24:1\n";
+    equal(&rt, &said_of(line, 2_000), &Some((7, 2, 24, 1)));
+    let small = b"YUV4MPEG2 W1 H1\nFRAME\n";
+    equal(&rt, &said_of(small, 16), &Some((1, 1, 25, 1)));
+    let plain = b"YUV4MPEG2 W1 H1 C420\n";
+    equal(&rt, &said_of(plain, 2_000), &Some((1, 1, 25, 1)));
+    let mpeg2 = b"YUV4MPEG2 W1 H1 C420mpeg2\n";
+    equal(&rt, &said_of(mpeg2, 2_000), &Some((1, 1, 25, 1)));
+    Ok(())
+}
+
+#[test]
+fn header_of_another_writer(rt: HostRuntime) -> Result<(), Fail> {
+    let line =
+        b"YUV4MPEG2 W35 H17 F30000:1001 Ip A1:1 C420jpeg XYSCSS=420JPEG XCOLORRANGE=LIMITED\n";
+    equal(&rt, &said_of(line, 2_000), &Some((35, 17, 30_000, 1_001)));
+    Ok(())
+}
+
+#[test]
+fn header_faults(rt: HostRuntime) -> Result<(), Fail> {
+    let faults = [
+        (b"YUV4MPEG W1 H1\n".as_slice(), SourceFault::Magic),
+        (b"YUV4MPEG2 F30\n".as_slice(), SourceFault::Magic),
+        (b"YUV4MPEG2 W1 H1 F+30:1\n".as_slice(), SourceFault::Magic),
+        (&[b' '; 1_025], SourceFault::Magic),
+        (b"YUV4MPEG2 W1 C444\n".as_slice(), SourceFault::Size),
+        (b"YUV4MPEG2 W70000 H1\n".as_slice(), SourceFault::Size),
+        (b"YUV4MPEG2 W16000 H16000\n".as_slice(), SourceFault::Size),
+        (b"YUV4MPEG2 W1 H1 C444 Ii\n".as_slice(), SourceFault::Colour),
+        (
+            b"YUV4MPEG2 W1 H1 Ip It\n".as_slice(),
+            SourceFault::Interlaced,
+        ),
+        (b"".as_slice(), SourceFault::Torn),
+        (&[b' '; 1_024], SourceFault::Torn),
+    ];
+    for (line, fault) in faults {
+        equal(&rt, &head_of(line, 2_000).err(), &Some(fault));
+    }
+    Ok(())
+}
+
+const SMALL: &[u8] = b"YUV4MPEG2 W1 H1\nFRAME\nabcFRAME x\ndefFRAME\ngh";
+
+// How many pictures come, to four, and the fault behind them.
+fn pictures_of(source: &mut Source<'_, FailAt<&[u8]>>) -> (u64, Option<SourceFault>) {
+    for pictures in 0..4u64 {
+        match source.next_picture() {
+            Ok(Some(_)) => {}
+            Ok(None) => return (pictures, None),
+            Err(fault) => return (pictures, Some(fault)),
+        }
+    }
+    (4, None)
+}
+
+// How many pictures the small file gives, and its fault, at a reader that fails after k reads.
+fn read_all(alloc: Global, k: u64) -> (u64, Option<SourceFault>) {
+    let mut reader = Counted::new(FailAt::new(SMALL, k));
+    match SourceHead::read(&mut reader, Limits::usual()) {
+        Ok(head) => pictures_of(&mut Source::open(alloc, &mut reader, head)),
+        Err(fault) => (0, Some(fault)),
+    }
+}
+
+fn pictures_before(k: u64) -> u64 {
+    if k < 25 {
+        0
+    } else if k < 36 {
+        1
+    } else {
+        2
+    }
+}
+
+fn fault_after(k: u64) -> SourceFault {
+    if k < 45 {
+        SourceFault::Device
+    } else {
+        SourceFault::Torn
+    }
+}
+
+#[test]
+fn fails_at_each_read(rt: HostRuntime) -> Result<(), Fail> {
+    for k in 0..46u64 {
+        let wanted = (pictures_before(k), Some(fault_after(k)));
+        equal(&rt, &read_all(rt.alloc(), k), &wanted);
+    }
+    Ok(())
+}
+
+/// Sixteen bytes of line, six of the next line and three of pixels are read one by one, and then the end once.
+#[test]
+fn reads_are_counted(rt: HostRuntime) -> Result<(), Fail> {
+    let file = b"YUV4MPEG2 W1 H1\nFRAME\nabc".as_slice();
+    let mut reader = Counted::new(FailAt::new(file, 2_000));
+    let Ok(head) = SourceHead::read(&mut reader, Limits::usual()) else {
+        panic!(rt; "a head");
+    };
+    equal(&rt, &reader.reads(), &16);
+    let ended = pictures_of(&mut Source::open(rt.alloc(), &mut reader, head));
+    equal(&rt, &(ended, reader.reads()), &((1, None), 26));
+    Ok(())
+}
+
+/// No read comes behind one that failed.
+#[test]
+fn a_failed_read_is_the_last(rt: HostRuntime) -> Result<(), Fail> {
+    let mut reader = Counted::new(FailAt::new(SMALL, 3));
+    let fault = SourceHead::read(&mut reader, Limits::usual()).err();
+    equal(&rt, &fault, &Some(SourceFault::Device));
+    equal(&rt, &reader.reads(), &4);
+    Ok(())
+}
+
+// What becomes of header and picture, and the bytes written, at a writer that fails after k writes.
+fn write_all(alloc: Global, k: u64) -> (Option<(bool, Result<(), PictureFault>)>, usize) {
+    let mut file = Counted::new(FailAt::new(Vec::new(alloc), k));
+    let told = write_file(&mut file);
+    (told, file.into_inner().into_inner().len())
+}
+
+#[test]
+fn fails_at_each_write(rt: HostRuntime) -> Result<(), Fail> {
+    let fault = Err(PictureFault::Device);
+    equal(&rt, &write_all(rt.alloc(), 0), &(Some((false, fault)), 0));
+    equal(&rt, &write_all(rt.alloc(), 1), &(Some((true, fault)), 41));
+    equal(&rt, &write_all(rt.alloc(), 2), &(Some((true, fault)), 47));
+    Ok(())
+}
+
+/// The rows of Y, of U and of V follow one another, those of colour as wide as half of three, rounded up.
+#[test]
+fn planes_stand_in_order(rt: HostRuntime) -> Result<(), Fail> {
+    let mut reader = Counted::new(b"YUV4MPEG2 W3 H1\nFRAME\nabcdefg".as_slice());
+    let Ok(head) = SourceHead::read(&mut reader, Limits::usual()) else {
+        panic!(rt; "a head");
+    };
+    let mut source = Source::open(rt.alloc(), &mut reader, head);
+    assert!(rt; gives(rt.alloc(), &mut source, b"abcdefg"));
+    Ok(())
+}
+
+/// What the pictures behind a head of one pixel end with.
+fn end_of(alloc: Global, file: &[u8]) -> (u64, Option<SourceFault>) {
+    let mut reader = Counted::new(FailAt::new(file, 2_000));
+    match SourceHead::read(&mut reader, Limits::usual()) {
+        Ok(head) => pictures_of(&mut Source::open(alloc, &mut reader, head)),
+        Err(fault) => (0, Some(fault)),
+    }
+}
+
+/// The first word of a line is whole, not only the beginning of one.
+#[test]
+fn first_words_are_whole(rt: HostRuntime) -> Result<(), Fail> {
+    let longer = b"YUV4MPEG22 W1 H1\nFRAME\nabc";
+    let magic = Some(SourceFault::Magic);
+    equal(&rt, &end_of(rt.alloc(), longer), &(0, magic));
+    let frames = b"YUV4MPEG2 W1 H1\nFRAMES\nabc";
+    equal(&rt, &end_of(rt.alloc(), frames), &(0, magic));
+    let frames_and_word = b"YUV4MPEG2 W1 H1\nFRAME\nabcFRAMES x\nabc";
+    equal(&rt, &end_of(rt.alloc(), frames_and_word), &(1, magic));
+    Ok(())
+}

@@ -1,0 +1,284 @@
+//! Whole files: what is written, and what is refused.
+
+ghost use Rattle.std.specs.Prelude.{◌≡◌, false};
+
+use crate::check::equal;
+use std::alloc::{AllocError, Global};
+use std::test::Fail;
+use vp_base::{Counted, FailAt, Limits};
+use vp_encode::{EncodeAllFault, Settings, Watcher, encode_all, encode_all_watched};
+
+/// The line of a source of 16 by 16 pixels, 30 pictures a second.
+const LINE: &[u8] = b"YUV4MPEG2 W16 H16 F30:1\n";
+
+/// An IVF file of that size and rate without a packet.
+const EMPTY: [u8; 32] = [
+    0x44, 0x4b, 0x49, 0x46, 0, 0, 0x20, 0, 0x56, 0x50, 0x38, 0x30, 0x10, 0, 0x10, 0, 0x1e, 0, 0, 0,
+    1, 0, 0, 0, 0, 0, 0, 0, 0, 0, 0, 0,
+];
+
+/// The source of so many pictures of 128.
+fn source(alloc: Global, pictures: u32) -> Result<Vec<u8>, AllocError> {
+    let mut bytes = LINE.to_vec(alloc)?;
+    for _ in 0..pictures {
+        bytes.extend_from_slice(b"FRAME\n")?;
+        bytes.resize(bytes.len().saturating_add(384), 128)?;
+    }
+    Ok(bytes)
+}
+
+fn settings(qi: u8) -> Settings {
+    Settings {
+        qi,
+        level: 0,
+        sharpness: 0,
+        simple: false,
+        key_every: 64,
+        golden_every: 0,
+        range: 4,
+        subpel: false,
+        partitions: 1,
+    }
+}
+
+/// The limits with so many packets of so many bytes.
+fn limits(packet_bytes: u32, packets: u32) -> Limits {
+    let usual = Limits::usual();
+    match Limits::new(usual.pixels, packet_bytes, packets, usual.cache) {
+        Some(limits) => limits,
+        None => usual,
+    }
+}
+
+/// What encoding a source comes to, and how many bytes are written.
+fn ends(
+    alloc: Global,
+    source: &[u8],
+    qi: u8,
+    limits: Limits,
+) -> (Result<(u32, u128), EncodeAllFault>, usize) {
+    let mut reader = Counted::new(source);
+    let mut writer = Counted::new(Vec::new(alloc));
+    let end = match encode_all(alloc, &mut reader, &mut writer, settings(qi), limits) {
+        Ok(report) => Ok((report.frames, report.error)),
+        Err(fault) => Err(fault),
+    };
+    (end, writer.into_inner().len())
+}
+
+/// The same for a fault.
+fn refused(
+    alloc: Global,
+    source: &[u8],
+    qi: u8,
+    limits: Limits,
+) -> Option<(EncodeAllFault, usize)> {
+    match ends(alloc, source, qi, limits) {
+        (Err(fault), written) => Some((fault, written)),
+        (Ok(_), _) => None,
+    }
+}
+
+#[test]
+fn first_line_alone(rt: HostRuntime) -> Result<(), Fail> {
+    let mut reader = Counted::new(LINE);
+    let mut writer = Counted::new(Vec::new(rt.alloc()));
+    let done = encode_all(
+        rt.alloc(),
+        &mut reader,
+        &mut writer,
+        settings(0),
+        Limits::usual(),
+    );
+    assert!(rt; matches!(&done, Ok(report) if report.frames == 0 && report.error == 0));
+    assert!(rt; writer.into_inner().as_slice() == EMPTY.as_slice());
+    Ok(())
+}
+
+#[test]
+fn settings_are_refused(rt: HostRuntime) -> Result<(), Fail> {
+    let bytes = source(rt.alloc(), 1)?;
+    equal(
+        &rt,
+        &refused(rt.alloc(), &bytes, 128, Limits::usual()),
+        &Some((EncodeAllFault::Settings, 0)),
+    );
+    Ok(())
+}
+
+#[test]
+fn sources_are_refused(rt: HostRuntime) -> Result<(), Fail> {
+    let faults = [
+        (b"YUV4MPEG W1 H1\n".as_slice(), EncodeAllFault::Magic),
+        (b"YUV4MPEG2 W1\n".as_slice(), EncodeAllFault::Size),
+        (b"YUV4MPEG2 W1 H1 C444\n".as_slice(), EncodeAllFault::Colour),
+        (
+            b"YUV4MPEG2 W1 H1 It\n".as_slice(),
+            EncodeAllFault::Interlaced,
+        ),
+        (b"YUV4MPEG2 W1 H1".as_slice(), EncodeAllFault::Torn),
+        (b"YUV4MPEG2 W1 H1\nFRAM\n".as_slice(), EncodeAllFault::Magic),
+        (
+            b"YUV4MPEG2 W1 H1\nFRAME\nab".as_slice(),
+            EncodeAllFault::Torn,
+        ),
+    ];
+    for (bytes, fault) in faults {
+        equal(
+            &rt,
+            &refused(rt.alloc(), bytes, 0, Limits::usual()),
+            &Some((fault, 0)),
+        );
+    }
+    Ok(())
+}
+
+/// What is wrong with a source at a reader that fails after so many reads.
+fn read_until(alloc: Global, source: &[u8], reads: u64) -> Option<EncodeAllFault> {
+    let mut reader = Counted::new(FailAt::new(source, reads));
+    let mut writer = Counted::new(Vec::new(alloc));
+    encode_all(
+        alloc,
+        &mut reader,
+        &mut writer,
+        settings(0),
+        Limits::usual(),
+    )
+    .err()
+}
+
+#[test]
+fn fails_at_each_read(rt: HostRuntime) -> Result<(), Fail> {
+    for reads in 0..25u64 {
+        equal(
+            &rt,
+            &read_until(rt.alloc(), LINE, reads),
+            &Some(EncodeAllFault::Device),
+        );
+    }
+    equal(&rt, &read_until(rt.alloc(), LINE, 25), &None);
+    Ok(())
+}
+
+/// The line's 24 bytes and the next line's 6 are read one by one, then 16 rows of Y, 8 of U and 8 of V, and then the end.
+#[test]
+fn reads_are_counted(rt: HostRuntime) -> Result<(), Fail> {
+    let bytes = source(rt.alloc(), 1)?;
+    let mut reader = Counted::new(bytes.as_slice());
+    let mut writer = Counted::new(Vec::new(rt.alloc()));
+    let done = encode_all(
+        rt.alloc(),
+        &mut reader,
+        &mut writer,
+        settings(0),
+        Limits::usual(),
+    );
+    assert!(rt; done.is_ok());
+    equal(&rt, &reader.reads(), &63);
+    Ok(())
+}
+
+#[test]
+fn fails_at_the_first_write(rt: HostRuntime) -> Result<(), Fail> {
+    let mut reader = Counted::new(LINE);
+    let mut writer = Counted::new(FailAt::new(Vec::new(rt.alloc()), 0));
+    let done = encode_all(
+        rt.alloc(),
+        &mut reader,
+        &mut writer,
+        settings(0),
+        Limits::usual(),
+    );
+    equal(&rt, &done.err(), &Some(EncodeAllFault::Device));
+    equal(&rt, &writer.failures(), &1);
+    Ok(())
+}
+
+/// Keeps the numbers that it is told, unless memory is refused.
+#[derive(Drop)]
+struct Keeping {
+    numbers: Vec<u32>,
+    refused: bool,
+}
+
+impl Watcher for Keeping {
+    ghost told = { λ w numbers. w.refused ≡ false → w.numbers.items ≡ numbers };
+
+    fn encoded(&mut self, frames: u32) {
+        if self.numbers.push(frames).is_err() {
+            self.refused = true;
+        }
+    }
+}
+
+/// What is wrong with a source of three pictures under these limits, and what a watcher is told.
+fn told(alloc: Global, limits: Limits) -> Result<(Option<EncodeAllFault>, Vec<u32>), AllocError> {
+    let bytes = source(alloc, 3)?;
+    let mut reader = Counted::new(bytes.as_slice());
+    let mut writer = Counted::new(Vec::new(alloc));
+    let mut watcher = Keeping {
+        numbers: Vec::new(alloc),
+        refused: false,
+    };
+    let done = encode_all_watched(
+        alloc,
+        &mut reader,
+        &mut writer,
+        settings(0),
+        limits,
+        &mut watcher,
+    );
+    let Keeping {
+        numbers,
+        refused: _,
+    } = watcher;
+    Ok((done.err(), numbers))
+}
+
+#[test]
+fn pictures_are_told(rt: HostRuntime) -> Result<(), Fail> {
+    let (fault, numbers) = told(rt.alloc(), Limits::usual())?;
+    equal(&rt, &fault, &None);
+    equal(&rt, &numbers.as_slice(), &[1, 2, 3].as_slice());
+    Ok(())
+}
+
+/// The third picture is refused.
+#[test]
+fn pictures_before_a_fault_are_told(rt: HostRuntime) -> Result<(), Fail> {
+    let (fault, numbers) = told(rt.alloc(), limits(16_777_216, 2))?;
+    equal(&rt, &fault, &Some(EncodeAllFault::TooMany));
+    equal(&rt, &numbers.as_slice(), &[1, 2].as_slice());
+    Ok(())
+}
+
+#[test]
+fn two_pictures(rt: HostRuntime) -> Result<(), Fail> {
+    let bytes = source(rt.alloc(), 2)?;
+    let (end, written) = ends(rt.alloc(), &bytes, 0, Limits::usual());
+    equal(&rt, &end, &Ok((2, 0)));
+    assert!(rt; written > 32 + 12 + 12);
+    Ok(())
+}
+
+#[test]
+fn a_packet_too_large(rt: HostRuntime) -> Result<(), Fail> {
+    let bytes = source(rt.alloc(), 1)?;
+    equal(
+        &rt,
+        &refused(rt.alloc(), &bytes, 0, limits(1, 1)),
+        &Some((EncodeAllFault::PacketTooLarge, 0)),
+    );
+    Ok(())
+}
+
+#[test]
+fn too_many_pictures(rt: HostRuntime) -> Result<(), Fail> {
+    let bytes = source(rt.alloc(), 2)?;
+    equal(
+        &rt,
+        &refused(rt.alloc(), &bytes, 0, limits(16_777_216, 1)),
+        &Some((EncodeAllFault::TooMany, 0)),
+    );
+    Ok(())
+}

@@ -1,0 +1,87 @@
+//! What is encoded of a source: the pixels that are shown, continued by the nearest of them, and a sum over them alone.
+
+use crate::check::equal;
+use crate::worked_rows::{encoded, settings};
+use std::alloc::{AllocError, Global};
+use std::test::Fail;
+use vp_base::{Dim, Limits, Picture};
+
+/// Changes a pixel, where there is one.
+fn put(picture: &mut Picture, k: usize, x: usize, y: usize, value: u8) {
+    if k < 3 && x < picture.plane(k).width() && y < picture.plane(k).height() {
+        picture.set(k, x, y, value);
+    }
+}
+
+/// A pixel, where there is one.
+fn pixel(picture: &Picture, k: usize, x: usize, y: usize) -> Option<u8> {
+    if k < 3 && x < picture.plane(k).width() && y < picture.plane(k).height() {
+        return Some(picture.plane(k).get(x, y));
+    }
+    None
+}
+
+/// The luma of the last shown column, of one beside it, and of the last corner.
+fn first_luma(picture: &Picture) -> [Option<u8>; 3] {
+    [
+        pixel(picture, 0, 16, 0),
+        pixel(picture, 0, 20, 0),
+        pixel(picture, 0, 31, 15),
+    ]
+}
+
+/// Luma below what is shown, in two columns, U in its last column and beside it, and the last corner of V.
+fn other_pixels(picture: &Picture) -> [Option<u8>; 5] {
+    [
+        pixel(picture, 0, 3, 7),
+        pixel(picture, 0, 15, 15),
+        pixel(picture, 1, 15, 7),
+        pixel(picture, 1, 7, 7),
+        pixel(picture, 2, 15, 7),
+    ]
+}
+
+/// A picture of 17 by 1 pixels with other values where nothing is shown.
+fn narrow(alloc: Global) -> Result<Picture, Fail> {
+    let dim = Dim::new(17, 1, &Limits::usual())?;
+    let mut source = Picture::new(alloc, dim, 5)?;
+    put(&mut source, 0, 16, 0, 9);
+    put(&mut source, 0, 20, 0, 77);
+    put(&mut source, 0, 3, 7, 88);
+    put(&mut source, 1, 8, 0, 30);
+    Ok(source)
+}
+
+/// Each macroblock is of one value in each plane, so the reconstruction is the continued source.
+#[test]
+fn source_is_continued(rt: HostRuntime) -> Result<(), Fail> {
+    let source = narrow(rt.alloc())?;
+    let encoded = encoded(rt.alloc(), &source, settings(0, 1))?;
+    equal(&rt, &encoded.squared_error, &0);
+    equal(&rt, &first_luma(&encoded.recon), &[Some(9); 3]);
+    let wanted = [Some(5), Some(5), Some(30), Some(5), Some(5)];
+    equal(&rt, &other_pixels(&encoded.recon), &wanted);
+    Ok(())
+}
+
+/// The sum of the squared differences of the shown pixels.
+fn distance(alloc: Global, a: &Picture, b: &Picture) -> Result<u64, AllocError> {
+    let [a, b] = [a.crop_i420(alloc)?, b.crop_i420(alloc)?];
+    let mut sum = 0u64;
+    for (one, other) in a.iter().zip(b.iter()) {
+        let apart = u64::from(one.abs_diff(*other));
+        sum = sum.wrapping_add(apart.wrapping_mul(apart));
+    }
+    Ok(sum)
+}
+
+/// At the coarsest factors the reconstruction is another picture, and what isn't shown differs most.
+#[test]
+fn error_over_shown_pixels(rt: HostRuntime) -> Result<(), Fail> {
+    let source = narrow(rt.alloc())?;
+    let encoded = encoded(rt.alloc(), &source, settings(127, 1))?;
+    let wanted = distance(rt.alloc(), &source, &encoded.recon)?;
+    assert!(rt; wanted > 0);
+    equal(&rt, &encoded.squared_error, &wanted);
+    Ok(())
+}

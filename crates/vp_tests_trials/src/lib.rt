@@ -1,0 +1,24 @@
+//! Tests of the encoder, and trials that go through all layers: cut files, changed bytes, failing devices. There is nothing
+//! here but tests; what they want is worked by hand from the rules of the formats.
+#![tactic(auto)]
+
+#[cfg(test)]
+mod changed_bytes;
+#[cfg(test)]
+mod check;
+#[cfg(test)]
+mod cut_files;
+#[cfg(test)]
+mod encoding;
+#[cfg(test)]
+mod encoding_files;
+#[cfg(test)]
+mod encoding_sources;
+#[cfg(test)]
+mod failing_devices;
+#[cfg(test)]
+mod files;
+#[cfg(test)]
+mod worked_encoding;
+#[cfg(test)]
+mod worked_rows;

@@ -1,0 +1,596 @@
+//! Worked packets, files and pictures: what stands behind a packet, what is counted of a file that ends early, what is
+//! refused, and what is encoded into several token partitions.
+
+ghost use Rattle.std.specs.Prelude.{◌≡◌, ◌≤◌, ◌<◌};
+
+use crate::check::equal;
+use crate::files::{INTER, KEY};
+use std::alloc::{AllocError, Global};
+use std::test::Fail;
+use vp_base::{Dim, Limits, Picture};
+use vp_bool::BoolDecoder;
+use vp_decode::{Decoder, Outcome};
+use vp_encode::{Encoded, Encoder, Settings};
+use vp_head::{Header, PacketFault, Reference, Saved, Tag};
+use vp_ivf::{FeedError, FileFault, Reader};
+use vp_stream::{Answer, Stream};
+
+/// The inter packet's picture, 128 everywhere.
+const FLAT: [u8; 384] = [128; 384];
+
+/// The key packet's picture: of luma rows 0 to 3 are 128 and rows 4 to 15 are 129, colour is 128.
+fn empty_frame() -> [u8; 384] {
+    let mut bytes = [128; 384];
+    bytes[64..256].fill(129);
+    bytes
+}
+
+/// The first place where the bytes aren't these, or end.
+fn first_difference(found: &[u8], wanted: &[u8]) -> Option<usize> {
+    for (i, (one, other)) in found.iter().zip(wanted).enumerate() {
+        if one != other {
+            return Some(i);
+        }
+    }
+    if found.len() == wanted.len() {
+        None
+    } else {
+        Some(found.len().min(wanted.len()))
+    }
+}
+
+/// The first place where a picture's bytes aren't these; 0 where there is no picture.
+fn picture_difference(
+    alloc: Global,
+    picture: Option<&Picture>,
+    wanted: &[u8],
+) -> Result<Option<usize>, AllocError> {
+    match picture {
+        Some(picture) => Ok(first_difference(&picture.crop_i420(alloc)?, wanted)),
+        None => Ok(Some(0)),
+    }
+}
+
+/// The first packet that comes to something else, by its number and what it comes to.
+fn other_outcome(
+    decoder: &mut Decoder,
+    steps: &[(&[u8], Outcome)],
+) -> Result<Option<(usize, Outcome)>, AllocError> {
+    for (number, (packet, wanted)) in steps.iter().enumerate() {
+        let outcome = decoder.decode(packet)?;
+        if outcome != *wanted {
+            return Ok(Some((number, outcome)));
+        }
+    }
+    Ok(None)
+}
+
+/// The first reference that isn't this picture, and the first place where it isn't.
+fn other_reference(
+    alloc: Global,
+    decoder: &Decoder,
+    wanted: &[u8],
+) -> Result<Option<(Reference, usize)>, AllocError> {
+    for reference in [Reference::Last, Reference::Golden, Reference::Alt] {
+        let picture = decoder.reference(reference);
+        if let Some(place) = picture_difference(alloc, picture, wanted)? {
+            return Ok(Some((reference, place)));
+        }
+    }
+    Ok(None)
+}
+
+/// The settings of an encoder that loses by the quantiser alone.
+pub(crate) fn settings(qi: u8, partitions: u8) -> Settings
+    ensures qi { result.qi ≡ qi }
+    ensures partitions { result.partitions ≡ partitions }
+{
+    Settings {
+        qi,
+        level: 0,
+        sharpness: 0,
+        simple: false,
+        key_every: 64,
+        golden_every: 0,
+        range: 16,
+        subpel: false,
+        partitions,
+    }
+}
+
+/// The source as a new encoder's first frame.
+pub(crate) fn encoded(
+    alloc: Global,
+    source: &Picture,
+    settings: Settings,
+) -> Result<Encoded, Fail> {
+    let mut encoder = Encoder::new(alloc, source.dim(), settings)?;
+    Ok(encoder.encode(source)?)
+}
+
+/// A picture of 16 by 16 pixels of this value as a new encoder's first frame.
+pub(crate) fn encoded_flat(alloc: Global, value: u8, settings: Settings) -> Result<Encoded, Fail> {
+    let dim = Dim::new(16, 16, &Limits::usual())?;
+    let source = Picture::new(alloc, dim, value)?;
+    encoded(alloc, &source, settings)
+}
+
+/// The logarithm of the number of token partitions that a key packet says.
+fn log2_partitions(packet: &[u8]) -> Option<u8> {
+    let tag = Tag::read(packet, &Limits::usual()).ok()?;
+    if tag.key.is_none() {
+        return None;
+    }
+    let mut first = BoolDecoder::new(packet.get(10..)?);
+    let (header, _) = Header::read(&Saved::defaults(), &tag, &mut first);
+    Some(header.log2_partitions)
+}
+
+/// The first place where a new decoder shows something else for a packet; 0 where it shows nothing.
+fn decoded_difference(
+    alloc: Global,
+    packet: &[u8],
+    wanted: &[u8],
+) -> Result<Option<usize>, AllocError> {
+    let mut decoder = Decoder::new(alloc, Limits::usual());
+    decoder.decode(packet)?;
+    picture_difference(alloc, decoder.picture(), wanted)
+}
+
+/// What a packet of several partitions is to have: the logarithm of their number and the error; and the first place where
+/// it shows something else.
+type Coded = (Option<u8>, u64, Option<usize>);
+
+/// The same of an encoded picture.
+fn coded(alloc: Global, encoded: &Encoded, wanted: &[u8]) -> Result<Coded, AllocError> {
+    let packet = encoded.packet.as_slice();
+    Ok((
+        log2_partitions(packet),
+        encoded.squared_error,
+        decoded_difference(alloc, packet, wanted)?,
+    ))
+}
+
+#[test]
+fn eight_partitions(rt: HostRuntime) -> Result<(), Fail> {
+    let found = encoded_flat(rt.alloc(), 128, settings(0, 8))?;
+    equal(&rt, &coded(rt.alloc(), &found, &FLAT)?, &(Some(3), 0, None));
+    equal(
+        &rt,
+        &picture_difference(rt.alloc(), Some(&found.recon), &FLAT)?,
+        &None,
+    );
+    Ok(())
+}
+
+/// Gives each row of a plane its own number as its value.
+fn number_rows(picture: &mut Picture, k: usize)
+    requires { k < 3 }
+{
+    let height = picture.plane(k).height();
+    for y in 0..height {
+        if y < picture.plane(k).height() {
+            picture.row_mut(k, y).fill((y % 256) as u8);
+        }
+    }
+}
+
+/// A picture of 16 columns and 64 rows, each of whose rows has its number as its value.
+fn numbered_rows(alloc: Global) -> Result<Picture, Fail> {
+    let dim = Dim::new(16, 64, &Limits::usual())?;
+    let mut picture = Picture::new(alloc, dim, 0)?;
+    for k in 0..3 {
+        number_rows(&mut picture, k);
+    }
+    Ok(picture)
+}
+
+/// What the source is encoded to by so many partitions, decoded against its own reconstruction; and the first place where
+/// that isn't this one.
+fn coded_by(
+    alloc: Global,
+    source: &Picture,
+    partitions: u8,
+    wanted: &Encoded,
+) -> Result<(Coded, Option<usize>), Fail> {
+    let found = encoded(alloc, source, settings(64, partitions))?;
+    let bytes = found.recon.crop_i420(alloc)?;
+    let difference = picture_difference(alloc, Some(&wanted.recon), &bytes)?;
+    Ok((coded(alloc, &found, &bytes)?, difference))
+}
+
+/// The first number of partitions by which the source is encoded to something else than this, which was encoded by one.
+fn other_partitions(alloc: Global, source: &Picture, one: &Encoded) -> Result<Option<u8>, Fail> {
+    for (log2, partitions) in [(0, 1), (1, 2), (2, 4), (3, 8)] {
+        let wanted = ((Some(log2), one.squared_error, None), None);
+        if coded_by(alloc, source, partitions, one)? != wanted {
+            return Ok(Some(partitions));
+        }
+    }
+    Ok(None)
+}
+
+#[test]
+fn partitions_change_no_picture(rt: HostRuntime) -> Result<(), Fail> {
+    let source = numbered_rows(rt.alloc())?;
+    let one = encoded(rt.alloc(), &source, settings(64, 1))?;
+    equal(&rt, &other_partitions(rt.alloc(), &source, &one)?, &None);
+    Ok(())
+}
+
+/// What is otherwise behind two packets that are shown: what one comes to, or a place of the picture; and a place of a
+/// reference.
+type Other = (
+    Option<(usize, Outcome)>,
+    Option<usize>,
+    Option<(Reference, usize)>,
+);
+
+/// The first of each behind a key packet and this one.
+fn other_behind(
+    alloc: Global,
+    packet: &[u8],
+    shown: &[u8],
+    kept: &[u8],
+) -> Result<Other, AllocError> {
+    let mut decoder = Decoder::new(alloc, Limits::usual());
+    let steps: [(&[u8], Outcome); 2] = [(&KEY, Outcome::Shown), (packet, Outcome::Shown)];
+    Ok((
+        other_outcome(&mut decoder, &steps)?,
+        picture_difference(alloc, decoder.picture(), shown)?,
+        other_reference(alloc, &decoder, kept)?,
+    ))
+}
+
+/// An inter packet whose bools are all 0 predicts from its own frame and replaces no reference.
+#[test]
+fn inter_keeps_last(rt: HostRuntime) -> Result<(), Fail> {
+    let found = other_behind(rt.alloc(), &INTER, &FLAT, &empty_frame())?;
+    equal(&rt, &found, &(None, None, None));
+    Ok(())
+}
+
+/// An inter packet whose bools are all 1, with eight token partitions without a byte.
+const ONES: [u8; 25] = [
+    0x31, 0, 0, 0xff, 0, 0, 0, 0, 0, 0, 0, 0, 0, 0, 0, 0, 0, 0, 0, 0, 0, 0, 0, 0, 0,
+];
+
+/// It predicts each half of the macroblock from far above the reference and left of it, where all is 128, and replaces all
+/// references.
+#[test]
+fn split_vectors_far_outside(rt: HostRuntime) -> Result<(), Fail> {
+    let found = other_behind(rt.alloc(), &ONES, &FLAT, &FLAT)?;
+    equal(&rt, &found, &(None, None, None));
+    Ok(())
+}
+
+/// How many bytes the file has.
+const SIZE: usize = 106;
+
+/// A file of 16 columns and 16 rows, 30 pictures a second. Its head ends behind 32 bytes, and its packets, of which each
+/// has 12 bytes before its own, behind 54, 69, 91 and 106: the key packet and the inter packet, and both again.
+const FOUR: [u8; SIZE] = [
+    0x44, 0x4b, 0x49, 0x46, 0, 0, 0x20, 0, 0x56, 0x50, 0x38, 0x30, 0x10, 0, 0x10, 0, 0x1e, 0, 0, 0,
+    1, 0, 0, 0, 4, 0, 0, 0, 0, 0, 0, 0, 10, 0, 0, 0, 0, 0, 0, 0, 0, 0, 0, 0, 0x10, 0, 0, 0x9d,
+    0x01, 0x2a, 0x10, 0, 0x10, 0, 3, 0, 0, 0, 1, 0, 0, 0, 0, 0, 0, 0, 0x11, 0, 0, 10, 0, 0, 0, 2,
+    0, 0, 0, 0, 0, 0, 0, 0x10, 0, 0, 0x9d, 0x01, 0x2a, 0x10, 0, 0x10, 0, 3, 0, 0, 0, 3, 0, 0, 0, 0,
+    0, 0, 0, 0x11, 0, 0,
+];
+
+/// How the file's first bytes end, and how many packets are whole in them.
+fn end_of(length: usize) -> (Option<FileFault>, u32) {
+    let torn = Some(FileFault::Torn);
+    match length {
+        32 => (None, 0),
+        54 => (None, 1),
+        69 => (None, 2),
+        91 => (None, 3),
+        SIZE => (None, 4),
+        0..54 => (torn, 0),
+        54..69 => (torn, 1),
+        69..91 => (torn, 2),
+        _ => (torn, 3),
+    }
+}
+
+/// How many packets are taken from a reader, of at most nine.
+fn taken(reader: &mut Reader) -> u32 {
+    for count in 0..9 {
+        if reader.next_packet().is_none() {
+            return count;
+        }
+    }
+    9
+}
+
+/// How a reader ends that is fed the file's first bytes, and how many packets it has.
+fn read_front(alloc: Global, length: usize) -> Result<(Option<FileFault>, u32), FeedError>
+    requires { length ≤ SIZE }
+{
+    let mut reader = Reader::new(alloc, Limits::usual());
+    reader.feed(&FOUR[..length])?;
+    let fault = reader.finish().err();
+    Ok((fault, taken(&mut reader)))
+}
+
+#[test]
+fn each_cut_read(rt: HostRuntime) -> Result<(), Fail> {
+    for length in 0..=SIZE {
+        assert_eq!(rt;
+            read_front(rt.alloc(), length),
+            Ok(end_of(length)),
+            "{length} bytes"
+        );
+    }
+    Ok(())
+}
+
+/// Whether this is the answer for packet `number` of so many: the key packet's picture and the inter packet's come in turn.
+fn is_answer(answer: &Answer, number: u32, count: u32) -> bool {
+    let wanted = if number % 2 == 0 { empty_frame() } else { FLAT };
+    match answer {
+        Answer::Shown(dim, bytes) => {
+            number < count
+                && (dim.w, dim.h) == (16, 16)
+                && first_difference(bytes.as_slice(), &wanted).is_none()
+        }
+        Answer::NoPacket => number >= count,
+        _ => false,
+    }
+}
+
+/// The first packet that is answered otherwise than as one of so many.
+fn other_answer(stream: &Stream, count: u32) -> Result<Option<u32>, AllocError> {
+    for number in 0..5 {
+        if !is_answer(&stream.picture_at(number)?, number, count) {
+            return Ok(Some(number));
+        }
+    }
+    Ok(None)
+}
+
+/// How a stream ends that is fed the file's first bytes, how many packets it has, and the first that isn't answered so.
+fn stream_front(
+    alloc: Global,
+    length: usize,
+) -> Result<((Option<FileFault>, u32), Option<u32>), Fail>
+    requires { length ≤ SIZE }
+{
+    let mut stream = Stream::new(alloc, Limits::usual());
+    stream.feed(&FOUR[..length])?;
+    let fault = stream.finish().err();
+    let count = stream.count();
+    Ok(((fault, count), other_answer(&stream, count)?))
+}
+
+#[test]
+fn each_cut_of_a_stream(rt: HostRuntime) -> Result<(), Fail> {
+    for length in 0..=SIZE {
+        assert_eq!(rt;
+            stream_front(rt.alloc(), length)?,
+            (end_of(length), None),
+            "{length} bytes"
+        );
+    }
+    Ok(())
+}
+
+/// A file that begins with other letters.
+#[test]
+fn other_signature(rt: HostRuntime) -> Result<(), Fail> {
+    let mut bytes = FOUR;
+    bytes[..4].copy_from_slice(b"DKIX");
+    let mut stream = Stream::new(rt.alloc(), Limits::usual());
+    let refused = Err(FeedError::Fault(FileFault::Signature));
+    equal(&rt, &stream.feed(&bytes), &refused);
+    equal(&rt, &stream.feed(&FOUR), &refused);
+    equal(&rt, &(stream.head(), stream.count()), &(None, 0));
+    equal(&rt, &other_answer(&stream, 0)?, &None);
+    Ok(())
+}
+
+/// The key packet, not to be shown.
+const HIDDEN: [u8; 10] = [0, 0, 0, 0x9d, 0x01, 0x2a, 0x10, 0, 0x10, 0];
+
+/// A packet without a byte shows nothing behind a key packet that isn't shown, whatever was shown before.
+#[test]
+fn empty_packet_behind_hidden_key(rt: HostRuntime) -> Result<(), Fail> {
+    let mut decoder = Decoder::new(rt.alloc(), Limits::usual());
+    let steps: [(&[u8], Outcome); 5] = [
+        (&HIDDEN, Outcome::Hidden),
+        (&[], Outcome::Hidden),
+        (&KEY, Outcome::Shown),
+        (&HIDDEN, Outcome::Hidden),
+        (&[], Outcome::Hidden),
+    ];
+    equal(&rt, &other_outcome(&mut decoder, &steps)?, &None);
+    assert!(rt; decoder.picture().is_none());
+    Ok(())
+}
+
+/// The hidden key packet and the packet without a byte, with the twelve bytes before each.
+const HIDDEN_AND_EMPTY: [u8; 34] = [
+    10, 0, 0, 0, 0, 0, 0, 0, 0, 0, 0, 0, 0, 0, 0, 0x9d, 0x01, 0x2a, 0x10, 0, 0x10, 0, 0, 0, 0, 0,
+    1, 0, 0, 0, 0, 0, 0, 0,
+];
+
+/// What a stream of both answers for a packet.
+fn is_hidden(stream: &Stream, number: u32) -> Result<bool, AllocError> {
+    Ok(matches!(stream.picture_at(number)?, Answer::Hidden))
+}
+
+#[test]
+fn stream_of_hidden_packets(rt: HostRuntime) -> Result<(), Fail> {
+    let mut stream = Stream::new(rt.alloc(), Limits::usual());
+    stream.feed(&FOUR[..32])?;
+    stream.feed(&HIDDEN_AND_EMPTY)?;
+    equal(&rt, &(stream.count(), stream.finish()), &(2, Ok(())));
+    assert!(rt; is_hidden(&stream, 0)?);
+    assert!(rt; is_hidden(&stream, 1)?);
+    Ok(())
+}
+
+/// What comes of a key packet that was changed.
+#[derive(Clone, Copy)]
+enum Change {
+    /// It is shown, by this size.
+    Shown(u16, u16),
+    /// It isn't shown, and has the size as before.
+    Hidden,
+    Fault(PacketFault),
+}
+
+/// What comes of the key packet in which the byte of this number has become 0, 0x7f and 0xff. The first bit of byte 0 tells
+/// that it is no key packet, three bits have its version, of at most 3, then one says that it is shown; and the other three
+/// bits, with bytes 1 and 2, how many bytes the first partition has, of which there are none. Three bytes are the same in
+/// all key packets. Of the sides, two bytes each, lowest first, the two highest bits are a scale.
+const CHANGES: [[Change; 3]; 10] = [
+    [
+        Change::Hidden,
+        Change::Fault(PacketFault::Version),
+        Change::Fault(PacketFault::Version),
+    ],
+    [
+        Change::Shown(16, 16),
+        Change::Fault(PacketFault::FirstPartition),
+        Change::Fault(PacketFault::FirstPartition),
+    ],
+    [
+        Change::Shown(16, 16),
+        Change::Fault(PacketFault::FirstPartition),
+        Change::Fault(PacketFault::FirstPartition),
+    ],
+    [Change::Fault(PacketFault::StartCode); 3],
+    [Change::Fault(PacketFault::StartCode); 3],
+    [Change::Fault(PacketFault::StartCode); 3],
+    [
+        Change::Fault(PacketFault::Size),
+        Change::Shown(127, 16),
+        Change::Shown(255, 16),
+    ],
+    [
+        Change::Shown(16, 16),
+        Change::Shown(16_144, 16),
+        Change::Shown(16_144, 16),
+    ],
+    [
+        Change::Fault(PacketFault::Size),
+        Change::Shown(16, 127),
+        Change::Shown(16, 255),
+    ],
+    [
+        Change::Shown(16, 16),
+        Change::Shown(16, 16_144),
+        Change::Shown(16, 16_144),
+    ],
+];
+
+/// What comes of a changed packet, and of the inter packet behind it.
+fn outcomes(change: Change) -> (Outcome, Outcome) {
+    match change {
+        Change::Shown(_, _) => (Outcome::Shown, Outcome::Shown),
+        Change::Hidden => (Outcome::Hidden, Outcome::Shown),
+        Change::Fault(fault) => (
+            Outcome::Fault(fault),
+            Outcome::Fault(PacketFault::NoReference),
+        ),
+    }
+}
+
+/// How many bytes luma has, and how many there are with both colours.
+fn lengths(width: u16, height: u16) -> (usize, usize) {
+    let (columns, rows) = (usize::from(width), usize::from(height));
+    let luma = columns.saturating_mul(rows);
+    let colour = columns.div_ceil(2).saturating_mul(rows.div_ceil(2));
+    (luma, luma.saturating_add(colour.saturating_mul(2)))
+}
+
+/// The picture of a key packet of this size, whose bools are all 0: the first four rows of luma are 128.
+fn key_picture(alloc: Global, width: u16, height: u16) -> Result<Vec<u8>, AllocError> {
+    let (luma, all) = lengths(width, height);
+    let mut bytes = Vec::new(alloc);
+    bytes.resize(luma.min(4 * usize::from(width)), 128)?;
+    bytes.resize(luma, 129)?;
+    bytes.resize(all, 128)?;
+    Ok(bytes)
+}
+
+/// The first place where a decoder doesn't show a changed key packet's picture; where it is to show one and shows none, 0.
+fn changed_difference(
+    alloc: Global,
+    decoder: &Decoder,
+    change: Change,
+) -> Result<Option<usize>, AllocError> {
+    match change {
+        Change::Shown(width, height) => {
+            let wanted = key_picture(alloc, width, height)?;
+            picture_difference(alloc, decoder.picture(), &wanted)
+        }
+        _ => Ok(decoder.picture().map(|_| 0)),
+    }
+}
+
+/// The same behind the inter packet, which is 128 everywhere; it isn't shown behind a fault.
+fn inter_difference(
+    alloc: Global,
+    decoder: &Decoder,
+    change: Change,
+) -> Result<Option<usize>, AllocError> {
+    let (_, all) = match change {
+        Change::Shown(width, height) => lengths(width, height),
+        Change::Hidden => lengths(16, 16),
+        Change::Fault(_) => return Ok(decoder.picture().map(|_| 0)),
+    };
+    let mut wanted = Vec::new(alloc);
+    wanted.resize(all, 128)?;
+    picture_difference(alloc, decoder.picture(), &wanted)
+}
+
+/// Whether the key packet, the same with one byte changed and the inter packet come to what they should. A fault leaves no
+/// state.
+fn is_change(
+    alloc: Global,
+    decoder: &mut Decoder,
+    changed: &[u8; 10],
+    change: Change,
+) -> Result<bool, AllocError> {
+    let (first, second) = outcomes(change);
+    let is_fault = matches!(change, Change::Fault(_));
+    let before = decoder.decode(&KEY)?;
+    let found = decoder.decode(changed)?;
+    let is_first = before == Outcome::Shown
+        && found == first
+        && decoder.kept().is_none() == is_fault
+        && changed_difference(alloc, decoder, change)?.is_none();
+    let behind = decoder.decode(&INTER)?;
+    Ok(is_first && behind == second && inter_difference(alloc, decoder, change)?.is_none())
+}
+
+/// The first of the three values of a byte at which they don't.
+fn other_change(alloc: Global, decoder: &mut Decoder, at: usize) -> Result<Option<u8>, AllocError>
+    requires { at < 10 }
+{
+    for (value, change) in [0, 0x7f, 0xff].into_iter().zip(CHANGES[at]) {
+        let mut changed = KEY;
+        changed[at] = value;
+        if !is_change(alloc, decoder, &changed, change)? {
+            return Ok(Some(value));
+        }
+    }
+    Ok(None)
+}
+
+/// All changes come twice, one behind another, and come to the same both times.
+#[test]
+fn changed_key_packets(rt: HostRuntime) -> Result<(), Fail> {
+    let mut decoder = Decoder::new(rt.alloc(), Limits::usual());
+    for number in 0..20usize {
+        let at = number % 10;
+        assert_eq!(rt;
+            other_change(rt.alloc(), &mut decoder, at)?,
+            None,
+            "byte {at}"
+        );
+    }
+    Ok(())
+}

@@ -1,4 +1,0 @@
-use Rattle.vp_trials.proofs.encoding.eight_partitions.Goals as goal
-
-pub write_key_packet-requires-clause-told : goal.write_key_packet-requires-clause-told
-write_key_packet-requires-clause-told g c = c.in_ok-coded.ensures.told _
