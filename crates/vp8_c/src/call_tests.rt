@@ -15,6 +15,7 @@ use crate::stream::{
     vp8_stream_copy_i420, vp8_stream_free, vp8_stream_get_info, vp8_stream_new,
     vp8_stream_picture_at, vp8_stream_size,
 };
+use crate::tests::equal;
 use vp_encode::Settings;
 
 /// A key packet of 17 columns and 1 row whose first partition is empty: each pixel of its picture is 128.
@@ -53,10 +54,10 @@ fn a_file_is_asked(rt: HostRuntime) {
     ];
     vp8_stream_free(alloc, &mut stream);
     stream.forget();
-    assert_eq!(rt; [unopened, opened, unasked], [64, 0, 69]);
-    assert_eq!(rt; shown, [0, 0, 71, 0]);
-    assert_eq!(rt; others, [1, 69, 16, 70]);
-    assert_eq!(rt; (width, height), (17, 1));
+    equal(&rt, &[unopened, opened, unasked], &[64, 0, 69]);
+    equal(&rt, &shown, &[0, 0, 71, 0]);
+    equal(&rt, &others, &[1, 69, 16, 70]);
+    equal(&rt, &(width, height), &(17, 1));
     let mut wanted = [128; 36];
     wanted[35] = 9;
     assert!(rt; i420 == wanted);
@@ -89,18 +90,20 @@ fn a_file_is_told(rt: HostRuntime) {
     ];
     vp8_stream_free(alloc, &mut stream);
     stream.forget();
-    assert_eq!(rt; calls, [0, 65, 0]);
-    assert_eq!(rt; again, [64, 0, 0]);
-    assert_eq!(rt;
-        (info.width, info.height, info.rate, info.scale),
-        (17, 1, 30, 2)
+    equal(&rt, &calls, &[0, 65, 0]);
+    equal(&rt, &again, &[64, 0, 0]);
+    equal(
+        &rt,
+        &(info.width, info.height, info.rate, info.scale),
+        &(17, 1, 30, 2),
     );
-    assert_eq!(rt; (info.packets, info.fault), (3, 36));
-    assert_eq!(rt;
-        (other.width, other.height, other.rate, other.scale),
-        (0, 0, 0, 0)
+    equal(&rt, &(info.packets, info.fault), &(3, 36));
+    equal(
+        &rt,
+        &(other.width, other.height, other.rate, other.scale),
+        &(0, 0, 0, 0),
     );
-    assert_eq!(rt; (other.packets, other.fault), (0, 32));
+    equal(&rt, &(other.packets, other.fault), &(0, 32));
 }
 
 /// A packet's picture in the caller's rows, and what no decoder is made for.
@@ -132,10 +135,10 @@ fn a_packet_is_decoded(rt: HostRuntime) {
     ];
     vp8_decoder_free(alloc, &mut decoder);
     decoder.forget();
-    assert_eq!(rt; refused, [67, 67, 64]);
-    assert_eq!(rt; small, [0, 20, 69]);
-    assert_eq!(rt; calls, [0, 65, 0, 0, 0, 1, 69]);
-    assert_eq!(rt; (width, height), (17, 1));
+    equal(&rt, &refused, &[67, 67, 64]);
+    equal(&rt, &small, &[0, 20, 69]);
+    equal(&rt, &calls, &[0, 65, 0, 0, 0, 1, 69]);
+    equal(&rt, &(width, height), &(17, 1));
     let mut wanted = [128; 18];
     wanted[17] = 9;
     assert!(rt; y == wanted && u == [128; 9] && v == [128; 9]);
@@ -170,13 +173,13 @@ fn settings_of_c(rt: HostRuntime) {
         subpel: false,
         partitions: 8,
     };
-    assert_eq!(rt; settings(7, 0).settings(), wanted);
+    equal(&rt, &settings(7, 0).settings(), &wanted);
     let turned = Settings {
         simple: false,
         subpel: true,
         ..wanted
     };
-    assert_eq!(rt; settings(0, 1).settings(), turned);
+    equal(&rt, &settings(0, 1).settings(), &turned);
 }
 
 /// A flat picture, which is reconstructed as it is, and rows that don't fit behind it, which change nothing.
@@ -218,8 +221,8 @@ fn a_picture_is_encoded(rt: HostRuntime) {
     ];
     vp8_encoder_free(alloc, &mut encoder);
     encoder.forget();
-    assert_eq!(rt; made, [64, 68, 48, 0, 65, 69]);
-    assert_eq!(rt; encoded, [0, 0, 71, 0, 0, 0]);
+    equal(&rt, &made, &[64, 68, 48, 0, 65, 69]);
+    equal(&rt, &encoded, &[0, 0, 71, 0, 0, 0]);
     assert!(rt; 10 < size && after == size && error == 0);
     assert!(rt; luma == y && first == colour && second == colour);
 }
@@ -261,9 +264,9 @@ fn a_packet_is_handed_out(rt: HostRuntime) {
     encoder.forget();
     vp8_decoder_free(alloc, &mut decoder);
     decoder.forget();
-    assert_eq!(rt; encoded, [0, 0, 0]);
-    assert_eq!(rt; (short, kept), (71, 9));
-    assert_eq!(rt; decoded, [0, 0, 0, 0]);
+    equal(&rt, &encoded, &[0, 0, 0]);
+    equal(&rt, &(short, kept), &(71, 9));
+    equal(&rt, &decoded, &[0, 0, 0, 0]);
     assert!(rt; luma == y && first == colour && second == colour && packet[size] == 9);
 }
 
@@ -271,10 +274,10 @@ fn a_packet_is_handed_out(rt: HostRuntime) {
 #[test]
 fn a_name_is_copied(rt: HostRuntime) {
     let mut out = [9; 10];
-    assert_eq!(rt; vp8_status_name(20, &mut out[..8]), 8);
-    assert_eq!(rt; out, [9; 10]);
-    assert_eq!(rt; vp8_status_name(20, &mut out[..9]), 8);
+    equal(&rt, &vp8_status_name(20, &mut out[..8]), &8);
+    equal(&rt, &out, &[9; 10]);
+    equal(&rt, &vp8_status_name(20, &mut out[..9]), &8);
     assert!(rt; &out == b"TooLarge\0\t");
-    assert_eq!(rt; vp8_status_name(2, &mut out), 0);
-    assert_eq!(rt; out[0], 0);
+    equal(&rt, &vp8_status_name(2, &mut out), &0);
+    equal(&rt, &out[0], &0);
 }

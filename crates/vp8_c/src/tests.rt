@@ -11,11 +11,18 @@ use crate::status::{
     fault_number, file_number, outcome_number,
 };
 use std::alloc::Global;
+use std::fmt::Debug;
+use std::process::Abort;
 use std::test::Fail;
 use vp_base::{Dim, Limits, Picture};
 use vp_decode::{Decoder, Outcome};
 use vp_head::PacketFault;
 use vp_ivf::FileFault;
+
+/// Fails the test where these differ, and says what was found and what was wanted.
+pub(crate) fn equal<T: PartialEq + Debug>(rt: &impl Abort, found: &T, wanted: &T) {
+    assert_eq!(rt; found, wanted);
+}
 
 /// The faults of a packet, by the numbers of the header, and their names.
 #[test]
@@ -33,12 +40,12 @@ fn numbers_of_packet_faults(rt: HostRuntime) {
         (PacketFault::Partition(7), 263, "Partition 7"),
     ];
     for (fault, number, name) in faults {
-        assert_eq!(rt; fault_number(fault), number);
-        assert_eq!(rt; outcome_number(Outcome::Fault(fault)), number);
+        equal(&rt, &fault_number(fault), &number);
+        equal(&rt, &outcome_number(Outcome::Fault(fault)), &number);
         assert!(rt; name_of(number) == name);
     }
-    assert_eq!(rt; outcome_number(Outcome::Shown), 0);
-    assert_eq!(rt; outcome_number(Outcome::Hidden), 1);
+    equal(&rt, &outcome_number(Outcome::Shown), &0);
+    equal(&rt, &outcome_number(Outcome::Hidden), &1);
 }
 
 /// The faults of a file, likewise.
@@ -53,7 +60,7 @@ fn numbers_of_file_faults(rt: HostRuntime) {
         (FileFault::Ended, 37, "Ended"),
     ];
     for (fault, number, name) in faults {
-        assert_eq!(rt; file_number(fault), number);
+        equal(&rt, &file_number(fault), &number);
         assert!(rt; name_of(number) == name);
     }
 }
@@ -117,7 +124,7 @@ fn numbers_of_the_header(rt: HostRuntime) {
         (PARTITION, 256),
     ];
     for (constant, number) in numbers {
-        assert_eq!(rt; constant, number);
+        equal(&rt, &constant, &number);
     }
 }
 
@@ -172,7 +179,7 @@ fn rows_stand_apart(rt: HostRuntime) -> Result<(), Fail> {
         v: &mut second,
         strides: strides(4, 3, 2),
     };
-    assert_eq!(rt; put_picture(&picture, &mut planes), OK);
+    equal(&rt, &put_picture(&picture, &mut planes), &OK);
     assert!(rt; luma == [1, 2, 3, 99, 4, 5, 6, 99, 7, 8, 9]);
     assert!(rt; first == [10, 11, 99, 12, 13]);
     assert!(rt; second == SECOND);
@@ -192,12 +199,12 @@ fn rows_that_do_not_fit(rt: HostRuntime) -> Result<(), Fail> {
         v: &mut second,
         strides: strides(4, 2, 2),
     };
-    assert_eq!(rt; put_picture(&picture, &mut planes), BUFFER);
+    equal(&rt, &put_picture(&picture, &mut planes), &BUFFER);
     planes.strides = strides(2, 2, 2);
-    assert_eq!(rt; put_picture(&picture, &mut planes), BUFFER);
+    equal(&rt, &put_picture(&picture, &mut planes), &BUFFER);
     assert!(rt; luma == [99; 10] && first == [99; 4] && second == [99; 4]);
     let (mut width, mut height) = (0, 0);
-    assert_eq!(rt; put_size(picture.dim(), &mut width, &mut height), OK);
-    assert_eq!(rt; (width, height), (3, 3));
+    equal(&rt, &put_size(picture.dim(), &mut width, &mut height), &OK);
+    equal(&rt, &(width, height), &(3, 3));
     Ok(())
 }

@@ -266,12 +266,18 @@ fn ramp(alloc: Global, first: u8) -> Result<Picture, Fail>
     Ok(picture)
 }
 
-/// The reference that is taken for a macroblock of the ramp that begins with 2.
-fn reference_of(alloc: Global, last: Picture, golden: Picture) -> Result<Reference, Fail> {
+/// References to choose from.
+fn references(alloc: Global, last: Picture, golden: Picture) -> Result<Refs, Fail> {
+    let last = Rc::new(alloc, last)?;
     let mut references = Refs::of_key(Rc::new(alloc, golden)?)?;
-    references.update(&to_last(), Rc::new(alloc, last)?)?;
+    references.update(&to_last(), last)?;
+    Ok(references)
+}
+
+/// The reference that is taken for a macroblock of the ramp that begins with 2.
+fn reference_of(references: &Refs) -> Reference {
     let search = Search {
-        references: &references,
+        references,
         golden: true,
         range: 1,
         subpel: true,
@@ -280,7 +286,14 @@ fn reference_of(alloc: Global, last: Picture, golden: Picture) -> Result<Referen
     for i in 0..256 {
         block[i] = 66 + 4 * (i % 16) as u8;
     }
-    Ok(choose_reference(&search, &block, SECOND).reference)
+    choose_reference(&search, &block, SECOND).reference
+}
+
+/// The ramp that begins with 2, but for one pixel.
+fn spotted(alloc: Global) -> Result<Picture, Fail> {
+    let mut picture = ramp(alloc, 2)?;
+    put(&mut picture, 0, 20, 20, 90);
+    Ok(picture)
 }
 
 /// In whole pixels the ramp that begins with 0 costs 2 a pixel, 512; half a pixel to the right it costs nothing. The ramp
@@ -289,13 +302,9 @@ fn reference_of(alloc: Global, last: Picture, golden: Picture) -> Result<Referen
 #[test]
 fn references_are_weighed_refined(rt: HostRuntime) -> Result<(), Fail> {
     let alloc = rt.alloc();
-    let mut spotted = ramp(alloc, 2)?;
-    put(&mut spotted, 0, 20, 20, 90);
-    let reference = reference_of(alloc, ramp(alloc, 0)?, spotted)?;
-    assert!(rt; reference == Reference::Last);
-    let mut spotted = ramp(alloc, 2)?;
-    put(&mut spotted, 0, 20, 20, 90);
-    let reference = reference_of(alloc, spotted, ramp(alloc, 0)?)?;
-    assert!(rt; reference == Reference::Golden);
+    let better_last = references(alloc, ramp(alloc, 0)?, spotted(alloc)?)?;
+    assert!(rt; reference_of(&better_last) == Reference::Last);
+    let better_golden = references(alloc, spotted(alloc)?, ramp(alloc, 0)?)?;
+    assert!(rt; reference_of(&better_golden) == Reference::Golden);
     Ok(())
 }

@@ -339,7 +339,7 @@ fn read_back(
 fn motions_read_back(rt: HostRuntime) -> Result<(), Fail> {
     let dim = Dim::new(32, 32, &Limits::usual()).ok().ok_or("a size")?;
     let mut map = VectorMap::new(rt.alloc(), dim)?;
-    equal(&rt, &(map.columns(), map.rows()), &(2, 2));
+    assert_eq!(rt; (map.columns(), map.rows()), (2, 2));
     put_four(&mut map, Place { column: 1, row: 0 });
     put_four(&mut map, Place { column: 0, row: 1 });
     let (header, _) = Header::read(&Saved::defaults(), &INTER, &mut BoolDecoder::new(&[]));
