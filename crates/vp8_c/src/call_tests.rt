@@ -15,8 +15,14 @@ use crate::stream::{
     vp8_stream_copy_i420, vp8_stream_free, vp8_stream_get_info, vp8_stream_new,
     vp8_stream_picture_at, vp8_stream_size,
 };
-use crate::tests::equal;
+use std::fmt::Debug;
+use std::process::Abort;
 use vp_encode::Settings;
+
+/// Fails the test where these differ, and says what was found and what was wanted.
+fn equal<T: PartialEq + Debug>(rt: &impl Abort, found: &T, wanted: &T) {
+    assert_eq!(rt; found, wanted);
+}
 
 /// A key packet of 17 columns and 1 row whose first partition is empty: each pixel of its picture is 128.
 const KEY: [u8; 10] = [0x10, 0, 0, 0x9d, 0x01, 0x2a, 17, 0, 1, 0];

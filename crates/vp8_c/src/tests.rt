@@ -20,7 +20,7 @@ use vp_head::PacketFault;
 use vp_ivf::FileFault;
 
 /// Fails the test where these differ, and says what was found and what was wanted.
-pub(crate) fn equal<T: PartialEq + Debug>(rt: &impl Abort, found: &T, wanted: &T) {
+fn equal<T: PartialEq + Debug>(rt: &impl Abort, found: &T, wanted: &T) {
     assert_eq!(rt; found, wanted);
 }
 
