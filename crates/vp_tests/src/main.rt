@@ -1,106 +1,41 @@
-//! Decodes the streams that its words name, and prints the MD5 of the pictures that each shows, cropped and as
-//! I420, one after another. What it must print comes from other decoders. Its tests are worked packets and files, through
-//! all layers.
+//! What outside streams decode to, what the program makes of command lines, and what a hub replies to connections: its words
+//! name files, of streams (`ivf`) and of transcripts (`packets`, `commands`, `connections`). It prints the sum of each stream's
+//! pictures, and the name of each case of a transcript and each line where something else is found.
 #![tactic(auto)]
 
-#[cfg(test)]
-mod app;
-#[cfg(test)]
-mod app_encoding;
-#[cfg(test)]
-mod app_serving;
-#[cfg(test)]
-mod check;
-#[cfg(test)]
-mod decode;
-#[cfg(test)]
-mod files;
-#[cfg(test)]
-mod stream_files;
-#[cfg(test)]
-mod stream_seeking;
-#[cfg(test)]
-mod window;
+mod commands;
+mod connections;
+mod packets;
+mod streams;
+mod text;
+mod transcript;
 
-use md5::{Digest, Md5};
-use std::alloc::Global;
-use std::io::Read;
+use crate::commands::Commands;
+use crate::connections::Connections;
+use crate::packets::Packets;
+use crate::text::malformed;
 use std::{env, fs, io};
-use vp_base::Limits;
-use vp_decode::{Decoder, Outcome};
-use vp_ivf::Reader;
 
-/// The MD5 of the pictures so far.
-#[derive(Drop)]
-struct Work {
-    alloc: Global,
-    decoder: Decoder,
-    digest: Md5,
-}
-
-impl Work {
-    /// Decodes a packet; false where memory is short.
-    fn packet(&mut self, bytes: &[u8]) -> bool {
-        let Ok(Outcome::Shown) = self.decoder.decode(bytes) else {
-            return true;
-        };
-        let Some(picture) = self.decoder.picture() else {
-            return true;
-        };
-        let Ok(pixels) = picture.crop_i420(self.alloc) else {
-            return false;
-        };
-        self.digest.update(&pixels);
-        true
+/// Prints what comes of a file.
+fn tell(rt: &HostRuntime, file: &str) -> io::Result<()> {
+    let alloc = rt.alloc();
+    let (name, kind) = file.rsplit_once('.').ok_or(malformed())?;
+    if kind == "ivf" {
+        return streams::tell(rt, file, name);
     }
-
-    /// Decodes the packets that stand ready.
-    fn packets(&mut self, file: &mut Reader) -> bool {
-        for _ in 0..u16::MAX {
-            let Some(packet) = file.next_packet() else {
-                return true;
-            };
-            if !self.packet(packet.bytes.as_slice()) {
-                return false;
-            }
-        }
-        false
+    let text = fs::read_to_string(rt, file)?;
+    match kind {
+        "packets" => transcript::tell(rt, file, text.as_str(), &mut Packets::new(alloc)),
+        "commands" => transcript::tell(rt, file, text.as_str(), &mut Commands { alloc }),
+        "connections" => transcript::tell(rt, file, text.as_str(), &mut Connections::new(alloc)),
+        _ => Err(malformed()),
     }
-}
-
-/// The digest of a whole file.
-fn digest<R: Read>(alloc: Global, input: &mut R) -> io::Result<[u8; 16]> {
-    let mut file = Reader::new(alloc, Limits::usual());
-    let mut work = Work {
-        alloc,
-        decoder: Decoder::new(alloc, Limits::usual()),
-        digest: Md5::new(),
-    };
-    let mut buffer = [0; 4096];
-    for _ in 0..u32::MAX {
-        let count = input.read(&mut buffer)?;
-        if count == 0 {
-            break;
-        }
-        if file.feed(&buffer[..count]).is_err() || !work.packets(&mut file) {
-            return Err(io::Error::from(io::ErrorKind::Other));
-        }
-    }
-    Ok(work.digest.finalize())
 }
 
 fn main(rt: HostRuntime) -> io::Result<()> {
-    let alloc = rt.alloc();
-    let words: Vec<String> = env::args(&rt)?.collect(alloc)?;
+    let words: Vec<String> = env::args(&rt)?.collect(rt.alloc())?;
     for word in &words[1.min(words.len())..] {
-        let mut input = fs::open(&rt, word.as_str())?;
-        let sum = digest(alloc, &mut input)?;
-        let name = word.as_str().strip_suffix(".ivf").unwrap_or(word.as_str());
-        print!(rt; "{name} ")?;
-        for byte in &sum {
-            print!(rt; "{byte:02x}")?;
-        }
-        println!(rt; "")?;
+        tell(&rt, word.as_str())?;
     }
     Ok(())
 }

@@ -14,7 +14,7 @@ use vp_base::{Counted, FailAt};
 use vp_hub::{Hub, HubFault, Reply, ServeFault, serve_one};
 
 /// Two requests, for the key packet's picture and for the inter packet's.
-pub const BOTH: [u8; 76] =
+const BOTH: [u8; 76] =
     *b"GET /s/a/frame/0 HTTP/1.1\r\nHost: x\r\n\r\nGET /s/a/frame/1 HTTP/1.1\r\nHost: x\r\n\r\n";
 
 /// The same, of which the first closes the connection.

@@ -59,7 +59,7 @@ pub(crate) fn parts() -> [&'static [u8]; 3]
 }
 
 /// These names.
-pub(crate) fn names_of(alloc: Global, names: &[&[u8]]) -> Result<Vec<ByteList>, AllocError>
+fn names_of(alloc: Global, names: &[&[u8]]) -> Result<Vec<ByteList>, AllocError>
     ensures { IfOk result (λ v. vec_len v ≡ length names.now) }
 {
     let mut list_of_names = Vec::new(alloc);
@@ -70,32 +70,19 @@ pub(crate) fn names_of(alloc: Global, names: &[&[u8]]) -> Result<Vec<ByteList>, 
 }
 
 /// A hub of streams of these names under these limits.
-pub(crate) fn new_hub(alloc: Global, names: &[&[u8]], limits: Limits) -> Option<Hub>
-    ensures connections { IfSome result (λ hub. hub.state.connections ≡ []) }
-    ensures partial { IfSome result (λ hub. AllKeepPartial hub.state) }
+fn new_hub(alloc: Global, names: &[&[u8]], limits: Limits) -> Option<Hub>
+    ensures { IfSome result (λ hub. AllKeepPartial hub.state) }
 {
     let names = names_of(alloc, names).ok()?;
     Hub::new(alloc, names, limits).ok()
 }
 
-/// Such a hub whose first stream is `a` and was fed these bytes; it keeps so many pictures, of at most 16,384 pixels.
-/// Connections 1 and 3 stand.
+/// A hub of streams of these names, of which the first is `a` and was fed these pieces; it keeps so many pictures, of at most
+/// 16,384 pixels. Connections 1 and 3 stand.
 pub(crate) fn hub_of(alloc: Global, names: &[&[u8]], fed: &[&[u8]], cache: u32) -> Option<Hub>
     ensures { IfSome result (λ hub. AllKeepPartial hub.state) }
 {
     let limits = Limits::new(16_384, 16_384, 100, cache)?;
-    hub_within(alloc, names, fed, limits)
-}
-
-/// The same under these limits.
-pub(crate) fn hub_within(
-    alloc: Global,
-    names: &[&[u8]],
-    fed: &[&[u8]],
-    limits: Limits,
-) -> Option<Hub>
-    ensures { IfSome result (λ hub. AllKeepPartial hub.state) }
-{
     let mut hub = new_hub(alloc, names, limits)?;
     let _ = hub.step(&Event::Open(1));
     let _ = hub.step(&Event::Open(3));
@@ -125,20 +112,7 @@ pub(crate) fn feeds(alloc: Global, hub: &mut Hub, bytes: &[u8]) -> Result<Reply,
     ensures step { result ≢ Err HubFault.Memory → (name : List ℕ) × IsStep hub.old.state (Event.Feed name bytes.now) result hub.new.state }
     ensures partial { AllKeepPartial hub.old.state → AllKeepPartial hub.new.state }
 {
-    feeds_to(alloc, hub, b"a", bytes)
-}
-
-/// What comes of a piece of the stream of this name.
-pub(crate) fn feeds_to(
-    alloc: Global,
-    hub: &mut Hub,
-    name: &[u8],
-    bytes: &[u8],
-) -> Result<Reply, HubFault>
-    ensures step { result ≢ Err HubFault.Memory → IsStep hub.old.state (Event.Feed name.now bytes.now) result hub.new.state }
-    ensures partial { AllKeepPartial hub.old.state → AllKeepPartial hub.new.state }
-{
-    let (Ok(name), Ok(bytes)) = (list(alloc, name), list(alloc, bytes)) else {
+    let (Ok(name), Ok(bytes)) = (list(alloc, b"a"), list(alloc, bytes)) else {
         return Err(HubFault::Memory);
     };
     hub.step(&Event::Feed(name, bytes))

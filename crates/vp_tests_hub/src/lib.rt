@@ -1,13 +1,12 @@
-//! Tests of the hub and of the connections that it answers: events, heads, limits, interleavings, refusals. There is nothing here
-//! but tests; what they want is worked by hand from the rules of the formats.
+//! Tests of the hub and of the server that no list of events and replies says: requests cut at each place, connections and a
+//! stream that take turns byte by byte, events in one run, readers and writers that fail, sockets. There is nothing here but
+//! tests; what they want is worked by hand from the rules of the formats.
 #![tactic(auto)]
 
 #[cfg(test)]
-mod check;
+mod app_serving;
 #[cfg(test)]
 mod connections;
-#[cfg(test)]
-mod events;
 #[cfg(test)]
 mod hubs;
 #[cfg(test)]
@@ -15,22 +14,6 @@ mod interleavings;
 #[cfg(test)]
 mod refusals;
 #[cfg(test)]
-mod serving;
-#[cfg(test)]
-mod serving_connections;
-#[cfg(test)]
-mod serving_events;
-#[cfg(test)]
-mod serving_heads;
-#[cfg(test)]
-mod serving_limits;
-#[cfg(test)]
-mod serving_parts;
-#[cfg(test)]
 mod serving_reads;
 #[cfg(test)]
-mod serving_sizes;
-#[cfg(test)]
 mod serving_visits;
-#[cfg(test)]
-mod serving_work;

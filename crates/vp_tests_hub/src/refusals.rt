@@ -1,14 +1,57 @@
-//! Events that are refused, and change nothing; events for which nothing is decoded.
+//! Events in one run, of which some are refused, and change nothing; a hub without a stream.
 
 ghost use Rattle.std.specs.Prelude.{◌≡◌, IfOk, suc, vec_len};
 
-use crate::events::Answer::{Last, Refused};
-use crate::events::{Answer, TAKEN, Told, event, is_answer};
-use crate::hubs::{ASKS_KEY, BAD, HEAD, KEY, hub_of, is_answered, is_key, parts, replied, says};
-use crate::serving_events::SHORT;
+use crate::hubs::{
+    ASKS_KEY, BAD, hub_of, is_answered, is_key, is_refused, list, parts, replied, says,
+};
+use Answer::{Last, Refused, Taken};
 use std::alloc::{AllocError, Global};
 use std::test::Fail;
-use vp_hub::{Event, Hub, HubFault, Reply};
+use vp_base::Limits;
+use vp_hub::{Event, Hub, HubFault, NewFault, Reply};
+
+/// An event, its bytes lent.
+#[derive(Clone, Copy)]
+enum Told<'a> {
+    Feed(&'a [u8], &'a [u8]),
+    End(&'a [u8]),
+    Open(u32),
+    Bytes(u32, &'a [u8]),
+    Shut(u32),
+}
+
+/// What an event comes to.
+#[derive(Clone, Copy)]
+enum Answer<'a> {
+    /// It is taken, and nothing is replied.
+    Taken,
+    /// Just these bytes are replied, and the connection is closed.
+    Last(&'a [u8]),
+    Refused(HubFault),
+}
+
+/// The event, its bytes its own.
+fn event(alloc: Global, told: Told<'_>) -> Result<Event, AllocError> {
+    Ok(match told {
+        Told::Feed(name, bytes) => Event::Feed(list(alloc, name)?, list(alloc, bytes)?),
+        Told::End(name) => Event::End(list(alloc, name)?),
+        Told::Open(number) => Event::Open(number),
+        Told::Bytes(number, bytes) => Event::Bytes(number, list(alloc, bytes)?),
+        Told::Shut(number) => Event::Shut(number),
+    })
+}
+
+/// Whether an event came to this.
+fn is_answer(found: &Result<Reply, HubFault>, answer: Answer<'_>) -> bool {
+    match answer {
+        Taken => is_answered(found, b""),
+        Last(bytes) => {
+            matches!(found, Ok(reply) if reply.bytes.as_slice() == bytes && reply.close)
+        }
+        Refused(fault) => is_refused(found, fault),
+    }
+}
 
 /// Events in order. No stream is called `d` or `aa`; `b` meets a fault in its head, and `c` ends without a byte; connections 1
 /// and 3 to 65 stand, which are 64, until 65 goes; then 2 comes and goes.
@@ -17,28 +60,28 @@ const STEPS: [(Told<'static>, Answer<'static>); 28] = [
     (Told::Feed(b"aa", b"x"), Refused(HubFault::UnknownStream)),
     (Told::Feed(b"", b"x"), Refused(HubFault::UnknownStream)),
     (Told::End(b"d"), Refused(HubFault::UnknownStream)),
-    (Told::Feed(b"b", &[b'x'; 32]), TAKEN),
+    (Told::Feed(b"b", &[b'x'; 32]), Taken),
     (Told::Feed(b"b", b"x"), Refused(HubFault::Failed)),
     (Told::Feed(b"b", b""), Refused(HubFault::Failed)),
-    (Told::End(b"b"), TAKEN),
+    (Told::End(b"b"), Taken),
     (Told::Feed(b"b", b"x"), Refused(HubFault::Ended)),
     (Told::End(b"b"), Refused(HubFault::Ended)),
-    (Told::End(b"c"), TAKEN),
+    (Told::End(b"c"), Taken),
     (Told::Feed(b"c", b"x"), Refused(HubFault::Ended)),
     (Told::End(b"c"), Refused(HubFault::Ended)),
     (Told::Open(66), Refused(HubFault::TooMany)),
     (Told::Open(65), Refused(HubFault::AlreadyOpen)),
-    (Told::Shut(65), TAKEN),
+    (Told::Shut(65), Taken),
     (Told::Open(1), Refused(HubFault::AlreadyOpen)),
     (Told::Bytes(2, b"x"), Refused(HubFault::UnknownConn)),
     (Told::Shut(2), Refused(HubFault::UnknownConn)),
-    (Told::Open(2), TAKEN),
+    (Told::Open(2), Taken),
     (Told::Open(65), Refused(HubFault::TooMany)),
     (Told::Open(2), Refused(HubFault::AlreadyOpen)),
     (Told::Bytes(2, b"GET /streams HTTP/1.1\r\n\r\n"), Last(BAD)),
     (Told::Bytes(2, b"x"), Refused(HubFault::Failed)),
     (Told::Open(2), Refused(HubFault::AlreadyOpen)),
-    (Told::Shut(2), TAKEN),
+    (Told::Shut(2), Taken),
     (Told::Shut(2), Refused(HubFault::UnknownConn)),
     (Told::Bytes(2, b"x"), Refused(HubFault::UnknownConn)),
 ];
@@ -120,60 +163,10 @@ fn refused_events_change_nothing(rt: HostRuntime) -> Result<(), Fail> {
     Ok(())
 }
 
-/// What asks for a packet that is too short. One packet is decoded for it, each time.
-const ASKS_SHORT: &[u8] = b"GET /s/a/frame/0 HTTP/1.1\r\nHost: x\r\n\r\n";
-
-/// Events for which nothing is decoded, taken or refused. Stream `a` begins with the packet that is too short; connections 1
-/// and 3 stand, and 1 asks between them.
-const FREE: [Told<'static>; 18] = [
-    Told::Feed(b"a", &KEY),
-    Told::Feed(b"a", b""),
-    Told::Feed(b"d", &KEY),
-    Told::Open(2),
-    Told::Open(2),
-    Told::Bytes(2, b"GET /s/a/frame/0 HTTP/1.1\r\nHost: x\r\n\r"),
-    Told::Bytes(9, ASKS_SHORT),
-    Told::Bytes(3, b"GET /streams HTTP/1.1\r\nHost: x\r\n\r\n"),
-    Told::Bytes(3, b"GET /s/a/info HTTP/1.1\r\nHost: x\r\n\r\n"),
-    Told::Bytes(3, b"GET /s/a/frame/2 HTTP/1.1\r\nHost: x\r\n\r\n"),
-    Told::Bytes(3, b"PUT /s/a/frame/0 HTTP/1.1\r\nHost: x\r\n\r\n"),
-    Told::Bytes(3, b"GET /s/a/frame/0 HTTP/1.1\r\n\r\n"),
-    Told::Bytes(3, ASKS_SHORT),
-    Told::Shut(2),
-    Told::Shut(2),
-    Told::End(b"a"),
-    Told::End(b"a"),
-    Told::Feed(b"a", &KEY),
-];
-
-/// How many packets are decoded for the event.
-fn work_of(alloc: Global, hub: &mut Hub, told: Told<'_>) -> Result<u64, AllocError> {
-    let event = event(alloc, told)?;
-    let _ = hub.step(&event);
-    Ok(hub.work())
-}
-
-/// Whether nothing is decoded for any of the events, behind one for which a packet is.
-fn none_is_decoded(alloc: Global, hub: &mut Hub) -> Result<bool, AllocError> {
-    for told in &FREE {
-        let asked = work_of(alloc, hub, Told::Bytes(1, ASKS_SHORT))?;
-        if asked != 1 || work_of(alloc, hub, *told)? != 0 {
-            return Ok(false);
-        }
-    }
-    Ok(true)
-}
-
-/// The same of a new hub.
-fn are_free(alloc: Global) -> Result<bool, AllocError> {
-    match hub_of(alloc, &[b"a"], &[&HEAD, &SHORT], 2) {
-        Some(mut hub) => none_is_decoded(alloc, &mut hub),
-        None => Ok(false),
-    }
-}
-
+/// A hub has one stream at least.
 #[test]
-fn only_pictures_cost(rt: HostRuntime) -> Result<(), Fail> {
-    assert!(rt; are_free(rt.alloc())?);
+fn no_name_is_refused(rt: HostRuntime) -> Result<(), Fail> {
+    let hub = Hub::new(rt.alloc(), Vec::new(rt.alloc()), Limits::usual());
+    assert!(rt; hub.err() == Some(NewFault::Names));
     Ok(())
 }

@@ -1,7 +1,6 @@
 //! Connections served over memory.
 
-use crate::events::key_reply;
-use crate::hubs::{HEAD, KEY, hub_of, is_refused};
+use crate::hubs::{HEAD, KEY, LINES, hub_of, is_refused, key_picture};
 use std::alloc::{AllocError, Global};
 use std::cell::Cell;
 use std::io;
@@ -12,6 +11,14 @@ use vp_hub::{Event, Hub, HubFault, ServeFault, serve_one};
 
 // What asks for the picture of the first packet.
 const SENT: &[u8] = b"GET /s/a/frame/0 HTTP/1.1\r\nHost: x\r\n\r\n";
+
+/// The reply of the key packet's picture.
+fn key_reply() -> [u8; 464] {
+    let mut reply = [0; 464];
+    reply[..80].copy_from_slice(LINES);
+    reply[80..].copy_from_slice(&key_picture());
+    reply
+}
 
 /// Gives one byte at each read.
 #[derive(Drop)]

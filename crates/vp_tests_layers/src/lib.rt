@@ -1,4 +1,4 @@
-//! Tests of each layer by itself: worked rows of its public calls. There is nothing here but tests.
+//! Tests of each layer by itself: worked rows of its public calls, and whole files. There is nothing here but tests.
 #![tactic(auto)]
 
 #[cfg(test)]
@@ -9,6 +9,8 @@ mod bools;
 mod cache;
 #[cfg(test)]
 mod check;
+#[cfg(test)]
+mod files;
 #[cfg(test)]
 mod heads;
 #[cfg(test)]
@@ -34,10 +36,14 @@ mod refs;
 #[cfg(test)]
 mod search;
 #[cfg(test)]
+mod stream_files;
+#[cfg(test)]
 mod tokens;
 #[cfg(test)]
 mod transforms;
 #[cfg(test)]
 mod trees;
+#[cfg(test)]
+mod window;
 #[cfg(test)]
 mod y4m;

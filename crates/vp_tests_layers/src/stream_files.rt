@@ -9,7 +9,7 @@ use vp_base::{Counted, FailAt, Limits};
 use vp_decode::Outcome;
 use vp_head::PacketFault;
 use vp_ivf::{FileFault, IvfHead};
-use vp_stream::{DecodeFault, Form, Report, SurveyFault, decode_all, survey};
+use vp_stream::{Answer, DecodeFault, Form, Report, Stream, SurveyFault, decode_all, survey};
 
 // An empty key frame of 17 columns and one row.
 const WIDE: [u8; 10] = [0x10, 0, 0, 0x9d, 0x01, 0x2a, 0x11, 0, 0x01, 0];
@@ -257,5 +257,15 @@ fn names_of_decode_faults(rt: HostRuntime) -> Result<(), Fail> {
     for (fault, name) in names {
         assert!(rt; is_told_as(rt.alloc(), fault, name)?);
     }
+    Ok(())
+}
+
+#[test]
+fn a_count_stays_at_its_greatest(rt: HostRuntime) -> Result<(), Fail> {
+    let mut stream = Stream::new(rt.alloc(), Limits::usual());
+    stream.feed(&file(rt.alloc(), &[&KEY, &INTER])?)?;
+    let mut work = u64::MAX - 1;
+    assert!(rt; matches!(&stream.picture_counted(1, &mut work)?, Answer::Shown(..)));
+    equal(&rt, &work, &u64::MAX);
     Ok(())
 }

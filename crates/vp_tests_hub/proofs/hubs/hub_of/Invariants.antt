@@ -1,5 +1,5 @@
 use Rattle.vp_hub.specs.Heads.{AllKeepPartial}
-use Rattle.vp_tests_hub.proofs.hubs.hub_within.Given as goal
+use Rattle.vp_tests_hub.proofs.hubs.hub_of.Given as goal
 
 -- less than a head is kept of each connection
 abbrev pub invariant-loop-piece : goal.invariant-loop-piece

@@ -1,0 +1,222 @@
+//! Bytes as text. Printed signs and blanks stand for themselves, and `\r`, `\n` and `\\` for one byte each; braces hold
+//! bytes in two hexadecimal digits and bytes by their name, each of which may be cut and repeated:
+//! `DKIF{00 00 KEY KEY[..21] 00*11}`.
+
+use std::alloc::{AllocError, Global};
+use std::collections::BTreeMap;
+use std::io;
+use std::io::{Error, ErrorKind};
+use vp_base::Limits;
+
+/// Bytes by their names.
+#[derive(Drop)]
+pub(crate) struct Names {
+    alloc: Global,
+    bytes: BTreeMap<String, Vec<u8>>,
+}
+
+/// What a text that isn't well formed is refused by.
+pub(crate) fn malformed() -> Error {
+    Error::from(ErrorKind::InvalidData)
+}
+
+/// The number that the digits say.
+pub(crate) fn number(digits: &str) -> io::Result<u32> {
+    digits.parse::<u32>().map_err(|_| malformed())
+}
+
+/// The limits by their four numbers: of pixels, bytes of a packet, packets, and pictures that are kept.
+pub(crate) fn limits(line: &str) -> io::Result<Limits> {
+    let mut numbers = [0; 4];
+    for (to, digits) in numbers.iter_mut().zip(line.split(' ')) {
+        *to = number(digits)?;
+    }
+    let [pixels, packet_bytes, packets, cache] = numbers;
+    Limits::new(pixels, packet_bytes, packets, cache).ok_or(malformed())
+}
+
+/// A part of the bytes, by `FROM..TO`, where each may be left out.
+pub(crate) fn part<'a>(bytes: &'a [u8], range: &str) -> io::Result<&'a [u8]> {
+    let (from, to) = range.split_once("..").ok_or(malformed())?;
+    let from = if from.is_empty() {
+        0
+    } else {
+        number(from)? as usize
+    };
+    let to = if to.is_empty() {
+        bytes.len()
+    } else {
+        number(to)? as usize
+    };
+    bytes.get(from..to).ok_or(malformed())
+}
+
+/// Adds what stands outside of braces.
+fn add_plain(text: &str, bytes: &mut Vec<u8>) -> io::Result<()> {
+    let mut escaped = false;
+    for byte in text.bytes() {
+        match (escaped, byte) {
+            (false, b'\\') => {}
+            (true, b'r') => bytes.push(b'\r')?,
+            (true, b'n') => bytes.push(b'\n')?,
+            _ => bytes.push(byte)?,
+        }
+        escaped = !escaped && byte == b'\\';
+    }
+    Ok(())
+}
+
+impl Names {
+    pub(crate) fn new(alloc: Global) -> Names {
+        Names {
+            alloc,
+            bytes: BTreeMap::new(alloc),
+        }
+    }
+
+    /// Gives bytes a name, by `NAME TEXT`.
+    pub(crate) fn name(&mut self, line: &str) -> io::Result<()> {
+        let (name, text) = line.split_once(' ').ok_or(malformed())?;
+        let bytes = self.read(text)?;
+        self.keep(name, &bytes)
+    }
+
+    /// Keeps bytes under a name.
+    pub(crate) fn keep(&mut self, name: &str, bytes: &[u8]) -> io::Result<()> {
+        let bytes = bytes.to_vec(self.alloc)?;
+        self.bytes
+            .insert(String::from_str(self.alloc, name)?, bytes)?;
+        Ok(())
+    }
+
+    /// The bytes of a name.
+    pub(crate) fn get(&self, name: &str) -> io::Result<&[u8]> {
+        match self.bytes.get(name) {
+            Some(bytes) => Ok(bytes.as_slice()),
+            None => Err(malformed()),
+        }
+    }
+
+    /// The bytes of a text.
+    pub(crate) fn read(&self, text: &str) -> io::Result<Vec<u8>> {
+        let mut bytes = Vec::new(self.alloc);
+        for (i, part) in text.split('{').enumerate() {
+            let plain = match part.split_once('}') {
+                Some((items, plain)) if 0 < i => {
+                    self.add_items(items, &mut bytes)?;
+                    plain
+                }
+                None if i == 0 => part,
+                _ => return Err(malformed()),
+            };
+            add_plain(plain, &mut bytes)?;
+        }
+        Ok(bytes)
+    }
+
+    /// Adds what stands in braces.
+    fn add_items(&self, items: &str, bytes: &mut Vec<u8>) -> io::Result<()> {
+        for item in items.split(' ') {
+            let (item, count) = match item.split_once('*') {
+                Some((item, count)) => (item, number(count)?),
+                None => (item, 1),
+            };
+            self.add_repeated(item, count, bytes)?;
+        }
+        Ok(())
+    }
+
+    fn add_repeated(&self, item: &str, count: u32, bytes: &mut Vec<u8>) -> io::Result<()> {
+        for _ in 0..count {
+            match u8::from_str_radix(item, 16) {
+                Ok(byte) if item.len() == 2 => bytes.push(byte)?,
+                _ => bytes.extend_from_slice(self.named(item)?)?,
+            }
+        }
+        Ok(())
+    }
+
+    /// The bytes of `NAME` or `NAME[FROM..TO]`.
+    fn named(&self, item: &str) -> io::Result<&[u8]> {
+        match item.split_once('[') {
+            Some((name, range)) => {
+                let range = range.strip_suffix(']').ok_or(malformed())?;
+                part(self.get(name)?, range)
+            }
+            None => self.get(item),
+        }
+    }
+}
+
+/// Text to which bytes are added.
+#[derive(Drop)]
+struct Written {
+    text: String,
+    /// Whether a brace is open.
+    is_open: bool,
+}
+
+impl Written {
+    /// Adds as many of a byte.
+    fn add(&mut self, byte: u8, count: usize) -> Result<(), AllocError> {
+        let sign = match byte {
+            b'\r' => "\\r",
+            b'\n' => "\\n",
+            b'\\' => "\\\\",
+            b' '..=b'z' | b'|' | b'~' => return self.add_sign(byte, count),
+            _ => return self.add_number(byte, count),
+        };
+        self.close()?;
+        for _ in 0..count {
+            self.text.push_str(sign)?;
+        }
+        Ok(())
+    }
+
+    /// Adds a printed sign.
+    fn add_sign(&mut self, byte: u8, count: usize) -> Result<(), AllocError> {
+        self.close()?;
+        for _ in 0..count {
+            self.text.push(char::from(byte))?;
+        }
+        Ok(())
+    }
+
+    /// Adds a byte in braces.
+    fn add_number(&mut self, byte: u8, count: usize) -> Result<(), AllocError> {
+        self.text.push(if self.is_open { ' ' } else { '{' })?;
+        self.is_open = true;
+        write!(self.text, "{byte:02x}")?;
+        if count > 1 {
+            write!(self.text, "*{count}")?;
+        }
+        Ok(())
+    }
+
+    /// Ends what stands in braces.
+    fn close(&mut self) -> Result<(), AllocError> {
+        if self.is_open {
+            self.text.push('}')?;
+        }
+        self.is_open = false;
+        Ok(())
+    }
+}
+
+/// The text of the bytes, which has no names.
+pub(crate) fn text_of(alloc: Global, bytes: &[u8]) -> Result<String, AllocError> {
+    let mut written = Written {
+        text: String::new(alloc),
+        is_open: false,
+    };
+    let mut count = 0usize;
+    for (i, byte) in bytes.iter().enumerate() {
+        count = count.saturating_add(1);
+        if bytes.get(i + 1) != Some(byte) {
+            written.add(*byte, count)?;
+            count = 0;
+        }
+    }
+    written.close()?;
+    Ok(written.text)
+}

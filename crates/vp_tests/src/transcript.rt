@@ -1,0 +1,149 @@
+//! Transcripts: files of commands, below each of which stands what comes of it, line by line behind two blanks.
+//! `let NAME TEXT` gives bytes a name, `write PATH TEXT` writes a file, `case NAME` begins a case, `#` a comment.
+
+use crate::text::{Names, malformed, text_of};
+use std::alloc::{AllocError, Global};
+use std::collections::VecDeque;
+use std::{fs, io};
+
+/// What came of commands, and wasn't met yet.
+#[derive(Drop)]
+pub(crate) struct Found {
+    alloc: Global,
+    lines: VecDeque<String>,
+}
+
+impl Found {
+    /// Says a line.
+    pub(crate) fn line(&mut self, line: String) -> Result<(), AllocError> {
+        self.lines.push_back(line)?;
+        Ok(())
+    }
+
+    /// Says a word.
+    pub(crate) fn word(&mut self, word: &str) -> Result<(), AllocError> {
+        self.line(String::from_str(self.alloc, word)?)
+    }
+
+    /// Says bytes behind a word that tells what they are.
+    pub(crate) fn bytes(&mut self, word: &str, bytes: &[u8]) -> Result<(), AllocError> {
+        let text = text_of(self.alloc, bytes)?;
+        self.line(format!(in self.alloc; "{word} {}", text.as_str())?)
+    }
+
+    /// Says the same where there is a byte.
+    pub(crate) fn bytes_if_any(&mut self, word: &str, bytes: &[u8]) -> Result<(), AllocError> {
+        if bytes.is_empty() {
+            return Ok(());
+        }
+        self.bytes(word, bytes)
+    }
+
+    /// Says a number other than 0 behind a word that tells what it counts.
+    pub(crate) fn count_if_any(&mut self, word: &str, count: u64) -> Result<(), AllocError> {
+        if count == 0 {
+            return Ok(());
+        }
+        self.line(format!(in self.alloc; "{word} {count}")?)
+    }
+}
+
+/// What commands work on.
+pub(crate) trait Script {
+    /// Begins a case: of the last one only names are left.
+    fn begin(&mut self);
+
+    /// Carries a command out, and says what came of it.
+    fn command(
+        &mut self,
+        rt: &HostRuntime,
+        line: &str,
+        names: &mut Names,
+        found: &mut Found,
+    ) -> io::Result<()>;
+}
+
+/// A transcript that is told.
+#[derive(Drop)]
+struct Transcript<'a> {
+    file: &'a str,
+    names: Names,
+    found: Found,
+}
+
+/// Carries the commands of a transcript out, and prints its name, that of each case, and each line where something else came of a
+/// command than stands there.
+pub(crate) fn tell<S: Script>(
+    rt: &HostRuntime,
+    file: &str,
+    text: &str,
+    script: &mut S,
+) -> io::Result<()> {
+    let mut transcript = Transcript {
+        file,
+        names: Names::new(rt.alloc()),
+        found: Found {
+            alloc: rt.alloc(),
+            lines: VecDeque::new(rt.alloc()),
+        },
+    };
+    println!(rt; "{file}")?;
+    for (i, line) in text.lines().enumerate() {
+        transcript.line(rt, i.saturating_add(1), line, script)?;
+    }
+    transcript.tell_unmet(rt, 0)
+}
+
+impl Transcript<'_> {
+    /// Meets a line, or carries it out.
+    fn line<S: Script>(
+        &mut self,
+        rt: &HostRuntime,
+        number: usize,
+        line: &str,
+        script: &mut S,
+    ) -> io::Result<()> {
+        if let Some(wanted) = line.strip_prefix("  ") {
+            return self.meet(rt, number, wanted);
+        }
+        self.tell_unmet(rt, number)?;
+        match line.split_once(' ') {
+            _ if line.is_empty() || line.starts_with('#') => Ok(()),
+            Some(("case", name)) => {
+                script.begin();
+                println!(rt; "  {name}")
+            }
+            Some(("let", rest)) => self.names.name(rest),
+            Some(("write", rest)) => self.write(rt, rest),
+            _ => script.command(rt, line, &mut self.names, &mut self.found),
+        }
+    }
+
+    /// Writes a file.
+    fn write(&self, rt: &HostRuntime, line: &str) -> io::Result<()> {
+        let (path, text) = line.split_once(' ').ok_or(malformed())?;
+        fs::write(rt, path, self.names.read(text)?)
+    }
+
+    /// Prints the line where something else was found than is wanted.
+    fn meet(&mut self, rt: &HostRuntime, number: usize, wanted: &str) -> io::Result<()> {
+        let file = self.file;
+        let wanted = text_of(rt.alloc(), &self.names.read(wanted)?)?;
+        match self.found.lines.pop_front() {
+            Some(line) if line.as_str() == wanted.as_str() => Ok(()),
+            Some(line) => println!(rt; "{file}:{number}: {}", line.as_str()),
+            None => println!(rt; "{file}:{number}: nothing"),
+        }
+    }
+
+    /// Prints what was found and no line met.
+    fn tell_unmet(&mut self, rt: &HostRuntime, number: usize) -> io::Result<()> {
+        let file = self.file;
+        for _ in 0..self.found.lines.len() {
+            if let Some(line) = self.found.lines.pop_front() {
+                println!(rt; "{file}:{number}: {}", line.as_str())?;
+            }
+        }
+        Ok(())
+    }
+}
