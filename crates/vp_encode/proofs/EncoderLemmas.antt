@@ -1,22 +1,29 @@
 -- What an encoder's packet leaves.
 use Rattle.std.proofs.Common.{◌≡◌, ◌∙◌, ℕ, ◌*◌, ◌≤◌, Bool, true, false, List, refl, sym, ap, subst, arith, inl, inr, eqb}
-use Rattle.std.specs.Prelude.{◌⊎◌, Option, Some, None, IfSome, Result, Ok, IsOkAnd, if◌then◌else◌}
+use Rattle.std.specs.Prelude.{◌⊎◌, Option, Some, None, IfSome, Result, Ok, IfOk, IfErr, IsOkAnd, is_none, if◌then◌else◌}
 use Rattle.vp_base.specs.declared.place.Place.{Place}
 use Rattle.vp_base.specs.declared.limits.Dim.{Dim}
 use Rattle.vp_base.specs.declared.limits.Limits.{Limits}
+use Rattle.vp_base.specs.declared.grid.Grid.{Grid}
 use Rattle.vp_base.specs.Grid.{Has}
 use Rattle.vp_base.specs.Image.{Image, macroblocks}
 use Rattle.vp_head.specs.declared.fault.PacketFault.{PacketFault}
 use Rattle.vp_head.specs.declared.fields.KeyTag.{KeyTag}
+use Rattle.vp_head.specs.declared.fields.Saved.{Saved}
+use Rattle.vp_modes.specs.declared.segment.Segment.{Segment}
+use Rattle.vp_modes.specs.Map.{of_segments}
 use Rattle.vp_decode.specs.Frame.{picture_of}
-use Rattle.vp_decode.specs.Step.{Kept, Basis, key_basis, inter_basis, basis_of, Opened, opened, said, left_by, Answer, Shown, Hidden, Fault, step}
+use Rattle.vp_decode.specs.Step.{Kept, Basis, maps_before, key_basis, inter_basis, basis_of, Opened, opened, said, left_by, Answer, Shown, Hidden, Fault, step}
 use Rattle.vp_decode.proofs.SizeLemmas.{KeepsShape, newest_is, picture_shaped}
 use Rattle.vp_encode.specs.declared.coded.Coded.{Coded}
-use Rattle.vp_encode.specs.Coded.{macroblock_at}
-use Rattle.vp_encode.specs.Said.{key_tag, Says, Tells}
-use Rattle.vp_encode.specs.Encoder.{Encoding, AreAllowed, kept_for, basis_over, tag_key, header_of, continued, frame_for}
+use Rattle.vp_encode.specs.declared.fault.PacketError.{PacketError}
+use Rattle.vp_encode.specs.declared.fault.PacketError.TheVariants.{TooLong}
+use Rattle.vp_encode.specs.Coded.{CanBeTold, macroblock_at}
+use Rattle.vp_encode.specs.Said.{key_tag, IsKeyPacket, IsInterPacket, Says, Tells}
+use Rattle.vp_encode.specs.Written.{HasLongPartition}
+use Rattle.vp_encode.specs.Encoder.{Encoding, AreAllowed, is_key, kept_for, basis_over, basis_for, tag_key, header_of, continued, frame_for}
 use Rattle.vp_encode.specs.Chosen.{IsChosen}
-use Rattle.vp_encode.specs.TooLong.{IsFrameFor}
+use Rattle.vp_encode.specs.TooLong.{IsFrameFor, IsTooLongOver}
 use Rattle.vp_encode.specs.Between.{HasSize, IsPacketOver, IsKeptFor, IsSound, Shows}
 use Rattle.vp_encode.proofs.Showing.{told_shows}
 use Rattle.vp_encode.proofs.Carried.{segments_stay, chosen_unsegmented, carried}
@@ -209,3 +216,47 @@ module _ (law : KeepsShape) (limits : Limits) (z e : Encoding) (source : Image) 
 
   pub either_kept : (new : Option Kept) → (new ≡ z.state) ⊎ (new ≡ (step limits z.state bytes).0) → IfSome new (IsKeptFor z.dim)
   either_kept new either = either_sound limits z.dim z.state bytes new sound.wide leaves_here sound.kept either
+
+-- ---- what a frame is told over
+
+-- a key frame is told over nothing
+module _ (e : Encoding) (dim : Dim) (c : Coded) (same : dim ≡ e.dim) (over : None ≡ kept_for e) where
+  pub told_over_nothing : CanBeTold (is_key e) (basis_for e).saved (basis_for e).modes c → CanBeTold true (key_basis dim).saved (key_basis dim).modes c
+  told_over_nothing told =
+      let T : Dim → Option Kept → Type 0 = λ d o. CanBeTold (is_none o) (basis_over d o).saved (basis_over d o).modes c in
+      subst (λ (d : Dim). T d None) (sym same) (subst (T e.dim) (sym over) told)
+
+  pub packet_over_nothing : (result : Result (List ℕ) PacketError) → IfOk result (λ v. IsKeyPacket dim c v) → IfOk result (λ v. IsPacketOver e.dim (kept_for e) c v)
+  packet_over_nothing result is =
+      let P : Dim → Option Kept → Type 0 = λ d o. IfOk result (λ v. IsPacketOver d o c v) in
+      subst (P e.dim) over (subst (λ (d : Dim). P d None) same is)
+
+  pub long_over_nothing : (result : Result (List ℕ) PacketError)
+      → IfErr result (λ f. f ≡ TooLong → HasLongPartition (Some (key_tag dim)) (key_basis dim).saved (maps_before (key_basis dim).modes) c)
+      → IfErr result (λ f. f ≡ TooLong → IsTooLongOver e.dim (kept_for e) c)
+  long_over_nothing result is =
+      let P : Dim → Option Kept → Type 0 = λ d o. IfErr result (λ f. f ≡ TooLong → IsTooLongOver d o c) in
+      subst (P e.dim) over (subst (λ (d : Dim). P d None) same is)
+
+-- an inter frame is told over what is kept
+module _ (e : Encoding) (k : Kept) (saved : Saved) (segments : Grid Segment) (c : Coded)
+    (over : Some k ≡ kept_for e) (values : saved ≡ k.saved) (numbers : segments ≡ k.segments) where
+  pub told_over_kept : CanBeTold (is_key e) (basis_for e).saved (basis_for e).modes c → CanBeTold false saved (of_segments segments) c
+  told_over_kept told =
+      let T : Option Kept → Type 0 = λ o. CanBeTold (is_none o) (basis_over e.dim o).saved (basis_over e.dim o).modes c in
+      let K : Saved → Grid Segment → Type 0 = λ s g. CanBeTold false s (of_segments g) c in
+      subst (λ (s : Saved). K s segments) (sym values) (subst (K k.saved) (sym numbers) (subst T (sym over) told))
+
+  pub packet_over_kept : (result : Result (List ℕ) PacketError) → IfOk result (λ v. IsInterPacket saved segments c v) → IfOk result (λ v. IsPacketOver e.dim (kept_for e) c v)
+  packet_over_kept result is =
+      let P : Option Kept → Type 0 = λ o. IfOk result (λ v. IsPacketOver e.dim o c v) in
+      let K : Saved → Grid Segment → Type 0 = λ s g. IfOk result (λ v. IsInterPacket s g c v) in
+      subst P over (subst (K k.saved) numbers (subst (λ (s : Saved). K s segments) values is))
+
+  pub long_over_kept : (result : Result (List ℕ) PacketError)
+      → IfErr result (λ f. f ≡ TooLong → HasLongPartition None saved (maps_before (of_segments segments)) c)
+      → IfErr result (λ f. f ≡ TooLong → IsTooLongOver e.dim (kept_for e) c)
+  long_over_kept result is =
+      let P : Option Kept → Type 0 = λ o. IfErr result (λ f. f ≡ TooLong → IsTooLongOver e.dim o c) in
+      let K : Saved → Grid Segment → Type 0 = λ s g. IfErr result (λ f. f ≡ TooLong → HasLongPartition None s (maps_before (of_segments g)) c) in
+      subst P over (subst (K k.saved) numbers (subst (λ (s : Saved). K s segments) values is))

@@ -7,27 +7,42 @@ use Rattle.std.proofs.lemmas.List.{length-append, append-nil, map-append, length
 use Rattle.std.proofs.lemmas.Nat.{row_fits, mul-le}
 use Rattle.std.proofs.lemmas.List.Elements.{All-nil, All-push, All-same, All-map, All-weaker}
 use Rattle.std.proofs.lemmas.List.Sums.{sum_by-cons, sum_by-append}
+use Rattle.vp_base.specs.declared.limits.Dim.{Dim}
 use Rattle.vp_base.specs.declared.limits.Limits.{Limits}
 use Rattle.vp_base.specs.Image.{Image, i420}
-use Rattle.vp_base.specs.Counted.{AppendsFront}
+use Rattle.vp_base.specs.declared.counted.Counted.{Counted}
+use Rattle.vp_base.specs.Counted.{AppendsFront, HasFailed, counted_remaining, counted_contents, counted_failures}
 use Rattle.vp_y4m.specs.declared.fault.SourceFault.{SourceFault}
 use Rattle.vp_y4m.specs.declared.fault.SourceFault.TheVariants as source
 use Rattle.vp_y4m.specs.Header.{Head}
 use Rattle.vp_y4m.specs.Pictures.{file_head, next_of}
-use Rattle.vp_y4m.specs.Reads.{Shows, ShowsAtEnd, Fails, TakesInReads}
+use Rattle.vp_y4m.specs.Reads.{Shows, ShowsAtEnd, Fails}
 use Rattle.vp_y4m.specs.Text.{i420_length}
-use Rattle.vp_y4m.proofs.ReadLemmas.{reads_then}
 use Rattle.vp_y4m.specs.Frames.{GivesPicture}
 use Rattle.vp_y4m.specs.Source.{Answers}
 use Rattle.vp_encode.specs.declared.settings.Settings.{Settings}
 use Rattle.vp_encode.specs.declared.report.EncodeReport.{EncodeReport}
 use Rattle.vp_encode.specs.declared.report.EncodeAllFault.{EncodeAllFault}
 use Rattle.vp_encode.specs.declared.report.EncodeAllFault.TheVariants as fault
-use Rattle.vp_encode.specs.Encoder.{Encoding}
+use Rattle.vp_encode.specs.Encoder.{Encoding, AreAllowed}
 use Rattle.vp_encode.specs.Encoded.{EncodedFrame, IsEncoded, AreEncoded, fresh, error_of}
 use Rattle.vp_encode.specs.Pictures.{IsPicture, BeginWith}
-use Rattle.vp_encode.specs.File.{IsToldMore, Work, IsDone, IsWhole, HasOneMore, IsEndedBehind, IsAnswerBehind, HasDone, most_reads, source_of, packet_of, ivf_text, text_of, fault_by, numbers_to}
+use Rattle.vp_encode.specs.File.{IsToldMore, Work, IsDone, IsWhole, IsReported, HasOneMore, IsEndedBehind, IsAnswerBehind, IsAnswerOver, HasDone, most_reads, source_of, packet_of, ivf_text, text_of, fault_by, numbers_to}
 use Rattle.vp_encode.specs.Run.{Running, IsAdded, IsRefused, IsHeadLine, IsBegun, IsAt, IsRun, Ends, start}
+
+-- ---- small facts, for where much else is known
+
+pub ok_is_no_error : {A B : Type 0} {x : A} {y : B} → (let r : Result A B = Ok x in r ≢ Err y)
+ok_is_no_error e = cc
+
+pub none_at_most : 0 ≤ 1
+none_at_most = omega arith
+
+pub one_is_most : 1 ≤ 1
+one_is_most = omega arith
+
+pub no_fewer : (n m : ℕ) → n ≤ n + m
+no_fewer n m = omega arith
 
 -- ---- one more picture
 
@@ -216,6 +231,12 @@ head_failed limits settings source.Torn before after s = (s.taken, s.consumed, �
 head_failed limits settings source.Device before after s = (s.0, s.1, λ written. inl (refl, inl refl))
 head_failed limits settings source.Memory before after s = absurd s
 
+-- the head is whole, and the settings are refused
+pub settings_refused : (limits : Limits) (settings : Settings) (head : Head) (before after written : Option (List ℕ)) → (s : Shows (file_head limits.pixels) (λ rest. Ok (head, rest)) before after)
+    → ¬ AreAllowed settings → IsEndedBehind 0 limits settings fault.Settings s.taken written written
+settings_refused limits settings head before after written s refused =
+    (head, ap (file_head limits.pixels) (sym (append-nil s.taken)) ∙ s.shown [], refused, refl)
+
 -- ---- the answers of a source
 
 pub faulty_answer : (head now : Head) (f : SourceFault) (before after : Option (List ℕ)) → now ≡ head
@@ -251,29 +272,32 @@ at_next head begun now new bytes frames p before after h s f is a =
 
 -- ---- the whole file
 
--- the head, and then what encoding the pictures behind it came to
-pub work_ends : (limits : Limits) (settings : Settings) (run after : Running) (head now : Head) (before mid opened left : Option (List ℕ)) (result : Result (Unit {0}) EncodeAllFault)
-    → run.limits ≡ limits → run.encoder.settings ≡ settings → now ≡ head → opened ≡ mid
-    → Shows (file_head limits.pixels) (λ rest. Ok (head, rest)) before mid
-    → ((front : List ℕ) → IsHeadLine run.limits.pixels front now → (bytes : List ℕ) × Consumes opened left bytes × Ends run.limits run.encoder.settings result now (front ++ bytes) after)
-    → (file : List ℕ) × Consumes before left file × Ends limits settings result head file after
-work_ends limits settings run after head now before mid opened left result same set is bytes_are s ends =
-    let L : Limits → Head → Type 0 = λ l h. IsHeadLine l.pixels s.taken h in
-    let line : IsHeadLine run.limits.pixels s.taken now = subst (λ (h : Head). L run.limits h) (sym is) (subst (λ (l : Limits). L l head) (sym same) s.shown) in
-    let e = ends s.taken line in
-    let E : Limits → Settings → Head → Type 0 = λ l x h. Ends l x result h (s.taken ++ e.0) after in
-    let C : Option (List ℕ) → Type 0 = λ o. Consumes o left e.0 in (
-      s.taken ++ e.0,
-      Consumes-trans before mid left s.taken e.0 s.consumed (subst C bytes_are e.1),
-      subst (λ (l : Limits). E l settings head) same (subst (λ (x : Settings). E run.limits x head) set (subst (λ (h : Head). E run.limits run.encoder.settings h) is e.2)),
-    )
+-- what encoding the pictures of a source came to, by the reader that it was opened over
+pub opened_ends : (pixels : ℕ) (limits : Limits) (settings : Settings) (result : Result (Unit {0}) EncodeAllFault) (after : Running) (head now : Head) (before opened left : Option (List ℕ))
+    → now ≡ head → opened ≡ before
+    → ((front : List ℕ) → IsHeadLine pixels front now → (bytes : List ℕ) × Consumes opened left bytes × Ends limits settings result now (front ++ bytes) after)
+    → (front : List ℕ) → IsHeadLine pixels front head → (bytes : List ℕ) × Consumes before left bytes × Ends limits settings result head (front ++ bytes) after
+opened_ends pixels limits settings result after head now before opened left is bytes_are ends =
+    let E : Head → Option (List ℕ) → Type 0 = λ h o. (front : List ℕ) → IsHeadLine pixels front h
+    → (bytes : List ℕ) × Consumes o left bytes × Ends limits settings result h (front ++ bytes) after in
+    subst (E head) bytes_are (subst (λ (h : Head). E h opened) is ends)
 
--- the reads of the head, and then those of the pictures
-pub read_through : (before mid opened left : Option (List ℕ)) (old now begun new : ℕ) → opened ≡ mid → begun ≡ now
-    → TakesInReads 0 before mid old now → TakesInReads 1 opened left begun new → TakesInReads 1 before left old new
-read_through before mid opened left old now begun new same kept s t =
-    reads_then 1 before mid left old now new s
-    (subst (λ (o : Option (List ℕ)). TakesInReads 1 o left now new) same (subst (λ (n : ℕ). TakesInReads 1 opened left n new) kept t))
+-- the head, and then what encoding the pictures behind it came to
+pub work_ends : (limits : Limits) (settings : Settings) (dim : Dim) (encoder : Encoding) (run after : Running) (head : Head) (before mid left : Option (List ℕ)) (result : Result (Unit {0}) EncodeAllFault)
+    → run ≡ start limits encoder → encoder ≡ fresh dim settings
+    → Shows (file_head limits.pixels) (λ rest. Ok (head, rest)) before mid
+    → ((front : List ℕ) → IsHeadLine run.limits.pixels front head → (bytes : List ℕ) × Consumes mid left bytes × Ends run.limits run.encoder.settings result head (front ++ bytes) after)
+    → (file : List ℕ) × Consumes before left file × Ends limits settings result head file after
+work_ends limits settings dim encoder run after head before mid left result begun opened s ends =
+    let same : run.limits ≡ limits = ap (λ (r : Running). r.limits) begun in
+    let set : run.encoder.settings ≡ settings = ap (λ (r : Running). r.encoder.settings) begun ∙ ap (λ (e : Encoding). e.settings) opened in
+    let line : IsHeadLine run.limits.pixels s.taken head = subst (λ (l : Limits). IsHeadLine l.pixels s.taken head) (sym same) s.shown in
+    let e = ends s.taken line in
+    let E : Limits → Settings → Type 0 = λ l x. Ends l x result head (s.taken ++ e.0) after in (
+      s.taken ++ e.0,
+      Consumes-trans before mid left s.taken e.0 s.consumed e.1,
+      subst (λ (l : Limits). E l settings) same (subst (E run.limits) set e.2),
+    )
 
 -- ---- no more reads than these
 
@@ -309,10 +333,10 @@ i420_fits w h pixels small =
     omega arith
 
 -- those of the line and of all pictures
-pub within_limits : (limits now : Limits) (head opened : Head) (old mid begun new : ℕ) → now ≡ limits → opened ≡ head → begun ≡ mid → head.w * head.h ≤ limits.pixels
-    → mid ≤ old + 1025 → new ≤ begun + (now.packets + 1) * each opened → new ≤ old + most_reads limits
-within_limits limits now head opened old mid begun new same is kept small line pictures =
-    let n : (now.packets + 1) * each opened ≡ (limits.packets + 1) * each head = λ i. ((same i).packets + 1) * each (is i) in
+pub within_limits : (limits now : Limits) (head : Head) (old mid new : ℕ) → now ≡ limits → head.w * head.h ≤ limits.pixels
+    → mid ≤ old + 1025 → new ≤ mid + (now.packets + 1) * each head → new ≤ old + most_reads limits
+within_limits limits now head old mid new same small line pictures =
+    let n : (now.packets + 1) * each head ≡ (limits.packets + 1) * each head = λ i. ((same i).packets + 1) * each head in
     let fits : each head ≤ 1025 + 3 * limits.pixels = let f = i420_fits head.w head.h limits.pixels small in omega arith in
     let all = mul-le (limits.packets + 1) (each head) (limits.packets + 1) (1025 + 3 * limits.pixels) (omega arith) fits in
     omega arith
@@ -353,3 +377,100 @@ module _ (limits : Limits) (settings : Settings) (head : Head) (file : List ℕ)
     },
     ap (λ (r : EncodeReport). r.frames) is,
   )
+
+-- ---- the answer, by where the work ended
+
+device_by : (f : SourceFault) → fault_by f ≡ fault.Device → f ≡ source.Device
+device_by source.Magic e = cc
+device_by source.Size e = cc
+device_by source.Colour e = cc
+device_by source.Interlaced e = cc
+device_by source.Torn e = cc
+device_by source.Device e = refl
+device_by source.Memory e = cc
+
+module _ {R W : Type 0} (remaining : R → Option (List ℕ)) (contents : W → Option (List ℕ)) (limits : Limits) (settings : Settings)
+    (result : Result EncodeReport EncodeAllFault) (reader reader' : Counted R) where
+  torn_by : (f : SourceFault) → Fails (file_head limits.pixels) f (counted_remaining remaining reader) (counted_remaining remaining reader')
+      → fault_by f ≡ fault.Torn → IsAtEnd (counted_remaining remaining reader')
+  torn_by source.Magic s e = cc
+  torn_by source.Size s e = cc
+  torn_by source.Colour s e = cc
+  torn_by source.Interlaced s e = cc
+  torn_by source.Torn s e = s.at_end
+  torn_by source.Device s e = cc
+  torn_by source.Memory s e = cc
+
+  -- before anything is written
+  pub unwritten_answer : {A : Type 0} (writer : Counted W) (f : EncodeAllFault) → result ≡ Err f
+      → (file : List ℕ) → Consumes (counted_remaining remaining reader) (counted_remaining remaining reader') file
+      → (pictures : ℕ) → IsEndedBehind pictures limits settings f file (counted_contents contents writer) (counted_contents contents writer)
+      → (let r : Result A EncodeAllFault = Err f in r ≡ Err fault.Torn → IsAtEnd (counted_remaining remaining reader'))
+      → (let r : Result A EncodeAllFault = Err f in r ≡ Err fault.Device → HasFailed (counted_failures reader) (counted_failures reader'))
+      → (let r : Result A EncodeAllFault = Err f in r ≢ Err fault.Device → counted_failures reader' ≡ counted_failures reader)
+      → IsAnswerOver remaining contents limits settings result reader reader' writer writer
+  unwritten_answer writer f is file consumed pictures ended torn device quiet = record {
+    file = file;
+    consumed = consumed;
+    answer = rw is (pictures, ended);
+    unwritten = λ _ _ _. refl;
+    end = rw is tt;
+    torn = λ e. torn cc;
+    device = λ e. inl (device cc);
+    quiet = λ n. (quiet (λ e. n cc), refl);
+  }
+
+  -- at the head's line
+  pub head_answer : {A : Type 0} (writer : Counted W) (f : SourceFault) → result ≡ Err (fault_by f)
+      → Fails (file_head limits.pixels) f (counted_remaining remaining reader) (counted_remaining remaining reader')
+      → (let r : Result A SourceFault = Err f in r ≡ Err source.Device → HasFailed (counted_failures reader) (counted_failures reader'))
+      → (let r : Result A SourceFault = Err f in r ≢ Err source.Device → counted_failures reader' ≡ counted_failures reader)
+      → IsAnswerOver remaining contents limits settings result reader reader' writer writer
+  head_answer {A = A} writer f is fails device quiet =
+      let now = head_failed limits settings f (counted_remaining remaining reader) (counted_remaining remaining reader') fails in
+      unwritten_answer {A = A} writer (fault_by f) is now.0 now.1 0 (now.2 (counted_contents contents writer))
+      (λ e. torn_by f fails cc) (λ e. device (ap Err (device_by f cc))) (λ n. quiet (λ e. n (let same : f ≡ source.Device = cc in ap Err (ap fault_by same))))
+
+  -- at the settings
+  pub settings_answer : (writer : Counted W) → result ≡ Err fault.Settings
+      → (file : List ℕ) → Consumes (counted_remaining remaining reader) (counted_remaining remaining reader') file
+      → IsEndedBehind 0 limits settings fault.Settings file (counted_contents contents writer) (counted_contents contents writer)
+      → counted_failures reader' ≡ counted_failures reader
+      → IsAnswerOver remaining contents limits settings result reader reader' writer writer
+  settings_answer writer is file consumed ended quiet =
+      unwritten_answer {A = EncodeReport} writer fault.Settings is file consumed 0 ended (λ e. cc) (λ e. cc) (λ n. quiet)
+
+  -- at a write that failed
+  pub unfinished_answer : (writer writer' : Counted W) → result ≡ Err fault.Device
+      → (file : List ℕ) → Consumes (counted_remaining remaining reader) (counted_remaining remaining reader') file
+      → (pictures : ℕ) → IsEndedBehind pictures limits settings fault.Device file (counted_contents contents writer) (counted_contents contents writer')
+      → HasFailed (counted_failures writer) (counted_failures writer')
+      → IsAnswerOver remaining contents limits settings result reader reader' writer writer'
+  unfinished_answer writer writer' is file consumed pictures ended failed = record {
+    file = file;
+    consumed = consumed;
+    answer = rw is (pictures, ended);
+    unwritten = λ f e n. absurd (n cc);
+    end = rw is tt;
+    torn = λ e. cc;
+    device = λ e. inr failed;
+    quiet = λ n. absurd (n is);
+  }
+
+  -- at the file's end
+  pub whole_answer : (writer writer' : Counted W) (report : EncodeReport) → result ≡ Ok report
+      → (file : List ℕ) → Consumes (counted_remaining remaining reader) (counted_remaining remaining reader') file
+      → IsReported limits settings report file (counted_contents contents writer) (counted_contents contents writer')
+      → IsAtEnd (counted_remaining remaining reader')
+      → counted_failures reader' ≡ counted_failures reader → counted_failures writer' ≡ counted_failures writer
+      → IsAnswerOver remaining contents limits settings result reader reader' writer writer'
+  whole_answer writer writer' report is file consumed reported at_end read written = record {
+    file = file;
+    consumed = consumed;
+    answer = rw is reported;
+    unwritten = λ f e n. cc;
+    end = rw is at_end;
+    torn = λ e. cc;
+    device = λ e. cc;
+    quiet = λ n. (read, written);
+  }

@@ -96,10 +96,39 @@ pub fn encode_all_watched<R: Read, W: Write, T: Watcher>(
     let head = SourceHead::read(reader, limits)?;
     let encoder = Encoder::new(alloc, head.dim, settings)?;
     let mut run = Run::new(alloc, encoder, limits);
-    let mut source = Source::open(alloc, reader, head);
-    encode_pictures(&mut source, &mut run, watcher)?;
+    encode_source(alloc, reader, head, &mut run, watcher)?;
     write_file(head, run.packets(), writer)?;
     Ok(run.report())
+}
+
+/// Encodes the pictures that a reader has behind a file's head.
+fn encode_source<R: Read, T: Watcher>(
+    alloc: Global,
+    reader: &mut Counted<R>,
+    head: SourceHead,
+    run: &mut Run,
+    watcher: &mut T,
+) -> Result<(), EncodeAllFault>
+    requires start { run.old ≡ start run.old.limits (fresh run.old.encoder.dim run.old.encoder.settings) }
+    requires allowed { AreAllowed run.old.encoder.settings }
+    requires width { run.old.encoder.dim.w ≡ head.dim.w }
+    requires height { run.old.encoder.dim.h ≡ head.dim.h }
+    ensures ends { (front : List ℕ) → IsHeadLine run.old.limits.pixels front (head_shown head)
+        → (bytes : List ℕ)
+        × Consumes (counted_remaining R.remaining reader.old) (counted_remaining R.remaining reader.new) bytes
+        × Ends run.old.limits run.old.encoder.settings result (head_shown head) (front ++ bytes) run.new }
+    ensures end { OnOk result (IsAtEnd (counted_remaining R.remaining reader.new)) }
+    ensures torn { result ≡ Err EncodeAllFault.Torn → IsAtEnd (counted_remaining R.remaining reader.new) }
+    ensures device { result ≡ Err EncodeAllFault.Device → HasFailed (counted_failures reader.old) (counted_failures reader.new) }
+    ensures quiet { result ≢ Err EncodeAllFault.Device → counted_failures reader.new ≡ counted_failures reader.old }
+    ensures reads { TakesInReads 1 (counted_remaining R.remaining reader.old) (counted_remaining R.remaining reader.new)
+        (counted_reads reader.old) (counted_reads reader.new) }
+    ensures within { counted_reads reader.new ≤ counted_reads reader.old
+        + (run.old.limits.packets + 1) * (1025 + i420_length head.dim.w head.dim.h) }
+    ensures watched { IsToldMore (T.told watcher.old) (T.told watcher.new) (numbers_to (length run.new.packets)) }
+{
+    let mut source = Source::open(alloc, reader, head);
+    encode_pictures(&mut source, run, watcher)
 }
 
 /// Encodes the pictures behind a file's head.

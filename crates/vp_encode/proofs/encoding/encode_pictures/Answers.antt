@@ -1,7 +1,7 @@
-use Rattle.std.proofs.Common.{◌≡◌, ℕ, List, ◌++◌, ◌∷◌, [], None, Ok, Err, length, refl, sym, ap, subst, ◌∙◌, arith}
-use Rattle.std.proofs.lemmas.Grind.{common_steps}
+use Rattle.std.proofs.Common.{ℕ, List, ◌++◌, ◌∷◌, [], None, Ok, Err, length, refl, sym, ap, subst, ◌∙◌}
 use Rattle.std.proofs.lemmas.Result.{err_from_is_err_and}
 use Rattle.std.proofs.KnownBytes.{Consumes-nil, Consumes-trans}
+use Rattle.vp_base.specs.declared.limits.Dim.{Dim}
 use Rattle.vp_y4m.specs.Source.{bytes_left, head_of, progress_after}
 use Rattle.vp_y4m.specs.Frames.{GivesPicture}
 use Rattle.vp_y4m.specs.Reads.{ShowsAtEnd}
@@ -9,7 +9,7 @@ use Rattle.vp_y4m.specs.Pictures.{next_of}
 use Rattle.vp_y4m.proofs.ReadLemmas.{no_reads, one_at_most, one_at_an_answer, reads_more, reads_then}
 use Rattle.vp_encode.specs.File.{IsToldMore, numbers_to}
 use Rattle.vp_encode.specs.Run.{IsBegun}
-use Rattle.vp_encode.proofs.FileLemmas.{at_start, next_failed, refused_same, ended, faulty_answer, given_answer, end_answer, is_picture, at_next, told_first, told_more, few_now, within_next, within_more}
+use Rattle.vp_encode.proofs.FileLemmas.{ok_is_no_error, none_at_most, no_fewer, at_start, next_failed, refused_same, ended, faulty_answer, given_answer, end_answer, is_picture, at_next, told_first, told_more, few_now, within_next, within_more}
 use Rattle.vp_encode.proofs.encoding.encode_pictures.Goals as goal
 
 pub loop-picture-init : goal.loop-picture-init
@@ -24,7 +24,7 @@ loop-picture-init g c = (
   refl,
   told_first c.args.run.now (g.T.Watcher.told c.args.watcher.now) c.requires.start,
   no_reads 0 _ _,
-  omega arith,
+  no_fewer _ _,
 )
 
 pub returns-in_err-picture-clause-ends : goal.returns-in_err-picture-clause-ends
@@ -50,7 +50,7 @@ returns-in_err-picture-2-clause-ends g c = λ front line.
     let p = err_from_is_err_and c.from_residual-in_err-picture-2.result c.from_residual-in_err-picture-2.ensures.1 in
     let given : GivesPicture (head_of c.args.source.now).w (head_of c.args.source.now).h c.in-Some.picture (bytes_left g.R.Read.remaining c.loop-picture.source) (bytes_left g.R.Read.remaining c.next_picture.new.self) =
     given_answer (head_of c.args.source.now) (head_of c.loop-picture.source) c.in_ok-picture.field-0 c.in-Some.picture
-    (bytes_left g.R.Read.remaining c.loop-picture.source) (bytes_left g.R.Read.remaining c.next_picture.new.self) inv.5 c.in-Some.is (c.in_ok-picture.ensures.answer inv.6 (λ e. cc)) in
+    (bytes_left g.R.Read.remaining c.loop-picture.source) (bytes_left g.R.Read.remaining c.next_picture.new.self) inv.5 c.in-Some.is (c.in_ok-picture.ensures.answer inv.6 ok_is_no_error) in
     let is = is_picture (head_of c.args.source.now).w (head_of c.args.source.now).h c.in-Some.picture (bytes_left g.R.Read.remaining c.loop-picture.source) (bytes_left g.R.Read.remaining c.next_picture.new.self) given in
     rw (p.1, p.2) (
       inv.0 ++ given.shown.taken,
@@ -68,7 +68,7 @@ loop-picture-preserved g c =
     let inv = c.loop-picture.invariant in
     let given : GivesPicture (head_of c.args.source.now).w (head_of c.args.source.now).h c.in-Some.picture (bytes_left g.R.Read.remaining c.loop-picture.source) (bytes_left g.R.Read.remaining c.next_picture.new.self) =
     given_answer (head_of c.args.source.now) (head_of c.loop-picture.source) c.in_ok-picture.field-0 c.in-Some.picture
-    (bytes_left g.R.Read.remaining c.loop-picture.source) (bytes_left g.R.Read.remaining c.next_picture.new.self) inv.5 c.in-Some.is (c.in_ok-picture.ensures.answer inv.6 (λ e. cc)) in
+    (bytes_left g.R.Read.remaining c.loop-picture.source) (bytes_left g.R.Read.remaining c.next_picture.new.self) inv.5 c.in-Some.is (c.in_ok-picture.ensures.answer inv.6 ok_is_no_error) in
     let f = c.in_ok-picture-2.ensures in (
       inv.0 ++ given.shown.taken,
       inv.1 ++ f.0 ∷ [],
@@ -77,8 +77,8 @@ loop-picture-preserved g c =
           (bytes_left g.R.Read.remaining c.loop-picture.source) (bytes_left g.R.Read.remaining c.next_picture.new.self) inv.3 given f.0 f.1 f.2,
       c.in_ok-picture.ensures.same_reference ∙ inv.4,
       c.in_ok-picture.ensures.head ∙ inv.5,
-      c.in_ok-picture.ensures.progress inv.6 (λ e. cc) ∙ ap progress_after (ap Ok c.in-Some.is),
-      c.in_ok-picture.ensures.quiet inv.6 (λ e. cc) ∙ inv.7,
+      c.in_ok-picture.ensures.progress inv.6 ok_is_no_error ∙ ap progress_after (ap Ok c.in-Some.is),
+      c.in_ok-picture.ensures.quiet inv.6 ok_is_no_error ∙ inv.7,
       told_more (g.T.Watcher.told c.args.watcher.now) (g.T.Watcher.told c.loop-picture.watcher) (g.T.Watcher.told c.encoded.new.self) c.loop-picture.run c.picture-in-Some.new.self f.0 c.frames.result inv.8 f.2 c.frames.ensures c.encoded.ensures,
       reads_then 0 _ _ _ _ _ _ inv.9 (rw c.in-Some.is at c.in_ok-picture.ensures.reads),
       within_next (head_of c.args.source.now) (head_of c.loop-picture.source) _ _ _ c.loop-picture.run c.picture-in-Some.new.self f.0 inv.5 f.2 inv.10 c.in_ok-picture.ensures.within,
@@ -89,9 +89,8 @@ returns-clause-ends g c = λ front line.
     let inv = c.loop-picture.invariant in
     let b : IsBegun front (head_of c.args.source.now) c.args.run.now = record { line = line; first = c.requires.start; allowed = c.requires.allowed; width = c.requires.width; height = c.requires.height } in
     let last : ShowsAtEnd (next_of (head_of c.args.source.now).w (head_of c.args.source.now).h) (Ok None) (bytes_left g.R.Read.remaining c.loop-picture.source) (bytes_left g.R.Read.remaining c.next_picture.new.self) =
-    let none : c.in_ok-picture.field-0 ≡ None = grind (arith, common_steps) in
     end_answer (head_of c.args.source.now) (head_of c.loop-picture.source) c.in_ok-picture.field-0
-    (bytes_left g.R.Read.remaining c.loop-picture.source) (bytes_left g.R.Read.remaining c.next_picture.new.self) inv.5 none (c.in_ok-picture.ensures.answer inv.6 (λ e. cc)) in
+    (bytes_left g.R.Read.remaining c.loop-picture.source) (bytes_left g.R.Read.remaining c.next_picture.new.self) inv.5 c.in_default.is (c.in_ok-picture.ensures.answer inv.6 ok_is_no_error) in
     let now = ended front (head_of c.args.source.now) c.args.run.now c.loop-picture.run inv.0 inv.1 b inv.3 (bytes_left g.R.Read.remaining c.loop-picture.source) (bytes_left g.R.Read.remaining c.next_picture.new.self) last in (
       inv.0 ++ now.0,
       Consumes-trans (bytes_left g.R.Read.remaining c.args.source.now) (bytes_left g.R.Read.remaining c.loop-picture.source) (bytes_left g.R.Read.remaining c.next_picture.new.self) inv.0 now.0 inv.2 now.1,
@@ -108,7 +107,7 @@ returns-in_err-picture-clause-within g c =
     (few_now (head_of c.args.source.now) c.args.run.now c.loop-picture.run inv.0 inv.1 inv.3) inv.5 inv.10 c.in_err-picture.ensures.within
 
 pub returns-in_err-picture-2-clause-reads : goal.returns-in_err-picture-2-clause-reads
-returns-in_err-picture-2-clause-reads g c = reads_then 1 _ _ _ _ _ _ c.loop-picture.invariant.9 (reads_more 0 1 _ _ _ _ (omega arith) (rw c.in-Some.is at c.in_ok-picture.ensures.reads))
+returns-in_err-picture-2-clause-reads g c = reads_then 1 _ _ _ _ _ _ c.loop-picture.invariant.9 (reads_more 0 1 _ _ _ _ none_at_most (rw c.in-Some.is at c.in_ok-picture.ensures.reads))
 
 pub returns-in_err-picture-2-clause-within : goal.returns-in_err-picture-2-clause-within
 returns-in_err-picture-2-clause-within g c =
@@ -124,3 +123,19 @@ returns-clause-within g c =
     let inv = c.loop-picture.invariant in
     within_more (length c.loop-picture.run.packets) c.args.run.now.limits.packets (head_of c.args.source.now) (head_of c.loop-picture.source) _ _ _
     (few_now (head_of c.args.source.now) c.args.run.now c.loop-picture.run inv.0 inv.1 inv.3) inv.5 inv.10 c.in_ok-picture.ensures.within
+
+pub picture-requires-clause-width : goal.picture-requires-clause-width
+picture-requires-clause-width g c =
+    let inv = c.loop-picture.invariant in
+    let given : GivesPicture (head_of c.args.source.now).w (head_of c.args.source.now).h c.in-Some.picture (bytes_left g.R.Read.remaining c.loop-picture.source) (bytes_left g.R.Read.remaining c.next_picture.new.self) =
+    given_answer (head_of c.args.source.now) (head_of c.loop-picture.source) c.in_ok-picture.field-0 c.in-Some.picture
+    (bytes_left g.R.Read.remaining c.loop-picture.source) (bytes_left g.R.Read.remaining c.next_picture.new.self) inv.5 c.in-Some.is (c.in_ok-picture.ensures.answer inv.6 ok_is_no_error) in
+    given.width ∙ sym c.requires.width ∙ sym (ap (λ (d : Dim). d.w) inv.3.dim)
+
+pub picture-requires-clause-height : goal.picture-requires-clause-height
+picture-requires-clause-height g c =
+    let inv = c.loop-picture.invariant in
+    let given : GivesPicture (head_of c.args.source.now).w (head_of c.args.source.now).h c.in-Some.picture (bytes_left g.R.Read.remaining c.loop-picture.source) (bytes_left g.R.Read.remaining c.next_picture.new.self) =
+    given_answer (head_of c.args.source.now) (head_of c.loop-picture.source) c.in_ok-picture.field-0 c.in-Some.picture
+    (bytes_left g.R.Read.remaining c.loop-picture.source) (bytes_left g.R.Read.remaining c.next_picture.new.self) inv.5 c.in-Some.is (c.in_ok-picture.ensures.answer inv.6 ok_is_no_error) in
+    given.height ∙ sym c.requires.height ∙ sym (ap (λ (d : Dim). d.h) inv.3.dim)
