@@ -108,10 +108,17 @@ first_text : (form : Form) (k : Option IvfHead) → text form k [] ≡ []
 first_text I420 k = refl
 first_text Y4m k = refl
 
-pub at_first : (limits : Limits) (form : Form) (now : Option (List ℕ)) → IsAt limits form (start limits) (fresh limits form) now now [] []
-at_first limits form now =
+pub at_first : (file : Incoming) (run : Progress) (now : Option (List ℕ)) → file ≡ start run.limits → run ≡ fresh run.limits run.sizing.form
+    → IsAt run.limits run.sizing.form file run now now [] []
+at_first file run now unread unrun =
     let P : List ℕ → Type 0 = λ xs. Appends now now xs in
-    record { reading = at_start limits; progress = refl; sizing = first_sizing form; sizes = first_sizes form; writes = subst P (sym (first_text form (reading_of limits []).head)) (appends_none now) }
+    record {
+      reading = subst (λ (s : Incoming). IsReading run.limits s [] []) (sym unread) (at_start run.limits);
+      progress = unrun;
+      sizing = ap (λ (r : Progress). r.sizing) unrun ∙ first_sizing run.sizing.form;
+      sizes = first_sizes run.sizing.form;
+      writes = subst P (sym (first_text run.sizing.form (reading_of run.limits []).head)) (appends_none now);
+    }
 
 nothing_in : (xs ys : List ℕ) → xs ++ ys ≡ [] → xs ≡ []
 nothing_in [] ys e = refl

@@ -9,7 +9,6 @@ use Rattle.vp_stream.specs.Incoming.{Incoming, HasRead, CountsReads, Took, start
 use Rattle.vp_stream.specs.declared.fault.DecodeFault.{DecodeFault}
 use Rattle.vp_stream.specs.declared.fault.DecodeFault.TheVariants as ended
 use Rattle.vp_stream.specs.declared.outcomes.Survey.{Survey}
-use Rattle.vp_stream.specs.declared.report.Report.{Report}
 use Rattle.vp_stream.specs.Progress.{read_fault_by}
 use Rattle.vp_stream.proofs.IncomingLemmas.{took_some}
 
@@ -51,7 +50,7 @@ survey_ran_out Memory s before now h e = cc
 survey_ran_out ReadTurns s before now h e = h
 
 pub decode_ran_out : (f : SurveyFault) (s : Incoming) (before now : ℕ) → CountsReads (Err f) s before now
-    → let r : Result Report DecodeFault = Err (read_fault_by f) in r ≡ Err ended.ReadTurns → HasRisenBy (2 ^ 32 - 1) before now
+    → let r : Result (Unit {0}) DecodeFault = Err (read_fault_by f) in r ≡ Err ended.ReadTurns → HasRisenBy (2 ^ 32 - 1) before now
 decode_ran_out Device s before now h e = cc
 decode_ran_out Memory s before now h e = cc
 decode_ran_out ReadTurns s before now h e = h

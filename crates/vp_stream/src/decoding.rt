@@ -1,10 +1,13 @@
 //! Decoding a whole file.
 
 ghost use Rattle.std.specs.Prelude.{◌≡◌, ◌≢◌, ◌⊎◌, ◌≤◌, ◌+◌, ◌-◌, ◌^◌, ℕ, List, OnOk, Err};
+ghost use Rattle.std.specs.Result.{result_map_both};
 ghost use Rattle.std.specs.Io.KnownBytes.{Consumes, IsAtEnd};
 ghost use Rattle.vp_base.specs.Counted.{counted_remaining, counted_contents, counted_failures, counted_reads, HasFailed, HasRisenBy};
 ghost use Rattle.vp_ivf.specs.declared.fault.FileFault.{FileFault};
 ghost use Rattle.vp_stream.specs.declared.fault.DecodeFault.{DecodeFault};
+ghost use Rattle.vp_stream.specs.Incoming.{start};
+ghost use Rattle.vp_stream.specs.Progress.{fresh};
 ghost use Rattle.vp_stream.specs.Written.{IsAnswerFor};
 
 use crate::fault::DecodeFault;
@@ -51,10 +54,41 @@ pub fn decode_all<R: Read, W: Write>(
 {
     let mut file = PacketReader::new(alloc, limits);
     let mut run = Run::new(alloc, limits, form);
+    decode_packets(&mut file, &mut run, reader, writer)?;
+    Ok(run.into_report())
+}
+
+// Decodes and writes the packets of a file that nothing was read of yet.
+fn decode_packets<R: Read, W: Write>(
+    file: &mut PacketReader,
+    run: &mut Run,
+    reader: &mut Counted<R>,
+    writer: &mut Counted<W>,
+) -> Result<(), DecodeFault>
+    requires unread { file.old ≡ start run.old.limits }
+    requires fresh { run.old ≡ fresh run.old.limits run.old.sizing.form }
+    ensures decoded { (bytes : List ℕ)
+        × Consumes (counted_remaining R.remaining reader.old) (counted_remaining R.remaining reader.new) bytes
+        × IsAnswerFor run.old.limits run.old.sizing.form (result_map_both (λ _. run.new.report) (λ fault. fault) result)
+        (HasFailed (counted_failures writer.old) (counted_failures writer.new)) bytes
+        (counted_contents W.contents writer.old) (counted_contents W.contents writer.new) }
+    ensures end { OnOk result (IsAtEnd (counted_remaining R.remaining reader.new)) }
+    ensures torn { result ≡ Err (DecodeFault.File FileFault.Torn) →
+        IsAtEnd (counted_remaining R.remaining reader.new) }
+    ensures device { result ≡ Err DecodeFault.Device →
+        HasFailed (counted_failures reader.old) (counted_failures reader.new)
+        ⊎ HasFailed (counted_failures writer.old) (counted_failures writer.new) }
+    ensures quiet { result ≢ Err DecodeFault.Device →
+        (counted_failures reader.new ≡ counted_failures reader.old)
+        × (counted_failures writer.new ≡ counted_failures writer.old) }
+    ensures reads { counted_reads reader.new ≤ counted_reads reader.old + (2 ^ 32 - 1) }
+    ensures turns { result ≡ Err DecodeFault.ReadTurns →
+        HasRisenBy (2 ^ 32 - 1) (counted_reads reader.old) (counted_reads reader.new) }
+{
     'packets: loop {
         match file.next(reader)? {
             Next::Packet(head, packet) => run.packet(head, packet.bytes.as_slice(), writer)?,
-            Next::End(None) => return Ok(run.into_report()),
+            Next::End(None) => return Ok(()),
             Next::End(Some(fault)) => return Err(DecodeFault::File(fault)),
         }
     }

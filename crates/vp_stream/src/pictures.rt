@@ -3,10 +3,11 @@
 ghost use Rattle.std.specs.Prelude.{◌≡◌, ◌≢◌, ◌++◌, true, false, OnOk, IfOk, Err, Some, length};
 ghost use Rattle.std.specs.Io.KnownBytes.{Appends};
 ghost use Rattle.vp_base.specs.Counted.{counted_contents, counted_failures, HasFailed, AppendsFront};
+ghost use Rattle.vp_base.specs.Image.{i420};
 ghost use Rattle.vp_stream.specs.declared.fault.Interruption.{Interruption};
 ghost use Rattle.vp_y4m.specs.Text.{picture_text, i420_length};
 ghost use Rattle.vp_stream.specs.declared.form.Form.{Form};
-ghost use Rattle.vp_stream.specs.Progress.{unsized, with_picture, fits, one_text, first_size, has_size, line_before, text_if};
+ghost use Rattle.vp_stream.specs.Progress.{unsized, with_picture, with_shown, fits, fits_shown, one_text, shown_text, first_size, has_size, line_before, text_if};
 
 use crate::fault::Interruption;
 use crate::form::Form;
@@ -14,6 +15,7 @@ use std::alloc::Global;
 use std::io::Write;
 use std::marker::Model;
 use vp_base::{Counted, Dim, Picture, put_all};
+use vp_decode::Decoder;
 use vp_ivf::IvfHead;
 use vp_y4m::{write_header, write_picture};
 
@@ -46,8 +48,33 @@ impl Pictures {
         }
     }
 
-    /// Writes a picture of a file with this head.
-    pub(crate) fn write<W: Write>(
+    /// Writes the picture that a decoder shows, where it shows one, of a file with this head.
+    pub(crate) fn write_shown<W: Write>(
+        &mut self,
+        head: IvfHead,
+        decoder: &Decoder,
+        writer: &mut Counted<W>,
+    ) -> Result<(), Interruption>
+        ensures ok { OnOk result (self.new ≡ with_shown self.old decoder.now.shown) }
+        ensures fits { OnOk result (fits_shown self.old decoder.now.shown ≡ true) }
+        ensures change { result ≡ Err Interruption.SizeChange → fits_shown self.old decoder.now.shown ≡ false }
+        ensures written { OnOk result (Appends (counted_contents W.contents writer.old)
+            (counted_contents W.contents writer.new) (shown_text self.old head decoder.now.shown)) }
+        ensures prefix { AppendsFront (counted_contents W.contents writer.old)
+            (counted_contents W.contents writer.new) (shown_text self.old head decoder.now.shown) }
+        ensures device { result ≡ Err Interruption.Device →
+            HasFailed (counted_failures writer.old) (counted_failures writer.new) }
+        ensures quiet { result ≢ Err Interruption.Device →
+            counted_failures writer.new ≡ counted_failures writer.old }
+    {
+        match decoder.picture() {
+            Some(picture) => self.write(head, picture, writer),
+            None => Ok(()),
+        }
+    }
+
+    // Writes a picture.
+    fn write<W: Write>(
         &mut self,
         head: IvfHead,
         picture: &Picture,
@@ -66,11 +93,34 @@ impl Pictures {
             counted_failures writer.new ≡ counted_failures writer.old }
     {
         let text = picture.crop_i420(self.alloc)?;
+        self.write_text(head, picture, &text, writer)
+    }
+
+    // Writes a picture by its I420.
+    fn write_text<W: Write>(
+        &mut self,
+        head: IvfHead,
+        picture: &Picture,
+        text: &[u8],
+        writer: &mut Counted<W>,
+    ) -> Result<(), Interruption>
+        requires { text.now ≡ i420 picture.now }
+        ensures ok { OnOk result (self.new ≡ with_picture self.old picture.now) }
+        ensures fits { OnOk result (fits self.old picture.now ≡ true) }
+        ensures change { result ≡ Err Interruption.SizeChange → fits self.old picture.now ≡ false }
+        ensures written { OnOk result (Appends (counted_contents W.contents writer.old)
+            (counted_contents W.contents writer.new) (one_text self.old head picture.now)) }
+        ensures prefix { AppendsFront (counted_contents W.contents writer.old)
+            (counted_contents W.contents writer.new) (one_text self.old head picture.now) }
+        ensures device { result ≡ Err Interruption.Device →
+            HasFailed (counted_failures writer.old) (counted_failures writer.new) }
+        ensures quiet { result ≢ Err Interruption.Device →
+            counted_failures writer.new ≡ counted_failures writer.old }
+    {
         match self.form {
-            Form::I420 => put_all(writer, &text)?,
-            Form::Y4m => self.write_y4m(head, picture.dim(), &text, writer)?,
+            Form::I420 => Ok(put_all(writer, text)?),
+            Form::Y4m => self.write_y4m(head, picture.dim(), text, writer),
         }
-        Ok(())
     }
 
     // Writes a picture behind its line, and before the first picture the file's line.

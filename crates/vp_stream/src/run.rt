@@ -70,9 +70,7 @@ impl Run {
             counted_failures writer.new ≡ counted_failures writer.old }
     {
         let outcome = self.decoder.decode(packet)?;
-        if let Some(picture) = self.decoder.picture() {
-            self.pictures.write(head, picture, writer)?;
-        }
+        self.pictures.write_shown(head, &self.decoder, writer)?;
         self.report.count(outcome)?;
         Ok(())
     }

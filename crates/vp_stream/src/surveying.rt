@@ -1,16 +1,17 @@
 //! Going through a whole file.
 
-ghost use Rattle.std.specs.Prelude.{◌≡◌, ◌≢◌, ◌≤◌, ◌+◌, ◌-◌, ◌^◌, ℕ, List, None, Some, IfOk, Err};
+ghost use Rattle.std.specs.Prelude.{◌≡◌, ◌≢◌, ◌≤◌, ◌+◌, ◌-◌, ◌^◌, ◌++◌, ◌∷◌, ℕ, List, [], length, None, Some, OnOk, IfOk, Err};
 ghost use Rattle.std.specs.Io.KnownBytes.{Consumes, IsAtEnd};
 ghost use Rattle.vp_base.specs.Counted.{counted_remaining, counted_failures, counted_reads, HasFailed, HasRisenBy};
 ghost use Rattle.vp_ivf.specs.declared.fault.FileFault.{FileFault};
+ghost use Rattle.vp_decode.specs.Step.{step, after, outcome};
 ghost use Rattle.vp_stream.specs.declared.fault.SurveyFault.{SurveyFault};
 ghost use Rattle.vp_stream.specs.Written.{IsSurveyFor};
 
 use crate::fault::SurveyFault;
 use crate::outcomes::{OutcomeList, Survey};
 use crate::packet_reader::{Next, PacketReader};
-use std::alloc::Global;
+use std::alloc::{AllocError, Global};
 use std::io::Read;
 use vp_base::{Counted, Limits};
 use vp_decode::Decoder;
@@ -48,8 +49,7 @@ pub fn survey<R: Read>(
     'packets: loop {
         match file.next(reader)? {
             Next::Packet(_, packet) => {
-                let outcome = decoder.decode(packet.bytes.as_slice())?;
-                packets.push(packet.bytes.len(), outcome)?;
+                tell(packet.bytes.as_slice(), &mut decoder, &mut packets)?;
             }
             Next::End(fault) => {
                 return Ok(Survey {
@@ -60,4 +60,16 @@ pub fn survey<R: Read>(
             }
         }
     }
+}
+
+// Decodes a packet, and tells what came of it.
+fn tell(packet: &[u8], decoder: &mut Decoder, packets: &mut OutcomeList) -> Result<(), AllocError>
+    ensures decoder { OnOk result (decoder.new
+        ≡ after decoder.old (step decoder.old.limits decoder.old.state packet.now)) }
+    ensures packets { OnOk result (packets.new ≡ packets.old
+        ++ (length packet.now, outcome (step decoder.old.limits decoder.old.state packet.now).1) ∷ []) }
+{
+    let outcome = decoder.decode(packet)?;
+    packets.push(packet.len(), outcome)?;
+    Ok(())
 }

@@ -1,7 +1,8 @@
-use Rattle.std.proofs.Common.{◌∙◌, ◌++◌, ◌∷◌, [], Ok, subst}
+use Rattle.std.proofs.Common.{◌∙◌, ◌++◌, ◌∷◌, [], Ok, length, refl, subst}
 use Rattle.std.proofs.lemmas.Result.{err_from_is_err_and}
 use Rattle.std.proofs.KnownBytes.{Consumes-trans}
 use Rattle.vp_base.specs.Counted.{counted_remaining, counted_reads}
+use Rattle.vp_decode.specs.Step.{step, outcome}
 use Rattle.vp_stream.specs.declared.packet_reader.Next.{Next}
 use Rattle.vp_stream.specs.Incoming.{Gives, CountsReads}
 use Rattle.vp_stream.proofs.SurveyLemmas.{surveyed, room, told_on, fewer_told}
@@ -25,22 +26,11 @@ returns-in_err-packet-clause-turns g c =
     let p = err_from_is_err_and c.from_residual.result c.from_residual.ensures.1 in
     rw (p.1, p.2) (survey_ran_out c.in_err-packet.field-0.0 c.next.new.self (counted_reads c.args.reader.now) (counted_reads c.next.new.reader) reads)
 
-pub returns-in_err-outcome-in-Packet-clause-surveyed : goal.returns-in_err-outcome-in-Packet-clause-surveyed
-returns-in_err-outcome-in-Packet-clause-surveyed g c =
+pub returns-in_err-tell-in-Packet-clause-surveyed : goal.returns-in_err-tell-in-Packet-clause-surveyed
+returns-in_err-tell-in-Packet-clause-surveyed g c =
     let inv = c.packets.invariant in
     let now = c.in_ok-packet.ensures.given c.args.limits inv.0 inv.1 inv.3.reading in
-    let p = err_from_is_err_and c.from_residual-in_err-outcome-in-Packet.result c.from_residual-in_err-outcome-in-Packet.ensures.1 in
-    rw (p.1, p.2) (
-      inv.0 ++ now.0,
-      Consumes-trans (counted_remaining g.R.Read.remaining c.args.reader.now) (counted_remaining g.R.Read.remaining c.packets.reader) (counted_remaining g.R.Read.remaining c.next.new.reader) inv.0 now.0 inv.2 now.1,
-      tt,
-    )
-
-pub returns-in_err-push-in-Packet-clause-surveyed : goal.returns-in_err-push-in-Packet-clause-surveyed
-returns-in_err-push-in-Packet-clause-surveyed g c =
-    let inv = c.packets.invariant in
-    let now = c.in_ok-packet.ensures.given c.args.limits inv.0 inv.1 inv.3.reading in
-    let p = err_from_is_err_and c.from_residual-in_err-push-in-Packet.result c.from_residual-in_err-push-in-Packet.ensures.1 in
+    let p = err_from_is_err_and c.from_residual-in_err-tell-in-Packet.result c.from_residual-in_err-tell-in-Packet.ensures.1 in
     rw (p.1, p.2) (
       inv.0 ++ now.0,
       Consumes-trans (counted_remaining g.R.Read.remaining c.args.reader.now) (counted_remaining g.R.Read.remaining c.packets.reader) (counted_remaining g.R.Read.remaining c.next.new.reader) inv.0 now.0 inv.2 now.1,
@@ -52,7 +42,7 @@ packets-smaller g c =
     let inv = c.packets.invariant in
     let now = c.in_ok-packet.ensures.given c.args.limits inv.0 inv.1 inv.3.reading in
     let r = subst (λ (n : Next). Gives c.args.limits (Ok n) c.next.new.self (counted_remaining g.R.Read.remaining c.next.new.reader) (inv.0 ++ now.0) inv.1) c.in-Packet.is now.2 in
-    fewer_told c.args.limits.packets c.packets.packets c.push.new.self (c.len.result, c.in_ok-outcome-in-Packet.outcome) c.in_ok-push-in-Packet.ensures.ok
+    fewer_told c.args.limits.packets c.packets.packets c.tell.new.packets (length c.as_slice.result.now, outcome (step c.packets.decoder.limits c.packets.decoder.state c.as_slice.result.now).1) c.in_ok-tell-in-Packet.ensures.packets
     (room c.args.limits c.packets.file c.packets.decoder c.packets.packets inv.0 now.0 inv.1 inv.3 c.in-Packet.packet c.next.new.self r.0)
 
 pub packets-preserved : goal.packets-preserved
@@ -60,14 +50,13 @@ packets-preserved g c =
     let inv = c.packets.invariant in
     let now = c.in_ok-packet.ensures.given c.args.limits inv.0 inv.1 inv.3.reading in
     let r = subst (λ (n : Next). Gives c.args.limits (Ok n) c.next.new.self (counted_remaining g.R.Read.remaining c.next.new.reader) (inv.0 ++ now.0) inv.1) c.in-Packet.is now.2 in
-    let after = rw c.as_slice.ensures at c.in_ok-outcome-in-Packet.ensures.after in
-    let outcome = rw c.as_slice.ensures at c.in_ok-outcome-in-Packet.ensures.outcome in
-    let pushed = rw c.len.ensures at c.in_ok-push-in-Packet.ensures.ok in (
+    let after = rw c.as_slice.ensures at c.in_ok-tell-in-Packet.ensures.decoder in
+    let told = rw c.as_slice.ensures at c.in_ok-tell-in-Packet.ensures.packets in (
       inv.0 ++ now.0,
       inv.1 ++ c.in-Packet.packet ∷ [],
       Consumes-trans (counted_remaining g.R.Read.remaining c.args.reader.now) (counted_remaining g.R.Read.remaining c.packets.reader) (counted_remaining g.R.Read.remaining c.next.new.reader) inv.0 now.0 inv.2 now.1,
       told_on c.args.limits c.packets.file c.packets.decoder c.packets.packets inv.0 now.0 inv.1 inv.3 c.in-Packet.packet c.next.new.self r.0
-          c.decode.new.self c.in_ok-outcome-in-Packet.outcome c.push.new.self after outcome pushed,
+          c.tell.new.decoder (outcome (step c.packets.decoder.limits c.packets.decoder.state c.in-Packet.packet.bytes).1) c.tell.new.packets after refl told,
       c.in_ok-packet.ensures.quiet (λ e. cc) ∙ inv.4,
       subst (λ (n : Next). CountsReads (Ok n) c.next.new.self (counted_reads c.args.reader.now) (counted_reads c.next.new.reader)) c.in-Packet.is
           (c.in_ok-packet.ensures.reads (counted_reads c.args.reader.now) inv.5),
@@ -86,11 +75,8 @@ returns-in-End-clause-surveyed g c =
 pub returns-in_err-packet-clause-reads : goal.returns-in_err-packet-clause-reads
 returns-in_err-packet-clause-reads g c = c.in_err-packet.ensures.most (counted_reads c.args.reader.now) c.packets.invariant.5
 
-pub returns-in_err-outcome-in-Packet-clause-reads : goal.returns-in_err-outcome-in-Packet-clause-reads
-returns-in_err-outcome-in-Packet-clause-reads g c = c.in_ok-packet.ensures.most (counted_reads c.args.reader.now) c.packets.invariant.5
-
-pub returns-in_err-push-in-Packet-clause-reads : goal.returns-in_err-push-in-Packet-clause-reads
-returns-in_err-push-in-Packet-clause-reads g c = c.in_ok-packet.ensures.most (counted_reads c.args.reader.now) c.packets.invariant.5
+pub returns-in_err-tell-in-Packet-clause-reads : goal.returns-in_err-tell-in-Packet-clause-reads
+returns-in_err-tell-in-Packet-clause-reads g c = c.in_ok-packet.ensures.most (counted_reads c.args.reader.now) c.packets.invariant.5
 
 pub returns-in-End-clause-reads : goal.returns-in-End-clause-reads
 returns-in-End-clause-reads g c = c.in_ok-packet.ensures.most (counted_reads c.args.reader.now) c.packets.invariant.5
