@@ -13,9 +13,11 @@ use vp_hub::{Event, Hub};
 /// What asks for the picture of packet 0, and closes.
 const ASKS: &[u8] = b"GET /s/a/frame/0 HTTP/1.1\r\nHost: x\r\nConnection: close\r\n\r\n";
 
-/// A hub of one stream with a key packet.
+/// A hub of one stream with a key packet, where no connection of the numbers 0 to 2 stands.
 fn hub_of_one(alloc: Global) -> Option<Hub> {
-    hub_of(alloc, &[b"a"], &[&HEAD, &KEY], 16)
+    let mut hub = hub_of(alloc, &[b"a"], &[&HEAD, &KEY], 16)?;
+    let _ = hub.step(&Event::Shut(1));
+    Some(hub)
 }
 
 /// A connection on which this was sent, and nothing behind it.
