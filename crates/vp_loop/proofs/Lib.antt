@@ -11,5 +11,7 @@ pub mod PlaneLaws
 pub mod LaneLines
 pub mod Turned
 pub mod Loads
+pub mod RowReads
+pub mod RowWrites
 pub mod WriteLemmas
 pub mod KeptLemmas

@@ -1,5 +1,5 @@
 -- Inside the crate: sixteen lines side by side, as the lanes hold them.
-use Rattle.std.specs.Prelude.{ℕ, ◌≡◌, ◌<◌, ◌-◌, List, [], ◌∷◌, slice_index}
+use Rattle.std.specs.Prelude.{ℕ, ◌≡◌, ◌<◌, ◌+◌, ◌*◌, ◌-◌, List, [], ◌∷◌, slice_index}
 use Rattle.vp_loop.specs.declared.lines.Line.{Line}
 use Rattle.vp_loop.specs.declared.lines.LineStep.{LineStep}
 use Rattle.vp_loop.specs.declared.lanes.Lines.{Lines}
@@ -41,3 +41,16 @@ KeepsEnds n step =
 -- the four pixels at the edge
 abbrev pub middle_of : Line → List ℕ
 middle_of l = l.p1 ∷ l.p0 ∷ l.q0 ∷ l.q1 ∷ []
+
+-- the line down a list of numbers in rows of so many, from place i on
+abbrev pub line_down : List ℕ → ℕ → ℕ → Line
+line_down ps i stride = record {
+  p3 = slice_index ps i;
+  p2 = slice_index ps (i + stride);
+  p1 = slice_index ps (i + 2 * stride);
+  p0 = slice_index ps (i + 3 * stride);
+  q0 = slice_index ps (i + 4 * stride);
+  q1 = slice_index ps (i + 5 * stride);
+  q2 = slice_index ps (i + 6 * stride);
+  q3 = slice_index ps (i + 7 * stride);
+}

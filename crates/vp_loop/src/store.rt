@@ -1,58 +1,58 @@
 //! Lanes written to a plane.
 
-ghost use Rattle.std.specs.Prelude.{◌≡◌, ℕ, ◌+◌, ◌<◌, ◌≤◌, List, [], length, slice_index, slice_index_or};
+ghost use Rattle.std.specs.Prelude.{◌≡◌, ℕ, ◌+◌, ◌*◌, ◌<◌, ◌≤◌, List, [], length, slice_index, slice_index_or};
 ghost use Rattle.std.specs.Simd.Lanes.{put_chunk};
-ghost use Rattle.vp_base.specs.Raster.{with_run};
+ghost use Rattle.vp_base.specs.Raster.{Raster, place};
 ghost use Rattle.vp_base.specs.Image.{Image, plane_of, with_plane};
-ghost use Rattle.vp_base.specs.Block.{with_block};
+ghost use Rattle.vp_base.specs.Block.{with_block, written, IsWhole};
 ghost use Rattle.vp_loop.specs.Edges.{on_plane};
 
 use std::simd::prelude::*;
 use vp_base::Picture;
 use vp_lanes::{store8, store16};
 
-/// Writes sixteen pixels from column `x` of row `y` on.
-fn write16(picture: &mut Picture, k: usize, x: usize, y: usize, v: u8x16)
-    requires plane { k < 3 }
-    requires columns { x + 16 ≤ (plane_of picture.old k).width }
-    requires row { y < (plane_of picture.old k).height }
-    ensures value { picture.new ≡ with_plane picture.old k (with_run (plane_of picture.old k) x y v) }
+/// Writes sixteen bytes from `at` on.
+fn put16(s: &mut [u8], at: usize, v: u8x16)
+    requires { at + 16 ≤ length s.old }
+    ensures value { s.new ≡ put_chunk at s.old v }
     ensures long { length v ≡ 16 }
 {
-    let _width = picture.plane(k).width();
-    store16(picture.row_mut(k, y), x, v);
+    store16(s, at, v);
 }
 
-/// Writes eight pixels from column `x` of row `y` on.
-fn write8(picture: &mut Picture, k: usize, x: usize, y: usize, v: u8x8)
-    requires plane { k < 3 }
-    requires columns { x + 8 ≤ (plane_of picture.old k).width }
-    requires row { y < (plane_of picture.old k).height }
-    ensures value { picture.new ≡ with_plane picture.old k (with_run (plane_of picture.old k) x y v) }
+/// Writes eight bytes from `at` on.
+fn put8(s: &mut [u8], at: usize, v: u8x8)
+    requires { at + 8 ≤ length s.old }
+    ensures value { s.new ≡ put_chunk at s.old v }
     ensures long { length v ≡ 8 }
 {
-    let _width = picture.plane(k).width();
-    store8(picture.row_mut(k, y), x, v);
+    store8(s, at, v);
 }
 
 /// Writes four bytes from `at` on.
-fn store4(s: &mut [u8], at: usize, v: u8x4)
+fn put4(s: &mut [u8], at: usize, v: u8x4)
     requires { at + 4 ≤ length s.old }
-    ensures { s.new ≡ put_chunk at s.old v }
+    ensures value { s.new ≡ put_chunk at s.old v }
+    ensures long { length v ≡ 4 }
 {
     v.copy_to_slice(&mut s[at..]);
 }
 
-/// Writes four pixels from column `x` of row `y` on.
-fn write4(picture: &mut Picture, k: usize, x: usize, y: usize, v: u8x4)
-    requires plane { k < 3 }
-    requires columns { x + 4 ≤ (plane_of picture.old k).width }
-    requires row { y < (plane_of picture.old k).height }
-    ensures value { picture.new ≡ with_plane picture.old k (with_run (plane_of picture.old k) x y v) }
-    ensures long { length v ≡ 4 }
+/// Writes 16 numbers a row, the first row from `at` on; rows are `stride` apart.
+#[inline(always)]
+fn put_rows16(pixels: &mut [u8], at: usize, stride: usize, rows: &[u8x16])
+    requires room { (r : ℕ) → r < length rows.now → at + r * stride + 16 ≤ length pixels.old }
+    requires end { at + length rows.now * stride ≤ 300000000 }
+    ensures value { (p : Raster) (x y : ℕ) → IsWhole p → p.pixels ≡ pixels.old → p.width ≡ stride → at ≡ place p x y
+        → x + 16 ≤ p.width → y + length rows.now ≤ p.height
+        → pixels.new ≡ written p x y 16 (length rows.now) (λ r c. slice_index (slice_index_or rows.now r []) c) }
+    ensures len { length pixels.new ≡ length pixels.old }
 {
-    let _width = picture.plane(k).width();
-    store4(picture.row_mut(k, y), x, v);
+    let mut next = at;
+    for r in 0..rows.len() {
+        put16(pixels, next, rows[r]);
+        next += stride;
+    }
 }
 
 /// Writes rows of sixteen pixels from column `x` of row `y` on.
@@ -64,8 +64,24 @@ pub(crate) fn write_rows16(picture: &mut Picture, k: usize, x: usize, y: usize, 
     ensures { picture.new ≡ on_plane k (λ p. with_block p x y 16 (length rows.now) (λ r c. slice_index (slice_index_or rows.now r []) c)) picture.old }
 {
     let _height = picture.plane(k).height();
+    let stride = picture.plane(k).width();
+    put_rows16(picture.pixels_mut(k), y * stride + x, stride, rows);
+}
+
+/// Writes 8 numbers a row, the first row from `at` on; rows are `stride` apart.
+#[inline(always)]
+fn put_rows8(pixels: &mut [u8], at: usize, stride: usize, rows: &[u8x8])
+    requires room { (r : ℕ) → r < length rows.now → at + r * stride + 8 ≤ length pixels.old }
+    requires end { at + length rows.now * stride ≤ 300000000 }
+    ensures value { (p : Raster) (x y : ℕ) → IsWhole p → p.pixels ≡ pixels.old → p.width ≡ stride → at ≡ place p x y
+        → x + 8 ≤ p.width → y + length rows.now ≤ p.height
+        → pixels.new ≡ written p x y 8 (length rows.now) (λ r c. slice_index (slice_index_or rows.now r []) c) }
+    ensures len { length pixels.new ≡ length pixels.old }
+{
+    let mut next = at;
     for r in 0..rows.len() {
-        write16(picture, k, x, y + r, rows[r]);
+        put8(pixels, next, rows[r]);
+        next += stride;
     }
 }
 
@@ -78,8 +94,24 @@ pub(crate) fn write_rows8(picture: &mut Picture, k: usize, x: usize, y: usize, r
     ensures { picture.new ≡ on_plane k (λ p. with_block p x y 8 (length rows.now) (λ r c. slice_index (slice_index_or rows.now r []) c)) picture.old }
 {
     let _height = picture.plane(k).height();
+    let stride = picture.plane(k).width();
+    put_rows8(picture.pixels_mut(k), y * stride + x, stride, rows);
+}
+
+/// Writes 4 numbers a row, the first row from `at` on; rows are `stride` apart.
+#[inline(always)]
+fn put_rows4(pixels: &mut [u8], at: usize, stride: usize, rows: &[u8x4])
+    requires room { (r : ℕ) → r < length rows.now → at + r * stride + 4 ≤ length pixels.old }
+    requires end { at + length rows.now * stride ≤ 300000000 }
+    ensures value { (p : Raster) (x y : ℕ) → IsWhole p → p.pixels ≡ pixels.old → p.width ≡ stride → at ≡ place p x y
+        → x + 4 ≤ p.width → y + length rows.now ≤ p.height
+        → pixels.new ≡ written p x y 4 (length rows.now) (λ r c. slice_index (slice_index_or rows.now r []) c) }
+    ensures len { length pixels.new ≡ length pixels.old }
+{
+    let mut next = at;
     for r in 0..rows.len() {
-        write8(picture, k, x, y + r, rows[r]);
+        put4(pixels, next, rows[r]);
+        next += stride;
     }
 }
 
@@ -92,7 +124,6 @@ pub(crate) fn write_rows4(picture: &mut Picture, k: usize, x: usize, y: usize, r
     ensures { picture.new ≡ on_plane k (λ p. with_block p x y 4 (length rows.now) (λ r c. slice_index (slice_index_or rows.now r []) c)) picture.old }
 {
     let _height = picture.plane(k).height();
-    for r in 0..rows.len() {
-        write4(picture, k, x, y + r, rows[r]);
-    }
+    let stride = picture.plane(k).width();
+    put_rows4(picture.pixels_mut(k), y * stride + x, stride, rows);
 }

@@ -1,9 +1,9 @@
 //! Sixteen lines along rows, turned into lanes and back, and lines down columns.
 
-ghost use Rattle.std.specs.Prelude.{◌≡◌, ℕ, ◌+◌, ◌-◌, ◌≤◌, ◌<◌, List, [], ◌∷◌, length, slice_index, slice_index_or};
-ghost use Rattle.vp_base.specs.Raster.{pixel};
+ghost use Rattle.std.specs.Prelude.{◌≡◌, ℕ, ◌+◌, ◌*◌, ◌-◌, ◌≤◌, ◌<◌, List, [], ◌∷◌, length, slice_index, slice_index_or};
+ghost use Rattle.std.specs.Simd.Lanes.{chunk};
 ghost use Rattle.vp_loop.specs.Edges.{along, down, line_at, pixel_at};
-ghost use Rattle.vp_loop.specs.Lanes.{line_of, line_in};
+ghost use Rattle.vp_loop.specs.Lanes.{line_of, line_in, line_down};
 
 use crate::lanes::Lines;
 use std::simd::prelude::*;
@@ -186,60 +186,176 @@ pub(crate) fn second_halves(l: Lines) -> [u8x8; 8]
     ]
 }
 
-/// Sixteen pixels of row `y` from column `x` on.
-fn sixteen(plane: &Plane, x: usize, y: usize) -> u8x16
-    requires columns { x + 16 ≤ plane.now.width }
-    requires row { y < plane.now.height }
-    ensures { (c : ℕ) → c < 16 → slice_index result c ≡ pixel plane.now (x + c) y }
+/// Eight pixels of one plane from `u_at` on, and behind them eight of the other from `v_at` on.
+#[inline(always)]
+fn eight_of_both(u: &[u8], u_at: usize, v: &[u8], v_at: usize) -> u8x16
+    requires u_room { u_at + 8 ≤ length u.now }
+    requires v_room { v_at + 8 ≤ length v.now }
+    ensures first { (c : ℕ) → c < 8 → slice_index result c ≡ slice_index u.now (u_at + c) }
+    ensures second { (c : ℕ) → c < 8 → slice_index result (8 + c) ≡ slice_index v.now (v_at + c) }
 {
-    load16(plane.row(y), x)
-}
-
-/// Eight pixels of row `y` from column `x` on.
-fn eight(plane: &Plane, x: usize, y: usize) -> u8x8
-    requires columns { x + 8 ≤ plane.now.width }
-    requires row { y < plane.now.height }
-    ensures pixels { (c : ℕ) → c < 8 → slice_index result c ≡ pixel plane.now (x + c) y }
-    ensures line { line_in result ≡ line_at along plane.now x y }
-{
-    load8(plane.row(y), x)
-}
-
-/// Eight pixels of one plane, and behind them eight of the other.
-fn eight_of_both(u: &Plane, v: &Plane, x: usize, y: usize) -> u8x16
-    requires u_columns { x + 8 ≤ u.now.width }
-    requires u_row { y < u.now.height }
-    requires v_columns { x + 8 ≤ v.now.width }
-    requires v_row { y < v.now.height }
-    ensures first { (c : ℕ) → c < 8 → slice_index result c ≡ pixel u.now (x + c) y }
-    ensures second { (c : ℕ) → c < 8 → slice_index result (8 + c) ≡ pixel v.now (x + c) y }
-{
-    eight(u, x, y).shuffle::<16>(
-        eight(v, x, y),
+    load8(u, u_at).shuffle::<16>(
+        load8(v, v_at),
         [0, 1, 2, 3, 4, 5, 6, 7, 8, 9, 10, 11, 12, 13, 14, 15],
     )
 }
 
+/// Sixteen lines down, the first from `at` on. Rows are `stride` apart: each place comes of the one before by one addition.
+#[inline(always)]
+fn rows_down(pixels: &[u8], at: usize, stride: usize) -> Lines
+    requires room { at + 7 * stride + 16 ≤ length pixels.now }
+    ensures { (c : ℕ) → c < 16 → line_of result c ≡ line_down pixels.now (at + c) stride }
+{
+    let a1 = at + stride;
+    let a2 = a1 + stride;
+    let a3 = a2 + stride;
+    let a4 = a3 + stride;
+    let a5 = a4 + stride;
+    let a6 = a5 + stride;
+    let a7 = a6 + stride;
+    Lines {
+        p3: load16(pixels, at),
+        p2: load16(pixels, a1),
+        p1: load16(pixels, a2),
+        p0: load16(pixels, a3),
+        q0: load16(pixels, a4),
+        q1: load16(pixels, a5),
+        q2: load16(pixels, a6),
+        q3: load16(pixels, a7),
+    }
+}
+
+/// Eight lines down one plane, and behind them eight down the other.
+#[inline(always)]
+fn rows_down_both(u: &[u8], u_at: usize, u_stride: usize, v: &[u8], v_at: usize, v_stride: usize) -> Lines
+    requires u_room { u_at + 7 * u_stride + 8 ≤ length u.now }
+    requires v_room { v_at + 7 * v_stride + 8 ≤ length v.now }
+    ensures first { (c : ℕ) → c < 8 → line_of result c ≡ line_down u.now (u_at + c) u_stride }
+    ensures second { (c : ℕ) → c < 8 → line_of result (8 + c) ≡ line_down v.now (v_at + c) v_stride }
+{
+    let u1 = u_at + u_stride;
+    let u2 = u1 + u_stride;
+    let u3 = u2 + u_stride;
+    let u4 = u3 + u_stride;
+    let u5 = u4 + u_stride;
+    let u6 = u5 + u_stride;
+    let u7 = u6 + u_stride;
+    let v1 = v_at + v_stride;
+    let v2 = v1 + v_stride;
+    let v3 = v2 + v_stride;
+    let v4 = v3 + v_stride;
+    let v5 = v4 + v_stride;
+    let v6 = v5 + v_stride;
+    let v7 = v6 + v_stride;
+    Lines {
+        p3: eight_of_both(u, u_at, v, v_at),
+        p2: eight_of_both(u, u1, v, v1),
+        p1: eight_of_both(u, u2, v, v2),
+        p0: eight_of_both(u, u3, v, v3),
+        q0: eight_of_both(u, u4, v, v4),
+        q1: eight_of_both(u, u5, v, v5),
+        q2: eight_of_both(u, u6, v, v6),
+        q3: eight_of_both(u, u7, v, v7),
+    }
+}
+
+/// Sixteen lines along rows, the first from `at` on.
+#[inline(always)]
+fn rows_along(pixels: &[u8], at: usize, stride: usize) -> Lines
+    requires room { at + 15 * stride + 8 ≤ length pixels.now }
+    ensures { (j : ℕ) → j < 16 → line_of result j ≡ line_in (chunk (at + j * stride) 8 pixels.now) }
+{
+    let a1 = at + stride;
+    let a2 = a1 + stride;
+    let a3 = a2 + stride;
+    let a4 = a3 + stride;
+    let a5 = a4 + stride;
+    let a6 = a5 + stride;
+    let a7 = a6 + stride;
+    let a8 = a7 + stride;
+    let a9 = a8 + stride;
+    let a10 = a9 + stride;
+    let a11 = a10 + stride;
+    let a12 = a11 + stride;
+    let a13 = a12 + stride;
+    let a14 = a13 + stride;
+    let a15 = a14 + stride;
+    turn(
+        load8(pixels, at),
+        load8(pixels, a1),
+        load8(pixels, a2),
+        load8(pixels, a3),
+        load8(pixels, a4),
+        load8(pixels, a5),
+        load8(pixels, a6),
+        load8(pixels, a7),
+        load8(pixels, a8),
+        load8(pixels, a9),
+        load8(pixels, a10),
+        load8(pixels, a11),
+        load8(pixels, a12),
+        load8(pixels, a13),
+        load8(pixels, a14),
+        load8(pixels, a15),
+    )
+}
+
+/// Eight lines along the rows of one plane, and behind them eight of the other.
+#[inline(always)]
+fn rows_along_both(u: &[u8], u_at: usize, u_stride: usize, v: &[u8], v_at: usize, v_stride: usize) -> Lines
+    requires u_room { u_at + 7 * u_stride + 8 ≤ length u.now }
+    requires v_room { v_at + 7 * v_stride + 8 ≤ length v.now }
+    ensures first { (j : ℕ) → j < 8 → line_of result j ≡ line_in (chunk (u_at + j * u_stride) 8 u.now) }
+    ensures second { (j : ℕ) → j < 8 → line_of result (8 + j) ≡ line_in (chunk (v_at + j * v_stride) 8 v.now) }
+{
+    let u1 = u_at + u_stride;
+    let u2 = u1 + u_stride;
+    let u3 = u2 + u_stride;
+    let u4 = u3 + u_stride;
+    let u5 = u4 + u_stride;
+    let u6 = u5 + u_stride;
+    let u7 = u6 + u_stride;
+    let v1 = v_at + v_stride;
+    let v2 = v1 + v_stride;
+    let v3 = v2 + v_stride;
+    let v4 = v3 + v_stride;
+    let v5 = v4 + v_stride;
+    let v6 = v5 + v_stride;
+    let v7 = v6 + v_stride;
+    turn(
+        load8(u, u_at),
+        load8(u, u1),
+        load8(u, u2),
+        load8(u, u3),
+        load8(u, u4),
+        load8(u, u5),
+        load8(u, u6),
+        load8(u, u7),
+        load8(v, v_at),
+        load8(v, v1),
+        load8(v, v2),
+        load8(v, v3),
+        load8(v, v4),
+        load8(v, v5),
+        load8(v, v6),
+        load8(v, v7),
+    )
+}
+
 /// The sixteen lines down the columns from column `x` on, each beginning at row `y`.
+#[inline(always)]
 pub(crate) fn lines_down(plane: &Plane, x: usize, y: usize) -> Lines
     requires columns { x + 16 ≤ plane.now.width }
     requires rows { y + 8 ≤ plane.now.height }
     ensures { (c : ℕ) → c < 16 → line_of result c ≡ line_at down plane.now (x + c) y }
 {
     let _height = plane.height();
-    Lines {
-        p3: sixteen(plane, x, y),
-        p2: sixteen(plane, x, y + 1),
-        p1: sixteen(plane, x, y + 2),
-        p0: sixteen(plane, x, y + 3),
-        q0: sixteen(plane, x, y + 4),
-        q1: sixteen(plane, x, y + 5),
-        q2: sixteen(plane, x, y + 6),
-        q3: sixteen(plane, x, y + 7),
-    }
+    let stride = plane.width();
+    rows_down(plane.pixels(), y * stride + x, stride)
 }
 
 /// The eight lines down the columns of one plane, and behind them those of the other.
+#[inline(always)]
 pub(crate) fn lines_down_both(u: &Plane, v: &Plane, x: usize, y: usize) -> Lines
     requires u_columns { x + 8 ≤ u.now.width }
     requires u_rows { y + 8 ≤ u.now.height }
@@ -248,47 +364,27 @@ pub(crate) fn lines_down_both(u: &Plane, v: &Plane, x: usize, y: usize) -> Lines
     ensures first { (c : ℕ) → c < 8 → line_of result c ≡ line_at down u.now (x + c) y }
     ensures second { (c : ℕ) → c < 8 → line_of result (8 + c) ≡ line_at down v.now (x + c) y }
 {
-    let _height = u.height();
-    Lines {
-        p3: eight_of_both(u, v, x, y),
-        p2: eight_of_both(u, v, x, y + 1),
-        p1: eight_of_both(u, v, x, y + 2),
-        p0: eight_of_both(u, v, x, y + 3),
-        q0: eight_of_both(u, v, x, y + 4),
-        q1: eight_of_both(u, v, x, y + 5),
-        q2: eight_of_both(u, v, x, y + 6),
-        q3: eight_of_both(u, v, x, y + 7),
-    }
+    let _u_height = u.height();
+    let _v_height = v.height();
+    let us = u.width();
+    let vs = v.width();
+    rows_down_both(u.pixels(), y * us + x, us, v.pixels(), y * vs + x, vs)
 }
 
 /// The sixteen lines along the rows from row `y` on, each beginning at column `x`.
+#[inline(always)]
 pub(crate) fn lines_along(plane: &Plane, x: usize, y: usize) -> Lines
     requires columns { x + 8 ≤ plane.now.width }
     requires rows { y + 16 ≤ plane.now.height }
     ensures { (j : ℕ) → j < 16 → line_of result j ≡ line_at along plane.now x (y + j) }
 {
     let _height = plane.height();
-    turn(
-        eight(plane, x, y),
-        eight(plane, x, y + 1),
-        eight(plane, x, y + 2),
-        eight(plane, x, y + 3),
-        eight(plane, x, y + 4),
-        eight(plane, x, y + 5),
-        eight(plane, x, y + 6),
-        eight(plane, x, y + 7),
-        eight(plane, x, y + 8),
-        eight(plane, x, y + 9),
-        eight(plane, x, y + 10),
-        eight(plane, x, y + 11),
-        eight(plane, x, y + 12),
-        eight(plane, x, y + 13),
-        eight(plane, x, y + 14),
-        eight(plane, x, y + 15),
-    )
+    let stride = plane.width();
+    rows_along(plane.pixels(), y * stride + x, stride)
 }
 
 /// The eight lines along the rows of one plane, and behind them those of the other.
+#[inline(always)]
 pub(crate) fn lines_along_both(u: &Plane, v: &Plane, x: usize, y: usize) -> Lines
     requires u_columns { x + 8 ≤ u.now.width }
     requires u_rows { y + 8 ≤ u.now.height }
@@ -297,23 +393,9 @@ pub(crate) fn lines_along_both(u: &Plane, v: &Plane, x: usize, y: usize) -> Line
     ensures first { (j : ℕ) → j < 8 → line_of result j ≡ line_at along u.now x (y + j) }
     ensures second { (j : ℕ) → j < 8 → line_of result (8 + j) ≡ line_at along v.now x (y + j) }
 {
-    let _height = u.height();
-    turn(
-        eight(u, x, y),
-        eight(u, x, y + 1),
-        eight(u, x, y + 2),
-        eight(u, x, y + 3),
-        eight(u, x, y + 4),
-        eight(u, x, y + 5),
-        eight(u, x, y + 6),
-        eight(u, x, y + 7),
-        eight(v, x, y),
-        eight(v, x, y + 1),
-        eight(v, x, y + 2),
-        eight(v, x, y + 3),
-        eight(v, x, y + 4),
-        eight(v, x, y + 5),
-        eight(v, x, y + 6),
-        eight(v, x, y + 7),
-    )
+    let _u_height = u.height();
+    let _v_height = v.height();
+    let us = u.width();
+    let vs = v.width();
+    rows_along_both(u.pixels(), y * us + x, us, v.pixels(), y * vs + x, vs)
 }

@@ -1,53 +1,27 @@
-use Rattle.std.proofs.Common.{◌≡◌, ◌∙◌, ℕ, ◌+◌, [], slice_index, slice_index_or, length, ap, subst, refl, arith}
-use Rattle.vp_base.specs.Raster.{Raster, with_run}
-use Rattle.vp_base.specs.Image.{plane_of}
-use Rattle.vp_base.specs.Block.{with_block, IsWhole}
-use Rattle.vp_loop.specs.Edges.{on_plane}
-use Rattle.vp_loop.proofs.PlaneLemmas.{plane_begins, plane_turns, plane_keeps, on_plane-as}
-use Rattle.vp_loop.proofs.WriteLemmas.{first_rows, first_rows-none, first_rows-more, first_rows-all, width-first_rows, height-first_rows}
+use Rattle.std.proofs.Common.{◌≡◌, ◌∙◌, ℕ, ◌+◌, ◌*◌, ◌<◌, ◌≤◌, List, [], length, slice_index, slice_index_or, ap, sym, subst, arith}
+use Rattle.vp_base.specs.Raster.{Raster, with_pixels}
+use Rattle.vp_base.specs.Image.{plane_of, with_plane}
+use Rattle.vp_base.specs.Block.{IsWhole, with_block}
+use Rattle.vp_loop.proofs.RowReads.{block_room}
+use Rattle.vp_loop.proofs.RowWrites.{all_put}
 use Rattle.vp_loop.proofs.store.write_rows8.Goals as goal
 
-pub loop-r-init : goal.loop-r-init
-loop-r-init c =
-    let p = c.args.picture.now in
-    let f : ℕ → ℕ → ℕ = λ r d. slice_index (slice_index_or c.args.rows.now r []) d in
-    plane_begins c.args.k (first_rows c.args.x c.args.y 8 f 0) p
-    (first_rows-none c.args.x c.args.y 8 f (plane_of p c.args.k) (subst IsWhole c.plane.ensures c.height-height.ensures.whole))
-
-pub write8-requires-clause-columns : goal.write8-requires-clause-columns
-write8-requires-clause-columns c =
-    let f : ℕ → ℕ → ℕ = λ r d. slice_index (slice_index_or c.args.rows.now r []) d in
-    let w = plane_keeps (λ (r : Raster). r.width) c.args.k (first_rows c.args.x c.args.y 8 f c.loop-r.r) c.args.picture.now c.loop-r.picture c.loop-r.invariant (width-first_rows c.args.x c.args.y 8 f c.loop-r.r) in
-    let n = c.requires.columns in
-    omega arith
-
-pub write8-requires-clause-row : goal.write8-requires-clause-row
-write8-requires-clause-row c =
-    let f : ℕ → ℕ → ℕ = λ r d. slice_index (slice_index_or c.args.rows.now r []) d in
-    let w = plane_keeps (λ (r : Raster). r.height) c.args.k (first_rows c.args.x c.args.y 8 f c.loop-r.r) c.args.picture.now c.loop-r.picture c.loop-r.invariant (height-first_rows c.args.x c.args.y 8 f c.loop-r.r) in
-    let n = c.requires.rows in
-    omega arith
-
-pub loop-r-preserved : goal.loop-r-preserved
-loop-r-preserved c =
-    let f : ℕ → ℕ → ℕ = λ r d. slice_index (slice_index_or c.args.rows.now r []) d in
-    let k = c.args.k in
-    let x = c.args.x in
-    let y = c.args.y in
-    let r = c.loop-r.r in
-    let first = c.args.picture.now in
-    let vs = slice_index_or c.args.rows.now r [] in
-    let columns = c.requires.columns in
+pub put_rows8-requires-clause-room : goal.put_rows8-requires-clause-room
+put_rows8-requires-clause-room c r within =
+    let q = plane_of c.args.picture.now c.args.k in
+    let wide : c.width-stride.result ≡ q.width = c.width-stride.ensures.value ∙ ap (λ (p : Raster). p.width) c.plane-2.ensures in
     let rows = c.requires.rows in
-    c.write8.ensures.value
-    ∙ plane_turns k (first_rows x y 8 f r) (λ p. with_run p x (y + r) vs) (first_rows x y 8 f (r + 1)) first c.loop-r.picture c.loop-r.invariant
-    (first_rows-more x y 8 f r (plane_of first k) vs columns (omega arith) c.write8.ensures.long (λ i h. refl))
+    let columns = c.requires.columns in
+    let size : length c.pixels_mut.result.now ≡ q.height * c.width-stride.result = c.pixels_mut.ensures.len ∙ ap (λ (k : ℕ). q.height * k) (sym wide) in
+    block_room c.args.x c.args.y c.width-stride.result q.height 8 r (length c.pixels_mut.result.now) size (omega arith) (omega arith)
 
 pub returns : goal.returns
 returns c =
+    let q = plane_of c.args.picture.now c.args.k in
     let f : ℕ → ℕ → ℕ = λ r d. slice_index (slice_index_or c.args.rows.now r []) d in
-    let n = length c.args.rows.now in
-    let all : c.loop-r.r ≡ n = omega arith in
-    c.loop-r.invariant
-    ∙ (ap (λ (h : ℕ). on_plane c.args.k (first_rows c.args.x c.args.y 8 f h) c.args.picture.now) all
-    ∙ on_plane-as c.args.k (first_rows c.args.x c.args.y 8 f n) (λ p. with_block p c.args.x c.args.y 8 n f) c.args.picture.now (first_rows-all c.args.x c.args.y 8 f n (plane_of c.args.picture.now c.args.k)))
+    let wide : q.width ≡ c.width-stride.result = sym (c.width-stride.ensures.value ∙ ap (λ (p : Raster). p.width) c.plane-2.ensures) in
+    let whole : IsWhole q = subst IsWhole c.plane-2.ensures c.width-stride.ensures.whole in
+    let here : c.args.y * c.width-stride.result + c.args.x ≡ c.args.y * q.width + c.args.x = ap (λ (k : ℕ). c.args.y * k + c.args.x) (sym wide) in
+    let done = c.put_rows8.ensures.value q c.args.x c.args.y whole (sym c.pixels_mut.ensures.value) wide here c.requires.columns c.requires.rows in
+    ap (with_plane c.args.picture.now c.args.k) (all_put q c.args.x c.args.y 8 (length c.args.rows.now) f c.put_rows8.new.pixels done
+    (c.put_rows8.ensures.len ∙ ap length c.pixels_mut.ensures.value))
