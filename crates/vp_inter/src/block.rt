@@ -7,7 +7,7 @@ ghost use Rattle.vp_inter.specs.Inter.{reference_pixel, across, inter_pixel, IsI
 
 use crate::both::six_both;
 use crate::filter::{ends_are_zero, pass, seconds_are_zero, taps};
-use crate::reference::{lies_inside, plain_row, reference_row};
+use crate::reference::{lies_inside, plain_row, reference_line};
 use crate::vector::{PlaneVector, fraction, start};
 use crate::wide::{both_ends_count, six_columns, six_rows};
 use std::simd::prelude::*;
@@ -284,7 +284,7 @@ fn moved_row<const N: usize, const W: usize, const INSIDE: bool, const COUNT: us
     if INSIDE {
         return pass::<N, COUNT>(plane.row(row as usize), left as usize, 1, weights);
     }
-    let line = reference_row::<W>(plane, left, row);
+    let line = reference_line(plane, left, row);
     pass::<N, COUNT>(&line, 0, 1, weights)
 }
 

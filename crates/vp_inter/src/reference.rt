@@ -1,8 +1,9 @@
 //! The pixels of a reference, which go on outside the plane (RFC 6386, chapter 5).
 
-ghost use Rattle.std.specs.Prelude.{◌≡◌, ℕ, ℤ, pos, negsuc, ◌+◌, ◌<◌, ◌≤◌, ◌+ℤ◌, ◌≤ℤ◌, length, slice_index, IsTrue};
+ghost use Rattle.std.specs.Prelude.{◌≡◌, ℕ, ℤ, pos, negsuc, ◌+◌, ◌-◌, ◌<◌, ◌≤◌, ◌+ℤ◌, ◌≤ℤ◌, length, min, slice_index, IsTrue};
 ghost use Rattle.vp_inter.specs.Inter.{nearest, reference_pixel, IsInside};
 
+use crate::block::put_lanes;
 use crate::filter::load;
 use std::simd::prelude::*;
 use vp_base::Plane;
@@ -50,50 +51,85 @@ pub(crate) fn plain_row<const N: usize>(
     if inside {
         return load(plane.row(row as usize), left as usize);
     }
-    load(&reference_row::<N>(plane, left, row), 0)
+    load(&reference_line(plane, left, row), 0)
 }
 
-/// The `W` pixels from column `left` of row `row` on, wherever they are.
-#[inline(never)]
-pub(crate) fn reference_row<const W: usize>(plane: &Plane, left: i32, row: i32) -> [u8; W]
-    requires size { W ≤ 21 }
+/// The 32 pixels from column `left` of row `row` on, wherever they are. What hangs on the column alone is found before a
+/// loop over rows, and what isn't read of the result isn't made.
+#[inline(always)]
+pub(crate) fn reference_line(plane: &Plane, left: i32, row: i32) -> [u8; 32]
     requires columns { 0 < plane.now.width }
     requires rows { 0 < plane.now.height }
     requires near { (negsuc 400000000 ≤ℤ left) × (left ≤ℤ pos 400000000) }
-    ensures len { length result ≡ W }
-    ensures value { (c : ℕ) → c < W → slice_index result c ≡ reference_pixel plane.now (left +ℤ pos c) row }
+    ensures { (c : ℕ) → c < 32 → slice_index result c ≡ reference_pixel plane.now (left +ℤ pos c) row }
 {
-    let width = plane.width();
-    let line = plane.row(nearest(row, plane.height()));
-    if left >= 0 && left as usize + W <= width {
-        piece(line, left as usize)
-    } else {
-        beyond(line, left)
-    }
+    nearest_numbers(plane.row(nearest(row, plane.height())), left)
 }
 
-/// The `W` numbers from `start` on.
-fn piece<const W: usize>(line: &[u8], start: usize) -> [u8; W]
-    requires size { W ≤ 21 }
-    requires room { start + W ≤ length line.now }
-    ensures len { length result ≡ W }
-    ensures value { (c : ℕ) → c < W → slice_index result c ≡ slice_index line.now (start + c) }
+/// The 32 numbers nearest to `left` and the places behind it.
+#[inline(always)]
+fn nearest_numbers(line: &[u8], left: i32) -> [u8; 32]
+    requires some { 0 < length line.now }
+    requires near { (negsuc 400000000 ≤ℤ left) × (left ≤ℤ pos 400000000) }
+    ensures len { length result ≡ 32 }
+    ensures value { (c : ℕ) → c < 32 → slice_index result c ≡ slice_index line.now (nearest (length line.now) (left +ℤ pos c)) }
 {
-    let mut pixels = [0; W];
-    pixels.copy_from_slice(&line[start..start + W]);
+    if line.len() < 16 {
+        return beyond(line, left);
+    }
+    let mut pixels = [0; 32];
+    put_lanes::<16>(&mut pixels, 0, sixteen(line, left));
+    put_lanes::<16>(&mut pixels, 1, sixteen(line, left + 16));
     pixels
 }
 
-/// The `W` numbers nearest to `left` and the places behind it.
-fn beyond<const W: usize>(line: &[u8], left: i32) -> [u8; W]
-    requires size { W ≤ 21 }
+/// Where the sixteen pixels from a place on stand among sixteen of a line: from 16 on in their order, before that the
+/// first again and again, and from 32 on the last.
+const PLACES: [u8; 48] = [
+    0, 0, 0, 0, 0, 0, 0, 0, 0, 0, 0, 0, 0, 0, 0, 0, 0, 1, 2, 3, 4, 5, 6, 7, 8, 9, 10, 11, 12, 13,
+    14, 15, 15, 15, 15, 15, 15, 15, 15, 15, 15, 15, 15, 15, 15, 15, 15, 15,
+];
+
+/// Sixteen of them.
+#[inline(always)]
+fn places(from: usize) -> u8x16
+    requires { from ≤ 32 }
+    ensures { (c : ℕ) → c < 16 → slice_index result c ≡ min (from + c - 16) 15 }
+{
+    load(&PLACES, from)
+}
+
+/// The lanes at these places.
+#[inline(always)]
+fn looked_up(lanes: u8x16, places: u8x16) -> u8x16
+    requires { (c : ℕ) → c < 16 → slice_index places c < 16 }
+    ensures { (c : ℕ) → c < 16 → slice_index result c ≡ slice_index lanes (slice_index places c) }
+{
+    lanes.swizzle_dyn(places)
+}
+
+/// The sixteen numbers nearest to `at` and the places behind it, of a line that has as many.
+#[inline(always)]
+fn sixteen(line: &[u8], at: i32) -> u8x16
+    requires some { 16 ≤ length line.now }
+    requires near { (negsuc 400000000 ≤ℤ at) × (at ≤ℤ pos 400000016) }
+    ensures { (c : ℕ) → c < 16 → slice_index result c ≡ slice_index line.now (nearest (length line.now) (at +ℤ pos c)) }
+{
+    let first = nearest(at, line.len() - 15);
+    let from = (at - first as i32 + 16).clamp(0, 32);
+    looked_up(load(line, first), places(from as usize))
+}
+
+/// The same 32, one by one.
+#[inline(never)]
+fn beyond(line: &[u8], left: i32) -> [u8; 32]
     requires some { 0 < length line.now }
     requires near { (negsuc 400000000 ≤ℤ left) × (left ≤ℤ pos 400000000) }
-    ensures len { length result ≡ W }
-    ensures value { (c : ℕ) → c < W → slice_index result c ≡ slice_index line.now (nearest (length line.now) (left +ℤ pos c)) }
+    ensures len { length result ≡ 32 }
+    ensures value { (c : ℕ) → c < 32 → slice_index result c ≡ slice_index line.now (nearest (length line.now) (left +ℤ pos c)) }
 {
-    let mut pixels = [0; W];
-    for c in 0..W {
+    let mut pixels = [0; 32];
+    for c in 0..32 {
         pixels[c] = line[nearest(left + c as i32, line.len())];
     }
     pixels

@@ -10,7 +10,7 @@ ghost use Rattle.vp_inter.specs.Turns.{AreNear, AreFar, AreSix, one_of_three, ha
 use crate::block::put_lanes;
 use crate::filter::{ended, load};
 use crate::pairs::{by_turns, turn_sums, turned_sums};
-use crate::reference::reference_row;
+use crate::reference::reference_line;
 use std::simd::prelude::*;
 use vp_base::Plane;
 
@@ -186,6 +186,7 @@ fn far_sixteen(pairs: &[u8], at: usize, weights: &[i16; 6], far: &Far) -> u8x16
 
 /// The horizontal pass over one row of the reference, straight from the plane if `INSIDE` says so: even columns before
 /// odd ones.
+#[inline(always)]
 pub(crate) fn halves_row<const INSIDE: bool>(
     plane: &Plane,
     left: i32,
@@ -204,7 +205,7 @@ pub(crate) fn halves_row<const INSIDE: bool>(
     if INSIDE {
         return near_halves(plane.row(row as usize), left as usize, weights, near);
     }
-    let line = reference_row::<21>(plane, left, row);
+    let line = reference_line(plane, left, row);
     near_halves(&line, 0, weights, near)
 }
 

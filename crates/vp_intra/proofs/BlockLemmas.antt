@@ -1,8 +1,12 @@
 -- Lemmas on the pixels of a block.
-use Rattle.std.proofs.Common.{◌≡◌, ◌∙◌, ℕ, ◌+◌, ◌*◌, ◌<◌, ◌≤◌, List, length, get_or, replicate, ap, sym, arith}
+use Rattle.std.proofs.Common.{◌≡◌, ◌∙◌, ℕ, ◌+◌, ◌-◌, ◌*◌, ◌<◌, ◌≤◌, min, List, length, get_or, replicate, ap, sym, arith, Fits, w8, zero, suc}
+use lib.Lanes.{Each1}
+use Rattle.vp_lanes.proofs.Shape.{lane_fits}
 use Rattle.std.proofs.lemmas.Nat.{row_fits}
 use Rattle.std.proofs.lemmas.List.{length-replicate, get_or-replicate}
-use Rattle.vp_base.proofs.BlockLemmas.{length-numbers, get_or-numbers, same_numbers}
+use Rattle.vp_base.proofs.BlockLemmas.{length-numbers, get_or-numbers, same_numbers, with_block_same}
+use Rattle.vp_base.specs.Block.{with_block}
+use Rattle.vp_base.specs.Image.{Image, plane_of, with_plane}
 use Rattle.vp_base.specs.Raster.{Raster}
 use Rattle.vp_intra.specs.Edges.{block, first, above, left, corner, clamped, true_motion}
 use Rattle.vp_intra.proofs.EdgeLemmas.{read_first}
@@ -53,3 +57,33 @@ true_motion_block n p x y us ls k a l e =
     ap (λ (v : ℕ). clamped v (get_or us c 0) k) (read_first ls n (left p x y) r l rin)
     ∙ ap (λ (v : ℕ). clamped (left p x y r) v k) (read_first us n (above p x y) c a cin)
     ∙ ap (clamped (left p x y r) (above p x y c)) e)
+
+-- what the left is above the corner is added, or what it is below it is taken away
+pub moved_either_way : (l a p : ℕ) → a < 256 → min (a + (l - p)) 255 - (p - l) ≡ clamped l a p
+moved_either_way l a p byte = grind arith
+
+each_even : (m v : ℕ) → v < 256 → Each1 (Fits w8) (replicate m v)
+each_even zero v byte = tt
+each_even (suc m) v byte = (record { fits = byte }, each_even m v byte)
+
+-- a picture with such a block written, given as its list
+pub block_written : (image : Image) (k x y n : ℕ) (xs : List ℕ) (p : Raster) (f : Raster → ℕ → ℕ → ℕ → ℕ → ℕ) → p ≡ plane_of image k
+    → xs ≡ block n (f p x y)
+    → with_plane image k (with_block (plane_of image k) x y n n (λ r c. get_or xs (r * n + c) 0)) ≡ with_plane image k (with_block (plane_of image k) x y n n (f (plane_of image k) x y))
+block_written image k x y n xs p f here is =
+    ap (with_plane image k) (with_block_same (plane_of image k) x y n n (λ r c. get_or xs (r * n + c) 0) (f (plane_of image k) x y)
+    (λ r c rin cin. ap (λ (ys : List ℕ). get_or ys (r * n + c) 0) is ∙ read_block n (f p x y) r c rin cin ∙ ap (λ (q : Raster). f q x y r c) here))
+
+-- its pixels are bytes
+pub block_bytes : (image : Image) (k x y n : ℕ) (xs : List ℕ) (p : Raster) (f : Raster → ℕ → ℕ → ℕ → ℕ → ℕ) → p ≡ plane_of image k
+    → xs ≡ block n (f p x y) → (length xs ≡ n * n) × Each1 (Fits w8) xs
+    → (r c : ℕ) → r < n → c < n → f (plane_of image k) x y r c ≤ 255
+block_bytes image k x y n xs p f here is lanes r c rin cin =
+    let room : r * n + n ≤ n * n = row_fits r n n n rin (omega arith) in
+    let byte : get_or xs (r * n + c) 0 < 256 = (lane_fits (Fits w8) 0 (n * n) xs lanes.0 lanes.1 (r * n + c) (omega arith)).fits in
+    let same : get_or xs (r * n + c) 0 ≡ f (plane_of image k) x y r c =
+    ap (λ (ys : List ℕ). get_or ys (r * n + c) 0) is ∙ read_block n (f p x y) r c rin cin ∙ ap (λ (q : Raster). f q x y r c) here in
+    omega arith
+
+pub even_bytes : (m v : ℕ) → v < 256 → (length (replicate m v) ≡ m) × Each1 (Fits w8) (replicate m v)
+even_bytes m v byte = (length-replicate m v, each_even m v byte)

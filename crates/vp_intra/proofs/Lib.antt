@@ -1,3 +1,4 @@
 pub mod BlockLemmas
 pub mod EdgeLemmas
 pub mod SubLemmas
+pub mod SumLemmas

@@ -7,4 +7,4 @@ mod sub;
 mod whole;
 
 pub use sub::predict_sub;
-pub use whole::{predict_chroma, predict_luma};
+pub use whole::{predict_chroma, predict_chroma_into, predict_luma, predict_luma_into};

@@ -2,11 +2,14 @@
 
 ghost use Rattle.std.specs.Prelude.{◌≡◌, ℕ, ◌+◌, ◌*◌, ◌<◌, ◌≤◌, length, slice_index};
 ghost use Rattle.vp_base.specs.Raster.{Raster, pixel};
+ghost use Rattle.vp_base.specs.Block.{with_block};
+ghost use Rattle.vp_base.specs.Image.{plane_of, with_plane};
 ghost use Rattle.vp_intra.specs.Edges.{block, clamped};
 ghost use Rattle.vp_intra.specs.Whole.{luma_pixel, chroma_pixel};
 
 use crate::edges::{edge_above, edge_corner, edge_left, edge_mean};
-use vp_base::Plane;
+use std::simd::prelude::*;
+use vp_base::{Picture, Plane};
 use vp_tables::{ChromaMode, LumaMode};
 
 /// The 16 by 16 block that `mode` makes at column `x` of row `y` of `plane`, row after row.
@@ -47,6 +50,71 @@ pub fn predict_chroma(plane: &Plane, x: usize, y: usize, mode: ChromaMode) -> [u
     }
 }
 
+/// Writes to `picture` the 16 by 16 luma block that `mode` makes at column `x` of row `y`. Its pixels are bytes.
+pub fn predict_luma_into(picture: &mut Picture, x: usize, y: usize, mode: LumaMode)
+    requires columns { x + 16 ≤ picture.old.luma.width }
+    requires rows { y + 16 ≤ picture.old.luma.height }
+    requires whole { ¬ (mode ≡ LumaMode.B) }
+    ensures value { picture.new ≡ with_plane picture.old 0 (with_block picture.old.luma x y 16 16 (luma_pixel mode picture.old.luma x y)) }
+    ensures bytes { (r c : ℕ) → r < 16 → c < 16 → luma_pixel mode picture.old.luma x y r c ≤ 255 }
+{
+    let plane = picture.plane(0);
+    match mode {
+        LumaMode::Dc => {
+            let mean = edge_mean::<16>(plane, x, y);
+            picture.write_block::<16>(0, x, y, &[mean; 256])
+        }
+        LumaMode::V => {
+            let block: [u8; 256] = vertical(&edge_above::<16>(plane, x, y));
+            picture.write_block::<16>(0, x, y, &block)
+        }
+        LumaMode::H => {
+            let block: [u8; 256] = horizontal(&edge_left::<16>(plane, x, y));
+            picture.write_block::<16>(0, x, y, &block)
+        }
+        LumaMode::Tm => {
+            let above = edge_above::<16>(plane, x, y);
+            let left = edge_left::<16>(plane, x, y);
+            let corner = edge_corner(plane, x, y);
+            let block: [u8; 256] = true_motion(&above, &left, corner);
+            picture.write_block::<16>(0, x, y, &block)
+        }
+        LumaMode::B => unreachable!(),
+    }
+}
+
+/// Writes to plane `k` of `picture`, one of colour, the 8 by 8 block that `mode` makes at column `x` of row `y`.
+pub fn predict_chroma_into(picture: &mut Picture, k: usize, x: usize, y: usize, mode: ChromaMode)
+    requires plane { k < 3 }
+    requires columns { x + 8 ≤ (plane_of picture.old k).width }
+    requires rows { y + 8 ≤ (plane_of picture.old k).height }
+    ensures value { picture.new ≡ with_plane picture.old k (with_block (plane_of picture.old k) x y 8 8 (chroma_pixel mode (plane_of picture.old k) x y)) }
+    ensures bytes { (r c : ℕ) → r < 8 → c < 8 → chroma_pixel mode (plane_of picture.old k) x y r c ≤ 255 }
+{
+    let plane = picture.plane(k);
+    match mode {
+        ChromaMode::Dc => {
+            let mean = edge_mean::<8>(plane, x, y);
+            picture.write_block::<8>(k, x, y, &[mean; 64])
+        }
+        ChromaMode::V => {
+            let block: [u8; 64] = vertical(&edge_above::<8>(plane, x, y));
+            picture.write_block::<8>(k, x, y, &block)
+        }
+        ChromaMode::H => {
+            let block: [u8; 64] = horizontal(&edge_left::<8>(plane, x, y));
+            picture.write_block::<8>(k, x, y, &block)
+        }
+        ChromaMode::Tm => {
+            let above = edge_above::<8>(plane, x, y);
+            let left = edge_left::<8>(plane, x, y);
+            let corner = edge_corner(plane, x, y);
+            let block: [u8; 64] = true_motion(&above, &left, corner);
+            picture.write_block::<8>(k, x, y, &block)
+        }
+    }
+}
+
 /// The row above in each row of `N`.
 fn vertical<const N: usize, const M: usize>(above: &[u8; N]) -> [u8; M]
     requires size { N ≤ 16 }
@@ -54,9 +122,10 @@ fn vertical<const N: usize, const M: usize>(above: &[u8; N]) -> [u8; M]
     requires area { M ≤ 256 }
     ensures { result ≡ block N (λ r c. slice_index above.now c) }
 {
+    let row = Simd::from_array(*above);
     let mut pixels = [0; M];
     for r in 0..N {
-        put_row(&mut pixels, r, above);
+        put_row(&mut pixels, r, row);
     }
     pixels
 }
@@ -70,9 +139,17 @@ fn horizontal<const N: usize, const M: usize>(left: &[u8; N]) -> [u8; M]
 {
     let mut pixels = [0; M];
     for r in 0..N {
-        put_row(&mut pixels, r, &[left[r]; N]);
+        put_row(&mut pixels, r, even_row::<N>(left[r]));
     }
     pixels
+}
+
+/// A row of one pixel again and again.
+fn even_row<const N: usize>(pixel: u8) -> Simd<u8, N>
+    requires size { N ≤ 16 }
+    ensures { (c : ℕ) → c < N → slice_index result c ≡ pixel }
+{
+    Simd::splat(pixel)
 }
 
 /// Left and above less the corner, clamped.
@@ -86,34 +163,33 @@ fn true_motion<const N: usize, const M: usize>(
     requires area { M ≤ 256 }
     ensures { result ≡ block N (λ r c. clamped (slice_index left.now r) (slice_index above.now c) corner) }
 {
+    let row = Simd::from_array(*above);
     let mut pixels = [0; M];
     for r in 0..N {
-        put_row(&mut pixels, r, &true_motion_row(above, left[r], corner));
+        put_row(&mut pixels, r, true_motion_row::<N>(row, left[r], corner));
     }
     pixels
 }
 
-/// One row of true motion.
-fn true_motion_row<const N: usize>(above: &[u8; N], left: u8, corner: u8) -> [u8; N]
+/// One row of true motion: what the left is above the corner is added to the row above, or what it is below it is taken
+/// away. One of the two is 0.
+fn true_motion_row<const N: usize>(above: Simd<u8, N>, left: u8, corner: u8) -> Simd<u8, N>
     requires size { N ≤ 16 }
-    ensures len { length result ≡ N }
-    ensures value { (c : ℕ) → c < N → slice_index result c ≡ clamped left (slice_index above.now c) corner }
+    ensures { (c : ℕ) → c < N → slice_index result c ≡ clamped left (slice_index above.entry c) corner }
 {
-    let mut row = [0; N];
-    for c in 0..N {
-        let sum = (u16::from(left) + u16::from(above[c])).saturating_sub(u16::from(corner));
-        row[c] = sum.min(255) as u8;
-    }
-    row
+    let up = left.saturating_sub(corner);
+    let down = corner.saturating_sub(left);
+    above
+        .saturating_add(Simd::splat(up))
+        .saturating_sub(Simd::splat(down))
 }
 
 /// Writes row `r` of a block of rows of `N`.
-fn put_row<const N: usize>(pixels: &mut [u8], r: usize, row: &[u8; N])
+fn put_row<const N: usize>(pixels: &mut [u8], r: usize, row: Simd<u8, N>)
     requires size { N ≤ 16 }
     requires room { r * N + N ≤ length pixels.old }
-    ensures here { (c : ℕ) → c < N → slice_index pixels.new (r * N + c) ≡ slice_index row.now c }
+    ensures here { (c : ℕ) → c < N → slice_index pixels.new (r * N + c) ≡ slice_index row.entry c }
     ensures before { (i : ℕ) → i < r * N → slice_index pixels.new i ≡ slice_index pixels.old i }
 {
-    let at = r * N;
-    pixels[at..at + N].copy_from_slice(row);
+    row.copy_to_slice(&mut pixels[r * N..]);
 }

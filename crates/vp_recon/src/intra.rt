@@ -12,7 +12,7 @@ use crate::residue::{block_of, chroma_residues, luma_residues, with_residue};
 use crate::subblock::store_subblock;
 use std::simd::prelude::*;
 use vp_base::{Picture, Place};
-use vp_intra::{predict_chroma, predict_luma, predict_sub};
+use vp_intra::{predict_chroma_into, predict_luma_into, predict_sub};
 use vp_modes::Modes;
 use vp_quant::Factors;
 use vp_tables::SubMode;
@@ -82,8 +82,7 @@ pub(crate) fn rebuild_at_once(
     let _height = picture.plane(0).height();
     let x = 16 * place.column;
     let y = 16 * place.row;
-    let prediction = predict_luma(picture.plane(0), x, y, modes.luma);
-    picture.write_block::<16>(0, x, y, &prediction);
+    predict_luma_into(picture, x, y, modes.luma);
     add_residues::<4>(picture, 0, x, y, &luma_residues(true, tokens, factors));
 }
 
@@ -105,8 +104,7 @@ pub(crate) fn rebuild_intra_chroma(
     let _height = picture.plane(plane).height();
     let x = 8 * place.column;
     let y = 8 * place.row;
-    let prediction = predict_chroma(picture.plane(plane), x, y, modes.chroma);
-    picture.write_block::<8>(plane, x, y, &prediction);
+    predict_chroma_into(picture, plane, x, y, modes.chroma);
     let residues = chroma_residues(tokens, factors, plane);
     add_residues::<2>(picture, plane, x, y, &residues);
 }

@@ -32,7 +32,7 @@ pub returns : goal.returns
 returns g c k kin =
     let p : Raster = c.args.plane.now in
     let w : List ℤ = c.args.weights.now in
-    let line : List ℕ = c.reference_row-line.result in
+    let line : List ℕ = c.reference_line-line.result in
     let row : ℤ = to_z w32 (of_z w32 c.args.row) in
     c.pass-2.ensures k kin
     ∙ filter_six-same w (λ i. get_or line (0 + i * 1 + k) 0) (λ i. reference_pixel p (c.args.left +ℤ pos (k + i)) c.args.row)
@@ -40,6 +40,6 @@ returns g c k kin =
     let place : 0 + i * 1 + k ≡ k + i = omega arith in
     let below : k + i < g.row.W = omega arith in
     ap (λ (j : ℕ). get_or line j 0) place
-    ∙ c.reference_row-line.ensures.value (k + i) below
+    ∙ c.reference_line-line.ensures (k + i) (omega arith)
     ∙ ap (λ (z : ℤ). reference_pixel p (z +ℤ pos (k + i)) row) (to_z-of_z w32 c.args.left c.ranges.left)
     ∙ ap (λ (z : ℤ). reference_pixel p (c.args.left +ℤ pos (k + i)) z) (to_z-of_z w32 c.args.row c.ranges.row))
