@@ -21,7 +21,7 @@ use vp_loop::{Level, MacroblockKind, Prediction, levels};
 use vp_modes::Modes;
 use vp_motion::Entry;
 use vp_quant::{Factors, segment_index};
-use vp_recon::{Source, move_macroblock, rebuild_macroblock};
+use vp_recon::{Source, move_macroblock, predict_macroblock, rebuild_macroblock};
 use vp_refs::Refs;
 use vp_tables::VectorMode;
 use vp_tokens::{Contexts, Tokens, pass_macroblock, read_macroblock};
@@ -265,7 +265,8 @@ impl<'a> Plan<'a> {
         self.rebuild(place, source, &Tokens::NONE, picture);
     }
 
-    /// Rebuilds the macroblock at a place, which has no tokens: one that moves is only moved.
+    /// Rebuilds the macroblock at a place, which has no tokens: one that moves is only moved, one that is predicted at once
+    /// only predicted.
     pub(crate) fn rebuild_without_tokens(
         &self,
         place: Place,
@@ -279,6 +280,9 @@ impl<'a> Plan<'a> {
         ensures { picture.new ≡ rebuilt (macroblock_at self.now place without_tokens) place picture.old }
     {
         match source {
+            Source::Intra(modes) if !modes.luma.is_by_subblocks() => {
+                predict_macroblock(picture, place, modes)
+            }
             Source::Intra(_) => self.rebuild_from_nothing(place, source, picture),
             Source::Inter {
                 motion,

@@ -12,9 +12,12 @@ fn read_context(table: &[u8; 11], old: &mut [u8; 11], d: &mut BoolDecoder)
     ensures value { old.new ≡ (context_rows table.now old.old d.old).0 }
     ensures rest { d.new ≡ (context_rows table.now old.old d.old).1 }
 {
+    // The compiler keeps a decoder of its own in registers.
+    let mut own = d.copy();
     for i in 0..11 {
-        old[i] = read_renewed(table[i], old[i], d);
+        old[i] = read_renewed(table[i], old[i], &mut own);
     }
+    *d = own;
 }
 
 fn read_band(table: &[[u8; 11]; 3], old: &mut [[u8; 11]; 3], d: &mut BoolDecoder)

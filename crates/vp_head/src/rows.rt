@@ -65,6 +65,7 @@ fn read_signed(bits: u32, otherwise: i8, d: &mut BoolDecoder) -> i8
 }
 
 /// A probability behind a flag, or this where the flag isn't set.
+#[inline(always)]
 #[tactic(auto, unfolding(crate::specs::Rows::renewed, vp_bool::specs::Reader::bind))]
 pub(crate) fn read_renewed(probability: u8, otherwise: u8, d: &mut BoolDecoder) -> u8
     ensures value { result ≡ (renewed probability otherwise d.old).0 }

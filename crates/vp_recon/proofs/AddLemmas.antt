@@ -129,13 +129,13 @@ beside (suc (suc (suc zero))) k some few even start = absurd (omega arith)
 beside (suc (suc (suc (suc zero)))) k some few even start = (omega arith, omega arith)
 beside (suc (suc (suc (suc (suc n))))) k some few even start = absurd (omega arith)
 
-pub square_even : (across : ℕ) → across ≤ 4 → across % 2 ≡ 0 → 2 * (across * across / 2) ≡ across * across
-square_even zero few even = omega arith
-square_even (suc zero) few even = absurd (omega arith)
-square_even (suc (suc zero)) few even = omega arith
-square_even (suc (suc (suc zero))) few even = absurd (omega arith)
-square_even (suc (suc (suc (suc zero)))) few even = omega arith
-square_even (suc (suc (suc (suc (suc n))))) few even = absurd (omega arith)
+pub square_fours : (across : ℕ) → across ≤ 4 → across % 2 ≡ 0 → 4 * (across * across / 4) ≡ across * across
+square_fours zero few even = omega arith
+square_fours (suc zero) few even = absurd (omega arith)
+square_fours (suc (suc zero)) few even = omega arith
+square_fours (suc (suc (suc zero))) few even = absurd (omega arith)
+square_fours (suc (suc (suc (suc zero)))) few even = omega arith
+square_fours (suc (suc (suc (suc (suc n))))) few even = absurd (omega arith)
 
 pub two_added : (p : Raster) (x y across : ℕ) (residue : ℕ → List ℤ) (k : ℕ) → 0 < across → across ≤ 4 → across % 2 ≡ 0 → k % 2 ≡ 0 → k + 1 < across * across
     → x + 4 * across ≤ p.width → y + 4 * across ≤ p.height

@@ -4,6 +4,7 @@ pub mod SubblockLemmas
 pub mod PlaneLemmas
 pub mod AddLemmas
 pub mod PairLemmas
+pub mod FourLemmas
 pub mod MovedLemmas
 pub mod LumaLemmas
 pub mod ResidueLemmas

@@ -1,9 +1,9 @@
 -- Inside the crate: two subblocks side by side, and their residues as the code has them in lanes.
-use Rattle.std.specs.Prelude.{◌≡◌, ℕ, ◌+◌, ◌*◌, ◌<◌, ◌≤◌, ℤ, pos, List, [], ◌∷◌, slice_index_or, unsigned_abs}
+use Rattle.std.specs.Prelude.{◌≡◌, ℕ, ◌+◌, ◌*◌, ◌/◌, ◌<◌, ◌≤◌, ℤ, pos, List, [], ◌∷◌, nat_lt, slice_index_or, unsigned_abs, if◌then◌else◌}
 use Rattle.vp_base.specs.Raster.{Raster, pixel}
 use Rattle.vp_base.specs.Block.{with_block}
 use Rattle.vp_lanes.specs.Lane.{lane}
-use Rattle.vp_recon.specs.Rebuilt.{summed}
+use Rattle.vp_recon.specs.Rebuilt.{summed, residue_at}
 
 -- p with a residue added to the subblock at column x of row y
 abbrev pub with_added : Raster → ℕ → ℕ → List ℤ → Raster
@@ -28,3 +28,9 @@ AreRows a b c d left right =
 -- numbers that a sum of i16 with a byte holds
 abbrev pub AreLow : List ℤ → Type 0
 AreLow xs = (j : ℕ) → j < 8 → unsigned_abs (lane xs j) ≤ 8800
+
+-- p with the residues of the subblocks before k added to the block at column x of row y that is `across` subblocks wide and high
+abbrev pub with_until : ℕ → Raster → ℕ → ℕ → (ℕ → List ℤ) → ℕ → Raster
+with_until across p x y residue k =
+    with_block p x y (4 * across) (4 * across)
+    (λ r c. if nat_lt (across * (r / 4) + c / 4) k then summed (pixel p (x + c) (y + r)) (residue_at across residue r c) else pixel p (x + c) (y + r))

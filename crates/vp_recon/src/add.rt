@@ -3,12 +3,13 @@
 ghost use Rattle.std.specs.Prelude.{◌≡◌, ℕ, ◌+◌, ◌*◌, ◌%◌, ◌<◌, ◌≤◌, ℤ, List};
 ghost use Rattle.vp_base.specs.Raster.{pixel};
 ghost use Rattle.vp_base.specs.Block.{with_block};
-ghost use Rattle.vp_base.specs.Image.{plane_of, with_plane};
+ghost use Rattle.vp_base.specs.Image.{Image, plane_of, with_plane};
 ghost use Rattle.vp_recon.specs.Rebuilt.{summed, residue_at};
 ghost use Rattle.vp_recon.specs.Kept.{IsKept, AreBytes};
-ghost use Rattle.vp_recon.specs.Pairs.{with_added, with_both_added};
-ghost use Rattle.vp_recon.specs.Parts.{AreSmall, Gives, residue_in};
+ghost use Rattle.vp_recon.specs.Pairs.{with_added, with_both_added, with_until};
+ghost use Rattle.vp_recon.specs.Parts.{AreSmall, Gives, IsAlone, residue_in};
 
+use crate::four::{add_sixteen, four_numbers};
 use crate::kept::sums;
 use crate::pair::{add_rows, even_number, even_row};
 use crate::residue::Residues;
@@ -43,14 +44,107 @@ pub(crate) fn add_residues<const ACROSS: usize>(
     if residues.has_none(ACROSS * ACROSS) {
         return;
     }
-    for i in 0..ACROSS * ACROSS / 2 {
-        let k = 2 * i;
-        if residues.has_in_pair(k) {
-            let column = x + 4 * (k % ACROSS);
-            let row = y + 4 * (k / ACROSS);
-            add_two(picture, plane, column, row, residues, k);
-        }
+    for i in 0..ACROSS * ACROSS / 4 {
+        add_by_fours::<ACROSS>(picture, plane, x, y, residues, 4 * i);
     }
+}
+
+/// Adds to the block at column `x` of row `y` the residues of its subblocks `k` to `k + 3`, where those before are added.
+#[inline(always)]
+fn add_by_fours<const ACROSS: usize>(
+    picture: &mut Picture,
+    plane: usize,
+    x: usize,
+    y: usize,
+    residues: &Residues,
+    k: usize,
+)
+    requires plane { plane < 3 }
+    requires some { 0 < ACROSS }
+    requires size { ACROSS ≤ 4 }
+    requires pairs { ACROSS % 2 ≡ 0 }
+    requires start { k % 4 ≡ 0 }
+    requires end { k + 3 < ACROSS * ACROSS }
+    requires blocks { residues.now.first + ACROSS * ACROSS ≤ 25 }
+    requires small { AreSmall residues.now }
+    requires columns { x + 4 * ACROSS ≤ (plane_of picture.old plane).width }
+    requires rows { y + 4 * ACROSS ≤ (plane_of picture.old plane).height }
+    ensures step { (p : Image) (residue : ℕ → List ℤ) → Gives (ACROSS * ACROSS) residues.now residue
+        → AreBytes (plane_of p plane) x y (4 * ACROSS)
+        → x + 4 * ACROSS ≤ (plane_of p plane).width → y + 4 * ACROSS ≤ (plane_of p plane).height
+        → picture.old ≡ with_plane p plane (with_until ACROSS (plane_of p plane) x y residue k)
+        → picture.new ≡ with_plane p plane (with_until ACROSS (plane_of p plane) x y residue (k + 4)) }
+    ensures wide { (plane_of picture.new plane).width ≡ (plane_of picture.old plane).width }
+    ensures high { (plane_of picture.new plane).height ≡ (plane_of picture.old plane).height }
+{
+    let _height = picture.plane(plane).height();
+    if ACROSS == 4 && residues.has_firsts_alone(k) {
+        add_four(picture, plane, x, y + 4 * (k / 4), residues, k);
+        return;
+    }
+    add_by_twos::<ACROSS>(picture, plane, x, y, residues, k);
+    add_by_twos::<ACROSS>(picture, plane, x, y, residues, k + 2);
+}
+
+/// The same of subblocks `k` and `k + 1`.
+#[inline(always)]
+fn add_by_twos<const ACROSS: usize>(
+    picture: &mut Picture,
+    plane: usize,
+    x: usize,
+    y: usize,
+    residues: &Residues,
+    k: usize,
+)
+    requires plane { plane < 3 }
+    requires some { 0 < ACROSS }
+    requires size { ACROSS ≤ 4 }
+    requires pairs { ACROSS % 2 ≡ 0 }
+    requires start { k % 2 ≡ 0 }
+    requires end { k + 1 < ACROSS * ACROSS }
+    requires blocks { residues.now.first + ACROSS * ACROSS ≤ 25 }
+    requires small { AreSmall residues.now }
+    requires columns { x + 4 * ACROSS ≤ (plane_of picture.old plane).width }
+    requires rows { y + 4 * ACROSS ≤ (plane_of picture.old plane).height }
+    ensures step { (p : Image) (residue : ℕ → List ℤ) → Gives (ACROSS * ACROSS) residues.now residue
+        → AreBytes (plane_of p plane) x y (4 * ACROSS)
+        → x + 4 * ACROSS ≤ (plane_of p plane).width → y + 4 * ACROSS ≤ (plane_of p plane).height
+        → picture.old ≡ with_plane p plane (with_until ACROSS (plane_of p plane) x y residue k)
+        → picture.new ≡ with_plane p plane (with_until ACROSS (plane_of p plane) x y residue (k + 2)) }
+    ensures wide { (plane_of picture.new plane).width ≡ (plane_of picture.old plane).width }
+    ensures high { (plane_of picture.new plane).height ≡ (plane_of picture.old plane).height }
+{
+    let _width = picture.plane(plane).width();
+    let _height = picture.plane(plane).height();
+    if residues.has_in_pair(k) {
+        let column = x + 4 * (k % ACROSS);
+        let row = y + 4 * (k / ACROSS);
+        add_two(picture, plane, column, row, residues, k);
+    }
+}
+
+/// Adds to the four subblocks side by side from column `x` of row `y` on the residues of subblocks `k` to `k + 3`, of each of
+/// which only the first coefficient is not 0.
+fn add_four(picture: &mut Picture, plane: usize, x: usize, y: usize, residues: &Residues, k: usize)
+    requires plane { plane < 3 }
+    requires columns { x + 16 ≤ (plane_of picture.old plane).width }
+    requires rows { y + 4 ≤ (plane_of picture.old plane).height }
+    requires subblocks { k + 3 < 16 }
+    requires blocks { residues.now.first + k + 3 < 25 }
+    requires small { AreSmall residues.now }
+    requires first { IsAlone residues.now k }
+    requires second { IsAlone residues.now (k + 1) }
+    requires third { IsAlone residues.now (k + 2) }
+    requires fourth { IsAlone residues.now (k + 3) }
+    ensures { picture.new ≡ with_plane picture.old plane (with_both_added
+        (with_both_added (plane_of picture.old plane) x y (residue_in residues.now k) (residue_in residues.now (k + 1)))
+        (x + 8) y (residue_in residues.now (k + 2)) (residue_in residues.now (k + 3))) }
+{
+    let a = even_number(residues.first_coefficient(k));
+    let b = even_number(residues.first_coefficient(k + 1));
+    let c = even_number(residues.first_coefficient(k + 2));
+    let d = even_number(residues.first_coefficient(k + 3));
+    add_sixteen(picture, plane, x, y, four_numbers(a, b, c, d));
 }
 
 /// Adds to the subblock at column `x` of row `y` the residue of subblock `k`, and to the one to the right that of the next.

@@ -9,7 +9,7 @@ use std::simd::prelude::*;
 use vp_lanes::clamp_i16;
 
 /// Each pixel with its number. Numbers above 255 add no more than that.
-fn add(pixels: u8x16, numbers: i16x16) -> u8x16
+pub(crate) fn add(pixels: u8x16, numbers: i16x16) -> u8x16
     ensures { (j : ℕ) → j < 16 → slice_index result j ≡ summed (slice_index pixels j) (lane numbers j) }
 {
     let sums = pixels.cast::<i16>() + clamp_i16(numbers, i16::MIN, 255);

@@ -2,6 +2,7 @@
 #![tactic(auto)]
 
 mod add;
+mod four;
 mod inter;
 mod intra;
 mod kept;
@@ -10,6 +11,7 @@ mod macroblock;
 mod moved;
 mod moved_whole;
 mod pair;
+mod predicted;
 mod residue;
 mod source;
 mod subblock;
@@ -22,4 +24,5 @@ pub use laws::{
 };
 pub use macroblock::rebuild_macroblock;
 pub use moved_whole::move_macroblock;
+pub use predicted::predict_macroblock;
 pub use source::Source;

@@ -7,7 +7,7 @@ ghost use Rattle.vp_quant.specs.Quant.{dequantised};
 ghost use Rattle.vp_tokens.specs.Blocks.{block_of};
 ghost use Rattle.vp_recon.specs.Residue.{residue, luma_firsts, luma_residue, chroma_residue};
 ghost use Rattle.vp_recon.specs.Kept.{AreSums, IsKept, IsNothing};
-ghost use Rattle.vp_recon.specs.Parts.{AreSmall, Gives, coefficients_in, residue_in};
+ghost use Rattle.vp_recon.specs.Parts.{AreSmall, Gives, IsAlone, coefficients_in, residue_in};
 
 use crate::kept::sums;
 use std::simd::prelude::*;
@@ -170,6 +170,23 @@ impl<'a> Residues<'a> {
         ensures { result ≡ false → (first : ℤ) → slice_set (dequantised (block_of self.now.tokens.now (self.now.first + k)).levels 0 self.now.ac) 0 first ≡ first ∷ replicate 15 (pos 0) }
     {
         block_of(self.tokens, self.first + k).tokens > 1
+    }
+
+    /// Whether first coefficients stand apart, and subblocks `k` to `k + 3` have no other that is not 0.
+    pub(crate) fn has_firsts_alone(&self, k: usize) -> bool
+        requires { self.now.first + k + 3 < 25 }
+        ensures first { result ≡ true → IsAlone self.now k }
+        ensures second { result ≡ true → IsAlone self.now (k + 1) }
+        ensures third { result ≡ true → IsAlone self.now (k + 2) }
+        ensures fourth { result ≡ true → IsAlone self.now (k + 3) }
+    {
+        if self.firsts.is_none() {
+            return false;
+        }
+        if self.has_others(k) || self.has_others(k + 1) {
+            return false;
+        }
+        !self.has_others(k + 2) && !self.has_others(k + 3)
     }
 
     /// The coefficients of subblock `k`, where all are from -2200 to 2200 and its levels are as small.

@@ -7,6 +7,7 @@ use vp_bool::BoolDecoder;
 /// Reads bools from a pair of the tree on, to a leaf (RFC 6386, chapter 8.1).
 ///
 /// `from` is the place of that pair's first entry.
+#[inline(always)]
 pub fn read_tree_from<T: Copy>(
     tree: &[Entry<T>],
     probabilities: &[u8],
@@ -35,6 +36,7 @@ pub fn read_tree_from<T: Copy>(
 }
 
 /// Reads bools from the root of the tree on, to a leaf (RFC 6386, chapter 8.1).
+#[inline(always)]
 pub fn read_tree<T: Copy>(tree: &[Entry<T>], probabilities: &[u8], decoder: &mut BoolDecoder) -> T
     requires formed { IsTrue (is_tree tree.now) }
     requires probs_in { length tree.now ≤ 2 * length probabilities.now }

@@ -4,7 +4,7 @@ use Rattle.vp_head.specs.Probabilities.{entry_at, context_rows}
 use Rattle.vp_head.proofs.probabilities.read_context.Goals as goal
 
 pub loop-i-init : goal.loop-i-init
-loop-i-init c = record { len = c.told-old; so_far = each-none _ _ _ _ }
+loop-i-init c = record { len = c.told-old; so_far = rw (c.copy-own.ensures) (each-none _ _ _ _) }
 
 pub loop-i-preserved : goal.loop-i-preserved
 loop-i-preserved c = record {

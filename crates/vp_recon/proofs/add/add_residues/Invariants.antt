@@ -10,7 +10,7 @@ abbrev pub invariant-loop-i : goal.invariant-loop-i
 invariant-loop-i g l = record {
   pixels : (residue : ℕ → List ℤ) → Gives (g.row.ACROSS * g.row.ACROSS) l.residues residue
       → l.picture ≡ with_plane l.fn.picture l.plane (with_block (plane_of l.fn.picture l.plane) l.x l.y (4 * g.row.ACROSS) (4 * g.row.ACROSS)
-      (until (sub_at g.row.ACROSS) (2 * l.i) (added g.row.ACROSS (plane_of l.fn.picture l.plane) l.x l.y residue) (was (plane_of l.fn.picture l.plane) l.x l.y)));
+      (until (sub_at g.row.ACROSS) (4 * l.i) (added g.row.ACROSS (plane_of l.fn.picture l.plane) l.x l.y residue) (was (plane_of l.fn.picture l.plane) l.x l.y)));
   wide : (plane_of l.picture l.plane).width ≡ (plane_of l.fn.picture l.plane).width;
   high : (plane_of l.picture l.plane).height ≡ (plane_of l.fn.picture l.plane).height;
 }
