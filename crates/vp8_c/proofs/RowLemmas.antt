@@ -10,7 +10,7 @@ use Rattle.vp_base.specs.Block.{IsWhole}
 use Rattle.vp_base.specs.Image.{Image, plane_of, with_plane}
 use Rattle.vp_base.proofs.ImageLemmas.{plane_of-with_plane, with_plane-plane_of, with_plane-with_plane}
 use Rattle.vp_base.proofs.BlockLemmas.{get_or-overlay_inside, get_or-overlay_below, get_or-overlay_above, get_or-row_of}
-use Rattle.vp8_c.specs.Planes.{AreRows, AreRowsOf, HoldsRows, Planes, ReadsPlane, byte_at, colour_layout, luma_layout}
+use Rattle.vp8_c.specs.Planes.{AreStridedRows, AreRowsOf, HoldsRows, Planes, ReadsPlane, byte_at, colour_layout, luma_layout}
 use Rattle.vp8_c.specs.declared.planes.Layout.{Layout}
 
 -- so many columns and rows, a stride apart
@@ -108,7 +108,7 @@ read_more old at new k width y stride bytes run so_far is whole whole_at wide be
     }
 
 -- what was read, by columns and rows
-pub read_is : (l : Layout) (bytes : List ℕ) (k : ℕ) (old new : Image) → ReadsPlane l bytes k old new → AreRows l bytes (pixel (plane_of new k))
+pub read_is : (l : Layout) (bytes : List ℕ) (k : ℕ) (old new : Image) → ReadsPlane l bytes k old new → AreStridedRows l bytes (pixel (plane_of new k))
 read_is l bytes k old new reads x y within below =
     ap (λ (w : ℕ). get_or (plane_of new k).pixels (y * w + x) 0) reads.columns_is ∙ reads.rows.rows x y within below
 
@@ -124,8 +124,8 @@ all_read width height planes old a b new wide high first second third =
     let Y : Layout = luma_layout width height planes.strides.y in
     let U : Layout = colour_layout width height planes.strides.u in
     let V : Layout = colour_layout width height planes.strides.v in
-    let AreLuma : Raster → Type 0 = λ r. AreRows Y planes.y (pixel r) in
-    let AreU : Raster → Type 0 = λ r. AreRows U planes.u (pixel r) in
+    let AreLuma : Raster → Type 0 = λ r. AreStridedRows Y planes.y (pixel r) in
+    let AreU : Raster → Type 0 = λ r. AreStridedRows U planes.u (pixel r) in
     record {
       width_is = ap (λ (p : Image). p.width) third.others ∙ ap (λ (p : Image). p.width) second.others ∙ ap (λ (p : Image). p.width) first.others ∙ wide;
       height_is = ap (λ (p : Image). p.height) third.others ∙ ap (λ (p : Image). p.height) second.others ∙ ap (λ (p : Image). p.height) first.others ∙ high;

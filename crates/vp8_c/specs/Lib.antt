@@ -1,8 +1,8 @@
-pub mod Asking
+pub mod FileHandle
 pub mod Bytes
-pub mod Coding
+pub mod EncoderHandle
 pub mod Decoding
-pub mod Given
+pub mod Arguments
 pub mod Handle
 pub mod Names
 pub mod Planes

@@ -68,8 +68,8 @@ partition_name i =
     []
 
 -- the name of a number that a call answers, which is empty where none does
-abbrev pub name_of : ℕ → List ℕ
-name_of n =
+abbrev pub status_name : ℕ → List ℕ
+status_name n =
     if nat_lt n TRUNCATED then done_name n else
     if nat_lt n SIGNATURE then packet_name n else
     if nat_lt n SETTINGS then file_name n else

@@ -40,16 +40,16 @@ abbrev pub colour_layout : ℕ → ℕ → ℕ → Layout
 colour_layout width height stride = record { width = (width + 1) / 2; height = (height + 1) / 2; stride = stride }
 
 -- So many bytes have room for the rows: they don't overlap, and the last one ends within the bytes.
-abbrev pub Fits : Layout → ℕ → Type 0
-Fits l len = (l.width ≤ l.stride) × ((l.height - 1) * l.stride + l.width ≤ len)
+abbrev pub HasRoomForRows : Layout → ℕ → Type 0
+HasRoomForRows l len = (l.width ≤ l.stride) × ((l.height - 1) * l.stride + l.width ≤ len)
 
 -- the byte of column x and row y
 abbrev pub byte_at : ℕ → List ℕ → ℕ → ℕ → ℕ
 byte_at stride bytes x y = slice_index bytes (y * stride + x)
 
 -- the rows of the bytes are at x y in each column x of each row y
-abbrev pub AreRows : Layout → List ℕ → (ℕ → ℕ → ℕ) → Type 0
-AreRows l bytes at = (x y : ℕ) → x < l.width → y < l.height → at x y ≡ byte_at l.stride bytes x y
+abbrev pub AreStridedRows : Layout → List ℕ → (ℕ → ℕ → ℕ) → Type 0
+AreStridedRows l bytes at = (x y : ℕ) → x < l.width → y < l.height → at x y ≡ byte_at l.stride bytes x y
 
 -- The rows hold at x y in each column x of each row y, and all other bytes are as they were before.
 pub record HoldsRows (l : Layout) (at : ℕ → ℕ → ℕ) (before after : List ℕ) : Type 0 where
@@ -60,9 +60,9 @@ pub record HoldsRows (l : Layout) (at : ℕ → ℕ → ℕ) (before after : Lis
 
 -- the planes have room for a picture of so many columns and rows
 pub record AllFit (width height : ℕ) (planes : Planes) : Type 0 where
-  pub y : Fits (luma_layout width height planes.strides.y) (length planes.y)
-  pub u : Fits (colour_layout width height planes.strides.u) (length planes.u)
-  pub v : Fits (colour_layout width height planes.strides.v) (length planes.v)
+  pub y : HasRoomForRows (luma_layout width height planes.strides.y) (length planes.y)
+  pub u : HasRoomForRows (colour_layout width height planes.strides.u) (length planes.u)
+  pub v : HasRoomForRows (colour_layout width height planes.strides.v) (length planes.v)
 
 -- The planes hold the shown pixels of a picture, and all other bytes are as they were before.
 pub record HoldPicture (p : Image) (before after : Planes) : Type 0 where
@@ -74,9 +74,9 @@ pub record HoldPicture (p : Image) (before after : Planes) : Type 0 where
 pub record AreRowsOf (width height : ℕ) (planes : Planes) (p : Image) : Type 0 where
   pub width_is : p.width ≡ width
   pub height_is : p.height ≡ height
-  pub y : AreRows (luma_layout width height planes.strides.y) planes.y (pixel p.luma)
-  pub u : AreRows (colour_layout width height planes.strides.u) planes.u (pixel p.u)
-  pub v : AreRows (colour_layout width height planes.strides.v) planes.v (pixel p.v)
+  pub y : AreStridedRows (luma_layout width height planes.strides.y) planes.y (pixel p.luma)
+  pub u : AreStridedRows (colour_layout width height planes.strides.u) planes.u (pixel p.u)
+  pub v : AreStridedRows (colour_layout width height planes.strides.v) planes.v (pixel p.v)
 
 -- plane k of a picture was read from the rows of the bytes, and nothing else changed
 pub record ReadsPlane (l : Layout) (bytes : List ℕ) (k : ℕ) (old new : Image) : Type 0 where

@@ -6,7 +6,7 @@ use Rattle.vp_decode.specs.declared.decoder.Outcome.{Outcome}
 use Rattle.vp_decode.specs.declared.decoder.Outcome.TheVariants.{Shown, Hidden, Fault}
 use Rattle.vp_ivf.specs.declared.fault.FileFault.{FileFault}
 use Rattle.vp_ivf.specs.declared.fault.FileFault.TheVariants as file
-use Rattle.vp_stream.specs.Seeking.{Told}
+use Rattle.vp_stream.specs.Seeking.{AnswerValue}
 use Rattle.vp_stream.specs.Seeking as seeking
 use Rattle.vp8_c.specs.declared.status.TheConstants.{OK, HIDDEN, NO_PACKET, TRUNCATED, VERSION, START_CODE, SIZE, TOO_LARGE, NO_REFERENCE, FIRST_PARTITION, PARTITION_TABLE, PARTITION, SIGNATURE, CODEC, TOO_MANY, PACKET_TOO_LARGE, TORN, ENDED}
 
@@ -43,7 +43,7 @@ ending_number (Ok u) = OK
 ending_number (Err fault) = file_number fault
 
 -- the number of what is told of a packet that was asked for
-abbrev pub told_number : Told → ℕ
+abbrev pub told_number : AnswerValue → ℕ
 told_number (seeking.Shown w h bytes) = OK
 told_number seeking.Hidden = HIDDEN
 told_number (seeking.Fault fault) = fault_number fault

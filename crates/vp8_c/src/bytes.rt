@@ -1,6 +1,6 @@
 //! Bytes in the caller's memory.
 
-ghost use Rattle.vp8_c.specs.Given.{CopiesBytes};
+ghost use Rattle.vp8_c.specs.Arguments.{CopiesBytes};
 
 use crate::status::{BUFFER, OK};
 

@@ -1,6 +1,5 @@
 //! Calls as C makes them, on one handle: it is opened, asked, and freed.
 
-use crate::asked::StreamInfo;
 use crate::decoder::{
     vp8_decoder_copy, vp8_decoder_decode, vp8_decoder_free, vp8_decoder_new, vp8_decoder_size,
 };
@@ -8,6 +7,7 @@ use crate::encoder::{
     vp8_encoder_encode, vp8_encoder_free, vp8_encoder_new, vp8_encoder_packet,
     vp8_encoder_packet_size, vp8_encoder_reconstruction, vp8_encoder_squared_error,
 };
+use crate::file_handle::StreamInfo;
 use crate::handle::Handle;
 use crate::names::vp8_status_name;
 use crate::settings::EncoderSettings;

@@ -2,12 +2,12 @@
 
 ghost use Rattle.std.specs.Prelude.{◌≡◌, ◌⊎◌, ◌↔◌, None, IfSome, IsSomeAnd};
 ghost use Rattle.vp8_c.specs.Handle.{held_in};
-ghost use Rattle.vp8_c.specs.Given.{CopiesPicture, Gives, IsClosed, Opens, Puts, size_of};
+ghost use Rattle.vp8_c.specs.Arguments.{CopiesPicture, GivesOrFails, IsClosed, Opens, Puts, size_of};
 ghost use Rattle.vp8_c.specs.Planes.{planes_of};
-ghost use Rattle.vp8_c.specs.Decoding.{Decodes, IsFresh, IsNoLimit, decoder_in, shown_in, shown_size_in};
+ghost use Rattle.vp8_c.specs.Decoding.{Decodes, IsFresh, IsNoLimit, decoder_in, handle_picture, shown_size_in};
 
 use crate::handle::Handle;
-use crate::held::Held;
+use crate::handle_value::HandleValue;
 use crate::planes::{CallerPlanesMut, Strides};
 use crate::rows::{put_picture, put_size};
 use crate::status::{CLOSED, LIMITS, MEMORY, OK, OPEN};
@@ -28,7 +28,7 @@ pub extern "C" fn vp8_decoder_new(alloc: Global, decoder: &mut Handle, max_pixel
     let Some(limits) = Limits::new(max_pixels, 1, 1, 1) else {
         return LIMITS;
     };
-    match Box::new(alloc, Held::Decoder(Decoder::new(alloc, limits))) {
+    match Box::new(alloc, HandleValue::Decoder(Decoder::new(alloc, limits))) {
         Ok(held) => {
             decoder.put(held);
             OK
@@ -60,7 +60,7 @@ pub extern "C" fn vp8_decoder_size(
     height: &mut u32,
 ) -> u32
     ensures held { held_in decoder.new ≡ held_in decoder.old }
-    ensures size { Gives Puts (shown_size_in decoder.old) result (size_of width.old height.old) (size_of width.new height.new) }
+    ensures size { GivesOrFails Puts (shown_size_in decoder.old) result (size_of width.old height.old) (size_of width.new height.new) }
 {
     let Some(held) = decoder.take(alloc) else {
         return CLOSED;
@@ -86,7 +86,7 @@ pub extern "C" fn vp8_decoder_copy(
     v_stride: usize,
 ) -> u32
     ensures held { held_in decoder.new ≡ held_in decoder.old }
-    ensures picture { Gives CopiesPicture (shown_in decoder.old) result
+    ensures picture { GivesOrFails CopiesPicture (handle_picture decoder.old) result
         (planes_of y.old y_stride u.old u_stride v.old v_stride) (planes_of y.new y_stride u.new u_stride v.new v_stride) }
 {
     let Some(held) = decoder.take(alloc) else {

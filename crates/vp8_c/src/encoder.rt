@@ -4,14 +4,14 @@ ghost use Rattle.std.specs.Prelude.{◌≡◌, ◌⊎◌, ◌↔◌, None, IfSom
 ghost use Rattle.vp_base.specs.Limits.{IsNoSide};
 ghost use Rattle.vp_encode.specs.Encoder.{AreAllowed};
 ghost use Rattle.vp8_c.specs.Handle.{held_in};
-ghost use Rattle.vp8_c.specs.Given.{CopiesBytes, CopiesPicture, Gives, IsClosed, Opens, Puts};
+ghost use Rattle.vp8_c.specs.Arguments.{CopiesBytes, CopiesPicture, GivesOrFails, IsClosed, Opens, Puts};
 ghost use Rattle.vp8_c.specs.Planes.{planes_of};
-ghost use Rattle.vp8_c.specs.Coding.{Encodes, IsReady, encoder_in, error_in, packet_in, packet_size_in, recon_in, settings_in};
+ghost use Rattle.vp8_c.specs.EncoderHandle.{Encodes, IsReady, encoder_in, error_in, encoded_packet, packet_size_in, recon_in, settings_in};
 
 use crate::bytes::put_front;
-use crate::coding::Coding;
+use crate::encoder_handle::EncoderHandle;
 use crate::handle::Handle;
-use crate::held::Held;
+use crate::handle_value::HandleValue;
 use crate::planes::{CallerPlanes, CallerPlanesMut, Strides};
 use crate::rows::put_picture;
 use crate::settings::{EncoderSettings, dim_of};
@@ -43,10 +43,10 @@ pub extern "C" fn vp8_encoder_new(
     let Ok(made) = Encoder::new(alloc, dim, settings.settings()) else {
         return SETTINGS;
     };
-    let Some(coding) = Coding::of(alloc, made, dim) else {
+    let Some(coding) = EncoderHandle::of(alloc, made, dim) else {
         return MEMORY;
     };
-    match Box::new(alloc, Held::Encoder(coding)) {
+    match Box::new(alloc, HandleValue::Encoder(coding)) {
         Ok(held) => {
             encoder.put(held);
             OK
@@ -92,7 +92,7 @@ pub extern "C" fn vp8_encoder_packet_size(
     size: &mut usize,
 ) -> u32
     ensures held { held_in encoder.new ≡ held_in encoder.old }
-    ensures size { Gives Puts (packet_size_in encoder.old) result size.old size.new }
+    ensures size { GivesOrFails Puts (packet_size_in encoder.old) result size.old size.new }
 {
     let Some(held) = encoder.take(alloc) else {
         return CLOSED;
@@ -112,7 +112,7 @@ pub extern "C" fn vp8_encoder_packet_size(
 #[unsafe(no_mangle)]
 pub extern "C" fn vp8_encoder_packet(alloc: Global, encoder: &mut Handle, out: &mut [u8]) -> u32
     ensures held { held_in encoder.new ≡ held_in encoder.old }
-    ensures packet { Gives CopiesBytes (packet_in encoder.old) result out.old out.new }
+    ensures packet { GivesOrFails CopiesBytes (encoded_packet encoder.old) result out.old out.new }
 {
     let Some(held) = encoder.take(alloc) else {
         return CLOSED;
@@ -138,7 +138,7 @@ pub extern "C" fn vp8_encoder_reconstruction(
     v_stride: usize,
 ) -> u32
     ensures held { held_in encoder.new ≡ held_in encoder.old }
-    ensures picture { Gives CopiesPicture (recon_in encoder.old) result
+    ensures picture { GivesOrFails CopiesPicture (recon_in encoder.old) result
         (planes_of y.old y_stride u.old u_stride v.old v_stride) (planes_of y.new y_stride u.new u_stride v.new v_stride) }
 {
     let Some(held) = encoder.take(alloc) else {
@@ -165,7 +165,7 @@ pub extern "C" fn vp8_encoder_squared_error(
     error: &mut u64,
 ) -> u32
     ensures held { held_in encoder.new ≡ held_in encoder.old }
-    ensures error { Gives Puts (error_in encoder.old) result error.old error.new }
+    ensures error { GivesOrFails Puts (error_in encoder.old) result error.old error.new }
 {
     let Some(held) = encoder.take(alloc) else {
         return CLOSED;

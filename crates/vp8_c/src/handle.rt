@@ -2,8 +2,8 @@
 
 ghost use Rattle.std.specs.Prelude.{◌≡◌, Some, None, option_map, is_some, if◌then◌else◌};
 
-use crate::held::Held;
-use crate::parts::Parts;
+use crate::handle_value::HandleValue;
+use crate::raw_box::RawBox;
 use crate::slot::Slot;
 use std::alloc::Global;
 use std::mem;
@@ -27,7 +27,7 @@ impl Handle {
     }
 
     /// Takes what it leads to out of it.
-    pub fn take(&mut self, alloc: Global) -> Option<Box<Held, Global>>
+    pub fn take(&mut self, alloc: Global) -> Option<Box<HandleValue, Global>>
         ensures taken { option_map (λ b. b.value) result ≡ held_in self.old }
         ensures closed { held_in self.new ≡ None }
     {
@@ -44,13 +44,13 @@ impl Handle {
     }
 
     /// Makes a closed handle lead to this.
-    pub fn put(&mut self, held: Box<Held, Global>)
+    pub fn put(&mut self, held: Box<HandleValue, Global>)
         requires { held_in self.old ≡ None }
         ensures { held_in self.new ≡ Some held.value }
     {
         let open = Handle {
             in_use: 1,
-            slot: Slot::of_parts(Parts::of(held)),
+            slot: Slot::of_parts(RawBox::of(held)),
         };
         let Handle { in_use: _, slot } = mem::replace(self, open);
         slot.forget();

@@ -2,7 +2,7 @@
 
 ghost use Rattle.std.specs.Prelude.{◌≡◌, ◌≢◌, ◌≤◌, ◌<◌, ◌+◌, ◌++◌, [], ◌∷◌, length};
 ghost use Rattle.vp8_c.specs.Bytes.{BeginsWith};
-ghost use Rattle.vp8_c.specs.Names.{name_of, packet_name, partition_name, file_name, call_name, done_name, frame_name};
+ghost use Rattle.vp8_c.specs.Names.{status_name, packet_name, partition_name, file_name, call_name, done_name, frame_name};
 
 use crate::status::{
     BUFFER, CLOSED, CODEC, DIMENSIONS, ENDED, FIRST_PARTITION, HIDDEN, LIMITS, MEMORY, NO_PACKET,
@@ -99,8 +99,8 @@ fn partition_name(i: u32) -> &'static str
 }
 
 /// The name of a number that a call answers, which is empty where none does.
-pub fn name_of(status: u32) -> &'static str
-    ensures { result.now ≡ name_of status }
+pub fn status_name(status: u32) -> &'static str
+    ensures { result.now ≡ status_name status }
 {
     if status < TRUNCATED {
         done_name(status)
@@ -120,11 +120,11 @@ pub fn name_of(status: u32) -> &'static str
 /// Copies the name of a status and a 0 behind it, where there is room for both. Gives the name's length without the 0.
 #[unsafe(no_mangle)]
 pub extern "C" fn vp8_status_name(status: u32, out: &mut [u8]) -> usize
-    ensures len { result ≡ length (name_of status) }
-    ensures copied { length (name_of status) < length out.old → BeginsWith (name_of status ++ 0 ∷ []) out.old out.new }
-    ensures unchanged { length out.old ≤ length (name_of status) → out.new ≡ out.old }
+    ensures len { result ≡ length (status_name status) }
+    ensures copied { length (status_name status) < length out.old → BeginsWith (status_name status ++ 0 ∷ []) out.old out.new }
+    ensures unchanged { length out.old ≤ length (status_name status) → out.new ≡ out.old }
 {
-    let name = name_of(status).as_bytes();
+    let name = status_name(status).as_bytes();
     if name.len() < out.len() {
         out[name.len()] = 0;
         out[..name.len()].copy_from_slice(name);

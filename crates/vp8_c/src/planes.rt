@@ -1,7 +1,7 @@
 //! The three planes of a picture in the caller's memory.
 
 ghost use Rattle.std.specs.Prelude.{◌≡◌, ◌↔◌, IsTrue, length};
-ghost use Rattle.vp8_c.specs.Planes.{AllFit, Fits, colour_layout, luma_layout, planes_in, planes_in_mut};
+ghost use Rattle.vp8_c.specs.Planes.{AllFit, HasRoomForRows, colour_layout, luma_layout, planes_in, planes_in_mut};
 
 use vp_base::Dim;
 
@@ -64,7 +64,7 @@ impl Layout {
 
     /// Whether so many bytes have room for the rows.
     pub fn fits(self, len: usize) -> bool
-        ensures { IsTrue result ↔ Fits self len }
+        ensures { IsTrue result ↔ HasRoomForRows self len }
     {
         if self.width > self.stride {
             return false;

@@ -4,8 +4,8 @@ ghost use Rattle.std.specs.Prelude.{◌≡◌, ◌≤◌, ◌<◌, ◌+◌, ◌�
 ghost use Rattle.std.specs.Bool.{OnTrue, OnFalse};
 ghost use Rattle.vp_base.specs.Raster.{overlay, pixel};
 ghost use Rattle.vp_base.specs.Image.{plane_of};
-ghost use Rattle.vp8_c.specs.Given.{CopiesPicture, Puts, size_of};
-ghost use Rattle.vp8_c.specs.Planes.{AllFit, AreRowsOf, AreSameMemory, Fits, HoldsRows, ReadsPlane, planes_in, planes_in_mut};
+ghost use Rattle.vp8_c.specs.Arguments.{CopiesPicture, Puts, size_of};
+ghost use Rattle.vp8_c.specs.Planes.{AllFit, AreRowsOf, AreSameMemory, HasRoomForRows, HoldsRows, ReadsPlane, planes_in, planes_in_mut};
 
 use crate::planes::{CallerPlanes, CallerPlanesMut, Layout};
 use crate::status::{BUFFER, OK};
@@ -24,7 +24,7 @@ fn put_run(out: &mut [u8], start: usize, run: &[u8])
 fn copy_plane(plane: &Plane, layout: Layout, out: &mut [u8])
     requires columns { layout.width ≤ plane.now.width }
     requires rows { layout.height ≤ plane.now.height }
-    requires fits { Fits layout (length out.old) }
+    requires fits { HasRoomForRows layout (length out.old) }
     ensures { HoldsRows layout (pixel plane.now) out.old out.new }
 {
     for y in 0..layout.height {
@@ -62,7 +62,7 @@ fn read_plane(picture: &mut Picture, k: usize, layout: Layout, bytes: &[u8])
     requires plane { k < 3 }
     requires columns { layout.width ≤ (plane_of picture.old k).width }
     requires rows { layout.height ≤ (plane_of picture.old k).height }
-    requires fits { Fits layout (length bytes.now) }
+    requires fits { HasRoomForRows layout (length bytes.now) }
     ensures { ReadsPlane layout bytes.now k picture.old picture.new }
 {
     let _old = picture.plane(k).width();

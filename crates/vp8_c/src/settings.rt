@@ -31,7 +31,7 @@ pub struct EncoderSettings {
 }
 
 impl EncoderSettings {
-    ghost use Rattle.vp8_c.specs.Coding.{settings_in};
+    ghost use Rattle.vp8_c.specs.EncoderHandle.{settings_in};
 
     /// The settings of the library.
     pub fn settings(&self) -> Settings

@@ -3,8 +3,8 @@
 ghost use Rattle.std.specs.Prelude.{◌≡◌, Some, None, IsSome};
 ghost use Rattle.vp8_c.specs.Slot.{MaybeHeld, slot_owns, coded_held};
 
-use crate::held::Held;
-use crate::parts::Parts;
+use crate::handle_value::HandleValue;
+use crate::raw_box::RawBox;
 use std::alloc::Global;
 use std::marker::Model;
 use std::ptr;
@@ -31,21 +31,21 @@ impl Slot {
     }
 
     /// A slot that owns what a box did.
-    pub fn of_parts(parts: Parts<Held, Global>) -> Slot
+    pub fn of_parts(parts: RawBox<HandleValue, Global>) -> Slot
         ensures { result.held ≡ Some parts.value }
     {
-        let Parts { ptr, alloc: _ } = parts;
+        let RawBox { ptr, alloc: _ } = parts;
         Slot { at: ptr as *mut u8 }
     }
 
     /// What the box was made of.
-    pub fn into_parts(self, alloc: Global) -> Parts<Held, Global>
+    pub fn into_parts(self, alloc: Global) -> RawBox<HandleValue, Global>
         requires { IsSome self.held }
         ensures { Some result.value ≡ self.held }
     {
         let Slot { at } = self;
-        Parts {
-            ptr: at as *mut Held,
+        RawBox {
+            ptr: at as *mut HandleValue,
             alloc,
         }
     }

@@ -2,13 +2,13 @@
 
 ghost use Rattle.std.specs.Prelude.{◌≡◌, ◌⊎◌, None, IfSome, IsSomeAnd};
 ghost use Rattle.vp8_c.specs.Handle.{held_in};
-ghost use Rattle.vp8_c.specs.Given.{CopiesBytes, Gives, IsClosed, Opens, Puts, size_of};
-ghost use Rattle.vp8_c.specs.Asking.{Answers, IsFile, info_in, kept_i420_in, kept_size_in, stream_in};
+ghost use Rattle.vp8_c.specs.Arguments.{CopiesBytes, GivesOrFails, IsClosed, Opens, Puts, size_of};
+ghost use Rattle.vp8_c.specs.FileHandle.{AnswersPacket, IsFile, info_in, kept_i420_in, kept_size_in, stream_in};
 
-use crate::asked::{Asked, StreamInfo};
 use crate::bytes::put_front;
+use crate::file_handle::{FileHandle, StreamInfo};
 use crate::handle::Handle;
-use crate::held::Held;
+use crate::handle_value::HandleValue;
 use crate::rows::put_size;
 use crate::status::{CLOSED, MEMORY, OK, OPEN};
 use std::alloc::Global;
@@ -22,10 +22,10 @@ pub extern "C" fn vp8_stream_new(alloc: Global, stream: &mut Handle, bytes: &[u8
     if stream.is_open() {
         return OPEN;
     }
-    let Some(asked) = Asked::of_file(alloc, bytes) else {
+    let Some(asked) = FileHandle::of_file(alloc, bytes) else {
         return MEMORY;
     };
-    match Box::new(alloc, Held::Stream(asked)) {
+    match Box::new(alloc, HandleValue::Stream(asked)) {
         Ok(held) => {
             stream.put(held);
             OK
@@ -42,7 +42,7 @@ pub extern "C" fn vp8_stream_get_info(
     info: &mut StreamInfo,
 ) -> u32
     ensures held { held_in stream.new ≡ held_in stream.old }
-    ensures info { Gives Puts (info_in stream.old) result info.old info.new }
+    ensures info { GivesOrFails Puts (info_in stream.old) result info.old info.new }
 {
     let Some(held) = stream.take(alloc) else {
         return CLOSED;
@@ -62,7 +62,7 @@ pub extern "C" fn vp8_stream_get_info(
 #[unsafe(no_mangle)]
 pub extern "C" fn vp8_stream_picture_at(alloc: Global, stream: &mut Handle, n: u32) -> u32
     ensures closed { stream_in stream.old ≡ None → IsClosed result stream.old stream.new }
-    ensures answered { IfSome (stream_in stream.old) (λ a. IsSomeAnd (stream_in stream.new) (Answers n result a)) }
+    ensures answered { IfSome (stream_in stream.old) (λ a. IsSomeAnd (stream_in stream.new) (AnswersPacket n result a)) }
 {
     let Some(mut held) = stream.take(alloc) else {
         return CLOSED;
@@ -81,7 +81,7 @@ pub extern "C" fn vp8_stream_size(
     height: &mut u32,
 ) -> u32
     ensures held { held_in stream.new ≡ held_in stream.old }
-    ensures size { Gives Puts (kept_size_in stream.old) result (size_of width.old height.old) (size_of width.new height.new) }
+    ensures size { GivesOrFails Puts (kept_size_in stream.old) result (size_of width.old height.old) (size_of width.new height.new) }
 {
     let Some(held) = stream.take(alloc) else {
         return CLOSED;
@@ -98,7 +98,7 @@ pub extern "C" fn vp8_stream_size(
 #[unsafe(no_mangle)]
 pub extern "C" fn vp8_stream_copy_i420(alloc: Global, stream: &mut Handle, out: &mut [u8]) -> u32
     ensures held { held_in stream.new ≡ held_in stream.old }
-    ensures i420 { Gives CopiesBytes (kept_i420_in stream.old) result out.old out.new }
+    ensures i420 { GivesOrFails CopiesBytes (kept_i420_in stream.old) result out.old out.new }
 {
     let Some(held) = stream.take(alloc) else {
         return CLOSED;

@@ -1,7 +1,7 @@
 //! The numbers that `include/vp8.h` has, and planes whose rows stand apart.
 
-use crate::held::Held;
-use crate::names::name_of;
+use crate::handle_value::HandleValue;
+use crate::names::status_name;
 use crate::planes::{CallerPlanes, CallerPlanesMut, Strides};
 use crate::rows::{put_picture, put_size, read_picture};
 use crate::status::{
@@ -42,7 +42,7 @@ fn numbers_of_packet_faults(rt: HostRuntime) {
     for (fault, number, name) in faults {
         equal(&rt, &fault_number(fault), &number);
         equal(&rt, &outcome_number(Outcome::Fault(fault)), &number);
-        assert!(rt; name_of(number) == name);
+        assert!(rt; status_name(number) == name);
     }
     equal(&rt, &outcome_number(Outcome::Shown), &0);
     equal(&rt, &outcome_number(Outcome::Hidden), &1);
@@ -61,7 +61,7 @@ fn numbers_of_file_faults(rt: HostRuntime) {
     ];
     for (fault, number, name) in faults {
         equal(&rt, &file_number(fault), &number);
-        assert!(rt; name_of(number) == name);
+        assert!(rt; status_name(number) == name);
     }
 }
 
@@ -87,7 +87,7 @@ fn names_of_other_numbers(rt: HostRuntime) {
         (264, ""),
     ];
     for (number, name) in names {
-        assert!(rt; name_of(number) == name);
+        assert!(rt; status_name(number) == name);
     }
 }
 
@@ -131,7 +131,7 @@ fn numbers_of_the_header(rt: HostRuntime) {
 /// A decoder before its first packet has no picture, and is neither a file nor an encoder.
 #[test]
 fn nothing_to_give(rt: HostRuntime) {
-    let held = Held::Decoder(Decoder::new(rt.alloc(), Limits::usual()));
+    let held = HandleValue::Decoder(Decoder::new(rt.alloc(), Limits::usual()));
     assert!(rt; matches!(held.shown(), Err(NO_PICTURE)));
     assert!(rt; matches!(held.kept(), Err(CLOSED)));
     assert!(rt; matches!(held.encoded(), Err(CLOSED)));

@@ -16,16 +16,16 @@ use Rattle.vp_encode.specs.declared.settings.Settings.{Settings}
 use Rattle.vp_encode.specs.declared.report.EncodeReport.{EncodeReport}
 use Rattle.vp_encode.specs.declared.report.EncodeAllFault.{EncodeAllFault}
 use Rattle.vp_encode.specs.declared.report.EncodeAllFault.TheVariants as encode_fault
-use Rattle.vp_app.specs.declared.encoding.Encoding.{Encoding}
-use Rattle.vp_app.specs.declared.served.Service.{Service}
+use Rattle.vp_app.specs.declared.encode.EncodeArgs.{EncodeArgs}
+use Rattle.vp_app.specs.declared.serve_args.ServeArgs.{ServeArgs}
 use Rattle.vp_app.specs.declared.service.ServiceFault.{ServiceFault}
-use Rattle.vp_app.specs.declared.words.Plan.{Plan}
-use Rattle.vp_app.specs.declared.words.Plan.TheVariants.{Decode, Encode, Info, Serve, Nothing}
-use Rattle.vp_app.specs.declared.words.Refusal.{Refusal}
-use Rattle.vp_app.specs.declared.words.Refusal.TheVariants.{Words, Value}
+use Rattle.vp_app.specs.declared.args.Task.{Task}
+use Rattle.vp_app.specs.declared.args.Task.TheVariants.{Decode, Encode, Info, Serve, Nothing}
+use Rattle.vp_app.specs.declared.args.Refusal.{Refusal}
+use Rattle.vp_app.specs.declared.args.Refusal.TheVariants.{Words, Value}
 use Rattle.vp_app.specs.Status.{status_of}
-use Rattle.vp_app.specs.Words.{Asked, decodes, encodes, tells, serves, nothing, asked_of, faults_of, IsForMemory, IsOfValue, IsPlanFor, IsMistake, IsRefusalFor, IsRefused, AreMistaken}
-use Rattle.vp_app.specs.Commands.{Decodes, DecodesInto, Does, Encodes, EncodesInto, IsDecoded, IsEncoded, IsUnbegun, IsUnopened, IsUsageFault, Looks, LooksOver, Over, Serves, Side, Tells, is_stream, status_by_report, status_by_service}
+use Rattle.vp_app.specs.Args.{Asked, decodes, encodes, tells, serves, nothing, asked_of, faults_of, IsForMemory, IsOfValue, IsPlanFor, IsMistake, IsRefusalFor, HasInvalidValue, AreMistaken}
+use Rattle.vp_app.specs.Commands.{DecodesFile, DecodesInto, Does, EncodesFile, EncodesInto, IsFileDecoded, IsFileEncoded, IsUnbegun, IsUnopened, IsUsageFault, Looks, LooksOver, Over, ServesConnections, Side, PrintsSurvey, is_stream, status_by_report, status_by_service}
 
 pub over_stream : (name : List ℕ) (Work : Side → Side → Type 0) (old new : Side) → is_stream name ≡ true → Work old new → Over name Work old new
 over_stream name Work old new e h =
@@ -43,27 +43,27 @@ unopened device memory name fault e (inr f) = (e, inr (rw f refl))
 -- ---- to decode
 
 pub into_stream : (form : Form) (to : List ℕ) (done : Result Report DecodeFault) (i i' o o' : Side) → is_stream to ≡ true
-    → IsDecoded form done i i' o o' → DecodesInto form to done i i' o o'
-into_stream form to done i i' o o' e h = inr (over_stream to (IsDecoded form done i i') o o' e h)
+    → IsFileDecoded form done i i' o o' → DecodesInto form to done i i' o o'
+into_stream form to done i i' o o' e h = inr (over_stream to (IsFileDecoded form done i i') o o' e h)
 
 pub into_file : (form : Form) (to : List ℕ) (done : Result Report DecodeFault) (i i' o a b : Side) → is_stream to ≡ false
-    → IsDecoded form done i i' a b → DecodesInto form to done i i' o o
-into_file form to done i i' o a b e h = inr (over_file to (IsDecoded form done i i') o a b e h)
+    → IsFileDecoded form done i i' a b → DecodesInto form to done i i' o o
+into_file form to done i i' o a b e h = inr (over_file to (IsFileDecoded form done i i') o a b e h)
 
 pub into_none : (form : Form) (to : List ℕ) (fault : DecodeFault) (i o : Side) → is_stream to ≡ false → (fault ≡ Device) ⊎ (fault ≡ Memory)
     → DecodesInto form to (Err fault) i i o o
 into_none form to fault i o e f = inl (unopened Device Memory to fault e f, refl, refl)
 
 pub from_stream : (form : Form) (from to : List ℕ) (done : Result Report DecodeFault) (i i' o o' : Side) → is_stream from ≡ true
-    → DecodesInto form to done i i' o o' → Decodes form from to done i i' o o'
+    → DecodesInto form to done i i' o o' → DecodesFile form from to done i i' o o'
 from_stream form from to done i i' o o' e h = inr (over_stream from (λ a b. DecodesInto form to done a b o o') i i' e h)
 
 pub from_file : (form : Form) (from to : List ℕ) (done : Result Report DecodeFault) (i a b o o' : Side) → is_stream from ≡ false
-    → DecodesInto form to done a b o o' → Decodes form from to done i i o o'
+    → DecodesInto form to done a b o o' → DecodesFile form from to done i i o o'
 from_file form from to done i a b o o' e h = inr (over_file from (λ a b. DecodesInto form to done a b o o') i a b e h)
 
 pub from_none : (form : Form) (from to : List ℕ) (fault : DecodeFault) (i o : Side) → is_stream from ≡ false → (fault ≡ Device) ⊎ (fault ≡ Memory)
-    → Decodes form from to (Err fault) i i o o
+    → DecodesFile form from to (Err fault) i i o o
 from_none form from to fault i o e f = inl (unopened Device Memory from fault e f, refl, refl)
 
 -- ---- to look
@@ -80,33 +80,33 @@ look_none from fault i e f = inl (unopened Device Memory from fault e f, refl)
 -- ---- to encode
 
 pub encode_stream : (s : Settings) (to : List ℕ) (done : Result EncodeReport EncodeAllFault) (i i' o o' : Side) → is_stream to ≡ true
-    → IsEncoded s done i i' o o' → EncodesInto s to done i i' o o'
-encode_stream s to done i i' o o' e h = inr (over_stream to (IsEncoded s done i i') o o' e h)
+    → IsFileEncoded s done i i' o o' → EncodesInto s to done i i' o o'
+encode_stream s to done i i' o o' e h = inr (over_stream to (IsFileEncoded s done i i') o o' e h)
 
 pub encode_file : (s : Settings) (to : List ℕ) (done : Result EncodeReport EncodeAllFault) (i i' o a b : Side) → is_stream to ≡ false
-    → IsEncoded s done i i' a b → EncodesInto s to done i i' o o
-encode_file s to done i i' o a b e h = inr (over_file to (IsEncoded s done i i') o a b e h)
+    → IsFileEncoded s done i i' a b → EncodesInto s to done i i' o o
+encode_file s to done i i' o a b e h = inr (over_file to (IsFileEncoded s done i i') o a b e h)
 
 pub encode_none : (s : Settings) (to : List ℕ) (fault : EncodeAllFault) (i o : Side) → is_stream to ≡ false
     → (fault ≡ encode_fault.Device) ⊎ (fault ≡ encode_fault.Memory) → EncodesInto s to (Err fault) i i o o
 encode_none s to fault i o e f = inl (unopened encode_fault.Device encode_fault.Memory to fault e f, refl, refl)
 
 pub pictures_stream : (s : Settings) (from to : List ℕ) (done : Result EncodeReport EncodeAllFault) (i i' o o' : Side) → is_stream from ≡ true
-    → EncodesInto s to done i i' o o' → Encodes s from to done i i' o o'
+    → EncodesInto s to done i i' o o' → EncodesFile s from to done i i' o o'
 pictures_stream s from to done i i' o o' e h = inr (over_stream from (λ a b. EncodesInto s to done a b o o') i i' e h)
 
 pub pictures_file : (s : Settings) (from to : List ℕ) (done : Result EncodeReport EncodeAllFault) (i a b o o' : Side) → is_stream from ≡ false
-    → EncodesInto s to done a b o o' → Encodes s from to done i i o o'
+    → EncodesInto s to done a b o o' → EncodesFile s from to done i i o o'
 pictures_file s from to done i a b o o' e h = inr (over_file from (λ a b. EncodesInto s to done a b o o') i a b e h)
 
 pub pictures_none : (s : Settings) (from to : List ℕ) (fault : EncodeAllFault) (i o : Side) → is_stream from ≡ false
-    → (fault ≡ encode_fault.Device) ⊎ (fault ≡ encode_fault.Memory) → Encodes s from to (Err fault) i i o o
+    → (fault ≡ encode_fault.Device) ⊎ (fault ≡ encode_fault.Memory) → EncodesFile s from to (Err fault) i i o o
 pictures_none s from to fault i o e f = inl (unopened encode_fault.Device encode_fault.Memory from fault e f, refl, refl)
 
 -- ---- what is planned is done
 
-pub does_decode : (asked : Asked) (plan : Plan) (form : Form) (from to : Bor (List ℕ)) (done : Result Report DecodeFault) (status : ℕ) (i i' o o' : Side)
-    → plan ≡ Decode form from to → IsPlanFor asked plan → status ≡ status_of done → Decodes form from.now to.now done i i' o o'
+pub does_decode : (asked : Asked) (plan : Task) (form : Form) (from to : Bor (List ℕ)) (done : Result Report DecodeFault) (status : ℕ) (i i' o o' : Side)
+    → plan ≡ Decode form from to → IsPlanFor asked plan → status ≡ status_of done → DecodesFile form from.now to.now done i i' o o'
     → Does asked status i i' o o'
 does_decode asked plan form from to done status i i' o o' e h s d = go asked (subst (IsPlanFor asked) e h)
   where
@@ -117,9 +117,9 @@ does_decode asked plan form from to done status i i' o o' e h s d = go asked (su
     go (serves r a c t) p = absurd p
     go nothing p = absurd p
 
-pub does_encode : (asked : Asked) (plan : Plan) (encoding : Encoding) (done : Result EncodeReport EncodeAllFault) (status : ℕ) (i i' o o' : Side)
+pub does_encode : (asked : Asked) (plan : Task) (encoding : EncodeArgs) (done : Result EncodeReport EncodeAllFault) (status : ℕ) (i i' o o' : Side)
     → plan ≡ Encode encoding → IsPlanFor asked plan → status ≡ status_by_report done
-    → Encodes encoding.settings encoding.input.now encoding.output.now done i i' o o' → Does asked status i i' o o'
+    → EncodesFile encoding.settings encoding.input.now encoding.output.now done i i' o o' → Does asked status i i' o o'
 does_encode asked plan encoding done status i i' o o' e h s d = go asked (subst (IsPlanFor asked) e h)
   where
     go : (x : Asked) → IsPlanFor x (Encode encoding) → Does x status i i' o o'
@@ -129,8 +129,8 @@ does_encode asked plan encoding done status i i' o o' e h s d = go asked (subst 
     go (serves r a c t) p = absurd p
     go nothing p = absurd p
 
-pub does_tell : (asked : Asked) (plan : Plan) (from : Bor (List ℕ)) (done : Result Survey DecodeFault) (status : ℕ) (i i' o o' : Side)
-    → plan ≡ Info from → IsPlanFor asked plan → Looks from.now done i i' → Tells done status o.bytes o'.bytes → Does asked status i i' o o'
+pub does_tell : (asked : Asked) (plan : Task) (from : Bor (List ℕ)) (done : Result Survey DecodeFault) (status : ℕ) (i i' o o' : Side)
+    → plan ≡ Info from → IsPlanFor asked plan → Looks from.now done i i' → PrintsSurvey done status o.bytes o'.bytes → Does asked status i i' o o'
 does_tell asked plan from done status i i' o o' e h d t = go asked (subst (IsPlanFor asked) e h)
   where
     go : (x : Asked) → IsPlanFor x (Info from) → Does x status i i' o o'
@@ -140,8 +140,8 @@ does_tell asked plan from done status i i' o o' e h d t = go asked (subst (IsPla
     go (serves r a c t) p = absurd p
     go nothing p = absurd p
 
-pub does_serve : (asked : Asked) (plan : Plan) (service : Service) (done : Result Bool ServiceFault) (status : ℕ) (i i' o o' : Side)
-    → plan ≡ Serve service → IsPlanFor asked plan → status ≡ status_by_service done → Serves service done i i' → (service.show_address ≡ false → o' ≡ o)
+pub does_serve : (asked : Asked) (plan : Task) (service : ServeArgs) (done : Result Bool ServiceFault) (status : ℕ) (i i' o o' : Side)
+    → plan ≡ Serve service → IsPlanFor asked plan → status ≡ status_by_service done → ServesConnections service done i i' → (service.show_address ≡ false → o' ≡ o)
     → Does asked status i i' o o'
 does_serve asked plan service done status i i' o o' e h s d q = go asked (subst (IsPlanFor asked) e h)
   where
@@ -152,7 +152,7 @@ does_serve asked plan service done status i i' o o' e h s d q = go asked (subst 
     go (serves rows address connections operands) p = inl (service, done, p, s, d, q)
     go nothing p = absurd p
 
-pub does_nothing : (asked : Asked) (plan : Plan) (i o : Side) → plan ≡ Nothing → IsPlanFor asked plan → Does asked 2 i i o o
+pub does_nothing : (asked : Asked) (plan : Task) (i o : Side) → plan ≡ Nothing → IsPlanFor asked plan → Does asked 2 i i o o
 does_nothing asked plan i o e h = go asked (subst (IsPlanFor asked) e h)
   where
     go : (x : Asked) → IsPlanFor x Nothing → Does x 2 i i o o
@@ -169,7 +169,7 @@ unbegun (tells f) status i i' o o' h = inr h
 unbegun (serves r a c t) status i i' o o' h = inr (inl h)
 unbegun nothing status i i' o o' h = inl h
 
-misused : (asked : Asked) (status : ℕ) (i i' o o' : Side) → IsRefused asked → IsUsageFault status i i' o o' → Does asked status i i' o o'
+misused : (asked : Asked) (status : ℕ) (i i' o o' : Side) → HasInvalidValue asked → IsUsageFault status i i' o o' → Does asked status i i' o o'
 misused (decodes flag f g) status i i' o o' m h = absurd m
 misused (encodes rows f g) status i i' o o' m h = inr (inr (m, h))
 misused (tells f) status i i' o o' m h = absurd m

@@ -6,7 +6,7 @@ use Rattle.std.proofs.lemmas.List.Elements.{All-push}
 use Rattle.std.proofs.lemmas.List.Folds.{concat-append}
 use Rattle.vp_hub.specs.declared.event.Event.{Event}
 use Rattle.vp_hub.specs.declared.event.Event.TheVariants.{Feed, End}
-use Rattle.vp_hub.specs.Hub.{Outcome, State, IsStep}
+use Rattle.vp_hub.specs.Hub.{Outcome, HubState, IsStep}
 use Rattle.vp_hub.specs.declared.event.HubFault.{HubFault}
 use Rattle.vp_hub.specs.declared.event.HubFault.TheVariants.{Memory}
 use Rattle.vp_hub.specs.View.{IsRun, is_memory}
@@ -21,7 +21,7 @@ concat_push : (pieces : List (List ℕ)) (piece : List ℕ) → concat (pieces +
 concat_push pieces piece = concat-append pieces (piece ∷ []) ∙ ap (λ (xs : List ℕ). concat pieces ++ xs) (append-nil piece)
 
 -- these bytes were read, fed and taken
-pub record IsFeeding (name : List ℕ) (old now : State) (file : List ℕ) : Type 0 where
+pub record IsFeeding (name : List ℕ) (old now : HubState) (file : List ℕ) : Type 0 where
   pub pieces : List (List ℕ)
   pub taken : List Outcome
   pub file_is : file ≡ concat pieces
@@ -31,10 +31,10 @@ pub record IsFeeding (name : List ℕ) (old now : State) (file : List ℕ) : Typ
 none_yet : {X : Type 0} (P : X → Type 0) → All P []
 none_yet P k d lt = absurd (omega (arith, lt))
 
-pub at_first : (name : List ℕ) (old : State) → IsFeeding name old old []
+pub at_first : (name : List ℕ) (old : HubState) → IsFeeding name old old []
 at_first name old = record { pieces = []; taken = []; file_is = refl; run = refl; all_taken = none_yet IsOk }
 
-module _ (name : List ℕ) (old now new : State) (file piece : List ℕ) (h : IsFeeding name old now file) where
+module _ (name : List ℕ) (old now new : HubState) (file piece : List ℕ) (h : IsFeeding name old now file) where
   read_on : file ++ piece ≡ concat (h.pieces ++ piece ∷ [])
   read_on = ap (λ (xs : List ℕ). xs ++ piece) h.file_is ∙ sym (concat_push h.pieces piece)
 
@@ -42,7 +42,7 @@ module _ (name : List ℕ) (old now new : State) (file piece : List ℕ) (h : Is
   run_on o step = subst (λ (es : List Event). IsRun old es (h.taken ++ o ∷ []) new) (sym (feeds_push name h.pieces piece))
       (run_more old (feeds name h.pieces) h.taken now (Feed name piece) o new h.run step)
 
-pub feeds_on : (name : List ℕ) (old now new : State) (file piece : List ℕ) (left : Option (List ℕ)) (b : Bool) → b ≡ true → IsFeeding name old now file
+pub feeds_on : (name : List ℕ) (old now new : HubState) (file piece : List ℕ) (left : Option (List ℕ)) (b : Bool) → b ≡ true → IsFeeding name old now file
     → FeedsPiece name now new (Ok b) piece left → IsFeeding name old new (file ++ piece)
 feeds_on name old now new file piece left true is h (reply, step) = record {
   pieces = h.pieces ++ piece ∷ [];
@@ -56,7 +56,7 @@ feeds_on name old now new file piece left false is h x = absurd (differ is)
     differ : false ≡ true → ⊥
     differ e = cc
 
-pub is_fed : (name : List ℕ) (old now new : State) (file piece : List ℕ) (left : Option (List ℕ)) (b : Bool) → b ≡ false → IsFeeding name old now file
+pub is_fed : (name : List ℕ) (old now new : HubState) (file piece : List ℕ) (left : Option (List ℕ)) (b : Bool) → b ≡ false → IsFeeding name old now file
     → FeedsPiece name now new (Ok b) piece left → IsFed name old new (file ++ piece) left
 is_fed name old now new file piece left true is h x = absurd (differ is)
   where

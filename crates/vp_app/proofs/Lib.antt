@@ -2,6 +2,6 @@ pub mod CommandLemmas
 pub mod FeedingLemmas
 pub mod ListingLemmas
 pub mod NumberLemmas
-pub mod PlainWords
+pub mod PlainArgs
 pub mod ServingLemmas
-pub mod WordsLemmas
+pub mod ArgsLemmas

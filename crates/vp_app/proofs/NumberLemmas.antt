@@ -5,7 +5,7 @@ use Rattle.std.proofs.lemmas.Bool.{eqb-true}
 use Rattle.std.specs.Char.{digit_value}
 use Rattle.std.specs.Str.Parse.{digits_value, without_leading_plus, IsNumeral}
 use Rattle.clap.specs.Walk.{Text}
-use Rattle.vp_app.specs.Words.{IsDecimal, IsMisnumbered, IsNoDecimal, IsNumber}
+use Rattle.vp_app.specs.Args.{IsDecimal, IsMisnumbered, IsNoDecimal, IsNumber}
 
 pub no_plus : (t : Text) → (slice_index t 0 == 43) ≡ false → without_leading_plus t ≡ t
 no_plus t e = rw e refl

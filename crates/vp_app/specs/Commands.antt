@@ -11,23 +11,23 @@ use Rattle.vp_encode.specs.declared.settings.Settings.{Settings}
 use Rattle.vp_encode.specs.declared.report.EncodeReport.{EncodeReport}
 use Rattle.vp_encode.specs.declared.report.EncodeAllFault.{EncodeAllFault}
 use Rattle.vp_encode.specs.declared.report.EncodeAllFault.TheVariants as encode_fault
-use Rattle.vp_encode.specs.File.{IsAnswerFor as IsEncoderAnswerFor}
+use Rattle.vp_encode.specs.File.{IsEncodeAnswerFor as IsEncoderAnswerFor}
 use Rattle.vp_stream.specs.declared.form.Form.{Form}
 use Rattle.vp_stream.specs.declared.report.Report.{Report}
 use Rattle.vp_stream.specs.declared.fault.DecodeFault.{DecodeFault}
 use Rattle.vp_stream.specs.declared.fault.DecodeFault.TheVariants.{File, Device, Memory}
 use Rattle.vp_stream.specs.declared.fault.SurveyFault.{SurveyFault}
 use Rattle.vp_stream.specs.declared.outcomes.Survey.{Survey}
-use Rattle.vp_stream.specs.Progress.{read_fault_by}
-use Rattle.vp_stream.specs.Written.{IsAnswerFor, IsSurveyFor}
+use Rattle.vp_stream.specs.Transcode.{read_fault_by}
+use Rattle.vp_stream.specs.Written.{IsDecodeAnswerFor, IsSurveyFor}
 use Rattle.clap.specs.Walk.{Row}
 use Rattle.vp_app.specs.Listing.{survey_text}
 use Rattle.vp_app.specs.Status.{status_of}
 use Rattle.vp_app.specs.Usual.{AreLimits}
-use Rattle.vp_app.specs.declared.served.Service.{Service}
+use Rattle.vp_app.specs.declared.serve_args.ServeArgs.{ServeArgs}
 use Rattle.vp_app.specs.declared.service.ServiceFault.{ServiceFault}
 use Rattle.vp_app.specs.Serving.{IsService}
-use Rattle.vp_app.specs.Words.{Asked, decodes, encodes, tells, serves, nothing, AreNoSettings, AreSettings, IsFlag, IsNoService, IsServiceFor, is_y4m}
+use Rattle.vp_app.specs.Args.{Asked, decodes, encodes, tells, serves, nothing, AreNoSettings, AreSettings, IsFlag, IsNoService, IsServiceFor, is_y4m}
 
 -- ---- the streams
 
@@ -53,12 +53,12 @@ Over name Work old new = MatchBool (is_stream name) (Work old new) ((new ≡ old
 -- ---- to decode
 
 -- as the whole decoder says
-pub record IsDecoded (form : Form) (done : Result Report DecodeFault) (input input' output output' : Side) : Type 0 where
+pub record IsFileDecoded (form : Form) (done : Result Report DecodeFault) (input input' output output' : Side) : Type 0 where
   pub limits : Limits
   pub usual : AreLimits 16 limits
   pub file : List ℕ
   pub consumed : Consumes input.bytes input'.bytes file
-  pub answer : IsAnswerFor limits form done (HasFailed output.failures output'.failures) file output.bytes output'.bytes
+  pub answer : IsDecodeAnswerFor limits form done (HasFailed output.failures output'.failures) file output.bytes output'.bytes
   pub end : OnOk done (IsAtEnd input'.bytes)
   pub torn : done ≡ Err (File file_fault.Torn) → IsAtEnd input'.bytes
   pub device : done ≡ Err Device → HasFailed input.failures input'.failures ⊎ HasFailed output.failures output'.failures
@@ -70,10 +70,10 @@ IsUnopened device memory name done = (is_stream name ≡ false) × ((done ≡ Er
 
 abbrev pub DecodesInto : Form → List ℕ → Result Report DecodeFault → Side → Side → Side → Side → Type 0
 DecodesInto form to done input input' output output' =
-    (IsUnopened Device Memory to done × (input' ≡ input) × (output' ≡ output)) ⊎ Over to (IsDecoded form done input input') output output'
+    (IsUnopened Device Memory to done × (input' ≡ input) × (output' ≡ output)) ⊎ Over to (IsFileDecoded form done input input') output output'
 
-abbrev pub Decodes : Form → List ℕ → List ℕ → Result Report DecodeFault → Side → Side → Side → Side → Type 0
-Decodes form from to done input input' output output' =
+abbrev pub DecodesFile : Form → List ℕ → List ℕ → Result Report DecodeFault → Side → Side → Side → Side → Type 0
+DecodesFile form from to done input input' output output' =
     (IsUnopened Device Memory from done × (input' ≡ input) × (output' ≡ output))
     ⊎ Over from (λ a b. DecodesInto form to done a b output output') input input'
 
@@ -105,13 +105,13 @@ status_by_fault None = 0
 status_by_fault (Some fault) = 1
 
 -- the text of a survey is printed, or a write failed
-abbrev pub Tells : Result Survey DecodeFault → ℕ → Option (List ℕ) → Option (List ℕ) → Type 0
-Tells (Ok survey) status before after = ((status ≡ status_by_fault survey.fault) × Appends before after (survey_text survey)) ⊎ (status ≡ 1)
-Tells (Err fault) status before after = (status ≡ 1) × (after ≡ before)
+abbrev pub PrintsSurvey : Result Survey DecodeFault → ℕ → Option (List ℕ) → Option (List ℕ) → Type 0
+PrintsSurvey (Ok survey) status before after = ((status ≡ status_by_fault survey.fault) × Appends before after (survey_text survey)) ⊎ (status ≡ 1)
+PrintsSurvey (Err fault) status before after = (status ≡ 1) × (after ≡ before)
 
 -- ---- to encode
 
-pub record IsEncoded (settings : Settings) (done : Result EncodeReport EncodeAllFault) (input input' output output' : Side) : Type 0 where
+pub record IsFileEncoded (settings : Settings) (done : Result EncodeReport EncodeAllFault) (input input' output output' : Side) : Type 0 where
   pub limits : Limits
   pub usual : AreLimits 16 limits
   pub file : List ℕ
@@ -124,10 +124,10 @@ pub record IsEncoded (settings : Settings) (done : Result EncodeReport EncodeAll
 
 abbrev pub EncodesInto : Settings → List ℕ → Result EncodeReport EncodeAllFault → Side → Side → Side → Side → Type 0
 EncodesInto settings to done input input' output output' =
-    (IsUnopened encode_fault.Device encode_fault.Memory to done × (input' ≡ input) × (output' ≡ output)) ⊎ Over to (IsEncoded settings done input input') output output'
+    (IsUnopened encode_fault.Device encode_fault.Memory to done × (input' ≡ input) × (output' ≡ output)) ⊎ Over to (IsFileEncoded settings done input input') output output'
 
-abbrev pub Encodes : Settings → List ℕ → List ℕ → Result EncodeReport EncodeAllFault → Side → Side → Side → Side → Type 0
-Encodes settings from to done input input' output output' =
+abbrev pub EncodesFile : Settings → List ℕ → List ℕ → Result EncodeReport EncodeAllFault → Side → Side → Side → Side → Type 0
+EncodesFile settings from to done input input' output output' =
     (IsUnopened encode_fault.Device encode_fault.Memory from done × (input' ≡ input) × (output' ≡ output))
     ⊎ Over from (λ a b. EncodesInto settings to done a b output output') input input'
 
@@ -146,20 +146,20 @@ IsUsageFault status input input' output output' = (status ≡ 2) × (input' ≡ 
 
 abbrev pub DoesDecode : Option (List ℕ) → List ℕ → List ℕ → ℕ → Side → Side → Side → Side → Type 0
 DoesDecode flag from to status input input' output output' =
-    (form : Form) × (done : Result Report DecodeFault) × IsFlag flag (is_y4m form) × (status ≡ status_of done) × Decodes form from to done input input' output output'
+    (form : Form) × (done : Result Report DecodeFault) × IsFlag flag (is_y4m form) × (status ≡ status_of done) × DecodesFile form from to done input input' output output'
 
 abbrev pub DoesEncode : List Row → List ℕ → List ℕ → ℕ → Side → Side → Side → Side → Type 0
 DoesEncode rows from to status input input' output output' =
-    (settings : Settings) × (done : Result EncodeReport EncodeAllFault) × AreSettings rows settings × (status ≡ status_by_report done) × Encodes settings from to done input input' output output'
+    (settings : Settings) × (done : Result EncodeReport EncodeAllFault) × AreSettings rows settings × (status ≡ status_by_report done) × EncodesFile settings from to done input input' output output'
 
 abbrev pub DoesTell : List ℕ → ℕ → Side → Side → Side → Side → Type 0
 DoesTell from status input input' output output' =
-    (done : Result Survey DecodeFault) × Looks from done input input' × Tells done status output.bytes output'.bytes
+    (done : Result Survey DecodeFault) × Looks from done input input' × PrintsSurvey done status output.bytes output'.bytes
 
 -- the connections were served, or a fault of files, names, addresses or memory came before
-abbrev pub Serves : Service → Result Bool ServiceFault → Side → Side → Type 0
-Serves service (Ok well) input input' = IsService service.streams.items service.cache service.connections well input.bytes input'.bytes
-Serves service (Err fault) input input' = Unit {0}
+abbrev pub ServesConnections : ServeArgs → Result Bool ServiceFault → Side → Side → Type 0
+ServesConnections service (Ok well) input input' = IsService service.streams.items service.cache service.connections well input.bytes input'.bytes
+ServesConnections service (Err fault) input input' = Unit {0}
 
 abbrev pub status_by_service : Result Bool ServiceFault → ℕ
 status_by_service (Ok true) = 0
@@ -168,8 +168,8 @@ status_by_service _ = 1
 -- nothing is printed but the address, where that is asked for
 abbrev pub DoesServe : List Row → List ℕ → List ℕ → List (List ℕ) → ℕ → Side → Side → Side → Side → Type 0
 DoesServe rows address connections operands status input input' output output' =
-    (service : Service) × (done : Result Bool ServiceFault) × IsServiceFor rows address connections operands service
-    × (status ≡ status_by_service done) × Serves service done input input' × (service.show_address ≡ false → output' ≡ output)
+    (service : ServeArgs) × (done : Result Bool ServiceFault) × IsServiceFor rows address connections operands service
+    × (status ≡ status_by_service done) × ServesConnections service done input input' × (service.show_address ≡ false → output' ≡ output)
 
 abbrev pub Does : Asked → ℕ → Side → Side → Side → Side → Type 0
 Does (decodes flag from to) status input input' output output' =

@@ -7,7 +7,7 @@ use Rattle.vp_hub.specs.declared.event.Event.TheVariants.{Feed, End}
 use Rattle.vp_hub.specs.declared.event.HubFault.{HubFault}
 use Rattle.vp_hub.specs.declared.event.HubFault.TheVariants.{Memory}
 use Rattle.vp_hub.specs.declared.event.Reply.{Reply}
-use Rattle.vp_hub.specs.Hub.{Outcome, State, IsStep}
+use Rattle.vp_hub.specs.Hub.{Outcome, HubState, IsStep}
 use Rattle.vp_hub.specs.View.{IsRun}
 use Rattle.vp_app.specs.declared.service.ServiceFault.{ServiceFault}
 
@@ -22,13 +22,13 @@ refused None = []
 refused (Some fault) = Err fault ∷ []
 
 -- no piece is refused and the reader is at its end; or one is, and not for want of memory
-abbrev pub IsWhole : Option HubFault → Option (List ℕ) → Type 0
-IsWhole None left = IsAtEnd left
-IsWhole (Some fault) left = fault ≢ Memory
+abbrev pub IsFeedingDone : Option HubFault → Option (List ℕ) → Type 0
+IsFeedingDone None left = IsAtEnd left
+IsFeedingDone (Some fault) left = fault ≢ Memory
 
 -- the pieces of a file were fed, and then its end was told. Each piece is taken, to the end of the file; or up to one that is
 -- refused, since the stream has a fault
-pub record IsFed (name : List ℕ) (old new : State) (file : List ℕ) (left : Option (List ℕ)) : Type 0 where
+pub record IsFed (name : List ℕ) (old new : HubState) (file : List ℕ) (left : Option (List ℕ)) : Type 0 where
   pub pieces : List (List ℕ)
   pub taken : List Outcome
   pub fault : Option HubFault
@@ -36,12 +36,12 @@ pub record IsFed (name : List ℕ) (old new : State) (file : List ℕ) (left : O
   pub file_is : file ≡ concat pieces
   pub run : IsRun old (feeds name pieces ++ End name ∷ []) ((taken ++ refused fault) ++ told ∷ []) new
   pub all_taken : All IsOk taken
-  pub whole : IsWhole fault left
+  pub whole : IsFeedingDone fault left
 
 -- one read: a piece was fed; or the end was told, at the reader's end or behind a piece that was refused
-abbrev pub FeedsPiece : List ℕ → State → State → Result Bool ServiceFault → List ℕ → Option (List ℕ) → Type 0
+abbrev pub FeedsPiece : List ℕ → HubState → HubState → Result Bool ServiceFault → List ℕ → Option (List ℕ) → Type 0
 FeedsPiece name old new (Ok true) piece left = (reply : Reply) × IsStep old (Feed name piece) (Ok reply) new
 FeedsPiece name old new (Ok false) piece left =
     ((piece ≡ []) × IsAtEnd left × ((o : Outcome) × IsStep old (End name) o new))
-    ⊎ ((fault : HubFault) × (mid : State) × (o : Outcome) × (fault ≢ Memory) × IsStep old (Feed name piece) (Err fault) mid × IsStep mid (End name) o new)
+    ⊎ ((fault : HubFault) × (mid : HubState) × (o : Outcome) × (fault ≢ Memory) × IsStep old (Feed name piece) (Err fault) mid × IsStep mid (End name) o new)
 FeedsPiece name old new (Err fault) piece left = Unit {0}

@@ -1,7 +1,7 @@
 pub mod Usual
 pub mod Status
 pub mod Listing
-pub mod Words
+pub mod Args
 pub mod Feeding
 pub mod Serving
 pub mod Commands

@@ -1,6 +1,6 @@
 -- What a file holds, as lines of text.
 use Rattle.std.specs.Prelude.{ℕ, zero, suc, List, [], ◌∷◌, ◌++◌, length, slice_index_or, codes, decimal}
-use Rattle.vp_head.specs.Names.{name_of}
+use Rattle.vp_head.specs.Names.{packet_fault_name}
 use Rattle.vp_decode.specs.declared.decoder.Outcome.{Outcome}
 use Rattle.vp_decode.specs.declared.decoder.Outcome.TheVariants as outcome
 use Rattle.vp_stream.specs.declared.outcomes.Survey.{Survey}
@@ -10,7 +10,7 @@ use Rattle.vp_hub.specs.Pages.{head_lines}
 abbrev pub word_of : Outcome → List ℕ
 word_of outcome.Shown = codes "Shown"
 word_of outcome.Hidden = codes "Hidden"
-word_of (outcome.Fault fault) = name_of fault
+word_of (outcome.Fault fault) = packet_fault_name fault
 
 -- its number, its bytes, and what became of it
 abbrev pub packet_line : ℕ → ℕ → Outcome → List ℕ

@@ -5,66 +5,66 @@ use Rattle.std.specs.Str.{bytes_eq}
 use Rattle.std.specs.Io.KnownBytes.{Consumes}
 use Rattle.vp_base.specs.Counted.{HasFailed}
 use Rattle.vp_base.specs.declared.limits.Limits.{Limits}
-use Rattle.vp_cache.specs.Kept.{empty}
-use Rattle.vp_hub.specs.declared.visit.ServeFault.{ServeFault}
-use Rattle.vp_hub.specs.declared.visit.ServeFault.TheVariants.{Device}
-use Rattle.vp_hub.specs.Hub.{State, fresh}
-use Rattle.vp_hub.specs.Work.{Whole}
-use Rattle.vp_hub.specs.Visits.{IsVisit, IsTurnedAway}
-use Rattle.vp_app.specs.declared.served.Named.{Named}
+use Rattle.vp_cache.specs.Cache.{empty}
+use Rattle.vp_hub.specs.declared.session.ServeFault.{ServeFault}
+use Rattle.vp_hub.specs.declared.session.ServeFault.TheVariants.{Device}
+use Rattle.vp_hub.specs.Hub.{HubState, initial_hub}
+use Rattle.vp_hub.specs.Work.{Hub}
+use Rattle.vp_hub.specs.Sessions.{IsSession, IsTurnedAway}
+use Rattle.vp_app.specs.declared.serve_args.NamedFile.{NamedFile}
 use Rattle.vp_app.specs.Usual.{AreLimits}
 use Rattle.vp_app.specs.Feeding.{IsFed}
 
 -- ---- the hub
 
-abbrev pub names_of : List Named → List (List ℕ)
+abbrev pub names_of : List NamedFile → List (List ℕ)
 names_of streams = map (λ s. s.name.now) streams
 
 -- a hub of the streams, which no event came to
-abbrev pub IsNewHub : List Named → ℕ → Whole → Type 0
+abbrev pub IsNewHub : List NamedFile → ℕ → Hub → Type 0
 IsNewHub streams cache hub =
-    (limits : Limits) × AreLimits cache limits × (hub ≡ record { state = fresh (names_of streams) limits; cache = empty limits.cache; work = 0 })
+    (limits : Limits) × AreLimits cache limits × (hub ≡ record { state = initial_hub (names_of streams) limits; cache = empty limits.cache; work = 0 })
 
 -- ---- the files
 
 -- the stream was fed its file, which for `-` is what the input has from here on
-abbrev pub IsFileFed : Named → State → State → Option (List ℕ) → Option (List ℕ) → Type 0
+abbrev pub IsFileFed : NamedFile → HubState → HubState → Option (List ℕ) → Option (List ℕ) → Type 0
 IsFileFed s old new before after =
     (file : List ℕ) × MatchBool (bytes_eq s.file.now (codes "-"))
     (Consumes before after file × IsFed s.name.now old new file after)
     ((after ≡ before) × ((left : Option (List ℕ)) × IsFed s.name.now old new file left))
 
 -- each stream in turn
-abbrev pub AreFilesFed : List Named → State → State → Option (List ℕ) → Option (List ℕ) → Type 0
+abbrev pub AreFilesFed : List NamedFile → HubState → HubState → Option (List ℕ) → Option (List ℕ) → Type 0
 AreFilesFed [] old new before after = (new ≡ old) × (after ≡ before)
 AreFilesFed (s ∷ streams) old new before after =
-    (mid : State) × (between : Option (List ℕ)) × IsFileFed s old mid before between × AreFilesFed streams mid new between after
+    (mid : HubState) × (between : Option (List ℕ)) × IsFileFed s old mid before between × AreFilesFed streams mid new between after
 
 -- ---- the connections
 
 -- no connection of this number could be accepted; or it was turned away; or it was served, over a socket, whose bytes nobody
 -- knows. The hub's state is as before.
-abbrev pub IsServed : ℕ → State → Result (Unit {0}) ServeFault → Type 0
+abbrev pub IsServed : ℕ → HubState → Result (Unit {0}) ServeFault → Type 0
 IsServed number s o =
     (o ≡ Err Device) ⊎ (IsTurnedAway number s s o
-    ⊎ ((read : List ℕ) × (failures : ℕ) × IsVisit number s s o read None None None (HasFailed 0 failures)))
+    ⊎ ((read : List ℕ) × (failures : ℕ) × IsSession number s s o read None None None (HasFailed 0 failures)))
 
 -- each in turn, numbered from this number on
-abbrev pub AreServed : ℕ → State → List (Result (Unit {0}) ServeFault) → Type 0
+abbrev pub AreServed : ℕ → HubState → List (Result (Unit {0}) ServeFault) → Type 0
 AreServed number s [] = Unit {0}
 AreServed number s (o ∷ os) = IsServed number s o × AreServed (number + 1) s os
 
 -- so many connections were served, and whether each was served to its end
-pub record IsServing (connections : ℕ) (s : State) (well : Bool) : Type 0 where
+pub record IsServing (connections : ℕ) (s : HubState) (well : Bool) : Type 0 where
   pub outcomes : List (Result (Unit {0}) ServeFault)
   pub count : length outcomes ≡ connections
   pub served : AreServed 0 s outcomes
   pub well_is : well ≡ list_all is_ok outcomes
 
 -- ---- the whole: all files are fed into a new hub, and then the connections are served
-pub record IsService (streams : List Named) (cache connections : ℕ) (well : Bool) (before after : Option (List ℕ)) : Type 0 where
-  pub hub : Whole
-  pub fed : State
+pub record IsService (streams : List NamedFile) (cache connections : ℕ) (well : Bool) (before after : Option (List ℕ)) : Type 0 where
+  pub hub : Hub
+  pub fed : HubState
   pub begins : IsNewHub streams cache hub
   pub feeds : AreFilesFed streams hub.state fed before after
   pub serves : IsServing connections fed well

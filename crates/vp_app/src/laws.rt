@@ -4,7 +4,7 @@ ghost use Rattle.std.specs.Prelude.{◌≡◌, [], ◌∷◌, Err, Ok, Some, cod
 ghost use Rattle.clap.specs.Walk.{Text};
 ghost use Rattle.vp_app.specs.Commands.{status_by_service};
 ghost use Rattle.vp_app.specs.declared.service.ServiceFault.{ServiceFault};
-ghost use Rattle.vp_app.specs.Words.{asked_of, decodes, faults_of, tells, IsOperand};
+ghost use Rattle.vp_app.specs.Args.{asked_of, decodes, faults_of, tells, IsOperand};
 
 /// `vp8 decode IN OUT` and `vp8 decode --y4m IN OUT` ask for just that.
 pub fn decode_words()

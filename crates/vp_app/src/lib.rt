@@ -1,18 +1,18 @@
 //! The program `vp8`, over any streams.
 #![tactic(auto)]
 
-mod encoding;
+mod args;
+mod encode;
 mod files;
 mod laws;
 mod listing;
 mod program;
-mod served;
+mod serve_args;
 mod service;
-mod words;
 
-pub use encoding::Encoding;
+pub use args::{Refusal, Task, read_args};
+pub use encode::EncodeArgs;
 pub use laws::{decode_words, info_words, statuses_of_serve};
 pub use program::{command, command_line};
-pub use served::{Named, Service};
+pub use serve_args::{NamedFile, ServeArgs};
 pub use service::{ServiceFault, feed_all, listen, new_hub, serve_each};
-pub use words::{Plan, Refusal, read_words};

@@ -6,15 +6,15 @@ ghost use Rattle.clap.specs.Walk.{texts};
 ghost use Rattle.clap.specs.declared.error.kind.ErrorKind.{ErrorKind};
 ghost use Rattle.vp_stream.specs.declared.fault.DecodeFault.{DecodeFault};
 ghost use Rattle.vp_base.specs.Counted.{counted_contents};
-ghost use Rattle.vp_app.specs.Commands.{is_stream, read_side, written_side, status_by_report, status_by_service, Decodes, DecodesInto, Does, IsDecoded, IsLooked, Looks, LooksOver, Tells};
+ghost use Rattle.vp_app.specs.Commands.{is_stream, read_side, written_side, status_by_report, status_by_service, DecodesFile, DecodesInto, Does, IsFileDecoded, IsLooked, Looks, LooksOver, PrintsSurvey};
 ghost use Rattle.vp_app.specs.Status.{status_of};
-ghost use Rattle.vp_app.specs.Words.{asked_of, faults_of, AreMistaken, Asked, IsForMemory, IsMistake, IsOfValue, IsPlanFor};
+ghost use Rattle.vp_app.specs.Args.{asked_of, faults_of, AreMistaken, Asked, IsForMemory, IsMistake, IsOfValue, IsPlanFor};
 
-use crate::encoding::encode;
+use crate::args::{Refusal, Task, read_args};
+use crate::encode::encode;
 use crate::files::file_fault;
 use crate::listing::print_survey;
 use crate::service::{ServiceFault, serve};
-use crate::words::{Plan, Refusal, read_words};
 use clap::Error;
 use clap::error::ErrorKind;
 use std::alloc::Global;
@@ -61,51 +61,51 @@ pub fn command<
     // Words with a fault are a usage fault, unless they ask for the help or the version or memory is refused.
     ensures mistaken { AreMistaken (texts words.now) → (result ≡ 2) ⊎ ((result ≡ 1) × (input.new ≡ input.old) × (output.new ≡ output.old)) }
 {
-    match read_words(rt.alloc(), words) {
-        Ok(plan) => carry_out(rt, &plan, input, output, errors),
-        Err(refusal) => turn_down(&refusal, output, errors),
+    match read_args(rt.alloc(), words) {
+        Ok(plan) => run_task(rt, &plan, input, output, errors),
+        Err(refusal) => reject(&refusal, output, errors),
     }
 }
 
 // Does what is planned, and gives the status.
 #[tactic(auto, using(crate::proofs::CommandLemmas::does_decode, crate::proofs::CommandLemmas::does_encode, crate::proofs::CommandLemmas::does_tell, crate::proofs::CommandLemmas::does_serve, crate::proofs::CommandLemmas::does_nothing))]
-fn carry_out<
+fn run_task<
     H: Files + AllocGlobal + Net<Stream = TcpStream, Listener = TcpListener>,
     R: Read,
     W: Write,
     E: Write,
 >(
     rt: &H,
-    plan: &Plan<'_>,
+    plan: &Task<'_>,
     input: &mut Counted<R>,
     output: &mut Counted<W>,
     errors: &mut Counted<E>,
 ) -> u8
     ensures status { result ≤ 2 }
     ensures usage { result ≡ 2 → (input.new ≡ input.old) × (output.new ≡ output.old) }
-    ensures nothing { plan.now ≡ Plan.Nothing → result ≡ 2 }
+    ensures nothing { plan.now ≡ Task.Nothing → result ≡ 2 }
     ensures does { (asked : Asked) → IsPlanFor asked plan.now → Does asked result
         (read_side R.remaining input.old) (read_side R.remaining input.new)
         (written_side W.contents output.old) (written_side W.contents output.new) }
 {
     match plan {
-        Plan::Decode {
+        Task::Decode {
             form,
             input: from,
             output: to,
-        } => tell(decode(rt, *form, from, to, input, output), errors),
-        Plan::Encode(encoding) => tell_encoding(
+        } => report_decode(decode(rt, *form, from, to, input, output), errors),
+        Task::Encode(encoding) => report_encode(
             encode(rt, encoding, input, output, errors),
             errors,
         ),
-        Plan::Info { input: from } => tell_survey(look(rt, from, input), output, errors),
-        Plan::Serve(service) => tell_service(serve(rt, service, input, output, errors), errors),
-        Plan::Nothing => 2,
+        Task::Info { input: from } => report_survey(survey_file(rt, from, input), output, errors),
+        Task::Serve(service) => report_serve(serve(rt, service, input, output, errors), errors),
+        Task::Nothing => 2,
     }
 }
 
 // Says why nothing is done, and gives the status.
-fn turn_down<W: Write, E: Write>(
+fn reject<W: Write, E: Write>(
     refusal: &Refusal,
     output: &mut Counted<W>,
     errors: &mut Counted<E>,
@@ -117,8 +117,8 @@ fn turn_down<W: Write, E: Write>(
     ensures value { IsOfValue refusal.now → (result ≡ 2) × (output.new ≡ output.old) }
 {
     match refusal {
-        Refusal::Value(text) => refuse(text, errors),
-        Refusal::Words(error) => explain(error, output, errors),
+        Refusal::Value(text) => report_usage_error(text, errors),
+        Refusal::Words(error) => report_args_error(error, output, errors),
     }
 }
 
@@ -132,7 +132,7 @@ fn decode<H: Files + AllocGlobal, R: Read, W: Write>(
     input: &mut Counted<R>,
     output: &mut Counted<W>,
 ) -> Result<Report, DecodeFault>
-    ensures decoded { Decodes form from.now to.now result
+    ensures decoded { DecodesFile form from.now to.now result
         (read_side R.remaining input.old) (read_side R.remaining input.new)
         (written_side W.contents output.old) (written_side W.contents output.new) }
     ensures unread { is_stream from.now ≡ false → input.new ≡ input.old }
@@ -178,7 +178,7 @@ fn decode_over<R: Read, W: Write>(
     input: &mut Counted<R>,
     output: &mut Counted<W>,
 ) -> Result<Report, DecodeFault>
-    ensures { IsDecoded form result
+    ensures { IsFileDecoded form result
         (read_side R.remaining input.old) (read_side R.remaining input.new)
         (written_side W.contents output.old) (written_side W.contents output.new) }
 {
@@ -187,7 +187,7 @@ fn decode_over<R: Read, W: Write>(
 
 // Opens the file, and goes through it.
 #[tactic(auto, using(crate::proofs::CommandLemmas::look_stream, crate::proofs::CommandLemmas::look_file, crate::proofs::CommandLemmas::look_none))]
-fn look<H: Files + AllocGlobal, R: Read>(
+fn survey_file<H: Files + AllocGlobal, R: Read>(
     rt: &H,
     from: &str,
     input: &mut Counted<R>,
@@ -196,15 +196,15 @@ fn look<H: Files + AllocGlobal, R: Read>(
     ensures unread { is_stream from.now ≡ false → input.new ≡ input.old }
 {
     if from == "-" {
-        return look_over(rt.alloc(), input);
+        return survey_input(rt.alloc(), input);
     }
     match fs::open(rt, from) {
-        Ok(file) => look_over(rt.alloc(), &mut Counted::new(file)),
+        Ok(file) => survey_input(rt.alloc(), &mut Counted::new(file)),
         Err(error) => Err(file_fault(&error, DecodeFault::Device, DecodeFault::Memory)),
     }
 }
 
-fn look_over<R: Read>(alloc: Global, input: &mut Counted<R>) -> Result<Survey, DecodeFault>
+fn survey_input<R: Read>(alloc: Global, input: &mut Counted<R>) -> Result<Survey, DecodeFault>
     ensures { LooksOver result (read_side R.remaining input.old) (read_side R.remaining input.new) }
 {
     match survey_over(alloc, input) {
@@ -220,7 +220,7 @@ fn survey_over<R: Read>(alloc: Global, input: &mut Counted<R>) -> Result<Survey,
 }
 
 // Names the fault that the work ended by.
-fn name_end<F: fmt::Display + Drop, E: Write>(fault: F, errors: &mut Counted<E>) -> u8
+fn report_fault<F: fmt::Display + Drop, E: Write>(fault: F, errors: &mut Counted<E>) -> u8
     ensures { result ≡ 1 }
 {
     let _ = writeln!(errors, "vp8: {fault}");
@@ -228,13 +228,13 @@ fn name_end<F: fmt::Display + Drop, E: Write>(fault: F, errors: &mut Counted<E>)
 }
 
 // Names the faults, and gives the status.
-fn tell<E: Write>(done: Result<Report, DecodeFault>, errors: &mut Counted<E>) -> u8
+fn report_decode<E: Write>(done: Result<Report, DecodeFault>, errors: &mut Counted<E>) -> u8
     ensures status { result ≡ status_of done }
     ensures ended { result ≤ 1 }
 {
     let report = match done {
         Ok(report) => report,
-        Err(fault) => return name_end(fault, errors),
+        Err(fault) => return report_fault(fault, errors),
     };
     for (packet, fault) in report.faults.as_slice() {
         let _ = writeln!(errors, "vp8: packet {packet}: {fault}");
@@ -243,7 +243,7 @@ fn tell<E: Write>(done: Result<Report, DecodeFault>, errors: &mut Counted<E>) ->
 }
 
 // Tells how many frames there are and the sum of their squared errors, or names the fault, and gives the status.
-fn tell_encoding<E: Write>(
+fn report_encode<E: Write>(
     done: Result<EncodeReport, EncodeAllFault>,
     errors: &mut Counted<E>,
 ) -> u8
@@ -255,35 +255,35 @@ fn tell_encoding<E: Write>(
             let _ = writeln!(errors, "frames {} error {}", report.frames, report.error);
             0
         }
-        Err(fault) => name_end(fault, errors),
+        Err(fault) => report_fault(fault, errors),
     }
 }
 
 // Prints what was found in a file, names what is wrong with it, and gives the status.
-fn tell_survey<W: Write, E: Write>(
+fn report_survey<W: Write, E: Write>(
     done: Result<Survey, DecodeFault>,
     output: &mut Counted<W>,
     errors: &mut Counted<E>,
 ) -> u8
     ensures status { result ≤ 1 }
     ensures well { result ≡ 0 → IsOk done × IfOk done (λ s. s.fault ≡ None) }
-    ensures told { Tells done result (counted_contents W.contents output.old) (counted_contents W.contents output.new) }
+    ensures told { PrintsSurvey done result (counted_contents W.contents output.old) (counted_contents W.contents output.new) }
 {
     let survey = match done {
         Ok(survey) => survey,
-        Err(fault) => return name_end(fault, errors),
+        Err(fault) => return report_fault(fault, errors),
     };
     if print_survey(&survey, output).is_err() {
-        return name_end(DecodeFault::Device, errors);
+        return report_fault(DecodeFault::Device, errors);
     }
     match survey.fault {
-        Some(fault) => name_end(DecodeFault::File(fault), errors),
+        Some(fault) => report_fault(DecodeFault::File(fault), errors),
         None => 0,
     }
 }
 
 // Prints the help, or what is wrong with the words.
-fn explain<W: Write, E: Write>(
+fn report_args_error<W: Write, E: Write>(
     error: &Error,
     output: &mut Counted<W>,
     errors: &mut Counted<E>,
@@ -295,7 +295,7 @@ fn explain<W: Write, E: Write>(
         → (result ≡ 2) ⊎ ((result ≡ 1) × (output.new ≡ output.old)) }
 {
     if error.kind() == ErrorKind::OutOfMemory {
-        return name_end(DecodeFault::Memory, errors);
+        return report_fault(DecodeFault::Memory, errors);
     }
     if error.use_stderr() {
         let _ = write!(errors, "{error}");
@@ -303,12 +303,12 @@ fn explain<W: Write, E: Write>(
     }
     match write!(output, "{error}") {
         Ok(()) => 0,
-        Err(_) => name_end(DecodeFault::Device, errors),
+        Err(_) => report_fault(DecodeFault::Device, errors),
     }
 }
 
 // Says what is wrong with a value.
-fn refuse<E: Write>(text: &str, errors: &mut Counted<E>) -> u8
+fn report_usage_error<E: Write>(text: &str, errors: &mut Counted<E>) -> u8
     ensures { result ≡ 2 }
 {
     let _ = writeln!(errors, "error: {text}");
@@ -316,14 +316,14 @@ fn refuse<E: Write>(text: &str, errors: &mut Counted<E>) -> u8
 }
 
 // Names the fault that kept the server from serving, and gives the status.
-fn tell_service<E: Write>(done: Result<bool, ServiceFault>, errors: &mut Counted<E>) -> u8
+fn report_serve<E: Write>(done: Result<bool, ServiceFault>, errors: &mut Counted<E>) -> u8
     ensures status { result ≤ 1 }
     ensures by { result ≡ status_by_service done }
 {
     match done {
         Ok(true) => 0,
         Ok(false) => 1,
-        Err(fault) => name_end(fault, errors),
+        Err(fault) => report_fault(fault, errors),
     }
 }
 
@@ -340,13 +340,13 @@ pub fn command_line<
     let owned = match env::args(rt) {
         Ok(args) => args,
         Err(error) if error.kind() == io::ErrorKind::OutOfMemory => {
-            return name_end(DecodeFault::Memory, errors);
+            return report_fault(DecodeFault::Memory, errors);
         }
-        Err(_) => return refuse("a word isn't UTF-8", errors),
+        Err(_) => return report_usage_error("a word isn't UTF-8", errors),
     };
     let owned: Vec<String> = match owned.collect(rt.alloc()) {
         Ok(owned) => owned,
-        Err(_) => return name_end(DecodeFault::Memory, errors),
+        Err(_) => return report_fault(DecodeFault::Memory, errors),
     };
     match owned
         .iter()
@@ -354,6 +354,6 @@ pub fn command_line<
         .collect::<Vec<&str>>(rt.alloc())
     {
         Ok(words) => command(rt, &words, input, output, errors),
-        Err(_) => name_end(DecodeFault::Memory, errors),
+        Err(_) => report_fault(DecodeFault::Memory, errors),
     }
 }

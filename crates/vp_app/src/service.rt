@@ -5,16 +5,16 @@ ghost use Rattle.std.specs.IoError.{error_kind};
 ghost use Rattle.std.specs.declared.io.ErrorKind.{ErrorKind};
 ghost use Rattle.std.specs.Io.KnownBytes.{Consumes};
 ghost use Rattle.vp_base.specs.Counted.{counted_remaining};
-ghost use Rattle.vp_hub.specs.Hub.{State};
+ghost use Rattle.vp_hub.specs.Hub.{HubState};
 ghost use Rattle.vp_hub.specs.Names.{are_names};
 ghost use Rattle.vp_hub.specs.View.{is_memory as hub_is_memory};
 ghost use Rattle.vp_app.specs.declared.service.ServiceFault.{ServiceFault};
-ghost use Rattle.vp_app.specs.Commands.{read_side, Serves};
+ghost use Rattle.vp_app.specs.Commands.{read_side, ServesConnections};
 ghost use Rattle.vp_app.specs.Feeding.{FeedsPiece, IsFed};
 ghost use Rattle.vp_app.specs.Serving.{AreFilesFed, IsFileFed, IsNewHub, IsServed, IsServing, names_of};
 
 use crate::files::file_fault;
-use crate::served::{Named, Service};
+use crate::serve_args::{NamedFile, ServeArgs};
 use std::alloc::{AllocError, Global};
 use std::io::{Read, Write};
 use std::net::{Net, Shutdown, TcpListener, TcpStream};
@@ -76,12 +76,12 @@ pub(crate) fn serve<
     E: Write,
 >(
     rt: &H,
-    service: &Service<'_>,
+    service: &ServeArgs<'_>,
     input: &mut Counted<R>,
     output: &mut Counted<W>,
     errors: &mut Counted<E>,
 ) -> Result<bool, ServiceFault>
-    ensures served { Serves service.now result (read_side R.remaining input.old) (read_side R.remaining input.new) }
+    ensures served { ServesConnections service.now result (read_side R.remaining input.old) (read_side R.remaining input.new) }
 
     // Nothing is printed but the address, where that is asked for.
     ensures quiet { service.now.show_address ≡ false → output.new ≡ output.old }
@@ -99,12 +99,12 @@ fn serve_over<
 >(
     rt: &H,
     hub: &mut Hub,
-    service: &Service<'_>,
+    service: &ServeArgs<'_>,
     input: &mut Counted<R>,
     output: &mut Counted<W>,
     errors: &mut Counted<E>,
 ) -> Result<bool, ServiceFault>
-    ensures served { IfOk result (λ well. (fed : State) × AreFilesFed service.now.streams.items hub.old.state fed
+    ensures served { IfOk result (λ well. (fed : HubState) × AreFilesFed service.now.streams.items hub.old.state fed
         (counted_remaining R.remaining input.old) (counted_remaining R.remaining input.new) × IsServing service.now.connections fed well) }
     ensures quiet { service.now.show_address ≡ false → output.new ≡ output.old }
 {
@@ -119,7 +119,7 @@ fn serve_over<
 /// Listens at the address, and prints it where that is asked for.
 pub fn listen<H: AllocGlobal + Net<Stream = TcpStream, Listener = TcpListener>, W: Write>(
     rt: &H,
-    service: &Service<'_>,
+    service: &ServeArgs<'_>,
     output: &mut Counted<W>,
 ) -> Result<TcpListener, ServiceFault>
     ensures quiet { service.now.show_address ≡ false → output.new ≡ output.old }
@@ -138,7 +138,7 @@ fn print_address<W: Write>(listener: &TcpListener, output: &mut Counted<W>) -> i
 }
 
 /// A hub of the streams, which were fed nothing.
-pub fn new_hub(alloc: Global, service: &Service<'_>) -> Result<Hub, ServiceFault>
+pub fn new_hub(alloc: Global, service: &ServeArgs<'_>) -> Result<Hub, ServiceFault>
     ensures hub { IfOk result (λ hub. IsNewHub service.now.streams.items service.now.cache hub) }
     ensures names { result ≡ Err ServiceFault.Names → are_names (names_of service.now.streams.items) ≡ false }
 {
@@ -161,7 +161,7 @@ pub fn new_hub(alloc: Global, service: &Service<'_>) -> Result<Hub, ServiceFault
     }
 }
 
-fn stream_names(alloc: Global, streams: &[Named<'_>]) -> Result<Vec<ByteList>, AllocError>
+fn stream_names(alloc: Global, streams: &[NamedFile<'_>]) -> Result<Vec<ByteList>, AllocError>
     ensures { IfOk result (λ names. names.items ≡ names_of streams.now) }
 {
     let mut names = Vec::new(alloc);
@@ -181,7 +181,7 @@ fn byte_list(alloc: Global, bytes: &[u8]) -> Result<ByteList, AllocError>
 pub fn feed_all<H: Files + AllocGlobal, R: Read>(
     rt: &H,
     hub: &mut Hub,
-    streams: &[Named<'_>],
+    streams: &[NamedFile<'_>],
     input: &mut Counted<R>,
 ) -> Result<(), ServiceFault>
     ensures { IfOk result (λ _. AreFilesFed streams.now hub.old.state hub.new.state
@@ -197,7 +197,7 @@ pub fn feed_all<H: Files + AllocGlobal, R: Read>(
 fn feed_stream<H: Files + AllocGlobal, R: Read>(
     rt: &H,
     hub: &mut Hub,
-    stream: &Named<'_>,
+    stream: &NamedFile<'_>,
     input: &mut Counted<R>,
 ) -> Result<(), ServiceFault>
     ensures { IfOk result (λ _. IsFileFed stream.now hub.old.state hub.new.state

@@ -7,15 +7,15 @@ use Rattle.vp_base.specs.declared.near.Near.TheVariants.{Here, There, Outside}
 use Rattle.vp_base.specs.Grid.{Grid, entry}
 
 -- where block k of the macroblock at a place stands among all the blocks of a plane
-abbrev pub block : ℕ → Place → ℕ → Place
-block side p k = record { column = p.column * side + k % side; row = p.row * side + k / side }
+abbrev pub block_place : ℕ → Place → ℕ → Place
+block_place side p k = record { column = p.column * side + k % side; row = p.row * side + k / side }
 
 -- the macroblock that has a block, and the block's number in it
-abbrev pub macroblock : ℕ → Place → Place
-macroblock side b = record { column = b.column / side; row = b.row / side }
+abbrev pub macroblock_place : ℕ → Place → Place
+macroblock_place side b = record { column = b.column / side; row = b.row / side }
 
-abbrev pub number : ℕ → Place → ℕ
-number side b = b.row % side * side + b.column % side
+abbrev pub block_number : ℕ → Place → ℕ
+block_number side b = b.row % side * side + b.column % side
 
 abbrev pub is_same : Place → Place → Bool
 is_same p q = p.column == q.column && p.row == q.row
@@ -24,17 +24,17 @@ is_same p q = p.column == q.column && p.row == q.row
 unfoldable pub seen_from : ℕ → Place → Option Place → Near
 seen_from side here None = Outside
 seen_from side here (Some b) =
-    if is_same (macroblock side b) here then Here (number side b) else There (macroblock side b) (number side b)
+    if is_same (macroblock_place side b) here then Here (block_number side b) else There (macroblock_place side b) (block_number side b)
 
 -- block k of an entry, or the value outside
-abbrev pub block_of : {A B : Type 0} → (A → ℕ → B) → B → Option A → ℕ → B
-block_of of outside None k = outside
-block_of of outside (Some a) k = of a k
+abbrev pub block_or_outside : {A B : Type 0} → (A → ℕ → B) → B → Option A → ℕ → B
+block_or_outside of outside None k = outside
+block_or_outside of outside (Some a) k = of a k
 
 -- the block there: found so far inside this macroblock, else the grid's, else the value outside
 abbrev pub value : {A B : Type 0} → (A → ℕ → B) → B → Grid A → List B → Near → B
 value of outside g found (Here k) = slice_index_or found k outside
-value of outside g found (There p k) = block_of of outside (entry g p) k
+value of outside g found (There p k) = block_or_outside of outside (entry g p) k
 value of outside g found Outside = outside
 
 -- a block in this macroblock, or in one that stands in no later column and no later row

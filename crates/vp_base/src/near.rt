@@ -2,7 +2,7 @@
 
 ghost use Rattle.std.specs.Prelude.{◌≡◌, ◌<◌};
 ghost use Rattle.vp_base.specs.Place.{above, left};
-ghost use Rattle.vp_base.specs.Near.{block, seen_from, IsBefore};
+ghost use Rattle.vp_base.specs.Near.{block_place, seen_from, IsBefore};
 
 use crate::place::Place;
 
@@ -23,7 +23,7 @@ impl Place {
     #[tactic(auto, using(crate::proofs::NearLemmas::above_here, crate::proofs::NearLemmas::above_there, crate::proofs::NearLemmas::above_outside))]
     pub fn above_block(self, k: usize) -> Near
         requires { k < 16 }
-        ensures value { result ≡ seen_from 4 self (above (block 4 self k)) }
+        ensures value { result ≡ seen_from 4 self (above (block_place 4 self k)) }
         ensures before { IsBefore self result }
     {
         if k >= 4 {
@@ -39,7 +39,7 @@ impl Place {
     #[tactic(auto, using(crate::proofs::NearLemmas::left_here, crate::proofs::NearLemmas::left_there, crate::proofs::NearLemmas::left_outside))]
     pub fn left_block(self, k: usize) -> Near
         requires { k < 16 }
-        ensures value { result ≡ seen_from 4 self (left (block 4 self k)) }
+        ensures value { result ≡ seen_from 4 self (left (block_place 4 self k)) }
         ensures before { IsBefore self result }
     {
         if k % 4 > 0 {

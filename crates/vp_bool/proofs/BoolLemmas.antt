@@ -6,9 +6,9 @@ use Rattle.std.proofs.Math.Dec.{leb}
 use Rattle.std.proofs.lemmas.Nat.{pow-add, pow_pos, leading_top, mul-le, div_below, shl_whole}
 use Rattle.std.specs.Int.Count.{count_leading_zeros}
 use Rattle.std.proofs.Math.Nat.{pow-suc, mod-eq_of_lt}
-use Rattle.vp_bool.specs.Bools.{State, number, doubled, doubled_at, normal, split_of, bool_of, rest_of, read, start, whole, literal}
+use Rattle.vp_bool.specs.Bools.{State, number, doubled, doubled_at, normal, split_of, bool_of, rest_of, read, initial_state, whole_partition, literal}
 use mir.Val.{bool_byte}
-use Rattle.vp_bool.specs.Window.{st, state, advanced, IsSound, IsTaken, AreBytes}
+use Rattle.vp_bool.specs.Window.{st, state, advanced, IsNormalised, IsUnnormalised, AreBytes}
 use Rattle.vp_bool.proofs.Numbers.{scaled, power_up, double_pow}
 use Rattle.vp_bool.proofs.WindowLemmas.{number-bound}
 
@@ -154,10 +154,10 @@ rest_false p v r n bs bytes below =
 less_split : (v b d q : ℕ) → v ≤ (b + d) * q → v - b * q ≤ d * q
 less_split v b d q high = omega arith
 
-pub rest-taken : (p : ℕ) (s : State) → p < 256 → IsSound s → IsTaken (rest_of p s)
+pub rest-taken : (p : ℕ) (s : State) → p < 256 → IsNormalised s → IsUnnormalised (rest_of p s)
 rest-taken p s byte sound =
     let split : split_of p s.range < s.range = split_below p s.range byte (omega arith) in
-    cond_both (bool_of p s) _ _ IsTaken
+    cond_both (bool_of p s) _ _ IsUnnormalised
     (λ e.
     let sum : split_of p s.range + (s.range - split_of p s.range) ≡ s.range = omega arith in
     let high : s.value ≤ (split_of p s.range + (s.range - split_of p s.range)) * 2 ^ s.scale = rw sum sound.below in
@@ -177,7 +177,7 @@ shifted_below v r j k h =
     let products : r * (2 ^ k * 2 ^ (j - k)) ≡ r * (2 ^ j * 2 ^ (k - j)) = ap (λ n. r * n) powers in
     omega (arith, scaled v (r * 2 ^ k) (2 ^ (j - k)) h)
 
-pub sound-normal : (s : State) → IsTaken s → IsSound (normal 7 s)
+pub sound-normal : (s : State) → IsUnnormalised s → IsNormalised (normal 7 s)
 sound-normal s taken =
     let d = doubles s.range taken.some taken.byte in
     rw (normal-shifted s taken.some taken.byte)
@@ -201,11 +201,11 @@ range_whole r some byte =
 
 -- ---- the first state
 
-pub sound-start : (xs : List ℕ) → AreBytes xs → IsSound (start xs)
-unfolding start whole
+pub sound-start : (xs : List ℕ) → AreBytes xs → IsNormalised (initial_state xs)
+unfolding initial_state whole_partition
 sound-start [] bytes = record { below = omega arith; normal = omega arith; byte = omega arith }
 sound-start (b ∷ bs) bytes =
-    cond_both (b == 255) _ _ IsSound
+    cond_both (b == 255) _ _ IsNormalised
     (λ _. record { below = omega arith; normal = omega arith; byte = omega arith })
     (λ e.
     let other : b ≡ 255 → ⊥ = eqb-false b 255 e in

@@ -7,7 +7,7 @@ use Rattle.std.proofs.lemmas.Nat.{pow-add, pow_pos}
 use Rattle.std.proofs.lemmas.Bool.{leb-true, ltb-true, ne_eqb, cases_lt}
 use Rattle.std.proofs.lemmas.List.{take_more, take_all, length-drop, take-append-drop}
 use Rattle.vp_bool.specs.Bools.{State, number, normal}
-use Rattle.vp_bool.specs.Window.{state, front, IsAligned, IsTaken, AreBytes}
+use Rattle.vp_bool.specs.Window.{state, high_bits, IsLeftAligned, IsUnnormalised, AreBytes}
 use Rattle.vp_bool.specs.declared.decoder.TheConstants.{DOUBLINGS}
 use Rattle.vp_bool.proofs.Numbers.{scaled, power_up}
 use Rattle.vp_bool.proofs.WindowLemmas.{same_state, advanced_within, advanced_past}
@@ -66,13 +66,13 @@ number-more bytes i v b lt e f = rw (take_more bytes i 0 lt, number-push (take i
 
 -- ---- the front of a word
 
-pub front-is : (word w c : ℕ) → word ≡ w * 2 ^ (56 - c) → front word c ≡ w
+pub front-is : (word w c : ℕ) → word ≡ w * 2 ^ (56 - c) → high_bits word c ≡ w
 front-is word w c e = rw e (mul-div_cancel w (pow_pos (56 - c)))
 
-pub aligned-by : (word w c : ℕ) → word ≡ w * 2 ^ (56 - c) → IsAligned word c
+pub aligned-by : (word w c : ℕ) → word ≡ w * 2 ^ (56 - c) → IsLeftAligned word c
 aligned-by word w c e = rw (front-is word w c e) e
 
-pub front_small : (w r c : ℕ) (bs : List ℕ) → IsTaken (state w r c bs) → w ≤ r * 2 ^ c
+pub front_small : (w r c : ℕ) (bs : List ℕ) → IsUnnormalised (state w r c bs) → w ≤ r * 2 ^ c
 front_small w r c bs taken =
     let q : r * 2 ^ (c + 8 * length bs) ≡ r * 2 ^ c * 2 ^ (8 * length bs) = bound_at r c (8 * length bs) in
     let front : w * 2 ^ (8 * length bs) ≤ r * 2 ^ c * 2 ^ (8 * length bs) = omega (arith, taken.below) in
@@ -97,8 +97,8 @@ word_room w r c n h high few =
     omega arith
 
 pub record IsMoved (word r c : ℕ) (bs : List ℕ) (s : State) : Type 0 where
-  pub aligned : IsAligned word c
-  pub after : state (front word c) r c bs ≡ s
+  pub aligned : IsLeftAligned word c
+  pub after : state (high_bits word c) r c bs ≡ s
 
 moved_by : (word w r c : ℕ) (bs : List ℕ) (s : State) → word ≡ w * 2 ^ (56 - c) → state w r c bs ≡ s → IsMoved word r c bs s
 moved_by word w r c bs s e f = record { aligned = aligned-by word w c e; after = rw (front-is word w c e) f }
@@ -115,7 +115,7 @@ moved_past w r c n [] h few none =
     let end : c - n ≡ 0 = omega arith in
     rw end (moved_by _ (w * 2 ^ (n - c)) _ 0 [] _ (sym (bound_at w (56 - c) n) ∙ ap (λ k. w * 2 ^ k) sum ∙ bound_at w (n - c) 56) (advanced_past n w (r * 2 ^ n) c h))
 
-pub moved_on : (word w r c n : ℕ) (bs : List ℕ) → word ≡ w * 2 ^ (56 - c) → c ≤ 56 → IsTaken (state w r c bs) → Doubling r n → (n ≤ c) ⊎ (length bs ≡ 0)
+pub moved_on : (word w r c n : ℕ) (bs : List ℕ) → word ≡ w * 2 ^ (56 - c) → c ≤ 56 → IsUnnormalised (state w r c bs) → Doubling r n → (n ≤ c) ⊎ (length bs ≡ 0)
     → IsMoved (word * 2 ^ n % 2 ^ 64) (r * 2 ^ n % 2 ^ 32) (c - n) bs (normal 7 (state w r c bs))
 moved_on word w r c n bs e few taken d fits =
     let room : w * 2 ^ (56 - c) * 2 ^ n < 2 ^ 64 = word_room w r c n (front_small w r c bs taken) d.high few in
@@ -156,24 +156,24 @@ word_more word w c t n e few small =
     rw (whole, e, word') (omega arith)
 
 -- the window with the bytes, moved on
-module _ (value r c t n k : ℕ) (bs : List ℕ) (aligned : IsAligned value c) (low : c ≤ 6) (len : t ≤ length bs) (few : t ≤ 6) (is : n ≡ number (take t bs)) (small : n < 2 ^ (8 * t)) (taken : IsTaken (state (front value c) r c bs)) where
-  pub word_is : value + n * 2 ^ (56 - (c + 8 * t)) % 2 ^ 64 ≡ (front value c * 2 ^ (8 * t) + n) * 2 ^ (56 - (c + 8 * t))
-  word_is = word_more value (front value c) c t n aligned (omega arith) small
+module _ (value r c t n k : ℕ) (bs : List ℕ) (aligned : IsLeftAligned value c) (low : c ≤ 6) (len : t ≤ length bs) (few : t ≤ 6) (is : n ≡ number (take t bs)) (small : n < 2 ^ (8 * t)) (taken : IsUnnormalised (state (high_bits value c) r c bs)) where
+  pub word_is : value + n * 2 ^ (56 - (c + 8 * t)) % 2 ^ 64 ≡ (high_bits value c * 2 ^ (8 * t) + n) * 2 ^ (56 - (c + 8 * t))
+  word_is = word_more value (high_bits value c) c t n aligned (omega arith) small
 
-  pub taken_is : state (front value c * 2 ^ (8 * t) + n) r (c + 8 * t) (drop t bs) ≡ state (front value c) r c bs
-  taken_is = rw is (taken_more (front value c) r c t bs len)
+  pub taken_is : state (high_bits value c * 2 ^ (8 * t) + n) r (c + 8 * t) (drop t bs) ≡ state (high_bits value c) r c bs
+  taken_is = rw is (taken_more (high_bits value c) r c t bs len)
 
-  pub taken_too : IsTaken (state (front value c * 2 ^ (8 * t) + n) r (c + 8 * t) (drop t bs))
+  pub taken_too : IsUnnormalised (state (high_bits value c * 2 ^ (8 * t) + n) r (c + 8 * t) (drop t bs))
   taken_too = rw taken_is taken
 
   pub word_fits : value + n * 2 ^ (56 - (c + 8 * t)) % 2 ^ 64 < 2 ^ 64
   word_fits =
-      let room = word_room (front value c * 2 ^ (8 * t) + n) r (c + 8 * t) 0 (front_small _ _ _ _ taken_too) (omega (arith, taken.byte)) (omega arith) in
+      let room = word_room (high_bits value c * 2 ^ (8 * t) + n) r (c + 8 * t) 0 (front_small _ _ _ _ taken_too) (omega (arith, taken.byte)) (omega arith) in
       rw word_is (omega (arith, room))
 
   pub moved_more : Doubling r k → (k ≤ c + 8 * t) ⊎ (length (drop t bs) ≡ 0)
-      → IsMoved ((value + n * 2 ^ (56 - (c + 8 * t)) % 2 ^ 64) * 2 ^ k % 2 ^ 64) (r * 2 ^ k % 2 ^ 32) ((c + 8 * t) - k) (drop t bs) (normal 7 (state (front value c) r c bs))
-  moved_more d fits = rw (← taken_is) (moved_on _ (front value c * 2 ^ (8 * t) + n) r (c + 8 * t) k (drop t bs) word_is (omega arith) taken_too d fits)
+      → IsMoved ((value + n * 2 ^ (56 - (c + 8 * t)) % 2 ^ 64) * 2 ^ k % 2 ^ 64) (r * 2 ^ k % 2 ^ 32) ((c + 8 * t) - k) (drop t bs) (normal 7 (state (high_bits value c) r c bs))
+  moved_more d fits = rw (← taken_is) (moved_on _ (high_bits value c * 2 ^ (8 * t) + n) r (c + 8 * t) k (drop t bs) word_is (omega arith) taken_too d fits)
 
 pub bytes_drop : (t : ℕ) (bs : List ℕ) → AreBytes bs → AreBytes (drop t bs)
 bytes_drop zero bs h = h

@@ -1,9 +1,9 @@
 -- How what is written is read again.
 use Rattle.std.proofs.Common.{◌≡◌, ℕ, zero, suc, ◌+◌, ◌<◌, ◌^◌, Bool, List, [], ◌∷◌, ◌++◌, refl, sym, ap, ◌∙◌, arith, add-one}
 use Rattle.std.specs.Prelude.{slice_index_or, slice_set}
-use Rattle.vp_bool.specs.Bools.{State, read, literal, start}
+use Rattle.vp_bool.specs.Bools.{State, read, literal, initial_state}
 use Rattle.vp_bool.specs.Reader.{Reader, bind, ◌>>=◌, give, each, rows, Reads}
-use Rattle.vp_bool.specs.Intervals.{Interval, all, write, write_literal}
+use Rattle.vp_bool.specs.Intervals.{Interval, whole_interval, write, write_literal}
 use Rattle.vp_bool.specs.Writing.{write_all, AreProbabilities, HasWritten, Continues, Writes}
 use Rattle.vp_bool.specs.RoundTrip.{literal_bools, AreReadBack}
 use Rattle.vp_bool.specs.Window.{AreBytes}
@@ -102,12 +102,12 @@ each-unwritten default row xs old = Continues-none (give xs) old
 
 -- ---- runs
 
-pub written-none : HasWritten [] all
+pub written-none : HasWritten [] whole_interval
 unfolding write_all
 written-none = refl
 
 pub written-more : (xs ys : List (Bool × ℕ)) (old new : Interval) → HasWritten xs old → new ≡ write_all ys old → HasWritten (xs ++ ys) new
-written-more xs ys old new h e = e ∙ ap (write_all ys) h ∙ sym (write_all-append xs ys all)
+written-more xs ys old new h e = e ∙ ap (write_all ys) h ∙ sym (write_all-append xs ys whole_interval)
 
 pub written-one : (xs : List (Bool × ℕ)) (b : Bool) (p : ℕ) (old new : Interval) → HasWritten xs old → new ≡ write b p old → HasWritten (xs ++ (b, p) ∷ []) new
 unfolding write_all
@@ -116,11 +116,11 @@ written-one xs b p old new h e = written-more xs ((b, p) ∷ []) old new h e
 -- ---- what is said by bytes that were written
 
 -- What was written from nothing on is read from the bytes, whatever bytes stand behind them.
-pub written-said : {A : Type 0} (m : Reader A) (a : A) (old new : Interval) (bytes more : List ℕ) → Writes m old new a → old ≡ all → AreReadBack new bytes → AreBytes more
-    → (t : State) × (m (start (bytes ++ more)) ≡ (a, t))
+pub written-said : {A : Type 0} (m : Reader A) (a : A) (old new : Interval) (bytes more : List ℕ) → Writes m old new a → old ≡ whole_interval → AreReadBack new bytes → AreBytes more
+    → (t : State) × (m (initial_state (bytes ++ more)) ≡ (a, t))
 written-said m a old new bytes more w o back are =
     let r = back w.bools more w.probabilities (w.appended ∙ ap (write_all w.bools) o) are in
-    (r.0, w.taken (start (bytes ++ more)) r.0 r.1)
+    (r.0, w.taken (initial_state (bytes ++ more)) r.0 r.1)
 
 -- ---- rows
 

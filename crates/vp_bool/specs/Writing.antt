@@ -2,7 +2,7 @@
 use Rattle.std.specs.Prelude.{◌≡◌, ℕ, Bool, List, [], ◌∷◌, map}
 use Rattle.vp_bool.specs.Bools.{State}
 use Rattle.vp_bool.specs.Reader.{Reader, give, Reads}
-use Rattle.vp_bool.specs.Intervals.{Interval, all, write}
+use Rattle.vp_bool.specs.Intervals.{Interval, whole_interval, write}
 use Rattle.vp_bool.specs.Window.{AreBytes}
 
 -- bools with their probabilities, written in order
@@ -15,18 +15,18 @@ AreProbabilities xs = AreBytes (map (λ (x : Bool × ℕ). x.1) xs)
 
 -- An interval stands for a run: the bools that were written so far, each with its probability.
 abbrev pub HasWritten : List (Bool × ℕ) → Interval → Type 0
-HasWritten xs e = e ≡ write_all xs all
+HasWritten xs e = e ≡ write_all xs whole_interval
 
 -- The bools xs take m to n: what m reads where they come first is what n reads behind them.
-abbrev pub Takes : {A : Type 0} → List (Bool × ℕ) → Reader A → Reader A → Type 0
-Takes xs m n = (s t : State) → Reads xs s t → m s ≡ n t
+abbrev pub TakesBools : {A : Type 0} → List (Bool × ℕ) → Reader A → Reader A → Type 0
+TakesBools xs m n = (s t : State) → Reads xs s t → m s ≡ n t
 
 -- What was written between old and new takes m to n.
 pub record Continues {A : Type 0} (m n : Reader A) (old new : Interval) : Type 0 where
   pub bools : List (Bool × ℕ)
   pub probabilities : AreProbabilities bools
   pub appended : new ≡ write_all bools old
-  pub taken : Takes bools m n
+  pub taken : TakesBools bools m n
 
 -- What was written between old and new spells a: m reads it as a, and leaves what follows.
 abbrev pub Writes : {A : Type 0} → Reader A → Interval → Interval → A → Type 0

@@ -9,13 +9,13 @@ use Rattle.lru.specs.LruCache.{LruCache, lru_cache, promoted, put_entries}
 use Rattle.lru.proofs.Splits.{Contains-cons}
 use Rattle.lru.proofs.CallerLemmas.{Contains-lookup, Contains-remove_entry, Contains-take}
 use Rattle.vp_ivf.specs.declared.packet.Packet.{Packet}
-use Rattle.vp_stream.specs.Seeking.{Told, Shown, Hidden, Fault, NoPacket, answer_at, work_of, counted}
+use Rattle.vp_stream.specs.Seeking.{AnswerValue, Shown, Hidden, Fault, NoPacket, answer_at, work_of, saturating_count}
 use Rattle.vp_base.specs.declared.limits.Limits.{Limits}
-use Rattle.vp_decode.specs.Step.{step, Kept as DecoderState}
+use Rattle.vp_decode.specs.Step.{step, DecoderState as DecoderState}
 use Rattle.vp_stream.specs.Answers.{answers_from}
 use Rattle.vp_stream.specs.Seeking.{told_or_none}
-use Rattle.vp_stream.specs.Stream.{State as StreamState}
-use Rattle.vp_cache.specs.Kept.{Pixels, Entry, State, AreAnswersOf, IsAfter, IsAnswerIf, brought, shown, option_shown, pair_eq, held, in_front, put, work_beside}
+use Rattle.vp_stream.specs.Stream.{Cache as StreamState}
+use Rattle.vp_cache.specs.DecoderState.{CachedPicture, CacheEntry, Cache, AreAnswersOf, IsAfter, IsAnswerIf, brought, cached_answer, option_shown, pair_eq, held, in_front, put, work_beside}
 
 both : (a b : Bool) → (a && b) ≡ true → (a ≡ true) × (b ≡ true)
 both true b h = (refl, h)
@@ -31,7 +31,7 @@ same_key a b h =
 
 -- ---- what is found under a key
 
-entry_found : (key : ℕ × ℕ) (es : List Entry) (p : Pixels) → lookup (pair_eq key) es ≡ Some p → lookup_entry (pair_eq key) es ≡ Some (key, p)
+entry_found : (key : ℕ × ℕ) (es : List CacheEntry) (p : CachedPicture) → lookup (pair_eq key) es ≡ Some p → lookup_entry (pair_eq key) es ≡ Some (key, p)
 entry_found key [] p h = cc
 entry_found key (f ∷ es) p h = (elim (pair_eq key f.0) as (λ y. pair_eq key f.0 ≡ y → lookup_entry (pair_eq key) (f ∷ es) ≡ Some (key, p)) [
   | true ↦ λ t.
@@ -42,7 +42,7 @@ entry_found key (f ∷ es) p h = (elim (pair_eq key f.0) as (λ y. pair_eq key f
   | false ↦ λ t. rw t (entry_found key es p (rw t at h))
 ]) refl
 
-no_entry : (key : ℕ × ℕ) (es : List Entry) → lookup (pair_eq key) es ≡ None → lookup_entry (pair_eq key) es ≡ None
+no_entry : (key : ℕ × ℕ) (es : List CacheEntry) → lookup (pair_eq key) es ≡ None → lookup_entry (pair_eq key) es ≡ None
 no_entry key [] h = refl
 no_entry key (f ∷ es) h = (elim (pair_eq key f.0) as (λ y. pair_eq key f.0 ≡ y → lookup_entry (pair_eq key) (f ∷ es) ≡ None) [
   | true ↦ λ t. let at : Some f.1 ≡ None = rw t at h in cc
@@ -50,99 +50,99 @@ no_entry key (f ∷ es) h = (elim (pair_eq key f.0) as (λ y. pair_eq key f.0 �
 ]) refl
 
 -- a key that is found comes to the front with what is found
-pub promoted-found : (key : ℕ × ℕ) (es : List Entry) (p : Pixels) → lookup (pair_eq key) es ≡ Some p → promoted (pair_eq key) es ≡ in_front key p es
+pub promoted-found : (key : ℕ × ℕ) (es : List CacheEntry) (p : CachedPicture) → lookup (pair_eq key) es ≡ Some p → promoted (pair_eq key) es ≡ in_front key p es
 promoted-found key es p h =
-    ap (λ (o : Option Entry). option_map_or (λ e. e ∷ remove_entry (pair_eq key) es) o es) (entry_found key es p h)
+    ap (λ (o : Option CacheEntry). option_map_or (λ e. e ∷ remove_entry (pair_eq key) es) o es) (entry_found key es p h)
 
-cut : (cap : ℕ) (e : Entry) (es : List Entry) → 0 < cap → e ∷ take (cap - 1) es ≡ take cap (e ∷ es)
+cut : (cap : ℕ) (e : CacheEntry) (es : List CacheEntry) → 0 < cap → e ∷ take (cap - 1) es ≡ take cap (e ∷ es)
 cut zero e es h = let no : ⊥ = omega (arith, h) in absurd no
 cut (suc n) e es h = let k : suc n - 1 ≡ n = omega arith in ap (λ m. e ∷ take m es) k
 
 -- a new key comes to the front, and the list is cut
-pub put_entries-new : (key : ℕ × ℕ) (p : Pixels) (c : LruCache (ℕ × ℕ) Pixels) → 0 < c.cap → lookup (pair_eq key) c.entries ≡ None
+pub put_entries-new : (key : ℕ × ℕ) (p : CachedPicture) (c : LruCache (ℕ × ℕ) CachedPicture) → 0 < c.cap → lookup (pair_eq key) c.entries ≡ None
     → put_entries pair_eq c key p ≡ take c.cap ((key, p) ∷ c.entries)
 put_entries-new key p c room h =
-    ap (λ (o : Option Entry). option_map_or (λ e. (e.0, p) ∷ remove_entry (pair_eq key) c.entries) o ((key, p) ∷ take (c.cap - 1) c.entries)) (no_entry key c.entries h)
+    ap (λ (o : Option CacheEntry). option_map_or (λ e. (e.0, p) ∷ remove_entry (pair_eq key) c.entries) o ((key, p) ∷ take (c.cap - 1) c.entries)) (no_entry key c.entries h)
     ∙ cut c.cap (key, p) c.entries room
 
 -- ---- an answer that was found, or not
 
-abbrev pub IsFound : Option Pixels → Told → Type 0
-IsFound o a = (p : Pixels) × (o ≡ Some p) × (a ≡ shown p)
+abbrev pub IsFound : Option CachedPicture → AnswerValue → Type 0
+IsFound o a = (p : CachedPicture) × (o ≡ Some p) × (a ≡ cached_answer p)
 
-pub found : (o : Option Pixels) (a : Told) → Some a ≡ option_shown o → IsFound o a
-found (Some p) a h = (p, refl, same_Some a (shown p) h)
+pub found : (o : Option CachedPicture) (a : AnswerValue) → Some a ≡ option_shown o → IsFound o a
+found (Some p) a h = (p, refl, same_Some a (cached_answer p) h)
 found None a h = cc
 
-pub not_found : (o : Option Pixels) → None ≡ option_shown o → o ≡ None
+pub not_found : (o : Option CachedPicture) → None ≡ option_shown o → o ≡ None
 not_found (Some p) h = cc
 not_found None h = refl
 
 -- a cache as its entries and its capacity
-abbrev pub seen : LruCache (ℕ × ℕ) Pixels → State
+abbrev pub seen : LruCache (ℕ × ℕ) CachedPicture → Cache
 seen c = record { entries = c.entries; capacity = c.cap }
 
-after_hit : (old : State) (number n : ℕ) (a : Told) → Some a ≡ option_shown (held number n old.entries)
+after_hit : (old : Cache) (number n : ℕ) (a : AnswerValue) → Some a ≡ option_shown (held number n old.entries)
     → IsAfter old number n (held number n old.entries) a (record { entries = promoted (pair_eq (number, n)) old.entries; capacity = old.capacity })
 after_hit old number n a h =
     let f = found (held number n old.entries) a h in
-    rw f.1 (ap (λ (es : List Entry). record old { entries = es }) (promoted-found (number, n) old.entries f.0 f.1))
+    rw f.1 (ap (λ (es : List CacheEntry). record old { entries = es }) (promoted-found (number, n) old.entries f.0 f.1))
 
-pub after_found : (old : State) (inside new : LruCache (ℕ × ℕ) Pixels) (number n : ℕ) (a : Told) → seen inside ≡ old
+pub after_found : (old : Cache) (inside new : LruCache (ℕ × ℕ) CachedPicture) (number n : ℕ) (a : AnswerValue) → seen inside ≡ old
     → new ≡ lru_cache (promoted (pair_eq (number, n)) inside.entries) inside.cap → Some a ≡ option_shown (held number n old.entries)
     → IsAfter old number n (held number n old.entries) a (seen new)
 after_found old inside new number n a was is h =
     let e : seen new ≡ record { entries = promoted (pair_eq (number, n)) old.entries; capacity = old.capacity } =
-    ap seen is ∙ ap (λ (s : State). record { entries = promoted (pair_eq (number, n)) s.entries; capacity = s.capacity }) was in
-    subst (λ (s : State). IsAfter old number n (held number n old.entries) a s) (sym e) (after_hit old number n a h)
+    ap seen is ∙ ap (λ (s : Cache). record { entries = promoted (pair_eq (number, n)) s.entries; capacity = s.capacity }) was in
+    subst (λ (s : Cache). IsAfter old number n (held number n old.entries) a s) (sym e) (after_hit old number n a h)
 
-abbrev pub IsPutOrNot : ℕ × ℕ → Told → LruCache (ℕ × ℕ) Pixels → LruCache (ℕ × ℕ) Pixels → Type 0
+abbrev pub IsPutOrNot : ℕ × ℕ → AnswerValue → LruCache (ℕ × ℕ) CachedPicture → LruCache (ℕ × ℕ) CachedPicture → Type 0
 IsPutOrNot key a old new = (new ≡ old) ⊎ (new ≡ lru_cache (put key a old.cap old.entries) old.cap)
 
-after_miss : (old new : State) (number n : ℕ) (a : Told) → None ≡ option_shown (held number n old.entries)
+after_miss : (old new : Cache) (number n : ℕ) (a : AnswerValue) → None ≡ option_shown (held number n old.entries)
     → (new ≡ old) ⊎ (new ≡ record old { entries = put (number, n) a old.capacity old.entries })
     → IsAfter old number n (held number n old.entries) a new
 after_miss old new number n a h is = rw (not_found (held number n old.entries) h) is
 
-pub after_not_found : (old : State) (inside new : LruCache (ℕ × ℕ) Pixels) (number n : ℕ) (a : Told) → seen inside ≡ old
+pub after_not_found : (old : Cache) (inside new : LruCache (ℕ × ℕ) CachedPicture) (number n : ℕ) (a : AnswerValue) → seen inside ≡ old
     → IsPutOrNot (number, n) a inside new → None ≡ option_shown (held number n old.entries)
     → IsAfter old number n (held number n old.entries) a (seen new)
 after_not_found old inside new number n a was is h = after_miss old (seen new) number n a h (elim is [
   | inl same ↦ inl (ap seen same ∙ was)
-  | inr fresh ↦ inr (ap seen fresh ∙ ap (λ (s : State). record s { entries = put (number, n) a s.capacity s.entries }) was)
+  | inr fresh ↦ inr (ap seen fresh ∙ ap (λ (s : Cache). record s { entries = put (number, n) a s.capacity s.entries }) was)
 ])
 
 -- ---- each entry was there, or is the answer
 
-abbrev pub IsNew : Told → ℕ → ℕ → Entry → Type 0
-IsNew a number n e = (e.0 ≡ (number, n)) × (a ≡ shown e.1)
+abbrev pub IsNew : AnswerValue → ℕ → ℕ → CacheEntry → Type 0
+IsNew a number n e = (e.0 ≡ (number, n)) × (a ≡ cached_answer e.1)
 
-put_entry : (old : State) (number n : ℕ) (a : Told) (e : Entry) → Contains (put (number, n) a old.capacity old.entries) e
+put_entry : (old : Cache) (number n : ℕ) (a : AnswerValue) (e : CacheEntry) → Contains (put (number, n) a old.capacity old.entries) e
     → Contains old.entries e ⊎ IsNew a number n e
 put_entry old number n (Shown width height pixels) e c =
-    let p : Pixels = record { width = width; height = height; pixels = pixels } in
+    let p : CachedPicture = record { width = width; height = height; pixels = pixels } in
     elim (Contains-cons ((number, n), p) old.entries e (Contains-take old.capacity (((number, n), p) ∷ old.entries) e c)) [
-      | inl same ↦ inr (ap (λ (x : Entry). x.0) (sym same), ap (λ (x : Entry). shown x.1) same)
+      | inl same ↦ inr (ap (λ (x : CacheEntry). x.0) (sym same), ap (λ (x : CacheEntry). cached_answer x.1) same)
       | inr was ↦ inl was
     ]
 put_entry old number n Hidden e c = inl c
 put_entry old number n (Fault f) e c = inl c
 put_entry old number n NoPacket e c = inl c
 
-pub entry_after : (old new : State) (number n : ℕ) (o : Option Pixels) (a : Told) (e : Entry) → held number n old.entries ≡ o
+pub entry_after : (old new : Cache) (number n : ℕ) (o : Option CachedPicture) (a : AnswerValue) (e : CacheEntry) → held number n old.entries ≡ o
     → IsAfter old number n o a new → Contains new.entries e → Contains old.entries e ⊎ IsNew a number n e
 entry_after old new number n (Some p) a e h is c =
     let was = Contains-lookup (pair_eq (number, n)) old.entries p h in
-    elim (Contains-cons ((number, n), p) (remove_entry (pair_eq (number, n)) old.entries) e (subst (λ (s : State). Contains s.entries e) is c)) [
+    elim (Contains-cons ((number, n), p) (remove_entry (pair_eq (number, n)) old.entries) e (subst (λ (s : Cache). Contains s.entries e) is c)) [
       | inl same ↦ inl (subst (Contains old.entries) ((λ i. (sym (same_key (number, n) was.0 was.2) i, p)) ∙ same) was.1)
       | inr more ↦ inl (Contains-remove_entry (pair_eq (number, n)) old.entries e more)
     ]
 entry_after old new number n None a e h is c = elim is [
-  | inl same ↦ inl (subst (λ (s : State). Contains s.entries e) same c)
-  | inr fresh ↦ put_entry old number n a e (subst (λ (s : State). Contains s.entries e) fresh c)
+  | inl same ↦ inl (subst (λ (s : Cache). Contains s.entries e) same c)
+  | inr fresh ↦ put_entry old number n a e (subst (λ (s : Cache). Contains s.entries e) fresh c)
 ]
 
-pub kept_on : (old new : State) (number n : ℕ) (a : Told) (s : StreamState) → a ≡ answer_at s.limits s.reading.packets n
+pub kept_on : (old new : Cache) (number n : ℕ) (a : AnswerValue) (s : StreamState) → a ≡ answer_at s.limits s.reading.packets n
     → IsAfter old number n (held number n old.entries) a new → AreAnswersOf number s old.entries → AreAnswersOf number s new.entries
 kept_on old new number n a s answer is kept = record {
   each = λ e c same. elim (entry_after old new number n (held number n old.entries) a e refl is c) [
@@ -151,7 +151,7 @@ kept_on old new number n a s answer is kept = record {
   ];
 }
 
-pub others_on : (old new : State) (number n : ℕ) (a : Told) (other : ℕ) (s : StreamState) → other ≢ number
+pub others_on : (old new : Cache) (number n : ℕ) (a : AnswerValue) (other : ℕ) (s : StreamState) → other ≢ number
     → IsAfter old number n (held number n old.entries) a new → AreAnswersOf other s old.entries → AreAnswersOf other s new.entries
 others_on old new number n a other s apart is kept = record {
   each = λ e c same. elim (entry_after old new number n (held number n old.entries) a e refl is c) [
@@ -162,7 +162,7 @@ others_on old new number n a other s apart is kept = record {
 
 -- ---- the answer that was found is the stream's
 
-pub found_is_answer : (number n : ℕ) (a : Told) (s : StreamState) (es : List Entry) → Some a ≡ option_shown (held number n es)
+pub found_is_answer : (number n : ℕ) (a : AnswerValue) (s : StreamState) (es : List CacheEntry) → Some a ≡ option_shown (held number n es)
     → AreAnswersOf number s es → a ≡ answer_at s.limits s.reading.packets n
 found_is_answer number n a s es h kept =
     let f = found (held number n es) a h in
@@ -173,37 +173,37 @@ found_is_answer number n a s es h kept =
 
 -- ---- the count
 
-pub counted_hit : (o : Option Pixels) (a : Told) (ps : List Packet) (n work : ℕ) → work < 2 ^ 64 → Some a ≡ option_shown o
-    → work ≡ counted work (work_beside o ps n)
+pub counted_hit : (o : Option CachedPicture) (a : AnswerValue) (ps : List Packet) (n work : ℕ) → work < 2 ^ 64 → Some a ≡ option_shown o
+    → work ≡ saturating_count work (work_beside o ps n)
 counted_hit (Some p) a ps n work range h = omega (arith, range)
 counted_hit None a ps n work range h = cc
 
-pub counted_miss : (o : Option Pixels) (ps : List Packet) (n : ℕ) → None ≡ option_shown o → work_of ps n ≡ work_beside o ps n
+pub counted_miss : (o : Option CachedPicture) (ps : List Packet) (n : ℕ) → None ≡ option_shown o → work_of ps n ≡ work_beside o ps n
 counted_miss (Some p) ps n h = cc
 counted_miss None ps n h = refl
 
-pub nothing_counted : {X Y : Type 0} (r : Result X Y) (work more : ℕ) → work < 2 ^ 64 → OnErr r ((work ≤ work) × (work ≤ counted work more))
+pub nothing_counted : {X Y : Type 0} (r : Result X Y) (work more : ℕ) → work < 2 ^ 64 → OnErr r ((work ≤ work) × (work ≤ saturating_count work more))
 nothing_counted (Ok x) work more range = tt
 nothing_counted (Err y) work more range = (omega arith, omega (arith, range))
 
 -- ---- a picture that is brought to the front
 
-not_promoted : (key : ℕ × ℕ) (es : List Entry) → lookup (pair_eq key) es ≡ None → promoted (pair_eq key) es ≡ es
+not_promoted : (key : ℕ × ℕ) (es : List CacheEntry) → lookup (pair_eq key) es ≡ None → promoted (pair_eq key) es ≡ es
 not_promoted key es h =
-    ap (λ (o : Option Entry). option_map_or (λ e. e ∷ remove_entry (pair_eq key) es) o es) (no_entry key es h)
+    ap (λ (o : Option CacheEntry). option_map_or (λ e. e ∷ remove_entry (pair_eq key) es) o es) (no_entry key es h)
 
-promoted_is : (old : State) (number n : ℕ) (o : Option Pixels) → held number n old.entries ≡ o
+promoted_is : (old : Cache) (number n : ℕ) (o : Option CachedPicture) → held number n old.entries ≡ o
     → record { entries = promoted (pair_eq (number, n)) old.entries; capacity = old.capacity } ≡ brought old number n o
-promoted_is old number n (Some p) h = ap (λ (es : List Entry). record old { entries = es }) (promoted-found (number, n) old.entries p h)
-promoted_is old number n None h = ap (λ (es : List Entry). record old { entries = es }) (not_promoted (number, n) old.entries h)
+promoted_is old number n (Some p) h = ap (λ (es : List CacheEntry). record old { entries = es }) (promoted-found (number, n) old.entries p h)
+promoted_is old number n None h = ap (λ (es : List CacheEntry). record old { entries = es }) (not_promoted (number, n) old.entries h)
 
-pub brought_is : (old : State) (inside new : LruCache (ℕ × ℕ) Pixels) (number n : ℕ) → seen inside ≡ old
+pub brought_is : (old : Cache) (inside new : LruCache (ℕ × ℕ) CachedPicture) (number n : ℕ) → seen inside ≡ old
     → new ≡ lru_cache (promoted (pair_eq (number, n)) inside.entries) inside.cap → seen new ≡ brought old number n (held number n old.entries)
 brought_is old inside new number n was is =
-    ap seen is ∙ ap (λ (s : State). record { entries = promoted (pair_eq (number, n)) s.entries; capacity = s.capacity }) was
+    ap seen is ∙ ap (λ (s : Cache). record { entries = promoted (pair_eq (number, n)) s.entries; capacity = s.capacity }) was
     ∙ promoted_is old number n (held number n old.entries) refl
 
-brought_entry : (old : State) (number n : ℕ) (o : Option Pixels) (e : Entry) → held number n old.entries ≡ o
+brought_entry : (old : Cache) (number n : ℕ) (o : Option CachedPicture) (e : CacheEntry) → held number n old.entries ≡ o
     → Contains (brought old number n o).entries e → Contains old.entries e
 brought_entry old number n (Some p) e h c =
     let was = Contains-lookup (pair_eq (number, n)) old.entries p h in
@@ -214,7 +214,7 @@ brought_entry old number n (Some p) e h c =
 brought_entry old number n None e h c = c
 
 -- each entry was there
-pub brought_keeps : (old : State) (number n other : ℕ) (s : StreamState) → AreAnswersOf other s old.entries
+pub brought_keeps : (old : Cache) (number n other : ℕ) (s : StreamState) → AreAnswersOf other s old.entries
     → AreAnswersOf other s (brought old number n (held number n old.entries)).entries
 brought_keeps old number n other s kept = record {
   each = λ e c same. kept.each e (brought_entry old number n (held number n old.entries) e refl c) same;
@@ -222,21 +222,21 @@ brought_keeps old number n other s kept = record {
 
 -- ---- what is kept is the stream's answer
 
-held_by : (number n : ℕ) (s : StreamState) (es : List Entry) (o : Option Pixels) → held number n es ≡ o → AreAnswersOf number s es → IsAnswerIf o s n
-held_by number n s es (Some p) h kept = sym (found_is_answer number n (shown p) s es (ap option_shown (sym h)) kept)
+held_by : (number n : ℕ) (s : StreamState) (es : List CacheEntry) (o : Option CachedPicture) → held number n es ≡ o → AreAnswersOf number s es → IsAnswerIf o s n
+held_by number n s es (Some p) h kept = sym (found_is_answer number n (cached_answer p) s es (ap option_shown (sym h)) kept)
 held_by number n s es None h kept = tt
 
-pub held_answer : (number n : ℕ) (s : StreamState) (es : List Entry) → AreAnswersOf number s es → IsAnswerIf (held number n es) s n
+pub held_answer : (number n : ℕ) (s : StreamState) (es : List CacheEntry) → AreAnswersOf number s es → IsAnswerIf (held number n es) s n
 held_answer number n s es kept = held_by number n s es (held number n es) refl kept
 
-shown_there : (limits : Limits) (state : Option DecoderState) (ps : List Packet) (n : ℕ) (p : Pixels)
-    → told_or_none (slice_get (answers_from limits state ps) n) ≡ shown p → n < length ps
-shown_there limits state [] n p h = let no : NoPacket ≡ shown p = h in cc
+shown_there : (limits : Limits) (state : Option DecoderState) (ps : List Packet) (n : ℕ) (p : CachedPicture)
+    → told_or_none (slice_get (answers_from limits state ps) n) ≡ cached_answer p → n < length ps
+shown_there limits state [] n p h = let no : NoPacket ≡ cached_answer p = h in cc
 shown_there limits state (q ∷ ps) zero p h = omega arith
 shown_there limits state (q ∷ ps) (suc n) p h = omega (arith, shown_there limits (step limits state q.bytes).0 ps n p h)
 
 -- a picture that is kept is of a packet that is there
-pub kept_there : {X Y : Type 0} (r : Result X Y) (number n : ℕ) (p : Pixels) (s : StreamState) (es : List Entry) → Some p ≡ held number n es
+pub kept_there : {X Y : Type 0} (r : Result X Y) (number n : ℕ) (p : CachedPicture) (s : StreamState) (es : List CacheEntry) → Some p ≡ held number n es
     → AreAnswersOf number s es → OnErr r (n < length s.reading.packets)
 kept_there (Ok x) number n p s es h kept = tt
 kept_there (Err y) number n p s es h kept =

@@ -6,16 +6,16 @@ use Rattle.vp_base.specs.declared.limits.Limits.{Limits}
 use Rattle.vp_ivf.specs.declared.fault.FileFault.{FileFault}
 use Rattle.vp_ivf.specs.Ivf.{Contents, resume_at, read_from}
 use Rattle.vp_stream.specs.Seeking.{NoPacket, answer_at}
-use Rattle.vp_stream.specs.Stream.{State as StreamState}
+use Rattle.vp_stream.specs.Stream.{Cache as StreamState}
 use Rattle.vp_stream.proofs.AnswerLemmas.{answers_stay}
-use Rattle.vp_cache.specs.Kept.{AreAnswersOf, shown}
+use Rattle.vp_cache.specs.Cache.{AreAnswersOf, cached_answer}
 use Rattle.vp_cache.specs.Streams.{GrowingKeepsEntries, OneGrowing}
 
 pub grows : GrowingKeepsEntries
 grows number old new entries grown kept = record {
   each = λ e c same.
       let was = kept.each e c same in
-      grown e.0.1 (λ none. let no : shown e.1 ≡ NoPacket = sym was ∙ none in cc) ∙ was;
+      grown e.0.1 (λ none. let no : cached_answer e.1 ≡ NoPacket = sym was ∙ none in cc) ∙ was;
 }
 
 -- with one stream in place of another, each stream is the new one at its place, or was there

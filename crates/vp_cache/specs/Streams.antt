@@ -1,8 +1,8 @@
 -- Streams that grow, and the entries of a cache for all of them.
 use Rattle.std.specs.Prelude.{◌≡◌, ◌≢◌, ℕ, List, Some, slice_get, slice_set}
 use Rattle.vp_stream.specs.Seeking.{NoPacket, answer_at}
-use Rattle.vp_stream.specs.Stream.{State as StreamState}
-use Rattle.vp_cache.specs.Kept.{AreAnswersOf, Entry}
+use Rattle.vp_stream.specs.Stream.{Cache as StreamState}
+use Rattle.vp_cache.specs.Cache.{AreAnswersOf, CacheEntry}
 
 -- a stream after it grew: no answer changed but that there is no packet
 abbrev pub IsGrown : StreamState → StreamState → Type 0
@@ -10,16 +10,16 @@ IsGrown old new = (n : ℕ) → answer_at old.limits old.reading.packets n ≢ N
     → answer_at new.limits new.reading.packets n ≡ answer_at old.limits old.reading.packets n
 
 -- each entry is an answer of the stream that its number says; streams are numbered from 0
-abbrev pub AreAnswersOfAll : List StreamState → List Entry → Type 0
+abbrev pub AreAnswersOfAll : List StreamState → List CacheEntry → Type 0
 AreAnswersOfAll streams entries = (i : ℕ) (s : StreamState) → slice_get streams i ≡ Some s → AreAnswersOf i s entries
 
 -- entries that are answers stay answers while a stream grows
 abbrev pub GrowingKeepsEntries : Type 0
-GrowingKeepsEntries = (number : ℕ) (old new : StreamState) (entries : List Entry)
+GrowingKeepsEntries = (number : ℕ) (old new : StreamState) (entries : List CacheEntry)
     → IsGrown old new → AreAnswersOf number old entries → AreAnswersOf number new entries
 
 -- the same of a list of streams, of which one grew
 abbrev pub OneGrowing : Type 0
-OneGrowing = (k : ℕ) (old new : StreamState) (streams : List StreamState) (entries : List Entry)
+OneGrowing = (k : ℕ) (old new : StreamState) (streams : List StreamState) (entries : List CacheEntry)
     → slice_get streams k ≡ Some old → IsGrown old new
     → AreAnswersOfAll streams entries → AreAnswersOfAll (slice_set streams k new) entries

@@ -3,12 +3,12 @@
 ghost use Rattle.std.specs.Prelude.{◌≡◌, ◌≢◌, ◌<◌, ◌≤◌, ◌⊎◌, ℕ, [], length, IfOk, OnOk, OnErr};
 ghost use Rattle.std.specs.Map.{lookup};
 ghost use Rattle.lru.specs.LruCache.{lru_cache};
-ghost use Rattle.vp_stream.specs.Seeking.{told, answer_at, counted};
-ghost use Rattle.vp_stream.specs.Stream.{History, StandsFor, packets_of};
-ghost use Rattle.vp_stream.specs.Stream.{State as StreamState};
-ghost use Rattle.vp_cache.specs.Kept.{AreAnswersOf, IsAfter, IsAnswerIf, empty, held, brought, put, pair_eq, lent, work_beside};
+ghost use Rattle.vp_stream.specs.Seeking.{answer_value, answer_at, saturating_count};
+ghost use Rattle.vp_stream.specs.Stream.{StreamHistory, IsStreamAfter, packets_of};
+ghost use Rattle.vp_stream.specs.Stream.{Cache as StreamState};
+ghost use Rattle.vp_cache.specs.Cache.{AreAnswersOf, IsAfter, IsAnswerIf, empty, cached, promoted, put, pair_eq, lent, work_beside};
 
-use crate::kept::Kept;
+use crate::cached_picture::CachedPicture;
 use lru::LruCache;
 use std::alloc::{AllocError, Global};
 use std::marker::Model;
@@ -19,14 +19,14 @@ use vp_stream::{Answer, Stream};
 #[derive(Drop)]
 pub struct Cache {
     alloc: Global,
-    entries: LruCache<(usize, u32), Kept>,
+    entries: LruCache<(usize, u32), CachedPicture>,
 }
 
 impl Model for Cache {
-    ghost use Rattle.vp_cache.specs.Kept.{State};
+    ghost use Rattle.vp_cache.specs.Cache.{Cache};
     ghost use Rattle.std.specs.Prelude.{◌<◌};
 
-    ghost Value = { State };
+    ghost Value = { Cache };
 
     ghost view = { λ a. record { entries = a.entries.entries; capacity = a.entries.cap } };
 
@@ -48,18 +48,18 @@ impl Cache {
         })
     }
 
-    /// What is kept for packet `n` of a stream, lent. It stays where it is; `bring` has it in front.
-    pub fn held(&self, stream_no: usize, n: u32) -> Option<&Kept>
-        ensures value { lent result ≡ held stream_no n self.now.entries }
+    /// What is kept for packet `n` of a stream, lent. It stays where it is; `promote` has it in front.
+    pub fn cached(&self, stream_no: usize, n: u32) -> Option<&CachedPicture>
+        ensures value { lent result ≡ cached stream_no n self.now.entries }
         ensures answer { (stream : StreamState) → AreAnswersOf stream_no stream self.now.entries
-            → IsAnswerIf (held stream_no n self.now.entries) stream n }
+            → IsAnswerIf (cached stream_no n self.now.entries) stream n }
     {
         self.entries.peek(&(stream_no, n))
     }
 
     /// Brings what is kept for packet `n` of a stream to the front, as what was asked for last.
-    pub fn bring(&mut self, stream_no: usize, n: u32)
-        ensures entries { self.new ≡ brought self.old stream_no n (held stream_no n self.old.entries) }
+    pub fn promote(&mut self, stream_no: usize, n: u32)
+        ensures entries { self.new ≡ promoted self.old stream_no n (cached stream_no n self.old.entries) }
         ensures kept { (number : ℕ) (stream : StreamState) →
             AreAnswersOf number stream self.old.entries → AreAnswersOf number stream self.new.entries }
     {
@@ -77,19 +77,19 @@ impl Cache {
     ) -> Result<Answer, AllocError>
         requires { AreAnswersOf stream_no stream.now self.old.entries }
         ensures answer { IfOk result (λ a.
-            told a ≡ answer_at stream.now.limits stream.now.reading.packets n) }
-        ensures stands { IfOk result (λ a. (h : History) → StandsFor stream.now h →
-            told a ≡ answer_at stream.now.limits (packets_of stream.now h) n) }
+            answer_value a ≡ answer_at stream.now.limits stream.now.reading.packets n) }
+        ensures stands { IfOk result (λ a. (h : StreamHistory) → IsStreamAfter stream.now h →
+            answer_value a ≡ answer_at stream.now.limits (packets_of stream.now h) n) }
 
         // Nothing is decoded for a picture that is kept.
         ensures work { OnOk result (work.new ≡
-            counted work.old (work_beside (held stream_no n self.old.entries) stream.now.reading.packets n)) }
+            saturating_count work.old (work_beside (cached stream_no n self.old.entries) stream.now.reading.packets n)) }
         ensures most { OnErr result ((work.old ≤ work.new) × (work.new ≤
-            counted work.old (work_beside (held stream_no n self.old.entries) stream.now.reading.packets n))) }
+            saturating_count work.old (work_beside (cached stream_no n self.old.entries) stream.now.reading.packets n))) }
 
         // A shown picture is the newest entry then; where there was no memory for it, nothing changes.
         ensures entries { IfOk result (λ a.
-            IsAfter self.old stream_no n (held stream_no n self.old.entries) (told a) self.new) }
+            IsAfter self.old stream_no n (cached stream_no n self.old.entries) (answer_value a) self.new) }
         ensures kept { AreAnswersOf stream_no stream.now self.new.entries }
         ensures others { (other : ℕ) (s : StreamState) → other ≢ stream_no →
             AreAnswersOf other s self.old.entries → AreAnswersOf other s self.new.entries }
@@ -99,9 +99,9 @@ impl Cache {
         ensures there { OnErr result (n < length stream.now.reading.packets) }
     {
         let _work = *work;
-        if let Some(kept) = self.held(stream_no, n) {
+        if let Some(kept) = self.cached(stream_no, n) {
             let answer = kept.answer(self.alloc)?;
-            self.bring(stream_no, n);
+            self.promote(stream_no, n);
             return Ok(answer);
         }
         let answer = stream.picture_counted(n, work)?;
@@ -113,17 +113,17 @@ impl Cache {
 /// Puts a copy of a shown picture in front, where there is memory for it.
 fn keep(
     alloc: Global,
-    entries: &mut LruCache<(usize, u32), Kept>,
+    entries: &mut LruCache<(usize, u32), CachedPicture>,
     key: (usize, u32),
     answer: &Answer,
 )
     requires room { 0 < entries.old.cap }
     requires new { lookup (pair_eq key) entries.old.entries ≡ None }
     ensures { (entries.new ≡ entries.old)
-        ⊎ (entries.new ≡ lru_cache (put key (told answer.now) entries.old.cap entries.old.entries) entries.old.cap) }
+        ⊎ (entries.new ≡ lru_cache (put key (answer_value answer.now) entries.old.cap entries.old.entries) entries.old.cap) }
 {
     if let Answer::Shown(dim, bytes) = answer {
-        if let Ok(copy) = Kept::copied(alloc, *dim, bytes) {
+        if let Ok(copy) = CachedPicture::copied(alloc, *dim, bytes) {
             let _ = entries.put(key, copy);
         }
     }

@@ -2,9 +2,9 @@
 #![tactic(auto)]
 
 mod cache;
-mod kept;
+mod cached_picture;
 mod laws;
 
 pub use cache::Cache;
-pub use kept::Kept;
+pub use cached_picture::CachedPicture;
 pub use laws::{feeding_keeps_answers, growing_keeps_entries};

@@ -4,18 +4,18 @@ use Rattle.std.proofs.lemmas.List.{get_or-replicate}
 use Rattle.vp_base.specs.declared.place.Place.{Place}
 use Rattle.vp_base.specs.Raster.{Raster}
 use Rattle.vp_base.specs.Image.{Image, plane_of}
-use Rattle.vp_motion.specs.Vector.{Vector, Entry, still}
+use Rattle.vp_motion.specs.Vector.{Vector, MacroblockMotion, still}
 use Rattle.vp_intra.specs.Edges.{block}
 use Rattle.vp_intra.proofs.BlockLemmas.{is_block}
 use Rattle.vp_inter.specs.declared.vector.PlaneVector.{PlaneVector}
 use Rattle.vp_inter.specs.Inter.{inter_pixel}
 use Rattle.vp_inter.specs.Vectors.{luma_vector, chroma_vector}
-use Rattle.vp_recon.specs.Source.{Inter}
+use Rattle.vp_recon.specs.Predictor.{Inter}
 use Rattle.vp_recon.specs.Prediction.{luma_moved, chroma_moved, four_from, luma_prediction, chroma_prediction}
 use Rattle.vp_recon.proofs.Parts.{sub_at, sub_below}
 use Rattle.vp_recon.proofs.MovedLemmas.{moved_alike}
 
-module _ (e : Entry) (v : Vector) (are : e.vectors ≡ replicate 16 v) where
+module _ (e : MacroblockMotion) (v : Vector) (are : e.vectors ≡ replicate 16 v) where
   vector_at : (j : ℕ) → j < 16 → get_or e.vectors j still ≡ v
   vector_at j below = ap (λ (vs : List Vector). get_or vs j still) are ∙ get_or-replicate 16 j v still below
 

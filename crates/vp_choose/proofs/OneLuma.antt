@@ -3,7 +3,7 @@ use Rattle.std.proofs.Common.{◌≡◌, ◌∙◌, ℕ, ℤ, zero, suc, ◌<◌
 use Rattle.std.proofs.lemmas.Bool.{cases_lt}
 use Rattle.vp_base.specs.declared.place.Place.{Place}
 use Rattle.vp_base.specs.Raster.{Raster}
-use Rattle.vp_base.specs.Near.{block}
+use Rattle.vp_base.specs.Near.{block_place}
 use Rattle.vp_base.specs.Image.{Image}
 use Rattle.vp_base.proofs.OverLemmas.{over-same}
 use Rattle.vp_tables.specs.declared.modes.SubMode.{SubMode}
@@ -19,7 +19,7 @@ use Rattle.vp_choose.specs.declared.subblocks.Subblocks.{Subblocks}
 use Rattle.vp_choose.specs.declared.luma.Luma.{Luma}
 use Rattle.vp_choose.specs.Costs.{sub_cost, chroma_cost}
 use Rattle.vp_choose.specs.Levels.{part}
-use Rattle.vp_choose.specs.Subblocks.{IsBestMode, AreChosen, sub_levels, mode_at, mode_of, levels_in, sub_rebuilt, after}
+use Rattle.vp_choose.specs.Subblocks.{IsBestMode, AreSubblocksChosen, sub_levels, mode_at, mode_of, levels_in, sub_rebuilt, after_subblocks}
 use Rattle.vp_choose.specs.Intra.{IsLuma, IsChroma, luma_cost, luma_at, chroma_at}
 
 pub either : {A : Type 0} (b : Bool) → (b ≡ true → A) → (b ≡ false → A) → A
@@ -35,22 +35,22 @@ pub record AreAlike (n : ℕ) (s t : Subblocks) : Type 0 where
   pub modes : (k : ℕ) → k < n → mode_of s k ≡ mode_of t k
   pub levels : (k : ℕ) → k < n → levels_in s k ≡ levels_in t k
 
-after_alike : (factors : Factors) (place : Place) (p : Raster) (s t : Subblocks) (n : ℕ) → AreAlike n s t → after factors place p s n ≡ after factors place p t n
+after_alike : (factors : Factors) (place : Place) (p : Raster) (s t : Subblocks) (n : ℕ) → AreAlike n s t → after_subblocks factors place p s n ≡ after_subblocks factors place p t n
 after_alike factors place p s t n h = over-same n (sub_rebuilt factors place s) (sub_rebuilt factors place t) p (λ j below q.
-    ap (λ (m : SubMode). with_sub q (block 4 place j) m (residue (levels_in s j) factors.y_dc factors.y_ac)) (h.modes j below)
-    ∙ ap (λ (l : List ℤ). with_sub q (block 4 place j) (mode_of t j) (residue l factors.y_dc factors.y_ac)) (h.levels j below))
+    ap (λ (m : SubMode). with_sub q (block_place 4 place j) m (residue (levels_in s j) factors.y_dc factors.y_ac)) (h.modes j below)
+    ∙ ap (λ (l : List ℤ). with_sub q (block_place 4 place j) (mode_of t j) (residue l factors.y_dc factors.y_ac)) (h.levels j below))
 
-module _ (f : ℕ → ℕ → ℕ) (factors : Factors) (place : Place) (p : Raster) (s t : Subblocks) (a : AreChosen f factors place p s) (b : AreChosen f factors place p t) where
+module _ (f : ℕ → ℕ → ℕ) (factors : Factors) (place : Place) (p : Raster) (s t : Subblocks) (a : AreSubblocksChosen f factors place p s) (b : AreSubblocksChosen f factors place p t) where
   mode_alike : (n : ℕ) → n < 16 → AreAlike n s t → mode_of s n ≡ mode_of t n
   mode_alike n below old =
-      mode_is_one (part 4 f n) (after factors place p t n) (block 4 place n) (mode_of s n) (mode_of t n)
-      (subst (λ (q : Raster). IsBestMode (part 4 f n) q (block 4 place n) (mode_of s n)) (after_alike factors place p s t n old) (a.modes n below)) (b.modes n below)
+      mode_is_one (part 4 f n) (after_subblocks factors place p t n) (block_place 4 place n) (mode_of s n) (mode_of t n)
+      (subst (λ (q : Raster). IsBestMode (part 4 f n) q (block_place 4 place n) (mode_of s n)) (after_alike factors place p s t n old) (a.modes n below)) (b.modes n below)
 
   levels_alike : (n : ℕ) → n < 16 → AreAlike n s t → levels_in s n ≡ levels_in t n
   levels_alike n below old =
       a.levels n below
-      ∙ ap (λ (q : Raster). sub_levels (part 4 f n) q (block 4 place n) (mode_of s n) factors) (after_alike factors place p s t n old)
-      ∙ ap (λ (m : SubMode). sub_levels (part 4 f n) (after factors place p t n) (block 4 place n) m factors) (mode_alike n below old)
+      ∙ ap (λ (q : Raster). sub_levels (part 4 f n) q (block_place 4 place n) (mode_of s n) factors) (after_alike factors place p s t n old)
+      ∙ ap (λ (m : SubMode). sub_levels (part 4 f n) (after_subblocks factors place p t n) (block_place 4 place n) m factors) (mode_alike n below old)
       ∙ sym (b.levels n below)
 
   alike : (n : ℕ) → n ≤ 16 → AreAlike n s t
@@ -72,10 +72,10 @@ module _ (f : ℕ → ℕ → ℕ) (factors : Factors) (place : Place) (p : Rast
   cost_alike : s.cost ≡ t.cost
   cost_alike =
       a.cost
-      ∙ sum_below-same 16 (λ k. sub_cost (part 4 f k) (after factors place p s k) (block 4 place k) (mode_of s k)) (λ k. sub_cost (part 4 f k) (after factors place p t k) (block 4 place k) (mode_of t k))
+      ∙ sum_below-same 16 (λ k. sub_cost (part 4 f k) (after_subblocks factors place p s k) (block_place 4 place k) (mode_of s k)) (λ k. sub_cost (part 4 f k) (after_subblocks factors place p t k) (block_place 4 place k) (mode_of t k))
       (λ k h. let old = alike k (omega arith) in
-      ap (λ (q : Raster). sub_cost (part 4 f k) q (block 4 place k) (mode_of s k)) (after_alike factors place p s t k old)
-      ∙ ap (λ (m : SubMode). sub_cost (part 4 f k) (after factors place p t k) (block 4 place k) m) (mode_alike k h old))
+      ap (λ (q : Raster). sub_cost (part 4 f k) q (block_place 4 place k) (mode_of s k)) (after_alike factors place p s t k old)
+      ∙ ap (λ (m : SubMode). sub_cost (part 4 f k) (after_subblocks factors place p t k) (block_place 4 place k) m) (mode_alike k h old))
       ∙ sym b.cost
 
 pub record AreSameLuma (l m : Luma) : Type 0 where

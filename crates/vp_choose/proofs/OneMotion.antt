@@ -10,14 +10,14 @@ use Rattle.vp_head.specs.declared.fields.Reference.TheVariants as reference_is
 use Rattle.vp_motion.specs.Vector.{Vector, Candidates}
 use Rattle.vp_search.specs.declared.vector.WholeVector.{WholeVector}
 use Rattle.vp_search.specs.declared.vector.Refined.{Refined}
-use Rattle.vp_search.specs.Vectors.{size, quarters}
+use Rattle.vp_search.specs.Vectors.{vector_length, quarters}
 use Rattle.vp_search.specs.Blocks.{whole_cost}
 use Rattle.vp_search.specs.Least.{IsLeast}
 use Rattle.vp_search.specs.Refined.{IsRefined}
 use Rattle.vp_search.proofs.OrderLemmas.{vector_is}
 use Rattle.vp_search.proofs.RefinedLemmas.{refined_is_one}
 use Rattle.vp_choose.specs.declared.motion.Moved.{Moved}
-use Rattle.vp_choose.specs.Costs.{block_of}
+use Rattle.vp_choose.specs.Costs.{block_pixels}
 use Rattle.vp_choose.specs.Frame.{Search}
 use Rattle.vp_choose.specs.Inter.{IsFound, IsMoved, IsFirstGiving, found_in, vector_cost}
 use Rattle.vp_choose.proofs.OneLuma.{either}
@@ -31,7 +31,7 @@ least_is_one range cost v w p q =
     let same : cost v ≡ cost w = omega arith in
     let e = a.by_size same in
     let f = b.by_size (sym same) in
-    let sizes : size v ≡ size w = omega arith in
+    let sizes : vector_length v ≡ vector_length w = omega arith in
     let g = a.by_row same sizes in
     let h = b.by_row (sym same) (sym sizes) in
     let rows : v.row ≡ w.row = omega (arith, ints) in
@@ -45,7 +45,7 @@ refined_of a b v c = λ i. record { vector = v i; cost = c i }
 
 found_is_one : (s : Search) (source reference : Raster) (place : Place) (a b : Refined) → IsFound s source reference place a → IsFound s source reference place b → a ≡ b
 found_is_one s source reference place a b h k =
-    let whole : h.whole ≡ k.whole = least_is_one s.range (whole_cost (block_of 16 source place) reference place) h.whole k.whole h.least k.least in
+    let whole : h.whole ≡ k.whole = least_is_one s.range (whole_cost (block_pixels 16 source place) reference place) h.whole k.whole h.least k.least in
     let vector : a.vector ≡ b.vector = either s.subpel
     (λ on. refined_is_one (vector_cost source reference place) k.whole a.vector b.vector
     (subst (λ (w : WholeVector). IsRefined (vector_cost source reference place) w a.vector) whole (h.refined on)) (k.refined on))

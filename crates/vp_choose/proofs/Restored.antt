@@ -9,8 +9,8 @@ use Rattle.vp_base.proofs.BlockLemmas.{pixel-with_block, IsWhole-with_block, sam
 use Rattle.vp_base.proofs.OverLemmas.{over-holds}
 use Rattle.vp_quant.specs.declared.factors.Factors.{Factors}
 use Rattle.vp_choose.specs.declared.subblocks.Subblocks.{Subblocks}
-use Rattle.vp_choose.specs.Costs.{block_of}
-use Rattle.vp_choose.specs.Subblocks.{sub_rebuilt, after}
+use Rattle.vp_choose.specs.Costs.{block_pixels}
+use Rattle.vp_choose.specs.Subblocks.{sub_rebuilt, after_subblocks}
 
 -- q is p but for a macroblock
 pub record IsSameOutside (p : Raster) (x y : ℕ) (q : Raster) : Type 0 where
@@ -35,7 +35,7 @@ one_more p x y q a b g xa ax yb by h = record {
 }
 
 pub after_outside : (factors : Factors) (place : Place) (p : Raster) (s : Subblocks) (n : ℕ) → n ≤ 16
-    → IsSameOutside p (16 * place.column) (16 * place.row) (after factors place p s n)
+    → IsSameOutside p (16 * place.column) (16 * place.row) (after_subblocks factors place p s n)
 after_outside factors place p s n most =
     over-holds (IsSameOutside p (16 * place.column) (16 * place.row)) n (sub_rebuilt factors place s) p
     (λ k below q h. one_more p (16 * place.column) (16 * place.row) q (4 * (place.column * 4 + k % 4)) (4 * (place.row * 4 + k / 4)) _
@@ -46,7 +46,7 @@ in_it : (x y u v : ℕ) → is_in_block x y 16 16 u v ≡ true → (x ≤ u) × 
 in_it x y u v e = (grind (arith, nat_tests), grind (arith, nat_tests), grind (arith, nat_tests), grind (arith, nat_tests))
 
 pub restored : (p q : Raster) (place : Place) (f : ℕ → ℕ → ℕ) → IsWhole p → IsSameOutside p (16 * place.column) (16 * place.row) q
-    → ((r c : ℕ) → r < 16 → c < 16 → f r c ≡ block_of 16 p place r c)
+    → ((r c : ℕ) → r < 16 → c < 16 → f r c ≡ block_pixels 16 p place r c)
     → with_block q (16 * place.column) (16 * place.row) 16 16 f ≡ p
 restored p q place f whole h kept =
     let x = 16 * place.column in

@@ -3,38 +3,38 @@ use Rattle.std.specs.Prelude.{◌≡◌, ◌<◌, ◌≤◌, false, not, Option,
 use Rattle.vp_base.specs.declared.place.Place.{Place}
 use Rattle.vp_base.specs.Grid.{Grid}
 use Rattle.vp_base.specs.Image.{Image}
-use Rattle.vp_motion.specs.Vector.{Entry}
+use Rattle.vp_motion.specs.Vector.{MacroblockMotion}
 use Rattle.vp_tokens.specs.Blocks.{any_token, no_blocks}
 use Rattle.vp_tokens.specs.Spelled.{AreSpelled, AreTight}
-use Rattle.vp_recon.specs.Source.{has_y2}
+use Rattle.vp_recon.specs.Predictor.{has_y2}
 use Rattle.vp_choose.specs.declared.luma.Luma.{Luma}
 use Rattle.vp_choose.specs.declared.motion.Moved.{Moved}
 use Rattle.vp_choose.specs.declared.frame.Choice.{Choice}
-use Rattle.vp_choose.specs.Costs.{block_of}
-use Rattle.vp_choose.specs.Frame.{Frame, Search, source_by}
+use Rattle.vp_choose.specs.Costs.{block_pixels}
+use Rattle.vp_choose.specs.Frame.{FrameSearch, Search, source_by}
 use Rattle.vp_choose.specs.Intra.{IsLuma, IsIntra}
 use Rattle.vp_choose.specs.Inter.{IsMoved, IsInter}
 
 -- the intra modes, where luma is the best of them
-abbrev pub IsIntraChoice : Frame → Image → Place → Luma → Choice → Type 0
+abbrev pub IsIntraChoice : FrameSearch → Image → Place → Luma → Choice → Type 0
 IsIntraChoice frame p place luma c = IsIntra frame.source frame.factors place p luma c.modes c.tokens
 
 -- Inter is taken where it costs no more than the intra luma.
-pub record IsWeighed (frame : Frame) (s : Search) (p : Image) (g : Grid Entry) (place : Place) (luma : Luma) (c : Choice) : Type 0 where
+pub record IsWeighed (frame : FrameSearch) (s : Search) (p : Image) (g : Grid MacroblockMotion) (place : Place) (luma : Luma) (c : Choice) : Type 0 where
   pub moved : Moved
   pub is : IsMoved s frame.source.luma place moved
   pub inter : moved.cost ≤ luma.cost → IsInter frame.source frame.factors s g place p moved c
   pub intra : luma.cost < moved.cost → IsIntraChoice frame p place luma c
 
 -- In a key frame all is intra.
-abbrev pub IsTaken : Option Search → Frame → Image → Grid Entry → Place → Luma → Choice → Type 0
+abbrev pub IsTaken : Option Search → FrameSearch → Image → Grid MacroblockMotion → Place → Luma → Choice → Type 0
 IsTaken None frame p g place luma c = IsIntraChoice frame p place luma c
 IsTaken (Some s) frame p g place luma c = IsWeighed frame s p g place luma c
 
 -- the choice for the macroblock at a place of p, where those before it are rebuilt and not filtered yet, and g has their motion
-pub record IsChoice (frame : Frame) (p : Image) (g : Grid Entry) (place : Place) (c : Choice) : Type 0 where
+pub record IsChoice (frame : FrameSearch) (p : Image) (g : Grid MacroblockMotion) (place : Place) (c : Choice) : Type 0 where
   pub luma : Luma
-  pub best : IsLuma (block_of 16 frame.source.luma place) frame.factors place p.luma luma
+  pub best : IsLuma (block_pixels 16 frame.source.luma place) frame.factors place p.luma luma
   pub taken : IsTaken frame.search frame p g place luma c
   -- Segments are not used.
   pub segment : c.modes.segment ≡ 0

@@ -11,8 +11,8 @@ use Rattle.vp_intra.specs.Sub.{sub_pixel}
 use Rattle.vp_search.specs.Differences.{sum_of_differences}
 
 -- the pixels of the block at a place among all blocks of n by n pixels
-abbrev pub block_of : ℕ → Raster → Place → ℕ → ℕ → ℕ
-block_of n p place r c = pixel p (n * place.column + c) (n * place.row + r)
+abbrev pub block_pixels : ℕ → Raster → Place → ℕ → ℕ → ℕ
+block_pixels n p place r c = pixel p (n * place.column + c) (n * place.row + r)
 
 -- the macroblocks of a picture
 pub record HasMacroblock (p : Image) (place : Place) : Type 0 where
@@ -20,16 +20,16 @@ pub record HasMacroblock (p : Image) (place : Place) : Type 0 where
   pub row : place.row < macroblocks p.height
 
 -- a block of rows of n pixels, row after row
-abbrev pub rows_of : ℕ → List ℕ → ℕ → ℕ → ℕ
-rows_of n xs r c = slice_index xs (r * n + c)
+abbrev pub block_from_rows : ℕ → List ℕ → ℕ → ℕ → ℕ
+block_from_rows n xs r c = slice_index xs (r * n + c)
 
 -- what a mode costs the luma subblock f at a place among all subblocks of p
 unfoldable pub sub_cost : (ℕ → ℕ → ℕ) → Raster → Place → SubMode → ℕ
 sub_cost f p place mode = sum_of_differences 4 4 f (sub_pixel mode p (4 * place.column) (4 * place.row))
 
 -- what a mode that predicts all luma at once costs the luma f of the macroblock at a place of p
-unfoldable pub whole_cost : (ℕ → ℕ → ℕ) → Raster → Place → LumaMode → ℕ
-whole_cost f p place mode = sum_of_differences 16 16 f (luma_pixel mode p (16 * place.column) (16 * place.row))
+unfoldable pub luma_mode_cost : (ℕ → ℕ → ℕ) → Raster → Place → LumaMode → ℕ
+luma_mode_cost f p place mode = sum_of_differences 16 16 f (luma_pixel mode p (16 * place.column) (16 * place.row))
 
 -- what a mode costs one of its planes of colour
 unfoldable pub plane_cost : (ℕ → ℕ → ℕ) → Raster → Place → ChromaMode → ℕ
@@ -37,4 +37,4 @@ plane_cost f p place mode = sum_of_differences 8 8 f (chroma_pixel mode p (8 * p
 
 -- .. and both, U and V
 abbrev pub chroma_cost : Image → Image → Place → ChromaMode → ℕ
-chroma_cost source p place mode = plane_cost (block_of 8 source.u place) p.u place mode + plane_cost (block_of 8 source.v place) p.v place mode
+chroma_cost source p place mode = plane_cost (block_pixels 8 source.u place) p.u place mode + plane_cost (block_pixels 8 source.v place) p.v place mode

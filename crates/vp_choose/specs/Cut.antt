@@ -4,10 +4,10 @@ use Rattle.vp_base.specs.declared.place.Place.{Place}
 use Rattle.vp_base.specs.Image.{Image}
 use Rattle.vp_intra.specs.Edges.{block as listed}
 use Rattle.vp_choose.specs.declared.blocks.Blocks.{Blocks}
-use Rattle.vp_choose.specs.Costs.{block_of}
+use Rattle.vp_choose.specs.Costs.{block_pixels}
 
 -- the blocks of the macroblock at a place of a source
 pub record AreCut (source : Image) (place : Place) (b : Blocks) : Type 0 where
-  pub luma : b.luma ≡ listed 16 (block_of 16 source.luma place)
-  pub u : b.u ≡ listed 8 (block_of 8 source.u place)
-  pub v : b.v ≡ listed 8 (block_of 8 source.v place)
+  pub luma : b.luma ≡ listed 16 (block_pixels 16 source.luma place)
+  pub u : b.u ≡ listed 8 (block_pixels 8 source.u place)
+  pub v : b.v ≡ listed 8 (block_pixels 8 source.v place)

@@ -9,11 +9,11 @@ use Rattle.vp_tables.specs.declared.modes.VectorMode.TheVariants as vector_is
 use Rattle.vp_head.specs.declared.fields.Reference.{Reference}
 use Rattle.vp_head.specs.declared.fields.Reference.TheVariants as reference_is
 use Rattle.vp_modes.specs.Modes.{unread}
-use Rattle.vp_motion.specs.Vector.{Vector, Entry, Candidates, still}
+use Rattle.vp_motion.specs.Vector.{Vector, MacroblockMotion, Candidates, still}
 use Rattle.vp_motion.specs.Near.{candidates}
 use Rattle.vp_quant.specs.declared.factors.Factors.{Factors}
-use Rattle.vp_refs.specs.References.{picture_of}
-use Rattle.vp_recon.specs.Source.{Source, Inter}
+use Rattle.vp_refs.specs.References.{reference_picture}
+use Rattle.vp_recon.specs.Predictor.{Predictor, Inter}
 use Rattle.vp_recon.specs.Prediction.{luma_prediction, chroma_prediction}
 use Rattle.vp_search.specs.declared.vector.WholeVector.{WholeVector}
 use Rattle.vp_search.specs.declared.vector.QuarterVector.{QuarterVector}
@@ -24,18 +24,18 @@ use Rattle.vp_search.specs.Least.{IsLeast}
 use Rattle.vp_search.specs.Refined.{IsRefined}
 use Rattle.vp_choose.specs.declared.motion.Moved.{Moved}
 use Rattle.vp_choose.specs.declared.frame.Choice.{Choice}
-use Rattle.vp_choose.specs.Costs.{block_of}
+use Rattle.vp_choose.specs.Costs.{block_pixels}
 use Rattle.vp_choose.specs.Levels.{HasLumaAndY2, HasChroma}
-use Rattle.vp_choose.specs.Frame.{Search, entry_of, no_biases}
+use Rattle.vp_choose.specs.Frame.{Search, choice_motion, no_biases}
 
 -- what a vector costs in a reference
 abbrev pub vector_cost : Raster → Raster → Place → QuarterVector → ℕ
-vector_cost source reference place v = quarter_cost (block_of 16 source place) reference place v
+vector_cost source reference place v = quarter_cost (block_pixels 16 source place) reference place v
 
 -- the least vector of a reference in whole pixels, and then refined or not; and its cost
 pub record IsFound (s : Search) (source reference : Raster) (place : Place) (found : Refined) : Type 0 where
   pub whole : WholeVector
-  pub least : IsLeast s.range (whole_cost (block_of 16 source place) reference place) whole
+  pub least : IsLeast s.range (whole_cost (block_pixels 16 source place) reference place) whole
   pub refined : s.subpel ≡ true → IsRefined (vector_cost source reference place) whole found.vector
   pub unrefined : s.subpel ≡ false → found.vector ≡ quarters whole
   pub cost : found.cost ≡ vector_cost source reference place found.vector
@@ -69,18 +69,18 @@ abbrev pub vector_of : Moved → Vector
 vector_of m = record { row = m.vector.row; column = m.vector.column }
 
 -- as short as a vector is that is searched for within 64 pixels: 256 quarters, and 3 by its refinement
-abbrev pub IsShort : QuarterVector → Type 0
-IsShort v = (unsigned_abs v.row ≤ 259) × (unsigned_abs v.column ≤ 259)
+abbrev pub IsInSearchRange : QuarterVector → Type 0
+IsInSearchRange v = (unsigned_abs v.row ≤ 259) × (unsigned_abs v.column ≤ 259)
 
 -- what an inter macroblock is predicted from
-abbrev pub moved_source : Search → Moved → Choice → Source
-moved_source s m c = Inter (entry_of c) (picture_of s.references m.reference) 0
+abbrev pub moved_source : Search → Moved → Choice → Predictor
+moved_source s m c = Inter (choice_motion c) (reference_picture s.references m.reference) 0
 
 -- an inter macroblock that is moved so: it has no intra modes
-pub record IsInter (source : Image) (factors : Factors) (s : Search) (g : Grid Entry) (place : Place) (p : Image) (m : Moved) (c : Choice) : Type 0 where
+pub record IsInter (source : Image) (factors : Factors) (s : Search) (g : Grid MacroblockMotion) (place : Place) (p : Image) (m : Moved) (c : Choice) : Type 0 where
   pub modes : c.modes ≡ unread 0 c.modes.skip m.reference
   pub vectors : c.motion.vectors ≡ replicate 16 (vector_of m)
   pub mode : IsFirstGiving (candidates g place m.reference no_biases) (vector_of m) c.motion.mode
-  pub luma : HasLumaAndY2 (block_of 16 source.luma place) (luma_prediction (moved_source s m c) place p.luma) factors c.tokens
-  pub u : HasChroma (block_of 8 source.u place) (chroma_prediction (moved_source s m c) 1 place p.u) factors c.tokens 1
-  pub v : HasChroma (block_of 8 source.v place) (chroma_prediction (moved_source s m c) 2 place p.v) factors c.tokens 2
+  pub luma : HasLumaAndY2 (block_pixels 16 source.luma place) (luma_prediction (moved_source s m c) place p.luma) factors c.tokens
+  pub u : HasChroma (block_pixels 8 source.u place) (chroma_prediction (moved_source s m c) 1 place p.u) factors c.tokens 1
+  pub v : HasChroma (block_pixels 8 source.v place) (chroma_prediction (moved_source s m c) 2 place p.v) factors c.tokens 2

@@ -14,14 +14,14 @@ use Rattle.vp_modes.specs.Entry.{Modes}
 use Rattle.vp_tokens.specs.declared.contexts.Tokens.{Tokens}
 use Rattle.vp_tokens.specs.Blocks.{block_of as tokens_of}
 use Rattle.vp_quant.specs.declared.factors.Factors.{Factors}
-use Rattle.vp_recon.specs.Source.{Intra}
+use Rattle.vp_recon.specs.Predictor.{Intra}
 use Rattle.vp_recon.specs.Prediction.{luma_prediction, chroma_prediction}
 use Rattle.vp_search.specs.FirstLeast.{IsFirstLeast}
 use Rattle.vp_choose.specs.declared.subblocks.Subblocks.{Subblocks}
 use Rattle.vp_choose.specs.declared.luma.Luma.{Luma}
-use Rattle.vp_choose.specs.Costs.{block_of, whole_cost, chroma_cost}
+use Rattle.vp_choose.specs.Costs.{block_pixels, luma_mode_cost, chroma_cost}
 use Rattle.vp_choose.specs.Levels.{HasLumaAndY2, HasChroma}
-use Rattle.vp_choose.specs.Subblocks.{AreChosen, levels_in}
+use Rattle.vp_choose.specs.Subblocks.{AreSubblocksChosen, levels_in}
 
 -- the luma modes in the order in which ties are broken
 abbrev pub luma_order : List LumaMode
@@ -32,11 +32,11 @@ luma_at i = slice_index_or luma_order i luma_is.Dc
 
 -- what a mode costs the luma f: B_PRED, whose subblocks cost so much, costs 128 more
 abbrev pub luma_cost : (ℕ → ℕ → ℕ) → Raster → Place → ℕ → LumaMode → ℕ
-luma_cost f p place subblocks mode = if is_by_subblocks mode then subblocks + 128 else whole_cost f p place mode
+luma_cost f p place subblocks mode = if is_by_subblocks mode then subblocks + 128 else luma_mode_cost f p place mode
 
 -- the first luma mode of the least cost, its cost, and what B_PRED chooses for the subblocks
 pub record IsLuma (f : ℕ → ℕ → ℕ) (factors : Factors) (place : Place) (p : Raster) (l : Luma) : Type 0 where
-  pub subblocks : AreChosen f factors place p l.subblocks
+  pub subblocks : AreSubblocksChosen f factors place p l.subblocks
   pub number : ℕ
   pub first : IsFirstLeast 5 (λ i. luma_cost f p place l.subblocks.cost (luma_at i)) number
   pub mode : l.mode ≡ luma_at number
@@ -67,6 +67,6 @@ pub record IsIntra (source : Image) (factors : Factors) (place : Place) (p : Ima
   pub chroma : IsChroma source place p m.chroma
   pub by_subblocks : is_by_subblocks l.mode ≡ true → HasSubblocks l.subblocks t
   pub at_once : is_by_subblocks l.mode ≡ false
-      → HasLumaAndY2 (block_of 16 source.luma place) (luma_prediction (Intra m) place p.luma) factors t
-  pub u : HasChroma (block_of 8 source.u place) (chroma_prediction (Intra m) 1 place p.u) factors t 1
-  pub v : HasChroma (block_of 8 source.v place) (chroma_prediction (Intra m) 2 place p.v) factors t 2
+      → HasLumaAndY2 (block_pixels 16 source.luma place) (luma_prediction (Intra m) place p.luma) factors t
+  pub u : HasChroma (block_pixels 8 source.u place) (chroma_prediction (Intra m) 1 place p.u) factors t 1
+  pub v : HasChroma (block_pixels 8 source.v place) (chroma_prediction (Intra m) 2 place p.v) factors t 2

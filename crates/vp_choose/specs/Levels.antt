@@ -6,7 +6,7 @@ use Rattle.vp_tokens.specs.declared.contexts.Tokens.{Tokens}
 use Rattle.vp_tokens.specs.Blocks.{block_of as tokens_of}
 use Rattle.vp_quant.specs.declared.factors.Factors.{Factors}
 use Rattle.vp_quant.specs.Level.{quantised}
-use Rattle.vp_transform.specs.Transform.{block_of as listed}
+use Rattle.vp_transform.specs.Transform.{block_from as listed}
 use Rattle.vp_transform.specs.Forward.{fdct, fwht}
 
 -- subblock k of a block that is `across` subblocks wide
@@ -18,8 +18,8 @@ unfoldable pub coefficients : (ℕ → ℕ → ℕ) → (ℕ → ℕ → ℕ) �
 coefficients f g = fdct (listed (λ r c. pos (f r c) -ℤ pos (g r c)))
 
 -- their levels by position, in the order of the zigzag: the first by the factor dc, the others by ac
-unfoldable pub levels_of : List ℤ → ℕ → ℕ → List ℤ
-levels_of numbers dc ac =
+unfoldable pub quantised_levels : List ℤ → ℕ → ℕ → List ℤ
+quantised_levels numbers dc ac =
     map (λ i. quantised (slice_index_or numbers (zigzag i) (pos 0)) (if i == 0 then dc else ac)) (range_with_len 0 16)
 
 -- the first coefficients of sixteen subblocks
@@ -32,14 +32,14 @@ part_coefficients across f g k = coefficients (part across f k) (part across g k
 
 -- Luma with a Y2 block: that has the first coefficients, transformed once more, and luma blocks have no level at position 0.
 pub record HasLumaAndY2 (f g : ℕ → ℕ → ℕ) (factors : Factors) (t : Tokens) : Type 0 where
-  pub y2 : (tokens_of t 0).levels ≡ levels_of (fwht (firsts (part_coefficients 4 f g))) factors.y2_dc factors.y2_ac
+  pub y2 : (tokens_of t 0).levels ≡ quantised_levels (fwht (firsts (part_coefficients 4 f g))) factors.y2_dc factors.y2_ac
   pub luma : (k : ℕ) → k < 16
-      → (tokens_of t (1 + k)).levels ≡ slice_set (levels_of (part_coefficients 4 f g k) factors.y_dc factors.y_ac) 0 (pos 0)
+      → (tokens_of t (1 + k)).levels ≡ slice_set (quantised_levels (part_coefficients 4 f g k) factors.y_dc factors.y_ac) 0 (pos 0)
 
 -- plane n, one of colour: 1 or 2
 abbrev pub HasChroma : (ℕ → ℕ → ℕ) → (ℕ → ℕ → ℕ) → Factors → Tokens → ℕ → Type 0
 HasChroma f g factors t n =
-    (k : ℕ) → k < 4 → (tokens_of t (13 + 4 * n + k)).levels ≡ levels_of (part_coefficients 2 f g k) factors.uv_dc factors.uv_ac
+    (k : ℕ) → k < 4 → (tokens_of t (13 + 4 * n + k)).levels ≡ quantised_levels (part_coefficients 2 f g k) factors.uv_dc factors.uv_ac
 
 -- each factor is 1 or more
 abbrev pub ArePositive : Factors → Type 0

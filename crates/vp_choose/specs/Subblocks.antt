@@ -2,7 +2,7 @@
 use Rattle.std.specs.Prelude.{◌≡◌, ℕ, ◌*◌, ◌<◌, ℤ, List, [], ◌∷◌, slice_index_or}
 use Rattle.vp_base.specs.declared.place.Place.{Place}
 use Rattle.vp_base.specs.Raster.{Raster}
-use Rattle.vp_base.specs.Near.{block}
+use Rattle.vp_base.specs.Near.{block_place}
 use Rattle.vp_base.specs.Over.{over}
 use Rattle.vp_tables.specs.declared.modes.SubMode.{SubMode}
 use Rattle.vp_tables.specs.declared.modes.SubMode.TheVariants.{Dc, Tm, Ve, He, Ld, Rd, Vr, Vl, Hd, Hu}
@@ -14,7 +14,7 @@ use Rattle.vp_search.specs.Sums.{sum_below}
 use Rattle.vp_search.specs.FirstLeast.{IsFirstLeast}
 use Rattle.vp_choose.specs.declared.subblocks.Subblocks.{Subblocks}
 use Rattle.vp_choose.specs.Costs.{sub_cost}
-use Rattle.vp_choose.specs.Levels.{part, coefficients, levels_of}
+use Rattle.vp_choose.specs.Levels.{part, coefficients, quantised_levels}
 
 -- the modes in the order in which ties are broken
 abbrev pub order : List SubMode
@@ -32,7 +32,7 @@ pub record IsBestMode (f : ℕ → ℕ → ℕ) (p : Raster) (place : Place) (mo
 -- its levels by a mode
 abbrev pub sub_levels : (ℕ → ℕ → ℕ) → Raster → Place → SubMode → Factors → List ℤ
 sub_levels f p place mode factors =
-    levels_of (coefficients f (sub_pixel mode p (4 * place.column) (4 * place.row))) factors.y_dc factors.y_ac
+    quantised_levels (coefficients f (sub_pixel mode p (4 * place.column) (4 * place.row))) factors.y_dc factors.y_ac
 
 -- the mode and the levels of subblock k
 abbrev pub mode_of : Subblocks → ℕ → SubMode
@@ -43,16 +43,16 @@ levels_in s k = slice_index_or s.levels k []
 
 -- p with subblock k of the macroblock at a place rebuilt
 abbrev pub sub_rebuilt : Factors → Place → Subblocks → ℕ → Raster → Raster
-sub_rebuilt factors place s k p = with_sub p (block 4 place k) (mode_of s k) (residue (levels_in s k) factors.y_dc factors.y_ac)
+sub_rebuilt factors place s k p = with_sub p (block_place 4 place k) (mode_of s k) (residue (levels_in s k) factors.y_dc factors.y_ac)
 
 -- p with the first n rebuilt
-abbrev pub after : Factors → Place → Raster → Subblocks → ℕ → Raster
-after factors place p s n = over n (sub_rebuilt factors place s) p
+abbrev pub after_subblocks : Factors → Place → Raster → Subblocks → ℕ → Raster
+after_subblocks factors place p s n = over n (sub_rebuilt factors place s) p
 
 -- Each subblock of the luma f of the macroblock at a place of p has its best mode over those before it, and the levels of
 -- that mode; the cost is the sum of theirs.
-pub record AreChosen (f : ℕ → ℕ → ℕ) (factors : Factors) (place : Place) (p : Raster) (s : Subblocks) : Type 0 where
-  pub modes : (k : ℕ) → k < 16 → IsBestMode (part 4 f k) (after factors place p s k) (block 4 place k) (mode_of s k)
+pub record AreSubblocksChosen (f : ℕ → ℕ → ℕ) (factors : Factors) (place : Place) (p : Raster) (s : Subblocks) : Type 0 where
+  pub modes : (k : ℕ) → k < 16 → IsBestMode (part 4 f k) (after_subblocks factors place p s k) (block_place 4 place k) (mode_of s k)
   pub levels : (k : ℕ) → k < 16
-      → levels_in s k ≡ sub_levels (part 4 f k) (after factors place p s k) (block 4 place k) (mode_of s k) factors
-  pub cost : s.cost ≡ sum_below 16 (λ k. sub_cost (part 4 f k) (after factors place p s k) (block 4 place k) (mode_of s k))
+      → levels_in s k ≡ sub_levels (part 4 f k) (after_subblocks factors place p s k) (block_place 4 place k) (mode_of s k) factors
+  pub cost : s.cost ≡ sum_below 16 (λ k. sub_cost (part 4 f k) (after_subblocks factors place p s k) (block_place 4 place k) (mode_of s k))

@@ -4,7 +4,7 @@ ghost use Rattle.std.specs.Prelude.{◌≡◌, ◌*◌, ◌≤◌, length, slice
 ghost use Rattle.std.specs.Int.{abs_diff};
 ghost use Rattle.vp_search.specs.Sums.{sum_below};
 ghost use Rattle.vp_search.specs.Differences.{sum_of_differences};
-ghost use Rattle.vp_choose.specs.Costs.{rows_of};
+ghost use Rattle.vp_choose.specs.Costs.{block_from_rows};
 
 /// The sum of absolute differences of two slices of one length.
 fn differences(a: &[u8], b: &[u8]) -> u32
@@ -22,7 +22,7 @@ fn differences(a: &[u8], b: &[u8]) -> u32
 
 /// The sum of absolute differences of two blocks of 4 by 4 pixels, each row after row.
 pub(crate) fn sad4(a: &[u8; 16], b: &[u8; 16]) -> u32
-    ensures value { result ≡ sum_of_differences 4 4 (rows_of 4 a.now) (rows_of 4 b.now) }
+    ensures value { result ≡ sum_of_differences 4 4 (block_from_rows 4 a.now) (block_from_rows 4 b.now) }
     ensures bound { result ≤ 4080 }
 {
     differences(a, b)
@@ -30,7 +30,7 @@ pub(crate) fn sad4(a: &[u8; 16], b: &[u8; 16]) -> u32
 
 /// The sum of absolute differences of two blocks of 8 by 8 pixels, each row after row.
 pub(crate) fn sad8(a: &[u8; 64], b: &[u8; 64]) -> u32
-    ensures value { result ≡ sum_of_differences 8 8 (rows_of 8 a.now) (rows_of 8 b.now) }
+    ensures value { result ≡ sum_of_differences 8 8 (block_from_rows 8 a.now) (block_from_rows 8 b.now) }
     ensures bound { result ≤ 16320 }
 {
     differences(a, b)

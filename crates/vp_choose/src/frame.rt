@@ -22,7 +22,7 @@ pub struct Search<'a> {
 
 /// What the macroblocks of a frame are chosen by.
 #[derive(Clone, Copy)]
-pub struct Frame<'a> {
+pub struct FrameSearch<'a> {
     /// The source. Its pixels that aren't shown continue it.
     pub source: &'a Picture,
     /// Each is 1 or more.

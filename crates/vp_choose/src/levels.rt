@@ -3,7 +3,7 @@
 ghost use Rattle.std.specs.Prelude.{◌≡◌, ℕ, ◌+◌, ◌*◌, ◌/◌, ◌%◌, ◌<◌, ◌≤◌, pos, length, slice_index_or, unsigned_abs};
 ghost use Rattle.vp_transform.specs.Fits.{EachWithin};
 ghost use Rattle.vp_intra.specs.Edges.{block as listed};
-ghost use Rattle.vp_choose.specs.Levels.{part, coefficients, levels_of};
+ghost use Rattle.vp_choose.specs.Levels.{part, coefficients, quantised_levels};
 
 use vp_quant::quantise;
 use vp_tables::zigzag;
@@ -40,11 +40,11 @@ pub(crate) fn coefficients(source: &[u8; 16], prediction: &[u8; 16]) -> [i64; 16
 }
 
 /// The levels of a block of coefficients, by position: the first by the factor `dc`, the others by `ac`.
-#[tactic(auto, unfolding(crate::specs::Levels::levels_of))]
-pub(crate) fn levels_of(coefficients: &[i64; 16], dc: u16, ac: u16) -> [i16; 16]
+#[tactic(auto, unfolding(crate::specs::Levels::quantised_levels))]
+pub(crate) fn quantised_levels(coefficients: &[i64; 16], dc: u16, ac: u16) -> [i16; 16]
     requires dc { 1 ≤ dc }
     requires ac { 1 ≤ ac }
-    ensures value { result ≡ levels_of coefficients.now dc ac }
+    ensures value { result ≡ quantised_levels coefficients.now dc ac }
     ensures within { (i : ℕ) → unsigned_abs (slice_index_or result i (pos 0)) ≤ 2047 }
 {
     let mut levels = [0; 16];

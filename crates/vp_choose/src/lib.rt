@@ -17,6 +17,6 @@ mod subblocks;
 mod tests;
 mod tokens;
 
-pub use frame::{Choice, Frame, Search};
+pub use frame::{Choice, FrameSearch, Search};
 pub use laws::choice_is_one;
 pub use macroblock::choose_macroblock;

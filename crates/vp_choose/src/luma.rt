@@ -2,7 +2,7 @@
 
 ghost use Rattle.std.specs.Prelude.{◌≡◌, ℕ, ◌+◌, ◌*◌, ◌≤◌};
 ghost use Rattle.vp_intra.specs.Edges.{block as listed};
-ghost use Rattle.vp_choose.specs.Costs.{HasMacroblock, whole_cost};
+ghost use Rattle.vp_choose.specs.Costs.{HasMacroblock, luma_mode_cost};
 ghost use Rattle.vp_choose.specs.Levels.{ArePositive};
 ghost use Rattle.vp_choose.specs.Gathered.{AreSmall};
 ghost use Rattle.vp_choose.specs.Intra.{IsLuma};
@@ -36,7 +36,7 @@ fn cost_of(block: &[u8; 256], plane: &Plane, place: Place, mode: LumaMode) -> u3
     requires columns { 16 * place.column + 16 ≤ plane.now.width }
     requires rows { 16 * place.row + 16 ≤ plane.now.height }
     requires whole { ¬ (mode ≡ LumaMode.B) }
-    ensures value { (f : ℕ → ℕ → ℕ) → block.now ≡ listed 16 f → result ≡ whole_cost f plane.now place mode }
+    ensures value { (f : ℕ → ℕ → ℕ) → block.now ≡ listed 16 f → result ≡ luma_mode_cost f plane.now place mode }
     ensures bound { result ≤ 65280 }
 {
     let _size = [plane.width(), plane.height()];

@@ -7,14 +7,14 @@ ghost use Rattle.vp_base.specs.Raster.{Raster};
 ghost use Rattle.vp_base.specs.Rows.{AreOneSize};
 ghost use Rattle.vp_tables.specs.Modes.{is_by_subblocks};
 ghost use Rattle.vp_head.specs.Reference.{is_intra};
-ghost use Rattle.vp_motion.specs.Vector.{Entry, IsWithin, last_of, still};
+ghost use Rattle.vp_motion.specs.Vector.{MacroblockMotion, IsWithin, last_of, still};
 ghost use Rattle.vp_motion.specs.Map.{AreWithin};
 ghost use Rattle.vp_motion.specs.Near.{candidates};
 ghost use Rattle.vp_motion.specs.Spelled.{CanBeWritten};
 ghost use Rattle.vp_tokens.specs.Blocks.{any_token};
 ghost use Rattle.vp_intra.specs.Edges.{block as listed};
 ghost use Rattle.vp_intra.specs.Whole.{luma_pixel, chroma_pixel};
-ghost use Rattle.vp_recon.specs.Source.{Intra, Inter, macroblock_of, has_y2};
+ghost use Rattle.vp_recon.specs.Predictor.{Intra, Inter, macroblock_of, has_y2};
 ghost use Rattle.vp_recon.specs.Prediction.{luma_prediction, chroma_prediction};
 ghost use Rattle.vp_recon.specs.Rebuilt.{rebuilt};
 ghost use Rattle.vp_choose.specs.Costs.{HasMacroblock};
@@ -22,13 +22,13 @@ ghost use Rattle.vp_choose.specs.Cut.{AreCut};
 ghost use Rattle.vp_choose.specs.Levels.{ArePositive, HasLumaAndY2, HasChroma};
 ghost use Rattle.vp_choose.specs.Gathered.{AreSmall, AreWritable};
 ghost use Rattle.vp_choose.specs.Intra.{IsIntra, HasSubblocks};
-ghost use Rattle.vp_choose.specs.Frame.{frame_of, search_of, source_by, no_biases};
-ghost use Rattle.vp_choose.specs.Inter.{IsInter, IsShort, moved_source, vector_of};
+ghost use Rattle.vp_choose.specs.Frame.{lent_frame, search_of, source_by, no_biases};
+ghost use Rattle.vp_choose.specs.Inter.{IsInter, IsInSearchRange, moved_source, vector_of};
 ghost use Rattle.vp_choose.specs.Choice.{IsChoice};
 
 use crate::blocks::{Blocks, cut_blocks};
 use crate::chroma::choose_chroma;
-use crate::frame::{Choice, Frame, Search};
+use crate::frame::{Choice, FrameSearch, Search};
 use crate::luma::{Luma, choose_luma};
 use crate::motion::{Moved, choose_reference, motion_of};
 use crate::tokens::{chroma_of, tokens_with_y2, tokens_without_y2};
@@ -37,9 +37,9 @@ use vp_head::Reference;
 use vp_inter::{PlaneVector, chroma_vector, luma_vector, predict_block8, predict_block16};
 use vp_intra::{predict_chroma, predict_luma};
 use vp_modes::Modes;
-use vp_motion::{Entry, Motion, Vector, VectorMap};
+use vp_motion::{MacroblockMotion, Motion, Vector, VectorMap};
 use vp_quant::Factors;
-use vp_recon::{Source, rebuild_macroblock};
+use vp_recon::{Predictor, rebuild_macroblock};
 use vp_search::QuarterVector;
 use vp_tables::{ChromaMode, LumaMode, SubMode, VectorMode};
 use vp_tokens::Tokens;
@@ -117,7 +117,7 @@ fn choose_intra(
     let chroma = choose_chroma(blocks, picture, place);
     let tokens = intra_tokens(blocks, factors, picture, place, luma, chroma);
     let modes = intra_modes(luma, chroma, &tokens);
-    rebuild_macroblock(picture, place, &Source::Intra(&modes), &tokens, factors);
+    rebuild_macroblock(picture, place, &Predictor::Intra(&modes), &tokens, factors);
     let motion = Motion {
         mode: VectorMode::Zero,
         vectors: [Vector { row: 0, column: 0 }; 16],
@@ -140,10 +140,10 @@ fn inter_tokens(
     requires columns { 16 * place.column ≤ 16384 }
     requires rows { 16 * place.row ≤ 16384 }
     requires factors { ArePositive factors.now }
-    requires short { IsShort moved.now.vector }
-    ensures luma { (e : Entry) (p : Raster) (f : ℕ → ℕ → ℕ) → e.vectors ≡ replicate 16 (vector_of moved.now) → blocks.now.luma ≡ listed 16 f → HasLumaAndY2 f (luma_prediction (Inter e reference.now 0) place p) factors.now result }
-    ensures u { (e : Entry) (p : Raster) (f : ℕ → ℕ → ℕ) → e.vectors ≡ replicate 16 (vector_of moved.now) → blocks.now.u ≡ listed 8 f → HasChroma f (chroma_prediction (Inter e reference.now 0) 1 place p) factors.now result 1 }
-    ensures v { (e : Entry) (p : Raster) (f : ℕ → ℕ → ℕ) → e.vectors ≡ replicate 16 (vector_of moved.now) → blocks.now.v ≡ listed 8 f → HasChroma f (chroma_prediction (Inter e reference.now 0) 2 place p) factors.now result 2 }
+    requires short { IsInSearchRange moved.now.vector }
+    ensures luma { (e : MacroblockMotion) (p : Raster) (f : ℕ → ℕ → ℕ) → e.vectors ≡ replicate 16 (vector_of moved.now) → blocks.now.luma ≡ listed 16 f → HasLumaAndY2 f (luma_prediction (Inter e reference.now 0) place p) factors.now result }
+    ensures u { (e : MacroblockMotion) (p : Raster) (f : ℕ → ℕ → ℕ) → e.vectors ≡ replicate 16 (vector_of moved.now) → blocks.now.u ≡ listed 8 f → HasChroma f (chroma_prediction (Inter e reference.now 0) 1 place p) factors.now result 1 }
+    ensures v { (e : MacroblockMotion) (p : Raster) (f : ℕ → ℕ → ℕ) → e.vectors ≡ replicate 16 (vector_of moved.now) → blocks.now.v ≡ listed 8 f → HasChroma f (chroma_prediction (Inter e reference.now 0) 2 place p) factors.now result 2 }
     ensures writable { AreWritable true result }
 {
     let _dim = reference.dim();
@@ -160,11 +160,11 @@ fn inter_tokens(
 }
 
 /// How a macroblock moves, as it is kept.
-fn entry_of(reference: Reference, motion: &Motion) -> Entry
+fn entry_of(reference: Reference, motion: &Motion) -> MacroblockMotion
     ensures { result ≡ record { reference = reference; mode = motion.now.mode; vectors = motion.now.vectors } }
 {
     let vectors = motion.vectors;
-    Entry {
+    MacroblockMotion {
         reference,
         mode: motion.mode,
         vectors,
@@ -185,7 +185,7 @@ fn choose_inter(
     requires factors { ArePositive factors.now }
     requires place { Has vectors.now place }
     requires map { AreWithin 511 vectors.now }
-    requires short { IsShort moved.now.vector }
+    requires short { IsInSearchRange moved.now.vector }
     requires reference { is_intra moved.now.reference ≡ false }
     ensures inter { (source : Image) → AreCut source place blocks.now → IsInter source factors.now (search_of search.now) vectors.now place picture.old moved.now result }
     ensures rebuilt { picture.new ≡ rebuilt (macroblock_of (moved_source (search_of search.now) moved.now result) result.tokens factors.now) place picture.old }
@@ -200,7 +200,7 @@ fn choose_inter(
     let tokens = inter_tokens(blocks, factors, reference, place, moved);
     let motion = motion_of(vectors, place, moved);
     let entry = entry_of(moved.reference, &motion);
-    let source = Source::Inter {
+    let source = Predictor::Inter {
         motion: &entry,
         reference,
         version: 0,
@@ -226,20 +226,20 @@ fn choose_inter(
 /// `picture` has the macroblocks before it, in raster order, rebuilt and not filtered yet; `vectors` has their motion.
 /// The macroblock's own motion isn't put there. No memory is taken.
 pub fn choose_macroblock(
-    frame: &Frame,
+    frame: &FrameSearch,
     picture: &mut Picture,
     vectors: &VectorMap,
     place: Place,
 ) -> Choice
     requires column { place.column < macroblocks picture.old.width }
     requires row { place.row < macroblocks picture.old.height }
-    requires size { AreOneSize (frame_of frame.now).source picture.old }
-    requires factors { ArePositive (frame_of frame.now).factors }
-    requires range { IfSome (frame_of frame.now).search (λ s. s.range ≤ 64) }
+    requires size { AreOneSize (lent_frame frame.now).source picture.old }
+    requires factors { ArePositive (lent_frame frame.now).factors }
+    requires range { IfSome (lent_frame frame.now).search (λ s. s.range ≤ 64) }
     requires map { Has vectors.now place }
     requires short { AreWithin 511 vectors.now }
-    ensures chosen { IsChoice (frame_of frame.now) picture.old vectors.now place result }
-    ensures rebuilt { picture.new ≡ rebuilt (macroblock_of (source_by (frame_of frame.now).search result) result.tokens (frame_of frame.now).factors) place picture.old }
+    ensures chosen { IsChoice (lent_frame frame.now) picture.old vectors.now place result }
+    ensures rebuilt { picture.new ≡ rebuilt (macroblock_of (source_by (lent_frame frame.now).search result) result.tokens (lent_frame frame.now).factors) place picture.old }
     // `write_motion` can say the motion at this place, where no vector is turned round.
     ensures written { is_intra result.modes.reference ≡ false → CanBeWritten (candidates vectors.now place result.modes.reference no_biases) result.motion }
     ensures short { IsWithin 259 (last_of result.motion.vectors) }

@@ -8,11 +8,11 @@ ghost use Rattle.vp_motion.specs.Vector.{IsWithin, last_of};
 ghost use Rattle.vp_motion.specs.Map.{AreWithin};
 ghost use Rattle.vp_motion.specs.Near.{candidates};
 ghost use Rattle.vp_motion.specs.Spelled.{CanBeWritten};
-ghost use Rattle.vp_refs.specs.References.{picture_of};
+ghost use Rattle.vp_refs.specs.References.{reference_picture};
 ghost use Rattle.vp_intra.specs.Edges.{block as listed};
-ghost use Rattle.vp_choose.specs.Costs.{block_of};
+ghost use Rattle.vp_choose.specs.Costs.{block_pixels};
 ghost use Rattle.vp_choose.specs.Frame.{search_of, no_biases};
-ghost use Rattle.vp_choose.specs.Inter.{IsFound, IsMoved, IsFirstGiving, IsShort, found_in, vector_of};
+ghost use Rattle.vp_choose.specs.Inter.{IsFound, IsMoved, IsFirstGiving, IsInSearchRange, found_in, vector_of};
 
 use crate::frame::Search;
 use vp_base::Place;
@@ -34,8 +34,8 @@ fn find(search: &Search, block: &[u8; 256], reference: Reference, place: Place) 
     requires columns { 16 * place.column ≤ 16384 }
     requires rows { 16 * place.row ≤ 16384 }
     requires range { search.now.range ≤ 64 }
-    ensures found { (source : Raster) → block.now ≡ listed 16 (block_of 16 source place) → IsFound (search_of search.now) source (picture_of search.now.references.now reference).luma place result }
-    ensures short { IsShort result.vector }
+    ensures found { (source : Raster) → block.now ≡ listed 16 (block_pixels 16 source place) → IsFound (search_of search.now) source (reference_picture search.now.references.now reference).luma place result }
+    ensures short { IsInSearchRange result.vector }
 {
     let picture = search.references.get(reference);
     let _dim = picture.dim();
@@ -66,8 +66,8 @@ pub(crate) fn choose_reference(search: &Search, block: &[u8; 256], place: Place)
     requires columns { 16 * place.column ≤ 16384 }
     requires rows { 16 * place.row ≤ 16384 }
     requires range { search.now.range ≤ 64 }
-    ensures moved { (source : Raster) → block.now ≡ listed 16 (block_of 16 source place) → IsMoved (search_of search.now) source place result }
-    ensures short { IsShort result.vector }
+    ensures moved { (source : Raster) → block.now ≡ listed 16 (block_pixels 16 source place) → IsMoved (search_of search.now) source place result }
+    ensures short { IsInSearchRange result.vector }
     ensures inter { is_intra result.reference ≡ false }
 {
     let last = find(search, block, Reference::Last, place);
@@ -100,7 +100,7 @@ pub(crate) fn mode_of(candidates: &Candidates, vector: Vector) -> VectorMode
 pub(crate) fn motion_of(vectors: &VectorMap, place: Place, moved: &Moved) -> Motion
     requires place { Has vectors.now place }
     requires map { AreWithin 511 vectors.now }
-    requires short { IsShort moved.now.vector }
+    requires short { IsInSearchRange moved.now.vector }
     ensures vectors { result.vectors ≡ replicate 16 (vector_of moved.now) }
     ensures mode { IsFirstGiving (candidates vectors.now place moved.now.reference no_biases) (vector_of moved.now) result.mode }
     ensures written { CanBeWritten (candidates vectors.now place moved.now.reference no_biases) result }

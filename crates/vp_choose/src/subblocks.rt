@@ -9,10 +9,10 @@ ghost use Rattle.vp_search.specs.FirstLeast.{IsFirstLeast};
 ghost use Rattle.vp_choose.specs.Costs.{sub_cost};
 ghost use Rattle.vp_choose.specs.Levels.{ArePositive};
 ghost use Rattle.vp_choose.specs.Gathered.{AreSmall};
-ghost use Rattle.vp_choose.specs.Subblocks.{IsBestMode, AreChosen, mode_at, sub_levels, after};
+ghost use Rattle.vp_choose.specs.Subblocks.{IsBestMode, AreSubblocksChosen, mode_at, sub_levels, after_subblocks};
 
 use crate::difference::sad4;
-use crate::levels::{coefficients, levels_of, part_of};
+use crate::levels::{coefficients, part_of, quantised_levels};
 use vp_base::{Picture, Place, Plane};
 use vp_intra::predict_sub;
 use vp_quant::Factors;
@@ -97,7 +97,7 @@ fn levels_by(
     let _size = [plane.width(), plane.height()];
     let prediction = predict_sub(plane, 4 * place.column, 4 * place.row, mode);
     let numbers = coefficients(block, &prediction);
-    levels_of(&numbers, factors.y_dc, factors.y_ac)
+    quantised_levels(&numbers, factors.y_dc, factors.y_ac)
 }
 
 /// Chooses for one subblock, and rebuilds it.
@@ -135,8 +135,8 @@ fn choose_all(
     requires columns { 16 * place.column + 16 ≤ picture.old.luma.width }
     requires rows { 16 * place.row + 16 ≤ picture.old.luma.height }
     requires factors { ArePositive factors.now }
-    ensures chosen { (f : ℕ → ℕ → ℕ) → source.now ≡ listed 16 f → AreChosen f factors.now place picture.old.luma result }
-    ensures rebuilt { picture.new ≡ with_plane picture.old 0 (after factors.now place picture.old.luma result 16) }
+    ensures chosen { (f : ℕ → ℕ → ℕ) → source.now ≡ listed 16 f → AreSubblocksChosen f factors.now place picture.old.luma result }
+    ensures rebuilt { picture.new ≡ with_plane picture.old 0 (after_subblocks factors.now place picture.old.luma result 16) }
     ensures within { AreSmall result.levels }
     ensures bound { result.cost ≤ 65280 }
 {
@@ -173,7 +173,7 @@ pub(crate) fn choose_subblocks(
     requires columns { 16 * place.column + 16 ≤ picture.old.luma.width }
     requires rows { 16 * place.row + 16 ≤ picture.old.luma.height }
     requires factors { ArePositive factors.now }
-    ensures chosen { (f : ℕ → ℕ → ℕ) → source.now ≡ listed 16 f → AreChosen f factors.now place picture.old.luma result }
+    ensures chosen { (f : ℕ → ℕ → ℕ) → source.now ≡ listed 16 f → AreSubblocksChosen f factors.now place picture.old.luma result }
     ensures kept { picture.new ≡ picture.old }
     ensures within { AreSmall result.levels }
     ensures bound { result.cost ≤ 65280 }

@@ -64,7 +64,7 @@ fn encode_flat_bright(rt: HostRuntime) {
     let Ok(vectors) = VectorMap::new(rt.alloc(), dim) else {
         panic!(rt; "a map");
     };
-    let frame = Frame {
+    let frame = FrameSearch {
         source: &source,
         factors: &FACTORS,
         search: None,
@@ -109,7 +109,7 @@ fn a_still_macroblock(rt: HostRuntime) {
         range: 16,
         subpel: true,
     };
-    let frame = Frame {
+    let frame = FrameSearch {
         source: &source,
         factors: &FACTORS,
         search: Some(search),

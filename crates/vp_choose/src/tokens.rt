@@ -5,11 +5,11 @@ ghost use Rattle.vp_tokens.specs.Blocks.{block_of as tokens_of};
 ghost use Rattle.vp_transform.specs.Fits.{EachWithin};
 ghost use Rattle.vp_transform.specs.Forward.{fwht};
 ghost use Rattle.vp_intra.specs.Edges.{block as listed};
-ghost use Rattle.vp_choose.specs.Levels.{ArePositive, HasLumaAndY2, firsts, levels_of, part_coefficients};
+ghost use Rattle.vp_choose.specs.Levels.{ArePositive, HasLumaAndY2, firsts, quantised_levels, part_coefficients};
 ghost use Rattle.vp_choose.specs.Gathered.{AreListed, AreSmall, AreWritable, IsGathered, gathered};
 
 use crate::blocks::Blocks;
-use crate::levels::{coefficients, levels_of, part_of};
+use crate::levels::{coefficients, part_of, quantised_levels};
 use vp_quant::Factors;
 use vp_tokens::Tokens;
 use vp_transform::fwht;
@@ -47,23 +47,23 @@ fn firsts(all: &[[i64; 16]; 16]) -> [i64; 16]
 fn y2_levels(all: &[[i64; 16]; 16], factors: &Factors) -> [i16; 16]
     requires within { (k : ℕ) → EachWithin 2040 (slice_index_or all.now k []) }
     requires factors { ArePositive factors.now }
-    ensures value { (each : ℕ → List ℤ) → AreListed 16 all.now each → result ≡ levels_of (fwht (firsts each)) factors.now.y2_dc factors.now.y2_ac }
+    ensures value { (each : ℕ → List ℤ) → AreListed 16 all.now each → result ≡ quantised_levels (fwht (firsts each)) factors.now.y2_dc factors.now.y2_ac }
     ensures within { (i : ℕ) → unsigned_abs (slice_index_or result i (pos 0)) ≤ 2047 }
 {
     let firsts = firsts(all);
-    levels_of(&fwht(&firsts), factors.y2_dc, factors.y2_ac)
+    quantised_levels(&fwht(&firsts), factors.y2_dc, factors.y2_ac)
 }
 
 /// The levels of the luma subblocks behind a Y2 block, which has those of position 0.
 fn luma_levels(all: &[[i64; 16]; 16], factors: &Factors) -> Levels<16>
     requires { ArePositive factors.now }
-    ensures value { (each : ℕ → List ℤ) → AreListed 16 all.now each → AreListed 16 result (λ k. slice_set (levels_of (each k) factors.now.y_dc factors.now.y_ac) 0 (pos 0)) }
+    ensures value { (each : ℕ → List ℤ) → AreListed 16 all.now each → AreListed 16 result (λ k. slice_set (quantised_levels (each k) factors.now.y_dc factors.now.y_ac) 0 (pos 0)) }
     ensures within { AreSmall result }
     ensures first { (k : ℕ) → k < 16 → slice_index_or (slice_index_or result k []) 0 (pos 0) ≡ pos 0 }
 {
     let mut levels = [[0; 16]; 16];
     for k in 0..16 {
-        let mut own = levels_of(&all[k], factors.y_dc, factors.y_ac);
+        let mut own = quantised_levels(&all[k], factors.y_dc, factors.y_ac);
         own[0] = 0;
         levels[k] = own;
     }
@@ -73,13 +73,13 @@ fn luma_levels(all: &[[i64; 16]; 16], factors: &Factors) -> Levels<16>
 /// The levels of the four subblocks of a plane of colour.
 fn chroma_levels(source: &[u8; 64], prediction: &[u8; 64], factors: &Factors) -> Levels<4>
     requires { ArePositive factors.now }
-    ensures value { (f g : ℕ → ℕ → ℕ) → source.now ≡ listed 8 f → prediction.now ≡ listed 8 g → AreListed 4 result (λ k. levels_of (part_coefficients 2 f g k) factors.now.uv_dc factors.now.uv_ac) }
+    ensures value { (f g : ℕ → ℕ → ℕ) → source.now ≡ listed 8 f → prediction.now ≡ listed 8 g → AreListed 4 result (λ k. quantised_levels (part_coefficients 2 f g k) factors.now.uv_dc factors.now.uv_ac) }
     ensures within { AreSmall result }
 {
     let mut levels = [[0; 16]; 4];
     for k in 0..4 {
         let numbers = coefficients(&part_of::<2>(source, k), &part_of::<2>(prediction, k));
-        levels[k] = levels_of(&numbers, factors.uv_dc, factors.uv_ac);
+        levels[k] = quantised_levels(&numbers, factors.uv_dc, factors.uv_ac);
     }
     levels
 }
@@ -94,8 +94,8 @@ pub(crate) struct Chroma {
 /// The levels of both, from their predictions.
 pub(crate) fn chroma_of(blocks: &Blocks, factors: &Factors, u: &[u8; 64], v: &[u8; 64]) -> Chroma
     requires { ArePositive factors.now }
-    ensures u { (f g : ℕ → ℕ → ℕ) → blocks.now.u ≡ listed 8 f → u.now ≡ listed 8 g → AreListed 4 result.u (λ k. levels_of (part_coefficients 2 f g k) factors.now.uv_dc factors.now.uv_ac) }
-    ensures v { (f g : ℕ → ℕ → ℕ) → blocks.now.v ≡ listed 8 f → v.now ≡ listed 8 g → AreListed 4 result.v (λ k. levels_of (part_coefficients 2 f g k) factors.now.uv_dc factors.now.uv_ac) }
+    ensures u { (f g : ℕ → ℕ → ℕ) → blocks.now.u ≡ listed 8 f → u.now ≡ listed 8 g → AreListed 4 result.u (λ k. quantised_levels (part_coefficients 2 f g k) factors.now.uv_dc factors.now.uv_ac) }
+    ensures v { (f g : ℕ → ℕ → ℕ) → blocks.now.v ≡ listed 8 f → v.now ≡ listed 8 g → AreListed 4 result.v (λ k. quantised_levels (part_coefficients 2 f g k) factors.now.uv_dc factors.now.uv_ac) }
     ensures within_u { AreSmall result.u }
     ensures within_v { AreSmall result.v }
 {

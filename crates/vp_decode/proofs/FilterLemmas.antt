@@ -10,7 +10,7 @@ use Rattle.vp_loop.specs.declared.strength.Level.{Level}
 use Rattle.vp_loop.specs.Levels.{no_level}
 use Rattle.vp_loop.specs.Filtered.{row_filtered, level_in, macroblock_filtered}
 use Rattle.vp_loop.proofs.WindowLemmas.{row_keeps, row_reads, row_size, row_aligned, row_whole}
-use Rattle.vp_decode.specs.Window.{IsAbove}
+use Rattle.vp_decode.specs.RowBands.{IsAbove}
 
 at_entry : (g : Grid Level) (row column : ℕ) (x : Level) → column < g.columns → entry g (record { column = column; row = row }) ≡ Some x → get_or g.entries (row * g.columns + column) no_level ≡ x
 at_entry g row column x h e =

@@ -10,22 +10,22 @@ use Rattle.vp_base.specs.Over.{over}
 use Rattle.vp_base.proofs.OverLemmas.{over-none, over-more, over-next}
 use Rattle.vp_tokens.specs.declared.contexts.Tokens.{Tokens}
 use Rattle.vp_tokens.specs.Blocks.{Blocks, blocks_of, any_token}
-use Rattle.vp_tokens.specs.Contexts.{Contexts, StandsFor, right}
+use Rattle.vp_tokens.specs.Contexts.{Contexts, AreContextsAt, right}
 use Rattle.vp_tokens.proofs.Steps.{row_begins}
-use Rattle.vp_recon.specs.Source.{has_y2}
+use Rattle.vp_recon.specs.Predictor.{has_y2}
 use Rattle.vp_loop.specs.declared.strength.Level.{Level}
 use Rattle.vp_recon.specs.Rebuilt.{rebuilt}
-use Rattle.vp_decode.specs.Maps.{place}
-use Rattle.vp_decode.specs.Frame.{Plan, Readings, source_at, tokens_read, seen_read, row_seen, row_tokens, rest_of, token_row, none_read, readings, tokens_of, macroblock_at, level_at}
-use Rattle.vp_decode.specs.Rebuilding.{Rebuilding, IsRebuilt, IsStep, IsRow, AreRows}
+use Rattle.vp_decode.specs.MacroblockInfo.{place}
+use Rattle.vp_decode.specs.Frame.{FrameInfo, Readings, predictor_at, tokens_read, seen_read, row_seen, row_tokens, row_partition, token_row, nothing_read, readings, tokens_of, macroblock_at, level_at}
+use Rattle.vp_decode.specs.FrameDecoder.{FrameDecoder, IsRebuilt, IsMacroblockStep, IsRow, IsAfterRows}
 
 -- ---- a row
 
-row_seen-none : (f : Plan) (row : ℕ) (g : Grid Blocks) (s : State) → row_seen f row 0 g s ≡ (g, s)
+row_seen-none : (f : FrameInfo) (row : ℕ) (g : Grid Blocks) (s : State) → row_seen f row 0 g s ≡ (g, s)
 unfolding row_seen rows
 row_seen-none f row g s = refl
 
-row_seen-more : (f : Plan) (row n : ℕ) (g : Grid Blocks) (s : State) → row_seen f row (n + 1) g s ≡ seen_read f (place row n) (row_seen f row n g s).0 (row_seen f row n g s).1
+row_seen-more : (f : FrameInfo) (row n : ℕ) (g : Grid Blocks) (s : State) → row_seen f row (n + 1) g s ≡ seen_read f (place row n) (row_seen f row n g s).0 (row_seen f row n g s).1
 unfolding row_seen rows bind
 row_seen-more f row n g s = rw add-one refl
 
@@ -33,11 +33,11 @@ record IsSized (columns rows_ : ℕ) (g : Grid Blocks) : Type 0 where
   columns_are : g.columns ≡ columns
   rows_are : g.rows ≡ rows_
 
-seen_read-sized : (f : Plan) (p : Place) (g : Grid Blocks) (s : State) (columns rows_ : ℕ) → IsSized columns rows_ g → IsSized columns rows_ (seen_read f p g s).0
+seen_read-sized : (f : FrameInfo) (p : Place) (g : Grid Blocks) (s : State) (columns rows_ : ℕ) → IsSized columns rows_ g → IsSized columns rows_ (seen_read f p g s).0
 unfolding seen_read bind
 seen_read-sized f p g s columns rows_ h = record { columns_are = h.columns_are; rows_are = h.rows_are }
 
-row_seen-sized : (f : Plan) (row n : ℕ) (g : Grid Blocks) (s : State) (columns rows_ : ℕ) → IsSized columns rows_ g → IsSized columns rows_ (row_seen f row n g s).0
+row_seen-sized : (f : FrameInfo) (row n : ℕ) (g : Grid Blocks) (s : State) (columns rows_ : ℕ) → IsSized columns rows_ g → IsSized columns rows_ (row_seen f row n g s).0
 row_seen-sized f row zero g s columns rows_ h = subst (λ (r : Grid Blocks × State). IsSized columns rows_ r.0) (sym (row_seen-none f row g s)) h
 row_seen-sized f row (suc n) g s columns rows_ h =
     let one : suc n ≡ n + 1 = omega arith in
@@ -45,15 +45,15 @@ row_seen-sized f row (suc n) g s columns rows_ h =
     (subst (λ (r : Grid Blocks × State). IsSized columns rows_ r.0) (sym (row_seen-more f row n g s))
     (seen_read-sized f (place row n) (row_seen f row n g s).0 (row_seen f row n g s).1 columns rows_ (row_seen-sized f row n g s columns rows_ h)))
 
-pub row_has : (f : Plan) (row n : ℕ) (g : Grid Blocks) (s : State) → n < g.columns → row < g.rows → Has (row_seen f row n g s).0 (place row n)
+pub row_has : (f : FrameInfo) (row n : ℕ) (g : Grid Blocks) (s : State) → n < g.columns → row < g.rows → Has (row_seen f row n g s).0 (place row n)
 row_has f row n g s column inside =
     let z : IsSized g.columns g.rows (row_seen f row n g s).0 = row_seen-sized f row n g s g.columns g.rows (record { columns_are = refl; rows_are = refl }) in
     record { column = omega (arith, z.columns_are); row = omega (arith, z.rows_are) }
 
-stands_seen : (g h : Grid Blocks) (p : Place) (c : Contexts) → g ≡ h → StandsFor g p c → StandsFor h p c
-stands_seen g h p c e stands = subst (λ (z : Grid Blocks). StandsFor z p c) e stands
+stands_seen : (g h : Grid Blocks) (p : Place) (c : Contexts) → g ≡ h → AreContextsAt g p c → AreContextsAt h p c
+stands_seen g h p c e stands = subst (λ (z : Grid Blocks). AreContextsAt z p c) e stands
 
-pub row_none : (f : Plan) (row : ℕ) (g : Grid Blocks) (s : State) (a : Rebuilding) → StandsFor g (place row 0) a.contexts → IsRow f row 0 g s s a a
+pub row_none : (f : FrameInfo) (row : ℕ) (g : Grid Blocks) (s : State) (a : FrameDecoder) → AreContextsAt g (place row 0) a.contexts → IsRow f row 0 g s s a a
 row_none f row g s a stands = record {
   contexts = stands_seen g (row_seen f row 0 g s).0 (place row 0) a.contexts (ap (λ (r : Grid Blocks × State). r.0) (sym (row_seen-none f row g s))) stands;
   rest = ap (λ (r : Grid Blocks × State). r.1) (sym (row_seen-none f row g s));
@@ -63,15 +63,15 @@ row_none f row g s a stands = record {
 }
 
 -- the same step, where the partition stands at an equal place
-step_at : (f : Plan) (p : Place) (g : Grid Blocks) (s t u : State) (a b : Rebuilding) → t ≡ s → IsStep f p g t u a b → IsStep f p g s u a b
-step_at f p g s t u a b e step = subst (λ (z : State). IsStep f p g z u a b) e step
+step_at : (f : FrameInfo) (p : Place) (g : Grid Blocks) (s t u : State) (a b : FrameDecoder) → t ≡ s → IsMacroblockStep f p g t u a b → IsMacroblockStep f p g s u a b
+step_at f p g s t u a b e step = subst (λ (z : State). IsMacroblockStep f p g z u a b) e step
 
-pub row_next : (f : Plan) (row n : ℕ) (g : Grid Blocks) (s t u : State) (a b c : Rebuilding) → IsRow f row n g s t a b
-    → IsStep f (place row n) (row_seen f row n g s).0 t u b c → IsRow f row (n + 1) g s u a c
+pub row_next : (f : FrameInfo) (row n : ℕ) (g : Grid Blocks) (s t u : State) (a b c : FrameDecoder) → IsRow f row n g s t a b
+    → IsMacroblockStep f (place row n) (row_seen f row n g s).0 t u b c → IsRow f row (n + 1) g s u a c
 unfolding row_tokens
 row_next f row n g s t u a b c made last =
     let before : Grid Blocks × State = row_seen f row n g s in
-    let step : IsStep f (place row n) before.0 before.1 u b c = step_at f (place row n) before.0 before.1 t u b c made.rest last in
+    let step : IsMacroblockStep f (place row n) before.0 before.1 u b c = step_at f (place row n) before.0 before.1 t u b c made.rest last in
     let more : row_seen f row (n + 1) g s ≡ seen_read f (place row n) before.0 before.1 = row_seen-more f row n g s in
     record {
       contexts = stands_seen (seen_read f (place row n) before.0 before.1).0 (row_seen f row (n + 1) g s).0 (place row (n + 1)) c.contexts (ap (λ (r : Grid Blocks × State). r.0) (sym more)) step.contexts;
@@ -88,19 +88,19 @@ row_next f row n g s t u a b c made last =
     }
 
 -- contexts of an equal state
-pub seen_here : (g : Grid Blocks) (p : Place) (a b : Rebuilding) → a ≡ b → StandsFor g p b.contexts → StandsFor g p a.contexts
-seen_here g p a b e stands = subst (λ (z : Rebuilding). StandsFor g p z.contexts) (sym e) stands
+pub seen_here : (g : Grid Blocks) (p : Place) (a b : FrameDecoder) → a ≡ b → AreContextsAt g p b.contexts → AreContextsAt g p a.contexts
+seen_here g p a b e stands = subst (λ (z : FrameDecoder). AreContextsAt g p z.contexts) (sym e) stands
 
 -- what the code does for a macroblock, with tokens or without
-pub rebuilt_made : (f : Plan) (p : Place) (g : Grid Blocks) (s t : State) (coded : Bool) (a b : Rebuilding) (tokens : Tokens)
+pub rebuilt_made : (f : FrameInfo) (p : Place) (g : Grid Blocks) (s t : State) (coded : Bool) (a b : FrameDecoder) (tokens : Tokens)
     → tokens ≡ (tokens_read f p g s).0 → t ≡ (tokens_read f p g s).1
-    → StandsFor (with_entry g p (blocks_of (has_y2 (source_at f p)) tokens)) (right p) b.contexts
+    → AreContextsAt (with_entry g p (blocks_of (has_y2 (predictor_at f p)) tokens)) (right p) b.contexts
     → b.picture ≡ rebuilt (macroblock_at f p tokens) p a.picture → coded ≡ any_token tokens
     → IsRebuilt f p g s t coded a b
 unfolding seen_read bind
 rebuilt_made f p g s t coded a b tokens value rest stands picture any = record {
-  contexts = stands_seen (with_entry g p (blocks_of (has_y2 (source_at f p)) tokens)) (with_entry g p (blocks_of (has_y2 (source_at f p)) (tokens_read f p g s).0)) (right p) b.contexts
-      (ap (λ (z : Tokens). with_entry g p (blocks_of (has_y2 (source_at f p)) z)) value) stands;
+  contexts = stands_seen (with_entry g p (blocks_of (has_y2 (predictor_at f p)) tokens)) (with_entry g p (blocks_of (has_y2 (predictor_at f p)) (tokens_read f p g s).0)) (right p) b.contexts
+      (ap (λ (z : Tokens). with_entry g p (blocks_of (has_y2 (predictor_at f p)) z)) value) stands;
   rest = rest;
   picture = picture ∙ ap (λ (z : Tokens). rebuilt (macroblock_at f p z) p a.picture) value;
   any = any ∙ ap any_token value;
@@ -109,49 +109,49 @@ rebuilt_made f p g s t coded a b tokens value rest stands picture any = record {
 -- ---- from row to row
 
 -- right of a row's last macroblock is as before the next row
-next_row : (g : Grid Blocks) (row n : ℕ) (c : Contexts) → n ≡ g.columns → StandsFor g (place row n) c → StandsFor g (place (row + 1) 0) c
-next_row g row n c all stands = row_begins g row c (subst (λ (k : ℕ). StandsFor g (place row k) c) all stands)
+next_row : (g : Grid Blocks) (row n : ℕ) (c : Contexts) → n ≡ g.columns → AreContextsAt g (place row n) c → AreContextsAt g (place (row + 1) 0) c
+next_row g row n c all stands = row_begins g row c (subst (λ (k : ℕ). AreContextsAt g (place row k) c) all stands)
 
-readings-none : (f : Plan) (ps : List State) → readings f ps 0 ≡ none_read f ps
+readings-none : (f : FrameInfo) (ps : List State) → readings f ps 0 ≡ nothing_read f ps
 unfolding readings
 readings-none f ps = over-none _ _
 
-readings-more : (f : Plan) (ps : List State) (row : ℕ) → readings f ps (row + 1) ≡ token_row f row (readings f ps row)
+readings-more : (f : FrameInfo) (ps : List State) (row : ℕ) → readings f ps (row + 1) ≡ token_row f row (readings f ps row)
 unfolding readings
-readings-more f ps row = over-more row (token_row f) (none_read f ps)
+readings-more f ps row = over-more row (token_row f) (nothing_read f ps)
 
-readings-sized : (f : Plan) (ps : List State) (row : ℕ) → IsSized f.maps.modes.columns f.maps.modes.rows (readings f ps row).seen
+readings-sized : (f : FrameInfo) (ps : List State) (row : ℕ) → IsSized f.maps.modes.columns f.maps.modes.rows (readings f ps row).seen
 readings-sized f ps zero = subst (λ (r : Readings). IsSized f.maps.modes.columns f.maps.modes.rows r.seen) (sym (readings-none f ps)) (record { columns_are = refl; rows_are = refl })
 readings-sized f ps (suc row) =
     let one : suc row ≡ row + 1 = omega arith in
     subst (λ (k : ℕ). IsSized f.maps.modes.columns f.maps.modes.rows (readings f ps k).seen) (sym one)
     (subst (λ (r : Readings). IsSized f.maps.modes.columns f.maps.modes.rows r.seen) (sym (readings-more f ps row))
-    (row_seen-sized f row f.maps.modes.columns (readings f ps row).seen (rest_of row (readings f ps row)) f.maps.modes.columns f.maps.modes.rows (readings-sized f ps row)))
+    (row_seen-sized f row f.maps.modes.columns (readings f ps row).seen (row_partition row (readings f ps row)) f.maps.modes.columns f.maps.modes.rows (readings-sized f ps row)))
 
-pub seen_columns : (f : Plan) (ps : List State) (row : ℕ) → (readings f ps row).seen.columns ≡ f.maps.modes.columns
+pub seen_columns : (f : FrameInfo) (ps : List State) (row : ℕ) → (readings f ps row).seen.columns ≡ f.maps.modes.columns
 seen_columns f ps row = (readings-sized f ps row).columns_are
 
-pub seen_rows : (f : Plan) (ps : List State) (row : ℕ) → (readings f ps row).seen.rows ≡ f.maps.modes.rows
+pub seen_rows : (f : FrameInfo) (ps : List State) (row : ℕ) → (readings f ps row).seen.rows ≡ f.maps.modes.rows
 seen_rows f ps row = (readings-sized f ps row).rows_are
 
-pub rows_none : (f : Plan) (ps : List State) (a : Rebuilding) → StandsFor (none_read f ps).seen (place 0 0) a.contexts → AreRows f ps 0 ps a
+pub rows_none : (f : FrameInfo) (ps : List State) (a : FrameDecoder) → AreContextsAt (nothing_read f ps).seen (place 0 0) a.contexts → IsAfterRows f ps 0 ps a
 rows_none f ps a stands = record {
-  contexts = stands_seen (none_read f ps).seen (readings f ps 0).seen (place 0 0) a.contexts (ap (λ (r : Readings). r.seen) (sym (readings-none f ps))) stands;
+  contexts = stands_seen (nothing_read f ps).seen (readings f ps 0).seen (place 0 0) a.contexts (ap (λ (r : Readings). r.seen) (sym (readings-none f ps))) stands;
   rests = ap (λ (r : Readings). r.rests) (sym (readings-none f ps));
   levels = λ q never within. absurd (omega arith);
 }
 
-pub rows_next : (f : Plan) (ps ds : List State) (row : ℕ) (s t : State) (a b : Rebuilding) → AreRows f ps row ds a
-    → s ≡ rest_of row (readings f ps row)
+pub rows_next : (f : FrameInfo) (ps ds : List State) (row : ℕ) (s t : State) (a b : FrameDecoder) → IsAfterRows f ps row ds a
+    → s ≡ row_partition row (readings f ps row)
     → IsRow f row f.maps.modes.columns (readings f ps row).seen s t a b
-    → AreRows f ps (row + 1) (slice_set ds (row % length ds) t) b
+    → IsAfterRows f ps (row + 1) (slice_set ds (row % length ds) t) b
 unfolding tokens_of
 rows_next f ps ds row s t a b rows_ own made =
     let r : Readings = readings f ps row in
-    let row_made : IsRow f row f.maps.modes.columns r.seen (rest_of row r) t a b = subst (λ (z : State). IsRow f row f.maps.modes.columns r.seen z t a b) own made in
-    let read : Grid Blocks × State = row_seen f row f.maps.modes.columns r.seen (rest_of row r) in
+    let row_made : IsRow f row f.maps.modes.columns r.seen (row_partition row r) t a b = subst (λ (z : State). IsRow f row f.maps.modes.columns r.seen z t a b) own made in
+    let read : Grid Blocks × State = row_seen f row f.maps.modes.columns r.seen (row_partition row r) in
     let more : readings f ps (row + 1) ≡ token_row f row r = readings-more f ps row in
-    let wide : f.maps.modes.columns ≡ read.0.columns = sym (row_seen-sized f row f.maps.modes.columns r.seen (rest_of row r) f.maps.modes.columns f.maps.modes.rows (readings-sized f ps row)).columns_are in
+    let wide : f.maps.modes.columns ≡ read.0.columns = sym (row_seen-sized f row f.maps.modes.columns r.seen (row_partition row r) f.maps.modes.columns f.maps.modes.rows (readings-sized f ps row)).columns_are in
     record {
       contexts = stands_seen read.0 (readings f ps (row + 1)).seen (place (row + 1) 0) b.contexts (ap (λ (z : Readings). z.seen) (sym more)) (next_row read.0 row f.maps.modes.columns b.contexts wide row_made.contexts);
       rests =
@@ -168,16 +168,16 @@ rows_next f ps ds row s t a b rows_ own made =
     }
 
 -- the picture of a row, by the tokens of the frame
-pub row_of_frame : (f : Plan) (ps : List State) (row n : ℕ) (s t : State) (a b : Rebuilding) → s ≡ rest_of row (readings f ps row)
+pub row_of_frame : (f : FrameInfo) (ps : List State) (row n : ℕ) (s t : State) (a b : FrameDecoder) → s ≡ row_partition row (readings f ps row)
     → IsRow f row n (readings f ps row).seen s t a b
     → b.picture ≡ over n (λ column. rebuilt (macroblock_at f (place row column) (tokens_of f ps (place row column))) (place row column)) a.picture
 unfolding tokens_of
 row_of_frame f ps row n s t a b own made = (subst (λ (z : State). IsRow f row n (readings f ps row).seen z t a b) own made).picture
 
 -- what the filter leaves alone
-pub rows_kept : (f : Plan) (ps ds : List State) (row : ℕ) (a b : Rebuilding) → b.contexts ≡ a.contexts → b.levels ≡ a.levels → AreRows f ps row ds a → AreRows f ps row ds b
+pub rows_kept : (f : FrameInfo) (ps ds : List State) (row : ℕ) (a b : FrameDecoder) → b.contexts ≡ a.contexts → b.levels ≡ a.levels → IsAfterRows f ps row ds a → IsAfterRows f ps row ds b
 rows_kept f ps ds row a b contexts levels made = record {
-  contexts = subst (λ (c : Contexts). StandsFor (readings f ps row).seen (place row 0) c) (sym contexts) made.contexts;
+  contexts = subst (λ (c : Contexts). AreContextsAt (readings f ps row).seen (place row 0) c) (sym contexts) made.contexts;
   rests = made.rests;
   levels = λ q below within. ap (λ (g : Grid Level). entry g q) levels ∙ made.levels q below within;
 }

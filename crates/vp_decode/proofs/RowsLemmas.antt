@@ -9,22 +9,22 @@ use Rattle.vp_base.specs.Rows.{AreOneSize, AreSameAbove, AreSameFrom}
 use Rattle.vp_base.proofs.OverLemmas.{over-holds}
 use Rattle.vp_loop.specs.declared.strength.Level.{Level}
 use Rattle.vp_loop.specs.Filtered.{filtered, row_filtered, level_in}
-use Rattle.vp_recon.specs.Source.{Macroblock}
+use Rattle.vp_recon.specs.Predictor.{Macroblock}
 use Rattle.vp_recon.specs.Rebuilt.{rebuilt, row_rebuilt, all_rebuilt}
 use Rattle.vp_recon.specs.Equation.{IsUnfiltered}
-use Rattle.vp_decode.specs.Maps.{place}
-use Rattle.vp_decode.specs.Frame.{Plan, Frame, frame_of, level_at, tokens_of, unfiltered, picture_of}
+use Rattle.vp_decode.specs.MacroblockInfo.{place}
+use Rattle.vp_decode.specs.Frame.{FrameInfo, Frame, frame_of, level_at, tokens_of, unfiltered, picture_of}
 use Rattle.vp_decode.specs.Equation.{IsSolution}
-use Rattle.vp_decode.specs.Window.{IsShaped, IsBelow}
+use Rattle.vp_decode.specs.RowBands.{IsShaped, IsBelow}
 use Rattle.vp_decode.proofs.SizeLemmas.{KeepsShape, unfiltered_shaped}
-use Rattle.vp_decode.proofs.WindowLemmas.{below_over}
+use Rattle.vp_decode.proofs.BandLemmas.{below_over}
 use Rattle.vp_decode.proofs.FilterLemmas.{row_by_entries}
 
 -- the filter of row k of a frame of so many columns and rows of pixels, and the rebuilding of that row
-abbrev pub row_filter : Plan → List State → ℕ → ℕ → ℕ → Image → Image
+abbrev pub row_filter : FrameInfo → List State → ℕ → ℕ → ℕ → Image → Image
 row_filter f ps width height = row_filtered (frame_of f ps width height).level
 
-abbrev pub row_builder : Plan → List State → ℕ → ℕ → Image → Image
+abbrev pub row_builder : FrameInfo → List State → ℕ → ℕ → Image → Image
 row_builder f ps width k = row_rebuilt (macroblocks width) (λ p. (frame_of f ps 0 0).macroblock p) k
 
 -- what the laws of rebuilding say
@@ -77,7 +77,7 @@ row_keeps_shape laws width height row f p s =
 
 -- all rows rebuilt, and then all filtered, whatever stood in the picture before
 pub frame_made : KeepsShape → ((m : Place → Macroblock) (p : Image) → IsAligned p → IsUnfiltered m (all_rebuilt m p)) → ((f : Frame) (p : Image) → IsSolution f p → p ≡ unfiltered f)
-    → (f : Plan) (ps : List State) (width height : ℕ) (p : Image) → IsShaped width height p
+    → (f : FrameInfo) (ps : List State) (width height : ℕ) (p : Image) → IsShaped width height p
     → over (macroblocks height) (row_filter f ps width height) (over (macroblocks height) (row_builder f ps width) p) ≡ picture_of (frame_of f ps width height)
 unfolding picture_of filtered
 frame_made law solves one f ps width height p s =
@@ -96,7 +96,7 @@ frame_made law solves one f ps width height p s =
     ∙ ap (λ (n : ℕ). over (macroblocks n) (row_filter f ps width height) (unfiltered frame)) (sym (unfiltered_shaped law frame).height_is)
 
 -- row k filtered by the levels that are found so far
-pub filtered_by_levels : (f : Plan) (ps : List State) (width height k : ℕ) (g : Grid Level) (p : Image)
+pub filtered_by_levels : (f : FrameInfo) (ps : List State) (width height k : ℕ) (g : Grid Level) (p : Image)
     → g.columns ≡ macroblocks width → p.width ≡ width
     → ((column : ℕ) → column < macroblocks width → entry g (place k column) ≡ Some (level_at f (place k column) (tokens_of f ps (place k column))))
     → row_filtered (level_in g.entries g.columns) k p ≡ row_filter f ps width height k p

@@ -19,13 +19,13 @@ use Rattle.vp_loop.specs.declared.strength.Level.{Level}
 use Rattle.vp_loop.specs.Filtered.{filtered, row_filtered}
 use Rattle.vp_loop.proofs.WindowLemmas.{row_size, row_aligned, row_whole}
 use Rattle.vp_refs.specs.References.{References, copied_by}
-use Rattle.vp_recon.specs.Source.{Macroblock}
+use Rattle.vp_recon.specs.Predictor.{Macroblock}
 use Rattle.vp_recon.specs.Rebuilt.{all_rebuilt}
 use Rattle.vp_decode.specs.Frame.{Frame, unfiltered, picture_of}
 use Rattle.vp_decode.specs.Equation.{IsOneSize}
-use Rattle.vp_decode.specs.Window.{IsShaped}
-use Rattle.vp_decode.specs.Keeping.{IsSized, AreSized, IsWhole}
-use Rattle.vp_decode.specs.Step.{Kept, standing, Basis, key_basis, inter_basis, basis_of, Opened, opened, plan_of, said, references_after, shown_after, left_by, decoded, repeated, step}
+use Rattle.vp_decode.specs.RowBands.{IsShaped}
+use Rattle.vp_decode.specs.State.{IsSized, AreSized, HasConsistentSizes}
+use Rattle.vp_decode.specs.Step.{DecoderState, current_state, FrameContext, key_context, inter_context, context_of, ParsedPacket, parsed, frame_info_of, frame_of_packet, references_after, shown_after, state_after, decoded, repeated_frame, step}
 use Rattle.vp_decode.proofs.CutLemmas.{opened-is}
 use Rattle.vp_decode.proofs.MapLemmas.{IsMapped, maps_read-mapped}
 
@@ -97,9 +97,9 @@ shown_size : (show : Bool) (p r : Image) (before : Option Image) → AreOneSize 
 shown_size true p r before a b = a
 shown_size false p r before a b = b
 
-plan-mapped : (o : Opened) → IsMapped o.basis.modes.columns o.basis.modes.rows (plan_of o).maps
-unfolding plan_of
-plan-mapped o = maps_read-mapped o.header o.basis.modes.columns o.basis.modes.rows _ o.first (record { columns_are = refl; rows_are = refl })
+info-mapped : (o : ParsedPacket) → IsMapped o.context.modes.columns o.context.modes.rows (frame_info_of o).maps
+unfolding frame_info_of
+info-mapped o = maps_read-mapped o.header o.context.modes.columns o.context.modes.rows _ o.first (record { columns_are = refl; rows_are = refl })
 
 same_as : (width height : ℕ) (p q : Image) → IsSized width height p → IsSized width height q → AreOneSize p q
 same_as width height p q a b = record { width = a.width_is ∙ sym b.width_is; height = a.height_is ∙ sym b.height_is }
@@ -141,19 +141,19 @@ kept-one_size width height (Some k) h saved segments p shown one s again columns
       rows = rows ∙ ap (λ (n : ℕ). macroblocks n) (sym s.height_is);
     }
 
-pub left-one_size : KeepsShape → (o : Opened) → IsWhole o.basis → IsOneSize (left_by o)
+pub left-one_size : KeepsShape → (o : ParsedPacket) → HasConsistentSizes o.context → IsOneSize (state_after o)
 left-one_size law o one =
-    let p : Image = picture_of (said o) in
-    let s : IsShaped o.basis.width o.basis.height p = picture_shaped law (said o) in
-    let sized : IsSized o.basis.width o.basis.height p = record { width_is = s.width_is; height_is = s.height_is } in
-    let m = plan-mapped o in
-    kept-one_size o.basis.width o.basis.height o.basis.references o.header o.saved _ p _ one.references sized
-    (shown_size o.tag.show p p o.basis.shown (same_size p) (if_same o.basis.width o.basis.height o.basis.shown p one.shown sized))
+    let p : Image = picture_of (frame_of_packet o) in
+    let s : IsShaped o.context.width o.context.height p = picture_shaped law (frame_of_packet o) in
+    let sized : IsSized o.context.width o.context.height p = record { width_is = s.width_is; height_is = s.height_is } in
+    let m = info-mapped o in
+    kept-one_size o.context.width o.context.height o.context.references o.header o.saved _ p _ one.references sized
+    (shown_size o.tag.show p p o.context.shown (same_size p) (if_same o.context.width o.context.height o.context.shown p one.shown sized))
     (m.columns_are ∙ one.columns) (m.rows_are ∙ one.rows)
 
 -- ---- what a frame is decoded over
 
-pub key-whole : (dim : Dim) → IsWhole (key_basis dim)
+pub key-whole : (dim : Dim) → HasConsistentSizes (key_context dim)
 key-whole dim = record { references = tt; shown = tt; columns = refl; rows = refl }
 
 sized : (p q : Image) → AreOneSize p q → IsSized q.width q.height p
@@ -163,7 +163,7 @@ if_sized : (before : Option Image) (q : Image) → IfSome before (λ p. AreOneSi
 if_sized None q h = tt
 if_sized (Some p) q h = sized p q h
 
-pub inter-whole : (k : Kept) → IsOneSize k → IsWhole (inter_basis k)
+pub inter-whole : (k : DecoderState) → IsOneSize k → HasConsistentSizes (inter_context k)
 inter-whole k one =
     let q : Image = k.references.newest in
     record {
@@ -173,32 +173,32 @@ inter-whole k one =
       rows = one.rows;
     }
 
-basis-whole : (key : Option KeyTag) (state : Option Kept) (b : Basis) → basis_of key state ≡ Ok b → IfSome state IsOneSize → IsWhole b
-basis-whole (Some key) state b e one = let same : key_basis key.dim ≡ b = cc in subst IsWhole same (key-whole key.dim)
-basis-whole None None b e one = absurd cc
-basis-whole None (Some k) b e one = let same : inter_basis k ≡ b = cc in subst IsWhole same (inter-whole k one)
+context-whole : (key : Option KeyTag) (state : Option DecoderState) (b : FrameContext) → context_of key state ≡ Ok b → IfSome state IsOneSize → HasConsistentSizes b
+context-whole (Some key) state b e one = let same : key_context key.dim ≡ b = cc in subst HasConsistentSizes same (key-whole key.dim)
+context-whole None None b e one = absurd cc
+context-whole None (Some k) b e one = let same : inter_context k ≡ b = cc in subst HasConsistentSizes same (inter-whole k one)
 
 -- ---- a step
 
-decoded-one_size : KeepsShape → (r : Result Opened PacketFault) → ((o : Opened) → r ≡ Ok o → IsWhole o.basis) → IfSome (decoded r).0 IsOneSize
+decoded-one_size : KeepsShape → (r : Result ParsedPacket PacketFault) → ((o : ParsedPacket) → r ≡ Ok o → HasConsistentSizes o.context) → IfSome (decoded r).0 IsOneSize
 decoded-one_size law (Err f) whole = tt
 decoded-one_size law (Ok o) whole = left-one_size law o (whole o refl)
 
-pub step-one_size : KeepsShape → (limits : Limits) (state : Option Kept) (packet : List ℕ) → IfSome state IsOneSize → IfSome (step limits state packet).0 IsOneSize
+pub step-one_size : KeepsShape → (limits : Limits) (state : Option DecoderState) (packet : List ℕ) → IfSome state IsOneSize → IfSome (step limits state packet).0 IsOneSize
 unfolding step
 step-one_size law limits None [] one = tt
 step-one_size law limits (Some k) [] one = one
 step-one_size law limits state (b ∷ bs) one =
-    decoded-one_size law (opened limits state (b ∷ bs)) (λ o e. basis-whole o.tag.key state o.basis (opened-is limits state (b ∷ bs) o e).basis_is one)
+    decoded-one_size law (parsed limits state (b ∷ bs)) (λ o e. context-whole o.tag.key state o.context (opened-is limits state (b ∷ bs) o e).basis_is one)
 
 -- ---- the two cases of a step
 
-pub step-empty : (limits : Limits) (state : Option Kept) (packet : List ℕ) → length packet ≡ 0 → step limits state packet ≡ repeated (standing state)
+pub step-empty : (limits : Limits) (state : Option DecoderState) (packet : List ℕ) → length packet ≡ 0 → step limits state packet ≡ repeated_frame (current_state state)
 unfolding step
 step-empty limits state [] none = refl
 step-empty limits state (b ∷ bs) none = absurd (let no : suc (length bs) ≡ 0 = none in omega arith)
 
-pub step-decoded : (limits : Limits) (state : Option Kept) (packet : List ℕ) → ¬ (length packet ≡ 0) → step limits state packet ≡ decoded (opened limits state packet)
+pub step-decoded : (limits : Limits) (state : Option DecoderState) (packet : List ℕ) → ¬ (length packet ≡ 0) → step limits state packet ≡ decoded (parsed limits state packet)
 unfolding step
 step-decoded limits state [] some = absurd (some refl)
 step-decoded limits state (b ∷ bs) some = refl

@@ -11,13 +11,13 @@ use Rattle.vp_base.proofs.NearLemmas.{above-some, left-some}
 use Rattle.vp_head.specs.declared.fields.Reference.{Reference}
 use Rattle.vp_head.specs.declared.fields.SignBiases.{SignBiases}
 use Rattle.vp_modes.specs.Entry.{plain}
-use Rattle.vp_motion.specs.Vector.{Entry}
+use Rattle.vp_motion.specs.Vector.{MacroblockMotion}
 use Rattle.vp_motion.specs.Map.{intra}
-use Rattle.vp_motion.specs.Near.{neighbours, counted, split_count, splits, within, clamped, candidates, from_entries, still_weight, moving, runs}
+use Rattle.vp_motion.specs.Near.{neighbours, weighted_neighbour, split_count, splits, clamped_vector, clamped, candidates, from_entries, still_weight, moving, runs}
 use Rattle.vp_choose.specs.declared.frame.Choice.{Choice}
-use Rattle.vp_encode.specs.Coded.{nothing, entry_of}
+use Rattle.vp_encode.specs.CodedFrame.{nothing, saved_motion}
 
-look-same : (g h : Grid Entry) (o : Option Place) → ((q : Place) → o ≡ Some q → at intra g q ≡ at intra h q) → look intra g o ≡ look intra h o
+look-same : (g h : Grid MacroblockMotion) (o : Option Place) → ((q : Place) → o ≡ Some q → at intra g q ≡ at intra h q) → look intra g o ≡ look intra h o
 look-same g h None same = refl
 look-same g h (Some q) same = same q refl
 
@@ -26,15 +26,15 @@ and_then-some f None q e = absurd cc
 and_then-some f (Some r) q e = (r, refl, e)
 
 -- two grids of one size that are alike above and to the left of a place
-pub record AreAlikeAround (g h : Grid Entry) (p : Place) : Type 0 where
+pub record AreAlikeAround (g h : Grid MacroblockMotion) (p : Place) : Type 0 where
   pub columns : g.columns ≡ h.columns
   pub rows : g.rows ≡ h.rows
   pub above_it : (q : Place) → q.column ≡ p.column → p.row ≡ q.row + 1 → at intra g q ≡ at intra h q
   pub left_of_it : (q : Place) → p.column ≡ q.column + 1 → q.row ≡ p.row → at intra g q ≡ at intra h q
   pub corner_of_it : (q : Place) → p.column ≡ q.column + 1 → p.row ≡ q.row + 1 → at intra g q ≡ at intra h q
 
-pub candidates-same : (g h : Grid Entry) (p : Place) (r : Reference) (b : SignBiases) → AreAlikeAround g h p → candidates g p r b ≡ candidates h p r b
-unfolding candidates neighbours split_count within
+pub candidates-same : (g h : Grid MacroblockMotion) (p : Place) (r : Reference) (b : SignBiases) → AreAlikeAround g h p → candidates g p r b ≡ candidates h p r b
+unfolding candidates neighbours split_count clamped_vector
 candidates-same g h p r b alike =
     let up = look-same g h (above p) (λ q e. let f = above-some p q e in alike.above_it q f.0 f.1) in
     let back = look-same g h (left p) (λ q e. let f = left-some p q e in alike.left_of_it q f.0 f.1) in
@@ -44,7 +44,7 @@ candidates-same g h p r b alike =
     let v = left-some f.0 q f.2 in
     alike.corner_of_it q (omega arith) (omega arith)) in
     λ i.
-    let ws = counted r b 2 (up i) ++ (counted r b 2 (back i) ++ counted r b 1 (across i)) in
+    let ws = weighted_neighbour r b 2 (up i) ++ (weighted_neighbour r b 2 (back i) ++ weighted_neighbour r b 1 (across i)) in
     from_entries
     (λ v. record {
       row = clamped (neg_ℤ (pos (64 * (p.row + 1)))) (pos (64 * (alike.rows i - p.row))) v.row;
@@ -54,23 +54,23 @@ candidates-same g h p r b alike =
 
 -- ---- the motion of choices
 
-entry_of-nothing : entry_of nothing ≡ intra
+entry_of-nothing : saved_motion nothing ≡ intra
 unfolding nothing plain
 entry_of-nothing = refl
 
-chosen-map : (b : Bool) (o : Option Choice) → (if b then option_map entry_of o else None) ≡ option_map entry_of (if b then o else None)
+chosen-map : (b : Bool) (o : Option Choice) → (if b then option_map saved_motion o else None) ≡ option_map saved_motion (if b then o else None)
 chosen-map true o = refl
 chosen-map false o = refl
 
-mapped-entry : (g : Grid Choice) (p : Place) → entry (mapped entry_of g) p ≡ option_map entry_of (entry g p)
+mapped-entry : (g : Grid Choice) (p : Place) → entry (mapped saved_motion g) p ≡ option_map saved_motion (entry g p)
 unfolding entry
 mapped-entry g p =
-    ap (λ (o : Option Entry). if nat_lt p.column g.columns then o else None) (slice_get-map entry_of g.entries (p.row * g.columns + p.column))
+    ap (λ (o : Option MacroblockMotion). if nat_lt p.column g.columns then o else None) (slice_get-map saved_motion g.entries (p.row * g.columns + p.column))
     ∙ chosen-map (nat_lt p.column g.columns) (slice_get g.entries (p.row * g.columns + p.column))
 
-or_nothing : (o : Option Choice) → unwrap_or (option_map entry_of o) intra ≡ entry_of (unwrap_or o nothing)
+or_nothing : (o : Option Choice) → unwrap_or (option_map saved_motion o) intra ≡ saved_motion (unwrap_or o nothing)
 or_nothing None = sym entry_of-nothing
 or_nothing (Some x) = refl
 
-pub motion_by-at : (g : Grid Choice) (p : Place) → at intra (mapped entry_of g) p ≡ entry_of (at nothing g p)
+pub motion_by-at : (g : Grid Choice) (p : Place) → at intra (mapped saved_motion g) p ≡ saved_motion (at nothing g p)
 motion_by-at g p = ap (λ o. unwrap_or o intra) (mapped-entry g p) ∙ or_nothing (entry g p)

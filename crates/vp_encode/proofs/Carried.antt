@@ -8,34 +8,34 @@ use Rattle.vp_base.specs.declared.limits.Limits.{Limits}
 use Rattle.vp_base.specs.declared.place.Place.{Place}
 use Rattle.vp_base.specs.Grid.{Grid, Has, at, entry}
 use Rattle.vp_base.specs.Image.{Image, macroblocks}
-use Rattle.vp_bool.specs.Bools.{State, start}
+use Rattle.vp_bool.specs.Bools.{State, initial_state}
 use Rattle.vp_bool.specs.Reader.{Reader, bind, rows as rows_of}
 use Rattle.vp_head.specs.declared.fault.PacketFault.{PacketFault}
 use Rattle.vp_head.specs.declared.fields.Header.{Header}
 use Rattle.vp_head.specs.declared.fields.KeyTag.{KeyTag}
 use Rattle.vp_head.specs.declared.fields.Tag.{Tag}
 use Rattle.vp_head.specs.Reference.{is_intra}
-use Rattle.vp_head.specs.Tag.{bits, has_start_code, word_at, tag_word, within, size_of, key_with, key_of, tag_with, tag_with_key, tag_of_word, tag_of}
+use Rattle.vp_head.specs.Tag.{bit_field, has_start_code, word_at, tag_word, dim_within_limits, tag_dim, key_with, key_of, tag_with, tag_with_key, tag_of_word, tag_of}
 use Rattle.vp_head.specs.declared.fault.PacketFault.TheVariants.{Truncated, Version, StartCode, TooLarge}
 use Rattle.vp_modes.specs.Entry.{Modes, plain}
 use Rattle.vp_modes.specs.Map.{segments_of}
 use Rattle.vp_modes.specs.Modes.{modes_at}
-use Rattle.vp_motion.specs.Vector.{Entry}
+use Rattle.vp_motion.specs.Vector.{MacroblockMotion}
 use Rattle.vp_quant.specs.Quant.{factors, index_of}
-use Rattle.vp_refs.specs.References.{picture_of}
-use Rattle.vp_recon.specs.Source.{Intra, Inter, macroblock_of}
+use Rattle.vp_refs.specs.References.{reference_picture}
+use Rattle.vp_recon.specs.Predictor.{Intra, Inter, macroblock_of}
 use Rattle.vp_choose.specs.declared.frame.Choice.{Choice}
-use Rattle.vp_choose.specs.Frame.{Frame, source_by, no_biases}
-use Rattle.vp_decode.specs.Maps.{Maps, modes_in, motion_in, place, macroblock_read, motion_read, row_read, maps_read}
-use Rattle.vp_decode.specs.Frame.{Plan, frame_of, source_at, factors_at, source_by as source_read_by}
-use Rattle.vp_decode.specs.Step.{Kept, Basis, ◌>>=◌, basis_of, Opened, opened_over, opened, plan_of, maps_before}
+use Rattle.vp_choose.specs.Frame.{FrameSearch, source_by, no_biases}
+use Rattle.vp_decode.specs.MacroblockInfo.{MacroblockInfo, modes_in, motion_in, place, macroblock_read, motion_read, row_read, maps_read}
+use Rattle.vp_decode.specs.Frame.{FrameInfo, frame_of, predictor_at, factors_at, predictor_by as source_read_by}
+use Rattle.vp_decode.specs.Step.{DecoderState, FrameContext, ◌>>=◌, context_of, ParsedPacket, parsed_in_context, parsed, frame_info_of, maps_before}
 use Rattle.vp_encode.specs.declared.settings.Settings.{Settings}
-use Rattle.vp_encode.specs.declared.coded.Coded.{Coded}
-use Rattle.vp_encode.specs.Coded.{macroblock_at, entry_of}
-use Rattle.vp_encode.specs.Said.{Says}
-use Rattle.vp_encode.specs.Encoder.{Encoding, AreAllowed, kept_for, basis_over, basis_for, tag_key, header_of, frame_for, search_in, continued, quantiser}
-use Rattle.vp_encode.specs.Choosing.{choice_at, macroblock_by, picture_before, motion_by, AreChosen, AreUnsegmented}
-use Rattle.vp_encode.specs.Chosen.{rebuilt_before, choice_read, AreChoices, IsChosen}
+use Rattle.vp_encode.specs.declared.coded_frame.CodedFrame.{CodedFrame}
+use Rattle.vp_encode.specs.CodedFrame.{coded_choice, saved_motion}
+use Rattle.vp_encode.specs.PacketContents.{HasContents}
+use Rattle.vp_encode.specs.Encoder.{EncoderState, AreAllowed, kept_for, basis_over, basis_for, tag_key, header_of, frame_for, search_in, continued, quantiser}
+use Rattle.vp_encode.specs.FrameChoices.{choice_at, macroblock_by, picture_before, saved_motions, AreChosen, AreUnsegmented}
+use Rattle.vp_encode.specs.Choice.{rebuilt_before, choice_read, AreChoices, IsChosen}
 use Rattle.vp_encode.proofs.Candidates.{candidates-same, motion_by-at}
 use Rattle.vp_encode.proofs.ChoosingLemmas.{AreLike, AreSameCandidates, choice_like, around, rebuilt_before-same}
 
@@ -60,12 +60,12 @@ one_if d true b = tt
 one_if d false true = tt
 one_if d false false = refl
 
-one_size : (l m : Limits) (o : Option Dim) → Agree (within l o) (within m o)
+one_size : (l m : Limits) (o : Option Dim) → Agree (dim_within_limits l o) (dim_within_limits m o)
 one_size l m None = tt
 one_size l m (Some dim) = one_if dim (nat_lt l.pixels (dim.w * dim.h)) (nat_lt m.pixels (dim.w * dim.h))
 
 one_key_with : (w h : ℕ) (r t : Result Dim PacketFault) → Agree r t → Agree (key_with w h r) (key_with w h t)
-one_key_with w h (Ok a) (Ok b) e = ap (λ (d : Dim). record { dim = d; horizontal_scale = bits 14 2 w; vertical_scale = bits 14 2 h }) e
+one_key_with w h (Ok a) (Ok b) e = ap (λ (d : Dim). record { dim = d; horizontal_scale = bit_field 14 2 w; vertical_scale = bit_field 14 2 h }) e
 one_key_with w h (Ok a) (Err f) e = tt
 one_key_with w h (Err f) t e = tt
 
@@ -84,11 +84,11 @@ either false r t u v e f = f
 one_key : (l m : Limits) (packet : List ℕ) → Agree (key_of l packet) (key_of m packet)
 unfolding key_of
 one_key l m packet =
-    let size = size_of (word_at 6 packet) (word_at 8 packet) in
-    let x = key_with (word_at 6 packet) (word_at 8 packet) (within l size) in
-    let y = key_with (word_at 6 packet) (word_at 8 packet) (within m size) in
+    let size = tag_dim (word_at 6 packet) (word_at 8 packet) in
+    let x = key_with (word_at 6 packet) (word_at 8 packet) (dim_within_limits l size) in
+    let y = key_with (word_at 6 packet) (word_at 8 packet) (dim_within_limits m size) in
     unless (nat_lt (length packet) 10) Truncated (if has_start_code packet then x else Err StartCode) (if has_start_code packet then y else Err StartCode)
-    (where_or (has_start_code packet) StartCode x y (one_key_with (word_at 6 packet) (word_at 8 packet) (within l size) (within m size) (one_size l m size)))
+    (where_or (has_start_code packet) StartCode x y (one_key_with (word_at 6 packet) (word_at 8 packet) (dim_within_limits l size) (dim_within_limits m size) (one_size l m size)))
 
 one_with_key : (word : ℕ) (r t : Result KeyTag PacketFault) → Agree r t → Agree (tag_with_key word r) (tag_with_key word t)
 one_with_key word (Ok a) (Ok b) e = ap (λ (k : KeyTag). tag_with word (Some k)) e
@@ -101,8 +101,8 @@ one_word l m word packet =
     let x = tag_with_key word (key_of l packet) in
     let y = tag_with_key word (key_of m packet) in
     let inter : Result Tag PacketFault = Ok (tag_with word None) in
-    unless (nat_lt 3 (bits 1 3 word)) Version (if bits 0 1 word == 0 then x else inter) (if bits 0 1 word == 0 then y else inter)
-    (either (bits 0 1 word == 0) x y inter inter (one_with_key word (key_of l packet) (key_of m packet) (one_key l m packet)) refl)
+    unless (nat_lt 3 (bit_field 1 3 word)) Version (if bit_field 0 1 word == 0 then x else inter) (if bit_field 0 1 word == 0 then y else inter)
+    (either (bit_field 0 1 word == 0) x y inter inter (one_with_key word (key_of l packet) (key_of m packet) (one_key l m packet)) refl)
 
 one_tag : (l m : Limits) (packet : List ℕ) → Agree (tag_of l packet) (tag_of m packet)
 unfolding tag_of
@@ -114,9 +114,9 @@ one_then (Ok a) (Ok b) next e = subst (λ z. Agree (next a) (next z)) e (agree-s
 one_then (Ok a) (Err f) next e = agree-err (next a) f
 one_then (Err f) t next e = tt
 
-one_opened : (l m : Limits) (state : Option Kept) (packet : List ℕ) → Agree (opened l state packet) (opened m state packet)
-unfolding opened
-one_opened l m state packet = one_then (tag_of l packet) (tag_of m packet) (λ tag. basis_of tag.key state >>= λ basis. opened_over tag basis packet) (one_tag l m packet)
+one_opened : (l m : Limits) (state : Option DecoderState) (packet : List ℕ) → Agree (parsed l state packet) (parsed m state packet)
+unfolding parsed
+one_opened l m state packet = one_then (tag_of l packet) (tag_of m packet) (λ tag. context_of tag.key state >>= λ context. parsed_in_context tag context packet) (one_tag l m packet)
 
 -- what is there
 found : {A : Type 0} (P : A → Type 0) (r : Result A PacketFault) → IsOkAnd r P → (a : A) × (r ≡ Ok a) × P a
@@ -135,29 +135,29 @@ rows-kept P zero row a s keeps h = h
 rows-kept P (suc n) row a s keeps h = keeps n (rows_of n row a s).0 (rows_of n row a s).1 (rows-kept P n row a s keeps h)
 
 -- maps of the size of others
-record AreSized (m n : Maps) : Type 0 where
+record AreSized (m n : MacroblockInfo) : Type 0 where
   pub columns : n.modes.columns ≡ m.modes.columns
   pub rows : n.modes.rows ≡ m.modes.rows
   pub motion_columns : n.motion.columns ≡ m.motion.columns
   pub motion_rows : n.motion.rows ≡ m.motion.rows
 
-macroblock-sized : (h : Header) (p : Place) (m n : Maps) (s : State) → AreSized m n → AreSized m (macroblock_read h p n s).0
+macroblock-sized : (h : Header) (p : Place) (m n : MacroblockInfo) (s : State) → AreSized m n → AreSized m (macroblock_read h p n s).0
 unfolding macroblock_read motion_read bind
 macroblock-sized h p m n s sized = elim (cases_Bool (is_intra (modes_at h n.modes p s).0.reference)) [
   | inl own ↦ rw own (record { columns = sized.columns; rows = sized.rows; motion_columns = sized.motion_columns; motion_rows = sized.motion_rows })
   | inr moved ↦ rw moved (record { columns = sized.columns; rows = sized.rows; motion_columns = sized.motion_columns; motion_rows = sized.motion_rows })
 ]
 
-maps-sized : (h : Header) (m : Maps) (s : State) → AreSized m (maps_read h m s).0
+maps-sized : (h : Header) (m : MacroblockInfo) (s : State) → AreSized m (maps_read h m s).0
 unfolding maps_read row_read
 maps-sized h m s =
     rows-kept (AreSized m) m.modes.rows (row_read h m.modes.columns) m s
     (λ row a t. rows-kept (AreSized m) m.modes.columns (λ column. macroblock_read h (place row column)) a t
     (λ column b u. macroblock-sized h (place row column) m b u)) (record { columns = refl; rows = refl; motion_columns = refl; motion_rows = refl })
 
-plan-sized : (o : Opened) → AreSized (maps_before o.basis.modes) (plan_of o).maps
-unfolding plan_of
-plan-sized o = maps-sized o.header (maps_before o.basis.modes) o.first
+plan-sized : (o : ParsedPacket) → AreSized (maps_before o.context.modes) (frame_info_of o).maps
+unfolding frame_info_of
+plan-sized o = maps-sized o.header (maps_before o.context.modes) o.first
 
 -- ---- segments that are 0 stay so
 
@@ -174,15 +174,15 @@ segment_at g p =
     ∙ segment_or (nat_lt p.column g.columns) (slice_get g.entries (p.row * g.columns + p.column))
 
 -- where the macroblocks that are told are of segment 0
-pub segments_stay : (dim : Dim) (key : Option KeyTag) (basis : Basis) (c : Coded) (packet : List ℕ) (o : Opened)
-    → basis.modes.columns ≡ macroblocks dim.w → basis.modes.rows ≡ macroblocks dim.h → c.macroblocks.columns ≡ macroblocks dim.w → c.macroblocks.rows ≡ macroblocks dim.h
-    → Says key basis c packet o → ((p : Place) → Has c.macroblocks p → (macroblock_at c p).modes.segment ≡ 0)
-    → AreUnsegmented dim (segments_of (plan_of o).maps.modes)
-segments_stay dim key basis c packet o wide high columns rows says none =
-    let m : Maps = (plan_of o).maps in
+pub segments_stay : (dim : Dim) (key : Option KeyTag) (context : FrameContext) (c : CodedFrame) (packet : List ℕ) (o : ParsedPacket)
+    → context.modes.columns ≡ macroblocks dim.w → context.modes.rows ≡ macroblocks dim.h → c.macroblocks.columns ≡ macroblocks dim.w → c.macroblocks.rows ≡ macroblocks dim.h
+    → HasContents key context c packet o → ((p : Place) → Has c.macroblocks p → (coded_choice c p).modes.segment ≡ 0)
+    → AreUnsegmented dim (segments_of (frame_info_of o).maps.modes)
+segments_stay dim key context c packet o wide high columns rows says none =
+    let m : MacroblockInfo = (frame_info_of o).maps in
     let sized = plan-sized o in
-    let wide_too = sized.columns ∙ ap (λ (z : Basis). z.modes.columns) says.basis_is ∙ wide in
-    let high_too = sized.rows ∙ ap (λ (z : Basis). z.modes.rows) says.basis_is ∙ high in
+    let wide_too = sized.columns ∙ ap (λ (z : FrameContext). z.modes.columns) says.basis_is ∙ wide in
+    let high_too = sized.rows ∙ ap (λ (z : FrameContext). z.modes.rows) says.basis_is ∙ high in
     record {
       columns = wide_too;
       rows = high_too;
@@ -193,14 +193,14 @@ segments_stay dim key basis c packet o wide high columns rows says none =
           segment_at m.modes p ∙ ap (λ (x : Modes). x.segment) (says.modes p inside) ∙ none p inside;
     }
 
-pub chosen_unsegmented : (frame : Frame) (g : Grid Choice) → AreChosen frame g → (p : Place) → Has g p → (choice_at g p).modes.segment ≡ 0
+pub chosen_unsegmented : (frame : FrameSearch) (g : Grid Choice) → AreChosen frame g → (p : Place) → Has g p → (choice_at g p).modes.segment ≡ 0
 chosen_unsegmented frame g chosen p has = (chosen.each p has).is.segment
 
 -- ---- a macroblock, as it is read
 
 -- what it is predicted from
-source_read : (s : Settings) (dim : Dim) (kept : Option Kept) (version : ℕ) (modes : Modes) (motion : Entry) (c : Choice)
-    → version ≡ 0 → modes ≡ c.modes → motion ≡ entry_of c → source_read_by (basis_over dim kept).references version modes motion ≡ source_by (search_in s kept) c
+source_read : (s : Settings) (dim : Dim) (kept : Option DecoderState) (version : ℕ) (modes : Modes) (motion : MacroblockMotion) (c : Choice)
+    → version ≡ 0 → modes ≡ c.modes → motion ≡ saved_motion c → source_read_by (basis_over dim kept).references version modes motion ≡ source_by (search_in s kept) c
 source_read s dim None version modes motion c v m e = ap Intra m
 source_read s dim (Some k) version modes motion c v m e = elim (cases_Bool (is_intra c.modes.reference)) [
   | inl own ↦
@@ -209,7 +209,7 @@ source_read s dim (Some k) version modes motion c v m e = elim (cases_Bool (is_i
   | inr away ↦
       let too : is_intra modes.reference ≡ false = ap (λ (x : Modes). is_intra x.reference) m ∙ away in
       let entry : motion ≡ record { reference = c.modes.reference; mode = c.motion.mode; vectors = c.motion.vectors } = e ∙ rw away refl in
-      rw (away, too) (λ i. Inter (entry i) (picture_of k.references (m i).reference) (v i))
+      rw (away, too) (λ i. Inter (entry i) (reference_picture k.references (m i).reference) (v i))
 ]
 
 index_same : (n : ℕ) → n ≤ 127 → min n 127 ≡ n
@@ -217,17 +217,17 @@ index_same n h = omega arith
 
 -- ---- the frame, as it is read
 
-module _ (e : Encoding) (source : Image) (packet : List ℕ) (g : Grid Choice) (allowed : AreAllowed e.settings)
+module _ (e : EncoderState) (source : Image) (packet : List ℕ) (g : Grid Choice) (allowed : AreAllowed e.settings)
     (wide : source.width ≡ e.dim.w) (high : source.height ≡ e.dim.h) (chosen : AreChosen (frame_for e source) g)
     (columns_over : (basis_for e).modes.columns ≡ macroblocks e.dim.w) (rows_over : (basis_for e).modes.rows ≡ macroblocks e.dim.h) where
-  abbrev c : Coded
+  abbrev c : CodedFrame
   c = record { header = header_of e; macroblocks = g }
 
-  abbrev frame : Frame
+  abbrev frame : FrameSearch
   frame = frame_for e source
 
-  abbrev SaysSo : Opened → Type 0
-  SaysSo = Says (tag_key e.dim (kept_for e)) (basis_for e) c packet
+  abbrev SaysSo : ParsedPacket → Type 0
+  SaysSo = HasContents (tag_key e.dim (kept_for e)) (basis_for e) c packet
 
   frame_width : frame.source.width ≡ e.dim.w
   unfolding continued
@@ -237,21 +237,21 @@ module _ (e : Encoding) (source : Image) (packet : List ℕ) (g : Grid Choice) (
   unfolding continued
   frame_height = high
 
-  module _ (o : Opened) (says : SaysSo o) where
-    abbrev plan : Plan
-    plan = plan_of o
+  module _ (o : ParsedPacket) (says : SaysSo o) where
+    abbrev plan : FrameInfo
+    plan = frame_info_of o
 
     abbrev parts : List State
-    parts = map start o.partitions
+    parts = map initial_state o.partitions
 
-    source_same : (p : Place) → Has g p → source_at plan p ≡ source_by frame.search (choice_at g p)
-    unfolding source_at plan_of
+    source_same : (p : Place) → Has g p → predictor_at plan p ≡ source_by frame.search (choice_at g p)
+    unfolding predictor_at frame_info_of
     source_same p has =
-        ap (λ (b : Basis). source_read_by b.references o.tag.version (modes_in plan.maps p) (motion_in plan.maps p)) says.basis_is
+        ap (λ (b : FrameContext). source_read_by b.references o.tag.version (modes_in plan.maps p) (motion_in plan.maps p)) says.basis_is
         ∙ source_read e.settings e.dim (kept_for e) o.tag.version (modes_in plan.maps p) (motion_in plan.maps p) (choice_at g p) says.version (says.modes p has) (says.motion p has)
 
     factors_same : (p : Place) → factors_at plan p ≡ frame.factors
-    unfolding factors_at plan_of
+    unfolding factors_at frame_info_of
     factors_same p =
         ap (λ (h : Header). factors (index_of h (modes_in plan.maps p).segment) h.quantiser) says.header
         ∙ ap (λ (n : ℕ). factors n (quantiser e.settings.qi)) (index_same e.settings.qi allowed.quantiser)
@@ -277,13 +277,13 @@ module _ (e : Encoding) (source : Image) (packet : List ℕ) (g : Grid Choice) (
         ∙ rebuilt_before-same e.dim.w e.dim.h (λ q. macroblock_by frame (choice_at g q)) (frame_of plan parts e.dim.w e.dim.h).macroblock p (omega arith)
         (λ q inside earlier. macroblock_same q (let up = earlier.row in let row = has.row in record { column = omega arith; row = omega arith }))
 
-    candidates_same : (p : Place) → Has g p → AreSameCandidates (motion_by g) plan.maps.motion p
+    candidates_same : (p : Place) → Has g p → AreSameCandidates (saved_motions g) plan.maps.motion p
     candidates_same p has r =
         let sized = plan-sized o in
-        let motion_columns = sized.motion_columns ∙ ap (λ (b : Basis). b.modes.columns) says.basis_is ∙ columns_over in
-        let motion_rows = sized.motion_rows ∙ ap (λ (b : Basis). b.modes.rows) says.basis_is ∙ rows_over in
+        let motion_columns = sized.motion_columns ∙ ap (λ (b : FrameContext). b.modes.columns) says.basis_is ∙ columns_over in
+        let motion_rows = sized.motion_rows ∙ ap (λ (b : FrameContext). b.modes.rows) says.basis_is ∙ rows_over in
         let row = has.row in
-        candidates-same (motion_by g) plan.maps.motion p r no_biases (around (motion_by g) plan.maps.motion p
+        candidates-same (saved_motions g) plan.maps.motion p r no_biases (around (saved_motions g) plan.maps.motion p
         (chosen.columns ∙ ap macroblocks frame_width ∙ sym motion_columns) (chosen.rows ∙ ap macroblocks frame_height ∙ sym motion_rows) has.column
         (λ q inside earlier. motion_by-at g q ∙ sym (says.motion q (let up = earlier.row in record { column = inside; row = omega arith }))))
 
@@ -292,19 +292,19 @@ module _ (e : Encoding) (source : Image) (packet : List ℕ) (g : Grid Choice) (
         let columns = chosen.columns ∙ ap macroblocks frame_width in
         let rows = chosen.rows ∙ ap macroblocks frame_height in
         let has : Has g p = record { column = omega arith; row = omega arith } in
-        choice_like frame (picture_before frame g p) (rebuilt_before e.dim.w e.dim.h (frame_of plan parts e.dim.w e.dim.h).macroblock p) (motion_by g) plan.maps.motion p (choice_at g p) (choice_read plan parts p)
+        choice_like frame (picture_before frame g p) (rebuilt_before e.dim.w e.dim.h (frame_of plan parts e.dim.w e.dim.h).macroblock p) (saved_motions g) plan.maps.motion p (choice_at g p) (choice_read plan parts p)
         (pictures_same p has) (candidates_same p has) (like p has) (chosen.each p has).is
 
   -- The packet is read within some limits at least.
   pub carried : (limits : Limits) → e.dim.w * e.dim.h ≤ limits.pixels
-      → ((l : Limits) → e.dim.w * e.dim.h ≤ l.pixels → IsOkAnd (opened l e.state packet) SaysSo) → IsChosen e source packet
+      → ((l : Limits) → e.dim.w * e.dim.h ≤ l.pixels → IsOkAnd (parsed l e.state packet) SaysSo) → IsChosen e source packet
   carried limits fits told =
-      let one = found SaysSo (opened limits e.state packet) (told limits fits) in
+      let one = found SaysSo (parsed limits e.state packet) (told limits fits) in
       let says : SaysSo one.0 = one.2 in
       record {
         opening = one.0;
-        opens = λ l within. same_found SaysSo one.0 (opened l e.state packet)
-            (subst (λ (r : Result Opened PacketFault). Agree r (opened l e.state packet)) one.1 (one_opened limits l e.state packet)) (told l within);
+        opens = λ l within. same_found SaysSo one.0 (parsed l e.state packet)
+            (subst (λ (r : Result ParsedPacket PacketFault). Agree r (parsed l e.state packet)) one.1 (one_opened limits l e.state packet)) (told l within);
         version = says.version;
         shown = says.shown;
         key = says.key_is;

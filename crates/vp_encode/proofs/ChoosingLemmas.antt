@@ -12,7 +12,7 @@ use Rattle.vp_base.proofs.OverLemmas.{over-none, over-more, over-same}
 use Rattle.vp_head.specs.declared.fields.Reference.{Reference}
 use Rattle.vp_head.specs.Reference.{is_intra}
 use Rattle.vp_modes.specs.Entry.{Modes}
-use Rattle.vp_motion.specs.Vector.{Vector, Entry, Candidates, IsWithin, last_of}
+use Rattle.vp_motion.specs.Vector.{Vector, MacroblockMotion, Candidates, IsWithin, last_of}
 use Rattle.vp_motion.specs.Map.{AreWithin, intra, own}
 use Rattle.vp_motion.specs.Near.{candidates}
 use Rattle.vp_motion.specs.Spelled.{CanBeWritten}
@@ -20,27 +20,27 @@ use Rattle.vp_tokens.specs.declared.contexts.Tokens.{Tokens}
 use Rattle.vp_tokens.specs.Blocks.{any_token, no_blocks}
 use Rattle.vp_tokens.specs.Spelled.{AreSpelled, AreTight}
 use Rattle.vp_quant.specs.declared.factors.Factors.{Factors}
-use Rattle.vp_recon.specs.Source.{Source, Intra, Macroblock, has_y2}
+use Rattle.vp_recon.specs.Predictor.{Predictor, Intra, Macroblock, has_y2}
 use Rattle.vp_recon.specs.Rebuilt.{rebuilt, row_rebuilt}
-use Rattle.vp_decode.specs.Maps.{place}
+use Rattle.vp_decode.specs.MacroblockInfo.{place}
 use Rattle.vp_choose.specs.declared.frame.Choice.{Choice}
-use Rattle.vp_choose.specs.Frame.{Frame, Search, source_by, no_biases, entry_of as chosen_entry}
+use Rattle.vp_choose.specs.Frame.{FrameSearch, Search, source_by, no_biases, choice_motion as chosen_entry}
 use Rattle.vp_choose.specs.Intra.{IsIntra}
 use Rattle.vp_choose.specs.Inter.{IsMoved, IsInter, IsFirstGiving, vector_of}
 use Rattle.vp_choose.specs.Choice.{IsIntraChoice, IsTaken, IsChoice}
-use Rattle.vp_encode.specs.declared.choosing.Choosing.{Choosing}
-use Rattle.vp_encode.specs.Coded.{nothing, entry_of}
-use Rattle.vp_encode.specs.Chosen.{rebuilt_before}
-use Rattle.vp_encode.specs.Choosing.{choice_at, macroblock_by, picture_before, motion_by, IsChosenAt, AreChosen, IsBefore, AreChosenBefore}
+use Rattle.vp_encode.specs.declared.frame_choices.FrameChoices.{FrameChoices}
+use Rattle.vp_encode.specs.CodedFrame.{nothing, saved_motion}
+use Rattle.vp_encode.specs.Choice.{rebuilt_before}
+use Rattle.vp_encode.specs.FrameChoices.{choice_at, macroblock_by, picture_before, saved_motions, IsChosenAt, AreChosen, IsBeforeInRaster, AreChosenBefore}
 use Rattle.vp_encode.proofs.Candidates.{AreAlikeAround, candidates-same, motion_by-at}
 use Rattle.vp_encode.proofs.PacketLemmas.{all_still}
 
 -- ---- places in raster order
 
-pub not_itself : (p : Place) → IsBefore p p → ⊥
+pub not_itself : (p : Place) → IsBeforeInRaster p p → ⊥
 not_itself p b = let c = b.column refl in omega arith
 
-pub before_trans : (r q p : Place) → IsBefore r q → IsBefore q p → IsBefore r p
+pub before_trans : (r q p : Place) → IsBeforeInRaster r q → IsBeforeInRaster q p → IsBeforeInRaster r p
 before_trans r q p b c =
     let up : r.row ≤ q.row = b.row in
     let down : q.row ≤ p.row = c.row in
@@ -53,7 +53,7 @@ before_trans r q p b c =
     }
 
 -- what comes before the next place comes before this one, or is it
-before_next : (q : Place) (row n : ℕ) → IsBefore q (place row (n + 1)) → IsBefore q (place row n) ⊎ (q ≡ place row n)
+before_next : (q : Place) (row n : ℕ) → IsBeforeInRaster q (place row (n + 1)) → IsBeforeInRaster q (place row n) ⊎ (q ≡ place row n)
 before_next q row n b =
     let up : q.row ≤ row = b.row in
     elim (cases_lt q.row row) [
@@ -67,16 +67,16 @@ before_next q row n b =
           ]
     ]
 
-earlier_next : (q : Place) (row n : ℕ) → IsBefore q (place row n) → IsBefore q (place row (n + 1))
+earlier_next : (q : Place) (row n : ℕ) → IsBeforeInRaster q (place row n) → IsBeforeInRaster q (place row (n + 1))
 earlier_next q row n b = record { row = b.row; column = λ e. let c = b.column e in omega arith }
 
-last_next : (row n : ℕ) → IsBefore (place row n) (place row (n + 1))
+last_next : (row n : ℕ) → IsBeforeInRaster (place row n) (place row (n + 1))
 last_next row n = record { row = omega arith; column = λ e. omega arith }
 
 -- ---- the picture before a place
 
 pub rebuilt_before-same : (width height : ℕ) (f g : Place → Macroblock) (p : Place) → p.column ≤ macroblocks width
-    → ((q : Place) → q.column < macroblocks width → IsBefore q p → f q ≡ g q) → rebuilt_before width height f p ≡ rebuilt_before width height g p
+    → ((q : Place) → q.column < macroblocks width → IsBeforeInRaster q p → f q ≡ g q) → rebuilt_before width height f p ≡ rebuilt_before width height g p
 rebuilt_before-same width height f g p within same =
     let base : Image = blank_image width height 0 in
     let above : over p.row (row_rebuilt (macroblocks width) f) base ≡ over p.row (row_rebuilt (macroblocks width) g) base =
@@ -101,8 +101,8 @@ rebuilt_before-row width height f row =
 
 -- ---- the motion before a place
 
-pub around : (g h : Grid Entry) (p : Place) → g.columns ≡ h.columns → g.rows ≡ h.rows → p.column < g.columns
-    → ((q : Place) → q.column < g.columns → IsBefore q p → at intra g q ≡ at intra h q) → AreAlikeAround g h p
+pub around : (g h : Grid MacroblockMotion) (p : Place) → g.columns ≡ h.columns → g.rows ≡ h.rows → p.column < g.columns
+    → ((q : Place) → q.column < g.columns → IsBeforeInRaster q p → at intra g q ≡ at intra h q) → AreAlikeAround g h p
 around g h p wide high inside same = record {
   columns = wide;
   rows = high;
@@ -147,15 +147,15 @@ far s source p m moved = elim (cases_Bool s.golden) [
 ]
 
 -- two maps give the macroblock at p the same candidates
-abbrev pub AreSameCandidates : Grid Entry → Grid Entry → Place → Type 0
+abbrev pub AreSameCandidates : Grid MacroblockMotion → Grid MacroblockMotion → Place → Type 0
 AreSameCandidates g k p = (r : Reference) → candidates g p r no_biases ≡ candidates k p r no_biases
 
-intra_like : (frame : Frame) (z : Image) (p : Place) (luma : _) (c d : Choice) → AreLike c d → IsIntraChoice frame z p luma c → IsIntraChoice frame z p luma d
+intra_like : (frame : FrameSearch) (z : Image) (p : Place) (luma : _) (c d : Choice) → AreLike c d → IsIntraChoice frame z p luma c → IsIntraChoice frame z p luma d
 intra_like frame z p luma c d like is =
     subst (λ (m : Modes). IsIntra frame.source frame.factors p z luma m d.tokens) like.modes
     (subst (λ (t : Tokens). IsIntra frame.source frame.factors p z luma c.modes t) like.tokens is)
 
-inter_like : (source : Image) (factors : Factors) (s : Search) (g k : Grid Entry) (p : Place) (z : Image) (m : _) (c d : Choice)
+inter_like : (source : Image) (factors : Factors) (s : Search) (g k : Grid MacroblockMotion) (p : Place) (z : Image) (m : _) (c d : Choice)
     → IsInter source factors s g p z m c → AreSameCandidates g k p → AreLike c d → is_intra m.reference ≡ false → IsInter source factors s k p z m d
 inter_like source factors s g k p z m c d is same like away =
     let inter : is_intra c.modes.reference ≡ false = ap (λ (x : Modes). is_intra x.reference) is.modes ∙ away in
@@ -168,7 +168,7 @@ inter_like source factors s g k p z m c d is same like away =
       v = is.v;
     })
 
-taken_like : (o : Option Search) (frame : Frame) (z : Image) (g k : Grid Entry) (p : Place) (luma : _) (c d : Choice)
+taken_like : (o : Option Search) (frame : FrameSearch) (z : Image) (g k : Grid MacroblockMotion) (p : Place) (luma : _) (c d : Choice)
     → AreSameCandidates g k p → AreLike c d → IsTaken o frame z g p luma c → IsTaken o frame z k p luma d
 taken_like None frame z g k p luma c d same like taken = intra_like frame z p luma c d like taken
 taken_like (Some s) frame z g k p luma c d same like taken = record {
@@ -178,7 +178,7 @@ taken_like (Some s) frame z g k p luma c d same like taken = record {
   intra = λ dear. intra_like frame z p luma c d like (taken.intra dear);
 }
 
-pub choice_like : (frame : Frame) (y z : Image) (g k : Grid Entry) (p : Place) (c d : Choice)
+pub choice_like : (frame : FrameSearch) (y z : Image) (g k : Grid MacroblockMotion) (p : Place) (c d : Choice)
     → y ≡ z → AreSameCandidates g k p → AreLike c d → IsChoice frame y g p c → IsChoice frame z k p d
 choice_like frame y z g k p c d pictures same like is =
     subst (λ (x : Image). IsChoice frame x k p d) pictures (record {
@@ -189,14 +189,14 @@ choice_like frame y z g k p c d pictures same like is =
       skip = ap (λ (m : Modes). m.skip) (sym like.modes) ∙ is.skip ∙ ap (λ (t : Tokens). not (any_token t)) like.tokens;
       none = subst (λ (t : Tokens). any_token t ≡ false → t.blocks ≡ no_blocks) like.tokens is.none;
       tight = subst (λ (t : Tokens). AreTight t.blocks) like.tokens is.tight;
-      spelled = subst (λ (x : Source). AreSpelled (has_y2 x) d.tokens.blocks) (source_like frame.search c d like)
+      spelled = subst (λ (x : Predictor). AreSpelled (has_y2 x) d.tokens.blocks) (source_like frame.search c d like)
           (subst (λ (t : Tokens). AreSpelled (has_y2 (source_by frame.search c)) t.blocks) like.tokens is.spelled);
     })
 
 -- ---- one more macroblock
 
 -- what becomes of the macroblock at p
-pub record IsStep (frame : Frame) (p : Place) (a b : Choosing) : Type 0 where
+pub record IsStep (frame : FrameSearch) (p : Place) (a b : FrameChoices) : Type 0 where
   pub choice : Choice
   pub is : IsChoice frame a.picture a.motion p choice
   pub written : is_intra choice.modes.reference ≡ false → CanBeWritten (candidates a.motion p choice.modes.reference no_biases) choice.motion
@@ -208,35 +208,35 @@ pub record IsStep (frame : Frame) (p : Place) (a b : Choosing) : Type 0 where
   pub motion_columns : b.motion.columns ≡ a.motion.columns
   pub motion_rows : b.motion.rows ≡ a.motion.rows
   pub unmoved : is_intra choice.modes.reference ≡ true → at intra b.motion p ≡ at intra a.motion p
-  pub moved : is_intra choice.modes.reference ≡ false → at intra b.motion p ≡ entry_of choice
+  pub moved : is_intra choice.modes.reference ≡ false → at intra b.motion p ≡ saved_motion choice
   pub motion_elsewhere : (q : Place) → q ≢ p → at intra b.motion q ≡ at intra a.motion q
   pub short : AreWithin 511 b.motion
 
 -- a choice among others that are alike up to its place
-chosen_kept : (frame : Frame) (g h : Grid Choice) (q : Place) → g.columns ≡ macroblocks frame.source.width → h.columns ≡ g.columns → h.rows ≡ g.rows → q.column < g.columns
-    → choice_at g q ≡ choice_at h q → ((r : Place) → IsBefore r q → choice_at g r ≡ choice_at h r) → IsChosenAt frame g q → IsChosenAt frame h q
+chosen_kept : (frame : FrameSearch) (g h : Grid Choice) (q : Place) → g.columns ≡ macroblocks frame.source.width → h.columns ≡ g.columns → h.rows ≡ g.rows → q.column < g.columns
+    → choice_at g q ≡ choice_at h q → ((r : Place) → IsBeforeInRaster r q → choice_at g r ≡ choice_at h r) → IsChosenAt frame g q → IsChosenAt frame h q
 chosen_kept frame g h q size wide high inside here before at_q =
-    let same : AreSameCandidates (motion_by g) (motion_by h) q = λ r.
-    candidates-same (motion_by g) (motion_by h) q r no_biases (around (motion_by g) (motion_by h) q (sym wide) (sym high) inside
-    (λ p within earlier. motion_by-at g p ∙ ap entry_of (before p earlier) ∙ sym (motion_by-at h p))) in
+    let same : AreSameCandidates (saved_motions g) (saved_motions h) q = λ r.
+    candidates-same (saved_motions g) (saved_motions h) q r no_biases (around (saved_motions g) (saved_motions h) q (sym wide) (sym high) inside
+    (λ p within earlier. motion_by-at g p ∙ ap saved_motion (before p earlier) ∙ sym (motion_by-at h p))) in
     record {
-      is = choice_like frame (picture_before frame g q) (picture_before frame h q) (motion_by g) (motion_by h) q (choice_at g q) (choice_at h q)
+      is = choice_like frame (picture_before frame g q) (picture_before frame h q) (saved_motions g) (saved_motions h) q (choice_at g q) (choice_at h q)
           (rebuilt_before-same frame.source.width frame.source.height (λ r. macroblock_by frame (choice_at g r)) (λ r. macroblock_by frame (choice_at h r)) q (omega arith)
           (λ r within earlier. ap (macroblock_by frame) (before r earlier)))
           same (like_same (choice_at g q) (choice_at h q) here) at_q.is;
-      written = subst (λ (c : Choice). is_intra c.modes.reference ≡ false → CanBeWritten (candidates (motion_by h) q c.modes.reference no_biases) c.motion) here
+      written = subst (λ (c : Choice). is_intra c.modes.reference ≡ false → CanBeWritten (candidates (saved_motions h) q c.modes.reference no_biases) c.motion) here
           (λ away. subst (λ (k : Candidates). CanBeWritten k (choice_at g q).motion) (same (choice_at g q).modes.reference) (at_q.written away));
     }
 
-module _ (frame : Frame) (row n : ℕ) (a b : Choosing) (inside : Has a.chosen (place row n)) (before : AreChosenBefore frame (place row n) a) (step : IsStep frame (place row n) a b) where
+module _ (frame : FrameSearch) (row n : ℕ) (a b : FrameChoices) (inside : Has a.chosen (place row n)) (before : AreChosenBefore frame (place row n) a) (step : IsStep frame (place row n) a b) where
   abbrev p : Place
   p = place row n
 
   kept : (q : Place) → q ≢ p → choice_at a.chosen q ≡ choice_at b.chosen q
   kept q far = ap (λ o. unwrap_or o nothing) (sym (step.elsewhere q far))
 
-  apart : (q : Place) → IsBefore q p → q ≢ p
-  apart q earlier e = not_itself p (subst (λ (r : Place). IsBefore r p) e earlier)
+  apart : (q : Place) → IsBeforeInRaster q p → q ≢ p
+  apart q earlier e = not_itself p (subst (λ (r : Place). IsBeforeInRaster r p) e earlier)
 
   here : choice_at b.chosen p ≡ step.choice
   here = ap (λ o. unwrap_or o nothing) step.here
@@ -248,33 +248,33 @@ module _ (frame : Frame) (row n : ℕ) (a b : Choosing) (inside : Has a.chosen (
       rebuilt_before-same frame.source.width frame.source.height (λ r. macroblock_by frame (choice_at a.chosen r)) (λ r. macroblock_by frame (choice_at b.chosen r)) p (omega arith)
       (λ r within earlier. ap (macroblock_by frame) (kept r (apart r earlier)))
 
-  has_before : (q : Place) → q.column < a.chosen.columns → IsBefore q p → Has a.chosen q
+  has_before : (q : Place) → q.column < a.chosen.columns → IsBeforeInRaster q p → Has a.chosen q
   has_before q within earlier = let up = earlier.row in let down = inside.row in record { column = within; row = omega arith }
 
-  same_candidates : AreSameCandidates a.motion (motion_by b.chosen) p
+  same_candidates : AreSameCandidates a.motion (saved_motions b.chosen) p
   same_candidates r =
       let left = inside.column in
       let size = before.columns in
       let motion_size = before.motion_columns in
-      candidates-same a.motion (motion_by b.chosen) p r no_biases (around a.motion (motion_by b.chosen) p
+      candidates-same a.motion (saved_motions b.chosen) p r no_biases (around a.motion (saved_motions b.chosen) p
       (before.motion_columns ∙ sym before.columns ∙ sym step.columns) (before.motion_rows ∙ sym before.rows ∙ sym step.rows) (omega arith)
       (λ q within earlier.
-      before.moved q (has_before q (omega arith) earlier) earlier ∙ ap entry_of (kept q (apart q earlier)) ∙ sym (motion_by-at b.chosen q)))
+      before.moved q (has_before q (omega arith) earlier) earlier ∙ ap saved_motion (kept q (apart q earlier)) ∙ sym (motion_by-at b.chosen q)))
 
   chosen_here : IsChosenAt frame b.chosen p
   chosen_here = record {
-    is = choice_like frame a.picture (picture_before frame b.chosen p) a.motion (motion_by b.chosen) p step.choice (choice_at b.chosen p)
+    is = choice_like frame a.picture (picture_before frame b.chosen p) a.motion (saved_motions b.chosen) p step.choice (choice_at b.chosen p)
         (before.picture ∙ pictures) same_candidates (like_same step.choice (choice_at b.chosen p) (sym here)) step.is;
-    written = subst (λ (c : Choice). is_intra c.modes.reference ≡ false → CanBeWritten (candidates (motion_by b.chosen) p c.modes.reference no_biases) c.motion) (sym here)
+    written = subst (λ (c : Choice). is_intra c.modes.reference ≡ false → CanBeWritten (candidates (saved_motions b.chosen) p c.modes.reference no_biases) c.motion) (sym here)
         (λ away. subst (λ (k : Candidates). CanBeWritten k step.choice.motion) (same_candidates step.choice.modes.reference) (step.written away));
   }
 
-  moved_here : at intra b.motion p ≡ entry_of (choice_at b.chosen p)
+  moved_here : at intra b.motion p ≡ saved_motion (choice_at b.chosen p)
   moved_here =
       elim (cases_Bool (is_intra step.choice.modes.reference)) [
         | inl own ↦ step.unmoved own ∙ before.ahead p (not_itself p) ∙ rw own refl
         | inr away ↦ step.moved away
-      ] ∙ ap entry_of (sym here)
+      ] ∙ ap saved_motion (sym here)
 
   pub next : AreChosenBefore frame (place row (n + 1)) b
   next = record {
@@ -300,11 +300,11 @@ module _ (frame : Frame) (row n : ℕ) (a b : Choosing) (inside : Has a.chosen (
     moved = λ q has earlier.
         let column : q.column < a.chosen.columns = subst (λ (k : ℕ). q.column < k) step.columns has.column in
         elim (before_next q row n earlier) [
-          | inl old ↦ step.motion_elsewhere q (apart q old) ∙ before.moved q (has_before q column old) old ∙ ap entry_of (kept q (apart q old))
-          | inr last ↦ subst (λ (r : Place). at intra b.motion r ≡ entry_of (choice_at b.chosen r)) (sym last) moved_here
+          | inl old ↦ step.motion_elsewhere q (apart q old) ∙ before.moved q (has_before q column old) old ∙ ap saved_motion (kept q (apart q old))
+          | inr last ↦ subst (λ (r : Place). at intra b.motion r ≡ saved_motion (choice_at b.chosen r)) (sym last) moved_here
         ];
     ahead = λ q later.
-        step.motion_elsewhere q (λ e. later (subst (λ (r : Place). IsBefore r (place row (n + 1))) (sym e) (last_next row n)))
+        step.motion_elsewhere q (λ e. later (subst (λ (r : Place). IsBeforeInRaster r (place row (n + 1))) (sym e) (last_next row n)))
         ∙ before.ahead q (λ old. later (earlier_next q row n old));
     short = step.short;
   }
@@ -332,16 +332,16 @@ same_or_not q p = elim (cases_eq q.column p.column) [
   | inr apart ↦ inr (λ e. apart (ap (λ (r : Place). r.column) e))
 ]
 
-short_set : (g k : Grid Entry) (p : Place) (e : Entry) → AreWithin 511 g → entry k p ≡ Some e → ((q : Place) → q ≢ p → entry k q ≡ entry g q) → IsWithin 259 (last_of e.vectors) → AreWithin 511 k
+short_set : (g k : Grid MacroblockMotion) (p : Place) (e : MacroblockMotion) → AreWithin 511 g → entry k p ≡ Some e → ((q : Place) → q ≢ p → entry k q ≡ entry g q) → IsWithin 259 (last_of e.vectors) → AreWithin 511 k
 unfolding own
 short_set g k p e short here elsewhere one q = elim (same_or_not q p) [
   | inl same ↦
       let stands : at intra k q ≡ e = ap (at intra k) same ∙ ap (λ o. unwrap_or o intra) here in
-      subst (λ (x : Entry). IsWithin 511 (last_of x.vectors)) (sym stands) (wider (last_of e.vectors) one)
-  | inr apart ↦ subst (λ (o : Option Entry). IsWithin 511 (last_of (unwrap_or o intra).vectors)) (sym (elsewhere q apart)) (short q)
+      subst (λ (x : MacroblockMotion). IsWithin 511 (last_of x.vectors)) (sym stands) (wider (last_of e.vectors) one)
+  | inr apart ↦ subst (λ (o : Option MacroblockMotion). IsWithin 511 (last_of (unwrap_or o intra).vectors)) (sym (elsewhere q apart)) (short q)
 ]
 
-module _ (frame : Frame) (p : Place) (a : Choosing) (picture : Image) (chosen : Grid Choice) (c : Choice)
+module _ (frame : FrameSearch) (p : Place) (a : FrameChoices) (picture : Image) (chosen : Grid Choice) (c : Choice)
     (is : IsChoice frame a.picture a.motion p c)
     (written : is_intra c.modes.reference ≡ false → CanBeWritten (candidates a.motion p c.modes.reference no_biases) c.motion)
     (made : picture ≡ rebuilt (macroblock_by frame c) p a.picture)
@@ -364,7 +364,7 @@ module _ (frame : Frame) (p : Place) (a : Choosing) (picture : Image) (chosen : 
     short = short;
   }
 
-  pub step_inter : (k : Grid Entry) (x : Entry) → is_intra c.modes.reference ≡ false → AreWithin 511 a.motion → x ≡ chosen_entry c → k ≡ with_entry a.motion p x → entry k p ≡ Some x
+  pub step_inter : (k : Grid MacroblockMotion) (x : MacroblockMotion) → is_intra c.modes.reference ≡ false → AreWithin 511 a.motion → x ≡ chosen_entry c → k ≡ with_entry a.motion p x → entry k p ≡ Some x
       → ((q : Place) → q ≢ p → entry k q ≡ entry a.motion q) → IsWithin 259 (last_of c.motion.vectors) → IsStep frame p a (record { picture = picture; motion = k; chosen = chosen })
   step_inter k x away short x_is moved there others one = record {
     choice = c;
@@ -375,40 +375,40 @@ module _ (frame : Frame) (p : Place) (a : Choosing) (picture : Image) (chosen : 
     rows = ap (λ (g : Grid Choice). g.rows) changed;
     here = here;
     elsewhere = elsewhere;
-    motion_columns = ap (λ (g : Grid Entry). g.columns) moved;
-    motion_rows = ap (λ (g : Grid Entry). g.rows) moved;
+    motion_columns = ap (λ (g : Grid MacroblockMotion). g.columns) moved;
+    motion_rows = ap (λ (g : Grid MacroblockMotion). g.rows) moved;
     unmoved = λ own. absurd (let never : true ≡ false = sym own ∙ away in cc);
     moved = λ e. ap (λ o. unwrap_or o intra) there ∙ x_is ∙ rw away refl;
     motion_elsewhere = λ q apart. ap (λ o. unwrap_or o intra) (others q apart);
-    short = short_set a.motion k p x short there others (subst (λ (e : Entry). IsWithin 259 (last_of e.vectors)) (sym x_is) one);
+    short = short_set a.motion k p x short there others (subst (λ (e : MacroblockMotion). IsWithin 259 (last_of e.vectors)) (sym x_is) one);
   }
 
 -- ---- rows
 
-pub begun : (frame : Frame) (width height : ℕ) (b : Choosing) → frame.source.width ≡ width → frame.source.height ≡ height → b.picture ≡ blank_image width height 0
+pub begun : (frame : FrameSearch) (width height : ℕ) (b : FrameChoices) → frame.source.width ≡ width → frame.source.height ≡ height → b.picture ≡ blank_image width height 0
     → b.motion ≡ everywhere (macroblocks width) (macroblocks height) intra → b.chosen.columns ≡ macroblocks width → b.chosen.rows ≡ macroblocks height → AreChosenBefore frame (place 0 0) b
 begun frame width height b wide high blank still columns rows =
-    let none : (q : Place) → IsBefore q (place 0 0) → ⊥ = λ q earlier.
+    let none : (q : Place) → IsBeforeInRaster q (place 0 0) → ⊥ = λ q earlier.
     let up : q.row ≤ 0 = earlier.row in
     let never = earlier.column (omega arith) in omega arith in
-    let unmoved : (q : Place) → at intra b.motion q ≡ intra = λ q. ap (λ (g : Grid Entry). at intra g q) still ∙ all_still (macroblocks width) (macroblocks height) q in
+    let unmoved : (q : Place) → at intra b.motion q ≡ intra = λ q. ap (λ (g : Grid MacroblockMotion). at intra g q) still ∙ all_still (macroblocks width) (macroblocks height) q in
     record {
       size = record { width = wide ∙ sym (ap (λ (z : Image). z.width) blank); height = high ∙ sym (ap (λ (z : Image). z.height) blank) };
       columns = columns ∙ ap macroblocks (sym wide);
       rows = rows ∙ ap macroblocks (sym high);
-      motion_columns = ap (λ (g : Grid Entry). g.columns) still ∙ ap macroblocks (sym wide);
-      motion_rows = ap (λ (g : Grid Entry). g.rows) still ∙ ap macroblocks (sym high);
+      motion_columns = ap (λ (g : Grid MacroblockMotion). g.columns) still ∙ ap macroblocks (sym wide);
+      motion_rows = ap (λ (g : Grid MacroblockMotion). g.rows) still ∙ ap macroblocks (sym high);
       picture = blank ∙ (λ i. blank_image (sym wide i) (sym high i) 0) ∙ sym (over-none _ _ ∙ over-none _ _);
       each = λ q has earlier. absurd (none q earlier);
       moved = λ q has earlier. absurd (none q earlier);
       ahead = λ q later. unmoved q;
-      short = λ q. subst (λ (e : Entry). IsWithin 511 (own e)) (sym (unmoved q)) still_within;
+      short = λ q. subst (λ (e : MacroblockMotion). IsWithin 511 (own e)) (sym (unmoved q)) still_within;
     }
 
-pub next_row : (frame : Frame) (row n : ℕ) (b : Choosing) → n ≡ b.chosen.columns → AreChosenBefore frame (place row n) b → AreChosenBefore frame (place (row + 1) 0) b
+pub next_row : (frame : FrameSearch) (row n : ℕ) (b : FrameChoices) → n ≡ b.chosen.columns → AreChosenBefore frame (place row n) b → AreChosenBefore frame (place (row + 1) 0) b
 next_row frame row n b all before =
     let wide = before.columns in
-    let back : (q : Place) → Has b.chosen q → IsBefore q (place (row + 1) 0) → IsBefore q (place row n) = λ q has earlier.
+    let back : (q : Place) → Has b.chosen q → IsBeforeInRaster q (place (row + 1) 0) → IsBeforeInRaster q (place row n) = λ q has earlier.
     let up : q.row ≤ row + 1 = earlier.row in
     let left = has.column in
     let level : q.row ≤ row = elim (cases_lt q.row (row + 1)) [
@@ -431,7 +431,7 @@ next_row frame row n b all before =
       short = before.short;
     }
 
-pub all_rows : (frame : Frame) (rows : ℕ) (b : Choosing) → rows ≡ b.chosen.rows → AreChosenBefore frame (place rows 0) b → AreChosen frame b.chosen
+pub all_rows : (frame : FrameSearch) (rows : ℕ) (b : FrameChoices) → rows ≡ b.chosen.rows → AreChosenBefore frame (place rows 0) b → AreChosen frame b.chosen
 all_rows frame rows b all before = record {
   columns = before.columns;
   rows = before.rows;

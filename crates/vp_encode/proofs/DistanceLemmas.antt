@@ -9,7 +9,7 @@ use Rattle.vp_base.proofs.BlockLemmas.{length-numbers, numbers_none, cropped_row
 use Rattle.vp_search.specs.Sums.{sum_below}
 use Rattle.vp_search.specs.Differences.{squared_difference, sum_of_squares}
 use Rattle.vp_search.proofs.SumLemmas.{sum_below-none, sum_below-same, sum_below-add}
-use Rattle.vp_encode.specs.Chosen.{squared_distance}
+use Rattle.vp_encode.specs.Choice.{squared_distance}
 
 abbrev square : ℕ → ℕ → ℕ
 square x y = abs_diff x y * abs_diff x y

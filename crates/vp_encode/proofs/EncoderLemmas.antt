@@ -13,18 +13,18 @@ use Rattle.vp_head.specs.declared.fields.Saved.{Saved}
 use Rattle.vp_modes.specs.declared.segment.Segment.{Segment}
 use Rattle.vp_modes.specs.Map.{of_segments}
 use Rattle.vp_decode.specs.Frame.{picture_of}
-use Rattle.vp_decode.specs.Step.{Kept, Basis, maps_before, key_basis, inter_basis, basis_of, Opened, opened, said, left_by, Answer, Shown, Hidden, Fault, step}
+use Rattle.vp_decode.specs.Step.{DecoderState, FrameContext, maps_before, key_context, inter_context, context_of, ParsedPacket, parsed, frame_of_packet, state_after, Answer, Shown, Hidden, Fault, step}
 use Rattle.vp_decode.proofs.SizeLemmas.{KeepsShape, newest_is, picture_shaped}
-use Rattle.vp_encode.specs.declared.coded.Coded.{Coded}
+use Rattle.vp_encode.specs.declared.coded_frame.CodedFrame.{CodedFrame}
 use Rattle.vp_encode.specs.declared.fault.PacketError.{PacketError}
 use Rattle.vp_encode.specs.declared.fault.PacketError.TheVariants.{TooLong}
-use Rattle.vp_encode.specs.Coded.{CanBeTold, macroblock_at}
-use Rattle.vp_encode.specs.Said.{key_tag, IsKeyPacket, IsInterPacket, Says, Tells}
+use Rattle.vp_encode.specs.CodedFrame.{CanBeTold, coded_choice}
+use Rattle.vp_encode.specs.PacketContents.{key_tag, IsKeyFramePacket, IsInterFramePacket, HasContents, EncodesFrame}
 use Rattle.vp_encode.specs.Written.{HasLongPartition}
-use Rattle.vp_encode.specs.Encoder.{Encoding, AreAllowed, is_key, kept_for, basis_over, basis_for, tag_key, header_of, continued, frame_for}
-use Rattle.vp_encode.specs.Chosen.{IsChosen}
+use Rattle.vp_encode.specs.Encoder.{EncoderState, AreAllowed, next_is_key, kept_for, basis_over, basis_for, tag_key, header_of, continued, frame_for}
+use Rattle.vp_encode.specs.Choice.{IsChosen}
 use Rattle.vp_encode.specs.TooLong.{IsFrameFor, IsTooLongOver}
-use Rattle.vp_encode.specs.Between.{HasSize, IsPacketOver, IsKeptFor, IsSound, Shows}
+use Rattle.vp_encode.specs.Between.{HasSize, IsPacketOver, IsKeptFor, IsSound, ShowsNewest}
 use Rattle.vp_encode.proofs.Showing.{told_shows}
 use Rattle.vp_encode.proofs.Carried.{segments_stay, chosen_unsegmented, carried}
 
@@ -36,93 +36,93 @@ size_fits : (dim : Dim) (pixels : ℕ) → 268402689 ≤ pixels → dim.w * dim.
 size_fits dim pixels wide = let p = product dim.w dim.h dim.w_in_range.1 dim.h_in_range.1 in omega arith
 
 -- what the packet leaves, under all limits that its size passes
-pub record Leaves (dim : Dim) (state : Option Kept) (packet : List ℕ) : Type 0 where
-  pub kept : Kept
+pub record Leaves (dim : Dim) (state : Option DecoderState) (packet : List ℕ) : Type 0 where
+  pub kept : DecoderState
   pub sound : IsKeptFor dim kept
   pub is : (limits : Limits) → dim.w * dim.h ≤ limits.pixels → step limits state packet ≡ (Some kept, Shown kept.references.newest)
 
 -- a frame of this size, whose macroblocks are of segment 0
-pub record IsPlain (dim : Dim) (c : Coded) : Type 0 where
+pub record IsPlain (dim : Dim) (c : CodedFrame) : Type 0 where
   pub columns : c.macroblocks.columns ≡ macroblocks dim.w
   pub rows : c.macroblocks.rows ≡ macroblocks dim.h
-  pub zero : (p : Place) → Has c.macroblocks p → (macroblock_at c p).modes.segment ≡ 0
+  pub zero : (p : Place) → Has c.macroblocks p → (coded_choice c p).modes.segment ≡ 0
 
--- a basis of this size
-record IsBasisOf (dim : Dim) (basis : Basis) : Type 0 where
-  width_is : basis.width ≡ dim.w
-  height_is : basis.height ≡ dim.h
-  columns : basis.modes.columns ≡ macroblocks dim.w
-  rows : basis.modes.rows ≡ macroblocks dim.h
+-- a context of this size
+record IsBasisOf (dim : Dim) (context : FrameContext) : Type 0 where
+  width_is : context.width ≡ dim.w
+  height_is : context.height ≡ dim.h
+  columns : context.modes.columns ≡ macroblocks dim.w
+  rows : context.modes.rows ≡ macroblocks dim.h
 
-told_leaves : KeepsShape → (dim : Dim) (key : Option KeyTag) (basis : Basis) (state : Option Kept) (c : Coded) (packet : List ℕ) → IsPlain dim c → IsBasisOf dim basis → basis_of key state ≡ Ok basis
-    → ((limits : Limits) → dim.w * dim.h ≤ limits.pixels → IfSome key (λ k. k.dim.w * k.dim.h ≤ limits.pixels)) → Tells key basis c packet → Leaves dim state packet
-told_leaves law dim key basis state c packet simple sized over within x =
-    let o : Opened = x.opening in
-    let s = picture_shaped law (said o) in
-    let newest = newest_is o.basis.references o.header (picture_of (said o)) in
+told_leaves : KeepsShape → (dim : Dim) (key : Option KeyTag) (context : FrameContext) (state : Option DecoderState) (c : CodedFrame) (packet : List ℕ) → IsPlain dim c → IsBasisOf dim context → context_of key state ≡ Ok context
+    → ((limits : Limits) → dim.w * dim.h ≤ limits.pixels → IfSome key (λ k. k.dim.w * k.dim.h ≤ limits.pixels)) → EncodesFrame key context c packet → Leaves dim state packet
+told_leaves law dim key context state c packet simple sized over within x =
+    let o : ParsedPacket = x.opening in
+    let s = picture_shaped law (frame_of_packet o) in
+    let newest = newest_is o.context.references o.header (picture_of (frame_of_packet o)) in
     record {
-      kept = left_by o;
+      kept = state_after o;
       sound = record {
         size = record {
-          width = ap (λ (p : Image). p.width) newest ∙ s.width_is ∙ ap (λ (b : Basis). b.width) x.says.basis_is ∙ sized.width_is;
-          height = ap (λ (p : Image). p.height) newest ∙ s.height_is ∙ ap (λ (b : Basis). b.height) x.says.basis_is ∙ sized.height_is;
+          width = ap (λ (p : Image). p.width) newest ∙ s.width_is ∙ ap (λ (b : FrameContext). b.width) x.says.basis_is ∙ sized.width_is;
+          height = ap (λ (p : Image). p.height) newest ∙ s.height_is ∙ ap (λ (b : FrameContext). b.height) x.says.basis_is ∙ sized.height_is;
         };
-        segments = segments_stay dim key basis c packet o sized.columns sized.rows simple.columns simple.rows x.says simple.zero;
+        segments = segments_stay dim key context c packet o sized.columns sized.rows simple.columns simple.rows x.says simple.zero;
       };
-      is = λ limits fits. told_shows key basis c packet x limits state over (within limits fits) ∙ ap (λ (p : Image). (Some (left_by o), Shown p)) (sym newest);
+      is = λ limits fits. told_shows key context c packet x limits state over (within limits fits) ∙ ap (λ (p : Image). (Some (state_after o), Shown p)) (sym newest);
     }
 
-key_sized : (dim : Dim) → IsBasisOf dim (key_basis dim)
+key_sized : (dim : Dim) → IsBasisOf dim (key_context dim)
 key_sized dim = record { width_is = refl; height_is = refl; columns = refl; rows = refl }
 
-inter_sized : (dim : Dim) (k : Kept) → IsKeptFor dim k → IsBasisOf dim (inter_basis k)
+inter_sized : (dim : Dim) (k : DecoderState) → IsKeptFor dim k → IsBasisOf dim (inter_context k)
 inter_sized dim k sound = record { width_is = sound.size.width; height_is = sound.size.height; columns = sound.segments.columns; rows = sound.segments.rows }
 
 -- What the next frame is told over is nothing, or the state that stands.
-none_or : (b : Bool) (state : Option Kept) → ((if b then None else state) ≡ None) ⊎ ((if b then None else state) ≡ state)
+none_or : (b : Bool) (state : Option DecoderState) → ((if b then None else state) ≡ None) ⊎ ((if b then None else state) ≡ state)
 none_or true state = inl refl
 none_or false state = inr refl
 
-kept_is : (e : Encoding) → (kept_for e ≡ None) ⊎ (kept_for e ≡ e.state)
+kept_is : (e : EncoderState) → (kept_for e ≡ None) ⊎ (kept_for e ≡ e.state)
 kept_is e = none_or (eqb e.since e.settings.key_every) e.state
 
-basis_sized : (dim : Dim) (state kept : Option Kept) → (kept ≡ None) ⊎ (kept ≡ state) → IfSome state (IsKeptFor dim) → IsBasisOf dim (basis_over dim kept)
+basis_sized : (dim : Dim) (state kept : Option DecoderState) → (kept ≡ None) ⊎ (kept ≡ state) → IfSome state (IsKeptFor dim) → IsBasisOf dim (basis_over dim kept)
 basis_sized dim state None is sound = key_sized dim
 basis_sized dim state (Some k) is sound = elim is [
   | inl e ↦ absurd cc
-  | inr e ↦ inter_sized dim k (subst (λ (s : Option Kept). IfSome s (IsKeptFor dim)) (sym e) sound)
+  | inr e ↦ inter_sized dim k (subst (λ (s : Option DecoderState). IfSome s (IsKeptFor dim)) (sym e) sound)
 ]
 
-packet_leaves : KeepsShape → (dim : Dim) (state kept : Option Kept) (c : Coded) (packet : List ℕ) → (kept ≡ None) ⊎ (kept ≡ state)
+packet_leaves : KeepsShape → (dim : Dim) (state kept : Option DecoderState) (c : CodedFrame) (packet : List ℕ) → (kept ≡ None) ⊎ (kept ≡ state)
     → IsPlain dim c → IfSome state (IsKeptFor dim) → IsPacketOver dim kept c packet → Leaves dim state packet
 packet_leaves law dim state None c packet is simple sound x =
-    told_leaves law dim (Some (key_tag dim)) (key_basis dim) state c packet simple (key_sized dim) refl (λ limits fits. fits) x
+    told_leaves law dim (Some (key_tag dim)) (key_context dim) state c packet simple (key_sized dim) refl (λ limits fits. fits) x
 packet_leaves law dim state (Some k) c packet is simple sound x = elim is [
   | inl e ↦ absurd cc
-  | inr e ↦ subst (λ (s : Option Kept). Leaves dim s packet) e
-      (told_leaves law dim None (inter_basis k) (Some k) c packet simple (basis_sized dim state (Some k) (inr e) sound) refl (λ limits fits. tt) (x k refl refl))
+  | inr e ↦ subst (λ (s : Option DecoderState). Leaves dim s packet) e
+      (told_leaves law dim None (inter_context k) (Some k) c packet simple (basis_sized dim state (Some k) (inr e) sound) refl (λ limits fits. tt) (x k refl refl))
 ]
 
 -- ---- what the packet says
 
-abbrev SaysOver : Dim → Option Kept → Coded → List ℕ → Opened → Type 0
-SaysOver dim kept c packet = Says (tag_key dim kept) (basis_over dim kept) c packet
+abbrev SaysOver : Dim → Option DecoderState → CodedFrame → List ℕ → ParsedPacket → Type 0
+SaysOver dim kept c packet = HasContents (tag_key dim kept) (basis_over dim kept) c packet
 
-is_ok_and : (P : Opened → Type 0) (r : Result Opened PacketFault) (o : Opened) → r ≡ Ok o → P o → IsOkAnd r P
-is_ok_and P r o is h = subst (λ (z : Result Opened PacketFault). IsOkAnd z P) (sym is) h
+is_ok_and : (P : ParsedPacket → Type 0) (r : Result ParsedPacket PacketFault) (o : ParsedPacket) → r ≡ Ok o → P o → IsOkAnd r P
+is_ok_and P r o is h = subst (λ (z : Result ParsedPacket PacketFault). IsOkAnd z P) (sym is) h
 
-packet_says : (dim : Dim) (state kept : Option Kept) (c : Coded) (packet : List ℕ) → (kept ≡ None) ⊎ (kept ≡ state) → IsPacketOver dim kept c packet
-    → (l : Limits) → dim.w * dim.h ≤ l.pixels → IsOkAnd (opened l state packet) (SaysOver dim kept c packet)
-packet_says dim state None c packet is x l fits = is_ok_and (SaysOver dim None c packet) (opened l state packet) x.opening (x.opens l state refl fits) x.says
+packet_says : (dim : Dim) (state kept : Option DecoderState) (c : CodedFrame) (packet : List ℕ) → (kept ≡ None) ⊎ (kept ≡ state) → IsPacketOver dim kept c packet
+    → (l : Limits) → dim.w * dim.h ≤ l.pixels → IsOkAnd (parsed l state packet) (SaysOver dim kept c packet)
+packet_says dim state None c packet is x l fits = is_ok_and (SaysOver dim None c packet) (parsed l state packet) x.opening (x.opens l state refl fits) x.says
 packet_says dim state (Some k) c packet is x l fits = elim is [
   | inl e ↦ absurd cc
-  | inr e ↦ subst (λ (s : Option Kept). IsOkAnd (opened l s packet) (SaysOver dim (Some k) c packet)) e
-      (is_ok_and (SaysOver dim (Some k) c packet) (opened l (Some k) packet) (x k refl refl).opening ((x k refl refl).opens l (Some k) refl tt) (x k refl refl).says)
+  | inr e ↦ subst (λ (s : Option DecoderState). IsOkAnd (parsed l s packet) (SaysOver dim (Some k) c packet)) e
+      (is_ok_and (SaysOver dim (Some k) c packet) (parsed l (Some k) packet) (x k refl refl).opening ((x k refl refl).opens l (Some k) refl tt) (x k refl refl).says)
 ]
 
 -- ---- the frame that is chosen
 
-module _ (e : Encoding) (source : Image) (c : Coded) (allowed : AreAllowed e.settings) (sound : IfSome e.state (IsKeptFor e.dim)) (size : HasSize e.dim source) (is : IsFrameFor e source c) where
+module _ (e : EncoderState) (source : Image) (c : CodedFrame) (allowed : AreAllowed e.settings) (sound : IfSome e.state (IsKeptFor e.dim)) (size : HasSize e.dim source) (is : IsFrameFor e source c) where
   width : (frame_for e source).source.width ≡ e.dim.w
   unfolding continued
   width = size.width
@@ -149,13 +149,13 @@ module _ (e : Encoding) (source : Image) (c : Coded) (allowed : AreAllowed e.set
     frame_chosen limits wide =
         let sized = basis_sized e.dim e.state (kept_for e) (kept_is e) sound in
         carried e source packet c.macroblocks allowed size.width size.height is.chosen sized.columns sized.rows limits (size_fits e.dim limits.pixels wide)
-        (λ l fits. subst (λ (x : Coded). IsOkAnd (opened l e.state packet) (SaysOver e.dim (kept_for e) x packet)) (sym whole)
+        (λ l fits. subst (λ (x : CodedFrame). IsOkAnd (parsed l e.state packet) (SaysOver e.dim (kept_for e) x packet)) (sym whole)
         (packet_says e.dim e.state (kept_for e) c packet (kept_is e) over l fits))
 
 -- ---- what is shown
 
 -- what is left and shown, where the decoder's step is known
-pub record IsShown (dim : Dim) (state : Option Kept) (packet : List ℕ) (new : Option Kept) (recon : Image) : Type 0 where
+pub record IsShown (dim : Dim) (state : Option DecoderState) (packet : List ℕ) (new : Option DecoderState) (recon : Image) : Type 0 where
   pub decoded : (limits : Limits) → dim.w * dim.h ≤ limits.pixels → step limits state packet ≡ (new, Shown recon)
   pub size : HasSize dim recon
   pub kept : IfSome new (IsKeptFor dim)
@@ -169,30 +169,30 @@ same_picture : (p q : Image) → Shown p ≡ Shown q → p ≡ q
 unfolding picture_or
 same_picture p q e = ap (picture_or p) e
 
-is_shown : (limits : Limits) (dim : Dim) (state : Option Kept) (packet : List ℕ) (new : Option Kept) (recon : Image) → 268402689 ≤ limits.pixels
+is_shown : (limits : Limits) (dim : Dim) (state : Option DecoderState) (packet : List ℕ) (new : Option DecoderState) (recon : Image) → 268402689 ≤ limits.pixels
     → Leaves dim state packet → step limits state packet ≡ (new, Shown recon) → IsShown dim state packet new recon
 is_shown limits dim state packet new recon wide l e =
     let both : (Some l.kept, Shown l.kept.references.newest) ≡ (new, Shown recon) = sym (l.is limits (size_fits dim limits.pixels wide)) ∙ e in
-    let same : l.kept.references.newest ≡ recon = same_picture l.kept.references.newest recon (ap (λ (s : Option Kept × Answer). s.1) both) in
+    let same : l.kept.references.newest ≡ recon = same_picture l.kept.references.newest recon (ap (λ (s : Option DecoderState × Answer). s.1) both) in
     record {
       decoded = λ other fits. l.is other fits ∙ both;
       size = subst (HasSize dim) same l.sound.size;
-      kept = subst (λ (s : Option Kept). IfSome s (IsKeptFor dim)) (ap (λ (s : Option Kept × Answer). s.0) both) l.sound;
+      kept = subst (λ (s : Option DecoderState). IfSome s (IsKeptFor dim)) (ap (λ (s : Option DecoderState × Answer). s.0) both) l.sound;
     }
 
 -- the state where the decoder came to an end or did not begin
-either_sound : (limits : Limits) (dim : Dim) (state : Option Kept) (packet : List ℕ) (new : Option Kept) → 268402689 ≤ limits.pixels → Leaves dim state packet
+either_sound : (limits : Limits) (dim : Dim) (state : Option DecoderState) (packet : List ℕ) (new : Option DecoderState) → 268402689 ≤ limits.pixels → Leaves dim state packet
     → IfSome state (IsKeptFor dim) → (new ≡ state) ⊎ (new ≡ (step limits state packet).0) → IfSome new (IsKeptFor dim)
 either_sound limits dim state packet new wide l sound is =
-    let P : Option Kept → Type 0 = λ s. IfSome s (IsKeptFor dim) in
+    let P : Option DecoderState → Type 0 = λ s. IfSome s (IsKeptFor dim) in
     elim is [
       | inl e ↦ subst P (sym e) sound
-      | inr e ↦ subst P (sym (e ∙ ap (λ (s : Option Kept × Answer). s.0) (l.is limits (size_fits dim limits.pixels wide)))) l.sound
+      | inr e ↦ subst P (sym (e ∙ ap (λ (s : Option DecoderState × Answer). s.0) (l.is limits (size_fits dim limits.pixels wide)))) l.sound
     ]
 
 -- ---- the same, in what the code has at hand: an encoder z that is open, and the bytes of a packet that are lent
 
-module _ (law : KeepsShape) (limits : Limits) (z e : Encoding) (source : Image) (c : Coded) (packet bytes : List ℕ) (same : z ≡ e) (lent : bytes ≡ packet)
+module _ (law : KeepsShape) (limits : Limits) (z e : EncoderState) (source : Image) (c : CodedFrame) (packet bytes : List ℕ) (same : z ≡ e) (lent : bytes ≡ packet)
     (sound : IsSound limits z) (size : HasSize e.dim source) (is : IsFrameFor e source c) (over : IsPacketOver e.dim (kept_for e) c packet) where
   sound_too : IsSound limits e
   sound_too = subst (IsSound limits) same sound
@@ -201,62 +201,62 @@ module _ (law : KeepsShape) (limits : Limits) (z e : Encoding) (source : Image) 
   leaves = frame_leaves e source c sound_too.settings sound_too.kept size is packet over law
 
   leaves_here : Leaves z.dim z.state bytes
-  leaves_here = subst (λ (x : Encoding). Leaves x.dim x.state bytes) (sym same) (subst (Leaves e.dim e.state) (sym lent) leaves)
+  leaves_here = subst (λ (x : EncoderState). Leaves x.dim x.state bytes) (sym same) (subst (Leaves e.dim e.state) (sym lent) leaves)
 
-  pub packet_shows : Shows limits z.state bytes
+  pub packet_shows : ShowsNewest limits z.state bytes
   packet_shows = record { kept = leaves_here.kept; is = leaves_here.is limits (size_fits z.dim limits.pixels sound.wide) }
 
-  pub packet_shown : (new : Option Kept) (recon : Image) → step limits z.state bytes ≡ (new, Shown recon) → IsShown e.dim e.state packet new recon
+  pub packet_shown : (new : Option DecoderState) (recon : Image) → step limits z.state bytes ≡ (new, Shown recon) → IsShown e.dim e.state packet new recon
   packet_shown new recon shown =
       let there : step limits z.state bytes ≡ step limits e.state packet = λ i. step limits (same i).state (lent i) in
       is_shown limits e.dim e.state packet new recon sound.wide leaves (sym there ∙ shown)
 
-  pub packet_kept : (new : Option Kept) (recon : Image) → step limits z.state bytes ≡ (new, Shown recon) → IfSome new (IsKeptFor z.dim)
-  packet_kept new recon shown = subst (λ (x : Encoding). IfSome new (IsKeptFor x.dim)) (sym same) (packet_shown new recon shown).kept
+  pub packet_kept : (new : Option DecoderState) (recon : Image) → step limits z.state bytes ≡ (new, Shown recon) → IfSome new (IsKeptFor z.dim)
+  packet_kept new recon shown = subst (λ (x : EncoderState). IfSome new (IsKeptFor x.dim)) (sym same) (packet_shown new recon shown).kept
 
-  pub either_kept : (new : Option Kept) → (new ≡ z.state) ⊎ (new ≡ (step limits z.state bytes).0) → IfSome new (IsKeptFor z.dim)
+  pub either_kept : (new : Option DecoderState) → (new ≡ z.state) ⊎ (new ≡ (step limits z.state bytes).0) → IfSome new (IsKeptFor z.dim)
   either_kept new either = either_sound limits z.dim z.state bytes new sound.wide leaves_here sound.kept either
 
 -- ---- what a frame is told over
 
 -- a key frame is told over nothing
-module _ (e : Encoding) (dim : Dim) (c : Coded) (same : dim ≡ e.dim) (over : None ≡ kept_for e) where
-  pub told_over_nothing : CanBeTold (is_key e) (basis_for e).saved (basis_for e).modes c → CanBeTold true (key_basis dim).saved (key_basis dim).modes c
+module _ (e : EncoderState) (dim : Dim) (c : CodedFrame) (same : dim ≡ e.dim) (over : None ≡ kept_for e) where
+  pub told_over_nothing : CanBeTold (next_is_key e) (basis_for e).saved (basis_for e).modes c → CanBeTold true (key_context dim).saved (key_context dim).modes c
   told_over_nothing told =
-      let T : Dim → Option Kept → Type 0 = λ d o. CanBeTold (is_none o) (basis_over d o).saved (basis_over d o).modes c in
+      let T : Dim → Option DecoderState → Type 0 = λ d o. CanBeTold (is_none o) (basis_over d o).saved (basis_over d o).modes c in
       subst (λ (d : Dim). T d None) (sym same) (subst (T e.dim) (sym over) told)
 
-  pub packet_over_nothing : (result : Result (List ℕ) PacketError) → IfOk result (λ v. IsKeyPacket dim c v) → IfOk result (λ v. IsPacketOver e.dim (kept_for e) c v)
+  pub packet_over_nothing : (result : Result (List ℕ) PacketError) → IfOk result (λ v. IsKeyFramePacket dim c v) → IfOk result (λ v. IsPacketOver e.dim (kept_for e) c v)
   packet_over_nothing result is =
-      let P : Dim → Option Kept → Type 0 = λ d o. IfOk result (λ v. IsPacketOver d o c v) in
+      let P : Dim → Option DecoderState → Type 0 = λ d o. IfOk result (λ v. IsPacketOver d o c v) in
       subst (P e.dim) over (subst (λ (d : Dim). P d None) same is)
 
   pub long_over_nothing : (result : Result (List ℕ) PacketError)
-      → IfErr result (λ f. f ≡ TooLong → HasLongPartition (Some (key_tag dim)) (key_basis dim).saved (maps_before (key_basis dim).modes) c)
+      → IfErr result (λ f. f ≡ TooLong → HasLongPartition (Some (key_tag dim)) (key_context dim).saved (maps_before (key_context dim).modes) c)
       → IfErr result (λ f. f ≡ TooLong → IsTooLongOver e.dim (kept_for e) c)
   long_over_nothing result is =
-      let P : Dim → Option Kept → Type 0 = λ d o. IfErr result (λ f. f ≡ TooLong → IsTooLongOver d o c) in
+      let P : Dim → Option DecoderState → Type 0 = λ d o. IfErr result (λ f. f ≡ TooLong → IsTooLongOver d o c) in
       subst (P e.dim) over (subst (λ (d : Dim). P d None) same is)
 
 -- an inter frame is told over what is kept
-module _ (e : Encoding) (k : Kept) (saved : Saved) (segments : Grid Segment) (c : Coded)
+module _ (e : EncoderState) (k : DecoderState) (saved : Saved) (segments : Grid Segment) (c : CodedFrame)
     (over : Some k ≡ kept_for e) (values : saved ≡ k.saved) (numbers : segments ≡ k.segments) where
-  pub told_over_kept : CanBeTold (is_key e) (basis_for e).saved (basis_for e).modes c → CanBeTold false saved (of_segments segments) c
+  pub told_over_kept : CanBeTold (next_is_key e) (basis_for e).saved (basis_for e).modes c → CanBeTold false saved (of_segments segments) c
   told_over_kept told =
-      let T : Option Kept → Type 0 = λ o. CanBeTold (is_none o) (basis_over e.dim o).saved (basis_over e.dim o).modes c in
+      let T : Option DecoderState → Type 0 = λ o. CanBeTold (is_none o) (basis_over e.dim o).saved (basis_over e.dim o).modes c in
       let K : Saved → Grid Segment → Type 0 = λ s g. CanBeTold false s (of_segments g) c in
       subst (λ (s : Saved). K s segments) (sym values) (subst (K k.saved) (sym numbers) (subst T (sym over) told))
 
-  pub packet_over_kept : (result : Result (List ℕ) PacketError) → IfOk result (λ v. IsInterPacket saved segments c v) → IfOk result (λ v. IsPacketOver e.dim (kept_for e) c v)
+  pub packet_over_kept : (result : Result (List ℕ) PacketError) → IfOk result (λ v. IsInterFramePacket saved segments c v) → IfOk result (λ v. IsPacketOver e.dim (kept_for e) c v)
   packet_over_kept result is =
-      let P : Option Kept → Type 0 = λ o. IfOk result (λ v. IsPacketOver e.dim o c v) in
-      let K : Saved → Grid Segment → Type 0 = λ s g. IfOk result (λ v. IsInterPacket s g c v) in
+      let P : Option DecoderState → Type 0 = λ o. IfOk result (λ v. IsPacketOver e.dim o c v) in
+      let K : Saved → Grid Segment → Type 0 = λ s g. IfOk result (λ v. IsInterFramePacket s g c v) in
       subst P over (subst (K k.saved) numbers (subst (λ (s : Saved). K s segments) values is))
 
   pub long_over_kept : (result : Result (List ℕ) PacketError)
       → IfErr result (λ f. f ≡ TooLong → HasLongPartition None saved (maps_before (of_segments segments)) c)
       → IfErr result (λ f. f ≡ TooLong → IsTooLongOver e.dim (kept_for e) c)
   long_over_kept result is =
-      let P : Option Kept → Type 0 = λ o. IfErr result (λ f. f ≡ TooLong → IsTooLongOver e.dim o c) in
+      let P : Option DecoderState → Type 0 = λ o. IfErr result (λ f. f ≡ TooLong → IsTooLongOver e.dim o c) in
       let K : Saved → Grid Segment → Type 0 = λ s g. IfErr result (λ f. f ≡ TooLong → HasLongPartition None s (maps_before (of_segments g)) c) in
       subst P over (subst (K k.saved) numbers (subst (λ (s : Saved). K s segments) values is))

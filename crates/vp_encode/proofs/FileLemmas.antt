@@ -19,16 +19,16 @@ use Rattle.vp_y4m.specs.Pictures.{file_head, next_of}
 use Rattle.vp_y4m.specs.Reads.{Shows, ShowsAtEnd, Fails}
 use Rattle.vp_y4m.specs.Text.{i420_length}
 use Rattle.vp_y4m.specs.Frames.{GivesPicture}
-use Rattle.vp_y4m.specs.Source.{Answers}
+use Rattle.vp_y4m.specs.Source.{AnswersNextPicture}
 use Rattle.vp_encode.specs.declared.settings.Settings.{Settings}
 use Rattle.vp_encode.specs.declared.report.EncodeReport.{EncodeReport}
 use Rattle.vp_encode.specs.declared.report.EncodeAllFault.{EncodeAllFault}
 use Rattle.vp_encode.specs.declared.report.EncodeAllFault.TheVariants as fault
-use Rattle.vp_encode.specs.Encoder.{Encoding, AreAllowed}
-use Rattle.vp_encode.specs.Encoded.{EncodedFrame, IsEncoded, AreEncoded, fresh, error_of}
+use Rattle.vp_encode.specs.Encoder.{EncoderState, AreAllowed}
+use Rattle.vp_encode.specs.Encoded.{EncodedFrame, IsEncoded, AreEncoded, initial_encoder, error_of}
 use Rattle.vp_encode.specs.Pictures.{IsPicture, BeginWith}
-use Rattle.vp_encode.specs.File.{IsToldMore, Work, IsDone, IsWhole, IsReported, HasOneMore, IsEndedBehind, IsAnswerBehind, IsAnswerOver, HasDone, most_reads, source_of, packet_of, ivf_text, text_of, fault_by, numbers_to}
-use Rattle.vp_encode.specs.Run.{Running, IsAdded, IsRefused, IsHeadLine, IsBegun, IsAt, IsRun, Ends, start}
+use Rattle.vp_encode.specs.File.{IsToldMore, Work, IsDone, HasAllPictures, IsEncodeReported, HasOneMore, IsEndedBehind, IsAnswerBehind, IsAnswerOver, HasDone, most_reads, source_of, packet_of, ivf_text, encoded_file, encode_fault_of, numbers_to}
+use Rattle.vp_encode.specs.EncodeProgress.{EncodeProgress, IsAdded, IsPictureRefused, IsHeadLine, IsBegun, IsAt, HasWorkFrames, EndsEncode, start}
 
 -- ---- small facts, for where much else is known
 
@@ -51,9 +51,9 @@ begins_more : (w h : ℕ) (bytes : List ℕ) (ps : List Image) (mid : List ℕ) 
 begins_more w h bytes [] mid p rest e is next = (rest, is, ap (next_of w h) e ∙ next, refl)
 begins_more w h bytes (q ∷ ps) mid p rest b is next = (b.0, b.1, b.2, begins_more w h b.0 ps mid p rest b.3 is next)
 
-encoded_more : (e : Encoding) (fs : List EncodedFrame) (mid : Encoding) (f : EncodedFrame) (last : Encoding)
+encoded_more : (e : EncoderState) (fs : List EncodedFrame) (mid : EncoderState) (f : EncodedFrame) (last : EncoderState)
     → AreEncoded e fs mid → IsEncoded mid f last → AreEncoded e (fs ++ f ∷ []) last
-encoded_more e [] mid f last is h = let P : Encoding → Type 0 = λ x. IsEncoded x f last in (last, subst P is h, refl)
+encoded_more e [] mid f last is h = let P : EncoderState → Type 0 = λ x. IsEncoded x f last in (last, subst P is h, refl)
 encoded_more e (g ∷ fs) mid f last r h = (r.0, r.1, encoded_more r.0 fs mid f last r.2 h)
 
 sum_one : {X : Type 0} (g : X → ℕ) (x : X) → sum_by g (x ∷ []) ≡ g x
@@ -62,19 +62,19 @@ sum_one g x = sum_by-cons g x [] ∙ add-zero (g x)
 sum_more : {X : Type 0} (g : X → ℕ) (xs : List X) (x : X) → sum_by g (xs ++ x ∷ []) ≡ sum_by g xs + g x
 sum_more g xs x = sum_by-append g xs (x ∷ []) ∙ ap (λ n. sum_by g xs + n) (sum_one g x)
 
-pub at_start : (head : Head) (begun : Running) → (begun ≡ start begun.limits (fresh begun.encoder.dim begun.encoder.settings)) → IsAt head begun begun [] []
+pub at_start : (head : Head) (begun : EncodeProgress) → (begun ≡ start begun.limits (initial_encoder begun.encoder.dim begun.encoder.settings)) → IsAt head begun begun [] []
 at_start head begun first = record {
   pictures = λ rest. refl;
   encoded = refl;
   dim = refl;
   limits = refl;
-  packets = ap (λ (r : Running). r.packets) first;
-  error = ap (λ (r : Running). r.error) first;
+  packets = ap (λ (r : EncodeProgress). r.packets) first;
+  error = ap (λ (r : EncodeProgress). r.error) first;
   few = omega arith;
   small = All-nil (λ f. length f.packet ≤ begun.limits.packet_bytes);
 }
 
-pub at_more : (head : Head) (begun now new : Running) (bytes taken : List ℕ) (frames : List EncodedFrame) (f : EncodedFrame)
+pub at_more : (head : Head) (begun now new : EncodeProgress) (bytes taken : List ℕ) (frames : List EncodedFrame) (f : EncodedFrame)
     → IsAt head begun now bytes frames → IsPicture head.w head.h f.source
     → ((rest : List ℕ) → next_of head.w head.h (taken ++ rest) ≡ Ok (Some (i420 f.source, rest)))
     → IsAdded now f new → IsAt head begun new (bytes ++ taken) (frames ++ f ∷ [])
@@ -102,12 +102,12 @@ at_more head begun now new bytes taken frames f h is next a =
 pub told_none : (told : List ℕ → Type 0) → IsToldMore told told (numbers_to 0)
 told_none told earlier is = subst told (sym (append-nil earlier)) is
 
-pub told_first : (r : Running) (told : List ℕ → Type 0) → r ≡ start r.limits (fresh r.encoder.dim r.encoder.settings) → IsToldMore told told (numbers_to (length r.packets))
+pub told_first : (r : EncodeProgress) (told : List ℕ → Type 0) → r ≡ start r.limits (initial_encoder r.encoder.dim r.encoder.settings) → IsToldMore told told (numbers_to (length r.packets))
 told_first r told first = λ earlier is.
-    let none : length r.packets ≡ 0 = ap (λ (x : Running). length x.packets) first in
+    let none : length r.packets ≡ 0 = ap (λ (x : EncodeProgress). length x.packets) first in
     subst (λ (n : ℕ). told (earlier ++ numbers_to n)) (sym none) (subst told (sym (append-nil earlier)) is)
 
-pub told_more : (before mid after : List ℕ → Type 0) (now new : Running) (f : EncodedFrame) (frames : ℕ) → IsToldMore before mid (numbers_to (length now.packets))
+pub told_more : (before mid after : List ℕ → Type 0) (now new : EncodeProgress) (f : EncodedFrame) (frames : ℕ) → IsToldMore before mid (numbers_to (length now.packets))
     → IsAdded now f new → frames ≡ length new.packets → IsToldMore mid after (frames ∷ []) → IsToldMore before after (numbers_to (length new.packets))
 told_more before mid after now new f frames told added is more = λ earlier was.
     let many : length new.packets ≡ suc (length now.packets) = ap length added.packets ∙ length-append now.packets (f.packet ∷ []) ∙ add-one (length now.packets) in
@@ -118,13 +118,13 @@ told_more before mid after now new f frames told added is more = λ earlier was.
 
 -- ---- the ends
 
-module _ (front : List ℕ) (head : Head) (begun now : Running) (bytes : List ℕ) (frames : List EncodedFrame)
+module _ (front : List ℕ) (head : Head) (begun now : EncodeProgress) (bytes : List ℕ) (frames : List EncodedFrame)
     (b : IsBegun front head begun) (h : IsAt head begun now bytes frames) where
   abbrev work : List ℕ → Work
   work rest = record { head = head; frames = frames; encoder = now.encoder; rest = rest }
 
   done : (rest : List ℕ) → IsDone begun.limits begun.encoder.settings (front ++ (bytes ++ rest)) (work rest)
-  done rest = let E : Encoding → Type 0 = λ e. AreEncoded e frames now.encoder in record {
+  done rest = let E : EncoderState → Type 0 = λ e. AreEncoded e frames now.encoder in record {
     body = bytes ++ rest;
     headed = b.line (bytes ++ rest);
     allowed = b.allowed;
@@ -132,7 +132,7 @@ module _ (front : List ℕ) (head : Head) (begun now : Running) (bytes : List �
     dim = begun.encoder.dim;
     width = b.width;
     height = b.height;
-    encoded = subst E (ap (λ (r : Running). r.encoder) b.first) h.encoded;
+    encoded = subst E (ap (λ (r : EncodeProgress). r.encoder) b.first) h.encoded;
     few = h.few;
     small = h.small;
   }
@@ -154,7 +154,7 @@ module _ (front : List ℕ) (head : Head) (begun now : Running) (bytes : List �
   -- the run refuses a picture
   refused : (taken : List ℕ) (p : Image) → IsPicture head.w head.h p
       → ((rest : List ℕ) → next_of head.w head.h (taken ++ rest) ≡ Ok (Some (i420 p, rest)))
-      → (f : EncodeAllFault) → IsRefused now p f → (written : Option (List ℕ)) → IsEndedBehind (length now.packets) begun.limits begun.encoder.settings f (front ++ (bytes ++ taken)) written written
+      → (f : EncodeAllFault) → IsPictureRefused now p f → (written : Option (List ℕ)) → IsEndedBehind (length now.packets) begun.limits begun.encoder.settings f (front ++ (bytes ++ taken)) written written
   refused taken p is next fault.Magic r written = absurd r
   refused taken p is next fault.Size r written = absurd r
   refused taken p is next fault.Colour r written = absurd r
@@ -176,7 +176,7 @@ module _ (front : List ℕ) (head : Head) (begun now : Running) (bytes : List �
   -- and has the same packets as before
   pub refused_same : (taken : List ℕ) (p : Image) → IsPicture head.w head.h p
       → ((rest : List ℕ) → next_of head.w head.h (taken ++ rest) ≡ Ok (Some (i420 p, rest)))
-      → (f : EncodeAllFault) → IsRefused now p f → (packets : List (List ℕ)) → packets ≡ now.packets
+      → (f : EncodeAllFault) → IsPictureRefused now p f → (packets : List (List ℕ)) → packets ≡ now.packets
       → (written : Option (List ℕ)) → IsEndedBehind (length packets) begun.limits begun.encoder.settings f (front ++ (bytes ++ taken)) written written
   refused_same taken p is next f r packets same written =
       subst (λ (ps : List (List ℕ)). IsEndedBehind (length ps) begun.limits begun.encoder.settings f (front ++ (bytes ++ taken)) written written) (sym same) (refused taken p is next f r written)
@@ -187,7 +187,7 @@ module _ (front : List ℕ) (head : Head) (begun now : Running) (bytes : List �
 
   pub failed : (f : SourceFault) (before after : Option (List ℕ)) → Fails (next_of head.w head.h) f before after
       → (taken : List ℕ) × Consumes before after taken
-      × ((written : Option (List ℕ)) → IsEndedBehind (length now.packets) begun.limits begun.encoder.settings (fault_by f) (front ++ (bytes ++ taken)) written written)
+      × ((written : Option (List ℕ)) → IsEndedBehind (length now.packets) begun.limits begun.encoder.settings (encode_fault_of f) (front ++ (bytes ++ taken)) written written)
   failed source.Magic before after s = (s.taken, s.consumed, λ written. inr (work s.taken, counted s.taken, shown_end source.Magic s.taken s.shown))
   failed source.Size before after s = (s.taken, s.consumed, λ written. inr (work s.taken, counted s.taken, shown_end source.Size s.taken s.shown))
   failed source.Colour before after s = (s.taken, s.consumed, λ written. inr (work s.taken, counted s.taken, shown_end source.Colour s.taken s.shown))
@@ -199,7 +199,7 @@ module _ (front : List ℕ) (head : Head) (begun now : Running) (bytes : List �
   pub next_failed : (f : SourceFault) (before after : Option (List ℕ)) → (f ≢ source.Memory → Fails (next_of head.w head.h) f before after)
       → (f ≡ source.Memory → after ≡ before)
       → (taken : List ℕ) × Consumes before after taken
-      × ((written : Option (List ℕ)) → IsEndedBehind (length now.packets) begun.limits begun.encoder.settings (fault_by f) (front ++ (bytes ++ taken)) written written)
+      × ((written : Option (List ℕ)) → IsEndedBehind (length now.packets) begun.limits begun.encoder.settings (encode_fault_of f) (front ++ (bytes ++ taken)) written written)
   next_failed source.Magic before after s m = failed source.Magic before after (s (λ e. cc))
   next_failed source.Size before after s m = failed source.Size before after (s (λ e. cc))
   next_failed source.Colour before after s m = failed source.Colour before after (s (λ e. cc))
@@ -212,7 +212,7 @@ module _ (front : List ℕ) (head : Head) (begun now : Running) (bytes : List �
   -- all pictures were encoded
   pub ended : (before after : Option (List ℕ)) → ShowsAtEnd (next_of head.w head.h) (Ok None) before after
       → (taken : List ℕ) × Consumes before after taken × IsAtEnd after
-      × ((w : Work) × IsDone begun.limits begun.encoder.settings (front ++ (bytes ++ taken)) w × IsWhole w × (w.head ≡ head) × IsRun w now)
+      × ((w : Work) × IsDone begun.limits begun.encoder.settings (front ++ (bytes ++ taken)) w × HasAllPictures w × (w.head ≡ head) × HasWorkFrames w now)
   ended before after s =
       (s.taken, s.consumed, s.at_end, (work s.taken, done s.taken, s.shown, refl, record { packets = h.packets; error = h.error }))
 
@@ -222,7 +222,7 @@ head_shown_end : (pixels : ℕ) (f : SourceFault) (taken : List ℕ) → ((rest 
 head_shown_end pixels f taken shown = ap (file_head pixels) (sym (append-nil taken)) ∙ shown []
 
 pub head_failed : (limits : Limits) (settings : Settings) (f : SourceFault) (before after : Option (List ℕ)) → Fails (file_head limits.pixels) f before after
-    → (file : List ℕ) × Consumes before after file × ((written : Option (List ℕ)) → IsEndedBehind 0 limits settings (fault_by f) file written written)
+    → (file : List ℕ) × Consumes before after file × ((written : Option (List ℕ)) → IsEndedBehind 0 limits settings (encode_fault_of f) file written written)
 head_failed limits settings source.Magic before after s = (s.taken, s.consumed, λ written. inl (head_shown_end limits.pixels source.Magic s.taken s.shown, refl))
 head_failed limits settings source.Size before after s = (s.taken, s.consumed, λ written. inl (head_shown_end limits.pixels source.Size s.taken s.shown, refl))
 head_failed limits settings source.Colour before after s = (s.taken, s.consumed, λ written. inl (head_shown_end limits.pixels source.Colour s.taken s.shown, refl))
@@ -240,29 +240,29 @@ settings_refused limits settings head before after written s refused =
 -- ---- the answers of a source
 
 pub faulty_answer : (head now : Head) (f : SourceFault) (before after : Option (List ℕ)) → now ≡ head
-    → (let r : Result (Option Image) SourceFault = Err f in let m : Result (Option Image) SourceFault = Err source.Memory in r ≢ m → Answers now.w now.h r before after)
+    → (let r : Result (Option Image) SourceFault = Err f in let m : Result (Option Image) SourceFault = Err source.Memory in r ≢ m → AnswersNextPicture now.w now.h r before after)
     → f ≢ source.Memory → Fails (next_of head.w head.h) f before after
 faulty_answer head now f before after same a n =
     let P : Head → Type 0 = λ h. Fails (next_of h.w h.h) f before after in subst P same (a (λ e. n cc))
 
 pub given_answer : (head now : Head) (o : Option Image) (p : Image) (before after : Option (List ℕ)) → now ≡ head → o ≡ Some p
-    → Answers now.w now.h (Ok o) before after → GivesPicture head.w head.h p before after
+    → AnswersNextPicture now.w now.h (Ok o) before after → GivesPicture head.w head.h p before after
 given_answer head now o p before after same is a =
     let P : Head → Type 0 = λ h. GivesPicture h.w h.h p before after in
-    let Q : Option Image → Type 0 = λ x. Answers now.w now.h (Ok x) before after in
+    let Q : Option Image → Type 0 = λ x. AnswersNextPicture now.w now.h (Ok x) before after in
     subst P same (subst Q is a)
 
 pub end_answer : (head now : Head) (o : Option Image) (before after : Option (List ℕ)) → now ≡ head → o ≡ None
-    → Answers now.w now.h (Ok o) before after → ShowsAtEnd (next_of head.w head.h) (Ok None) before after
+    → AnswersNextPicture now.w now.h (Ok o) before after → ShowsAtEnd (next_of head.w head.h) (Ok None) before after
 end_answer head now o before after same is a =
     let P : Head → Type 0 = λ h. ShowsAtEnd (next_of h.w h.h) (Ok None) before after in
-    let Q : Option Image → Type 0 = λ x. Answers now.w now.h (Ok x) before after in
+    let Q : Option Image → Type 0 = λ x. AnswersNextPicture now.w now.h (Ok x) before after in
     subst P same (subst Q is a)
 
 pub is_picture : (w h : ℕ) (p : Image) (before after : Option (List ℕ)) → GivesPicture w h p before after → IsPicture w h p
 is_picture w h p before after s = record { width = s.width; height = s.height; outside = s.outside }
 
-pub at_next : (head : Head) (begun now new : Running) (bytes : List ℕ) (frames : List EncodedFrame) (p : Image) (before after : Option (List ℕ))
+pub at_next : (head : Head) (begun now new : EncodeProgress) (bytes : List ℕ) (frames : List EncodedFrame) (p : Image) (before after : Option (List ℕ))
     → IsAt head begun now bytes frames → (s : GivesPicture head.w head.h p before after) → (f : EncodedFrame) → f.source ≡ p → IsAdded now f new
     → IsAt head begun new (bytes ++ s.shown.taken) (frames ++ f ∷ [])
 at_next head begun now new bytes frames p before after h s f is a =
@@ -273,27 +273,27 @@ at_next head begun now new bytes frames p before after h s f is a =
 -- ---- the whole file
 
 -- what encoding the pictures of a source came to, by the reader that it was opened over
-pub opened_ends : (pixels : ℕ) (limits : Limits) (settings : Settings) (result : Result (Unit {0}) EncodeAllFault) (after : Running) (head now : Head) (before opened left : Option (List ℕ))
+pub opened_ends : (pixels : ℕ) (limits : Limits) (settings : Settings) (result : Result (Unit {0}) EncodeAllFault) (after : EncodeProgress) (head now : Head) (before opened left : Option (List ℕ))
     → now ≡ head → opened ≡ before
-    → ((front : List ℕ) → IsHeadLine pixels front now → (bytes : List ℕ) × Consumes opened left bytes × Ends limits settings result now (front ++ bytes) after)
-    → (front : List ℕ) → IsHeadLine pixels front head → (bytes : List ℕ) × Consumes before left bytes × Ends limits settings result head (front ++ bytes) after
+    → ((front : List ℕ) → IsHeadLine pixels front now → (bytes : List ℕ) × Consumes opened left bytes × EndsEncode limits settings result now (front ++ bytes) after)
+    → (front : List ℕ) → IsHeadLine pixels front head → (bytes : List ℕ) × Consumes before left bytes × EndsEncode limits settings result head (front ++ bytes) after
 opened_ends pixels limits settings result after head now before opened left is bytes_are ends =
     let E : Head → Option (List ℕ) → Type 0 = λ h o. (front : List ℕ) → IsHeadLine pixels front h
-    → (bytes : List ℕ) × Consumes o left bytes × Ends limits settings result h (front ++ bytes) after in
+    → (bytes : List ℕ) × Consumes o left bytes × EndsEncode limits settings result h (front ++ bytes) after in
     subst (E head) bytes_are (subst (λ (h : Head). E h opened) is ends)
 
 -- the head, and then what encoding the pictures behind it came to
-pub work_ends : (limits : Limits) (settings : Settings) (dim : Dim) (encoder : Encoding) (run after : Running) (head : Head) (before mid left : Option (List ℕ)) (result : Result (Unit {0}) EncodeAllFault)
-    → run ≡ start limits encoder → encoder ≡ fresh dim settings
+pub work_ends : (limits : Limits) (settings : Settings) (dim : Dim) (encoder : EncoderState) (run after : EncodeProgress) (head : Head) (before mid left : Option (List ℕ)) (result : Result (Unit {0}) EncodeAllFault)
+    → run ≡ start limits encoder → encoder ≡ initial_encoder dim settings
     → Shows (file_head limits.pixels) (λ rest. Ok (head, rest)) before mid
-    → ((front : List ℕ) → IsHeadLine run.limits.pixels front head → (bytes : List ℕ) × Consumes mid left bytes × Ends run.limits run.encoder.settings result head (front ++ bytes) after)
-    → (file : List ℕ) × Consumes before left file × Ends limits settings result head file after
+    → ((front : List ℕ) → IsHeadLine run.limits.pixels front head → (bytes : List ℕ) × Consumes mid left bytes × EndsEncode run.limits run.encoder.settings result head (front ++ bytes) after)
+    → (file : List ℕ) × Consumes before left file × EndsEncode limits settings result head file after
 work_ends limits settings dim encoder run after head before mid left result begun opened s ends =
-    let same : run.limits ≡ limits = ap (λ (r : Running). r.limits) begun in
-    let set : run.encoder.settings ≡ settings = ap (λ (r : Running). r.encoder.settings) begun ∙ ap (λ (e : Encoding). e.settings) opened in
+    let same : run.limits ≡ limits = ap (λ (r : EncodeProgress). r.limits) begun in
+    let set : run.encoder.settings ≡ settings = ap (λ (r : EncodeProgress). r.encoder.settings) begun ∙ ap (λ (e : EncoderState). e.settings) opened in
     let line : IsHeadLine run.limits.pixels s.taken head = subst (λ (l : Limits). IsHeadLine l.pixels s.taken head) (sym same) s.shown in
     let e = ends s.taken line in
-    let E : Limits → Settings → Type 0 = λ l x. Ends l x result head (s.taken ++ e.0) after in (
+    let E : Limits → Settings → Type 0 = λ l x. EndsEncode l x result head (s.taken ++ e.0) after in (
       s.taken ++ e.0,
       Consumes-trans before mid left s.taken e.0 s.consumed e.1,
       subst (λ (l : Limits). E l settings) same (subst (E run.limits) set e.2),
@@ -304,7 +304,7 @@ work_ends limits settings dim encoder run after head before mid left result begu
 abbrev each : Head → ℕ
 each h = 1025 + i420_length h.w h.h
 
-pub few_now : (head : Head) (begun now : Running) (bytes : List ℕ) (frames : List EncodedFrame) → IsAt head begun now bytes frames → length now.packets ≤ begun.limits.packets
+pub few_now : (head : Head) (begun now : EncodeProgress) (bytes : List ℕ) (frames : List EncodedFrame) → IsAt head begun now bytes frames → length now.packets ≤ begun.limits.packets
 few_now head begun now bytes frames h =
     let many = ap length h.packets ∙ length-map frames packet_of in
     let few = h.few in
@@ -317,7 +317,7 @@ within_more n most head now old mid new le same before more =
     let fits = row_fits n (each head) (most + 1) (each head) (omega arith) (omega arith) in
     omega arith
 
-pub within_next : (head now : Head) (old mid new : ℕ) (run next : Running) (f : EncodedFrame) → now ≡ head → IsAdded run f next
+pub within_next : (head now : Head) (old mid new : ℕ) (run next : EncodeProgress) (f : EncodedFrame) → now ≡ head → IsAdded run f next
     → mid ≤ old + length run.packets * each head → new ≤ mid + each now → new ≤ old + length next.packets * each head
 within_next head now old mid new run next f same added before more =
     let many : length next.packets ≡ length run.packets + 1 = ap length added.packets ∙ length-append run.packets (f.packet ∷ []) in
@@ -341,8 +341,8 @@ within_limits limits now head old mid new same small line pictures =
     let all = mul-le (limits.packets + 1) (each head) (limits.packets + 1) (1025 + 3 * limits.pixels) (omega arith) fits in
     omega arith
 
-module _ (limits : Limits) (settings : Settings) (head : Head) (file : List ℕ) (after : Running) (packets : List (List ℕ)) (same : packets ≡ after.packets)
-    (e : (w : Work) × IsDone limits settings file w × IsWhole w × (w.head ≡ head) × IsRun w after) where
+module _ (limits : Limits) (settings : Settings) (head : Head) (file : List ℕ) (after : EncodeProgress) (packets : List (List ℕ)) (same : packets ≡ after.packets)
+    (e : (w : Work) × IsDone limits settings file w × HasAllPictures w × (w.head ≡ head) × HasWorkFrames w after) where
   packets_are : packets ≡ map packet_of e.0.frames
   packets_are = same ∙ e.4.packets
 
@@ -358,7 +358,7 @@ module _ (limits : Limits) (settings : Settings) (head : Head) (file : List ℕ)
   all_counted : length e.0.frames ≡ length after.packets
   all_counted = sym (length-map e.0.frames packet_of) ∙ sym (ap length e.4.packets)
 
-  text_is : ivf_text head packets ≡ text_of e.0
+  text_is : ivf_text head packets ≡ encoded_file e.0
   text_is = ap (λ (h : Head). ivf_text h packets) (sym e.3) ∙ ap (ivf_text e.0.head) packets_are
 
   pub written_front : (before now : Option (List ℕ)) → AppendsFront before now (ivf_text head packets) → IsEndedBehind (length after.packets) limits settings fault.Device file before now
@@ -380,7 +380,7 @@ module _ (limits : Limits) (settings : Settings) (head : Head) (file : List ℕ)
 
 -- ---- the answer, by where the work ended
 
-device_by : (f : SourceFault) → fault_by f ≡ fault.Device → f ≡ source.Device
+device_by : (f : SourceFault) → encode_fault_of f ≡ fault.Device → f ≡ source.Device
 device_by source.Magic e = cc
 device_by source.Size e = cc
 device_by source.Colour e = cc
@@ -392,7 +392,7 @@ device_by source.Memory e = cc
 module _ {R W : Type 0} (remaining : R → Option (List ℕ)) (contents : W → Option (List ℕ)) (limits : Limits) (settings : Settings)
     (result : Result EncodeReport EncodeAllFault) (reader reader' : Counted R) where
   torn_by : (f : SourceFault) → Fails (file_head limits.pixels) f (counted_remaining remaining reader) (counted_remaining remaining reader')
-      → fault_by f ≡ fault.Torn → IsAtEnd (counted_remaining remaining reader')
+      → encode_fault_of f ≡ fault.Torn → IsAtEnd (counted_remaining remaining reader')
   torn_by source.Magic s e = cc
   torn_by source.Size s e = cc
   torn_by source.Colour s e = cc
@@ -421,15 +421,15 @@ module _ {R W : Type 0} (remaining : R → Option (List ℕ)) (contents : W → 
   }
 
   -- at the head's line
-  pub head_answer : {A : Type 0} (writer : Counted W) (f : SourceFault) → result ≡ Err (fault_by f)
+  pub head_answer : {A : Type 0} (writer : Counted W) (f : SourceFault) → result ≡ Err (encode_fault_of f)
       → Fails (file_head limits.pixels) f (counted_remaining remaining reader) (counted_remaining remaining reader')
       → (let r : Result A SourceFault = Err f in r ≡ Err source.Device → HasFailed (counted_failures reader) (counted_failures reader'))
       → (let r : Result A SourceFault = Err f in r ≢ Err source.Device → counted_failures reader' ≡ counted_failures reader)
       → IsAnswerOver remaining contents limits settings result reader reader' writer writer
   head_answer {A = A} writer f is fails device quiet =
       let now = head_failed limits settings f (counted_remaining remaining reader) (counted_remaining remaining reader') fails in
-      unwritten_answer {A = A} writer (fault_by f) is now.0 now.1 0 (now.2 (counted_contents contents writer))
-      (λ e. torn_by f fails cc) (λ e. device (ap Err (device_by f cc))) (λ n. quiet (λ e. n (let same : f ≡ source.Device = cc in ap Err (ap fault_by same))))
+      unwritten_answer {A = A} writer (encode_fault_of f) is now.0 now.1 0 (now.2 (counted_contents contents writer))
+      (λ e. torn_by f fails cc) (λ e. device (ap Err (device_by f cc))) (λ n. quiet (λ e. n (let same : f ≡ source.Device = cc in ap Err (ap encode_fault_of same))))
 
   -- at the settings
   pub settings_answer : (writer : Counted W) → result ≡ Err fault.Settings
@@ -460,7 +460,7 @@ module _ {R W : Type 0} (remaining : R → Option (List ℕ)) (contents : W → 
   -- at the file's end
   pub whole_answer : (writer writer' : Counted W) (report : EncodeReport) → result ≡ Ok report
       → (file : List ℕ) → Consumes (counted_remaining remaining reader) (counted_remaining remaining reader') file
-      → IsReported limits settings report file (counted_contents contents writer) (counted_contents contents writer')
+      → IsEncodeReported limits settings report file (counted_contents contents writer) (counted_contents contents writer')
       → IsAtEnd (counted_remaining remaining reader')
       → counted_failures reader' ≡ counted_failures reader → counted_failures writer' ≡ counted_failures writer
       → IsAnswerOver remaining contents limits settings result reader reader' writer writer'

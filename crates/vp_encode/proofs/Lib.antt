@@ -1,8 +1,8 @@
 pub mod Candidates
-pub mod Telling
+pub mod ContentLemmas
 pub mod RowLemmas
 pub mod ChoosingLemmas
-pub mod Told
+pub mod FrameLemmas
 pub mod SourceLemmas
 pub mod DistanceLemmas
 pub mod Carried

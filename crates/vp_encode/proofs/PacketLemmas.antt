@@ -3,8 +3,8 @@ use Rattle.std.proofs.Common.{◌≡◌, ◌∙◌, ℕ, zero, suc, ◌+◌, ◌
 use Rattle.std.specs.Prelude.{Option, Some, None, IfSome, Ok, Vec, nat_lt, unwrap_or, slice_get, slice_index_or, if◌then◌else◌}
 use Rattle.std.specs.Global.{Global}
 use Rattle.std.proofs.lemmas.List.{drop_at, take_at, take-map, get_or-take, length-map, length-take}
-use Rattle.vp_bool.specs.Bools.{State, start}
-use Rattle.vp_bool.specs.Intervals.{Interval, all}
+use Rattle.vp_bool.specs.Bools.{State, initial_state}
+use Rattle.vp_bool.specs.Intervals.{Interval, whole_interval}
 use Rattle.vp_bool.specs.Reader.{bind, ◌>>=◌, give, Reads}
 use Rattle.vp_bool.specs.Writing.{Continues, Writes, write_all}
 use Rattle.vp_bool.specs.RoundTrip.{partition_of}
@@ -24,17 +24,17 @@ use Rattle.vp_head.specs.Saved.{kept_after}
 use Rattle.vp_head.specs.Spelled.{kept_before}
 use Rattle.vp_head.specs.Reference.{is_intra}
 use Rattle.vp_modes.specs.Map.{of_segments}
-use Rattle.vp_motion.specs.Vector.{Entry}
+use Rattle.vp_motion.specs.Vector.{MacroblockMotion}
 use Rattle.vp_motion.specs.Map.{intra}
 use Rattle.vp_tokens.specs.Partitions.{cut_of, lists, AreBelow24Bits}
-use Rattle.vp_decode.specs.Maps.{Maps, maps_read}
-use Rattle.vp_decode.specs.Frame.{Plan}
-use Rattle.vp_decode.specs.Step.{Basis, key_basis, inter_basis, Opened, opened_over, plan_of, maps_before, tag_length, first_part, count_of}
+use Rattle.vp_decode.specs.MacroblockInfo.{MacroblockInfo, maps_read}
+use Rattle.vp_decode.specs.Frame.{FrameInfo}
+use Rattle.vp_decode.specs.Step.{FrameContext, key_context, inter_context, ParsedPacket, parsed_in_context, frame_info_of, maps_before, tag_length, first_part, count_of}
 use Rattle.vp_decode.proofs.CutLemmas.{opened_ok, opened-by}
-use Rattle.vp_encode.specs.declared.coded.Coded.{Coded}
-use Rattle.vp_encode.specs.Coded.{macroblock_at}
-use Rattle.vp_encode.specs.Said.{key_tag, IsClosed, Says, Tells, IsKeyPacket, IsInterPacket}
-use Rattle.vp_encode.specs.Written.{AreOf, Have, finished, first_read, IsFirst, IsPlanOf, IsPacket, tag_bytes, tag_with}
+use Rattle.vp_encode.specs.declared.coded_frame.CodedFrame.{CodedFrame}
+use Rattle.vp_encode.specs.CodedFrame.{coded_choice}
+use Rattle.vp_encode.specs.PacketContents.{key_tag, HasFinalZero, HasContents, EncodesFrame, IsKeyFramePacket, IsInterFramePacket}
+use Rattle.vp_encode.specs.Written.{AreOf, Have, finished, first_read, IsFirst, IsPlanOf, IsPacket, tag_bytes, encoder_tag}
 use Rattle.vp_encode.proofs.TokenLemmas.{one_zero, closed_by, parts_read, parts_closed}
 use Rattle.vp_encode.proofs.TagLemmas.{inter_tag, key_tag_read}
 
@@ -45,7 +45,7 @@ got zero i = refl
 got (suc n) zero = refl
 got (suc n) (suc i) = got n i
 
-chosen : (b : Bool) (o : Option Entry) → unwrap_or o intra ≡ intra → unwrap_or (if b then o else None) intra ≡ intra
+chosen : (b : Bool) (o : Option MacroblockMotion) → unwrap_or o intra ≡ intra → unwrap_or (if b then o else None) intra ≡ intra
 chosen true o e = e
 chosen false o e = refl
 
@@ -54,7 +54,7 @@ pub all_still : (columns rows : ℕ) (p : Place) → at intra (everywhere column
 unfolding entry repeated
 all_still columns rows p = chosen (nat_lt p.column columns) (slice_get (replicate (rows * columns) intra) (p.row * columns + p.column)) (got (rows * columns) (p.row * columns + p.column))
 
-pub first_said : (kept : Saved) (tag : Tag) (before : Maps) (c : Coded) (maps : Maps) (bytes : List ℕ) {old mid new : Interval} → old ≡ all
+pub first_said : (kept : Saved) (tag : Tag) (before : MacroblockInfo) (c : CodedFrame) (maps : MacroblockInfo) (bytes : List ℕ) {old mid new : Interval} → old ≡ whole_interval
     → Writes (header kept tag) old mid (c.header, kept_after (kept_before kept tag) c.header) → Writes (maps_read c.header before) mid new maps → bytes ≡ finished new
     → AreOf c maps → ((p : Place) → Has c.macroblocks p → Have c p maps) → IsFirst kept tag before c bytes
 unfolding first_read
@@ -74,33 +74,33 @@ first_said kept tag before c maps bytes {old = old} {mid = mid} {new = new} begi
     }
 
 -- what is read of a first partition
-record IsReadFirst (kept : Saved) (tag : Tag) (before : Maps) (c : Coded) (bytes : List ℕ) : Type 0 where
-  maps : Maps
+record IsReadFirst (kept : Saved) (tag : Tag) (before : MacroblockInfo) (c : CodedFrame) (bytes : List ℕ) : Type 0 where
+  maps : MacroblockInfo
   behind : State
   rest : State
-  header_read : header kept tag (start bytes) ≡ ((c.header, kept_after (kept_before kept tag) c.header), behind)
+  header_read : header kept tag (initial_state bytes) ≡ ((c.header, kept_after (kept_before kept tag) c.header), behind)
   maps_are : maps_read c.header before behind ≡ (maps, rest)
   size : AreOf c maps
   told : (p : Place) → Has c.macroblocks p → Have c p maps
-  closed : IsClosed bytes
+  closed : HasFinalZero bytes
 
-first_again : (kept : Saved) (tag : Tag) (before : Maps) (c : Coded) (bytes : List ℕ) → IsFirst kept tag before c bytes → IsReadFirst kept tag before c bytes
+first_again : (kept : Saved) (tag : Tag) (before : MacroblockInfo) (c : CodedFrame) (bytes : List ℕ) → IsFirst kept tag before c bytes → IsReadFirst kept tag before c bytes
 unfolding first_read bind
 first_again kept tag before c bytes x =
     let r = reads_back x.bools (0 ∷ []) x.probabilities one_zero in
-    let s : State = start bytes in
-    let reads : Reads x.bools s r.0 = subst (λ (b : List ℕ). Reads x.bools (start b) r.0) (sym x.bytes_are) r.1 in
+    let s : State = initial_state bytes in
+    let reads : Reads x.bools s r.0 = subst (λ (b : List ℕ). Reads x.bools (initial_state b) r.0) (sym x.bytes_are) r.1 in
     let said : first_read kept tag before s ≡ (((c.header, kept_after (kept_before kept tag) c.header), x.maps), r.0) = x.taken s r.0 reads in
-    let head : (header kept tag s).0 ≡ (c.header, kept_after (kept_before kept tag) c.header) = ap (λ (z : ((Header × Saved) × Maps) × State). z.0.0) said in
+    let head : (header kept tag s).0 ≡ (c.header, kept_after (kept_before kept tag) c.header) = ap (λ (z : ((Header × Saved) × MacroblockInfo) × State). z.0.0) said in
     record {
       maps = x.maps;
       behind = (header kept tag s).1;
       rest = r.0;
       header_read = λ i. (head i, (header kept tag s).1);
-      maps_are = ap (λ (z : Header × Saved). maps_read z.0 before (header kept tag s).1) (sym head) ∙ ap (λ (z : ((Header × Saved) × Maps) × State). (z.0.1, z.1)) said;
+      maps_are = ap (λ (z : Header × Saved). maps_read z.0 before (header kept tag s).1) (sym head) ∙ ap (λ (z : ((Header × Saved) × MacroblockInfo) × State). (z.0.1, z.1)) said;
       size = x.size;
       told = x.told;
-      closed = subst IsClosed (sym x.bytes_are) (closed_by (partition_of x.bools));
+      closed = subst HasFinalZero (sym x.bytes_are) (closed_by (partition_of x.bools));
     }
 
 -- ---- opening
@@ -119,17 +119,17 @@ behind_is tag front first rest e f =
     ∙ ap (drop (length (front ++ first))) (sym (append_assoc front first rest))
     ∙ drop_at (front ++ first) rest (length (front ++ first)) refl
 
-abbrev opened_of : Tag → Basis → Coded → Saved → State → List (List ℕ) → Opened
-opened_of tag basis c kept d parts = record { tag = tag; basis = basis; header = c.header; saved = kept; first = d; partitions = parts }
+abbrev opened_of : Tag → FrameContext → CodedFrame → Saved → State → List (List ℕ) → ParsedPacket
+opened_of tag context c kept d parts = record { tag = tag; context = context; header = c.header; saved = kept; first = d; partitions = parts }
 
-opened_by : (tag : Tag) (basis : Basis) (front first rest : List ℕ) (c : Coded) (kept : Saved) (d : State) (parts : List (List ℕ))
-    → length front ≡ tag_length tag → tag.first_partition ≡ length first → header basis.saved tag (start first) ≡ ((c.header, kept), d)
+opened_by : (tag : Tag) (context : FrameContext) (front first rest : List ℕ) (c : CodedFrame) (kept : Saved) (d : State) (parts : List (List ℕ))
+    → length front ≡ tag_length tag → tag.first_partition ≡ length first → header context.saved tag (initial_state first) ≡ ((c.header, kept), d)
     → length parts ≡ count_of c.header.log2_partitions → cut_of rest (length parts) ≡ Ok parts
-    → opened_over tag basis (front ++ (first ++ rest)) ≡ Ok (opened_of tag basis c kept d parts)
-opened_by tag basis front first rest c kept d parts e f read count cut =
-    sym (opened_ok tag basis (front ++ (first ++ rest)) (start first) (c.header, kept) d (length parts) rest parts
+    → parsed_in_context tag context (front ++ (first ++ rest)) ≡ Ok (opened_of tag context c kept d parts)
+opened_by tag context front first rest c kept d parts e f read count cut =
+    sym (opened_ok tag context (front ++ (first ++ rest)) (initial_state first) (c.header, kept) d (length parts) rest parts
     (omega (arith, e, f, length-append front (first ++ rest), length-append first rest))
-    (ap start (sym (first_part_is tag front first rest e f)))
+    (ap initial_state (sym (first_part_is tag front first rest e f)))
     (ap (λ (z : (Header × Saved) × State). z.0) (sym read))
     (ap (λ (z : (Header × Saved) × State). z.1) (sym read))
     count
@@ -137,21 +137,21 @@ opened_by tag basis front first rest c kept d parts e f read count cut =
     (sym cut))
 
 -- the tag's own length does not matter to the header
-same_header : (kept : Saved) (key : Option KeyTag) (m n : ℕ) (s : State) → header kept (tag_with key m) s ≡ header kept (tag_with key n) s
+same_header : (kept : Saved) (key : Option KeyTag) (m n : ℕ) (s : State) → header kept (encoder_tag key m) s ≡ header kept (encoder_tag key n) s
 unfolding header
 same_header kept key m n s = refl
 
 -- ---- what is opened says the frame
 
-module _ (key : Option KeyTag) (basis : Basis) (c : Coded) (packet : List ℕ) (x : IsPacket key basis.saved (maps_before basis.modes) c packet) where
+module _ (key : Option KeyTag) (context : FrameContext) (c : CodedFrame) (packet : List ℕ) (x : IsPacket key context.saved (maps_before context.modes) c packet) where
   abbrev tag : Tag
-  tag = tag_with key (length x.first)
+  tag = encoder_tag key (length x.first)
 
-  abbrev first : IsReadFirst basis.saved (tag_with key 0) (maps_before basis.modes) c x.first
-  first = first_again basis.saved (tag_with key 0) (maps_before basis.modes) c x.first x.first_is
+  abbrev first : IsReadFirst context.saved (encoder_tag key 0) (maps_before context.modes) c x.first
+  first = first_again context.saved (encoder_tag key 0) (maps_before context.modes) c x.first x.first_is
 
-  abbrev opening : Opened
-  opening = opened_of tag basis c (kept_after (kept_before basis.saved tag) c.header) first.behind x.parts
+  abbrev opening : ParsedPacket
+  opening = opened_of tag context c (kept_after (kept_before context.saved tag) c.header) first.behind x.parts
 
   abbrev front : List ℕ
   front = tag_bytes key (length x.first)
@@ -159,13 +159,13 @@ module _ (key : Option KeyTag) (basis : Basis) (c : Coded) (packet : List ℕ) (
   first_is : length front ≡ tag_length tag → first_part tag packet ≡ x.first
   first_is long = ap (first_part tag) x.together.bytes_are ∙ first_part_is tag front x.first x.together.rest long refl
 
-  says : kept_before basis.saved tag ≡ basis.saved → length front ≡ tag_length tag
-      → (basis.references ≡ None → (p : Place) → Has c.macroblocks p → is_intra (macroblock_at c p).modes.reference ≡ true) → Says key basis c packet opening
-  unfolding plan_of
+  says : kept_before context.saved tag ≡ context.saved → length front ≡ tag_length tag
+      → (context.references ≡ None → (p : Place) → Has c.macroblocks p → is_intra (coded_choice c p).modes.reference ≡ true) → HasContents key context c packet opening
+  unfolding frame_info_of
   says begun long own =
-      let plan : Plan = plan_of opening in
-      let maps_are : plan.maps ≡ first.maps = ap (λ (r : Maps × State). r.0) first.maps_are in
-      let told : (p : Place) → Has c.macroblocks p → Have c p plan.maps = λ p inside. subst (λ (m : Maps). Have c p m) (sym maps_are) (first.told p inside) in
+      let plan : FrameInfo = frame_info_of opening in
+      let maps_are : plan.maps ≡ first.maps = ap (λ (r : MacroblockInfo × State). r.0) first.maps_are in
+      let told : (p : Place) → Has c.macroblocks p → Have c p plan.maps = λ p inside. subst (λ (m : MacroblockInfo). Have c p m) (sym maps_are) (first.told p inside) in
       let plan_is : IsPlanOf c plan = record { header = refl; size = subst (AreOf c) (sym maps_are) first.size; told = told; own = own } in
       let each = x.parts_are.each plan plan_is in
       record {
@@ -178,39 +178,39 @@ module _ (key : Option KeyTag) (basis : Basis) (c : Coded) (packet : List ℕ) (
         modes = λ p inside. (told p inside).modes;
         motion = λ p inside. (told p inside).motion;
         tokens = parts_read plan c each.0 x.parts each.1 each.2;
-        first_closed = subst IsClosed (sym (first_is long)) first.closed;
+        first_closed = subst HasFinalZero (sym (first_is long)) first.closed;
         closed = parts_closed each.0 x.parts each.2;
       }
 
-  opens : length front ≡ tag_length tag → opened_over tag basis packet ≡ Ok opening
+  opens : length front ≡ tag_length tag → parsed_in_context tag context packet ≡ Ok opening
   opens long =
-      ap (opened_over tag basis) x.together.bytes_are
-      ∙ opened_by tag basis front x.first x.together.rest c (kept_after (kept_before basis.saved tag) c.header) first.behind x.parts long refl
-      (same_header basis.saved key (length x.first) 0 (start x.first) ∙ first.header_read) x.parts_are.count x.together.cut
+      ap (parsed_in_context tag context) x.together.bytes_are
+      ∙ opened_by tag context front x.first x.together.rest c (kept_after (kept_before context.saved tag) c.header) first.behind x.parts long refl
+      (same_header context.saved key (length x.first) 0 (initial_state x.first) ∙ first.header_read) x.parts_are.count x.together.cut
 
-  pub told_by : kept_before basis.saved tag ≡ basis.saved → length front ≡ tag_length tag
-      → (basis.references ≡ None → (p : Place) → Has c.macroblocks p → is_intra (macroblock_at c p).modes.reference ≡ true)
-      → ((limits : Limits) → IfSome key (λ k. k.dim.w * k.dim.h ≤ limits.pixels) → tag_of limits (front ++ (x.first ++ x.together.rest)) ≡ Ok tag) → Tells key basis c packet
+  pub told_by : kept_before context.saved tag ≡ context.saved → length front ≡ tag_length tag
+      → (context.references ≡ None → (p : Place) → Has c.macroblocks p → is_intra (coded_choice c p).modes.reference ≡ true)
+      → ((limits : Limits) → IfSome key (λ k. k.dim.w * k.dim.h ≤ limits.pixels) → tag_of limits (front ++ (x.first ++ x.together.rest)) ≡ Ok tag) → EncodesFrame key context c packet
   told_by begun long own read = record {
     opening = opening;
-    opens = λ limits state over fits. opened-by limits state packet tag basis (Ok opening) (ap (tag_of limits) x.together.bytes_are ∙ read limits fits) over (opens long);
+    opens = λ limits state over fits. opened-by limits state packet tag context (Ok opening) (ap (tag_of limits) x.together.bytes_are ∙ read limits fits) over (opens long);
     says = says begun long own;
   }
 
-pub key_said : (dim : Dim) (c : Coded) (packet : List ℕ) → IsPacket (Some (key_tag dim)) (key_basis dim).saved (maps_before (key_basis dim).modes) c packet
-    → ((p : Place) → Has c.macroblocks p → is_intra (macroblock_at c p).modes.reference ≡ true) → IsKeyPacket dim c packet
+pub key_said : (dim : Dim) (c : CodedFrame) (packet : List ℕ) → IsPacket (Some (key_tag dim)) (key_context dim).saved (maps_before (key_context dim).modes) c packet
+    → ((p : Place) → Has c.macroblocks p → is_intra (coded_choice c p).modes.reference ≡ true) → IsKeyFramePacket dim c packet
 key_said dim c packet x own =
-    told_by (Some (key_tag dim)) (key_basis dim) c packet x refl refl (λ none. own)
+    told_by (Some (key_tag dim)) (key_context dim) c packet x refl refl (λ none. own)
     (λ limits fits. key_tag_read limits dim (length x.first) (x.first ++ x.together.rest) x.short fits)
 
 -- over any state with these values and segments
-pub inter_said : (saved : Saved) (segments : Grid ℕ) (c : Coded) (packet : List ℕ) → IsPacket None saved (maps_before (of_segments segments)) c packet
-    → IsInterPacket saved segments c packet
+pub inter_said : (saved : Saved) (segments : Grid ℕ) (c : CodedFrame) (packet : List ℕ) → IsPacket None saved (maps_before (of_segments segments)) c packet
+    → IsInterFramePacket saved segments c packet
 inter_said saved segments c packet x k same_saved same_segments =
     let here : IsPacket None k.saved (maps_before (of_segments k.segments)) c packet =
     subst (λ (g : Grid ℕ). IsPacket None k.saved (maps_before (of_segments g)) c packet) (sym same_segments)
     (subst (λ (s : Saved). IsPacket None s (maps_before (of_segments segments)) c packet) (sym same_saved) x) in
-    told_by None (inter_basis k) c packet here refl refl (λ none. absurd cc)
+    told_by None (inter_context k) c packet here refl refl (λ none. absurd cc)
     (λ limits fits. inter_tag limits (length here.first) (here.first ++ here.together.rest) here.short)
 
 -- ---- how many partitions

@@ -15,13 +15,13 @@ use Rattle.vp_ivf.specs.Laws.{AllPacketsFit, IsHead}
 use Rattle.vp_ivf.proofs.Written.{read_back, ends_well}
 use Rattle.vp_y4m.specs.declared.fault.SourceFault.{SourceFault}
 use Rattle.vp_y4m.specs.declared.fault.SourceFault.TheVariants.{Magic}
-use Rattle.vp_y4m.specs.Header.{Head, both, number_in, rate_in, judged, head_in, size_within, side_in, last_of, is_taken_colour, is_progressive, begins_with, is_side, is_colon}
+use Rattle.vp_y4m.specs.Header.{Head, option_pair, number_in, rate_in, judged, head_in, size_within, side_in, last_token, is_taken_colour, is_progressive, begins_with, is_side, is_colon}
 use Rattle.vp_y4m.specs.Lines.{first_line}
 use Rattle.vp_y4m.specs.Pictures.{file_head, head_line, with_rest}
-use Rattle.vp_encode.specs.Encoder.{Encoding}
-use Rattle.vp_encode.specs.Encoded.{EncodedFrame, AreEncoded, fresh}
+use Rattle.vp_encode.specs.Encoder.{EncoderState}
+use Rattle.vp_encode.specs.Encoded.{EncodedFrame, AreEncoded, initial_encoder}
 use Rattle.vp_encode.specs.File.{timed, packet_of}
-use Rattle.vp_encode.specs.Playing.{answers_to, bytes_of, EncodedFilesPlayBack, EncodedFilesFit, shown}
+use Rattle.vp_encode.specs.Playing.{answers_from_state, bytes_of, EncodedFilesPlayBack, EncodedFilesFit, shown}
 
 -- ---- a head's numbers are small, and its size is within the limits
 
@@ -34,7 +34,7 @@ small_by false b v n e = cc
 small_by true false v n e = cc
 small_by true true v n e = small_if (nat_lt v 4294967296) v n refl e
 
-both_some : (x y : Option ℕ) (r s : ℕ) → both x y ≡ Some (r, s) → (x ≡ Some r) × (y ≡ Some s)
+both_some : (x y : Option ℕ) (r s : ℕ) → option_pair x y ≡ Some (r, s) → (x ≡ Some r) × (y ≡ Some s)
 both_some (Some x) (Some y) r s e =
     let p : Option (ℕ × ℕ) → Option ℕ = λ o. elim o [ Some q ↦ Some q.0 | None ↦ None ] in
     let q : Option (ℕ × ℕ) → Option ℕ = λ o. elim o [ Some t ↦ Some t.1 | None ↦ None ] in
@@ -112,8 +112,8 @@ line_small true pixels rate size s colour progressive h e =
 
 head_small : (pixels : ℕ) (line : List ℕ) (h : Head) → head_in pixels line ≡ Ok h → IsSmall pixels h
 unfolding head_in
-head_small pixels line h e = line_small (begins_with (codes "YUV4MPEG2") line) pixels (last_of 70 line) None
-    (both (side_in (last_of 87 line)) (side_in (last_of 72 line))) (is_taken_colour (last_of 67 line)) (is_progressive (last_of 73 line)) h e
+head_small pixels line h e = line_small (begins_with (codes "YUV4MPEG2") line) pixels (last_token 70 line) None
+    (option_pair (side_in (last_token 87 line)) (side_in (last_token 72 line))) (is_taken_colour (last_token 67 line)) (is_progressive (last_token 73 line)) h e
 
 rest_small : (pixels : ℕ) (r : Result Head SourceFault) (line : List ℕ) (h : Head) (body rest : List ℕ) → head_in pixels line ≡ r → with_rest r rest ≡ Ok (h, body) → IsSmall pixels h
 rest_small pixels (Err f) line h body rest is e = cc
@@ -134,8 +134,8 @@ file_small pixels file h body e = first_small pixels (first_line file) h body e
 
 -- ---- decoding shows the reconstructions
 
-answers_are : (limits : Limits) (n : ℕ) (e : Encoding) (fs : List EncodedFrame) (last : Encoding) → AreEncoded e fs last → e.dim.w * e.dim.h ≤ limits.pixels
-    → answers_to limits e.state (map bytes_of (map timed (enumerate_from n (map packet_of fs)))) ≡ map shown fs
+answers_are : (limits : Limits) (n : ℕ) (e : EncoderState) (fs : List EncodedFrame) (last : EncoderState) → AreEncoded e fs last → e.dim.w * e.dim.h ≤ limits.pixels
+    → answers_from_state limits e.state (map bytes_of (map timed (enumerate_from n (map packet_of fs)))) ≡ map shown fs
 answers_are limits n e [] last h fit = refl
 answers_are limits n e (f ∷ fs) last h fit =
     let one = h.1.decoded limits fit in
@@ -174,6 +174,6 @@ plays limits others settings file w d fit =
     let fit_dim : d.dim.w * d.dim.h ≤ others.pixels = subst (λ (x : ℕ). Q x d.dim.h) (sym same_w) (subst (λ (y : ℕ). Q w.head.w y) (sym same_h) fit.pixels) in
     record {
       ends = ends_well others.packet_bytes others.packets head (length (map packet_of w.frames)) packets is_head allowed long;
-      pictures = ap (λ (c : Contents). answers_to others None (map bytes_of c.packets)) (read_back others.packet_bytes others.packets head (length (map packet_of w.frames)) packets is_head allowed long)
-          ∙ answers_are others 0 (fresh d.dim settings) w.frames w.encoder d.encoded fit_dim;
+      pictures = ap (λ (c : Contents). answers_from_state others None (map bytes_of c.packets)) (read_back others.packet_bytes others.packets head (length (map packet_of w.frames)) packets is_head allowed long)
+          ∙ answers_are others 0 (initial_encoder d.dim settings) w.frames w.encoder d.encoded fit_dim;
     }

@@ -11,7 +11,7 @@ use Rattle.vp_base.proofs.ImageLemmas.{plane_of-with_plane, with_plane-with_plan
 use Rattle.vp_base.proofs.OverLemmas.{over-more}
 use Rattle.vp_base.proofs.BlockLemmas.{length-overlay, length-numbers, get_or-numbers, length-row_of, get_or-row_of, pixel-with_run_inside, pixel-with_run_outside, otherRow, before, same_raster}
 use Rattle.vp_encode.specs.Encoder.{continued_plane}
-use Rattle.vp_encode.specs.Continued.{Continues, row_continued}
+use Rattle.vp_encode.specs.Continued.{ExtendsPlane, row_continued}
 
 with_run_whole : (p : Raster) (x y : ℕ) (run : List ℕ) → IsWhole p → x + length run ≤ p.width → y < p.height → IsWhole (with_run p x y run)
 with_run_whole p x y run whole fits inside =
@@ -20,7 +20,7 @@ with_run_whole p x y run whole fits inside =
 
 -- the first n rows of q are p, continued
 record AreContinued (width height : ℕ) (p : Raster) (n : ℕ) (q : Raster) : Type 0 where
-  pub size : Continues width height p q
+  pub size : ExtendsPlane width height p q
   pub each : (x y : ℕ) → x < p.width → y < n → pixel q x y ≡ pixel p (min x (width - 1)) (min y (height - 1))
 
 module _ (width height : ℕ) (p : Raster) (n : ℕ) (q : Raster) (whole : IsWhole p) (inside : n < p.height) (made : AreContinued width height p n q) where
@@ -121,7 +121,7 @@ module _ (width height : ℕ) (p : Raster) (n : ℕ) (q : Raster) (whole : IsWho
     ];
   }
 
-rows_continued : (width height : ℕ) (p : Raster) (n : ℕ) (q : Raster) → IsWhole p → Continues width height p q → n ≤ p.height
+rows_continued : (width height : ℕ) (p : Raster) (n : ℕ) (q : Raster) → IsWhole p → ExtendsPlane width height p q → n ≤ p.height
     → AreContinued width height p n (over n (row_continued width height p) q)
 unfolding over
 rows_continued width height p zero q whole size fits = record { size = size; each = λ x y xin never. absurd (omega arith) }
@@ -129,10 +129,10 @@ rows_continued width height p (suc n) q whole size fits =
     row_more width height p n (over n (row_continued width height p) q) whole (omega arith) (rows_continued width height p n q whole size (omega arith))
 
 -- a row of a plane of this size leaves one of this size
-pub row_size : (width height : ℕ) (p : Raster) (n : ℕ) (q : Raster) → IsWhole p → n ≤ p.height → Continues width height p q → Continues width height p (over n (row_continued width height p) q)
+pub row_size : (width height : ℕ) (p : Raster) (n : ℕ) (q : Raster) → IsWhole p → n ≤ p.height → ExtendsPlane width height p q → ExtendsPlane width height p (over n (row_continued width height p) q)
 row_size width height p n q whole fits size = (rows_continued width height p n q whole size fits).size
 
-pub plane_continued : (width height : ℕ) (p : Raster) (n : ℕ) (q : Raster) → IsWhole p → n ≡ p.height → Continues width height p q
+pub plane_continued : (width height : ℕ) (p : Raster) (n : ℕ) (q : Raster) → IsWhole p → n ≡ p.height → ExtendsPlane width height p q
     → over n (row_continued width height p) q ≡ continued_plane width height p
 plane_continued width height p n q whole all size =
     let made = rows_continued width height p n q whole size (omega arith) in

@@ -3,9 +3,9 @@ use Rattle.std.proofs.Common.{◌≡◌, ◌∙◌, ℕ, zero, suc, ◌+◌, ◌
 use Rattle.std.specs.Prelude.{slice_index, slice_index_or, slice_set, Option, Some, None, unwrap_or}
 use Rattle.std.proofs.lemmas.Bool.{cases_Bool, cases_lt, cases_eq}
 use Rattle.std.proofs.lemmas.List.{length-set, get_or-set_same, get_or-set_other, length-replicate, ext_get_or, length-map, get_or-map}
-use Rattle.vp_bool.specs.Bools.{State, start}
+use Rattle.vp_bool.specs.Bools.{State, initial_state}
 use Rattle.vp_bool.specs.Reader.{Reads, bind, rows}
-use Rattle.vp_bool.specs.Intervals.{Interval, all}
+use Rattle.vp_bool.specs.Intervals.{Interval, whole_interval}
 use Rattle.vp_bool.specs.Writing.{Writes, AreProbabilities, HasWritten, write_all}
 use Rattle.vp_bool.specs.RoundTrip.{partition_of}
 use Rattle.vp_bool.specs.Window.{AreBytes}
@@ -16,18 +16,18 @@ use Rattle.vp_base.specs.Grid.{Grid, Has, at, entry, with_entry}
 use Rattle.vp_base.proofs.OverLemmas.{over-none, over-more}
 use Rattle.vp_head.specs.Reference.{is_intra}
 use Rattle.vp_refs.specs.References.{References}
-use Rattle.vp_recon.specs.Source.{has_y2 as source_has_y2}
+use Rattle.vp_recon.specs.Predictor.{has_y2 as source_has_y2}
 use Rattle.vp_tokens.specs.declared.contexts.Tokens.{Tokens}
 use Rattle.vp_tokens.specs.Blocks.{Blocks, blocks_of, macroblock}
-use Rattle.vp_tokens.specs.Contexts.{Contexts, StandsFor, right}
+use Rattle.vp_tokens.specs.Contexts.{Contexts, AreContextsAt, right}
 use Rattle.vp_tokens.proofs.Steps.{row_begins}
-use Rattle.vp_decode.specs.Maps.{place}
-use Rattle.vp_decode.specs.Frame.{Plan, Readings, source_by, source_at, tokens_read, seen_read, row_seen, row_tokens, rest_of, token_row, none_read, readings, tokens_of}
+use Rattle.vp_decode.specs.MacroblockInfo.{place}
+use Rattle.vp_decode.specs.Frame.{FrameInfo, Readings, predictor_by, predictor_at, tokens_read, seen_read, row_seen, row_tokens, row_partition, token_row, nothing_read, readings, tokens_of}
 use Rattle.vp_choose.specs.declared.frame.Choice.{Choice}
-use Rattle.vp_encode.specs.declared.coded.Coded.{Coded}
-use Rattle.vp_encode.specs.Coded.{nothing, macroblock_at, entry_of, has_y2}
-use Rattle.vp_encode.specs.Said.{IsClosed}
-use Rattle.vp_encode.specs.Written.{finished, partition, IsPlanOf, IsTokenRow, AllRead, AreTokenRows, AreTokens, none_seen}
+use Rattle.vp_encode.specs.declared.coded_frame.CodedFrame.{CodedFrame}
+use Rattle.vp_encode.specs.CodedFrame.{nothing, coded_choice, saved_motion, choice_has_y2}
+use Rattle.vp_encode.specs.PacketContents.{HasFinalZero}
+use Rattle.vp_encode.specs.Written.{finished, partition_of_bools, IsPlanOf, IsTokenRow, AllRead, AreTokenRows, AreTokens, none_seen}
 
 -- ---- a partition with its byte of 0
 
@@ -39,7 +39,7 @@ last_is : (xs : List ℕ) (x : ℕ) → slice_index (xs ++ x ∷ []) (length xs)
 last_is [] x = refl
 last_is (y ∷ ys) x = last_is ys x
 
-pub closed_by : (xs : List ℕ) → IsClosed (xs ++ 0 ∷ [])
+pub closed_by : (xs : List ℕ) → HasFinalZero (xs ++ 0 ∷ [])
 closed_by xs = record {
   some = omega (arith, length-append xs (0 ∷ []));
   last = let e : length (xs ++ 0 ∷ []) - 1 ≡ length xs = omega (arith, length-append xs (0 ∷ [])) in rw e (last_is xs 0);
@@ -48,19 +48,19 @@ closed_by xs = record {
 -- ---- what a plan of the frame reads at a place
 
 source_y2 : (references : Option References) (version : ℕ) (x : Choice) → (references ≡ None → is_intra x.modes.reference ≡ true)
-    → source_has_y2 (source_by references version x.modes (entry_of x)) ≡ has_y2 x
+    → source_has_y2 (predictor_by references version x.modes (saved_motion x)) ≡ choice_has_y2 x
 source_y2 None version x own = let e : is_intra x.modes.reference ≡ true = own refl in rw e refl
 source_y2 (Some r) version x own = elim (cases_Bool (is_intra x.modes.reference)) [ inl e ↦ rw e refl | inr e ↦ rw e refl ]
 
-plan_y2 : (c : Coded) (f : Plan) (p : Place) → IsPlanOf c f → Has c.macroblocks p → source_has_y2 (source_at f p) ≡ has_y2 (macroblock_at c p)
-unfolding source_at
+plan_y2 : (c : CodedFrame) (f : FrameInfo) (p : Place) → IsPlanOf c f → Has c.macroblocks p → source_has_y2 (predictor_at f p) ≡ choice_has_y2 (coded_choice c p)
+unfolding predictor_at
 plan_y2 c f p plan inside =
     let have = plan.told p inside in
-    (λ i. source_has_y2 (source_by f.references f.version (have.modes i) (have.motion i)))
-    ∙ source_y2 f.references f.version (macroblock_at c p) (λ none. plan.own none p inside)
+    (λ i. source_has_y2 (predictor_by f.references f.version (have.modes i) (have.motion i)))
+    ∙ source_y2 f.references f.version (coded_choice c p) (λ none. plan.own none p inside)
 
-plan_tokens : (c : Coded) (f : Plan) (p : Place) (g : Grid Blocks) → IsPlanOf c f → Has c.macroblocks p
-    → macroblock c.header.probabilities.coefficients g p (has_y2 (macroblock_at c p)) (macroblock_at c p).modes.skip ≡ tokens_read f p g
+plan_tokens : (c : CodedFrame) (f : FrameInfo) (p : Place) (g : Grid Blocks) → IsPlanOf c f → Has c.macroblocks p
+    → macroblock c.header.probabilities.coefficients g p (choice_has_y2 (coded_choice c p)) (coded_choice c p).modes.skip ≡ tokens_read f p g
 unfolding tokens_read
 plan_tokens c f p g plan inside =
     let y2 = plan_y2 c f p plan inside in
@@ -69,33 +69,33 @@ plan_tokens c f p g plan inside =
 
 -- ---- a row
 
-row_seen-none : (f : Plan) (row : ℕ) (g : Grid Blocks) (s : State) → row_seen f row 0 g s ≡ (g, s)
+row_seen-none : (f : FrameInfo) (row : ℕ) (g : Grid Blocks) (s : State) → row_seen f row 0 g s ≡ (g, s)
 unfolding row_seen rows
 row_seen-none f row g s = refl
 
-row_seen-more : (f : Plan) (row n : ℕ) (g : Grid Blocks) (s : State) → row_seen f row (n + 1) g s ≡ seen_read f (place row n) (row_seen f row n g s).0 (row_seen f row n g s).1
+row_seen-more : (f : FrameInfo) (row n : ℕ) (g : Grid Blocks) (s : State) → row_seen f row (n + 1) g s ≡ seen_read f (place row n) (row_seen f row n g s).0 (row_seen f row n g s).1
 unfolding row_seen rows bind
 row_seen-more f row n g s = rw add-one refl
 
-seen_given : (f : Plan) (p : Place) (g : Grid Blocks) (s t : State) (x : Tokens) → tokens_read f p g s ≡ (x, t)
-    → seen_read f p g s ≡ (with_entry g p (blocks_of (source_has_y2 (source_at f p)) x), t)
+seen_given : (f : FrameInfo) (p : Place) (g : Grid Blocks) (s t : State) (x : Tokens) → tokens_read f p g s ≡ (x, t)
+    → seen_read f p g s ≡ (with_entry g p (blocks_of (source_has_y2 (predictor_at f p)) x), t)
 unfolding seen_read bind
-seen_given f p g s t x e = ap (λ (r : Tokens × State). (with_entry g p (blocks_of (source_has_y2 (source_at f p)) r.0), r.1)) e
+seen_given f p g s t x e = ap (λ (r : Tokens × State). (with_entry g p (blocks_of (source_has_y2 (predictor_at f p)) r.0), r.1)) e
 
-row_given : (f : Plan) (row n : ℕ) (g k : Grid Blocks) (s t u : State) (x : Tokens) → row_seen f row n g s ≡ (k, t) → tokens_read f (place row n) k t ≡ (x, u)
-    → row_seen f row (n + 1) g s ≡ (with_entry k (place row n) (blocks_of (source_has_y2 (source_at f (place row n))) x), u)
+row_given : (f : FrameInfo) (row n : ℕ) (g k : Grid Blocks) (s t u : State) (x : Tokens) → row_seen f row n g s ≡ (k, t) → tokens_read f (place row n) k t ≡ (x, u)
+    → row_seen f row (n + 1) g s ≡ (with_entry k (place row n) (blocks_of (source_has_y2 (predictor_at f (place row n))) x), u)
 row_given f row n g k s t u x before here =
     row_seen-more f row n g s
     ∙ ap (λ (r : Grid Blocks × State). seen_read f (place row n) r.0 r.1) before
     ∙ seen_given f (place row n) k t u x here
 
-tokens_given : (f : Plan) (row n : ℕ) (g k : Grid Blocks) (s t u : State) (x : Tokens) → row_seen f row n g s ≡ (k, t) → tokens_read f (place row n) k t ≡ (x, u)
+tokens_given : (f : FrameInfo) (row n : ℕ) (g k : Grid Blocks) (s t u : State) (x : Tokens) → row_seen f row n g s ≡ (k, t) → tokens_read f (place row n) k t ≡ (x, u)
     → row_tokens f row g s n ≡ x
 unfolding row_tokens
 tokens_given f row n g k s t u x before here =
     ap (λ (r : Grid Blocks × State). (tokens_read f (place row n) r.0 r.1).0) before ∙ ap (λ (r : Tokens × State). r.0) here
 
-pub token_row_none : (f : Plan) (c : Coded) (row : ℕ) (g : Grid Blocks) (contexts : Contexts) (e : Interval) → StandsFor g (place row 0) contexts → IsTokenRow f c row 0 g contexts e e
+pub token_row_none : (f : FrameInfo) (c : CodedFrame) (row : ℕ) (g : Grid Blocks) (contexts : Contexts) (e : Interval) → AreContextsAt g (place row 0) contexts → IsTokenRow f c row 0 g contexts e e
 unfolding write_all
 token_row_none f c row g contexts e stands = record {
   seen = g;
@@ -106,25 +106,25 @@ token_row_none f c row g contexts e stands = record {
   tokens = λ s t r column never. absurd (omega arith);
 }
 
-pub token_row_next : (f : Plan) (c : Coded) (row n : ℕ) (g : Grid Blocks) (x : Choice) (y2 skip : Bool) (tokens : Tokens) (contexts after : Contexts) {old mid new : Interval}
+pub token_row_next : (f : FrameInfo) (c : CodedFrame) (row n : ℕ) (g : Grid Blocks) (x : Choice) (y2 skip : Bool) (tokens : Tokens) (contexts after : Contexts) {old mid new : Interval}
     → IsPlanOf c f → n < c.macroblocks.columns → row < c.macroblocks.rows → g.columns ≡ c.macroblocks.columns → g.rows ≡ c.macroblocks.rows
-    → entry c.macroblocks (place row n) ≡ Some x → y2 ≡ has_y2 x → skip ≡ x.modes.skip → tokens ≡ x.tokens
+    → entry c.macroblocks (place row n) ≡ Some x → y2 ≡ choice_has_y2 x → skip ≡ x.modes.skip → tokens ≡ x.tokens
     → IsTokenRow f c row n g contexts old mid
-    → ((k : Grid Blocks) → StandsFor k (place row n) contexts → Writes (macroblock c.header.probabilities.coefficients k (place row n) y2 skip) mid new tokens)
-    → ((k : Grid Blocks) → Has k (place row n) → StandsFor k (place row n) contexts → StandsFor (with_entry k (place row n) (blocks_of y2 tokens)) (right (place row n)) after)
+    → ((k : Grid Blocks) → AreContextsAt k (place row n) contexts → Writes (macroblock c.header.probabilities.coefficients k (place row n) y2 skip) mid new tokens)
+    → ((k : Grid Blocks) → Has k (place row n) → AreContextsAt k (place row n) contexts → AreContextsAt (with_entry k (place row n) (blocks_of y2 tokens)) (right (place row n)) after)
     → IsTokenRow f c row (n + 1) g after old new
 token_row_next f c row n g x y2 skip tokens contexts after {old = old} {mid = mid} {new = new} plan column inside wide high is kind skip_is tokens_are made writes stands =
     let p = place row n in
     let there : Has c.macroblocks p = record { column = column; row = inside } in
-    let same : macroblock_at c p ≡ x = ap (λ o. unwrap_or o nothing) is in
-    let y2_is : source_has_y2 (source_at f p) ≡ y2 = plan_y2 c f p plan there ∙ ap has_y2 same ∙ sym kind in
+    let same : coded_choice c p ≡ x = ap (λ o. unwrap_or o nothing) is in
+    let y2_is : source_has_y2 (predictor_at f p) ≡ y2 = plan_y2 c f p plan there ∙ ap choice_has_y2 same ∙ sym kind in
     let reader : macroblock c.header.probabilities.coefficients made.seen p y2 skip ≡ tokens_read f p made.seen =
     (λ i. macroblock c.header.probabilities.coefficients made.seen p (kind i) (skip_is i))
-    ∙ ap (λ (z : Choice). macroblock c.header.probabilities.coefficients made.seen p (has_y2 z) z.modes.skip) (sym same)
+    ∙ ap (λ (z : Choice). macroblock c.header.probabilities.coefficients made.seen p (choice_has_y2 z) z.modes.skip) (sym same)
     ∙ plan_tokens c f p made.seen plan there in
     let w : Writes (tokens_read f p made.seen) mid new tokens = subst (λ r. Writes r mid new tokens) reader (writes made.seen made.stands) in
     let bs = made.written.bools in
-    let seen : Grid Blocks = with_entry made.seen p (blocks_of (source_has_y2 (source_at f p)) tokens) in
+    let seen : Grid Blocks = with_entry made.seen p (blocks_of (source_has_y2 (predictor_at f p)) tokens) in
     record {
       seen = seen;
       columns = made.columns;
@@ -139,7 +139,7 @@ token_row_next f c row n g x y2 skip tokens contexts after {old = old} {mid = mi
       tokens = λ s u r k below. let h = reads-append bs w.bools s u r in elim (cases_lt k n) [
         | inl earlier ↦ made.tokens s h.0 h.1 k earlier
         | inr late ↦ let at_n : n ≡ k = omega arith in
-            subst (λ (j : ℕ). row_tokens f row g s j ≡ (macroblock_at c (place row j)).tokens) at_n
+            subst (λ (j : ℕ). row_tokens f row g s j ≡ (coded_choice c (place row j)).tokens) at_n
             (tokens_given f row n g made.seen s h.0 u tokens (made.written.taken s h.0 h.1) (w.taken h.0 u h.2) ∙ tokens_are ∙ ap (λ (z : Choice). z.tokens) (sym same))
       ];
     }
@@ -150,16 +150,16 @@ abbrev bools_of : List (List (Bool × ℕ)) → ℕ → List (Bool × ℕ)
 bools_of bss i = slice_index_or bss i []
 
 abbrev left : List State → ℕ → State
-left ss i = slice_index_or ss i (start [])
+left ss i = slice_index_or ss i (initial_state [])
 
 none_of : (n i : ℕ) → bools_of (replicate n []) i ≡ []
 none_of zero i = refl
 none_of (suc n) zero = refl
 none_of (suc n) (suc i) = none_of n i
 
-pub frame_none : (f : Plan) (c : Coded) (contexts : Contexts) (es : List Interval) → IsPlanOf c f
-    → ((rows_ : ℕ) → StandsFor (none_seen c.macroblocks.columns rows_) (place 0 0) contexts)
-    → ((i : ℕ) → i < length es → slice_index_or es i all ≡ all) → AreTokenRows f c 0 contexts es
+pub frame_none : (f : FrameInfo) (c : CodedFrame) (contexts : Contexts) (es : List Interval) → IsPlanOf c f
+    → ((rows_ : ℕ) → AreContextsAt (none_seen c.macroblocks.columns rows_) (place 0 0) contexts)
+    → ((i : ℕ) → i < length es → slice_index_or es i whole_interval ≡ whole_interval) → AreTokenRows f c 0 contexts es
 unfolding readings
 frame_none f c contexts es plan stands empty =
     let columns : f.maps.modes.columns ≡ c.macroblocks.columns = plan.size.columns in
@@ -168,15 +168,15 @@ frame_none f c contexts es plan stands empty =
       seen = none_seen f.maps.modes.columns f.maps.modes.rows;
       columns = columns;
       rows = plan.size.rows;
-      stands = subst (λ (n : ℕ). StandsFor (none_seen n f.maps.modes.rows) (place 0 0) contexts) (sym columns) (stands f.maps.modes.rows);
+      stands = subst (λ (n : ℕ). AreContextsAt (none_seen n f.maps.modes.rows) (place 0 0) contexts) (sym columns) (stands f.maps.modes.rows);
       bools = none;
       count = length-replicate (length es) [];
       probabilities = λ i. subst AreProbabilities (sym (none_of (length es) i)) probabilities-none;
-      written = λ i below. subst (λ (bs : List (Bool × ℕ)). HasWritten bs (slice_index_or es i all)) (sym (none_of (length es) i)) (empty i below ∙ written-none);
+      written = λ i below. subst (λ (bs : List (Bool × ℕ)). HasWritten bs (slice_index_or es i whole_interval)) (sym (none_of (length es) i)) (empty i below ∙ written-none);
       taken = λ ss ts reads.
-          let same : ss ≡ ts = ext_get_or (start []) ss ts (reads.0 ∙ sym reads.1)
+          let same : ss ≡ ts = ext_get_or (initial_state []) ss ts (reads.0 ∙ sym reads.1)
           (λ i below. let r : Reads [] (left ss i) (left ts i) = subst (λ (bs : List (Bool × ℕ)). Reads bs (left ss i) (left ts i)) (none_of (length es) i) (reads.2 i (omega (arith, reads.0))) in r) in
-          over-none (token_row f) (none_read f ss) ∙ ap (none_read f) same;
+          over-none (token_row f) (nothing_read f ss) ∙ ap (nothing_read f) same;
       tokens = λ ss ts reads p never within. absurd (omega arith);
     }
 
@@ -203,21 +203,21 @@ parted bss k bs ss us within reads =
         reads.0 ∙ n,
         length-set us k h.0 ∙ reads.1 ∙ n,
         λ i below. elim (cases_eq i k) [
-          | inl same ↦ rw (same, get_or-set_same us k h.0 (start []) (omega (arith, reads.1, n))) h.1
+          | inl same ↦ rw (same, get_or-set_same us k h.0 (initial_state []) (omega (arith, reads.1, n))) h.1
           | inr other ↦
-              rw (get_or-set_other us k i h.0 (start []) other)
+              rw (get_or-set_other us k i h.0 (initial_state []) other)
               (subst (λ (z : List (Bool × ℕ)). Reads z (left ss i) (left us i)) (get_or-set_other bss k i (bools_of bss k ++ bs) [] other) (reads.2 i (omega (arith, n))))
         ],
       ),
       h.2,
     )
 
-readings-more : (f : Plan) (ps : List State) (row : ℕ) → readings f ps (row + 1) ≡ token_row f row (readings f ps row)
+readings-more : (f : FrameInfo) (ps : List State) (row : ℕ) → readings f ps (row + 1) ≡ token_row f row (readings f ps row)
 unfolding readings
-readings-more f ps row = over-more row (token_row f) (none_read f ps)
+readings-more f ps row = over-more row (token_row f) (nothing_read f ps)
 
 -- what a row leaves, where its partition k stood at t
-row_left : (f : Plan) (row n k : ℕ) (g h : Grid Blocks) (ts : List State) (t u : State) → f.maps.modes.columns ≡ n → row % length ts ≡ k → left ts k ≡ t
+row_left : (f : FrameInfo) (row n k : ℕ) (g h : Grid Blocks) (ts : List State) (t u : State) → f.maps.modes.columns ≡ n → row % length ts ≡ k → left ts k ≡ t
     → row_seen f row n g t ≡ (h, u) → token_row f row (record { seen = g; rests = ts }) ≡ record { seen = h; rests = slice_set ts k u }
 row_left f row n k g h ts t u wide at here read =
     let all_of : row_seen f row f.maps.modes.columns g (left ts (row % length ts)) ≡ (h, u) =
@@ -225,17 +225,17 @@ row_left f row n k g h ts t u wide at here read =
     λ i. record { seen = (all_of i).0; rests = slice_set ts (at i) (all_of i).1 }
 
 -- the tokens of a row, by the place
-row_tokens_of : (f : Plan) (ss ts : List State) (p : Place) (k : ℕ) (g : Grid Blocks) (t : State) (x : Tokens) → readings f ss p.row ≡ record { seen = g; rests = ts }
+row_tokens_of : (f : FrameInfo) (ss ts : List State) (p : Place) (k : ℕ) (g : Grid Blocks) (t : State) (x : Tokens) → readings f ss p.row ≡ record { seen = g; rests = ts }
     → p.row % length ts ≡ k → left ts k ≡ t → row_tokens f p.row g t p.column ≡ x → tokens_of f ss p ≡ x
 unfolding tokens_of
 row_tokens_of f ss ts p k g t x before at here read =
-    ap (λ (r : Readings). row_tokens f p.row r.seen (rest_of p.row r) p.column) before
+    ap (λ (r : Readings). row_tokens f p.row r.seen (row_partition p.row r) p.column) before
     ∙ ap (λ (j : ℕ). row_tokens f p.row g (left ts j) p.column) at
     ∙ ap (λ (s : State). row_tokens f p.row g s p.column) here
     ∙ read
 
-pub frame_next : (f : Plan) (c : Coded) (row k : ℕ) (before after : Contexts) (es : List Interval) (e new : Interval) → IsPlanOf c f
-    → row % length es ≡ k → k < length es → e ≡ slice_index_or es k all
+pub frame_next : (f : FrameInfo) (c : CodedFrame) (row k : ℕ) (before after : Contexts) (es : List Interval) (e new : Interval) → IsPlanOf c f
+    → row % length es ≡ k → k < length es → e ≡ slice_index_or es k whole_interval
     → (made : AreTokenRows f c row before es) → IsTokenRow f c row c.macroblocks.columns made.seen after e new
     → AreTokenRows f c (row + 1) after (slice_set es k new)
 frame_next f c row k before after es e new plan at within own made last =
@@ -247,7 +247,7 @@ frame_next f c row k before after es e new plan at within own made last =
       rows = last.rows ∙ made.rows;
       stands =
           let end : c.macroblocks.columns ≡ last.seen.columns = sym (last.columns ∙ made.columns) in
-          row_begins last.seen row after (subst (λ (n : ℕ). StandsFor last.seen (place row n) after) end last.stands);
+          row_begins last.seen row after (subst (λ (n : ℕ). AreContextsAt last.seen (place row n) after) end last.stands);
       bools = slice_set made.bools k (bools_of made.bools k ++ bs);
       count = length-set made.bools k (bools_of made.bools k ++ bs) ∙ made.count ∙ sym (length-set es k new);
       probabilities = λ i. elim (cases_eq i k) [
@@ -256,34 +256,34 @@ frame_next f c row k before after es e new plan at within own made last =
         | inr other ↦ rw (get_or-set_other made.bools k i (bools_of made.bools k ++ bs) [] other) (made.probabilities i)
       ];
       written = λ i below. elim (cases_eq i k) [
-        | inl same ↦ rw (same, get_or-set_same made.bools k (bools_of made.bools k ++ bs) [] inside, get_or-set_same es k new all within)
+        | inl same ↦ rw (same, get_or-set_same made.bools k (bools_of made.bools k ++ bs) [] inside, get_or-set_same es k new whole_interval within)
             (written-more (bools_of made.bools k) bs e new (own ∙ made.written k within) last.written.appended)
-        | inr other ↦ rw (get_or-set_other made.bools k i (bools_of made.bools k ++ bs) [] other, get_or-set_other es k i new all other)
+        | inr other ↦ rw (get_or-set_other made.bools k i (bools_of made.bools k ++ bs) [] other, get_or-set_other es k i new whole_interval other)
             (made.written i (omega (arith, length-set es k new)))
       ];
       taken = λ ss us reads.
           let h = parted made.bools k bs ss us inside reads in
           let ts = slice_set us k h.0 in
           let long : length ts ≡ length es = h.1.1 ∙ made.count in
-          let here : left ts k ≡ h.0 = get_or-set_same us k h.0 (start []) (omega (arith, length-set us k h.0)) in
+          let here : left ts k ≡ h.0 = get_or-set_same us k h.0 (initial_state []) (omega (arith, length-set us k h.0)) in
           let u = left us k in
           readings-more f ss row
           ∙ ap (token_row f row) (made.taken ss ts h.1)
           ∙ row_left f row c.macroblocks.columns k made.seen last.seen ts h.0 u plan.size.columns (ap (λ (n : ℕ). row % n) long ∙ at) here (last.written.taken h.0 u h.2)
-          ∙ ap (λ (z : List State). record { seen = last.seen; rests = z }) (set_back us k h.0 (start []) (omega (arith, length-set us k h.0)));
+          ∙ ap (λ (z : List State). record { seen = last.seen; rests = z }) (set_back us k h.0 (initial_state []) (omega (arith, length-set us k h.0)));
       tokens = λ ss us reads p below column.
           let h = parted made.bools k bs ss us inside reads in
           let ts = slice_set us k h.0 in
           let long : length ts ≡ length es = h.1.1 ∙ made.count in
-          let here : left ts k ≡ h.0 = get_or-set_same us k h.0 (start []) (omega (arith, length-set us k h.0)) in
+          let here : left ts k ≡ h.0 = get_or-set_same us k h.0 (initial_state []) (omega (arith, length-set us k h.0)) in
           elim (cases_lt p.row row) [
             | inl earlier ↦ made.tokens ss ts h.1 p earlier column
             | inr late ↦
                 let same : row ≡ p.row = omega arith in
                 let q : Place = place row p.column in
                 let there : q ≡ p = λ i. record { column = p.column; row = same i } in
-                subst (λ (z : Place). tokens_of f ss z ≡ (macroblock_at c z).tokens) there
-                (row_tokens_of f ss ts q k made.seen h.0 (macroblock_at c q).tokens (made.taken ss ts h.1) (ap (λ (n : ℕ). row % n) long ∙ at) here (last.tokens h.0 (left us k) h.2 p.column column))
+                subst (λ (z : Place). tokens_of f ss z ≡ (coded_choice c z).tokens) there
+                (row_tokens_of f ss ts q k made.seen h.0 (coded_choice c q).tokens (made.taken ss ts h.1) (ap (λ (n : ℕ). row % n) long ∙ at) here (last.tokens h.0 (left us k) h.2 p.column column))
           ];
     }
 
@@ -303,7 +303,7 @@ states_of (suc n) P each =
 
 -- the partitions of bools, by what was written into each
 same_partitions : (bss : List (List (Bool × ℕ))) (es : List Interval) → length bss ≡ length es
-    → ((i : ℕ) → i < length es → HasWritten (slice_index_or bss i []) (slice_index_or es i all)) → map finished es ≡ map partition bss
+    → ((i : ℕ) → i < length es → HasWritten (slice_index_or bss i []) (slice_index_or es i whole_interval)) → map finished es ≡ map partition_of_bools bss
 same_partitions [] [] same written = refl
 same_partitions [] (e ∷ es) same written = absurd (omega arith)
 same_partitions (bs ∷ bss) [] same written = absurd (omega arith)
@@ -312,8 +312,8 @@ same_partitions (bs ∷ bss) (e ∷ es) same written =
     let more = same_partitions bss es (omega arith) (λ i below. written (suc i) (omega arith)) in
     λ i. finished (first i) ∷ more i
 
-pub frame_written : (f : Plan) (c : Coded) (contexts : Contexts) (es : List Interval) (parts : List (List ℕ)) → AreTokenRows f c c.macroblocks.rows contexts es
-    → parts ≡ map finished es → (bools : List (List (Bool × ℕ))) × AreTokens f c bools × (parts ≡ map partition bools)
+pub frame_written : (f : FrameInfo) (c : CodedFrame) (contexts : Contexts) (es : List Interval) (parts : List (List ℕ)) → AreTokenRows f c c.macroblocks.rows contexts es
+    → parts ≡ map finished es → (bools : List (List (Bool × ℕ))) × AreTokens f c bools × (parts ≡ map partition_of_bools bools)
 frame_written f c contexts es parts made are = (
   made.bools,
   record {
@@ -325,27 +325,27 @@ frame_written f c contexts es parts made are = (
 )
 
 -- one of the partitions
-part_is : (bools : List (List (Bool × ℕ))) (parts : List (List ℕ)) (i : ℕ) → parts ≡ map partition bools → i < length bools → slice_index_or parts i [] ≡ partition (bools_of bools i)
-part_is bools parts i are below = ap (λ (ps : List (List ℕ)). slice_index_or ps i []) are ∙ get_or-map partition bools i [] [] below
+part_is : (bools : List (List (Bool × ℕ))) (parts : List (List ℕ)) (i : ℕ) → parts ≡ map partition_of_bools bools → i < length bools → slice_index_or parts i [] ≡ partition_of_bools (bools_of bools i)
+part_is bools parts i are below = ap (λ (ps : List (List ℕ)). slice_index_or ps i []) are ∙ get_or-map partition_of_bools bools i [] [] below
 
-pub parts_read : (f : Plan) (c : Coded) (bools : List (List (Bool × ℕ))) (parts : List (List ℕ)) → AreTokens f c bools → parts ≡ map partition bools
-    → (p : Place) → Has c.macroblocks p → tokens_of f (map start parts) p ≡ (macroblock_at c p).tokens
+pub parts_read : (f : FrameInfo) (c : CodedFrame) (bools : List (List (Bool × ℕ))) (parts : List (List ℕ)) → AreTokens f c bools → parts ≡ map partition_of_bools bools
+    → (p : Place) → Has c.macroblocks p → tokens_of f (map initial_state parts) p ≡ (coded_choice c p).tokens
 parts_read f c bools parts x are p inside =
-    let count : length parts ≡ length bools = ap length are ∙ length-map bools partition in
-    let n : length (map start parts) ≡ length bools = length-map parts start ∙ count in
-    let each : (i : ℕ) → i < length bools → (t : State) × Reads (bools_of bools i) (left (map start parts) i) t =
+    let count : length parts ≡ length bools = ap length are ∙ length-map bools partition_of_bools in
+    let n : length (map initial_state parts) ≡ length bools = length-map parts initial_state ∙ count in
+    let each : (i : ℕ) → i < length bools → (t : State) × Reads (bools_of bools i) (left (map initial_state parts) i) t =
     λ i below.
     let r = reads_back (bools_of bools i) (0 ∷ []) (x.probabilities i) one_zero in
-    let here : left (map start parts) i ≡ start (partition (bools_of bools i)) =
-    get_or-map start parts i [] (start []) (omega arith) ∙ ap start (part_is bools parts i are below) in
+    let here : left (map initial_state parts) i ≡ initial_state (partition_of_bools (bools_of bools i)) =
+    get_or-map initial_state parts i [] (initial_state []) (omega arith) ∙ ap initial_state (part_is bools parts i are below) in
     (r.0, subst (λ (s : State). Reads (bools_of bools i) s r.0) (sym here) r.1) in
-    let ts = states_of (length bools) (λ i t. Reads (bools_of bools i) (left (map start parts) i) t) each in
-    x.tokens (map start parts) ts.0 (n, ts.1, ts.2) p inside
+    let ts = states_of (length bools) (λ i t. Reads (bools_of bools i) (left (map initial_state parts) i) t) each in
+    x.tokens (map initial_state parts) ts.0 (n, ts.1, ts.2) p inside
 
-pub parts_closed : (bools : List (List (Bool × ℕ))) (parts : List (List ℕ)) → parts ≡ map partition bools → (i : ℕ) → i < length parts → IsClosed (slice_index_or parts i [])
+pub parts_closed : (bools : List (List (Bool × ℕ))) (parts : List (List ℕ)) → parts ≡ map partition_of_bools bools → (i : ℕ) → i < length parts → HasFinalZero (slice_index_or parts i [])
 parts_closed bools parts are i below =
-    let within : i < length bools = omega (arith, ap length are, length-map bools partition) in
-    subst IsClosed (sym (part_is bools parts i are within)) (closed_by (partition_of (bools_of bools i)))
+    let within : i < length bools = omega (arith, ap length are, length-map bools partition_of_bools) in
+    subst HasFinalZero (sym (part_is bools parts i are within)) (closed_by (partition_of (bools_of bools i)))
 
 -- ---- one after another
 

@@ -12,7 +12,7 @@ use Rattle.vp_ivf.specs.declared.writer.Writer.{Writer}
 use Rattle.vp_ivf.specs.declared.writer.WriteFault.{WriteFault}
 use Rattle.vp_ivf.specs.declared.writer.WriteFault.TheVariants.{Device}
 use Rattle.vp_ivf.specs.Text.{head_text, packet_text, packets_text, file_text}
-use Rattle.vp_ivf.specs.Writer.{Written, StandsFor, with_packet, IsWrittenAt, IsCountedAt, packet_refusal, refusal_at, finish_at, packets_left, has_failed, device_contents, device_failures}
+use Rattle.vp_ivf.specs.Writer.{Written, IsWriterAfter, with_packet, IsWrittenAt, IsCountedAt, packet_refusal, write_refusal, finish_at, packets_left, has_failed, device_contents, device_failures}
 use Rattle.vp_encode.specs.File.{timed}
 
 -- packets with times from a first one on
@@ -65,7 +65,7 @@ written_front true before now h count xs i w =
 -- ---- one packet
 
 refusal_cases : (failed : Bool) (left : ℕ) → 0 < left
-    → ((failed ≡ true) × (refusal_at failed left ≡ Some Device)) ⊎ ((failed ≡ false) × (refusal_at failed left ≡ None))
+    → ((failed ≡ true) × (write_refusal failed left ≡ Some Device)) ⊎ ((failed ≡ false) × (write_refusal failed left ≡ None))
 refusal_cases true left some = inl (refl, refl)
 refusal_cases false zero some = absurd (omega arith)
 refusal_cases false (suc left) some = inr (refl, refl)
@@ -99,8 +99,8 @@ module _ {W : Type 0} (contents : W → Option (List ℕ)) (before : Option (Lis
   module _ (old new : Writer W) (i : ℕ) (failed : Bool) (time : ℕ) (bytes : List ℕ) (result : Result (Unit {0}) WriteFault)
       (within : i < length xs) (at : time ≡ i) (is : bytes ≡ get_or xs i [])
       (refused : (fault : WriteFault) → packet_refusal old ≡ Some fault → (result ≡ Err fault) × (new ≡ old))
-      (stands : packet_refusal old ≡ None → (h : Written) → StandsFor contents old h → StandsFor contents new (with_packet h (timed (time, bytes)) (not (is_ok result))))
-      (s : StandsFor contents old (so_far i failed)) where
+      (stands : packet_refusal old ≡ None → (h : Written) → IsWriterAfter contents old h → IsWriterAfter contents new (with_packet h (timed (time, bytes)) (not (is_ok result))))
+      (s : IsWriterAfter contents old (so_far i failed)) where
     some_left : 0 < packets_left old
     some_left =
         let left = s.left in
@@ -108,29 +108,29 @@ module _ {W : Type 0} (contents : W → Option (List ℕ)) (before : Option (Lis
         let counted = length-enumerate_from 0 (take i xs) in
         omega (arith, length-take i xs)
 
-    next : (b : Bool) → StandsFor contents new (with_packet (so_far i failed) (timed (time, bytes)) b) → StandsFor contents new (so_far (i + 1) b)
+    next : (b : Bool) → IsWriterAfter contents new (with_packet (so_far i failed) (timed (time, bytes)) b) → IsWriterAfter contents new (so_far (i + 1) b)
     next b h =
-        let P : List Packet → Type 0 = λ ps. StandsFor contents new (history before failures head (length xs) ps b) in
-        let Q : ℕ → Type 0 = λ t. StandsFor contents new (history before failures head (length xs) (timed_from 0 (take i xs) ++ timed (t, bytes) ∷ []) b) in
+        let P : List Packet → Type 0 = λ ps. IsWriterAfter contents new (history before failures head (length xs) ps b) in
+        let Q : ℕ → Type 0 = λ t. IsWriterAfter contents new (history before failures head (length xs) (timed_from 0 (take i xs) ++ timed (t, bytes) ∷ []) b) in
         subst P (sym (timed_more xs i bytes within is)) (subst Q at h)
 
-    pub packet_done : is_err result ≡ false → StandsFor contents new (so_far (i + 1) false)
-    packet_done good = elim (refusal_cases old.failed old.left some_left) as (λ _. StandsFor contents new (so_far (i + 1) false)) [
+    pub packet_done : is_err result ≡ false → IsWriterAfter contents new (so_far (i + 1) false)
+    packet_done good = elim (refusal_cases old.failed old.left some_left) as (λ _. IsWriterAfter contents new (so_far (i + 1) false)) [
       | inl e ↦ absurd (is_good result Device good (refused Device e.1).0)
       | inr e ↦
-          let P : Bool → Type 0 = λ b. StandsFor contents new (with_packet (so_far i failed) (timed (time, bytes)) b) in
+          let P : Bool → Type 0 = λ b. IsWriterAfter contents new (with_packet (so_far i failed) (timed (time, bytes)) b) in
           next false (subst P (ok_stays result good) (stands e.1 (so_far i failed) s))
     ]
 
     -- the writer failed before, or fails now
-    stopped : is_err result ≡ true → (j : ℕ) × StandsFor contents new (so_far j true)
-    stopped bad = elim (refusal_cases old.failed old.left some_left) as (λ _. (j : ℕ) × StandsFor contents new (so_far j true)) [
+    stopped : is_err result ≡ true → (j : ℕ) × IsWriterAfter contents new (so_far j true)
+    stopped bad = elim (refusal_cases old.failed old.left some_left) as (λ _. (j : ℕ) × IsWriterAfter contents new (so_far j true)) [
       | inl e ↦
-          let P : Bool → Type 0 = λ b. StandsFor contents old (so_far i b) in
-          let Q : Writer W → Type 0 = λ w. StandsFor contents w (so_far i true) in
+          let P : Bool → Type 0 = λ b. IsWriterAfter contents old (so_far i b) in
+          let Q : Writer W → Type 0 = λ w. IsWriterAfter contents w (so_far i true) in
           (i, subst Q (sym (refused Device e.1).1) (subst P (sym s.failed ∙ e.0) s))
       | inr e ↦
-          let P : Bool → Type 0 = λ b. StandsFor contents new (with_packet (so_far i failed) (timed (time, bytes)) b) in
+          let P : Bool → Type 0 = λ b. IsWriterAfter contents new (with_packet (so_far i failed) (timed (time, bytes)) b) in
           (i + 1, next true (subst P (not_ok result bad) (stands e.1 (so_far i failed) s)))
     ]
 
@@ -141,7 +141,7 @@ module _ {W : Type 0} (contents : W → Option (List ℕ)) (before : Option (Lis
     packet_failed bad = (stopped bad).1.failures
 
   module _ (file : Writer W) (i : ℕ) (failed : Bool) (fault : WriteFault) (all : length xs ≤ i) (finish : finish_at (has_failed file) (packets_left file) ≡ Err fault)
-      (s : StandsFor contents file (so_far i failed)) where
+      (s : IsWriterAfter contents file (so_far i failed)) where
     fails : failed ≡ true
     fails =
         let left = s.left in

@@ -4,7 +4,7 @@ use Rattle.vp_base.specs.Raster.{Raster, pixel, row_of, with_run}
 use Rattle.vp_base.specs.Block.{IsWhole}
 
 -- Of the plane p so many columns and rows are shown, all but 16 at most, and q is a plane of its size.
-pub record Continues (width height : ℕ) (p q : Raster) : Type 0 where
+pub record ExtendsPlane (width height : ℕ) (p q : Raster) : Type 0 where
   pub some_columns : 0 < width
   pub columns : width ≤ p.width
   pub few : p.width ≤ width + 16

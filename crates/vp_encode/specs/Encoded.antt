@@ -6,12 +6,12 @@ use Rattle.vp_base.specs.declared.limits.Limits.{Limits}
 use Rattle.vp_base.specs.Image.{Image}
 use Rattle.vp_decode.specs.Step.{Shown, step}
 use Rattle.vp_encode.specs.declared.settings.Settings.{Settings}
-use Rattle.vp_encode.specs.Encoder.{Encoding, is_key}
-use Rattle.vp_encode.specs.Chosen.{IsChosen, squared_distance}
+use Rattle.vp_encode.specs.Encoder.{EncoderState, next_is_key}
+use Rattle.vp_encode.specs.Choice.{IsChosen, squared_distance}
 
 -- before the first frame
-abbrev pub fresh : Dim → Settings → Encoding
-fresh dim settings = record { dim = dim; settings = settings; state = None; since = 0 }
+abbrev pub initial_encoder : Dim → Settings → EncoderState
+initial_encoder dim settings = record { dim = dim; settings = settings; state = None; since = 0 }
 
 -- a picture, its packet, and the picture that this is decoded to
 pub record EncodedFrame : Type 0 where
@@ -21,17 +21,17 @@ pub record EncodedFrame : Type 0 where
 
 -- The packet is the choice for the source. Decoding it over what is kept shows the reconstruction, and what it leaves is kept
 -- for the next frame.
-pub record IsEncoded (e : Encoding) (f : EncodedFrame) (next : Encoding) : Type 0 where
+pub record IsEncoded (e : EncoderState) (f : EncodedFrame) (next : EncoderState) : Type 0 where
   pub chosen : IsChosen e f.source f.packet
   pub decoded : (limits : Limits) → e.dim.w * e.dim.h ≤ limits.pixels → step limits e.state f.packet ≡ (next.state, Shown f.recon)
   pub dim : next.dim ≡ e.dim
   pub settings : next.settings ≡ e.settings
-  pub since : next.since ≡ (if is_key e then 1 else e.since + 1)
+  pub since : next.since ≡ (if next_is_key e then 1 else e.since + 1)
 
 -- one frame after another
-abbrev pub AreEncoded : Encoding → List EncodedFrame → Encoding → Type 0
+abbrev pub AreEncoded : EncoderState → List EncodedFrame → EncoderState → Type 0
 AreEncoded e [] last = last ≡ e
-AreEncoded e (f ∷ fs) last = (next : Encoding) × IsEncoded e f next × AreEncoded next fs last
+AreEncoded e (f ∷ fs) last = (next : EncoderState) × IsEncoded e f next × AreEncoded next fs last
 
 -- how far the reconstruction is from the source
 abbrev pub error_of : EncodedFrame → ℕ

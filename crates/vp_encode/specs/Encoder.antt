@@ -14,10 +14,10 @@ use Rattle.vp_head.specs.declared.fields.ReferenceProbabilities.{ReferenceProbab
 use Rattle.vp_head.specs.declared.fields.ReferenceCopy.TheVariants.{Nothing}
 use Rattle.vp_head.specs.Header.{no_references}
 use Rattle.vp_quant.specs.Quant.{factors}
-use Rattle.vp_choose.specs.Frame.{Frame, Search, no_biases}
-use Rattle.vp_decode.specs.Step.{Kept, Basis, key_basis, inter_basis}
+use Rattle.vp_choose.specs.Frame.{FrameSearch, Search, no_biases}
+use Rattle.vp_decode.specs.Step.{DecoderState, FrameContext, key_context, inter_context}
 use Rattle.vp_encode.specs.declared.settings.Settings.{Settings}
-use Rattle.vp_encode.specs.Said.{key_tag}
+use Rattle.vp_encode.specs.PacketContents.{key_tag}
 
 -- settings that an encoder takes
 pub record AreAllowed (s : Settings) : Type 0 where
@@ -30,43 +30,43 @@ pub record AreAllowed (s : Settings) : Type 0 where
 
 -- an encoder between frames: what its packets leave, none before the first frame and after a refusal; and how many frames
 -- came since the last key frame began, with that one
-pub record Encoding : Type 0 where
+pub record EncoderState : Type 0 where
   pub dim : Dim
   pub settings : Settings
-  pub state : Option Kept
+  pub state : Option DecoderState
   pub since : ℕ
 
 -- ---- the kind of the next frame
 
 -- what it is told over: nothing for a key frame, which comes where no state stands and after every `key_every` frames
-abbrev pub kept_for : Encoding → Option Kept
+abbrev pub kept_for : EncoderState → Option DecoderState
 kept_for e = if e.since == e.settings.key_every then None else e.state
 
-abbrev pub is_key : Encoding → Bool
-is_key e = is_none (kept_for e)
+abbrev pub next_is_key : EncoderState → Bool
+next_is_key e = is_none (kept_for e)
 
 -- An inter frame refreshes golden where its distance from the key frame is a multiple of `golden_every`.
-abbrev pub refreshes_golden : Encoding → Bool
+abbrev pub refreshes_golden : EncoderState → Bool
 refreshes_golden e = not (e.settings.golden_every == 0) && e.since % e.settings.golden_every == 0
 
 -- ---- what it is decoded over
 
-abbrev pub basis_over : Dim → Option Kept → Basis
-basis_over dim None = key_basis dim
-basis_over dim (Some k) = inter_basis k
+abbrev pub basis_over : Dim → Option DecoderState → FrameContext
+basis_over dim None = key_context dim
+basis_over dim (Some k) = inter_context k
 
-abbrev pub basis_for : Encoding → Basis
+abbrev pub basis_for : EncoderState → FrameContext
 basis_for e = basis_over e.dim (kept_for e)
 
-abbrev pub tag_key : Dim → Option Kept → Option KeyTag
+abbrev pub tag_key : Dim → Option DecoderState → Option KeyTag
 tag_key dim None = Some (key_tag dim)
 tag_key dim (Some k) = None
 
 -- ---- its header (RFC 6386, chapter 9)
 
 -- no segments
-abbrev pub segmentation : Saved → Segmentation
-segmentation saved = record {
+abbrev pub no_segmentation : Saved → Segmentation
+no_segmentation saved = record {
   enabled = false;
   update_map = false;
   values = saved.segments;
@@ -99,7 +99,7 @@ header_over saved key golden s = record {
   key = key;
   color_space = false;
   clamping_type = false;
-  segmentation = segmentation saved;
+  segmentation = no_segmentation saved;
   filter = record { simple = s.simple; level = s.level; sharpness = s.sharpness };
   deltas_enabled = false;
   deltas = saved.deltas;
@@ -113,8 +113,8 @@ header_over saved key golden s = record {
   references = if key then no_references else even;
 }
 
-abbrev pub header_of : Encoding → Header
-header_of e = header_over (basis_for e).saved (is_key e) (refreshes_golden e) e.settings
+abbrev pub header_of : EncoderState → Header
+header_of e = header_over (basis_for e).saved (next_is_key e) (refreshes_golden e) e.settings
 
 -- ---- what its macroblocks are chosen by
 
@@ -133,7 +133,7 @@ continued p = record p {
 }
 
 -- A key frame isn't searched. Golden is searched where it is ever refreshed.
-abbrev pub search_in : Settings → Option Kept → Option Search
+abbrev pub search_in : Settings → Option DecoderState → Option Search
 search_in s None = None
 search_in s (Some k) = Some (record {
   references = k.references;
@@ -142,12 +142,12 @@ search_in s (Some k) = Some (record {
   subpel = s.subpel;
 })
 
-abbrev pub frame_over : Option Kept → Settings → Image → Frame
+abbrev pub frame_over : Option DecoderState → Settings → Image → FrameSearch
 frame_over kept s source = record {
   source = continued source;
   factors = factors s.qi (quantiser s.qi);
   search = search_in s kept;
 }
 
-abbrev pub frame_for : Encoding → Image → Frame
+abbrev pub frame_for : EncoderState → Image → FrameSearch
 frame_for e source = frame_over (kept_for e) e.settings source

@@ -17,8 +17,8 @@ use Rattle.vp_encode.specs.declared.settings.Settings.{Settings}
 use Rattle.vp_encode.specs.declared.report.EncodeReport.{EncodeReport}
 use Rattle.vp_encode.specs.declared.report.EncodeAllFault.{EncodeAllFault}
 use Rattle.vp_encode.specs.declared.report.EncodeAllFault.TheVariants as fault
-use Rattle.vp_encode.specs.Encoder.{Encoding, AreAllowed}
-use Rattle.vp_encode.specs.Encoded.{EncodedFrame, IsEncoded, AreEncoded, fresh, errors_of}
+use Rattle.vp_encode.specs.Encoder.{EncoderState, AreAllowed}
+use Rattle.vp_encode.specs.Encoded.{EncodedFrame, IsEncoded, AreEncoded, initial_encoder, errors_of}
 use Rattle.vp_encode.specs.Pictures.{BeginWith}
 use Rattle.vp_encode.specs.TooLong.{IsTooLong}
 
@@ -27,7 +27,7 @@ use Rattle.vp_encode.specs.TooLong.{IsTooLong}
 pub record Work : Type 0 where
   pub head : Head
   pub frames : List EncodedFrame
-  pub encoder : Encoding
+  pub encoder : EncoderState
   pub rest : List ℕ
 
 abbrev pub source_of : EncodedFrame → Image
@@ -42,13 +42,13 @@ pub record IsDone (limits : Limits) (settings : Settings) (file : List ℕ) (w :
   pub dim : Dim
   pub width : dim.w ≡ w.head.w
   pub height : dim.h ≡ w.head.h
-  pub encoded : AreEncoded (fresh dim settings) w.frames w.encoder
+  pub encoded : AreEncoded (initial_encoder dim settings) w.frames w.encoder
   pub few : length w.frames ≤ limits.packets
   pub small : All (λ f. length f.packet ≤ limits.packet_bytes) w.frames
 
 -- the pictures are all of the file
-abbrev pub IsWhole : Work → Type 0
-IsWhole w = next_of w.head.w w.head.h w.rest ≡ Ok None
+abbrev pub HasAllPictures : Work → Type 0
+HasAllPictures w = next_of w.head.w w.head.h w.rest ≡ Ok None
 
 -- nothing is left behind one more picture
 abbrev pub HasOneMore : Work → Image → Type 0
@@ -66,28 +66,28 @@ ivf_text head packets =
 abbrev pub packet_of : EncodedFrame → List ℕ
 packet_of f = f.packet
 
-abbrev pub text_of : Work → List ℕ
-text_of w = ivf_text w.head (map packet_of w.frames)
+abbrev pub encoded_file : Work → List ℕ
+encoded_file w = ivf_text w.head (map packet_of w.frames)
 
 -- ---- the ends
 
 -- what a fault of the source is for the whole work
-abbrev pub fault_by : SourceFault → EncodeAllFault
-fault_by source.Magic = fault.Magic
-fault_by source.Size = fault.Size
-fault_by source.Colour = fault.Colour
-fault_by source.Interlaced = fault.Interlaced
-fault_by source.Torn = fault.Torn
-fault_by source.Device = fault.Device
-fault_by source.Memory = fault.Memory
+abbrev pub encode_fault_of : SourceFault → EncodeAllFault
+encode_fault_of source.Magic = fault.Magic
+encode_fault_of source.Size = fault.Size
+encode_fault_of source.Colour = fault.Colour
+encode_fault_of source.Interlaced = fault.Interlaced
+encode_fault_of source.Torn = fault.Torn
+encode_fault_of source.Device = fault.Device
+encode_fault_of source.Memory = fault.Memory
 
-pub record IsReported (limits : Limits) (settings : Settings) (report : EncodeReport) (file : List ℕ) (before after : Option (List ℕ)) : Type 0 where
+pub record IsEncodeReported (limits : Limits) (settings : Settings) (report : EncodeReport) (file : List ℕ) (before after : Option (List ℕ)) : Type 0 where
   pub work : Work
   pub done : IsDone limits settings file work
-  pub whole : IsWhole work
+  pub whole : HasAllPictures work
   pub frames : report.frames ≡ length work.frames
   pub error : report.error ≡ errors_of work.frames
-  pub writes : Appends before after (text_of work)
+  pub writes : Appends before after (encoded_file work)
 
 -- so many pictures were encoded
 abbrev pub HasDone : ℕ → Limits → Settings → List ℕ → Work → Type 0
@@ -117,23 +117,23 @@ IsEndedBehind pictures limits settings fault.TooMany file before after =
 IsEndedBehind pictures limits settings fault.TooLong file before after =
     (w : Work) × (p : Image) × HasDone pictures limits settings file w × HasOneMore w p × (length w.frames < limits.packets) × IsTooLong w.encoder p
 IsEndedBehind pictures limits settings fault.PacketTooLarge file before after =
-    (w : Work) × (f : EncodedFrame) × (next : Encoding) × HasDone pictures limits settings file w × HasOneMore w f.source
+    (w : Work) × (f : EncodedFrame) × (next : EncoderState) × HasDone pictures limits settings file w × HasOneMore w f.source
     × (length w.frames < limits.packets) × IsEncoded w.encoder f next × (limits.packet_bytes < length f.packet)
 IsEndedBehind pictures limits settings fault.Device file before after =
     ((after ≡ before) × IsUnderWay pictures limits settings file)
-    ⊎ ((w : Work) × HasDone pictures limits settings file w × IsWhole w × AppendsFront before after (text_of w))
+    ⊎ ((w : Work) × HasDone pictures limits settings file w × HasAllPictures w × AppendsFront before after (encoded_file w))
 IsEndedBehind pictures limits settings fault.Memory file before after = IsUnderWay pictures limits settings file
 
-abbrev pub IsEndedBy : Limits → Settings → EncodeAllFault → List ℕ → Option (List ℕ) → Option (List ℕ) → Type 0
-IsEndedBy limits settings fault file before after = (pictures : ℕ) × IsEndedBehind pictures limits settings fault file before after
+abbrev pub IsEncodeEndedBy : Limits → Settings → EncodeAllFault → List ℕ → Option (List ℕ) → Option (List ℕ) → Type 0
+IsEncodeEndedBy limits settings fault file before after = (pictures : ℕ) × IsEndedBehind pictures limits settings fault file before after
 
-abbrev pub IsAnswerFor : Limits → Settings → Result EncodeReport EncodeAllFault → List ℕ → Option (List ℕ) → Option (List ℕ) → Type 0
-IsAnswerFor limits settings (Ok report) file before after = IsReported limits settings report file before after
-IsAnswerFor limits settings (Err fault) file before after = IsEndedBy limits settings fault file before after
+abbrev pub IsEncodeAnswerFor : Limits → Settings → Result EncodeReport EncodeAllFault → List ℕ → Option (List ℕ) → Option (List ℕ) → Type 0
+IsEncodeAnswerFor limits settings (Ok report) file before after = IsEncodeReported limits settings report file before after
+IsEncodeAnswerFor limits settings (Err fault) file before after = IsEncodeEndedBy limits settings fault file before after
 
 -- the same, where it is known behind how many pictures
 abbrev pub IsAnswerBehind : ℕ → Limits → Settings → Result EncodeReport EncodeAllFault → List ℕ → Option (List ℕ) → Option (List ℕ) → Type 0
-IsAnswerBehind pictures limits settings (Ok report) file before after = IsReported limits settings report file before after × (report.frames ≡ pictures)
+IsAnswerBehind pictures limits settings (Ok report) file before after = IsEncodeReported limits settings report file before after × (report.frames ≡ pictures)
 IsAnswerBehind pictures limits settings (Err fault) file before after = IsEndedBehind pictures limits settings fault file before after
 
 -- ---- the whole work, from a reader to a writer
@@ -143,7 +143,7 @@ pub record IsAnswerOver {R W : Type 0} (remaining : R → Option (List ℕ)) (co
     (result : Result EncodeReport EncodeAllFault) (reader reader' : Counted R) (writer writer' : Counted W) : Type 0 where
   pub file : List ℕ
   pub consumed : Consumes (counted_remaining remaining reader) (counted_remaining remaining reader') file
-  pub answer : IsAnswerFor limits settings result file (counted_contents contents writer) (counted_contents contents writer')
+  pub answer : IsEncodeAnswerFor limits settings result file (counted_contents contents writer) (counted_contents contents writer')
   pub unwritten : (f : EncodeAllFault) → result ≡ Err f → f ≢ fault.Device → writer' ≡ writer
   -- A report, and `Torn`, come only at the reader's end.
   pub end : OnOk result (IsAtEnd (counted_remaining remaining reader'))

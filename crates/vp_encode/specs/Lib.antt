@@ -1,8 +1,8 @@
-pub mod Coded
-pub mod Said
+pub mod CodedFrame
+pub mod PacketContents
 pub mod Encoder
-pub mod Chosen
-pub mod Choosing
+pub mod Choice
+pub mod FrameChoices
 pub mod Continued
 pub mod Written
 pub mod Faults
@@ -12,6 +12,6 @@ pub mod Encoded
 pub mod Pictures
 pub mod File
 pub mod Names
-pub mod Run
+pub mod EncodeProgress
 pub mod Playing
 pub mod Calls

@@ -3,15 +3,15 @@ use Rattle.std.specs.Prelude.{ℕ, List, codes}
 use Rattle.vp_encode.specs.declared.report.EncodeAllFault.{EncodeAllFault}
 use Rattle.vp_encode.specs.declared.report.EncodeAllFault.TheVariants as fault
 
-abbrev pub name_of : EncodeAllFault → List ℕ
-name_of fault.Magic = codes "Magic"
-name_of fault.Size = codes "Size"
-name_of fault.Colour = codes "Colour"
-name_of fault.Interlaced = codes "Interlaced"
-name_of fault.Torn = codes "Torn"
-name_of fault.Settings = codes "Settings"
-name_of fault.TooMany = codes "TooMany"
-name_of fault.TooLong = codes "TooLong"
-name_of fault.PacketTooLarge = codes "PacketTooLarge"
-name_of fault.Device = codes "Device"
-name_of fault.Memory = codes "Memory"
+abbrev pub encode_fault_name : EncodeAllFault → List ℕ
+encode_fault_name fault.Magic = codes "Magic"
+encode_fault_name fault.Size = codes "Size"
+encode_fault_name fault.Colour = codes "Colour"
+encode_fault_name fault.Interlaced = codes "Interlaced"
+encode_fault_name fault.Torn = codes "Torn"
+encode_fault_name fault.Settings = codes "Settings"
+encode_fault_name fault.TooMany = codes "TooMany"
+encode_fault_name fault.TooLong = codes "TooLong"
+encode_fault_name fault.PacketTooLarge = codes "PacketTooLarge"
+encode_fault_name fault.Device = codes "Device"
+encode_fault_name fault.Memory = codes "Memory"

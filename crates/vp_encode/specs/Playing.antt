@@ -3,21 +3,21 @@ use Rattle.std.specs.Prelude.{◌≡◌, ◌≤◌, ◌*◌, ℕ, List, [], ◌�
 use Rattle.std.specs.List.{All}
 use Rattle.vp_base.specs.declared.limits.Limits.{Limits}
 use Rattle.vp_ivf.specs.declared.packet.Packet.{Packet}
-use Rattle.vp_ivf.specs.Ivf.{Contents, read}
+use Rattle.vp_ivf.specs.Ivf.{Contents, read_file}
 use Rattle.vp_ivf.specs.Reader.{finish_answer}
-use Rattle.vp_decode.specs.Step.{Kept, Answer, Shown, step}
+use Rattle.vp_decode.specs.Step.{DecoderState, Answer, Shown, step}
 use Rattle.vp_encode.specs.declared.settings.Settings.{Settings}
 use Rattle.vp_encode.specs.Encoded.{EncodedFrame}
-use Rattle.vp_encode.specs.File.{Work, IsDone, text_of}
+use Rattle.vp_encode.specs.File.{Work, IsDone, encoded_file}
 
 -- the answers for packets, one after another, from a state (RFC 6386, chapter 5)
-abbrev pub answers_to : Limits → Option Kept → List (List ℕ) → List Answer
-answers_to limits state [] = []
-answers_to limits state (p ∷ ps) = (step limits state p).1 ∷ answers_to limits (step limits state p).0 ps
+abbrev pub answers_from_state : Limits → Option DecoderState → List (List ℕ) → List Answer
+answers_from_state limits state [] = []
+answers_from_state limits state (p ∷ ps) = (step limits state p).1 ∷ answers_from_state limits (step limits state p).0 ps
 
 -- what was written, read again
-abbrev pub written : Limits → Work → Contents
-written limits w = read limits.packet_bytes limits.packets (text_of w)
+abbrev pub reread_output : Limits → Work → Contents
+reread_output limits w = read_file limits.packet_bytes limits.packets (encoded_file w)
 
 -- its size, its packets and their number are allowed
 pub record FitsLimits (limits : Limits) (w : Work) : Type 0 where
@@ -33,8 +33,8 @@ shown f = Shown f.recon
 
 -- It ends well, and its packets, the first one decoded from no state, show the reconstructions: one for each picture, in order.
 pub record PlaysBack (limits : Limits) (w : Work) : Type 0 where
-  pub ends : finish_answer (written limits w) ≡ Ok tt
-  pub pictures : answers_to limits None (map bytes_of (written limits w).packets) ≡ map shown w.frames
+  pub ends : finish_answer (reread_output limits w) ≡ Ok tt
+  pub pictures : answers_from_state limits None (map bytes_of (reread_output limits w).packets) ≡ map shown w.frames
 
 -- so does each file, under all limits that it fits
 abbrev pub EncodedFilesPlayBack : Type 0

@@ -2,23 +2,23 @@
 use Rattle.std.specs.Prelude.{◌≡◌, Option}
 use Rattle.vp_base.specs.declared.limits.Dim.{Dim}
 use Rattle.vp_base.specs.Image.{Image}
-use Rattle.vp_decode.specs.Step.{Kept, maps_before}
-use Rattle.vp_encode.specs.declared.coded.Coded.{Coded}
-use Rattle.vp_encode.specs.Encoder.{Encoding, kept_for, basis_over, tag_key, header_of, frame_for}
-use Rattle.vp_encode.specs.Choosing.{AreChosen}
+use Rattle.vp_decode.specs.Step.{DecoderState, maps_before}
+use Rattle.vp_encode.specs.declared.coded_frame.CodedFrame.{CodedFrame}
+use Rattle.vp_encode.specs.Encoder.{EncoderState, kept_for, basis_over, tag_key, header_of, frame_for}
+use Rattle.vp_encode.specs.FrameChoices.{AreChosen}
 use Rattle.vp_encode.specs.Written.{HasLongPartition}
 
 -- the frame that is chosen for a source
-pub record IsFrameFor (e : Encoding) (source : Image) (c : Coded) : Type 0 where
+pub record IsFrameFor (e : EncoderState) (source : Image) (c : CodedFrame) : Type 0 where
   pub header : c.header ≡ header_of e
   pub chosen : AreChosen (frame_for e source) c.macroblocks
 
 -- A frame that is told over what is kept has a partition that is too long.
-abbrev pub IsTooLongOver : Dim → Option Kept → Coded → Type 0
+abbrev pub IsTooLongOver : Dim → Option DecoderState → CodedFrame → Type 0
 IsTooLongOver dim kept c = HasLongPartition (tag_key dim kept) (basis_over dim kept).saved (maps_before (basis_over dim kept).modes) c
 
 -- The frame that is chosen for the source has one.
-pub record IsTooLong (e : Encoding) (source : Image) : Type 0 where
-  pub coded : Coded
+pub record IsTooLong (e : EncoderState) (source : Image) : Type 0 where
+  pub coded : CodedFrame
   pub is : IsFrameFor e source coded
   pub long : IsTooLongOver e.dim (kept_for e) coded

@@ -1,9 +1,9 @@
 -- What the bytes of a packet are, and, inside the crate, how far writing has come (RFC 6386, chapters 9 and 19).
 use Rattle.std.specs.Prelude.{◌≡◌, ◌≢◌, ◌<◌, ◌≤◌, ◌⊎◌, ◌*◌, ◌^◌, ◌+◌, ◌-◌, ◌/◌, ◌%◌, ℕ, Bool, true, false, List, [], ◌∷◌, ◌++◌, length, map, slice_index_or, Option, Some, None, Ok}
-use Rattle.vp_bool.specs.Bools.{State, start}
+use Rattle.vp_bool.specs.Bools.{State, initial_state}
 use Rattle.vp_bool.specs.Reader.{Reader, ◌>>=◌, give, Reads}
-use Rattle.vp_bool.specs.Intervals.{Interval, all, spelled}
-use Rattle.vp_bool.specs.Writing.{write_all, AreProbabilities, HasWritten, Takes, Writes}
+use Rattle.vp_bool.specs.Intervals.{Interval, whole_interval, interval_bytes}
+use Rattle.vp_bool.specs.Writing.{write_all, AreProbabilities, HasWritten, TakesBools, Writes}
 use Rattle.vp_base.specs.declared.place.Place.{Place}
 use Rattle.vp_base.specs.Grid.{Grid, Has, at, all as everywhere}
 use Rattle.vp_head.specs.declared.fields.Tag.{Tag}
@@ -16,137 +16,137 @@ use Rattle.vp_head.specs.Spelled.{kept_before}
 use Rattle.vp_head.specs.Reference.{is_intra}
 use Rattle.vp_modes.specs.Entry.{Modes, plain}
 use Rattle.vp_motion.specs.Map.{intra}
-use Rattle.vp_tokens.specs.Blocks.{Blocks, unread}
-use Rattle.vp_tokens.specs.Contexts.{Contexts, StandsFor}
+use Rattle.vp_tokens.specs.Blocks.{Blocks, no_blocks_read}
+use Rattle.vp_tokens.specs.Contexts.{Contexts, AreContextsAt}
 use Rattle.vp_tokens.specs.Partitions.{cut_of}
-use Rattle.vp_decode.specs.Maps.{Maps, modes_in, motion_in, place, maps_read}
-use Rattle.vp_decode.specs.Frame.{Plan, row_seen, row_tokens, readings, tokens_of}
+use Rattle.vp_decode.specs.MacroblockInfo.{MacroblockInfo, modes_in, motion_in, place, maps_read}
+use Rattle.vp_decode.specs.Frame.{FrameInfo, row_seen, row_tokens, readings, tokens_of}
 use Rattle.vp_decode.specs.Step.{count_of}
 use Rattle.vp_choose.specs.declared.frame.Choice.{Choice}
-use Rattle.vp_encode.specs.declared.coded.Coded.{Coded}
-use Rattle.vp_encode.specs.Coded.{macroblock_at, entry_of}
+use Rattle.vp_encode.specs.declared.coded_frame.CodedFrame.{CodedFrame}
+use Rattle.vp_encode.specs.CodedFrame.{coded_choice, saved_motion}
 
 -- ---- modes and motion
 
 -- maps of the frame's size
-pub record AreOf (c : Coded) (m : Maps) : Type 0 where
+pub record AreOf (c : CodedFrame) (m : MacroblockInfo) : Type 0 where
   pub columns : m.modes.columns ≡ c.macroblocks.columns
   pub rows : m.modes.rows ≡ c.macroblocks.rows
   pub motion_columns : m.motion.columns ≡ c.macroblocks.columns
   pub motion_rows : m.motion.rows ≡ c.macroblocks.rows
 
 -- what the maps have of the macroblock at p
-pub record Have (c : Coded) (p : Place) (m : Maps) : Type 0 where
-  pub modes : modes_in m p ≡ (macroblock_at c p).modes
-  pub motion : motion_in m p ≡ entry_of (macroblock_at c p)
+pub record Have (c : CodedFrame) (p : Place) (m : MacroblockInfo) : Type 0 where
+  pub modes : modes_in m p ≡ (coded_choice c p).modes
+  pub motion : motion_in m p ≡ saved_motion (coded_choice c p)
 
 -- at p the maps are alike
-pub record AreAlike (p : Place) (m n : Maps) : Type 0 where
+pub record AreMapsEqualAt (p : Place) (m n : MacroblockInfo) : Type 0 where
   pub modes : modes_in m p ≡ modes_in n p
   pub motion : motion_in m p ≡ motion_in n p
 
 -- at p the maps have what x is told to be, and elsewhere they are as before
-pub record IsTold (p : Place) (x : Choice) (old new : Maps) : Type 0 where
+pub record AreMapsUpdated (p : Place) (x : Choice) (old new : MacroblockInfo) : Type 0 where
   pub columns : new.modes.columns ≡ old.modes.columns
   pub rows : new.modes.rows ≡ old.modes.rows
   pub motion_columns : new.motion.columns ≡ old.motion.columns
   pub motion_rows : new.motion.rows ≡ old.motion.rows
   pub modes : modes_in new p ≡ x.modes
   pub unmoved : is_intra x.modes.reference ≡ true → motion_in new p ≡ motion_in old p
-  pub moved : is_intra x.modes.reference ≡ false → motion_in new p ≡ entry_of x
-  pub elsewhere : (q : Place) → q ≢ p → AreAlike q new old
+  pub moved : is_intra x.modes.reference ≡ false → motion_in new p ≡ saved_motion x
+  pub elsewhere : (q : Place) → q ≢ p → AreMapsEqualAt q new old
 
 -- the rows before one are told; from it on the maps are as before, without motion
-pub record AreRowsTold (c : Coded) (before : Grid Modes) (row : ℕ) (m : Maps) : Type 0 where
+pub record AreRowsTold (c : CodedFrame) (before : Grid Modes) (row : ℕ) (m : MacroblockInfo) : Type 0 where
   pub size : AreOf c m
   pub told : (p : Place) → p.row < row → p.column < c.macroblocks.columns → Have c p m
   pub ahead : (p : Place) → row ≤ p.row → modes_in m p ≡ at plain before p
   pub unmoved : (p : Place) → row ≤ p.row → motion_in m p ≡ intra
 
 -- the first n macroblocks of a row are told, and all others are as they were
-pub record IsRowTold (c : Coded) (row n : ℕ) (old new : Maps) : Type 0 where
+pub record IsRowTold (c : CodedFrame) (row n : ℕ) (old new : MacroblockInfo) : Type 0 where
   pub size : AreOf c new
   pub told : (column : ℕ) → column < n → Have c (place row column) new
-  pub others : (p : Place) → (p.row ≡ row → n ≤ p.column) → AreAlike p new old
+  pub others : (p : Place) → (p.row ≡ row → n ≤ p.column) → AreMapsEqualAt p new old
 
 -- ---- the first partition
 
 -- The bytes of all that was written, and a byte of 0 behind them.
 abbrev pub finished : Interval → List ℕ
-finished e = spelled e ++ 0 ∷ []
+finished e = interval_bytes e ++ 0 ∷ []
 
 -- the partition of these bools
-abbrev pub partition : List (Bool × ℕ) → List ℕ
-partition bools = finished (write_all bools all)
+abbrev pub partition_of_bools : List (Bool × ℕ) → List ℕ
+partition_of_bools bools = finished (write_all bools whole_interval)
 
 -- how the first partition is read: the header, and then the modes and the motion
-unfoldable pub first_read : Saved → Tag → Maps → Reader ((Header × Saved) × Maps)
+unfoldable pub first_read : Saved → Tag → MacroblockInfo → Reader ((Header × Saved) × MacroblockInfo)
 first_read kept tag before = do
   head ← header kept tag
   maps ← maps_read head.0 before
   give (head, maps)
 
 -- The partition of bools of which the header is read, and then these modes and this motion: of all of them, and of no others.
-pub record IsFirst (kept : Saved) (tag : Tag) (before : Maps) (c : Coded) (bytes : List ℕ) : Type 0 where
+pub record IsFirst (kept : Saved) (tag : Tag) (before : MacroblockInfo) (c : CodedFrame) (bytes : List ℕ) : Type 0 where
   pub bools : List (Bool × ℕ)
   pub probabilities : AreProbabilities bools
-  pub bytes_are : bytes ≡ partition bools
-  pub maps : Maps
-  pub taken : Takes bools (first_read kept tag before) (give ((c.header, kept_after (kept_before kept tag) c.header), maps))
+  pub bytes_are : bytes ≡ partition_of_bools bools
+  pub maps : MacroblockInfo
+  pub taken : TakesBools bools (first_read kept tag before) (give ((c.header, kept_after (kept_before kept tag) c.header), maps))
   pub size : AreOf c maps
   pub told : (p : Place) → Has c.macroblocks p → Have c p maps
 
 -- ---- the token partitions
 
 -- a plan of the frame: it has the frame's header, modes and motion, and without references all is intra
-pub record IsPlanOf (c : Coded) (f : Plan) : Type 0 where
+pub record IsPlanOf (c : CodedFrame) (f : FrameInfo) : Type 0 where
   pub header : f.header ≡ c.header
   pub size : AreOf c f.maps
   pub told : (p : Place) → Has c.macroblocks p → Have c p f.maps
-  pub own : f.references ≡ None → (p : Place) → Has c.macroblocks p → is_intra (macroblock_at c p).modes.reference ≡ true
+  pub own : f.references ≡ None → (p : Place) → Has c.macroblocks p → is_intra (coded_choice c p).modes.reference ≡ true
 
 -- before all macroblocks
 abbrev pub none_seen : ℕ → ℕ → Grid Blocks
-none_seen columns rows = everywhere columns rows unread
+none_seen columns rows = everywhere columns rows no_blocks_read
 
 -- what was written of the first n macroblocks of a row, where g was seen before
-pub record IsTokenRow (f : Plan) (c : Coded) (row n : ℕ) (g : Grid Blocks) (contexts : Contexts) (old new : Interval) : Type 0 where
+pub record IsTokenRow (f : FrameInfo) (c : CodedFrame) (row n : ℕ) (g : Grid Blocks) (contexts : Contexts) (old new : Interval) : Type 0 where
   pub seen : Grid Blocks
   pub columns : seen.columns ≡ g.columns
   pub rows : seen.rows ≡ g.rows
-  pub stands : StandsFor seen (place row n) contexts
+  pub stands : AreContextsAt seen (place row n) contexts
   pub written : Writes (row_seen f row n g) old new seen
-  pub tokens : (s t : State) → Reads written.bools s t → (column : ℕ) → column < n → row_tokens f row g s column ≡ (macroblock_at c (place row column)).tokens
+  pub tokens : (s t : State) → Reads written.bools s t → (column : ℕ) → column < n → row_tokens f row g s column ≡ (coded_choice c (place row column)).tokens
 
 -- the bools bss, one list for each partition, are read from the states ss, and ts are left
 abbrev pub AllRead : List (List (Bool × ℕ)) → List State → List State → Type 0
 AllRead bss ss ts = (length ss ≡ length bss) × (length ts ≡ length bss)
-    × ((i : ℕ) → i < length bss → Reads (slice_index_or bss i []) (slice_index_or ss i (start [])) (slice_index_or ts i (start [])))
+    × ((i : ℕ) → i < length bss → Reads (slice_index_or bss i []) (slice_index_or ss i (initial_state [])) (slice_index_or ts i (initial_state [])))
 
 -- what was written of the rows before one, each into the partition of its row
-pub record AreTokenRows (f : Plan) (c : Coded) (row : ℕ) (contexts : Contexts) (es : List Interval) : Type 0 where
+pub record AreTokenRows (f : FrameInfo) (c : CodedFrame) (row : ℕ) (contexts : Contexts) (es : List Interval) : Type 0 where
   pub seen : Grid Blocks
   pub columns : seen.columns ≡ c.macroblocks.columns
   pub rows : seen.rows ≡ c.macroblocks.rows
-  pub stands : StandsFor seen (place row 0) contexts
+  pub stands : AreContextsAt seen (place row 0) contexts
   pub bools : List (List (Bool × ℕ))
   pub count : length bools ≡ length es
   pub probabilities : (i : ℕ) → AreProbabilities (slice_index_or bools i [])
-  pub written : (i : ℕ) → i < length es → HasWritten (slice_index_or bools i []) (slice_index_or es i all)
+  pub written : (i : ℕ) → i < length es → HasWritten (slice_index_or bools i []) (slice_index_or es i whole_interval)
   pub taken : (ss ts : List State) → AllRead bools ss ts → readings f ss row ≡ record { seen = seen; rests = ts }
   pub tokens : (ss ts : List State) → AllRead bools ss ts
-      → (p : Place) → p.row < row → p.column < c.macroblocks.columns → tokens_of f ss p ≡ (macroblock_at c p).tokens
+      → (p : Place) → p.row < row → p.column < c.macroblocks.columns → tokens_of f ss p ≡ (coded_choice c p).tokens
 
 -- Of these bools, a list for each partition, all tokens of the frame are read, and no bools are left.
-pub record AreTokens (f : Plan) (c : Coded) (bools : List (List (Bool × ℕ))) : Type 0 where
+pub record AreTokens (f : FrameInfo) (c : CodedFrame) (bools : List (List (Bool × ℕ))) : Type 0 where
   pub probabilities : (i : ℕ) → AreProbabilities (slice_index_or bools i [])
-  pub tokens : (ss ts : List State) → AllRead bools ss ts → (p : Place) → Has c.macroblocks p → tokens_of f ss p ≡ (macroblock_at c p).tokens
+  pub tokens : (ss ts : List State) → AllRead bools ss ts → (p : Place) → Has c.macroblocks p → tokens_of f ss p ≡ (coded_choice c p).tokens
   pub rests : (ss ts : List State) → AllRead bools ss ts → (readings f ss c.macroblocks.rows).rests ≡ ts
 
 -- the token partitions of the frame
-pub record AreTokenPartitions (c : Coded) (parts : List (List ℕ)) : Type 0 where
+pub record AreTokenPartitions (c : CodedFrame) (parts : List (List ℕ)) : Type 0 where
   pub count : length parts ≡ count_of c.header.log2_partitions
-  pub each : (f : Plan) → IsPlanOf c f → (bools : List (List (Bool × ℕ))) × AreTokens f c bools × (parts ≡ map partition bools)
+  pub each : (f : FrameInfo) → IsPlanOf c f → (bools : List (List (Bool × ℕ))) × AreTokens f c bools × (parts ≡ map partition_of_bools bools)
 
 -- ---- the tag
 
@@ -164,12 +164,12 @@ tag_bytes None first = three_bytes (32 * first + 17)
 
 -- ---- the packet
 
-abbrev pub tag_with : Option KeyTag → ℕ → Tag
-tag_with key first = record { version = 0; show = true; first_partition = first; key = key }
+abbrev pub encoder_tag : Option KeyTag → ℕ → Tag
+encoder_tag key first = record { version = 0; show = true; first_partition = first; key = key }
 
 -- what a frame with this tag starts from
 abbrev pub kept_by : Saved → Option KeyTag → Saved
-kept_by saved key = kept_before saved (tag_with key 0)
+kept_by saved key = kept_before saved (encoder_tag key 0)
 
 -- The bytes are the tag, a first partition and token partitions behind their table.
 pub record IsPutTogether (key : Option KeyTag) (first : List ℕ) (parts : List (List ℕ)) (bytes : List ℕ) : Type 0 where
@@ -178,19 +178,19 @@ pub record IsPutTogether (key : Option KeyTag) (first : List ℕ) (parts : List 
   pub bytes_are : bytes ≡ tag_bytes key (length first) ++ (first ++ rest)
 
 -- The bytes are a packet of the frame.
-pub record IsPacket (key : Option KeyTag) (saved : Saved) (before : Maps) (c : Coded) (bytes : List ℕ) : Type 0 where
+pub record IsPacket (key : Option KeyTag) (saved : Saved) (before : MacroblockInfo) (c : CodedFrame) (bytes : List ℕ) : Type 0 where
   pub first : List ℕ
   pub parts : List (List ℕ)
   pub together : IsPutTogether key first parts bytes
   pub short : length first < 2 ^ 19
-  pub first_is : IsFirst saved (tag_with key 0) before c first
+  pub first_is : IsFirst saved (encoder_tag key 0) before c first
   pub parts_are : AreTokenPartitions c parts
 
 -- ---- a frame that no packet holds
 
 -- A partition is longer than its size can be said: the first one in 19 bits (chapter 9.1), or a token partition but the last
 -- in 24 (chapter 9.5).
-abbrev pub HasLongPartition : Option KeyTag → Saved → Maps → Coded → Type 0
+abbrev pub HasLongPartition : Option KeyTag → Saved → MacroblockInfo → CodedFrame → Type 0
 HasLongPartition key saved before c =
-    ((first : List ℕ) × IsFirst saved (tag_with key 0) before c first × (2 ^ 19 ≤ length first))
+    ((first : List ℕ) × IsFirst saved (encoder_tag key 0) before c first × (2 ^ 19 ≤ length first))
     ⊎ ((parts : List (List ℕ)) × AreTokenPartitions c parts × ((i : ℕ) × (i < length parts - 1) × (2 ^ 24 ≤ length (slice_index_or parts i []))))

@@ -4,7 +4,7 @@ ghost use Rattle.std.specs.Prelude.{◌≡◌, ◌*◌, ◌≤◌};
 ghost use Rattle.vp_base.specs.Raster.{pixel};
 ghost use Rattle.vp_base.specs.Block.{numbers};
 ghost use Rattle.vp_search.specs.Differences.{sum_of_squares};
-ghost use Rattle.vp_encode.specs.Chosen.{squared_distance};
+ghost use Rattle.vp_encode.specs.Choice.{squared_distance};
 
 use vp_base::{Picture, Plane};
 use vp_search::sse;

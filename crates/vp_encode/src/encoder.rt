@@ -6,14 +6,14 @@ ghost use Rattle.vp_base.specs.Image.{macroblocks};
 ghost use Rattle.vp_decode.specs.Step.{Shown, step};
 ghost use Rattle.vp_encode.specs.declared.fault.EncodeFault.{EncodeFault};
 ghost use Rattle.vp_encode.specs.declared.fault.PacketError.{PacketError};
-ghost use Rattle.vp_encode.specs.Coded.{CanBeTold};
-ghost use Rattle.vp_encode.specs.Encoder.{AreAllowed, is_key, kept_for, basis_for, refreshes_golden};
+ghost use Rattle.vp_encode.specs.CodedFrame.{CanBeTold};
+ghost use Rattle.vp_encode.specs.Encoder.{AreAllowed, next_is_key, kept_for, basis_for, refreshes_golden};
 ghost use Rattle.vp_encode.specs.TooLong.{IsFrameFor, IsTooLong, IsTooLongOver};
-ghost use Rattle.vp_encode.specs.Between.{HasSize, IsPacketOver, IsKeptFor, Shows};
-ghost use Rattle.vp_encode.specs.Chosen.{IsChosen, squared_distance};
-ghost use Rattle.vp_encode.specs.Calls.{Call, StandsFor};
+ghost use Rattle.vp_encode.specs.Between.{HasSize, IsPacketOver, IsKeptFor, ShowsNewest};
+ghost use Rattle.vp_encode.specs.Choice.{IsChosen, squared_distance};
+ghost use Rattle.vp_encode.specs.Calls.{Call, IsEncoderAfter};
 
-use crate::coded::Coded;
+use crate::coded_frame::CodedFrame;
 use crate::distance::squared_distance;
 use crate::fault::{EncodeFault, PacketError, SettingsFault};
 use crate::frame::choose_frame;
@@ -23,7 +23,7 @@ use std::alloc::{AllocError, Global};
 use std::marker::Model;
 use std::rc::Rc;
 use vp_base::{ByteList, Dim, Limits, Picture};
-use vp_decode::{Decoder, Kept};
+use vp_decode::{Decoder, DecoderState};
 use vp_recon::unfiltered_picture_solves_its_equation;
 
 /// A frame that is encoded.
@@ -50,10 +50,10 @@ pub struct Encoder {
 }
 
 impl Model for Encoder {
-    ghost use Rattle.vp_encode.specs.Encoder.{Encoding};
+    ghost use Rattle.vp_encode.specs.Encoder.{EncoderState};
     ghost use Rattle.vp_encode.specs.Between.{IsSound};
 
-    ghost Value = { Encoding };
+    ghost Value = { EncoderState };
 
     ghost view = { λ e. record { dim = e.dim; settings = e.settings; state = e.decoder.state; since = e.since } };
 
@@ -85,7 +85,7 @@ fn are_allowed(settings: &Settings) -> bool
 
 /// Decodes a packet, and shares the picture that it shows.
 fn decode_shown(decoder: &mut Decoder, packet: &[u8]) -> Result<Rc<Picture>, AllocError>
-    requires { Shows decoder.old.limits decoder.old.state packet.now }
+    requires { ShowsNewest decoder.old.limits decoder.old.state packet.now }
     ensures limits { decoder.new.limits ≡ decoder.old.limits }
     ensures shown { IfOk result (λ r. step decoder.old.limits decoder.old.state packet.now ≡ (decoder.new.state, Shown r.value)) }
     // Memory may be refused before the packet is decoded, or behind it.
@@ -104,7 +104,7 @@ impl Encoder {
         ensures ok { IfOk result (λ e. e ≡ record { dim = dim; settings = settings; state = None; since = 0 }) }
         ensures allowed { IfOk result (λ _. AreAllowed settings) }
         ensures settings { IsErr result → ¬ (AreAllowed settings) }
-        ensures stands { IfOk result (λ e. StandsFor e []) }
+        ensures stands { IfOk result (λ e. IsEncoderAfter e []) }
     {
         if !are_allowed(&settings) {
             return Err(SettingsFault::Settings);
@@ -130,13 +130,13 @@ impl Encoder {
             → step limits self.old.state r.packet ≡ (self.new.state, Shown r.recon.value)) }
         ensures choice { IfOk result (λ r. IsChosen self.old source.now r.packet) }
         ensures error { IfOk result (λ r. r.squared_error ≡ squared_distance source.now r.recon.value) }
-        ensures since { IfOk result (λ _. self.new.since ≡ (if is_key self.old then 1 else self.old.since + 1)) }
+        ensures since { IfOk result (λ _. self.new.since ≡ (if next_is_key self.old then 1 else self.old.since + 1)) }
         // A refused frame leaves no state, so that the next one is a key frame.
         ensures forgotten { (result ≡ Err EncodeFault.TooLong) ⊎ (result ≡ Err EncodeFault.Memory) → self.new.state ≡ None }
         ensures too_long { result ≡ Err EncodeFault.TooLong → IsTooLong self.old source.now }
         // What stands for the calls since `new` stands for them and this one.
-        ensures stands { (calls : List Call) → StandsFor self.old calls
-            → StandsFor self.new (calls ++ record { source = source.now; result = result } ∷ []) }
+        ensures stands { (calls : List Call) → IsEncoderAfter self.old calls
+            → IsEncoderAfter self.new (calls ++ record { source = source.now; result = result } ∷ []) }
     {
         let dim = source.dim();
         if dim.w != self.dim.w || dim.h != self.dim.h {
@@ -160,7 +160,7 @@ impl Encoder {
             → step limits self.old.state r.packet ≡ (self.new.state, Shown r.recon.value)) }
         ensures choice { IfOk result (λ r. IsChosen self.old source.now r.packet) }
         ensures error { IfOk result (λ r. r.squared_error ≡ squared_distance source.now r.recon.value) }
-        ensures since { IfOk result (λ _. self.new.since ≡ (if is_key self.old then 1 else self.old.since + 1)) }
+        ensures since { IfOk result (λ _. self.new.since ≡ (if next_is_key self.old then 1 else self.old.since + 1)) }
         ensures too_long { IfErr result (λ e. e ≡ PacketError.TooLong → IsTooLong self.old source.now) }
     {
         unfiltered_picture_solves_its_equation();
@@ -178,7 +178,7 @@ impl Encoder {
     }
 
     /// What the next frame is told over: nothing for a key frame.
-    fn kept(&self) -> Option<&Kept>
+    fn kept(&self) -> Option<&DecoderState>
         ensures value { option_map (λ k. k.now) result ≡ kept_for self.now }
         ensures kept { IfSome result (λ k. IsKeptFor self.now.dim k.now) }
     {
@@ -190,7 +190,7 @@ impl Encoder {
 
     /// How many frames came since the last key frame began, once the next frame is encoded.
     fn next_since(&self) -> u32
-        ensures value { result ≡ (if is_key self.now then 1 else self.now.since + 1) }
+        ensures value { result ≡ (if next_is_key self.now then 1 else self.now.since + 1) }
         ensures few { result ≤ self.now.settings.key_every }
     {
         if self.since == self.settings.key_every || self.decoder.kept().is_none() {
@@ -208,10 +208,10 @@ impl Encoder {
     }
 
     /// The frame that is chosen for a source.
-    fn choose(&self, source: &Picture) -> Result<Coded, AllocError>
+    fn choose(&self, source: &Picture) -> Result<CodedFrame, AllocError>
         requires { HasSize self.now.dim source.now }
         ensures frame { IfOk result (λ c. IsFrameFor self.now source.now c) }
-        ensures told { IfOk result (λ c. CanBeTold (is_key self.now) (basis_for self.now).saved (basis_for self.now).modes c) }
+        ensures told { IfOk result (λ c. CanBeTold (next_is_key self.now) (basis_for self.now).saved (basis_for self.now).modes c) }
     {
         let golden = self.refreshes_golden();
         let kept = self.kept();
@@ -219,10 +219,10 @@ impl Encoder {
     }
 
     /// Writes the packet of the next frame.
-    fn write(&self, coded: &Coded) -> Result<ByteList, PacketError>
+    fn write(&self, coded: &CodedFrame) -> Result<ByteList, PacketError>
         requires columns { coded.now.macroblocks.columns ≡ macroblocks self.now.dim.w }
         requires rows { coded.now.macroblocks.rows ≡ macroblocks self.now.dim.h }
-        requires told { CanBeTold (is_key self.now) (basis_for self.now).saved (basis_for self.now).modes coded.now }
+        requires told { CanBeTold (next_is_key self.now) (basis_for self.now).saved (basis_for self.now).modes coded.now }
         ensures packet { IfOk result (λ v. IsPacketOver self.now.dim (kept_for self.now) coded.now v) }
         ensures too_long { IfErr result (λ e. e ≡ PacketError.TooLong → IsTooLongOver self.now.dim (kept_for self.now) coded.now) }
     {

@@ -1,4 +1,4 @@
-//! Encoding a whole file.
+//! EncoderState a whole file.
 
 ghost use Rattle.std.specs.Prelude.{◌≡◌, ◌≢◌, ◌<◌, ◌≤◌, ◌+◌, ◌*◌, ◌^◌, ◌++◌, ◌∷◌, ℕ, List, [], ⊤, length, OnOk, OnErr, IfSome, Err};
 ghost use Rattle.std.specs.List.{All};
@@ -11,13 +11,13 @@ ghost use Rattle.vp_y4m.specs.Reads.{TakesInReads};
 ghost use Rattle.vp_y4m.specs.Text.{i420_length};
 ghost use Rattle.vp_encode.specs.declared.report.EncodeAllFault.{EncodeAllFault};
 ghost use Rattle.vp_encode.specs.Encoder.{AreAllowed};
-ghost use Rattle.vp_encode.specs.Encoded.{fresh};
+ghost use Rattle.vp_encode.specs.Encoded.{initial_encoder};
 ghost use Rattle.vp_encode.specs.File.{IsAnswerOver, IsToldMore, IsWatched, ivf_text, most_reads, numbers_to};
-ghost use Rattle.vp_encode.specs.Run.{start, IsHeadLine, Ends};
+ghost use Rattle.vp_encode.specs.EncodeProgress.{start, IsHeadLine, EndsEncode};
 
+use crate::encode_progress::EncodeProgress;
 use crate::encoder::Encoder;
 use crate::report::{EncodeAllFault, EncodeReport};
-use crate::run::Run;
 use crate::settings::Settings;
 use std::alloc::Global;
 use std::io::{Read, Write};
@@ -95,7 +95,7 @@ pub fn encode_all_watched<R: Read, W: Write, T: Watcher>(
 {
     let head = SourceHead::read(reader, limits)?;
     let encoder = Encoder::new(alloc, head.dim, settings)?;
-    let mut run = Run::new(alloc, encoder, limits);
+    let mut run = EncodeProgress::new(alloc, encoder, limits);
     encode_source(alloc, reader, head, &mut run, watcher)?;
     write_file(head, run.packets(), writer)?;
     Ok(run.report())
@@ -106,17 +106,17 @@ fn encode_source<R: Read, T: Watcher>(
     alloc: Global,
     reader: &mut Counted<R>,
     head: SourceHead,
-    run: &mut Run,
+    run: &mut EncodeProgress,
     watcher: &mut T,
 ) -> Result<(), EncodeAllFault>
-    requires start { run.old ≡ start run.old.limits (fresh run.old.encoder.dim run.old.encoder.settings) }
+    requires start { run.old ≡ start run.old.limits (initial_encoder run.old.encoder.dim run.old.encoder.settings) }
     requires allowed { AreAllowed run.old.encoder.settings }
     requires width { run.old.encoder.dim.w ≡ head.dim.w }
     requires height { run.old.encoder.dim.h ≡ head.dim.h }
     ensures ends { (front : List ℕ) → IsHeadLine run.old.limits.pixels front (head_shown head)
         → (bytes : List ℕ)
         × Consumes (counted_remaining R.remaining reader.old) (counted_remaining R.remaining reader.new) bytes
-        × Ends run.old.limits run.old.encoder.settings result (head_shown head) (front ++ bytes) run.new }
+        × EndsEncode run.old.limits run.old.encoder.settings result (head_shown head) (front ++ bytes) run.new }
     ensures end { OnOk result (IsAtEnd (counted_remaining R.remaining reader.new)) }
     ensures torn { result ≡ Err EncodeAllFault.Torn → IsAtEnd (counted_remaining R.remaining reader.new) }
     ensures device { result ≡ Err EncodeAllFault.Device → HasFailed (counted_failures reader.old) (counted_failures reader.new) }
@@ -134,11 +134,11 @@ fn encode_source<R: Read, T: Watcher>(
 /// Encodes the pictures behind a file's head.
 fn encode_pictures<R: Read, T: Watcher>(
     source: &mut Source<'_, R>,
-    run: &mut Run,
+    run: &mut EncodeProgress,
     watcher: &mut T,
 ) -> Result<(), EncodeAllFault>
     requires open { progress_of source.old ≡ Progress.Open }
-    requires start { run.old ≡ start run.old.limits (fresh run.old.encoder.dim run.old.encoder.settings) }
+    requires start { run.old ≡ start run.old.limits (initial_encoder run.old.encoder.dim run.old.encoder.settings) }
     requires allowed { AreAllowed run.old.encoder.settings }
     requires width { run.old.encoder.dim.w ≡ (head_of source.old).w }
     requires height { run.old.encoder.dim.h ≡ (head_of source.old).h }
@@ -146,7 +146,7 @@ fn encode_pictures<R: Read, T: Watcher>(
     ensures ends { (front : List ℕ) → IsHeadLine run.old.limits.pixels front (head_of source.old)
         → (bytes : List ℕ)
         × Consumes (bytes_left R.remaining source.old) (bytes_left R.remaining source.new) bytes
-        × Ends run.old.limits run.old.encoder.settings result (head_of source.old) (front ++ bytes) run.new }
+        × EndsEncode run.old.limits run.old.encoder.settings result (head_of source.old) (front ++ bytes) run.new }
     ensures end { OnOk result (IsAtEnd (bytes_left R.remaining source.new)) }
     ensures torn { result ≡ Err EncodeAllFault.Torn → IsAtEnd (bytes_left R.remaining source.new) }
     ensures device { result ≡ Err EncodeAllFault.Device → HasFailed (failures_of source.old) (failures_of source.new) }

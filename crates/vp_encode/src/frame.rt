@@ -3,25 +3,25 @@
 ghost use Rattle.std.specs.Prelude.{◌≡◌, ◌≤◌, Option, IfOk, IfSome, is_none, option_map};
 ghost use Rattle.vp_base.specs.declared.limits.Dim.{Dim};
 ghost use Rattle.vp_choose.specs.Frame.{search_of};
-ghost use Rattle.vp_decode.specs.Step.{Kept};
-ghost use Rattle.vp_encode.specs.Coded.{CanBeTold};
+ghost use Rattle.vp_decode.specs.Step.{DecoderState};
+ghost use Rattle.vp_encode.specs.CodedFrame.{CanBeTold};
 ghost use Rattle.vp_encode.specs.Encoder.{AreAllowed, basis_over, header_over, search_in, frame_over};
-ghost use Rattle.vp_encode.specs.Choosing.{AreChosen, AreUnsegmented};
+ghost use Rattle.vp_encode.specs.FrameChoices.{AreChosen, AreUnsegmented};
 
-use crate::choosing::choose_macroblocks;
-use crate::coded::Coded;
+use crate::coded_frame::CodedFrame;
+use crate::frame_choices::choose_macroblocks;
 use crate::header::{header_over, quantiser};
 use crate::settings::Settings;
 use crate::source::continued;
 use std::alloc::{AllocError, Global};
 use vp_base::{Dim, Picture};
-use vp_choose::{Frame, Search};
-use vp_decode::Kept;
+use vp_choose::{FrameSearch, Search};
+use vp_decode::DecoderState;
 use vp_head::Saved;
 use vp_quant::Factors;
 
 /// Where the vectors of a frame are searched that is told over what is kept.
-fn search_in<'a>(settings: &Settings, kept: Option<&'a Kept>) -> Option<Search<'a>>
+fn search_in<'a>(settings: &Settings, kept: Option<&'a DecoderState>) -> Option<Search<'a>>
     requires { settings.now.range ≤ 64 }
     ensures value { option_map search_of result ≡ search_in settings.now (option_map (λ k. k.now) kept.entry) }
     ensures range { IfSome (option_map search_of result) (λ s. s.range ≤ 64) }
@@ -38,7 +38,7 @@ fn search_in<'a>(settings: &Settings, kept: Option<&'a Kept>) -> Option<Search<'
 }
 
 /// The values that a frame's header is told over.
-fn saved_in(kept: Option<&Kept>) -> Saved
+fn saved_in(kept: Option<&DecoderState>) -> Saved
     ensures { (dim : Dim) → result ≡ (basis_over dim (option_map (λ k. k.now) kept.entry)).saved }
 {
     match kept {
@@ -53,10 +53,10 @@ pub(crate) fn choose_frame(
     alloc: Global,
     dim: Dim,
     settings: &Settings,
-    kept: Option<&Kept>,
+    kept: Option<&DecoderState>,
     golden: bool,
     source: &Picture,
-) -> Result<Coded, AllocError>
+) -> Result<CodedFrame, AllocError>
     requires allowed { AreAllowed settings.now }
     requires width { source.now.width ≡ dim.w }
     requires height { source.now.height ≡ dim.h }
@@ -67,14 +67,14 @@ pub(crate) fn choose_frame(
 {
     let source = continued(alloc, source)?;
     let factors = Factors::of(settings.qi, &quantiser(settings.qi));
-    let frame = Frame {
+    let frame = FrameSearch {
         source: &source,
         factors: &factors,
         search: search_in(settings, kept),
     };
     let macroblocks = choose_macroblocks(alloc, &frame)?;
     let header = header_over(&saved_in(kept), kept.is_none(), golden, settings);
-    Ok(Coded {
+    Ok(CodedFrame {
         header,
         macroblocks,
     })

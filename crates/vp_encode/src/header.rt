@@ -2,7 +2,7 @@
 
 ghost use Rattle.std.specs.Prelude.{◌≡◌, if◌then◌else◌};
 ghost use Rattle.vp_head.specs.Header.{no_references};
-ghost use Rattle.vp_encode.specs.Encoder.{segmentation, quantiser, updates, even, log2_of, header_over};
+ghost use Rattle.vp_encode.specs.Encoder.{no_segmentation, quantiser, updates, even, log2_of, header_over};
 
 use crate::settings::Settings;
 use vp_head::{
@@ -10,8 +10,8 @@ use vp_head::{
     Saved, Segmentation, SignBiases,
 };
 
-fn segmentation(saved: &Saved) -> Segmentation
-    ensures { result ≡ segmentation saved.now }
+fn no_segmentation(saved: &Saved) -> Segmentation
+    ensures { result ≡ no_segmentation saved.now }
 {
     Segmentation {
         enabled: false,
@@ -79,7 +79,7 @@ pub(crate) fn header_over(saved: &Saved, key: bool, golden: bool, settings: &Set
         key,
         color_space: false,
         clamping_type: false,
-        segmentation: segmentation(saved),
+        segmentation: no_segmentation(saved),
         filter: Filter {
             simple: settings.simple,
             level: settings.level,

@@ -2,25 +2,25 @@
 //! files of pictures as files of packets.
 #![tactic(auto)]
 
-mod choosing;
-mod coded;
+mod coded_frame;
 mod distance;
+mod encode_progress;
 mod encoder;
 mod encoding;
 mod fault;
 mod frame;
+mod frame_choices;
 mod header;
 mod laws;
-mod maps;
+mod macroblock_info;
 mod packet;
 mod report;
-mod run;
 mod settings;
 mod source;
 mod tag;
 mod tokens;
 
-pub use coded::Coded;
+pub use coded_frame::CodedFrame;
 pub use encoder::{Encoded, Encoder};
 pub use encoding::{Unwatched, Watcher, encode_all, encode_all_watched};
 pub use fault::{EncodeFault, PacketError, SettingsFault};

@@ -4,15 +4,15 @@ ghost use Rattle.std.specs.Prelude.{◌≡◌, ◌≤◌, ◌<◌, ◌^◌, ◌-
 ghost use Rattle.vp_base.specs.Image.{macroblocks};
 ghost use Rattle.vp_modes.specs.Map.{of_segments};
 ghost use Rattle.vp_tokens.specs.Partitions.{lists, AreBelow24Bits};
-ghost use Rattle.vp_decode.specs.Step.{key_basis, maps_before};
-ghost use Rattle.vp_encode.specs.Coded.{CanBeTold};
-ghost use Rattle.vp_encode.specs.Said.{key_tag, IsKeyPacket, IsInterPacket};
-ghost use Rattle.vp_encode.specs.Written.{IsFirst, AreTokenPartitions, IsPutTogether, IsPacket, HasLongPartition, tag_with, kept_by};
+ghost use Rattle.vp_decode.specs.Step.{key_context, maps_before};
+ghost use Rattle.vp_encode.specs.CodedFrame.{CanBeTold};
+ghost use Rattle.vp_encode.specs.PacketContents.{key_tag, IsKeyFramePacket, IsInterFramePacket};
+ghost use Rattle.vp_encode.specs.Written.{IsFirst, AreTokenPartitions, IsPutTogether, IsPacket, HasLongPartition, encoder_tag, kept_by};
 ghost use Rattle.vp_encode.specs.declared.fault.PacketError.{PacketError};
 
-use crate::coded::Coded;
+use crate::coded_frame::CodedFrame;
 use crate::fault::PacketError;
-use crate::maps::Maps;
+use crate::macroblock_info::MacroblockInfo;
 use crate::tag::put_tag;
 use crate::tokens::{finish, write_tokens};
 use std::alloc::{AllocError, Global};
@@ -31,12 +31,16 @@ const MOST_PART: usize = 16_777_215;
 
 /// Writes the packet of a key frame of this size: the frame tag, the first partition with the header, the modes and the
 /// motion, and the token partitions, as many as the header says. A byte of 0 stands behind each partition.
-pub fn write_key_packet(alloc: Global, dim: Dim, coded: &Coded) -> Result<ByteList, PacketError>
+pub fn write_key_packet(
+    alloc: Global,
+    dim: Dim,
+    coded: &CodedFrame,
+) -> Result<ByteList, PacketError>
     requires columns { coded.now.macroblocks.columns ≡ macroblocks dim.w }
     requires rows { coded.now.macroblocks.rows ≡ macroblocks dim.h }
-    requires told { CanBeTold true (key_basis dim).saved (key_basis dim).modes coded.now }
-    ensures packet { IfOk result (λ v. IsKeyPacket dim coded.now v) }
-    ensures too_long { IfErr result (λ e. e ≡ PacketError.TooLong → HasLongPartition (Some (key_tag dim)) (key_basis dim).saved (maps_before (key_basis dim).modes) coded.now) }
+    requires told { CanBeTold true (key_context dim).saved (key_context dim).modes coded.now }
+    ensures packet { IfOk result (λ v. IsKeyFramePacket dim coded.now v) }
+    ensures too_long { IfErr result (λ e. e ≡ PacketError.TooLong → HasLongPartition (Some (key_tag dim)) (key_context dim).saved (maps_before (key_context dim).modes) coded.now) }
 {
     let key = KeyTag {
         dim,
@@ -53,14 +57,14 @@ pub fn write_inter_packet(
     dim: Dim,
     saved: &Saved,
     segments: &Grid<Segment>,
-    coded: &Coded,
+    coded: &CodedFrame,
 ) -> Result<ByteList, PacketError>
     requires columns { coded.now.macroblocks.columns ≡ macroblocks dim.w }
     requires rows { coded.now.macroblocks.rows ≡ macroblocks dim.h }
     requires segment_columns { segments.now.columns ≡ macroblocks dim.w }
     requires segment_rows { segments.now.rows ≡ macroblocks dim.h }
     requires told { CanBeTold false saved.now (of_segments segments.now) coded.now }
-    ensures packet { IfOk result (λ v. IsInterPacket saved.now segments.now coded.now v) }
+    ensures packet { IfOk result (λ v. IsInterFramePacket saved.now segments.now coded.now v) }
     ensures too_long { IfErr result (λ e. e ≡ PacketError.TooLong → HasLongPartition None saved.now (maps_before (of_segments segments.now)) coded.now) }
 {
     let before = ModeMap::of_segments(alloc, segments)?;
@@ -73,7 +77,7 @@ fn write_packet(
     dim: Dim,
     saved: &Saved,
     before: ModeMap,
-    coded: &Coded,
+    coded: &CodedFrame,
 ) -> Result<ByteList, PacketError>
     requires columns { coded.now.macroblocks.columns ≡ macroblocks dim.w }
     requires rows { coded.now.macroblocks.rows ≡ macroblocks dim.h }
@@ -102,14 +106,14 @@ fn write_first(
     dim: Dim,
     saved: &Saved,
     before: ModeMap,
-    coded: &Coded,
+    coded: &CodedFrame,
 ) -> Result<Vec<u8>, AllocError>
     requires columns { coded.now.macroblocks.columns ≡ macroblocks dim.w }
     requires rows { coded.now.macroblocks.rows ≡ macroblocks dim.h }
     requires before_columns { before.columns ≡ macroblocks dim.w }
     requires before_rows { before.rows ≡ macroblocks dim.h }
     requires told { CanBeTold (is_some key) (kept_by saved.now key) before coded.now }
-    ensures { IfOk result (λ v. IsFirst saved.now (tag_with key 0) (maps_before before) coded.now v.items) }
+    ensures { IfOk result (λ v. IsFirst saved.now (encoder_tag key 0) (maps_before before) coded.now v.items) }
 {
     let tag = Tag {
         version: 0,
@@ -118,7 +122,7 @@ fn write_first(
         key,
     };
     let motion = VectorMap::new(alloc, dim)?;
-    let mut maps = Maps {
+    let mut maps = MacroblockInfo {
         modes: before,
         motion,
     };

@@ -1,7 +1,7 @@
 //! How the work on a source file ends.
 
 ghost use Rattle.std.specs.Prelude.{◌≡◌, Some};
-ghost use Rattle.vp_encode.specs.Names.{name_of};
+ghost use Rattle.vp_encode.specs.Names.{encode_fault_name};
 
 use crate::fault::SettingsFault;
 use std::alloc::AllocError;
@@ -47,7 +47,7 @@ pub enum EncodeAllFault {
 
 /// The fault's name, as it is told.
 impl fmt::Display for EncodeAllFault {
-    ghost output = { λ fault. Some (name_of fault) };
+    ghost output = { λ fault. Some (encode_fault_name fault) };
 
     fn fmt<W: fmt::Write>(&self, f: &mut fmt::Formatter<W>) -> fmt::Result {
         f.write_str(match self {
@@ -97,9 +97,9 @@ impl From<SettingsFault> for EncodeAllFault {
 }
 
 impl From<SourceFault> for EncodeAllFault {
-    ghost use Rattle.vp_encode.specs.File.{fault_by};
+    ghost use Rattle.vp_encode.specs.File.{encode_fault_of};
 
-    ghost from_gives = { λ f r. r ≡ fault_by f };
+    ghost from_gives = { λ f r. r ≡ encode_fault_of f };
 
     fn from(fault: SourceFault) -> EncodeAllFault {
         match fault {

@@ -3,7 +3,7 @@
 ghost use Rattle.std.specs.Prelude.{◌≡◌, ◌<◌, IfOk};
 ghost use Rattle.vp_base.specs.Image.{plane_of, with_plane};
 ghost use Rattle.vp_encode.specs.Encoder.{continued, continued_plane};
-ghost use Rattle.vp_encode.specs.Continued.{Continues, row_continued};
+ghost use Rattle.vp_encode.specs.Continued.{ExtendsPlane, row_continued};
 
 use std::alloc::{AllocError, Global};
 use vp_base::{Picture, Plane};
@@ -20,7 +20,7 @@ fn continue_row(
 )
     requires plane { k < 3 }
     requires row { y < source.now.height }
-    requires size { Continues width height source.now (plane_of picture.old k) }
+    requires size { ExtendsPlane width height source.now (plane_of picture.old k) }
     ensures { picture.new ≡ with_plane picture.old k (row_continued width height source.now y (plane_of picture.old k)) }
 {
     let row = source.row(y.min(height - 1));
@@ -32,7 +32,7 @@ fn continue_row(
 /// Writes plane `k`: the source's, of which so many columns and rows are shown, and all other pixels the nearest of those.
 fn continue_plane(source: &Plane, width: usize, height: usize, k: usize, picture: &mut Picture)
     requires plane { k < 3 }
-    requires size { Continues width height source.now (plane_of picture.old k) }
+    requires size { ExtendsPlane width height source.now (plane_of picture.old k) }
     ensures { picture.new ≡ with_plane picture.old k (continued_plane width height source.now) }
 {
     for y in 0..source.height() {

@@ -2,17 +2,17 @@
 
 ghost use Rattle.std.specs.Prelude.{◌≡◌, ◌<◌, ◌≤◌, ◌+◌, ◌^◌, ℕ, length, map, slice_index_or, OnOk, IfOk};
 ghost use Rattle.vp_base.specs.Grid.{Grid};
-ghost use Rattle.vp_bool.specs.Intervals.{all};
+ghost use Rattle.vp_bool.specs.Intervals.{whole_interval};
 ghost use Rattle.vp_tokens.specs.Blocks.{Blocks};
-ghost use Rattle.vp_tokens.specs.Contexts.{StandsFor};
+ghost use Rattle.vp_tokens.specs.Contexts.{AreContextsAt};
 ghost use Rattle.vp_tokens.specs.Partitions.{lists};
-ghost use Rattle.vp_decode.specs.Maps.{place};
-ghost use Rattle.vp_decode.specs.Frame.{Plan};
+ghost use Rattle.vp_decode.specs.MacroblockInfo.{place};
+ghost use Rattle.vp_decode.specs.Frame.{FrameInfo};
 ghost use Rattle.vp_decode.specs.Step.{count_of};
-ghost use Rattle.vp_encode.specs.Coded.{AreTokensSpelled};
+ghost use Rattle.vp_encode.specs.CodedFrame.{AreTokensSpelled};
 ghost use Rattle.vp_encode.specs.Written.{IsPlanOf, IsTokenRow, AreTokenRows, none_seen, finished, AreTokenPartitions};
 
-use crate::coded::{Coded, has_y2};
+use crate::coded_frame::{CodedFrame, has_y2};
 use std::alloc::{AllocError, Global};
 use vp_base::Place;
 use vp_bool::BoolEncoder;
@@ -20,7 +20,7 @@ use vp_tokens::{Contexts, write_macroblock};
 
 /// Writes the tokens of a row of macroblocks into the partition of the row.
 fn write_row(
-    coded: &Coded,
+    coded: &CodedFrame,
     row: usize,
     contexts: &mut Contexts,
     e: &mut BoolEncoder,
@@ -28,8 +28,8 @@ fn write_row(
     requires row { row < coded.now.macroblocks.rows }
     requires columns { length contexts.old.above ≡ coded.now.macroblocks.columns }
     requires spelled { AreTokensSpelled coded.now }
-    ensures row { OnOk result ((f : Plan) (g : Grid Blocks) → IsPlanOf coded.now f → g.columns ≡ coded.now.macroblocks.columns → g.rows ≡ coded.now.macroblocks.rows
-        → StandsFor g (place row 0) contexts.old → IsTokenRow f coded.now row coded.now.macroblocks.columns g contexts.new e.old e.new) }
+    ensures row { OnOk result ((f : FrameInfo) (g : Grid Blocks) → IsPlanOf coded.now f → g.columns ≡ coded.now.macroblocks.columns → g.rows ≡ coded.now.macroblocks.rows
+        → AreContextsAt g (place row 0) contexts.old → IsTokenRow f coded.now row coded.now.macroblocks.columns g contexts.new e.old e.new) }
     ensures columns { length contexts.new.above ≡ length contexts.old.above }
 {
     for column in 0..coded.macroblocks.columns() {
@@ -50,16 +50,16 @@ fn write_row(
 
 /// Writes the tokens of all rows, each into the partition whose number is that of the row modulo the number of partitions.
 fn write_rows(
-    coded: &Coded,
+    coded: &CodedFrame,
     contexts: &mut Contexts,
     encoders: &mut [BoolEncoder],
 ) -> Result<(), AllocError>
     requires some { 0 < length encoders.old }
     requires columns { length contexts.old.above ≡ coded.now.macroblocks.columns }
-    requires stands { (rows : ℕ) → StandsFor (none_seen coded.now.macroblocks.columns rows) (place 0 0) contexts.old }
-    requires empty { (i : ℕ) → i < length encoders.old → slice_index_or encoders.old i all ≡ all }
+    requires stands { (rows : ℕ) → AreContextsAt (none_seen coded.now.macroblocks.columns rows) (place 0 0) contexts.old }
+    requires empty { (i : ℕ) → i < length encoders.old → slice_index_or encoders.old i whole_interval ≡ whole_interval }
     requires spelled { AreTokensSpelled coded.now }
-    ensures { OnOk result ((f : Plan) → IsPlanOf coded.now f → AreTokenRows f coded.now coded.now.macroblocks.rows contexts.new encoders.new) }
+    ensures { OnOk result ((f : FrameInfo) → IsPlanOf coded.now f → AreTokenRows f coded.now coded.now.macroblocks.rows contexts.new encoders.new) }
 {
     for row in 0..coded.macroblocks.rows() {
         let at = row % encoders.len();
@@ -72,7 +72,7 @@ fn write_rows(
 /// So many encoders.
 fn new_encoders(alloc: Global, count: usize) -> Result<Vec<BoolEncoder>, AllocError>
     ensures count { IfOk result (λ v. length v.items ≡ count) }
-    ensures empty { IfOk result (λ v. (i : ℕ) → i < count → slice_index_or v.items i all ≡ all) }
+    ensures empty { IfOk result (λ v. (i : ℕ) → i < count → slice_index_or v.items i whole_interval ≡ whole_interval) }
 {
     let mut encoders = Vec::with_capacity(alloc, count)?;
     for _ in 0..count {
@@ -103,7 +103,7 @@ fn finish_all(alloc: Global, encoders: Vec<BoolEncoder>) -> Result<Vec<Vec<u8>>,
 }
 
 /// The token partitions of a frame, as many as its header says.
-pub(crate) fn write_tokens(alloc: Global, coded: &Coded) -> Result<Vec<Vec<u8>>, AllocError>
+pub(crate) fn write_tokens(alloc: Global, coded: &CodedFrame) -> Result<Vec<Vec<u8>>, AllocError>
     requires few { coded.now.header.log2_partitions ≤ 3 }
     requires spelled { AreTokensSpelled coded.now }
     ensures { IfOk result (λ v. AreTokenPartitions coded.now (lists v.items)) }

@@ -3,8 +3,8 @@ use Rattle.std.proofs.Common.{◌≡◌, ℕ, zero, suc, ◌≤◌, ◌<◌, ◌
 use Rattle.std.specs.Prelude.{IsSome, IsNone}
 use Rattle.vp_bool.specs.Bools.{State, read, literal}
 use Rattle.vp_bool.specs.Reader.{Reader, bind, when}
-use Rattle.vp_head.specs.Bounds.{IsInRange, AreWithin, AreInRange}
-use Rattle.vp_head.specs.Rows.{magnitude, signed, four_signed}
+use Rattle.vp_head.specs.Bounds.{IsInRange, AreBounded, AreInRange}
+use Rattle.vp_head.specs.Rows.{magnitude, optional_signed, four_signed}
 use Rattle.vp_head.specs.Saved.{defaults}
 use Rattle.vp_head.specs.Header.{segment_values, segmentation, filter, all_deltas, level_deltas, quantiser_indices, frame, frame_and_kept, header}
 use Rattle.vp_head.specs.declared.fields.SegmentValues.{SegmentValues}
@@ -43,29 +43,29 @@ asked-within : (asked : Bool) (n b : ℕ) (z : ℤ) (s : State) → 2 ^ n ≤ su
 asked-within true n b z s l h = magnitude-within n b s l
 asked-within false n b z s l h = h
 
-signed-within : (n b : ℕ) (z : ℤ) (s : State) → 2 ^ n ≤ suc b → unsigned_abs z ≤ b → unsigned_abs (signed n z s).0 ≤ b
-unfolding signed bind
+signed-within : (n b : ℕ) (z : ℤ) (s : State) → 2 ^ n ≤ suc b → unsigned_abs z ≤ b → unsigned_abs (optional_signed n z s).0 ≤ b
+unfolding optional_signed bind
 signed-within n b z s l h = asked-within (read 128 s).0 n b z (read 128 s).1 l h
 
-four-within : (b : ℕ) (x y z w : ℤ) → unsigned_abs x ≤ b → unsigned_abs y ≤ b → unsigned_abs z ≤ b → unsigned_abs w ≤ b → AreWithin b (x ∷ y ∷ z ∷ w ∷ [])
+four-within : (b : ℕ) (x y z w : ℤ) → unsigned_abs x ≤ b → unsigned_abs y ≤ b → unsigned_abs z ≤ b → unsigned_abs w ≤ b → AreBounded b (x ∷ y ∷ z ∷ w ∷ [])
 four-within b x y z w h k l m zero = h
 four-within b x y z w h k l m (suc zero) = k
 four-within b x y z w h k l m (suc (suc zero)) = l
 four-within b x y z w h k l m (suc (suc (suc zero))) = m
 four-within b x y z w h k l m (suc (suc (suc (suc i)))) = omega arith
 
-from_zero : (n b : ℕ) (s : State) → 2 ^ n ≤ suc b → unsigned_abs (signed n (pos 0) s).0 ≤ b
+from_zero : (n b : ℕ) (s : State) → 2 ^ n ≤ suc b → unsigned_abs (optional_signed n (pos 0) s).0 ≤ b
 from_zero n b s l = signed-within n b (pos 0) s l (omega arith)
 
-four_signed-within : (n b : ℕ) (old : List ℤ) (s : State) → 2 ^ n ≤ suc b → AreWithin b old → AreWithin b (four_signed n old s).0
+four_signed-within : (n b : ℕ) (old : List ℤ) (s : State) → 2 ^ n ≤ suc b → AreBounded b old → AreBounded b (four_signed n old s).0
 unfolding four_signed bind
 four_signed-within n b old s l h =
     four-within b _ _ _ _ (signed-within n b _ _ l (h 0)) (signed-within n b _ _ l (h 1)) (signed-within n b _ _ l (h 2)) (signed-within n b _ _ l (h 3))
 
 -- the values of the segments
 record AreSegmentsWithin (values : SegmentValues) : Type 0 where
-  quantisers : AreWithin 127 values.quantisers
-  levels : AreWithin 63 values.levels
+  quantisers : AreBounded 127 values.quantisers
+  levels : AreBounded 63 values.levels
 
 segment_values-within : (s : State) → AreSegmentsWithin (segment_values s).0
 unfolding segment_values bind
@@ -84,8 +84,8 @@ segmentation-within kept s h = asked_values-within _ kept _ h
 
 -- the level deltas
 record AreDeltasWithin (deltas : LevelDeltas) : Type 0 where
-  reference : AreWithin 63 deltas.reference
-  mode : AreWithin 63 deltas.mode
+  reference : AreBounded 63 deltas.reference
+  mode : AreBounded 63 deltas.mode
 
 all_deltas-within : (kept : LevelDeltas) (s : State) → AreDeltasWithin kept → AreDeltasWithin (all_deltas kept s).0
 unfolding bind
@@ -112,7 +112,7 @@ signed_in_range key kept s h =
 pub defaults_in_range : AreInRange defaults.segments defaults.deltas
 unfolding defaults
 defaults_in_range =
-    let zeros : AreWithin 63 (pos 0 ∷ pos 0 ∷ pos 0 ∷ pos 0 ∷ []) = four-within 63 _ _ _ _ (omega arith) (omega arith) (omega arith) (omega arith) in
+    let zeros : AreBounded 63 (pos 0 ∷ pos 0 ∷ pos 0 ∷ pos 0 ∷ []) = four-within 63 _ _ _ _ (omega arith) (omega arith) (omega arith) (omega arith) in
     record {
       quantisers = four-within 127 _ _ _ _ (omega arith) (omega arith) (omega arith) (omega arith);
       levels = zeros;

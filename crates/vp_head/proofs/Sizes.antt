@@ -8,7 +8,7 @@ use Rattle.vp_base.specs.declared.limits.Dim.{Dim}
 use Rattle.vp_base.specs.declared.limits.Limits.{Limits}
 use Rattle.vp_base.specs.Limits.{IsNoSide}
 use Rattle.vp_head.specs.Sides.{is_side}
-use Rattle.vp_head.specs.Tag.{dim_of, within}
+use Rattle.vp_head.specs.Tag.{dim_of, dim_within_limits}
 use Rattle.vp_head.specs.declared.fault.PacketFault.TheVariants.{Size, TooLarge}
 
 own : (w h : ℕ) (a : (0 < w) × (w ≤ 16383)) (b : (0 < h) × (h ≤ 16383)) (p : w ≤ 16383) (q : h ≤ 16383)
@@ -24,7 +24,7 @@ dim_of-sides w h p q d e f =
     let Q : ℕ → Type 0 = λ y. (p : d.w ≤ 16383) (q : y ≤ 16383) → dim_of d.w y p q ≡ Some d in
     subst P e (subst Q f (own d.w d.h d.w_in_range d.h_in_range)) p q
 
-pub within-allowed : (limits : Limits) (w h : ℕ) (p : w ≤ 16383) (q : h ≤ 16383) (d : Dim) → d.w ≡ w → d.h ≡ h → w * h ≤ limits.pixels → Ok d ≡ within limits (dim_of w h p q)
+pub within-allowed : (limits : Limits) (w h : ℕ) (p : w ≤ 16383) (q : h ≤ 16383) (d : Dim) → d.w ≡ w → d.h ≡ h → w * h ≤ limits.pixels → Ok d ≡ dim_within_limits limits (dim_of w h p q)
 within-allowed limits w h p q d e f k =
     let fits : d.w * d.h ≤ limits.pixels = rw (e, f) k in
     rw (dim_of-sides w h p q d e f, le-ltb limits.pixels (d.w * d.h) fits) refl
@@ -34,13 +34,13 @@ is_side_not (inl z) a b = omega arith
 is_side_not (inr z) a b = omega arith
 
 pub within-none : (limits : Limits) (u v w h : ℕ) (p : w ≤ 16383) (q : h ≤ 16383) → u ≡ w → v ≡ h → IsNoSide u ⊎ IsNoSide v
-    → Err Size ≡ within limits (dim_of w h p q)
+    → Err Size ≡ dim_within_limits limits (dim_of w h p q)
 within-none limits u v zero h p q e f o = refl
 within-none limits u v (suc w) zero p q e f o = refl
 within-none limits u v (suc w) (suc h) p q e f o = absurd (elim o [ inl t ↦ is_side_not t (omega arith) (omega arith) | inr t ↦ is_side_not t (omega arith) (omega arith) ])
 
 pub within-too_large : (limits : Limits) (u v w h : ℕ) (p : w ≤ 16383) (q : h ≤ 16383) → u ≡ w → v ≡ h → 0 < u → 0 < v → limits.pixels < u * v
-    → Err TooLarge ≡ within limits (dim_of w h p q)
+    → Err TooLarge ≡ dim_within_limits limits (dim_of w h p q)
 within-too_large limits u v zero h p q e f a b k = absurd (omega arith)
 within-too_large limits u v (suc w) zero p q e f a b k = absurd (omega arith)
 within-too_large limits u v (suc w) (suc h) p q e f a b k =

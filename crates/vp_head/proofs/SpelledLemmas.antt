@@ -4,11 +4,11 @@ use Rattle.std.specs.Prelude.{slice_index, slice_index_or, ◌==◌}
 use Rattle.std.proofs.lemmas.Bool.{ne_eqb}
 use Rattle.vp_bool.specs.Bools.{State, read, literal}
 use Rattle.vp_bool.specs.Reader.{Reader, bind, when, each}
-use Rattle.vp_head.specs.Rows.{magnitude, signed, four_signed}
+use Rattle.vp_head.specs.Rows.{magnitude, optional_signed, four_signed}
 use Rattle.vp_head.specs.Saved.{defaults}
-use Rattle.vp_head.specs.Probabilities.{vector_renewed, vector_entry_at, component_rows, component_at, vectors, seven_bits, luma, chroma}
+use Rattle.vp_head.specs.Probabilities.{vector_renewed, vector_entry_at, component_rows, component_at, vectors, seven_bits, luma_mode_probabilities, chroma}
 use Rattle.vp_head.specs.Header.{segment_values, tree_probabilities, segmentation, filter, all_deltas, level_deltas, quantiser_indices, copy, refreshes, reference_probabilities, no_references, frame, frame_and_kept, header}
-use Rattle.vp_head.specs.Spelled.{IsSigned, AreSigned, AreSegmentValues, IsSegmentation, IsFilter, AreDeltas, IsQuantiser, AreUpdates, IsVectorProbability, AreVectorProbabilities, IsSpelled, CanBeWritten}
+use Rattle.vp_head.specs.Spelled.{IsSigned, AreSigned, AreSegmentValues, IsSegmentation, IsFilter, AreDeltas, IsQuantiser, AreUpdates, IsVectorProbability, AreVectorProbabilities, IsWritableHeader, IsWritableInPacket}
 use Rattle.vp_head.specs.declared.fields.SegmentValues.{SegmentValues}
 use Rattle.vp_head.specs.declared.fields.LevelDeltas.{LevelDeltas}
 use Rattle.vp_head.specs.declared.fields.ReferenceCopy.TheVariants.{Nothing}
@@ -33,8 +33,8 @@ asked-spelled : (asked : Bool) (n : ℕ) (z : ℤ) (s : State) → IsSigned n z 
 asked-spelled true n z s h = magnitude-spelled n s
 asked-spelled false n z s h = absurd (h refl)
 
-signed-spelled : (n : ℕ) (z : ℤ) (s : State) → IsSigned n z (signed n z s).0
-unfolding signed bind
+signed-spelled : (n : ℕ) (z : ℤ) (s : State) → IsSigned n z (optional_signed n z s).0
+unfolding optional_signed bind
 signed-spelled n z s = asked-spelled (read 128 s).0 n z (read 128 s).1
 
 four_signed-spelled : (n : ℕ) (old : List ℤ) (s : State) → AreSigned n old (four_signed n old s).0
@@ -197,7 +197,7 @@ vectors-spelled false old s = λ i j. stays (slice_index (slice_index_or old i [
 
 -- ---- every header
 
-frame-spelled : (key : Bool) (kept : Saved) (s : State) → IsSpelled key kept (frame key kept s).0
+frame-spelled : (key : Bool) (kept : Saved) (s : State) → IsWritableHeader key kept (frame key kept s).0
 unfolding frame bind
 frame-spelled key kept s = record {
   kind = refl;
@@ -211,16 +211,16 @@ frame-spelled key kept s = record {
   updates = updates-spelled key kept.biases _;
   biases = biases-spelled key kept.biases _;
   references = λ e. unasked (not key) reference_probabilities no_references _ (not_of key e);
-  luma = λ e. unasked (not key) (luma kept.probabilities.luma) kept.probabilities.luma _ (not_of key e);
+  luma = λ e. unasked (not key) (luma_mode_probabilities kept.probabilities.luma) kept.probabilities.luma _ (not_of key e);
   chroma = λ e. unasked (not key) (chroma kept.probabilities.chroma) kept.probabilities.chroma _ (not_of key e);
   vectors = λ e. unasked (not key) (vectors kept.probabilities.vectors) kept.probabilities.vectors _ (not_of key e);
   vector = λ e. vectors-spelled (not key) kept.probabilities.vectors _;
 }
 
-pub header-spelled : (saved : Saved) (tag : Tag) (s : State) → CanBeWritten saved tag (header saved tag s).0.0
+pub header-spelled : (saved : Saved) (tag : Tag) (s : State) → IsWritableInPacket saved tag (header saved tag s).0.0
 unfolding header frame_and_kept bind
 header-spelled saved tag s =
-    elim (is_some tag.key) as (λ b. IsSpelled b (cond b defaults saved) (cond b (frame_and_kept true defaults) (frame_and_kept false saved) s).0.0) [
+    elim (is_some tag.key) as (λ b. IsWritableHeader b (cond b defaults saved) (cond b (frame_and_kept true defaults) (frame_and_kept false saved) s).0.0) [
       | true ↦ frame-spelled true defaults s
       | false ↦ frame-spelled false saved s
     ]

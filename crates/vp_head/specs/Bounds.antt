@@ -31,12 +31,12 @@ pub record IsInRange (h : Header) : Type 0 where
 -- ---- the signed values that may be kept from earlier frames
 
 -- each number is from -b to b
-abbrev pub AreWithin : ℕ → List ℤ → Type 0
-AreWithin b xs = (i : ℕ) → unsigned_abs (slice_index_or xs i (pos 0)) ≤ b
+abbrev pub AreBounded : ℕ → List ℤ → Type 0
+AreBounded b xs = (i : ℕ) → unsigned_abs (slice_index_or xs i (pos 0)) ≤ b
 
 -- of the segments, and of the level deltas
 pub record AreInRange (values : SegmentValues) (deltas : LevelDeltas) : Type 0 where
-  pub quantisers : AreWithin 127 values.quantisers
-  pub levels : AreWithin 63 values.levels
-  pub reference : AreWithin 63 deltas.reference
-  pub mode : AreWithin 63 deltas.mode
+  pub quantisers : AreBounded 127 values.quantisers
+  pub levels : AreBounded 63 values.levels
+  pub reference : AreBounded 63 deltas.reference
+  pub mode : AreBounded 63 deltas.mode

@@ -2,8 +2,8 @@
 use Rattle.std.specs.Prelude.{ℕ, zero, suc, pos, Bool, true, false, not, List, [], ◌∷◌, Option, Some, None, is_some, if◌then◌else◌}
 use Rattle.vp_bool.specs.Bools.{literal}
 use Rattle.vp_bool.specs.Reader.{Reader, ◌>>=◌, give, when}
-use Rattle.vp_head.specs.Rows.{flag, signed, renewed, three, four, four_signed}
-use Rattle.vp_head.specs.Probabilities.{coefficients, luma, chroma, vectors}
+use Rattle.vp_head.specs.Rows.{flag, optional_signed, renewed, three, four, four_signed}
+use Rattle.vp_head.specs.Probabilities.{token_probability_updates, luma_mode_probabilities, chroma, vectors}
 use Rattle.vp_head.specs.Saved.{defaults, kept_after}
 use Rattle.vp_head.specs.declared.fields.Tag.{Tag}
 use Rattle.vp_head.specs.declared.fields.SegmentValues.{SegmentValues}
@@ -24,8 +24,8 @@ use Rattle.vp_head.specs.declared.rows.Refreshes.{Refreshes}
 unfoldable pub segment_values : Reader SegmentValues
 segment_values = do
   absolute ← flag
-  quantisers ← four (signed 7 (pos 0))
-  levels ← four (signed 6 (pos 0))
+  quantisers ← four (optional_signed 7 (pos 0))
+  levels ← four (optional_signed 6 (pos 0))
   give (record { absolute = absolute; quantisers = quantisers; levels = levels })
 
 unfoldable pub tree_probabilities : Reader (List ℕ)
@@ -68,11 +68,11 @@ level_deltas kept = do
 unfoldable pub quantiser_indices : Reader QuantiserIndices
 quantiser_indices = do
   y_ac ← literal 7
-  y_dc ← signed 4 (pos 0)
-  y2_dc ← signed 4 (pos 0)
-  y2_ac ← signed 4 (pos 0)
-  uv_dc ← signed 4 (pos 0)
-  uv_ac ← signed 4 (pos 0)
+  y_dc ← optional_signed 4 (pos 0)
+  y2_dc ← optional_signed 4 (pos 0)
+  y2_ac ← optional_signed 4 (pos 0)
+  uv_dc ← optional_signed 4 (pos 0)
+  uv_ac ← optional_signed 4 (pos 0)
   give (record { y_ac = y_ac; y_dc = y_dc; y2_dc = y2_dc; y2_ac = y2_ac; uv_dc = uv_dc; uv_ac = uv_ac })
 
 -- ---- what is refreshed (chapter 9.7, 9.8, 19.2); a key frame refreshes all references and sets no sign bias
@@ -143,10 +143,10 @@ frame key kept = do
   log2_partitions ← literal 2
   quantiser ← quantiser_indices
   refreshes ← refreshes key kept.biases
-  coefficients ← coefficients kept.probabilities.coefficients
+  coefficients ← token_probability_updates kept.probabilities.coefficients
   skip ← skip
   references ← when (not key) reference_probabilities no_references
-  luma ← when (not key) (luma kept.probabilities.luma) kept.probabilities.luma
+  luma ← when (not key) (luma_mode_probabilities kept.probabilities.luma) kept.probabilities.luma
   chroma ← when (not key) (chroma kept.probabilities.chroma) kept.probabilities.chroma
   vectors ← when (not key) (vectors kept.probabilities.vectors) kept.probabilities.vectors
   give (

@@ -3,13 +3,13 @@ use Rattle.std.specs.Prelude.{ℕ, List, ◌++◌, codes, decimal}
 use Rattle.vp_head.specs.declared.fault.PacketFault.{PacketFault}
 use Rattle.vp_head.specs.declared.fault.PacketFault.TheVariants.{Truncated, Version, StartCode, Size, TooLarge, NoReference, FirstPartition, PartitionTable, Partition}
 
-abbrev pub name_of : PacketFault → List ℕ
-name_of Truncated = codes "Truncated"
-name_of Version = codes "Version"
-name_of StartCode = codes "StartCode"
-name_of Size = codes "Size"
-name_of TooLarge = codes "TooLarge"
-name_of NoReference = codes "NoReference"
-name_of FirstPartition = codes "FirstPartition"
-name_of PartitionTable = codes "PartitionTable"
-name_of (Partition i) = codes "Partition " ++ decimal i
+abbrev pub packet_fault_name : PacketFault → List ℕ
+packet_fault_name Truncated = codes "Truncated"
+packet_fault_name Version = codes "Version"
+packet_fault_name StartCode = codes "StartCode"
+packet_fault_name Size = codes "Size"
+packet_fault_name TooLarge = codes "TooLarge"
+packet_fault_name NoReference = codes "NoReference"
+packet_fault_name FirstPartition = codes "FirstPartition"
+packet_fault_name PartitionTable = codes "PartitionTable"
+packet_fault_name (Partition i) = codes "Partition " ++ decimal i

@@ -29,13 +29,13 @@ type_rows table = each [] 8 (band_at table)
 abbrev pub type_at : List (List (List (List ℕ))) → ℕ → List (List (List ℕ)) → Reader (List (List (List ℕ)))
 type_at table i = type_rows (slice_index_or table i [])
 
-unfoldable pub coefficients : List (List (List (List ℕ))) → Reader (List (List (List (List ℕ))))
-coefficients = each [] 4 (type_at coefficient_updates)
+unfoldable pub token_probability_updates : List (List (List (List ℕ))) → Reader (List (List (List (List ℕ))))
+token_probability_updates = each [] 4 (type_at coefficient_updates)
 
 -- ---- modes: a flag, and all of them where it is set
 
-unfoldable pub luma : List ℕ → Reader (List ℕ)
-luma old = do
+unfoldable pub luma_mode_probabilities : List ℕ → Reader (List ℕ)
+luma_mode_probabilities old = do
   set ← flag
   when set (four (literal 8)) old
 

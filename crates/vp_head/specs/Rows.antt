@@ -15,8 +15,8 @@ magnitude n = do
   give (if minus then neg_ℤ (pos value) else pos value)
 
 -- a flag, and a number of n bits with its sign where it is set; else this
-unfoldable pub signed : ℕ → ℤ → Reader ℤ
-signed n otherwise = do
+unfoldable pub optional_signed : ℕ → ℤ → Reader ℤ
+optional_signed n otherwise = do
   set ← flag
   when set (magnitude n) otherwise
 
@@ -44,8 +44,8 @@ four row = do
 -- four numbers, each with a flag of its own, and as it stood where that isn't set
 unfoldable pub four_signed : ℕ → List ℤ → Reader (List ℤ)
 four_signed n old = do
-  a ← signed n (slice_index_or old 0 (pos 0))
-  b ← signed n (slice_index_or old 1 (pos 0))
-  c ← signed n (slice_index_or old 2 (pos 0))
-  e ← signed n (slice_index_or old 3 (pos 0))
+  a ← optional_signed n (slice_index_or old 0 (pos 0))
+  b ← optional_signed n (slice_index_or old 1 (pos 0))
+  c ← optional_signed n (slice_index_or old 2 (pos 0))
+  e ← optional_signed n (slice_index_or old 3 (pos 0))
   give (a ∷ b ∷ c ∷ e ∷ [])

@@ -71,7 +71,7 @@ abbrev pub AreVectorProbabilities : List (List ℕ) → List (List ℕ) → Type
 AreVectorProbabilities old new = (i j : ℕ) → IsVectorProbability (slice_index (slice_index_or old i []) j) (slice_index (slice_index_or new i []) j)
 
 -- a header over what is kept: the rows that its kind of frame doesn't have say what they say where they aren't read
-pub record IsSpelled (key : Bool) (kept : Saved) (h : Header) : Type 0 where
+pub record IsWritableHeader (key : Bool) (kept : Saved) (h : Header) : Type 0 where
   pub kind : h.key ≡ key
   pub color_space : key ≡ false → h.color_space ≡ false
   pub clamping_type : key ≡ false → h.clamping_type ≡ false
@@ -93,5 +93,5 @@ abbrev pub kept_before : Saved → Tag → Saved
 kept_before saved tag = if is_some tag.key then defaults else saved
 
 -- a header that can be written into a packet with this tag
-abbrev pub CanBeWritten : Saved → Tag → Header → Type 0
-CanBeWritten saved tag h = IsSpelled (is_some tag.key) (kept_before saved tag) h
+abbrev pub IsWritableInPacket : Saved → Tag → Header → Type 0
+IsWritableInPacket saved tag h = IsWritableHeader (is_some tag.key) (kept_before saved tag) h

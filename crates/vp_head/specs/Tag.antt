@@ -9,8 +9,8 @@ use Rattle.vp_head.specs.declared.fault.PacketFault.{PacketFault}
 use Rattle.vp_head.specs.declared.fault.PacketFault.TheVariants.{Truncated, Version, StartCode, Size, TooLarge}
 
 -- so many bits of a number, from this one on; bit 0 is the lowest
-abbrev pub bits : ℕ → ℕ → ℕ → ℕ
-bits from count n = n / 2 ^ from % 2 ^ count
+abbrev pub bit_field : ℕ → ℕ → ℕ → ℕ
+bit_field from count n = n / 2 ^ from % 2 ^ count
 
 -- two bytes from a place on, the lower first
 abbrev pub word_at : ℕ → List ℕ → ℕ
@@ -30,28 +30,28 @@ dim_of (suc w) zero p q = None
 dim_of (suc w) (suc h) p q = Some (record { w = suc w; h = suc h; w_in_range = is_side w p; h_in_range = is_side h q })
 
 -- a size within the limits
-abbrev pub within : Limits → Option Dim → Result Dim PacketFault
-within limits None = Err Size
-within limits (Some dim) = if nat_lt limits.pixels (dim.w * dim.h) then Err TooLarge else Ok dim
+abbrev pub dim_within_limits : Limits → Option Dim → Result Dim PacketFault
+dim_within_limits limits None = Err Size
+dim_within_limits limits (Some dim) = if nat_lt limits.pixels (dim.w * dim.h) then Err TooLarge else Ok dim
 
 -- the size that two words say, 14 bits each
-abbrev pub size_of : ℕ → ℕ → Option Dim
-size_of width height = dim_of (bits 0 14 width) (bits 0 14 height) (is_below_16384 width) (is_below_16384 height)
+abbrev pub tag_dim : ℕ → ℕ → Option Dim
+tag_dim width height = dim_of (bit_field 0 14 width) (bit_field 0 14 height) (is_below_16384 width) (is_below_16384 height)
 
 -- beside the size, the two bits above it in each word
 abbrev pub key_with : ℕ → ℕ → Result Dim PacketFault → Result KeyTag PacketFault
 key_with width height (Err fault) = Err fault
-key_with width height (Ok dim) = Ok (record { dim = dim; horizontal_scale = bits 14 2 width; vertical_scale = bits 14 2 height })
+key_with width height (Ok dim) = Ok (record { dim = dim; horizontal_scale = bit_field 14 2 width; vertical_scale = bit_field 14 2 height })
 
 -- what a key packet's tag goes on with
 unfoldable pub key_of : Limits → List ℕ → Result KeyTag PacketFault
 key_of limits packet =
     if nat_lt (length packet) 10 then Err Truncated
-    else if has_start_code packet then key_with (word_at 6 packet) (word_at 8 packet) (within limits (size_of (word_at 6 packet) (word_at 8 packet)))
+    else if has_start_code packet then key_with (word_at 6 packet) (word_at 8 packet) (dim_within_limits limits (tag_dim (word_at 6 packet) (word_at 8 packet)))
     else Err StartCode
 
 abbrev pub tag_with : ℕ → Option KeyTag → Tag
-tag_with word key = record { version = bits 1 3 word; show = bits 4 1 word == 1; first_partition = bits 5 19 word; key = key }
+tag_with word key = record { version = bit_field 1 3 word; show = bit_field 4 1 word == 1; first_partition = bit_field 5 19 word; key = key }
 
 abbrev pub tag_with_key : ℕ → Result KeyTag PacketFault → Result Tag PacketFault
 tag_with_key word (Err fault) = Err fault
@@ -60,8 +60,8 @@ tag_with_key word (Ok key) = Ok (tag_with word (Some key))
 -- the tag that the word says; bit 0 is 0 for a key packet
 unfoldable pub tag_of_word : Limits → ℕ → List ℕ → Result Tag PacketFault
 tag_of_word limits word packet =
-    if nat_lt 3 (bits 1 3 word) then Err Version
-    else if bits 0 1 word == 0 then tag_with_key word (key_of limits packet)
+    if nat_lt 3 (bit_field 1 3 word) then Err Version
+    else if bit_field 0 1 word == 0 then tag_with_key word (key_of limits packet)
     else Ok (tag_with word None)
 
 -- a packet's tag, or its first fault

@@ -1,7 +1,7 @@
 //! What is wrong with a packet.
 
 ghost use Rattle.std.specs.Prelude.{Some};
-ghost use Rattle.vp_head.specs.Names.{name_of};
+ghost use Rattle.vp_head.specs.Names.{packet_fault_name};
 
 use std::fmt;
 
@@ -31,7 +31,7 @@ pub enum PacketFault {
 
 /// The fault's name, as it is told; `Partition 2` has the partition's number.
 impl fmt::Display for PacketFault {
-    ghost output = { λ fault. Some (name_of fault) };
+    ghost output = { λ fault. Some (packet_fault_name fault) };
 
     fn fmt<W: fmt::Write>(&self, f: &mut fmt::Formatter<W>) -> fmt::Result {
         let name = match self {

@@ -4,7 +4,7 @@ ghost use Rattle.std.specs.Prelude.{OnOk};
 ghost use Rattle.vp_bool.specs.Writing.{Writes};
 ghost use Rattle.vp_head.specs.Saved.{kept_after};
 ghost use Rattle.vp_head.specs.Header.{frame, frame_and_kept, header};
-ghost use Rattle.vp_head.specs.Spelled.{IsSpelled, kept_before, CanBeWritten};
+ghost use Rattle.vp_head.specs.Spelled.{IsWritableHeader, kept_before, IsWritableInPacket};
 
 use crate::fields::{Header, Saved, Tag};
 use crate::header::defaults;
@@ -25,7 +25,7 @@ impl Header {
     ///
     /// Where memory is refused, a part of the header may have been written.
     pub fn write(&self, saved: &Saved, tag: &Tag, e: &mut BoolEncoder) -> Result<(), AllocError>
-        requires { CanBeWritten saved.now tag.now self.now }
+        requires { IsWritableInPacket saved.now tag.now self.now }
         // What was written is read as this header, and leaves what follows; the same is kept after it.
         ensures { OnOk result (Writes (header saved.now tag.now) e.old e.new (self.now, kept_after (kept_before saved.now tag.now) self.now)) }
     {
@@ -44,7 +44,7 @@ fn write_with_kept(
     h: &Header,
     e: &mut BoolEncoder,
 ) -> Result<(), AllocError>
-    requires { IsSpelled key kept.now h.now }
+    requires { IsWritableHeader key kept.now h.now }
     ensures { OnOk result (Writes (frame_and_kept key kept.now) e.old e.new (h.now, kept_after kept.now h.now)) }
 {
     write_frame(key, kept, h, e)?;
@@ -53,7 +53,7 @@ fn write_with_kept(
 
 /// All rows, in order.
 fn write_frame(key: bool, kept: &Saved, h: &Header, e: &mut BoolEncoder) -> Result<(), AllocError>
-    requires { IsSpelled key kept.now h.now }
+    requires { IsWritableHeader key kept.now h.now }
     ensures { OnOk result (Writes (frame key kept.now) e.old e.new h.now) }
 {
     write_flag_if(key, h.color_space, e)?;

@@ -9,7 +9,7 @@ ghost use Rattle.vp_head.specs.Tag.{tag_of, IsKeyPacket, IsInterPacket};
 ghost use Rattle.vp_head.specs.Saved.{defaults};
 ghost use Rattle.vp_head.specs.Header.{header};
 ghost use Rattle.vp_head.specs.Bounds.{IsTagInRange, IsInRange, AreInRange};
-ghost use Rattle.vp_head.specs.Spelled.{CanBeWritten};
+ghost use Rattle.vp_head.specs.Spelled.{IsWritableInPacket};
 
 /// The first byte alone says whether a packet of three bytes or more is a key packet: its tag has a key part, or a fault.
 pub fn first_byte_says_kind()
@@ -39,5 +39,5 @@ pub fn probabilities_come_back()
 
 /// Each header that is read can be written: no more is asked of a header than what the format can say.
 pub fn what_is_read_can_be_written()
-    ensures { (saved : Saved) (tag : Tag) (s : State) → CanBeWritten saved tag (header saved tag s).0.0 }
+    ensures { (saved : Saved) (tag : Tag) (s : State) → IsWritableInPacket saved tag (header saved tag s).0.0 }
 {}

@@ -2,7 +2,7 @@
 
 ghost use Rattle.std.specs.Prelude.{◌≡◌};
 ghost use Rattle.vp_bool.specs.Reader.{when};
-ghost use Rattle.vp_head.specs.Probabilities.{context_rows, band_rows, type_rows, coefficients, luma, chroma, seven_bits, vector_renewed, component_rows, vectors};
+ghost use Rattle.vp_head.specs.Probabilities.{context_rows, band_rows, type_rows, token_probability_updates, luma_mode_probabilities, chroma, seven_bits, vector_renewed, component_rows, vectors};
 
 use crate::rows::{number, read_renewed};
 use vp_bool::BoolDecoder;
@@ -40,8 +40,8 @@ fn read_type(table: &[[[u8; 11]; 3]; 8], old: &mut [[[u8; 11]; 3]; 8], d: &mut B
 
 /// Coefficient probabilities.
 pub(crate) fn read_coefficients(old: &mut [[[[u8; 11]; 3]; 8]; 4], d: &mut BoolDecoder)
-    ensures value { old.new ≡ (coefficients old.old d.old).0 }
-    ensures rest { d.new ≡ (coefficients old.old d.old).1 }
+    ensures value { old.new ≡ (token_probability_updates old.old d.old).0 }
+    ensures rest { d.new ≡ (token_probability_updates old.old d.old).1 }
 {
     let table = coefficient_updates();
     for i in 0..4 {
@@ -50,10 +50,10 @@ pub(crate) fn read_coefficients(old: &mut [[[[u8; 11]; 3]; 8]; 4], d: &mut BoolD
 }
 
 /// The luma mode probabilities: all anew where that is asked for and their flag is set.
-#[tactic(auto, unfolding(crate::specs::Probabilities::luma, vp_bool::specs::Reader::bind))]
+#[tactic(auto, unfolding(crate::specs::Probabilities::luma_mode_probabilities, vp_bool::specs::Reader::bind))]
 pub(crate) fn read_luma_if(asked: bool, old: &mut [u8; 4], d: &mut BoolDecoder)
-    ensures value { old.new ≡ (when asked (luma old.old) old.old d.old).0 }
-    ensures rest { d.new ≡ (when asked (luma old.old) old.old d.old).1 }
+    ensures value { old.new ≡ (when asked (luma_mode_probabilities old.old) old.old d.old).0 }
+    ensures rest { d.new ≡ (when asked (luma_mode_probabilities old.old) old.old d.old).1 }
 {
     if asked && d.read(128) {
         *old = [d.literal(8), d.literal(8), d.literal(8), d.literal(8)];

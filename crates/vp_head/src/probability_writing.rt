@@ -3,7 +3,7 @@
 ghost use Rattle.std.specs.Prelude.{◌≡◌, ℕ, true, false, slice_index, OnOk};
 ghost use Rattle.vp_bool.specs.Reader.{when};
 ghost use Rattle.vp_bool.specs.Writing.{Writes};
-ghost use Rattle.vp_head.specs.Probabilities.{context_rows, band_rows, type_rows, coefficients, luma, chroma, vector_renewed, component_rows, vectors};
+ghost use Rattle.vp_head.specs.Probabilities.{context_rows, band_rows, type_rows, token_probability_updates, luma_mode_probabilities, chroma, vector_renewed, component_rows, vectors};
 ghost use Rattle.vp_head.specs.Spelled.{IsVectorProbability, AreVectorProbabilities};
 
 use crate::row_writing::write_renewed;
@@ -59,7 +59,7 @@ pub(crate) fn write_coefficients(
     new: &[[[[u8; 11]; 3]; 8]; 4],
     e: &mut BoolEncoder,
 ) -> Result<(), AllocError>
-    ensures { OnOk result (Writes (coefficients old.now) e.old e.new new.now) }
+    ensures { OnOk result (Writes (token_probability_updates old.now) e.old e.new new.now) }
 {
     let table = coefficient_updates();
     for i in 0..4 {
@@ -76,7 +76,7 @@ pub(crate) fn write_luma_if(
     e: &mut BoolEncoder,
 ) -> Result<(), AllocError>
     requires { asked ≡ false → new.now ≡ old.now }
-    ensures { OnOk result (Writes (when asked (luma old.now) old.now) e.old e.new new.now) }
+    ensures { OnOk result (Writes (when asked (luma_mode_probabilities old.now) old.now) e.old e.new new.now) }
 {
     if !asked {
         return Ok(());

@@ -5,7 +5,7 @@ ghost use Rattle.vp_bool.specs.Reader.{when};
 ghost use Rattle.vp_bool.specs.Writing.{Writes};
 ghost use Rattle.vp_head.specs.declared.fields.SegmentValues.{SegmentValues};
 ghost use Rattle.vp_head.specs.declared.fields.SignBiases.{SignBiases};
-ghost use Rattle.vp_head.specs.Rows.{flag, signed, renewed, four_signed};
+ghost use Rattle.vp_head.specs.Rows.{flag, optional_signed, renewed, four_signed};
 ghost use Rattle.vp_head.specs.Header.{segment_values, tree_probabilities, segmentation, filter, level_deltas, quantiser_indices, copy_of, copy, refreshes, skip, reference_probabilities, no_references};
 ghost use Rattle.vp_head.specs.Spelled.{IsSigned, AreSigned, AreSegmentValues, IsSegmentation, IsFilter, AreDeltas, IsQuantiser, AreUpdates};
 
@@ -31,7 +31,7 @@ pub(crate) fn write_flag_if(asked: bool, value: bool, e: &mut BoolEncoder) -> Re
 fn write_signed(bits: u32, otherwise: i8, value: i8, e: &mut BoolEncoder) -> Result<(), AllocError>
     requires width { bits ≤ 7 }
     requires fits { IsSigned bits otherwise value }
-    ensures { OnOk result (Writes (signed bits otherwise) e.old e.new value) }
+    ensures { OnOk result (Writes (optional_signed bits otherwise) e.old e.new value) }
 {
     if value == otherwise {
         e.write(false, 128)?;

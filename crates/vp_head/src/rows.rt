@@ -3,7 +3,7 @@
 ghost use Rattle.std.specs.Prelude.{◌≡◌, ◌<◌, ◌≤◌, ◌^◌, ℕ, ℤ};
 ghost use Rattle.vp_bool.specs.Bools.{literal};
 ghost use Rattle.vp_bool.specs.Reader.{when};
-ghost use Rattle.vp_head.specs.Rows.{flag, magnitude, signed, renewed, four_signed};
+ghost use Rattle.vp_head.specs.Rows.{flag, magnitude, optional_signed, renewed, four_signed};
 ghost use Rattle.vp_head.specs.Header.{segment_values, tree_probabilities, segmentation, filter, level_deltas, quantiser_indices, copy_of, copy, refreshes, skip, reference_probabilities, no_references};
 
 use crate::fields::{
@@ -51,11 +51,11 @@ fn read_magnitude(bits: u32, d: &mut BoolDecoder) -> i8
 }
 
 /// A number and its sign behind a flag, or this where the flag isn't set.
-#[tactic(auto, unfolding(crate::specs::Rows::signed, vp_bool::specs::Reader::bind))]
+#[tactic(auto, unfolding(crate::specs::Rows::optional_signed, vp_bool::specs::Reader::bind))]
 fn read_signed(bits: u32, otherwise: i8, d: &mut BoolDecoder) -> i8
     requires { bits ≤ 7 }
-    ensures value { result ≡ (signed bits otherwise d.old).0 }
-    ensures rest { d.new ≡ (signed bits otherwise d.old).1 }
+    ensures value { result ≡ (optional_signed bits otherwise d.old).0 }
+    ensures rest { d.new ≡ (optional_signed bits otherwise d.old).1 }
 {
     if d.read(128) {
         read_magnitude(bits, d)

@@ -1,6 +1,6 @@
 ghost use Rattle.std.specs.Prelude.{IfOk, ◌≡◌, ◌≤◌, ◌<◌, ◌+◌, ◌^◌, length};
 ghost use Rattle.vp_head.specs.Bounds.{IsTagInRange};
-ghost use Rattle.vp_head.specs.Tag.{tag_of, tag_of_word, key_of, word_at, within, size_of};
+ghost use Rattle.vp_head.specs.Tag.{tag_of, tag_of_word, key_of, word_at, dim_within_limits, tag_dim};
 
 use crate::fault::PacketFault;
 use crate::fields::{KeyTag, Tag};
@@ -77,7 +77,7 @@ fn read_word(packet: &[u8], at: usize) -> u16
 
 /// The size that two words say.
 fn dim_within(width: u16, height: u16, limits: &Limits) -> Result<Dim, PacketFault>
-    ensures { result ≡ within limits.now (size_of width height) }
+    ensures { result ≡ dim_within_limits limits.now (tag_dim width height) }
 {
     match Dim::new(width & 0x3fff, height & 0x3fff, limits) {
         Ok(dim) => Ok(dim),

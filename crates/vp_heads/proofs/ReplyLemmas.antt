@@ -27,13 +27,13 @@ module _ (xs ys : List ℕ) (first last : ℕ) where
       ∙ take-append-add (drop first xs) ys (last - length xs)
       ∙ ap (λ zs. zs ++ take (last - length xs) ys) (sym (take_all (length xs - first) (drop first xs) (omega (arith, before, length-drop first xs))))
 
-module _ (out head body mid new : List ℕ) (silent : Bool) (begun : mid ≡ out ++ head) where
+module _ (out head body mid new : List ℕ) (head_only : Bool) (begun : mid ≡ out ++ head) where
   -- a body behind its head
-  pub with_body : silent ≡ false → new ≡ mid ++ body → new ≡ out ++ (head ++ (if silent then [] else body))
+  pub with_body : head_only ≡ false → new ≡ mid ++ body → new ≡ out ++ (head ++ (if head_only then [] else body))
   with_body h put = put ∙ ap (λ m. m ++ body) begun ∙ append_assoc out head body ∙ ap (λ b. out ++ (head ++ (if b then [] else body))) (sym h)
 
   -- a head alone
-  pub without_body : silent ≡ true → mid ≡ out ++ (head ++ (if silent then [] else body))
+  pub without_body : head_only ≡ true → mid ≡ out ++ (head ++ (if head_only then [] else body))
   without_body h = begun ∙ ap (λ h. out ++ h) (sym (append-nil head)) ∙ ap (λ b. out ++ (head ++ (if b then [] else body))) (sym h)
 
 pub on_ok : {X Y : Type 0} (r : Result X Y) (A B : Type 0) → (A → B) → OnOk r A → OnOk r B

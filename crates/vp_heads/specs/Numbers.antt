@@ -17,5 +17,5 @@ below_32_bits None = None
 below_32_bits (Some n) = if nat_lt n (2 ^ 32) then Some n else None
 
 -- the number of a packet: without leading zeros, at most 4,294,967,295
-abbrev pub packet_in : List ℕ → Option ℕ
-packet_in text = if starts_plainly text then below_32_bits (count_in text) else None
+abbrev pub packet_number : List ℕ → Option ℕ
+packet_number text = if starts_plainly text then below_32_bits (count_in text) else None

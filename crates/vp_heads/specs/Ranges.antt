@@ -50,11 +50,11 @@ range_in fields =
     then range_of (value_of (codes "range") fields) else Whole
 
 -- the part of a body of this many bytes, by its first and its last byte; a range that ends before it begins doesn't count
-abbrev pub part_of : Range → ℕ → Part
-part_of Whole size = All
-part_of (Between a b) size = if nat_lt b a then All else if nat_lt a size then Slice a (min b (size - 1)) else Beyond
-part_of (From a) size = if nat_lt a size then Slice a (size - 1) else Beyond
-part_of (Last n) size = if n == 0 || size == 0 then Beyond else Slice (size - min n size) (size - 1)
+abbrev pub selected_part : Range → ℕ → Part
+selected_part Whole size = All
+selected_part (Between a b) size = if nat_lt b a then All else if nat_lt a size then Slice a (min b (size - 1)) else Beyond
+selected_part (From a) size = if nat_lt a size then Slice a (size - 1) else Beyond
+selected_part (Last n) size = if n == 0 || size == 0 then Beyond else Slice (size - min n size) (size - 1)
 
 -- the part is there
 abbrev pub IsPartWithin : ℕ → Part → Type 0

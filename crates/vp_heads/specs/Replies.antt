@@ -6,7 +6,7 @@ use Rattle.vp_heads.specs.declared.status.Status.TheVariants as status
 use Rattle.vp_heads.specs.declared.request.Request.{Request}
 use Rattle.vp_heads.specs.declared.ranges.Part.{Part}
 use Rattle.vp_heads.specs.declared.ranges.Part.TheVariants.{All, Slice, Beyond}
-use Rattle.vp_heads.specs.Ranges.{part_of, slice_of}
+use Rattle.vp_heads.specs.Ranges.{selected_part, slice_of}
 use Rattle.vp_heads.specs.Requests.{unreadable}
 
 abbrev pub code_of : Status → ℕ
@@ -23,8 +23,8 @@ code_of status.TooLong = 431
 unfoldable pub phrase_of : Status → List ℕ
 phrase_of s = unwrap_or (reason_phrase (code_of s)) []
 
-abbrev pub plain : List ℕ
-plain = codes "text/plain"
+abbrev pub plain_text : List ℕ
+plain_text = codes "text/plain_text"
 
 abbrev pub octets : List ℕ
 octets = codes "application/octet-stream"
@@ -33,8 +33,8 @@ abbrev pub closing_line : Bool → List ℕ
 closing_line closing = if closing then codes "Connection: close\r\n" else []
 
 -- the lines before a body of so many bytes; there may be one more line, and the one that says that the connection closes
-unfoldable pub head_text : ℕ → List ℕ → List ℕ → ℕ → List ℕ → List ℕ → List ℕ
-head_text code phrase kind size more close =
+unfoldable pub reply_head : ℕ → List ℕ → List ℕ → ℕ → List ℕ → List ℕ → List ℕ
+reply_head code phrase kind size more close =
     codes "HTTP/1.1 " ++ (decimal code ++ (codes " " ++ (phrase
     ++ (codes "\r\nContent-Type: " ++ (kind
     ++ (codes "\r\nContent-Length: " ++ (decimal size ++ (codes "\r\n"
@@ -43,7 +43,7 @@ head_text code phrase kind size more close =
 -- a reply: the lines, and the body, where the request wants one
 abbrev pub reply_text : Request → Status → List ℕ → List ℕ → List ℕ → List ℕ
 reply_text request s kind more body =
-    head_text (code_of s) (phrase_of s) kind (length body) more (closing_line request.closing) ++ (if request.silent then [] else body)
+    reply_head (code_of s) (phrase_of s) kind (length body) more (closing_line request.closing) ++ (if request.head_only then [] else body)
 
 -- the body of an error: its phrase, as a line
 abbrev pub phrase_line : Status → List ℕ
@@ -64,7 +64,7 @@ allowing status.Unprocessable = []
 allowing status.TooLong = []
 
 abbrev pub error_text : Request → Status → List ℕ
-error_text request s = reply_text request s plain (allowing s) (phrase_line s)
+error_text request s = reply_text request s plain_text (allowing s) (phrase_line s)
 
 abbrev pub range_line : ℕ → ℕ → ℕ → List ℕ
 range_line first last size =
@@ -79,7 +79,7 @@ part_text All request body = reply_text request status.Good octets [] body
 part_text (Slice first last) request body =
     reply_text request status.Partial octets (range_line first last (length body)) (slice_of first last body)
 part_text Beyond request body =
-    reply_text request status.RangeNotSatisfiable plain (no_range_line (length body)) (phrase_line status.RangeNotSatisfiable)
+    reply_text request status.RangeNotSatisfiable plain_text (no_range_line (length body)) (phrase_line status.RangeNotSatisfiable)
 
 -- what was found for a request
 pub data Content : Type 0 where
@@ -90,9 +90,9 @@ pub data Content : Type 0 where
 
 -- the reply to a request: lines of text, pixels, the name of a packet's fault, or an error
 unfoldable pub reply_to : Request → Content → List ℕ
-reply_to request (Lines body) = reply_text request status.Good plain [] body
-reply_to request (Pixels body) = part_text (part_of request.range (length body)) request body
-reply_to request (Faulted name) = reply_text request status.Unprocessable plain [] (name ++ 10 ∷ [])
+reply_to request (Lines body) = reply_text request status.Good plain_text [] body
+reply_to request (Pixels body) = part_text (selected_part request.range (length body)) request body
+reply_to request (Faulted name) = reply_text request status.Unprocessable plain_text [] (name ++ 10 ∷ [])
 reply_to request (Failed s) = error_text request s
 
 -- the reply to 8,192 bytes without a head's end

@@ -5,8 +5,8 @@ use Rattle.std.specs.Str.{bytes_eq}
 use Rattle.httparse.specs.Grammar.{RequestHead}
 use Rattle.httparse.specs.Spans.{name_and_value}
 use Rattle.vp_heads.specs.declared.request.Request.{Request}
-use Rattle.vp_heads.specs.declared.request.Wanted.{Wanted}
-use Rattle.vp_heads.specs.declared.request.Wanted.TheVariants.{Bad, WrongMethod, Missing, Streams, Info, Frame, Video}
+use Rattle.vp_heads.specs.declared.request.Resource.{Resource}
+use Rattle.vp_heads.specs.declared.request.Resource.TheVariants.{Bad, WrongMethod, Missing, Streams, Info, Frame, Video}
 use Rattle.vp_heads.specs.declared.ranges.Range.{Range}
 use Rattle.vp_heads.specs.declared.ranges.Range.TheVariants.{Whole}
 use Rattle.vp_heads.specs.Heads.{IsHeadOf, HasNoHead}
@@ -24,14 +24,14 @@ abbrev pub is_question : ℕ → Bool
 is_question b = b == 63
 
 -- what is wanted, by the method, the target, the version, how many Host fields there are, and whether a body is announced
-unfoldable pub wanted_by : List (List ℕ) → List ℕ → List ℕ → ℕ → ℕ → Bool → Wanted
+unfoldable pub wanted_by : List (List ℕ) → List ℕ → List ℕ → ℕ → ℕ → Bool → Resource
 wanted_by names method target minor hosts body =
     if body then Bad else
     if is_host_wrong minor hosts then Bad else
     if not (is_get method || is_head method) then WrongMethod else
     if not (starts_with nat_eq target (codes "/")) then Bad else at_path names (before_first is_question target)
 
-abbrev pub is_bad : Wanted → Bool
+abbrev pub is_bad : Resource → Bool
 is_bad Bad = true
 is_bad WrongMethod = false
 is_bad Missing = false
@@ -41,10 +41,10 @@ is_bad (Frame stream n) = false
 is_bad (Video stream n) = false
 
 -- a bad request closes the connection; so does HTTP/1.0, and a Connection that says so
-abbrev pub request_by : Wanted → List ℕ → ℕ → Bool → Range → Request
+abbrev pub request_by : Resource → List ℕ → ℕ → Bool → Range → Request
 request_by wanted method minor closing range = record {
   wanted = wanted;
-  silent = is_head method;
+  head_only = is_head method;
   closing = is_bad wanted || (minor == 0 || closing);
   range = if is_get method then range else Whole;
 }
@@ -61,7 +61,7 @@ asked names h = asked_by names h.method h.target h.minor (map name_and_value h.f
 
 -- bytes that are no head: a bad request
 abbrev pub unreadable : Request
-unreadable = record { wanted = Bad; silent = false; closing = true; range = Whole }
+unreadable = record { wanted = Bad; head_only = false; closing = true; range = Whole }
 
 -- what the bytes of a head ask for, of streams with these names
 abbrev pub IsAsked : List (List ℕ) → List ℕ → Request → Type 0

@@ -10,9 +10,9 @@ use Rattle.matchit.specs.Router.{RouteOf, route_from, nearest}
 use Rattle.matchit.specs.declared.error.InsertError.{InsertError}
 use Rattle.vp_heads.specs.declared.routes.Page.{Page}
 use Rattle.vp_heads.specs.declared.routes.Page.TheVariants as page
-use Rattle.vp_heads.specs.declared.request.Wanted.{Wanted}
-use Rattle.vp_heads.specs.declared.request.Wanted.TheVariants.{Missing, Streams, Info, Frame, Video}
-use Rattle.vp_heads.specs.Numbers.{packet_in}
+use Rattle.vp_heads.specs.declared.request.Resource.{Resource}
+use Rattle.vp_heads.specs.declared.request.Resource.TheVariants.{Missing, Streams, Info, Frame, Video}
+use Rattle.vp_heads.specs.Numbers.{packet_number}
 
 -- the rows with one more route
 abbrev pub with_scan : Result Scan InsertError → Page → RowsOf (RouteOf Page) → RowsOf (RouteOf Page)
@@ -50,35 +50,35 @@ is_slash b = b == 47
 abbrev pub name_in : List ℕ → List ℕ
 name_in path = before_first is_slash (drop 3 path)
 
-abbrev pub number_in : List ℕ → List ℕ
-number_in path = after_first is_slash (after_first is_slash (drop 3 path))
+abbrev pub number_segment : List ℕ → List ℕ
+number_segment path = after_first is_slash (after_first is_slash (drop 3 path))
 
 -- the place of a name among names
-abbrev pub place_of : List (List ℕ) → List ℕ → Option ℕ
-place_of names name = position (λ x. bytes_eq x name) names
+abbrev pub name_index : List (List ℕ) → List ℕ → Option ℕ
+name_index names name = position (λ x. bytes_eq x name) names
 
 -- ---- what a path asks for; nothing where there is no such stream, or no number
 
-abbrev pub info_of : Option ℕ → Wanted
-info_of None = Missing
-info_of (Some stream) = Info stream
+abbrev pub info_route : Option ℕ → Resource
+info_route None = Missing
+info_route (Some stream) = Info stream
 
-abbrev pub frame_of : Option ℕ → Option ℕ → Wanted
-frame_of (Some stream) (Some n) = Frame stream n
-frame_of (Some stream) None = Missing
-frame_of None n = Missing
+abbrev pub frame_route : Option ℕ → Option ℕ → Resource
+frame_route (Some stream) (Some n) = Frame stream n
+frame_route (Some stream) None = Missing
+frame_route None n = Missing
 
-abbrev pub video_of : Option ℕ → Option ℕ → Wanted
-video_of (Some stream) (Some n) = Video stream n
-video_of (Some stream) None = Missing
-video_of None n = Missing
+abbrev pub video_route : Option ℕ → Option ℕ → Resource
+video_route (Some stream) (Some n) = Video stream n
+video_route (Some stream) None = Missing
+video_route None n = Missing
 
-abbrev pub on_page : Option Page → List (List ℕ) → List ℕ → Wanted
+abbrev pub on_page : Option Page → List (List ℕ) → List ℕ → Resource
 on_page None names path = Missing
 on_page (Some page.Streams) names path = Streams
-on_page (Some page.Info) names path = info_of (place_of names (name_in path))
-on_page (Some page.Frame) names path = frame_of (place_of names (name_in path)) (packet_in (number_in path))
-on_page (Some page.Video) names path = video_of (place_of names (name_in path)) (packet_in (number_in path))
+on_page (Some page.Info) names path = info_route (name_index names (name_in path))
+on_page (Some page.Frame) names path = frame_route (name_index names (name_in path)) (packet_number (number_segment path))
+on_page (Some page.Video) names path = video_route (name_index names (name_in path)) (packet_number (number_segment path))
 
-unfoldable pub at_path : List (List ℕ) → List ℕ → Wanted
+unfoldable pub at_path : List (List ℕ) → List ℕ → Resource
 at_path names path = on_page (page_at path) names path

@@ -16,6 +16,6 @@ pub use buffer::Buffer;
 pub use laws::heads_are_unique;
 pub use ranges::{Part, Range};
 pub use reply::{put_error, put_faulted, put_lines, put_pixels, put_too_long};
-pub use request::{Request, Wanted, read_request};
+pub use request::{Request, Resource, read_request};
 pub use routes::{Page, place_of, router};
 pub use status::Status;

@@ -3,7 +3,7 @@
 ghost use Rattle.std.specs.Prelude.{◌≡◌, ◌&&◌, ◌==◌, ◌||◌, not, length, slice_index};
 ghost use Rattle.std.specs.Char.{is_ascii_digit};
 ghost use Rattle.std.specs.List.{list_all};
-ghost use Rattle.vp_heads.specs.Numbers.{count_in, starts_plainly, packet_in};
+ghost use Rattle.vp_heads.specs.Numbers.{count_in, starts_plainly, packet_number};
 
 fn all_digits(text: &[u8]) -> bool
     ensures { result ≡ list_all is_ascii_digit text.now }
@@ -32,7 +32,7 @@ fn is_plain(text: &[u8]) -> bool
 
 /// The number of a packet.
 pub(crate) fn packet(text: &[u8]) -> Option<u32>
-    ensures { result ≡ packet_in text.now }
+    ensures { result ≡ packet_number text.now }
 {
     if !is_plain(text) {
         return None;

@@ -4,7 +4,7 @@ ghost use Rattle.std.specs.Prelude.{◌≡◌, ◌<◌, ◌≤◌, All, length, 
 ghost use Rattle.std.specs.List.{before_first, after_first, list_any};
 ghost use Rattle.httparse.specs.Spans.{IsHeaderWithin, header_bytes};
 ghost use Rattle.vp_heads.specs.Ranges.{is_dash, range_by, range_behind, range_of, IsPartWithin};
-ghost use Rattle.vp_heads.specs.Ranges.{part_of as part_is, range_in as range_is};
+ghost use Rattle.vp_heads.specs.Ranges.{selected_part as part_is, range_in as range_is};
 ghost use Rattle.vp_heads.specs.declared.ranges.Part.TheVariants.{Slice};
 
 use crate::fields::{count_named, value_named};

@@ -2,7 +2,7 @@
 
 ghost use Rattle.std.specs.Prelude.{◌≡◌, ◌++◌, ◌+◌, ◌-◌, ◌<◌, ◌≤◌, ◌∷◌, [], length, take, drop, IfOk, OnOk, codes, true};
 ghost use Rattle.std.specs.String.{string_bytes};
-ghost use Rattle.vp_heads.specs.Replies.{code_of, phrase_of, phrase_line, plain, octets, closing_line, head_text, reply_text, error_text, allowing, range_line, no_range_line, reply_to, part_text, too_long, Lines, Pixels, Faulted, Failed};
+ghost use Rattle.vp_heads.specs.Replies.{code_of, phrase_of, phrase_line, plain_text, octets, closing_line, reply_head, reply_text, error_text, allowing, range_line, no_range_line, reply_to, part_text, too_long, Lines, Pixels, Faulted, Failed};
 ghost use Rattle.vp_heads.specs.Ranges.{slice_of};
 
 use crate::buffer::Buffer;
@@ -12,7 +12,7 @@ use crate::status::Status;
 use std::alloc::{AllocError, Global};
 
 /// The lines before a body of `length` bytes.
-#[tactic(auto, unfolding(crate::specs::Replies::head_text))]
+#[tactic(auto, unfolding(crate::specs::Replies::reply_head))]
 fn head(
     alloc: Global,
     code: u16,
@@ -22,7 +22,7 @@ fn head(
     more: &str,
     close: &str,
 ) -> Result<String, AllocError>
-    ensures { IfOk result (λ r. string_bytes r ≡ head_text code phrase.now kind.now length more.now close.now) }
+    ensures { IfOk result (λ r. string_bytes r ≡ reply_head code phrase.now kind.now length more.now close.now) }
 {
     format!(in alloc;
         "HTTP/1.1 {code} {phrase}\r\nContent-Type: {kind}\r\nContent-Length: {length}\r\n{more}{close}\r\n"
@@ -45,7 +45,7 @@ fn put_head(
     out: &mut Buffer,
 ) -> Result<(), AllocError>
     ensures { OnOk result (out.new ≡ out.old
-        ++ head_text (code_of status) (phrase_of status) kind.now length more.now (closing_line request.closing)) }
+        ++ reply_head (code_of status) (phrase_of status) kind.now length more.now (closing_line request.closing)) }
 {
     let code = status.code().as_u16();
     let close = close_line(request.closing);
@@ -69,7 +69,7 @@ fn put_line(
     line: &str,
     out: &mut Buffer,
 ) -> Result<(), AllocError>
-    ensures { OnOk result (out.new ≡ out.old ++ reply_text request status plain more.now (line.now ++ 10 ∷ [])) }
+    ensures { OnOk result (out.new ≡ out.old ++ reply_text request status plain_text more.now (line.now ++ 10 ∷ [])) }
 {
     put_head(
         alloc,
@@ -80,7 +80,7 @@ fn put_line(
         more,
         out,
     )?;
-    if request.silent {
+    if request.head_only {
         return Ok(());
     }
     put_both(line.as_bytes(), b"\n", out)
@@ -135,7 +135,7 @@ fn put_all(
         "",
         out,
     )?;
-    if request.silent {
+    if request.head_only {
         return Ok(());
     }
     put_both(front, back, out)
@@ -179,7 +179,7 @@ fn put_part(
         line.as_str(),
         out,
     )?;
-    if request.silent {
+    if request.head_only {
         return Ok(());
     }
     put_slice(front, back, first, last + 1, out)
@@ -193,7 +193,7 @@ fn put_no_part(
     out: &mut Buffer,
 ) -> Result<(), AllocError>
     ensures { OnOk result (out.new ≡ out.old
-        ++ reply_text request Status.RangeNotSatisfiable plain (no_range_line size) (phrase_line Status.RangeNotSatisfiable)) }
+        ++ reply_text request Status.RangeNotSatisfiable plain_text (no_range_line size) (phrase_line Status.RangeNotSatisfiable)) }
 {
     let status = Status::RangeNotSatisfiable;
     let line = no_range_text(alloc, size)?;
@@ -219,7 +219,7 @@ pub fn put_lines(
         "",
         out,
     )?;
-    if request.silent {
+    if request.head_only {
         return Ok(());
     }
     out.append(body)

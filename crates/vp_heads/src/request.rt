@@ -21,7 +21,7 @@ use vp_base::ByteList;
 
 /// What is wanted, streams named by their places among the names.
 #[derive(Clone, Copy, Debug, PartialEq, Eq, Drop)]
-pub enum Wanted {
+pub enum Resource {
     /// Nothing: no head, a body, a wrong number of Host fields, or a target that isn't a path.
     Bad,
     /// Nothing: neither GET nor HEAD.
@@ -42,9 +42,9 @@ pub enum Wanted {
 #[derive(Clone, Copy, Debug, PartialEq, Eq, Drop)]
 pub struct Request {
     /// What is wanted.
-    pub wanted: Wanted,
+    pub wanted: Resource,
     /// Whether the reply has no body (RFC 9110, chapter 9.3.2).
-    pub silent: bool,
+    pub head_only: bool,
     /// Whether the connection is closed behind the reply.
     pub closing: bool,
     /// Which part of a picture is wanted.
@@ -64,10 +64,10 @@ fn is_head(method: &[u8]) -> bool
 }
 
 /// Whether the connection is closed behind the reply.
-fn is_last(wanted: Wanted, minor: u8, closing: bool) -> bool
+fn is_last(wanted: Resource, minor: u8, closing: bool) -> bool
     ensures { result ≡ (is_bad wanted || (minor == 0 || closing)) }
 {
-    matches!(wanted, Wanted::Bad) || minor == 0 || closing
+    matches!(wanted, Resource::Bad) || minor == 0 || closing
 }
 
 /// The range that counts for a method.
@@ -92,18 +92,18 @@ fn wanted_of(
     minor: u8,
     hosts: usize,
     body: bool,
-) -> Wanted
+) -> Resource
     requires { router.now ≡ our_routes }
     ensures { result ≡ wanted_by names.now method.now target.now minor hosts body }
 {
     if body || hosts > 1 || (minor == 1 && hosts == 0) {
-        return Wanted::Bad;
+        return Resource::Bad;
     }
     if !is_get(method) && !is_head(method) {
-        return Wanted::WrongMethod;
+        return Resource::WrongMethod;
     }
     if !target.starts_with(b"/") {
-        return Wanted::Bad;
+        return Resource::Bad;
     }
     wanted_at(router, names, path_of(target))
 }
@@ -144,7 +144,7 @@ fn judge(
     let wanted = wanted_of(router, names, method, target, minor, hosts, body);
     Request {
         wanted,
-        silent: is_head(method),
+        head_only: is_head(method),
         closing: is_last(wanted, minor, has_closing_field(bytes, fields)),
         range: range_for(method, bytes, fields),
     }
@@ -190,8 +190,8 @@ pub(crate) fn unreadable() -> Request
     ensures { result ≡ no_request }
 {
     Request {
-        wanted: Wanted::Bad,
-        silent: false,
+        wanted: Resource::Bad,
+        head_only: false,
         closing: true,
         range: Range::Whole,
     }

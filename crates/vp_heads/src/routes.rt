@@ -2,11 +2,11 @@
 
 ghost use Rattle.std.specs.Prelude.{◌≡◌, ◌==◌, ◌+◌, ◌<◌, ℕ, List, [], Option, Some, None, IfOk, OnOk, IfSome, length, position, drop};
 ghost use Rattle.std.specs.List.{before_first, after_first, position_or_len};
-ghost use Rattle.vp_heads.specs.Routes.{our_routes, page_at, with_route, HasPlace, is_slash, name_in, number_in, at_path};
-ghost use Rattle.vp_heads.specs.Routes.{place_of as place_in};
+ghost use Rattle.vp_heads.specs.Routes.{our_routes, page_at, with_route, HasPlace, is_slash, name_in, number_segment, at_path};
+ghost use Rattle.vp_heads.specs.Routes.{name_index as place_in};
 
 use crate::numbers::packet;
-use crate::request::Wanted;
+use crate::request::Resource;
 use matchit::{InsertError, Router};
 use std::alloc::{AllocError, Global};
 use std::str::from_utf8;
@@ -108,7 +108,7 @@ fn name_of(path: &[u8]) -> &[u8]
 }
 
 fn number_of(path: &[u8]) -> &[u8]
-    ensures { result.now ≡ number_in path.now }
+    ensures { result.now ≡ number_segment path.now }
 {
     rest(rest(behind_three(path)))
 }
@@ -123,28 +123,28 @@ pub fn place_of(names: &[ByteList], name: &[u8]) -> Option<usize>
 
 /// What a path asks for.
 #[tactic(auto, unfolding(crate::specs::Routes::at_path))]
-pub(crate) fn wanted_at(router: &Router<Page>, names: &[ByteList], path: &[u8]) -> Wanted
+pub(crate) fn wanted_at(router: &Router<Page>, names: &[ByteList], path: &[u8]) -> Resource
     requires { router.now ≡ our_routes }
     ensures { result ≡ at_path names.now path.now }
 {
     let Some(page) = page_of(router, path) else {
-        return Wanted::Missing;
+        return Resource::Missing;
     };
     if page == Page::Streams {
-        return Wanted::Streams;
+        return Resource::Streams;
     }
     let Some(stream) = place_of(names, name_of(path)) else {
-        return Wanted::Missing;
+        return Resource::Missing;
     };
     if page == Page::Info {
-        return Wanted::Info(stream);
+        return Resource::Info(stream);
     }
     let Some(n) = packet(number_of(path)) else {
-        return Wanted::Missing;
+        return Resource::Missing;
     };
     if page == Page::Frame {
-        Wanted::Frame(stream, n)
+        Resource::Frame(stream, n)
     } else {
-        Wanted::Video(stream, n)
+        Resource::Video(stream, n)
     }
 }

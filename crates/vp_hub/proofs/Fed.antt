@@ -8,18 +8,18 @@ use Rattle.std.proofs.lemmas.Bool.Decides.{nat_tests}
 use Rattle.vp_base.specs.declared.limits.Limits.{Limits}
 use Rattle.vp_ivf.specs.declared.fault.FileFault.{FileFault}
 use Rattle.vp_ivf.specs.declared.fault.FileFault.TheVariants as file_fault
-use Rattle.vp_ivf.specs.Ivf.{Contents, resume, read, next_head}
+use Rattle.vp_ivf.specs.Ivf.{Contents, resume, read_file, next_head}
 use Rattle.vp_ivf.proofs.Growing.{reads_in_pieces}
 use Rattle.vp_stream.specs.Answers.{reading_of}
 use Rattle.vp_ivf.specs.Reader.{finish_answer, ended_by}
-use Rattle.vp_stream.specs.Stream.{refusal, after_end}
-use Rattle.vp_heads.specs.Routes.{place_of}
+use Rattle.vp_stream.specs.Stream.{stream_refusal, stream_after_end}
+use Rattle.vp_heads.specs.Routes.{name_index}
 use Rattle.vp_hub.specs.declared.event.Event.{Event}
 use Rattle.vp_hub.specs.declared.event.Event.TheVariants.{Feed, End, Open, Bytes, Shut}
 use Rattle.vp_hub.specs.declared.event.HubFault.TheVariants.{Ended, Memory}
 use Rattle.vp_hub.specs.declared.source.Source.{Source}
 use Rattle.vp_hub.specs.Pages.{Streams}
-use Rattle.vp_hub.specs.Hub.{Outcome, State, HubStep, after_memory, IsStep, at_source, at_place, fed, fed_by, ended, is_open_end, ending_by, no_bytes, new_source}
+use Rattle.vp_hub.specs.Hub.{Outcome, HubState, HubStep, after_memory, IsStep, at_source, at_place, fed, fed_by, ended_source, is_open_end, ending_by, no_bytes, new_source}
 use Rattle.vp_hub.specs.View.{is_memory, IsRun}
 use Rattle.vp_hub.specs.Pieces.{is_at, accepted, all_accepted, AreAcceptedPieces, NewStreamsHaveNoBytes, accepts_end, end_accepted, end_by, AreAcceptedEnds, NewStreamsAreOpen}
 use Rattle.vp_hub.proofs.Isolation.{memory_is, memory_isn't}
@@ -79,25 +79,25 @@ names_by : (f : Source → Source × Outcome) (streams : Streams) (l : Option �
 names_by f streams None = refl
 names_by f streams (Some j) = names_at f streams j (slice_get streams.sources j)
 
-names_after : (old new : State) (o : Outcome) (e : Event) → HubStep e old (new, o) → new.streams.names ≡ old.streams.names
-names_after old new o (Feed name piece) h = ap (λ (x : State × Outcome). x.0.streams.names) h ∙ names_by (fed piece) old.streams (place_of old.streams.names name)
-names_after old new o (End name) h = ap (λ (x : State × Outcome). x.0.streams.names) h ∙ names_by ended old.streams (place_of old.streams.names name)
-names_after old new o (Open d) h = ap (λ (x : State × Outcome). x.0.streams.names) h
+names_after : (old new : HubState) (o : Outcome) (e : Event) → HubStep e old (new, o) → new.streams.names ≡ old.streams.names
+names_after old new o (Feed name piece) h = ap (λ (x : HubState × Outcome). x.0.streams.names) h ∙ names_by (fed piece) old.streams (name_index old.streams.names name)
+names_after old new o (End name) h = ap (λ (x : HubState × Outcome). x.0.streams.names) h ∙ names_by ended_source old.streams (name_index old.streams.names name)
+names_after old new o (Open d) h = ap (λ (x : HubState × Outcome). x.0.streams.names) h
 names_after old new o (Bytes d piece) h = ap (λ (s : Streams). s.names) h.1
-names_after old new o (Shut d) h = ap (λ (x : State × Outcome). x.0.streams.names) h
+names_after old new o (Shut d) h = ap (λ (x : HubState × Outcome). x.0.streams.names) h
 
-names_refused : (old : State) (e : Event) → (after_memory e old).streams.names ≡ old.streams.names
+names_refused : (old : HubState) (e : Event) → (after_memory e old).streams.names ≡ old.streams.names
 names_refused old (Feed name piece) = refl
 names_refused old (End name) = refl
 names_refused old (Open d) = refl
 names_refused old (Bytes d piece) = refl
 names_refused old (Shut d) = refl
 
-names_stay : (old new : State) (e : Event) (o : Outcome) → IsStep old e o new → new.streams.names ≡ old.streams.names
+names_stay : (old new : HubState) (e : Event) (o : Outcome) → IsStep old e o new → new.streams.names ≡ old.streams.names
 names_stay old new e o step = by_memory (is_memory o) refl
   where
     by_memory : (t : Bool) → is_memory o ≡ t → new.streams.names ≡ old.streams.names
-    by_memory true h = ap (λ (s : State). s.streams.names) (step.0 (memory_is o h)).after ∙ names_refused old e
+    by_memory true h = ap (λ (s : HubState). s.streams.names) (step.0 (memory_is o h)).after ∙ names_refused old e
     by_memory false h = names_after old new o e (step.1 (memory_isn't o h))
 
 -- ---- one stream over a run
@@ -111,7 +111,7 @@ record IsAt (P : Source → Past → Type 0) (k : ℕ) (streams : Streams) (h : 
 -- what holds of a stream by its past, where each piece and each end keeps it
 module _ (P : Source → Past → Type 0)
     (feeds : (s : Source) (h : Past) (piece : List ℕ) → P s h → P (fed piece s).0 (more h (taken piece (fed piece s).1) false))
-    (ends : (s : Source) (h : Past) → P s h → P (ended s).0 (more h [] (is_ok (ended s).1)))
+    (ends : (s : Source) (h : Past) → P s h → P (ended_source s).0 (more h [] (is_ok (ended_source s).1)))
     (k : ℕ) where
   stays : (streams : Streams) (h : Past) → IsAt P k streams h → IsAt P k streams (more h [] false)
   stays streams h r = subst (IsAt P k streams) (sym (nothing_more h)) r
@@ -140,23 +140,23 @@ module _ (P : Source → Past → Type 0)
       (changed streams h j x (fed piece x).0 (taken piece (fed piece x).1) false there (feeds x h piece) r)
 
   end_at : (streams : Streams) (h : Past) (j : ℕ) (o : Option Source) → slice_get streams.sources j ≡ o → IsAt P k streams h
-      → IsAt P k (at_source ended j streams o).0 (more h [] (cond (j == k) (is_ok (at_source ended j streams o).1) false))
+      → IsAt P k (at_source ended_source j streams o).0 (more h [] (cond (j == k) (is_ok (at_source ended_source j streams o).1) false))
   end_at streams h j None there r = subst (λ t. IsAt P k streams (more h [] t)) (sym (cond_same (j == k) false)) (stays streams h r)
   end_at streams h j (Some x) there r =
-      subst (λ p. IsAt P k (at_source ended j streams (Some x)).0 (more h p (cond (j == k) (is_ok (ended x).1) false))) (cond_same (j == k) [])
-      (changed streams h j x (ended x).0 [] (is_ok (ended x).1) there (ends x h) r)
+      subst (λ p. IsAt P k (at_source ended_source j streams (Some x)).0 (more h p (cond (j == k) (is_ok (ended_source x).1) false))) (cond_same (j == k) [])
+      (changed streams h j x (ended_source x).0 [] (is_ok (ended_source x).1) there (ends x h) r)
 
-  accepted_by : (names : List (List ℕ)) (name piece : List ℕ) (l : Option ℕ) → place_of names name ≡ l → (o : Outcome)
+  accepted_by : (names : List (List ℕ)) (name piece : List ℕ) (l : Option ℕ) → name_index names name ≡ l → (o : Outcome)
       → accepted names k (Feed name piece) o ≡ cond (is_at k l) (taken piece o) []
   accepted_by names name piece l h (Ok reply) = ap (λ l. cond (is_at k l) piece []) h
   accepted_by names name piece l h (Err f) = sym (cond_same (is_at k l) [])
 
-  end_by_place : (names : List (List ℕ)) (name : List ℕ) (l : Option ℕ) → place_of names name ≡ l → (o : Outcome)
+  end_by_place : (names : List (List ℕ)) (name : List ℕ) (l : Option ℕ) → name_index names name ≡ l → (o : Outcome)
       → accepts_end names k (End name) o ≡ cond (is_at k l) (is_ok o) false
   end_by_place names name l h (Ok reply) = ap (is_at k) h ∙ cond_true (is_at k l)
   end_by_place names name l h (Err f) = sym (cond_same (is_at k l) false)
 
-  feed_name : (streams : Streams) (h : Past) (name piece : List ℕ) (l : Option ℕ) → place_of streams.names name ≡ l → IsAt P k streams h
+  feed_name : (streams : Streams) (h : Past) (name piece : List ℕ) (l : Option ℕ) → name_index streams.names name ≡ l → IsAt P k streams h
       → IsAt P k (at_place (fed piece) streams l).0 (more h (accepted streams.names k (Feed name piece) (at_place (fed piece) streams l).1) false)
   feed_name streams h name piece None there r = stays streams h r
   feed_name streams h name piece (Some j) there r =
@@ -164,27 +164,27 @@ module _ (P : Source → Past → Type 0)
       subst (λ p. IsAt P k (at_source (fed piece) j streams o).0 (more h p false))
       (sym (accepted_by streams.names name piece (Some j) there (at_source (fed piece) j streams o).1)) (feed_at streams h j piece o refl r)
 
-  end_name : (streams : Streams) (h : Past) (name : List ℕ) (l : Option ℕ) → place_of streams.names name ≡ l → IsAt P k streams h
-      → IsAt P k (at_place ended streams l).0 (more h [] (accepts_end streams.names k (End name) (at_place ended streams l).1))
+  end_name : (streams : Streams) (h : Past) (name : List ℕ) (l : Option ℕ) → name_index streams.names name ≡ l → IsAt P k streams h
+      → IsAt P k (at_place ended_source streams l).0 (more h [] (accepts_end streams.names k (End name) (at_place ended_source streams l).1))
   end_name streams h name None there r = stays streams h r
   end_name streams h name (Some j) there r =
       let o = slice_get streams.sources j in
-      subst (λ t. IsAt P k (at_source ended j streams o).0 (more h [] t))
-      (sym (end_by_place streams.names name (Some j) there (at_source ended j streams o).1)) (end_at streams h j o refl r)
+      subst (λ t. IsAt P k (at_source ended_source j streams o).0 (more h [] t))
+      (sym (end_by_place streams.names name (Some j) there (at_source ended_source j streams o).1)) (end_at streams h j o refl r)
 
-  at_step : (old new : State) (h : Past) (o : Outcome) (e : Event) → HubStep e old (new, o) → IsAt P k old.streams h
+  at_step : (old new : HubState) (h : Past) (o : Outcome) (e : Event) → HubStep e old (new, o) → IsAt P k old.streams h
       → IsAt P k new.streams (more h (accepted old.streams.names k e o) (accepts_end old.streams.names k e o))
   at_step old new h o (Feed name piece) step r =
-      subst (λ (x : State × Outcome). IsAt P k x.0.streams (more h (accepted old.streams.names k (Feed name piece) x.1) false)) (sym step)
-      (feed_name old.streams h name piece (place_of old.streams.names name) refl r)
+      subst (λ (x : HubState × Outcome). IsAt P k x.0.streams (more h (accepted old.streams.names k (Feed name piece) x.1) false)) (sym step)
+      (feed_name old.streams h name piece (name_index old.streams.names name) refl r)
   at_step old new h o (End name) step r =
-      subst (λ (x : State × Outcome). IsAt P k x.0.streams (more h [] (accepts_end old.streams.names k (End name) x.1))) (sym step)
-      (end_name old.streams h name (place_of old.streams.names name) refl r)
-  at_step old new h o (Open d) step r = subst (λ (x : State × Outcome). IsAt P k x.0.streams (more h [] false)) (sym step) (stays old.streams h r)
+      subst (λ (x : HubState × Outcome). IsAt P k x.0.streams (more h [] (accepts_end old.streams.names k (End name) x.1))) (sym step)
+      (end_name old.streams h name (name_index old.streams.names name) refl r)
+  at_step old new h o (Open d) step r = subst (λ (x : HubState × Outcome). IsAt P k x.0.streams (more h [] false)) (sym step) (stays old.streams h r)
   at_step old new h o (Bytes d piece) step r = subst (λ s. IsAt P k s (more h [] false)) (sym step.1) (stays old.streams h r)
-  at_step old new h o (Shut d) step r = subst (λ (x : State × Outcome). IsAt P k x.0.streams (more h [] false)) (sym step) (stays old.streams h r)
+  at_step old new h o (Shut d) step r = subst (λ (x : HubState × Outcome). IsAt P k x.0.streams (more h [] false)) (sym step) (stays old.streams h r)
 
-  at_refusal : (old : State) (h : Past) (e : Event) → IsAt P k old.streams h
+  at_refusal : (old : HubState) (h : Past) (e : Event) → IsAt P k old.streams h
       → IsAt P k (after_memory e old).streams (more h (accepted old.streams.names k e (Err Memory)) (accepts_end old.streams.names k e (Err Memory)))
   at_refusal old h (Feed name piece) r = stays old.streams h r
   at_refusal old h (End name) r = stays old.streams h r
@@ -192,7 +192,7 @@ module _ (P : Source → Past → Type 0)
   at_refusal old h (Bytes d piece) r = stays old.streams h r
   at_refusal old h (Shut d) r = stays old.streams h r
 
-  at_event : (old new : State) (h : Past) (e : Event) (o : Outcome) → IsStep old e o new → IsAt P k old.streams h
+  at_event : (old new : HubState) (h : Past) (e : Event) (o : Outcome) → IsStep old e o new → IsAt P k old.streams h
       → IsAt P k new.streams (more h (accepted old.streams.names k e o) (accepts_end old.streams.names k e o))
   at_event old new h e o step r = by_memory (is_memory o) refl
     where
@@ -200,13 +200,13 @@ module _ (P : Source → Past → Type 0)
       by_memory true m =
           let is = memory_is o m in
           subst (λ x. IsAt P k new.streams (more h (accepted old.streams.names k e x) (accepts_end old.streams.names k e x))) (sym is)
-          (subst (λ (s : State). IsAt P k s.streams (more h (accepted old.streams.names k e (Err Memory)) (accepts_end old.streams.names k e (Err Memory)))) (sym (step.0 is).after)
+          (subst (λ (s : HubState). IsAt P k s.streams (more h (accepted old.streams.names k e (Err Memory)) (accepts_end old.streams.names k e (Err Memory)))) (sym (step.0 is).after)
           (at_refusal old h e r))
       by_memory false m = at_step old new h o e (step.1 (memory_isn't o m)) r
 
-  at_run : (s : State) (es : List Event) (os : List Outcome) (new : State) (h : Past) → IsRun s es os new → IsAt P k s.streams h
+  at_run : (s : HubState) (es : List Event) (os : List Outcome) (new : HubState) (h : Past) → IsRun s es os new → IsAt P k s.streams h
       → IsAt P k new.streams (more h (all_accepted s.streams.names k es os) (end_accepted s.streams.names k es os))
-  at_run s [] [] new h run r = subst (λ (t : State). IsAt P k t.streams (more h [] false)) (sym run) (stays s.streams h r)
+  at_run s [] [] new h run r = subst (λ (t : HubState). IsAt P k t.streams (more h [] false)) (sym run) (stays s.streams h r)
   at_run s (e ∷ es) (o ∷ os) new h run r =
       let names = s.streams.names in
       let then = more h (accepted names k e o) (accepts_end names k e o) in
@@ -241,32 +241,32 @@ fed_source limits s h piece None is = record {
 
 -- a stream after a piece, by whether its end is open
 abbrev fed_if : Bool → List ℕ → Source → Source × Outcome
-fed_if t piece s = cond t (fed_by (refusal s.stream) piece s) (s, Err Ended)
+fed_if t piece s = cond t (fed_by (stream_refusal s.stream) piece s) (s, Err Ended)
 
 abbrev ended_if : Bool → Source → Source × Outcome
-ended_if t s = cond t (record { stream = after_end s.stream; end = ending_by (finish_answer s.stream.reading) }, Ok no_bytes) (s, Err Ended)
+ended_if t s = cond t (record { stream = stream_after_end s.stream; end = ending_by (finish_answer s.stream.reading) }, Ok no_bytes) (s, Err Ended)
 
 fed_is : (limits : Limits) (s : Source) (h : Past) (piece : List ℕ) → Is limits s h → Is limits (fed piece s).0 (more h (taken piece (fed piece s).1) false)
 fed_is limits s h piece is = by_end (is_open_end s.end)
   where
     by_end : (t : Bool) → Is limits (fed_if t piece s).0 (more h (taken piece (fed_if t piece s).1) false)
-    by_end true = fed_source limits s h piece (refusal s.stream) is
+    by_end true = fed_source limits s h piece (stream_refusal s.stream) is
     by_end false = subst (Is limits s) (sym (nothing_more h)) is
 
-ended_is : (limits : Limits) (s : Source) (h : Past) → Is limits s h → Is limits (ended s).0 (more h [] (is_ok (ended s).1))
+ended_is : (limits : Limits) (s : Source) (h : Past) → Is limits s h → Is limits (ended_source s).0 (more h [] (is_ok (ended_source s).1))
 ended_is limits s h is = by_end (is_open_end s.end)
   where
     by_end : (t : Bool) → Is limits (ended_if t s).0 (more h [] (is_ok (ended_if t s).1))
     by_end true = record { limits_are = is.limits_are; reading = is.reading ∙ ap (reading_of limits) (sym (append-nil h.0)) }
     by_end false = subst (Is limits s) (sym (nothing_more h)) is
 
-pub all_fed : (s : State) (es : List Event) (os : List Outcome) (new : State) → IsRun s es os new → AreAcceptedPieces s es os new
+pub all_fed : (s : HubState) (es : List Event) (os : List Outcome) (new : HubState) → IsRun s es os new → AreAcceptedPieces s es os new
 all_fed s es os new run limits k bytes r =
     let first : IsAt (Is limits) k s.streams (bytes, false) = record { source = r.source; there = r.there; is = record { limits_are = r.limits_are; reading = r.reading } } in
     let last = at_run (Is limits) (fed_is limits) (ended_is limits) k s es os new (bytes, false) run first in
     record { source = last.source; there = last.there; limits_are = last.is.limits_are; reading = last.is.reading }
 
-pub all_fed_at_end : (s : State) (es : List Event) (os : List Outcome) (new : State) (i : ℕ) → length es ≤ i → IsRun s (take i es) os new → AreAcceptedPieces s es os new
+pub all_fed_at_end : (s : HubState) (es : List Event) (os : List Outcome) (new : HubState) (i : ℕ) → length es ≤ i → IsRun s (take i es) os new → AreAcceptedPieces s es os new
 all_fed_at_end s es os new i h run = all_fed s es os new (subst (λ xs. IsRun s xs os new) (take_all i es h) run)
 
 -- ---- the end
@@ -303,9 +303,9 @@ ended_fed limits s (bytes, true) piece is =
     (subst (IsEnded limits s) (sym (nothing_more (bytes, true))) is)
 ended_fed limits s (bytes, false) piece is =
     subst (λ (t : Bool). IsEnded limits (fed_if t piece s).0 (more (bytes, false) (taken piece (fed_if t piece s).1) false)) (sym (ap is_open_end is.end))
-    (fed_open limits s bytes piece (refusal s.stream) is)
+    (fed_open limits s bytes piece (stream_refusal s.stream) is)
 
-ended_ended : (limits : Limits) (s : Source) (h : Past) → IsEnded limits s h → IsEnded limits (ended s).0 (more h [] (is_ok (ended s).1))
+ended_ended : (limits : Limits) (s : Source) (h : Past) → IsEnded limits s h → IsEnded limits (ended_source s).0 (more h [] (is_ok (ended_source s).1))
 ended_ended limits s (bytes, true) is =
     let t : is_open_end s.end ≡ false = ap is_open_end is.end ∙ told_end (finish_answer (reading_of limits bytes)) in
     subst (λ (t : Bool). IsEnded limits (ended_if t s).0 (more (bytes, true) [] (is_ok (ended_if t s).1))) (sym t)
@@ -319,7 +319,7 @@ ended_ended limits s (bytes, false) is =
       ended = ap (ended_by s.stream.reading.fault) is.ended ∙ ended_at s.stream.reading.fault ∙ ap (λ (r : Contents). is_none r.fault) now;
     })
 
-pub all_ended : (s : State) (es : List Event) (os : List Outcome) (new : State) → IsRun s es os new → AreAcceptedEnds s es os new
+pub all_ended : (s : HubState) (es : List Event) (os : List Outcome) (new : HubState) → IsRun s es os new → AreAcceptedEnds s es os new
 all_ended s es os new run limits k bytes told r =
     let read : Is limits r.read.source (bytes, told) = record { limits_are = r.read.limits_are; reading = r.read.reading } in
     let first : IsAt (IsEnded limits) k s.streams (bytes, told) = record { source = r.read.source; there = r.read.there; is = record { read = read; end = r.end; ended = r.ended } } in
@@ -330,12 +330,12 @@ all_ended s es os new run limits k bytes told r =
       ended = last.is.ended;
     }
 
-pub all_ended_at_end : (s : State) (es : List Event) (os : List Outcome) (new : State) (i : ℕ) → length es ≤ i → IsRun s (take i es) os new → AreAcceptedEnds s es os new
+pub all_ended_at_end : (s : HubState) (es : List Event) (os : List Outcome) (new : HubState) (i : ℕ) → length es ≤ i → IsRun s (take i es) os new → AreAcceptedEnds s es os new
 all_ended_at_end s es os new i h run = all_ended s es os new (subst (λ xs. IsRun s xs os new) (take_all i es h) run)
 
 -- at first there are none
 pub none_ended : NewStreamsAreOpen
-unfolding read next_head
+unfolding read_file next_head
 none_ended names limits k there = record {
   read = record {
     source = new_source limits;

@@ -2,7 +2,7 @@
 use Rattle.std.proofs.Common.{◌≡◌, ℕ, zero, suc, List, [], ◌∷◌, Some, refl, sym, ap, subst, inl, inr, ◌⊎◌}
 use Rattle.std.specs.Prelude.{slice_get, slice_set}
 use Rattle.std.proofs.lemmas.Option.{same_Some, none-some}
-use Rattle.vp_cache.specs.Kept.{Entry, AreAnswersOf}
+use Rattle.vp_cache.specs.Cache.{CacheEntry, AreAnswersOf}
 use Rattle.vp_cache.specs.Streams.{IsGrown}
 use Rattle.lru.proofs.Splits.{Contains-nil}
 use Rattle.vp_cache.proofs.GrowthLemmas.{grows}
@@ -21,7 +21,7 @@ at_place (suc k) (suc i) old new s (x ∷ xs) there at = elim (at_place k i old 
   | inr was ↦ inr was
 ]
 
-pub one_grows : (k : ℕ) (old new : Source) (sources : List Source) (entries : List Entry) → slice_get sources k ≡ Some old
+pub one_grows : (k : ℕ) (old new : Source) (sources : List Source) (entries : List CacheEntry) → slice_get sources k ≡ Some old
     → IsGrown old.stream new.stream → AreKept sources entries → AreKept (slice_set sources k new) entries
 one_grows k old new sources entries there grown kept i s at = elim (at_place k i old new s sources there at) [
   | inl here ↦

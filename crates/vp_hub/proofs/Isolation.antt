@@ -6,11 +6,11 @@ use Rattle.std.proofs.lemmas.Bool.Decides.{nat_tests}
 use Rattle.vp_hub.specs.declared.event.Event.{Event}
 use Rattle.vp_hub.specs.declared.event.Event.TheVariants.{Feed, End, Open, Bytes, Shut}
 use Rattle.vp_hub.specs.Pages.{Streams}
-use Rattle.vp_hub.specs.declared.connection.Link.{Link}
+use Rattle.vp_hub.specs.declared.connection.ConnectionState.{ConnectionState}
 use Rattle.vp_hub.specs.declared.connection.Connection.{Connection}
 use Rattle.vp_hub.specs.declared.event.HubFault.TheVariants.{UnknownStream, Ended, UnknownConn, AlreadyOpen, TooMany, Failed, Memory}
-use Rattle.vp_hub.specs.Hub.{Outcome, State, HubStep, IsFine, after_memory, IsStep, link_of, without, opened, Asks, shut, Gets, Serves, new_link, no_bytes}
-use Rattle.vp_hub.specs.View.{Seen, Fed, Over, Opened, Got, Gone, Lost, Sight, sight, See, AsksAgain, Leads, lose, AnswersAlike, told, seen, view_of, results_of, IsRun, IsIsolated, is_memory, is_too_many}
+use Rattle.vp_hub.specs.Hub.{Outcome, HubState, HubStep, IsFine, after_memory, IsStep, link_of, without_connection, opened, Asks, shut, Gets, Serves, new_link, no_bytes}
+use Rattle.vp_hub.specs.View.{Seen, Fed, Over, Opened, Got, Gone, Lost, Sight, sight, See, AsksAgain, Leads, lose, AnswersAlike, told, seen_events, view_of, results_of, IsRun, IsIsolated, is_memory, is_too_many}
 use Rattle.vp_hub.proofs.Links.{first_of, link_of-push, link_of-with_link, link_of_other-with_link, link_of-without, link_of_other-without}
 use Rattle.vp_hub.proofs.Serving.{serves_unique, chosen_unique}
 
@@ -43,63 +43,63 @@ memory_isn't o h e = memory_differs (sym (ap is_memory e) ∙ h)
     memory_differs : true ≡ false → ⊥
     memory_differs e = cc
 
-sight_is : (s t : Streams) (l m : Option Link) → s ≡ t → l ≡ m → ◌≡◌ {A = Sight} (record { streams = s; link = l }) (record { streams = t; link = m })
-sight_is s t l m h k = ap (λ x. record { streams = x; link = l }) h ∙ ap (λ x. record { streams = t; link = x }) k
+sight_is : (s t : Streams) (l m : Option ConnectionState) → s ≡ t → l ≡ m → ◌≡◌ {A = Sight} (record { streams = s; state_of_connection = l }) (record { streams = t; state_of_connection = m })
+sight_is s t l m h k = ap (λ x. record { streams = x; state_of_connection = l }) h ∙ ap (λ x. record { streams = t; state_of_connection = x }) k
 
 -- an opening of the connection's own number: what was kept of it says what comes
-own_open : (c : ℕ) (ss : Streams) (xs : List Connection) (l : Option Link) → link_of c xs ≡ l
+own_open : (c : ℕ) (ss : Streams) (xs : List Connection) (l : Option ConnectionState) → link_of c xs ≡ l
     → Follows (cond (is_memory (opened c xs l).1) [] (cond (is_too_many (opened c xs l).1) [] (Opened ∷ []))) (opened c xs l).1
-    (record { streams = ss; link = l }) (record { streams = ss; link = link_of c (opened c xs l).0 })
-own_open c ss xs (Some link) h = one Opened (Err AlreadyOpen) (record { streams = ss; link = Some link }) (record { streams = ss; link = link_of c xs }) (ap (λ l. (record { streams = ss; link = l }, Err AlreadyOpen)) h)
+    (record { streams = ss; state_of_connection = l }) (record { streams = ss; state_of_connection = link_of c (opened c xs l).0 })
+own_open c ss xs (Some state_of_connection) h = one Opened (Err AlreadyOpen) (record { streams = ss; state_of_connection = Some state_of_connection }) (record { streams = ss; state_of_connection = link_of c xs }) (ap (λ l. (record { streams = ss; state_of_connection = l }, Err AlreadyOpen)) h)
 own_open c ss xs None h = by_room (nat_lt (length xs) 64)
   where
     r : Bool → List Connection × Outcome
-    r t = cond t (xs ++ record { number = c; link = new_link } ∷ [], Ok no_bytes) (xs, Err TooMany)
+    r t = cond t (xs ++ record { number = c; state_of_connection = new_link } ∷ [], Ok no_bytes) (xs, Err TooMany)
 
     by_room : (t : Bool) → Follows (cond (is_memory (r t).1) [] (cond (is_too_many (r t).1) [] (Opened ∷ []))) (r t).1
-        (record { streams = ss; link = None }) (record { streams = ss; link = link_of c (r t).0 })
-    by_room true = one Opened (Ok no_bytes) (record { streams = ss; link = None }) (record { streams = ss; link = link_of c (xs ++ record { number = c; link = new_link } ∷ []) }) (ap (λ l. (record { streams = ss; link = l }, Ok no_bytes)) (link_of-push c c new_link xs ∙ ap (λ a. first_of a (cond (c == c) (Some new_link) None)) h ∙ grind (arith, nat_tests)))
-    by_room false = ap (λ l. record { streams = ss; link = l }) h
+        (record { streams = ss; state_of_connection = None }) (record { streams = ss; state_of_connection = link_of c (r t).0 })
+    by_room true = one Opened (Ok no_bytes) (record { streams = ss; state_of_connection = None }) (record { streams = ss; state_of_connection = link_of c (xs ++ record { number = c; state_of_connection = new_link } ∷ []) }) (ap (λ l. (record { streams = ss; state_of_connection = l }, Ok no_bytes)) (link_of-push c c new_link xs ∙ ap (λ a. first_of a (cond (c == c) (Some new_link) None)) h ∙ grind (arith, nat_tests)))
+    by_room false = ap (λ l. record { streams = ss; state_of_connection = l }) h
 
-first_none : (a : Option Link) → first_of a None ≡ a
+first_none : (a : Option ConnectionState) → first_of a None ≡ a
 first_none None = refl
 first_none (Some a) = refl
 
-other_open : (c d : ℕ) (xs : List Connection) (l : Option Link) → (d == c) ≡ false → link_of c (opened d xs l).0 ≡ link_of c xs
-other_open c d xs (Some link) h = refl
+other_open : (c d : ℕ) (xs : List Connection) (l : Option ConnectionState) → (d == c) ≡ false → link_of c (opened d xs l).0 ≡ link_of c xs
+other_open c d xs (Some state_of_connection) h = refl
 other_open c d xs None h = by_room (nat_lt (length xs) 64)
   where
-    by_room : (t : Bool) → link_of c (cond {A = List Connection × Outcome} t (xs ++ record { number = d; link = new_link } ∷ [], Ok no_bytes) (xs, Err TooMany)).0 ≡ link_of c xs
+    by_room : (t : Bool) → link_of c (cond {A = List Connection × Outcome} t (xs ++ record { number = d; state_of_connection = new_link } ∷ [], Ok no_bytes) (xs, Err TooMany)).0 ≡ link_of c xs
     by_room true = link_of-push c d new_link xs ∙ ap (λ t. first_of (link_of c xs) (cond t (Some new_link) None)) h ∙ first_none (link_of c xs)
     by_room false = refl
 
-own_ask : (c : ℕ) (ss : Streams) (piece : List ℕ) (xs ys : List Connection) (o : Outcome) (l : Option Link) → link_of c xs ≡ l → Asks ss c piece xs l (ys, o)
+own_ask : (c : ℕ) (ss : Streams) (piece : List ℕ) (xs ys : List Connection) (o : Outcome) (l : Option ConnectionState) → link_of c xs ≡ l → Asks ss c piece xs l (ys, o)
     → AsksAgain ss piece l (link_of c ys, o)
 own_ask c ss piece xs ys o None e h = ap (λ (x : List Connection × Outcome). (link_of c x.0, x.1)) h ∙ ap (λ l. (l, Err UnknownConn)) e
-own_ask c ss piece xs ys o (Some link) e h = (
+own_ask c ss piece xs ys o (Some state_of_connection) e h = (
   h.0,
   h.1,
   ap (λ (x : List Connection × Outcome). (link_of c x.0, x.1)) h.2
       ∙ ap (λ l. (l, h.0.1)) (link_of-with_link c h.0.0 xs ∙ ap (option_map (λ _. h.0.0)) e),
 )
 
-other_ask : (c d : ℕ) (ss : Streams) (piece : List ℕ) (xs ys : List Connection) (o : Outcome) (l : Option Link) → (d == c) ≡ false → Asks ss d piece xs l (ys, o)
+other_ask : (c d : ℕ) (ss : Streams) (piece : List ℕ) (xs ys : List Connection) (o : Outcome) (l : Option ConnectionState) → (d == c) ≡ false → Asks ss d piece xs l (ys, o)
     → link_of c ys ≡ link_of c xs
 other_ask c d ss piece xs ys o None e h = ap (λ (x : List Connection × Outcome). link_of c x.0) h
-other_ask c d ss piece xs ys o (Some link) e h = ap (λ (x : List Connection × Outcome). link_of c x.0) h.2 ∙ link_of_other-with_link c d h.0.0 xs e
+other_ask c d ss piece xs ys o (Some state_of_connection) e h = ap (λ (x : List Connection × Outcome). link_of c x.0) h.2 ∙ link_of_other-with_link c d h.0.0 xs e
 
-own_shut : (c : ℕ) (ss : Streams) (xs : List Connection) (l : Option Link) → link_of c xs ≡ l
-    → Follows (Gone ∷ []) (shut c xs l).1 (record { streams = ss; link = l }) (record { streams = ss; link = link_of c (shut c xs l).0 })
-own_shut c ss xs None h = one Gone (Err UnknownConn) (record { streams = ss; link = None }) (record { streams = ss; link = link_of c xs }) (ap (λ l. (record { streams = ss; link = l }, Err UnknownConn)) h)
-own_shut c ss xs (Some link) h = one Gone (Ok no_bytes) (record { streams = ss; link = Some link }) (record { streams = ss; link = link_of c (without c xs) }) (ap (λ l. (record { streams = ss; link = l }, Ok no_bytes)) (link_of-without c xs))
+own_shut : (c : ℕ) (ss : Streams) (xs : List Connection) (l : Option ConnectionState) → link_of c xs ≡ l
+    → Follows (Gone ∷ []) (shut c xs l).1 (record { streams = ss; state_of_connection = l }) (record { streams = ss; state_of_connection = link_of c (shut c xs l).0 })
+own_shut c ss xs None h = one Gone (Err UnknownConn) (record { streams = ss; state_of_connection = None }) (record { streams = ss; state_of_connection = link_of c xs }) (ap (λ l. (record { streams = ss; state_of_connection = l }, Err UnknownConn)) h)
+own_shut c ss xs (Some state_of_connection) h = one Gone (Ok no_bytes) (record { streams = ss; state_of_connection = Some state_of_connection }) (record { streams = ss; state_of_connection = link_of c (without_connection c xs) }) (ap (λ l. (record { streams = ss; state_of_connection = l }, Ok no_bytes)) (link_of-without c xs))
 
-other_shut : (c d : ℕ) (xs : List Connection) (l : Option Link) → (d == c) ≡ false → link_of c (shut d xs l).0 ≡ link_of c xs
+other_shut : (c d : ℕ) (xs : List Connection) (l : Option ConnectionState) → (d == c) ≡ false → link_of c (shut d xs l).0 ≡ link_of c xs
 other_shut c d xs None h = refl
-other_shut c d xs (Some link) h = link_of_other-without c d xs h
+other_shut c d xs (Some state_of_connection) h = link_of_other-without c d xs h
 
-lose_is : (l : Option Link) → option_map (λ _. record { pending = []; closed = true }) l ≡ lose l
+lose_is : (l : Option ConnectionState) → option_map (λ _. record { pending = []; closed = true }) l ≡ lose l
 lose_is None = refl
-lose_is (Some link) = refl
+lose_is (Some state_of_connection) = refl
 
 choose : (t : Bool) (xs ys : List Seen) (o : Outcome) (a b : Sight) → (t ≡ true → Follows xs o a b) → (t ≡ false → Follows ys o a b) → Follows (cond t xs ys) o a b
 choose true xs ys o a b f g = f refl
@@ -109,17 +109,17 @@ pick : (t : Bool) (xs ys : List Seen) (o : Outcome) (a b : Sight) → t ≡ fals
 pick true xs ys o a b h f = cc
 pick false xs ys o a b h f = f
 
-own : (xs : List Seen) (o : Outcome) (old new : State) (d c : ℕ) → d ≡ c → Follows xs o (sight d old) (sight d new) → Follows xs o (sight c old) (sight c new)
+own : (xs : List Seen) (o : Outcome) (old new : HubState) (d c : ℕ) → d ≡ c → Follows xs o (sight d old) (sight d new) → Follows xs o (sight c old) (sight c new)
 own xs o old new d c h f = subst (λ k. Follows xs o (sight k old) (sight k new)) h f
 
 -- where memory isn't refused
-at_step : (c : ℕ) (old new : State) (o : Outcome) (e : Event) → is_memory o ≡ false → HubStep e old (new, o) → Follows (seen c e o) o (sight c old) (sight c new)
-at_step c old new o (Feed name piece) hm h = pick (is_memory o) [] (Fed name piece ∷ []) o (sight c old) (sight c new) hm (one (Fed name piece) o (sight c old) (sight c new) (ap (λ (x : State × Outcome). (sight c x.0, x.1)) h))
-at_step c old new o (End name) hm h = one (Over name) o (sight c old) (sight c new) (ap (λ (x : State × Outcome). (sight c x.0, x.1)) h)
+at_step : (c : ℕ) (old new : HubState) (o : Outcome) (e : Event) → is_memory o ≡ false → HubStep e old (new, o) → Follows (seen_events c e o) o (sight c old) (sight c new)
+at_step c old new o (Feed name piece) hm h = pick (is_memory o) [] (Fed name piece ∷ []) o (sight c old) (sight c new) hm (one (Fed name piece) o (sight c old) (sight c new) (ap (λ (x : HubState × Outcome). (sight c x.0, x.1)) h))
+at_step c old new o (End name) hm h = one (Over name) o (sight c old) (sight c new) (ap (λ (x : HubState × Outcome). (sight c x.0, x.1)) h)
 at_step c old new o (Open d) hm h =
-    subst (λ (x : State × Outcome). Follows (seen c (Open d) x.1) x.1 (sight c old) (sight c x.0)) (sym h)
+    subst (λ (x : HubState × Outcome). Follows (seen_events c (Open d) x.1) x.1 (sight c old) (sight c x.0)) (sym h)
     (let r = opened d old.connections (link_of d old.connections) in
-    let mid : State = record { streams = old.streams; connections = r.0 } in
+    let mid : HubState = record { streams = old.streams; connections = r.0 } in
     choose (d == c) (cond (is_memory r.1) [] (cond (is_too_many r.1) [] (Opened ∷ []))) [] r.1 (sight c old) (sight c mid)
     (λ e. own (cond (is_memory r.1) [] (cond (is_too_many r.1) [] (Opened ∷ []))) r.1 old mid d c (eqb-true d c e) (own_open d old.streams old.connections (link_of d old.connections) refl))
     (λ e. sight_is old.streams old.streams (link_of c r.0) (link_of c old.connections) refl (other_open c d old.connections (link_of d old.connections) e)))
@@ -129,49 +129,49 @@ at_step c old new o (Bytes d piece) hm h =
     (own (Got piece ∷ []) o old new d c (eqb-true d c e) (one (Got piece) o (sight d old) (sight d new) (own_ask d old.streams piece old.connections new.connections o (link_of d old.connections) refl h.0, h.1))))
     (λ e. sight_is new.streams old.streams (link_of c new.connections) (link_of c old.connections) h.1 (other_ask c d old.streams piece old.connections new.connections o (link_of d old.connections) e h.0))
 at_step c old new o (Shut d) hm h =
-    subst (λ (x : State × Outcome). Follows (seen c (Shut d) x.1) x.1 (sight c old) (sight c x.0)) (sym h)
+    subst (λ (x : HubState × Outcome). Follows (seen_events c (Shut d) x.1) x.1 (sight c old) (sight c x.0)) (sym h)
     (let r = shut d old.connections (link_of d old.connections) in
-    let mid : State = record { streams = old.streams; connections = r.0 } in
+    let mid : HubState = record { streams = old.streams; connections = r.0 } in
     choose (d == c) (Gone ∷ []) [] r.1 (sight c old) (sight c mid)
     (λ e. own (Gone ∷ []) r.1 old mid d c (eqb-true d c e) (own_shut d old.streams old.connections (link_of d old.connections) refl))
     (λ e. sight_is old.streams old.streams (link_of c r.0) (link_of c old.connections) refl (other_shut c d old.connections (link_of d old.connections) e)))
 
 -- where it is
-at_refusal : (c : ℕ) (old : State) (e : Event) → IsFine e old → Follows (seen c e (Err Memory)) (Err Memory) (sight c old) (sight c (after_memory e old))
+at_refusal : (c : ℕ) (old : HubState) (e : Event) → IsFine e old → Follows (seen_events c e (Err Memory)) (Err Memory) (sight c old) (sight c (after_memory e old))
 at_refusal c old (Feed name piece) h = refl
 at_refusal c old (End name) h = absurd h
 at_refusal c old (Open d) h = choose (d == c) [] [] (Err Memory) (sight c old) (sight c old) (λ _. refl) (λ _. refl)
 at_refusal c old (Bytes d piece) h =
-    let lost : Link = record { pending = []; closed = true } in
+    let lost : ConnectionState = record { pending = []; closed = true } in
     let mid = after_memory (Bytes d piece) old in
     choose (d == c) (Lost ∷ []) [] (Err Memory) (sight c old) (sight c mid)
     (λ e. own (Lost ∷ []) (Err Memory) old mid d c (eqb-true d c e)
-    (one Lost (Err Memory) (sight d old) (sight d mid) (ap (λ l. (record { streams = old.streams; link = l }, Err Memory)) (link_of-with_link d lost old.connections ∙ lose_is (link_of d old.connections)))))
+    (one Lost (Err Memory) (sight d old) (sight d mid) (ap (λ l. (record { streams = old.streams; state_of_connection = l }, Err Memory)) (link_of-with_link d lost old.connections ∙ lose_is (link_of d old.connections)))))
     (λ e. sight_is old.streams old.streams (link_of c mid.connections) (link_of c old.connections) refl (link_of_other-with_link c d lost old.connections e))
 at_refusal c old (Shut d) h = absurd h
 
 -- one step, as connection c sees it
-pub follows : (c : ℕ) (old new : State) (e : Event) (o : Outcome) → IsStep old e o new → Follows (seen c e o) o (sight c old) (sight c new)
+pub follows : (c : ℕ) (old new : HubState) (e : Event) (o : Outcome) → IsStep old e o new → Follows (seen_events c e o) o (sight c old) (sight c new)
 follows c old new e o step = by_memory (is_memory o) refl
   where
-    by_memory : (t : Bool) → is_memory o ≡ t → Follows (seen c e o) o (sight c old) (sight c new)
+    by_memory : (t : Bool) → is_memory o ≡ t → Follows (seen_events c e o) o (sight c old) (sight c new)
     by_memory true h =
         let is = memory_is o h in
         let r = step.0 is in
-        subst (λ x. Follows (seen c e x) x (sight c old) (sight c new)) (sym is)
-        (subst (λ x. Follows (seen c e (Err Memory)) (Err Memory) (sight c old) (sight c x)) (sym r.after) (at_refusal c old e r.fine))
+        subst (λ x. Follows (seen_events c e x) x (sight c old) (sight c new)) (sym is)
+        (subst (λ x. Follows (seen_events c e (Err Memory)) (Err Memory) (sight c old) (sight c x)) (sym r.after) (at_refusal c old e r.fine))
     by_memory false h = at_step c old new o e h (step.1 (memory_isn't o h))
 
-pub isolated : (s : State) (es : List Event) (os : List Outcome) (new : State) → IsRun s es os new → IsIsolated s es os new
+pub isolated : (s : HubState) (es : List Event) (os : List Outcome) (new : HubState) → IsRun s es os new → IsIsolated s es os new
 isolated s [] [] new run c = ap (sight c) run
 isolated s (e ∷ es) (o ∷ os) new run c =
-    leads-append (seen c e o) (view_of c es os) (sight c s) (sight c run.0) (sight c new) (told (seen c e o) o) (results_of c es os)
+    leads-append (seen_events c e o) (view_of c es os) (sight c s) (sight c run.0) (sight c new) (told (seen_events c e o) o) (results_of c es os)
     (follows c s run.0 e o run.1) (isolated run.0 es os new run.2 c)
 isolated s [] (o ∷ os) new run c = absurd run
 isolated s (e ∷ es) [] new run c = absurd run
 
 -- a run goes on by one step
-pub run_more : (s : State) (es : List Event) (os : List Outcome) (mid : State) (e : Event) (o : Outcome) (new : State)
+pub run_more : (s : HubState) (es : List Event) (os : List Outcome) (mid : HubState) (e : Event) (o : Outcome) (new : HubState)
     → IsRun s es os mid → IsStep mid e o new → IsRun s (es ++ e ∷ []) (os ++ o ∷ []) new
 run_more s [] [] mid e o new run step = (new, subst (λ x. IsStep x e o new) run step, refl)
 run_more s (d ∷ es) (p ∷ os) mid e o new run step = (run.0, run.1, run_more run.0 es os mid e o new run.2 step)
@@ -179,38 +179,38 @@ run_more s [] (p ∷ os) mid e o new run step = absurd run
 run_more s (d ∷ es) [] mid e o new run step = absurd run
 
 -- one run behind another is a run
-pub runs_joined : (s : State) (es : List Event) (os : List Outcome) (mid : State) (fs : List Event) (ps : List Outcome) (new : State)
+pub runs_joined : (s : HubState) (es : List Event) (os : List Outcome) (mid : HubState) (fs : List Event) (ps : List Outcome) (new : HubState)
     → IsRun s es os mid → IsRun mid fs ps new → IsRun s (es ++ fs) (os ++ ps) new
 runs_joined s [] [] mid fs ps new run more = subst (λ x. IsRun x fs ps new) run more
 runs_joined s (d ∷ es) (p ∷ os) mid fs ps new run more = (run.0, run.1, runs_joined run.0 es os mid fs ps new run.2 more)
 runs_joined s [] (p ∷ os) mid fs ps new run more = absurd run
 runs_joined s (d ∷ es) [] mid fs ps new run more = absurd run
 
-pub joined_at_end : (s : State) (es : List Event) (os : List Outcome) (mid : State) (fs : List Event) (ps : List Outcome) (new : State) (i : ℕ)
+pub joined_at_end : (s : HubState) (es : List Event) (os : List Outcome) (mid : HubState) (fs : List Event) (ps : List Outcome) (new : HubState) (i : ℕ)
     → length fs ≤ i → IsRun s es os mid → IsRun mid (take i fs) ps new → IsRun s (es ++ fs) (os ++ ps) new
 joined_at_end s es os mid fs ps new i h run more = runs_joined s es os mid fs ps new run (subst (λ xs. IsRun mid xs ps new) (take_all i fs h) more)
 
-pub isolated_at_end : (s : State) (es : List Event) (os : List Outcome) (new : State) (i : ℕ) → length es ≤ i → IsRun s (take i es) os new → IsIsolated s es os new
+pub isolated_at_end : (s : HubState) (es : List Event) (os : List Outcome) (new : HubState) (i : ℕ) → length es ≤ i → IsRun s (take i es) os new → IsIsolated s es os new
 isolated_at_end s es os new i h run = isolated s es os new (subst (λ xs. IsRun s xs os new) (take_all i es h) run)
 
 -- a view has one list of results
-gets_unique : (ss : Streams) (piece : List ℕ) (link : Link) (x y : Link × Outcome) → Gets ss piece link x → Gets ss piece link y → x ≡ y
-gets_unique ss piece link x y = chosen_unique link.closed (λ r. r ≡ (link, Err Failed))
-    (λ r. (w : Link × List ℕ) × Serves ss piece (link, []) w × (r ≡ (w.0, Ok (record { bytes = w.1; close = w.0.closed })))) x y
+gets_unique : (ss : Streams) (piece : List ℕ) (state_of_connection : ConnectionState) (x y : ConnectionState × Outcome) → Gets ss piece state_of_connection x → Gets ss piece state_of_connection y → x ≡ y
+gets_unique ss piece state_of_connection x y = chosen_unique state_of_connection.closed (λ r. r ≡ (state_of_connection, Err Failed))
+    (λ r. (w : ConnectionState × List ℕ) × Serves ss piece (state_of_connection, []) w × (r ≡ (w.0, Ok (record { bytes = w.1; close = w.0.closed })))) x y
     (λ x y a b. a ∙ sym b)
-    (λ x y a b. a.2 ∙ ap (λ (w : Link × List ℕ). (w.0, Ok (record { bytes = w.1; close = w.0.closed }))) (serves_unique ss piece (link, []) a.0 b.0 a.1 b.1) ∙ sym b.2)
+    (λ x y a b. a.2 ∙ ap (λ (w : ConnectionState × List ℕ). (w.0, Ok (record { bytes = w.1; close = w.0.closed }))) (serves_unique ss piece (state_of_connection, []) a.0 b.0 a.1 b.1) ∙ sym b.2)
 
-asks_unique : (ss : Streams) (piece : List ℕ) (l : Option Link) (x y : Option Link × Outcome) → AsksAgain ss piece l x → AsksAgain ss piece l y → x ≡ y
+asks_unique : (ss : Streams) (piece : List ℕ) (l : Option ConnectionState) (x y : Option ConnectionState × Outcome) → AsksAgain ss piece l x → AsksAgain ss piece l y → x ≡ y
 asks_unique ss piece None x y a b = a ∙ sym b
-asks_unique ss piece (Some link) x y a b = a.2 ∙ ap (λ (g : Link × Outcome). (Some g.0, g.1)) (gets_unique ss piece link a.0 b.0 a.1 b.1) ∙ sym b.2
+asks_unique ss piece (Some state_of_connection) x y a b = a.2 ∙ ap (λ (g : ConnectionState × Outcome). (Some g.0, g.1)) (gets_unique ss piece state_of_connection a.0 b.0 a.1 b.1) ∙ sym b.2
 
 see_unique : (e : Seen) (v : Sight) (x y : Sight × Outcome) → See e v x → See e v y → x ≡ y
 see_unique (Fed name piece) v x y a b = a ∙ sym b
 see_unique (Over name) v x y a b = a ∙ sym b
 see_unique Opened v x y a b = a ∙ sym b
 see_unique (Got piece) v x y a b =
-    ap (λ s. (record { streams = s; link = x.0.link }, x.1)) (a.1 ∙ sym b.1)
-    ∙ ap (λ (p : Option Link × Outcome). (record { streams = y.0.streams; link = p.0 }, p.1)) (asks_unique v.streams piece v.link (x.0.link, x.1) (y.0.link, y.1) a.0 b.0)
+    ap (λ s. (record { streams = s; state_of_connection = x.0.state_of_connection }, x.1)) (a.1 ∙ sym b.1)
+    ∙ ap (λ (p : Option ConnectionState × Outcome). (record { streams = y.0.streams; state_of_connection = p.0 }, p.1)) (asks_unique v.streams piece v.state_of_connection (x.0.state_of_connection, x.1) (y.0.state_of_connection, y.1) a.0 b.0)
 see_unique Gone v x y a b = a ∙ sym b
 see_unique Lost v x y a b = a ∙ sym b
 

@@ -2,41 +2,41 @@
 use Rattle.std.proofs.Common.{suc, ◌+◌, Ok, not, ◌∙◌, sym, IfSome, ◌≡◌, ◌==◌, ℕ, List, [], ◌∷◌, Option, Some, None, length, get_or, set, cond, refl, ap, arith, Bool, true, false, nat_lt}
 use Rattle.std.specs.List.{position, position_or_len}
 use Rattle.std.proofs.lemmas.Bool.Decides.{nat_tests}
-use Rattle.vp_hub.specs.declared.connection.Link.{Link}
+use Rattle.vp_hub.specs.declared.connection.ConnectionState.{ConnectionState}
 use Rattle.vp_hub.specs.declared.connection.Connection.{Connection}
 use Rattle.std.proofs.lemmas.List.Quantifiers.{position-Some}
 use Rattle.std.proofs.lemmas.Bool.{eqb-true}
-use Rattle.vp_hub.specs.Hub.{link_of, with_link, without, shut, no_bytes, Outcome, IsPlaceOf}
+use Rattle.vp_hub.specs.Hub.{link_of, with_link, without_connection, shut, no_bytes, Outcome, IsPlaceOf}
 
 abbrev pub is_of : ℕ → Connection → Bool
 is_of c x = x.number == c
 
-shift : (p n : ℕ) (a : Option Link) → cond (nat_lt (1 + p) (suc n)) a None ≡ cond (nat_lt p n) a None
+shift : (p n : ℕ) (a : Option ConnectionState) → cond (nat_lt (1 + p) (suc n)) a None ≡ cond (nat_lt p n) a None
 shift p n a =
     let h : nat_lt (1 + p) (suc n) ≡ nat_lt p n = grind (arith, nat_tests) in
     ap (λ b. cond b a None) h
 
 pub link_of-place : (c : ℕ) (xs : List Connection) (d : Connection)
-    → link_of c xs ≡ cond (nat_lt (position_or_len (is_of c) xs) (length xs)) (Some (get_or xs (position_or_len (is_of c) xs) d).link) None
+    → link_of c xs ≡ cond (nat_lt (position_or_len (is_of c) xs) (length xs)) (Some (get_or xs (position_or_len (is_of c) xs) d).state_of_connection) None
 link_of-place c [] d = refl
 link_of-place c (x ∷ xs) d = step (link_of-place c xs d) (is_of c x)
   where
-    step : link_of c xs ≡ cond (nat_lt (position_or_len (is_of c) xs) (length xs)) (Some (get_or xs (position_or_len (is_of c) xs) d).link) None → (t : Bool) → cond t (Some x.link) (link_of c xs) ≡ cond (nat_lt (cond (not t) (1 + position_or_len (is_of c) xs) 0) (length (x ∷ xs))) (Some (get_or (x ∷ xs) (cond (not t) (1 + position_or_len (is_of c) xs) 0) d).link) None
+    step : link_of c xs ≡ cond (nat_lt (position_or_len (is_of c) xs) (length xs)) (Some (get_or xs (position_or_len (is_of c) xs) d).state_of_connection) None → (t : Bool) → cond t (Some x.state_of_connection) (link_of c xs) ≡ cond (nat_lt (cond (not t) (1 + position_or_len (is_of c) xs) 0) (length (x ∷ xs))) (Some (get_or (x ∷ xs) (cond (not t) (1 + position_or_len (is_of c) xs) 0) d).state_of_connection) None
     step e true =
         let h : nat_lt 0 (suc (length xs)) ≡ true = grind (arith, nat_tests) in
-        sym (ap (λ b. cond b (Some x.link) None) h)
+        sym (ap (λ b. cond b (Some x.state_of_connection) None) h)
     step e false =
         let h : 1 + position_or_len (is_of c) xs ≡ suc (position_or_len (is_of c) xs) = omega arith in
         let g : get_or (x ∷ xs) (1 + position_or_len (is_of c) xs) d ≡ get_or xs (position_or_len (is_of c) xs) d = rw h refl in
-        e ∙ sym (shift (position_or_len (is_of c) xs) (length xs) (Some (get_or xs (position_or_len (is_of c) xs) d).link))
-        ∙ ap (λ y. cond (nat_lt (1 + position_or_len (is_of c) xs) (suc (length xs))) (Some y.link) None) (sym g)
+        e ∙ sym (shift (position_or_len (is_of c) xs) (length xs) (Some (get_or xs (position_or_len (is_of c) xs) d).state_of_connection))
+        ∙ ap (λ y. cond (nat_lt (1 + position_or_len (is_of c) xs) (suc (length xs))) (Some y.state_of_connection) None) (sym g)
 
-pub with_link-place : (c : ℕ) (link : Link) (xs : List Connection)
-    → with_link c link xs ≡ set xs (position_or_len (is_of c) xs) (record { number = c; link = link })
-with_link-place c link [] = refl
-with_link-place c link (x ∷ xs) = step (with_link-place c link xs) (is_of c x)
+pub with_link-place : (c : ℕ) (state_of_connection : ConnectionState) (xs : List Connection)
+    → with_link c state_of_connection xs ≡ set xs (position_or_len (is_of c) xs) (record { number = c; state_of_connection = state_of_connection })
+with_link-place c state_of_connection [] = refl
+with_link-place c state_of_connection (x ∷ xs) = step (with_link-place c state_of_connection xs) (is_of c x)
   where
-    step : with_link c link xs ≡ set xs (position_or_len (is_of c) xs) (record { number = c; link = link }) → (t : Bool) → cond t (record { number = c; link = link } ∷ xs) (x ∷ with_link c link xs) ≡ set (x ∷ xs) (cond (not t) (1 + position_or_len (is_of c) xs) 0) (record { number = c; link = link })
+    step : with_link c state_of_connection xs ≡ set xs (position_or_len (is_of c) xs) (record { number = c; state_of_connection = state_of_connection }) → (t : Bool) → cond t (record { number = c; state_of_connection = state_of_connection } ∷ xs) (x ∷ with_link c state_of_connection xs) ≡ set (x ∷ xs) (cond (not t) (1 + position_or_len (is_of c) xs) 0) (record { number = c; state_of_connection = state_of_connection })
     step e true = refl
     step e false =
         let h : 1 + position_or_len (is_of c) xs ≡ suc (position_or_len (is_of c) xs) = omega arith in
@@ -60,16 +60,16 @@ pub place-some : (c : ℕ) (xs : List Connection) (i : ℕ) → Some i ≡ posit
 place-some c xs i h =
     let e = chosen (nat_lt (position_or_len (is_of c) xs) (length xs)) i (position_or_len (is_of c) xs) h in
     record {
-      there = (position-Some (is_of c) xs i (record { number = 0; link = record { pending = []; closed = false } }) (sym h)).0;
+      there = (position-Some (is_of c) xs i (record { number = 0; state_of_connection = record { pending = []; closed = false } }) (sym h)).0;
       number = λ d. eqb-true (get_or xs i d).number c (position-Some (is_of c) xs i d (sym h)).1;
-      link = λ d. link_of-place c xs d ∙ rw (e.1, e.0) refl;
-      set = λ link. sym (with_link-place c link xs ∙ rw e.0 refl);
+      state_of_connection = λ d. link_of-place c xs d ∙ rw (e.1, e.0) refl;
+      set = λ state_of_connection. sym (with_link-place c state_of_connection xs ∙ rw e.0 refl);
     }
 
 pub place-of : (c : ℕ) (xs : List Connection) (r : Option ℕ) → r ≡ position (is_of c) xs → IfSome r (IsPlaceOf c xs)
 place-of c xs None h = tt
 place-of c xs (Some i) h = place-some c xs i h
 
-pub shut-some : (c : ℕ) (xs ys : List Connection) (link : Link) → link_of c ys ≡ Some link → ys ≡ xs
-    → ◌≡◌ {A = List Connection × Outcome} (without c xs, Ok no_bytes) (shut c xs (link_of c xs))
-shut-some c xs ys link h e = sym (ap (shut c xs) (sym (ap (link_of c) e) ∙ h))
+pub shut-some : (c : ℕ) (xs ys : List Connection) (state_of_connection : ConnectionState) → link_of c ys ≡ Some state_of_connection → ys ≡ xs
+    → ◌≡◌ {A = List Connection × Outcome} (without_connection c xs, Ok no_bytes) (shut c xs (link_of c xs))
+shut-some c xs ys state_of_connection h e = sym (ap (shut c xs) (sym (ap (link_of c) e) ∙ h))

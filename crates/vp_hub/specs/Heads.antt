@@ -2,15 +2,15 @@
 use Rattle.std.specs.Prelude.{◌≡◌, ◌<◌, ◌≤◌, ◌⊎◌, ℕ, true, false, List, [], ◌∷◌, ◌++◌, length, take, Option, Some}
 use Rattle.vp_heads.specs.Replies.{too_long}
 use Rattle.vp_hub.specs.Pages.{Streams, IsReply}
-use Rattle.vp_hub.specs.declared.connection.Link.{Link}
-use Rattle.vp_hub.specs.Hub.{ends_head, Serves, State, link_of}
+use Rattle.vp_hub.specs.declared.connection.ConnectionState.{ConnectionState}
+use Rattle.vp_hub.specs.Hub.{ends_head, Serves, HubState, link_of}
 
 -- no front of the bytes ends as a head does
 abbrev pub HasNoEnd : List ℕ → Type 0
 HasNoEnd bytes = (k : ℕ) → k ≤ length bytes → ends_head (take k bytes) ≡ false
 
 -- through the first end
-pub record IsHead (h : List ℕ) : Type 0 where
+pub record IsRequestHead (h : List ℕ) : Type 0 where
   pub ends : ends_head h ≡ true
   pub first : (k : ℕ) → k < length h → ends_head (take k h) ≡ false
   pub short : length h ≤ 8192
@@ -25,29 +25,29 @@ pub record IsLong (bytes : List ℕ) : Type 0 where
   pub none : HasNoEnd bytes
   pub long : length bytes ≡ 8192
 
-abbrev pub gone : Link
+abbrev pub gone : ConnectionState
 gone = record { pending = []; closed = true }
 
 -- the bytes are these heads, and then less than one or too many; this is kept of them, and this is replied:
 -- what follows a head that closes is dropped
-abbrev pub Answers : Streams → List (List ℕ) → List ℕ → Link × List ℕ → Type 0
-Answers streams [] bytes v =
+abbrev pub AnswersHeads : Streams → List (List ℕ) → List ℕ → ConnectionState × List ℕ → Type 0
+AnswersHeads streams [] bytes v =
     (IsPartial bytes × (v ≡ (record { pending = bytes; closed = false }, [])))
     ⊎ ((front : List ℕ) × (back : List ℕ) × IsLong front × (bytes ≡ front ++ back) × (v ≡ (gone, too_long)))
-Answers streams (h ∷ hs) bytes v =
-    (rest : List ℕ) × (reply : List ℕ) × IsHead h × (bytes ≡ h ++ rest)
+AnswersHeads streams (h ∷ hs) bytes v =
+    (rest : List ℕ) × (reply : List ℕ) × IsRequestHead h × (bytes ≡ h ++ rest)
     × ((IsReply streams h (reply, true) × (hs ≡ []) × (v ≡ (gone, reply)))
-    ⊎ (IsReply streams h (reply, false) × (w : Link × List ℕ) × Answers streams hs rest w × (v ≡ (w.0, reply ++ w.1))))
+    ⊎ (IsReply streams h (reply, false) × (w : ConnectionState × List ℕ) × AnswersHeads streams hs rest w × (v ≡ (w.0, reply ++ w.1))))
 
 -- what is served to a piece, behind less than a head, is the answer to the heads of both
 abbrev pub IsCutIntoHeads : Type 0
-IsCutIntoHeads = (streams : Streams) (pending piece : List ℕ) (v : Link × List ℕ) → IsPartial pending
+IsCutIntoHeads = (streams : Streams) (pending piece : List ℕ) (v : ConnectionState × List ℕ) → IsPartial pending
     → Serves streams piece (record { pending = pending; closed = false }, []) v
-    → (hs : List (List ℕ)) × Answers streams hs (pending ++ piece) v
+    → (hs : List (List ℕ)) × AnswersHeads streams hs (pending ++ piece) v
 
 -- what is kept of a connection that isn't closed is less than a head
-abbrev pub KeepsPartial : Option Link → Type 0
-KeepsPartial l = (link : Link) → l ≡ Some link → link.closed ≡ false → IsPartial link.pending
+abbrev pub KeepsPartial : Option ConnectionState → Type 0
+KeepsPartial l = (state_of_connection : ConnectionState) → l ≡ Some state_of_connection → state_of_connection.closed ≡ false → IsPartial state_of_connection.pending
 
-abbrev pub AllKeepPartial : State → Type 0
+abbrev pub AllKeepPartial : HubState → Type 0
 AllKeepPartial s = (c : ℕ) → KeepsPartial (link_of c s.connections)

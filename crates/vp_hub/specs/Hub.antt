@@ -11,15 +11,15 @@ use Rattle.vp_ivf.specs.declared.fault.FileFault.{FileFault}
 use Rattle.vp_ivf.specs.declared.fault.FileFault.TheVariants as file_fault
 use Rattle.vp_ivf.specs.Reader.{finish_answer}
 use Rattle.vp_base.specs.declared.limits.Limits.{Limits}
-use Rattle.vp_stream.specs.Stream.{refusal, after_piece, after_end}
-use Rattle.vp_stream.specs.Stream.{fresh as fresh_stream}
-use Rattle.vp_cache.specs.Kept.{Entry, AreAnswersOf}
-use Rattle.vp_heads.specs.Routes.{place_of}
+use Rattle.vp_stream.specs.Stream.{stream_refusal, after_piece, stream_after_end}
+use Rattle.vp_stream.specs.Stream.{initial_stream as fresh_stream}
+use Rattle.vp_cache.specs.Cache.{CacheEntry, AreAnswersOf}
+use Rattle.vp_heads.specs.Routes.{name_index}
 use Rattle.vp_heads.specs.Replies.{too_long}
 use Rattle.vp_hub.specs.declared.source.Source.{Source}
 use Rattle.vp_hub.specs.declared.source.Ending.{Ending}
 use Rattle.vp_hub.specs.declared.source.Ending.TheVariants as ending
-use Rattle.vp_hub.specs.declared.connection.Link.{Link}
+use Rattle.vp_hub.specs.declared.connection.ConnectionState.{ConnectionState}
 use Rattle.vp_hub.specs.declared.connection.Connection.{Connection}
 use Rattle.vp_hub.specs.Pages.{Streams, IsReply}
 use Rattle.vp_hub.specs.declared.event.HubFault.{HubFault}
@@ -35,19 +35,19 @@ Chosen true A B = A
 Chosen false A B = B
 
 -- one byte of a connection: what is kept, and what is written so far
-abbrev pub Settles : Streams → List ℕ → List ℕ → Link × List ℕ → Type 0
+abbrev pub Settles : Streams → List ℕ → List ℕ → ConnectionState × List ℕ → Type 0
 Settles streams pending out w =
     Chosen (ends_head pending)
     ((r : List ℕ × Bool) × IsReply streams pending r × (w ≡ (record { pending = []; closed = r.1 }, out ++ r.0)))
     (w ≡ (if nat_lt (length pending) 8192 then (record { pending = pending; closed = false }, out) else (record { pending = []; closed = true }, out ++ too_long)))
 
-abbrev pub TakesByte : Streams → ℕ → Link × List ℕ → Link × List ℕ → Type 0
+abbrev pub TakesByte : Streams → ℕ → ConnectionState × List ℕ → ConnectionState × List ℕ → Type 0
 TakesByte streams b v w = Chosen v.0.closed (w ≡ v) (Settles streams (v.0.pending ++ b ∷ []) v.1 w)
 
 -- each byte in turn
-abbrev pub Serves : Streams → List ℕ → Link × List ℕ → Link × List ℕ → Type 0
+abbrev pub Serves : Streams → List ℕ → ConnectionState × List ℕ → ConnectionState × List ℕ → Type 0
 Serves streams [] v w = w ≡ v
-Serves streams (b ∷ bs) v w = (mid : Link × List ℕ) × TakesByte streams b v mid × Serves streams bs mid w
+Serves streams (b ∷ bs) v w = (mid : ConnectionState × List ℕ) × TakesByte streams b v mid × Serves streams bs mid w
 
 abbrev pub Outcome : Type 0
 Outcome = Result Reply HubFault
@@ -71,7 +71,7 @@ abbrev pub lent_source : Option (Bor Source) → Option Source
 lent_source o = option_map (λ s. s.now) o
 
 -- the state of the hub
-pub record State : Type 0 where
+pub record HubState : Type 0 where
   pub streams : Streams
   pub connections : List Connection
 
@@ -95,20 +95,20 @@ stream_limits limits = record {
 abbrev pub new_source : Limits → Source
 new_source limits = record { stream = fresh_stream (stream_limits limits); end = ending.Open }
 
-abbrev pub fresh : List (List ℕ) → Limits → State
-fresh names limits = record { streams = record { names = names; sources = map (λ _. new_source limits) names }; connections = [] }
+abbrev pub initial_hub : List (List ℕ) → Limits → HubState
+initial_hub names limits = record { streams = record { names = names; sources = map (λ _. new_source limits) names }; connections = [] }
 
 -- what is kept of the connection of a number
-abbrev pub link_of : ℕ → List Connection → Option Link
+abbrev pub link_of : ℕ → List Connection → Option ConnectionState
 link_of c [] = None
-link_of c (x ∷ xs) = if x.number == c then Some x.link else link_of c xs
+link_of c (x ∷ xs) = if x.number == c then Some x.state_of_connection else link_of c xs
 
-abbrev pub without : ℕ → List Connection → List Connection
-without c xs = filter (λ x. not (x.number == c)) xs
+abbrev pub without_connection : ℕ → List Connection → List Connection
+without_connection c xs = filter (λ x. not (x.number == c)) xs
 
-abbrev pub with_link : ℕ → Link → List Connection → List Connection
-with_link c link [] = []
-with_link c link (x ∷ xs) = if x.number == c then record { number = c; link = link } ∷ xs else x ∷ with_link c link xs
+abbrev pub with_link : ℕ → ConnectionState → List Connection → List Connection
+with_link c state_of_connection [] = []
+with_link c state_of_connection (x ∷ xs) = if x.number == c then record { number = c; state_of_connection = state_of_connection } ∷ xs else x ∷ with_link c state_of_connection xs
 
 -- a stream after a piece, and the answer: its end is told, or it met a fault, or it takes the piece
 abbrev pub fed_by : Option FileFault → List ℕ → Source → Source × Outcome
@@ -121,13 +121,13 @@ fed_by (Some file_fault.Torn) piece source = (source, Err Failed)
 fed_by None piece source = (record source { stream = after_piece source.stream piece }, Ok no_bytes)
 
 abbrev pub fed : List ℕ → Source → Source × Outcome
-fed piece source = if is_open_end source.end then fed_by (refusal source.stream) piece source else (source, Err Ended)
+fed piece source = if is_open_end source.end then fed_by (stream_refusal source.stream) piece source else (source, Err Ended)
 
 -- a stream after its end is told, and the answer
-abbrev pub ended : Source → Source × Outcome
-ended source =
+abbrev pub ended_source : Source → Source × Outcome
+ended_source source =
     if is_open_end source.end
-    then (record { stream = after_end source.stream; end = ending_by (finish_answer source.stream.reading) }, Ok no_bytes)
+    then (record { stream = stream_after_end source.stream; end = ending_by (finish_answer source.stream.reading) }, Ok no_bytes)
     else (source, Err Ended)
 
 -- the same at the stream of a name
@@ -140,50 +140,50 @@ at_place f streams None = (streams, Err UnknownStream)
 at_place f streams (Some k) = at_source f k streams (slice_get streams.sources k)
 
 abbrev pub at_name : (Source → Source × Outcome) → List ℕ → Streams → Streams × Outcome
-at_name f name streams = at_place f streams (place_of streams.names name)
+at_name f name streams = at_place f streams (name_index streams.names name)
 
 -- a piece of a connection's bytes: what is kept, and the answer
-abbrev pub Gets : Streams → List ℕ → Link → Link × Outcome → Type 0
-Gets streams piece link r =
-    Chosen link.closed
-    (r ≡ (link, Err Failed))
-    ((w : Link × List ℕ) × Serves streams piece (link, []) w × (r ≡ (w.0, Ok (record { bytes = w.1; close = w.0.closed }))))
+abbrev pub Gets : Streams → List ℕ → ConnectionState → ConnectionState × Outcome → Type 0
+Gets streams piece state_of_connection r =
+    Chosen state_of_connection.closed
+    (r ≡ (state_of_connection, Err Failed))
+    ((w : ConnectionState × List ℕ) × Serves streams piece (state_of_connection, []) w × (r ≡ (w.0, Ok (record { bytes = w.1; close = w.0.closed }))))
 
-abbrev pub with_streams : State → Streams × Outcome → State × Outcome
+abbrev pub with_streams : HubState → Streams × Outcome → HubState × Outcome
 with_streams s r = (record { streams = r.0; connections = s.connections }, r.1)
 
-abbrev pub with_connections : State → List Connection × Outcome → State × Outcome
+abbrev pub with_connections : HubState → List Connection × Outcome → HubState × Outcome
 with_connections s r = (record { streams = s.streams; connections = r.0 }, r.1)
 
-abbrev pub new_link : Link
+abbrev pub new_link : ConnectionState
 new_link = record { pending = []; closed = false }
 
-abbrev pub opened : ℕ → List Connection → Option Link → List Connection × Outcome
-opened c xs (Some link) = (xs, Err AlreadyOpen)
-opened c xs None = if nat_lt (length xs) 64 then (xs ++ record { number = c; link = new_link } ∷ [], Ok no_bytes) else (xs, Err TooMany)
+abbrev pub opened : ℕ → List Connection → Option ConnectionState → List Connection × Outcome
+opened c xs (Some state_of_connection) = (xs, Err AlreadyOpen)
+opened c xs None = if nat_lt (length xs) 64 then (xs ++ record { number = c; state_of_connection = new_link } ∷ [], Ok no_bytes) else (xs, Err TooMany)
 
-abbrev pub Asks : Streams → ℕ → List ℕ → List Connection → Option Link → List Connection × Outcome → Type 0
+abbrev pub Asks : Streams → ℕ → List ℕ → List Connection → Option ConnectionState → List Connection × Outcome → Type 0
 Asks streams c piece xs None r = r ≡ (xs, Err UnknownConn)
-Asks streams c piece xs (Some link) r = (g : Link × Outcome) × Gets streams piece link g × (r ≡ (with_link c g.0 xs, g.1))
+Asks streams c piece xs (Some state_of_connection) r = (g : ConnectionState × Outcome) × Gets streams piece state_of_connection g × (r ≡ (with_link c g.0 xs, g.1))
 
-abbrev pub is_open : Option Link → Bool
+abbrev pub is_open : Option ConnectionState → Bool
 is_open None = false
-is_open (Some link) = not link.closed
+is_open (Some state_of_connection) = not state_of_connection.closed
 
-abbrev pub shut : ℕ → List Connection → Option Link → List Connection × Outcome
+abbrev pub shut : ℕ → List Connection → Option ConnectionState → List Connection × Outcome
 shut c xs None = (xs, Err UnknownConn)
-shut c xs (Some link) = (without c xs, Ok no_bytes)
+shut c xs (Some state_of_connection) = (without_connection c xs, Ok no_bytes)
 
 -- one event: the state after it, and the answer, where memory isn't refused
-abbrev pub HubStep : Event → State → State × Outcome → Type 0
+abbrev pub HubStep : Event → HubState → HubState × Outcome → Type 0
 HubStep (Feed name piece) s r = r ≡ with_streams s (at_name (fed piece) name s.streams)
-HubStep (End name) s r = r ≡ with_streams s (at_name ended name s.streams)
+HubStep (End name) s r = r ≡ with_streams s (at_name ended_source name s.streams)
 HubStep (Open c) s r = r ≡ with_connections s (opened c s.connections (link_of c s.connections))
 HubStep (Bytes c piece) s r = Asks s.streams c piece s.connections (link_of c s.connections) (r.0.connections, r.1) × (r.0.streams ≡ s.streams)
 HubStep (Shut c) s r = r ≡ with_connections s (shut c s.connections (link_of c s.connections))
 
 -- the event would be answered, and not refused
-abbrev pub IsFine : Event → State → Type 0
+abbrev pub IsFine : Event → HubState → Type 0
 IsFine (Feed name piece) s = IsOk (at_name (fed piece) name s.streams).1
 IsFine (End name) s = ⊥
 IsFine (Open c) s = IsOk (opened c s.connections (link_of c s.connections)).1
@@ -191,7 +191,7 @@ IsFine (Bytes c piece) s = is_open (link_of c s.connections) ≡ true
 IsFine (Shut c) s = ⊥
 
 -- where memory is refused: a connection whose bytes came is closed
-abbrev pub after_memory : Event → State → State
+abbrev pub after_memory : Event → HubState → HubState
 after_memory (Bytes c piece) s = record { streams = s.streams; connections = with_link c (record { pending = []; closed = true }) s.connections }
 after_memory (Feed name piece) s = s
 after_memory (End name) s = s
@@ -199,21 +199,21 @@ after_memory (Open c) s = s
 after_memory (Shut c) s = s
 
 -- memory is refused only to an event that takes some, and that would be answered otherwise
-pub record IsRefused (old : State) (e : Event) (new : State) : Type 0 where
+pub record IsRefusedMemory (old : HubState) (e : Event) (new : HubState) : Type 0 where
   pub fine : IsFine e old
   pub after : new ≡ after_memory e old
 
 -- one event with its answer
-abbrev pub IsStep : State → Event → Outcome → State → Type 0
-IsStep old e o new = (o ≡ Err Memory → IsRefused old e new) × (o ≢ Err Memory → HubStep e old (new, o))
+abbrev pub IsStep : HubState → Event → Outcome → HubState → Type 0
+IsStep old e o new = (o ≡ Err Memory → IsRefusedMemory old e new) × (o ≢ Err Memory → HubStep e old (new, o))
 
 -- the connection of the number stands there
 pub record IsPlaceOf (c : ℕ) (xs : List Connection) (i : ℕ) : Type 0 where
   pub there : i < length xs
   pub number : (d : Connection) → (slice_index_or xs i d).number ≡ c
-  pub link : (d : Connection) → link_of c xs ≡ Some (slice_index_or xs i d).link
-  pub set : (link : Link) → slice_set xs i (record { number = c; link = link }) ≡ with_link c link xs
+  pub state_of_connection : (d : Connection) → link_of c xs ≡ Some (slice_index_or xs i d).state_of_connection
+  pub set : (state_of_connection : ConnectionState) → slice_set xs i (record { number = c; state_of_connection = state_of_connection }) ≡ with_link c state_of_connection xs
 
 -- each kept picture is the answer of the stream that its number says
-abbrev pub AreKept : List Source → List Entry → Type 0
+abbrev pub AreKept : List Source → List CacheEntry → Type 0
 AreKept sources entries = (k : ℕ) (s : Source) → slice_get sources k ≡ Some s → AreAnswersOf k s.stream entries

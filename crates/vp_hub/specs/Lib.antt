@@ -6,5 +6,5 @@ pub mod Turns
 pub mod Work
 pub mod Names
 pub mod Pieces
-pub mod Visits
+pub mod Sessions
 pub mod Standing

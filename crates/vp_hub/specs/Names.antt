@@ -4,8 +4,8 @@ use Rattle.std.specs.List.{list_all, list_any}
 use Rattle.std.specs.Str.{bytes_eq}
 use Rattle.vp_hub.specs.declared.event.HubFault.{HubFault}
 use Rattle.vp_hub.specs.declared.event.HubFault.TheVariants.{UnknownStream, Ended, UnknownConn, AlreadyOpen, TooMany, Failed, Memory}
-use Rattle.vp_hub.specs.declared.visit.ServeFault.{ServeFault}
-use Rattle.vp_hub.specs.declared.visit.ServeFault.TheVariants.{Hub, Device, ReadTurns}
+use Rattle.vp_hub.specs.declared.session.ServeFault.{ServeFault}
+use Rattle.vp_hub.specs.declared.session.ServeFault.TheVariants.{Hub, Device, ReadTurns}
 
 -- a lower-case letter, a digit, `-` or `_`
 abbrev pub is_name_byte : ℕ → Bool

@@ -3,14 +3,14 @@ use Rattle.std.specs.Prelude.{◌≡◌, ℕ, Bool, true, false, List, [], ◌�
 use Rattle.std.specs.List.{flat_map}
 use Rattle.vp_ivf.specs.declared.fault.FileFault.{FileFault}
 use Rattle.vp_ivf.specs.declared.packet.IvfHead.{IvfHead}
-use Rattle.vp_ivf.specs.Names.{name_of as file_fault_name}
-use Rattle.vp_head.specs.Names.{name_of as packet_fault_name}
+use Rattle.vp_ivf.specs.Names.{file_fault_name}
+use Rattle.vp_head.specs.Names.{packet_fault_name}
 use Rattle.vp_y4m.specs.Text.{header_text}
-use Rattle.vp_stream.specs.Stream.{refusal}
-use Rattle.vp_stream.specs.Seeking.{Told, Shown, Hidden, Fault, NoPacket, answer_at}
+use Rattle.vp_stream.specs.Stream.{stream_refusal}
+use Rattle.vp_stream.specs.Seeking.{AnswerValue, Shown, Hidden, Fault, NoPacket, answer_at}
 use Rattle.vp_heads.specs.declared.request.Request.{Request}
-use Rattle.vp_heads.specs.declared.request.Wanted.{Wanted}
-use Rattle.vp_heads.specs.declared.request.Wanted.TheVariants as wanted
+use Rattle.vp_heads.specs.declared.request.Resource.{Resource}
+use Rattle.vp_heads.specs.declared.request.Resource.TheVariants as wanted
 use Rattle.vp_heads.specs.declared.status.Status.TheVariants.{BadRequest, NotFound, MethodNotAllowed}
 use Rattle.vp_heads.specs.Requests.{IsAsked}
 use Rattle.vp_heads.specs.Replies.{Content, Lines, Pixels, Faulted, Failed, reply_to}
@@ -44,12 +44,12 @@ head_lines (Some h) =
 
 unfoldable pub info_text : Source → List ℕ
 info_text s =
-    codes "state " ++ (state_by s.end (refusal s.stream) ++ (codes "\npackets " ++ (decimal (length s.stream.reading.packets)
+    codes "state " ++ (state_by s.end (stream_refusal s.stream) ++ (codes "\npackets " ++ (decimal (length s.stream.reading.packets)
     ++ (codes "\n" ++ head_lines s.stream.reading.head))))
 
-abbrev pub info_of : Option Source → Content
-info_of None = Failed NotFound
-info_of (Some s) = Lines (info_text s)
+abbrev pub info_content : Option Source → Content
+info_content None = Failed NotFound
+info_content (Some s) = Lines (info_text s)
 
 -- ---- a packet's picture: its I420; before it, in a Y4M file, the line of the header and that of the picture
 
@@ -58,25 +58,25 @@ front_by false head w h = []
 front_by true None w h = codes "FRAME\n"
 front_by true (Some head) w h = header_text w h head.rate head.scale ++ codes "FRAME\n"
 
-abbrev pub picture_by : Bool → Option IvfHead → Told → Content
+abbrev pub picture_by : Bool → Option IvfHead → AnswerValue → Content
 picture_by video head (Shown w h pixels) = Pixels (front_by video head w h ++ pixels)
 picture_by video head Hidden = Failed NotFound
 picture_by video head NoPacket = Failed NotFound
 picture_by video head (Fault f) = Faulted (packet_fault_name f)
 
-abbrev pub picture_of : Bool → Option Source → ℕ → Content
-picture_of video None n = Failed NotFound
-picture_of video (Some s) n = picture_by video s.stream.reading.head (answer_at s.stream.limits s.stream.reading.packets n)
+abbrev pub picture_content : Bool → Option Source → ℕ → Content
+picture_content video None n = Failed NotFound
+picture_content video (Some s) n = picture_by video s.stream.reading.head (answer_at s.stream.limits s.stream.reading.packets n)
 
 -- what is found for what is wanted
-abbrev pub content_of : Streams → Wanted → Content
+abbrev pub content_of : Streams → Resource → Content
 content_of s wanted.Bad = Failed BadRequest
 content_of s wanted.WrongMethod = Failed MethodNotAllowed
 content_of s wanted.Missing = Failed NotFound
 content_of s wanted.Streams = Lines (names_text s.names)
-content_of s (wanted.Info k) = info_of (slice_get s.sources k)
-content_of s (wanted.Frame k n) = picture_of false (slice_get s.sources k) n
-content_of s (wanted.Video k n) = picture_of true (slice_get s.sources k) n
+content_of s (wanted.Info k) = info_content (slice_get s.sources k)
+content_of s (wanted.Frame k n) = picture_content false (slice_get s.sources k) n
+content_of s (wanted.Video k n) = picture_content true (slice_get s.sources k) n
 
 -- the reply to a head, and whether it closes the connection
 unfoldable pub IsReply : Streams → List ℕ → List ℕ × Bool → Type 0

@@ -4,14 +4,14 @@ use Rattle.vp_base.specs.declared.limits.Limits.{Limits}
 use Rattle.vp_ivf.specs.Ivf.{Contents}
 use Rattle.vp_ivf.specs.Reader.{finish_answer}
 use Rattle.vp_stream.specs.Answers.{reading_of}
-use Rattle.vp_heads.specs.Routes.{place_of}
+use Rattle.vp_heads.specs.Routes.{name_index}
 use Rattle.vp_hub.specs.declared.event.Event.{Event}
 use Rattle.vp_hub.specs.declared.event.Event.TheVariants.{Feed, End, Open, Bytes, Shut}
 use Rattle.vp_hub.specs.declared.source.Source.{Source}
 use Rattle.vp_hub.specs.declared.source.Ending.{Ending}
 use Rattle.vp_hub.specs.declared.source.Ending.TheVariants as ending
 use Rattle.vp_hub.specs.Pages.{Streams}
-use Rattle.vp_hub.specs.Hub.{Outcome, State, fresh, stream_limits, ending_by}
+use Rattle.vp_hub.specs.Hub.{Outcome, HubState, initial_hub, stream_limits, ending_by}
 use Rattle.vp_hub.specs.View.{IsRun}
 
 -- the stream at a place is what these bytes make of it
@@ -27,7 +27,7 @@ is_at k (Some j) = j == k
 
 -- the piece of that stream that the event brought, if it was accepted
 abbrev pub accepted : List (List ℕ) → ℕ → Event → Outcome → List ℕ
-accepted names k (Feed name piece) (Ok reply) = if is_at k (place_of names name) then piece else []
+accepted names k (Feed name piece) (Ok reply) = if is_at k (name_index names name) then piece else []
 accepted names k (Feed name piece) (Err f) = []
 accepted names k (End name) o = []
 accepted names k (Open c) o = []
@@ -40,22 +40,22 @@ all_accepted names k (e ∷ es) [] = []
 all_accepted names k (e ∷ es) (o ∷ os) = accepted names k e o ++ all_accepted names k es os
 
 -- after a run each stream is what its bytes before and its accepted pieces make of it
-abbrev pub AreAcceptedPieces : State → List Event → List Outcome → State → Type 0
+abbrev pub AreAcceptedPieces : HubState → List Event → List Outcome → HubState → Type 0
 AreAcceptedPieces s es os new = (limits : Limits) (k : ℕ) (bytes : List ℕ) → IsReadFrom limits k s.streams bytes
     → IsReadFrom limits k new.streams (bytes ++ all_accepted s.streams.names k es os)
 
 abbrev pub RunsAddAcceptedPieces : Type 0
-RunsAddAcceptedPieces = (s new : State) (es : List Event) (os : List Outcome) → IsRun s es os new → AreAcceptedPieces s es os new
+RunsAddAcceptedPieces = (s new : HubState) (es : List Event) (os : List Outcome) → IsRun s es os new → AreAcceptedPieces s es os new
 
 -- the streams of a new hub have no bytes
 abbrev pub NewStreamsHaveNoBytes : Type 0
-NewStreamsHaveNoBytes = (names : List (List ℕ)) (limits : Limits) (k : ℕ) → k < length names → IsReadFrom (stream_limits limits) k (fresh names limits).streams []
+NewStreamsHaveNoBytes = (names : List (List ℕ)) (limits : Limits) (k : ℕ) → k < length names → IsReadFrom (stream_limits limits) k (initial_hub names limits).streams []
 
 -- ---- the end
 
 -- the event told the end of that stream, and was accepted
 abbrev pub accepts_end : List (List ℕ) → ℕ → Event → Outcome → Bool
-accepts_end names k (End name) (Ok reply) = is_at k (place_of names name)
+accepts_end names k (End name) (Ok reply) = is_at k (name_index names name)
 accepts_end names k (End name) (Err f) = false
 accepts_end names k (Feed name piece) o = false
 accepts_end names k (Open c) o = false
@@ -80,14 +80,14 @@ pub record IsEndedFrom (limits : Limits) (k : ℕ) (streams : Streams) (bytes : 
   pub ended : read.source.stream.ended ≡ (told && is_none (reading_of limits bytes).fault)
 
 -- after a run the end of each stream is told where it was, or where the run accepted an End of it, and nowhere else
-abbrev pub AreAcceptedEnds : State → List Event → List Outcome → State → Type 0
+abbrev pub AreAcceptedEnds : HubState → List Event → List Outcome → HubState → Type 0
 AreAcceptedEnds s es os new = (limits : Limits) (k : ℕ) (bytes : List ℕ) (told : Bool) → IsEndedFrom limits k s.streams bytes told
     → IsEndedFrom limits k new.streams (bytes ++ all_accepted s.streams.names k es os) (told || end_accepted s.streams.names k es os)
 
 abbrev pub RunsEndAtAcceptedEnds : Type 0
-RunsEndAtAcceptedEnds = (s new : State) (es : List Event) (os : List Outcome) → IsRun s es os new → AreAcceptedEnds s es os new
+RunsEndAtAcceptedEnds = (s new : HubState) (es : List Event) (os : List Outcome) → IsRun s es os new → AreAcceptedEnds s es os new
 
 -- the streams of a new hub are open
 abbrev pub NewStreamsAreOpen : Type 0
 NewStreamsAreOpen = (names : List (List ℕ)) (limits : Limits) (k : ℕ) → k < length names
-    → IsEndedFrom (stream_limits limits) k (fresh names limits).streams [] false
+    → IsEndedFrom (stream_limits limits) k (initial_hub names limits).streams [] false

@@ -5,12 +5,12 @@ use Rattle.vp_hub.specs.declared.event.Event.{Event}
 use Rattle.vp_hub.specs.declared.event.Event.TheVariants.{Feed, End, Open, Bytes, Shut}
 use Rattle.vp_hub.specs.declared.event.HubFault.TheVariants.{TooMany}
 use Rattle.vp_hub.specs.declared.connection.Connection.{Connection}
-use Rattle.vp_hub.specs.Hub.{Outcome, State, IsStep}
+use Rattle.vp_hub.specs.Hub.{Outcome, HubState, IsStep}
 use Rattle.vp_hub.specs.View.{IsRun}
 
 -- the numbers of connections
-abbrev pub numbers : List Connection → List ℕ
-numbers connections = map (λ x. x.number) connections
+abbrev pub connection_numbers : List Connection → List ℕ
+connection_numbers connections = map (λ x. x.number) connections
 
 -- an opening that was accepted adds its number; a shutting takes its number away
 abbrev pub standing_after : List ℕ → Event → Outcome → List ℕ
@@ -36,11 +36,11 @@ IsFull c cs = (stands c cs ≡ false) × (64 ≤ length cs)
 
 -- a connection stands from its accepted opening to its shutting, and no longer
 abbrev pub StandsToShut : Type 0
-StandsToShut = (s new : State) (es : List Event) (os : List Outcome) → IsRun s es os new
-    → numbers new.connections ≡ standing (numbers s.connections) es os
+StandsToShut = (s new : HubState) (es : List Event) (os : List Outcome) → IsRun s es os new
+    → connection_numbers new.connections ≡ standing (connection_numbers s.connections) es os
 
 -- behind a history an opening is one too many exactly where 64 others stand by it
 abbrev pub IsTooManyByHistory : Type 0
-IsTooManyByHistory = (s mid new : State) (es : List Event) (os : List Outcome) (c : ℕ) (o : Outcome)
+IsTooManyByHistory = (s mid new : HubState) (es : List Event) (os : List Outcome) (c : ℕ) (o : Outcome)
     → IsRun s es os mid → IsStep mid (Open c) o new
-    → (o ≡ Err TooMany) ↔ IsFull c (standing (numbers s.connections) es os)
+    → (o ≡ Err TooMany) ↔ IsFull c (standing (connection_numbers s.connections) es os)

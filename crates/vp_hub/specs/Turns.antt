@@ -1,9 +1,9 @@
 -- All bytes of a connection since its opening, cut into heads, over the events that it sees.
 use Rattle.std.specs.Prelude.{◌≡◌, false, ℕ, List, [], ◌∷◌, ◌++◌, Option, Some, None, Ok, IfSome}
 use Rattle.std.specs.List.{concat}
-use Rattle.vp_hub.specs.declared.connection.Link.{Link}
+use Rattle.vp_hub.specs.declared.connection.ConnectionState.{ConnectionState}
 use Rattle.vp_hub.specs.Hub.{Chosen, Outcome}
-use Rattle.vp_hub.specs.Heads.{Answers, IsPartial}
+use Rattle.vp_hub.specs.Heads.{AnswersHeads, IsPartial}
 use Rattle.vp_hub.specs.View.{Seen, Fed, Over, Opened, Got, Gone, Lost, Sight, See, Leads}
 
 -- the bytes of the pieces
@@ -17,7 +17,7 @@ bytes_seen (Gone ∷ es) = bytes_seen es
 bytes_seen (Lost ∷ es) = bytes_seen es
 
 -- an open connection that keeps these bytes
-abbrev pub keeps : List ℕ → Link
+abbrev pub keeps : List ℕ → ConnectionState
 keeps kept = record { pending = kept; closed = false }
 
 -- A connection that keeps these bytes sees these events, from v on: each piece, behind what is kept, is cut into heads, and they
@@ -27,10 +27,10 @@ abbrev pub AreCutInTurn : List ℕ → List Seen → Sight → List Outcome → 
 AreCutInTurn kept [] v os heads rest = (heads ≡ []) × (rest ≡ Some kept)
 AreCutInTurn kept (e ∷ es) v [] heads rest = ⊥
 AreCutInTurn kept (Got piece ∷ es) v (o ∷ os) heads rest =
-    (here : List (List ℕ)) × (later : List (List ℕ)) × (w : Link × List ℕ) × (heads ≡ here ++ later)
-    × Answers v.streams here (kept ++ piece) w × (o ≡ Ok (record { bytes = w.1; close = w.0.closed }))
+    (here : List (List ℕ)) × (later : List (List ℕ)) × (w : ConnectionState × List ℕ) × (heads ≡ here ++ later)
+    × AnswersHeads v.streams here (kept ++ piece) w × (o ≡ Ok (record { bytes = w.1; close = w.0.closed }))
     × Chosen w.0.closed ((later ≡ []) × (rest ≡ None))
-    (AreCutInTurn w.0.pending es (record { streams = v.streams; link = Some w.0 }) os later rest)
+    (AreCutInTurn w.0.pending es (record { streams = v.streams; state_of_connection = Some w.0 }) os later rest)
 AreCutInTurn kept (Fed name piece ∷ es) v (o ∷ os) heads rest = (mid : Sight) × See (Fed name piece) v (mid, o) × AreCutInTurn kept es mid os heads rest
 AreCutInTurn kept (Over name ∷ es) v (o ∷ os) heads rest = (mid : Sight) × See (Over name) v (mid, o) × AreCutInTurn kept es mid os heads rest
 AreCutInTurn kept (Opened ∷ es) v (o ∷ os) heads rest = (mid : Sight) × See Opened v (mid, o) × AreCutInTurn kept es mid os heads rest
@@ -40,6 +40,6 @@ AreCutInTurn kept (Lost ∷ es) v (o ∷ os) heads rest = (heads ≡ []) × (res
 -- from its opening on, whatever else comes between, all bytes of a connection are cut into heads, each answered at the event
 -- that brings its last byte
 abbrev pub HistoriesAreCut : Type 0
-HistoriesAreCut = (es : List Seen) (v w : Sight) (os : List Outcome) → Leads es v os w → v.link ≡ Some (keeps [])
+HistoriesAreCut = (es : List Seen) (v w : Sight) (os : List Outcome) → Leads es v os w → v.state_of_connection ≡ Some (keeps [])
     → (heads : List (List ℕ)) × (rest : Option (List ℕ)) × AreCutInTurn [] es v os heads rest
     × IfSome rest (λ r. IsPartial r × (bytes_seen es ≡ concat heads ++ r))

@@ -4,9 +4,9 @@ use Rattle.vp_base.specs.declared.limits.Limits.{Limits}
 use Rattle.vp_hub.specs.declared.event.Event.{Event}
 use Rattle.vp_hub.specs.declared.event.Event.TheVariants.{Feed, End, Open, Bytes, Shut}
 use Rattle.vp_hub.specs.Pages.{Streams}
-use Rattle.vp_hub.specs.declared.connection.Link.{Link}
+use Rattle.vp_hub.specs.declared.connection.ConnectionState.{ConnectionState}
 use Rattle.vp_hub.specs.declared.event.HubFault.TheVariants.{UnknownStream, Ended, UnknownConn, AlreadyOpen, TooMany, Failed, Memory}
-use Rattle.vp_hub.specs.Hub.{Outcome, State, link_of, fed, ended, at_name, Gets, no_bytes, new_link, IsStep, fresh}
+use Rattle.vp_hub.specs.Hub.{Outcome, HubState, link_of, fed, ended_source, at_name, Gets, no_bytes, new_link, IsStep, initial_hub}
 
 -- events as one connection sees them; the last is that the hub closed it
 pub data Seen : Type 0 where
@@ -39,18 +39,18 @@ is_too_many (Ok reply) = false
 
 -- what connection c sees of one event with its result: a piece of a stream or an opening that memory was
 -- refused for isn't seen, nor an opening that was one too many; bytes that memory was refused for close
-abbrev pub seen : ℕ → Event → Outcome → List Seen
-seen c (Feed name piece) o = if is_memory o then [] else Fed name piece ∷ []
-seen c (End name) o = Over name ∷ []
-seen c (Open d) o = if d == c then (if is_memory o then [] else if is_too_many o then [] else Opened ∷ []) else []
-seen c (Bytes d piece) o = if d == c then (if is_memory o then Lost ∷ [] else Got piece ∷ []) else []
-seen c (Shut d) o = if d == c then Gone ∷ [] else []
+abbrev pub seen_events : ℕ → Event → Outcome → List Seen
+seen_events c (Feed name piece) o = if is_memory o then [] else Fed name piece ∷ []
+seen_events c (End name) o = Over name ∷ []
+seen_events c (Open d) o = if d == c then (if is_memory o then [] else if is_too_many o then [] else Opened ∷ []) else []
+seen_events c (Bytes d piece) o = if d == c then (if is_memory o then Lost ∷ [] else Got piece ∷ []) else []
+seen_events c (Shut d) o = if d == c then Gone ∷ [] else []
 
 -- the view of connection c, and the results of the events in it
 abbrev pub view_of : ℕ → List Event → List Outcome → List Seen
 view_of c [] os = []
 view_of c (e ∷ es) [] = []
-view_of c (e ∷ es) (o ∷ os) = seen c e o ++ view_of c es os
+view_of c (e ∷ es) (o ∷ os) = seen_events c e o ++ view_of c es os
 
 abbrev pub told : List Seen → Outcome → List Outcome
 told [] o = []
@@ -59,46 +59,46 @@ told (e ∷ es) o = o ∷ []
 abbrev pub results_of : ℕ → List Event → List Outcome → List Outcome
 results_of c [] os = []
 results_of c (e ∷ es) [] = []
-results_of c (e ∷ es) (o ∷ os) = told (seen c e o) o ++ results_of c es os
+results_of c (e ∷ es) (o ∷ os) = told (seen_events c e o) o ++ results_of c es os
 
 -- what a connection's results depend on: the streams, and what is kept of it
 pub record Sight : Type 0 where
   pub streams : Streams
-  pub link : Option Link
+  pub state_of_connection : Option ConnectionState
 
-abbrev pub sight : ℕ → State → Sight
-sight c s = record { streams = s.streams; link = link_of c s.connections }
+abbrev pub sight : ℕ → HubState → Sight
+sight c s = record { streams = s.streams; state_of_connection = link_of c s.connections }
 
-abbrev pub open_again : Option Link → Option Link × Outcome
-open_again (Some link) = (Some link, Err AlreadyOpen)
+abbrev pub open_again : Option ConnectionState → Option ConnectionState × Outcome
+open_again (Some state_of_connection) = (Some state_of_connection, Err AlreadyOpen)
 open_again None = (Some new_link, Ok no_bytes)
 
-abbrev pub AsksAgain : Streams → List ℕ → Option Link → Option Link × Outcome → Type 0
+abbrev pub AsksAgain : Streams → List ℕ → Option ConnectionState → Option ConnectionState × Outcome → Type 0
 AsksAgain streams piece None r = r ≡ (None, Err UnknownConn)
-AsksAgain streams piece (Some link) r = (g : Link × Outcome) × Gets streams piece link g × (r ≡ (Some g.0, g.1))
+AsksAgain streams piece (Some state_of_connection) r = (g : ConnectionState × Outcome) × Gets streams piece state_of_connection g × (r ≡ (Some g.0, g.1))
 
-abbrev pub go : Option Link → Option Link × Outcome
+abbrev pub go : Option ConnectionState → Option ConnectionState × Outcome
 go None = (None, Err UnknownConn)
-go (Some link) = (None, Ok no_bytes)
+go (Some state_of_connection) = (None, Ok no_bytes)
 
-abbrev pub lose : Option Link → Option Link
+abbrev pub lose : Option ConnectionState → Option ConnectionState
 lose None = None
-lose (Some link) = Some (record { pending = []; closed = true })
+lose (Some state_of_connection) = Some (record { pending = []; closed = true })
 
 abbrev pub with_streams_of : Sight → Streams × Outcome → Sight × Outcome
-with_streams_of v r = (record { streams = r.0; link = v.link }, r.1)
+with_streams_of v r = (record { streams = r.0; state_of_connection = v.state_of_connection }, r.1)
 
-abbrev pub with_link_of : Sight → Option Link × Outcome → Sight × Outcome
-with_link_of v r = (record { streams = v.streams; link = r.0 }, r.1)
+abbrev pub with_link_of : Sight → Option ConnectionState × Outcome → Sight × Outcome
+with_link_of v r = (record { streams = v.streams; state_of_connection = r.0 }, r.1)
 
 -- one event of a view: what is kept after it, and its result
 abbrev pub See : Seen → Sight → Sight × Outcome → Type 0
 See (Fed name piece) v r = r ≡ with_streams_of v (at_name (fed piece) name v.streams)
-See (Over name) v r = r ≡ with_streams_of v (at_name ended name v.streams)
-See Opened v r = r ≡ with_link_of v (open_again v.link)
-See (Got piece) v r = AsksAgain v.streams piece v.link (r.0.link, r.1) × (r.0.streams ≡ v.streams)
-See Gone v r = r ≡ with_link_of v (go v.link)
-See Lost v r = r ≡ with_link_of v (lose v.link, Err Memory)
+See (Over name) v r = r ≡ with_streams_of v (at_name ended_source name v.streams)
+See Opened v r = r ≡ with_link_of v (open_again v.state_of_connection)
+See (Got piece) v r = AsksAgain v.streams piece v.state_of_connection (r.0.state_of_connection, r.1) × (r.0.streams ≡ v.streams)
+See Gone v r = r ≡ with_link_of v (go v.state_of_connection)
+See Lost v r = r ≡ with_link_of v (lose v.state_of_connection, Err Memory)
 
 -- from a, the events of a view have these results and lead to b
 abbrev pub Leads : List Seen → Sight → List Outcome → Sight → Type 0
@@ -108,27 +108,27 @@ Leads [] a (o ∷ os) b = ⊥
 Leads (e ∷ es) a [] b = ⊥
 
 -- a run: each event with its result
-abbrev pub IsRun : State → List Event → List Outcome → State → Type 0
+abbrev pub IsRun : HubState → List Event → List Outcome → HubState → Type 0
 IsRun old [] [] new = new ≡ old
-IsRun old (e ∷ es) (o ∷ os) new = (mid : State) × IsStep old e o mid × IsRun mid es os new
+IsRun old (e ∷ es) (o ∷ os) new = (mid : HubState) × IsStep old e o mid × IsRun mid es os new
 IsRun old [] (o ∷ os) new = ⊥
 IsRun old (e ∷ es) [] new = ⊥
 
 -- one run behind another is a run
 abbrev pub RunsAreJoined : Type 0
-RunsAreJoined = (s mid new : State) (es fs : List Event) (os ps : List Outcome) → IsRun s es os mid → IsRun mid fs ps new
+RunsAreJoined = (s mid new : HubState) (es fs : List Event) (os ps : List Outcome) → IsRun s es os mid → IsRun mid fs ps new
     → IsRun s (es ++ fs) (os ++ ps) new
 
 -- each connection gets the results that its view gives
-abbrev pub IsIsolated : State → List Event → List Outcome → State → Type 0
+abbrev pub IsIsolated : HubState → List Event → List Outcome → HubState → Type 0
 IsIsolated s es os new = (c : ℕ) → Leads (view_of c es os) (sight c s) (results_of c es os) (sight c new)
 
 abbrev pub RunsAreIsolated : Type 0
-RunsAreIsolated = (s new : State) (es : List Event) (os : List Outcome) → IsRun s es os new → IsIsolated s es os new
+RunsAreIsolated = (s new : HubState) (es : List Event) (os : List Outcome) → IsRun s es os new → IsIsolated s es os new
 
 -- two runs, from hubs alike to connection c, whose views of c are equal answer c alike
 abbrev pub AnswersAlike : Type 0
-AnswersAlike = (c : ℕ) (s t : State) (es fs : List Event) (os ps : List Outcome) (new mid : State)
+AnswersAlike = (c : ℕ) (s t : HubState) (es fs : List Event) (os ps : List Outcome) (new mid : HubState)
     → IsRun s es os new → IsRun t fs ps mid → sight c s ≡ sight c t → view_of c es os ≡ view_of c fs ps
     → results_of c es os ≡ results_of c fs ps
 
@@ -140,6 +140,6 @@ pub record AreLimitsBesideCache (a b : Limits) : Type 0 where
 
 -- so do two new hubs of the same names, however many pictures each keeps
 abbrev pub NewHubsAnswerAlike : Type 0
-NewHubsAnswerAlike = (names : List (List ℕ)) (a b : Limits) (c : ℕ) (es fs : List Event) (os ps : List Outcome) (new mid : State)
-    → AreLimitsBesideCache a b → IsRun (fresh names a) es os new → IsRun (fresh names b) fs ps mid → view_of c es os ≡ view_of c fs ps
+NewHubsAnswerAlike = (names : List (List ℕ)) (a b : Limits) (c : ℕ) (es fs : List Event) (os ps : List Outcome) (new mid : HubState)
+    → AreLimitsBesideCache a b → IsRun (initial_hub names a) es os new → IsRun (initial_hub names b) fs ps mid → view_of c es os ≡ view_of c fs ps
     → results_of c es os ≡ results_of c fs ps

@@ -1,19 +1,19 @@
 -- How many packets are decoded, and what the cache keeps.
 use Rattle.std.specs.Prelude.{◌≡◌, ◌≢◌, ◌≤◌, ◌⊎◌, ◌+◌, ℕ, true, List, [], ◌∷◌, ◌++◌, Option, Some, None, Err, slice_get}
-use Rattle.vp_stream.specs.Seeking.{answer_at, counted}
-use Rattle.vp_cache.specs.Kept.{IsAfter, held, work_beside}
-use Rattle.vp_cache.specs.Kept.{State as Cache}
+use Rattle.vp_stream.specs.Seeking.{answer_at, saturating_count}
+use Rattle.vp_cache.specs.Cache.{IsAfter, cached, work_beside}
+use Rattle.vp_cache.specs.Cache.{Cache as Cache}
 use Rattle.vp_heads.specs.declared.request.Request.{Request}
-use Rattle.vp_heads.specs.declared.request.Wanted.{Wanted}
-use Rattle.vp_heads.specs.declared.request.Wanted.TheVariants as wanted
+use Rattle.vp_heads.specs.declared.request.Resource.{Resource}
+use Rattle.vp_heads.specs.declared.request.Resource.TheVariants as wanted
 use Rattle.vp_heads.specs.Requests.{IsAsked}
 use Rattle.vp_hub.specs.declared.source.Source.{Source}
-use Rattle.vp_hub.specs.declared.connection.Link.{Link}
+use Rattle.vp_hub.specs.declared.connection.ConnectionState.{ConnectionState}
 use Rattle.vp_hub.specs.declared.event.Event.{Event}
 use Rattle.vp_hub.specs.declared.event.Event.TheVariants.{Feed, End, Open, Bytes, Shut}
 use Rattle.vp_hub.specs.declared.event.HubFault.TheVariants.{Memory}
 use Rattle.vp_hub.specs.Pages.{Streams}
-use Rattle.vp_hub.specs.Hub.{Chosen, Outcome, ends_head, TakesByte, State, link_of, IsStep}
+use Rattle.vp_hub.specs.Hub.{Chosen, Outcome, ends_head, TakesByte, HubState, link_of, IsStep}
 
 -- ---- one request
 
@@ -21,9 +21,9 @@ use Rattle.vp_hub.specs.Hub.{Chosen, Outcome, ends_head, TakesByte, State, link_
 -- those from the last key packet on
 abbrev pub picture_cost : Option Source → ℕ → ℕ → Cache → ℕ
 picture_cost None k n cache = 0
-picture_cost (Some s) k n cache = work_beside (held k n cache.entries) s.stream.reading.packets n
+picture_cost (Some s) k n cache = work_beside (cached k n cache.entries) s.stream.reading.packets n
 
-abbrev pub cost_of : Streams → Wanted → Cache → ℕ
+abbrev pub cost_of : Streams → Resource → Cache → ℕ
 cost_of streams wanted.Bad cache = 0
 cost_of streams wanted.WrongMethod cache = 0
 cost_of streams wanted.Missing cache = 0
@@ -36,9 +36,9 @@ cost_of streams (wanted.Video k n) cache = picture_cost (slice_get streams.sourc
 abbrev pub IsAfterPicture : Option Source → ℕ → ℕ → Cache → Cache → Type 0
 IsAfterPicture None k n old new = new ≡ old
 IsAfterPicture (Some s) k n old new =
-    IsAfter old k n (held k n old.entries) (answer_at s.stream.limits s.stream.reading.packets n) new
+    IsAfter old k n (cached k n old.entries) (answer_at s.stream.limits s.stream.reading.packets n) new
 
-abbrev pub IsAfterAsked : Streams → Wanted → Cache → Cache → Type 0
+abbrev pub IsAfterAsked : Streams → Resource → Cache → Cache → Type 0
 IsAfterAsked streams wanted.Bad old new = new ≡ old
 IsAfterAsked streams wanted.WrongMethod old new = new ≡ old
 IsAfterAsked streams wanted.Missing old new = new ≡ old
@@ -64,27 +64,27 @@ pub record IsMostCost (streams : Streams) (head : List ℕ) (old new : Cache) (c
   pub cost_is : cost ≡ cost_of streams request.wanted old
 
 -- a byte costs what the head does that it ends, if it ends one
-abbrev pub CostsByte : Streams → ℕ → Link → Cache → Cache → ℕ → Type 0
-CostsByte streams b link old new cost =
-    Chosen link.closed ((new ≡ old) × (cost ≡ 0))
-    (Chosen (ends_head (link.pending ++ b ∷ [])) (IsCost streams (link.pending ++ b ∷ []) old new cost) ((new ≡ old) × (cost ≡ 0)))
+abbrev pub CostsByte : Streams → ℕ → ConnectionState → Cache → Cache → ℕ → Type 0
+CostsByte streams b state_of_connection old new cost =
+    Chosen state_of_connection.closed ((new ≡ old) × (cost ≡ 0))
+    (Chosen (ends_head (state_of_connection.pending ++ b ∷ [])) (IsCost streams (state_of_connection.pending ++ b ∷ []) old new cost) ((new ≡ old) × (cost ≡ 0)))
 
 -- each byte in turn: what is kept of the connection and written after it, the cache after it, and what it costs in all
-abbrev pub Costs : Streams → List ℕ → Link × List ℕ → Link × List ℕ → Cache → Cache → ℕ → Type 0
+abbrev pub Costs : Streams → List ℕ → ConnectionState × List ℕ → ConnectionState × List ℕ → Cache → Cache → ℕ → Type 0
 Costs streams [] v w old new cost = (w ≡ v) × (new ≡ old) × (cost ≡ 0)
 Costs streams (b ∷ bs) v w old new cost =
-    (mid : Link × List ℕ) × (cache : Cache) × (first rest : ℕ)
+    (mid : ConnectionState × List ℕ) × (cache : Cache) × (first rest : ℕ)
     × TakesByte streams b v mid × CostsByte streams b v.0 old cache first × Costs streams bs mid w cache new rest × (cost ≡ first + rest)
 
 -- the same for a connection that stands, or doesn't
-abbrev pub CostsPiece : Streams → List ℕ → Option Link → Cache → Cache → ℕ → Type 0
+abbrev pub CostsPiece : Streams → List ℕ → Option ConnectionState → Cache → Cache → ℕ → Type 0
 CostsPiece streams piece None old new cost = (new ≡ old) × (cost ≡ 0)
-CostsPiece streams piece (Some link) old new cost = (w : Link × List ℕ) × Costs streams piece (link, []) w old new cost
+CostsPiece streams piece (Some state_of_connection) old new cost = (w : ConnectionState × List ℕ) × Costs streams piece (state_of_connection, []) w old new cost
 
 -- ---- an event
 
 -- the cache after an event, and how many packets are decoded: none but for the bytes of a connection
-abbrev pub IsWork : Event → State → Cache → Cache → ℕ → Type 0
+abbrev pub IsWork : Event → HubState → Cache → Cache → ℕ → Type 0
 IsWork (Feed name piece) s old new work = (new ≡ old) × (work ≡ 0)
 IsWork (End name) s old new work = (new ≡ old) × (work ≡ 0)
 IsWork (Open c) s old new work = (new ≡ old) × (work ≡ 0)
@@ -92,31 +92,31 @@ IsWork (Bytes c piece) s old new work = CostsPiece s.streams piece (link_of c s.
 IsWork (Shut c) s old new work = (new ≡ old) × (work ≡ 0)
 
 -- where memory was refused at a byte: nothing is decoded, or no more than for the head that the byte ends
-abbrev pub CostsByteAtMost : Streams → ℕ → Link → Cache → Cache → ℕ → Type 0
-CostsByteAtMost streams b link old new cost =
-    ((new ≡ old) × (cost ≡ 0)) ⊎ ((ends_head (link.pending ++ b ∷ []) ≡ true) × IsMostCost streams (link.pending ++ b ∷ []) old new cost)
+abbrev pub CostsByteAtMost : Streams → ℕ → ConnectionState → Cache → Cache → ℕ → Type 0
+CostsByteAtMost streams b state_of_connection old new cost =
+    ((new ≡ old) × (cost ≡ 0)) ⊎ ((ends_head (state_of_connection.pending ++ b ∷ []) ≡ true) × IsMostCost streams (state_of_connection.pending ++ b ∷ []) old new cost)
 
 -- the bytes before that one cost what they do, and no less is counted
-pub record CostsAtMost (streams : Streams) (piece : List ℕ) (v : Link × List ℕ) (old new : Cache) (work : ℕ) : Type 0 where
+pub record CostsAtMost (streams : Streams) (piece : List ℕ) (v : ConnectionState × List ℕ) (old new : Cache) (work : ℕ) : Type 0 where
   pub front : List ℕ
   pub byte : ℕ
   pub back : List ℕ
-  pub mid : Link × List ℕ
+  pub mid : ConnectionState × List ℕ
   pub cache : Cache
   pub before : ℕ
   pub last : ℕ
   pub piece_is : piece ≡ front ++ byte ∷ back
   pub costs : Costs streams front v mid old cache before
   pub ends : CostsByteAtMost streams byte mid.0 cache new last
-  pub least : counted 0 before ≤ work
-  pub most : work ≤ counted 0 (before + last)
+  pub least : saturating_count 0 before ≤ work
+  pub most : work ≤ saturating_count 0 (before + last)
 
-abbrev pub CostsPieceAtMost : Streams → List ℕ → Option Link → Cache → Cache → ℕ → Type 0
+abbrev pub CostsPieceAtMost : Streams → List ℕ → Option ConnectionState → Cache → Cache → ℕ → Type 0
 CostsPieceAtMost streams piece None old new work = (new ≡ old) × (work ≡ 0)
-CostsPieceAtMost streams piece (Some link) old new work = CostsAtMost streams piece (link, []) old new work
+CostsPieceAtMost streams piece (Some state_of_connection) old new work = CostsAtMost streams piece (state_of_connection, []) old new work
 
 -- where memory was refused to an event
-abbrev pub IsWorkAtMost : Event → State → Cache → Cache → ℕ → Type 0
+abbrev pub IsWorkAtMost : Event → HubState → Cache → Cache → ℕ → Type 0
 IsWorkAtMost (Feed name piece) s old new work = (new ≡ old) × (work ≡ 0)
 IsWorkAtMost (End name) s old new work = (new ≡ old) × (work ≡ 0)
 IsWorkAtMost (Open c) s old new work = (new ≡ old) × (work ≡ 0)
@@ -124,20 +124,20 @@ IsWorkAtMost (Bytes c piece) s old new work = CostsPieceAtMost s.streams piece (
 IsWorkAtMost (Shut c) s old new work = (new ≡ old) × (work ≡ 0)
 
 -- ---- a hub: its state, its cache, and the work of the last event
-pub record Whole : Type 0 where
-  pub state : State
+pub record Hub : Type 0 where
+  pub state : HubState
   pub cache : Cache
   pub work : ℕ
 
 -- after an event the work is that number, which stays at the greatest; where memory was refused no more than that, and no less than for the
 -- bytes before the one that it was refused at
-pub record IsWorked (old : Whole) (e : Event) (o : Outcome) (new : Whole) : Type 0 where
-  pub work : o ≢ Err Memory → (cost : ℕ) × IsWork e old.state old.cache new.cache cost × (new.work ≡ counted 0 cost)
+pub record IsWorked (old : Hub) (e : Event) (o : Outcome) (new : Hub) : Type 0 where
+  pub work : o ≢ Err Memory → (cost : ℕ) × IsWork e old.state old.cache new.cache cost × (new.work ≡ saturating_count 0 cost)
   pub most : o ≡ Err Memory → IsWorkAtMost e old.state old.cache new.cache new.work
 
 -- a run: each event with its result and its work, and what the cache keeps after it
-abbrev pub IsWorkedRun : Whole → List Event → List Outcome → Whole → Type 0
+abbrev pub IsWorkedRun : Hub → List Event → List Outcome → Hub → Type 0
 IsWorkedRun old [] [] new = new ≡ old
-IsWorkedRun old (e ∷ es) (o ∷ os) new = (mid : Whole) × IsStep old.state e o mid.state × IsWorked old e o mid × IsWorkedRun mid es os new
+IsWorkedRun old (e ∷ es) (o ∷ os) new = (mid : Hub) × IsStep old.state e o mid.state × IsWorked old e o mid × IsWorkedRun mid es os new
 IsWorkedRun old [] (o ∷ os) new = ⊥
 IsWorkedRun old (e ∷ es) [] new = ⊥

@@ -2,7 +2,7 @@
 
 ghost use Rattle.std.specs.Prelude.{◌≡◌, ◌≢◌, ◌==◌, ◌<◌, Ok, Err, None, IsOk, IfSome, length, position};
 ghost use Rattle.vp_hub.specs.declared.event.HubFault.TheVariants.{Memory};
-ghost use Rattle.vp_hub.specs.Hub.{IsPlaceOf, link_of, without, opened, shut};
+ghost use Rattle.vp_hub.specs.Hub.{IsPlaceOf, link_of, without_connection, opened, shut};
 
 use crate::event::{HubFault, Reply};
 use crate::source::nothing;
@@ -11,7 +11,7 @@ use vp_heads::Buffer;
 
 /// What is kept of a connection.
 #[derive(Drop)]
-pub struct Link {
+pub struct ConnectionState {
     /// What it sent behind the last whole head.
     pub pending: Buffer,
     /// Whether the hub closed it.
@@ -24,7 +24,7 @@ pub struct Connection {
     /// Its number.
     pub number: u32,
     /// What is kept of it.
-    pub link: Link,
+    pub state_of_connection: ConnectionState,
 }
 
 fn place_of(connections: &[Connection], number: u32) -> Option<usize>
@@ -59,11 +59,14 @@ pub(crate) fn open_one(
     if connections.len() >= 64 {
         return Err(HubFault::TooMany);
     }
-    let link = Link {
+    let state_of_connection = ConnectionState {
         pending: Buffer::new(alloc),
         closed: false,
     };
-    let Ok(()) = connections.push(Connection { number, link }) else {
+    let Ok(()) = connections.push(Connection {
+        number,
+        state_of_connection,
+    }) else {
         return Err(HubFault::Memory);
     };
     Ok(nothing(alloc))
@@ -88,7 +91,7 @@ pub(crate) fn shut_one(
 
 /// Leaves each other connection.
 fn remove_all(connections: &mut Vec<Connection>, number: u32)
-    ensures { connections.new.items ≡ without number connections.old.items }
+    ensures { connections.new.items ≡ without_connection number connections.old.items }
 {
     connections.retain(|x| x.number != number);
 }

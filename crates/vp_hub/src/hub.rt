@@ -2,24 +2,24 @@
 
 ghost use Rattle.std.specs.Prelude.{◌≡◌, ◌≢◌, ◌↔◌, ◌≤◌, ◌<◌, ◌+◌, ◌++◌, ◌∷◌, [], ℕ, List, true, false, Some, Ok, Err, IfOk, OnOk, OnErr, length, vec_len};
 ghost use Rattle.std.specs.Vec.{vec_capacity};
-ghost use Rattle.vp_stream.specs.Seeking.{counted};
-ghost use Rattle.vp_cache.specs.Kept.{empty};
+ghost use Rattle.vp_stream.specs.Seeking.{saturating_count};
+ghost use Rattle.vp_cache.specs.Cache.{empty};
 ghost use Rattle.vp_hub.specs.declared.event.Event.{Event};
 ghost use Rattle.vp_hub.specs.declared.event.HubFault.TheVariants.{Memory};
 ghost use Rattle.vp_hub.specs.declared.names.NewFault.{NewFault};
 ghost use Rattle.vp_hub.specs.Heads.{AllKeepPartial};
 ghost use Rattle.vp_hub.specs.Names.{are_names as may_be_names};
-ghost use Rattle.vp_hub.specs.Hub.{AreKept, IsStep, Outcome, State, fresh, link_of, with_link, Gets, Asks, is_open};
+ghost use Rattle.vp_hub.specs.Hub.{AreKept, IsStep, Outcome, HubState, initial_hub, link_of, with_link, Gets, Asks, is_open};
 ghost use Rattle.vp_hub.specs.Pieces.{AreAcceptedEnds, AreAcceptedPieces};
 ghost use Rattle.vp_hub.specs.View.{IsRun, IsIsolated};
-ghost use Rattle.vp_hub.specs.Work.{Costs, CostsAtMost, CostsPiece, CostsPieceAtMost, IsWorked, IsWorkedRun, Whole};
+ghost use Rattle.vp_hub.specs.Work.{Costs, CostsAtMost, CostsPiece, CostsPieceAtMost, IsWorked, IsWorkedRun, Hub};
 
-use crate::connection::{Connection, Link, find, open_one, shut_one};
+use crate::connection::{Connection, ConnectionState, find, open_one, shut_one};
 use crate::event::{Event, HubFault, Reply};
+use crate::feed_bytes::feed_bytes;
 use crate::names::{NewFault, are_names};
-use crate::pictures::Pictures;
-use crate::serve::serve;
-use crate::shelf::Shelf;
+use crate::picture_cache::PictureCache;
+use crate::streams::Streams;
 use std::alloc::{AllocError, Global};
 use std::marker::Model;
 use vp_base::{ByteList, Limits};
@@ -30,16 +30,16 @@ use vp_heads::Buffer;
 #[derive(Drop)]
 pub struct Hub {
     alloc: Global,
-    shelf: Shelf,
+    shelf: Streams,
     connections: Vec<Connection>,
-    pictures: Pictures,
+    pictures: PictureCache,
 }
 
 impl Model for Hub {
     ghost use Rattle.vp_hub.specs.Hub.{AreKept};
-    ghost use Rattle.vp_hub.specs.Work.{Whole};
+    ghost use Rattle.vp_hub.specs.Work.{Hub};
 
-    ghost Value = { Whole };
+    ghost Value = { Hub };
 
     ghost view = { λ h. record {
       state = record { streams = h.shelf; connections = h.connections.items };
@@ -56,14 +56,14 @@ impl Hub {
     /// pictures are kept.
     pub fn new(alloc: Global, names: Vec<ByteList>, limits: Limits) -> Result<Hub, NewFault>
         ensures names { (result ≡ Err NewFault.Names) ↔ (may_be_names names.items ≡ false) }
-        ensures hub { IfOk result (λ h. h ≡ record { state = fresh names.items limits; cache = empty limits.cache; work = 0 }) }
+        ensures hub { IfOk result (λ h. h ≡ record { state = initial_hub names.items limits; cache = empty limits.cache; work = 0 }) }
         ensures partial { IfOk result (λ h. AllKeepPartial h.state) }
-        ensures stands { IfOk result (λ h. IsRun (fresh names.items limits) [] [] h.state) }
+        ensures stands { IfOk result (λ h. IsRun (initial_hub names.items limits) [] [] h.state) }
     {
         if !are_names(&names) {
             return Err(NewFault::Names);
         }
-        let Ok(shelf) = Shelf::new(alloc, names, limits) else {
+        let Ok(shelf) = Streams::new(alloc, names, limits) else {
             return Err(NewFault::Memory);
         };
         let Ok(cache) = Cache::new(alloc, limits.cache) else {
@@ -73,7 +73,7 @@ impl Hub {
             alloc,
             shelf,
             connections: Vec::new(alloc),
-            pictures: Pictures { cache, work: 0 },
+            pictures: PictureCache { cache, work: 0 },
         })
     }
 
@@ -84,9 +84,9 @@ impl Hub {
         ensures worked { IsWorked self.old event.now result self.new }
 
         // Each run that led here goes on by this event with its result, also a refusal, and with its work.
-        ensures stands { (s : State) (events : List Event) (results : List Outcome) → IsRun s events results self.old.state
+        ensures stands { (s : HubState) (events : List Event) (results : List Outcome) → IsRun s events results self.old.state
             → IsRun s (events ++ event.now ∷ []) (results ++ result ∷ []) self.new.state }
-        ensures stands_worked { (s : Whole) (events : List Event) (results : List Outcome) → IsWorkedRun s events results self.old
+        ensures stands_worked { (s : Hub) (events : List Event) (results : List Outcome) → IsWorkedRun s events results self.old
             → IsWorkedRun s (events ++ event.now ∷ []) (results ++ result ∷ []) self.new }
     {
         self.turn(event)
@@ -144,9 +144,9 @@ impl Hub {
         ensures err { OnErr result (self.new ≡ self.old) }
 
         // Each run that led here goes on by these events with their results, also with their work.
-        ensures stands { IfOk result (λ results. (s : State) (before : List Event) (had : List Outcome) → IsRun s before had self.old.state
+        ensures stands { IfOk result (λ results. (s : HubState) (before : List Event) (had : List Outcome) → IsRun s before had self.old.state
             → IsRun s (before ++ events.now) (had ++ results.items) self.new.state) }
-        ensures stands_worked { IfOk result (λ results. (s : Whole) (before : List Event) (had : List Outcome) → IsWorkedRun s before had self.old
+        ensures stands_worked { IfOk result (λ results. (s : Hub) (before : List Event) (had : List Outcome) → IsWorkedRun s before had self.old
             → IsWorkedRun s (before ++ events.now) (had ++ results.items) self.new) }
     {
         let mut results = Vec::with_capacity(self.alloc, events.len())?;
@@ -173,8 +173,8 @@ fn put(results: &mut Vec<Result<Reply, HubFault>>, res: Result<Reply, HubFault>)
 /// Bytes of a connection.
 fn ask(
     alloc: Global,
-    shelf: &Shelf,
-    pictures: &mut Pictures,
+    shelf: &Streams,
+    pictures: &mut PictureCache,
     connections: &mut Vec<Connection>,
     number: u32,
     piece: &[u8],
@@ -189,47 +189,53 @@ fn ask(
         Asks shelf.now number piece.now connections.old.items (link_of number connections.old.items) (connections.new.items, result) }
     ensures work { result ≢ Err Memory → (cost : ℕ)
         × CostsPiece shelf.now piece.now (link_of number connections.old.items) pictures.old.cache pictures.new.cache cost
-        × (pictures.new.work ≡ counted 0 cost) }
+        × (pictures.new.work ≡ saturating_count 0 cost) }
     ensures most { result ≡ Err Memory →
         CostsPieceAtMost shelf.now piece.now (link_of number connections.old.items) pictures.old.cache pictures.new.cache pictures.new.work }
 {
     let Some(place) = find(connections, number) else {
         return Err(HubFault::UnknownConn);
     };
-    answer(alloc, shelf, pictures, &mut connections[place].link, piece)
+    answer(
+        alloc,
+        shelf,
+        pictures,
+        &mut connections[place].state_of_connection,
+        piece,
+    )
 }
 
 /// Bytes of the connection that is there.
 fn answer(
     alloc: Global,
-    shelf: &Shelf,
-    pictures: &mut Pictures,
-    link: &mut Link,
+    shelf: &Streams,
+    pictures: &mut PictureCache,
+    state_of_connection: &mut ConnectionState,
     piece: &[u8],
 ) -> Result<Reply, HubFault>
     requires kept { AreKept shelf.now.sources pictures.old.cache.entries }
     requires idle { pictures.old.work ≡ 0 }
     ensures kept { AreKept shelf.now.sources pictures.new.cache.entries }
-    ensures memory { result ≡ Err Memory → link.new ≡ record { pending = []; closed = true } }
-    ensures fine { result ≡ Err Memory → link.old.closed ≡ false }
-    ensures step { result ≢ Err Memory → Gets shelf.now piece.now link.old (link.new, result) }
+    ensures memory { result ≡ Err Memory → state_of_connection.new ≡ record { pending = []; closed = true } }
+    ensures fine { result ≡ Err Memory → state_of_connection.old.closed ≡ false }
+    ensures step { result ≢ Err Memory → Gets shelf.now piece.now state_of_connection.old (state_of_connection.new, result) }
     ensures work { result ≢ Err Memory → (cost : ℕ)
-        × CostsPiece shelf.now piece.now (Some link.old) pictures.old.cache pictures.new.cache cost
-        × (pictures.new.work ≡ counted 0 cost) }
+        × CostsPiece shelf.now piece.now (Some state_of_connection.old) pictures.old.cache pictures.new.cache cost
+        × (pictures.new.work ≡ saturating_count 0 cost) }
     ensures most { result ≡ Err Memory →
-        CostsPieceAtMost shelf.now piece.now (Some link.old) pictures.old.cache pictures.new.cache pictures.new.work }
+        CostsPieceAtMost shelf.now piece.now (Some state_of_connection.old) pictures.old.cache pictures.new.cache pictures.new.work }
 {
-    if link.closed {
+    if state_of_connection.closed {
         return Err(HubFault::Failed);
     }
     let mut out = Buffer::new(alloc);
-    let Ok(()) = serve(alloc, shelf, pictures, piece, link, &mut out) else {
-        link.pending.clear();
-        link.closed = true;
+    let Ok(()) = feed_bytes(alloc, shelf, pictures, piece, state_of_connection, &mut out) else {
+        state_of_connection.pending.clear();
+        state_of_connection.closed = true;
         return Err(HubFault::Memory);
     };
     Ok(Reply {
         bytes: out.into_list(),
-        close: link.closed,
+        close: state_of_connection.closed,
     })
 }

@@ -3,17 +3,17 @@
 
 mod connection;
 mod event;
+mod feed_bytes;
 mod hub;
 mod laws;
 mod names;
 mod pages;
-mod pictures;
-mod serve;
-mod shelf;
+mod picture_cache;
+mod session;
 mod source;
-mod visit;
+mod streams;
 
-pub use connection::{Connection, Link};
+pub use connection::{Connection, ConnectionState};
 pub use event::{Event, HubFault, Reply};
 pub use hub::Hub;
 pub use laws::{
@@ -21,5 +21,5 @@ pub use laws::{
     is_too_many_by_history, runs_are_isolated, stands_to_shut,
 };
 pub use names::NewFault;
+pub use session::{ServeFault, serve_one};
 pub use source::{Ending, Source};
-pub use visit::{ServeFault, serve_one};

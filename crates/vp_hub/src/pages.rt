@@ -3,21 +3,21 @@
 ghost use Rattle.std.specs.Prelude.{◌≡◌, ◌≢◌, ◌≤◌, ◌⊎◌, ◌++◌, ℕ, List, codes, decimal, Some, IfOk, OnOk, OnErr, slice_get};
 ghost use Rattle.std.specs.String.{string_bytes};
 ghost use Rattle.vp_y4m.specs.Text.{header_text};
-ghost use Rattle.vp_stream.specs.Stream.{refusal};
-ghost use Rattle.vp_stream.specs.Stream.{State as StreamState};
-ghost use Rattle.vp_stream.specs.Seeking.{Shown, told, counted};
-ghost use Rattle.vp_cache.specs.Kept.{AreAnswersOf};
+ghost use Rattle.vp_stream.specs.Stream.{stream_refusal};
+ghost use Rattle.vp_stream.specs.Stream.{Stream as StreamState};
+ghost use Rattle.vp_stream.specs.Seeking.{Shown, answer_value, saturating_count};
+ghost use Rattle.vp_cache.specs.Cache.{AreAnswersOf};
 ghost use Rattle.vp_heads.specs.Replies.{Lines, reply_to};
-ghost use Rattle.vp_hub.specs.Pages.{IsReply, content_of, names_text, info_text, info_of, head_lines, state_by, front_by, picture_by, picture_of};
+ghost use Rattle.vp_hub.specs.Pages.{IsReply, content_of, names_text, info_text, info_content, head_lines, state_by, front_by, picture_by, picture_content};
 ghost use Rattle.vp_hub.specs.Hub.{AreKept, lent_source};
 ghost use Rattle.vp_hub.specs.Work.{IsAfterAsked, IsAfterPicture, IsCost, IsMostCost, cost_of, picture_cost};
 
-use crate::pictures::Pictures;
-use crate::shelf::Shelf;
+use crate::picture_cache::PictureCache;
 use crate::source::{Ending, Source};
+use crate::streams::Streams;
 use std::alloc::{AllocError, Global};
 use vp_base::{ByteList, Dim};
-use vp_heads::{Buffer, Request, Status, Wanted, put_error, put_faulted, put_lines, put_pixels};
+use vp_heads::{Buffer, Request, Resource, Status, put_error, put_faulted, put_lines, put_pixels};
 use vp_ivf::IvfHead;
 use vp_stream::Answer;
 
@@ -35,7 +35,7 @@ fn names_lines(alloc: Global, names: &[ByteList]) -> Result<Buffer, AllocError>
 
 /// The word for a stream's state.
 fn state_word(alloc: Global, source: &Source) -> Result<String, AllocError>
-    ensures { IfOk result (λ r. string_bytes r ≡ state_by source.now.end (refusal source.now.stream)) }
+    ensures { IfOk result (λ r. string_bytes r ≡ state_by source.now.end (stream_refusal source.now.stream)) }
 {
     match source.end {
         Ending::Faulty(fault) => format!(in alloc; "{fault}"),
@@ -80,7 +80,7 @@ fn put_info(
     source: Option<&Source>,
     out: &mut Buffer,
 ) -> Result<(), AllocError>
-    ensures { OnOk result (out.new ≡ out.old ++ reply_to request (info_of (lent_source source.entry))) }
+    ensures { OnOk result (out.new ≡ out.old ++ reply_to request (info_content (lent_source source.entry))) }
 {
     let Some(source) = source else {
         return put_error(alloc, request, Status::NotFound, out);
@@ -150,7 +150,7 @@ fn put_answer(
     answer: &Answer,
     out: &mut Buffer,
 ) -> Result<(), AllocError>
-    ensures { OnOk result (out.new ≡ out.old ++ reply_to request (picture_by video head (told answer.now))) }
+    ensures { OnOk result (out.new ≡ out.old ++ reply_to request (picture_by video head (answer_value answer.now))) }
 {
     match answer {
         Answer::Shown(dim, pixels) => {
@@ -168,7 +168,7 @@ fn put_answer(
 fn put_picture(
     alloc: Global,
     source: &Source,
-    pictures: &mut Pictures,
+    pictures: &mut PictureCache,
     request: Request,
     video: bool,
     place: usize,
@@ -176,9 +176,9 @@ fn put_picture(
     out: &mut Buffer,
 ) -> Result<(), AllocError>
     requires { AreAnswersOf place source.now.stream pictures.old.cache.entries }
-    ensures content { OnOk result (out.new ≡ out.old ++ reply_to request (picture_of video (Some source.now) n)) }
-    ensures work { OnOk result (pictures.new.work ≡ counted pictures.old.work (picture_cost (Some source.now) place n pictures.old.cache)) }
-    ensures most { OnErr result ((pictures.old.work ≤ pictures.new.work) × (pictures.new.work ≤ counted pictures.old.work (picture_cost (Some source.now) place n pictures.old.cache))) }
+    ensures content { OnOk result (out.new ≡ out.old ++ reply_to request (picture_content video (Some source.now) n)) }
+    ensures work { OnOk result (pictures.new.work ≡ saturating_count pictures.old.work (picture_cost (Some source.now) place n pictures.old.cache)) }
+    ensures most { OnErr result ((pictures.old.work ≤ pictures.new.work) × (pictures.new.work ≤ saturating_count pictures.old.work (picture_cost (Some source.now) place n pictures.old.cache))) }
     ensures after { OnOk result (IsAfterPicture (Some source.now) place n pictures.old.cache pictures.new.cache) }
     ensures left { OnErr result ((pictures.new.cache ≡ pictures.old.cache) ⊎ IsAfterPicture (Some source.now) place n pictures.old.cache pictures.new.cache) }
     ensures kept { AreAnswersOf place source.now.stream pictures.new.cache.entries }
@@ -187,7 +187,7 @@ fn put_picture(
 {
     let _work = pictures.work;
     let head = source.stream.head();
-    if let Some(kept) = pictures.cache.held(place, n) {
+    if let Some(kept) = pictures.cache.cached(place, n) {
         put_shown(
             alloc,
             request,
@@ -197,7 +197,7 @@ fn put_picture(
             kept.as_slice(),
             out,
         )?;
-        pictures.cache.bring(place, n);
+        pictures.cache.promote(place, n);
         return Ok(());
     }
     let answer = pictures
@@ -209,8 +209,8 @@ fn put_picture(
 /// The same, where there may be no such stream.
 fn put_picture_of(
     alloc: Global,
-    shelf: &Shelf,
-    pictures: &mut Pictures,
+    shelf: &Streams,
+    pictures: &mut PictureCache,
     request: Request,
     video: bool,
     place: usize,
@@ -218,9 +218,9 @@ fn put_picture_of(
     out: &mut Buffer,
 ) -> Result<(), AllocError>
     requires { AreKept shelf.now.sources pictures.old.cache.entries }
-    ensures content { OnOk result (out.new ≡ out.old ++ reply_to request (picture_of video (slice_get shelf.now.sources place) n)) }
-    ensures work { OnOk result (pictures.new.work ≡ counted pictures.old.work (picture_cost (slice_get shelf.now.sources place) place n pictures.old.cache)) }
-    ensures most { OnErr result ((pictures.old.work ≤ pictures.new.work) × (pictures.new.work ≤ counted pictures.old.work (picture_cost (slice_get shelf.now.sources place) place n pictures.old.cache))) }
+    ensures content { OnOk result (out.new ≡ out.old ++ reply_to request (picture_content video (slice_get shelf.now.sources place) n)) }
+    ensures work { OnOk result (pictures.new.work ≡ saturating_count pictures.old.work (picture_cost (slice_get shelf.now.sources place) place n pictures.old.cache)) }
+    ensures most { OnErr result ((pictures.old.work ≤ pictures.new.work) × (pictures.new.work ≤ saturating_count pictures.old.work (picture_cost (slice_get shelf.now.sources place) place n pictures.old.cache))) }
     ensures after { OnOk result (IsAfterPicture (slice_get shelf.now.sources place) place n pictures.old.cache pictures.new.cache) }
     ensures left { OnErr result ((pictures.new.cache ≡ pictures.old.cache) ⊎ IsAfterPicture (slice_get shelf.now.sources place) place n pictures.old.cache pictures.new.cache) }
     ensures kept { AreKept shelf.now.sources pictures.new.cache.entries }
@@ -235,30 +235,30 @@ fn put_picture_of(
 /// The reply to a request.
 fn put_content(
     alloc: Global,
-    shelf: &Shelf,
-    pictures: &mut Pictures,
+    shelf: &Streams,
+    pictures: &mut PictureCache,
     request: Request,
     out: &mut Buffer,
 ) -> Result<(), AllocError>
     requires { AreKept shelf.now.sources pictures.old.cache.entries }
     ensures content { OnOk result (out.new ≡ out.old ++ reply_to request (content_of shelf.now request.wanted)) }
-    ensures work { OnOk result (pictures.new.work ≡ counted pictures.old.work (cost_of shelf.now request.wanted pictures.old.cache)) }
-    ensures most { OnErr result ((pictures.old.work ≤ pictures.new.work) × (pictures.new.work ≤ counted pictures.old.work (cost_of shelf.now request.wanted pictures.old.cache))) }
+    ensures work { OnOk result (pictures.new.work ≡ saturating_count pictures.old.work (cost_of shelf.now request.wanted pictures.old.cache)) }
+    ensures most { OnErr result ((pictures.old.work ≤ pictures.new.work) × (pictures.new.work ≤ saturating_count pictures.old.work (cost_of shelf.now request.wanted pictures.old.cache))) }
     ensures after { OnOk result (IsAfterAsked shelf.now request.wanted pictures.old.cache pictures.new.cache) }
     ensures left { OnErr result ((pictures.new.cache ≡ pictures.old.cache) ⊎ IsAfterAsked shelf.now request.wanted pictures.old.cache pictures.new.cache) }
     ensures kept { AreKept shelf.now.sources pictures.new.cache.entries }
 {
     let _work = pictures.work;
     match request.wanted {
-        Wanted::Bad => put_error(alloc, request, Status::BadRequest, out),
-        Wanted::WrongMethod => put_error(alloc, request, Status::MethodNotAllowed, out),
-        Wanted::Missing => put_error(alloc, request, Status::NotFound, out),
-        Wanted::Streams => put_names(alloc, request, shelf.names(), out),
-        Wanted::Info(place) => put_info(alloc, request, shelf.source(place), out),
-        Wanted::Frame(place, n) => {
+        Resource::Bad => put_error(alloc, request, Status::BadRequest, out),
+        Resource::WrongMethod => put_error(alloc, request, Status::MethodNotAllowed, out),
+        Resource::Missing => put_error(alloc, request, Status::NotFound, out),
+        Resource::Streams => put_names(alloc, request, shelf.names(), out),
+        Resource::Info(place) => put_info(alloc, request, shelf.source(place), out),
+        Resource::Frame(place, n) => {
             put_picture_of(alloc, shelf, pictures, request, false, place, n, out)
         }
-        Wanted::Video(place, n) => {
+        Resource::Video(place, n) => {
             put_picture_of(alloc, shelf, pictures, request, true, place, n, out)
         }
     }
@@ -268,17 +268,17 @@ fn put_content(
 #[tactic(auto, unfolding(crate::specs::Pages::IsReply))]
 pub(crate) fn put_reply(
     alloc: Global,
-    shelf: &Shelf,
-    pictures: &mut Pictures,
+    shelf: &Streams,
+    pictures: &mut PictureCache,
     head: &[u8],
     out: &mut Buffer,
 ) -> Result<bool, AllocError>
     requires { AreKept shelf.now.sources pictures.old.cache.entries }
     ensures reply { IfOk result (λ close. (bytes : List ℕ) × IsReply shelf.now head.now (bytes, close) × (out.new ≡ out.old ++ bytes)) }
     ensures work { OnOk result ((cost : ℕ) × IsCost shelf.now head.now pictures.old.cache pictures.new.cache cost
-        × (pictures.new.work ≡ counted pictures.old.work cost)) }
+        × (pictures.new.work ≡ saturating_count pictures.old.work cost)) }
     ensures most { OnErr result ((cost : ℕ) × IsMostCost shelf.now head.now pictures.old.cache pictures.new.cache cost
-        × (pictures.old.work ≤ pictures.new.work) × (pictures.new.work ≤ counted pictures.old.work cost)) }
+        × (pictures.old.work ≤ pictures.new.work) × (pictures.new.work ≤ saturating_count pictures.old.work cost)) }
     ensures kept { AreKept shelf.now.sources pictures.new.cache.entries }
 {
     let request = shelf.read(head);

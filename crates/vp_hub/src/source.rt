@@ -3,7 +3,7 @@
 ghost use Rattle.std.specs.Prelude.{◌≡◌, ◌≢◌, Ok, Err, IsOk};
 ghost use Rattle.vp_hub.specs.declared.event.HubFault.TheVariants.{Memory};
 ghost use Rattle.vp_cache.specs.Streams.{IsGrown};
-ghost use Rattle.vp_hub.specs.Hub.{fed, ended, is_open_end, no_bytes};
+ghost use Rattle.vp_hub.specs.Hub.{fed, ended_source, is_open_end, no_bytes};
 
 use crate::event::{HubFault, Reply};
 use std::alloc::Global;
@@ -76,7 +76,7 @@ pub(crate) fn feed_source(
 /// The stream's end.
 pub(crate) fn end_source(alloc: Global, source: &mut Source) -> Result<Reply, HubFault>
     ensures memory { result ≢ Err Memory }
-    ensures step { (source.new, result) ≡ ended source.old }
+    ensures step { (source.new, result) ≡ ended_source source.old }
     ensures grown { IsGrown source.old.stream source.new.stream }
 {
     feeding_keeps_answers();

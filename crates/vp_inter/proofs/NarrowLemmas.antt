@@ -4,9 +4,9 @@ use Rattle.std.proofs.lemmas.Int.{ints, clamps}
 use lib.Signed.{shr_z}
 use Rattle.std.specs.Prelude.{unsigned_abs}
 use Rattle.std.specs.Int.{int_min, int_max}
-use Rattle.vp_lanes.specs.Lane.{to_byte}
+use Rattle.vp_lanes.specs.Lane.{clamp_to_byte}
 use Rattle.vp_tables.specs.Tables.{six_taps}
-use Rattle.vp_inter.specs.Filter.{held, weighed, filtered}
+use Rattle.vp_inter.specs.Filter.{clamp_to_pixel, weighed, filtered_pixel}
 use Rattle.vp_inter.specs.Narrow.{IsFrom, IsShort, weight, pair, sum_of_six, AreGentle, ArePairable}
 
 -- ---- one product
@@ -109,7 +109,7 @@ far_is weights pixel = omega (arith, ints)
 pub ended_byte : (z : ℤ) → IsFrom (pos 0) (pos 255) (int_min (pos 127) (int_max (negsuc 127) z) +ℤ pos 128)
 ended_byte z = (omega (arith, ints, clamps), omega (arith, ints, clamps))
 
-pub ended_is : (z : ℤ) → unsigned_abs (int_min (pos 127) (int_max (negsuc 127) z) +ℤ pos 128) ≡ to_byte (z +ℤ pos 128)
+pub ended_is : (z : ℤ) → unsigned_abs (int_min (pos 127) (int_max (negsuc 127) z) +ℤ pos 128) ≡ clamp_to_byte (z +ℤ pos 128)
 ended_is z = omega (arith, ints, clamps)
 
 floor : (z : ℤ) → ((pos 128 *ℤ shr_z z 128) ≤ℤ z) × (z ≤ℤ (pos 128 *ℤ shr_z z 128 +ℤ pos 127))
@@ -120,35 +120,35 @@ floor (negsuc n) = (omega (arith, ints), omega (arith, ints))
 pub put_back : (z y : ℤ) → y ≡ z +ℤ pos 16384 → shr_z z 128 +ℤ pos 128 ≡ shr_z y 128
 put_back z y e = let p = floor z in let q = floor y in omega (arith, ints)
 
-pub held_is : (z : ℤ) → to_byte z ≡ held z
+pub held_is : (z : ℤ) → clamp_to_byte z ≡ clamp_to_pixel z
 held_is z = omega (arith, ints, clamps)
 
 pub whole_is : (weights : List ℤ) (a b c d e f : ℕ)
-    → to_byte (shr_z (pair c d (weight weights 2) (weight weights 3) -ℤ pos 16320 +ℤ pair b e (weight weights 1) (weight weights 4) +ℤ pair a f (weight weights 0) (weight weights 5)) 128 +ℤ pos 128)
-    ≡ filtered weights a b c d e f
-unfolding filtered
+    → clamp_to_byte (shr_z (pair c d (weight weights 2) (weight weights 3) -ℤ pos 16320 +ℤ pair b e (weight weights 1) (weight weights 4) +ℤ pair a f (weight weights 0) (weight weights 5)) 128 +ℤ pos 128)
+    ≡ filtered_pixel weights a b c d e f
+unfolding filtered_pixel
 whole_is weights a b c d e f =
     let s : ℤ = pair c d (weight weights 2) (weight weights 3) -ℤ pos 16320 +ℤ pair b e (weight weights 1) (weight weights 4) +ℤ pair a f (weight weights 0) (weight weights 5) in
-    ap to_byte (put_back s (weighed weights a b c d e f +ℤ pos 64) (omega (arith, ints)))
+    ap clamp_to_byte (put_back s (weighed weights a b c d e f +ℤ pos 64) (omega (arith, ints)))
     ∙ held_is (shr_z (weighed weights a b c d e f +ℤ pos 64) 128)
 
 pub inner_is : (weights : List ℤ) (a b c d e f : ℕ) → weight weights 0 ≡ pos 0 → weight weights 5 ≡ pos 0
-    → to_byte (shr_z (pair c d (weight weights 2) (weight weights 3) -ℤ pos 16320 +ℤ pair b e (weight weights 1) (weight weights 4)) 128 +ℤ pos 128)
-    ≡ filtered weights a b c d e f
+    → clamp_to_byte (shr_z (pair c d (weight weights 2) (weight weights 3) -ℤ pos 16320 +ℤ pair b e (weight weights 1) (weight weights 4)) 128 +ℤ pos 128)
+    ≡ filtered_pixel weights a b c d e f
 inner_is weights a b c d e f first last =
     let s : ℤ = pair c d (weight weights 2) (weight weights 3) -ℤ pos 16320 +ℤ pair b e (weight weights 1) (weight weights 4) in
     let none : pair a f (weight weights 0) (weight weights 5) ≡ pos 0 = pair_same a f a f _ _ (pos 0) (pos 0) refl refl first last ∙ (let z : pair a f (pos 0) (pos 0) ≡ pos 0 = omega (arith, ints) in z) in
     let same : s ≡ s +ℤ pair a f (weight weights 0) (weight weights 5) = omega (arith, ints) in
-    ap (λ (z : ℤ). to_byte (shr_z z 128 +ℤ pos 128)) same ∙ whole_is weights a b c d e f
+    ap (λ (z : ℤ). clamp_to_byte (shr_z z 128 +ℤ pos 128)) same ∙ whole_is weights a b c d e f
 
 pub middle_is : (weights : List ℤ) (a b c d e f : ℕ) → weight weights 0 ≡ pos 0 → weight weights 1 ≡ pos 0 → weight weights 4 ≡ pos 0 → weight weights 5 ≡ pos 0
-    → to_byte (shr_z (pair c d (weight weights 2) (weight weights 3) -ℤ pos 16320) 128 +ℤ pos 128)
-    ≡ filtered weights a b c d e f
+    → clamp_to_byte (shr_z (pair c d (weight weights 2) (weight weights 3) -ℤ pos 16320) 128 +ℤ pos 128)
+    ≡ filtered_pixel weights a b c d e f
 middle_is weights a b c d e f first second fifth last =
     let s : ℤ = pair c d (weight weights 2) (weight weights 3) -ℤ pos 16320 in
     let none : pair b e (weight weights 1) (weight weights 4) ≡ pos 0 = pair_same b e b e _ _ (pos 0) (pos 0) refl refl second fifth ∙ (let z : pair b e (pos 0) (pos 0) ≡ pos 0 = omega (arith, ints) in z) in
     let same : s ≡ s +ℤ pair b e (weight weights 1) (weight weights 4) = omega (arith, ints) in
-    ap (λ (z : ℤ). to_byte (shr_z z 128 +ℤ pos 128)) same ∙ inner_is weights a b c d e f first last
+    ap (λ (z : ℤ). clamp_to_byte (shr_z z 128 +ℤ pos 128)) same ∙ inner_is weights a b c d e f first last
 
 -- ---- the weights of the table
 pub six_taps-gentle : (eighths : ℕ) → eighths < 8 → AreGentle (six_taps eighths)

@@ -5,10 +5,10 @@ use Rattle.std.proofs.lemmas.Nat.{row_fits}
 use Rattle.std.proofs.lemmas.Bool.{cases_lt}
 use Rattle.vp_base.specs.Raster.{Raster, pixel}
 use Rattle.vp_inter.specs.declared.vector.PlaneVector.{PlaneVector}
-use Rattle.vp_inter.specs.Vectors.{fraction, start}
+use Rattle.vp_inter.specs.Vectors.{fraction, first_tap}
 use Rattle.vp_inter.specs.Filter.{taps, filter_six}
-use Rattle.vp_inter.specs.Inter.{reference_pixel, across, inter_pixel}
-use Rattle.vp_inter.proofs.FilterLemmas.{filter_six-same, filter_six-whole, filtered_bound}
+use Rattle.vp_inter.specs.Inter.{reference_pixel, horizontal_pass, inter_pixel}
+use Rattle.vp_inter.proofs.FilterLemmas.{filter_six-same, filter_six-whole_pixels, filtered_bound}
 
 -- one row more of a block of rows of n
 pub rows_more : (n i : ℕ) (old new row : List ℕ) (value : ℕ → ℕ → ℕ)
@@ -29,38 +29,38 @@ rows_more n i old new row value done here before last k c kin cin =
 
 -- both passes
 pub inter_both : (version : ℕ) (p : Raster) (x y : ℕ) (v : PlaneVector) (n : ℕ) (rows : List ℕ)
-    → ((i c : ℕ) → i < n + 5 → c < n → get_or rows (i * n + c) 0 ≡ across (taps version (fraction v.column)) p (start x v.column) (start y v.row) i c)
+    → ((i c : ℕ) → i < n + 5 → c < n → get_or rows (i * n + c) 0 ≡ horizontal_pass (taps version (fraction v.column)) p (first_tap x v.column) (first_tap y v.row) i c)
     → (r c : ℕ) → r < n → c < n
     → filter_six (taps version (fraction v.row)) (λ k. get_or rows ((r + k) * n + c) 0) ≡ inter_pixel version p x y v r c
 unfolding inter_pixel
 inter_both version p x y v n rows same r c rin cin =
     filter_six-same (taps version (fraction v.row)) (λ k. get_or rows ((r + k) * n + c) 0)
-    (λ k. across (taps version (fraction v.column)) p (start x v.column) (start y v.row) (r + k) c)
+    (λ k. horizontal_pass (taps version (fraction v.column)) p (first_tap x v.column) (first_tap y v.row) (r + k) c)
     (λ k kin. same (r + k) c (omega arith) cin)
 
 -- both passes, of weights and places that are as they should be
 pub inter_passes : (version : ℕ) (p : Raster) (x y : ℕ) (v : PlaneVector) (r c : ℕ)
-    → filter_six (taps version (fraction v.row)) (λ k. across (taps version (fraction v.column)) p (start x v.column) (start y v.row) (r + k) c) ≡ inter_pixel version p x y v r c
+    → filter_six (taps version (fraction v.row)) (λ k. horizontal_pass (taps version (fraction v.column)) p (first_tap x v.column) (first_tap y v.row) (r + k) c) ≡ inter_pixel version p x y v r c
 unfolding inter_pixel
 inter_passes version p x y v r c = refl
 
-across_bound : (weights : List ℤ) (p : Raster) (left top : ℤ) (i c : ℕ) → across weights p left top i c ≤ 255
-unfolding across
+across_bound : (weights : List ℤ) (p : Raster) (left top : ℤ) (i c : ℕ) → horizontal_pass weights p left top i c ≤ 255
+unfolding horizontal_pass
 across_bound weights p left top i c = filtered_bound weights _ _ _ _ _ _
 
-lower : (weights : List ℤ) (p : Raster) (left top : ℤ) (r c : ℕ) → across weights p left (top +ℤ pos 2) r c ≡ across weights p left top (r + 2) c
-unfolding across
+lower : (weights : List ℤ) (p : Raster) (left top : ℤ) (r c : ℕ) → horizontal_pass weights p left (top +ℤ pos 2) r c ≡ horizontal_pass weights p left top (r + 2) c
+unfolding horizontal_pass
 lower weights p left top r c =
     ap (λ (z : ℤ). filter_six weights (λ k. reference_pixel p (left +ℤ pos (c + k)) z)) (let e : top +ℤ pos 2 +ℤ pos r ≡ top +ℤ pos (r + 2) = omega (arith, ints) in e)
 
 -- at whole rows the horizontal pass is all
 pub inter_level : (version : ℕ) (p : Raster) (x y : ℕ) (v : PlaneVector) (r c : ℕ) → fraction v.row ≡ 0
-    → across (taps version (fraction v.column)) p (start x v.column) (start y v.row +ℤ pos 2) r c ≡ inter_pixel version p x y v r c
+    → horizontal_pass (taps version (fraction v.column)) p (first_tap x v.column) (first_tap y v.row +ℤ pos 2) r c ≡ inter_pixel version p x y v r c
 unfolding inter_pixel
 inter_level version p x y v r c none =
-    let row : ℕ → ℕ = λ (k : ℕ). across (taps version (fraction v.column)) p (start x v.column) (start y v.row) (r + k) c in
-    lower (taps version (fraction v.column)) p (start x v.column) (start y v.row) r c
-    ∙ sym (filter_six-whole version row (across_bound (taps version (fraction v.column)) p (start x v.column) (start y v.row) (r + 2) c))
+    let row : ℕ → ℕ = λ (k : ℕ). horizontal_pass (taps version (fraction v.column)) p (first_tap x v.column) (first_tap y v.row) (r + k) c in
+    lower (taps version (fraction v.column)) p (first_tap x v.column) (first_tap y v.row) r c
+    ∙ sym (filter_six-whole_pixels version row (across_bound (taps version (fraction v.column)) p (first_tap x v.column) (first_tap y v.row) (r + 2) c))
     ∙ ap (λ (n : ℕ). filter_six (taps version n) row) (sym none)
 
 pub rows_bytes : (n i : ℕ) (value : ℕ → ℕ → ℕ) (row : List ℕ)
@@ -78,29 +78,29 @@ rows_bytes n i value row done last bytes k c kin cin =
 
 -- at whole rows and columns neither pass does anything
 pub inter_whole : (version : ℕ) (p : Raster) (x y : ℕ) (v : PlaneVector) (r c : ℕ) → fraction v.row ≡ 0 → fraction v.column ≡ 0
-    → reference_pixel p (start x v.column +ℤ pos 2 +ℤ pos c) (start y v.row +ℤ pos 2 +ℤ pos r) ≤ 255
-    → reference_pixel p (start x v.column +ℤ pos 2 +ℤ pos c) (start y v.row +ℤ pos 2 +ℤ pos r) ≡ inter_pixel version p x y v r c
-unfolding across
+    → reference_pixel p (first_tap x v.column +ℤ pos 2 +ℤ pos c) (first_tap y v.row +ℤ pos 2 +ℤ pos r) ≤ 255
+    → reference_pixel p (first_tap x v.column +ℤ pos 2 +ℤ pos c) (first_tap y v.row +ℤ pos 2 +ℤ pos r) ≡ inter_pixel version p x y v r c
+unfolding horizontal_pass
 inter_whole version p x y v r c rows columns byte =
-    let line : ℕ → ℕ = λ (k : ℕ). reference_pixel p (start x v.column +ℤ pos (c + k)) (start y v.row +ℤ pos 2 +ℤ pos r) in
-    let e : start x v.column +ℤ pos 2 +ℤ pos c ≡ start x v.column +ℤ pos (c + 2) = omega (arith, ints) in
-    let at : reference_pixel p (start x v.column +ℤ pos 2 +ℤ pos c) (start y v.row +ℤ pos 2 +ℤ pos r) ≡ line 2 =
-    ap (λ (z : ℤ). reference_pixel p z (start y v.row +ℤ pos 2 +ℤ pos r)) e in
+    let line : ℕ → ℕ = λ (k : ℕ). reference_pixel p (first_tap x v.column +ℤ pos (c + k)) (first_tap y v.row +ℤ pos 2 +ℤ pos r) in
+    let e : first_tap x v.column +ℤ pos 2 +ℤ pos c ≡ first_tap x v.column +ℤ pos (c + 2) = omega (arith, ints) in
+    let at : reference_pixel p (first_tap x v.column +ℤ pos 2 +ℤ pos c) (first_tap y v.row +ℤ pos 2 +ℤ pos r) ≡ line 2 =
+    ap (λ (z : ℤ). reference_pixel p z (first_tap y v.row +ℤ pos 2 +ℤ pos r)) e in
     at
-    ∙ sym (filter_six-whole version line (subst (λ (n : ℕ). n ≤ 255) at byte))
+    ∙ sym (filter_six-whole_pixels version line (subst (λ (n : ℕ). n ≤ 255) at byte))
     ∙ ap (λ (n : ℕ). filter_six (taps version n) line) (sym columns)
     ∙ inter_level version p x y v r c rows
 
 -- at whole columns the horizontal pass does nothing
 pub across_whole : (version eighths : ℕ) (p : Raster) (left top : ℤ) (i c : ℕ) → eighths ≡ 0 → reference_pixel p (left +ℤ pos 2 +ℤ pos c) (top +ℤ pos i) ≤ 255
-    → reference_pixel p (left +ℤ pos 2 +ℤ pos c) (top +ℤ pos i) ≡ across (taps version eighths) p left top i c
-unfolding across
+    → reference_pixel p (left +ℤ pos 2 +ℤ pos c) (top +ℤ pos i) ≡ horizontal_pass (taps version eighths) p left top i c
+unfolding horizontal_pass
 across_whole version eighths p left top i c none byte =
     let line : ℕ → ℕ = λ (k : ℕ). reference_pixel p (left +ℤ pos (c + k)) (top +ℤ pos i) in
     let e : left +ℤ pos 2 +ℤ pos c ≡ left +ℤ pos (c + 2) = omega (arith, ints) in
     let at : reference_pixel p (left +ℤ pos 2 +ℤ pos c) (top +ℤ pos i) ≡ line 2 = ap (λ (z : ℤ). reference_pixel p z (top +ℤ pos i)) e in
     at
-    ∙ sym (filter_six-whole version line (subst (λ (n : ℕ). n ≤ 255) at byte))
+    ∙ sym (filter_six-whole_pixels version line (subst (λ (n : ℕ). n ≤ 255) at byte))
     ∙ ap (λ (n : ℕ). filter_six (taps version n) line) (sym none)
 
 -- a pixel inside the plane
@@ -112,11 +112,11 @@ inside_pixel p column row xin yin =
 
 -- a block that lies inside the reference and is moved by whole pixels
 pub inter_copied : (version : ℕ) (p : Raster) (x y : ℕ) (v : PlaneVector) (column row r c : ℕ) → column + c < p.width → row + r < p.height
-    → pos column ≡ start x v.column +ℤ pos 2 → pos row ≡ start y v.row +ℤ pos 2 → fraction v.row ≡ 0 → fraction v.column ≡ 0
+    → pos column ≡ first_tap x v.column +ℤ pos 2 → pos row ≡ first_tap y v.row +ℤ pos 2 → fraction v.row ≡ 0 → fraction v.column ≡ 0
     → pixel p (column + c) (row + r) ≤ 255 → pixel p (column + c) (row + r) ≡ inter_pixel version p x y v r c
 inter_copied version p x y v column row r c xin yin left top rows columns byte =
-    let at : pixel p (column + c) (row + r) ≡ reference_pixel p (start x v.column +ℤ pos 2 +ℤ pos c) (start y v.row +ℤ pos 2 +ℤ pos r) =
+    let at : pixel p (column + c) (row + r) ≡ reference_pixel p (first_tap x v.column +ℤ pos 2 +ℤ pos c) (first_tap y v.row +ℤ pos 2 +ℤ pos r) =
     sym (inside_pixel p (column + c) (row + r) xin yin)
     ∙ ap (λ (z : ℤ). reference_pixel p (z +ℤ pos c) (pos row +ℤ pos r)) left
-    ∙ ap (λ (z : ℤ). reference_pixel p (start x v.column +ℤ pos 2 +ℤ pos c) (z +ℤ pos r)) top in
+    ∙ ap (λ (z : ℤ). reference_pixel p (first_tap x v.column +ℤ pos 2 +ℤ pos c) (z +ℤ pos r)) top in
     at ∙ inter_whole version p x y v r c rows columns (subst (λ (n : ℕ). n ≤ 255) at byte)

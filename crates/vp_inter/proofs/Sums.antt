@@ -3,7 +3,7 @@ use Rattle.std.proofs.Common.{◌≡◌, ◌∙◌, ℕ, ◌^◌, ◌<◌, ap, a
 use Rattle.std.proofs.lemmas.Int.{to_z-of_z, ints}
 use lib.Signed.{shr_z, mag_shr, mag}
 use mir.Val.{SFits}
-use Rattle.vp_inter.specs.Vectors.{IsNear}
+use Rattle.vp_inter.specs.Vectors.{IsFarBelowI32}
 
 abbrev pub same : ℤ → ℤ
 same z = to_z w32 (of_z w32 z)
@@ -37,7 +37,7 @@ passed a b u v f g =
     ∙ ap (λ (x : ℤ). pos a *ℤ u +ℤ pos b *ℤ x) (to_z-of_z w16 v g)
 
 -- the sum of four numbers that were passed, two by two
-pub four : (a b c d x y : ℤ) → IsNear a → IsNear b → IsNear c → IsNear d → x ≡ same a +ℤ same b → y ≡ same c +ℤ same d
+pub four : (a b c d x y : ℤ) → IsFarBelowI32 a → IsFarBelowI32 b → IsFarBelowI32 c → IsFarBelowI32 d → x ≡ same a +ℤ same b → y ≡ same c +ℤ same d
     → same (same x +ℤ same y) ≡ (a +ℤ b) +ℤ (c +ℤ d)
 four a b c d x y na nb nc nd ex ey =
     let first : x ≡ a +ℤ b = ex ∙ two a b (near a na) (near b nb) in
@@ -46,5 +46,5 @@ four a b c d x y na nb nc nd ex ey =
     ∙ ap same (two (a +ℤ b) (c +ℤ d) (omega (arith, ints), omega (arith, ints)) (omega (arith, ints), omega (arith, ints)))
     ∙ small_same ((a +ℤ b) +ℤ (c +ℤ d)) (omega (arith, ints), omega (arith, ints))
   where
-    near : (z : ℤ) → IsNear z → IsSmall z
+    near : (z : ℤ) → IsFarBelowI32 z → IsSmall z
     near z n = (omega (arith, ints), omega (arith, ints))

@@ -4,8 +4,8 @@ use Rattle.std.proofs.lemmas.Bool.{cases_lt}
 use Rattle.std.proofs.lemmas.List.{places}
 use Rattle.std.proofs.lemmas.Int.{ints}
 use Rattle.vp_base.specs.Raster.{Raster}
-use Rattle.vp_inter.specs.Filter.{filtered, filter_six}
-use Rattle.vp_inter.specs.Inter.{reference_pixel, across}
+use Rattle.vp_inter.specs.Filter.{filtered_pixel, filter_six}
+use Rattle.vp_inter.specs.Inter.{reference_pixel, horizontal_pass}
 use Rattle.vp_inter.specs.Turns.{one_of_three, half_place, pair_place, HoldsPairs}
 
 -- sixteen places, first the even and then the odd ones
@@ -21,12 +21,12 @@ pub from_three : (weights : List ℤ) (a b c : List ℕ) (i : ℕ) (pixel : ℕ 
     → ((t : ℕ) → t < 2 → get_or a (i + t) 0 ≡ pixel (3 * t)) → ((t : ℕ) → t < 2 → get_or b (i + t) 0 ≡ pixel (3 * t + 1)) → ((t : ℕ) → t < 2 → get_or c (i + t) 0 ≡ pixel (3 * t + 2))
     → filter_six weights (λ k. get_or (one_of_three a b c (k % 3)) (i + k / 3) 0) ≡ filter_six weights pixel
 from_three weights a b c i pixel x y z =
-    ap (λ (v : ℕ). filtered weights v (get_or b (i + 0) 0) (get_or c (i + 0) 0) (get_or a (i + 1) 0) (get_or b (i + 1) 0) (get_or c (i + 1) 0)) (x 0 (lit< tt))
-    ∙ ap (λ (v : ℕ). filtered weights (pixel 0) v (get_or c (i + 0) 0) (get_or a (i + 1) 0) (get_or b (i + 1) 0) (get_or c (i + 1) 0)) (y 0 (lit< tt))
-    ∙ ap (λ (v : ℕ). filtered weights (pixel 0) (pixel 1) v (get_or a (i + 1) 0) (get_or b (i + 1) 0) (get_or c (i + 1) 0)) (z 0 (lit< tt))
-    ∙ ap (λ (v : ℕ). filtered weights (pixel 0) (pixel 1) (pixel 2) v (get_or b (i + 1) 0) (get_or c (i + 1) 0)) (x 1 (lit< tt))
-    ∙ ap (λ (v : ℕ). filtered weights (pixel 0) (pixel 1) (pixel 2) (pixel 3) v (get_or c (i + 1) 0)) (y 1 (lit< tt))
-    ∙ ap (λ (v : ℕ). filtered weights (pixel 0) (pixel 1) (pixel 2) (pixel 3) (pixel 4) v) (z 1 (lit< tt))
+    ap (λ (v : ℕ). filtered_pixel weights v (get_or b (i + 0) 0) (get_or c (i + 0) 0) (get_or a (i + 1) 0) (get_or b (i + 1) 0) (get_or c (i + 1) 0)) (x 0 (lit< tt))
+    ∙ ap (λ (v : ℕ). filtered_pixel weights (pixel 0) v (get_or c (i + 0) 0) (get_or a (i + 1) 0) (get_or b (i + 1) 0) (get_or c (i + 1) 0)) (y 0 (lit< tt))
+    ∙ ap (λ (v : ℕ). filtered_pixel weights (pixel 0) (pixel 1) v (get_or a (i + 1) 0) (get_or b (i + 1) 0) (get_or c (i + 1) 0)) (z 0 (lit< tt))
+    ∙ ap (λ (v : ℕ). filtered_pixel weights (pixel 0) (pixel 1) (pixel 2) v (get_or b (i + 1) 0) (get_or c (i + 1) 0)) (x 1 (lit< tt))
+    ∙ ap (λ (v : ℕ). filtered_pixel weights (pixel 0) (pixel 1) (pixel 2) (pixel 3) v (get_or c (i + 1) 0)) (y 1 (lit< tt))
+    ∙ ap (λ (v : ℕ). filtered_pixel weights (pixel 0) (pixel 1) (pixel 2) (pixel 3) (pixel 4) v) (z 1 (lit< tt))
 
 pub even_half : (j : ℕ) → half_place (2 * j) ≡ j
 even_half j = let e : 8 * ((2 * j) % 2) + (2 * j) / 2 ≡ j = omega arith in e
@@ -76,7 +76,7 @@ pub long_back : (xs ys : List ℕ) → length xs ≡ 16 → (k : ℕ) → get_or
 long_back xs ys long k = search (rules, places)
 
 -- row k of those that begin i rows further down
-pub across_below : (weights : List ℤ) (p : Raster) (left top from : ℤ) (i k n c : ℕ) → from ≡ top +ℤ pos i → i + k ≡ n → across weights p left from k c ≡ across weights p left top n c
-unfolding across
+pub across_below : (weights : List ℤ) (p : Raster) (left top from : ℤ) (i k n c : ℕ) → from ≡ top +ℤ pos i → i + k ≡ n → horizontal_pass weights p left from k c ≡ horizontal_pass weights p left top n c
+unfolding horizontal_pass
 across_below weights p left top from i k n c e s =
     ap (λ (z : ℤ). filter_six weights (λ j. reference_pixel p (left +ℤ pos (c + j)) z)) (let z : from +ℤ pos k ≡ top +ℤ pos n = omega (arith, ints) in z)

@@ -11,8 +11,8 @@ taps version eighths =
     else (pos 0 ∷ pos 0 ∷ pos (128 - 16 * eighths) ∷ pos (16 * eighths) ∷ pos 0 ∷ pos 0 ∷ [])
 
 -- a number held to 0 .. 255
-abbrev pub held : ℤ → ℕ
-held z = unsigned_abs (int_max (pos 0) (int_min z (pos 255)))
+abbrev pub clamp_to_pixel : ℤ → ℕ
+clamp_to_pixel z = unsigned_abs (int_max (pos 0) (int_min z (pos 255)))
 
 -- six pixels, each times its weight
 abbrev pub weighed : List ℤ → ℕ → ℕ → ℕ → ℕ → ℕ → ℕ → ℤ
@@ -22,9 +22,9 @@ weighed weights a b c d e f =
     +ℤ (pos e *ℤ slice_index_or weights 4 (pos 0) +ℤ pos f *ℤ slice_index_or weights 5 (pos 0))
 
 -- their sum in 128ths, halves up, held to a pixel
-unfoldable pub filtered : List ℤ → ℕ → ℕ → ℕ → ℕ → ℕ → ℕ → ℕ
-filtered weights a b c d e f = held (shr_z (weighed weights a b c d e f +ℤ pos 64) 128)
+unfoldable pub filtered_pixel : List ℤ → ℕ → ℕ → ℕ → ℕ → ℕ → ℕ → ℕ
+filtered_pixel weights a b c d e f = clamp_to_pixel (shr_z (weighed weights a b c d e f +ℤ pos 64) 128)
 
 -- that, of the six pixels that pixel gives for 0 to 5
 abbrev pub filter_six : List ℤ → (ℕ → ℕ) → ℕ
-filter_six weights pixel = filtered weights (pixel 0) (pixel 1) (pixel 2) (pixel 3) (pixel 4) (pixel 5)
+filter_six weights pixel = filtered_pixel weights (pixel 0) (pixel 1) (pixel 2) (pixel 3) (pixel 4) (pixel 5)

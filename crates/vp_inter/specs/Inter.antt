@@ -2,7 +2,7 @@
 use Rattle.std.specs.Prelude.{ℕ, ℤ, pos, negsuc, ◌+◌, ◌-◌, ◌+ℤ◌, ◌≤ℤ◌, min, List}
 use Rattle.vp_base.specs.Raster.{Raster, pixel}
 use Rattle.vp_inter.specs.declared.vector.PlaneVector.{PlaneVector}
-use Rattle.vp_inter.specs.Vectors.{fraction, start}
+use Rattle.vp_inter.specs.Vectors.{fraction, first_tap}
 use Rattle.vp_inter.specs.Filter.{taps, filter_six}
 
 -- the nearest to a place of 0 .. size - 1
@@ -20,12 +20,12 @@ IsInside p left top columns rows =
     (pos 0 ≤ℤ left) × ((left +ℤ pos columns) ≤ℤ pos p.width) × (pos 0 ≤ℤ top) × ((top +ℤ pos rows) ≤ℤ pos p.height)
 
 -- the horizontal pass: the pixel made of the six from column left + c on, at row top + i
-unfoldable pub across : List ℤ → Raster → ℤ → ℤ → ℕ → ℕ → ℕ
-across weights p left top i c = filter_six weights (λ k. reference_pixel p (left +ℤ pos (c + k)) (top +ℤ pos i))
+unfoldable pub horizontal_pass : List ℤ → Raster → ℤ → ℤ → ℕ → ℕ → ℕ
+horizontal_pass weights p left top i c = filter_six weights (λ k. reference_pixel p (left +ℤ pos (c + k)) (top +ℤ pos i))
 
 -- the pixel at row r and column c of the block at column x of row y, moved by a vector: the vertical pass over what the
 -- horizontal pass makes of the six rows round it
 unfoldable pub inter_pixel : ℕ → Raster → ℕ → ℕ → PlaneVector → ℕ → ℕ → ℕ
 inter_pixel version p x y v r c =
     filter_six (taps version (fraction v.row))
-    (λ k. across (taps version (fraction v.column)) p (start x v.column) (start y v.row) (r + k) c)
+    (λ k. horizontal_pass (taps version (fraction v.column)) p (first_tap x v.column) (first_tap y v.row) (r + k) c)

@@ -6,25 +6,25 @@ use lib.Signed.{shr_z, lt_z}
 use Rattle.vp_inter.specs.declared.vector.PlaneVector.{PlaneVector}
 
 -- the whole pixels of a number of eighths, rounded down, and the eighths that are left, 0 to 7
-unfoldable pub whole : ℤ → ℤ
-whole eighths = shr_z eighths 8
+unfoldable pub whole_pixels : ℤ → ℤ
+whole_pixels eighths = shr_z eighths 8
 
 unfoldable pub fraction : ℤ → ℕ
 fraction eighths = unsigned_abs (int_rem_euclid eighths (pos 8))
 
 -- where the first of the six pixels stands that the pixel at a place is made of: two before it, moved by the whole pixels
-unfoldable pub start : ℕ → ℤ → ℤ
-start at eighths = pos at +ℤ whole eighths -ℤ pos 2
+unfoldable pub first_tap : ℕ → ℤ → ℤ
+first_tap at eighths = pos at +ℤ whole_pixels eighths -ℤ pos 2
 
 -- far less than what an i32 holds: 2 ^ 24 either way
-abbrev pub IsNear : ℤ → Type 0
-IsNear z = (negsuc 16777215 ≤ℤ z) × (z ≤ℤ pos 16777216)
+abbrev pub IsFarBelowI32 : ℤ → Type 0
+IsFarBelowI32 z = (negsuc 16777215 ≤ℤ z) × (z ≤ℤ pos 16777216)
 
 -- four such numbers
-abbrev pub AreNear : List ℤ → Type 0
-AreNear zs =
-    IsNear (slice_index_or zs 0 (pos 0)) × IsNear (slice_index_or zs 1 (pos 0))
-    × IsNear (slice_index_or zs 2 (pos 0)) × IsNear (slice_index_or zs 3 (pos 0))
+abbrev pub AreFarBelowI32 : List ℤ → Type 0
+AreFarBelowI32 zs =
+    IsFarBelowI32 (slice_index_or zs 0 (pos 0)) × IsFarBelowI32 (slice_index_or zs 1 (pos 0))
+    × IsFarBelowI32 (slice_index_or zs 2 (pos 0)) × IsFarBelowI32 (slice_index_or zs 3 (pos 0))
 
 -- luma vectors stand in quarters of a pixel
 unfoldable pub luma_vector : ℤ → ℤ → PlaneVector
@@ -40,7 +40,7 @@ unfoldable pub chroma_eighths : ℕ → List ℤ → ℤ
 chroma_eighths version quarters =
     let mean = mean_of_four ((slice_index_or quarters 0 (pos 0) +ℤ slice_index_or quarters 1 (pos 0))
     +ℤ (slice_index_or quarters 2 (pos 0) +ℤ slice_index_or quarters 3 (pos 0))) in
-    if version == 3 then whole mean *ℤ pos 8 else mean
+    if version == 3 then whole_pixels mean *ℤ pos 8 else mean
 
 -- the vector of a block of 4 by 4 colour pixels, from the rows and the columns of the vectors of the four luma blocks
 -- that it lies under

@@ -3,13 +3,13 @@
 ghost use Rattle.std.specs.Prelude.{◌≡◌, ℕ, ℤ, pos, negsuc, ◌+◌, ◌*◌, ◌%◌, ◌<◌, ◌≤◌, ◌+ℤ◌, ◌≤ℤ◌, length, slice_index, IsTrue};
 ghost use Rattle.vp_inter.specs.Filter.{filter_six};
 ghost use Rattle.vp_inter.specs.Narrow.{AreFew, AreGentle};
-ghost use Rattle.vp_inter.specs.Inter.{reference_pixel, across, inter_pixel, IsInside};
+ghost use Rattle.vp_inter.specs.Inter.{reference_pixel, horizontal_pass, inter_pixel, IsInside};
 
-use crate::both::six_both;
 use crate::filter::{ends_are_zero, pass, seconds_are_zero, taps};
 use crate::reference::{lies_inside, plain_row, reference_line};
-use crate::vector::{PlaneVector, fraction, start};
-use crate::wide::{both_ends_count, six_columns, six_rows};
+use crate::six_tap_1d::{both_ends_count, six_columns, six_rows};
+use crate::six_tap_2d::six_tap_2d_block;
+use crate::vector::{PlaneVector, first_tap, fraction};
 use std::simd::prelude::*;
 use vp_base::Plane;
 
@@ -87,8 +87,8 @@ fn predict<const N: usize, const W: usize, const L: usize, const M: usize>(
 {
     let _width = plane.width();
     let _height = plane.height();
-    let left = start(x, vector.column);
-    let top = start(y, vector.row);
+    let left = first_tap(x, vector.column);
+    let top = first_tap(y, vector.row);
     let across = fraction(vector.column);
     let down = fraction(vector.row);
     if down == 0 && across == 0 {
@@ -124,16 +124,16 @@ fn pass_both<const N: usize, const W: usize, const L: usize, const M: usize>(
     requires square { (M ≡ N * N) × (M ≤ 256) }
     requires pieces { M % 16 ≡ 0 }
     requires whole { length pixels.old ≡ M }
-    requires across { AreGentle row_weights.now }
+    requires horizontal_pass { AreGentle row_weights.now }
     requires down { AreGentle column_weights.now }
     requires columns { 0 < plane.now.width }
     requires height { 0 < plane.now.height }
     requires near { (negsuc 400000000 ≤ℤ left) × (left ≤ℤ pos 400000000) }
     requires beside { (negsuc 400000000 ≤ℤ top) × (top ≤ℤ pos 400000000) }
-    ensures { (r c : ℕ) → r < N → c < N → slice_index pixels.new (r * N + c) ≡ filter_six column_weights.now (λ k. across row_weights.now plane.now left top (r + k) c) }
+    ensures { (r c : ℕ) → r < N → c < N → slice_index pixels.new (r * N + c) ≡ filter_six column_weights.now (λ k. horizontal_pass row_weights.now plane.now left top (r + k) c) }
 {
     if N == 16 && both_ends_count(row_weights) && both_ends_count(column_weights) {
-        six_both(pixels, plane, left, top, row_weights, column_weights);
+        six_tap_2d_block(pixels, plane, left, top, row_weights, column_weights);
         return;
     }
     let mut rows = [0; L];
@@ -189,7 +189,7 @@ fn pass_rows<const N: usize, const W: usize>(
     requires height { 0 < plane.now.height }
     requires near { (negsuc 400000000 ≤ℤ left) × (left ≤ℤ pos 400000000) }
     requires beside { (negsuc 400000000 ≤ℤ top) × (top ≤ℤ pos 400000000) }
-    ensures { (i c : ℕ) → i < rows → c < N → slice_index pixels.new (i * N + c) ≡ across weights.now plane.now left top i c }
+    ensures { (i c : ℕ) → i < rows → c < N → slice_index pixels.new (i * N + c) ≡ horizontal_pass weights.now plane.now left top i c }
 {
     let inside = lies_inside(plane, left, top, W, rows);
     if N == 16 && both_ends_count(weights) {
@@ -221,7 +221,7 @@ fn counted_rows<const N: usize, const W: usize, const INSIDE: bool>(
     requires height { 0 < plane.now.height }
     requires near { (negsuc 400000000 ≤ℤ left) × (left ≤ℤ pos 400000000) }
     requires beside { (negsuc 400000000 ≤ℤ top) × (top ≤ℤ pos 400000000) }
-    ensures { (i c : ℕ) → i < rows → c < N → slice_index pixels.new (i * N + c) ≡ across weights.now plane.now left top i c }
+    ensures { (i c : ℕ) → i < rows → c < N → slice_index pixels.new (i * N + c) ≡ horizontal_pass weights.now plane.now left top i c }
 {
     if !ends_are_zero(weights) {
         moved_rows::<N, W, INSIDE, 6>(pixels, plane, left, top, weights, rows);
@@ -254,7 +254,7 @@ fn moved_rows<const N: usize, const W: usize, const INSIDE: bool, const COUNT: u
     requires height { 0 < plane.now.height }
     requires near { (negsuc 400000000 ≤ℤ left) × (left ≤ℤ pos 400000000) }
     requires beside { (negsuc 400000000 ≤ℤ top) × (top ≤ℤ pos 400000000) }
-    ensures { (i c : ℕ) → i < rows → c < N → slice_index pixels.new (i * N + c) ≡ across weights.now plane.now left top i c }
+    ensures { (i c : ℕ) → i < rows → c < N → slice_index pixels.new (i * N + c) ≡ horizontal_pass weights.now plane.now left top i c }
 {
     let own = *weights;
     for i in 0..rows {

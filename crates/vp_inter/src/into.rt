@@ -3,12 +3,12 @@
 ghost use Rattle.std.specs.Prelude.{◌≡◌, ℕ, pos, ◌+◌, ◌+ℤ◌, ◌<◌, ◌≤◌, IfSome, IsTrue};
 ghost use Rattle.vp_base.specs.Block.{with_block};
 ghost use Rattle.vp_base.specs.Image.{plane_of, with_plane};
-ghost use Rattle.vp_inter.specs.Vectors.{fraction, start};
+ghost use Rattle.vp_inter.specs.Vectors.{fraction, first_tap};
 ghost use Rattle.vp_inter.specs.Inter.{inter_pixel};
 
 use crate::block::{predict_block4, predict_block8, predict_block16};
 use crate::reference::lies_inside;
-use crate::vector::{PlaneVector, fraction, start};
+use crate::vector::{PlaneVector, first_tap, fraction};
 use vp_base::{Picture, Plane};
 
 /// Writes to plane `k` of `picture` the 16 by 16 block at column `x` of row `y` that `vector` moves there, out of the
@@ -124,13 +124,13 @@ fn whole_place(
     requires row { y ≤ 16384 }
     ensures inside { IfSome result (λ at. (at.0 + size ≤ reference.now.width) × (at.1 + size ≤ reference.now.height)) }
     ensures whole { IfSome result (λ at. (fraction vector.column ≡ 0) × (fraction vector.row ≡ 0)) }
-    ensures place { IfSome result (λ at. (pos at.0 ≡ start x vector.column +ℤ pos 2) × (pos at.1 ≡ start y vector.row +ℤ pos 2)) }
+    ensures place { IfSome result (λ at. (pos at.0 ≡ first_tap x vector.column +ℤ pos 2) × (pos at.1 ≡ first_tap y vector.row +ℤ pos 2)) }
 {
     if fraction(vector.column) != 0 || fraction(vector.row) != 0 {
         return None;
     }
-    let left = start(x, vector.column) + 2;
-    let top = start(y, vector.row) + 2;
+    let left = first_tap(x, vector.column) + 2;
+    let top = first_tap(y, vector.row) + 2;
     if !lies_inside(reference, left, top, size, size) {
         return None;
     }

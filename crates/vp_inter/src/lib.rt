@@ -2,13 +2,13 @@
 #![tactic(auto)]
 
 mod block;
-mod both;
 mod filter;
 mod into;
-mod pairs;
+mod madd;
 mod reference;
+mod six_tap_1d;
+mod six_tap_2d;
 mod vector;
-mod wide;
 
 pub use block::{predict_block4, predict_block8, predict_block16};
 pub use into::{predict_into4, predict_into8, predict_into16};

@@ -101,7 +101,7 @@ fn places(from: usize) -> u8x16
 
 /// The lanes at these places.
 #[inline(always)]
-fn looked_up(lanes: u8x16, places: u8x16) -> u8x16
+fn shuffle(lanes: u8x16, places: u8x16) -> u8x16
     requires { (c : ℕ) → c < 16 → slice_index places c < 16 }
     ensures { (c : ℕ) → c < 16 → slice_index result c ≡ slice_index lanes (slice_index places c) }
 {
@@ -117,7 +117,7 @@ fn sixteen(line: &[u8], at: i32) -> u8x16
 {
     let first = nearest(at, line.len() - 15);
     let from = (at - first as i32 + 16).clamp(0, 32);
-    looked_up(load(line, first), places(from as usize))
+    shuffle(load(line, first), places(from as usize))
 }
 
 /// The same 32, one by one.

@@ -2,7 +2,7 @@
 
 ghost use Rattle.std.specs.Prelude.{◌≡◌, ℕ, ℤ, pos, negsuc, ◌+◌, ◌<◌, ◌≤◌, ◌+ℤ◌, ◌-ℤ◌, ◌*ℤ◌, ◌≤ℤ◌, unsigned_abs, ◌^◌};
 ghost use lib.Signed.{shr_z};
-ghost use Rattle.vp_inter.specs.Vectors.{whole, fraction, start, IsNear, AreNear, mean_of_four, chroma_eighths, luma_vector, chroma_vector};
+ghost use Rattle.vp_inter.specs.Vectors.{whole_pixels, fraction, first_tap, IsFarBelowI32, AreFarBelowI32, mean_of_four, chroma_eighths, luma_vector, chroma_vector};
 
 /// How far a block moves, in eighths of the plane's pixels (RFC 6386, chapter 5).
 #[derive(Clone, Copy, Debug, PartialEq, Eq, Default)]
@@ -14,9 +14,9 @@ pub struct PlaneVector {
 }
 
 /// The whole pixels, rounded down.
-#[tactic(auto, unfolding(crate::specs::Vectors::whole))]
-fn whole(eighths: i32) -> i32
-    ensures value { result ≡ whole eighths }
+#[tactic(auto, unfolding(crate::specs::Vectors::whole_pixels))]
+fn whole_pixels(eighths: i32) -> i32
+    ensures value { result ≡ whole_pixels eighths }
     ensures range { (negsuc 268435455 ≤ℤ result) × (result ≤ℤ pos 268435455) }
 {
     eighths >> 3
@@ -32,20 +32,20 @@ pub(crate) fn fraction(eighths: i32) -> usize
 }
 
 /// Where the first of the six pixels stands that the pixel at `at` is made of.
-#[tactic(auto, unfolding(crate::specs::Vectors::start))]
-pub(crate) fn start(at: usize, eighths: i32) -> i32
+#[tactic(auto, unfolding(crate::specs::Vectors::first_tap))]
+pub(crate) fn first_tap(at: usize, eighths: i32) -> i32
     requires { at ≤ 16384 }
-    ensures value { result ≡ start at eighths }
+    ensures value { result ≡ first_tap at eighths }
     ensures range { (negsuc 300000000 ≤ℤ result) × (result ≤ℤ pos 300000000) }
 {
-    at as i32 + whole(eighths) - 2
+    at as i32 + whole_pixels(eighths) - 2
 }
 
 /// The vector of a luma block that moves by so many quarters of a pixel.
 #[tactic(auto, unfolding(crate::specs::Vectors::luma_vector))]
 pub fn luma_vector(row: i32, column: i32) -> PlaneVector
-    requires row { IsNear row }
-    requires column { IsNear column }
+    requires row { IsFarBelowI32 row }
+    requires column { IsFarBelowI32 column }
     ensures { result ≡ luma_vector row column }
 {
     PlaneVector {
@@ -58,8 +58,8 @@ pub fn luma_vector(row: i32, column: i32) -> PlaneVector
 /// the four luma blocks of 4 by 4 that it lies under. `version` is the frame's.
 #[tactic(auto, unfolding(crate::specs::Vectors::chroma_vector))]
 pub fn chroma_vector(version: u8, rows: &[i32; 4], columns: &[i32; 4]) -> PlaneVector
-    requires rows { AreNear rows.now }
-    requires columns { AreNear columns.now }
+    requires rows { AreFarBelowI32 rows.now }
+    requires columns { AreFarBelowI32 columns.now }
     ensures { result ≡ chroma_vector version rows.now columns.now }
 {
     PlaneVector {
@@ -70,18 +70,22 @@ pub fn chroma_vector(version: u8, rows: &[i32; 4], columns: &[i32; 4]) -> PlaneV
 
 #[tactic(auto, unfolding(crate::specs::Vectors::chroma_eighths))]
 fn chroma_eighths(version: u8, quarters: &[i32; 4]) -> i32
-    requires { AreNear quarters.now }
+    requires { AreFarBelowI32 quarters.now }
     ensures { result ≡ chroma_eighths version quarters.now }
 {
     let first = sum_of_two(quarters[0], quarters[1]);
     let last = sum_of_two(quarters[2], quarters[3]);
     let mean = mean_of_four(first + last);
-    if version == 3 { whole(mean) * 8 } else { mean }
+    if version == 3 {
+        whole_pixels(mean) * 8
+    } else {
+        mean
+    }
 }
 
 fn sum_of_two(a: i32, b: i32) -> i32
-    requires first { IsNear a }
-    requires second { IsNear b }
+    requires first { IsFarBelowI32 a }
+    requires second { IsFarBelowI32 b }
     ensures value { result ≡ a +ℤ b }
     ensures range { (negsuc 33554431 ≤ℤ result) × (result ≤ℤ pos 33554432) }
 {

@@ -8,7 +8,7 @@ use Rattle.vp_base.proofs.BlockLemmas.{length-numbers, get_or-numbers, same_numb
 use Rattle.vp_base.specs.Block.{with_block}
 use Rattle.vp_base.specs.Image.{Image, plane_of, with_plane}
 use Rattle.vp_base.specs.Raster.{Raster}
-use Rattle.vp_intra.specs.Edges.{block, first, above, left, corner, clamped, true_motion}
+use Rattle.vp_intra.specs.Edges.{block, first, above_pixel, left_pixel, corner_pixel, clamped_pixel, true_motion}
 use Rattle.vp_intra.proofs.EdgeLemmas.{read_first}
 
 pub length-block : (n : ℕ) (f : ℕ → ℕ → ℕ) → length (block n f) ≡ n * n
@@ -39,27 +39,27 @@ even_block n m v e =
 
 -- ---- blocks made of the edges
 
-pub vertical_block : (n : ℕ) (p : Raster) (x y : ℕ) (es : List ℕ) → es ≡ first n (above p x y)
-    → block n (λ r c. get_or es c 0) ≡ block n (λ r c. above p x y c)
+pub vertical_block : (n : ℕ) (p : Raster) (x y : ℕ) (es : List ℕ) → es ≡ first n (above_pixel p x y)
+    → block n (λ r c. get_or es c 0) ≡ block n (λ r c. above_pixel p x y c)
 vertical_block n p x y es e =
-    block_same n (λ r c. get_or es c 0) (λ r c. above p x y c) (λ r c rin cin. read_first es n (above p x y) c e cin)
+    block_same n (λ r c. get_or es c 0) (λ r c. above_pixel p x y c) (λ r c rin cin. read_first es n (above_pixel p x y) c e cin)
 
-pub horizontal_block : (n : ℕ) (p : Raster) (x y : ℕ) (es : List ℕ) → es ≡ first n (left p x y)
-    → block n (λ r c. get_or es r 0) ≡ block n (λ r c. left p x y r)
+pub horizontal_block : (n : ℕ) (p : Raster) (x y : ℕ) (es : List ℕ) → es ≡ first n (left_pixel p x y)
+    → block n (λ r c. get_or es r 0) ≡ block n (λ r c. left_pixel p x y r)
 horizontal_block n p x y es e =
-    block_same n (λ r c. get_or es r 0) (λ r c. left p x y r) (λ r c rin cin. read_first es n (left p x y) r e rin)
+    block_same n (λ r c. get_or es r 0) (λ r c. left_pixel p x y r) (λ r c rin cin. read_first es n (left_pixel p x y) r e rin)
 
 pub true_motion_block : (n : ℕ) (p : Raster) (x y : ℕ) (us ls : List ℕ) (k : ℕ)
-    → us ≡ first n (above p x y) → ls ≡ first n (left p x y) → k ≡ corner p x y
-    → block n (λ r c. clamped (get_or ls r 0) (get_or us c 0) k) ≡ block n (true_motion p x y)
+    → us ≡ first n (above_pixel p x y) → ls ≡ first n (left_pixel p x y) → k ≡ corner_pixel p x y
+    → block n (λ r c. clamped_pixel (get_or ls r 0) (get_or us c 0) k) ≡ block n (true_motion p x y)
 true_motion_block n p x y us ls k a l e =
-    block_same n (λ r c. clamped (get_or ls r 0) (get_or us c 0) k) (true_motion p x y) (λ r c rin cin.
-    ap (λ (v : ℕ). clamped v (get_or us c 0) k) (read_first ls n (left p x y) r l rin)
-    ∙ ap (λ (v : ℕ). clamped (left p x y r) v k) (read_first us n (above p x y) c a cin)
-    ∙ ap (clamped (left p x y r) (above p x y c)) e)
+    block_same n (λ r c. clamped_pixel (get_or ls r 0) (get_or us c 0) k) (true_motion p x y) (λ r c rin cin.
+    ap (λ (v : ℕ). clamped_pixel v (get_or us c 0) k) (read_first ls n (left_pixel p x y) r l rin)
+    ∙ ap (λ (v : ℕ). clamped_pixel (left_pixel p x y r) v k) (read_first us n (above_pixel p x y) c a cin)
+    ∙ ap (clamped_pixel (left_pixel p x y r) (above_pixel p x y c)) e)
 
 -- what the left is above the corner is added, or what it is below it is taken away
-pub moved_either_way : (l a p : ℕ) → a < 256 → min (a + (l - p)) 255 - (p - l) ≡ clamped l a p
+pub moved_either_way : (l a p : ℕ) → a < 256 → min (a + (l - p)) 255 - (p - l) ≡ clamped_pixel l a p
 moved_either_way l a p byte = grind arith
 
 each_even : (m v : ℕ) → v < 256 → Each1 (Fits w8) (replicate m v)

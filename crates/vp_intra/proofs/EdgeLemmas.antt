@@ -4,38 +4,38 @@ use Rattle.std.proofs.lemmas.List.{places, length-take, length-drop, length-repl
 use Rattle.std.proofs.lemmas.List.FromFn.{fill_by_all, get_or-map-range_with_len}
 use Rattle.std.proofs.lemmas.Bool.{eq-eqb, ne_eqb}
 use Rattle.vp_base.specs.Raster.{Raster, pixel, row_of}
-use Rattle.vp_intra.specs.Edges.{first, above, left}
+use Rattle.vp_intra.specs.Edges.{first, above_pixel, left_pixel}
 
-pub above_inside : (p : Raster) (x y c : ℕ) → 0 < y → above p x y c ≡ pixel p (x + c) (y - 1)
-unfolding above
+pub above_inside : (p : Raster) (x y c : ℕ) → 0 < y → above_pixel p x y c ≡ pixel p (x + c) (y - 1)
+unfolding above_pixel
 above_inside p x y c pos = ap (λ (b : Bool). cond b 127 (pixel p (x + c) (y - 1))) (ne_eqb y 0 (λ e. omega arith))
 
-pub above_outside : (p : Raster) (x y c : ℕ) → y ≡ 0 → above p x y c ≡ 127
-unfolding above
+pub above_outside : (p : Raster) (x y c : ℕ) → y ≡ 0 → above_pixel p x y c ≡ 127
+unfolding above_pixel
 above_outside p x y c none = ap (λ (b : Bool). cond b 127 (pixel p (x + c) (y - 1))) (eq-eqb y 0 none)
 
-pub left_inside : (p : Raster) (x y r : ℕ) → 0 < x → left p x y r ≡ pixel p (x - 1) (y + r)
-unfolding left
+pub left_inside : (p : Raster) (x y r : ℕ) → 0 < x → left_pixel p x y r ≡ pixel p (x - 1) (y + r)
+unfolding left_pixel
 left_inside p x y r pos = ap (λ (b : Bool). cond b 129 (pixel p (x - 1) (y + r))) (ne_eqb x 0 (λ e. omega arith))
 
-pub left_outside : (p : Raster) (x y r : ℕ) → x ≡ 0 → left p x y r ≡ 129
-unfolding left
+pub left_outside : (p : Raster) (x y r : ℕ) → x ≡ 0 → left_pixel p x y r ≡ 129
+unfolding left_pixel
 left_outside p x y r none = ap (λ (b : Bool). cond b 129 (pixel p (x - 1) (y + r))) (eq-eqb x 0 none)
 
 pub above_run : (p : Raster) (x y n : ℕ) → 0 < y → x + n ≤ p.width → length (row_of p (y - 1)) ≡ p.width
-    → slice_range (row_of p (y - 1)) x (x + n) ≡ first n (above p x y)
+    → slice_range (row_of p (y - 1)) x (x + n) ≡ first n (above_pixel p x y)
 above_run p x y n pos fits long =
     let lift : length (row_of p (y - 1)) ≡ p.width = long in
-    fill_by_all (above p x y) (slice_range (row_of p (y - 1)) x (x + n)) n 0
+    fill_by_all (above_pixel p x y) (slice_range (row_of p (y - 1)) x (x + n)) n 0
     (length-take (x + n - x) (drop x (row_of p (y - 1))) ∙ (let l : length (drop x (row_of p (y - 1))) ≡ p.width - x = length-drop x (row_of p (y - 1)) ∙ ap (λ (k : ℕ). k - x) long in omega arith))
     (λ k below. (let s : get_or (slice_range (row_of p (y - 1)) x (x + n)) k 0 ≡ pixel p (x + k) (y - 1) = search (rules, places) in s) ∙ sym (above_inside p x y k pos))
 
-pub above_fill : (p : Raster) (x y n : ℕ) → y ≡ 0 → replicate n 127 ≡ first n (above p x y)
-above_fill p x y n none = fill_by_all (above p x y) (replicate n 127) n 0 (length-replicate n 127)
+pub above_fill : (p : Raster) (x y n : ℕ) → y ≡ 0 → replicate n 127 ≡ first n (above_pixel p x y)
+above_fill p x y n none = fill_by_all (above_pixel p x y) (replicate n 127) n 0 (length-replicate n 127)
     (λ k below. get_or-replicate n k 127 0 below ∙ sym (above_outside p x y k none))
 
-pub left_fill : (p : Raster) (x y n : ℕ) → x ≡ 0 → replicate n 129 ≡ first n (left p x y)
-left_fill p x y n none = fill_by_all (left p x y) (replicate n 129) n 0 (length-replicate n 129)
+pub left_fill : (p : Raster) (x y n : ℕ) → x ≡ 0 → replicate n 129 ≡ first n (left_pixel p x y)
+left_fill p x y n none = fill_by_all (left_pixel p x y) (replicate n 129) n 0 (length-replicate n 129)
     (λ k below. get_or-replicate n k 129 0 below ∙ sym (left_outside p x y k none))
 
 -- one of the numbers of a list that is `first n f`

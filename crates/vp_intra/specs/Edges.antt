@@ -13,20 +13,20 @@ unfoldable pub block : ℕ → (ℕ → ℕ → ℕ) → List ℕ
 block n f = numbers n n (λ c r. f r c)
 
 -- the pixel above column c of the block that begins at column x of row y; above the frame it is 127
-unfoldable pub above : Raster → ℕ → ℕ → ℕ → ℕ
-above p x y c = if y == 0 then 127 else pixel p (x + c) (y - 1)
+unfoldable pub above_pixel : Raster → ℕ → ℕ → ℕ → ℕ
+above_pixel p x y c = if y == 0 then 127 else pixel p (x + c) (y - 1)
 
 -- the pixel to the left of row r of that block; left of the frame it is 129
-unfoldable pub left : Raster → ℕ → ℕ → ℕ → ℕ
-left p x y r = if x == 0 then 129 else pixel p (x - 1) (y + r)
+unfoldable pub left_pixel : Raster → ℕ → ℕ → ℕ → ℕ
+left_pixel p x y r = if x == 0 then 129 else pixel p (x - 1) (y + r)
 
 -- the pixel above and to the left of that block: 127 in the frame's top row, else 129 in its left column
-unfoldable pub corner : Raster → ℕ → ℕ → ℕ
-corner p x y = if y == 0 then 127 else (if x == 0 then 129 else pixel p (x - 1) (y - 1))
+unfoldable pub corner_pixel : Raster → ℕ → ℕ → ℕ
+corner_pixel p x y = if y == 0 then 127 else (if x == 0 then 129 else pixel p (x - 1) (y - 1))
 
 -- the pixels above and to the left of an n by n block that lie inside the frame
 unfoldable pub edge : Raster → ℕ → ℕ → ℕ → List ℕ
-edge p x y n = (if y == 0 then [] else first n (above p x y)) ++ (if x == 0 then [] else first n (left p x y))
+edge p x y n = (if y == 0 then [] else first n (above_pixel p x y)) ++ (if x == 0 then [] else first n (left_pixel p x y))
 
 -- their mean, halves up; 128 where there is none
 abbrev pub rounded_mean : List ℕ → ℕ
@@ -34,9 +34,9 @@ rounded_mean [] = 128
 rounded_mean (v ∷ vs) = (sum (v ∷ vs) + length (v ∷ vs) / 2) / length (v ∷ vs)
 
 -- l + a - p, clamped to 0..255: `-` stops at 0
-abbrev pub clamped : ℕ → ℕ → ℕ → ℕ
-clamped l a p = min ((l + a) - p) 255
+abbrev pub clamped_pixel : ℕ → ℕ → ℕ → ℕ
+clamped_pixel l a p = min ((l + a) - p) 255
 
 -- left and above less the corner, at row r and column c
 abbrev pub true_motion : Raster → ℕ → ℕ → ℕ → ℕ → ℕ
-true_motion p x y r c = clamped (left p x y r) (above p x y c) (corner p x y)
+true_motion p x y r c = clamped_pixel (left_pixel p x y r) (above_pixel p x y c) (corner_pixel p x y)

@@ -4,7 +4,7 @@ use Rattle.std.specs.List.{range_with_len}
 use Rattle.vp_base.specs.Raster.{Raster, pixel}
 use Rattle.vp_tables.specs.declared.modes.SubMode.{SubMode}
 use Rattle.vp_tables.specs.declared.modes.SubMode.TheVariants.{Dc, Tm, Ve, He, Ld, Rd, Vr, Vl, Hd, Hu}
-use Rattle.vp_intra.specs.Edges.{above, left, corner, clamped}
+use Rattle.vp_intra.specs.Edges.{above_pixel, left_pixel, corner_pixel, clamped_pixel}
 
 -- the row below the pixels above and to the right of the subblock at column x of row y: in the last column of a
 -- macroblock it is the macroblock's first row, not the subblock's
@@ -12,16 +12,16 @@ unfoldable pub right_row : ℕ → ℕ → ℕ
 right_row x y = if x % 16 == 12 then y - y % 16 else y
 
 -- the i-th of these pixels: above the frame it is 127, and past the last column the last pixel is repeated
-unfoldable pub right : Raster → ℕ → ℕ → ℕ → ℕ
-right p x y i = if right_row x y == 0 then 127 else pixel p (min (x + 4 + i) (p.width - 1)) (right_row x y - 1)
+unfoldable pub above_right_pixel : Raster → ℕ → ℕ → ℕ → ℕ
+above_right_pixel p x y i = if right_row x y == 0 then 127 else pixel p (min (x + 4 + i) (p.width - 1)) (right_row x y - 1)
 
 -- The thirteen pixels round a subblock, from the bottom of the left column up, over the corner, and along the row
 -- above: number 4 is the corner, number 5 the first of the row above, and number 3 the top of the left column.
 abbrev pub around : Raster → ℕ → ℕ → List ℕ
 around p x y =
-    left p x y 3 ∷ left p x y 2 ∷ left p x y 1 ∷ left p x y 0 ∷ corner p x y ∷
-    above p x y 0 ∷ above p x y 1 ∷ above p x y 2 ∷ above p x y 3 ∷
-    right p x y 0 ∷ right p x y 1 ∷ right p x y 2 ∷ right p x y 3 ∷ []
+    left_pixel p x y 3 ∷ left_pixel p x y 2 ∷ left_pixel p x y 1 ∷ left_pixel p x y 0 ∷ corner_pixel p x y ∷
+    above_pixel p x y 0 ∷ above_pixel p x y 1 ∷ above_pixel p x y 2 ∷ above_pixel p x y 3 ∷
+    above_right_pixel p x y 0 ∷ above_right_pixel p x y 1 ∷ above_right_pixel p x y 2 ∷ above_right_pixel p x y 3 ∷ []
 
 unfoldable pub avg2 : ℕ → ℕ → ℕ
 avg2 x y = (x + y + 1) / 2
@@ -44,7 +44,7 @@ sixteen f = map (λ i. f (i / 4) (i % 4)) (range_with_len 0 16)
 -- what a mode makes of the thirteen
 abbrev pub predicted : SubMode → List ℕ → List ℕ
 predicted Dc es = replicate 16 ((sum (take 4 es) + sum (take 4 (drop 5 es)) + 4) / 8)
-predicted Tm es = sixteen (λ r c. clamped (slice_index es (3 - r)) (slice_index es (5 + c)) (slice_index es 4))
+predicted Tm es = sixteen (λ r c. clamped_pixel (slice_index es (3 - r)) (slice_index es (5 + c)) (slice_index es 4))
 predicted Ve es = sixteen (λ r c. about es (5 + c))
 predicted He es =
     sixteen (λ r c. if r == 3 then avg3 (slice_index es 1) (slice_index es 0) (slice_index es 0) else about es (3 - r))

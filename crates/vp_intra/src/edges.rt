@@ -2,18 +2,18 @@
 
 ghost use Rattle.std.specs.Prelude.{◌≡◌, ℕ, ◌+◌, ◌*◌, ◌/◌, ◌<◌, ◌≤◌, length, sum};
 ghost use Rattle.vp_base.specs.Raster.{Raster, pixel};
-ghost use Rattle.vp_intra.specs.Edges.{first, above, left, corner, edge, rounded_mean};
+ghost use Rattle.vp_intra.specs.Edges.{first, above_pixel, left_pixel, corner_pixel, edge, rounded_mean};
 
 use std::simd::prelude::*;
 use vp_base::Plane;
 
 /// The row above a block.
-#[tactic(auto, unfolding(crate::specs::Edges::above))]
+#[tactic(auto, unfolding(crate::specs::Edges::above_pixel))]
 pub(crate) fn edge_above<const N: usize>(plane: &Plane, x: usize, y: usize) -> [u8; N]
     requires size { N ≤ 16 }
     requires columns { x + N ≤ plane.now.width }
     requires row { y < plane.now.height }
-    ensures { result ≡ first N (above plane.now x y) }
+    ensures { result ≡ first N (above_pixel plane.now x y) }
 {
     let mut edge = [127; N];
     if y > 0 {
@@ -23,12 +23,12 @@ pub(crate) fn edge_above<const N: usize>(plane: &Plane, x: usize, y: usize) -> [
 }
 
 /// The column to the left of a block.
-#[tactic(auto, unfolding(crate::specs::Edges::left))]
+#[tactic(auto, unfolding(crate::specs::Edges::left_pixel))]
 pub(crate) fn edge_left<const N: usize>(plane: &Plane, x: usize, y: usize) -> [u8; N]
     requires size { N ≤ 16 }
     requires column { x < plane.now.width }
     requires rows { y + N ≤ plane.now.height }
-    ensures { result ≡ first N (left plane.now x y) }
+    ensures { result ≡ first N (left_pixel plane.now x y) }
 {
     let mut edge = [129; N];
     let _height = plane.height();
@@ -41,11 +41,11 @@ pub(crate) fn edge_left<const N: usize>(plane: &Plane, x: usize, y: usize) -> [u
 }
 
 /// The pixel above and to the left of a block.
-#[tactic(auto, unfolding(crate::specs::Edges::corner))]
+#[tactic(auto, unfolding(crate::specs::Edges::corner_pixel))]
 pub(crate) fn edge_corner(plane: &Plane, x: usize, y: usize) -> u8
     requires column { x < plane.now.width }
     requires row { y < plane.now.height }
-    ensures { result ≡ corner plane.now x y }
+    ensures { result ≡ corner_pixel plane.now x y }
 {
     if y == 0 {
         127
@@ -69,7 +69,10 @@ pub(crate) fn edge_mean<const N: usize>(plane: &Plane, x: usize, y: usize) -> u8
         return 128;
     }
     if y == 0 {
-        return rounded(sum_of_edge::<N>(Simd::from_array(edge_left::<N>(plane, x, y))), N as u16);
+        return rounded(
+            sum_of_edge::<N>(Simd::from_array(edge_left::<N>(plane, x, y))),
+            N as u16,
+        );
     }
     let sum = sum_of_edge::<N>(Simd::from_array(edge_above::<N>(plane, x, y)));
     if x == 0 {

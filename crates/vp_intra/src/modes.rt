@@ -1,7 +1,7 @@
 //! The ten modes of a subblock of 4 by 4 pixels (chapter 12.3).
 
 ghost use Rattle.std.specs.Prelude.{◌≡◌, ℕ, ◌+◌, ◌*◌, ◌/◌, ◌<◌, ◌≤◌, length, slice_index};
-ghost use Rattle.vp_intra.specs.Edges.{clamped};
+ghost use Rattle.vp_intra.specs.Edges.{clamped_pixel};
 ghost use Rattle.vp_intra.specs.Sub.{avg2, avg3, predicted};
 
 use crate::edges::sum_of;
@@ -150,7 +150,7 @@ fn direct(e: &[u8; 13]) -> [u8; 16]
 }
 
 fn clamp(left: u8, above: u8, corner: u8) -> u8
-    ensures { result ≡ clamped left above corner }
+    ensures { result ≡ clamped_pixel left above corner }
 {
     (u16::from(left) + u16::from(above))
         .saturating_sub(u16::from(corner))

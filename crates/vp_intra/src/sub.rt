@@ -2,7 +2,7 @@
 
 ghost use Rattle.std.specs.Prelude.{◌≡◌, ℕ, ◌+◌, ◌<◌, ◌≤◌};
 ghost use Rattle.vp_intra.specs.Edges.{block};
-ghost use Rattle.vp_intra.specs.Sub.{right_row, right, around, sub_pixel};
+ghost use Rattle.vp_intra.specs.Sub.{right_row, above_right_pixel, around, sub_pixel};
 
 use crate::edges::{edge_above, edge_corner, edge_left};
 use crate::modes::predict;
@@ -28,12 +28,12 @@ fn row_at_right(x: usize, y: usize) -> usize
     if x % 16 == 12 { y - y % 16 } else { y }
 }
 
-#[tactic(auto, unfolding(crate::specs::Sub::right))]
+#[tactic(auto, unfolding(crate::specs::Sub::above_right_pixel))]
 fn pixel_at_right(plane: &Plane, x: usize, y: usize, i: usize) -> u8
     requires column { x + 4 ≤ plane.now.width }
     requires row { y < plane.now.height }
     requires index { i < 4 }
-    ensures { result ≡ right plane.now x y i }
+    ensures { result ≡ above_right_pixel plane.now x y i }
 {
     let width = plane.width();
     let row = row_at_right(x, y);

@@ -4,7 +4,7 @@ ghost use Rattle.std.specs.Prelude.{◌≡◌, ℕ, ◌+◌, ◌*◌, ◌<◌, �
 ghost use Rattle.vp_base.specs.Raster.{Raster, pixel};
 ghost use Rattle.vp_base.specs.Block.{with_block};
 ghost use Rattle.vp_base.specs.Image.{plane_of, with_plane};
-ghost use Rattle.vp_intra.specs.Edges.{block, clamped};
+ghost use Rattle.vp_intra.specs.Edges.{block, clamped_pixel};
 ghost use Rattle.vp_intra.specs.Whole.{luma_pixel, chroma_pixel};
 
 use crate::edges::{edge_above, edge_corner, edge_left, edge_mean};
@@ -161,7 +161,7 @@ fn true_motion<const N: usize, const M: usize>(
     requires size { N ≤ 16 }
     requires square { M ≡ N * N }
     requires area { M ≤ 256 }
-    ensures { result ≡ block N (λ r c. clamped (slice_index left.now r) (slice_index above.now c) corner) }
+    ensures { result ≡ block N (λ r c. clamped_pixel (slice_index left.now r) (slice_index above.now c) corner) }
 {
     let row = Simd::from_array(*above);
     let mut pixels = [0; M];
@@ -175,7 +175,7 @@ fn true_motion<const N: usize, const M: usize>(
 /// away. One of the two is 0.
 fn true_motion_row<const N: usize>(above: Simd<u8, N>, left: u8, corner: u8) -> Simd<u8, N>
     requires size { N ≤ 16 }
-    ensures { (c : ℕ) → c < N → slice_index result c ≡ clamped left (slice_index above.entry c) corner }
+    ensures { (c : ℕ) → c < N → slice_index result c ≡ clamped_pixel left (slice_index above.entry c) corner }
 {
     let up = left.saturating_sub(corner);
     let down = corner.saturating_sub(left);

@@ -8,7 +8,7 @@ use Rattle.vp_ivf.specs.declared.packet.Packet.{Packet}
 use Rattle.vp_ivf.specs.declared.packet.IvfHead.{IvfHead}
 use Rattle.vp_ivf.specs.declared.fault.FileFault.{FileFault}
 use Rattle.vp_ivf.specs.declared.fault.FileFault.TheVariants.{Signature, Codec, TooMany, PacketTooLarge}
-use Rattle.vp_ivf.specs.Ivf.{Contents, size_of, packet_at, head_of, next_size, next_head, cuts, read, read_from, with_front, stop, resume, resume_at}
+use Rattle.vp_ivf.specs.Ivf.{Contents, packet_size, packet_at, parsed_ivf_head, next_size, next_head, cuts, read_file, read_from, with_front, stop, resume, resume_at}
 use Rattle.vp_ivf.proofs.Cuts.{cuts-whole, cuts-stop, cuts-fault, with_front-front}
 
 -- a number that stands whole in the bytes stays
@@ -42,8 +42,8 @@ unfolding next_size
 next_size-append max zero xs ys r h ne =
     rw length-append (decided_zero (length xs) (length ys) r h ne)
 next_size-append max (suc n) xs ys r h ne =
-    let same : size_of (xs ++ ys) ≡ size_of xs = number-append 0 4 xs ys (omega (arith, has_header (length xs) _ r h ne)) in
-    rw (length-append xs ys, same) (decided_suc (length xs) (length ys) max (size_of xs) r h ne)
+    let same : packet_size (xs ++ ys) ≡ packet_size xs = number-append 0 4 xs ys (omega (arith, has_header (length xs) _ r h ne)) in
+    rw (length-append xs ys, same) (decided_suc (length xs) (length ys) max (packet_size xs) r h ne)
 
 -- a packet that is whole is not longer than the bytes
 whole_step : (l max size s : ℕ)
@@ -54,7 +54,7 @@ whole_step l max size s h = grind (arith, nat_tests)
 pub next_size-whole : (max n : ℕ) (xs : List ℕ) (s : ℕ) → next_size max n xs ≡ Ok (Some s) → 12 + s ≤ length xs
 unfolding next_size
 next_size-whole max zero xs s h = absurd (grind (arith, nat_tests))
-next_size-whole max (suc n) xs s h = whole_step (length xs) max (size_of xs) s h
+next_size-whole max (suc n) xs s h = whole_step (length xs) max (packet_size xs) s h
 
 pub packet_at-append : (s : ℕ) (xs ys : List ℕ) → 12 + s ≤ length xs → packet_at s (xs ++ ys) ≡ packet_at s xs
 packet_at-append s xs ys h =
@@ -118,7 +118,7 @@ pub next_head-header : (xs : List ℕ) (r : Result (Option IvfHead) FileFault) �
 unfolding next_head
 next_head-header xs r e ne = has_head (length xs) _ r e ne
 
-head_of-append : (xs ys : List ℕ) → 32 ≤ length xs → head_of (xs ++ ys) ≡ head_of xs
+head_of-append : (xs ys : List ℕ) → 32 ≤ length xs → parsed_ivf_head (xs ++ ys) ≡ parsed_ivf_head xs
 head_of-append xs ys h =
     let w : little_number 2 (drop 12 (xs ++ ys)) ≡ little_number 2 (drop 12 xs) = number-append 12 2 xs ys (omega arith) in
     let hh : little_number 2 (drop 14 (xs ++ ys)) ≡ little_number 2 (drop 14 xs) = number-append 14 2 xs ys (omega arith) in
@@ -134,11 +134,11 @@ next_head-append xs ys r e ne =
     let eight : 8 ≤ length xs = omega arith in
     let four_more : 4 ≤ length (drop 8 xs) = omega (arith, length-drop 8 xs) in
     rw (length-append xs ys, head_of-append xs ys room, take-append-le 4 xs ys four, drop-append-le 8 xs ys eight, take-append-le 4 (drop 8 xs) ys four_more)
-    (head_step (length xs) (length ys) _ _ (head_of xs) r e ne)
+    (head_step (length xs) (length ys) _ _ (parsed_ivf_head xs) r e ne)
 
 read_step : (max n : ℕ) (xs ys : List ℕ) (r : Result (Option IvfHead) FileFault) → next_head xs ≡ r
-    → read max n (xs ++ ys) ≡ resume max (read max n xs) ys
-unfolding read
+    → read_file max n (xs ++ ys) ≡ resume max (read_file max n xs) ys
+unfolding read_file
 read_step max n xs ys (Err f) e =
     let again = next_head-append xs ys (Err f) e (λ x. cc) in
     rw (e, again) refl
@@ -149,5 +149,5 @@ read_step max n xs ys (Ok (Some h)) e =
     rw (e, again, drop-append-le 32 xs ys room) (cuts-append h max n (drop 32 xs) ys)
 
 -- more bytes are read as if they had come at once
-pub read-append : (max n : ℕ) (xs ys : List ℕ) → read max n (xs ++ ys) ≡ resume max (read max n xs) ys
+pub read-append : (max n : ℕ) (xs ys : List ℕ) → read_file max n (xs ++ ys) ≡ resume max (read_file max n xs) ys
 read-append max n xs ys = read_step max n xs ys (next_head xs) refl

@@ -6,7 +6,7 @@ use Rattle.vp_ivf.specs.declared.packet.Packet.{Packet}
 use Rattle.vp_ivf.specs.declared.packet.IvfHead.{IvfHead}
 use Rattle.vp_ivf.specs.declared.fault.FileFault.{FileFault}
 use Rattle.vp_ivf.specs.declared.fault.FileFault.TheVariants.{TooMany, PacketTooLarge}
-use Rattle.vp_ivf.specs.Ivf.{Contents, size_of, packet_at, next_size, next_head, cuts, read, with_front, stop}
+use Rattle.vp_ivf.specs.Ivf.{Contents, packet_size, packet_at, next_size, next_head, cuts, read_file, with_front, stop}
 
 zero_step : {A : Type 0} (short : Bool) (s : ℕ) → cond short (Ok None) (Err TooMany) ≡ Ok (Some s) → A
 zero_step true s h = cc
@@ -21,10 +21,10 @@ size_step false true part size s h = cc
 size_step false false true size s h = cc
 size_step false false false size s h = cc
 
-pub next_size-size : (max n : ℕ) (b : List ℕ) (s : ℕ) → next_size max n b ≡ Ok (Some s) → s ≡ size_of b
+pub next_size-size : (max n : ℕ) (b : List ℕ) (s : ℕ) → next_size max n b ≡ Ok (Some s) → s ≡ packet_size b
 unfolding next_size
 next_size-size max zero b s h = zero_step (nat_lt (length b) 12) s h
-next_size-size max (suc n) b s h = size_step (nat_lt (length b) 12) (nat_lt max (size_of b)) (nat_lt (length b) (12 + size_of b)) (size_of b) s h
+next_size-size max (suc n) b s h = size_step (nat_lt (length b) 12) (nat_lt max (packet_size b)) (nat_lt (length b) (12 + packet_size b)) (packet_size b) s h
 
 pub with_front-front : (xs ys : List Packet) (r : Contents) → with_front xs (with_front ys r) ≡ with_front (xs ++ ys) r
 with_front-front xs ys r = ap (λ ps. record r { packets = ps }) (sym (append_assoc xs ys r.packets))
@@ -104,7 +104,7 @@ drops used b rest r =
 pub reads_behind : (max n used : ℕ) (b rest : List ℕ) (h : IvfHead) (head : Option IvfHead) (packets : List Packet) (left : ℕ) (fault : Option FileFault)
     → Ok (Some h) ≡ next_head b → rest ≡ drop 32 b
     → record { head = head; packets = packets; left = left; fault = fault; rest = drop used rest } ≡ cuts (Some h) max n rest
-    → record { head = head; packets = packets; left = left; fault = fault; rest = drop (used + 32) b } ≡ read max n b
-unfolding read
+    → record { head = head; packets = packets; left = left; fault = fault; rest = drop (used + 32) b } ≡ read_file max n b
+unfolding read_file
 reads_behind max n used b rest h head packets left fault is_head r e =
     rw (← is_head, ← r) (ap (λ x. record { head = head; packets = packets; left = left; fault = fault; rest = x }) (drops used b rest r) ∙ e)

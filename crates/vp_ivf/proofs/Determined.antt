@@ -7,8 +7,8 @@ use Rattle.vp_ivf.specs.declared.packet.Packet.{Packet}
 use Rattle.vp_ivf.specs.declared.packet.IvfHead.{IvfHead}
 use Rattle.vp_ivf.specs.declared.fault.FileFault.{FileFault}
 use Rattle.vp_ivf.specs.declared.fault.FileFault.TheVariants.{Signature, Codec, TooMany, PacketTooLarge, Torn, Ended}
-use Rattle.vp_ivf.specs.Ivf.{Contents, head_of, size_of, packet_at, next_head, next_size, stop, with_front, cuts, read}
-use Rattle.vp_ivf.specs.Laws.{IsHeadIn, IsCut, ComesWith, MayGrow, IsEndedBy, KeepsLaws, ObeysLaws, IsDetermined, AreBytes}
+use Rattle.vp_ivf.specs.Ivf.{Contents, parsed_ivf_head, packet_size, packet_at, next_head, next_size, stop, with_front, cuts, read_file}
+use Rattle.vp_ivf.specs.Laws.{IsHeadIn, IsCut, ComesWith, MayGrow, IsReadingEndedBy, KeepsLaws, ObeysLaws, IsDetermined, AreFileBytes}
 use Rattle.vp_ivf.proofs.Cuts.{cuts-whole, cuts-stop, cuts-fault}
 use Rattle.vp_ivf.proofs.Faithful.{cuts-faithful}
 use Rattle.vp_ivf.proofs.Few.{cuts-head, none_whole, short_head}
@@ -23,7 +23,7 @@ head_is l a b h long first second = rw (first, second) (grind (arith, nat_tests)
 
 next_head-good : (b : List ℕ) (h : IvfHead) → IsHeadIn b h → next_head b ≡ Ok (Some h)
 unfolding next_head
-next_head-good b h p = rw p.3 (head_is (length b) (starts_with nat_eq b (codes "DKIF")) (starts_with nat_eq (drop 8 b) (codes "VP80")) (head_of b) p.0 p.1 p.2)
+next_head-good b h p = rw p.3 (head_is (length b) (starts_with nat_eq b (codes "DKIF")) (starts_with nat_eq (drop 8 b) (codes "VP80")) (parsed_ivf_head b) p.0 p.1 p.2)
 
 next_head-short : (b : List ℕ) → length b < 32 → next_head b ≡ Ok None
 unfolding next_head
@@ -58,7 +58,7 @@ next_size-many : (max n : ℕ) (b : List ℕ) → n ≡ 0 → 12 ≤ length b �
 unfolding next_size
 next_size-many max n b none long = rw none (grind (arith, nat_tests))
 
-next_size-large : (max n : ℕ) (b : List ℕ) → 1 ≤ n → 12 ≤ length b → max < size_of b → next_size max n b ≡ Err PacketTooLarge
+next_size-large : (max n : ℕ) (b : List ℕ) → 1 ≤ n → 12 ≤ length b → max < packet_size b → next_size max n b ≡ Err PacketTooLarge
 unfolding next_size
 next_size-large max zero b one long large = absurd (omega arith)
 next_size-large max (suc n) b one long large = grind (arith, nat_tests)
@@ -74,24 +74,24 @@ comes_next max n b h Ended e = absurd (grind (arith, nat_tests))
 
 -- ---- cuts end as the rest shows
 
-ended_front : (max : ℕ) (front : List Packet) (r : Contents) (fault : Option FileFault) → IsEndedBy max r fault → IsEndedBy max (with_front front r) fault
+ended_front : (max : ℕ) (front : List Packet) (r : Contents) (fault : Option FileFault) → IsReadingEndedBy max r fault → IsReadingEndedBy max (with_front front r) fault
 ended_front max front r None p = p
 ended_front max front r (Some f) p = (shows_front f max front r p.0, p.1)
 
-ended_none : (h : IvfHead) (max : ℕ) (b : List ℕ) (r : Result (Option ℕ) FileFault) → next_size max 0 b ≡ r → IsEndedBy max (cuts (Some h) max 0 b) (cuts (Some h) max 0 b).fault
+ended_none : (h : IvfHead) (max : ℕ) (b : List ℕ) (r : Result (Option ℕ) FileFault) → next_size max 0 b ≡ r → IsReadingEndedBy max (cuts (Some h) max 0 b) (cuts (Some h) max 0 b).fault
 ended_none h max b (Err f) e = rw (cuts-fault (Some h) max 0 b f e) (shows_next max 0 b (Some h) f e, comes_next max 0 b h f e)
 ended_none h max b (Ok None) e = rw (cuts-stop (Some h) max 0 b e) (grows h max 0 b e)
 ended_none h max b (Ok (Some s)) e = absurd (none_whole max b s e)
 
 ended_more : (h : IvfHead) (max n : ℕ) (b : List ℕ) (r : Result (Option ℕ) FileFault) → next_size max (suc n) b ≡ r
-    → ((c : List ℕ) → IsEndedBy max (cuts (Some h) max n c) (cuts (Some h) max n c).fault)
-    → IsEndedBy max (cuts (Some h) max (suc n) b) (cuts (Some h) max (suc n) b).fault
+    → ((c : List ℕ) → IsReadingEndedBy max (cuts (Some h) max n c) (cuts (Some h) max n c).fault)
+    → IsReadingEndedBy max (cuts (Some h) max (suc n) b) (cuts (Some h) max (suc n) b).fault
 ended_more h max n b (Err f) e later = rw (cuts-fault (Some h) max (suc n) b f e) (shows_next max (suc n) b (Some h) f e, comes_next max (suc n) b h f e)
 ended_more h max n b (Ok None) e later = rw (cuts-stop (Some h) max (suc n) b e) (grows h max (suc n) b e)
 ended_more h max n b (Ok (Some s)) e later =
     rw (cuts-whole (Some h) max n b s e) (ended_front max (packet_at s b ∷ []) (cuts (Some h) max n (drop (12 + s) b)) _ (later (drop (12 + s) b)))
 
-cuts-ended : (h : IvfHead) (max n : ℕ) (b : List ℕ) → IsEndedBy max (cuts (Some h) max n b) (cuts (Some h) max n b).fault
+cuts-ended : (h : IvfHead) (max n : ℕ) (b : List ℕ) → IsReadingEndedBy max (cuts (Some h) max n b) (cuts (Some h) max n b).fault
 cuts-ended h max zero b = ended_none h max b (next_size max 0 b) refl
 cuts-ended h max (suc n) b = ended_more h max n b (next_size max (suc n) b) refl (λ c. cuts-ended h max n c)
 
@@ -99,7 +99,7 @@ cuts-ended h max (suc n) b = ended_more h max n b (next_size max (suc n) b) refl
 
 head_in : (b : List ℕ) (h : IvfHead) → next_head b ≡ Ok (Some h) → IsHeadIn b h
 unfolding next_head
-head_in b h e = head_good (length b) (starts_with nat_eq b (codes "DKIF")) (starts_with nat_eq (drop 8 b) (codes "VP80")) (head_of b) h _ e refl
+head_in b h e = head_good (length b) (starts_with nat_eq b (codes "DKIF")) (starts_with nat_eq (drop 8 b) (codes "VP80")) (parsed_ivf_head b) h _ e refl
   where
     head_good : (l : ℕ) (x y : Bool) (g h : IvfHead) (r : Result (Option IvfHead) FileFault)
         → cond (nat_lt l 32) (Ok None) (cond (not x) (Err Signature) (cond (not y) (Err Codec) (Ok (Some g)))) ≡ r → r ≡ Ok (Some h)
@@ -117,16 +117,16 @@ comes_head b PacketTooLarge e = absurd (grind (arith, nat_tests))
 comes_head b Torn e = absurd (grind (arith, nat_tests))
 comes_head b Ended e = absurd (grind (arith, nat_tests))
 
-cut_is : (max n : ℕ) (b : List ℕ) (r : Result (Option IvfHead) FileFault) → next_head b ≡ r → AreBytes b → IsCut b (read max n b).head (read max n b).packets (read max n b).rest
-unfolding read
+cut_is : (max n : ℕ) (b : List ℕ) (r : Result (Option IvfHead) FileFault) → next_head b ≡ r → AreFileBytes b → IsCut b (read_file max n b).head (read_file max n b).packets (read_file max n b).rest
+unfolding read_file
 cut_is max n b (Err f) e small = rw e (refl, refl)
 cut_is max n b (Ok None) e small = rw e (refl, refl)
 cut_is max n b (Ok (Some h)) e small =
-    let rest : AreBytes (drop 32 b) = λ i. rw (get_or-drop 32 b i 0) (small (32 + i)) in
+    let rest : AreFileBytes (drop 32 b) = λ i. rw (get_or-drop 32 b i 0) (small (32 + i)) in
     rw (e, cuts-head (Some h) max n (drop 32 b)) (head_in b h e, sym (cuts-faithful (Some h) max n (drop 32 b) rest))
 
-read_ended : (max n : ℕ) (b : List ℕ) (r : Result (Option IvfHead) FileFault) → next_head b ≡ r → IsEndedBy max (read max n b) (read max n b).fault
-unfolding read
+read_ended : (max n : ℕ) (b : List ℕ) (r : Result (Option IvfHead) FileFault) → next_head b ≡ r → IsReadingEndedBy max (read_file max n b) (read_file max n b).fault
+unfolding read_file
 read_ended max n b (Err f) e = rw e (head_shows max n b f (next_head-fault b f e), comes_head b f e)
 read_ended max n b (Ok None) e = rw e (short_head b e)
 read_ended max n b (Ok (Some h)) e = rw e (cuts-ended h max n (drop 32 b))
@@ -142,10 +142,10 @@ obeys_laws max n b small = record {
 -- ---- nothing else does
 
 -- what is cut at the rest
-rest_is : (h : IvfHead) (max : ℕ) (r : Contents) → r.head ≡ Some h → IsEndedBy max r r.fault → cuts (Some h) max r.left r.rest ≡ stop (Some h) r.left r.fault r.rest
+rest_is : (h : IvfHead) (max : ℕ) (r : Contents) → r.head ≡ Some h → IsReadingEndedBy max r r.fault → cuts (Some h) max r.left r.rest ≡ stop (Some h) r.left r.fault r.rest
 rest_is h max r has ended = by_fault r.fault ended
   where
-    by_fault : (fault : Option FileFault) → IsEndedBy max r fault → cuts (Some h) max r.left r.rest ≡ stop (Some h) r.left fault r.rest
+    by_fault : (fault : Option FileFault) → IsReadingEndedBy max r fault → cuts (Some h) max r.left r.rest ≡ stop (Some h) r.left fault r.rest
     by_fault None p = cuts-stop (Some h) max r.left r.rest (next_size-grows h max r.left r.rest (rw has at p))
     by_fault (Some Signature) p = absurd (none_some (sym has ∙ p.1))
     by_fault (Some Codec) p = absurd (none_some (sym has ∙ p.1))
@@ -157,16 +157,16 @@ rest_is h max r has ended = by_fault r.fault ended
 -- with a head
 headed : (max n : ℕ) (b : List ℕ) (h : IvfHead) (packets : List Packet) (left : ℕ) (fault : Option FileFault) (rest : List ℕ)
     → KeepsLaws max n b (record { head = Some h; packets = packets; left = left; fault = fault; rest = rest })
-    → record { head = Some h; packets = packets; left = left; fault = fault; rest = rest } ≡ read max n b
-unfolding read
+    → record { head = Some h; packets = packets; left = left; fault = fault; rest = rest } ≡ read_file max n b
+unfolding read_file
 headed max n b h packets left fault rest p =
     let e : n - length packets ≡ left = omega (arith, p.count) in
     let r : Contents = record { head = Some h; packets = packets; left = left; fault = fault; rest = rest } in
     rw (next_head-good b h p.cut.0, p.cut.1, cuts-before (Some h) max n packets rest p.fits (omega (arith, p.count)), e, rest_is h max r refl p.ended, append-nil packets) refl
 
 -- without one
-headless_by : (max n : ℕ) (b : List ℕ) (fault : Option FileFault) → IsEndedBy max (stop None n fault b) fault → read max n b ≡ stop None n fault b
-unfolding read
+headless_by : (max n : ℕ) (b : List ℕ) (fault : Option FileFault) → IsReadingEndedBy max (stop None n fault b) fault → read_file max n b ≡ stop None n fault b
+unfolding read_file
 headless_by max n b None p = rw (next_head-short b p) refl
 headless_by max n b (Some Signature) p = rw (next_head-signature b p.0.0 p.0.1) refl
 headless_by max n b (Some Codec) p = rw (next_head-codec b p.0.0 p.0.1 p.0.2) refl
@@ -177,7 +177,7 @@ headless_by max n b (Some Ended) p = absurd p.0
 
 headless : (max n : ℕ) (b : List ℕ) (packets : List Packet) (left : ℕ) (fault : Option FileFault) (rest : List ℕ)
     → KeepsLaws max n b (record { head = None; packets = packets; left = left; fault = fault; rest = rest })
-    → record { head = None; packets = packets; left = left; fault = fault; rest = rest } ≡ read max n b
+    → record { head = None; packets = packets; left = left; fault = fault; rest = rest } ≡ read_file max n b
 headless max n b packets left fault rest p =
     let none : packets ≡ [] = p.cut.0 in
     let whole : rest ≡ b = p.cut.1 in
@@ -186,7 +186,7 @@ headless max n b packets left fault rest p =
 
 by_head : (max n : ℕ) (b : List ℕ) (head : Option IvfHead) (packets : List Packet) (left : ℕ) (fault : Option FileFault) (rest : List ℕ)
     → KeepsLaws max n b (record { head = head; packets = packets; left = left; fault = fault; rest = rest })
-    → record { head = head; packets = packets; left = left; fault = fault; rest = rest } ≡ read max n b
+    → record { head = head; packets = packets; left = left; fault = fault; rest = rest } ≡ read_file max n b
 by_head max n b None packets left fault rest p = headless max n b packets left fault rest p
 by_head max n b (Some h) packets left fault rest p = headed max n b h packets left fault rest p
 

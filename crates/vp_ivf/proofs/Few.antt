@@ -7,7 +7,7 @@ use Rattle.vp_ivf.specs.declared.packet.Packet.{Packet}
 use Rattle.vp_ivf.specs.declared.packet.IvfHead.{IvfHead}
 use Rattle.vp_ivf.specs.declared.fault.FileFault.{FileFault}
 use Rattle.vp_ivf.specs.declared.fault.FileFault.TheVariants.{PacketTooLarge}
-use Rattle.vp_ivf.specs.Ivf.{Contents, size_of, next_size, next_head, cuts, read, read_from, with_front, stop, resume, resume_at}
+use Rattle.vp_ivf.specs.Ivf.{Contents, packet_size, next_size, next_head, cuts, read_file, read_from, with_front, stop, resume, resume_at}
 use Rattle.vp_ivf.specs.Reader.{IsSettled}
 use Rattle.vp_ivf.proofs.Cuts.{cuts-whole, cuts-stop, cuts-fault}
 use Rattle.vp_ivf.proofs.Append.{number-append, next_size-whole, read-append, cuts-append, next_head-header}
@@ -30,8 +30,8 @@ settles max r e = λ none.
     let empty : later.packets ≡ [] = nothing_joined r.packets later.packets (ap (λ x. x.packets) same) in
     rw (← append-nil r.rest) (made_of later _ _ _ _ _ (sym (ap (λ x. x.head) same)) empty (sym (ap (λ x. x.left) same)) (sym (ap (λ x. x.fault) same) ∙ none) (sym (ap (λ x. x.rest) same) ∙ sym (append-nil r.rest)))
 
-pub read-settled : (max n : ℕ) (b : List ℕ) → IsSettled max (read max n b)
-read-settled max n b = settles max (read max n b) (sym (ap (read max n) (append-nil b)) ∙ read-append max n b [])
+pub read-settled : (max n : ℕ) (b : List ℕ) → IsSettled max (read_file max n b)
+read-settled max n b = settles max (read_file max n b) (sym (ap (read_file max n) (append-nil b)) ∙ read-append max n b [])
 
 pub cuts-settled : (h : IvfHead) (max n : ℕ) (b : List ℕ) → IsSettled max (cuts (Some h) max n b)
 cuts-settled h max n b = settles max (cuts (Some h) max n b) (sym (ap (cuts (Some h) max n) (append-nil b)) ∙ cuts-append h max n b [])
@@ -72,8 +72,8 @@ front_step l m max size s e le = grind (arith, nat_tests)
 next_size-front : (max n : ℕ) (xs ys : List ℕ) (s : ℕ) → next_size max (suc n) (xs ++ ys) ≡ Ok (Some s) → 12 + s ≤ length xs → next_size max (suc n) xs ≡ Ok (Some s)
 unfolding next_size
 next_size-front max n xs ys s e le =
-    let same : size_of (xs ++ ys) ≡ size_of xs = number-append 0 4 xs ys (omega arith) in
-    front_step (length xs) (length ys) max (size_of xs) s (rw (length-append xs ys, same) at e) le
+    let same : packet_size (xs ++ ys) ≡ packet_size xs = number-append 0 4 xs ys (omega arith) in
+    front_step (length xs) (length ys) max (packet_size xs) s (rw (length-append xs ys, same) at e) le
 
 not_empty : {X : Type 0} {x : X} {xs ys : List X} → ys ≡ [] → ys ≡ x ∷ xs → ⊥
 not_empty a b = cc
@@ -119,16 +119,16 @@ some_none : {A : Type 0} {x : A} → Some x ≡ None → ⊥
 some_none e = cc
 
 -- where the head isn't known, less than the head is there
-no_head : (max n : ℕ) (b : List ℕ) (r : Result (Option IvfHead) FileFault) → next_head b ≡ r → read max n b ≡ stop None n None b → length b < 32
-unfolding read
+no_head : (max n : ℕ) (b : List ℕ) (r : Result (Option IvfHead) FileFault) → next_head b ≡ r → read_file max n b ≡ stop None n None b → length b < 32
+unfolding read_file
 no_head max n b (Err f) e idle = let clash = rw e at (ap (λ x. x.fault) idle) in absurd (some_none clash)
 no_head max n b (Ok None) e idle = short_head b e
 no_head max n b (Ok (Some h)) e idle =
     let clash = rw e at (ap (λ x. x.head) idle) in
     absurd (some_none (sym (cuts-head (Some h) max n (drop 32 b)) ∙ clash))
 
-few_head : (max n : ℕ) (xs ys : List ℕ) (r : Result (Option IvfHead) FileFault) → next_head (xs ++ ys) ≡ r → length xs < 32 → length (read max n (xs ++ ys)).packets ≤ length ys / 12 + 1
-unfolding read
+few_head : (max n : ℕ) (xs ys : List ℕ) (r : Result (Option IvfHead) FileFault) → next_head (xs ++ ys) ≡ r → length xs < 32 → length (read_file max n (xs ++ ys)).packets ≤ length ys / 12 + 1
+unfolding read_file
 few_head max n xs ys (Err f) e short = rw e (omega arith)
 few_head max n xs ys (Ok None) e short = rw e (omega arith)
 few_head max n xs ys (Ok (Some h)) e short =

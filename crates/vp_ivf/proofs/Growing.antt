@@ -4,7 +4,7 @@ use Rattle.std.proofs.lemmas.List.{append-nil}
 use Rattle.vp_ivf.specs.declared.packet.Packet.{Packet}
 use Rattle.vp_ivf.specs.declared.packet.IvfHead.{IvfHead}
 use Rattle.vp_ivf.specs.declared.fault.FileFault.{FileFault}
-use Rattle.vp_ivf.specs.Ivf.{Contents, read, read_from, resume_at}
+use Rattle.vp_ivf.specs.Ivf.{Contents, read_file, read_from, resume_at}
 use Rattle.vp_ivf.specs.Laws.{IsReadInPieces, KeepsPackets, KeepsHead, KeepsFault}
 use Rattle.vp_ivf.proofs.Append.{read-append}
 use Rattle.vp_ivf.proofs.Few.{cuts-head}
@@ -19,7 +19,7 @@ later_packets max (Some f) r more = ([], sym (append-nil r.packets))
 
 pub keeps_packets : KeepsPackets
 keeps_packets max n b more =
-    let whole = read max n b in
+    let whole = read_file max n b in
     let next = later_packets max whole.fault whole more in
     (next.0, ap (λ (r : Contents). r.packets) (read-append max n b more) ∙ next.1)
 
@@ -33,10 +33,10 @@ kept_head max (Some f) r more h e = e
 
 pub keeps_head : KeepsHead
 keeps_head max n b more h e =
-    let whole = read max n b in
+    let whole = read_file max n b in
     ap (λ (r : Contents). r.head) (read-append max n b more) ∙ kept_head max whole.fault whole more h e
 
 pub keeps_fault : KeepsFault
 keeps_fault max n b more f e =
-    let whole = read max n b in
+    let whole = read_file max n b in
     read-append max n b more ∙ ap (λ (g : Option FileFault). resume_at g max whole more) e

@@ -5,18 +5,18 @@ use Rattle.vp_ivf.specs.declared.packet.Packet.{Packet}
 use Rattle.vp_ivf.specs.declared.packet.IvfHead.{IvfHead}
 use Rattle.vp_ivf.specs.declared.fault.FileFault.{FileFault}
 use Rattle.vp_ivf.specs.declared.cutting.Cutting.{Cutting}
-use Rattle.vp_ivf.specs.Ivf.{Contents, read, read_from, with_front, resume, resume_at, next_head, stop}
-use Rattle.vp_ivf.specs.Cutting.{reading_of}
-use Rattle.vp_ivf.specs.Reader.{State, History, StandsFor, without, with_piece, start, refusal, refusal_at, IsSettled}
+use Rattle.vp_ivf.specs.Ivf.{Contents, read_file, read_from, with_front, resume, resume_at, next_head, stop}
+use Rattle.vp_ivf.specs.Cutting.{contents_of_cutting}
+use Rattle.vp_ivf.specs.Reader.{ReaderState, ReaderHistory, IsReaderAfter, without_packets, with_reader_piece, empty_reader_history, refusal, refusal_at, IsSettled}
 use Rattle.vp_ivf.proofs.Append.{read-append}
 use Rattle.vp_ivf.proofs.Few.{few, read_from-settled}
 
-pub stands_first : (max limit : ℕ) → StandsFor (record { max = max; limit = limit; reading = record { head = None; packets = []; left = limit; fault = None; rest = [] }; ended = false }) start
-unfolding read next_head
+pub stands_first : (max limit : ℕ) → IsReaderAfter (record { max = max; limit = limit; reading = record { head = None; packets = []; left = limit; fault = None; rest = [] }; ended = false }) empty_reader_history
+unfolding read_file next_head
 stands_first max limit = record { taken = omega arith; reading = refl; ended = refl }
 
 -- packets that were taken make no difference to how reading goes on
-without-resume_at : (max t : ℕ) (f : Option FileFault) (r : Contents) (more : List ℕ) → t ≤ length r.packets → resume_at f max (without t r) more ≡ without t (resume_at f max r more)
+without-resume_at : (max t : ℕ) (f : Option FileFault) (r : Contents) (more : List ℕ) → t ≤ length r.packets → resume_at f max (without_packets t r) more ≡ without_packets t (resume_at f max r more)
 without-resume_at max t None r more le = rw (drop-append-le t r.packets (read_from r.head max r.left (r.rest ++ more)).packets le) refl
 without-resume_at max t (Some f) r more le = refl
 
@@ -24,12 +24,12 @@ packets-resume_at : (max : ℕ) (f : Option FileFault) (r : Contents) (more : Li
 packets-resume_at max None r more = simp length-append (omega arith)
 packets-resume_at max (Some f) r more = omega arith
 
-pub stands_fed : (max limit : ℕ) (r new : Contents) (ended : Bool) (h : History) (piece : List ℕ)
+pub stands_fed : (max limit : ℕ) (r new : Contents) (ended : Bool) (h : ReaderHistory) (piece : List ℕ)
     → new ≡ resume max r piece
-    → StandsFor (record { max = max; limit = limit; reading = r; ended = ended }) h
-    → StandsFor (record { max = max; limit = limit; reading = new; ended = ended }) (with_piece h piece)
+    → IsReaderAfter (record { max = max; limit = limit; reading = r; ended = ended }) h
+    → IsReaderAfter (record { max = max; limit = limit; reading = new; ended = ended }) (with_reader_piece h piece)
 stands_fed max limit r new ended h piece e s =
-    let whole = read max limit h.fed in
+    let whole = read_file max limit h.fed in
     let le : h.taken ≤ length whole.packets = s.taken in
     let more : length whole.packets ≤ length (resume max whole piece).packets = packets-resume_at max whole.fault whole piece in
     record {
@@ -43,7 +43,7 @@ pub fed_reading : (head : Option IvfHead) (max left : ℕ) (packets newer : List
     → all ≡ rest ++ piece → c.used ≤ length all → kept ≡ length all - c.used
     → turned ≡ drop c.used all ++ take c.used all
     → newer ≡ packets ++ c.packets.items
-    → reading_of c all ≡ read_from head max left all
+    → contents_of_cutting c all ≡ read_from head max left all
     → record { head = c.head; packets = newer; left = c.left; fault = c.fault; rest = take kept turned } ≡ resume_at None max (record { head = head; packets = packets; left = left; fault = None; rest = rest }) piece
 fed_reading head max left packets newer rest piece all turned c kept is_all le is_kept t n r =
     let k : length (drop c.used all) ≡ kept = omega (arith, length-drop c.used all) in
@@ -54,7 +54,7 @@ pub no_fault : (f : Option FileFault) (ended : Bool) → refusal_at f ended ≡ 
 no_fault None ended e = refl
 no_fault (Some f) ended e = cc
 
-pub reading_taken : (old : State) (max limit : ℕ) (r new : Contents) (ended : Bool) (piece : List ℕ)
+pub reading_taken : (old : ReaderState) (max limit : ℕ) (r new : Contents) (ended : Bool) (piece : List ℕ)
     → record { max = max; limit = limit; reading = r; ended = ended } ≡ old
     → refusal old ≡ None
     → new ≡ resume_at None max r piece
@@ -64,24 +64,24 @@ reading_taken old max limit r new ended piece is calm e =
     let none = no_fault r.fault ended calm_here in
     rw (← is) (ap (λ (x : Contents). record { max = max; limit = limit; reading = x; ended = ended }) (e ∙ sym (ap (λ f. resume_at f max r piece) none)))
 
-pub stands_resumed : (old new : State) (h : History) (piece : List ℕ)
+pub stands_resumed : (old new : ReaderState) (h : ReaderHistory) (piece : List ℕ)
     → new ≡ record old { reading = resume old.max old.reading piece }
-    → StandsFor old h → StandsFor new (with_piece h piece)
+    → IsReaderAfter old h → IsReaderAfter new (with_reader_piece h piece)
 stands_resumed old new h piece e s = rw e (stands_fed old.max old.limit old.reading (resume old.max old.reading piece) old.ended h piece refl s)
 
 -- what feeding leaves is settled
 pub fed_settled : (head : Option IvfHead) (max left : ℕ) (all turned : List ℕ) (c : Cutting) (kept : ℕ)
     → c.used ≤ length all → kept ≡ length all - c.used
     → turned ≡ drop c.used all ++ take c.used all
-    → reading_of c all ≡ read_from head max left all
+    → contents_of_cutting c all ≡ read_from head max left all
     → IsSettled max (record { head = c.head; packets = []; left = c.left; fault = c.fault; rest = take kept turned })
 fed_settled head max left all turned c kept le is_kept t r = λ none.
     let k : length (drop c.used all) ≡ kept = omega (arith, length-drop c.used all) in
     let back : take kept turned ≡ drop c.used all = rw t (take_at (drop c.used all) (take c.used all) kept k) in
     rw back (let P : Contents → Type 0 = λ x. IsSettled max x in subst P (sym r) (read_from-settled head max left all) none)
 
-pub settled_first : (max limit : ℕ) → read max limit [] ≡ stop None limit None []
-unfolding read next_head
+pub settled_first : (max limit : ℕ) → read_file max limit [] ≡ stop None limit None []
+unfolding read_file next_head
 settled_first max limit = refl
 
 -- what feeding adds
@@ -89,7 +89,7 @@ pub fed_few : (head : Option IvfHead) (max left : ℕ) (old newer : List Packet)
     → read_from head max left rest ≡ stop head left None rest
     → all ≡ rest ++ piece
     → newer ≡ old ++ c.packets.items
-    → reading_of c all ≡ read_from head max left all
+    → contents_of_cutting c all ≡ read_from head max left all
     → length newer ≤ length old + length piece / 12 + 1
 fed_few head max left old newer rest piece all c idle is_all n r =
     let bound = few head max left rest piece idle in

@@ -8,8 +8,8 @@ use Rattle.vp_ivf.specs.declared.packet.Packet.{Packet}
 use Rattle.vp_ivf.specs.declared.packet.IvfHead.{IvfHead}
 use Rattle.vp_ivf.specs.declared.fault.FileFault.{FileFault}
 use Rattle.vp_ivf.specs.declared.fault.FileFault.TheVariants.{Signature, Codec, TooMany, PacketTooLarge, Torn, Ended}
-use Rattle.vp_ivf.specs.Ivf.{Contents, size_of, head_of, packet_at, next_size, next_head, cuts, read, with_front, stop}
-use Rattle.vp_ivf.specs.Laws.{AreBytes, PacketFits, AllPacketsFit, Shows, CountsPackets, CutsWhatFits, ShowsFaults}
+use Rattle.vp_ivf.specs.Ivf.{Contents, packet_size, parsed_ivf_head, packet_at, next_size, next_head, cuts, read_file, with_front, stop}
+use Rattle.vp_ivf.specs.Laws.{AreFileBytes, PacketFits, AllPacketsFit, ShowsFileFault, CountsPackets, CutsWhatFits, ShowsFaults}
 use Rattle.vp_ivf.proofs.Cuts.{cuts-whole, cuts-stop, cuts-fault, next_size-size}
 use Rattle.vp_ivf.proofs.Append.{next_size-whole}
 use Rattle.vp_ivf.proofs.Few.{none_whole}
@@ -33,8 +33,8 @@ cuts-counts : (h : Option IvfHead) (max n : ℕ) (b : List ℕ) → (cuts h max 
 cuts-counts h max zero b = counts_none h max b (next_size max 0 b) refl
 cuts-counts h max (suc n) b = counts_more h max n b (next_size max (suc n) b) refl (λ c. cuts-counts h max n c)
 
-read_counts : (max n : ℕ) (b : List ℕ) (r : Result (Option IvfHead) FileFault) → next_head b ≡ r → (read max n b).left + length (read max n b).packets ≡ n
-unfolding read
+read_counts : (max n : ℕ) (b : List ℕ) (r : Result (Option IvfHead) FileFault) → next_head b ≡ r → (read_file max n b).left + length (read_file max n b).packets ≡ n
+unfolding read_file
 read_counts max n b (Err f) e = rw e (omega arith)
 read_counts max n b (Ok None) e = rw e (omega arith)
 read_counts max n b (Ok (Some h)) e = rw e (cuts-counts (Some h) max n (drop 32 b))
@@ -51,14 +51,14 @@ allowed_step l max size s h = grind (arith, nat_tests)
 
 next_size-allowed : (max n : ℕ) (b : List ℕ) (s : ℕ) → next_size max (suc n) b ≡ Ok (Some s) → s ≤ max
 unfolding next_size
-next_size-allowed max n b s h = allowed_step (length b) max (size_of b) s h
+next_size-allowed max n b s h = allowed_step (length b) max (packet_size b) s h
 
-packet_fits : (max n s : ℕ) (b : List ℕ) → AreBytes b → next_size max (suc n) b ≡ Ok (Some s) → PacketFits max (packet_at s b)
+packet_fits : (max n s : ℕ) (b : List ℕ) → AreFileBytes b → next_size max (suc n) b ≡ Ok (Some s) → PacketFits max (packet_at s b)
 packet_fits max n s b small e =
     let whole = next_size-whole max (suc n) b s e in
-    let is : s ≡ size_of b = next_size-size max (suc n) b s e in
+    let is : s ≡ packet_size b = next_size-size max (suc n) b s e in
     let long : length (take s (drop 12 b)) ≡ s = length-take-le s (drop 12 b) (omega (arith, whole, length-drop 12 b)) in
-    let small_rest : AreBytes (drop 4 b) = λ i. rw (get_or-drop 4 b i 0) (small (4 + i)) in
+    let small_rest : AreFileBytes (drop 4 b) = λ i. rw (get_or-drop 4 b i 0) (small (4 + i)) in
     record {
       time = little_from-lt 0 8 (drop 4 b) small_rest;
       size = rw (long, is) (little_from-lt 0 4 b small);
@@ -70,25 +70,25 @@ fit_none h max b (Err f) e = rw (cuts-fault h max 0 b f e) tt
 fit_none h max b (Ok None) e = rw (cuts-stop h max 0 b e) tt
 fit_none h max b (Ok (Some s)) e = absurd (none_whole max b s e)
 
-fit_more : (h : Option IvfHead) (max n : ℕ) (b : List ℕ) (r : Result (Option ℕ) FileFault) → next_size max (suc n) b ≡ r → AreBytes b
-    → ((c : List ℕ) → AreBytes c → AllPacketsFit max (cuts h max n c).packets)
+fit_more : (h : Option IvfHead) (max n : ℕ) (b : List ℕ) (r : Result (Option ℕ) FileFault) → next_size max (suc n) b ≡ r → AreFileBytes b
+    → ((c : List ℕ) → AreFileBytes c → AllPacketsFit max (cuts h max n c).packets)
     → AllPacketsFit max (cuts h max (suc n) b).packets
 fit_more h max n b (Err f) e small later = rw (cuts-fault h max (suc n) b f e) tt
 fit_more h max n b (Ok None) e small later = rw (cuts-stop h max (suc n) b e) tt
 fit_more h max n b (Ok (Some s)) e small later =
-    let small_rest : AreBytes (drop (12 + s) b) = λ i. rw (get_or-drop (12 + s) b i 0) (small (12 + s + i)) in
+    let small_rest : AreFileBytes (drop (12 + s) b) = λ i. rw (get_or-drop (12 + s) b i 0) (small (12 + s + i)) in
     rw (cuts-whole h max n b s e) (packet_fits max n s b small e, later (drop (12 + s) b) small_rest)
 
-cuts-fit : (h : Option IvfHead) (max n : ℕ) (b : List ℕ) → AreBytes b → AllPacketsFit max (cuts h max n b).packets
+cuts-fit : (h : Option IvfHead) (max n : ℕ) (b : List ℕ) → AreFileBytes b → AllPacketsFit max (cuts h max n b).packets
 cuts-fit h max zero b small = fit_none h max b (next_size max 0 b) refl
 cuts-fit h max (suc n) b small = fit_more h max n b (next_size max (suc n) b) refl small (λ c s. cuts-fit h max n c s)
 
-read_fits : (max n : ℕ) (b : List ℕ) (r : Result (Option IvfHead) FileFault) → next_head b ≡ r → AreBytes b → AllPacketsFit max (read max n b).packets
-unfolding read
+read_fits : (max n : ℕ) (b : List ℕ) (r : Result (Option IvfHead) FileFault) → next_head b ≡ r → AreFileBytes b → AllPacketsFit max (read_file max n b).packets
+unfolding read_file
 read_fits max n b (Err f) e small = rw e tt
 read_fits max n b (Ok None) e small = rw e tt
 read_fits max n b (Ok (Some h)) e small =
-    let small_rest : AreBytes (drop 32 b) = λ i. rw (get_or-drop 32 b i 0) (small (32 + i)) in
+    let small_rest : AreFileBytes (drop 32 b) = λ i. rw (get_or-drop 32 b i 0) (small (32 + i)) in
     rw e (cuts-fit (Some h) max n (drop 32 b) small_rest)
 
 pub cuts_what_fits : CutsWhatFits
@@ -109,16 +109,16 @@ faulty_suc l max size f r e is = (grind (arith, nat_tests), grind (arith, nat_te
 
 -- a fault at the cut is shown by the bytes there
 pub shows_next : (max n : ℕ) (b : List ℕ) (h : Option IvfHead) (f : FileFault) → next_size max n b ≡ Err f
-    → Shows f max (record { head = h; packets = []; left = n; fault = Some f; rest = b })
+    → ShowsFileFault f max (record { head = h; packets = []; left = n; fault = Some f; rest = b })
 unfolding next_size
 shows_next max zero b h f e =
     let is = faulty_zero (length b) f _ e refl in
     rw is.0 (refl, is.1)
 shows_next max (suc n) b h f e =
-    let is = faulty_suc (length b) max (size_of b) f _ e refl in
+    let is = faulty_suc (length b) max (packet_size b) f _ e refl in
     rw is.0 (omega arith, is.1, is.2)
 
-pub shows_front : (f : FileFault) (max : ℕ) (front : List Packet) (r : Contents) → Shows f max r → Shows f max (with_front front r)
+pub shows_front : (f : FileFault) (max : ℕ) (front : List Packet) (r : Contents) → ShowsFileFault f max r → ShowsFileFault f max (with_front front r)
 shows_front Signature max front r s = s
 shows_front Codec max front r s = s
 shows_front TooMany max front r s = s
@@ -130,7 +130,7 @@ same_fault : (g f : FileFault) → Some g ≡ Some f → g ≡ f
 same_fault g f e = cc
 
 shows_none : (h : IvfHead) (max : ℕ) (b : List ℕ) (f : FileFault) (r : Result (Option ℕ) FileFault) → next_size max 0 b ≡ r
-    → (cuts (Some h) max 0 b).fault ≡ Some f → Shows f max (cuts (Some h) max 0 b)
+    → (cuts (Some h) max 0 b).fault ≡ Some f → ShowsFileFault f max (cuts (Some h) max 0 b)
 shows_none h max b f (Err g) e met =
     let is = same_fault g f (rw (cuts-fault (Some h) max 0 b g e) at met) in
     rw (cuts-fault (Some h) max 0 b f (e ∙ ap Err is)) (shows_next max 0 b (Some h) f (e ∙ ap Err is))
@@ -138,8 +138,8 @@ shows_none h max b f (Ok None) e met = some_none (rw (cuts-stop (Some h) max 0 b
 shows_none h max b f (Ok (Some s)) e met = absurd (none_whole max b s e)
 
 shows_more : (h : IvfHead) (max n : ℕ) (b : List ℕ) (f : FileFault) (r : Result (Option ℕ) FileFault) → next_size max (suc n) b ≡ r
-    → ((c : List ℕ) → (cuts (Some h) max n c).fault ≡ Some f → Shows f max (cuts (Some h) max n c))
-    → (cuts (Some h) max (suc n) b).fault ≡ Some f → Shows f max (cuts (Some h) max (suc n) b)
+    → ((c : List ℕ) → (cuts (Some h) max n c).fault ≡ Some f → ShowsFileFault f max (cuts (Some h) max n c))
+    → (cuts (Some h) max (suc n) b).fault ≡ Some f → ShowsFileFault f max (cuts (Some h) max (suc n) b)
 shows_more h max n b f (Err g) e later met =
     let is = same_fault g f (rw (cuts-fault (Some h) max (suc n) b g e) at met) in
     rw (cuts-fault (Some h) max (suc n) b f (e ∙ ap Err is)) (shows_next max (suc n) b (Some h) f (e ∙ ap Err is))
@@ -148,7 +148,7 @@ shows_more h max n b f (Ok (Some s)) e later met =
     let whole = cuts-whole (Some h) max n b s e in
     rw whole (shows_front f max (packet_at s b ∷ []) (cuts (Some h) max n (drop (12 + s) b)) (later (drop (12 + s) b) (rw whole at met)))
 
-cuts-shows : (h : IvfHead) (max n : ℕ) (b : List ℕ) (f : FileFault) → (cuts (Some h) max n b).fault ≡ Some f → Shows f max (cuts (Some h) max n b)
+cuts-shows : (h : IvfHead) (max n : ℕ) (b : List ℕ) (f : FileFault) → (cuts (Some h) max n b).fault ≡ Some f → ShowsFileFault f max (cuts (Some h) max n b)
 cuts-shows h max zero b f met = shows_none h max b f (next_size max 0 b) refl met
 cuts-shows h max (suc n) b f met = shows_more h max n b f (next_size max (suc n) b) refl (λ c m. cuts-shows h max n c f m) met
 
@@ -168,7 +168,7 @@ head_faulty l false b h f r e is = let why : (f ≡ Signature) × (32 ≤ l) = (
 head_faulty l true false h f r e is = let why : (f ≡ Codec) × (32 ≤ l) = (grind (arith, nat_tests), grind (arith, nat_tests)) in rw why.0 (why.1, refl, refl)
 head_faulty l true true h f r e is = absurd (grind (arith, nat_tests))
 
-pub head_shows : (max n : ℕ) (b : List ℕ) (f : FileFault) → IsHeadFault (length b) (starts_with nat_eq b (codes "DKIF")) (starts_with nat_eq (drop 8 b) (codes "VP80")) f → Shows f max (stop None n (Some f) b)
+pub head_shows : (max n : ℕ) (b : List ℕ) (f : FileFault) → IsHeadFault (length b) (starts_with nat_eq b (codes "DKIF")) (starts_with nat_eq (drop 8 b) (codes "VP80")) f → ShowsFileFault f max (stop None n (Some f) b)
 head_shows max n b Signature s = s
 head_shows max n b Codec s = s
 head_shows max n b TooMany s = absurd s
@@ -178,11 +178,11 @@ head_shows max n b Ended s = s
 
 pub next_head-fault : (b : List ℕ) (f : FileFault) → next_head b ≡ Err f → IsHeadFault (length b) (starts_with nat_eq b (codes "DKIF")) (starts_with nat_eq (drop 8 b) (codes "VP80")) f
 unfolding next_head
-next_head-fault b f e = head_faulty (length b) (starts_with nat_eq b (codes "DKIF")) (starts_with nat_eq (drop 8 b) (codes "VP80")) (head_of b) f _ e refl
+next_head-fault b f e = head_faulty (length b) (starts_with nat_eq b (codes "DKIF")) (starts_with nat_eq (drop 8 b) (codes "VP80")) (parsed_ivf_head b) f _ e refl
 
 read_shows : (max n : ℕ) (b : List ℕ) (f : FileFault) (r : Result (Option IvfHead) FileFault) → next_head b ≡ r
-    → (read max n b).fault ≡ Some f → Shows f max (read max n b)
-unfolding read
+    → (read_file max n b).fault ≡ Some f → ShowsFileFault f max (read_file max n b)
+unfolding read_file
 read_shows max n b f (Err g) e met =
     let is = same_fault g f (rw e at met) in
     rw (e, is) (head_shows max n b f (next_head-fault b f (e ∙ ap Err is)))

@@ -6,7 +6,7 @@ use Rattle.byteorder.specs.Endian.{little_number, little_bytes}
 use Rattle.byteorder.specs.Numbers.{little_number-reads_back}
 use Rattle.vp_ivf.specs.declared.packet.Packet.{Packet}
 use Rattle.vp_ivf.specs.declared.packet.IvfHead.{IvfHead}
-use Rattle.vp_ivf.specs.Ivf.{Contents, size_of, packet_at, next_size, next_head, cuts, read, with_front}
+use Rattle.vp_ivf.specs.Ivf.{Contents, packet_size, packet_at, next_size, next_head, cuts, read_file, with_front}
 use Rattle.vp_ivf.specs.Reader.{finish_answer}
 use Rattle.vp_ivf.specs.Text.{head_text, packet_head_text, packet_text, packets_text}
 use Rattle.vp_ivf.specs.Laws.{PacketFits, AllPacketsFit, IsReadBack, EndsWell, IsHead}
@@ -16,7 +16,7 @@ length-packet_head : (size time : ℕ) → length (packet_head_text size time) �
 unfolding packet_head_text
 length-packet_head size time = refl
 
-size-packet : (time : ℕ) (bytes rest : List ℕ) → length bytes < 2 ^ 32 → size_of (packet_text time bytes ++ rest) ≡ length bytes
+size-packet : (time : ℕ) (bytes rest : List ℕ) → length bytes < 2 ^ 32 → packet_size (packet_text time bytes ++ rest) ≡ length bytes
 unfolding packet_head_text
 size-packet time bytes rest h = little_number-reads_back 4 (length bytes) (little_bytes 8 time ++ bytes ++ rest) h
 
@@ -83,7 +83,7 @@ unfolding head_text
 head_drop w h rate scale count rest = refl
 
 pub read_back : IsReadBack
-unfolding read
+unfolding read_file
 read_back max n h count ps g f le =
     rw (head-back h count (packets_text ps) g, head_drop h.w h.h h.rate h.scale count (packets_text ps)) (cuts-text (Some h) max n ps f le)
 

@@ -18,19 +18,19 @@ pub record Contents : Type 0 where
   pub rest : List ℕ
 
 -- what the 32 bytes of a file's head say
-abbrev pub head_of : List ℕ → IvfHead
-head_of b = record { w = little_number 2 (drop 12 b); h = little_number 2 (drop 14 b); rate = little_number 4 (drop 16 b); scale = little_number 4 (drop 20 b) }
+abbrev pub parsed_ivf_head : List ℕ → IvfHead
+parsed_ivf_head b = record { w = little_number 2 (drop 12 b); h = little_number 2 (drop 14 b); rate = little_number 4 (drop 16 b); scale = little_number 4 (drop 20 b) }
 
 -- the head, once its 32 bytes are there
 unfoldable pub next_head : List ℕ → Result (Option IvfHead) FileFault
 next_head b =
     if nat_lt (length b) 32 then Ok None else
     if not (starts_with nat_eq b (codes "DKIF")) then Err Signature else
-    if not (starts_with nat_eq (drop 8 b) (codes "VP80")) then Err Codec else Ok (Some (head_of b))
+    if not (starts_with nat_eq (drop 8 b) (codes "VP80")) then Err Codec else Ok (Some (parsed_ivf_head b))
 
 -- the size that a packet's head says
-abbrev pub size_of : List ℕ → ℕ
-size_of b = little_number 4 b
+abbrev pub packet_size : List ℕ → ℕ
+packet_size b = little_number 4 b
 
 -- the packet at the front, of this size: its time and its bytes, behind the 12 bytes of its head
 abbrev pub packet_at : ℕ → List ℕ → Packet
@@ -41,8 +41,8 @@ unfoldable pub next_size : ℕ → ℕ → List ℕ → Result (Option ℕ) File
 next_size max zero b = if nat_lt (length b) 12 then Ok None else Err TooMany
 next_size max (suc n) b =
     if nat_lt (length b) 12 then Ok None else
-    if nat_lt max (size_of b) then Err PacketTooLarge else
-    if nat_lt (length b) (12 + size_of b) then Ok None else Ok (Some (size_of b))
+    if nat_lt max (packet_size b) then Err PacketTooLarge else
+    if nat_lt (length b) (12 + packet_size b) then Ok None else Ok (Some (packet_size b))
 
 -- nothing more can be cut
 abbrev pub stop : Option IvfHead → ℕ → Option FileFault → List ℕ → Contents
@@ -61,7 +61,7 @@ after_next head (Ok (Some size)) n b later = with_front (packet_at size b ∷ []
 -- what is cut behind the head, where n packets may still come
 unfoldable pub cuts : Option IvfHead → ℕ → ℕ → List ℕ → Contents
 cuts head max zero b = after_next head (next_size max zero b) 0 b (stop head 0 None b)
-cuts head max (suc n) b = after_next head (next_size max (suc n) b) (suc n) b (cuts head max n (drop (12 + size_of b) b))
+cuts head max (suc n) b = after_next head (next_size max (suc n) b) (suc n) b (cuts head max n (drop (12 + packet_size b) b))
 
 abbrev pub after_head : Result (Option IvfHead) FileFault → ℕ → ℕ → List ℕ → Contents
 after_head (Err fault) max n b = stop None n (Some fault) b
@@ -69,12 +69,12 @@ after_head (Ok None) max n b = stop None n None b
 after_head (Ok (Some head)) max n b = cuts (Some head) max n (drop 32 b)
 
 -- a whole file, of at most n packets of at most max bytes each
-unfoldable pub read : ℕ → ℕ → List ℕ → Contents
-read max n b = after_head (next_head b) max n b
+unfoldable pub read_file : ℕ → ℕ → List ℕ → Contents
+read_file max n b = after_head (next_head b) max n b
 
 -- reading goes on behind a head that is known, or not yet
 abbrev pub read_from : Option IvfHead → ℕ → ℕ → List ℕ → Contents
-read_from None max n b = read max n b
+read_from None max n b = read_file max n b
 read_from (Some head) max n b = cuts (Some head) max n b
 
 -- more bytes come; behind a fault they are not read

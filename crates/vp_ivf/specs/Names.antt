@@ -3,10 +3,10 @@ use Rattle.std.specs.Prelude.{ℕ, List, codes}
 use Rattle.vp_ivf.specs.declared.fault.FileFault.{FileFault}
 use Rattle.vp_ivf.specs.declared.fault.FileFault.TheVariants.{Signature, Codec, TooMany, PacketTooLarge, Torn, Ended}
 
-abbrev pub name_of : FileFault → List ℕ
-name_of Signature = codes "Signature"
-name_of Codec = codes "Codec"
-name_of TooMany = codes "TooMany"
-name_of PacketTooLarge = codes "PacketTooLarge"
-name_of Torn = codes "Torn"
-name_of Ended = codes "Ended"
+abbrev pub file_fault_name : FileFault → List ℕ
+file_fault_name Signature = codes "Signature"
+file_fault_name Codec = codes "Codec"
+file_fault_name TooMany = codes "TooMany"
+file_fault_name PacketTooLarge = codes "PacketTooLarge"
+file_fault_name Torn = codes "Torn"
+file_fault_name Ended = codes "Ended"

@@ -6,50 +6,50 @@ use Rattle.vp_ivf.specs.declared.fault.FileFault.{FileFault}
 use Rattle.vp_ivf.specs.declared.fault.FileFault.TheVariants.{Ended, Torn}
 use Rattle.vp_ivf.specs.declared.fault.FeedError.{FeedError}
 use Rattle.vp_ivf.specs.declared.fault.FeedError.TheVariants.{Fault}
-use Rattle.vp_ivf.specs.Ivf.{Contents, read, read_from, stop}
+use Rattle.vp_ivf.specs.Ivf.{Contents, read_file, read_from, stop}
 
 -- a reader: the most bytes of a packet, the most packets of a file, what it knows of the file but for the packets
 -- that were taken, and whether the end was told
-pub record State : Type 0 where
+pub record ReaderState : Type 0 where
   pub max : ℕ
   pub limit : ℕ
   pub reading : Contents
   pub ended : Bool
 
 -- a reader that was fed nothing
-abbrev pub fresh : ℕ → ℕ → State
-fresh max limit = record { max = max; limit = limit; reading = stop None limit None []; ended = false }
+abbrev pub initial_reader : ℕ → ℕ → ReaderState
+initial_reader max limit = record { max = max; limit = limit; reading = stop None limit None []; ended = false }
 
 -- all bytes fed, how many packets were taken, and whether the end was told before a fault was met
-pub record History : Type 0 where
+pub record ReaderHistory : Type 0 where
   pub fed : List ℕ
   pub taken : ℕ
   pub ended : Bool
 
-abbrev pub start : History
-start = record { fed = []; taken = 0; ended = false }
+abbrev pub empty_reader_history : ReaderHistory
+empty_reader_history = record { fed = []; taken = 0; ended = false }
 
-abbrev pub with_piece : History → List ℕ → History
-with_piece h piece = record h { fed = h.fed ++ piece }
+abbrev pub with_reader_piece : ReaderHistory → List ℕ → ReaderHistory
+with_reader_piece h piece = record h { fed = h.fed ++ piece }
 
-abbrev pub with_taken : History → ℕ → History
+abbrev pub with_taken : ReaderHistory → ℕ → ReaderHistory
 with_taken h n = record h { taken = h.taken + n }
 
 -- a reading without its first n packets
-abbrev pub without : ℕ → Contents → Contents
-without n r = record r { packets = drop n r.packets }
+abbrev pub without_packets : ℕ → Contents → Contents
+without_packets n r = record r { packets = drop n r.packets }
 
 -- the reader is what this history makes of it
-pub record StandsFor (s : State) (h : History) : Type 0 where
-  pub taken : h.taken ≤ length (read s.max s.limit h.fed).packets
-  pub reading : s.reading ≡ without h.taken (read s.max s.limit h.fed)
+pub record IsReaderAfter (s : ReaderState) (h : ReaderHistory) : Type 0 where
+  pub taken : h.taken ≤ length (read_file s.max s.limit h.fed).packets
+  pub reading : s.reading ≡ without_packets h.taken (read_file s.max s.limit h.fed)
   pub ended : s.ended ≡ h.ended
 
 -- the packets of all bytes fed
-abbrev pub packets_of : State → History → List Packet
-packets_of s h = (read s.max s.limit h.fed).packets
+abbrev pub fed_packets : ReaderState → ReaderHistory → List Packet
+fed_packets s h = (read_file s.max s.limit h.fed).packets
 
-abbrev pub SameLimits : State → State → Type 0
+abbrev pub SameLimits : ReaderState → ReaderState → Type 0
 SameLimits old new = (new.max ≡ old.max) × (new.limit ≡ old.limit)
 
 -- what earlier calls refuse: the fault that was met, or the end that was told
@@ -58,7 +58,7 @@ refusal_at (Some fault) ended = Some fault
 refusal_at None true = Some Ended
 refusal_at None false = None
 
-abbrev pub refusal : State → Option FileFault
+abbrev pub refusal : ReaderState → Option FileFault
 refusal s = refusal_at s.reading.fault s.ended
 
 -- the answer where a fault was met, or none
@@ -71,11 +71,11 @@ abbrev pub ended_by : Option FileFault → Bool → Bool
 ended_by None ended = true
 ended_by (Some fault) ended = ended
 
-abbrev pub after_end : State → State
+abbrev pub after_end : ReaderState → ReaderState
 after_end s = record s { ended = ended_by s.reading.fault s.ended }
 
-abbrev pub with_end : History → Option FileFault → History
-with_end h fault = record h { ended = ended_by fault h.ended }
+abbrev pub with_reader_end : ReaderHistory → Option FileFault → ReaderHistory
+with_reader_end h fault = record h { ended = ended_by fault h.ended }
 
 -- the end is inside the head or a packet
 abbrev pub is_torn : Option IvfHead → List ℕ → Bool

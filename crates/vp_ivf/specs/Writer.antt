@@ -30,13 +30,13 @@ abbrev pub has_failed : {W : Type 0} → Writer W → Bool
 has_failed writer = writer.failed
 
 -- what a packet is refused with before anything is written: a device that failed, then a count that is reached
-abbrev pub refusal_at : Bool → ℕ → Option WriteFault
-refusal_at true left = Some Device
-refusal_at false zero = Some Count
-refusal_at false (suc left) = None
+abbrev pub write_refusal : Bool → ℕ → Option WriteFault
+write_refusal true left = Some Device
+write_refusal false zero = Some Count
+write_refusal false (suc left) = None
 
 abbrev pub packet_refusal : {W : Type 0} → Writer W → Option WriteFault
-packet_refusal writer = refusal_at writer.failed writer.left
+packet_refusal writer = write_refusal writer.failed writer.left
 
 -- what telling the end answers: a device that failed, then packets that didn't come
 abbrev pub finish_at : Bool → ℕ → Result (Unit {0}) WriteFault
@@ -61,8 +61,8 @@ begun before failures head count failed = record { before = before; failures = f
 abbrev pub with_packet : Written → Packet → Bool → Written
 with_packet h packet failed = record h { packets = h.packets ++ packet ∷ []; failed = failed }
 
-abbrev pub text_of : Written → List ℕ
-text_of h = file_text h.head h.count h.packets
+abbrev pub written_bytes : Written → List ℕ
+written_bytes h = file_text h.head h.count h.packets
 
 -- the text stands behind what stood there before; where the device failed, a front of it
 abbrev pub IsWrittenAt : Bool → Option (List ℕ) → Option (List ℕ) → List ℕ → Type 0
@@ -75,9 +75,9 @@ IsCountedAt false before now = now ≡ before
 IsCountedAt true before now = HasFailed before now
 
 -- the writer is what this history makes of it
-pub record StandsFor {W : Type 0} (contents : W → Option (List ℕ)) (writer : Writer W) (h : Written) : Type 0 where
+pub record IsWriterAfter {W : Type 0} (contents : W → Option (List ℕ)) (writer : Writer W) (h : Written) : Type 0 where
   pub fits : length h.packets ≤ h.count
   pub left : packets_left writer ≡ h.count - length h.packets
   pub failed : has_failed writer ≡ h.failed
-  pub bytes : IsWrittenAt h.failed h.before (device_contents contents writer) (text_of h)
+  pub bytes : IsWrittenAt h.failed h.before (device_contents contents writer) (written_bytes h)
   pub failures : IsCountedAt h.failed h.failures (device_failures writer)

@@ -1,7 +1,7 @@
 //! What is wrong with a file.
 
 ghost use Rattle.std.specs.Prelude.{Some};
-ghost use Rattle.vp_ivf.specs.Names.{name_of};
+ghost use Rattle.vp_ivf.specs.Names.{file_fault_name};
 
 use std::fmt;
 
@@ -24,7 +24,7 @@ pub enum FileFault {
 
 /// The fault's name, as it is told.
 impl fmt::Display for FileFault {
-    ghost output = { λ fault. Some (name_of fault) };
+    ghost output = { λ fault. Some (file_fault_name fault) };
 
     fn fmt<W: fmt::Write>(&self, f: &mut fmt::Formatter<W>) -> fmt::Result {
         f.write_str(match self {

@@ -1,9 +1,9 @@
 //! A reader that is fed a file in pieces.
 
 ghost use Rattle.std.specs.Prelude.{◌≡◌, ◌≢◌, ◌≤◌, ◌+◌, ◌/◌, length, None, Some, Err, slice_get, option_to_list};
-ghost use Rattle.vp_ivf.specs.Ivf.{read, resume};
+ghost use Rattle.vp_ivf.specs.Ivf.{read_file, resume};
 ghost use Rattle.vp_ivf.specs.declared.fault.FileFault.{FileFault};
-ghost use Rattle.vp_ivf.specs.Reader.{History, StandsFor, SameLimits, fresh, start, with_piece, with_taken, with_end, after_end, without, refusal, answer_by, finish_answer, packets_of};
+ghost use Rattle.vp_ivf.specs.Reader.{ReaderHistory, IsReaderAfter, SameLimits, initial_reader, empty_reader_history, with_reader_piece, with_taken, with_reader_end, after_end, without_packets, refusal, answer_by, finish_answer, fed_packets};
 
 use crate::cutting::{Cutting, read_on};
 use crate::fault::{FeedError, FileFault};
@@ -33,9 +33,9 @@ pub struct Reader {
 }
 
 impl Model for Reader {
-    ghost use Rattle.vp_ivf.specs.Reader.{State};
+    ghost use Rattle.vp_ivf.specs.Reader.{ReaderState};
 
-    ghost Value = { State };
+    ghost Value = { ReaderState };
 
     ghost view = { λ a. record {
       max = a.max;
@@ -52,8 +52,8 @@ impl Model for Reader {
 impl Reader {
     /// A reader that was fed nothing. Of the limits it keeps those on packets.
     pub fn new(alloc: Global, limits: Limits) -> Reader
-        ensures state { result ≡ fresh limits.packet_bytes limits.packets }
-        ensures stands { StandsFor result start }
+        ensures state { result ≡ initial_reader limits.packet_bytes limits.packets }
+        ensures stands { IsReaderAfter result empty_reader_history }
     {
         Reader {
             alloc,
@@ -71,8 +71,8 @@ impl Reader {
     /// What the file's head says, once it is whole and good.
     pub fn head(&self) -> Option<IvfHead>
         ensures value { result ≡ self.now.reading.head }
-        ensures head { (h : History) → StandsFor self.now h →
-            result ≡ (read self.now.max self.now.limit h.fed).head }
+        ensures head { (h : ReaderHistory) → IsReaderAfter self.now h →
+            result ≡ (read_file self.now.max self.now.limit h.fed).head }
     {
         self.head
     }
@@ -92,11 +92,11 @@ impl Reader {
     pub fn next_packet(&mut self) -> Option<Packet>
         ensures limits { SameLimits self.old self.new }
         ensures first { result ≡ slice_get self.old.reading.packets 0 }
-        ensures rest { self.new ≡ record self.old { reading = without 1 self.old.reading } }
-        ensures packet { (h : History) → StandsFor self.old h →
-            result ≡ slice_get (packets_of self.old h) h.taken }
-        ensures stands { (h : History) → StandsFor self.old h →
-            StandsFor self.new (with_taken h (length (option_to_list result))) }
+        ensures rest { self.new ≡ record self.old { reading = without_packets 1 self.old.reading } }
+        ensures packet { (h : ReaderHistory) → IsReaderAfter self.old h →
+            result ≡ slice_get (fed_packets self.old h) h.taken }
+        ensures stands { (h : ReaderHistory) → IsReaderAfter self.old h →
+            IsReaderAfter self.new (with_taken h (length (option_to_list result))) }
     {
         self.packets.pop_front()
     }
@@ -120,7 +120,7 @@ impl Reader {
         ensures reading { refusal self.old ≡ None → result ≢ Err FeedError.Memory →
             self.new ≡ record self.old { reading = resume self.old.max self.old.reading piece.now } }
         ensures stands { refusal self.old ≡ None → result ≢ Err FeedError.Memory →
-            (h : History) → StandsFor self.old h → StandsFor self.new (with_piece h piece.now) }
+            (h : ReaderHistory) → IsReaderAfter self.old h → IsReaderAfter self.new (with_reader_piece h piece.now) }
     {
         if let Some(fault) = self.refusal() {
             return Err(FeedError::Fault(fault));
@@ -164,8 +164,8 @@ impl Reader {
         ensures limits { SameLimits self.old self.new }
         ensures answer { result ≡ finish_answer self.old.reading }
         ensures state { self.new ≡ after_end self.old }
-        ensures stands { (h : History) → StandsFor self.old h →
-            StandsFor self.new (with_end h self.old.reading.fault) }
+        ensures stands { (h : ReaderHistory) → IsReaderAfter self.old h →
+            IsReaderAfter self.new (with_reader_end h self.old.reading.fault) }
     {
         if let Some(fault) = self.fault {
             return Err(fault);

@@ -4,7 +4,7 @@ ghost use Rattle.std.specs.Prelude.{◌≡◌, ◌≢◌, ◌<◌, ◌^◌, ◌+
 ghost use Rattle.std.specs.Io.KnownBytes.{Appends};
 ghost use Rattle.vp_base.specs.Counted.{counted_contents, counted_failures, AppendsFront, HasFailed};
 ghost use Rattle.vp_ivf.specs.Text.{head_text, packet_head_text, packet_text};
-ghost use Rattle.vp_ivf.specs.Writer.{Written, StandsFor, begun, with_packet, device_name, device_contents, device_failures, packets_left, has_failed, packet_refusal, refusal_at, finish_at};
+ghost use Rattle.vp_ivf.specs.Writer.{Written, IsWriterAfter, begun, with_packet, device_name, device_contents, device_failures, packets_left, has_failed, packet_refusal, write_refusal, finish_at};
 
 use byteorder::{ByteOrder, LittleEndian};
 use std::io::Write;
@@ -51,7 +51,7 @@ impl<'a, W: Write> Writer<'a, W> {
         ensures prefix { AppendsFront (counted_contents W.contents out.entry.now) (device_contents W.contents result)
             (head_text dim.w dim.h rate scale count) }
         ensures device { has_failed result ≡ true → HasFailed (counted_failures out.entry.now) (device_failures result) }
-        ensures stands { StandsFor W.contents result
+        ensures stands { IsWriterAfter W.contents result
             (begun (counted_contents W.contents out.entry.now) (counted_failures out.entry.now)
             (record { w = dim.w; h = dim.h; rate = rate; scale = scale }) count (has_failed result)) }
     {
@@ -86,10 +86,10 @@ impl<'a, W: Write> Writer<'a, W> {
             HasFailed (device_failures self.old) (device_failures self.new) }
 
         // The same of whole runs.
-        ensures refusal { (h : Written) → StandsFor W.contents self.old h →
-            packet_refusal self.old ≡ refusal_at h.failed (h.count - length h.packets) }
-        ensures stands { packet_refusal self.old ≡ None → (h : Written) → StandsFor W.contents self.old h →
-            StandsFor W.contents self.new (with_packet h (record { time = time; bytes = bytes.now }) (not (is_ok result))) }
+        ensures refusal { (h : Written) → IsWriterAfter W.contents self.old h →
+            packet_refusal self.old ≡ write_refusal h.failed (h.count - length h.packets) }
+        ensures stands { packet_refusal self.old ≡ None → (h : Written) → IsWriterAfter W.contents self.old h →
+            IsWriterAfter W.contents self.new (with_packet h (record { time = time; bytes = bytes.now }) (not (is_ok result))) }
     {
         if self.failed {
             return Err(WriteFault::Device);
@@ -110,7 +110,7 @@ impl<'a, W: Write> Writer<'a, W> {
     /// Tells the file's end. It writes nothing, and after `Count` packets may still come.
     pub fn finish(&self) -> Result<(), WriteFault>
         ensures answer { result ≡ finish_at (has_failed self.now) (packets_left self.now) }
-        ensures whole { (h : Written) → StandsFor W.contents self.now h →
+        ensures whole { (h : Written) → IsWriterAfter W.contents self.now h →
             result ≡ finish_at h.failed (h.count - length h.packets) }
     {
         if self.failed {

@@ -3,13 +3,13 @@ use Rattle.std.proofs.Common.{◌≡◌, ◌*◌, ◌≤◌, arith, ℤ, pos, ne
 use Rattle.std.proofs.lemmas.Int.{ints, clamps, unsigned_abs-mul}
 use Rattle.std.proofs.Math.Nat.{mul-le-mul_left}
 use lib.Signed.{shr_z}
-use Rattle.vp_lanes.specs.Lane.{clamp8}
+use Rattle.vp_lanes.specs.Lane.{clamp_to_i8}
 
 -- ---- ranges
 abbrev pub InByte : ℤ → Type 0
 InByte z = (negsuc 127 ≤ℤ z) × (z ≤ℤ pos 127)
 
-pub clamp8_in : (z : ℤ) → InByte (clamp8 z)
+pub clamp8_in : (z : ℤ) → InByte (clamp_to_i8 z)
 clamp8_in z = (omega (arith, ints, clamps), omega (arith, ints, clamps))
 
 pub eighth_in : (z : ℤ) → InByte z → InByte (shr_z z 8)

@@ -10,8 +10,8 @@ mod steps;
 
 use std::simd::prelude::*;
 pub use steps::{
-    above, difference, eighth, either, gap, half, larger, lowered, masked, pull, raised, share,
-    where_high, where_low,
+    difference, eighth, either, filter_value, half, lane_abs_diff, lane_max, lowered, masked,
+    raised, saturating_difference, weighted_filter_value, where_high, where_low,
 };
 
 /// The sixteen bytes from `at` on.

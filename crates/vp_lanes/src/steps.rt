@@ -5,96 +5,108 @@
 ghost use Rattle.std.specs.Prelude.{◌≡◌, ℕ, ◌+◌, ◌-◌, ◌*◌, ◌/◌, ◌≤◌, ◌<◌, ◌+ℤ◌, ◌-ℤ◌, ◌*ℤ◌, ◌==◌, ◌&&◌, pos, cond, slice_index, nat_le, nat_lt, min, max};
 ghost use Rattle.std.specs.Int.{abs_diff};
 ghost use lib.Signed.{shr_z};
-ghost use Rattle.vp_lanes.specs.Lane.{held, clamp8, to_byte};
+ghost use Rattle.vp_lanes.specs.Lane.{biased, clamp_to_i8, clamp_to_byte};
 
 use std::simd::prelude::*;
 
 /// The larger lane of two.
-pub fn larger(a: u8x16, b: u8x16) -> u8x16
+pub fn lane_max(a: u8x16, b: u8x16) -> u8x16
     ensures { (j : ℕ) → j < 16 → slice_index result j ≡ max (slice_index a j) (slice_index b j) }
 {
     a.simd_max(b)
 }
 
 /// How far the lanes of `x` are above those of `y`: 0 where they are not.
-pub fn above(x: u8x16, y: u8x16) -> u8x16
+pub fn saturating_difference(x: u8x16, y: u8x16) -> u8x16
     ensures { (j : ℕ) → j < 16 → slice_index result j ≡ slice_index x j - slice_index y j }
 {
     x.saturating_sub(y)
 }
 
 /// The lanes of `x` and `y` added: 255 where it would be more.
-pub fn sum(x: u8x16, y: u8x16) -> u8x16
+pub fn saturating_sum(x: u8x16, y: u8x16) -> u8x16
     ensures { (j : ℕ) → j < 16 → slice_index result j ≡ min (slice_index x j + slice_index y j) 255 }
 {
     x.saturating_add(y)
 }
 
 /// How far the lanes are apart, as the larger of both differences.
-pub fn gap(x: u8x16, y: u8x16) -> u8x16
+pub fn lane_abs_diff(x: u8x16, y: u8x16) -> u8x16
     ensures { (j : ℕ) → j < 16 → slice_index result j ≡ abs_diff (slice_index x j) (slice_index y j) }
 {
-    larger(above(x, y), above(y, x))
+    lane_max(saturating_difference(x, y), saturating_difference(y, x))
 }
 
 /// `x - y`, held to a signed byte.
 pub fn difference(x: u8x16, y: u8x16) -> u8x16
-    ensures { (j : ℕ) → j < 16 → held 128 result j ≡ clamp8 (pos (slice_index x j) -ℤ pos (slice_index y j)) }
+    ensures { (j : ℕ) → j < 16 → biased 128 result j ≡ clamp_to_i8 (pos (slice_index x j) -ℤ pos (slice_index y j)) }
 {
-    above(sum(u8x16::splat(128), above(x, y)), above(y, x))
+    saturating_difference(
+        saturating_sum(u8x16::splat(128), saturating_difference(x, y)),
+        saturating_difference(y, x),
+    )
 }
 
 /// `w` and three times `y - x`, held to a signed byte.
-pub fn pull(w: u8x16, x: u8x16, y: u8x16) -> u8x16
-    ensures { (j : ℕ) → j < 16 → held 128 result j ≡ clamp8 (held 128 w j +ℤ pos 3 *ℤ (pos (slice_index y j) -ℤ pos (slice_index x j))) }
+pub fn filter_value(w: u8x16, x: u8x16, y: u8x16) -> u8x16
+    ensures { (j : ℕ) → j < 16 → biased 128 result j ≡ clamp_to_i8 (biased 128 w j +ℤ pos 3 *ℤ (pos (slice_index y j) -ℤ pos (slice_index x j))) }
 {
-    let up = above(y, x);
-    let down = above(x, y);
-    let raised = sum(sum(sum(w, up), up), up);
-    above(above(above(raised, down), down), down)
+    let up = saturating_difference(y, x);
+    let down = saturating_difference(x, y);
+    let raised = saturating_sum(saturating_sum(saturating_sum(w, up), up), up);
+    saturating_difference(
+        saturating_difference(saturating_difference(raised, down), down),
+        down,
+    )
 }
 
 /// An eighth of `a + by`.
 pub fn eighth(a: u8x16, by: u8) -> u8x16
     requires { by ≤ 4 }
-    ensures value { (j : ℕ) → j < 16 → held 16 result j ≡ shr_z (clamp8 (held 128 a j +ℤ pos by)) 8 }
+    ensures value { (j : ℕ) → j < 16 → biased 16 result j ≡ shr_z (clamp_to_i8 (biased 128 a j +ℤ pos by)) 8 }
     ensures range { (j : ℕ) → j < 16 → slice_index result j < 32 }
 {
-    sum(a, u8x16::splat(by)) >> 3
+    saturating_sum(a, u8x16::splat(by)) >> 3
 }
 
 /// Half of `f`, rounded up.
 pub fn half(f: u8x16) -> u8x16
     requires { (j : ℕ) → j < 16 → slice_index f j < 32 }
-    ensures { (j : ℕ) → j < 16 → held 8 result j ≡ shr_z (held 16 f j +ℤ pos 1) 2 }
+    ensures { (j : ℕ) → j < 16 → biased 8 result j ≡ shr_z (biased 16 f j +ℤ pos 1) 2 }
 {
     (f + u8x16::splat(1)) >> 1
 }
 
 /// So many 128ths of `w`, rounded.
-pub fn share(w: u8x16, k: u8) -> u8x16
+pub fn weighted_filter_value(w: u8x16, k: u8) -> u8x16
     requires { k ≤ 27 }
-    ensures { (j : ℕ) → j < 16 → held k result j ≡ clamp8 (shr_z (held 128 w j *ℤ pos k +ℤ pos 63) 128) }
+    ensures { (j : ℕ) → j < 16 → biased k result j ≡ clamp_to_i8 (shr_z (biased 128 w j *ℤ pos k +ℤ pos 63) 128) }
 {
     ((w.cast::<u16>() * u16x16::splat(k as u16) + u16x16::splat(63)) >> 7).cast::<u8>()
 }
 
 /// `x + by`, held to a byte. The lanes of `x` are bytes: where 0 is added, they stay as they are.
 pub fn raised(x: u8x16, by: u8x16, held_by: u8) -> u8x16
-    ensures value { (j : ℕ) → j < 16 → slice_index result j ≡ to_byte (pos (slice_index x j) +ℤ held held_by by j) }
+    ensures value { (j : ℕ) → j < 16 → slice_index result j ≡ clamp_to_byte (pos (slice_index x j) +ℤ biased held_by by j) }
     ensures bytes { (j : ℕ) → j < 16 → slice_index x j < 256 }
 {
     let zero = u8x16::splat(held_by);
-    above(sum(x, above(by, zero)), above(zero, by))
+    saturating_difference(
+        saturating_sum(x, saturating_difference(by, zero)),
+        saturating_difference(zero, by),
+    )
 }
 
 /// `x - by`, held to a byte. The lanes of `x` are bytes: where 0 is taken, they stay as they are.
 pub fn lowered(x: u8x16, by: u8x16, held_by: u8) -> u8x16
-    ensures value { (j : ℕ) → j < 16 → slice_index result j ≡ to_byte (pos (slice_index x j) -ℤ held held_by by j) }
+    ensures value { (j : ℕ) → j < 16 → slice_index result j ≡ clamp_to_byte (pos (slice_index x j) -ℤ biased held_by by j) }
     ensures bytes { (j : ℕ) → j < 16 → slice_index x j < 256 }
 {
     let zero = u8x16::splat(held_by);
-    above(sum(x, above(zero, by)), above(by, zero))
+    saturating_difference(
+        saturating_sum(x, saturating_difference(zero, by)),
+        saturating_difference(by, zero),
+    )
 }
 
 /// 0 where a step over an edge is within the limit: `edge` is how far the pixels next to it are apart, `outer` those behind.
@@ -103,22 +115,25 @@ fn excess(edge: u8x16, outer: u8x16, limit: u8) -> u8x16
 {
     let half = outer >> 1;
     let most = u8x16::splat(limit);
-    larger(above(half, most), above(edge, above(most, half) >> 1))
+    lane_max(
+        saturating_difference(half, most),
+        saturating_difference(edge, saturating_difference(most, half) >> 1),
+    )
 }
 
 /// `w` where the mask of the line lets it be changed, else 0.
 pub fn masked(w: u8x16, edge: u8x16, outer: u8x16, limit: u8, most: u8x16, interior: u8) -> u8x16
-    ensures { (j : ℕ) → j < 16 → held 128 result j ≡ cond (nat_le (slice_index edge j * 2 + slice_index outer j / 2) limit && nat_le (slice_index most j) interior) (held 128 w j) (pos 0) }
+    ensures { (j : ℕ) → j < 16 → biased 128 result j ≡ cond (nat_le (slice_index edge j * 2 + slice_index outer j / 2) limit && nat_le (slice_index most j) interior) (biased 128 w j) (pos 0) }
 {
-    let rough = above(most, u8x16::splat(interior));
-    larger(excess(edge, outer, limit), rough)
+    let rough = saturating_difference(most, u8x16::splat(interior));
+    lane_max(excess(edge, outer, limit), rough)
         .simd_eq(u8x16::splat(0))
         .select(w, u8x16::splat(128))
 }
 
 /// `w` where the variance is high, else 0.
 pub fn where_high(w: u8x16, apart: u8x16, threshold: u8, held_by: u8) -> u8x16
-    ensures { (j : ℕ) → j < 16 → held held_by result j ≡ cond (nat_lt threshold (slice_index apart j)) (held held_by w j) (pos 0) }
+    ensures { (j : ℕ) → j < 16 → biased held_by result j ≡ cond (nat_lt threshold (slice_index apart j)) (biased held_by w j) (pos 0) }
 {
     apart
         .simd_gt(u8x16::splat(threshold))
@@ -127,7 +142,7 @@ pub fn where_high(w: u8x16, apart: u8x16, threshold: u8, held_by: u8) -> u8x16
 
 /// `w` where the variance is low, else 0.
 pub fn where_low(w: u8x16, apart: u8x16, threshold: u8, held_by: u8) -> u8x16
-    ensures { (j : ℕ) → j < 16 → held held_by result j ≡ cond (nat_lt threshold (slice_index apart j)) (pos 0) (held held_by w j) }
+    ensures { (j : ℕ) → j < 16 → biased held_by result j ≡ cond (nat_lt threshold (slice_index apart j)) (pos 0) (biased held_by w j) }
 {
     apart
         .simd_gt(u8x16::splat(threshold))
@@ -137,7 +152,7 @@ pub fn where_low(w: u8x16, apart: u8x16, threshold: u8, held_by: u8) -> u8x16
 /// The eighth `a` where the variance is high, else the share `b`.
 pub fn either(a: u8x16, b: u8x16, apart: u8x16, threshold: u8) -> u8x16
     requires { (j : ℕ) → j < 16 → slice_index a j < 32 }
-    ensures { (j : ℕ) → j < 16 → held 27 result j ≡ cond (nat_lt threshold (slice_index apart j)) (held 16 a j) (held 27 b j) }
+    ensures { (j : ℕ) → j < 16 → biased 27 result j ≡ cond (nat_lt threshold (slice_index apart j)) (biased 16 a j) (biased 27 b j) }
 {
     apart
         .simd_gt(u8x16::splat(threshold))

@@ -5,7 +5,7 @@ use Rattle.vp_base.specs.Raster.{Raster}
 use Rattle.vp_base.specs.Over.{over}
 use Rattle.vp_loop.specs.declared.lines.LineStep.{LineStep}
 use Rattle.vp_loop.specs.declared.strength.Level.{Level}
-use Rattle.vp_loop.specs.Edges.{Way, along, down, columns_of, rows_of, line_step, edge_lines, inner_edges, outer_step, inner_step, when, block_edges, block_filtered}
+use Rattle.vp_loop.specs.Edges.{Way, along, down, columns_of, rows_of, line_step, edge_lines, inner_edges, outer_step, inner_step, apply_if, block_edges, block_filtered}
 use Rattle.vp_loop.specs.Filtered.{colour_filtered}
 
 -- how far above a macroblock its lines may begin
@@ -35,7 +35,7 @@ module _ (P : (Raster → Raster) → Type 0) (same : P (λ p. p)) (next : (f g 
   holds-over (suc n) f each =
       next (λ p. over n f p) (f n) (holds-over n f (λ m below. each m (let i : m < suc n = omega arith in i))) (each n (omega arith))
 
-  pub holds-when : (b : Bool) (f : Raster → Raster) → (b ≡ true → P f) → P (λ p. when b f p)
+  pub holds-when : (b : Bool) (f : Raster → Raster) → (b ≡ true → P f) → P (λ p. apply_if b f p)
   holds-when true f a = a refl
   holds-when false f a = same
 
@@ -66,7 +66,7 @@ module _ (P : (Raster → Raster) → Type 0) (same : P (λ p. p)) (next : (f g 
         let big = fits.big in
         let columns = fits.columns in
         let left = fits.left in
-        next (λ p. when (nat_lt 0 x) (edge_lines along (outer_step level) size (x - 4) y) p) (λ p. when (nat_lt 0 level.inner) (inner_edges along (inner_step level) size x y) p)
+        next (λ p. apply_if (nat_lt 0 x) (edge_lines along (outer_step level) size (x - 4) y) p) (λ p. apply_if (nat_lt 0 level.inner) (inner_edges along (inner_step level) size x y) p)
         (holds-when (nat_lt 0 x) (edge_lines along (outer_step level) size (x - 4) y) (λ e. holds-along (outer_step level) size (x - 4) y (grind (arith, nat_tests)) fits.rows fits.begins))
         (holds-when (nat_lt 0 level.inner) (inner_edges along (inner_step level) size x y) (λ e. holds-inner_along (inner_step level) size x y fits.columns fits.rows fits.begins))
 
@@ -77,7 +77,7 @@ module _ (P : (Raster → Raster) → Type 0) (same : P (λ p. p)) (next : (f g 
         let rows = fits.rows in
         let high = fits.high in
         let begins = fits.begins in
-        next (λ p. when (nat_lt 0 y) (edge_lines down (outer_step level) size x (y - 4)) p) (λ p. when (nat_lt 0 level.inner) (inner_edges down (inner_step level) size x y) p)
+        next (λ p. apply_if (nat_lt 0 y) (edge_lines down (outer_step level) size x (y - 4)) p) (λ p. apply_if (nat_lt 0 level.inner) (inner_edges down (inner_step level) size x y) p)
         (holds-when (nat_lt 0 y) (edge_lines down (outer_step level) size x (y - 4)) (λ e. holds-down (outer_step level) size x (y - 4) fits.columns (grind (arith, nat_tests)) (omega arith)))
         (holds-when (nat_lt 0 level.inner) (inner_edges down (inner_step level) size x y) (λ e. holds-inner_down (inner_step level) size x y fits.columns fits.rows fits.begins))
 

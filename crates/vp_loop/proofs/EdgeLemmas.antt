@@ -5,7 +5,7 @@ use Rattle.vp_base.specs.Over.{over}
 use Rattle.vp_base.proofs.OverLemmas.{over-none, over-more, over-kept}
 use Rattle.vp_loop.specs.declared.lines.LineStep.{LineStep}
 use Rattle.vp_loop.specs.declared.strength.Level.{Level}
-use Rattle.vp_loop.specs.Edges.{Way, along, down, edge_lines, inner_edges, block_edges, block_filtered, when, outer_step, inner_step}
+use Rattle.vp_loop.specs.Edges.{Way, along, down, edge_lines, inner_edges, block_edges, block_filtered, apply_if, outer_step, inner_step}
 use Rattle.vp_loop.proofs.StepLemmas.{width-edge_lines, height-edge_lines}
 
 -- the first n of the edges inside a macroblock
@@ -45,7 +45,7 @@ pub height-first_edges : (way : Way) (step : LineStep) (n size x y : ℕ) (p : R
 height-first_edges = keeps_first (λ (q : Raster). q.height) height-edge_lines
 
 module _ {X : Type 0} (look : Raster → X) (keeps : (way : Way) (step : LineStep) (n x y : ℕ) (p : Raster) → look (edge_lines way step n x y p) ≡ look p) where
-  keeps_when : (b : Bool) (f : Raster → Raster) (p : Raster) → look (f p) ≡ look p → look (when b f p) ≡ look p
+  keeps_when : (b : Bool) (f : Raster → Raster) (p : Raster) → look (f p) ≡ look p → look (apply_if b f p) ≡ look p
   keeps_when true f p e = e
   keeps_when false f p e = refl
 
@@ -55,11 +55,11 @@ module _ {X : Type 0} (look : Raster → X) (keeps : (way : Way) (step : LineSte
   keeps_edges : (way : Way) (size : ℕ) (level : Level) (x y : ℕ) (p : Raster) → look (block_edges way size level x y p) ≡ look p
   unfolding block_edges
   keeps_edges along size level x y p =
-      let q = when (nat_lt 0 x) (edge_lines along (outer_step level) size (x - 4) y) p in
+      let q = apply_if (nat_lt 0 x) (edge_lines along (outer_step level) size (x - 4) y) p in
       keeps_when (nat_lt 0 level.inner) (inner_edges along (inner_step level) size x y) q (keeps_inner along (inner_step level) size x y q)
       ∙ keeps_when (nat_lt 0 x) (edge_lines along (outer_step level) size (x - 4) y) p (keeps along (outer_step level) size (x - 4) y p)
   keeps_edges down size level x y p =
-      let q = when (nat_lt 0 y) (edge_lines down (outer_step level) size x (y - 4)) p in
+      let q = apply_if (nat_lt 0 y) (edge_lines down (outer_step level) size x (y - 4)) p in
       keeps_when (nat_lt 0 level.inner) (inner_edges down (inner_step level) size x y) q (keeps_inner down (inner_step level) size x y q)
       ∙ keeps_when (nat_lt 0 y) (edge_lines down (outer_step level) size x (y - 4)) p (keeps down (outer_step level) size x (y - 4) p)
 

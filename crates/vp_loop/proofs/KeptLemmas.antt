@@ -11,12 +11,12 @@ use Rattle.vp_loop.specs.declared.lines.Line.{Line}
 use Rattle.vp_loop.specs.declared.lines.LineStep.{LineStep}
 use Rattle.vp_loop.specs.declared.lines.EdgeKind.TheVariants.{Simple, Inner}
 use Rattle.vp_loop.specs.declared.strength.Level.{Level}
-use Rattle.vp_loop.specs.LineSteps.{is_changed, changed, stepped}
+use Rattle.vp_loop.specs.LineSteps.{is_changed, filtered_line, stepped}
 use Rattle.vp_loop.specs.Lanes.{KeepsEnds, middle_of}
 use Rattle.vp_loop.specs.Edges.{along, down, line_at, pixel_at, edge_lines, inner_step}
 use Rattle.vp_loop.proofs.StepLemmas.{stepped_ends, pixel_at-line_at}
 use Rattle.vp_loop.proofs.WriteLemmas.{edge_along, edge_down}
-use Rattle.vp_loop.proofs.Turned.{below_four}
+use Rattle.vp_loop.proofs.TransposeLemmas.{below_four}
 
 -- ---- what the steps keep
 
@@ -32,7 +32,7 @@ second_kept false l m same = (refl, refl)
 abbrev inside : Bool → Level → LineStep
 inside simple level = record { kind = cond simple Simple Inner; limit = level.inner; interior = level.interior; hev = level.hev }
 
-inside_kept : (simple : Bool) (level : Level) (l : Line) → ((changed (inside simple level) l).p2 ≡ l.p2) × ((changed (inside simple level) l).q2 ≡ l.q2)
+inside_kept : (simple : Bool) (level : Level) (l : Line) → ((filtered_line (inside simple level) l).p2 ≡ l.p2) × ((filtered_line (inside simple level) l).q2 ≡ l.q2)
 inside_kept true level l = (refl, refl)
 inside_kept false level l = (refl, refl)
 
@@ -40,7 +40,7 @@ pub keeps_two : (level : Level) → KeepsEnds 2 (inner_step level)
 unfolding stepped
 keeps_two level l zero h = stepped_ends (inner_step level) l
 keeps_two level l (suc zero) h =
-    second_kept (is_changed (inner_step level) l) l (changed (inner_step level) l) (inside_kept (level.interior == 0) level l)
+    second_kept (is_changed (inner_step level) l) l (filtered_line (inner_step level) l) (inside_kept (level.interior == 0) level l)
 keeps_two level l (suc (suc n)) h = absurd (omega arith)
 
 end_kept : (k : ℕ) (step : LineStep) → KeepsEnds k step → (l : Line) (r : ℕ) → r < 8 → (k ≤ r → 8 - k ≤ r) → pixel_at (stepped step l) r ≡ pixel_at l r

@@ -3,9 +3,9 @@ use Rattle.std.proofs.Common.{◌≡◌, ℕ, ◌<◌, Bool, true, false, cond, 
 use Rattle.std.proofs.lemmas.Int.{ints, clamps}
 use Rattle.std.specs.Int.{int_min, int_max}
 use lib.Signed.{shr_z}
-use Rattle.vp_lanes.specs.Lane.{to_byte}
+use Rattle.vp_lanes.specs.Lane.{clamp_to_byte}
 use Rattle.vp_loop.specs.declared.lines.Line.{Line}
-use Rattle.vp_loop.specs.LineSteps.{clamp8, signed, pixel_from, pull, eighth, half_step, share, drawn, inner_changed, macroblock_changed}
+use Rattle.vp_loop.specs.LineSteps.{clamp8, signed, pixel_from, filter_value, eighth, outer_tap_adjustment, weighted_filter_value, common_adjusted, subblock_edge_filtered, macroblock_edge_filtered}
 
 -- ---- tests
 pub le_max : (a b i : ℕ) → nat_le (max a b) i ≡ (nat_le a i && nat_le b i)
@@ -35,16 +35,16 @@ all_smooth false a p = refl
 apart_is : (a b : ℕ) → pos a -ℤ pos b ≡ signed a -ℤ signed b
 apart_is a b = omega (arith, ints)
 
-up_is : (x : ℕ) (t : ℤ) → to_byte (pos x +ℤ t) ≡ pixel_from (signed x +ℤ t)
+up_is : (x : ℕ) (t : ℤ) → clamp_to_byte (pos x +ℤ t) ≡ pixel_from (signed x +ℤ t)
 up_is x t = let e : int_min (pos 255) (int_max (pos 0) (pos x +ℤ t)) ≡ clamp8 (signed x +ℤ t) +ℤ pos 128 = omega (arith, ints, clamps) in ap unsigned_abs e
 
-down_is : (x : ℕ) (t : ℤ) → to_byte (pos x -ℤ t) ≡ pixel_from (signed x -ℤ t)
+down_is : (x : ℕ) (t : ℤ) → clamp_to_byte (pos x -ℤ t) ≡ pixel_from (signed x -ℤ t)
 down_is x t = let e : int_min (pos 255) (int_max (pos 0) (pos x -ℤ t)) ≡ clamp8 (signed x -ℤ t) +ℤ pos 128 = omega (arith, ints, clamps) in ap unsigned_abs e
 
-up_zero : (x : ℕ) → x < 256 → to_byte (pos x +ℤ pos 0) ≡ x
+up_zero : (x : ℕ) → x < 256 → clamp_to_byte (pos x +ℤ pos 0) ≡ x
 up_zero x h = let e : int_min (pos 255) (int_max (pos 0) (pos x +ℤ pos 0)) ≡ pos x = omega (arith, ints, clamps) in ap unsigned_abs e
 
-down_zero : (x : ℕ) → x < 256 → to_byte (pos x -ℤ pos 0) ≡ x
+down_zero : (x : ℕ) → x < 256 → clamp_to_byte (pos x -ℤ pos 0) ≡ x
 down_zero x h = let e : int_min (pos 255) (int_max (pos 0) (pos x -ℤ pos 0)) ≡ pos x = omega (arith, ints, clamps) in ap unsigned_abs e
 
 -- ---- what the lanes compute: m is the mask, outer whether p1 and q1 pull too
@@ -61,30 +61,30 @@ module _ (m outer : Bool) (l : Line) where
   abbrev pub lane_share : ℤ → ℤ
   lane_share k = clamp8 (shr_z (lane_pull *ℤ k +ℤ pos 63) 128)
 
-pull_is : (outer : Bool) (l : Line) → lane_pull true outer l ≡ pull outer l
+pull_is : (outer : Bool) (l : Line) → lane_pull true outer l ≡ filter_value outer l
 pull_is outer l = ap₂ (λ x y. clamp8 (cond outer (clamp8 x) (pos 0) +ℤ pos 3 *ℤ y)) (apart_is l.p1 l.q1) (apart_is l.q0 l.p0)
 
-eighth_is : (outer : Bool) (l : Line) (k : ℤ) → lane_eighth true outer l k ≡ eighth (pull outer l) k
+eighth_is : (outer : Bool) (l : Line) (k : ℤ) → lane_eighth true outer l k ≡ eighth (filter_value outer l) k
 eighth_is outer l k = ap (λ a. eighth a k) (pull_is outer l)
 
-half_is : (outer : Bool) (l : Line) → lane_half true outer l ≡ half_step outer l
+half_is : (outer : Bool) (l : Line) → lane_half true outer l ≡ outer_tap_adjustment outer l
 half_is outer l = ap (λ f. cond outer (pos 0) (shr_z (f +ℤ pos 1) 2)) (eighth_is outer l (pos 4))
 
 half_zero : (outer : Bool) (l : Line) → lane_half false outer l ≡ pos 0
 half_zero true l = refl
 half_zero false l = refl
 
-share_is : (l : Line) (k : ℤ) → lane_share true true l k ≡ share k l
+share_is : (l : Line) (k : ℤ) → lane_share true true l k ≡ weighted_filter_value k l
 share_is l k = ap (λ w. clamp8 (shr_z (w *ℤ k +ℤ pos 63) 128)) (pull_is true l)
 
 -- the simple step
 abbrev pub lane_drawn : Bool → Line → Line
-lane_drawn m l = record l { p0 = to_byte (pos l.p0 +ℤ lane_eighth m true l (pos 3)); q0 = to_byte (pos l.q0 -ℤ lane_eighth m true l (pos 4)) }
+lane_drawn m l = record l { p0 = clamp_to_byte (pos l.p0 +ℤ lane_eighth m true l (pos 3)); q0 = clamp_to_byte (pos l.q0 -ℤ lane_eighth m true l (pos 4)) }
 
-pub drawn_is : (m : Bool) (l : Line) → l.p0 < 256 → l.q0 < 256 → lane_drawn m l ≡ cond m (drawn true l) l
+pub drawn_is : (m : Bool) (l : Line) → l.p0 < 256 → l.q0 < 256 → lane_drawn m l ≡ cond m (common_adjusted true l) l
 drawn_is true l b0 c0 =
-    let a = ap (λ t. to_byte (pos l.p0 +ℤ t)) (eighth_is true l (pos 3)) ∙ up_is l.p0 (eighth (pull true l) (pos 3)) in
-    let c = ap (λ t. to_byte (pos l.q0 -ℤ t)) (eighth_is true l (pos 4)) ∙ down_is l.q0 (eighth (pull true l) (pos 4)) in
+    let a = ap (λ t. clamp_to_byte (pos l.p0 +ℤ t)) (eighth_is true l (pos 3)) ∙ up_is l.p0 (eighth (filter_value true l) (pos 3)) in
+    let c = ap (λ t. clamp_to_byte (pos l.q0 -ℤ t)) (eighth_is true l (pos 4)) ∙ down_is l.q0 (eighth (filter_value true l) (pos 4)) in
     λ i. record l { p0 = a i; q0 = c i }
 drawn_is false l b0 c0 =
     let a = up_zero l.p0 b0 in
@@ -94,35 +94,35 @@ drawn_is false l b0 c0 =
 -- the inner step
 abbrev pub lane_inner : Bool → Bool → Line → Line
 lane_inner m high l = record l {
-  p1 = to_byte (pos l.p1 +ℤ lane_half m high l);
-  p0 = to_byte (pos l.p0 +ℤ lane_eighth m high l (pos 3));
-  q0 = to_byte (pos l.q0 -ℤ lane_eighth m high l (pos 4));
-  q1 = to_byte (pos l.q1 -ℤ lane_half m high l);
+  p1 = clamp_to_byte (pos l.p1 +ℤ lane_half m high l);
+  p0 = clamp_to_byte (pos l.p0 +ℤ lane_eighth m high l (pos 3));
+  q0 = clamp_to_byte (pos l.q0 -ℤ lane_eighth m high l (pos 4));
+  q1 = clamp_to_byte (pos l.q1 -ℤ lane_half m high l);
 }
 
-pub inner_is : (m high : Bool) (l : Line) → l.p1 < 256 → l.p0 < 256 → l.q0 < 256 → l.q1 < 256 → lane_inner m high l ≡ cond m (inner_changed high l) l
+pub inner_is : (m high : Bool) (l : Line) → l.p1 < 256 → l.p0 < 256 → l.q0 < 256 → l.q1 < 256 → lane_inner m high l ≡ cond m (subblock_edge_filtered high l) l
 inner_is true high l b1 b0 c0 c1 =
-    let e1 = ap (λ t. to_byte (pos l.p1 +ℤ t)) (half_is high l) ∙ up_is l.p1 (half_step high l) in
-    let e0 = ap (λ t. to_byte (pos l.p0 +ℤ t)) (eighth_is high l (pos 3)) ∙ up_is l.p0 (eighth (pull high l) (pos 3)) in
-    let f0 = ap (λ t. to_byte (pos l.q0 -ℤ t)) (eighth_is high l (pos 4)) ∙ down_is l.q0 (eighth (pull high l) (pos 4)) in
-    let f1 = ap (λ t. to_byte (pos l.q1 -ℤ t)) (half_is high l) ∙ down_is l.q1 (half_step high l) in
+    let e1 = ap (λ t. clamp_to_byte (pos l.p1 +ℤ t)) (half_is high l) ∙ up_is l.p1 (outer_tap_adjustment high l) in
+    let e0 = ap (λ t. clamp_to_byte (pos l.p0 +ℤ t)) (eighth_is high l (pos 3)) ∙ up_is l.p0 (eighth (filter_value high l) (pos 3)) in
+    let f0 = ap (λ t. clamp_to_byte (pos l.q0 -ℤ t)) (eighth_is high l (pos 4)) ∙ down_is l.q0 (eighth (filter_value high l) (pos 4)) in
+    let f1 = ap (λ t. clamp_to_byte (pos l.q1 -ℤ t)) (half_is high l) ∙ down_is l.q1 (outer_tap_adjustment high l) in
     λ i. record l { p1 = e1 i; p0 = e0 i; q0 = f0 i; q1 = f1 i }
 inner_is false high l b1 b0 c0 c1 =
-    let e1 = ap (λ t. to_byte (pos l.p1 +ℤ t)) (half_zero high l) ∙ up_zero l.p1 b1 in
+    let e1 = ap (λ t. clamp_to_byte (pos l.p1 +ℤ t)) (half_zero high l) ∙ up_zero l.p1 b1 in
     let e0 = up_zero l.p0 b0 in
     let f0 = down_zero l.q0 c0 in
-    let f1 = ap (λ t. to_byte (pos l.q1 -ℤ t)) (half_zero high l) ∙ down_zero l.q1 c1 in
+    let f1 = ap (λ t. clamp_to_byte (pos l.q1 -ℤ t)) (half_zero high l) ∙ down_zero l.q1 c1 in
     λ i. record l { p1 = e1 i; p0 = e0 i; q0 = f0 i; q1 = f1 i }
 
 -- the step over the edge of a macroblock
 abbrev pub lane_outer : Bool → Bool → Line → Line
 lane_outer m high l = record l {
-  p2 = to_byte (pos l.p2 +ℤ cond high (pos 0) (lane_share m true l (pos 9)));
-  p1 = to_byte (pos l.p1 +ℤ cond high (pos 0) (lane_share m true l (pos 18)));
-  p0 = to_byte (pos l.p0 +ℤ cond high (lane_eighth m true l (pos 3)) (lane_share m true l (pos 27)));
-  q0 = to_byte (pos l.q0 -ℤ cond high (lane_eighth m true l (pos 4)) (lane_share m true l (pos 27)));
-  q1 = to_byte (pos l.q1 -ℤ cond high (pos 0) (lane_share m true l (pos 18)));
-  q2 = to_byte (pos l.q2 -ℤ cond high (pos 0) (lane_share m true l (pos 9)));
+  p2 = clamp_to_byte (pos l.p2 +ℤ cond high (pos 0) (lane_share m true l (pos 9)));
+  p1 = clamp_to_byte (pos l.p1 +ℤ cond high (pos 0) (lane_share m true l (pos 18)));
+  p0 = clamp_to_byte (pos l.p0 +ℤ cond high (lane_eighth m true l (pos 3)) (lane_share m true l (pos 27)));
+  q0 = clamp_to_byte (pos l.q0 -ℤ cond high (lane_eighth m true l (pos 4)) (lane_share m true l (pos 27)));
+  q1 = clamp_to_byte (pos l.q1 -ℤ cond high (pos 0) (lane_share m true l (pos 18)));
+  q2 = clamp_to_byte (pos l.q2 -ℤ cond high (pos 0) (lane_share m true l (pos 9)));
 }
 
 unchanged : (l : Line) (high : Bool) → l.p2 < 256 → l.p1 < 256 → l.p0 < 256 → l.q0 < 256 → l.q1 < 256 → l.q2 < 256 → lane_outer false high l ≡ l
@@ -132,21 +132,21 @@ unchanged l high b2 b1 b0 c0 c1 c2 = go high
     go true = λ i. record l { p2 = up_zero l.p2 b2 i; p1 = up_zero l.p1 b1 i; p0 = up_zero l.p0 b0 i; q0 = down_zero l.q0 c0 i; q1 = down_zero l.q1 c1 i; q2 = down_zero l.q2 c2 i }
     go false = λ i. record l { p2 = up_zero l.p2 b2 i; p1 = up_zero l.p1 b1 i; p0 = up_zero l.p0 b0 i; q0 = down_zero l.q0 c0 i; q1 = down_zero l.q1 c1 i; q2 = down_zero l.q2 c2 i }
 
-pub outer_is : (m high : Bool) (l : Line) → l.p2 < 256 → l.p1 < 256 → l.p0 < 256 → l.q0 < 256 → l.q1 < 256 → l.q2 < 256 → lane_outer m high l ≡ cond m (macroblock_changed high l) l
+pub outer_is : (m high : Bool) (l : Line) → l.p2 < 256 → l.p1 < 256 → l.p0 < 256 → l.q0 < 256 → l.q1 < 256 → l.q2 < 256 → lane_outer m high l ≡ cond m (macroblock_edge_filtered high l) l
 outer_is true true l b2 b1 b0 c0 c1 c2 =
     let e2 = up_zero l.p2 b2 in
     let e1 = up_zero l.p1 b1 in
-    let e0 = ap (λ t. to_byte (pos l.p0 +ℤ t)) (eighth_is true l (pos 3)) ∙ up_is l.p0 (eighth (pull true l) (pos 3)) in
-    let f0 = ap (λ t. to_byte (pos l.q0 -ℤ t)) (eighth_is true l (pos 4)) ∙ down_is l.q0 (eighth (pull true l) (pos 4)) in
+    let e0 = ap (λ t. clamp_to_byte (pos l.p0 +ℤ t)) (eighth_is true l (pos 3)) ∙ up_is l.p0 (eighth (filter_value true l) (pos 3)) in
+    let f0 = ap (λ t. clamp_to_byte (pos l.q0 -ℤ t)) (eighth_is true l (pos 4)) ∙ down_is l.q0 (eighth (filter_value true l) (pos 4)) in
     let f1 = down_zero l.q1 c1 in
     let f2 = down_zero l.q2 c2 in
     λ i. record l { p2 = e2 i; p1 = e1 i; p0 = e0 i; q0 = f0 i; q1 = f1 i; q2 = f2 i }
 outer_is true false l b2 b1 b0 c0 c1 c2 =
-    let e2 = ap (λ t. to_byte (pos l.p2 +ℤ t)) (share_is l (pos 9)) ∙ up_is l.p2 (share (pos 9) l) in
-    let e1 = ap (λ t. to_byte (pos l.p1 +ℤ t)) (share_is l (pos 18)) ∙ up_is l.p1 (share (pos 18) l) in
-    let e0 = ap (λ t. to_byte (pos l.p0 +ℤ t)) (share_is l (pos 27)) ∙ up_is l.p0 (share (pos 27) l) in
-    let f0 = ap (λ t. to_byte (pos l.q0 -ℤ t)) (share_is l (pos 27)) ∙ down_is l.q0 (share (pos 27) l) in
-    let f1 = ap (λ t. to_byte (pos l.q1 -ℤ t)) (share_is l (pos 18)) ∙ down_is l.q1 (share (pos 18) l) in
-    let f2 = ap (λ t. to_byte (pos l.q2 -ℤ t)) (share_is l (pos 9)) ∙ down_is l.q2 (share (pos 9) l) in
+    let e2 = ap (λ t. clamp_to_byte (pos l.p2 +ℤ t)) (share_is l (pos 9)) ∙ up_is l.p2 (weighted_filter_value (pos 9) l) in
+    let e1 = ap (λ t. clamp_to_byte (pos l.p1 +ℤ t)) (share_is l (pos 18)) ∙ up_is l.p1 (weighted_filter_value (pos 18) l) in
+    let e0 = ap (λ t. clamp_to_byte (pos l.p0 +ℤ t)) (share_is l (pos 27)) ∙ up_is l.p0 (weighted_filter_value (pos 27) l) in
+    let f0 = ap (λ t. clamp_to_byte (pos l.q0 -ℤ t)) (share_is l (pos 27)) ∙ down_is l.q0 (weighted_filter_value (pos 27) l) in
+    let f1 = ap (λ t. clamp_to_byte (pos l.q1 -ℤ t)) (share_is l (pos 18)) ∙ down_is l.q1 (weighted_filter_value (pos 18) l) in
+    let f2 = ap (λ t. clamp_to_byte (pos l.q2 -ℤ t)) (share_is l (pos 9)) ∙ down_is l.q2 (weighted_filter_value (pos 9) l) in
     λ i. record l { p2 = e2 i; p1 = e1 i; p0 = e0 i; q0 = f0 i; q1 = f1 i; q2 = f2 i }
 outer_is false high l b2 b1 b0 c0 c1 c2 = unchanged l high b2 b1 b0 c0 c1 c2

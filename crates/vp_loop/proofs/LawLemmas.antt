@@ -8,7 +8,7 @@ use Rattle.vp_loop.specs.declared.lines.Line.{Line}
 use Rattle.vp_loop.specs.declared.lines.LineStep.{LineStep}
 use Rattle.vp_loop.specs.LineSteps.{stepped}
 use Rattle.vp_loop.specs.Edges.{along, down, line_at, pixels_of, pixel_at, line_step, edge_lines}
-use Rattle.vp_loop.specs.Laws.{PlaneLine, has_pixel, IsWithin, SharesNoPixel, step_of, DisjointStepsCommute, EdgesAtOnce}
+use Rattle.vp_loop.specs.Laws.{PlaneLine, has_pixel, IsLineWithin, SharesNoPixel, step_of, DisjointStepsCommute, EdgesAtOnce}
 use Rattle.vp_loop.proofs.StepLemmas.{pixel-line_step, line_at-same, IsWhole-line_step, line_step-along, edge_lines-none, edge_lines-along, rows_written, rows_written-all}
 
 -- what a line step puts at column i of row j of its line
@@ -30,7 +30,7 @@ flipped false true e = refl
 flipped false false e = refl
 
 -- a step leaves the pixels of the other line, and so the line, as they are
-put-after : (a b : LineStep) (l m : PlaneLine) (p : Raster) → IsWithin m p → SharesNoPixel l m → (i j : ℕ) → put b m (step_of a l p) i j ≡ put b m p i j
+put-after : (a b : LineStep) (l m : PlaneLine) (p : Raster) → IsLineWithin m p → SharesNoPixel l m → (i j : ℕ) → put b m (step_of a l p) i j ≡ put b m p i j
 put-after a b l m p fits apart i j =
     ap (λ (n : Line). pixel_at (stepped b n) ((j - m.y) + (i - m.x)))
     (line_at-same m.way (step_of a l p) p m.x m.y fits (λ u v uin vin here.
@@ -42,7 +42,7 @@ chosen true true x y z e = cc
 chosen true false x y z e = refl
 chosen false t x y z e = refl
 
-both : (a b : LineStep) (l m : PlaneLine) (p : Raster) → IsWithin m p → SharesNoPixel l m → (i j : ℕ) → i < p.width → j < p.height
+both : (a b : LineStep) (l m : PlaneLine) (p : Raster) → IsLineWithin m p → SharesNoPixel l m → (i j : ℕ) → i < p.width → j < p.height
     → pixel (step_of b m (step_of a l p)) i j ≡ cond (has_pixel m i j) (put b m p i j) (cond (has_pixel l i j) (put a l p i j) (pixel p i j))
 both a b l m p fits apart i j iin jin =
     pixel-step_of b m (step_of a l p) i j iin jin

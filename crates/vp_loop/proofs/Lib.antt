@@ -1,5 +1,5 @@
 pub mod Shift
-pub mod Pulls
+pub mod FilterValueLemmas
 pub mod StepLemmas
 pub mod PlaneLemmas
 pub mod EdgeLemmas
@@ -9,7 +9,7 @@ pub mod WindowLemmas
 pub mod BandLemmas
 pub mod PlaneLaws
 pub mod LaneLines
-pub mod Turned
+pub mod TransposeLemmas
 pub mod Loads
 pub mod RowReads
 pub mod RowWrites

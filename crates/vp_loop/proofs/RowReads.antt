@@ -3,7 +3,7 @@ use Rattle.std.proofs.Common.{◌≡◌, ◌∙◌, ℕ, ◌+◌, ◌*◌, ◌<�
 use Rattle.std.proofs.lemmas.Simd.{get_or-chunk}
 use Rattle.std.proofs.lemmas.Nat.{row_fits}
 use lib.Lanes.{chunk}
-use Rattle.vp_base.specs.Raster.{Raster, pixel, place}
+use Rattle.vp_base.specs.Raster.{Raster, pixel, pixel_index}
 use Rattle.vp_base.specs.Block.{IsWhole}
 use Rattle.vp_loop.specs.declared.lines.Line.{Line}
 use Rattle.vp_loop.specs.Edges.{along, down, line_at}

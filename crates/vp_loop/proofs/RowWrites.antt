@@ -3,7 +3,7 @@ use Rattle.std.proofs.Common.{◌≡◌, ◌∙◌, ℕ, ◌+◌, ◌*◌, ◌<�
 use Rattle.std.proofs.lemmas.Simd.{put_chunk_is}
 use Rattle.std.proofs.lemmas.List.{length-take, take_all, take-append-le}
 use lib.Lanes.{put_chunk}
-use Rattle.vp_base.specs.Raster.{Raster, place, overlay, with_pixels}
+use Rattle.vp_base.specs.Raster.{Raster, pixel_index, overlay, with_pixels}
 use Rattle.vp_base.proofs.RasterLemmas.{raster}
 use Rattle.vp_base.specs.Block.{written, with_block, IsWhole}
 use Rattle.vp_base.proofs.BlockLemmas.{with_block_none, with_block_more, length-overlay}
@@ -17,20 +17,20 @@ put_over xs i vs fits =
 pub none_yet : (p : Raster) (x y n : ℕ) (f : ℕ → ℕ → ℕ) (to : List ℕ) → IsWhole p → p.pixels ≡ to → to ≡ written p x y n 0 f
 none_yet p x y n f to whole same = sym same ∙ sym (ap (λ (q : Raster). q.pixels) (with_block_none p x y n f whole))
 
-pub place_is : (p : Raster) (x y r at width : ℕ) → p.width ≡ width → at ≡ place p x y → at + r * width ≡ place p x (y + r)
+pub place_is : (p : Raster) (x y r at width : ℕ) → p.width ≡ width → at ≡ pixel_index p x y → at + r * width ≡ pixel_index p x (y + r)
 place_is p x y r at width wide here =
     let same : r * p.width ≡ r * width = ap (λ (k : ℕ). r * k) wide in
     omega arith
 
 pub one_more : (p : Raster) (x y n r : ℕ) (f : ℕ → ℕ → ℕ) (before after row : List ℕ) (at next width : ℕ) → x + n ≤ p.width → y + r < p.height
-    → p.width ≡ width → at ≡ place p x y → next ≡ at + r * width
+    → p.width ≡ width → at ≡ pixel_index p x y → next ≡ at + r * width
     → before ≡ written p x y n r f → next + n ≤ length before → after ≡ put_chunk next before row
     → length row ≡ n → ((c : ℕ) → c < n → get_or row c 0 ≡ f r c) → after ≡ written p x y n (r + 1) f
 one_more p x y n r f before after row at next width columns high wide here where_next done fits put size value =
     put
     ∙ put_over before next row (omega arith)
     ∙ ap (λ (i : ℕ). overlay before i row) (where_next ∙ place_is p x y r at width wide here)
-    ∙ ap (λ (ns : List ℕ). overlay ns (place p x (y + r)) row) done
+    ∙ ap (λ (ns : List ℕ). overlay ns (pixel_index p x (y + r)) row) done
     ∙ ap (λ (q : Raster). q.pixels) (with_block_more p x y n r f row columns high size value)
 
 over_all : (xs vs : List ℕ) → length vs ≡ length xs → overlay xs 0 vs ≡ vs

@@ -9,7 +9,7 @@ use Rattle.vp_loop.specs.declared.lines.Line.{Line}
 use Rattle.vp_loop.specs.declared.lines.LineStep.{LineStep}
 use Rattle.vp_loop.specs.declared.lines.EdgeKind.{EdgeKind}
 use Rattle.vp_loop.specs.declared.lines.EdgeKind.TheVariants.{Simple, Inner, Macroblock}
-use Rattle.vp_loop.specs.LineSteps.{is_changed, is_high, macroblock_changed, changed, stepped}
+use Rattle.vp_loop.specs.LineSteps.{is_changed, is_high, macroblock_edge_filtered, filtered_line, stepped}
 use Rattle.vp_loop.specs.Edges.{Way, along, down, columns_of, rows_of, line_at, pixels_of, pixel_at, line_step, edge_lines}
 
 -- ---- a line by its pixels
@@ -133,13 +133,13 @@ IsWhole-line_step way step x y p =
 
 -- ---- a line that the mask leaves as it is
 
-pub stepped-changed : (step : LineStep) (l : Line) → is_changed step l ≡ true → stepped step l ≡ changed step l
+pub stepped-changed : (step : LineStep) (l : Line) → is_changed step l ≡ true → stepped step l ≡ filtered_line step l
 unfolding stepped
-stepped-changed step l e = ap (λ (b : Bool). cond b (changed step l) l) e
+stepped-changed step l e = ap (λ (b : Bool). cond b (filtered_line step l) l) e
 
 pub stepped-kept : (step : LineStep) (l : Line) → is_changed step l ≡ false → stepped step l ≡ l
 unfolding stepped
-stepped-kept step l e = ap (λ (b : Bool). cond b (changed step l) l) e
+stepped-kept step l e = ap (λ (b : Bool). cond b (filtered_line step l) l) e
 
 in_along : (x y i j : ℕ) → is_in_block x y 8 1 i j ≡ true → (j ≡ y) × (x ≤ i) × (i < x + 8)
 in_along x y i j e = grind (arith, nat_tests)
@@ -190,12 +190,12 @@ height-rows_written step n x y h p = refl
 
 -- ---- no step changes the pixels at the ends of a line
 
-macroblock_ends : (high : Bool) (l : Line) → ((macroblock_changed high l).p3 ≡ l.p3) × ((macroblock_changed high l).q3 ≡ l.q3)
+macroblock_ends : (high : Bool) (l : Line) → ((macroblock_edge_filtered high l).p3 ≡ l.p3) × ((macroblock_edge_filtered high l).q3 ≡ l.q3)
 macroblock_ends true l = (refl, refl)
 macroblock_ends false l = (refl, refl)
 
 changed_ends : (kind : EdgeKind) (limit interior hev : ℕ) (l : Line) → let step : LineStep = record { kind = kind; limit = limit; interior = interior; hev = hev } in
-    ((changed step l).p3 ≡ l.p3) × ((changed step l).q3 ≡ l.q3)
+    ((filtered_line step l).p3 ≡ l.p3) × ((filtered_line step l).q3 ≡ l.q3)
 changed_ends Simple limit interior hev l = (refl, refl)
 changed_ends Inner limit interior hev l = (refl, refl)
 changed_ends Macroblock limit interior hev l = macroblock_ends (is_high hev l) l
@@ -206,7 +206,7 @@ cond_ends false l m same = (refl, refl)
 
 pub stepped_ends : (step : LineStep) (l : Line) → ((stepped step l).p3 ≡ l.p3) × ((stepped step l).q3 ≡ l.q3)
 unfolding stepped
-stepped_ends step l = cond_ends (is_changed step l) l (changed step l) (changed_ends step.kind step.limit step.interior step.hev l)
+stepped_ends step l = cond_ends (is_changed step l) l (filtered_line step l) (changed_ends step.kind step.limit step.interior step.hev l)
 
 in_last_row : (x y n h i j : ℕ) → is_in_block x (y + h) n 1 i j ≡ true
     → (j ≡ y + h) × (x ≤ i) × (is_in_block x y n (h + 1) i j ≡ true) × (is_in_block x y n h i j ≡ false)

@@ -10,7 +10,7 @@ use Rattle.vp_loop.specs.LineSteps.{stepped}
 use Rattle.vp_loop.specs.Edges.{along, down, line_at, pixels_of, pixel_at, edge_lines, inner_edges}
 use Rattle.vp_loop.specs.declared.lanes.Lines.{Lines}
 use Rattle.vp_loop.specs.Lanes.{line_of}
-use Rattle.vp_loop.proofs.Turned.{below_eight}
+use Rattle.vp_loop.proofs.TransposeLemmas.{below_eight}
 use Rattle.vp_loop.proofs.LawLemmas.{at_once}
 
 -- the first h rows of a block of w columns

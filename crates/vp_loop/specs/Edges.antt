@@ -83,8 +83,8 @@ inner_step level = record {
   hev = level.hev;
 }
 
-abbrev pub when : Bool → (Raster → Raster) → Raster → Raster
-when holds f p = if holds then f p else p
+abbrev pub apply_if : Bool → (Raster → Raster) → Raster → Raster
+apply_if holds f p = if holds then f p else p
 
 -- the edges inside a macroblock of so many pixels each way: at 4, 8 and 12 of 16, at 4 of 8
 unfoldable pub inner_edges : Way → LineStep → ℕ → ℕ → ℕ → Raster → Raster
@@ -94,11 +94,11 @@ inner_edges down step size x y p = over (size / 4 - 1) (λ i. edge_lines down st
 -- a macroblock's edges of one way: its left or top edge, unless the plane ends there, and then those inside
 unfoldable pub block_edges : Way → ℕ → Level → ℕ → ℕ → Raster → Raster
 block_edges along size level x y p =
-    when (nat_lt 0 level.inner) (inner_edges along (inner_step level) size x y)
-    (when (nat_lt 0 x) (edge_lines along (outer_step level) size (x - 4) y) p)
+    apply_if (nat_lt 0 level.inner) (inner_edges along (inner_step level) size x y)
+    (apply_if (nat_lt 0 x) (edge_lines along (outer_step level) size (x - 4) y) p)
 block_edges down size level x y p =
-    when (nat_lt 0 level.inner) (inner_edges down (inner_step level) size x y)
-    (when (nat_lt 0 y) (edge_lines down (outer_step level) size x (y - 4)) p)
+    apply_if (nat_lt 0 level.inner) (inner_edges down (inner_step level) size x y)
+    (apply_if (nat_lt 0 y) (edge_lines down (outer_step level) size x (y - 4)) p)
 
 -- the macroblock whose first pixel is at column x of row y of a plane: vertical edges, then horizontal ones
 unfoldable pub block_filtered : ℕ → Level → ℕ → ℕ → Raster → Raster

@@ -8,7 +8,7 @@ use Rattle.vp_base.specs.Rows.{AreSameAbove, AreSameFrom, AreOneSize}
 use Rattle.vp_loop.specs.declared.lines.LineStep.{LineStep}
 use Rattle.vp_loop.specs.declared.strength.Level.{Level}
 use Rattle.vp_loop.specs.LineSteps.{stepped}
-use Rattle.vp_loop.specs.Edges.{Way, along, down, columns_of, rows_of, line_at, pixel_at, line_step, edge_lines, outer_step, inner_step, when, inner_edges, on_plane}
+use Rattle.vp_loop.specs.Edges.{Way, along, down, columns_of, rows_of, line_at, pixel_at, line_step, edge_lines, outer_step, inner_step, apply_if, inner_edges, on_plane}
 use Rattle.vp_loop.specs.Filtered.{macroblock_filtered, row_filtered}
 
 -- a line of a plane: the way it lies, and the column and row where it begins
@@ -21,8 +21,8 @@ pub record PlaneLine : Type 0 where
 abbrev pub has_pixel : PlaneLine → ℕ → ℕ → Bool
 has_pixel l i j = is_in_block l.x l.y (columns_of l.way) (rows_of l.way) i j
 
-abbrev pub IsWithin : PlaneLine → Raster → Type 0
-IsWithin l p = (l.x + columns_of l.way ≤ p.width) × (l.y + rows_of l.way ≤ p.height)
+abbrev pub IsLineWithin : PlaneLine → Raster → Type 0
+IsLineWithin l p = (l.x + columns_of l.way ≤ p.width) × (l.y + rows_of l.way ≤ p.height)
 
 abbrev pub SharesNoPixel : PlaneLine → PlaneLine → Type 0
 SharesNoPixel l m = (i j : ℕ) → (has_pixel l i j && has_pixel m i j) ≡ Bool.false
@@ -34,7 +34,7 @@ step_of step l p = line_step l.way step l.x l.y p
 -- line steps that share no pixel may change places
 abbrev pub DisjointStepsCommute : Type 0
 DisjointStepsCommute =
-    (p : Raster) (l m : PlaneLine) (a b : LineStep) → IsWithin l p → IsWithin m p → SharesNoPixel l m
+    (p : Raster) (l m : PlaneLine) (a b : LineStep) → IsLineWithin l p → IsLineWithin m p → SharesNoPixel l m
     → step_of b m (step_of a l p) ≡ step_of a l (step_of b m p)
 
 -- ---- a row of macroblocks
@@ -78,11 +78,11 @@ PlanesCommute =
 
 -- a macroblock's own edge of one way, unless the plane begins there, and the edges of that way inside it
 abbrev pub own_edge : Way → Level → ℕ → ℕ → ℕ → Raster → Raster
-own_edge along level size x y = when (nat_lt 0 x) (edge_lines along (outer_step level) size (x - 4) y)
-own_edge down level size x y = when (nat_lt 0 y) (edge_lines down (outer_step level) size x (y - 4))
+own_edge along level size x y = apply_if (nat_lt 0 x) (edge_lines along (outer_step level) size (x - 4) y)
+own_edge down level size x y = apply_if (nat_lt 0 y) (edge_lines down (outer_step level) size x (y - 4))
 
 abbrev pub edges_inside : Way → Level → ℕ → ℕ → ℕ → Raster → Raster
-edges_inside way level size x y = when (nat_lt 0 level.inner) (inner_edges way (inner_step level) size x y)
+edges_inside way level size x y = apply_if (nat_lt 0 level.inner) (inner_edges way (inner_step level) size x y)
 
 -- f done to a macroblock's pixels of luma and, but for the simple filter, of both colours
 abbrev pub in_planes : Level → (ℕ → ℕ → ℕ → Raster → Raster) → ℕ → ℕ → Image → Image

@@ -7,8 +7,8 @@ use Rattle.vp_head.specs.declared.fields.Reference.{Reference}
 use Rattle.vp_head.specs.declared.fields.Reference.TheVariants.{Intra, Last, Golden, Alt}
 use Rattle.vp_loop.specs.declared.strength.Level.{Level}
 use Rattle.vp_loop.specs.declared.strength.MacroblockKind.{MacroblockKind}
-use Rattle.vp_loop.specs.declared.strength.Prediction.{Prediction}
-use Rattle.vp_loop.specs.declared.strength.Prediction.TheVariants.{Whole, Subblocks, Zero, Moved, Split}
+use Rattle.vp_loop.specs.declared.strength.ModeClass.{ModeClass}
+use Rattle.vp_loop.specs.declared.strength.ModeClass.TheVariants.{Whole, Subblocks, Zero, Moved, Split}
 
 -- a level held to 0 .. 63
 abbrev pub clamped_level : ℤ → ℕ
@@ -34,7 +34,7 @@ reference_delta deltas Golden = signed_at deltas.reference 2
 reference_delta deltas Alt = signed_at deltas.reference 3
 
 -- what the mode adds (chapter 9.4)
-abbrev pub mode_delta : LevelDeltas → Prediction → ℤ
+abbrev pub mode_delta : LevelDeltas → ModeClass → ℤ
 mode_delta deltas Whole = pos 0
 mode_delta deltas Subblocks = signed_at deltas.mode 0
 mode_delta deltas Zero = signed_at deltas.mode 1
@@ -76,8 +76,8 @@ abbrev pub no_level : Level
 no_level = record { edge = 0; inner = 0; interior = 0; hev = 0 }
 
 -- limits and thresholds; the simple filter has no interior limit and no threshold
-unfoldable pub level_of : Header → ℕ → MacroblockKind → Level
-level_of header segment kind =
+unfoldable pub filter_level : Header → ℕ → MacroblockKind → Level
+filter_level header segment kind =
     let level = macroblock_level header segment kind in
     let interior = interior_limit header.filter.sharpness level in
     if level == 0 then no_level

@@ -32,44 +32,44 @@ abbrev pub is_high : ℕ → Line → Bool
 is_high threshold l = nat_lt threshold (abs_diff l.p1 l.p0) || nat_lt threshold (abs_diff l.q1 l.q0)
 
 -- what is taken from q0 and given to p0, before it is divided: with the outer pixels p1 and q1, or without them
-abbrev pub pull : Bool → Line → ℤ
-pull outer l = clamp8 (cond outer (clamp8 (signed l.p1 -ℤ signed l.q1)) (pos 0) +ℤ pos 3 *ℤ (signed l.q0 -ℤ signed l.p0))
+abbrev pub filter_value : Bool → Line → ℤ
+filter_value outer l = clamp8 (cond outer (clamp8 (signed l.p1 -ℤ signed l.q1)) (pos 0) +ℤ pos 3 *ℤ (signed l.q0 -ℤ signed l.p0))
 
 -- an eighth of a + by
 abbrev pub eighth : ℤ → ℤ → ℤ
 eighth a by = shr_z (clamp8 (a +ℤ by)) 8
 
 -- p0 and q0 drawn together by an eighth of the pull (`common_adjust`)
-abbrev pub drawn : Bool → Line → Line
-drawn outer l = record l {
-  p0 = pixel_from (signed l.p0 +ℤ eighth (pull outer l) (pos 3));
-  q0 = pixel_from (signed l.q0 -ℤ eighth (pull outer l) (pos 4));
+abbrev pub common_adjusted : Bool → Line → Line
+common_adjusted outer l = record l {
+  p0 = pixel_from (signed l.p0 +ℤ eighth (filter_value outer l) (pos 3));
+  q0 = pixel_from (signed l.q0 -ℤ eighth (filter_value outer l) (pos 4));
 }
 
 -- what an inner edge takes from q1 and gives to p1: half of what it took from q0, and nothing where the variance is high
-abbrev pub half_step : Bool → Line → ℤ
-half_step high l = cond high (pos 0) (shr_z (eighth (pull high l) (pos 4) +ℤ pos 1) 2)
+abbrev pub outer_tap_adjustment : Bool → Line → ℤ
+outer_tap_adjustment high l = cond high (pos 0) (shr_z (eighth (filter_value high l) (pos 4) +ℤ pos 1) 2)
 
 -- a line across an inner edge, changed (`subblock_filter`)
-abbrev pub inner_changed : Bool → Line → Line
-inner_changed high l = record (drawn high l) {
-  p1 = pixel_from (signed l.p1 +ℤ half_step high l);
-  q1 = pixel_from (signed l.q1 -ℤ half_step high l);
+abbrev pub subblock_edge_filtered : Bool → Line → Line
+subblock_edge_filtered high l = record (common_adjusted high l) {
+  p1 = pixel_from (signed l.p1 +ℤ outer_tap_adjustment high l);
+  q1 = pixel_from (signed l.q1 -ℤ outer_tap_adjustment high l);
 }
 
 -- so many 128ths of the pull
-abbrev pub share : ℤ → Line → ℤ
-share k l = clamp8 (shr_z (pull Bool.true l *ℤ k +ℤ pos 63) 128)
+abbrev pub weighted_filter_value : ℤ → Line → ℤ
+weighted_filter_value k l = clamp8 (shr_z (filter_value Bool.true l *ℤ k +ℤ pos 63) 128)
 
 -- a line across the edge of a macroblock, changed (`MBfilter`)
-abbrev pub macroblock_changed : Bool → Line → Line
-macroblock_changed high l = cond high (drawn Bool.true l) (record l {
-  p2 = pixel_from (signed l.p2 +ℤ share (pos 9) l);
-  p1 = pixel_from (signed l.p1 +ℤ share (pos 18) l);
-  p0 = pixel_from (signed l.p0 +ℤ share (pos 27) l);
-  q0 = pixel_from (signed l.q0 -ℤ share (pos 27) l);
-  q1 = pixel_from (signed l.q1 -ℤ share (pos 18) l);
-  q2 = pixel_from (signed l.q2 -ℤ share (pos 9) l);
+abbrev pub macroblock_edge_filtered : Bool → Line → Line
+macroblock_edge_filtered high l = cond high (common_adjusted Bool.true l) (record l {
+  p2 = pixel_from (signed l.p2 +ℤ weighted_filter_value (pos 9) l);
+  p1 = pixel_from (signed l.p1 +ℤ weighted_filter_value (pos 18) l);
+  p0 = pixel_from (signed l.p0 +ℤ weighted_filter_value (pos 27) l);
+  q0 = pixel_from (signed l.q0 -ℤ weighted_filter_value (pos 27) l);
+  q1 = pixel_from (signed l.q1 -ℤ weighted_filter_value (pos 18) l);
+  q2 = pixel_from (signed l.q2 -ℤ weighted_filter_value (pos 9) l);
 })
 
 -- the mask: whether this line is changed at all
@@ -81,13 +81,13 @@ is_changed step l = elim step.kind [
 ]
 
 -- the line that a changed line becomes
-abbrev pub changed : LineStep → Line → Line
-changed step l = elim step.kind [
-  | Simple ↦ drawn Bool.true l
-  | Inner ↦ inner_changed (is_high step.hev l) l
-  | Macroblock ↦ macroblock_changed (is_high step.hev l) l
+abbrev pub filtered_line : LineStep → Line → Line
+filtered_line step l = elim step.kind [
+  | Simple ↦ common_adjusted Bool.true l
+  | Inner ↦ subblock_edge_filtered (is_high step.hev l) l
+  | Macroblock ↦ macroblock_edge_filtered (is_high step.hev l) l
 ]
 
 -- the line step: mask and high edge variance are of this line alone
 unfoldable pub stepped : LineStep → Line → Line
-stepped step l = cond (is_changed step l) (changed step l) l
+stepped step l = cond (is_changed step l) (filtered_line step l) l

@@ -8,9 +8,9 @@ ghost use Rattle.vp_loop.specs.Edges.{along, down, edge_lines, inner_edges, bloc
 use crate::lines::{EdgeKind, LineStep};
 use crate::store::{write_rows4, write_rows8, write_rows16};
 use crate::strength::Level;
-use crate::turn::{
-    first_halves, lines_along, lines_along_both, lines_down, lines_down_both, middles_back,
-    second_halves, turned_back,
+use crate::transpose::{
+    first_halves, lines_along, lines_along_both, lines_down, lines_down_both, second_halves,
+    untranspose, untranspose_middle,
 };
 use vp_base::Picture;
 
@@ -59,7 +59,7 @@ fn filter_luma_along(picture: &mut Picture, x: usize, y: usize, step: LineStep)
 {
     let _height = picture.plane(0).height();
     let l = step.apply_to_all(lines_along(picture.plane(0), x, y));
-    let lines = turned_back(l.p3, l.p2, l.p1, l.p0, l.q0, l.q1, l.q2, l.q3);
+    let lines = untranspose(l.p3, l.p2, l.p1, l.p0, l.q0, l.q1, l.q2, l.q3);
     write_rows8(picture, 0, x, y, &lines);
 }
 
@@ -76,7 +76,7 @@ fn filter_luma_inside_along(picture: &mut Picture, x: usize, y: usize, step: Lin
 {
     let _width = picture.plane(0).width();
     let l = step.apply_to_all(lines_along(picture.plane(0), x, y));
-    let lines = middles_back(l.p1, l.p0, l.q0, l.q1);
+    let lines = untranspose_middle(l.p1, l.p0, l.q0, l.q1);
     write_rows4(picture, 0, x + 2, y, &lines);
 }
 
@@ -114,7 +114,7 @@ fn filter_colours_along(picture: &mut Picture, x: usize, y: usize, step: LineSte
     let _u_height = picture.plane(1).height();
     let _v_height = picture.plane(2).height();
     let l = step.apply_to_all(lines_along_both(picture.plane(1), picture.plane(2), x, y));
-    let lines = turned_back(l.p3, l.p2, l.p1, l.p0, l.q0, l.q1, l.q2, l.q3);
+    let lines = untranspose(l.p3, l.p2, l.p1, l.p0, l.q0, l.q1, l.q2, l.q3);
     write_rows8(picture, 1, x, y, &lines[0..8]);
     write_rows8(picture, 2, x, y, &lines[8..16]);
 }
@@ -193,7 +193,7 @@ fn filter_inner_colours_along(picture: &mut Picture, x: usize, y: usize, step: L
     let _u_width = picture.plane(1).width();
     let _v_width = picture.plane(2).width();
     let l = step.apply_to_all(lines_along_both(picture.plane(1), picture.plane(2), x, y));
-    let lines = middles_back(l.p1, l.p0, l.q0, l.q1);
+    let lines = untranspose_middle(l.p1, l.p0, l.q0, l.q1);
     write_rows4(picture, 1, x + 2, y, &lines[0..8]);
     write_rows4(picture, 2, x + 2, y, &lines[8..16]);
 }

@@ -3,14 +3,14 @@
 ghost use Rattle.std.specs.Prelude.{◌≡◌, ℕ, ◌<◌, ◌*◌, ◌/◌, ◌+◌, slice_index, max, cond, ◌&&◌, true};
 ghost use Rattle.std.specs.Int.{abs_diff};
 ghost use Rattle.vp_loop.specs.declared.lines.Line.{Line};
-ghost use Rattle.vp_loop.specs.LineSteps.{stepped, drawn, inner_changed, macroblock_changed, is_small_step, is_smooth, is_high};
+ghost use Rattle.vp_loop.specs.LineSteps.{stepped, common_adjusted, subblock_edge_filtered, macroblock_edge_filtered, is_small_step, is_smooth, is_high};
 ghost use Rattle.vp_loop.specs.Lanes.{line_of};
 
 use crate::lines::{EdgeKind, LineStep};
 use std::simd::prelude::*;
 use vp_lanes::{
-    abs_diff16, difference, eighth, either, gap, half, larger, lowered, masked, pull, raised,
-    share, where_high, where_low,
+    abs_diff16, difference, eighth, either, filter_value, half, lane_abs_diff, lane_max, lowered,
+    masked, raised, weighted_filter_value, where_high, where_low,
 };
 
 /// Sixteen lines: a vector for each of their eight pixels.
@@ -33,15 +33,15 @@ fn most_apart(l: Lines) -> u8x16
         ≡ max (max (max (abs_diff (slice_index l.p3 j) (slice_index l.p2 j)) (abs_diff (slice_index l.p2 j) (slice_index l.p1 j))) (abs_diff (slice_index l.p1 j) (slice_index l.p0 j)))
         (max (max (abs_diff (slice_index l.q1 j) (slice_index l.q0 j)) (abs_diff (slice_index l.q2 j) (slice_index l.q1 j))) (abs_diff (slice_index l.q3 j) (slice_index l.q2 j))) }
 {
-    let p = larger(
-        larger(abs_diff16(l.p3, l.p2), abs_diff16(l.p2, l.p1)),
+    let p = lane_max(
+        lane_max(abs_diff16(l.p3, l.p2), abs_diff16(l.p2, l.p1)),
         abs_diff16(l.p1, l.p0),
     );
-    let q = larger(
-        larger(abs_diff16(l.q1, l.q0), abs_diff16(l.q2, l.q1)),
+    let q = lane_max(
+        lane_max(abs_diff16(l.q1, l.q0), abs_diff16(l.q2, l.q1)),
         abs_diff16(l.q3, l.q2),
     );
-    larger(p, q)
+    lane_max(p, q)
 }
 
 /// How far the two pixels next to an edge are apart at most, on either side.
@@ -49,21 +49,21 @@ fn most_apart(l: Lines) -> u8x16
 fn inner_apart(l: Lines) -> u8x16
     ensures { (j : ℕ) → j < 16 → slice_index result j ≡ max (abs_diff (slice_index l.p1 j) (slice_index l.p0 j)) (abs_diff (slice_index l.q1 j) (slice_index l.q0 j)) }
 {
-    larger(abs_diff16(l.p1, l.p0), abs_diff16(l.q1, l.q0))
+    lane_max(abs_diff16(l.p1, l.p0), abs_diff16(l.q1, l.q0))
 }
 
 /// The inner step.
 #[inline(always)]
 fn inner(l: Lines, limit: u8, interior: u8, threshold: u8) -> Lines
-    ensures { (j : ℕ) → j < 16 → line_of result j ≡ cond (is_small_step limit (line_of l j) && is_smooth interior (line_of l j)) (inner_changed (is_high threshold (line_of l j)) (line_of l j)) (line_of l j) }
+    ensures { (j : ℕ) → j < 16 → line_of result j ≡ cond (is_small_step limit (line_of l j) && is_smooth interior (line_of l j)) (subblock_edge_filtered (is_high threshold (line_of l j)) (line_of l j)) (line_of l j) }
 {
     let most = most_apart(l);
     let apart = inner_apart(l);
-    let edge = gap(l.p0, l.q0);
-    let outer = gap(l.p1, l.q1);
+    let edge = lane_abs_diff(l.p0, l.q0);
+    let outer = lane_abs_diff(l.p1, l.q1);
     let d = difference(l.p1, l.q1);
     let w = where_high(d, apart, threshold, 128);
-    let s = pull(w, l.p0, l.q0);
+    let s = filter_value(w, l.p0, l.q0);
     let a = masked(s, edge, outer, limit, most, interior);
     let f1 = eighth(a, 4);
     let f2 = eighth(a, 3);
@@ -81,20 +81,20 @@ fn inner(l: Lines, limit: u8, interior: u8, threshold: u8) -> Lines
 /// The step over the edge of a macroblock.
 #[inline(always)]
 fn outer(l: Lines, limit: u8, interior: u8, threshold: u8) -> Lines
-    ensures { (j : ℕ) → j < 16 → line_of result j ≡ cond (is_small_step limit (line_of l j) && is_smooth interior (line_of l j)) (macroblock_changed (is_high threshold (line_of l j)) (line_of l j)) (line_of l j) }
+    ensures { (j : ℕ) → j < 16 → line_of result j ≡ cond (is_small_step limit (line_of l j) && is_smooth interior (line_of l j)) (macroblock_edge_filtered (is_high threshold (line_of l j)) (line_of l j)) (line_of l j) }
 {
     let most = most_apart(l);
     let apart = inner_apart(l);
-    let edge = gap(l.p0, l.q0);
-    let outer = gap(l.p1, l.q1);
+    let edge = lane_abs_diff(l.p0, l.q0);
+    let outer = lane_abs_diff(l.p1, l.q1);
     let d = difference(l.p1, l.q1);
-    let s = pull(d, l.p0, l.q0);
+    let s = filter_value(d, l.p0, l.q0);
     let w = masked(s, edge, outer, limit, most, interior);
     let f1 = eighth(w, 4);
     let f2 = eighth(w, 3);
-    let t0 = share(w, 27);
-    let t1 = share(w, 18);
-    let t2 = share(w, 9);
+    let t0 = weighted_filter_value(w, 27);
+    let t1 = weighted_filter_value(w, 18);
+    let t2 = weighted_filter_value(w, 9);
     let u0 = either(f2, t0, apart, threshold);
     let v0 = either(f1, t0, apart, threshold);
     let u1 = where_low(t1, apart, threshold, 18);
@@ -113,12 +113,12 @@ fn outer(l: Lines, limit: u8, interior: u8, threshold: u8) -> Lines
 /// The step of the simple filter.
 #[inline(always)]
 fn simple(l: Lines, limit: u8) -> Lines
-    ensures { (j : ℕ) → j < 16 → line_of result j ≡ cond (is_small_step limit (line_of l j)) (drawn true (line_of l j)) (line_of l j) }
+    ensures { (j : ℕ) → j < 16 → line_of result j ≡ cond (is_small_step limit (line_of l j)) (common_adjusted true (line_of l j)) (line_of l j) }
 {
-    let edge = gap(l.p0, l.q0);
-    let outer = gap(l.p1, l.q1);
+    let edge = lane_abs_diff(l.p0, l.q0);
+    let outer = lane_abs_diff(l.p1, l.q1);
     let d = difference(l.p1, l.q1);
-    let s = pull(d, l.p0, l.q0);
+    let s = filter_value(d, l.p0, l.q0);
     // no byte is above 255, so that smoothness is not asked
     let w = masked(s, edge, outer, limit, l.p0, 255);
     let f1 = eighth(w, 4);

@@ -8,7 +8,7 @@ mod laws;
 mod lines;
 mod store;
 mod strength;
-mod turn;
+mod transpose;
 
 pub use frame::{Lanes, RowFilter, filter_picture, filter_row};
 pub use laws::{
@@ -16,4 +16,4 @@ pub use laws::{
     rows_below_are_kept, sizes_are_kept,
 };
 pub use lines::{EdgeKind, Line, LineStep};
-pub use strength::{Level, MacroblockKind, Prediction, levels};
+pub use strength::{Level, MacroblockKind, ModeClass, levels};

@@ -3,7 +3,7 @@
 ghost use Rattle.std.specs.Prelude.{◌≡◌, ℕ, ℤ, ◌+◌, ◌*◌, ◌/◌, ◌≤◌, ◌≤ℤ◌, ◌+ℤ◌, ◌-ℤ◌, ◌*ℤ◌, pos, negsuc, cond, nat_le, nat_lt, ◌&&◌, ◌||◌, Bool, true};
 ghost use Rattle.std.specs.Int.{abs_diff};
 ghost use lib.Signed.{shr_z};
-ghost use Rattle.vp_loop.specs.LineSteps.{clamp8, signed, pixel_from, pull, eighth, drawn, half_step, inner_changed, share, macroblock_changed, is_small_step, is_smooth, is_high, is_changed, changed, stepped};
+ghost use Rattle.vp_loop.specs.LineSteps.{clamp8, signed, pixel_from, filter_value, eighth, common_adjusted, outer_tap_adjustment, subblock_edge_filtered, weighted_filter_value, macroblock_edge_filtered, is_small_step, is_smooth, is_high, is_changed, filtered_line, stepped};
 
 /// Eight pixels across an edge: four before it and four behind it, `p0` and `q0` next to it.
 #[derive(Clone, Copy, Debug, PartialEq, Eq)]
@@ -85,7 +85,7 @@ fn difference(p: u8, q: u8) -> i32
     signed(p) - signed(q)
 }
 
-fn outer_pull(outer: bool, line: Line) -> i32
+fn outer_tap_difference(outer: bool, line: Line) -> i32
     ensures value { result ≡ cond outer (clamp8 (signed line.p1 -ℤ signed line.q1)) (pos 0) }
     ensures range { (negsuc 127 ≤ℤ result) × (result ≤ℤ pos 127) }
 {
@@ -96,19 +96,19 @@ fn outer_pull(outer: bool, line: Line) -> i32
     }
 }
 
-fn pull(outer: bool, line: Line) -> i32
-    ensures value { result ≡ pull outer line }
+fn filter_value(outer: bool, line: Line) -> i32
+    ensures value { result ≡ filter_value outer line }
     ensures range { (negsuc 127 ≤ℤ result) × (result ≤ℤ pos 127) }
 {
-    let apart = outer_pull(outer, line);
+    let apart = outer_tap_difference(outer, line);
     let step = difference(line.q0, line.p0);
     clamped(apart + 3 * step)
 }
 
-fn share(weight: i32, pull: i32) -> i32
+fn weighted_filter_value(weight: i32, pull: i32) -> i32
     requires weight { (pos 0 ≤ℤ weight) × (weight ≤ℤ pos 27) }
-    requires pull { (negsuc 127 ≤ℤ pull) × (pull ≤ℤ pos 127) }
-    ensures value { result ≡ clamp8 (shr_z (pull *ℤ weight +ℤ pos 63) 128) }
+    requires filter_value { (negsuc 127 ≤ℤ filter_value) × (filter_value ≤ℤ pos 127) }
+    ensures value { result ≡ clamp8 (shr_z (filter_value *ℤ weight +ℤ pos 63) 128) }
     ensures range { (negsuc 127 ≤ℤ result) × (result ≤ℤ pos 127) }
 {
     clamped((pull * weight + 63) >> 7)
@@ -129,9 +129,9 @@ fn lowered(pixel: u8, by: i32) -> u8
 }
 
 /// The line drawn together by its pull.
-fn drawn_by(by: i32, line: Line) -> Line
+fn common_adjust_by(by: i32, line: Line) -> Line
     requires { (negsuc 127 ≤ℤ by) × (by ≤ℤ pos 127) }
-    ensures { (outer : Bool) → by ≡ pull outer line → result ≡ drawn outer line }
+    ensures { (outer : Bool) → by ≡ filter_value outer line → result ≡ common_adjusted outer line }
 {
     let up = eighth(by, 3);
     let down = eighth(by, 4);
@@ -142,43 +142,43 @@ fn drawn_by(by: i32, line: Line) -> Line
     }
 }
 
-fn drawn(outer: bool, line: Line) -> Line
-    ensures { result ≡ drawn outer line }
+fn common_adjust(outer: bool, line: Line) -> Line
+    ensures { result ≡ common_adjusted outer line }
 {
-    drawn_by(pull(outer, line), line)
+    common_adjust_by(filter_value(outer, line), line)
 }
 
 /// The step of a line whose pull is `by`.
-fn half_step(high: bool, by: i32) -> i32
+fn outer_tap_adjustment(high: bool, by: i32) -> i32
     requires { (negsuc 127 ≤ℤ by) × (by ≤ℤ pos 127) }
-    ensures value { (line : Line) → by ≡ pull high line → result ≡ half_step high line }
+    ensures value { (line : Line) → by ≡ filter_value high line → result ≡ outer_tap_adjustment high line }
     ensures range { (negsuc 127 ≤ℤ result) × (result ≤ℤ pos 127) }
 {
     if high { 0 } else { half(eighth(by, 4)) }
 }
 
-fn inner_changed(high: bool, line: Line) -> Line
-    ensures { result ≡ inner_changed high line }
+fn subblock_filter(high: bool, line: Line) -> Line
+    ensures { result ≡ subblock_edge_filtered high line }
 {
-    let pull = pull(high, line);
-    let half = half_step(high, pull);
+    let pull = filter_value(high, line);
+    let half = outer_tap_adjustment(high, pull);
     Line {
         p1: raised(line.p1, half),
         q1: lowered(line.q1, half),
-        ..drawn_by(pull, line)
+        ..common_adjust_by(pull, line)
     }
 }
 
-fn macroblock_changed(high: bool, line: Line) -> Line
-    ensures { result ≡ macroblock_changed high line }
+fn macroblock_filter(high: bool, line: Line) -> Line
+    ensures { result ≡ macroblock_edge_filtered high line }
 {
     if high {
-        return drawn(true, line);
+        return common_adjust(true, line);
     }
-    let pull = pull(true, line);
-    let near = share(27, pull);
-    let middle = share(18, pull);
-    let far = share(9, pull);
+    let pull = filter_value(true, line);
+    let near = weighted_filter_value(27, pull);
+    let middle = weighted_filter_value(18, pull);
+    let far = weighted_filter_value(9, pull);
     Line {
         p2: raised(line.p2, far),
         p1: raised(line.p1, middle),
@@ -229,12 +229,12 @@ impl LineStep {
 
     /// What a line that is changed becomes.
     pub(crate) fn changed(self, line: Line) -> Line
-        ensures { result ≡ changed self line }
+        ensures { result ≡ filtered_line self line }
     {
         match self.kind {
-            EdgeKind::Simple => drawn(true, line),
-            EdgeKind::Inner => inner_changed(is_high(self.hev, line), line),
-            EdgeKind::Macroblock => macroblock_changed(is_high(self.hev, line), line),
+            EdgeKind::Simple => common_adjust(true, line),
+            EdgeKind::Inner => subblock_filter(is_high(self.hev, line), line),
+            EdgeKind::Macroblock => macroblock_filter(is_high(self.hev, line), line),
         }
     }
 

@@ -2,7 +2,7 @@
 
 ghost use Rattle.std.specs.Prelude.{◌≡◌, ℕ, ◌+◌, ◌*◌, ◌<◌, ◌≤◌, List, [], length, slice_index, slice_index_or};
 ghost use Rattle.std.specs.Simd.Lanes.{put_chunk};
-ghost use Rattle.vp_base.specs.Raster.{Raster, place};
+ghost use Rattle.vp_base.specs.Raster.{Raster, pixel_index};
 ghost use Rattle.vp_base.specs.Image.{Image, plane_of, with_plane};
 ghost use Rattle.vp_base.specs.Block.{with_block, written, IsWhole};
 ghost use Rattle.vp_loop.specs.Edges.{on_plane};
@@ -43,7 +43,7 @@ fn put4(s: &mut [u8], at: usize, v: u8x4)
 fn put_rows16(pixels: &mut [u8], at: usize, stride: usize, rows: &[u8x16])
     requires room { (r : ℕ) → r < length rows.now → at + r * stride + 16 ≤ length pixels.old }
     requires end { at + length rows.now * stride ≤ 300000000 }
-    ensures value { (p : Raster) (x y : ℕ) → IsWhole p → p.pixels ≡ pixels.old → p.width ≡ stride → at ≡ place p x y
+    ensures value { (p : Raster) (x y : ℕ) → IsWhole p → p.pixels ≡ pixels.old → p.width ≡ stride → at ≡ pixel_index p x y
         → x + 16 ≤ p.width → y + length rows.now ≤ p.height
         → pixels.new ≡ written p x y 16 (length rows.now) (λ r c. slice_index (slice_index_or rows.now r []) c) }
     ensures len { length pixels.new ≡ length pixels.old }
@@ -73,7 +73,7 @@ pub(crate) fn write_rows16(picture: &mut Picture, k: usize, x: usize, y: usize, 
 fn put_rows8(pixels: &mut [u8], at: usize, stride: usize, rows: &[u8x8])
     requires room { (r : ℕ) → r < length rows.now → at + r * stride + 8 ≤ length pixels.old }
     requires end { at + length rows.now * stride ≤ 300000000 }
-    ensures value { (p : Raster) (x y : ℕ) → IsWhole p → p.pixels ≡ pixels.old → p.width ≡ stride → at ≡ place p x y
+    ensures value { (p : Raster) (x y : ℕ) → IsWhole p → p.pixels ≡ pixels.old → p.width ≡ stride → at ≡ pixel_index p x y
         → x + 8 ≤ p.width → y + length rows.now ≤ p.height
         → pixels.new ≡ written p x y 8 (length rows.now) (λ r c. slice_index (slice_index_or rows.now r []) c) }
     ensures len { length pixels.new ≡ length pixels.old }
@@ -103,7 +103,7 @@ pub(crate) fn write_rows8(picture: &mut Picture, k: usize, x: usize, y: usize, r
 fn put_rows4(pixels: &mut [u8], at: usize, stride: usize, rows: &[u8x4])
     requires room { (r : ℕ) → r < length rows.now → at + r * stride + 4 ≤ length pixels.old }
     requires end { at + length rows.now * stride ≤ 300000000 }
-    ensures value { (p : Raster) (x y : ℕ) → IsWhole p → p.pixels ≡ pixels.old → p.width ≡ stride → at ≡ place p x y
+    ensures value { (p : Raster) (x y : ℕ) → IsWhole p → p.pixels ≡ pixels.old → p.width ≡ stride → at ≡ pixel_index p x y
         → x + 4 ≤ p.width → y + length rows.now ≤ p.height
         → pixels.new ≡ written p x y 4 (length rows.now) (λ r c. slice_index (slice_index_or rows.now r []) c) }
     ensures len { length pixels.new ≡ length pixels.old }

@@ -1,13 +1,13 @@
 //! How strongly a macroblock is filtered.
 
 ghost use Rattle.std.specs.Prelude.{◌≡◌, ℕ, ℤ, ◌+◌, ◌-◌, ◌*◌, ◌/◌, ◌<◌, ◌≤◌, ◌≤ℤ◌, ◌+ℤ◌, pos, negsuc, ◌==◌, ◌||◌, length};
-ghost use Rattle.vp_loop.specs.Levels.{clamped_level, signed_at, segment_level, reference_delta, mode_delta, summed_level, macroblock_level, interior_limit, variance_threshold, has_inner_edges, no_level, level_of};
+ghost use Rattle.vp_loop.specs.Levels.{clamped_level, signed_at, segment_level, reference_delta, mode_delta, summed_level, macroblock_level, interior_limit, variance_threshold, has_inner_edges, no_level, filter_level};
 
 use vp_head::{Header, LevelDeltas, Reference};
 
 /// How a macroblock was predicted, as far as its filter level asks.
 #[derive(Clone, Copy, Debug, PartialEq, Eq)]
-pub enum Prediction {
+pub enum ModeClass {
     /// Intra, by a mode for the whole macroblock.
     Whole,
     /// Intra, each luma subblock by a mode of its own (`B_PRED`).
@@ -24,7 +24,7 @@ pub enum Prediction {
 #[derive(Clone, Copy, Debug, PartialEq, Eq)]
 pub struct MacroblockKind {
     pub reference: Reference,
-    pub prediction: Prediction,
+    pub prediction: ModeClass,
     /// Whether some block had a token.
     pub coded: bool,
 }
@@ -85,16 +85,16 @@ fn reference_delta(deltas: &LevelDeltas, reference: Reference) -> i32
     }
 }
 
-fn mode_delta(deltas: &LevelDeltas, prediction: Prediction) -> i32
+fn mode_delta(deltas: &LevelDeltas, prediction: ModeClass) -> i32
     ensures value { result ≡ mode_delta deltas.now prediction }
     ensures range { (negsuc 127 ≤ℤ result) × (result ≤ℤ pos 127) }
 {
     match prediction {
-        Prediction::Whole => 0,
-        Prediction::Subblocks => signed_at(&deltas.mode, 0),
-        Prediction::Zero => signed_at(&deltas.mode, 1),
-        Prediction::Moved => signed_at(&deltas.mode, 2),
-        Prediction::Split => signed_at(&deltas.mode, 3),
+        ModeClass::Whole => 0,
+        ModeClass::Subblocks => signed_at(&deltas.mode, 0),
+        ModeClass::Zero => signed_at(&deltas.mode, 1),
+        ModeClass::Moved => signed_at(&deltas.mode, 2),
+        ModeClass::Split => signed_at(&deltas.mode, 3),
     }
 }
 
@@ -151,16 +151,16 @@ fn has_inner_edges(kind: &MacroblockKind) -> bool
 {
     kind.coded
         || match kind.prediction {
-            Prediction::Subblocks | Prediction::Split => true,
-            Prediction::Whole | Prediction::Zero | Prediction::Moved => false,
+            ModeClass::Subblocks | ModeClass::Split => true,
+            ModeClass::Whole | ModeClass::Zero | ModeClass::Moved => false,
         }
 }
 
 /// How a macroblock of segment `segment` (0 to 3) is filtered; all 0 where it isn't. The numbers come from the frame's
 /// level and the segment's (RFC 6386, chapter 9.3), the differences of reference and mode (9.4) and the sharpness (15.4).
-#[tactic(auto, unfolding(crate::specs::Levels::level_of))]
+#[tactic(auto, unfolding(crate::specs::Levels::filter_level))]
 pub fn levels(header: &Header, segment: u8, kind: &MacroblockKind) -> Level
-    ensures { result ≡ level_of header.now segment kind.now }
+    ensures { result ≡ filter_level header.now segment kind.now }
 {
     let level = macroblock_level(header, segment, kind);
     if level == 0 {

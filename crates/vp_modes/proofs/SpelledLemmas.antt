@@ -11,7 +11,7 @@ use Rattle.vp_head.specs.declared.fields.Reference.TheVariants as reference_is
 use Rattle.vp_head.specs.Reference.{is_intra}
 use Rattle.vp_modes.specs.Entry.{Modes, plain}
 use Rattle.vp_modes.specs.Modes.{segment_of, skip_by, reference_of, intra_modes, prediction, unread, modes_at}
-use Rattle.vp_modes.specs.Spelled.{IsSpelled}
+use Rattle.vp_modes.specs.Spelled.{AreWritableModes}
 
 -- what isn't asked for is as it stands without
 unasked : {A : Type 0} (asked : Bool) (m : Reader A) (a : A) (s : State) → asked ≡ false → (when asked m a s).0 ≡ a
@@ -40,7 +40,7 @@ unfolding intra_modes bind
 kept h g p m s true e d = record { segment = refl; skip = refl; reference = refl; inter = λ i. absurd cc; subs = λ n. unasked _ _ _ _ n }
 kept h g p m s false e d = record { segment = refl; skip = refl; reference = refl; inter = λ i. refl; subs = λ n. d }
 
-pub spelled : (h : Header) (g : Grid Modes) (p : Place) (s : State) → IsSpelled h g p (modes_at h g p s).0
+pub spelled : (h : Header) (g : Grid Modes) (p : Place) (s : State) → AreWritableModes h g p (modes_at h g p s).0
 unfolding modes_at segment_of prediction bind
 spelled h g p s =
     let a = segment_of h (at plain g p).segment s in

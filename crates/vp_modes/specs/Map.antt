@@ -3,7 +3,7 @@ use Rattle.std.specs.Prelude.{ℕ, List, slice_index_or, if◌then◌else◌}
 use Rattle.vp_base.specs.declared.place.Place.{Place}
 use Rattle.vp_base.specs.Place.{above, left}
 use Rattle.vp_base.specs.Grid.{Grid, mapped}
-use Rattle.vp_base.specs.Near.{block, seen_from, value}
+use Rattle.vp_base.specs.Near.{block_place, seen_from, value}
 use Rattle.vp_tables.specs.declared.modes.LumaMode.{LumaMode}
 use Rattle.vp_tables.specs.declared.modes.LumaMode.TheVariants as luma_is
 use Rattle.vp_tables.specs.declared.modes.SubMode.{SubMode}
@@ -33,7 +33,7 @@ sub_of m k = if is_by_subblocks m.luma then slice_index_or m.subs k sub_is.Dc el
 
 -- the modes above subblock k of the macroblock at a place, and to its left, where those before k are in found; outside the frame they are DC
 unfoldable pub context_above : Grid Modes → Place → List SubMode → ℕ → SubMode
-context_above g p found k = value sub_of sub_is.Dc g found (seen_from 4 p (above (block 4 p k)))
+context_above g p found k = value sub_of sub_is.Dc g found (seen_from 4 p (above (block_place 4 p k)))
 
 unfoldable pub context_left : Grid Modes → Place → List SubMode → ℕ → SubMode
-context_left g p found k = value sub_of sub_is.Dc g found (seen_from 4 p (left (block 4 p k)))
+context_left g p found k = value sub_of sub_is.Dc g found (seen_from 4 p (left (block_place 4 p k)))

@@ -12,7 +12,7 @@ use Rattle.vp_modes.specs.Entry.{Modes, plain}
 use Rattle.vp_modes.specs.Modes.{unread, modes_at}
 
 -- where g has at p the modes of the frame before
-pub record IsSpelled (h : Header) (g : Grid Modes) (p : Place) (m : Modes) : Type 0 where
+pub record AreWritableModes (h : Header) (g : Grid Modes) (p : Place) (m : Modes) : Type 0 where
   pub segment : h.segmentation.update_map ≡ false → m.segment ≡ (if h.key then 0 else (at plain g p).segment)
   pub skip : h.skip ≡ None → m.skip ≡ false
   pub reference : h.key ≡ true → m.reference ≡ reference_is.Intra
@@ -22,4 +22,4 @@ pub record IsSpelled (h : Header) (g : Grid Modes) (p : Place) (m : Modes) : Typ
 
 -- what is read can be written
 abbrev pub CanBeWrittenAgain : Type 0
-CanBeWrittenAgain = (h : Header) (g : Grid Modes) (p : Place) (s : State) → IsSpelled h g p (modes_at h g p s).0
+CanBeWrittenAgain = (h : Header) (g : Grid Modes) (p : Place) (s : State) → AreWritableModes h g p (modes_at h g p s).0

@@ -6,7 +6,7 @@ ghost use Rattle.vp_tree.specs.Tree.{walk_from};
 ghost use Rattle.vp_tables.specs.Modes.{is_by_subblocks};
 ghost use Rattle.vp_head.specs.Reference.{is_intra};
 ghost use Rattle.vp_modes.specs.Modes.{segment_id, segment_of, skip_by, inter_reference, reference_of, luma_mode, chroma_mode, sub_mode, sub_modes, intra_modes, prediction, unread, modes_at};
-ghost use Rattle.vp_modes.specs.Spelled.{IsSpelled};
+ghost use Rattle.vp_modes.specs.Spelled.{AreWritableModes};
 
 use crate::entry::Modes;
 use crate::map::ModeMap;
@@ -191,7 +191,7 @@ pub fn write_modes(
     e: &mut BoolEncoder,
 ) -> Result<(), AllocError>
     requires place { Has map.now place }
-    requires spelled { IsSpelled header.now map.now place modes.now }
+    requires spelled { AreWritableModes header.now map.now place modes.now }
     // What was written is read as these modes, whatever follows.
     ensures { OnOk result (Writes (modes_at header.now map.now place) e.old e.new modes.now) }
 {

@@ -8,12 +8,12 @@ use Rattle.vp_head.specs.declared.fields.SignBiases.{SignBiases}
 use Rattle.vp_base.specs.declared.place.Place.{Place}
 use Rattle.vp_base.specs.Place.{above, left, corner}
 use Rattle.vp_base.specs.Grid.{Grid, look}
-use Rattle.vp_motion.specs.Vector.{Vector, Entry, still}
+use Rattle.vp_motion.specs.Vector.{Vector, MacroblockMotion, still}
 use Rattle.std.specs.Int.{from_bool}
 use Rattle.std.specs.Prelude.{nat_lt}
 use Rattle.vp_head.specs.Reference.{is_intra}
 use Rattle.vp_motion.specs.Map.{intra}
-use Rattle.vp_motion.specs.Near.{from_entries, from_two, first_of, entry, within, candidates, split_count, splits, same, same_number, still_weight, moving, onto, runs, neighbours, joined, total, nobody, counted, seen, AreHeavy, IsTally}
+use Rattle.vp_motion.specs.Near.{from_entries, from_two, first_candidate, weighted_at, clamped_vector, candidates, split_count, splits, same, same_number, still_weight, moving, onto, runs, neighbours, joined, total, nobody, weighted_neighbour, bias_corrected, AreHeavy, IsTally}
 
 -- the last entry, and one more
 pub joined-last : (es : List Weighted) (n : ℕ) (w : Weighted) → length es ≡ n + 1 → same (get_or es n nobody).vector w.vector ≡ true
@@ -112,23 +112,23 @@ moving-push (v ∷ ws) w = elim (cases_Bool (same v.vector still)) [
   | inr f ↦ rw (f, moving-push ws w) (elim (cases_Bool (same w.vector still)) [ inl t ↦ rw t refl | inr n ↦ rw n refl ])
 ]
 
-pub tally-intra : (ws : List Weighted) (count : ℕ) (es : List Weighted) (r : Reference) (b : SignBiases) (n : ℕ) (e : Entry) → is_intra e.reference ≡ true
-    → IsTally ws count es → IsTally (ws ++ counted r b n e) count es
-unfolding counted
+pub tally-intra : (ws : List Weighted) (count : ℕ) (es : List Weighted) (r : Reference) (b : SignBiases) (n : ℕ) (e : MacroblockMotion) → is_intra e.reference ≡ true
+    → IsTally ws count es → IsTally (ws ++ weighted_neighbour r b n e) count es
+unfolding weighted_neighbour
 tally-intra ws count es r b n e h t = rw (h, append-nil ws) t
 
-pub tally-still : (ws : List Weighted) (count : ℕ) (es : List Weighted) (r : Reference) (b : SignBiases) (n : ℕ) (e : Entry) → is_intra e.reference ≡ false
-    → same (seen r b e) still ≡ true → IsTally ws count es → IsTally (ws ++ counted r b n e) (count + n) es
-unfolding counted
-tally-still ws count es r b n e h s t = rw h (let w : Weighted = record { vector = seen r b e; weight = n } in record {
+pub tally-still : (ws : List Weighted) (count : ℕ) (es : List Weighted) (r : Reference) (b : SignBiases) (n : ℕ) (e : MacroblockMotion) → is_intra e.reference ≡ false
+    → same (bias_corrected r b e) still ≡ true → IsTally ws count es → IsTally (ws ++ weighted_neighbour r b n e) (count + n) es
+unfolding weighted_neighbour
+tally-still ws count es r b n e h s t = rw h (let w : Weighted = record { vector = bias_corrected r b e; weight = n } in record {
   still_ones = ap (λ (k : ℕ). k + n) t.still_ones ∙ sym (still_weight-push ws w ∙ ap (λ (x : Bool). still_weight ws + cond x n 0) s);
   entries = t.entries ∙ sym (ap runs (moving-push ws w ∙ ap (λ (x : Bool). cond x (moving ws) (moving ws ++ w ∷ [])) s));
 })
 
-pub tally-moving : (ws : List Weighted) (count : ℕ) (es fs : List Weighted) (r : Reference) (b : SignBiases) (n : ℕ) (e : Entry) → is_intra e.reference ≡ false
-    → same (seen r b e) still ≡ false → fs ≡ joined es (record { vector = seen r b e; weight = n }) → IsTally ws count es → IsTally (ws ++ counted r b n e) count fs
-unfolding counted
-tally-moving ws count es fs r b n e h s j t = rw h (let w : Weighted = record { vector = seen r b e; weight = n } in record {
+pub tally-moving : (ws : List Weighted) (count : ℕ) (es fs : List Weighted) (r : Reference) (b : SignBiases) (n : ℕ) (e : MacroblockMotion) → is_intra e.reference ≡ false
+    → same (bias_corrected r b e) still ≡ false → fs ≡ joined es (record { vector = bias_corrected r b e; weight = n }) → IsTally ws count es → IsTally (ws ++ weighted_neighbour r b n e) count fs
+unfolding weighted_neighbour
+tally-moving ws count es fs r b n e h s j t = rw h (let w : Weighted = record { vector = bias_corrected r b e; weight = n } in record {
   still_ones = t.still_ones ∙ sym (still_weight-push ws w ∙ ap (λ (x : Bool). still_weight ws + cond x n 0) s ∙ (let z : still_weight ws + 0 ≡ still_weight ws = omega arith in z));
   entries = j ∙ ap (λ (l : List Weighted). joined l w) t.entries ∙ sym (ap runs (moving-push ws w ∙ ap (λ (x : Bool). cond x (moving ws) (moving ws ++ w ∷ [])) s) ∙ runs-push (moving ws) w);
 })
@@ -137,37 +137,37 @@ pub tally-none : IsTally [] 0 []
 unfolding still_weight moving runs
 tally-none = record { still_ones = refl; entries = refl }
 
-pub near_is : (g : Grid Entry) (place : Place) (r : Reference) (b : SignBiases) (a l k : Entry) (count total_splits : ℕ) (es : List Weighted)
+pub near_is : (g : Grid MacroblockMotion) (place : Place) (r : Reference) (b : SignBiases) (a l k : MacroblockMotion) (count total_splits : ℕ) (es : List Weighted)
     → a ≡ look intra g (above place) → l ≡ look intra g (left place) → k ≡ look intra g (corner place) → total_splits ≡ 2 * from_bool (splits a) + 2 * from_bool (splits l) + from_bool (splits k)
-    → IsTally (([] ++ counted r b 2 a) ++ counted r b 2 l ++ counted r b 1 k) count es
-    → from_entries (within g place) count total_splits es ≡ candidates g place r b
+    → IsTally (([] ++ weighted_neighbour r b 2 a) ++ weighted_neighbour r b 2 l ++ weighted_neighbour r b 1 k) count es
+    → from_entries (clamped_vector g place) count total_splits es ≡ candidates g place r b
 unfolding candidates neighbours split_count
 near_is g place r b a l k count total_splits es p q s n t =
-    let f : Entry → Entry → Entry → List Weighted = λ (u v w : Entry). counted r b 2 u ++ (counted r b 2 v ++ counted r b 1 w) in
-    let e : (([] ++ counted r b 2 a) ++ counted r b 2 l) ++ counted r b 1 k ≡ f (look intra g (above place)) (look intra g (left place)) (look intra g (corner place)) =
-    append_assoc (counted r b 2 a) (counted r b 2 l) (counted r b 1 k) ∙ (λ i. f (p i) (q i) (s i)) in
+    let f : MacroblockMotion → MacroblockMotion → MacroblockMotion → List Weighted = λ (u v w : MacroblockMotion). weighted_neighbour r b 2 u ++ (weighted_neighbour r b 2 v ++ weighted_neighbour r b 1 w) in
+    let e : (([] ++ weighted_neighbour r b 2 a) ++ weighted_neighbour r b 2 l) ++ weighted_neighbour r b 1 k ≡ f (look intra g (above place)) (look intra g (left place)) (look intra g (corner place)) =
+    append_assoc (weighted_neighbour r b 2 a) (weighted_neighbour r b 2 l) (weighted_neighbour r b 1 k) ∙ (λ i. f (p i) (q i) (s i)) in
     let z : count ≡ still_weight (f (look intra g (above place)) (look intra g (left place)) (look intra g (corner place))) = t.still_ones ∙ ap still_weight e in
     let w : es ≡ runs (moving (f (look intra g (above place)) (look intra g (left place)) (look intra g (corner place)))) = t.entries ∙ ap (λ (v : List Weighted). runs (moving v)) e in
     let m : total_splits ≡ 2 * from_bool (splits (look intra g (above place))) + 2 * from_bool (splits (look intra g (left place))) + from_bool (splits (look intra g (corner place))) =
     n ∙ (λ i. 2 * from_bool (splits (p i)) + 2 * from_bool (splits (q i)) + from_bool (splits (s i))) in
-    λ i. from_entries (within g place) (z i) (m i) (w i)
+    λ i. from_entries (clamped_vector g place) (z i) (m i) (w i)
 
 -- an entry that is there is that, whatever counts as standing past the end
 pub there : (es : List Weighted) (k : ℕ) (r : Weighted) → k < length es → r ≡ get_or es k r → r ≡ get_or es k nobody
 there es k r within is = is ∙ get_or_default es k r nobody within
 
 -- where the second entry is heavier, it is the nearest
-pub second-first : (clamp : Vector → Vector) (count total_splits : ℕ) (es : List Weighted) (first second : Weighted) → first ≡ first_of es → second ≡ entry es 1
+pub second-first : (clamp : Vector → Vector) (count total_splits : ℕ) (es : List Weighted) (first second : Weighted) → first ≡ first_candidate es → second ≡ weighted_at es 1
     → first.weight < second.weight → from_two clamp count total_splits second first ≡ from_entries clamp count total_splits es
 unfolding from_entries
 second-first clamp count total_splits es first second p q h =
-    let l : nat_lt (first_of es).weight (entry es 1).weight ≡ true = rw (← p, ← q) (lt-ltb first.weight second.weight h) in
+    let l : nat_lt (first_candidate es).weight (weighted_at es 1).weight ≡ true = rw (← p, ← q) (lt-ltb first.weight second.weight h) in
     rw l (rw (p, q) refl)
 
 -- else the first is
-pub first-second : (clamp : Vector → Vector) (count total_splits : ℕ) (es : List Weighted) (first second : Weighted) → first ≡ first_of es → second ≡ entry es 1
+pub first-second : (clamp : Vector → Vector) (count total_splits : ℕ) (es : List Weighted) (first second : Weighted) → first ≡ first_candidate es → second ≡ weighted_at es 1
     → second.weight ≤ first.weight → from_two clamp count total_splits first second ≡ from_entries clamp count total_splits es
 unfolding from_entries
 first-second clamp count total_splits es first second p q h =
-    let l : nat_lt (first_of es).weight (entry es 1).weight ≡ false = rw (← p, ← q) (le-ltb first.weight second.weight h) in
+    let l : nat_lt (first_candidate es).weight (weighted_at es 1).weight ≡ false = rw (← p, ← q) (le-ltb first.weight second.weight h) in
     rw l (rw (p, q) refl)

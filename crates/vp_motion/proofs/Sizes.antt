@@ -22,11 +22,11 @@ use Rattle.vp_tables.specs.declared.modes.VectorMode.TheVariants as vector_is
 use Rattle.vp_tables.specs.declared.trees.TheConstants.{SHORT_VECTOR_TREE}
 use Rattle.vp_tables.specs.Modes.{is_split}
 use Rattle.vp_motion.specs.declared.vector.Weighted.{Weighted}
-use Rattle.vp_motion.specs.Vector.{Vector, Candidates, Entry, IsWithin, last_of, still}
+use Rattle.vp_motion.specs.Vector.{Vector, Candidates, MacroblockMotion, IsWithin, last_of, still}
 use Rattle.vp_motion.specs.Map.{AreWithin, intra, own}
-use Rattle.vp_motion.specs.Motion.{all_new, bit, component, long_size, motion_at, motion_by, new_vector, short_size, size, sum_of, vector, vectors_by}
-use Rattle.vp_motion.specs.Near.{bias_of, candidates, clamped, counted, entry, first_of, from_entries, from_two, moving, negated, neighbours, onto, runs, same, same_bool, seen, within}
-use Rattle.vp_motion.specs.Spelled.{CanBeWritten, Gives, difference_of}
+use Rattle.vp_motion.specs.Motion.{all_new, bit, component, long_size, motion_at, motion_by, new_vector, short_size, component_magnitude, sum_of, vector, vectors_by}
+use Rattle.vp_motion.specs.Near.{bias_of, candidates, clamped, weighted_neighbour, weighted_at, first_candidate, from_entries, from_two, moving, negated, neighbours, onto, runs, same, same_bool, bias_corrected, clamped_vector}
+use Rattle.vp_motion.specs.Spelled.{CanBeWritten, GivesVector, difference_of}
 
 -- ---- What is read
 
@@ -62,8 +62,8 @@ size_by : (long : Bool) (ps : List ℕ) (s : State) → (cond long (long_size ps
 size_by true ps s = long_size-small ps s
 size_by false ps s = let h = short_size-small ps s in omega arith
 
-size-small : (ps : List ℕ) (s : State) → (size ps s).0 ≤ 1023
-unfolding size bind
+size-small : (ps : List ℕ) (s : State) → (component_magnitude ps s).0 ≤ 1023
+unfolding component_magnitude bind
 size-small ps s = size_by (read (slice_index ps 0) s).0 ps (read (slice_index ps 0) s).1
 
 -- a part of a vector
@@ -77,7 +77,7 @@ signed_part false n h = record { low = omega (arith, ints); high = omega (arith,
 
 component-small : (ps : List ℕ) (s : State) → IsPart (component ps s).0
 unfolding component bind
-component-small ps s = signed_part _ (size ps s).0 (size-small ps s)
+component-small ps s = signed_part _ (component_magnitude ps s).0 (size-small ps s)
 
 pub vector-small : (ps : List (List ℕ)) (s : State) → IsWithin 1023 (vector ps s).0
 unfolding vector bind
@@ -92,8 +92,8 @@ taken_back a b = omega (arith, ints)
 difference_of-sum : (u v : Vector) → difference_of (sum_of u v) u ≡ v
 difference_of-sum u v = λ i. record { row = taken_back u.row v.row i; column = taken_back u.column v.column i }
 
-given-spelled : (ps : List (List ℕ)) (g : Grid Entry) (p : Place) (c : Candidates) (mode : VectorMode) (s : State) → is_split mode ≡ false
-    → Gives c mode (last_of (vectors_by ps g p c mode s).0)
+given-spelled : (ps : List (List ℕ)) (g : Grid MacroblockMotion) (p : Place) (c : Candidates) (mode : VectorMode) (s : State) → is_split mode ≡ false
+    → GivesVector c mode (last_of (vectors_by ps g p c mode s).0)
 unfolding all_new new_vector bind
 given-spelled ps g p c vector_is.Zero s h = refl
 given-spelled ps g p c vector_is.Nearest s h = refl
@@ -101,7 +101,7 @@ given-spelled ps g p c vector_is.Near s h = refl
 given-spelled ps g p c vector_is.New s h = subst (IsWithin 1023) (sym (difference_of-sum c.best (vector ps s).0)) (vector-small ps s)
 given-spelled ps g p c vector_is.Split s h = absurd cc
 
-pub motion-spelled : (h : Header) (g : Grid Entry) (p : Place) (r : Reference) (s : State) → is_split (motion_at h g p r s).0.mode ≡ false
+pub motion-spelled : (h : Header) (g : Grid MacroblockMotion) (p : Place) (r : Reference) (s : State) → is_split (motion_at h g p r s).0.mode ≡ false
     → CanBeWritten (candidates g p r h.biases) (motion_at h g p r s).0
 unfolding motion_at motion_by bind
 motion-spelled h g p r s whole = given-spelled h.probabilities.vectors g p (candidates g p r h.biases) _ _ whole
@@ -126,8 +126,8 @@ counted_by : (intra : Bool) (n : ℕ) (w : Weighted) → IsWithin n w.vector →
 counted_by true n w h = tt
 counted_by false n w h = (h, tt)
 
-counted-short : (n : ℕ) (r : Reference) (b : SignBiases) (weight : ℕ) (e : Entry) → IsWithin n (own e) → AreShort n (counted r b weight e)
-unfolding counted seen
+counted-short : (n : ℕ) (r : Reference) (b : SignBiases) (weight : ℕ) (e : MacroblockMotion) → IsWithin n (own e) → AreShort n (weighted_neighbour r b weight e)
+unfolding weighted_neighbour bias_corrected
 counted-short n r b weight e h = counted_by (is_intra e.reference) n _ (turned-short (same_bool (bias_of e.reference b) (bias_of r b)) n (own e) h)
 
 append-short : (n : ℕ) (ws vs : List Weighted) → AreShort n ws → AreShort n vs → AreShort n (ws ++ vs)
@@ -158,7 +158,7 @@ unfolding runs
 runs-short n [] h = tt
 runs-short n (w ∷ ws) h = onto-short n w (runs ws) h.0 (runs-short n ws h.1)
 
-entry-short : (n : ℕ) (es : List Weighted) (k : ℕ) → AreShort n es → IsWithin n (entry es k).vector
+entry-short : (n : ℕ) (es : List Weighted) (k : ℕ) → AreShort n es → IsWithin n (weighted_at es k).vector
 entry-short n [] k h = still-short n
 entry-short n (e ∷ es) zero h = h.0
 entry-short n (e ∷ es) (suc k) h = entry-short n es k h.1
@@ -167,9 +167,9 @@ first_by : (more : Bool) (n : ℕ) (w : Weighted) (k : ℕ) → IsWithin n w.vec
 first_by true n w k h = h
 first_by false n w k h = h
 
-first-short : (n : ℕ) (es : List Weighted) → AreShort n es → IsWithin n (first_of es).vector
-unfolding first_of
-first-short n es h = first_by _ n (entry es 0) _ (entry-short n es 0 h)
+first-short : (n : ℕ) (es : List Weighted) → AreShort n es → IsWithin n (first_candidate es).vector
+unfolding first_candidate
+first-short n es h = first_by _ n (weighted_at es 0) _ (entry-short n es 0 h)
 
 -- ---- Clamping lengthens none, since it is done between a number below 0 and one above it.
 
@@ -185,8 +185,8 @@ clamped_by false false n a b z f g h = h
 clamped-between : (n a b : ℕ) (z : ℤ) → IsBetween n z → IsBetween n (clamped (neg_ℤ (pos a)) (pos b) z)
 clamped-between n a b z h = clamped_by (lt_z z (neg_ℤ (pos a))) (lt_z (pos b) z) n a b z (λ t. lt_z_yes t) (λ t. lt_z_yes t) h
 
-within-short : (n : ℕ) (g : Grid Entry) (p : Place) (v : Vector) → IsWithin n v → IsWithin n (within g p v)
-unfolding within
+within-short : (n : ℕ) (g : Grid MacroblockMotion) (p : Place) (v : Vector) → IsWithin n v → IsWithin n (clamped_vector g p v)
+unfolding clamped_vector
 within-short n g p v h =
     let row = clamped-between n _ _ v.row (record { low = h.low_row; high = h.high_row }) in
     let column = clamped-between n _ _ v.column (record { low = h.low_column; high = h.high_column }) in
@@ -201,8 +201,8 @@ best_by : (moves : Bool) (n : ℕ) (v : Vector) → IsWithin n v → IsWithin n 
 best_by true n v h = h
 best_by false n v h = still-short n
 
-two-short : (n : ℕ) (g : Grid Entry) (p : Place) (zeros splits : ℕ) (nearest near : Weighted) → IsWithin n nearest.vector → IsWithin n near.vector
-    → AreCandidatesWithin n (from_two (within g p) zeros splits nearest near)
+two-short : (n : ℕ) (g : Grid MacroblockMotion) (p : Place) (zeros splits : ℕ) (nearest near : Weighted) → IsWithin n nearest.vector → IsWithin n near.vector
+    → AreCandidatesWithin n (from_two (clamped_vector g p) zeros splits nearest near)
 two-short n g p zeros splits nearest near h k = record {
   best = within-short n g p _ (best_by (leb zeros nearest.weight) n nearest.vector h);
   nearest = within-short n g p _ h;
@@ -213,25 +213,25 @@ entries_by : (swaps : Bool) (n : ℕ) (a b : Candidates) → AreCandidatesWithin
 entries_by true n a b h k = h
 entries_by false n a b h k = k
 
-entries-short : (n : ℕ) (g : Grid Entry) (p : Place) (zeros splits : ℕ) (es : List Weighted) → AreShort n es → AreCandidatesWithin n (from_entries (within g p) zeros splits es)
+entries-short : (n : ℕ) (g : Grid MacroblockMotion) (p : Place) (zeros splits : ℕ) (es : List Weighted) → AreShort n es → AreCandidatesWithin n (from_entries (clamped_vector g p) zeros splits es)
 unfolding from_entries
 entries-short n g p zeros splits es h =
     let first = first-short n es h in
     let second = entry-short n es 1 h in
     entries_by _ n _ _ (two-short n g p zeros splits _ _ second first) (two-short n g p zeros splits _ _ first second)
 
-look-short : (n : ℕ) (g : Grid Entry) (o : Option Place) → AreWithin n g → IsWithin n (own (look intra g o))
+look-short : (n : ℕ) (g : Grid MacroblockMotion) (o : Option Place) → AreWithin n g → IsWithin n (own (look intra g o))
 unfolding intra own
 look-short n g None h = still-short n
 look-short n g (Some p) h = h p
 
-neighbours-short : (n : ℕ) (g : Grid Entry) (p : Place) (r : Reference) (b : SignBiases) → AreWithin n g → AreShort n (neighbours g p r b)
+neighbours-short : (n : ℕ) (g : Grid MacroblockMotion) (p : Place) (r : Reference) (b : SignBiases) → AreWithin n g → AreShort n (neighbours g p r b)
 unfolding neighbours
 neighbours-short n g p r b h =
     append-short n _ _ (counted-short n r b 2 _ (look-short n g (above p) h))
     (append-short n _ _ (counted-short n r b 2 _ (look-short n g (left p) h)) (counted-short n r b 1 _ (look-short n g (corner p) h)))
 
-pub candidates-short : (n : ℕ) (g : Grid Entry) (p : Place) (r : Reference) (b : SignBiases) → AreWithin n g → AreCandidatesWithin n (candidates g p r b)
+pub candidates-short : (n : ℕ) (g : Grid MacroblockMotion) (p : Place) (r : Reference) (b : SignBiases) → AreWithin n g → AreCandidatesWithin n (candidates g p r b)
 unfolding candidates
 candidates-short n g p r b h = entries-short n g p _ _ _ (runs-short n _ (moving-short n _ (neighbours-short n g p r b h)))
 
@@ -245,12 +245,12 @@ new-short v u h k = record {
 
 -- ---- What is put into a map
 
-at_by : (inside : Bool) (n : ℕ) (old new : Option Entry) → (IsWithin n (own (unwrap_or old intra)) → IsWithin n (own (unwrap_or new intra)))
+at_by : (inside : Bool) (n : ℕ) (old new : Option MacroblockMotion) → (IsWithin n (own (unwrap_or old intra)) → IsWithin n (own (unwrap_or new intra)))
     → IsWithin n (own (unwrap_or (cond inside old None) intra)) → IsWithin n (own (unwrap_or (cond inside new None) intra))
 at_by true n old new f h = f h
 at_by false n old new f h = h
 
-set-short : (n : ℕ) (es : List Entry) (i j : ℕ) (e : Entry) → IsWithin n (own e) → IsWithin n (own (unwrap_or (slice_get es j) intra))
+set-short : (n : ℕ) (es : List MacroblockMotion) (i j : ℕ) (e : MacroblockMotion) → IsWithin n (own e) → IsWithin n (own (unwrap_or (slice_get es j) intra))
     → IsWithin n (own (unwrap_or (slice_get (slice_set es i e) j) intra))
 set-short n [] i j e h k = k
 set-short n (x ∷ es) zero zero e h k = h
@@ -258,7 +258,7 @@ set-short n (x ∷ es) zero (suc j) e h k = k
 set-short n (x ∷ es) (suc i) zero e h k = k
 set-short n (x ∷ es) (suc i) (suc j) e h k = set-short n es i j e h k
 
-pub map-short : (n : ℕ) (g : Grid Entry) (p : Place) (e : Entry) → AreWithin n g → IsWithin n (own e) → AreWithin n (with_entry g p e)
+pub map-short : (n : ℕ) (g : Grid MacroblockMotion) (p : Place) (e : MacroblockMotion) → AreWithin n g → IsWithin n (own e) → AreWithin n (with_entry g p e)
 unfolding grid.entry changed
 map-short n g p e h k q = at_by (nat_lt q.column g.columns) n _ _ (set-short n g.entries _ _ e k) (h q)
 

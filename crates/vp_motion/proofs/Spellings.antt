@@ -10,12 +10,12 @@ use Rattle.vp_bool.specs.Writing.{Writes}
 use Rattle.vp_bool.proofs.WritingLemmas.{Writes-then, Continues-none, Continues-given}
 use Rattle.vp_tables.specs.declared.modes.VectorMode.{VectorMode}
 use Rattle.vp_tables.specs.declared.modes.VectorMode.TheVariants as vector_is
-use Rattle.vp_motion.specs.Vector.{Vector, Candidates, Entry, AreOne, IsWithin}
+use Rattle.vp_motion.specs.Vector.{Vector, Candidates, MacroblockMotion, AreOne, IsWithin}
 use Rattle.vp_motion.specs.Near.{same, same_number}
 use Rattle.vp_motion.specs.Motion.{all_new, new_vector, vectors_by, sum_of}
 use Rattle.vp_tables.specs.Modes.{is_split}
 use Rattle.vp_motion.proofs.Runs.{same-true}
-use Rattle.vp_motion.specs.Spelled.{Gives, difference_of}
+use Rattle.vp_motion.specs.Spelled.{GivesVector, difference_of}
 
 same_number-itself : (z : ℤ) → same_number z z ≡ true
 same_number-itself (pos n) = eq-eqb n n refl
@@ -60,20 +60,20 @@ sum_of-difference v u = λ i. record { row = added_back v.row u.row i; column = 
 
 -- ---- what is written behind the mode
 
-pub new_given : (ps : List (List ℕ)) (g : Grid Entry) (p : Place) (c : Candidates) (mode : VectorMode) (v : Vector) (old new : Interval) → mode ≡ vector_is.New
+pub new_given : (ps : List (List ℕ)) (g : Grid MacroblockMotion) (p : Place) (c : Candidates) (mode : VectorMode) (v : Vector) (old new : Interval) → mode ≡ vector_is.New
     → Writes (new_vector ps c.best) old new v → Writes (vectors_by ps g p c mode) old new (replicate 16 v)
 unfolding all_new
 new_given ps g p c mode v old new e w = rw e (Writes-then _ w (Continues-none _ _))
 
-pub others_given : (ps : List (List ℕ)) (g : Grid Entry) (p : Place) (c : Candidates) (mode : VectorMode) (v : Vector) (e : Interval) → ¬ (mode ≡ vector_is.New)
-    → Gives c mode v → Writes (vectors_by ps g p c mode) e e (replicate 16 v)
+pub others_given : (ps : List (List ℕ)) (g : Grid MacroblockMotion) (p : Place) (c : Candidates) (mode : VectorMode) (v : Vector) (e : Interval) → ¬ (mode ≡ vector_is.New)
+    → GivesVector c mode v → Writes (vectors_by ps g p c mode) e e (replicate 16 v)
 others_given ps g p c vector_is.Zero v e n h = Continues-given (ap (λ (u : Vector). replicate 16 u) (sym h)) e
 others_given ps g p c vector_is.Nearest v e n h = Continues-given (ap (λ (u : Vector). replicate 16 u) (sym h)) e
 others_given ps g p c vector_is.Near v e n h = Continues-given (ap (λ (u : Vector). replicate 16 u) (sym h)) e
 others_given ps g p c vector_is.New v e n h = absurd (n refl)
 others_given ps g p c vector_is.Split v e n h = absurd h
 
-pub whole : (c : Candidates) (mode : VectorMode) (v : Vector) → Gives c mode v → is_split mode ≡ false
+pub whole : (c : Candidates) (mode : VectorMode) (v : Vector) → GivesVector c mode v → is_split mode ≡ false
 whole c vector_is.Zero v h = refl
 whole c vector_is.Nearest v h = refl
 whole c vector_is.Near v h = refl

@@ -12,7 +12,7 @@ use Rattle.vp_base.specs.Place.{above, left, corner}
 use Rattle.vp_base.specs.Grid.{Grid, look}
 use Rattle.vp_motion.specs.declared.vector.Nearby.{Nearby}
 use Rattle.vp_motion.specs.declared.vector.Weighted.{Weighted}
-use Rattle.vp_motion.specs.Vector.{Vector, Entry, Candidates, still}
+use Rattle.vp_motion.specs.Vector.{Vector, MacroblockMotion, Candidates, still}
 use Rattle.vp_motion.specs.Map.{intra, own}
 
 -- ---- A neighbour's vector
@@ -40,16 +40,16 @@ unfoldable pub same : Vector → Vector → Bool
 same u v = same_number u.row v.row && same_number u.column v.column
 
 -- It is negated where the sign biases of the two references differ.
-unfoldable pub seen : Reference → SignBiases → Entry → Vector
-seen r b e = if same_bool (bias_of e.reference b) (bias_of r b) then own e else negated (own e)
+unfoldable pub bias_corrected : Reference → SignBiases → MacroblockMotion → Vector
+bias_corrected r b e = if same_bool (bias_of e.reference b) (bias_of r b) then own e else negated (own e)
 
 -- a neighbour's vector and its weight, where it counts
-unfoldable pub counted : Reference → SignBiases → ℕ → Entry → List Weighted
-counted r b weight e = if is_intra e.reference then [] else record { vector = seen r b e; weight = weight } ∷ []
+unfoldable pub weighted_neighbour : Reference → SignBiases → ℕ → MacroblockMotion → List Weighted
+weighted_neighbour r b weight e = if is_intra e.reference then [] else record { vector = bias_corrected r b e; weight = weight } ∷ []
 
 -- those above, to the left and above-left; outside the frame nothing counts
-unfoldable pub neighbours : Grid Entry → Place → Reference → SignBiases → List Weighted
-neighbours g p r b = counted r b 2 (look intra g (above p)) ++ (counted r b 2 (look intra g (left p)) ++ counted r b 1 (look intra g (corner p)))
+unfoldable pub neighbours : Grid MacroblockMotion → Place → Reference → SignBiases → List Weighted
+neighbours g p r b = weighted_neighbour r b 2 (look intra g (above p)) ++ (weighted_neighbour r b 2 (look intra g (left p)) ++ weighted_neighbour r b 1 (look intra g (corner p)))
 
 -- ---- The vectors that are found, with their weights
 
@@ -75,21 +75,21 @@ runs (w ∷ ws) = onto w (runs ws)
 abbrev pub nobody : Weighted
 nobody = record { vector = still; weight = 0 }
 
-abbrev pub entry : List Weighted → ℕ → Weighted
-entry es k = slice_index_or es k nobody
+abbrev pub weighted_at : List Weighted → ℕ → Weighted
+weighted_at es k = slice_index_or es k nobody
 
 -- the first entry, which grows by 1 where three entries stand and the third equals it
-unfoldable pub first_of : List Weighted → Weighted
-first_of es =
-    if nat_lt 2 (length es) && same (entry es 2).vector (entry es 0).vector
-    then record { vector = (entry es 0).vector; weight = (entry es 0).weight + 1 }
-    else entry es 0
+unfoldable pub first_candidate : List Weighted → Weighted
+first_candidate es =
+    if nat_lt 2 (length es) && same (weighted_at es 2).vector (weighted_at es 0).vector
+    then record { vector = (weighted_at es 0).vector; weight = (weighted_at es 0).weight + 1 }
+    else weighted_at es 0
 
 -- whether a neighbour's vectors are split
-unfoldable pub splits : Entry → Bool
+unfoldable pub splits : MacroblockMotion → Bool
 splits e = if is_intra e.reference then false else is_split e.mode
 
-unfoldable pub split_count : Grid Entry → Place → ℕ
+unfoldable pub split_count : Grid MacroblockMotion → Place → ℕ
 split_count g p = 2 * from_bool (splits (look intra g (above p))) + 2 * from_bool (splits (look intra g (left p))) + from_bool (splits (look intra g (corner p)))
 
 -- ---- The candidates
@@ -98,8 +98,8 @@ abbrev pub clamped : ℤ → ℤ → ℤ → ℤ
 clamped low high z = if int_lt z low then low else if int_lt high z then high else z
 
 -- clamped so that the macroblock at a place is moved past the frame's edges by its own size at most, in quarter pixels
-unfoldable pub within : Grid Entry → Place → Vector → Vector
-within g p v = record {
+unfoldable pub clamped_vector : Grid MacroblockMotion → Place → Vector → Vector
+clamped_vector g p v = record {
   row = clamped (neg_ℤ (pos (64 * (p.row + 1)))) (pos (64 * (g.rows - p.row))) v.row;
   column = clamped (neg_ℤ (pos (64 * (p.column + 1)))) (pos (64 * (g.columns - p.column))) v.column;
 }
@@ -119,26 +119,26 @@ from_two clamp zeros splits nearest near = record {
 
 unfoldable pub from_entries : (Vector → Vector) → ℕ → ℕ → List Weighted → Candidates
 from_entries clamp zeros splits es =
-    if nat_lt (first_of es).weight (entry es 1).weight
-    then from_two clamp zeros splits (entry es 1) (first_of es)
-    else from_two clamp zeros splits (first_of es) (entry es 1)
+    if nat_lt (first_candidate es).weight (weighted_at es 1).weight
+    then from_two clamp zeros splits (weighted_at es 1) (first_candidate es)
+    else from_two clamp zeros splits (first_candidate es) (weighted_at es 1)
 
-unfoldable pub candidates : Grid Entry → Place → Reference → SignBiases → Candidates
+unfoldable pub candidates : Grid MacroblockMotion → Place → Reference → SignBiases → Candidates
 candidates g p r b =
     let ws = neighbours g p r b in
-    from_entries (within g p) (still_weight ws) (split_count g p) (runs (moving ws))
+    from_entries (clamped_vector g p) (still_weight ws) (split_count g p) (runs (moving ws))
 
 -- ---- A worked example: the middle of three rows of three
 
-abbrev pub four : Vector
-four = record { row = pos 4; column = pos 0 }
+abbrev pub example_vector : Vector
+example_vector = record { row = pos 4; column = pos 0 }
 
-abbrev pub inter : Vector → Entry
+abbrev pub inter : Vector → MacroblockMotion
 inter v = record { reference = reference_is.Last; mode = vector_is.New; vectors = replicate 16 v }
 
 -- above and to the left (4, 0), above-left zero
-unfoldable pub three : Grid Entry
-three = record { columns = 3; rows = 3; entries = inter still ∷ inter four ∷ intra ∷ inter four ∷ intra ∷ intra ∷ intra ∷ intra ∷ intra ∷ [] }
+unfoldable pub example_grid : Grid MacroblockMotion
+example_grid = record { columns = 3; rows = 3; entries = inter still ∷ inter example_vector ∷ intra ∷ inter example_vector ∷ intra ∷ intra ∷ intra ∷ intra ∷ intra ∷ [] }
 
 -- ---- What the code keeps of the neighbours
 

@@ -12,13 +12,13 @@ abbrev pub difference_of : Vector → Vector → Vector
 difference_of v u = record { row = v.row -ℤ u.row; column = v.column -ℤ u.column }
 
 -- The mode gives the vector to the whole macroblock: new gives any within 1,023 quarter pixels of the best one, split gives none.
-abbrev pub Gives : Candidates → VectorMode → Vector → Type 0
-Gives c vector_is.Zero v = v ≡ still
-Gives c vector_is.Nearest v = v ≡ c.nearest
-Gives c vector_is.Near v = v ≡ c.near
-Gives c vector_is.New v = IsWithin 1023 (difference_of v c.best)
-Gives c vector_is.Split v = ⊥
+abbrev pub GivesVector : Candidates → VectorMode → Vector → Type 0
+GivesVector c vector_is.Zero v = v ≡ still
+GivesVector c vector_is.Nearest v = v ≡ c.nearest
+GivesVector c vector_is.Near v = v ≡ c.near
+GivesVector c vector_is.New v = IsWithin 1023 (difference_of v c.best)
+GivesVector c vector_is.Split v = ⊥
 
 -- A motion can be written where its mode gives its vector; so split is never written.
 abbrev pub CanBeWritten : Candidates → Motion → Type 0
-CanBeWritten c m = Gives c m.mode (last_of m.vectors)
+CanBeWritten c m = GivesVector c m.mode (last_of m.vectors)

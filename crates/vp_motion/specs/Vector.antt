@@ -37,14 +37,14 @@ pub record Motion : Type 0 where
   pub vectors : List Vector
 
 -- what is kept of it; of an intra macroblock the mode and the vectors have no meaning
-pub record Entry : Type 0 where
+pub record MacroblockMotion : Type 0 where
   pub reference : Reference
   pub mode : VectorMode
   pub vectors : List Vector
 
 -- what is kept where a macroblock of this reference moves so
-abbrev pub entry_of : Reference → Motion → Entry
-entry_of reference motion = record { reference = reference; mode = motion.mode; vectors = motion.vectors }
+abbrev pub macroblock_motion : Reference → Motion → MacroblockMotion
+macroblock_motion reference motion = record { reference = reference; mode = motion.mode; vectors = motion.vectors }
 
 -- what a macroblock's own vector may be, or may be near (chapter 16.3): the weights of zero vectors, of nearest, of near and of split neighbours, and what a new vector is added to
 pub record Candidates : Type 0 where

@@ -1,18 +1,18 @@
 ghost use Rattle.std.specs.Prelude.{◌≡◌, ◌<◌};
 ghost use Rattle.vp_base.specs.Grid.{Has};
 ghost use Rattle.vp_base.specs.Near.{IsBefore, value};
-ghost use Rattle.vp_motion.specs.Map.{above_block, left_block, vector_of};
+ghost use Rattle.vp_motion.specs.Map.{above_block, left_block, block_vector};
 ghost use Rattle.vp_motion.specs.Vector.{still};
 
 use crate::map::VectorMap;
-use crate::vector::{Entry, STILL, Vector};
+use crate::vector::{MacroblockMotion, STILL, Vector};
 use vp_base::{Near, Place};
 
 /// The vector of a macroblock's block b.
-#[tactic(auto, unfolding(crate::specs::Map::vector_of))]
-fn vector_in(entry: &Entry, b: usize) -> Vector
+#[tactic(auto, unfolding(crate::specs::Map::block_vector))]
+fn vector_in(entry: &MacroblockMotion, b: usize) -> Vector
     requires { b < 16 }
-    ensures { result ≡ vector_of entry.now b }
+    ensures { result ≡ block_vector entry.now b }
 {
     if entry.reference.is_intra() {
         STILL
@@ -25,7 +25,7 @@ fn vector_in(entry: &Entry, b: usize) -> Vector
 fn vector_near(map: &VectorMap, place: Place, found: &[Vector; 16], near: Near) -> Vector
     requires place { Has map.now place }
     requires before { IsBefore place near }
-    ensures { result ≡ value vector_of still map.now found.now near }
+    ensures { result ≡ value block_vector still map.now found.now near }
 {
     match near {
         Near::Here(b) => found[b],

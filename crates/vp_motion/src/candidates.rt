@@ -3,17 +3,21 @@ ghost use Rattle.std.specs.Int.{from_bool};
 ghost use Rattle.vp_base.specs.Grid.{Has, look};
 ghost use Rattle.vp_motion.specs.Map.{intra};
 ghost use Rattle.vp_motion.specs.Vector.{IsWithin, Vector};
-ghost use Rattle.vp_motion.specs.Near.{AreHeavy, IsTally, bias_of, candidates, clamped, clamped_by, counted, entry, first_of, from_entries, from_two, joined, same, seen, splits, total, within};
+ghost use Rattle.vp_motion.specs.Near.{AreHeavy, IsTally, bias_of, candidates, clamped, clamped_by, weighted_neighbour, weighted_at, first_candidate, from_entries, from_two, joined, same, bias_corrected, splits, total, clamped_vector};
 
 use crate::map::{VectorMap, outside};
-use crate::vector::{Candidates, Entry, Nearby, STILL, Vector, Weighted};
+use crate::vector::{Candidates, MacroblockMotion, Nearby, STILL, Vector, Weighted};
 use arrayvec::ArrayVec;
 use vp_base::Place;
 use vp_head::{Reference, SignBiases};
 use vp_tables::VectorMode;
 
 /// The entry at a place, where there is one.
-fn look<'a>(map: &'a VectorMap, outside: &'a Entry, place: Option<Place>) -> &'a Entry
+fn look<'a>(
+    map: &'a VectorMap,
+    outside: &'a MacroblockMotion,
+    place: Option<Place>,
+) -> &'a MacroblockMotion
     requires outside { outside.now ≡ intra }
     requires place { IfSome place (Has map.now) }
     ensures { result.now ≡ look intra map.now place }
@@ -56,10 +60,10 @@ fn clamp(low: i32, high: i32, z: i32) -> i32
 }
 
 /// The vector, or the nearest that moves the macroblock past the frame's edges by its own size at most.
-#[tactic(auto, unfolding(crate::specs::Near::within))]
+#[tactic(auto, unfolding(crate::specs::Near::clamped_vector))]
 pub(crate) fn clamp_vector(map: &VectorMap, place: Place, vector: Vector) -> Vector
     requires place { Has map.now place }
-    ensures value { result ≡ within map.now place vector }
+    ensures value { result ≡ clamped_vector map.now place vector }
     ensures short { IsWithin 65536 result }
 {
     let (columns, rows) = (map.columns(), map.rows());
@@ -92,7 +96,7 @@ fn bias(reference: Reference, biases: SignBiases) -> bool
 }
 
 #[tactic(auto, unfolding(crate::specs::Near::splits))]
-fn has_split(neighbour: &Entry) -> bool
+fn has_split(neighbour: &MacroblockMotion) -> bool
     ensures { result ≡ splits neighbour.now }
 {
     if neighbour.reference.is_intra() {
@@ -103,9 +107,9 @@ fn has_split(neighbour: &Entry) -> bool
 }
 
 /// A neighbour's own vector, turned round where the biases differ.
-#[tactic(auto, unfolding(crate::specs::Near::seen, crate::specs::Map::own))]
-fn seen_vector(reference: Reference, biases: SignBiases, neighbour: &Entry) -> Vector
-    ensures { result ≡ seen reference biases neighbour.now }
+#[tactic(auto, unfolding(crate::specs::Near::bias_corrected, crate::specs::Map::own))]
+fn seen_vector(reference: Reference, biases: SignBiases, neighbour: &MacroblockMotion) -> Vector
+    ensures { result ≡ bias_corrected reference biases neighbour.now }
 {
     let vector = neighbour.vectors[15];
     if !biases.golden && !biases.alt {
@@ -158,15 +162,15 @@ fn join(entries: &mut ArrayVec<Weighted, 3>, weighted: Weighted)
 
 /// What was found among the neighbours so far.
 #[derive(Drop)]
-struct Found {
+struct NearbyMotion {
     zeros: u8,
     entries: ArrayVec<Weighted, 3>,
 }
 
 /// Counts a neighbour.
 fn consider(
-    found: &mut Found,
-    neighbour: &Entry,
+    found: &mut NearbyMotion,
+    neighbour: &MacroblockMotion,
     weight: u8,
     reference: Reference,
     biases: SignBiases,
@@ -174,7 +178,7 @@ fn consider(
     requires room { length found.old.entries.items < 3 }
     requires light { total found.old.entries.items + found.old.zeros + weight ≤ 255 }
     requires heavy { 0 < weight }
-    ensures tally { (ws : List Weighted) → IsTally ws found.old.zeros found.old.entries.items → IsTally (ws ++ counted reference biases weight neighbour.now) found.new.zeros found.new.entries.items }
+    ensures tally { (ws : List Weighted) → IsTally ws found.old.zeros found.old.entries.items → IsTally (ws ++ weighted_neighbour reference biases weight neighbour.now) found.new.zeros found.new.entries.items }
     ensures len { length found.new.entries.items ≤ length found.old.entries.items + 1 }
     ensures weight { total found.new.entries.items + found.new.zeros ≤ total found.old.entries.items + found.old.zeros + weight }
     ensures heavy { AreHeavy found.old.entries.items → AreHeavy found.new.entries.items }
@@ -195,7 +199,7 @@ const NOBODY: Weighted = Weighted {
 };
 
 fn entry_at(entries: &ArrayVec<Weighted, 3>, k: usize) -> Weighted
-    ensures value { result ≡ entry entries.now.items k }
+    ensures value { result ≡ weighted_at entries.now.items k }
     ensures light { result.weight ≤ total entries.now.items }
 {
     if k < entries.len() {
@@ -206,11 +210,11 @@ fn entry_at(entries: &ArrayVec<Weighted, 3>, k: usize) -> Weighted
 }
 
 /// The first entry, which the third may add to.
-#[tactic(auto, unfolding(crate::specs::Near::first_of))]
+#[tactic(auto, unfolding(crate::specs::Near::first_candidate))]
 fn first_entry(entries: &ArrayVec<Weighted, 3>) -> Weighted
     requires light { total entries.now.items ≤ 5 }
     requires heavy { AreHeavy entries.now.items }
-    ensures value { result ≡ first_of entries.now.items }
+    ensures value { result ≡ first_candidate entries.now.items }
     ensures light { result.weight ≤ 5 }
 {
     let first = entry_at(entries, 0);
@@ -280,14 +284,14 @@ pub(crate) fn nearby(
     biases: SignBiases,
 ) -> Nearby
     requires place { Has map.now place }
-    ensures value { clamped_by (within map.now place) result ≡ candidates map.now place reference biases }
+    ensures value { clamped_by (clamped_vector map.now place) result ≡ candidates map.now place reference biases }
     ensures light { (k : ℕ) → slice_index result.counts k < 6 }
 {
     let outside = outside();
     let above = look(map, &outside, place.above());
     let left = look(map, &outside, place.left());
     let corner = look(map, &outside, place.corner());
-    let mut found = Found {
+    let mut found = NearbyMotion {
         zeros: 0,
         entries: ArrayVec::new(),
     };

@@ -4,10 +4,10 @@ ghost use Rattle.std.specs.Prelude.{◌≡◌, ◌<◌, ◌≤◌, ◌↔◌, �
 ghost use Rattle.vp_base.specs.declared.place.Place.{Place};
 ghost use Rattle.vp_base.specs.Grid.{Grid, Has};
 ghost use Rattle.vp_bool.specs.Writing.{Writes};
-ghost use Rattle.vp_motion.specs.Vector.{Entry, IsWithin};
+ghost use Rattle.vp_motion.specs.Vector.{MacroblockMotion, IsWithin};
 ghost use Rattle.vp_motion.specs.Motion.{motion_at, motion_by, new_vector, vector_mode, vectors_by};
 ghost use Rattle.vp_motion.specs.Near.{candidates};
-ghost use Rattle.vp_motion.specs.Spelled.{CanBeWritten, Gives, difference_of};
+ghost use Rattle.vp_motion.specs.Spelled.{CanBeWritten, GivesVector, difference_of};
 
 use crate::candidates::{is_same, near};
 use crate::map::VectorMap;
@@ -27,7 +27,7 @@ impl Candidates {
     /// A new vector can be 1,023 quarter pixels from the best one in each part. Split gives no one vector, and is never
     /// written.
     pub fn can_give(&self, mode: VectorMode, vector: Vector) -> bool
-        ensures { IsTrue result ↔ Gives self.now mode vector }
+        ensures { IsTrue result ↔ GivesVector self.now mode vector }
     {
         match mode {
             VectorMode::Zero => is_same(vector, STILL),
@@ -82,8 +82,8 @@ fn write_given(
     vector: Vector,
     e: &mut BoolEncoder,
 ) -> Result<(), AllocError>
-    requires { Gives candidates.now mode vector }
-    ensures { OnOk result ((g : Grid Entry) (p : Place) → Writes (vectors_by probabilities.now g p candidates.now mode) e.old e.new (replicate 16 vector)) }
+    requires { GivesVector candidates.now mode vector }
+    ensures { OnOk result ((g : Grid MacroblockMotion) (p : Place) → Writes (vectors_by probabilities.now g p candidates.now mode) e.old e.new (replicate 16 vector)) }
 {
     if mode == VectorMode::New {
         write_new(probabilities, candidates.best, vector, e)?;
@@ -99,7 +99,7 @@ fn write_by(
     e: &mut BoolEncoder,
 ) -> Result<(), AllocError>
     requires { CanBeWritten candidates.now motion.now }
-    ensures { OnOk result ((g : Grid Entry) (p : Place) → Writes (motion_by probabilities.now g p candidates.now) e.old e.new motion.now) }
+    ensures { OnOk result ((g : Grid MacroblockMotion) (p : Place) → Writes (motion_by probabilities.now g p candidates.now) e.old e.new motion.now) }
 {
     write_mode(&candidates.counts, motion.mode, e)?;
     write_given(

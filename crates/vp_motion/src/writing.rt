@@ -4,7 +4,7 @@ ghost use Rattle.std.specs.Prelude.{◌≡◌, ◌<◌, ◌≤◌, nat_lt, pos, 
 ghost use Rattle.vp_bool.specs.Reader.{when};
 ghost use Rattle.vp_bool.specs.Writing.{Writes};
 ghost use Rattle.vp_motion.specs.Vector.{IsWithin};
-ghost use Rattle.vp_motion.specs.Motion.{bit, component, long_size, short_size, size, vector};
+ghost use Rattle.vp_motion.specs.Motion.{bit, component, long_size, short_size, component_magnitude, vector};
 ghost use Rattle.vp_motion.specs.Spelled.{bit_of};
 
 use crate::vector::Vector;
@@ -85,7 +85,7 @@ fn write_size(
     e: &mut BoolEncoder,
 ) -> Result<(), AllocError>
     requires { magnitude ≤ 1023 }
-    ensures { OnOk result (Writes (size probabilities.now) e.old e.new magnitude) }
+    ensures { OnOk result (Writes (component_magnitude probabilities.now) e.old e.new magnitude) }
 {
     if magnitude < 8 {
         e.write(false, probabilities[0])?;

@@ -3,7 +3,7 @@ use Rattle.std.proofs.Common.{◌≡◌, ℕ, zero, suc, ◌+◌, ◌*◌, ◌/�
 use Rattle.std.proofs.lemmas.Int.{ints}
 use Rattle.std.proofs.lemmas.Nat.{div-add-mod', mod_below, div_below}
 use Rattle.std.proofs.Math.IntN.{negsuc-*ℤ-pos}
-use Rattle.vp_quant.specs.Level.{size_in, quantised}
+use Rattle.vp_quant.specs.Level.{quantised_magnitude, quantised}
 
 plain : (r : ℕ) → r ≤ 2047 → to_z w16 r ≡ pos r
 plain r h = omega (arith, ints)
@@ -11,15 +11,15 @@ plain r h = omega (arith, ints)
 negated : (r : ℕ) → r ≤ 2047 → to_z w16 (of_z w16 (pos 0 -ℤ to_z w16 r)) ≡ neg_ℤ (pos r)
 negated r h = omega (arith, ints)
 
-small : (q n : ℕ) → size_in q n ≤ 2047
+small : (q n : ℕ) → quantised_magnitude q n ≤ 2047
 small q n = omega arith
 
-pub quantised-negative : (c : ℤ) (q r : ℕ) → c <ℤ pos 0 → r ≡ size_in q (unsigned_abs c) → to_z w16 (of_z w16 (pos 0 -ℤ to_z w16 r)) ≡ quantised c q
+pub quantised-negative : (c : ℤ) (q r : ℕ) → c <ℤ pos 0 → r ≡ quantised_magnitude q (unsigned_abs c) → to_z w16 (of_z w16 (pos 0 -ℤ to_z w16 r)) ≡ quantised c q
 unfolding quantised
 quantised-negative (pos n) q r less e = absurd (omega (arith, ints))
 quantised-negative (negsuc n) q r less e = let h : r ≤ 2047 = omega (arith, small q (suc n)) in negated r h ∙ ap (λ k. neg_ℤ (pos k)) e
 
-pub quantised-other : (c : ℤ) (q r : ℕ) → pos 0 ≤ℤ c → r ≡ size_in q (unsigned_abs c) → to_z w16 r ≡ quantised c q
+pub quantised-other : (c : ℤ) (q r : ℕ) → pos 0 ≤ℤ c → r ≡ quantised_magnitude q (unsigned_abs c) → to_z w16 r ≡ quantised c q
 unfolding quantised
 quantised-other (pos n) q r more e = let h : r ≤ 2047 = omega (arith, small q n) in plain r h ∙ ap pos e
 quantised-other (negsuc n) q r more e = absurd (omega (arith, ints))
@@ -46,7 +46,7 @@ unfolding quantised
 nearest-negative (pos n) q some less h = absurd (omega (arith, ints))
 nearest-negative (negsuc n) q some less h =
     let l = (suc n + q / 2) / q in
-    let few : size_in q (suc n) ≡ l = omega (arith, large (suc n) q some h) in
+    let few : quantised_magnitude q (suc n) ≡ l = omega (arith, large (suc n) q some h) in
     let sides = left (suc n) q l some refl in
     let product : neg_ℤ (pos l) *ℤ pos q ≡ neg_ℤ (pos (l * q)) = negative_product l q in
     rw (few, product) (omega (arith, ints, sides.0, sides.1))

@@ -3,12 +3,12 @@ use Rattle.std.proofs.Common.{◌≡◌, ℕ, zero, suc, ◌+◌, ◌*◌, ◌<�
 use Rattle.std.proofs.Math.Nat.{mul-le-mul}
 use Rattle.std.proofs.lemmas.Int.{unsigned_abs-mul}
 use Rattle.std.specs.List.{range_with_len}
-use Rattle.vp_quant.specs.Quant.{position_at, placed, coefficient, dequantised}
+use Rattle.vp_quant.specs.Quant.{position_at, dequantised_prefix, coefficient, dequantised}
 use Rattle.vp_tables.specs.Tables.{zigzag}
 
 -- one more
-pub placed_more : (levels : List ℤ) (dc ac i : ℕ) → i < 16 → set (placed levels dc ac i) (zigzag i) (coefficient levels dc ac i) ≡ placed levels dc ac (i + 1)
-unfolding placed zigzag
+pub placed_more : (levels : List ℤ) (dc ac i : ℕ) → i < 16 → set (dequantised_prefix levels dc ac i) (zigzag i) (coefficient levels dc ac i) ≡ dequantised_prefix levels dc ac (i + 1)
+unfolding dequantised_prefix zigzag
 placed_more levels dc ac zero l = refl
 placed_more levels dc ac (suc zero) l = refl
 placed_more levels dc ac (suc (suc zero)) l = refl
@@ -27,12 +27,12 @@ placed_more levels dc ac (suc (suc (suc (suc (suc (suc (suc (suc (suc (suc (suc 
 placed_more levels dc ac (suc (suc (suc (suc (suc (suc (suc (suc (suc (suc (suc (suc (suc (suc (suc zero))))))))))))))) l = refl
 placed_more levels dc ac (suc (suc (suc (suc (suc (suc (suc (suc (suc (suc (suc (suc (suc (suc (suc (suc i)))))))))))))))) l = absurd (omega arith)
 
-pub placed_none : (levels : List ℤ) (dc ac : ℕ) → placed levels dc ac 0 ≡ replicate 16 (pos 0)
-unfolding placed
+pub placed_none : (levels : List ℤ) (dc ac : ℕ) → dequantised_prefix levels dc ac 0 ≡ replicate 16 (pos 0)
+unfolding dequantised_prefix
 placed_none levels dc ac = refl
 
-pub placed_all : (levels : List ℤ) (dc ac : ℕ) → placed levels dc ac 16 ≡ dequantised levels dc ac
-unfolding placed dequantised
+pub placed_all : (levels : List ℤ) (dc ac : ℕ) → dequantised_prefix levels dc ac 16 ≡ dequantised levels dc ac
+unfolding dequantised_prefix dequantised
 placed_all levels dc ac = refl
 
 pub dequantised_at : (levels : List ℤ) (dc ac i : ℕ) → i < 16 → slice_index_or (dequantised levels dc ac) (zigzag i) (pos 0) ≡ coefficient levels dc ac i

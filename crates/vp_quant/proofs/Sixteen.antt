@@ -15,7 +15,7 @@ use lib.Lanes.{mask_l, zip2}
 use Rattle.vp_lanes.specs.Lane.{lane}
 use Rattle.vp_lanes.proofs.Signed.{Signed, Stands, stands_pos, signed_out, IsShort}
 use Rattle.vp_quant.specs.Quant.{position_at, coefficient, dequantised}
-use Rattle.vp_quant.specs.Short.{largest, IsNear}
+use Rattle.vp_quant.specs.Short.{largest, HasSmallProduct}
 
 -- ---- a mask of which all lanes are set
 pub all_set : (ms : List Bool) → mask_l ms + 1 ≡ 2 ^ length ms → (j : ℕ) → j < length ms → get_or ms j false ≡ true
@@ -104,13 +104,13 @@ module _ (r z : ℤ) (dc ac : ℕ) (e : r ≡ pos (2200 / largest dc ac)) where
       ap (λ high. int_min high (int_max (to_z w16 (of_z w16 (pos 0 -ℤ to_z w16 (of_z w16 r)))) z)) (limit_is r (largest dc ac) e)
       ∙ ap (λ low. int_min (pos (2200 / largest dc ac)) (int_max low z)) (negative_is r (largest dc ac) e)
 
-  pub held_in_near : IsNear (held_in r z) dc ac
+  pub held_in_near : HasSmallProduct (held_in r z) dc ac
   held_in_near =
       let m : unsigned_abs (int_min (pos (2200 / largest dc ac)) (int_max (neg_ℤ (pos (2200 / largest dc ac))) z)) * largest dc ac ≤ 2200 / largest dc ac * largest dc ac =
       mul-le-mul (held_near z (2200 / largest dc ac)) (omega arith) in
-      subst (λ v. IsNear v dc ac) (sym held_is) (omega (arith, m, div-mul-le_self 2200 (largest dc ac)))
+      subst (λ v. HasSmallProduct v dc ac) (sym held_is) (omega (arith, m, div-mul-le_self 2200 (largest dc ac)))
 
-  pub held_in_same : IsNear z dc ac → held_in r z ≡ z
+  pub held_in_same : HasSmallProduct z dc ac → held_in r z ≡ z
   held_in_same near = held_is ∙ held_same z (2200 / largest dc ac) (from_product near)
     where
       from_product : unsigned_abs z * largest dc ac ≤ 2200 → unsigned_abs z ≤ 2200 / largest dc ac
@@ -128,7 +128,7 @@ factor_lanes d a p q = record { long = refl; at = at }
         subst (λ n. Stands n (pos a)) (sym (get_or-replicate 15 j a 0 (omega arith))) (stands_pos a q))
 
 -- ---- a level times a factor
-pub near_product : (z : ℤ) (dc ac f : ℕ) → IsNear z dc ac → f ≤ largest dc ac → unsigned_abs (z *ℤ pos f) ≤ 2200
+pub near_product : (z : ℤ) (dc ac f : ℕ) → HasSmallProduct z dc ac → f ≤ largest dc ac → unsigned_abs (z *ℤ pos f) ≤ 2200
 near_product z dc ac f near most =
     let m : unsigned_abs z * f ≤ unsigned_abs z * largest dc ac = mul-le-mul (omega arith) most in
     let e : unsigned_abs (z *ℤ pos f) ≡ unsigned_abs z * f = unsigned_abs-mul z (pos f) in
@@ -139,7 +139,7 @@ zero_alone : (n most : ℕ) → n * most ≤ 2200 → 2200 < most → n ≡ 0
 zero_alone zero most h more = refl
 zero_alone (suc n) most h more = absurd (omega arith)
 
-pub near_factor : (z : ℤ) (dc ac f : ℕ) → IsNear z dc ac → f ≤ largest dc ac → z *ℤ pos (min f 2200) ≡ z *ℤ pos f
+pub near_factor : (z : ℤ) (dc ac f : ℕ) → HasSmallProduct z dc ac → f ≤ largest dc ac → z *ℤ pos (min f 2200) ≡ z *ℤ pos f
 near_factor (pos zero) dc ac f near most = omega (arith, ints)
 near_factor (pos (suc n)) dc ac f near most =
     let e : min f 2200 ≡ f = held in
@@ -158,7 +158,7 @@ pub short_of : (z : ℤ) → unsigned_abs z ≤ 2200 → IsShort z
 short_of (pos n) h = (omega (arith, ints), omega (arith, ints))
 short_of (negsuc n) h = (omega (arith, ints), omega (arith, ints))
 
-module _ (z : ℤ) (dc ac d a : ℕ) (near : IsNear z dc ac) (first : d ≡ min dc 2200) (others : a ≡ min ac 2200) where
+module _ (z : ℤ) (dc ac d a : ℕ) (near : HasSmallProduct z dc ac) (first : d ≡ min dc 2200) (others : a ≡ min ac 2200) where
   pub by_factor : (t : Bool) → z *ℤ pos (if t then d else a) ≡ z *ℤ pos (if t then dc else ac)
   by_factor true = ap (λ k. z *ℤ pos k) first ∙ near_factor z dc ac dc near (omega arith)
   by_factor false = ap (λ k. z *ℤ pos k) others ∙ near_factor z dc ac ac near (omega arith)
@@ -231,7 +231,7 @@ module _ (block levels : List ℤ) (dc ac : ℕ) (long : length block ≡ 16) (l
       ∙ map_same (λ k. get_or block k (pos 0)) (λ place. coefficient levels dc ac (position_at place)) 0 16
       (λ k h. let e : k ≡ 0 + k = omega arith in subst (λ i. get_or block i (pos 0) ≡ coefficient levels dc ac (position_at i)) e (lanes k h))
 
-  pub block_within : ((j : ℕ) → j < 16 → IsNear (lane levels j) dc ac) → (i : ℕ) → unsigned_abs (get_or block i (pos 0)) ≤ 2200
+  pub block_within : ((j : ℕ) → j < 16 → HasSmallProduct (lane levels j) dc ac) → (i : ℕ) → unsigned_abs (get_or block i (pos 0)) ≤ 2200
   block_within near i = elim (cases_lt i 16) [
     | inl inside ↦
         let p = position_at i in

@@ -8,26 +8,26 @@ use Rattle.vp_tables.specs.Tables.{ac_factor, dc_factor}
 use Rattle.vp_tables.specs.declared.tokens.TheConstants.{ZIGZAG}
 
 -- the nearest number from 0 to 127
-abbrev pub clamped : ℤ → ℕ
-clamped (pos n) = min n 127
-clamped (negsuc n) = 0
+abbrev pub clamped_index : ℤ → ℕ
+clamped_index (pos n) = min n 127
+clamped_index (negsuc n) = 0
 
 -- the quantiser index of a segment's macroblocks (chapters 9.3, 9.6)
 abbrev pub index_of : Header → ℕ → ℕ
 index_of header segment =
     let frame : ℤ = pos header.quantiser.y_ac in
     let own : ℤ = slice_index_or header.segmentation.values.quantisers segment (pos 0) in
-    clamped (if header.segmentation.enabled then (if header.segmentation.values.absolute then own else (frame +ℤ own)) else frame)
+    clamped_index (if header.segmentation.enabled then (if header.segmentation.values.absolute then own else (frame +ℤ own)) else frame)
 
 -- the six factors (chapters 9.6, 14.1)
 abbrev pub factors : ℕ → QuantiserIndices → Factors
 factors index deltas = record {
-  y_dc = dc_factor (clamped (pos index +ℤ deltas.y_dc));
-  y_ac = ac_factor (clamped (pos index));
-  y2_dc = 2 * dc_factor (clamped (pos index +ℤ deltas.y2_dc));
-  y2_ac = max 8 (ac_factor (clamped (pos index +ℤ deltas.y2_ac)) * 155 / 100);
-  uv_dc = min 132 (dc_factor (clamped (pos index +ℤ deltas.uv_dc)));
-  uv_ac = ac_factor (clamped (pos index +ℤ deltas.uv_ac));
+  y_dc = dc_factor (clamped_index (pos index +ℤ deltas.y_dc));
+  y_ac = ac_factor (clamped_index (pos index));
+  y2_dc = 2 * dc_factor (clamped_index (pos index +ℤ deltas.y2_dc));
+  y2_ac = max 8 (ac_factor (clamped_index (pos index +ℤ deltas.y2_ac)) * 155 / 100);
+  uv_dc = min 132 (dc_factor (clamped_index (pos index +ℤ deltas.uv_dc)));
+  uv_ac = ac_factor (clamped_index (pos index +ℤ deltas.uv_ac));
 }
 
 -- ---- a block of levels (chapters 13, 14.1)
@@ -41,8 +41,8 @@ abbrev pub coefficient : List ℤ → ℕ → ℕ → ℕ → ℤ
 coefficient levels dc ac position = slice_index_or levels position (pos 0) *ℤ pos (if position == 0 then dc else ac)
 
 -- the coefficients of the first positions, at their places; 0 elsewhere
-unfoldable pub placed : List ℤ → ℕ → ℕ → ℕ → List ℤ
-placed levels dc ac count =
+unfoldable pub dequantised_prefix : List ℤ → ℕ → ℕ → ℕ → List ℤ
+dequantised_prefix levels dc ac count =
     map (λ place. if nat_lt (position_at place) count then coefficient levels dc ac (position_at place) else pos 0) (range_with_len 0 16)
 
 -- all sixteen

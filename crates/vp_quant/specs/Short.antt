@@ -6,9 +6,9 @@ abbrev pub largest : ℕ → ℕ → ℕ
 largest dc ac = max (max dc ac) 1
 
 -- the level's product with either factor is from -2200 to 2200, and so is the level
-abbrev pub IsNear : ℤ → ℕ → ℕ → Type 0
-IsNear level dc ac = unsigned_abs level * largest dc ac ≤ 2200
+abbrev pub HasSmallProduct : ℤ → ℕ → ℕ → Type 0
+HasSmallProduct level dc ac = unsigned_abs level * largest dc ac ≤ 2200
 
 -- each of a block's levels is so near to 0
 abbrev pub AreShort : List ℤ → ℕ → ℕ → Type 0
-AreShort levels dc ac = (i : ℕ) → i < 16 → IsNear (slice_index_or levels i (pos 0)) dc ac
+AreShort levels dc ac = (i : ℕ) → i < 16 → HasSmallProduct (slice_index_or levels i (pos 0)) dc ac

@@ -1,5 +1,5 @@
 ghost use Rattle.std.specs.Prelude.{◌≡◌, ◌+◌, ◌<◌, ◌≤◌, pos, ◌+ℤ◌};
-ghost use Rattle.vp_quant.specs.Quant.{clamped, index_of, factors};
+ghost use Rattle.vp_quant.specs.Quant.{clamped_index, index_of, factors};
 
 use vp_head::{Header, QuantiserIndices};
 use vp_tables::{ac_factor, dc_factor};
@@ -61,7 +61,7 @@ pub fn segment_index(header: &Header, segment: u8) -> u8
 
 /// The index with the difference added, brought into 0 to 127.
 fn moved(index: u8, difference: i8) -> u8
-    ensures value { result ≡ clamped (pos index +ℤ difference) }
+    ensures value { result ≡ clamped_index (pos index +ℤ difference) }
     ensures bound { result ≤ 127 }
 {
     (i16::from(index) + i16::from(difference)).clamp(0, 127) as u8

@@ -3,7 +3,7 @@
 ghost use Rattle.std.specs.Prelude.{◌≡◌, ◌≢◌, ℕ, ◌*◌, ◌/◌, ◌<◌, ◌≤◌, pos, ◌*ℤ◌, ℤ, List, Some, None, true, false, max, min, unsigned_abs, slice_index_or, ◌==◌, if◌then◌else◌};
 ghost use Rattle.vp_lanes.specs.Lane.{lane};
 ghost use Rattle.vp_quant.specs.Quant.{position_at, dequantised};
-ghost use Rattle.vp_quant.specs.Short.{largest, AreShort, IsNear};
+ghost use Rattle.vp_quant.specs.Short.{largest, AreShort, HasSmallProduct};
 
 use std::simd::prelude::*;
 use vp_lanes::clamp_i16;
@@ -45,7 +45,7 @@ fn are_same(a: i16x16, b: i16x16) -> bool
 
 /// The levels, of which none is further from 0 than the factors let it be, times their factors.
 fn products(levels: i16x16, dc: u16, ac: u16) -> i16x16
-    requires { (j : ℕ) → j < 16 → IsNear (lane levels j) dc ac }
+    requires { (j : ℕ) → j < 16 → HasSmallProduct (lane levels j) dc ac }
     ensures { (j : ℕ) → j < 16 → lane result j ≡ lane levels j *ℤ pos (if j == 0 then dc else ac) }
 {
     let first = i16x16::splat(dc.min(MOST) as i16);

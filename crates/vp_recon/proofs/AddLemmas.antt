@@ -7,10 +7,10 @@ use Rattle.vp_base.specs.Image.{Image, plane_of, with_plane}
 use Rattle.vp_base.proofs.BlockLemmas.{pixel-with_block, IsWhole-with_block, same_raster}
 use Rattle.vp_base.proofs.ImageLemmas.{plane_of-with_plane}
 use Rattle.vp_recon.specs.Rebuilt.{summed, residue_at}
-use Rattle.vp_recon.specs.Kept.{IsNothing, AreBytes}
+use Rattle.vp_recon.specs.Sums.{IsNothing, ArePixelBytes}
 use Rattle.vp_recon.specs.Pairs.{with_added, with_both_added}
 use Rattle.vp_recon.proofs.Parts.{is_in, in_it, sub_at, subblock_has, part_fits, until, sub_written}
-use Rattle.vp_recon.proofs.KeptLemmas.{summed-zero}
+use Rattle.vp_recon.proofs.SumLemmas.{summed-zero}
 use Rattle.vp_recon.proofs.PlaneLemmas.{plane_next}
 
 -- a pixel of the block at a place, and its sum
@@ -63,7 +63,7 @@ module _ (p now : Image) (n x y size : ℕ) (f : ℕ → ℕ → ℕ) (columns :
   pub still_high : y + size ≤ (plane_of now n).height
   still_high = let e : (plane_of now n).height ≡ (plane_of p n).height = ap (λ (r : Raster). r.height) plane_is in omega arith
 
-  pub predicted_bytes : ((r c : ℕ) → r < size → c < size → f r c ≤ 255) → AreBytes (plane_of now n) x y size
+  pub predicted_bytes : ((r c : ℕ) → r < size → c < size → f r c ≤ 255) → ArePixelBytes (plane_of now n) x y size
   predicted_bytes bytes r c rin cin =
       subst (λ (v : ℕ). v ≤ 255) (sym (ap (λ (q : Raster). pixel q (x + c) (y + r)) plane_is ∙ block_pixel (plane_of p n) x y size f r c columns rows rin cin)) (bytes r c rin cin)
 

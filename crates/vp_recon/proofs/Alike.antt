@@ -7,24 +7,24 @@ use Rattle.vp_tables.specs.declared.modes.LumaMode.{LumaMode}
 use Rattle.vp_tables.specs.declared.modes.LumaMode.TheVariants as luma_is
 use Rattle.vp_tables.specs.declared.modes.ChromaMode.{ChromaMode}
 use Rattle.vp_tables.specs.declared.modes.ChromaMode.TheVariants as chroma_is
-use Rattle.vp_intra.specs.Edges.{first, above, left, corner, edge, rounded_mean, clamped}
+use Rattle.vp_intra.specs.Edges.{first, above_pixel, left_pixel, corner_pixel, edge, rounded_mean, clamped_pixel}
 use Rattle.vp_intra.specs.Whole.{luma_pixel, chroma_pixel}
 use Rattle.vp_intra.proofs.EdgeLemmas.{above_inside, above_outside, left_inside, left_outside}
 
-pub corner_inside : (p : Raster) (x y : ℕ) → 0 < x → 0 < y → corner p x y ≡ pixel p (x - 1) (y - 1)
-unfolding corner
+pub corner_inside : (p : Raster) (x y : ℕ) → 0 < x → 0 < y → corner_pixel p x y ≡ pixel p (x - 1) (y - 1)
+unfolding corner_pixel
 corner_inside p x y xpos ypos =
     ap (λ (b : Bool). cond b 127 (cond (eqb x 0) 129 (pixel p (x - 1) (y - 1)))) (ne_eqb y 0 (λ e. omega arith))
     ∙ ap (λ (b : Bool). cond b 129 (pixel p (x - 1) (y - 1))) (ne_eqb x 0 (λ e. omega arith))
 
-pub corner_top : (p q : Raster) (x y : ℕ) → y ≡ 0 → corner p x y ≡ corner q x y
-unfolding corner
+pub corner_top : (p q : Raster) (x y : ℕ) → y ≡ 0 → corner_pixel p x y ≡ corner_pixel q x y
+unfolding corner_pixel
 corner_top p q x y none =
     ap (λ (b : Bool). cond b 127 (cond (eqb x 0) 129 (pixel p (x - 1) (y - 1)))) (eq-eqb y 0 none)
     ∙ sym (ap (λ (b : Bool). cond b 127 (cond (eqb x 0) 129 (pixel q (x - 1) (y - 1)))) (eq-eqb y 0 none))
 
-pub corner_side : (p q : Raster) (x y : ℕ) → x ≡ 0 → corner p x y ≡ corner q x y
-unfolding corner
+pub corner_side : (p q : Raster) (x y : ℕ) → x ≡ 0 → corner_pixel p x y ≡ corner_pixel q x y
+unfolding corner_pixel
 corner_side p q x y none =
     ap (λ (b : Bool). cond (eqb y 0) 127 (cond b 129 (pixel p (x - 1) (y - 1)))) (eq-eqb x 0 none)
     ∙ sym (ap (λ (b : Bool). cond (eqb y 0) 127 (cond b 129 (pixel q (x - 1) (y - 1)))) (eq-eqb x 0 none))
@@ -33,19 +33,19 @@ corner_side p q x y none =
 module _ (p q : Raster) (x y n : ℕ) (xfits : x + n ≤ p.width) (yfits : y + n ≤ p.height)
     (over_it : (u v : ℕ) → u < p.width → v + 1 ≡ y → pixel p u v ≡ pixel q u v)
     (beside_it : (u v : ℕ) → u < x → y ≤ v → v < y + n → pixel p u v ≡ pixel q u v) where
-  pub above_alike : (c : ℕ) → c < n → above p x y c ≡ above q x y c
+  pub above_alike : (c : ℕ) → c < n → above_pixel p x y c ≡ above_pixel q x y c
   above_alike c cin = elim (cases_lt 0 y) [
     | inr none ↦ above_outside p x y c (omega arith) ∙ sym (above_outside q x y c (omega arith))
     | inl pos ↦ above_inside p x y c pos ∙ over_it (x + c) (y - 1) (omega arith) (omega arith) ∙ sym (above_inside q x y c pos)
   ]
 
-  pub left_alike : (r : ℕ) → r < n → left p x y r ≡ left q x y r
+  pub left_alike : (r : ℕ) → r < n → left_pixel p x y r ≡ left_pixel q x y r
   left_alike r rin = elim (cases_lt 0 x) [
     | inr none ↦ left_outside p x y r (omega arith) ∙ sym (left_outside q x y r (omega arith))
     | inl pos ↦ left_inside p x y r pos ∙ beside_it (x - 1) (y + r) (omega arith) (omega arith) (omega arith) ∙ sym (left_inside q x y r pos)
   ]
 
-  pub corner_alike : 0 < n → corner p x y ≡ corner q x y
+  pub corner_alike : 0 < n → corner_pixel p x y ≡ corner_pixel q x y
   corner_alike some = elim (cases_lt 0 y) [
     | inr none ↦ corner_top p q x y (omega arith)
     | inl ypos ↦ elim (cases_lt 0 x) [
@@ -61,14 +61,14 @@ module _ (p q : Raster) (x y n : ℕ) (xfits : x + n ≤ p.width) (yfits : y + n
   pub edge_alike : edge p x y n ≡ edge q x y n
   unfolding edge
   edge_alike =
-      ap (λ (es : List ℕ). cond (eqb y 0) [] es ++ cond (eqb x 0) [] (first n (left p x y))) (firsts_alike (above p x y) (above q x y) above_alike)
-      ∙ ap (λ (es : List ℕ). cond (eqb y 0) [] (first n (above q x y)) ++ cond (eqb x 0) [] es) (firsts_alike (left p x y) (left q x y) left_alike)
+      ap (λ (es : List ℕ). cond (eqb y 0) [] es ++ cond (eqb x 0) [] (first n (left_pixel p x y))) (firsts_alike (above_pixel p x y) (above_pixel q x y) above_alike)
+      ∙ ap (λ (es : List ℕ). cond (eqb y 0) [] (first n (above_pixel q x y)) ++ cond (eqb x 0) [] es) (firsts_alike (left_pixel p x y) (left_pixel q x y) left_alike)
 
-  motion_alike : (r c : ℕ) → r < n → c < n → clamped (left p x y r) (above p x y c) (corner p x y) ≡ clamped (left q x y r) (above q x y c) (corner q x y)
+  motion_alike : (r c : ℕ) → r < n → c < n → clamped_pixel (left_pixel p x y r) (above_pixel p x y c) (corner_pixel p x y) ≡ clamped_pixel (left_pixel q x y r) (above_pixel q x y c) (corner_pixel q x y)
   motion_alike r c rin cin =
-      ap (λ (l : ℕ). clamped l (above p x y c) (corner p x y)) (left_alike r rin)
-      ∙ ap (λ (a : ℕ). clamped (left q x y r) a (corner p x y)) (above_alike c cin)
-      ∙ ap (clamped (left q x y r) (above q x y c)) (corner_alike (omega arith))
+      ap (λ (l : ℕ). clamped_pixel l (above_pixel p x y c) (corner_pixel p x y)) (left_alike r rin)
+      ∙ ap (λ (a : ℕ). clamped_pixel (left_pixel q x y r) a (corner_pixel p x y)) (above_alike c cin)
+      ∙ ap (clamped_pixel (left_pixel q x y r) (above_pixel q x y c)) (corner_alike (omega arith))
 
   pub luma_alike : (m : LumaMode) (r c : ℕ) → n ≡ 16 → r < n → c < n → luma_pixel m p x y r c ≡ luma_pixel m q x y r c
   unfolding luma_pixel

@@ -1,5 +1,5 @@
 pub mod Parts
-pub mod KeptLemmas
+pub mod SumLemmas
 pub mod SubblockLemmas
 pub mod PlaneLemmas
 pub mod AddLemmas

@@ -4,7 +4,7 @@ use Rattle.std.specs.Prelude.{not}
 use Rattle.vp_base.specs.declared.place.Place.{Place}
 use Rattle.vp_base.specs.Raster.{Raster}
 use Rattle.vp_base.specs.Block.{with_block}
-use Rattle.vp_base.specs.Near.{block}
+use Rattle.vp_base.specs.Near.{block_place}
 use Rattle.vp_base.specs.Over.{over}
 use Rattle.vp_base.proofs.RasterLemmas.{raster}
 use Rattle.vp_base.proofs.BlockLemmas.{with_block_same}
@@ -18,7 +18,7 @@ use Rattle.vp_tokens.specs.Blocks.{block_of}
 use Rattle.vp_quant.specs.declared.factors.Factors.{Factors}
 use Rattle.vp_intra.specs.Whole.{luma_pixel}
 use Rattle.vp_intra.specs.Sub.{sub_pixel}
-use Rattle.vp_recon.specs.Source.{Macroblock, Intra, has_sub_modes, macroblock_of}
+use Rattle.vp_recon.specs.Predictor.{Macroblock, Intra, has_sub_modes, macroblock_of}
 use Rattle.vp_recon.specs.Residue.{residue, luma_residue, luma_coefficients}
 use Rattle.vp_recon.specs.Prediction.{luma_prediction}
 use Rattle.vp_recon.specs.Rebuilt.{summed, residue_at, luma_made, sub_step, luma_numbers, luma_rebuilt, with_sub}
@@ -67,7 +67,7 @@ sub_at modes p residue a b n r c x y n' r' c' ea eb en er ec = cc
 
 -- subblock k stands at a place among all the luma blocks, and has a residue by itself
 pub sub_alone : (m : Modes) (t : Tokens) (f : Factors) (place : Place) (p : Raster) (k : ℕ) → is_by_subblocks m.luma ≡ true
-    → with_sub p (block 4 place k) (get_or m.subs k sub_is.Dc) (residue (block_of t (1 + k)).levels f.y_dc f.y_ac)
+    → with_sub p (block_place 4 place k) (get_or m.subs k sub_is.Dc) (residue (block_of t (1 + k)).levels f.y_dc f.y_ac)
     ≡ sub_step (macroblock_of (Intra m) t f) place k p
 unfolding luma_residue luma_coefficients
 sub_alone m t f place p k e =
@@ -84,8 +84,8 @@ sub_alone m t f place p k e =
 
 pub subs_alone : (m : Modes) (t : Tokens) (f : Factors) (place : Place) (p : Raster) → is_by_subblocks m.luma ≡ true
     → luma_rebuilt (macroblock_of (Intra m) t f) place p
-    ≡ over 16 (λ k q. with_sub q (block 4 place k) (get_or m.subs k sub_is.Dc) (residue (block_of t (1 + k)).levels f.y_dc f.y_ac)) p
+    ≡ over 16 (λ k q. with_sub q (block_place 4 place k) (get_or m.subs k sub_is.Dc) (residue (block_of t (1 + k)).levels f.y_dc f.y_ac)) p
 subs_alone m t f place p e =
     sym (luma_by_subs (macroblock_of (Intra m) t f) place p e)
-    ∙ over-same 16 (sub_step (macroblock_of (Intra m) t f) place) (λ k q. with_sub q (block 4 place k) (get_or m.subs k sub_is.Dc) (residue (block_of t (1 + k)).levels f.y_dc f.y_ac)) p
+    ∙ over-same 16 (sub_step (macroblock_of (Intra m) t f) place) (λ k q. with_sub q (block_place 4 place k) (get_or m.subs k sub_is.Dc) (residue (block_of t (1 + k)).levels f.y_dc f.y_ac)) p
     (λ k below q. sym (sub_alone m t f place q k e))

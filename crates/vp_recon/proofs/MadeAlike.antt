@@ -3,7 +3,7 @@ use Rattle.std.proofs.Common.{◌≡◌, ◌∙◌, ℕ, ◌+◌, ◌*◌, ◌/�
 use Rattle.vp_base.specs.declared.place.Place.{Place}
 use Rattle.vp_base.specs.Raster.{Raster, pixel}
 use Rattle.vp_tables.specs.declared.modes.SubMode.TheVariants as sub_is
-use Rattle.vp_recon.specs.Source.{Source, Intra, Inter, Macroblock, has_sub_modes, has_y2}
+use Rattle.vp_recon.specs.Predictor.{Predictor, Intra, Inter, Macroblock, has_sub_modes, has_y2}
 use Rattle.vp_recon.specs.Residue.{luma_residue, chroma_residue}
 use Rattle.vp_recon.specs.Prediction.{luma_prediction, chroma_prediction}
 use Rattle.vp_recon.specs.Rebuilt.{summed, residue_at, luma_made, chroma_made}
@@ -17,12 +17,12 @@ pub record RoundIt (p q : Raster) (x y n : ℕ) : Type 0 where
   pub beside : (u v : ℕ) → u < x → y ≤ v → v < y + n → pixel p u v ≡ pixel q u v
 
 module _ (place : Place) (p q : Raster) where
-  chroma_by : (s : Source) (k : ℕ) → 8 * place.column + 8 ≤ p.width → 8 * place.row + 8 ≤ p.height → RoundIt p q (8 * place.column) (8 * place.row) 8
+  chroma_by : (s : Predictor) (k : ℕ) → 8 * place.column + 8 ≤ p.width → 8 * place.row + 8 ≤ p.height → RoundIt p q (8 * place.column) (8 * place.row) 8
       → (r c : ℕ) → r < 8 → c < 8 → chroma_prediction s k place p r c ≡ chroma_prediction s k place q r c
   chroma_by (Intra m) k xfits yfits same r c rin cin = chroma_alike p q (8 * place.column) (8 * place.row) 8 xfits yfits same.above same.beside m.chroma r c refl rin cin
   chroma_by (Inter motion reference version) k xfits yfits same r c rin cin = refl
 
-  whole_by : (s : Source) → has_sub_modes s ≡ false → 16 * place.column + 16 ≤ p.width → 16 * place.row + 16 ≤ p.height
+  whole_by : (s : Predictor) → has_sub_modes s ≡ false → 16 * place.column + 16 ≤ p.width → 16 * place.row + 16 ≤ p.height
       → RoundIt p q (16 * place.column) (16 * place.row) 16 → (r c : ℕ) → r < 16 → c < 16 → luma_prediction s place p r c ≡ luma_prediction s place q r c
   whole_by (Intra m) e xfits yfits same r c rin cin =
       whole_prediction m place p r c e
@@ -30,7 +30,7 @@ module _ (place : Place) (p q : Raster) where
       ∙ sym (whole_prediction m place q r c e)
   whole_by (Inter motion reference version) e xfits yfits same r c rin cin = refl
 
-  sub_by : (s : Source) (k r c : ℕ) → has_sub_modes s ≡ true → 16 * place.column + 16 ≤ p.width → 16 * place.row + 16 ≤ p.height → p.width ≡ q.width
+  sub_by : (s : Predictor) (k r c : ℕ) → has_sub_modes s ≡ true → 16 * place.column + 16 ≤ p.width → 16 * place.row + 16 ≤ p.height → p.width ≡ q.width
       → ((u v : ℕ) → u < p.width → v < p.height → Ready place.column place.row k u v → pixel p u v ≡ pixel q u v)
       → k ≡ 4 * (r / 4) + c / 4 → r < 16 → c < 16 → luma_prediction s place p r c ≡ luma_prediction s place q r c
   sub_by (Intra m) k r c e xfits yfits wide same k_is rin cin =

@@ -4,14 +4,14 @@ use Rattle.std.proofs.lemmas.List.{get_or-replicate}
 use Rattle.std.proofs.lemmas.Int.{ints}
 use Rattle.vp_base.specs.Raster.{Raster}
 use Rattle.vp_tables.specs.Modes.{is_split}
-use Rattle.vp_motion.specs.Vector.{Vector, Entry, AreOne, last_of, still}
+use Rattle.vp_motion.specs.Vector.{Vector, MacroblockMotion, AreOne, last_of, still}
 use Rattle.vp_inter.specs.declared.vector.PlaneVector.{PlaneVector}
-use Rattle.vp_inter.specs.Inter.{reference_pixel, across, inter_pixel}
-use Rattle.vp_inter.specs.Vectors.{fraction, start, luma_vector, chroma_vector}
+use Rattle.vp_inter.specs.Inter.{reference_pixel, horizontal_pass, inter_pixel}
+use Rattle.vp_inter.specs.Vectors.{fraction, first_tap, luma_vector, chroma_vector}
 use Rattle.vp_inter.specs.Filter.{taps, filter_six}
 use Rattle.vp_inter.proofs.FilterLemmas.{filtered_bound}
 use Rattle.vp_recon.specs.Prediction.{moved_pixel, four_from, luma_moved, chroma_moved}
-use Rattle.vp_recon.specs.Kept.{sub_of_quarter}
+use Rattle.vp_recon.specs.Sums.{sub_of_quarter}
 use Rattle.vp_recon.proofs.Parts.{sub_at, subblock_has}
 
 moved_at : (version : ℕ) (reference : Raster) (vector : ℕ → PlaneVector) (x y n r c x' y' n' r' c' : ℕ)
@@ -19,14 +19,14 @@ moved_at : (version : ℕ) (reference : Raster) (vector : ℕ → PlaneVector) (
 moved_at version reference vector x y n r c x' y' n' r' c' ex ey en er ec = cc
 
 -- a pixel of subblock k
-pub moved_part : (version : ℕ) (reference : Raster) (x y across : ℕ) (vector : ℕ → PlaneVector) (k r c : ℕ) → 0 < across → r < 4 → c < 4
-    → inter_pixel version reference (x + 4 * (k % across)) (y + 4 * (k / across)) (vector k) r c
-    ≡ moved_pixel version reference x y across vector (4 * (k / across) + r) (4 * (k % across) + c)
-moved_part version reference x y across vector k r c some rin cin =
+pub moved_part : (version : ℕ) (reference : Raster) (x y horizontal_pass : ℕ) (vector : ℕ → PlaneVector) (k r c : ℕ) → 0 < horizontal_pass → r < 4 → c < 4
+    → inter_pixel version reference (x + 4 * (k % horizontal_pass)) (y + 4 * (k / horizontal_pass)) (vector k) r c
+    ≡ moved_pixel version reference x y horizontal_pass vector (4 * (k / horizontal_pass) + r) (4 * (k % horizontal_pass) + c)
+moved_part version reference x y horizontal_pass vector k r c some rin cin =
     sym (moved_at version reference vector
-    (x + 4 * ((4 * (k % across) + c) / 4)) (y + 4 * ((4 * (k / across) + r) / 4)) (sub_at across (4 * (k / across) + r) (4 * (k % across) + c)) ((4 * (k / across) + r) % 4) ((4 * (k % across) + c) % 4)
-    (x + 4 * (k % across)) (y + 4 * (k / across)) k r c
-    (omega arith) (omega arith) (subblock_has across k r c some rin cin) (omega arith) (omega arith))
+    (x + 4 * ((4 * (k % horizontal_pass) + c) / 4)) (y + 4 * ((4 * (k / horizontal_pass) + r) / 4)) (sub_at horizontal_pass (4 * (k / horizontal_pass) + r) (4 * (k % horizontal_pass) + c)) ((4 * (k / horizontal_pass) + r) % 4) ((4 * (k % horizontal_pass) + c) % 4)
+    (x + 4 * (k % horizontal_pass)) (y + 4 * (k / horizontal_pass)) k r c
+    (omega arith) (omega arith) (subblock_has horizontal_pass k r c some rin cin) (omega arith) (omega arith))
 
 -- a pixel of a quarter of luma
 pub moved_quarter : (version : ℕ) (reference : Raster) (x y : ℕ) (vector : ℕ → PlaneVector) (n r c : ℕ) → r < 8 → c < 8
@@ -45,7 +45,7 @@ inter_bound version reference x y v r c =
     filtered_bound (taps version (fraction v.row)) (above 0) (above 1) (above 2) (above 3) (above 4) (above 5)
   where
     above : ℕ → ℕ
-    above k = across (taps version (fraction v.column)) reference (start x v.column) (start y v.row) (r + k) c
+    above k = horizontal_pass (taps version (fraction v.column)) reference (first_tap x v.column) (first_tap y v.row) (r + k) c
 
 -- ---- a block that moves as a whole
 
@@ -59,22 +59,22 @@ six_same weights f g same =
     let h : f 5 ≡ g 5 = same 5 in
     cc
 
-start_on : (x a c j : ℕ) (e : ℤ) → start (x + a) e +ℤ pos (c + j) ≡ start x e +ℤ pos (a + c + j)
-unfolding start
+start_on : (x a c j : ℕ) (e : ℤ) → first_tap (x + a) e +ℤ pos (c + j) ≡ first_tap x e +ℤ pos (a + c + j)
+unfolding first_tap
 start_on x a c j e = omega (arith, ints)
 
-top_on : (y b i : ℕ) (e : ℤ) → start (y + b) e +ℤ pos i ≡ start y e +ℤ pos (b + i)
-unfolding start
+top_on : (y b i : ℕ) (e : ℤ) → first_tap (y + b) e +ℤ pos i ≡ first_tap y e +ℤ pos (b + i)
+unfolding first_tap
 top_on y b i e = omega (arith, ints)
 
 across_on : (weights : List ℤ) (p : Raster) (x y a b i c : ℕ) (e f : ℤ)
-    → across weights p (start (x + a) e) (start (y + b) f) i c ≡ across weights p (start x e) (start y f) (b + i) (a + c)
-unfolding across
+    → horizontal_pass weights p (first_tap (x + a) e) (first_tap (y + b) f) i c ≡ horizontal_pass weights p (first_tap x e) (first_tap y f) (b + i) (a + c)
+unfolding horizontal_pass
 across_on weights p x y a b i c e f =
-    six_same weights (λ (k : ℕ). reference_pixel p (start (x + a) e +ℤ pos (c + k)) (start (y + b) f +ℤ pos i))
-    (λ (k : ℕ). reference_pixel p (start x e +ℤ pos (a + c + k)) (start y f +ℤ pos (b + i)))
-    (λ k. ap (λ (z : ℤ). reference_pixel p z (start (y + b) f +ℤ pos i)) (start_on x a c k e)
-    ∙ ap (reference_pixel p (start x e +ℤ pos (a + c + k))) (top_on y b i f))
+    six_same weights (λ (k : ℕ). reference_pixel p (first_tap (x + a) e +ℤ pos (c + k)) (first_tap (y + b) f +ℤ pos i))
+    (λ (k : ℕ). reference_pixel p (first_tap x e +ℤ pos (a + c + k)) (first_tap y f +ℤ pos (b + i)))
+    (λ k. ap (λ (z : ℤ). reference_pixel p z (first_tap (y + b) f +ℤ pos i)) (start_on x a c k e)
+    ∙ ap (reference_pixel p (first_tap x e +ℤ pos (a + c + k))) (top_on y b i f))
 
 -- a block's part is predicted as the whole is
 inter_part : (version : ℕ) (p : Raster) (x y a b : ℕ) (v : PlaneVector) (r c : ℕ)
@@ -83,10 +83,10 @@ unfolding inter_pixel
 inter_part version p x y a b v r c =
     let weights : List ℤ = taps version (fraction v.column) in
     six_same (taps version (fraction v.row))
-    (λ (k : ℕ). across weights p (start (x + a) v.column) (start (y + b) v.row) (r + k) c)
-    (λ (k : ℕ). across weights p (start x v.column) (start y v.row) (b + r + k) (a + c))
+    (λ (k : ℕ). horizontal_pass weights p (first_tap (x + a) v.column) (first_tap (y + b) v.row) (r + k) c)
+    (λ (k : ℕ). horizontal_pass weights p (first_tap x v.column) (first_tap y v.row) (b + r + k) (a + c))
     (λ k. across_on weights p x y a b (r + k) c v.column v.row
-    ∙ ap (λ (i : ℕ). across weights p (start x v.column) (start y v.row) i (a + c)) (let e : b + (r + k) ≡ b + r + k = omega arith in e))
+    ∙ ap (λ (i : ℕ). horizontal_pass weights p (first_tap x v.column) (first_tap y v.row) i (a + c)) (let e : b + (r + k) ≡ b + r + k = omega arith in e))
 
 -- all subblocks move as the first one
 pub moved_alike : (version : ℕ) (reference : Raster) (x y n : ℕ) (vector : ℕ → PlaneVector) (r c : ℕ) → vector (sub_at n r c) ≡ vector 0
@@ -99,14 +99,14 @@ moved_alike version reference x y n vector r c same =
 
 -- ---- a macroblock that isn't split
 
-pub luma_one : (e : Entry) (k : ℕ) → AreOne e.mode e.vectors → is_split e.mode ≡ false → k < 16 → luma_moved e k ≡ luma_moved e 0
+pub luma_one : (e : MacroblockMotion) (k : ℕ) → AreOne e.mode e.vectors → is_split e.mode ≡ false → k < 16 → luma_moved e k ≡ luma_moved e 0
 unfolding luma_moved
 luma_one e k one whole below =
     let v : Vector = last_of e.vectors in
     let at : (j : ℕ) → j < 16 → get_or e.vectors j still ≡ v = λ j jin. ap (λ (vs : List Vector). get_or vs j still) (one whole) ∙ get_or-replicate 16 j v still jin in
     ap (λ (w : Vector). luma_vector w.row w.column) (at k below ∙ sym (at 0 (omega arith)))
 
-pub chroma_one : (version : ℕ) (e : Entry) (k : ℕ) → AreOne e.mode e.vectors → is_split e.mode ≡ false → k < 4 → chroma_moved version e k ≡ chroma_moved version e 0
+pub chroma_one : (version : ℕ) (e : MacroblockMotion) (k : ℕ) → AreOne e.mode e.vectors → is_split e.mode ≡ false → k < 4 → chroma_moved version e k ≡ chroma_moved version e 0
 unfolding chroma_moved
 chroma_one version e k one whole below =
     let v : Vector = last_of e.vectors in

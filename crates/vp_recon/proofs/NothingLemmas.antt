@@ -16,15 +16,15 @@ use Rattle.vp_base.specs.Block.{with_block}
 use Rattle.vp_base.specs.Image.{Image, plane_of}
 use Rattle.vp_base.proofs.BlockLemmas.{with_block_same}
 use Rattle.vp_tables.specs.Modes.{is_split}
-use Rattle.vp_motion.specs.Vector.{Entry}
-use Rattle.vp_recon.specs.Source.{Macroblock, Inter, macroblock_of}
+use Rattle.vp_motion.specs.Vector.{MacroblockMotion}
+use Rattle.vp_recon.specs.Predictor.{Macroblock, Inter, macroblock_of}
 use Rattle.vp_recon.specs.Prediction.{luma_moved, chroma_moved, moved_pixel}
 use Rattle.vp_recon.specs.Rebuilt.{summed, residue_at, luma_made, chroma_made, luma_rebuilt, chroma_rebuilt}
 use Rattle.vp_recon.proofs.Parts.{sub_at}
 use Rattle.vp_recon.proofs.LumaLemmas.{luma_at_once}
 use Rattle.vp_recon.proofs.MovedLemmas.{inter_bound}
-use Rattle.vp_recon.specs.Kept.{IsNothing}
-use Rattle.vp_recon.proofs.KeptLemmas.{summed-zero}
+use Rattle.vp_recon.specs.Sums.{IsNothing}
+use Rattle.vp_recon.proofs.SumLemmas.{summed-zero}
 use Rattle.vp_recon.proofs.ResidueLemmas.{no_residue, no_firsts, no_first}
 
 zero_at : (i : ℕ) → get_or (replicate 16 (pos 0)) i (pos 0) ≡ pos 0
@@ -75,7 +75,7 @@ alone across own pixel r c nothing below byte =
     sym (ap (summed pixel) (nothing (across * (r / 4) + c / 4) below (4 * (r % 4) + c % 4) (omega arith)) ∙ summed-zero pixel byte)
 
 -- the luma, and a colour plane, of a macroblock that moves and has no residue
-module _ (t : Tokens) (none : t.blocks ≡ no_blocks) (f : Factors) (motion : Entry) (reference : Image) (version : ℕ) (place : Place) where
+module _ (t : Tokens) (none : t.blocks ≡ no_blocks) (f : Factors) (motion : MacroblockMotion) (reference : Image) (version : ℕ) (place : Place) where
   pub luma_moved_alone : (p : Raster)
       → with_block p (16 * place.column) (16 * place.row) 16 16 (moved_pixel version reference.luma (16 * place.column) (16 * place.row) 4 (luma_moved motion))
       ≡ luma_rebuilt (macroblock_of (Inter motion reference version) t f) place p

@@ -15,7 +15,7 @@ use Rattle.vp_transform.proofs.Bounds.{idct-within}
 use Rattle.vp_transform.proofs.Eights.{coded16, handed16, passed16, below_eight}
 use Rattle.vp_transform.proofs.Vectors.{short16_fits}
 use Rattle.vp_recon.specs.Rebuilt.{summed, to_byte}
-use Rattle.vp_recon.specs.Pairs.{with_added, with_both_added, number_in, AreRows, AreLow}
+use Rattle.vp_recon.specs.Pairs.{with_added, with_both_added, row_lane, ArePairedRows, AreLow}
 use Rattle.vp_recon.proofs.SubblockLemmas.{below_four}
 use Rattle.vp_recon.proofs.Parts.{is_in, in_it}
 
@@ -24,9 +24,9 @@ low_handed xs low j h = subst (λ z. unsigned_abs z ≤ 8800) (sym (passed16 xs 
 
 -- what vectors have as they are handed on
 module _ (a b c d : List ℤ) (la : AreLow a) (lb : AreLow b) (lc : AreLow c) (ld : AreLow d) where
-  pub number_handed : (r j : ℕ) → r < 4 → j < 8 → number_in (handed16 a) (handed16 b) (handed16 c) (handed16 d) r j ≡ number_in a b c d r j
+  pub number_handed : (r j : ℕ) → r < 4 → j < 8 → row_lane (handed16 a) (handed16 b) (handed16 c) (handed16 d) r j ≡ row_lane a b c d r j
   number_handed r j rin jin =
-      below_four (λ i. number_in (handed16 a) (handed16 b) (handed16 c) (handed16 d) i j ≡ number_in a b c d i j)
+      below_four (λ i. row_lane (handed16 a) (handed16 b) (handed16 c) (handed16 d) i j ≡ row_lane a b c d i j)
       (passed16 a j 8800 (omega arith) (la j jin)) (passed16 b j 8800 (omega arith) (lb j jin))
       (passed16 c j 8800 (omega arith) (lc j jin)) (passed16 d j 8800 (omega arith) (ld j jin)) r rin
 
@@ -41,13 +41,13 @@ module _ (row : List ℤ) (l m : ℤ) (el : (j : ℕ) → j < 4 → lane row j �
 
   pub even_rows : (left right : List ℤ) → AreLow row → ((i pixel : ℕ) → i < 16 → pixel ≤ 255 → summed pixel l ≡ summed pixel (get_or left i (pos 0)))
       → ((i pixel : ℕ) → i < 16 → pixel ≤ 255 → summed pixel m ≡ summed pixel (get_or right i (pos 0)))
-      → AreRows (handed16 row) (handed16 row) (handed16 row) (handed16 row) left right
+      → ArePairedRows (handed16 row) (handed16 row) (handed16 row) (handed16 row) left right
   even_rows left right low sl sm r j rin jin pixel byte =
       let first : lane (handed16 row) j ≡ l = passed16 row j 8800 (omega arith) (low j (omega arith)) ∙ el j jin in
       let second : lane (handed16 row) (4 + j) ≡ m = passed16 row (4 + j) 8800 (omega arith) (low (4 + j) (omega arith)) ∙ em j jin in
       let h : List ℤ = handed16 row in (
-        ap (summed pixel) (below_four (λ i. number_in h h h h i j ≡ l) first first first first r rin) ∙ sl (4 * r + j) pixel (omega arith) byte,
-        ap (summed pixel) (below_four (λ i. number_in h h h h i (4 + j) ≡ m) second second second second r rin) ∙ sm (4 * r + j) pixel (omega arith) byte,
+        ap (summed pixel) (below_four (λ i. row_lane h h h h i j ≡ l) first first first first r rin) ∙ sl (4 * r + j) pixel (omega arith) byte,
+        ap (summed pixel) (below_four (λ i. row_lane h h h h i (4 + j) ≡ m) second second second second r rin) ∙ sm (4 * r + j) pixel (omega arith) byte,
       )
 
 -- ---- two residues whose coefficients are small
@@ -71,11 +71,11 @@ module _ (a b : List ℤ) (small_a : EachWithin 2200 a) (small_b : EachWithin 22
   number_second r v e j jin = passed16 v (4 + j) 8800 (omega arith) (row_low r v e (4 + j) (omega arith)) ∙ ap (λ (u : List ℤ). lane u (4 + j)) e ∙ row_second (idct a) (idct b) r j jin
 
   pub rows_kept : (v0 v1 v2 v3 : List ℤ) → v0 ≡ row_in (idct a) (idct b) 0 → v1 ≡ row_in (idct a) (idct b) 1 → v2 ≡ row_in (idct a) (idct b) 2 → v3 ≡ row_in (idct a) (idct b) 3
-      → AreRows (handed16 v0) (handed16 v1) (handed16 v2) (handed16 v3) (idct a) (idct b)
+      → ArePairedRows (handed16 v0) (handed16 v1) (handed16 v2) (handed16 v3) (idct a) (idct b)
   rows_kept v0 v1 v2 v3 e0 e1 e2 e3 r j rin jin pixel byte = (
-    ap (summed pixel) (below_four (λ i. number_in (handed16 v0) (handed16 v1) (handed16 v2) (handed16 v3) i j ≡ get_or (idct a) (4 * i + j) (pos 0))
+    ap (summed pixel) (below_four (λ i. row_lane (handed16 v0) (handed16 v1) (handed16 v2) (handed16 v3) i j ≡ get_or (idct a) (4 * i + j) (pos 0))
         (number_first 0 v0 e0 j jin) (number_first 1 v1 e1 j jin) (number_first 2 v2 e2 j jin) (number_first 3 v3 e3 j jin) r rin),
-    ap (summed pixel) (below_four (λ i. number_in (handed16 v0) (handed16 v1) (handed16 v2) (handed16 v3) i (4 + j) ≡ get_or (idct b) (4 * i + j) (pos 0))
+    ap (summed pixel) (below_four (λ i. row_lane (handed16 v0) (handed16 v1) (handed16 v2) (handed16 v3) i (4 + j) ≡ get_or (idct b) (4 * i + j) (pos 0))
         (number_second 0 v0 e0 j jin) (number_second 1 v1 e1 j jin) (number_second 2 v2 e2 j jin) (number_second 3 v3 e3 j jin) r rin),
   )
 

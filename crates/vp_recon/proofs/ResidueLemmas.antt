@@ -13,7 +13,7 @@ use Rattle.vp_tokens.specs.Blocks.{block_of}
 use Rattle.vp_recon.specs.Residue.{residue}
 use Rattle.vp_recon.specs.declared.residue.Residues.{Residues}
 use Rattle.vp_recon.specs.Parts.{with_first, residue_in}
-use Rattle.vp_recon.specs.Kept.{IsNothing}
+use Rattle.vp_recon.specs.Sums.{IsNothing}
 
 pub within_set : (b : ℕ) (zs : List ℤ) (z : ℤ) → EachWithin b zs → unsigned_abs z ≤ b → EachWithin b (set zs 0 z)
 within_set b [] z small fits i = small i

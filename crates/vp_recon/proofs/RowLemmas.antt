@@ -8,10 +8,10 @@ use Rattle.vp_base.specs.Image.{Image, IsAligned, macroblocks}
 use Rattle.vp_base.specs.Rows.{IsSameFrom, AreSameAbove, AreSameFrom, AreOneSize}
 use Rattle.vp_base.specs.Over.{over}
 use Rattle.vp_base.proofs.BlockLemmas.{pixel-with_block}
-use Rattle.vp_motion.specs.Vector.{Entry}
+use Rattle.vp_motion.specs.Vector.{MacroblockMotion}
 use Rattle.vp_tokens.specs.declared.contexts.Tokens.{Tokens}
 use Rattle.vp_quant.specs.declared.factors.Factors.{Factors}
-use Rattle.vp_recon.specs.Source.{Macroblock, Inter, has_sub_modes, macroblock_of}
+use Rattle.vp_recon.specs.Predictor.{Macroblock, Inter, has_sub_modes, macroblock_of}
 use Rattle.vp_recon.specs.Rebuilt.{luma_made, chroma_made, sub_step, luma_rebuilt, chroma_rebuilt, rebuilt}
 use Rattle.vp_recon.proofs.Parts.{is_in}
 use Rattle.vp_recon.proofs.LumaLemmas.{luma_at_once, luma_by_subs, wide_subs, high_subs}
@@ -125,7 +125,7 @@ any_reads m place p q a b pa qa size xin yin anear bnear same =
     }
 
 -- a moved macroblock depends on nothing of the picture that it is written to
-pub inter_reads : (motion : Entry) (reference : Image) (version : ℕ) (t : Tokens) (f : Factors) (place : Place) (p q : Image) (a b : ℕ) → IsAligned p → IsAligned q → AreOneSize p q
+pub inter_reads : (motion : MacroblockMotion) (reference : Image) (version : ℕ) (t : Tokens) (f : Factors) (place : Place) (p q : Image) (a b : ℕ) → IsAligned p → IsAligned q → AreOneSize p q
     → AreSameFrom a b p q → AreSameFrom a b (rebuilt (macroblock_of (Inter motion reference version) t f) place p) (rebuilt (macroblock_of (Inter motion reference version) t f) place q)
 inter_reads motion reference version t f place p q a b pa qa size same =
     let m : Macroblock = macroblock_of (Inter motion reference version) t f in

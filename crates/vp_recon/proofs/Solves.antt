@@ -10,7 +10,7 @@ use Rattle.vp_base.specs.Rows.{AreOneSize}
 use Rattle.vp_base.specs.Over.{over}
 use Rattle.vp_base.proofs.BlockLemmas.{pixel-with_block, IsWhole-with_block}
 use Rattle.vp_base.proofs.OverLemmas.{over-more, over-holds, over-split}
-use Rattle.vp_recon.specs.Source.{Macroblock, has_sub_modes}
+use Rattle.vp_recon.specs.Predictor.{Macroblock, has_sub_modes}
 use Rattle.vp_recon.specs.Rebuilt.{luma_made, chroma_made, sub_step, luma_rebuilt, chroma_rebuilt, rebuilt, row_rebuilt, all_rebuilt}
 use Rattle.vp_recon.specs.Equation.{IsUnfiltered}
 use Rattle.vp_recon.proofs.Parts.{is_in, in_it}

@@ -3,17 +3,17 @@ use Rattle.std.proofs.Common.{◌≡◌, ◌∙◌, ℕ, Bool, cond, min, ◌+�
 use Rattle.std.proofs.lemmas.Bool.{cases_lt, cases_eq, eq-eqb, ne_eqb}
 use Rattle.vp_base.specs.Raster.{Raster, pixel}
 use Rattle.vp_tables.specs.declared.modes.SubMode.{SubMode}
-use Rattle.vp_intra.specs.Edges.{above, left, corner}
-use Rattle.vp_intra.specs.Sub.{right, right_row, around, predicted, sub_pixel}
+use Rattle.vp_intra.specs.Edges.{above_pixel, left_pixel, corner_pixel}
+use Rattle.vp_intra.specs.Sub.{above_right_pixel, right_row, around, predicted, sub_pixel}
 use Rattle.vp_intra.proofs.EdgeLemmas.{above_inside, above_outside, left_inside, left_outside}
 use Rattle.vp_recon.proofs.Alike.{corner_inside, corner_top, corner_side}
 
-pub right_inside : (p : Raster) (x y t : ℕ) → 0 < right_row x y → right p x y t ≡ pixel p (min (x + 4 + t) (p.width - 1)) (right_row x y - 1)
-unfolding right
+pub right_inside : (p : Raster) (x y t : ℕ) → 0 < right_row x y → above_right_pixel p x y t ≡ pixel p (min (x + 4 + t) (p.width - 1)) (right_row x y - 1)
+unfolding above_right_pixel
 right_inside p x y t pos = ap (λ (b : Bool). cond b 127 (pixel p (min (x + 4 + t) (p.width - 1)) (right_row x y - 1))) (ne_eqb (right_row x y) 0 (λ e. omega arith))
 
-pub right_top : (p q : Raster) (x y t : ℕ) → right_row x y ≡ 0 → right p x y t ≡ right q x y t
-unfolding right
+pub right_top : (p q : Raster) (x y t : ℕ) → right_row x y ≡ 0 → above_right_pixel p x y t ≡ above_right_pixel q x y t
+unfolding above_right_pixel
 right_top p q x y t none =
     ap (λ (b : Bool). cond b 127 (pixel p (min (x + 4 + t) (p.width - 1)) (right_row x y - 1))) (eq-eqb (right_row x y) 0 none)
     ∙ sym (ap (λ (b : Bool). cond b 127 (pixel q (min (x + 4 + t) (q.width - 1)) (right_row x y - 1))) (eq-eqb (right_row x y) 0 none))
@@ -40,7 +40,7 @@ right_row_of mx my i j x y iin jin x_is y_is = elim (cases_eq (x % 16) 12) [
 module _ (p q : Raster) (mx my i j x y : ℕ) (iin : i < 4) (jin : j < 4) (x_is : x ≡ 16 * mx + 4 * i) (y_is : y ≡ 16 * my + 4 * j)
     (wide : p.width ≡ q.width) (xfits : 16 * mx + 16 ≤ p.width) (yfits : 16 * my + 16 ≤ p.height)
     (same : (u v : ℕ) → u < p.width → v < p.height → Ready mx my (4 * j + i) u v → pixel p u v ≡ pixel q u v) where
-  left_same : (r : ℕ) → r < 4 → left p x y r ≡ left q x y r
+  left_same : (r : ℕ) → r < 4 → left_pixel p x y r ≡ left_pixel q x y r
   left_same r rin = elim (cases_lt 0 x) [
     | inr none ↦ left_outside p x y r (omega arith) ∙ sym (left_outside q x y r (omega arith))
     | inl pos ↦
@@ -52,7 +52,7 @@ module _ (p q : Raster) (mx my i j x y : ℕ) (iin : i < 4) (jin : j < 4) (x_is 
         ∙ sym (left_inside q x y r pos)
   ]
 
-  corner_same : corner p x y ≡ corner q x y
+  corner_same : corner_pixel p x y ≡ corner_pixel q x y
   corner_same = elim (cases_lt 0 y) [
     | inr none ↦ corner_top p q x y (omega arith)
     | inl ypos ↦ elim (cases_lt 0 x) [
@@ -70,7 +70,7 @@ module _ (p q : Raster) (mx my i j x y : ℕ) (iin : i < 4) (jin : j < 4) (x_is 
     ]
   ]
 
-  above_same : (c : ℕ) → c < 4 → above p x y c ≡ above q x y c
+  above_same : (c : ℕ) → c < 4 → above_pixel p x y c ≡ above_pixel q x y c
   above_same c cin = elim (cases_lt 0 y) [
     | inr none ↦ above_outside p x y c (omega arith) ∙ sym (above_outside q x y c (omega arith))
     | inl pos ↦
@@ -82,7 +82,7 @@ module _ (p q : Raster) (mx my i j x y : ℕ) (iin : i < 4) (jin : j < 4) (x_is 
         ∙ sym (above_inside q x y c pos)
   ]
 
-  right_same : (t : ℕ) → t < 4 → right p x y t ≡ right q x y t
+  right_same : (t : ℕ) → t < 4 → above_right_pixel p x y t ≡ above_right_pixel q x y t
   right_same t tin = elim (cases_lt 0 (right_row x y)) [
     | inr none ↦ right_top p q x y t (omega arith)
     | inl pos ↦

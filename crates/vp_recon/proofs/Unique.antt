@@ -8,7 +8,7 @@ use Rattle.vp_base.specs.Block.{IsWhole}
 use Rattle.vp_base.specs.Image.{Image, IsAligned, AreWhole, macroblocks}
 use Rattle.vp_base.specs.Rows.{AreOneSize}
 use Rattle.vp_base.proofs.BlockLemmas.{same_raster}
-use Rattle.vp_recon.specs.Source.{Macroblock, has_sub_modes}
+use Rattle.vp_recon.specs.Predictor.{Macroblock, has_sub_modes}
 use Rattle.vp_recon.specs.Rebuilt.{luma_made, chroma_made}
 use Rattle.vp_recon.specs.Equation.{IsUnfiltered}
 use Rattle.vp_recon.proofs.SubAlike.{Ready, readyHigher, readyBeside, readyOwn}

@@ -4,7 +4,7 @@ use Rattle.std.specs.Prelude.{◌≡◌, ◌<◌, ℕ, ◌+◌, ◌*◌}
 use Rattle.vp_base.specs.declared.place.Place.{Place}
 use Rattle.vp_base.specs.Raster.{pixel}
 use Rattle.vp_base.specs.Image.{Image, macroblocks}
-use Rattle.vp_recon.specs.Source.{Macroblock}
+use Rattle.vp_recon.specs.Predictor.{Macroblock}
 use Rattle.vp_recon.specs.Rebuilt.{luma_made, chroma_made}
 
 -- each pixel of the macroblock at a place of p is what m makes of it, from p itself or from a reference

@@ -4,7 +4,7 @@ use Rattle.vp_base.specs.declared.place.Place.{Place}
 use Rattle.vp_base.specs.Raster.{Raster}
 use Rattle.vp_base.specs.Image.{Image, IsAligned, AreWhole, macroblocks}
 use Rattle.vp_base.specs.Rows.{AreSameFrom, AreOneSize}
-use Rattle.vp_base.specs.Near.{block}
+use Rattle.vp_base.specs.Near.{block_place}
 use Rattle.vp_base.specs.Over.{over}
 use Rattle.vp_tables.specs.declared.modes.SubMode.TheVariants.{Dc}
 use Rattle.vp_tables.specs.Modes.{is_by_subblocks}
@@ -12,7 +12,7 @@ use Rattle.vp_modes.specs.Entry.{Modes}
 use Rattle.vp_tokens.specs.declared.contexts.Tokens.{Tokens}
 use Rattle.vp_tokens.specs.Blocks.{block_of}
 use Rattle.vp_quant.specs.declared.factors.Factors.{Factors}
-use Rattle.vp_recon.specs.Source.{Macroblock, Intra, macroblock_of}
+use Rattle.vp_recon.specs.Predictor.{Macroblock, Intra, macroblock_of}
 use Rattle.vp_recon.specs.Residue.{residue}
 use Rattle.vp_recon.specs.Rebuilt.{luma_rebuilt, rebuilt, with_sub}
 use Rattle.vp_recon.specs.Equation.{IsUnfiltered}
@@ -40,4 +40,4 @@ abbrev pub IsBySubblocks : Modes → Tokens → Factors → Place → Raster →
 IsBySubblocks modes tokens factors place p =
     is_by_subblocks modes.luma ≡ true
     → luma_rebuilt (macroblock_of (Intra modes) tokens factors) place p
-    ≡ over 16 (λ k q. with_sub q (block 4 place k) (slice_index_or modes.subs k Dc) (residue (block_of tokens (1 + k)).levels factors.y_dc factors.y_ac)) p
+    ≡ over 16 (λ k q. with_sub q (block_place 4 place k) (slice_index_or modes.subs k Dc) (residue (block_of tokens (1 + k)).levels factors.y_dc factors.y_ac)) p

@@ -1,9 +1,9 @@
-pub mod Source
+pub mod Predictor
 pub mod Residue
 pub mod Prediction
 pub mod Rebuilt
 pub mod Equation
-pub mod Kept
+pub mod Sums
 pub mod Parts
 pub mod Laws
 pub mod Pairs

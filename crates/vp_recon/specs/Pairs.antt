@@ -15,15 +15,15 @@ abbrev pub with_both_added : Raster → ℕ → ℕ → List ℤ → List ℤ �
 with_both_added p x y left right = with_added (with_added p x y left) (x + 4) y right
 
 -- number j of row r of four vectors
-abbrev pub number_in : List ℤ → List ℤ → List ℤ → List ℤ → ℕ → ℕ → ℤ
-number_in a b c d r j = lane (slice_index_or (a ∷ b ∷ c ∷ d ∷ []) r []) j
+abbrev pub row_lane : List ℤ → List ℤ → List ℤ → List ℤ → ℕ → ℕ → ℤ
+row_lane a b c d r j = lane (slice_index_or (a ∷ b ∷ c ∷ d ∷ []) r []) j
 
 -- four rows of eight numbers that give the sums of two residues side by side
-abbrev pub AreRows : List ℤ → List ℤ → List ℤ → List ℤ → List ℤ → List ℤ → Type 0
-AreRows a b c d left right =
+abbrev pub ArePairedRows : List ℤ → List ℤ → List ℤ → List ℤ → List ℤ → List ℤ → Type 0
+ArePairedRows a b c d left right =
     (r j : ℕ) → r < 4 → j < 4 → (pixel : ℕ) → pixel ≤ 255
-    → (summed pixel (number_in a b c d r j) ≡ summed pixel (slice_index_or left (4 * r + j) (pos 0)))
-    × (summed pixel (number_in a b c d r (4 + j)) ≡ summed pixel (slice_index_or right (4 * r + j) (pos 0)))
+    → (summed pixel (row_lane a b c d r j) ≡ summed pixel (slice_index_or left (4 * r + j) (pos 0)))
+    × (summed pixel (row_lane a b c d r (4 + j)) ≡ summed pixel (slice_index_or right (4 * r + j) (pos 0)))
 
 -- numbers that a sum of i16 with a byte holds
 abbrev pub AreLow : List ℤ → Type 0

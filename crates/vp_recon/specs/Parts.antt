@@ -20,12 +20,12 @@ abbrev pub residue_in : Residues → ℕ → List ℤ
 residue_in r k = idct (coefficients_in r k)
 
 -- the residues of n subblocks are these
-abbrev pub Gives : ℕ → Residues → (ℕ → List ℤ) → Type 0
-Gives n r residue = (k : ℕ) → k < n → residue_in r k ≡ residue k
+abbrev pub HasResidues : ℕ → Residues → (ℕ → List ℤ) → Type 0
+HasResidues n r residue = (k : ℕ) → k < n → residue_in r k ≡ residue k
 
 -- first coefficients that stand apart are small enough to be transformed
-abbrev pub AreSmall : Residues → Type 0
-AreSmall r = (firsts : List ℤ) → r.firsts ≡ Some firsts → EachWithin (2 ^ 40) firsts
+abbrev pub HasSmallFirsts : Residues → Type 0
+HasSmallFirsts r = (firsts : List ℤ) → r.firsts ≡ Some firsts → EachWithin (2 ^ 40) firsts
 
 -- the first coefficient of subblock k is its only one that is not 0
 abbrev pub IsAlone : Residues → ℕ → Type 0

@@ -5,16 +5,16 @@ use Rattle.vp_base.specs.Raster.{Raster}
 use Rattle.vp_base.specs.Image.{plane_of}
 use Rattle.vp_tables.specs.declared.modes.SubMode.TheVariants as sub_is
 use Rattle.vp_tables.specs.Modes.{is_by_subblocks}
-use Rattle.vp_motion.specs.Vector.{Vector, Entry, still}
+use Rattle.vp_motion.specs.Vector.{Vector, MacroblockMotion, still}
 use Rattle.vp_intra.specs.Whole.{luma_pixel, chroma_pixel}
 use Rattle.vp_intra.specs.Sub.{sub_pixel}
 use Rattle.vp_inter.specs.declared.vector.PlaneVector.{PlaneVector}
 use Rattle.vp_inter.specs.Vectors.{luma_vector, chroma_vector}
 use Rattle.vp_inter.specs.Inter.{inter_pixel}
-use Rattle.vp_recon.specs.Source.{Source, Intra, Inter}
+use Rattle.vp_recon.specs.Predictor.{Predictor, Intra, Inter}
 
 -- how luma subblock k moves
-unfoldable pub luma_moved : Entry → ℕ → PlaneVector
+unfoldable pub luma_moved : MacroblockMotion → ℕ → PlaneVector
 luma_moved e k = let v = slice_index_or e.vectors k still in luma_vector v.row v.column
 
 -- the vectors of two by two luma subblocks, of which `first` is at the top left
@@ -24,7 +24,7 @@ four_from vectors first =
     ∷ slice_index_or vectors (first + 4) still ∷ slice_index_or vectors (first + 5) still ∷ []
 
 -- how chroma subblock k moves, of two by two: by the vectors of the two by two luma subblocks that show the same pixels
-unfoldable pub chroma_moved : ℕ → Entry → ℕ → PlaneVector
+unfoldable pub chroma_moved : ℕ → MacroblockMotion → ℕ → PlaneVector
 chroma_moved version e k =
     let four = four_from e.vectors (8 * (k / 2) + 2 * (k % 2)) in
     chroma_vector version (map (λ v. v.row) four) (map (λ v. v.column) four)
@@ -37,7 +37,7 @@ moved_pixel version reference x y across vector r c =
 
 -- the prediction at row r and column c of the luma of the macroblock at a place, where its plane is p: by the mode of its
 -- subblock, or as a whole, or moved
-abbrev pub luma_prediction : Source → Place → Raster → ℕ → ℕ → ℕ
+abbrev pub luma_prediction : Predictor → Place → Raster → ℕ → ℕ → ℕ
 luma_prediction (Intra m) place p r c =
     if is_by_subblocks m.luma
     then sub_pixel (slice_index_or m.subs (4 * (r / 4) + c / 4) sub_is.Dc) p (16 * place.column + 4 * (c / 4)) (16 * place.row + 4 * (r / 4)) (r % 4) (c % 4)
@@ -46,7 +46,7 @@ luma_prediction (Inter motion reference version) place p r c =
     moved_pixel version reference.luma (16 * place.column) (16 * place.row) 4 (luma_moved motion) r c
 
 -- the same of plane k, one of colour
-abbrev pub chroma_prediction : Source → ℕ → Place → Raster → ℕ → ℕ → ℕ
+abbrev pub chroma_prediction : Predictor → ℕ → Place → Raster → ℕ → ℕ → ℕ
 chroma_prediction (Intra m) k place p r c = chroma_pixel m.chroma p (8 * place.column) (8 * place.row) r c
 chroma_prediction (Inter motion reference version) k place p r c =
     moved_pixel version (plane_of reference k) (8 * place.column) (8 * place.row) 2 (chroma_moved version motion) r c

@@ -7,7 +7,7 @@ use Rattle.vp_base.specs.Image.{Image, macroblocks}
 use Rattle.vp_base.specs.Over.{over}
 use Rattle.vp_tables.specs.declared.modes.SubMode.{SubMode}
 use Rattle.vp_intra.specs.Sub.{sub_pixel}
-use Rattle.vp_recon.specs.Source.{Macroblock, has_sub_modes, has_y2}
+use Rattle.vp_recon.specs.Predictor.{Macroblock, has_sub_modes, has_y2}
 use Rattle.vp_recon.specs.Residue.{luma_residue, chroma_residue}
 use Rattle.vp_recon.specs.Prediction.{luma_prediction, chroma_prediction}
 

@@ -5,13 +5,13 @@ ghost use Rattle.vp_base.specs.Raster.{pixel};
 ghost use Rattle.vp_base.specs.Block.{with_block};
 ghost use Rattle.vp_base.specs.Image.{Image, plane_of, with_plane};
 ghost use Rattle.vp_recon.specs.Rebuilt.{summed, residue_at};
-ghost use Rattle.vp_recon.specs.Kept.{IsKept, AreBytes};
+ghost use Rattle.vp_recon.specs.Sums.{HasEqualSums, ArePixelBytes};
 ghost use Rattle.vp_recon.specs.Pairs.{with_added, with_both_added, with_until};
-ghost use Rattle.vp_recon.specs.Parts.{AreSmall, Gives, IsAlone, residue_in};
+ghost use Rattle.vp_recon.specs.Parts.{HasSmallFirsts, HasResidues, IsAlone, residue_in};
 
 use crate::four::{add_sixteen, four_numbers};
-use crate::kept::sums;
 use crate::pair::{add_rows, even_number, even_row};
+use crate::reconstruct::sums;
 use crate::residue::Residues;
 use crate::subblock::{load_subblock, store_subblock};
 use vp_base::Picture;
@@ -30,11 +30,11 @@ pub(crate) fn add_residues<const ACROSS: usize>(
     requires size { ACROSS ≤ 4 }
     requires pairs { ACROSS % 2 ≡ 0 }
     requires blocks { residues.now.first + ACROSS * ACROSS ≤ 25 }
-    requires small { AreSmall residues.now }
+    requires small { HasSmallFirsts residues.now }
     requires columns { x + 4 * ACROSS ≤ (plane_of picture.old plane).width }
     requires rows { y + 4 * ACROSS ≤ (plane_of picture.old plane).height }
-    requires bytes { AreBytes (plane_of picture.old plane) x y (4 * ACROSS) }
-    ensures { (residue : ℕ → List ℤ) → Gives (ACROSS * ACROSS) residues.now residue
+    requires bytes { ArePixelBytes (plane_of picture.old plane) x y (4 * ACROSS) }
+    ensures { (residue : ℕ → List ℤ) → HasResidues (ACROSS * ACROSS) residues.now residue
         → picture.new ≡ with_plane picture.old plane
         (with_block (plane_of picture.old plane) x y (4 * ACROSS) (4 * ACROSS)
         (λ r c. summed (pixel (plane_of picture.old plane) (x + c) (y + r)) (residue_at ACROSS residue r c))) }
@@ -66,11 +66,11 @@ fn add_by_fours<const ACROSS: usize>(
     requires start { k % 4 ≡ 0 }
     requires end { k + 3 < ACROSS * ACROSS }
     requires blocks { residues.now.first + ACROSS * ACROSS ≤ 25 }
-    requires small { AreSmall residues.now }
+    requires small { HasSmallFirsts residues.now }
     requires columns { x + 4 * ACROSS ≤ (plane_of picture.old plane).width }
     requires rows { y + 4 * ACROSS ≤ (plane_of picture.old plane).height }
-    ensures step { (p : Image) (residue : ℕ → List ℤ) → Gives (ACROSS * ACROSS) residues.now residue
-        → AreBytes (plane_of p plane) x y (4 * ACROSS)
+    ensures step { (p : Image) (residue : ℕ → List ℤ) → HasResidues (ACROSS * ACROSS) residues.now residue
+        → ArePixelBytes (plane_of p plane) x y (4 * ACROSS)
         → x + 4 * ACROSS ≤ (plane_of p plane).width → y + 4 * ACROSS ≤ (plane_of p plane).height
         → picture.old ≡ with_plane p plane (with_until ACROSS (plane_of p plane) x y residue k)
         → picture.new ≡ with_plane p plane (with_until ACROSS (plane_of p plane) x y residue (k + 4)) }
@@ -103,11 +103,11 @@ fn add_by_twos<const ACROSS: usize>(
     requires start { k % 2 ≡ 0 }
     requires end { k + 1 < ACROSS * ACROSS }
     requires blocks { residues.now.first + ACROSS * ACROSS ≤ 25 }
-    requires small { AreSmall residues.now }
+    requires small { HasSmallFirsts residues.now }
     requires columns { x + 4 * ACROSS ≤ (plane_of picture.old plane).width }
     requires rows { y + 4 * ACROSS ≤ (plane_of picture.old plane).height }
-    ensures step { (p : Image) (residue : ℕ → List ℤ) → Gives (ACROSS * ACROSS) residues.now residue
-        → AreBytes (plane_of p plane) x y (4 * ACROSS)
+    ensures step { (p : Image) (residue : ℕ → List ℤ) → HasResidues (ACROSS * ACROSS) residues.now residue
+        → ArePixelBytes (plane_of p plane) x y (4 * ACROSS)
         → x + 4 * ACROSS ≤ (plane_of p plane).width → y + 4 * ACROSS ≤ (plane_of p plane).height
         → picture.old ≡ with_plane p plane (with_until ACROSS (plane_of p plane) x y residue k)
         → picture.new ≡ with_plane p plane (with_until ACROSS (plane_of p plane) x y residue (k + 2)) }
@@ -131,7 +131,7 @@ fn add_four(picture: &mut Picture, plane: usize, x: usize, y: usize, residues: &
     requires rows { y + 4 ≤ (plane_of picture.old plane).height }
     requires subblocks { k + 3 < 16 }
     requires blocks { residues.now.first + k + 3 < 25 }
-    requires small { AreSmall residues.now }
+    requires small { HasSmallFirsts residues.now }
     requires first { IsAlone residues.now k }
     requires second { IsAlone residues.now (k + 1) }
     requires third { IsAlone residues.now (k + 2) }
@@ -154,7 +154,7 @@ fn add_two(picture: &mut Picture, plane: usize, x: usize, y: usize, residues: &R
     requires rows { y + 4 ≤ (plane_of picture.old plane).height }
     requires subblocks { k + 1 < 16 }
     requires blocks { residues.now.first + k + 1 < 25 }
-    requires small { AreSmall residues.now }
+    requires small { HasSmallFirsts residues.now }
     ensures { picture.new ≡ with_plane picture.old plane (with_both_added (plane_of picture.old plane) x y (residue_in residues.now k) (residue_in residues.now (k + 1))) }
 {
     if !residues.has_others(k) && !residues.has_others(k + 1) {
@@ -181,7 +181,7 @@ fn add_each(picture: &mut Picture, plane: usize, x: usize, y: usize, residues: &
     requires rows { y + 4 ≤ (plane_of picture.old plane).height }
     requires subblocks { k + 1 < 16 }
     requires blocks { residues.now.first + k + 1 < 25 }
-    requires small { AreSmall residues.now }
+    requires small { HasSmallFirsts residues.now }
     ensures { picture.new ≡ with_plane picture.old plane (with_both_added (plane_of picture.old plane) x y (residue_in residues.now k) (residue_in residues.now (k + 1))) }
 {
     let _width = picture.plane(plane).width();
@@ -194,7 +194,7 @@ fn add_kept(picture: &mut Picture, plane: usize, x: usize, y: usize, numbers: [i
     requires plane { plane < 3 }
     requires columns { x + 4 ≤ (plane_of picture.old plane).width }
     requires rows { y + 4 ≤ (plane_of picture.old plane).height }
-    ensures { (residue : List ℤ) → IsKept numbers residue
+    ensures { (residue : List ℤ) → HasEqualSums numbers residue
         → picture.new ≡ with_plane picture.old plane (with_added (plane_of picture.old plane) x y residue) }
 {
     let prediction = load_subblock(picture.plane(plane), x, y);

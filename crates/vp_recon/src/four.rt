@@ -7,7 +7,7 @@ ghost use Rattle.vp_base.specs.Image.{plane_of, with_plane};
 ghost use Rattle.vp_lanes.specs.Lane.{lane};
 ghost use Rattle.vp_recon.specs.Rebuilt.{summed};
 
-use crate::kept::add;
+use crate::reconstruct::add;
 use std::simd::prelude::*;
 use vp_base::{Picture, Plane};
 use vp_lanes::{load16, store16};
@@ -80,13 +80,7 @@ fn added_rows(plane: &Plane, x: usize, y: usize, numbers: i16x16) -> [u8x16; 4]
 }
 
 /// Adds to four rows of sixteen pixels, the first from column `x` of row `y` on, a number for each column.
-pub(crate) fn add_sixteen(
-    picture: &mut Picture,
-    plane: usize,
-    x: usize,
-    y: usize,
-    numbers: i16x16,
-)
+pub(crate) fn add_sixteen(picture: &mut Picture, plane: usize, x: usize, y: usize, numbers: i16x16)
     requires plane { plane < 3 }
     requires columns { x + 16 ≤ (plane_of picture.old plane).width }
     requires rows { y + 4 ≤ (plane_of picture.old plane).height }

@@ -6,17 +6,17 @@ ghost use Rattle.vp_base.specs.Image.{plane_of, with_plane};
 ghost use Rattle.vp_tables.specs.Modes.{is_split};
 ghost use Rattle.vp_inter.specs.declared.vector.PlaneVector.{PlaneVector};
 ghost use Rattle.vp_inter.specs.Vectors.{chroma_vector};
-ghost use Rattle.vp_recon.specs.Source.{Inter, macroblock_of};
+ghost use Rattle.vp_recon.specs.Predictor.{Inter, macroblock_of};
 ghost use Rattle.vp_recon.specs.Prediction.{four_from, moved_pixel, luma_moved, chroma_moved};
 ghost use Rattle.vp_recon.specs.Rebuilt.{luma_rebuilt, chroma_rebuilt};
-ghost use Rattle.vp_recon.specs.Kept.{AreVectors, sub_of_quarter};
+ghost use Rattle.vp_recon.specs.Sums.{AreVectors, sub_of_quarter};
 
 use crate::add::add_residues;
-use crate::moved::predict_four;
+use crate::inter_subblocks::predict_four;
 use crate::residue::{chroma_residues, luma_residues};
 use vp_base::{Picture, Place, Plane};
 use vp_inter::{PlaneVector, chroma_vector, luma_vector, predict_into8, predict_into16};
-use vp_motion::{Entry, Vector};
+use vp_motion::{MacroblockMotion, Vector};
 use vp_quant::Factors;
 use vp_tokens::Tokens;
 
@@ -24,7 +24,7 @@ use vp_tokens::Tokens;
 pub(crate) fn rebuild_inter_luma(
     picture: &mut Picture,
     place: Place,
-    motion: &Entry,
+    motion: &MacroblockMotion,
     reference: &Picture,
     version: u8,
     tokens: &Tokens,
@@ -46,7 +46,7 @@ pub(crate) fn predict_luma(
     picture: &mut Picture,
     x: usize,
     y: usize,
-    motion: &Entry,
+    motion: &MacroblockMotion,
     reference: &Picture,
     version: u8,
 )
@@ -69,7 +69,7 @@ pub(crate) fn rebuild_inter_chroma(
     picture: &mut Picture,
     plane: usize,
     place: Place,
-    motion: &Entry,
+    motion: &MacroblockMotion,
     reference: &Picture,
     version: u8,
     tokens: &Tokens,
@@ -93,7 +93,7 @@ pub(crate) fn predict_chroma(
     plane: usize,
     x: usize,
     y: usize,
-    motion: &Entry,
+    motion: &MacroblockMotion,
     reference: &Picture,
     version: u8,
 )
@@ -115,7 +115,7 @@ pub(crate) fn predict_chroma(
 
 /// How luma subblock `k` moves.
 #[tactic(auto, unfolding(crate::specs::Prediction::luma_moved))]
-fn luma_vector_of(motion: &Entry, k: usize) -> PlaneVector
+fn luma_vector_of(motion: &MacroblockMotion, k: usize) -> PlaneVector
     requires { k < 16 }
     ensures { result ≡ luma_moved motion.now k }
 {
@@ -125,7 +125,7 @@ fn luma_vector_of(motion: &Entry, k: usize) -> PlaneVector
 
 /// How subblock `k` of either colour plane moves.
 #[tactic(auto, unfolding(crate::specs::Prediction::chroma_moved))]
-fn chroma_vector_of(version: u8, motion: &Entry, k: usize) -> PlaneVector
+fn chroma_vector_of(version: u8, motion: &MacroblockMotion, k: usize) -> PlaneVector
     requires { k < 4 }
     ensures { result ≡ chroma_moved version motion.now k }
 {
@@ -147,7 +147,7 @@ fn vector_of_four(version: u8, vectors: &[Vector; 16], first: usize) -> PlaneVec
 }
 
 /// How the four subblocks of a quarter of luma move.
-fn quarter_vectors(motion: &Entry, quarter: usize) -> [PlaneVector; 4]
+fn quarter_vectors(motion: &MacroblockMotion, quarter: usize) -> [PlaneVector; 4]
     requires { quarter < 4 }
     ensures len { length result ≡ 4 }
     ensures value { AreVectors 4 result (λ k. luma_moved motion.now (sub_of_quarter quarter k)) }
@@ -162,7 +162,7 @@ fn quarter_vectors(motion: &Entry, quarter: usize) -> [PlaneVector; 4]
 }
 
 /// How the subblocks of either colour plane move.
-fn chroma_vectors(version: u8, motion: &Entry) -> [PlaneVector; 4]
+fn chroma_vectors(version: u8, motion: &MacroblockMotion) -> [PlaneVector; 4]
     ensures len { length result ≡ 4 }
     ensures value { AreVectors 4 result (chroma_moved version motion.now) }
 {
@@ -180,7 +180,7 @@ fn predict_quarters(
     x: usize,
     y: usize,
     source: &Plane,
-    motion: &Entry,
+    motion: &MacroblockMotion,
     version: u8,
 )
     requires columns { x + 16 ≤ picture.old.luma.width }

@@ -3,7 +3,7 @@
 ghost use Rattle.std.specs.Prelude.{◌≡◌, ◌+◌, ◌*◌, ◌<◌, ◌≤◌, true, false};
 ghost use Rattle.vp_base.specs.Image.{plane_of, with_plane};
 ghost use Rattle.vp_tables.specs.Modes.{is_by_subblocks};
-ghost use Rattle.vp_recon.specs.Source.{Intra, macroblock_of};
+ghost use Rattle.vp_recon.specs.Predictor.{Intra, macroblock_of};
 ghost use Rattle.vp_recon.specs.Residue.{residue};
 ghost use Rattle.vp_recon.specs.Rebuilt.{luma_rebuilt, chroma_rebuilt, with_sub};
 

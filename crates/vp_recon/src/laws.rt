@@ -6,10 +6,10 @@ ghost use Rattle.vp_base.specs.Raster.{Raster};
 ghost use Rattle.vp_base.specs.Image.{Image, IsAligned, AreWhole};
 ghost use Rattle.vp_base.specs.Rows.{AreSameAbove, AreOneSize};
 ghost use Rattle.vp_modes.specs.Entry.{Modes};
-ghost use Rattle.vp_motion.specs.Vector.{Entry};
+ghost use Rattle.vp_motion.specs.Vector.{MacroblockMotion};
 ghost use Rattle.vp_tokens.specs.declared.contexts.Tokens.{Tokens};
 ghost use Rattle.vp_quant.specs.declared.factors.Factors.{Factors};
-ghost use Rattle.vp_recon.specs.Source.{Macroblock, Inter, macroblock_of};
+ghost use Rattle.vp_recon.specs.Predictor.{Macroblock, Inter, macroblock_of};
 ghost use Rattle.vp_recon.specs.Rebuilt.{rebuilt, all_rebuilt};
 ghost use Rattle.vp_recon.specs.Equation.{IsUnfiltered};
 ghost use Rattle.vp_recon.specs.Laws.{HasOneSolution, ReadsOneRowAbove, ReadsNoRowAbove, IsBySubblocks};
@@ -45,7 +45,7 @@ pub fn rebuilding_keeps_rows_above()
 /// picture.
 pub fn rebuilding_reads_one_row_above()
     ensures any { (m : Macroblock) (place : Place) → ReadsOneRowAbove m place }
-    ensures inter { (motion : Entry) (reference : Image) (version : ℕ) (tokens : Tokens) (factors : Factors) (place : Place)
+    ensures inter { (motion : MacroblockMotion) (reference : Image) (version : ℕ) (tokens : Tokens) (factors : Factors) (place : Place)
         → ReadsNoRowAbove (macroblock_of (Inter motion reference version) tokens factors) place }
 {}
 

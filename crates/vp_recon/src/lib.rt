@@ -4,16 +4,16 @@
 mod add;
 mod four;
 mod inter;
+mod inter_subblocks;
 mod intra;
-mod kept;
 mod laws;
 mod macroblock;
-mod moved;
-mod moved_whole;
 mod pair;
+mod predict_inter;
 mod predicted;
+mod predictor;
+mod reconstruct;
 mod residue;
-mod source;
 mod subblock;
 
 pub use intra::rebuild_subblock;
@@ -23,6 +23,6 @@ pub use laws::{
     unfiltered_picture_solves_its_equation,
 };
 pub use macroblock::rebuild_macroblock;
-pub use moved_whole::move_macroblock;
+pub use predict_inter::predict_inter_macroblock;
 pub use predicted::predict_macroblock;
-pub use source::Source;
+pub use predictor::Predictor;

@@ -6,7 +6,7 @@ ghost use Rattle.vp_base.specs.Block.{with_block};
 ghost use Rattle.vp_base.specs.Image.{plane_of, with_plane};
 ghost use Rattle.vp_lanes.specs.Lane.{lane};
 ghost use Rattle.vp_transform.specs.Transform.{idct};
-ghost use Rattle.vp_recon.specs.Pairs.{with_both_added, number_in, AreRows, AreLow};
+ghost use Rattle.vp_recon.specs.Pairs.{with_both_added, row_lane, ArePairedRows, AreLow};
 ghost use Rattle.vp_recon.specs.Rebuilt.{summed};
 
 use std::simd::prelude::*;
@@ -68,7 +68,7 @@ fn added_rows(
     requires second { AreLow b }
     requires third { AreLow c }
     requires fourth { AreLow d }
-    ensures value { (r : ℕ) → r < 4 → (j : ℕ) → j < 8 → slice_index (slice_index_or result r []) j ≡ summed (pixel plane.now (x + j) (y + r)) (number_in a b c d r j) }
+    ensures value { (r : ℕ) → r < 4 → (j : ℕ) → j < 8 → slice_index (slice_index_or result r []) j ≡ summed (pixel plane.now (x + j) (y + r)) (row_lane a b c d r j) }
     ensures bytes { (r : ℕ) → r < 4 → (j : ℕ) → j < 8 → pixel plane.now (x + j) (y + r) ≤ 255 }
 {
     let _height = plane.height();
@@ -124,7 +124,7 @@ pub(crate) fn add_rows(
     requires second { AreLow b }
     requires third { AreLow c }
     requires fourth { AreLow d }
-    ensures { (left right : List ℤ) → AreRows a b c d left right
+    ensures { (left right : List ℤ) → ArePairedRows a b c d left right
         → picture.new ≡ with_plane picture.old plane (with_both_added (plane_of picture.old plane) x y left right) }
 {
     let rows = added_rows(picture.plane(plane), x, y, a, b, c, d);

@@ -8,7 +8,7 @@ ghost use Rattle.vp_tables.specs.Modes.{is_by_subblocks};
 ghost use Rattle.vp_tokens.specs.declared.contexts.Tokens.{Tokens};
 ghost use Rattle.vp_tokens.specs.Blocks.{no_blocks};
 ghost use Rattle.vp_quant.specs.declared.factors.Factors.{Factors};
-ghost use Rattle.vp_recon.specs.Source.{Intra, macroblock_of};
+ghost use Rattle.vp_recon.specs.Predictor.{Intra, macroblock_of};
 ghost use Rattle.vp_recon.specs.Rebuilt.{rebuilt};
 
 use vp_base::{Picture, Place};

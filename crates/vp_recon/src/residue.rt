@@ -6,10 +6,10 @@ ghost use Rattle.vp_transform.specs.Transform.{idct, iwht};
 ghost use Rattle.vp_quant.specs.Quant.{dequantised};
 ghost use Rattle.vp_tokens.specs.Blocks.{block_of};
 ghost use Rattle.vp_recon.specs.Residue.{residue, luma_firsts, luma_residue, chroma_residue};
-ghost use Rattle.vp_recon.specs.Kept.{AreSums, IsKept, IsNothing};
-ghost use Rattle.vp_recon.specs.Parts.{AreSmall, Gives, IsAlone, coefficients_in, residue_in};
+ghost use Rattle.vp_recon.specs.Sums.{AreSums, HasEqualSums, IsNothing};
+ghost use Rattle.vp_recon.specs.Parts.{HasSmallFirsts, HasResidues, IsAlone, coefficients_in, residue_in};
 
-use crate::kept::sums;
+use crate::reconstruct::sums;
 use std::simd::prelude::*;
 use vp_quant::{Factors, dequant, dequant_short};
 use vp_tokens::{Block, Tokens};
@@ -34,7 +34,7 @@ fn first_of(levels: &[i16; 16], dc: u16) -> i64
 /// What is kept of the residue of a subblock whose first coefficient is `first`; the others are its levels times `ac`.
 fn residue_with_first(block: &Block, first: i64, ac: u16) -> [i16; 16]
     requires { unsigned_abs first ≤ 2 ^ 40 }
-    ensures { IsKept result (idct (slice_set (dequantised block.now.levels 0 ac) 0 first)) }
+    ensures { HasEqualSums result (idct (slice_set (dequantised block.now.levels 0 ac) 0 first)) }
 {
     if block.tokens <= 1 {
         return [cut(idct_of_first(first)); 16];
@@ -84,7 +84,7 @@ fn with_first(block: [i16; 16], first: i16) -> [i16; 16]
 /// The same by way of i64, however large the coefficients are.
 fn large_residue(block: &Block, first: i64, ac: u16) -> [i16; 16]
     requires { unsigned_abs first ≤ 2 ^ 40 }
-    ensures { IsKept result (idct (slice_set (dequantised block.now.levels 0 ac) 0 first)) }
+    ensures { HasEqualSums result (idct (slice_set (dequantised block.now.levels 0 ac) 0 first)) }
 {
     let mut coefficients = dequant(&block.levels, 0, ac);
     coefficients[0] = first;
@@ -154,7 +154,7 @@ impl<'a> Residues<'a> {
     pub(crate) fn first_coefficient(&self, k: usize) -> i64
         requires subblock { k < 16 }
         requires block { self.now.first + k < 25 }
-        requires small { AreSmall self.now }
+        requires small { HasSmallFirsts self.now }
         ensures value { slice_set (dequantised (block_of self.now.tokens.now (self.now.first + k)).levels 0 self.now.ac) 0 result ≡ coefficients_in self.now k }
         ensures within { unsigned_abs result ≤ 2 ^ 40 }
     {
@@ -193,7 +193,7 @@ impl<'a> Residues<'a> {
     pub(crate) fn small_coefficients(&self, k: usize) -> Option<[i16; 16]>
         requires subblock { k < 16 }
         requires block { self.now.first + k < 25 }
-        requires small { AreSmall self.now }
+        requires small { HasSmallFirsts self.now }
         ensures value { (zs : List ℤ) → result ≡ Some zs → zs ≡ coefficients_in self.now k }
         ensures small { (zs : List ℤ) → result ≡ Some zs → EachWithin 2200 zs }
     {
@@ -211,8 +211,8 @@ impl<'a> Residues<'a> {
     pub(crate) fn kept(&self, k: usize) -> [i16; 16]
         requires subblock { k < 16 }
         requires block { self.now.first + k < 25 }
-        requires small { AreSmall self.now }
-        ensures { IsKept result (residue_in self.now k) }
+        requires small { HasSmallFirsts self.now }
+        ensures { HasEqualSums result (residue_in self.now k) }
     {
         let block = block_of(self.tokens, self.first + k);
         residue_with_first(block, self.first_coefficient(k), self.ac)
@@ -236,8 +236,8 @@ fn luma_firsts(tokens: &Tokens, factors: &Factors) -> [i64; 16]
 #[tactic(auto, unfolding(crate::specs::Residue::luma_residue, crate::specs::Residue::luma_coefficients))]
 pub(crate) fn luma_residues<'a>(y2: bool, tokens: &'a Tokens, factors: &Factors) -> Residues<'a>
     ensures first { result.first ≡ 1 }
-    ensures small { AreSmall result }
-    ensures value { Gives 16 result (luma_residue y2 tokens.now factors.now) }
+    ensures small { HasSmallFirsts result }
+    ensures value { HasResidues 16 result (luma_residue y2 tokens.now factors.now) }
 {
     if y2 {
         return residues_with_y2(tokens, factors);
@@ -254,8 +254,8 @@ pub(crate) fn luma_residues<'a>(y2: bool, tokens: &'a Tokens, factors: &Factors)
 /// The same with a Y2 block: where that has no tokens, the first coefficients are 0.
 fn residues_with_y2<'a>(tokens: &'a Tokens, factors: &Factors) -> Residues<'a>
     ensures first { result.first ≡ 1 }
-    ensures small { AreSmall result }
-    ensures value { Gives 16 result (luma_residue true tokens.now factors.now) }
+    ensures small { HasSmallFirsts result }
+    ensures value { HasResidues 16 result (luma_residue true tokens.now factors.now) }
 {
     let block = block_of(tokens, 0);
     if block.tokens == 0 {
@@ -286,8 +286,8 @@ pub(crate) fn chroma_residues<'a>(
 ) -> Residues<'a>
     requires { plane < 3 }
     ensures first { result.first ≡ 13 + 4 * plane }
-    ensures small { AreSmall result }
-    ensures value { Gives 4 result (chroma_residue tokens.now factors.now plane) }
+    ensures small { HasSmallFirsts result }
+    ensures value { HasResidues 4 result (chroma_residue tokens.now factors.now plane) }
 {
     Residues {
         tokens,

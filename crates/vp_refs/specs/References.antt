@@ -24,11 +24,11 @@ abbrev pub all_of : Image → References
 all_of p = record { last = p; golden = p; alt = p; newest = p }
 
 -- the picture of a reference; an intra macroblock has none, and is not asked for
-abbrev pub picture_of : References → Reference → Image
-picture_of refs reference.Intra = refs.last
-picture_of refs reference.Last = refs.last
-picture_of refs reference.Golden = refs.golden
-picture_of refs reference.Alt = refs.alt
+abbrev pub reference_picture : References → Reference → Image
+reference_picture refs reference.Intra = refs.last
+reference_picture refs reference.Last = refs.last
+reference_picture refs reference.Golden = refs.golden
+reference_picture refs reference.Alt = refs.alt
 
 -- what a copy leaves in golden or altref, whose picture is own and of which the other one has the picture other
 abbrev pub copied_by : ReferenceCopy → Image → Image → Image → Image

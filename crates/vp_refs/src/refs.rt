@@ -1,7 +1,7 @@
 //! The three pictures that inter frames are predicted from.
 
 ghost use Rattle.std.specs.Prelude.{◌≡◌, IfOk, IfSome, OnOk, OnErr, if◌then◌else◌};
-ghost use Rattle.vp_refs.specs.References.{IsOneOf, all_of, copied_by, picture_of, updated};
+ghost use Rattle.vp_refs.specs.References.{IsOneOf, all_of, copied_by, reference_picture, updated};
 
 use std::alloc::AllocError;
 use std::marker::Model;
@@ -42,7 +42,7 @@ impl Refs {
 
     /// The picture that a macroblock of this reference is predicted from; an intra macroblock has none, and gets the last.
     pub fn get(&self, reference: Reference) -> &Picture
-        ensures { result.now ≡ picture_of self.now reference }
+        ensures { result.now ≡ reference_picture self.now reference }
     {
         match reference {
             Reference::Golden => &self.golden,

@@ -3,7 +3,7 @@ use Rattle.std.proofs.Common.{◌≡◌, ℕ, ℤ, pos, negsuc, suc, ◌+◌, �
 use Rattle.std.specs.Prelude.{unsigned_abs, ◌<ℤ◌}
 use Rattle.std.proofs.lemmas.Int.{ints}
 use Rattle.vp_search.specs.declared.vector.WholeVector.{WholeVector}
-use Rattle.vp_search.specs.Vectors.{size, IsNear}
+use Rattle.vp_search.specs.Vectors.{vector_length, IsNear}
 use Rattle.vp_search.specs.Least.{NoLarger}
 use Rattle.vp_search.specs.Window.{vector_at}
 
@@ -43,11 +43,11 @@ vector_is u v p q = λ k. record { row = p k; column = q k }
 pub less_cost : (a : ℕ) (v : WholeVector) (b : ℕ) (w : WholeVector) → a < b → NoLarger a v b w
 less_cost a v b w h = record { by_cost = omega arith; by_size = λ e. absurd (omega arith); by_row = λ e s. absurd (omega arith); by_column = λ e s r. absurd (omega arith) }
 
-pub less_size : (a : ℕ) (v : WholeVector) (b : ℕ) (w : WholeVector) → a ≡ b → size v < size w → NoLarger a v b w
+pub less_size : (a : ℕ) (v : WholeVector) (b : ℕ) (w : WholeVector) → a ≡ b → vector_length v < vector_length w → NoLarger a v b w
 less_size a v b w h k = record { by_cost = omega arith; by_size = λ e. omega arith; by_row = λ e s. absurd (omega arith); by_column = λ e s r. absurd (omega arith) }
 
-pub less_row : (a : ℕ) (v : WholeVector) (b : ℕ) (w : WholeVector) → a ≡ b → size v ≡ size w → v.row <ℤ w.row → NoLarger a v b w
+pub less_row : (a : ℕ) (v : WholeVector) (b : ℕ) (w : WholeVector) → a ≡ b → vector_length v ≡ vector_length w → v.row <ℤ w.row → NoLarger a v b w
 less_row a v b w h k l = record { by_cost = omega arith; by_size = λ e. omega arith; by_row = λ e s. omega (arith, ints); by_column = λ e s r. absurd (omega (arith, ints)) }
 
-pub less_column : (a : ℕ) (v : WholeVector) (b : ℕ) (w : WholeVector) → a ≡ b → size v ≡ size w → v.row ≡ w.row → v.column ≤ℤ w.column → NoLarger a v b w
+pub less_column : (a : ℕ) (v : WholeVector) (b : ℕ) (w : WholeVector) → a ≡ b → vector_length v ≡ vector_length w → v.row ≡ w.row → v.column ≤ℤ w.column → NoLarger a v b w
 less_column a v b w h k l m = record { by_cost = omega arith; by_size = λ e. omega arith; by_row = λ e s. omega (arith, ints); by_column = λ e s r. m }

@@ -7,7 +7,7 @@ use Rattle.vp_search.specs.declared.vector.WholeVector.{WholeVector}
 use Rattle.vp_search.specs.declared.vector.QuarterVector.{QuarterVector}
 use Rattle.vp_search.specs.FirstLeast.{IsFirstLeast}
 use Rattle.vp_search.specs.Vectors.{quarters}
-use Rattle.vp_search.specs.Refined.{places, neighbour, IsBestOf, IsRefined}
+use Rattle.vp_search.specs.Refined.{candidates_around, neighbour, IsBestOf, IsRefined}
 
 -- the first of the least by another function with the same numbers
 pub first_same : (n : ℕ) (f g : ℕ → ℕ) (best : ℕ) → ((k : ℕ) → k < n → f k ≡ g k) → IsFirstLeast n f best → IsFirstLeast n g best
@@ -34,8 +34,8 @@ below_nine P a b c d e f g h i (suc (suc (suc (suc (suc (suc (suc (suc zero)))))
 below_nine P a b c d e f g h i (suc (suc (suc (suc (suc (suc (suc (suc (suc k))))))))) l = absurd (omega arith)
 
 -- the default of a read inside does not matter
-pub at_place : (centre : QuarterVector) (d : ℤ) (z : QuarterVector) (k : ℕ) → k < 9 → get_or (places centre d) k z ≡ neighbour centre d k
-at_place centre d z k h = below_nine (λ k. get_or (places centre d) k z ≡ neighbour centre d k) refl refl refl refl refl refl refl refl refl k h
+pub at_place : (centre : QuarterVector) (d : ℤ) (z : QuarterVector) (k : ℕ) → k < 9 → get_or (candidates_around centre d) k z ≡ neighbour centre d k
+at_place centre d z k h = below_nine (λ k. get_or (candidates_around centre d) k z ≡ neighbour centre d k) refl refl refl refl refl refl refl refl refl k h
 
 abbrev IsBeside : ℤ → ℤ → ℤ → Type 0
 IsBeside from d to = unsigned_abs (to -ℤ from) ≤ unsigned_abs d
@@ -61,7 +61,7 @@ column_beside centre d k h =
 
 -- the best of nine by the list of their costs
 pub best_is : (cost : QuarterVector → ℕ) (centre : QuarterVector) (d : ℤ) (vectors : List QuarterVector) (z : QuarterVector) (costs : List ℕ) (best : ℕ)
-    → vectors ≡ places centre d → ((k : ℕ) → k < 9 → get_or costs k 0 ≡ cost (neighbour centre d k)) → IsFirstLeast 9 (λ k. get_or costs k 0) best
+    → vectors ≡ candidates_around centre d → ((k : ℕ) → k < 9 → get_or costs k 0 ≡ cost (neighbour centre d k)) → IsFirstLeast 9 (λ k. get_or costs k 0) best
     → IsBestOf cost centre d (get_or vectors best z)
 best_is cost centre d vectors z costs best e all first = record {
   number = best;
@@ -69,20 +69,20 @@ best_is cost centre d vectors z costs best e all first = record {
   is = ap (λ (l : List QuarterVector). get_or l best z) e ∙ at_place centre d z best first.within;
 }
 
-listed : (centre : QuarterVector) (d : ℤ) (vectors : List QuarterVector) (z : QuarterVector) (k : ℕ) → vectors ≡ places centre d → k < 9 → get_or vectors k z ≡ neighbour centre d k
+listed : (centre : QuarterVector) (d : ℤ) (vectors : List QuarterVector) (z : QuarterVector) (k : ℕ) → vectors ≡ candidates_around centre d → k < 9 → get_or vectors k z ≡ neighbour centre d k
 listed centre d vectors z k e h = ap (λ (l : List QuarterVector). get_or l k z) e ∙ at_place centre d z k h
 
-pub listed_row : (centre : QuarterVector) (d : ℤ) (vectors : List QuarterVector) (z : QuarterVector) (k : ℕ) → vectors ≡ places centre d → k < 9
+pub listed_row : (centre : QuarterVector) (d : ℤ) (vectors : List QuarterVector) (z : QuarterVector) (k : ℕ) → vectors ≡ candidates_around centre d → k < 9
     → unsigned_abs ((get_or vectors k z).row -ℤ centre.row) ≤ unsigned_abs d
 listed_row centre d vectors z k e h =
     subst (λ (v : QuarterVector). unsigned_abs (v.row -ℤ centre.row) ≤ unsigned_abs d) (sym (listed centre d vectors z k e h)) (row_beside centre d k h)
 
-pub listed_column : (centre : QuarterVector) (d : ℤ) (vectors : List QuarterVector) (z : QuarterVector) (k : ℕ) → vectors ≡ places centre d → k < 9
+pub listed_column : (centre : QuarterVector) (d : ℤ) (vectors : List QuarterVector) (z : QuarterVector) (k : ℕ) → vectors ≡ candidates_around centre d → k < 9
     → unsigned_abs ((get_or vectors k z).column -ℤ centre.column) ≤ unsigned_abs d
 listed_column centre d vectors z k e h =
     subst (λ (v : QuarterVector). unsigned_abs (v.column -ℤ centre.column) ≤ unsigned_abs d) (sym (listed centre d vectors z k e h)) (column_beside centre d k h)
 
-pub listed_cost : (cost : QuarterVector → ℕ) (centre : QuarterVector) (d : ℤ) (vectors : List QuarterVector) (z : QuarterVector) (k : ℕ) → vectors ≡ places centre d → k < 9
+pub listed_cost : (cost : QuarterVector → ℕ) (centre : QuarterVector) (d : ℤ) (vectors : List QuarterVector) (z : QuarterVector) (k : ℕ) → vectors ≡ candidates_around centre d → k < 9
     → cost (get_or vectors k z) ≡ cost (neighbour centre d k)
 listed_cost cost centre d vectors z k e h = ap cost (listed centre d vectors z k e h)
 

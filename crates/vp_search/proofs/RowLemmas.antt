@@ -4,7 +4,7 @@ use Rattle.std.proofs.lemmas.List.{places}
 use Rattle.std.specs.Int.{abs_diff}
 use lib.Lanes.{chunk}
 use Rattle.vp_search.specs.Sums.{sum_below}
-use Rattle.vp_search.specs.Differences.{sum_of_differences, block_in}
+use Rattle.vp_search.specs.Differences.{sum_of_differences, strided_block}
 use Rattle.vp_search.proofs.SumLemmas.{sum_below-same, sum_below-plus, sum_below-four, sum_of_differences-add}
 
 chunk-at : (xs : List ℕ) (x j : ℕ) → j < 16 → get_or (chunk x 16 xs) j 0 ≡ get_or xs (x + j) 0
@@ -29,21 +29,21 @@ four_sums row e all =
     ∙ sym (sum_below-four (λ r. sum_below 16 (row r)))
 
 -- a block of sixteen rows by fours
-pub by_fours : (a b : List ℕ) (at s : ℕ) → sum_of_differences 16 16 (block_in a 0 16) (block_in b at s)
-    ≡ sum_of_differences 4 16 (block_in a 0 16) (block_in b at s) + sum_of_differences 4 16 (block_in a 64 16) (block_in b (at + 4 * s) s)
-    + sum_of_differences 4 16 (block_in a 128 16) (block_in b (at + 8 * s) s) + sum_of_differences 4 16 (block_in a 192 16) (block_in b (at + 12 * s) s)
+pub by_fours : (a b : List ℕ) (at s : ℕ) → sum_of_differences 16 16 (strided_block a 0 16) (strided_block b at s)
+    ≡ sum_of_differences 4 16 (strided_block a 0 16) (strided_block b at s) + sum_of_differences 4 16 (strided_block a 64 16) (strided_block b (at + 4 * s) s)
+    + sum_of_differences 4 16 (strided_block a 128 16) (strided_block b (at + 8 * s) s) + sum_of_differences 4 16 (strided_block a 192 16) (strided_block b (at + 12 * s) s)
 by_fours a b at s =
-    let e1 : sum_of_differences 16 16 (block_in a 0 16) (block_in b at s)
-    ≡ sum_of_differences 4 16 (block_in a 0 16) (block_in b at s) + sum_of_differences 12 16 (block_in a 64 16) (block_in b (at + 4 * s) s) =
+    let e1 : sum_of_differences 16 16 (strided_block a 0 16) (strided_block b at s)
+    ≡ sum_of_differences 4 16 (strided_block a 0 16) (strided_block b at s) + sum_of_differences 12 16 (strided_block a 64 16) (strided_block b (at + 4 * s) s) =
     sum_of_differences-add a b 0 16 at s 4 12 in
     let y2 : at + 4 * s + 4 * s ≡ at + 8 * s = omega arith in
-    let e2 : sum_of_differences 12 16 (block_in a 64 16) (block_in b (at + 4 * s) s)
-    ≡ sum_of_differences 4 16 (block_in a 64 16) (block_in b (at + 4 * s) s) + sum_of_differences 8 16 (block_in a 128 16) (block_in b (at + 8 * s) s) =
+    let e2 : sum_of_differences 12 16 (strided_block a 64 16) (strided_block b (at + 4 * s) s)
+    ≡ sum_of_differences 4 16 (strided_block a 64 16) (strided_block b (at + 4 * s) s) + sum_of_differences 8 16 (strided_block a 128 16) (strided_block b (at + 8 * s) s) =
     sum_of_differences-add a b 64 16 (at + 4 * s) s 4 8
-    ∙ ap (λ y. sum_of_differences 4 16 (block_in a 64 16) (block_in b (at + 4 * s) s) + sum_of_differences 8 16 (block_in a 128 16) (block_in b y s)) y2 in
+    ∙ ap (λ y. sum_of_differences 4 16 (strided_block a 64 16) (strided_block b (at + 4 * s) s) + sum_of_differences 8 16 (strided_block a 128 16) (strided_block b y s)) y2 in
     let y3 : at + 8 * s + 4 * s ≡ at + 12 * s = omega arith in
-    let e3 : sum_of_differences 8 16 (block_in a 128 16) (block_in b (at + 8 * s) s)
-    ≡ sum_of_differences 4 16 (block_in a 128 16) (block_in b (at + 8 * s) s) + sum_of_differences 4 16 (block_in a 192 16) (block_in b (at + 12 * s) s) =
+    let e3 : sum_of_differences 8 16 (strided_block a 128 16) (strided_block b (at + 8 * s) s)
+    ≡ sum_of_differences 4 16 (strided_block a 128 16) (strided_block b (at + 8 * s) s) + sum_of_differences 4 16 (strided_block a 192 16) (strided_block b (at + 12 * s) s) =
     sum_of_differences-add a b 128 16 (at + 8 * s) s 4 4
-    ∙ ap (λ y. sum_of_differences 4 16 (block_in a 128 16) (block_in b (at + 8 * s) s) + sum_of_differences 4 16 (block_in a 192 16) (block_in b y s)) y3 in
+    ∙ ap (λ y. sum_of_differences 4 16 (strided_block a 128 16) (strided_block b (at + 8 * s) s) + sum_of_differences 4 16 (strided_block a 192 16) (strided_block b y s)) y3 in
     omega arith

@@ -3,7 +3,7 @@ use Rattle.std.proofs.Common.{◌≡◌, ℕ, zero, suc, ◌+◌, ◌*◌, ◌<�
 use Rattle.std.specs.Int.{abs_diff}
 use lib.Lanes.{sum_l}
 use Rattle.vp_search.specs.Sums.{sum_below}
-use Rattle.vp_search.specs.Differences.{sum_of_differences, block_in}
+use Rattle.vp_search.specs.Differences.{sum_of_differences, strided_block}
 
 pub sum_below-same : (n : ℕ) (f g : ℕ → ℕ) → ((k : ℕ) → k < n → f k ≡ g k) → sum_below n f ≡ sum_below n g
 unfolding sum_below
@@ -81,16 +81,16 @@ sum_of_differences-same rows columns f f' g g' first second =
     (λ r h. sum_below-same columns (λ c. abs_diff (f r c) (g r c)) (λ c. abs_diff (f' r c) (g' r c))
     (λ c k. ap₂ abs_diff (first r c h k) (second r c h k)))
 
-block_in-lower : (xs : List ℕ) (at stride m r c : ℕ) → block_in xs at stride (m + r) c ≡ block_in xs (at + m * stride) stride r c
+block_in-lower : (xs : List ℕ) (at stride m r c : ℕ) → strided_block xs at stride (m + r) c ≡ strided_block xs (at + m * stride) stride r c
 block_in-lower xs at stride m r c =
     let e : at + (m + r) * stride + c ≡ at + m * stride + r * stride + c = omega arith in ap (λ k. get_or xs k 0) e
 
 -- the rows of a block, and those below them
 pub sum_of_differences-add : (a b : List ℕ) (x s y t m n : ℕ)
-    → sum_of_differences (m + n) 16 (block_in a x s) (block_in b y t)
-    ≡ sum_of_differences m 16 (block_in a x s) (block_in b y t) + sum_of_differences n 16 (block_in a (x + m * s) s) (block_in b (y + m * t) t)
+    → sum_of_differences (m + n) 16 (strided_block a x s) (strided_block b y t)
+    ≡ sum_of_differences m 16 (strided_block a x s) (strided_block b y t) + sum_of_differences n 16 (strided_block a (x + m * s) s) (strided_block b (y + m * t) t)
 sum_of_differences-add a b x s y t m n =
-    sum_below-add m n (λ r. sum_below 16 (λ c. abs_diff (block_in a x s r c) (block_in b y t r c)))
-    ∙ ap (λ k. sum_of_differences m 16 (block_in a x s) (block_in b y t) + k)
-    (sum_of_differences-same n 16 (λ r c. block_in a x s (m + r) c) (block_in a (x + m * s) s) (λ r c. block_in b y t (m + r) c) (block_in b (y + m * t) t)
+    sum_below-add m n (λ r. sum_below 16 (λ c. abs_diff (strided_block a x s r c) (strided_block b y t r c)))
+    ∙ ap (λ k. sum_of_differences m 16 (strided_block a x s) (strided_block b y t) + k)
+    (sum_of_differences-same n 16 (λ r c. strided_block a x s (m + r) c) (strided_block a (x + m * s) s) (λ r c. strided_block b y t (m + r) c) (strided_block b (y + m * t) t)
     (λ r c h k. block_in-lower a x s m r c) (λ r c h k. block_in-lower b y t m r c))

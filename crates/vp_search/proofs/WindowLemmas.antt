@@ -6,7 +6,7 @@ use lib.Signed.{shr_z}
 use Rattle.std.proofs.lemmas.Int.{ints}
 use Rattle.vp_base.specs.declared.place.Place.{Place}
 use Rattle.vp_base.specs.Raster.{Raster, row_of}
-use Rattle.vp_inter.specs.Vectors.{whole, fraction, start, luma_vector}
+use Rattle.vp_inter.specs.Vectors.{whole_pixels, fraction, first_tap, luma_vector}
 use Rattle.std.proofs.lemmas.Bool.{cases_lt}
 use Rattle.vp_inter.specs.Inter.{nearest, reference_pixel}
 use Rattle.vp_inter.proofs.ReferenceLemmas.{line_beyond}
@@ -16,20 +16,20 @@ use Rattle.vp_search.specs.declared.vector.QuarterVector.{QuarterVector}
 use Rattle.vp_search.specs.declared.vector.Found.{Found}
 use Rattle.vp_search.specs.declared.window.TheConstants.{WINDOW_WIDTH}
 use Rattle.vp_search.specs.Vectors.{quarters, IsNear}
-use Rattle.vp_search.specs.Differences.{sum_of_differences, block_in, block16}
+use Rattle.vp_search.specs.Differences.{sum_of_differences, strided_block, block16}
 use Rattle.vp_search.specs.Blocks.{moved_block, predicted_block, whole_cost, quarter_cost}
 use Rattle.vp_search.specs.Least.{NoLarger, IsLeast}
-use Rattle.vp_search.specs.Window.{searched_pixel, vector_at, window_place, window_cost, IsKept}
+use Rattle.vp_search.specs.Window.{searched_pixel, vector_at, window_place, window_cost, IsFoundInWindow}
 use Rattle.vp_search.proofs.SumLemmas.{sum_of_differences-same}
 use Rattle.vp_search.proofs.OrderLemmas.{index, near_at}
 
 -- the cost of the vector at a place of the window
-pub cost_at : (block window : List ℕ) (range i j : ℕ) → window_cost block window range (vector_at range i j) ≡ sum_of_differences 16 16 (block_in block 0 16) (block_in window (i * WINDOW_WIDTH + j) WINDOW_WIDTH)
+pub cost_at : (block window : List ℕ) (range i j : ℕ) → window_cost block window range (vector_at range i j) ≡ sum_of_differences 16 16 (strided_block block 0 16) (strided_block window (i * WINDOW_WIDTH + j) WINDOW_WIDTH)
 unfolding window_cost
 cost_at block window range i j =
     let r : unsigned_abs (pos i -ℤ pos range +ℤ pos range) ≡ i = omega (arith, ints) in
     let c : unsigned_abs (pos j -ℤ pos range +ℤ pos range) ≡ j = omega (arith, ints) in
-    ap₂ (λ x y. sum_of_differences 16 16 (block_in block 0 16) (block_in window (x * WINDOW_WIDTH + y) WINDOW_WIDTH)) r c
+    ap₂ (λ x y. sum_of_differences 16 16 (strided_block block 0 16) (strided_block window (x * WINDOW_WIDTH + y) WINDOW_WIDTH)) r c
 
 -- the square of the window is filled
 abbrev pub IsFilled : List ℕ → Raster → Place → ℕ → Type 0
@@ -37,7 +37,7 @@ IsFilled window p place range = (i j : ℕ) → i < 2 * range + 16 → j < 2 * r
 
 -- the pixels of a vector's block in the window are those that it moves
 pub window_pixel : (window : List ℕ) (p : Raster) (place : Place) (range : ℕ) (v : WholeVector) → IsFilled window p place range → IsNear range v
-    → (r c : ℕ) → r < 16 → c < 16 → block_in window (window_place range v) WINDOW_WIDTH r c ≡ moved_block p place v r c
+    → (r c : ℕ) → r < 16 → c < 16 → strided_block window (window_place range v) WINDOW_WIDTH r c ≡ moved_block p place v r c
 window_pixel window p place range v filled near r c rin cin =
     let x = index range v.row near.0 in
     let y = index range v.column near.1 in
@@ -61,7 +61,7 @@ pub window_cost-whole : (block window : List ℕ) (p : Raster) (place : Place) (
     → window_cost block window range v ≡ whole_cost (block16 block) p place v
 unfolding window_cost whole_cost
 window_cost-whole block window p place range v filled near =
-    sum_of_differences-same 16 16 (block_in block 0 16) (block16 block) (block_in window (window_place range v) WINDOW_WIDTH) (moved_block p place v)
+    sum_of_differences-same 16 16 (strided_block block 0 16) (block16 block) (strided_block window (window_place range v) WINDOW_WIDTH) (moved_block p place v)
     (λ r c h k. let e : 0 + r * 16 + c ≡ r * 16 + c = omega arith in ap (λ (i : ℕ). get_or block i 0) e)
     (window_pixel window p place range v filled near)
 
@@ -74,8 +74,8 @@ least_same range f g best same p = record {
 
 -- ---- a vector in whole pixels as a vector in quarters
 
-whole_eight : (z : ℤ) → whole (pos 2 *ℤ (pos 4 *ℤ z)) ≡ z
-unfolding whole
+whole_eight : (z : ℤ) → whole_pixels (pos 2 *ℤ (pos 4 *ℤ z)) ≡ z
+unfolding whole_pixels
 whole_eight (pos n) =
     let e : 2 * (4 * n) / 8 ≡ n = omega arith in ap (λ (k : ℕ). pos k) e
 whole_eight (negsuc n) =
@@ -91,8 +91,8 @@ fraction_eight (negsuc n) =
     let f : 7 - (8 * n + 7) % 8 ≡ 0 = omega arith in
     ap (λ (y : ℤ). unsigned_abs (int_rem_euclid y (pos 8))) e ∙ f
 
-start_eight : (at k : ℕ) (z : ℤ) → start at (pos 2 *ℤ (pos 4 *ℤ z)) +ℤ pos 2 +ℤ pos k ≡ pos (at + k) +ℤ z
-unfolding start
+start_eight : (at k : ℕ) (z : ℤ) → first_tap at (pos 2 *ℤ (pos 4 *ℤ z)) +ℤ pos 2 +ℤ pos k ≡ pos (at + k) +ℤ z
+unfolding first_tap
 start_eight at k z = let e = whole_eight z in omega (arith, ints)
 
 -- what it predicts is what it moves, where that are bytes
@@ -100,8 +100,8 @@ pub predicted_whole : (p : Raster) (place : Place) (v : WholeVector) (r c : ℕ)
     → moved_block p place v r c ≡ predicted_block p place (quarters v) r c
 unfolding luma_vector
 predicted_whole p place v r c byte =
-    let column : start (16 * place.column) (pos 2 *ℤ (pos 4 *ℤ v.column)) +ℤ pos 2 +ℤ pos c ≡ pos (16 * place.column + c) +ℤ v.column = start_eight (16 * place.column) c v.column in
-    let row : start (16 * place.row) (pos 2 *ℤ (pos 4 *ℤ v.row)) +ℤ pos 2 +ℤ pos r ≡ pos (16 * place.row + r) +ℤ v.row = start_eight (16 * place.row) r v.row in
+    let column : first_tap (16 * place.column) (pos 2 *ℤ (pos 4 *ℤ v.column)) +ℤ pos 2 +ℤ pos c ≡ pos (16 * place.column + c) +ℤ v.column = start_eight (16 * place.column) c v.column in
+    let row : first_tap (16 * place.row) (pos 2 *ℤ (pos 4 *ℤ v.row)) +ℤ pos 2 +ℤ pos r ≡ pos (16 * place.row + r) +ℤ v.row = start_eight (16 * place.row) r v.row in
     let same = ap₂ (reference_pixel p) column row in
     sym same
     ∙ inter_whole 0 p (16 * place.column) (16 * place.row) (luma_vector (pos 4 *ℤ v.row) (pos 4 *ℤ v.column)) r c (fraction_eight v.row) (fraction_eight v.column)
@@ -130,7 +130,7 @@ quarter_cost-same f g p place v same = sum_of_differences-same 16 16 f g (predic
 
 -- the vector at a place with its cost
 pub kept_at : (block window : List ℕ) (range i j cost : ℕ) (v : WholeVector) → i ≤ 2 * range → j ≤ 2 * range → v ≡ vector_at range i j
-    → cost ≡ sum_of_differences 16 16 (block_in block 0 16) (block_in window (i * WINDOW_WIDTH + j) WINDOW_WIDTH) → IsKept range (window_cost block window range) (record { vector = v; cost = cost })
+    → cost ≡ sum_of_differences 16 16 (strided_block block 0 16) (strided_block window (i * WINDOW_WIDTH + j) WINDOW_WIDTH) → IsFoundInWindow range (window_cost block window range) (record { vector = v; cost = cost })
 kept_at block window range i j cost v hi hj e known = record {
   near = subst (λ (u : WholeVector). IsNear range u) (sym e) (near_at range i j hi hj);
   known = known ∙ sym (cost_at block window range i j) ∙ ap (window_cost block window range) (sym e);
@@ -138,16 +138,16 @@ kept_at block window range i j cost v hi hj e known = record {
 
 -- .. and it is no larger than itself
 pub taken_at : (block window : List ℕ) (range i j a cost : ℕ) (u v : WholeVector) → v ≡ vector_at range i j
-    → cost ≡ sum_of_differences 16 16 (block_in block 0 16) (block_in window (i * WINDOW_WIDTH + j) WINDOW_WIDTH) → NoLarger a u cost v
+    → cost ≡ sum_of_differences 16 16 (strided_block block 0 16) (strided_block window (i * WINDOW_WIDTH + j) WINDOW_WIDTH) → NoLarger a u cost v
     → NoLarger a u (window_cost block window range (vector_at range i j)) (vector_at range i j)
 taken_at block window range i j a cost u v e known p =
     subst (λ (w : WholeVector). NoLarger a u (window_cost block window range (vector_at range i j)) w) e
     (subst (λ (k : ℕ). NoLarger a u k v) (known ∙ sym (cost_at block window range i j)) p)
 
 -- the kept one of two
-pub kept_of : (range : ℕ) (cost : WholeVector → ℕ) (old new found : Found) → IsKept range cost old → IsKept range cost new → (found ≡ old) ⊎ (found ≡ new) → IsKept range cost found
-kept_of range cost old new found p q (inl e) = subst (λ (f : Found). IsKept range cost f) (sym e) p
-kept_of range cost old new found p q (inr e) = subst (λ (f : Found). IsKept range cost f) (sym e) q
+pub kept_of : (range : ℕ) (cost : WholeVector → ℕ) (old new found : Found) → IsFoundInWindow range cost old → IsFoundInWindow range cost new → (found ≡ old) ⊎ (found ≡ new) → IsFoundInWindow range cost found
+kept_of range cost old new found p q (inl e) = subst (λ (f : Found). IsFoundInWindow range cost f) (sym e) p
+kept_of range cost old new found p q (inr e) = subst (λ (f : Found). IsFoundInWindow range cost f) (sym e) q
 
 -- one row more of the window
 pub filled_more : (p : Raster) (place : Place) (range i : ℕ) (old new line : List ℕ) (left top : ℤ) → range ≤ 64 → 0 < p.width

@@ -9,8 +9,8 @@ use Rattle.vp_search.specs.declared.vector.QuarterVector.{QuarterVector}
 use Rattle.vp_search.specs.Differences.{sum_of_differences}
 
 -- the pixels of the macroblock at a place
-abbrev pub block_at : Raster → Place → ℕ → ℕ → ℕ
-block_at p place r c = pixel p (16 * place.column + c) (16 * place.row + r)
+abbrev pub macroblock_pixels : Raster → Place → ℕ → ℕ → ℕ
+macroblock_pixels p place r c = pixel p (16 * place.column + c) (16 * place.row + r)
 
 -- the pixels of a reference that a vector in whole pixels moves there; a reference goes on outside the plane
 abbrev pub moved_block : Raster → Place → WholeVector → ℕ → ℕ → ℕ

@@ -8,8 +8,8 @@ abbrev pub sum_of_differences : ℕ → ℕ → (ℕ → ℕ → ℕ) → (ℕ �
 sum_of_differences rows columns f g = sum_below rows (λ r. sum_below columns (λ c. abs_diff (f r c) (g r c)))
 
 -- a block whose rows stand in a list, the first from `at` on, each `stride` behind the one before
-abbrev pub block_in : List ℕ → ℕ → ℕ → ℕ → ℕ → ℕ
-block_in xs at stride r c = slice_index xs (at + r * stride + c)
+abbrev pub strided_block : List ℕ → ℕ → ℕ → ℕ → ℕ → ℕ
+strided_block xs at stride r c = slice_index xs (at + r * stride + c)
 
 -- a block of 16 columns, row after row
 abbrev pub block16 : List ℕ → ℕ → ℕ → ℕ

@@ -1,14 +1,14 @@
 -- The least vector.
 use Rattle.std.specs.Prelude.{◌≡◌, ℕ, ◌≤◌, ◌≤ℤ◌}
 use Rattle.vp_search.specs.declared.vector.WholeVector.{WholeVector}
-use Rattle.vp_search.specs.Vectors.{size, IsNear}
+use Rattle.vp_search.specs.Vectors.{vector_length, IsNear}
 
 -- a vector v of cost a is no larger than a vector w of cost b: by cost, then size, then row, then column
 pub record NoLarger (a : ℕ) (v : WholeVector) (b : ℕ) (w : WholeVector) : Type 0 where
   pub by_cost : a ≤ b
-  pub by_size : a ≡ b → size v ≤ size w
-  pub by_row : a ≡ b → size v ≡ size w → v.row ≤ℤ w.row
-  pub by_column : a ≡ b → size v ≡ size w → v.row ≡ w.row → v.column ≤ℤ w.column
+  pub by_size : a ≡ b → vector_length v ≤ vector_length w
+  pub by_row : a ≡ b → vector_length v ≡ vector_length w → v.row ≤ℤ w.row
+  pub by_column : a ≡ b → vector_length v ≡ vector_length w → v.row ≡ w.row → v.column ≤ℤ w.column
 
 -- a vector within range that is no larger than any other there
 pub record IsLeast (range : ℕ) (cost : WholeVector → ℕ) (best : WholeVector) : Type 0 where

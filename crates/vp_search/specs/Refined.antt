@@ -6,8 +6,8 @@ use Rattle.vp_search.specs.Vectors.{quarters}
 use Rattle.vp_search.specs.FirstLeast.{IsFirstLeast}
 
 -- a centre, and then its eight neighbours at a distance, row after row
-abbrev pub places : QuarterVector → ℤ → List QuarterVector
-places centre d =
+abbrev pub candidates_around : QuarterVector → ℤ → List QuarterVector
+candidates_around centre d =
     centre
     ∷ record { row = centre.row -ℤ d; column = centre.column -ℤ d }
     ∷ record { row = centre.row -ℤ d; column = centre.column }
@@ -20,7 +20,7 @@ places centre d =
     ∷ []
 
 abbrev pub neighbour : QuarterVector → ℤ → ℕ → QuarterVector
-neighbour centre d k = slice_index_or (places centre d) k centre
+neighbour centre d k = slice_index_or (candidates_around centre d) k centre
 
 -- the first of them with the least cost
 pub record IsBestOf (cost : QuarterVector → ℕ) (centre : QuarterVector) (d : ℤ) (best : QuarterVector) : Type 0 where

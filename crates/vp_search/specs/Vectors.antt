@@ -8,8 +8,8 @@ abbrev pub quarters : WholeVector → QuarterVector
 quarters v = record { row = pos 4 *ℤ v.row; column = pos 4 *ℤ v.column }
 
 -- how far a vector goes, over both directions
-abbrev pub size : WholeVector → ℕ
-size v = unsigned_abs v.row + unsigned_abs v.column
+abbrev pub vector_length : WholeVector → ℕ
+vector_length v = unsigned_abs v.row + unsigned_abs v.column
 
 -- each direction is within range
 abbrev pub IsNear : ℕ → WholeVector → Type 0

@@ -7,7 +7,7 @@ use Rattle.vp_search.specs.declared.vector.WholeVector.{WholeVector}
 use Rattle.vp_search.specs.declared.vector.Found.{Found}
 use Rattle.vp_search.specs.declared.window.TheConstants.{WINDOW_WIDTH}
 use Rattle.vp_search.specs.Vectors.{IsNear}
-use Rattle.vp_search.specs.Differences.{sum_of_differences, block_in}
+use Rattle.vp_search.specs.Differences.{sum_of_differences, strided_block}
 
 -- the pixel at row i and column j of the square round the macroblock at a place, so far on each side of it
 abbrev pub searched_pixel : Raster → Place → ℕ → ℕ → ℕ → ℕ
@@ -24,9 +24,9 @@ window_place range v = unsigned_abs (v.row +ℤ pos range) * WINDOW_WIDTH + unsi
 
 -- how much a block differs from what a vector moves there out of the window
 unfoldable pub window_cost : List ℕ → List ℕ → ℕ → WholeVector → ℕ
-window_cost block window range v = sum_of_differences 16 16 (block_in block 0 16) (block_in window (window_place range v) WINDOW_WIDTH)
+window_cost block window range v = sum_of_differences 16 16 (strided_block block 0 16) (strided_block window (window_place range v) WINDOW_WIDTH)
 
 -- a vector within range with its cost
-pub record IsKept (range : ℕ) (cost : WholeVector → ℕ) (found : Found) : Type 0 where
+pub record IsFoundInWindow (range : ℕ) (cost : WholeVector → ℕ) (found : Found) : Type 0 where
   pub near : IsNear range found.vector
   pub known : found.cost ≡ cost found.vector

@@ -2,7 +2,7 @@
 
 ghost use Rattle.std.specs.Prelude.{◌≡◌, ℕ, ◌+◌, ◌*◌, ◌<◌, ◌≤◌, slice_index, length};
 ghost use Rattle.vp_base.specs.Raster.{pixel};
-ghost use Rattle.vp_search.specs.Blocks.{block_at};
+ghost use Rattle.vp_search.specs.Blocks.{macroblock_pixels};
 
 use vp_base::{Place, Plane};
 
@@ -27,7 +27,7 @@ pub fn cut_block<const SIDE: usize, const AREA: usize>(plane: &Plane, place: Pla
 pub fn macroblock(plane: &Plane, place: Place) -> [u8; 256]
     requires columns { 16 * place.column + 16 ≤ plane.now.width }
     requires rows { 16 * place.row + 16 ≤ plane.now.height }
-    ensures { (r c : ℕ) → r < 16 → c < 16 → slice_index result (r * 16 + c) ≡ block_at plane.now place r c }
+    ensures { (r c : ℕ) → r < 16 → c < 16 → slice_index result (r * 16 + c) ≡ macroblock_pixels plane.now place r c }
 {
     cut_block::<16, 256>(plane, place)
 }

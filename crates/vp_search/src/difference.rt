@@ -1,7 +1,7 @@
 //! Sums of absolute differences of blocks of 16 by 16 pixels.
 
 ghost use Rattle.std.specs.Prelude.{◌≡◌, ◌+◌, ◌*◌, ◌<◌, ◌≤◌, length};
-ghost use Rattle.vp_search.specs.Differences.{sum_of_differences, block_in, block16};
+ghost use Rattle.vp_search.specs.Differences.{sum_of_differences, strided_block, block16};
 
 use crate::kernel::four_rows;
 
@@ -18,8 +18,8 @@ pub fn sad16(a: &[u8; 256], b: &[u8; 256]) -> u32
 pub(crate) fn sad_within(block: &[u8], window: &[u8], at: usize, stride: usize, limit: u32) -> u32
     requires block { 256 ≤ length block.now }
     requires window { at + 15 * stride + 16 ≤ length window.now }
-    ensures exact { result ≤ limit → result ≡ sum_of_differences 16 16 (block_in block.now 0 16) (block_in window.now at stride) }
-    ensures over { limit < result → limit < sum_of_differences 16 16 (block_in block.now 0 16) (block_in window.now at stride) }
+    ensures exact { result ≤ limit → result ≡ sum_of_differences 16 16 (strided_block block.now 0 16) (strided_block window.now at stride) }
+    ensures over { limit < result → limit < sum_of_differences 16 16 (strided_block block.now 0 16) (strided_block window.now at stride) }
     ensures bound { result ≤ 16 * 16 * 255 }
 {
     let first = four_rows(block, window, 0, 16, at, stride);

@@ -3,7 +3,7 @@
 ghost use Rattle.std.specs.Prelude.{◌≡◌, ℕ, ◌+◌, ◌*◌, ◌<◌, ◌≤◌, length, slice_index};
 ghost use Rattle.std.specs.Int.{abs_diff};
 ghost use Rattle.vp_search.specs.Sums.{sum_below};
-ghost use Rattle.vp_search.specs.Differences.{sum_of_differences, block_in, squared_difference};
+ghost use Rattle.vp_search.specs.Differences.{sum_of_differences, strided_block, squared_difference};
 
 use std::simd::prelude::*;
 use vp_lanes::load16;
@@ -54,7 +54,7 @@ pub(crate) fn four_rows(
 ) -> u32
     requires a_room { from_a + 3 * step_a + 16 ≤ length a.now }
     requires b_room { from_b + 3 * step_b + 16 ≤ length b.now }
-    ensures value { result ≡ sum_of_differences 4 16 (block_in a.now from_a step_a) (block_in b.now from_b step_b) }
+    ensures value { result ≡ sum_of_differences 4 16 (strided_block a.now from_a step_a) (strided_block b.now from_b step_b) }
     ensures bound { result ≤ 4 * 16 * 255 }
 {
     let first = apart(load16(a, from_a), load16(b, from_b));

@@ -3,10 +3,10 @@
 ghost use Rattle.std.specs.Prelude.{◌≡◌, ℕ, ◌+◌, ◌*◌, ◌<◌, ◌≤◌, ◌⊎◌, length, slice_index};
 ghost use Rattle.vp_search.specs.Vectors.{IsNear};
 ghost use Rattle.vp_search.specs.Least.{IsLeast, NoLarger};
-ghost use Rattle.vp_search.specs.Window.{vector_at, window_cost, IsKept};
+ghost use Rattle.vp_search.specs.Window.{vector_at, window_cost, IsFoundInWindow};
 
 use crate::difference::sad_within;
-use crate::vector::{Found, size, vector_at};
+use crate::vector::{Found, vector_at, vector_length};
 use crate::window::WINDOW_WIDTH;
 
 /// The less of a known vector and the one at row `i` and column `j`.
@@ -16,8 +16,8 @@ fn consider(block: &[u8], window: &[u8], range: u8, best: Found, i: usize, j: us
     requires range { range ≤ 64 }
     requires i { i ≤ 2 * range }
     requires j { j ≤ 2 * range }
-    requires best { IsKept range (window_cost block.now window.now range) best }
-    ensures kept { IsKept range (window_cost block.now window.now range) result }
+    requires best { IsFoundInWindow range (window_cost block.now window.now range) best }
+    ensures kept { IsFoundInWindow range (window_cost block.now window.now range) result }
     ensures old { NoLarger result.cost result.vector best.cost best.vector }
     ensures here { NoLarger result.cost result.vector (window_cost block.now window.now range (vector_at range i j)) (vector_at range i j) }
 {
@@ -45,7 +45,7 @@ fn lesser(old: Found, new: Found) -> Found
     if new.cost != old.cost {
         return if new.cost < old.cost { new } else { old };
     }
-    let (new_size, old_size) = (size(new.vector), size(old.vector));
+    let (new_size, old_size) = (vector_length(new.vector), vector_length(old.vector));
     if new_size != old_size {
         return if new_size < old_size { new } else { old };
     }
@@ -69,8 +69,8 @@ fn consider_row(block: &[u8], window: &[u8], range: u8, best: Found, i: usize) -
     requires window { (2 * range + 16) * WINDOW_WIDTH ≤ length window.now }
     requires range { range ≤ 64 }
     requires i { i ≤ 2 * range }
-    requires best { IsKept range (window_cost block.now window.now range) best }
-    ensures kept { IsKept range (window_cost block.now window.now range) result }
+    requires best { IsFoundInWindow range (window_cost block.now window.now range) best }
+    ensures kept { IsFoundInWindow range (window_cost block.now window.now range) result }
     ensures old { NoLarger result.cost result.vector best.cost best.vector }
     ensures here { (j : ℕ) → j ≤ 2 * range → NoLarger result.cost result.vector (window_cost block.now window.now range (vector_at range i j)) (vector_at range i j) }
 {

@@ -3,8 +3,8 @@
 ghost use Rattle.std.specs.Prelude.{◌≡◌, pos, ◌+◌, ◌*◌, ◌<◌, ◌≤◌, ◌-ℤ◌, ◌*ℤ◌, unsigned_abs};
 ghost use Rattle.vp_search.specs.Vectors.{quarters, IsNear};
 ghost use Rattle.vp_search.specs.Differences.{block16};
-ghost use Rattle.vp_search.specs.Blocks.{block_at, quarter_cost};
-ghost use Rattle.vp_search.specs.Refined.{places, IsBestOf, IsRefined};
+ghost use Rattle.vp_search.specs.Blocks.{macroblock_pixels, quarter_cost};
+ghost use Rattle.vp_search.specs.Refined.{candidates_around, IsBestOf, IsRefined};
 
 use crate::block::macroblock;
 use crate::difference::sad16;
@@ -22,8 +22,8 @@ pub fn refine(source: &Plane, reference: &Plane, place: Place, centre: WholeVect
     requires wide { 0 < reference.now.width }
     requires high { 0 < reference.now.height }
     requires near { IsNear 16384 centre }
-    ensures cost { result.cost ≡ quarter_cost (block_at source.now place) reference.now place result.vector }
-    ensures refined { IsRefined (quarter_cost (block_at source.now place) reference.now place) centre result.vector }
+    ensures cost { result.cost ≡ quarter_cost (macroblock_pixels source.now place) reference.now place result.vector }
+    ensures refined { IsRefined (quarter_cost (macroblock_pixels source.now place) reference.now place) centre result.vector }
     ensures row { unsigned_abs (result.vector.row -ℤ pos 4 *ℤ centre.row) ≤ 3 }
     ensures column { unsigned_abs (result.vector.column -ℤ pos 4 *ℤ centre.column) ≤ 3 }
 {
@@ -91,7 +91,7 @@ fn around(centre: QuarterVector, distance: i32) -> [QuarterVector; 9]
     requires row { unsigned_abs centre.row ≤ 4 * 16384 + 2 }
     requires column { unsigned_abs centre.column ≤ 4 * 16384 + 2 }
     requires distance { unsigned_abs distance ≤ 2 }
-    ensures { result ≡ places centre distance }
+    ensures { result ≡ candidates_around centre distance }
 {
     let QuarterVector { row, column } = centre;
     let (above, below) = (row - distance, row + distance);

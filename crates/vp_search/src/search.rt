@@ -3,7 +3,7 @@
 ghost use Rattle.std.specs.Prelude.{◌≡◌, ◌+◌, ◌*◌, ◌<◌, ◌≤◌};
 ghost use Rattle.vp_search.specs.Vectors.{quarters};
 ghost use Rattle.vp_search.specs.Differences.{block16};
-ghost use Rattle.vp_search.specs.Blocks.{block_at, whole_cost, quarter_cost};
+ghost use Rattle.vp_search.specs.Blocks.{macroblock_pixels, whole_cost, quarter_cost};
 ghost use Rattle.vp_search.specs.Least.{IsLeast};
 
 use crate::block::macroblock;
@@ -31,9 +31,9 @@ pub fn full_search(source: &Plane, reference: &Plane, place: Place, range: u8) -
     requires wide { 0 < reference.now.width }
     requires high { 0 < reference.now.height }
     requires range { range ≤ 64 }
-    ensures cost { result.cost ≡ whole_cost (block_at source.now place) reference.now place result.vector }
-    ensures least { IsLeast range (whole_cost (block_at source.now place) reference.now place) result.vector }
-    ensures predicted { result.cost ≡ quarter_cost (block_at source.now place) reference.now place (quarters result.vector) }
+    ensures cost { result.cost ≡ whole_cost (macroblock_pixels source.now place) reference.now place result.vector }
+    ensures least { IsLeast range (whole_cost (macroblock_pixels source.now place) reference.now place) result.vector }
+    ensures predicted { result.cost ≡ quarter_cost (macroblock_pixels source.now place) reference.now place (quarters result.vector) }
 {
     let _size = [source.width(), source.height()];
     search_block(&macroblock(source, place), reference, place, range)

@@ -1,7 +1,7 @@
 //! Vectors of a luma block.
 
 ghost use Rattle.std.specs.Prelude.{◌≡◌, ◌≤◌, ◌*◌};
-ghost use Rattle.vp_search.specs.Vectors.{quarters, size, IsNear};
+ghost use Rattle.vp_search.specs.Vectors.{quarters, vector_length, IsNear};
 ghost use Rattle.vp_search.specs.Window.{vector_at};
 
 /// How far a block moves, in whole luma pixels.
@@ -54,9 +54,9 @@ pub(crate) fn vector_at(i: usize, j: usize, range: u8) -> WholeVector
 }
 
 /// How far it goes, over both directions.
-pub(crate) fn size(vector: WholeVector) -> u32
+pub(crate) fn vector_length(vector: WholeVector) -> u32
     requires { IsNear 64 vector }
-    ensures { result ≡ size vector }
+    ensures { result ≡ vector_length vector }
 {
     vector.row.unsigned_abs() + vector.column.unsigned_abs()
 }

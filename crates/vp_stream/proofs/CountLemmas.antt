@@ -4,7 +4,7 @@ use Rattle.std.proofs.lemmas.Bool.Decides.{nat_tests}
 use Rattle.vp_ivf.specs.declared.packet.IvfHead.{IvfHead}
 use Rattle.vp_ivf.specs.declared.fault.FileFault.{FileFault}
 use Rattle.vp_ivf.specs.declared.fault.FileFault.TheVariants.{Torn}
-use Rattle.vp_ivf.specs.Ivf.{Contents, next_size, next_head, cuts, read}
+use Rattle.vp_ivf.specs.Ivf.{Contents, next_size, next_head, cuts, read_file}
 use Rattle.vp_ivf.proofs.Cuts.{cuts-whole, cuts-stop, cuts-fault}
 
 none_whole : (max : ℕ) (xs : List ℕ) (s : ℕ) → next_size max 0 xs ≡ Ok (Some s) → ⊥
@@ -26,14 +26,14 @@ count_cuts : (h : Option IvfHead) (max n : ℕ) (b : List ℕ) → length (cuts 
 count_cuts h max zero b = count_none h max b (next_size max 0 b) refl
 count_cuts h max (suc n) b = count_more h max n b (next_size max (suc n) b) refl (λ c. count_cuts h max n c)
 
-count_head : (max n : ℕ) (b : List ℕ) (r : Result (Option IvfHead) FileFault) → next_head b ≡ r → length (read max n b).packets ≤ n
-unfolding read
+count_head : (max n : ℕ) (b : List ℕ) (r : Result (Option IvfHead) FileFault) → next_head b ≡ r → length (read_file max n b).packets ≤ n
+unfolding read_file
 count_head max n b (Err f) e = rw e (omega arith)
 count_head max n b (Ok None) e = rw e (omega arith)
 count_head max n b (Ok (Some h)) e = rw e (count_cuts (Some h) max n (drop 32 b))
 
 -- a file has at most as many packets as are allowed
-pub count-read : (max n : ℕ) (b : List ℕ) → length (read max n b).packets ≤ n
+pub count-read : (max n : ℕ) (b : List ℕ) → length (read_file max n b).packets ≤ n
 count-read max n b = count_head max n b (next_head b) refl
 
 -- ---- a fault in the bytes isn't that they end
@@ -71,11 +71,11 @@ fault_cuts : (h : Option IvfHead) (max n : ℕ) (b : List ℕ) → (cuts h max n
 fault_cuts h max zero b t = fault_none h max b (next_size max 0 b) refl t
 fault_cuts h max (suc n) b t = fault_more h max n b (next_size max (suc n) b) refl (λ c. fault_cuts h max n c) t
 
-fault_head : (max n : ℕ) (b : List ℕ) (r : Result (Option IvfHead) FileFault) → next_head b ≡ r → (read max n b).fault ≡ Some Torn → ⊥
-unfolding read
+fault_head : (max n : ℕ) (b : List ℕ) (r : Result (Option IvfHead) FileFault) → next_head b ≡ r → (read_file max n b).fault ≡ Some Torn → ⊥
+unfolding read_file
 fault_head max n b (Err f) e t = head_not_torn b (e ∙ ap Err (not_torn_at f _ refl (rw e at t)))
 fault_head max n b (Ok None) e t = none_torn _ refl (rw e at t)
 fault_head max n b (Ok (Some h)) e t = fault_cuts (Some h) max n (drop 32 b) (rw e at t)
 
-pub fault-read : (max n : ℕ) (b : List ℕ) → (read max n b).fault ≡ Some Torn → ⊥
+pub fault-read : (max n : ℕ) (b : List ℕ) → (read_file max n b).fault ≡ Some Torn → ⊥
 fault-read max n b t = fault_head max n b (next_head b) refl t

@@ -6,14 +6,14 @@ use Rattle.vp_base.specs.declared.limits.Limits.{Limits}
 use Rattle.vp_ivf.specs.declared.packet.Packet.{Packet}
 use Rattle.vp_ivf.specs.declared.packet.IvfHead.{IvfHead}
 use Rattle.vp_ivf.specs.declared.fault.FileFault.{FileFault}
-use Rattle.vp_ivf.specs.Ivf.{Contents, next_size, next_head, cuts, read, read_from, with_front, resume, resume_at}
-use Rattle.vp_ivf.specs.Reader.{State as ReaderState}
+use Rattle.vp_ivf.specs.Ivf.{Contents, next_size, next_head, cuts, read_file, read_from, with_front, resume, resume_at}
+use Rattle.vp_ivf.specs.Reader.{Stream as ReaderState}
 use Rattle.vp_ivf.specs.declared.fault.FeedError.{FeedError}
 use Rattle.vp_ivf.specs.declared.fault.FeedError.TheVariants.{Memory, Fault}
 use Rattle.vp_ivf.proofs.Cuts.{cuts-whole, cuts-stop, cuts-fault}
 use Rattle.vp_ivf.proofs.Append.{read-append}
 use Rattle.vp_stream.specs.Answers.{reading_of}
-use Rattle.vp_stream.specs.Stream.{State, History, StandsFor, IsKept, whole, after_piece, with_piece}
+use Rattle.vp_stream.specs.Stream.{Stream, StreamHistory, IsStreamAfter, IsKept, with_taken_packets, after_piece, with_piece}
 use Rattle.vp_stream.specs.Seeking.{AreKeys}
 
 -- ---- the packets that were cut and those that may still come are the limit
@@ -43,8 +43,8 @@ cuts_all : (head : Option IvfHead) (max n : ℕ) (b : List ℕ) → all_of (cuts
 cuts_all head max zero b = cuts_zero head max b (next_size max 0 b) refl
 cuts_all head max (suc n) b = cuts_step head max n b (next_size max (suc n) b) refl (λ c. cuts_all head max n c)
 
-read_by : (max n : ℕ) (b : List ℕ) (r : Result (Option IvfHead) FileFault) → next_head b ≡ r → all_of (read max n b) ≡ n
-unfolding read
+read_by : (max n : ℕ) (b : List ℕ) (r : Result (Option IvfHead) FileFault) → next_head b ≡ r → all_of (read_file max n b) ≡ n
+unfolding read_file
 read_by max n b (Err f) e = rw e (zero-add n)
 read_by max n b (Ok None) e = rw e (zero-add n)
 read_by max n b (Ok (Some h)) e = rw e (cuts_all (Some h) max n (drop 32 b))
@@ -114,18 +114,18 @@ pub after_taking : (limits : Limits) (old fed last : ReaderState) (before packet
     → fed ≡ record old { reading = resume old.max old.reading piece }
     → last ≡ record fed { reading = record fed.reading { packets = [] } }
     → packets ≡ before ++ fed.reading.packets
-    → let s : State = record { limits = limits; reading = whole last packets; ended = last.ended } in
-    s ≡ after_piece (record { limits = limits; reading = whole old before; ended = old.ended }) piece
+    → let s : Stream = record { limits = limits; reading = with_taken_packets last packets; ended = last.ended } in
+    s ≡ after_piece (record { limits = limits; reading = with_taken_packets old before; ended = old.ended }) piece
 after_taking limits old fed last before packets piece max fed_is last_is packets_are =
-    let reading : whole last packets ≡ resume limits.packet_bytes (whole old before) piece =
-    ap (λ (s : ReaderState). whole s packets) last_is
+    let reading : with_taken_packets last packets ≡ resume limits.packet_bytes (with_taken_packets old before) piece =
+    ap (λ (s : ReaderState). with_taken_packets s packets) last_is
     ∙ (ap (λ ps. record fed.reading { packets = ps }) (append-nil packets ∙ packets_are)
-    ∙ (ap (λ (s : ReaderState). whole s before) fed_is
+    ∙ (ap (λ (s : ReaderState). with_taken_packets s before) fed_is
     ∙ (ap (λ m. with_front before (resume m old.reading piece)) max ∙ front_resume limits.packet_bytes before old.reading piece))) in
     let ended : last.ended ≡ old.ended = ap (λ (s : ReaderState). s.ended) (last_is ∙ ap (λ (s : ReaderState). record s { reading = record s.reading { packets = [] } }) fed_is) in
     λ i. record { limits = limits; reading = reading i; ended = ended i }
 
-pub stands_on : (old new : State) (h : History) (piece : List ℕ) → new ≡ after_piece old piece → StandsFor old h → StandsFor new (with_piece h piece)
+pub stands_on : (old new : Stream) (h : StreamHistory) (piece : List ℕ) → new ≡ after_piece old piece → IsStreamAfter old h → IsStreamAfter new (with_piece h piece)
 stands_on old new h piece e stands =
     let read_on : resume old.limits.packet_bytes old.reading piece ≡ reading_of old.limits (h.fed ++ piece) =
     ap (λ r. resume old.limits.packet_bytes r piece) stands.reading ∙ sym (read-append old.limits.packet_bytes old.limits.packets h.fed piece) in

@@ -12,7 +12,7 @@ use Rattle.vp_y4m.specs.Text.{i420_length}
 use Rattle.vp_y4m.specs.declared.writing.PictureFault.{PictureFault}
 use Rattle.vp_y4m.specs.declared.writing.PictureFault.TheVariants as written
 use Rattle.vp_stream.specs.declared.form.Form.TheVariants.{Y4m}
-use Rattle.vp_stream.specs.Progress.{text_if, first_size, has_size}
+use Rattle.vp_stream.specs.Transcode.{text_if, first_size, has_size}
 
 mul_swap : (a b : ℕ) → a * b ≡ b * a
 mul_swap a b = omega arith

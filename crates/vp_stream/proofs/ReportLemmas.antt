@@ -11,17 +11,17 @@ use Rattle.vp_stream.specs.declared.report.Report.{Report}
 use Rattle.vp_stream.specs.Answers.{answers_from}
 use Rattle.vp_stream.specs.Reports.{is_shown, is_hidden, faults_from, report_of}
 use Rattle.vp_stream.specs.declared.form.Form.{Form}
-use Rattle.vp_stream.specs.Progress.{Progress, fresh, with_outcome, after_packet, after_packets, answer_to, answers_to}
+use Rattle.vp_stream.specs.Transcode.{TranscodeState, fresh, with_outcome, after_packet, after_packets, answer_to, answers_to}
 
-pub after_packets-append : (r : Progress) (ps qs : List Packet) → after_packets r (ps ++ qs) ≡ after_packets (after_packets r ps) qs
+pub after_packets-append : (r : TranscodeState) (ps qs : List Packet) → after_packets r (ps ++ qs) ≡ after_packets (after_packets r ps) qs
 after_packets-append r [] qs = refl
 after_packets-append r (p ∷ ps) qs = after_packets-append (after_packet r p.bytes) ps qs
 
-pub answers_to-append : (r : Progress) (ps qs : List Packet) → answers_to r (ps ++ qs) ≡ answers_to r ps ++ answers_to (after_packets r ps) qs
+pub answers_to-append : (r : TranscodeState) (ps qs : List Packet) → answers_to r (ps ++ qs) ≡ answers_to r ps ++ answers_to (after_packets r ps) qs
 answers_to-append r [] qs = refl
 answers_to-append r (p ∷ ps) qs = ap (λ (later : List Answer). answer_to r p.bytes ∷ later) (answers_to-append (after_packet r p.bytes) ps qs)
 
-pub length-answers_to : (r : Progress) (ps : List Packet) → length (answers_to r ps) ≡ length ps
+pub length-answers_to : (r : TranscodeState) (ps : List Packet) → length (answers_to r ps) ≡ length ps
 length-answers_to r [] = refl
 length-answers_to r (p ∷ ps) = let e = length-answers_to (after_packet r p.bytes) ps in omega arith
 
@@ -52,7 +52,7 @@ with_first r (Fault f) answers =
     let hidden = sum_by-cons (λ (x : Answer). cond (is_hidden x) 1 0) (Fault f) answers in
     reports_equal _ _ _ _ _ _ _ _ (omega arith) (omega arith) (omega arith) (append_assoc r.faults ((r.packets, f) ∷ []) (faults_from (r.packets + 1) answers))
 
-report_after : (r : Progress) (ps : List Packet) → (after_packets r ps).report ≡ with_answers r.report (answers_to r ps)
+report_after : (r : TranscodeState) (ps : List Packet) → (after_packets r ps).report ≡ with_answers r.report (answers_to r ps)
 report_after r [] = reports_equal _ _ _ _ _ _ _ _ (omega arith) (omega arith) (omega arith) (sym (append-nil r.report.faults))
 report_after r (p ∷ ps) = report_after (after_packet r p.bytes) ps ∙ with_first r.report (answer_to r p.bytes) (answers_to (after_packet r p.bytes) ps)
 

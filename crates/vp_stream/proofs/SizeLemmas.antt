@@ -16,7 +16,7 @@ use Rattle.vp_recon.specs.Rebuilt.{row_rebuilt}
 use Rattle.vp_loop.specs.declared.strength.Level.{Level}
 use Rattle.vp_loop.specs.Filtered.{filtered, row_filtered}
 use Rattle.vp_decode.specs.Frame.{Frame, unfiltered, picture_of}
-use Rattle.vp_decode.specs.Step.{Kept, standing, Basis, key_basis, inter_basis, basis_of, Opened, opened, said, shown_after, Answer, Shown, Hidden, Fault, answer, decoded, shown_again, repeated, step}
+use Rattle.vp_decode.specs.Step.{DecoderState, current_state, FrameContext, key_context, inter_context, context_of, ParsedPacket, parsed, frame_of_packet, shown_after, Answer, Shown, Hidden, Fault, answer, decoded, shown_again, repeated_frame, step}
 use Rattle.vp_decode.proofs.SizeLemmas.{newest_is}
 use Rattle.vp_decode.proofs.CutLemmas.{opened-is}
 use Rattle.vp_stream.specs.Answers.{answers_from}
@@ -52,11 +52,11 @@ picture-size f =
 
 -- ---- a packet's step keeps the size, or takes that of its tag
 
-abbrev HasSize : Option Kept → Option (ℕ × ℕ) → Type 0
+abbrev HasSize : Option DecoderState → Option (ℕ × ℕ) → Type 0
 HasSize None z = Unit {0}
 HasSize (Some k) z = (z ≡ Some (size_of k.references.newest)) × IfSome k.shown (λ p. z ≡ Some (size_of p))
 
-record IsSized (r : Option Kept × Answer) (z : Option (ℕ × ℕ)) : Type 0 where
+record IsSized (r : Option DecoderState × Answer) (z : Option (ℕ × ℕ)) : Type 0 where
   kept : HasSize r.0 z
   shown : (p : Image) → r.1 ≡ Shown p → z ≡ Some (size_of p)
 
@@ -77,72 +77,72 @@ again_is : (before : Option Image) (p : Image) (z : Option (ℕ × ℕ)) → IfS
 again_is None p z h e = absurd cc
 again_is (Some q) p z h e = h ∙ ap (λ (x : Image). Some (size_of x)) (let same : q ≡ p = cc in same)
 
-repeated_sized : (s : Option Kept) (z : Option (ℕ × ℕ)) → HasSize s z → IsSized (repeated (standing s)) z
+repeated_sized : (s : Option DecoderState) (z : Option (ℕ × ℕ)) → HasSize s z → IsSized (repeated_frame (current_state s)) z
 repeated_sized None z h = faulty NoReference z
 repeated_sized (Some k) z h = record { kept = h; shown = λ p e. again_is k.shown p z h.1 e }
 
 -- what a frame is decoded over has this size
-abbrev IsOver : Basis → Option (ℕ × ℕ) → Type 0
+abbrev IsOver : FrameContext → Option (ℕ × ℕ) → Type 0
 IsOver b z = (z ≡ Some (b.width, b.height)) × IfSome b.shown (λ p. z ≡ Some (size_of p))
 
-decoded_sized : (r : Result Opened PacketFault) (z : Option (ℕ × ℕ)) → ((o : Opened) → r ≡ Ok o → IsOver o.basis z) → IsSized (decoded r) z
+decoded_sized : (r : Result ParsedPacket PacketFault) (z : Option (ℕ × ℕ)) → ((o : ParsedPacket) → r ≡ Ok o → IsOver o.context z) → IsSized (decoded r) z
 decoded_sized (Err f) z over = faulty f z
 decoded_sized (Ok o) z over =
-    let p : Image = picture_of (said o) in
-    let h : IsOver o.basis z = over o refl in
-    let e : z ≡ Some (size_of p) = h.0 ∙ ap (λ (x : ℕ × ℕ). Some x) (sym (picture-size (said o))) in
+    let p : Image = picture_of (frame_of_packet o) in
+    let h : IsOver o.context z = over o refl in
+    let e : z ≡ Some (size_of p) = h.0 ∙ ap (λ (x : ℕ × ℕ). Some x) (sym (picture-size (frame_of_packet o))) in
     record {
-      kept = (e ∙ ap (λ (q : Image). Some (size_of q)) (sym (newest_is o.basis.references o.header p)), shown_sized o.tag.show p o.basis.shown z e h.1);
+      kept = (e ∙ ap (λ (q : Image). Some (size_of q)) (sym (newest_is o.context.references o.header p)), shown_sized o.tag.show p o.context.shown z e h.1);
       shown = λ q is_shown. e ∙ ap (λ (x : Image). Some (size_of x)) (shown_is o.tag.show p q is_shown);
     }
 
 -- the size after a frame whose tag has this key part
-abbrev Follows : Option KeyTag → Option Kept → Option (ℕ × ℕ) → Type 0
+abbrev Follows : Option KeyTag → Option DecoderState → Option (ℕ × ℕ) → Type 0
 Follows (Some key) s z = z ≡ Some (key.dim.w, key.dim.h)
 Follows None s z = HasSize s z
 
-basis_sized : (key : Option KeyTag) (s : Option Kept) (b : Basis) (z : Option (ℕ × ℕ)) → basis_of key s ≡ Ok b → Follows key s z → IsOver b z
-basis_sized (Some key) s b z e h = let same : key_basis key.dim ≡ b = cc in subst (λ (x : Basis). IsOver x z) same (h, tt)
+basis_sized : (key : Option KeyTag) (s : Option DecoderState) (b : FrameContext) (z : Option (ℕ × ℕ)) → context_of key s ≡ Ok b → Follows key s z → IsOver b z
+basis_sized (Some key) s b z e h = let same : key_context key.dim ≡ b = cc in subst (λ (x : FrameContext). IsOver x z) same (h, tt)
 basis_sized None None b z e h = absurd cc
-basis_sized None (Some k) b z e h = let same : inter_basis k ≡ b = cc in subst (λ (x : Basis). IsOver x z) same h
+basis_sized None (Some k) b z e h = let same : inter_context k ≡ b = cc in subst (λ (x : FrameContext). IsOver x z) same h
 
-abbrev FollowsIn : Result Tag PacketFault → Option Kept → Option (ℕ × ℕ) → Type 0
+abbrev FollowsIn : Result Tag PacketFault → Option DecoderState → Option (ℕ × ℕ) → Type 0
 FollowsIn (Err f) s z = Unit {0}
 FollowsIn (Ok tag) s z = Follows tag.key s z
 
-step_sized : (limits : Limits) (s : Option Kept) (packet : List ℕ) (z : Option (ℕ × ℕ)) → FollowsIn (tag_of limits packet) s z → (length packet ≡ 0 → HasSize s z) → IsSized (step limits s packet) z
+step_sized : (limits : Limits) (s : Option DecoderState) (packet : List ℕ) (z : Option (ℕ × ℕ)) → FollowsIn (tag_of limits packet) s z → (length packet ≡ 0 → HasSize s z) → IsSized (step limits s packet) z
 unfolding step
 step_sized limits s [] z h none = repeated_sized s z (none refl)
 step_sized limits s (b ∷ bs) z h none =
-    decoded_sized (opened limits s (b ∷ bs)) z
+    decoded_sized (parsed limits s (b ∷ bs)) z
     (λ o e.
     let is = opened-is limits s (b ∷ bs) o e in
-    basis_sized o.tag.key s o.basis z is.basis_is (subst (λ (r : Result Tag PacketFault). FollowsIn r s z) is.tag_is h))
+    basis_sized o.tag.key s o.context z is.basis_is (subst (λ (r : Result Tag PacketFault). FollowsIn r s z) is.tag_is h))
 
 -- ---- key packets, and others
 
-keeps_it : (key : Option KeyTag) (s : Option Kept) (z : Option (ℕ × ℕ)) → IsNone key → HasSize s z → Follows key s z
+keeps_it : (key : Option KeyTag) (s : Option DecoderState) (z : Option (ℕ × ℕ)) → IsNone key → HasSize s z → Follows key s z
 keeps_it None s z none h = h
 keeps_it (Some key) s z none h = absurd cc
 
-keeps : (r : Result Tag PacketFault) (s : Option Kept) (z : Option (ℕ × ℕ)) → IfOk r (λ tag. IsNone tag.key) → HasSize s z → FollowsIn r s z
+keeps : (r : Result Tag PacketFault) (s : Option DecoderState) (z : Option (ℕ × ℕ)) → IfOk r (λ tag. IsNone tag.key) → HasSize s z → FollowsIn r s z
 keeps (Err f) s z none h = tt
 keeps (Ok tag) s z none h = keeps_it tag.key s z none h
 
 abbrev pub SaysKey : Limits → Type 0
 SaysKey limits = (packet : List ℕ) → IsKeyPacket packet → IfOk (tag_of limits packet) (λ tag. IsSome tag.key)
 
-takes_it : (key : Option KeyTag) (s : Option Kept) → IsSome key → Follows key s (size_in_key key)
+takes_it : (key : Option KeyTag) (s : Option DecoderState) → IsSome key → Follows key s (size_in_key key)
 takes_it None s some = absurd cc
 takes_it (Some key) s some = refl
 
-takes : (r : Result Tag PacketFault) (s : Option Kept) → IfOk r (λ tag. IsSome tag.key) → FollowsIn r s (size_in r)
+takes : (r : Result Tag PacketFault) (s : Option DecoderState) → IfOk r (λ tag. IsSome tag.key) → FollowsIn r s (size_in r)
 takes (Err f) s some = tt
 takes (Ok tag) s some = takes_it tag.key s some
 
 -- ---- packets that are no key packets, from a state on
 
-sized_from : (limits : Limits) (s : Option Kept) (ps : List Packet) (j : ℕ) (z : Option (ℕ × ℕ)) → SaysInter limits → HasSize s z
+sized_from : (limits : Limits) (s : Option DecoderState) (ps : List Packet) (j : ℕ) (z : Option (ℕ × ℕ)) → SaysInter limits → HasSize s z
     → ((i : ℕ) → i ≤ j → ¬ IsKeyAt ps i)
     → (p : Image) → slice_get (answers_from limits s ps) j ≡ Some (Shown p) → z ≡ Some (size_of p)
 sized_from limits s [] j z says h other p e = absurd (none-some (Shown p) e)

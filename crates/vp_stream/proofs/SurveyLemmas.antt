@@ -8,26 +8,26 @@ use Rattle.vp_ivf.specs.declared.packet.IvfHead.{IvfHead}
 use Rattle.vp_ivf.specs.declared.fault.FileFault.{FileFault}
 use Rattle.vp_ivf.specs.Ivf.{Contents}
 use Rattle.vp_decode.specs.declared.decoder.Outcome.{Outcome}
-use Rattle.vp_decode.specs.Step.{Kept, Answer, Decoding, step, after, outcome}
+use Rattle.vp_decode.specs.Step.{DecoderState, Answer, Decoder, step, after, outcome}
 use Rattle.vp_stream.specs.declared.form.Form.TheVariants.{I420}
 use Rattle.vp_stream.specs.Answers.{answers_from}
 use Rattle.vp_stream.specs.Reports.{outcomes}
-use Rattle.vp_stream.specs.Incoming.{Incoming, IsReading, Ends, start}
-use Rattle.vp_stream.specs.Progress.{Progress, fresh, after_packet, after_packets, answer_to}
+use Rattle.vp_stream.specs.PacketReader.{PacketReader, IsReading, EndsReading, before_first_read}
+use Rattle.vp_stream.specs.Transcode.{TranscodeState, fresh, after_packet, after_packets, answer_to}
 use Rattle.vp_stream.specs.Written.{IsSurveyed}
 use Rattle.vp_stream.proofs.CountLemmas.{count-read}
 use Rattle.vp_stream.proofs.IncomingLemmas.{at_start}
 use Rattle.vp_stream.proofs.ReportLemmas.{after_packets-append, answers_to-append, length-answers_to}
 
 -- these bytes were read, and these packets of them were decoded and told
-pub record IsTold (limits : Limits) (file : Incoming) (decoder : Decoding) (told : List (ℕ × Outcome)) (fed : List ℕ) (given : List Packet) : Type 0 where
+pub record IsTold (limits : Limits) (file : PacketReader) (decoder : Decoder) (told : List (ℕ × Outcome)) (fed : List ℕ) (given : List Packet) : Type 0 where
   pub reading : IsReading limits file fed given
   pub limits_same : decoder.limits ≡ limits
   pub state : decoder.state ≡ (after_packets (fresh limits I420) given).state
   pub is_told : told ≡ outcomes given (answers_from limits None given)
 
-pub told_first : (limits : Limits) (decoder : Decoding) → decoder ≡ record { limits = limits; state = None; shown = None } → IsTold limits (start limits) decoder [] [] []
-told_first limits decoder e = record { reading = at_start limits; limits_same = ap (λ (d : Decoding). d.limits) e; state = ap (λ (d : Decoding). d.state) e; is_told = refl }
+pub told_first : (limits : Limits) (decoder : Decoder) → decoder ≡ record { limits = limits; state = None; shown = None } → IsTold limits (before_first_read limits) decoder [] [] []
+told_first limits decoder e = record { reading = at_start limits; limits_same = ap (λ (d : Decoder). d.limits) e; state = ap (λ (d : Decoder). d.state) e; is_told = refl }
 
 zip-last : {A B : Type 0} (xs : List A) (ys : List B) (x : A) (y : B) → length xs ≡ length ys → zip (xs ++ x ∷ []) (ys ++ y ∷ []) ≡ zip xs ys ++ (x, y) ∷ []
 zip-last [] [] x y e = refl
@@ -60,14 +60,14 @@ told_next limits given packet =
     ∙ (ap (λ os. zip (map size_in given ++ length packet.bytes ∷ []) os) (map-append outcome first (one ∷ []))
     ∙ zip-last (map size_in given) (map outcome first) (length packet.bytes) (outcome one) (same_length limits given)))
 
-limits_kept : (r : Progress) (ps : List Packet) → (after_packets r ps).limits ≡ r.limits
+limits_kept : (r : TranscodeState) (ps : List Packet) → (after_packets r ps).limits ≡ r.limits
 limits_kept r [] = refl
 limits_kept r (p ∷ ps) = limits_kept (after_packet r p.bytes) ps
 
-module _ (limits : Limits) (source : Incoming) (decoder : Decoding) (told : List (ℕ × Outcome)) (fed more : List ℕ) (given : List Packet)
+module _ (limits : Limits) (source : PacketReader) (decoder : Decoder) (told : List (ℕ × Outcome)) (fed more : List ℕ) (given : List Packet)
     (h : IsTold limits source decoder told fed given) where
   -- all packets were told
-  pub surveyed : (s : Incoming) (left : Option (List ℕ)) (fault : Option FileFault) (head : Option IvfHead) → Ends limits s left (fed ++ more) given fault → head ≡ s.file.reading.head
+  pub surveyed : (s : PacketReader) (left : Option (List ℕ)) (fault : Option FileFault) (head : Option IvfHead) → EndsReading limits s left (fed ++ more) given fault → head ≡ s.file.reading.head
       → IsSurveyed limits (record { head = head; packets = told; fault = fault }) (fed ++ more)
   surveyed s left fault head e is = record {
     head = is ∙ e.head;
@@ -75,7 +75,7 @@ module _ (limits : Limits) (source : Incoming) (decoder : Decoding) (told : List
     fault = e.answer;
   }
 
-  module _ (packet : Packet) (later : Incoming) (r : IsReading limits later (fed ++ more) (given ++ packet ∷ [])) where
+  module _ (packet : Packet) (later : PacketReader) (r : IsReading limits later (fed ++ more) (given ++ packet ∷ [])) where
     pub room : length told < limits.packets
     room =
         let counted : length told ≡ length given = ap length h.is_told ∙ (length_zip (map size_in given) (map outcome (answers_from limits None given)) (same_length limits given) ∙ length_map size_in given) in
@@ -85,7 +85,7 @@ module _ (limits : Limits) (source : Incoming) (decoder : Decoding) (told : List
         omega arith
 
     -- one packet more
-    pub told_on : (last : Decoding) (o : Outcome) (now : List (ℕ × Outcome))
+    pub told_on : (last : Decoder) (o : Outcome) (now : List (ℕ × Outcome))
         → last ≡ after decoder (step decoder.limits decoder.state packet.bytes)
         → o ≡ outcome (step decoder.limits decoder.state packet.bytes).1
         → now ≡ told ++ (length packet.bytes, o) ∷ []
@@ -94,13 +94,13 @@ module _ (limits : Limits) (source : Incoming) (decoder : Decoding) (told : List
         let p = after_packets (fresh limits I420) given in
         let same : step decoder.limits decoder.state packet.bytes ≡ step p.limits p.state packet.bytes =
         ap (λ (l : Limits). step l decoder.state packet.bytes) (h.limits_same ∙ sym (limits_kept (fresh limits I420) given))
-        ∙ ap (λ (s : Option Kept). step p.limits s packet.bytes) h.state in
+        ∙ ap (λ (s : Option DecoderState). step p.limits s packet.bytes) h.state in
         record {
           reading = r;
-          limits_same = ap (λ (d : Decoding). d.limits) is_last ∙ h.limits_same;
-          state = ap (λ (d : Decoding). d.state) is_last ∙ (ap (λ (x : Option Kept × Answer). x.0) same
-              ∙ ap (λ (q : Progress). q.state) (sym (after_packets-append (fresh limits I420) given (packet ∷ []))));
-          is_told = is_now ∙ (ap (λ (x : Outcome). told ++ (length packet.bytes, x) ∷ []) (is_o ∙ ap (λ (x : Option Kept × Answer). outcome x.1) same)
+          limits_same = ap (λ (d : Decoder). d.limits) is_last ∙ h.limits_same;
+          state = ap (λ (d : Decoder). d.state) is_last ∙ (ap (λ (x : Option DecoderState × Answer). x.0) same
+              ∙ ap (λ (q : TranscodeState). q.state) (sym (after_packets-append (fresh limits I420) given (packet ∷ []))));
+          is_told = is_now ∙ (ap (λ (x : Outcome). told ++ (length packet.bytes, x) ∷ []) (is_o ∙ ap (λ (x : Option DecoderState × Answer). outcome x.1) same)
               ∙ (ap (λ xs. xs ++ (length packet.bytes, outcome (answer_to p packet.bytes)) ∷ []) h.is_told ∙ sym (told_next limits given packet)));
         }
 

@@ -13,8 +13,8 @@ use Rattle.vp_ivf.specs.declared.packet.IvfHead.{IvfHead}
 use Rattle.vp_decode.specs.Step.{Answer, Shown, Hidden, Fault, picture_in}
 use Rattle.vp_stream.specs.declared.form.Form.{Form}
 use Rattle.vp_stream.specs.declared.form.Form.TheVariants.{I420, Y4m}
-use Rattle.vp_stream.specs.Texts.{shown_in, same_size, first_line, text, changes_size}
-use Rattle.vp_stream.specs.Progress.{Sizing, first_size, has_size, fits_in, text_if, line_before, one_text_in, with_shown, fits_shown, shown_text}
+use Rattle.vp_stream.specs.Texts.{shown_in, same_size, y4m_header, text, changes_size}
+use Rattle.vp_stream.specs.Transcode.{PictureWriter, first_size, has_size, fits_in, text_if, line_before, one_text_in, with_shown, fits_shown, shown_text}
 
 -- ---- lists up to the first element that fails a test
 
@@ -56,7 +56,7 @@ first_of I420 ps = None
 first_of Y4m [] = None
 first_of Y4m (p ∷ ps) = Some (p.width, p.height)
 
-abbrev pub sized : Form → List Image → Sizing
+abbrev pub sized : Form → List Image → PictureWriter
 sized form ps = record { form = form; size = first_of form ps }
 
 size_after : (form : Form) (ps : List Image) (p : Image) → first_size form (first_of form ps) p.width p.height ≡ first_of form (ps ++ p ∷ [])
@@ -66,7 +66,7 @@ size_after Y4m (q ∷ qs) p = refl
 
 pub size_more : (form : Form) (ps : List Image) (o : Option Image) → with_shown (sized form ps) o ≡ sized form (ps ++ option_to_list o)
 size_more form ps None = ap (sized form) (sym (append-nil ps))
-size_more form ps (Some p) = ap (λ (s : Option (ℕ × ℕ)). let z : Sizing = record { form = form; size = s } in z) (size_after form ps p)
+size_more form ps (Some p) = ap (λ (s : Option (ℕ × ℕ)). let z : PictureWriter = record { form = form; size = s } in z) (size_after form ps p)
 
 -- ---- one picture more
 
@@ -130,14 +130,14 @@ pub text_stays : (form : Form) (head : Option IvfHead) (ps qs : List Image) → 
 text_stays I420 head ps qs e = cc
 text_stays Y4m head [] qs e = cc
 text_stays Y4m head (p ∷ ps) qs e =
-    ap (λ zs. first_line head p ++ (picture_text (i420 p) ++ flat_map (λ q. picture_text (i420 q)) zs)) (some_left (same_size p) ps qs (not_true (list_all (same_size p) ps) e))
+    ap (λ zs. y4m_header head p ++ (picture_text (i420 p) ++ flat_map (λ q. picture_text (i420 q)) zs)) (some_left (same_size p) ps qs (not_true (list_all (same_size p) ps) e))
 
 text_grows : (head : Option IvfHead) (p : Image) (ps qs : List Image) (b : Bool) → list_all (same_size p) ps ≡ b
     → (back : List ℕ) × (text Y4m head (p ∷ (ps ++ qs)) ≡ text Y4m head (p ∷ ps) ++ back)
 text_grows head p ps qs false e =
     ([], text_stays Y4m head (p ∷ ps) qs (ap not e) ∙ sym (append-nil (text Y4m head (p ∷ ps))))
 text_grows head p ps qs true e =
-    let line = first_line head p in
+    let line = y4m_header head p in
     let each = λ (x : Image). picture_text (i420 x) in
     let whole : take_while (same_size p) ps ≡ ps = ap (take_while (same_size p)) (sym (append-nil ps)) ∙ (all_taken (same_size p) ps [] e ∙ append-nil ps) in
     let more : take_while (same_size p) (ps ++ qs) ≡ take_while (same_size p) ps ++ take_while (same_size p) qs =
@@ -165,7 +165,7 @@ no_place_in : (form : Form) (size : Option (ℕ × ℕ)) (head : IvfHead) (p : I
 no_place_in I420 size head p e = cc
 no_place_in Y4m size head p e = no_place size head p e
 
-pub unfit : (s : Sizing) (head : IvfHead) (o : Option Image) → fits_shown s o ≡ false → shown_text s head o ≡ []
+pub unfit : (s : PictureWriter) (head : IvfHead) (o : Option Image) → fits_shown s o ≡ false → shown_text s head o ≡ []
 unfit s head None e = cc
 unfit s head (Some p) e = no_place_in s.form s.size head p e
 

@@ -2,17 +2,17 @@
 use Rattle.std.specs.Prelude.{ℕ, List, [], ◌∷◌, Option, None}
 use Rattle.vp_base.specs.declared.limits.Limits.{Limits}
 use Rattle.vp_ivf.specs.declared.packet.Packet.{Packet}
-use Rattle.vp_ivf.specs.Ivf.{Contents, read}
-use Rattle.vp_decode.specs.Step.{Kept, Answer, step}
+use Rattle.vp_ivf.specs.Ivf.{Contents, read_file}
+use Rattle.vp_decode.specs.Step.{DecoderState, Answer, step}
 
 -- the answers for packets, one after another, from a state (RFC 6386, chapter 5)
-abbrev pub answers_from : Limits → Option Kept → List Packet → List Answer
+abbrev pub answers_from : Limits → Option DecoderState → List Packet → List Answer
 answers_from limits state [] = []
 answers_from limits state (p ∷ ps) = (step limits state p.bytes).1 ∷ answers_from limits (step limits state p.bytes).0 ps
 
 -- what is known of a file by its bytes
 abbrev pub reading_of : Limits → List ℕ → Contents
-reading_of limits file = read limits.packet_bytes limits.packets file
+reading_of limits file = read_file limits.packet_bytes limits.packets file
 
 -- the answers for the packets of a file, the first one from no state
 abbrev pub answers_of : Limits → List ℕ → List Answer

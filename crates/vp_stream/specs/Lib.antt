@@ -3,7 +3,7 @@ pub mod Seeking
 pub mod Stream
 pub mod Texts
 pub mod Reports
-pub mod Incoming
-pub mod Progress
+pub mod PacketReader
+pub mod Transcode
 pub mod Written
 pub mod Names

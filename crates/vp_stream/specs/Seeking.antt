@@ -8,7 +8,7 @@ use Rattle.vp_head.specs.declared.fields.Tag.{Tag}
 use Rattle.vp_head.specs.declared.fields.KeyTag.{KeyTag}
 use Rattle.vp_head.specs.Tag.{IsKeyPacket, tag_of}
 use Rattle.vp_ivf.specs.declared.packet.Packet.{Packet}
-use Rattle.vp_decode.specs.Step.{Kept, step}
+use Rattle.vp_decode.specs.Step.{DecoderState, step}
 use Rattle.vp_decode.specs.Step.{Answer as StepAnswer}
 use Rattle.vp_decode.specs.Step as step_is
 use Rattle.vp_stream.specs.declared.answer.Answer.{Answer}
@@ -18,37 +18,37 @@ use Rattle.vp_stream.specs.Answers.{answers_from}
 -- ---- the answer for a packet
 
 -- an answer in numbers: the columns, the rows and the I420 of a shown picture
-pub data Told : Type 0 where
-  Shown : ℕ → ℕ → List ℕ → Told
-  Hidden : Told
-  Fault : PacketFault → Told
-  NoPacket : Told
+pub data AnswerValue : Type 0 where
+  Shown : ℕ → ℕ → List ℕ → AnswerValue
+  Hidden : AnswerValue
+  Fault : PacketFault → AnswerValue
+  NoPacket : AnswerValue
 
 -- what an answer says
-abbrev pub told : Answer → Told
-told (code.Shown dim bytes) = Shown dim.w dim.h bytes
-told code.Hidden = Hidden
-told (code.Fault f) = Fault f
-told code.NoPacket = NoPacket
+abbrev pub answer_value : Answer → AnswerValue
+answer_value (code.Shown dim bytes) = Shown dim.w dim.h bytes
+answer_value code.Hidden = Hidden
+answer_value (code.Fault f) = Fault f
+answer_value code.NoPacket = NoPacket
 
 -- what is to be said of a packet that was decoded
-abbrev pub told_of : StepAnswer → Told
+abbrev pub told_of : StepAnswer → AnswerValue
 told_of (step_is.Shown p) = Shown p.width p.height (i420 p)
 told_of step_is.Hidden = Hidden
 told_of (step_is.Fault f) = Fault f
 
-abbrev pub told_or_none : Option StepAnswer → Told
+abbrev pub told_or_none : Option StepAnswer → AnswerValue
 told_or_none (Some a) = told_of a
 told_or_none None = NoPacket
 
 -- the answer for packet n: the packets are decoded one after another, the first one from no state
-abbrev pub answer_at : Limits → List Packet → ℕ → Told
+abbrev pub answer_at : Limits → List Packet → ℕ → AnswerValue
 answer_at limits packets n = told_or_none (slice_get (answers_from limits None packets) n)
 
 -- the state after packets
-abbrev pub state_after : Limits → Option Kept → List Packet → Option Kept
-state_after limits state [] = state
-state_after limits state (p ∷ ps) = state_after limits (step limits state p.bytes).0 ps
+abbrev pub state_after_packets : Limits → Option DecoderState → List Packet → Option DecoderState
+state_after_packets limits state [] = state
+state_after_packets limits state (p ∷ ps) = state_after_packets limits (step limits state p.bytes).0 ps
 
 -- ---- key packets (chapter 9.1): three bytes or more, of which the first is even
 
@@ -102,13 +102,13 @@ size_at limits packets None = None
 -- ---- what is decoded for packet n
 
 -- decoding begins at the key packet, or at the packet itself where there is none
-abbrev pub first_of : List Packet → ℕ → ℕ
-first_of packets n = unwrap_or (key_before packets n) n
+abbrev pub seek_start : List Packet → ℕ → ℕ
+seek_start packets n = unwrap_or (key_before packets n) n
 
 -- how many packets are decoded: those from there to n, or none for a packet that isn't there
 unfoldable pub work_of : List Packet → ℕ → ℕ
-work_of packets n = if nat_lt n (length packets) then n - first_of packets n + 1 else 0
+work_of packets n = if nat_lt n (length packets) then n - seek_start packets n + 1 else 0
 
 -- a count that stays at the greatest 64-bit number
-abbrev pub counted : ℕ → ℕ → ℕ
-counted work more = min (work + more) (2 ^ 64 - 1)
+abbrev pub saturating_count : ℕ → ℕ → ℕ
+saturating_count work more = min (work + more) (2 ^ 64 - 1)

@@ -23,15 +23,15 @@ before_change [] = []
 before_change (p ∷ ps) = p ∷ take_while (same_size p) ps
 
 -- a file's first line, by its head and its first picture
-abbrev pub first_line : Option IvfHead → Image → List ℕ
-first_line None p = []
-first_line (Some head) p = header_text p.width p.height head.rate head.scale
+abbrev pub y4m_header : Option IvfHead → Image → List ℕ
+y4m_header None p = []
+y4m_header (Some head) p = header_text p.width p.height head.rate head.scale
 
 -- pictures as I420, or with a line before them all and one before each
 abbrev pub text : Form → Option IvfHead → List Image → List ℕ
 text I420 head ps = flat_map i420 ps
 text Y4m head [] = []
-text Y4m head (p ∷ ps) = first_line head p ++ flat_map (λ q. picture_text (i420 q)) (before_change (p ∷ ps))
+text Y4m head (p ∷ ps) = y4m_header head p ++ flat_map (λ q. picture_text (i420 q)) (before_change (p ∷ ps))
 
 -- whether there is a picture that the form has no place for
 abbrev pub changes_size : Form → List Image → Bool
@@ -43,5 +43,5 @@ changes_size Y4m (p ∷ ps) = not (list_all (same_size p) ps)
 abbrev pub pictures_of : Limits → List ℕ → List Image
 pictures_of limits file = shown_in (answers_of limits file)
 
-abbrev pub text_of : Limits → Form → List ℕ → List ℕ
-text_of limits form file = text form (reading_of limits file).head (pictures_of limits file)
+abbrev pub decoded_text : Limits → Form → List ℕ → List ℕ
+decoded_text limits form file = text form (reading_of limits file).head (pictures_of limits file)

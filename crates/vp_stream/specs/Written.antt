@@ -11,17 +11,17 @@ use Rattle.vp_stream.specs.declared.fault.DecodeFault.TheVariants.{File, SizeCha
 use Rattle.vp_stream.specs.declared.fault.SurveyFault.{SurveyFault}
 use Rattle.vp_stream.specs.declared.outcomes.Survey.{Survey}
 use Rattle.vp_stream.specs.Answers.{reading_of, answers_of}
-use Rattle.vp_stream.specs.Texts.{text_of, pictures_of, changes_size}
+use Rattle.vp_stream.specs.Texts.{decoded_text, pictures_of, changes_size}
 use Rattle.vp_stream.specs.Reports.{report_of, outcomes_of}
-use Rattle.vp_stream.specs.Incoming.{ending, IsStoppedBy}
+use Rattle.vp_stream.specs.PacketReader.{ending, IsStoppedBy}
 
 -- known bytes grow by a file's text
 abbrev pub WritesText : Limits → Form → List ℕ → Option (List ℕ) → Option (List ℕ) → Type 0
-WritesText limits form file before after = Appends before after (text_of limits form file)
+WritesText limits form file before after = Appends before after (decoded_text limits form file)
 
 -- known bytes grow by a front of it
 abbrev pub WritesFront : Limits → Form → List ℕ → Option (List ℕ) → Option (List ℕ) → Type 0
-WritesFront limits form file before after = AppendsFront before after (text_of limits form file)
+WritesFront limits form file before after = AppendsFront before after (decoded_text limits form file)
 
 -- the whole text is written, and the form has a place for each picture
 abbrev pub WritesAll : Limits → Form → List ℕ → Option (List ℕ) → Option (List ℕ) → Type 0
@@ -29,7 +29,7 @@ WritesAll limits form file before after =
     (changes_size form (pictures_of limits file) ≡ false) × WritesText limits form file before after
 
 -- a file whose bytes end well is reported
-pub record IsReported (limits : Limits) (form : Form) (report : Report) (file : List ℕ) (before after : Option (List ℕ)) : Type 0 where
+pub record IsDecodeReported (limits : Limits) (form : Form) (report : Report) (file : List ℕ) (before after : Option (List ℕ)) : Type 0 where
   pub ends : finish_answer (reading_of limits file) ≡ Ok tt
   pub counts : report ≡ report_of (answers_of limits file)
   pub writes : WritesAll limits form file before after
@@ -37,20 +37,20 @@ pub record IsReported (limits : Limits) (form : Form) (report : Report) (file : 
 -- by a fault of the file, once the text of all packets before it is written; by a picture of another size, once the text
 -- before it is written; where a read failed, or the reads ran out, once the text of all packets that were read is written;
 -- where a write failed, or memory is refused, with a front of the text written. Where the reads ran out each gave a byte.
-abbrev pub IsEndedBy : Limits → Form → DecodeFault → Type 0 → List ℕ → Option (List ℕ) → Option (List ℕ) → Type 0
-IsEndedBy limits form (File fault) write_failed file before after =
+abbrev pub IsDecodeEndedBy : Limits → Form → DecodeFault → Type 0 → List ℕ → Option (List ℕ) → Option (List ℕ) → Type 0
+IsDecodeEndedBy limits form (File fault) write_failed file before after =
     (finish_answer (reading_of limits file) ≡ Err fault) × WritesAll limits form file before after
-IsEndedBy limits form SizeChange write_failed file before after =
+IsDecodeEndedBy limits form SizeChange write_failed file before after =
     (changes_size form (pictures_of limits file) ≡ true) × WritesText limits form file before after
-IsEndedBy limits form Device write_failed file before after =
+IsDecodeEndedBy limits form Device write_failed file before after =
     WritesAll limits form file before after ⊎ (write_failed × WritesFront limits form file before after)
-IsEndedBy limits form ReadTurns write_failed file before after =
+IsDecodeEndedBy limits form ReadTurns write_failed file before after =
     (2 ^ 32 - 1 ≤ length file) × WritesAll limits form file before after
-IsEndedBy limits form Memory write_failed file before after = WritesFront limits form file before after
+IsDecodeEndedBy limits form Memory write_failed file before after = WritesFront limits form file before after
 
-abbrev pub IsAnswerFor : Limits → Form → Result Report DecodeFault → Type 0 → List ℕ → Option (List ℕ) → Option (List ℕ) → Type 0
-IsAnswerFor limits form (Ok report) write_failed file before after = IsReported limits form report file before after
-IsAnswerFor limits form (Err fault) write_failed file before after = IsEndedBy limits form fault write_failed file before after
+abbrev pub IsDecodeAnswerFor : Limits → Form → Result Report DecodeFault → Type 0 → List ℕ → Option (List ℕ) → Option (List ℕ) → Type 0
+IsDecodeAnswerFor limits form (Ok report) write_failed file before after = IsDecodeReported limits form report file before after
+IsDecodeAnswerFor limits form (Err fault) write_failed file before after = IsDecodeEndedBy limits form fault write_failed file before after
 
 -- ---- a survey
 

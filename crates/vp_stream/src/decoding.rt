@@ -6,15 +6,15 @@ ghost use Rattle.std.specs.Io.KnownBytes.{Consumes, IsAtEnd};
 ghost use Rattle.vp_base.specs.Counted.{counted_remaining, counted_contents, counted_failures, counted_reads, HasFailed, HasRisenBy};
 ghost use Rattle.vp_ivf.specs.declared.fault.FileFault.{FileFault};
 ghost use Rattle.vp_stream.specs.declared.fault.DecodeFault.{DecodeFault};
-ghost use Rattle.vp_stream.specs.Incoming.{start};
-ghost use Rattle.vp_stream.specs.Progress.{fresh};
-ghost use Rattle.vp_stream.specs.Written.{IsAnswerFor};
+ghost use Rattle.vp_stream.specs.PacketReader.{before_first_read};
+ghost use Rattle.vp_stream.specs.Transcode.{fresh};
+ghost use Rattle.vp_stream.specs.Written.{IsDecodeAnswerFor};
 
 use crate::fault::DecodeFault;
 use crate::form::Form;
 use crate::packet_reader::{Next, PacketReader};
 use crate::report::Report;
-use crate::run::Run;
+use crate::transcode_state::TranscodeState;
 use std::alloc::Global;
 use std::io::{Read, Write};
 use vp_base::{Counted, Limits};
@@ -31,7 +31,7 @@ pub fn decode_all<R: Read, W: Write>(
 ) -> Result<Report, DecodeFault>
     ensures decoded { (file : List ℕ)
         × Consumes (counted_remaining R.remaining reader.old) (counted_remaining R.remaining reader.new) file
-        × IsAnswerFor limits form result (HasFailed (counted_failures writer.old) (counted_failures writer.new)) file
+        × IsDecodeAnswerFor limits form result (HasFailed (counted_failures writer.old) (counted_failures writer.new)) file
         (counted_contents W.contents writer.old) (counted_contents W.contents writer.new) }
 
     // A report, and `Torn`, come only at the reader's end.
@@ -53,7 +53,7 @@ pub fn decode_all<R: Read, W: Write>(
         HasRisenBy (2 ^ 32 - 1) (counted_reads reader.old) (counted_reads reader.new) }
 {
     let mut file = PacketReader::new(alloc, limits);
-    let mut run = Run::new(alloc, limits, form);
+    let mut run = TranscodeState::new(alloc, limits, form);
     decode_packets(&mut file, &mut run, reader, writer)?;
     Ok(run.into_report())
 }
@@ -61,15 +61,15 @@ pub fn decode_all<R: Read, W: Write>(
 // Decodes and writes the packets of a file that nothing was read of yet.
 fn decode_packets<R: Read, W: Write>(
     file: &mut PacketReader,
-    run: &mut Run,
+    run: &mut TranscodeState,
     reader: &mut Counted<R>,
     writer: &mut Counted<W>,
 ) -> Result<(), DecodeFault>
-    requires unread { file.old ≡ start run.old.limits }
+    requires unread { file.old ≡ before_first_read run.old.limits }
     requires fresh { run.old ≡ fresh run.old.limits run.old.sizing.form }
     ensures decoded { (bytes : List ℕ)
         × Consumes (counted_remaining R.remaining reader.old) (counted_remaining R.remaining reader.new) bytes
-        × IsAnswerFor run.old.limits run.old.sizing.form (result_map_both (λ _. run.new.report) (λ fault. fault) result)
+        × IsDecodeAnswerFor run.old.limits run.old.sizing.form (result_map_both (λ _. run.new.report) (λ fault. fault) result)
         (HasFailed (counted_failures writer.old) (counted_failures writer.new)) bytes
         (counted_contents W.contents writer.old) (counted_contents W.contents writer.new) }
     ensures end { OnOk result (IsAtEnd (counted_remaining R.remaining reader.new)) }

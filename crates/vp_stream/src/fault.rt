@@ -1,7 +1,7 @@
 //! Why the work on a file ends early.
 
 ghost use Rattle.std.specs.Prelude.{◌≡◌, Some};
-ghost use Rattle.vp_stream.specs.Names.{name_of};
+ghost use Rattle.vp_stream.specs.Names.{decode_fault_name};
 
 use std::alloc::AllocError;
 use std::fmt;
@@ -26,7 +26,7 @@ pub enum DecodeFault {
 
 /// The fault's name, as it is told.
 impl fmt::Display for DecodeFault {
-    ghost output = { λ fault. Some (name_of fault) };
+    ghost output = { λ fault. Some (decode_fault_name fault) };
 
     fn fmt<W: fmt::Write>(&self, f: &mut fmt::Formatter<W>) -> fmt::Result {
         let name = match self {
@@ -93,7 +93,7 @@ impl From<Device> for Interruption {
 }
 
 impl From<PictureFault> for Interruption {
-    ghost use Rattle.vp_stream.specs.Progress.{interruption_by};
+    ghost use Rattle.vp_stream.specs.Transcode.{interruption_by};
 
     ghost from_gives = { λ f r. r ≡ interruption_by f };
 
@@ -106,9 +106,9 @@ impl From<PictureFault> for Interruption {
 }
 
 impl From<Interruption> for DecodeFault {
-    ghost use Rattle.vp_stream.specs.Progress.{fault_by};
+    ghost use Rattle.vp_stream.specs.Transcode.{decode_fault_of};
 
-    ghost from_gives = { λ i r. r ≡ fault_by i };
+    ghost from_gives = { λ i r. r ≡ decode_fault_of i };
 
     fn from(interruption: Interruption) -> DecodeFault {
         match interruption {
@@ -120,7 +120,7 @@ impl From<Interruption> for DecodeFault {
 }
 
 impl From<SurveyFault> for DecodeFault {
-    ghost use Rattle.vp_stream.specs.Progress.{read_fault_by};
+    ghost use Rattle.vp_stream.specs.Transcode.{read_fault_by};
 
     ghost from_gives = { λ f r. r ≡ read_fault_by f };
 

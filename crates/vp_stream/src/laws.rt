@@ -4,7 +4,7 @@ ghost use Rattle.std.specs.Prelude.{◌≡◌, ◌≢◌, ◌-◌, ◌++◌, ℕ
 ghost use Rattle.vp_base.specs.declared.limits.Limits.{Limits};
 ghost use Rattle.vp_ivf.specs.declared.packet.Packet.{Packet};
 ghost use Rattle.vp_stream.specs.Answers.{reading_of};
-ghost use Rattle.vp_stream.specs.Seeking.{NoPacket, Shown, answer_at, first_of, key_before, size_at};
+ghost use Rattle.vp_stream.specs.Seeking.{NoPacket, Shown, answer_at, seek_start, key_before, size_at};
 
 use vp_decode::key_packet_resets;
 use vp_head::first_byte_says_kind;
@@ -24,7 +24,7 @@ pub fn growing_keeps_answers()
 /// is no key packet.
 pub fn answers_come_from_the_last_key_packet()
     ensures { (limits : Limits) (packets : List Packet) (n : ℕ)
-        → answer_at limits packets n ≡ answer_at limits (drop (first_of packets n) packets) (n - first_of packets n) }
+        → answer_at limits packets n ≡ answer_at limits (drop (seek_start packets n) packets) (n - seek_start packets n) }
 {
     key_packet_resets();
     first_byte_says_kind();

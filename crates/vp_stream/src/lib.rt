@@ -8,12 +8,12 @@ mod form;
 mod laws;
 mod outcomes;
 mod packet_reader;
-mod pictures;
+mod picture_writer;
 mod report;
-mod run;
 mod seeking;
 mod stream;
 mod surveying;
+mod transcode_state;
 
 pub use answer::Answer;
 pub use decoding::decode_all;

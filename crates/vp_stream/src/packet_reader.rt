@@ -7,7 +7,7 @@ ghost use Rattle.vp_base.specs.Counted.{counted_remaining, counted_failures, cou
 ghost use Rattle.vp_ivf.specs.declared.packet.Packet.{Packet};
 ghost use Rattle.vp_ivf.specs.Reader.{refusal};
 ghost use Rattle.vp_stream.specs.declared.fault.SurveyFault.{SurveyFault};
-ghost use Rattle.vp_stream.specs.Incoming.{start, IsReading, HasRead, Gives, CountsReads, Took, next_waiting, without_next};
+ghost use Rattle.vp_stream.specs.PacketReader.{before_first_read, IsReading, HasRead, GivesNext, CountsReads, Took, next_waiting, without_next};
 
 use crate::fault::SurveyFault;
 use std::alloc::Global;
@@ -33,9 +33,9 @@ pub struct PacketReader {
 }
 
 impl Model for PacketReader {
-    ghost use Rattle.vp_stream.specs.Incoming.{Incoming};
+    ghost use Rattle.vp_stream.specs.PacketReader.{PacketReader};
 
-    ghost Value = { Incoming };
+    ghost Value = { PacketReader };
 
     ghost view = { λ a. record { file = a.file; turns = a.turns } };
 }
@@ -43,7 +43,7 @@ impl Model for PacketReader {
 impl PacketReader {
     /// Before the first read.
     pub(crate) fn new(alloc: Global, limits: Limits) -> PacketReader
-        ensures { result ≡ start limits }
+        ensures { result ≡ before_first_read limits }
     {
         PacketReader {
             file: Reader::new(alloc, limits),
@@ -64,7 +64,7 @@ impl PacketReader {
             → IsReading limits self.old fed given
             → (more : List ℕ)
             × Consumes (counted_remaining R.remaining reader.old) (counted_remaining R.remaining reader.new) more
-            × Gives limits result self.new (counted_remaining R.remaining reader.new) (fed ++ more) given }
+            × GivesNext limits result self.new (counted_remaining R.remaining reader.new) (fed ++ more) given }
         ensures device { result ≡ Err SurveyFault.Device →
             HasFailed (counted_failures reader.old) (counted_failures reader.new) }
         ensures quiet { result ≢ Err SurveyFault.Device →

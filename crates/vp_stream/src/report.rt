@@ -70,7 +70,7 @@ pub struct Report {
 }
 
 impl Report {
-    ghost use Rattle.vp_stream.specs.Progress.{with_outcome};
+    ghost use Rattle.vp_stream.specs.Transcode.{with_outcome};
 
     /// The report of no packets.
     pub(crate) fn new(alloc: Global) -> Report

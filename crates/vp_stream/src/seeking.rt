@@ -3,7 +3,7 @@
 ghost use Rattle.std.specs.Prelude.{◌≡◌, ◌+◌, ◌-◌, ◌^◌, ◌<◌, ◌≤◌, ◌++◌, ◌∷◌, [], length, drop, IfOk, OnOk, OnErr, vec_len};
 ghost use Rattle.std.specs.Vec.{vec_capacity};
 ghost use Rattle.vp_decode.specs.Step.{step};
-ghost use Rattle.vp_stream.specs.Seeking.{AreKeys, is_key, key_before, told, told_of, state_after, answer_at};
+ghost use Rattle.vp_stream.specs.Seeking.{AreKeys, is_key, key_before, answer_value, told_of, state_after_packets, answer_at};
 
 use crate::answer::Answer;
 use std::alloc::{AllocError, Global};
@@ -85,7 +85,7 @@ fn decode_each(
     requires { decoded.old + length packets.now < 2 ^ 64 }
     ensures limits { OnOk result (decoder.new.limits ≡ decoder.old.limits) }
     ensures state { OnOk result (decoder.new.state ≡
-        state_after decoder.old.limits decoder.old.state packets.now) }
+        state_after_packets decoder.old.limits decoder.old.state packets.now) }
     ensures count { OnOk result (decoded.new ≡ decoded.old + length packets.now) }
     ensures most { OnErr result (decoded.new ≤ decoded.old + length packets.now) }
 {
@@ -99,7 +99,7 @@ fn decode_each(
 /// Decodes a packet, and gives what it shows.
 fn answer_to(alloc: Global, decoder: &mut Decoder, packet: &[u8]) -> Result<Answer, AllocError>
     ensures { IfOk result (λ a.
-        told a ≡ told_of (step decoder.old.limits decoder.old.state packet.now).1) }
+        answer_value a ≡ told_of (step decoder.old.limits decoder.old.state packet.now).1) }
 {
     let outcome = decoder.decode(packet)?;
     if let Some(picture) = decoder.picture() {
@@ -126,7 +126,7 @@ pub(crate) fn answer_from(
     requires order { first ≤ n }
     requires there { n < length packets.now }
     ensures answer { IfOk result (λ a.
-        told a ≡ answer_at limits (drop first packets.now) (n - first)) }
+        answer_value a ≡ answer_at limits (drop first packets.now) (n - first)) }
     ensures count { OnOk result (decoded.new ≡ n - first + 1) }
     ensures most { OnErr result (decoded.new ≤ n - first + 1) }
 {

@@ -4,8 +4,8 @@ ghost use Rattle.std.specs.Prelude.{◌≡◌, ◌≢◌, ◌<◌, ◌≤◌, le
 ghost use Rattle.vp_ivf.specs.declared.fault.FileFault.{FileFault};
 ghost use Rattle.vp_ivf.specs.Reader.{answer_by, finish_answer, refusal_at};
 ghost use Rattle.vp_stream.specs.Answers.{reading_of};
-ghost use Rattle.vp_stream.specs.Seeking.{IsKeyBefore, key_before, told, answer_at, work_of, counted};
-ghost use Rattle.vp_stream.specs.Stream.{History, StandsFor, fresh, start, refusal, after_piece, after_end, with_piece, with_end, packets_of};
+ghost use Rattle.vp_stream.specs.Seeking.{IsKeyBefore, key_before, answer_value, answer_at, work_of, saturating_count};
+ghost use Rattle.vp_stream.specs.Stream.{StreamHistory, IsStreamAfter, initial_stream, empty_stream_history, stream_refusal, after_piece, stream_after_end, with_piece, with_end, packets_of};
 
 use crate::answer::Answer;
 use crate::laws::answers_come_from_the_last_key_packet;
@@ -28,11 +28,11 @@ pub struct Stream {
 }
 
 impl Model for Stream {
-    ghost use Rattle.vp_stream.specs.Stream.{State, whole, IsKept};
+    ghost use Rattle.vp_stream.specs.Stream.{Stream, with_taken_packets, IsKept};
 
-    ghost Value = { State };
+    ghost Value = { Stream };
 
-    ghost view = { λ a. record { limits = a.limits; reading = whole a.reader a.packets.items; ended = a.reader.ended } };
+    ghost view = { λ a. record { limits = a.limits; reading = with_taken_packets a.reader a.packets.items; ended = a.reader.ended } };
 
     ghost invariant = { λ a. IsKept a.limits a.reader a.packets.items a.keys.items };
 }
@@ -40,8 +40,8 @@ impl Model for Stream {
 impl Stream {
     /// A stream that was fed nothing.
     pub fn new(alloc: Global, limits: Limits) -> Stream
-        ensures state { result ≡ fresh limits }
-        ensures stands { StandsFor result start }
+        ensures state { result ≡ initial_stream limits }
+        ensures stands { IsStreamAfter result empty_stream_history }
     {
         Stream {
             alloc,
@@ -57,17 +57,17 @@ impl Stream {
         ensures limits { self.new.limits ≡ self.old.limits }
 
         // What earlier calls refuse comes first, and changes nothing. Nor does want of memory.
-        ensures refused { (fault : FileFault) → refusal self.old ≡ Some fault →
+        ensures refused { (fault : FileFault) → stream_refusal self.old ≡ Some fault →
             (result ≡ Err (FeedError.Fault fault)) × (self.new ≡ self.old) }
         ensures memory { result ≡ Err FeedError.Memory → self.new ≡ self.old }
 
         // Else the piece is taken, and the answer is the fault that it meets, if it does.
-        ensures answer { refusal self.old ≡ None → result ≢ Err FeedError.Memory →
+        ensures answer { stream_refusal self.old ≡ None → result ≢ Err FeedError.Memory →
             result ≡ answer_by self.new.reading.fault }
-        ensures reading { refusal self.old ≡ None → result ≢ Err FeedError.Memory →
+        ensures reading { stream_refusal self.old ≡ None → result ≢ Err FeedError.Memory →
             self.new ≡ after_piece self.old piece.now }
-        ensures stands { refusal self.old ≡ None → result ≢ Err FeedError.Memory →
-            (h : History) → StandsFor self.old h → StandsFor self.new (with_piece h piece.now) }
+        ensures stands { stream_refusal self.old ≡ None → result ≢ Err FeedError.Memory →
+            (h : StreamHistory) → IsStreamAfter self.old h → IsStreamAfter self.new (with_piece h piece.now) }
     {
         if let Some(fault) = self.reader.refusal() {
             return Err(FeedError::Fault(fault));
@@ -88,19 +88,19 @@ impl Stream {
     pub fn finish(&mut self) -> Result<(), FileFault>
         ensures limits { self.new.limits ≡ self.old.limits }
         ensures answer { result ≡ finish_answer self.old.reading }
-        ensures file { (h : History) → StandsFor self.old h →
+        ensures file { (h : StreamHistory) → IsStreamAfter self.old h →
             result ≡ finish_answer (reading_of self.old.limits h.fed) }
-        ensures state { self.new ≡ after_end self.old }
-        ensures stands { (h : History) → StandsFor self.old h →
-            StandsFor self.new (with_end h self.old.reading.fault) }
+        ensures state { self.new ≡ stream_after_end self.old }
+        ensures stands { (h : StreamHistory) → IsStreamAfter self.old h →
+            IsStreamAfter self.new (with_end h self.old.reading.fault) }
     {
         self.reader.finish()
     }
 
     /// What `feed` would refuse with, whatever the piece: the fault that was met, or `Ended`.
     pub fn refusal(&self) -> Option<FileFault>
-        ensures value { result ≡ refusal self.now }
-        ensures file { (h : History) → StandsFor self.now h →
+        ensures value { result ≡ stream_refusal self.now }
+        ensures file { (h : StreamHistory) → IsStreamAfter self.now h →
             result ≡ refusal_at (reading_of self.now.limits h.fed).fault h.ended }
     {
         self.reader.refusal()
@@ -109,7 +109,7 @@ impl Stream {
     /// What the file's head says, once it is whole and good.
     pub fn head(&self) -> Option<IvfHead>
         ensures value { result ≡ self.now.reading.head }
-        ensures head { (h : History) → StandsFor self.now h →
+        ensures head { (h : StreamHistory) → IsStreamAfter self.now h →
             result ≡ (reading_of self.now.limits h.fed).head }
     {
         self.reader.head()
@@ -118,7 +118,7 @@ impl Stream {
     /// How many packets are whole.
     pub fn count(&self) -> u32
         ensures value { result ≡ length self.now.reading.packets }
-        ensures packets { (h : History) → StandsFor self.now h →
+        ensures packets { (h : StreamHistory) → IsStreamAfter self.now h →
             result ≡ length (packets_of self.now h) }
         ensures limit { result ≤ self.now.limits.packets }
     {
@@ -129,7 +129,7 @@ impl Stream {
     pub fn key_before(&self, n: u32) -> Option<u32>
         ensures value { result ≡ key_before self.now.reading.packets n }
         ensures greatest { IsKeyBefore self.now.reading.packets n result }
-        ensures packets { (h : History) → StandsFor self.now h →
+        ensures packets { (h : StreamHistory) → IsStreamAfter self.now h →
             IsKeyBefore (packets_of self.now h) n result }
     {
         key_of(&self.packets, &self.keys, n)
@@ -138,9 +138,9 @@ impl Stream {
     /// What packet `n` shows. It is decoded from the last key packet before it on, or alone where there is none.
     pub fn picture_at(&self, n: u32) -> Result<Answer, AllocError>
         ensures answer { IfOk result (λ a.
-            told a ≡ answer_at self.now.limits self.now.reading.packets n) }
-        ensures stands { IfOk result (λ a. (h : History) → StandsFor self.now h →
-            told a ≡ answer_at self.now.limits (packets_of self.now h) n) }
+            answer_value a ≡ answer_at self.now.limits self.now.reading.packets n) }
+        ensures stands { IfOk result (λ a. (h : StreamHistory) → IsStreamAfter self.now h →
+            answer_value a ≡ answer_at self.now.limits (packets_of self.now h) n) }
         ensures memory { OnErr result (n < length self.now.reading.packets) }
     {
         let mut work = 0;
@@ -150,15 +150,15 @@ impl Stream {
     /// The same. Adds to `work` how many packets were decoded, which stays at the greatest number.
     pub fn picture_counted(&self, n: u32, work: &mut u64) -> Result<Answer, AllocError>
         ensures answer { IfOk result (λ a.
-            told a ≡ answer_at self.now.limits self.now.reading.packets n) }
-        ensures stands { IfOk result (λ a. (h : History) → StandsFor self.now h →
-            told a ≡ answer_at self.now.limits (packets_of self.now h) n) }
+            answer_value a ≡ answer_at self.now.limits self.now.reading.packets n) }
+        ensures stands { IfOk result (λ a. (h : StreamHistory) → IsStreamAfter self.now h →
+            answer_value a ≡ answer_at self.now.limits (packets_of self.now h) n) }
         ensures memory { OnErr result (n < length self.now.reading.packets) }
 
         // The packets decoded are those from the key packet to n, or n alone. After want of memory they are no more.
-        ensures work { OnOk result (work.new ≡ counted work.old (work_of self.now.reading.packets n)) }
+        ensures work { OnOk result (work.new ≡ saturating_count work.old (work_of self.now.reading.packets n)) }
         ensures most { OnErr result ((work.old ≤ work.new)
-            × (work.new ≤ counted work.old (work_of self.now.reading.packets n))) }
+            × (work.new ≤ saturating_count work.old (work_of self.now.reading.packets n))) }
     {
         let mut decoded = 0;
         let answer = self.decode_to(n, &mut decoded);
@@ -170,7 +170,7 @@ impl Stream {
     fn decode_to(&self, n: u32, decoded: &mut u64) -> Result<Answer, AllocError>
         requires { decoded.old ≡ 0 }
         ensures answer { IfOk result (λ a.
-            told a ≡ answer_at self.now.limits self.now.reading.packets n) }
+            answer_value a ≡ answer_at self.now.limits self.now.reading.packets n) }
         ensures memory { OnErr result (n < length self.now.reading.packets) }
         ensures count { OnOk result (decoded.new ≡ work_of self.now.reading.packets n) }
         ensures most { OnErr result (decoded.new ≤ work_of self.now.reading.packets n) }

@@ -84,10 +84,10 @@ extra_probabilities token_is.Category5 = CATEGORY_5
 extra_probabilities token_is.Category6 = CATEGORY_6
 
 -- how often a place stands in a list
-abbrev pub places : ℕ → List ℕ → ℕ
-places place = count_by (λ x. x == place)
+abbrev pub occurrences : ℕ → List ℕ → ℕ
+occurrences place = count_by (λ x. x == place)
 
 -- the sum of the weights
-abbrev pub weight : List ℤ → ℤ
-weight [] = pos 0
-weight (x ∷ xs) = x +ℤ weight xs
+abbrev pub sum_of_weights : List ℤ → ℤ
+sum_of_weights [] = pos 0
+sum_of_weights (x ∷ xs) = x +ℤ sum_of_weights xs

@@ -1,6 +1,6 @@
 ghost use Rattle.std.specs.Prelude.{◌≡◌, ℕ, ◌<◌, IsTrue, pos, slice_index_or, []};
 ghost use Rattle.vp_tree.specs.Tree.{is_tree};
-ghost use Rattle.vp_tables.specs.Tables.{places, weight};
+ghost use Rattle.vp_tables.specs.Tables.{occurrences, sum_of_weights};
 
 use crate::taps::SIX_TAPS;
 use crate::tokens::ZIGZAG;
@@ -25,10 +25,10 @@ pub fn trees_are_formed()
 
 /// The zigzag meets each place of a block once.
 pub fn zigzag_meets_each_place_once()
-    ensures { (place : ℕ) → place < 16 → places place ZIGZAG ≡ 1 }
+    ensures { (place : ℕ) → place < 16 → occurrences place ZIGZAG ≡ 1 }
 {}
 
 /// The six weights at each eighth of a pixel sum to 128.
 pub fn taps_sum_to_128()
-    ensures { (eighths : ℕ) → eighths < 8 → weight (slice_index_or SIX_TAPS eighths []) ≡ pos 128 }
+    ensures { (eighths : ℕ) → eighths < 8 → sum_of_weights (slice_index_or SIX_TAPS eighths []) ≡ pos 128 }
 {}

@@ -1,11 +1,11 @@
 use crate::modes::{ChromaMode, LumaMode, PartMode, SplitKind, SubMode, Token, VectorMode};
-use vp_tree::Entry::{self, Leaf, Pair};
+use vp_tree::TreeEntry::{self, Leaf, Pair};
 
 /// The tree of a macroblock's segment, 0 to 3 (RFC 6386, chapter 10).
-pub const SEGMENT_TREE: [Entry<u8>; 6] = [Pair(2), Pair(4), Leaf(0), Leaf(1), Leaf(2), Leaf(3)];
+pub const SEGMENT_TREE: [TreeEntry<u8>; 6] = [Pair(2), Pair(4), Leaf(0), Leaf(1), Leaf(2), Leaf(3)];
 
 /// The tree of a luma mode in a key frame (chapter 11.2).
-pub const KEY_LUMA_TREE: [Entry<LumaMode>; 8] = [
+pub const KEY_LUMA_TREE: [TreeEntry<LumaMode>; 8] = [
     Leaf(LumaMode::B),
     Pair(2),
     Pair(4),
@@ -17,7 +17,7 @@ pub const KEY_LUMA_TREE: [Entry<LumaMode>; 8] = [
 ];
 
 /// The tree of an intra macroblock's luma mode in an inter frame (chapter 16.1).
-pub const LUMA_TREE: [Entry<LumaMode>; 8] = [
+pub const LUMA_TREE: [TreeEntry<LumaMode>; 8] = [
     Leaf(LumaMode::Dc),
     Pair(2),
     Pair(4),
@@ -29,7 +29,7 @@ pub const LUMA_TREE: [Entry<LumaMode>; 8] = [
 ];
 
 /// The tree of a chroma mode (chapter 11.4).
-pub const CHROMA_TREE: [Entry<ChromaMode>; 6] = [
+pub const CHROMA_TREE: [TreeEntry<ChromaMode>; 6] = [
     Leaf(ChromaMode::Dc),
     Pair(2),
     Leaf(ChromaMode::V),
@@ -39,7 +39,7 @@ pub const CHROMA_TREE: [Entry<ChromaMode>; 6] = [
 ];
 
 /// The tree of a subblock's mode (chapter 11.2).
-pub const SUB_TREE: [Entry<SubMode>; 18] = [
+pub const SUB_TREE: [TreeEntry<SubMode>; 18] = [
     Leaf(SubMode::Dc),
     Pair(2),
     Leaf(SubMode::Tm),
@@ -61,7 +61,7 @@ pub const SUB_TREE: [Entry<SubMode>; 18] = [
 ];
 
 /// The tree of an inter macroblock's vector mode (chapter 16.3).
-pub const VECTOR_MODE_TREE: [Entry<VectorMode>; 8] = [
+pub const VECTOR_MODE_TREE: [TreeEntry<VectorMode>; 8] = [
     Leaf(VectorMode::Zero),
     Pair(2),
     Leaf(VectorMode::Nearest),
@@ -73,7 +73,7 @@ pub const VECTOR_MODE_TREE: [Entry<VectorMode>; 8] = [
 ];
 
 /// The tree of how a macroblock is parted (chapter 16.4).
-pub const SPLIT_TREE: [Entry<SplitKind>; 6] = [
+pub const SPLIT_TREE: [TreeEntry<SplitKind>; 6] = [
     Leaf(SplitKind::Sixteenths),
     Pair(2),
     Leaf(SplitKind::Quarters),
@@ -83,7 +83,7 @@ pub const SPLIT_TREE: [Entry<SplitKind>; 6] = [
 ];
 
 /// The tree of a part's vector mode (chapter 16.4).
-pub const PART_TREE: [Entry<PartMode>; 6] = [
+pub const PART_TREE: [TreeEntry<PartMode>; 6] = [
     Leaf(PartMode::Left),
     Pair(2),
     Leaf(PartMode::Above),
@@ -93,7 +93,7 @@ pub const PART_TREE: [Entry<PartMode>; 6] = [
 ];
 
 /// The tree of a vector's part below 8 (chapter 17.1).
-pub const SHORT_VECTOR_TREE: [Entry<u8>; 14] = [
+pub const SHORT_VECTOR_TREE: [TreeEntry<u8>; 14] = [
     Pair(2),
     Pair(8),
     Pair(4),
@@ -111,7 +111,7 @@ pub const SHORT_VECTOR_TREE: [Entry<u8>; 14] = [
 ];
 
 /// The tree of a token (chapter 13.2). After a zero token no end can come, and the walk starts at entry 2.
-pub const TOKEN_TREE: [Entry<Token>; 22] = [
+pub const TOKEN_TREE: [TreeEntry<Token>; 22] = [
     Leaf(Token::EndOfBlock),
     Pair(2),
     Leaf(Token::Zero),

@@ -8,7 +8,7 @@ use Rattle.vp_base.specs.declared.near.Near.TheVariants.{Here, There}
 use Rattle.vp_base.specs.Place.{above, left}
 use Rattle.vp_base.specs.Grid.{Grid, look}
 use Rattle.vp_base.specs.Near.{is_same, seen_from}
-use Rattle.vp_tokens.specs.Blocks.{Blocks, unread, flag, Plane, luma, chroma_u, chroma_v, near_had, nearest_y2, token_above, token_left}
+use Rattle.vp_tokens.specs.Blocks.{Blocks, no_blocks_read, flag_at, Plane, luma, chroma_u, chroma_v, near_had, nearest_y2, token_above, token_left}
 use Rattle.vp_tokens.specs.Contexts.{above_flags, left_flags}
 use Rattle.vp_tokens.specs.Flagged.{above_flag, left_flag}
 
@@ -56,20 +56,20 @@ each_block P p0 p1 p2 p3 p4 p5 p6 p7 p8 p9 p10 p11 p12 p13 p14 p15 p16 p17 p18 p
 
 module _ (g : Grid Blocks) (p : Place) (found : List Bool) where
   -- a neighbour in the same macroblock
-  above-inner : (s : Plane) (c r : ℕ) → nat_lt c s.side ≡ true → nat_lt (r + 1) s.side ≡ true → flag found (s.first + (r * s.side + c)) ≡ near_had s g found (seen_from s.side p (above (within s.side p c (r + 1))))
+  above-inner : (s : Plane) (c r : ℕ) → nat_lt c s.side ≡ true → nat_lt (r + 1) s.side ≡ true → flag_at found (s.first + (r * s.side + c)) ≡ near_had s g found (seen_from s.side p (above (within s.side p c (r + 1))))
   unfolding near_had
   above-inner s c r cb rb = sym
       (ap (λ (b : Option Place). near_had s g found (seen_from s.side p b)) (above-next (within s.side p c (r + 1)) (p.row * s.side + r) (omega arith))
       ∙ ap (near_had s g found) (seen-home s.side p c r (ltb-true _ _ cb) (let b : r + 1 < s.side = ltb-true _ _ rb in omega arith)))
 
-  left-inner : (s : Plane) (c r : ℕ) → nat_lt (c + 1) s.side ≡ true → nat_lt r s.side ≡ true → flag found (s.first + (r * s.side + c)) ≡ near_had s g found (seen_from s.side p (left (within s.side p (c + 1) r)))
+  left-inner : (s : Plane) (c r : ℕ) → nat_lt (c + 1) s.side ≡ true → nat_lt r s.side ≡ true → flag_at found (s.first + (r * s.side + c)) ≡ near_had s g found (seen_from s.side p (left (within s.side p (c + 1) r)))
   unfolding near_had
   left-inner s c r cb rb = sym
       (ap (λ (b : Option Place). near_had s g found (seen_from s.side p b)) (left-next (within s.side p (c + 1) r) (p.column * s.side + c) (omega arith))
       ∙ ap (near_had s g found) (seen-home s.side p c r (let b : c + 1 < s.side = ltb-true _ _ cb in omega arith) (ltb-true _ _ rb)))
 
   -- a neighbour in the macroblock above, or to the left; n is one less than the side
-  above-outer : (s : Plane) (c n : ℕ) → s.side ≡ n + 1 → nat_lt c s.side ≡ true → flag (look unread g (above p)).had (s.first + (n * s.side + c)) ≡ near_had s g found (seen_from s.side p (above (within s.side p c 0)))
+  above-outer : (s : Plane) (c n : ℕ) → s.side ≡ n + 1 → nat_lt c s.side ≡ true → flag_at (look no_blocks_read g (above p)).had (s.first + (n * s.side + c)) ≡ near_had s g found (seen_from s.side p (above (within s.side p c 0)))
   unfolding near_had seen_from
   above-outer s c n e t = let cb : c < s.side = ltb-true _ _ t in elim (cases_eq p.row 0) [
     | inl z ↦
@@ -83,7 +83,7 @@ module _ (g : Grid Blocks) (p : Place) (found : List Bool) where
         rw (above-next p q.row up, above-next (within s.side p c 0) (q.row * s.side + n) row, seen-at s.side p q c n cb (omega arith), other) refl
   ]
 
-  left-outer : (s : Plane) (r n : ℕ) → s.side ≡ n + 1 → nat_lt r s.side ≡ true → flag (look unread g (left p)).had (s.first + (r * s.side + n)) ≡ near_had s g found (seen_from s.side p (left (within s.side p 0 r)))
+  left-outer : (s : Plane) (r n : ℕ) → s.side ≡ n + 1 → nat_lt r s.side ≡ true → flag_at (look no_blocks_read g (left p)).had (s.first + (r * s.side + n)) ≡ near_had s g found (seen_from s.side p (left (within s.side p 0 r)))
   unfolding near_had seen_from
   left-outer s r n e t = let rb : r < s.side = ltb-true _ _ t in elim (cases_eq p.column 0) [
     | inl z ↦

@@ -10,9 +10,9 @@ use Rattle.vp_tables.specs.declared.modes.Token.{Token}
 use Rattle.vp_tables.specs.declared.modes.Token.TheVariants.{EndOfBlock}
 use Rattle.vp_tokens.specs.Block.{Block, IsBlock, level_of, no_tokens}
 use Rattle.vp_tokens.specs.declared.block.BlockKind.{BlockKind}
-use Rattle.vp_tokens.specs.Levels.{Probabilities, token, is_end, size, signed, context_after, pair_after, block, bands_of, first_of}
+use Rattle.vp_tokens.specs.Levels.{Probabilities, token, is_end, size, signed_level, context_after, pair_after, coefficient_block, bands_of, first_of}
 use Rattle.vp_tokens.specs.Spelled.{IsSpelledBlock}
-use Rattle.vp_tokens.specs.Written.{front}
+use Rattle.vp_tokens.specs.Written.{padded_prefix}
 use Rattle.vp_tokens.proofs.FrontLemmas.{front-more, front-all, front-none}
 use Rattle.vp_tokens.proofs.LevelLemmas.{tokens_from, tokens_from-block}
 
@@ -25,7 +25,7 @@ module _ (bands : List (List (List ℕ))) where
       rw k (Writes-then _ w (Continues-none _ _))
 
   pub level_written : (i context from n : ℕ) (t : Token) (z : ℤ) (b : Block) {old mid later new : Interval} → i < 16 → is_end t ≡ false
-      → Writes (token bands i context from) old mid t → Writes (size t) mid later n → Writes (signed n) later new z
+      → Writes (token bands i context from) old mid t → Writes (size t) mid later n → Writes (signed_level n) later new z
       → Continues (tokens_from bands (16 - i) i context from b)
       (tokens_from bands (16 - (i + 1)) (i + 1) (context_after n) (pair_after n) (record { levels = slice_set b.levels i z; tokens = i + 1 })) old new
   unfolding tokens_from
@@ -40,14 +40,14 @@ module _ (bands : List (List (List ℕ))) where
       rw k (Continues-none _ _)
 
 pub block_begun : (p : Probabilities) (kind : BlockKind) (context : ℕ) (old : Interval)
-    → Continues (block p kind context) (tokens_from (bands_of p kind) (16 - first_of kind) (first_of kind) context 0 no_tokens) old old
+    → Continues (coefficient_block p kind context) (tokens_from (bands_of p kind) (16 - first_of kind) (first_of kind) context 0 no_tokens) old old
 block_begun p kind context old = Continues-same (λ s. sym (tokens_from-block p kind context s)) old
 
 -- ---- the block so far
 
 -- what is told of a block before position i
 unfoldable pub so_far : ℕ → ℕ → Block → Block
-so_far first i b = record { levels = front (pos 0) i b.levels; tokens = (if nat_lt first i then i else 0) }
+so_far first i b = record { levels = padded_prefix (pos 0) i b.levels; tokens = (if nat_lt first i then i else 0) }
 
 pub so_far-none : (kind : BlockKind) (b : Block) → length b.levels ≡ 16 → IsSpelledBlock kind b → so_far (first_of kind) (first_of kind) b ≡ no_tokens
 unfolding so_far
@@ -93,7 +93,7 @@ not_last kind b i spelled lt none small = elim (cases_lt (i + 1) b.tokens) [
   | inl more ↦ more
   | inr le ↦
       let at : b.tokens - 1 ≡ i = omega arith in
-      absurd (spelled.ended (omega arith) (omega arith) (rw at (abs_zero (level_of b i) none)))
+      absurd (spelled.end_of_block (omega arith) (omega arith) (rw at (abs_zero (level_of b i) none)))
 ]
 
 pub start_next : (n from : ℕ) {P : Type 0} → from ≡ pair_after n → (n ≡ 0 → P) → (from ≡ 0) ⊎ ((from ≡ 2) × P)

@@ -10,8 +10,8 @@ use Rattle.vp_tokens.specs.declared.block.BlockKind.{BlockKind}
 use Rattle.vp_tokens.specs.declared.block.BlockKind.TheVariants as kind_is
 use Rattle.vp_tokens.specs.declared.macroblock.TheConstants.{ABOVE, LEFT}
 use Rattle.vp_tokens.specs.Block.{Block, has_token, no_tokens}
-use Rattle.vp_tokens.specs.Levels.{Probabilities, bands_of, first_of, block}
-use Rattle.vp_tokens.specs.Blocks.{flag, had_of, is_there, both, kind_of, y2_or, block_at, no_blocks}
+use Rattle.vp_tokens.specs.Levels.{Probabilities, bands_of, first_of, coefficient_block}
+use Rattle.vp_tokens.specs.Blocks.{flag_at, had_of, is_there, true_count, kind_of, y2_or, block_at, no_blocks}
 use Rattle.vp_tokens.specs.Contexts.{lowest, rightmost}
 use Rattle.vp_tokens.specs.Flagged.{above_flag, left_flag, by_flags}
 use Rattle.vp_tokens.specs.Placed.{Reading, banded, placed, plane, all_placed}
@@ -21,9 +21,9 @@ use Rattle.vp_tokens.proofs.Around.{each_block}
 abbrev flags_at : List ℕ → Bool → List Bool → List Bool → ℕ → List Bool
 flags_at places has_y2 start had zero = start
 flags_at places has_y2 start had (suc k) =
-    if is_there has_y2 k then slice_set (flags_at places has_y2 start had k) (slice_index places k) (flag had k) else flags_at places has_y2 start had k
+    if is_there has_y2 k then slice_set (flags_at places has_y2 start had k) (slice_index places k) (flag_at had k) else flags_at places has_y2 start had k
 
-flags-same : (places : List ℕ) (has_y2 : Bool) (start had had' : List Bool) (k : ℕ) → ((j : ℕ) → j < k → flag had j ≡ flag had' j) → flags_at places has_y2 start had k ≡ flags_at places has_y2 start had' k
+flags-same : (places : List ℕ) (has_y2 : Bool) (start had had' : List Bool) (k : ℕ) → ((j : ℕ) → j < k → flag_at had j ≡ flag_at had' j) → flags_at places has_y2 start had k ≡ flags_at places has_y2 start had' k
 flags-same places has_y2 start had had' zero e = refl
 flags-same places has_y2 start had had' (suc k) e =
     rw (flags-same places has_y2 start had had' k (λ j l. e j (omega arith)), e k (omega arith)) refl
@@ -32,30 +32,30 @@ module _ (a b c d e f g h i : Bool) (had : List Bool) where
   abbrev start : List Bool
   start = a ∷ b ∷ c ∷ d ∷ e ∷ f ∷ g ∷ h ∷ i ∷ []
 
-  above-at : (has_y2 : Bool) (k : ℕ) → k < 25 → is_there has_y2 k ≡ true → flag (flags_at ABOVE has_y2 start had k) (slice_index ABOVE k) ≡ above_flag start had k
+  above-at : (has_y2 : Bool) (k : ℕ) → k < 25 → is_there has_y2 k ≡ true → flag_at (flags_at ABOVE has_y2 start had k) (slice_index ABOVE k) ≡ above_flag start had k
   unfolding above_flag
-  above-at true = each_block (λ (k : ℕ). is_there true k ≡ true → flag (flags_at ABOVE true start had k) (slice_index ABOVE k) ≡ above_flag start had k)
+  above-at true = each_block (λ (k : ℕ). is_there true k ≡ true → flag_at (flags_at ABOVE true start had k) (slice_index ABOVE k) ≡ above_flag start had k)
       (λ t. refl) (λ t. refl) (λ t. refl) (λ t. refl) (λ t. refl) (λ t. refl) (λ t. refl) (λ t. refl) (λ t. refl) (λ t. refl) (λ t. refl) (λ t. refl) (λ t. refl) (λ t. refl) (λ t. refl) (λ t. refl) (λ t. refl) (λ t. refl) (λ t. refl) (λ t. refl) (λ t. refl) (λ t. refl) (λ t. refl) (λ t. refl) (λ t. refl)
-  above-at false = each_block (λ (k : ℕ). is_there false k ≡ true → flag (flags_at ABOVE false start had k) (slice_index ABOVE k) ≡ above_flag start had k)
+  above-at false = each_block (λ (k : ℕ). is_there false k ≡ true → flag_at (flags_at ABOVE false start had k) (slice_index ABOVE k) ≡ above_flag start had k)
       (λ t. refl) (λ t. refl) (λ t. refl) (λ t. refl) (λ t. refl) (λ t. refl) (λ t. refl) (λ t. refl) (λ t. refl) (λ t. refl) (λ t. refl) (λ t. refl) (λ t. refl) (λ t. refl) (λ t. refl) (λ t. refl) (λ t. refl) (λ t. refl) (λ t. refl) (λ t. refl) (λ t. refl) (λ t. refl) (λ t. refl) (λ t. refl) (λ t. refl)
 
-  above-end : (has_y2 : Bool) → flags_at ABOVE has_y2 start had 25 ≡ lowest had (y2_or (record { has_y2 = has_y2; had = had }) (flag start 8))
+  above-end : (has_y2 : Bool) → flags_at ABOVE has_y2 start had 25 ≡ lowest had (y2_or (record { has_y2 = has_y2; had = had }) (flag_at start 8))
   above-end true = refl
   above-end false = refl
 
-  left-at : (has_y2 : Bool) (k : ℕ) → k < 25 → is_there has_y2 k ≡ true → flag (flags_at LEFT has_y2 start had k) (slice_index LEFT k) ≡ left_flag start had k
+  left-at : (has_y2 : Bool) (k : ℕ) → k < 25 → is_there has_y2 k ≡ true → flag_at (flags_at LEFT has_y2 start had k) (slice_index LEFT k) ≡ left_flag start had k
   unfolding left_flag
-  left-at true = each_block (λ (k : ℕ). is_there true k ≡ true → flag (flags_at LEFT true start had k) (slice_index LEFT k) ≡ left_flag start had k)
+  left-at true = each_block (λ (k : ℕ). is_there true k ≡ true → flag_at (flags_at LEFT true start had k) (slice_index LEFT k) ≡ left_flag start had k)
       (λ t. refl) (λ t. refl) (λ t. refl) (λ t. refl) (λ t. refl) (λ t. refl) (λ t. refl) (λ t. refl) (λ t. refl) (λ t. refl) (λ t. refl) (λ t. refl) (λ t. refl) (λ t. refl) (λ t. refl) (λ t. refl) (λ t. refl) (λ t. refl) (λ t. refl) (λ t. refl) (λ t. refl) (λ t. refl) (λ t. refl) (λ t. refl) (λ t. refl)
-  left-at false = each_block (λ (k : ℕ). is_there false k ≡ true → flag (flags_at LEFT false start had k) (slice_index LEFT k) ≡ left_flag start had k)
+  left-at false = each_block (λ (k : ℕ). is_there false k ≡ true → flag_at (flags_at LEFT false start had k) (slice_index LEFT k) ≡ left_flag start had k)
       (λ t. refl) (λ t. refl) (λ t. refl) (λ t. refl) (λ t. refl) (λ t. refl) (λ t. refl) (λ t. refl) (λ t. refl) (λ t. refl) (λ t. refl) (λ t. refl) (λ t. refl) (λ t. refl) (λ t. refl) (λ t. refl) (λ t. refl) (λ t. refl) (λ t. refl) (λ t. refl) (λ t. refl) (λ t. refl) (λ t. refl) (λ t. refl) (λ t. refl)
 
-  left-end : (has_y2 : Bool) → flags_at LEFT has_y2 start had 25 ≡ rightmost had (y2_or (record { has_y2 = has_y2; had = had }) (flag start 8))
+  left-end : (has_y2 : Bool) → flags_at LEFT has_y2 start had 25 ≡ rightmost had (y2_or (record { has_y2 = has_y2; had = had }) (flag_at start 8))
   left-end true = refl
   left-end false = refl
 
 nine : List Bool → List Bool
-nine xs = flag xs 0 ∷ flag xs 1 ∷ flag xs 2 ∷ flag xs 3 ∷ flag xs 4 ∷ flag xs 5 ∷ flag xs 6 ∷ flag xs 7 ∷ flag xs 8 ∷ []
+nine xs = flag_at xs 0 ∷ flag_at xs 1 ∷ flag_at xs 2 ∷ flag_at xs 3 ∷ flag_at xs 4 ∷ flag_at xs 5 ∷ flag_at xs 6 ∷ flag_at xs 7 ∷ flag_at xs 8 ∷ []
 
 nine-is : (xs : List Bool) → length xs ≡ 9 → nine xs ≡ xs
 unfolding nine
@@ -72,39 +72,39 @@ nine-is (a ∷ (b ∷ (c ∷ (d ∷ (f ∷ (g ∷ (h ∷ (i ∷ (j ∷ [])))))))
 nine-is (a ∷ (b ∷ (c ∷ (d ∷ (f ∷ (g ∷ (h ∷ (i ∷ (j ∷ (k ∷ xs)))))))))) e = absurd (omega arith)
 
 module _ (xs had : List Bool) (has_y2 : Bool) (whole : length xs ≡ 9) where
-  above-is : (k : ℕ) → k < 25 → is_there has_y2 k ≡ true → flag (flags_at ABOVE has_y2 xs had k) (slice_index ABOVE k) ≡ above_flag xs had k
+  above-is : (k : ℕ) → k < 25 → is_there has_y2 k ≡ true → flag_at (flags_at ABOVE has_y2 xs had k) (slice_index ABOVE k) ≡ above_flag xs had k
   unfolding nine
   above-is k lt t =
-      let P : List Bool → Type 0 = λ zs. flag (flags_at ABOVE has_y2 zs had k) (slice_index ABOVE k) ≡ above_flag zs had k in
+      let P : List Bool → Type 0 = λ zs. flag_at (flags_at ABOVE has_y2 zs had k) (slice_index ABOVE k) ≡ above_flag zs had k in
       subst P (nine-is xs whole) (above-at _ _ _ _ _ _ _ _ _ had has_y2 k lt t)
 
-  left-is : (k : ℕ) → k < 25 → is_there has_y2 k ≡ true → flag (flags_at LEFT has_y2 xs had k) (slice_index LEFT k) ≡ left_flag xs had k
+  left-is : (k : ℕ) → k < 25 → is_there has_y2 k ≡ true → flag_at (flags_at LEFT has_y2 xs had k) (slice_index LEFT k) ≡ left_flag xs had k
   unfolding nine
   left-is k lt t =
-      let P : List Bool → Type 0 = λ zs. flag (flags_at LEFT has_y2 zs had k) (slice_index LEFT k) ≡ left_flag zs had k in
+      let P : List Bool → Type 0 = λ zs. flag_at (flags_at LEFT has_y2 zs had k) (slice_index LEFT k) ≡ left_flag zs had k in
       subst P (nine-is xs whole) (left-at _ _ _ _ _ _ _ _ _ had has_y2 k lt t)
 
-  lowest-is : flags_at ABOVE has_y2 xs had 25 ≡ lowest had (y2_or (record { has_y2 = has_y2; had = had }) (flag xs 8))
+  lowest-is : flags_at ABOVE has_y2 xs had 25 ≡ lowest had (y2_or (record { has_y2 = has_y2; had = had }) (flag_at xs 8))
   unfolding nine
   lowest-is =
-      let P : List Bool → Type 0 = λ zs. flags_at ABOVE has_y2 zs had 25 ≡ lowest had (y2_or (record { has_y2 = has_y2; had = had }) (flag zs 8)) in
+      let P : List Bool → Type 0 = λ zs. flags_at ABOVE has_y2 zs had 25 ≡ lowest had (y2_or (record { has_y2 = has_y2; had = had }) (flag_at zs 8)) in
       subst P (nine-is xs whole) (above-end _ _ _ _ _ _ _ _ _ had has_y2)
 
-  rightmost-is : flags_at LEFT has_y2 xs had 25 ≡ rightmost had (y2_or (record { has_y2 = has_y2; had = had }) (flag xs 8))
+  rightmost-is : flags_at LEFT has_y2 xs had 25 ≡ rightmost had (y2_or (record { has_y2 = has_y2; had = had }) (flag_at xs 8))
   unfolding nine
   rightmost-is =
-      let P : List Bool → Type 0 = λ zs. flags_at LEFT has_y2 zs had 25 ≡ rightmost had (y2_or (record { has_y2 = has_y2; had = had }) (flag zs 8)) in
+      let P : List Bool → Type 0 = λ zs. flags_at LEFT has_y2 zs had 25 ≡ rightmost had (y2_or (record { has_y2 = has_y2; had = had }) (flag_at zs 8)) in
       subst P (nine-is xs whole) (left-end _ _ _ _ _ _ _ _ _ had has_y2)
 
 -- ---- one block more
 
-had-kept : (xs : List Block) (k j : ℕ) (b : Block) → j < k → flag (had_of xs) j ≡ flag (had_of (slice_set xs k b)) j
+had-kept : (xs : List Block) (k j : ℕ) (b : Block) → j < k → flag_at (had_of xs) j ≡ flag_at (had_of (slice_set xs k b)) j
 had-kept [] k j b lt = refl
 had-kept (x ∷ xs) zero j b lt = absurd (omega arith)
 had-kept (x ∷ xs) (suc k) zero b lt = refl
 had-kept (x ∷ xs) (suc k) (suc j) b lt = had-kept xs k j b (omega arith)
 
-had-here : (xs : List Block) (k : ℕ) (b : Block) → k < length xs → flag (had_of (slice_set xs k b)) k ≡ has_token b
+had-here : (xs : List Block) (k : ℕ) (b : Block) → k < length xs → flag_at (had_of (slice_set xs k b)) k ≡ has_token b
 had-here [] k b lt = absurd (omega arith)
 had-here (x ∷ xs) zero b lt = refl
 had-here (x ∷ xs) (suc k) b lt = had-here xs k b (omega arith)
@@ -146,16 +146,16 @@ module _ (p : Probabilities) (has_y2 : Bool) (a l : List Bool) (wide : length a 
 
   read-next : (kind : BlockKind) (k : ℕ) (r : Reading) (u : State) → k < 25 → is_there has_y2 k ≡ true → kind_of has_y2 k ≡ kind → IsRead p has_y2 a l s k r u
       → IsRead p has_y2 a l s (k + 1) (placed (bands_of p kind) (first_of kind) k r u).0 (placed (bands_of p kind) (first_of kind) k r u).1
-  unfolding placed bind block_at block banded
+  unfolding placed bind block_at coefficient_block banded
   read-next kind k r u lt t e v =
-      let x : flag r.above (slice_index ABOVE k) ≡ above_flag a (had_of r.blocks) k = ap (λ (z : List Bool). flag z (slice_index ABOVE k)) v.above ∙ above-is a (had_of r.blocks) has_y2 wide k lt t in
-      let y : flag r.left (slice_index LEFT k) ≡ left_flag l (had_of r.blocks) k = ap (λ (z : List Bool). flag z (slice_index LEFT k)) v.left ∙ left-is l (had_of r.blocks) has_y2 high k lt t in
-      let n : by_flags a l (had_of r.blocks) k ≡ both (flag r.above (slice_index ABOVE k)) (flag r.left (slice_index LEFT k)) = λ i. both (sym x i) (sym y i) in
-      let b = block p kind (both (flag r.above (slice_index ABOVE k)) (flag r.left (slice_index LEFT k))) u in
+      let x : flag_at r.above (slice_index ABOVE k) ≡ above_flag a (had_of r.blocks) k = ap (λ (z : List Bool). flag_at z (slice_index ABOVE k)) v.above ∙ above-is a (had_of r.blocks) has_y2 wide k lt t in
+      let y : flag_at r.left (slice_index LEFT k) ≡ left_flag l (had_of r.blocks) k = ap (λ (z : List Bool). flag_at z (slice_index LEFT k)) v.left ∙ left-is l (had_of r.blocks) has_y2 high k lt t in
+      let n : by_flags a l (had_of r.blocks) k ≡ true_count (flag_at r.above (slice_index ABOVE k)) (flag_at r.left (slice_index LEFT k)) = λ i. true_count (sym x i) (sym y i) in
+      let b = coefficient_block p kind (true_count (flag_at r.above (slice_index ABOVE k)) (flag_at r.left (slice_index LEFT k))) u in
       let inside : k < length r.blocks = let w = v.whole in omega arith in
       record {
         so_far = rows-more k (block_at p has_y2 (by_flags a l)) no_blocks r.blocks (slice_set r.blocks k b.0) s u b.1 v.so_far
-            (when-true (is_there has_y2 k) _ r.blocks u t ∙ (λ i. (slice_set r.blocks k (block p (e i) (n i) u).0, (block p (e i) (n i) u).1)));
+            (when-true (is_there has_y2 k) _ r.blocks u t ∙ (λ i. (slice_set r.blocks k (coefficient_block p (e i) (n i) u).0, (coefficient_block p (e i) (n i) u).1)));
         above = flags-next ABOVE has_y2 a r.blocks k b.0 r.above inside t v.above;
         left = flags-next LEFT has_y2 l r.blocks k b.0 r.left inside t v.left;
         whole = length-set r.blocks k b.0 ∙ v.whole;
@@ -203,11 +203,11 @@ read-all p false r s wide high e =
 
 -- the flags behind the last block
 pub above-read : (p : Probabilities) (has_y2 : Bool) (a l : List Bool) (s : State) (r : Reading) (u : State) → length a ≡ 9 → IsRead p has_y2 a l s 25 r u
-    → r.above ≡ lowest (had_of r.blocks) (y2_or (record { has_y2 = has_y2; had = had_of r.blocks }) (flag a 8))
+    → r.above ≡ lowest (had_of r.blocks) (y2_or (record { has_y2 = has_y2; had = had_of r.blocks }) (flag_at a 8))
 above-read p has_y2 a l s r u wide v = v.above ∙ lowest-is a (had_of r.blocks) has_y2 wide
 
 pub left-read : (p : Probabilities) (has_y2 : Bool) (a l : List Bool) (s : State) (r : Reading) (u : State) → length l ≡ 9 → IsRead p has_y2 a l s 25 r u
-    → r.left ≡ rightmost (had_of r.blocks) (y2_or (record { has_y2 = has_y2; had = had_of r.blocks }) (flag l 8))
+    → r.left ≡ rightmost (had_of r.blocks) (y2_or (record { has_y2 = has_y2; had = had_of r.blocks }) (flag_at l 8))
 left-read p has_y2 a l s r u high v = v.left ∙ rightmost-is l (had_of r.blocks) has_y2 high
 
 -- ---- what the code does

@@ -11,8 +11,8 @@ use Rattle.vp_bool.specs.Intervals.{Interval}
 use Rattle.vp_bool.specs.Writing.{Writes}
 use Rattle.vp_bool.proofs.WritingLemmas.{Writes-then, Continues-none, Continues-given}
 use Rattle.vp_tokens.specs.Block.{Block, IsBlock, has_token, no_tokens}
-use Rattle.vp_tokens.specs.Levels.{Probabilities, block}
-use Rattle.vp_tokens.specs.Blocks.{Blocks, flag, had_of, both, kind_of, is_there, block_at, all_blocks, no_blocks, macroblock}
+use Rattle.vp_tokens.specs.Levels.{Probabilities, coefficient_block}
+use Rattle.vp_tokens.specs.Blocks.{Blocks, flag_at, had_of, true_count, kind_of, is_there, block_at, all_blocks, no_blocks, macroblock}
 use Rattle.vp_tokens.specs.declared.contexts.Tokens.{Tokens}
 use Rattle.vp_tokens.specs.Contexts.{above_flags, left_flags}
 use Rattle.vp_tokens.specs.Flagged.{above_flag, left_flag, by_flags}
@@ -22,28 +22,28 @@ use Rattle.vp_tokens.proofs.FrontLemmas.{front-more, front-all, front-none}
 
 -- ---- a block's context is known from the blocks before it
 
-above-before : (above had other : List Bool) (k : ℕ) → ((j : ℕ) → j < k → flag had j ≡ flag other j) → above_flag above had k ≡ above_flag above other k
+above-before : (above had other : List Bool) (k : ℕ) → ((j : ℕ) → j < k → flag_at had j ≡ flag_at other j) → above_flag above had k ≡ above_flag above other k
 unfolding above_flag
 above-before above had other k same = elim (cases_eq k 0) [
   | inl z ↦ rw z refl
   | inr some ↦ rw (same (k - 4) (omega arith), same (k - 2) (omega arith)) refl
 ]
 
-left-before : (left had other : List Bool) (k : ℕ) → ((j : ℕ) → j < k → flag had j ≡ flag other j) → left_flag left had k ≡ left_flag left other k
+left-before : (left had other : List Bool) (k : ℕ) → ((j : ℕ) → j < k → flag_at had j ≡ flag_at other j) → left_flag left had k ≡ left_flag left other k
 unfolding left_flag
 left-before left had other k same = elim (cases_eq k 0) [
   | inl z ↦ rw z refl
   | inr some ↦ rw (same (k - 1) (omega arith)) refl
 ]
 
-had-front : (k : ℕ) (blocks : List Block) (j : ℕ) → j < k → flag (had_of (front_blocks k blocks)) j ≡ flag (had_of blocks) j
+had-front : (k : ℕ) (blocks : List Block) (j : ℕ) → j < k → flag_at (had_of (front_blocks k blocks)) j ≡ flag_at (had_of blocks) j
 had-front k [] j h = refl
 had-front zero (x ∷ xs) j h = absurd (omega arith)
 had-front (suc k) (x ∷ xs) zero h = refl
 had-front (suc k) (x ∷ xs) (suc j) h = had-front k xs j (omega arith)
 
 context-front : (above left : List Bool) (k : ℕ) (blocks : List Block)
-    → by_flags above left (had_of (front_blocks k blocks)) k ≡ both (above_flag above (had_of blocks) k) (left_flag left (had_of blocks) k)
+    → by_flags above left (had_of (front_blocks k blocks)) k ≡ true_count (above_flag above (had_of blocks) k) (left_flag left (had_of blocks) k)
 context-front above left k blocks =
     rw (
       above-before above (had_of (front_blocks k blocks)) (had_of blocks) k (had-front k blocks),
@@ -62,8 +62,8 @@ there_with has_y2 (suc k) h = refl
 
 module _ (p : Probabilities) (has_y2 : Bool) (above left : List Bool) where
   pub block_written : (k n : ℕ) (blocks : List Block) (b : Block) {old new : Interval} → k < length blocks → is_there has_y2 k ≡ true
-      → n ≡ both (above_flag above (had_of blocks) k) (left_flag left (had_of blocks) k) → b ≡ get_or blocks k no_tokens
-      → Writes (block p (kind_of has_y2 k) n) old new b → Writes (block_at p has_y2 (by_flags above left) k (front_blocks k blocks)) old new (front_blocks (k + 1) blocks)
+      → n ≡ true_count (above_flag above (had_of blocks) k) (left_flag left (had_of blocks) k) → b ≡ get_or blocks k no_tokens
+      → Writes (coefficient_block p (kind_of has_y2 k) n) old new b → Writes (block_at p has_y2 (by_flags above left) k (front_blocks k blocks)) old new (front_blocks (k + 1) blocks)
   unfolding block_at
   block_written k n blocks b lt there e same w =
       let n' = e ∙ sym (context-front above left k blocks) in

@@ -7,7 +7,7 @@ use Rattle.std.proofs.lemmas.List.Concat.{flat_map-append}
 use Rattle.std.proofs.lemmas.Bool.{cases_lt}
 use Rattle.byteorder.specs.Numbers.{little_number-reads_back}
 use Rattle.vp_head.specs.declared.fault.PacketFault.{PacketFault}
-use Rattle.vp_tokens.specs.Partitions.{size, start, end, partition, partitions, cut_of, lists, size_bytes, AreBelow24Bits}
+use Rattle.vp_tokens.specs.Partitions.{partition_size, partition_start, end, partition, partitions, cut_of, lists, size_bytes, AreBelow24Bits}
 use Rattle.vp_tokens.proofs.PartitionLemmas.{end-inner, end-last, cut_all}
 
 abbrev pub joined : List (List ℕ) → List ℕ
@@ -30,8 +30,8 @@ table-from (p ∷ ps) rest (suc i) h =
     let more : suc i + 1 ≡ suc (i + 1) = omega arith in
     rw (far, more) (table-from ps rest i (omega arith))
 
-size-is : (ps : List (List ℕ)) (rest : List ℕ) (i : ℕ) → AreBelow24Bits ps → i < length ps → size (table ps ++ rest) i ≡ length (get_or ps i [])
-unfolding size
+size-is : (ps : List (List ℕ)) (rest : List ℕ) (i : ℕ) → AreBelow24Bits ps → i < length ps → partition_size (table ps ++ rest) i ≡ length (get_or ps i [])
+unfolding partition_size
 size-is ps rest i small h =
     let low = small i in
     rw (table-from ps rest i h) (little_number-reads_back 3 (length (get_or ps i [])) (table (drop (i + 1) ps) ++ rest) (omega arith))
@@ -63,8 +63,8 @@ module _ (ps : List (List ℕ)) (some : 0 < length ps) (small : AreBelow24Bits (
   length-sizes : length sizes ≡ length ps - 1
   length-sizes = length-take-le (length ps - 1) ps (omega arith)
 
-  start-is : (i : ℕ) → i < length ps → start put (length ps) i ≡ length (table sizes) + length (joined (take i ps))
-  unfolding start
+  start-is : (i : ℕ) → i < length ps → partition_start put (length ps) i ≡ length (table sizes) + length (joined (take i ps))
+  unfolding partition_start
   start-is zero h = let e = length-table sizes in let f = length-sizes in omega arith
   start-is (suc i) h =
       let before = start-is i (omega arith) in
@@ -87,10 +87,10 @@ module _ (ps : List (List ℕ)) (some : 0 < length ps) (small : AreBelow24Bits (
       let back = joined (drop (i + 1) ps) in
       let split : put ≡ front ++ (part ++ back) = ap (λ (l : List ℕ). table sizes ++ l) (joined-split ps i h) ∙ sym (append_assoc (table sizes) (joined (take i ps)) (part ++ back)) in
       let wide : length front ≡ length (table sizes) + length (joined (take i ps)) = length-append (table sizes) (joined (take i ps)) in
-      let from : start put (length ps) i ≡ length front = start-is i h ∙ sym wide in
+      let from : partition_start put (length ps) i ≡ length front = start-is i h ∙ sym wide in
       let to : end put (length ps) i ≡ length front + length part = end-is i h ∙ (let longer = length-more ps i h in omega arith) in
-      ap (λ (b : List ℕ). take (end put (length ps) i - start put (length ps) i) (drop (start put (length ps) i) b)) split
-      ∙ between_is front part back (start put (length ps) i) (end put (length ps) i) from to
+      ap (λ (b : List ℕ). take (end put (length ps) i - partition_start put (length ps) i) (drop (partition_start put (length ps) i) b)) split
+      ∙ between_is front part back (partition_start put (length ps) i) (end put (length ps) i) from to
 
   partitions-are : (k : ℕ) → k ≤ length ps → partitions put (length ps) k ≡ take k ps
   unfolding partitions

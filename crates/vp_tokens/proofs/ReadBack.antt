@@ -5,8 +5,8 @@ use Rattle.std.specs.Int.{from_bool}
 use Rattle.std.proofs.lemmas.Bool.{cases_lt, cases_eq}
 use Rattle.vp_bool.specs.Bools.{State, read}
 use Rattle.vp_bool.specs.Reader as reader
-use Rattle.vp_tree.specs.declared.entry.Entry.{Entry}
-use Rattle.vp_tree.specs.declared.entry.Entry.TheVariants.{Leaf, Pair}
+use Rattle.vp_tree.specs.declared.entry.TreeEntry.{TreeEntry}
+use Rattle.vp_tree.specs.declared.entry.TreeEntry.TheVariants.{Leaf, Pair}
 use Rattle.vp_tree.specs.Tree.{leaves_pass, next, walk, walk_from}
 use Rattle.vp_tree.proofs.Walks.{and_left, and_right, further}
 use Rattle.vp_tree.proofs.Paths.{walk_leads, one_leaf}
@@ -16,7 +16,7 @@ use Rattle.vp_tables.specs.declared.trees.TheConstants.{TOKEN_TREE}
 use Rattle.std.proofs.lemmas.List.{get_or_append_left, get_or-append-add, get_or-set_same, get_or-set_other, set_past, length-replicate}
 use Rattle.vp_tokens.specs.declared.block.BlockKind.{BlockKind}
 use Rattle.vp_tokens.specs.Block.{Block, no_tokens}
-use Rattle.vp_tokens.specs.Levels.{Probabilities, bands_of, first_of, token, is_end, row, size, signed, levels, context_after, pair_after, block_with, block}
+use Rattle.vp_tokens.specs.Levels.{Probabilities, bands_of, first_of, token, is_end, row, size, signed_level, levels, context_after, pair_after, block_with, coefficient_block}
 use Rattle.vp_tokens.specs.Blocks.{had_of, kind_of, is_there, block_at, all_blocks, no_blocks}
 use Rattle.vp_tokens.specs.Spelled.{IsSpelledBlock, AreSpelled}
 use Rattle.vp_tokens.proofs.LevelLemmas.{length-levels, first_small}
@@ -26,7 +26,7 @@ use Rattle.vp_tokens.proofs.LevelLemmas.{length-levels, first_small}
 abbrev goes_on : Token → Bool
 goes_on t = not (is_end t)
 
-leaf_passes_at : (t : List (Entry Token)) (k : ℕ) (x : Token) → leaves_pass goes_on t ≡ true → slice_get t k ≡ Some (Leaf x) → goes_on x ≡ true
+leaf_passes_at : (t : List (TreeEntry Token)) (k : ℕ) (x : Token) → leaves_pass goes_on t ≡ true → slice_get t k ≡ Some (Leaf x) → goes_on x ≡ true
 leaf_passes_at [] k x h e = absurd cc
 leaf_passes_at (Leaf y ∷ es) zero x h e =
     let same : y ≡ x = cc in
@@ -41,7 +41,7 @@ leaf_behind zero x h e = absurd (omega arith)
 leaf_behind (suc zero) x h e = absurd (omega arith)
 leaf_behind (suc (suc k)) x h e = leaf_passes_at (drop 2 TOKEN_TREE) k x refl e
 
-next_goes : (f : ℕ → reader.Reader Token) (k : ℕ) (o : Option (Entry Token)) (s : State) → slice_get TOKEN_TREE k ≡ o → 2 ≤ k → ((j : ℕ) (u : State) → 2 ≤ j → goes_on (f j u).0 ≡ true)
+next_goes : (f : ℕ → reader.Reader Token) (k : ℕ) (o : Option (TreeEntry Token)) (s : State) → slice_get TOKEN_TREE k ≡ o → 2 ≤ k → ((j : ℕ) (u : State) → 2 ≤ j → goes_on (f j u).0 ≡ true)
     → goes_on (next Zero f o s).0 ≡ true
 next_goes f k None s e h on = refl
 next_goes f k (Some (Leaf x)) s e h on = leaf_behind k x h e
@@ -71,8 +71,8 @@ record IsEnded (n from : ℕ) (xs : List ℤ) : Type 0 where
   ends : length xs < n → 0 < length xs → get_or xs (length xs - 1) (pos 0) ≢ pos 0
   goes : from ≡ 2 → 0 < n → 0 < length xs
 
-sign_kept : (n : ℕ) (s : State) → (signed n s).0 ≡ pos 0 → n ≡ 0
-unfolding signed reader.bind
+sign_kept : (n : ℕ) (s : State) → (signed_level n s).0 ≡ pos 0 → n ≡ 0
+unfolding signed_level reader.bind
 sign_kept zero s h = refl
 sign_kept (suc n) s h = signs (read 128 s).0 h
   where
@@ -103,16 +103,16 @@ ended_or true g n from u h o = record {
 }
 ended_or false g n from u h o = o
 
-levels-ended : (bands : List (List (List ℕ))) (n i context from : ℕ) (s : State) → IsEnded n from (levels bands n i context from s).0
+levels-end_of_block : (bands : List (List (List ℕ))) (n i context from : ℕ) (s : State) → IsEnded n from (levels bands n i context from s).0
 unfolding levels reader.bind
-levels-ended bands zero i context from s = record { ends = λ short some. absurd (omega arith); goes = λ two some. absurd (omega arith) }
-levels-ended bands (suc n) i context from s =
+levels-end_of_block bands zero i context from s = record { ends = λ short some. absurd (omega arith); goes = λ two some. absurd (omega arith) }
+levels-end_of_block bands (suc n) i context from s =
     let r = token bands i context from s in
     let m = size r.0 r.1 in
-    let l = signed m.0 m.1 in
-    let o = levels-ended bands n (i + 1) (context_after m.0) (pair_after m.0) l.1 in
+    let l = signed_level m.0 m.1 in
+    let o = levels-end_of_block bands n (i + 1) (context_after m.0) (pair_after m.0) l.1 in
     ended_or (is_end r.0)
-    (λ u. let m' = size r.0 u in let l' = signed m'.0 m'.1 in let o' = levels bands n (i + 1) (context_after m'.0) (pair_after m'.0) l'.1 in (l'.0 ∷ o'.0, o'.1))
+    (λ u. let m' = size r.0 u in let l' = signed_level m'.0 m'.1 in let o' = levels bands n (i + 1) (context_after m'.0) (pair_after m'.0) l'.1 in (l'.0 ∷ o'.0, o'.1))
     (suc n) from r.1
     (λ two. rw two (no_end bands i context s))
     (level_ended n from m.0 l.0 _ (sign_kept m.0 m.1) o)
@@ -146,10 +146,10 @@ with_spelled kind (x ∷ xs) h e =
           e.ends (omega arith) (omega arith) (sym here ∙ nothing);
     }
 
-pub block-spelled : (p : Probabilities) (kind : BlockKind) (context : ℕ) (s : State) → IsSpelledBlock kind (block p kind context s).0
-unfolding block reader.bind
+pub block-spelled : (p : Probabilities) (kind : BlockKind) (context : ℕ) (s : State) → IsSpelledBlock kind (coefficient_block p kind context s).0
+unfolding coefficient_block reader.bind
 block-spelled p kind context s =
-    with_spelled kind _ (length-levels (bands_of p kind) (16 - first_of kind) (first_of kind) context 0 s) (levels-ended (bands_of p kind) (16 - first_of kind) (first_of kind) context 0 s)
+    with_spelled kind _ (length-levels (bands_of p kind) (16 - first_of kind) (first_of kind) context 0 s) (levels-end_of_block (bands_of p kind) (16 - first_of kind) (first_of kind) context 0 s)
 
 -- ---- all blocks
 

@@ -10,7 +10,7 @@ use Rattle.vp_tokens.specs.declared.contexts.Tokens.{Tokens}
 use Rattle.vp_tokens.specs.Block.{Block}
 use Rattle.vp_tokens.specs.Levels.{Probabilities}
 use Rattle.vp_tokens.specs.Blocks.{Blocks, had_of, context, block_at, all_blocks, no_blocks, without_tokens, macroblock}
-use Rattle.vp_tokens.specs.Contexts.{Contexts, StandsFor, above_flags, left_flags}
+use Rattle.vp_tokens.specs.Contexts.{Contexts, AreContextsAt, above_flags, left_flags}
 use Rattle.vp_tokens.specs.Flagged.{by_flags, left_at}
 use Rattle.vp_tokens.proofs.Around.{above_is, left_is, left_flags-first}
 
@@ -18,12 +18,12 @@ pub pair_is : {A : Type 0} (x : A × State) (a : A) (s : State) → x.0 ≡ a �
 pair_is x a s p q = λ i. (p i, q i)
 
 -- the flags above the macroblock at p, and to its left
-pub above_at-is : (g : Grid Blocks) (p : Place) (c : Contexts) → StandsFor g p c → p.column < g.columns → get_or c.above p.column [] ≡ above_flags g p
+pub above_at-is : (g : Grid Blocks) (p : Place) (c : Contexts) → AreContextsAt g p c → p.column < g.columns → get_or c.above p.column [] ≡ above_flags g p
 above_at-is g p c f b =
     f.above p.column b
     ∙ ap (above_flags g) (ap (λ (t : Bool). let q : Place = record { column = p.column; row = cond t (p.row + 1) p.row } in q) (le-ltb p.column p.column (omega arith)))
 
-pub left_at-is : (g : Grid Blocks) (p : Place) (c : Contexts) → StandsFor g p c → left_at c p ≡ left_flags g p
+pub left_at-is : (g : Grid Blocks) (p : Place) (c : Contexts) → AreContextsAt g p c → left_at c p ≡ left_flags g p
 left_at-is g p c f = elim (cases_eq p.column 0) [
   | inl z ↦ rw (eq-eqb p.column 0 z) (sym (left_flags-first g p [] z))
   | inr some ↦ rw (ne_eqb p.column 0 some) (f.left (omega arith))

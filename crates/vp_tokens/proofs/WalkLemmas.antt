@@ -9,7 +9,7 @@ use Rattle.vp_tree.specs.Tree.{walk, walk_from, next}
 use Rattle.vp_tables.specs.declared.modes.Token.{Token}
 use Rattle.vp_tables.specs.declared.modes.Token.TheVariants as token_is
 use Rattle.vp_tables.specs.declared.trees.TheConstants.{TOKEN_TREE}
-use Rattle.vp_tokens.specs.Walks.{one_of, far, middle, few, large, some, more, ended, IsStart}
+use Rattle.vp_tokens.specs.Walks.{one_of, far, middle, few, large, some, more, end_of_block, IsStart}
 
 module _ (row : List ℕ) where
   abbrev step : ℕ → ℕ → Bool → Reader Token
@@ -78,15 +78,15 @@ module _ (row : List ℕ) where
   not_false false e = e
 
   -- a walk that has ended, and one that goes on
-  pub walk-ended : (from : ℕ) (s u : State) → true ≡ (ended row from s).0 → u ≡ (ended row from s).1 → (token_is.EndOfBlock, u) ≡ walk_from token_is.EndOfBlock TOKEN_TREE row from s
-  unfolding ended walk_from walk reader.bind
-  walk-ended zero s u b v =
+  pub walk-end_of_block : (from : ℕ) (s u : State) → true ≡ (end_of_block row from s).0 → u ≡ (end_of_block row from s).1 → (token_is.EndOfBlock, u) ≡ walk_from token_is.EndOfBlock TOKEN_TREE row from s
+  unfolding end_of_block walk_from walk reader.bind
+  walk-end_of_block zero s u b v =
       let first = read (slice_index row 0) s in
       rw v (sym (ap (λ (x : Bool). step 21 0 x first.1) (not_true first.0 b)))
-  walk-ended (suc n) s u b v = absurd cc
+  walk-end_of_block (suc n) s u b v = absurd cc
 
-  pub walk-goes : (from : ℕ) (s u : State) → IsStart from → false ≡ (ended row from s).0 → u ≡ (ended row from s).1 → more row u ≡ walk_from token_is.EndOfBlock TOKEN_TREE row from s
-  unfolding ended walk_from walk reader.bind
+  pub walk-goes : (from : ℕ) (s u : State) → IsStart from → false ≡ (end_of_block row from s).0 → u ≡ (end_of_block row from s).1 → more row u ≡ walk_from token_is.EndOfBlock TOKEN_TREE row from s
+  unfolding end_of_block walk_from walk reader.bind
   walk-goes zero s u st b v =
       let first = read (slice_index row 0) s in
       rw v (sym (ap (λ (x : Bool). step 21 0 x first.1) (not_false first.0 b) ∙ at_0 true first.1))

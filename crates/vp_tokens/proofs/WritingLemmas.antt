@@ -13,7 +13,7 @@ use Rattle.vp_bool.specs.Reader.{give}
 use Rattle.vp_bool.specs.Intervals.{Interval}
 use Rattle.vp_bool.specs.Writing.{Continues, Writes}
 use Rattle.vp_bool.proofs.WritingLemmas.{Writes-then, Continues-none, Continues-given}
-use Rattle.vp_tokens.specs.Levels.{bits, signed}
+use Rattle.vp_tokens.specs.Levels.{bits, signed_level}
 
 -- ---- bits
 
@@ -40,14 +40,14 @@ bits_end v w i ps old le same = rw (drop_all i ps le) (Continues-given same old)
 
 -- ---- signs
 
-pub sign_written : (z : ℤ) (b : Bool) {old new : Interval} → z ≢ pos 0 → b ≡ lt_z z (pos 0) → Writes (read 128) old new b → Writes (signed (unsigned_abs z)) old new z
-unfolding signed
+pub sign_written : (z : ℤ) (b : Bool) {old new : Interval} → z ≢ pos 0 → b ≡ lt_z z (pos 0) → Writes (read 128) old new b → Writes (signed_level (unsigned_abs z)) old new z
+unfolding signed_level
 sign_written (pos zero) b ne e w = absurd (ne refl)
 sign_written (pos (suc n)) b ne e w =
     let no : ltb (suc n) 0 ≡ false = le-ltb (suc n) 0 (omega arith) in
     Writes-then _ w (Continues-given (rw (e, no) refl) _)
 sign_written (negsuc n) b ne e w = Writes-then _ w (Continues-given (rw e refl) _)
 
-pub sign_unwritten : (z : ℤ) (old : Interval) → z ≡ pos 0 → Writes (signed (unsigned_abs z)) old old z
-unfolding signed
+pub sign_unwritten : (z : ℤ) (old : Interval) → z ≡ pos 0 → Writes (signed_level (unsigned_abs z)) old old z
+unfolding signed_level
 sign_unwritten z old e = rw e (Continues-none _ _)

@@ -3,7 +3,7 @@ use Rattle.std.specs.Prelude.{◌≡◌, ◌<◌, ℕ, ◌+◌, ◌*◌, Bool, n
 use Rattle.vp_base.specs.declared.place.Place.{Place}
 use Rattle.vp_base.specs.Place as place
 use Rattle.vp_base.specs.Grid.{Grid, look}
-use Rattle.vp_tokens.specs.Blocks.{Blocks, unread, flag, y2_above, y2_left}
+use Rattle.vp_tokens.specs.Blocks.{Blocks, no_blocks_read, flag_at, y2_above, y2_left}
 
 -- nine flags of each column, and nine of the row: 4 of Y, 2 of U, 2 of V, 1 of Y2
 pub record Contexts : Type 0 where
@@ -13,18 +13,18 @@ pub record Contexts : Type 0 where
 -- which of the lowest blocks of a macroblock had a token, and which of those at its right side; behind them stands a flag of Y2
 abbrev pub lowest : List Bool → Bool → List Bool
 lowest had y2 =
-    flag had 13 ∷ flag had 14 ∷ flag had 15 ∷ flag had 16 ∷ flag had 19 ∷ flag had 20 ∷ flag had 23 ∷ flag had 24 ∷ y2 ∷ []
+    flag_at had 13 ∷ flag_at had 14 ∷ flag_at had 15 ∷ flag_at had 16 ∷ flag_at had 19 ∷ flag_at had 20 ∷ flag_at had 23 ∷ flag_at had 24 ∷ y2 ∷ []
 
 abbrev pub rightmost : List Bool → Bool → List Bool
 rightmost had y2 =
-    flag had 4 ∷ flag had 8 ∷ flag had 12 ∷ flag had 16 ∷ flag had 18 ∷ flag had 20 ∷ flag had 22 ∷ flag had 24 ∷ y2 ∷ []
+    flag_at had 4 ∷ flag_at had 8 ∷ flag_at had 12 ∷ flag_at had 16 ∷ flag_at had 18 ∷ flag_at had 20 ∷ flag_at had 22 ∷ flag_at had 24 ∷ y2 ∷ []
 
 -- the flags above the macroblock at p, and to its left
 unfoldable pub above_flags : Grid Blocks → Place → List Bool
-above_flags g p = lowest (look unread g (place.above p)).had (y2_above g p)
+above_flags g p = lowest (look no_blocks_read g (place.above p)).had (y2_above g p)
 
 unfoldable pub left_flags : Grid Blocks → Place → List Bool
-left_flags g p = rightmost (look unread g (place.left p)).had (y2_left g p)
+left_flags g p = rightmost (look no_blocks_read g (place.left p)).had (y2_left g p)
 
 -- the first macroblock of column u that wasn't read, where those before p, in raster order, were
 abbrev pub first_unread : Place → ℕ → Place
@@ -32,7 +32,7 @@ first_unread p u = record { column = u; row = (if nat_lt u p.column then p.row +
 
 -- The flags stand for what g has of the macroblocks before p, in raster order. Behind a row p is the place right of the row's last one,
 -- or the first of the next row.
-pub record StandsFor (g : Grid Blocks) (p : Place) (c : Contexts) : Type 0 where
+pub record AreContextsAt (g : Grid Blocks) (p : Place) (c : Contexts) : Type 0 where
   pub whole : length g.entries ≡ g.rows * g.columns
   pub columns : length c.above ≡ g.columns
   pub above : (u : ℕ) → u < g.columns → slice_index_or c.above u [] ≡ above_flags g (first_unread p u)

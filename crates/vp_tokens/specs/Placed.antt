@@ -7,7 +7,7 @@ use Rattle.vp_tokens.specs.declared.macroblock.Flags.{Flags}
 use Rattle.vp_tokens.specs.declared.macroblock.TheConstants.{ABOVE, LEFT}
 use Rattle.vp_tokens.specs.Block.{Block, has_token}
 use Rattle.vp_tokens.specs.Levels.{Probabilities, bands_of, first_of, levels, block_with}
-use Rattle.vp_tokens.specs.Blocks.{flag, both, kind_of}
+use Rattle.vp_tokens.specs.Blocks.{flag_at, true_count, kind_of}
 
 -- the blocks of a macroblock while they are read, and the flags round those to come
 pub record Reading : Type 0 where
@@ -27,7 +27,7 @@ banded bands first context = do
 -- block k, whose flag stands for it from then on
 unfoldable pub placed : List (List (List ℕ)) → ℕ → ℕ → Reading → Reader Reading
 placed bands first k r = do
-  b ← banded bands first (both (flag r.above (slice_index ABOVE k)) (flag r.left (slice_index LEFT k)))
+  b ← banded bands first (true_count (flag_at r.above (slice_index ABOVE k)) (flag_at r.left (slice_index LEFT k)))
   give (record {
     blocks = slice_set r.blocks k b;
     above = slice_set r.above (slice_index ABOVE k) (has_token b);

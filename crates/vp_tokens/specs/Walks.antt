@@ -52,11 +52,11 @@ abbrev pub IsStart : ℕ → Type 0
 IsStart from = (from ≡ 0) ⊎ (from ≡ 2)
 
 -- whether the block ends here
-unfoldable pub ended : List ℕ → ℕ → Reader Bool
-ended row zero = do
+unfoldable pub end_of_block : List ℕ → ℕ → Reader Bool
+end_of_block row zero = do
   b ← read (slice_index row 0)
   give (not b)
-ended row (suc n) = give false
+end_of_block row (suc n) = give false
 
 -- the context behind a token
 abbrev pub context_behind : Token → ℕ

@@ -12,11 +12,11 @@ pub record IsTokenOf (t : Token) (s : ℕ) : Type 0 where
   pub extra : s < least_size t + 2 ^ length (extra_probabilities t)
 
 -- the first n items, and others for what stands behind them
-abbrev pub front : {X : Type 0} → X → ℕ → List X → List X
-front other n [] = []
-front other zero (x ∷ xs) = other ∷ front other zero xs
-front other (suc n) (x ∷ xs) = x ∷ front other n xs
+abbrev pub padded_prefix : {X : Type 0} → X → ℕ → List X → List X
+padded_prefix other n [] = []
+padded_prefix other zero (x ∷ xs) = other ∷ padded_prefix other zero xs
+padded_prefix other (suc n) (x ∷ xs) = x ∷ padded_prefix other n xs
 
 -- the blocks before block k; the others have no tokens yet
 abbrev pub front_blocks : ℕ → List Block → List Block
-front_blocks k blocks = front no_tokens k blocks
+front_blocks k blocks = padded_prefix no_tokens k blocks

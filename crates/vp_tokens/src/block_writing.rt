@@ -1,6 +1,6 @@
 ghost use Rattle.std.specs.Prelude.{◌≡◌, ◌⊎◌, ◌<◌, false, OnOk};
 ghost use Rattle.vp_bool.specs.Writing.{Writes};
-ghost use Rattle.vp_tokens.specs.Levels.{token, is_end, block};
+ghost use Rattle.vp_tokens.specs.Levels.{token, is_end, coefficient_block};
 ghost use Rattle.vp_tokens.specs.Spelled.{IsSpelledBlock};
 
 use crate::block::{Block, BlockKind, bands_of, first_of, row_of, start_after};
@@ -38,7 +38,7 @@ pub(crate) fn write_block(
 ) -> Result<(), AllocError>
     requires context_in { context < 3 }
     requires spelled { IsSpelledBlock kind what.now }
-    ensures { OnOk result (Writes (block probabilities.now kind context) e.old e.new what.now) }
+    ensures { OnOk result (Writes (coefficient_block probabilities.now kind context) e.old e.new what.now) }
 {
     let bands = bands_of(probabilities, kind);
     let end = what.tokens as usize;

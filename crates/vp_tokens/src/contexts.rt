@@ -1,9 +1,9 @@
 ghost use Rattle.std.specs.Prelude.{◌≡◌, ℕ, pos, Bool, true, false, ◌<◌, ◌≤◌, [], length, slice_index_or, slice_set, unsigned_abs, IfOk};
 ghost use Rattle.vp_base.specs.declared.place.Place.{Place};
 ghost use Rattle.vp_base.specs.Grid.{Grid, Has, all, with_entry};
-ghost use Rattle.vp_tokens.specs.Blocks.{Blocks, unread, blocks_of, had_of, flag, both, kind_of, y2_or, block_of, block_at, all_blocks, no_blocks, macroblock, any_token};
-ghost use Rattle.vp_tokens.specs.Contexts.{StandsFor, lowest, rightmost, right};
-ghost use Rattle.vp_tokens.specs.Flagged.{above_flag, left_flag, by_flags, left_at, behind};
+ghost use Rattle.vp_tokens.specs.Blocks.{Blocks, no_blocks_read, blocks_of, had_of, flag_at, true_count, kind_of, y2_or, block_of, block_at, all_blocks, no_blocks, macroblock, any_token};
+ghost use Rattle.vp_tokens.specs.Contexts.{AreContextsAt, lowest, rightmost, right};
+ghost use Rattle.vp_tokens.specs.Flagged.{above_flag, left_flag, by_flags, left_at, flags_after};
 ghost use Rattle.vp_tokens.specs.Spelled.{levels_of, AreLevels, AreSpelled, AreTight};
 
 use crate::block::{Block, BlockKind};
@@ -66,7 +66,7 @@ impl Model for Contexts {
 
 /// How many of the two.
 pub(crate) fn count(above: bool, left: bool) -> usize
-    ensures value { result ≡ both above left }
+    ensures value { result ≡ true_count above left }
     ensures small { result ≤ 2 }
 {
     above as usize + left as usize
@@ -75,7 +75,7 @@ pub(crate) fn count(above: bool, left: bool) -> usize
 /// Whether a block of this macroblock had a token.
 fn had(blocks: &[Block; 25], k: usize) -> bool
     requires { k < 25 }
-    ensures { result ≡ flag (had_of blocks.now) k }
+    ensures { result ≡ flag_at (had_of blocks.now) k }
 {
     blocks[k].has_token()
 }
@@ -199,7 +199,7 @@ impl Contexts {
 
     /// Before the first macroblock of a frame of so many columns of macroblocks.
     pub fn new(alloc: Global, columns: usize) -> Result<Contexts, AllocError>
-        ensures stands { IfOk result (λ c. (rows : ℕ) → StandsFor (all columns rows unread) (record { column = 0; row = 0 }) c) }
+        ensures stands { IfOk result (λ c. (rows : ℕ) → AreContextsAt (all columns rows no_blocks_read) (record { column = 0; row = 0 }) c) }
         ensures columns { IfOk result (λ c. length c.above ≡ columns) }
     {
         Contexts::empty(alloc).refill(columns)
@@ -207,7 +207,7 @@ impl Contexts {
 
     /// The same, in the memory of these.
     pub fn refill(self, columns: usize) -> Result<Contexts, AllocError>
-        ensures stands { IfOk result (λ c. (rows : ℕ) → StandsFor (all columns rows unread) (record { column = 0; row = 0 }) c) }
+        ensures stands { IfOk result (λ c. (rows : ℕ) → AreContextsAt (all columns rows no_blocks_read) (record { column = 0; row = 0 }) c) }
         ensures columns { IfOk result (λ c. length c.above ≡ columns) }
     {
         let mut above = self.above;
@@ -241,7 +241,7 @@ impl Contexts {
     /// Keeps which blocks of the macroblock at a place had a token.
     pub(crate) fn keep(&mut self, place: Place, has_y2: bool, blocks: &[Block; 25])
         requires { place.column < length self.old.above }
-        ensures { self.new ≡ behind self.old place (record { has_y2 = has_y2; had = had_of blocks.now }) }
+        ensures { self.new ≡ flags_after self.old place (record { has_y2 = has_y2; had = had_of blocks.now }) }
     {
         let above = y2_flag(self.above_of(place)[8], has_y2, blocks);
         let left = y2_flag(self.left_of(place)[8], has_y2, blocks);

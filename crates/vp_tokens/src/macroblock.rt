@@ -4,8 +4,8 @@ ghost use Rattle.vp_base.specs.Grid.{Grid, Has, with_entry};
 ghost use Rattle.vp_bool.specs.Bools.{State};
 ghost use Rattle.vp_tokens.specs.Block.{no_tokens};
 ghost use Rattle.vp_tokens.specs.Levels.{Probabilities};
-ghost use Rattle.vp_tokens.specs.Blocks.{Blocks, blocks_of, had_of, flag, y2_or, all_blocks, no_blocks, without_tokens, macroblock};
-ghost use Rattle.vp_tokens.specs.Contexts.{StandsFor, lowest, rightmost, right};
+ghost use Rattle.vp_tokens.specs.Blocks.{Blocks, blocks_of, had_of, flag_at, y2_or, all_blocks, no_blocks, without_tokens, macroblock};
+ghost use Rattle.vp_tokens.specs.Contexts.{AreContextsAt, lowest, rightmost, right};
 ghost use Rattle.vp_tokens.specs.Flagged.{by_flags};
 ghost use Rattle.vp_tokens.specs.Placed.{reading, placed, plane, all_placed};
 ghost use Rattle.vp_tokens.specs.Spelled.{AreSpelled};
@@ -107,8 +107,8 @@ fn read_all(
 
 /// The flags behind a macroblock without tokens.
 fn flags_without(old: &[bool; 9], has_y2: bool) -> [bool; 9]
-    ensures lowest { result ≡ lowest (had_of no_blocks) (y2_or (record { has_y2 = has_y2; had = had_of no_blocks }) (flag old.now 8)) }
-    ensures rightmost { result ≡ rightmost (had_of no_blocks) (y2_or (record { has_y2 = has_y2; had = had_of no_blocks }) (flag old.now 8)) }
+    ensures lowest { result ≡ lowest (had_of no_blocks) (y2_or (record { has_y2 = has_y2; had = had_of no_blocks }) (flag_at old.now 8)) }
+    ensures rightmost { result ≡ rightmost (had_of no_blocks) (y2_or (record { has_y2 = has_y2; had = had_of no_blocks }) (flag_at old.now 8)) }
 {
     let y2 = !has_y2 && old[8];
     [false, false, false, false, false, false, false, false, y2]
@@ -126,8 +126,8 @@ fn read_unless(
     requires { blocks.old ≡ no_blocks }
     ensures value { blocks.new ≡ (all_blocks probabilities.now has_y2 skipped (by_flags flags.old.above flags.old.left) d.old).0 }
     ensures rest { d.new ≡ (all_blocks probabilities.now has_y2 skipped (by_flags flags.old.above flags.old.left) d.old).1 }
-    ensures above { flags.new.above ≡ lowest (had_of blocks.new) (y2_or (record { has_y2 = has_y2; had = had_of blocks.new }) (flag flags.old.above 8)) }
-    ensures left { flags.new.left ≡ rightmost (had_of blocks.new) (y2_or (record { has_y2 = has_y2; had = had_of blocks.new }) (flag flags.old.left 8)) }
+    ensures above { flags.new.above ≡ lowest (had_of blocks.new) (y2_or (record { has_y2 = has_y2; had = had_of blocks.new }) (flag_at flags.old.above 8)) }
+    ensures left { flags.new.left ≡ rightmost (had_of blocks.new) (y2_or (record { has_y2 = has_y2; had = had_of blocks.new }) (flag_at flags.old.left 8)) }
 {
     if skipped {
         flags.above = flags_without(&flags.above, has_y2);
@@ -151,12 +151,12 @@ pub fn read_macroblock(
     d: &mut BoolDecoder,
 )
     requires { place.column < length contexts.old.above }
-    ensures value { (g : Grid Blocks) → StandsFor g place contexts.old
+    ensures value { (g : Grid Blocks) → AreContextsAt g place contexts.old
         → tokens.new ≡ (macroblock probabilities.now g place has_y2 skipped d.old).0 }
-    ensures rest { (g : Grid Blocks) → StandsFor g place contexts.old
+    ensures rest { (g : Grid Blocks) → AreContextsAt g place contexts.old
         → d.new ≡ (macroblock probabilities.now g place has_y2 skipped d.old).1 }
-    ensures stands { (g : Grid Blocks) → Has g place → StandsFor g place contexts.old
-        → StandsFor (with_entry g place (blocks_of has_y2 tokens.new)) (right place) contexts.new }
+    ensures stands { (g : Grid Blocks) → Has g place → AreContextsAt g place contexts.old
+        → AreContextsAt (with_entry g place (blocks_of has_y2 tokens.new)) (right place) contexts.new }
     ensures columns { length contexts.new.above ≡ length contexts.old.above }
     // What is read can be written.
     ensures spelled { AreSpelled has_y2 tokens.new.blocks }
@@ -178,10 +178,10 @@ pub fn read_macroblock(
 /// `has_y2` is false where the luma is predicted or moved by subblocks.
 pub fn pass_macroblock(contexts: &mut Contexts, place: Place, has_y2: bool)
     requires { place.column < length contexts.old.above }
-    ensures value { (g : Grid Blocks) (d : State) (probabilities : Probabilities) → StandsFor g place contexts.old
+    ensures value { (g : Grid Blocks) (d : State) (probabilities : Probabilities) → AreContextsAt g place contexts.old
         → macroblock probabilities g place has_y2 true d ≡ (without_tokens, d) }
-    ensures stands { (g : Grid Blocks) → Has g place → StandsFor g place contexts.old
-        → StandsFor (with_entry g place (blocks_of has_y2 without_tokens)) (right place) contexts.new }
+    ensures stands { (g : Grid Blocks) → Has g place → AreContextsAt g place contexts.old
+        → AreContextsAt (with_entry g place (blocks_of has_y2 without_tokens)) (right place) contexts.new }
     ensures columns { length contexts.new.above ≡ length contexts.old.above }
 {
     let above = flags_without(&contexts.above_of(place), has_y2);

@@ -1,6 +1,6 @@
 ghost use Rattle.std.specs.Prelude.{◌≡◌, ◌<◌, ◌≤◌, ◌^◌, length, unsigned_abs, OnOk};
 ghost use Rattle.vp_bool.specs.Writing.{Writes};
-ghost use Rattle.vp_tokens.specs.Levels.{bits, size, signed};
+ghost use Rattle.vp_tokens.specs.Levels.{bits, size, signed_level};
 ghost use Rattle.vp_tokens.specs.Written.{IsTokenOf};
 
 use std::alloc::AllocError;
@@ -55,7 +55,7 @@ pub(crate) fn write_size(token: Token, value: u16, e: &mut BoolEncoder) -> Resul
 /// The sign of a level that isn't 0.
 pub(crate) fn write_signed(level: i16, e: &mut BoolEncoder) -> Result<(), AllocError>
     requires { unsigned_abs level ≤ 2114 }
-    ensures { OnOk result (Writes (signed (unsigned_abs level)) e.old e.new level) }
+    ensures { OnOk result (Writes (signed_level (unsigned_abs level)) e.old e.new level) }
 {
     if level == 0 {
         return Ok(());

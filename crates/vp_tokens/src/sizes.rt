@@ -1,6 +1,6 @@
 ghost use Rattle.std.specs.Prelude.{◌≡◌, ◌≤◌, ◌<◌, ◌^◌, length, unsigned_abs};
 ghost use Rattle.vp_tables.specs.Tables.{least_size};
-ghost use Rattle.vp_tokens.specs.Levels.{bits, size, signed, context_after};
+ghost use Rattle.vp_tokens.specs.Levels.{bits, size, signed_level, context_after};
 ghost use Rattle.vp_tokens.specs.Walks.{context_behind};
 
 use vp_bool::BoolDecoder;
@@ -74,11 +74,11 @@ pub(crate) fn context_behind(token: Token) -> usize
 
 /// The level of this size, whose sign is read where it isn't 0.
 #[inline(always)]
-#[tactic(auto, unfolding(crate::specs::Levels::signed, vp_bool::specs::Reader::bind))]
+#[tactic(auto, unfolding(crate::specs::Levels::signed_level, vp_bool::specs::Reader::bind))]
 pub(crate) fn read_signed(size: u16, d: &mut BoolDecoder) -> i16
     requires { size ≤ 2114 }
-    ensures value { result ≡ (signed size d.old).0 }
-    ensures rest { d.new ≡ (signed size d.old).1 }
+    ensures value { result ≡ (signed_level size d.old).0 }
+    ensures rest { d.new ≡ (signed_level size d.old).1 }
     ensures within { unsigned_abs result ≤ 2114 }
 {
     if size == 0 {

@@ -3,7 +3,7 @@ ghost use Rattle.std.specs.Prelude.{◌≡◌, ◌≤◌, ◌<◌};
 ghost use Rattle.vp_tables.specs.declared.trees.TheConstants.{TOKEN_TREE};
 ghost use Rattle.vp_tables.specs.declared.modes.Token.TheVariants as token_is;
 ghost use Rattle.vp_tree.specs.Tree.{walk_from};
-ghost use Rattle.vp_tokens.specs.Walks.{far, middle, few, large, some, more, ended, IsStart};
+ghost use Rattle.vp_tokens.specs.Walks.{far, middle, few, large, some, more, end_of_block, IsStart};
 
 use vp_bool::BoolDecoder;
 use vp_tables::Token;
@@ -106,10 +106,10 @@ fn more(row: &[u8; 11], d: &mut BoolDecoder) -> Token
 
 /// Whether the block ends here, which isn't asked behind a 0.
 #[inline(always)]
-#[tactic(auto, unfolding(crate::specs::Walks::ended, vp_bool::specs::Reader::bind))]
-fn ended(row: &[u8; 11], from: usize, d: &mut BoolDecoder) -> bool
-    ensures value { result ≡ (ended row.now from d.old).0 }
-    ensures rest { d.new ≡ (ended row.now from d.old).1 }
+#[tactic(auto, unfolding(crate::specs::Walks::end_of_block, vp_bool::specs::Reader::bind))]
+fn end_of_block(row: &[u8; 11], from: usize, d: &mut BoolDecoder) -> bool
+    ensures value { result ≡ (end_of_block row.now from d.old).0 }
+    ensures rest { d.new ≡ (end_of_block row.now from d.old).1 }
 {
     if from == 0 { !d.read(row[0]) } else { false }
 }
@@ -121,7 +121,7 @@ pub(crate) fn walked(row: &[u8; 11], from: usize, d: &mut BoolDecoder) -> Token
     ensures value { result ≡ (walk_from token_is.EndOfBlock TOKEN_TREE row.now from d.old).0 }
     ensures rest { d.new ≡ (walk_from token_is.EndOfBlock TOKEN_TREE row.now from d.old).1 }
 {
-    if ended(row, from, d) {
+    if end_of_block(row, from, d) {
         Token::EndOfBlock
     } else {
         more(row, d)

@@ -2,7 +2,7 @@ ghost use Rattle.std.specs.Prelude.{◌≡◌, ◌<◌, ◌+◌, ℕ, true, fals
 ghost use Rattle.vp_base.specs.Grid.{Grid, Has, with_entry};
 ghost use Rattle.vp_bool.specs.Writing.{Writes};
 ghost use Rattle.vp_tokens.specs.Blocks.{Blocks, blocks_of, block_at, all_blocks, no_blocks, macroblock};
-ghost use Rattle.vp_tokens.specs.Contexts.{StandsFor, right};
+ghost use Rattle.vp_tokens.specs.Contexts.{AreContextsAt, right};
 ghost use Rattle.vp_tokens.specs.Flagged.{by_flags};
 ghost use Rattle.vp_tokens.specs.Spelled.{AreSpelled};
 ghost use Rattle.vp_tokens.specs.Written.{front_blocks};
@@ -76,9 +76,9 @@ pub fn write_macroblock(
     requires spelled { AreSpelled has_y2 tokens.now.blocks }
     requires skipped { skipped ≡ true → tokens.now.blocks ≡ no_blocks }
     // What was written is read as these tokens, whatever follows.
-    ensures writes { OnOk result ((g : Grid Blocks) → StandsFor g place contexts.old → Writes (macroblock probabilities.now g place has_y2 skipped) e.old e.new tokens.now) }
-    ensures stands { OnOk result ((g : Grid Blocks) → Has g place → StandsFor g place contexts.old
-        → StandsFor (with_entry g place (blocks_of has_y2 tokens.now)) (right place) contexts.new) }
+    ensures writes { OnOk result ((g : Grid Blocks) → AreContextsAt g place contexts.old → Writes (macroblock probabilities.now g place has_y2 skipped) e.old e.new tokens.now) }
+    ensures stands { OnOk result ((g : Grid Blocks) → Has g place → AreContextsAt g place contexts.old
+        → AreContextsAt (with_entry g place (blocks_of has_y2 tokens.now)) (right place) contexts.new) }
     ensures columns { length contexts.new.above ≡ length contexts.old.above }
     ensures err { OnErr result (contexts.new ≡ contexts.old) }
 {

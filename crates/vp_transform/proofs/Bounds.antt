@@ -6,7 +6,7 @@ use Rattle.std.proofs.lemmas.Int.{ints}
 use Rattle.std.proofs.lemmas.List.Elements.{All-map, All-tail}
 use Rattle.vp_transform.specs.Fits.{EachWithin, IdctFits, IwhtFits, column_size, row_size}
 use Rattle.vp_transform.specs.Steps.{mixed, column_product, row_product}
-use Rattle.vp_transform.specs.Transform.{at, block_of, turned, rounded, column_turned, row_turned, vertical, horizontal, idct, hadamard_times, times_hadamard_rounded, iwht}
+use Rattle.vp_transform.specs.Transform.{element_at, block_from, turned, rounded, column_turned, row_turned, vertical, horizontal, idct, hadamard_times, times_hadamard_rounded, iwht}
 use Rattle.vp_transform.proofs.Along.{get, by_columns, columns_along, rows_along}
 use Rattle.vp_transform.proofs.Signs.{mixed-column, mixed-row, column-at_most, product_row-at_most}
 use Rattle.vp_transform.proofs.Sizes.{AtMost, sum-at_most, more-at_most, rounded-at_most, fits-at_most, four-at_most, turned-at_most, turn_fits}
@@ -30,9 +30,9 @@ each-all b (x ∷ xs) h (suc k) = each-all b xs (All-tail (λ z. unsigned_abs z 
 pub at_most : (b : ℕ) (block : List ℤ) → EachWithin b block → (k : ℕ) → AtMost b (get block k)
 at_most b block h k = record { size = h k }
 
-pub each-block_of : (n : ℕ) (f : ℕ → ℕ → ℤ) → ((r c : ℕ) → AtMost n (f r c)) → EachWithin n (block_of f)
+pub each-block_of : (n : ℕ) (f : ℕ → ℕ → ℤ) → ((r c : ℕ) → AtMost n (f r c)) → EachWithin n (block_from f)
 each-block_of n f h =
-    each-all n (block_of f) (All-map (λ z. unsigned_abs z ≤ n) (λ place. f (place / 4) (place % 4)) (range_with_len 0 16) (λ k d l. (h _ _).size))
+    each-all n (block_from f) (All-map (λ z. unsigned_abs z ≤ n) (λ place. f (place / 4) (place % 4)) (range_with_len 0 16) (λ k d l. (h _ _).size))
 
 -- a test of numbers that are known
 abbrev pub are_within : ℕ → List ℤ → Bool
@@ -126,7 +126,7 @@ iwht-first_alone z =
     let same : nothing ≡ nothing = refl in
     let all : List ℤ = by_columns (z ∷ z ∷ z ∷ z ∷ []) nothing nothing nothing in
     let columns : hadamard_times (first_alone z) ≡ all = columns_along (sym (mixed-column (first_alone z) 0) ∙ mixed-first z) same same same in
-    let row : (r : ℕ) → mixed (at all r 0) (at all r 1) (at all r 2) (at all r 3) ≡ z ∷ z ∷ z ∷ z ∷ [] → map (λ v. shr_z (v +ℤ pos 3) 8) (row_product all r) ≡ replicate 4 (shr_z (z +ℤ pos 3) 8) =
+    let row : (r : ℕ) → mixed (element_at all r 0) (element_at all r 1) (element_at all r 2) (element_at all r 3) ≡ z ∷ z ∷ z ∷ z ∷ [] → map (λ v. shr_z (v +ℤ pos 3) 8) (row_product all r) ≡ replicate 4 (shr_z (z +ℤ pos 3) 8) =
     λ r e. ap (λ v. map (λ w. shr_z (w +ℤ pos 3) 8) v) (sym (mixed-row all r) ∙ e) in
     ap (λ v. times_hadamard_rounded v) columns ∙ rows_along (row 0 (mixed-first z)) (row 1 (mixed-first z)) (row 2 (mixed-first z)) (row 3 (mixed-first z))
 

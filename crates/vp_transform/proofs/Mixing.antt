@@ -5,7 +5,7 @@ use Rattle.vp_transform.specs.Fits.{EachWithin}
 use Rattle.vp_transform.specs.Narrow.{column_of, block_in, LanesWithin}
 use Rattle.vp_transform.specs.Pair.{transposed}
 use Rattle.vp_transform.specs.Steps.{mixed, column_product, row_product}
-use Rattle.vp_transform.specs.Transform.{at, block_of, hadamard_times, times_hadamard_rounded, iwht, idct}
+use Rattle.vp_transform.specs.Transform.{element_at, block_from, hadamard_times, times_hadamard_rounded, iwht, idct}
 use Rattle.vp_transform.proofs.Along.{columns_along, rows_along}
 use Rattle.vp_transform.proofs.Bounds.{at_most, each-block_of, hadamard_times-within, idct-within}
 use Rattle.vp_transform.proofs.Signs.{mixed-column, mixed-row}
@@ -18,7 +18,7 @@ abbrev pub eighth : ℤ → ℤ
 eighth z = shr_z (z +ℤ pos 3) 8
 
 abbrev pub eighths : List ℤ → List ℤ
-eighths block = block_of (λ r c. eighth (at block r c))
+eighths block = block_from (λ r c. eighth (element_at block r c))
 
 pub columns_mixed : (a b c d v0 v1 v2 v3 : List ℤ) → ((j : ℕ) → j < 4 → column_of v0 v1 v2 v3 j ≡ mixed (lane a j) (lane b j) (lane c j) (lane d j))
     → block_in v0 v1 v2 v3 ≡ hadamard_times (block_in a b c d)
@@ -44,10 +44,10 @@ exchanged v =
 
 -- ---- how large the numbers are
 pub transposed-within : (n : ℕ) (v : List ℤ) → EachWithin n v → EachWithin n (transposed v)
-transposed-within n v w = each-block_of n (λ r c. at v c r) (λ r c. at_most n v w _)
+transposed-within n v w = each-block_of n (λ r c. element_at v c r) (λ r c. at_most n v w _)
 
 eighths-within : (n : ℕ) (v : List ℤ) → EachWithin (8 * n) v → EachWithin n (eighths v)
-eighths-within n v w = each-block_of n (λ r c. eighth (at v r c)) (λ r c. rounded-at_most (at v r c) 3 n (omega arith) (at_most (8 * n) v w _))
+eighths-within n v w = each-block_of n (λ r c. eighth (element_at v r c)) (λ r c. rounded-at_most (element_at v r c) 3 n (omega arith) (at_most (8 * n) v w _))
 
 -- ---- a block that one call gave and the next is passed: it is x
 pub record Block (n : ℕ) (x : List ℤ) (a b c d : List ℤ) : Type 0 where
@@ -83,12 +83,12 @@ module _ {m : ℕ} (n : ℕ) {x a b c d : List ℤ} (l : m ≤ n) (h : Block m x
   fourth-within = within_fourth n (handed a) (handed b) (handed c) (handed d) (passed-within n l h)
 
 -- ---- the steps
-pub rows_of : (n : ℕ) (x a b c d : List ℤ) → n < 2 ^ 31 → EachWithin n x → ((j : ℕ) → j < 4 → lane a j ≡ at x 0 j) → ((j : ℕ) → j < 4 → lane b j ≡ at x 1 j)
-    → ((j : ℕ) → j < 4 → lane c j ≡ at x 2 j) → ((j : ℕ) → j < 4 → lane d j ≡ at x 3 j) → Block n (block_of (at x)) a b c d
+pub rows_of : (n : ℕ) (x a b c d : List ℤ) → n < 2 ^ 31 → EachWithin n x → ((j : ℕ) → j < 4 → lane a j ≡ element_at x 0 j) → ((j : ℕ) → j < 4 → lane b j ≡ element_at x 1 j)
+    → ((j : ℕ) → j < 4 → lane c j ≡ element_at x 2 j) → ((j : ℕ) → j < 4 → lane d j ≡ element_at x 3 j) → Block n (block_from (element_at x)) a b c d
 rows_of n x a b c d l small e f g h =
-    block n l (block_read x a b c d e f g h) (each-block_of n (λ r c. at x r c) (λ r c. record { size = small (4 * r + c) }))
+    block n l (block_read x a b c d e f g h) (each-block_of n (λ r c. element_at x r c) (λ r c. record { size = small (4 * r + c) }))
 
-pub idct_block : (n : ℕ) (x : List ℤ) {a b c d : List ℤ} → Block n (block_of (at x)) a b c d → (v0 v1 v2 v3 : List ℤ) → 4 * n < 2 ^ 31 → EachWithin n x
+pub idct_block : (n : ℕ) (x : List ℤ) {a b c d : List ℤ} → Block n (block_from (element_at x)) a b c d → (v0 v1 v2 v3 : List ℤ) → 4 * n < 2 ^ 31 → EachWithin n x
     → block_in v0 v1 v2 v3 ≡ idct (block_in (handed a) (handed b) (handed c) (handed d)) → Block (4 * n) (idct x) v0 v1 v2 v3
 idct_block n x h v0 v1 v2 v3 l small e = block (4 * n) l (e ∙ (ap (λ v. idct v) h.passed ∙ idct_of_rows x)) (idct-within n x small)
 
@@ -105,6 +105,6 @@ pub rounded_block : (n : ℕ) {x a b c d : List ℤ} → Block (8 * n) x a b c d
 rounded_block n {x} h v0 v1 v2 v3 l e = block n l (e ∙ ap (λ v. eighths v) h.passed) (eighths-within n x h.within)
 
 -- all of them
-pub iwht_in_steps : (x : List ℤ) → transposed (eighths (hadamard_times (transposed (hadamard_times (block_of (at x)))))) ≡ iwht x
+pub iwht_in_steps : (x : List ℤ) → transposed (eighths (hadamard_times (transposed (hadamard_times (block_from (element_at x)))))) ≡ iwht x
 unfolding iwht hadamard_times
-iwht_in_steps x = exchanged (hadamard_times (block_of (at x)))
+iwht_in_steps x = exchanged (hadamard_times (block_from (element_at x)))

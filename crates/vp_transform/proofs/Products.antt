@@ -3,7 +3,7 @@ use Rattle.std.proofs.Common.{◌≡◌, ℕ, ◌+◌, ◌/◌, ◌%◌, ◌^◌
 use Rattle.std.proofs.lemmas.Int.{ints}
 use Rattle.vp_lanes.proofs.Shape.{lanes_of, lane_is}
 use Rattle.vp_transform.specs.Fits.{Fits, row_size}
-use Rattle.vp_transform.specs.Transform.{at, hadamard, product, times_hadamard}
+use Rattle.vp_transform.specs.Transform.{element_at, hadamard, product, times_hadamard}
 use Rattle.vp_transform.proofs.Along.{get}
 use Rattle.vp_transform.proofs.Signs.{product_row-at_most}
 use Rattle.vp_transform.proofs.Sizes.{fits-below}
@@ -17,14 +17,14 @@ mapped_is f r x l m e =
 pub more_fits : (z : ℤ) (k : ℕ) → k ≤ 3 → unsigned_abs z + 3 < 2 ^ 63 → Fits (z +ℤ pos k)
 more_fits z k l h = fits-below _ (omega (arith, ints))
 
-product-at_most : (v : List ℤ) (r c : ℕ) → c < 4 → unsigned_abs (product (at v) (at hadamard) r c) ≤ row_size v r
+product-at_most : (v : List ℤ) (r c : ℕ) → c < 4 → unsigned_abs (product (element_at v) (element_at hadamard) r c) ≤ row_size v r
 product-at_most v r =
-    below_four (λ c. unsigned_abs (product (at v) (at hadamard) r c) ≤ row_size v r) (product_row-at_most v r 0) (product_row-at_most v r 1) (product_row-at_most v r 2) (product_row-at_most v r 3)
+    below_four (λ c. unsigned_abs (product (element_at v) (element_at hadamard) r c) ≤ row_size v r) (product_row-at_most v r 0) (product_row-at_most v r 1) (product_row-at_most v r 2) (product_row-at_most v r 3)
 
 pub products_fit : (v : List ℤ) → ((r : ℕ) → r < 4 → row_size v r + 3 < 2 ^ 63) → (k : ℕ) → k < 16 → unsigned_abs (get (times_hadamard v) k) + 3 < 2 ^ 63
 unfolding times_hadamard
 products_fit v h k l =
-    let e = lane_is {F = λ place. product (at v) (at hadamard) (place / 4) (place % 4)} (pos 0) (record { is = λ i. times_hadamard v }) k l in
+    let e = lane_is {F = λ place. product (element_at v) (element_at hadamard) (place / 4) (place % 4)} (pos 0) (record { is = λ i. times_hadamard v }) k l in
     let m = product-at_most v (k / 4) (k % 4) (omega arith) in
     let n = h (k / 4) (omega arith) in
     subst (λ z. unsigned_abs z + 3 < 2 ^ 63) (sym e) (omega (arith, m, n))

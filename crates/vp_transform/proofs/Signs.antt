@@ -1,7 +1,7 @@
 -- The sums of four numbers with the signs of the Walsh-Hadamard matrix.
 use Rattle.std.proofs.Common.{◌≡◌, ℕ, zero, suc, ◌+◌, ◌≤◌, ℤ, pos, ◌+ℤ◌, ◌*ℤ◌, List, [], ◌∷◌, arith, unsigned_abs, slice_index_or, subst, ◌<◌, ◌^◌}
 use Rattle.std.proofs.lemmas.Int.{ints}
-use Rattle.vp_transform.specs.Transform.{at, one, minus, hadamard_times}
+use Rattle.vp_transform.specs.Transform.{element_at, one, minus, hadamard_times}
 use Rattle.vp_transform.specs.Fits.{column_size, row_size, IwhtFits}
 use Rattle.vp_transform.specs.Steps.{mixed, column_product, row_product}
 use Rattle.vp_transform.proofs.Words.{four}
@@ -28,11 +28,11 @@ mixed-right : (i0 i1 i2 i3 : ℤ) → mixed i0 i1 i2 i3 ≡
     (i0 *ℤ one +ℤ i1 *ℤ minus +ℤ i2 *ℤ minus +ℤ i3 *ℤ one) ∷ (i0 *ℤ one +ℤ i1 *ℤ minus +ℤ i2 *ℤ one +ℤ i3 *ℤ minus) ∷ []
 mixed-right i0 i1 i2 i3 = four (omega (arith, ints)) (omega (arith, ints)) (omega (arith, ints)) (omega (arith, ints))
 
-pub mixed-column : (block : List ℤ) (c : ℕ) → mixed (at block 0 c) (at block 1 c) (at block 2 c) (at block 3 c) ≡ column_product block c
-mixed-column block c = mixed-left (at block 0 c) (at block 1 c) (at block 2 c) (at block 3 c)
+pub mixed-column : (block : List ℤ) (c : ℕ) → mixed (element_at block 0 c) (element_at block 1 c) (element_at block 2 c) (element_at block 3 c) ≡ column_product block c
+mixed-column block c = mixed-left (element_at block 0 c) (element_at block 1 c) (element_at block 2 c) (element_at block 3 c)
 
-pub mixed-row : (block : List ℤ) (r : ℕ) → mixed (at block r 0) (at block r 1) (at block r 2) (at block r 3) ≡ row_product block r
-mixed-row block r = mixed-right (at block r 0) (at block r 1) (at block r 2) (at block r 3)
+pub mixed-row : (block : List ℤ) (r : ℕ) → mixed (element_at block r 0) (element_at block r 1) (element_at block r 2) (element_at block r 3) ≡ row_product block r
+mixed-row block r = mixed-right (element_at block r 0) (element_at block r 1) (element_at block r 2) (element_at block r 3)
 
 -- the sizes of the rows of the matrix times the block
 module _ (block : List ℤ) where
@@ -42,12 +42,12 @@ module _ (block : List ℤ) where
   pub column-at_most : (r c : ℕ) → unsigned_abs (slice_index_or (column_product block c) r (pos 0)) ≤ column_size block c
   column-at_most r c =
       subst (λ v. unsigned_abs (slice_index_or v r (pos 0)) ≤ column_size block c) (mixed-column block c)
-      (mixed-at_most (at block 0 c) (at block 1 c) (at block 2 c) (at block 3 c) r)
+      (mixed-at_most (element_at block 0 c) (element_at block 1 c) (element_at block 2 c) (element_at block 3 c) r)
 
   pub product_row-at_most : (r c : ℕ) → unsigned_abs (slice_index_or (row_product block r) c (pos 0)) ≤ row_size block r
   product_row-at_most r c =
       subst (λ v. unsigned_abs (slice_index_or v c (pos 0)) ≤ row_size block r) (mixed-row block r)
-      (mixed-at_most (at block r 0) (at block r 1) (at block r 2) (at block r 3) c)
+      (mixed-at_most (element_at block r 0) (element_at block r 1) (element_at block r 2) (element_at block r 3) c)
 
   row-at_most : (r : ℕ) → r < 4 → row_size (hadamard_times block) r ≤ sizes
   unfolding hadamard_times

@@ -10,7 +10,7 @@ use borrow.Table.Row.{s_int}
 use Rattle.vp_transform.specs.Fits.{EachWithin}
 use Rattle.vp_transform.specs.Narrow.{column_of}
 use Rattle.vp_transform.specs.Pair.{row_in, even_block, odd_block, transposed}
-use Rattle.vp_transform.specs.Transform.{at, block_of, scaled, turned, rounded, column_turned, vertical, horizontal, idct}
+use Rattle.vp_transform.specs.Transform.{element_at, block_from, scaled, turned, rounded, column_turned, vertical, horizontal, idct}
 use Rattle.vp_transform.proofs.Along.{get, columns_along}
 use Rattle.vp_transform.proofs.Bounds.{at_most, each-block_of}
 use Rattle.vp_transform.proofs.Mixing.{transposed-within}
@@ -176,13 +176,13 @@ module _ {m : ℕ} (n : ℕ) {x y a b c d : List ℤ} (l : m ≤ n) (p : Pair m 
 
 -- ---- the steps
 abbrev pub all_rounded : List ℤ → List ℤ
-all_rounded x = block_of (λ r c. rounded (at x r c))
+all_rounded x = block_from (λ r c. rounded (element_at x r c))
 
 rounded-within : (n : ℕ) (x : List ℤ) → EachWithin (8 * n) x → EachWithin n (all_rounded x)
-rounded-within n x w = each-block_of n (λ r c. rounded (at x r c)) (λ r c. rounded-at_most (at x r c) 4 n (omega arith) (at_most (8 * n) x w _))
+rounded-within n x w = each-block_of n (λ r c. rounded (element_at x r c)) (λ r c. rounded-at_most (element_at x r c) 4 n (omega arith) (at_most (8 * n) x w _))
 
-pub read-within : (n : ℕ) (x : List ℤ) → EachWithin n x → EachWithin n (block_of (at x))
-read-within n x w = each-block_of n (λ r c. at x r c) (λ r c. at_most n x w _)
+pub read-within : (n : ℕ) (x : List ℤ) → EachWithin n x → EachWithin n (block_from (element_at x))
+read-within n x w = each-block_of n (λ r c. element_at x r c) (λ r c. at_most n x w _)
 
 module _ {n : ℕ} {x y a b c d : List ℤ} (p : Pair n x y a b c d) (v0 v1 v2 v3 : List ℤ) where
   pub turned_pair : (s o : ℕ) → n * 35468 ≤ 65536 * s → n * 20091 ≤ 65536 * o → n + n + (n + o + s) < 32768
@@ -217,10 +217,10 @@ row_of_both r {x} {y} {a} {b} {c} {d} p =
     ∙ ap (λ u. row_in (transposed x) (transposed u) r) p.odd
 
 -- all of them
-pub idct_in_steps : (x : List ℤ) → transposed (all_rounded (vertical (transposed (vertical (block_of (at x)))))) ≡ idct x
+pub idct_in_steps : (x : List ℤ) → transposed (all_rounded (vertical (transposed (vertical (block_from (element_at x)))))) ≡ idct x
 unfolding idct horizontal vertical
 idct_in_steps x = refl
 
-pub rows_are : (r : ℕ) (x y : List ℤ) → row_in (transposed (all_rounded (vertical (transposed (vertical (block_of (at x))))))) (transposed (all_rounded (vertical (transposed (vertical (block_of (at y))))))) r ≡ row_in (idct x) (idct y) r
+pub rows_are : (r : ℕ) (x y : List ℤ) → row_in (transposed (all_rounded (vertical (transposed (vertical (block_from (element_at x))))))) (transposed (all_rounded (vertical (transposed (vertical (block_from (element_at y))))))) r ≡ row_in (idct x) (idct y) r
 rows_are r x y =
-    ap (λ u. row_in u (transposed (all_rounded (vertical (transposed (vertical (block_of (at y))))))) r) (idct_in_steps x) ∙ ap (λ u. row_in (idct x) u r) (idct_in_steps y)
+    ap (λ u. row_in u (transposed (all_rounded (vertical (transposed (vertical (block_from (element_at y))))))) r) (idct_in_steps x) ∙ ap (λ u. row_in (idct x) u r) (idct_in_steps y)

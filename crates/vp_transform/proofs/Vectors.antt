@@ -14,7 +14,7 @@ use Rattle.vp_lanes.specs.Lane.{lane}
 use Rattle.vp_lanes.proofs.Shape.{lanes_of, lane_is, mapped, each_lane}
 use Rattle.vp_transform.specs.Fits.{Fits, EachWithin}
 use Rattle.vp_transform.specs.Narrow.{column_of, block_in, LanesWithin}
-use Rattle.vp_transform.specs.Transform.{at, block_of, turned, rounded, idct, vertical, horizontal}
+use Rattle.vp_transform.specs.Transform.{element_at, block_from, turned, rounded, idct, vertical, horizontal}
 use Rattle.vp_transform.proofs.Along.{get, turned_along}
 use Rattle.vp_transform.proofs.Sizes.{turned-at_most, fits-below}
 use Rattle.vp_transform.proofs.Words.{four, coded, read}
@@ -137,7 +137,7 @@ below_four P p0 p1 p2 p3 (suc (suc zero)) h = p2
 below_four P p0 p1 p2 p3 (suc (suc (suc zero))) h = p3
 below_four P p0 p1 p2 p3 (suc (suc (suc (suc n)))) h = absurd (omega arith)
 
-pub row-within : (xs : List ℤ) → EachWithin 8192 xs → (r : ℕ) (v : List ℤ) → ((j : ℕ) → j < 4 → lane v j ≡ at xs r j) → LanesWithin 8192 v
+pub row-within : (xs : List ℤ) → EachWithin 8192 xs → (r : ℕ) (v : List ℤ) → ((j : ℕ) → j < 4 → lane v j ≡ element_at xs r j) → LanesWithin 8192 v
 row-within xs small r v e j h = subst (λ z. unsigned_abs z ≤ 8192) (sym (e j h)) (small (4 * r + j))
 
 -- ---- a block and its rows
@@ -162,14 +162,14 @@ module _ {a b c d : List ℤ} (pa : Passes a) (pb : Passes b) (pc : Passes c) (p
       (pc.at 0 (lit< tt)) (pc.at 1 (lit< tt)) (pc.at 2 (lit< tt)) (pc.at 3 (lit< tt))
       (pd.at 0 (lit< tt)) (pd.at 1 (lit< tt)) (pd.at 2 (lit< tt)) (pd.at 3 (lit< tt))
 
-module _ (x a b c d : List ℤ) (ea : (j : ℕ) → j < 4 → lane a j ≡ at x 0 j) (eb : (j : ℕ) → j < 4 → lane b j ≡ at x 1 j)
-    (ec : (j : ℕ) → j < 4 → lane c j ≡ at x 2 j) (ed : (j : ℕ) → j < 4 → lane d j ≡ at x 3 j) where
-  pub block_read : block_in a b c d ≡ block_of (at x)
+module _ (x a b c d : List ℤ) (ea : (j : ℕ) → j < 4 → lane a j ≡ element_at x 0 j) (eb : (j : ℕ) → j < 4 → lane b j ≡ element_at x 1 j)
+    (ec : (j : ℕ) → j < 4 → lane c j ≡ element_at x 2 j) (ed : (j : ℕ) → j < 4 → lane d j ≡ element_at x 3 j) where
+  pub block_read : block_in a b c d ≡ block_from (element_at x)
   block_read =
       sixteen (ea 0 (lit< tt)) (ea 1 (lit< tt)) (ea 2 (lit< tt)) (ea 3 (lit< tt)) (eb 0 (lit< tt)) (eb 1 (lit< tt)) (eb 2 (lit< tt)) (eb 3 (lit< tt))
       (ec 0 (lit< tt)) (ec 1 (lit< tt)) (ec 2 (lit< tt)) (ec 3 (lit< tt)) (ed 0 (lit< tt)) (ed 1 (lit< tt)) (ed 2 (lit< tt)) (ed 3 (lit< tt))
 
-pub idct_of_rows : (x : List ℤ) → idct (block_of (at x)) ≡ idct x
+pub idct_of_rows : (x : List ℤ) → idct (block_from (element_at x)) ≡ idct x
 unfolding idct vertical horizontal
 idct_of_rows x = refl
 
@@ -184,7 +184,7 @@ module _ (xs : List ℤ) (small : EachWithin 8191 xs) (k : ℕ) where
       let l = small k in
       ap (λ z. coded32 z) (to_z-of_z w16 (get xs k) (short16_fits (get xs k) (omega arith))) ∙ to_z-of_z w32 (get xs k) (short_fits (get xs k) (omega arith))
 
-pub short-row-within : (xs : List ℤ) → EachWithin 8191 xs → (r : ℕ) (v : List ℤ) → ((j : ℕ) → j < 4 → lane v j ≡ at xs r j) → LanesWithin 8191 v
+pub short-row-within : (xs : List ℤ) → EachWithin 8191 xs → (r : ℕ) (v : List ℤ) → ((j : ℕ) → j < 4 → lane v j ≡ element_at xs r j) → LanesWithin 8191 v
 short-row-within xs small r v e j h = subst (λ z. unsigned_abs z ≤ 8191) (sym (e j h)) (small (4 * r + j))
 
 module _ (a : List ℤ) {xs : List ℕ} (p : Signed 4 (lane a) xs) (w : LanesWithin 32764 a) where

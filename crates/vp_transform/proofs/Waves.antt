@@ -2,7 +2,7 @@
 use Rattle.std.proofs.Common.{◌≡◌, ℕ, zero, suc, ◌+◌, ◌*◌, ◌^◌, ◌<◌, ◌≤◌, ℤ, pos, negsuc, ◌+ℤ◌, ◌-ℤ◌, ◌*ℤ◌, neg_ℤ, ◌≤ℤ◌, List, arith, unsigned_abs}
 use Rattle.std.proofs.lemmas.Int.{ints}
 use Rattle.vp_transform.specs.Fits.{Fits, EachWithin}
-use Rattle.vp_transform.specs.Transform.{at, hadamard_times}
+use Rattle.vp_transform.specs.Transform.{element_at, hadamard_times}
 use Rattle.vp_transform.specs.Steps.{row_product}
 use Rattle.vp_transform.specs.Forward.{row_waves, column_waves, across, down, fdct, times_hadamard_halved, fwht}
 use Rattle.vp_transform.proofs.Along.{get}
@@ -148,7 +148,7 @@ module _ (b : ℕ) (block : List ℤ) (small : EachWithin b block) where
   pub across-within : EachWithin (32 * b) (across block)
   unfolding across
   across-within =
-      each-block_of (32 * b) (λ r c. get (row_waves (at block r 0) (at block r 1) (at block r 2) (at block r 3)) c)
+      each-block_of (32 * b) (λ r c. get (row_waves (element_at block r 0) (element_at block r 1) (element_at block r 2) (element_at block r 3)) c)
       (λ r c. row-at_most b (here (4 * r + 0)) (here (4 * r + 1)) (here (4 * r + 2)) (here (4 * r + 3)) c)
 
   below : (k : ℕ) → AtMost (32 * b) (get (across block) k)
@@ -157,7 +157,7 @@ module _ (b : ℕ) (block : List ℤ) (small : EachWithin b block) where
   pub fdct-within : EachWithin (8 * b) (fdct block)
   unfolding fdct down
   fdct-within =
-      each-block_of (8 * b) (λ r c. get (column_waves (at (across block) 0 c) (at (across block) 1 c) (at (across block) 2 c) (at (across block) 3 c)) r)
+      each-block_of (8 * b) (λ r c. get (column_waves (element_at (across block) 0 c) (element_at (across block) 1 c) (element_at (across block) 2 c) (element_at (across block) 3 c)) r)
       (λ r c. column-at_most b (below (4 * 0 + c)) (below (4 * 1 + c)) (below (4 * 2 + c)) (below (4 * 3 + c)) r)
 
 -- ---- the Walsh-Hadamard transform

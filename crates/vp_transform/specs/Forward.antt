@@ -1,14 +1,14 @@
 -- The forward transforms of a block's sixteen numbers, over whole numbers that never wrap. RFC 6386 leaves them open: this is the
 -- choice of this repository's encoder.
 use Rattle.std.specs.Prelude.{ℤ, pos, ◌+ℤ◌, ◌-ℤ◌, ◌*ℤ◌, List, [], ◌∷◌, slice_index_or}
-use Rattle.vp_transform.specs.Transform.{at, block_of, product, hadamard, hadamard_times}
+use Rattle.vp_transform.specs.Transform.{element_at, block_from, product, hadamard, hadamard_times}
 use lib.Signed.{shr_z}
 
 -- ---- the Walsh-Hadamard transform
 
 -- (X H + 1) / 2, rounded down, where H is `hadamard` and X the block
 unfoldable pub times_hadamard_halved : List ℤ → List ℤ
-times_hadamard_halved block = block_of (λ r c. shr_z (product (at block) (at hadamard) r c +ℤ pos 1) 2)
+times_hadamard_halved block = block_from (λ r c. shr_z (product (element_at block) (element_at hadamard) r c +ℤ pos 1) 2)
 
 -- (H X H + 1) / 2, rounded down
 unfoldable pub fwht : List ℤ → List ℤ
@@ -36,11 +36,11 @@ column_waves i0 i1 i2 i3 =
 
 -- each row transformed
 unfoldable pub across : List ℤ → List ℤ
-across block = block_of (λ r c. slice_index_or (row_waves (at block r 0) (at block r 1) (at block r 2) (at block r 3)) c (pos 0))
+across block = block_from (λ r c. slice_index_or (row_waves (element_at block r 0) (element_at block r 1) (element_at block r 2) (element_at block r 3)) c (pos 0))
 
 -- each column transformed
 unfoldable pub down : List ℤ → List ℤ
-down block = block_of (λ r c. slice_index_or (column_waves (at block 0 c) (at block 1 c) (at block 2 c) (at block 3 c)) r (pos 0))
+down block = block_from (λ r c. slice_index_or (column_waves (element_at block 0 c) (element_at block 1 c) (element_at block 2 c) (element_at block 3 c)) r (pos 0))
 
 -- first the rows, then the columns
 unfoldable pub fdct : List ℤ → List ℤ

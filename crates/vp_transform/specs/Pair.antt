@@ -1,11 +1,11 @@
 -- Two blocks side by side.
 use Rattle.std.specs.Prelude.{ℕ, ℤ, List, [], ◌∷◌}
 use Rattle.vp_lanes.specs.Lane.{lane}
-use Rattle.vp_transform.specs.Transform.{at, block_of}
+use Rattle.vp_transform.specs.Transform.{element_at, block_from}
 
 -- row r of the first block and, behind it, row r of the second
 abbrev pub row_in : List ℤ → List ℤ → ℕ → List ℤ
-row_in a b r = at a r 0 ∷ at a r 1 ∷ at a r 2 ∷ at a r 3 ∷ at b r 0 ∷ at b r 1 ∷ at b r 2 ∷ at b r 3 ∷ []
+row_in a b r = element_at a r 0 ∷ element_at a r 1 ∷ element_at a r 2 ∷ element_at a r 3 ∷ element_at b r 0 ∷ element_at b r 1 ∷ element_at b r 2 ∷ element_at b r 3 ∷ []
 
 -- ---- inside the crate: two blocks by turns, in four vectors of eight numbers, their rows
 
@@ -23,4 +23,4 @@ odd_block a b c d =
 
 -- rows made columns
 abbrev pub transposed : List ℤ → List ℤ
-transposed block = block_of (λ r c. at block c r)
+transposed block = block_from (λ r c. element_at block c r)

@@ -4,12 +4,12 @@ use Rattle.std.specs.List.{range_with_len}
 use lib.Signed.{shr_z}
 
 -- A block is its four rows of four numbers, one row after another: here row r, column c.
-abbrev pub at : List ℤ → ℕ → ℕ → ℤ
-at block r c = slice_index_or block (4 * r + c) (pos 0)
+abbrev pub element_at : List ℤ → ℕ → ℕ → ℤ
+element_at block r c = slice_index_or block (4 * r + c) (pos 0)
 
 -- the block that has f r c in row r, column c
-abbrev pub block_of : (ℕ → ℕ → ℤ) → List ℤ
-block_of f = map (λ place. f (place / 4) (place % 4)) (range_with_len 0 16)
+abbrev pub block_from : (ℕ → ℕ → ℤ) → List ℤ
+block_from f = map (λ place. f (place / 4) (place % 4)) (range_with_len 0 16)
 
 -- ---- the inverse Walsh-Hadamard transform (chapter 14.3)
 
@@ -32,15 +32,15 @@ product m n r c = m r 0 *ℤ n 0 c +ℤ m r 1 *ℤ n 1 c +ℤ m r 2 *ℤ n 2 c +
 
 -- H X, where H is `hadamard` and X the block
 unfoldable pub hadamard_times : List ℤ → List ℤ
-hadamard_times block = block_of (product (at hadamard) (at block))
+hadamard_times block = block_from (product (element_at hadamard) (element_at block))
 
 -- X H
 unfoldable pub times_hadamard : List ℤ → List ℤ
-times_hadamard block = block_of (product (at block) (at hadamard))
+times_hadamard block = block_from (product (element_at block) (element_at hadamard))
 
 -- (X H + 3) / 8, rounded down
 unfoldable pub times_hadamard_rounded : List ℤ → List ℤ
-times_hadamard_rounded block = block_of (λ r c. shr_z (product (at block) (at hadamard) r c +ℤ pos 3) 8)
+times_hadamard_rounded block = block_from (λ r c. shr_z (product (element_at block) (element_at hadamard) r c +ℤ pos 3) 8)
 
 -- (H X H + 3) / 8, rounded down
 unfoldable pub iwht : List ℤ → List ℤ
@@ -63,14 +63,14 @@ turned i0 i1 i2 i3 =
     (a +ℤ d) ∷ (b +ℤ c) ∷ (b -ℤ c) ∷ (a -ℤ d) ∷ []
 
 abbrev pub column_turned : List ℤ → ℕ → List ℤ
-column_turned block c = turned (at block 0 c) (at block 1 c) (at block 2 c) (at block 3 c)
+column_turned block c = turned (element_at block 0 c) (element_at block 1 c) (element_at block 2 c) (element_at block 3 c)
 
 abbrev pub row_turned : List ℤ → ℕ → List ℤ
-row_turned block r = turned (at block r 0) (at block r 1) (at block r 2) (at block r 3)
+row_turned block r = turned (element_at block r 0) (element_at block r 1) (element_at block r 2) (element_at block r 3)
 
 -- each column transformed
 unfoldable pub vertical : List ℤ → List ℤ
-vertical block = block_of (λ r c. slice_index_or (column_turned block c) r (pos 0))
+vertical block = block_from (λ r c. slice_index_or (column_turned block c) r (pos 0))
 
 -- (z + 4) / 8, rounded down
 abbrev pub rounded : ℤ → ℤ
@@ -78,7 +78,7 @@ rounded z = shr_z (z +ℤ pos 4) 8
 
 -- each row transformed, and each number rounded
 unfoldable pub horizontal : List ℤ → List ℤ
-horizontal block = block_of (λ r c. rounded (slice_index_or (row_turned block r) c (pos 0)))
+horizontal block = block_from (λ r c. rounded (slice_index_or (row_turned block r) c (pos 0)))
 
 -- first the columns, then the rows
 unfoldable pub idct : List ℤ → List ℤ

@@ -4,7 +4,7 @@ ghost use Rattle.std.specs.Prelude.{◌≡◌, ℕ, ◌*◌, ◌^◌, ◌<◌, �
 ghost use Rattle.vp_lanes.specs.Lane.{lane};
 ghost use Rattle.vp_transform.specs.Fits.{EachWithin};
 ghost use Rattle.vp_transform.specs.Narrow.{column_of, block_in, LanesWithin};
-ghost use Rattle.vp_transform.specs.Transform.{at, turned, rounded, idct};
+ghost use Rattle.vp_transform.specs.Transform.{element_at, turned, rounded, idct};
 
 use std::simd::prelude::*;
 
@@ -29,7 +29,7 @@ pub(crate) fn is_narrow(block: &[i64; 16], bound: u64) -> bool
 pub(crate) fn row(block: &[i64; 16], r: usize) -> i32x4
     requires inside { r < 4 }
     requires small { EachWithin (2 ^ 26) block.now }
-    ensures { (j : ℕ) → j < 4 → lane result j ≡ at block.now r j }
+    ensures { (j : ℕ) → j < 4 → lane result j ≡ element_at block.now r j }
 {
     let i = 4 * r;
     i64x4::from_array([block[i], block[i + 1], block[i + 2], block[i + 3]]).cast::<i32>()
@@ -128,7 +128,7 @@ pub fn idct_short(block: &[i16; 16]) -> [i16; 16]
 fn short_row(block: &[i16; 16], r: usize) -> i32x4
     requires inside { r < 4 }
     requires small { EachWithin 8191 block.now }
-    ensures { (j : ℕ) → j < 4 → lane result j ≡ at block.now r j }
+    ensures { (j : ℕ) → j < 4 → lane result j ≡ element_at block.now r j }
 {
     let i = 4 * r;
     i16x4::from_array([block[i], block[i + 1], block[i + 2], block[i + 3]]).cast::<i32>()

@@ -4,7 +4,7 @@ ghost use Rattle.std.specs.Prelude.{◌≡◌, ℕ, ◌<◌, ◌≤◌, pos, ◌
 ghost use Rattle.vp_lanes.specs.Lane.{lane};
 ghost use Rattle.vp_transform.specs.Fits.{EachWithin};
 ghost use Rattle.vp_transform.specs.Pair.{row_in, even_block, odd_block, transposed};
-ghost use Rattle.vp_transform.specs.Transform.{at, block_of, scaled, rounded, vertical, idct};
+ghost use Rattle.vp_transform.specs.Transform.{element_at, block_from, scaled, rounded, vertical, idct};
 ghost use lib.Signed.{shr_z};
 
 use std::simd::prelude::*;
@@ -36,8 +36,8 @@ pub fn idct_pair(a: &[i16; 16], b: &[i16; 16]) -> (i16x8, i16x8, i16x8, i16x8)
 fn by_turns(a: &[i16; 16], b: &[i16; 16]) -> (i16x8, i16x8, i16x8, i16x8)
     requires first { EachWithin 2200 a.now }
     requires second { EachWithin 2200 b.now }
-    ensures even { even_block result.0 result.1 result.2 result.3 ≡ block_of (at a.now) }
-    ensures odd { odd_block result.0 result.1 result.2 result.3 ≡ block_of (at b.now) }
+    ensures even { even_block result.0 result.1 result.2 result.3 ≡ block_from (element_at a.now) }
+    ensures odd { odd_block result.0 result.1 result.2 result.3 ≡ block_from (element_at b.now) }
 {
     let (upper, lower) = i16x16::from_array(*a).interleave(i16x16::from_array(*b));
     (

@@ -6,39 +6,39 @@ use Rattle.std.proofs.lemmas.Bool.{eqb-true, eq-eqb, cases_lt}
 use Rattle.std.proofs.lemmas.List.Sums.{sum_by-append}
 use Rattle.vp_bool.specs.Bools.{State, read}
 use Rattle.vp_bool.specs.Reader.{Reader, ◌>>=◌, give, Reads}
-use Rattle.vp_tree.specs.declared.entry.Entry.{Entry}
-use Rattle.vp_tree.specs.declared.entry.Entry.TheVariants.{Leaf, Pair}
+use Rattle.vp_tree.specs.declared.entry.TreeEntry.{TreeEntry}
+use Rattle.vp_tree.specs.declared.entry.TreeEntry.TheVariants.{Leaf, Pair}
 use Rattle.vp_tree.specs.declared.steps.Step.{Step}
-use Rattle.vp_tree.specs.Tree.{is_tree, entry_of, IsPath, Leads, OnePath, OneLeaf, spelled, leads_to, are_led_to, leaf_passes, leaves_pass, next, walk, walk_from}
+use Rattle.vp_tree.specs.Tree.{is_tree, child_index, IsPath, LeadsToLeaf, OnePath, OneLeaf, spelled, leads_to, are_led_to, leaf_passes, leaves_pass, next, walk, walk_from}
 use Rattle.vp_tree.proofs.Walks.{and_left, and_right, further, bit_small, once, twos}
 
 -- ---- a walk takes a path
 
-pub first_pair : {T : Type 0} (t : List (Entry T)) (i k : ℕ) (step : Step) (path : List Step) → IsPath t i (step ∷ path) k → step.pair ≡ i
+pub first_pair : {T : Type 0} (t : List (TreeEntry T)) (i k : ℕ) (step : Step) (path : List Step) → IsPath t i (step ∷ path) k → step.pair ≡ i
 first_pair t i k step [] p = p.0
 first_pair t i k step (following ∷ path) p = p.0
 
-abbrev pub a_pair : {T : Type 0} → ℕ → Option (Entry T)
+abbrev pub a_pair : {T : Type 0} → ℕ → Option (TreeEntry T)
 a_pair j = Some (Pair j)
 
 -- a step before a path
-pub path_on : {T : Type 0} (t : List (Entry T)) (i j k : ℕ) (step : Step) (path : List Step)
-    → step.pair ≡ i → slice_get t (entry_of step) ≡ Some (Pair j) → IsPath t j path k → IsPath t i (step ∷ path) k
+pub path_on : {T : Type 0} (t : List (TreeEntry T)) (i j k : ℕ) (step : Step) (path : List Step)
+    → step.pair ≡ i → slice_get t (child_index step) ≡ Some (Pair j) → IsPath t j path k → IsPath t i (step ∷ path) k
 path_on t i j k step [] p q r = absurd r
 path_on {T = T} t i j k step (following ∷ path) p q r =
     let f = first_pair t j k following path r in
     (p, q ∙ ap (λ (m : ℕ). a_pair {T = T} m) (sym f), subst (λ (m : ℕ). IsPath t m (following ∷ path) k) (sym f) r)
 
-slice_within : {T : Type 0} (t : List (Entry T)) (i : ℕ) → i < length t → (e : Entry T) × (slice_get t i ≡ Some e)
+slice_within : {T : Type 0} (t : List (TreeEntry T)) (i : ℕ) → i < length t → (e : TreeEntry T) × (slice_get t i ≡ Some e)
 slice_within [] i h = absurd (omega arith)
 slice_within (x ∷ xs) zero h = (x, refl)
 slice_within (x ∷ xs) (suc i) h = slice_within xs i (omega arith)
 
-leads_next : {T : Type 0} (d : T) (t : List (Entry T)) (ps : List ℕ) (i : ℕ) (s : State) (b : Bool) (u : State)
+leads_next : {T : Type 0} (d : T) (t : List (TreeEntry T)) (ps : List ℕ) (i : ℕ) (s : State) (b : Bool) (u : State)
     → (read (slice_index ps (i / 2)) s).0 ≡ b → (read (slice_index ps (i / 2)) s).1 ≡ u
-    → (f : ℕ → Reader T) (o : Option (Entry T)) → slice_get t (i + from_bool b) ≡ o → ((e : Entry T) × (o ≡ Some e))
-    → ((j : ℕ) → o ≡ Some (Pair j) → Leads t ps j u (f j u).0 (f j u).1)
-    → Leads t ps i s (next d f o u).0 (next d f o u).1
+    → (f : ℕ → Reader T) (o : Option (TreeEntry T)) → slice_get t (i + from_bool b) ≡ o → ((e : TreeEntry T) × (o ≡ Some e))
+    → ((j : ℕ) → o ≡ Some (Pair j) → LeadsToLeaf t ps j u (f j u).0 (f j u).1)
+    → LeadsToLeaf t ps i s (next d f o u).0 (next d f o u).1
 leads_next d t ps i s b u p q f None e w h = absurd cc
 leads_next d t ps i s b u p q f (Some (Leaf x)) e w h =
     record { path = record { pair = i; bit = b } ∷ []; place = i + from_bool b; is_path = (refl, refl); is_leaf = e; bools = (p, q) }
@@ -52,8 +52,8 @@ leads_next d t ps i s b u p q f (Some (Pair j)) e w h =
       bools = (p, rw q l.bools);
     }
 
-leads : {T : Type 0} (d : T) (t : List (Entry T)) (ps : List ℕ) (n i : ℕ) (s : State) → is_tree t ≡ true → i + 1 < length t → length t ≤ n + i
-    → Leads t ps i s (walk d t ps n i s).0 (walk d t ps n i s).1
+leads : {T : Type 0} (d : T) (t : List (TreeEntry T)) (ps : List ℕ) (n i : ℕ) (s : State) → is_tree t ≡ true → i + 1 < length t → length t ≤ n + i
+    → LeadsToLeaf t ps i s (walk d t ps n i s).0 (walk d t ps n i s).1
 unfolding walk Rattle.vp_bool.specs.Reader.bind
 leads d t ps zero i s h w a = absurd (omega arith)
 leads d t ps (suc n) i s h w a =
@@ -63,14 +63,14 @@ leads d t ps (suc n) i s h w a =
     leads d t ps n j r.1 h f.within (omega arith))
 
 -- From a pair of a tree the walk leads along a path.
-pub walk_leads : {T : Type 0} (d : T) (t : List (Entry T)) (ps : List ℕ) (i : ℕ) (s : State) → is_tree t ≡ true → i + 1 < length t
-    → Leads t ps i s (walk_from d t ps i s).0 (walk_from d t ps i s).1
+pub walk_leads : {T : Type 0} (d : T) (t : List (TreeEntry T)) (ps : List ℕ) (i : ℕ) (s : State) → is_tree t ≡ true → i + 1 < length t
+    → LeadsToLeaf t ps i s (walk_from d t ps i s).0 (walk_from d t ps i s).1
 unfolding walk_from
 walk_leads d t ps i s h w = leads d t ps (length t - i) i s h w (omega arith)
 
 -- ---- a test of all leaves
 
-leaf_at : {T : Type 0} (passes : T → Bool) (k : ℕ) (t : List (Entry T)) (x : T) → leaves_pass passes t ≡ true → slice_get t k ≡ Some (Leaf x) → passes x ≡ true
+leaf_at : {T : Type 0} (passes : T → Bool) (k : ℕ) (t : List (TreeEntry T)) (x : T) → leaves_pass passes t ≡ true → slice_get t k ≡ Some (Leaf x) → passes x ≡ true
 leaf_at passes k [] x h q = absurd cc
 leaf_at passes zero (e ∷ es) x h q =
     let same : e ≡ Leaf x = cc in
@@ -78,32 +78,32 @@ leaf_at passes zero (e ∷ es) x h q =
     rw same at b
 leaf_at passes (suc k) (e ∷ es) x h q = leaf_at passes k es x (and_right (leaf_passes passes e) (leaves_pass passes es) h) q
 
-pub leads_passes : {T : Type 0} (t : List (Entry T)) (ps : List ℕ) (i : ℕ) (s : State) (x : T) (u : State) → Leads t ps i s x u
+pub leads_passes : {T : Type 0} (t : List (TreeEntry T)) (ps : List ℕ) (i : ℕ) (s : State) (x : T) (u : State) → LeadsToLeaf t ps i s x u
     → (passes : T → Bool) → leaves_pass passes t ≡ true → passes x ≡ true
 leads_passes t ps i s x u l passes h = leaf_at passes l.place t x h l.is_leaf
 
 -- ---- one path to a leaf
 
 -- the last step of a path to the entry k, and the path before it
-record Arrives {T : Type 0} (t : List (Entry T)) (i : ℕ) (path : List Step) (k : ℕ) : Type 0 where
+record Arrives {T : Type 0} (t : List (TreeEntry T)) (i : ℕ) (path : List Step) (k : ℕ) : Type 0 where
   before : List Step
   step : Step
   entry : ℕ
   whole : path ≡ before ++ step ∷ []
-  arrives : entry_of step ≡ k
+  arrives : child_index step ≡ k
   leads : slice_get t entry ≡ Some (Pair step.pair)
   comes : IsPath t i before entry
 
 abbrev OneStep : ℕ → List Step → ℕ → Type 0
-OneStep i path k = (step : Step) × (path ≡ step ∷ []) × (step.pair ≡ i) × (entry_of step ≡ k)
+OneStep i path k = (step : Step) × (path ≡ step ∷ []) × (step.pair ≡ i) × (child_index step ≡ k)
 
-arrives_on : {T : Type 0} (t : List (Entry T)) (i j k : ℕ) (step : Step) (path : List Step) → step.pair ≡ i → slice_get t (entry_of step) ≡ Some (Pair j)
+arrives_on : {T : Type 0} (t : List (TreeEntry T)) (i j k : ℕ) (step : Step) (path : List Step) → step.pair ≡ i → slice_get t (child_index step) ≡ Some (Pair j)
     → OneStep j path k ⊎ Arrives t j path k → Arrives t i (step ∷ path) k
 arrives_on {T = T} t i j k step path p q (inl last) =
     record {
       before = step ∷ [];
       step = last.0;
-      entry = entry_of step;
+      entry = child_index step;
       whole = ap (λ (steps : List Step). step ∷ steps) last.1;
       arrives = last.3;
       leads = q ∙ ap (λ (m : ℕ). a_pair {T = T} m) (sym last.2);
@@ -120,18 +120,18 @@ arrives_on t i j k step path p q (inr a) =
       comes = path_on t i j a.entry step a.before p q a.comes;
     }
 
-arrival : {T : Type 0} (t : List (Entry T)) (i k : ℕ) (path : List Step) → IsPath t i path k → OneStep i path k ⊎ Arrives t i path k
+arrival : {T : Type 0} (t : List (TreeEntry T)) (i k : ℕ) (path : List Step) → IsPath t i path k → OneStep i path k ⊎ Arrives t i path k
 arrival t i k [] p = absurd p
 arrival t i k (step ∷ []) p = inl (step, refl, p.0, p.1)
 arrival t i k (step ∷ (following ∷ path)) p = inr (arrives_on t i following.pair k step (following ∷ path) p.0 p.1 (arrival t following.pair k (following ∷ path) p.2))
 
 -- A path goes upwards.
-upwards : {T : Type 0} (t : List (Entry T)) (i k : ℕ) (path : List Step) → is_tree t ≡ true → IsPath t i path k → i ≤ k
+upwards : {T : Type 0} (t : List (TreeEntry T)) (i k : ℕ) (path : List Step) → is_tree t ≡ true → IsPath t i path k → i ≤ k
 upwards t i k [] h p = absurd p
 upwards t i k (step ∷ []) h p = omega arith
 upwards t i k (step ∷ (following ∷ path)) h p =
     let on = upwards t following.pair k (following ∷ path) h p.2 in
-    let f = further t (entry_of step) following.pair h p.1 in
+    let f = further t (child_index step) following.pair h p.1 in
     omega arith
 
 counted : {A : Type 0} (test : A → Bool) (x : A) (xs : List A) → count_by test (x ∷ xs) ≡ cond (test x) 1 0 + count_by test xs
@@ -170,7 +170,7 @@ counted_one test (z ∷ xs) (suc j) (suc k) x y n g h a b =
     ap suc
     (counted_one test xs j k x y (rest_counted (test z) (count_by test xs) (sym (counted test z xs) ∙ n) (λ e. counted_none test xs j x e g a)) g h a b)
 
-led_once : {T : Type 0} (t : List (Entry T)) (n m : ℕ) → are_led_to t n ≡ true → 0 < m → m ≤ n → count_by (leads_to (2 * m)) t ≡ 1
+led_once : {T : Type 0} (t : List (TreeEntry T)) (n m : ℕ) → are_led_to t n ≡ true → 0 < m → m ≤ n → count_by (leads_to (2 * m)) t ≡ 1
 led_once t zero m h low high = absurd (omega arith)
 led_once t (suc n) m h low high =
     elim (cases_lt m (suc n)) [
@@ -181,7 +181,7 @@ led_once t (suc n) m h low high =
     ]
 
 -- One entry leads to a pair.
-one_entry : {T : Type 0} (t : List (Entry T)) (j k m : ℕ) → is_tree t ≡ true → slice_get t j ≡ Some (Pair m) → slice_get t k ≡ Some (Pair m) → j ≡ k
+one_entry : {T : Type 0} (t : List (TreeEntry T)) (j k m : ℕ) → is_tree t ≡ true → slice_get t j ≡ Some (Pair m) → slice_get t k ≡ Some (Pair m) → j ≡ k
 one_entry {T = T} t j k m h p q =
     let f = further t j m h p in
     let half : 2 * (m / 2) ≡ m = omega (arith, f.even) in
@@ -203,12 +203,12 @@ bit_same true false i j p q e = absurd (omega arith)
 bit_same false true i j p q e = absurd (omega arith)
 bit_same false false i j p q e = (omega arith, refl)
 
-same_last : (a b : Step) (k : ℕ) → a.pair % 2 ≡ 0 → b.pair % 2 ≡ 0 → entry_of a ≡ k → entry_of b ≡ k → a ≡ b
+same_last : (a b : Step) (k : ℕ) → a.pair % 2 ≡ 0 → b.pair % 2 ≡ 0 → child_index a ≡ k → child_index b ≡ k → a ≡ b
 same_last a b k p q e f =
     let s = bit_same a.bit b.bit a.pair b.pair p q (e ∙ sym f) in
     same_step a.pair b.pair a.bit b.bit s.0 s.1
 
-module _ {T : Type 0} (t : List (Entry T)) (h : is_tree t ≡ true) (i : ℕ) (even : i % 2 ≡ 0) where
+module _ {T : Type 0} (t : List (TreeEntry T)) (h : is_tree t ≡ true) (i : ℕ) (even : i % 2 ≡ 0) where
   -- the first pair isn't met again
   not_again : (k : ℕ) (path other : List Step) → Arrives t i path k → OneStep i other k → ⊥
   not_again k path other a b =
@@ -241,45 +241,45 @@ module _ {T : Type 0} (t : List (Entry T)) (h : is_tree t ≡ true) (i : ℕ) (e
   one (suc n) k path other less p q =
       both n k path other (λ m x y fewer a b. one n m x y (omega arith) a b) (arrival t i k path p) (arrival t i k other q)
 
-pub one_path : {T : Type 0} (t : List (Entry T)) → is_tree t ≡ true → OnePath t
+pub one_path : {T : Type 0} (t : List (TreeEntry T)) → is_tree t ≡ true → OnePath t
 one_path t h i k path other even p q = one t h i even (suc k) k path other (omega arith) p q
 
 -- ---- one leaf that the bools of a state lead to
 
 -- Two first steps that the same state spells are one.
-same_first : {T : Type 0} (t : List (Entry T)) (ps : List ℕ) (i : ℕ) (s : State) (a b : Step) → a.pair ≡ i → b.pair ≡ i
+same_first : {T : Type 0} (t : List (TreeEntry T)) (ps : List ℕ) (i : ℕ) (s : State) (a b : Step) → a.pair ≡ i → b.pair ≡ i
     → (read (slice_index ps (a.pair / 2)) s).0 ≡ a.bit → (read (slice_index ps (b.pair / 2)) s).0 ≡ b.bit → a ≡ b
 same_first t ps i s a b p q e f =
     let pair : a.pair ≡ b.pair = p ∙ sym q in
     let bit : a.bit ≡ b.bit = sym e ∙ rw pair f in
     same_step a.pair b.pair a.bit b.bit pair bit
 
-abbrev Ends : {T : Type 0} → List (Entry T) → ℕ → Type 0
+abbrev Ends : {T : Type 0} → List (TreeEntry T) → ℕ → Type 0
 Ends {T} t k = (x : T) × (slice_get t k ≡ Some (Leaf x))
 
-ends_there : {T : Type 0} (t : List (Entry T)) (k j : ℕ) → Ends t k → slice_get t k ≡ Some (Pair j) → ⊥
+ends_there : {T : Type 0} (t : List (TreeEntry T)) (k j : ℕ) → Ends t k → slice_get t k ≡ Some (Pair j) → ⊥
 ends_there {T = T} t k j e p =
     let same : Some (Leaf e.0) ≡ a_pair {T = T} j = sym e.1 ∙ p in
     absurd cc
 
-same_end : {T : Type 0} (t : List (Entry T)) (ps : List ℕ) (path other : List Step) (i k m : ℕ) (s u v : State)
+same_end : {T : Type 0} (t : List (TreeEntry T)) (ps : List ℕ) (path other : List Step) (i k m : ℕ) (s u v : State)
     → IsPath t i path k → IsPath t i other m → Ends t k → Ends t m → Reads (spelled ps path) s u → Reads (spelled ps other) s v → (k ≡ m) × (u ≡ v)
 same_end t ps [] other i k m s u v p q e f a b = absurd p
 same_end t ps (step ∷ path) [] i k m s u v p q e f a b = absurd q
 same_end t ps (x ∷ []) (y ∷ []) i k m s u v p q e f a b =
     let same = same_first t ps i s x y p.0 q.0 a.0 b.0 in
-    (sym p.1 ∙ ap entry_of same ∙ q.1, sym a.1 ∙ ap (λ (z : Step). (read (slice_index ps (z.pair / 2)) s).1) same ∙ b.1)
+    (sym p.1 ∙ ap child_index same ∙ q.1, sym a.1 ∙ ap (λ (z : Step). (read (slice_index ps (z.pair / 2)) s).1) same ∙ b.1)
 same_end t ps (x ∷ []) (y ∷ (w ∷ other)) i k m s u v p q e f a b =
     let same = same_first t ps i s x y p.0 q.0 a.0 b.0 in
-    let place : entry_of y ≡ k = sym (ap entry_of same) ∙ p.1 in
+    let place : child_index y ≡ k = sym (ap child_index same) ∙ p.1 in
     absurd (ends_there t k w.pair e (rw place at q.1))
 same_end t ps (x ∷ (z ∷ path)) (y ∷ []) i k m s u v p q e f a b =
     let same = same_first t ps i s x y p.0 q.0 a.0 b.0 in
-    let place : entry_of x ≡ m = ap entry_of same ∙ q.1 in
+    let place : child_index x ≡ m = ap child_index same ∙ q.1 in
     absurd (ends_there t m z.pair f (rw place at p.1))
 same_end {T = T} t ps (x ∷ (z ∷ path)) (y ∷ (w ∷ other)) i k m s u v p q e f a b =
     let same = same_first t ps i s x y p.0 q.0 a.0 b.0 in
-    let on : a_pair {T = T} z.pair ≡ a_pair {T = T} w.pair = sym p.1 ∙ ap (λ (step : Step). slice_get t (entry_of step)) same ∙ q.1 in
+    let on : a_pair {T = T} z.pair ≡ a_pair {T = T} w.pair = sym p.1 ∙ ap (λ (step : Step). slice_get t (child_index step)) same ∙ q.1 in
     let pair : z.pair ≡ w.pair = cc in
     let state = ap (λ (step : Step). (read (slice_index ps (step.pair / 2)) s).1) same in
     same_end t ps (z ∷ path) (w ∷ other) z.pair k m (read (slice_index ps (x.pair / 2)) s).1 u v p.2
@@ -289,7 +289,7 @@ same_end {T = T} t ps (x ∷ (z ∷ path)) (y ∷ (w ∷ other)) i k m s u v p q
     a.1
     (subst (λ (r : State). Reads (spelled ps (w ∷ other)) r v) (sym state) b.1)
 
-pub one_leaf : {T : Type 0} (t : List (Entry T)) → OneLeaf t
+pub one_leaf : {T : Type 0} (t : List (TreeEntry T)) → OneLeaf t
 one_leaf t ps i s x y u v l r =
     let e = same_end t ps l.path r.path i l.place r.place s u v l.is_path r.is_path (x, l.is_leaf) (y, r.is_leaf) l.bools r.bools in
     let both : Some (Leaf x) ≡ Some (Leaf y) = sym l.is_leaf ∙ ap (slice_get t) e.0 ∙ r.is_leaf in

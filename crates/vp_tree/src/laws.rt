@@ -2,10 +2,10 @@
 ghost use Rattle.std.specs.Prelude.{IsTrue};
 ghost use Rattle.vp_tree.specs.Tree.{is_tree, OnePath, OneLeaf, TakesPaths};
 
-use crate::entry::Entry;
+use crate::entry::TreeEntry;
 
 /// At most one path leads to a leaf.
-pub fn one_path<T>(tree: &[Entry<T>])
+pub fn one_path<T>(tree: &[TreeEntry<T>])
     requires { IsTrue (is_tree tree.now) }
     ensures { OnePath tree.now }
 {
@@ -13,14 +13,14 @@ pub fn one_path<T>(tree: &[Entry<T>])
 }
 
 /// The bools of a partition lead to one leaf, by one path.
-pub fn one_leaf<T>(tree: &[Entry<T>])
+pub fn one_leaf<T>(tree: &[TreeEntry<T>])
     ensures { OneLeaf tree.now }
 {
     let _ = tree;
 }
 
 /// A walk gives the leaf whose path the bools spell.
-pub fn takes_paths<T>(tree: &[Entry<T>])
+pub fn takes_paths<T>(tree: &[TreeEntry<T>])
     requires { IsTrue (is_tree tree.now) }
     ensures { TakesPaths tree.now }
 {

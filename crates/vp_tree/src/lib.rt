@@ -7,7 +7,7 @@ mod reading;
 mod steps;
 mod writing;
 
-pub use entry::Entry;
+pub use entry::TreeEntry;
 pub use laws::{one_leaf, one_path, takes_paths};
 pub use reading::{read_tree, read_tree_from};
 pub use steps::{Step, path, path_from};

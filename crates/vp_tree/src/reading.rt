@@ -1,7 +1,7 @@
 ghost use Rattle.std.specs.Prelude.{◌≡◌, ◌≤◌, ◌<◌, ◌*◌, ◌+◌, Bool, length, IsTrue};
-ghost use Rattle.vp_tree.specs.Tree.{is_tree, walk_from, Leads, leaves_pass};
+ghost use Rattle.vp_tree.specs.Tree.{is_tree, walk_from, LeadsToLeaf, leaves_pass};
 
-use crate::entry::Entry;
+use crate::entry::TreeEntry;
 use vp_bool::BoolDecoder;
 
 /// Reads bools from a pair of the tree on, to a leaf (RFC 6386, chapter 8.1).
@@ -9,7 +9,7 @@ use vp_bool::BoolDecoder;
 /// `from` is the place of that pair's first entry.
 #[inline(always)]
 pub fn read_tree_from<T: Copy>(
-    tree: &[Entry<T>],
+    tree: &[TreeEntry<T>],
     probabilities: &[u8],
     from: usize,
     decoder: &mut BoolDecoder,
@@ -21,7 +21,7 @@ pub fn read_tree_from<T: Copy>(
     ensures value { (default : T) → result ≡ (walk_from default tree.now probabilities.now from decoder.old).0 }
     ensures rest { (default : T) → decoder.new ≡ (walk_from default tree.now probabilities.now from decoder.old).1 }
     // The bools read are those of a path to that leaf.
-    ensures path { Leads tree.now probabilities.now from decoder.old result decoder.new }
+    ensures path { LeadsToLeaf tree.now probabilities.now from decoder.old result decoder.new }
     // What holds of all leaves of the table holds of this one.
     ensures leaf { (passes : T → Bool) → IsTrue (leaves_pass passes tree.now) → IsTrue (passes result) }
 {
@@ -29,22 +29,26 @@ pub fn read_tree_from<T: Copy>(
     'walk: loop {
         let bit = decoder.read(probabilities[place / 2]);
         match tree[place + bit as usize] {
-            Entry::Leaf(leaf) => return leaf,
-            Entry::Pair(pair) => place = pair as usize,
+            TreeEntry::Leaf(leaf) => return leaf,
+            TreeEntry::Pair(pair) => place = pair as usize,
         }
     }
 }
 
 /// Reads bools from the root of the tree on, to a leaf (RFC 6386, chapter 8.1).
 #[inline(always)]
-pub fn read_tree<T: Copy>(tree: &[Entry<T>], probabilities: &[u8], decoder: &mut BoolDecoder) -> T
+pub fn read_tree<T: Copy>(
+    tree: &[TreeEntry<T>],
+    probabilities: &[u8],
+    decoder: &mut BoolDecoder,
+) -> T
     requires formed { IsTrue (is_tree tree.now) }
     requires probs_in { length tree.now ≤ 2 * length probabilities.now }
     // The default is never met.
     ensures value { (default : T) → result ≡ (walk_from default tree.now probabilities.now 0 decoder.old).0 }
     ensures rest { (default : T) → decoder.new ≡ (walk_from default tree.now probabilities.now 0 decoder.old).1 }
     // The bools read are those of a path to that leaf.
-    ensures path { Leads tree.now probabilities.now 0 decoder.old result decoder.new }
+    ensures path { LeadsToLeaf tree.now probabilities.now 0 decoder.old result decoder.new }
     // What holds of all leaves of the table holds of this one.
     ensures leaf { (passes : T → Bool) → IsTrue (leaves_pass passes tree.now) → IsTrue (passes result) }
 {

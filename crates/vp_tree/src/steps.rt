@@ -2,7 +2,7 @@ ghost use Rattle.std.specs.Prelude.{◌≡◌, ◌≤◌, ◌<◌, ◌*◌, ◌+
 ghost use Rattle.vp_tree.specs.Tree.{is_tree, IsPathTo};
 ghost use Rattle.vp_tree.specs.Search.{leads, has_leaf};
 
-use crate::entry::Entry;
+use crate::entry::TreeEntry;
 use arrayvec::ArrayVec;
 
 /// A step of a path: from a pair to one of its two entries.
@@ -17,7 +17,11 @@ pub struct Step {
 /// The steps from a pair of the tree to a leaf (RFC 6386, chapter 8.1).
 ///
 /// `from` is the place of that pair's first entry. No tree of VP8 has more than 22 entries.
-pub fn path_from<T: Copy + PartialEq>(tree: &[Entry<T>], from: usize, leaf: T) -> ArrayVec<Step, 16>
+pub fn path_from<T: Copy + PartialEq>(
+    tree: &[TreeEntry<T>],
+    from: usize,
+    leaf: T,
+) -> ArrayVec<Step, 16>
     requires formed { IsTrue (is_tree tree.now) }
     requires small { length tree.now ≤ 32 }
     requires from_in { from + 1 < length tree.now }
@@ -36,14 +40,14 @@ pub fn path_from<T: Copy + PartialEq>(tree: &[Entry<T>], from: usize, leaf: T) -
             bit,
         });
         match tree[place + bit as usize] {
-            Entry::Leaf(_) => return path,
-            Entry::Pair(pair) => place = pair as usize,
+            TreeEntry::Leaf(_) => return path,
+            TreeEntry::Pair(pair) => place = pair as usize,
         }
     }
 }
 
 /// The steps from the root of the tree to a leaf (RFC 6386, chapter 8.1).
-pub fn path<T: Copy + PartialEq>(tree: &[Entry<T>], leaf: T) -> ArrayVec<Step, 16>
+pub fn path<T: Copy + PartialEq>(tree: &[TreeEntry<T>], leaf: T) -> ArrayVec<Step, 16>
     requires formed { IsTrue (is_tree tree.now) }
     requires small { length tree.now ≤ 32 }
     requires leaf_in { IsTrue (has_leaf (T.eq leaf) tree.now 0) }
@@ -55,14 +59,14 @@ pub fn path<T: Copy + PartialEq>(tree: &[Entry<T>], leaf: T) -> ArrayVec<Step, 1
 }
 
 /// Whether the entry at a place is the leaf, or the leaf lies behind it.
-fn leads_to<T: Copy + PartialEq>(tree: &[Entry<T>], place: usize, leaf: T) -> bool
+fn leads_to<T: Copy + PartialEq>(tree: &[TreeEntry<T>], place: usize, leaf: T) -> bool
     requires formed { IsTrue (is_tree tree.now) }
     requires place_in { place < length tree.now }
     ensures { result ≡ leads (T.eq leaf) (has_leaf (T.eq leaf) tree.now) (slice_get tree.now place) }
 {
     match tree[place] {
-        Entry::Leaf(other) => leaf == other,
-        Entry::Pair(pair) => {
+        TreeEntry::Leaf(other) => leaf == other,
+        TreeEntry::Pair(pair) => {
             leads_to(tree, pair as usize, leaf) || leads_to(tree, pair as usize + 1, leaf)
         }
     }

@@ -4,7 +4,7 @@ ghost use Rattle.vp_tree.specs.declared.steps.Step.{Step};
 ghost use Rattle.vp_tree.specs.Tree.{is_tree, spelled, walk_from};
 ghost use Rattle.vp_tree.specs.Search.{has_leaf};
 
-use crate::entry::Entry;
+use crate::entry::TreeEntry;
 use crate::steps::{Step, path_from};
 use std::alloc::AllocError;
 use vp_bool::BoolEncoder;
@@ -14,7 +14,7 @@ use vp_bool::BoolEncoder;
 /// `from` is the place of that pair's first entry. Where memory is refused, a part of the path may
 /// have been written.
 pub fn write_tree_from<T: Copy + PartialEq>(
-    tree: &[Entry<T>],
+    tree: &[TreeEntry<T>],
     probabilities: &[u8],
     from: usize,
     leaf: T,
@@ -40,7 +40,7 @@ pub fn write_tree_from<T: Copy + PartialEq>(
 ///
 /// Where memory is refused, a part of the path may have been written.
 pub fn write_tree<T: Copy + PartialEq>(
-    tree: &[Entry<T>],
+    tree: &[TreeEntry<T>],
     probabilities: &[u8],
     leaf: T,
     encoder: &mut BoolEncoder,

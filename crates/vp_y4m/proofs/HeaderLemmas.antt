@@ -6,8 +6,8 @@ use Rattle.std.specs.Borrow.{Bor}
 use Rattle.std.proofs.lemmas.List.Splits.{slice_split_first}
 use Rattle.std.proofs.lemmas.List.Sums.{prefix_len-le-length}
 use Rattle.std.proofs.lemmas.Bool.Decides.{nat_tests}
-use Rattle.vp_y4m.specs.Header.{is_space, behind, either, last_among, last_of}
-use Rattle.vp_y4m.specs.Shown.{text_of}
+use Rattle.vp_y4m.specs.Header.{is_space, text_after_kind, either, last_among, last_token}
+use Rattle.vp_y4m.specs.Shown.{borrowed_text}
 
 -- no place is found only where there is none
 pub position_none : (p : ℕ → Bool) (xs : List ℕ) → position p xs ≡ None → position_or_len p xs ≡ length xs
@@ -24,15 +24,15 @@ slice_split_one p (x ∷ xs) h = go (p x) h (slice_split_one p xs)
     go true e more = absurd (omega arith)
     go false e more = rw (more (omega arith)) refl
 
-pub last_of_more : (kind : ℕ) (line : List ℕ) → position_or_len is_space line < length line → last_of kind line ≡ either (last_of kind (after_first is_space line)) (behind kind (before_first is_space line))
-unfolding last_of
+pub last_of_more : (kind : ℕ) (line : List ℕ) → position_or_len is_space line < length line → last_token kind line ≡ either (last_token kind (after_first is_space line)) (text_after_kind kind (before_first is_space line))
+unfolding last_token
 last_of_more kind line h = ap (last_among kind) (slice_split_first is_space line 0 h)
 
-pub last_of_one : (kind : ℕ) (line : List ℕ) → position_or_len is_space line ≡ length line → last_of kind line ≡ behind kind line
-unfolding last_of
+pub last_of_one : (kind : ℕ) (line : List ℕ) → position_or_len is_space line ≡ length line → last_token kind line ≡ text_after_kind kind line
+unfolding last_token
 last_of_one kind line h = ap (last_among kind) (slice_split_one is_space line h)
 
-text_of_or : (a b : Option (Bor (List ℕ))) → text_of (option_or a b) ≡ either (text_of a) (text_of b)
+text_of_or : (a b : Option (Bor (List ℕ))) → borrowed_text (option_or a b) ≡ either (borrowed_text a) (borrowed_text b)
 text_of_or None b = refl
 text_of_or (Some x) b = refl
 
@@ -42,13 +42,13 @@ either_assoc (Some x) b c = refl
 
 -- one more token
 pub token_more : (kind : ℕ) (line rest token after : List ℕ) (text last r : Option (Bor (List ℕ))) → position_or_len is_space rest < length rest → token ≡ before_first is_space rest → after ≡ after_first is_space rest
-    → text_of text ≡ behind kind token → r ≡ option_or text last → either (last_of kind rest) (text_of last) ≡ last_of kind line → either (last_of kind after) (text_of r) ≡ last_of kind line
+    → borrowed_text text ≡ text_after_kind kind token → r ≡ option_or text last → either (last_token kind rest) (borrowed_text last) ≡ last_token kind line → either (last_token kind after) (borrowed_text r) ≡ last_token kind line
 token_more kind line rest token after text last r inside t a e o h =
     rw (a, o, text_of_or text last, e, t)
-    (sym (either_assoc (last_of kind (after_first is_space rest)) (behind kind (before_first is_space rest)) (text_of last))
+    (sym (either_assoc (last_token kind (after_first is_space rest)) (text_after_kind kind (before_first is_space rest)) (borrowed_text last))
     ∙ rw (← last_of_more kind rest inside) h)
 
 -- the last token
-pub token_last : (kind : ℕ) (line rest : List ℕ) (text last r : Option (Bor (List ℕ))) → position_or_len is_space rest ≡ length rest → text_of text ≡ behind kind rest → r ≡ option_or text last
-    → either (last_of kind rest) (text_of last) ≡ last_of kind line → text_of r ≡ last_of kind line
+pub token_last : (kind : ℕ) (line rest : List ℕ) (text last r : Option (Bor (List ℕ))) → position_or_len is_space rest ≡ length rest → borrowed_text text ≡ text_after_kind kind rest → r ≡ option_or text last
+    → either (last_token kind rest) (borrowed_text last) ≡ last_token kind line → borrowed_text r ≡ last_token kind line
 token_last kind line rest text last r one e o h = rw (o, text_of_or text last, e) (rw (last_of_one kind rest one) at h)

@@ -12,7 +12,7 @@ use Rattle.std.proofs.Math.Seq.{take-append_seam, drop-append-add}
 use Rattle.vp_base.specs.Limits.{IsSide}
 use Rattle.vp_y4m.specs.Text.{header_text, picture_text, i420_length}
 use Rattle.vp_y4m.specs.Lines.{is_line_feed, first_line}
-use Rattle.vp_y4m.specs.Header.{is_space, is_colon, begins_with, last_among, last_of, number_in, both, rate_in, size_within, is_taken_colour, is_progressive, judged, head_in}
+use Rattle.vp_y4m.specs.Header.{is_space, is_colon, begins_with, last_among, last_token, number_in, option_pair, rate_in, size_within, is_taken_colour, is_progressive, judged, head_in}
 use Rattle.vp_y4m.specs.Pictures.{frame_line, next_of, head_line, file_head}
 use Rattle.vp_y4m.specs.Laws.{IsHeadReadBack, IsPictureReadBack}
 use Rattle.vp_y4m.proofs.DecimalLemmas.{decimal_is_short}
@@ -163,13 +163,13 @@ line_splits w h rate scale sw sh sr ss =
     (split_more is_space (72 ∷ decimal h) 32 (from_rate rate scale) _ (tagged_passes_none is_space 72 h space_is_no_digit refl sh) refl
     (split_more is_space (70 ∷ rate_text rate scale) 32 (codes "Ip A0:0 C420jpeg") _ (rate_passes_none is_space rate scale space_is_no_digit refl refl sr ss) refl refl)))
 
-last_of_line : (kind w h rate scale : ℕ) → w < 2 ^ 32 → h < 2 ^ 32 → rate < 2 ^ 32 → scale < 2 ^ 32 → last_of kind (line_text w h rate scale) ≡ last_among kind (tokens_of w h rate scale)
-unfolding last_of
+last_of_line : (kind w h rate scale : ℕ) → w < 2 ^ 32 → h < 2 ^ 32 → rate < 2 ^ 32 → scale < 2 ^ 32 → last_token kind (line_text w h rate scale) ≡ last_among kind (tokens_of w h rate scale)
+unfolding last_token
 last_of_line kind w h rate scale sw sh sr ss = ap (last_among kind) (line_splits w h rate scale sw sh sr ss)
 
 -- what such tokens say
-said : (pixels : ℕ) (line f w h c i : List ℕ) → begins_with (codes "YUV4MPEG2") line ≡ true → last_of 70 line ≡ Some f → last_of 87 line ≡ Some w → last_of 72 line ≡ Some h → last_of 67 line ≡ Some c → last_of 73 line ≡ Some i
-    → head_in pixels line ≡ judged (rate_in (Some f)) (size_within pixels (both (number_in w) (number_in h))) (is_taken_colour (Some c)) (is_progressive (Some i))
+said : (pixels : ℕ) (line f w h c i : List ℕ) → begins_with (codes "YUV4MPEG2") line ≡ true → last_token 70 line ≡ Some f → last_token 87 line ≡ Some w → last_token 72 line ≡ Some h → last_token 67 line ≡ Some c → last_token 73 line ≡ Some i
+    → head_in pixels line ≡ judged (rate_in (Some f)) (size_within pixels (option_pair (number_in w) (number_in h))) (is_taken_colour (Some c)) (is_progressive (Some i))
 unfolding head_in
 said pixels line f w h c i eb ef ew eh ec ei = rw (eb, ef, ew, eh, ec, ei) refl
 

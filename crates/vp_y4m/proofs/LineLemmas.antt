@@ -11,7 +11,7 @@ use Rattle.std.proofs.lemmas.Bool.Decides.{nat_tests}
 use Rattle.vp_y4m.specs.declared.fault.SourceFault.{SourceFault}
 use Rattle.vp_y4m.specs.declared.fault.SourceFault.TheVariants.{Magic, Torn}
 use Rattle.vp_y4m.specs.Reads.{Shows, ShowsAtEnd}
-use Rattle.vp_y4m.specs.Lines.{is_line_feed, first_line, ReadsLine, IsTooLong}
+use Rattle.vp_y4m.specs.Lines.{is_line_feed, first_line, ReadsLine, IsLineTooLong}
 
 -- no element passes
 abbrev pub NonePasses : (ℕ → Bool) → List ℕ → Type 0
@@ -80,7 +80,7 @@ pub too_long : (xs : List ℕ) → 1024 < length xs → NonePasses is_line_feed 
 too_long xs long none rest = by_tests_long (xs ++ rest) (let e = position-append is_line_feed xs rest none in omega arith)
 
 -- a byte behind the greatest line
-pub longer_line : (xs : List ℕ) (b : ℕ) (before now after : Option (List ℕ)) → length xs ≡ 1024 → IsLineSoFar xs before now → Consumes now after (b ∷ []) → (b ≡ 10 → ⊥) → IsTooLong before after
+pub longer_line : (xs : List ℕ) (b : ℕ) (before now after : Option (List ℕ)) → length xs ≡ 1024 → IsLineSoFar xs before now → Consumes now after (b ∷ []) → (b ≡ 10 → ⊥) → IsLineTooLong before after
 longer_line xs b before now after long h c other =
     let all = one_more_byte xs b before now after h c (grind (arith, nat_tests)) in
     record { taken = xs ++ b ∷ []; consumed = all.consumed; long = simp length-append (omega arith); no_feed = all.no_feed }

@@ -25,9 +25,9 @@ abbrev pub begins_with : List ℕ → List ℕ → Bool
 begins_with word line = bytes_eq (before_first is_space line) word
 
 -- a token's text behind its first byte, where that names the kind
-abbrev pub behind : ℕ → List ℕ → Option (List ℕ)
-behind kind [] = None
-behind kind (c ∷ text) = if c == kind then Some text else None
+abbrev pub text_after_kind : ℕ → List ℕ → Option (List ℕ)
+text_after_kind kind [] = None
+text_after_kind kind (c ∷ text) = if c == kind then Some text else None
 
 -- the first, or where there is none the second
 abbrev pub either : {A : Type 0} → Option A → Option A → Option A
@@ -36,25 +36,25 @@ either None y = y
 
 abbrev pub last_among : ℕ → List (List ℕ) → Option (List ℕ)
 last_among kind [] = None
-last_among kind (token ∷ more) = either (last_among kind more) (behind kind token)
+last_among kind (token ∷ more) = either (last_among kind more) (text_after_kind kind token)
 
 -- the text of the line's last token of a kind
-unfoldable pub last_of : ℕ → List ℕ → Option (List ℕ)
-last_of kind line = last_among kind (slice_split is_space line)
+unfoldable pub last_token : ℕ → List ℕ → Option (List ℕ)
+last_token kind line = last_among kind (slice_split is_space line)
 
 -- a decimal number of 32 bits: one digit or more, and nothing else
 abbrev pub number_in : List ℕ → Option ℕ
 number_in text = if list_all is_ascii_digit text && (nat_lt 0 (length text) && nat_lt (digits_value 10 text) 4294967296) then Some (digits_value 10 text) else None
 
-abbrev pub both : Option ℕ → Option ℕ → Option (ℕ × ℕ)
-both (Some x) (Some y) = Some (x, y)
-both (Some x) None = None
-both None y = None
+abbrev pub option_pair : Option ℕ → Option ℕ → Option (ℕ × ℕ)
+option_pair (Some x) (Some y) = Some (x, y)
+option_pair (Some x) None = None
+option_pair None y = None
 
 -- two numbers with a colon between them; 25:1 where nothing is said
 abbrev pub rate_in : Option (List ℕ) → Option (ℕ × ℕ)
 rate_in None = Some (25, 1)
-rate_in (Some text) = both (number_in (before_first is_colon text)) (number_in (after_first is_colon text))
+rate_in (Some text) = option_pair (number_in (before_first is_colon text)) (number_in (after_first is_colon text))
 
 abbrev pub is_side : ℕ → Bool
 is_side side = nat_lt 0 side && nat_le side 16383
@@ -89,5 +89,5 @@ judged (Some (rate, scale)) (Some (w, h)) true true = Ok (record { w = w; h = h;
 unfoldable pub head_in : ℕ → List ℕ → Result Head SourceFault
 head_in pixels line =
     if begins_with (codes "YUV4MPEG2") line then
-    judged (rate_in (last_of 70 line)) (size_within pixels (both (side_in (last_of 87 line)) (side_in (last_of 72 line)))) (is_taken_colour (last_of 67 line)) (is_progressive (last_of 73 line))
+    judged (rate_in (last_token 70 line)) (size_within pixels (option_pair (side_in (last_token 87 line)) (side_in (last_token 72 line)))) (is_taken_colour (last_token 67 line)) (is_progressive (last_token 73 line))
     else Err Magic

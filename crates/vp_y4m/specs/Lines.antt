@@ -4,7 +4,7 @@ use Rattle.std.specs.Io.KnownBytes.{Consumes, IsAtEnd}
 use Rattle.std.specs.List.{position_or_len, before_first, after_first}
 use Rattle.vp_y4m.specs.declared.fault.SourceFault.{SourceFault}
 use Rattle.vp_y4m.specs.declared.fault.SourceFault.TheVariants.{Magic, Size, Colour, Interlaced, Torn, Device, Memory}
-use Rattle.vp_y4m.specs.Reads.{Shows, ShowsAtEnd, Takes}
+use Rattle.vp_y4m.specs.Reads.{Shows, ShowsAtEnd, TakesBytes}
 
 abbrev pub is_line_feed : ℕ → Bool
 is_line_feed byte = byte == 10
@@ -24,7 +24,7 @@ ReadsByte (Ok None) before after = Consumes before after [] × IsAtEnd after
 ReadsByte (Err fault) before after = (fault ≡ Device) × Consumes before after []
 
 -- 1,025 bytes without a line feed were taken
-pub record IsTooLong (before after : Option (List ℕ)) : Type 0 where
+pub record IsLineTooLong (before after : Option (List ℕ)) : Type 0 where
   pub taken : List ℕ
   pub consumed : Consumes before after taken
   pub long : length taken ≡ 1025
@@ -32,9 +32,9 @@ pub record IsTooLong (before after : Option (List ℕ)) : Type 0 where
 
 -- a line is too long, or the end comes inside it, or a read failed
 abbrev pub LineFails : SourceFault → Option (List ℕ) → Option (List ℕ) → Type 0
-LineFails Magic before after = IsTooLong before after
+LineFails Magic before after = IsLineTooLong before after
 LineFails Torn before after = ShowsAtEnd first_line (Err Torn) before after
-LineFails Device before after = Takes before after
+LineFails Device before after = TakesBytes before after
 LineFails Size before after = ⊥
 LineFails Colour before after = ⊥
 LineFails Interlaced before after = ⊥

@@ -25,13 +25,13 @@ pub record ShowsFault {A : Type 0} (read : List ℕ → Result A SourceFault) (f
   pub tight : (n : ℕ) → n < length taken → read (take n taken) ≢ Err fault
 
 -- some bytes were taken
-abbrev pub Takes : Option (List ℕ) → Option (List ℕ) → Type 0
-Takes before after = (taken : List ℕ) × Consumes before after taken
+abbrev pub TakesBytes : Option (List ℕ) → Option (List ℕ) → Type 0
+TakesBytes before after = (taken : List ℕ) × Consumes before after taken
 
 -- a fault of the bytes is shown by those taken, which are those through the line that has it, and `Torn` only at the reader's end. Where a read failed, nothing is known of what follows; reading takes no memory
 abbrev pub Fails : {A : Type 0} → (List ℕ → Result A SourceFault) → SourceFault → Option (List ℕ) → Option (List ℕ) → Type 0
 Fails read Torn before after = ShowsAtEnd read (Err Torn) before after
-Fails read Device before after = Takes before after
+Fails read Device before after = TakesBytes before after
 Fails read Memory before after = ⊥
 Fails read Magic before after = ShowsFault read Magic before after
 Fails read Size before after = ShowsFault read Size before after

@@ -15,8 +15,8 @@ outcome_shown (Ok head) = Ok (head_shown head)
 outcome_shown (Err fault) = Err fault
 
 -- the text that was lent, if any
-abbrev pub text_of : Option (Bor (List ℕ)) → Option (List ℕ)
-text_of text = option_map (λ t. t.now) text
+abbrev pub borrowed_text : Option (Bor (List ℕ)) → Option (List ℕ)
+borrowed_text text = option_map (λ t. t.now) text
 
 abbrev pub sides_of : Option Dim → Option (ℕ × ℕ)
 sides_of dim = option_map (λ d. (d.w, d.h)) dim

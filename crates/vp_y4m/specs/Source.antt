@@ -42,7 +42,7 @@ progress_after (Ok None) = Ended
 progress_after (Err fault) = Failed fault
 
 -- an answer is that of the bytes: the next picture, the end, or a fault
-abbrev pub Answers : ℕ → ℕ → Result (Option Image) SourceFault → Option (List ℕ) → Option (List ℕ) → Type 0
-Answers w h (Ok (Some picture)) before after = GivesPicture w h picture before after
-Answers w h (Ok None) before after = ShowsAtEnd (next_of w h) (Ok None) before after
-Answers w h (Err fault) before after = Fails (next_of w h) fault before after
+abbrev pub AnswersNextPicture : ℕ → ℕ → Result (Option Image) SourceFault → Option (List ℕ) → Option (List ℕ) → Type 0
+AnswersNextPicture w h (Ok (Some picture)) before after = GivesPicture w h picture before after
+AnswersNextPicture w h (Ok None) before after = ShowsAtEnd (next_of w h) (Ok None) before after
+AnswersNextPicture w h (Err fault) before after = Fails (next_of w h) fault before after

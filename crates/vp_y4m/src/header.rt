@@ -4,8 +4,8 @@ ghost use Rattle.std.specs.Prelude.{◌≡◌, ◌==◌, ◌<◌, ◌≤◌, ◌
 ghost use Rattle.std.specs.Char.{is_ascii_digit};
 ghost use Rattle.std.specs.List.{list_all, position_or_len, before_first, after_first};
 ghost use Rattle.vp_y4m.specs.declared.fault.SourceFault.{SourceFault};
-ghost use Rattle.vp_y4m.specs.Header.{is_space, begins_with, behind, last_of, number_in, side_in, rate_in, size_within, both, is_taken_colour, is_progressive, head_in};
-ghost use Rattle.vp_y4m.specs.Shown.{outcome_shown, text_of, sides_of};
+ghost use Rattle.vp_y4m.specs.Header.{is_space, begins_with, text_after_kind, last_token, number_in, side_in, rate_in, size_within, option_pair, is_taken_colour, is_progressive, head_in};
+ghost use Rattle.vp_y4m.specs.Shown.{outcome_shown, borrowed_text, sides_of};
 
 use crate::fault::SourceFault;
 use vp_base::{Dim, Limits};
@@ -41,7 +41,7 @@ pub(crate) fn is_first_token(line: &[u8], word: &[u8]) -> bool
 
 // The token's text behind its first byte, where that names the kind.
 fn text_behind(token: &[u8], kind: u8) -> Option<&[u8]>
-    ensures { text_of result ≡ behind kind token.now }
+    ensures { borrowed_text result ≡ text_after_kind kind token.now }
 {
     match token {
         [first, text @ ..] if *first == kind => Some(text),
@@ -63,7 +63,7 @@ fn split_token(line: &[u8]) -> Option<(&[u8], &[u8])>
 
 // The text of the last token of a kind.
 fn last_text(line: &[u8], kind: u8) -> Option<&[u8]>
-    ensures { text_of result ≡ last_of kind line.now }
+    ensures { borrowed_text result ≡ last_token kind line.now }
 {
     let mut rest = line;
     let mut last = None;
@@ -95,7 +95,7 @@ fn number(text: &[u8]) -> Option<u32>
 
 // Rate and scale, 25:1 where nothing is said.
 fn rate_of(text: Option<&[u8]>) -> Option<(u32, u32)>
-    ensures { result ≡ rate_in (text_of text.entry) }
+    ensures { result ≡ rate_in (borrowed_text text.entry) }
 {
     let Some(text) = text else {
         return Some((25, 1));
@@ -107,14 +107,14 @@ fn rate_of(text: Option<&[u8]>) -> Option<(u32, u32)>
 }
 
 fn side(text: Option<&[u8]>) -> Option<u32>
-    ensures { result ≡ side_in (text_of text.entry) }
+    ensures { result ≡ side_in (borrowed_text text.entry) }
 {
     number(text?)
 }
 
 // The size, where both sides are a picture's and the limits allow it.
 fn size_of(w: Option<u32>, h: Option<u32>, limits: Limits) -> Option<Dim>
-    ensures sides { sides_of result ≡ size_within limits.pixels (both w h) }
+    ensures sides { sides_of result ≡ size_within limits.pixels (option_pair w h) }
     ensures small { IfSome result (λ d. d.w * d.h ≤ limits.pixels) }
 {
     let w = u16::try_from(w?).ok()?;
@@ -123,7 +123,7 @@ fn size_of(w: Option<u32>, h: Option<u32>, limits: Limits) -> Option<Dim>
 }
 
 fn is_colour(text: Option<&[u8]>) -> bool
-    ensures { result ≡ is_taken_colour (text_of text.entry) }
+    ensures { result ≡ is_taken_colour (borrowed_text text.entry) }
 {
     match text {
         None => true,
@@ -137,7 +137,7 @@ fn is_colour(text: Option<&[u8]>) -> bool
 }
 
 fn is_frame_wise(text: Option<&[u8]>) -> bool
-    ensures { result ≡ is_progressive (text_of text.entry) }
+    ensures { result ≡ is_progressive (borrowed_text text.entry) }
 {
     match text {
         None => true,

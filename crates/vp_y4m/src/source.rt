@@ -72,7 +72,7 @@ pub struct Source<'a, R: Read> {
 }
 
 impl<'a, R: Read> Source<'a, R> {
-    ghost use Rattle.vp_y4m.specs.Source.{reader_name, bytes_left, failures_of, reads_of, head_of, progress_of, progress_after, Answers};
+    ghost use Rattle.vp_y4m.specs.Source.{reader_name, bytes_left, failures_of, reads_of, head_of, progress_of, progress_after, AnswersNextPicture};
 
     /// The pictures behind a head that was read from this reader.
     pub fn open(alloc: Global, reader: &'a mut Counted<R>, head: SourceHead) -> Source<'a, R>
@@ -126,7 +126,7 @@ impl<'a, R: Read> Source<'a, R> {
 
         // Else the answer is that of the bytes.
         ensures answer { progress_of self.old ≡ Progress.Open → result ≢ Err SourceFault.Memory
-            → Answers (head_of self.old).w (head_of self.old).h result
+            → AnswersNextPicture (head_of self.old).w (head_of self.old).h result
             (bytes_left R.remaining self.old) (bytes_left R.remaining self.new) }
         ensures progress { progress_of self.old ≡ Progress.Open → result ≢ Err SourceFault.Memory
             → progress_of self.new ≡ progress_after result }

@@ -1,4 +1,4 @@
-use Rattle.vp_app.proofs.PlainWords.{decode_asked, decode_taken, y4m_asked, y4m_taken}
+use Rattle.vp_app.proofs.PlainArgs.{decode_asked, decode_taken, y4m_asked, y4m_taken}
 use Rattle.vp_app.proofs.laws.decode_words.Goals as goal
 
 pub returns : goal.returns

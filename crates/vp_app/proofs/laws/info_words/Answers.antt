@@ -1,4 +1,4 @@
-use Rattle.vp_app.proofs.PlainWords.{info_asked, info_taken}
+use Rattle.vp_app.proofs.PlainArgs.{info_asked, info_taken}
 use Rattle.vp_app.proofs.laws.info_words.Goals as goal
 
 pub returns : goal.returns

@@ -1,6 +1,6 @@
 use Rattle.std.proofs.Common.{◌≡◌, ◌∙◌, ap, subst}
-use Rattle.vp_cache.specs.Kept.{empty}
-use Rattle.vp_hub.specs.Hub.{fresh}
+use Rattle.vp_cache.specs.Cache.{empty}
+use Rattle.vp_hub.specs.Hub.{initial_hub}
 use Rattle.vp_app.specs.Serving.{names_of}
 use Rattle.vp_app.proofs.service.new_hub.Goals as goal
 
@@ -16,5 +16,5 @@ returns-in-Ok-new-clause-hub c =
         packets = value.2 ∙ usual.packets;
         cache_is = value.3;
       },
-      subst (λ names. c.in-Ok-new.hub ≡ record { state = fresh names limits; cache = empty limits.cache; work = 0 }) (c.in-Ok.ensures ∙ ap names_of c.deref.ensures.value) c.in-Ok-new.ensures.hub,
+      subst (λ names. c.in-Ok-new.hub ≡ record { state = initial_hub names limits; cache = empty limits.cache; work = 0 }) (c.in-Ok.ensures ∙ ap names_of c.deref.ensures.value) c.in-Ok-new.ensures.hub,
     )

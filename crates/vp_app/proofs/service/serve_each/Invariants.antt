@@ -1,7 +1,7 @@
 use Rattle.std.proofs.Common.{◌≡◌, List, Result, length}
 use Rattle.std.specs.Prelude.{is_ok}
 use Rattle.std.specs.List.{list_all}
-use Rattle.vp_hub.specs.declared.visit.ServeFault.{ServeFault}
+use Rattle.vp_hub.specs.declared.session.ServeFault.{ServeFault}
 use Rattle.vp_app.specs.Serving.{AreServed}
 use Rattle.vp_app.proofs.service.serve_each.Given as goal
 

@@ -1,6 +1,6 @@
 use Rattle.std.proofs.Common.{None, inl, inr, subst}
 use Rattle.vp_base.specs.Counted.{counted_failures, HasFailed}
-use Rattle.vp_hub.specs.Visits.{IsTurnedAway, IsVisit}
+use Rattle.vp_hub.specs.Sessions.{IsTurnedAway, IsSession}
 use Rattle.vp_app.proofs.service.serve_next.Goals as goal
 
 pub returns-clause-served : goal.returns-clause-served
@@ -14,7 +14,7 @@ returns-clause-served c =
       | inr (read, consumed, visit) ↦ inr (inr (
         read,
         failures,
-        subst (λ n. IsVisit c.args.number old old o read None None None (HasFailed n failures)) c.new-writer.ensures.failures
-            (subst (λ s. IsVisit c.args.number old s o read None None None (HasFailed (counted_failures c.new-writer.result) failures)) stays visit),
+        subst (λ n. IsSession c.args.number old old o read None None None (HasFailed n failures)) c.new-writer.ensures.failures
+            (subst (λ s. IsSession c.args.number old s o read None None None (HasFailed (counted_failures c.new-writer.result) failures)) stays visit),
       ))
     ]

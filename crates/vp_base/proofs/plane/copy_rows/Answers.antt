@@ -1,6 +1,6 @@
 use Rattle.std.proofs.Common.{◌≡◌, ◌∙◌, ℕ, ◌+◌, ◌*◌, ◌<◌, ◌≤◌, List, length, refl, sym, ap, subst, arith, get_or, inl, inr}
 use Rattle.std.proofs.lemmas.Bool.{cases_lt}
-use Rattle.vp_base.specs.Raster.{Raster, place, overlay}
+use Rattle.vp_base.specs.Raster.{Raster, pixel_index, overlay}
 use Rattle.vp_base.specs.Block.{written, IsWhole}
 use Rattle.vp_base.proofs.BlockLemmas.{with_block_none, with_block_more}
 use Rattle.vp_base.proofs.plane.copy_rows.Goals as goal
@@ -8,18 +8,18 @@ use Rattle.vp_base.proofs.plane.copy_rows.Goals as goal
 none_yet : (p : Raster) (x y n : ℕ) (f : ℕ → ℕ → ℕ) (to : List ℕ) → IsWhole p → p.pixels ≡ to → to ≡ written p x y n 0 f
 none_yet p x y n f to whole same = sym same ∙ sym (ap (λ (q : Raster). q.pixels) (with_block_none p x y n f whole))
 
-place_is : (p : Raster) (x y r at width : ℕ) → p.width ≡ width → at ≡ place p x y → at + r * width ≡ place p x (y + r)
+place_is : (p : Raster) (x y r at width : ℕ) → p.width ≡ width → at ≡ pixel_index p x y → at + r * width ≡ pixel_index p x (y + r)
 place_is p x y r at width wide here =
     let same : r * p.width ≡ r * width = ap (λ (k : ℕ). r * k) wide in
     omega arith
 
 one_more : (p : Raster) (x y n r : ℕ) (f : ℕ → ℕ → ℕ) (before after row : List ℕ) (at : ℕ) → x + n ≤ p.width → y + r < p.height
-    → before ≡ written p x y n r f → at ≡ place p x (y + r) → after ≡ overlay before at row
+    → before ≡ written p x y n r f → at ≡ pixel_index p x (y + r) → after ≡ overlay before at row
     → length row ≡ n → ((c : ℕ) → c < n → get_or row c 0 ≡ f r c) → after ≡ written p x y n (r + 1) f
 one_more p x y n r f before after row at wide high done here put size value =
     put
     ∙ ap (λ (i : ℕ). overlay before i row) here
-    ∙ ap (λ (ns : List ℕ). overlay ns (place p x (y + r)) row) done
+    ∙ ap (λ (ns : List ℕ). overlay ns (pixel_index p x (y + r)) row) done
     ∙ ap (λ (q : Raster). q.pixels) (with_block_more p x y n r f row wide high size value)
 
 pub loop-r-init : goal.loop-r-init

@@ -2,7 +2,7 @@ use Rattle.std.proofs.Common.{◌≡◌, ◌⊎◌, ◌+◌, ◌-◌, ◌*◌, �
 use Rattle.std.proofs.lemmas.Bool.{cases_lt}
 use Rattle.std.proofs.lemmas.List.{length-drop, length-take-le}
 use Rattle.vp_bool.specs.Bools.{normal}
-use Rattle.vp_bool.specs.Window.{front, state}
+use Rattle.vp_bool.specs.Window.{high_bits, state}
 use Rattle.vp_bool.proofs.BoolLemmas.{sound-normal}
 use Rattle.vp_bool.proofs.TopLemmas.{Doubling, doubling, moved_on, IsSettled, moved_more, word_fits, behind, bytes_drop}
 use Rattle.vp_bool.proofs.decoder.settled.Goals as goal
@@ -20,14 +20,14 @@ overflow_add-value c =
     let taken : length (take c.min-taken.result c.args.window.rest.now) ≡ c.min-taken.result = length-take-le _ _ inside in
     omega (arith, word_fits c.args.value c.args.range c.args.window.count c.min-taken.result c.number_of.result c.from-shift.result c.args.window.rest.now c.requires.aligned (omega (arith, d.few)) inside (omega (arith, c.min-taken.ensures)) c.number_of.ensures.value (rw taken at c.number_of.ensures.small) c.requires.taken)
 
-settles : (c : Joined-shift-window) → IsSettled c.if-shift-window.value.0 c.args.range c.if-shift-window.value.1 c.from-shift.result c.if-shift-window.value.2.now (normal 7 (state (front c.args.value c.args.window.count) c.args.range c.args.window.count c.args.window.rest.now))
+settles : (c : Joined-shift-window) → IsSettled c.if-shift-window.value.0 c.args.range c.if-shift-window.value.1 c.from-shift.result c.if-shift-window.value.2.now (normal 7 (state (high_bits c.args.value c.args.window.count) c.args.range c.args.window.count c.args.window.rest.now))
 settles c =
     let d : Doubling c.args.range c.from-shift.result = doubling c.args.range c.from-shift.result c.requires.taken.some c.requires.taken.byte c.from-shift.ensures in
     elim c.if-shift-window.branch [
       | then-shift-window w ↦
           rw (w.value-is)
           (record {
-            moved = moved_on c.args.value (front c.args.value c.args.window.count) c.args.range c.args.window.count c.from-shift.result c.args.window.rest.now c.requires.aligned c.requires.few c.requires.taken d (inl w.if-shift-window.true);
+            moved = moved_on c.args.value (high_bits c.args.value c.args.window.count) c.args.range c.args.window.count c.from-shift.result c.args.window.rest.now c.requires.aligned c.requires.few c.requires.taken d (inl w.if-shift-window.true);
             few = omega (arith, c.requires.few);
             bytes = c.requires.bytes;
           })

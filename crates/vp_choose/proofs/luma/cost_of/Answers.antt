@@ -1,11 +1,11 @@
 use Rattle.std.proofs.Common.{◌∙◌, ◌*◌}
 use Rattle.vp_intra.specs.Whole.{luma_pixel}
-use Rattle.vp_choose.specs.Costs.{whole_cost}
+use Rattle.vp_choose.specs.Costs.{luma_mode_cost}
 use Rattle.vp_choose.proofs.SumLemmas.{differences-listed}
 use Rattle.vp_choose.proofs.luma.cost_of.Goals as goal
 
 pub returns-clause-value : goal.returns-clause-value
-unfolding whole_cost
+unfolding luma_mode_cost
 returns-clause-value c f e =
     c.sad16.ensures.value
     ∙ differences-listed 16 c.args.block.now c.predict_luma-prediction.result f

@@ -7,10 +7,10 @@ use Rattle.vp_tables.specs.Modes.{is_by_subblocks}
 use Rattle.vp_modes.specs.Entry.{Modes}
 use Rattle.vp_tokens.specs.declared.contexts.Tokens.{Tokens}
 use Rattle.vp_intra.specs.Whole.{luma_pixel, chroma_pixel}
-use Rattle.vp_recon.specs.Source.{Intra}
+use Rattle.vp_recon.specs.Predictor.{Intra}
 use Rattle.vp_recon.specs.Prediction.{luma_prediction}
 use Rattle.vp_recon.proofs.LumaLemmas.{whole_prediction}
-use Rattle.vp_choose.specs.Costs.{block_of}
+use Rattle.vp_choose.specs.Costs.{block_pixels}
 use Rattle.vp_choose.specs.Levels.{HasLumaAndY2, HasChroma}
 use Rattle.vp_choose.specs.Intra.{IsChroma}
 use Rattle.vp_choose.proofs.macroblock.choose_intra.Goals as goal
@@ -35,7 +35,7 @@ returns-clause-intra c source cut =
           let same : luma_pixel c.args.luma.now.mode p.luma x y ≡ luma_prediction (Intra m) c.args.place p.luma =
           ap (λ (a : LumaMode). luma_pixel a p.luma x y) (sym luma)
           ∙ sym (fun_ext (λ r. fun_ext (λ j. whole_prediction m c.args.place p.luma r j (ap (λ (a : LumaMode). is_by_subblocks a) luma ∙ whole)))) in
-          subst (λ (g : ℕ → ℕ → ℕ). HasLumaAndY2 (block_of 16 source.luma c.args.place) g c.args.factors.now t) same (c.intra_tokens-tokens.ensures.at_once (block_of 16 source.luma c.args.place) cut.luma whole);
-      u = subst (λ (a : ChromaMode). HasChroma (block_of 8 source.u c.args.place) (chroma_pixel a p.u (8 * c.args.place.column) (8 * c.args.place.row)) c.args.factors.now t 1) (sym chroma) (c.intra_tokens-tokens.ensures.u (block_of 8 source.u c.args.place) cut.u);
-      v = subst (λ (a : ChromaMode). HasChroma (block_of 8 source.v c.args.place) (chroma_pixel a p.v (8 * c.args.place.column) (8 * c.args.place.row)) c.args.factors.now t 2) (sym chroma) (c.intra_tokens-tokens.ensures.v (block_of 8 source.v c.args.place) cut.v);
+          subst (λ (g : ℕ → ℕ → ℕ). HasLumaAndY2 (block_pixels 16 source.luma c.args.place) g c.args.factors.now t) same (c.intra_tokens-tokens.ensures.at_once (block_pixels 16 source.luma c.args.place) cut.luma whole);
+      u = subst (λ (a : ChromaMode). HasChroma (block_pixels 8 source.u c.args.place) (chroma_pixel a p.u (8 * c.args.place.column) (8 * c.args.place.row)) c.args.factors.now t 1) (sym chroma) (c.intra_tokens-tokens.ensures.u (block_pixels 8 source.u c.args.place) cut.u);
+      v = subst (λ (a : ChromaMode). HasChroma (block_pixels 8 source.v c.args.place) (chroma_pixel a p.v (8 * c.args.place.column) (8 * c.args.place.row)) c.args.factors.now t 2) (sym chroma) (c.intra_tokens-tokens.ensures.v (block_pixels 8 source.v c.args.place) cut.v);
     }

@@ -5,7 +5,7 @@ use Rattle.vp_base.specs.Image.{Image}
 use Rattle.vp_motion.specs.Vector.{Vector}
 use Rattle.vp_inter.specs.declared.vector.PlaneVector.{PlaneVector}
 use Rattle.vp_inter.specs.Vectors.{luma_vector, chroma_vector}
-use Rattle.vp_recon.specs.Source.{Inter}
+use Rattle.vp_recon.specs.Predictor.{Inter}
 use Rattle.vp_recon.specs.Prediction.{luma_prediction, chroma_prediction}
 use Rattle.vp_choose.specs.Inter.{vector_of}
 use Rattle.vp_choose.proofs.Moving.{luma_listed, chroma_listed}

@@ -7,7 +7,7 @@ use Rattle.vp_search.specs.Differences.{block16}
 use Rattle.vp_search.specs.Blocks.{whole_cost, quarter_cost}
 use Rattle.vp_search.proofs.WindowLemmas.{least_same}
 use Rattle.vp_search.proofs.RefinedLemmas.{refined_same}
-use Rattle.vp_choose.specs.Costs.{block_of}
+use Rattle.vp_choose.specs.Costs.{block_pixels}
 use Rattle.vp_choose.specs.Frame.{search_of}
 use Rattle.vp_choose.specs.Inter.{IsFound}
 use Rattle.vp_choose.proofs.Found.{whole_cost-listed, quarter_cost-listed}
@@ -17,7 +17,7 @@ pub returns-then-search-clause-found : goal.returns-then-search-clause-found
 returns-then-search-clause-found c source cut =
     let xs = c.args.block.now in
     let p : Raster = c.plane-plane.result.now in
-    let f = block_of 16 source c.args.place in
+    let f = block_pixels 16 source c.args.place in
     let v = c.search_block-whole.result.vector in
     subst (λ (q : Raster). IsFound (search_of c.args.search.now) source q c.args.place c.refine_block.result)
     (c.plane-plane.ensures ∙ ap (λ (i : Image). i.luma) c.get-picture.ensures)
@@ -45,7 +45,7 @@ pub returns-clause-found : goal.returns-clause-found
 returns-clause-found c source cut =
     let xs = c.args.block.now in
     let p : Raster = c.plane-plane.result.now in
-    let f = block_of 16 source c.args.place in
+    let f = block_pixels 16 source c.args.place in
     let v = c.search_block-whole.result.vector in
     let found : Refined = record { vector = c.quarters.result; cost = c.search_block-whole.result.cost } in
     subst (λ (q : Raster). IsFound (search_of c.args.search.now) source q c.args.place found)

@@ -2,7 +2,7 @@ use Rattle.std.proofs.Common.{◌≡◌, ◌∙◌, ℕ, ℤ, ◌<◌, List, [],
 use Rattle.vp_base.specs.declared.place.Place.{Place}
 use Rattle.vp_base.specs.Raster.{Raster}
 use Rattle.vp_base.specs.Image.{Image, with_plane}
-use Rattle.vp_base.specs.Near.{block as near_block}
+use Rattle.vp_base.specs.Near.{block_place as near_block}
 use Rattle.vp_base.proofs.OverLemmas.{over-none}
 use Rattle.vp_tables.specs.declared.modes.SubMode.{SubMode}
 use Rattle.vp_tables.specs.declared.modes.SubMode.TheVariants.{Dc}
@@ -14,7 +14,7 @@ use Rattle.vp_search.proofs.SumLemmas.{sum_below-none}
 use Rattle.vp_choose.specs.declared.subblocks.Subblocks.{Subblocks}
 use Rattle.vp_choose.specs.Costs.{sub_cost}
 use Rattle.vp_choose.specs.Levels.{part}
-use Rattle.vp_choose.specs.Subblocks.{IsBestMode, after, sub_levels, sub_rebuilt}
+use Rattle.vp_choose.specs.Subblocks.{IsBestMode, after_subblocks, sub_levels, sub_rebuilt}
 use Rattle.vp_choose.proofs.After.{made, cost_at, after_new, costs_more, ones_more, has_more}
 use Rattle.vp_choose.proofs.Small.{none_within, each_set, IsSmall}
 use Rattle.vp_choose.proofs.subblocks.choose_all.Goals as goal
@@ -51,7 +51,7 @@ loop-k-preserved c =
     let s : Subblocks = made modes levels in
     let m : c.loop-k.k < length c.loop-k.modes = omega arith in
     let l : c.loop-k.k < length c.loop-k.levels = omega arith in
-    let luma : now.luma ≡ after factors place p s k = ap (λ (i : Image). i.luma) c.loop-k.invariant.rebuilt in
+    let luma : now.luma ≡ after_subblocks factors place p s k = ap (λ (i : Image). i.luma) c.loop-k.invariant.rebuilt in
     let is : c.choose_subblock-chosen.new.picture ≡ with_plane now 0 (with_sub now.luma (near_block 4 place k) mode (residue own factors.y_dc factors.y_ac)) = c.choose_subblock-chosen.ensures.rebuilt in
     record {
       modes_size = length-set modes k mode ∙ c.loop-k.invariant.modes_size;

@@ -3,7 +3,7 @@ use Rattle.vp_base.specs.Image.{with_plane}
 use Rattle.vp_intra.specs.Edges.{block}
 use Rattle.vp_search.specs.Sums.{sum_below}
 use Rattle.vp_choose.specs.Gathered.{AreSmall}
-use Rattle.vp_choose.specs.Subblocks.{after}
+use Rattle.vp_choose.specs.Subblocks.{after_subblocks}
 use Rattle.vp_choose.proofs.After.{made, IsOne, HasOne, cost_at}
 use Rattle.vp_choose.proofs.subblocks.choose_all.Given as goal
 
@@ -14,7 +14,7 @@ invariant-loop-k l = record {
   chosen : (f : ℕ → ℕ → ℕ) → l.source ≡ block 16 f → (k : ℕ) → k < l.k → IsOne f l.factors l.place l.fn.picture.luma (made l.modes l.levels) k;
   levels : (f : ℕ → ℕ → ℕ) → l.source ≡ block 16 f → (k : ℕ) → k < l.k → HasOne f l.factors l.place l.fn.picture.luma (made l.modes l.levels) k;
   cost : (f : ℕ → ℕ → ℕ) → l.source ≡ block 16 f → l.cost ≡ sum_below l.k (cost_at f l.factors l.place l.fn.picture.luma (made l.modes l.levels));
-  rebuilt : l.picture ≡ with_plane l.fn.picture 0 (after l.factors l.place l.fn.picture.luma (made l.modes l.levels) l.k);
+  rebuilt : l.picture ≡ with_plane l.fn.picture 0 (after_subblocks l.factors l.place l.fn.picture.luma (made l.modes l.levels) l.k);
   wide : l.picture.luma.width ≡ l.fn.picture.luma.width;
   high : l.picture.luma.height ≡ l.fn.picture.luma.height;
   within : AreSmall l.levels;

@@ -1,10 +1,10 @@
 use Rattle.std.proofs.Common.{sym, subst}
 use Rattle.vp_base.specs.Grid.{Grid}
-use Rattle.vp_motion.specs.Vector.{Entry}
+use Rattle.vp_motion.specs.Vector.{MacroblockMotion}
 use Rattle.vp_motion.specs.Map.{AreWithin}
 use Rattle.vp_motion.proofs.Sizes.{all-short}
 use Rattle.vp_choose.proofs.tests.encode_flat_bright.Goals as goal
 
 pub choose_macroblock-choice-requires-clause-short : goal.choose_macroblock-choice-requires-clause-short
 choose_macroblock-choice-requires-clause-short g c =
-    subst (λ (m : Grid Entry). AreWithin 511 m) (sym (c.in-Ok-new-3.ensures {u = tt})) (all-short 511 _ _)
+    subst (λ (m : Grid MacroblockMotion). AreWithin 511 m) (sym (c.in-Ok-new-3.ensures {u = tt})) (all-short 511 _ _)

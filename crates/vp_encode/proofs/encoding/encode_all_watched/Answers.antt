@@ -2,7 +2,7 @@ use Rattle.std.proofs.Common.{◌≡◌, ◌∙◌, true, Ok, Err, length, refl,
 use Rattle.std.proofs.lemmas.Result.{err_from_is_err_and}
 use Rattle.vp_base.specs.Counted.{HasFailed, counted_remaining, counted_contents, counted_failures}
 use Rattle.vp_y4m.specs.Shown.{head_shown}
-use Rattle.vp_encode.specs.Run.{Running}
+use Rattle.vp_encode.specs.EncodeProgress.{EncodeProgress}
 use Rattle.vp_y4m.proofs.ReadLemmas.{one_at_most, reads_more, reads_most, reads_then}
 use Rattle.vp_encode.proofs.FileLemmas.{ok_is_no_error, none_at_most, one_is_most, told_none, settings_refused, within_limits, head_failed, work_ends, all_small, written_front, written_whole, unwritten_answer, head_answer, settings_answer, unfinished_answer, whole_answer}
 use Rattle.vp_encode.proofs.encoding.encode_all_watched.Goals as goal
@@ -156,7 +156,7 @@ returns-in_err-encode_source-clause-most g c = reads_most 1 _ _ _ _ one_is_most 
 pub returns-in_err-encode_source-clause-within : goal.returns-in_err-encode_source-clause-within
 returns-in_err-encode_source-clause-within g c =
     within_limits c.args.limits c.new-run.result.limits (head_shown c.in_ok-head.head) _ _ _
-    (ap (λ (r : Running). r.limits) c.new-run.ensures) c.in_ok-head.ensures.small c.in_ok-head.ensures.within c.in_err-encode_source.ensures.within
+    (ap (λ (r : EncodeProgress). r.limits) c.new-run.ensures) c.in_ok-head.ensures.small c.in_ok-head.ensures.within c.in_err-encode_source.ensures.within
 
 pub returns-in_err-write_file-clause-reads : goal.returns-in_err-write_file-clause-reads
 returns-in_err-write_file-clause-reads g c = reads_then 1 _ _ _ _ _ _ c.in_ok-head.ensures.reads c.in_ok-encode_source.ensures.reads
@@ -167,7 +167,7 @@ returns-in_err-write_file-clause-most g c = reads_most 1 _ _ _ _ one_is_most (re
 pub returns-in_err-write_file-clause-within : goal.returns-in_err-write_file-clause-within
 returns-in_err-write_file-clause-within g c =
     within_limits c.args.limits c.new-run.result.limits (head_shown c.in_ok-head.head) _ _ _
-    (ap (λ (r : Running). r.limits) c.new-run.ensures) c.in_ok-head.ensures.small c.in_ok-head.ensures.within c.in_ok-encode_source.ensures.within
+    (ap (λ (r : EncodeProgress). r.limits) c.new-run.ensures) c.in_ok-head.ensures.small c.in_ok-head.ensures.within c.in_ok-encode_source.ensures.within
 
 pub returns-clause-reads : goal.returns-clause-reads
 returns-clause-reads g c = reads_then 1 _ _ _ _ _ _ c.in_ok-head.ensures.reads c.in_ok-encode_source.ensures.reads
@@ -178,4 +178,4 @@ returns-clause-most g c = reads_most 1 _ _ _ _ one_is_most (returns-clause-reads
 pub returns-clause-within : goal.returns-clause-within
 returns-clause-within g c =
     within_limits c.args.limits c.new-run.result.limits (head_shown c.in_ok-head.head) _ _ _
-    (ap (λ (r : Running). r.limits) c.new-run.ensures) c.in_ok-head.ensures.small c.in_ok-head.ensures.within c.in_ok-encode_source.ensures.within
+    (ap (λ (r : EncodeProgress). r.limits) c.new-run.ensures) c.in_ok-head.ensures.small c.in_ok-head.ensures.within c.in_ok-encode_source.ensures.within

@@ -8,7 +8,7 @@ use Rattle.vp_y4m.specs.Reads.{ShowsAtEnd}
 use Rattle.vp_y4m.specs.Pictures.{next_of}
 use Rattle.vp_y4m.proofs.ReadLemmas.{no_reads, one_at_most, one_at_an_answer, reads_more, reads_then}
 use Rattle.vp_encode.specs.File.{IsToldMore, numbers_to}
-use Rattle.vp_encode.specs.Run.{IsBegun}
+use Rattle.vp_encode.specs.EncodeProgress.{IsBegun}
 use Rattle.vp_encode.proofs.FileLemmas.{ok_is_no_error, none_at_most, no_fewer, at_start, next_failed, refused_same, ended, faulty_answer, given_answer, end_answer, is_picture, at_next, told_first, told_more, few_now, within_next, within_more}
 use Rattle.vp_encode.proofs.encoding.encode_pictures.Goals as goal
 

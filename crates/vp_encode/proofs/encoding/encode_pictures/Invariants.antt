@@ -6,7 +6,7 @@ use Rattle.vp_y4m.specs.Text.{i420_length}
 use Rattle.vp_y4m.specs.Reads.{TakesInReads}
 use Rattle.vp_encode.specs.Encoded.{EncodedFrame}
 use Rattle.vp_encode.specs.File.{IsToldMore, numbers_to}
-use Rattle.vp_encode.specs.Run.{IsAt}
+use Rattle.vp_encode.specs.EncodeProgress.{IsAt}
 use Rattle.vp_encode.proofs.encoding.encode_pictures.Given as goal
 
 abbrev pub invariant-loop-picture : goal.invariant-loop-picture

@@ -4,7 +4,7 @@ use Rattle.vp_base.specs.Image.{plane_of, with_plane}
 use Rattle.vp_base.specs.Over.{over}
 use Rattle.vp_base.proofs.ImageLemmas.{with_plane-plane_of}
 use Rattle.vp_base.proofs.OverLemmas.{over-none}
-use Rattle.vp_encode.specs.Continued.{Continues, row_continued}
+use Rattle.vp_encode.specs.Continued.{ExtendsPlane, row_continued}
 use Rattle.vp_encode.proofs.SourceLemmas.{plane_at, plane_more, row_size, plane_continued}
 use Rattle.vp_encode.proofs.source.continue_plane.Goals as goal
 
@@ -17,7 +17,7 @@ pub continue_row-requires-clause-size : goal.continue_row-requires-clause-size
 continue_row-requires-clause-size c =
     let f = row_continued c.args.width c.args.height c.args.source.now in
     let q : Raster = plane_of c.args.picture.now c.args.k in
-    subst (λ (r : Raster). Continues c.args.width c.args.height c.args.source.now r)
+    subst (λ (r : Raster). ExtendsPlane c.args.width c.args.height c.args.source.now r)
     (sym (plane_at c.args.picture.now c.loop-y.picture c.args.k (over c.loop-y.y f q) c.loop-y.invariant))
     (row_size c.args.width c.args.height c.args.source.now c.loop-y.y q c.height-y-end.ensures.whole (let t = c.loop-y-test.true in let e = c.height-y-end.ensures.value in omega arith) c.requires.size)
 

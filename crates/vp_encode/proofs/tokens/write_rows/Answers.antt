@@ -1,6 +1,6 @@
 use Rattle.std.proofs.Common.{◌∙◌, ◌<◌, ◌%◌, length, refl, arith}
 use Rattle.std.proofs.lemmas.List.{get_or_default}
-use Rattle.vp_bool.specs.Intervals.{all}
+use Rattle.vp_bool.specs.Intervals.{whole_interval}
 use Rattle.vp_encode.proofs.TokenLemmas.{frame_none, frame_next}
 use Rattle.vp_encode.proofs.tokens.write_rows.Goals as goal
 
@@ -17,6 +17,6 @@ loop-row-preserved c =
       so_far = λ f plan.
           let made = c.loop-row.invariant.so_far f plan in
           frame_next f c.args.coded.now c.loop-row.row k c.loop-row.contexts c.write_row.new.contexts es _ c.write_row.new.e plan refl within
-          (get_or_default es k c.index-encoders-at.result all within) made
+          (get_or_default es k c.index-encoders-at.result whole_interval within) made
           (c.in_ok-write_row.ensures.row f made.seen plan made.columns made.rows made.stands);
     }

@@ -1,6 +1,6 @@
 use Rattle.std.proofs.Common.{◌≡◌, ◌∙◌, [], arith, length-set}
 use Rattle.vp_bool.proofs.ReaderLemmas.{each-more, each-none, gives}
-use Rattle.vp_head.specs.Probabilities.{type_at, coefficients}
+use Rattle.vp_head.specs.Probabilities.{type_at, token_probability_updates}
 use Rattle.vp_head.proofs.probabilities.read_coefficients.Goals as goal
 
 pub loop-i-init : goal.loop-i-init
@@ -13,7 +13,7 @@ loop-i-preserved c = record {
 }
 
 pub returns : goal.returns
-unfolding coefficients
+unfolding token_probability_updates
 returns c =
     let e : c.loop-i.i ≡ 4 = omega arith in
     let h = gives _ _ _ (rw (e, c.coefficient_updates-table.ensures) at c.loop-i.invariant.so_far) in

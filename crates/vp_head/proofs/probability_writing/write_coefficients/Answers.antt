@@ -1,6 +1,6 @@
 use Rattle.std.proofs.Common.{◌≡◌, [], arith, add-one, get_or}
 use Rattle.vp_bool.proofs.WritingLemmas.{each-written, each-unwritten}
-use Rattle.vp_head.specs.Probabilities.{type_at, coefficients}
+use Rattle.vp_head.specs.Probabilities.{type_at, token_probability_updates}
 use Rattle.vp_tables.specs.Tables.{coefficient_updates}
 use Rattle.vp_head.proofs.Mixed.{mixed-at, mixed-more, mixed-all}
 use Rattle.vp_head.proofs.probability_writing.write_coefficients.Goals as goal
@@ -15,7 +15,7 @@ loop-i-preserved c =
     each-written [] c.loop-i.i (type_at coefficient_updates) c.args.old.now _ _ (get_or c.args.new.now c.loop-i.i []) c.loop-i.invariant (rw at (rw c.coefficient_updates-table.ensures at c.in_ok-write_type.ensures)) (rw add-one more)
 
 pub returns : goal.returns
-unfolding coefficients
+unfolding token_probability_updates
 returns c =
     let e : c.loop-i.i ≡ 4 = omega arith in
     let all = mixed-all 4 c.args.new.now c.args.old.now c.told-new c.told-old in

@@ -1,6 +1,6 @@
 use Rattle.std.proofs.Common.{◌≡◌, ◌∙◌, ◌+◌, ◌*◌, ◌<◌, ℕ, ℤ, ap, get_or, arith, to_z, of_z, w32}
 use Rattle.std.proofs.lemmas.Int.{to_z-of_z}
-use Rattle.vp_inter.specs.Inter.{across}
+use Rattle.vp_inter.specs.Inter.{horizontal_pass}
 use Rattle.vp_inter.proofs.block.pass_rows.Goals as goal
 
 pub returns-then-both_ends_count : goal.returns-then-both_ends_count
@@ -9,5 +9,5 @@ returns-then-both_ends_count g c i k iin kin =
     let within : k < 16 = omega arith in
     ap (λ (n : ℕ). get_or c.six_rows.new.pixels (i * n + k) 0) sixteen
     ∙ c.six_rows.ensures i k iin within
-    ∙ ap (λ (z : ℤ). across c.args.weights.now c.args.plane.now z (to_z w32 (of_z w32 c.args.top)) i k) (to_z-of_z w32 c.args.left c.ranges.left)
-    ∙ ap (λ (z : ℤ). across c.args.weights.now c.args.plane.now c.args.left z i k) (to_z-of_z w32 c.args.top c.ranges.top)
+    ∙ ap (λ (z : ℤ). horizontal_pass c.args.weights.now c.args.plane.now z (to_z w32 (of_z w32 c.args.top)) i k) (to_z-of_z w32 c.args.left c.ranges.left)
+    ∙ ap (λ (z : ℤ). horizontal_pass c.args.weights.now c.args.plane.now c.args.left z i k) (to_z-of_z w32 c.args.top c.ranges.top)

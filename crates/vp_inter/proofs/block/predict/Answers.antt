@@ -2,9 +2,9 @@ use Rattle.std.proofs.Common.{◌≡◌, ◌∙◌, ℕ, ℤ, pos, ◌+◌, ◌*
 use Rattle.std.proofs.lemmas.Int.{ints, to_z-of_z}
 use mir.Val.{SFits}
 use Rattle.vp_base.specs.Raster.{Raster}
-use Rattle.vp_inter.specs.Vectors.{fraction, start}
+use Rattle.vp_inter.specs.Vectors.{fraction, first_tap}
 use Rattle.vp_inter.specs.Filter.{taps, filter_six}
-use Rattle.vp_inter.specs.Inter.{reference_pixel, across}
+use Rattle.vp_inter.specs.Inter.{reference_pixel, horizontal_pass}
 use Rattle.vp_inter.proofs.Sums.{same, small_same}
 use Rattle.vp_inter.proofs.PassLemmas.{inter_both, inter_passes, inter_level, inter_whole, across_whole}
 use Rattle.vp_inter.proofs.block.predict.Goals as goal
@@ -16,17 +16,17 @@ returns-then-down-eq0-2 g c r k rin kin =
     let row_fits : SFits w32 c.args.vector.row = search rules in
     let column : same c.args.vector.column ≡ c.args.vector.column = to_z-of_z w32 c.args.vector.column column_fits in
     let row : same c.args.vector.row ≡ c.args.vector.row = to_z-of_z w32 c.args.vector.row row_fits in
-    let left : same c.start-left.result ≡ start c.args.x c.args.vector.column =
-    small_same c.start-left.result (omega (arith, ints), omega (arith, ints)) ∙ (c.start-left.ensures.value ∙ ap (start c.args.x) column) in
-    let top : same (same c.start-top.result +ℤ pos 2) ≡ start c.args.y c.args.vector.row +ℤ pos 2 =
-    (let e : same (same c.start-top.result +ℤ pos 2) ≡ c.start-top.result +ℤ pos 2 = omega (arith, ints) in e)
-    ∙ ap (λ (z : ℤ). z +ℤ pos 2) (c.start-top.ensures.value ∙ ap (start c.args.y) row) in
+    let left : same c.first_tap-left.result ≡ first_tap c.args.x c.args.vector.column =
+    small_same c.first_tap-left.result (omega (arith, ints), omega (arith, ints)) ∙ (c.first_tap-left.ensures.value ∙ ap (first_tap c.args.x) column) in
+    let top : same (same c.first_tap-top.result +ℤ pos 2) ≡ first_tap c.args.y c.args.vector.row +ℤ pos 2 =
+    (let e : same (same c.first_tap-top.result +ℤ pos 2) ≡ c.first_tap-top.result +ℤ pos 2 = omega (arith, ints) in e)
+    ∙ ap (λ (z : ℤ). z +ℤ pos 2) (c.first_tap-top.ensures.value ∙ ap (first_tap c.args.y) row) in
     let across_is : c.fraction-across.result ≡ fraction c.args.vector.column = c.fraction-across.ensures.value ∙ ap fraction column in
     let weights : c.taps-weights.result ≡ taps c.args.version (fraction c.args.vector.column) = c.taps-weights.ensures.value ∙ ap (taps c.args.version) across_is in
     c.pass_rows.ensures r k rin kin
-    ∙ ap (λ (w : List ℤ). across w p (same c.start-left.result) (same (same c.start-top.result +ℤ pos 2)) r k) weights
-    ∙ ap (λ (z : ℤ). across (taps c.args.version (fraction c.args.vector.column)) p z (same (same c.start-top.result +ℤ pos 2)) r k) left
-    ∙ ap (λ (z : ℤ). across (taps c.args.version (fraction c.args.vector.column)) p (start c.args.x c.args.vector.column) z r k) top
+    ∙ ap (λ (w : List ℤ). horizontal_pass w p (same c.first_tap-left.result) (same (same c.first_tap-top.result +ℤ pos 2)) r k) weights
+    ∙ ap (λ (z : ℤ). horizontal_pass (taps c.args.version (fraction c.args.vector.column)) p z (same (same c.first_tap-top.result +ℤ pos 2)) r k) left
+    ∙ ap (λ (z : ℤ). horizontal_pass (taps c.args.version (fraction c.args.vector.column)) p (first_tap c.args.x c.args.vector.column) z r k) top
     ∙ inter_level c.args.version p c.args.x c.args.y c.args.vector r k (sym (ap fraction row) ∙ sym c.fraction-down.ensures.value ∙ c.if-down-eq0-2.true)
 
 pub returns-else-across-eq0-2 : goal.returns-else-across-eq0-2
@@ -36,19 +36,19 @@ returns-else-across-eq0-2 g c r k rin kin =
     let row_fits : SFits w32 c.args.vector.row = search rules in
     let column : same c.args.vector.column ≡ c.args.vector.column = to_z-of_z w32 c.args.vector.column column_fits in
     let row : same c.args.vector.row ≡ c.args.vector.row = to_z-of_z w32 c.args.vector.row row_fits in
-    let left : same c.start-left.result ≡ start c.args.x c.args.vector.column =
-    small_same c.start-left.result (omega (arith, ints), omega (arith, ints)) ∙ (c.start-left.ensures.value ∙ ap (start c.args.x) column) in
-    let top : same c.start-top.result ≡ start c.args.y c.args.vector.row =
-    small_same c.start-top.result (omega (arith, ints), omega (arith, ints)) ∙ (c.start-top.ensures.value ∙ ap (start c.args.y) row) in
+    let left : same c.first_tap-left.result ≡ first_tap c.args.x c.args.vector.column =
+    small_same c.first_tap-left.result (omega (arith, ints), omega (arith, ints)) ∙ (c.first_tap-left.ensures.value ∙ ap (first_tap c.args.x) column) in
+    let top : same c.first_tap-top.result ≡ first_tap c.args.y c.args.vector.row =
+    small_same c.first_tap-top.result (omega (arith, ints), omega (arith, ints)) ∙ (c.first_tap-top.ensures.value ∙ ap (first_tap c.args.y) row) in
     let across_is : c.fraction-across.result ≡ fraction c.args.vector.column = c.fraction-across.ensures.value ∙ ap fraction column in
     let down_is : c.fraction-down.result ≡ fraction c.args.vector.row = c.fraction-down.ensures.value ∙ ap fraction row in
     let first : c.taps-rows.result ≡ taps c.args.version (fraction c.args.vector.column) = c.taps-rows.ensures.value ∙ ap (taps c.args.version) across_is in
     let second : c.taps-columns.result ≡ taps c.args.version (fraction c.args.vector.row) = c.taps-columns.ensures.value ∙ ap (taps c.args.version) down_is in
     c.pass_both.ensures r k rin kin
-    ∙ ap (λ (w : List ℤ). filter_six w (λ j. across c.taps-rows.result p (same c.start-left.result) (same c.start-top.result) (r + j) k)) second
-    ∙ ap (λ (w : List ℤ). filter_six (taps c.args.version (fraction c.args.vector.row)) (λ j. across w p (same c.start-left.result) (same c.start-top.result) (r + j) k)) first
-    ∙ ap (λ (z : ℤ). filter_six (taps c.args.version (fraction c.args.vector.row)) (λ j. across (taps c.args.version (fraction c.args.vector.column)) p z (same c.start-top.result) (r + j) k)) left
-    ∙ ap (λ (z : ℤ). filter_six (taps c.args.version (fraction c.args.vector.row)) (λ j. across (taps c.args.version (fraction c.args.vector.column)) p (start c.args.x c.args.vector.column) z (r + j) k)) top
+    ∙ ap (λ (w : List ℤ). filter_six w (λ j. horizontal_pass c.taps-rows.result p (same c.first_tap-left.result) (same c.first_tap-top.result) (r + j) k)) second
+    ∙ ap (λ (w : List ℤ). filter_six (taps c.args.version (fraction c.args.vector.row)) (λ j. horizontal_pass w p (same c.first_tap-left.result) (same c.first_tap-top.result) (r + j) k)) first
+    ∙ ap (λ (z : ℤ). filter_six (taps c.args.version (fraction c.args.vector.row)) (λ j. horizontal_pass (taps c.args.version (fraction c.args.vector.column)) p z (same c.first_tap-top.result) (r + j) k)) left
+    ∙ ap (λ (z : ℤ). filter_six (taps c.args.version (fraction c.args.vector.row)) (λ j. horizontal_pass (taps c.args.version (fraction c.args.vector.column)) p (first_tap c.args.x c.args.vector.column) z (r + j) k)) top
     ∙ inter_passes c.args.version p c.args.x c.args.y c.args.vector r k
 
 pub returns-then-across-eq0-2 : goal.returns-then-across-eq0-2
@@ -58,19 +58,19 @@ returns-then-across-eq0-2 g c r k rin kin =
     let row_fits : SFits w32 c.args.vector.row = search rules in
     let column : same c.args.vector.column ≡ c.args.vector.column = to_z-of_z w32 c.args.vector.column column_fits in
     let row : same c.args.vector.row ≡ c.args.vector.row = to_z-of_z w32 c.args.vector.row row_fits in
-    let left : same (same c.start-left.result +ℤ pos 2) ≡ start c.args.x c.args.vector.column +ℤ pos 2 =
-    (let e : same (same c.start-left.result +ℤ pos 2) ≡ c.start-left.result +ℤ pos 2 = omega (arith, ints) in e)
-    ∙ ap (λ (z : ℤ). z +ℤ pos 2) (c.start-left.ensures.value ∙ ap (start c.args.x) column) in
-    let top : same c.start-top.result ≡ start c.args.y c.args.vector.row =
-    small_same c.start-top.result (omega (arith, ints), omega (arith, ints)) ∙ (c.start-top.ensures.value ∙ ap (start c.args.y) row) in
+    let left : same (same c.first_tap-left.result +ℤ pos 2) ≡ first_tap c.args.x c.args.vector.column +ℤ pos 2 =
+    (let e : same (same c.first_tap-left.result +ℤ pos 2) ≡ c.first_tap-left.result +ℤ pos 2 = omega (arith, ints) in e)
+    ∙ ap (λ (z : ℤ). z +ℤ pos 2) (c.first_tap-left.ensures.value ∙ ap (first_tap c.args.x) column) in
+    let top : same c.first_tap-top.result ≡ first_tap c.args.y c.args.vector.row =
+    small_same c.first_tap-top.result (omega (arith, ints), omega (arith, ints)) ∙ (c.first_tap-top.ensures.value ∙ ap (first_tap c.args.y) row) in
     let down_is : c.fraction-down.result ≡ fraction c.args.vector.row = c.fraction-down.ensures.value ∙ ap fraction row in
     let rows : List ℕ = c.copied_rows-rows.result in
-    let x : ℤ = start c.args.x c.args.vector.column in
-    let y : ℤ = start c.args.y c.args.vector.row in
+    let x : ℤ = first_tap c.args.x c.args.vector.column in
+    let y : ℤ = first_tap c.args.y c.args.vector.row in
     let none : fraction c.args.vector.column ≡ 0 = sym (ap fraction column) ∙ sym c.fraction-across.ensures.value ∙ c.if-across-eq0-2.true in
     let weights : c.taps.result ≡ taps c.args.version (fraction c.args.vector.row) = c.taps.ensures.value ∙ ap (taps c.args.version) down_is in
-    let moved : (i j : ℕ) → reference_pixel p (same (same c.start-left.result +ℤ pos 2) +ℤ pos j) (same c.start-top.result +ℤ pos i) ≡ reference_pixel p (x +ℤ pos 2 +ℤ pos j) (y +ℤ pos i) =
-    λ i j. ap (λ (z : ℤ). reference_pixel p (z +ℤ pos j) (same c.start-top.result +ℤ pos i)) left ∙ ap (λ (z : ℤ). reference_pixel p (x +ℤ pos 2 +ℤ pos j) (z +ℤ pos i)) top in
+    let moved : (i j : ℕ) → reference_pixel p (same (same c.first_tap-left.result +ℤ pos 2) +ℤ pos j) (same c.first_tap-top.result +ℤ pos i) ≡ reference_pixel p (x +ℤ pos 2 +ℤ pos j) (y +ℤ pos i) =
+    λ i j. ap (λ (z : ℤ). reference_pixel p (z +ℤ pos j) (same c.first_tap-top.result +ℤ pos i)) left ∙ ap (λ (z : ℤ). reference_pixel p (x +ℤ pos 2 +ℤ pos j) (z +ℤ pos i)) top in
     c.pass_columns.ensures r k rin kin
     ∙ ap (λ (w : List ℤ). filter_six w (λ j. get_or rows ((r + j) * g.row.N + k) 0)) weights
     ∙ inter_both c.args.version p c.args.x c.args.y c.args.vector g.row.N rows
@@ -88,16 +88,16 @@ returns-then-across-eq0 g c r k rin kin =
     let row_fits : SFits w32 c.args.vector.row = search rules in
     let column : same c.args.vector.column ≡ c.args.vector.column = to_z-of_z w32 c.args.vector.column column_fits in
     let row : same c.args.vector.row ≡ c.args.vector.row = to_z-of_z w32 c.args.vector.row row_fits in
-    let left : same (same c.start-left.result +ℤ pos 2) ≡ start c.args.x c.args.vector.column +ℤ pos 2 =
-    (let e : same (same c.start-left.result +ℤ pos 2) ≡ c.start-left.result +ℤ pos 2 = omega (arith, ints) in e)
-    ∙ ap (λ (z : ℤ). z +ℤ pos 2) (c.start-left.ensures.value ∙ ap (start c.args.x) column) in
-    let top : same (same c.start-top.result +ℤ pos 2) ≡ start c.args.y c.args.vector.row +ℤ pos 2 =
-    (let e : same (same c.start-top.result +ℤ pos 2) ≡ c.start-top.result +ℤ pos 2 = omega (arith, ints) in e)
-    ∙ ap (λ (z : ℤ). z +ℤ pos 2) (c.start-top.ensures.value ∙ ap (start c.args.y) row) in
-    let moved : reference_pixel p (same (same c.start-left.result +ℤ pos 2) +ℤ pos k) (same (same c.start-top.result +ℤ pos 2) +ℤ pos r)
-    ≡ reference_pixel p (start c.args.x c.args.vector.column +ℤ pos 2 +ℤ pos k) (start c.args.y c.args.vector.row +ℤ pos 2 +ℤ pos r) =
-    ap (λ (z : ℤ). reference_pixel p (z +ℤ pos k) (same (same c.start-top.result +ℤ pos 2) +ℤ pos r)) left
-    ∙ ap (λ (z : ℤ). reference_pixel p (start c.args.x c.args.vector.column +ℤ pos 2 +ℤ pos k) (z +ℤ pos r)) top in
+    let left : same (same c.first_tap-left.result +ℤ pos 2) ≡ first_tap c.args.x c.args.vector.column +ℤ pos 2 =
+    (let e : same (same c.first_tap-left.result +ℤ pos 2) ≡ c.first_tap-left.result +ℤ pos 2 = omega (arith, ints) in e)
+    ∙ ap (λ (z : ℤ). z +ℤ pos 2) (c.first_tap-left.ensures.value ∙ ap (first_tap c.args.x) column) in
+    let top : same (same c.first_tap-top.result +ℤ pos 2) ≡ first_tap c.args.y c.args.vector.row +ℤ pos 2 =
+    (let e : same (same c.first_tap-top.result +ℤ pos 2) ≡ c.first_tap-top.result +ℤ pos 2 = omega (arith, ints) in e)
+    ∙ ap (λ (z : ℤ). z +ℤ pos 2) (c.first_tap-top.ensures.value ∙ ap (first_tap c.args.y) row) in
+    let moved : reference_pixel p (same (same c.first_tap-left.result +ℤ pos 2) +ℤ pos k) (same (same c.first_tap-top.result +ℤ pos 2) +ℤ pos r)
+    ≡ reference_pixel p (first_tap c.args.x c.args.vector.column +ℤ pos 2 +ℤ pos k) (first_tap c.args.y c.args.vector.row +ℤ pos 2 +ℤ pos r) =
+    ap (λ (z : ℤ). reference_pixel p (z +ℤ pos k) (same (same c.first_tap-top.result +ℤ pos 2) +ℤ pos r)) left
+    ∙ ap (λ (z : ℤ). reference_pixel p (first_tap c.args.x c.args.vector.column +ℤ pos 2 +ℤ pos k) (z +ℤ pos r)) top in
     c.copied_rows.ensures.value r k rin kin ∙ moved
     ∙ inter_whole c.args.version p c.args.x c.args.y c.args.vector r k
     (sym (ap fraction row) ∙ sym c.fraction-down.ensures.value ∙ c.if-down-eq0.true)

@@ -2,7 +2,7 @@ use Rattle.std.proofs.Common.{◌≡◌, ◌∙◌, ℤ, pos, ◌+ℤ◌, ◌≤
 use Rattle.std.proofs.lemmas.Int.{ints, to_z-of_z}
 use lib.IntN.{nat_abs}
 use mir.Val.{SFits}
-use Rattle.vp_inter.specs.Vectors.{start}
+use Rattle.vp_inter.specs.Vectors.{first_tap}
 use Rattle.vp_inter.proofs.Sums.{same}
 use Rattle.vp_inter.proofs.into.whole_place.Goals as goal
 
@@ -23,10 +23,10 @@ returns-clause-place c =
     let i = c.if-not-lies_inside.ensures refl in
     let column_fits : SFits w32 c.args.vector.column = search rules in
     let row_fits : SFits w32 c.args.vector.row = search rules in
-    let left : same (same c.start-left.result +ℤ pos 2) ≡ start c.args.x c.args.vector.column +ℤ pos 2 =
-    (let e : same (same c.start-left.result +ℤ pos 2) ≡ c.start-left.result +ℤ pos 2 = omega (arith, ints) in e)
-    ∙ ap (λ (z : ℤ). z +ℤ pos 2) (c.start-left.ensures.value ∙ ap (start c.args.x) (to_z-of_z w32 c.args.vector.column column_fits)) in
-    let top : same (same c.start-top.result +ℤ pos 2) ≡ start c.args.y c.args.vector.row +ℤ pos 2 =
-    (let e : same (same c.start-top.result +ℤ pos 2) ≡ c.start-top.result +ℤ pos 2 = omega (arith, ints) in e)
-    ∙ ap (λ (z : ℤ). z +ℤ pos 2) (c.start-top.ensures.value ∙ ap (start c.args.y) (to_z-of_z w32 c.args.vector.row row_fits)) in
+    let left : same (same c.first_tap-left.result +ℤ pos 2) ≡ first_tap c.args.x c.args.vector.column +ℤ pos 2 =
+    (let e : same (same c.first_tap-left.result +ℤ pos 2) ≡ c.first_tap-left.result +ℤ pos 2 = omega (arith, ints) in e)
+    ∙ ap (λ (z : ℤ). z +ℤ pos 2) (c.first_tap-left.ensures.value ∙ ap (first_tap c.args.x) (to_z-of_z w32 c.args.vector.column column_fits)) in
+    let top : same (same c.first_tap-top.result +ℤ pos 2) ≡ first_tap c.args.y c.args.vector.row +ℤ pos 2 =
+    (let e : same (same c.first_tap-top.result +ℤ pos 2) ≡ c.first_tap-top.result +ℤ pos 2 = omega (arith, ints) in e)
+    ∙ ap (λ (z : ℤ). z +ℤ pos 2) (c.first_tap-top.ensures.value ∙ ap (first_tap c.args.y) (to_z-of_z w32 c.args.vector.row row_fits)) in
     (abs_is _ _ i.0 left, abs_is _ _ i.2 top)

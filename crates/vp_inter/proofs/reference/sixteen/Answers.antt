@@ -21,7 +21,7 @@ returns c j h =
     let is_r : r ≡ int_max (pos 0) (int_min (z -ℤ pos first +ℤ pos 16) (pos 32)) = c.clamp-from.ensures.value ∙ ap (λ (w : ℤ). int_max (pos 0) (int_min w (pos 32))) far in
     let is_from : pos from ≡ int_max (pos 0) (int_min (z -ℤ pos first +ℤ pos 16) (pos 32)) = small_natural r (z -ℤ pos first +ℤ pos 16) is_r ∙ is_r in
     let place : get_or c.places.result j 0 ≡ min (from + j - 16) 15 = c.places.ensures j h in
-    c.looked_up.ensures j h
+    c.shuffle.ensures j h
     ∙ ap (λ (k : ℕ). get_or c.load.result k 0) place
     ∙ c.load.ensures (min (from + j - 16) 15) (omega arith)
     ∙ ap (λ (k : ℕ). get_or line k 0) (nearest_moved (length line) first from j z c.requires.some h is is_from)

@@ -2,7 +2,7 @@ use Rattle.std.proofs.Common.{◌≡◌, ◌∙◌, ℕ, Bool, cond, ℤ, pos, �
 use Rattle.std.proofs.lemmas.Int.{ints, to_z-of_z}
 use Rattle.std.proofs.lemmas.Bool.{ne_eqb}
 use mir.Val.{SFits}
-use Rattle.vp_inter.specs.Vectors.{whole, mean_of_four, chroma_eighths}
+use Rattle.vp_inter.specs.Vectors.{whole_pixels, mean_of_four, chroma_eighths}
 use Rattle.vp_inter.proofs.Sums.{same, four}
 use Rattle.vp_inter.proofs.vector.chroma_eighths.Goals as goal
 
@@ -16,11 +16,11 @@ returns-then-version-eq3 c =
     let fits : SFits w32 c.mean_of_four-mean.result = search rules in
     let mean : same c.mean_of_four-mean.result ≡ mean_of_four ((q 0 +ℤ q 1) +ℤ (q 2 +ℤ q 3)) =
     to_z-of_z w32 c.mean_of_four-mean.result fits ∙ c.mean_of_four-mean.ensures ∙ ap mean_of_four total in
-    let eight : same (same c.whole.result *ℤ pos 8) ≡ c.whole.result *ℤ pos 8 = omega (arith, ints) in
+    let eight : same (same c.whole_pixels.result *ℤ pos 8) ≡ c.whole_pixels.result *ℤ pos 8 = omega (arith, ints) in
     let v : ℤ = mean_of_four ((q 0 +ℤ q 1) +ℤ (q 2 +ℤ q 3)) in
     eight
-    ∙ ap (λ (z : ℤ). z *ℤ pos 8) (c.whole.ensures.value ∙ ap whole mean)
-    ∙ ap (λ (b : Bool). cond b (whole v *ℤ pos 8) v) (sym (eq-eqb c.args.version 3 c.if-version-eq3.true))
+    ∙ ap (λ (z : ℤ). z *ℤ pos 8) (c.whole_pixels.ensures.value ∙ ap whole_pixels mean)
+    ∙ ap (λ (b : Bool). cond b (whole_pixels v *ℤ pos 8) v) (sym (eq-eqb c.args.version 3 c.if-version-eq3.true))
 
 pub returns-else-version-eq3 : goal.returns-else-version-eq3
 unfolding chroma_eighths
@@ -32,4 +32,4 @@ returns-else-version-eq3 c =
     let fits : SFits w32 c.mean_of_four-mean.result = search rules in
     let v : ℤ = mean_of_four ((q 0 +ℤ q 1) +ℤ (q 2 +ℤ q 3)) in
     to_z-of_z w32 c.mean_of_four-mean.result fits ∙ c.mean_of_four-mean.ensures ∙ ap mean_of_four total
-    ∙ ap (λ (b : Bool). cond b (whole v *ℤ pos 8) v) (sym (ne_eqb c.args.version 3 c.if-version-eq3.false))
+    ∙ ap (λ (b : Bool). cond b (whole_pixels v *ℤ pos 8) v) (sym (ne_eqb c.args.version 3 c.if-version-eq3.false))

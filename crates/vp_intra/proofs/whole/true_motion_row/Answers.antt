@@ -5,7 +5,7 @@ use lib.Lanes.{top}
 use borrow.Rule.Simd.Lanes.{act1, act2}
 use borrow.Table.Row.{s_int}
 use Rattle.vp_lanes.proofs.Bytes.{above_is, sum_is}
-use Rattle.vp_intra.specs.Edges.{clamped}
+use Rattle.vp_intra.specs.Edges.{clamped_pixel}
 use Rattle.vp_intra.proofs.BlockLemmas.{moved_either_way}
 use Rattle.vp_intra.proofs.whole.true_motion_row.Goals as goal
 

@@ -16,12 +16,12 @@ returns-clause-value c =
     let x = c.args.x in
     let y = c.args.y in
     let step = c.args.step in
-    let lines = c.middles_back-lines.result in
+    let lines = c.untranspose_middle-lines.result in
     let whole : IsWhole p.luma = subst IsWhole c.plane.ensures c.width-width.ensures.whole in
     let row : (r : ℕ) → r < 16 → get_or lines r [] ≡ middle_of (stepped step (line_at along p.luma x (y + r))) =
     λ r h. turned_line middle_of step p.luma c.plane-2.result.now x (y + r) (get_or lines r []) (line_of c.apply_to_all-l.result r) (line_of c.lines_along.result r)
-    (c.middles_back-lines.ensures.value r h) (c.apply_to_all-l.ensures r h) (c.lines_along.ensures r h) c.plane-2.ensures in
-    c.write_rows4.ensures ∙ ap (λ (q : Raster). record p { luma = q }) (middles_along step 16 x y p.luma lines c.middles_back-lines.ensures.len whole c.requires.columns c.requires.rows c.requires.ends row)
+    (c.untranspose_middle-lines.ensures.value r h) (c.apply_to_all-l.ensures r h) (c.lines_along.ensures r h) c.plane-2.ensures in
+    c.write_rows4.ensures ∙ ap (λ (q : Raster). record p { luma = q }) (middles_along step 16 x y p.luma lines c.untranspose_middle-lines.ensures.len whole c.requires.columns c.requires.rows c.requires.ends row)
 
 pub returns-clause-wide : goal.returns-clause-wide
 returns-clause-wide c = ap (λ (p : Image). p.luma.width) (returns-clause-value c) ∙ width-edge_lines along c.args.step 16 c.args.x c.args.y c.args.picture.now.luma

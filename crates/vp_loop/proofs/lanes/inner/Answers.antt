@@ -1,7 +1,7 @@
 use Rattle.std.proofs.Common.{◌≡◌, cond, ◌&&◌, nat_le, nat_lt, ap, ap₂, ◌∙◌, pos, ◌+ℤ◌, ◌-ℤ◌, ◌*ℤ◌, ◌*◌, ◌+◌, ◌/◌, slice_index}
 use lib.Signed.{shr_z}
-use Rattle.vp_lanes.specs.Lane.{to_byte, held}
-use Rattle.vp_loop.specs.LineSteps.{clamp8, is_small_step, is_smooth, is_high, inner_changed}
+use Rattle.vp_lanes.specs.Lane.{clamp_to_byte, biased}
+use Rattle.vp_loop.specs.LineSteps.{clamp8, is_small_step, is_smooth, is_high, subblock_edge_filtered}
 use Rattle.vp_loop.specs.Lanes.{line_of}
 use Rattle.vp_loop.proofs.LaneLines.{smooth_is, lt_max, lane_pull, lane_eighth, lane_half, lane_inner, inner_is}
 use Rattle.vp_loop.proofs.lanes.inner.Goals as goal
@@ -12,26 +12,26 @@ half-h-requires c = c.eighth-f1.ensures.range
 pub returns : goal.returns
 returns c j h =
     let l = line_of c.args.l j in
-    let size = slice_index c.gap-edge.result j * 2 + slice_index c.gap-outer.result j / 2 in
+    let size = slice_index c.lane_abs_diff-edge.result j * 2 + slice_index c.lane_abs_diff-outer.result j / 2 in
     let m = nat_le size c.args.limit && nat_le (slice_index c.most_apart-most.result j) c.args.interior in
     let high = nat_lt c.args.threshold (slice_index c.inner_apart-apart.result j) in
-    let w : held 128 c.where_high-w.result j ≡ cond high (clamp8 (pos l.p1 -ℤ pos l.q1)) (pos 0) =
+    let w : biased 128 c.where_high-w.result j ≡ cond high (clamp8 (pos l.p1 -ℤ pos l.q1)) (pos 0) =
     c.where_high-w.ensures j h ∙ ap (λ z. cond high z (pos 0)) (c.difference-d.ensures j h) in
-    let a : held 128 c.masked-a.result j ≡ lane_pull m high l =
-    c.masked-a.ensures j h ∙ ap (λ z. cond m z (pos 0)) (c.pull-s.ensures j h ∙ ap (λ z. clamp8 (z +ℤ pos 3 *ℤ (pos l.q0 -ℤ pos l.p0))) w) in
-    let f1 : held 16 c.eighth-f1.result j ≡ lane_eighth m high l (pos 4) = c.eighth-f1.ensures.value j h ∙ ap (λ z. shr_z (clamp8 (z +ℤ pos 4)) 8) a in
-    let f2 : held 16 c.eighth-f2.result j ≡ lane_eighth m high l (pos 3) = c.eighth-f2.ensures.value j h ∙ ap (λ z. shr_z (clamp8 (z +ℤ pos 3)) 8) a in
-    let t : held 8 c.where_low-t.result j ≡ lane_half m high l =
+    let a : biased 128 c.masked-a.result j ≡ lane_pull m high l =
+    c.masked-a.ensures j h ∙ ap (λ z. cond m z (pos 0)) (c.filter_value-s.ensures j h ∙ ap (λ z. clamp8 (z +ℤ pos 3 *ℤ (pos l.q0 -ℤ pos l.p0))) w) in
+    let f1 : biased 16 c.eighth-f1.result j ≡ lane_eighth m high l (pos 4) = c.eighth-f1.ensures.value j h ∙ ap (λ z. shr_z (clamp8 (z +ℤ pos 4)) 8) a in
+    let f2 : biased 16 c.eighth-f2.result j ≡ lane_eighth m high l (pos 3) = c.eighth-f2.ensures.value j h ∙ ap (λ z. shr_z (clamp8 (z +ℤ pos 3)) 8) a in
+    let t : biased 8 c.where_low-t.result j ≡ lane_half m high l =
     c.where_low-t.ensures j h ∙ ap (λ z. cond high (pos 0) z) (c.half-h.ensures j h ∙ ap (λ z. shr_z (z +ℤ pos 1) 2) f1) in
     let is_m : m ≡ (is_small_step c.args.limit l && is_smooth c.args.interior l) =
-    ap₂ (λ x y. x && y) (ap₂ (λ x y. nat_le (x * 2 + y / 2) c.args.limit) (c.gap-edge.ensures j h) (c.gap-outer.ensures j h))
+    ap₂ (λ x y. x && y) (ap₂ (λ x y. nat_le (x * 2 + y / 2) c.args.limit) (c.lane_abs_diff-edge.ensures j h) (c.lane_abs_diff-outer.ensures j h))
     (ap (λ n. nat_le n c.args.interior) (c.most_apart-most.ensures j h) ∙ smooth_is c.args.interior _ _ _ _ _ _) in
     let is_h : high ≡ is_high c.args.threshold l =
     ap (λ n. nat_lt c.args.threshold n) (c.inner_apart-apart.ensures j h) ∙ lt_max c.args.threshold _ _ in
-    let e1 = c.raised.ensures.value j h ∙ ap (λ z. to_byte (pos l.p1 +ℤ z)) t in
-    let e0 = c.raised-2.ensures.value j h ∙ ap (λ z. to_byte (pos l.p0 +ℤ z)) f2 in
-    let g0 = c.lowered.ensures.value j h ∙ ap (λ z. to_byte (pos l.q0 -ℤ z)) f1 in
-    let g1 = c.lowered-2.ensures.value j h ∙ ap (λ z. to_byte (pos l.q1 -ℤ z)) t in
+    let e1 = c.raised.ensures.value j h ∙ ap (λ z. clamp_to_byte (pos l.p1 +ℤ z)) t in
+    let e0 = c.raised-2.ensures.value j h ∙ ap (λ z. clamp_to_byte (pos l.p0 +ℤ z)) f2 in
+    let g0 = c.lowered.ensures.value j h ∙ ap (λ z. clamp_to_byte (pos l.q0 -ℤ z)) f1 in
+    let g1 = c.lowered-2.ensures.value j h ∙ ap (λ z. clamp_to_byte (pos l.q1 -ℤ z)) t in
     let all : line_of (record { p3 = c.args.l.p3; p2 = c.args.l.p2; p1 = c.raised.result; p0 = c.raised-2.result; q0 = c.lowered.result; q1 = c.lowered-2.result; q2 = c.args.l.q2; q3 = c.args.l.q3 }) j ≡ lane_inner m high l =
     λ i. record l { p1 = e1 i; p0 = e0 i; q0 = g0 i; q1 = g1 i } in
-    all ∙ (inner_is m high l (c.raised.ensures.bytes j h) (c.raised-2.ensures.bytes j h) (c.lowered.ensures.bytes j h) (c.lowered-2.ensures.bytes j h) ∙ ap₂ (λ x y. cond x (inner_changed y l) l) is_m is_h)
+    all ∙ (inner_is m high l (c.raised.ensures.bytes j h) (c.raised-2.ensures.bytes j h) (c.lowered.ensures.bytes j h) (c.lowered-2.ensures.bytes j h) ∙ ap₂ (λ x y. cond x (subblock_edge_filtered y l) l) is_m is_h)

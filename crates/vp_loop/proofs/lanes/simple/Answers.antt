@@ -1,7 +1,7 @@
 use Rattle.std.proofs.Common.{◌≡◌, cond, ◌&&◌, nat_le, ap, ap₂, ◌∙◌, true, pos, ◌+ℤ◌, ◌-ℤ◌, ◌*ℤ◌, ◌*◌, ◌+◌, ◌/◌, slice_index}
 use lib.Signed.{shr_z}
-use Rattle.vp_lanes.specs.Lane.{to_byte, held}
-use Rattle.vp_loop.specs.LineSteps.{clamp8, is_small_step, drawn}
+use Rattle.vp_lanes.specs.Lane.{clamp_to_byte, biased}
+use Rattle.vp_loop.specs.LineSteps.{clamp8, is_small_step, common_adjusted}
 use Rattle.vp_loop.specs.Lanes.{line_of}
 use Rattle.vp_loop.proofs.LaneLines.{all_smooth, lane_pull, lane_eighth, lane_drawn, drawn_is}
 use Rattle.vp_loop.proofs.lanes.simple.Goals as goal
@@ -9,19 +9,19 @@ use Rattle.vp_loop.proofs.lanes.simple.Goals as goal
 pub returns : goal.returns
 returns c j h =
     let l = line_of c.args.l j in
-    let size = slice_index c.gap-edge.result j * 2 + slice_index c.gap-outer.result j / 2 in
+    let size = slice_index c.lane_abs_diff-edge.result j * 2 + slice_index c.lane_abs_diff-outer.result j / 2 in
     let m = nat_le size c.args.limit && nat_le l.p0 255 in
-    let w : held 128 c.masked-w.result j ≡ lane_pull m true l =
-    c.masked-w.ensures j h ∙ ap (λ z. cond m z (pos 0)) (c.pull-s.ensures j h ∙ ap (λ z. clamp8 (z +ℤ pos 3 *ℤ (pos l.q0 -ℤ pos l.p0))) (c.difference-d.ensures j h)) in
+    let w : biased 128 c.masked-w.result j ≡ lane_pull m true l =
+    c.masked-w.ensures j h ∙ ap (λ z. cond m z (pos 0)) (c.filter_value-s.ensures j h ∙ ap (λ z. clamp8 (z +ℤ pos 3 *ℤ (pos l.q0 -ℤ pos l.p0))) (c.difference-d.ensures j h)) in
     let p0 = c.raised.ensures.bytes j h in
     let q0 = c.lowered.ensures.bytes j h in
     let is_m : m ≡ is_small_step c.args.limit l =
     all_smooth (nat_le size c.args.limit) l.p0 p0
-    ∙ ap₂ (λ x y. nat_le (x * 2 + y / 2) c.args.limit) (c.gap-edge.ensures j h) (c.gap-outer.ensures j h) in
-    let f1 : held 16 c.eighth-f1.result j ≡ lane_eighth m true l (pos 4) = c.eighth-f1.ensures.value j h ∙ ap (λ z. shr_z (clamp8 (z +ℤ pos 4)) 8) w in
-    let f2 : held 16 c.eighth-f2.result j ≡ lane_eighth m true l (pos 3) = c.eighth-f2.ensures.value j h ∙ ap (λ z. shr_z (clamp8 (z +ℤ pos 3)) 8) w in
-    let e0 = c.raised.ensures.value j h ∙ ap (λ z. to_byte (pos l.p0 +ℤ z)) f2 in
-    let g0 = c.lowered.ensures.value j h ∙ ap (λ z. to_byte (pos l.q0 -ℤ z)) f1 in
+    ∙ ap₂ (λ x y. nat_le (x * 2 + y / 2) c.args.limit) (c.lane_abs_diff-edge.ensures j h) (c.lane_abs_diff-outer.ensures j h) in
+    let f1 : biased 16 c.eighth-f1.result j ≡ lane_eighth m true l (pos 4) = c.eighth-f1.ensures.value j h ∙ ap (λ z. shr_z (clamp8 (z +ℤ pos 4)) 8) w in
+    let f2 : biased 16 c.eighth-f2.result j ≡ lane_eighth m true l (pos 3) = c.eighth-f2.ensures.value j h ∙ ap (λ z. shr_z (clamp8 (z +ℤ pos 3)) 8) w in
+    let e0 = c.raised.ensures.value j h ∙ ap (λ z. clamp_to_byte (pos l.p0 +ℤ z)) f2 in
+    let g0 = c.lowered.ensures.value j h ∙ ap (λ z. clamp_to_byte (pos l.q0 -ℤ z)) f1 in
     let all : line_of (record { p3 = c.args.l.p3; p2 = c.args.l.p2; p1 = c.args.l.p1; p0 = c.raised.result; q0 = c.lowered.result; q1 = c.args.l.q1; q2 = c.args.l.q2; q3 = c.args.l.q3 }) j ≡ lane_drawn m l =
     λ i. record l { p0 = e0 i; q0 = g0 i } in
-    all ∙ (drawn_is m l p0 q0 ∙ ap (λ x. cond x (drawn true l) l) is_m)
+    all ∙ (drawn_is m l p0 q0 ∙ ap (λ x. cond x (common_adjusted true l) l) is_m)

@@ -1,6 +1,6 @@
 use Rattle.std.proofs.Common.{ap, ap₂, ◌∙◌, ◌≡◌, ℕ, ℤ, Bool, cond, sym, pos, ◌+ℤ◌}
 use Rattle.vp_loop.specs.Levels.{clamped_level, segment_level, reference_delta, mode_delta}
-use Rattle.vp_loop.proofs.Pulls.{level_same}
+use Rattle.vp_loop.proofs.FilterValueLemmas.{level_same}
 use Rattle.vp_loop.proofs.strength.summed_level.Goals as goal
 
 pub returns-clause-value : goal.returns-clause-value

@@ -1,6 +1,6 @@
 use Rattle.std.proofs.Common.{◌≡◌, ◌*◌, ◌≤◌, ◌^◌, pos, ap, ◌∙◌, sym, subst, set, slice_index_or, unsigned_abs, arith, w64, max, to_z, of_z, FitsSigned}
 use Rattle.std.proofs.lemmas.Int.{to_z-of_z}
-use Rattle.vp_quant.specs.Quant.{placed, coefficient, dequantised}
+use Rattle.vp_quant.specs.Quant.{dequantised_prefix, coefficient, dequantised}
 use Rattle.vp_quant.proofs.Places.{placed_more, placed_none, placed_all, dequantised_at, dequantised_within, zeros_within, set_within}
 use Rattle.vp_quant.proofs.block.dequant.Goals as goal
 use Rattle.vp_tables.specs.Tables.{zigzag}
@@ -24,7 +24,7 @@ pub returns : goal.returns
 returns c =
     let last : c.loop-position.position ≡ 16 = omega (arith, c.loop-position-test.false, c.loop-position.auto.position-end) in
     let whole : c.loop-position.block ≡ dequantised c.args.levels.now c.args.dc c.args.ac =
-    c.loop-position.invariant.placed ∙ ap (λ n. placed c.args.levels.now c.args.dc c.args.ac n) last ∙ placed_all c.args.levels.now c.args.dc c.args.ac in
+    c.loop-position.invariant.placed ∙ ap (λ n. dequantised_prefix c.args.levels.now c.args.dc c.args.ac n) last ∙ placed_all c.args.levels.now c.args.dc c.args.ac in
     record {
       value = whole;
       within = c.loop-position.invariant.within;

@@ -1,9 +1,9 @@
 use Rattle.std.proofs.Common.{◌≡◌, ℕ, ◌^◌, ◌≤◌, ℤ, pos, List, slice_index_or, unsigned_abs}
-use Rattle.vp_quant.specs.Quant.{placed}
+use Rattle.vp_quant.specs.Quant.{dequantised_prefix}
 use Rattle.vp_quant.proofs.block.dequant.Given as goal
 
 pub record IsPlaced (levels : List ℤ) (dc ac position : ℕ) (block : List ℤ) : Type 0 where
-  pub placed : block ≡ placed levels dc ac position
+  pub placed : block ≡ dequantised_prefix levels dc ac position
   pub within : (i : ℕ) → unsigned_abs (slice_index_or block i (pos 0)) ≤ 2 ^ 31
 
 abbrev pub invariant-loop-position : goal.invariant-loop-position

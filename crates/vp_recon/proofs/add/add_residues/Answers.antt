@@ -4,7 +4,7 @@ use Rattle.vp_base.specs.Image.{Image, plane_of, with_plane}
 use Rattle.vp_base.specs.Block.{with_block, IsWhole}
 use Rattle.vp_base.proofs.BlockLemmas.{with_block_same}
 use Rattle.vp_base.proofs.ImageLemmas.{with_plane-plane_of}
-use Rattle.vp_recon.specs.Kept.{IsNothing}
+use Rattle.vp_recon.specs.Sums.{IsNothing}
 use Rattle.vp_recon.specs.Pairs.{with_until}
 use Rattle.vp_recon.specs.Parts.{residue_in}
 use Rattle.vp_recon.proofs.Parts.{sub_at, sub_below, until, until_none, until_same, subs_all, with_block_of}

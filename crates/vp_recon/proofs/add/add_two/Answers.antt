@@ -7,7 +7,7 @@ use Rattle.vp_transform.proofs.Words.{coded, read}
 use Rattle.vp_transform.proofs.Sizes.{fits-below}
 use Rattle.vp_transform.proofs.Eights.{handed16}
 use Rattle.vp_recon.specs.Parts.{coefficients_in, residue_in}
-use Rattle.vp_recon.specs.Pairs.{AreRows, AreLow}
+use Rattle.vp_recon.specs.Pairs.{ArePairedRows, AreLow}
 use Rattle.vp_recon.proofs.PairLemmas.{low_handed, short_coded, even_low, even_rows, row_low, rows_kept}
 use Rattle.vp_recon.proofs.add.add_two.Goals as goal
 
@@ -72,8 +72,8 @@ returns-then-not-has_others-2 c =
     sym (c.has_others-then-not-has_others.ensures c.if-not-has_others-2.true (coded second))
     ∙ ap (λ (z : ℤ). set (dequantised (block_of r.tokens.now (r.first + (k + 1))).levels 0 r.ac) 0 z) exact_second ∙ c.first_coefficient-then-not-has_others-2.ensures.value in
     c.add_rows.ensures (residue_in r k) (residue_in r (k + 1))
-    (subst (λ (zs : List ℤ). AreRows (handed16 row) (handed16 row) (handed16 row) (handed16 row) (idct zs) (residue_in r (k + 1))) left
-    (subst (λ (zs : List ℤ). AreRows (handed16 row) (handed16 row) (handed16 row) (handed16 row) (idct (coded first ∷ replicate 15 (pos 0))) (idct zs)) right
+    (subst (λ (zs : List ℤ). ArePairedRows (handed16 row) (handed16 row) (handed16 row) (handed16 row) (idct zs) (residue_in r (k + 1))) left
+    (subst (λ (zs : List ℤ). ArePairedRows (handed16 row) (handed16 row) (handed16 row) (handed16 row) (idct (coded first ∷ replicate 15 (pos 0))) (idct zs)) right
     (even_rows row l m el em (idct (coded first ∷ replicate 15 (pos 0))) (idct (coded second ∷ replicate 15 (pos 0))) low c.even_number-left.ensures.value c.even_number-right.ensures.value)))
 
 pub add_rows-requires-2-clause-first : goal.add_rows-requires-2-clause-first
@@ -121,6 +121,6 @@ returns c =
     let v2 = c.idct_pair.result.2 in
     let v3 = c.idct_pair.result.3 in
     c.add_rows-2.ensures (residue_in r k) (residue_in r (k + 1))
-    (subst (λ (zs : List ℤ). AreRows (handed16 v0) (handed16 v1) (handed16 v2) (handed16 v3) (idct zs) (residue_in r (k + 1))) (c.small_coefficients.ensures.value a c.in-Some.is)
-    (subst (λ (zs : List ℤ). AreRows (handed16 v0) (handed16 v1) (handed16 v2) (handed16 v3) (idct a) (idct zs)) (c.small_coefficients-2.ensures.value b c.in-Some-small_coefficients.is)
+    (subst (λ (zs : List ℤ). ArePairedRows (handed16 v0) (handed16 v1) (handed16 v2) (handed16 v3) (idct zs) (residue_in r (k + 1))) (c.small_coefficients.ensures.value a c.in-Some.is)
+    (subst (λ (zs : List ℤ). ArePairedRows (handed16 v0) (handed16 v1) (handed16 v2) (handed16 v3) (idct a) (idct zs)) (c.small_coefficients-2.ensures.value b c.in-Some-small_coefficients.is)
     (rows_kept a b small_a small_b v0 v1 v2 v3 c.idct_pair.ensures.top c.idct_pair.ensures.upper c.idct_pair.ensures.lower c.idct_pair.ensures.bottom)))

@@ -7,7 +7,7 @@ use Rattle.vp_recon.specs.Rebuilt.{summed}
 use Rattle.vp_base.specs.Raster.{Raster, pixel}
 use Rattle.vp_base.specs.Image.{Image, plane_of, with_plane}
 use Rattle.vp_base.proofs.BlockLemmas.{with_block_same}
-use Rattle.vp_recon.proofs.KeptLemmas.{lane_kept}
+use Rattle.vp_recon.proofs.SumLemmas.{lane_kept}
 use Rattle.vp_recon.proofs.four.add_sixteen.Goals as goal
 
 pub returns-clause-value : goal.returns-clause-value

@@ -5,7 +5,7 @@ use Rattle.vp_base.specs.Raster.{pixel}
 use Rattle.vp_lanes.specs.Lane.{lane}
 use Rattle.vp_transform.proofs.Eights.{handed16}
 use Rattle.vp_recon.specs.Rebuilt.{summed}
-use Rattle.vp_recon.proofs.KeptLemmas.{lane_kept}
+use Rattle.vp_recon.proofs.SumLemmas.{lane_kept}
 use Rattle.vp_recon.proofs.SubblockLemmas.{below_four}
 use Rattle.vp_recon.proofs.four.added_rows.Goals as goal
 

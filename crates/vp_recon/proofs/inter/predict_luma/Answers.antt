@@ -4,7 +4,7 @@ use Rattle.vp_base.specs.Block.{with_block}
 use Rattle.vp_base.specs.Image.{Image, with_plane}
 use Rattle.vp_base.proofs.BlockLemmas.{with_block_same}
 use Rattle.vp_tables.specs.Modes.{is_split}
-use Rattle.vp_motion.specs.Vector.{Entry, AreOne}
+use Rattle.vp_motion.specs.Vector.{MacroblockMotion, AreOne}
 use Rattle.vp_inter.specs.declared.vector.PlaneVector.{PlaneVector}
 use Rattle.vp_inter.specs.Inter.{inter_pixel}
 use Rattle.vp_recon.specs.Prediction.{luma_moved, moved_pixel}
@@ -23,10 +23,10 @@ returns-else-is_split c =
     let p : Image = c.args.picture.now in
     let x : ℕ = c.args.x in
     let y : ℕ = c.args.y in
-    let e : Entry = c.args.motion.now in
+    let e : MacroblockMotion = c.args.motion.now in
     let ref : Raster = c.args.reference.now.luma in
-    let whole : is_split c.args.motion.now.mode ≡ false = ap (λ (a : Entry). is_split a.mode) (sym c.motion.view_is) ∙ sym c.is_split.ensures ∙ c.if-is_split.false in
-    let one : AreOne e.mode e.vectors = subst (λ (a : Entry). AreOne a.mode a.vectors) c.motion.view_is c.motion.invariant in
+    let whole : is_split c.args.motion.now.mode ≡ false = ap (λ (a : MacroblockMotion). is_split a.mode) (sym c.motion.view_is) ∙ sym c.is_split.ensures ∙ c.if-is_split.false in
+    let one : AreOne e.mode e.vectors = subst (λ (a : MacroblockMotion). AreOne a.mode a.vectors) c.motion.view_is c.motion.invariant in
     c.predict_into16.ensures
     ∙ ap (with_plane p 0) (with_block_same p.luma x y 16 16
     (inter_pixel c.args.version c.plane-source.result.now x y c.luma_vector_of-vector.result) (moved_pixel c.args.version ref x y 4 (luma_moved e))

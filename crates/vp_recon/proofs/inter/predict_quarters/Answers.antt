@@ -4,7 +4,7 @@ use Rattle.vp_base.specs.Image.{Image, with_plane}
 use Rattle.vp_base.specs.Block.{with_block, IsWhole}
 use Rattle.vp_base.proofs.ImageLemmas.{with_plane-plane_of}
 use Rattle.vp_recon.specs.Prediction.{moved_pixel, luma_moved}
-use Rattle.vp_recon.specs.Kept.{sub_of_quarter}
+use Rattle.vp_recon.specs.Sums.{sub_of_quarter}
 use Rattle.vp_recon.proofs.Parts.{quarter_at, until, until_none, quarter_written, quarters_all, with_block_of}
 use Rattle.vp_recon.proofs.PlaneLemmas.{plane_next, plane_kept}
 use Rattle.vp_recon.proofs.AddLemmas.{was}

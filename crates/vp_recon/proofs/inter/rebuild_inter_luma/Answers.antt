@@ -3,12 +3,12 @@ use Rattle.std.specs.Prelude.{not}
 use Rattle.vp_base.specs.Raster.{Raster}
 use Rattle.vp_base.specs.Image.{Image, with_plane}
 use Rattle.vp_tables.specs.Modes.{is_split}
-use Rattle.vp_motion.specs.Vector.{Entry}
-use Rattle.vp_recon.specs.Source.{Macroblock, Inter, macroblock_of}
+use Rattle.vp_motion.specs.Vector.{MacroblockMotion}
+use Rattle.vp_recon.specs.Predictor.{Macroblock, Inter, macroblock_of}
 use Rattle.vp_recon.specs.Residue.{luma_residue}
 use Rattle.vp_recon.specs.Prediction.{luma_moved, moved_pixel}
 use Rattle.vp_recon.specs.Rebuilt.{residue_at}
-use Rattle.vp_recon.specs.Parts.{Gives}
+use Rattle.vp_recon.specs.Parts.{HasResidues}
 use Rattle.vp_recon.proofs.Parts.{sub_at}
 use Rattle.vp_recon.proofs.LumaLemmas.{luma_at_once}
 use Rattle.vp_recon.proofs.AddLemmas.{predicted_bytes, still_wide, still_high, summed_onto}
@@ -43,8 +43,8 @@ returns c =
     let y : ℕ = 16 * c.args.place.row in
     let m : Macroblock = macroblock_of (Inter c.args.motion.now c.args.reference.now c.args.version) c.args.tokens.now c.args.factors.now in
     let own = luma_residue (not (is_split c.args.motion.now.mode)) c.args.tokens.now c.args.factors.now in
-    let split : c.is_split.result ≡ is_split c.args.motion.now.mode = c.is_split.ensures ∙ ap (λ (a : Entry). is_split a.mode) c.motion.view_is in
-    let kept = subst (λ (b : Bool). Gives 16 c.luma_residues-residues.result (luma_residue (not b) c.args.tokens.now c.args.factors.now)) split c.luma_residues-residues.ensures.value in
+    let split : c.is_split.result ≡ is_split c.args.motion.now.mode = c.is_split.ensures ∙ ap (λ (a : MacroblockMotion). is_split a.mode) c.motion.view_is in
+    let kept = subst (λ (b : Bool). HasResidues 16 c.luma_residues-residues.result (luma_residue (not b) c.args.tokens.now c.args.factors.now)) split c.luma_residues-residues.ensures.value in
     summed_onto p c.predict_luma.new.picture 0 x y 16 (moved_pixel c.args.version c.args.reference.now.luma x y 4 (luma_moved c.args.motion.now)) c.requires.columns c.requires.rows c.predict_luma.ensures
     c.add_residues.new.picture (residue_at 4 own) (c.add_residues.ensures own kept)
     ∙ ap (with_plane p 0) (luma_at_once m c.args.place p.luma refl)

@@ -4,7 +4,7 @@ use Rattle.vp_base.specs.Image.{Image, with_plane}
 use Rattle.vp_base.proofs.BlockLemmas.{with_block_same}
 use Rattle.vp_intra.specs.Whole.{luma_pixel}
 use Rattle.vp_modes.specs.Entry.{Modes}
-use Rattle.vp_recon.specs.Source.{Macroblock, Intra, macroblock_of}
+use Rattle.vp_recon.specs.Predictor.{Macroblock, Intra, macroblock_of}
 use Rattle.vp_recon.specs.Residue.{luma_residue}
 use Rattle.vp_recon.specs.Rebuilt.{summed, residue_at, luma_made}
 use Rattle.vp_recon.proofs.LumaLemmas.{luma_at_once, made_by}
@@ -39,7 +39,7 @@ returns c =
     let own = luma_residue true c.args.tokens.now c.args.factors.now in
     let f : ℕ → ℕ → ℕ = luma_pixel modes.luma p.luma x y in
     let predicted = c.predict_luma_into.ensures.value
-        ∙ ap (λ (a : Modes). with_plane p 0 (with_block p.luma x y 16 16 (luma_pixel a.luma p.luma x y))) c.modes.view_is in
+    ∙ ap (λ (a : Modes). with_plane p 0 (with_block p.luma x y 16 16 (luma_pixel a.luma p.luma x y))) c.modes.view_is in
     summed_onto p c.predict_luma_into.new.picture 0 x y 16 f c.requires.columns c.requires.rows predicted
     c.add_residues.new.picture (residue_at 4 own) (c.add_residues.ensures own c.luma_residues.ensures.value)
     ∙ ap (with_plane p 0) (with_block_same p.luma x y 16 16

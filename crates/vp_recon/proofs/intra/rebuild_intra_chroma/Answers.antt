@@ -35,6 +35,6 @@ returns c =
     let y : ℕ = 8 * c.args.place.row in
     let own = chroma_residue c.args.tokens.now c.args.factors.now c.args.plane in
     let predicted = c.predict_chroma_into.ensures.value
-        ∙ ap (λ (a : Modes). with_plane p c.args.plane (with_block q x y 8 8 (chroma_pixel a.chroma q x y))) c.modes.view_is in
+    ∙ ap (λ (a : Modes). with_plane p c.args.plane (with_block q x y 8 8 (chroma_pixel a.chroma q x y))) c.modes.view_is in
     summed_onto p c.predict_chroma_into.new.picture c.args.plane x y 8 (chroma_pixel c.args.modes.now.chroma q x y) c.requires.columns c.requires.rows predicted
     c.add_residues.new.picture (residue_at 2 own) (c.add_residues.ensures own c.chroma_residues-residues.ensures.value)

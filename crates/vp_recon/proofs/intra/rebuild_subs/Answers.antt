@@ -1,7 +1,7 @@
 use Rattle.std.proofs.Common.{◌≡◌, ◌∙◌, ℕ, ◌+◌, get_or, sym, refl, ap, arith}
 use Rattle.vp_base.specs.declared.place.Place.{Place}
 use Rattle.vp_base.specs.Image.{Image, with_plane}
-use Rattle.vp_base.specs.Near.{block}
+use Rattle.vp_base.specs.Near.{block_place}
 use Rattle.vp_base.specs.Over.{over}
 use Rattle.vp_base.proofs.OverLemmas.{over-none, over-more}
 use Rattle.vp_tables.specs.declared.modes.SubMode.TheVariants as sub_is
@@ -9,7 +9,7 @@ use Rattle.vp_modes.specs.Entry.{Modes}
 use Rattle.vp_tokens.specs.Block.{Block}
 use Rattle.vp_tokens.specs.Blocks.{block_of}
 use Rattle.vp_quant.specs.declared.factors.Factors.{Factors}
-use Rattle.vp_recon.specs.Source.{Macroblock, Intra, macroblock_of}
+use Rattle.vp_recon.specs.Predictor.{Macroblock, Intra, macroblock_of}
 use Rattle.vp_recon.specs.Rebuilt.{sub_step, with_sub}
 use Rattle.vp_recon.specs.Residue.{residue}
 use Rattle.vp_recon.proofs.LumaLemmas.{luma_by_subs, sub_alone}
@@ -29,7 +29,7 @@ loop-k-preserved c =
     let m : Macroblock = macroblock_of (Intra c.args.modes.now) c.args.tokens.now c.args.factors.now in
     let k : ℕ = c.loop-k.k in
     let f : Factors = c.args.factors.now in
-    let here : Place = block 4 c.args.place c.loop-k.k in
+    let here : Place = block_place 4 c.args.place c.loop-k.k in
     let own = residue (block_of c.args.tokens.now (1 + c.loop-k.k)).levels f.y_dc f.y_ac in
     let is : c.rebuild_subblock.new.picture ≡ with_plane now 0 (sub_step m c.args.place k now.luma) =
     c.rebuild_subblock.ensures

@@ -1,7 +1,7 @@
 use Rattle.std.proofs.Common.{◌≡◌}
 use Rattle.vp_base.specs.Image.{with_plane}
 use Rattle.vp_base.specs.Over.{over}
-use Rattle.vp_recon.specs.Source.{Intra, macroblock_of}
+use Rattle.vp_recon.specs.Predictor.{Intra, macroblock_of}
 use Rattle.vp_recon.specs.Rebuilt.{sub_step}
 use Rattle.vp_recon.proofs.intra.rebuild_subs.Given as goal
 

@@ -3,7 +3,7 @@ use Rattle.std.proofs.lemmas.Int.{ints, clamps}
 use Rattle.vp_lanes.specs.Lane.{lane}
 use Rattle.vp_lanes.proofs.Shape.{lane_fits}
 use Rattle.vp_lanes.proofs.Signed.{signed_param, widened, signed_add, signed_clamp, stands_pos, to_bytes_fits, to_bytes_out}
-use Rattle.vp_recon.proofs.KeptLemmas.{lanes_summed}
+use Rattle.vp_recon.proofs.SumLemmas.{lanes_summed}
 use Rattle.vp_recon.proofs.pair.added.Goals as goal
 
 pub overflow_cast-result-2 : goal.overflow_cast-result-2

@@ -3,7 +3,7 @@ use Rattle.vp_base.specs.Raster.{pixel}
 use Rattle.vp_lanes.specs.Lane.{lane}
 use Rattle.vp_transform.proofs.Eights.{handed16, passed16}
 use Rattle.vp_recon.specs.Rebuilt.{summed}
-use Rattle.vp_recon.specs.Pairs.{number_in}
+use Rattle.vp_recon.specs.Pairs.{row_lane}
 use Rattle.vp_recon.proofs.SubblockLemmas.{below_four}
 use Rattle.vp_recon.proofs.PairLemmas.{low_handed}
 use Rattle.vp_recon.proofs.pair.added_rows.Goals as goal
@@ -27,7 +27,7 @@ returns-clause-value c r rin j jin =
     let y : ℕ = c.args.y in
     below_four
     (λ i. slice_index (slice_index_or (c.added_row.result ∷ c.added_row-2.result ∷ c.added_row-3.result ∷ c.added_row-4.result ∷ []) i []) j
-    ≡ summed (pixel p (x + j) (y + i)) (number_in c.args.a c.args.b c.args.c c.args.d i j))
+    ≡ summed (pixel p (x + j) (y + i)) (row_lane c.args.a c.args.b c.args.c c.args.d i j))
     (c.added_row.ensures.value j jin ∙ ap (λ (v : ℕ). summed (pixel p (x + j) v) (lane (handed16 c.args.a) j)) (let e : y ≡ y + 0 = omega arith in e)
     ∙ ap (summed (pixel p (x + j) (y + 0))) (passed16 c.args.a j 8800 (omega arith) (c.requires.first j jin)))
     (c.added_row-2.ensures.value j jin ∙ ap (summed (pixel p (x + j) (y + 1))) (passed16 c.args.b j 8800 (omega arith) (c.requires.second j jin)))

@@ -5,7 +5,7 @@ use Rattle.vp_base.specs.Image.{Image, plane_of, with_plane}
 use Rattle.vp_base.proofs.BlockLemmas.{with_block_same}
 use Rattle.vp_intra.specs.Whole.{luma_pixel, chroma_pixel}
 use Rattle.vp_modes.specs.Entry.{Modes}
-use Rattle.vp_recon.specs.Source.{Macroblock, Intra, macroblock_of}
+use Rattle.vp_recon.specs.Predictor.{Macroblock, Intra, macroblock_of}
 use Rattle.vp_recon.specs.Residue.{luma_residue, chroma_residue}
 use Rattle.vp_recon.specs.Rebuilt.{summed, residue_at, luma_made, luma_rebuilt, chroma_rebuilt}
 use Rattle.vp_recon.proofs.LumaLemmas.{luma_at_once, made_by}

@@ -5,8 +5,8 @@ use Rattle.vp_transform.proofs.Sizes.{fits-below}
 use Rattle.vp_transform.specs.Transform.{idct}
 use Rattle.vp_tokens.specs.Block.{Block}
 use Rattle.vp_quant.specs.Quant.{dequantised}
-use Rattle.vp_recon.specs.Kept.{IsKept}
-use Rattle.vp_recon.proofs.KeptLemmas.{cut_kept}
+use Rattle.vp_recon.specs.Sums.{HasEqualSums}
+use Rattle.vp_recon.proofs.SumLemmas.{cut_kept}
 use Rattle.vp_recon.proofs.ResidueLemmas.{within_set}
 use Rattle.vp_recon.proofs.residue.large_residue.Goals as goal
 
@@ -27,7 +27,7 @@ returns c =
     let dc : ℤ = c.args.first in
     let exact : coded dc ≡ dc = read dc (fits-below dc (omega (arith, c.requires))) in
     let coefficients : List ℤ = c.dequant-coefficients.result in
-    subst (λ (zs : List ℤ). IsKept c.idct_cut.result (idct zs))
+    subst (λ (zs : List ℤ). HasEqualSums c.idct_cut.result (idct zs))
     (ap (λ (z : ℤ). set coefficients 0 z) exact ∙ ap (λ (zs : List ℤ). set zs 0 dc) c.dequant-coefficients.ensures.value
     ∙ ap (λ (b : Block). set (dequantised b.levels 0 c.args.ac) 0 dc) c.block.view_is)
     (cut_kept c.idct_cut.result (idct (set coefficients 0 (coded dc)))

@@ -6,9 +6,9 @@ use Rattle.vp_transform.proofs.Sizes.{fits-below}
 use Rattle.vp_tokens.specs.Block.{Block, IsBlock}
 use Rattle.vp_quant.specs.Quant.{dequantised}
 use Rattle.vp_recon.specs.Residue.{residue}
-use Rattle.vp_recon.specs.Kept.{IsKept}
+use Rattle.vp_recon.specs.Sums.{HasEqualSums}
 use Rattle.vp_lanes.proofs.Bytes.{byte_lane}
-use Rattle.vp_recon.proofs.KeptLemmas.{nothing_added}
+use Rattle.vp_recon.proofs.SumLemmas.{nothing_added}
 use Rattle.vp_recon.proofs.ResidueLemmas.{no_residue, own_first}
 use Rattle.vp_recon.proofs.residue.with_residue.Goals as goal
 
@@ -26,7 +26,7 @@ returns c =
     let first : ℤ = c.first_of-first.result in
     let exact : coded first ≡ first = read first (fits-below first (omega (arith, c.first_of-first.ensures.within))) in
     c.sums.ensures (residue c.args.block.now.levels c.args.dc c.args.ac)
-    (subst (λ (zs : List ℤ). IsKept c.residue_with_first.result (idct zs))
+    (subst (λ (zs : List ℤ). HasEqualSums c.residue_with_first.result (idct zs))
     (ap (λ (z : ℤ). set (dequantised c.args.block.now.levels 0 c.args.ac) 0 z)
     (exact ∙ c.first_of-first.ensures.value ∙ ap (λ (b : Block). get_or b.levels 0 (pos 0) *ℤ pos c.args.dc) c.block.view_is)
     ∙ own_first c.args.block.now.levels c.args.dc c.args.ac) c.residue_with_first.ensures)

@@ -1,6 +1,6 @@
 use Rattle.std.proofs.Common.{◌≡◌, ℕ, ◌+◌, ◌*◌, ◌≤◌, ◌<◌, get_or, ◌∙◌, arith}
 use Rattle.std.specs.Int.{abs_diff}
-use Rattle.vp_search.specs.Differences.{block_in}
+use Rattle.vp_search.specs.Differences.{strided_block}
 use Rattle.vp_search.specs.Sums.{sum_below}
 use Rattle.vp_search.proofs.SumLemmas.{sum_below-bound}
 use Rattle.vp_search.proofs.RowLemmas.{lane_is_pixel, four_sums}
@@ -21,7 +21,7 @@ total-requires c j h =
 pub returns-clause-value : goal.returns-clause-value
 returns-clause-value c =
     let a = c.args.a.now in let b = c.args.b.now in let x = c.args.from_a in let y = c.args.from_b in let s = c.args.step_a in let t = c.args.step_b in
-    let row : ℕ → ℕ → ℕ = λ r j. abs_diff (block_in a x s r j) (block_in b y t r j) in
+    let row : ℕ → ℕ → ℕ = λ r j. abs_diff (strided_block a x s r j) (strided_block b y t r j) in
     let x0 : x ≡ x + 0 * s = omega arith in let y0 : y ≡ y + 0 * t = omega arith in
     let x1 : x + s ≡ x + 1 * s = omega arith in let y1 : y + t ≡ y + 1 * t = omega arith in
     let x2 : x + 2 * s ≡ x + 2 * s = omega arith in let y2 : y + 2 * t ≡ y + 2 * t = omega arith in

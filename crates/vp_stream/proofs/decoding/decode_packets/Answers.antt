@@ -4,7 +4,7 @@ use Rattle.std.proofs.KnownBytes.{Consumes-nil, Consumes-trans}
 use Rattle.vp_base.specs.Counted.{counted_remaining, counted_contents, counted_failures, counted_reads, HasFailed}
 use Rattle.vp_stream.specs.declared.packet_reader.Next.{Next}
 use Rattle.vp_stream.specs.declared.packet_reader.Next.TheVariants as next
-use Rattle.vp_stream.specs.Incoming.{Incoming, Gives, HasRead, CountsReads}
+use Rattle.vp_stream.specs.PacketReader.{PacketReader, GivesNext, HasRead, CountsReads}
 use Rattle.vp_stream.proofs.DecodingLemmas.{at_first, failed, reported, faulty, room, cut, goes_on, fewer_left}
 use Rattle.vp_stream.proofs.ReadLemmas.{nothing_read, decode_ran_out}
 use Rattle.vp_stream.proofs.decoding.decode_packets.Goals as goal
@@ -18,7 +18,7 @@ packets-init g c =
       at_first c.args.file.now c.args.run.now (counted_contents g.W.Write.contents c.args.writer.now) c.requires.unread c.requires.fresh,
       refl,
       refl,
-      subst (λ (file : Incoming). HasRead file reads reads) (sym c.requires.unread) (nothing_read c.args.run.now.limits reads),
+      subst (λ (file : PacketReader). HasRead file reads reads) (sym c.requires.unread) (nothing_read c.args.run.now.limits reads),
     )
 
 pub returns-in_err-head-clause-decoded : goal.returns-in_err-head-clause-decoded
@@ -43,7 +43,7 @@ pub packet-requires : goal.packet-requires
 packet-requires g c =
     let inv = c.packets.invariant in
     let now = c.in_ok-head.ensures.given c.args.run.now.limits inv.0 inv.1 inv.3.reading in
-    let r = subst (λ (n : Next). Gives c.args.run.now.limits (Ok n) c.next.new.self (counted_remaining g.R.Read.remaining c.next.new.reader) (inv.0 ++ now.0) inv.1) c.in-Packet.is now.2 in
+    let r = subst (λ (n : Next). GivesNext c.args.run.now.limits (Ok n) c.next.new.self (counted_remaining g.R.Read.remaining c.next.new.reader) (inv.0 ++ now.0) inv.1) c.in-Packet.is now.2 in
     let some = room c.args.run.now.limits c.args.run.now.sizing.form c.packets.file c.packets.run (counted_contents g.W.Write.contents c.args.writer.now) (counted_contents g.W.Write.contents c.packets.writer) inv.0 now.0 inv.1 inv.3 c.in-Packet.packet c.in-Packet.head c.next.new.self r in
     let range = c.args.run.now.limits.packets_in_range in
     omega arith
@@ -52,7 +52,7 @@ pub returns-in_err-packet-in-Packet-clause-decoded : goal.returns-in_err-packet-
 returns-in_err-packet-in-Packet-clause-decoded g c =
     let inv = c.packets.invariant in
     let now = c.in_ok-head.ensures.given c.args.run.now.limits inv.0 inv.1 inv.3.reading in
-    let r = subst (λ (n : Next). Gives c.args.run.now.limits (Ok n) c.next.new.self (counted_remaining g.R.Read.remaining c.next.new.reader) (inv.0 ++ now.0) inv.1) c.in-Packet.is now.2 in
+    let r = subst (λ (n : Next). GivesNext c.args.run.now.limits (Ok n) c.next.new.self (counted_remaining g.R.Read.remaining c.next.new.reader) (inv.0 ++ now.0) inv.1) c.in-Packet.is now.2 in
     let change = rw c.as_slice.ensures at c.in_err-packet-in-Packet.ensures.change in
     let prefix = rw c.as_slice.ensures at c.in_err-packet-in-Packet.ensures.prefix in
     let p = err_from_is_err_and c.from_residual-in_err-packet-in-Packet.result c.from_residual-in_err-packet-in-Packet.ensures.1 in
@@ -70,7 +70,7 @@ pub packets-smaller : goal.packets-smaller
 packets-smaller g c =
     let inv = c.packets.invariant in
     let now = c.in_ok-head.ensures.given c.args.run.now.limits inv.0 inv.1 inv.3.reading in
-    let r = subst (λ (n : Next). Gives c.args.run.now.limits (Ok n) c.next.new.self (counted_remaining g.R.Read.remaining c.next.new.reader) (inv.0 ++ now.0) inv.1) c.in-Packet.is now.2 in
+    let r = subst (λ (n : Next). GivesNext c.args.run.now.limits (Ok n) c.next.new.self (counted_remaining g.R.Read.remaining c.next.new.reader) (inv.0 ++ now.0) inv.1) c.in-Packet.is now.2 in
     fewer_left c.args.run.now.limits.packets c.packets.run c.packet.new.self c.as_slice.result.now c.in_ok-packet-in-Packet.ensures.ok
     (room c.args.run.now.limits c.args.run.now.sizing.form c.packets.file c.packets.run (counted_contents g.W.Write.contents c.args.writer.now) (counted_contents g.W.Write.contents c.packets.writer) inv.0 now.0 inv.1 inv.3 c.in-Packet.packet c.in-Packet.head c.next.new.self r)
 
@@ -78,7 +78,7 @@ pub packets-preserved : goal.packets-preserved
 packets-preserved g c =
     let inv = c.packets.invariant in
     let now = c.in_ok-head.ensures.given c.args.run.now.limits inv.0 inv.1 inv.3.reading in
-    let r = subst (λ (n : Next). Gives c.args.run.now.limits (Ok n) c.next.new.self (counted_remaining g.R.Read.remaining c.next.new.reader) (inv.0 ++ now.0) inv.1) c.in-Packet.is now.2 in
+    let r = subst (λ (n : Next). GivesNext c.args.run.now.limits (Ok n) c.next.new.self (counted_remaining g.R.Read.remaining c.next.new.reader) (inv.0 ++ now.0) inv.1) c.in-Packet.is now.2 in
     let after = rw c.as_slice.ensures at c.in_ok-packet-in-Packet.ensures.ok in
     let fits = rw c.as_slice.ensures at c.in_ok-packet-in-Packet.ensures.fits in
     let written = rw c.as_slice.ensures at c.in_ok-packet-in-Packet.ensures.written in (
@@ -97,7 +97,7 @@ pub returns-in-End-None-clause-decoded : goal.returns-in-End-None-clause-decoded
 returns-in-End-None-clause-decoded g c =
     let inv = c.packets.invariant in
     let now = c.in_ok-head.ensures.given c.args.run.now.limits inv.0 inv.1 inv.3.reading in
-    let ends = subst (λ (n : Next). Gives c.args.run.now.limits (Ok n) c.next.new.self (counted_remaining g.R.Read.remaining c.next.new.reader) (inv.0 ++ now.0) inv.1) (c.in-End-None.is ∙ ap next.End c.in-End-None.field-0-is) now.2 in (
+    let ends = subst (λ (n : Next). GivesNext c.args.run.now.limits (Ok n) c.next.new.self (counted_remaining g.R.Read.remaining c.next.new.reader) (inv.0 ++ now.0) inv.1) (c.in-End-None.is ∙ ap next.End c.in-End-None.field-0-is) now.2 in (
       inv.0 ++ now.0,
       Consumes-trans (counted_remaining g.R.Read.remaining c.args.reader.now) (counted_remaining g.R.Read.remaining c.packets.reader) (counted_remaining g.R.Read.remaining c.next.new.reader) inv.0 now.0 inv.2 now.1,
       reported c.args.run.now.limits c.args.run.now.sizing.form c.packets.file c.packets.run (counted_contents g.W.Write.contents c.args.writer.now) (counted_contents g.W.Write.contents c.packets.writer) inv.0 now.0 inv.1 inv.3 c.next.new.self (counted_remaining g.R.Read.remaining c.next.new.reader) ends,
@@ -107,7 +107,7 @@ pub returns-in-End-Some-clause-decoded : goal.returns-in-End-Some-clause-decoded
 returns-in-End-Some-clause-decoded g c =
     let inv = c.packets.invariant in
     let now = c.in_ok-head.ensures.given c.args.run.now.limits inv.0 inv.1 inv.3.reading in
-    let ends = subst (λ (n : Next). Gives c.args.run.now.limits (Ok n) c.next.new.self (counted_remaining g.R.Read.remaining c.next.new.reader) (inv.0 ++ now.0) inv.1) (c.in-End-Some.is ∙ ap next.End c.in-End-Some.field-0-is) now.2 in (
+    let ends = subst (λ (n : Next). GivesNext c.args.run.now.limits (Ok n) c.next.new.self (counted_remaining g.R.Read.remaining c.next.new.reader) (inv.0 ++ now.0) inv.1) (c.in-End-Some.is ∙ ap next.End c.in-End-Some.field-0-is) now.2 in (
       inv.0 ++ now.0,
       Consumes-trans (counted_remaining g.R.Read.remaining c.args.reader.now) (counted_remaining g.R.Read.remaining c.packets.reader) (counted_remaining g.R.Read.remaining c.next.new.reader) inv.0 now.0 inv.2 now.1,
       faulty c.args.run.now.limits c.args.run.now.sizing.form c.packets.file c.packets.run (counted_contents g.W.Write.contents c.args.writer.now) (counted_contents g.W.Write.contents c.packets.writer) inv.0 now.0 inv.1 inv.3

@@ -2,7 +2,7 @@ use Rattle.std.proofs.Common.{◌≡◌, ◌-◌, ℕ, List, length}
 use Rattle.std.specs.Io.KnownBytes.{Consumes}
 use Rattle.vp_base.specs.Counted.{counted_remaining, counted_failures, counted_reads}
 use Rattle.vp_ivf.specs.declared.packet.Packet.{Packet}
-use Rattle.vp_stream.specs.Incoming.{HasRead}
+use Rattle.vp_stream.specs.PacketReader.{HasRead}
 use Rattle.vp_stream.proofs.SurveyLemmas.{IsTold}
 use Rattle.vp_stream.proofs.surveying.survey.Given as goal
 

@@ -1,7 +1,7 @@
 use Rattle.std.proofs.Common.{sym, ◌∙◌, subst, arith}
 use Rattle.vp_base.specs.Grid.{with_entry}
 use Rattle.vp_tokens.specs.Blocks.{Blocks, had_of}
-use Rattle.vp_tokens.specs.Contexts.{Contexts, StandsFor, right}
+use Rattle.vp_tokens.specs.Contexts.{Contexts, AreContextsAt, right}
 use Rattle.vp_tokens.proofs.Steps.{step}
 use Rattle.vp_tokens.proofs.Reading.{above_at-is, left_at-is}
 use Rattle.vp_tokens.proofs.MacroblockWriting.{macroblock_written}
@@ -18,4 +18,4 @@ returns-clause-writes c g f =
 pub returns-clause-stands : goal.returns-clause-stands
 returns-clause-stands c g has f =
     let m : Blocks = record { has_y2 = c.args.has_y2; had = had_of c.args.tokens.now.blocks } in
-    subst (λ (w : Contexts). StandsFor (with_entry g c.args.place m) (right c.args.place) w) (sym c.keep.ensures) (step g c.args.place m f.whole has c.args.contexts.now f)
+    subst (λ (w : Contexts). AreContextsAt (with_entry g c.args.place m) (right c.args.place) w) (sym c.keep.ensures) (step g c.args.place m f.whole has c.args.contexts.now f)

@@ -1,16 +1,16 @@
 use Rattle.std.proofs.Common.{rules, ◌≡◌, ℕ, ◌+◌, ◌*◌, ℤ, pos, ap, ◌∙◌, add-zero, sym, List, ◌+ℤ◌, lit<}
 use Rattle.vp_transform.specs.Fits.{Fits, TurnFits}
-use Rattle.vp_transform.specs.Transform.{at, turned, rounded, row_turned}
+use Rattle.vp_transform.specs.Transform.{element_at, turned, rounded, row_turned}
 use Rattle.vp_transform.proofs.Along.{get, turn_along, turned_along}
 use Rattle.vp_transform.proofs.Words.{coded, read, fits-along, four}
 use Rattle.vp_transform.proofs.cosine.row.Goals as goal
 
 -- the four numbers that are read
 module _ (x : List ℤ) (k : ℕ) (f0 : Fits (get x (4 * k))) (f1 : Fits (get x (4 * k + 1))) (f2 : Fits (get x (4 * k + 2))) (f3 : Fits (get x (4 * k + 3))) where
-  zeroth : coded (get x (4 * k)) ≡ at x k 0
+  zeroth : coded (get x (4 * k)) ≡ element_at x k 0
   zeroth = read _ f0 ∙ ap (λ i. get x i) (sym (add-zero (4 * k)))
 
-  turn_of : TurnFits (at x k 0) (at x k 1) (at x k 2) (at x k 3) → TurnFits (coded (get x (4 * k))) (coded (get x (4 * k + 1))) (coded (get x (4 * k + 2))) (coded (get x (4 * k + 3)))
+  turn_of : TurnFits (element_at x k 0) (element_at x k 1) (element_at x k 2) (element_at x k 3) → TurnFits (coded (get x (4 * k))) (coded (get x (4 * k + 1))) (coded (get x (4 * k + 2))) (coded (get x (4 * k + 3)))
   turn_of = turn_along zeroth (read _ f1) (read _ f2) (read _ f3)
 
   turned_of : turned (coded (get x (4 * k))) (coded (get x (4 * k + 1))) (coded (get x (4 * k + 2))) (coded (get x (4 * k + 3))) ≡ row_turned x k

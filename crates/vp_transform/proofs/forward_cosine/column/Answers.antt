@@ -1,6 +1,6 @@
 use Rattle.std.proofs.Common.{ℕ, ◌+◌, ◌*◌, ◌^◌, ap, sym, zero-add, List, ℤ, ◌+ℤ◌, ◌-ℤ◌, arith}
 use Rattle.vp_transform.specs.Fits.{EachWithin}
-use Rattle.vp_transform.specs.Transform.{at}
+use Rattle.vp_transform.specs.Transform.{element_at}
 use Rattle.vp_transform.proofs.Along.{get}
 use Rattle.vp_transform.proofs.Bounds.{at_most}
 use Rattle.vp_transform.proofs.Known.{Is, is_at, is_read, is_sum, is_difference, fits_sum, fits_difference, constant, read_shifted}
@@ -10,22 +10,22 @@ use Rattle.vp_transform.proofs.forward_cosine.column.Goals as goal
 
 -- the four numbers that are read, their sums and differences
 module _ (x : List ℤ) (k : ℕ) (small : EachWithin (2 ^ 49) x) where
-  zeroth : Is (2 ^ 49) (coded (get x k)) (at x 0 k)
-  zeroth = is_at (ap (λ i. coded (get x i)) (sym (zero-add k))) (is_read (at x 0 k) (at_most (2 ^ 49) x small (4 * 0 + k)) (omega arith))
+  zeroth : Is (2 ^ 49) (coded (get x k)) (element_at x 0 k)
+  zeroth = is_at (ap (λ i. coded (get x i)) (sym (zero-add k))) (is_read (element_at x 0 k) (at_most (2 ^ 49) x small (4 * 0 + k)) (omega arith))
 
   number : (i : ℕ) → Is (2 ^ 49) (coded (get x i)) (get x i)
   number i = is_read (get x i) (at_most (2 ^ 49) x small i) (omega arith)
 
-  a : Is (2 ^ 49 + 2 ^ 49) (coded (coded (get x k) +ℤ coded (get x (12 + k)))) (at x 0 k +ℤ at x 3 k)
+  a : Is (2 ^ 49 + 2 ^ 49) (coded (coded (get x k) +ℤ coded (get x (12 + k)))) (element_at x 0 k +ℤ element_at x 3 k)
   a = is_sum zeroth (number (12 + k)) (omega arith)
 
-  b : Is (2 ^ 49 + 2 ^ 49) (coded (coded (get x (4 + k)) +ℤ coded (get x (8 + k)))) (at x 1 k +ℤ at x 2 k)
+  b : Is (2 ^ 49 + 2 ^ 49) (coded (coded (get x (4 + k)) +ℤ coded (get x (8 + k)))) (element_at x 1 k +ℤ element_at x 2 k)
   b = is_sum (number (4 + k)) (number (8 + k)) (omega arith)
 
-  c : Is (2 ^ 49 + 2 ^ 49) (coded (coded (get x (4 + k)) -ℤ coded (get x (8 + k)))) (at x 1 k -ℤ at x 2 k)
+  c : Is (2 ^ 49 + 2 ^ 49) (coded (coded (get x (4 + k)) -ℤ coded (get x (8 + k)))) (element_at x 1 k -ℤ element_at x 2 k)
   c = is_difference (number (4 + k)) (number (8 + k)) (omega arith)
 
-  d : Is (2 ^ 49 + 2 ^ 49) (coded (coded (get x k) -ℤ coded (get x (12 + k)))) (at x 0 k -ℤ at x 3 k)
+  d : Is (2 ^ 49 + 2 ^ 49) (coded (coded (get x k) -ℤ coded (get x (12 + k)))) (element_at x 0 k -ℤ element_at x 3 k)
   d = is_difference zeroth (number (12 + k)) (omega arith)
 
 pub overflow_add-result : goal.overflow_add-result

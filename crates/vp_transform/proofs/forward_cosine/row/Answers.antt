@@ -1,6 +1,6 @@
 use Rattle.std.proofs.Common.{ℕ, ◌+◌, ◌*◌, ◌^◌, ap, sym, add-zero, List, ℤ, arith}
 use Rattle.vp_transform.specs.Fits.{EachWithin}
-use Rattle.vp_transform.specs.Transform.{at}
+use Rattle.vp_transform.specs.Transform.{element_at}
 use Rattle.vp_transform.proofs.Along.{get}
 use Rattle.vp_transform.proofs.Bounds.{at_most}
 use Rattle.vp_transform.proofs.Known.{Is, is_at, is_read}
@@ -10,8 +10,8 @@ use Rattle.vp_transform.proofs.forward_cosine.row.Goals as goal
 
 -- the four numbers that are read
 module _ (x : List ℤ) (r : ℕ) (small : EachWithin (2 ^ 44) x) where
-  zeroth : Is (2 ^ 44) (coded (get x (4 * r))) (at x r 0)
-  zeroth = is_at (ap (λ i. coded (get x i)) (sym (add-zero (4 * r)))) (is_read (at x r 0) (at_most (2 ^ 44) x small (4 * r + 0)) (omega arith))
+  zeroth : Is (2 ^ 44) (coded (get x (4 * r))) (element_at x r 0)
+  zeroth = is_at (ap (λ i. coded (get x i)) (sym (add-zero (4 * r)))) (is_read (element_at x r 0) (at_most (2 ^ 44) x small (4 * r + 0)) (omega arith))
 
   number : (k : ℕ) → Is (2 ^ 44) (coded (get x k)) (get x k)
   number k = is_read (get x k) (at_most (2 ^ 44) x small k) (omega arith)

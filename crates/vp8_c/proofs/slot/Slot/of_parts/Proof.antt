@@ -22,14 +22,14 @@ use denote.Steps.{nothing}
 use denote.Triple.Walked.{Stays, stay_dropped, walk_of}
 use Rattle.core.proofs.alloc.Calls.{Goes-blank}
 use Rattle.std.proofs.raw_atomic.Walks.{proved_at, leaves}
-use Rattle.vp8_c.proofs.Values.{slot_in, word, both, Parts, parts_out, parts_good}
-use Rattle.vp8_c.specs.contracts.held.Held as held_type
+use Rattle.vp8_c.proofs.Values.{slot_in, word, both, RawBox, parts_out, parts_good}
+use Rattle.vp8_c.specs.contracts.cached.HandleValue as held_type
 use Rattle.vp8_c.specs.contracts.slot.Slot.of_parts as f
 use Rattle.vp8_c.proofs.slot.Slot.of_parts.Statement.{statement}
 use Rattle.vp8_c.proofs.slot.Slot.of_parts.Code as code
 
 abbrev P : RattleType
-P = Parts held_type.the_row heap.the_row the_row_laws ghosts
+P = RawBox held_type.the_row heap.the_row the_row_laws ghosts
 
 abbrev stayed : Stays f.ended.signature.params f.ended.kept
 stayed = (stay_dropped (plain (λ _. P)) yes, tt)

@@ -1,6 +1,6 @@
 use Rattle.std.proofs.Common.{true, false, ◌≡◌, ◌-◌, ◌*◌, ◌%◌, ◌^◌, arith, ◌∙◌, ap}
 use Rattle.vp_bool.specs.Bools.{read, split_of}
-use Rattle.vp_bool.specs.Window.{seen}
+use Rattle.vp_bool.specs.Window.{window_state}
 use Rattle.vp_bool.proofs.LawLemmas.{reads_on}
 use Rattle.vp_bool.proofs.PartLemmas.{IsPart, part_true, part_false, whole_bound}
 use Rattle.vp_bool.proofs.decoder.BoolDecoder.read.Goals as goal
@@ -13,7 +13,7 @@ bound c =
     whole_bound c.args.probability w.value w.range w.count w.rest.now (omega arith) good.aligned good.few good.sound good.bytes c.from-bound.result
     (c.from-bound.ensures ∙ ap (λ p. split_of p w.range) c.from.ensures)
 
-taken : (c : Then-window-bound) → IsPart c.args.probability (seen c.self.inside.window) true (c.self.inside.window.value - c.from-bound.result * 2 ^ 56 % 2 ^ 64) (c.self.inside.window.range - split_of c.from.result c.self.inside.window.range) c.self.inside.window.count c.self.inside.window.rest.now
+taken : (c : Then-window-bound) → IsPart c.args.probability (window_state c.self.inside.window) true (c.self.inside.window.value - c.from-bound.result * 2 ^ 56 % 2 ^ 64) (c.self.inside.window.range - split_of c.from.result c.self.inside.window.range) c.self.inside.window.count c.self.inside.window.rest.now
 taken c =
     let w = c.self.inside.window in
     let good = c.self.invariant in
@@ -21,7 +21,7 @@ taken c =
     rw (b, c.from.ensures)
     (part_true c.args.probability w.value w.range w.count w.rest.now (omega arith) good.aligned good.few good.sound good.bytes (rw (← b) c.if-window-bound.true))
 
-left : (c : Else-window-bound) → IsPart c.args.probability (seen c.self.inside.window) false c.self.inside.window.value (split_of c.from.result c.self.inside.window.range) c.self.inside.window.count c.self.inside.window.rest.now
+left : (c : Else-window-bound) → IsPart c.args.probability (window_state c.self.inside.window) false c.self.inside.window.value (split_of c.from.result c.self.inside.window.range) c.self.inside.window.count c.self.inside.window.rest.now
 left c =
     let w = c.self.inside.window in
     let good = c.self.invariant in

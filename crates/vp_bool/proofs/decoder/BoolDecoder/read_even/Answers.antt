@@ -1,7 +1,7 @@
 use Rattle.std.proofs.Math.Dec.{leb}
 use Rattle.std.proofs.Common.{◌≡◌, ℕ, ◌+◌, ◌/◌, ◌≤◌, ◌*◌, ◌%◌, ◌^◌, arith, ◌∙◌, ap}
 use Rattle.vp_bool.specs.Bools.{read, split_of}
-use Rattle.vp_bool.specs.Window.{seen}
+use Rattle.vp_bool.specs.Window.{window_state}
 use Rattle.vp_bool.proofs.LawLemmas.{reads_on}
 use Rattle.vp_bool.proofs.PartLemmas.{IsPart, part_true, part_false, whole_bound, test}
 use Rattle.vp_bool.proofs.decoder.BoolDecoder.read_even.Goals as goal
@@ -17,7 +17,7 @@ bound c =
     whole_bound 128 w.value w.range w.count w.rest.now (omega arith) good.aligned good.few good.sound good.bytes c.from-bound.result
     (c.from-bound.ensures ∙ half w.range good.sound.normal)
 
-part : (c : Joined-bit) → IsPart 128 (seen c.self.inside.window) (read 128 (seen c.self.inside.window)).0 c.if-bit.value.0 c.if-bit.value.1 c.self.inside.window.count c.self.inside.window.rest.now
+part : (c : Joined-bit) → IsPart 128 (window_state c.self.inside.window) (read 128 (window_state c.self.inside.window)).0 c.if-bit.value.0 c.if-bit.value.1 c.self.inside.window.count c.self.inside.window.rest.now
 part c =
     let w = c.self.inside.window in
     let good = c.self.invariant in

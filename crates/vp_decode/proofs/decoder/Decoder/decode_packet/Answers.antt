@@ -1,20 +1,20 @@
 use Rattle.std.proofs.Common.{◌∙◌, Some, sym, ap, subst}
 use Rattle.vp_decode.specs.Equation.{IsOneSize}
-use Rattle.vp_decode.specs.Step.{Opened, Decoding, opened, decoded, shown_of, after}
-use Rattle.vp_decode.proofs.KeepingLemmas.{kept_left, after_left}
+use Rattle.vp_decode.specs.Step.{ParsedPacket, Decoder, parsed, decoded, shown_of, after}
+use Rattle.vp_decode.proofs.StateLemmas.{kept_left, after_left}
 use Rattle.vp_decode.proofs.decoder.Decoder.decode_packet.Goals as goal
 
 pub keep-requires : goal.keep-requires
 keep-requires g c =
     let f = c.in_ok-frame.ensures in
-    subst IsOneSize (sym (kept_left c.self.inside.limits c.self.inside.state c.args.packet.now c.in-Ok.opening c.in_ok-frame.frame c.in-Ok.ensures
+    subst IsOneSize (sym (kept_left c.self.inside.limits c.self.inside.state c.args.packet.now c.in-Ok.parsed c.in_ok-frame.frame c.in-Ok.ensures
     (record { header = f.header; saved = f.saved; segments = f.segments; picture = f.picture; shown = f.shown }))) f.one_size
 
 pub returns-clause-after : goal.returns-clause-after
 returns-clause-after g c =
     let f = c.in_ok-frame.ensures in
-    let d : Decoding = record { limits = c.self.inside.limits; state = c.self.inside.state; shown = shown_of c.self.inside.shown c.self.inside.state } in
-    let kept = kept_left c.self.inside.limits c.self.inside.state c.args.packet.now c.in-Ok.opening c.in_ok-frame.frame c.in-Ok.ensures
+    let d : Decoder = record { limits = c.self.inside.limits; state = c.self.inside.state; shown = shown_of c.self.inside.shown c.self.inside.state } in
+    let kept = kept_left c.self.inside.limits c.self.inside.state c.args.packet.now c.in-Ok.parsed c.in_ok-frame.frame c.in-Ok.ensures
     (record { header = f.header; saved = f.saved; segments = f.segments; picture = f.picture; shown = f.shown }) in
-    after_left d c.args.packet.now c.in-Ok.opening c.opening.inside.tag.show c.keep.new.state c.in-Ok.ensures (ap (λ (o : Opened). o.tag.show) c.opening.view_is) (c.in_ok-keep.ensures.ok ∙ ap Some kept)
-    ∙ ap (λ (z : Decoding). after z (decoded (opened z.limits z.state c.args.packet.now))) c.self.view_is
+    after_left d c.args.packet.now c.in-Ok.parsed c.parsed.inside.tag.show c.keep.new.state c.in-Ok.ensures (ap (λ (o : ParsedPacket). o.tag.show) c.parsed.view_is) (c.in_ok-keep.ensures.ok ∙ ap Some kept)
+    ∙ ap (λ (z : Decoder). after z (decoded (parsed z.limits z.state c.args.packet.now))) c.self.view_is

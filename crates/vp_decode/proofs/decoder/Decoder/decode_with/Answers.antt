@@ -2,7 +2,7 @@ use Rattle.std.proofs.Common.{◌≡◌, ◌∙◌, ℕ, true, false, Option, le
 use Rattle.std.specs.Prelude.{◌==◌, OnOk, OnErr, IfOk}
 use Rattle.std.proofs.lemmas.Bool.{eq-eqb}
 use Rattle.std.proofs.lemmas.Bool.Decides.{nat_tests}
-use Rattle.vp_decode.specs.Step.{Kept, Answer, after, outcome, IsDecoded}
+use Rattle.vp_decode.specs.Step.{DecoderState, Answer, after, outcome, IsDecoded}
 use Rattle.vp_decode.proofs.SizeLemmas.{step-empty, step-decoded}
 use Rattle.vp_decode.proofs.decoder.Decoder.decode_with.Goals as goal
 
@@ -21,15 +21,15 @@ some_bytes n other none = absurd (let never : false ≡ true = other ∙ eq-eqb 
 
 pub returns-clause-after : goal.returns-clause-after
 returns-clause-after g c =
-    subst (λ (s : Option Kept × Answer). OnOk c.decode_packet.result (c.decode_packet.new.self ≡ after c.args.self.now s))
+    subst (λ (s : Option DecoderState × Answer). OnOk c.decode_packet.result (c.decode_packet.new.self ≡ after c.args.self.now s))
     (sym (step-decoded c.args.self.now.limits c.args.self.now.state c.args.packet.now (some_bytes (length c.args.packet.now) c.if-is_empty.ensures))) c.decode_packet.ensures.after
 
 pub returns-clause-outcome : goal.returns-clause-outcome
 returns-clause-outcome g c =
-    subst (λ (s : Option Kept × Answer). IfOk c.decode_packet.result (λ o. o ≡ outcome s.1))
+    subst (λ (s : Option DecoderState × Answer). IfOk c.decode_packet.result (λ o. o ≡ outcome s.1))
     (sym (step-decoded c.args.self.now.limits c.args.self.now.state c.args.packet.now (some_bytes (length c.args.packet.now) c.if-is_empty.ensures))) c.decode_packet.ensures.outcome
 
 pub returns-clause-late : goal.returns-clause-late
 returns-clause-late g c =
-    subst (λ (s : Option Kept × Answer). OnErr c.decode_packet.result (IsDecoded s.1))
+    subst (λ (s : Option DecoderState × Answer). OnErr c.decode_packet.result (IsDecoded s.1))
     (sym (step-decoded c.args.self.now.limits c.args.self.now.state c.args.packet.now (some_bytes (length c.args.packet.now) c.if-is_empty.ensures))) c.decode_packet.ensures.late

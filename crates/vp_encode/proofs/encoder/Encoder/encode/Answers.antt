@@ -1,8 +1,8 @@
 use Rattle.std.proofs.Common.{Ok, Err, refl, ap, ◌∙◌}
-use Rattle.vp_decode.specs.Step.{Decoding}
+use Rattle.vp_decode.specs.Step.{Decoder}
 use Rattle.vp_encode.specs.declared.fault.EncodeFault.TheVariants.{SourceSize}
-use Rattle.vp_encode.specs.Encoder.{Encoding}
-use Rattle.vp_encode.specs.Calls.{IsTold}
+use Rattle.vp_encode.specs.Encoder.{EncoderState}
+use Rattle.vp_encode.specs.Calls.{IsEncodedWithError}
 use Rattle.vp_encode.proofs.CallLemmas.{stands_after, stands_refused}
 use Rattle.vp_encode.proofs.encoder.Encoder.encode.Goals as goal
 
@@ -13,7 +13,7 @@ returns-then-dim-self-clause-stands c = λ calls stands.
 pub returns-in-Ok-clause-stands : goal.returns-in-Ok-clause-stands
 returns-in-Ok-clause-stands c = λ calls stands.
     let f = c.in-Ok.ensures in
-    let told : IsTold c.args.self.now c.args.source.now c.in-Ok.encoded c.encode_frame.new.self = record {
+    let told : IsEncodedWithError c.args.self.now c.args.source.now c.in-Ok.encoded c.encode_frame.new.self = record {
       frame = record { chosen = f.choice; decoded = f.decoded; dim = f.dim; settings = f.settings; since = f.since };
       error = f.error;
     } in
@@ -21,9 +21,9 @@ returns-in-Ok-clause-stands c = λ calls stands.
 
 pub returns-in-Err-clause-stands : goal.returns-in-Err-clause-stands
 returns-in-Err-clause-stands c = λ calls stands.
-    let next : Encoding = record { dim = c.self-2.inside.dim; settings = c.self-2.inside.settings; state = c.new.result.state; since = c.self-2.inside.since } in
+    let next : EncoderState = record { dim = c.self-2.inside.dim; settings = c.self-2.inside.settings; state = c.new.result.state; since = c.self-2.inside.since } in
     stands_refused c.args.self.now calls c.args.source.now c.in-Err.error c.from.result next stands c.from.ensures (record {
-      dim = ap (λ (x : Encoding). x.dim) c.self-2.view_is ∙ c.in-Err.ensures.dim;
-      settings = ap (λ (x : Encoding). x.settings) c.self-2.view_is ∙ c.in-Err.ensures.settings;
-      state = ap (λ (x : Decoding). x.state) c.new.ensures;
+      dim = ap (λ (x : EncoderState). x.dim) c.self-2.view_is ∙ c.in-Err.ensures.dim;
+      settings = ap (λ (x : EncoderState). x.settings) c.self-2.view_is ∙ c.in-Err.ensures.settings;
+      state = ap (λ (x : Decoder). x.state) c.new.ensures;
     })

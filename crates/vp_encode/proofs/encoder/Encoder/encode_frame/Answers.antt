@@ -1,7 +1,7 @@
 use Rattle.std.proofs.Common.{◌∙◌, ◌≤◌, sym, ap, subst}
 use Rattle.vp_base.specs.Image.{Image}
 use Rattle.vp_decode.proofs.SizeLemmas.{KeepsShape}
-use Rattle.vp_encode.specs.Encoder.{Encoding}
+use Rattle.vp_encode.specs.Encoder.{EncoderState}
 use Rattle.vp_encode.specs.Between.{IsSound}
 use Rattle.vp_encode.proofs.EncoderLemmas.{frame_plain, frame_chosen, packet_shows, packet_shown, packet_kept, either_kept}
 use Rattle.vp_encode.proofs.encoder.Encoder.encode_frame.Goals as goal
@@ -22,7 +22,7 @@ decode_shown-requires c =
     let shape = c.unfiltered_picture_solves_its_equation.ensures in
     let law : KeepsShape = record { size = shape.size; aligned = shape.aligned; whole = shape.whole } in
     let limits = c.self.inside.decoder.limits in
-    let z : Encoding = record { dim = c.self.inside.dim; settings = c.self.inside.settings; state = c.self.inside.decoder.state; since = c.self.inside.since } in
+    let z : EncoderState = record { dim = c.self.inside.dim; settings = c.self.inside.settings; state = c.self.inside.decoder.state; since = c.self.inside.since } in
     packet_shows law limits z e c.args.source.now c.in_ok-coded.coded c.in_ok-packet.packet c.as_slice.result.now c.self.view_is c.as_slice.ensures c.self.invariant c.requires c.in_ok-coded.ensures.frame c.in_ok-packet.ensures.packet
 
 pub invariant_of-self : goal.invariant_of-self
@@ -31,7 +31,7 @@ invariant_of-self c =
     let shape = c.unfiltered_picture_solves_its_equation.ensures in
     let law : KeepsShape = record { size = shape.size; aligned = shape.aligned; whole = shape.whole } in
     let limits = c.self.inside.decoder.limits in
-    let z : Encoding = record { dim = c.self.inside.dim; settings = c.self.inside.settings; state = c.self.inside.decoder.state; since = c.self.inside.since } in
+    let z : EncoderState = record { dim = c.self.inside.dim; settings = c.self.inside.settings; state = c.self.inside.decoder.state; since = c.self.inside.since } in
     record {
       wide = rw c.decode_shown.ensures.limits c.self.invariant.wide;
       settings = c.self.invariant.settings;
@@ -45,11 +45,11 @@ invariant_of-self-2 c =
     let shape = c.unfiltered_picture_solves_its_equation.ensures in
     let law : KeepsShape = record { size = shape.size; aligned = shape.aligned; whole = shape.whole } in
     let limits = c.self.inside.decoder.limits in
-    let z : Encoding = record { dim = c.self.inside.dim; settings = c.self.inside.settings; state = c.self.inside.decoder.state; since = c.self.inside.since } in
+    let z : EncoderState = record { dim = c.self.inside.dim; settings = c.self.inside.settings; state = c.self.inside.decoder.state; since = c.self.inside.since } in
     record {
       wide = rw c.decode_shown.ensures.limits c.self.invariant.wide;
       settings = c.self.invariant.settings;
-      since = subst (λ (x : Encoding). c.next_since-since.result ≤ x.settings.key_every) (sym c.self.view_is) c.next_since-since.ensures.few;
+      since = subst (λ (x : EncoderState). c.next_since-since.result ≤ x.settings.key_every) (sym c.self.view_is) c.next_since-since.ensures.few;
       kept = packet_kept law limits z e c.args.source.now c.in_ok-coded.coded c.in_ok-packet.packet c.as_slice.result.now c.self.view_is c.as_slice.ensures c.self.invariant c.requires c.in_ok-coded.ensures.frame c.in_ok-packet.ensures.packet c.decode_shown.new.decoder.state c.in_ok-recon.recon.value c.in_ok-recon.ensures.shown;
     }
 
@@ -59,7 +59,7 @@ squared_distance-squared_error-requires c =
     let shape = c.unfiltered_picture_solves_its_equation.ensures in
     let law : KeepsShape = record { size = shape.size; aligned = shape.aligned; whole = shape.whole } in
     let limits = c.self.inside.decoder.limits in
-    let z : Encoding = record { dim = c.self.inside.dim; settings = c.self.inside.settings; state = c.self.inside.decoder.state; since = c.self.inside.since } in
+    let z : EncoderState = record { dim = c.self.inside.dim; settings = c.self.inside.settings; state = c.self.inside.decoder.state; since = c.self.inside.since } in
     let shown = packet_shown law limits z e c.args.source.now c.in_ok-coded.coded c.in_ok-packet.packet c.as_slice.result.now c.self.view_is c.as_slice.ensures c.self.invariant c.requires c.in_ok-coded.ensures.frame c.in_ok-packet.ensures.packet c.decode_shown.new.decoder.state c.in_ok-recon.recon.value c.in_ok-recon.ensures.shown in
     record {
       width = c.requires.width ∙ sym shown.size.width ∙ ap (λ (p : Image). p.width) (sym c.deref.ensures);
@@ -72,7 +72,7 @@ returns-clause-decoded c =
     let shape = c.unfiltered_picture_solves_its_equation.ensures in
     let law : KeepsShape = record { size = shape.size; aligned = shape.aligned; whole = shape.whole } in
     let limits = c.self.inside.decoder.limits in
-    let z : Encoding = record { dim = c.self.inside.dim; settings = c.self.inside.settings; state = c.self.inside.decoder.state; since = c.self.inside.since } in
+    let z : EncoderState = record { dim = c.self.inside.dim; settings = c.self.inside.settings; state = c.self.inside.decoder.state; since = c.self.inside.since } in
     (packet_shown law limits z e c.args.source.now c.in_ok-coded.coded c.in_ok-packet.packet c.as_slice.result.now c.self.view_is c.as_slice.ensures c.self.invariant c.requires c.in_ok-coded.ensures.frame c.in_ok-packet.ensures.packet c.decode_shown.new.decoder.state c.in_ok-recon.recon.value c.in_ok-recon.ensures.shown).decoded
 
 pub returns-clause-choice : goal.returns-clause-choice

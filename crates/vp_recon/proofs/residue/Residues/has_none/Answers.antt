@@ -2,7 +2,7 @@ use Rattle.std.proofs.Common.{◌≡◌, ◌∙◌, ℕ, sym, ap, subst, arith, 
 use Rattle.std.proofs.lemmas.Bool.{cases_lt}
 use Rattle.std.proofs.lemmas.Nat.{le_or_l, le_or_r}
 use Rattle.vp_tokens.specs.Block.{Block, IsBlock}
-use Rattle.vp_recon.specs.Kept.{IsNothing}
+use Rattle.vp_recon.specs.Sums.{IsNothing}
 use Rattle.vp_recon.specs.Parts.{residue_in}
 use Rattle.vp_recon.proofs.ResidueLemmas.{nothing_in}
 use Rattle.vp_recon.proofs.residue.Residues.has_none.Goals as goal

@@ -1,5 +1,5 @@
 use Rattle.std.proofs.Common.{◌≡◌, ◌<◌, ℕ, None}
-use Rattle.vp_recon.specs.Kept.{IsNothing}
+use Rattle.vp_recon.specs.Sums.{IsNothing}
 use Rattle.vp_recon.specs.Parts.{residue_in}
 use Rattle.vp_recon.proofs.residue.Residues.has_none.Given as goal
 

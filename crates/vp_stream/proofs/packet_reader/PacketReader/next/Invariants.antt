@@ -3,7 +3,7 @@ use Rattle.std.specs.Io.KnownBytes.{Consumes}
 use Rattle.vp_base.specs.declared.limits.Limits.{Limits}
 use Rattle.vp_base.specs.Counted.{counted_remaining, counted_failures, counted_reads}
 use Rattle.vp_ivf.specs.declared.packet.Packet.{Packet}
-use Rattle.vp_stream.specs.Incoming.{IsReading, HasRead}
+use Rattle.vp_stream.specs.PacketReader.{IsReading, HasRead}
 use Rattle.vp_stream.proofs.packet_reader.PacketReader.next.Given as goal
 
 abbrev pub invariant-reading : goal.invariant-reading

@@ -2,7 +2,7 @@ use Rattle.std.proofs.Common.{◌≡◌, ◌++◌, List, None, ◌∙◌, sym, a
 use Rattle.std.proofs.lemmas.Grind.{common_steps}
 use Rattle.vp_ivf.specs.declared.packet.Packet.{Packet}
 use Rattle.vp_ivf.specs.Reader.{refusal}
-use Rattle.vp_stream.specs.Stream.{State, StandsFor}
+use Rattle.vp_stream.specs.Stream.{Stream, IsStreamAfter}
 use Rattle.vp_stream.proofs.KeptLemmas.{room_after, kept_after, after_taking, stands_on}
 use Rattle.vp_stream.proofs.stream.Stream.feed.Goals as goal
 
@@ -35,4 +35,4 @@ returns-clause-stands c = λ refuses kept h stands.
     let new = after_taking c.self.inside.limits c.self.inside.reader c.feed-result.new.self c.keep_waiting.new.reader c.self.inside.packets.items c.keep_waiting.new.packets.items c.args.piece.now
     c.self.invariant.max (c.feed-result.ensures.reading calm kept) c.keep_waiting.ensures.reader
     (c.keep_waiting.ensures.packets ∙ ap (λ (ps : List Packet). ps ++ c.feed-result.new.self.reading.packets) c.try_reserve.ensures.items) in
-    stands_on _ _ h c.args.piece.now new (subst (λ (s : State). StandsFor s h) (sym c.self.view_is) stands)
+    stands_on _ _ h c.args.piece.now new (subst (λ (s : Stream). IsStreamAfter s h) (sym c.self.view_is) stands)

@@ -1,0 +1,76 @@
+//! An encoder, room for its source, and the frame that it encoded last.
+
+ghost use Rattle.std.specs.Prelude.{◌≡◌, ◌≢◌, ◌⊎◌, None, IfSome};
+ghost use Rattle.vp_encode.specs.TooLong.{IsTooLong};
+ghost use Rattle.vp8_c.specs.Planes.{planes_in};
+
+use crate::planes::CallerPlanes;
+use crate::rows::read_picture;
+use crate::status::{BUFFER, MEMORY, OK, TOO_LONG};
+use std::alloc::Global;
+use vp_base::{Dim, Picture};
+use vp_encode::{EncodeFault, Encoded, Encoder};
+
+/// An encoder, room for its source, and the frame that it encoded last, if that wasn't refused.
+#[derive(Drop)]
+pub struct EncoderHandle {
+    pub encoder: Encoder,
+    pub source: Picture,
+    pub encoded: Option<Encoded>,
+    ghost columns: { source.width ≡ encoder.dim.w },
+    ghost rows: { source.height ≡ encoder.dim.h },
+}
+
+impl EncoderHandle {
+    ghost use Rattle.vp8_c.specs.EncoderHandle.{Encodes, EncodesSource, IsFrameForgotten};
+
+    /// An encoder of pictures of this size with room for its source, or None where memory was refused.
+    pub fn of(alloc: Global, encoder: Encoder, dim: Dim) -> Option<EncoderHandle>
+        requires { encoder.dim ≡ dim }
+        ensures encoder { IfSome result (λ c. c.encoder ≡ encoder) }
+        ensures encoded { IfSome result (λ c. c.encoded ≡ None) }
+    {
+        match Picture::new(alloc, dim, 0) {
+            Ok(source) => Some(EncoderHandle {
+                encoder,
+                source,
+                encoded: None,
+            }),
+            Err(_) => None,
+        }
+    }
+
+    /// Encodes the source, and keeps the frame.
+    fn encode_source(&mut self) -> u32
+        ensures answer { (result ≡ OK) ⊎ (result ≡ TOO_LONG) ⊎ (result ≡ MEMORY) }
+        ensures encoded { result ≡ OK → EncodesSource self.old.encoder self.old.source self.new }
+        ensures too_long { result ≡ TOO_LONG → IsTooLong self.old.encoder self.old.source }
+        ensures forgotten { result ≢ OK → IsFrameForgotten self.old.encoder self.new }
+    {
+        match self.encoder.encode(&self.source) {
+            Ok(encoded) => {
+                self.encoded = Some(encoded);
+                OK
+            }
+            Err(EncodeFault::TooLong) => {
+                self.encoded = None;
+                TOO_LONG
+            }
+            Err(EncodeFault::Memory) => {
+                self.encoded = None;
+                MEMORY
+            }
+            Err(EncodeFault::SourceSize) => unreachable!(),
+        }
+    }
+
+    /// Encodes the caller's rows, where they fit, and keeps the frame.
+    pub fn encode(&mut self, planes: CallerPlanes) -> u32
+        ensures { Encodes (planes_in planes.entry) result self.old self.new }
+    {
+        if !read_picture(&mut self.source, planes) {
+            return BUFFER;
+        }
+        self.encode_source()
+    }
+}

@@ -1,0 +1,112 @@
+//! What handles lead to.
+
+ghost use Rattle.std.specs.Prelude.{◌≡◌, None, IfSome, IsSomeAnd, option_map};
+ghost use Rattle.vp8_c.specs.Planes.{planes_in};
+
+use crate::encoder_handle::EncoderHandle;
+use crate::file_handle::{FileHandle, KeptPicture};
+use crate::planes::CallerPlanes;
+use crate::status::{CLOSED, MEMORY, NO_PICTURE, outcome_number};
+use vp_base::Picture;
+use vp_decode::Decoder;
+use vp_encode::Encoded;
+
+/// What a handle leads to.
+#[derive(Drop)]
+pub enum HandleValue {
+    Decoder(Decoder),
+    Stream(FileHandle),
+    Encoder(EncoderHandle),
+}
+
+impl HandleValue {
+    ghost use Rattle.vp8_c.specs.Decoding.{Decodes, decoder_of, last_picture};
+    ghost use Rattle.vp8_c.specs.FileHandle.{AnswersPacket, kept_of, i420_picture, stream_of};
+    ghost use Rattle.vp8_c.specs.EncoderHandle.{Encodes, encoded_of, encoder_of};
+    ghost use Rattle.vp8_c.specs.Arguments.{result_map};
+
+    /// Decodes a packet, where it is a decoder.
+    pub fn decode(&mut self, packet: &[u8]) -> u32
+        ensures closed { decoder_of self.old ≡ None → (result ≡ CLOSED) × (self.new ≡ self.old) }
+        ensures decoded { IfSome (decoder_of self.old) (λ d. IsSomeAnd (decoder_of self.new) (Decodes packet.now result d)) }
+    {
+        match self {
+            HandleValue::Decoder(decoder) => match decoder.decode(packet) {
+                Ok(outcome) => outcome_number(outcome),
+                Err(_) => MEMORY,
+            },
+            HandleValue::Stream(_) | HandleValue::Encoder(_) => CLOSED,
+        }
+    }
+
+    /// The picture that its last packet showed, where it is a decoder; else the status of a call that finds none.
+    pub fn shown(&self) -> Result<&Picture, u32>
+        ensures { result_map (λ p. p.now) result ≡ last_picture self.now }
+    {
+        match self {
+            HandleValue::Decoder(decoder) => match decoder.picture() {
+                Some(picture) => Ok(picture),
+                None => Err(NO_PICTURE),
+            },
+            HandleValue::Stream(_) | HandleValue::Encoder(_) => Err(CLOSED),
+        }
+    }
+
+    /// The file, where it is one.
+    pub fn asked(&self) -> Option<&FileHandle>
+        ensures { option_map (λ a. a.now) result ≡ stream_of self.now }
+    {
+        match self {
+            HandleValue::Stream(asked) => Some(asked),
+            HandleValue::Decoder(_) | HandleValue::Encoder(_) => None,
+        }
+    }
+
+    /// Asks for packet `n`, where it is a file.
+    pub fn ask(&mut self, n: u32) -> u32
+        ensures closed { stream_of self.old ≡ None → (result ≡ CLOSED) × (self.new ≡ self.old) }
+        ensures answered { IfSome (stream_of self.old) (λ a. IsSomeAnd (stream_of self.new) (AnswersPacket n result a)) }
+    {
+        match self {
+            HandleValue::Stream(asked) => asked.ask(n),
+            HandleValue::Decoder(_) | HandleValue::Encoder(_) => CLOSED,
+        }
+    }
+
+    /// The picture of the packet that was asked for last, where it is a file; else the status of a call that finds none.
+    pub fn kept(&self) -> Result<KeptPicture<'_>, u32>
+        ensures { result_map i420_picture result ≡ kept_of self.now }
+    {
+        match self {
+            HandleValue::Stream(asked) => match asked.picture() {
+                Some(picture) => Ok(picture),
+                None => Err(NO_PICTURE),
+            },
+            HandleValue::Decoder(_) | HandleValue::Encoder(_) => Err(CLOSED),
+        }
+    }
+
+    /// Encodes the caller's rows, where it is an encoder.
+    pub fn encode(&mut self, planes: CallerPlanes) -> u32
+        ensures closed { encoder_of self.old ≡ None → (result ≡ CLOSED) × (self.new ≡ self.old) }
+        ensures encoded { IfSome (encoder_of self.old) (λ e. IsSomeAnd (encoder_of self.new) (Encodes (planes_in planes.entry) result e)) }
+    {
+        match self {
+            HandleValue::Encoder(coding) => coding.encode(planes),
+            HandleValue::Decoder(_) | HandleValue::Stream(_) => CLOSED,
+        }
+    }
+
+    /// The frame that was encoded last, where it is an encoder; else the status of a call that finds none.
+    pub fn encoded(&self) -> Result<&Encoded, u32>
+        ensures { result_map (λ f. f.now) result ≡ encoded_of self.now }
+    {
+        match self {
+            HandleValue::Encoder(coding) => match &coding.encoded {
+                Some(encoded) => Ok(encoded),
+                None => Err(NO_PICTURE),
+            },
+            HandleValue::Decoder(_) | HandleValue::Stream(_) => Err(CLOSED),
+        }
+    }
+}

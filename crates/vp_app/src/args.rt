@@ -1,0 +1,593 @@
+//! The words of the program.
+
+ghost use Rattle.std.specs.Prelude.{◌≡◌, ◌<◌, ◌≤◌, ◌^◌, [], IfErr, IfOk, IfSome, None, Ok, codes, false, option_map};
+ghost use Rattle.clap.specs.Words.{app_of, found_of, rows_of, rule_of, subcommand_rows_of};
+ghost use Rattle.clap.specs.Built.{AddsArg, AddsSubcommand};
+ghost use Rattle.clap.specs.Kinds.{HasKind};
+ghost use Rattle.clap.specs.Simple.{subcommand_of};
+ghost use Rattle.clap.specs.Walk.{all_of, first_of, one_of, texts};
+ghost use Rattle.clap.specs.declared.builder.command.Command.TheViews.{out-Command as fields_of};
+ghost use Rattle.vp_app.specs.Args.{asked_at, parsed_command, asked_of, encodes, faults_of, AreNamed, AreNoSettings, AreSettings, Gains, IsDecimal, IsFlag, IsMisnumbered, IsNoCache, IsNoDecimal, IsNoNaming, IsNoPlanFor, IsNumber, IsOfValue, IsPlanFor, IsRefusalFor, decode_app, encode_app, file_rules, flag_rule, frame_rules, info_app, macroblock_rules, operand_rule, operands_rule, program, serve_app, serves, setting_rule, vp8_app, with_rules};
+
+use crate::encode::EncodeArgs;
+use crate::serve_args::{NamedFile, ServeArgs};
+use clap::{Arg, ArgAction, ArgMatches, Command, Error};
+use std::alloc::{AllocError, Global};
+use vp_encode::Settings;
+use vp_stream::Form;
+
+/// What the words ask for. A file named `-` is a standard stream.
+#[derive(Drop)]
+pub enum Task<'a> {
+    /// To decode the file `input` into pictures in the file `output`.
+    Decode {
+        form: Form,
+        input: &'a str,
+        output: &'a str,
+    },
+    /// To encode a file of pictures.
+    Encode(EncodeArgs<'a>),
+    /// To tell what the file `input` holds.
+    Info {
+        input: &'a str,
+    },
+    /// To serve streams.
+    Serve(ServeArgs<'a>),
+    /// Nothing that there is.
+    Nothing,
+}
+
+/// Why the words ask for nothing.
+#[derive(Drop)]
+pub enum Refusal {
+    /// The error's text says what is wrong, or is the help or the version that was asked for.
+    Words(Error),
+    /// An operand, or the value of an option, isn't what it has to be.
+    Value(&'static str),
+}
+
+impl From<Error> for Refusal {
+    ghost use Rattle.std.specs.Prelude.{◌≡◌};
+    ghost use Rattle.vp_app.specs.declared.args.Refusal.{Refusal};
+
+    ghost from_gives = { λ error refusal. refusal ≡ Refusal.Words error };
+
+    fn from(error: Error) -> Refusal {
+        Refusal::Words(error)
+    }
+}
+
+impl From<AllocError> for Refusal {
+    ghost use Rattle.vp_app.specs.Args.{IsForMemory};
+
+    ghost from_gives = { λ _ refusal. IsForMemory refusal };
+
+    fn from(error: AllocError) -> Refusal {
+        Refusal::Words(Error::from(error))
+    }
+}
+
+/// Reads the words, of which the first is the program's name.
+pub fn read_args<'a>(alloc: Global, words: &'a [&'a str]) -> Result<Task<'a>, Refusal>
+    ensures plan { IfOk result (λ plan. (faults_of (texts words.now) ≡ [])
+        × IsPlanFor (asked_of (texts words.now)) plan) }
+    ensures refusal { IfErr result (IsRefusalFor (texts words.now)) }
+{
+    let matches = parse_args(alloc, words)?;
+    read_matches(alloc, &matches)
+}
+
+fn parse_args<'a>(alloc: Global, words: &'a [&'a str]) -> Result<ArgMatches<'a>, Error>
+    ensures found { IfOk result (λ m. (faults_of (texts words.now) ≡ [])
+        × (subcommand_rows_of m ≡ subcommand_of program (texts words.now))) }
+    ensures fault { IfErr result (HasKind (faults_of (texts words.now))) }
+{
+    program(alloc)?.try_get_matches_from(words)
+}
+
+// Reads what was found for the words.
+fn read_matches<'a>(alloc: Global, matches: &ArgMatches<'a>) -> Result<Task<'a>, Refusal>
+    ensures plan { IfOk result (IsPlanFor (parsed_command (subcommand_rows_of matches.now))) }
+    ensures refusal { IfErr result (IsNoPlanFor (parsed_command (subcommand_rows_of matches.now))) }
+{
+    match matches.subcommand() {
+        Some(("decode", found)) => Ok(decode_plan(found)),
+        Some(("encode", found)) => encode_plan(found),
+        Some(("info", found)) => Ok(info_plan(found)),
+        Some(("serve", found)) => serve_plan(alloc, found),
+        _ => Ok(Task::Nothing),
+    }
+}
+
+fn program<'a>(alloc: Global) -> Result<Command<'a>, AllocError>
+    ensures { IfOk result (λ c. app_of c ≡ program) }
+{
+    let decodes = with_made(vp8_command(alloc), decode_command(alloc))?;
+    let encodes = with_made(decodes, encode_command(alloc))?;
+    let tells = with_made(encodes, info_command(alloc))?;
+    with_made(tells, serve_command(alloc))
+}
+
+// The program without its commands.
+fn vp8_command<'a>(alloc: Global) -> Command<'a>
+    ensures { app_of result ≡ vp8_app }
+{
+    Command::new(alloc, "vp8")
+        .about("Decodes, encodes and serves VP8 video")
+        .version("0.1.0")
+        .disable_help_subcommand(true)
+        .subcommand_required(true)
+}
+
+// With one more command, where that could be made.
+fn with_made<'a>(
+    command: Command<'a>,
+    made: Result<Command<'a>, AllocError>,
+) -> Result<Command<'a>, AllocError>
+    ensures { IfOk result (λ new. (sub : _) × (made.entry ≡ Ok sub) × AddsSubcommand command.entry sub new) }
+{
+    command.subcommand(made?)
+}
+
+fn decode_command<'a>(alloc: Global) -> Result<Command<'a>, AllocError>
+    ensures app { IfOk result (λ c. app_of c ≡ decode_app) }
+    ensures local { IfOk result (λ c. (fields_of c).has_globals ≡ false) }
+{
+    let command = Command::new(alloc, "decode").about(
+        "Decodes an IVF file into the pictures that are shown, one after another",
+    );
+    let y4m = flag(
+        alloc,
+        "y4m",
+        "Writes YUV4MPEG2 with size and rate, in place of bare I420",
+    );
+    let input = operand(alloc, "IN", "The IVF file, or - for standard input");
+    let output = operand(
+        alloc,
+        "OUT",
+        "The file of pictures, or - for standard output",
+    );
+    with_arg(with_arg(with_arg(Ok(command), y4m), input), output)
+}
+
+// With one more argument, where the command could be made.
+fn with_arg<'a>(
+    command: Result<Command<'a>, AllocError>,
+    arg: Arg<'a>,
+) -> Result<Command<'a>, AllocError>
+    ensures { IfOk result (λ new. (old : _) × (command.entry ≡ Ok old) × AddsArg old arg.entry new) }
+{
+    command?.arg(arg)
+}
+
+fn encode_command<'a>(alloc: Global) -> Result<Command<'a>, AllocError>
+    ensures app { IfOk result (λ c. app_of c ≡ encode_app) }
+    ensures local { IfOk result (λ c. (fields_of c).has_globals ≡ false) }
+{
+    let command = Command::new(alloc, "encode").about(
+        "Encodes the pictures of a YUV4MPEG2 file as VP8 in an IVF file, and tells how many there are and the sum of their squared errors",
+    );
+    let macroblocks = with_macroblock_settings(alloc, Ok(command));
+    let frames = with_frame_settings(alloc, macroblocks);
+    with_files(alloc, frames)
+}
+
+// Whether progress is told, and the files.
+fn with_files<'a>(
+    alloc: Global,
+    command: Result<Command<'a>, AllocError>,
+) -> Result<Command<'a>, AllocError>
+    ensures { IfOk result (λ new. (old : _) × (command.entry ≡ Ok old) × Gains old file_rules new) }
+{
+    let progress = flag(
+        alloc,
+        "progress",
+        "Tells on standard error after every tenth frame how many are encoded",
+    );
+    let input = operand(alloc, "IN", "The YUV4MPEG2 file, or - for standard input");
+    let output = operand(alloc, "OUT", "The IVF file, or - for standard output");
+    with_arg(with_arg(with_arg(command, progress), input), output)
+}
+
+// How macroblocks are coded and filtered.
+fn with_macroblock_settings<'a>(
+    alloc: Global,
+    command: Result<Command<'a>, AllocError>,
+) -> Result<Command<'a>, AllocError>
+    ensures { IfOk result (λ new. (old : _) × (command.entry ≡ Ok old) × Gains old macroblock_rules new) }
+{
+    let command = with_arg(
+        command,
+        setting(
+            alloc,
+            "qi",
+            "The quantiser index, from 0, which loses least, to 127; 32 unless it is said",
+        ),
+    );
+    let command = with_arg(
+        command,
+        setting(
+            alloc,
+            "filter",
+            "The loop filter's level, from 0, which filters nothing, to 63; 16 unless it is said",
+        ),
+    );
+    let command = with_arg(
+        command,
+        setting(
+            alloc,
+            "sharpness",
+            "The loop filter's sharpness, from 0 to 7; 0 unless it is said",
+        ),
+    );
+    with_arg(
+        command,
+        flag(
+            alloc,
+            "simple",
+            "Filters by the simple loop filter, which leaves colour alone",
+        ),
+    )
+}
+
+// How frames follow one another.
+fn with_frame_settings<'a>(
+    alloc: Global,
+    command: Result<Command<'a>, AllocError>,
+) -> Result<Command<'a>, AllocError>
+    ensures { IfOk result (λ new. (old : _) × (command.entry ≡ Ok old) × Gains old frame_rules new) }
+{
+    let command = with_arg(
+        command,
+        setting(
+            alloc,
+            "key-every",
+            "How many frames there are from one key frame to the next, at least 1; 64 unless it is said",
+        ),
+    );
+    let command = with_arg(
+        command,
+        setting(
+            alloc,
+            "golden-every",
+            "How many frames there are from one golden picture to the next, or 0 for none but the key frame's; 0 unless it is said",
+        ),
+    );
+    let command = with_arg(
+        command,
+        setting(
+            alloc,
+            "range",
+            "How many pixels a motion vector goes each way at most, from 0 to 64; 16 unless it is said",
+        ),
+    );
+    let command = with_arg(
+        command,
+        flag(alloc, "subpel", "Refines motion vectors to quarter pixels"),
+    );
+    with_arg(
+        command,
+        setting(
+            alloc,
+            "partitions",
+            "How many token partitions a packet has: 1, 2, 4 or 8; 1 unless it is said",
+        ),
+    )
+}
+
+fn info_command<'a>(alloc: Global) -> Result<Command<'a>, AllocError>
+    ensures app { IfOk result (λ c. app_of c ≡ info_app) }
+    ensures local { IfOk result (λ c. (fields_of c).has_globals ≡ false) }
+{
+    Command::new(alloc, "info")
+        .about(
+            "Prints the size in pixels, the rate in pictures a second and the packets of an IVF file: for each its number, its bytes, and Shown, Hidden or its fault",
+        )
+        .arg(operand(alloc, "IN", "The IVF file, or - for standard input"))
+}
+
+fn serve_command<'a>(alloc: Global) -> Result<Command<'a>, AllocError>
+    ensures app { IfOk result (λ c. app_of c ≡ serve_app) }
+    ensures local { IfOk result (λ c. (fields_of c).has_globals ≡ false) }
+{
+    let command = Command::new(alloc, "serve").about(
+        "Serves the pictures of IVF files over HTTP, one connection after another, and then ends",
+    );
+    let listen = setting(alloc, "listen", "The address and port to listen at").required(true);
+    let command = with_arg(Ok(command), listen);
+    let connections = setting(alloc, "connections", "How many connections are served").required(
+        true,
+    );
+    let command = with_arg(command, connections);
+    let command = with_arg(
+        command,
+        setting(
+            alloc,
+            "cache",
+            "How many pictures are kept, from 1 to 4096; 16 unless it is said",
+        ),
+    );
+    let command = with_arg(
+        command,
+        flag(
+            alloc,
+            "show-address",
+            "Prints the address and port that it listens at, which shows the port that was found where 0 is asked for",
+        ),
+    );
+    with_arg(
+        command,
+        operands(
+            alloc,
+            "NAME=FILE",
+            "A stream's name and its IVF file, or - for standard input",
+        ),
+    )
+}
+
+fn setting<'a>(alloc: Global, name: &'a str, help: &'a str) -> Arg<'a>
+    ensures rule { rule_of result ≡ setting_rule name.entry.now }
+    ensures local { result.global ≡ false }
+{
+    Arg::new(alloc, name)
+        .long(name)
+        .help(help)
+        .action(ArgAction::Set)
+}
+
+fn flag<'a>(alloc: Global, name: &'a str, help: &'a str) -> Arg<'a>
+    ensures rule { rule_of result ≡ flag_rule name.entry.now }
+    ensures local { result.global ≡ false }
+{
+    Arg::new(alloc, name)
+        .long(name)
+        .help(help)
+        .action(ArgAction::SetTrue)
+}
+
+fn operand<'a>(alloc: Global, name: &'a str, help: &'a str) -> Arg<'a>
+    ensures rule { rule_of result ≡ operand_rule name.entry.now }
+    ensures local { result.global ≡ false }
+{
+    Arg::new(alloc, name)
+        .help(help)
+        .required(true)
+        .action(ArgAction::Set)
+}
+
+// One operand or more.
+fn operands<'a>(alloc: Global, name: &'a str, help: &'a str) -> Arg<'a>
+    ensures rule { rule_of result ≡ operands_rule name.entry.now }
+    ensures local { result.global ≡ false }
+{
+    operand(alloc, name, help)
+        .num_args(1..)
+        .action(ArgAction::Append)
+}
+
+// The first text that was found for an argument.
+fn text_of<'a>(found: &ArgMatches<'a>, name: &str) -> Option<&'a str>
+    ensures { option_map (λ t. t.now) result ≡ first_of name.now (rows_of (found_of found.now)) }
+{
+    found.get_str(name)
+}
+
+// All texts that were found for an argument.
+fn texts_of<'a, 'b>(found: &'b ArgMatches<'a>, name: &str) -> Option<&'b [&'a str]>
+    ensures { option_map (λ all. texts all.now) result ≡ all_of name.now (rows_of (found_of found.now)) }
+{
+    found.get_strs(name)
+}
+
+// Whether a flag is set.
+fn is_set(found: &ArgMatches<'_>, name: &str) -> bool
+    ensures { IsFlag (one_of name.now (rows_of (found_of found.now))) result }
+{
+    found.get_flag(name)
+}
+
+fn decode_plan<'a>(found: &ArgMatches<'a>) -> Task<'a>
+    ensures { IsPlanFor (asked_at (codes "decode") (rows_of (found_of found.now))) result }
+{
+    let form = if is_set(found, "y4m") {
+        Form::Y4m
+    } else {
+        Form::I420
+    };
+    match (text_of(found, "IN"), text_of(found, "OUT")) {
+        (Some(input), Some(output)) => Task::Decode {
+            form,
+            input,
+            output,
+        },
+        _ => Task::Nothing,
+    }
+}
+
+fn encode_plan<'a>(found: &ArgMatches<'a>) -> Result<Task<'a>, Refusal>
+    ensures plan { IfOk result (IsPlanFor (asked_at (codes "encode") (rows_of (found_of found.now)))) }
+    ensures refusal { IfErr result (IsNoPlanFor (asked_at (codes "encode") (rows_of (found_of found.now)))) }
+{
+    match (text_of(found, "IN"), text_of(found, "OUT")) {
+        (Some(input), Some(output)) => encoding_plan(found, input, output),
+        _ => Ok(Task::Nothing),
+    }
+}
+
+fn encoding_plan<'a>(
+    found: &ArgMatches<'a>,
+    input: &'a str,
+    output: &'a str,
+) -> Result<Task<'a>, Refusal>
+    ensures plan { IfOk result (IsPlanFor (encodes (rows_of (found_of found.now)) input.entry.now output.entry.now)) }
+    ensures refusal { IfErr result (IsNoPlanFor (encodes (rows_of (found_of found.now)) input.entry.now output.entry.now)) }
+{
+    Ok(Task::Encode(EncodeArgs {
+        settings: encoder_settings(found)?,
+        progress: is_set(found, "progress"),
+        input,
+        output,
+    }))
+}
+
+fn encoder_settings(found: &ArgMatches<'_>) -> Result<Settings, Refusal>
+    ensures settings { IfOk result (AreSettings (rows_of (found_of found.now))) }
+    ensures refusal { IfErr result (λ r. IsOfValue r × AreNoSettings (rows_of (found_of found.now))) }
+{
+    Ok(Settings {
+        qi: byte(found, "qi", 32, "--qi is a decimal number up to 255")?,
+        level: byte(
+            found,
+            "filter",
+            16,
+            "--filter is a decimal number up to 255",
+        )?,
+        sharpness: byte(
+            found,
+            "sharpness",
+            0,
+            "--sharpness is a decimal number up to 255",
+        )?,
+        simple: is_set(found, "simple"),
+        key_every: count(found, "key-every", 64, "--key-every is a decimal number")?,
+        golden_every: count(
+            found,
+            "golden-every",
+            0,
+            "--golden-every is a decimal number",
+        )?,
+        range: byte(found, "range", 16, "--range is a decimal number up to 255")?,
+        subpel: is_set(found, "subpel"),
+        partitions: byte(
+            found,
+            "partitions",
+            1,
+            "--partitions is a decimal number up to 255",
+        )?,
+    })
+}
+
+// The number of 32 bits that an option says, or the usual one where it isn't said.
+fn count(
+    found: &ArgMatches<'_>,
+    option: &str,
+    usual: u32,
+    refusal: &'static str,
+) -> Result<u32, Refusal>
+    ensures number { IfOk result (IsNumber (first_of option.now (rows_of (found_of found.now))) usual) }
+    ensures refusal { IfErr result (λ r. IsOfValue r × IsMisnumbered (2 ^ 32) (first_of option.now (rows_of (found_of found.now)))) }
+{
+    let Some(text) = text_of(found, option) else {
+        return Ok(usual);
+    };
+    match decimal(text) {
+        Some(number) => Ok(number),
+        None => Err(Refusal::Value(refusal)),
+    }
+}
+
+// The number of 8 bits that an option says, or the usual one where it isn't said.
+#[tactic(auto, using(crate::proofs::NumberLemmas::misnumbered_byte, crate::proofs::NumberLemmas::misnumbered_still))]
+fn byte(
+    found: &ArgMatches<'_>,
+    option: &str,
+    usual: u8,
+    refusal: &'static str,
+) -> Result<u8, Refusal>
+    ensures number { IfOk result (IsNumber (first_of option.now (rows_of (found_of found.now))) usual) }
+    ensures refusal { IfErr result (λ r. IsOfValue r × IsMisnumbered 256 (first_of option.now (rows_of (found_of found.now)))) }
+{
+    match u8::try_from(count(found, option, u32::from(usual), refusal)?) {
+        Ok(number) => Ok(number),
+        Err(_) => Err(Refusal::Value(refusal)),
+    }
+}
+
+fn info_plan<'a>(found: &ArgMatches<'a>) -> Task<'a>
+    ensures { IsPlanFor (asked_at (codes "info") (rows_of (found_of found.now))) result }
+{
+    match text_of(found, "IN") {
+        Some(input) => Task::Info { input },
+        None => Task::Nothing,
+    }
+}
+
+fn serve_plan<'a>(alloc: Global, found: &ArgMatches<'a>) -> Result<Task<'a>, Refusal>
+    ensures plan { IfOk result (IsPlanFor (asked_at (codes "serve") (rows_of (found_of found.now)))) }
+    ensures refusal { IfErr result (IsNoPlanFor (asked_at (codes "serve") (rows_of (found_of found.now)))) }
+{
+    match (
+        text_of(found, "listen"),
+        text_of(found, "connections"),
+        texts_of(found, "NAME=FILE"),
+    ) {
+        (Some(listen), Some(connections), Some(operands)) => {
+            service_plan(alloc, found, listen, connections, operands)
+        }
+        _ => Ok(Task::Nothing),
+    }
+}
+
+fn service_plan<'a>(
+    alloc: Global,
+    found: &ArgMatches<'a>,
+    listen: &'a str,
+    connections: &str,
+    operands: &[&'a str],
+) -> Result<Task<'a>, Refusal>
+    ensures plan { IfOk result (IsPlanFor (serves (rows_of (found_of found.now)) listen.entry.now connections.now (texts operands.now))) }
+    ensures refusal { IfErr result (IsNoPlanFor (serves (rows_of (found_of found.now)) listen.entry.now connections.now (texts operands.now))) }
+{
+    let Some(connections) = decimal(connections) else {
+        return Err(Refusal::Value("--connections is a decimal number"));
+    };
+    let cache = kept_pictures(found)?;
+    Ok(Task::Serve(ServeArgs {
+        listen,
+        connections,
+        cache,
+        show_address: is_set(found, "show-address"),
+        streams: named_files(alloc, operands)?,
+    }))
+}
+
+// How many pictures are kept.
+fn kept_pictures(found: &ArgMatches<'_>) -> Result<u32, Refusal>
+    ensures number { IfOk result (λ n. IsNumber (first_of (codes "cache") (rows_of (found_of found.now))) 16 n × (0 < n) × (n ≤ 4096)) }
+    ensures refusal { IfErr result (λ r. IsOfValue r × IsNoCache (first_of (codes "cache") (rows_of (found_of found.now)))) }
+{
+    let cache = count(found, "cache", 16, "--cache is a decimal number")?;
+    if cache == 0 || cache > 4096 {
+        return Err(Refusal::Value("--cache is a number from 1 to 4096"));
+    }
+    Ok(cache)
+}
+
+// Names and files, parted at the first `=` of each operand.
+fn named_files<'a>(alloc: Global, operands: &[&'a str]) -> Result<Vec<NamedFile<'a>>, Refusal>
+    ensures named { IfOk result (λ streams. AreNamed (texts operands.now) streams.items) }
+    ensures refusal { IfErr result (IsNoNaming (texts operands.now)) }
+{
+    let mut streams = Vec::new(alloc);
+    for operand in operands {
+        let Some((name, file)) = operand.split_once('=') else {
+            return Err(Refusal::Value("an operand of serve is NAME=FILE"));
+        };
+        if streams.push(NamedFile { name, file }).is_err() {
+            return Err(Refusal::from(AllocError));
+        }
+    }
+    Ok(streams)
+}
+
+// A decimal number without a sign.
+#[tactic(auto, using(crate::proofs::NumberLemmas::no_plus, crate::proofs::NumberLemmas::no_signed_numeral))]
+fn decimal(text: &str) -> Option<u32>
+    ensures number { IfSome result (IsDecimal text.now) }
+    ensures none { result ≡ None → IsNoDecimal (2 ^ 32) text.now }
+{
+    if text.starts_with('+') {
+        return None;
+    }
+    text.parse::<u32>().ok()
+}

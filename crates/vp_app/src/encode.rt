@@ -1,0 +1,117 @@
+//! EncodeArgs a file.
+
+ghost use Rattle.std.specs.Prelude.{◌≡◌, ⊤, false};
+ghost use Rattle.vp_app.specs.Commands.{is_stream, read_side, written_side, EncodesFile, EncodesInto, IsFileEncoded};
+
+use crate::files::file_fault;
+use std::alloc::Global;
+use std::fs;
+use std::io::{Read, Write};
+use std::rt::Files;
+use vp_base::{Counted, Limits};
+use vp_encode::{EncodeAllFault, EncodeReport, Settings, Watcher, encode_all_watched};
+
+/// What is to be encoded, and how. A file named `-` is a standard stream.
+#[derive(Clone, Copy, Debug, PartialEq, Eq)]
+pub struct EncodeArgs<'a> {
+    /// What the encoder is set to.
+    pub settings: Settings,
+    /// Whether it is told how far the work has come.
+    pub progress: bool,
+    /// The file of pictures.
+    pub input: &'a str,
+    /// The file of packets.
+    pub output: &'a str,
+}
+
+/// Tells after every tenth frame how many are encoded, where that is asked for.
+#[derive(Drop)]
+struct Progress<'a, E: Write> {
+    errors: &'a mut Counted<E>,
+    asked: bool,
+}
+
+impl<E: Write> Watcher for Progress<'_, E> {
+    ghost told = { λ _ _. ⊤ };
+
+    fn encoded(&mut self, frames: u32) {
+        if self.asked && frames % 10 == 0 {
+            let _ = writeln!(self.errors, "frame {frames}");
+        }
+    }
+}
+
+/// Opens the file of pictures, and then makes that of packets, and encodes. A file that is to be read isn't written, for
+/// making it anew empties it.
+#[tactic(auto, using(crate::proofs::CommandLemmas::pictures_stream, crate::proofs::CommandLemmas::pictures_file, crate::proofs::CommandLemmas::pictures_none))]
+pub(crate) fn encode<H: Files + AllocGlobal, R: Read, W: Write, E: Write>(
+    rt: &H,
+    encoding: &EncodeArgs<'_>,
+    input: &mut Counted<R>,
+    output: &mut Counted<W>,
+    errors: &mut Counted<E>,
+) -> Result<EncodeReport, EncodeAllFault>
+    ensures encoded { EncodesFile encoding.now.settings encoding.now.input.now encoding.now.output.now result
+        (read_side R.remaining input.old) (read_side R.remaining input.new)
+        (written_side W.contents output.old) (written_side W.contents output.new) }
+    ensures unread { is_stream encoding.now.input.now ≡ false → input.new ≡ input.old }
+    ensures unwritten { is_stream encoding.now.output.now ≡ false → output.new ≡ output.old }
+{
+    let mut watcher = Progress {
+        errors,
+        asked: encoding.progress,
+    };
+    if encoding.input == "-" {
+        return encode_into(rt, encoding, input, output, &mut watcher);
+    }
+    if encoding.input == encoding.output {
+        return Err(EncodeAllFault::Device);
+    }
+    match fs::open(rt, encoding.input) {
+        Ok(file) => encode_into(rt, encoding, &mut Counted::new(file), output, &mut watcher),
+        Err(error) => Err(file_fault(&error, EncodeAllFault::Device, EncodeAllFault::Memory)),
+    }
+}
+
+#[tactic(auto, using(crate::proofs::CommandLemmas::encode_stream, crate::proofs::CommandLemmas::encode_file, crate::proofs::CommandLemmas::encode_none))]
+fn encode_into<H: Files + AllocGlobal, R: Read, W: Write, T: Watcher>(
+    rt: &H,
+    encoding: &EncodeArgs<'_>,
+    input: &mut Counted<R>,
+    output: &mut Counted<W>,
+    watcher: &mut T,
+) -> Result<EncodeReport, EncodeAllFault>
+    ensures encoded { EncodesInto encoding.now.settings encoding.now.output.now result
+        (read_side R.remaining input.old) (read_side R.remaining input.new)
+        (written_side W.contents output.old) (written_side W.contents output.new) }
+    ensures unwritten { is_stream encoding.now.output.now ≡ false → output.new ≡ output.old }
+{
+    let settings = encoding.settings;
+    if encoding.output == "-" {
+        return encode_over(rt.alloc(), settings, input, output, watcher);
+    }
+    match fs::create(rt, encoding.output) {
+        Ok(file) => encode_over(
+            rt.alloc(),
+            settings,
+            input,
+            &mut Counted::new(file),
+            watcher,
+        ),
+        Err(error) => Err(file_fault(&error, EncodeAllFault::Device, EncodeAllFault::Memory)),
+    }
+}
+
+fn encode_over<R: Read, W: Write, T: Watcher>(
+    alloc: Global,
+    settings: Settings,
+    input: &mut Counted<R>,
+    output: &mut Counted<W>,
+    watcher: &mut T,
+) -> Result<EncodeReport, EncodeAllFault>
+    ensures { IsFileEncoded settings result
+        (read_side R.remaining input.old) (read_side R.remaining input.new)
+        (written_side W.contents output.old) (written_side W.contents output.new) }
+{
+    encode_all_watched(alloc, input, output, settings, Limits::usual(), watcher)
+}

@@ -1,0 +1,55 @@
+-- What a frame's macroblocks say of themselves, in raster order from the first partition (RFC 6386, chapter 19.3).
+use Rattle.std.specs.Prelude.{ℕ, not}
+use Rattle.vp_bool.specs.Reader.{Reader, ◌>>=◌, give, when, rows}
+use Rattle.vp_base.specs.declared.place.Place.{Place}
+use Rattle.vp_base.specs.Grid.{Grid, at, with_entry}
+use Rattle.vp_head.specs.declared.fields.Header.{Header}
+use Rattle.vp_head.specs.declared.fields.Reference.{Reference}
+use Rattle.vp_head.specs.Reference.{is_intra}
+use Rattle.vp_modes.specs.Entry.{Modes, plain}
+use Rattle.vp_modes.specs.Modes.{modes_at}
+use Rattle.vp_motion.specs.Vector.{MacroblockMotion, Motion}
+use Rattle.vp_motion.specs.Map.{intra}
+use Rattle.vp_motion.specs.Motion.{motion_at}
+
+-- the modes and the motion of each macroblock
+pub record MacroblockInfo : Type 0 where
+  pub modes : Grid Modes
+  pub motion : Grid MacroblockMotion
+
+abbrev pub modes_in : MacroblockInfo → Place → Modes
+modes_in m p = at plain m.modes p
+
+abbrev pub motion_in : MacroblockInfo → Place → MacroblockMotion
+motion_in m p = at intra m.motion p
+
+abbrev pub place : ℕ → ℕ → Place
+place row column = record { column = column; row = row }
+
+abbrev pub with_modes : MacroblockInfo → Place → Modes → MacroblockInfo
+with_modes m p modes = record m { modes = with_entry m.modes p modes }
+
+abbrev pub with_motion : MacroblockInfo → Place → Reference → Motion → MacroblockInfo
+with_motion m p reference motion = record m {
+  motion = with_entry m.motion p (record { reference = reference; mode = motion.mode; vectors = motion.vectors });
+}
+
+-- the motion of an inter macroblock
+unfoldable pub motion_read : Header → Place → Reference → MacroblockInfo → Reader MacroblockInfo
+motion_read h p reference m = do
+  motion ← motion_at h m.motion p reference
+  give (with_motion m p reference motion)
+
+-- a macroblock: its modes, and where it is inter its motion
+unfoldable pub macroblock_read : Header → Place → MacroblockInfo → Reader MacroblockInfo
+macroblock_read h p m = do
+  modes ← modes_at h m.modes p
+  when (not (is_intra modes.reference)) (motion_read h p modes.reference (with_modes m p modes)) (with_modes m p modes)
+
+-- a row of so many macroblocks
+unfoldable pub row_read : Header → ℕ → ℕ → MacroblockInfo → Reader MacroblockInfo
+row_read h columns row = rows columns (λ column. macroblock_read h (place row column))
+
+-- all rows
+unfoldable pub maps_read : Header → MacroblockInfo → Reader MacroblockInfo
+maps_read h m = rows m.modes.rows (row_read h m.modes.columns) m

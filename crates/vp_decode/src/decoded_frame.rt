@@ -1,0 +1,121 @@
+//! One frame decoded, and nothing kept of it yet.
+
+ghost use Rattle.std.specs.Prelude.{◌≡◌, ◌<◌, ◌≤◌, length, map, IfOk, option_map};
+ghost use Rattle.vp_base.specs.Image.{macroblocks};
+ghost use Rattle.vp_modes.specs.Map.{segments_of};
+ghost use Rattle.vp_bool.specs.Bools.{initial_state};
+ghost use Rattle.vp_decode.specs.Equation.{IsOneSize};
+ghost use Rattle.vp_decode.specs.Frame.{frame_of, picture_of};
+ghost use Rattle.vp_decode.specs.Step.{frame_info_of, frame_of_packet, shown_after, state_after};
+
+use crate::frame_buffers::FrameBuffers;
+use crate::frame_decoder::FrameDecoder;
+use crate::frame_info::FrameInfo;
+use crate::macroblock_info::MacroblockInfo;
+use crate::parsed_packet::ParsedPacket;
+use std::alloc::{AllocError, Global};
+use std::mem;
+use std::rc::Rc;
+use vp_base::{Dim, Grid, Picture};
+use vp_head::{Header, Saved};
+use vp_loop::RowFilter;
+use vp_modes::Segment;
+use vp_recon::unfiltered_picture_solves_its_equation;
+use vp_tokens::Partitions;
+
+/// What a frame leaves, before it is kept.
+#[derive(Drop)]
+pub(crate) struct DecodedFrame {
+    pub header: Header,
+    pub saved: Saved,
+    pub segments: Grid<Segment>,
+    pub picture: Rc<Picture>,
+    /// The last picture that was shown, this one or one before it.
+    pub shown: Option<Rc<Picture>>,
+}
+
+/// The picture of a frame, from its token partitions.
+fn decode_picture<F: RowFilter>(
+    alloc: Global,
+    buffers: &mut FrameBuffers,
+    info: &FrameInfo,
+    dim: Dim,
+    partitions: &Partitions,
+    filter: &mut F,
+) -> Result<Picture, AllocError>
+    requires columns { info.now.maps.modes.columns ≡ macroblocks dim.w }
+    requires rows { info.now.maps.modes.rows ≡ macroblocks dim.h }
+    requires some { 0 < length partitions.now }
+    requires few { length partitions.now ≤ 8 }
+    ensures { IfOk result (λ p. p ≡ picture_of (frame_of info.now (map initial_state partitions.now) dim.w dim.h)) }
+{
+    let rebuilding = FrameDecoder::new(alloc, buffers, info, dim)?;
+    Ok(rebuilding.picture(partitions, filter, buffers))
+}
+
+/// The last picture that was shown, where this one is shown or not.
+fn shown_after(
+    show: bool,
+    picture: &Rc<Picture>,
+    before: Option<&Rc<Picture>>,
+) -> Result<Option<Rc<Picture>>, AllocError>
+    ensures { IfOk result (λ r. option_map (λ p. p.value) r ≡ shown_after show picture.now.value (option_map (λ p. p.now.value) before.entry)) }
+{
+    if show {
+        return Ok(Some(picture.clone()?));
+    }
+    match before {
+        Some(picture) => Ok(Some(picture.clone()?)),
+        None => Ok(None),
+    }
+}
+
+/// Decodes the frame of a packet, in the memory of `buffers`.
+pub(crate) fn decode_frame<F: RowFilter>(
+    alloc: Global,
+    buffers: &mut FrameBuffers,
+    parsed: ParsedPacket,
+    filter: &mut F,
+) -> Result<DecodedFrame, AllocError>
+    ensures header { IfOk result (λ f. f.header ≡ parsed.entry.header) }
+    ensures saved { IfOk result (λ f. f.saved ≡ parsed.entry.saved) }
+    ensures segments { IfOk result (λ f. f.segments ≡ segments_of (frame_info_of parsed.entry).maps.modes) }
+    ensures picture { IfOk result (λ f. f.picture.value ≡ picture_of (frame_of_packet parsed.entry)) }
+    ensures shown { IfOk result (λ f. option_map (λ p. p.value) f.shown ≡ shown_after parsed.entry.tag.show (picture_of (frame_of_packet parsed.entry)) parsed.entry.context.shown) }
+    ensures one_size { IfOk result (λ _. IsOneSize (state_after parsed.entry)) }
+{
+    unfiltered_picture_solves_its_equation();
+    let context = parsed.context;
+    let mut maps = context.maps_before(mem::replace(
+        &mut buffers.maps,
+        MacroblockInfo::empty(alloc),
+    ))?;
+    let mut first = parsed.first;
+    maps.read(&parsed.header, &mut first);
+    let kept = mem::replace(&mut buffers.segments, Grid::empty(alloc));
+    let segments = maps.modes.segments_in(kept)?;
+    let info = FrameInfo::new(
+        &parsed.header,
+        parsed.tag.version,
+        context.references(),
+        maps,
+    );
+    let picture = decode_picture(
+        alloc,
+        buffers,
+        &info,
+        context.dim,
+        &parsed.partitions,
+        filter,
+    )?;
+    buffers.maps = info.into_maps();
+    let picture = Rc::new(alloc, picture)?;
+    let shown = shown_after(parsed.tag.show, &picture, context.shown)?;
+    Ok(DecodedFrame {
+        header: parsed.header,
+        saved: parsed.saved,
+        segments,
+        picture,
+        shown,
+    })
+}

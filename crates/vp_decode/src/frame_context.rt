@@ -1,0 +1,100 @@
+//! What a frame is decoded over.
+
+ghost use Rattle.std.specs.Prelude.{◌≡◌, Ok, Err, IfOk, MatchResult, option_map};
+ghost use Rattle.vp_decode.specs.Step.{current_state, context_of, maps_before};
+
+use crate::decoder::DecoderState;
+use crate::macroblock_info::MacroblockInfo;
+use std::alloc::AllocError;
+use std::marker::Model;
+use std::rc::Rc;
+use vp_base::{Dim, Grid, Picture};
+use vp_head::{KeyTag, PacketFault, Saved};
+use vp_modes::{ModeMap, Segment};
+use vp_refs::Refs;
+
+/// What a frame is decoded over: a key frame over nothing but its size, an inter frame over the state.
+#[derive(Drop)]
+pub(crate) struct FrameContext<'a> {
+    pub dim: Dim,
+    /// The values that its header starts from.
+    pub saved: Saved,
+    /// None where its macroblocks begin with plain modes.
+    pub segments: Option<&'a Grid<Segment>>,
+    /// None for a key frame.
+    pub references: Option<&'a Refs>,
+    /// The last picture that was shown.
+    pub shown: Option<&'a Rc<Picture>>,
+}
+
+impl<'a> Model for FrameContext<'a> {
+    ghost use Rattle.std.specs.Prelude.{option_map};
+    ghost use Rattle.vp_decode.specs.State.{modes_from, HasConsistentSizes};
+    ghost use Rattle.vp_decode.specs.Step.{FrameContext};
+
+    ghost Value = { FrameContext };
+
+    ghost view = { λ b. record { width = b.dim.w; height = b.dim.h; saved = b.saved; modes = modes_from b.dim (option_map (λ s. s.now) b.segments); references = option_map (λ r. r.now) b.references; shown = option_map (λ p. p.now.value) b.shown } };
+
+    ghost invariant = { λ b. HasConsistentSizes (record { width = b.dim.w; height = b.dim.h; saved = b.saved; modes = modes_from b.dim (option_map (λ s. s.now) b.segments); references = option_map (λ r. r.now) b.references; shown = option_map (λ p. p.now.value) b.shown }) };
+}
+
+/// The state that stands; without one there is nothing to refer to.
+pub(crate) fn current_state(state: &Option<DecoderState>) -> Result<&DecoderState, PacketFault>
+    ensures { MatchResult result (λ k. current_state state.now ≡ Ok k.now) (λ f. current_state state.now ≡ Err f) }
+{
+    match state {
+        Some(kept) => Ok(kept),
+        None => Err(PacketFault::NoReference),
+    }
+}
+
+impl<'a> FrameContext<'a> {
+    /// That of a frame whose tag has this key part. A key frame takes nothing of the state.
+    pub(crate) fn of(
+        key: Option<KeyTag>,
+        state: &'a Option<DecoderState>,
+    ) -> Result<FrameContext<'a>, PacketFault>
+        ensures { result ≡ context_of key state.now }
+    {
+        match key {
+            Some(key) => Ok(FrameContext {
+                dim: key.dim,
+                saved: Saved::defaults(),
+                segments: None,
+                references: None,
+                shown: None,
+            }),
+            None => {
+                let kept = current_state(state)?;
+                Ok(kept.context())
+            }
+        }
+    }
+
+    /// The pictures that the frame refers to; None for a key frame.
+    pub(crate) fn references(&self) -> Option<&Refs>
+        ensures { option_map (λ r. r.now) result ≡ self.now.references }
+    {
+        self.references
+    }
+
+    /// The maps before the frame, in the memory of `buffers`.
+    pub(crate) fn maps_before(&self, buffers: MacroblockInfo) -> Result<MacroblockInfo, AllocError>
+        ensures { IfOk result (λ m. m ≡ maps_before self.now.modes) }
+    {
+        let modes = self.modes(buffers.modes)?;
+        let motion = buffers.motion.refill(self.dim)?;
+        Ok(MacroblockInfo { modes, motion })
+    }
+
+    /// The modes before the frame, in the memory of `buffers`.
+    fn modes(&self, buffers: ModeMap) -> Result<ModeMap, AllocError>
+        ensures { IfOk result (λ m. m ≡ self.now.modes) }
+    {
+        match self.segments {
+            Some(segments) => buffers.refill_of(segments),
+            None => buffers.refill(self.dim),
+        }
+    }
+}

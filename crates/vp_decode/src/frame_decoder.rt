@@ -1,0 +1,250 @@
+//! A frame's picture while its rows are rebuilt and filtered.
+
+ghost use Rattle.std.specs.Prelude.{◌≡◌, ℕ, ◌+◌, ◌*◌, ◌<◌, ◌≤◌, true, false, IfOk, [], length, map, slice_index_or};
+ghost use Rattle.vp_base.specs.Grid.{Grid, Has, all};
+ghost use Rattle.vp_base.specs.Image.{macroblocks};
+ghost use Rattle.vp_bool.specs.Bools.{State, initial_state};
+ghost use Rattle.vp_loop.specs.Filtered.{row_filtered, level_in};
+ghost use Rattle.vp_tokens.specs.Blocks.{Blocks, no_blocks_read};
+ghost use Rattle.vp_tokens.specs.Contexts.{AreContextsAt};
+ghost use Rattle.vp_recon.specs.Predictor.{predictor_of};
+ghost use Rattle.vp_decode.specs.MacroblockInfo.{modes_in, place};
+ghost use Rattle.vp_decode.specs.Frame.{predictor_at, frame_of, picture_of};
+ghost use Rattle.vp_decode.specs.FrameDecoder.{IsRebuilt, IsMacroblockStep, IsRow};
+ghost use Rattle.vp_decode.specs.RowBands.{IsShaped};
+
+use crate::frame_buffers::FrameBuffers;
+use crate::frame_info::FrameInfo;
+use crate::laws::unfiltered_picture_is_the_one_solution;
+use std::alloc::{AllocError, Global};
+use std::marker::Model;
+use std::mem;
+use vp_base::{Dim, Grid, Picture, Place};
+use vp_bool::BoolDecoder;
+use vp_loop::{Level, RowFilter};
+use vp_recon::{
+    Predictor, rebuilding_keeps_rows_above, rebuilding_keeps_shape, rebuilding_reads_one_row_above,
+    unfiltered_picture_solves_its_equation,
+};
+use vp_tokens::{Contexts, Partitions, Tokens};
+
+const NO_LEVEL: Level = Level {
+    edge: 0,
+    inner: 0,
+    interior: 0,
+    hev: 0,
+};
+
+/// A frame's picture while its rows are rebuilt and filtered, and what is kept from macroblock to macroblock.
+#[derive(Drop)]
+pub(crate) struct FrameDecoder<'a> {
+    info: &'a FrameInfo<'a>,
+    contexts: Contexts,
+    picture: Picture,
+    levels: Grid<Level>,
+    /// Those of the macroblock that was read last; a skipped one isn't read.
+    tokens: Tokens,
+}
+
+impl<'a> Model for FrameDecoder<'a> {
+    ghost use Rattle.vp_decode.specs.FrameDecoder.{FrameDecoder, IsOneFrame};
+
+    ghost Value = { FrameDecoder };
+
+    ghost view = { λ b. record { info = b.info.now; contexts = b.contexts; picture = b.picture; levels = b.levels } };
+
+    ghost invariant = { λ b. IsOneFrame (record { info = b.info.now; contexts = b.contexts; picture = b.picture; levels = b.levels }) };
+}
+
+impl<'a> FrameDecoder<'a> {
+    /// Before the first row, of a picture of this size, whatever stands in it, and in the memory of `buffers`.
+    pub(crate) fn new(
+        alloc: Global,
+        buffers: &mut FrameBuffers,
+        info: &'a FrameInfo<'a>,
+        dim: Dim,
+    ) -> Result<FrameDecoder<'a>, AllocError>
+        requires columns { info.now.maps.modes.columns ≡ macroblocks dim.w }
+        requires rows { info.now.maps.modes.rows ≡ macroblocks dim.h }
+        ensures info { IfOk result (λ b. b.info ≡ info.now) }
+        ensures contexts { IfOk result (λ b. AreContextsAt (all info.now.maps.modes.columns info.now.maps.modes.rows no_blocks_read) (place 0 0) b.contexts) }
+        ensures width { IfOk result (λ b. b.picture.width ≡ dim.w) }
+        ensures height { IfOk result (λ b. b.picture.height ≡ dim.h) }
+        ensures shaped { IfOk result (λ b. IsShaped b.picture.width b.picture.height b.picture) }
+    {
+        let columns = info.columns();
+        let picture = buffers.picture(alloc, dim)?;
+        let contexts = mem::replace(&mut buffers.contexts, Contexts::empty(alloc)).refill(columns)?;
+        let levels = mem::replace(&mut buffers.levels, Grid::empty(alloc)).refill(
+            columns,
+            info.rows(),
+            NO_LEVEL,
+        )?;
+        Ok(FrameDecoder {
+            info,
+            contexts,
+            picture,
+            levels,
+            tokens: Tokens::NONE,
+        })
+    }
+
+    /// Passes the skipped macroblock at a place, and rebuilds it.
+    fn update_contexts(&mut self, place: Place, source: &Predictor)
+        requires place { Has self.old.info.maps.modes place }
+        requires source { predictor_of source.now ≡ predictor_at self.old.info place }
+        requires skipped { (modes_in self.old.info.maps place).skip ≡ true }
+        ensures info { self.new.info ≡ self.old.info }
+        ensures levels { self.new.levels ≡ self.old.levels }
+        ensures width { self.new.picture.width ≡ self.old.picture.width }
+        ensures height { self.new.picture.height ≡ self.old.picture.height }
+        ensures made { (g : Grid Blocks) (d : State) → Has g place → AreContextsAt g place self.old.contexts → IsRebuilt self.old.info place g d d false self.old self.new }
+    {
+        let info = self.info;
+        info.update_contexts(place, source, &mut self.contexts);
+        info.rebuild_without_tokens(place, source, &mut self.picture);
+    }
+
+    /// Reads the tokens of the macroblock at a place, which isn't skipped, and rebuilds it. Says whether there are any.
+    fn read(&mut self, place: Place, source: &Predictor, d: &mut BoolDecoder) -> bool
+        requires place { Has self.old.info.maps.modes place }
+        requires source { predictor_of source.now ≡ predictor_at self.old.info place }
+        requires read { (modes_in self.old.info.maps place).skip ≡ false }
+        ensures info { self.new.info ≡ self.old.info }
+        ensures levels { self.new.levels ≡ self.old.levels }
+        ensures width { self.new.picture.width ≡ self.old.picture.width }
+        ensures height { self.new.picture.height ≡ self.old.picture.height }
+        ensures made { (g : Grid Blocks) → Has g place → AreContextsAt g place self.old.contexts → IsRebuilt self.old.info place g d.old d.new result self.old self.new }
+    {
+        let info = self.info;
+        let coded = info.read_tokens(place, source, &mut self.contexts, &mut self.tokens, d);
+        info.rebuild(place, source, &self.tokens, &mut self.picture);
+        coded
+    }
+
+    /// Passes the macroblock at a place or reads its tokens, and rebuilds it. Says whether it has any.
+    fn rebuild(&mut self, place: Place, source: &Predictor, d: &mut BoolDecoder) -> bool
+        requires place { Has self.old.info.maps.modes place }
+        requires source { predictor_of source.now ≡ predictor_at self.old.info place }
+        ensures info { self.new.info ≡ self.old.info }
+        ensures levels { self.new.levels ≡ self.old.levels }
+        ensures width { self.new.picture.width ≡ self.old.picture.width }
+        ensures height { self.new.picture.height ≡ self.old.picture.height }
+        ensures made { (g : Grid Blocks) → Has g place → AreContextsAt g place self.old.contexts → IsRebuilt self.old.info place g d.old d.new result self.old self.new }
+    {
+        if self.info.is_skipped(place) {
+            self.update_contexts(place, source);
+            false
+        } else {
+            self.read(place, source, d)
+        }
+    }
+
+    /// Passes or reads the macroblock at a place, rebuilds it, and finds its filter level.
+    fn macroblock(&mut self, place: Place, d: &mut BoolDecoder)
+        requires { Has self.old.info.maps.modes place }
+        ensures info { self.new.info ≡ self.old.info }
+        ensures width { self.new.picture.width ≡ self.old.picture.width }
+        ensures height { self.new.picture.height ≡ self.old.picture.height }
+        ensures columns { self.new.levels.columns ≡ self.old.levels.columns }
+        ensures step { (g : Grid Blocks) → Has g place → AreContextsAt g place self.old.contexts → IsMacroblockStep self.old.info place g d.old d.new self.old self.new }
+    {
+        let info = self.info;
+        let source = info.source(place);
+        let coded = self.rebuild(place, &source, d);
+        self.levels.set(place, info.level(place, &source, coded));
+    }
+
+    /// Reads the tokens of a row of macroblocks, and rebuilds it.
+    fn row(&mut self, row: usize, d: &mut BoolDecoder)
+        requires { row < self.old.info.maps.modes.rows }
+        ensures info { self.new.info ≡ self.old.info }
+        ensures width { self.new.picture.width ≡ self.old.picture.width }
+        ensures height { self.new.picture.height ≡ self.old.picture.height }
+        ensures columns { self.new.levels.columns ≡ self.old.levels.columns }
+        ensures row { (g : Grid Blocks) → g.columns ≡ self.old.info.maps.modes.columns → row < g.rows → AreContextsAt g (place row 0) self.old.contexts → IsRow self.old.info row self.old.info.maps.modes.columns g d.old d.new self.old self.new }
+    {
+        for column in 0..self.info.columns() {
+            self.macroblock(Place { column, row }, d);
+        }
+    }
+
+    /// Filters the row before a row, where there is one.
+    fn filter_before<F: RowFilter>(&mut self, row: usize, filter: &mut F)
+        requires { row ≤ self.old.info.maps.modes.rows }
+        ensures info { self.new.info ≡ self.old.info }
+        ensures contexts { self.new.contexts ≡ self.old.contexts }
+        ensures levels { self.new.levels ≡ self.old.levels }
+        ensures width { self.new.picture.width ≡ self.old.picture.width }
+        ensures height { self.new.picture.height ≡ self.old.picture.height }
+        ensures none { row ≡ 0 → self.new.picture ≡ self.old.picture }
+        ensures one { (k : ℕ) → row ≡ k + 1 → self.new.picture ≡ row_filtered (level_in self.old.levels.entries self.old.levels.columns) k self.old.picture }
+    {
+        if row > 0 {
+            filter.row(&mut self.picture, self.levels.as_slice(), row - 1);
+        }
+    }
+
+    /// Rebuilds all rows; each is filtered once the row below it is rebuilt.
+    fn rows<F: RowFilter>(&mut self, decoders: &mut [BoolDecoder], filter: &mut F)
+        requires some { 0 < length decoders.old }
+        requires contexts { AreContextsAt (all self.old.info.maps.modes.columns self.old.info.maps.modes.rows no_blocks_read) (place 0 0) self.old.contexts }
+        requires shaped { IsShaped self.old.picture.width self.old.picture.height self.old.picture }
+        ensures { self.new.picture ≡ picture_of (frame_of self.old.info decoders.old self.old.picture.width self.old.picture.height) }
+    {
+        rebuilding_keeps_shape();
+        rebuilding_keeps_rows_above();
+        rebuilding_reads_one_row_above();
+        unfiltered_picture_solves_its_equation();
+        unfiltered_picture_is_the_one_solution();
+        let rows = self.info.rows();
+        for row in 0..rows {
+            let at = row % decoders.len();
+            let decoder = &mut decoders[at];
+            self.row(row, decoder);
+            self.filter_before(row, filter);
+        }
+        self.filter_before(rows, filter);
+    }
+
+    /// The frame's picture, from its token partitions. The rest goes back into `buffers`.
+    pub(crate) fn picture<F: RowFilter>(
+        mut self,
+        parts: &Partitions,
+        filter: &mut F,
+        buffers: &mut FrameBuffers,
+    ) -> Picture
+        requires some { 0 < length parts.now }
+        requires few { length parts.now ≤ 8 }
+        requires contexts { AreContextsAt (all self.info.maps.modes.columns self.info.maps.modes.rows no_blocks_read) (place 0 0) self.contexts }
+        requires shaped { IsShaped self.picture.width self.picture.height self.picture }
+        ensures { result ≡ picture_of (frame_of self.entry.info (map initial_state parts.now) self.entry.picture.width self.entry.picture.height) }
+    {
+        let mut decoders = [
+            BoolDecoder::new(part_or_none(parts, 0)),
+            BoolDecoder::new(part_or_none(parts, 1)),
+            BoolDecoder::new(part_or_none(parts, 2)),
+            BoolDecoder::new(part_or_none(parts, 3)),
+            BoolDecoder::new(part_or_none(parts, 4)),
+            BoolDecoder::new(part_or_none(parts, 5)),
+            BoolDecoder::new(part_or_none(parts, 6)),
+            BoolDecoder::new(part_or_none(parts, 7)),
+        ];
+        let count = parts.count();
+        self.rows(&mut decoders[..count], filter);
+        buffers.contexts = self.contexts;
+        buffers.levels = self.levels;
+        self.picture
+    }
+}
+
+/// A token partition, empty where there is none.
+fn part_or_none<'a>(parts: &Partitions<'a>, i: usize) -> &'a [u8]
+    ensures { result.now ≡ slice_index_or parts.now i [] }
+{
+    if i < parts.count() {
+        parts.part(i)
+    } else {
+        &[]
+    }
+}

@@ -1,0 +1,64 @@
+-- What a frame is told to be, and what it can be told to be (RFC 6386, chapters 5, 9, 13, 16 and 19).
+use Rattle.std.specs.Prelude.{◌≡◌, Bool, true, false, not, replicate, if◌then◌else◌}
+use Rattle.vp_base.specs.declared.place.Place.{Place}
+use Rattle.vp_base.specs.Grid.{Grid, Has, at, mapped}
+use Rattle.vp_tables.specs.declared.modes.VectorMode.TheVariants as vector_is
+use Rattle.vp_tables.specs.Modes.{is_by_subblocks, is_split}
+use Rattle.vp_head.specs.declared.fields.Saved.{Saved}
+use Rattle.vp_head.specs.Reference.{is_intra}
+use Rattle.vp_head.specs.Spelled as head
+use Rattle.vp_modes.specs.Entry.{Modes, plain}
+use Rattle.vp_modes.specs.Spelled as modes
+use Rattle.vp_motion.specs.Vector.{MacroblockMotion, still}
+use Rattle.vp_motion.specs.Map.{intra}
+use Rattle.vp_motion.specs.Near.{candidates}
+use Rattle.vp_motion.specs.Spelled as motion
+use Rattle.vp_tokens.specs.Blocks.{no_blocks}
+use Rattle.vp_tokens.specs.Spelled.{AreSpelled}
+use Rattle.vp_choose.specs.declared.frame.Choice.{Choice}
+use Rattle.vp_encode.specs.declared.coded_frame.CodedFrame.{CodedFrame}
+
+-- what counts as standing outside the frame
+unfoldable pub nothing : Choice
+nothing = record {
+  modes = plain;
+  motion = record { mode = vector_is.Zero; vectors = replicate 16 still };
+  tokens = record { blocks = no_blocks };
+}
+
+abbrev pub coded_choice : CodedFrame → Place → Choice
+coded_choice c p = at nothing c.macroblocks p
+
+-- what is kept of a macroblock's motion
+abbrev pub saved_motion : Choice → MacroblockMotion
+saved_motion m =
+    if is_intra m.modes.reference then intra
+    else record { reference = m.modes.reference; mode = m.motion.mode; vectors = m.motion.vectors }
+
+-- the motion of the frame
+abbrev pub motion_of : CodedFrame → Grid MacroblockMotion
+motion_of c = mapped saved_motion c.macroblocks
+
+-- whether a macroblock has a Y2 block (chapter 13)
+abbrev pub choice_has_y2 : Choice → Bool
+choice_has_y2 m = if is_intra m.modes.reference then not (is_by_subblocks m.modes.luma) else not (is_split m.motion.mode)
+
+-- Each part is one that its own writer can spell. Modes are told over those that stood before the frame.
+abbrev pub AreModesSpelled : CodedFrame → Grid Modes → Type 0
+AreModesSpelled c before = (p : Place) → Has c.macroblocks p → modes.AreWritableModes c.header before p (coded_choice c p).modes
+
+-- Vectors are told over those of the macroblocks above and to the left.
+abbrev pub IsMotionSpelled : CodedFrame → Type 0
+IsMotionSpelled c = (p : Place) → Has c.macroblocks p → is_intra (coded_choice c p).modes.reference ≡ false
+    → motion.CanBeWritten (candidates (motion_of c) p (coded_choice c p).modes.reference c.header.biases) (coded_choice c p).motion
+
+pub record AreTokensSpelled (c : CodedFrame) : Type 0 where
+  pub blocks : (p : Place) → Has c.macroblocks p → AreSpelled (choice_has_y2 (coded_choice c p)) (coded_choice c p).tokens.blocks
+  pub skipped : (p : Place) → Has c.macroblocks p → (coded_choice c p).modes.skip ≡ true → (coded_choice c p).tokens.blocks ≡ no_blocks
+
+-- A frame that can be told: a key frame or another one, over the values that are kept and the modes before it.
+pub record CanBeTold (key : Bool) (kept : Saved) (before : Grid Modes) (c : CodedFrame) : Type 0 where
+  pub header : head.IsWritableHeader key kept c.header
+  pub modes : AreModesSpelled c before
+  pub motion : IsMotionSpelled c
+  pub tokens : AreTokensSpelled c

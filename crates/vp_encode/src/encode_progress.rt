@@ -1,0 +1,94 @@
+//! EncoderState picture by picture.
+
+ghost use Rattle.std.specs.Prelude.{◌≡◌, length};
+ghost use Rattle.vp_encode.specs.EncodeProgress.{start, TakesPicture};
+
+use crate::encoder::Encoder;
+use crate::fault::EncodeFault;
+use crate::report::{EncodeAllFault, EncodeReport};
+use std::alloc::Global;
+use std::marker::Model;
+use vp_base::{ByteList, Limits, Picture};
+
+/// An encoder, the packets that it made of the pictures of a file, and the sum of their squared errors.
+#[derive(Drop)]
+pub(crate) struct EncodeProgress {
+    limits: Limits,
+    encoder: Encoder,
+    packets: Vec<ByteList>,
+    error: u128,
+}
+
+impl Model for EncodeProgress {
+    ghost use Rattle.std.specs.Prelude.{◌≤◌, ◌*◌, ◌^◌, length};
+    ghost use Rattle.vp_encode.specs.EncodeProgress.{EncodeProgress};
+
+    ghost Value = { EncodeProgress };
+
+    ghost view = { λ a. record { limits = a.limits; encoder = a.encoder; packets = a.packets.items; error = a.error } };
+
+    ghost invariant = { λ a. (length a.packets.items ≤ a.limits.packets) × (a.error ≤ length a.packets.items * 2 ^ 64) };
+}
+
+impl EncodeProgress {
+    /// Before the first picture.
+    pub(crate) fn new(alloc: Global, encoder: Encoder, limits: Limits) -> EncodeProgress
+        ensures { result ≡ start limits encoder }
+    {
+        EncodeProgress {
+            limits,
+            encoder,
+            packets: Vec::new(alloc),
+            error: 0,
+        }
+    }
+
+    /// Encodes the next picture, which has the encoder's size.
+    pub(crate) fn picture(&mut self, picture: &Picture) -> Result<(), EncodeAllFault>
+        requires width { picture.now.width ≡ self.old.encoder.dim.w }
+        requires height { picture.now.height ≡ self.old.encoder.dim.h }
+        ensures { TakesPicture self.old picture.now result self.new }
+    {
+        if self.packets.len() >= self.limits.packets as usize {
+            return Err(EncodeAllFault::TooMany);
+        }
+        let encoded = match self.encoder.encode(picture) {
+            Ok(encoded) => encoded,
+            Err(EncodeFault::SourceSize) => unreachable!(),
+            Err(EncodeFault::TooLong) => return Err(EncodeAllFault::TooLong),
+            Err(EncodeFault::Memory) => return Err(EncodeAllFault::Memory),
+        };
+        if encoded.packet.len() > self.limits.packet_bytes as usize {
+            return Err(EncodeAllFault::PacketTooLarge);
+        }
+        if self.packets.push(encoded.packet).is_err() {
+            return Err(EncodeAllFault::Memory);
+        }
+        self.error += u128::from(encoded.squared_error);
+        Ok(())
+    }
+
+    /// The packets, in order.
+    pub(crate) fn packets(&self) -> &[ByteList]
+        ensures { result.now ≡ self.now.packets }
+    {
+        self.packets.as_slice()
+    }
+
+    /// How many pictures there were.
+    pub(crate) fn frames(&self) -> u32
+        ensures { result ≡ length self.now.packets }
+    {
+        self.packets.len() as u32
+    }
+
+    /// The report of all pictures.
+    pub(crate) fn report(&self) -> EncodeReport
+        ensures { result ≡ record { frames = length self.now.packets; error = self.now.error } }
+    {
+        EncodeReport {
+            frames: self.frames(),
+            error: self.error,
+        }
+    }
+}

@@ -1,0 +1,117 @@
+//! The macroblocks of a frame, chosen one after another.
+
+ghost use Rattle.std.specs.Prelude.{◌≡◌, ◌+◌, ◌<◌, ◌≤◌, IfOk, IfSome};
+ghost use Rattle.vp_base.specs.Grid.{Has};
+ghost use Rattle.vp_choose.specs.Frame.{lent_frame};
+ghost use Rattle.vp_choose.specs.Levels.{ArePositive};
+ghost use Rattle.vp_decode.specs.MacroblockInfo.{place};
+ghost use Rattle.vp_encode.specs.CodedFrame.{nothing};
+ghost use Rattle.vp_encode.specs.FrameChoices.{AreChosen, AreChosenBefore};
+
+use std::alloc::{AllocError, Global};
+use vp_base::{Grid, Picture, Place};
+use vp_choose::{Choice, FrameSearch, choose_macroblock};
+use vp_head::Reference;
+use vp_modes::Modes;
+use vp_motion::{Motion, Vector, VectorMap};
+use vp_tables::{ChromaMode, LumaMode, SubMode, VectorMode};
+use vp_tokens::{Block, Tokens};
+
+/// What stands for a macroblock that isn't chosen yet.
+#[tactic(auto, unfolding(crate::specs::CodedFrame::nothing, vp_modes::specs::Entry::plain))]
+fn nothing() -> Choice
+    ensures { result ≡ nothing }
+{
+    Choice {
+        modes: Modes {
+            segment: 0,
+            skip: false,
+            reference: Reference::Intra,
+            luma: LumaMode::Dc,
+            subs: [SubMode::Dc; 16],
+            chroma: ChromaMode::Dc,
+        },
+        motion: Motion {
+            mode: VectorMode::Zero,
+            vectors: [Vector { row: 0, column: 0 }; 16],
+        },
+        tokens: Tokens {
+            blocks: [Block::NONE; 25],
+        },
+    }
+}
+
+/// A frame while its macroblocks are chosen, in raster order.
+#[derive(Drop)]
+struct FrameChoices {
+    /// Those before are rebuilt, and not filtered.
+    picture: Picture,
+    motion: VectorMap,
+    chosen: Grid<Choice>,
+}
+
+impl FrameChoices {
+    fn new(alloc: Global, frame: &FrameSearch) -> Result<FrameChoices, AllocError>
+        ensures { IfOk result (AreChosenBefore (lent_frame frame.now) (place 0 0)) }
+    {
+        let dim = frame.source.dim();
+        let picture = Picture::new(alloc, dim, 0)?;
+        let motion = VectorMap::new(alloc, dim)?;
+        let columns = usize::from(dim.mb_cols());
+        let rows = usize::from(dim.mb_rows());
+        let chosen = Grid::new(alloc, columns, rows, nothing())?;
+        Ok(FrameChoices {
+            picture,
+            motion,
+            chosen,
+        })
+    }
+
+    /// Chooses the macroblock at a place, and rebuilds it.
+    fn macroblock(&mut self, frame: &FrameSearch, place: Place)
+        requires place { Has self.old.chosen place }
+        requires factors { ArePositive (lent_frame frame.now).factors }
+        requires range { IfSome (lent_frame frame.now).search (λ s. s.range ≤ 64) }
+        requires before { AreChosenBefore (lent_frame frame.now) place self.old }
+        ensures { AreChosenBefore (lent_frame frame.now) (record { column = place.column + 1; row = place.row }) self.new }
+    {
+        let choice = choose_macroblock(frame, &mut self.picture, &self.motion, place);
+        self.chosen.set(place, choice);
+        let reference = choice.modes.reference;
+        if reference.is_intra() {
+            return;
+        }
+        let motion = &choice.motion;
+        self.motion
+            .set(place, reference, motion.mode, &motion.vectors);
+    }
+
+    /// Chooses a row of macroblocks.
+    fn row(&mut self, frame: &FrameSearch, row: usize)
+        requires row { row < self.old.chosen.rows }
+        requires factors { ArePositive (lent_frame frame.now).factors }
+        requires range { IfSome (lent_frame frame.now).search (λ s. s.range ≤ 64) }
+        requires before { AreChosenBefore (lent_frame frame.now) (place row 0) self.old }
+        ensures { AreChosenBefore (lent_frame frame.now) (place (row + 1) 0) self.new }
+    {
+        for column in 0..self.chosen.columns() {
+            self.macroblock(frame, Place { column, row });
+        }
+    }
+}
+
+/// Chooses the macroblocks of a frame, each over the picture and the motion that those before it make.
+pub(crate) fn choose_macroblocks(
+    alloc: Global,
+    frame: &FrameSearch,
+) -> Result<Grid<Choice>, AllocError>
+    requires factors { ArePositive (lent_frame frame.now).factors }
+    requires range { IfSome (lent_frame frame.now).search (λ s. s.range ≤ 64) }
+    ensures { IfOk result (AreChosen (lent_frame frame.now)) }
+{
+    let mut choosing = FrameChoices::new(alloc, frame)?;
+    for row in 0..choosing.chosen.rows() {
+        choosing.row(frame, row);
+    }
+    Ok(choosing.chosen)
+}

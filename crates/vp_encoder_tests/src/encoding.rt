@@ -1,0 +1,471 @@
+//! Frames by themselves: packets written of what is chosen, and pictures encoded.
+
+ghost use Rattle.std.specs.Prelude.{◌≡◌, ◌≤◌, true, false, IsSome, IfOk};
+ghost use Rattle.vp_base.specs.declared.place.Place.{Place};
+ghost use Rattle.vp_base.specs.Grid.{Grid, at, all};
+ghost use Rattle.vp_head.specs.declared.fields.Header.{Header};
+ghost use Rattle.vp_head.specs.Reference.{is_intra};
+ghost use Rattle.vp_head.specs.Saved.{defaults};
+ghost use Rattle.vp_head.specs.Spelled.{IsWritableHeader};
+ghost use Rattle.vp_tables.specs.Modes.{is_by_subblocks};
+ghost use Rattle.vp_tables.specs.declared.modes.LumaMode.TheVariants.{Dc};
+ghost use Rattle.vp_head.specs.declared.fields.Reference.TheVariants.{Intra};
+ghost use Rattle.vp_modes.specs.Entry.{Modes, plain};
+ghost use Rattle.vp_modes.specs.Map.{of_segments};
+ghost use Rattle.vp_motion.specs.Vector.{Candidates};
+ghost use Rattle.vp_motion.specs.Spelled.{CanBeWritten};
+ghost use Rattle.vp_modes.specs.Spelled.{AreWritableModes as modes_spelled};
+ghost use Rattle.vp_tokens.specs.Blocks.{no_blocks};
+ghost use Rattle.vp_encode.specs.CodedFrame.{choice_has_y2, CanBeTold};
+
+use crate::check::equal;
+use crate::worked_rows::{encoded_flat, settings};
+use std::alloc::{AllocError, Global};
+use std::test::Fail;
+use vp_base::{ByteList, Dim, Grid, Limits, Picture, Place};
+use vp_bool::BoolDecoder;
+use vp_choose::Choice;
+use vp_decode::{Decoder, Outcome};
+use vp_encode::{
+    CodedFrame, EncodeFault, Encoder, PacketError, Settings, SettingsFault, write_inter_packet,
+    write_key_packet,
+};
+use vp_head::{
+    Filter, Header, QuantiserIndices, Reference, ReferenceCopy, ReferenceProbabilities,
+    ReferenceUpdates, Saved, Segmentation, Tag,
+};
+use vp_modes::{ModeMap, Modes, Segment, read_modes};
+use vp_motion::{Motion, Vector};
+use vp_tables::{ChromaMode, LumaMode, SubMode, VectorMode};
+use vp_tokens::{Block, Tokens};
+
+/// A header over the defaults with quantiser index 0, without a loop filter.
+fn header(key: bool, log2_partitions: u8) -> Header
+    requires { log2_partitions ≤ 3 }
+    ensures spelled { IsWritableHeader key defaults result }
+    ensures skip { IsSome result.skip }
+{
+    let saved = Saved::defaults();
+    let even = if key { 0 } else { 128 };
+    Header {
+        key,
+        color_space: false,
+        clamping_type: false,
+        segmentation: Segmentation {
+            enabled: false,
+            update_map: false,
+            values: saved.segments,
+            tree_probabilities: [255; 3],
+        },
+        filter: Filter {
+            simple: false,
+            level: 0,
+            sharpness: 0,
+        },
+        deltas_enabled: false,
+        deltas: saved.deltas,
+        log2_partitions,
+        quantiser: QuantiserIndices {
+            y_ac: 0,
+            y_dc: 0,
+            y2_dc: 0,
+            y2_ac: 0,
+            uv_dc: 0,
+            uv_ac: 0,
+        },
+        updates: ReferenceUpdates {
+            refresh_golden: key,
+            refresh_alt: key,
+            copy_to_golden: ReferenceCopy::Nothing,
+            copy_to_alt: ReferenceCopy::Nothing,
+            refresh_last: true,
+        },
+        biases: saved.biases,
+        refresh_entropy: true,
+        probabilities: saved.probabilities,
+        skip: Some(128),
+        references: ReferenceProbabilities {
+            intra: even,
+            last: even,
+            golden: even,
+        },
+    }
+}
+
+/// Without levels and motion, and skipped.
+fn macroblock(reference: Reference, luma: LumaMode) -> Choice
+    requires { is_by_subblocks luma ≡ false }
+    ensures intra { reference ≡ Intra → (h : Header) (g : Grid Modes) (p : Place) → h.key ≡ true → IsSome h.skip → modes_spelled h g p result.modes }
+    ensures inter { is_intra reference ≡ false → luma ≡ Dc → (h : Header) (g : Grid Modes) (p : Place) → h.key ≡ false → IsSome h.skip → (at plain g p).segment ≡ 0
+        → modes_spelled h g p result.modes }
+    ensures reference { result.modes.reference ≡ reference }
+    ensures still { (c : Candidates) → CanBeWritten c result.motion }
+    ensures y2 { choice_has_y2 result ≡ true }
+    ensures none { result.tokens.blocks ≡ no_blocks }
+{
+    Choice {
+        modes: Modes {
+            segment: 0,
+            skip: true,
+            reference,
+            luma,
+            subs: [SubMode::Dc; 16],
+            chroma: ChromaMode::Dc,
+        },
+        motion: Motion {
+            mode: VectorMode::Zero,
+            vectors: [Vector { row: 0, column: 0 }; 16],
+        },
+        tokens: Tokens {
+            blocks: [Block::NONE; 25],
+        },
+    }
+}
+
+/// A key frame of one column of so many skipped macroblocks of one luma mode.
+fn column_of(
+    alloc: Global,
+    log2_partitions: u8,
+    rows: usize,
+    luma: LumaMode,
+) -> Result<CodedFrame, AllocError>
+    requires partitions { log2_partitions ≤ 3 }
+    requires rows { rows ≤ 1024 }
+    requires luma { is_by_subblocks luma ≡ false }
+    ensures columns { IfOk result (λ c. c.macroblocks.columns ≡ 1) }
+    ensures rows { IfOk result (λ c. c.macroblocks.rows ≡ rows) }
+    ensures told { IfOk result (λ c. (before : Grid Modes) → CanBeTold true defaults before c) }
+{
+    let macroblocks = Grid::new(alloc, 1, rows, macroblock(Reference::Intra, luma))?;
+    Ok(CodedFrame {
+        header: header(true, log2_partitions),
+        macroblocks,
+    })
+}
+
+/// An inter frame of one macroblock that stays as it is in the last picture.
+fn still_frame(alloc: Global) -> Result<CodedFrame, AllocError>
+    ensures columns { IfOk result (λ c. c.macroblocks.columns ≡ 1) }
+    ensures rows { IfOk result (λ c. c.macroblocks.rows ≡ 1) }
+    ensures told { IfOk result (λ c. CanBeTold false defaults (of_segments (all 1 1 0)) c) }
+{
+    let macroblocks = Grid::new(alloc, 1, 1, macroblock(Reference::Last, LumaMode::Dc))?;
+    Ok(CodedFrame {
+        header: header(false, 0),
+        macroblocks,
+    })
+}
+
+/// A skipped macroblock whose subblocks are predicted left and down, and vertical right, as the fields of a chessboard are
+/// white and black: side by side, no others take more bools to be told.
+fn chessboard() -> Choice
+    ensures spelled { (h : Header) (g : Grid Modes) (p : Place) → h.key ≡ true → IsSome h.skip → modes_spelled h g p result.modes }
+    ensures reference { result.modes.reference ≡ Intra }
+    ensures none { result.tokens.blocks ≡ no_blocks }
+{
+    let [a, b] = [SubMode::Ld, SubMode::Vr];
+    Choice {
+        modes: Modes {
+            segment: 0,
+            skip: true,
+            reference: Reference::Intra,
+            luma: LumaMode::B,
+            subs: [a, b, a, b, b, a, b, a, a, b, a, b, b, a, b, a],
+            chroma: ChromaMode::Dc,
+        },
+        motion: Motion {
+            mode: VectorMode::Zero,
+            vectors: [Vector { row: 0, column: 0 }; 16],
+        },
+        tokens: Tokens {
+            blocks: [Block::NONE; 25],
+        },
+    }
+}
+
+/// The key packet of a frame of this size that has no other macroblocks.
+fn chessboard_packet(alloc: Global, dim: Dim) -> Result<ByteList, PacketError> {
+    let columns = usize::from(dim.mb_cols());
+    let rows = usize::from(dim.mb_rows());
+    let macroblocks = Grid::new(alloc, columns, rows, chessboard())?;
+    let coded = CodedFrame {
+        header: header(true, 0),
+        macroblocks,
+    };
+    write_key_packet(alloc, dim, &coded)
+}
+
+/// The luma of the first column, one pixel of each row of macroblocks, as the decoder shows it behind this packet.
+fn first_column(
+    alloc: Global,
+    decoder: &mut Decoder,
+    packet: &ByteList,
+) -> Result<Vec<u8>, AllocError> {
+    let mut found = Vec::new(alloc);
+    if decoder.decode(packet.as_slice())? == Outcome::Shown {
+        if let Some(picture) = decoder.picture() {
+            for row in 0..usize::from(picture.dim().mb_rows()) {
+                found.push(picture.plane(0).get(0, 16 * row))?;
+            }
+        }
+    }
+    Ok(found)
+}
+
+/// Whether a new decoder shows these packets one behind the other, each with this luma in the first column.
+fn show_column(alloc: Global, packets: &[&ByteList], wanted: &[u8]) -> Result<bool, AllocError> {
+    let mut decoder = Decoder::new(alloc, Limits::usual());
+    for packet in packets {
+        if first_column(alloc, &mut decoder, packet)?.as_slice() != wanted {
+            return Ok(false);
+        }
+    }
+    Ok(true)
+}
+
+/// The key packet of one macroblock of this mode.
+fn one_macroblock(alloc: Global, luma: LumaMode) -> Result<ByteList, Fail>
+    requires { is_by_subblocks luma ≡ false }
+{
+    let coded = column_of(alloc, 0, 1, luma)?;
+    let dim = Dim::new(16, 16, &Limits::usual())?;
+    Ok(write_key_packet(alloc, dim, &coded)?)
+}
+
+#[test]
+fn flat_macroblock(rt: HostRuntime) -> Result<(), Fail> {
+    let packet = one_macroblock(rt.alloc(), LumaMode::Dc)?;
+    assert!(rt; show_column(rt.alloc(), &[&packet], &[128])?);
+    Ok(())
+}
+
+/// The key packet of nine macroblocks, one below the other, in eight partitions.
+fn nine_macroblocks(alloc: Global) -> Result<ByteList, Fail> {
+    let coded = column_of(alloc, 3, 9, LumaMode::Dc)?;
+    let dim = Dim::new(16, 144, &Limits::usual())?;
+    Ok(write_key_packet(alloc, dim, &coded)?)
+}
+
+#[test]
+fn eight_partitions(rt: HostRuntime) -> Result<(), Fail> {
+    let packet = nine_macroblocks(rt.alloc())?;
+    assert!(rt; show_column(rt.alloc(), &[&packet], &[128; 9])?);
+    Ok(())
+}
+
+/// The packet of the still frame.
+fn still_packet(alloc: Global) -> Result<ByteList, Fail> {
+    let dim = Dim::new(16, 16, &Limits::usual())?;
+    let still = still_frame(alloc)?;
+    let segments = Grid::new(alloc, 1, 1, Segment { number: 0 })?;
+    Ok(write_inter_packet(alloc, dim, &Saved::defaults(), &segments, &still)?)
+}
+
+/// Above a frame stands 127, which a still inter frame keeps; an intra one would have 128.
+#[test]
+fn still_frame_keeps_last(rt: HostRuntime) -> Result<(), Fail> {
+    let key = one_macroblock(rt.alloc(), LumaMode::V)?;
+    let still = still_packet(rt.alloc())?;
+    assert!(rt; show_column(rt.alloc(), &[&key, &still], &[127])?);
+    Ok(())
+}
+
+/// The first partition of one row of macroblocks less has 522,772 bytes, and this one 526,705, by a script apart from this
+/// program; its size has 19 bits.
+#[test]
+fn first_partition_too_long(rt: HostRuntime) -> Result<(), Fail> {
+    let fits = Dim::new(2400, 2128, &Limits::usual())?;
+    assert!(rt; chessboard_packet(rt.alloc(), fits).is_ok());
+    let taller = Dim::new(2400, 2144, &Limits::usual())?;
+    let refused = chessboard_packet(rt.alloc(), taller).err();
+    equal(&rt, &refused, &Some(PacketError::TooLong));
+    Ok(())
+}
+
+/// The lowest bit of an inter packet is 1.
+fn is_inter(packet: &ByteList) -> bool {
+    packet.as_slice().first().is_some_and(|byte| byte % 2 == 1)
+}
+
+/// The pixels that the decoder shows for a packet.
+fn shown(alloc: Global, decoder: &mut Decoder, packet: &ByteList) -> Result<Vec<u8>, AllocError> {
+    if decoder.decode(packet.as_slice())? == Outcome::Shown {
+        if let Some(picture) = decoder.picture() {
+            return picture.crop_i420(alloc);
+        }
+    }
+    Ok(Vec::new(alloc))
+}
+
+/// Whether each pixel of a picture of 16 by 16 pixels has this value.
+fn is_all(alloc: Global, picture: &Picture, value: u8) -> Result<bool, AllocError> {
+    Ok(picture.crop_i420(alloc)?.as_slice() == [value; 384].as_slice())
+}
+
+/// The modes of the first macroblock of a key packet.
+fn first_modes(alloc: Global, dim: Dim, packet: &ByteList) -> Option<Modes> {
+    let bytes = packet.as_slice();
+    let tag = Tag::read(bytes, &Limits::usual()).ok()?;
+    let map = ModeMap::new(alloc, dim).ok()?;
+    let mut d = BoolDecoder::new(bytes.get(10..)?);
+    let (header, _) = Header::read(&Saved::defaults(), &tag, &mut d);
+    if map.columns() == 0 || map.rows() == 0 {
+        return None;
+    }
+    Some(read_modes(&header, &map, Place { column: 0, row: 0 }, &mut d))
+}
+
+/// Whether a macroblock is skipped, with DC modes.
+fn is_flat(modes: &Modes) -> bool {
+    modes.skip && modes.luma == LumaMode::Dc && modes.chroma == ChromaMode::Dc
+}
+
+/// Whether a packet shows a picture of 16 by 16 pixels that is 128 everywhere.
+fn shows_flat(alloc: Global, packet: &ByteList) -> Result<bool, AllocError> {
+    let mut decoder = Decoder::new(alloc, Limits::usual());
+    let pixels = shown(alloc, &mut decoder, packet)?;
+    Ok(pixels.as_slice() == [128; 384].as_slice())
+}
+
+/// Whether an inter packet does so behind the first one.
+fn shows_flat_behind(
+    alloc: Global,
+    first: &ByteList,
+    second: &ByteList,
+) -> Result<bool, AllocError> {
+    let mut decoder = Decoder::new(alloc, Limits::usual());
+    shown(alloc, &mut decoder, first)?;
+    let pixels = shown(alloc, &mut decoder, second)?;
+    Ok(is_inter(second) && pixels.as_slice() == [128; 384].as_slice())
+}
+
+/// The next packet, where nothing is lost.
+fn next_packet(encoder: &mut Encoder, source: &Picture) -> Option<ByteList> {
+    match encoder.encode(source) {
+        Ok(encoded) if encoded.squared_error == 0 => Some(encoded.packet),
+        _ => None,
+    }
+}
+
+/// The next two packets, where nothing is lost.
+fn two_packets(encoder: &mut Encoder, source: &Picture) -> Option<(ByteList, ByteList)> {
+    let key = next_packet(encoder, source)?;
+    let inter = next_packet(encoder, source)?;
+    Some((key, inter))
+}
+
+/// The first two packets of a picture of 16 by 16 pixels that is 128 everywhere.
+fn flat_packets(alloc: Global, dim: Dim) -> Option<(ByteList, ByteList)> {
+    let source = Picture::new(alloc, dim, 128).ok()?;
+    let mut encoder = Encoder::new(alloc, dim, settings(0, 1)).ok()?;
+    two_packets(&mut encoder, &source)
+}
+
+/// Whether the first macroblock of a key packet is skipped, with DC modes.
+fn begins_flat(alloc: Global, dim: Dim, packet: &ByteList) -> bool {
+    match first_modes(alloc, dim, packet) {
+        Some(modes) => is_flat(&modes),
+        None => false,
+    }
+}
+
+#[test]
+fn encode_flat_key(rt: HostRuntime) -> Result<(), Fail> {
+    let dim = Dim::new(16, 16, &Limits::usual())?;
+    let (key, _) = flat_packets(rt.alloc(), dim).ok_or("two packets")?;
+    assert!(rt; begins_flat(rt.alloc(), dim, &key));
+    assert!(rt; shows_flat(rt.alloc(), &key)?);
+    Ok(())
+}
+
+#[test]
+fn encode_flat_inter(rt: HostRuntime) -> Result<(), Fail> {
+    let dim = Dim::new(16, 16, &Limits::usual())?;
+    let (key, inter) = flat_packets(rt.alloc(), dim).ok_or("two packets")?;
+    assert!(rt; shows_flat_behind(rt.alloc(), &key, &inter)?);
+    Ok(())
+}
+
+#[test]
+fn encode_succeeds(rt: HostRuntime) -> Result<(), Fail> {
+    let encoded = encoded_flat(rt.alloc(), 200, settings(0, 1))?;
+    equal(&rt, &encoded.squared_error, &0);
+    assert!(rt; is_all(rt.alloc(), &encoded.recon, 200)?);
+    Ok(())
+}
+
+#[test]
+fn settings_and_events_refused(rt: HostRuntime) -> Result<(), Fail> {
+    let dim = Dim::new(16, 16, &Limits::usual())?;
+    let refused = Encoder::new(rt.alloc(), dim, settings(128, 1)).err();
+    equal(&rt, &refused, &Some(SettingsFault::Settings));
+    let taller = Dim::new(16, 32, &Limits::usual())?;
+    let source = Picture::new(rt.alloc(), taller, 128)?;
+    let mut encoder = Encoder::new(rt.alloc(), dim, settings(0, 1))?;
+    let refused = encoder.encode(&source).err();
+    equal(&rt, &refused, &Some(EncodeFault::SourceSize));
+    Ok(())
+}
+
+/// What kind of packet it is.
+#[derive(Clone, Copy, Debug, PartialEq, Eq)]
+enum Kind {
+    Key,
+    /// An inter packet that refreshes golden.
+    Golden,
+    /// One that doesn't.
+    Plain,
+    Other,
+}
+
+fn kind_of(packet: &[u8]) -> Kind {
+    let Ok(tag) = Tag::read(packet, &Limits::usual()) else {
+        return Kind::Other;
+    };
+    if tag.key.is_some() {
+        return Kind::Key;
+    }
+    let Some(first) = packet.get(3..) else {
+        return Kind::Other;
+    };
+    let (header, _) = Header::read(&Saved::defaults(), &tag, &mut BoolDecoder::new(first));
+    if header.updates.refresh_golden {
+        Kind::Golden
+    } else {
+        Kind::Plain
+    }
+}
+
+/// The kinds of the packets of a flat picture that is encoded four times, each without an error.
+fn four_kinds(alloc: Global, settings: Settings) -> Result<[Kind; 4], Fail> {
+    let dim = Dim::new(16, 16, &Limits::usual())?;
+    let source = Picture::new(alloc, dim, 128)?;
+    let mut encoder = Encoder::new(alloc, dim, settings)?;
+    let mut kinds = [Kind::Other; 4];
+    for i in 0..4 {
+        if let Some(packet) = next_packet(&mut encoder, &source) {
+            kinds[i] = kind_of(packet.as_slice());
+        }
+    }
+    Ok(kinds)
+}
+
+#[test]
+fn golden_and_key_distances(rt: HostRuntime) -> Result<(), Fail> {
+    let mut wanted = settings(0, 1);
+    wanted.golden_every = 2;
+    let kinds = four_kinds(rt.alloc(), wanted)?;
+    equal(
+        &rt,
+        &kinds,
+        &[Kind::Key, Kind::Plain, Kind::Golden, Kind::Plain],
+    );
+    wanted.key_every = 3;
+    let kinds = four_kinds(rt.alloc(), wanted)?;
+    equal(
+        &rt,
+        &kinds,
+        &[Kind::Key, Kind::Plain, Kind::Golden, Kind::Key],
+    );
+    Ok(())
+}

@@ -1,0 +1,86 @@
+//! The bytes of one connection.
+
+ghost use Rattle.std.specs.Prelude.{◌≡◌, ◌≤◌, ◌++◌, ◌∷◌, [], ℕ, List, OnOk, OnErr, false};
+ghost use Rattle.vp_stream.specs.Seeking.{saturating_count};
+ghost use Rattle.vp_hub.specs.Hub.{AreKept, TakesByte, Serves, ends_head};
+ghost use Rattle.vp_hub.specs.Work.{CostsByte, Costs, CostsAtMost, CostsByteAtMost};
+
+use crate::connection::ConnectionState;
+use crate::pages::put_reply;
+use crate::picture_cache::PictureCache;
+use crate::streams::Streams;
+use std::alloc::{AllocError, Global};
+use vp_heads::{Buffer, put_too_long};
+
+/// Whether the bytes end as a head does.
+#[tactic(auto, unfolding(crate::specs::Hub::ends_head))]
+fn is_head(bytes: &[u8]) -> bool
+    ensures { result ≡ ends_head bytes.now }
+{
+    bytes.ends_with(b"\r\n\r\n")
+}
+
+/// Takes one byte.
+fn take(
+    alloc: Global,
+    shelf: &Streams,
+    pictures: &mut PictureCache,
+    byte: u8,
+    state_of_connection: &mut ConnectionState,
+    out: &mut Buffer,
+) -> Result<(), AllocError>
+    requires fresh { state_of_connection.old.closed ≡ false }
+    requires kept { AreKept shelf.now.sources pictures.old.cache.entries }
+    ensures kept { AreKept shelf.now.sources pictures.new.cache.entries }
+    ensures took { OnOk result (TakesByte shelf.now byte (state_of_connection.old, out.old) (state_of_connection.new, out.new)) }
+    ensures work { OnOk result ((cost : ℕ) × CostsByte shelf.now byte state_of_connection.old pictures.old.cache pictures.new.cache cost
+        × (pictures.new.work ≡ saturating_count pictures.old.work cost)) }
+    ensures most { OnErr result ((cost : ℕ) × CostsByteAtMost shelf.now byte state_of_connection.old pictures.old.cache pictures.new.cache cost
+        × (pictures.old.work ≤ pictures.new.work) × (pictures.new.work ≤ saturating_count pictures.old.work cost)) }
+{
+    let _work = pictures.work;
+    state_of_connection.pending.push(byte)?;
+    if is_head(state_of_connection.pending.as_slice()) {
+        let close = put_reply(
+            alloc,
+            shelf,
+            pictures,
+            state_of_connection.pending.as_slice(),
+            out,
+        )?;
+        state_of_connection.closed = close;
+        state_of_connection.pending.clear();
+    } else if state_of_connection.pending.len() >= 8192 {
+        put_too_long(alloc, out)?;
+        state_of_connection.closed = true;
+        state_of_connection.pending.clear();
+    }
+    Ok(())
+}
+
+/// Takes a piece.
+pub(crate) fn feed_bytes(
+    alloc: Global,
+    shelf: &Streams,
+    pictures: &mut PictureCache,
+    piece: &[u8],
+    state_of_connection: &mut ConnectionState,
+    out: &mut Buffer,
+) -> Result<(), AllocError>
+    requires kept { AreKept shelf.now.sources pictures.old.cache.entries }
+    requires idle { pictures.old.work ≡ 0 }
+    ensures kept { AreKept shelf.now.sources pictures.new.cache.entries }
+    ensures served { OnOk result (Serves shelf.now piece.now (state_of_connection.old, out.old) (state_of_connection.new, out.new)) }
+    ensures work { OnOk result ((cost : ℕ)
+        × Costs shelf.now piece.now (state_of_connection.old, out.old) (state_of_connection.new, out.new) pictures.old.cache pictures.new.cache cost
+        × (pictures.new.work ≡ saturating_count 0 cost)) }
+    ensures most { OnErr result (CostsAtMost shelf.now piece.now (state_of_connection.old, out.old) pictures.old.cache pictures.new.cache pictures.new.work) }
+{
+    for byte in piece {
+        if state_of_connection.closed {
+            break;
+        }
+        take(alloc, shelf, pictures, *byte, state_of_connection, out)?;
+    }
+    Ok(())
+}

@@ -1,0 +1,150 @@
+//! One connection over a reader and a writer.
+
+ghost use Rattle.std.specs.Prelude.{◌≡◌, ◌≢◌, ◌⊎◌, ◌≤◌, ◌+◌, ◌^◌, ℕ, List, Some, Ok, Err};
+ghost use Rattle.std.specs.Io.KnownBytes.{Consumes};
+ghost use Rattle.vp_base.specs.Counted.{counted_remaining, counted_contents, counted_failures, counted_reads, one_more, HasFailed, HasRisenBy};
+ghost use Rattle.vp_hub.specs.declared.session.ServeFault.{ServeFault};
+ghost use Rattle.vp_hub.specs.Hub.{link_of, new_link};
+ghost use Rattle.vp_hub.specs.Names.{serve_fault_name};
+ghost use Rattle.vp_hub.specs.Sessions.{Exchanges, IsOpenSession, IsSession, IsTurnedAway, StandsApart};
+
+use crate::event::{Event, HubFault};
+use crate::hub::Hub;
+use std::fmt;
+use std::io::{Read, Write};
+use vp_base::{Counted, put_all};
+
+/// Why a connection isn't served to its end.
+#[derive(Clone, Copy, Debug, PartialEq, Eq)]
+pub enum ServeFault {
+    /// What the hub refused.
+    Hub(HubFault),
+    /// A read or a write failed.
+    Device,
+    /// The connection didn't end within 1,048,576 reads.
+    ReadTurns,
+}
+
+/// The fault's name, as it is told.
+impl fmt::Display for ServeFault {
+    ghost output = { λ fault. Some (serve_fault_name fault) };
+
+    fn fmt<W: fmt::Write>(&self, f: &mut fmt::Formatter<W>) -> fmt::Result {
+        let name = match self {
+            ServeFault::Hub(fault) => return write!(f, "{fault}"),
+            ServeFault::Device => "Device",
+            ServeFault::ReadTurns => "ReadTurns",
+        };
+        f.write_str(name)
+    }
+}
+
+/// Serves one connection: opens it in the hub, hands in what is read in pieces of at most 4,096 bytes, writes each
+/// reply before the next read, and shuts the connection at a reply that closes, at the reader's end or at a fault.
+/// Nothing is tried again.
+pub fn serve_one<R: Read, W: Write>(
+    hub: &mut Hub,
+    conn: u32,
+    reader: &mut Counted<R>,
+    writer: &mut Counted<W>,
+) -> Result<(), ServeFault>
+    // Where the opening is refused nothing is read and nothing written, and the cache stays too.
+    ensures served { (IsTurnedAway conn hub.old.state hub.new.state result × (hub.new.cache ≡ hub.old.cache) × (reader.new ≡ reader.old) × (writer.new ≡ writer.old))
+        ⊎ ((read : List ℕ)
+        × Consumes (counted_remaining R.remaining reader.old) (counted_remaining R.remaining reader.new) read
+        × IsSession conn hub.old.state hub.new.state result read (counted_remaining R.remaining reader.new)
+        (counted_contents W.contents writer.old) (counted_contents W.contents writer.new)
+        (HasFailed (counted_failures writer.old) (counted_failures writer.new))) }
+
+    // Afterwards streams and connections are as before, so the connection no longer stands.
+    ensures stays { hub.new.state ≡ hub.old.state }
+
+    // `Device` comes where a read or a write failed, and only there.
+    ensures device { result ≡ Err ServeFault.Device →
+        HasFailed (counted_failures reader.old) (counted_failures reader.new)
+        ⊎ HasFailed (counted_failures writer.old) (counted_failures writer.new) }
+    ensures quiet { result ≢ Err ServeFault.Device →
+        (counted_failures reader.new ≡ counted_failures reader.old)
+        × (counted_failures writer.new ≡ counted_failures writer.old) }
+
+    // However it ends, no more reads are made than these. `ReadTurns` comes behind all of them.
+    ensures reads { counted_reads reader.new ≤ counted_reads reader.old + 2 ^ 20 }
+    ensures turns { result ≡ Err ServeFault.ReadTurns →
+        HasRisenBy (2 ^ 20) (counted_reads reader.old) (counted_reads reader.new) }
+{
+    if let Err(fault) = hub.step(&Event::Open(conn)) {
+        return Err(ServeFault::Hub(fault));
+    }
+    let served = serve_open(hub, conn, reader, writer);
+    let _ = hub.step(&Event::Shut(conn));
+    served
+}
+
+// Reads and replies until the end, a reply that closes or a fault.
+fn serve_open<R: Read, W: Write>(
+    hub: &mut Hub,
+    conn: u32,
+    reader: &mut Counted<R>,
+    writer: &mut Counted<W>,
+) -> Result<(), ServeFault>
+    requires { link_of conn hub.old.state.connections ≡ Some new_link }
+    ensures talked { (read : List ℕ)
+        × Consumes (counted_remaining R.remaining reader.old) (counted_remaining R.remaining reader.new) read
+        × IsOpenSession conn hub.old.state hub.new.state result read (counted_remaining R.remaining reader.new)
+        (counted_contents W.contents writer.old) (counted_contents W.contents writer.new)
+        (HasFailed (counted_failures writer.old) (counted_failures writer.new)) }
+    ensures apart { StandsApart conn hub.old.state hub.new.state }
+    ensures device { result ≡ Err ServeFault.Device →
+        HasFailed (counted_failures reader.old) (counted_failures reader.new)
+        ⊎ HasFailed (counted_failures writer.old) (counted_failures writer.new) }
+    ensures quiet { result ≢ Err ServeFault.Device →
+        (counted_failures reader.new ≡ counted_failures reader.old)
+        × (counted_failures writer.new ≡ counted_failures writer.old) }
+    ensures reads { counted_reads reader.new ≤ counted_reads reader.old + 2 ^ 20 }
+    ensures turns { result ≡ Err ServeFault.ReadTurns →
+        HasRisenBy (2 ^ 20) (counted_reads reader.old) (counted_reads reader.new) }
+{
+    for _turn in 0..1_048_576u32 {
+        if !exchange(hub, conn, reader, writer)? {
+            return Ok(());
+        }
+    }
+    Err(ServeFault::ReadTurns)
+}
+
+// Reads once, and writes the reply; false at the reader's end and behind a reply that closes.
+fn exchange<R: Read, W: Write>(
+    hub: &mut Hub,
+    conn: u32,
+    reader: &mut Counted<R>,
+    writer: &mut Counted<W>,
+) -> Result<bool, ServeFault>
+    ensures exchanged { (piece : List ℕ)
+        × Consumes (counted_remaining R.remaining reader.old) (counted_remaining R.remaining reader.new) piece
+        × Exchanges conn hub.old.state hub.new.state result piece (counted_remaining R.remaining reader.new)
+        (counted_contents W.contents writer.old) (counted_contents W.contents writer.new)
+        (HasFailed (counted_failures writer.old) (counted_failures writer.new)) }
+    ensures device { result ≡ Err ServeFault.Device →
+        HasFailed (counted_failures reader.old) (counted_failures reader.new)
+        ⊎ HasFailed (counted_failures writer.old) (counted_failures writer.new) }
+    ensures quiet { result ≢ Err ServeFault.Device →
+        (counted_failures reader.new ≡ counted_failures reader.old)
+        × (counted_failures writer.new ≡ counted_failures writer.old) }
+    ensures counts { counted_reads reader.new ≡ one_more (counted_reads reader.old) }
+{
+    let mut buffer = [0; 4096];
+    let Ok(count) = reader.read(&mut buffer) else {
+        return Err(ServeFault::Device);
+    };
+    if count == 0 {
+        return Ok(false);
+    }
+    let reply = match hub.bytes(conn, &buffer[..count]) {
+        Ok(reply) => reply,
+        Err(fault) => return Err(ServeFault::Hub(fault)),
+    };
+    let Ok(()) = put_all(writer, reply.bytes.as_slice()) else {
+        return Err(ServeFault::Device);
+    };
+    Ok(!reply.close)
+}

@@ -1,0 +1,139 @@
+//! The streams of a hub.
+
+ghost use Rattle.std.specs.Prelude.{◌≡◌, ◌≢◌, ◌<◌, ℕ, List, Ok, Err, Some, None, Option, IsOk, IfOk, IfSome, length, slice_get, map};
+ghost use Rattle.vp_cache.specs.Cache.{CacheEntry};
+ghost use Rattle.vp_heads.specs.Requests.{IsAsked};
+ghost use Rattle.vp_heads.specs.Routes.{name_index as place_in};
+ghost use Rattle.vp_hub.specs.declared.event.HubFault.TheVariants.{Memory};
+ghost use Rattle.vp_hub.specs.Hub.{AreKept, at_name, at_place, at_source, fed, ended_source, initial_hub, lent_source, new_source, stream_limits};
+
+use crate::event::{HubFault, Reply};
+use crate::source::{Ending, Source, end_source, feed_source};
+use matchit::Router;
+use std::alloc::{AllocError, Global};
+use std::marker::Model;
+use vp_base::{ByteList, Limits};
+use vp_heads::{Page, Request, place_of, read_request, router};
+use vp_stream::Stream;
+
+/// The streams, each with its name, and the router of the pages.
+#[derive(Drop)]
+pub struct Streams {
+    names: Vec<ByteList>,
+    sources: Vec<Source>,
+    router: Router<Page>,
+}
+
+impl Model for Streams {
+    ghost use Rattle.std.specs.Prelude.{◌≡◌};
+    ghost use Rattle.vp_heads.specs.Routes.{our_routes};
+    ghost use Rattle.vp_hub.specs.Pages.{Streams};
+
+    ghost Value = { Streams };
+
+    ghost view = { λ a. record { names = a.names.items; sources = a.sources.items } };
+
+    ghost invariant = { λ a. a.router ≡ our_routes };
+}
+
+/// What a stream is held to. It keeps no pictures, so it isn't told how many the hub keeps.
+fn limits_of_stream(limits: Limits) -> Limits
+    ensures { result ≡ stream_limits limits }
+{
+    Limits {
+        pixels: limits.pixels,
+        packet_bytes: limits.packet_bytes,
+        packets: limits.packets,
+        cache: 1,
+    }
+}
+
+/// As many streams as there are names, which were fed nothing.
+fn new_sources(alloc: Global, names: &[ByteList], limits: Limits) -> Result<Vec<Source>, AllocError>
+    ensures { IfOk result (λ sources. sources.items ≡ map (λ _. new_source limits) names.now) }
+{
+    let mut sources = Vec::new(alloc);
+    for _name in names {
+        sources.push(Source {
+            stream: Stream::new(alloc, limits_of_stream(limits)),
+            end: Ending::Open,
+        })?;
+    }
+    Ok(sources)
+}
+
+impl Streams {
+    /// Streams of these names, which were fed nothing.
+    pub(crate) fn new(
+        alloc: Global,
+        names: Vec<ByteList>,
+        limits: Limits,
+    ) -> Result<Streams, AllocError>
+        ensures { IfOk result (λ s. s ≡ (initial_hub names.items limits).streams) }
+    {
+        let router = router(alloc)?;
+        let sources = new_sources(alloc, &names, limits)?;
+        Ok(Streams {
+            names,
+            sources,
+            router,
+        })
+    }
+
+    /// What the bytes of a head ask for.
+    pub(crate) fn read(&self, head: &[u8]) -> Request
+        ensures { IsAsked self.now.names head.now result }
+    {
+        read_request(&self.router, &self.names, head)
+    }
+
+    /// The names, in order.
+    pub(crate) fn names(&self) -> &[ByteList]
+        ensures { result.now ≡ self.now.names }
+    {
+        &self.names
+    }
+
+    /// The stream of a place.
+    pub(crate) fn source(&self, place: usize) -> Option<&Source>
+        ensures { lent_source result ≡ slice_get self.now.sources place }
+    {
+        self.sources.get(place)
+    }
+
+    /// A piece of the stream of a name. What was kept of its pictures stays right.
+    pub(crate) fn feed(
+        &mut self,
+        alloc: Global,
+        name: &[u8],
+        piece: &[u8],
+    ) -> Result<Reply, HubFault>
+        ensures memory { result ≡ Err Memory → self.new ≡ self.old }
+        ensures fine { result ≡ Err Memory → IsOk (at_name (fed piece.now) name.now self.old).1 }
+        ensures step { result ≢ Err Memory → (self.new, result) ≡ at_name (fed piece.now) name.now self.old }
+        ensures kept { (entries : List CacheEntry) → AreKept self.old.sources entries → AreKept self.new.sources entries }
+    {
+        let Some(place) = place_of(&self.names, name) else {
+            return Err(HubFault::UnknownStream);
+        };
+        let Some(source) = self.sources.get_mut(place) else {
+            return Err(HubFault::UnknownStream);
+        };
+        feed_source(alloc, source, piece)
+    }
+
+    /// The end of the stream of a name.
+    pub(crate) fn end(&mut self, alloc: Global, name: &[u8]) -> Result<Reply, HubFault>
+        ensures memory { result ≢ Err Memory }
+        ensures step { (self.new, result) ≡ at_name ended_source name.now self.old }
+        ensures kept { (entries : List CacheEntry) → AreKept self.old.sources entries → AreKept self.new.sources entries }
+    {
+        let Some(place) = place_of(&self.names, name) else {
+            return Err(HubFault::UnknownStream);
+        };
+        let Some(source) = self.sources.get_mut(place) else {
+            return Err(HubFault::UnknownStream);
+        };
+        end_source(alloc, source)
+    }
+}

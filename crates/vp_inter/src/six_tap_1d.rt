@@ -1,0 +1,320 @@
+//! Six taps of sixteen pixels a row (RFC 6386, chapter 18.3), by bytes times weights that are summed by twos.
+
+ghost use Rattle.std.specs.Prelude.{◌≡◌, ℕ, ℤ, pos, negsuc, ◌+◌, ◌*◌, ◌/◌, ◌%◌, ◌<◌, ◌≤◌, ◌+ℤ◌, ◌-ℤ◌, ◌≤ℤ◌, length, slice_index, IsTrue};
+ghost use Rattle.vp_lanes.specs.Lane.{lane};
+ghost use Rattle.vp_inter.specs.Filter.{filter_six};
+ghost use Rattle.vp_inter.specs.Inter.{reference_pixel, horizontal_pass, IsInside};
+ghost use Rattle.vp_inter.specs.Narrow.{IsShort, sum_of_six, weight};
+ghost use Rattle.vp_inter.specs.Turns.{AreNear, AreFar, AreSix, one_of_three, half_place};
+
+use crate::block::put_lanes;
+use crate::filter::{ended, load};
+use crate::madd::{by_turns, turn_sums, turned_sums};
+use crate::reference::reference_line;
+use std::simd::prelude::*;
+use vp_base::Plane;
+
+/// Whether the weights at both ends are above 0.
+pub(crate) fn both_ends_count(weights: &[i16; 6]) -> bool
+    ensures { IsTrue result → (pos 1 ≤ℤ weight weights.now 0) × (pos 1 ≤ℤ weight weights.now 5) }
+{
+    weights[0] > 0 && weights[5] > 0
+}
+
+/// The weights of six pixels that stand side by side, by turns: of the first, of the second and third, of the fourth and
+/// fifth, and of the last.
+#[derive(Clone, Copy)]
+pub(crate) struct RowWeights {
+    first: i8x16,
+    left: i8x16,
+    right: i8x16,
+    last: i8x16,
+}
+
+/// The weights of six rows, by turns: of each of the first three, and of the row three below.
+#[derive(Clone, Copy)]
+pub(crate) struct ColumnWeights {
+    first: i8x16,
+    second: i8x16,
+    third: i8x16,
+}
+
+/// `weights` by turns, for pixels side by side.
+pub(crate) fn paired_row_weights(weights: &[i16; 6]) -> RowWeights
+    requires { AreSix weights.now }
+    ensures { AreNear weights.now result }
+{
+    RowWeights {
+        first: by_turns(weights[0], 0),
+        left: by_turns(weights[1], weights[2]),
+        right: by_turns(weights[3], weights[4]),
+        last: by_turns(0, weights[5]),
+    }
+}
+
+/// `weights` by turns, for rows.
+pub(crate) fn paired_column_weights(weights: &[i16; 6]) -> ColumnWeights
+    requires { AreSix weights.now }
+    ensures { AreFar weights.now result }
+{
+    ColumnWeights {
+        first: by_turns(weights[0], weights[3]),
+        second: by_turns(weights[1], weights[4]),
+        third: by_turns(weights[2], weights[5]),
+    }
+}
+
+/// The lanes of both added.
+fn sum_of_both(a: i16x8, b: i16x8) -> i16x8
+    requires { (j : ℕ) → j < 8 → IsShort (lane a j +ℤ lane b j) }
+    ensures { (j : ℕ) → j < 8 → lane result j ≡ lane a j +ℤ lane b j }
+{
+    a + b
+}
+
+/// The lanes of all three added, with a half for rounding, and 16384 taken away.
+fn sum_of_three(a: i16x8, b: i16x8, c: i16x8) -> i16x8
+    requires first { (j : ℕ) → j < 8 → IsShort (lane a j -ℤ pos 16320) }
+    requires both { (j : ℕ) → j < 8 → IsShort (lane a j -ℤ pos 16320 +ℤ lane b j) }
+    requires all { (j : ℕ) → j < 8 → IsShort (lane a j -ℤ pos 16320 +ℤ lane b j +ℤ lane c j) }
+    ensures { (j : ℕ) → j < 8 → lane result j ≡ lane a j -ℤ pos 16320 +ℤ lane b j +ℤ lane c j }
+{
+    a + Simd::splat(64 - 16384) + b + c
+}
+
+/// The eight bytes of each, by turns.
+pub(crate) fn interleave(even: u8x8, odd: u8x8) -> u8x16
+    ensures even { (j : ℕ) → j < 8 → slice_index result (2 * j) ≡ slice_index even j }
+    ensures odd { (j : ℕ) → j < 8 → slice_index result (2 * j + 1) ≡ slice_index odd j }
+{
+    even.shuffle::<16>(odd, [0, 8, 1, 9, 2, 10, 3, 11, 4, 12, 5, 13, 6, 14, 7, 15])
+}
+
+/// The eight bytes of one and then those of the other.
+fn joined(front: u8x8, back: u8x8) -> u8x16
+    ensures front { (j : ℕ) → j < 8 → slice_index result j ≡ slice_index front j }
+    ensures back { (j : ℕ) → j < 8 → slice_index result (8 + j) ≡ slice_index back j }
+{
+    front.shuffle::<16>(back, [0, 1, 2, 3, 4, 5, 6, 7, 8, 9, 10, 11, 12, 13, 14, 15])
+}
+
+/// The sums of six pixels side by side: of those from `at` on, of those from two pixels on, and so on.
+fn horizontal_sums(s: &[u8], at: usize, weights: &[i16; 6], near: &RowWeights) -> i16x8
+    requires room { at + 20 ≤ length s.now }
+    requires six { AreSix weights.now }
+    requires turns { AreNear weights.now near.now }
+    ensures { (j : ℕ) → j < 8 → lane result j ≡ sum_of_six weights.now (λ k. slice_index s.now (at + 2 * j + k)) }
+{
+    sum_of_three(
+        turn_sums(s, at + 1, near.left, weights[1], weights[2]),
+        turn_sums(s, at + 3, near.right, weights[3], weights[4]),
+        sum_of_both(
+            turn_sums(s, at, near.first, weights[0], 0),
+            turn_sums(s, at + 4, near.last, 0, weights[5]),
+        ),
+    )
+}
+
+/// The sums of six rows, of which those three apart stand by turns.
+fn vertical_sums(a: u8x16, b: u8x16, c: u8x16, weights: &[i16; 6], far: &ColumnWeights) -> i16x8
+    requires six { AreSix weights.now }
+    requires turns { AreFar weights.now far.now }
+    ensures { (j : ℕ) → j < 8 → lane result j ≡ sum_of_six weights.now (λ k. slice_index (one_of_three a b c (k % 3)) (2 * j + k / 3)) }
+{
+    sum_of_three(
+        turned_sums(a, far.first, weights[0], weights[3]),
+        turned_sums(b, far.second, weights[1], weights[4]),
+        turned_sums(c, far.third, weights[2], weights[5]),
+    )
+}
+
+/// Eight pixels, each made of six side by side: of those from `at` on, of those from two pixels on, and so on.
+fn horizontal_eight(s: &[u8], at: usize, weights: &[i16; 6], near: &RowWeights) -> u8x8
+    requires room { at + 20 ≤ length s.now }
+    requires six { AreSix weights.now }
+    requires turns { AreNear weights.now near.now }
+    ensures { (j : ℕ) → j < 8 → slice_index result j ≡ filter_six weights.now (λ k. slice_index s.now (at + 2 * j + k)) }
+{
+    ended::<8>(horizontal_sums(s, at, weights, near))
+}
+
+/// Eight pixels, each made of six rows, of which those three apart stand by turns.
+pub(crate) fn vertical_eight(
+    a: u8x16,
+    b: u8x16,
+    c: u8x16,
+    weights: &[i16; 6],
+    far: &ColumnWeights,
+) -> u8x8
+    requires six { AreSix weights.now }
+    requires turns { AreFar weights.now far.now }
+    ensures { (j : ℕ) → j < 8 → slice_index result j ≡ filter_six weights.now (λ k. slice_index (one_of_three a b c (k % 3)) (2 * j + k / 3)) }
+{
+    ended::<8>(vertical_sums(a, b, c, weights, far))
+}
+
+/// Sixteen pixels, each made of six side by side, from its own place on: those at even places before the others.
+fn horizontal_halves(s: &[u8], at: usize, weights: &[i16; 6], near: &RowWeights) -> u8x16
+    requires room { at + 21 ≤ length s.now }
+    requires six { AreSix weights.now }
+    requires turns { AreNear weights.now near.now }
+    ensures { (c : ℕ) → c < 16 → slice_index result (half_place c) ≡ filter_six weights.now (λ k. slice_index s.now (at + c + k)) }
+{
+    joined(
+        horizontal_eight(s, at, weights, near),
+        horizontal_eight(s, at + 1, weights, near),
+    )
+}
+
+/// Sixteen pixels, each made of six rows, of which those three apart stand by turns.
+fn vertical_sixteen(pairs: &[u8], at: usize, weights: &[i16; 6], far: &ColumnWeights) -> u8x16
+    requires room { at + 96 ≤ length pairs.now }
+    requires six { AreSix weights.now }
+    requires turns { AreFar weights.now far.now }
+    ensures { (j : ℕ) → j < 16 → slice_index result j ≡ filter_six weights.now (λ k. slice_index pairs.now (at + 32 * (k % 3) + (2 * j + k / 3))) }
+{
+    let front = vertical_eight(
+        load(pairs, at),
+        load(pairs, at + 32),
+        load(pairs, at + 64),
+        weights,
+        far,
+    );
+    let back = vertical_eight(
+        load(pairs, at + 16),
+        load(pairs, at + 48),
+        load(pairs, at + 80),
+        weights,
+        far,
+    );
+    joined(front, back)
+}
+
+/// The horizontal pass over one row of the reference, straight from the plane if `INSIDE` says so: even columns before
+/// odd ones.
+#[inline(always)]
+pub(crate) fn halves_row<const INSIDE: bool>(
+    plane: &Plane,
+    left: i32,
+    row: i32,
+    weights: &[i16; 6],
+    near: &RowWeights,
+) -> u8x16
+    requires inside { IsTrue INSIDE → IsInside plane.now left row 21 1 }
+    requires six { AreSix weights.now }
+    requires turns { AreNear weights.now near.now }
+    requires columns { 0 < plane.now.width }
+    requires height { 0 < plane.now.height }
+    requires near { (negsuc 400000000 ≤ℤ left) × (left ≤ℤ pos 400000000) }
+    ensures { (c : ℕ) → c < 16 → slice_index result (half_place c) ≡ filter_six weights.now (λ k. reference_pixel plane.now (left +ℤ pos (c + k)) row) }
+{
+    if INSIDE {
+        return horizontal_halves(plane.row(row as usize), left as usize, weights, near);
+    }
+    let line = reference_line(plane, left, row);
+    horizontal_halves(&line, 0, weights, near)
+}
+
+/// Sixteen pixels in their order, of which those at even places came before the others.
+fn in_order(halves: u8x16) -> u8x16
+    ensures { (c : ℕ) → c < 16 → slice_index result c ≡ slice_index halves (half_place c) }
+{
+    halves.swizzle::<16>([0, 8, 1, 9, 2, 10, 3, 11, 4, 12, 5, 13, 6, 14, 7, 15])
+}
+
+/// The horizontal pass over `rows` rows of the reference. The loop reads the weights from memory again and again: what
+/// stood in registers from before it would not be multiplied and summed by one instruction.
+#[inline(never)]
+fn wide_rows<const INSIDE: bool>(
+    pixels: &mut [u8],
+    plane: &Plane,
+    left: i32,
+    top: i32,
+    weights: &[i16; 6],
+    near: &RowWeights,
+    rows: usize,
+)
+    requires rows { rows ≤ 21 }
+    requires all { length pixels.old ≡ rows * 16 }
+    requires inside { IsTrue INSIDE → IsInside plane.now left top 21 rows }
+    requires six { AreSix weights.now }
+    requires turns { AreNear weights.now near.now }
+    requires columns { 0 < plane.now.width }
+    requires height { 0 < plane.now.height }
+    requires near { (negsuc 400000000 ≤ℤ left) × (left ≤ℤ pos 400000000) }
+    requires beside { (negsuc 400000000 ≤ℤ top) × (top ≤ℤ pos 400000000) }
+    ensures { (i c : ℕ) → i < rows → c < 16 → slice_index pixels.new (i * 16 + c) ≡ horizontal_pass weights.now plane.now left top i c }
+{
+    for i in 0..rows {
+        let halves = halves_row::<INSIDE>(plane, left, top + i as i32, weights, near);
+        put_lanes::<16>(pixels, i, in_order(halves));
+    }
+}
+
+/// The horizontal pass by six weights over `rows` rows of the reference, which all lie inside the plane if `inside` says so.
+pub(crate) fn six_rows(
+    pixels: &mut [u8],
+    plane: &Plane,
+    left: i32,
+    top: i32,
+    weights: &[i16; 6],
+    rows: usize,
+    inside: bool,
+)
+    requires rows { rows ≤ 21 }
+    requires all { length pixels.old ≡ rows * 16 }
+    requires inside { IsTrue inside → IsInside plane.now left top 21 rows }
+    requires six { AreSix weights.now }
+    requires columns { 0 < plane.now.width }
+    requires height { 0 < plane.now.height }
+    requires near { (negsuc 400000000 ≤ℤ left) × (left ≤ℤ pos 400000000) }
+    requires beside { (negsuc 400000000 ≤ℤ top) × (top ≤ℤ pos 400000000) }
+    ensures { (i c : ℕ) → i < rows → c < 16 → slice_index pixels.new (i * 16 + c) ≡ horizontal_pass weights.now plane.now left top i c }
+{
+    let near = paired_row_weights(weights);
+    if inside {
+        wide_rows::<true>(pixels, plane, left, top, weights, &near, rows);
+    } else {
+        wide_rows::<false>(pixels, plane, left, top, weights, &near, rows);
+    }
+}
+
+/// Writes the pixels of eighteen rows of sixteen, each and then that of the row three below.
+#[inline(never)]
+fn pair_rows(pairs: &mut [u8], rows: &[u8])
+    requires whole { length pairs.old ≡ 576 }
+    requires all { length rows.now ≡ 336 }
+    ensures { (x t : ℕ) → x < 288 → t < 2 → slice_index pairs.new (2 * x + t) ≡ slice_index rows.now (x + 48 * t) }
+{
+    for i in 0..36 {
+        let piece = interleave(load::<8>(rows, 8 * i), load::<8>(rows, 8 * i + 48));
+        put_lanes::<16>(pairs, i, piece);
+    }
+}
+
+/// The vertical pass over pairs of rows of sixteen.
+#[inline(never)]
+fn wide_columns(pixels: &mut [u8], pairs: &[u8], weights: &[i16; 6], far: &ColumnWeights)
+    requires room { length pairs.now ≡ 576 }
+    requires whole { length pixels.old ≡ 256 }
+    requires six { AreSix weights.now }
+    requires turns { AreFar weights.now far.now }
+    ensures { (r c : ℕ) → r < 16 → c < 16 → slice_index pixels.new (r * 16 + c) ≡ filter_six weights.now (λ k. slice_index pairs.now (32 * r + 32 * (k % 3) + (2 * c + k / 3))) }
+{
+    for i in 0..16 {
+        let row = vertical_sixteen(pairs, 32 * i, weights, far);
+        put_lanes::<16>(pixels, i, row);
+    }
+}
+
+/// The vertical pass by six weights over rows of sixteen, of which there are five more than it makes.
+pub(crate) fn six_columns(pixels: &mut [u8], rows: &[u8], weights: &[i16; 6])
+    requires all { length rows.now ≡ 336 }
+    requires whole { length pixels.old ≡ 256 }
+    requires six { AreSix weights.now }
+    ensures { (r c : ℕ) → r < 16 → c < 16 → slice_index pixels.new (r * 16 + c) ≡ filter_six weights.now (λ k. slice_index rows.now ((r + k) * 16 + c)) }
+{
+    let mut pairs = [0; 576];
+    pair_rows(&mut pairs, rows);
+    wide_columns(pixels, &pairs, weights, &paired_column_weights(weights));
+}

@@ -1,0 +1,279 @@
+//! Both passes by six weights over a block of sixteen by sixteen pixels (RFC 6386, chapter 18.3). The rows of the first
+//! are written in pairs, as the second multiplies them, and each pass takes three rows a turn.
+
+ghost use Rattle.std.specs.Prelude.{◌≡◌, ℕ, ℤ, pos, negsuc, ◌+◌, ◌*◌, ◌<◌, ◌≤◌, ◌+ℤ◌, ◌≤ℤ◌, length, slice_index, IsTrue};
+ghost use Rattle.vp_inter.specs.Filter.{filter_six};
+ghost use Rattle.vp_inter.specs.Inter.{horizontal_pass, IsInside};
+ghost use Rattle.vp_inter.specs.Turns.{AreNear, AreFar, AreSix, HoldsPairs, IsPair, half_place, pair_place};
+
+use crate::block::put_lanes;
+use crate::filter::load;
+use crate::reference::lies_inside;
+use crate::six_tap_1d::{
+    ColumnWeights, RowWeights, halves_row, interleave, paired_column_weights, paired_row_weights,
+    vertical_eight,
+};
+use std::simd::prelude::*;
+use vp_base::Plane;
+
+/// Three rows of sixteen pixels.
+#[derive(Clone, Copy)]
+struct Three {
+    first: u8x16,
+    second: u8x16,
+    third: u8x16,
+}
+
+/// A row and the row three below, by turns: their even columns and their odd ones.
+#[derive(Clone, Copy)]
+struct Pair {
+    even: u8x16,
+    odd: u8x16,
+}
+
+/// The horizontal pass over three rows of the reference: even columns before odd ones.
+fn three_rows<const INSIDE: bool>(
+    plane: &Plane,
+    left: i32,
+    top: i32,
+    weights: &[i16; 6],
+    near: &RowWeights,
+) -> Three
+    requires inside { IsTrue INSIDE → IsInside plane.now left top 21 3 }
+    requires six { AreSix weights.now }
+    requires turns { AreNear weights.now near.now }
+    requires columns { 0 < plane.now.width }
+    requires height { 0 < plane.now.height }
+    requires near { (negsuc 400000000 ≤ℤ left) × (left ≤ℤ pos 400000000) }
+    requires beside { (negsuc 400000000 ≤ℤ top) × (top ≤ℤ pos 400000018) }
+    ensures first { (c : ℕ) → c < 16 → slice_index result.first (half_place c) ≡ horizontal_pass weights.now plane.now left top 0 c }
+    ensures second { (c : ℕ) → c < 16 → slice_index result.second (half_place c) ≡ horizontal_pass weights.now plane.now left top 1 c }
+    ensures third { (c : ℕ) → c < 16 → slice_index result.third (half_place c) ≡ horizontal_pass weights.now plane.now left top 2 c }
+{
+    Three {
+        first: halves_row::<INSIDE>(plane, left, top, weights, near),
+        second: halves_row::<INSIDE>(plane, left, top + 1, weights, near),
+        third: halves_row::<INSIDE>(plane, left, top + 2, weights, near),
+    }
+}
+
+/// The first eight of each, by turns.
+fn interleave_lo(a: u8x16, b: u8x16) -> u8x16
+    ensures even { (j : ℕ) → j < 8 → slice_index result (2 * j) ≡ slice_index a j }
+    ensures odd { (j : ℕ) → j < 8 → slice_index result (2 * j + 1) ≡ slice_index b j }
+{
+    a.shuffle::<16>(b, [0, 16, 1, 17, 2, 18, 3, 19, 4, 20, 5, 21, 6, 22, 7, 23])
+}
+
+/// The last eight of each, by turns.
+fn interleave_hi(a: u8x16, b: u8x16) -> u8x16
+    ensures even { (j : ℕ) → j < 8 → slice_index result (2 * j) ≡ slice_index a (8 + j) }
+    ensures odd { (j : ℕ) → j < 8 → slice_index result (2 * j + 1) ≡ slice_index b (8 + j) }
+{
+    a.shuffle::<16>(
+        b,
+        [8, 24, 9, 25, 10, 26, 11, 27, 12, 28, 13, 29, 14, 30, 15, 31],
+    )
+}
+
+/// Writes two rows by turns at place `i` of a run of pairs.
+fn put_pair(run: &mut [u8], i: usize, a: u8x16, b: u8x16)
+    requires { 32 * i + 32 ≤ length run.old }
+    ensures first { (c : ℕ) → c < 16 → slice_index run.new (32 * i + pair_place c 0) ≡ slice_index a (half_place c) }
+    ensures second { (c : ℕ) → c < 16 → slice_index run.new (32 * i + pair_place c 1) ≡ slice_index b (half_place c) }
+    ensures before { (k : ℕ) → k < 32 * i → slice_index run.new k ≡ slice_index run.old k }
+{
+    put_lanes::<16>(run, 2 * i, interleave_lo(a, b));
+    put_lanes::<16>(run, 2 * i + 1, interleave_hi(a, b));
+}
+
+/// The horizontal pass, to three runs of pairs, of which each takes every third row. The loop reads the weights from
+/// memory again and again: what stood in registers from before it would not be multiplied and summed by one instruction.
+#[inline(never)]
+fn paired_rows<const INSIDE: bool>(
+    first: &mut [u8],
+    second: &mut [u8],
+    third: &mut [u8],
+    plane: &Plane,
+    left: i32,
+    top: i32,
+    weights: &[i16; 6],
+    near: &RowWeights,
+)
+    requires one { length first.old ≡ 224 }
+    requires two { length second.old ≡ 224 }
+    requires three { length third.old ≡ 224 }
+    requires inside { IsTrue INSIDE → IsInside plane.now left top 21 21 }
+    requires six { AreSix weights.now }
+    requires turns { AreNear weights.now near.now }
+    requires columns { 0 < plane.now.width }
+    requires height { 0 < plane.now.height }
+    requires near { (negsuc 400000000 ≤ℤ left) × (left ≤ℤ pos 400000000) }
+    requires beside { (negsuc 400000000 ≤ℤ top) × (top ≤ℤ pos 400000000) }
+    ensures first { HoldsPairs first.new (horizontal_pass weights.now plane.now left top) 0 6 }
+    ensures second { HoldsPairs second.new (horizontal_pass weights.now plane.now left top) 1 6 }
+    ensures third { HoldsPairs third.new (horizontal_pass weights.now plane.now left top) 2 6 }
+{
+    let none = u8x16::splat(0);
+    let mut above = Three {
+        first: none,
+        second: none,
+        third: none,
+    };
+    for i in 0..7 {
+        let rows = three_rows::<INSIDE>(plane, left, top + 3 * i as i32, weights, near);
+        put_pair(first, i, above.first, rows.first);
+        put_pair(second, i, above.second, rows.second);
+        put_pair(third, i, above.third, rows.third);
+        above = rows;
+    }
+}
+
+/// The same, straight from the plane where it has all of the rows.
+fn all_rows(
+    first: &mut [u8],
+    second: &mut [u8],
+    third: &mut [u8],
+    plane: &Plane,
+    left: i32,
+    top: i32,
+    weights: &[i16; 6],
+)
+    requires one { length first.old ≡ 224 }
+    requires two { length second.old ≡ 224 }
+    requires three { length third.old ≡ 224 }
+    requires six { AreSix weights.now }
+    requires columns { 0 < plane.now.width }
+    requires height { 0 < plane.now.height }
+    requires near { (negsuc 400000000 ≤ℤ left) × (left ≤ℤ pos 400000000) }
+    requires beside { (negsuc 400000000 ≤ℤ top) × (top ≤ℤ pos 400000000) }
+    ensures first { HoldsPairs first.new (horizontal_pass weights.now plane.now left top) 0 6 }
+    ensures second { HoldsPairs second.new (horizontal_pass weights.now plane.now left top) 1 6 }
+    ensures third { HoldsPairs third.new (horizontal_pass weights.now plane.now left top) 2 6 }
+{
+    let near = paired_row_weights(weights);
+    if lies_inside(plane, left, top, 21, 21) {
+        paired_rows::<true>(first, second, third, plane, left, top, weights, &near);
+    } else {
+        paired_rows::<false>(first, second, third, plane, left, top, weights, &near);
+    }
+}
+
+/// Pair `e` of a run, behind the empty one.
+fn pair_at(run: &[u8], e: usize) -> Pair
+    requires size { length run.now ≡ 224 }
+    requires place { e < 6 }
+    ensures { (pixel : ℕ → ℕ → ℕ) → (from : ℕ) → HoldsPairs run.now pixel from 6 → IsPair result pixel (3 * e + from) }
+{
+    Pair {
+        even: load(run, 32 * e + 32),
+        odd: load(run, 32 * e + 48),
+    }
+}
+
+/// The row that three pairs of rows make, each one below the one before.
+fn vertical_row(a: &Pair, b: &Pair, c: &Pair, weights: &[i16; 6], far: &ColumnWeights) -> u8x16
+    requires six { AreSix weights.now }
+    requires turns { AreFar weights.now far.now }
+    ensures { (pixel : ℕ → ℕ → ℕ) → (r : ℕ) → IsPair a.now pixel r → IsPair b.now pixel (r + 1) → IsPair c.now pixel (r + 2) → (x : ℕ) → x < 16 → slice_index result x ≡ filter_six weights.now (λ k. pixel (r + k) x) }
+{
+    interleave(
+        vertical_eight(a.even, b.even, c.even, weights, far),
+        vertical_eight(a.odd, b.odd, c.odd, weights, far),
+    )
+}
+
+/// Three rows, of five pairs of the three runs: from pair `e` of the first on.
+fn vertical_three_rows(
+    first: &[u8],
+    second: &[u8],
+    third: &[u8],
+    e: usize,
+    weights: &[i16; 6],
+    far: &ColumnWeights,
+) -> Three
+    requires one { length first.now ≡ 224 }
+    requires two { length second.now ≡ 224 }
+    requires three { length third.now ≡ 224 }
+    requires place { e < 5 }
+    requires six { AreSix weights.now }
+    requires turns { AreFar weights.now far.now }
+    ensures first { (pixel : ℕ → ℕ → ℕ) → HoldsPairs first.now pixel 0 6 → HoldsPairs second.now pixel 1 6 → HoldsPairs third.now pixel 2 6 → (x : ℕ) → x < 16 → slice_index result.first x ≡ filter_six weights.now (λ k. pixel (3 * e + k) x) }
+    ensures second { (pixel : ℕ → ℕ → ℕ) → HoldsPairs first.now pixel 0 6 → HoldsPairs second.now pixel 1 6 → HoldsPairs third.now pixel 2 6 → (x : ℕ) → x < 16 → slice_index result.second x ≡ filter_six weights.now (λ k. pixel (3 * e + 1 + k) x) }
+    ensures third { (pixel : ℕ → ℕ → ℕ) → HoldsPairs first.now pixel 0 6 → HoldsPairs second.now pixel 1 6 → HoldsPairs third.now pixel 2 6 → (x : ℕ) → x < 16 → slice_index result.third x ≡ filter_six weights.now (λ k. pixel (3 * e + 2 + k) x) }
+{
+    let a = pair_at(first, e);
+    let b = pair_at(second, e);
+    let c = pair_at(third, e);
+    let d = pair_at(first, e + 1);
+    Three {
+        first: vertical_row(&a, &b, &c, weights, far),
+        second: vertical_row(&b, &c, &d, weights, far),
+        third: vertical_row(&c, &d, &pair_at(second, e + 1), weights, far),
+    }
+}
+
+/// The vertical pass over the pairs of three runs.
+#[inline(never)]
+fn paired_columns(
+    pixels: &mut [u8],
+    first: &[u8],
+    second: &[u8],
+    third: &[u8],
+    weights: &[i16; 6],
+    far: &ColumnWeights,
+)
+    requires whole { length pixels.old ≡ 256 }
+    requires one { length first.now ≡ 224 }
+    requires two { length second.now ≡ 224 }
+    requires three { length third.now ≡ 224 }
+    requires six { AreSix weights.now }
+    requires turns { AreFar weights.now far.now }
+    ensures { (pixel : ℕ → ℕ → ℕ) → HoldsPairs first.now pixel 0 6 → HoldsPairs second.now pixel 1 6 → HoldsPairs third.now pixel 2 6 → (r c : ℕ) → r < 16 → c < 16 → slice_index pixels.new (r * 16 + c) ≡ filter_six weights.now (λ k. pixel (r + k) c) }
+{
+    for i in 0..5 {
+        let rows = vertical_three_rows(first, second, third, i, weights, far);
+        put_lanes::<16>(pixels, 3 * i, rows.first);
+        put_lanes::<16>(pixels, 3 * i + 1, rows.second);
+        put_lanes::<16>(pixels, 3 * i + 2, rows.third);
+    }
+    let a = pair_at(first, 5);
+    let b = pair_at(second, 5);
+    let last = vertical_row(&a, &b, &pair_at(third, 5), weights, far);
+    put_lanes::<16>(pixels, 15, last);
+}
+
+/// Both passes by six weights over a block of the reference. Three runs of this size are cleared in place, where one as
+/// large as all of them would be by a call.
+pub(crate) fn six_tap_2d_block(
+    pixels: &mut [u8],
+    plane: &Plane,
+    left: i32,
+    top: i32,
+    row_weights: &[i16; 6],
+    column_weights: &[i16; 6],
+)
+    requires whole { length pixels.old ≡ 256 }
+    requires rows { AreSix row_weights.now }
+    requires columns { AreSix column_weights.now }
+    requires width { 0 < plane.now.width }
+    requires height { 0 < plane.now.height }
+    requires near { (negsuc 400000000 ≤ℤ left) × (left ≤ℤ pos 400000000) }
+    requires beside { (negsuc 400000000 ≤ℤ top) × (top ≤ℤ pos 400000000) }
+    ensures { (r c : ℕ) → r < 16 → c < 16 → slice_index pixels.new (r * 16 + c) ≡ filter_six column_weights.now (λ k. horizontal_pass row_weights.now plane.now left top (r + k) c) }
+{
+    let mut first = [0; 224];
+    let mut second = [0; 224];
+    let mut third = [0; 224];
+    all_rows(
+        &mut first,
+        &mut second,
+        &mut third,
+        plane,
+        left,
+        top,
+        row_weights,
+    );
+    let far = paired_column_weights(column_weights);
+    paired_columns(pixels, &first, &second, &third, column_weights, &far);
+}

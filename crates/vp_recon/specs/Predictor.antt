@@ -1,0 +1,38 @@
+-- What a macroblock says: what it is predicted from, and its residue (RFC 6386, chapter 5).
+use Rattle.std.specs.Prelude.{ℕ, Bool, false, not}
+use Rattle.vp_base.specs.Image.{Image}
+use Rattle.vp_tables.specs.Modes.{is_by_subblocks, is_split}
+use Rattle.vp_modes.specs.Entry.{Modes}
+use Rattle.vp_motion.specs.Vector.{MacroblockMotion}
+use Rattle.vp_tokens.specs.declared.contexts.Tokens.{Tokens}
+use Rattle.vp_quant.specs.declared.factors.Factors.{Factors}
+use Rattle.vp_recon.specs.declared.predictor.Predictor.{Predictor as Lent}
+use Rattle.vp_recon.specs.declared.predictor.Predictor.TheVariants as lent
+
+-- the picture that it is a part of, or a reference, by its motion and the filters of a version
+pub data Predictor : Type 0 where
+  Intra : Modes → Predictor
+  Inter : MacroblockMotion → Image → ℕ → Predictor
+
+pub record Macroblock : Type 0 where
+  pub source : Predictor
+  pub tokens : Tokens
+  pub factors : Factors
+
+abbrev pub macroblock_of : Predictor → Tokens → Factors → Macroblock
+macroblock_of source tokens factors = record { source = source; tokens = tokens; factors = factors }
+
+-- the source that the code lends
+abbrev pub predictor_of : Lent → Predictor
+predictor_of (lent.Intra modes) = Intra modes.now
+predictor_of (lent.Inter motion reference version) = Inter motion.now reference.now version
+
+-- each luma subblock is predicted by an intra mode of its own
+abbrev pub has_sub_modes : Predictor → Bool
+has_sub_modes (Intra modes) = is_by_subblocks modes.luma
+has_sub_modes (Inter motion reference version) = false
+
+-- It has a Y2 block unless its luma subblocks have modes, or vectors, of their own (chapter 13).
+abbrev pub has_y2 : Predictor → Bool
+has_y2 (Intra modes) = not (is_by_subblocks modes.luma)
+has_y2 (Inter motion reference version) = not (is_split motion.mode)

@@ -1,6 +1,0 @@
-use Rattle.vp_stream.proofs.PictureLemmas.{length-i420}
-use Rattle.vp_stream.proofs.pictures.Pictures.write_text.Goals as goal
-
-pub write_y4m-requires : goal.write_y4m-requires
-write_y4m-requires g c =
-    rw (c.requires, c.dim.ensures.width, c.dim.ensures.height) (length-i420 c.args.picture.now)

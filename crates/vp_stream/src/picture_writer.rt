@@ -1,0 +1,181 @@
+//! PictureWriter, written one after another.
+
+ghost use Rattle.std.specs.Prelude.{◌≡◌, ◌≢◌, ◌++◌, true, false, OnOk, IfOk, Err, Some, length};
+ghost use Rattle.std.specs.Io.KnownBytes.{Appends};
+ghost use Rattle.vp_base.specs.Counted.{counted_contents, counted_failures, HasFailed, AppendsFront};
+ghost use Rattle.vp_base.specs.Image.{i420};
+ghost use Rattle.vp_stream.specs.declared.fault.Interruption.{Interruption};
+ghost use Rattle.vp_y4m.specs.Text.{picture_text, i420_length};
+ghost use Rattle.vp_stream.specs.declared.form.Form.{Form};
+ghost use Rattle.vp_stream.specs.Transcode.{unsized, with_picture, with_shown, fits, fits_shown, one_text, shown_text, first_size, has_size, line_before, text_if};
+
+use crate::fault::Interruption;
+use crate::form::Form;
+use std::alloc::Global;
+use std::io::Write;
+use std::marker::Model;
+use vp_base::{Counted, Dim, Picture, put_all};
+use vp_decode::Decoder;
+use vp_ivf::IvfHead;
+use vp_y4m::{write_header, write_picture};
+
+/// Writes pictures in a form. It keeps the first picture's size where the form has one size for all.
+#[derive(Drop)]
+pub struct PictureWriter {
+    alloc: Global,
+    form: Form,
+    size: Option<Dim>,
+}
+
+impl Model for PictureWriter {
+    ghost use Rattle.std.specs.Prelude.{option_map};
+    ghost use Rattle.vp_stream.specs.Transcode.{PictureWriter};
+
+    ghost Value = { PictureWriter };
+
+    ghost view = { λ a. record { form = a.form; size = option_map (λ d. (d.w, d.h)) a.size } };
+}
+
+impl PictureWriter {
+    /// Before the first picture.
+    pub(crate) fn new(alloc: Global, form: Form) -> PictureWriter
+        ensures { result ≡ unsized form }
+    {
+        PictureWriter {
+            alloc,
+            form,
+            size: None,
+        }
+    }
+
+    /// Writes the picture that a decoder shows, where it shows one, of a file with this head.
+    pub(crate) fn write_shown<W: Write>(
+        &mut self,
+        head: IvfHead,
+        decoder: &Decoder,
+        writer: &mut Counted<W>,
+    ) -> Result<(), Interruption>
+        ensures ok { OnOk result (self.new ≡ with_shown self.old decoder.now.shown) }
+        ensures fits { OnOk result (fits_shown self.old decoder.now.shown ≡ true) }
+        ensures change { result ≡ Err Interruption.SizeChange → fits_shown self.old decoder.now.shown ≡ false }
+        ensures written { OnOk result (Appends (counted_contents W.contents writer.old)
+            (counted_contents W.contents writer.new) (shown_text self.old head decoder.now.shown)) }
+        ensures prefix { AppendsFront (counted_contents W.contents writer.old)
+            (counted_contents W.contents writer.new) (shown_text self.old head decoder.now.shown) }
+        ensures device { result ≡ Err Interruption.Device →
+            HasFailed (counted_failures writer.old) (counted_failures writer.new) }
+        ensures quiet { result ≢ Err Interruption.Device →
+            counted_failures writer.new ≡ counted_failures writer.old }
+    {
+        match decoder.picture() {
+            Some(picture) => self.write(head, picture, writer),
+            None => Ok(()),
+        }
+    }
+
+    // Writes a picture.
+    fn write<W: Write>(
+        &mut self,
+        head: IvfHead,
+        picture: &Picture,
+        writer: &mut Counted<W>,
+    ) -> Result<(), Interruption>
+        ensures ok { OnOk result (self.new ≡ with_picture self.old picture.now) }
+        ensures fits { OnOk result (fits self.old picture.now ≡ true) }
+        ensures change { result ≡ Err Interruption.SizeChange → fits self.old picture.now ≡ false }
+        ensures written { OnOk result (Appends (counted_contents W.contents writer.old)
+            (counted_contents W.contents writer.new) (one_text self.old head picture.now)) }
+        ensures prefix { AppendsFront (counted_contents W.contents writer.old)
+            (counted_contents W.contents writer.new) (one_text self.old head picture.now) }
+        ensures device { result ≡ Err Interruption.Device →
+            HasFailed (counted_failures writer.old) (counted_failures writer.new) }
+        ensures quiet { result ≢ Err Interruption.Device →
+            counted_failures writer.new ≡ counted_failures writer.old }
+    {
+        let text = picture.crop_i420(self.alloc)?;
+        self.write_text(head, picture, &text, writer)
+    }
+
+    // Writes a picture by its I420.
+    fn write_text<W: Write>(
+        &mut self,
+        head: IvfHead,
+        picture: &Picture,
+        text: &[u8],
+        writer: &mut Counted<W>,
+    ) -> Result<(), Interruption>
+        requires { text.now ≡ i420 picture.now }
+        ensures ok { OnOk result (self.new ≡ with_picture self.old picture.now) }
+        ensures fits { OnOk result (fits self.old picture.now ≡ true) }
+        ensures change { result ≡ Err Interruption.SizeChange → fits self.old picture.now ≡ false }
+        ensures written { OnOk result (Appends (counted_contents W.contents writer.old)
+            (counted_contents W.contents writer.new) (one_text self.old head picture.now)) }
+        ensures prefix { AppendsFront (counted_contents W.contents writer.old)
+            (counted_contents W.contents writer.new) (one_text self.old head picture.now) }
+        ensures device { result ≡ Err Interruption.Device →
+            HasFailed (counted_failures writer.old) (counted_failures writer.new) }
+        ensures quiet { result ≢ Err Interruption.Device →
+            counted_failures writer.new ≡ counted_failures writer.old }
+    {
+        match self.form {
+            Form::I420 => Ok(put_all(writer, text)?),
+            Form::Y4m => self.write_y4m(head, picture.dim(), text, writer),
+        }
+    }
+
+    // Writes a picture behind its line, and before the first picture the file's line.
+    fn write_y4m<W: Write>(
+        &mut self,
+        head: IvfHead,
+        dim: Dim,
+        text: &[u8],
+        writer: &mut Counted<W>,
+    ) -> Result<(), Interruption>
+        requires { length text.now ≡ i420_length dim.w dim.h }
+        ensures ok { OnOk result (self.new ≡ record self.old { size = first_size Form.Y4m self.old.size dim.w dim.h }) }
+        ensures fits { OnOk result (has_size self.old.size dim.w dim.h ≡ true) }
+        ensures change { result ≡ Err Interruption.SizeChange → has_size self.old.size dim.w dim.h ≡ false }
+        ensures written { OnOk result (Appends (counted_contents W.contents writer.old)
+            (counted_contents W.contents writer.new)
+            (line_before self.old.size head dim.w dim.h ++ picture_text text.now)) }
+        ensures prefix { AppendsFront (counted_contents W.contents writer.old)
+            (counted_contents W.contents writer.new)
+            (line_before self.old.size head dim.w dim.h
+            ++ text_if (has_size self.old.size dim.w dim.h) (picture_text text.now)) }
+        ensures device { result ≡ Err Interruption.Device →
+            HasFailed (counted_failures writer.old) (counted_failures writer.new) }
+        ensures quiet { result ≢ Err Interruption.Device →
+            counted_failures writer.new ≡ counted_failures writer.old }
+    {
+        let size = self.open(head, dim, writer)?;
+        write_picture(writer, size, text, dim)?;
+        Ok(())
+    }
+
+    // Gives the size that all pictures have. The first picture gives it, and the file's line is written.
+    fn open<W: Write>(
+        &mut self,
+        head: IvfHead,
+        dim: Dim,
+        writer: &mut Counted<W>,
+    ) -> Result<Dim, Interruption>
+        ensures ok { OnOk result (self.new ≡ record self.old { size = first_size Form.Y4m self.old.size dim.w dim.h }) }
+        ensures size { IfOk result (λ d. Some (d.w, d.h) ≡ first_size Form.Y4m self.old.size dim.w dim.h) }
+        ensures refused { result ≢ Err Interruption.SizeChange }
+        ensures written { OnOk result (Appends (counted_contents W.contents writer.old)
+            (counted_contents W.contents writer.new) (line_before self.old.size head dim.w dim.h)) }
+        ensures prefix { AppendsFront (counted_contents W.contents writer.old)
+            (counted_contents W.contents writer.new) (line_before self.old.size head dim.w dim.h) }
+        ensures device { result ≡ Err Interruption.Device →
+            HasFailed (counted_failures writer.old) (counted_failures writer.new) }
+        ensures quiet { result ≢ Err Interruption.Device →
+            counted_failures writer.new ≡ counted_failures writer.old }
+    {
+        if let Some(size) = self.size {
+            return Ok(size);
+        }
+        write_header(writer, dim, head.rate, head.scale)?;
+        self.size = Some(dim);
+        Ok(dim)
+    }
+}

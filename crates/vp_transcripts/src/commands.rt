@@ -1,0 +1,166 @@
+//! Command lines: `vp8 WORD.. [< NAME] [> NAME] [2> NAME]` runs the program over bytes that have a name, and says its status,
+//! how many bytes it leaves unread, and what it writes and tells where these aren't given a name. `plan WORD..` says what
+//! words of `encode` and `serve` ask for, `read PATH` what a file holds, and `show TEXT` what bytes are.
+
+use crate::text::{Names, malformed};
+use crate::transcript::{Found, Script};
+use std::alloc::Global;
+use std::{fs, io};
+use vp_app::{ServeArgs, Task, command, read_args};
+use vp_base::Counted;
+use vp_encode::Settings;
+
+/// The program.
+#[derive(Drop)]
+pub(crate) struct Commands {
+    pub(crate) alloc: Global,
+}
+
+/// A line up to a sign that stands behind it with a name, and that name.
+fn cut<'a>(line: &'a str, sign: &str) -> (&'a str, Option<&'a str>) {
+    match line.split_once(sign) {
+        Some((line, name)) => (line, Some(name)),
+        None => (line, None),
+    }
+}
+
+/// Says bytes, if there are any, or keeps them under a name.
+fn tell(
+    word: &str,
+    bytes: &[u8],
+    name: Option<&str>,
+    names: &mut Names,
+    found: &mut Found,
+) -> io::Result<()> {
+    match name {
+        Some(name) => names.keep(name, bytes),
+        None => Ok(found.bytes_if_any(word, bytes)?),
+    }
+}
+
+/// What came of a run.
+#[derive(Drop)]
+struct Done {
+    status: u8,
+    /// How many bytes of the input weren't read.
+    left: usize,
+    output: Vec<u8>,
+    errors: Vec<u8>,
+}
+
+/// Runs the program with these words over an input.
+fn run_over(rt: &HostRuntime, words: &[&str], input: &[u8]) -> Done {
+    let mut input = Counted::new(input);
+    let mut output = Counted::new(Vec::new(rt.alloc()));
+    let mut errors = Counted::new(Vec::new(rt.alloc()));
+    let status = command(rt, words, &mut input, &mut output, &mut errors);
+    Done {
+        status,
+        left: input.into_inner().len(),
+        output: output.into_inner(),
+        errors: errors.into_inner(),
+    }
+}
+
+/// The bytes of a name, and none without a name.
+fn input_of<'a>(names: &'a Names, name: Option<&str>) -> io::Result<&'a [u8]> {
+    match name {
+        Some(name) => names.get(name),
+        None => Ok(&[]),
+    }
+}
+
+impl Commands {
+    /// Runs the program by its line.
+    fn run(
+        &self,
+        rt: &HostRuntime,
+        line: &str,
+        names: &mut Names,
+        found: &mut Found,
+    ) -> io::Result<()> {
+        let (line, errors) = cut(line, " 2> ");
+        let (line, output) = cut(line, " > ");
+        let (line, input) = cut(line, " < ");
+        let words: Vec<&str> = line.split(' ').collect(self.alloc)?;
+        let done = run_over(rt, &words, input_of(names, input)?);
+        self.tell_done(&done, (output, errors), names, found)
+    }
+
+    /// Says what came of a run, its output and errors under these names where they are given.
+    fn tell_done(
+        &self,
+        done: &Done,
+        (output, errors): (Option<&str>, Option<&str>),
+        names: &mut Names,
+        found: &mut Found,
+    ) -> io::Result<()> {
+        found.line(format!(in self.alloc; "status {}", done.status)?)?;
+        found.count_if_any("left", done.left as u64)?;
+        tell("output", &done.output, output, names, found)?;
+        tell("errors", &done.errors, errors, names, found)
+    }
+}
+
+/// Says what the options of `encode` come to.
+fn tell_settings(alloc: Global, settings: &Settings, found: &mut Found) -> io::Result<()> {
+    let (qi, level, sharpness) = (settings.qi, settings.level, settings.sharpness);
+    let (key_every, golden_every) = (settings.key_every, settings.golden_every);
+    let (range, partitions) = (settings.range, settings.partitions);
+    let (simple, subpel) = (settings.simple, settings.subpel);
+    found.line(format!(in alloc; "qi {qi} filter {level} sharpness {sharpness} simple {simple}")?)?;
+    found.line(format!(in alloc; "key-every {key_every} golden-every {golden_every}")?)?;
+    found.line(format!(in alloc; "range {range} subpel {subpel} partitions {partitions}")?)?;
+    Ok(())
+}
+
+/// Says what the options and operands of `serve` come to.
+fn tell_service(alloc: Global, service: &ServeArgs<'_>, found: &mut Found) -> io::Result<()> {
+    let (listen, connections) = (service.listen, service.connections);
+    let (cache, show_address) = (service.cache, service.show_address);
+    found.line(format!(in alloc; "listen {listen} connections {connections}")?)?;
+    found.line(format!(in alloc; "cache {cache} show-address {show_address}")?)?;
+    for stream in &service.streams {
+        let (name, file) = (stream.name, stream.file);
+        found.line(format!(in alloc; "stream {name} file {file}")?)?;
+    }
+    Ok(())
+}
+
+/// Says what words ask for.
+fn tell_plan(alloc: Global, line: &str, found: &mut Found) -> io::Result<()> {
+    let words: Vec<&str> = line.split(' ').collect(alloc)?;
+    match read_args(alloc, &words) {
+        Ok(Task::Encode(encoding)) => tell_settings(alloc, &encoding.settings, found),
+        Ok(Task::Serve(service)) => tell_service(alloc, &service, found),
+        _ => Err(malformed()),
+    }
+}
+
+/// Says what a file holds.
+fn read(rt: &HostRuntime, path: &str, found: &mut Found) -> io::Result<()> {
+    match fs::read(rt, path) {
+        Ok(bytes) => Ok(found.bytes("holds", &bytes)?),
+        Err(_) => Ok(found.word("no file")?),
+    }
+}
+
+impl Script for Commands {
+    fn begin(&mut self) {}
+
+    fn command(
+        &mut self,
+        rt: &HostRuntime,
+        line: &str,
+        names: &mut Names,
+        found: &mut Found,
+    ) -> io::Result<()> {
+        match line.split_once(' ') {
+            Some(("vp8", _)) => self.run(rt, line, names, found),
+            Some(("plan", words)) => tell_plan(self.alloc, words, found),
+            Some(("read", path)) => read(rt, path, found),
+            Some(("show", text)) => Ok(found.bytes("bytes", &names.read(text)?)?),
+            _ => Err(malformed()),
+        }
+    }
+}

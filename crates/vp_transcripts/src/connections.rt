@@ -1,0 +1,206 @@
+//! Connections to a hub: `hub NAME..` makes one of streams of these names, and `feed NAME TEXT`, `end NAME`, `open NUMBER`,
+//! `send NUMBER TEXT` and `shut NUMBER` are the events that come to it; `open FROM..TO` are several. What is replied is said,
+//! whether the connection is closed behind it, and how many packets were decoded. `ask TEXT` is sent by a connection that comes
+//! for it and goes behind it, and `cut SIZE TEXT` is the same in pieces of so many bytes. `limits PIXELS BYTES PACKETS CACHE`
+//! are those of the next hub. `vp8 serve WORD.. < NAME` makes a hub and feeds it as the program does.
+
+use crate::text::{Names, limits, malformed, number};
+use crate::transcript::{Found, Script};
+use std::alloc::Global;
+use std::io;
+use vp_app::{ServeArgs, Task, feed_all, new_hub, read_args};
+use vp_base::{ByteList, Counted, Limits};
+use vp_hub::{Event, Hub, NewFault, Reply};
+
+/// The number of the connection that comes and goes.
+const VISITOR: u32 = 99;
+
+/// A hub, and the limits of the next one.
+#[derive(Drop)]
+pub(crate) struct Connections {
+    alloc: Global,
+    limits: Limits,
+    hub: Option<Hub>,
+}
+
+/// The bytes of a text as a list.
+fn list(names: &Names, text: &str) -> io::Result<ByteList> {
+    Ok(ByteList::from_vec(names.read(text)?))
+}
+
+/// An event by its line.
+fn event(names: &Names, line: &str) -> io::Result<Event> {
+    let (word, rest) = line.split_once(' ').ok_or(malformed())?;
+    let (first, text) = rest.split_once(' ').unwrap_or((rest, ""));
+    match word {
+        "feed" => Ok(Event::Feed(list(names, first)?, list(names, text)?)),
+        "end" => Ok(Event::End(list(names, first)?)),
+        "open" => Ok(Event::Open(number(first)?)),
+        "send" => Ok(Event::Bytes(number(first)?, list(names, text)?)),
+        "shut" => Ok(Event::Shut(number(first)?)),
+        _ => Err(malformed()),
+    }
+}
+
+/// Says what is replied.
+fn tell_reply(reply: &Reply, found: &mut Found) -> io::Result<()> {
+    found.bytes_if_any("reply", reply.bytes.as_slice())?;
+    if reply.close {
+        found.word("closes")?;
+    }
+    Ok(())
+}
+
+/// Tells a hub of an event, and says what comes of it.
+fn step(alloc: Global, hub: &mut Hub, event: &Event, found: &mut Found) -> io::Result<()> {
+    match &hub.step(event) {
+        Ok(reply) => tell_reply(reply, found)?,
+        Err(fault) => found.line(format!(in alloc; "refused {fault}")?)?,
+    }
+    Ok(found.count_if_any("work", hub.work())?)
+}
+
+/// A hub of the service's streams, fed from their files and this input.
+fn fed_hub(rt: &HostRuntime, service: &ServeArgs<'_>, input: &[u8]) -> Option<Hub> {
+    let mut hub = new_hub(rt.alloc(), service).ok()?;
+    let mut input = Counted::new(input);
+    match feed_all(rt, &mut hub, &service.streams, &mut input) {
+        Ok(()) => Some(hub),
+        Err(_) => None,
+    }
+}
+
+/// What these words ask to be served.
+fn asked<'a>(alloc: Global, words: &'a [&'a str]) -> Option<ServeArgs<'a>> {
+    match read_args(alloc, words) {
+        Ok(Task::Serve(service)) => Some(service),
+        _ => None,
+    }
+}
+
+/// Sends bytes in pieces, and says all that is replied as one.
+fn send(
+    alloc: Global,
+    hub: &mut Hub,
+    bytes: &[u8],
+    size: usize,
+    found: &mut Found,
+) -> io::Result<()> {
+    let mut replies = Vec::new(alloc);
+    for piece in bytes.chunks(size.max(1)) {
+        let piece = ByteList::from_vec(piece.to_vec(alloc)?);
+        if let Ok(reply) = hub.step(&Event::Bytes(VISITOR, piece)) {
+            replies.extend_from_slice(reply.bytes.as_slice())?;
+        }
+    }
+    Ok(found.bytes("reply", &replies)?)
+}
+
+impl Connections {
+    pub(crate) fn new(alloc: Global) -> Connections {
+        Connections {
+            alloc,
+            limits: Limits::usual(),
+            hub: None,
+        }
+    }
+
+    /// Makes the hub.
+    fn make(&mut self, line: &str, names: &Names, found: &mut Found) -> io::Result<()> {
+        let mut streams = Vec::new(self.alloc);
+        for name in line.split(' ') {
+            streams.push(list(names, name)?)?;
+        }
+        match Hub::new(self.alloc, streams, self.limits) {
+            Ok(hub) => self.hub = Some(hub),
+            Err(NewFault::Names) => found.word("refused Names")?,
+            Err(NewFault::Memory) => return Err(malformed()),
+        }
+        Ok(())
+    }
+
+    /// Makes the hub and feeds it as the program does that has these words, and bytes of this name as its input.
+    fn serve(&mut self, rt: &HostRuntime, line: &str, names: &Names) -> io::Result<()> {
+        let (line, name) = line.split_once(" < ").ok_or(malformed())?;
+        let input = names.get(name)?;
+        let words: Vec<&str> = line.split(' ').collect(self.alloc)?;
+        let service = asked(self.alloc, &words).ok_or(malformed())?;
+        self.hub = fed_hub(rt, &service, input);
+        Ok(())
+    }
+
+    /// The hub.
+    fn hub(&mut self) -> io::Result<&mut Hub> {
+        self.hub.as_mut().ok_or(malformed())
+    }
+
+    /// Tells the hub of connections, by `FROM..TO`.
+    fn open_all(&mut self, range: &str, found: &mut Found) -> io::Result<()> {
+        let alloc = self.alloc;
+        let (from, to) = range.split_once("..").ok_or(malformed())?;
+        let numbers = number(from)?..number(to)?;
+        let hub = self.hub()?;
+        for number in numbers {
+            step(alloc, hub, &Event::Open(number), found)?;
+        }
+        Ok(())
+    }
+
+    /// Sends a text in one piece.
+    fn ask(&mut self, text: &str, names: &Names, found: &mut Found) -> io::Result<()> {
+        let alloc = self.alloc;
+        let event = Event::Bytes(VISITOR, list(names, text)?);
+        let hub = self.hub()?;
+        let _ = hub.step(&Event::Open(VISITOR));
+        step(alloc, hub, &event, found)?;
+        let _ = hub.step(&Event::Shut(VISITOR));
+        Ok(())
+    }
+
+    /// Sends a text in pieces, by `SIZE TEXT`.
+    fn cut(&mut self, line: &str, names: &Names, found: &mut Found) -> io::Result<()> {
+        let alloc = self.alloc;
+        let (size, text) = line.split_once(' ').ok_or(malformed())?;
+        let size = number(size)? as usize;
+        let bytes = names.read(text)?;
+        let hub = self.hub()?;
+        let _ = hub.step(&Event::Open(VISITOR));
+        send(alloc, hub, &bytes, size, found)?;
+        let _ = hub.step(&Event::Shut(VISITOR));
+        Ok(())
+    }
+}
+
+impl Script for Connections {
+    fn begin(&mut self) {
+        self.hub = None;
+        self.limits = Limits::usual();
+    }
+
+    fn command(
+        &mut self,
+        rt: &HostRuntime,
+        line: &str,
+        names: &mut Names,
+        found: &mut Found,
+    ) -> io::Result<()> {
+        match line.split_once(' ') {
+            Some(("limits", numbers)) => {
+                self.limits = limits(numbers)?;
+                Ok(())
+            }
+            Some(("vp8", _)) => self.serve(rt, line, names),
+            Some(("hub", rest)) => self.make(rest, names, found),
+            Some(("open", range)) if range.split_once("..").is_some() => {
+                self.open_all(range, found)
+            }
+            Some(("ask", text)) => self.ask(text, names, found),
+            Some(("cut", rest)) => self.cut(rest, names, found),
+            _ => {
+                let alloc = self.alloc;
+                let event = event(names, line)?;
+                step(alloc, self.hub()?, &event, found)
+            }
+        }
+    }
+}

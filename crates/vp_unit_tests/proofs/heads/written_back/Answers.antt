@@ -1,0 +1,10 @@
+use Rattle.std.proofs.Common.{sym, subst, is_some}
+use Rattle.vp_head.specs.Spelled.{IsWritableHeader, kept_before}
+use Rattle.vp_head.proofs.SpelledLemmas.{header-spelled}
+use Rattle.vp_unit_tests.proofs.heads.written_back.Goals as goal
+
+pub write-requires : goal.write-requires
+write-requires c =
+    let tag = c.in_ok-tag.tag in
+    let saved = c.defaults-saved.result in
+    subst (λ r. IsWritableHeader (is_some tag.key) (kept_before saved tag) r.0) (sym c.read-2.ensures.value) (header-spelled saved tag _)

@@ -1,0 +1,8 @@
+use Rattle.vp_transform.proofs.Bounds.{idct_fits_tested}
+use Rattle.vp_unit_tests.proofs.transforms.kernel_examples.Goals as goal
+
+pub idct-requires : goal.idct-requires
+idct-requires g c = idct_fits_tested _ tt
+
+pub idct-requires-2 : goal.idct-requires-2
+idct-requires-2 g c = idct_fits_tested _ tt

@@ -1,0 +1,44 @@
+//! vp_cache by itself, over a stream written by hand: a key packet, and an inter packet that changes nothing.
+
+use crate::check::equal;
+use std::alloc::Global;
+use std::test::Fail;
+use vp_base::Limits;
+use vp_cache::Cache;
+use vp_stream::{Answer, Stream};
+
+// An IVF file of 16 columns and 16 rows with those two packets.
+const FILE: [u8; 69] = [
+    0x44, 0x4b, 0x49, 0x46, 0, 0, 0x20, 0, 0x56, 0x50, 0x38, 0x30, 0x10, 0, 0x10, 0, 0x1e, 0, 0, 0,
+    1, 0, 0, 0, 1, 0, 0, 0, 0, 0, 0, 0, 0x0a, 0, 0, 0, 0, 0, 0, 0, 0, 0, 0, 0, 0x10, 0, 0, 0x9d,
+    0x01, 0x2a, 0x10, 0, 0x10, 0, 3, 0, 0, 0, 0, 0, 0, 0, 0, 0, 0, 0, 0x11, 0, 0,
+];
+
+/// Whether it is a picture of 16 by 16 pixels, 128 everywhere.
+fn is_grey(answer: &Answer) -> bool {
+    match answer {
+        Answer::Shown(dim, bytes) => {
+            dim.w == 16 && dim.h == 16 && bytes.as_slice() == [128; 384].as_slice()
+        }
+        _ => false,
+    }
+}
+
+fn stream_of(alloc: Global) -> Stream {
+    let mut stream = Stream::new(alloc, Limits::usual());
+    let _ = stream.feed(&FILE);
+    stream
+}
+
+#[test]
+fn cache_is_filled(rt: HostRuntime) -> Result<(), Fail> {
+    let alloc = rt.alloc();
+    let stream = stream_of(alloc);
+    let mut cache = Cache::new(alloc, 1)?;
+    let mut work = 0;
+    assert!(rt; cache.cached(0, 1).is_none());
+    assert!(rt; is_grey(&cache.picture(0, &stream, 1, &mut work)?));
+    equal(&rt, &work, &2);
+    assert!(rt; cache.cached(0, 1).is_some());
+    Ok(())
+}

@@ -1,0 +1,368 @@
+//! vp_head by itself: tags and headers, worked and of streams, and their faults.
+
+use crate::check::equal;
+use std::alloc::Global;
+use std::test::Fail;
+use vp_base::Limits;
+use vp_bool::{BoolDecoder, BoolEncoder};
+use vp_head::{
+    Filter, Header, KeyTag, LevelDeltas, PacketFault, Probabilities, QuantiserIndices,
+    ReferenceCopy, ReferenceProbabilities, ReferenceUpdates, Saved, SegmentValues, Segmentation,
+    SignBiases, Tag,
+};
+
+const KEY: [u8; 10] = [0x10, 0, 0, 0x9d, 0x01, 0x2a, 0x10, 0, 0x10, 0];
+
+/// A key packet with another start code, and no width.
+const OTHER: [u8; 10] = [0x10, 0, 0, 0x9d, 0x01, 0x2b, 0, 0, 0x10, 0];
+
+/// The tag of a packet, or why it has none.
+fn tag_of(packet: &[u8]) -> Result<Tag, PacketFault> {
+    Tag::read(packet, &Limits::usual())
+}
+
+#[test]
+fn packet_faults(rt: HostRuntime) -> Result<(), Fail> {
+    assert!(rt; tag_of(&KEY[..9]) == Err(PacketFault::Truncated));
+    assert!(rt; tag_of(&[0x11, 0]) == Err(PacketFault::Truncated));
+    assert!(rt; tag_of(&[0x18, 0, 0]) == Err(PacketFault::Version));
+    assert!(rt; tag_of(&OTHER) == Err(PacketFault::StartCode));
+    let wanted = Tag {
+        version: 0,
+        show: true,
+        first_partition: 262_161,
+        key: None,
+    };
+    assert!(rt; tag_of(&[0x31, 0x02, 0x80]) == Ok(wanted));
+    Ok(())
+}
+
+/// The tag of a key packet with these words of width and height.
+fn tag_of_size(size: [u8; 4], limits: &Limits) -> Result<Tag, PacketFault> {
+    let [w, w_scale, h, h_scale] = size;
+    let packet = [0x10, 0, 0, 0x9d, 0x01, 0x2a, w, w_scale, h, h_scale];
+    Tag::read(&packet, limits)
+}
+
+/// Width, height and their scales.
+fn sides_of(key: Option<KeyTag>) -> Option<(u16, u16, u8, u8)> {
+    let key = key?;
+    Some((
+        key.dim.w,
+        key.dim.h,
+        key.horizontal_scale,
+        key.vertical_scale,
+    ))
+}
+
+#[test]
+fn size_limits(rt: HostRuntime) -> Result<(), Fail> {
+    let limits = Limits::new(16_384, 1, 1, 1).ok_or("limits")?;
+    assert!(rt; tag_of_size([0, 0, 16, 0], &limits) == Err(PacketFault::Size));
+    assert!(rt; tag_of_size([129, 0, 129, 0], &limits) == Err(PacketFault::TooLarge));
+    let tag = tag_of_size([128, 0x40, 128, 0xc0], &limits)?;
+    equal(&rt, &sides_of(tag.key), &Some((128, 128, 1, 3)));
+    Ok(())
+}
+
+/// The header that stands in a packet's first partition, what is kept after it, and the eight bits behind it.
+fn header_of(packet: &[u8], partition: &[u8]) -> Result<(Header, Saved, u8), Fail> {
+    let tag = Tag::read(packet, &Limits::usual())?;
+    let mut decoder = BoolDecoder::new(partition);
+    let (header, saved) = Header::read(&Saved::defaults(), &tag, &mut decoder);
+    Ok((header, saved, decoder.literal(8)))
+}
+
+/// What a header says of segments, filter and quantiser.
+fn rows_of(header: &Header) -> (Segmentation, Filter, QuantiserIndices) {
+    (header.segmentation, header.filter, header.quantiser)
+}
+
+const ONES_VALUES: SegmentValues = SegmentValues {
+    absolute: true,
+    quantisers: [-127; 4],
+    levels: [-63; 4],
+};
+
+fn ones_rows() -> (Segmentation, Filter, QuantiserIndices) {
+    let segmentation = Segmentation {
+        enabled: true,
+        update_map: true,
+        values: ONES_VALUES,
+        tree_probabilities: [255; 3],
+    };
+    let filter = Filter {
+        simple: true,
+        level: 63,
+        sharpness: 7,
+    };
+    let quantiser = QuantiserIndices {
+        y_ac: 127,
+        y_dc: -15,
+        y2_dc: -15,
+        y2_ac: -15,
+        uv_dc: -15,
+        uv_ac: -15,
+    };
+    (segmentation, filter, quantiser)
+}
+
+#[test]
+fn all_ones_header(rt: HostRuntime) -> Result<(), Fail> {
+    let (header, saved, _) = header_of(&KEY, &[255])?;
+    assert!(rt; header.key && header.color_space && header.clamping_type);
+    assert!(rt; header.deltas_enabled && header.refresh_entropy);
+    assert!(rt; rows_of(&header) == ones_rows());
+    assert!(rt; saved.segments == ONES_VALUES);
+    let deltas = LevelDeltas {
+        reference: [-63; 4],
+        mode: [-63; 4],
+    };
+    assert!(rt; header.deltas == deltas);
+    equal(&rt, &(header.log2_partitions, header.skip), &(3, Some(255)));
+    assert!(rt; header.probabilities.coefficients == [[[[255; 11]; 3]; 8]; 4]);
+    let kept = Saved::defaults().probabilities.vectors;
+    assert!(rt; saved.probabilities.vectors == kept);
+    Ok(())
+}
+
+/// The probabilities of luma, chroma and vectors.
+fn parts_of(probabilities: &Probabilities) -> ([u8; 4], [u8; 3], [[u8; 19]; 2]) {
+    let luma = probabilities.luma;
+    let chroma = probabilities.chroma;
+    let vectors = probabilities.vectors;
+    (luma, chroma, vectors)
+}
+
+#[test]
+fn all_ones_inter_header(rt: HostRuntime) -> Result<(), Fail> {
+    let (header, saved, _) = header_of(&[0x31, 0, 0], &[255])?;
+    assert!(rt; !header.key);
+    let updates = header.updates;
+    assert!(rt; updates.refresh_golden && updates.refresh_alt && updates.refresh_last);
+    equal(&rt, &updates.copy_to_golden, &ReferenceCopy::Nothing);
+    let biases = SignBiases {
+        golden: true,
+        alt: true,
+    };
+    assert!(rt; saved.biases == biases);
+    let references = ReferenceProbabilities {
+        intra: 255,
+        last: 255,
+        golden: 255,
+    };
+    assert!(rt; header.references == references);
+    assert!(rt; parts_of(&saved.probabilities) == ([255; 4], [255; 3], [[254; 19]; 2]));
+    Ok(())
+}
+
+/// The first packet of `synth_20008.ivf` in crates/vp_transcripts/data, to the end of its header. The values below
+/// are those of a reader that was written apart from this one.
+const KEY_PACKET: [u8; 34] = [
+    0xf0, 0x05, 0x00, 0x9d, 0x01, 0x2a, 0x40, 0x00, 0x30, 0x00, 0x6a, 0x8b, 0xe2, 0x5f, 0xc3, 0x1b,
+    0x76, 0x37, 0xb2, 0x24, 0xaa, 0x49, 0xbd, 0x71, 0x46, 0x26, 0xd1, 0xc9, 0xb1, 0x73, 0x5b, 0x85,
+    0xb9, 0xdd,
+];
+
+/// Its fourth packet, likewise, as if nothing had been kept before it.
+const INTER_PACKET: [u8; 52] = [
+    0xe3, 0x08, 0x00, 0xe7, 0x46, 0x6c, 0x59, 0x78, 0xfa, 0xa7, 0x27, 0xf2, 0x22, 0x33, 0xa5, 0x2c,
+    0x80, 0xb8, 0x40, 0xd2, 0xde, 0xfa, 0x45, 0x13, 0xe4, 0x35, 0x7f, 0xfa, 0xbd, 0x14, 0x0a, 0x7c,
+    0xc7, 0x94, 0xaa, 0x3c, 0x9b, 0xbd, 0x8b, 0xf2, 0x90, 0xc4, 0x16, 0xc2, 0x84, 0x74, 0x8d, 0xb2,
+    0xd1, 0x04, 0x10, 0x58,
+];
+
+fn key_rows() -> (Segmentation, Filter, QuantiserIndices) {
+    let segmentation = Segmentation {
+        enabled: true,
+        update_map: false,
+        values: SegmentValues {
+            absolute: false,
+            quantisers: [-34, 113, 0, -63],
+            levels: [0; 4],
+        },
+        tree_probabilities: [255; 3],
+    };
+    let filter = Filter {
+        simple: true,
+        level: 35,
+        sharpness: 3,
+    };
+    let quantiser = QuantiserIndices {
+        y_ac: 88,
+        y_dc: -11,
+        y2_dc: 6,
+        y2_ac: 1,
+        uv_dc: 0,
+        uv_ac: -2,
+    };
+    (segmentation, filter, quantiser)
+}
+
+fn change_for_key(coefficients: &mut [[[[u8; 11]; 3]; 8]; 4]) {
+    coefficients[0][1][0][0] = 46;
+    coefficients[1][0][0][0] = 51;
+    coefficients[1][0][2][0] = 179;
+    coefficients[2][6][2][8] = 57;
+    coefficients[3][5][0][1] = 110;
+}
+
+#[test]
+fn key_rows_of_a_stream(rt: HostRuntime) -> Result<(), Fail> {
+    let (header, saved, behind) = header_of(&KEY_PACKET, &KEY_PACKET[10..])?;
+    assert!(rt; !header.color_space && header.clamping_type);
+    assert!(rt; !header.deltas_enabled && !header.refresh_entropy);
+    assert!(rt; rows_of(&header) == key_rows());
+    let mut wanted = Saved::defaults().probabilities;
+    assert!(rt; saved.probabilities.coefficients == wanted.coefficients);
+    change_for_key(&mut wanted.coefficients);
+    assert!(rt; header.probabilities.coefficients == wanted.coefficients);
+    equal(
+        &rt,
+        &(header.log2_partitions, header.skip, behind),
+        &(3, Some(127), 200),
+    );
+    Ok(())
+}
+
+fn inter_rows() -> (Segmentation, Filter, QuantiserIndices) {
+    let segmentation = Segmentation {
+        enabled: true,
+        update_map: true,
+        values: SegmentValues {
+            absolute: false,
+            quantisers: [1, 83, 0, 70],
+            levels: [9, 0, 0, 0],
+        },
+        tree_probabilities: [238, 255, 60],
+    };
+    let filter = Filter {
+        simple: false,
+        level: 58,
+        sharpness: 5,
+    };
+    let quantiser = QuantiserIndices {
+        y_ac: 68,
+        y_dc: 5,
+        y2_dc: 0,
+        y2_ac: -11,
+        uv_dc: -3,
+        uv_ac: 0,
+    };
+    (segmentation, filter, quantiser)
+}
+
+#[test]
+fn inter_rows_of_a_stream(rt: HostRuntime) -> Result<(), Fail> {
+    let (header, saved, _) = header_of(&INTER_PACKET, &INTER_PACKET[3..])?;
+    assert!(rt; header.deltas_enabled && !header.refresh_entropy);
+    assert!(rt; rows_of(&header) == inter_rows());
+    let deltas = LevelDeltas {
+        reference: [0, 0, 46, 58],
+        mode: [0, 0, 54, 61],
+    };
+    assert!(rt; saved.deltas == deltas);
+    let updates = ReferenceUpdates {
+        refresh_golden: true,
+        refresh_alt: false,
+        copy_to_golden: ReferenceCopy::Nothing,
+        copy_to_alt: ReferenceCopy::Last,
+        refresh_last: false,
+    };
+    assert!(rt; header.updates == updates);
+    let biases = SignBiases {
+        golden: false,
+        alt: true,
+    };
+    assert!(rt; (header.log2_partitions, header.biases) == (0, biases));
+    Ok(())
+}
+
+fn change_for_inter(coefficients: &mut [[[[u8; 11]; 3]; 8]; 4]) {
+    coefficients[0][0][0][3] = 40;
+    coefficients[0][1][0][0] = 14;
+    coefficients[0][1][0][10] = 87;
+    coefficients[0][1][1][0] = 253;
+    coefficients[0][3][0][7] = 138;
+    coefficients[2][0][0][1] = 179;
+    coefficients[3][0][2][0] = 50;
+    coefficients[3][2][0][7] = 242;
+    coefficients[3][5][1][3] = 236;
+}
+
+#[test]
+fn inter_probabilities_of_a_stream(rt: HostRuntime) -> Result<(), Fail> {
+    let (header, _, behind) = header_of(&INTER_PACKET, &INTER_PACKET[3..])?;
+    let references = ReferenceProbabilities {
+        intra: 20,
+        last: 158,
+        golden: 109,
+    };
+    assert!(rt; header.references == references);
+    equal(&rt, &(header.skip, behind), &(Some(46), 183));
+    let mut wanted = Saved::defaults().probabilities;
+    change_for_inter(&mut wanted.coefficients);
+    assert!(rt; header.probabilities.coefficients == wanted.coefficients);
+    wanted.luma = [104, 203, 38, 211];
+    wanted.vectors[1][2] = 238;
+    assert!(rt; parts_of(&header.probabilities) == parts_of(&wanted));
+    Ok(())
+}
+
+/// The header that stands in a packet's first partition, written anew and read back.
+fn written_back(alloc: Global, packet: &[u8], partition: &[u8]) -> Result<Header, Fail> {
+    let tag = Tag::read(packet, &Limits::usual())?;
+    let saved = Saved::defaults();
+    let (header, _) = Header::read(&saved, &tag, &mut BoolDecoder::new(partition));
+    let mut encoder = BoolEncoder::new(alloc);
+    header.write(&saved, &tag, &mut encoder)?;
+    let bytes = encoder.finish()?;
+    let (again, _) = Header::read(&saved, &tag, &mut BoolDecoder::new(bytes.as_slice()));
+    Ok(again)
+}
+
+#[test]
+fn headers_read_back(rt: HostRuntime) -> Result<(), Fail> {
+    let key = written_back(rt.alloc(), &KEY, &[255])?;
+    assert!(rt; key.key && key.color_space && key.clamping_type);
+    assert!(rt; rows_of(&key) == ones_rows());
+    assert!(rt; key.probabilities.coefficients == [[[[255; 11]; 3]; 8]; 4]);
+    let inter = written_back(rt.alloc(), &[0x31, 0, 0], &[255])?;
+    assert!(rt; !inter.key && inter.biases.golden && inter.biases.alt);
+    assert!(rt; rows_of(&inter) == ones_rows());
+    assert!(rt; parts_of(&inter.probabilities) == ([255; 4], [255; 3], [[254; 19]; 2]));
+    Ok(())
+}
+
+fn is_told_as(alloc: Global, fault: PacketFault, name: &str) -> Result<bool, Fail> {
+    Ok(format!(in alloc; "{fault}")?.as_str() == name)
+}
+
+/// The faults by their names, a partition with its number.
+#[test]
+fn names_of_packet_faults(rt: HostRuntime) -> Result<(), Fail> {
+    let names = [
+        (PacketFault::Truncated, "Truncated"),
+        (PacketFault::Version, "Version"),
+        (PacketFault::StartCode, "StartCode"),
+        (PacketFault::Size, "Size"),
+        (PacketFault::TooLarge, "TooLarge"),
+        (PacketFault::NoReference, "NoReference"),
+        (PacketFault::FirstPartition, "FirstPartition"),
+        (PacketFault::PartitionTable, "PartitionTable"),
+        (PacketFault::Partition(2), "Partition 2"),
+    ];
+    for (fault, name) in names {
+        assert!(rt; is_told_as(rt.alloc(), fault, name)?);
+    }
+    Ok(())
+}
+
+/// A key packet of fewer than ten bytes is cut short, whatever its start code and its sizes are.
+#[test]
+fn truncated_before_start_code(rt: HostRuntime) -> Result<(), Fail> {
+    assert!(rt; tag_of(&OTHER[..9]) == Err(PacketFault::Truncated));
+    assert!(rt; tag_of(&OTHER[..6]) == Err(PacketFault::Truncated));
+    assert!(rt; tag_of(&OTHER[..3]) == Err(PacketFault::Truncated));
+    Ok(())
+}

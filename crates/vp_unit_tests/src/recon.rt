@@ -1,0 +1,307 @@
+//! vp_recon by itself: intra macroblocks rebuilt.
+
+ghost use Rattle.std.specs.Prelude.{◌≡◌, ◌≤◌, ◌≤ℤ◌, pos, negsuc};
+
+use std::alloc::Global;
+use vp_base::{Dim, Limits, Picture, Place, Plane};
+use vp_head::Reference;
+use vp_modes::Modes;
+use vp_quant::Factors;
+use vp_recon::{Predictor, rebuild_macroblock, rebuild_subblock};
+use vp_tables::{ChromaMode, LumaMode, SubMode};
+use vp_tokens::{Block, Tokens};
+
+pub(crate) const FACTORS: Factors = Factors {
+    y_dc: 4,
+    y_ac: 4,
+    y2_dc: 8,
+    y2_ac: 8,
+    uv_dc: 4,
+    uv_ac: 4,
+};
+
+pub(crate) const TOP: Place = Place { column: 0, row: 0 };
+
+fn modes(luma: LumaMode) -> Modes {
+    Modes {
+        segment: 0,
+        skip: false,
+        reference: Reference::Intra,
+        luma,
+        subs: [SubMode::Dc; 16],
+        chroma: ChromaMode::Dc,
+    }
+}
+
+/// Whether luma is 128 in rows 0 to 3 and 129 below, of 16 columns and 32 rows, and chroma 128.
+fn is_empty_picture(bytes: &[u8]) -> bool {
+    for (i, byte) in bytes.iter().enumerate() {
+        let wanted = if i >= 64 && i < 512 { 129 } else { 128 };
+        if *byte != wanted {
+            return false;
+        }
+    }
+    bytes.len() == 768
+}
+
+/// Whether two macroblocks without residue, each predicted by subblocks, make the empty picture.
+fn rebuilds_empty(alloc: Global, picture: &mut Picture) -> bool
+    requires width { picture.old.width ≡ 16 }
+    requires height { picture.old.height ≡ 32 }
+{
+    let below = Place { column: 0, row: 1 };
+    let modes = modes(LumaMode::B);
+    let source = Predictor::Intra(&modes);
+    let tokens = Tokens {
+        blocks: [Block::NONE; 25],
+    };
+    rebuild_macroblock(picture, TOP, &source, &tokens, &FACTORS);
+    rebuild_macroblock(picture, below, &source, &tokens, &FACTORS);
+    match picture.crop_i420(alloc) {
+        Ok(bytes) => is_empty_picture(&bytes),
+        Err(_) => false,
+    }
+}
+
+#[test]
+fn two_macroblock_rows(rt: HostRuntime) {
+    let Ok(dim) = Dim::new(16, 32, &Limits::usual()) else {
+        panic!(rt; "a size");
+    };
+    let Ok(mut picture) = Picture::new(rt.alloc(), dim, 0) else {
+        panic!(rt; "a picture");
+    };
+    assert!(rt; rebuilds_empty(rt.alloc(), &mut picture));
+}
+
+/// Whether the plane has these four rows of four pixels, the first one at column `at` of row `at`.
+fn has_block(plane: &Plane, at: usize, wanted: &[[u8; 4]; 4]) -> bool
+    requires { at ≤ 4 }
+{
+    if plane.width() < 8 || plane.height() < 8 {
+        return false;
+    }
+    for (y, row) in wanted.iter().enumerate() {
+        if &plane.row(at + y)[at..at + 4] != row.as_slice() {
+            return false;
+        }
+    }
+    true
+}
+
+const LEAST: Block = Block {
+    levels: [-2114; 16],
+    tokens: 16,
+};
+
+const FIRST_OF_ONES: [[u8; 4]; 4] = [
+    [0, 255, 0, 0],
+    [255, 0, 255, 251],
+    [0, 255, 0, 5],
+    [0, 251, 5, 104],
+];
+
+#[test]
+fn all_ones_tokens(rt: HostRuntime) {
+    let Ok(dim) = Dim::new(16, 16, &Limits::usual()) else {
+        panic!(rt; "a size");
+    };
+    let modes = modes(LumaMode::B);
+    let source = Predictor::Intra(&modes);
+    let tokens = Tokens {
+        blocks: [LEAST; 25],
+    };
+    let Ok(mut picture) = Picture::new(rt.alloc(), dim, 0) else {
+        panic!(rt; "a picture");
+    };
+    assert!(rt; !source.has_y2());
+    rebuild_macroblock(&mut picture, TOP, &source, &tokens, &FACTORS);
+    assert!(rt; has_block(picture.plane(0), 0, &FIRST_OF_ONES));
+    assert!(rt; has_block(picture.plane(1), 0, &FIRST_OF_ONES));
+    assert!(rt; has_block(picture.plane(2), 0, &FIRST_OF_ONES));
+}
+
+#[test]
+fn one_subblock(rt: HostRuntime) {
+    let Ok(dim) = Dim::new(16, 16, &Limits::usual()) else {
+        panic!(rt; "a size");
+    };
+    let Ok(mut picture) = Picture::new(rt.alloc(), dim, 0) else {
+        panic!(rt; "a picture");
+    };
+    rebuild_subblock(&mut picture, TOP, SubMode::Dc, &LEAST, &FACTORS);
+    assert!(rt; has_block(picture.plane(0), 0, &FIRST_OF_ONES));
+}
+
+/// Two levels, the first of which is multiplied to more than 16 bits hold.
+const GREAT: Block = Block {
+    levels: [300, 1, 0, 0, 0, 0, 0, 0, 0, 0, 0, 0, 0, 0, 0, 0],
+    tokens: 2,
+};
+
+/// 300 times 157 is 47,100, an eighth of which takes each pixel past 255; 16 bits would wrap it to less than nothing.
+#[test]
+fn great_products_do_not_wrap(rt: HostRuntime) {
+    let Ok(dim) = Dim::new(16, 16, &Limits::usual()) else {
+        panic!(rt; "a size");
+    };
+    let Ok(mut picture) = Picture::new(rt.alloc(), dim, 0) else {
+        panic!(rt; "a picture");
+    };
+    let factors = Factors {
+        y_dc: 157,
+        y_ac: 284,
+        ..FACTORS
+    };
+    rebuild_subblock(&mut picture, TOP, SubMode::Dc, &GREAT, &factors);
+    assert!(rt; has_block(picture.plane(0), 0, &[[255; 4]; 4]));
+}
+
+const Y2: Block = Block {
+    levels: [5, -3, 0, 0, 0, 0, 0, 0, 0, 0, 0, 0, 0, 0, 0, 0],
+    tokens: 2,
+};
+
+const SIXTH: Block = Block {
+    levels: [0, 7, -9, 0, 0, 0, 0, 0, 0, 0, 0, 0, 0, 0, 0, 0],
+    tokens: 3,
+};
+
+fn tokens_of_two_blocks() -> Tokens {
+    let mut blocks = [Block::NONE; 25];
+    blocks[0] = Y2;
+    blocks[6] = SIXTH;
+    Tokens { blocks }
+}
+
+const MIXED: [[u8; 4]; 4] = [
+    [127, 124, 120, 118],
+    [130, 128, 124, 121],
+    [135, 133, 129, 126],
+    [139, 136, 132, 130],
+];
+
+/// Whether the plane is of one macroblock, with these pixels in its corners.
+fn has_corners(plane: &Plane, first: u8, last: u8) -> bool {
+    plane.width() == 16
+        && plane.height() == 16
+        && plane.get(0, 0) == first
+        && plane.get(15, 15) == last
+}
+
+#[test]
+fn first_coefficients_of_y2(rt: HostRuntime) {
+    let Ok(dim) = Dim::new(16, 16, &Limits::usual()) else {
+        panic!(rt; "a size");
+    };
+    let tokens = tokens_of_two_blocks();
+    let Ok(mut picture) = Picture::new(rt.alloc(), dim, 0) else {
+        panic!(rt; "a picture");
+    };
+    let modes = modes(LumaMode::Dc);
+    let source = Predictor::Intra(&modes);
+    assert!(rt; source.has_y2());
+    rebuild_macroblock(&mut picture, TOP, &source, &tokens, &FACTORS);
+    assert!(rt; has_block(picture.plane(0), 4, &MIXED));
+    assert!(rt; has_corners(picture.plane(0), 128, 129));
+}
+
+const OTHER: Block = Block {
+    levels: [3, 0, 0, 40, 0, -25, 0, 0, 0, 0, 0, 0, 0, 0, 0, 0],
+    tokens: 6,
+};
+
+/// Its coefficients are too large for two subblocks at once.
+const LARGE: Block = Block {
+    levels: [0, 600, 0, 0, 0, 0, 0, 0, 0, 0, 0, 0, 0, 0, 0, 0],
+    tokens: 2,
+};
+
+/// A block whose first level alone is not 0.
+fn first_alone(level: i16) -> Block
+    requires low { negsuc 99 ≤ℤ level }
+    requires high { level ≤ℤ pos 100 }
+{
+    let mut levels = [0; 16];
+    levels[0] = level;
+    Block { levels, tokens: 1 }
+}
+
+/// Subblocks side by side: both with more than a first coefficient, with that alone, one of each, and one too large.
+fn tokens_of_pairs() -> Tokens {
+    let mut blocks = [Block::NONE; 25];
+    blocks[1] = SIXTH;
+    blocks[2] = OTHER;
+    blocks[3] = LARGE;
+    blocks[4] = SIXTH;
+    blocks[17] = first_alone(30);
+    blocks[18] = first_alone(-7);
+    blocks[21] = first_alone(9);
+    blocks[22] = OTHER;
+    Tokens { blocks }
+}
+
+/// Whether the plane has these four rows of eight pixels from column `x` of its first row on.
+fn has_pair(plane: &Plane, x: usize, wanted: &[[u8; 8]; 4]) -> bool
+    requires { x ≤ 8 }
+{
+    if plane.width() < x + 8 || plane.height() < 4 {
+        return false;
+    }
+    for (y, row) in wanted.iter().enumerate() {
+        if &plane.row(y)[x..x + 8] != row.as_slice() {
+            return false;
+        }
+    }
+    true
+}
+
+/// The sums were worked out from RFC 6386's formulas (chapter 14) by a script apart from this program: the prediction is
+/// 128 everywhere.
+#[test]
+fn subblocks_side_by_side(rt: HostRuntime) {
+    let Ok(dim) = Dim::new(16, 16, &Limits::usual()) else {
+        panic!(rt; "a size");
+    };
+    let Ok(mut picture) = Picture::new(rt.alloc(), dim, 0) else {
+        panic!(rt; "a picture");
+    };
+    let modes = modes(LumaMode::Dc);
+    let tokens = tokens_of_pairs();
+    rebuild_macroblock(
+        &mut picture,
+        TOP,
+        &Predictor::Intra(&modes),
+        &tokens,
+        &FACTORS,
+    );
+    let both = [
+        [127, 124, 120, 118, 136, 161, 161, 136],
+        [130, 127, 124, 121, 96, 121, 121, 96],
+        [135, 132, 129, 126, 96, 121, 121, 96],
+        [139, 136, 132, 130, 136, 161, 161, 136],
+    ];
+    assert!(rt; has_pair(picture.plane(0), 0, &both));
+    let large = [
+        [255, 255, 0, 0, 127, 124, 120, 118],
+        [255, 255, 0, 0, 130, 127, 124, 121],
+        [255, 255, 0, 0, 135, 132, 129, 126],
+        [255, 255, 0, 0, 139, 136, 132, 130],
+    ];
+    assert!(rt; has_pair(picture.plane(0), 8, &large));
+    assert!(rt;
+        has_pair(
+            picture.plane(1),
+            0,
+            &[[143, 143, 143, 143, 125, 125, 125, 125]; 4]
+        )
+    );
+    let mixed = [
+        [133, 133, 133, 133, 137, 162, 162, 137],
+        [133, 133, 133, 133, 97, 122, 122, 97],
+        [133, 133, 133, 133, 97, 122, 122, 97],
+        [133, 133, 133, 133, 137, 162, 162, 137],
+    ];
+    assert!(rt; has_pair(picture.plane(2), 0, &mixed));
+    assert!(rt; has_corners(picture.plane(0), 127, 128));
+}

@@ -1,0 +1,123 @@
+//! vp_recon by itself: inter macroblocks rebuilt.
+
+ghost use Rattle.std.specs.Prelude.{◌≡◌, ◌<◌};
+
+use crate::recon::{FACTORS, TOP};
+use std::alloc::Global;
+use vp_base::{Dim, Limits, Picture};
+use vp_head::Reference;
+use vp_motion::{MacroblockMotion, Vector};
+use vp_recon::{Predictor, predict_inter_macroblock, rebuild_macroblock};
+use vp_tables::VectorMode;
+use vp_tokens::{Block, Tokens};
+
+/// One luma pixel to the right.
+const RIGHT: Vector = Vector { row: 0, column: 4 };
+
+const STILL: Vector = Vector { row: 0, column: 0 };
+
+/// Whether the 384 pixels are 200 from one place to another, and else 7.
+fn is_lit(bytes: &[u8], from: usize, to: usize) -> bool {
+    for (i, byte) in bytes.iter().enumerate() {
+        let wanted = if i >= from && i < to { 200 } else { 7 };
+        if *byte != wanted {
+            return false;
+        }
+    }
+    bytes.len() == 384
+}
+
+/// A picture of 16 by 16 pixels that all are 7 but one of luma, which is 200.
+fn lit_at(alloc: Global, dim: Dim, x: usize, y: usize) -> Option<Picture>
+    requires width { dim.w ≡ 16 }
+    requires height { dim.h ≡ 16 }
+    requires column { x < 16 }
+    requires row { y < 16 }
+{
+    let mut picture = Picture::new(alloc, dim, 7).ok()?;
+    let plane = picture.plane(0);
+    if plane.width() != 16 || plane.height() != 16 {
+        return None;
+    }
+    picture.set(0, x, y, 200);
+    Some(picture)
+}
+
+/// Whether a picture is lit from one place to another.
+fn shows(alloc: Global, picture: &Picture, from: usize, to: usize) -> bool {
+    match picture.crop_i420(alloc) {
+        Ok(bytes) => is_lit(&bytes, from, to),
+        Err(_) => false,
+    }
+}
+
+/// Whether the macroblock that is moved so, without residue, is lit from one place to another, by either call.
+fn moves_to(
+    alloc: Global,
+    dim: Dim,
+    motion: &MacroblockMotion,
+    reference: &Picture,
+    from: usize,
+    to: usize,
+) -> bool
+    requires width { dim.w ≡ 16 }
+    requires height { dim.h ≡ 16 }
+{
+    let tokens = Tokens {
+        blocks: [Block::NONE; 25],
+    };
+    let (Ok(mut rebuilt), Ok(mut moved)) = (
+        Picture::new(alloc, dim, 0),
+        Picture::new(alloc, dim, 0),
+    ) else {
+        return false;
+    };
+    let source = Predictor::Inter {
+        motion,
+        reference,
+        version: 0,
+    };
+    rebuild_macroblock(&mut rebuilt, TOP, &source, &tokens, &FACTORS);
+    predict_inter_macroblock(&mut moved, TOP, motion, reference, 0);
+    shows(alloc, &rebuilt, from, to) && shows(alloc, &moved, from, to)
+}
+
+fn moved() -> MacroblockMotion {
+    MacroblockMotion {
+        reference: Reference::Last,
+        mode: VectorMode::New,
+        vectors: [RIGHT; 16],
+    }
+}
+
+#[test]
+fn a_moved_macroblock(rt: HostRuntime) {
+    let Ok(dim) = Dim::new(16, 16, &Limits::usual()) else {
+        panic!(rt; "a size");
+    };
+    let Some(reference) = lit_at(rt.alloc(), dim, 5, 3) else {
+        panic!(rt; "a reference");
+    };
+    assert!(rt; moves_to(rt.alloc(), dim, &moved(), &reference, 52, 53));
+}
+
+fn split() -> MacroblockMotion {
+    let mut vectors = [STILL; 16];
+    vectors[0] = RIGHT;
+    MacroblockMotion {
+        reference: Reference::Last,
+        mode: VectorMode::Split,
+        vectors,
+    }
+}
+
+#[test]
+fn a_split_macroblock(rt: HostRuntime) {
+    let Ok(dim) = Dim::new(16, 16, &Limits::usual()) else {
+        panic!(rt; "a size");
+    };
+    let Some(reference) = lit_at(rt.alloc(), dim, 4, 0) else {
+        panic!(rt; "a reference");
+    };
+    assert!(rt; moves_to(rt.alloc(), dim, &split(), &reference, 3, 5));
+}

@@ -1,0 +1,295 @@
+//! vp_search by itself: where blocks are found, and ties.
+
+ghost use Rattle.std.specs.Prelude.{◌≡◌, ◌<◌, length};
+ghost use Rattle.vp_search.specs.Vectors.{IsNear};
+
+use crate::check::equal;
+use std::test::Fail;
+use vp_base::{Place, Plane};
+use vp_inter::{luma_vector, predict_block16};
+use vp_search::{
+    Found, QuarterVector, Refined, WholeVector, first_least, full_search, refine, sad16, sse,
+};
+
+/// A number for each column and row, without a pattern that comes again nearby.
+fn noise(x: usize, y: usize) -> u8 {
+    let a = (x % 256) as u8;
+    let b = (y % 256) as u8;
+    let c = a.wrapping_mul(a).wrapping_mul(37).wrapping_add(b);
+    c.wrapping_mul(c ^ b.wrapping_mul(113))
+}
+
+/// A number for each column and row, near those beside it: slopes that turn every few pixels.
+fn slope(x: usize, y: usize) -> u8 {
+    let a = (x % 24) as u8;
+    let b = (y % 20) as u8;
+    a.abs_diff(12) * 10 + b.abs_diff(10) * 12
+}
+
+/// The nearest to `at + by` of 0 to 47.
+fn cached(at: usize, by: i32) -> usize
+    requires { at < 48 }
+{
+    if at as i64 + i64::from(by) < 0 {
+        return 0;
+    }
+    ((at as i64 + i64::from(by)) as usize).min(47)
+}
+
+/// Fills a plane of 48 by 48 with what stands so far down and to the right in a plane of noise.
+fn fill(plane: &mut Plane, down: i32, right: i32) {
+    for y in 0..48 {
+        for x in 0..48 {
+            if x < plane.width() && y < plane.height() {
+                plane.set(x, y, noise(held(x, right), held(y, down)));
+            }
+        }
+    }
+}
+
+fn fill_slope(plane: &mut Plane) {
+    for y in 0..48 {
+        for x in 0..48 {
+            if x < plane.width() && y < plane.height() {
+                plane.set(x, y, slope(x, y));
+            }
+        }
+    }
+}
+
+/// Fills a plane of 48 by 48 with noise that is the same along lines: `slant` rows down and a column to the left.
+fn fill_lines(plane: &mut Plane, slant: usize, later: usize) {
+    for y in 0..48 {
+        for x in 0..48 {
+            if x < plane.width() && y < plane.height() {
+                let at = slant.wrapping_mul(x).wrapping_add(y);
+                plane.set(x, y, noise(at.wrapping_add(later), 0));
+            }
+        }
+    }
+}
+
+fn found(row: i32, column: i32, cost: u32) -> Found {
+    Found {
+        vector: WholeVector { row, column },
+        cost,
+    }
+}
+
+/// What is found for a macroblock of planes of 48 by 48; none elsewhere.
+fn search(
+    source: &Plane,
+    reference: &Plane,
+    column: usize,
+    row: usize,
+    range: u8,
+) -> Option<Found> {
+    let is_wide = source.width() == 48 && reference.width() == 48;
+    let is_high = source.height() == 48 && reference.height() == 48;
+    if is_wide && is_high && column < 3 && row < 3 && range <= 64 {
+        Some(full_search(source, reference, Place { column, row }, range))
+    } else {
+        None
+    }
+}
+
+/// Whether the macroblock at a place is found that was moved from so far down and to the right.
+fn is_found(source: &mut Plane, reference: &Plane, at: [usize; 2], down: i32, right: i32) -> bool {
+    fill(source, down, right);
+    search(source, reference, at[0], at[1], 16) == Some(found(down, right, 0))
+}
+
+/// Where the middle macroblock comes from, of a source that is `later` rows up in a plane of lines.
+fn along_lines(
+    source: &mut Plane,
+    reference: &mut Plane,
+    slant: usize,
+    later: usize,
+) -> Option<Found> {
+    fill_lines(reference, slant, 0);
+    fill_lines(source, slant, later);
+    search(source, reference, 1, 1, 4)
+}
+
+/// What `refine` gives for the middle macroblock of a plane, out of `reference`.
+fn refined(source: &Plane, reference: &Plane, row: i32, column: i32) -> Option<Refined>
+    requires { IsNear 100 (record { row = row; column = column }) }
+{
+    let is_wide = source.width() == 48 && reference.width() == 48;
+    let is_high = source.height() == 48 && reference.height() == 48;
+    let place = Place { column: 1, row: 1 };
+    if is_wide && is_high {
+        Some(refine(source, reference, place, WholeVector { row, column }))
+    } else {
+        None
+    }
+}
+
+/// Makes the middle macroblock what a vector in quarter pixels predicts.
+fn predict_middle(source: &mut Plane, reference: &Plane, row: i32, column: i32)
+    requires { IsNear 100 (record { row = row; column = column }) }
+{
+    let is_wide = source.width() == 48 && reference.width() == 48;
+    if is_wide && source.height() == 48 && reference.height() == 48 {
+        let block = predict_block16(reference, 16, 16, luma_vector(row, column), 0);
+        source.write_block::<16>(16, 16, &block);
+    }
+}
+
+/// The plain sum of absolute differences.
+fn plain_differences(a: &[u8; 256], b: &[u8; 256]) -> u32 {
+    let mut sum = 0u32;
+    for i in 0..256 {
+        sum = sum.wrapping_add(u32::from(a[i].abs_diff(b[i])));
+    }
+    sum
+}
+
+/// The plain sum of squared differences.
+fn plain_squares(a: &[u8], b: &[u8]) -> u64
+    requires { length a.now ≡ length b.now }
+{
+    let mut sum = 0u64;
+    for i in 0..a.len() {
+        let difference = u64::from(a[i].abs_diff(b[i]));
+        sum = sum.wrapping_add(difference.wrapping_mul(difference));
+    }
+    sum
+}
+
+fn noise_block(row: usize) -> [u8; 256] {
+    let mut block = [0; 256];
+    for i in 0..256 {
+        block[i] = noise(i, row);
+    }
+    block
+}
+
+/// The first length up to 67 at which the sum of squares is another than the plain one.
+fn first_wrong_length(a: &[u8; 256], b: &[u8; 256]) -> Option<usize> {
+    for n in 0..68 {
+        if sse(&a[..n], &b[..n]) != plain_squares(&a[..n], &b[..n]) {
+            return Some(n);
+        }
+    }
+    None
+}
+
+#[test]
+fn flat_planes_stand_still(rt: HostRuntime) -> Result<(), Fail> {
+    let source = Plane::new(rt.alloc(), 48, 48, 100)?;
+    let reference = Plane::new(rt.alloc(), 48, 48, 103)?;
+    equal(
+        &rt,
+        &search(&source, &source, 1, 1, 16),
+        &Some(found(0, 0, 0)),
+    );
+    equal(
+        &rt,
+        &search(&source, &reference, 0, 2, 64),
+        &Some(found(0, 0, 768)),
+    );
+    let still = Refined {
+        vector: QuarterVector { row: 0, column: 0 },
+        cost: 768,
+    };
+    equal(&rt, &refined(&source, &reference, 0, 0), &Some(still));
+    Ok(())
+}
+
+#[test]
+fn moved_blocks_are_found(rt: HostRuntime) -> Result<(), Fail> {
+    let mut reference = Plane::new(rt.alloc(), 48, 48, 0)?;
+    let mut source = Plane::new(rt.alloc(), 48, 48, 0)?;
+    fill(&mut reference, 0, 0);
+    assert!(rt; is_found(&mut source, &reference, [1, 1], 5, -9));
+    assert!(rt; is_found(&mut source, &reference, [1, 1], -16, 16));
+    assert!(rt; is_found(&mut source, &reference, [1, 1], 16, -16));
+    assert!(rt; is_found(&mut source, &reference, [0, 1], 3, -12));
+    assert!(rt; is_found(&mut source, &reference, [2, 1], -2, 15));
+    assert!(rt; is_found(&mut source, &reference, [1, 0], -14, 1));
+    assert!(rt; is_found(&mut source, &reference, [0, 2], 13, -7));
+    Ok(())
+}
+
+/// Far down and to the left of the plane all pixels are the one at its corner: the shortest way there is taken.
+#[test]
+fn far_outside_the_shortest_is_taken(rt: HostRuntime) -> Result<(), Fail> {
+    let mut reference = Plane::new(rt.alloc(), 48, 48, 0)?;
+    let mut source = Plane::new(rt.alloc(), 48, 48, 0)?;
+    fill(&mut reference, 0, 0);
+    fill(&mut source, 40, -50);
+    equal(
+        &rt,
+        &search(&source, &reference, 1, 1, 64),
+        &Some(found(31, -31, 0)),
+    );
+    Ok(())
+}
+
+/// Along lines many vectors find the same pixels. A column to the right, or a row down: the least row. Three columns to
+/// the right, or two and two rows down: the shortest, both directions added. Every second column: the least one.
+#[test]
+fn of_equal_vectors_by_length_row_and_column(rt: HostRuntime) -> Result<(), Fail> {
+    let mut reference = Plane::new(rt.alloc(), 48, 48, 0)?;
+    let mut source = Plane::new(rt.alloc(), 48, 48, 0)?;
+    equal(
+        &rt,
+        &along_lines(&mut source, &mut reference, 1, 1),
+        &Some(found(0, 1, 0)),
+    );
+    equal(
+        &rt,
+        &along_lines(&mut source, &mut reference, 2, 6),
+        &Some(found(0, 3, 0)),
+    );
+    equal(
+        &rt,
+        &along_lines(&mut source, &mut reference, 32, 32),
+        &Some(found(0, -1, 0)),
+    );
+    Ok(())
+}
+
+/// Half a pixel to the right is half a pixel down along lines that go as far down as to the left: the first by rows.
+#[test]
+fn of_equal_neighbours_by_rows(rt: HostRuntime) -> Result<(), Fail> {
+    let mut reference = Plane::new(rt.alloc(), 48, 48, 0)?;
+    let mut source = Plane::new(rt.alloc(), 48, 48, 0)?;
+    fill_lines(&mut reference, 1, 0);
+    predict_middle(&mut source, &reference, 2, 0);
+    let best = Refined {
+        vector: QuarterVector { row: 0, column: 2 },
+        cost: 0,
+    };
+    equal(&rt, &refined(&source, &reference, 0, 0), &Some(best));
+    Ok(())
+}
+
+#[test]
+fn predicted_blocks_are_refined(rt: HostRuntime) -> Result<(), Fail> {
+    let mut reference = Plane::new(rt.alloc(), 48, 48, 0)?;
+    let mut source = Plane::new(rt.alloc(), 48, 48, 0)?;
+    fill_slope(&mut reference);
+    predict_middle(&mut source, &reference, 10, -11);
+    let best = Refined {
+        vector: QuarterVector {
+            row: 10,
+            column: -11,
+        },
+        cost: 0,
+    };
+    equal(&rt, &refined(&source, &reference, 2, -3), &Some(best));
+    Ok(())
+}
+
+#[test]
+fn sums_are_the_plain_ones(rt: HostRuntime) {
+    let a = noise_block(3);
+    let b = noise_block(201);
+    equal(&rt, &sad16(&a, &b), &plain_differences(&a, &b));
+    equal(&rt, &sad16(&[0; 256], &[255; 256]), &65280);
+    equal(&rt, &first_wrong_length(&a, &b), &None);
+    equal(&rt, &sse(&[0, 3], &[5, 1]), &29);
+    equal(&rt, &first_least(&[7, 2, 5, 2]), &1);
+}
