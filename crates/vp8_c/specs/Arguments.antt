@@ -1,4 +1,5 @@
--- What calls give of what a handle leads to.
+-- The common forms of calls: a value handed out, a handle opened, a closed handle refused. Pinned by the tests
+-- `a_packet_is_handed_out` and `nothing_to_give`.
 use Rattle.std.specs.Prelude.{◌≡◌, ◌≢◌, ◌⊎◌, ◌↔◌, ◌≤◌, ℕ, List, length, Some, None, IsSome, Result, Ok, Err}
 use Rattle.vp_base.specs.Image.{Image}
 use Rattle.vp8_c.specs.declared.status.TheConstants.{BUFFER, CLOSED, OK, OPEN}

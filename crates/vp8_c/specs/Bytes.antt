@@ -1,4 +1,4 @@
--- Bytes in the caller's memory.
+-- Bytes copied to the beginning of the caller's buffer, with the rest unchanged.
 use Rattle.std.specs.Prelude.{◌≡◌, ℕ, List, length, drop, ◌++◌}
 
 -- the bytes stand first, and what is behind them is as it was before

@@ -1,4 +1,4 @@
--- The decoder that a handle leads to.
+-- The decoder of a handle: its limits, and the effect of decoding a packet. Pinned by the test `a_packet_is_decoded`.
 use Rattle.std.specs.Prelude.{◌≡◌, ◌≢◌, ◌⊎◌, ◌<◌, ℕ, List, length, Option, Some, None, Result, Err, ok_or, option_and_then}
 use Rattle.vp_base.specs.Image.{Image}
 use Rattle.vp_decode.specs.Step.{Decoder, IsDecoded, after, outcome, step}

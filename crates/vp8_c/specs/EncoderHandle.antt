@@ -1,4 +1,5 @@
--- The encoder that a handle leads to.
+-- The encoder of a handle: settings, and the effect of encoding a picture from the caller's rows. Pinned by the tests
+-- `settings_of_c` and `a_picture_is_encoded`.
 use Rattle.std.specs.Prelude.{◌≡◌, ◌≢◌, ◌⊎◌, ◌↔◌, ◌==◌, not, ℕ, List, length, Option, Some, None, Result, Err, ok_or, option_and_then}
 use Rattle.vp_base.specs.Image.{Image}
 use Rattle.vp_encode.specs.declared.encoder.Encoded.{Encoded}

@@ -1,4 +1,5 @@
--- The file that a handle leads to, and what was asked of it.
+-- The file of a handle: the pictures that a caller asks for, and the state after each call. Pinned by the tests
+-- `a_file_is_asked` and `a_file_is_told`.
 use Rattle.std.specs.Prelude.{◌≡◌, ◌≢◌, ◌<◌, ℕ, List, length, Option, Some, None, Result, Err, ok_or, option_and_then}
 use Rattle.vp_ivf.specs.declared.packet.IvfHead.{IvfHead}
 use Rattle.vp_ivf.specs.Reader.{finish_answer}

@@ -1,4 +1,4 @@
--- What a handle leads to.
+-- The object that a handle refers to.
 use Rattle.vp8_c.specs.Slot.{MaybeHeld}
 use Rattle.vp8_c.specs.declared.handle.Handle.{Handle}
 

@@ -1,4 +1,4 @@
--- The names of what calls answer.
+-- The names of status numbers. Pinned by the tests `names_of_other_numbers` and `a_name_is_copied`.
 use Rattle.std.specs.Prelude.{ℕ, List, [], ◌-◌, ◌==◌, nat_lt, codes, if◌then◌else◌}
 use Rattle.vp8_c.specs.declared.status.TheConstants.{OK, HIDDEN, TRUNCATED, VERSION, START_CODE, SIZE, TOO_LARGE, NO_REFERENCE, FIRST_PARTITION, PARTITION_TABLE, PARTITION}
 use Rattle.vp8_c.specs.declared.status.TheConstants.{SIGNATURE, CODEC, TOO_MANY, PACKET_TOO_LARGE, TORN, ENDED, SETTINGS, TOO_LONG, CLOSED, OPEN, MEMORY, LIMITS, DIMENSIONS, NO_PICTURE, NO_PACKET, BUFFER}

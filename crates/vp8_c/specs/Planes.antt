@@ -1,4 +1,5 @@
--- The three planes of a picture in the caller's memory: rows of bytes, each a stride behind the one before it.
+-- Three planes in the caller's memory, each with a stride: whether a picture fits, and what is read from or written to
+-- them. Pinned by the tests `rows_stand_apart` and `rows_that_do_not_fit`.
 use Rattle.std.specs.Prelude.{◌≡◌, ◌≢◌, ◌≤◌, ◌<◌, ℕ, ◌+◌, ◌-◌, ◌*◌, ◌/◌, List, length, slice_index}
 use Rattle.vp_base.specs.Raster.{pixel}
 use Rattle.vp_base.specs.Image.{Image, plane_of, with_plane}

@@ -1,4 +1,4 @@
--- What a slot owns.
+-- The heap memory that a slot owns.
 use Rattle.std.specs.Prelude.{Option, Some, None}
 use Rattle.std.specs.Coded.{Coded, coded_option}
 use Rattle.std.specs.Box.Ownership.{box_owns}

@@ -1,4 +1,5 @@
--- What calls answer: the numbers are those of `include/vp8.h`, which src/status.rt names.
+-- The status number of each outcome and fault, as in `include/vp8.h`. Pinned by the tests `numbers_of_the_header`,
+-- `numbers_of_packet_faults` and `numbers_of_file_faults`.
 use Rattle.std.specs.Prelude.{ℕ, ◌+◌, Result, Ok, Err}
 use Rattle.vp_head.specs.declared.fault.PacketFault.{PacketFault}
 use Rattle.vp_head.specs.declared.fault.PacketFault.TheVariants.{Truncated, Version, StartCode, Size, TooLarge, NoReference, FirstPartition, PartitionTable, Partition}

@@ -1,4 +1,5 @@
--- The commands of the program, and what words ask for.
+-- The command line: commands, options and operands in the terms of the crate clap, and the values that they select.
+-- Pinned by the tests `usual_settings`, `each_option_sets_its_own` and `served_as_asked`.
 use Rattle.std.specs.Prelude.{◌≡◌, ◌≢◌, ◌⊎◌, ◌<◌, ◌==◌, ◌^◌, ℕ, Bool, true, false, List, [], ◌∷◌, length, map, nat_lt, Option, Some, None, codes, if◌then◌else◌}
 use Rattle.std.specs.List.{after_first, before_first, list_all, position_or_len}
 use Rattle.std.specs.Str.{bytes_eq}

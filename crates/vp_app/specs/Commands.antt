@@ -1,4 +1,5 @@
--- What the commands do to the standard streams.
+-- What each command does with its standard streams and files, and its exit status. Pinned by the tests
+-- `pictures_of_over_16777216_pixels_are_too_large` and `info_that_is_not_printed_has_status_1`.
 use Rattle.std.specs.Prelude.{◌≡◌, ◌≢◌, ◌⊎◌, ℕ, Bool, true, false, List, codes, Option, Some, None, Result, Ok, Err, OnOk, IfOk, MatchBool}
 use Rattle.std.specs.Str.{bytes_eq}
 use Rattle.std.specs.Io.KnownBytes.{Appends, Consumes, IsAtEnd}

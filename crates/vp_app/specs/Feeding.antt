@@ -1,4 +1,5 @@
--- A file that is fed into a hub.
+-- Feeding a file to a hub in pieces, to its end or to its first fault. Pinned by the tests `files_are_fed`,
+-- `named_files_are_fed` and `long_files_are_fed_whole`.
 use Rattle.std.specs.Prelude.{◌≡◌, ◌≢◌, ◌⊎◌, ℕ, Bool, true, false, List, [], ◌∷◌, ◌++◌, Option, Some, None, Result, Ok, Err, All, IsOk}
 use Rattle.std.specs.List.{concat}
 use Rattle.std.specs.Io.KnownBytes.{IsAtEnd}

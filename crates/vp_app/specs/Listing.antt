@@ -1,4 +1,4 @@
--- What a file holds, as lines of text.
+-- The lines that `vp8 info` prints. Pinned by the test `info_lists_faults`.
 use Rattle.std.specs.Prelude.{ℕ, zero, suc, List, [], ◌∷◌, ◌++◌, length, slice_index_or, codes, decimal}
 use Rattle.vp_head.specs.Names.{packet_fault_name}
 use Rattle.vp_decode.specs.declared.decoder.Outcome.{Outcome}

@@ -1,4 +1,5 @@
--- A service. The streams' files are fed into a new hub, and then connections are served, one after another.
+-- A run of `vp8 serve`: the files are fed to a new hub, and then connections are served one after another. Pinned by
+-- the tests `one_connection_over_tcp` and `a_connection_behind_a_refused_one_is_served`.
 use Rattle.std.specs.Prelude.{◌≡◌, ◌⊎◌, ◌+◌, ℕ, Bool, List, [], ◌∷◌, length, map, codes, Option, None, Result, Err, is_ok, MatchBool}
 use Rattle.std.specs.List.{list_all}
 use Rattle.std.specs.Str.{bytes_eq}

@@ -1,4 +1,5 @@
--- The status of the program.
+-- The exit status of a command: 1 after a fault, also of a packet, else 0. Pinned by the test
+-- `truncated_then_no_reference`.
 use Rattle.std.specs.Prelude.{ℕ, List, [], ◌∷◌, Result, Ok, Err}
 use Rattle.vp_head.specs.declared.fault.PacketFault.{PacketFault}
 use Rattle.vp_stream.specs.declared.report.Report.{Report}

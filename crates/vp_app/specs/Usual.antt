@@ -1,4 +1,4 @@
--- The limits of the program's commands.
+-- The limits that the commands use.
 use Rattle.std.specs.Prelude.{◌≡◌, ℕ}
 use Rattle.vp_base.specs.declared.limits.Limits.{Limits}
 

@@ -1,5 +1,6 @@
--- The blocks round a block of 4 by 4 pixels: a macroblock has four by four of luma, two by two of each plane of colour
--- (RFC 6386, chapter 5). `side` is how many stand side by side in a macroblock.
+-- The neighbours of a subblock of 4 by 4 pixels (RFC 6386, chapter 5): in the same macroblock, in another one, or
+-- outside the frame. `side` is the number of subblocks in a row of a macroblock, 4 for luma and 2 for chroma. Pinned by
+-- the test `vectors_by_their_neighbours`.
 use Rattle.std.specs.Prelude.{ℕ, ◌+◌, ◌*◌, ◌/◌, ◌%◌, ◌<◌, ◌≤◌, ◌==◌, ◌&&◌, Bool, Option, Some, None, List, slice_index_or, if◌then◌else◌}
 use Rattle.vp_base.specs.declared.place.Place.{Place}
 use Rattle.vp_base.specs.declared.near.Near.{Near}

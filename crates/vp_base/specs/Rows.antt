@@ -1,4 +1,5 @@
--- Pixels by rows: what two planes, or two pictures, have alike above a row, and from a row on.
+-- Whether two planes or pictures agree above a row, or from a row on. Used by the laws of the loop filter and of
+-- reconstruction.
 use Rattle.std.specs.Prelude.{◌≡◌, ◌<◌, ◌≤◌, ℕ}
 use Rattle.vp_base.specs.Raster.{Raster, pixel}
 use Rattle.vp_base.specs.Image.{Image}

@@ -1,4 +1,5 @@
--- What is written, told by how it is read.
+-- What an encoder has written, stated by what a parser reads from it: the value, with the rest left over. The form of
+-- all writers' contracts.
 use Rattle.std.specs.Prelude.{◌≡◌, ℕ, Bool, List, [], ◌∷◌, map}
 use Rattle.vp_bool.specs.Bools.{State}
 use Rattle.vp_bool.specs.Reader.{Reader, give, Reads}

@@ -1,4 +1,5 @@
--- What a cache keeps, what a question makes of it, and how much is decoded beside it.
+-- The cache of decoded pictures: its entries, newest first, its capacity, and the packets decoded for a request. Pinned
+-- by the test `cache_is_filled`.
 use Rattle.std.specs.Prelude.{◌≡◌, ◌⊎◌, ◌&&◌, ℕ, Bool, nat_eq, List, [], ◌∷◌, take, Option, Some, None, Contains}
 use Rattle.std.specs.Borrow.{Bor}
 use Rattle.std.specs.Option.{option_map}

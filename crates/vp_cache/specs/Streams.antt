@@ -1,4 +1,4 @@
--- Streams that grow, and the entries of a cache for all of them.
+-- The statements of the laws that cached pictures stay valid while streams grow.
 use Rattle.std.specs.Prelude.{◌≡◌, ◌≢◌, ℕ, List, Some, slice_get, slice_set}
 use Rattle.vp_stream.specs.Seeking.{NoPacket, answer_at}
 use Rattle.vp_stream.specs.Stream.{Cache as StreamState}

@@ -1,4 +1,5 @@
--- The choice for one macroblock.
+-- The encoder's choice for one macroblock: intra or inter, by cost. RFC 6386 leaves it open. Pinned by the tests
+-- `encode_flat_bright` and `a_still_macroblock`.
 use Rattle.std.specs.Prelude.{◌≡◌, ◌<◌, ◌≤◌, false, not, Option, Some, None}
 use Rattle.vp_base.specs.declared.place.Place.{Place}
 use Rattle.vp_base.specs.Grid.{Grid}

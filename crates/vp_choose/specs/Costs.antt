@@ -1,4 +1,5 @@
--- What predictions of a macroblock cost: sums of absolute differences between its source and its prediction.
+-- The costs of intra predictions: sums of absolute differences between the source and its prediction. The encoder's own
+-- choice.
 use Rattle.std.specs.Prelude.{ℕ, ◌+◌, ◌*◌, ◌<◌, List, slice_index}
 use Rattle.vp_base.specs.declared.place.Place.{Place}
 use Rattle.vp_base.specs.Raster.{Raster, pixel}

@@ -1,4 +1,4 @@
--- What the macroblocks of a frame are chosen by, and what is chosen for one.
+-- The inputs of the choice for a frame's macroblocks: source, factors, search range and references.
 use Rattle.std.specs.Prelude.{ℕ, Bool, false, Option, Some, None, if◌then◌else◌}
 use Rattle.std.specs.Option.{option_map}
 use Rattle.vp_base.specs.Image.{Image}

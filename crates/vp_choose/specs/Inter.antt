@@ -1,4 +1,5 @@
--- The choice of a macroblock's reference, vector and mode, and its levels.
+-- The choice of a macroblock's reference, vector and mode, and its levels. The encoder's own choice. Pinned by the test
+-- `a_still_macroblock`.
 use Rattle.std.specs.Prelude.{◌≡◌, ◌≢◌, ◌<◌, ◌≤◌, ℕ, true, false, replicate, unsigned_abs}
 use Rattle.vp_base.specs.declared.place.Place.{Place}
 use Rattle.vp_base.specs.Grid.{Grid}

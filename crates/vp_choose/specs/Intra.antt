@@ -1,4 +1,5 @@
--- The choice of a macroblock's intra modes, and its levels.
+-- The choice of a macroblock's intra modes, and its levels; ties go to the first mode in order. The encoder's own
+-- choice. Pinned by the test `encode_flat_bright`.
 use Rattle.std.specs.Prelude.{◌≡◌, ℕ, ◌+◌, ◌<◌, pos, false, true, List, [], ◌∷◌, replicate, slice_index_or, if◌then◌else◌}
 use Rattle.vp_base.specs.declared.place.Place.{Place}
 use Rattle.vp_base.specs.Raster.{Raster}

@@ -1,4 +1,4 @@
--- The levels of a macroblock: its source less its prediction, transformed and quantised.
+-- The levels of a macroblock: source less prediction, transformed, quantised, and in zigzag order.
 use Rattle.std.specs.Prelude.{◌≡◌, ℕ, ◌+◌, ◌*◌, ◌/◌, ◌%◌, ◌<◌, ◌≤◌, ◌==◌, ℤ, pos, ◌-ℤ◌, List, map, slice_index_or, slice_set, if◌then◌else◌}
 use Rattle.std.specs.List.{range_with_len}
 use Rattle.vp_tables.specs.Tables.{zigzag}

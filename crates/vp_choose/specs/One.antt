@@ -1,4 +1,4 @@
--- That two choices for one macroblock are one.
+-- The statement of the law `choice_is_one`: the choice for a macroblock is unique.
 use Rattle.std.specs.Prelude.{◌≡◌, ◌<◌, ℕ, false, length}
 use Rattle.vp_base.specs.declared.place.Place.{Place}
 use Rattle.vp_base.specs.Grid.{Grid}

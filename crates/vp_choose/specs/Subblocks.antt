@@ -1,4 +1,5 @@
--- The choice of the luma subblocks' modes (B_PRED), one after another: each is rebuilt before the next is chosen.
+-- The choice of the subblock modes of B_PRED, one after another, each over the subblocks rebuilt before it. The
+-- encoder's own choice.
 use Rattle.std.specs.Prelude.{◌≡◌, ℕ, ◌*◌, ◌<◌, ℤ, List, [], ◌∷◌, slice_index_or}
 use Rattle.vp_base.specs.declared.place.Place.{Place}
 use Rattle.vp_base.specs.Raster.{Raster}

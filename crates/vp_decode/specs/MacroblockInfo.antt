@@ -1,4 +1,5 @@
--- What a frame's macroblocks say of themselves, in raster order from the first partition (RFC 6386, chapter 19.3).
+-- The modes and motion of all macroblocks, read in raster order from the first partition (RFC 6386, chapter 19.3).
+-- Pinned by the test `split_vectors_far_outside`, and streams of other encoders in the gate.
 use Rattle.std.specs.Prelude.{ℕ, not}
 use Rattle.vp_bool.specs.Reader.{Reader, ◌>>=◌, give, when, rows}
 use Rattle.vp_base.specs.declared.place.Place.{Place}

@@ -1,4 +1,5 @@
--- What the first partition says of the macroblock at a place: what is read where reading comes to it.
+-- The statement of the law `modes_and_motion_are_read_in_their_place` (RFC 6386, chapter 19.3): the modes and motion at
+-- a place are what is read once all macroblocks before it are read.
 use Rattle.std.specs.Prelude.{◌≡◌, ◌*◌, true, false, length}
 use Rattle.vp_bool.specs.Bools.{State}
 use Rattle.vp_bool.specs.Reader.{Reader, ◌>>=◌, rows}

@@ -1,4 +1,4 @@
--- The calls of an encoder, one after another, whatever they answer.
+-- All calls of an encoder since it was made, refused or not, and the statement of the law `encoded_frames_play_back`.
 use Rattle.std.specs.Prelude.{◌≡◌, ◌≤◌, ◌*◌, ℕ, List, [], ◌∷◌, map, Option, Some, None, Result, Ok, Err}
 use Rattle.std.specs.List.{filter_map, sum_by}
 use Rattle.vp_base.specs.declared.limits.Limits.{Limits}

@@ -1,4 +1,5 @@
--- The encoder's choice for a frame, as a packet says it.
+-- A packet carries the encoder's choice for a source, as a decoder reads it, and the squared distance of two pictures.
+-- Pinned by the test `error_over_shown_pixels`.
 use Rattle.std.specs.Prelude.{◌≡◌, ◌<◌, ◌≤◌, ◌*◌, ℕ, true, List, Ok, map}
 use Rattle.vp_bool.specs.Bools.{State, initial_state}
 use Rattle.vp_base.specs.declared.limits.Limits.{Limits}

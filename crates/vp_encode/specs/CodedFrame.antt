@@ -1,4 +1,5 @@
--- What a frame is told to be, and what it can be told to be (RFC 6386, chapters 5, 9, 13, 16 and 19).
+-- A frame that can be written: its header, and each macroblock's modes, motion and tokens (RFC 6386, chapters 5, 9, 13,
+-- 16 and 19). Pinned by the test `flat_macroblock`.
 use Rattle.std.specs.Prelude.{◌≡◌, Bool, true, false, not, replicate, if◌then◌else◌}
 use Rattle.vp_base.specs.declared.place.Place.{Place}
 use Rattle.vp_base.specs.Grid.{Grid, Has, at, mapped}

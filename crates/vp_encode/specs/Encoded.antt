@@ -1,4 +1,4 @@
--- What an encoder makes of pictures, one after another.
+-- A sequence of encoded frames: each packet is the choice for its source, and decodes to its reconstruction.
 use Rattle.std.specs.Prelude.{◌≡◌, ◌≤◌, ◌*◌, ◌+◌, ℕ, List, [], ◌∷◌, None, if◌then◌else◌}
 use Rattle.std.specs.List.{sum_by}
 use Rattle.vp_base.specs.declared.limits.Dim.{Dim}

@@ -1,4 +1,6 @@
--- What an encoder is set to, what it keeps between frames, and what its frames are chosen by.
+-- The encoder's settings and state, the kind and header of the next frame, and the source extended to whole
+-- macroblocks. The encoder's own choice within RFC 6386, chapter 9. Pinned by the tests `encode_flat_key`,
+-- `encode_flat_inter` and `source_is_continued`.
 use Rattle.std.specs.Prelude.{◌≡◌, ◌<◌, ◌≤◌, ◌⊎◌, ℕ, ◌+◌, ◌-◌, ◌/◌, ◌%◌, ◌==◌, ◌&&◌, min, pos, not, Bool, true, false, Option, Some, None, ◌∷◌, [], is_none, if◌then◌else◌}
 use Rattle.vp_base.specs.declared.limits.Dim.{Dim}
 use Rattle.vp_base.specs.Raster.{Raster, pixel}

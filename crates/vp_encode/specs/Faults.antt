@@ -1,4 +1,4 @@
--- Why a frame isn't encoded, by why its packet isn't written.
+-- The fault of an encoder, by the fault of its packet writer.
 use Rattle.vp_encode.specs.declared.fault.PacketError.{PacketError}
 use Rattle.vp_encode.specs.declared.fault.PacketError.TheVariants as packet_error
 use Rattle.vp_encode.specs.declared.fault.EncodeFault.{EncodeFault}

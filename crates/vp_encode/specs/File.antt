@@ -1,4 +1,5 @@
--- How the work on a source file ends.
+-- The results of encoding a source file: the report or the fault, and what was written. Faults are in the order of the
+-- work. Pinned by tests on whole files and on failing reads and writes.
 use Rattle.std.specs.Prelude.{◌≡◌, ◌≢◌, ◌≤◌, ◌<◌, ◌+◌, ◌*◌, ◌⊎◌, ℕ, zero, suc, List, [], ◌∷◌, ◌++◌, Option, None, Result, Ok, Err, OnOk, length, map}
 use Rattle.std.specs.List.{All, enumerate_from}
 use Rattle.std.specs.Io.KnownBytes.{Appends, Consumes, IsAtEnd}

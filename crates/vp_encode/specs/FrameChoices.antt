@@ -1,4 +1,5 @@
--- A frame's choices, and inside the crate how far choosing has come.
+-- All macroblocks of a frame are chosen, each over the picture and motion of those before it. The last part is inside
+-- the crate.
 use Rattle.std.specs.Prelude.{◌≡◌, ◌<◌, ◌≤◌, ℕ, false}
 use Rattle.vp_base.specs.declared.limits.Dim.{Dim}
 use Rattle.vp_base.specs.declared.place.Place.{Place}

@@ -1,4 +1,4 @@
--- The names of what ends the work on a source early, as they are told.
+-- The names of the faults of encoding a file, as printed.
 use Rattle.std.specs.Prelude.{ℕ, List, codes}
 use Rattle.vp_encode.specs.declared.report.EncodeAllFault.{EncodeAllFault}
 use Rattle.vp_encode.specs.declared.report.EncodeAllFault.TheVariants as fault

@@ -1,4 +1,5 @@
--- What a packet says, read as the packet step reads it.
+-- The frame that a packet carries, as the packet step reads it (RFC 6386, chapter 9.1). Pinned by the tests
+-- `eight_partitions` and `still_frame_keeps_last`, which decode the packets.
 use Rattle.std.specs.Prelude.{◌≡◌, ◌<◌, ◌≤◌, ◌-◌, ◌*◌, ℕ, true, List, length, map, slice_index, slice_index_or, Option, Some, None, IfSome, Ok, []}
 use Rattle.vp_bool.specs.Bools.{initial_state}
 use Rattle.vp_base.specs.declared.limits.Dim.{Dim}

@@ -1,4 +1,4 @@
--- The pictures of a YUV4MPEG2 file, as far as it is read.
+-- The pictures at the beginning of a YUV4MPEG2 file, and the bytes after them.
 use Rattle.std.specs.Prelude.{◌≡◌, ℕ, List, [], ◌∷◌, Some, Ok}
 use Rattle.vp_base.specs.Image.{Image, i420}
 use Rattle.vp_y4m.specs.Pixels.{IsZeroOutside}

@@ -1,4 +1,5 @@
--- What an encoded file shows where it is decoded.
+-- The statement of the law `encoded_files_play_back`: an encoded file decodes to the reconstructions, one for each
+-- picture.
 use Rattle.std.specs.Prelude.{◌≡◌, ◌≤◌, ◌*◌, ℕ, List, [], ◌∷◌, length, map, Option, None, Ok}
 use Rattle.std.specs.List.{All}
 use Rattle.vp_base.specs.declared.limits.Limits.{Limits}

@@ -1,4 +1,4 @@
--- A frame that no packet holds.
+-- A frame with a partition that is longer than the packet format allows. Pinned by the test `first_partition_too_long`.
 use Rattle.std.specs.Prelude.{◌≡◌, Option}
 use Rattle.vp_base.specs.declared.limits.Dim.{Dim}
 use Rattle.vp_base.specs.Image.{Image}

@@ -1,4 +1,5 @@
--- What the bytes of a packet are, and, inside the crate, how far writing has come (RFC 6386, chapters 9 and 19).
+-- The bytes of a packet: tag, first partition and token partitions (RFC 6386, chapters 9.1, 9.5 and 19). In part inside
+-- the crate: the state of writing. Pinned by the tests `eight_partitions` and `flat_macroblock`.
 use Rattle.std.specs.Prelude.{◌≡◌, ◌≢◌, ◌<◌, ◌≤◌, ◌⊎◌, ◌*◌, ◌^◌, ◌+◌, ◌-◌, ◌/◌, ◌%◌, ℕ, Bool, true, false, List, [], ◌∷◌, ◌++◌, length, map, slice_index_or, Option, Some, None, Ok}
 use Rattle.vp_bool.specs.Bools.{State, initial_state}
 use Rattle.vp_bool.specs.Reader.{Reader, ◌>>=◌, give, Reads}

@@ -1,4 +1,5 @@
--- What is true of the numbers of every tag and every header.
+-- Ranges of the numbers of a frame tag and a frame header, as the layers above need them. They follow from the number
+-- of bits of each syntax element.
 use Rattle.std.specs.Prelude.{ℕ, ◌*◌, ◌^◌, ◌<◌, ◌≤◌, ℤ, pos, List, IfSome, slice_index_or, unsigned_abs}
 use Rattle.vp_base.specs.declared.limits.Limits.{Limits}
 use Rattle.vp_head.specs.declared.fields.Tag.{Tag}

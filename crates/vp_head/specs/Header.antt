@@ -1,4 +1,5 @@
--- The rows of the frame header, in order (RFC 6386, chapter 9.2 to 9.11, 19.2).
+-- The frame header's syntax elements, in order (RFC 6386, chapters 9.2 to 9.11 and 19.2). Pinned by the tests
+-- `key_rows_of_a_stream`, `inter_rows_of_a_stream`, `all_ones_header` and `all_ones_inter_header`.
 use Rattle.std.specs.Prelude.{ℕ, zero, suc, pos, Bool, true, false, not, List, [], ◌∷◌, Option, Some, None, is_some, if◌then◌else◌}
 use Rattle.vp_bool.specs.Bools.{literal}
 use Rattle.vp_bool.specs.Reader.{Reader, ◌>>=◌, give, when}

@@ -1,4 +1,4 @@
--- The names of a packet's faults, as they are told.
+-- The names of packet faults, as printed. Pinned by the test `names_of_packet_faults`.
 use Rattle.std.specs.Prelude.{ℕ, List, ◌++◌, codes, decimal}
 use Rattle.vp_head.specs.declared.fault.PacketFault.{PacketFault}
 use Rattle.vp_head.specs.declared.fault.PacketFault.TheVariants.{Truncated, Version, StartCode, Size, TooLarge, NoReference, FirstPartition, PartitionTable, Partition}

@@ -1,4 +1,5 @@
--- How the probabilities that are kept are read anew (RFC 6386, chapter 9.9, 9.10, 13.4, 17.2).
+-- Updates of the saved probabilities: coefficients, modes, motion vectors (RFC 6386, chapters 9.9, 9.10, 13.4 and
+-- 17.2). Pinned by the tests `all_ones_header` (255) and `all_ones_inter_header` (254).
 use Rattle.std.specs.Prelude.{ℕ, ◌*◌, ◌==◌, List, [], slice_index, slice_index_or, if◌then◌else◌}
 use Rattle.vp_bool.specs.Bools.{read, literal}
 use Rattle.vp_bool.specs.Reader.{Reader, ◌>>=◌, give, when, each}

@@ -1,4 +1,4 @@
--- What a macroblock is predicted from (RFC 6386, chapter 9.7).
+-- Which macroblocks are intra coded (RFC 6386, chapter 9.7).
 use Rattle.std.specs.Prelude.{Bool, true, false}
 use Rattle.vp_head.specs.declared.fields.Reference.{Reference}
 use Rattle.vp_head.specs.declared.fields.Reference.TheVariants as reference_is

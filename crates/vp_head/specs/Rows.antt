@@ -1,4 +1,5 @@
--- What the rows of the header are made of (RFC 6386, chapter 8, 9, 19.2).
+-- The building blocks of the frame header (RFC 6386, chapters 8.1 and 19.2): flags, signed numbers, optional updates,
+-- and lists of them. Pinned by the test `all_ones_header` (-127, -63, -15).
 use Rattle.std.specs.Prelude.{ℕ, ℤ, pos, neg_ℤ, Bool, List, [], ◌∷◌, slice_index_or, if◌then◌else◌}
 use Rattle.vp_bool.specs.Bools.{read, literal}
 use Rattle.vp_bool.specs.Reader.{Reader, ◌>>=◌, give, when}

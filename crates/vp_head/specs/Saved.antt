@@ -1,4 +1,5 @@
--- What is kept from frame to frame (RFC 6386, chapter 9.3, 9.4, 9.7, 9.9, 9.10, 13.5, 16.1, 17.2).
+-- The values that are saved from frame to frame: the defaults of a key frame, and what a header changes (RFC 6386,
+-- chapters 9.3, 9.4, 9.7, 9.9, 9.10, 13.5, 16.1 and 17.2). The numbers are those of vp_tables.
 use Rattle.std.specs.Prelude.{ℤ, pos, false, List, [], ◌∷◌, if◌then◌else◌}
 use Rattle.vp_head.specs.declared.fields.Header.{Header}
 use Rattle.vp_head.specs.declared.fields.Saved.{Saved}

@@ -1,4 +1,4 @@
--- What the sides of a picture are held to: each fact by the name of its lemma.
+-- Two facts on the range of a picture's sides, which the record of a size asks for (RFC 6386, chapter 9.1).
 use Rattle.std.specs.Prelude.{ℕ, suc, ◌/◌, ◌%◌, ◌^◌, ◌<◌, ◌≤◌}
 use Rattle.std.proofs.Common.{lit<}
 use Rattle.std.proofs.Math.Nat.{zero-lt-suc, mod-lt, le-pred_of_lt}

@@ -1,4 +1,5 @@
--- What a header can say, over what is kept (RFC 6386, chapter 9, 19.2): what a header has to be to be written.
+-- Which headers can be written over the saved values (RFC 6386, chapters 9 and 19.2). The law
+-- `what_is_read_can_be_written` says that nothing readable is excluded. Pinned by the test `headers_read_back`.
 use Rattle.std.specs.Prelude.{◌≡◌, ℕ, ◌%◌, ◌^◌, ◌<◌, ◌⊎◌, ℤ, pos, Bool, true, false, List, [], ◌∷◌, is_some, slice_index, slice_index_or, unsigned_abs, if◌then◌else◌}
 use Rattle.vp_head.specs.Header.{no_references}
 use Rattle.vp_head.specs.Saved.{defaults}

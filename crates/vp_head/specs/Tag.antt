@@ -1,4 +1,5 @@
--- The frame tag (RFC 6386, chapter 9.1).
+-- The frame tag and the key frame's start code and size, with the faults in their order (RFC 6386, chapters 9.1 and
+-- 19.1). Pinned by the tests `packet_faults`, `size_limits` and `truncated_before_start_code`.
 use Rattle.std.specs.Prelude.{◌≡◌, ℕ, zero, suc, ◌+◌, ◌*◌, ◌/◌, ◌%◌, ◌^◌, ◌≤◌, ◌==◌, ◌&&◌, Bool, nat_lt, List, length, slice_index, Option, Some, None, Result, Ok, Err, if◌then◌else◌}
 use Rattle.vp_base.specs.declared.limits.Dim.{Dim}
 use Rattle.vp_base.specs.declared.limits.Limits.{Limits}

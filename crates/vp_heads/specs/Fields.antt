@@ -1,4 +1,4 @@
--- What the fields of a head say, each as a name and a value without the white space around it.
+-- The header fields of a request: names, trimmed values, and which ones the server looks at (RFC 9110, chapter 5).
 use Rattle.std.specs.Prelude.{ℕ, ◌==◌, ◌&&◌, ◌||◌, not, nat_lt, Bool, List, [], ◌∷◌, codes, if◌then◌else◌}
 use Rattle.std.specs.List.{list_any, slice_split}
 use Rattle.std.specs.Str.{str_eq_ignore_ascii_case, bytes_eq}

@@ -1,4 +1,4 @@
--- A request's head of at most 32 fields (RFC 9112, chapters 2 to 5).
+-- Request heads of at most 32 fields (RFC 9112, chapters 2 to 5), by the grammar of the crate httparse.
 use Rattle.std.specs.Prelude.{◌≤◌, ℕ, List, [], length}
 use Rattle.httparse.specs.Grammar.{RequestHead, ReadsRequest}
 

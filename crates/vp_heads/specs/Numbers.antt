@@ -1,4 +1,4 @@
--- Numbers in decimal.
+-- Decimal numbers in paths and fields; a packet's number has no leading zeros and is below 2^32.
 use Rattle.std.specs.Prelude.{ℕ, List, Bool, ◌&&◌, ◌||◌, ◌==◌, ◌^◌, ◌-◌, not, min, nat_lt, nat_le, length, slice_index, Option, Some, None, if◌then◌else◌}
 use Rattle.std.specs.Char.{is_ascii_digit}
 use Rattle.std.specs.List.{list_all}

@@ -1,4 +1,5 @@
--- Byte ranges (RFC 9110, chapter 14): what one says, and which part of a body it is.
+-- Byte ranges (RFC 9110, chapter 14): which requests have one, and the part of the body that it selects. Pinned by the
+-- tests `byte_ranges` and `other_ranges`.
 use Rattle.std.specs.Prelude.{ℕ, ◌≤◌, ◌<◌, ◌-◌, ◌+◌, ◌==◌, ◌&&◌, ◌||◌, min, nat_lt, nat_le, Bool, List, length, take, drop, position, codes, count_by, Option, Some, None, if◌then◌else◌}
 use Rattle.std.specs.Str.{str_eq_ignore_ascii_case}
 use Rattle.vp_heads.specs.declared.ranges.Range.{Range}

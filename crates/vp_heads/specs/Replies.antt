@@ -1,4 +1,5 @@
--- The bytes of a reply (RFC 9112, chapter 4; RFC 9110, chapters 8, 14 and 15).
+-- The bytes of a response: status line, fields and body (RFC 9112, chapter 4; RFC 9110, chapters 8, 14 and 15). Pinned
+-- by the tests `serve_one_frame`, `head_requests`, `packet_fault_served` and `head_too_long`.
 use Rattle.std.specs.Prelude.{ℕ, Bool, List, [], ◌∷◌, ◌++◌, decimal, codes, length, if◌then◌else◌, unwrap_or}
 use Rattle.http.specs.StatusCode.{reason_phrase}
 use Rattle.vp_heads.specs.declared.status.Status.{Status}

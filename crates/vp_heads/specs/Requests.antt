@@ -1,4 +1,5 @@
--- What a head asks for, judged in order.
+-- What a request head asks for, or the error to answer, with the checks in order. Pinned by the tests
+-- `method_and_host_refused` and `head_requests`.
 use Rattle.std.specs.Prelude.{◌≡◌, ◌⊎◌, ◌==◌, ◌||◌, not, ℕ, Bool, true, false, nat_eq, List, map, codes, count_by, if◌then◌else◌}
 use Rattle.std.specs.List.{list_any, starts_with, before_first}
 use Rattle.std.specs.Str.{bytes_eq}

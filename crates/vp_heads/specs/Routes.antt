@@ -1,4 +1,4 @@
--- The routes of the server, and what a path asks for.
+-- The four routes of the server, and the resource that a path names. Pinned by the test `serve_one_frame`.
 use Rattle.std.specs.Prelude.{◌≡◌, ◌==◌, ℕ, Bool, List, [], drop, position, Option, Some, None, Result, Ok, Err, codes, option_map, if◌then◌else◌}
 use Rattle.std.specs.List.{before_first, after_first}
 use Rattle.std.specs.Str.{is_utf8, bytes_eq}

@@ -1,4 +1,4 @@
--- A connection's bytes, cut into heads.
+-- The bytes of a connection as a list of request heads and a rest, and the statement of the law `cut_into_heads`.
 use Rattle.std.specs.Prelude.{◌≡◌, ◌<◌, ◌≤◌, ◌⊎◌, ℕ, true, false, List, [], ◌∷◌, ◌++◌, length, take, Option, Some}
 use Rattle.vp_heads.specs.Replies.{too_long}
 use Rattle.vp_hub.specs.Pages.{Streams, IsReply}

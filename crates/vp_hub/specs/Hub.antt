@@ -1,4 +1,5 @@
--- The hub as a machine: its state, and what each event makes of it and is answered.
+-- The server as a state machine: streams and connections, and the effect and answer of each event. Pinned by the tests
+-- `settings_and_events_refused`, `feed_between_bytes` and `head_too_long`.
 use Rattle.std.specs.Prelude.{◌≡◌, ◌≢◌, ◌==◌, ◌<◌, ◌≤◌, slice_index_or, not, ℕ, nat_lt, nat_eq, Bool, true, false, codes, List, [], ◌∷◌, ◌++◌, length, map, filter, Option, Some, None, Result, Ok, Err, IsOk, slice_get, slice_set, if◌then◌else◌}
 use Rattle.std.specs.Borrow.{Bor}
 use Rattle.std.specs.Option.{option_map}

@@ -1,4 +1,4 @@
--- The names that streams may have, and those of faults.
+-- Valid names of streams (1 to 16 distinct names of 1 to 32 bytes), and the names of faults, as printed.
 use Rattle.std.specs.Prelude.{ℕ, ◌==◌, ◌&&◌, ◌||◌, not, nat_le, Bool, true, List, [], ◌∷◌, length, codes}
 use Rattle.std.specs.List.{list_all, list_any}
 use Rattle.std.specs.Str.{bytes_eq}

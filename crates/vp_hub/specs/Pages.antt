@@ -1,4 +1,5 @@
--- What is found for a request: the pages of the server.
+-- The content of each resource: the list of names, a stream's information, and a picture as I420 or YUV4MPEG2. Pinned
+-- by the tests `serve_one_frame`, `streams_are_listed`, `info_of_a_stream` and `a_picture_as_video`.
 use Rattle.std.specs.Prelude.{◌≡◌, ℕ, Bool, true, false, List, [], ◌∷◌, ◌++◌, length, codes, decimal, Option, Some, None, slice_get}
 use Rattle.std.specs.List.{flat_map}
 use Rattle.vp_ivf.specs.declared.fault.FileFault.{FileFault}

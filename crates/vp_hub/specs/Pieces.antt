@@ -1,4 +1,4 @@
--- The bytes of a stream are its accepted pieces, and it ends where an End of it is accepted.
+-- The statements of the laws on streams: a stream's bytes are its accepted pieces, and it ends at its accepted end.
 use Rattle.std.specs.Prelude.{◌≡◌, ◌==◌, ◌<◌, ◌++◌, ◌&&◌, ◌||◌, ℕ, Bool, true, false, List, [], ◌∷◌, length, Option, Some, None, Ok, Err, is_none, slice_get, if◌then◌else◌}
 use Rattle.vp_base.specs.declared.limits.Limits.{Limits}
 use Rattle.vp_ivf.specs.Ivf.{Contents}

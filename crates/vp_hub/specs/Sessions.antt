@@ -1,4 +1,5 @@
--- One connection from its coming to its going: what is read of it, and what is written to it.
+-- One connection over a reader and a writer, from its opening to its end: what is read, answered and written. Pinned by
+-- the tests `serve_one_in_single_bytes` and `reads_are_not_refused`.
 use Rattle.std.specs.Prelude.{◌≡◌, ◌<◌, ◌≤◌, ◌^◌, ◌⊎◌, ℕ, Bool, true, false, List, [], ◌∷◌, ◌++◌, length, Option, Some, None, Result, Ok, Err, IsOk, All}
 use Rattle.std.specs.List.{concat}
 use Rattle.std.specs.Option.{option_to_list}

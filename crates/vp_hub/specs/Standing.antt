@@ -1,4 +1,4 @@
--- Which connections stand, by the events and their results alone.
+-- Which connections are open, by the history of events and results alone, and the limit of 64.
 use Rattle.std.specs.Prelude.{◌≡◌, ◌==◌, ◌≤◌, ◌↔◌, ℕ, not, Bool, false, List, [], ◌∷◌, ◌++◌, length, map, filter, Ok, Err}
 use Rattle.std.specs.List.{list_any}
 use Rattle.vp_hub.specs.declared.event.Event.{Event}

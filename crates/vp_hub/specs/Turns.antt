@@ -1,4 +1,5 @@
--- All bytes of a connection since its opening, cut into heads, over the events that it sees.
+-- The statement of the law `histories_are_cut`: all bytes of a connection as heads, each answered at the event that
+-- completes it.
 use Rattle.std.specs.Prelude.{◌≡◌, false, ℕ, List, [], ◌∷◌, ◌++◌, Option, Some, None, Ok, IfSome}
 use Rattle.std.specs.List.{concat}
 use Rattle.vp_hub.specs.declared.connection.ConnectionState.{ConnectionState}

@@ -1,4 +1,4 @@
--- What one connection sees of a run, and the results that it must have.
+-- The events that one connection sees, and the results that follow from them alone: isolation of connections.
 use Rattle.std.specs.Prelude.{◌≡◌, ◌==◌, ℕ, Bool, true, false, List, [], ◌∷◌, ◌++◌, Option, Some, None, Ok, Err, if◌then◌else◌}
 use Rattle.vp_base.specs.declared.limits.Limits.{Limits}
 use Rattle.vp_hub.specs.declared.event.Event.{Event}

@@ -1,4 +1,5 @@
--- How many packets are decoded, and what the cache keeps.
+-- The number of packets decoded for an event, and the cache after it. Pinned by the test `frames_out_of_order` (2, 1,
+-- then 2 or 0).
 use Rattle.std.specs.Prelude.{◌≡◌, ◌≢◌, ◌≤◌, ◌⊎◌, ◌+◌, ℕ, true, List, [], ◌∷◌, ◌++◌, Option, Some, None, Err, slice_get}
 use Rattle.vp_stream.specs.Seeking.{answer_at, saturating_count}
 use Rattle.vp_cache.specs.Cache.{IsAfter, cached, work_beside}

@@ -1,4 +1,5 @@
--- Inter prediction (RFC 6386, chapter 18).
+-- Inter prediction of a pixel: horizontal pass, vertical pass, and the reference extended by its nearest pixel (RFC
+-- 6386, chapters 5, 18.1 and 18.3). Pinned by streams of other encoders in the gate, of versions 0 to 3.
 use Rattle.std.specs.Prelude.{ℕ, ℤ, pos, negsuc, ◌+◌, ◌-◌, ◌+ℤ◌, ◌≤ℤ◌, min, List}
 use Rattle.vp_base.specs.Raster.{Raster, pixel}
 use Rattle.vp_inter.specs.declared.vector.PlaneVector.{PlaneVector}

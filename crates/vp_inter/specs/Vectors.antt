@@ -1,4 +1,5 @@
--- Motion vectors in eighths of a plane's pixels (RFC 6386, chapters 5 and 18).
+-- Motion vectors in eighths of a plane's pixels: luma vectors, and chroma vectors as means of four (RFC 6386, chapters
+-- 5, 18.1 and 18.2). Pinned by the test `kernel_examples`, and streams of other encoders in the gate.
 use Rattle.std.specs.Prelude.{ℕ, ◌==◌, ℤ, pos, negsuc, ◌+ℤ◌, ◌-ℤ◌, ◌*ℤ◌, ◌≤ℤ◌, unsigned_abs, List, slice_index_or, if◌then◌else◌}
 use Rattle.std.specs.Int.{int_rem_euclid}
 use Rattle.std.specs.Int.RustNames.{int_div}

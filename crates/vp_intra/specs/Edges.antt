@@ -1,4 +1,5 @@
--- The pixels round a block, and the values that stand for them outside the frame (RFC 6386, chapter 12.2).
+-- The pixels around a block for intra prediction, and the values 127, 129 and 128 outside the frame (RFC 6386, chapters
+-- 12.2 and 12.3). Pinned by the tests `whole_modes` and `two_macroblock_rows`.
 use Rattle.std.specs.Prelude.{ℕ, ◌+◌, ◌-◌, ◌/◌, ◌==◌, min, List, [], ◌∷◌, ◌++◌, length, sum, map, if◌then◌else◌}
 use Rattle.std.specs.List.{range_with_len}
 use Rattle.vp_base.specs.Raster.{Raster, pixel}

@@ -1,4 +1,5 @@
--- Prediction of a luma subblock of 4 by 4 pixels (RFC 6386, chapter 12.3).
+-- Intra prediction of a luma subblock by its ten modes, and the row that the pixels above and to the right come from
+-- (RFC 6386, chapter 12.3). Pinned by the test `ten_subblock_modes`.
 use Rattle.std.specs.Prelude.{ℕ, ◌+◌, ◌*◌, ◌-◌, ◌/◌, ◌%◌, ◌==◌, min, List, [], ◌∷◌, sum, take, drop, map, slice_index, replicate, if◌then◌else◌}
 use Rattle.std.specs.List.{range_with_len}
 use Rattle.vp_base.specs.Raster.{Raster, pixel}

@@ -1,4 +1,5 @@
--- Prediction of a macroblock's luma and chroma as a whole (RFC 6386, chapters 12.2 and 12.3).
+-- Intra prediction of a macroblock's luma and chroma as a whole: DC, V, H and TM (RFC 6386, chapters 12.2 and 12.3).
+-- Pinned by the test `whole_modes`.
 use Rattle.std.specs.Prelude.{ℕ}
 use Rattle.vp_base.specs.Raster.{Raster}
 use Rattle.vp_tables.specs.declared.modes.LumaMode.{LumaMode}

@@ -1,5 +1,6 @@
--- The packets of an IVF file: the cuts of all its bytes.
--- IVF is the container of the standard's test streams; RFC 6386 itself doesn't define it. All numbers are little endian.
+-- The head and the packets of an IVF file, and the faults in their order. All numbers are little endian. IVF is the
+-- container of the standard's test streams, and no part of RFC 6386. Pinned by the tests `packet_limits`,
+-- `file_cut_short` and `fed_byte_by_byte`.
 use Rattle.std.specs.Prelude.{ℕ, zero, suc, ◌+◌, nat_lt, nat_eq, not, List, [], ◌∷◌, ◌++◌, length, take, drop, Option, Some, None, Result, Ok, Err, if◌then◌else◌, codes}
 use Rattle.std.specs.List.{starts_with}
 use Rattle.byteorder.specs.Endian.{little_number}

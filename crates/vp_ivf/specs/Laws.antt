@@ -1,4 +1,5 @@
--- What holds of all files.
+-- Laws of IVF files: reading in pieces, growing files, the text of a file against its packets, and one law that
+-- determines the reading.
 use Rattle.std.specs.Prelude.{◌≡◌, ◌≢◌, ◌<◌, ◌≤◌, ◌^◌, ◌-◌, ◌+◌, ◌⊎◌, ℕ, true, false, nat_eq, codes, List, [], ◌∷◌, ◌++◌, length, drop, slice_index, Option, Some, None, Ok}
 use Rattle.std.specs.List.{starts_with}
 use Rattle.vp_ivf.specs.declared.packet.Packet.{Packet}

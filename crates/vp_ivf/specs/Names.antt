@@ -1,4 +1,4 @@
--- The names of a file's faults, as they are told.
+-- The names of the faults of IVF files, as printed. Pinned by the test `names_of_file_faults`.
 use Rattle.std.specs.Prelude.{ℕ, List, codes}
 use Rattle.vp_ivf.specs.declared.fault.FileFault.{FileFault}
 use Rattle.vp_ivf.specs.declared.fault.FileFault.TheVariants.{Signature, Codec, TooMany, PacketTooLarge, Torn, Ended}

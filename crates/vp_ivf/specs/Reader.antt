@@ -1,4 +1,5 @@
--- A reader, and the history that it stands for.
+-- The model of an IVF reader: its state, the bytes fed so far, and the answers of its calls. Pinned by the tests
+-- `fed_byte_by_byte`, `file_cut_short` and `head_faults`.
 use Rattle.std.specs.Prelude.{ℕ, Bool, true, false, ◌≡◌, ◌≤◌, ◌+◌, List, [], ◌∷◌, ◌++◌, length, drop, Option, Some, None, Result, Ok, Err}
 use Rattle.vp_ivf.specs.declared.packet.Packet.{Packet}
 use Rattle.vp_ivf.specs.declared.packet.IvfHead.{IvfHead}

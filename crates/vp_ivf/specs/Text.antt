@@ -1,4 +1,5 @@
--- The bytes of a file.
+-- The bytes of an IVF file that is written: the head, and each packet after its size and time. Pinned by the tests
+-- `file_of_one_packet` and `file_of_two_packets`.
 use Rattle.std.specs.Prelude.{ℕ, List, [], ◌∷◌, ◌++◌, length, codes}
 use Rattle.byteorder.specs.Endian.{little_bytes}
 use Rattle.vp_ivf.specs.declared.packet.Packet.{Packet}

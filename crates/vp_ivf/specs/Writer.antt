@@ -1,4 +1,5 @@
--- A writer, and the history that it stands for.
+-- The model of an IVF writer: what is on the device, the packets that remain, and the faults in their order. Pinned by
+-- the tests `file_of_one_packet` and `fails_at_each_write`.
 use Rattle.std.specs.Prelude.{ℕ, zero, suc, Bool, true, false, ◌≡◌, ◌≤◌, ◌-◌, List, [], ◌∷◌, ◌++◌, length, Option, Some, None, Result, Ok, Err}
 use Rattle.std.specs.Io.KnownBytes.{Appends}
 use Rattle.vp_base.specs.Counted.{counted_contents, counted_failures, AppendsFront, HasFailed}

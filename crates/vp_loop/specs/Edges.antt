@@ -1,4 +1,5 @@
--- Line steps on a plane, one after another (RFC 6386, chapter 15.1).
+-- The edges of a macroblock, and the order of the line steps across them (RFC 6386, chapter 15.1). Pinned by the test
+-- `filter_two_macroblocks`.
 use Rattle.std.specs.Prelude.{ℕ, Bool, List, [], ◌∷◌, ◌+◌, ◌-◌, ◌*◌, ◌/◌, ◌==◌, nat_lt, slice_index, if◌then◌else◌}
 use Rattle.vp_base.specs.Raster.{Raster, pixel}
 use Rattle.vp_base.specs.Block.{with_block}

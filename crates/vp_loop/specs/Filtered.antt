@@ -1,4 +1,5 @@
--- The filtered picture (RFC 6386, chapter 15): all line steps of a frame, one after another.
+-- The filtered picture (RFC 6386, chapter 15.1): the line steps of all macroblocks in raster order, each by its own
+-- level. Pinned by the test `filter_two_macroblocks`, and streams of other encoders in the gate.
 use Rattle.std.specs.Prelude.{ℕ, List, ◌+◌, ◌*◌, ◌==◌, slice_index_or, if◌then◌else◌}
 use Rattle.vp_base.specs.declared.place.Place.{Place}
 use Rattle.vp_base.specs.Raster.{Raster}

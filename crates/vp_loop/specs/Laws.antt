@@ -1,4 +1,5 @@
--- Laws of line steps (RFC 6386, chapter 15.1): which of them may change places, and which rows they touch.
+-- The statements of the laws of the loop filter (RFC 6386, chapter 15.1): which steps commute, which rows a step reads
+-- and changes, and the order by planes and by edges.
 use Rattle.std.specs.Prelude.{ℕ, ◌≡◌, ◌+◌, ◌-◌, ◌*◌, ◌≤◌, ◌<◌, ◌==◌, nat_lt, Bool, ◌&&◌, if◌then◌else◌}
 use Rattle.vp_base.specs.declared.place.Place.{Place}
 use Rattle.vp_base.specs.Raster.{Raster}

@@ -1,4 +1,6 @@
--- How strongly a macroblock is filtered (RFC 6386, chapters 9.3, 9.4 and 15.2 to 15.4).
+-- The filter level of a macroblock, its limits and thresholds (RFC 6386, chapters 9.3, 9.4 and 15.2 to 15.4). Pinned by
+-- the tests `filter_one_line`, `thresholds_by_frame`, `interior_limits`, `deltas_by_kind`, `no_level_no_filter` and
+-- `levels_are_held`.
 use Rattle.std.specs.Prelude.{ℕ, ℤ, pos, Bool, List, ◌+◌, ◌-◌, ◌*◌, ◌/◌, ◌+ℤ◌, ◌==◌, ◌||◌, nat_le, nat_lt, min, max, unsigned_abs, slice_index_or, if◌then◌else◌}
 use Rattle.std.specs.Int.{int_min, int_max}
 use Rattle.vp_head.specs.declared.fields.Header.{Header}

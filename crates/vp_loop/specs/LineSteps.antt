@@ -1,4 +1,5 @@
--- The line step: eight pixels across an edge, to eight pixels (RFC 6386, chapter 15.2, 15.3).
+-- One line step: eight pixels across an edge, filtered by the simple filter, or by the normal filter's macroblock or
+-- subblock edge (RFC 6386, chapters 15.2 and 15.3). Pinned by the tests `filter_one_line` and `steps_are_held`.
 use Rattle.std.specs.Prelude.{ℕ, ℤ, pos, negsuc, Bool, cond, ◌+◌, ◌*◌, ◌/◌, ◌+ℤ◌, ◌-ℤ◌, ◌*ℤ◌, ◌&&◌, ◌||◌, nat_le, nat_lt, unsigned_abs}
 use Rattle.std.specs.Int.{abs_diff, int_min, int_max}
 use lib.Signed.{shr_z}

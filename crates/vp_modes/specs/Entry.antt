@@ -1,4 +1,5 @@
--- What a macroblock says of itself, but for its vectors (RFC 6386, chapter 19.3).
+-- The modes of one macroblock: segment, skip flag, reference frame, luma, subblock and chroma modes (RFC 6386, chapter
+-- 19.3).
 use Rattle.std.specs.Prelude.{ℕ, Bool, false, List, replicate}
 use Rattle.vp_head.specs.declared.fields.Reference.{Reference}
 use Rattle.vp_head.specs.declared.fields.Reference.TheVariants as reference_is

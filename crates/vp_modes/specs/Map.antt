@@ -1,4 +1,6 @@
--- The modes of a frame's macroblocks, and of their subblocks.
+-- The modes of a frame's macroblocks: the segment map that the next frame keeps (RFC 6386, chapters 9.3 and 10), and
+-- the contexts of subblock modes (chapter 11.3). Pinned by the tests `modes_of_a_picture` and
+-- `modes_by_their_neighbours`.
 use Rattle.std.specs.Prelude.{ℕ, List, slice_index_or, if◌then◌else◌}
 use Rattle.vp_base.specs.declared.place.Place.{Place}
 use Rattle.vp_base.specs.Place.{above, left}

@@ -1,4 +1,5 @@
--- What a macroblock can be told to say of itself (RFC 6386, chapter 19.3): what isn't read is as it stands without.
+-- Which modes of a macroblock can be written (RFC 6386, chapter 19.3): fields that aren't coded must have the value
+-- that a reader infers. Pinned by the test `a_picture_written_again`.
 use Rattle.std.specs.Prelude.{◌≡◌, false, true, replicate, None, if◌then◌else◌}
 use Rattle.vp_base.specs.declared.place.Place.{Place}
 use Rattle.vp_base.specs.Grid.{Grid, at}

@@ -1,4 +1,5 @@
--- The motion of a frame's macroblocks, and of their blocks.
+-- The motion of a frame's macroblocks, and the vector of each subblock and of its neighbours (RFC 6386, chapters 5 and
+-- 16.3). Pinned by the test `vectors_by_their_neighbours`.
 use Rattle.std.specs.Prelude.{ℕ, List, replicate, slice_index_or, if◌then◌else◌}
 use Rattle.vp_base.specs.declared.place.Place.{Place}
 use Rattle.vp_base.specs.Place.{above, left}

@@ -1,4 +1,6 @@
--- The vectors near a macroblock, by coordinates (RFC 6386, chapter 16.3).
+-- The candidate vectors of a macroblock: best, nearest and near, with their weights, sign biases and clamps (RFC 6386,
+-- chapter 16.3). Pinned by the law `near_of_three_neighbours`, the test `vectors_by_their_neighbours`, and streams of
+-- other encoders in the gate.
 use Rattle.std.specs.Prelude.{◌≡◌, ◌<◌, ℕ, ◌+◌, ◌-◌, ◌*◌, ◌&&◌, Bool, true, false, not, nat_lt, nat_le, eqb, List, [], ◌∷◌, ◌++◌, length, replicate, slice_index_or, ℤ, pos, negsuc, neg_ℤ, int_lt, if◌then◌else◌}
 use Rattle.std.specs.Int.{from_bool}
 use Rattle.vp_head.specs.declared.fields.Reference.{Reference}

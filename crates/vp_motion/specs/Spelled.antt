@@ -1,4 +1,5 @@
--- What a macroblock with one vector can say of it, over the candidates (RFC 6386, chapters 16.3, 17.1).
+-- Which motion of a macroblock can be written over its candidates (RFC 6386, chapters 16.3 and 17.1). Pinned by the
+-- tests `write_vector_examples` and `motions_read_back`.
 use Rattle.std.specs.Prelude.{◌≡◌, ℕ, ◌/◌, ◌%◌, ◌^◌, ◌==◌, ◌-ℤ◌, if◌then◌else◌}
 use Rattle.vp_tables.specs.declared.modes.VectorMode.{VectorMode}
 use Rattle.vp_tables.specs.declared.modes.VectorMode.TheVariants as vector_is

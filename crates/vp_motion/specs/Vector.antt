@@ -1,4 +1,5 @@
--- Motion vectors, and what is kept of a macroblock's motion, without where it lies in memory.
+-- Motion vectors in quarter luma pixels, row and column (RFC 6386, chapter 5), and the motion of one macroblock
+-- (chapter 16.3).
 use Rattle.std.specs.Prelude.{ℕ, ◌≡◌, ◌<◌, false, List, replicate, slice_index, slice_index_or, ℤ, pos, neg_ℤ, ◌≤ℤ◌}
 use Rattle.vp_head.specs.declared.fields.Reference.{Reference}
 use Rattle.vp_tables.specs.declared.modes.VectorMode.{VectorMode}

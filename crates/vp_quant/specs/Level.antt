@@ -1,4 +1,5 @@
--- The level of a coefficient, as an encoder of this repository chooses it: RFC 6386 leaves it open.
+-- The encoder's quantisation of a coefficient: to the nearest level, halves away from 0, at most 2,047. RFC 6386 leaves
+-- it open. Pinned by the test `kernel_examples`.
 use Rattle.std.specs.Prelude.{ℕ, suc, ◌+◌, ◌/◌, min, ℤ, pos, negsuc, neg_ℤ}
 
 -- a size in factors, to the nearest, halves up, and at most 2047

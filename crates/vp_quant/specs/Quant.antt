@@ -1,4 +1,5 @@
--- Quantiser indices and factors, and blocks of levels times factors.
+-- Quantiser indices, the six factors, and dequantised blocks in zigzag order (RFC 6386, chapters 9.3, 9.6 and 14.1).
+-- Pinned by the tests `factors_of_both_ends`, `indices_are_held` and `levels_at_their_places`.
 use Rattle.std.specs.Prelude.{ℕ, ◌*◌, ◌/◌, ◌==◌, nat_lt, min, max, ℤ, pos, negsuc, ◌+ℤ◌, ◌*ℤ◌, List, map, slice_index_or, if◌then◌else◌}
 use Rattle.std.specs.List.{position_or_len, range_with_len}
 use Rattle.vp_head.specs.declared.fields.Header.{Header}

@@ -1,4 +1,5 @@
--- When a block's coefficients are small enough to be computed in sixteen bits.
+-- When the coefficients of a block fit into 16 bits, so that narrow lanes compute the transforms exactly. Pinned by the
+-- test `short_coefficients`.
 use Rattle.std.specs.Prelude.{ℕ, ◌*◌, ◌<◌, ◌≤◌, max, ℤ, pos, List, slice_index_or, unsigned_abs}
 
 -- the larger factor, or 1

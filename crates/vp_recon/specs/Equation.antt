@@ -1,5 +1,6 @@
--- The unfiltered picture of a frame as an equation between its pixels, with no word on the order in which they are made
--- (RFC 6386, chapters 5, 12, 14.5 and 18).
+-- The unfiltered picture as an equation between its pixels, without an order (RFC 6386, chapters 5, 12, 14.5 and 18).
+-- The laws `unfiltered_picture_solves_its_equation` and `unfiltered_equation_has_one_solution` tie it to the fold in
+-- raster order.
 use Rattle.std.specs.Prelude.{◌≡◌, ◌<◌, ℕ, ◌+◌, ◌*◌}
 use Rattle.vp_base.specs.declared.place.Place.{Place}
 use Rattle.vp_base.specs.Raster.{pixel}

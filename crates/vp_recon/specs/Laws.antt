@@ -1,4 +1,4 @@
--- What holds of rebuilding, as propositions: its equation, what it keeps and what it reads.
+-- The statements of the laws of reconstruction: its equation, the rows that it reads, and what it leaves unchanged.
 use Rattle.std.specs.Prelude.{◌≡◌, ℕ, ◌+◌, ◌-◌, ◌*◌, ◌<◌, ◌≤◌, true, slice_index_or}
 use Rattle.vp_base.specs.declared.place.Place.{Place}
 use Rattle.vp_base.specs.Raster.{Raster}

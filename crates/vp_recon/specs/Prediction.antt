@@ -1,4 +1,5 @@
--- The prediction of a macroblock's pixels, from its own picture (RFC 6386, chapter 12) or from a reference (chapter 18).
+-- The prediction of a macroblock's pixels, from its own picture (RFC 6386, chapter 12) or from a reference (chapters
+-- 18.1 and 18.2). Pinned by the tests `two_macroblock_rows`, `a_split_macroblock` and `a_moved_macroblock`.
 use Rattle.std.specs.Prelude.{ℕ, ◌+◌, ◌*◌, ◌/◌, ◌%◌, List, [], ◌∷◌, map, slice_index_or, if◌then◌else◌}
 use Rattle.vp_base.specs.declared.place.Place.{Place}
 use Rattle.vp_base.specs.Raster.{Raster}

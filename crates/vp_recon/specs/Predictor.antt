@@ -1,4 +1,5 @@
--- What a macroblock says: what it is predicted from, and its residue (RFC 6386, chapter 5).
+-- What a macroblock is rebuilt from: its predictor (its own picture or a reference), its tokens, and its factors (RFC
+-- 6386, chapters 5 and 13.1).
 use Rattle.std.specs.Prelude.{ℕ, Bool, false, not}
 use Rattle.vp_base.specs.Image.{Image}
 use Rattle.vp_tables.specs.Modes.{is_by_subblocks, is_split}

@@ -1,4 +1,5 @@
--- Macroblocks rebuilt: prediction and residue (RFC 6386, chapters 12 and 14.5).
+-- Reconstruction of macroblocks: prediction plus residue, clamped to a byte, in raster order (RFC 6386, chapters 12 and
+-- 14.5). Pinned by the tests `two_macroblock_rows` and `one_subblock`.
 use Rattle.std.specs.Prelude.{ℕ, ◌+◌, ◌*◌, ◌/◌, ◌%◌, min, ℤ, pos, negsuc, ◌+ℤ◌, List, slice_index_or, if◌then◌else◌}
 use Rattle.vp_base.specs.declared.place.Place.{Place}
 use Rattle.vp_base.specs.Raster.{Raster}

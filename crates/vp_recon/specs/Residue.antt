@@ -1,5 +1,6 @@
--- The residue of a macroblock's subblocks (RFC 6386, chapter 14). Its blocks are by number: 0 is Y2, 1 to 16 are luma, 17 to 20
--- U and 21 to 24 V.
+-- The residue of a macroblock's subblocks (RFC 6386, chapters 14.1 to 14.4). Its blocks are by number: 0 is Y2, 1 to 16
+-- are luma, 17 to 20 U and 21 to 24 V. Pinned by the tests `first_coefficients_of_y2`, `all_ones_tokens` and
+-- `great_products_do_not_wrap`.
 use Rattle.std.specs.Prelude.{ℕ, ◌+◌, ◌*◌, ℤ, pos, Bool, List, slice_index_or, slice_set, if◌then◌else◌}
 use Rattle.vp_tokens.specs.declared.contexts.Tokens.{Tokens}
 use Rattle.vp_tokens.specs.Blocks.{block_of}

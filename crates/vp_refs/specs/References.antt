@@ -1,4 +1,5 @@
--- The pictures that later ones refer to (RFC 6386, chapters 5, 9.7 and 9.8).
+-- The last, golden and altref picture, and how a header copies and refreshes them (RFC 6386, chapters 5, 9.7 and 9.8).
+-- Pinned by the tests `altref_is_copied_before_golden` and `unused_number_copies_nothing`.
 use Rattle.std.specs.Prelude.{◌≡◌, ◌⊎◌, ◌||◌, if◌then◌else◌}
 use Rattle.vp_base.specs.Image.{Image}
 use Rattle.vp_head.specs.declared.fields.Header.{Header}

@@ -1,4 +1,5 @@
--- The luma block of a macroblock, the blocks that predict it, and what they cost (RFC 6386, chapters 5 and 18).
+-- The luma block of a macroblock, the blocks that predict it, and their costs, by the inter prediction of RFC 6386,
+-- chapter 18. The search is the encoder's own choice.
 use Rattle.std.specs.Prelude.{ℕ, pos, ◌+◌, ◌*◌, ◌+ℤ◌}
 use Rattle.vp_base.specs.declared.place.Place.{Place}
 use Rattle.vp_base.specs.Raster.{Raster, pixel}

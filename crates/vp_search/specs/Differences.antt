@@ -1,4 +1,5 @@
--- How much two blocks of pixels differ.
+-- The sum of absolute differences and the sum of squared differences of two blocks of pixels. Pinned by tests that
+-- compare them with plain loops.
 use Rattle.std.specs.Prelude.{ℕ, ◌+◌, ◌*◌, List, length, slice_index}
 use Rattle.std.specs.Int.{abs_diff}
 use Rattle.vp_search.specs.Sums.{sum_below}

@@ -1,4 +1,4 @@
--- The first of the least.
+-- The first index at which a function has its least value.
 use Rattle.std.specs.Prelude.{ℕ, ◌<◌, ◌≤◌}
 
 -- of f 0 .. f (n - 1) none is less than the one at `best`, and those before it are larger

@@ -1,4 +1,5 @@
--- The least vector.
+-- The best vector of a search: the least cost, and ties by size, row and column. The encoder's own choice. Pinned by
+-- tests on moved blocks and flat planes.
 use Rattle.std.specs.Prelude.{◌≡◌, ℕ, ◌≤◌, ◌≤ℤ◌}
 use Rattle.vp_search.specs.declared.vector.WholeVector.{WholeVector}
 use Rattle.vp_search.specs.Vectors.{vector_length, IsNear}

@@ -1,4 +1,4 @@
--- That vectors in whole pixels move what is predicted by them in quarters.
+-- The statement of the law that a vector in whole pixels predicts the same block as the same vector in quarter pixels.
 use Rattle.std.specs.Prelude.{◌≡◌, ℕ, ℤ, ◌≤◌}
 use Rattle.vp_base.specs.declared.place.Place.{Place}
 use Rattle.vp_base.specs.Raster.{Raster}

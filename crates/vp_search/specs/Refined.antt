@@ -1,4 +1,5 @@
--- The refinement of a vector, in two stages.
+-- The refinement of a vector by half pixels, and then by quarter pixels. The encoder's own choice. Pinned by tests on
+-- moved blocks.
 use Rattle.std.specs.Prelude.{◌≡◌, ℕ, ℤ, pos, ◌+ℤ◌, ◌-ℤ◌, List, [], ◌∷◌, slice_index_or}
 use Rattle.vp_search.specs.declared.vector.WholeVector.{WholeVector}
 use Rattle.vp_search.specs.declared.vector.QuarterVector.{QuarterVector}

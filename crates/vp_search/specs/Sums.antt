@@ -1,4 +1,4 @@
--- Sums over the numbers below a bound.
+-- Sums of a function over the numbers below a bound.
 use Rattle.std.specs.Prelude.{ℕ, zero, suc, ◌+◌}
 
 -- f 0 + f 1 + .. + f (n - 1)

@@ -1,4 +1,4 @@
--- Vectors of a luma block (RFC 6386, chapter 5).
+-- Vectors in whole and in quarter pixels, and their sizes (RFC 6386, chapter 5).
 use Rattle.std.specs.Prelude.{ℕ, pos, ◌*ℤ◌, ◌+◌, ◌≤◌, unsigned_abs}
 use Rattle.vp_search.specs.declared.vector.WholeVector.{WholeVector}
 use Rattle.vp_search.specs.declared.vector.QuarterVector.{QuarterVector}

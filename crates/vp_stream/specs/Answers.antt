@@ -1,4 +1,6 @@
--- What decoding a file gives: an answer for each packet.
+-- The answers for all packets of a file: the packet step, applied to one after another from no state (RFC 6386, chapter
+-- 5). Pinned by the tests `empty_key_frame` and `truncated_then_no_reference`, and streams of other encoders in the
+-- gate.
 use Rattle.std.specs.Prelude.{ℕ, List, [], ◌∷◌, Option, None}
 use Rattle.vp_base.specs.declared.limits.Limits.{Limits}
 use Rattle.vp_ivf.specs.declared.packet.Packet.{Packet}

@@ -1,4 +1,4 @@
--- The names of what ends the work on a file early, as they are told.
+-- The names of the faults of decoding a file, as printed. Pinned by the test `names_of_decode_faults`.
 use Rattle.std.specs.Prelude.{ℕ, List, codes}
 use Rattle.vp_ivf.specs.Names.{file_fault_name}
 use Rattle.vp_stream.specs.declared.fault.DecodeFault.{DecodeFault}

@@ -1,4 +1,5 @@
--- A file as it is read, packet by packet.
+-- A file while it is read, packet by packet. Mostly for private functions: public are what ends a file, and what stops
+-- a survey.
 use Rattle.std.specs.Prelude.{◌≡◌, ℕ, ◌+◌, ◌-◌, ◌≤◌, ◌<◌, ◌^◌, Bool, true, false, List, [], ◌∷◌, ◌++◌, length, Option, Some, None, Result, Ok, Err, slice_get}
 use Rattle.std.specs.Io.KnownBytes.{IsAtEnd}
 use Rattle.vp_base.specs.declared.limits.Limits.{Limits}

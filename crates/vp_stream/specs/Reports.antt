@@ -1,4 +1,5 @@
--- What is told of the packets of a file.
+-- The report on a decoded file: how many pictures, and the number and fault of each faulty packet. Pinned by the tests
+-- `numbers_of_a_report` and `survey_of_three_packets`.
 use Rattle.std.specs.Prelude.{ℕ, Bool, true, false, List, Option, Some, None, length, count_by, map}
 use Rattle.std.specs.List.{filter_map, enumerate_from, zip}
 use Rattle.vp_base.specs.declared.limits.Limits.{Limits}

@@ -1,4 +1,5 @@
--- A stream: a growing file whose packets are all kept, and the history that it stands for.
+-- The model of a stream: a growing file whose packets are all kept, and all bytes fed to it. Pinned by the tests
+-- `fed_byte_by_byte` and `file_cut_short`.
 use Rattle.std.specs.Prelude.{◌≡◌, ◌+◌, ℕ, Bool, false, List, [], ◌++◌, length, Option, None}
 use Rattle.vp_base.specs.declared.limits.Limits.{Limits}
 use Rattle.vp_ivf.specs.declared.packet.Packet.{Packet}

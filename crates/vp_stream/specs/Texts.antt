@@ -1,4 +1,5 @@
--- The text of the pictures of a file that are shown.
+-- The output of decoding a file: the shown pictures as I420, or as YUV4MPEG2 up to the first change of size. Pinned by
+-- the tests `decode_to_y4m`, `no_picture_no_bytes` and `size_change_before_file_fault`.
 use Rattle.std.specs.Prelude.{ℕ, Bool, false, not, ◌==◌, ◌&&◌, List, [], ◌∷◌, ◌++◌, Option, Some, None}
 use Rattle.std.specs.List.{flat_map, filter_map, take_while, list_all}
 use Rattle.vp_base.specs.declared.limits.Limits.{Limits}

@@ -1,4 +1,4 @@
--- Decoding as it goes on, packet by packet.
+-- Decoding a file after some of its packets. Mostly for private functions: public are the conversions of faults.
 use Rattle.std.specs.Prelude.{ℕ, ◌+◌, ◌==◌, ◌&&◌, Bool, true, false, List, [], ◌∷◌, ◌++◌, Option, Some, None}
 use Rattle.vp_base.specs.declared.limits.Limits.{Limits}
 use Rattle.vp_base.specs.Image.{Image, i420}

@@ -1,4 +1,5 @@
--- How the work on a file ends.
+-- The results of `decode_all` and `survey`: the report or the fault, and what was written in each case. Pinned by the
+-- tests `file_cut_short` and `a_read_or_a_write_fails`.
 use Rattle.std.specs.Prelude.{◌≡◌, ◌≤◌, ◌-◌, ◌^◌, ◌⊎◌, ℕ, true, false, List, Option, Result, Ok, Err, length}
 use Rattle.std.specs.Io.KnownBytes.{Appends}
 use Rattle.vp_base.specs.declared.limits.Limits.{Limits}

@@ -1,4 +1,5 @@
--- What the modes of a macroblock say of themselves (RFC 6386, chapters 8.2 and 16.3).
+-- Properties of the modes of a macroblock (RFC 6386, chapters 8.2 and 16.3): B_PRED alone has subblock modes, and
+-- SPLITMV alone has several vectors. Pinned by streams of other encoders in the gate.
 use Rattle.std.specs.Prelude.{Bool, true, false}
 use Rattle.vp_tables.specs.declared.modes.LumaMode.{LumaMode}
 use Rattle.vp_tables.specs.declared.modes.LumaMode.TheVariants as luma_is

@@ -1,4 +1,5 @@
--- What is read from the tables. The long ones stand in no goal.
+-- The entries of the constant tables, by their indices (RFC 6386, chapters 11.5, 13.2 to 13.5, 14.1 and 18.3). Pinned
+-- by `scripts/compare_tables.py`, which compares every number with a transcription of the standard's.
 use Rattle.std.specs.Prelude.{ℕ, ℤ, pos, ◌+ℤ◌, ◌==◌, List, [], ◌∷◌, slice_index, slice_index_or, count_by}
 use Rattle.vp_tables.specs.declared.modes.SubMode.{SubMode}
 use Rattle.vp_tables.specs.declared.modes.SubMode.TheVariants as sub_is

@@ -1,4 +1,4 @@
--- The levels of a block of 4 by 4 coefficients (RFC 6386, chapter 13).
+-- The coefficient levels of one block, and its end-of-block position (RFC 6386, chapter 13).
 use Rattle.std.specs.Prelude.{◌≡◌, ◌≢◌, ◌<◌, ◌≤◌, ℕ, ◌-◌, ℤ, pos, Bool, nat_lt, List, length, replicate, slice_index_or, unsigned_abs}
 
 -- the levels by position, in the order in which they are read, and the position behind the last token before the end of the block

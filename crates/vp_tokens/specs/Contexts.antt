@@ -1,4 +1,5 @@
--- What is kept, while a frame's tokens are read, of those that were read before (RFC 6386, chapter 13.3), and what it stands for.
+-- The context flags that the code keeps while it reads a frame's tokens: nine for each column and nine for the row (RFC
+-- 6386, chapter 13.3), and what they mean in terms of the blocks read before.
 use Rattle.std.specs.Prelude.{◌≡◌, ◌<◌, ℕ, ◌+◌, ◌*◌, Bool, nat_lt, List, [], ◌∷◌, length, slice_index_or, if◌then◌else◌}
 use Rattle.vp_base.specs.declared.place.Place.{Place}
 use Rattle.vp_base.specs.Place as place

@@ -1,4 +1,5 @@
--- What can be told as the tokens of a macroblock (RFC 6386, chapters 13, 13.2).
+-- Which blocks of a macroblock can be written (RFC 6386, chapters 13.1 and 13.2). Pinned by the tests
+-- `writes_row_of_a_stream` and `tokens_end_with_the_last_level`.
 use Rattle.std.specs.Prelude.{◌≡◌, ◌≢◌, ◌<◌, ℕ, ◌-◌, ℤ, pos, Bool, false, List, [], slice_index_or}
 use Rattle.vp_tokens.specs.declared.block.BlockKind.{BlockKind}
 use Rattle.vp_tokens.specs.Block.{Block, level_of, no_tokens, IsTight}

@@ -1,4 +1,4 @@
--- When the transforms can be computed in i64.
+-- When the transforms of a block stay within an i64.
 use Rattle.std.specs.Prelude.{◌≤◌, ℕ, ◌<◌, ℤ, pos, ◌+ℤ◌, ◌-ℤ◌, ◌*ℤ◌, List, slice_index_or, unsigned_abs, ◌+◌, ◌^◌}
 use Rattle.std.specs.Int.{w64}
 use Rattle.std.specs.Int.RustNames.{FitsSigned}

@@ -1,5 +1,5 @@
--- The forward transforms of a block's sixteen numbers, over whole numbers that never wrap. RFC 6386 leaves them open: this is the
--- choice of this repository's encoder.
+-- The encoder's forward DCT and WHT of sixteen numbers, over unbounded integers. RFC 6386 leaves them open. Pinned by
+-- the test `forward_examples`.
 use Rattle.std.specs.Prelude.{ℤ, pos, ◌+ℤ◌, ◌-ℤ◌, ◌*ℤ◌, List, [], ◌∷◌, slice_index_or}
 use Rattle.vp_transform.specs.Transform.{element_at, block_from, product, hadamard, hadamard_times}
 use lib.Signed.{shr_z}

@@ -1,4 +1,5 @@
--- Two blocks side by side.
+-- Two blocks side by side: a row of one block, followed by the same row of the other. Pinned by the test
+-- `pair_example`.
 use Rattle.std.specs.Prelude.{ℕ, ℤ, List, [], ◌∷◌}
 use Rattle.vp_lanes.specs.Lane.{lane}
 use Rattle.vp_transform.specs.Transform.{element_at, block_from}

@@ -1,4 +1,4 @@
--- Numbers cut to 16 bits.
+-- Numbers clamped to 16 bits. Pinned by the test `cut_blocks`.
 use Rattle.std.specs.Prelude.{min, ℤ, pos, negsuc}
 
 -- z, or the nearest of -32768 and 32767

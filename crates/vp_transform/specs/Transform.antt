@@ -1,4 +1,5 @@
--- The inverse transforms of a block's sixteen numbers, over whole numbers that never wrap (RFC 6386, chapter 14).
+-- The inverse WHT and the inverse DCT of sixteen numbers, over unbounded integers (RFC 6386, chapters 14.2 to 14.4).
+-- Pinned by the test `kernel_examples` (a block computed with the standard's own program).
 use Rattle.std.specs.Prelude.{ℕ, ◌+◌, ◌*◌, ◌/◌, ◌%◌, ℤ, pos, negsuc, ◌+ℤ◌, ◌-ℤ◌, ◌*ℤ◌, List, [], ◌∷◌, map, slice_index_or}
 use Rattle.std.specs.List.{range_with_len}
 use lib.Signed.{shr_z}

@@ -1,4 +1,4 @@
--- Where the leaves of a tree are (RFC 6386, chapter 8.1).
+-- Where the leaves of a tree are (RFC 6386, chapter 8.1): whether a leaf is below a pair of entries.
 use Rattle.std.specs.Prelude.{ℕ, zero, suc, ◌+◌, ◌-◌, Bool, false, ◌||◌, List, length, Option, Some, None, slice_get}
 use Rattle.vp_tree.specs.declared.entry.TreeEntry.{TreeEntry}
 use Rattle.vp_tree.specs.declared.entry.TreeEntry.TheVariants.{Leaf, Pair}

@@ -1,4 +1,5 @@
--- Trees of bools, the paths to their leaves, and the leaf that the bools of a state lead to (RFC 6386, chapter 8.1).
+-- Trees of bools (RFC 6386, chapter 8.1): which tables are trees, the paths to their leaves, and the leaf that a walk
+-- reads. Pinned by the tests `reads_leaves`, `finds_paths` and `writes_leaves`.
 use Rattle.std.specs.Prelude.{◌≡◌, ℕ, zero, suc, ◌+◌, ◌-◌, ◌*◌, ◌/◌, ◌%◌, ◌<◌, Bool, true, false, ◌&&◌, ◌==◌, nat_lt, List, [], ◌∷◌, length, map, count_by, Option, Some, None, slice_get, slice_index}
 use Rattle.std.specs.Int.{from_bool}
 use Rattle.vp_bool.specs.Bools.{State, read}

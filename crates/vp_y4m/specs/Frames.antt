@@ -1,4 +1,4 @@
--- What reading a picture's line, and then the picture, gives.
+-- The results of reading the line before a picture, and the picture.
 use Rattle.std.specs.Prelude.{ℕ, ◌≡◌, Bool, true, false, List, Option, Some, None, Result, Ok, Err, codes}
 use Rattle.vp_base.specs.Image.{Image, i420}
 use Rattle.vp_y4m.specs.declared.fault.SourceFault.{SourceFault}

@@ -1,4 +1,5 @@
--- The line before all pictures: tokens, each of a kind by its first byte.
+-- The header line of a YUV4MPEG2 file: its tokens, and the faults in their order. YUV4MPEG2 is no part of RFC 6386; the
+-- lines are those that mjpegtools and ffmpeg write. Pinned by the tests `header_lines` and `header_faults`.
 use Rattle.std.specs.Prelude.{ℕ, ◌*◌, ◌==◌, ◌&&◌, ◌||◌, Bool, true, false, List, [], ◌∷◌, length, nat_lt, nat_le, Option, Some, None, Result, Ok, Err, if◌then◌else◌, codes}
 use Rattle.std.specs.Char.{is_ascii_digit}
 use Rattle.std.specs.List.{list_all, before_first, after_first, slice_split}

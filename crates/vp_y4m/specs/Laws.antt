@@ -1,4 +1,4 @@
--- What is written is read back.
+-- The statements of the laws that a written header and a written picture are read back.
 use Rattle.std.specs.Prelude.{ℕ, ◌≡◌, ◌<◌, ◌≤◌, ◌^◌, ◌*◌, List, ◌++◌, length, Some, Ok}
 use Rattle.vp_base.specs.Limits.{IsSide}
 use Rattle.vp_y4m.specs.Text.{header_text, picture_text, i420_length}

@@ -1,4 +1,4 @@
--- Lines of a file and their tokens.
+-- The lines of a YUV4MPEG2 file, of at most 1,024 bytes. Pinned by the test `header_faults`.
 use Rattle.std.specs.Prelude.{ℕ, ◌≤◌, ◌≡◌, ◌==◌, Bool, List, [], ◌∷◌, length, take, nat_lt, Option, Some, None, Result, Ok, Err, if◌then◌else◌}
 use Rattle.std.specs.Io.KnownBytes.{Consumes, IsAtEnd}
 use Rattle.std.specs.List.{position_or_len, before_first, after_first}

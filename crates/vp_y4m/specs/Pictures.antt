@@ -1,4 +1,5 @@
--- Files by their bytes: the head, and one picture after another.
+-- A YUV4MPEG2 file by its bytes: the header, and one picture after another. Pinned by the tests `planes_stand_in_order`
+-- and `source_reads_back`.
 use Rattle.std.specs.Prelude.{ℕ, ◌<◌, ◌≡◌, ◌⊎◌, List, length, take, drop, nat_le, Option, Some, None, Result, Ok, Err, if◌then◌else◌, codes}
 use Rattle.std.specs.Io.KnownBytes.{Consumes, IsAtEnd}
 use Rattle.vp_y4m.specs.declared.fault.SourceFault.{SourceFault}

@@ -1,4 +1,4 @@
--- Pixels that are read into a picture.
+-- The pixels of a picture that is read: shown pixels are the file's bytes, and all others are 0.
 use Rattle.std.specs.Prelude.{ℕ, ◌<◌, ◌≤◌, ◌≡◌, ◌⊎◌, ◌+◌, ◌/◌, ◌==◌, List, Option, if◌then◌else◌}
 use Rattle.std.specs.Io.KnownBytes.{Consumes}
 use Rattle.vp_base.specs.Raster.{Raster, pixel}

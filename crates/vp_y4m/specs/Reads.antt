@@ -1,4 +1,5 @@
--- What the bytes that were taken from a reader show of a definition over all of a file's bytes, and in how many reads.
+-- What the bytes consumed so far prove about the whole file, and how many reads they took. Pinned by the test
+-- `reads_are_counted`.
 use Rattle.std.specs.Prelude.{ℕ, ◌≡◌, ◌≢◌, ◌<◌, ◌≤◌, ◌+◌, List, ◌++◌, length, take, Option, Some, None, Result, Ok, Err}
 use Rattle.std.specs.Io.KnownBytes.{Consumes, IsAtEnd}
 use Rattle.vp_y4m.specs.declared.fault.SourceFault.{SourceFault}

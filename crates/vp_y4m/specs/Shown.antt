@@ -1,4 +1,4 @@
--- What a header's struct shows.
+-- The model of a header: the numbers that its struct holds.
 use Rattle.std.specs.Prelude.{ℕ, List, Option, Result, Ok, Err}
 use Rattle.std.specs.Option.{option_map}
 use Rattle.std.specs.Borrow.{Bor}

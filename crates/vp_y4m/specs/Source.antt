@@ -1,4 +1,4 @@
--- What a source has.
+-- The model of a source of pictures: its reader, header and progress, and the answer to each request.
 use Rattle.std.specs.Prelude.{ℕ, List, Option, Some, None, Result, Ok, Err}
 use Rattle.vp_base.specs.Counted.{counted_remaining, counted_failures, counted_reads}
 use Rattle.vp_y4m.specs.declared.fault.SourceFault.{SourceFault}

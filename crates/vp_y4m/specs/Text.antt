@@ -1,4 +1,5 @@
--- YUV4MPEG2 files as text: a line of tokens, and behind it each picture behind a line of its own.
+-- A YUV4MPEG2 file as it is written: the header line, and each picture after its own line. Pinned by the test
+-- `source_reads_back` (431 bytes).
 use Rattle.std.specs.Prelude.{ℕ, List, ◌++◌, ◌+◌, ◌*◌, ◌/◌, codes}
 use Rattle.std.specs.Fmt.{decimal}
 
