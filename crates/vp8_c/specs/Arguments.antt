@@ -24,7 +24,8 @@ given_of f (Some held) = f held
 abbrev pub given_in : {A : Type 0} → (HandleValue → Result A ℕ) → Handle → Result A ℕ
 given_in f h = given_of f (held_in h)
 
--- The value is given as P says; or the status says why there is none, and what the call could have written is as before.
+-- The value is given as P says; or the status says why there is none, and what the call could have written is as
+-- before.
 abbrev pub GivesOrFails : {A B : Type 0} → (A → ℕ → B → B → Type 0) → Result A ℕ → ℕ → B → B → Type 0
 GivesOrFails P (Ok value) status before after = P value status before after
 GivesOrFails P (Err why) status before after = (status ≡ why) × (after ≡ before)

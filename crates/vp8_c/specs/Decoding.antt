@@ -1,5 +1,6 @@
 -- The decoder of a handle: its limits, and the effect of decoding a packet. Pinned by the test `a_packet_is_decoded`.
-use Rattle.std.specs.Prelude.{◌≡◌, ◌≢◌, ◌⊎◌, ◌<◌, ℕ, List, length, Option, Some, None, Result, Err, ok_or, option_and_then}
+use Rattle.std.specs.Prelude.{◌≡◌, ◌≢◌, ◌⊎◌, ◌<◌, ℕ, List, length, Option, Some, None, Result, Err, ok_or}
+use Rattle.std.specs.Prelude.{option_and_then}
 use Rattle.vp_base.specs.Image.{Image}
 use Rattle.vp_decode.specs.Step.{Decoder, IsDecoded, after, outcome, step}
 use Rattle.vp8_c.specs.declared.status.TheConstants.{CLOSED, MEMORY, NO_PICTURE}
@@ -41,7 +42,8 @@ pub record IsFresh (pixels : ℕ) (d : Decoder) : Type 0 where
 abbrev pub IsNoLimit : ℕ → Type 0
 IsNoLimit pixels = (pixels ≡ 0) ⊎ (268402689 < pixels)
 
--- A packet is decoded: the number of what its step comes to is answered, and the decoder after the step is kept. Or memory
+-- A packet is decoded: the number of what its step comes to is answered, and the decoder after the step is kept. Or
+-- memory
 -- was refused, for a packet that has bytes and no fault, and nothing changed.
 pub record Decodes (packet : List ℕ) (status : ℕ) (old new : Decoder) : Type 0 where
   pub outcome_is : status ≢ MEMORY → status ≡ outcome_number (outcome (step old.limits old.state packet).1)

@@ -1,6 +1,7 @@
 -- The encoder of a handle: settings, and the effect of encoding a picture from the caller's rows. Pinned by the tests
 -- `settings_of_c` and `a_picture_is_encoded`.
-use Rattle.std.specs.Prelude.{◌≡◌, ◌≢◌, ◌⊎◌, ◌↔◌, ◌==◌, not, ℕ, List, length, Option, Some, None, Result, Err, ok_or, option_and_then}
+use Rattle.std.specs.Prelude.{◌≡◌, ◌≢◌, ◌⊎◌, ◌↔◌, ◌==◌, not, ℕ, List, length, Option, Some, None, Result, Err, ok_or}
+use Rattle.std.specs.Prelude.{option_and_then}
 use Rattle.vp_base.specs.Image.{Image}
 use Rattle.vp_encode.specs.declared.encoder.Encoded.{Encoded}
 use Rattle.vp_encode.specs.declared.settings.Settings.{Settings}
@@ -99,7 +100,8 @@ pub record IsFrameForgotten (e : EncoderState) (next : EncoderHandle) : Type 0 w
   pub state : next.encoder.state ≡ None
   pub encoded : next.encoded ≡ None
 
--- Planes are encoded where a picture of the encoder's size fits: its frame is kept, or a partition is too long, or memory
+-- Planes are encoded where a picture of the encoder's size fits: its frame is kept, or a partition is too long, or
+-- memory
 -- was refused, and then no frame is. Where it doesn't fit, nothing changes.
 pub record Encodes (planes : Planes) (status : ℕ) (old new : EncoderHandle) : Type 0 where
   pub answer : (status ≡ OK) ⊎ (status ≡ BUFFER) ⊎ (status ≡ TOO_LONG) ⊎ (status ≡ MEMORY)

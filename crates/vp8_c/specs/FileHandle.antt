@@ -62,10 +62,18 @@ kept_size_in h = result_map (λ p. size_of p.width p.height) (given_in kept_of h
 abbrev pub kept_i420_in : Handle → Result (List ℕ) ℕ
 kept_i420_in h = result_map (λ p. p.i420) (given_in kept_of h)
 
--- what is known of a file: what its head says, if it is whole and good, how many packets are whole, and why no more are read
+-- what is known of a file: what its head says, if it is whole and good, how many packets are whole, and why no more
+-- are read
 abbrev pub info_with : Option IvfHead → ℕ → ℕ → StreamInfo
 info_with None packets fault = record { width = 0; height = 0; rate = 0; scale = 0; packets = packets; fault = fault }
-info_with (Some h) packets fault = record { width = h.w; height = h.h; rate = h.rate; scale = h.scale; packets = packets; fault = fault }
+info_with (Some h) packets fault = record {
+  width = h.w;
+  height = h.h;
+  rate = h.rate;
+  scale = h.scale;
+  packets = packets;
+  fault = fault;
+}
 
 abbrev pub stream_info : FileHandle → StreamInfo
 stream_info a = info_with a.stream.reading.head (length a.stream.reading.packets) (ending_number a.ended)
@@ -73,7 +81,8 @@ stream_info a = info_with a.stream.reading.head (length a.stream.reading.packets
 abbrev pub info_in : Handle → Result StreamInfo ℕ
 info_in h = result_map stream_info (ok_or (stream_in h) CLOSED)
 
--- Packet n was asked for: the number of its answer is answered, and the answer is kept. Or memory was refused, for a packet
+-- Packet n was asked for: the number of its answer is answered, and the answer is kept. Or memory was refused, for a
+-- packet
 -- that the file has, and nothing changed.
 pub record AnswersPacket (n status : ℕ) (old new : FileHandle) : Type 0 where
   pub number : status ≢ MEMORY → status ≡ told_number (answer_at old.stream.limits old.stream.reading.packets n)

@@ -1,7 +1,10 @@
 -- The names of status numbers. Pinned by the tests `names_of_other_numbers` and `a_name_is_copied`.
 use Rattle.std.specs.Prelude.{ℕ, List, [], ◌-◌, ◌==◌, nat_lt, codes, if◌then◌else◌}
-use Rattle.vp8_c.specs.declared.status.TheConstants.{OK, HIDDEN, TRUNCATED, VERSION, START_CODE, SIZE, TOO_LARGE, NO_REFERENCE, FIRST_PARTITION, PARTITION_TABLE, PARTITION}
-use Rattle.vp8_c.specs.declared.status.TheConstants.{SIGNATURE, CODEC, TOO_MANY, PACKET_TOO_LARGE, TORN, ENDED, SETTINGS, TOO_LONG, CLOSED, OPEN, MEMORY, LIMITS, DIMENSIONS, NO_PICTURE, NO_PACKET, BUFFER}
+use Rattle.vp8_c.specs.declared.status.TheConstants.{OK, HIDDEN, TRUNCATED, VERSION, START_CODE, SIZE, TOO_LARGE}
+use Rattle.vp8_c.specs.declared.status.TheConstants.{NO_REFERENCE, FIRST_PARTITION, PARTITION_TABLE, PARTITION}
+use Rattle.vp8_c.specs.declared.status.TheConstants.{SIGNATURE, CODEC, TOO_MANY, PACKET_TOO_LARGE, TORN, ENDED}
+use Rattle.vp8_c.specs.declared.status.TheConstants.{SETTINGS, TOO_LONG, CLOSED, OPEN, MEMORY, LIMITS, DIMENSIONS}
+use Rattle.vp8_c.specs.declared.status.TheConstants.{NO_PICTURE, NO_PACKET, BUFFER}
 
 -- what is done, by its number
 abbrev pub done_name : ℕ → List ℕ

@@ -16,7 +16,12 @@ pub record Planes : Type 0 where
   pub strides : Strides
 
 abbrev pub planes_of : List ℕ → ℕ → List ℕ → ℕ → List ℕ → ℕ → Planes
-planes_of y y_stride u u_stride v v_stride = record { y = y; u = u; v = v; strides = record { y = y_stride; u = u_stride; v = v_stride } }
+planes_of y y_stride u u_stride v v_stride = record {
+  y = y;
+  u = u;
+  v = v;
+  strides = record { y = y_stride; u = u_stride; v = v_stride };
+}
 
 abbrev pub planes_in : CallerPlanes → Planes
 planes_in p = record { y = p.y.now; u = p.u.now; v = p.v.now; strides = p.strides }
@@ -55,7 +60,8 @@ AreStridedRows l bytes at = (x y : ℕ) → x < l.width → y < l.height → at 
 -- The rows hold at x y in each column x of each row y, and all other bytes are as they were before.
 pub record HoldsRows (l : Layout) (at : ℕ → ℕ → ℕ) (before after : List ℕ) : Type 0 where
   pub rows : (x y : ℕ) → x < l.width → y < l.height → byte_at l.stride after x y ≡ at x y
-  pub others : (i : ℕ) → i < length before → ((x y : ℕ) → x < l.width → y < l.height → i ≢ y * l.stride + x) → slice_index after i ≡ slice_index before i
+  pub others : (i : ℕ) → i < length before → ((x y : ℕ) → x < l.width → y < l.height → i ≢ y * l.stride + x)
+      → slice_index after i ≡ slice_index before i
 
 -- ---- pictures
 
@@ -81,7 +87,8 @@ pub record AreRowsOf (width height : ℕ) (planes : Planes) (p : Image) : Type 0
 
 -- plane k of a picture was read from the rows of the bytes, and nothing else changed
 pub record ReadsPlane (l : Layout) (bytes : List ℕ) (k : ℕ) (old new : Image) : Type 0 where
-  pub rows : HoldsRows (record l { stride = (plane_of old k).width }) (byte_at l.stride bytes) (plane_of old k).pixels (plane_of new k).pixels
+  pub rows : HoldsRows (record l { stride = (plane_of old k).width }) (byte_at l.stride bytes) (plane_of old k).pixels
+      (plane_of new k).pixels
   pub columns_is : (plane_of new k).width ≡ (plane_of old k).width
   pub rows_is : (plane_of new k).height ≡ (plane_of old k).height
   pub others : new ≡ with_plane old k (plane_of new k)

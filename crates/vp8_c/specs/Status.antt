@@ -2,14 +2,18 @@
 -- `numbers_of_packet_faults` and `numbers_of_file_faults`.
 use Rattle.std.specs.Prelude.{ℕ, ◌+◌, Result, Ok, Err}
 use Rattle.vp_head.specs.declared.fault.PacketFault.{PacketFault}
-use Rattle.vp_head.specs.declared.fault.PacketFault.TheVariants.{Truncated, Version, StartCode, Size, TooLarge, NoReference, FirstPartition, PartitionTable, Partition}
+use Rattle.vp_head.specs.declared.fault.PacketFault.TheVariants.{Truncated, Version, StartCode, Size, TooLarge}
+use Rattle.vp_head.specs.declared.fault.PacketFault.TheVariants.{NoReference, FirstPartition, PartitionTable, Partition}
 use Rattle.vp_decode.specs.declared.decoder.Outcome.{Outcome}
 use Rattle.vp_decode.specs.declared.decoder.Outcome.TheVariants.{Shown, Hidden, Fault}
 use Rattle.vp_ivf.specs.declared.fault.FileFault.{FileFault}
 use Rattle.vp_ivf.specs.declared.fault.FileFault.TheVariants as file
 use Rattle.vp_stream.specs.Seeking.{AnswerValue}
 use Rattle.vp_stream.specs.Seeking as seeking
-use Rattle.vp8_c.specs.declared.status.TheConstants.{OK, HIDDEN, NO_PACKET, TRUNCATED, VERSION, START_CODE, SIZE, TOO_LARGE, NO_REFERENCE, FIRST_PARTITION, PARTITION_TABLE, PARTITION, SIGNATURE, CODEC, TOO_MANY, PACKET_TOO_LARGE, TORN, ENDED}
+use Rattle.vp8_c.specs.declared.status.TheConstants.{OK, HIDDEN, NO_PACKET, TRUNCATED, VERSION, START_CODE, SIZE}
+use Rattle.vp8_c.specs.declared.status.TheConstants.{TOO_LARGE, NO_REFERENCE, FIRST_PARTITION, PARTITION_TABLE}
+use Rattle.vp8_c.specs.declared.status.TheConstants.{PARTITION, SIGNATURE, CODEC, TOO_MANY, PACKET_TOO_LARGE, TORN}
+use Rattle.vp8_c.specs.declared.status.TheConstants.{ENDED}
 
 -- the number of a packet's fault
 abbrev pub fault_number : PacketFault → ℕ

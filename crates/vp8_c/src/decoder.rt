@@ -41,7 +41,8 @@ pub extern "C" fn vp8_decoder_new(alloc: Global, decoder: &mut Handle, max_pixel
 #[unsafe(no_mangle)]
 pub extern "C" fn vp8_decoder_decode(alloc: Global, decoder: &mut Handle, packet: &[u8]) -> u32
     ensures closed { decoder_in decoder.old ≡ None → IsClosed result decoder.old decoder.new }
-    ensures decoded { IfSome (decoder_in decoder.old) (λ d. IsSomeAnd (decoder_in decoder.new) (Decodes packet.now result d)) }
+    ensures decoded { IfSome (decoder_in decoder.old) (λ d. IsSomeAnd (decoder_in decoder.new)
+        (Decodes packet.now result d)) }
 {
     let Some(mut held) = decoder.take(alloc) else {
         return CLOSED;
@@ -60,7 +61,8 @@ pub extern "C" fn vp8_decoder_size(
     height: &mut u32,
 ) -> u32
     ensures held { held_in decoder.new ≡ held_in decoder.old }
-    ensures size { GivesOrFails Puts (shown_size_in decoder.old) result (size_of width.old height.old) (size_of width.new height.new) }
+    ensures size { GivesOrFails Puts (shown_size_in decoder.old) result (size_of width.old height.old)
+        (size_of width.new height.new) }
 {
     let Some(held) = decoder.take(alloc) else {
         return CLOSED;
@@ -87,7 +89,8 @@ pub extern "C" fn vp8_decoder_copy(
 ) -> u32
     ensures held { held_in decoder.new ≡ held_in decoder.old }
     ensures picture { GivesOrFails CopiesPicture (handle_picture decoder.old) result
-        (planes_of y.old y_stride u.old u_stride v.old v_stride) (planes_of y.new y_stride u.new u_stride v.new v_stride) }
+        (planes_of y.old y_stride u.old u_stride v.old v_stride)
+        (planes_of y.new y_stride u.new u_stride v.new v_stride) }
 {
     let Some(held) = decoder.take(alloc) else {
         return CLOSED;

@@ -6,7 +6,8 @@ ghost use Rattle.vp_encode.specs.Encoder.{AreAllowed};
 ghost use Rattle.vp8_c.specs.Handle.{held_in};
 ghost use Rattle.vp8_c.specs.Arguments.{CopiesBytes, CopiesPicture, GivesOrFails, IsClosed, Opens, Puts};
 ghost use Rattle.vp8_c.specs.Planes.{planes_of};
-ghost use Rattle.vp8_c.specs.EncoderHandle.{Encodes, IsReady, encoder_in, error_in, encoded_packet, packet_size_in, recon_in, settings_in};
+ghost use Rattle.vp8_c.specs.EncoderHandle.{Encodes, IsReady, encoder_in, error_in, encoded_packet, packet_size_in};
+ghost use Rattle.vp8_c.specs.EncoderHandle.{recon_in, settings_in};
 
 use crate::bytes::put_front;
 use crate::encoder_handle::EncoderHandle;
@@ -29,7 +30,8 @@ pub extern "C" fn vp8_encoder_new(
     settings: &EncoderSettings,
 ) -> u32
     ensures answer { (result ≡ OK) ⊎ (result ≡ OPEN) ⊎ (result ≡ DIMENSIONS) ⊎ (result ≡ SETTINGS) ⊎ (result ≡ MEMORY) }
-    ensures opens { Opens (λ h. IsSomeAnd (encoder_in h) (IsReady width height (settings_in settings.now))) result encoder.old encoder.new }
+    ensures opens { Opens (λ h. IsSomeAnd (encoder_in h) (IsReady width height
+        (settings_in settings.now))) result encoder.old encoder.new }
     ensures dimensions { held_in encoder.old ≡ None → (result ≡ DIMENSIONS) ↔ (IsNoSide width ⊎ IsNoSide height) }
     ensures settings { held_in encoder.old ≡ None → ¬ (IsNoSide width ⊎ IsNoSide height)
         → (result ≡ SETTINGS) ↔ ¬ (AreAllowed (settings_in settings.now)) }
@@ -139,7 +141,8 @@ pub extern "C" fn vp8_encoder_reconstruction(
 ) -> u32
     ensures held { held_in encoder.new ≡ held_in encoder.old }
     ensures picture { GivesOrFails CopiesPicture (recon_in encoder.old) result
-        (planes_of y.old y_stride u.old u_stride v.old v_stride) (planes_of y.new y_stride u.new u_stride v.new v_stride) }
+        (planes_of y.old y_stride u.old u_stride v.old v_stride)
+        (planes_of y.new y_stride u.new u_stride v.new v_stride) }
 {
     let Some(held) = encoder.take(alloc) else {
         return CLOSED;

@@ -28,7 +28,8 @@ impl HandleValue {
     /// Decodes a packet, where it is a decoder.
     pub fn decode(&mut self, packet: &[u8]) -> u32
         ensures closed { decoder_of self.old ≡ None → (result ≡ CLOSED) × (self.new ≡ self.old) }
-        ensures decoded { IfSome (decoder_of self.old) (λ d. IsSomeAnd (decoder_of self.new) (Decodes packet.now result d)) }
+        ensures decoded { IfSome (decoder_of self.old) (λ d. IsSomeAnd (decoder_of self.new)
+            (Decodes packet.now result d)) }
     {
         match self {
             HandleValue::Decoder(decoder) => match decoder.decode(packet) {
@@ -65,7 +66,8 @@ impl HandleValue {
     /// Asks for packet `n`, where it is a file.
     pub fn ask(&mut self, n: u32) -> u32
         ensures closed { stream_of self.old ≡ None → (result ≡ CLOSED) × (self.new ≡ self.old) }
-        ensures answered { IfSome (stream_of self.old) (λ a. IsSomeAnd (stream_of self.new) (AnswersPacket n result a)) }
+        ensures answered { IfSome (stream_of self.old) (λ a. IsSomeAnd (stream_of self.new)
+            (AnswersPacket n result a)) }
     {
         match self {
             HandleValue::Stream(asked) => asked.ask(n),
@@ -73,7 +75,8 @@ impl HandleValue {
         }
     }
 
-    /// The picture of the packet that was asked for last, where it is a file; else the status of a call that finds none.
+    /// The picture of the packet that was asked for last, where it is a file; else the status of a call that
+    /// finds none.
     pub fn kept(&self) -> Result<KeptPicture<'_>, u32>
         ensures { result_map i420_picture result ≡ kept_of self.now }
     {
@@ -89,7 +92,8 @@ impl HandleValue {
     /// Encodes the caller's rows, where it is an encoder.
     pub fn encode(&mut self, planes: CallerPlanes) -> u32
         ensures closed { encoder_of self.old ≡ None → (result ≡ CLOSED) × (self.new ≡ self.old) }
-        ensures encoded { IfSome (encoder_of self.old) (λ e. IsSomeAnd (encoder_of self.new) (Encodes (planes_in planes.entry) result e)) }
+        ensures encoded { IfSome (encoder_of self.old) (λ e. IsSomeAnd (encoder_of self.new)
+            (Encodes (planes_in planes.entry) result e)) }
     {
         match self {
             HandleValue::Encoder(coding) => coding.encode(planes),

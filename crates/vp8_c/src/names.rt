@@ -2,7 +2,8 @@
 
 ghost use Rattle.std.specs.Prelude.{◌≡◌, ◌≢◌, ◌≤◌, ◌<◌, ◌+◌, ◌++◌, [], ◌∷◌, length};
 ghost use Rattle.vp8_c.specs.Bytes.{BeginsWith};
-ghost use Rattle.vp8_c.specs.Names.{status_name, packet_name, partition_name, file_name, call_name, done_name, frame_name};
+ghost use Rattle.vp8_c.specs.Names.{status_name, packet_name, partition_name, file_name, call_name, done_name};
+ghost use Rattle.vp8_c.specs.Names.{frame_name};
 
 use crate::status::{
     BUFFER, CLOSED, CODEC, DIMENSIONS, ENDED, FIRST_PARTITION, HIDDEN, LIMITS, MEMORY, NO_PACKET,
@@ -121,7 +122,8 @@ pub fn status_name(status: u32) -> &'static str
 #[unsafe(no_mangle)]
 pub extern "C" fn vp8_status_name(status: u32, out: &mut [u8]) -> usize
     ensures len { result ≡ length (status_name status) }
-    ensures copied { length (status_name status) < length out.old → BeginsWith (status_name status ++ 0 ∷ []) out.old out.new }
+    ensures copied { length (status_name status) < length out.old
+        → BeginsWith (status_name status ++ 0 ∷ []) out.old out.new }
     ensures unchanged { length out.old ≤ length (status_name status) → out.new ≡ out.old }
 {
     let name = status_name(status).as_bytes();

@@ -5,7 +5,8 @@ ghost use Rattle.std.specs.Bool.{OnTrue, OnFalse};
 ghost use Rattle.vp_base.specs.Raster.{overlay, pixel};
 ghost use Rattle.vp_base.specs.Image.{plane_of};
 ghost use Rattle.vp8_c.specs.Arguments.{CopiesPicture, Puts, size_of};
-ghost use Rattle.vp8_c.specs.Planes.{AllFit, AreRowsOf, AreSameMemory, HasRoomForRows, HoldsRows, ReadsPlane, planes_in, planes_in_mut};
+ghost use Rattle.vp8_c.specs.Planes.{AllFit, AreRowsOf, AreSameMemory, HasRoomForRows, HoldsRows, ReadsPlane};
+ghost use Rattle.vp8_c.specs.Planes.{planes_in, planes_in_mut};
 
 use crate::planes::{CallerPlanes, CallerPlanesMut, Layout};
 use crate::status::{BUFFER, OK};

@@ -9,7 +9,8 @@ use std::alloc::Global;
 use std::marker::Model;
 use std::ptr;
 
-/// A pointer to what a handle leads to, which it owns, or null. C sees a `void *`. It can't be let go while it owns something.
+/// A pointer to what a handle leads to, which it owns, or null. C sees a `void *`. It can't be let go while it owns
+/// something.
 #[repr(C)]
 pub struct Slot {
     at: *mut u8,

@@ -62,7 +62,8 @@ pub extern "C" fn vp8_stream_get_info(
 #[unsafe(no_mangle)]
 pub extern "C" fn vp8_stream_picture_at(alloc: Global, stream: &mut Handle, n: u32) -> u32
     ensures closed { stream_in stream.old ≡ None → IsClosed result stream.old stream.new }
-    ensures answered { IfSome (stream_in stream.old) (λ a. IsSomeAnd (stream_in stream.new) (AnswersPacket n result a)) }
+    ensures answered { IfSome (stream_in stream.old) (λ a. IsSomeAnd (stream_in stream.new)
+        (AnswersPacket n result a)) }
 {
     let Some(mut held) = stream.take(alloc) else {
         return CLOSED;
@@ -81,7 +82,8 @@ pub extern "C" fn vp8_stream_size(
     height: &mut u32,
 ) -> u32
     ensures held { held_in stream.new ≡ held_in stream.old }
-    ensures size { GivesOrFails Puts (kept_size_in stream.old) result (size_of width.old height.old) (size_of width.new height.new) }
+    ensures size { GivesOrFails Puts (kept_size_in stream.old) result (size_of width.old height.old)
+        (size_of width.new height.new) }
 {
     let Some(held) = stream.take(alloc) else {
         return CLOSED;

@@ -1,6 +1,7 @@
 -- The command line: commands, options and operands in the terms of the crate clap, and the values that they select.
 -- Pinned by the tests `usual_settings`, `each_option_sets_its_own` and `served_as_asked`.
-use Rattle.std.specs.Prelude.{◌≡◌, ◌≢◌, ◌⊎◌, ◌<◌, ◌==◌, ◌^◌, ℕ, Bool, true, false, List, [], ◌∷◌, length, map, nat_lt, Option, Some, None, codes, if◌then◌else◌}
+use Rattle.std.specs.Prelude.{◌≡◌, ◌≢◌, ◌⊎◌, ◌<◌, ◌==◌, ◌^◌, ℕ, Bool, true, false, List, [], ◌∷◌, length, map, nat_lt}
+use Rattle.std.specs.Prelude.{Option, Some, None, codes, if◌then◌else◌}
 use Rattle.std.specs.List.{after_first, before_first, list_all, position_or_len}
 use Rattle.std.specs.Str.{bytes_eq}
 use Rattle.std.specs.Str.Parse.{digits_value, IsNumeral}
@@ -39,7 +40,10 @@ operand_rule name = record (new_rule name) { required = true; action = Some Set 
 -- one operand or more
 abbrev pub operands_rule : Text → Rule
 operands_rule name =
-    record (operand_rule name) { range = Some (record { start_inclusive = 1; end_inclusive = usize_max }); action = Some Append }
+    record (operand_rule name) {
+      range = Some (record { start_inclusive = 1; end_inclusive = usize_max });
+      action = Some Append;
+    }
 
 abbrev pub with_rules : App → List Rule → App
 with_rules a [] = a
@@ -47,19 +51,23 @@ with_rules a (r ∷ rs) = with_rules (with_rule a r) rs
 
 -- the new command is the old one with these arguments more
 abbrev pub Gains : Command → List Rule → Command → Type 0
-Gains old rules new = (app_of new ≡ with_rules (app_of old) rules) × ((fields_of new).has_globals ≡ (fields_of old).has_globals)
+Gains old rules new = (app_of new ≡ with_rules (app_of old) rules)
+    × ((fields_of new).has_globals ≡ (fields_of old).has_globals)
 
 abbrev pub decode_app : App
 decode_app =
-    with_rules (new_app (codes "decode")) (flag_rule (codes "y4m") ∷ operand_rule (codes "IN") ∷ operand_rule (codes "OUT") ∷ [])
+    with_rules (new_app (codes "decode")) (flag_rule (codes "y4m") ∷ operand_rule (codes "IN")
+    ∷ operand_rule (codes "OUT") ∷ [])
 
 abbrev pub macroblock_rules : List Rule
 macroblock_rules =
-    setting_rule (codes "qi") ∷ setting_rule (codes "filter") ∷ setting_rule (codes "sharpness") ∷ flag_rule (codes "simple") ∷ []
+    setting_rule (codes "qi") ∷ setting_rule (codes "filter") ∷ setting_rule (codes "sharpness")
+    ∷ flag_rule (codes "simple") ∷ []
 
 abbrev pub frame_rules : List Rule
 frame_rules =
-    setting_rule (codes "key-every") ∷ setting_rule (codes "golden-every") ∷ setting_rule (codes "range") ∷ flag_rule (codes "subpel")
+    setting_rule (codes "key-every") ∷ setting_rule (codes "golden-every") ∷ setting_rule (codes "range")
+    ∷ flag_rule (codes "subpel")
     ∷ setting_rule (codes "partitions") ∷ []
 
 abbrev pub file_rules : List Rule
@@ -76,17 +84,20 @@ required r = record r { required = true }
 
 abbrev pub serve_rules : List Rule
 serve_rules =
-    required (setting_rule (codes "listen")) ∷ required (setting_rule (codes "connections")) ∷ setting_rule (codes "cache")
+    required (setting_rule (codes "listen")) ∷ required (setting_rule (codes "connections"))
+    ∷ setting_rule (codes "cache")
     ∷ flag_rule (codes "show-address") ∷ operands_rule (codes "NAME=FILE") ∷ []
 
 abbrev pub serve_app : App
 serve_app = with_rules (new_app (codes "serve")) serve_rules
 
 abbrev pub vp8_app : App
-vp8_app = on_top (λ s. record s { has_version = true; disable_help_subcommand = true; subcommand_required = true }) (new_app (codes "vp8"))
+vp8_app = on_top (λ s. record s { has_version = true; disable_help_subcommand = true; subcommand_required = true })
+    (new_app (codes "vp8"))
 
 unfoldable pub program : App
-program = with_subcommand (with_subcommand (with_subcommand (with_subcommand vp8_app decode_app.top) encode_app.top) info_app.top) serve_app.top
+program = with_subcommand (with_subcommand
+    (with_subcommand (with_subcommand vp8_app decode_app.top) encode_app.top) info_app.top) serve_app.top
 
 -- ---- what words ask for
 
@@ -115,11 +126,14 @@ with_service rows _ _ _ = nothing
 -- by what was found for a command
 abbrev pub asked_at : Text → List Row → Asked
 asked_at name rows =
-    if bytes_eq name (codes "decode") then with_operands (decodes (one_of (codes "y4m") rows)) (first_of (codes "IN") rows) (first_of (codes "OUT") rows)
-    else (if bytes_eq name (codes "encode") then with_operands (encodes rows) (first_of (codes "IN") rows) (first_of (codes "OUT") rows)
+    if bytes_eq name (codes "decode") then with_operands (decodes (one_of (codes "y4m") rows))
+    (first_of (codes "IN") rows) (first_of (codes "OUT") rows)
+    else (if bytes_eq name (codes "encode") then with_operands (encodes rows) (first_of (codes "IN") rows)
+    (first_of (codes "OUT") rows)
     else (if bytes_eq name (codes "info") then with_operand tells (first_of (codes "IN") rows)
     else (if bytes_eq name (codes "serve")
-    then with_service rows (first_of (codes "listen") rows) (first_of (codes "connections") rows) (all_of (codes "NAME=FILE") rows)
+    then with_service rows (first_of (codes "listen") rows) (first_of (codes "connections") rows)
+    (all_of (codes "NAME=FILE") rows)
     else nothing)))
 
 abbrev pub parsed_command : Option (Text × List Row) → Asked
@@ -176,10 +190,12 @@ is_parted operand = nat_lt (position_or_len is_equals operand) (length operand)
 
 abbrev pub AreNamed : List Text → List NamedFile → Type 0
 AreNamed operands streams =
-    (list_all is_parted operands ≡ true) × (map (λ stream. (stream.name.now, stream.file.now)) streams ≡ map parted operands)
+    (list_all is_parted operands ≡ true) × (map (λ stream. (stream.name.now, stream.file.now)) streams
+    ≡ map parted operands)
 
 -- the service that is asked for, of streams that are named and lie in files as the operands say
-pub record IsServiceFor (rows : List Row) (address connections : Text) (operands : List Text) (s : ServeArgs) : Type 0 where
+pub record IsServiceFor (rows : List Row) (address connections : Text) (operands : List Text) (s : ServeArgs)
+    : Type 0 where
   pub address_is : s.listen.now ≡ address
   pub connections_are : IsDecimal connections s.connections
   pub cache_is : IsNumber (first_of (codes "cache") rows) 16 s.cache
@@ -187,9 +203,11 @@ pub record IsServiceFor (rows : List Row) (address connections : Text) (operands
   pub streams_are : AreNamed operands s.streams.items
 
 abbrev pub IsPlanFor : Asked → Task → Type 0
-IsPlanFor (decodes flag from to) (Decode form input output) = IsFlag flag (is_y4m form) × (input.now ≡ from) × (output.now ≡ to)
+IsPlanFor (decodes flag from to) (Decode form input output) = IsFlag flag (is_y4m form) × (input.now ≡ from)
+    × (output.now ≡ to)
 IsPlanFor (encodes rows from to) (Encode e) =
-    AreSettings rows e.settings × IsFlag (one_of (codes "progress") rows) e.progress × (e.input.now ≡ from) × (e.output.now ≡ to)
+    AreSettings rows e.settings × IsFlag (one_of (codes "progress") rows) e.progress × (e.input.now ≡ from)
+    × (e.output.now ≡ to)
 IsPlanFor (tells from) (Info input) = input.now ≡ from
 IsPlanFor (serves rows address connections operands) (Serve s) = IsServiceFor rows address connections operands s
 IsPlanFor nothing Nothing = Unit {0}
@@ -209,8 +227,10 @@ IsMisnumbered bound (Some text) = IsNoDecimal bound text
 abbrev pub AreNoSettings : List Row → Type 0
 AreNoSettings rows =
     IsMisnumbered 256 (first_of (codes "qi") rows) ⊎ (IsMisnumbered 256 (first_of (codes "filter") rows)
-    ⊎ (IsMisnumbered 256 (first_of (codes "sharpness") rows) ⊎ (IsMisnumbered (2 ^ 32) (first_of (codes "key-every") rows)
-    ⊎ (IsMisnumbered (2 ^ 32) (first_of (codes "golden-every") rows) ⊎ (IsMisnumbered 256 (first_of (codes "range") rows)
+    ⊎ (IsMisnumbered 256 (first_of (codes "sharpness") rows) ⊎
+    (IsMisnumbered (2 ^ 32) (first_of (codes "key-every") rows)
+    ⊎ (IsMisnumbered (2 ^ 32) (first_of (codes "golden-every") rows)
+    ⊎ (IsMisnumbered 256 (first_of (codes "range") rows)
     ⊎ IsMisnumbered 256 (first_of (codes "partitions") rows))))))
 
 -- the number of pictures that are kept is none, or over 4096

@@ -1,6 +1,7 @@
 -- What each command does with its standard streams and files, and its exit status. Pinned by the tests
 -- `pictures_of_over_16777216_pixels_are_too_large` and `info_that_is_not_printed_has_status_1`.
-use Rattle.std.specs.Prelude.{◌≡◌, ◌≢◌, ◌⊎◌, ℕ, Bool, true, false, List, codes, Option, Some, None, Result, Ok, Err, OnOk, IfOk, MatchBool}
+use Rattle.std.specs.Prelude.{◌≡◌, ◌≢◌, ◌⊎◌, ℕ, Bool, true, false, List, codes, Option, Some, None, Result, Ok, Err}
+use Rattle.std.specs.Prelude.{OnOk, IfOk, MatchBool}
 use Rattle.std.specs.Str.{bytes_eq}
 use Rattle.std.specs.Io.KnownBytes.{Appends, Consumes, IsAtEnd}
 use Rattle.vp_base.specs.declared.limits.Limits.{Limits}
@@ -28,7 +29,8 @@ use Rattle.vp_app.specs.Usual.{AreLimits}
 use Rattle.vp_app.specs.declared.serve_args.ServeArgs.{ServeArgs}
 use Rattle.vp_app.specs.declared.service.ServiceFault.{ServiceFault}
 use Rattle.vp_app.specs.Serving.{IsService}
-use Rattle.vp_app.specs.Args.{Asked, decodes, encodes, tells, serves, nothing, AreNoSettings, AreSettings, IsFlag, IsNoService, IsServiceFor, is_y4m}
+use Rattle.vp_app.specs.Args.{Asked, decodes, encodes, tells, serves, nothing, AreNoSettings, AreSettings, IsFlag}
+use Rattle.vp_app.specs.Args.{IsNoService, IsServiceFor, is_y4m}
 
 -- ---- the streams
 
@@ -46,7 +48,8 @@ written_side contents w = record { bytes = counted_contents contents w; failures
 abbrev pub is_stream : List ℕ → Bool
 is_stream name = bytes_eq name (codes "-")
 
--- the work was done over the stream where the name is `-`; else over a file, of whose bytes nothing is known, and the stream
+-- the work was done over the stream where the name is `-`; else over a file, of whose bytes nothing is known, and
+-- the stream
 -- is as before
 abbrev pub Over : List ℕ → (Side → Side → Type 0) → Side → Side → Type 0
 Over name Work old new = MatchBool (is_stream name) (Work old new) ((new ≡ old) × ((a : Side) × (b : Side) × Work a b))
@@ -54,12 +57,14 @@ Over name Work old new = MatchBool (is_stream name) (Work old new) ((new ≡ old
 -- ---- to decode
 
 -- as the whole decoder says
-pub record IsFileDecoded (form : Form) (done : Result Report DecodeFault) (input input' output output' : Side) : Type 0 where
+pub record IsFileDecoded (form : Form) (done : Result Report DecodeFault) (input input' output output' : Side)
+    : Type 0 where
   pub limits : Limits
   pub usual : AreLimits 16 limits
   pub file : List ℕ
   pub consumed : Consumes input.bytes input'.bytes file
-  pub answer : IsDecodeAnswerFor limits form done (HasFailed output.failures output'.failures) file output.bytes output'.bytes
+  pub answer : IsDecodeAnswerFor limits form done
+      (HasFailed output.failures output'.failures) file output.bytes output'.bytes
   pub end : OnOk done (IsAtEnd input'.bytes)
   pub torn : done ≡ Err (File file_fault.Torn) → IsAtEnd input'.bytes
   pub device : done ≡ Err Device → HasFailed input.failures input'.failures ⊎ HasFailed output.failures output'.failures
@@ -71,7 +76,8 @@ IsUnopened device memory name done = (is_stream name ≡ false) × ((done ≡ Er
 
 abbrev pub DecodesInto : Form → List ℕ → Result Report DecodeFault → Side → Side → Side → Side → Type 0
 DecodesInto form to done input input' output output' =
-    (IsUnopened Device Memory to done × (input' ≡ input) × (output' ≡ output)) ⊎ Over to (IsFileDecoded form done input input') output output'
+    (IsUnopened Device Memory to done × (input' ≡ input) × (output' ≡ output))
+    ⊎ Over to (IsFileDecoded form done input input') output output'
 
 abbrev pub DecodesFile : Form → List ℕ → List ℕ → Result Report DecodeFault → Side → Side → Side → Side → Type 0
 DecodesFile form from to done input input' output output' =
@@ -99,7 +105,8 @@ abbrev pub LooksOver : Result Survey DecodeFault → Side → Side → Type 0
 LooksOver done input input' = (told : Result Survey SurveyFault) × (done ≡ told_as told) × IsLooked told input input'
 
 abbrev pub Looks : List ℕ → Result Survey DecodeFault → Side → Side → Type 0
-Looks from done input input' = (IsUnopened Device Memory from done × (input' ≡ input)) ⊎ Over from (LooksOver done) input input'
+Looks from done input input' = (IsUnopened Device Memory from done × (input' ≡ input))
+    ⊎ Over from (LooksOver done) input input'
 
 abbrev pub status_by_fault : Option FileFault → ℕ
 status_by_fault None = 0
@@ -107,12 +114,14 @@ status_by_fault (Some fault) = 1
 
 -- the text of a survey is printed, or a write failed
 abbrev pub PrintsSurvey : Result Survey DecodeFault → ℕ → Option (List ℕ) → Option (List ℕ) → Type 0
-PrintsSurvey (Ok survey) status before after = ((status ≡ status_by_fault survey.fault) × Appends before after (survey_text survey)) ⊎ (status ≡ 1)
+PrintsSurvey (Ok survey) status before after = ((status ≡ status_by_fault survey.fault)
+    × Appends before after (survey_text survey)) ⊎ (status ≡ 1)
 PrintsSurvey (Err fault) status before after = (status ≡ 1) × (after ≡ before)
 
 -- ---- to encode
 
-pub record IsFileEncoded (settings : Settings) (done : Result EncodeReport EncodeAllFault) (input input' output output' : Side) : Type 0 where
+pub record IsFileEncoded (settings : Settings) (done : Result EncodeReport EncodeAllFault)
+    (input input' output output' : Side) : Type 0 where
   pub limits : Limits
   pub usual : AreLimits 16 limits
   pub file : List ℕ
@@ -120,14 +129,17 @@ pub record IsFileEncoded (settings : Settings) (done : Result EncodeReport Encod
   pub answer : IsEncoderAnswerFor limits settings done file output.bytes output'.bytes
   pub end : OnOk done (IsAtEnd input'.bytes)
   pub torn : done ≡ Err encode_fault.Torn → IsAtEnd input'.bytes
-  pub device : done ≡ Err encode_fault.Device → HasFailed input.failures input'.failures ⊎ HasFailed output.failures output'.failures
+  pub device : done ≡ Err encode_fault.Device → HasFailed input.failures input'.failures
+      ⊎ HasFailed output.failures output'.failures
   pub quiet : done ≢ Err encode_fault.Device → (input'.failures ≡ input.failures) × (output'.failures ≡ output.failures)
 
 abbrev pub EncodesInto : Settings → List ℕ → Result EncodeReport EncodeAllFault → Side → Side → Side → Side → Type 0
 EncodesInto settings to done input input' output output' =
-    (IsUnopened encode_fault.Device encode_fault.Memory to done × (input' ≡ input) × (output' ≡ output)) ⊎ Over to (IsFileEncoded settings done input input') output output'
+    (IsUnopened encode_fault.Device encode_fault.Memory to done × (input' ≡ input) × (output' ≡ output))
+    ⊎ Over to (IsFileEncoded settings done input input') output output'
 
-abbrev pub EncodesFile : Settings → List ℕ → List ℕ → Result EncodeReport EncodeAllFault → Side → Side → Side → Side → Type 0
+abbrev pub EncodesFile : Settings → List ℕ → List ℕ → Result EncodeReport EncodeAllFault → Side → Side → Side → Side
+    → Type 0
 EncodesFile settings from to done input input' output output' =
     (IsUnopened encode_fault.Device encode_fault.Memory from done × (input' ≡ input) × (output' ≡ output))
     ⊎ Over from (λ a b. EncodesInto settings to done a b output output') input input'
@@ -147,19 +159,23 @@ IsUsageFault status input input' output output' = (status ≡ 2) × (input' ≡ 
 
 abbrev pub DoesDecode : Option (List ℕ) → List ℕ → List ℕ → ℕ → Side → Side → Side → Side → Type 0
 DoesDecode flag from to status input input' output output' =
-    (form : Form) × (done : Result Report DecodeFault) × IsFlag flag (is_y4m form) × (status ≡ status_of done) × DecodesFile form from to done input input' output output'
+    (form : Form) × (done : Result Report DecodeFault) × IsFlag flag (is_y4m form) × (status ≡ status_of done)
+    × DecodesFile form from to done input input' output output'
 
 abbrev pub DoesEncode : List Row → List ℕ → List ℕ → ℕ → Side → Side → Side → Side → Type 0
 DoesEncode rows from to status input input' output output' =
-    (settings : Settings) × (done : Result EncodeReport EncodeAllFault) × AreSettings rows settings × (status ≡ status_by_report done) × EncodesFile settings from to done input input' output output'
+    (settings : Settings) × (done : Result EncodeReport EncodeAllFault) × AreSettings rows settings
+    × (status ≡ status_by_report done) × EncodesFile settings from to done input input' output output'
 
 abbrev pub DoesTell : List ℕ → ℕ → Side → Side → Side → Side → Type 0
 DoesTell from status input input' output output' =
-    (done : Result Survey DecodeFault) × Looks from done input input' × PrintsSurvey done status output.bytes output'.bytes
+    (done : Result Survey DecodeFault) × Looks from done input input'
+    × PrintsSurvey done status output.bytes output'.bytes
 
 -- the connections were served, or a fault of files, names, addresses or memory came before
 abbrev pub ServesConnections : ServeArgs → Result Bool ServiceFault → Side → Side → Type 0
-ServesConnections service (Ok well) input input' = IsService service.streams.items service.cache service.connections well input.bytes input'.bytes
+ServesConnections service (Ok well) input input' = IsService service.streams.items service.cache service.connections
+    well input.bytes input'.bytes
 ServesConnections service (Err fault) input input' = Unit {0}
 
 abbrev pub status_by_service : Result Bool ServiceFault → ℕ
@@ -170,17 +186,21 @@ status_by_service _ = 1
 abbrev pub DoesServe : List Row → List ℕ → List ℕ → List (List ℕ) → ℕ → Side → Side → Side → Side → Type 0
 DoesServe rows address connections operands status input input' output output' =
     (service : ServeArgs) × (done : Result Bool ServiceFault) × IsServiceFor rows address connections operands service
-    × (status ≡ status_by_service done) × ServesConnections service done input input' × (service.show_address ≡ false → output' ≡ output)
+    × (status ≡ status_by_service done) × ServesConnections service done input input'
+    × (service.show_address ≡ false → output' ≡ output)
 
 abbrev pub Does : Asked → ℕ → Side → Side → Side → Side → Type 0
 Does (decodes flag from to) status input input' output output' =
     DoesDecode flag from to status input input' output output' ⊎ IsUnbegun status input input' output output'
 Does (encodes rows from to) status input input' output output' =
     DoesEncode rows from to status input input' output output'
-    ⊎ (IsUnbegun status input input' output output' ⊎ (AreNoSettings rows × IsUsageFault status input input' output output'))
+    ⊎ (IsUnbegun status input input' output output' ⊎ (AreNoSettings rows
+    × IsUsageFault status input input' output output'))
 Does (tells from) status input input' output output' =
     DoesTell from status input input' output output' ⊎ IsUnbegun status input input' output output'
 Does (serves rows address connections operands) status input input' output output' =
     DoesServe rows address connections operands status input input' output output'
-    ⊎ (IsUnbegun status input input' output output' ⊎ (IsNoService rows connections operands × IsUsageFault status input input' output output'))
-Does nothing status input input' output output' = IsUnbegun status input input' output output' ⊎ IsUsageFault status input input' output output'
+    ⊎ (IsUnbegun status input input' output output' ⊎ (IsNoService rows connections operands
+    × IsUsageFault status input input' output output'))
+Does nothing status input input' output output' = IsUnbegun status input input' output output'
+    ⊎ IsUsageFault status input input' output output'

@@ -1,6 +1,7 @@
 -- Feeding a file to a hub in pieces, to its end or to its first fault. Pinned by the tests `files_are_fed`,
 -- `named_files_are_fed` and `long_files_are_fed_whole`.
-use Rattle.std.specs.Prelude.{◌≡◌, ◌≢◌, ◌⊎◌, ℕ, Bool, true, false, List, [], ◌∷◌, ◌++◌, Option, Some, None, Result, Ok, Err, All, IsOk}
+use Rattle.std.specs.Prelude.{◌≡◌, ◌≢◌, ◌⊎◌, ℕ, Bool, true, false, List, [], ◌∷◌, ◌++◌, Option, Some, None, Result, Ok}
+use Rattle.std.specs.Prelude.{Err, All, IsOk}
 use Rattle.std.specs.List.{concat}
 use Rattle.std.specs.Io.KnownBytes.{IsAtEnd}
 use Rattle.vp_hub.specs.declared.event.Event.{Event}
@@ -27,7 +28,8 @@ abbrev pub IsFeedingDone : Option HubFault → Option (List ℕ) → Type 0
 IsFeedingDone None left = IsAtEnd left
 IsFeedingDone (Some fault) left = fault ≢ Memory
 
--- the pieces of a file were fed, and then its end was told. Each piece is taken, to the end of the file; or up to one that is
+-- the pieces of a file were fed, and then its end was told. Each piece is taken, to the end of the file; or up to
+-- one that is
 -- refused, since the stream has a fault
 pub record IsFed (name : List ℕ) (old new : HubState) (file : List ℕ) (left : Option (List ℕ)) : Type 0 where
   pub pieces : List (List ℕ)
@@ -44,5 +46,6 @@ abbrev pub FeedsPiece : List ℕ → HubState → HubState → Result Bool Servi
 FeedsPiece name old new (Ok true) piece left = (reply : Reply) × IsStep old (Feed name piece) (Ok reply) new
 FeedsPiece name old new (Ok false) piece left =
     ((piece ≡ []) × IsAtEnd left × ((o : Outcome) × IsStep old (End name) o new))
-    ⊎ ((fault : HubFault) × (mid : HubState) × (o : Outcome) × (fault ≢ Memory) × IsStep old (Feed name piece) (Err fault) mid × IsStep mid (End name) o new)
+    ⊎ ((fault : HubFault) × (mid : HubState) × (o : Outcome) × (fault ≢ Memory)
+    × IsStep old (Feed name piece) (Err fault) mid × IsStep mid (End name) o new)
 FeedsPiece name old new (Err fault) piece left = Unit {0}

@@ -14,7 +14,8 @@ word_of (outcome.Fault fault) = packet_fault_name fault
 
 -- its number, its bytes, and what became of it
 abbrev pub packet_line : ℕ → ℕ → Outcome → List ℕ
-packet_line number bytes o = decimal number ++ (codes " " ++ (decimal bytes ++ (codes " " ++ (word_of o ++ codes "\n"))))
+packet_line number bytes o = decimal number ++ (codes " " ++ (decimal bytes
+    ++ (codes " " ++ (word_of o ++ codes "\n"))))
 
 -- the lines of the first n packets
 unfoldable pub packet_lines : List (ℕ × Outcome) → ℕ → List ℕ
@@ -26,4 +27,5 @@ packet_lines packets (suc n) =
 -- the size and the rate, where the head is good, how many packets there are, and a line for each
 abbrev pub survey_text : Survey → List ℕ
 survey_text s =
-    head_lines s.head ++ (codes "packets " ++ (decimal (length s.packets) ++ (codes "\n" ++ packet_lines s.packets (length s.packets))))
+    head_lines s.head ++ (codes "packets " ++ (decimal (length s.packets)
+    ++ (codes "\n" ++ packet_lines s.packets (length s.packets))))

@@ -1,6 +1,7 @@
 -- A run of `vp8 serve`: the files are fed to a new hub, and then connections are served one after another. Pinned by
 -- the tests `one_connection_over_tcp` and `a_connection_behind_a_refused_one_is_served`.
-use Rattle.std.specs.Prelude.{◌≡◌, ◌⊎◌, ◌+◌, ℕ, Bool, List, [], ◌∷◌, length, map, codes, Option, None, Result, Err, is_ok, MatchBool}
+use Rattle.std.specs.Prelude.{◌≡◌, ◌⊎◌, ◌+◌, ℕ, Bool, List, [], ◌∷◌, length, map, codes, Option, None, Result, Err}
+use Rattle.std.specs.Prelude.{is_ok, MatchBool}
 use Rattle.std.specs.List.{list_all}
 use Rattle.std.specs.Str.{bytes_eq}
 use Rattle.std.specs.Io.KnownBytes.{Consumes}
@@ -24,7 +25,11 @@ names_of streams = map (λ s. s.name.now) streams
 -- a hub of the streams, which no event came to
 abbrev pub IsNewHub : List NamedFile → ℕ → Hub → Type 0
 IsNewHub streams cache hub =
-    (limits : Limits) × AreLimits cache limits × (hub ≡ record { state = initial_hub (names_of streams) limits; cache = empty limits.cache; work = 0 })
+    (limits : Limits) × AreLimits cache limits × (hub ≡ record {
+      state = initial_hub (names_of streams) limits;
+      cache = empty limits.cache;
+      work = 0;
+    })
 
 -- ---- the files
 
@@ -39,11 +44,13 @@ IsFileFed s old new before after =
 abbrev pub AreFilesFed : List NamedFile → HubState → HubState → Option (List ℕ) → Option (List ℕ) → Type 0
 AreFilesFed [] old new before after = (new ≡ old) × (after ≡ before)
 AreFilesFed (s ∷ streams) old new before after =
-    (mid : HubState) × (between : Option (List ℕ)) × IsFileFed s old mid before between × AreFilesFed streams mid new between after
+    (mid : HubState) × (between : Option (List ℕ)) × IsFileFed s old mid before between
+    × AreFilesFed streams mid new between after
 
 -- ---- the connections
 
--- no connection of this number could be accepted; or it was turned away; or it was served, over a socket, whose bytes nobody
+-- no connection of this number could be accepted; or it was turned away; or it was served, over a socket, whose
+-- bytes nobody
 -- knows. The hub's state is as before.
 abbrev pub IsServed : ℕ → HubState → Result (Unit {0}) ServeFault → Type 0
 IsServed number s o =
@@ -63,7 +70,8 @@ pub record IsServing (connections : ℕ) (s : HubState) (well : Bool) : Type 0 w
   pub well_is : well ≡ list_all is_ok outcomes
 
 -- ---- the whole: all files are fed into a new hub, and then the connections are served
-pub record IsService (streams : List NamedFile) (cache connections : ℕ) (well : Bool) (before after : Option (List ℕ)) : Type 0 where
+pub record IsService (streams : List NamedFile) (cache connections : ℕ) (well : Bool) (before after : Option (List ℕ))
+    : Type 0 where
   pub hub : Hub
   pub fed : HubState
   pub begins : IsNewHub streams cache hub

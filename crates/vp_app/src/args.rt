@@ -7,7 +7,12 @@ ghost use Rattle.clap.specs.Kinds.{HasKind};
 ghost use Rattle.clap.specs.Simple.{subcommand_of};
 ghost use Rattle.clap.specs.Walk.{all_of, first_of, one_of, texts};
 ghost use Rattle.clap.specs.declared.builder.command.Command.TheViews.{out-Command as fields_of};
-ghost use Rattle.vp_app.specs.Args.{asked_at, parsed_command, asked_of, encodes, faults_of, AreNamed, AreNoSettings, AreSettings, Gains, IsDecimal, IsFlag, IsMisnumbered, IsNoCache, IsNoDecimal, IsNoNaming, IsNoPlanFor, IsNumber, IsOfValue, IsPlanFor, IsRefusalFor, decode_app, encode_app, file_rules, flag_rule, frame_rules, info_app, macroblock_rules, operand_rule, operands_rule, program, serve_app, serves, setting_rule, vp8_app, with_rules};
+ghost use Rattle.vp_app.specs.Args.{asked_at, parsed_command, asked_of, encodes, faults_of, AreNamed, AreNoSettings};
+ghost use Rattle.vp_app.specs.Args.{AreSettings, Gains, IsDecimal, IsFlag, IsMisnumbered, IsNoCache, IsNoDecimal};
+ghost use Rattle.vp_app.specs.Args.{IsNoNaming, IsNoPlanFor, IsNumber, IsOfValue, IsPlanFor, IsRefusalFor, decode_app};
+ghost use Rattle.vp_app.specs.Args.{encode_app, file_rules, flag_rule, frame_rules, info_app, macroblock_rules};
+ghost use Rattle.vp_app.specs.Args.{operand_rule, operands_rule, program, serve_app, serves, setting_rule, vp8_app};
+ghost use Rattle.vp_app.specs.Args.{with_rules};
 
 use crate::encode::EncodeArgs;
 use crate::serve_args::{NamedFile, ServeArgs};
@@ -420,7 +425,8 @@ fn encoding_plan<'a>(
     output: &'a str,
 ) -> Result<Task<'a>, Refusal>
     ensures plan { IfOk result (IsPlanFor (encodes (rows_of (found_of found.now)) input.entry.now output.entry.now)) }
-    ensures refusal { IfErr result (IsNoPlanFor (encodes (rows_of (found_of found.now)) input.entry.now output.entry.now)) }
+    ensures refusal { IfErr result (IsNoPlanFor (encodes (rows_of
+        (found_of found.now)) input.entry.now output.entry.now)) }
 {
     Ok(Task::Encode(EncodeArgs {
         settings: encoder_settings(found)?,
@@ -475,7 +481,8 @@ fn count(
     refusal: &'static str,
 ) -> Result<u32, Refusal>
     ensures number { IfOk result (IsNumber (first_of option.now (rows_of (found_of found.now))) usual) }
-    ensures refusal { IfErr result (λ r. IsOfValue r × IsMisnumbered (2 ^ 32) (first_of option.now (rows_of (found_of found.now)))) }
+    ensures refusal { IfErr result (λ r. IsOfValue r × IsMisnumbered (2 ^ 32)
+        (first_of option.now (rows_of (found_of found.now)))) }
 {
     let Some(text) = text_of(found, option) else {
         return Ok(usual);
@@ -495,7 +502,8 @@ fn byte(
     refusal: &'static str,
 ) -> Result<u8, Refusal>
     ensures number { IfOk result (IsNumber (first_of option.now (rows_of (found_of found.now))) usual) }
-    ensures refusal { IfErr result (λ r. IsOfValue r × IsMisnumbered 256 (first_of option.now (rows_of (found_of found.now)))) }
+    ensures refusal { IfErr result (λ r. IsOfValue r × IsMisnumbered 256
+        (first_of option.now (rows_of (found_of found.now)))) }
 {
     match u8::try_from(count(found, option, u32::from(usual), refusal)?) {
         Ok(number) => Ok(number),
@@ -535,8 +543,10 @@ fn service_plan<'a>(
     connections: &str,
     operands: &[&'a str],
 ) -> Result<Task<'a>, Refusal>
-    ensures plan { IfOk result (IsPlanFor (serves (rows_of (found_of found.now)) listen.entry.now connections.now (texts operands.now))) }
-    ensures refusal { IfErr result (IsNoPlanFor (serves (rows_of (found_of found.now)) listen.entry.now connections.now (texts operands.now))) }
+    ensures plan { IfOk result (IsPlanFor (serves (rows_of (found_of found.now)) listen.entry.now connections.now
+        (texts operands.now))) }
+    ensures refusal { IfErr result (IsNoPlanFor (serves (rows_of (found_of found.now)) listen.entry.now connections.now
+        (texts operands.now))) }
 {
     let Some(connections) = decimal(connections) else {
         return Err(Refusal::Value("--connections is a decimal number"));
@@ -553,8 +563,10 @@ fn service_plan<'a>(
 
 // How many pictures are kept.
 fn kept_pictures(found: &ArgMatches<'_>) -> Result<u32, Refusal>
-    ensures number { IfOk result (λ n. IsNumber (first_of (codes "cache") (rows_of (found_of found.now))) 16 n × (0 < n) × (n ≤ 4096)) }
-    ensures refusal { IfErr result (λ r. IsOfValue r × IsNoCache (first_of (codes "cache") (rows_of (found_of found.now)))) }
+    ensures number { IfOk result (λ n. IsNumber (first_of (codes "cache") (rows_of (found_of found.now))) 16 n × (0 < n)
+        × (n ≤ 4096)) }
+    ensures refusal { IfErr result (λ r. IsOfValue r × IsNoCache
+        (first_of (codes "cache") (rows_of (found_of found.now)))) }
 {
     let cache = count(found, "cache", 16, "--cache is a decimal number")?;
     if cache == 0 || cache > 4096 {

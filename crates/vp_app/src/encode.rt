@@ -41,7 +41,8 @@ impl<E: Write> Watcher for Progress<'_, E> {
     }
 }
 
-/// Opens the file of pictures, and then makes that of packets, and encodes. A file that is to be read isn't written, for
+/// Opens the file of pictures, and then makes that of packets, and encodes. A file that is to be read isn't
+/// written, for
 /// making it anew empties it.
 #[tactic(auto, using(crate::proofs::CommandLemmas::pictures_stream, crate::proofs::CommandLemmas::pictures_file, crate::proofs::CommandLemmas::pictures_none))]
 pub(crate) fn encode<H: Files + AllocGlobal, R: Read, W: Write, E: Write>(

@@ -14,7 +14,8 @@ use vp_stream::{OutcomeList, Survey};
 /// Prints the file's size and rate, where its head is good, how many packets it has, and a line for each of them:
 /// its number, its bytes, and `Shown`, `Hidden` or its fault.
 pub(crate) fn print_survey<W: Write>(survey: &Survey, output: &mut Counted<W>) -> io::Result<()>
-    ensures { OnOk result (Appends (counted_contents W.contents output.old) (counted_contents W.contents output.new) (survey_text survey.now)) }
+    ensures { OnOk result (Appends (counted_contents W.contents output.old) (counted_contents W.contents output.new)
+        (survey_text survey.now)) }
 {
     if let Some(head) = &survey.head {
         writeln!(output, "size {}x{}", head.w, head.h)?;
@@ -26,7 +27,8 @@ pub(crate) fn print_survey<W: Write>(survey: &Survey, output: &mut Counted<W>) -
 
 /// Prints a line for each packet.
 fn print_packets<W: Write>(packets: &OutcomeList, output: &mut Counted<W>) -> io::Result<()>
-    ensures { OnOk result (Appends (counted_contents W.contents output.old) (counted_contents W.contents output.new) (packet_lines packets.now (length packets.now))) }
+    ensures { OnOk result (Appends (counted_contents W.contents output.old) (counted_contents W.contents output.new)
+        (packet_lines packets.now (length packets.now))) }
 {
     let packets = packets.as_slice();
     for number in 0..packets.len() {
@@ -42,7 +44,8 @@ fn print_packet<W: Write>(
     outcome: Outcome,
     output: &mut Counted<W>,
 ) -> io::Result<()>
-    ensures { OnOk result (Appends (counted_contents W.contents output.old) (counted_contents W.contents output.new) (packet_line number bytes outcome)) }
+    ensures { OnOk result (Appends (counted_contents W.contents output.old) (counted_contents W.contents output.new)
+        (packet_line number bytes outcome)) }
 {
     match outcome {
         Outcome::Shown => writeln!(output, "{number} {bytes} Shown"),

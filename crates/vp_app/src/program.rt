@@ -6,9 +6,12 @@ ghost use Rattle.clap.specs.Walk.{texts};
 ghost use Rattle.clap.specs.declared.error.kind.ErrorKind.{ErrorKind};
 ghost use Rattle.vp_stream.specs.declared.fault.DecodeFault.{DecodeFault};
 ghost use Rattle.vp_base.specs.Counted.{counted_contents};
-ghost use Rattle.vp_app.specs.Commands.{is_stream, read_side, written_side, status_by_report, status_by_service, DecodesFile, DecodesInto, Does, IsFileDecoded, IsLooked, Looks, LooksOver, PrintsSurvey};
+ghost use Rattle.vp_app.specs.Commands.{is_stream, read_side, written_side, status_by_report, status_by_service};
+ghost use Rattle.vp_app.specs.Commands.{DecodesFile, DecodesInto, Does, IsFileDecoded, IsLooked, Looks, LooksOver};
+ghost use Rattle.vp_app.specs.Commands.{PrintsSurvey};
 ghost use Rattle.vp_app.specs.Status.{status_of};
-ghost use Rattle.vp_app.specs.Args.{asked_of, faults_of, AreMistaken, Asked, IsForMemory, IsMistake, IsOfValue, IsPlanFor};
+ghost use Rattle.vp_app.specs.Args.{asked_of, faults_of, AreMistaken, Asked, IsForMemory, IsMistake, IsOfValue};
+ghost use Rattle.vp_app.specs.Args.{IsPlanFor};
 
 use crate::args::{Refusal, Task, read_args};
 use crate::encode::encode;
@@ -32,10 +35,12 @@ use vp_stream::{DecodeFault, Form, Report, Survey, SurveyFault, decode_all, surv
 /// `vp8 decode IN OUT` writes the pictures of an IVF file as I420, `vp8 decode --y4m IN OUT` as YUV4MPEG2. Faults
 /// are named on `errors`, a line each: `vp8: NAME` where the work ended by it, else `vp8: packet N: NAME`.
 /// Words that ask for nothing are told there too, and then nothing was read and nothing written.
-/// `vp8 encode IN OUT` writes the pictures of a YUV4MPEG2 file as VP8 in an IVF file, once they are all encoded, and tells
+/// `vp8 encode IN OUT` writes the pictures of a YUV4MPEG2 file as VP8 in an IVF file, once they are all encoded,
+/// and tells
 /// `frames N error E` on `errors`: how many there are, and the sum of their squared errors.
 /// `vp8 info IN` prints what an IVF file holds, the packets' faults too. `vp8 serve --listen ADDR --connections N
-/// NAME=FILE...` serves the pictures of files over HTTP, until so many connections were served; a fault of a connection is
+/// NAME=FILE...` serves the pictures of files over HTTP, until so many connections were served; a fault of a
+/// connection is
 /// named, and the next one is served. The name `-` is `input` or `output`.
 #[tactic(auto, using(crate::proofs::CommandLemmas::does_refused, crate::proofs::CommandLemmas::mistaken_words, crate::proofs::CommandLemmas::never_mistaken))]
 pub fn command<
@@ -59,7 +64,8 @@ pub fn command<
         (written_side W.contents output.old) (written_side W.contents output.new) }
 
     // Words with a fault are a usage fault, unless they ask for the help or the version or memory is refused.
-    ensures mistaken { AreMistaken (texts words.now) → (result ≡ 2) ⊎ ((result ≡ 1) × (input.new ≡ input.old) × (output.new ≡ output.old)) }
+    ensures mistaken { AreMistaken (texts words.now) → (result ≡ 2)
+        ⊎ ((result ≡ 1) × (input.new ≡ input.old) × (output.new ≡ output.old)) }
 {
     match read_args(rt.alloc(), words) {
         Ok(plan) => run_task(rt, &plan, input, output, errors),
@@ -267,7 +273,8 @@ fn report_survey<W: Write, E: Write>(
 ) -> u8
     ensures status { result ≤ 1 }
     ensures well { result ≡ 0 → IsOk done × IfOk done (λ s. s.fault ≡ None) }
-    ensures told { PrintsSurvey done result (counted_contents W.contents output.old) (counted_contents W.contents output.new) }
+    ensures told { PrintsSurvey done result (counted_contents W.contents output.old)
+        (counted_contents W.contents output.new) }
 {
     let survey = match done {
         Ok(survey) => survey,

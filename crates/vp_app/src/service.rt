@@ -68,7 +68,8 @@ impl From<io::Error> for ServiceFault {
 }
 
 /// Feeds each file to its end, or to what is wrong with it, and then serves as many connections as are asked for; where
-/// that is none it listens nowhere. True where each connection was served to its end; what ends one is named on `errors`.
+/// that is none it listens nowhere. True where each connection was served to its end; what ends one is named on
+/// `errors`.
 pub(crate) fn serve<
     H: Files + AllocGlobal + Net<Stream = TcpStream, Listener = TcpListener>,
     R: Read,
@@ -81,7 +82,8 @@ pub(crate) fn serve<
     output: &mut Counted<W>,
     errors: &mut Counted<E>,
 ) -> Result<bool, ServiceFault>
-    ensures served { ServesConnections service.now result (read_side R.remaining input.old) (read_side R.remaining input.new) }
+    ensures served { ServesConnections service.now result (read_side R.remaining input.old)
+        (read_side R.remaining input.new) }
 
     // Nothing is printed but the address, where that is asked for.
     ensures quiet { service.now.show_address ≡ false → output.new ≡ output.old }
@@ -105,7 +107,8 @@ fn serve_over<
     errors: &mut Counted<E>,
 ) -> Result<bool, ServiceFault>
     ensures served { IfOk result (λ well. (fed : HubState) × AreFilesFed service.now.streams.items hub.old.state fed
-        (counted_remaining R.remaining input.old) (counted_remaining R.remaining input.new) × IsServing service.now.connections fed well) }
+        (counted_remaining R.remaining input.old) (counted_remaining R.remaining input.new)
+        × IsServing service.now.connections fed well) }
     ensures quiet { service.now.show_address ≡ false → output.new ≡ output.old }
 {
     feed_all(rt, hub, &service.streams, input)?;
@@ -228,7 +231,8 @@ fn feed<R: Read>(
     Err(ServiceFault::ReadTurns)
 }
 
-// Reads once, and feeds what was read; at the end, and behind what is wrong with the file, the stream is ended and there
+// Reads once, and feeds what was read; at the end, and behind what is wrong with the file, the stream is ended and
+// there
 // is no more.
 fn feed_piece<R: Read>(
     alloc: Global,
@@ -265,7 +269,8 @@ fn is_memory(fault: HubFault) -> bool
     matches!(fault, HubFault::Memory)
 }
 
-/// Serves so many connections, one after another; true where each was served to its end. What ends one is named on `errors`.
+/// Serves so many connections, one after another; true where each was served to its end. What ends one is named on
+/// `errors`.
 pub fn serve_each<E: Write>(
     hub: &mut Hub,
     listener: &TcpListener,
@@ -301,7 +306,8 @@ fn serve_next(hub: &mut Hub, listener: &TcpListener, number: u32) -> Result<(), 
     served
 }
 
-// Ends what is written, and reads what still comes, for a while: a socket that is dropped with bytes unread takes the last
+// Ends what is written, and reads what still comes, for a while: a socket that is dropped with bytes unread takes
+// the last
 // reply back from a peer that hasn't read it.
 fn part(stream: &TcpStream) {
     let _ = stream.shutdown(Shutdown::Write);

@@ -1,6 +1,7 @@
 -- Grids (RFC 6386, chapter 5): one entry for each macroblock of a frame, or for each subblock, in raster order. Pinned
 -- by the tests `modes_by_their_neighbours` and `vectors_by_their_neighbours`.
-use Rattle.std.specs.Prelude.{ℕ, ◌+◌, ◌*◌, ◌<◌, ◌/◌, ◌%◌, nat_lt, map, Option, None, Some, List, replicate, slice_get, slice_set, if◌then◌else◌}
+use Rattle.std.specs.Prelude.{ℕ, ◌+◌, ◌*◌, ◌<◌, ◌/◌, ◌%◌, nat_lt, map, Option, None, Some, List, replicate, slice_get}
+use Rattle.std.specs.Prelude.{slice_set, if◌then◌else◌}
 use Rattle.std.specs.List.{range_with_len}
 use Rattle.std.specs.Option.{unwrap_or}
 use Rattle.vp_base.specs.declared.place.Place.{Place}

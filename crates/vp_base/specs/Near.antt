@@ -1,7 +1,8 @@
 -- The neighbours of a subblock of 4 by 4 pixels (RFC 6386, chapter 5): in the same macroblock, in another one, or
 -- outside the frame. `side` is the number of subblocks in a row of a macroblock, 4 for luma and 2 for chroma. Pinned by
 -- the test `vectors_by_their_neighbours`.
-use Rattle.std.specs.Prelude.{ℕ, ◌+◌, ◌*◌, ◌/◌, ◌%◌, ◌<◌, ◌≤◌, ◌==◌, ◌&&◌, Bool, Option, Some, None, List, slice_index_or, if◌then◌else◌}
+use Rattle.std.specs.Prelude.{ℕ, ◌+◌, ◌*◌, ◌/◌, ◌%◌, ◌<◌, ◌≤◌, ◌==◌, ◌&&◌, Bool, Option, Some, None, List}
+use Rattle.std.specs.Prelude.{slice_index_or, if◌then◌else◌}
 use Rattle.vp_base.specs.declared.place.Place.{Place}
 use Rattle.vp_base.specs.declared.near.Near.{Near}
 use Rattle.vp_base.specs.declared.near.Near.TheVariants.{Here, There, Outside}
@@ -25,7 +26,8 @@ is_same p q = p.column == q.column && p.row == q.row
 unfoldable pub seen_from : ℕ → Place → Option Place → Near
 seen_from side here None = Outside
 seen_from side here (Some b) =
-    if is_same (macroblock_place side b) here then Here (block_number side b) else There (macroblock_place side b) (block_number side b)
+    if is_same (macroblock_place side b) here then Here (block_number side b) else There (macroblock_place side b)
+    (block_number side b)
 
 -- block k of an entry, or the value outside
 abbrev pub block_or_outside : {A B : Type 0} → (A → ℕ → B) → B → Option A → ℕ → B

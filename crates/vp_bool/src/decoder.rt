@@ -1,7 +1,8 @@
 ghost use Rattle.std.specs.Prelude.{◌≡◌, ℕ, ◌+◌, ◌-◌, ◌*◌, ◌/◌, ◌^◌, ◌<◌, ◌≤◌, length, List, [], ◌∷◌};
 ghost use Rattle.vp_bool.specs.Bools.{read, literal, initial_state, normal, number};
 ghost use Rattle.vp_bool.specs.Laws.{HasReadBools, ReadsOn, ReadsNumberOn};
-ghost use Rattle.vp_bool.specs.Window.{state, high_bits, window_state, AreBytes, IsLeftAligned, IsUnnormalised, IsWindow};
+ghost use Rattle.vp_bool.specs.Window.{state, high_bits, window_state, AreBytes, IsLeftAligned, IsUnnormalised};
+ghost use Rattle.vp_bool.specs.Window.{IsWindow};
 
 use std::marker::Model;
 
@@ -77,7 +78,8 @@ impl<'a> BoolDecoder<'a> {
     pub fn read(&mut self, probability: u8) -> bool
         ensures value { result ≡ (read probability self.old).0 }
         ensures rest { self.new ≡ (read probability self.old).1 }
-        ensures run { (bytes ps : List ℕ) → AreBytes bytes → AreBytes ps → HasReadBools bytes ps self.old → ReadsOn bytes ps (probability ∷ []) (result ∷ []) self.new }
+        ensures run { (bytes ps : List ℕ) → AreBytes bytes → AreBytes ps → HasReadBools bytes ps self.old
+            → ReadsOn bytes ps (probability ∷ []) (result ∷ []) self.new }
     {
         let window = self.window;
         let split = 1 + (((window.range - 1) * u32::from(probability)) >> 8);
@@ -96,7 +98,8 @@ impl<'a> BoolDecoder<'a> {
     pub fn read_even(&mut self) -> bool
         ensures value { result ≡ (read 128 self.old).0 }
         ensures rest { self.new ≡ (read 128 self.old).1 }
-        ensures run { (bytes ps : List ℕ) → AreBytes bytes → AreBytes ps → HasReadBools bytes ps self.old → ReadsOn bytes ps (128 ∷ []) (result ∷ []) self.new }
+        ensures run { (bytes ps : List ℕ) → AreBytes bytes → AreBytes ps → HasReadBools bytes ps self.old
+            → ReadsOn bytes ps (128 ∷ []) (result ∷ []) self.new }
     {
         let window = self.window;
         let split = (window.range + 1) >> 1;
@@ -117,7 +120,8 @@ impl<'a> BoolDecoder<'a> {
         requires { bits ≤ 8 }
         ensures value { result ≡ (literal bits self.old).0 }
         ensures rest { self.new ≡ (literal bits self.old).1 }
-        ensures run { (bytes ps : List ℕ) → AreBytes bytes → AreBytes ps → HasReadBools bytes ps self.old → ReadsNumberOn bytes ps bits result self.new }
+        ensures run { (bytes ps : List ℕ) → AreBytes bytes → AreBytes ps → HasReadBools bytes ps self.old
+            → ReadsNumberOn bytes ps bits result self.new }
     {
         let mut value: u32 = 0;
         for _bit in 0..bits {
@@ -146,7 +150,8 @@ fn settled<'a>(window: Window<'a>, value: u64, range: u32) -> Window<'a>
     requires bytes { AreBytes window.rest.now }
     requires aligned { IsLeftAligned value window.count }
     requires taken { IsUnnormalised (state (high_bits value window.count) range window.count window.rest.now) }
-    ensures after { window_state result ≡ normal 7 (state (high_bits value window.entry.count) range window.entry.count window.entry.rest.now) }
+    ensures after { window_state result ≡ normal 7
+        (state (high_bits value window.entry.count) range window.entry.count window.entry.rest.now) }
     ensures window { IsWindow result }
 {
     let shift = u32::from(DOUBLINGS[range as usize]);

@@ -6,7 +6,8 @@ ghost use Rattle.lru.specs.LruCache.{lru_cache};
 ghost use Rattle.vp_stream.specs.Seeking.{answer_value, answer_at, saturating_count};
 ghost use Rattle.vp_stream.specs.Stream.{StreamHistory, IsStreamAfter, packets_of};
 ghost use Rattle.vp_stream.specs.Stream.{Cache as StreamState};
-ghost use Rattle.vp_cache.specs.Cache.{AreAnswersOf, IsAfter, IsAnswerIf, empty, cached, promoted, put, pair_eq, lent, work_beside};
+ghost use Rattle.vp_cache.specs.Cache.{AreAnswersOf, IsAfter, IsAnswerIf, empty, cached, promoted, put, pair_eq, lent};
+ghost use Rattle.vp_cache.specs.Cache.{work_beside};
 
 use crate::cached_picture::CachedPicture;
 use lru::LruCache;
@@ -83,9 +84,11 @@ impl Cache {
 
         // Nothing is decoded for a picture that is kept.
         ensures work { OnOk result (work.new ≡
-            saturating_count work.old (work_beside (cached stream_no n self.old.entries) stream.now.reading.packets n)) }
+            saturating_count work.old (work_beside
+            (cached stream_no n self.old.entries) stream.now.reading.packets n)) }
         ensures most { OnErr result ((work.old ≤ work.new) × (work.new ≤
-            saturating_count work.old (work_beside (cached stream_no n self.old.entries) stream.now.reading.packets n))) }
+            saturating_count work.old (work_beside
+            (cached stream_no n self.old.entries) stream.now.reading.packets n))) }
 
         // A shown picture is the newest entry then; where there was no memory for it, nothing changes.
         ensures entries { IfOk result (λ a.
@@ -120,7 +123,8 @@ fn keep(
     requires room { 0 < entries.old.cap }
     requires new { lookup (pair_eq key) entries.old.entries ≡ None }
     ensures { (entries.new ≡ entries.old)
-        ⊎ (entries.new ≡ lru_cache (put key (answer_value answer.now) entries.old.cap entries.old.entries) entries.old.cap) }
+        ⊎ (entries.new ≡ lru_cache (put key
+        (answer_value answer.now) entries.old.cap entries.old.entries) entries.old.cap) }
 {
     if let Answer::Shown(dim, bytes) = answer {
         if let Ok(copy) = CachedPicture::copied(alloc, *dim, bytes) {

@@ -21,7 +21,8 @@ abbrev pub IsIntraChoice : FrameSearch → Image → Place → Luma → Choice �
 IsIntraChoice frame p place luma c = IsIntra frame.source frame.factors place p luma c.modes c.tokens
 
 -- Inter is taken where it costs no more than the intra luma.
-pub record IsWeighed (frame : FrameSearch) (s : Search) (p : Image) (g : Grid MacroblockMotion) (place : Place) (luma : Luma) (c : Choice) : Type 0 where
+pub record IsWeighed (frame : FrameSearch) (s : Search) (p : Image) (g : Grid MacroblockMotion) (place : Place)
+    (luma : Luma) (c : Choice) : Type 0 where
   pub moved : Moved
   pub is : IsMoved s frame.source.luma place moved
   pub inter : moved.cost ≤ luma.cost → IsInter frame.source frame.factors s g place p moved c
@@ -32,8 +33,10 @@ abbrev pub IsTaken : Option Search → FrameSearch → Image → Grid Macroblock
 IsTaken None frame p g place luma c = IsIntraChoice frame p place luma c
 IsTaken (Some s) frame p g place luma c = IsWeighed frame s p g place luma c
 
--- the choice for the macroblock at a place of p, where those before it are rebuilt and not filtered yet, and g has their motion
-pub record IsChoice (frame : FrameSearch) (p : Image) (g : Grid MacroblockMotion) (place : Place) (c : Choice) : Type 0 where
+-- the choice for the macroblock at a place of p, where those before it are rebuilt and not filtered yet, and g has
+-- their motion
+pub record IsChoice (frame : FrameSearch) (p : Image) (g : Grid MacroblockMotion) (place : Place) (c : Choice)
+    : Type 0 where
   pub luma : Luma
   pub best : IsLuma (block_pixels 16 frame.source.luma place) frame.factors place p.luma luma
   pub taken : IsTaken frame.search frame p g place luma c

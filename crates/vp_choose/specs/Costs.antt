@@ -38,4 +38,5 @@ plane_cost f p place mode = sum_of_differences 8 8 f (chroma_pixel mode p (8 * p
 
 -- .. and both, U and V
 abbrev pub chroma_cost : Image → Image → Place → ChromaMode → ℕ
-chroma_cost source p place mode = plane_cost (block_pixels 8 source.u place) p.u place mode + plane_cost (block_pixels 8 source.v place) p.v place mode
+chroma_cost source p place mode = plane_cost (block_pixels 8 source.u place) p.u place mode
+    + plane_cost (block_pixels 8 source.v place) p.v place mode

@@ -1,5 +1,6 @@
 -- Inside the crate: levels as the code lists them.
-use Rattle.std.specs.Prelude.{◌≡◌, ℕ, ◌+◌, ◌-◌, ◌<◌, ◌==◌, nat_lt, if◌then◌else◌, ◌≤◌, ℤ, pos, Bool, false, List, [], slice_index_or, unsigned_abs}
+use Rattle.std.specs.Prelude.{◌≡◌, ℕ, ◌+◌, ◌-◌, ◌<◌, ◌==◌, nat_lt, if◌then◌else◌, ◌≤◌, ℤ, pos, Bool, false, List, []}
+use Rattle.std.specs.Prelude.{slice_index_or, unsigned_abs}
 use Rattle.vp_tokens.specs.declared.contexts.Tokens.{Tokens}
 use Rattle.vp_tokens.specs.Blocks.{block_of as tokens_of, any_token, no_blocks}
 use Rattle.vp_tokens.specs.Spelled.{AreSpelled, AreTight}
@@ -21,7 +22,8 @@ gathered y2 luma u v n =
     else if nat_lt n 21 then slice_index_or u (n - 17) []
     else slice_index_or v (n - 21) []
 
--- Blocks can be written as they stand: each ends behind its last level that isn't 0, all are empty where there is no token,
+-- Blocks can be written as they stand: each ends behind its last level that isn't 0, all are empty where there is no
+-- token,
 -- and what they say can be spelled, with a Y2 block or without.
 pub record AreWritable (with_y2 : Bool) (t : Tokens) : Type 0 where
   pub tight : AreTight t.blocks

@@ -78,10 +78,14 @@ abbrev pub moved_source : Search → Moved → Choice → Predictor
 moved_source s m c = Inter (choice_motion c) (reference_picture s.references m.reference) 0
 
 -- an inter macroblock that is moved so: it has no intra modes
-pub record IsInter (source : Image) (factors : Factors) (s : Search) (g : Grid MacroblockMotion) (place : Place) (p : Image) (m : Moved) (c : Choice) : Type 0 where
+pub record IsInter (source : Image) (factors : Factors) (s : Search) (g : Grid MacroblockMotion) (place : Place)
+    (p : Image) (m : Moved) (c : Choice) : Type 0 where
   pub modes : c.modes ≡ unread 0 c.modes.skip m.reference
   pub vectors : c.motion.vectors ≡ replicate 16 (vector_of m)
   pub mode : IsFirstGiving (candidates g place m.reference no_biases) (vector_of m) c.motion.mode
-  pub luma : HasLumaAndY2 (block_pixels 16 source.luma place) (luma_prediction (moved_source s m c) place p.luma) factors c.tokens
-  pub u : HasChroma (block_pixels 8 source.u place) (chroma_prediction (moved_source s m c) 1 place p.u) factors c.tokens 1
-  pub v : HasChroma (block_pixels 8 source.v place) (chroma_prediction (moved_source s m c) 2 place p.v) factors c.tokens 2
+  pub luma : HasLumaAndY2 (block_pixels 16 source.luma place)
+      (luma_prediction (moved_source s m c) place p.luma) factors c.tokens
+  pub u : HasChroma (block_pixels 8 source.u place) (chroma_prediction
+      (moved_source s m c) 1 place p.u) factors c.tokens 1
+  pub v : HasChroma (block_pixels 8 source.v place) (chroma_prediction
+      (moved_source s m c) 2 place p.v) factors c.tokens 2

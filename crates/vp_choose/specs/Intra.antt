@@ -1,6 +1,7 @@
 -- The choice of a macroblock's intra modes, and its levels; ties go to the first mode in order. The encoder's own
 -- choice. Pinned by the test `encode_flat_bright`.
-use Rattle.std.specs.Prelude.{◌≡◌, ℕ, ◌+◌, ◌<◌, pos, false, true, List, [], ◌∷◌, replicate, slice_index_or, if◌then◌else◌}
+use Rattle.std.specs.Prelude.{◌≡◌, ℕ, ◌+◌, ◌<◌, pos, false, true, List, [], ◌∷◌, replicate, slice_index_or}
+use Rattle.std.specs.Prelude.{if◌then◌else◌}
 use Rattle.vp_base.specs.declared.place.Place.{Place}
 use Rattle.vp_base.specs.Raster.{Raster}
 use Rattle.vp_base.specs.Image.{Image}
@@ -61,7 +62,8 @@ pub record HasSubblocks (s : Subblocks) (t : Tokens) : Type 0 where
   pub luma : (k : ℕ) → k < 16 → (tokens_of t (1 + k)).levels ≡ levels_in s k
 
 -- the modes of an intra macroblock with this luma, and its levels
-pub record IsIntra (source : Image) (factors : Factors) (place : Place) (p : Image) (l : Luma) (m : Modes) (t : Tokens) : Type 0 where
+pub record IsIntra (source : Image) (factors : Factors) (place : Place) (p : Image) (l : Luma) (m : Modes) (t : Tokens)
+    : Type 0 where
   pub reference : m.reference ≡ reference_is.Intra
   pub luma : m.luma ≡ l.mode
   pub subs : m.subs ≡ (if is_by_subblocks l.mode then l.subblocks.modes else replicate 16 sub_is.Dc)

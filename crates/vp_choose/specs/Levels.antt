@@ -1,5 +1,6 @@
 -- The levels of a macroblock: source less prediction, transformed, quantised, and in zigzag order.
-use Rattle.std.specs.Prelude.{◌≡◌, ℕ, ◌+◌, ◌*◌, ◌/◌, ◌%◌, ◌<◌, ◌≤◌, ◌==◌, ℤ, pos, ◌-ℤ◌, List, map, slice_index_or, slice_set, if◌then◌else◌}
+use Rattle.std.specs.Prelude.{◌≡◌, ℕ, ◌+◌, ◌*◌, ◌/◌, ◌%◌, ◌<◌, ◌≤◌, ◌==◌, ℤ, pos, ◌-ℤ◌, List, map, slice_index_or}
+use Rattle.std.specs.Prelude.{slice_set, if◌then◌else◌}
 use Rattle.std.specs.List.{range_with_len}
 use Rattle.vp_tables.specs.Tables.{zigzag}
 use Rattle.vp_tokens.specs.declared.contexts.Tokens.{Tokens}
@@ -30,16 +31,20 @@ firsts each = map (λ k. slice_index_or (each k) 0 (pos 0)) (range_with_len 0 16
 abbrev pub part_coefficients : ℕ → (ℕ → ℕ → ℕ) → (ℕ → ℕ → ℕ) → ℕ → List ℤ
 part_coefficients across f g k = coefficients (part across f k) (part across g k)
 
--- Luma with a Y2 block: that has the first coefficients, transformed once more, and luma blocks have no level at position 0.
+-- Luma with a Y2 block: that has the first coefficients, transformed once more, and luma blocks have no level at
+-- position 0.
 pub record HasLumaAndY2 (f g : ℕ → ℕ → ℕ) (factors : Factors) (t : Tokens) : Type 0 where
-  pub y2 : (tokens_of t 0).levels ≡ quantised_levels (fwht (firsts (part_coefficients 4 f g))) factors.y2_dc factors.y2_ac
+  pub y2 : (tokens_of t 0).levels ≡ quantised_levels (fwht (firsts
+      (part_coefficients 4 f g))) factors.y2_dc factors.y2_ac
   pub luma : (k : ℕ) → k < 16
-      → (tokens_of t (1 + k)).levels ≡ slice_set (quantised_levels (part_coefficients 4 f g k) factors.y_dc factors.y_ac) 0 (pos 0)
+      → (tokens_of t (1 + k)).levels ≡ slice_set (quantised_levels
+      (part_coefficients 4 f g k) factors.y_dc factors.y_ac) 0 (pos 0)
 
 -- plane n, one of colour: 1 or 2
 abbrev pub HasChroma : (ℕ → ℕ → ℕ) → (ℕ → ℕ → ℕ) → Factors → Tokens → ℕ → Type 0
 HasChroma f g factors t n =
-    (k : ℕ) → k < 4 → (tokens_of t (13 + 4 * n + k)).levels ≡ quantised_levels (part_coefficients 2 f g k) factors.uv_dc factors.uv_ac
+    (k : ℕ) → k < 4 → (tokens_of t (13 + 4 * n + k)).levels ≡ quantised_levels
+    (part_coefficients 2 f g k) factors.uv_dc factors.uv_ac
 
 -- each factor is 1 or more
 abbrev pub ArePositive : Factors → Type 0

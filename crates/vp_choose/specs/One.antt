@@ -24,5 +24,6 @@ pub record AreSameChoice (a b : Choice) : Type 0 where
   pub motion : is_intra a.modes.reference ≡ false → a.motion ≡ b.motion
 
 abbrev pub ChoiceIsOne : Type 0
-ChoiceIsOne = (frame : FrameSearch) (p : Image) (g : Grid MacroblockMotion) (place : Place) (a b : Choice) → IsWellFormedChoice a → IsWellFormedChoice b
+ChoiceIsOne = (frame : FrameSearch) (p : Image) (g : Grid MacroblockMotion) (place : Place) (a b : Choice)
+    → IsWellFormedChoice a → IsWellFormedChoice b
     → IsChoice frame p g place a → IsChoice frame p g place b → AreSameChoice a b

@@ -44,16 +44,22 @@ levels_in s k = slice_index_or s.levels k []
 
 -- p with subblock k of the macroblock at a place rebuilt
 abbrev pub sub_rebuilt : Factors → Place → Subblocks → ℕ → Raster → Raster
-sub_rebuilt factors place s k p = with_sub p (block_place 4 place k) (mode_of s k) (residue (levels_in s k) factors.y_dc factors.y_ac)
+sub_rebuilt factors place s k p = with_sub p (block_place 4 place k) (mode_of s k)
+    (residue (levels_in s k) factors.y_dc factors.y_ac)
 
 -- p with the first n rebuilt
 abbrev pub after_subblocks : Factors → Place → Raster → Subblocks → ℕ → Raster
 after_subblocks factors place p s n = over n (sub_rebuilt factors place s) p
 
--- Each subblock of the luma f of the macroblock at a place of p has its best mode over those before it, and the levels of
+-- Each subblock of the luma f of the macroblock at a place of p has its best mode over those before it, and the
+-- levels of
 -- that mode; the cost is the sum of theirs.
-pub record AreSubblocksChosen (f : ℕ → ℕ → ℕ) (factors : Factors) (place : Place) (p : Raster) (s : Subblocks) : Type 0 where
-  pub modes : (k : ℕ) → k < 16 → IsBestMode (part 4 f k) (after_subblocks factors place p s k) (block_place 4 place k) (mode_of s k)
+pub record AreSubblocksChosen (f : ℕ → ℕ → ℕ) (factors : Factors) (place : Place) (p : Raster) (s : Subblocks)
+    : Type 0 where
+  pub modes : (k : ℕ) → k < 16 → IsBestMode (part 4 f k) (after_subblocks factors place p s k) (block_place 4 place k)
+      (mode_of s k)
   pub levels : (k : ℕ) → k < 16
-      → levels_in s k ≡ sub_levels (part 4 f k) (after_subblocks factors place p s k) (block_place 4 place k) (mode_of s k) factors
-  pub cost : s.cost ≡ sum_below 16 (λ k. sub_cost (part 4 f k) (after_subblocks factors place p s k) (block_place 4 place k) (mode_of s k))
+      → levels_in s k ≡ sub_levels (part 4 f k) (after_subblocks factors place p s k) (block_place 4 place k)
+      (mode_of s k) factors
+  pub cost : s.cost ≡ sum_below 16 (λ k. sub_cost (part 4 f k) (after_subblocks factors place p s k)
+      (block_place 4 place k) (mode_of s k))

@@ -32,7 +32,8 @@ fn plane_cost(block: &[u8; 64], plane: &Plane, place: Place, mode: ChromaMode) -
 /// What a mode costs, over U and V.
 fn cost_of(blocks: &Blocks, picture: &Picture, place: Place, mode: ChromaMode) -> u32
     requires { HasMacroblock picture.now place }
-    ensures value { (source : Image) → AreCut source place blocks.now → result ≡ chroma_cost source picture.now place mode }
+    ensures value { (source : Image) → AreCut source place blocks.now
+        → result ≡ chroma_cost source picture.now place mode }
     ensures bound { result ≤ 32640 }
 {
     let _dim = picture.dim();

@@ -34,7 +34,8 @@ pub struct FrameSearch<'a> {
 /// What is chosen for a macroblock.
 #[derive(Clone, Copy)]
 pub struct Choice {
-    /// What is said of it before its levels: whether it is skipped, its reference, and the modes of an intra macroblock.
+    /// What is said of it before its levels: whether it is skipped, its reference, and the modes of an intra
+    /// macroblock.
     pub modes: Modes,
     /// Zero, and of no meaning, for an intra macroblock.
     pub motion: Motion,

@@ -29,7 +29,8 @@ pub(crate) fn part_of<const ACROSS: usize>(block: &[u8], k: usize) -> [u8; 16]
 /// The coefficients of a subblock, by its prediction.
 #[tactic(auto, unfolding(crate::specs::Levels::coefficients))]
 pub(crate) fn coefficients(source: &[u8; 16], prediction: &[u8; 16]) -> [i64; 16]
-    ensures value { (f g : ℕ → ℕ → ℕ) → source.now ≡ listed 4 f → prediction.now ≡ listed 4 g → result ≡ coefficients f g }
+    ensures value { (f g : ℕ → ℕ → ℕ) → source.now ≡ listed 4 f → prediction.now ≡ listed 4 g
+        → result ≡ coefficients f g }
     ensures within { EachWithin 2040 result }
 {
     let mut less = [0; 16];

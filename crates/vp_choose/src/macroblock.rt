@@ -57,9 +57,13 @@ fn intra_tokens(
     requires factors { ArePositive factors.now }
     requires small { AreSmall luma.now.subblocks.levels }
     ensures by_subblocks { is_by_subblocks luma.now.mode ≡ true → HasSubblocks luma.now.subblocks result }
-    ensures at_once { (f : ℕ → ℕ → ℕ) → blocks.now.luma ≡ listed 16 f → is_by_subblocks luma.now.mode ≡ false → HasLumaAndY2 f (luma_pixel luma.now.mode picture.now.luma (16 * place.column) (16 * place.row)) factors.now result }
-    ensures u { (f : ℕ → ℕ → ℕ) → blocks.now.u ≡ listed 8 f → HasChroma f (chroma_pixel mode picture.now.u (8 * place.column) (8 * place.row)) factors.now result 1 }
-    ensures v { (f : ℕ → ℕ → ℕ) → blocks.now.v ≡ listed 8 f → HasChroma f (chroma_pixel mode picture.now.v (8 * place.column) (8 * place.row)) factors.now result 2 }
+    ensures at_once { (f : ℕ → ℕ → ℕ) → blocks.now.luma ≡ listed 16 f → is_by_subblocks luma.now.mode ≡ false
+        → HasLumaAndY2 f (luma_pixel luma.now.mode picture.now.luma (16 * place.column)
+        (16 * place.row)) factors.now result }
+    ensures u { (f : ℕ → ℕ → ℕ) → blocks.now.u ≡ listed 8 f → HasChroma f
+        (chroma_pixel mode picture.now.u (8 * place.column) (8 * place.row)) factors.now result 1 }
+    ensures v { (f : ℕ → ℕ → ℕ) → blocks.now.v ≡ listed 8 f → HasChroma f
+        (chroma_pixel mode picture.now.v (8 * place.column) (8 * place.row)) factors.now result 2 }
     ensures writable { AreWritable (not (is_by_subblocks luma.now.mode)) result }
 {
     let _dim = picture.dim();
@@ -77,7 +81,15 @@ fn intra_tokens(
 
 /// The intra modes of a macroblock, by its levels.
 fn intra_modes(luma: &Luma, chroma: ChromaMode, tokens: &Tokens) -> Modes
-    ensures { result ≡ record { segment = 0; skip = not (any_token tokens.now); reference = Reference.Intra; luma = luma.now.mode; subs = (if is_by_subblocks luma.now.mode then luma.now.subblocks.modes else replicate 16 SubMode.Dc); chroma = chroma } }
+    ensures { result ≡ record {
+      segment = 0;
+      skip = not (any_token tokens.now);
+      reference = Reference.Intra;
+      luma = luma.now.mode;
+      subs = (if is_by_subblocks luma.now.mode then luma.now.subblocks.modes else replicate 16
+          SubMode.Dc);
+      chroma = chroma;
+    } }
 {
     let subs = if luma.mode.is_by_subblocks() {
         luma.subblocks.modes
@@ -105,8 +117,10 @@ fn choose_intra(
     requires picture { HasMacroblock picture.old place }
     requires factors { ArePositive factors.now }
     requires small { AreSmall luma.now.subblocks.levels }
-    ensures intra { (source : Image) → AreCut source place blocks.now → IsIntra source factors.now place picture.old luma.now result.modes result.tokens }
-    ensures rebuilt { picture.new ≡ rebuilt (macroblock_of (Intra result.modes) result.tokens factors.now) place picture.old }
+    ensures intra { (source : Image) → AreCut source place blocks.now
+        → IsIntra source factors.now place picture.old luma.now result.modes result.tokens }
+    ensures rebuilt { picture.new ≡ rebuilt
+        (macroblock_of (Intra result.modes) result.tokens factors.now) place picture.old }
     ensures segment { result.modes.segment ≡ 0 }
     ensures skip { result.modes.skip ≡ not (any_token result.tokens) }
     ensures writable { AreWritable (has_y2 (Intra result.modes)) result.tokens }
@@ -141,9 +155,15 @@ fn inter_tokens(
     requires rows { 16 * place.row ≤ 16384 }
     requires factors { ArePositive factors.now }
     requires short { IsInSearchRange moved.now.vector }
-    ensures luma { (e : MacroblockMotion) (p : Raster) (f : ℕ → ℕ → ℕ) → e.vectors ≡ replicate 16 (vector_of moved.now) → blocks.now.luma ≡ listed 16 f → HasLumaAndY2 f (luma_prediction (Inter e reference.now 0) place p) factors.now result }
-    ensures u { (e : MacroblockMotion) (p : Raster) (f : ℕ → ℕ → ℕ) → e.vectors ≡ replicate 16 (vector_of moved.now) → blocks.now.u ≡ listed 8 f → HasChroma f (chroma_prediction (Inter e reference.now 0) 1 place p) factors.now result 1 }
-    ensures v { (e : MacroblockMotion) (p : Raster) (f : ℕ → ℕ → ℕ) → e.vectors ≡ replicate 16 (vector_of moved.now) → blocks.now.v ≡ listed 8 f → HasChroma f (chroma_prediction (Inter e reference.now 0) 2 place p) factors.now result 2 }
+    ensures luma { (e : MacroblockMotion) (p : Raster) (f : ℕ → ℕ → ℕ) → e.vectors ≡ replicate 16 (vector_of moved.now)
+        → blocks.now.luma ≡ listed 16 f → HasLumaAndY2 f (luma_prediction
+        (Inter e reference.now 0) place p) factors.now result }
+    ensures u { (e : MacroblockMotion) (p : Raster) (f : ℕ → ℕ → ℕ) → e.vectors ≡ replicate 16 (vector_of moved.now)
+        → blocks.now.u ≡ listed 8 f → HasChroma f (chroma_prediction
+        (Inter e reference.now 0) 1 place p) factors.now result 1 }
+    ensures v { (e : MacroblockMotion) (p : Raster) (f : ℕ → ℕ → ℕ) → e.vectors ≡ replicate 16 (vector_of moved.now)
+        → blocks.now.v ≡ listed 8 f → HasChroma f (chroma_prediction
+        (Inter e reference.now 0) 2 place p) factors.now result 2 }
     ensures writable { AreWritable true result }
 {
     let _dim = reference.dim();
@@ -187,8 +207,10 @@ fn choose_inter(
     requires map { AreWithin 511 vectors.now }
     requires short { IsInSearchRange moved.now.vector }
     requires reference { is_intra moved.now.reference ≡ false }
-    ensures inter { (source : Image) → AreCut source place blocks.now → IsInter source factors.now (search_of search.now) vectors.now place picture.old moved.now result }
-    ensures rebuilt { picture.new ≡ rebuilt (macroblock_of (moved_source (search_of search.now) moved.now result) result.tokens factors.now) place picture.old }
+    ensures inter { (source : Image) → AreCut source place blocks.now
+        → IsInter source factors.now (search_of search.now) vectors.now place picture.old moved.now result }
+    ensures rebuilt { picture.new ≡ rebuilt (macroblock_of (moved_source
+        (search_of search.now) moved.now result) result.tokens factors.now) place picture.old }
     ensures skip { result.modes.skip ≡ not (any_token result.tokens) }
     ensures writable { AreWritable true result.tokens }
     ensures written { CanBeWritten (candidates vectors.now place moved.now.reference no_biases) result.motion }
@@ -239,11 +261,14 @@ pub fn choose_macroblock(
     requires map { Has vectors.now place }
     requires short { AreWithin 511 vectors.now }
     ensures chosen { IsChoice (lent_frame frame.now) picture.old vectors.now place result }
-    ensures rebuilt { picture.new ≡ rebuilt (macroblock_of (source_by (lent_frame frame.now).search result) result.tokens (lent_frame frame.now).factors) place picture.old }
+    ensures rebuilt { picture.new ≡ rebuilt (macroblock_of (source_by
+        (lent_frame frame.now).search result) result.tokens (lent_frame frame.now).factors) place picture.old }
     // `write_motion` can say the motion at this place, where no vector is turned round.
-    ensures written { is_intra result.modes.reference ≡ false → CanBeWritten (candidates vectors.now place result.modes.reference no_biases) result.motion }
+    ensures written { is_intra result.modes.reference ≡ false
+        → CanBeWritten (candidates vectors.now place result.modes.reference no_biases) result.motion }
     ensures short { IsWithin 259 (last_of result.motion.vectors) }
-    ensures unmoved { is_intra result.modes.reference ≡ true → (result.motion.mode ≡ VectorMode.Zero) × (result.motion.vectors ≡ replicate 16 still) }
+    ensures unmoved { is_intra result.modes.reference ≡ true → (result.motion.mode ≡ VectorMode.Zero)
+        × (result.motion.vectors ≡ replicate 16 still) }
 {
     let _dims = [frame.source.dim(), picture.dim()];
     let blocks = cut_blocks(frame.source, place);

@@ -34,7 +34,9 @@ fn find(search: &Search, block: &[u8; 256], reference: Reference, place: Place) 
     requires columns { 16 * place.column ≤ 16384 }
     requires rows { 16 * place.row ≤ 16384 }
     requires range { search.now.range ≤ 64 }
-    ensures found { (source : Raster) → block.now ≡ listed 16 (block_pixels 16 source place) → IsFound (search_of search.now) source (reference_picture search.now.references.now reference).luma place result }
+    ensures found { (source : Raster) → block.now ≡ listed 16 (block_pixels 16 source place)
+        → IsFound (search_of search.now) source
+        (reference_picture search.now.references.now reference).luma place result }
     ensures short { IsInSearchRange result.vector }
 {
     let picture = search.references.get(reference);
@@ -66,7 +68,8 @@ pub(crate) fn choose_reference(search: &Search, block: &[u8; 256], place: Place)
     requires columns { 16 * place.column ≤ 16384 }
     requires rows { 16 * place.row ≤ 16384 }
     requires range { search.now.range ≤ 64 }
-    ensures moved { (source : Raster) → block.now ≡ listed 16 (block_pixels 16 source place) → IsMoved (search_of search.now) source place result }
+    ensures moved { (source : Raster) → block.now ≡ listed 16 (block_pixels 16 source place)
+        → IsMoved (search_of search.now) source place result }
     ensures short { IsInSearchRange result.vector }
     ensures inter { is_intra result.reference ≡ false }
 {
@@ -102,7 +105,8 @@ pub(crate) fn motion_of(vectors: &VectorMap, place: Place, moved: &Moved) -> Mot
     requires map { AreWithin 511 vectors.now }
     requires short { IsInSearchRange moved.now.vector }
     ensures vectors { result.vectors ≡ replicate 16 (vector_of moved.now) }
-    ensures mode { IsFirstGiving (candidates vectors.now place moved.now.reference no_biases) (vector_of moved.now) result.mode }
+    ensures mode { IsFirstGiving (candidates vectors.now place moved.now.reference no_biases)
+        (vector_of moved.now) result.mode }
     ensures written { CanBeWritten (candidates vectors.now place moved.now.reference no_biases) result }
     ensures short { IsWithin 259 (last_of result.vectors) }
 {

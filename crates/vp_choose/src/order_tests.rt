@@ -131,12 +131,16 @@ fn square(alloc: Global, side: u16) -> Result<Picture, Fail> {
     Ok(Picture::new(alloc, dim, 0)?)
 }
 
-/// DC is 128, V 127, H and TM are 129. With nine subblocks of 130 and seven of 129, H costs 9 * 16 = 144, as TM does. B_PRED
-/// predicts the first of the nine by 129, for 16, and all others exactly: 16 + 128 is 144 too, and H comes first; with 127
+/// DC is 128, V 127, H and TM are 129. With nine subblocks of 130 and seven of 129, H costs 9 * 16 = 144, as TM
+/// does. B_PRED
+/// predicts the first of the nine by 129, for 16, and all others exactly: 16 + 128 is 144 too, and H comes first;
+/// with 127
 /// for 128 B_PRED would be taken.
 ///
-/// With the slope, the last subblock costs H 18 for 16, 146 in all. B_PRED predicts it by LD from 130 above and 127 above
-/// and to the right, and misses its first pixel by 1: 17 + 128 is 145, less than 146; with 129 for 128 H would be taken.
+/// With the slope, the last subblock costs H 18 for 16, 146 in all. B_PRED predicts it by LD from 130 above and 127
+/// above
+/// and to the right, and misses its first pixel by 1: 17 + 128 is 145, less than 146; with 129 for 128 H would be
+/// taken.
 #[test]
 fn subblocks_cost_128_more(rt: HostRuntime) -> Result<(), Fail> {
     let mut picture = square(rt.alloc(), 32)?;
@@ -147,11 +151,14 @@ fn subblocks_cost_128_more(rt: HostRuntime) -> Result<(), Fail> {
 
 /// Between 127 and 128, DC (128) and V (127) cost 128 each, H and TM (129) 384: DC comes first.
 ///
-/// Below 100 and 102 by turns, and to the right of the same, V misses by 2 what stands as in its row, and H what stands as
-/// in its column, a quarter of the pixels each: 128. DC (101) and TM (99, 101, 103; the corner is 101) miss all by 1: 256.
+/// Below 100 and 102 by turns, and to the right of the same, V misses by 2 what stands as in its row, and H what
+/// stands as
+/// in its column, a quarter of the pixels each: 128. DC (101) and TM (99, 101, 103; the corner is 101) miss all by
+/// 1: 256.
 /// B_PRED costs 128 at least: V comes first.
 ///
-/// Below 100 and to the right of 102, with 99 at the corner, TM is 103. With nine subblocks of 104 and seven of 103 it costs
+/// Below 100 and to the right of 102, with 99 at the corner, TM is 103. With nine subblocks of 104 and seven of 103
+/// it costs
 /// 144. So does B_PRED, as above. H (102), V (100) and DC (101) cost 400 at least: TM comes before B_PRED.
 #[test]
 fn ties_of_luma_modes(rt: HostRuntime) -> Result<(), Fail> {
@@ -296,8 +303,10 @@ fn spotted(alloc: Global) -> Result<Picture, Fail> {
     Ok(picture)
 }
 
-/// In whole pixels the ramp that begins with 0 costs 2 a pixel, 512; half a pixel to the right it costs nothing. The ramp
-/// that begins with 2 costs nothing but 8 in one pixel, wherever it is refined. So the first is better, though not before
+/// In whole pixels the ramp that begins with 0 costs 2 a pixel, 512; half a pixel to the right it costs nothing.
+/// The ramp
+/// that begins with 2 costs nothing but 8 in one pixel, wherever it is refined. So the first is better, though not
+/// before
 /// it is refined, be it last or golden.
 #[test]
 fn references_are_weighed_refined(rt: HostRuntime) -> Result<(), Fail> {

@@ -67,7 +67,8 @@ fn cost_of(block: &[u8; 16], plane: &Plane, place: Place, mode: SubMode) -> u32
 fn best_mode(block: &[u8; 16], plane: &Plane, place: Place) -> (usize, u32)
     requires columns { 4 * place.column + 4 ≤ plane.now.width }
     requires rows { 4 * place.row + 4 ≤ plane.now.height }
-    ensures best { (f : ℕ → ℕ → ℕ) → block.now ≡ listed 4 f → IsFirstLeast 10 (λ i. sub_cost f plane.now place (mode_at i)) result.0 }
+    ensures best { (f : ℕ → ℕ → ℕ) → block.now ≡ listed 4 f → IsFirstLeast 10
+        (λ i. sub_cost f plane.now place (mode_at i)) result.0 }
     ensures cost { (f : ℕ → ℕ → ℕ) → block.now ≡ listed 4 f → result.1 ≡ sub_cost f plane.now place (mode_at result.0) }
     ensures number { result.0 < 10 }
     ensures bound { result.1 ≤ 4080 }
@@ -111,9 +112,12 @@ fn choose_subblock(
     requires rows { 4 * place.row + 4 ≤ picture.old.luma.height }
     requires factors { ArePositive factors.now }
     ensures mode { (f : ℕ → ℕ → ℕ) → block.now ≡ listed 4 f → IsBestMode f picture.old.luma place result.mode }
-    ensures levels { (f : ℕ → ℕ → ℕ) → block.now ≡ listed 4 f → result.levels ≡ sub_levels f picture.old.luma place result.mode factors.now }
-    ensures cost { (f : ℕ → ℕ → ℕ) → block.now ≡ listed 4 f → result.cost ≡ sub_cost f picture.old.luma place result.mode }
-    ensures rebuilt { picture.new ≡ with_plane picture.old 0 (with_sub picture.old.luma place result.mode (residue result.levels factors.now.y_dc factors.now.y_ac)) }
+    ensures levels { (f : ℕ → ℕ → ℕ) → block.now ≡ listed 4 f
+        → result.levels ≡ sub_levels f picture.old.luma place result.mode factors.now }
+    ensures cost { (f : ℕ → ℕ → ℕ) → block.now ≡ listed 4 f → result.cost
+        ≡ sub_cost f picture.old.luma place result.mode }
+    ensures rebuilt { picture.new ≡ with_plane picture.old 0 (with_sub picture.old.luma place result.mode
+        (residue result.levels factors.now.y_dc factors.now.y_ac)) }
     ensures within { (i : ℕ) → unsigned_abs (slice_index_or result.levels i (pos 0)) ≤ 2047 }
     ensures bound { result.cost ≤ 4080 }
 {
@@ -135,8 +139,10 @@ fn choose_all(
     requires columns { 16 * place.column + 16 ≤ picture.old.luma.width }
     requires rows { 16 * place.row + 16 ≤ picture.old.luma.height }
     requires factors { ArePositive factors.now }
-    ensures chosen { (f : ℕ → ℕ → ℕ) → source.now ≡ listed 16 f → AreSubblocksChosen f factors.now place picture.old.luma result }
-    ensures rebuilt { picture.new ≡ with_plane picture.old 0 (after_subblocks factors.now place picture.old.luma result 16) }
+    ensures chosen { (f : ℕ → ℕ → ℕ) → source.now ≡ listed 16 f
+        → AreSubblocksChosen f factors.now place picture.old.luma result }
+    ensures rebuilt { picture.new ≡ with_plane picture.old 0
+        (after_subblocks factors.now place picture.old.luma result 16) }
     ensures within { AreSmall result.levels }
     ensures bound { result.cost ≤ 65280 }
 {
@@ -173,7 +179,8 @@ pub(crate) fn choose_subblocks(
     requires columns { 16 * place.column + 16 ≤ picture.old.luma.width }
     requires rows { 16 * place.row + 16 ≤ picture.old.luma.height }
     requires factors { ArePositive factors.now }
-    ensures chosen { (f : ℕ → ℕ → ℕ) → source.now ≡ listed 16 f → AreSubblocksChosen f factors.now place picture.old.luma result }
+    ensures chosen { (f : ℕ → ℕ → ℕ) → source.now ≡ listed 16 f
+        → AreSubblocksChosen f factors.now place picture.old.luma result }
     ensures kept { picture.new ≡ picture.old }
     ensures within { AreSmall result.levels }
     ensures bound { result.cost ≤ 65280 }

@@ -1,6 +1,7 @@
 //! The levels of a macroblock, from its predictions.
 
-ghost use Rattle.std.specs.Prelude.{◌≡◌, ℕ, ◌+◌, ◌*◌, ◌<◌, ◌≤◌, true, false, ℤ, pos, List, [], slice_index_or, slice_set, replicate, unsigned_abs};
+ghost use Rattle.std.specs.Prelude.{◌≡◌, ℕ, ◌+◌, ◌*◌, ◌<◌, ◌≤◌, true, false, ℤ, pos, List, [], slice_index_or};
+ghost use Rattle.std.specs.Prelude.{slice_set, replicate, unsigned_abs};
 ghost use Rattle.vp_tokens.specs.Blocks.{block_of as tokens_of};
 ghost use Rattle.vp_transform.specs.Fits.{EachWithin};
 ghost use Rattle.vp_transform.specs.Forward.{fwht};
@@ -19,7 +20,8 @@ pub(crate) type Levels<const N: usize> = [[i16; 16]; N];
 
 /// The coefficients of the sixteen luma subblocks.
 fn luma_coefficients(source: &[u8; 256], prediction: &[u8; 256]) -> [[i64; 16]; 16]
-    ensures value { (f g : ℕ → ℕ → ℕ) → source.now ≡ listed 16 f → prediction.now ≡ listed 16 g → AreListed 16 result (part_coefficients 4 f g) }
+    ensures value { (f g : ℕ → ℕ → ℕ) → source.now ≡ listed 16 f → prediction.now ≡ listed 16 g
+        → AreListed 16 result (part_coefficients 4 f g) }
     ensures within { (k : ℕ) → EachWithin 2040 (slice_index_or result k []) }
 {
     let mut all = [[0; 16]; 16];
@@ -47,7 +49,8 @@ fn firsts(all: &[[i64; 16]; 16]) -> [i64; 16]
 fn y2_levels(all: &[[i64; 16]; 16], factors: &Factors) -> [i16; 16]
     requires within { (k : ℕ) → EachWithin 2040 (slice_index_or all.now k []) }
     requires factors { ArePositive factors.now }
-    ensures value { (each : ℕ → List ℤ) → AreListed 16 all.now each → result ≡ quantised_levels (fwht (firsts each)) factors.now.y2_dc factors.now.y2_ac }
+    ensures value { (each : ℕ → List ℤ) → AreListed 16 all.now each
+        → result ≡ quantised_levels (fwht (firsts each)) factors.now.y2_dc factors.now.y2_ac }
     ensures within { (i : ℕ) → unsigned_abs (slice_index_or result i (pos 0)) ≤ 2047 }
 {
     let firsts = firsts(all);
@@ -57,7 +60,8 @@ fn y2_levels(all: &[[i64; 16]; 16], factors: &Factors) -> [i16; 16]
 /// The levels of the luma subblocks behind a Y2 block, which has those of position 0.
 fn luma_levels(all: &[[i64; 16]; 16], factors: &Factors) -> Levels<16>
     requires { ArePositive factors.now }
-    ensures value { (each : ℕ → List ℤ) → AreListed 16 all.now each → AreListed 16 result (λ k. slice_set (quantised_levels (each k) factors.now.y_dc factors.now.y_ac) 0 (pos 0)) }
+    ensures value { (each : ℕ → List ℤ) → AreListed 16 all.now each
+        → AreListed 16 result (λ k. slice_set (quantised_levels (each k) factors.now.y_dc factors.now.y_ac) 0 (pos 0)) }
     ensures within { AreSmall result }
     ensures first { (k : ℕ) → k < 16 → slice_index_or (slice_index_or result k []) 0 (pos 0) ≡ pos 0 }
 {
@@ -73,7 +77,8 @@ fn luma_levels(all: &[[i64; 16]; 16], factors: &Factors) -> Levels<16>
 /// The levels of the four subblocks of a plane of colour.
 fn chroma_levels(source: &[u8; 64], prediction: &[u8; 64], factors: &Factors) -> Levels<4>
     requires { ArePositive factors.now }
-    ensures value { (f g : ℕ → ℕ → ℕ) → source.now ≡ listed 8 f → prediction.now ≡ listed 8 g → AreListed 4 result (λ k. quantised_levels (part_coefficients 2 f g k) factors.now.uv_dc factors.now.uv_ac) }
+    ensures value { (f g : ℕ → ℕ → ℕ) → source.now ≡ listed 8 f → prediction.now ≡ listed 8 g
+        → AreListed 4 result (λ k. quantised_levels (part_coefficients 2 f g k) factors.now.uv_dc factors.now.uv_ac) }
     ensures within { AreSmall result }
 {
     let mut levels = [[0; 16]; 4];
@@ -94,8 +99,10 @@ pub(crate) struct Chroma {
 /// The levels of both, from their predictions.
 pub(crate) fn chroma_of(blocks: &Blocks, factors: &Factors, u: &[u8; 64], v: &[u8; 64]) -> Chroma
     requires { ArePositive factors.now }
-    ensures u { (f g : ℕ → ℕ → ℕ) → blocks.now.u ≡ listed 8 f → u.now ≡ listed 8 g → AreListed 4 result.u (λ k. quantised_levels (part_coefficients 2 f g k) factors.now.uv_dc factors.now.uv_ac) }
-    ensures v { (f g : ℕ → ℕ → ℕ) → blocks.now.v ≡ listed 8 f → v.now ≡ listed 8 g → AreListed 4 result.v (λ k. quantised_levels (part_coefficients 2 f g k) factors.now.uv_dc factors.now.uv_ac) }
+    ensures u { (f g : ℕ → ℕ → ℕ) → blocks.now.u ≡ listed 8 f → u.now ≡ listed 8 g
+        → AreListed 4 result.u (λ k. quantised_levels (part_coefficients 2 f g k) factors.now.uv_dc factors.now.uv_ac) }
+    ensures v { (f g : ℕ → ℕ → ℕ) → blocks.now.v ≡ listed 8 f → v.now ≡ listed 8 g
+        → AreListed 4 result.v (λ k. quantised_levels (part_coefficients 2 f g k) factors.now.uv_dc factors.now.uv_ac) }
     ensures within_u { AreSmall result.u }
     ensures within_v { AreSmall result.v }
 {
@@ -130,7 +137,8 @@ fn gather(y2: &[i16; 16], luma: &Levels<16>, chroma: &Chroma) -> Tokens
     requires u { AreSmall chroma.now.u }
     requires v { AreSmall chroma.now.v }
     ensures levels { IsGathered y2.now luma.now chroma.now result }
-    ensures with_y2 { ((k : ℕ) → k < 16 → slice_index_or (slice_index_or luma.now k []) 0 (pos 0) ≡ pos 0) → AreWritable true result }
+    ensures with_y2 { ((k : ℕ) → k < 16 → slice_index_or (slice_index_or luma.now k []) 0 (pos 0) ≡ pos 0)
+        → AreWritable true result }
     ensures without_y2 { y2.now ≡ replicate 16 (pos 0) → AreWritable false result }
 {
     let mut all = [[0; 16]; 25];
@@ -150,7 +158,8 @@ pub(crate) fn tokens_with_y2(
     requires factors { ArePositive factors.now }
     requires u { AreSmall chroma.now.u }
     requires v { AreSmall chroma.now.v }
-    ensures luma { (f g : ℕ → ℕ → ℕ) → block.now ≡ listed 16 f → prediction.now ≡ listed 16 g → HasLumaAndY2 f g factors.now result }
+    ensures luma { (f g : ℕ → ℕ → ℕ) → block.now ≡ listed 16 f → prediction.now ≡ listed 16 g
+        → HasLumaAndY2 f g factors.now result }
     ensures u { (k : ℕ) → k < 4 → (tokens_of result (17 + k)).levels ≡ slice_index_or chroma.now.u k [] }
     ensures v { (k : ℕ) → k < 4 → (tokens_of result (21 + k)).levels ≡ slice_index_or chroma.now.v k [] }
     ensures writable { AreWritable true result }

@@ -11,7 +11,8 @@ use Rattle.vp_tokens.specs.Contexts.{Contexts, AreContextsAt, right}
 use Rattle.vp_recon.specs.Rebuilt.{rebuilt}
 use Rattle.vp_loop.specs.declared.strength.Level.{Level}
 use Rattle.vp_decode.specs.MacroblockInfo.{place}
-use Rattle.vp_decode.specs.Frame.{FrameInfo, tokens_read, seen_read, row_seen, row_tokens, readings, tokens_of, macroblock_at, level_at}
+use Rattle.vp_decode.specs.Frame.{FrameInfo, tokens_read, seen_read, row_seen, row_tokens, readings, tokens_of}
+use Rattle.vp_decode.specs.Frame.{macroblock_at, level_at}
 
 pub record FrameDecoder : Type 0 where
   pub info : FrameInfo
@@ -27,17 +28,21 @@ pub record IsOneFrame (b : FrameDecoder) : Type 0 where
   pub level_rows : b.levels.rows ≡ macroblocks b.picture.height
   pub contexts : length b.contexts.above ≡ macroblocks b.picture.width
 
--- What the macroblock at p of a frame makes of a before its level is found, where g was seen before and the partition stands
+-- What the macroblock at p of a frame makes of a before its level is found, where g was seen before and the
+-- partition stands
 -- at s: b, with t left of the partition, and whether it has any tokens.
-pub record IsRebuilt (f : FrameInfo) (p : Place) (g : Grid Blocks) (s t : State) (coded : Bool) (a b : FrameDecoder) : Type 0 where
+pub record IsRebuilt (f : FrameInfo) (p : Place) (g : Grid Blocks) (s t : State) (coded : Bool) (a b : FrameDecoder)
+    : Type 0 where
   pub contexts : AreContextsAt (seen_read f p g s).0 (right p) b.contexts
   pub rest : t ≡ (seen_read f p g s).1
   pub picture : b.picture ≡ rebuilt (macroblock_at f p (tokens_read f p g s).0) p a.picture
   pub any : coded ≡ any_token (tokens_read f p g s).0
 
--- What the macroblock at p of a frame makes of a, where g was seen before and the partition stands at s: b, with t left of
+-- What the macroblock at p of a frame makes of a, where g was seen before and the partition stands at s: b, with t
+-- left of
 -- the partition.
-pub record IsMacroblockStep (f : FrameInfo) (p : Place) (g : Grid Blocks) (s t : State) (a b : FrameDecoder) : Type 0 where
+pub record IsMacroblockStep (f : FrameInfo) (p : Place) (g : Grid Blocks) (s t : State) (a b : FrameDecoder)
+    : Type 0 where
   pub contexts : AreContextsAt (seen_read f p g s).0 (record { column = p.column + 1; row = p.row }) b.contexts
   pub rest : t ≡ (seen_read f p g s).1
   pub picture : b.picture ≡ rebuilt (macroblock_at f p (tokens_read f p g s).0) p a.picture
@@ -48,12 +53,16 @@ pub record IsMacroblockStep (f : FrameInfo) (p : Place) (g : Grid Blocks) (s t :
 pub record IsRow (f : FrameInfo) (row n : ℕ) (g : Grid Blocks) (s t : State) (a b : FrameDecoder) : Type 0 where
   pub contexts : AreContextsAt (row_seen f row n g s).0 (place row n) b.contexts
   pub rest : t ≡ (row_seen f row n g s).1
-  pub picture : b.picture ≡ over n (λ column. rebuilt (macroblock_at f (place row column) (row_tokens f row g s column)) (place row column)) a.picture
-  pub here : (column : ℕ) → column < n → entry b.levels (place row column) ≡ Some (level_at f (place row column) (row_tokens f row g s column))
+  pub picture : b.picture ≡ over n (λ column. rebuilt (macroblock_at f (place row column) (row_tokens f row g s column))
+      (place row column)) a.picture
+  pub here : (column : ℕ) → column < n → entry b.levels (place row column)
+      ≡ Some (level_at f (place row column) (row_tokens f row g s column))
   pub elsewhere : (q : Place) → q.row ≢ row → entry b.levels q ≡ entry a.levels q
 
 -- What the rows before one have left: contexts above, what is unread of each partition, and the filter's levels.
-pub record IsAfterRows (f : FrameInfo) (partitions : List State) (row : ℕ) (ds : List State) (b : FrameDecoder) : Type 0 where
+pub record IsAfterRows (f : FrameInfo) (partitions : List State) (row : ℕ) (ds : List State) (b : FrameDecoder)
+    : Type 0 where
   pub contexts : AreContextsAt (readings f partitions row).seen (place row 0) b.contexts
   pub rests : ds ≡ (readings f partitions row).rests
-  pub levels : (q : Place) → q.row < row → q.column < f.maps.modes.columns → entry b.levels q ≡ Some (level_at f q (tokens_of f partitions q))
+  pub levels : (q : Place) → q.row < row → q.column < f.maps.modes.columns
+      → entry b.levels q ≡ Some (level_at f q (tokens_of f partitions q))

@@ -1,4 +1,5 @@
--- Inside the crate: pictures of one shape, and work that neither reads nor changes what lies on one side of a row of macroblocks.
+-- Inside the crate: pictures of one shape, and work that neither reads nor changes what lies on one side of a row of
+-- macroblocks.
 use Rattle.std.specs.Prelude.{◌≡◌, ℕ, ◌*◌}
 use Rattle.vp_base.specs.Image.{Image, IsAligned, AreWhole}
 use Rattle.vp_base.specs.Rows.{AreSameAbove, AreSameFrom}
@@ -14,10 +15,12 @@ pub record IsShaped (width height : ℕ) (p : Image) : Type 0 where
 pub record IsAbove (width height k : ℕ) (f : Image → Image) : Type 0 where
   pub shaped : (p : Image) → IsShaped width height p → IsShaped width height (f p)
   pub keeps : (p : Image) → IsShaped width height p → AreSameFrom (16 * k) (8 * k) (f p) p
-  pub reads : (p q : Image) → IsShaped width height p → IsShaped width height q → AreSameAbove (16 * k) (8 * k) p q → AreSameAbove (16 * k) (8 * k) (f p) (f q)
+  pub reads : (p q : Image) → IsShaped width height p → IsShaped width height q → AreSameAbove (16 * k) (8 * k) p q
+      → AreSameAbove (16 * k) (8 * k) (f p) (f q)
 
 -- f works from that row on alone
 pub record IsBelow (width height k : ℕ) (f : Image → Image) : Type 0 where
   pub shaped : (p : Image) → IsShaped width height p → IsShaped width height (f p)
   pub keeps : (p : Image) → IsShaped width height p → AreSameAbove (16 * k) (8 * k) (f p) p
-  pub reads : (p q : Image) → IsShaped width height p → IsShaped width height q → AreSameFrom (16 * k) (8 * k) p q → AreSameFrom (16 * k) (8 * k) (f p) (f q)
+  pub reads : (p q : Image) → IsShaped width height p → IsShaped width height q → AreSameFrom (16 * k) (8 * k) p q
+      → AreSameFrom (16 * k) (8 * k) (f p) (f q)

@@ -59,7 +59,8 @@ fn shown_after(
     picture: &Rc<Picture>,
     before: Option<&Rc<Picture>>,
 ) -> Result<Option<Rc<Picture>>, AllocError>
-    ensures { IfOk result (λ r. option_map (λ p. p.value) r ≡ shown_after show picture.now.value (option_map (λ p. p.now.value) before.entry)) }
+    ensures { IfOk result (λ r. option_map (λ p. p.value) r ≡ shown_after show picture.now.value
+        (option_map (λ p. p.now.value) before.entry)) }
 {
     if show {
         return Ok(Some(picture.clone()?));
@@ -81,7 +82,8 @@ pub(crate) fn decode_frame<F: RowFilter>(
     ensures saved { IfOk result (λ f. f.saved ≡ parsed.entry.saved) }
     ensures segments { IfOk result (λ f. f.segments ≡ segments_of (frame_info_of parsed.entry).maps.modes) }
     ensures picture { IfOk result (λ f. f.picture.value ≡ picture_of (frame_of_packet parsed.entry)) }
-    ensures shown { IfOk result (λ f. option_map (λ p. p.value) f.shown ≡ shown_after parsed.entry.tag.show (picture_of (frame_of_packet parsed.entry)) parsed.entry.context.shown) }
+    ensures shown { IfOk result (λ f. option_map (λ p. p.value) f.shown
+        ≡ shown_after parsed.entry.tag.show (picture_of (frame_of_packet parsed.entry)) parsed.entry.context.shown) }
     ensures one_size { IfOk result (λ _. IsOneSize (state_after parsed.entry)) }
 {
     unfiltered_picture_solves_its_equation();

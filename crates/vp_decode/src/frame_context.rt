@@ -34,9 +34,23 @@ impl<'a> Model for FrameContext<'a> {
 
     ghost Value = { FrameContext };
 
-    ghost view = { λ b. record { width = b.dim.w; height = b.dim.h; saved = b.saved; modes = modes_from b.dim (option_map (λ s. s.now) b.segments); references = option_map (λ r. r.now) b.references; shown = option_map (λ p. p.now.value) b.shown } };
+    ghost view = { λ b. record {
+      width = b.dim.w;
+      height = b.dim.h;
+      saved = b.saved;
+      modes = modes_from b.dim (option_map (λ s. s.now) b.segments);
+      references = option_map (λ r. r.now) b.references;
+      shown = option_map (λ p. p.now.value) b.shown;
+    } };
 
-    ghost invariant = { λ b. HasConsistentSizes (record { width = b.dim.w; height = b.dim.h; saved = b.saved; modes = modes_from b.dim (option_map (λ s. s.now) b.segments); references = option_map (λ r. r.now) b.references; shown = option_map (λ p. p.now.value) b.shown }) };
+    ghost invariant = { λ b. HasConsistentSizes (record {
+      width = b.dim.w;
+      height = b.dim.h;
+      saved = b.saved;
+      modes = modes_from b.dim (option_map (λ s. s.now) b.segments);
+      references = option_map (λ r. r.now) b.references;
+      shown = option_map (λ p. p.now.value) b.shown;
+    }) };
 }
 
 /// The state that stands; without one there is nothing to refer to.

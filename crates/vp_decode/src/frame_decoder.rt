@@ -53,7 +53,12 @@ impl<'a> Model for FrameDecoder<'a> {
 
     ghost view = { λ b. record { info = b.info.now; contexts = b.contexts; picture = b.picture; levels = b.levels } };
 
-    ghost invariant = { λ b. IsOneFrame (record { info = b.info.now; contexts = b.contexts; picture = b.picture; levels = b.levels }) };
+    ghost invariant = { λ b. IsOneFrame (record {
+      info = b.info.now;
+      contexts = b.contexts;
+      picture = b.picture;
+      levels = b.levels;
+    }) };
 }
 
 impl<'a> FrameDecoder<'a> {
@@ -67,7 +72,8 @@ impl<'a> FrameDecoder<'a> {
         requires columns { info.now.maps.modes.columns ≡ macroblocks dim.w }
         requires rows { info.now.maps.modes.rows ≡ macroblocks dim.h }
         ensures info { IfOk result (λ b. b.info ≡ info.now) }
-        ensures contexts { IfOk result (λ b. AreContextsAt (all info.now.maps.modes.columns info.now.maps.modes.rows no_blocks_read) (place 0 0) b.contexts) }
+        ensures contexts { IfOk result (λ b. AreContextsAt
+            (all info.now.maps.modes.columns info.now.maps.modes.rows no_blocks_read) (place 0 0) b.contexts) }
         ensures width { IfOk result (λ b. b.picture.width ≡ dim.w) }
         ensures height { IfOk result (λ b. b.picture.height ≡ dim.h) }
         ensures shaped { IfOk result (λ b. IsShaped b.picture.width b.picture.height b.picture) }
@@ -98,7 +104,8 @@ impl<'a> FrameDecoder<'a> {
         ensures levels { self.new.levels ≡ self.old.levels }
         ensures width { self.new.picture.width ≡ self.old.picture.width }
         ensures height { self.new.picture.height ≡ self.old.picture.height }
-        ensures made { (g : Grid Blocks) (d : State) → Has g place → AreContextsAt g place self.old.contexts → IsRebuilt self.old.info place g d d false self.old self.new }
+        ensures made { (g : Grid Blocks) (d : State) → Has g place → AreContextsAt g place self.old.contexts
+            → IsRebuilt self.old.info place g d d false self.old self.new }
     {
         let info = self.info;
         info.update_contexts(place, source, &mut self.contexts);
@@ -114,7 +121,8 @@ impl<'a> FrameDecoder<'a> {
         ensures levels { self.new.levels ≡ self.old.levels }
         ensures width { self.new.picture.width ≡ self.old.picture.width }
         ensures height { self.new.picture.height ≡ self.old.picture.height }
-        ensures made { (g : Grid Blocks) → Has g place → AreContextsAt g place self.old.contexts → IsRebuilt self.old.info place g d.old d.new result self.old self.new }
+        ensures made { (g : Grid Blocks) → Has g place → AreContextsAt g place self.old.contexts
+            → IsRebuilt self.old.info place g d.old d.new result self.old self.new }
     {
         let info = self.info;
         let coded = info.read_tokens(place, source, &mut self.contexts, &mut self.tokens, d);
@@ -130,7 +138,8 @@ impl<'a> FrameDecoder<'a> {
         ensures levels { self.new.levels ≡ self.old.levels }
         ensures width { self.new.picture.width ≡ self.old.picture.width }
         ensures height { self.new.picture.height ≡ self.old.picture.height }
-        ensures made { (g : Grid Blocks) → Has g place → AreContextsAt g place self.old.contexts → IsRebuilt self.old.info place g d.old d.new result self.old self.new }
+        ensures made { (g : Grid Blocks) → Has g place → AreContextsAt g place self.old.contexts
+            → IsRebuilt self.old.info place g d.old d.new result self.old self.new }
     {
         if self.info.is_skipped(place) {
             self.update_contexts(place, source);
@@ -147,7 +156,8 @@ impl<'a> FrameDecoder<'a> {
         ensures width { self.new.picture.width ≡ self.old.picture.width }
         ensures height { self.new.picture.height ≡ self.old.picture.height }
         ensures columns { self.new.levels.columns ≡ self.old.levels.columns }
-        ensures step { (g : Grid Blocks) → Has g place → AreContextsAt g place self.old.contexts → IsMacroblockStep self.old.info place g d.old d.new self.old self.new }
+        ensures step { (g : Grid Blocks) → Has g place → AreContextsAt g place self.old.contexts
+            → IsMacroblockStep self.old.info place g d.old d.new self.old self.new }
     {
         let info = self.info;
         let source = info.source(place);
@@ -162,7 +172,9 @@ impl<'a> FrameDecoder<'a> {
         ensures width { self.new.picture.width ≡ self.old.picture.width }
         ensures height { self.new.picture.height ≡ self.old.picture.height }
         ensures columns { self.new.levels.columns ≡ self.old.levels.columns }
-        ensures row { (g : Grid Blocks) → g.columns ≡ self.old.info.maps.modes.columns → row < g.rows → AreContextsAt g (place row 0) self.old.contexts → IsRow self.old.info row self.old.info.maps.modes.columns g d.old d.new self.old self.new }
+        ensures row { (g : Grid Blocks) → g.columns ≡ self.old.info.maps.modes.columns → row < g.rows
+            → AreContextsAt g (place row 0) self.old.contexts
+            → IsRow self.old.info row self.old.info.maps.modes.columns g d.old d.new self.old self.new }
     {
         for column in 0..self.info.columns() {
             self.macroblock(Place { column, row }, d);
@@ -178,7 +190,8 @@ impl<'a> FrameDecoder<'a> {
         ensures width { self.new.picture.width ≡ self.old.picture.width }
         ensures height { self.new.picture.height ≡ self.old.picture.height }
         ensures none { row ≡ 0 → self.new.picture ≡ self.old.picture }
-        ensures one { (k : ℕ) → row ≡ k + 1 → self.new.picture ≡ row_filtered (level_in self.old.levels.entries self.old.levels.columns) k self.old.picture }
+        ensures one { (k : ℕ) → row ≡ k + 1 → self.new.picture
+            ≡ row_filtered (level_in self.old.levels.entries self.old.levels.columns) k self.old.picture }
     {
         if row > 0 {
             filter.row(&mut self.picture, self.levels.as_slice(), row - 1);
@@ -188,9 +201,12 @@ impl<'a> FrameDecoder<'a> {
     /// Rebuilds all rows; each is filtered once the row below it is rebuilt.
     fn rows<F: RowFilter>(&mut self, decoders: &mut [BoolDecoder], filter: &mut F)
         requires some { 0 < length decoders.old }
-        requires contexts { AreContextsAt (all self.old.info.maps.modes.columns self.old.info.maps.modes.rows no_blocks_read) (place 0 0) self.old.contexts }
+        requires contexts { AreContextsAt
+            (all self.old.info.maps.modes.columns self.old.info.maps.modes.rows no_blocks_read)
+            (place 0 0) self.old.contexts }
         requires shaped { IsShaped self.old.picture.width self.old.picture.height self.old.picture }
-        ensures { self.new.picture ≡ picture_of (frame_of self.old.info decoders.old self.old.picture.width self.old.picture.height) }
+        ensures { self.new.picture ≡ picture_of
+            (frame_of self.old.info decoders.old self.old.picture.width self.old.picture.height) }
     {
         rebuilding_keeps_shape();
         rebuilding_keeps_rows_above();
@@ -216,9 +232,11 @@ impl<'a> FrameDecoder<'a> {
     ) -> Picture
         requires some { 0 < length parts.now }
         requires few { length parts.now ≤ 8 }
-        requires contexts { AreContextsAt (all self.info.maps.modes.columns self.info.maps.modes.rows no_blocks_read) (place 0 0) self.contexts }
+        requires contexts { AreContextsAt (all self.info.maps.modes.columns self.info.maps.modes.rows no_blocks_read)
+            (place 0 0) self.contexts }
         requires shaped { IsShaped self.picture.width self.picture.height self.picture }
-        ensures { result ≡ picture_of (frame_of self.entry.info (map initial_state parts.now) self.entry.picture.width self.entry.picture.height) }
+        ensures { result ≡ picture_of (frame_of self.entry.info
+            (map initial_state parts.now) self.entry.picture.width self.entry.picture.height) }
     {
         let mut decoders = [
             BoolDecoder::new(part_or_none(parts, 0)),

@@ -10,7 +10,8 @@ ghost use Rattle.vp_tokens.specs.Contexts.{AreContextsAt, right};
 ghost use Rattle.vp_recon.specs.Predictor.{predictor_of, has_y2};
 ghost use Rattle.vp_recon.specs.Rebuilt.{rebuilt};
 ghost use Rattle.vp_decode.specs.MacroblockInfo.{modes_in, motion_in};
-ghost use Rattle.vp_decode.specs.Frame.{predictor_by, predictor_at, tokens_read, factors_of, factors_at, inter_mode_class, mode_class_of, level_at, macroblock_at};
+ghost use Rattle.vp_decode.specs.Frame.{predictor_by, predictor_at, tokens_read, factors_of, factors_at};
+ghost use Rattle.vp_decode.specs.Frame.{inter_mode_class, mode_class_of, level_at, macroblock_at};
 
 use crate::macroblock_info::MacroblockInfo;
 use std::marker::Model;
@@ -45,7 +46,12 @@ impl<'a> Model for FrameInfo<'a> {
 
     ghost Value = { FrameInfo };
 
-    ghost view = { λ f. record { header = f.header.now; version = f.version; references = option_map (λ r. r.now) f.references; maps = f.maps } };
+    ghost view = { λ f. record {
+      header = f.header.now;
+      version = f.version;
+      references = option_map (λ r. r.now) f.references;
+      maps = f.maps;
+    } };
 
     ghost invariant = { λ f. f.factors ≡ segment_factors f.header.now };
 }
@@ -83,7 +89,8 @@ fn source_by<'a>(
     modes: &'a Modes,
     motion: &'a MacroblockMotion,
 ) -> Predictor<'a>
-    ensures { predictor_of result ≡ predictor_by (option_map (λ r. r.now) references.entry) version modes.now motion.now }
+    ensures { predictor_of result ≡ predictor_by
+        (option_map (λ r. r.now) references.entry) version modes.now motion.now }
 {
     let Some(references) = references else {
         return Predictor::Intra(modes);
@@ -113,7 +120,12 @@ impl<'a> FrameInfo<'a> {
         references: Option<&'a Refs>,
         maps: MacroblockInfo,
     ) -> FrameInfo<'a>
-        ensures { result ≡ record { header = header.now; version = version; references = option_map (λ r. r.now) references.entry; maps = maps } }
+        ensures { result ≡ record {
+          header = header.now;
+          version = version;
+          references = option_map (λ r. r.now) references.entry;
+          maps = maps;
+        } }
     {
         FrameInfo {
             header,
@@ -190,20 +202,25 @@ impl<'a> FrameInfo<'a> {
         self.modes(place).skip
     }
 
-    /// Passes the skipped macroblock at a place, of which nothing is read, where those before it in raster order are read.
+    /// Passes the skipped macroblock at a place, of which nothing is read, where those before it in raster
+    /// order are read.
     #[tactic(auto, unfolding(crate::specs::Frame::tokens_read))]
     pub(crate) fn update_contexts(&self, place: Place, source: &Predictor, contexts: &mut Contexts)
         requires source { predictor_of source.now ≡ predictor_at self.now place }
         requires skipped { (modes_in self.now.maps place).skip ≡ true }
         requires column { place.column < length contexts.old.above }
-        ensures value { (g : Grid Blocks) (d : State) → AreContextsAt g place contexts.old → tokens_read self.now place g d ≡ (without_tokens, d) }
-        ensures stands { (g : Grid Blocks) → Has g place → AreContextsAt g place contexts.old → AreContextsAt (with_entry g place (blocks_of (has_y2 (predictor_at self.now place)) without_tokens)) (right place) contexts.new }
+        ensures value { (g : Grid Blocks) (d : State) → AreContextsAt g place contexts.old
+            → tokens_read self.now place g d ≡ (without_tokens, d) }
+        ensures stands { (g : Grid Blocks) → Has g place → AreContextsAt g place contexts.old
+            → AreContextsAt (with_entry g place (blocks_of (has_y2 (predictor_at self.now place)) without_tokens))
+            (right place) contexts.new }
         ensures columns { length contexts.new.above ≡ length contexts.old.above }
     {
         pass_macroblock(contexts, place, source.has_y2());
     }
 
-    /// Reads the tokens of the macroblock at a place, which isn't skipped, where those before it in raster order are read,
+    /// Reads the tokens of the macroblock at a place, which isn't skipped, where those before it in raster
+    /// order are read,
     /// and says whether there are any.
     #[tactic(auto, unfolding(crate::specs::Frame::tokens_read))]
     pub(crate) fn read_tokens(
@@ -217,9 +234,13 @@ impl<'a> FrameInfo<'a> {
         requires source { predictor_of source.now ≡ predictor_at self.now place }
         requires read { (modes_in self.now.maps place).skip ≡ false }
         requires column { place.column < length contexts.old.above }
-        ensures value { (g : Grid Blocks) → AreContextsAt g place contexts.old → tokens.new ≡ (tokens_read self.now place g d.old).0 }
-        ensures rest { (g : Grid Blocks) → AreContextsAt g place contexts.old → d.new ≡ (tokens_read self.now place g d.old).1 }
-        ensures stands { (g : Grid Blocks) → Has g place → AreContextsAt g place contexts.old → AreContextsAt (with_entry g place (blocks_of (has_y2 (predictor_at self.now place)) tokens.new)) (right place) contexts.new }
+        ensures value { (g : Grid Blocks) → AreContextsAt g place contexts.old
+            → tokens.new ≡ (tokens_read self.now place g d.old).0 }
+        ensures rest { (g : Grid Blocks) → AreContextsAt g place contexts.old
+            → d.new ≡ (tokens_read self.now place g d.old).1 }
+        ensures stands { (g : Grid Blocks) → Has g place → AreContextsAt g place contexts.old
+            → AreContextsAt (with_entry g place (blocks_of (has_y2 (predictor_at self.now place)) tokens.new))
+            (right place) contexts.new }
         ensures any { result ≡ any_token tokens.new }
         ensures columns { length contexts.new.above ≡ length contexts.old.above }
     {
@@ -265,7 +286,8 @@ impl<'a> FrameInfo<'a> {
         self.rebuild(place, source, &Tokens::NONE, picture);
     }
 
-    /// Rebuilds the macroblock at a place, which has no tokens: one that moves is only moved, one that is predicted at once
+    /// Rebuilds the macroblock at a place, which has no tokens: one that moves is only moved, one that is
+    /// predicted at once
     /// only predicted.
     pub(crate) fn rebuild_without_tokens(
         &self,

@@ -33,7 +33,10 @@ impl Model for MacroblockInfo {
 impl MacroblockInfo {
     /// Of no macroblocks.
     pub(crate) fn empty(alloc: Global) -> MacroblockInfo
-        ensures { result ≡ record { modes = record { columns = 0; rows = 0; entries = [] }; motion = record { columns = 0; rows = 0; entries = [] } } }
+        ensures { result ≡ record {
+          modes = record { columns = 0; rows = 0; entries = [] };
+          motion = record { columns = 0; rows = 0; entries = [] };
+        } }
     {
         MacroblockInfo {
             modes: ModeMap::empty(alloc),

@@ -33,7 +33,14 @@ impl<'a> Model for ParsedPacket<'a> {
 
     ghost Value = { ParsedPacket };
 
-    ghost view = { λ o. record { tag = o.tag; context = o.context; header = o.header; saved = o.saved; first = o.first; partitions = o.partitions } };
+    ghost view = { λ o. record {
+      tag = o.tag;
+      context = o.context;
+      header = o.header;
+      saved = o.saved;
+      first = o.first;
+      partitions = o.partitions;
+    } };
 
     ghost invariant = { λ o. HasConsistentSizes o.context × (0 < length o.partitions) × (length o.partitions ≤ 8) };
 }

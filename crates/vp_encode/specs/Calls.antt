@@ -29,7 +29,8 @@ pub record IsForgotten (e next : EncoderState) : Type 0 where
   pub state : next.state ≡ None
 
 -- the frame was encoded, and its error is told
-pub record IsEncodedWithError (e : EncoderState) (source : Image) (encoded : Encoded) (next : EncoderState) : Type 0 where
+pub record IsEncodedWithError (e : EncoderState) (source : Image) (encoded : Encoded) (next : EncoderState)
+    : Type 0 where
   pub frame : IsEncoded e (frame_with source encoded) next
   pub error : encoded.squared_error ≡ squared_distance source encoded.recon.value
 
@@ -69,7 +70,8 @@ error_by (Err fault) = 0
 abbrev pub errors_told : List Call → ℕ
 errors_told calls = sum_by (λ c. error_by c.result) calls
 
--- Their packets, the first one decoded from no state, show their reconstructions: one for each, in order. The errors that were
+-- Their packets, the first one decoded from no state, show their reconstructions: one for each, in order. The errors
+-- that were
 -- told are the squared distances of these from the sources.
 pub record ArePlayedBack (limits : Limits) (calls : List Call) : Type 0 where
   pub pictures : answers_from_state limits None (map packet_of (frames_of calls)) ≡ map shown (frames_of calls)
@@ -77,5 +79,6 @@ pub record ArePlayedBack (limits : Limits) (calls : List Call) : Type 0 where
 
 -- so are those of every encoder, whichever calls were refused between them, under all limits that its size fits
 abbrev pub CallsArePlayedBack : Type 0
-CallsArePlayedBack = (limits : Limits) (e : EncoderState) (calls : List Call) → IsEncoderAfter e calls → e.dim.w * e.dim.h ≤ limits.pixels
+CallsArePlayedBack = (limits : Limits) (e : EncoderState) (calls : List Call) → IsEncoderAfter e calls
+    → e.dim.w * e.dim.h ≤ limits.pixels
     → ArePlayedBack limits calls

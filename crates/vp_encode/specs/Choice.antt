@@ -16,7 +16,8 @@ use Rattle.vp_decode.specs.Frame.{FrameInfo, frame_of, tokens_of}
 use Rattle.vp_decode.specs.Step.{ParsedPacket, parsed, frame_info_of}
 use Rattle.vp_encode.specs.Encoder.{EncoderState, kept_for, tag_key, header_of, frame_for}
 
--- a picture of so many columns and rows before the macroblock at p is rebuilt: the rows above are, and what stands left of it
+-- a picture of so many columns and rows before the macroblock at p is rebuilt: the rows above are, and what stands
+-- left of it
 abbrev pub rebuilt_before : ℕ → ℕ → (Place → Macroblock) → Place → Image
 rebuilt_before width height f p =
     row_rebuilt p.column f p.row (over p.row (row_rebuilt (macroblocks width) f) (blank_image width height 0))
@@ -32,7 +33,8 @@ choice_read f partitions p = record {
 -- Each macroblock is the choice for the source, over the picture that those before it make and over their motion.
 abbrev pub AreChoices : EncoderState → Image → FrameInfo → List State → Type 0
 AreChoices e source f partitions = (p : Place) → p.column < macroblocks e.dim.w → p.row < macroblocks e.dim.h
-    → IsChoice (frame_for e source) (rebuilt_before e.dim.w e.dim.h (frame_of f partitions e.dim.w e.dim.h).macroblock p) f.maps.motion p (choice_read f partitions p)
+    → IsChoice (frame_for e source) (rebuilt_before e.dim.w e.dim.h
+    (frame_of f partitions e.dim.w e.dim.h).macroblock p) f.maps.motion p (choice_read f partitions p)
 
 -- The packet, as it is read, is shown and of version 0, has the encoder's header, and is the choice for the source.
 pub record IsChosen (e : EncoderState) (source : Image) (packet : List ℕ) : Type 0 where

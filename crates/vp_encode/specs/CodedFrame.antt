@@ -42,20 +42,25 @@ motion_of c = mapped saved_motion c.macroblocks
 
 -- whether a macroblock has a Y2 block (chapter 13)
 abbrev pub choice_has_y2 : Choice → Bool
-choice_has_y2 m = if is_intra m.modes.reference then not (is_by_subblocks m.modes.luma) else not (is_split m.motion.mode)
+choice_has_y2 m = if is_intra m.modes.reference then not (is_by_subblocks m.modes.luma) else not
+    (is_split m.motion.mode)
 
 -- Each part is one that its own writer can spell. Modes are told over those that stood before the frame.
 abbrev pub AreModesSpelled : CodedFrame → Grid Modes → Type 0
-AreModesSpelled c before = (p : Place) → Has c.macroblocks p → modes.AreWritableModes c.header before p (coded_choice c p).modes
+AreModesSpelled c before = (p : Place) → Has c.macroblocks p → modes.AreWritableModes c.header before p
+    (coded_choice c p).modes
 
 -- Vectors are told over those of the macroblocks above and to the left.
 abbrev pub IsMotionSpelled : CodedFrame → Type 0
 IsMotionSpelled c = (p : Place) → Has c.macroblocks p → is_intra (coded_choice c p).modes.reference ≡ false
-    → motion.CanBeWritten (candidates (motion_of c) p (coded_choice c p).modes.reference c.header.biases) (coded_choice c p).motion
+    → motion.CanBeWritten (candidates (motion_of c) p (coded_choice c p).modes.reference c.header.biases)
+    (coded_choice c p).motion
 
 pub record AreTokensSpelled (c : CodedFrame) : Type 0 where
-  pub blocks : (p : Place) → Has c.macroblocks p → AreSpelled (choice_has_y2 (coded_choice c p)) (coded_choice c p).tokens.blocks
-  pub skipped : (p : Place) → Has c.macroblocks p → (coded_choice c p).modes.skip ≡ true → (coded_choice c p).tokens.blocks ≡ no_blocks
+  pub blocks : (p : Place) → Has c.macroblocks p → AreSpelled (choice_has_y2 (coded_choice c p))
+      (coded_choice c p).tokens.blocks
+  pub skipped : (p : Place) → Has c.macroblocks p → (coded_choice c p).modes.skip ≡ true
+      → (coded_choice c p).tokens.blocks ≡ no_blocks
 
 -- A frame that can be told: a key frame or another one, over the values that are kept and the modes before it.
 pub record CanBeTold (key : Bool) (kept : Saved) (before : Grid Modes) (c : CodedFrame) : Type 0 where

@@ -86,5 +86,7 @@ pub record HasWorkFrames (w : Work) (r : EncodeProgress) : Type 0 where
 
 -- the pictures of a file with this head were encoded, or the work ended before anything was written
 abbrev pub EndsEncode : Limits → Settings → Result (Unit {0}) EncodeAllFault → Head → List ℕ → EncodeProgress → Type 0
-EndsEncode limits settings (Ok done) head file r = (w : Work) × IsDone limits settings file w × HasAllPictures w × (w.head ≡ head) × HasWorkFrames w r
-EndsEncode limits settings (Err fault) head file r = (written : Option (List ℕ)) → IsEndedBehind (length r.packets) limits settings fault file written written
+EndsEncode limits settings (Ok done) head file r = (w : Work) × IsDone limits settings file w × HasAllPictures w
+    × (w.head ≡ head) × HasWorkFrames w r
+EndsEncode limits settings (Err fault) head file r = (written : Option (List ℕ))
+    → IsEndedBehind (length r.packets) limits settings fault file written written

@@ -19,11 +19,13 @@ pub record EncodedFrame : Type 0 where
   pub packet : List ℕ
   pub recon : Image
 
--- The packet is the choice for the source. Decoding it over what is kept shows the reconstruction, and what it leaves is kept
+-- The packet is the choice for the source. Decoding it over what is kept shows the reconstruction, and what it
+-- leaves is kept
 -- for the next frame.
 pub record IsEncoded (e : EncoderState) (f : EncodedFrame) (next : EncoderState) : Type 0 where
   pub chosen : IsChosen e f.source f.packet
-  pub decoded : (limits : Limits) → e.dim.w * e.dim.h ≤ limits.pixels → step limits e.state f.packet ≡ (next.state, Shown f.recon)
+  pub decoded : (limits : Limits) → e.dim.w * e.dim.h ≤ limits.pixels
+      → step limits e.state f.packet ≡ (next.state, Shown f.recon)
   pub dim : next.dim ≡ e.dim
   pub settings : next.settings ≡ e.settings
   pub since : next.since ≡ (if next_is_key e then 1 else e.since + 1)

@@ -1,7 +1,8 @@
 -- The encoder's settings and state, the kind and header of the next frame, and the source extended to whole
 -- macroblocks. The encoder's own choice within RFC 6386, chapter 9. Pinned by the tests `encode_flat_key`,
 -- `encode_flat_inter` and `source_is_continued`.
-use Rattle.std.specs.Prelude.{◌≡◌, ◌<◌, ◌≤◌, ◌⊎◌, ℕ, ◌+◌, ◌-◌, ◌/◌, ◌%◌, ◌==◌, ◌&&◌, min, pos, not, Bool, true, false, Option, Some, None, ◌∷◌, [], is_none, if◌then◌else◌}
+use Rattle.std.specs.Prelude.{◌≡◌, ◌<◌, ◌≤◌, ◌⊎◌, ℕ, ◌+◌, ◌-◌, ◌/◌, ◌%◌, ◌==◌, ◌&&◌, min, pos, not, Bool, true, false}
+use Rattle.std.specs.Prelude.{Option, Some, None, ◌∷◌, [], is_none, if◌then◌else◌}
 use Rattle.vp_base.specs.declared.limits.Dim.{Dim}
 use Rattle.vp_base.specs.Raster.{Raster, pixel}
 use Rattle.vp_base.specs.Block.{numbers}
@@ -30,7 +31,8 @@ pub record AreAllowed (s : Settings) : Type 0 where
   pub range : s.range ≤ 64
   pub partitions : (s.partitions ≡ 1) ⊎ (s.partitions ≡ 2) ⊎ (s.partitions ≡ 4) ⊎ (s.partitions ≡ 8)
 
--- an encoder between frames: what its packets leave, none before the first frame and after a refusal; and how many frames
+-- an encoder between frames: what its packets leave, none before the first frame and after a refusal; and how many
+-- frames
 -- came since the last key frame began, with that one
 pub record EncoderState : Type 0 where
   pub dim : Dim

@@ -1,6 +1,7 @@
 -- The results of encoding a source file: the report or the fault, and what was written. Faults are in the order of the
 -- work. Pinned by tests on whole files and on failing reads and writes.
-use Rattle.std.specs.Prelude.{◌≡◌, ◌≢◌, ◌≤◌, ◌<◌, ◌+◌, ◌*◌, ◌⊎◌, ℕ, zero, suc, List, [], ◌∷◌, ◌++◌, Option, None, Result, Ok, Err, OnOk, length, map}
+use Rattle.std.specs.Prelude.{◌≡◌, ◌≢◌, ◌≤◌, ◌<◌, ◌+◌, ◌*◌, ◌⊎◌, ℕ, zero, suc, List, [], ◌∷◌, ◌++◌, Option, None}
+use Rattle.std.specs.Prelude.{Result, Ok, Err, OnOk, length, map}
 use Rattle.std.specs.List.{All, enumerate_from}
 use Rattle.std.specs.Io.KnownBytes.{Appends, Consumes, IsAtEnd}
 use Rattle.vp_base.specs.declared.limits.Dim.{Dim}
@@ -62,7 +63,8 @@ timed e = record { time = e.0; bytes = e.1 }
 
 abbrev pub ivf_text : Head → List (List ℕ) → List ℕ
 ivf_text head packets =
-    file_text (record { w = head.w; h = head.h; rate = head.rate; scale = head.scale }) (length packets) (map timed (enumerate_from 0 packets))
+    file_text (record { w = head.w; h = head.h; rate = head.rate; scale = head.scale }) (length packets)
+    (map timed (enumerate_from 0 packets))
 
 abbrev pub packet_of : EncodedFrame → List ℕ
 packet_of f = f.packet
@@ -82,7 +84,8 @@ encode_fault_of source.Torn = fault.Torn
 encode_fault_of source.Device = fault.Device
 encode_fault_of source.Memory = fault.Memory
 
-pub record IsEncodeReported (limits : Limits) (settings : Settings) (report : EncodeReport) (file : List ℕ) (before after : Option (List ℕ)) : Type 0 where
+pub record IsEncodeReported (limits : Limits) (settings : Settings) (report : EncodeReport) (file : List ℕ)
+    (before after : Option (List ℕ)) : Type 0 where
   pub work : Work
   pub done : IsDone limits settings file work
   pub whole : HasAllPictures work
@@ -106,52 +109,70 @@ IsUnderWay pictures limits settings file = (pictures ≡ 0) ⊎ ((w : Work) × H
 
 -- The work ended behind so many pictures. A device that fails at a write leaves a front of the whole text.
 abbrev pub IsEndedBehind : ℕ → Limits → Settings → EncodeAllFault → List ℕ → Option (List ℕ) → Option (List ℕ) → Type 0
-IsEndedBehind pictures limits settings fault.Magic file before after = IsFaulty pictures limits settings source.Magic file
+IsEndedBehind pictures limits settings fault.Magic file before after = IsFaulty pictures limits settings source.Magic
+    file
 IsEndedBehind pictures limits settings fault.Size file before after = IsFaulty pictures limits settings source.Size file
-IsEndedBehind pictures limits settings fault.Colour file before after = IsFaulty pictures limits settings source.Colour file
-IsEndedBehind pictures limits settings fault.Interlaced file before after = IsFaulty pictures limits settings source.Interlaced file
+IsEndedBehind pictures limits settings fault.Colour file before after = IsFaulty pictures limits settings source.Colour
+    file
+IsEndedBehind pictures limits settings fault.Interlaced file before after = IsFaulty pictures limits settings
+    source.Interlaced file
 IsEndedBehind pictures limits settings fault.Torn file before after = IsFaulty pictures limits settings source.Torn file
 IsEndedBehind pictures limits settings fault.Settings file before after =
     (h : Head) × (file_head limits.pixels file ≡ Ok (h, [])) × (¬ AreAllowed settings) × (pictures ≡ 0)
 IsEndedBehind pictures limits settings fault.TooMany file before after =
-    (w : Work) × (p : Image) × HasDone pictures limits settings file w × HasOneMore w p × (length w.frames ≡ limits.packets)
+    (w : Work) × (p : Image) × HasDone pictures limits settings file w × HasOneMore w p
+    × (length w.frames ≡ limits.packets)
 IsEndedBehind pictures limits settings fault.TooLong file before after =
-    (w : Work) × (p : Image) × HasDone pictures limits settings file w × HasOneMore w p × (length w.frames < limits.packets) × IsTooLong w.encoder p
+    (w : Work) × (p : Image) × HasDone pictures limits settings file w × HasOneMore w p
+    × (length w.frames < limits.packets) × IsTooLong w.encoder p
 IsEndedBehind pictures limits settings fault.PacketTooLarge file before after =
-    (w : Work) × (f : EncodedFrame) × (next : EncoderState) × HasDone pictures limits settings file w × HasOneMore w f.source
+    (w : Work) × (f : EncodedFrame) × (next : EncoderState) × HasDone pictures limits settings file w
+    × HasOneMore w f.source
     × (length w.frames < limits.packets) × IsEncoded w.encoder f next × (limits.packet_bytes < length f.packet)
 IsEndedBehind pictures limits settings fault.Device file before after =
     ((after ≡ before) × IsUnderWay pictures limits settings file)
-    ⊎ ((w : Work) × HasDone pictures limits settings file w × HasAllPictures w × AppendsFront before after (encoded_file w))
+    ⊎ ((w : Work) × HasDone pictures limits settings file w × HasAllPictures w
+    × AppendsFront before after (encoded_file w))
 IsEndedBehind pictures limits settings fault.Memory file before after = IsUnderWay pictures limits settings file
 
 abbrev pub IsEncodeEndedBy : Limits → Settings → EncodeAllFault → List ℕ → Option (List ℕ) → Option (List ℕ) → Type 0
-IsEncodeEndedBy limits settings fault file before after = (pictures : ℕ) × IsEndedBehind pictures limits settings fault file before after
+IsEncodeEndedBy limits settings fault file before after = (pictures : ℕ)
+    × IsEndedBehind pictures limits settings fault file before after
 
-abbrev pub IsEncodeAnswerFor : Limits → Settings → Result EncodeReport EncodeAllFault → List ℕ → Option (List ℕ) → Option (List ℕ) → Type 0
-IsEncodeAnswerFor limits settings (Ok report) file before after = IsEncodeReported limits settings report file before after
-IsEncodeAnswerFor limits settings (Err fault) file before after = IsEncodeEndedBy limits settings fault file before after
+abbrev pub IsEncodeAnswerFor : Limits → Settings → Result EncodeReport EncodeAllFault → List ℕ → Option (List ℕ)
+    → Option (List ℕ) → Type 0
+IsEncodeAnswerFor limits settings (Ok report) file before after = IsEncodeReported limits settings report file before
+    after
+IsEncodeAnswerFor limits settings (Err fault) file before after = IsEncodeEndedBy limits settings fault file before
+    after
 
 -- the same, where it is known behind how many pictures
-abbrev pub IsAnswerBehind : ℕ → Limits → Settings → Result EncodeReport EncodeAllFault → List ℕ → Option (List ℕ) → Option (List ℕ) → Type 0
-IsAnswerBehind pictures limits settings (Ok report) file before after = IsEncodeReported limits settings report file before after × (report.frames ≡ pictures)
-IsAnswerBehind pictures limits settings (Err fault) file before after = IsEndedBehind pictures limits settings fault file before after
+abbrev pub IsAnswerBehind : ℕ → Limits → Settings → Result EncodeReport EncodeAllFault → List ℕ → Option (List ℕ)
+    → Option (List ℕ) → Type 0
+IsAnswerBehind pictures limits settings (Ok report) file before after = IsEncodeReported limits settings report file
+    before after × (report.frames ≡ pictures)
+IsAnswerBehind pictures limits settings (Err fault) file before after = IsEndedBehind pictures limits settings fault
+    file before after
 
 -- ---- the whole work, from a reader to a writer
 
 -- what is read and written, where their bytes are known
-pub record IsAnswerOver {R W : Type 0} (remaining : R → Option (List ℕ)) (contents : W → Option (List ℕ)) (limits : Limits) (settings : Settings)
-    (result : Result EncodeReport EncodeAllFault) (reader reader' : Counted R) (writer writer' : Counted W) : Type 0 where
+pub record IsAnswerOver {R W : Type 0} (remaining : R → Option (List ℕ)) (contents : W
+    → Option (List ℕ)) (limits : Limits) (settings : Settings)
+    (result : Result EncodeReport EncodeAllFault) (reader reader' : Counted R) (writer writer' : Counted W)
+    : Type 0 where
   pub file : List ℕ
   pub consumed : Consumes (counted_remaining remaining reader) (counted_remaining remaining reader') file
-  pub answer : IsEncodeAnswerFor limits settings result file (counted_contents contents writer) (counted_contents contents writer')
+  pub answer : IsEncodeAnswerFor limits settings result file (counted_contents contents writer)
+      (counted_contents contents writer')
   pub unwritten : (f : EncodeAllFault) → result ≡ Err f → f ≢ fault.Device → writer' ≡ writer
   -- A report, and `Torn`, come only at the reader's end.
   pub end : OnOk result (IsAtEnd (counted_remaining remaining reader'))
   pub torn : result ≡ Err fault.Torn → IsAtEnd (counted_remaining remaining reader')
   -- `Device` comes where a read or a write failed, and only there.
   pub device : result ≡ Err fault.Device
-      → HasFailed (counted_failures reader) (counted_failures reader') ⊎ HasFailed (counted_failures writer) (counted_failures writer')
+      → HasFailed (counted_failures reader) (counted_failures reader')
+      ⊎ HasFailed (counted_failures writer) (counted_failures writer')
   pub quiet : result ≢ Err fault.Device
       → (counted_failures reader' ≡ counted_failures reader) × (counted_failures writer' ≡ counted_failures writer)
 
@@ -165,17 +186,21 @@ abbrev pub IsToldMore : (before after : List ℕ → Type 0) → List ℕ → Ty
 IsToldMore before after numbers = (earlier : List ℕ) → before earlier → after (earlier ++ numbers)
 
 -- A watcher was told the number of each picture, once it was encoded: of all that the work ended behind.
-pub record IsWatched {R W : Type 0} (remaining : R → Option (List ℕ)) (contents : W → Option (List ℕ)) (limits : Limits) (settings : Settings)
-    (result : Result EncodeReport EncodeAllFault) (reader reader' : Counted R) (writer writer' : Counted W) (before after : List ℕ → Type 0) : Type 0 where
+pub record IsWatched {R W : Type 0} (remaining : R → Option (List ℕ)) (contents : W
+    → Option (List ℕ)) (limits : Limits) (settings : Settings)
+    (result : Result EncodeReport EncodeAllFault) (reader reader' : Counted R) (writer writer' : Counted W)
+    (before after : List ℕ → Type 0) : Type 0 where
   pub pictures : ℕ
   pub told : IsToldMore before after (numbers_to pictures)
   pub file : List ℕ
   pub consumed : Consumes (counted_remaining remaining reader) (counted_remaining remaining reader') file
-  pub answer : IsAnswerBehind pictures limits settings result file (counted_contents contents writer) (counted_contents contents writer')
+  pub answer : IsAnswerBehind pictures limits settings result file (counted_contents contents writer)
+      (counted_contents contents writer')
 
 -- ---- how often the source is read
 
--- a read for each byte of the greatest file under the limits, with one picture more: lines of 1,025 bytes, and three numbers
+-- a read for each byte of the greatest file under the limits, with one picture more: lines of 1,025 bytes, and three
+-- numbers
 -- for a pixel at most
 abbrev pub most_reads : Limits → ℕ
 most_reads limits = 1025 + (limits.packets + 1) * (1025 + 3 * limits.pixels)

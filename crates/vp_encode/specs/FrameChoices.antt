@@ -28,7 +28,8 @@ macroblock_by frame c = macroblock_of (source_by frame.search c) c.tokens frame.
 
 -- the picture before the macroblock at p, as the choices make it
 abbrev pub picture_before : FrameSearch → Grid Choice → Place → Image
-picture_before frame g = rebuilt_before frame.source.width frame.source.height (λ q. macroblock_by frame (choice_at g q))
+picture_before frame g = rebuilt_before frame.source.width frame.source.height
+    (λ q. macroblock_by frame (choice_at g q))
 
 -- their motion
 abbrev pub saved_motions : Grid Choice → Grid MacroblockMotion
@@ -68,6 +69,7 @@ pub record AreChosenBefore (frame : FrameSearch) (p : Place) (b : FrameChoices) 
   pub motion_rows : b.motion.rows ≡ macroblocks frame.source.height
   pub picture : b.picture ≡ picture_before frame b.chosen p
   pub each : (q : Place) → Has b.chosen q → IsBeforeInRaster q p → IsChosenAt frame b.chosen q
-  pub moved : (q : Place) → Has b.chosen q → IsBeforeInRaster q p → at intra b.motion q ≡ saved_motion (choice_at b.chosen q)
+  pub moved : (q : Place) → Has b.chosen q → IsBeforeInRaster q p
+      → at intra b.motion q ≡ saved_motion (choice_at b.chosen q)
   pub ahead : (q : Place) → ¬ IsBeforeInRaster q p → at intra b.motion q ≡ intra
   pub short : AreWithin 511 b.motion

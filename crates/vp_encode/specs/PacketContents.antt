@@ -1,6 +1,7 @@
 -- The frame that a packet carries, as the packet step reads it (RFC 6386, chapter 9.1). Pinned by the tests
 -- `eight_partitions` and `still_frame_keeps_last`, which decode the packets.
-use Rattle.std.specs.Prelude.{◌≡◌, ◌<◌, ◌≤◌, ◌-◌, ◌*◌, ℕ, true, List, length, map, slice_index, slice_index_or, Option, Some, None, IfSome, Ok, []}
+use Rattle.std.specs.Prelude.{◌≡◌, ◌<◌, ◌≤◌, ◌-◌, ◌*◌, ℕ, true, List, length, map, slice_index, slice_index_or, Option}
+use Rattle.std.specs.Prelude.{Some, None, IfSome, Ok, []}
 use Rattle.vp_bool.specs.Bools.{initial_state}
 use Rattle.vp_base.specs.declared.limits.Dim.{Dim}
 use Rattle.vp_base.specs.declared.limits.Limits.{Limits}
@@ -11,7 +12,8 @@ use Rattle.vp_head.specs.declared.fields.Saved.{Saved}
 use Rattle.vp_head.specs.Saved.{kept_after}
 use Rattle.vp_decode.specs.MacroblockInfo.{modes_in, motion_in}
 use Rattle.vp_decode.specs.Frame.{tokens_of}
-use Rattle.vp_decode.specs.Step.{DecoderState, FrameContext, key_context, inter_context, context_of, ParsedPacket, parsed, frame_info_of, first_part}
+use Rattle.vp_decode.specs.Step.{DecoderState, FrameContext, key_context, inter_context, context_of, ParsedPacket}
+use Rattle.vp_decode.specs.Step.{parsed, frame_info_of, first_part}
 use Rattle.vp_encode.specs.declared.coded_frame.CodedFrame.{CodedFrame}
 use Rattle.vp_encode.specs.CodedFrame.{coded_choice, saved_motion}
 
@@ -24,9 +26,11 @@ pub record HasFinalZero (bytes : List ℕ) : Type 0 where
   pub some : 0 < length bytes
   pub last : slice_index bytes (length bytes - 1) ≡ 0
 
--- What is opened of a packet is a shown one of version 0 over this context, with this frame's header; and its partitions say
+-- What is opened of a packet is a shown one of version 0 over this context, with this frame's header; and its
+-- partitions say
 -- at each place what the frame is told to be there.
-pub record HasContents (key : Option KeyTag) (context : FrameContext) (c : CodedFrame) (packet : List ℕ) (o : ParsedPacket) : Type 0 where
+pub record HasContents (key : Option KeyTag) (context : FrameContext) (c : CodedFrame) (packet : List ℕ)
+    (o : ParsedPacket) : Type 0 where
   pub version : o.tag.version ≡ 0
   pub shown : o.tag.show ≡ true
   pub key_is : o.tag.key ≡ key
@@ -35,15 +39,18 @@ pub record HasContents (key : Option KeyTag) (context : FrameContext) (c : Coded
   pub saved : o.saved ≡ kept_after context.saved c.header
   pub modes : (p : Place) → Has c.macroblocks p → modes_in (frame_info_of o).maps p ≡ (coded_choice c p).modes
   pub motion : (p : Place) → Has c.macroblocks p → motion_in (frame_info_of o).maps p ≡ saved_motion (coded_choice c p)
-  pub tokens : (p : Place) → Has c.macroblocks p → tokens_of (frame_info_of o) (map initial_state o.partitions) p ≡ (coded_choice c p).tokens
+  pub tokens : (p : Place) → Has c.macroblocks p → tokens_of (frame_info_of o) (map initial_state o.partitions) p
+      ≡ (coded_choice c p).tokens
   -- Behind each partition stands a byte of 0.
   pub first_closed : HasFinalZero (first_part o.tag packet)
   pub closed : (i : ℕ) → i < length o.partitions → HasFinalZero (slice_index_or o.partitions i [])
 
--- The packet says the frame wherever its tag and the state give this context, under all limits that a size in its tag passes.
+-- The packet says the frame wherever its tag and the state give this context, under all limits that a size in its
+-- tag passes.
 pub record EncodesFrame (key : Option KeyTag) (context : FrameContext) (c : CodedFrame) (packet : List ℕ) : Type 0 where
   pub opening : ParsedPacket
-  pub opens : (limits : Limits) (state : Option DecoderState) → context_of key state ≡ Ok context → IfSome key (λ k. k.dim.w * k.dim.h ≤ limits.pixels)
+  pub opens : (limits : Limits) (state : Option DecoderState) → context_of key state ≡ Ok context
+      → IfSome key (λ k. k.dim.w * k.dim.h ≤ limits.pixels)
       → parsed limits state packet ≡ Ok opening
   pub says : HasContents key context c packet opening
 
@@ -53,4 +60,5 @@ IsKeyFramePacket dim c packet = EncodesFrame (Some (key_tag dim)) (key_context d
 
 -- the packet of an inter frame, over these values and segments, and any references
 abbrev pub IsInterFramePacket : Saved → Grid ℕ → CodedFrame → List ℕ → Type 0
-IsInterFramePacket saved segments c packet = (k : DecoderState) → k.saved ≡ saved → k.segments ≡ segments → EncodesFrame None (inter_context k) c packet
+IsInterFramePacket saved segments c packet = (k : DecoderState) → k.saved ≡ saved → k.segments ≡ segments
+    → EncodesFrame None (inter_context k) c packet

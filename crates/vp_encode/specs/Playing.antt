@@ -14,7 +14,8 @@ use Rattle.vp_encode.specs.File.{Work, IsDone, encoded_file}
 -- the answers for packets, one after another, from a state (RFC 6386, chapter 5)
 abbrev pub answers_from_state : Limits → Option DecoderState → List (List ℕ) → List Answer
 answers_from_state limits state [] = []
-answers_from_state limits state (p ∷ ps) = (step limits state p).1 ∷ answers_from_state limits (step limits state p).0 ps
+answers_from_state limits state (p ∷ ps) = (step limits state p).1
+    ∷ answers_from_state limits (step limits state p).0 ps
 
 -- what was written, read again
 abbrev pub reread_output : Limits → Work → Contents
@@ -32,7 +33,8 @@ bytes_of p = p.bytes
 abbrev pub shown : EncodedFrame → Answer
 shown f = Shown f.recon
 
--- It ends well, and its packets, the first one decoded from no state, show the reconstructions: one for each picture, in order.
+-- It ends well, and its packets, the first one decoded from no state, show the reconstructions: one for each
+-- picture, in order.
 pub record PlaysBack (limits : Limits) (w : Work) : Type 0 where
   pub ends : finish_answer (reread_output limits w) ≡ Ok tt
   pub pictures : answers_from_state limits None (map bytes_of (reread_output limits w).packets) ≡ map shown w.frames
@@ -44,4 +46,5 @@ EncodedFilesPlayBack = (limits others : Limits) (settings : Settings) (file : Li
 
 -- those under which it was encoded are such
 abbrev pub EncodedFilesFit : Type 0
-EncodedFilesFit = (limits : Limits) (settings : Settings) (file : List ℕ) (w : Work) → IsDone limits settings file w → FitsLimits limits w
+EncodedFilesFit = (limits : Limits) (settings : Settings) (file : List ℕ) (w : Work) → IsDone limits settings file w
+    → FitsLimits limits w

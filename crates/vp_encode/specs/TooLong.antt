@@ -15,7 +15,8 @@ pub record IsFrameFor (e : EncoderState) (source : Image) (c : CodedFrame) : Typ
 
 -- A frame that is told over what is kept has a partition that is too long.
 abbrev pub IsTooLongOver : Dim → Option DecoderState → CodedFrame → Type 0
-IsTooLongOver dim kept c = HasLongPartition (tag_key dim kept) (basis_over dim kept).saved (maps_before (basis_over dim kept).modes) c
+IsTooLongOver dim kept c = HasLongPartition (tag_key dim kept) (basis_over dim kept).saved
+    (maps_before (basis_over dim kept).modes) c
 
 -- The frame that is chosen for the source has one.
 pub record IsTooLong (e : EncoderState) (source : Image) : Type 0 where

@@ -1,6 +1,7 @@
 -- The bytes of a packet: tag, first partition and token partitions (RFC 6386, chapters 9.1, 9.5 and 19). In part inside
 -- the crate: the state of writing. Pinned by the tests `eight_partitions` and `flat_macroblock`.
-use Rattle.std.specs.Prelude.{◌≡◌, ◌≢◌, ◌<◌, ◌≤◌, ◌⊎◌, ◌*◌, ◌^◌, ◌+◌, ◌-◌, ◌/◌, ◌%◌, ℕ, Bool, true, false, List, [], ◌∷◌, ◌++◌, length, map, slice_index_or, Option, Some, None, Ok}
+use Rattle.std.specs.Prelude.{◌≡◌, ◌≢◌, ◌<◌, ◌≤◌, ◌⊎◌, ◌*◌, ◌^◌, ◌+◌, ◌-◌, ◌/◌, ◌%◌, ℕ, Bool, true, false, List, []}
+use Rattle.std.specs.Prelude.{◌∷◌, ◌++◌, length, map, slice_index_or, Option, Some, None, Ok}
 use Rattle.vp_bool.specs.Bools.{State, initial_state}
 use Rattle.vp_bool.specs.Reader.{Reader, ◌>>=◌, give, Reads}
 use Rattle.vp_bool.specs.Intervals.{Interval, whole_interval, interval_bytes}
@@ -87,13 +88,15 @@ first_read kept tag before = do
   maps ← maps_read head.0 before
   give (head, maps)
 
--- The partition of bools of which the header is read, and then these modes and this motion: of all of them, and of no others.
+-- The partition of bools of which the header is read, and then these modes and this motion: of all of them, and of
+-- no others.
 pub record IsFirst (kept : Saved) (tag : Tag) (before : MacroblockInfo) (c : CodedFrame) (bytes : List ℕ) : Type 0 where
   pub bools : List (Bool × ℕ)
   pub probabilities : AreProbabilities bools
   pub bytes_are : bytes ≡ partition_of_bools bools
   pub maps : MacroblockInfo
-  pub taken : TakesBools bools (first_read kept tag before) (give ((c.header, kept_after (kept_before kept tag) c.header), maps))
+  pub taken : TakesBools bools (first_read kept tag before) (give
+      ((c.header, kept_after (kept_before kept tag) c.header), maps))
   pub size : AreOf c maps
   pub told : (p : Place) → Has c.macroblocks p → Have c p maps
 
@@ -111,21 +114,25 @@ abbrev pub none_seen : ℕ → ℕ → Grid Blocks
 none_seen columns rows = everywhere columns rows no_blocks_read
 
 -- what was written of the first n macroblocks of a row, where g was seen before
-pub record IsTokenRow (f : FrameInfo) (c : CodedFrame) (row n : ℕ) (g : Grid Blocks) (contexts : Contexts) (old new : Interval) : Type 0 where
+pub record IsTokenRow (f : FrameInfo) (c : CodedFrame) (row n : ℕ) (g : Grid Blocks) (contexts : Contexts)
+    (old new : Interval) : Type 0 where
   pub seen : Grid Blocks
   pub columns : seen.columns ≡ g.columns
   pub rows : seen.rows ≡ g.rows
   pub stands : AreContextsAt seen (place row n) contexts
   pub written : Writes (row_seen f row n g) old new seen
-  pub tokens : (s t : State) → Reads written.bools s t → (column : ℕ) → column < n → row_tokens f row g s column ≡ (coded_choice c (place row column)).tokens
+  pub tokens : (s t : State) → Reads written.bools s t → (column : ℕ) → column < n
+      → row_tokens f row g s column ≡ (coded_choice c (place row column)).tokens
 
 -- the bools bss, one list for each partition, are read from the states ss, and ts are left
 abbrev pub AllRead : List (List (Bool × ℕ)) → List State → List State → Type 0
 AllRead bss ss ts = (length ss ≡ length bss) × (length ts ≡ length bss)
-    × ((i : ℕ) → i < length bss → Reads (slice_index_or bss i []) (slice_index_or ss i (initial_state [])) (slice_index_or ts i (initial_state [])))
+    × ((i : ℕ) → i < length bss → Reads (slice_index_or bss i []) (slice_index_or ss i (initial_state []))
+    (slice_index_or ts i (initial_state [])))
 
 -- what was written of the rows before one, each into the partition of its row
-pub record AreTokenRows (f : FrameInfo) (c : CodedFrame) (row : ℕ) (contexts : Contexts) (es : List Interval) : Type 0 where
+pub record AreTokenRows (f : FrameInfo) (c : CodedFrame) (row : ℕ) (contexts : Contexts) (es : List Interval)
+    : Type 0 where
   pub seen : Grid Blocks
   pub columns : seen.columns ≡ c.macroblocks.columns
   pub rows : seen.rows ≡ c.macroblocks.rows
@@ -141,13 +148,15 @@ pub record AreTokenRows (f : FrameInfo) (c : CodedFrame) (row : ℕ) (contexts :
 -- Of these bools, a list for each partition, all tokens of the frame are read, and no bools are left.
 pub record AreTokens (f : FrameInfo) (c : CodedFrame) (bools : List (List (Bool × ℕ))) : Type 0 where
   pub probabilities : (i : ℕ) → AreProbabilities (slice_index_or bools i [])
-  pub tokens : (ss ts : List State) → AllRead bools ss ts → (p : Place) → Has c.macroblocks p → tokens_of f ss p ≡ (coded_choice c p).tokens
+  pub tokens : (ss ts : List State) → AllRead bools ss ts → (p : Place) → Has c.macroblocks p
+      → tokens_of f ss p ≡ (coded_choice c p).tokens
   pub rests : (ss ts : List State) → AllRead bools ss ts → (readings f ss c.macroblocks.rows).rests ≡ ts
 
 -- the token partitions of the frame
 pub record AreTokenPartitions (c : CodedFrame) (parts : List (List ℕ)) : Type 0 where
   pub count : length parts ≡ count_of c.header.log2_partitions
-  pub each : (f : FrameInfo) → IsPlanOf c f → (bools : List (List (Bool × ℕ))) × AreTokens f c bools × (parts ≡ map partition_of_bools bools)
+  pub each : (f : FrameInfo) → IsPlanOf c f → (bools : List (List (Bool × ℕ))) × AreTokens f c bools
+      × (parts ≡ map partition_of_bools bools)
 
 -- ---- the tag
 
@@ -160,7 +169,8 @@ two_bytes w = w % 256 ∷ w / 256 ∷ []
 
 -- a shown packet of version 0, not scaled, with a first partition of so many bytes
 abbrev pub tag_bytes : Option KeyTag → ℕ → List ℕ
-tag_bytes (Some key) first = three_bytes (32 * first + 16) ++ (0x9d ∷ 0x01 ∷ 0x2a ∷ []) ++ two_bytes key.dim.w ++ two_bytes key.dim.h
+tag_bytes (Some key) first = three_bytes (32 * first + 16) ++ (0x9d ∷ 0x01 ∷ 0x2a ∷ []) ++ two_bytes key.dim.w
+    ++ two_bytes key.dim.h
 tag_bytes None first = three_bytes (32 * first + 17)
 
 -- ---- the packet
@@ -179,7 +189,8 @@ pub record IsPutTogether (key : Option KeyTag) (first : List ℕ) (parts : List 
   pub bytes_are : bytes ≡ tag_bytes key (length first) ++ (first ++ rest)
 
 -- The bytes are a packet of the frame.
-pub record IsPacket (key : Option KeyTag) (saved : Saved) (before : MacroblockInfo) (c : CodedFrame) (bytes : List ℕ) : Type 0 where
+pub record IsPacket (key : Option KeyTag) (saved : Saved) (before : MacroblockInfo) (c : CodedFrame) (bytes : List ℕ)
+    : Type 0 where
   pub first : List ℕ
   pub parts : List (List ℕ)
   pub together : IsPutTogether key first parts bytes
@@ -189,9 +200,11 @@ pub record IsPacket (key : Option KeyTag) (saved : Saved) (before : MacroblockIn
 
 -- ---- a frame that no packet holds
 
--- A partition is longer than its size can be said: the first one in 19 bits (chapter 9.1), or a token partition but the last
+-- A partition is longer than its size can be said: the first one in 19 bits (chapter 9.1), or a token partition but
+-- the last
 -- in 24 (chapter 9.5).
 abbrev pub HasLongPartition : Option KeyTag → Saved → MacroblockInfo → CodedFrame → Type 0
 HasLongPartition key saved before c =
     ((first : List ℕ) × IsFirst saved (encoder_tag key 0) before c first × (2 ^ 19 ≤ length first))
-    ⊎ ((parts : List (List ℕ)) × AreTokenPartitions c parts × ((i : ℕ) × (i < length parts - 1) × (2 ^ 24 ≤ length (slice_index_or parts i []))))
+    ⊎ ((parts : List (List ℕ)) × AreTokenPartitions c parts × ((i : ℕ) × (i < length parts - 1)
+    × (2 ^ 24 ≤ length (slice_index_or parts i []))))

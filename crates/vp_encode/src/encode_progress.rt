@@ -27,7 +27,8 @@ impl Model for EncodeProgress {
 
     ghost view = { λ a. record { limits = a.limits; encoder = a.encoder; packets = a.packets.items; error = a.error } };
 
-    ghost invariant = { λ a. (length a.packets.items ≤ a.limits.packets) × (a.error ≤ length a.packets.items * 2 ^ 64) };
+    ghost invariant = { λ a. (length a.packets.items ≤ a.limits.packets)
+        × (a.error ≤ length a.packets.items * 2 ^ 64) };
 }
 
 impl EncodeProgress {

@@ -1,6 +1,7 @@
 //! Frames encoded, one after another.
 
-ghost use Rattle.std.specs.Prelude.{◌≡◌, ◌≢◌, ◌⊎◌, ◌≤◌, ◌+◌, ◌*◌, ◌↔◌, ◌++◌, ◌∷◌, [], List, None, Err, IsErr, IfOk, IfErr, IfSome, IsTrue, option_map, if◌then◌else◌};
+ghost use Rattle.std.specs.Prelude.{◌≡◌, ◌≢◌, ◌⊎◌, ◌≤◌, ◌+◌, ◌*◌, ◌↔◌, ◌++◌, ◌∷◌, [], List, None, Err, IsErr, IfOk};
+ghost use Rattle.std.specs.Prelude.{IfErr, IfSome, IsTrue, option_map, if◌then◌else◌};
 ghost use Rattle.vp_base.specs.declared.limits.Limits.{Limits};
 ghost use Rattle.vp_base.specs.Image.{macroblocks};
 ghost use Rattle.vp_decode.specs.Step.{Shown, step};
@@ -37,7 +38,8 @@ pub struct Encoded {
     pub squared_error: u64,
 }
 
-/// Encodes the frames of one stream, in order, each as it is shown (RFC 6386, chapter 5). It holds the decoder of its own
+/// Encodes the frames of one stream, in order, each as it is shown (RFC 6386, chapter 5). It holds the decoder of
+/// its own
 /// packets, so what frames are predicted from is what decoders have.
 #[derive(Drop)]
 pub struct Encoder {
@@ -57,7 +59,12 @@ impl Model for Encoder {
 
     ghost view = { λ e. record { dim = e.dim; settings = e.settings; state = e.decoder.state; since = e.since } };
 
-    ghost invariant = { λ e. IsSound e.decoder.limits (record { dim = e.dim; settings = e.settings; state = e.decoder.state; since = e.since }) };
+    ghost invariant = { λ e. IsSound e.decoder.limits (record {
+      dim = e.dim;
+      settings = e.settings;
+      state = e.decoder.state;
+      since = e.since;
+    }) };
 }
 
 /// Limits that pictures of every size pass.
@@ -87,9 +94,11 @@ fn are_allowed(settings: &Settings) -> bool
 fn decode_shown(decoder: &mut Decoder, packet: &[u8]) -> Result<Rc<Picture>, AllocError>
     requires { ShowsNewest decoder.old.limits decoder.old.state packet.now }
     ensures limits { decoder.new.limits ≡ decoder.old.limits }
-    ensures shown { IfOk result (λ r. step decoder.old.limits decoder.old.state packet.now ≡ (decoder.new.state, Shown r.value)) }
+    ensures shown { IfOk result (λ r. step decoder.old.limits decoder.old.state packet.now
+        ≡ (decoder.new.state, Shown r.value)) }
     // Memory may be refused before the packet is decoded, or behind it.
-    ensures state { (decoder.new.state ≡ decoder.old.state) ⊎ (decoder.new.state ≡ (step decoder.old.limits decoder.old.state packet.now).0) }
+    ensures state { (decoder.new.state ≡ decoder.old.state) ⊎ (decoder.new.state
+        ≡ (step decoder.old.limits decoder.old.state packet.now).0) }
 {
     decoder.decode(packet)?;
     match decoder.kept() {
@@ -121,7 +130,8 @@ impl Encoder {
     /// Encodes a frame: a key frame at first, after `key_every` frames and after a refusal, and else an inter frame.
     /// `TooLong` and `Memory` may be met again with the same source; the next frame is then a key frame.
     pub fn encode(&mut self, source: &Picture) -> Result<Encoded, EncodeFault>
-        ensures size { result ≡ Err EncodeFault.SourceSize ↔ ((source.now.width ≢ self.old.dim.w) ⊎ (source.now.height ≢ self.old.dim.h)) }
+        ensures size { result ≡ Err EncodeFault.SourceSize ↔ ((source.now.width ≢ self.old.dim.w)
+            ⊎ (source.now.height ≢ self.old.dim.h)) }
         ensures unchanged { result ≡ Err EncodeFault.SourceSize → self.new ≡ self.old }
         ensures dim { self.new.dim ≡ self.old.dim }
         ensures settings { self.new.settings ≡ self.old.settings }
@@ -132,7 +142,8 @@ impl Encoder {
         ensures error { IfOk result (λ r. r.squared_error ≡ squared_distance source.now r.recon.value) }
         ensures since { IfOk result (λ _. self.new.since ≡ (if next_is_key self.old then 1 else self.old.since + 1)) }
         // A refused frame leaves no state, so that the next one is a key frame.
-        ensures forgotten { (result ≡ Err EncodeFault.TooLong) ⊎ (result ≡ Err EncodeFault.Memory) → self.new.state ≡ None }
+        ensures forgotten { (result ≡ Err EncodeFault.TooLong) ⊎ (result ≡ Err EncodeFault.Memory)
+            → self.new.state ≡ None }
         ensures too_long { result ≡ Err EncodeFault.TooLong → IsTooLong self.old source.now }
         // What stands for the calls since `new` stands for them and this one.
         ensures stands { (calls : List Call) → IsEncoderAfter self.old calls
@@ -211,7 +222,8 @@ impl Encoder {
     fn choose(&self, source: &Picture) -> Result<CodedFrame, AllocError>
         requires { HasSize self.now.dim source.now }
         ensures frame { IfOk result (λ c. IsFrameFor self.now source.now c) }
-        ensures told { IfOk result (λ c. CanBeTold (next_is_key self.now) (basis_for self.now).saved (basis_for self.now).modes c) }
+        ensures told { IfOk result (λ c. CanBeTold (next_is_key self.now) (basis_for self.now).saved
+            (basis_for self.now).modes c) }
     {
         let golden = self.refreshes_golden();
         let kept = self.kept();
@@ -222,9 +234,11 @@ impl Encoder {
     fn write(&self, coded: &CodedFrame) -> Result<ByteList, PacketError>
         requires columns { coded.now.macroblocks.columns ≡ macroblocks self.now.dim.w }
         requires rows { coded.now.macroblocks.rows ≡ macroblocks self.now.dim.h }
-        requires told { CanBeTold (next_is_key self.now) (basis_for self.now).saved (basis_for self.now).modes coded.now }
+        requires told { CanBeTold (next_is_key self.now) (basis_for self.now).saved
+            (basis_for self.now).modes coded.now }
         ensures packet { IfOk result (λ v. IsPacketOver self.now.dim (kept_for self.now) coded.now v) }
-        ensures too_long { IfErr result (λ e. e ≡ PacketError.TooLong → IsTooLongOver self.now.dim (kept_for self.now) coded.now) }
+        ensures too_long { IfErr result (λ e. e ≡ PacketError.TooLong
+            → IsTooLongOver self.now.dim (kept_for self.now) coded.now) }
     {
         match self.kept() {
             Some(kept) => {

@@ -1,9 +1,11 @@
 //! EncoderState a whole file.
 
-ghost use Rattle.std.specs.Prelude.{◌≡◌, ◌≢◌, ◌<◌, ◌≤◌, ◌+◌, ◌*◌, ◌^◌, ◌++◌, ◌∷◌, ℕ, List, [], ⊤, length, OnOk, OnErr, IfSome, Err};
+ghost use Rattle.std.specs.Prelude.{◌≡◌, ◌≢◌, ◌<◌, ◌≤◌, ◌+◌, ◌*◌, ◌^◌, ◌++◌, ◌∷◌, ℕ, List, [], ⊤, length, OnOk, OnErr};
+ghost use Rattle.std.specs.Prelude.{IfSome, Err};
 ghost use Rattle.std.specs.List.{All};
 ghost use Rattle.std.specs.Io.KnownBytes.{Appends, Consumes, IsAtEnd};
-ghost use Rattle.vp_base.specs.Counted.{counted_remaining, counted_contents, counted_failures, counted_reads, HasFailed, AppendsFront};
+ghost use Rattle.vp_base.specs.Counted.{counted_remaining, counted_contents, counted_failures, counted_reads};
+ghost use Rattle.vp_base.specs.Counted.{HasFailed, AppendsFront};
 ghost use Rattle.vp_y4m.specs.declared.source.Progress.{Progress};
 ghost use Rattle.vp_y4m.specs.Shown.{head_shown};
 ghost use Rattle.vp_y4m.specs.Source.{reader_name, bytes_left, failures_of, reads_of, head_of, progress_of};
@@ -49,7 +51,8 @@ impl Watcher for Unwatched {
 /// rate, and times 0, 1, and so on. All packets are held until then, for the file's head says how many there are.
 ///
 /// What refuses comes in the order of the work: what is wrong with the head, the settings, and then for each picture
-/// what is wrong with it, `TooMany`, `TooLong` and `PacketTooLarge`. Nothing is written but a whole file, or a front of it
+/// what is wrong with it, `TooMany`, `TooLong` and `PacketTooLarge`. Nothing is written but a whole file, or a
+/// front of it
 /// where a write fails.
 pub fn encode_all<R: Read, W: Write>(
     alloc: Global,
@@ -58,9 +61,11 @@ pub fn encode_all<R: Read, W: Write>(
     settings: Settings,
     limits: Limits,
 ) -> Result<EncodeReport, EncodeAllFault>
-    ensures answer { IsAnswerOver R.remaining W.contents limits settings result reader.old reader.new writer.old writer.new }
+    ensures answer { IsAnswerOver R.remaining W.contents limits settings result reader.old reader.new writer.old
+        writer.new }
 
-    // However it ends, each read but the last took a byte or more. So no more reads are made than these, of any reader and
+    // However it ends, each read but the last took a byte or more. So no more reads are made than these, of any
+    // reader and
     // of one whose bytes are known.
     ensures reads { TakesInReads 1 (counted_remaining R.remaining reader.old) (counted_remaining R.remaining reader.new)
         (counted_reads reader.old) (counted_reads reader.new) }
@@ -71,7 +76,8 @@ pub fn encode_all<R: Read, W: Write>(
     encode_all_watched(alloc, reader, writer, settings, limits, &mut Unwatched)
 }
 
-/// The same, and `watcher` is told of each picture once it is encoded, by how many there are: of all of them where there is
+/// The same, and `watcher` is told of each picture once it is encoded, by how many there are: of all of them where
+/// there is
 /// a report, and else of those before what refuses.
 pub fn encode_all_watched<R: Read, W: Write, T: Watcher>(
     alloc: Global,
@@ -81,11 +87,14 @@ pub fn encode_all_watched<R: Read, W: Write, T: Watcher>(
     limits: Limits,
     watcher: &mut T,
 ) -> Result<EncodeReport, EncodeAllFault>
-    ensures answer { IsAnswerOver R.remaining W.contents limits settings result reader.old reader.new writer.old writer.new }
-    ensures watched { IsWatched R.remaining W.contents limits settings result reader.old reader.new writer.old writer.new
+    ensures answer { IsAnswerOver R.remaining W.contents limits settings result reader.old reader.new writer.old
+        writer.new }
+    ensures watched { IsWatched R.remaining W.contents limits settings result reader.old reader.new writer.old
+        writer.new
         (T.told watcher.old) (T.told watcher.new) }
 
-    // However it ends, each read but the last took a byte or more. So no more reads are made than these, of any reader and
+    // However it ends, each read but the last took a byte or more. So no more reads are made than these, of any
+    // reader and
     // of one whose bytes are known.
     ensures reads { TakesInReads 1 (counted_remaining R.remaining reader.old) (counted_remaining R.remaining reader.new)
         (counted_reads reader.old) (counted_reads reader.new) }
@@ -119,7 +128,8 @@ fn encode_source<R: Read, T: Watcher>(
         × EndsEncode run.old.limits run.old.encoder.settings result (head_shown head) (front ++ bytes) run.new }
     ensures end { OnOk result (IsAtEnd (counted_remaining R.remaining reader.new)) }
     ensures torn { result ≡ Err EncodeAllFault.Torn → IsAtEnd (counted_remaining R.remaining reader.new) }
-    ensures device { result ≡ Err EncodeAllFault.Device → HasFailed (counted_failures reader.old) (counted_failures reader.new) }
+    ensures device { result ≡ Err EncodeAllFault.Device → HasFailed (counted_failures reader.old)
+        (counted_failures reader.new) }
     ensures quiet { result ≢ Err EncodeAllFault.Device → counted_failures reader.new ≡ counted_failures reader.old }
     ensures reads { TakesInReads 1 (counted_remaining R.remaining reader.old) (counted_remaining R.remaining reader.new)
         (counted_reads reader.old) (counted_reads reader.new) }

@@ -61,9 +61,13 @@ pub(crate) fn choose_frame(
     requires width { source.now.width ≡ dim.w }
     requires height { source.now.height ≡ dim.h }
     requires segments { IfSome (option_map (λ k. k.now) kept) (λ k. AreUnsegmented dim k.segments) }
-    ensures header { IfOk result (λ c. c.header ≡ header_over (basis_over dim (option_map (λ k. k.now) kept.entry)).saved (is_none kept.entry) golden settings.now) }
-    ensures chosen { IfOk result (λ c. AreChosen (frame_over (option_map (λ k. k.now) kept.entry) settings.now source.now) c.macroblocks) }
-    ensures told { IfOk result (CanBeTold (is_none kept.entry) (basis_over dim (option_map (λ k. k.now) kept.entry)).saved (basis_over dim (option_map (λ k. k.now) kept.entry)).modes) }
+    ensures header { IfOk result (λ c. c.header ≡ header_over
+        (basis_over dim (option_map (λ k. k.now) kept.entry)).saved (is_none kept.entry) golden settings.now) }
+    ensures chosen { IfOk result (λ c. AreChosen (frame_over (option_map
+        (λ k. k.now) kept.entry) settings.now source.now) c.macroblocks) }
+    ensures told { IfOk result (CanBeTold (is_none kept.entry)
+        (basis_over dim (option_map (λ k. k.now) kept.entry)).saved
+        (basis_over dim (option_map (λ k. k.now) kept.entry)).modes) }
 {
     let source = continued(alloc, source)?;
     let factors = Factors::of(settings.qi, &quantiser(settings.qi));

@@ -73,7 +73,10 @@ impl FrameChoices {
         requires factors { ArePositive (lent_frame frame.now).factors }
         requires range { IfSome (lent_frame frame.now).search (λ s. s.range ≤ 64) }
         requires before { AreChosenBefore (lent_frame frame.now) place self.old }
-        ensures { AreChosenBefore (lent_frame frame.now) (record { column = place.column + 1; row = place.row }) self.new }
+        ensures { AreChosenBefore (lent_frame frame.now) (record {
+          column = place.column + 1;
+          row = place.row;
+        }) self.new }
     {
         let choice = choose_macroblock(frame, &mut self.picture, &self.motion, place);
         self.chosen.set(place, choice);

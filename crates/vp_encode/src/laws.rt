@@ -3,8 +3,10 @@
 ghost use Rattle.vp_encode.specs.Calls.{CallsArePlayedBack};
 ghost use Rattle.vp_encode.specs.Playing.{EncodedFilesFit, EncodedFilesPlayBack};
 
-/// The packets of an encoder's calls that succeeded since `new`, in order, show the reconstruction that each of them handed
-/// back, whichever calls were refused between them, under all limits that the encoder's size fits. The errors that were told
+/// The packets of an encoder's calls that succeeded since `new`, in order, show the reconstruction that each of
+/// them handed
+/// back, whichever calls were refused between them, under all limits that the encoder's size fits. The errors that
+/// were told
 /// are the squared distances of these from the sources.
 pub fn encoded_frames_play_back()
     ensures { CallsArePlayedBack }

@@ -1,4 +1,5 @@
-//! Frames encoded (RFC 6386, chapters 5, 9 and 19): what is chosen for them, their packets, what decoders show of them, and
+//! Frames encoded (RFC 6386, chapters 5, 9 and 19): what is chosen for them, their packets, what decoders show of
+//! them, and
 //! files of pictures as files of packets.
 #![tactic(auto)]
 

@@ -53,7 +53,8 @@ impl MacroblockInfo {
         requires place { Has self.old.modes place }
         requires modes { AreWritableModes header.now self.old.modes place macroblock.now.modes }
         requires motion { is_intra macroblock.now.modes.reference ≡ false
-            → CanBeWritten (candidates self.old.motion place macroblock.now.modes.reference header.now.biases) macroblock.now.motion }
+            → CanBeWritten (candidates self.old.motion place macroblock.now.modes.reference header.now.biases)
+            macroblock.now.motion }
         ensures writes { OnOk result (Writes (macroblock_read header.now place self.old) e.old e.new self.new) }
         ensures told { OnOk result (AreMapsUpdated place macroblock.now self.old self.new) }
     {
@@ -79,12 +80,15 @@ impl MacroblockInfo {
     ) -> Result<(), AllocError>
         requires row { row < coded.now.macroblocks.rows }
         requires size { AreOf coded.now self.old }
-        requires above { (p : Place) → p.row < row → p.column < coded.now.macroblocks.columns → motion_in self.old p ≡ saved_motion (coded_choice coded.now p) }
+        requires above { (p : Place) → p.row < row → p.column < coded.now.macroblocks.columns
+            → motion_in self.old p ≡ saved_motion (coded_choice coded.now p) }
         requires unmoved { (p : Place) → p.row ≡ row → motion_in self.old p ≡ intra }
         requires modes { (column : ℕ) → column < coded.now.macroblocks.columns
-            → AreWritableModes coded.now.header self.old.modes (place row column) (coded_choice coded.now (place row column)).modes }
+            → AreWritableModes coded.now.header self.old.modes (place row column)
+            (coded_choice coded.now (place row column)).modes }
         requires motion { IsMotionSpelled coded.now }
-        ensures writes { OnOk result (Writes (row_read coded.now.header self.old.modes.columns row self.old) e.old e.new self.new) }
+        ensures writes { OnOk result (Writes
+            (row_read coded.now.header self.old.modes.columns row self.old) e.old e.new self.new) }
         ensures told { OnOk result (IsRowTold coded.now row coded.now.macroblocks.columns self.old self.new) }
     {
         for column in 0..coded.macroblocks.columns() {

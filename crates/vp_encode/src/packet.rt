@@ -1,13 +1,15 @@
 //! A frame, written as a packet.
 
-ghost use Rattle.std.specs.Prelude.{◌≡◌, ◌≤◌, ◌<◌, ◌^◌, ◌-◌, ℕ, true, false, length, take, slice_index_or, [], IfOk, IfErr, is_some};
+ghost use Rattle.std.specs.Prelude.{◌≡◌, ◌≤◌, ◌<◌, ◌^◌, ◌-◌, ℕ, true, false, length, take, slice_index_or, [], IfOk};
+ghost use Rattle.std.specs.Prelude.{IfErr, is_some};
 ghost use Rattle.vp_base.specs.Image.{macroblocks};
 ghost use Rattle.vp_modes.specs.Map.{of_segments};
 ghost use Rattle.vp_tokens.specs.Partitions.{lists, AreBelow24Bits};
 ghost use Rattle.vp_decode.specs.Step.{key_context, maps_before};
 ghost use Rattle.vp_encode.specs.CodedFrame.{CanBeTold};
 ghost use Rattle.vp_encode.specs.PacketContents.{key_tag, IsKeyFramePacket, IsInterFramePacket};
-ghost use Rattle.vp_encode.specs.Written.{IsFirst, AreTokenPartitions, IsPutTogether, IsPacket, HasLongPartition, encoder_tag, kept_by};
+ghost use Rattle.vp_encode.specs.Written.{IsFirst, AreTokenPartitions, IsPutTogether, IsPacket, HasLongPartition};
+ghost use Rattle.vp_encode.specs.Written.{encoder_tag, kept_by};
 ghost use Rattle.vp_encode.specs.declared.fault.PacketError.{PacketError};
 
 use crate::coded_frame::CodedFrame;
@@ -40,7 +42,9 @@ pub fn write_key_packet(
     requires rows { coded.now.macroblocks.rows ≡ macroblocks dim.h }
     requires told { CanBeTold true (key_context dim).saved (key_context dim).modes coded.now }
     ensures packet { IfOk result (λ v. IsKeyFramePacket dim coded.now v) }
-    ensures too_long { IfErr result (λ e. e ≡ PacketError.TooLong → HasLongPartition (Some (key_tag dim)) (key_context dim).saved (maps_before (key_context dim).modes) coded.now) }
+    ensures too_long { IfErr result (λ e. e ≡ PacketError.TooLong
+        → HasLongPartition (Some (key_tag dim)) (key_context dim).saved
+        (maps_before (key_context dim).modes) coded.now) }
 {
     let key = KeyTag {
         dim,
@@ -65,7 +69,8 @@ pub fn write_inter_packet(
     requires segment_rows { segments.now.rows ≡ macroblocks dim.h }
     requires told { CanBeTold false saved.now (of_segments segments.now) coded.now }
     ensures packet { IfOk result (λ v. IsInterFramePacket saved.now segments.now coded.now v) }
-    ensures too_long { IfErr result (λ e. e ≡ PacketError.TooLong → HasLongPartition None saved.now (maps_before (of_segments segments.now)) coded.now) }
+    ensures too_long { IfErr result (λ e. e ≡ PacketError.TooLong
+        → HasLongPartition None saved.now (maps_before (of_segments segments.now)) coded.now) }
 {
     let before = ModeMap::of_segments(alloc, segments)?;
     write_packet(alloc, None, dim, saved, before, coded)
@@ -85,7 +90,8 @@ fn write_packet(
     requires before_rows { before.rows ≡ macroblocks dim.h }
     requires told { CanBeTold (is_some key) (kept_by saved.now key) before coded.now }
     ensures packet { IfOk result (λ v. IsPacket key saved.now (maps_before before) coded.now v) }
-    ensures too_long { IfErr result (λ e. e ≡ PacketError.TooLong → HasLongPartition key saved.now (maps_before before) coded.now) }
+    ensures too_long { IfErr result (λ e. e ≡ PacketError.TooLong
+        → HasLongPartition key saved.now (maps_before before) coded.now) }
 {
     let first = write_first(alloc, key, dim, saved, before, coded)?;
     if first.len() > MOST_FIRST {
@@ -136,7 +142,8 @@ fn write_first(
 /// Whether each part's size can be said in 24 bits.
 fn are_short(parts: &[Vec<u8>]) -> bool
     ensures short { result ≡ true → AreBelow24Bits (lists parts.now) }
-    ensures long { result ≡ false → (i : ℕ) × (i < length parts.now) × (2 ^ 24 ≤ length (slice_index_or (lists parts.now) i [])) }
+    ensures long { result ≡ false → (i : ℕ) × (i < length parts.now)
+        × (2 ^ 24 ≤ length (slice_index_or (lists parts.now) i [])) }
 {
     for part in parts {
         if part.len() > MOST_PART {

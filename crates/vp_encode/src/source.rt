@@ -8,7 +8,8 @@ ghost use Rattle.vp_encode.specs.Continued.{ExtendsPlane, row_continued};
 use std::alloc::{AllocError, Global};
 use vp_base::{Picture, Plane};
 
-/// Writes row `y` of plane `k`: the row of the source, or the last one of those that it has, and behind its columns the last
+/// Writes row `y` of plane `k`: the row of the source, or the last one of those that it has, and behind its columns
+/// the last
 /// pixel again.
 fn continue_row(
     source: &Plane,
@@ -21,7 +22,8 @@ fn continue_row(
     requires plane { k < 3 }
     requires row { y < source.now.height }
     requires size { ExtendsPlane width height source.now (plane_of picture.old k) }
-    ensures { picture.new ≡ with_plane picture.old k (row_continued width height source.now y (plane_of picture.old k)) }
+    ensures { picture.new ≡ with_plane picture.old k (row_continued width height source.now y
+        (plane_of picture.old k)) }
 {
     let row = source.row(y.min(height - 1));
     let behind = [row[width - 1]; 16];
@@ -29,7 +31,8 @@ fn continue_row(
     picture.write_run(k, width, y, &behind[..source.width() - width]);
 }
 
-/// Writes plane `k`: the source's, of which so many columns and rows are shown, and all other pixels the nearest of those.
+/// Writes plane `k`: the source's, of which so many columns and rows are shown, and all other pixels the nearest of
+/// those.
 fn continue_plane(source: &Plane, width: usize, height: usize, k: usize, picture: &mut Picture)
     requires plane { k < 3 }
     requires size { ExtendsPlane width height source.now (plane_of picture.old k) }

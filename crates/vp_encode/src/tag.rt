@@ -25,7 +25,8 @@ fn two_bytes(number: u16) -> [u8; 2]
     [(number % 256) as u8, (number / 256) as u8]
 }
 
-/// Puts the tag of a shown packet of version 0, whose first partition has so many bytes: a key packet's with its size, or
+/// Puts the tag of a shown packet of version 0, whose first partition has so many bytes: a key packet's with its
+/// size, or
 /// an inter packet's (RFC 6386, chapter 9.1).
 pub(crate) fn put_tag(
     key: Option<KeyTag>,

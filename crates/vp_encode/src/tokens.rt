@@ -28,8 +28,10 @@ fn write_row(
     requires row { row < coded.now.macroblocks.rows }
     requires columns { length contexts.old.above ≡ coded.now.macroblocks.columns }
     requires spelled { AreTokensSpelled coded.now }
-    ensures row { OnOk result ((f : FrameInfo) (g : Grid Blocks) → IsPlanOf coded.now f → g.columns ≡ coded.now.macroblocks.columns → g.rows ≡ coded.now.macroblocks.rows
-        → AreContextsAt g (place row 0) contexts.old → IsTokenRow f coded.now row coded.now.macroblocks.columns g contexts.new e.old e.new) }
+    ensures row { OnOk result ((f : FrameInfo) (g : Grid Blocks) → IsPlanOf coded.now f
+        → g.columns ≡ coded.now.macroblocks.columns → g.rows ≡ coded.now.macroblocks.rows
+        → AreContextsAt g (place row 0) contexts.old
+        → IsTokenRow f coded.now row coded.now.macroblocks.columns g contexts.new e.old e.new) }
     ensures columns { length contexts.new.above ≡ length contexts.old.above }
 {
     for column in 0..coded.macroblocks.columns() {
@@ -48,7 +50,8 @@ fn write_row(
     Ok(())
 }
 
-/// Writes the tokens of all rows, each into the partition whose number is that of the row modulo the number of partitions.
+/// Writes the tokens of all rows, each into the partition whose number is that of the row modulo the number of
+/// partitions.
 fn write_rows(
     coded: &CodedFrame,
     contexts: &mut Contexts,
@@ -56,10 +59,12 @@ fn write_rows(
 ) -> Result<(), AllocError>
     requires some { 0 < length encoders.old }
     requires columns { length contexts.old.above ≡ coded.now.macroblocks.columns }
-    requires stands { (rows : ℕ) → AreContextsAt (none_seen coded.now.macroblocks.columns rows) (place 0 0) contexts.old }
+    requires stands { (rows : ℕ) → AreContextsAt (none_seen coded.now.macroblocks.columns rows)
+        (place 0 0) contexts.old }
     requires empty { (i : ℕ) → i < length encoders.old → slice_index_or encoders.old i whole_interval ≡ whole_interval }
     requires spelled { AreTokensSpelled coded.now }
-    ensures { OnOk result ((f : FrameInfo) → IsPlanOf coded.now f → AreTokenRows f coded.now coded.now.macroblocks.rows contexts.new encoders.new) }
+    ensures { OnOk result ((f : FrameInfo) → IsPlanOf coded.now f
+        → AreTokenRows f coded.now coded.now.macroblocks.rows contexts.new encoders.new) }
 {
     for row in 0..coded.macroblocks.rows() {
         let at = row % encoders.len();

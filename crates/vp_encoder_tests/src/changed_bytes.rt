@@ -14,7 +14,8 @@ use vp_head::PacketFault;
 /// How many bytes the three packets have.
 const SIZE: usize = 38;
 
-/// From 0 a key packet of 16 by 16 pixels without a bool; from 10 an inter packet without a bool; from 13 an inter packet
+/// From 0 a key packet of 16 by 16 pixels without a bool; from 10 an inter packet without a bool; from 13 an inter
+/// packet
 /// whose first partition is one byte of ones, so that all its bools are 1: it has eight token partitions, whose sizes
 /// stand in 21 bytes from 17 on. They are all 0.
 const PACKETS: [u8; SIZE] = [
@@ -69,7 +70,8 @@ fn key_fault(packet: &[u8]) -> Option<PacketFault>
     }
 }
 
-/// The fault of a packet's tag, of what a key packet has behind it, and of the first partition's size, in that order, where
+/// The fault of a packet's tag, of what a key packet has behind it, and of the first partition's size, in that
+/// order, where
 /// a key packet was shown before.
 fn tag_fault(packet: &[u8]) -> Option<PacketFault>
     requires { 3 ≤ length packet.now }
@@ -89,8 +91,10 @@ fn tag_fault(packet: &[u8]) -> Option<PacketFault>
     None
 }
 
-/// The fault of the first packet behind its tag, if that is one of an inter packet whose first partition fits. What stands
-/// for a start code and a size is then that partition: its bools say four or eight token partitions, whose sizes take nine
+/// The fault of the first packet behind its tag, if that is one of an inter packet whose first partition fits. What
+/// stands
+/// for a start code and a size is then that partition: its bools say four or eight token partitions, whose sizes
+/// take nine
 /// or 21 bytes, and six at most are left. An empty one says one token partition.
 fn turned_fault(packet: &[u8]) -> Option<PacketFault>
     requires { 3 ≤ length packet.now }
@@ -102,7 +106,8 @@ fn turned_fault(packet: &[u8]) -> Option<PacketFault>
     Some(PacketFault::PartitionTable)
 }
 
-/// The fault of the third packet behind its tag, which says a first partition that fits. One of ones that has more than one
+/// The fault of the third packet behind its tag, which says a first partition that fits. One of ones that has more
+/// than one
 /// byte leaves no room for the table; a size that isn't 0 passes the end, since nothing is left.
 fn table_fault(packet: &[u8], at: usize) -> Option<PacketFault>
     requires long { length packet.now ≡ 25 }
@@ -186,7 +191,8 @@ fn shows_key(alloc: Global, decoder: &Decoder) -> bool {
     }
 }
 
-/// Whether the packet that byte `at` stands in, that byte being this one, comes to what it should behind a key packet, and so
+/// Whether the packet that byte `at` stands in, that byte being this one, comes to what it should behind a key
+/// packet, and so
 /// an inter packet behind it, and the key packet behind that to its picture.
 fn stands(alloc: Global, at: usize, value: u8) -> bool
     requires { at < SIZE }

@@ -65,7 +65,8 @@ fn is_end_of(end: &Result<Report, DecodeFault>, length: usize) -> bool {
     }
 }
 
-/// Whether the file's first bytes, read in pieces of so many bytes, are decoded to the pictures of the packets that are whole.
+/// Whether the file's first bytes, read in pieces of so many bytes, are decoded to the pictures of the packets that
+/// are whole.
 fn decodes(alloc: Global, length: usize, size: usize) -> bool
     requires { length ≤ SIZE }
 {

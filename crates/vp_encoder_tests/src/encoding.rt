@@ -95,8 +95,10 @@ fn header(key: bool, log2_partitions: u8) -> Header
 /// Without levels and motion, and skipped.
 fn macroblock(reference: Reference, luma: LumaMode) -> Choice
     requires { is_by_subblocks luma ≡ false }
-    ensures intra { reference ≡ Intra → (h : Header) (g : Grid Modes) (p : Place) → h.key ≡ true → IsSome h.skip → modes_spelled h g p result.modes }
-    ensures inter { is_intra reference ≡ false → luma ≡ Dc → (h : Header) (g : Grid Modes) (p : Place) → h.key ≡ false → IsSome h.skip → (at plain g p).segment ≡ 0
+    ensures intra { reference ≡ Intra → (h : Header) (g : Grid Modes) (p : Place) → h.key ≡ true → IsSome h.skip
+        → modes_spelled h g p result.modes }
+    ensures inter { is_intra reference ≡ false → luma ≡ Dc → (h : Header) (g : Grid Modes) (p : Place) → h.key ≡ false
+        → IsSome h.skip → (at plain g p).segment ≡ 0
         → modes_spelled h g p result.modes }
     ensures reference { result.modes.reference ≡ reference }
     ensures still { (c : Candidates) → CanBeWritten c result.motion }
@@ -156,10 +158,12 @@ fn still_frame(alloc: Global) -> Result<CodedFrame, AllocError>
     })
 }
 
-/// A skipped macroblock whose subblocks are predicted left and down, and vertical right, as the fields of a chessboard are
+/// A skipped macroblock whose subblocks are predicted left and down, and vertical right, as the fields of a
+/// chessboard are
 /// white and black: side by side, no others take more bools to be told.
 fn chessboard() -> Choice
-    ensures spelled { (h : Header) (g : Grid Modes) (p : Place) → h.key ≡ true → IsSome h.skip → modes_spelled h g p result.modes }
+    ensures spelled { (h : Header) (g : Grid Modes) (p : Place) → h.key ≡ true → IsSome h.skip
+        → modes_spelled h g p result.modes }
     ensures reference { result.modes.reference ≡ Intra }
     ensures none { result.tokens.blocks ≡ no_blocks }
 {
@@ -270,7 +274,8 @@ fn still_frame_keeps_last(rt: HostRuntime) -> Result<(), Fail> {
     Ok(())
 }
 
-/// The first partition of one row of macroblocks less has 522,772 bytes, and this one 526,705, by a script apart from this
+/// The first partition of one row of macroblocks less has 522,772 bytes, and this one 526,705, by a script apart
+/// from this
 /// program; its size has 19 bits.
 #[test]
 fn first_partition_too_long(rt: HostRuntime) -> Result<(), Fail> {

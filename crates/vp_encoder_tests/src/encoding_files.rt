@@ -160,7 +160,8 @@ fn fails_at_each_read(rt: HostRuntime) -> Result<(), Fail> {
     Ok(())
 }
 
-/// The line's 24 bytes and the next line's 6 are read one by one, then 16 rows of Y, 8 of U and 8 of V, and then the end.
+/// The line's 24 bytes and the next line's 6 are read one by one, then 16 rows of Y, 8 of U and 8 of V, and then
+/// the end.
 #[test]
 fn reads_are_counted(rt: HostRuntime) -> Result<(), Fail> {
     let bytes = source(rt.alloc(), 1)?;

@@ -1,4 +1,5 @@
-//! Readers and writers of which each call fails in turn: what is answered, and how much was written, follow from where the
+//! Readers and writers of which each call fails in turn: what is answered, and how much was written, follow from
+//! where the
 //! parts of the files stand.
 
 ghost use Rattle.std.specs.Prelude.{◌≡◌, ◌+◌, ◌*◌, ◌≤◌, IfOk, vec_len};
@@ -10,7 +11,8 @@ use vp_base::{Counted, FailAt, Limits};
 use vp_encode::{EncodeAllFault, EncodeReport, Settings, encode_all};
 use vp_stream::{DecodeFault, Form, decode_all};
 
-/// Whether the decoding of the file to YUV4MPEG2, where so many reads of single bytes and so many writes of at most 64 bytes
+/// Whether the decoding of the file to YUV4MPEG2, where so many reads of single bytes and so many writes of at most
+/// 64 bytes
 /// come before one fails, ends so, and writes so many of the bytes of its pictures.
 fn decodes(
     alloc: Global,
@@ -118,7 +120,8 @@ fn plays_back(alloc: Global, video: &[u8], coded: &[u8]) -> bool {
     end.is_ok() && writer.into_inner().as_slice() == video
 }
 
-/// The first line is read byte by byte, and so is that of a picture, which has 16 rows of luma and 8 of each colour. The
+/// The first line is read byte by byte, and so is that of a picture, which has 16 rows of luma and 8 of each
+/// colour. The
 /// last read finds the end, and nothing is written before it.
 fn fails_at_each_read(alloc: Global, video: &[u8]) -> bool {
     for reads in 0..41 + 2 * (6 + 32) + 1 {
@@ -130,7 +133,8 @@ fn fails_at_each_read(alloc: Global, video: &[u8]) -> bool {
     true
 }
 
-/// One write is that of the head, and each packet has one of its 12 bytes and one of its own. A front is written, longer each
+/// One write is that of the head, and each packet has one of its 12 bytes and one of its own. A front is written,
+/// longer each
 /// time.
 fn fails_at_each_write(alloc: Global, video: &[u8], whole: &[u8]) -> bool {
     let mut least = 0;

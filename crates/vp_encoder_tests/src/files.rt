@@ -17,8 +17,10 @@ pub const INTER: [u8; 3] = [0x11, 0, 0];
 pub const SIZE: usize = 117;
 
 /// A file of 16 columns and 16 rows, 30 pictures a second. Each packet has 12 bytes before its own:
-/// 0 to 32 the head; to 54 a key packet of 10 bytes, shown; to 69 an inter packet of 3 bytes, hidden; to 81 a packet of no
-/// bytes, which shows the first picture again; to 95 an inter packet of 2 bytes, too short; to 117 the key packet again.
+/// 0 to 32 the head; to 54 a key packet of 10 bytes, shown; to 69 an inter packet of 3 bytes, hidden; to 81 a
+/// packet of no
+/// bytes, which shows the first picture again; to 95 an inter packet of 2 bytes, too short; to 117 the key packet
+/// again.
 pub const FILE: [u8; SIZE] = [
     0x44, 0x4b, 0x49, 0x46, 0, 0, 0x20, 0, 0x56, 0x50, 0x38, 0x30, 0x10, 0, 0x10, 0, 0x1e, 0, 0, 0,
     1, 0, 0, 0, 5, 0, 0, 0, 0, 0, 0, 0, 10, 0, 0, 0, 0, 0, 0, 0, 0, 0, 0, 0, 0x10, 0, 0, 0x9d,
@@ -70,7 +72,8 @@ pub(crate) fn is_whole(length: usize) -> bool
     matches!(length, 32 | 54 | 69 | 81 | 95 | SIZE)
 }
 
-/// Byte `i` of the key packet's picture as Y, U and V: of luma rows 0 to 3 are 128 and rows 4 to 15 are 129, colour is 128.
+/// Byte `i` of the key packet's picture as Y, U and V: of luma rows 0 to 3 are 128 and rows 4 to 15 are 129, colour
+/// is 128.
 fn picture_byte(i: usize) -> u8
     ensures least { 128 ≤ result }
     ensures most { result ≤ 129 }
@@ -96,7 +99,8 @@ pub(crate) fn are_pictures(bytes: &[u8]) -> bool
 /// The line of a YUV4MPEG2 file of the size and rate of the file, 41 bytes.
 pub const LINE: &[u8; 41] = b"YUV4MPEG2 W16 H16 F30:1 Ip A0:0 C420jpeg\n";
 
-/// Byte `i` of a YUV4MPEG2 file of that line in which the picture comes again and again, each time behind a line of its own.
+/// Byte `i` of a YUV4MPEG2 file of that line in which the picture comes again and again, each time behind a line of
+/// its own.
 pub(crate) fn video_byte(i: usize) -> u8
     ensures { 41 ≤ i → 6 ≤ (i - 41) % 390 → 128 ≤ result }
 {

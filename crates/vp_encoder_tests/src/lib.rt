@@ -1,4 +1,5 @@
-//! Tests of the encoder, and trials that go through all layers: cut files, changed bytes, failing devices. There is nothing
+//! Tests of the encoder, and trials that go through all layers: cut files, changed bytes, failing devices. There is
+//! nothing
 //! here but tests; what they want is worked by hand from the rules of the formats.
 #![tactic(auto)]
 

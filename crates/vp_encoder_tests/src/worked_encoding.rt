@@ -16,7 +16,8 @@ fn is_key(packet: &[u8]) -> bool {
     }
 }
 
-/// The first of so many frames that is a key frame where it shouldn't be, or isn't one where it should: one comes, and 63
+/// The first of so many frames that is a key frame where it shouldn't be, or isn't one where it should: one comes,
+/// and 63
 /// others behind it.
 fn other_kind(
     encoder: &mut Encoder,
@@ -47,7 +48,8 @@ fn a_key_frame_behind_64_frames(rt: HostRuntime) -> Result<(), Fail> {
     Ok(())
 }
 
-/// Sixteen times the least level by the greatest luma DC factor, and the same with turns of sign like a chessboard's. What is wanted
+/// Sixteen times the least level by the greatest luma DC factor, and the same with turns of sign like a
+/// chessboard's. What is wanted
 /// was worked out from the formulas by a script apart from this program.
 #[test]
 fn great_numbers_forward(rt: HostRuntime) {

@@ -137,7 +137,8 @@ fn decoded_difference(
     picture_difference(alloc, decoder.picture(), wanted)
 }
 
-/// What a packet of several partitions is to have: the logarithm of their number and the error; and the first place where
+/// What a packet of several partitions is to have: the logarithm of their number and the error; and the first place
+/// where
 /// it shows something else.
 type Coded = (Option<u8>, u64, Option<usize>);
 
@@ -185,7 +186,8 @@ fn numbered_rows(alloc: Global) -> Result<Picture, Fail> {
     Ok(picture)
 }
 
-/// What the source is encoded to by so many partitions, decoded against its own reconstruction; and the first place where
+/// What the source is encoded to by so many partitions, decoded against its own reconstruction; and the first place
+/// where
 /// that isn't this one.
 fn coded_by(
     alloc: Global,
@@ -255,7 +257,8 @@ const ONES: [u8; 25] = [
     0x31, 0, 0, 0xff, 0, 0, 0, 0, 0, 0, 0, 0, 0, 0, 0, 0, 0, 0, 0, 0, 0, 0, 0, 0, 0,
 ];
 
-/// It predicts each half of the macroblock from far above the reference and left of it, where all is 128, and replaces all
+/// It predicts each half of the macroblock from far above the reference and left of it, where all is 128, and
+/// replaces all
 /// references.
 #[test]
 fn split_vectors_far_outside(rt: HostRuntime) -> Result<(), Fail> {
@@ -267,7 +270,8 @@ fn split_vectors_far_outside(rt: HostRuntime) -> Result<(), Fail> {
 /// How many bytes the file has.
 const SIZE: usize = 106;
 
-/// A file of 16 columns and 16 rows, 30 pictures a second. Its head ends behind 32 bytes, and its packets, of which each
+/// A file of 16 columns and 16 rows, 30 pictures a second. Its head ends behind 32 bytes, and its packets, of which
+/// each
 /// has 12 bytes before its own, behind 54, 69, 91 and 106: the key packet and the inter packet, and both again.
 const FOUR: [u8; SIZE] = [
     0x44, 0x4b, 0x49, 0x46, 0, 0, 0x20, 0, 0x56, 0x50, 0x38, 0x30, 0x10, 0, 0x10, 0, 0x1e, 0, 0, 0,
@@ -325,7 +329,8 @@ fn each_cut_read(rt: HostRuntime) -> Result<(), Fail> {
     Ok(())
 }
 
-/// Whether this is the answer for packet `number` of so many: the key packet's picture and the inter packet's come in turn.
+/// Whether this is the answer for packet `number` of so many: the key packet's picture and the inter packet's come
+/// in turn.
 fn is_answer(answer: &Answer, number: u32, count: u32) -> bool {
     let wanted = if number % 2 == 0 { empty_frame() } else { FLAT };
     match answer {
@@ -440,9 +445,12 @@ enum Change {
     Fault(PacketFault),
 }
 
-/// What comes of the key packet in which the byte of this number has become 0, 0x7f and 0xff. The first bit of byte 0 tells
-/// that it is no key packet, three bits have its version, of at most 3, then one says that it is shown; and the other three
-/// bits, with bytes 1 and 2, how many bytes the first partition has, of which there are none. Three bytes are the same in
+/// What comes of the key packet in which the byte of this number has become 0, 0x7f and 0xff. The first bit of byte
+/// 0 tells
+/// that it is no key packet, three bits have its version, of at most 3, then one says that it is shown; and the
+/// other three
+/// bits, with bytes 1 and 2, how many bytes the first partition has, of which there are none. Three bytes are the
+/// same in
 /// all key packets. Of the sides, two bytes each, lowest first, the two highest bits are a scale.
 const CHANGES: [[Change; 3]; 10] = [
     [
@@ -515,7 +523,8 @@ fn key_picture(alloc: Global, width: u16, height: u16) -> Result<Vec<u8>, AllocE
     Ok(bytes)
 }
 
-/// The first place where a decoder doesn't show a changed key packet's picture; where it is to show one and shows none, 0.
+/// The first place where a decoder doesn't show a changed key packet's picture; where it is to show one and shows
+/// none, 0.
 fn changed_difference(
     alloc: Global,
     decoder: &Decoder,
@@ -546,7 +555,8 @@ fn inter_difference(
     picture_difference(alloc, decoder.picture(), &wanted)
 }
 
-/// Whether the key packet, the same with one byte changed and the inter packet come to what they should. A fault leaves no
+/// Whether the key packet, the same with one byte changed and the inter packet come to what they should. A fault
+/// leaves no
 /// state.
 fn is_change(
     alloc: Global,

@@ -1,6 +1,7 @@
 -- The frame header's syntax elements, in order (RFC 6386, chapters 9.2 to 9.11 and 19.2). Pinned by the tests
 -- `key_rows_of_a_stream`, `inter_rows_of_a_stream`, `all_ones_header` and `all_ones_inter_header`.
-use Rattle.std.specs.Prelude.{ℕ, zero, suc, pos, Bool, true, false, not, List, [], ◌∷◌, Option, Some, None, is_some, if◌then◌else◌}
+use Rattle.std.specs.Prelude.{ℕ, zero, suc, pos, Bool, true, false, not, List, [], ◌∷◌, Option, Some, None, is_some}
+use Rattle.std.specs.Prelude.{if◌then◌else◌}
 use Rattle.vp_bool.specs.Bools.{literal}
 use Rattle.vp_bool.specs.Reader.{Reader, ◌>>=◌, give, when}
 use Rattle.vp_head.specs.Rows.{flag, optional_signed, renewed, three, four, four_signed}
@@ -20,7 +21,8 @@ use Rattle.vp_head.specs.declared.fields.Header.{Header}
 use Rattle.vp_head.specs.declared.fields.Saved.{Saved}
 use Rattle.vp_head.specs.declared.rows.Refreshes.{Refreshes}
 
--- ---- segmentation (chapter 9.3); without an update the kept values stay; in an update a value whose flag isn't set is 0
+-- ---- segmentation (chapter 9.3); without an update the kept values stay; in an update a value whose flag isn't set
+-- is 0
 
 unfoldable pub segment_values : Reader SegmentValues
 segment_values = do
@@ -175,6 +177,7 @@ frame_and_kept key kept = do
   h ← frame key kept
   give (h, kept_after kept h)
 
--- the header of a packet with this tag, and what is kept after it; a key frame starts from the defaults, whatever was kept
+-- the header of a packet with this tag, and what is kept after it; a key frame starts from the defaults, whatever
+-- was kept
 unfoldable pub header : Saved → Tag → Reader (Header × Saved)
 header saved tag = if is_some tag.key then frame_and_kept true defaults else frame_and_kept false saved

@@ -1,7 +1,8 @@
 -- The names of packet faults, as printed. Pinned by the test `names_of_packet_faults`.
 use Rattle.std.specs.Prelude.{ℕ, List, ◌++◌, codes, decimal}
 use Rattle.vp_head.specs.declared.fault.PacketFault.{PacketFault}
-use Rattle.vp_head.specs.declared.fault.PacketFault.TheVariants.{Truncated, Version, StartCode, Size, TooLarge, NoReference, FirstPartition, PartitionTable, Partition}
+use Rattle.vp_head.specs.declared.fault.PacketFault.TheVariants.{Truncated, Version, StartCode, Size, TooLarge}
+use Rattle.vp_head.specs.declared.fault.PacketFault.TheVariants.{NoReference, FirstPartition, PartitionTable, Partition}
 
 abbrev pub packet_fault_name : PacketFault → List ℕ
 packet_fault_name Truncated = codes "Truncated"

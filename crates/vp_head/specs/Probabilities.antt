@@ -7,7 +7,8 @@ use Rattle.vp_head.specs.Rows.{flag, renewed, three, four}
 use Rattle.vp_tables.specs.Tables.{coefficient_updates}
 use Rattle.vp_tables.specs.declared.mode_probabilities.TheConstants.{VECTOR_UPDATES}
 
--- ---- coefficients: each behind a flag of the probability at its place in the table, by block type, band, context and entry
+-- ---- coefficients: each behind a flag of the probability at its place in the table, by block type, band, context
+-- and entry
 
 abbrev pub entry_at : List ℕ → ℕ → ℕ → Reader ℕ
 entry_at table i = renewed (slice_index table i)
@@ -45,7 +46,8 @@ chroma old = do
   set ← flag
   when set (three (literal 8)) old
 
--- ---- vectors: each behind a flag of the probability at its place; seven bits stand for twice their number, and 0 for 1
+-- ---- vectors: each behind a flag of the probability at its place; seven bits stand for twice their number, and 0
+-- for 1
 
 abbrev pub seven_bits : Reader ℕ
 seven_bits = do

@@ -4,7 +4,8 @@ use Rattle.std.specs.Prelude.{ℤ, pos, false, List, [], ◌∷◌, if◌then◌
 use Rattle.vp_head.specs.declared.fields.Header.{Header}
 use Rattle.vp_head.specs.declared.fields.Saved.{Saved}
 use Rattle.vp_tables.specs.Tables.{coefficient_probabilities}
-use Rattle.vp_tables.specs.declared.mode_probabilities.TheConstants.{LUMA_PROBABILITIES, CHROMA_PROBABILITIES, VECTOR_PROBABILITIES}
+use Rattle.vp_tables.specs.declared.mode_probabilities.TheConstants.{LUMA_PROBABILITIES, CHROMA_PROBABILITIES}
+use Rattle.vp_tables.specs.declared.mode_probabilities.TheConstants.{VECTOR_PROBABILITIES}
 
 abbrev pub four_zeros : List ℤ
 four_zeros = pos 0 ∷ pos 0 ∷ pos 0 ∷ pos 0 ∷ []
@@ -12,7 +13,12 @@ four_zeros = pos 0 ∷ pos 0 ∷ pos 0 ∷ pos 0 ∷ []
 -- what a key frame starts from
 unfoldable pub defaults : Saved
 defaults = record {
-  probabilities = record { coefficients = coefficient_probabilities; vectors = VECTOR_PROBABILITIES; luma = LUMA_PROBABILITIES; chroma = CHROMA_PROBABILITIES };
+  probabilities = record {
+    coefficients = coefficient_probabilities;
+    vectors = VECTOR_PROBABILITIES;
+    luma = LUMA_PROBABILITIES;
+    chroma = CHROMA_PROBABILITIES;
+  };
   segments = record { absolute = false; quantisers = four_zeros; levels = four_zeros };
   deltas = record { reference = four_zeros; mode = four_zeros };
   biases = record { golden = false; alt = false };

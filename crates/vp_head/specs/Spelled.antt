@@ -1,6 +1,7 @@
 -- Which headers can be written over the saved values (RFC 6386, chapters 9 and 19.2). The law
 -- `what_is_read_can_be_written` says that nothing readable is excluded. Pinned by the test `headers_read_back`.
-use Rattle.std.specs.Prelude.{◌≡◌, ℕ, ◌%◌, ◌^◌, ◌<◌, ◌⊎◌, ℤ, pos, Bool, true, false, List, [], ◌∷◌, is_some, slice_index, slice_index_or, unsigned_abs, if◌then◌else◌}
+use Rattle.std.specs.Prelude.{◌≡◌, ℕ, ◌%◌, ◌^◌, ◌<◌, ◌⊎◌, ℤ, pos, Bool, true, false, List, [], ◌∷◌, is_some}
+use Rattle.std.specs.Prelude.{slice_index, slice_index_or, unsigned_abs, if◌then◌else◌}
 use Rattle.vp_head.specs.Header.{no_references}
 use Rattle.vp_head.specs.Saved.{defaults}
 use Rattle.vp_head.specs.declared.fields.Tag.{Tag}
@@ -69,7 +70,8 @@ abbrev pub IsVectorProbability : ℕ → ℕ → Type 0
 IsVectorProbability old new = ¬ (new ≡ old) → (new ≡ 1) ⊎ ((new % 2 ≡ 0) × (0 < new))
 
 abbrev pub AreVectorProbabilities : List (List ℕ) → List (List ℕ) → Type 0
-AreVectorProbabilities old new = (i j : ℕ) → IsVectorProbability (slice_index (slice_index_or old i []) j) (slice_index (slice_index_or new i []) j)
+AreVectorProbabilities old new = (i j : ℕ) → IsVectorProbability (slice_index (slice_index_or old i []) j)
+    (slice_index (slice_index_or new i []) j)
 
 -- a header over what is kept: the rows that its kind of frame doesn't have say what they say where they aren't read
 pub record IsWritableHeader (key : Bool) (kept : Saved) (h : Header) : Type 0 where

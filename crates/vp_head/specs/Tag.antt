@@ -1,6 +1,7 @@
 -- The frame tag and the key frame's start code and size, with the faults in their order (RFC 6386, chapters 9.1 and
 -- 19.1). Pinned by the tests `packet_faults`, `size_limits` and `truncated_before_start_code`.
-use Rattle.std.specs.Prelude.{◌≡◌, ℕ, zero, suc, ◌+◌, ◌*◌, ◌/◌, ◌%◌, ◌^◌, ◌≤◌, ◌==◌, ◌&&◌, Bool, nat_lt, List, length, slice_index, Option, Some, None, Result, Ok, Err, if◌then◌else◌}
+use Rattle.std.specs.Prelude.{◌≡◌, ℕ, zero, suc, ◌+◌, ◌*◌, ◌/◌, ◌%◌, ◌^◌, ◌≤◌, ◌==◌, ◌&&◌, Bool, nat_lt, List, length}
+use Rattle.std.specs.Prelude.{slice_index, Option, Some, None, Result, Ok, Err, if◌then◌else◌}
 use Rattle.vp_base.specs.declared.limits.Dim.{Dim}
 use Rattle.vp_base.specs.declared.limits.Limits.{Limits}
 use Rattle.vp_head.specs.Sides.{is_side, is_below_16384}
@@ -37,22 +38,33 @@ dim_within_limits limits (Some dim) = if nat_lt limits.pixels (dim.w * dim.h) th
 
 -- the size that two words say, 14 bits each
 abbrev pub tag_dim : ℕ → ℕ → Option Dim
-tag_dim width height = dim_of (bit_field 0 14 width) (bit_field 0 14 height) (is_below_16384 width) (is_below_16384 height)
+tag_dim width height = dim_of (bit_field 0 14 width) (bit_field 0 14 height) (is_below_16384 width)
+    (is_below_16384 height)
 
 -- beside the size, the two bits above it in each word
 abbrev pub key_with : ℕ → ℕ → Result Dim PacketFault → Result KeyTag PacketFault
 key_with width height (Err fault) = Err fault
-key_with width height (Ok dim) = Ok (record { dim = dim; horizontal_scale = bit_field 14 2 width; vertical_scale = bit_field 14 2 height })
+key_with width height (Ok dim) = Ok (record {
+  dim = dim;
+  horizontal_scale = bit_field 14 2 width;
+  vertical_scale = bit_field 14 2 height;
+})
 
 -- what a key packet's tag goes on with
 unfoldable pub key_of : Limits → List ℕ → Result KeyTag PacketFault
 key_of limits packet =
     if nat_lt (length packet) 10 then Err Truncated
-    else if has_start_code packet then key_with (word_at 6 packet) (word_at 8 packet) (dim_within_limits limits (tag_dim (word_at 6 packet) (word_at 8 packet)))
+    else if has_start_code packet then key_with (word_at 6 packet) (word_at 8 packet)
+    (dim_within_limits limits (tag_dim (word_at 6 packet) (word_at 8 packet)))
     else Err StartCode
 
 abbrev pub tag_with : ℕ → Option KeyTag → Tag
-tag_with word key = record { version = bit_field 1 3 word; show = bit_field 4 1 word == 1; first_partition = bit_field 5 19 word; key = key }
+tag_with word key = record {
+  version = bit_field 1 3 word;
+  show = bit_field 4 1 word == 1;
+  first_partition = bit_field 5 19 word;
+  key = key;
+}
 
 abbrev pub tag_with_key : ℕ → Result KeyTag PacketFault → Result Tag PacketFault
 tag_with_key word (Err fault) = Err fault

@@ -62,8 +62,10 @@ impl Header {
         ensures bounds { IsInRange result.0 }
         ensures kind { result.0.key ≡ is_some tag.now.key }
         // The signed values of a key frame are in range, and of any other where those that were kept are.
-        ensures signed { IsSome tag.now.key ⊎ AreInRange saved.now.segments saved.now.deltas → AreInRange result.0.segmentation.values result.0.deltas }
-        ensures kept { IsSome tag.now.key ⊎ AreInRange saved.now.segments saved.now.deltas → AreInRange result.1.segments result.1.deltas }
+        ensures signed { IsSome tag.now.key ⊎ AreInRange saved.now.segments saved.now.deltas
+            → AreInRange result.0.segmentation.values result.0.deltas }
+        ensures kept { IsSome tag.now.key ⊎ AreInRange saved.now.segments saved.now.deltas
+            → AreInRange result.1.segments result.1.deltas }
     {
         if tag.key.is_some() {
             read_with_kept(true, defaults(), d)

@@ -27,7 +27,8 @@ impl Header {
     pub fn write(&self, saved: &Saved, tag: &Tag, e: &mut BoolEncoder) -> Result<(), AllocError>
         requires { IsWritableInPacket saved.now tag.now self.now }
         // What was written is read as this header, and leaves what follows; the same is kept after it.
-        ensures { OnOk result (Writes (header saved.now tag.now) e.old e.new (self.now, kept_after (kept_before saved.now tag.now) self.now)) }
+        ensures { OnOk result (Writes (header saved.now tag.now) e.old e.new
+            (self.now, kept_after (kept_before saved.now tag.now) self.now)) }
     {
         if tag.key.is_some() {
             write_with_kept(true, defaults(), self, e)?;

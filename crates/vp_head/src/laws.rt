@@ -11,10 +11,13 @@ ghost use Rattle.vp_head.specs.Header.{header};
 ghost use Rattle.vp_head.specs.Bounds.{IsTagInRange, IsInRange, AreInRange};
 ghost use Rattle.vp_head.specs.Spelled.{IsWritableInPacket};
 
-/// The first byte alone says whether a packet of three bytes or more is a key packet: its tag has a key part, or a fault.
+/// The first byte alone says whether a packet of three bytes or more is a key packet: its tag has a key part, or a
+/// fault.
 pub fn first_byte_says_kind()
-    ensures key { (limits : Limits) (packet : List ℕ) → IsKeyPacket packet → IfOk (tag_of limits packet) (λ tag. IsSome tag.key) }
-    ensures inter { (limits : Limits) (packet : List ℕ) → IsInterPacket packet → IfOk (tag_of limits packet) (λ tag. IsNone tag.key) }
+    ensures key { (limits : Limits) (packet : List ℕ) → IsKeyPacket packet
+        → IfOk (tag_of limits packet) (λ tag. IsSome tag.key) }
+    ensures inter { (limits : Limits) (packet : List ℕ) → IsInterPacket packet
+        → IfOk (tag_of limits packet) (λ tag. IsNone tag.key) }
 {}
 
 /// A key frame's header takes nothing from what was kept.
@@ -33,8 +36,12 @@ pub fn numbers_are_in_range()
 
 /// Where a frame's probabilities aren't kept, those that stood before it come back.
 pub fn probabilities_come_back()
-    ensures inter { (saved : Saved) (tag : Tag) (s : State) → IsNone tag.key → (header saved tag s).0.0.refresh_entropy ≡ false → (header saved tag s).0.1.probabilities ≡ saved.probabilities }
-    ensures key { (saved : Saved) (tag : Tag) (s : State) → IsSome tag.key → (header saved tag s).0.0.refresh_entropy ≡ false → (header saved tag s).0.1.probabilities ≡ defaults.probabilities }
+    ensures inter { (saved : Saved) (tag : Tag) (s : State) → IsNone tag.key
+        → (header saved tag s).0.0.refresh_entropy ≡ false → (header saved tag s).0.1.probabilities
+        ≡ saved.probabilities }
+    ensures key { (saved : Saved) (tag : Tag) (s : State) → IsSome tag.key
+        → (header saved tag s).0.0.refresh_entropy ≡ false → (header saved tag s).0.1.probabilities
+        ≡ defaults.probabilities }
 {}
 
 /// Each header that is read can be written: no more is asked of a header than what the format can say.

@@ -2,7 +2,9 @@
 
 ghost use Rattle.std.specs.Prelude.{◌≡◌};
 ghost use Rattle.vp_bool.specs.Reader.{when};
-ghost use Rattle.vp_head.specs.Probabilities.{context_rows, band_rows, type_rows, token_probability_updates, luma_mode_probabilities, chroma, seven_bits, vector_renewed, component_rows, vectors};
+ghost use Rattle.vp_head.specs.Probabilities.{context_rows, band_rows, type_rows, token_probability_updates};
+ghost use Rattle.vp_head.specs.Probabilities.{luma_mode_probabilities, chroma, seven_bits, vector_renewed};
+ghost use Rattle.vp_head.specs.Probabilities.{component_rows, vectors};
 
 use crate::rows::{number, read_renewed};
 use vp_bool::BoolDecoder;

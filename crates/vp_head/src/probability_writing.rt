@@ -3,7 +3,8 @@
 ghost use Rattle.std.specs.Prelude.{◌≡◌, ℕ, true, false, slice_index, OnOk};
 ghost use Rattle.vp_bool.specs.Reader.{when};
 ghost use Rattle.vp_bool.specs.Writing.{Writes};
-ghost use Rattle.vp_head.specs.Probabilities.{context_rows, band_rows, type_rows, token_probability_updates, luma_mode_probabilities, chroma, vector_renewed, component_rows, vectors};
+ghost use Rattle.vp_head.specs.Probabilities.{context_rows, band_rows, type_rows, token_probability_updates};
+ghost use Rattle.vp_head.specs.Probabilities.{luma_mode_probabilities, chroma, vector_renewed, component_rows, vectors};
 ghost use Rattle.vp_head.specs.Spelled.{IsVectorProbability, AreVectorProbabilities};
 
 use crate::row_writing::write_renewed;

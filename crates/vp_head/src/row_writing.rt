@@ -6,8 +6,11 @@ ghost use Rattle.vp_bool.specs.Writing.{Writes};
 ghost use Rattle.vp_head.specs.declared.fields.SegmentValues.{SegmentValues};
 ghost use Rattle.vp_head.specs.declared.fields.SignBiases.{SignBiases};
 ghost use Rattle.vp_head.specs.Rows.{flag, optional_signed, renewed, four_signed};
-ghost use Rattle.vp_head.specs.Header.{segment_values, tree_probabilities, segmentation, filter, level_deltas, quantiser_indices, copy_of, copy, refreshes, skip, reference_probabilities, no_references};
-ghost use Rattle.vp_head.specs.Spelled.{IsSigned, AreSigned, AreSegmentValues, IsSegmentation, IsFilter, AreDeltas, IsQuantiser, AreUpdates};
+ghost use Rattle.vp_head.specs.Header.{segment_values, tree_probabilities, segmentation, filter, level_deltas};
+ghost use Rattle.vp_head.specs.Header.{quantiser_indices, copy_of, copy, refreshes, skip, reference_probabilities};
+ghost use Rattle.vp_head.specs.Header.{no_references};
+ghost use Rattle.vp_head.specs.Spelled.{IsSigned, AreSigned, AreSegmentValues, IsSegmentation, IsFilter, AreDeltas};
+ghost use Rattle.vp_head.specs.Spelled.{IsQuantiser, AreUpdates};
 
 use crate::fields::{
     Filter, LevelDeltas, QuantiserIndices, ReferenceCopy, ReferenceProbabilities, SegmentValues,
@@ -19,7 +22,8 @@ use vp_bool::BoolEncoder;
 
 /// A flag, where it is asked for.
 pub(crate) fn write_flag_if(asked: bool, value: bool, e: &mut BoolEncoder) -> Result<(), AllocError>
-    ensures { OnOk result ((otherwise : Bool) → (asked ≡ false → value ≡ otherwise) → Writes (when asked flag otherwise) e.old e.new value) }
+    ensures { OnOk result ((otherwise : Bool) → (asked ≡ false → value ≡ otherwise)
+        → Writes (when asked flag otherwise) e.old e.new value) }
 {
     if asked {
         e.write(value, 128)?;
@@ -96,7 +100,8 @@ fn write_segment_values_if(
     e: &mut BoolEncoder,
 ) -> Result<(), AllocError>
     requires { asked ≡ true → AreSegmentValues values.now }
-    ensures { OnOk result ((kept : SegmentValues) → (asked ≡ false → values.now ≡ kept) → Writes (when asked segment_values kept) e.old e.new values.now) }
+    ensures { OnOk result ((kept : SegmentValues) → (asked ≡ false → values.now ≡ kept)
+        → Writes (when asked segment_values kept) e.old e.new values.now) }
 {
     if asked {
         write_segment_values(values, e)?;
@@ -118,7 +123,8 @@ fn write_tree_probabilities_if(
     e: &mut BoolEncoder,
 ) -> Result<(), AllocError>
     requires { asked ≡ false → probabilities.now ≡ 255 ∷ 255 ∷ 255 ∷ [] }
-    ensures { OnOk result (Writes (when asked tree_probabilities (255 ∷ 255 ∷ 255 ∷ [])) e.old e.new probabilities.now) }
+    ensures { OnOk result (Writes (when asked tree_probabilities (255 ∷ 255 ∷ 255
+        ∷ [])) e.old e.new probabilities.now) }
 {
     if !asked {
         return Ok(());
@@ -227,7 +233,8 @@ pub(crate) fn write_refreshes(
     e: &mut BoolEncoder,
 ) -> Result<(), AllocError>
     requires { AreUpdates key r.now.updates }
-    ensures { OnOk result ((kept : SignBiases) → (key ≡ true → r.now.biases ≡ kept) → Writes (refreshes key kept) e.old e.new r.now) }
+    ensures { OnOk result ((kept : SignBiases) → (key ≡ true → r.now.biases ≡ kept)
+        → Writes (refreshes key kept) e.old e.new r.now) }
 {
     write_flag_if(!key, r.updates.refresh_golden, e)?;
     write_flag_if(!key, r.updates.refresh_alt, e)?;

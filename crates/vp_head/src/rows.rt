@@ -4,7 +4,9 @@ ghost use Rattle.std.specs.Prelude.{◌≡◌, ◌<◌, ◌≤◌, ◌^◌, ℕ,
 ghost use Rattle.vp_bool.specs.Bools.{literal};
 ghost use Rattle.vp_bool.specs.Reader.{when};
 ghost use Rattle.vp_head.specs.Rows.{flag, magnitude, optional_signed, renewed, four_signed};
-ghost use Rattle.vp_head.specs.Header.{segment_values, tree_probabilities, segmentation, filter, level_deltas, quantiser_indices, copy_of, copy, refreshes, skip, reference_probabilities, no_references};
+ghost use Rattle.vp_head.specs.Header.{segment_values, tree_probabilities, segmentation, filter, level_deltas};
+ghost use Rattle.vp_head.specs.Header.{quantiser_indices, copy_of, copy, refreshes, skip, reference_probabilities};
+ghost use Rattle.vp_head.specs.Header.{no_references};
 
 use crate::fields::{
     Filter, LevelDeltas, QuantiserIndices, ReferenceCopy, ReferenceProbabilities, ReferenceUpdates,

@@ -15,7 +15,8 @@ is_named name field = str_eq_ignore_ascii_case field.0 name
 -- the field announces a body: a Transfer-Encoding, or a Content-Length other than 0
 abbrev pub is_body_field : Pair → Bool
 is_body_field field =
-    is_named (codes "transfer-encoding") field || (is_named (codes "content-length") field && not (bytes_eq field.1 (codes "0")))
+    is_named (codes "transfer-encoding") field || (is_named (codes "content-length") field
+    && not (bytes_eq field.1 (codes "0")))
 
 -- more than one Host, or none in HTTP/1.1
 abbrev pub is_host_wrong : ℕ → ℕ → Bool

@@ -1,12 +1,14 @@
 -- Decimal numbers in paths and fields; a packet's number has no leading zeros and is below 2^32.
-use Rattle.std.specs.Prelude.{ℕ, List, Bool, ◌&&◌, ◌||◌, ◌==◌, ◌^◌, ◌-◌, not, min, nat_lt, nat_le, length, slice_index, Option, Some, None, if◌then◌else◌}
+use Rattle.std.specs.Prelude.{ℕ, List, Bool, ◌&&◌, ◌||◌, ◌==◌, ◌^◌, ◌-◌, not, min, nat_lt, nat_le, length, slice_index}
+use Rattle.std.specs.Prelude.{Option, Some, None, if◌then◌else◌}
 use Rattle.std.specs.Char.{is_ascii_digit}
 use Rattle.std.specs.List.{list_all}
 use Rattle.std.specs.Str.Parse.{digits_value}
 
 -- a number of one digit or more; one over the greatest 64-bit number counts as that
 abbrev pub count_in : List ℕ → Option ℕ
-count_in text = if list_all is_ascii_digit text && nat_lt 0 (length text) then Some (min (digits_value 10 text) (2 ^ 64 - 1)) else None
+count_in text = if list_all is_ascii_digit text && nat_lt 0 (length text) then Some
+    (min (digits_value 10 text) (2 ^ 64 - 1)) else None
 
 -- no digit stands behind a leading zero
 abbrev pub starts_plainly : List ℕ → Bool

@@ -1,6 +1,7 @@
 -- Byte ranges (RFC 9110, chapter 14): which requests have one, and the part of the body that it selects. Pinned by the
 -- tests `byte_ranges` and `other_ranges`.
-use Rattle.std.specs.Prelude.{ℕ, ◌≤◌, ◌<◌, ◌-◌, ◌+◌, ◌==◌, ◌&&◌, ◌||◌, min, nat_lt, nat_le, Bool, List, length, take, drop, position, codes, count_by, Option, Some, None, if◌then◌else◌}
+use Rattle.std.specs.Prelude.{ℕ, ◌≤◌, ◌<◌, ◌-◌, ◌+◌, ◌==◌, ◌&&◌, ◌||◌, min, nat_lt, nat_le, Bool, List, length, take}
+use Rattle.std.specs.Prelude.{drop, position, codes, count_by, Option, Some, None, if◌then◌else◌}
 use Rattle.std.specs.Str.{str_eq_ignore_ascii_case}
 use Rattle.vp_heads.specs.declared.ranges.Range.{Range}
 use Rattle.vp_heads.specs.declared.ranges.Range.TheVariants.{Whole, Between, From, Last}
@@ -42,7 +43,8 @@ range_behind text = range_at (position is_dash text) text
 -- the value is `bytes=`, in any case, and one range
 abbrev pub range_of : List ℕ → Range
 range_of value =
-    if nat_le 6 (length value) && str_eq_ignore_ascii_case (take 6 value) (codes "bytes=") then range_behind (drop 6 value) else Whole
+    if nat_le 6 (length value) && str_eq_ignore_ascii_case (take 6 value) (codes "bytes=") then range_behind
+    (drop 6 value) else Whole
 
 -- a range counts where there is one Range field and no If-Range
 abbrev pub range_in : List Pair → Range
@@ -50,10 +52,12 @@ range_in fields =
     if count_by (is_named (codes "range")) fields == 1 && count_by (is_named (codes "if-range")) fields == 0
     then range_of (value_of (codes "range") fields) else Whole
 
--- the part of a body of this many bytes, by its first and its last byte; a range that ends before it begins doesn't count
+-- the part of a body of this many bytes, by its first and its last byte; a range that ends before it begins doesn't
+-- count
 abbrev pub selected_part : Range → ℕ → Part
 selected_part Whole size = All
-selected_part (Between a b) size = if nat_lt b a then All else if nat_lt a size then Slice a (min b (size - 1)) else Beyond
+selected_part (Between a b) size = if nat_lt b a then All else if nat_lt a size then Slice a
+    (min b (size - 1)) else Beyond
 selected_part (From a) size = if nat_lt a size then Slice a (size - 1) else Beyond
 selected_part (Last n) size = if n == 0 || size == 0 then Beyond else Slice (size - min n size) (size - 1)
 

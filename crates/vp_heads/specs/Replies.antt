@@ -33,7 +33,8 @@ octets = codes "application/octet-stream"
 abbrev pub closing_line : Bool → List ℕ
 closing_line closing = if closing then codes "Connection: close\r\n" else []
 
--- the lines before a body of so many bytes; there may be one more line, and the one that says that the connection closes
+-- the lines before a body of so many bytes; there may be one more line, and the one that says that the connection
+-- closes
 unfoldable pub reply_head : ℕ → List ℕ → List ℕ → ℕ → List ℕ → List ℕ → List ℕ
 reply_head code phrase kind size more close =
     codes "HTTP/1.1 " ++ (decimal code ++ (codes " " ++ (phrase
@@ -44,7 +45,8 @@ reply_head code phrase kind size more close =
 -- a reply: the lines, and the body, where the request wants one
 abbrev pub reply_text : Request → Status → List ℕ → List ℕ → List ℕ → List ℕ
 reply_text request s kind more body =
-    reply_head (code_of s) (phrase_of s) kind (length body) more (closing_line request.closing) ++ (if request.head_only then [] else body)
+    reply_head (code_of s) (phrase_of s) kind (length body) more (closing_line request.closing)
+    ++ (if request.head_only then [] else body)
 
 -- the body of an error: its phrase, as a line
 abbrev pub phrase_line : Status → List ℕ
@@ -69,7 +71,8 @@ error_text request s = reply_text request s plain_text (allowing s) (phrase_line
 
 abbrev pub range_line : ℕ → ℕ → ℕ → List ℕ
 range_line first last size =
-    codes "Content-Range: bytes " ++ (decimal first ++ (codes "-" ++ (decimal last ++ (codes "/" ++ (decimal size ++ codes "\r\n")))))
+    codes "Content-Range: bytes " ++ (decimal first ++ (codes "-"
+    ++ (decimal last ++ (codes "/" ++ (decimal size ++ codes "\r\n")))))
 
 abbrev pub no_range_line : ℕ → List ℕ
 no_range_line size = codes "Content-Range: bytes */" ++ (decimal size ++ codes "\r\n")
@@ -80,7 +83,8 @@ part_text All request body = reply_text request status.Good octets [] body
 part_text (Slice first last) request body =
     reply_text request status.Partial octets (range_line first last (length body)) (slice_of first last body)
 part_text Beyond request body =
-    reply_text request status.RangeNotSatisfiable plain_text (no_range_line (length body)) (phrase_line status.RangeNotSatisfiable)
+    reply_text request status.RangeNotSatisfiable plain_text (no_range_line (length body))
+    (phrase_line status.RangeNotSatisfiable)
 
 -- what was found for a request
 pub data Content : Type 0 where

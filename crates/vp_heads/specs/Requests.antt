@@ -1,6 +1,7 @@
 -- What a request head asks for, or the error to answer, with the checks in order. Pinned by the tests
 -- `method_and_host_refused` and `head_requests`.
-use Rattle.std.specs.Prelude.{◌≡◌, ◌⊎◌, ◌==◌, ◌||◌, not, ℕ, Bool, true, false, nat_eq, List, map, codes, count_by, if◌then◌else◌}
+use Rattle.std.specs.Prelude.{◌≡◌, ◌⊎◌, ◌==◌, ◌||◌, not, ℕ, Bool, true, false, nat_eq, List, map, codes, count_by}
+use Rattle.std.specs.Prelude.{if◌then◌else◌}
 use Rattle.std.specs.List.{list_any, starts_with, before_first}
 use Rattle.std.specs.Str.{bytes_eq}
 use Rattle.httparse.specs.Grammar.{RequestHead}
@@ -24,7 +25,8 @@ is_head method = bytes_eq method (codes "HEAD")
 abbrev pub is_question : ℕ → Bool
 is_question b = b == 63
 
--- what is wanted, by the method, the target, the version, how many Host fields there are, and whether a body is announced
+-- what is wanted, by the method, the target, the version, how many Host fields there are, and whether a body is
+-- announced
 unfoldable pub wanted_by : List (List ℕ) → List ℕ → List ℕ → ℕ → ℕ → Bool → Resource
 wanted_by names method target minor hosts body =
     if body then Bad else
@@ -53,7 +55,8 @@ request_by wanted method minor closing range = record {
 -- what a head asks for, by its parts
 abbrev pub asked_by : List (List ℕ) → List ℕ → List ℕ → ℕ → List Pair → Request
 asked_by names method target minor fields =
-    request_by (wanted_by names method target minor (count_by (is_named (codes "host")) fields) (list_any is_body_field fields))
+    request_by (wanted_by names method target minor (count_by (is_named (codes "host")) fields)
+    (list_any is_body_field fields))
     method minor (list_any is_closing_field fields) (range_in fields)
 
 -- what a head asks for

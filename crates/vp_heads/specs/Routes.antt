@@ -1,5 +1,6 @@
 -- The four routes of the server, and the resource that a path names. Pinned by the test `serve_one_frame`.
-use Rattle.std.specs.Prelude.{◌≡◌, ◌==◌, ℕ, Bool, List, [], drop, position, Option, Some, None, Result, Ok, Err, codes, option_map, if◌then◌else◌}
+use Rattle.std.specs.Prelude.{◌≡◌, ◌==◌, ℕ, Bool, List, [], drop, position, Option, Some, None, Result, Ok, Err, codes}
+use Rattle.std.specs.Prelude.{option_map, if◌then◌else◌}
 use Rattle.std.specs.List.{before_first, after_first}
 use Rattle.std.specs.Str.{is_utf8, bytes_eq}
 use Rattle.matchit.specs.Rows.{RowsOf}
@@ -77,8 +78,10 @@ abbrev pub on_page : Option Page → List (List ℕ) → List ℕ → Resource
 on_page None names path = Missing
 on_page (Some page.Streams) names path = Streams
 on_page (Some page.Info) names path = info_route (name_index names (name_in path))
-on_page (Some page.Frame) names path = frame_route (name_index names (name_in path)) (packet_number (number_segment path))
-on_page (Some page.Video) names path = video_route (name_index names (name_in path)) (packet_number (number_segment path))
+on_page (Some page.Frame) names path = frame_route (name_index names (name_in path))
+    (packet_number (number_segment path))
+on_page (Some page.Video) names path = video_route (name_index names (name_in path))
+    (packet_number (number_segment path))
 
 unfoldable pub at_path : List (List ℕ) → List ℕ → Resource
 at_path names path = on_page (page_at path) names path

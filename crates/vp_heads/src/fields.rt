@@ -1,10 +1,12 @@
 //! What the fields of a head say.
 
-ghost use Rattle.std.specs.Prelude.{◌≡◌, ◌==◌, ◌<◌, ◌⊎◌, All, length, reverse, map, position, count_by, codes, IfSome, MatchOption};
+ghost use Rattle.std.specs.Prelude.{◌≡◌, ◌==◌, ◌<◌, ◌⊎◌, All, length, reverse, map, position, count_by, codes, IfSome};
+ghost use Rattle.std.specs.Prelude.{MatchOption};
 ghost use Rattle.std.specs.List.{list_any, position_or_len, before_first, after_first};
 ghost use Rattle.httparse.specs.Grammar.{skip_ows, trim_ows};
 ghost use Rattle.httparse.specs.Spans.{IsHeaderWithin, header_bytes};
-ghost use Rattle.vp_heads.specs.Fields.{is_named, is_body_field, is_comma, is_close, has_close, is_closing_field, value_of};
+ghost use Rattle.vp_heads.specs.Fields.{is_named, is_body_field, is_comma, is_close, has_close, is_closing_field};
+ghost use Rattle.vp_heads.specs.Fields.{value_of};
 
 use httparse::spans::HeaderSpan;
 

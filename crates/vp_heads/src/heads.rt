@@ -11,7 +11,8 @@ use httparse::spans::{HeaderSpan, RequestSpans, parse_request};
 /// Reads a whole head that ends where the bytes end.
 pub(crate) fn read_head(bytes: &[u8], room: &mut [HeaderSpan]) -> Option<RequestSpans>
     requires { length room.old ≡ 32 }
-    ensures head { IfSome result (λ spans. (h : RequestHead) × IsHeadOf bytes.now h × IsRequestAt bytes.now room.new spans h) }
+    ensures head { IfSome result (λ spans. (h : RequestHead) × IsHeadOf bytes.now h
+        × IsRequestAt bytes.now room.new spans h) }
     ensures within { IfSome result (IsRequestWithin bytes.now room.new) }
     ensures refused { result ≡ None → HasNoHead bytes.now }
 {

@@ -6,5 +6,6 @@ ghost use Rattle.vp_heads.specs.Requests.{IsAsked};
 
 /// The bytes of a head ask for one thing.
 pub fn heads_are_unique()
-    ensures { (names : List (List ℕ)) (bytes : List ℕ) (a b : Request) → IsAsked names bytes a → IsAsked names bytes b → a ≡ b }
+    ensures { (names : List (List ℕ)) (bytes : List ℕ) (a b : Request) → IsAsked names bytes a → IsAsked names bytes b
+        → a ≡ b }
 {}

@@ -1,8 +1,11 @@
 //! Replies.
 
-ghost use Rattle.std.specs.Prelude.{◌≡◌, ◌++◌, ◌+◌, ◌-◌, ◌<◌, ◌≤◌, ◌∷◌, [], length, take, drop, IfOk, OnOk, codes, true};
+ghost use Rattle.std.specs.Prelude.{◌≡◌, ◌++◌, ◌+◌, ◌-◌, ◌<◌, ◌≤◌, ◌∷◌, [], length, take, drop, IfOk, OnOk, codes};
+ghost use Rattle.std.specs.Prelude.{true};
 ghost use Rattle.std.specs.String.{string_bytes};
-ghost use Rattle.vp_heads.specs.Replies.{code_of, phrase_of, phrase_line, plain_text, octets, closing_line, reply_head, reply_text, error_text, allowing, range_line, no_range_line, reply_to, part_text, too_long, Lines, Pixels, Faulted, Failed};
+ghost use Rattle.vp_heads.specs.Replies.{code_of, phrase_of, phrase_line, plain_text, octets, closing_line, reply_head};
+ghost use Rattle.vp_heads.specs.Replies.{reply_text, error_text, allowing, range_line, no_range_line, reply_to};
+ghost use Rattle.vp_heads.specs.Replies.{part_text, too_long, Lines, Pixels, Faulted, Failed};
 ghost use Rattle.vp_heads.specs.Ranges.{slice_of};
 
 use crate::buffer::Buffer;
@@ -193,7 +196,8 @@ fn put_no_part(
     out: &mut Buffer,
 ) -> Result<(), AllocError>
     ensures { OnOk result (out.new ≡ out.old
-        ++ reply_text request Status.RangeNotSatisfiable plain_text (no_range_line size) (phrase_line Status.RangeNotSatisfiable)) }
+        ++ reply_text request Status.RangeNotSatisfiable plain_text (no_range_line size)
+        (phrase_line Status.RangeNotSatisfiable)) }
 {
     let status = Status::RangeNotSatisfiable;
     let line = no_range_text(alloc, size)?;

@@ -73,7 +73,8 @@ fn is_last(wanted: Resource, minor: u8, closing: bool) -> bool
 /// The range that counts for a method.
 fn range_for(method: &[u8], bytes: &[u8], fields: &[HeaderSpan]) -> Range
     requires { All (IsHeaderWithin (length bytes.now)) fields.now }
-    ensures { result ≡ (if names_get method.now then range_is (map (header_bytes bytes.now) fields.now) else Range.Whole) }
+    ensures { result ≡ (if names_get method.now then range_is
+        (map (header_bytes bytes.now) fields.now) else Range.Whole) }
 {
     if is_get(method) {
         range_in(bytes, fields)

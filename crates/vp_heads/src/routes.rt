@@ -1,8 +1,10 @@
 //! Routes.
 
-ghost use Rattle.std.specs.Prelude.{◌≡◌, ◌==◌, ◌+◌, ◌<◌, ℕ, List, [], Option, Some, None, IfOk, OnOk, IfSome, length, position, drop};
+ghost use Rattle.std.specs.Prelude.{◌≡◌, ◌==◌, ◌+◌, ◌<◌, ℕ, List, [], Option, Some, None, IfOk, OnOk, IfSome, length};
+ghost use Rattle.std.specs.Prelude.{position, drop};
 ghost use Rattle.std.specs.List.{before_first, after_first, position_or_len};
-ghost use Rattle.vp_heads.specs.Routes.{our_routes, page_at, with_route, HasPlace, is_slash, name_in, number_segment, at_path};
+ghost use Rattle.vp_heads.specs.Routes.{our_routes, page_at, with_route, HasPlace, is_slash, name_in, number_segment};
+ghost use Rattle.vp_heads.specs.Routes.{at_path};
 ghost use Rattle.vp_heads.specs.Routes.{name_index as place_in};
 
 use crate::numbers::packet;

@@ -37,7 +37,8 @@ AnswersHeads streams [] bytes v =
 AnswersHeads streams (h ∷ hs) bytes v =
     (rest : List ℕ) × (reply : List ℕ) × IsRequestHead h × (bytes ≡ h ++ rest)
     × ((IsReply streams h (reply, true) × (hs ≡ []) × (v ≡ (gone, reply)))
-    ⊎ (IsReply streams h (reply, false) × (w : ConnectionState × List ℕ) × AnswersHeads streams hs rest w × (v ≡ (w.0, reply ++ w.1))))
+    ⊎ (IsReply streams h (reply, false) × (w : ConnectionState × List ℕ) × AnswersHeads streams hs rest w
+    × (v ≡ (w.0, reply ++ w.1))))
 
 -- what is served to a piece, behind less than a head, is the answer to the heads of both
 abbrev pub IsCutIntoHeads : Type 0
@@ -47,7 +48,8 @@ IsCutIntoHeads = (streams : Streams) (pending piece : List ℕ) (v : ConnectionS
 
 -- what is kept of a connection that isn't closed is less than a head
 abbrev pub KeepsPartial : Option ConnectionState → Type 0
-KeepsPartial l = (state_of_connection : ConnectionState) → l ≡ Some state_of_connection → state_of_connection.closed ≡ false → IsPartial state_of_connection.pending
+KeepsPartial l = (state_of_connection : ConnectionState) → l ≡ Some state_of_connection
+    → state_of_connection.closed ≡ false → IsPartial state_of_connection.pending
 
 abbrev pub AllKeepPartial : HubState → Type 0
 AllKeepPartial s = (c : ℕ) → KeepsPartial (link_of c s.connections)

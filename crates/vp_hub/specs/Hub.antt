@@ -1,6 +1,8 @@
 -- The server as a state machine: streams and connections, and the effect and answer of each event. Pinned by the tests
 -- `settings_and_events_refused`, `feed_between_bytes` and `head_too_long`.
-use Rattle.std.specs.Prelude.{◌≡◌, ◌≢◌, ◌==◌, ◌<◌, ◌≤◌, slice_index_or, not, ℕ, nat_lt, nat_eq, Bool, true, false, codes, List, [], ◌∷◌, ◌++◌, length, map, filter, Option, Some, None, Result, Ok, Err, IsOk, slice_get, slice_set, if◌then◌else◌}
+use Rattle.std.specs.Prelude.{◌≡◌, ◌≢◌, ◌==◌, ◌<◌, ◌≤◌, slice_index_or, not, ℕ, nat_lt, nat_eq, Bool, true, false}
+use Rattle.std.specs.Prelude.{codes, List, [], ◌∷◌, ◌++◌, length, map, filter, Option, Some, None, Result, Ok, Err}
+use Rattle.std.specs.Prelude.{IsOk, slice_get, slice_set, if◌then◌else◌}
 use Rattle.std.specs.Borrow.{Bor}
 use Rattle.std.specs.Option.{option_map}
 use Rattle.std.specs.List.{ends_with}
@@ -24,7 +26,8 @@ use Rattle.vp_hub.specs.declared.connection.ConnectionState.{ConnectionState}
 use Rattle.vp_hub.specs.declared.connection.Connection.{Connection}
 use Rattle.vp_hub.specs.Pages.{Streams, IsReply}
 use Rattle.vp_hub.specs.declared.event.HubFault.{HubFault}
-use Rattle.vp_hub.specs.declared.event.HubFault.TheVariants.{UnknownStream, Ended, UnknownConn, AlreadyOpen, TooMany, Failed, Memory}
+use Rattle.vp_hub.specs.declared.event.HubFault.TheVariants.{UnknownStream, Ended, UnknownConn, AlreadyOpen, TooMany}
+use Rattle.vp_hub.specs.declared.event.HubFault.TheVariants.{Failed, Memory}
 
 -- the bytes end as a head does
 unfoldable pub ends_head : List ℕ → Bool
@@ -40,7 +43,8 @@ abbrev pub Settles : Streams → List ℕ → List ℕ → ConnectionState × Li
 Settles streams pending out w =
     Chosen (ends_head pending)
     ((r : List ℕ × Bool) × IsReply streams pending r × (w ≡ (record { pending = []; closed = r.1 }, out ++ r.0)))
-    (w ≡ (if nat_lt (length pending) 8192 then (record { pending = pending; closed = false }, out) else (record { pending = []; closed = true }, out ++ too_long)))
+    (w ≡ (if nat_lt (length pending) 8192 then (record { pending = pending; closed = false }, out) else
+    (record { pending = []; closed = true }, out ++ too_long)))
 
 abbrev pub TakesByte : Streams → ℕ → ConnectionState × List ℕ → ConnectionState × List ℕ → Type 0
 TakesByte streams b v w = Chosen v.0.closed (w ≡ v) (Settles streams (v.0.pending ++ b ∷ []) v.1 w)
@@ -79,7 +83,8 @@ pub record HubState : Type 0 where
 pub one_is_in_range : (0 < 1) × (1 ≤ 4096)
 one_is_in_range = (lit< tt, lit≤ tt)
 
--- what a stream is held to: the hub's limits but for the cache's number, which is left at 1, since a stream keeps no pictures
+-- what a stream is held to: the hub's limits but for the cache's number, which is left at 1, since a stream keeps no
+-- pictures
 abbrev pub stream_limits : Limits → Limits
 stream_limits limits = record {
   pixels = limits.pixels;
@@ -97,7 +102,10 @@ abbrev pub new_source : Limits → Source
 new_source limits = record { stream = fresh_stream (stream_limits limits); end = ending.Open }
 
 abbrev pub initial_hub : List (List ℕ) → Limits → HubState
-initial_hub names limits = record { streams = record { names = names; sources = map (λ _. new_source limits) names }; connections = [] }
+initial_hub names limits = record {
+  streams = record { names = names; sources = map (λ _. new_source limits) names };
+  connections = [];
+}
 
 -- what is kept of the connection of a number
 abbrev pub link_of : ℕ → List Connection → Option ConnectionState
@@ -109,7 +117,10 @@ without_connection c xs = filter (λ x. not (x.number == c)) xs
 
 abbrev pub with_link : ℕ → ConnectionState → List Connection → List Connection
 with_link c state_of_connection [] = []
-with_link c state_of_connection (x ∷ xs) = if x.number == c then record { number = c; state_of_connection = state_of_connection } ∷ xs else x ∷ with_link c state_of_connection xs
+with_link c state_of_connection (x ∷ xs) = if x.number == c then record {
+  number = c;
+  state_of_connection = state_of_connection;
+} ∷ xs else x ∷ with_link c state_of_connection xs
 
 -- a stream after a piece, and the answer: its end is told, or it met a fault, or it takes the piece
 abbrev pub fed_by : Option FileFault → List ℕ → Source → Source × Outcome
@@ -122,19 +133,30 @@ fed_by (Some file_fault.Torn) piece source = (source, Err Failed)
 fed_by None piece source = (record source { stream = after_piece source.stream piece }, Ok no_bytes)
 
 abbrev pub fed : List ℕ → Source → Source × Outcome
-fed piece source = if is_open_end source.end then fed_by (stream_refusal source.stream) piece source else (source, Err Ended)
+fed piece source = if is_open_end source.end then fed_by (stream_refusal source.stream) piece source else
+    (source, Err Ended)
 
 -- a stream after its end is told, and the answer
 abbrev pub ended_source : Source → Source × Outcome
 ended_source source =
     if is_open_end source.end
-    then (record { stream = stream_after_end source.stream; end = ending_by (finish_answer source.stream.reading) }, Ok no_bytes)
+    then (
+      record {
+        stream = stream_after_end source.stream;
+        end = ending_by
+            (finish_answer source.stream.reading);
+      },
+      Ok no_bytes,
+    )
     else (source, Err Ended)
 
 -- the same at the stream of a name
 abbrev pub at_source : (Source → Source × Outcome) → ℕ → Streams → Option Source → Streams × Outcome
 at_source f k streams None = (streams, Err UnknownStream)
-at_source f k streams (Some source) = (record streams { sources = slice_set streams.sources k (f source).0 }, (f source).1)
+at_source f k streams (Some source) = (
+  record streams { sources = slice_set streams.sources k (f source).0 },
+  (f source).1,
+)
 
 abbrev pub at_place : (Source → Source × Outcome) → Streams → Option ℕ → Streams × Outcome
 at_place f streams None = (streams, Err UnknownStream)
@@ -148,7 +170,8 @@ abbrev pub Gets : Streams → List ℕ → ConnectionState → ConnectionState �
 Gets streams piece state_of_connection r =
     Chosen state_of_connection.closed
     (r ≡ (state_of_connection, Err Failed))
-    ((w : ConnectionState × List ℕ) × Serves streams piece (state_of_connection, []) w × (r ≡ (w.0, Ok (record { bytes = w.1; close = w.0.closed }))))
+    ((w : ConnectionState × List ℕ) × Serves streams piece (state_of_connection, []) w
+    × (r ≡ (w.0, Ok (record { bytes = w.1; close = w.0.closed }))))
 
 abbrev pub with_streams : HubState → Streams × Outcome → HubState × Outcome
 with_streams s r = (record { streams = r.0; connections = s.connections }, r.1)
@@ -161,11 +184,16 @@ new_link = record { pending = []; closed = false }
 
 abbrev pub opened : ℕ → List Connection → Option ConnectionState → List Connection × Outcome
 opened c xs (Some state_of_connection) = (xs, Err AlreadyOpen)
-opened c xs None = if nat_lt (length xs) 64 then (xs ++ record { number = c; state_of_connection = new_link } ∷ [], Ok no_bytes) else (xs, Err TooMany)
+opened c xs None = if nat_lt (length xs) 64 then (
+  xs ++ record { number = c; state_of_connection = new_link }
+      ∷ [],
+  Ok no_bytes,
+) else (xs, Err TooMany)
 
 abbrev pub Asks : Streams → ℕ → List ℕ → List Connection → Option ConnectionState → List Connection × Outcome → Type 0
 Asks streams c piece xs None r = r ≡ (xs, Err UnknownConn)
-Asks streams c piece xs (Some state_of_connection) r = (g : ConnectionState × Outcome) × Gets streams piece state_of_connection g × (r ≡ (with_link c g.0 xs, g.1))
+Asks streams c piece xs (Some state_of_connection) r = (g : ConnectionState × Outcome)
+    × Gets streams piece state_of_connection g × (r ≡ (with_link c g.0 xs, g.1))
 
 abbrev pub is_open : Option ConnectionState → Bool
 is_open None = false
@@ -180,7 +208,8 @@ abbrev pub HubStep : Event → HubState → HubState × Outcome → Type 0
 HubStep (Feed name piece) s r = r ≡ with_streams s (at_name (fed piece) name s.streams)
 HubStep (End name) s r = r ≡ with_streams s (at_name ended_source name s.streams)
 HubStep (Open c) s r = r ≡ with_connections s (opened c s.connections (link_of c s.connections))
-HubStep (Bytes c piece) s r = Asks s.streams c piece s.connections (link_of c s.connections) (r.0.connections, r.1) × (r.0.streams ≡ s.streams)
+HubStep (Bytes c piece) s r = Asks s.streams c piece s.connections (link_of c s.connections) (r.0.connections, r.1)
+    × (r.0.streams ≡ s.streams)
 HubStep (Shut c) s r = r ≡ with_connections s (shut c s.connections (link_of c s.connections))
 
 -- the event would be answered, and not refused
@@ -193,7 +222,10 @@ IsFine (Shut c) s = ⊥
 
 -- where memory is refused: a connection whose bytes came is closed
 abbrev pub after_memory : Event → HubState → HubState
-after_memory (Bytes c piece) s = record { streams = s.streams; connections = with_link c (record { pending = []; closed = true }) s.connections }
+after_memory (Bytes c piece) s = record {
+  streams = s.streams;
+  connections = with_link c (record { pending = []; closed = true }) s.connections;
+}
 after_memory (Feed name piece) s = s
 after_memory (End name) s = s
 after_memory (Open c) s = s
@@ -213,7 +245,8 @@ pub record IsPlaceOf (c : ℕ) (xs : List Connection) (i : ℕ) : Type 0 where
   pub there : i < length xs
   pub number : (d : Connection) → (slice_index_or xs i d).number ≡ c
   pub state_of_connection : (d : Connection) → link_of c xs ≡ Some (slice_index_or xs i d).state_of_connection
-  pub set : (state_of_connection : ConnectionState) → slice_set xs i (record { number = c; state_of_connection = state_of_connection }) ≡ with_link c state_of_connection xs
+  pub set : (state_of_connection : ConnectionState) → slice_set xs i
+      (record { number = c; state_of_connection = state_of_connection }) ≡ with_link c state_of_connection xs
 
 -- each kept picture is the answer of the stream that its number says
 abbrev pub AreKept : List Source → List CacheEntry → Type 0

@@ -3,7 +3,8 @@ use Rattle.std.specs.Prelude.{ℕ, ◌==◌, ◌&&◌, ◌||◌, not, nat_le, Bo
 use Rattle.std.specs.List.{list_all, list_any}
 use Rattle.std.specs.Str.{bytes_eq}
 use Rattle.vp_hub.specs.declared.event.HubFault.{HubFault}
-use Rattle.vp_hub.specs.declared.event.HubFault.TheVariants.{UnknownStream, Ended, UnknownConn, AlreadyOpen, TooMany, Failed, Memory}
+use Rattle.vp_hub.specs.declared.event.HubFault.TheVariants.{UnknownStream, Ended, UnknownConn, AlreadyOpen, TooMany}
+use Rattle.vp_hub.specs.declared.event.HubFault.TheVariants.{Failed, Memory}
 use Rattle.vp_hub.specs.declared.session.ServeFault.{ServeFault}
 use Rattle.vp_hub.specs.declared.session.ServeFault.TheVariants.{Hub, Device, ReadTurns}
 
@@ -21,7 +22,8 @@ are_distinct (name ∷ more) = not (list_any (λ x. bytes_eq x name) more) && ar
 
 -- 1 to 16 distinct names
 abbrev pub are_names : List (List ℕ) → Bool
-are_names names = nat_le 1 (length names) && (nat_le (length names) 16 && (list_all is_name names && are_distinct names))
+are_names names = nat_le 1 (length names) && (nat_le (length names) 16
+    && (list_all is_name names && are_distinct names))
 
 -- ---- the names of faults, as they are told
 

@@ -1,6 +1,7 @@
 -- The content of each resource: the list of names, a stream's information, and a picture as I420 or YUV4MPEG2. Pinned
 -- by the tests `serve_one_frame`, `streams_are_listed`, `info_of_a_stream` and `a_picture_as_video`.
-use Rattle.std.specs.Prelude.{◌≡◌, ℕ, Bool, true, false, List, [], ◌∷◌, ◌++◌, length, codes, decimal, Option, Some, None, slice_get}
+use Rattle.std.specs.Prelude.{◌≡◌, ℕ, Bool, true, false, List, [], ◌∷◌, ◌++◌, length, codes, decimal, Option, Some}
+use Rattle.std.specs.Prelude.{None, slice_get}
 use Rattle.std.specs.List.{flat_map}
 use Rattle.vp_ivf.specs.declared.fault.FileFault.{FileFault}
 use Rattle.vp_ivf.specs.declared.packet.IvfHead.{IvfHead}
@@ -41,11 +42,13 @@ state_by Open None = codes "open"
 abbrev pub head_lines : Option IvfHead → List ℕ
 head_lines None = []
 head_lines (Some h) =
-    codes "size " ++ (decimal h.w ++ (codes "x" ++ (decimal h.h ++ (codes "\nrate " ++ (decimal h.rate ++ (codes "/" ++ (decimal h.scale ++ codes "\n")))))))
+    codes "size " ++ (decimal h.w ++ (codes "x" ++ (decimal h.h
+    ++ (codes "\nrate " ++ (decimal h.rate ++ (codes "/" ++ (decimal h.scale ++ codes "\n")))))))
 
 unfoldable pub info_text : Source → List ℕ
 info_text s =
-    codes "state " ++ (state_by s.end (stream_refusal s.stream) ++ (codes "\npackets " ++ (decimal (length s.stream.reading.packets)
+    codes "state " ++ (state_by s.end (stream_refusal s.stream)
+    ++ (codes "\npackets " ++ (decimal (length s.stream.reading.packets)
     ++ (codes "\n" ++ head_lines s.stream.reading.head))))
 
 abbrev pub info_content : Option Source → Content
@@ -67,7 +70,8 @@ picture_by video head (Fault f) = Faulted (packet_fault_name f)
 
 abbrev pub picture_content : Bool → Option Source → ℕ → Content
 picture_content video None n = Failed NotFound
-picture_content video (Some s) n = picture_by video s.stream.reading.head (answer_at s.stream.limits s.stream.reading.packets n)
+picture_content video (Some s) n = picture_by video s.stream.reading.head
+    (answer_at s.stream.limits s.stream.reading.packets n)
 
 -- what is found for what is wanted
 abbrev pub content_of : Streams → Resource → Content
@@ -82,4 +86,5 @@ content_of s (wanted.Video k n) = picture_content true (slice_get s.sources k) n
 -- the reply to a head, and whether it closes the connection
 unfoldable pub IsReply : Streams → List ℕ → List ℕ × Bool → Type 0
 IsReply s head r =
-    (request : Request) × IsAsked s.names head request × (r ≡ (reply_to request (content_of s request.wanted), request.closing))
+    (request : Request) × IsAsked s.names head request × (r ≡
+    (reply_to request (content_of s request.wanted), request.closing))

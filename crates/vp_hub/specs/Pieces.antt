@@ -1,5 +1,6 @@
 -- The statements of the laws on streams: a stream's bytes are its accepted pieces, and it ends at its accepted end.
-use Rattle.std.specs.Prelude.{◌≡◌, ◌==◌, ◌<◌, ◌++◌, ◌&&◌, ◌||◌, ℕ, Bool, true, false, List, [], ◌∷◌, length, Option, Some, None, Ok, Err, is_none, slice_get, if◌then◌else◌}
+use Rattle.std.specs.Prelude.{◌≡◌, ◌==◌, ◌<◌, ◌++◌, ◌&&◌, ◌||◌, ℕ, Bool, true, false, List, [], ◌∷◌, length, Option}
+use Rattle.std.specs.Prelude.{Some, None, Ok, Err, is_none, slice_get, if◌then◌else◌}
 use Rattle.vp_base.specs.declared.limits.Limits.{Limits}
 use Rattle.vp_ivf.specs.Ivf.{Contents}
 use Rattle.vp_ivf.specs.Reader.{finish_answer}
@@ -45,11 +46,13 @@ AreAcceptedPieces s es os new = (limits : Limits) (k : ℕ) (bytes : List ℕ) �
     → IsReadFrom limits k new.streams (bytes ++ all_accepted s.streams.names k es os)
 
 abbrev pub RunsAddAcceptedPieces : Type 0
-RunsAddAcceptedPieces = (s new : HubState) (es : List Event) (os : List Outcome) → IsRun s es os new → AreAcceptedPieces s es os new
+RunsAddAcceptedPieces = (s new : HubState) (es : List Event) (os : List Outcome) → IsRun s es os new
+    → AreAcceptedPieces s es os new
 
 -- the streams of a new hub have no bytes
 abbrev pub NewStreamsHaveNoBytes : Type 0
-NewStreamsHaveNoBytes = (names : List (List ℕ)) (limits : Limits) (k : ℕ) → k < length names → IsReadFrom (stream_limits limits) k (initial_hub names limits).streams []
+NewStreamsHaveNoBytes = (names : List (List ℕ)) (limits : Limits) (k : ℕ) → k < length names
+    → IsReadFrom (stream_limits limits) k (initial_hub names limits).streams []
 
 -- ---- the end
 
@@ -73,7 +76,8 @@ abbrev pub end_by : Bool → Contents → Ending
 end_by false reading = ending.Open
 end_by true reading = ending_by (finish_answer reading)
 
--- the stream at a place is what these bytes make of it, and its end is told, or it isn't; a fault that was met stays in its place
+-- the stream at a place is what these bytes make of it, and its end is told, or it isn't; a fault that was met stays
+-- in its place
 pub record IsEndedFrom (limits : Limits) (k : ℕ) (streams : Streams) (bytes : List ℕ) (told : Bool) : Type 0 where
   pub read : IsReadFrom limits k streams bytes
   pub end : read.source.end ≡ end_by told (reading_of limits bytes)
@@ -81,11 +85,14 @@ pub record IsEndedFrom (limits : Limits) (k : ℕ) (streams : Streams) (bytes : 
 
 -- after a run the end of each stream is told where it was, or where the run accepted an End of it, and nowhere else
 abbrev pub AreAcceptedEnds : HubState → List Event → List Outcome → HubState → Type 0
-AreAcceptedEnds s es os new = (limits : Limits) (k : ℕ) (bytes : List ℕ) (told : Bool) → IsEndedFrom limits k s.streams bytes told
-    → IsEndedFrom limits k new.streams (bytes ++ all_accepted s.streams.names k es os) (told || end_accepted s.streams.names k es os)
+AreAcceptedEnds s es os new = (limits : Limits) (k : ℕ) (bytes : List ℕ) (told : Bool)
+    → IsEndedFrom limits k s.streams bytes told
+    → IsEndedFrom limits k new.streams (bytes ++ all_accepted s.streams.names k es os) (told
+    || end_accepted s.streams.names k es os)
 
 abbrev pub RunsEndAtAcceptedEnds : Type 0
-RunsEndAtAcceptedEnds = (s new : HubState) (es : List Event) (os : List Outcome) → IsRun s es os new → AreAcceptedEnds s es os new
+RunsEndAtAcceptedEnds = (s new : HubState) (es : List Event) (os : List Outcome) → IsRun s es os new
+    → AreAcceptedEnds s es os new
 
 -- the streams of a new hub are open
 abbrev pub NewStreamsAreOpen : Type 0

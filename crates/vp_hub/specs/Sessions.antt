@@ -1,6 +1,7 @@
 -- One connection over a reader and a writer, from its opening to its end: what is read, answered and written. Pinned by
 -- the tests `serve_one_in_single_bytes` and `reads_are_not_refused`.
-use Rattle.std.specs.Prelude.{◌≡◌, ◌<◌, ◌≤◌, ◌^◌, ◌⊎◌, ℕ, Bool, true, false, List, [], ◌∷◌, ◌++◌, length, Option, Some, None, Result, Ok, Err, IsOk, All}
+use Rattle.std.specs.Prelude.{◌≡◌, ◌<◌, ◌≤◌, ◌^◌, ◌⊎◌, ℕ, Bool, true, false, List, [], ◌∷◌, ◌++◌, length, Option, Some}
+use Rattle.std.specs.Prelude.{None, Result, Ok, Err, IsOk, All}
 use Rattle.std.specs.List.{concat}
 use Rattle.std.specs.Option.{option_to_list}
 use Rattle.std.specs.Io.KnownBytes.{Appends, IsAtEnd}
@@ -49,11 +50,13 @@ Closes (Err fault) = ⊥
 
 -- the bytes are cut into heads, and this is the reply to them
 abbrev pub AreAnswered : Streams → List ℕ → List ℕ → Type 0
-AreAnswered streams bytes text = (heads : List (List ℕ)) × (kept : ConnectionState) × AnswersHeads streams heads bytes (kept, text)
+AreAnswered streams bytes text = (heads : List (List ℕ)) × (kept : ConnectionState)
+    × AnswersHeads streams heads bytes (kept, text)
 
 -- ---- how it ends
 
--- by the outcome of the last piece, where that is an end: it ends well at the reader's end, or behind a reply that closes;
+-- by the outcome of the last piece, where that is an end: it ends well at the reader's end, or behind a reply that
+-- closes;
 -- by a fault of the hub; where a read or a write failed; or behind 1,048,576 reads
 abbrev pub EndsBy : Result (Unit {0}) ServeFault → Option Outcome → ℕ → Option (List ℕ) → Type 0
 EndsBy (Ok u) None reads left = IsAtEnd left
@@ -73,14 +76,16 @@ WritesBy (Err ReadTurns) failed text before after = Appends before after text
 -- all that was read is answered; where the hub met a fault a front of it
 abbrev pub AnsweredBy : Result (Unit {0}) ServeFault → Streams → List ℕ → List ℕ → Type 0
 AnsweredBy (Ok u) streams bytes text = AreAnswered streams bytes text
-AnsweredBy (Err (Hub fault)) streams bytes text = (front back : List ℕ) × (bytes ≡ front ++ back) × AreAnswered streams front text
+AnsweredBy (Err (Hub fault)) streams bytes text = (front back : List ℕ) × (bytes ≡ front ++ back)
+    × AreAnswered streams front text
 AnsweredBy (Err Device) streams bytes text = AreAnswered streams bytes text
 AnsweredBy (Err ReadTurns) streams bytes text = AreAnswered streams bytes text
 
 -- ---- the whole
 
 -- between its coming and its going: what is read is handed in, each piece as an event; all outcomes but the last go on
-pub record IsOpenSession (c : ℕ) (old new : HubState) (o : Result (Unit {0}) ServeFault) (read : List ℕ) (left before after : Option (List ℕ)) (failed : Type 0) : Type 0 where
+pub record IsOpenSession (c : ℕ) (old new : HubState) (o : Result (Unit {0}) ServeFault) (read : List ℕ)
+    (left before after : Option (List ℕ)) (failed : Type 0) : Type 0 where
   pub pieces : List (List ℕ)
   pub going : List Outcome
   pub last : Option Outcome
@@ -93,7 +98,8 @@ pub record IsOpenSession (c : ℕ) (old new : HubState) (o : Result (Unit {0}) S
   pub answered : AnsweredBy o old.streams read (replies (going ++ option_to_list last))
 
 -- the connection comes, talks and goes
-pub record IsSession (c : ℕ) (old new : HubState) (o : Result (Unit {0}) ServeFault) (read : List ℕ) (left before after : Option (List ℕ)) (failed : Type 0) : Type 0 where
+pub record IsSession (c : ℕ) (old new : HubState) (o : Result (Unit {0}) ServeFault) (read : List ℕ)
+    (left before after : Option (List ℕ)) (failed : Type 0) : Type 0 where
   pub first : HubState
   pub last : HubState
   pub comes : IsStep old (Open c) (Ok no_bytes) first
@@ -106,7 +112,8 @@ IsTurnedAway c old new o = (fault : HubFault) × IsStep old (Open c) (Err fault)
 
 -- streams and connections are the same, but for what is kept of that connection
 abbrev pub StandsApart : ℕ → HubState → HubState → Type 0
-StandsApart c old new = (state_of_connection : ConnectionState) × (new ≡ record { streams = old.streams; connections = with_link c state_of_connection old.connections })
+StandsApart c old new = (state_of_connection : ConnectionState)
+    × (new ≡ record { streams = old.streams; connections = with_link c state_of_connection old.connections })
 
 -- ---- one read
 
@@ -115,7 +122,8 @@ abbrev pub GetsReply : ℕ → HubState → HubState → List ℕ → Reply → 
 GetsReply c old new piece reply = IsPiece piece × IsStep old (Bytes c piece) (Ok reply) new
 
 -- what comes of it: a reply that goes on; or the reader's end, or a reply that closes; or a fault
-abbrev pub Exchanges : ℕ → HubState → HubState → Result Bool ServeFault → List ℕ → Option (List ℕ) → Option (List ℕ) → Option (List ℕ) → Type 0 → Type 0
+abbrev pub Exchanges : ℕ → HubState → HubState → Result Bool ServeFault → List ℕ → Option (List ℕ) → Option (List ℕ)
+    → Option (List ℕ) → Type 0 → Type 0
 Exchanges c old new (Ok true) piece left before after failed =
     (reply : Reply) × GetsReply c old new piece reply × (reply.close ≡ false) × Appends before after reply.bytes
 Exchanges c old new (Ok false) piece left before after failed =

@@ -1,5 +1,6 @@
 -- Which connections are open, by the history of events and results alone, and the limit of 64.
-use Rattle.std.specs.Prelude.{◌≡◌, ◌==◌, ◌≤◌, ◌↔◌, ℕ, not, Bool, false, List, [], ◌∷◌, ◌++◌, length, map, filter, Ok, Err}
+use Rattle.std.specs.Prelude.{◌≡◌, ◌==◌, ◌≤◌, ◌↔◌, ℕ, not, Bool, false, List, [], ◌∷◌, ◌++◌, length, map, filter, Ok}
+use Rattle.std.specs.Prelude.{Err}
 use Rattle.std.specs.List.{list_any}
 use Rattle.vp_hub.specs.declared.event.Event.{Event}
 use Rattle.vp_hub.specs.declared.event.Event.TheVariants.{Feed, End, Open, Bytes, Shut}

@@ -21,8 +21,10 @@ bytes_seen (Lost ∷ es) = bytes_seen es
 abbrev pub keeps : List ℕ → ConnectionState
 keeps kept = record { pending = kept; closed = false }
 
--- A connection that keeps these bytes sees these events, from v on: each piece, behind what is kept, is cut into heads, and they
--- are answered at that event, as the streams are then. These are all heads, and the rest is less than one; there is none
+-- A connection that keeps these bytes sees these events, from v on: each piece, behind what is kept, is cut into
+-- heads, and they
+-- are answered at that event, as the streams are then. These are all heads, and the rest is less than one; there is
+-- none
 -- where a head closed it, or it is gone or lost.
 abbrev pub AreCutInTurn : List ℕ → List Seen → Sight → List Outcome → List (List ℕ) → Option (List ℕ) → Type 0
 AreCutInTurn kept [] v os heads rest = (heads ≡ []) × (rest ≡ Some kept)
@@ -32,15 +34,20 @@ AreCutInTurn kept (Got piece ∷ es) v (o ∷ os) heads rest =
     × AnswersHeads v.streams here (kept ++ piece) w × (o ≡ Ok (record { bytes = w.1; close = w.0.closed }))
     × Chosen w.0.closed ((later ≡ []) × (rest ≡ None))
     (AreCutInTurn w.0.pending es (record { streams = v.streams; state_of_connection = Some w.0 }) os later rest)
-AreCutInTurn kept (Fed name piece ∷ es) v (o ∷ os) heads rest = (mid : Sight) × See (Fed name piece) v (mid, o) × AreCutInTurn kept es mid os heads rest
-AreCutInTurn kept (Over name ∷ es) v (o ∷ os) heads rest = (mid : Sight) × See (Over name) v (mid, o) × AreCutInTurn kept es mid os heads rest
-AreCutInTurn kept (Opened ∷ es) v (o ∷ os) heads rest = (mid : Sight) × See Opened v (mid, o) × AreCutInTurn kept es mid os heads rest
+AreCutInTurn kept (Fed name piece ∷ es) v (o ∷ os) heads rest = (mid : Sight) × See (Fed name piece) v (mid, o)
+    × AreCutInTurn kept es mid os heads rest
+AreCutInTurn kept (Over name ∷ es) v (o ∷ os) heads rest = (mid : Sight) × See (Over name) v (mid, o)
+    × AreCutInTurn kept es mid os heads rest
+AreCutInTurn kept (Opened ∷ es) v (o ∷ os) heads rest = (mid : Sight) × See Opened v (mid, o)
+    × AreCutInTurn kept es mid os heads rest
 AreCutInTurn kept (Gone ∷ es) v (o ∷ os) heads rest = (heads ≡ []) × (rest ≡ None)
 AreCutInTurn kept (Lost ∷ es) v (o ∷ os) heads rest = (heads ≡ []) × (rest ≡ None)
 
--- from its opening on, whatever else comes between, all bytes of a connection are cut into heads, each answered at the event
+-- from its opening on, whatever else comes between, all bytes of a connection are cut into heads, each answered at
+-- the event
 -- that brings its last byte
 abbrev pub HistoriesAreCut : Type 0
-HistoriesAreCut = (es : List Seen) (v w : Sight) (os : List Outcome) → Leads es v os w → v.state_of_connection ≡ Some (keeps [])
+HistoriesAreCut = (es : List Seen) (v w : Sight) (os : List Outcome) → Leads es v os w
+    → v.state_of_connection ≡ Some (keeps [])
     → (heads : List (List ℕ)) × (rest : Option (List ℕ)) × AreCutInTurn [] es v os heads rest
     × IfSome rest (λ r. IsPartial r × (bytes_seen es ≡ concat heads ++ r))

@@ -1,12 +1,15 @@
 -- The events that one connection sees, and the results that follow from them alone: isolation of connections.
-use Rattle.std.specs.Prelude.{◌≡◌, ◌==◌, ℕ, Bool, true, false, List, [], ◌∷◌, ◌++◌, Option, Some, None, Ok, Err, if◌then◌else◌}
+use Rattle.std.specs.Prelude.{◌≡◌, ◌==◌, ℕ, Bool, true, false, List, [], ◌∷◌, ◌++◌, Option, Some, None, Ok, Err}
+use Rattle.std.specs.Prelude.{if◌then◌else◌}
 use Rattle.vp_base.specs.declared.limits.Limits.{Limits}
 use Rattle.vp_hub.specs.declared.event.Event.{Event}
 use Rattle.vp_hub.specs.declared.event.Event.TheVariants.{Feed, End, Open, Bytes, Shut}
 use Rattle.vp_hub.specs.Pages.{Streams}
 use Rattle.vp_hub.specs.declared.connection.ConnectionState.{ConnectionState}
-use Rattle.vp_hub.specs.declared.event.HubFault.TheVariants.{UnknownStream, Ended, UnknownConn, AlreadyOpen, TooMany, Failed, Memory}
-use Rattle.vp_hub.specs.Hub.{Outcome, HubState, link_of, fed, ended_source, at_name, Gets, no_bytes, new_link, IsStep, initial_hub}
+use Rattle.vp_hub.specs.declared.event.HubFault.TheVariants.{UnknownStream, Ended, UnknownConn, AlreadyOpen, TooMany}
+use Rattle.vp_hub.specs.declared.event.HubFault.TheVariants.{Failed, Memory}
+use Rattle.vp_hub.specs.Hub.{Outcome, HubState, link_of, fed, ended_source, at_name, Gets, no_bytes, new_link, IsStep}
+use Rattle.vp_hub.specs.Hub.{initial_hub}
 
 -- events as one connection sees them; the last is that the hub closed it
 pub data Seen : Type 0 where
@@ -42,7 +45,8 @@ is_too_many (Ok reply) = false
 abbrev pub seen_events : ℕ → Event → Outcome → List Seen
 seen_events c (Feed name piece) o = if is_memory o then [] else Fed name piece ∷ []
 seen_events c (End name) o = Over name ∷ []
-seen_events c (Open d) o = if d == c then (if is_memory o then [] else if is_too_many o then [] else Opened ∷ []) else []
+seen_events c (Open d) o = if d == c then (if is_memory o then [] else if is_too_many o then [] else Opened
+    ∷ []) else []
 seen_events c (Bytes d piece) o = if d == c then (if is_memory o then Lost ∷ [] else Got piece ∷ []) else []
 seen_events c (Shut d) o = if d == c then Gone ∷ [] else []
 
@@ -75,7 +79,8 @@ open_again None = (Some new_link, Ok no_bytes)
 
 abbrev pub AsksAgain : Streams → List ℕ → Option ConnectionState → Option ConnectionState × Outcome → Type 0
 AsksAgain streams piece None r = r ≡ (None, Err UnknownConn)
-AsksAgain streams piece (Some state_of_connection) r = (g : ConnectionState × Outcome) × Gets streams piece state_of_connection g × (r ≡ (Some g.0, g.1))
+AsksAgain streams piece (Some state_of_connection) r = (g : ConnectionState × Outcome)
+    × Gets streams piece state_of_connection g × (r ≡ (Some g.0, g.1))
 
 abbrev pub go : Option ConnectionState → Option ConnectionState × Outcome
 go None = (None, Err UnknownConn)
@@ -96,7 +101,8 @@ abbrev pub See : Seen → Sight → Sight × Outcome → Type 0
 See (Fed name piece) v r = r ≡ with_streams_of v (at_name (fed piece) name v.streams)
 See (Over name) v r = r ≡ with_streams_of v (at_name ended_source name v.streams)
 See Opened v r = r ≡ with_link_of v (open_again v.state_of_connection)
-See (Got piece) v r = AsksAgain v.streams piece v.state_of_connection (r.0.state_of_connection, r.1) × (r.0.streams ≡ v.streams)
+See (Got piece) v r = AsksAgain v.streams piece v.state_of_connection (r.0.state_of_connection, r.1)
+    × (r.0.streams ≡ v.streams)
 See Gone v r = r ≡ with_link_of v (go v.state_of_connection)
 See Lost v r = r ≡ with_link_of v (lose v.state_of_connection, Err Memory)
 
@@ -116,7 +122,8 @@ IsRun old (e ∷ es) [] new = ⊥
 
 -- one run behind another is a run
 abbrev pub RunsAreJoined : Type 0
-RunsAreJoined = (s mid new : HubState) (es fs : List Event) (os ps : List Outcome) → IsRun s es os mid → IsRun mid fs ps new
+RunsAreJoined = (s mid new : HubState) (es fs : List Event) (os ps : List Outcome) → IsRun s es os mid
+    → IsRun mid fs ps new
     → IsRun s (es ++ fs) (os ++ ps) new
 
 -- each connection gets the results that its view gives
@@ -140,6 +147,8 @@ pub record AreLimitsBesideCache (a b : Limits) : Type 0 where
 
 -- so do two new hubs of the same names, however many pictures each keeps
 abbrev pub NewHubsAnswerAlike : Type 0
-NewHubsAnswerAlike = (names : List (List ℕ)) (a b : Limits) (c : ℕ) (es fs : List Event) (os ps : List Outcome) (new mid : HubState)
-    → AreLimitsBesideCache a b → IsRun (initial_hub names a) es os new → IsRun (initial_hub names b) fs ps mid → view_of c es os ≡ view_of c fs ps
+NewHubsAnswerAlike = (names : List (List ℕ)) (a b : Limits) (c : ℕ) (es fs : List Event) (os ps : List Outcome)
+    (new mid : HubState)
+    → AreLimitsBesideCache a b → IsRun (initial_hub names a) es os new → IsRun (initial_hub names b) fs ps mid
+    → view_of c es os ≡ view_of c fs ps
     → results_of c es os ≡ results_of c fs ps

@@ -18,7 +18,8 @@ use Rattle.vp_hub.specs.Hub.{Chosen, Outcome, ends_head, TakesByte, HubState, li
 
 -- ---- one request
 
--- the packets that are decoded for packet n of stream k: none where its picture is kept or there is no such packet, else
+-- the packets that are decoded for packet n of stream k: none where its picture is kept or there is no such packet,
+-- else
 -- those from the last key packet on
 abbrev pub picture_cost : Option Source → ℕ → ℕ → Cache → ℕ
 picture_cost None k n cache = 0
@@ -68,19 +69,22 @@ pub record IsMostCost (streams : Streams) (head : List ℕ) (old new : Cache) (c
 abbrev pub CostsByte : Streams → ℕ → ConnectionState → Cache → Cache → ℕ → Type 0
 CostsByte streams b state_of_connection old new cost =
     Chosen state_of_connection.closed ((new ≡ old) × (cost ≡ 0))
-    (Chosen (ends_head (state_of_connection.pending ++ b ∷ [])) (IsCost streams (state_of_connection.pending ++ b ∷ []) old new cost) ((new ≡ old) × (cost ≡ 0)))
+    (Chosen (ends_head (state_of_connection.pending ++ b ∷ []))
+    (IsCost streams (state_of_connection.pending ++ b ∷ []) old new cost) ((new ≡ old) × (cost ≡ 0)))
 
 -- each byte in turn: what is kept of the connection and written after it, the cache after it, and what it costs in all
 abbrev pub Costs : Streams → List ℕ → ConnectionState × List ℕ → ConnectionState × List ℕ → Cache → Cache → ℕ → Type 0
 Costs streams [] v w old new cost = (w ≡ v) × (new ≡ old) × (cost ≡ 0)
 Costs streams (b ∷ bs) v w old new cost =
     (mid : ConnectionState × List ℕ) × (cache : Cache) × (first rest : ℕ)
-    × TakesByte streams b v mid × CostsByte streams b v.0 old cache first × Costs streams bs mid w cache new rest × (cost ≡ first + rest)
+    × TakesByte streams b v mid × CostsByte streams b v.0 old cache first × Costs streams bs mid w cache new rest
+    × (cost ≡ first + rest)
 
 -- the same for a connection that stands, or doesn't
 abbrev pub CostsPiece : Streams → List ℕ → Option ConnectionState → Cache → Cache → ℕ → Type 0
 CostsPiece streams piece None old new cost = (new ≡ old) × (cost ≡ 0)
-CostsPiece streams piece (Some state_of_connection) old new cost = (w : ConnectionState × List ℕ) × Costs streams piece (state_of_connection, []) w old new cost
+CostsPiece streams piece (Some state_of_connection) old new cost = (w : ConnectionState × List ℕ)
+    × Costs streams piece (state_of_connection, []) w old new cost
 
 -- ---- an event
 
@@ -95,10 +99,12 @@ IsWork (Shut c) s old new work = (new ≡ old) × (work ≡ 0)
 -- where memory was refused at a byte: nothing is decoded, or no more than for the head that the byte ends
 abbrev pub CostsByteAtMost : Streams → ℕ → ConnectionState → Cache → Cache → ℕ → Type 0
 CostsByteAtMost streams b state_of_connection old new cost =
-    ((new ≡ old) × (cost ≡ 0)) ⊎ ((ends_head (state_of_connection.pending ++ b ∷ []) ≡ true) × IsMostCost streams (state_of_connection.pending ++ b ∷ []) old new cost)
+    ((new ≡ old) × (cost ≡ 0)) ⊎ ((ends_head (state_of_connection.pending ++ b ∷ []) ≡ true)
+    × IsMostCost streams (state_of_connection.pending ++ b ∷ []) old new cost)
 
 -- the bytes before that one cost what they do, and no less is counted
-pub record CostsAtMost (streams : Streams) (piece : List ℕ) (v : ConnectionState × List ℕ) (old new : Cache) (work : ℕ) : Type 0 where
+pub record CostsAtMost (streams : Streams) (piece : List ℕ) (v : ConnectionState × List ℕ) (old new : Cache) (work : ℕ)
+    : Type 0 where
   pub front : List ℕ
   pub byte : ℕ
   pub back : List ℕ
@@ -114,7 +120,8 @@ pub record CostsAtMost (streams : Streams) (piece : List ℕ) (v : ConnectionSta
 
 abbrev pub CostsPieceAtMost : Streams → List ℕ → Option ConnectionState → Cache → Cache → ℕ → Type 0
 CostsPieceAtMost streams piece None old new work = (new ≡ old) × (work ≡ 0)
-CostsPieceAtMost streams piece (Some state_of_connection) old new work = CostsAtMost streams piece (state_of_connection, []) old new work
+CostsPieceAtMost streams piece (Some state_of_connection) old new work = CostsAtMost streams piece
+    (state_of_connection, []) old new work
 
 -- where memory was refused to an event
 abbrev pub IsWorkAtMost : Event → HubState → Cache → Cache → ℕ → Type 0
@@ -130,15 +137,18 @@ pub record Hub : Type 0 where
   pub cache : Cache
   pub work : ℕ
 
--- after an event the work is that number, which stays at the greatest; where memory was refused no more than that, and no less than for the
+-- after an event the work is that number, which stays at the greatest; where memory was refused no more than that,
+-- and no less than for the
 -- bytes before the one that it was refused at
 pub record IsWorked (old : Hub) (e : Event) (o : Outcome) (new : Hub) : Type 0 where
-  pub work : o ≢ Err Memory → (cost : ℕ) × IsWork e old.state old.cache new.cache cost × (new.work ≡ saturating_count 0 cost)
+  pub work : o ≢ Err Memory → (cost : ℕ) × IsWork e old.state old.cache new.cache cost
+      × (new.work ≡ saturating_count 0 cost)
   pub most : o ≡ Err Memory → IsWorkAtMost e old.state old.cache new.cache new.work
 
 -- a run: each event with its result and its work, and what the cache keeps after it
 abbrev pub IsWorkedRun : Hub → List Event → List Outcome → Hub → Type 0
 IsWorkedRun old [] [] new = new ≡ old
-IsWorkedRun old (e ∷ es) (o ∷ os) new = (mid : Hub) × IsStep old.state e o mid.state × IsWorked old e o mid × IsWorkedRun mid es os new
+IsWorkedRun old (e ∷ es) (o ∷ os) new = (mid : Hub) × IsStep old.state e o mid.state × IsWorked old e o mid
+    × IsWorkedRun mid es os new
 IsWorkedRun old [] (o ∷ os) new = ⊥
 IsWorkedRun old (e ∷ es) [] new = ⊥

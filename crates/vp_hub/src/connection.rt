@@ -49,7 +49,8 @@ pub(crate) fn open_one(
     number: u32,
 ) -> Result<Reply, HubFault>
     ensures memory { result ≡ Err Memory → connections.new.items ≡ connections.old.items }
-    ensures fine { result ≡ Err Memory → IsOk (opened number connections.old.items (link_of number connections.old.items)).1 }
+    ensures fine { result ≡ Err Memory → IsOk (opened number connections.old.items
+        (link_of number connections.old.items)).1 }
     ensures step { result ≢ Err Memory → (connections.new.items, result)
         ≡ opened number connections.old.items (link_of number connections.old.items) }
 {

@@ -32,10 +32,13 @@ fn take(
     requires fresh { state_of_connection.old.closed ≡ false }
     requires kept { AreKept shelf.now.sources pictures.old.cache.entries }
     ensures kept { AreKept shelf.now.sources pictures.new.cache.entries }
-    ensures took { OnOk result (TakesByte shelf.now byte (state_of_connection.old, out.old) (state_of_connection.new, out.new)) }
-    ensures work { OnOk result ((cost : ℕ) × CostsByte shelf.now byte state_of_connection.old pictures.old.cache pictures.new.cache cost
+    ensures took { OnOk result (TakesByte shelf.now byte (state_of_connection.old, out.old)
+        (state_of_connection.new, out.new)) }
+    ensures work { OnOk result ((cost : ℕ)
+        × CostsByte shelf.now byte state_of_connection.old pictures.old.cache pictures.new.cache cost
         × (pictures.new.work ≡ saturating_count pictures.old.work cost)) }
-    ensures most { OnErr result ((cost : ℕ) × CostsByteAtMost shelf.now byte state_of_connection.old pictures.old.cache pictures.new.cache cost
+    ensures most { OnErr result ((cost : ℕ)
+        × CostsByteAtMost shelf.now byte state_of_connection.old pictures.old.cache pictures.new.cache cost
         × (pictures.old.work ≤ pictures.new.work) × (pictures.new.work ≤ saturating_count pictures.old.work cost)) }
 {
     let _work = pictures.work;
@@ -70,11 +73,14 @@ pub(crate) fn feed_bytes(
     requires kept { AreKept shelf.now.sources pictures.old.cache.entries }
     requires idle { pictures.old.work ≡ 0 }
     ensures kept { AreKept shelf.now.sources pictures.new.cache.entries }
-    ensures served { OnOk result (Serves shelf.now piece.now (state_of_connection.old, out.old) (state_of_connection.new, out.new)) }
+    ensures served { OnOk result (Serves shelf.now piece.now (state_of_connection.old, out.old)
+        (state_of_connection.new, out.new)) }
     ensures work { OnOk result ((cost : ℕ)
-        × Costs shelf.now piece.now (state_of_connection.old, out.old) (state_of_connection.new, out.new) pictures.old.cache pictures.new.cache cost
+        × Costs shelf.now piece.now (state_of_connection.old, out.old)
+        (state_of_connection.new, out.new) pictures.old.cache pictures.new.cache cost
         × (pictures.new.work ≡ saturating_count 0 cost)) }
-    ensures most { OnErr result (CostsAtMost shelf.now piece.now (state_of_connection.old, out.old) pictures.old.cache pictures.new.cache pictures.new.work) }
+    ensures most { OnErr result (CostsAtMost shelf.now piece.now
+        (state_of_connection.old, out.old) pictures.old.cache pictures.new.cache pictures.new.work) }
 {
     for byte in piece {
         if state_of_connection.closed {

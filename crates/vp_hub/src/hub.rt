@@ -1,6 +1,7 @@
 //! The hub.
 
-ghost use Rattle.std.specs.Prelude.{◌≡◌, ◌≢◌, ◌↔◌, ◌≤◌, ◌<◌, ◌+◌, ◌++◌, ◌∷◌, [], ℕ, List, true, false, Some, Ok, Err, IfOk, OnOk, OnErr, length, vec_len};
+ghost use Rattle.std.specs.Prelude.{◌≡◌, ◌≢◌, ◌↔◌, ◌≤◌, ◌<◌, ◌+◌, ◌++◌, ◌∷◌, [], ℕ, List, true, false, Some, Ok, Err};
+ghost use Rattle.std.specs.Prelude.{IfOk, OnOk, OnErr, length, vec_len};
 ghost use Rattle.std.specs.Vec.{vec_capacity};
 ghost use Rattle.vp_stream.specs.Seeking.{saturating_count};
 ghost use Rattle.vp_cache.specs.Cache.{empty};
@@ -9,7 +10,8 @@ ghost use Rattle.vp_hub.specs.declared.event.HubFault.TheVariants.{Memory};
 ghost use Rattle.vp_hub.specs.declared.names.NewFault.{NewFault};
 ghost use Rattle.vp_hub.specs.Heads.{AllKeepPartial};
 ghost use Rattle.vp_hub.specs.Names.{are_names as may_be_names};
-ghost use Rattle.vp_hub.specs.Hub.{AreKept, IsStep, Outcome, HubState, initial_hub, link_of, with_link, Gets, Asks, is_open};
+ghost use Rattle.vp_hub.specs.Hub.{AreKept, IsStep, Outcome, HubState, initial_hub, link_of, with_link, Gets, Asks};
+ghost use Rattle.vp_hub.specs.Hub.{is_open};
 ghost use Rattle.vp_hub.specs.Pieces.{AreAcceptedEnds, AreAcceptedPieces};
 ghost use Rattle.vp_hub.specs.View.{IsRun, IsIsolated};
 ghost use Rattle.vp_hub.specs.Work.{Costs, CostsAtMost, CostsPiece, CostsPieceAtMost, IsWorked, IsWorkedRun, Hub};
@@ -56,7 +58,11 @@ impl Hub {
     /// pictures are kept.
     pub fn new(alloc: Global, names: Vec<ByteList>, limits: Limits) -> Result<Hub, NewFault>
         ensures names { (result ≡ Err NewFault.Names) ↔ (may_be_names names.items ≡ false) }
-        ensures hub { IfOk result (λ h. h ≡ record { state = initial_hub names.items limits; cache = empty limits.cache; work = 0 }) }
+        ensures hub { IfOk result (λ h. h ≡ record {
+          state = initial_hub names.items limits;
+          cache = empty limits.cache;
+          work = 0;
+        }) }
         ensures partial { IfOk result (λ h. AllKeepPartial h.state) }
         ensures stands { IfOk result (λ h. IsRun (initial_hub names.items limits) [] [] h.state) }
     {
@@ -84,9 +90,11 @@ impl Hub {
         ensures worked { IsWorked self.old event.now result self.new }
 
         // Each run that led here goes on by this event with its result, also a refusal, and with its work.
-        ensures stands { (s : HubState) (events : List Event) (results : List Outcome) → IsRun s events results self.old.state
+        ensures stands { (s : HubState) (events : List Event) (results : List Outcome)
+            → IsRun s events results self.old.state
             → IsRun s (events ++ event.now ∷ []) (results ++ result ∷ []) self.new.state }
-        ensures stands_worked { (s : Hub) (events : List Event) (results : List Outcome) → IsWorkedRun s events results self.old
+        ensures stands_worked { (s : Hub) (events : List Event) (results : List Outcome)
+            → IsWorkedRun s events results self.old
             → IsWorkedRun s (events ++ event.now ∷ []) (results ++ result ∷ []) self.new }
     {
         self.turn(event)
@@ -139,14 +147,17 @@ impl Hub {
         ensures partial { AllKeepPartial self.old.state → AllKeepPartial self.new.state }
         ensures worked { IfOk result (λ results. IsWorkedRun self.old events.now results.items self.new) }
         ensures isolated { IfOk result (λ results. IsIsolated self.old.state events.now results.items self.new.state) }
-        ensures pieces { IfOk result (λ results. AreAcceptedPieces self.old.state events.now results.items self.new.state) }
+        ensures pieces { IfOk result (λ results. AreAcceptedPieces self.old.state events.now results.items
+            self.new.state) }
         ensures ends { IfOk result (λ results. AreAcceptedEnds self.old.state events.now results.items self.new.state) }
         ensures err { OnErr result (self.new ≡ self.old) }
 
         // Each run that led here goes on by these events with their results, also with their work.
-        ensures stands { IfOk result (λ results. (s : HubState) (before : List Event) (had : List Outcome) → IsRun s before had self.old.state
+        ensures stands { IfOk result (λ results. (s : HubState) (before : List Event) (had : List Outcome)
+            → IsRun s before had self.old.state
             → IsRun s (before ++ events.now) (had ++ results.items) self.new.state) }
-        ensures stands_worked { IfOk result (λ results. (s : Hub) (before : List Event) (had : List Outcome) → IsWorkedRun s before had self.old
+        ensures stands_worked { IfOk result (λ results. (s : Hub) (before : List Event) (had : List Outcome)
+            → IsWorkedRun s before had self.old
             → IsWorkedRun s (before ++ events.now) (had ++ results.items) self.new) }
     {
         let mut results = Vec::with_capacity(self.alloc, events.len())?;
@@ -186,12 +197,15 @@ fn ask(
         ≡ with_link number (record { pending = []; closed = true }) connections.old.items }
     ensures fine { result ≡ Err Memory → is_open (link_of number connections.old.items) ≡ true }
     ensures step { result ≢ Err Memory →
-        Asks shelf.now number piece.now connections.old.items (link_of number connections.old.items) (connections.new.items, result) }
+        Asks shelf.now number piece.now connections.old.items (link_of number connections.old.items)
+        (connections.new.items, result) }
     ensures work { result ≢ Err Memory → (cost : ℕ)
-        × CostsPiece shelf.now piece.now (link_of number connections.old.items) pictures.old.cache pictures.new.cache cost
+        × CostsPiece shelf.now piece.now (link_of number connections.old.items) pictures.old.cache pictures.new.cache
+        cost
         × (pictures.new.work ≡ saturating_count 0 cost) }
     ensures most { result ≡ Err Memory →
-        CostsPieceAtMost shelf.now piece.now (link_of number connections.old.items) pictures.old.cache pictures.new.cache pictures.new.work }
+        CostsPieceAtMost shelf.now piece.now
+        (link_of number connections.old.items) pictures.old.cache pictures.new.cache pictures.new.work }
 {
     let Some(place) = find(connections, number) else {
         return Err(HubFault::UnknownConn);
@@ -218,12 +232,14 @@ fn answer(
     ensures kept { AreKept shelf.now.sources pictures.new.cache.entries }
     ensures memory { result ≡ Err Memory → state_of_connection.new ≡ record { pending = []; closed = true } }
     ensures fine { result ≡ Err Memory → state_of_connection.old.closed ≡ false }
-    ensures step { result ≢ Err Memory → Gets shelf.now piece.now state_of_connection.old (state_of_connection.new, result) }
+    ensures step { result ≢ Err Memory → Gets shelf.now piece.now state_of_connection.old
+        (state_of_connection.new, result) }
     ensures work { result ≢ Err Memory → (cost : ℕ)
         × CostsPiece shelf.now piece.now (Some state_of_connection.old) pictures.old.cache pictures.new.cache cost
         × (pictures.new.work ≡ saturating_count 0 cost) }
     ensures most { result ≡ Err Memory →
-        CostsPieceAtMost shelf.now piece.now (Some state_of_connection.old) pictures.old.cache pictures.new.cache pictures.new.work }
+        CostsPieceAtMost shelf.now piece.now
+        (Some state_of_connection.old) pictures.old.cache pictures.new.cache pictures.new.work }
 {
     if state_of_connection.closed {
         return Err(HubFault::Failed);

@@ -1,7 +1,8 @@
 //! What holds of all hubs, each as the contract of a function that does nothing.
 
 ghost use Rattle.vp_hub.specs.Heads.{IsCutIntoHeads};
-ghost use Rattle.vp_hub.specs.Pieces.{NewStreamsAreOpen, NewStreamsHaveNoBytes, RunsAddAcceptedPieces, RunsEndAtAcceptedEnds};
+ghost use Rattle.vp_hub.specs.Pieces.{NewStreamsAreOpen, NewStreamsHaveNoBytes, RunsAddAcceptedPieces};
+ghost use Rattle.vp_hub.specs.Pieces.{RunsEndAtAcceptedEnds};
 ghost use Rattle.vp_hub.specs.Standing.{StandsToShut, IsTooManyByHistory};
 ghost use Rattle.vp_hub.specs.Turns.{HistoriesAreCut};
 ghost use Rattle.vp_hub.specs.View.{AnswersAlike, NewHubsAnswerAlike, RunsAreIsolated, RunsAreJoined};
@@ -11,7 +12,8 @@ pub fn cut_into_heads()
     ensures { IsCutIntoHeads }
 {}
 
-/// All bytes of a connection since its opening are cut into heads, each answered at the event that brings its last byte.
+/// All bytes of a connection since its opening are cut into heads, each answered at the event that brings its last
+/// byte.
 pub fn histories_are_cut()
     ensures { HistoriesAreCut }
 {}
@@ -26,7 +28,8 @@ pub fn runs_are_isolated()
     ensures { RunsAreIsolated }
 {}
 
-/// Two runs whose views of a connection are equal answer it alike, also of two hubs that keep different numbers of pictures.
+/// Two runs whose views of a connection are equal answer it alike, also of two hubs that keep different numbers of
+/// pictures.
 pub fn answers_alike()
     ensures alike { AnswersAlike }
     ensures new { NewHubsAnswerAlike }

@@ -1,6 +1,7 @@
 //! What is found for a request.
 
-ghost use Rattle.std.specs.Prelude.{◌≡◌, ◌≢◌, ◌≤◌, ◌⊎◌, ◌++◌, ℕ, List, codes, decimal, Some, IfOk, OnOk, OnErr, slice_get};
+ghost use Rattle.std.specs.Prelude.{◌≡◌, ◌≢◌, ◌≤◌, ◌⊎◌, ◌++◌, ℕ, List, codes, decimal, Some, IfOk, OnOk, OnErr};
+ghost use Rattle.std.specs.Prelude.{slice_get};
 ghost use Rattle.std.specs.String.{string_bytes};
 ghost use Rattle.vp_y4m.specs.Text.{header_text};
 ghost use Rattle.vp_stream.specs.Stream.{stream_refusal};
@@ -8,7 +9,8 @@ ghost use Rattle.vp_stream.specs.Stream.{Stream as StreamState};
 ghost use Rattle.vp_stream.specs.Seeking.{Shown, answer_value, saturating_count};
 ghost use Rattle.vp_cache.specs.Cache.{AreAnswersOf};
 ghost use Rattle.vp_heads.specs.Replies.{Lines, reply_to};
-ghost use Rattle.vp_hub.specs.Pages.{IsReply, content_of, names_text, info_text, info_content, head_lines, state_by, front_by, picture_by, picture_content};
+ghost use Rattle.vp_hub.specs.Pages.{IsReply, content_of, names_text, info_text, info_content, head_lines, state_by};
+ghost use Rattle.vp_hub.specs.Pages.{front_by, picture_by, picture_content};
 ghost use Rattle.vp_hub.specs.Hub.{AreKept, lent_source};
 ghost use Rattle.vp_hub.specs.Work.{IsAfterAsked, IsAfterPicture, IsCost, IsMostCost, cost_of, picture_cost};
 
@@ -136,7 +138,8 @@ fn put_shown(
     pixels: &[u8],
     out: &mut Buffer,
 ) -> Result<(), AllocError>
-    ensures { OnOk result (out.new ≡ out.old ++ reply_to request (picture_by video head (Shown dim.w dim.h pixels.now))) }
+    ensures { OnOk result (out.new ≡ out.old ++ reply_to request
+        (picture_by video head (Shown dim.w dim.h pixels.now))) }
 {
     let front = front_text(alloc, video, head, dim)?;
     put_pixels(alloc, request, front.as_bytes(), pixels, out)
@@ -177,10 +180,14 @@ fn put_picture(
 ) -> Result<(), AllocError>
     requires { AreAnswersOf place source.now.stream pictures.old.cache.entries }
     ensures content { OnOk result (out.new ≡ out.old ++ reply_to request (picture_content video (Some source.now) n)) }
-    ensures work { OnOk result (pictures.new.work ≡ saturating_count pictures.old.work (picture_cost (Some source.now) place n pictures.old.cache)) }
-    ensures most { OnErr result ((pictures.old.work ≤ pictures.new.work) × (pictures.new.work ≤ saturating_count pictures.old.work (picture_cost (Some source.now) place n pictures.old.cache))) }
+    ensures work { OnOk result (pictures.new.work ≡ saturating_count pictures.old.work
+        (picture_cost (Some source.now) place n pictures.old.cache)) }
+    ensures most { OnErr result ((pictures.old.work ≤ pictures.new.work)
+        × (pictures.new.work ≤ saturating_count pictures.old.work
+        (picture_cost (Some source.now) place n pictures.old.cache))) }
     ensures after { OnOk result (IsAfterPicture (Some source.now) place n pictures.old.cache pictures.new.cache) }
-    ensures left { OnErr result ((pictures.new.cache ≡ pictures.old.cache) ⊎ IsAfterPicture (Some source.now) place n pictures.old.cache pictures.new.cache) }
+    ensures left { OnErr result ((pictures.new.cache ≡ pictures.old.cache)
+        ⊎ IsAfterPicture (Some source.now) place n pictures.old.cache pictures.new.cache) }
     ensures kept { AreAnswersOf place source.now.stream pictures.new.cache.entries }
     ensures others { (other : ℕ) (s : StreamState) → other ≢ place →
         AreAnswersOf other s pictures.old.cache.entries → AreAnswersOf other s pictures.new.cache.entries }
@@ -218,11 +225,17 @@ fn put_picture_of(
     out: &mut Buffer,
 ) -> Result<(), AllocError>
     requires { AreKept shelf.now.sources pictures.old.cache.entries }
-    ensures content { OnOk result (out.new ≡ out.old ++ reply_to request (picture_content video (slice_get shelf.now.sources place) n)) }
-    ensures work { OnOk result (pictures.new.work ≡ saturating_count pictures.old.work (picture_cost (slice_get shelf.now.sources place) place n pictures.old.cache)) }
-    ensures most { OnErr result ((pictures.old.work ≤ pictures.new.work) × (pictures.new.work ≤ saturating_count pictures.old.work (picture_cost (slice_get shelf.now.sources place) place n pictures.old.cache))) }
-    ensures after { OnOk result (IsAfterPicture (slice_get shelf.now.sources place) place n pictures.old.cache pictures.new.cache) }
-    ensures left { OnErr result ((pictures.new.cache ≡ pictures.old.cache) ⊎ IsAfterPicture (slice_get shelf.now.sources place) place n pictures.old.cache pictures.new.cache) }
+    ensures content { OnOk result (out.new ≡ out.old ++ reply_to request
+        (picture_content video (slice_get shelf.now.sources place) n)) }
+    ensures work { OnOk result (pictures.new.work ≡ saturating_count pictures.old.work
+        (picture_cost (slice_get shelf.now.sources place) place n pictures.old.cache)) }
+    ensures most { OnErr result ((pictures.old.work ≤ pictures.new.work)
+        × (pictures.new.work ≤ saturating_count pictures.old.work
+        (picture_cost (slice_get shelf.now.sources place) place n pictures.old.cache))) }
+    ensures after { OnOk result (IsAfterPicture
+        (slice_get shelf.now.sources place) place n pictures.old.cache pictures.new.cache) }
+    ensures left { OnErr result ((pictures.new.cache ≡ pictures.old.cache)
+        ⊎ IsAfterPicture (slice_get shelf.now.sources place) place n pictures.old.cache pictures.new.cache) }
     ensures kept { AreKept shelf.now.sources pictures.new.cache.entries }
 {
     let _work = pictures.work;
@@ -242,10 +255,14 @@ fn put_content(
 ) -> Result<(), AllocError>
     requires { AreKept shelf.now.sources pictures.old.cache.entries }
     ensures content { OnOk result (out.new ≡ out.old ++ reply_to request (content_of shelf.now request.wanted)) }
-    ensures work { OnOk result (pictures.new.work ≡ saturating_count pictures.old.work (cost_of shelf.now request.wanted pictures.old.cache)) }
-    ensures most { OnErr result ((pictures.old.work ≤ pictures.new.work) × (pictures.new.work ≤ saturating_count pictures.old.work (cost_of shelf.now request.wanted pictures.old.cache))) }
+    ensures work { OnOk result (pictures.new.work ≡ saturating_count pictures.old.work
+        (cost_of shelf.now request.wanted pictures.old.cache)) }
+    ensures most { OnErr result ((pictures.old.work ≤ pictures.new.work)
+        × (pictures.new.work ≤ saturating_count pictures.old.work
+        (cost_of shelf.now request.wanted pictures.old.cache))) }
     ensures after { OnOk result (IsAfterAsked shelf.now request.wanted pictures.old.cache pictures.new.cache) }
-    ensures left { OnErr result ((pictures.new.cache ≡ pictures.old.cache) ⊎ IsAfterAsked shelf.now request.wanted pictures.old.cache pictures.new.cache) }
+    ensures left { OnErr result ((pictures.new.cache ≡ pictures.old.cache)
+        ⊎ IsAfterAsked shelf.now request.wanted pictures.old.cache pictures.new.cache) }
     ensures kept { AreKept shelf.now.sources pictures.new.cache.entries }
 {
     let _work = pictures.work;
@@ -274,7 +291,8 @@ pub(crate) fn put_reply(
     out: &mut Buffer,
 ) -> Result<bool, AllocError>
     requires { AreKept shelf.now.sources pictures.old.cache.entries }
-    ensures reply { IfOk result (λ close. (bytes : List ℕ) × IsReply shelf.now head.now (bytes, close) × (out.new ≡ out.old ++ bytes)) }
+    ensures reply { IfOk result (λ close. (bytes : List ℕ) × IsReply shelf.now head.now (bytes, close)
+        × (out.new ≡ out.old ++ bytes)) }
     ensures work { OnOk result ((cost : ℕ) × IsCost shelf.now head.now pictures.old.cache pictures.new.cache cost
         × (pictures.new.work ≡ saturating_count pictures.old.work cost)) }
     ensures most { OnErr result ((cost : ℕ) × IsMostCost shelf.now head.now pictures.old.cache pictures.new.cache cost

@@ -2,7 +2,8 @@
 
 ghost use Rattle.std.specs.Prelude.{◌≡◌, ◌≢◌, ◌⊎◌, ◌≤◌, ◌+◌, ◌^◌, ℕ, List, Some, Ok, Err};
 ghost use Rattle.std.specs.Io.KnownBytes.{Consumes};
-ghost use Rattle.vp_base.specs.Counted.{counted_remaining, counted_contents, counted_failures, counted_reads, one_more, HasFailed, HasRisenBy};
+ghost use Rattle.vp_base.specs.Counted.{counted_remaining, counted_contents, counted_failures, counted_reads, one_more};
+ghost use Rattle.vp_base.specs.Counted.{HasFailed, HasRisenBy};
 ghost use Rattle.vp_hub.specs.declared.session.ServeFault.{ServeFault};
 ghost use Rattle.vp_hub.specs.Hub.{link_of, new_link};
 ghost use Rattle.vp_hub.specs.Names.{serve_fault_name};
@@ -49,7 +50,8 @@ pub fn serve_one<R: Read, W: Write>(
     writer: &mut Counted<W>,
 ) -> Result<(), ServeFault>
     // Where the opening is refused nothing is read and nothing written, and the cache stays too.
-    ensures served { (IsTurnedAway conn hub.old.state hub.new.state result × (hub.new.cache ≡ hub.old.cache) × (reader.new ≡ reader.old) × (writer.new ≡ writer.old))
+    ensures served { (IsTurnedAway conn hub.old.state hub.new.state result × (hub.new.cache ≡ hub.old.cache)
+        × (reader.new ≡ reader.old) × (writer.new ≡ writer.old))
         ⊎ ((read : List ℕ)
         × Consumes (counted_remaining R.remaining reader.old) (counted_remaining R.remaining reader.new) read
         × IsSession conn hub.old.state hub.new.state result read (counted_remaining R.remaining reader.new)

@@ -1,11 +1,13 @@
 //! The streams of a hub.
 
-ghost use Rattle.std.specs.Prelude.{◌≡◌, ◌≢◌, ◌<◌, ℕ, List, Ok, Err, Some, None, Option, IsOk, IfOk, IfSome, length, slice_get, map};
+ghost use Rattle.std.specs.Prelude.{◌≡◌, ◌≢◌, ◌<◌, ℕ, List, Ok, Err, Some, None, Option, IsOk, IfOk, IfSome, length};
+ghost use Rattle.std.specs.Prelude.{slice_get, map};
 ghost use Rattle.vp_cache.specs.Cache.{CacheEntry};
 ghost use Rattle.vp_heads.specs.Requests.{IsAsked};
 ghost use Rattle.vp_heads.specs.Routes.{name_index as place_in};
 ghost use Rattle.vp_hub.specs.declared.event.HubFault.TheVariants.{Memory};
-ghost use Rattle.vp_hub.specs.Hub.{AreKept, at_name, at_place, at_source, fed, ended_source, initial_hub, lent_source, new_source, stream_limits};
+ghost use Rattle.vp_hub.specs.Hub.{AreKept, at_name, at_place, at_source, fed, ended_source, initial_hub, lent_source};
+ghost use Rattle.vp_hub.specs.Hub.{new_source, stream_limits};
 
 use crate::event::{HubFault, Reply};
 use crate::source::{Ending, Source, end_source, feed_source};
@@ -111,7 +113,8 @@ impl Streams {
         ensures memory { result ≡ Err Memory → self.new ≡ self.old }
         ensures fine { result ≡ Err Memory → IsOk (at_name (fed piece.now) name.now self.old).1 }
         ensures step { result ≢ Err Memory → (self.new, result) ≡ at_name (fed piece.now) name.now self.old }
-        ensures kept { (entries : List CacheEntry) → AreKept self.old.sources entries → AreKept self.new.sources entries }
+        ensures kept { (entries : List CacheEntry) → AreKept self.old.sources entries
+            → AreKept self.new.sources entries }
     {
         let Some(place) = place_of(&self.names, name) else {
             return Err(HubFault::UnknownStream);
@@ -126,7 +129,8 @@ impl Streams {
     pub(crate) fn end(&mut self, alloc: Global, name: &[u8]) -> Result<Reply, HubFault>
         ensures memory { result ≢ Err Memory }
         ensures step { (self.new, result) ≡ at_name ended_source name.now self.old }
-        ensures kept { (entries : List CacheEntry) → AreKept self.old.sources entries → AreKept self.new.sources entries }
+        ensures kept { (entries : List CacheEntry) → AreKept self.old.sources entries
+            → AreKept self.new.sources entries }
     {
         let Some(place) = place_of(&self.names, name) else {
             return Err(HubFault::UnknownStream);

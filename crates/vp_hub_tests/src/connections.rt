@@ -134,7 +134,8 @@ fn fails_at_each_write(alloc: Global, hub: &mut Hub, whole: &[u8]) -> bool {
     true
 }
 
-/// Whether each of the twelve reads of seven bytes fails in turn. The first request ends in the sixth, the second in the
+/// Whether each of the twelve reads of seven bytes fails in turn. The first request ends in the sixth, the second
+/// in the
 /// eleventh, and the last finds the end.
 fn fails_at_each_read(alloc: Global, hub: &mut Hub, whole: &[u8]) -> bool {
     for reads in 0..12u64 {
@@ -151,7 +152,8 @@ fn fails_at_each_read(alloc: Global, hub: &mut Hub, whole: &[u8]) -> bool {
     true
 }
 
-/// Whether a hub serves connection 2 to its end, and again after all these failures, by so many reads and writes as there
+/// Whether a hub serves connection 2 to its end, and again after all these failures, by so many reads and writes as
+/// there
 /// must be.
 fn serves_again(alloc: Global, hub: &mut Hub) -> bool {
     let (first, whole) = served(alloc, hub, 76, 10, 100);

@@ -1,6 +1,7 @@
 //! Hubs of a stream written by hand, and what is replied to their connections.
 
-ghost use Rattle.std.specs.Prelude.{◌≡◌, ◌≢◌, ◌↔◌, ◌+◌, [], ℕ, List, IfOk, IfSome, IsTrue, OnErr, Ok, Err, false, length, vec_len};
+ghost use Rattle.std.specs.Prelude.{◌≡◌, ◌≢◌, ◌↔◌, ◌+◌, [], ℕ, List, IfOk, IfSome, IsTrue, OnErr, Ok, Err, false};
+ghost use Rattle.std.specs.Prelude.{length, vec_len};
 ghost use Rattle.vp_hub.specs.declared.event.Event.{Event};
 ghost use Rattle.vp_hub.specs.declared.event.HubFault.{HubFault};
 ghost use Rattle.vp_hub.specs.Hub.{IsStep};
@@ -77,7 +78,8 @@ fn new_hub(alloc: Global, names: &[&[u8]], limits: Limits) -> Option<Hub>
     Hub::new(alloc, names, limits).ok()
 }
 
-/// A hub of streams of these names, of which the first is `a` and was fed these pieces; it keeps so many pictures, of at most
+/// A hub of streams of these names, of which the first is `a` and was fed these pieces; it keeps so many pictures,
+/// of at most
 /// 16,384 pixels. Connections 1 and 3 stand.
 pub(crate) fn hub_of(alloc: Global, names: &[&[u8]], fed: &[&[u8]], cache: u32) -> Option<Hub>
     ensures { IfSome result (λ hub. AllKeepPartial hub.state) }
@@ -109,7 +111,8 @@ pub(crate) fn says(
 
 /// What comes of a piece of the stream `a`.
 pub(crate) fn feeds(alloc: Global, hub: &mut Hub, bytes: &[u8]) -> Result<Reply, HubFault>
-    ensures step { result ≢ Err HubFault.Memory → (name : List ℕ) × IsStep hub.old.state (Event.Feed name bytes.now) result hub.new.state }
+    ensures step { result ≢ Err HubFault.Memory → (name : List ℕ)
+        × IsStep hub.old.state (Event.Feed name bytes.now) result hub.new.state }
     ensures partial { AllKeepPartial hub.old.state → AllKeepPartial hub.new.state }
 {
     let (Ok(name), Ok(bytes)) = (list(alloc, b"a"), list(alloc, bytes)) else {

@@ -19,7 +19,8 @@ struct Peer<'a> {
     got: Vec<u8>,
 }
 
-/// The peer's turn: its next byte, if there is one, is sent, and what is replied is put behind. False where memory is short.
+/// The peer's turn: its next byte, if there is one, is sent, and what is replied is put behind. False where memory
+/// is short.
 fn speaks(alloc: Global, hub: &mut Hub, peer: &mut Peer<'_>) -> bool {
     let Some((byte, rest)) = peer.left.split_first() else {
         return true;
@@ -107,7 +108,8 @@ fn has_grown(alloc: Global, hub: &mut Hub) -> bool {
     is_answered(&says(alloc, hub, 1, info), INFO) && is_inter(replied(&says(alloc, hub, 3, last)))
 }
 
-/// Whether two connections that ask for two pictures in turns of this order, while the stream grows and a third connection
+/// Whether two connections that ask for two pictures in turns of this order, while the stream grows and a third
+/// connection
 /// comes and goes, are each answered by their picture.
 fn asks_in(alloc: Global, cache: u32, order: [Turn; 8]) -> bool {
     let Some(mut hub) = hub_of(alloc, &[b"a"], &parts(), cache) else {

@@ -53,7 +53,8 @@ fn is_answer(found: &Result<Reply, HubFault>, answer: Answer<'_>) -> bool {
     }
 }
 
-/// Events in order. No stream is called `d` or `aa`; `b` meets a fault in its head, and `c` ends without a byte; connections 1
+/// Events in order. No stream is called `d` or `aa`; `b` meets a fault in its head, and `c` ends without a byte;
+/// connections 1
 /// and 3 to 65 stand, which are 64, until 65 goes; then 2 comes and goes.
 const STEPS: [(Told<'static>, Answer<'static>); 28] = [
     (Told::Feed(b"d", b"x"), Refused(HubFault::UnknownStream)),

@@ -46,7 +46,8 @@ impl Write for Noted<'_> {
     }
 }
 
-/// Whether three requests of these bytes are read in three pieces, each request being replied to behind the piece that ends
+/// Whether three requests of these bytes are read in three pieces, each request being replied to behind the piece
+/// that ends
 /// it.
 fn reads_in_pieces(alloc: Global, sent: &[u8]) -> bool {
     let Some(mut hub) = hub_of(alloc, &[b"a"], &[], 1) else {
@@ -88,7 +89,8 @@ fn three_requests(alloc: Global) -> Result<Vec<u8>, AllocError> {
     Ok(sent)
 }
 
-/// At most 4,096 bytes are read at once, and handed in as one piece. Of three requests of 3,000 bytes each, one ends in each
+/// At most 4,096 bytes are read at once, and handed in as one piece. Of three requests of 3,000 bytes each, one
+/// ends in each
 /// piece, and the last read finds the end.
 #[test]
 fn pieces_of_4096_bytes(rt: HostRuntime) -> Result<(), Fail> {

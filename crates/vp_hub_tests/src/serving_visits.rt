@@ -31,7 +31,8 @@ impl Read for Single<'_> {
     }
 }
 
-/// Serves connection 2 over single bytes, where so many reads and so many writes come before one fails: how it ended, and
+/// Serves connection 2 over single bytes, where so many reads and so many writes come before one fails: how it
+/// ended, and
 /// whether these bytes were written.
 fn serve_two(
     alloc: Global,

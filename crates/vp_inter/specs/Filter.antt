@@ -1,11 +1,13 @@
 -- The six-tap and bilinear interpolation filters, by version and eighths of a pixel (RFC 6386, chapter 18.3). Pinned by
 -- the test `kernel_examples`, and the table of vp_tables.
-use Rattle.std.specs.Prelude.{ℕ, ℤ, pos, ◌-◌, ◌*◌, ◌+ℤ◌, ◌*ℤ◌, ◌==◌, List, [], ◌∷◌, slice_index_or, unsigned_abs, if◌then◌else◌}
+use Rattle.std.specs.Prelude.{ℕ, ℤ, pos, ◌-◌, ◌*◌, ◌+ℤ◌, ◌*ℤ◌, ◌==◌, List, [], ◌∷◌, slice_index_or, unsigned_abs}
+use Rattle.std.specs.Prelude.{if◌then◌else◌}
 use Rattle.std.specs.Int.{int_min, int_max}
 use lib.Signed.{shr_z}
 use Rattle.vp_tables.specs.Tables.{six_taps}
 
--- the weights of the pixels at -2 to 3, by the version and the eighths of a pixel: version 0 has six taps, the others two
+-- the weights of the pixels at -2 to 3, by the version and the eighths of a pixel: version 0 has six taps, the
+-- others two
 unfoldable pub taps : ℕ → ℕ → List ℤ
 taps version eighths =
     if version == 0 then six_taps eighths

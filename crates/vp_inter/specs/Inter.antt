@@ -22,7 +22,8 @@ IsInside p left top columns rows =
 
 -- the horizontal pass: the pixel made of the six from column left + c on, at row top + i
 unfoldable pub horizontal_pass : List ℤ → Raster → ℤ → ℤ → ℕ → ℕ → ℕ
-horizontal_pass weights p left top i c = filter_six weights (λ k. reference_pixel p (left +ℤ pos (c + k)) (top +ℤ pos i))
+horizontal_pass weights p left top i c = filter_six weights (λ k. reference_pixel p (left +ℤ pos (c + k))
+    (top +ℤ pos i))
 
 -- the pixel at row r and column c of the block at column x of row y, moved by a vector: the vertical pass over what the
 -- horizontal pass makes of the six rows round it

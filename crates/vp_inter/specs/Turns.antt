@@ -19,7 +19,8 @@ AreNear weights near =
 -- for rows, of which those three apart are a pair
 abbrev pub AreFar : List ℤ → ColumnWeights → Type 0
 AreFar weights far =
-    AreByTurns far.first (weight weights 0) (weight weights 3) × AreByTurns far.second (weight weights 1) (weight weights 4)
+    AreByTurns far.first (weight weights 0) (weight weights 3)
+    × AreByTurns far.second (weight weights 1) (weight weights 4)
     × AreByTurns far.third (weight weights 2) (weight weights 5)
 
 -- weights of six taps: those at both ends are above 0
@@ -40,13 +41,16 @@ one_of_three a b c zero = a
 one_of_three a b c (suc zero) = b
 one_of_three a b c (suc (suc _)) = c
 
--- a run of pairs of rows that begins with an empty pair: each of every third row, from `from` on, and of the row three below
+-- a run of pairs of rows that begins with an empty pair: each of every third row, from `from` on, and of the row
+-- three below
 abbrev pub HoldsPairs : List ℕ → (ℕ → ℕ → ℕ) → ℕ → ℕ → Type 0
 HoldsPairs run pixel from count =
-    (e c t : ℕ) → e < count → c < 16 → t < 2 → slice_index run (32 * (e + 1) + pair_place c t) ≡ pixel (3 * e + from + 3 * t) c
+    (e c t : ℕ) → e < count → c < 16 → t < 2 → slice_index run (32 * (e + 1) + pair_place c t)
+    ≡ pixel (3 * e + from + 3 * t) c
 
 -- the even and the odd columns of row r and of the row three below, by turns
 abbrev pub IsPair : Pair → (ℕ → ℕ → ℕ) → ℕ → Type 0
 IsPair pair pixel r =
     (j t : ℕ) → j < 8 → t < 2
-    → (slice_index pair.even (2 * j + t) ≡ pixel (r + 3 * t) (2 * j)) × (slice_index pair.odd (2 * j + t) ≡ pixel (r + 3 * t) (2 * j + 1))
+    → (slice_index pair.even (2 * j + t) ≡ pixel (r + 3 * t) (2 * j))
+    × (slice_index pair.odd (2 * j + t) ≡ pixel (r + 3 * t) (2 * j + 1))

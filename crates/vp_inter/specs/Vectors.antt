@@ -1,6 +1,7 @@
 -- Motion vectors in eighths of a plane's pixels: luma vectors, and chroma vectors as means of four (RFC 6386, chapters
 -- 5, 18.1 and 18.2). Pinned by the test `kernel_examples`, and streams of other encoders in the gate.
-use Rattle.std.specs.Prelude.{ℕ, ◌==◌, ℤ, pos, negsuc, ◌+ℤ◌, ◌-ℤ◌, ◌*ℤ◌, ◌≤ℤ◌, unsigned_abs, List, slice_index_or, if◌then◌else◌}
+use Rattle.std.specs.Prelude.{ℕ, ◌==◌, ℤ, pos, negsuc, ◌+ℤ◌, ◌-ℤ◌, ◌*ℤ◌, ◌≤ℤ◌, unsigned_abs, List, slice_index_or}
+use Rattle.std.specs.Prelude.{if◌then◌else◌}
 use Rattle.std.specs.Int.{int_rem_euclid}
 use Rattle.std.specs.Int.RustNames.{int_div}
 use lib.Signed.{shr_z, lt_z}
@@ -13,7 +14,8 @@ whole_pixels eighths = shr_z eighths 8
 unfoldable pub fraction : ℤ → ℕ
 fraction eighths = unsigned_abs (int_rem_euclid eighths (pos 8))
 
--- where the first of the six pixels stands that the pixel at a place is made of: two before it, moved by the whole pixels
+-- where the first of the six pixels stands that the pixel at a place is made of: two before it, moved by the whole
+-- pixels
 unfoldable pub first_tap : ℕ → ℤ → ℤ
 first_tap at eighths = pos at +ℤ whole_pixels eighths -ℤ pos 2
 
@@ -46,4 +48,7 @@ chroma_eighths version quarters =
 -- the vector of a block of 4 by 4 colour pixels, from the rows and the columns of the vectors of the four luma blocks
 -- that it lies under
 unfoldable pub chroma_vector : ℕ → List ℤ → List ℤ → PlaneVector
-chroma_vector version rows columns = record { row = chroma_eighths version rows; column = chroma_eighths version columns }
+chroma_vector version rows columns = record {
+  row = chroma_eighths version rows;
+  column = chroma_eighths version columns;
+}

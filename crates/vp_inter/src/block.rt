@@ -1,6 +1,7 @@
 //! Blocks of an earlier picture, moved by a vector (RFC 6386, chapter 18).
 
-ghost use Rattle.std.specs.Prelude.{◌≡◌, ℕ, ℤ, pos, negsuc, ◌+◌, ◌*◌, ◌%◌, ◌<◌, ◌≤◌, ◌+ℤ◌, ◌≤ℤ◌, length, slice_index, IsTrue};
+ghost use Rattle.std.specs.Prelude.{◌≡◌, ℕ, ℤ, pos, negsuc, ◌+◌, ◌*◌, ◌%◌, ◌<◌, ◌≤◌, ◌+ℤ◌, ◌≤ℤ◌, length, slice_index};
+ghost use Rattle.std.specs.Prelude.{IsTrue};
 ghost use Rattle.vp_inter.specs.Filter.{filter_six};
 ghost use Rattle.vp_inter.specs.Narrow.{AreFew, AreGentle};
 ghost use Rattle.vp_inter.specs.Inter.{reference_pixel, horizontal_pass, inter_pixel, IsInside};
@@ -26,7 +27,8 @@ pub fn predict_block16(
     requires rows { y ≤ 16384 }
     requires wide { 0 < plane.now.width }
     requires high { 0 < plane.now.height }
-    ensures { (r c : ℕ) → r < 16 → c < 16 → slice_index result (r * 16 + c) ≡ inter_pixel version plane.now x y vector r c }
+    ensures { (r c : ℕ) → r < 16 → c < 16 → slice_index result (r * 16 + c)
+        ≡ inter_pixel version plane.now x y vector r c }
 {
     predict::<16, 21, 336, 256>(plane, x, y, vector, version)
 }
@@ -43,7 +45,8 @@ pub fn predict_block8(
     requires rows { y ≤ 16384 }
     requires wide { 0 < plane.now.width }
     requires high { 0 < plane.now.height }
-    ensures { (r c : ℕ) → r < 8 → c < 8 → slice_index result (r * 8 + c) ≡ inter_pixel version plane.now x y vector r c }
+    ensures { (r c : ℕ) → r < 8 → c < 8 → slice_index result (r * 8 + c)
+        ≡ inter_pixel version plane.now x y vector r c }
 {
     predict::<8, 13, 104, 64>(plane, x, y, vector, version)
 }
@@ -60,12 +63,14 @@ pub fn predict_block4(
     requires rows { y ≤ 16384 }
     requires wide { 0 < plane.now.width }
     requires high { 0 < plane.now.height }
-    ensures { (r c : ℕ) → r < 4 → c < 4 → slice_index result (r * 4 + c) ≡ inter_pixel version plane.now x y vector r c }
+    ensures { (r c : ℕ) → r < 4 → c < 4 → slice_index result (r * 4 + c)
+        ≡ inter_pixel version plane.now x y vector r c }
 {
     predict::<4, 9, 36, 16>(plane, x, y, vector, version)
 }
 
-/// A block of rows of `N`. The vertical pass makes it of `W` rows, five more, with `L` pixels; a block at whole rows needs
+/// A block of rows of `N`. The vertical pass makes it of `W` rows, five more, with `L` pixels; a block at whole
+/// rows needs
 /// no others than its own, and one at whole columns no horizontal pass.
 fn predict<const N: usize, const W: usize, const L: usize, const M: usize>(
     plane: &Plane,
@@ -83,7 +88,8 @@ fn predict<const N: usize, const W: usize, const L: usize, const M: usize>(
     requires rows { y ≤ 16384 }
     requires wide { 0 < plane.now.width }
     requires high { 0 < plane.now.height }
-    ensures { (r c : ℕ) → r < N → c < N → slice_index result (r * N + c) ≡ inter_pixel version plane.now x y vector r c }
+    ensures { (r c : ℕ) → r < N → c < N → slice_index result (r * N + c)
+        ≡ inter_pixel version plane.now x y vector r c }
 {
     let _width = plane.width();
     let _height = plane.height();
@@ -130,7 +136,8 @@ fn pass_both<const N: usize, const W: usize, const L: usize, const M: usize>(
     requires height { 0 < plane.now.height }
     requires near { (negsuc 400000000 ≤ℤ left) × (left ≤ℤ pos 400000000) }
     requires beside { (negsuc 400000000 ≤ℤ top) × (top ≤ℤ pos 400000000) }
-    ensures { (r c : ℕ) → r < N → c < N → slice_index pixels.new (r * N + c) ≡ filter_six column_weights.now (λ k. horizontal_pass row_weights.now plane.now left top (r + k) c) }
+    ensures { (r c : ℕ) → r < N → c < N → slice_index pixels.new (r * N + c)
+        ≡ filter_six column_weights.now (λ k. horizontal_pass row_weights.now plane.now left top (r + k) c) }
 {
     if N == 16 && both_ends_count(row_weights) && both_ends_count(column_weights) {
         six_tap_2d_block(pixels, plane, left, top, row_weights, column_weights);
@@ -157,7 +164,8 @@ fn copied_rows<const N: usize, const L: usize>(
     requires near { (negsuc 400000000 ≤ℤ left) × (left ≤ℤ pos 400000000) }
     requires beside { (negsuc 400000000 ≤ℤ top) × (top ≤ℤ pos 400000000) }
     ensures len { length result ≡ L }
-    ensures value { (r c : ℕ) → r < rows → c < N → slice_index result (r * N + c) ≡ reference_pixel plane.now (left +ℤ pos c) (top +ℤ pos r) }
+    ensures value { (r c : ℕ) → r < rows → c < N → slice_index result (r * N + c)
+        ≡ reference_pixel plane.now (left +ℤ pos c) (top +ℤ pos r) }
     ensures bytes { (r c : ℕ) → r < rows → c < N → reference_pixel plane.now (left +ℤ pos c) (top +ℤ pos r) ≤ 255 }
 {
     let inside = lies_inside(plane, left, top, N, rows);
@@ -169,7 +177,8 @@ fn copied_rows<const N: usize, const L: usize>(
     pixels
 }
 
-/// The horizontal pass over `rows` rows of the reference. What holds for the whole block, where it lies and which weights
+/// The horizontal pass over `rows` rows of the reference. What holds for the whole block, where it lies and which
+/// weights
 /// count, is asked before the loop over its rows.
 #[inline(never)]
 fn pass_rows<const N: usize, const W: usize>(
@@ -189,7 +198,8 @@ fn pass_rows<const N: usize, const W: usize>(
     requires height { 0 < plane.now.height }
     requires near { (negsuc 400000000 ≤ℤ left) × (left ≤ℤ pos 400000000) }
     requires beside { (negsuc 400000000 ≤ℤ top) × (top ≤ℤ pos 400000000) }
-    ensures { (i c : ℕ) → i < rows → c < N → slice_index pixels.new (i * N + c) ≡ horizontal_pass weights.now plane.now left top i c }
+    ensures { (i c : ℕ) → i < rows → c < N → slice_index pixels.new (i * N + c)
+        ≡ horizontal_pass weights.now plane.now left top i c }
 {
     let inside = lies_inside(plane, left, top, W, rows);
     if N == 16 && both_ends_count(weights) {
@@ -221,7 +231,8 @@ fn counted_rows<const N: usize, const W: usize, const INSIDE: bool>(
     requires height { 0 < plane.now.height }
     requires near { (negsuc 400000000 ≤ℤ left) × (left ≤ℤ pos 400000000) }
     requires beside { (negsuc 400000000 ≤ℤ top) × (top ≤ℤ pos 400000000) }
-    ensures { (i c : ℕ) → i < rows → c < N → slice_index pixels.new (i * N + c) ≡ horizontal_pass weights.now plane.now left top i c }
+    ensures { (i c : ℕ) → i < rows → c < N → slice_index pixels.new (i * N + c)
+        ≡ horizontal_pass weights.now plane.now left top i c }
 {
     if !ends_are_zero(weights) {
         moved_rows::<N, W, INSIDE, 6>(pixels, plane, left, top, weights, rows);
@@ -232,7 +243,8 @@ fn counted_rows<const N: usize, const W: usize, const INSIDE: bool>(
     }
 }
 
-/// The same, by `COUNT` weights. The loop reads a copy of them, which no write to `pixels` can change, so that each stays
+/// The same, by `COUNT` weights. The loop reads a copy of them, which no write to `pixels` can change, so that each
+/// stays
 /// in a register.
 #[inline(always)]
 fn moved_rows<const N: usize, const W: usize, const INSIDE: bool, const COUNT: usize>(
@@ -254,7 +266,8 @@ fn moved_rows<const N: usize, const W: usize, const INSIDE: bool, const COUNT: u
     requires height { 0 < plane.now.height }
     requires near { (negsuc 400000000 ≤ℤ left) × (left ≤ℤ pos 400000000) }
     requires beside { (negsuc 400000000 ≤ℤ top) × (top ≤ℤ pos 400000000) }
-    ensures { (i c : ℕ) → i < rows → c < N → slice_index pixels.new (i * N + c) ≡ horizontal_pass weights.now plane.now left top i c }
+    ensures { (i c : ℕ) → i < rows → c < N → slice_index pixels.new (i * N + c)
+        ≡ horizontal_pass weights.now plane.now left top i c }
 {
     let own = *weights;
     for i in 0..rows {
@@ -279,7 +292,8 @@ fn moved_row<const N: usize, const W: usize, const INSIDE: bool, const COUNT: us
     requires columns { 0 < plane.now.width }
     requires height { 0 < plane.now.height }
     requires near { (negsuc 400000000 ≤ℤ left) × (left ≤ℤ pos 400000000) }
-    ensures { (c : ℕ) → c < N → slice_index result c ≡ filter_six weights.now (λ k. reference_pixel plane.now (left +ℤ pos (c + k)) row) }
+    ensures { (c : ℕ) → c < N → slice_index result c ≡ filter_six weights.now
+        (λ k. reference_pixel plane.now (left +ℤ pos (c + k)) row) }
 {
     if INSIDE {
         return pass::<N, COUNT>(plane.row(row as usize), left as usize, 1, weights);
@@ -298,7 +312,8 @@ fn pass_columns<const N: usize, const M: usize>(pixels: &mut [u8], rows: &[u8], 
     requires room { M ≤ 256 }
     requires pieces { M % 16 ≡ 0 }
     requires gentle { AreGentle weights.now }
-    ensures { (r c : ℕ) → r < N → c < N → slice_index pixels.new (r * N + c) ≡ filter_six weights.now (λ k. slice_index rows.now ((r + k) * N + c)) }
+    ensures { (r c : ℕ) → r < N → c < N → slice_index pixels.new (r * N + c)
+        ≡ filter_six weights.now (λ k. slice_index rows.now ((r + k) * N + c)) }
 {
     if N == 16 && both_ends_count(weights) {
         six_columns(pixels, rows, weights);
@@ -311,7 +326,8 @@ fn pass_columns<const N: usize, const M: usize>(pixels: &mut [u8], rows: &[u8], 
     }
 }
 
-/// The same by `COUNT` weights, of which the loop reads a copy, as `moved_rows` does: sixteen pixels at a time, whatever
+/// The same by `COUNT` weights, of which the loop reads a copy, as `moved_rows` does: sixteen pixels at a time,
+/// whatever
 /// the rows that they stand in.
 #[inline(always)]
 fn counted_columns<const N: usize, const M: usize, const COUNT: usize>(
@@ -327,7 +343,8 @@ fn counted_columns<const N: usize, const M: usize, const COUNT: usize>(
     requires pieces { M % 16 ≡ 0 }
     requires gentle { AreGentle weights.now }
     requires few { AreFew weights.now COUNT }
-    ensures { (r c : ℕ) → r < N → c < N → slice_index pixels.new (r * N + c) ≡ filter_six weights.now (λ k. slice_index rows.now ((r + k) * N + c)) }
+    ensures { (r c : ℕ) → r < N → c < N → slice_index pixels.new (r * N + c)
+        ≡ filter_six weights.now (λ k. slice_index rows.now ((r + k) * N + c)) }
 {
     let own = *weights;
     for i in 0..M / 16 {

@@ -1,10 +1,12 @@
 //! The filters between pixels (RFC 6386, chapter 18.3), in lanes of one pixel each.
 
-ghost use Rattle.std.specs.Prelude.{◌≡◌, ℕ, ℤ, pos, negsuc, ◌+◌, ◌*◌, ◌<◌, ◌≤◌, ◌*ℤ◌, ◌+ℤ◌, ◌-ℤ◌, ◌≤ℤ◌, length, slice_index, IsTrue};
+ghost use Rattle.std.specs.Prelude.{◌≡◌, ℕ, ℤ, pos, negsuc, ◌+◌, ◌*◌, ◌<◌, ◌≤◌, ◌*ℤ◌, ◌+ℤ◌, ◌-ℤ◌, ◌≤ℤ◌, length};
+ghost use Rattle.std.specs.Prelude.{slice_index, IsTrue};
 ghost use lib.Signed.{shr_z};
 ghost use Rattle.vp_lanes.specs.Lane.{lane, clamp_to_byte};
 ghost use Rattle.vp_inter.specs.Filter.{taps, filter_six};
-ghost use Rattle.vp_inter.specs.Narrow.{IsFrom, IsShort, pair, sum_of_two, sum_of_four, sum_of_six, weight, AreFew, AreGentle};
+ghost use Rattle.vp_inter.specs.Narrow.{IsFrom, IsShort, pair, sum_of_two, sum_of_four, sum_of_six, weight, AreFew};
+ghost use Rattle.vp_inter.specs.Narrow.{AreGentle};
 
 use std::simd::prelude::*;
 use vp_tables::six_taps;
@@ -44,7 +46,8 @@ fn begun<const N: usize>(
     requires first { IsFrom (pos 0) (pos 128) weight_a }
     requires second { IsFrom (pos 0) (pos 128) weight_b }
     requires both { (weight_a +ℤ weight_b) ≤ℤ pos 154 }
-    ensures { (j : ℕ) → j < N → lane result j ≡ pair (slice_index a.entry j) (slice_index b.entry j) weight_a weight_b -ℤ pos 16320 }
+    ensures { (j : ℕ) → j < N → lane result j ≡ pair (slice_index a.entry j)
+        (slice_index b.entry j) weight_a weight_b -ℤ pos 16320 }
 {
     a.cast::<i16>() * Simd::splat(weight_a)
         + Simd::splat(64 - 16384)
@@ -62,8 +65,10 @@ fn more<const N: usize>(
     requires lanes { N ≤ 16 }
     requires first { IsFrom (negsuc 15) (pos 16) weight_a }
     requires second { IsFrom (negsuc 15) (pos 16) weight_b }
-    requires fits { (j : ℕ) → j < N → IsShort (lane sum j +ℤ pair (slice_index a j) (slice_index b j) weight_a weight_b) }
-    ensures { (j : ℕ) → j < N → lane result j ≡ lane sum.entry j +ℤ pair (slice_index a.entry j) (slice_index b.entry j) weight_a weight_b }
+    requires fits { (j : ℕ) → j < N → IsShort (lane sum j +ℤ pair (slice_index a j)
+        (slice_index b j) weight_a weight_b) }
+    ensures { (j : ℕ) → j < N → lane result j ≡ lane sum.entry j +ℤ pair (slice_index a.entry j)
+        (slice_index b.entry j) weight_a weight_b }
 {
     sum + (a.cast::<i16>() * Simd::splat(weight_a) + b.cast::<i16>() * Simd::splat(weight_b))
 }
@@ -137,7 +142,8 @@ pub(crate) fn seconds_are_zero(weights: &[i16; 6]) -> bool
     weights[1] == 0 && weights[4] == 0
 }
 
-/// A pass of `N` pixels: each is made of six, `step` apart, the first of them at `at` and its own place. Only `COUNT` of
+/// A pass of `N` pixels: each is made of six, `step` apart, the first of them at `at` and its own place. Only
+/// `COUNT` of
 /// the weights, which is 6, 4 or 2, take work: those that are 0 at the ends, or beside them too, take none.
 #[inline(always)]
 pub(crate) fn pass<const N: usize, const COUNT: usize>(
@@ -150,7 +156,8 @@ pub(crate) fn pass<const N: usize, const COUNT: usize>(
     requires room { at + 5 * step + N ≤ length s.now }
     requires gentle { AreGentle weights.now }
     requires few { AreFew weights.now COUNT }
-    ensures { (j : ℕ) → j < N → slice_index result j ≡ filter_six weights.now (λ k. slice_index s.now (at + k * step + j)) }
+    ensures { (j : ℕ) → j < N → slice_index result j ≡ filter_six weights.now
+        (λ k. slice_index s.now (at + k * step + j)) }
 {
     if COUNT >= 6 {
         return ended::<N>(whole_sum::<N>(s, at, step, weights));

@@ -27,7 +27,8 @@ pub fn predict_into16(
     requires rows { y + 16 ≤ (plane_of picture.old k).height }
     requires wide { 0 < reference.now.width }
     requires high { 0 < reference.now.height }
-    ensures { picture.new ≡ with_plane picture.old k (with_block (plane_of picture.old k) x y 16 16 (inter_pixel version reference.now x y vector)) }
+    ensures { picture.new ≡ with_plane picture.old k (with_block (plane_of picture.old k) x y 16 16
+        (inter_pixel version reference.now x y vector)) }
 {
     let _size = [picture.plane(k).width(), picture.plane(k).height()];
     if !copied_whole::<16>(picture, k, x, y, reference, vector) {
@@ -51,7 +52,8 @@ pub fn predict_into8(
     requires rows { y + 8 ≤ (plane_of picture.old k).height }
     requires wide { 0 < reference.now.width }
     requires high { 0 < reference.now.height }
-    ensures { picture.new ≡ with_plane picture.old k (with_block (plane_of picture.old k) x y 8 8 (inter_pixel version reference.now x y vector)) }
+    ensures { picture.new ≡ with_plane picture.old k (with_block (plane_of picture.old k) x y 8 8
+        (inter_pixel version reference.now x y vector)) }
 {
     let _size = [picture.plane(k).width(), picture.plane(k).height()];
     if !copied_whole::<8>(picture, k, x, y, reference, vector) {
@@ -75,7 +77,8 @@ pub fn predict_into4(
     requires rows { y + 4 ≤ (plane_of picture.old k).height }
     requires wide { 0 < reference.now.width }
     requires high { 0 < reference.now.height }
-    ensures { picture.new ≡ with_plane picture.old k (with_block (plane_of picture.old k) x y 4 4 (inter_pixel version reference.now x y vector)) }
+    ensures { picture.new ≡ with_plane picture.old k (with_block (plane_of picture.old k) x y 4 4
+        (inter_pixel version reference.now x y vector)) }
 {
     let _size = [picture.plane(k).width(), picture.plane(k).height()];
     if !copied_whole::<4>(picture, k, x, y, reference, vector) {
@@ -84,7 +87,8 @@ pub fn predict_into4(
     }
 }
 
-/// Copies the block of `N` by `N` that a vector of whole pixels moves, where the reference has all of it, and says whether
+/// Copies the block of `N` by `N` that a vector of whole pixels moves, where the reference has all of it, and says
+/// whether
 /// it did.
 fn copied_whole<const N: usize>(
     picture: &mut Picture,
@@ -100,7 +104,9 @@ fn copied_whole<const N: usize>(
     requires row { y ≤ 16384 }
     requires columns { x + N ≤ (plane_of picture.old k).width }
     requires rows { y + N ≤ (plane_of picture.old k).height }
-    ensures written { (version : ℕ) → IsTrue result → picture.new ≡ with_plane picture.old k (with_block (plane_of picture.old k) x y N N (inter_pixel version reference.now x y vector)) }
+    ensures written { (version : ℕ) → IsTrue result → picture.new
+        ≡ with_plane picture.old k (with_block (plane_of picture.old k) x y N N
+        (inter_pixel version reference.now x y vector)) }
     ensures kept { (IsTrue result → ⊥) → picture.new ≡ picture.old }
 {
     if let Some((column, row)) = whole_place(reference, x, y, vector, N) {
@@ -110,7 +116,8 @@ fn copied_whole<const N: usize>(
     false
 }
 
-/// The column and row of the reference at which the block of so many columns and rows stands that a vector of whole pixels
+/// The column and row of the reference at which the block of so many columns and rows stands that a vector of whole
+/// pixels
 /// moves to column `x` of row `y`, if the reference has all of it.
 fn whole_place(
     reference: &Plane,
@@ -124,7 +131,8 @@ fn whole_place(
     requires row { y ≤ 16384 }
     ensures inside { IfSome result (λ at. (at.0 + size ≤ reference.now.width) × (at.1 + size ≤ reference.now.height)) }
     ensures whole { IfSome result (λ at. (fraction vector.column ≡ 0) × (fraction vector.row ≡ 0)) }
-    ensures place { IfSome result (λ at. (pos at.0 ≡ first_tap x vector.column +ℤ pos 2) × (pos at.1 ≡ first_tap y vector.row +ℤ pos 2)) }
+    ensures place { IfSome result (λ at. (pos at.0 ≡ first_tap x vector.column +ℤ pos 2)
+        × (pos at.1 ≡ first_tap y vector.row +ℤ pos 2)) }
 {
     if fraction(vector.column) != 0 || fraction(vector.row) != 0 {
         return None;

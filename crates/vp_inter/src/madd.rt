@@ -70,8 +70,10 @@ fn short(sum: i32x8) -> i16x8
 
 /// Sixteen bytes, each times its weight, summed by twos.
 pub(crate) fn pair_sums(a: u8x16, w: i8x16) -> i16x8
-    requires { (j : ℕ) → j < 8 → IsShort (pos (slice_index a (2 * j)) *ℤ lane w (2 * j) +ℤ pos (slice_index a (2 * j + 1)) *ℤ lane w (2 * j + 1)) }
-    ensures { (j : ℕ) → j < 8 → lane result j ≡ pos (slice_index a (2 * j)) *ℤ lane w (2 * j) +ℤ pos (slice_index a (2 * j + 1)) *ℤ lane w (2 * j + 1) }
+    requires { (j : ℕ) → j < 8 → IsShort (pos (slice_index a (2 * j)) *ℤ lane w (2 * j) +ℤ pos
+        (slice_index a (2 * j + 1)) *ℤ lane w (2 * j + 1)) }
+    ensures { (j : ℕ) → j < 8 → lane result j ≡ pos (slice_index a (2 * j)) *ℤ lane w (2 * j) +ℤ pos
+        (slice_index a (2 * j + 1)) *ℤ lane w (2 * j + 1) }
 {
     short(added(
         products(evens(a), even_weights(w)),
@@ -93,7 +95,8 @@ pub(crate) fn turn_sums(s: &[u8], at: usize, w: i8x16, even: i16, odd: i16) -> i
     requires room { at + 16 ≤ length s.now }
     requires turns { AreByTurns w even odd }
     requires fits { ArePairable even odd }
-    ensures { (j : ℕ) → j < 8 → lane result j ≡ pair (slice_index s.now (at + 2 * j)) (slice_index s.now (at + (2 * j + 1))) even odd }
+    ensures { (j : ℕ) → j < 8 → lane result j ≡ pair (slice_index s.now (at + 2 * j))
+        (slice_index s.now (at + (2 * j + 1))) even odd }
 {
     pair_sums(load::<16>(s, at), w)
 }

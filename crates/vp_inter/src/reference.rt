@@ -1,6 +1,7 @@
 //! The pixels of a reference, which go on outside the plane (RFC 6386, chapter 5).
 
-ghost use Rattle.std.specs.Prelude.{◌≡◌, ℕ, ℤ, pos, negsuc, ◌+◌, ◌-◌, ◌<◌, ◌≤◌, ◌+ℤ◌, ◌≤ℤ◌, length, min, slice_index, IsTrue};
+ghost use Rattle.std.specs.Prelude.{◌≡◌, ℕ, ℤ, pos, negsuc, ◌+◌, ◌-◌, ◌<◌, ◌≤◌, ◌+ℤ◌, ◌≤ℤ◌, length, min, slice_index};
+ghost use Rattle.std.specs.Prelude.{IsTrue};
 ghost use Rattle.vp_inter.specs.Inter.{nearest, reference_pixel, IsInside};
 
 use crate::block::put_lanes;
@@ -54,7 +55,8 @@ pub(crate) fn plain_row<const N: usize>(
     load(&reference_line(plane, left, row), 0)
 }
 
-/// The 32 pixels from column `left` of row `row` on, wherever they are. What hangs on the column alone is found before a
+/// The 32 pixels from column `left` of row `row` on, wherever they are. What hangs on the column alone is found
+/// before a
 /// loop over rows, and what isn't read of the result isn't made.
 #[inline(always)]
 pub(crate) fn reference_line(plane: &Plane, left: i32, row: i32) -> [u8; 32]
@@ -72,7 +74,8 @@ fn nearest_numbers(line: &[u8], left: i32) -> [u8; 32]
     requires some { 0 < length line.now }
     requires near { (negsuc 400000000 ≤ℤ left) × (left ≤ℤ pos 400000000) }
     ensures len { length result ≡ 32 }
-    ensures value { (c : ℕ) → c < 32 → slice_index result c ≡ slice_index line.now (nearest (length line.now) (left +ℤ pos c)) }
+    ensures value { (c : ℕ) → c < 32 → slice_index result c ≡ slice_index line.now
+        (nearest (length line.now) (left +ℤ pos c)) }
 {
     if line.len() < 16 {
         return beyond(line, left);
@@ -126,7 +129,8 @@ fn beyond(line: &[u8], left: i32) -> [u8; 32]
     requires some { 0 < length line.now }
     requires near { (negsuc 400000000 ≤ℤ left) × (left ≤ℤ pos 400000000) }
     ensures len { length result ≡ 32 }
-    ensures value { (c : ℕ) → c < 32 → slice_index result c ≡ slice_index line.now (nearest (length line.now) (left +ℤ pos c)) }
+    ensures value { (c : ℕ) → c < 32 → slice_index result c ≡ slice_index line.now
+        (nearest (length line.now) (left +ℤ pos c)) }
 {
     let mut pixels = [0; 32];
     for c in 0..32 {

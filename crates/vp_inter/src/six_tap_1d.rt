@@ -1,6 +1,7 @@
 //! Six taps of sixteen pixels a row (RFC 6386, chapter 18.3), by bytes times weights that are summed by twos.
 
-ghost use Rattle.std.specs.Prelude.{◌≡◌, ℕ, ℤ, pos, negsuc, ◌+◌, ◌*◌, ◌/◌, ◌%◌, ◌<◌, ◌≤◌, ◌+ℤ◌, ◌-ℤ◌, ◌≤ℤ◌, length, slice_index, IsTrue};
+ghost use Rattle.std.specs.Prelude.{◌≡◌, ℕ, ℤ, pos, negsuc, ◌+◌, ◌*◌, ◌/◌, ◌%◌, ◌<◌, ◌≤◌, ◌+ℤ◌, ◌-ℤ◌, ◌≤ℤ◌, length};
+ghost use Rattle.std.specs.Prelude.{slice_index, IsTrue};
 ghost use Rattle.vp_lanes.specs.Lane.{lane};
 ghost use Rattle.vp_inter.specs.Filter.{filter_six};
 ghost use Rattle.vp_inter.specs.Inter.{reference_pixel, horizontal_pass, IsInside};
@@ -21,7 +22,8 @@ pub(crate) fn both_ends_count(weights: &[i16; 6]) -> bool
     weights[0] > 0 && weights[5] > 0
 }
 
-/// The weights of six pixels that stand side by side, by turns: of the first, of the second and third, of the fourth and
+/// The weights of six pixels that stand side by side, by turns: of the first, of the second and third, of the
+/// fourth and
 /// fifth, and of the last.
 #[derive(Clone, Copy)]
 pub(crate) struct RowWeights {
@@ -119,7 +121,8 @@ fn horizontal_sums(s: &[u8], at: usize, weights: &[i16; 6], near: &RowWeights) -
 fn vertical_sums(a: u8x16, b: u8x16, c: u8x16, weights: &[i16; 6], far: &ColumnWeights) -> i16x8
     requires six { AreSix weights.now }
     requires turns { AreFar weights.now far.now }
-    ensures { (j : ℕ) → j < 8 → lane result j ≡ sum_of_six weights.now (λ k. slice_index (one_of_three a b c (k % 3)) (2 * j + k / 3)) }
+    ensures { (j : ℕ) → j < 8 → lane result j ≡ sum_of_six weights.now
+        (λ k. slice_index (one_of_three a b c (k % 3)) (2 * j + k / 3)) }
 {
     sum_of_three(
         turned_sums(a, far.first, weights[0], weights[3]),
@@ -133,7 +136,8 @@ fn horizontal_eight(s: &[u8], at: usize, weights: &[i16; 6], near: &RowWeights) 
     requires room { at + 20 ≤ length s.now }
     requires six { AreSix weights.now }
     requires turns { AreNear weights.now near.now }
-    ensures { (j : ℕ) → j < 8 → slice_index result j ≡ filter_six weights.now (λ k. slice_index s.now (at + 2 * j + k)) }
+    ensures { (j : ℕ) → j < 8 → slice_index result j ≡ filter_six weights.now
+        (λ k. slice_index s.now (at + 2 * j + k)) }
 {
     ended::<8>(horizontal_sums(s, at, weights, near))
 }
@@ -148,7 +152,8 @@ pub(crate) fn vertical_eight(
 ) -> u8x8
     requires six { AreSix weights.now }
     requires turns { AreFar weights.now far.now }
-    ensures { (j : ℕ) → j < 8 → slice_index result j ≡ filter_six weights.now (λ k. slice_index (one_of_three a b c (k % 3)) (2 * j + k / 3)) }
+    ensures { (j : ℕ) → j < 8 → slice_index result j ≡ filter_six weights.now
+        (λ k. slice_index (one_of_three a b c (k % 3)) (2 * j + k / 3)) }
 {
     ended::<8>(vertical_sums(a, b, c, weights, far))
 }
@@ -158,7 +163,8 @@ fn horizontal_halves(s: &[u8], at: usize, weights: &[i16; 6], near: &RowWeights)
     requires room { at + 21 ≤ length s.now }
     requires six { AreSix weights.now }
     requires turns { AreNear weights.now near.now }
-    ensures { (c : ℕ) → c < 16 → slice_index result (half_place c) ≡ filter_six weights.now (λ k. slice_index s.now (at + c + k)) }
+    ensures { (c : ℕ) → c < 16 → slice_index result (half_place c)
+        ≡ filter_six weights.now (λ k. slice_index s.now (at + c + k)) }
 {
     joined(
         horizontal_eight(s, at, weights, near),
@@ -171,7 +177,8 @@ fn vertical_sixteen(pairs: &[u8], at: usize, weights: &[i16; 6], far: &ColumnWei
     requires room { at + 96 ≤ length pairs.now }
     requires six { AreSix weights.now }
     requires turns { AreFar weights.now far.now }
-    ensures { (j : ℕ) → j < 16 → slice_index result j ≡ filter_six weights.now (λ k. slice_index pairs.now (at + 32 * (k % 3) + (2 * j + k / 3))) }
+    ensures { (j : ℕ) → j < 16 → slice_index result j ≡ filter_six weights.now
+        (λ k. slice_index pairs.now (at + 32 * (k % 3) + (2 * j + k / 3))) }
 {
     let front = vertical_eight(
         load(pairs, at),
@@ -206,7 +213,8 @@ pub(crate) fn halves_row<const INSIDE: bool>(
     requires columns { 0 < plane.now.width }
     requires height { 0 < plane.now.height }
     requires near { (negsuc 400000000 ≤ℤ left) × (left ≤ℤ pos 400000000) }
-    ensures { (c : ℕ) → c < 16 → slice_index result (half_place c) ≡ filter_six weights.now (λ k. reference_pixel plane.now (left +ℤ pos (c + k)) row) }
+    ensures { (c : ℕ) → c < 16 → slice_index result (half_place c)
+        ≡ filter_six weights.now (λ k. reference_pixel plane.now (left +ℤ pos (c + k)) row) }
 {
     if INSIDE {
         return horizontal_halves(plane.row(row as usize), left as usize, weights, near);
@@ -243,7 +251,8 @@ fn wide_rows<const INSIDE: bool>(
     requires height { 0 < plane.now.height }
     requires near { (negsuc 400000000 ≤ℤ left) × (left ≤ℤ pos 400000000) }
     requires beside { (negsuc 400000000 ≤ℤ top) × (top ≤ℤ pos 400000000) }
-    ensures { (i c : ℕ) → i < rows → c < 16 → slice_index pixels.new (i * 16 + c) ≡ horizontal_pass weights.now plane.now left top i c }
+    ensures { (i c : ℕ) → i < rows → c < 16 → slice_index pixels.new (i * 16 + c)
+        ≡ horizontal_pass weights.now plane.now left top i c }
 {
     for i in 0..rows {
         let halves = halves_row::<INSIDE>(plane, left, top + i as i32, weights, near);
@@ -251,7 +260,8 @@ fn wide_rows<const INSIDE: bool>(
     }
 }
 
-/// The horizontal pass by six weights over `rows` rows of the reference, which all lie inside the plane if `inside` says so.
+/// The horizontal pass by six weights over `rows` rows of the reference, which all lie inside the plane if `inside`
+/// says so.
 pub(crate) fn six_rows(
     pixels: &mut [u8],
     plane: &Plane,
@@ -269,7 +279,8 @@ pub(crate) fn six_rows(
     requires height { 0 < plane.now.height }
     requires near { (negsuc 400000000 ≤ℤ left) × (left ≤ℤ pos 400000000) }
     requires beside { (negsuc 400000000 ≤ℤ top) × (top ≤ℤ pos 400000000) }
-    ensures { (i c : ℕ) → i < rows → c < 16 → slice_index pixels.new (i * 16 + c) ≡ horizontal_pass weights.now plane.now left top i c }
+    ensures { (i c : ℕ) → i < rows → c < 16 → slice_index pixels.new (i * 16 + c)
+        ≡ horizontal_pass weights.now plane.now left top i c }
 {
     let near = paired_row_weights(weights);
     if inside {
@@ -299,7 +310,8 @@ fn wide_columns(pixels: &mut [u8], pairs: &[u8], weights: &[i16; 6], far: &Colum
     requires whole { length pixels.old ≡ 256 }
     requires six { AreSix weights.now }
     requires turns { AreFar weights.now far.now }
-    ensures { (r c : ℕ) → r < 16 → c < 16 → slice_index pixels.new (r * 16 + c) ≡ filter_six weights.now (λ k. slice_index pairs.now (32 * r + 32 * (k % 3) + (2 * c + k / 3))) }
+    ensures { (r c : ℕ) → r < 16 → c < 16 → slice_index pixels.new (r * 16 + c)
+        ≡ filter_six weights.now (λ k. slice_index pairs.now (32 * r + 32 * (k % 3) + (2 * c + k / 3))) }
 {
     for i in 0..16 {
         let row = vertical_sixteen(pairs, 32 * i, weights, far);
@@ -312,7 +324,8 @@ pub(crate) fn six_columns(pixels: &mut [u8], rows: &[u8], weights: &[i16; 6])
     requires all { length rows.now ≡ 336 }
     requires whole { length pixels.old ≡ 256 }
     requires six { AreSix weights.now }
-    ensures { (r c : ℕ) → r < 16 → c < 16 → slice_index pixels.new (r * 16 + c) ≡ filter_six weights.now (λ k. slice_index rows.now ((r + k) * 16 + c)) }
+    ensures { (r c : ℕ) → r < 16 → c < 16 → slice_index pixels.new (r * 16 + c)
+        ≡ filter_six weights.now (λ k. slice_index rows.now ((r + k) * 16 + c)) }
 {
     let mut pairs = [0; 576];
     pair_rows(&mut pairs, rows);

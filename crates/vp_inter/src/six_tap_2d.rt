@@ -1,7 +1,8 @@
 //! Both passes by six weights over a block of sixteen by sixteen pixels (RFC 6386, chapter 18.3). The rows of the first
 //! are written in pairs, as the second multiplies them, and each pass takes three rows a turn.
 
-ghost use Rattle.std.specs.Prelude.{◌≡◌, ℕ, ℤ, pos, negsuc, ◌+◌, ◌*◌, ◌<◌, ◌≤◌, ◌+ℤ◌, ◌≤ℤ◌, length, slice_index, IsTrue};
+ghost use Rattle.std.specs.Prelude.{◌≡◌, ℕ, ℤ, pos, negsuc, ◌+◌, ◌*◌, ◌<◌, ◌≤◌, ◌+ℤ◌, ◌≤ℤ◌, length, slice_index};
+ghost use Rattle.std.specs.Prelude.{IsTrue};
 ghost use Rattle.vp_inter.specs.Filter.{filter_six};
 ghost use Rattle.vp_inter.specs.Inter.{horizontal_pass, IsInside};
 ghost use Rattle.vp_inter.specs.Turns.{AreNear, AreFar, AreSix, HoldsPairs, IsPair, half_place, pair_place};
@@ -46,9 +47,12 @@ fn three_rows<const INSIDE: bool>(
     requires height { 0 < plane.now.height }
     requires near { (negsuc 400000000 ≤ℤ left) × (left ≤ℤ pos 400000000) }
     requires beside { (negsuc 400000000 ≤ℤ top) × (top ≤ℤ pos 400000018) }
-    ensures first { (c : ℕ) → c < 16 → slice_index result.first (half_place c) ≡ horizontal_pass weights.now plane.now left top 0 c }
-    ensures second { (c : ℕ) → c < 16 → slice_index result.second (half_place c) ≡ horizontal_pass weights.now plane.now left top 1 c }
-    ensures third { (c : ℕ) → c < 16 → slice_index result.third (half_place c) ≡ horizontal_pass weights.now plane.now left top 2 c }
+    ensures first { (c : ℕ) → c < 16 → slice_index result.first (half_place c)
+        ≡ horizontal_pass weights.now plane.now left top 0 c }
+    ensures second { (c : ℕ) → c < 16 → slice_index result.second (half_place c)
+        ≡ horizontal_pass weights.now plane.now left top 1 c }
+    ensures third { (c : ℕ) → c < 16 → slice_index result.third (half_place c)
+        ≡ horizontal_pass weights.now plane.now left top 2 c }
 {
     Three {
         first: halves_row::<INSIDE>(plane, left, top, weights, near),
@@ -88,7 +92,8 @@ fn put_pair(run: &mut [u8], i: usize, a: u8x16, b: u8x16)
 }
 
 /// The horizontal pass, to three runs of pairs, of which each takes every third row. The loop reads the weights from
-/// memory again and again: what stood in registers from before it would not be multiplied and summed by one instruction.
+/// memory again and again: what stood in registers from before it would not be multiplied and summed by one
+/// instruction.
 #[inline(never)]
 fn paired_rows<const INSIDE: bool>(
     first: &mut [u8],
@@ -175,7 +180,9 @@ fn pair_at(run: &[u8], e: usize) -> Pair
 fn vertical_row(a: &Pair, b: &Pair, c: &Pair, weights: &[i16; 6], far: &ColumnWeights) -> u8x16
     requires six { AreSix weights.now }
     requires turns { AreFar weights.now far.now }
-    ensures { (pixel : ℕ → ℕ → ℕ) → (r : ℕ) → IsPair a.now pixel r → IsPair b.now pixel (r + 1) → IsPair c.now pixel (r + 2) → (x : ℕ) → x < 16 → slice_index result x ≡ filter_six weights.now (λ k. pixel (r + k) x) }
+    ensures { (pixel : ℕ → ℕ → ℕ) → (r : ℕ) → IsPair a.now pixel r → IsPair b.now pixel (r + 1)
+        → IsPair c.now pixel (r + 2) → (x : ℕ) → x < 16 → slice_index result x
+        ≡ filter_six weights.now (λ k. pixel (r + k) x) }
 {
     interleave(
         vertical_eight(a.even, b.even, c.even, weights, far),
@@ -198,9 +205,15 @@ fn vertical_three_rows(
     requires place { e < 5 }
     requires six { AreSix weights.now }
     requires turns { AreFar weights.now far.now }
-    ensures first { (pixel : ℕ → ℕ → ℕ) → HoldsPairs first.now pixel 0 6 → HoldsPairs second.now pixel 1 6 → HoldsPairs third.now pixel 2 6 → (x : ℕ) → x < 16 → slice_index result.first x ≡ filter_six weights.now (λ k. pixel (3 * e + k) x) }
-    ensures second { (pixel : ℕ → ℕ → ℕ) → HoldsPairs first.now pixel 0 6 → HoldsPairs second.now pixel 1 6 → HoldsPairs third.now pixel 2 6 → (x : ℕ) → x < 16 → slice_index result.second x ≡ filter_six weights.now (λ k. pixel (3 * e + 1 + k) x) }
-    ensures third { (pixel : ℕ → ℕ → ℕ) → HoldsPairs first.now pixel 0 6 → HoldsPairs second.now pixel 1 6 → HoldsPairs third.now pixel 2 6 → (x : ℕ) → x < 16 → slice_index result.third x ≡ filter_six weights.now (λ k. pixel (3 * e + 2 + k) x) }
+    ensures first { (pixel : ℕ → ℕ → ℕ) → HoldsPairs first.now pixel 0 6 → HoldsPairs second.now pixel 1 6
+        → HoldsPairs third.now pixel 2 6 → (x : ℕ) → x < 16 → slice_index result.first x
+        ≡ filter_six weights.now (λ k. pixel (3 * e + k) x) }
+    ensures second { (pixel : ℕ → ℕ → ℕ) → HoldsPairs first.now pixel 0 6 → HoldsPairs second.now pixel 1 6
+        → HoldsPairs third.now pixel 2 6 → (x : ℕ) → x < 16 → slice_index result.second x
+        ≡ filter_six weights.now (λ k. pixel (3 * e + 1 + k) x) }
+    ensures third { (pixel : ℕ → ℕ → ℕ) → HoldsPairs first.now pixel 0 6 → HoldsPairs second.now pixel 1 6
+        → HoldsPairs third.now pixel 2 6 → (x : ℕ) → x < 16 → slice_index result.third x
+        ≡ filter_six weights.now (λ k. pixel (3 * e + 2 + k) x) }
 {
     let a = pair_at(first, e);
     let b = pair_at(second, e);
@@ -229,7 +242,9 @@ fn paired_columns(
     requires three { length third.now ≡ 224 }
     requires six { AreSix weights.now }
     requires turns { AreFar weights.now far.now }
-    ensures { (pixel : ℕ → ℕ → ℕ) → HoldsPairs first.now pixel 0 6 → HoldsPairs second.now pixel 1 6 → HoldsPairs third.now pixel 2 6 → (r c : ℕ) → r < 16 → c < 16 → slice_index pixels.new (r * 16 + c) ≡ filter_six weights.now (λ k. pixel (r + k) c) }
+    ensures { (pixel : ℕ → ℕ → ℕ) → HoldsPairs first.now pixel 0 6 → HoldsPairs second.now pixel 1 6
+        → HoldsPairs third.now pixel 2 6 → (r c : ℕ) → r < 16 → c < 16
+        → slice_index pixels.new (r * 16 + c) ≡ filter_six weights.now (λ k. pixel (r + k) c) }
 {
     for i in 0..5 {
         let rows = vertical_three_rows(first, second, third, i, weights, far);
@@ -260,7 +275,8 @@ pub(crate) fn six_tap_2d_block(
     requires height { 0 < plane.now.height }
     requires near { (negsuc 400000000 ≤ℤ left) × (left ≤ℤ pos 400000000) }
     requires beside { (negsuc 400000000 ≤ℤ top) × (top ≤ℤ pos 400000000) }
-    ensures { (r c : ℕ) → r < 16 → c < 16 → slice_index pixels.new (r * 16 + c) ≡ filter_six column_weights.now (λ k. horizontal_pass row_weights.now plane.now left top (r + k) c) }
+    ensures { (r c : ℕ) → r < 16 → c < 16 → slice_index pixels.new (r * 16 + c)
+        ≡ filter_six column_weights.now (λ k. horizontal_pass row_weights.now plane.now left top (r + k) c) }
 {
     let mut first = [0; 224];
     let mut second = [0; 224];

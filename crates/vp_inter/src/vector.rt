@@ -2,7 +2,8 @@
 
 ghost use Rattle.std.specs.Prelude.{◌≡◌, ℕ, ℤ, pos, negsuc, ◌+◌, ◌<◌, ◌≤◌, ◌+ℤ◌, ◌-ℤ◌, ◌*ℤ◌, ◌≤ℤ◌, unsigned_abs, ◌^◌};
 ghost use lib.Signed.{shr_z};
-ghost use Rattle.vp_inter.specs.Vectors.{whole_pixels, fraction, first_tap, IsFarBelowI32, AreFarBelowI32, mean_of_four, chroma_eighths, luma_vector, chroma_vector};
+ghost use Rattle.vp_inter.specs.Vectors.{whole_pixels, fraction, first_tap, IsFarBelowI32, AreFarBelowI32};
+ghost use Rattle.vp_inter.specs.Vectors.{mean_of_four, chroma_eighths, luma_vector, chroma_vector};
 
 /// How far a block moves, in eighths of the plane's pixels (RFC 6386, chapter 5).
 #[derive(Clone, Copy, Debug, PartialEq, Eq, Default)]
@@ -54,7 +55,8 @@ pub fn luma_vector(row: i32, column: i32) -> PlaneVector
     }
 }
 
-/// The vector of a block of 4 by 4 colour pixels, of the rows and the columns, in quarters of a pixel, of the vectors of
+/// The vector of a block of 4 by 4 colour pixels, of the rows and the columns, in quarters of a pixel, of the
+/// vectors of
 /// the four luma blocks of 4 by 4 that it lies under. `version` is the frame's.
 #[tactic(auto, unfolding(crate::specs::Vectors::chroma_vector))]
 pub fn chroma_vector(version: u8, rows: &[i32; 4], columns: &[i32; 4]) -> PlaneVector

@@ -27,7 +27,8 @@ corner_pixel p x y = if y == 0 then 127 else (if x == 0 then 129 else pixel p (x
 
 -- the pixels above and to the left of an n by n block that lie inside the frame
 unfoldable pub edge : Raster → ℕ → ℕ → ℕ → List ℕ
-edge p x y n = (if y == 0 then [] else first n (above_pixel p x y)) ++ (if x == 0 then [] else first n (left_pixel p x y))
+edge p x y n = (if y == 0 then [] else first n (above_pixel p x y))
+    ++ (if x == 0 then [] else first n (left_pixel p x y))
 
 -- their mean, halves up; 128 where there is none
 abbrev pub rounded_mean : List ℕ → ℕ

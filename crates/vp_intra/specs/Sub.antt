@@ -1,6 +1,7 @@
 -- Intra prediction of a luma subblock by its ten modes, and the row that the pixels above and to the right come from
 -- (RFC 6386, chapter 12.3). Pinned by the test `ten_subblock_modes`.
-use Rattle.std.specs.Prelude.{ℕ, ◌+◌, ◌*◌, ◌-◌, ◌/◌, ◌%◌, ◌==◌, min, List, [], ◌∷◌, sum, take, drop, map, slice_index, replicate, if◌then◌else◌}
+use Rattle.std.specs.Prelude.{ℕ, ◌+◌, ◌*◌, ◌-◌, ◌/◌, ◌%◌, ◌==◌, min, List, [], ◌∷◌, sum, take, drop, map, slice_index}
+use Rattle.std.specs.Prelude.{replicate, if◌then◌else◌}
 use Rattle.std.specs.List.{range_with_len}
 use Rattle.vp_base.specs.Raster.{Raster, pixel}
 use Rattle.vp_tables.specs.declared.modes.SubMode.{SubMode}
@@ -14,7 +15,8 @@ right_row x y = if x % 16 == 12 then y - y % 16 else y
 
 -- the i-th of these pixels: above the frame it is 127, and past the last column the last pixel is repeated
 unfoldable pub above_right_pixel : Raster → ℕ → ℕ → ℕ → ℕ
-above_right_pixel p x y i = if right_row x y == 0 then 127 else pixel p (min (x + 4 + i) (p.width - 1)) (right_row x y - 1)
+above_right_pixel p x y i = if right_row x y == 0 then 127 else pixel p (min (x + 4 + i) (p.width - 1))
+    (right_row x y - 1)
 
 -- The thirteen pixels round a subblock, from the bottom of the left column up, over the corner, and along the row
 -- above: number 4 is the corner, number 5 the first of the row above, and number 3 the top of the left column.
@@ -50,7 +52,8 @@ predicted Ve es = sixteen (λ r c. about es (5 + c))
 predicted He es =
     sixteen (λ r c. if r == 3 then avg3 (slice_index es 1) (slice_index es 0) (slice_index es 0) else about es (3 - r))
 predicted Ld es =
-    sixteen (λ r c. if r + c == 6 then avg3 (slice_index es 11) (slice_index es 12) (slice_index es 12) else about es (6 + r + c))
+    sixteen (λ r c. if r + c == 6 then avg3 (slice_index es 11) (slice_index es 12) (slice_index es 12) else about es (6
+    + r + c))
 predicted Rd es = sixteen (λ r c. about es ((4 - r) + c))
 predicted Vr es =
     two es 4 ∷ two es 5 ∷ two es 6 ∷ two es 7 ∷

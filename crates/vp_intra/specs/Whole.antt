@@ -5,7 +5,8 @@ use Rattle.vp_base.specs.Raster.{Raster}
 use Rattle.vp_tables.specs.declared.modes.LumaMode.{LumaMode}
 use Rattle.vp_tables.specs.declared.modes.LumaMode.TheVariants.{Dc, V, H, Tm, B}
 use Rattle.vp_tables.specs.declared.modes.ChromaMode.{ChromaMode}
-use Rattle.vp_tables.specs.declared.modes.ChromaMode.TheVariants.{Dc as ChromaDc, V as ChromaV, H as ChromaH, Tm as ChromaTm}
+use Rattle.vp_tables.specs.declared.modes.ChromaMode.TheVariants.{Dc as ChromaDc, V as ChromaV, H as ChromaH}
+use Rattle.vp_tables.specs.declared.modes.ChromaMode.TheVariants.{Tm as ChromaTm}
 use Rattle.vp_intra.specs.Edges.{above_pixel, left_pixel, true_motion, edge, rounded_mean}
 
 -- row r and column c of the 16 by 16 block at column x of row y of p; B predicts no whole block, and has no pixel here

@@ -55,7 +55,8 @@ pub fn predict_luma_into(picture: &mut Picture, x: usize, y: usize, mode: LumaMo
     requires columns { x + 16 ≤ picture.old.luma.width }
     requires rows { y + 16 ≤ picture.old.luma.height }
     requires whole { ¬ (mode ≡ LumaMode.B) }
-    ensures value { picture.new ≡ with_plane picture.old 0 (with_block picture.old.luma x y 16 16 (luma_pixel mode picture.old.luma x y)) }
+    ensures value { picture.new ≡ with_plane picture.old 0 (with_block picture.old.luma x y 16 16
+        (luma_pixel mode picture.old.luma x y)) }
     ensures bytes { (r c : ℕ) → r < 16 → c < 16 → luma_pixel mode picture.old.luma x y r c ≤ 255 }
 {
     let plane = picture.plane(0);
@@ -88,7 +89,8 @@ pub fn predict_chroma_into(picture: &mut Picture, k: usize, x: usize, y: usize, 
     requires plane { k < 3 }
     requires columns { x + 8 ≤ (plane_of picture.old k).width }
     requires rows { y + 8 ≤ (plane_of picture.old k).height }
-    ensures value { picture.new ≡ with_plane picture.old k (with_block (plane_of picture.old k) x y 8 8 (chroma_pixel mode (plane_of picture.old k) x y)) }
+    ensures value { picture.new ≡ with_plane picture.old k (with_block (plane_of picture.old k) x y 8 8
+        (chroma_pixel mode (plane_of picture.old k) x y)) }
     ensures bytes { (r c : ℕ) → r < 8 → c < 8 → chroma_pixel mode (plane_of picture.old k) x y r c ≤ 255 }
 {
     let plane = picture.plane(k);

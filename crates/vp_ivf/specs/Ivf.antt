@@ -1,7 +1,8 @@
 -- The head and the packets of an IVF file, and the faults in their order. All numbers are little endian. IVF is the
 -- container of the standard's test streams, and no part of RFC 6386. Pinned by the tests `packet_limits`,
 -- `file_cut_short` and `fed_byte_by_byte`.
-use Rattle.std.specs.Prelude.{ℕ, zero, suc, ◌+◌, nat_lt, nat_eq, not, List, [], ◌∷◌, ◌++◌, length, take, drop, Option, Some, None, Result, Ok, Err, if◌then◌else◌, codes}
+use Rattle.std.specs.Prelude.{ℕ, zero, suc, ◌+◌, nat_lt, nat_eq, not, List, [], ◌∷◌, ◌++◌, length, take, drop, Option}
+use Rattle.std.specs.Prelude.{Some, None, Result, Ok, Err, if◌then◌else◌, codes}
 use Rattle.std.specs.List.{starts_with}
 use Rattle.byteorder.specs.Endian.{little_number}
 use Rattle.vp_ivf.specs.declared.packet.Packet.{Packet}
@@ -20,7 +21,12 @@ pub record Contents : Type 0 where
 
 -- what the 32 bytes of a file's head say
 abbrev pub parsed_ivf_head : List ℕ → IvfHead
-parsed_ivf_head b = record { w = little_number 2 (drop 12 b); h = little_number 2 (drop 14 b); rate = little_number 4 (drop 16 b); scale = little_number 4 (drop 20 b) }
+parsed_ivf_head b = record {
+  w = little_number 2 (drop 12 b);
+  h = little_number 2 (drop 14 b);
+  rate = little_number 4 (drop 16 b);
+  scale = little_number 4 (drop 20 b);
+}
 
 -- the head, once its 32 bytes are there
 unfoldable pub next_head : List ℕ → Result (Option IvfHead) FileFault
@@ -37,7 +43,8 @@ packet_size b = little_number 4 b
 abbrev pub packet_at : ℕ → List ℕ → Packet
 packet_at size b = record { time = little_number 8 (drop 4 b); bytes = take size (drop 12 b) }
 
--- the size of the packet at the front, once it is whole, where packets of at most max bytes are allowed and n more of them
+-- the size of the packet at the front, once it is whole, where packets of at most max bytes are allowed and n more
+-- of them
 unfoldable pub next_size : ℕ → ℕ → List ℕ → Result (Option ℕ) FileFault
 next_size max zero b = if nat_lt (length b) 12 then Ok None else Err TooMany
 next_size max (suc n) b =
@@ -62,7 +69,8 @@ after_next head (Ok (Some size)) n b later = with_front (packet_at size b ∷ []
 -- what is cut behind the head, where n packets may still come
 unfoldable pub cuts : Option IvfHead → ℕ → ℕ → List ℕ → Contents
 cuts head max zero b = after_next head (next_size max zero b) 0 b (stop head 0 None b)
-cuts head max (suc n) b = after_next head (next_size max (suc n) b) (suc n) b (cuts head max n (drop (12 + packet_size b) b))
+cuts head max (suc n) b = after_next head (next_size max (suc n) b) (suc n) b
+    (cuts head max n (drop (12 + packet_size b) b))
 
 abbrev pub after_head : Result (Option IvfHead) FileFault → ℕ → ℕ → List ℕ → Contents
 after_head (Err fault) max n b = stop None n (Some fault) b

@@ -1,6 +1,7 @@
 -- Laws of IVF files: reading in pieces, growing files, the text of a file against its packets, and one law that
 -- determines the reading.
-use Rattle.std.specs.Prelude.{◌≡◌, ◌≢◌, ◌<◌, ◌≤◌, ◌^◌, ◌-◌, ◌+◌, ◌⊎◌, ℕ, true, false, nat_eq, codes, List, [], ◌∷◌, ◌++◌, length, drop, slice_index, Option, Some, None, Ok}
+use Rattle.std.specs.Prelude.{◌≡◌, ◌≢◌, ◌<◌, ◌≤◌, ◌^◌, ◌-◌, ◌+◌, ◌⊎◌, ℕ, true, false, nat_eq, codes, List, [], ◌∷◌}
+use Rattle.std.specs.Prelude.{◌++◌, length, drop, slice_index, Option, Some, None, Ok}
 use Rattle.std.specs.List.{starts_with}
 use Rattle.vp_ivf.specs.declared.packet.Packet.{Packet}
 use Rattle.vp_ivf.specs.declared.packet.IvfHead.{IvfHead}
@@ -25,11 +26,13 @@ IsReadInPieces = (max n : ℕ) (b more : List ℕ) → read_file max n (b ++ mor
 
 -- bytes that are added change no packet that was cut; they may bring later ones
 abbrev pub KeepsPackets : Type 0
-KeepsPackets = (max n : ℕ) (b more : List ℕ) → (later : List Packet) × ((read_file max n (b ++ more)).packets ≡ (read_file max n b).packets ++ later)
+KeepsPackets = (max n : ℕ) (b more : List ℕ) → (later : List Packet)
+    × ((read_file max n (b ++ more)).packets ≡ (read_file max n b).packets ++ later)
 
 -- nor do they change a head that was read
 abbrev pub KeepsHead : Type 0
-KeepsHead = (max n : ℕ) (b more : List ℕ) (h : IvfHead) → (read_file max n b).head ≡ Some h → (read_file max n (b ++ more)).head ≡ Some h
+KeepsHead = (max n : ℕ) (b more : List ℕ) (h : IvfHead) → (read_file max n b).head ≡ Some h
+    → (read_file max n (b ++ more)).head ≡ Some h
 
 -- behind a fault they change nothing
 abbrev pub KeepsFault : Type 0
@@ -52,13 +55,15 @@ IsHead h = (h.w < 2 ^ 16) × (h.h < 2 ^ 16) × (h.rate < 2 ^ 32) × (h.scale < 2
 
 -- what is written reads as that head and these packets, and nothing else, under all limits that they fit
 abbrev pub IsReadBack : Type 0
-IsReadBack = (max n : ℕ) (h : IvfHead) (count : ℕ) (packets : List Packet) → IsHead h → AllPacketsFit max packets → length packets ≤ n
+IsReadBack = (max n : ℕ) (h : IvfHead) (count : ℕ) (packets : List Packet) → IsHead h → AllPacketsFit max packets
+    → length packets ≤ n
     → read_file max n (file_text h count packets)
     ≡ record { head = Some h; packets = packets; left = n - length packets; fault = None; rest = [] }
 
 -- and its end is none inside a packet
 abbrev pub EndsWell : Type 0
-EndsWell = (max n : ℕ) (h : IvfHead) (count : ℕ) (packets : List Packet) → IsHead h → AllPacketsFit max packets → length packets ≤ n
+EndsWell = (max n : ℕ) (h : IvfHead) (count : ℕ) (packets : List Packet) → IsHead h → AllPacketsFit max packets
+    → length packets ≤ n
     → finish_answer (read_file max n (file_text h count packets)) ≡ Ok tt
 
 -- the bytes that are left are too few: for a head, or else for the twelve bytes before a packet, or for that packet
@@ -68,7 +73,8 @@ HasTooFewBytes (Some h) rest = (length rest < 12) ⊎ (length rest < 12 + packet
 
 -- where no fault was met, all packets were cut that are whole
 abbrev pub CutsAll : Type 0
-CutsAll = (max n : ℕ) (b : List ℕ) → (read_file max n b).fault ≡ None → HasTooFewBytes (read_file max n b).head (read_file max n b).rest
+CutsAll = (max n : ℕ) (b : List ℕ) → (read_file max n b).fault ≡ None
+    → HasTooFewBytes (read_file max n b).head (read_file max n b).rest
 
 -- and cutting what is left gives nothing
 abbrev pub LeavesNoPacket : Type 0
@@ -85,7 +91,8 @@ CutsWhatFits = (max n : ℕ) (b : List ℕ) → AreFileBytes b → AllPacketsFit
 -- what the bytes that weren't cut show where this fault was met
 abbrev pub ShowsFileFault : FileFault → ℕ → Contents → Type 0
 ShowsFileFault Signature max r = (32 ≤ length r.rest) × (starts_with nat_eq r.rest (codes "DKIF") ≡ false)
-ShowsFileFault Codec max r = (32 ≤ length r.rest) × (starts_with nat_eq r.rest (codes "DKIF") ≡ true) × (starts_with nat_eq (drop 8 r.rest) (codes "VP80") ≡ false)
+ShowsFileFault Codec max r = (32 ≤ length r.rest) × (starts_with nat_eq r.rest (codes "DKIF") ≡ true)
+    × (starts_with nat_eq (drop 8 r.rest) (codes "VP80") ≡ false)
 ShowsFileFault TooMany max r = (r.left ≡ 0) × (12 ≤ length r.rest)
 ShowsFileFault PacketTooLarge max r = (1 ≤ r.left) × (12 ≤ length r.rest) × (max < packet_size r.rest)
 ShowsFileFault Torn max r = ⊥
@@ -93,13 +100,15 @@ ShowsFileFault Ended max r = ⊥
 
 -- a fault is met only where the bytes show it
 abbrev pub ShowsFaults : Type 0
-ShowsFaults = (max n : ℕ) (b : List ℕ) (f : FileFault) → (read_file max n b).fault ≡ Some f → ShowsFileFault f max (read_file max n b)
+ShowsFaults = (max n : ℕ) (b : List ℕ) (f : FileFault) → (read_file max n b).fault ≡ Some f
+    → ShowsFileFault f max (read_file max n b)
 
 -- ---- all of it at once
 
 -- the bytes begin with a good head, which says this
 abbrev pub IsHeadIn : List ℕ → IvfHead → Type 0
-IsHeadIn b h = (32 ≤ length b) × (starts_with nat_eq b (codes "DKIF") ≡ true) × (starts_with nat_eq (drop 8 b) (codes "VP80") ≡ true) × (h ≡ parsed_ivf_head b)
+IsHeadIn b h = (32 ≤ length b) × (starts_with nat_eq b (codes "DKIF") ≡ true)
+    × (starts_with nat_eq (drop 8 b) (codes "VP80") ≡ true) × (h ≡ parsed_ivf_head b)
 
 -- without a head nothing is cut; behind a good one stand the packets that are cut, and then a rest
 abbrev pub IsCut : List ℕ → Option IvfHead → List Packet → List ℕ → Type 0
@@ -118,7 +127,8 @@ ComesWith Ended head = ⊥
 -- what is left may still become a head; or a packet, which is allowed
 abbrev pub MayGrow : Option IvfHead → ℕ → ℕ → List ℕ → Type 0
 MayGrow None max left rest = length rest < 32
-MayGrow (Some h) max left rest = (length rest < 12) ⊎ ((1 ≤ left) × (packet_size rest ≤ max) × (length rest < 12 + packet_size rest))
+MayGrow (Some h) max left rest = (length rest < 12) ⊎ ((1 ≤ left) × (packet_size rest ≤ max)
+    × (length rest < 12 + packet_size rest))
 
 -- what is left may still become a whole; or it shows the fault
 abbrev pub IsReadingEndedBy : ℕ → Contents → Option FileFault → Type 0

@@ -5,7 +5,8 @@ use Rattle.byteorder.specs.Endian.{little_bytes}
 use Rattle.vp_ivf.specs.declared.packet.Packet.{Packet}
 use Rattle.vp_ivf.specs.declared.packet.IvfHead.{IvfHead}
 
--- the 32 bytes of a file's head: `DKIF`, version 0, its own length, `VP80`, columns, rows, rate, scale, how many packets, 0
+-- the 32 bytes of a file's head: `DKIF`, version 0, its own length, `VP80`, columns, rows, rate, scale, how many
+-- packets, 0
 unfoldable pub head_text : ℕ → ℕ → ℕ → ℕ → ℕ → List ℕ
 head_text w h rate scale count =
     codes "DKIF" ++ little_bytes 2 0 ++ little_bytes 2 32 ++ codes "VP80" ++ little_bytes 2 w ++ little_bytes 2 h

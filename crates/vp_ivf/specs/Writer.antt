@@ -1,6 +1,7 @@
 -- The model of an IVF writer: what is on the device, the packets that remain, and the faults in their order. Pinned by
 -- the tests `file_of_one_packet` and `fails_at_each_write`.
-use Rattle.std.specs.Prelude.{ℕ, zero, suc, Bool, true, false, ◌≡◌, ◌≤◌, ◌-◌, List, [], ◌∷◌, ◌++◌, length, Option, Some, None, Result, Ok, Err}
+use Rattle.std.specs.Prelude.{ℕ, zero, suc, Bool, true, false, ◌≡◌, ◌≤◌, ◌-◌, List, [], ◌∷◌, ◌++◌, length, Option, Some}
+use Rattle.std.specs.Prelude.{None, Result, Ok, Err}
 use Rattle.std.specs.Io.KnownBytes.{Appends}
 use Rattle.vp_base.specs.Counted.{counted_contents, counted_failures, AppendsFront, HasFailed}
 use Rattle.vp_ivf.specs.declared.packet.Packet.{Packet}
@@ -56,7 +57,14 @@ pub record Written : Type 0 where
   pub failed : Bool
 
 abbrev pub begun : Option (List ℕ) → ℕ → IvfHead → ℕ → Bool → Written
-begun before failures head count failed = record { before = before; failures = failures; head = head; count = count; packets = []; failed = failed }
+begun before failures head count failed = record {
+  before = before;
+  failures = failures;
+  head = head;
+  count = count;
+  packets = [];
+  failed = failed;
+}
 
 -- one more packet was handed to the device, which failed or not
 abbrev pub with_packet : Written → Packet → Bool → Written

@@ -1,6 +1,8 @@
 //! What holds of all files, each as the contract of a function that does nothing.
 
-ghost use Rattle.vp_ivf.specs.Laws.{IsFaithful, IsReadInPieces, KeepsPackets, KeepsHead, KeepsFault, IsReadBack, EndsWell, CutsAll, LeavesNoPacket, CountsPackets, CutsWhatFits, ShowsFaults, ObeysLaws, IsDetermined};
+ghost use Rattle.vp_ivf.specs.Laws.{IsFaithful, IsReadInPieces, KeepsPackets, KeepsHead, KeepsFault, IsReadBack};
+ghost use Rattle.vp_ivf.specs.Laws.{EndsWell, CutsAll, LeavesNoPacket, CountsPackets, CutsWhatFits, ShowsFaults};
+ghost use Rattle.vp_ivf.specs.Laws.{ObeysLaws, IsDetermined};
 
 /// Behind a good head a file is the packets that are cut, and then a rest: no byte is lost or moved.
 pub fn reading_is_faithful()

@@ -3,7 +3,9 @@
 ghost use Rattle.std.specs.Prelude.{◌≡◌, ◌≢◌, ◌≤◌, ◌+◌, ◌/◌, length, None, Some, Err, slice_get, option_to_list};
 ghost use Rattle.vp_ivf.specs.Ivf.{read_file, resume};
 ghost use Rattle.vp_ivf.specs.declared.fault.FileFault.{FileFault};
-ghost use Rattle.vp_ivf.specs.Reader.{ReaderHistory, IsReaderAfter, SameLimits, initial_reader, empty_reader_history, with_reader_piece, with_taken, with_reader_end, after_end, without_packets, refusal, answer_by, finish_answer, fed_packets};
+ghost use Rattle.vp_ivf.specs.Reader.{ReaderHistory, IsReaderAfter, SameLimits, initial_reader, empty_reader_history};
+ghost use Rattle.vp_ivf.specs.Reader.{with_reader_piece, with_taken, with_reader_end, after_end, without_packets};
+ghost use Rattle.vp_ivf.specs.Reader.{refusal, answer_by, finish_answer, fed_packets};
 
 use crate::cutting::{Cutting, read_on};
 use crate::fault::{FeedError, FileFault};
@@ -40,13 +42,25 @@ impl Model for Reader {
     ghost view = { λ a. record {
       max = a.max;
       limit = a.limit;
-      reading = record { head = a.head; packets = a.packets.items; left = a.left; fault = a.fault; rest = a.rest.items };
+      reading = record {
+        head = a.head;
+        packets = a.packets.items;
+        left = a.left;
+        fault = a.fault;
+        rest = a.rest.items;
+      };
       ended = a.ended;
     } };
 
     ghost use Rattle.vp_ivf.specs.Reader.{IsSettled};
 
-    ghost invariant = { λ a. IsSettled a.max (record { head = a.head; packets = a.packets.items; left = a.left; fault = a.fault; rest = a.rest.items }) };
+    ghost invariant = { λ a. IsSettled a.max (record {
+      head = a.head;
+      packets = a.packets.items;
+      left = a.left;
+      fault = a.fault;
+      rest = a.rest.items;
+    }) };
 }
 
 impl Reader {

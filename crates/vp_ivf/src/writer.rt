@@ -1,10 +1,13 @@
 //! A file that is written packet by packet.
 
-ghost use Rattle.std.specs.Prelude.{◌≡◌, ◌≢◌, ◌<◌, ◌^◌, ◌+◌, ◌-◌, true, false, length, None, Some, Ok, Err, OnOk, OnErr, is_ok, not};
+ghost use Rattle.std.specs.Prelude.{◌≡◌, ◌≢◌, ◌<◌, ◌^◌, ◌+◌, ◌-◌, true, false, length, None, Some, Ok, Err, OnOk};
+ghost use Rattle.std.specs.Prelude.{OnErr, is_ok, not};
 ghost use Rattle.std.specs.Io.KnownBytes.{Appends};
 ghost use Rattle.vp_base.specs.Counted.{counted_contents, counted_failures, AppendsFront, HasFailed};
 ghost use Rattle.vp_ivf.specs.Text.{head_text, packet_head_text, packet_text};
-ghost use Rattle.vp_ivf.specs.Writer.{Written, IsWriterAfter, begun, with_packet, device_name, device_contents, device_failures, packets_left, has_failed, packet_refusal, write_refusal, finish_at};
+ghost use Rattle.vp_ivf.specs.Writer.{Written, IsWriterAfter, begun, with_packet, device_name, device_contents};
+ghost use Rattle.vp_ivf.specs.Writer.{device_failures, packets_left, has_failed, packet_refusal, write_refusal};
+ghost use Rattle.vp_ivf.specs.Writer.{finish_at};
 
 use byteorder::{ByteOrder, LittleEndian};
 use std::io::Write;
@@ -50,7 +53,8 @@ impl<'a, W: Write> Writer<'a, W> {
         ensures ok_count { has_failed result ≡ false → device_failures result ≡ counted_failures out.entry.now }
         ensures prefix { AppendsFront (counted_contents W.contents out.entry.now) (device_contents W.contents result)
             (head_text dim.w dim.h rate scale count) }
-        ensures device { has_failed result ≡ true → HasFailed (counted_failures out.entry.now) (device_failures result) }
+        ensures device { has_failed result ≡ true → HasFailed (counted_failures out.entry.now)
+            (device_failures result) }
         ensures stands { IsWriterAfter W.contents result
             (begun (counted_contents W.contents out.entry.now) (counted_failures out.entry.now)
             (record { w = dim.w; h = dim.h; rate = rate; scale = scale }) count (has_failed result)) }
@@ -77,11 +81,13 @@ impl<'a, W: Write> Writer<'a, W> {
         ensures failed { packet_refusal self.old ≡ None → has_failed self.new ≡ not (is_ok result) }
         ensures left { packet_refusal self.old ≡ None → packets_left self.new + 1 ≡ packets_left self.old }
         ensures ok { packet_refusal self.old ≡ None → result ≡ Ok tt →
-            Appends (device_contents W.contents self.old) (device_contents W.contents self.new) (packet_text time bytes.now) }
+            Appends (device_contents W.contents self.old) (device_contents W.contents self.new)
+            (packet_text time bytes.now) }
         ensures ok_count { packet_refusal self.old ≡ None → result ≡ Ok tt →
             device_failures self.new ≡ device_failures self.old }
         ensures prefix { packet_refusal self.old ≡ None →
-            AppendsFront (device_contents W.contents self.old) (device_contents W.contents self.new) (packet_text time bytes.now) }
+            AppendsFront (device_contents W.contents self.old) (device_contents W.contents self.new)
+            (packet_text time bytes.now) }
         ensures device { packet_refusal self.old ≡ None → result ≡ Err WriteFault.Device →
             HasFailed (device_failures self.old) (device_failures self.new) }
 
@@ -89,7 +95,8 @@ impl<'a, W: Write> Writer<'a, W> {
         ensures refusal { (h : Written) → IsWriterAfter W.contents self.old h →
             packet_refusal self.old ≡ write_refusal h.failed (h.count - length h.packets) }
         ensures stands { packet_refusal self.old ≡ None → (h : Written) → IsWriterAfter W.contents self.old h →
-            IsWriterAfter W.contents self.new (with_packet h (record { time = time; bytes = bytes.now }) (not (is_ok result))) }
+            IsWriterAfter W.contents self.new (with_packet h (record { time = time; bytes = bytes.now })
+            (not (is_ok result))) }
     {
         if self.failed {
             return Err(WriteFault::Device);

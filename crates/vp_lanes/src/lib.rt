@@ -1,4 +1,5 @@
-//! Sixteen lanes at a time: what the loop filter does to sixteen lines at once. No public contract of another crate sees lanes.
+//! Sixteen lanes at a time: what the loop filter does to sixteen lines at once. No public contract of another crate
+//! sees lanes.
 #![tactic(auto)]
 
 ghost use Rattle.std.specs.Prelude.{◌≡◌, ℕ, ◌+◌, ◌≤◌, ◌<◌, ◌≤ℤ◌, pos, length, cond, slice_index, int_lt};

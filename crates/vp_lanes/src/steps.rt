@@ -2,7 +2,8 @@
 //! held in bytes, each so much higher than it is: where a difference is added, what it is above 0 is added, and what it
 //! is below 0 is taken away. One of the two is 0.
 
-ghost use Rattle.std.specs.Prelude.{◌≡◌, ℕ, ◌+◌, ◌-◌, ◌*◌, ◌/◌, ◌≤◌, ◌<◌, ◌+ℤ◌, ◌-ℤ◌, ◌*ℤ◌, ◌==◌, ◌&&◌, pos, cond, slice_index, nat_le, nat_lt, min, max};
+ghost use Rattle.std.specs.Prelude.{◌≡◌, ℕ, ◌+◌, ◌-◌, ◌*◌, ◌/◌, ◌≤◌, ◌<◌, ◌+ℤ◌, ◌-ℤ◌, ◌*ℤ◌, ◌==◌, ◌&&◌, pos, cond};
+ghost use Rattle.std.specs.Prelude.{slice_index, nat_le, nat_lt, min, max};
 ghost use Rattle.std.specs.Int.{abs_diff};
 ghost use lib.Signed.{shr_z};
 ghost use Rattle.vp_lanes.specs.Lane.{biased, clamp_to_i8, clamp_to_byte};
@@ -49,7 +50,8 @@ pub fn difference(x: u8x16, y: u8x16) -> u8x16
 
 /// `w` and three times `y - x`, held to a signed byte.
 pub fn filter_value(w: u8x16, x: u8x16, y: u8x16) -> u8x16
-    ensures { (j : ℕ) → j < 16 → biased 128 result j ≡ clamp_to_i8 (biased 128 w j +ℤ pos 3 *ℤ (pos (slice_index y j) -ℤ pos (slice_index x j))) }
+    ensures { (j : ℕ) → j < 16 → biased 128 result j ≡ clamp_to_i8
+        (biased 128 w j +ℤ pos 3 *ℤ (pos (slice_index y j) -ℤ pos (slice_index x j))) }
 {
     let up = saturating_difference(y, x);
     let down = saturating_difference(x, y);
@@ -87,7 +89,8 @@ pub fn weighted_filter_value(w: u8x16, k: u8) -> u8x16
 
 /// `x + by`, held to a byte. The lanes of `x` are bytes: where 0 is added, they stay as they are.
 pub fn raised(x: u8x16, by: u8x16, held_by: u8) -> u8x16
-    ensures value { (j : ℕ) → j < 16 → slice_index result j ≡ clamp_to_byte (pos (slice_index x j) +ℤ biased held_by by j) }
+    ensures value { (j : ℕ) → j < 16 → slice_index result j ≡ clamp_to_byte
+        (pos (slice_index x j) +ℤ biased held_by by j) }
     ensures bytes { (j : ℕ) → j < 16 → slice_index x j < 256 }
 {
     let zero = u8x16::splat(held_by);
@@ -99,7 +102,8 @@ pub fn raised(x: u8x16, by: u8x16, held_by: u8) -> u8x16
 
 /// `x - by`, held to a byte. The lanes of `x` are bytes: where 0 is taken, they stay as they are.
 pub fn lowered(x: u8x16, by: u8x16, held_by: u8) -> u8x16
-    ensures value { (j : ℕ) → j < 16 → slice_index result j ≡ clamp_to_byte (pos (slice_index x j) -ℤ biased held_by by j) }
+    ensures value { (j : ℕ) → j < 16 → slice_index result j ≡ clamp_to_byte
+        (pos (slice_index x j) -ℤ biased held_by by j) }
     ensures bytes { (j : ℕ) → j < 16 → slice_index x j < 256 }
 {
     let zero = u8x16::splat(held_by);
@@ -109,9 +113,11 @@ pub fn lowered(x: u8x16, by: u8x16, held_by: u8) -> u8x16
     )
 }
 
-/// 0 where a step over an edge is within the limit: `edge` is how far the pixels next to it are apart, `outer` those behind.
+/// 0 where a step over an edge is within the limit: `edge` is how far the pixels next to it are apart, `outer`
+/// those behind.
 fn excess(edge: u8x16, outer: u8x16, limit: u8) -> u8x16
-    ensures { (j : ℕ) → j < 16 → (slice_index result j == 0) ≡ nat_le (slice_index edge j * 2 + slice_index outer j / 2) limit }
+    ensures { (j : ℕ) → j < 16 → (slice_index result j == 0) ≡ nat_le (slice_index edge j * 2
+        + slice_index outer j / 2) limit }
 {
     let half = outer >> 1;
     let most = u8x16::splat(limit);
@@ -123,7 +129,8 @@ fn excess(edge: u8x16, outer: u8x16, limit: u8) -> u8x16
 
 /// `w` where the mask of the line lets it be changed, else 0.
 pub fn masked(w: u8x16, edge: u8x16, outer: u8x16, limit: u8, most: u8x16, interior: u8) -> u8x16
-    ensures { (j : ℕ) → j < 16 → biased 128 result j ≡ cond (nat_le (slice_index edge j * 2 + slice_index outer j / 2) limit && nat_le (slice_index most j) interior) (biased 128 w j) (pos 0) }
+    ensures { (j : ℕ) → j < 16 → biased 128 result j ≡ cond (nat_le (slice_index edge j * 2
+        + slice_index outer j / 2) limit && nat_le (slice_index most j) interior) (biased 128 w j) (pos 0) }
 {
     let rough = saturating_difference(most, u8x16::splat(interior));
     lane_max(excess(edge, outer, limit), rough)
@@ -133,7 +140,8 @@ pub fn masked(w: u8x16, edge: u8x16, outer: u8x16, limit: u8, most: u8x16, inter
 
 /// `w` where the variance is high, else 0.
 pub fn where_high(w: u8x16, apart: u8x16, threshold: u8, held_by: u8) -> u8x16
-    ensures { (j : ℕ) → j < 16 → biased held_by result j ≡ cond (nat_lt threshold (slice_index apart j)) (biased held_by w j) (pos 0) }
+    ensures { (j : ℕ) → j < 16 → biased held_by result j ≡ cond (nat_lt threshold (slice_index apart j))
+        (biased held_by w j) (pos 0) }
 {
     apart
         .simd_gt(u8x16::splat(threshold))
@@ -142,7 +150,8 @@ pub fn where_high(w: u8x16, apart: u8x16, threshold: u8, held_by: u8) -> u8x16
 
 /// `w` where the variance is low, else 0.
 pub fn where_low(w: u8x16, apart: u8x16, threshold: u8, held_by: u8) -> u8x16
-    ensures { (j : ℕ) → j < 16 → biased held_by result j ≡ cond (nat_lt threshold (slice_index apart j)) (pos 0) (biased held_by w j) }
+    ensures { (j : ℕ) → j < 16 → biased held_by result j ≡ cond (nat_lt threshold (slice_index apart j)) (pos 0)
+        (biased held_by w j) }
 {
     apart
         .simd_gt(u8x16::splat(threshold))
@@ -152,7 +161,8 @@ pub fn where_low(w: u8x16, apart: u8x16, threshold: u8, held_by: u8) -> u8x16
 /// The eighth `a` where the variance is high, else the share `b`.
 pub fn either(a: u8x16, b: u8x16, apart: u8x16, threshold: u8) -> u8x16
     requires { (j : ℕ) → j < 16 → slice_index a j < 32 }
-    ensures { (j : ℕ) → j < 16 → biased 27 result j ≡ cond (nat_lt threshold (slice_index apart j)) (biased 16 a j) (biased 27 b j) }
+    ensures { (j : ℕ) → j < 16 → biased 27 result j ≡ cond (nat_lt threshold (slice_index apart j)) (biased 16 a j)
+        (biased 27 b j) }
 {
     apart
         .simd_gt(u8x16::splat(threshold))

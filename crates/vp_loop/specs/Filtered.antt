@@ -24,7 +24,8 @@ macroblock_filtered level column row p = record p {
 -- a row of macroblocks, from left to right, each by its own level
 unfoldable pub row_filtered : (Place → Level) → ℕ → Image → Image
 row_filtered level row p =
-    over (macroblocks p.width) (λ column. macroblock_filtered (level (record { column = column; row = row })) column row) p
+    over (macroblocks p.width) (λ column. macroblock_filtered
+    (level (record { column = column; row = row })) column row) p
 
 -- the rows of macroblocks, from the top
 unfoldable pub filtered : (Place → Level) → Image → Image

@@ -9,7 +9,8 @@ use Rattle.vp_base.specs.Rows.{AreSameAbove, AreSameFrom, AreOneSize}
 use Rattle.vp_loop.specs.declared.lines.LineStep.{LineStep}
 use Rattle.vp_loop.specs.declared.strength.Level.{Level}
 use Rattle.vp_loop.specs.LineSteps.{stepped}
-use Rattle.vp_loop.specs.Edges.{Way, along, down, columns_of, rows_of, line_at, pixel_at, line_step, edge_lines, outer_step, inner_step, apply_if, inner_edges, on_plane}
+use Rattle.vp_loop.specs.Edges.{Way, along, down, columns_of, rows_of, line_at, pixel_at, line_step, edge_lines}
+use Rattle.vp_loop.specs.Edges.{outer_step, inner_step, apply_if, inner_edges, on_plane}
 use Rattle.vp_loop.specs.Filtered.{macroblock_filtered, row_filtered}
 
 -- a line of a plane: the way it lies, and the column and row where it begins
@@ -49,7 +50,8 @@ RowKeepsBelow =
 -- what it makes of the rest depends on the rest alone
 abbrev pub RowReadsAbove : Type 0
 RowReadsAbove =
-    (level : Place → Level) (row : ℕ) (p q : Image) → IsAligned p → IsAligned q → AreOneSize p q → row < macroblocks p.height
+    (level : Place → Level) (row : ℕ) (p q : Image) → IsAligned p → IsAligned q → AreOneSize p q
+    → row < macroblocks p.height
     → AreSameAbove (16 * (row + 1)) (8 * (row + 1)) p q
     → AreSameAbove (16 * (row + 1)) (8 * (row + 1)) (row_filtered level row p) (row_filtered level row q)
 
@@ -93,7 +95,8 @@ in_planes level f column row p = record p {
   v = if level.interior == 0 then p.v else f 8 (8 * column) (8 * row) p.v;
 }
 
--- a macroblock filtered as chapter 15.1 has it: the left edge of all planes, the vertical edges inside, the top edge, the rest
+-- a macroblock filtered as chapter 15.1 has it: the left edge of all planes, the vertical edges inside, the top
+-- edge, the rest
 abbrev pub filtered_by_edges : Level → ℕ → ℕ → Image → Image
 filtered_by_edges level column row p =
     if level.edge == 0 then p
@@ -113,6 +116,7 @@ abbrev pub EdgesAtOnce : Type 0
 EdgesAtOnce =
     (step : LineStep) (n x y : ℕ) (p : Raster) → IsWhole p
     → (x + 8 ≤ p.width → y + n ≤ p.height
-    → edge_lines along step n x y p ≡ with_block p x y 8 n (λ r c. pixel_at (stepped step (line_at along p x (y + r))) c))
+    → edge_lines along step n x y p ≡ with_block p x y 8 n (λ r c. pixel_at
+    (stepped step (line_at along p x (y + r))) c))
     × (x + n ≤ p.width → y + 8 ≤ p.height
     → edge_lines down step n x y p ≡ with_block p x y n 8 (λ r c. pixel_at (stepped step (line_at down p (x + c) y)) r))

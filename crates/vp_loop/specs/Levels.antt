@@ -1,7 +1,8 @@
 -- The filter level of a macroblock, its limits and thresholds (RFC 6386, chapters 9.3, 9.4 and 15.2 to 15.4). Pinned by
 -- the tests `filter_one_line`, `thresholds_by_frame`, `interior_limits`, `deltas_by_kind`, `no_level_no_filter` and
 -- `levels_are_held`.
-use Rattle.std.specs.Prelude.{ℕ, ℤ, pos, Bool, List, ◌+◌, ◌-◌, ◌*◌, ◌/◌, ◌+ℤ◌, ◌==◌, ◌||◌, nat_le, nat_lt, min, max, unsigned_abs, slice_index_or, if◌then◌else◌}
+use Rattle.std.specs.Prelude.{ℕ, ℤ, pos, Bool, List, ◌+◌, ◌-◌, ◌*◌, ◌/◌, ◌+ℤ◌, ◌==◌, ◌||◌, nat_le, nat_lt, min, max}
+use Rattle.std.specs.Prelude.{unsigned_abs, slice_index_or, if◌then◌else◌}
 use Rattle.std.specs.Int.{int_min, int_max}
 use Rattle.vp_head.specs.declared.fields.Header.{Header}
 use Rattle.vp_head.specs.declared.fields.LevelDeltas.{LevelDeltas}
@@ -46,7 +47,8 @@ mode_delta deltas Split = signed_at deltas.mode 3
 -- that level and what reference and mode add to it
 abbrev pub summed_level : Header → ℕ → MacroblockKind → ℕ
 summed_level header segment kind = clamped_level (pos (segment_level header segment)
-    +ℤ (if header.deltas_enabled then reference_delta header.deltas kind.reference +ℤ mode_delta header.deltas kind.prediction else pos 0))
+    +ℤ (if header.deltas_enabled then reference_delta header.deltas kind.reference +ℤ mode_delta header.deltas
+    kind.prediction else pos 0))
 
 -- the macroblock's level; 0 where the frame's is, whatever segments and deltas say
 abbrev pub macroblock_level : Header → ℕ → MacroblockKind → ℕ

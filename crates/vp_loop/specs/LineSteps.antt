@@ -1,6 +1,7 @@
 -- One line step: eight pixels across an edge, filtered by the simple filter, or by the normal filter's macroblock or
 -- subblock edge (RFC 6386, chapters 15.2 and 15.3). Pinned by the tests `filter_one_line` and `steps_are_held`.
-use Rattle.std.specs.Prelude.{ℕ, ℤ, pos, negsuc, Bool, cond, ◌+◌, ◌*◌, ◌/◌, ◌+ℤ◌, ◌-ℤ◌, ◌*ℤ◌, ◌&&◌, ◌||◌, nat_le, nat_lt, unsigned_abs}
+use Rattle.std.specs.Prelude.{ℕ, ℤ, pos, negsuc, Bool, cond, ◌+◌, ◌*◌, ◌/◌, ◌+ℤ◌, ◌-ℤ◌, ◌*ℤ◌, ◌&&◌, ◌||◌, nat_le}
+use Rattle.std.specs.Prelude.{nat_lt, unsigned_abs}
 use Rattle.std.specs.Int.{abs_diff, int_min, int_max}
 use lib.Signed.{shr_z}
 use Rattle.vp_loop.specs.declared.lines.Line.{Line}
@@ -26,7 +27,8 @@ is_small_step limit l = nat_le (abs_diff l.p0 l.q0 * 2 + abs_diff l.p1 l.q1 / 2)
 abbrev pub is_smooth : ℕ → Line → Bool
 is_smooth interior l =
     nat_le (abs_diff l.p3 l.p2) interior && nat_le (abs_diff l.p2 l.p1) interior && nat_le (abs_diff l.p1 l.p0) interior
-    && nat_le (abs_diff l.q1 l.q0) interior && nat_le (abs_diff l.q2 l.q1) interior && nat_le (abs_diff l.q3 l.q2) interior
+    && nat_le (abs_diff l.q1 l.q0) interior && nat_le (abs_diff l.q2 l.q1) interior
+    && nat_le (abs_diff l.q3 l.q2) interior
 
 -- high edge variance
 abbrev pub is_high : ℕ → Line → Bool
@@ -34,7 +36,8 @@ is_high threshold l = nat_lt threshold (abs_diff l.p1 l.p0) || nat_lt threshold 
 
 -- what is taken from q0 and given to p0, before it is divided: with the outer pixels p1 and q1, or without them
 abbrev pub filter_value : Bool → Line → ℤ
-filter_value outer l = clamp8 (cond outer (clamp8 (signed l.p1 -ℤ signed l.q1)) (pos 0) +ℤ pos 3 *ℤ (signed l.q0 -ℤ signed l.p0))
+filter_value outer l = clamp8 (cond outer (clamp8 (signed l.p1 -ℤ signed l.q1)) (pos 0) +ℤ pos 3 *ℤ
+    (signed l.q0 -ℤ signed l.p0))
 
 -- an eighth of a + by
 abbrev pub eighth : ℤ → ℤ → ℤ
@@ -47,7 +50,8 @@ common_adjusted outer l = record l {
   q0 = pixel_from (signed l.q0 -ℤ eighth (filter_value outer l) (pos 4));
 }
 
--- what an inner edge takes from q1 and gives to p1: half of what it took from q0, and nothing where the variance is high
+-- what an inner edge takes from q1 and gives to p1: half of what it took from q0, and nothing where the variance is
+-- high
 abbrev pub outer_tap_adjustment : Bool → Line → ℤ
 outer_tap_adjustment high l = cond high (pos 0) (shr_z (eighth (filter_value high l) (pos 4) +ℤ pos 1) 2)
 

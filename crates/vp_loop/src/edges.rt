@@ -3,7 +3,8 @@
 ghost use Rattle.std.specs.Prelude.{◌≡◌, ℕ, ◌+◌, ◌<◌, ◌≤◌};
 ghost use Rattle.vp_base.specs.Image.{Image};
 ghost use Rattle.vp_loop.specs.Lanes.{KeepsEnds};
-ghost use Rattle.vp_loop.specs.Edges.{along, down, edge_lines, inner_edges, block_edges, block_filtered, outer_step, inner_step, on_luma, on_colours};
+ghost use Rattle.vp_loop.specs.Edges.{along, down, edge_lines, inner_edges, block_edges, block_filtered, outer_step};
+ghost use Rattle.vp_loop.specs.Edges.{inner_step, on_luma, on_colours};
 
 use crate::lines::{EdgeKind, LineStep};
 use crate::store::{write_rows4, write_rows8, write_rows16};
@@ -63,7 +64,8 @@ fn filter_luma_along(picture: &mut Picture, x: usize, y: usize, step: LineStep)
     write_rows8(picture, 0, x, y, &lines);
 }
 
-/// Filters over a vertical edge inside a macroblock of luma: of its sixteen lines, the first of which begins at column `x`
+/// Filters over a vertical edge inside a macroblock of luma: of its sixteen lines, the first of which begins at
+/// column `x`
 /// of row `y`, the four pixels at the edge are written.
 #[inline(always)]
 fn filter_luma_inside_along(picture: &mut Picture, x: usize, y: usize, step: LineStep)
@@ -80,7 +82,8 @@ fn filter_luma_inside_along(picture: &mut Picture, x: usize, y: usize, step: Lin
     write_rows4(picture, 0, x + 2, y, &lines);
 }
 
-/// Filters over a horizontal edge of luma: sixteen lines, the first of which begins at column `x` of row `y`. The `kept`
+/// Filters over a horizontal edge of luma: sixteen lines, the first of which begins at column `x` of row `y`. The
+/// `kept`
 /// rows at each end of the lines, which the step leaves as they are, are not written.
 #[inline(always)]
 fn filter_luma_down(picture: &mut Picture, x: usize, y: usize, step: LineStep, kept: usize)
@@ -175,7 +178,8 @@ fn filter_inner_luma_down(picture: &mut Picture, x: usize, y: usize, step: LineS
     }
 }
 
-/// Filters over the vertical edge inside a macroblock of both planes of colour: of the lines the four pixels at the edge
+/// Filters over the vertical edge inside a macroblock of both planes of colour: of the lines the four pixels at the
+/// edge
 /// are written.
 #[inline(always)]
 fn filter_inner_colours_along(picture: &mut Picture, x: usize, y: usize, step: LineStep)

@@ -3,7 +3,8 @@
 ghost use Rattle.std.specs.Prelude.{◌≡◌, ℕ, ◌<◌, ◌*◌, ◌/◌, ◌+◌, slice_index, max, cond, ◌&&◌, true};
 ghost use Rattle.std.specs.Int.{abs_diff};
 ghost use Rattle.vp_loop.specs.declared.lines.Line.{Line};
-ghost use Rattle.vp_loop.specs.LineSteps.{stepped, common_adjusted, subblock_edge_filtered, macroblock_edge_filtered, is_small_step, is_smooth, is_high};
+ghost use Rattle.vp_loop.specs.LineSteps.{stepped, common_adjusted, subblock_edge_filtered, macroblock_edge_filtered};
+ghost use Rattle.vp_loop.specs.LineSteps.{is_small_step, is_smooth, is_high};
 ghost use Rattle.vp_loop.specs.Lanes.{line_of};
 
 use crate::lines::{EdgeKind, LineStep};
@@ -30,8 +31,10 @@ pub(crate) struct Lines {
 #[inline(always)]
 fn most_apart(l: Lines) -> u8x16
     ensures { (j : ℕ) → j < 16 → slice_index result j
-        ≡ max (max (max (abs_diff (slice_index l.p3 j) (slice_index l.p2 j)) (abs_diff (slice_index l.p2 j) (slice_index l.p1 j))) (abs_diff (slice_index l.p1 j) (slice_index l.p0 j)))
-        (max (max (abs_diff (slice_index l.q1 j) (slice_index l.q0 j)) (abs_diff (slice_index l.q2 j) (slice_index l.q1 j))) (abs_diff (slice_index l.q3 j) (slice_index l.q2 j))) }
+        ≡ max (max (max (abs_diff (slice_index l.p3 j) (slice_index l.p2 j))
+        (abs_diff (slice_index l.p2 j) (slice_index l.p1 j))) (abs_diff (slice_index l.p1 j) (slice_index l.p0 j)))
+        (max (max (abs_diff (slice_index l.q1 j) (slice_index l.q0 j))
+        (abs_diff (slice_index l.q2 j) (slice_index l.q1 j))) (abs_diff (slice_index l.q3 j) (slice_index l.q2 j))) }
 {
     let p = lane_max(
         lane_max(abs_diff16(l.p3, l.p2), abs_diff16(l.p2, l.p1)),
@@ -47,7 +50,8 @@ fn most_apart(l: Lines) -> u8x16
 /// How far the two pixels next to an edge are apart at most, on either side.
 #[inline(always)]
 fn inner_apart(l: Lines) -> u8x16
-    ensures { (j : ℕ) → j < 16 → slice_index result j ≡ max (abs_diff (slice_index l.p1 j) (slice_index l.p0 j)) (abs_diff (slice_index l.q1 j) (slice_index l.q0 j)) }
+    ensures { (j : ℕ) → j < 16 → slice_index result j ≡ max (abs_diff (slice_index l.p1 j) (slice_index l.p0 j))
+        (abs_diff (slice_index l.q1 j) (slice_index l.q0 j)) }
 {
     lane_max(abs_diff16(l.p1, l.p0), abs_diff16(l.q1, l.q0))
 }
@@ -55,7 +59,9 @@ fn inner_apart(l: Lines) -> u8x16
 /// The inner step.
 #[inline(always)]
 fn inner(l: Lines, limit: u8, interior: u8, threshold: u8) -> Lines
-    ensures { (j : ℕ) → j < 16 → line_of result j ≡ cond (is_small_step limit (line_of l j) && is_smooth interior (line_of l j)) (subblock_edge_filtered (is_high threshold (line_of l j)) (line_of l j)) (line_of l j) }
+    ensures { (j : ℕ) → j < 16 → line_of result j ≡ cond (is_small_step limit (line_of l j)
+        && is_smooth interior (line_of l j)) (subblock_edge_filtered (is_high threshold (line_of l j)) (line_of l j))
+        (line_of l j) }
 {
     let most = most_apart(l);
     let apart = inner_apart(l);
@@ -81,7 +87,9 @@ fn inner(l: Lines, limit: u8, interior: u8, threshold: u8) -> Lines
 /// The step over the edge of a macroblock.
 #[inline(always)]
 fn outer(l: Lines, limit: u8, interior: u8, threshold: u8) -> Lines
-    ensures { (j : ℕ) → j < 16 → line_of result j ≡ cond (is_small_step limit (line_of l j) && is_smooth interior (line_of l j)) (macroblock_edge_filtered (is_high threshold (line_of l j)) (line_of l j)) (line_of l j) }
+    ensures { (j : ℕ) → j < 16 → line_of result j ≡ cond (is_small_step limit (line_of l j)
+        && is_smooth interior (line_of l j)) (macroblock_edge_filtered (is_high threshold (line_of l j)) (line_of l j))
+        (line_of l j) }
 {
     let most = most_apart(l);
     let apart = inner_apart(l);
@@ -113,7 +121,8 @@ fn outer(l: Lines, limit: u8, interior: u8, threshold: u8) -> Lines
 /// The step of the simple filter.
 #[inline(always)]
 fn simple(l: Lines, limit: u8) -> Lines
-    ensures { (j : ℕ) → j < 16 → line_of result j ≡ cond (is_small_step limit (line_of l j)) (common_adjusted true (line_of l j)) (line_of l j) }
+    ensures { (j : ℕ) → j < 16 → line_of result j ≡ cond (is_small_step limit (line_of l j))
+        (common_adjusted true (line_of l j)) (line_of l j) }
 {
     let edge = lane_abs_diff(l.p0, l.q0);
     let outer = lane_abs_diff(l.p1, l.q1);

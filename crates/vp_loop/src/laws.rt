@@ -1,5 +1,6 @@
 //! What holds of line steps and rows of macroblocks, whatever their pixels are.
-ghost use Rattle.vp_loop.specs.Laws.{DisjointStepsCommute, EdgesAtOnce, PlanesCommute, EdgeByEdge, RowKeepsBelow, RowReadsAbove, RowKeepsAbove, RowKeepsSize, RowKeepsAligned, RowKeepsWhole};
+ghost use Rattle.vp_loop.specs.Laws.{DisjointStepsCommute, EdgesAtOnce, PlanesCommute, EdgeByEdge, RowKeepsBelow};
+ghost use Rattle.vp_loop.specs.Laws.{RowReadsAbove, RowKeepsAbove, RowKeepsSize, RowKeepsAligned, RowKeepsWhole};
 
 /// Line steps that share no pixel may change places.
 pub fn disjoint_steps_commute()

@@ -1,9 +1,13 @@
 //! The line step: eight pixels across an edge, to eight pixels.
 
-ghost use Rattle.std.specs.Prelude.{◌≡◌, ℕ, ℤ, ◌+◌, ◌*◌, ◌/◌, ◌≤◌, ◌≤ℤ◌, ◌+ℤ◌, ◌-ℤ◌, ◌*ℤ◌, pos, negsuc, cond, nat_le, nat_lt, ◌&&◌, ◌||◌, Bool, true};
+ghost use Rattle.std.specs.Prelude.{◌≡◌, ℕ, ℤ, ◌+◌, ◌*◌, ◌/◌, ◌≤◌, ◌≤ℤ◌, ◌+ℤ◌, ◌-ℤ◌, ◌*ℤ◌, pos, negsuc, cond, nat_le};
+ghost use Rattle.std.specs.Prelude.{nat_lt, ◌&&◌, ◌||◌, Bool, true};
 ghost use Rattle.std.specs.Int.{abs_diff};
 ghost use lib.Signed.{shr_z};
-ghost use Rattle.vp_loop.specs.LineSteps.{clamp8, signed, pixel_from, filter_value, eighth, common_adjusted, outer_tap_adjustment, subblock_edge_filtered, weighted_filter_value, macroblock_edge_filtered, is_small_step, is_smooth, is_high, is_changed, filtered_line, stepped};
+ghost use Rattle.vp_loop.specs.LineSteps.{clamp8, signed, pixel_from, filter_value, eighth, common_adjusted};
+ghost use Rattle.vp_loop.specs.LineSteps.{outer_tap_adjustment, subblock_edge_filtered, weighted_filter_value};
+ghost use Rattle.vp_loop.specs.LineSteps.{macroblock_edge_filtered, is_small_step, is_smooth, is_high, is_changed};
+ghost use Rattle.vp_loop.specs.LineSteps.{filtered_line, stepped};
 
 /// Eight pixels across an edge: four before it and four behind it, `p0` and `q0` next to it.
 #[derive(Clone, Copy, Debug, PartialEq, Eq)]

@@ -43,7 +43,8 @@ fn put4(s: &mut [u8], at: usize, v: u8x4)
 fn put_rows16(pixels: &mut [u8], at: usize, stride: usize, rows: &[u8x16])
     requires room { (r : ℕ) → r < length rows.now → at + r * stride + 16 ≤ length pixels.old }
     requires end { at + length rows.now * stride ≤ 300000000 }
-    ensures value { (p : Raster) (x y : ℕ) → IsWhole p → p.pixels ≡ pixels.old → p.width ≡ stride → at ≡ pixel_index p x y
+    ensures value { (p : Raster) (x y : ℕ) → IsWhole p → p.pixels ≡ pixels.old → p.width ≡ stride
+        → at ≡ pixel_index p x y
         → x + 16 ≤ p.width → y + length rows.now ≤ p.height
         → pixels.new ≡ written p x y 16 (length rows.now) (λ r c. slice_index (slice_index_or rows.now r []) c) }
     ensures len { length pixels.new ≡ length pixels.old }
@@ -61,7 +62,8 @@ pub(crate) fn write_rows16(picture: &mut Picture, k: usize, x: usize, y: usize, 
     requires plane { k < 3 }
     requires columns { x + 16 ≤ (plane_of picture.old k).width }
     requires rows { y + length rows.now ≤ (plane_of picture.old k).height }
-    ensures { picture.new ≡ on_plane k (λ p. with_block p x y 16 (length rows.now) (λ r c. slice_index (slice_index_or rows.now r []) c)) picture.old }
+    ensures { picture.new ≡ on_plane k (λ p. with_block p x y 16 (length rows.now)
+        (λ r c. slice_index (slice_index_or rows.now r []) c)) picture.old }
 {
     let _height = picture.plane(k).height();
     let stride = picture.plane(k).width();
@@ -73,7 +75,8 @@ pub(crate) fn write_rows16(picture: &mut Picture, k: usize, x: usize, y: usize, 
 fn put_rows8(pixels: &mut [u8], at: usize, stride: usize, rows: &[u8x8])
     requires room { (r : ℕ) → r < length rows.now → at + r * stride + 8 ≤ length pixels.old }
     requires end { at + length rows.now * stride ≤ 300000000 }
-    ensures value { (p : Raster) (x y : ℕ) → IsWhole p → p.pixels ≡ pixels.old → p.width ≡ stride → at ≡ pixel_index p x y
+    ensures value { (p : Raster) (x y : ℕ) → IsWhole p → p.pixels ≡ pixels.old → p.width ≡ stride
+        → at ≡ pixel_index p x y
         → x + 8 ≤ p.width → y + length rows.now ≤ p.height
         → pixels.new ≡ written p x y 8 (length rows.now) (λ r c. slice_index (slice_index_or rows.now r []) c) }
     ensures len { length pixels.new ≡ length pixels.old }
@@ -91,7 +94,8 @@ pub(crate) fn write_rows8(picture: &mut Picture, k: usize, x: usize, y: usize, r
     requires plane { k < 3 }
     requires columns { x + 8 ≤ (plane_of picture.old k).width }
     requires rows { y + length rows.now ≤ (plane_of picture.old k).height }
-    ensures { picture.new ≡ on_plane k (λ p. with_block p x y 8 (length rows.now) (λ r c. slice_index (slice_index_or rows.now r []) c)) picture.old }
+    ensures { picture.new ≡ on_plane k (λ p. with_block p x y 8 (length rows.now)
+        (λ r c. slice_index (slice_index_or rows.now r []) c)) picture.old }
 {
     let _height = picture.plane(k).height();
     let stride = picture.plane(k).width();
@@ -103,7 +107,8 @@ pub(crate) fn write_rows8(picture: &mut Picture, k: usize, x: usize, y: usize, r
 fn put_rows4(pixels: &mut [u8], at: usize, stride: usize, rows: &[u8x4])
     requires room { (r : ℕ) → r < length rows.now → at + r * stride + 4 ≤ length pixels.old }
     requires end { at + length rows.now * stride ≤ 300000000 }
-    ensures value { (p : Raster) (x y : ℕ) → IsWhole p → p.pixels ≡ pixels.old → p.width ≡ stride → at ≡ pixel_index p x y
+    ensures value { (p : Raster) (x y : ℕ) → IsWhole p → p.pixels ≡ pixels.old → p.width ≡ stride
+        → at ≡ pixel_index p x y
         → x + 4 ≤ p.width → y + length rows.now ≤ p.height
         → pixels.new ≡ written p x y 4 (length rows.now) (λ r c. slice_index (slice_index_or rows.now r []) c) }
     ensures len { length pixels.new ≡ length pixels.old }
@@ -121,7 +126,8 @@ pub(crate) fn write_rows4(picture: &mut Picture, k: usize, x: usize, y: usize, r
     requires plane { k < 3 }
     requires columns { x + 4 ≤ (plane_of picture.old k).width }
     requires rows { y + length rows.now ≤ (plane_of picture.old k).height }
-    ensures { picture.new ≡ on_plane k (λ p. with_block p x y 4 (length rows.now) (λ r c. slice_index (slice_index_or rows.now r []) c)) picture.old }
+    ensures { picture.new ≡ on_plane k (λ p. with_block p x y 4 (length rows.now)
+        (λ r c. slice_index (slice_index_or rows.now r []) c)) picture.old }
 {
     let _height = picture.plane(k).height();
     let stride = picture.plane(k).width();

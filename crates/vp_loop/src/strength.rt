@@ -1,7 +1,10 @@
 //! How strongly a macroblock is filtered.
 
-ghost use Rattle.std.specs.Prelude.{◌≡◌, ℕ, ℤ, ◌+◌, ◌-◌, ◌*◌, ◌/◌, ◌<◌, ◌≤◌, ◌≤ℤ◌, ◌+ℤ◌, pos, negsuc, ◌==◌, ◌||◌, length};
-ghost use Rattle.vp_loop.specs.Levels.{clamped_level, signed_at, segment_level, reference_delta, mode_delta, summed_level, macroblock_level, interior_limit, variance_threshold, has_inner_edges, no_level, filter_level};
+ghost use Rattle.std.specs.Prelude.{◌≡◌, ℕ, ℤ, ◌+◌, ◌-◌, ◌*◌, ◌/◌, ◌<◌, ◌≤◌, ◌≤ℤ◌, ◌+ℤ◌, pos, negsuc, ◌==◌, ◌||◌};
+ghost use Rattle.std.specs.Prelude.{length};
+ghost use Rattle.vp_loop.specs.Levels.{clamped_level, signed_at, segment_level, reference_delta, mode_delta};
+ghost use Rattle.vp_loop.specs.Levels.{summed_level, macroblock_level, interior_limit, variance_threshold};
+ghost use Rattle.vp_loop.specs.Levels.{has_inner_edges, no_level, filter_level};
 
 use vp_head::{Header, LevelDeltas, Reference};
 
@@ -157,7 +160,8 @@ fn has_inner_edges(kind: &MacroblockKind) -> bool
 }
 
 /// How a macroblock of segment `segment` (0 to 3) is filtered; all 0 where it isn't. The numbers come from the frame's
-/// level and the segment's (RFC 6386, chapter 9.3), the differences of reference and mode (9.4) and the sharpness (15.4).
+/// level and the segment's (RFC 6386, chapter 9.3), the differences of reference and mode (9.4) and the sharpness
+/// (15.4).
 #[tactic(auto, unfolding(crate::specs::Levels::filter_level))]
 pub fn levels(header: &Header, segment: u8, kind: &MacroblockKind) -> Level
     ensures { result ≡ filter_level header.now segment kind.now }

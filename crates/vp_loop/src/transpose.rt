@@ -1,6 +1,7 @@
 //! Sixteen lines along rows, turned into lanes and back, and lines down columns.
 
-ghost use Rattle.std.specs.Prelude.{◌≡◌, ℕ, ◌+◌, ◌*◌, ◌-◌, ◌≤◌, ◌<◌, List, [], ◌∷◌, length, slice_index, slice_index_or};
+ghost use Rattle.std.specs.Prelude.{◌≡◌, ℕ, ◌+◌, ◌*◌, ◌-◌, ◌≤◌, ◌<◌, List, [], ◌∷◌, length, slice_index};
+ghost use Rattle.std.specs.Prelude.{slice_index_or};
 ghost use Rattle.std.specs.Simd.Lanes.{chunk};
 ghost use Rattle.vp_loop.specs.Edges.{along, down, line_at, pixel_at};
 ghost use Rattle.vp_loop.specs.Lanes.{line_of, line_in, line_down};
@@ -29,7 +30,8 @@ fn transpose(
     r14: u8x8,
     r15: u8x8,
 ) -> Lines
-    ensures { (j : ℕ) → j < 16 → line_of result j ≡ line_in (slice_index_or (r0 ∷ r1 ∷ r2 ∷ r3 ∷ r4 ∷ r5 ∷ r6 ∷ r7 ∷ r8 ∷ r9 ∷ r10 ∷ r11 ∷ r12 ∷ r13 ∷ r14 ∷ r15 ∷ []) j []) }
+    ensures { (j : ℕ) → j < 16 → line_of result j ≡ line_in (slice_index_or (r0 ∷ r1 ∷ r2 ∷ r3 ∷ r4 ∷ r5 ∷ r6 ∷ r7 ∷ r8
+        ∷ r9 ∷ r10 ∷ r11 ∷ r12 ∷ r13 ∷ r14 ∷ r15 ∷ []) j []) }
 {
     let a0 = r0.shuffle::<16>(r8, [0, 8, 1, 9, 2, 10, 3, 11, 4, 12, 5, 13, 6, 14, 7, 15]);
     let a1 = r1.shuffle::<16>(r9, [0, 8, 1, 9, 2, 10, 3, 11, 4, 12, 5, 13, 6, 14, 7, 15]);
@@ -75,7 +77,9 @@ pub(crate) fn untranspose(
     q3: u8x16,
 ) -> [u8x8; 16]
     ensures len { length result ≡ 16 }
-    ensures value { (j : ℕ) → j < 16 → slice_index_or result j [] ≡ (slice_index p3 j ∷ slice_index p2 j ∷ slice_index p1 j ∷ slice_index p0 j ∷ slice_index q0 j ∷ slice_index q1 j ∷ slice_index q2 j ∷ slice_index q3 j ∷ []) }
+    ensures value { (j : ℕ) → j < 16 → slice_index_or result j []
+        ≡ (slice_index p3 j ∷ slice_index p2 j ∷ slice_index p1 j ∷ slice_index p0 j ∷ slice_index q0 j
+        ∷ slice_index q1 j ∷ slice_index q2 j ∷ slice_index q3 j ∷ []) }
 {
     let (a0, a1) = p3.interleave(q0);
     let (b0, b1) = p2.interleave(q1);
@@ -112,7 +116,8 @@ pub(crate) fn untranspose(
 /// The four pixels at the edge, of each of sixteen lines, line after line.
 pub(crate) fn untranspose_middle(p1: u8x16, p0: u8x16, q0: u8x16, q1: u8x16) -> [u8x4; 16]
     ensures len { length result ≡ 16 }
-    ensures value { (j : ℕ) → j < 16 → slice_index_or result j [] ≡ (slice_index p1 j ∷ slice_index p0 j ∷ slice_index q0 j ∷ slice_index q1 j ∷ []) }
+    ensures value { (j : ℕ) → j < 16 → slice_index_or result j []
+        ≡ (slice_index p1 j ∷ slice_index p0 j ∷ slice_index q0 j ∷ slice_index q1 j ∷ []) }
 {
     let (a0, a1) = p1.interleave(q0);
     let (b0, b1) = p0.interleave(q1);
@@ -155,7 +160,8 @@ fn second_half(v: u8x16) -> u8x8
 /// The eight rows of the first eight lines.
 pub(crate) fn first_halves(l: Lines) -> [u8x8; 8]
     ensures len { length result ≡ 8 }
-    ensures value { (c : ℕ) → c < 8 → (r : ℕ) → r < 8 → slice_index (slice_index_or result r []) c ≡ pixel_at (line_of l c) r }
+    ensures value { (c : ℕ) → c < 8 → (r : ℕ) → r < 8 → slice_index (slice_index_or result r []) c
+        ≡ pixel_at (line_of l c) r }
 {
     [
         first_half(l.p3),
@@ -172,7 +178,8 @@ pub(crate) fn first_halves(l: Lines) -> [u8x8; 8]
 /// The eight rows of the last eight lines.
 pub(crate) fn second_halves(l: Lines) -> [u8x8; 8]
     ensures len { length result ≡ 8 }
-    ensures value { (c : ℕ) → c < 8 → (r : ℕ) → r < 8 → slice_index (slice_index_or result r []) c ≡ pixel_at (line_of l (8 + c)) r }
+    ensures value { (c : ℕ) → c < 8 → (r : ℕ) → r < 8 → slice_index (slice_index_or result r []) c
+        ≡ pixel_at (line_of l (8 + c)) r }
 {
     [
         second_half(l.p3),
@@ -200,7 +207,8 @@ fn eight_of_both(u: &[u8], u_at: usize, v: &[u8], v_at: usize) -> u8x16
     )
 }
 
-/// Sixteen lines down, the first from `at` on. Rows are `stride` apart: each place comes of the one before by one addition.
+/// Sixteen lines down, the first from `at` on. Rows are `stride` apart: each place comes of the one before by one
+/// addition.
 #[inline(always)]
 fn rows_down(pixels: &[u8], at: usize, stride: usize) -> Lines
     requires room { at + 7 * stride + 16 ≤ length pixels.now }

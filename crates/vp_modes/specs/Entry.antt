@@ -20,7 +20,14 @@ pub record Modes : Type 0 where
 
 -- intra, not skipped, of segment 0, with DC modes
 unfoldable pub plain : Modes
-plain = record { segment = 0; skip = false; reference = reference_is.Intra; luma = luma_is.Dc; subs = replicate 16 sub_is.Dc; chroma = chroma_is.Dc }
+plain = record {
+  segment = 0;
+  skip = false;
+  reference = reference_is.Intra;
+  luma = luma_is.Dc;
+  subs = replicate 16 sub_is.Dc;
+  chroma = chroma_is.Dc;
+}
 
 -- plain, but of a segment
 abbrev pub plain_of : ℕ → Modes

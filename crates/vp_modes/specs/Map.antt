@@ -33,7 +33,8 @@ like luma_is.B = sub_is.Dc
 unfoldable pub sub_of : Modes → ℕ → SubMode
 sub_of m k = if is_by_subblocks m.luma then slice_index_or m.subs k sub_is.Dc else like m.luma
 
--- the modes above subblock k of the macroblock at a place, and to its left, where those before k are in found; outside the frame they are DC
+-- the modes above subblock k of the macroblock at a place, and to its left, where those before k are in found;
+-- outside the frame they are DC
 unfoldable pub context_above : Grid Modes → Place → List SubMode → ℕ → SubMode
 context_above g p found k = value sub_of sub_is.Dc g found (seen_from 4 p (above (block_place 4 p k)))
 

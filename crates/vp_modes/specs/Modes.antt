@@ -6,7 +6,8 @@ use Rattle.vp_base.specs.Grid.{Grid, at}
 use Rattle.vp_bool.specs.Bools.{read}
 use Rattle.vp_bool.specs.Reader.{Reader, ◌>>=◌, give, when, rows}
 use Rattle.vp_tree.specs.Tree.{walk_from}
-use Rattle.vp_tables.specs.declared.mode_probabilities.TheConstants.{KEY_CHROMA_PROBABILITIES, KEY_LUMA_PROBABILITIES, SUB_PROBABILITIES}
+use Rattle.vp_tables.specs.declared.mode_probabilities.TheConstants.{KEY_CHROMA_PROBABILITIES, KEY_LUMA_PROBABILITIES}
+use Rattle.vp_tables.specs.declared.mode_probabilities.TheConstants.{SUB_PROBABILITIES}
 use Rattle.vp_tables.specs.declared.modes.ChromaMode.{ChromaMode}
 use Rattle.vp_tables.specs.declared.modes.ChromaMode.TheVariants as chroma_is
 use Rattle.vp_tables.specs.declared.modes.LumaMode.{LumaMode}
@@ -30,7 +31,8 @@ segment_id probabilities = walk_from 0 SEGMENT_TREE probabilities 0
 
 -- It is read where the map is updated. Else it is 0 in a key frame, and in an inter frame what it was.
 unfoldable pub segment_of : Header → ℕ → Reader ℕ
-segment_of h kept = when h.segmentation.update_map (segment_id h.segmentation.tree_probabilities) (if h.key then 0 else kept)
+segment_of h kept = when h.segmentation.update_map (segment_id h.segmentation.tree_probabilities)
+    (if h.key then 0 else kept)
 
 -- whether there are no tokens (chapter 11.1)
 abbrev pub skip_by : Option ℕ → Reader Bool
@@ -57,13 +59,16 @@ reference_of h = do
 
 -- the luma mode of an intra macroblock (chapters 11.2, 16.1)
 unfoldable pub luma_mode : Header → Reader LumaMode
-luma_mode h = if h.key then walk_from luma_is.Dc KEY_LUMA_TREE KEY_LUMA_PROBABILITIES 0 else walk_from luma_is.Dc LUMA_TREE h.probabilities.luma 0
+luma_mode h = if h.key then walk_from luma_is.Dc KEY_LUMA_TREE KEY_LUMA_PROBABILITIES 0 else walk_from luma_is.Dc
+    LUMA_TREE h.probabilities.luma 0
 
 -- its chroma mode (chapters 11.4, 16.1)
 unfoldable pub chroma_mode : Header → Reader ChromaMode
-chroma_mode h = walk_from chroma_is.Dc CHROMA_TREE (if h.key then KEY_CHROMA_PROBABILITIES else h.probabilities.chroma) 0
+chroma_mode h = walk_from chroma_is.Dc CHROMA_TREE
+    (if h.key then KEY_CHROMA_PROBABILITIES else h.probabilities.chroma) 0
 
--- In a key frame the modes above and to the left choose the probabilities of a subblock's mode; in an inter frame they are fixed (chapters 11.3, 16.1).
+-- In a key frame the modes above and to the left choose the probabilities of a subblock's mode; in an inter frame
+-- they are fixed (chapters 11.3, 16.1).
 unfoldable pub sub_probabilities : Header → Grid Modes → Place → List SubMode → ℕ → List ℕ
 sub_probabilities h g p found k =
     if h.key then key_sub_probabilities (context_above g p found k) (context_left g p found k) else SUB_PROBABILITIES
@@ -95,9 +100,17 @@ prediction h g p m = when (is_intra m.reference) (intra_modes h g p m) m
 
 -- with DC modes
 abbrev pub unread : ℕ → Bool → Reference → Modes
-unread segment skip reference = record { segment = segment; skip = skip; reference = reference; luma = luma_is.Dc; subs = replicate 16 sub_is.Dc; chroma = chroma_is.Dc }
+unread segment skip reference = record {
+  segment = segment;
+  skip = skip;
+  reference = reference;
+  luma = luma_is.Dc;
+  subs = replicate 16 sub_is.Dc;
+  chroma = chroma_is.Dc;
+}
 
--- what the macroblock at p says of itself, where g has the modes of this frame's macroblocks before it, and at p those of the frame before
+-- what the macroblock at p says of itself, where g has the modes of this frame's macroblocks before it, and at p
+-- those of the frame before
 unfoldable pub modes_at : Header → Grid Modes → Place → Reader Modes
 modes_at h g p = do
   segment ← segment_of h (at plain g p).segment

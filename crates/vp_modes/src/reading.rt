@@ -3,7 +3,9 @@ ghost use Rattle.vp_base.specs.Grid.{Has};
 ghost use Rattle.vp_bool.specs.Reader.{when};
 ghost use Rattle.vp_tree.specs.Tree.{walk_from};
 ghost use Rattle.vp_tables.specs.Modes.{is_by_subblocks};
-ghost use Rattle.vp_modes.specs.Modes.{segment_id, segment_of, skip_by, inter_reference, reference_of, luma_mode, chroma_mode, sub_mode, sub_probabilities, sub_modes, intra_modes, prediction, modes_at};
+ghost use Rattle.vp_modes.specs.Modes.{segment_id, segment_of, skip_by, inter_reference, reference_of, luma_mode};
+ghost use Rattle.vp_modes.specs.Modes.{chroma_mode, sub_mode, sub_probabilities, sub_modes, intra_modes, prediction};
+ghost use Rattle.vp_modes.specs.Modes.{modes_at};
 
 use crate::contexts::{mode_above, mode_left};
 use crate::entry::Modes;
@@ -178,8 +180,10 @@ fn read_subs_of(
     d: &mut BoolDecoder,
 ) -> [SubMode; 16]
     requires { Has map.now place }
-    ensures value { result ≡ (when (is_by_subblocks luma) (sub_modes header.now map.now place) (replicate 16 SubMode.Dc) d.old).0 }
-    ensures rest { d.new ≡ (when (is_by_subblocks luma) (sub_modes header.now map.now place) (replicate 16 SubMode.Dc) d.old).1 }
+    ensures value { result ≡ (when (is_by_subblocks luma) (sub_modes header.now map.now place)
+        (replicate 16 SubMode.Dc) d.old).0 }
+    ensures rest { d.new ≡ (when (is_by_subblocks luma) (sub_modes header.now map.now place)
+        (replicate 16 SubMode.Dc) d.old).1 }
 {
     if luma.is_by_subblocks() {
         read_subs(header, map, place, d)

@@ -5,7 +5,8 @@ ghost use Rattle.vp_bool.specs.Writing.{Writes};
 ghost use Rattle.vp_tree.specs.Tree.{walk_from};
 ghost use Rattle.vp_tables.specs.Modes.{is_by_subblocks};
 ghost use Rattle.vp_head.specs.Reference.{is_intra};
-ghost use Rattle.vp_modes.specs.Modes.{segment_id, segment_of, skip_by, inter_reference, reference_of, luma_mode, chroma_mode, sub_mode, sub_modes, intra_modes, prediction, unread, modes_at};
+ghost use Rattle.vp_modes.specs.Modes.{segment_id, segment_of, skip_by, inter_reference, reference_of, luma_mode};
+ghost use Rattle.vp_modes.specs.Modes.{chroma_mode, sub_mode, sub_modes, intra_modes, prediction, unread, modes_at};
 ghost use Rattle.vp_modes.specs.Spelled.{AreWritableModes};
 
 use crate::entry::Modes;
@@ -29,7 +30,8 @@ fn write_segment_if(
     e: &mut BoolEncoder,
 ) -> Result<(), AllocError>
     requires { segment < 4 }
-    ensures { OnOk result ((otherwise : ℕ) → (asked ≡ false → segment ≡ otherwise) → Writes (when asked (segment_id probabilities.now) otherwise) e.old e.new segment) }
+    ensures { OnOk result ((otherwise : ℕ) → (asked ≡ false → segment ≡ otherwise)
+        → Writes (when asked (segment_id probabilities.now) otherwise) e.old e.new segment) }
 {
     if asked {
         write_tree(&SEGMENT_TREE, probabilities, segment, e)?;
@@ -153,7 +155,8 @@ fn write_subs_of(
 ) -> Result<(), AllocError>
     requires place { Has map.now place }
     requires unread { is_by_subblocks luma ≡ false → modes.now ≡ replicate 16 SubMode.Dc }
-    ensures { OnOk result (Writes (when (is_by_subblocks luma) (sub_modes header.now map.now place) (replicate 16 SubMode.Dc)) e.old e.new modes.now) }
+    ensures { OnOk result (Writes (when (is_by_subblocks luma) (sub_modes header.now map.now place)
+        (replicate 16 SubMode.Dc)) e.old e.new modes.now) }
 {
     if luma.is_by_subblocks() {
         write_subs(header, map, place, modes, e)?;
@@ -171,7 +174,8 @@ fn write_intra(
 ) -> Result<(), AllocError>
     requires place { Has map.now place }
     requires unread { is_by_subblocks modes.now.luma ≡ false → modes.now.subs ≡ replicate 16 SubMode.Dc }
-    ensures { OnOk result (Writes (intra_modes header.now map.now place (unread modes.now.segment modes.now.skip modes.now.reference)) e.old e.new modes.now) }
+    ensures { OnOk result (Writes (intra_modes header.now map.now place
+        (unread modes.now.segment modes.now.skip modes.now.reference)) e.old e.new modes.now) }
 {
     write_luma(header, modes.luma, e)?;
     write_subs_of(modes.luma, header, map, place, &modes.subs, e)?;

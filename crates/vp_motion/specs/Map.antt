@@ -25,7 +25,8 @@ AreWithin n g = (p : Place) → IsWithin n (own (at intra g p))
 unfoldable pub block_vector : MacroblockMotion → ℕ → Vector
 block_vector e b = if is_intra e.reference then still else slice_index_or e.vectors b still
 
--- the vectors above block b of the macroblock at a place, and to its left, where those of the blocks before it are in found; outside the frame they are 0
+-- the vectors above block b of the macroblock at a place, and to its left, where those of the blocks before it are
+-- in found; outside the frame they are 0
 unfoldable pub above_block : Grid MacroblockMotion → Place → List Vector → ℕ → Vector
 above_block g p found b = value block_vector still g found (seen_from 4 p (above (block_place 4 p b)))
 

@@ -1,7 +1,9 @@
 -- The candidate vectors of a macroblock: best, nearest and near, with their weights, sign biases and clamps (RFC 6386,
 -- chapter 16.3). Pinned by the law `near_of_three_neighbours`, the test `vectors_by_their_neighbours`, and streams of
 -- other encoders in the gate.
-use Rattle.std.specs.Prelude.{◌≡◌, ◌<◌, ℕ, ◌+◌, ◌-◌, ◌*◌, ◌&&◌, Bool, true, false, not, nat_lt, nat_le, eqb, List, [], ◌∷◌, ◌++◌, length, replicate, slice_index_or, ℤ, pos, negsuc, neg_ℤ, int_lt, if◌then◌else◌}
+use Rattle.std.specs.Prelude.{◌≡◌, ◌<◌, ℕ, ◌+◌, ◌-◌, ◌*◌, ◌&&◌, Bool, true, false, not, nat_lt, nat_le, eqb, List, []}
+use Rattle.std.specs.Prelude.{◌∷◌, ◌++◌, length, replicate, slice_index_or, ℤ, pos, negsuc, neg_ℤ, int_lt}
+use Rattle.std.specs.Prelude.{if◌then◌else◌}
 use Rattle.std.specs.Int.{from_bool}
 use Rattle.vp_head.specs.declared.fields.Reference.{Reference}
 use Rattle.vp_head.specs.declared.fields.Reference.TheVariants as reference_is
@@ -47,11 +49,15 @@ bias_corrected r b e = if same_bool (bias_of e.reference b) (bias_of r b) then o
 
 -- a neighbour's vector and its weight, where it counts
 unfoldable pub weighted_neighbour : Reference → SignBiases → ℕ → MacroblockMotion → List Weighted
-weighted_neighbour r b weight e = if is_intra e.reference then [] else record { vector = bias_corrected r b e; weight = weight } ∷ []
+weighted_neighbour r b weight e = if is_intra e.reference then [] else record {
+  vector = bias_corrected r b e;
+  weight = weight;
+} ∷ []
 
 -- those above, to the left and above-left; outside the frame nothing counts
 unfoldable pub neighbours : Grid MacroblockMotion → Place → Reference → SignBiases → List Weighted
-neighbours g p r b = weighted_neighbour r b 2 (look intra g (above p)) ++ (weighted_neighbour r b 2 (look intra g (left p)) ++ weighted_neighbour r b 1 (look intra g (corner p)))
+neighbours g p r b = weighted_neighbour r b 2 (look intra g (above p))
+    ++ (weighted_neighbour r b 2 (look intra g (left p)) ++ weighted_neighbour r b 1 (look intra g (corner p)))
 
 -- ---- The vectors that are found, with their weights
 
@@ -68,7 +74,8 @@ moving (w ∷ ws) = if same w.vector still then moving ws else w ∷ moving ws
 -- neighbours in a row with one vector are one entry, with their weights' sum
 unfoldable pub onto : Weighted → List Weighted → List Weighted
 onto w [] = w ∷ []
-onto w (e ∷ es) = if same w.vector e.vector then record { vector = w.vector; weight = w.weight + e.weight } ∷ es else w ∷ (e ∷ es)
+onto w (e ∷ es) = if same w.vector e.vector then record { vector = w.vector; weight = w.weight + e.weight } ∷ es else w
+    ∷ (e ∷ es)
 
 unfoldable pub runs : List Weighted → List Weighted
 runs [] = []
@@ -92,7 +99,8 @@ unfoldable pub splits : MacroblockMotion → Bool
 splits e = if is_intra e.reference then false else is_split e.mode
 
 unfoldable pub split_count : Grid MacroblockMotion → Place → ℕ
-split_count g p = 2 * from_bool (splits (look intra g (above p))) + 2 * from_bool (splits (look intra g (left p))) + from_bool (splits (look intra g (corner p)))
+split_count g p = 2 * from_bool (splits (look intra g (above p))) + 2 * from_bool (splits (look intra g (left p)))
+    + from_bool (splits (look intra g (corner p)))
 
 -- ---- The candidates
 
@@ -140,14 +148,20 @@ inter v = record { reference = reference_is.Last; mode = vector_is.New; vectors 
 
 -- above and to the left (4, 0), above-left zero
 unfoldable pub example_grid : Grid MacroblockMotion
-example_grid = record { columns = 3; rows = 3; entries = inter still ∷ inter example_vector ∷ intra ∷ inter example_vector ∷ intra ∷ intra ∷ intra ∷ intra ∷ intra ∷ [] }
+example_grid = record {
+  columns = 3;
+  rows = 3;
+  entries = inter still ∷ inter example_vector ∷ intra
+      ∷ inter example_vector ∷ intra ∷ intra ∷ intra ∷ intra ∷ intra ∷ [];
+}
 
 -- ---- What the code keeps of the neighbours
 
 -- w after the entries es: it joins the last one where equal to it
 unfoldable pub joined : List Weighted → Weighted → List Weighted
 joined [] w = w ∷ []
-joined (e ∷ []) w = if same e.vector w.vector then record { vector = e.vector; weight = e.weight + w.weight } ∷ [] else e ∷ (w ∷ [])
+joined (e ∷ []) w = if same e.vector w.vector then record { vector = e.vector; weight = e.weight + w.weight }
+    ∷ [] else e ∷ (w ∷ [])
 joined (e ∷ (f ∷ es)) w = e ∷ joined (f ∷ es) w
 
 abbrev pub total : List Weighted → ℕ

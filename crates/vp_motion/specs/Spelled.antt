@@ -12,7 +12,8 @@ bit_of n i = if n / 2 ^ i % 2 == 1 then 2 ^ i else 0
 abbrev pub difference_of : Vector → Vector → Vector
 difference_of v u = record { row = v.row -ℤ u.row; column = v.column -ℤ u.column }
 
--- The mode gives the vector to the whole macroblock: new gives any within 1,023 quarter pixels of the best one, split gives none.
+-- The mode gives the vector to the whole macroblock: new gives any within 1,023 quarter pixels of the best one,
+-- split gives none.
 abbrev pub GivesVector : Candidates → VectorMode → Vector → Type 0
 GivesVector c vector_is.Zero v = v ≡ still
 GivesVector c vector_is.Nearest v = v ≡ c.nearest

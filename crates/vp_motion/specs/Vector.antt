@@ -47,7 +47,8 @@ pub record MacroblockMotion : Type 0 where
 abbrev pub macroblock_motion : Reference → Motion → MacroblockMotion
 macroblock_motion reference motion = record { reference = reference; mode = motion.mode; vectors = motion.vectors }
 
--- what a macroblock's own vector may be, or may be near (chapter 16.3): the weights of zero vectors, of nearest, of near and of split neighbours, and what a new vector is added to
+-- what a macroblock's own vector may be, or may be near (chapter 16.3): the weights of zero vectors, of nearest, of
+-- near and of split neighbours, and what a new vector is added to
 pub record Candidates : Type 0 where
   pub counts : List ℕ
   pub best : Vector

@@ -1,9 +1,12 @@
-ghost use Rattle.std.specs.Prelude.{◌≡◌, ℕ, ◌+◌, ◌-◌, ◌*◌, ◌<◌, ◌≤◌, List, ◌++◌, length, slice_index, IfSome, pos, neg_ℤ, ◌≤ℤ◌};
+ghost use Rattle.std.specs.Prelude.{◌≡◌, ℕ, ◌+◌, ◌-◌, ◌*◌, ◌<◌, ◌≤◌, List, ◌++◌, length, slice_index, IfSome, pos};
+ghost use Rattle.std.specs.Prelude.{neg_ℤ, ◌≤ℤ◌};
 ghost use Rattle.std.specs.Int.{from_bool};
 ghost use Rattle.vp_base.specs.Grid.{Has, look};
 ghost use Rattle.vp_motion.specs.Map.{intra};
 ghost use Rattle.vp_motion.specs.Vector.{IsWithin, Vector};
-ghost use Rattle.vp_motion.specs.Near.{AreHeavy, IsTally, bias_of, candidates, clamped, clamped_by, weighted_neighbour, weighted_at, first_candidate, from_entries, from_two, joined, same, bias_corrected, splits, total, clamped_vector};
+ghost use Rattle.vp_motion.specs.Near.{AreHeavy, IsTally, bias_of, candidates, clamped, clamped_by, weighted_neighbour};
+ghost use Rattle.vp_motion.specs.Near.{weighted_at, first_candidate, from_entries, from_two, joined, same};
+ghost use Rattle.vp_motion.specs.Near.{bias_corrected, splits, total, clamped_vector};
 
 use crate::map::{VectorMap, outside};
 use crate::vector::{Candidates, MacroblockMotion, Nearby, STILL, Vector, Weighted};
@@ -178,9 +181,12 @@ fn consider(
     requires room { length found.old.entries.items < 3 }
     requires light { total found.old.entries.items + found.old.zeros + weight ≤ 255 }
     requires heavy { 0 < weight }
-    ensures tally { (ws : List Weighted) → IsTally ws found.old.zeros found.old.entries.items → IsTally (ws ++ weighted_neighbour reference biases weight neighbour.now) found.new.zeros found.new.entries.items }
+    ensures tally { (ws : List Weighted) → IsTally ws found.old.zeros found.old.entries.items
+        → IsTally (ws ++ weighted_neighbour reference biases weight neighbour.now) found.new.zeros
+        found.new.entries.items }
     ensures len { length found.new.entries.items ≤ length found.old.entries.items + 1 }
-    ensures weight { total found.new.entries.items + found.new.zeros ≤ total found.old.entries.items + found.old.zeros + weight }
+    ensures weight { total found.new.entries.items + found.new.zeros
+        ≤ total found.old.entries.items + found.old.zeros + weight }
     ensures heavy { AreHeavy found.old.entries.items → AreHeavy found.new.entries.items }
 {
     if !neighbour.reference.is_intra() {
@@ -257,7 +263,8 @@ fn choose(zeros: u8, splits: u8, entries: &ArrayVec<Weighted, 3>) -> Nearby
     requires splits { splits ≤ 5 }
     requires light { total entries.now.items ≤ 5 }
     requires heavy { AreHeavy entries.now.items }
-    ensures value { (clamp : Vector → Vector) → clamped_by clamp result ≡ from_entries clamp zeros splits entries.now.items }
+    ensures value { (clamp : Vector → Vector) → clamped_by clamp result
+        ≡ from_entries clamp zeros splits entries.now.items }
     ensures light { (k : ℕ) → slice_index result.counts k < 6 }
 {
     let first = first_entry(entries);

@@ -83,7 +83,8 @@ fn write_given(
     e: &mut BoolEncoder,
 ) -> Result<(), AllocError>
     requires { GivesVector candidates.now mode vector }
-    ensures { OnOk result ((g : Grid MacroblockMotion) (p : Place) → Writes (vectors_by probabilities.now g p candidates.now mode) e.old e.new (replicate 16 vector)) }
+    ensures { OnOk result ((g : Grid MacroblockMotion) (p : Place)
+        → Writes (vectors_by probabilities.now g p candidates.now mode) e.old e.new (replicate 16 vector)) }
 {
     if mode == VectorMode::New {
         write_new(probabilities, candidates.best, vector, e)?;
@@ -99,7 +100,8 @@ fn write_by(
     e: &mut BoolEncoder,
 ) -> Result<(), AllocError>
     requires { CanBeWritten candidates.now motion.now }
-    ensures { OnOk result ((g : Grid MacroblockMotion) (p : Place) → Writes (motion_by probabilities.now g p candidates.now) e.old e.new motion.now) }
+    ensures { OnOk result ((g : Grid MacroblockMotion) (p : Place)
+        → Writes (motion_by probabilities.now g p candidates.now) e.old e.new motion.now) }
 {
     write_mode(&candidates.counts, motion.mode, e)?;
     write_given(
@@ -115,7 +117,8 @@ fn write_by(
 /// Writes how an inter macroblock moves (RFC 6386, chapter 16.3).
 ///
 /// The map has the motion of this frame's macroblocks before the place; `reference` is the macroblock's own. Whether a
-/// mode can be written there with a vector is told by `Candidates::can_give` of what `near` finds there. Where memory is
+/// mode can be written there with a vector is told by `Candidates::can_give` of what `near` finds there. Where
+/// memory is
 /// refused, a part of the motion may have been written: the encoder isn't to be used again.
 pub fn write_motion(
     header: &Header,

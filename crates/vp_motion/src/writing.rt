@@ -34,7 +34,8 @@ fn write_bit_3(
     e: &mut BoolEncoder,
 ) -> Result<(), AllocError>
     requires { 8 ≤ magnitude }
-    ensures { OnOk result (Writes (when (nat_lt 15 magnitude) (bit probabilities.now 3) 8) e.old e.new (bit_of magnitude 3)) }
+    ensures { OnOk result (Writes (when (nat_lt 15 magnitude) (bit probabilities.now 3) 8) e.old e.new
+        (bit_of magnitude 3)) }
 {
     let is_implied = magnitude < 16;
     if !is_implied {

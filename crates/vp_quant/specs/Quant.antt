@@ -1,6 +1,7 @@
 -- Quantiser indices, the six factors, and dequantised blocks in zigzag order (RFC 6386, chapters 9.3, 9.6 and 14.1).
 -- Pinned by the tests `factors_of_both_ends`, `indices_are_held` and `levels_at_their_places`.
-use Rattle.std.specs.Prelude.{ℕ, ◌*◌, ◌/◌, ◌==◌, nat_lt, min, max, ℤ, pos, negsuc, ◌+ℤ◌, ◌*ℤ◌, List, map, slice_index_or, if◌then◌else◌}
+use Rattle.std.specs.Prelude.{ℕ, ◌*◌, ◌/◌, ◌==◌, nat_lt, min, max, ℤ, pos, negsuc, ◌+ℤ◌, ◌*ℤ◌, List, map}
+use Rattle.std.specs.Prelude.{slice_index_or, if◌then◌else◌}
 use Rattle.std.specs.List.{position_or_len, range_with_len}
 use Rattle.vp_head.specs.declared.fields.Header.{Header}
 use Rattle.vp_head.specs.declared.fields.QuantiserIndices.{QuantiserIndices}
@@ -18,7 +19,8 @@ abbrev pub index_of : Header → ℕ → ℕ
 index_of header segment =
     let frame : ℤ = pos header.quantiser.y_ac in
     let own : ℤ = slice_index_or header.segmentation.values.quantisers segment (pos 0) in
-    clamped_index (if header.segmentation.enabled then (if header.segmentation.values.absolute then own else (frame +ℤ own)) else frame)
+    clamped_index (if header.segmentation.enabled then (if header.segmentation.values.absolute then own else
+    (frame +ℤ own)) else frame)
 
 -- the six factors (chapters 9.6, 14.1)
 abbrev pub factors : ℕ → QuantiserIndices → Factors
@@ -44,7 +46,8 @@ coefficient levels dc ac position = slice_index_or levels position (pos 0) *ℤ 
 -- the coefficients of the first positions, at their places; 0 elsewhere
 unfoldable pub dequantised_prefix : List ℤ → ℕ → ℕ → ℕ → List ℤ
 dequantised_prefix levels dc ac count =
-    map (λ place. if nat_lt (position_at place) count then coefficient levels dc ac (position_at place) else pos 0) (range_with_len 0 16)
+    map (λ place. if nat_lt (position_at place) count then coefficient levels dc ac (position_at place) else pos 0)
+    (range_with_len 0 16)
 
 -- all sixteen
 unfoldable pub dequantised : List ℤ → ℕ → ℕ → List ℤ

@@ -10,7 +10,8 @@ pub fn dequant(levels: &[i16; 16], dc: u16, ac: u16) -> [i64; 16]
     ensures value { result ≡ dequantised levels.now dc ac }
     ensures within { (i : ℕ) → unsigned_abs (slice_index_or result i (pos 0)) ≤ 2 ^ 31 }
     ensures places { (i : ℕ) → i < 16 → slice_index_or result (zigzag i) (pos 0) ≡ coefficient levels.now dc ac i }
-    ensures small { (m : ℕ) → ((i : ℕ) → unsigned_abs (slice_index_or levels.now i (pos 0)) ≤ m) → (i : ℕ) → unsigned_abs (slice_index_or result i (pos 0)) ≤ m * max dc ac }
+    ensures small { (m : ℕ) → ((i : ℕ) → unsigned_abs (slice_index_or levels.now i (pos 0)) ≤ m) → (i : ℕ)
+        → unsigned_abs (slice_index_or result i (pos 0)) ≤ m * max dc ac }
 {
     let mut block = [0; 16];
     for position in 0..16 {

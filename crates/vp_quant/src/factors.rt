@@ -25,8 +25,10 @@ impl Factors {
     /// The factors for a quantiser index and the frame's differences from it, `y_ac` apart (chapter 9.6).
     pub fn of(index: u8, deltas: &QuantiserIndices) -> Self
         ensures value { result ≡ factors index deltas.now }
-        ensures least { (1 ≤ result.y_dc) × (1 ≤ result.y_ac) × (1 ≤ result.y2_dc) × (1 ≤ result.y2_ac) × (1 ≤ result.uv_dc) × (1 ≤ result.uv_ac) }
-        ensures greatest { (result.y_dc ≤ 157) × (result.y_ac ≤ 284) × (result.y2_dc ≤ 314) × (result.y2_ac ≤ 440) × (result.uv_dc ≤ 132) × (result.uv_ac ≤ 284) }
+        ensures least { (1 ≤ result.y_dc) × (1 ≤ result.y_ac) × (1 ≤ result.y2_dc) × (1 ≤ result.y2_ac)
+            × (1 ≤ result.uv_dc) × (1 ≤ result.uv_ac) }
+        ensures greatest { (result.y_dc ≤ 157) × (result.y_ac ≤ 284) × (result.y2_dc ≤ 314) × (result.y2_ac ≤ 440)
+            × (result.uv_dc ≤ 132) × (result.uv_ac ≤ 284) }
     {
         Self {
             y_dc: dc_factor(moved(index, deltas.y_dc)),

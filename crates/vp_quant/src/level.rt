@@ -8,7 +8,8 @@ pub fn quantise(coefficient: i64, factor: u16) -> i16
     ensures value { result ≡ quantised coefficient factor }
     ensures within { unsigned_abs result ≤ 2047 }
     // It is the nearest level, unless that is over 2047.
-    ensures nearest { unsigned_abs coefficient ≤ 2047 * factor → 2 * unsigned_abs (coefficient -ℤ result *ℤ pos factor) ≤ factor }
+    ensures nearest { unsigned_abs coefficient ≤ 2047 * factor
+        → 2 * unsigned_abs (coefficient -ℤ result *ℤ pos factor) ≤ factor }
 {
     let size = (coefficient.unsigned_abs() + u64::from(factor / 2)) / u64::from(factor);
     let level = size.min(2047) as i16;

@@ -1,6 +1,7 @@
 //! Blocks of levels times factors in lanes of i16, for products from -2200 to 2200.
 
-ghost use Rattle.std.specs.Prelude.{◌≡◌, ◌≢◌, ℕ, ◌*◌, ◌/◌, ◌<◌, ◌≤◌, pos, ◌*ℤ◌, ℤ, List, Some, None, true, false, max, min, unsigned_abs, slice_index_or, ◌==◌, if◌then◌else◌};
+ghost use Rattle.std.specs.Prelude.{◌≡◌, ◌≢◌, ℕ, ◌*◌, ◌/◌, ◌<◌, ◌≤◌, pos, ◌*ℤ◌, ℤ, List, Some, None, true, false, max};
+ghost use Rattle.std.specs.Prelude.{min, unsigned_abs, slice_index_or, ◌==◌, if◌then◌else◌};
 ghost use Rattle.vp_lanes.specs.Lane.{lane};
 ghost use Rattle.vp_quant.specs.Quant.{position_at, dequantised};
 ghost use Rattle.vp_quant.specs.Short.{largest, AreShort, HasSmallProduct};
@@ -15,7 +16,8 @@ const MOST: u16 = 2200;
 /// is each level; else nothing.
 pub fn dequant_short(levels: [i16; 16], dc: u16, ac: u16) -> Option<[i16; 16]>
     ensures value { (block : List ℤ) → result ≡ Some block → block ≡ dequantised levels dc ac }
-    ensures small { (block : List ℤ) → result ≡ Some block → (i : ℕ) → unsigned_abs (slice_index_or block i (pos 0)) ≤ 2200 }
+    ensures small { (block : List ℤ) → result ≡ Some block → (i : ℕ)
+        → unsigned_abs (slice_index_or block i (pos 0)) ≤ 2200 }
     ensures some { AreShort levels dc ac → result ≢ None }
 {
     let read = i16x16::from_array(levels);

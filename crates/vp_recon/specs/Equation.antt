@@ -10,11 +10,15 @@ use Rattle.vp_recon.specs.Rebuilt.{luma_made, chroma_made}
 
 -- each pixel of the macroblock at a place of p is what m makes of it, from p itself or from a reference
 pub record IsPredicted (p : Image) (place : Place) (m : Macroblock) : Type 0 where
-  pub luma : (r c : ℕ) → r < 16 → c < 16 → pixel p.luma (16 * place.column + c) (16 * place.row + r) ≡ luma_made m place p.luma r c
-  pub u : (r c : ℕ) → r < 8 → c < 8 → pixel p.u (8 * place.column + c) (8 * place.row + r) ≡ chroma_made m 1 place p.u r c
-  pub v : (r c : ℕ) → r < 8 → c < 8 → pixel p.v (8 * place.column + c) (8 * place.row + r) ≡ chroma_made m 2 place p.v r c
+  pub luma : (r c : ℕ) → r < 16 → c < 16 → pixel p.luma (16 * place.column + c) (16 * place.row + r)
+      ≡ luma_made m place p.luma r c
+  pub u : (r c : ℕ) → r < 8 → c < 8 → pixel p.u (8 * place.column + c) (8 * place.row + r)
+      ≡ chroma_made m 1 place p.u r c
+  pub v : (r c : ℕ) → r < 8 → c < 8 → pixel p.v (8 * place.column + c) (8 * place.row + r)
+      ≡ chroma_made m 2 place p.v r c
 
 -- all macroblocks of p, where f says what stands at each place
 abbrev pub IsUnfiltered : (Place → Macroblock) → Image → Type 0
 IsUnfiltered f p =
-    (place : Place) → place.column < macroblocks p.width → place.row < macroblocks p.height → IsPredicted p place (f place)
+    (place : Place) → place.column < macroblocks p.width → place.row < macroblocks p.height
+    → IsPredicted p place (f place)

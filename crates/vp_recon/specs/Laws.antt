@@ -20,13 +20,15 @@ use Rattle.vp_recon.specs.Equation.{IsUnfiltered}
 -- two pictures of one size that solve the equation of a frame are equal
 abbrev pub HasOneSolution : (Place → Macroblock) → Type 0
 HasOneSolution f =
-    (p q : Image) → IsAligned p → IsAligned q → AreOneSize p q → AreWhole p → AreWhole q → IsUnfiltered f p → IsUnfiltered f q → p ≡ q
+    (p q : Image) → IsAligned p → IsAligned q → AreOneSize p q → AreWhole p → AreWhole q → IsUnfiltered f p
+    → IsUnfiltered f q → p ≡ q
 
 -- What a macroblock makes from some row on depends on the rows from there on, if the last one above it is one of them.
 abbrev pub ReadsOneRowAbove : Macroblock → Place → Type 0
 ReadsOneRowAbove m place =
     (p q : Image) (a b : ℕ) → IsAligned p → IsAligned q → AreOneSize p q
-    → place.column < macroblocks p.width → place.row < macroblocks p.height → a ≤ 16 * place.row - 1 → b ≤ 8 * place.row - 1
+    → place.column < macroblocks p.width → place.row < macroblocks p.height → a ≤ 16 * place.row - 1
+    → b ≤ 8 * place.row - 1
     → AreSameFrom a b p q → AreSameFrom a b (rebuilt m place p) (rebuilt m place q)
 
 -- An inter macroblock needs no such row.
@@ -40,4 +42,5 @@ abbrev pub IsBySubblocks : Modes → Tokens → Factors → Place → Raster →
 IsBySubblocks modes tokens factors place p =
     is_by_subblocks modes.luma ≡ true
     → luma_rebuilt (macroblock_of (Intra modes) tokens factors) place p
-    ≡ over 16 (λ k q. with_sub q (block_place 4 place k) (slice_index_or modes.subs k Dc) (residue (block_of tokens (1 + k)).levels factors.y_dc factors.y_ac)) p
+    ≡ over 16 (λ k q. with_sub q (block_place 4 place k) (slice_index_or modes.subs k Dc)
+    (residue (block_of tokens (1 + k)).levels factors.y_dc factors.y_ac)) p

@@ -1,5 +1,6 @@
 -- Inside the crate: two subblocks side by side, and their residues as the code has them in lanes.
-use Rattle.std.specs.Prelude.{◌≡◌, ℕ, ◌+◌, ◌*◌, ◌/◌, ◌<◌, ◌≤◌, ℤ, pos, List, [], ◌∷◌, nat_lt, slice_index_or, unsigned_abs, if◌then◌else◌}
+use Rattle.std.specs.Prelude.{◌≡◌, ℕ, ◌+◌, ◌*◌, ◌/◌, ◌<◌, ◌≤◌, ℤ, pos, List, [], ◌∷◌, nat_lt, slice_index_or}
+use Rattle.std.specs.Prelude.{unsigned_abs, if◌then◌else◌}
 use Rattle.vp_base.specs.Raster.{Raster, pixel}
 use Rattle.vp_base.specs.Block.{with_block}
 use Rattle.vp_lanes.specs.Lane.{lane}
@@ -29,8 +30,10 @@ ArePairedRows a b c d left right =
 abbrev pub AreLow : List ℤ → Type 0
 AreLow xs = (j : ℕ) → j < 8 → unsigned_abs (lane xs j) ≤ 8800
 
--- p with the residues of the subblocks before k added to the block at column x of row y that is `across` subblocks wide and high
+-- p with the residues of the subblocks before k added to the block at column x of row y that is `across` subblocks
+-- wide and high
 abbrev pub with_until : ℕ → Raster → ℕ → ℕ → (ℕ → List ℤ) → ℕ → Raster
 with_until across p x y residue k =
     with_block p x y (4 * across) (4 * across)
-    (λ r c. if nat_lt (across * (r / 4) + c / 4) k then summed (pixel p (x + c) (y + r)) (residue_at across residue r c) else pixel p (x + c) (y + r))
+    (λ r c. if nat_lt (across * (r / 4) + c / 4) k then summed (pixel p (x + c) (y + r))
+    (residue_at across residue r c) else pixel p (x + c) (y + r))

@@ -1,5 +1,6 @@
 -- Inside the crate: what the residues of a plane's subblocks are made of.
-use Rattle.std.specs.Prelude.{◌≡◌, ℕ, ◌+◌, ◌<◌, ◌^◌, ℤ, pos, List, ◌∷◌, replicate, Option, Some, None, slice_index_or, slice_set}
+use Rattle.std.specs.Prelude.{◌≡◌, ℕ, ◌+◌, ◌<◌, ◌^◌, ℤ, pos, List, ◌∷◌, replicate, Option, Some, None, slice_index_or}
+use Rattle.std.specs.Prelude.{slice_set}
 use Rattle.vp_tokens.specs.Blocks.{block_of}
 use Rattle.vp_quant.specs.Quant.{dequantised}
 use Rattle.vp_transform.specs.Fits.{EachWithin}
@@ -29,4 +30,5 @@ HasSmallFirsts r = (firsts : List ℤ) → r.firsts ≡ Some firsts → EachWith
 
 -- the first coefficient of subblock k is its only one that is not 0
 abbrev pub IsAlone : Residues → ℕ → Type 0
-IsAlone r k = (first : ℤ) → slice_set (dequantised (block_of r.tokens.now (r.first + k)).levels 0 r.ac) 0 first ≡ first ∷ replicate 15 (pos 0)
+IsAlone r k = (first : ℤ) → slice_set (dequantised (block_of r.tokens.now (r.first + k)).levels 0 r.ac) 0 first
+    ≡ first ∷ replicate 15 (pos 0)

@@ -34,14 +34,17 @@ chroma_moved version e k =
 -- moved by `vector k`, row after row
 abbrev pub moved_pixel : ℕ → Raster → ℕ → ℕ → ℕ → (ℕ → PlaneVector) → ℕ → ℕ → ℕ
 moved_pixel version reference x y across vector r c =
-    inter_pixel version reference (x + 4 * (c / 4)) (y + 4 * (r / 4)) (vector (across * (r / 4) + c / 4)) (r % 4) (c % 4)
+    inter_pixel version reference (x + 4 * (c / 4)) (y + 4 * (r / 4)) (vector (across * (r / 4) + c / 4)) (r % 4)
+    (c % 4)
 
--- the prediction at row r and column c of the luma of the macroblock at a place, where its plane is p: by the mode of its
+-- the prediction at row r and column c of the luma of the macroblock at a place, where its plane is p: by the mode
+-- of its
 -- subblock, or as a whole, or moved
 abbrev pub luma_prediction : Predictor → Place → Raster → ℕ → ℕ → ℕ
 luma_prediction (Intra m) place p r c =
     if is_by_subblocks m.luma
-    then sub_pixel (slice_index_or m.subs (4 * (r / 4) + c / 4) sub_is.Dc) p (16 * place.column + 4 * (c / 4)) (16 * place.row + 4 * (r / 4)) (r % 4) (c % 4)
+    then sub_pixel (slice_index_or m.subs (4 * (r / 4) + c / 4) sub_is.Dc) p (16 * place.column
+    + 4 * (c / 4)) (16 * place.row + 4 * (r / 4)) (r % 4) (c % 4)
     else luma_pixel m.luma p (16 * place.column) (16 * place.row) r c
 luma_prediction (Inter motion reference version) place p r c =
     moved_pixel version reference.luma (16 * place.column) (16 * place.row) 4 (luma_moved motion) r c

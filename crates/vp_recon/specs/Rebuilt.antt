@@ -23,7 +23,8 @@ to_byte (negsuc _) = 0
 unfoldable pub summed : ℕ → ℤ → ℕ
 summed prediction residue = to_byte (pos prediction +ℤ residue)
 
--- the residue at row r and column c of a block that is `across` subblocks wide: subblock k has `residue k`, row after row
+-- the residue at row r and column c of a block that is `across` subblocks wide: subblock k has `residue k`, row
+-- after row
 abbrev pub residue_at : ℕ → (ℕ → List ℤ) → ℕ → ℕ → ℤ
 residue_at across residue r c = slice_index_or (residue (across * (r / 4) + c / 4)) (4 * (r % 4) + c % 4) (pos 0)
 
@@ -71,7 +72,8 @@ rebuilt m place p = record p {
 -- p with so many macroblocks of a row rebuilt, from the left
 abbrev pub row_rebuilt : ℕ → (Place → Macroblock) → ℕ → Image → Image
 row_rebuilt columns f row p =
-    over columns (λ column. rebuilt (f (record { column = column; row = row })) (record { column = column; row = row })) p
+    over columns (λ column. rebuilt (f (record { column = column; row = row }))
+    (record { column = column; row = row })) p
 
 -- p with all macroblocks rebuilt, row after row
 abbrev pub all_rebuilt : (Place → Macroblock) → Image → Image
@@ -83,4 +85,5 @@ all_rebuilt f p = over (macroblocks p.height) (row_rebuilt (macroblocks p.width)
 abbrev pub with_sub : Raster → Place → SubMode → List ℤ → Raster
 with_sub p block mode residue =
     with_block p (4 * block.column) (4 * block.row) 4 4
-    (λ r c. summed (sub_pixel mode p (4 * block.column) (4 * block.row) r c) (slice_index_or residue (4 * r + c) (pos 0)))
+    (λ r c. summed (sub_pixel mode p (4 * block.column) (4 * block.row) r c)
+    (slice_index_or residue (4 * r + c) (pos 0)))

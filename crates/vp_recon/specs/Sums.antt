@@ -7,7 +7,8 @@ use Rattle.vp_recon.specs.Rebuilt.{summed}
 -- sixteen numbers that give the sums of a residue
 abbrev pub HasEqualSums : List ℤ → List ℤ → Type 0
 HasEqualSums kept residue =
-    (i : ℕ) → i < 16 → (pixel : ℕ) → pixel ≤ 255 → summed pixel (slice_index_or kept i (pos 0)) ≡ summed pixel (slice_index_or residue i (pos 0))
+    (i : ℕ) → i < 16 → (pixel : ℕ) → pixel ≤ 255 → summed pixel (slice_index_or kept i (pos 0))
+    ≡ summed pixel (slice_index_or residue i (pos 0))
 
 -- a residue of sixteen zeros
 abbrev pub IsNothing : List ℤ → Type 0
@@ -16,7 +17,8 @@ IsNothing residue = (i : ℕ) → i < 16 → slice_index_or residue i (pos 0) �
 -- the pixels of a subblock, row after row, of its prediction and its residue
 abbrev pub AreSums : List ℕ → List ℕ → List ℤ → Type 0
 AreSums pixels prediction residue =
-    (r c : ℕ) → r < 4 → c < 4 → slice_index pixels (r * 4 + c) ≡ summed (slice_index prediction (r * 4 + c)) (slice_index_or residue (4 * r + c) (pos 0))
+    (r c : ℕ) → r < 4 → c < 4 → slice_index pixels (r * 4 + c)
+    ≡ summed (slice_index prediction (r * 4 + c)) (slice_index_or residue (4 * r + c) (pos 0))
 
 -- the pixels of p in the block at column x of row y that has n columns and rows are bytes
 abbrev pub ArePixelBytes : Raster → ℕ → ℕ → ℕ → Type 0
@@ -26,7 +28,8 @@ ArePixelBytes p x y n = (r c : ℕ) → r < n → c < n → pixel p (x + c) (y +
 
 -- the vectors of n subblocks
 abbrev pub AreVectors : ℕ → List PlaneVector → (ℕ → PlaneVector) → Type 0
-AreVectors n vectors vector = (k : ℕ) → k < n → slice_index_or vectors k (record { row = pos 0; column = pos 0 }) ≡ vector k
+AreVectors n vectors vector = (k : ℕ) → k < n → slice_index_or vectors k (record { row = pos 0; column = pos 0 })
+    ≡ vector k
 
 -- four vectors are one
 abbrev pub AreEqualVectors : List PlaneVector → Type 0

@@ -49,7 +49,8 @@ pub(crate) fn add_residues<const ACROSS: usize>(
     }
 }
 
-/// Adds to the block at column `x` of row `y` the residues of its subblocks `k` to `k + 3`, where those before are added.
+/// Adds to the block at column `x` of row `y` the residues of its subblocks `k` to `k + 3`, where those before are
+/// added.
 #[inline(always)]
 fn add_by_fours<const ACROSS: usize>(
     picture: &mut Picture,
@@ -123,7 +124,8 @@ fn add_by_twos<const ACROSS: usize>(
     }
 }
 
-/// Adds to the four subblocks side by side from column `x` of row `y` on the residues of subblocks `k` to `k + 3`, of each of
+/// Adds to the four subblocks side by side from column `x` of row `y` on the residues of subblocks `k` to `k + 3`,
+/// of each of
 /// which only the first coefficient is not 0.
 fn add_four(picture: &mut Picture, plane: usize, x: usize, y: usize, residues: &Residues, k: usize)
     requires plane { plane < 3 }
@@ -147,7 +149,8 @@ fn add_four(picture: &mut Picture, plane: usize, x: usize, y: usize, residues: &
     add_sixteen(picture, plane, x, y, four_numbers(a, b, c, d));
 }
 
-/// Adds to the subblock at column `x` of row `y` the residue of subblock `k`, and to the one to the right that of the next.
+/// Adds to the subblock at column `x` of row `y` the residue of subblock `k`, and to the one to the right that of
+/// the next.
 fn add_two(picture: &mut Picture, plane: usize, x: usize, y: usize, residues: &Residues, k: usize)
     requires plane { plane < 3 }
     requires columns { x + 8 ≤ (plane_of picture.old plane).width }
@@ -155,7 +158,8 @@ fn add_two(picture: &mut Picture, plane: usize, x: usize, y: usize, residues: &R
     requires subblocks { k + 1 < 16 }
     requires blocks { residues.now.first + k + 1 < 25 }
     requires small { HasSmallFirsts residues.now }
-    ensures { picture.new ≡ with_plane picture.old plane (with_both_added (plane_of picture.old plane) x y (residue_in residues.now k) (residue_in residues.now (k + 1))) }
+    ensures { picture.new ≡ with_plane picture.old plane (with_both_added (plane_of picture.old plane) x y
+        (residue_in residues.now k) (residue_in residues.now (k + 1))) }
 {
     if !residues.has_others(k) && !residues.has_others(k + 1) {
         let left = even_number(residues.first_coefficient(k));
@@ -182,7 +186,8 @@ fn add_each(picture: &mut Picture, plane: usize, x: usize, y: usize, residues: &
     requires subblocks { k + 1 < 16 }
     requires blocks { residues.now.first + k + 1 < 25 }
     requires small { HasSmallFirsts residues.now }
-    ensures { picture.new ≡ with_plane picture.old plane (with_both_added (plane_of picture.old plane) x y (residue_in residues.now k) (residue_in residues.now (k + 1))) }
+    ensures { picture.new ≡ with_plane picture.old plane (with_both_added (plane_of picture.old plane) x y
+        (residue_in residues.now k) (residue_in residues.now (k + 1))) }
 {
     let _width = picture.plane(plane).width();
     add_kept(picture, plane, x, y, residues.kept(k));

@@ -54,7 +54,8 @@ fn write_rows(picture: &mut Picture, k: usize, x: usize, y: usize, rows: [u8x16;
     requires plane { k < 3 }
     requires columns { x + 16 ≤ (plane_of picture.old k).width }
     requires rows { y + 4 ≤ (plane_of picture.old k).height }
-    ensures { picture.new ≡ with_plane picture.old k (with_block (plane_of picture.old k) x y 16 4 (λ r c. slice_index (slice_index_or rows r []) c)) }
+    ensures { picture.new ≡ with_plane picture.old k (with_block (plane_of picture.old k) x y 16 4
+        (λ r c. slice_index (slice_index_or rows r []) c)) }
 {
     let _height = picture.plane(k).height();
     write16(picture, k, x, y, rows[0]);
@@ -67,7 +68,8 @@ fn write_rows(picture: &mut Picture, k: usize, x: usize, y: usize, rows: [u8x16;
 fn added_rows(plane: &Plane, x: usize, y: usize, numbers: i16x16) -> [u8x16; 4]
     requires columns { x + 16 ≤ plane.now.width }
     requires rows { y + 4 ≤ plane.now.height }
-    ensures value { (r : ℕ) → r < 4 → (j : ℕ) → j < 16 → slice_index (slice_index_or result r []) j ≡ summed (pixel plane.now (x + j) (y + r)) (lane numbers j) }
+    ensures value { (r : ℕ) → r < 4 → (j : ℕ) → j < 16 → slice_index (slice_index_or result r []) j
+        ≡ summed (pixel plane.now (x + j) (y + r)) (lane numbers j) }
     ensures bytes { (r : ℕ) → r < 4 → (j : ℕ) → j < 16 → pixel plane.now (x + j) (y + r) ≤ 255 }
 {
     let _height = plane.height();
@@ -84,7 +86,9 @@ pub(crate) fn add_sixteen(picture: &mut Picture, plane: usize, x: usize, y: usiz
     requires plane { plane < 3 }
     requires columns { x + 16 ≤ (plane_of picture.old plane).width }
     requires rows { y + 4 ≤ (plane_of picture.old plane).height }
-    ensures value { picture.new ≡ with_plane picture.old plane (with_block (plane_of picture.old plane) x y 16 4 (λ r c. summed (pixel (plane_of picture.old plane) (x + c) (y + r)) (lane numbers c))) }
+    ensures value { picture.new ≡ with_plane picture.old plane
+        (with_block (plane_of picture.old plane) x y 16 4 (λ r c. summed
+        (pixel (plane_of picture.old plane) (x + c) (y + r)) (lane numbers c))) }
     ensures bytes { (r c : ℕ) → r < 4 → c < 16 → pixel (plane_of picture.old plane) (x + c) (y + r) ≤ 255 }
 {
     let rows = added_rows(picture.plane(plane), x, y, numbers);

@@ -32,7 +32,8 @@ pub(crate) fn rebuild_inter_luma(
 )
     requires columns { 16 * place.column + 16 ≤ picture.old.luma.width }
     requires rows { 16 * place.row + 16 ≤ picture.old.luma.height }
-    ensures { picture.new ≡ with_plane picture.old 0 (luma_rebuilt (macroblock_of (Inter motion.now reference.now version) tokens.now factors.now) place picture.old.luma) }
+    ensures { picture.new ≡ with_plane picture.old 0 (luma_rebuilt
+        (macroblock_of (Inter motion.now reference.now version) tokens.now factors.now) place picture.old.luma) }
 {
     let _size = [picture.plane(0).width(), picture.plane(0).height()];
     let [x, y] = [16 * place.column, 16 * place.row];
@@ -52,7 +53,8 @@ pub(crate) fn predict_luma(
 )
     requires columns { x + 16 ≤ picture.old.luma.width }
     requires rows { y + 16 ≤ picture.old.luma.height }
-    ensures { picture.new ≡ with_plane picture.old 0 (with_block picture.old.luma x y 16 16 (moved_pixel version reference.now.luma x y 4 (luma_moved motion.now))) }
+    ensures { picture.new ≡ with_plane picture.old 0 (with_block picture.old.luma x y 16 16
+        (moved_pixel version reference.now.luma x y 4 (luma_moved motion.now))) }
 {
     let _dim = reference.dim();
     let source = reference.plane(0);
@@ -78,7 +80,9 @@ pub(crate) fn rebuild_inter_chroma(
     requires plane { plane < 3 }
     requires columns { 8 * place.column + 8 ≤ (plane_of picture.old plane).width }
     requires rows { 8 * place.row + 8 ≤ (plane_of picture.old plane).height }
-    ensures { picture.new ≡ with_plane picture.old plane (chroma_rebuilt (macroblock_of (Inter motion.now reference.now version) tokens.now factors.now) plane place (plane_of picture.old plane)) }
+    ensures { picture.new ≡ with_plane picture.old plane (chroma_rebuilt
+        (macroblock_of (Inter motion.now reference.now version) tokens.now factors.now) plane place
+        (plane_of picture.old plane)) }
 {
     let _size = [picture.plane(plane).width(), picture.plane(plane).height()];
     let [x, y] = [8 * place.column, 8 * place.row];
@@ -100,7 +104,8 @@ pub(crate) fn predict_chroma(
     requires plane { plane < 3 }
     requires columns { x + 8 ≤ (plane_of picture.old plane).width }
     requires rows { y + 8 ≤ (plane_of picture.old plane).height }
-    ensures { picture.new ≡ with_plane picture.old plane (with_block (plane_of picture.old plane) x y 8 8 (moved_pixel version (plane_of reference.now plane) x y 2 (chroma_moved version motion.now))) }
+    ensures { picture.new ≡ with_plane picture.old plane (with_block (plane_of picture.old plane) x y 8 8
+        (moved_pixel version (plane_of reference.now plane) x y 2 (chroma_moved version motion.now))) }
 {
     let _dim = reference.dim();
     let source = reference.plane(plane);
@@ -135,7 +140,8 @@ fn chroma_vector_of(version: u8, motion: &MacroblockMotion, k: usize) -> PlaneVe
 /// How a chroma subblock moves, by the vectors of two by two luma subblocks, of which `first` is at the top left.
 fn vector_of_four(version: u8, vectors: &[Vector; 16], first: usize) -> PlaneVector
     requires { first ≤ 10 }
-    ensures { result ≡ chroma_vector version (map (λ v. v.row) (four_from vectors.now first)) (map (λ v. v.column) (four_from vectors.now first)) }
+    ensures { result ≡ chroma_vector version (map (λ v. v.row) (four_from vectors.now first))
+        (map (λ v. v.column) (four_from vectors.now first)) }
 {
     let [a, b] = [vectors[first], vectors[first + 1]];
     let [c, d] = [vectors[first + 4], vectors[first + 5]];
@@ -187,7 +193,8 @@ fn predict_quarters(
     requires rows { y + 16 ≤ picture.old.luma.height }
     requires wide { 0 < source.now.width }
     requires high { 0 < source.now.height }
-    ensures { picture.new ≡ with_plane picture.old 0 (with_block picture.old.luma x y 16 16 (moved_pixel version source.now x y 4 (luma_moved motion.now))) }
+    ensures { picture.new ≡ with_plane picture.old 0 (with_block picture.old.luma x y 16 16
+        (moved_pixel version source.now x y 4 (luma_moved motion.now))) }
 {
     let _width = picture.plane(0).width();
     let _height = picture.plane(0).height();

@@ -18,7 +18,8 @@ use vp_quant::Factors;
 use vp_tables::SubMode;
 use vp_tokens::{Block, Tokens};
 
-/// Rebuilds the luma block at the place `block` among all luma blocks, from the pixels round it, and without a Y2 block.
+/// Rebuilds the luma block at the place `block` among all luma blocks, from the pixels round it, and without a Y2
+/// block.
 pub fn rebuild_subblock(
     picture: &mut Picture,
     block: Place,
@@ -28,7 +29,8 @@ pub fn rebuild_subblock(
 )
     requires columns { 4 * block.column + 4 ≤ picture.old.luma.width }
     requires rows { 4 * block.row + 4 ≤ picture.old.luma.height }
-    ensures { picture.new ≡ with_plane picture.old 0 (with_sub picture.old.luma block mode (residue levels.now.levels factors.now.y_dc factors.now.y_ac)) }
+    ensures { picture.new ≡ with_plane picture.old 0 (with_sub picture.old.luma block mode
+        (residue levels.now.levels factors.now.y_dc factors.now.y_ac)) }
 {
     let _width = picture.plane(0).width();
     let _height = picture.plane(0).height();
@@ -51,7 +53,8 @@ pub(crate) fn rebuild_subs(
     requires columns { 16 * place.column + 16 ≤ picture.old.luma.width }
     requires rows { 16 * place.row + 16 ≤ picture.old.luma.height }
     requires subs { is_by_subblocks modes.now.luma ≡ true }
-    ensures { picture.new ≡ with_plane picture.old 0 (luma_rebuilt (macroblock_of (Intra modes.now) tokens.now factors.now) place picture.old.luma) }
+    ensures { picture.new ≡ with_plane picture.old 0 (luma_rebuilt
+        (macroblock_of (Intra modes.now) tokens.now factors.now) place picture.old.luma) }
 {
     let _width = picture.plane(0).width();
     let _height = picture.plane(0).height();
@@ -76,7 +79,8 @@ pub(crate) fn rebuild_at_once(
     requires columns { 16 * place.column + 16 ≤ picture.old.luma.width }
     requires rows { 16 * place.row + 16 ≤ picture.old.luma.height }
     requires whole { is_by_subblocks modes.now.luma ≡ false }
-    ensures { picture.new ≡ with_plane picture.old 0 (luma_rebuilt (macroblock_of (Intra modes.now) tokens.now factors.now) place picture.old.luma) }
+    ensures { picture.new ≡ with_plane picture.old 0 (luma_rebuilt
+        (macroblock_of (Intra modes.now) tokens.now factors.now) place picture.old.luma) }
 {
     let _width = picture.plane(0).width();
     let _height = picture.plane(0).height();
@@ -98,7 +102,8 @@ pub(crate) fn rebuild_intra_chroma(
     requires plane { plane < 3 }
     requires columns { 8 * place.column + 8 ≤ (plane_of picture.old plane).width }
     requires rows { 8 * place.row + 8 ≤ (plane_of picture.old plane).height }
-    ensures { picture.new ≡ with_plane picture.old plane (chroma_rebuilt (macroblock_of (Intra modes.now) tokens.now factors.now) plane place (plane_of picture.old plane)) }
+    ensures { picture.new ≡ with_plane picture.old plane (chroma_rebuilt
+        (macroblock_of (Intra modes.now) tokens.now factors.now) plane place (plane_of picture.old plane)) }
 {
     let _width = picture.plane(plane).width();
     let _height = picture.plane(plane).height();

@@ -37,19 +37,24 @@ pub fn rebuilding_keeps_shape()
 
 /// Rebuilding a macroblock changes no row above its own.
 pub fn rebuilding_keeps_rows_above()
-    ensures { (m : Macroblock) (place : Place) (p : Image) → AreSameAbove (16 * place.row) (8 * place.row) (rebuilt m place p) p }
+    ensures { (m : Macroblock) (place : Place) (p : Image) → AreSameAbove (16 * place.row) (8 * place.row)
+        (rebuilt m place p) p }
 {}
 
-/// What rebuilding a macroblock makes from some row on depends on the rows from there on alone, if the last row above the
-/// macroblock is one of them: 1 row of luma and of chroma. An inter macroblock needs no such row: it reads none of its own
+/// What rebuilding a macroblock makes from some row on depends on the rows from there on alone, if the last row
+/// above the
+/// macroblock is one of them: 1 row of luma and of chroma. An inter macroblock needs no such row: it reads none of
+/// its own
 /// picture.
 pub fn rebuilding_reads_one_row_above()
     ensures any { (m : Macroblock) (place : Place) → ReadsOneRowAbove m place }
-    ensures inter { (motion : MacroblockMotion) (reference : Image) (version : ℕ) (tokens : Tokens) (factors : Factors) (place : Place)
+    ensures inter { (motion : MacroblockMotion) (reference : Image) (version : ℕ) (tokens : Tokens) (factors : Factors)
+        (place : Place)
         → ReadsNoRowAbove (macroblock_of (Inter motion reference version) tokens factors) place }
 {}
 
 /// Luma whose subblocks have modes of their own is rebuilt one of them after another.
 pub fn luma_is_rebuilt_by_subblocks()
-    ensures { (modes : Modes) (tokens : Tokens) (factors : Factors) (place : Place) (p : Raster) → IsBySubblocks modes tokens factors place p }
+    ensures { (modes : Modes) (tokens : Tokens) (factors : Factors) (place : Place) (p : Raster)
+        → IsBySubblocks modes tokens factors place p }
 {}

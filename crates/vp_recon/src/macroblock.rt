@@ -40,7 +40,8 @@ fn rebuild_luma(
 )
     requires columns { 16 * place.column + 16 ≤ (plane_of picture.old 0).width }
     requires rows { 16 * place.row + 16 ≤ (plane_of picture.old 0).height }
-    ensures { picture.new ≡ with_plane picture.old 0 (luma_rebuilt (macroblock_of (predictor_of source.now) tokens.now factors.now) place (plane_of picture.old 0)) }
+    ensures { picture.new ≡ with_plane picture.old 0 (luma_rebuilt
+        (macroblock_of (predictor_of source.now) tokens.now factors.now) place (plane_of picture.old 0)) }
 {
     match source {
         Predictor::Intra(modes) if modes.luma.is_by_subblocks() => {
@@ -67,7 +68,8 @@ fn rebuild_chroma(
     requires plane { plane < 3 }
     requires columns { 8 * place.column + 8 ≤ (plane_of picture.old plane).width }
     requires rows { 8 * place.row + 8 ≤ (plane_of picture.old plane).height }
-    ensures { picture.new ≡ with_plane picture.old plane (chroma_rebuilt (macroblock_of (predictor_of source.now) tokens.now factors.now) plane place (plane_of picture.old plane)) }
+    ensures { picture.new ≡ with_plane picture.old plane (chroma_rebuilt
+        (macroblock_of (predictor_of source.now) tokens.now factors.now) plane place (plane_of picture.old plane)) }
 {
     match source {
         Predictor::Intra(modes) => rebuild_intra_chroma(

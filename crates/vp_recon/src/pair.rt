@@ -1,6 +1,7 @@
 //! Residues added to two subblocks side by side: four rows of eight pixels.
 
-ghost use Rattle.std.specs.Prelude.{◌≡◌, ℕ, ◌+◌, ◌*◌, ◌<◌, ◌≤◌, ◌^◌, ℤ, pos, List, [], ◌∷◌, replicate, length, slice_index, slice_index_or, unsigned_abs};
+ghost use Rattle.std.specs.Prelude.{◌≡◌, ℕ, ◌+◌, ◌*◌, ◌<◌, ◌≤◌, ◌^◌, ℤ, pos, List, [], ◌∷◌, replicate, length};
+ghost use Rattle.std.specs.Prelude.{slice_index, slice_index_or, unsigned_abs};
 ghost use Rattle.vp_base.specs.Raster.{pixel, with_run};
 ghost use Rattle.vp_base.specs.Block.{with_block};
 ghost use Rattle.vp_base.specs.Image.{plane_of, with_plane};
@@ -17,7 +18,8 @@ use vp_transform::idct_of_first;
 /// What a residue whose coefficients but the first are 0 adds to each pixel.
 pub(crate) fn even_number(first: i64) -> i16
     requires { unsigned_abs first ≤ 2 ^ 40 }
-    ensures value { (i pixel : ℕ) → i < 16 → pixel ≤ 255 → summed pixel result ≡ summed pixel (slice_index_or (idct (first ∷ replicate 15 (pos 0))) i (pos 0)) }
+    ensures value { (i pixel : ℕ) → i < 16 → pixel ≤ 255 → summed pixel result
+        ≡ summed pixel (slice_index_or (idct (first ∷ replicate 15 (pos 0))) i (pos 0)) }
     ensures within { unsigned_abs result ≤ 255 }
 {
     idct_of_first(first).clamp(-255, 255) as i16
@@ -68,7 +70,8 @@ fn added_rows(
     requires second { AreLow b }
     requires third { AreLow c }
     requires fourth { AreLow d }
-    ensures value { (r : ℕ) → r < 4 → (j : ℕ) → j < 8 → slice_index (slice_index_or result r []) j ≡ summed (pixel plane.now (x + j) (y + r)) (row_lane a b c d r j) }
+    ensures value { (r : ℕ) → r < 4 → (j : ℕ) → j < 8 → slice_index (slice_index_or result r []) j
+        ≡ summed (pixel plane.now (x + j) (y + r)) (row_lane a b c d r j) }
     ensures bytes { (r : ℕ) → r < 4 → (j : ℕ) → j < 8 → pixel plane.now (x + j) (y + r) ≤ 255 }
 {
     let _height = plane.height();
@@ -97,7 +100,8 @@ fn write_rows(picture: &mut Picture, k: usize, x: usize, y: usize, rows: [u8x8; 
     requires plane { k < 3 }
     requires columns { x + 8 ≤ (plane_of picture.old k).width }
     requires rows { y + 4 ≤ (plane_of picture.old k).height }
-    ensures { picture.new ≡ with_plane picture.old k (with_block (plane_of picture.old k) x y 8 4 (λ r c. slice_index (slice_index_or rows r []) c)) }
+    ensures { picture.new ≡ with_plane picture.old k (with_block (plane_of picture.old k) x y 8 4
+        (λ r c. slice_index (slice_index_or rows r []) c)) }
 {
     let _height = picture.plane(k).height();
     write8(picture, k, x, y, rows[0]);

@@ -23,7 +23,8 @@ pub fn predict_inter_macroblock(
     requires column { place.column < macroblocks picture.old.width }
     requires row { place.row < macroblocks picture.old.height }
     ensures { (tokens : Tokens) (factors : Factors) → tokens.blocks ≡ no_blocks
-        → picture.new ≡ rebuilt (macroblock_of (Inter motion.now reference.now version) tokens factors) place picture.old }
+        → picture.new ≡ rebuilt (macroblock_of
+        (Inter motion.now reference.now version) tokens factors) place picture.old }
 {
     let _dim = picture.dim();
     let [x, y] = [16 * place.column, 16 * place.row];

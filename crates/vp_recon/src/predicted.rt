@@ -20,8 +20,10 @@ fn predict_at_once(picture: &mut Picture, place: Place, modes: &Modes)
     requires columns { 16 * place.column + 16 ≤ picture.old.luma.width }
     requires rows { 16 * place.row + 16 ≤ picture.old.luma.height }
     requires whole { is_by_subblocks modes.now.luma ≡ false }
-    ensures value { picture.new ≡ with_plane picture.old 0 (with_block picture.old.luma (16 * place.column) (16 * place.row) 16 16 (luma_pixel modes.now.luma picture.old.luma (16 * place.column) (16 * place.row))) }
-    ensures bytes { (r c : ℕ) → r < 16 → c < 16 → luma_pixel modes.now.luma picture.old.luma (16 * place.column) (16 * place.row) r c ≤ 255 }
+    ensures value { picture.new ≡ with_plane picture.old 0 (with_block picture.old.luma (16 * place.column)
+        (16 * place.row) 16 16 (luma_pixel modes.now.luma picture.old.luma (16 * place.column) (16 * place.row))) }
+    ensures bytes { (r c : ℕ) → r < 16 → c < 16 → luma_pixel modes.now.luma picture.old.luma (16 * place.column)
+        (16 * place.row) r c ≤ 255 }
 {
     let _width = picture.plane(0).width();
     let _height = picture.plane(0).height();
@@ -36,8 +38,11 @@ fn predict_colour(picture: &mut Picture, plane: usize, place: Place, modes: &Mod
     requires plane { plane < 3 }
     requires columns { 8 * place.column + 8 ≤ (plane_of picture.old plane).width }
     requires rows { 8 * place.row + 8 ≤ (plane_of picture.old plane).height }
-    ensures value { picture.new ≡ with_plane picture.old plane (with_block (plane_of picture.old plane) (8 * place.column) (8 * place.row) 8 8 (chroma_pixel modes.now.chroma (plane_of picture.old plane) (8 * place.column) (8 * place.row))) }
-    ensures bytes { (r c : ℕ) → r < 8 → c < 8 → chroma_pixel modes.now.chroma (plane_of picture.old plane) (8 * place.column) (8 * place.row) r c ≤ 255 }
+    ensures value { picture.new ≡ with_plane picture.old plane
+        (with_block (plane_of picture.old plane) (8 * place.column) (8 * place.row) 8 8
+        (chroma_pixel modes.now.chroma (plane_of picture.old plane) (8 * place.column) (8 * place.row))) }
+    ensures bytes { (r c : ℕ) → r < 8 → c < 8 → chroma_pixel modes.now.chroma (plane_of picture.old plane)
+        (8 * place.column) (8 * place.row) r c ≤ 255 }
 {
     let _width = picture.plane(plane).width();
     let _height = picture.plane(plane).height();

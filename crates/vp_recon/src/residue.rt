@@ -1,6 +1,7 @@
 //! The residues of a macroblock's subblocks (chapter 14).
 
-ghost use Rattle.std.specs.Prelude.{◌≡◌, ℕ, ◌+◌, ◌*◌, ◌<◌, ◌≤◌, ◌^◌, ℤ, pos, ◌*ℤ◌, List, ◌∷◌, length, replicate, slice_index_or, slice_set, unsigned_abs, Some, false, true};
+ghost use Rattle.std.specs.Prelude.{◌≡◌, ℕ, ◌+◌, ◌*◌, ◌<◌, ◌≤◌, ◌^◌, ℤ, pos, ◌*ℤ◌, List, ◌∷◌, length, replicate};
+ghost use Rattle.std.specs.Prelude.{slice_index_or, slice_set, unsigned_abs, Some, false, true};
 ghost use Rattle.vp_transform.specs.Fits.{EachWithin};
 ghost use Rattle.vp_transform.specs.Transform.{idct, iwht};
 ghost use Rattle.vp_quant.specs.Quant.{dequantised};
@@ -45,7 +46,8 @@ fn residue_with_first(block: &Block, first: i64, ac: u16) -> [i16; 16]
     }
 }
 
-/// The coefficients of a subblock whose first one is `first`, where all are from -2200 to 2200 and its levels are as small.
+/// The coefficients of a subblock whose first one is `first`, where all are from -2200 to 2200 and its levels are
+/// as small.
 fn short_with_first(block: &Block, first: i64, ac: u16) -> Option<[i16; 16]>
     ensures value { (zs : List ℤ) → result ≡ Some zs → zs ≡ slice_set (dequantised block.now.levels 0 ac) 0 first }
     ensures small { (zs : List ℤ) → result ≡ Some zs → EachWithin 2200 zs }
@@ -155,7 +157,8 @@ impl<'a> Residues<'a> {
         requires subblock { k < 16 }
         requires block { self.now.first + k < 25 }
         requires small { HasSmallFirsts self.now }
-        ensures value { slice_set (dequantised (block_of self.now.tokens.now (self.now.first + k)).levels 0 self.now.ac) 0 result ≡ coefficients_in self.now k }
+        ensures value { slice_set (dequantised (block_of self.now.tokens.now (self.now.first
+            + k)).levels 0 self.now.ac) 0 result ≡ coefficients_in self.now k }
         ensures within { unsigned_abs result ≤ 2 ^ 40 }
     {
         match &self.firsts {
@@ -167,7 +170,9 @@ impl<'a> Residues<'a> {
     /// Whether subblock `k` may have other coefficients that are not 0.
     pub(crate) fn has_others(&self, k: usize) -> bool
         requires { self.now.first + k < 25 }
-        ensures { result ≡ false → (first : ℤ) → slice_set (dequantised (block_of self.now.tokens.now (self.now.first + k)).levels 0 self.now.ac) 0 first ≡ first ∷ replicate 15 (pos 0) }
+        ensures { result ≡ false → (first : ℤ) → slice_set (dequantised
+            (block_of self.now.tokens.now (self.now.first + k)).levels 0 self.now.ac) 0 first
+            ≡ first ∷ replicate 15 (pos 0) }
     {
         block_of(self.tokens, self.first + k).tokens > 1
     }

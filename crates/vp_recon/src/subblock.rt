@@ -36,7 +36,8 @@ fn row4(plane: &Plane, x: usize, y: usize) -> u8x4
 
 /// Four rows, one after another.
 fn joined(a: u8x4, b: u8x4, c: u8x4, d: u8x4) -> u8x16
-    ensures { (i : ℕ) → i < 4 → (j : ℕ) → j < 4 → slice_index result (i * 4 + j) ≡ slice_index (slice_index_or (a ∷ b ∷ c ∷ d ∷ []) i []) j }
+    ensures { (i : ℕ) → i < 4 → (j : ℕ) → j < 4 → slice_index result (i * 4 + j)
+        ≡ slice_index (slice_index_or (a ∷ b ∷ c ∷ d ∷ []) i []) j }
 {
     let upper = a.shuffle::<8>(b, [0, 1, 2, 3, 4, 5, 6, 7]);
     let lower = c.shuffle::<8>(d, [0, 1, 2, 3, 4, 5, 6, 7]);
@@ -75,7 +76,8 @@ fn write4(picture: &mut Picture, k: usize, x: usize, y: usize, row: u8x4)
 
 /// The four rows of a subblock.
 fn rows_of(pixels: u8x16) -> [u8x4; 4]
-    ensures { (i : ℕ) → i < 4 → (j : ℕ) → j < 4 → slice_index (slice_index_or result i []) j ≡ slice_index pixels (i * 4 + j) }
+    ensures { (i : ℕ) → i < 4 → (j : ℕ) → j < 4 → slice_index (slice_index_or result i []) j
+        ≡ slice_index pixels (i * 4 + j) }
 {
     [
         pixels.extract::<0, 4>(),
@@ -90,7 +92,8 @@ pub(crate) fn store_subblock(picture: &mut Picture, k: usize, x: usize, y: usize
     requires plane { k < 3 }
     requires columns { x + 4 ≤ (plane_of picture.old k).width }
     requires rows { y + 4 ≤ (plane_of picture.old k).height }
-    ensures { picture.new ≡ with_plane picture.old k (with_block (plane_of picture.old k) x y 4 4 (λ r c. slice_index pixels (r * 4 + c))) }
+    ensures { picture.new ≡ with_plane picture.old k (with_block (plane_of picture.old k) x y 4 4
+        (λ r c. slice_index pixels (r * 4 + c))) }
 {
     let _height = picture.plane(k).height();
     let rows = rows_of(pixels);

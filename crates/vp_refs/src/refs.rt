@@ -24,7 +24,12 @@ impl Model for Refs {
 
     ghost Value = { References };
 
-    ghost view = { λ r. record { last = r.last.value; golden = r.golden.value; alt = r.alt.value; newest = r.newest.value } };
+    ghost view = { λ r. record {
+      last = r.last.value;
+      golden = r.golden.value;
+      alt = r.alt.value;
+      newest = r.newest.value;
+    } };
 }
 
 impl Refs {
@@ -40,7 +45,8 @@ impl Refs {
         })
     }
 
-    /// The picture that a macroblock of this reference is predicted from; an intra macroblock has none, and gets the last.
+    /// The picture that a macroblock of this reference is predicted from; an intra macroblock has none, and
+    /// gets the last.
     pub fn get(&self, reference: Reference) -> &Picture
         ensures { result.now ≡ reference_picture self.now reference }
     {

@@ -18,7 +18,8 @@ block16 xs r c = slice_index xs (r * 16 + c)
 
 -- the squared difference of the numbers at a place of two lists
 abbrev pub squared_difference : List ℕ → List ℕ → ℕ → ℕ
-squared_difference xs ys i = abs_diff (slice_index xs i) (slice_index ys i) * abs_diff (slice_index xs i) (slice_index ys i)
+squared_difference xs ys i = abs_diff (slice_index xs i) (slice_index ys i) * abs_diff (slice_index xs i)
+    (slice_index ys i)
 
 -- the sum of squared differences of two lists of one length
 abbrev pub sum_of_squares : List ℕ → List ℕ → ℕ

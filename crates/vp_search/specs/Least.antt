@@ -18,4 +18,5 @@ pub record IsLeast (range : ℕ) (cost : WholeVector → ℕ) (best : WholeVecto
 
 -- two least vectors are one
 abbrev pub LeastIsOne : Type 0
-LeastIsOne = (range : ℕ) (cost : WholeVector → ℕ) (v w : WholeVector) → IsLeast range cost v → IsLeast range cost w → v ≡ w
+LeastIsOne = (range : ℕ) (cost : WholeVector → ℕ) (v w : WholeVector) → IsLeast range cost v → IsLeast range cost w
+    → v ≡ w

@@ -9,5 +9,6 @@ use Rattle.vp_search.specs.Blocks.{whole_cost, quarter_cost}
 
 -- in a plane of bytes a vector in whole pixels costs as much as the same one in quarters
 abbrev pub WholeIsPredicted : Type 0
-WholeIsPredicted = (f : ℕ → ℕ → ℕ) (p : Raster) (place : Place) (v : WholeVector) → ((x y : ℤ) → reference_pixel p x y ≤ 255)
+WholeIsPredicted = (f : ℕ → ℕ → ℕ) (p : Raster) (place : Place) (v : WholeVector)
+    → ((x y : ℤ) → reference_pixel p x y ≤ 255)
     → whole_cost f p place v ≡ quarter_cost f p place (quarters v)

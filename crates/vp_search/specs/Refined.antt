@@ -38,4 +38,5 @@ pub record IsRefined (cost : QuarterVector → ℕ) (centre : WholeVector) (best
 
 -- two refinements are one
 abbrev pub RefinedIsOne : Type 0
-RefinedIsOne = (cost : QuarterVector → ℕ) (centre : WholeVector) (v w : QuarterVector) → IsRefined cost centre v → IsRefined cost centre w → v ≡ w
+RefinedIsOne = (cost : QuarterVector → ℕ) (centre : WholeVector) (v w : QuarterVector) → IsRefined cost centre v
+    → IsRefined cost centre w → v ≡ w

@@ -24,7 +24,8 @@ window_place range v = unsigned_abs (v.row +ℤ pos range) * WINDOW_WIDTH + unsi
 
 -- how much a block differs from what a vector moves there out of the window
 unfoldable pub window_cost : List ℕ → List ℕ → ℕ → WholeVector → ℕ
-window_cost block window range v = sum_of_differences 16 16 (strided_block block 0 16) (strided_block window (window_place range v) WINDOW_WIDTH)
+window_cost block window range v = sum_of_differences 16 16 (strided_block block 0 16)
+    (strided_block window (window_place range v) WINDOW_WIDTH)
 
 -- a vector within range with its cost
 pub record IsFoundInWindow (range : ℕ) (cost : WholeVector → ℕ) (found : Found) : Type 0 where

@@ -12,7 +12,8 @@ pub fn cut_block<const SIDE: usize, const AREA: usize>(plane: &Plane, place: Pla
     requires area { AREA ≡ SIDE * SIDE }
     requires columns { SIDE * place.column + SIDE ≤ plane.now.width }
     requires rows { SIDE * place.row + SIDE ≤ plane.now.height }
-    ensures { (r c : ℕ) → r < SIDE → c < SIDE → slice_index result (r * SIDE + c) ≡ pixel plane.now (SIDE * place.column + c) (SIDE * place.row + r) }
+    ensures { (r c : ℕ) → r < SIDE → c < SIDE → slice_index result (r * SIDE + c)
+        ≡ pixel plane.now (SIDE * place.column + c) (SIDE * place.row + r) }
 {
     let _size = [plane.width(), plane.height()];
     let mut pixels = [0; AREA];

@@ -13,13 +13,16 @@ pub fn sad16(a: &[u8; 256], b: &[u8; 256]) -> u32
     sad_within(a, b, 0, 16, u32::MAX)
 }
 
-/// The sum of absolute differences of a block and the one at `at` in rows of `stride`, where it is at most `limit`, else
+/// The sum of absolute differences of a block and the one at `at` in rows of `stride`, where it is at most `limit`,
+/// else
 /// a number above `limit`.
 pub(crate) fn sad_within(block: &[u8], window: &[u8], at: usize, stride: usize, limit: u32) -> u32
     requires block { 256 ≤ length block.now }
     requires window { at + 15 * stride + 16 ≤ length window.now }
-    ensures exact { result ≤ limit → result ≡ sum_of_differences 16 16 (strided_block block.now 0 16) (strided_block window.now at stride) }
-    ensures over { limit < result → limit < sum_of_differences 16 16 (strided_block block.now 0 16) (strided_block window.now at stride) }
+    ensures exact { result ≤ limit → result ≡ sum_of_differences 16 16 (strided_block block.now 0 16)
+        (strided_block window.now at stride) }
+    ensures over { limit < result → limit < sum_of_differences 16 16 (strided_block block.now 0 16)
+        (strided_block window.now at stride) }
     ensures bound { result ≤ 16 * 16 * 255 }
 {
     let first = four_rows(block, window, 0, 16, at, stride);

@@ -54,7 +54,8 @@ pub(crate) fn four_rows(
 ) -> u32
     requires a_room { from_a + 3 * step_a + 16 ≤ length a.now }
     requires b_room { from_b + 3 * step_b + 16 ≤ length b.now }
-    ensures value { result ≡ sum_of_differences 4 16 (strided_block a.now from_a step_a) (strided_block b.now from_b step_b) }
+    ensures value { result ≡ sum_of_differences 4 16 (strided_block a.now from_a step_a)
+        (strided_block b.now from_b step_b) }
     ensures bound { result ≤ 4 * 16 * 255 }
 {
     let first = apart(load16(a, from_a), load16(b, from_b));

@@ -19,7 +19,8 @@ fn consider(block: &[u8], window: &[u8], range: u8, best: Found, i: usize, j: us
     requires best { IsFoundInWindow range (window_cost block.now window.now range) best }
     ensures kept { IsFoundInWindow range (window_cost block.now window.now range) result }
     ensures old { NoLarger result.cost result.vector best.cost best.vector }
-    ensures here { NoLarger result.cost result.vector (window_cost block.now window.now range (vector_at range i j)) (vector_at range i j) }
+    ensures here { NoLarger result.cost result.vector (window_cost block.now window.now range (vector_at range i j))
+        (vector_at range i j) }
 {
     let cost = sad_within(block, window, i * WINDOW_WIDTH + j, WINDOW_WIDTH, best.cost);
     if cost > best.cost {
@@ -72,7 +73,8 @@ fn consider_row(block: &[u8], window: &[u8], range: u8, best: Found, i: usize) -
     requires best { IsFoundInWindow range (window_cost block.now window.now range) best }
     ensures kept { IsFoundInWindow range (window_cost block.now window.now range) result }
     ensures old { NoLarger result.cost result.vector best.cost best.vector }
-    ensures here { (j : ℕ) → j ≤ 2 * range → NoLarger result.cost result.vector (window_cost block.now window.now range (vector_at range i j)) (vector_at range i j) }
+    ensures here { (j : ℕ) → j ≤ 2 * range → NoLarger result.cost result.vector
+        (window_cost block.now window.now range (vector_at range i j)) (vector_at range i j) }
 {
     let mut found = best;
     for j in 0..2 * usize::from(range) + 1 {

@@ -23,7 +23,8 @@ pub fn refine(source: &Plane, reference: &Plane, place: Place, centre: WholeVect
     requires high { 0 < reference.now.height }
     requires near { IsNear 16384 centre }
     ensures cost { result.cost ≡ quarter_cost (macroblock_pixels source.now place) reference.now place result.vector }
-    ensures refined { IsRefined (quarter_cost (macroblock_pixels source.now place) reference.now place) centre result.vector }
+    ensures refined { IsRefined (quarter_cost
+        (macroblock_pixels source.now place) reference.now place) centre result.vector }
     ensures row { unsigned_abs (result.vector.row -ℤ pos 4 *ℤ centre.row) ≤ 3 }
     ensures column { unsigned_abs (result.vector.column -ℤ pos 4 *ℤ centre.column) ≤ 3 }
 {
@@ -53,7 +54,8 @@ pub fn refine_block(
     best_of(block, reference, place, halfway.vector, 1)
 }
 
-/// The best of `centre` and its eight neighbours at a distance. `centre` is a vector in whole pixels, which are at most 16,384
+/// The best of `centre` and its eight neighbours at a distance. `centre` is a vector in whole pixels, which are at
+/// most 16,384
 /// either way, or one of its neighbours, which is two quarters further at most.
 fn best_of(
     block: &[u8; 256],

@@ -23,7 +23,8 @@ const WHOLE_WINDOW: usize = (16 + 2 * GREATEST_RANGE) * WINDOW_WIDTH;
 
 /// Of all vectors in whole pixels whose row and column are at most `range`, either way, the one that moves to the
 /// macroblock at `place` the pixels of the reference that differ least from the source's luma there. Of equal ones the
-/// shortest is taken (row and column added), then the one with the least row, then with the least column. Both planes are
+/// shortest is taken (row and column added), then the one with the least row, then with the least column. Both
+/// planes are
 /// planes of luma of whole macroblocks; the reference goes on outside by its nearest pixel (RFC 6386, chapter 5).
 pub fn full_search(source: &Plane, reference: &Plane, place: Place, range: u8) -> Found
     requires columns { 16 * place.column + 16 ≤ source.now.width }
@@ -33,7 +34,8 @@ pub fn full_search(source: &Plane, reference: &Plane, place: Place, range: u8) -
     requires range { range ≤ 64 }
     ensures cost { result.cost ≡ whole_cost (macroblock_pixels source.now place) reference.now place result.vector }
     ensures least { IsLeast range (whole_cost (macroblock_pixels source.now place) reference.now place) result.vector }
-    ensures predicted { result.cost ≡ quarter_cost (macroblock_pixels source.now place) reference.now place (quarters result.vector) }
+    ensures predicted { result.cost ≡ quarter_cost (macroblock_pixels source.now place) reference.now place
+        (quarters result.vector) }
 {
     let _size = [source.width(), source.height()];
     search_block(&macroblock(source, place), reference, place, range)

@@ -22,7 +22,8 @@ pub(crate) fn cut_window(window: &mut [u8], reference: &Plane, place: Place, ran
     requires rows { 16 * place.row ≤ 16384 }
     requires wide { 0 < reference.now.width }
     requires high { 0 < reference.now.height }
-    ensures { (i j : ℕ) → i < 2 * range + 16 → j < 2 * range + 16 → slice_index window.new (i * WINDOW_WIDTH + j) ≡ searched_pixel reference.now place range i j }
+    ensures { (i j : ℕ) → i < 2 * range + 16 → j < 2 * range + 16
+        → slice_index window.new (i * WINDOW_WIDTH + j) ≡ searched_pixel reference.now place range i j }
 {
     let side = 2 * usize::from(range) + 16;
     let left = (16 * place.column) as i32 - i32::from(range);
@@ -39,7 +40,8 @@ fn cut_row(window: &mut [u8], at: usize, side: usize, line: &[u8], left: i32)
     requires side { side ≤ WINDOW_WIDTH }
     requires some { 0 < length line.now }
     requires near { unsigned_abs left ≤ 16384 }
-    ensures here { (c : ℕ) → c < side → slice_index window.new (at + c) ≡ slice_index line.now (nearest (length line.now) (left +ℤ pos c)) }
+    ensures here { (c : ℕ) → c < side → slice_index window.new (at + c)
+        ≡ slice_index line.now (nearest (length line.now) (left +ℤ pos c)) }
     ensures before { (k : ℕ) → k < at → slice_index window.new k ≡ slice_index window.old k }
 {
     if left >= 0 && left as usize + side <= line.len() {

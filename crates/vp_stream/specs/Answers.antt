@@ -10,7 +10,8 @@ use Rattle.vp_decode.specs.Step.{DecoderState, Answer, step}
 -- the answers for packets, one after another, from a state (RFC 6386, chapter 5)
 abbrev pub answers_from : Limits → Option DecoderState → List Packet → List Answer
 answers_from limits state [] = []
-answers_from limits state (p ∷ ps) = (step limits state p.bytes).1 ∷ answers_from limits (step limits state p.bytes).0 ps
+answers_from limits state (p ∷ ps) = (step limits state p.bytes).1
+    ∷ answers_from limits (step limits state p.bytes).0 ps
 
 -- what is known of a file by its bytes
 abbrev pub reading_of : Limits → List ℕ → Contents

@@ -1,6 +1,7 @@
 -- A file while it is read, packet by packet. Mostly for private functions: public are what ends a file, and what stops
 -- a survey.
-use Rattle.std.specs.Prelude.{◌≡◌, ℕ, ◌+◌, ◌-◌, ◌≤◌, ◌<◌, ◌^◌, Bool, true, false, List, [], ◌∷◌, ◌++◌, length, Option, Some, None, Result, Ok, Err, slice_get}
+use Rattle.std.specs.Prelude.{◌≡◌, ℕ, ◌+◌, ◌-◌, ◌≤◌, ◌<◌, ◌^◌, Bool, true, false, List, [], ◌∷◌, ◌++◌, length, Option}
+use Rattle.std.specs.Prelude.{Some, None, Result, Ok, Err, slice_get}
 use Rattle.std.specs.Io.KnownBytes.{IsAtEnd}
 use Rattle.vp_base.specs.declared.limits.Limits.{Limits}
 use Rattle.vp_base.specs.Counted.{HasRisenBy}
@@ -58,9 +59,13 @@ without_next s = record s { file = without_front s.file.reading.head s.file }
 -- ---- one read
 
 abbrev pub resumed : PacketReader → List ℕ → PacketReader
-resumed s piece = record { file = record s.file { reading = resume s.file.max s.file.reading piece }; turns = s.turns - 1 }
+resumed s piece = record {
+  file = record s.file { reading = resume s.file.max s.file.reading piece };
+  turns = s.turns - 1;
+}
 
--- a piece was fed; or the reader was at its end; or the pieces that may be read were; or the read failed, and gave nothing
+-- a piece was fed; or the reader was at its end; or the pieces that may be read were; or the read failed, and gave
+-- nothing
 abbrev pub Took : Result Bool SurveyFault → PacketReader → PacketReader → Option (List ℕ) → List ℕ → Type 0
 Took (Ok true) old new left piece = (0 < length piece) × (0 < old.turns) × (new ≡ resumed old piece)
 Took (Ok false) old new left piece = (piece ≡ []) × IsAtEnd left × (new ≡ old)
@@ -76,7 +81,8 @@ ending None = Ok tt
 ending (Some fault) = Err fault
 
 -- all packets were given, and this is wrong with the file; its end was met unless that is a fault before it
-pub record EndsReading (limits : Limits) (s : PacketReader) (left : Option (List ℕ)) (file : List ℕ) (given : List Packet) (fault : Option FileFault) : Type 0 where
+pub record EndsReading (limits : Limits) (s : PacketReader) (left : Option (List ℕ)) (file : List ℕ)
+    (given : List Packet) (fault : Option FileFault) : Type 0 where
   pub packets : (reading_of limits file).packets ≡ given
   pub answer : finish_answer (reading_of limits file) ≡ ending fault
   pub head : s.file.reading.head ≡ (reading_of limits file).head
@@ -93,7 +99,8 @@ IsStoppedBy ReadTurns file = 2 ^ 32 - 1 ≤ length file
 IsStoppedBy Device file = Unit {0}
 IsStoppedBy Memory file = Unit {0}
 
--- a failed read, and the last one, come behind all packets of the file's; where memory is refused its first ones were given
+-- a failed read, and the last one, come behind all packets of the file's; where memory is refused its first ones
+-- were given
 abbrev pub AreGivenAt : SurveyFault → Limits → List ℕ → List Packet → Type 0
 AreGivenAt ReadTurns limits file given = (reading_of limits file).packets ≡ given
 AreGivenAt Device limits file given = (reading_of limits file).packets ≡ given

@@ -119,7 +119,12 @@ pub record TranscodeState : Type 0 where
 
 -- before the first packet
 abbrev pub fresh : Limits → Form → TranscodeState
-fresh limits form = record { limits = limits; state = None; sizing = unsized form; report = record { packets = 0; shown = 0; hidden = 0; faults = [] } }
+fresh limits form = record {
+  limits = limits;
+  state = None;
+  sizing = unsized form;
+  report = record { packets = 0; shown = 0; hidden = 0; faults = [] };
+}
 
 abbrev pub answer_to : TranscodeState → List ℕ → Answer
 answer_to r packet = (step r.limits r.state packet).1

@@ -30,14 +30,18 @@ WritesAll limits form file before after =
     (changes_size form (pictures_of limits file) ≡ false) × WritesText limits form file before after
 
 -- a file whose bytes end well is reported
-pub record IsDecodeReported (limits : Limits) (form : Form) (report : Report) (file : List ℕ) (before after : Option (List ℕ)) : Type 0 where
+pub record IsDecodeReported (limits : Limits) (form : Form) (report : Report) (file : List ℕ)
+    (before after : Option (List ℕ)) : Type 0 where
   pub ends : finish_answer (reading_of limits file) ≡ Ok tt
   pub counts : report ≡ report_of (answers_of limits file)
   pub writes : WritesAll limits form file before after
 
--- by a fault of the file, once the text of all packets before it is written; by a picture of another size, once the text
--- before it is written; where a read failed, or the reads ran out, once the text of all packets that were read is written;
--- where a write failed, or memory is refused, with a front of the text written. Where the reads ran out each gave a byte.
+-- by a fault of the file, once the text of all packets before it is written; by a picture of another size, once the
+-- text
+-- before it is written; where a read failed, or the reads ran out, once the text of all packets that were read is
+-- written;
+-- where a write failed, or memory is refused, with a front of the text written. Where the reads ran out each gave a
+-- byte.
 abbrev pub IsDecodeEndedBy : Limits → Form → DecodeFault → Type 0 → List ℕ → Option (List ℕ) → Option (List ℕ) → Type 0
 IsDecodeEndedBy limits form (File fault) write_failed file before after =
     (finish_answer (reading_of limits file) ≡ Err fault) × WritesAll limits form file before after
@@ -49,9 +53,12 @@ IsDecodeEndedBy limits form ReadTurns write_failed file before after =
     (2 ^ 32 - 1 ≤ length file) × WritesAll limits form file before after
 IsDecodeEndedBy limits form Memory write_failed file before after = WritesFront limits form file before after
 
-abbrev pub IsDecodeAnswerFor : Limits → Form → Result Report DecodeFault → Type 0 → List ℕ → Option (List ℕ) → Option (List ℕ) → Type 0
-IsDecodeAnswerFor limits form (Ok report) write_failed file before after = IsDecodeReported limits form report file before after
-IsDecodeAnswerFor limits form (Err fault) write_failed file before after = IsDecodeEndedBy limits form fault write_failed file before after
+abbrev pub IsDecodeAnswerFor : Limits → Form → Result Report DecodeFault → Type 0 → List ℕ → Option (List ℕ)
+    → Option (List ℕ) → Type 0
+IsDecodeAnswerFor limits form (Ok report) write_failed file before after = IsDecodeReported limits form report file
+    before after
+IsDecodeAnswerFor limits form (Err fault) write_failed file before after = IsDecodeEndedBy limits form fault
+    write_failed file before after
 
 -- ---- a survey
 

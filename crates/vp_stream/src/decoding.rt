@@ -3,7 +3,8 @@
 ghost use Rattle.std.specs.Prelude.{◌≡◌, ◌≢◌, ◌⊎◌, ◌≤◌, ◌+◌, ◌-◌, ◌^◌, ℕ, List, OnOk, Err};
 ghost use Rattle.std.specs.Result.{result_map_both};
 ghost use Rattle.std.specs.Io.KnownBytes.{Consumes, IsAtEnd};
-ghost use Rattle.vp_base.specs.Counted.{counted_remaining, counted_contents, counted_failures, counted_reads, HasFailed, HasRisenBy};
+ghost use Rattle.vp_base.specs.Counted.{counted_remaining, counted_contents, counted_failures, counted_reads};
+ghost use Rattle.vp_base.specs.Counted.{HasFailed, HasRisenBy};
 ghost use Rattle.vp_ivf.specs.declared.fault.FileFault.{FileFault};
 ghost use Rattle.vp_stream.specs.declared.fault.DecodeFault.{DecodeFault};
 ghost use Rattle.vp_stream.specs.PacketReader.{before_first_read};
@@ -31,7 +32,8 @@ pub fn decode_all<R: Read, W: Write>(
 ) -> Result<Report, DecodeFault>
     ensures decoded { (file : List ℕ)
         × Consumes (counted_remaining R.remaining reader.old) (counted_remaining R.remaining reader.new) file
-        × IsDecodeAnswerFor limits form result (HasFailed (counted_failures writer.old) (counted_failures writer.new)) file
+        × IsDecodeAnswerFor limits form result (HasFailed (counted_failures writer.old)
+        (counted_failures writer.new)) file
         (counted_contents W.contents writer.old) (counted_contents W.contents writer.new) }
 
     // A report, and `Torn`, come only at the reader's end.
@@ -69,7 +71,8 @@ fn decode_packets<R: Read, W: Write>(
     requires fresh { run.old ≡ fresh run.old.limits run.old.sizing.form }
     ensures decoded { (bytes : List ℕ)
         × Consumes (counted_remaining R.remaining reader.old) (counted_remaining R.remaining reader.new) bytes
-        × IsDecodeAnswerFor run.old.limits run.old.sizing.form (result_map_both (λ _. run.new.report) (λ fault. fault) result)
+        × IsDecodeAnswerFor run.old.limits run.old.sizing.form
+        (result_map_both (λ _. run.new.report) (λ fault. fault) result)
         (HasFailed (counted_failures writer.old) (counted_failures writer.new)) bytes
         (counted_contents W.contents writer.old) (counted_contents W.contents writer.new) }
     ensures end { OnOk result (IsAtEnd (counted_remaining R.remaining reader.new)) }

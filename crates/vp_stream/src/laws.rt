@@ -24,7 +24,8 @@ pub fn growing_keeps_answers()
 /// is no key packet.
 pub fn answers_come_from_the_last_key_packet()
     ensures { (limits : Limits) (packets : List Packet) (n : ℕ)
-        → answer_at limits packets n ≡ answer_at limits (drop (seek_start packets n) packets) (n - seek_start packets n) }
+        → answer_at limits packets n ≡ answer_at limits (drop (seek_start packets n) packets)
+        (n - seek_start packets n) }
 {
     key_packet_resets();
     first_byte_says_kind();

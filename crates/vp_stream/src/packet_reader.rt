@@ -7,7 +7,8 @@ ghost use Rattle.vp_base.specs.Counted.{counted_remaining, counted_failures, cou
 ghost use Rattle.vp_ivf.specs.declared.packet.Packet.{Packet};
 ghost use Rattle.vp_ivf.specs.Reader.{refusal};
 ghost use Rattle.vp_stream.specs.declared.fault.SurveyFault.{SurveyFault};
-ghost use Rattle.vp_stream.specs.PacketReader.{before_first_read, IsReading, HasRead, GivesNext, CountsReads, Took, next_waiting, without_next};
+ghost use Rattle.vp_stream.specs.PacketReader.{before_first_read, IsReading, HasRead, GivesNext, CountsReads, Took};
+ghost use Rattle.vp_stream.specs.PacketReader.{next_waiting, without_next};
 
 use crate::fault::SurveyFault;
 use std::alloc::Global;

@@ -7,7 +7,8 @@ ghost use Rattle.vp_base.specs.Image.{i420};
 ghost use Rattle.vp_stream.specs.declared.fault.Interruption.{Interruption};
 ghost use Rattle.vp_y4m.specs.Text.{picture_text, i420_length};
 ghost use Rattle.vp_stream.specs.declared.form.Form.{Form};
-ghost use Rattle.vp_stream.specs.Transcode.{unsized, with_picture, with_shown, fits, fits_shown, one_text, shown_text, first_size, has_size, line_before, text_if};
+ghost use Rattle.vp_stream.specs.Transcode.{unsized, with_picture, with_shown, fits, fits_shown, one_text, shown_text};
+ghost use Rattle.vp_stream.specs.Transcode.{first_size, has_size, line_before, text_if};
 
 use crate::fault::Interruption;
 use crate::form::Form;

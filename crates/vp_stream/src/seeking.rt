@@ -1,9 +1,11 @@
 //! Keeping packets, finding key packets, and decoding from them.
 
-ghost use Rattle.std.specs.Prelude.{◌≡◌, ◌+◌, ◌-◌, ◌^◌, ◌<◌, ◌≤◌, ◌++◌, ◌∷◌, [], length, drop, IfOk, OnOk, OnErr, vec_len};
+ghost use Rattle.std.specs.Prelude.{◌≡◌, ◌+◌, ◌-◌, ◌^◌, ◌<◌, ◌≤◌, ◌++◌, ◌∷◌, [], length, drop, IfOk, OnOk, OnErr};
+ghost use Rattle.std.specs.Prelude.{vec_len};
 ghost use Rattle.std.specs.Vec.{vec_capacity};
 ghost use Rattle.vp_decode.specs.Step.{step};
-ghost use Rattle.vp_stream.specs.Seeking.{AreKeys, is_key, key_before, answer_value, told_of, state_after_packets, answer_at};
+ghost use Rattle.vp_stream.specs.Seeking.{AreKeys, is_key, key_before, answer_value, told_of, state_after_packets};
+ghost use Rattle.vp_stream.specs.Seeking.{answer_at};
 
 use crate::answer::Answer;
 use std::alloc::{AllocError, Global};

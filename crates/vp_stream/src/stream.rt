@@ -5,7 +5,9 @@ ghost use Rattle.vp_ivf.specs.declared.fault.FileFault.{FileFault};
 ghost use Rattle.vp_ivf.specs.Reader.{answer_by, finish_answer, refusal_at};
 ghost use Rattle.vp_stream.specs.Answers.{reading_of};
 ghost use Rattle.vp_stream.specs.Seeking.{IsKeyBefore, key_before, answer_value, answer_at, work_of, saturating_count};
-ghost use Rattle.vp_stream.specs.Stream.{StreamHistory, IsStreamAfter, initial_stream, empty_stream_history, stream_refusal, after_piece, stream_after_end, with_piece, with_end, packets_of};
+ghost use Rattle.vp_stream.specs.Stream.{StreamHistory, IsStreamAfter, initial_stream, empty_stream_history};
+ghost use Rattle.vp_stream.specs.Stream.{stream_refusal, after_piece, stream_after_end, with_piece, with_end};
+ghost use Rattle.vp_stream.specs.Stream.{packets_of};
 
 use crate::answer::Answer;
 use crate::laws::answers_come_from_the_last_key_packet;
@@ -32,7 +34,11 @@ impl Model for Stream {
 
     ghost Value = { Stream };
 
-    ghost view = { λ a. record { limits = a.limits; reading = with_taken_packets a.reader a.packets.items; ended = a.reader.ended } };
+    ghost view = { λ a. record {
+      limits = a.limits;
+      reading = with_taken_packets a.reader a.packets.items;
+      ended = a.reader.ended;
+    } };
 
     ghost invariant = { λ a. IsKept a.limits a.reader a.packets.items a.keys.items };
 }

@@ -31,7 +31,12 @@ impl Model for TranscodeState {
 
     ghost Value = { TranscodeState };
 
-    ghost view = { λ a. record { limits = a.decoder.limits; state = a.decoder.state; sizing = a.pictures; report = a.report } };
+    ghost view = { λ a. record {
+      limits = a.decoder.limits;
+      state = a.decoder.state;
+      sizing = a.pictures;
+      report = a.report;
+    } };
 
     ghost invariant = { λ a. a.report.shown + a.report.hidden ≤ a.report.packets };
 }
@@ -61,9 +66,11 @@ impl TranscodeState {
         ensures change { result ≡ Err Interruption.SizeChange →
             fits_shown self.old.sizing (picture_to self.old packet.now) ≡ false }
         ensures written { OnOk result (Appends (counted_contents W.contents writer.old)
-            (counted_contents W.contents writer.new) (shown_text self.old.sizing head (picture_to self.old packet.now))) }
+            (counted_contents W.contents writer.new) (shown_text self.old.sizing head
+            (picture_to self.old packet.now))) }
         ensures prefix { AppendsFront (counted_contents W.contents writer.old)
-            (counted_contents W.contents writer.new) (shown_text self.old.sizing head (picture_to self.old packet.now)) }
+            (counted_contents W.contents writer.new) (shown_text self.old.sizing head
+            (picture_to self.old packet.now)) }
         ensures device { result ≡ Err Interruption.Device →
             HasFailed (counted_failures writer.old) (counted_failures writer.new) }
         ensures quiet { result ≢ Err Interruption.Device →

@@ -9,7 +9,8 @@ use Rattle.vp_tables.specs.declared.coefficients.TheConstants.{COEFFICIENT_PROBA
 use Rattle.vp_tables.specs.declared.factors.TheConstants.{AC_FACTORS, DC_FACTORS}
 use Rattle.vp_tables.specs.declared.sub_probabilities.TheConstants.{KEY_SUB_PROBABILITIES}
 use Rattle.vp_tables.specs.declared.taps.TheConstants.{SIX_TAPS}
-use Rattle.vp_tables.specs.declared.tokens.TheConstants.{BANDS, CATEGORY_1, CATEGORY_2, CATEGORY_3, CATEGORY_4, CATEGORY_5, CATEGORY_6, CATEGORY_BASES, ZIGZAG}
+use Rattle.vp_tables.specs.declared.tokens.TheConstants.{BANDS, CATEGORY_1, CATEGORY_2, CATEGORY_3, CATEGORY_4}
+use Rattle.vp_tables.specs.declared.tokens.TheConstants.{CATEGORY_5, CATEGORY_6, CATEGORY_BASES, ZIGZAG}
 
 -- the order of the subblock modes in the tables
 abbrev pub sub_number : SubMode → ℕ
@@ -26,7 +27,8 @@ sub_number sub_is.Hu = 9
 
 -- the probabilities of a subblock's mode in a key frame, by the modes above and to the left (chapter 11.5)
 unfoldable pub key_sub_probabilities : SubMode → SubMode → List ℕ
-key_sub_probabilities above left = slice_index_or (slice_index_or KEY_SUB_PROBABILITIES (sub_number above) []) (sub_number left) []
+key_sub_probabilities above left = slice_index_or (slice_index_or KEY_SUB_PROBABILITIES (sub_number above) [])
+    (sub_number left) []
 
 -- the probabilities of tokens that a key frame starts from, by block type, band, context and entry (chapter 13.5)
 unfoldable pub coefficient_probabilities : List (List (List (List ℕ)))

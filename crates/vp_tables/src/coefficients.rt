@@ -1,7 +1,8 @@
 ghost use Rattle.std.specs.Prelude.{◌≡◌};
 ghost use Rattle.vp_tables.specs.Tables.{coefficient_probabilities, coefficient_updates};
 
-/// The probabilities of tokens, as a key frame sets them: by block type, band, context and entry of the tree (RFC 6386, chapter 13.5).
+/// The probabilities of tokens, as a key frame sets them: by block type, band, context and entry of the tree (RFC
+/// 6386, chapter 13.5).
 pub static COEFFICIENT_PROBABILITIES: [[[[u8; 11]; 3]; 8]; 4] = [
     [
         [

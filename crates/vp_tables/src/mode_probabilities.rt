@@ -35,7 +35,8 @@ pub const PART_PROBABILITIES: [[u8; 3]; 5] = [
     [208, 1, 1],
 ];
 
-/// The probabilities of vectors, as a key frame sets them: rows, then columns; each is short or long, sign, seven of the short tree, ten of the long bits (chapter 17.2).
+/// The probabilities of vectors, as a key frame sets them: rows, then columns; each is short or long, sign, seven
+/// of the short tree, ten of the long bits (chapter 17.2).
 pub const VECTOR_PROBABILITIES: [[u8; 19]; 2] = [
     [
         162, 128, 225, 146, 172, 147, 214, 39, 156, 128, 129, 132, 75, 145, 178, 206, 239, 254, 254,

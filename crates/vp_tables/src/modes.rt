@@ -34,7 +34,8 @@ pub enum ChromaMode {
     Tm,
 }
 
-/// How a luma subblock of 4 by 4 pixels is predicted (chapter 11.2), in the order of the rows of `KEY_SUB_PROBABILITIES`.
+/// How a luma subblock of 4 by 4 pixels is predicted (chapter 11.2), in the order of the rows of
+/// `KEY_SUB_PROBABILITIES`.
 #[derive(Clone, Copy, Debug, PartialEq, Eq)]
 pub enum SubMode {
     Dc,

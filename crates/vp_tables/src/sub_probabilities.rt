@@ -3,7 +3,8 @@ ghost use Rattle.vp_tables.specs.Tables.{key_sub_probabilities};
 
 use crate::modes::SubMode;
 
-/// The probabilities of a subblock's mode in a key frame, by the mode above, then the mode to the left (RFC 6386, chapter 11.5).
+/// The probabilities of a subblock's mode in a key frame, by the mode above, then the mode to the left (RFC 6386,
+/// chapter 11.5).
 pub static KEY_SUB_PROBABILITIES: [[[u8; 9]; 10]; 10] = [
     [
         [231, 120, 48, 89, 115, 113, 120, 152, 112],

@@ -1,7 +1,9 @@
 -- The coefficient levels of one block, and its end-of-block position (RFC 6386, chapter 13).
-use Rattle.std.specs.Prelude.{◌≡◌, ◌≢◌, ◌<◌, ◌≤◌, ℕ, ◌-◌, ℤ, pos, Bool, nat_lt, List, length, replicate, slice_index_or, unsigned_abs}
+use Rattle.std.specs.Prelude.{◌≡◌, ◌≢◌, ◌<◌, ◌≤◌, ℕ, ◌-◌, ℤ, pos, Bool, nat_lt, List, length, replicate, slice_index_or}
+use Rattle.std.specs.Prelude.{unsigned_abs}
 
--- the levels by position, in the order in which they are read, and the position behind the last token before the end of the block
+-- the levels by position, in the order in which they are read, and the position behind the last token before the end
+-- of the block
 pub record Block : Type 0 where
   pub levels : List ℤ
   pub tokens : ℕ

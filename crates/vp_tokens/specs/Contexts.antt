@@ -11,14 +11,17 @@ pub record Contexts : Type 0 where
   pub above : List (List Bool)
   pub left : List Bool
 
--- which of the lowest blocks of a macroblock had a token, and which of those at its right side; behind them stands a flag of Y2
+-- which of the lowest blocks of a macroblock had a token, and which of those at its right side; behind them stands a
+-- flag of Y2
 abbrev pub lowest : List Bool → Bool → List Bool
 lowest had y2 =
-    flag_at had 13 ∷ flag_at had 14 ∷ flag_at had 15 ∷ flag_at had 16 ∷ flag_at had 19 ∷ flag_at had 20 ∷ flag_at had 23 ∷ flag_at had 24 ∷ y2 ∷ []
+    flag_at had 13 ∷ flag_at had 14 ∷ flag_at had 15 ∷ flag_at had 16 ∷ flag_at had 19 ∷ flag_at had 20 ∷ flag_at had 23
+    ∷ flag_at had 24 ∷ y2 ∷ []
 
 abbrev pub rightmost : List Bool → Bool → List Bool
 rightmost had y2 =
-    flag_at had 4 ∷ flag_at had 8 ∷ flag_at had 12 ∷ flag_at had 16 ∷ flag_at had 18 ∷ flag_at had 20 ∷ flag_at had 22 ∷ flag_at had 24 ∷ y2 ∷ []
+    flag_at had 4 ∷ flag_at had 8 ∷ flag_at had 12 ∷ flag_at had 16 ∷ flag_at had 18 ∷ flag_at had 20 ∷ flag_at had 22
+    ∷ flag_at had 24 ∷ y2 ∷ []
 
 -- the flags above the macroblock at p, and to its left
 unfoldable pub above_flags : Grid Blocks → Place → List Bool
@@ -31,7 +34,8 @@ left_flags g p = rightmost (look no_blocks_read g (place.left p)).had (y2_left g
 abbrev pub first_unread : Place → ℕ → Place
 first_unread p u = record { column = u; row = (if nat_lt u p.column then p.row + 1 else p.row) }
 
--- The flags stand for what g has of the macroblocks before p, in raster order. Behind a row p is the place right of the row's last one,
+-- The flags stand for what g has of the macroblocks before p, in raster order. Behind a row p is the place right of
+-- the row's last one,
 -- or the first of the next row.
 pub record AreContextsAt (g : Grid Blocks) (p : Place) (c : Contexts) : Type 0 where
   pub whole : length g.entries ≡ g.rows * g.columns

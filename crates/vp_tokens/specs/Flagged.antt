@@ -1,5 +1,6 @@
 -- Inside the crate: the contexts of blocks by flags, and the flags behind a macroblock.
-use Rattle.std.specs.Prelude.{ℕ, ◌+◌, ◌-◌, ◌/◌, ◌%◌, ◌==◌, Bool, false, nat_lt, List, [], replicate, slice_index_or, slice_set, if◌then◌else◌}
+use Rattle.std.specs.Prelude.{ℕ, ◌+◌, ◌-◌, ◌/◌, ◌%◌, ◌==◌, Bool, false, nat_lt, List, [], replicate, slice_index_or}
+use Rattle.std.specs.Prelude.{slice_set, if◌then◌else◌}
 use Rattle.vp_base.specs.declared.place.Place.{Place}
 use Rattle.vp_tokens.specs.Blocks.{Blocks, flag_at, true_count, y2_or}
 use Rattle.vp_tokens.specs.Contexts.{Contexts, lowest, rightmost}

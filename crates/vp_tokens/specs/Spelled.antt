@@ -6,7 +6,8 @@ use Rattle.vp_tokens.specs.Block.{Block, level_of, no_tokens, IsTight}
 use Rattle.vp_tokens.specs.Levels.{first_of}
 use Rattle.vp_tokens.specs.Blocks.{kind_of}
 
--- A block of this type has no level before its first position, and its last token is no zero token but at the last position.
+-- A block of this type has no level before its first position, and its last token is no zero token but at the last
+-- position.
 pub record IsSpelledBlock (kind : BlockKind) (b : Block) : Type 0 where
   pub before : (i : ℕ) → i < first_of kind → level_of b i ≡ pos 0
   pub begun : 0 < b.tokens → first_of kind < b.tokens
@@ -28,5 +29,6 @@ levels_of levels k = slice_index_or levels k []
 -- Where the levels of 25 blocks are those of a macroblock, the luma blocks behind a Y2 block have none at position 0,
 -- and without a Y2 block there is none of it.
 pub record AreLevels (has_y2 : Bool) (levels : List (List ℤ)) : Type 0 where
-  pub before : (k i : ℕ) → k < 25 → i < first_of (kind_of has_y2 k) → slice_index_or (levels_of levels k) i (pos 0) ≡ pos 0
+  pub before : (k i : ℕ) → k < 25 → i < first_of (kind_of has_y2 k)
+      → slice_index_or (levels_of levels k) i (pos 0) ≡ pos 0
   pub no_y2 : has_y2 ≡ false → (i : ℕ) → slice_index_or (levels_of levels 0) i (pos 0) ≡ pos 0

@@ -10,7 +10,8 @@ use std::marker::Model;
 use vp_bool::BoolDecoder;
 use vp_tables::{Token, band};
 
-/// The levels of a block of 4 by 4 coefficients: none is further than 2,114 from 0, and none stands behind the last token.
+/// The levels of a block of 4 by 4 coefficients: none is further than 2,114 from 0, and none stands behind the last
+/// token.
 #[derive(Clone, Copy, Debug, PartialEq, Eq)]
 pub struct Block {
     /// By position, in the order in which they are read; the residue layer puts them into raster order.

@@ -1,7 +1,9 @@
-ghost use Rattle.std.specs.Prelude.{◌≡◌, ℕ, pos, Bool, true, false, ◌<◌, ◌≤◌, [], length, slice_index_or, slice_set, unsigned_abs, IfOk};
+ghost use Rattle.std.specs.Prelude.{◌≡◌, ℕ, pos, Bool, true, false, ◌<◌, ◌≤◌, [], length, slice_index_or, slice_set};
+ghost use Rattle.std.specs.Prelude.{unsigned_abs, IfOk};
 ghost use Rattle.vp_base.specs.declared.place.Place.{Place};
 ghost use Rattle.vp_base.specs.Grid.{Grid, Has, all, with_entry};
-ghost use Rattle.vp_tokens.specs.Blocks.{Blocks, no_blocks_read, blocks_of, had_of, flag_at, true_count, kind_of, y2_or, block_of, block_at, all_blocks, no_blocks, macroblock, any_token};
+ghost use Rattle.vp_tokens.specs.Blocks.{Blocks, no_blocks_read, blocks_of, had_of, flag_at, true_count, kind_of};
+ghost use Rattle.vp_tokens.specs.Blocks.{y2_or, block_of, block_at, all_blocks, no_blocks, macroblock, any_token};
 ghost use Rattle.vp_tokens.specs.Contexts.{AreContextsAt, lowest, rightmost, right};
 ghost use Rattle.vp_tokens.specs.Flagged.{above_flag, left_flag, by_flags, left_at, flags_after};
 ghost use Rattle.vp_tokens.specs.Spelled.{levels_of, AreLevels, AreSpelled, AreTight};
@@ -199,7 +201,8 @@ impl Contexts {
 
     /// Before the first macroblock of a frame of so many columns of macroblocks.
     pub fn new(alloc: Global, columns: usize) -> Result<Contexts, AllocError>
-        ensures stands { IfOk result (λ c. (rows : ℕ) → AreContextsAt (all columns rows no_blocks_read) (record { column = 0; row = 0 }) c) }
+        ensures stands { IfOk result (λ c. (rows : ℕ) → AreContextsAt (all columns rows no_blocks_read)
+            (record { column = 0; row = 0 }) c) }
         ensures columns { IfOk result (λ c. length c.above ≡ columns) }
     {
         Contexts::empty(alloc).refill(columns)
@@ -207,7 +210,8 @@ impl Contexts {
 
     /// The same, in the memory of these.
     pub fn refill(self, columns: usize) -> Result<Contexts, AllocError>
-        ensures stands { IfOk result (λ c. (rows : ℕ) → AreContextsAt (all columns rows no_blocks_read) (record { column = 0; row = 0 }) c) }
+        ensures stands { IfOk result (λ c. (rows : ℕ) → AreContextsAt (all columns rows no_blocks_read)
+            (record { column = 0; row = 0 }) c) }
         ensures columns { IfOk result (λ c. length c.above ≡ columns) }
     {
         let mut above = self.above;

@@ -1,4 +1,5 @@
-//! The token partitions of a packet, and the coefficient levels of its macroblocks, read and written (RFC 6386, chapters 9.5
+//! The token partitions of a packet, and the coefficient levels of its macroblocks, read and written (RFC 6386,
+//! chapters 9.5
 //! and 13).
 #![tactic(auto)]
 

@@ -4,7 +4,8 @@ ghost use Rattle.vp_base.specs.Grid.{Grid, Has, with_entry};
 ghost use Rattle.vp_bool.specs.Bools.{State};
 ghost use Rattle.vp_tokens.specs.Block.{no_tokens};
 ghost use Rattle.vp_tokens.specs.Levels.{Probabilities};
-ghost use Rattle.vp_tokens.specs.Blocks.{Blocks, blocks_of, had_of, flag_at, y2_or, all_blocks, no_blocks, without_tokens, macroblock};
+ghost use Rattle.vp_tokens.specs.Blocks.{Blocks, blocks_of, had_of, flag_at, y2_or, all_blocks, no_blocks};
+ghost use Rattle.vp_tokens.specs.Blocks.{without_tokens, macroblock};
 ghost use Rattle.vp_tokens.specs.Contexts.{AreContextsAt, lowest, rightmost, right};
 ghost use Rattle.vp_tokens.specs.Flagged.{by_flags};
 ghost use Rattle.vp_tokens.specs.Placed.{reading, placed, plane, all_placed};
@@ -71,7 +72,8 @@ fn read_plane(
 )
     requires inside { k + count ≤ 25 }
     requires none { (j : ℕ) → k ≤ j → slice_index_or blocks.old j no_tokens ≡ no_tokens }
-    ensures value { reading blocks.new flags.new ≡ (plane probabilities.now kind k count (reading blocks.old flags.old) d.old).0 }
+    ensures value { reading blocks.new flags.new ≡ (plane probabilities.now kind k count
+        (reading blocks.old flags.old) d.old).0 }
     ensures rest { d.new ≡ (plane probabilities.now kind k count (reading blocks.old flags.old) d.old).1 }
     ensures none { (j : ℕ) → k + count ≤ j → slice_index_or blocks.new j no_tokens ≡ no_tokens }
 {
@@ -94,7 +96,8 @@ fn read_all(
     d: &mut BoolDecoder,
 )
     requires { blocks.old ≡ no_blocks }
-    ensures value { reading blocks.new flags.new ≡ (all_placed probabilities.now has_y2 (reading blocks.old flags.old) d.old).0 }
+    ensures value { reading blocks.new flags.new ≡ (all_placed probabilities.now has_y2
+        (reading blocks.old flags.old) d.old).0 }
     ensures rest { d.new ≡ (all_placed probabilities.now has_y2 (reading blocks.old flags.old) d.old).1 }
 {
     if has_y2 {
@@ -107,8 +110,10 @@ fn read_all(
 
 /// The flags behind a macroblock without tokens.
 fn flags_without(old: &[bool; 9], has_y2: bool) -> [bool; 9]
-    ensures lowest { result ≡ lowest (had_of no_blocks) (y2_or (record { has_y2 = has_y2; had = had_of no_blocks }) (flag_at old.now 8)) }
-    ensures rightmost { result ≡ rightmost (had_of no_blocks) (y2_or (record { has_y2 = has_y2; had = had_of no_blocks }) (flag_at old.now 8)) }
+    ensures lowest { result ≡ lowest (had_of no_blocks) (y2_or (record { has_y2 = has_y2; had = had_of no_blocks })
+        (flag_at old.now 8)) }
+    ensures rightmost { result ≡ rightmost (had_of no_blocks)
+        (y2_or (record { has_y2 = has_y2; had = had_of no_blocks }) (flag_at old.now 8)) }
 {
     let y2 = !has_y2 && old[8];
     [false, false, false, false, false, false, false, false, y2]
@@ -124,10 +129,14 @@ fn read_unless(
     d: &mut BoolDecoder,
 )
     requires { blocks.old ≡ no_blocks }
-    ensures value { blocks.new ≡ (all_blocks probabilities.now has_y2 skipped (by_flags flags.old.above flags.old.left) d.old).0 }
-    ensures rest { d.new ≡ (all_blocks probabilities.now has_y2 skipped (by_flags flags.old.above flags.old.left) d.old).1 }
-    ensures above { flags.new.above ≡ lowest (had_of blocks.new) (y2_or (record { has_y2 = has_y2; had = had_of blocks.new }) (flag_at flags.old.above 8)) }
-    ensures left { flags.new.left ≡ rightmost (had_of blocks.new) (y2_or (record { has_y2 = has_y2; had = had_of blocks.new }) (flag_at flags.old.left 8)) }
+    ensures value { blocks.new ≡ (all_blocks probabilities.now has_y2 skipped
+        (by_flags flags.old.above flags.old.left) d.old).0 }
+    ensures rest { d.new ≡ (all_blocks probabilities.now has_y2 skipped
+        (by_flags flags.old.above flags.old.left) d.old).1 }
+    ensures above { flags.new.above ≡ lowest (had_of blocks.new)
+        (y2_or (record { has_y2 = has_y2; had = had_of blocks.new }) (flag_at flags.old.above 8)) }
+    ensures left { flags.new.left ≡ rightmost (had_of blocks.new)
+        (y2_or (record { has_y2 = has_y2; had = had_of blocks.new }) (flag_at flags.old.left 8)) }
 {
     if skipped {
         flags.above = flags_without(&flags.above, has_y2);
@@ -172,7 +181,8 @@ pub fn read_macroblock(
     contexts.put(place, flags.above, flags.left);
 }
 
-/// Passes the skipped macroblock at a place: nothing is read of it, its tokens are [`Tokens::NONE`], and the contexts are
+/// Passes the skipped macroblock at a place: nothing is read of it, its tokens are [`Tokens::NONE`], and the
+/// contexts are
 /// left as [`read_macroblock`] leaves them. A frame's macroblocks are passed and read in raster order.
 ///
 /// `has_y2` is false where the luma is predicted or moved by subblocks.

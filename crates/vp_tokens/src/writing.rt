@@ -26,7 +26,8 @@ fn write_at(
 ) -> Result<(), AllocError>
     requires k_in { k < 25 }
     requires spelled { AreSpelled has_y2 blocks.now }
-    ensures { OnOk result (Writes (block_at probabilities.now has_y2 (by_flags above.now left.now) k (front_blocks k blocks.now)) e.old e.new (front_blocks (k + 1) blocks.now)) }
+    ensures { OnOk result (Writes (block_at probabilities.now has_y2 (by_flags above.now left.now) k
+        (front_blocks k blocks.now)) e.old e.new (front_blocks (k + 1) blocks.now)) }
 {
     if k > 0 || has_y2 {
         let context = count(had_above(above, blocks, k), had_left(left, blocks, k));
@@ -47,7 +48,8 @@ fn write_all(
 ) -> Result<(), AllocError>
     requires spelled { AreSpelled has_y2 blocks.now }
     requires skipped { skipped ≡ true → blocks.now ≡ no_blocks }
-    ensures { OnOk result (Writes (all_blocks probabilities.now has_y2 skipped (by_flags above.now left.now)) e.old e.new blocks.now) }
+    ensures { OnOk result (Writes (all_blocks probabilities.now has_y2 skipped
+        (by_flags above.now left.now)) e.old e.new blocks.now) }
 {
     if skipped {
         return Ok(());
@@ -76,7 +78,8 @@ pub fn write_macroblock(
     requires spelled { AreSpelled has_y2 tokens.now.blocks }
     requires skipped { skipped ≡ true → tokens.now.blocks ≡ no_blocks }
     // What was written is read as these tokens, whatever follows.
-    ensures writes { OnOk result ((g : Grid Blocks) → AreContextsAt g place contexts.old → Writes (macroblock probabilities.now g place has_y2 skipped) e.old e.new tokens.now) }
+    ensures writes { OnOk result ((g : Grid Blocks) → AreContextsAt g place contexts.old
+        → Writes (macroblock probabilities.now g place has_y2 skipped) e.old e.new tokens.now) }
     ensures stands { OnOk result ((g : Grid Blocks) → Has g place → AreContextsAt g place contexts.old
         → AreContextsAt (with_entry g place (blocks_of has_y2 tokens.now)) (right place) contexts.new) }
     ensures columns { length contexts.new.above ≡ length contexts.old.above }

@@ -1,5 +1,7 @@
-//! Command lines: `vp8 WORD.. [< NAME] [> NAME] [2> NAME]` runs the program over bytes that have a name, and says its status,
-//! how many bytes it leaves unread, and what it writes and tells where these aren't given a name. `plan WORD..` says what
+//! Command lines: `vp8 WORD.. [< NAME] [> NAME] [2> NAME]` runs the program over bytes that have a name, and says
+//! its status,
+//! how many bytes it leaves unread, and what it writes and tells where these aren't given a name. `plan WORD..`
+//! says what
 //! words of `encode` and `serve` ask for, `read PATH` what a file holds, and `show TEXT` what bytes are.
 
 use crate::text::{Names, malformed};

@@ -1,7 +1,11 @@
-//! Connections to a hub: `hub NAME..` makes one of streams of these names, and `feed NAME TEXT`, `end NAME`, `open NUMBER`,
-//! `send NUMBER TEXT` and `shut NUMBER` are the events that come to it; `open FROM..TO` are several. What is replied is said,
-//! whether the connection is closed behind it, and how many packets were decoded. `ask TEXT` is sent by a connection that comes
-//! for it and goes behind it, and `cut SIZE TEXT` is the same in pieces of so many bytes. `limits PIXELS BYTES PACKETS CACHE`
+//! Connections to a hub: `hub NAME..` makes one of streams of these names, and `feed NAME TEXT`, `end NAME`, `open
+//! NUMBER`,
+//! `send NUMBER TEXT` and `shut NUMBER` are the events that come to it; `open FROM..TO` are several. What is
+//! replied is said,
+//! whether the connection is closed behind it, and how many packets were decoded. `ask TEXT` is sent by a
+//! connection that comes
+//! for it and goes behind it, and `cut SIZE TEXT` is the same in pieces of so many bytes. `limits PIXELS BYTES
+//! PACKETS CACHE`
 //! are those of the next hub. `vp8 serve WORD.. < NAME` makes a hub and feeds it as the program does.
 
 use crate::text::{Names, limits, malformed, number};

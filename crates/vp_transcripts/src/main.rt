@@ -1,5 +1,7 @@
-//! What outside streams decode to, what the program makes of command lines, and what a hub replies to connections: its words
-//! name files, of streams (`ivf`) and of transcripts (`packets`, `commands`, `connections`). It prints the sum of each stream's
+//! What outside streams decode to, what the program makes of command lines, and what a hub replies to connections:
+//! its words
+//! name files, of streams (`ivf`) and of transcripts (`packets`, `commands`, `connections`). It prints the sum of
+//! each stream's
 //! pictures, and the name of each case of a transcript and each line where something else is found.
 #![tactic(auto)]
 

@@ -1,6 +1,9 @@
-//! Packets, one after another or in a file that grows. `packet TEXT` is decoded, and `picture` is what is shown then, cropped
-//! and as I420, `pixels FROM..TO` a part of that. `feed TEXT` is a piece of a file, `single TEXT` the same byte by byte, `finish` its end; `head`, `count`,
-//! `refusal`, `key NUMBER` (the last key packet up to that one) and `at NUMBER` (that packet's picture, and how many packets
+//! Packets, one after another or in a file that grows. `packet TEXT` is decoded, and `picture` is what is shown
+//! then, cropped
+//! and as I420, `pixels FROM..TO` a part of that. `feed TEXT` is a piece of a file, `single TEXT` the same byte by
+//! byte, `finish` its end; `head`, `count`,
+//! `refusal`, `key NUMBER` (the last key packet up to that one) and `at NUMBER` (that packet's picture, and how
+//! many packets
 //! are decoded for it) ask what is known of it. `limits PIXELS BYTES PACKETS CACHE` begins both anew.
 
 use crate::text::{Names, limits, malformed, number, part};

@@ -1,4 +1,5 @@
-//! Streams of other encoders: the MD5 of the pictures that each shows, cropped and as I420, one after another. What it must be
+//! Streams of other encoders: the MD5 of the pictures that each shows, cropped and as I420, one after another. What
+//! it must be
 //! comes from other decoders.
 
 use md5::{Digest, Md5};

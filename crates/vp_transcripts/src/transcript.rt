@@ -71,7 +71,8 @@ struct Transcript<'a> {
     found: Found,
 }
 
-/// Carries the commands of a transcript out, and prints its name, that of each case, and each line where something else came of a
+/// Carries the commands of a transcript out, and prints its name, that of each case, and each line where something
+/// else came of a
 /// command than stands there.
 pub(crate) fn tell<S: Script>(
     rt: &HostRuntime,

@@ -30,10 +30,12 @@ pub record TurnAndRoundFits (i0 i1 i2 i3 : ℤ) : Type 0 where
   pub more : (k : ℕ) → k < 4 → Fits (slice_index_or (turned i0 i1 i2 i3) k (pos 0) +ℤ pos 4)
 
 pub record ColumnsFit (block : List ℤ) : Type 0 where
-  pub column : (c : ℕ) → c < 4 → TurnFits (element_at block 0 c) (element_at block 1 c) (element_at block 2 c) (element_at block 3 c)
+  pub column : (c : ℕ) → c < 4 → TurnFits (element_at block 0 c) (element_at block 1 c) (element_at block 2 c)
+      (element_at block 3 c)
 
 pub record RowsFit (block : List ℤ) : Type 0 where
-  pub row : (r : ℕ) → r < 4 → TurnAndRoundFits (element_at block r 0) (element_at block r 1) (element_at block r 2) (element_at block r 3)
+  pub row : (r : ℕ) → r < 4 → TurnAndRoundFits (element_at block r 0) (element_at block r 1) (element_at block r 2)
+      (element_at block r 3)
 
 -- each number that `idct` computes of the block is an i64
 pub record IdctFits (block : List ℤ) : Type 0 where
@@ -43,10 +45,12 @@ pub record IdctFits (block : List ℤ) : Type 0 where
 -- ---- the inverse Walsh-Hadamard transform
 
 abbrev pub column_size : List ℤ → ℕ → ℕ
-column_size block c = unsigned_abs (element_at block 0 c) + unsigned_abs (element_at block 1 c) + unsigned_abs (element_at block 2 c) + unsigned_abs (element_at block 3 c)
+column_size block c = unsigned_abs (element_at block 0 c) + unsigned_abs (element_at block 1 c)
+    + unsigned_abs (element_at block 2 c) + unsigned_abs (element_at block 3 c)
 
 abbrev pub row_size : List ℤ → ℕ → ℕ
-row_size block r = unsigned_abs (element_at block r 0) + unsigned_abs (element_at block r 1) + unsigned_abs (element_at block r 2) + unsigned_abs (element_at block r 3)
+row_size block r = unsigned_abs (element_at block r 0) + unsigned_abs (element_at block r 1)
+    + unsigned_abs (element_at block r 2) + unsigned_abs (element_at block r 3)
 
 -- The sum of the sixteen absolute values, with the 3 that is added, is an i64: so is each sum of any of the numbers,
 -- whatever their signs are and in whatever order they are added.

@@ -8,7 +8,8 @@ use lib.Signed.{shr_z}
 
 -- (X H + 1) / 2, rounded down, where H is `hadamard` and X the block
 unfoldable pub times_hadamard_halved : List ℤ → List ℤ
-times_hadamard_halved block = block_from (λ r c. shr_z (product (element_at block) (element_at hadamard) r c +ℤ pos 1) 2)
+times_hadamard_halved block = block_from (λ r c. shr_z (product (element_at block)
+    (element_at hadamard) r c +ℤ pos 1) 2)
 
 -- (H X H + 1) / 2, rounded down
 unfoldable pub fwht : List ℤ → List ℤ
@@ -23,7 +24,8 @@ row_waves i0 i1 i2 i3 =
     let b = pos 8 *ℤ (i1 +ℤ i2) in
     let c = pos 8 *ℤ (i1 -ℤ i2) in
     let d = pos 8 *ℤ (i0 -ℤ i3) in
-    (a +ℤ b) ∷ shr_z (pos 2217 *ℤ c +ℤ pos 5352 *ℤ d +ℤ pos 2048) 4096 ∷ (a -ℤ b) ∷ shr_z (pos 2217 *ℤ d -ℤ pos 5352 *ℤ c +ℤ pos 2048) 4096 ∷ []
+    (a +ℤ b) ∷ shr_z (pos 2217 *ℤ c +ℤ pos 5352 *ℤ d +ℤ pos 2048) 4096 ∷ (a -ℤ b)
+    ∷ shr_z (pos 2217 *ℤ d -ℤ pos 5352 *ℤ c +ℤ pos 2048) 4096 ∷ []
 
 -- the transform of the four numbers of a column, over 16
 abbrev pub column_waves : ℤ → ℤ → ℤ → ℤ → List ℤ
@@ -32,15 +34,18 @@ column_waves i0 i1 i2 i3 =
     let b = i1 +ℤ i2 in
     let c = i1 -ℤ i2 in
     let d = i0 -ℤ i3 in
-    shr_z (a +ℤ b +ℤ pos 7) 16 ∷ shr_z (pos 2217 *ℤ c +ℤ pos 5352 *ℤ d +ℤ pos 32768) 65536 ∷ shr_z (a -ℤ b +ℤ pos 7) 16 ∷ shr_z (pos 2217 *ℤ d -ℤ pos 5352 *ℤ c +ℤ pos 32768) 65536 ∷ []
+    shr_z (a +ℤ b +ℤ pos 7) 16 ∷ shr_z (pos 2217 *ℤ c +ℤ pos 5352 *ℤ d +ℤ pos 32768) 65536 ∷ shr_z (a -ℤ b +ℤ pos 7) 16
+    ∷ shr_z (pos 2217 *ℤ d -ℤ pos 5352 *ℤ c +ℤ pos 32768) 65536 ∷ []
 
 -- each row transformed
 unfoldable pub across : List ℤ → List ℤ
-across block = block_from (λ r c. slice_index_or (row_waves (element_at block r 0) (element_at block r 1) (element_at block r 2) (element_at block r 3)) c (pos 0))
+across block = block_from (λ r c. slice_index_or (row_waves (element_at block r 0) (element_at block r 1)
+    (element_at block r 2) (element_at block r 3)) c (pos 0))
 
 -- each column transformed
 unfoldable pub down : List ℤ → List ℤ
-down block = block_from (λ r c. slice_index_or (column_waves (element_at block 0 c) (element_at block 1 c) (element_at block 2 c) (element_at block 3 c)) r (pos 0))
+down block = block_from (λ r c. slice_index_or (column_waves (element_at block 0 c) (element_at block 1 c)
+    (element_at block 2 c) (element_at block 3 c)) r (pos 0))
 
 -- first the rows, then the columns
 unfoldable pub fdct : List ℤ → List ℤ

@@ -6,7 +6,8 @@ use Rattle.vp_transform.specs.Transform.{element_at, block_from}
 
 -- row r of the first block and, behind it, row r of the second
 abbrev pub row_in : List ℤ → List ℤ → ℕ → List ℤ
-row_in a b r = element_at a r 0 ∷ element_at a r 1 ∷ element_at a r 2 ∷ element_at a r 3 ∷ element_at b r 0 ∷ element_at b r 1 ∷ element_at b r 2 ∷ element_at b r 3 ∷ []
+row_in a b r = element_at a r 0 ∷ element_at a r 1 ∷ element_at a r 2 ∷ element_at a r 3 ∷ element_at b r 0
+    ∷ element_at b r 1 ∷ element_at b r 2 ∷ element_at b r 3 ∷ []
 
 -- ---- inside the crate: two blocks by turns, in four vectors of eight numbers, their rows
 

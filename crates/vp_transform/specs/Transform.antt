@@ -1,6 +1,7 @@
 -- The inverse WHT and the inverse DCT of sixteen numbers, over unbounded integers (RFC 6386, chapters 14.2 to 14.4).
 -- Pinned by the test `kernel_examples` (a block computed with the standard's own program).
-use Rattle.std.specs.Prelude.{ℕ, ◌+◌, ◌*◌, ◌/◌, ◌%◌, ℤ, pos, negsuc, ◌+ℤ◌, ◌-ℤ◌, ◌*ℤ◌, List, [], ◌∷◌, map, slice_index_or}
+use Rattle.std.specs.Prelude.{ℕ, ◌+◌, ◌*◌, ◌/◌, ◌%◌, ℤ, pos, negsuc, ◌+ℤ◌, ◌-ℤ◌, ◌*ℤ◌, List, [], ◌∷◌, map}
+use Rattle.std.specs.Prelude.{slice_index_or}
 use Rattle.std.specs.List.{range_with_len}
 use lib.Signed.{shr_z}
 
@@ -41,7 +42,8 @@ times_hadamard block = block_from (product (element_at block) (element_at hadama
 
 -- (X H + 3) / 8, rounded down
 unfoldable pub times_hadamard_rounded : List ℤ → List ℤ
-times_hadamard_rounded block = block_from (λ r c. shr_z (product (element_at block) (element_at hadamard) r c +ℤ pos 3) 8)
+times_hadamard_rounded block = block_from (λ r c. shr_z (product (element_at block)
+    (element_at hadamard) r c +ℤ pos 3) 8)
 
 -- (H X H + 3) / 8, rounded down
 unfoldable pub iwht : List ℤ → List ℤ
@@ -64,7 +66,8 @@ turned i0 i1 i2 i3 =
     (a +ℤ d) ∷ (b +ℤ c) ∷ (b -ℤ c) ∷ (a -ℤ d) ∷ []
 
 abbrev pub column_turned : List ℤ → ℕ → List ℤ
-column_turned block c = turned (element_at block 0 c) (element_at block 1 c) (element_at block 2 c) (element_at block 3 c)
+column_turned block c = turned (element_at block 0 c) (element_at block 1 c) (element_at block 2 c)
+    (element_at block 3 c)
 
 abbrev pub row_turned : List ℤ → ℕ → List ℤ
 row_turned block r = turned (element_at block r 0) (element_at block r 1) (element_at block r 2) (element_at block r 3)

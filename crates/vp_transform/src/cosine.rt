@@ -1,6 +1,7 @@
 ghost use Rattle.std.specs.Prelude.{map, ◌∷◌, replicate, ◌≡◌, ℕ, ◌+◌, ◌*◌, ◌<◌, ◌≤◌, length, unsigned_abs, pos, ◌+ℤ◌};
 ghost use Rattle.vp_transform.specs.Fits.{Fits, TurnFits, TurnAndRoundFits, ColumnsFit, RowsFit, IdctFits, EachWithin};
-ghost use Rattle.vp_transform.specs.Transform.{element_at, column_turned, row_turned, turned, rounded, vertical, horizontal, idct};
+ghost use Rattle.vp_transform.specs.Transform.{element_at, column_turned, row_turned, turned, rounded, vertical};
+ghost use Rattle.vp_transform.specs.Transform.{horizontal, idct};
 
 use crate::lanes::{is_narrow, narrow_idct};
 
@@ -59,7 +60,8 @@ fn by_columns(x: &[i64; 16]) -> [i64; 16]
 /// Column c, transformed.
 fn column(x: &[i64; 16], c: usize) -> [i64; 4]
     requires inside { c < 4 }
-    requires fits { TurnFits (element_at x.now 0 c) (element_at x.now 1 c) (element_at x.now 2 c) (element_at x.now 3 c) }
+    requires fits { TurnFits (element_at x.now 0 c) (element_at x.now 1 c) (element_at x.now 2 c)
+        (element_at x.now 3 c) }
     ensures { result ≡ column_turned x.now c }
 {
     turn(x[c], x[4 + c], x[8 + c], x[12 + c])
@@ -82,7 +84,8 @@ fn by_rows(x: &[i64; 16]) -> [i64; 16]
 /// Row r, transformed and rounded.
 fn row(x: &[i64; 16], r: usize) -> [i64; 4]
     requires inside { r < 4 }
-    requires fits { TurnAndRoundFits (element_at x.now r 0) (element_at x.now r 1) (element_at x.now r 2) (element_at x.now r 3) }
+    requires fits { TurnAndRoundFits (element_at x.now r 0) (element_at x.now r 1) (element_at x.now r 2)
+        (element_at x.now r 3) }
     ensures { result ≡ map rounded (row_turned x.now r) }
 {
     let [i0, i1, i2, i3] = turn(x[4 * r], x[4 * r + 1], x[4 * r + 2], x[4 * r + 3]);

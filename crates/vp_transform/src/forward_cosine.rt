@@ -50,7 +50,8 @@ fn by_columns(x: &[i64; 16]) -> [i64; 16]
 fn row(x: &[i64; 16], r: usize) -> [i64; 4]
     requires inside { r < 4 }
     requires small { EachWithin (2 ^ 44) x.now }
-    ensures { result ≡ row_waves (element_at x.now r 0) (element_at x.now r 1) (element_at x.now r 2) (element_at x.now r 3) }
+    ensures { result ≡ row_waves (element_at x.now r 0) (element_at x.now r 1) (element_at x.now r 2)
+        (element_at x.now r 3) }
 {
     let a = 8 * (x[4 * r] + x[4 * r + 3]);
     let b = 8 * (x[4 * r + 1] + x[4 * r + 2]);
@@ -68,7 +69,8 @@ fn row(x: &[i64; 16], r: usize) -> [i64; 4]
 fn column(x: &[i64; 16], column: usize) -> [i64; 4]
     requires inside { column < 4 }
     requires small { EachWithin (2 ^ 49) x.now }
-    ensures { result ≡ column_waves (element_at x.now 0 column) (element_at x.now 1 column) (element_at x.now 2 column) (element_at x.now 3 column) }
+    ensures { result ≡ column_waves (element_at x.now 0 column) (element_at x.now 1 column) (element_at x.now 2 column)
+        (element_at x.now 3 column) }
 {
     let a = x[column] + x[12 + column];
     let b = x[4 + column] + x[8 + column];

@@ -1,4 +1,5 @@
-ghost use Rattle.std.specs.Prelude.{◌≡◌, ℕ, ◌+◌, ◌*◌, ◌<◌, ◌≤◌, ◌^◌, ◌∷◌, replicate, pos, ◌+ℤ◌, map, slice_index_or, unsigned_abs};
+ghost use Rattle.std.specs.Prelude.{◌≡◌, ℕ, ◌+◌, ◌*◌, ◌<◌, ◌≤◌, ◌^◌, ◌∷◌, replicate, pos, ◌+ℤ◌, map, slice_index_or};
+ghost use Rattle.std.specs.Prelude.{unsigned_abs};
 ghost use Rattle.vp_transform.specs.Steps.{mixed, column_product, row_product};
 ghost use Rattle.vp_transform.specs.Fits.{Fits, IwhtFits, EachWithin, column_size, row_size};
 ghost use Rattle.vp_transform.specs.Transform.{iwht, hadamard_times, times_hadamard};

@@ -68,7 +68,8 @@ fn turn(i0: i32x4, i1: i32x4, i2: i32x4, i3: i32x4) -> (i32x4, i32x4, i32x4, i32
     requires second { LanesWithin 40960 i1 }
     requires third { LanesWithin 40960 i2 }
     requires fourth { LanesWithin 40960 i3 }
-    ensures { (j : ℕ) → j < 4 → column_of result.0 result.1 result.2 result.3 j ≡ turned (lane i0 j) (lane i1 j) (lane i2 j) (lane i3 j) }
+    ensures { (j : ℕ) → j < 4 → column_of result.0 result.1 result.2 result.3 j
+        ≡ turned (lane i0 j) (lane i1 j) (lane i2 j) (lane i3 j) }
 {
     let sine = i32x4::splat(SINE);
     let cosine = i32x4::splat(COSINE);
@@ -110,7 +111,8 @@ pub(crate) fn narrow_idct(block: &[i64; 16]) -> [i64; 16]
     joined(a, b, c, d)
 }
 
-/// The inverse DCT of a block of numbers from -8191 to 8191: what `idct` gives, in lanes from end to end and with no test of the block.
+/// The inverse DCT of a block of numbers from -8191 to 8191: what `idct` gives, in lanes from end to end and with
+/// no test of the block.
 pub fn idct_short(block: &[i16; 16]) -> [i16; 16]
     requires { EachWithin 8191 block.now }
     ensures { result ≡ idct block.now }

@@ -14,7 +14,8 @@ const HALF_SINE: u16 = 17734;
 /// sqrt 2 * cos (pi / 8) - 1, times 2^16.
 const COSINE: u16 = 20091;
 
-/// The inverse DCTs of two blocks of numbers from -2200 to 2200, side by side: each vector is a row of what `idct` gives
+/// The inverse DCTs of two blocks of numbers from -2200 to 2200, side by side: each vector is a row of what `idct`
+/// gives
 /// of the first block and, behind it, of the second (RFC 6386, chapter 14.4).
 pub fn idct_pair(a: &[i16; 16], b: &[i16; 16]) -> (i16x8, i16x8, i16x8, i16x8)
     requires first { EachWithin 2200 a.now }

@@ -1,4 +1,5 @@
-//! The inverse DCT into i16, for a residue that is added to pixels: a number that i16 doesn't hold is cut to the nearest.
+//! The inverse DCT into i16, for a residue that is added to pixels: a number that i16 doesn't hold is cut to the
+//! nearest.
 
 ghost use Rattle.std.specs.Prelude.{◌≡◌, ℕ, ◌<◌, pos, slice_index_or};
 ghost use Rattle.vp_transform.specs.Fits.{EachWithin, IdctFits};

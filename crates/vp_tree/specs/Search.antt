@@ -12,7 +12,8 @@ leads passes further (Some (Pair j)) = further j
 -- whether a leaf that passes lies at most n steps behind the pair at place i
 abbrev pub lies : {T : Type 0} → (T → Bool) → List (TreeEntry T) → ℕ → ℕ → Bool
 lies passes t zero i = false
-lies passes t (suc n) i = leads passes (lies passes t n) (slice_get t i) || leads passes (lies passes t n) (slice_get t (i + 1))
+lies passes t (suc n) i = leads passes (lies passes t n) (slice_get t i)
+    || leads passes (lies passes t n) (slice_get t (i + 1))
 
 -- whether a leaf that passes lies behind the pair at place i
 abbrev pub has_leaf : {T : Type 0} → (T → Bool) → List (TreeEntry T) → ℕ → Bool

@@ -1,6 +1,7 @@
 -- Trees of bools (RFC 6386, chapter 8.1): which tables are trees, the paths to their leaves, and the leaf that a walk
 -- reads. Pinned by the tests `reads_leaves`, `finds_paths` and `writes_leaves`.
-use Rattle.std.specs.Prelude.{◌≡◌, ℕ, zero, suc, ◌+◌, ◌-◌, ◌*◌, ◌/◌, ◌%◌, ◌<◌, Bool, true, false, ◌&&◌, ◌==◌, nat_lt, List, [], ◌∷◌, length, map, count_by, Option, Some, None, slice_get, slice_index}
+use Rattle.std.specs.Prelude.{◌≡◌, ℕ, zero, suc, ◌+◌, ◌-◌, ◌*◌, ◌/◌, ◌%◌, ◌<◌, Bool, true, false, ◌&&◌, ◌==◌, nat_lt}
+use Rattle.std.specs.Prelude.{List, [], ◌∷◌, length, map, count_by, Option, Some, None, slice_get, slice_index}
 use Rattle.std.specs.Int.{from_bool}
 use Rattle.vp_bool.specs.Bools.{State, read}
 use Rattle.vp_bool.specs.Reader.{Reader, ◌>>=◌, give, Reads}
@@ -11,7 +12,8 @@ use Rattle.vp_tree.specs.declared.steps.Step.{Step}
 
 -- ---- Tables that are trees. The entries at places 0 and 1 are a pair, those at 2 and 3, and so on.
 
--- the entry at place k of a table of n entries: a pair that it leads to lies further on, at an even place within the table
+-- the entry at place k of a table of n entries: a pair that it leads to lies further on, at an even place within the
+-- table
 abbrev pub is_entry : {T : Type 0} → ℕ → ℕ → TreeEntry T → Bool
 is_entry n k (Leaf x) = true
 is_entry n k (Pair j) = nat_lt k j && nat_lt (j + 1) n && (j % 2 == 0)
@@ -44,7 +46,8 @@ abbrev pub IsPath : {T : Type 0} → List (TreeEntry T) → ℕ → List Step �
 IsPath t i [] k = ⊥
 IsPath t i (step ∷ []) k = (step.pair ≡ i) × (child_index step ≡ k)
 IsPath t i (step ∷ (following ∷ path)) k =
-    (step.pair ≡ i) × (slice_get t (child_index step) ≡ Some (Pair following.pair)) × IsPath t following.pair (following ∷ path) k
+    (step.pair ≡ i) × (slice_get t (child_index step) ≡ Some (Pair following.pair))
+    × IsPath t following.pair (following ∷ path) k
 
 -- The path leads from the pair at place i to the leaf x.
 pub record IsPathTo {T : Type 0} (t : List (TreeEntry T)) (i : ℕ) (path : List Step) (x : T) : Type 0 where
@@ -57,7 +60,8 @@ abbrev pub spelled : List ℕ → List Step → List (Bool × ℕ)
 spelled probabilities path = map (λ (step : Step). (step.bit, slice_index probabilities (step.pair / 2))) path
 
 -- From the pair at place i the bools read in state s are those of a path to the leaf x, and leave state u.
-pub record LeadsToLeaf {T : Type 0} (t : List (TreeEntry T)) (probabilities : List ℕ) (i : ℕ) (s : State) (x : T) (u : State) : Type 0 where
+pub record LeadsToLeaf {T : Type 0} (t : List (TreeEntry T)) (probabilities : List ℕ) (i : ℕ) (s : State) (x : T)
+    (u : State) : Type 0 where
   pub path : List Step
   pub place : ℕ
   pub is_path : IsPath t i path place

@@ -29,7 +29,8 @@ pub fn write_tree_from<T: Copy + PartialEq>(
     // Nothing else is equal to the leaf.
     requires exact { (other : T) → T.eq leaf other ≡ true → leaf ≡ other }
     // What was written is read as the leaf, whatever follows. The default is never met.
-    ensures { OnOk result ((default : T) → Writes (walk_from default tree.now probabilities.now from) encoder.old encoder.new leaf) }
+    ensures { OnOk result ((default : T) → Writes
+        (walk_from default tree.now probabilities.now from) encoder.old encoder.new leaf) }
 {
     let path = path_from(tree, from, leaf);
     write_path(path.as_slice(), probabilities, encoder)?;
@@ -52,7 +53,8 @@ pub fn write_tree<T: Copy + PartialEq>(
     // Nothing else is equal to the leaf.
     requires exact { (other : T) → T.eq leaf other ≡ true → leaf ≡ other }
     // What was written is read as the leaf, whatever follows. The default is never met.
-    ensures { OnOk result ((default : T) → Writes (walk_from default tree.now probabilities.now 0) encoder.old encoder.new leaf) }
+    ensures { OnOk result ((default : T) → Writes
+        (walk_from default tree.now probabilities.now 0) encoder.old encoder.new leaf) }
 {
     write_tree_from(tree, probabilities, 0, leaf, encoder)
 }

@@ -94,7 +94,8 @@ fn filter_one_line(rt: HostRuntime) {
     }
 }
 
-/// The strength of a key frame's macroblock whose subblocks have modes of their own, with these levels and sharpness: the
+/// The strength of a key frame's macroblock whose subblocks have modes of their own, with these levels and
+/// sharpness: the
 /// frame's, the segment's in its place if there is one, and what reference and mode add.
 fn level_with(dim: Dim, own: u8, sharpness: u8, segment: Option<i8>, deltas: [i8; 2]) -> Level {
     let mut header = header(dim);
@@ -126,7 +127,8 @@ fn strength(edge: u8, inner: u8, interior: u8, hev: u8) -> Level {
     }
 }
 
-/// Where levels are held to 0 to 63: the segment's before the deltas, and their sum, but not between the two deltas; key
+/// Where levels are held to 0 to 63: the segment's before the deltas, and their sum, but not between the two
+/// deltas; key
 /// frames have the delta of intra macroblocks too. The interior limit is 1 at least.
 #[test]
 fn levels_are_held(rt: HostRuntime) -> Result<(), Fail> {
@@ -298,7 +300,8 @@ impl Pixels {
         }
     }
 
-    /// Filters a block of `size` pixels each way whose first pixel is at column `x` of row `y`, as chapter 15 orders it:
+    /// Filters a block of `size` pixels each way whose first pixel is at column `x` of row `y`, as chapter 15
+    /// orders it:
     /// over its left edge, the vertical ones inside, the edge above it, and the horizontal ones inside.
     fn filter_block(&mut self, x: usize, y: usize, size: usize, level: &Level) {
         let width = self.width;

@@ -256,7 +256,8 @@ fn has_pair(plane: &Plane, x: usize, wanted: &[[u8; 8]; 4]) -> bool
     true
 }
 
-/// The sums were worked out from RFC 6386's formulas (chapter 14) by a script apart from this program: the prediction is
+/// The sums were worked out from RFC 6386's formulas (chapter 14) by a script apart from this program: the
+/// prediction is
 /// 128 everywhere.
 #[test]
 fn subblocks_side_by_side(rt: HostRuntime) {

@@ -132,7 +132,8 @@ fn bytes_below_y2(contexts: &mut Contexts, alloc: Global) -> Result<Vec<u8>, All
     bytes_below(contexts, alloc)
 }
 
-// The standard's rule by hand: a skipped macroblock leaves that its blocks have no tokens, but where it has no Y2 block,
+// The standard's rule by hand: a skipped macroblock leaves that its blocks have no tokens, but where it has no Y2
+// block,
 // what stood of the one above it, or to its left, stays.
 #[test]
 fn skipped_leaves_y2(rt: HostRuntime) -> Result<(), Fail> {
@@ -152,7 +153,8 @@ fn skipped_leaves_y2(rt: HostRuntime) -> Result<(), Fail> {
     Ok(())
 }
 
-// The token partition of the first row of macroblocks, three, of a stream of another program's; a third program read what
+// The token partition of the first row of macroblocks, three, of a stream of another program's; a third program read
+// what
 // is expected. The stream changes probabilities, but none that this row is read with.
 const ROW: [u8; 12] = [183, 180, 245, 129, 148, 100, 0, 0, 108, 1, 80, 0];
 

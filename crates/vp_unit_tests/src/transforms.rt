@@ -73,7 +73,8 @@ fn pair_example(rt: HostRuntime) {
     equal(&rt, &bottom.to_array(), &[1, 1, 1, 1, -18, 5, 174, -551]);
 }
 
-/// Two blocks whose numbers are as far from 0 as they may be, and one of numbers that look like chance: what the formulas
+/// Two blocks whose numbers are as far from 0 as they may be, and one of numbers that look like chance: what the
+/// formulas
 /// of RFC 6386 (chapter 14.4) give was worked out by a script apart from this program.
 #[test]
 fn scattered_pairs(rt: HostRuntime) {

@@ -1,6 +1,7 @@
 -- The header line of a YUV4MPEG2 file: its tokens, and the faults in their order. YUV4MPEG2 is no part of RFC 6386; the
 -- lines are those that mjpegtools and ffmpeg write. Pinned by the tests `header_lines` and `header_faults`.
-use Rattle.std.specs.Prelude.{ℕ, ◌*◌, ◌==◌, ◌&&◌, ◌||◌, Bool, true, false, List, [], ◌∷◌, length, nat_lt, nat_le, Option, Some, None, Result, Ok, Err, if◌then◌else◌, codes}
+use Rattle.std.specs.Prelude.{ℕ, ◌*◌, ◌==◌, ◌&&◌, ◌||◌, Bool, true, false, List, [], ◌∷◌, length, nat_lt, nat_le}
+use Rattle.std.specs.Prelude.{Option, Some, None, Result, Ok, Err, if◌then◌else◌, codes}
 use Rattle.std.specs.Char.{is_ascii_digit}
 use Rattle.std.specs.List.{list_all, before_first, after_first, slice_split}
 use Rattle.std.specs.Str.{bytes_eq}
@@ -45,7 +46,8 @@ last_token kind line = last_among kind (slice_split is_space line)
 
 -- a decimal number of 32 bits: one digit or more, and nothing else
 abbrev pub number_in : List ℕ → Option ℕ
-number_in text = if list_all is_ascii_digit text && (nat_lt 0 (length text) && nat_lt (digits_value 10 text) 4294967296) then Some (digits_value 10 text) else None
+number_in text = if list_all is_ascii_digit text && (nat_lt 0 (length text)
+    && nat_lt (digits_value 10 text) 4294967296) then Some (digits_value 10 text) else None
 
 abbrev pub option_pair : Option ℕ → Option ℕ → Option (ℕ × ℕ)
 option_pair (Some x) (Some y) = Some (x, y)
@@ -72,7 +74,8 @@ side_in (Some text) = number_in text
 -- 4:2:0 of 8 bits, however its samples are placed
 abbrev pub is_taken_colour : Option (List ℕ) → Bool
 is_taken_colour None = true
-is_taken_colour (Some text) = bytes_eq text (codes "420") || (bytes_eq text (codes "420jpeg") || (bytes_eq text (codes "420mpeg2") || bytes_eq text (codes "420paldv")))
+is_taken_colour (Some text) = bytes_eq text (codes "420") || (bytes_eq text (codes "420jpeg")
+    || (bytes_eq text (codes "420mpeg2") || bytes_eq text (codes "420paldv")))
 
 abbrev pub is_progressive : Option (List ℕ) → Bool
 is_progressive None = true
@@ -90,5 +93,7 @@ judged (Some (rate, scale)) (Some (w, h)) true true = Ok (record { w = w; h = h;
 unfoldable pub head_in : ℕ → List ℕ → Result Head SourceFault
 head_in pixels line =
     if begins_with (codes "YUV4MPEG2") line then
-    judged (rate_in (last_token 70 line)) (size_within pixels (option_pair (side_in (last_token 87 line)) (side_in (last_token 72 line)))) (is_taken_colour (last_token 67 line)) (is_progressive (last_token 73 line))
+    judged (rate_in (last_token 70 line)) (size_within pixels
+    (option_pair (side_in (last_token 87 line)) (side_in (last_token 72 line))))
+    (is_taken_colour (last_token 67 line)) (is_progressive (last_token 73 line))
     else Err Magic

@@ -6,9 +6,12 @@ use Rattle.vp_y4m.specs.Pictures.{file_head, next_of}
 
 -- the line of a size within the limits says that size, rate and scale, whatever follows
 abbrev pub IsHeadReadBack : Type 0
-IsHeadReadBack = (pixels w h rate scale : ℕ) (rest : List ℕ) → IsSide w → IsSide h → w * h ≤ pixels → rate < 2 ^ 32 → scale < 2 ^ 32
-    → file_head pixels (header_text w h rate scale ++ rest) ≡ Ok (record { w = w; h = h; rate = rate; scale = scale }, rest)
+IsHeadReadBack = (pixels w h rate scale : ℕ) (rest : List ℕ) → IsSide w → IsSide h → w * h ≤ pixels → rate < 2 ^ 32
+    → scale < 2 ^ 32
+    → file_head pixels (header_text w h rate scale ++ rest) ≡ Ok
+    (record { w = w; h = h; rate = rate; scale = scale }, rest)
 
 -- a written picture is the next one, whatever follows
 abbrev pub IsPictureReadBack : Type 0
-IsPictureReadBack = (w h : ℕ) (bytes rest : List ℕ) → length bytes ≡ i420_length w h → next_of w h (picture_text bytes ++ rest) ≡ Ok (Some (bytes, rest))
+IsPictureReadBack = (w h : ℕ) (bytes rest : List ℕ) → length bytes ≡ i420_length w h
+    → next_of w h (picture_text bytes ++ rest) ≡ Ok (Some (bytes, rest))

@@ -1,5 +1,6 @@
 -- The lines of a YUV4MPEG2 file, of at most 1,024 bytes. Pinned by the test `header_faults`.
-use Rattle.std.specs.Prelude.{ℕ, ◌≤◌, ◌≡◌, ◌==◌, Bool, List, [], ◌∷◌, length, take, nat_lt, Option, Some, None, Result, Ok, Err, if◌then◌else◌}
+use Rattle.std.specs.Prelude.{ℕ, ◌≤◌, ◌≡◌, ◌==◌, Bool, List, [], ◌∷◌, length, take, nat_lt, Option, Some, None, Result}
+use Rattle.std.specs.Prelude.{Ok, Err, if◌then◌else◌}
 use Rattle.std.specs.Io.KnownBytes.{Consumes, IsAtEnd}
 use Rattle.std.specs.List.{position_or_len, before_first, after_first}
 use Rattle.vp_y4m.specs.declared.fault.SourceFault.{SourceFault}
@@ -9,13 +10,15 @@ use Rattle.vp_y4m.specs.Reads.{Shows, ShowsAtEnd, TakesBytes}
 abbrev pub is_line_feed : ℕ → Bool
 is_line_feed byte = byte == 10
 
--- the line at the front of some bytes, without its line feed, and what stands behind that; none where there are no bytes.
+-- the line at the front of some bytes, without its line feed, and what stands behind that; none where there are no
+-- bytes.
 -- More than 1,024 bytes without a line feed are `Magic`, fewer at the end of all bytes `Torn`
 unfoldable pub first_line : List ℕ → Result (Option (List ℕ × List ℕ)) SourceFault
 first_line bytes =
     if length bytes == 0 then Ok None else
     if nat_lt 1024 (position_or_len is_line_feed bytes) then Err Magic else
-    if nat_lt (position_or_len is_line_feed bytes) (length bytes) then Ok (Some (before_first is_line_feed bytes, after_first is_line_feed bytes)) else Err Torn
+    if nat_lt (position_or_len is_line_feed bytes) (length bytes) then Ok
+    (Some (before_first is_line_feed bytes, after_first is_line_feed bytes)) else Err Torn
 
 -- the next byte was taken, or the end was met, or nothing was taken
 abbrev pub ReadsByte : Result (Option ℕ) SourceFault → Option (List ℕ) → Option (List ℕ) → Type 0
@@ -42,6 +45,7 @@ LineFails Memory before after = ⊥
 
 -- a line was read into the front of some bytes: its length, or none where the end was met first
 abbrev pub ReadsLine : Result (Option ℕ) SourceFault → List ℕ → Option (List ℕ) → Option (List ℕ) → Type 0
-ReadsLine (Ok (Some n)) bytes before after = (n ≤ 1024) × Shows first_line (λ rest. Ok (Some (take n bytes, rest))) before after
+ReadsLine (Ok (Some n)) bytes before after = (n ≤ 1024) × Shows first_line
+    (λ rest. Ok (Some (take n bytes, rest))) before after
 ReadsLine (Ok None) bytes before after = ShowsAtEnd first_line (Ok None) before after
 ReadsLine (Err fault) bytes before after = LineFails fault before after

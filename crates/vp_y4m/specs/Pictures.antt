@@ -1,6 +1,7 @@
 -- A YUV4MPEG2 file by its bytes: the header, and one picture after another. Pinned by the tests `planes_stand_in_order`
 -- and `source_reads_back`.
-use Rattle.std.specs.Prelude.{ℕ, ◌<◌, ◌≡◌, ◌⊎◌, List, length, take, drop, nat_le, Option, Some, None, Result, Ok, Err, if◌then◌else◌, codes}
+use Rattle.std.specs.Prelude.{ℕ, ◌<◌, ◌≡◌, ◌⊎◌, List, length, take, drop, nat_le, Option, Some, None, Result, Ok, Err}
+use Rattle.std.specs.Prelude.{if◌then◌else◌, codes}
 use Rattle.std.specs.Io.KnownBytes.{Consumes, IsAtEnd}
 use Rattle.vp_y4m.specs.declared.fault.SourceFault.{SourceFault}
 use Rattle.vp_y4m.specs.declared.fault.SourceFault.TheVariants.{Magic, Torn, Device}
@@ -25,7 +26,8 @@ file_head pixels bytes = head_line pixels (first_line bytes)
 abbrev pub split_off : ℕ → List ℕ → Result (Option (List ℕ × List ℕ)) SourceFault
 split_off n bytes = if nat_le n (length bytes) then Ok (Some (take n bytes, drop n bytes)) else Err Torn
 
-abbrev pub frame_line : ℕ → Result (Option (List ℕ × List ℕ)) SourceFault → Result (Option (List ℕ × List ℕ)) SourceFault
+abbrev pub frame_line : ℕ → Result (Option (List ℕ × List ℕ)) SourceFault
+    → Result (Option (List ℕ × List ℕ)) SourceFault
 frame_line n (Err fault) = Err fault
 frame_line n (Ok None) = Ok None
 frame_line n (Ok (Some (line, rest))) = if begins_with (codes "FRAME") line then split_off n rest else Err Magic

@@ -9,13 +9,15 @@ use Rattle.vp_base.specs.Image.{Image, plane_of, with_plane, i420}
 abbrev pub IsBeyond : ℕ → ℕ → ℕ → ℕ → Type 0
 IsBeyond w h x y = (w ≤ x) ⊎ (h ≤ y)
 
--- the first w columns of the first h rows of plane k are the bytes that were taken, row after row, and nothing else has changed
+-- the first w columns of the first h rows of plane k are the bytes that were taken, row after row, and nothing else
+-- has changed
 pub record ReadsRows (w h k : ℕ) (old new : Image) (before after : Option (List ℕ)) : Type 0 where
   pub consumed : Consumes before after (numbers w h (pixel (plane_of new k)))
   pub width : (plane_of new k).width ≡ (plane_of old k).width
   pub height : (plane_of new k).height ≡ (plane_of old k).height
   pub whole : IsWhole (plane_of new k)
-  pub beyond : (x y : ℕ) → x < (plane_of old k).width → y < (plane_of old k).height → IsBeyond w h x y → pixel (plane_of new k) x y ≡ pixel (plane_of old k) x y
+  pub beyond : (x y : ℕ) → x < (plane_of old k).width → y < (plane_of old k).height → IsBeyond w h x y
+      → pixel (plane_of new k) x y ≡ pixel (plane_of old k) x y
   pub kept : new ≡ with_plane old k (plane_of new k)
 
 -- how much of a picture's side is shown in plane k

@@ -19,7 +19,8 @@ pub record ShowsAtEnd {A : Type 0} (read : List ℕ → A) (answer : A) (before 
   pub shown : read taken ≡ answer
 
 -- the bytes taken show the fault, whatever rest follows them, and no fewer of them have it
-pub record ShowsFault {A : Type 0} (read : List ℕ → Result A SourceFault) (fault : SourceFault) (before after : Option (List ℕ)) : Type 0 where
+pub record ShowsFault {A : Type 0} (read : List ℕ → Result A SourceFault) (fault : SourceFault)
+    (before after : Option (List ℕ)) : Type 0 where
   pub taken : List ℕ
   pub consumed : Consumes before after taken
   pub shown : (rest : List ℕ) → read (taken ++ rest) ≡ Err fault
@@ -29,8 +30,10 @@ pub record ShowsFault {A : Type 0} (read : List ℕ → Result A SourceFault) (f
 abbrev pub TakesBytes : Option (List ℕ) → Option (List ℕ) → Type 0
 TakesBytes before after = (taken : List ℕ) × Consumes before after taken
 
--- a fault of the bytes is shown by those taken, which are those through the line that has it, and `Torn` only at the reader's end. Where a read failed, nothing is known of what follows; reading takes no memory
-abbrev pub Fails : {A : Type 0} → (List ℕ → Result A SourceFault) → SourceFault → Option (List ℕ) → Option (List ℕ) → Type 0
+-- a fault of the bytes is shown by those taken, which are those through the line that has it, and `Torn` only at the
+-- reader's end. Where a read failed, nothing is known of what follows; reading takes no memory
+abbrev pub Fails : {A : Type 0} → (List ℕ → Result A SourceFault) → SourceFault → Option (List ℕ) → Option (List ℕ)
+    → Type 0
 Fails read Torn before after = ShowsAtEnd read (Err Torn) before after
 Fails read Device before after = TakesBytes before after
 Fails read Memory before after = ⊥
@@ -43,7 +46,8 @@ Fails read Interlaced before after = ShowsFault read Interlaced before after
 
 -- Bytes were taken, in no more reads than there are of them and so many that took none.
 abbrev pub TakesInReads : ℕ → Option (List ℕ) → Option (List ℕ) → (old new : ℕ) → Type 0
-TakesInReads idle before after old new = (taken : List ℕ) × Consumes before after taken × (new ≤ old + (length taken + idle))
+TakesInReads idle before after old new = (taken : List ℕ) × Consumes before after taken
+    × (new ≤ old + (length taken + idle))
 
 -- A read that took none is made at the reader's end, and one that failed took none. Behind it there is no other.
 abbrev pub idle_behind : SourceFault → ℕ

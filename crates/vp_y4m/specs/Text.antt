@@ -3,14 +3,16 @@
 use Rattle.std.specs.Prelude.{ℕ, List, ◌++◌, ◌+◌, ◌*◌, ◌/◌, codes}
 use Rattle.std.specs.Fmt.{decimal}
 
--- how many bytes of I420 a picture of w columns and h rows has: luma, and two planes of half the columns and rows, rounded up
+-- how many bytes of I420 a picture of w columns and h rows has: luma, and two planes of half the columns and rows,
+-- rounded up
 abbrev pub i420_length : ℕ → ℕ → ℕ
 i420_length w h = w * h + 2 * ((w + 1) / 2 * ((h + 1) / 2))
 
 -- the line before all pictures
 unfoldable pub header_text : ℕ → ℕ → ℕ → ℕ → List ℕ
 header_text w h rate scale =
-    codes "YUV4MPEG2 W" ++ (decimal w ++ (codes " H" ++ (decimal h ++ (codes " F" ++ (decimal rate ++ (codes ":" ++ (decimal scale ++ codes " Ip A0:0 C420jpeg\n")))))))
+    codes "YUV4MPEG2 W" ++ (decimal w ++ (codes " H" ++ (decimal h
+    ++ (codes " F" ++ (decimal rate ++ (codes ":" ++ (decimal scale ++ codes " Ip A0:0 C420jpeg\n")))))))
 
 -- a picture, with the line before it
 unfoldable pub picture_text : List ℕ → List ℕ

@@ -22,7 +22,8 @@ fn read_frame_line<R: Read>(reader: &mut Counted<R>) -> Result<bool, SourceFault
     ensures device { result ≡ Err SourceFault.Device
         → HasFailed (counted_failures reader.old) (counted_failures reader.new) }
     ensures quiet { result ≢ Err SourceFault.Device → counted_failures reader.new ≡ counted_failures reader.old }
-    ensures reads { TakesInReads (idle_reads (λ found. if found then 0 else 1) result) (counted_remaining R.remaining reader.old)
+    ensures reads { TakesInReads (idle_reads (λ found. if found then 0 else 1) result)
+        (counted_remaining R.remaining reader.old)
         (counted_remaining R.remaining reader.new) (counted_reads reader.old) (counted_reads reader.new) }
     ensures within { counted_reads reader.new ≤ counted_reads reader.old + 1025 }
 {
@@ -50,9 +51,11 @@ pub(crate) fn read_frame<R: Read>(
     ensures device { result ≡ Err SourceFault.Device
         → HasFailed (counted_failures reader.old) (counted_failures reader.new) }
     ensures quiet { result ≢ Err SourceFault.Device → counted_failures reader.new ≡ counted_failures reader.old }
-    ensures reads { TakesInReads (idle_reads (λ found. if found then 0 else 1) result) (counted_remaining R.remaining reader.old)
+    ensures reads { TakesInReads (idle_reads (λ found. if found then 0 else 1) result)
+        (counted_remaining R.remaining reader.old)
         (counted_remaining R.remaining reader.new) (counted_reads reader.old) (counted_reads reader.new) }
-    ensures within { counted_reads reader.new ≤ counted_reads reader.old + (1025 + i420_length picture.old.width picture.old.height) }
+    ensures within { counted_reads reader.new ≤ counted_reads reader.old
+        + (1025 + i420_length picture.old.width picture.old.height) }
 {
     match read_frame_line(reader) {
         Ok(true) => {}

@@ -4,7 +4,8 @@ ghost use Rattle.std.specs.Prelude.{◌≡◌, ◌==◌, ◌<◌, ◌≤◌, ◌
 ghost use Rattle.std.specs.Char.{is_ascii_digit};
 ghost use Rattle.std.specs.List.{list_all, position_or_len, before_first, after_first};
 ghost use Rattle.vp_y4m.specs.declared.fault.SourceFault.{SourceFault};
-ghost use Rattle.vp_y4m.specs.Header.{is_space, begins_with, text_after_kind, last_token, number_in, side_in, rate_in, size_within, option_pair, is_taken_colour, is_progressive, head_in};
+ghost use Rattle.vp_y4m.specs.Header.{is_space, begins_with, text_after_kind, last_token, number_in, side_in, rate_in};
+ghost use Rattle.vp_y4m.specs.Header.{size_within, option_pair, is_taken_colour, is_progressive, head_in};
 ghost use Rattle.vp_y4m.specs.Shown.{outcome_shown, borrowed_text, sides_of};
 
 use crate::fault::SourceFault;

@@ -54,7 +54,8 @@ fn read_row<R: Read>(
     requires row { y < (plane_of picture.old k).height }
     requires columns { w ≤ (plane_of picture.old k).width }
     requires whole { IsWhole (plane_of picture.old k) }
-    ensures ok { OnOk result ((taken : List ℕ) × (length taken ≡ w) × Consumes (counted_remaining R.remaining reader.old)
+    ensures ok { OnOk result ((taken : List ℕ) × (length taken ≡ w)
+        × Consumes (counted_remaining R.remaining reader.old)
         (counted_remaining R.remaining reader.new) taken
         × (picture.new ≡ with_plane picture.old k (with_run (plane_of picture.old k) 0 y taken))) }
     ensures short { IfErr result (λ f. StopsShort w f (counted_remaining R.remaining reader.old)
@@ -118,7 +119,8 @@ fn read_shown<R: Read>(
     ensures quiet { result ≢ Err SourceFault.Device → counted_failures reader.new ≡ counted_failures reader.old }
     ensures reads { TakesInReads (idle_reads (λ _. 0) result) (counted_remaining R.remaining reader.old)
         (counted_remaining R.remaining reader.new) (counted_reads reader.old) (counted_reads reader.new) }
-    ensures within { counted_reads reader.new ≤ counted_reads reader.old + shown_side k picture.old.height * shown_side k picture.old.width }
+    ensures within { counted_reads reader.new ≤ counted_reads reader.old
+        + shown_side k picture.old.height * shown_side k picture.old.width }
 {
     let dim = picture.dim();
     let w = usize::from(dim.w);
@@ -145,7 +147,8 @@ pub(crate) fn read_pixels<R: Read>(
     ensures quiet { result ≢ Err SourceFault.Device → counted_failures reader.new ≡ counted_failures reader.old }
     ensures reads { TakesInReads (idle_reads (λ _. 0) result) (counted_remaining R.remaining reader.old)
         (counted_remaining R.remaining reader.new) (counted_reads reader.old) (counted_reads reader.new) }
-    ensures within { counted_reads reader.new ≤ counted_reads reader.old + i420_length picture.old.width picture.old.height }
+    ensures within { counted_reads reader.new ≤ counted_reads reader.old
+        + i420_length picture.old.width picture.old.height }
 {
     match read_shown(reader, picture, 0) {
         Ok(()) => {}

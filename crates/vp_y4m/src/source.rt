@@ -72,7 +72,8 @@ pub struct Source<'a, R: Read> {
 }
 
 impl<'a, R: Read> Source<'a, R> {
-    ghost use Rattle.vp_y4m.specs.Source.{reader_name, bytes_left, failures_of, reads_of, head_of, progress_of, progress_after, AnswersNextPicture};
+    ghost use Rattle.vp_y4m.specs.Source.{reader_name, bytes_left, failures_of, reads_of, head_of, progress_of};
+    ghost use Rattle.vp_y4m.specs.Source.{progress_after, AnswersNextPicture};
 
     /// The pictures behind a head that was read from this reader.
     pub fn open(alloc: Global, reader: &'a mut Counted<R>, head: SourceHead) -> Source<'a, R>
@@ -135,7 +136,8 @@ impl<'a, R: Read> Source<'a, R> {
         ensures quiet { progress_of self.old ≡ Progress.Open → result ≢ Err SourceFault.Device
             → failures_of self.new ≡ failures_of self.old }
 
-        // However it ends, each read but the last took a byte or more, and the last one too where there is a picture. So
+        // However it ends, each read but the last took a byte or more, and the last one too where there is a
+        // picture. So
         // no more reads are made than these, of any reader and of one whose bytes are known.
         ensures reads { TakesInReads (idle_reads idle_at_none result) (bytes_left R.remaining self.old)
             (bytes_left R.remaining self.new) (reads_of self.old) (reads_of self.new) }
