@@ -1,100 +1,200 @@
 #!/usr/bin/env python3
-"""What the public contracts rest on: follows their words through the definitions of specs/, prints the files in the order
-in which they can be read, with the lines that are reached in each, and fails where a public contract reaches a file whose
-first line begins with `-- Inside the crate`, or reaches nothing of one whose first line doesn't. Run at the top of the
-repository; -v names the words too."""
-import pathlib, re, sys
+"""What the public contracts rest on, a door at a time: how many lines of definitions, in how many files of specs/.
 
-WORD = re.compile(r"[^\W\d][\w'-]*")
-USE = re.compile(r"use Rattle\.([\w.]+?)(?:\.\{([^}]*)\})?(?: as (\w+))?;?$")
-HEAD = re.compile(r"(?:(?:abbrev|unfoldable) )?(?:pub )?(?:record |data )?([^\W\d][\w'-]*)[ :(]")
+    claims.py [--door NAME [-v]] [--write]
+
+Prints a table of the doors. `--door NAME` prints the functions of one door with their lines, and the files of its
+definitions in reading order, each with its number of reached lines and its first comment. `-v` adds the definitions.
+`--write` renews the table in CLAIMS.md.
+
+It fails if CLAIMS.md doesn't have the table, if a public contract reaches a file whose first comment begins with
+`Inside the crate`, if no public contract reaches a file without those words, if a law isn't exported, and if a door's
+function doesn't exist. Run it at the top of the repository.
+
+Counted are the definitions that a contract names, and all that these name. A contract is the clauses of a function, and
+the `ghost Value` of the types in its signature. Comments and blank lines aren't counted, nor are the declared types of
+Rust, the standard library and the kit's crates.
+"""
+
+import argparse
+import pathlib
+import re
+import signal
+import sys
+
+sys.dont_write_bytecode = True
+import sources
+
+# Each door, and its functions: CRATE::FUNCTION, CRATE::TYPE for all public methods of a type, CRATE::* for all that a
+# crate exports but its laws (of a C library the `extern "C"` functions). A crate that isn't there is skipped.
+DOORS = {
+    "Decoder": ["vp_decode::Decoder"],
+    "decode_all": ["vp_stream::decode_all"],
+    "Encoder": ["vp_encode::Encoder"],
+    "encode_all": ["vp_encode::encode_all", "vp_encode::encode_all_watched"],
+    "Hub": ["vp_hub::Hub"],
+    "serve_one": ["vp_hub::serve_one"],
+    "server loop": ["vp_serve::*"],
+    "C library": ["vp8_c::*"],
+    "command": ["vp_app::command"],
+}
+# What a type is seen as, or gives, without a function: for all public contracts taken together.
+GHOSTS = ("Value", "output", "from_gives")
+PAGE = pathlib.Path("CLAIMS.md")
+BEGIN, END = "<!-- claims.py -->\n", "<!-- end -->"
 
 
-def imports(lines):
-    """Each word that is imported from a crate's definitions, with its file and its name there."""
+class Library:
+    """All crates with definitions: their items, and what they export."""
+
+    def __init__(self):
+        self.crates = [name for name in sources.crates() if pathlib.Path(f"crates/{name}/specs").is_dir()]
+        self.items, self.exports, self.types = {}, {}, {}
+        for crate in self.crates:
+            self.exports[crate] = sources.exported(crate)
+            self.items[crate] = [item for item in sources.items(crate) if "test" not in item.path.name]
+            for item in self.items[crate]:
+                if item.owner in self.exports[crate] or (item.owner and item.kind == "Value"):
+                    self.types.setdefault(item.owner, []).append(item)
+
+    def is_public(self, item):
+        """Whether callers of the crate can name an item."""
+        if item.kind == "export":
+            return True
+        if item.kind != "function":
+            return item.kind in GHOSTS and item.owner in self.exports[item.crate]
+        return item.public and (item.owner or item.name) in self.exports[item.crate]
+
+    def seen_types(self, item):
+        """What the types of a signature are seen as; a name is the type that the file uses, or the crate's own."""
+        text = item.path.read_text()
+        for name in set(re.findall(r"\b[A-Z]\w*", item.signature)) | {item.owner}:
+            known = [other for other in self.types.get(name, []) if other.kind == "Value" or other.trait == name]
+            used = {other.crate for other in known if re.search(rf"use {other.crate}::[^;]*\b{name}\b", text)}
+            yield from (other for other in known if other.crate in (used or {item.crate}))
+
+    def door(self, entries):
+        """The items of a door; the entries that aren't there."""
+        found, missing = [], []
+        for crate, _, name in (entry.partition("::") for entry in entries):
+            if crate not in self.items:
+                continue
+            own = [item for item in self.items[crate] if self.is_public(item) and item.kind in ("function", "export")]
+            if name == "*":
+                exports = [item for item in own if item.kind == "export"]
+                here = exports or [item for item in own if not item.is_law]
+            else:
+                here = [item for item in own if name in (item.owner, "" if item.owner else item.name)]
+            missing += [] if here else [f"{crate}::{name}"]
+            found += here
+        return found, missing
+
+    def definitions(self, items):
+        """What items rest on, each file with its reached definitions."""
+        starts = set()
+        for item in items:
+            for each in [item, *self.seen_types(item)]:
+                starts |= each.definitions()
+        return sources.reached(starts)
+
+    def reached_by(self, path):
+        """The public items whose contracts reach a file."""
+        every = (item for items in self.items.values() for item in items if self.is_public(item))
+        return ", ".join(f"{item.path}:{item.line}" for item in every if path in self.definitions([item]))
+
+    def show(self, name, found, is_long):
+        """Prints a door's functions, and its files in reading order."""
+        for item in self.door(DOORS[name])[0]:
+            print(f"{item.path}:{item.line}: {item.owner and item.owner + '::'}{item.name}")
+        for spec in (spec for crate in self.crates for spec in sources.specs(crate) if spec.path in found):
+            print(f"{sum(map(len, found[spec.path].values())):5d}  {spec.path}  {spec.comment}")
+            if is_long:
+                print("      ", ", ".join(found[spec.path]))
+        print("{} lines of definitions in {} files".format(*size(found)))
+
+
+def size(found):
+    """The number of lines, and of files."""
+    return sum(len(body) for names in found.values() for body in names.values()), len(found)
+
+
+def beside(found, others):
+    """What is found, without the definitions of others."""
+    rest = {path: {n: b for n, b in names.items() if n not in others.get(path, {})} for path, names in found.items()}
+    return {path: names for path, names in rest.items() if names}
+
+
+def together(several):
+    """All definitions of several findings."""
     found = {}
-    for line in lines:
-        use = USE.match(line.strip().removeprefix("ghost "))
-        if not use or not use[2] or ".specs." not in use[1] or ".declared" in use[1]:
-            continue
-        crate, _, module = use[1].partition(".specs.")
-        path = pathlib.Path(f"crates/{crate}/specs/{module.replace('.', '/')}.antt")
-        for word in use[2].split(","):
-            name, _, other = word.strip().partition(" as ")
-            found[other or name] = (path, name)
+    for each in several:
+        for path, names in each.items():
+            found.setdefault(path, {}).update(names)
     return found
 
 
-def definitions(path):
-    """Each definition of a file: its lines, and what its words are imported as."""
-    lines, blocks, block = path.read_text().split("\n"), {}, None
-    known = imports(lines)
-    for line in lines:
-        if not line or line.startswith(("--", "use ", "infix")):
-            block = None if not line or line.startswith("--") else block
-            continue
-        if not line.startswith(" ") and (head := HEAD.match(line)) and (" : " in line or head[1] not in blocks):
-            block = blocks.setdefault(head[1], [])
-        if block is not None:
-            block.append(line)
-    return {name: (body, known) for name, body in blocks.items()}
+def table(doors, public, laws):
+    """The table of doors, in Markdown."""
+    rows = [(name if " " in name else f"`{name}`", found) for name, found in doors.items()]
+    union = together(doors.values())
+    rest = beside(public, together([union, laws]))
+    rows += [("all doors", union), ("laws alone, beside the doors", beside(laws, union))]
+    rows += [("other public functions alone, beside both", rest)]
+    lines = [f"| {name} | {lines:,} | {files} |" for name, found in rows for lines, files in [size(found)]]
+    return "\n".join(["| door | lines | files |", "|---|---|---|", *lines]) + "\n"
 
 
-def clauses(path):
-    """The words of the clauses of public functions, and of what public types are seen as, print and give."""
-    text, public, depth = path.read_text(), False, 0
-    types = set(re.findall(r"^pub (?:struct|enum|trait) (\w+)", text, re.M))
-    for line in text.split("\n"):
-        item = line.strip()
-        if depth == 0 and re.match(r"(pub(\(crate\))? )?(const )?fn |impl\b|(pub )?trait ", item):
-            public = item.startswith(("pub fn", "pub const fn")) or not re.match(r"(pub(\(crate\))? )?(const )?fn ", item)
-            if item.startswith("impl"):
-                public = re.split(r"[<{ ]", item.partition(" for ")[2] or item.split(" ", 1)[1])[0] in types
-        clause = re.match(r"(requires|ensures)\b|ghost (Value|output|from_gives) =", item)
-        if depth or (public and clause):
-            depth += item.count("{") - item.count("}")
-            yield from WORD.findall(item)
+def faults(library, public):
+    """What is wrong with the sources."""
+    for item in (item for items in library.items.values() for item in items):
+        if item.path.name == "laws.rt" and item.public and not item.owner and not library.is_public(item):
+            yield f"{item.path}:{item.line}: {item.name} is a law that the crate doesn't export"
+    for crate in library.crates:
+        for spec in sources.specs(crate):
+            if spec.is_inside and spec.path in public:
+                names, by = ", ".join(sorted(public[spec.path])), library.reached_by(spec.path)
+                yield f"{spec.path} is inside the crate, and public contracts reach {names}: {by}"
+            elif not spec.is_inside and spec.path not in public:
+                yield f"{spec.path}: no public contract reaches it, and it isn't called `Inside the crate`"
+
+
+def block_fault(text, write):
+    """What is wrong with the table of the page, which is renewed if that is asked for."""
+    page = PAGE.read_text() if PAGE.is_file() else ""
+    before, begin, rest = page.partition(BEGIN)
+    quoted, end, after = rest.partition(END)
+    if not begin or not end:
+        return [f"{PAGE}: no block between `{BEGIN.strip()}` and `{END}`"]
+    if write:
+        PAGE.write_text(before + BEGIN + text + END + after)
+    return [] if write or quoted == text else [f"{PAGE}: the table isn't what claims.py prints (--write renews it)"]
 
 
 def main():
-    order = [line.split(":")[0].split()[0] for line in open("crates.txt") if line.strip() and line[0] != "#"]
-    parsed, reached, waiting = {}, {}, []
-    for crate in order:
-        for path in sorted(pathlib.Path(f"crates/{crate}/src").glob("*.rt")):
-            if "test" not in path.name:
-                known = imports(path.read_text().split("\n"))
-                waiting += [(path, *known[word]) for word in clauses(path) if word in known]
-    wrong = set()
-    while waiting:
-        by, path, name = waiting.pop()
-        if (path, name) in reached or not path.is_file():
-            continue
-        words = parsed.setdefault(path, definitions(path))
-        body, known = words.get(name, ([], {}))
-        reached[path, name] = body
-        if path.read_text().startswith("-- Inside the crate"):
-            wrong.add(f"{by} reaches {name} of {path}")
-        for word in {w for line in body for w in WORD.findall(line)}:
-            waiting += [(path, *known[word])] if word in known else [(path, path, word)] if word in words else []
-    total = 0
-    for crate in order:
-        files = {}
-        for (path, name), body in reached.items():
-            if path.parts[1] == crate:
-                files.setdefault(path, []).append((name, len(body)))
-        for path, words in sorted(files.items(), key=lambda it: str(it[0])):
-            first, lines = path.read_text().split("\n")[0], sum(n for _, n in words)
-            total += lines
-            print(f"{lines:5d}  {path}  {first.removeprefix('-- ')[:100]}")
-            if "-v" in sys.argv:
-                print("       ", ", ".join(sorted(name for name, n in words if n)))
-    for path in sorted(pathlib.Path("crates").glob("*/specs/*.antt")):
-        inside = path.read_text().startswith("-- Inside the crate")
-        if path.name != "Lib.antt" and not inside and path not in {path for path, _ in reached}:
-            wrong.add(f"no public contract reaches {path}")
-    print(f"{total} lines of definitions in {len({path for path, _ in reached})} files are what the public contracts say")
-    print("\n".join(sorted(wrong)))
+    parser = argparse.ArgumentParser(description=__doc__.split("\n")[0])
+    parser.add_argument("--door", choices=DOORS)
+    parser.add_argument("-v", action="store_true", help="name the definitions too")
+    parser.add_argument("--write", action="store_true", help=f"renew the table in {PAGE}")
+    words = parser.parse_args()
+    library, doors, wrong = Library(), {}, []
+    for name, entries in DOORS.items():
+        items, missing = library.door(entries)
+        wrong += [f"the door {name}: {entry} isn't exported" for entry in missing]
+        if items:
+            doors[name] = library.definitions(items)
+    if words.door:
+        library.show(words.door, doors.get(words.door, {}), words.v)
+        return 0
+    every = [item for items in library.items.values() for item in items if library.is_public(item)]
+    laws = library.definitions([item for item in every if item.kind == "function" and item.is_law])
+    public = library.definitions(every)
+    text = table(doors, public, laws)
+    print(text, end="")
+    wrong += block_fault(text, words.write) + list(faults(library, public))
+    print("\n".join(wrong))
     return 1 if wrong else 0
 
 
-sys.exit(main())
+if __name__ == "__main__":
+    signal.signal(signal.SIGPIPE, signal.SIG_DFL)
+    sys.exit(main())

@@ -175,7 +175,8 @@ def flat(value):
 def main():
     root = pathlib.Path(__file__).resolve().parent.parent
     page, sources = (sys.argv[1:] + [root / "docs/TABLES.md", root / "crates/vp_tables/src"][len(sys.argv) - 1 :])[:2]
-    want, have = wanted(pathlib.Path(page).read_text()), given(sources)
+    text = re.sub(r"\n  (?=\S)", " ", pathlib.Path(page).read_text())  # a line indented by two spaces goes on
+    want, have = wanted(text), given(sources)
     wrong = sorted(set(want) ^ set(have))
     for name in sorted(set(want) & set(have)):
         if want[name] == have[name]:
