@@ -274,7 +274,7 @@ fn still_frame_keeps_last(rt: HostRuntime) -> Result<(), Fail> {
     Ok(())
 }
 
-/// The first partition of one row of macroblocks less has 522,772 bytes, and this one 526,705, by a script apart
+/// The first partition of one row of macroblocks less has 522,769 bytes, and this one 526,703, by a script apart
 /// from this
 /// program; its size has 19 bits.
 #[test]

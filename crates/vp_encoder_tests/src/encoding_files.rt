@@ -283,3 +283,57 @@ fn too_many_pictures(rt: HostRuntime) -> Result<(), Fail> {
     );
     Ok(())
 }
+
+/// Rows of points of 255 on 64, of which a large quantiser loses much.
+const POINTS: [[u8; 40]; 4] = [
+    [
+        64, 64, 64, 64, 64, 64, 64, 64, 64, 64, 64, 64, 64, 64, 64, 64, 64, 64, 64, 64, 64, 64, 64,
+        64, 64, 64, 64, 64, 64, 64, 64, 255, 64, 64, 64, 64, 64, 64, 255, 64,
+    ],
+    [
+        255, 64, 64, 64, 64, 64, 64, 64, 64, 64, 64, 64, 64, 64, 64, 64, 255, 64, 64, 64, 64, 64,
+        64, 64, 64, 64, 64, 64, 64, 64, 64, 64, 64, 64, 64, 64, 64, 64, 64, 64,
+    ],
+    [
+        64, 64, 64, 64, 255, 64, 64, 64, 64, 64, 64, 64, 64, 64, 64, 64, 64, 64, 64, 64, 64, 64,
+        64, 64, 64, 64, 64, 64, 64, 64, 64, 64, 64, 255, 64, 64, 64, 64, 64, 64,
+    ],
+    [
+        64, 64, 64, 64, 64, 64, 64, 64, 64, 64, 64, 255, 64, 64, 64, 255, 64, 64, 64, 64, 255, 64,
+        64, 64, 64, 64, 64, 255, 64, 64, 64, 64, 64, 64, 64, 64, 64, 64, 64, 64,
+    ],
+];
+
+/// Adds a row of points `count` times.
+fn add_row(bytes: &mut Vec<u8>, row: &[u8; 40], count: u32) -> Result<(), AllocError> {
+    for _ in 0..count {
+        bytes.extend_from_slice(row)?;
+    }
+    Ok(())
+}
+
+/// Adds 1,264 rows of points, each repeated as often as `count` says.
+fn add_rows(bytes: &mut Vec<u8>, count: u32) -> Result<(), AllocError> {
+    for row in 0..1264usize {
+        add_row(bytes, &POINTS[row % 4], count)?;
+    }
+    Ok(())
+}
+
+/// The source of one picture of 1,200 by 1,264 pixels: Y, then U and V.
+fn points(alloc: Global) -> Result<Vec<u8>, AllocError> {
+    let mut bytes = b"YUV4MPEG2 W1200 H1264 F1:1\nFRAME\n".to_vec(alloc)?;
+    add_rows(&mut bytes, 30)?;
+    add_rows(&mut bytes, 15)?;
+    Ok(bytes)
+}
+
+/// Both numbers are those of an encoder that was written apart from this one.
+#[test]
+fn an_error_of_over_32_bits(rt: HostRuntime) -> Result<(), Fail> {
+    let bytes = points(rt.alloc())?;
+    let (end, written) = ends(rt.alloc(), &bytes, 127, Limits::usual());
+    equal(&rt, &end, &Ok((1, 4_404_395_212)));
+    equal(&rt, &written, &267_593);
+    Ok(())
+}

@@ -1,21 +1,22 @@
-//! Command lines: `vp8 WORD.. [< NAME] [> NAME] [2> NAME]` runs the program over bytes that have a name, and says
-//! its status,
-//! how many bytes it leaves unread, and what it writes and tells where these aren't given a name. `plan WORD..`
-//! says what
-//! words of `encode` and `serve` ask for, `read PATH` what a file holds, and `show TEXT` what bytes are.
+//! Command lines: `vp8 WORD.. [< NAME] [> NAME] [2> NAME]` runs the program over bytes that have a name. It prints the
+//! status, how many bytes are left unread, and the output and the errors, if these aren't given a name. `limited WORD..
+//! < NAME` encodes a source as words of `encode` ask, under the limits that `limits PIXELS BYTES PACKETS CACHE` sets.
+//! `plan WORD..` prints what words of `encode` and `serve` ask for, `read PATH` what a file holds, `show TEXT` what
+//! bytes are, and `sum TEXT` their MD5.
 
-use crate::text::{Names, malformed};
+use crate::text::{Names, limits, malformed};
 use crate::transcript::{Found, Script};
 use std::alloc::Global;
 use std::{fs, io};
 use vp_app::{ServeArgs, Task, command, read_args};
-use vp_base::Counted;
-use vp_encode::Settings;
+use vp_base::{Counted, Limits};
+use vp_encode::{Settings, encode_all};
 
-/// The program.
+/// The program, and the limits of what is encoded beside it.
 #[derive(Drop)]
 pub(crate) struct Commands {
-    pub(crate) alloc: Global,
+    alloc: Global,
+    limits: Limits,
 }
 
 /// A line up to a sign that stands behind it with a name, and that name.
@@ -73,6 +74,22 @@ fn input_of<'a>(names: &'a Names, name: Option<&str>) -> io::Result<&'a [u8]> {
 }
 
 impl Commands {
+    pub(crate) fn new(alloc: Global) -> Commands {
+        Commands {
+            alloc,
+            limits: Limits::usual(),
+        }
+    }
+
+    /// Encodes a source by its line, under the case's limits.
+    fn encode(&self, line: &str, names: &Names, found: &mut Found) -> io::Result<()> {
+        let (line, name) = line.split_once(" < ").ok_or(malformed())?;
+        let words: Vec<&str> = line.split(' ').collect(self.alloc)?;
+        let settings = asked(self.alloc, &words).ok_or(malformed())?;
+        let source = names.get(name)?;
+        encode_within(self.alloc, self.limits, settings, source, found)
+    }
+
     /// Runs the program by its line.
     fn run(
         &self,
@@ -139,6 +156,34 @@ fn tell_plan(alloc: Global, line: &str, found: &mut Found) -> io::Result<()> {
     }
 }
 
+/// The settings that these words ask for.
+fn asked(alloc: Global, words: &[&str]) -> Option<Settings> {
+    match read_args(alloc, words) {
+        Ok(Task::Encode(encoding)) => Some(encoding.settings),
+        _ => None,
+    }
+}
+
+/// Encodes a source under limits, and says the report or the refusal, and how many bytes are written.
+fn encode_within(
+    alloc: Global,
+    limits: Limits,
+    settings: Settings,
+    source: &[u8],
+    found: &mut Found,
+) -> io::Result<()> {
+    let mut reader = Counted::new(source);
+    let mut writer = Counted::new(Vec::new(alloc));
+    match encode_all(alloc, &mut reader, &mut writer, settings, limits) {
+        Ok(report) => {
+            let (frames, error) = (report.frames, report.error);
+            found.line(format!(in alloc; "frames {frames} error {error}")?)?;
+        }
+        Err(fault) => found.line(format!(in alloc; "refused {fault}")?)?,
+    }
+    Ok(found.count_if_any("bytes", writer.into_inner().len() as u64)?)
+}
+
 /// Says what a file holds.
 fn read(rt: &HostRuntime, path: &str, found: &mut Found) -> io::Result<()> {
     match fs::read(rt, path) {
@@ -148,7 +193,9 @@ fn read(rt: &HostRuntime, path: &str, found: &mut Found) -> io::Result<()> {
 }
 
 impl Script for Commands {
-    fn begin(&mut self) {}
+    fn begin(&mut self) {
+        self.limits = Limits::usual();
+    }
 
     fn command(
         &mut self,
@@ -162,6 +209,12 @@ impl Script for Commands {
             Some(("plan", words)) => tell_plan(self.alloc, words, found),
             Some(("read", path)) => read(rt, path, found),
             Some(("show", text)) => Ok(found.bytes("bytes", &names.read(text)?)?),
+            Some(("sum", text)) => Ok(found.sum(&names.read(text)?)?),
+            Some(("limited", words)) => self.encode(words, names, found),
+            Some(("limits", numbers)) => {
+                self.limits = limits(numbers)?;
+                Ok(())
+            }
             _ => Err(malformed()),
         }
     }

@@ -1,12 +1,9 @@
-//! Connections to a hub: `hub NAME..` makes one of streams of these names, and `feed NAME TEXT`, `end NAME`, `open
-//! NUMBER`,
-//! `send NUMBER TEXT` and `shut NUMBER` are the events that come to it; `open FROM..TO` are several. What is
-//! replied is said,
-//! whether the connection is closed behind it, and how many packets were decoded. `ask TEXT` is sent by a
-//! connection that comes
-//! for it and goes behind it, and `cut SIZE TEXT` is the same in pieces of so many bytes. `limits PIXELS BYTES
-//! PACKETS CACHE`
-//! are those of the next hub. `vp8 serve WORD.. < NAME` makes a hub and feeds it as the program does.
+//! Connections to a hub: `hub NAME..` makes one of streams of these names. `feed NAME TEXT`, `end NAME`, `open NUMBER`,
+//! `send NUMBER TEXT` and `shut NUMBER` are its events; `open FROM..TO` hands it several in one run. The reply is
+//! printed, whether the connection is closed after it, and how many packets were decoded. `ask TEXT` opens a
+//! connection, sends the text and shuts the connection; `cut SIZE TEXT` sends it in pieces of `SIZE` bytes. `limits
+//! PIXELS BYTES PACKETS CACHE` are those of the next hub. `vp8 serve WORD.. < NAME` makes a hub and feeds it as the
+//! program does.
 
 use crate::text::{Names, limits, malformed, number};
 use crate::transcript::{Found, Script};
@@ -14,7 +11,7 @@ use std::alloc::Global;
 use std::io;
 use vp_app::{ServeArgs, Task, feed_all, new_hub, read_args};
 use vp_base::{ByteList, Counted, Limits};
-use vp_hub::{Event, Hub, NewFault, Reply};
+use vp_hub::{Event, Hub, HubFault, NewFault, Reply};
 
 /// The number of the connection that comes and goes.
 const VISITOR: u32 = 99;
@@ -57,11 +54,29 @@ fn tell_reply(reply: &Reply, found: &mut Found) -> io::Result<()> {
 
 /// Tells a hub of an event, and says what comes of it.
 fn step(alloc: Global, hub: &mut Hub, event: &Event, found: &mut Found) -> io::Result<()> {
-    match &hub.step(event) {
-        Ok(reply) => tell_reply(reply, found)?,
-        Err(fault) => found.line(format!(in alloc; "refused {fault}")?)?,
-    }
+    tell_answer(alloc, &hub.step(event), found)?;
     Ok(found.count_if_any("work", hub.work())?)
+}
+
+/// Says the answer to an event.
+fn tell_answer(
+    alloc: Global,
+    answer: &Result<Reply, HubFault>,
+    found: &mut Found,
+) -> io::Result<()> {
+    match answer {
+        Ok(reply) => tell_reply(reply, found),
+        Err(fault) => Ok(found.line(format!(in alloc; "refused {fault}")?)?),
+    }
+}
+
+/// Hands a hub events in one run, and says the answer to each.
+fn run(alloc: Global, hub: &mut Hub, events: &[Event], found: &mut Found) -> io::Result<()> {
+    let answers = hub.run(events)?;
+    for answer in &answers {
+        tell_answer(alloc, answer, found)?;
+    }
+    Ok(())
 }
 
 /// A hub of the service's streams, fed from their files and this input.
@@ -138,16 +153,16 @@ impl Connections {
         self.hub.as_mut().ok_or(malformed())
     }
 
-    /// Tells the hub of connections, by `FROM..TO`.
+    /// Opens connections in one run, by `FROM..TO`.
     fn open_all(&mut self, range: &str, found: &mut Found) -> io::Result<()> {
         let alloc = self.alloc;
         let (from, to) = range.split_once("..").ok_or(malformed())?;
         let numbers = number(from)?..number(to)?;
-        let hub = self.hub()?;
+        let mut events = Vec::new(alloc);
         for number in numbers {
-            step(alloc, hub, &Event::Open(number), found)?;
+            events.push(Event::Open(number))?;
         }
-        Ok(())
+        run(alloc, self.hub()?, &events, found)
     }
 
     /// Sends a text in one piece.

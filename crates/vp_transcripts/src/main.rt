@@ -1,8 +1,6 @@
-//! What outside streams decode to, what the program makes of command lines, and what a hub replies to connections:
-//! its words
-//! name files, of streams (`ivf`) and of transcripts (`packets`, `commands`, `connections`). It prints the sum of
-//! each stream's
-//! pictures, and the name of each case of a transcript and each line where something else is found.
+//! What outside streams decode to, what the program makes of command lines, and what a hub replies to connections. Its
+//! words name files, of streams (`ivf`) and of transcripts (`packets`, `commands`, `connections`). It prints the sum of
+//! each stream's pictures, the name of each case of a transcript, and each line where something else is found.
 #![tactic(auto)]
 
 mod commands;
@@ -28,7 +26,7 @@ fn tell(rt: &HostRuntime, file: &str) -> io::Result<()> {
     let text = fs::read_to_string(rt, file)?;
     match kind {
         "packets" => transcript::tell(rt, file, text.as_str(), &mut Packets::new(alloc)),
-        "commands" => transcript::tell(rt, file, text.as_str(), &mut Commands { alloc }),
+        "commands" => transcript::tell(rt, file, text.as_str(), &mut Commands::new(alloc)),
         "connections" => transcript::tell(rt, file, text.as_str(), &mut Connections::new(alloc)),
         _ => Err(malformed()),
     }

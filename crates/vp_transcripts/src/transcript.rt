@@ -2,9 +2,17 @@
 //! `let NAME TEXT` gives bytes a name, `write PATH TEXT` writes a file, `case NAME` begins a case, `#` a comment.
 
 use crate::text::{Names, malformed, text_of};
+use md5::{Digest, Md5};
 use std::alloc::{AllocError, Global};
 use std::collections::VecDeque;
 use std::{fs, io};
+
+/// The MD5 of bytes.
+fn md5_of(bytes: &[u8]) -> [u8; 16] {
+    let mut digest = Md5::new();
+    digest.update(bytes);
+    digest.finalize()
+}
 
 /// What came of commands, and wasn't met yet.
 #[derive(Drop)]
@@ -39,6 +47,15 @@ impl Found {
         self.bytes(word, bytes)
     }
 
+    /// Says the MD5 of bytes.
+    pub(crate) fn sum(&mut self, bytes: &[u8]) -> Result<(), AllocError> {
+        let mut text = String::from_str(self.alloc, "sum ")?;
+        for byte in &md5_of(bytes) {
+            write!(text, "{byte:02x}")?;
+        }
+        self.line(text)
+    }
+
     /// Says a number other than 0 behind a word that tells what it counts.
     pub(crate) fn count_if_any(&mut self, word: &str, count: u64) -> Result<(), AllocError> {
         if count == 0 {
@@ -71,9 +88,8 @@ struct Transcript<'a> {
     found: Found,
 }
 
-/// Carries the commands of a transcript out, and prints its name, that of each case, and each line where something
-/// else came of a
-/// command than stands there.
+/// Carries the commands of a transcript out. Prints its name, that of each case, each line where a command gives
+/// something else than is wanted, and the place of a command that can't be carried out, which ends the work.
 pub(crate) fn tell<S: Script>(
     rt: &HostRuntime,
     file: &str,
@@ -96,8 +112,24 @@ pub(crate) fn tell<S: Script>(
 }
 
 impl Transcript<'_> {
-    /// Meets a line, or carries it out.
+    /// Meets a line, or carries it out, and prints its place if that fails.
     fn line<S: Script>(
+        &mut self,
+        rt: &HostRuntime,
+        number: usize,
+        line: &str,
+        script: &mut S,
+    ) -> io::Result<()> {
+        let file = self.file;
+        let done = self.carry_out(rt, number, line, script);
+        if let Err(error) = &done {
+            println!(rt; "{file}:{number}: {error}")?;
+        }
+        done
+    }
+
+    /// Meets a line, or carries it out.
+    fn carry_out<S: Script>(
         &mut self,
         rt: &HostRuntime,
         number: usize,
