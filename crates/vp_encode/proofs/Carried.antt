@@ -310,4 +310,6 @@ module _ (e : EncoderState) (source : Image) (packet : List ℕ) (g : Grid Choic
         key = says.key_is;
         header = says.header;
         choices = choices_read one.0 says;
+        first_closed = says.first_closed;
+        closed = says.closed;
       }

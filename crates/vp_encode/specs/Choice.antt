@@ -1,6 +1,6 @@
 -- A packet carries the encoder's choice for a source, as a decoder reads it, and the squared distance of two pictures.
 -- Pinned by the test `error_over_shown_pixels`.
-use Rattle.std.specs.Prelude.{◌≡◌, ◌<◌, ◌≤◌, ◌*◌, ℕ, true, List, Ok, map}
+use Rattle.std.specs.Prelude.{◌≡◌, ◌<◌, ◌≤◌, ◌*◌, ℕ, true, List, [], Ok, length, map, slice_index_or}
 use Rattle.vp_bool.specs.Bools.{State, initial_state}
 use Rattle.vp_base.specs.declared.limits.Limits.{Limits}
 use Rattle.vp_base.specs.declared.place.Place.{Place}
@@ -13,8 +13,9 @@ use Rattle.vp_choose.specs.declared.frame.Choice.{Choice}
 use Rattle.vp_choose.specs.Choice.{IsChoice}
 use Rattle.vp_decode.specs.MacroblockInfo.{modes_in, motion_in}
 use Rattle.vp_decode.specs.Frame.{FrameInfo, frame_of, tokens_of}
-use Rattle.vp_decode.specs.Step.{ParsedPacket, parsed, frame_info_of}
+use Rattle.vp_decode.specs.Step.{ParsedPacket, first_part, parsed, frame_info_of}
 use Rattle.vp_encode.specs.Encoder.{EncoderState, kept_for, tag_key, header_of, frame_for}
+use Rattle.vp_encode.specs.PacketContents.{HasFinalZero}
 
 -- a picture of so many columns and rows before the macroblock at p is rebuilt: the rows above are, and what stands
 -- left of it
@@ -46,6 +47,9 @@ pub record IsChosen (e : EncoderState) (source : Image) (packet : List ℕ) : Ty
   pub key : opening.tag.key ≡ tag_key e.dim (kept_for e)
   pub header : opening.header ≡ header_of e
   pub choices : AreChoices e source (frame_info_of opening) (map initial_state opening.partitions)
+  -- Each partition ends with a zero byte.
+  pub first_closed : HasFinalZero (first_part opening.tag packet)
+  pub closed : (i : ℕ) → i < length opening.partitions → HasFinalZero (slice_index_or opening.partitions i [])
 
 -- the squared distance of two pictures of one size: over the pixels that are shown, of Y, U and V
 abbrev pub squared_distance : Image → Image → ℕ

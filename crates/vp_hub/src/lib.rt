@@ -18,7 +18,7 @@ pub use event::{Event, HubFault, Reply};
 pub use hub::Hub;
 pub use laws::{
     answers_alike, bytes_are_accepted_pieces, cut_into_heads, histories_are_cut,
-    is_too_many_by_history, runs_are_isolated, stands_to_shut,
+    is_too_many_by_history, runs_are_isolated, runs_are_joined, stands_to_shut,
 };
 pub use names::NewFault;
 pub use session::{ServeFault, serve_one};
