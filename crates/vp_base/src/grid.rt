@@ -1,4 +1,4 @@
-//! One entry for each macroblock of a frame.
+//! Grids: one entry for each macroblock of a frame.
 
 ghost use Rattle.std.specs.Prelude.{◌≡◌, ◌≢◌, ◌≤◌, ◌<◌, ◌*◌, length, Some, IfOk, []};
 ghost use Rattle.vp_base.specs.Grid.{Has, all, entry, with_entry};
@@ -8,7 +8,7 @@ use crate::place::Place;
 use std::alloc::{AllocError, Global};
 use std::marker::Model;
 
-/// Entries in columns and rows.
+/// Entries in columns and rows, stored in raster order.
 #[derive(Drop)]
 pub struct Grid<T> {
     columns: usize,
@@ -28,7 +28,7 @@ impl<T> Model for Grid<T> {
 }
 
 impl<T: Copy> Grid<T> {
-    /// A grid with `value` at each place.
+    /// Allocates a grid with `value` at each place.
     pub fn new(alloc: Global, columns: usize, rows: usize, value: T) -> Result<Grid<T>, AllocError>
         requires columns { columns ≤ 1024 }
         requires rows { rows ≤ 1024 }
@@ -37,7 +37,7 @@ impl<T: Copy> Grid<T> {
         Grid::empty(alloc).refill(columns, rows, value)
     }
 
-    /// A grid with `value` at each place, in the memory of this one: more is asked for only where that is too little.
+    /// Fills the grid with `value` at a new size. Allocates only if its buffer is too small.
     #[tactic(auto, unfolding(crate::specs::Grid::repeated))]
     pub fn refill(self, columns: usize, rows: usize, value: T) -> Result<Grid<T>, AllocError>
         requires columns { columns ≤ 1024 }
@@ -54,7 +54,7 @@ impl<T: Copy> Grid<T> {
         })
     }
 
-    /// An equal grid.
+    /// Copies the grid into new memory.
     pub fn copy(&self, alloc: Global) -> Result<Grid<T>, AllocError>
         ensures { IfOk result (λ g. g ≡ self.now) }
     {
@@ -66,7 +66,7 @@ impl<T: Copy> Grid<T> {
         })
     }
 
-    /// Changes the entry at a place, and no other.
+    /// Replaces the entry at one place.
     #[tactic(auto, unfolding(crate::specs::Grid::changed))]
     pub fn set(&mut self, place: Place, value: T)
         requires { Has self.old place }
@@ -80,7 +80,7 @@ impl<T: Copy> Grid<T> {
 }
 
 impl<T> Grid<T> {
-    /// A grid of no columns and no rows, for which no memory is asked.
+    /// A grid of 0 columns and 0 rows. Allocates nothing.
     pub fn empty(alloc: Global) -> Grid<T>
         ensures { result ≡ record { columns = 0; rows = 0; entries = [] } }
     {
@@ -91,14 +91,14 @@ impl<T> Grid<T> {
         }
     }
 
-    /// The entries alone, row after row.
+    /// Unwraps the entries, in raster order.
     pub fn into_entries(self) -> Vec<T>
         ensures { result.items ≡ self.entries }
     {
         self.entries
     }
 
-    /// How many columns it has.
+    /// The number of columns, at most 1,024.
     pub fn columns(&self) -> usize
         ensures value { result ≡ self.now.columns }
         ensures bound { result ≤ 1024 }
@@ -106,7 +106,7 @@ impl<T> Grid<T> {
         self.columns
     }
 
-    /// How many rows it has.
+    /// The number of rows, at most 1,024.
     pub fn rows(&self) -> usize
         ensures value { result ≡ self.now.rows }
         ensures bound { result ≤ 1024 }
@@ -114,7 +114,7 @@ impl<T> Grid<T> {
         self.rows
     }
 
-    /// These entries, row after row.
+    /// Builds a grid from its entries in raster order.
     pub fn of(columns: usize, rows: usize, entries: Vec<T>) -> Grid<T>
         requires columns { columns ≤ 1024 }
         requires rows { rows ≤ 1024 }
@@ -128,7 +128,7 @@ impl<T> Grid<T> {
         }
     }
 
-    /// The entries, row after row.
+    /// Borrows the entries, in raster order.
     pub fn as_slice(&self) -> &[T]
         ensures value { result.now ≡ self.now.entries }
         ensures whole { length result.now ≡ self.now.rows * self.now.columns }
@@ -136,7 +136,7 @@ impl<T> Grid<T> {
         &self.entries
     }
 
-    /// The entry at a place.
+    /// Borrows the entry at a place.
     #[tactic(auto, unfolding(crate::specs::Grid::entry))]
     pub fn get(&self, place: Place) -> &T
         requires { Has self.now place }

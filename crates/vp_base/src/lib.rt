@@ -1,4 +1,4 @@
-//! Sizes, places, grids, limits, planes and pictures, byte lists, counted readers and writers.
+//! Base types of all crates: sizes, places, grids, limits, planes, pictures, byte lists, counted readers and writers.
 #![tactic(auto)]
 
 mod byte_list;

@@ -1,4 +1,4 @@
-//! The blocks round a block.
+//! The neighbours above and to the left of a 4x4 block.
 
 ghost use Rattle.std.specs.Prelude.{◌≡◌, ◌<◌};
 ghost use Rattle.vp_base.specs.Place.{above, left};
@@ -6,20 +6,20 @@ ghost use Rattle.vp_base.specs.Near.{block_place, seen_from, IsBefore};
 
 use crate::place::Place;
 
-/// Where a block of 4 by 4 pixels lies, seen from a macroblock. A macroblock's blocks are numbered row after row,
-/// from 0 to 15.
+/// The location of a 4x4 block relative to a macroblock. The blocks of a macroblock are numbered 0 to 15, in raster
+/// order.
 #[derive(Clone, Copy, Debug, PartialEq, Eq)]
 pub enum Near {
-    /// In the macroblock itself.
+    /// In the macroblock itself, by block number.
     Here(usize),
-    /// In the macroblock at another place.
+    /// In the macroblock at another place, by block number.
     There(Place, usize),
     /// Outside the frame.
     Outside,
 }
 
 impl Place {
-    /// Where the block above block `k` of the macroblock at this place lies.
+    /// The location of the block above block `k` of this macroblock.
     #[tactic(auto, using(crate::proofs::NearLemmas::above_here, crate::proofs::NearLemmas::above_there, crate::proofs::NearLemmas::above_outside))]
     pub fn above_block(self, k: usize) -> Near
         requires { k < 16 }
@@ -35,7 +35,7 @@ impl Place {
         }
     }
 
-    /// Where the block to the left of block `k` of the macroblock at this place lies.
+    /// The location of the block to the left of block `k` of this macroblock.
     #[tactic(auto, using(crate::proofs::NearLemmas::left_here, crate::proofs::NearLemmas::left_there, crate::proofs::NearLemmas::left_outside))]
     pub fn left_block(self, k: usize) -> Near
         requires { k < 16 }

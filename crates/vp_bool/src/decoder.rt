@@ -1,3 +1,5 @@
+//! The boolean entropy decoder (RFC 6386, chapter 7.3).
+
 ghost use Rattle.std.specs.Prelude.{◌≡◌, ℕ, ◌+◌, ◌-◌, ◌*◌, ◌/◌, ◌^◌, ◌<◌, ◌≤◌, length, List, [], ◌∷◌};
 ghost use Rattle.vp_bool.specs.Bools.{read, literal, initial_state, normal, number};
 ghost use Rattle.vp_bool.specs.Laws.{HasReadBools, ReadsOn, ReadsNumberOn};
@@ -6,23 +8,22 @@ ghost use Rattle.vp_bool.specs.Window.{IsWindow};
 
 use std::marker::Model;
 
-/// The bits taken from a partition, less what the bools took away, and the bytes behind them.
+/// A 64-bit window of the partition: the current value, and the bytes that aren't loaded yet.
 ///
-/// The value stands at the top of its word, so that it is held against a split at a fixed place: eight
-/// bits and `count` more, and zeros below them.
+/// The value is left-aligned in its word: `8 + count` bits, then zeros. So the split is compared at a fixed position.
 #[derive(Clone, Copy)]
 struct Window<'a> {
     value: u64,
     range: u32,
-    /// How many of the value's bits stand behind the point.
+    /// The number of the value's bits after the binary point.
     count: u32,
     rest: &'a [u8],
 }
 
-/// Reads the bools of a partition (RFC 6386, chapter 7.3).
+/// Reads bools from a partition (RFC 6386, chapter 7.3).
 ///
-/// It never fails: behind its last byte a partition goes on with bytes of 0. A partition whose first
-/// byte is 255 is all ones, since its number is past every range.
+/// Reading never fails: a partition is followed by implicit bytes of 0. If its first byte is 255, every bool is true,
+/// because the value exceeds every range.
 #[derive(Drop)]
 pub struct BoolDecoder<'a> {
     window: Window<'a>,
@@ -41,7 +42,7 @@ impl<'a> Model for BoolDecoder<'a> {
 }
 
 impl<'a> BoolDecoder<'a> {
-    /// Begins at the first bool of a partition, which may be empty.
+    /// Starts at the first bool of a partition, which may be empty.
     pub fn new(partition: &'a [u8]) -> Self
         ensures value { result ≡ initial_state partition.now }
         ensures run { HasReadBools partition.now [] result }
@@ -63,7 +64,7 @@ impl<'a> BoolDecoder<'a> {
         }
     }
 
-    /// A second decoder at the same place. In a loop the compiler keeps a local one in registers.
+    /// Copies the decoder. In a loop the compiler keeps a local copy in registers.
     #[inline(always)]
     pub fn copy(&self) -> Self
         ensures { result ≡ self.now }
@@ -73,7 +74,7 @@ impl<'a> BoolDecoder<'a> {
         }
     }
 
-    /// Reads the next bool. It is false with `probability` chances in 256 (0 is as good as 1).
+    /// Reads the next bool. It is false with probability `probability / 256`; 0 is treated as 1.
     #[inline(always)]
     pub fn read(&mut self, probability: u8) -> bool
         ensures value { result ≡ (read probability self.old).0 }
@@ -93,7 +94,7 @@ impl<'a> BoolDecoder<'a> {
         }
     }
 
-    /// Reads the next bool, which is as likely false as true.
+    /// Reads the next bool with probability 128: both values are equally likely.
     #[inline(always)]
     pub fn read_even(&mut self) -> bool
         ensures value { result ≡ (read 128 self.old).0 }
@@ -105,7 +106,7 @@ impl<'a> BoolDecoder<'a> {
         let split = (window.range + 1) >> 1;
         let bound = u64::from(split) << 56;
         let bit = window.value >= bound;
-        // No processor foresees such a bool, so both outcomes are worked out and one is chosen.
+        // The branch is unpredictable, so both outcomes are computed and one is selected.
         let (value, range) = if bit {
             (window.value - bound, window.range - split)
         } else {
@@ -115,7 +116,7 @@ impl<'a> BoolDecoder<'a> {
         bit
     }
 
-    /// Reads an unsigned number of so many bits, the highest first, each as likely 0 as 1.
+    /// Reads an unsigned number of `bits` bits, most significant first, each with probability 128.
     pub fn literal(&mut self, bits: u32) -> u8
         requires { bits ≤ 8 }
         ensures value { result ≡ (literal bits self.old).0 }
@@ -131,7 +132,7 @@ impl<'a> BoolDecoder<'a> {
     }
 }
 
-/// How often a range doubles until it is 128 or more.
+/// By range: the number of doublings that bring it to 128 or more.
 const DOUBLINGS: [u8; 256] = [
     0, 7, 6, 6, 5, 5, 5, 5, 4, 4, 4, 4, 4, 4, 4, 4, 3, 3, 3, 3, 3, 3, 3, 3, 3, 3, 3, 3, 3, 3, 3, 3,
     2, 2, 2, 2, 2, 2, 2, 2, 2, 2, 2, 2, 2, 2, 2, 2, 2, 2, 2, 2, 2, 2, 2, 2, 2, 2, 2, 2, 2, 2, 2, 2,
@@ -143,7 +144,7 @@ const DOUBLINGS: [u8; 256] = [
     0, 0, 0, 0, 0, 0, 0, 0, 0, 0, 0, 0, 0, 0, 0, 0, 0, 0, 0, 0, 0, 0, 0, 0, 0, 0, 0, 0, 0, 0, 0, 0,
 ];
 
-/// The window with this value and range, doubled until the range is 128 or more.
+/// Renormalises: shifts value and range left until the range is 128 or more, and loads bytes as needed.
 #[inline(always)]
 fn settled<'a>(window: Window<'a>, value: u64, range: u32) -> Window<'a>
     requires few { window.count ≤ 56 }
@@ -171,7 +172,7 @@ fn settled<'a>(window: Window<'a>, value: u64, range: u32) -> Window<'a>
     }
 }
 
-/// The number that bytes spell.
+/// The big-endian number of at most 6 bytes.
 #[cold]
 #[inline(never)]
 fn number_of(bytes: &[u8]) -> u64

@@ -21,8 +21,8 @@ use Rattle.vp_head.specs.declared.fields.Header.{Header}
 use Rattle.vp_head.specs.declared.fields.Saved.{Saved}
 use Rattle.vp_head.specs.declared.rows.Refreshes.{Refreshes}
 
--- ---- segmentation (chapter 9.3); without an update the kept values stay; in an update a value whose flag isn't set
--- is 0
+-- ---- segmentation (chapter 9.3); without an update the saved values stay in force; in an update, a value whose flag
+-- isn't set is 0
 
 unfoldable pub segment_values : Reader SegmentValues
 segment_values = do
@@ -52,13 +52,14 @@ filter = do
   sharpness ← literal 3
   give (record { simple = simple; level = level; sharpness = sharpness })
 
+-- the updates of the filter level deltas
 abbrev pub all_deltas : LevelDeltas → Reader LevelDeltas
 all_deltas kept = do
   reference ← four_signed 6 kept.reference
   mode ← four_signed 6 kept.mode
   give (record { reference = reference; mode = mode })
 
--- whether they apply, and their values
+-- whether the filter level deltas apply, and their values
 unfoldable pub level_deltas : LevelDeltas → Reader (Bool × LevelDeltas)
 level_deltas kept = do
   enabled ← flag
@@ -78,19 +79,22 @@ quantiser_indices = do
   uv_ac ← optional_signed 4 (pos 0)
   give (record { y_ac = y_ac; y_dc = y_dc; y2_dc = y2_dc; y2_ac = y2_ac; uv_dc = uv_dc; uv_ac = uv_ac })
 
--- ---- what is refreshed (chapter 9.7, 9.8, 19.2); a key frame refreshes all references and sets no sign bias
+-- ---- reference updates (chapters 9.7, 9.8, 19.2); a key frame refreshes all references and sets no sign bias
 
+-- the reference that a code of two bits copies
 abbrev pub copy_of : ℕ → ReferenceCopy
 copy_of zero = Nothing
 copy_of (suc zero) = Last
 copy_of (suc (suc zero)) = Other
 copy_of (suc (suc (suc n))) = Unused
 
+-- the reference that is copied
 unfoldable pub copy : Reader ReferenceCopy
 copy = do
   number ← literal 2
   give (copy_of number)
 
+-- the updates of reference frames, sign biases and probabilities
 unfoldable pub refreshes : Bool → SignBiases → Reader Refreshes
 refreshes key kept = do
   refresh_golden ← when (not key) flag true
@@ -115,15 +119,17 @@ refreshes key kept = do
       }
       )
 
--- ---- skipping (chapter 9.10, 9.11)
+-- ---- skipping (chapters 9.10, 9.11)
 
+-- the probability that a macroblock is not skipped; None if skipping is not coded
 unfoldable pub skip : Reader (Option ℕ)
 skip = do
   coded ← flag
   when coded (literal 8 >>= λ p. give (Some p)) None
 
--- ---- inter frames' probabilities (chapter 9.10, 16.1, 17.2)
+-- ---- probabilities of inter frames (chapters 9.10, 16.1, 17.2)
 
+-- the probabilities of a macroblock's reference frame
 unfoldable pub reference_probabilities : Reader ReferenceProbabilities
 reference_probabilities = do
   intra ← literal 8
@@ -134,8 +140,9 @@ reference_probabilities = do
 abbrev pub no_references : ReferenceProbabilities
 no_references = record { intra = 0; last = 0; golden = 0 }
 
--- ---- all rows; for an inter frame, what only a key frame's header has is 0, and the other way round
+-- ---- the whole header; fields that its kind of frame doesn't code are 0
 
+-- the header of a key frame or inter frame, against the saved state
 unfoldable pub frame : Bool → Saved → Reader Header
 frame key kept = do
   color_space ← when key flag false
@@ -172,12 +179,12 @@ frame key kept = do
       }
       )
 
+-- the header, and the saved state after it
 unfoldable pub frame_and_kept : Bool → Saved → Reader (Header × Saved)
 frame_and_kept key kept = do
   h ← frame key kept
   give (h, kept_after kept h)
 
--- the header of a packet with this tag, and what is kept after it; a key frame starts from the defaults, whatever
--- was kept
+-- the header of a packet with this tag, and the saved state after it; a key frame starts from the defaults
 unfoldable pub header : Saved → Tag → Reader (Header × Saved)
 header saved tag = if is_some tag.key then frame_and_kept true defaults else frame_and_kept false saved

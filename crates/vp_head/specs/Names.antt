@@ -4,6 +4,7 @@ use Rattle.vp_head.specs.declared.fault.PacketFault.{PacketFault}
 use Rattle.vp_head.specs.declared.fault.PacketFault.TheVariants.{Truncated, Version, StartCode, Size, TooLarge}
 use Rattle.vp_head.specs.declared.fault.PacketFault.TheVariants.{NoReference, FirstPartition, PartitionTable, Partition}
 
+-- the name of a fault as ASCII codes
 abbrev pub packet_fault_name : PacketFault → List ℕ
 packet_fault_name Truncated = codes "Truncated"
 packet_fault_name Version = codes "Version"

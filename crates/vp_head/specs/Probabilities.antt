@@ -7,34 +7,42 @@ use Rattle.vp_head.specs.Rows.{flag, renewed, three, four}
 use Rattle.vp_tables.specs.Tables.{coefficient_updates}
 use Rattle.vp_tables.specs.declared.mode_probabilities.TheConstants.{VECTOR_UPDATES}
 
--- ---- coefficients: each behind a flag of the probability at its place in the table, by block type, band, context
--- and entry
+-- ---- coefficients: each has a flag, whose probability is in the table at the same block type, band, context and
+-- entry
 
+-- the update of probability i of a context
 abbrev pub entry_at : List ℕ → ℕ → ℕ → Reader ℕ
 entry_at table i = renewed (slice_index table i)
 
+-- the updates of the eleven probabilities of a context
 unfoldable pub context_rows : List ℕ → List ℕ → Reader (List ℕ)
 context_rows table = each 0 11 (entry_at table)
 
+-- the updates of context i of a band
 abbrev pub context_at : List (List ℕ) → ℕ → List ℕ → Reader (List ℕ)
 context_at table i = context_rows (slice_index_or table i [])
 
+-- the updates of the three contexts of a band
 unfoldable pub band_rows : List (List ℕ) → List (List ℕ) → Reader (List (List ℕ))
 band_rows table = each [] 3 (context_at table)
 
+-- the updates of band i of a block type
 abbrev pub band_at : List (List (List ℕ)) → ℕ → List (List ℕ) → Reader (List (List ℕ))
 band_at table i = band_rows (slice_index_or table i [])
 
+-- the updates of the eight bands of a block type
 unfoldable pub type_rows : List (List (List ℕ)) → List (List (List ℕ)) → Reader (List (List (List ℕ)))
 type_rows table = each [] 8 (band_at table)
 
+-- the updates of block type i
 abbrev pub type_at : List (List (List (List ℕ))) → ℕ → List (List (List ℕ)) → Reader (List (List (List ℕ)))
 type_at table i = type_rows (slice_index_or table i [])
 
+-- the updates of all token probabilities
 unfoldable pub token_probability_updates : List (List (List (List ℕ))) → Reader (List (List (List (List ℕ))))
 token_probability_updates = each [] 4 (type_at coefficient_updates)
 
--- ---- modes: a flag, and all of them where it is set
+-- ---- modes: one flag, and if it is set all probabilities of the mode
 
 unfoldable pub luma_mode_probabilities : List ℕ → Reader (List ℕ)
 luma_mode_probabilities old = do
@@ -46,27 +54,33 @@ chroma old = do
   set ← flag
   when set (three (literal 8)) old
 
--- ---- vectors: each behind a flag of the probability at its place; seven bits stand for twice their number, and 0
--- for 1
+-- ---- motion vectors: each has a flag, whose probability is in the table; the value is twice the seven coded bits, or
+-- 1 for 0
 
+-- a new motion vector probability
 abbrev pub seven_bits : Reader ℕ
 seven_bits = do
   x ← literal 7
   give (if x == 0 then 1 else 2 * x)
 
+-- the update of a motion vector probability, with a flag of probability p
 unfoldable pub vector_renewed : ℕ → ℕ → Reader ℕ
 vector_renewed p old = do
   set ← read p
   when set seven_bits old
 
+-- the update of probability i of a component
 abbrev pub vector_entry_at : List ℕ → ℕ → ℕ → Reader ℕ
 vector_entry_at table i = vector_renewed (slice_index table i)
 
+-- the updates of the nineteen probabilities of a component
 unfoldable pub component_rows : List ℕ → List ℕ → Reader (List ℕ)
 component_rows table = each 0 19 (vector_entry_at table)
 
+-- the updates of component i: 0 is the row, 1 the column
 abbrev pub component_at : List (List ℕ) → ℕ → List ℕ → Reader (List ℕ)
 component_at table i = component_rows (slice_index_or table i [])
 
+-- the updates of all motion vector probabilities
 unfoldable pub vectors : List (List ℕ) → Reader (List (List ℕ))
 vectors = each [] 2 (component_at VECTOR_UPDATES)

@@ -4,7 +4,7 @@ use Rattle.std.specs.Prelude.{ℕ, ℤ, pos, neg_ℤ, Bool, List, [], ◌∷◌,
 use Rattle.vp_bool.specs.Bools.{read, literal}
 use Rattle.vp_bool.specs.Reader.{Reader, ◌>>=◌, give, when}
 
--- one bool, as likely 0 as 1
+-- one bool of probability 128
 abbrev pub flag : Reader Bool
 flag = read 128
 
@@ -15,18 +15,19 @@ magnitude n = do
   minus ← flag
   give (if minus then neg_ℤ (pos value) else pos value)
 
--- a flag, and a number of n bits with its sign where it is set; else this
+-- a flag; if it is set, a number of n bits and its sign; otherwise the default
 unfoldable pub optional_signed : ℕ → ℤ → Reader ℤ
 optional_signed n otherwise = do
   set ← flag
   when set (magnitude n) otherwise
 
--- a flag of this probability, and a probability where it is set; else this
+-- a flag of probability p; if it is set, a probability of 8 bits; otherwise the default
 unfoldable pub renewed : ℕ → ℕ → Reader ℕ
 renewed p otherwise = do
   set ← read p
   when set (literal 8) otherwise
 
+-- a syntax element three times
 abbrev pub three : {A : Type 0} → Reader A → Reader (List A)
 three row = do
   a ← row
@@ -34,6 +35,7 @@ three row = do
   c ← row
   give (a ∷ b ∷ c ∷ [])
 
+-- a syntax element four times
 abbrev pub four : {A : Type 0} → Reader A → Reader (List A)
 four row = do
   a ← row
@@ -42,7 +44,7 @@ four row = do
   e ← row
   give (a ∷ b ∷ c ∷ e ∷ [])
 
--- four numbers, each with a flag of its own, and as it stood where that isn't set
+-- four signed numbers, each with its own flag; without it the old value is kept
 unfoldable pub four_signed : ℕ → List ℤ → Reader (List ℤ)
 four_signed n old = do
   a ← optional_signed n (slice_index_or old 0 (pos 0))

@@ -1,5 +1,5 @@
--- The values that are saved from frame to frame: the defaults of a key frame, and what a header changes (RFC 6386,
--- chapters 9.3, 9.4, 9.7, 9.9, 9.10, 13.5, 16.1 and 17.2). The numbers are those of vp_tables.
+-- The state that is saved from frame to frame. This file has the defaults of a key frame, and the changes by a header
+-- (RFC 6386, chapters 9.3, 9.4, 9.7, 9.9, 9.10, 13.5, 16.1 and 17.2). The numbers are those of vp_tables.
 use Rattle.std.specs.Prelude.{ℤ, pos, false, List, [], ◌∷◌, if◌then◌else◌}
 use Rattle.vp_head.specs.declared.fields.Header.{Header}
 use Rattle.vp_head.specs.declared.fields.Saved.{Saved}
@@ -10,7 +10,7 @@ use Rattle.vp_tables.specs.declared.mode_probabilities.TheConstants.{VECTOR_PROB
 abbrev pub four_zeros : List ℤ
 four_zeros = pos 0 ∷ pos 0 ∷ pos 0 ∷ pos 0 ∷ []
 
--- what a key frame starts from
+-- the saved state that a key frame starts from
 unfoldable pub defaults : Saved
 defaults = record {
   probabilities = record {
@@ -24,7 +24,7 @@ defaults = record {
   biases = record { golden = false; alt = false };
 }
 
--- What is kept after a frame with this header. Where its probabilities aren't, those that stood before it come back.
+-- The saved state after a frame with this header. If its probabilities are not saved, the previous ones are restored.
 abbrev pub kept_after : Saved → Header → Saved
 kept_after kept h = record {
   probabilities = if h.refresh_entropy then h.probabilities else kept.probabilities;

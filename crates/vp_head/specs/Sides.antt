@@ -1,4 +1,4 @@
--- Two facts on the range of a picture's sides, which the record of a size asks for (RFC 6386, chapter 9.1).
+-- Two facts on the range of a picture's sides, required by the type of sizes (RFC 6386, chapter 9.1).
 use Rattle.std.specs.Prelude.{ℕ, suc, ◌/◌, ◌%◌, ◌^◌, ◌<◌, ◌≤◌}
 use Rattle.std.proofs.Common.{lit<}
 use Rattle.std.proofs.Math.Nat.{zero-lt-suc, mod-lt, le-pred_of_lt}

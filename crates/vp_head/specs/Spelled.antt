@@ -1,5 +1,5 @@
--- Which headers can be written over the saved values (RFC 6386, chapters 9 and 19.2). The law
--- `what_is_read_can_be_written` says that nothing readable is excluded. Pinned by the test `headers_read_back`.
+-- Which headers can be written against a saved state (RFC 6386, chapters 9 and 19.2). The law
+-- `what_is_read_can_be_written` states that each readable header is included. Pinned by the test `headers_read_back`.
 use Rattle.std.specs.Prelude.{◌≡◌, ℕ, ◌%◌, ◌^◌, ◌<◌, ◌⊎◌, ℤ, pos, Bool, true, false, List, [], ◌∷◌, is_some}
 use Rattle.std.specs.Prelude.{slice_index, slice_index_or, unsigned_abs, if◌then◌else◌}
 use Rattle.vp_head.specs.Header.{no_references}
@@ -15,11 +15,11 @@ use Rattle.vp_head.specs.declared.fields.ReferenceUpdates.{ReferenceUpdates}
 use Rattle.vp_head.specs.declared.fields.Header.{Header}
 use Rattle.vp_head.specs.declared.fields.Saved.{Saved}
 
--- a number of n bits with its sign, or the one that stands where none is said
+-- z is the default, or a signed number of n bits
 abbrev pub IsSigned : ℕ → ℤ → ℤ → Type 0
 IsSigned n otherwise z = ¬ (z ≡ otherwise) → unsigned_abs z < 2 ^ n
 
--- four of them, each over one of the others
+-- four of them, each with its own default
 pub record AreSigned (n : ℕ) (old new : List ℤ) : Type 0 where
   pub first : IsSigned n (slice_index_or old 0 (pos 0)) (slice_index_or new 0 (pos 0))
   pub second : IsSigned n (slice_index_or old 1 (pos 0)) (slice_index_or new 1 (pos 0))
@@ -29,26 +29,29 @@ pub record AreSigned (n : ℕ) (old new : List ℤ) : Type 0 where
 abbrev pub zeros : List ℤ
 zeros = pos 0 ∷ pos 0 ∷ pos 0 ∷ pos 0 ∷ []
 
+-- segment values that can be written: values without a flag are 0
 pub record AreSegmentValues (values : SegmentValues) : Type 0 where
   pub quantisers : AreSigned 7 zeros values.quantisers
   pub levels : AreSigned 6 zeros values.levels
 
--- Segmentation that is off leaves the values as they were kept; the tree's probabilities are 255 without a new map.
+-- Disabled segmentation keeps the saved values. Without a new map the probabilities of the tree are 255.
 pub record IsSegmentation (kept : SegmentValues) (s : Segmentation) : Type 0 where
   pub off : s.enabled ≡ false → (s.update_map ≡ false) × (s.values ≡ kept)
   pub on : ¬ (s.values ≡ kept) → AreSegmentValues s.values
   pub no_map : s.update_map ≡ false → s.tree_probabilities ≡ 255 ∷ 255 ∷ 255 ∷ []
 
+-- loop filter parameters that fit their bits
 pub record IsFilter (f : Filter) : Type 0 where
   pub level : f.level < 2 ^ 6
   pub sharpness : f.sharpness < 2 ^ 3
 
--- Level deltas that are off are as they were kept.
+-- Disabled filter level deltas are the saved ones.
 pub record AreDeltas (kept : LevelDeltas) (enabled : Bool) (deltas : LevelDeltas) : Type 0 where
   pub off : enabled ≡ false → deltas ≡ kept
   pub reference : AreSigned 6 kept.reference deltas.reference
   pub mode : AreSigned 6 kept.mode deltas.mode
 
+-- quantiser indices that fit their bits
 pub record IsQuantiser (q : QuantiserIndices) : Type 0 where
   pub y_ac : q.y_ac < 2 ^ 7
   pub y_dc : IsSigned 4 (pos 0) q.y_dc
@@ -57,7 +60,7 @@ pub record IsQuantiser (q : QuantiserIndices) : Type 0 where
   pub uv_dc : IsSigned 4 (pos 0) q.uv_dc
   pub uv_ac : IsSigned 4 (pos 0) q.uv_ac
 
--- A key frame refreshes all; what is refreshed takes no copy.
+-- A key frame refreshes all references. A refreshed reference is not copied to.
 pub record AreUpdates (key : Bool) (updates : ReferenceUpdates) : Type 0 where
   pub golden : key ≡ true → updates.refresh_golden ≡ true
   pub alt : key ≡ true → updates.refresh_alt ≡ true
@@ -65,15 +68,17 @@ pub record AreUpdates (key : Bool) (updates : ReferenceUpdates) : Type 0 where
   pub no_copy_to_golden : updates.refresh_golden ≡ true → updates.copy_to_golden ≡ Nothing
   pub no_copy_to_alt : updates.refresh_alt ≡ true → updates.copy_to_alt ≡ Nothing
 
--- A vector probability is as it stood, or twice a number of seven bits, with 1 in the place of 0.
+-- A motion vector probability is unchanged, or 1, or an even number from 2 on.
 abbrev pub IsVectorProbability : ℕ → ℕ → Type 0
 IsVectorProbability old new = ¬ (new ≡ old) → (new ≡ 1) ⊎ ((new % 2 ≡ 0) × (0 < new))
 
+-- each motion vector probability is unchanged or can be coded
 abbrev pub AreVectorProbabilities : List (List ℕ) → List (List ℕ) → Type 0
 AreVectorProbabilities old new = (i j : ℕ) → IsVectorProbability (slice_index (slice_index_or old i []) j)
     (slice_index (slice_index_or new i []) j)
 
--- a header over what is kept: the rows that its kind of frame doesn't have say what they say where they aren't read
+-- a header against the saved state: the fields that its kind of frame doesn't code have the values that a reader
+-- infers
 pub record IsWritableHeader (key : Bool) (kept : Saved) (h : Header) : Type 0 where
   pub kind : h.key ≡ key
   pub color_space : key ≡ false → h.color_space ≡ false
@@ -91,7 +96,7 @@ pub record IsWritableHeader (key : Bool) (kept : Saved) (h : Header) : Type 0 wh
   pub vectors : key ≡ true → h.probabilities.vectors ≡ kept.probabilities.vectors
   pub vector : key ≡ false → AreVectorProbabilities kept.probabilities.vectors h.probabilities.vectors
 
--- what a frame with this tag starts from
+-- the saved state that a frame with this tag starts from
 abbrev pub kept_before : Saved → Tag → Saved
 kept_before saved tag = if is_some tag.key then defaults else saved
 

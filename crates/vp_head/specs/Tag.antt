@@ -10,38 +10,38 @@ use Rattle.vp_head.specs.declared.fields.KeyTag.{KeyTag}
 use Rattle.vp_head.specs.declared.fault.PacketFault.{PacketFault}
 use Rattle.vp_head.specs.declared.fault.PacketFault.TheVariants.{Truncated, Version, StartCode, Size, TooLarge}
 
--- so many bits of a number, from this one on; bit 0 is the lowest
+-- count bits of n, from bit from on; bit 0 is the least significant
 abbrev pub bit_field : ℕ → ℕ → ℕ → ℕ
 bit_field from count n = n / 2 ^ from % 2 ^ count
 
--- two bytes from a place on, the lower first
+-- the little-endian 16-bit number at index i
 abbrev pub word_at : ℕ → List ℕ → ℕ
 word_at i packet = slice_index packet i + 256 * slice_index packet (i + 1)
 
--- the first three bytes, the lowest first
+-- the little-endian number of the first three bytes
 abbrev pub tag_word : List ℕ → ℕ
 tag_word packet = word_at 0 packet + 65536 * slice_index packet 2
 
 abbrev pub has_start_code : List ℕ → Bool
 has_start_code packet = slice_index packet 3 == 0x9d && slice_index packet 4 == 0x01 && slice_index packet 5 == 0x2a
 
--- a size of two sides of at most 14 bits, where none is 0
+-- the size of two sides of at most 14 bits; None if one is 0
 abbrev pub dim_of : (w h : ℕ) → w ≤ 16383 → h ≤ 16383 → Option Dim
 dim_of zero h p q = None
 dim_of (suc w) zero p q = None
 dim_of (suc w) (suc h) p q = Some (record { w = suc w; h = suc h; w_in_range = is_side w p; h_in_range = is_side h q })
 
--- a size within the limits
+-- a size if it is valid and within the limits
 abbrev pub dim_within_limits : Limits → Option Dim → Result Dim PacketFault
 dim_within_limits limits None = Err Size
 dim_within_limits limits (Some dim) = if nat_lt limits.pixels (dim.w * dim.h) then Err TooLarge else Ok dim
 
--- the size that two words say, 14 bits each
+-- the size in the low 14 bits of both words
 abbrev pub tag_dim : ℕ → ℕ → Option Dim
 tag_dim width height = dim_of (bit_field 0 14 width) (bit_field 0 14 height) (is_below_16384 width)
     (is_below_16384 height)
 
--- beside the size, the two bits above it in each word
+-- the size, and the upscaling codes in the top two bits of both words
 abbrev pub key_with : ℕ → ℕ → Result Dim PacketFault → Result KeyTag PacketFault
 key_with width height (Err fault) = Err fault
 key_with width height (Ok dim) = Ok (record {
@@ -50,7 +50,7 @@ key_with width height (Ok dim) = Ok (record {
   vertical_scale = bit_field 14 2 height;
 })
 
--- what a key packet's tag goes on with
+-- the further fields of a key packet
 unfoldable pub key_of : Limits → List ℕ → Result KeyTag PacketFault
 key_of limits packet =
     if nat_lt (length packet) 10 then Err Truncated
@@ -58,6 +58,7 @@ key_of limits packet =
     (dim_within_limits limits (tag_dim (word_at 6 packet) (word_at 8 packet)))
     else Err StartCode
 
+-- the tag of the first three bytes' number, with these key fields
 abbrev pub tag_with : ℕ → Option KeyTag → Tag
 tag_with word key = record {
   version = bit_field 1 3 word;
@@ -66,18 +67,19 @@ tag_with word key = record {
   key = key;
 }
 
+-- the tag of a key packet, or the fault of its key fields
 abbrev pub tag_with_key : ℕ → Result KeyTag PacketFault → Result Tag PacketFault
 tag_with_key word (Err fault) = Err fault
 tag_with_key word (Ok key) = Ok (tag_with word (Some key))
 
--- the tag that the word says; bit 0 is 0 for a key packet
+-- the tag of the first three bytes' number; its bit 0 is 0 in a key packet
 unfoldable pub tag_of_word : Limits → ℕ → List ℕ → Result Tag PacketFault
 tag_of_word limits word packet =
     if nat_lt 3 (bit_field 1 3 word) then Err Version
     else if bit_field 0 1 word == 0 then tag_with_key word (key_of limits packet)
     else Ok (tag_with word None)
 
--- a packet's tag, or its first fault
+-- the tag of a packet, or its first fault
 unfoldable pub tag_of : Limits → List ℕ → Result Tag PacketFault
 tag_of limits packet =
     if nat_lt (length packet) 3 then Err Truncated

@@ -1,35 +1,35 @@
-//! What is wrong with a packet.
+//! Faults of packets.
 
 ghost use Rattle.std.specs.Prelude.{Some};
 ghost use Rattle.vp_head.specs.Names.{packet_fault_name};
 
 use std::fmt;
 
-/// Why a packet can't be decoded. The faults are looked for in this order, but that the ten bytes of a key packet
-/// are asked for after its version.
+/// Why a packet can't be decoded. The faults are checked in this order, except that the ten bytes of a key packet are
+/// checked after its version.
 #[derive(Clone, Copy, Debug, PartialEq, Eq)]
 pub enum PacketFault {
-    /// Fewer than 3 bytes, or fewer than 10 of a key packet (RFC 6386, chapter 9.1).
+    /// Fewer than 3 bytes, or fewer than 10 in a key packet (RFC 6386, chapter 9.1).
     Truncated,
-    /// A version over 3.
+    /// The version is above 3.
     Version,
     /// A key packet without the start code `9d 01 2a`.
     StartCode,
-    /// A side of 0.
+    /// The width or the height is 0.
     Size,
-    /// More pixels than the limits allow.
+    /// The picture has more pixels than the limits allow.
     TooLarge,
-    /// An inter packet where no state stands.
+    /// An inter packet without a preceding key packet.
     NoReference,
-    /// The first partition's size passes the end of the packet.
+    /// The first partition extends past the end of the packet.
     FirstPartition,
-    /// The table of the token partitions' sizes passes the end (chapter 9.5).
+    /// The table of token partition sizes extends past the end of the packet (chapter 9.5).
     PartitionTable,
-    /// The size of this token partition, the first such one, passes the end.
+    /// The first token partition that extends past the end of the packet, from 0.
     Partition(u8),
 }
 
-/// The fault's name, as it is told; `Partition 2` has the partition's number.
+/// The name of the fault, as printed. `Partition 2` includes the partition's number.
 impl fmt::Display for PacketFault {
     ghost output = { λ fault. Some (packet_fault_name fault) };
 

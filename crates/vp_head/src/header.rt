@@ -1,3 +1,5 @@
+//! Reading the frame header.
+
 ghost use Rattle.std.specs.Prelude.{◌≡◌, ◌⊎◌, is_some, IsSome};
 ghost use Rattle.vp_head.specs.Saved.{defaults, kept_after};
 ghost use Rattle.vp_head.specs.Header.{frame, frame_and_kept, header};
@@ -44,7 +46,7 @@ pub(crate) fn defaults() -> &'static Saved
 }
 
 impl Saved {
-    /// What a key frame starts from: the standard's probabilities, and 0 everywhere else.
+    /// The saved state that a key frame starts from: the default probabilities, and 0 everywhere else.
     pub fn defaults() -> Saved
         ensures { result ≡ defaults }
     {
@@ -53,15 +55,15 @@ impl Saved {
 }
 
 impl Header {
-    /// Reads the header at the start of the first partition, and says what is kept after the frame. A key frame
-    /// starts from the defaults, whatever `saved` is.
+    /// Reads the frame header at the start of the first partition, and returns it with the saved state after the
+    /// frame. A key frame starts from the defaults, whatever `saved` is.
     #[tactic(auto, unfolding(crate::specs::Header::header))]
     pub fn read(saved: &Saved, tag: &Tag, d: &mut BoolDecoder) -> (Header, Saved)
         ensures value { result ≡ (header saved.now tag.now d.old).0 }
         ensures rest { d.new ≡ (header saved.now tag.now d.old).1 }
         ensures bounds { IsInRange result.0 }
         ensures kind { result.0.key ≡ is_some tag.now.key }
-        // The signed values of a key frame are in range, and of any other where those that were kept are.
+        // The signed values are in range in a key frame; in an inter frame, if the saved ones are.
         ensures signed { IsSome tag.now.key ⊎ AreInRange saved.now.segments saved.now.deltas
             → AreInRange result.0.segmentation.values result.0.deltas }
         ensures kept { IsSome tag.now.key ⊎ AreInRange saved.now.segments saved.now.deltas
@@ -75,7 +77,7 @@ impl Header {
     }
 }
 
-/// The header, and what is kept after the frame.
+/// Reads the header, and returns it with the saved state after the frame.
 #[tactic(auto, unfolding(crate::specs::Header::frame_and_kept, vp_bool::specs::Reader::bind))]
 fn read_with_kept(key: bool, kept: &Saved, d: &mut BoolDecoder) -> (Header, Saved)
     ensures value { result ≡ (frame_and_kept key kept.now d.old).0 }
@@ -97,7 +99,7 @@ fn read_with_kept(key: bool, kept: &Saved, d: &mut BoolDecoder) -> (Header, Save
     (header, saved)
 }
 
-/// All rows, in order.
+/// Reads all syntax elements of the header, in order.
 #[tactic(auto, unfolding(crate::specs::Header::frame, vp_bool::specs::Reader::bind))]
 fn read_frame(key: bool, kept: &Saved, d: &mut BoolDecoder) -> Header
     ensures value { result ≡ (frame key kept.now d.old).0 }

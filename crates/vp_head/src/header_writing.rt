@@ -1,4 +1,4 @@
-//! The whole header, written.
+//! Writing the frame header.
 
 ghost use Rattle.std.specs.Prelude.{OnOk};
 ghost use Rattle.vp_bool.specs.Writing.{Writes};
@@ -20,13 +20,13 @@ use std::alloc::AllocError;
 use vp_bool::BoolEncoder;
 
 impl Header {
-    /// Writes the header at the start of a first partition, over what is kept. A key frame starts from the
-    /// defaults, whatever `saved` is.
+    /// Writes the frame header at the start of the first partition, coded against the saved state. A key frame starts
+    /// from the defaults, whatever `saved` is.
     ///
-    /// Where memory is refused, a part of the header may have been written.
+    /// If out of memory, a part of the header may have been written.
     pub fn write(&self, saved: &Saved, tag: &Tag, e: &mut BoolEncoder) -> Result<(), AllocError>
         requires { IsWritableInPacket saved.now tag.now self.now }
-        // What was written is read as this header, and leaves what follows; the same is kept after it.
+        // What was written is read as this header, with the same saved state after it, whatever follows.
         ensures { OnOk result (Writes (header saved.now tag.now) e.old e.new
             (self.now, kept_after (kept_before saved.now tag.now) self.now)) }
     {
@@ -39,6 +39,7 @@ impl Header {
     }
 }
 
+/// Writes the header of a key frame or inter frame, coded against the saved state.
 fn write_with_kept(
     key: bool,
     kept: &Saved,
@@ -52,7 +53,7 @@ fn write_with_kept(
     Ok(())
 }
 
-/// All rows, in order.
+/// Writes all syntax elements of the header, in order.
 fn write_frame(key: bool, kept: &Saved, h: &Header, e: &mut BoolEncoder) -> Result<(), AllocError>
     requires { IsWritableHeader key kept.now h.now }
     ensures { OnOk result (Writes (frame key kept.now) e.old e.new h.now) }

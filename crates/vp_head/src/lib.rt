@@ -1,4 +1,4 @@
-//! The frame tag and header, and what is kept between frames.
+//! The frame tag, the frame header, and the state that is saved between frames.
 #![tactic(auto)]
 
 mod fault;

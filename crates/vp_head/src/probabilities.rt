@@ -1,4 +1,4 @@
-//! The probabilities that are kept, and how they are read anew.
+//! Reading updates of the saved probabilities.
 
 ghost use Rattle.std.specs.Prelude.{◌≡◌};
 ghost use Rattle.vp_bool.specs.Reader.{when};
@@ -14,7 +14,7 @@ fn read_context(table: &[u8; 11], old: &mut [u8; 11], d: &mut BoolDecoder)
     ensures value { old.new ≡ (context_rows table.now old.old d.old).0 }
     ensures rest { d.new ≡ (context_rows table.now old.old d.old).1 }
 {
-    // The compiler keeps a decoder of its own in registers.
+    // The compiler keeps a local decoder in registers.
     let mut own = d.copy();
     for i in 0..11 {
         old[i] = read_renewed(table[i], old[i], &mut own);
@@ -40,7 +40,7 @@ fn read_type(table: &[[[u8; 11]; 3]; 8], old: &mut [[[u8; 11]; 3]; 8], d: &mut B
     }
 }
 
-/// Coefficient probabilities.
+/// Reads the updates of the token probabilities.
 pub(crate) fn read_coefficients(old: &mut [[[[u8; 11]; 3]; 8]; 4], d: &mut BoolDecoder)
     ensures value { old.new ≡ (token_probability_updates old.old d.old).0 }
     ensures rest { d.new ≡ (token_probability_updates old.old d.old).1 }
@@ -51,7 +51,7 @@ pub(crate) fn read_coefficients(old: &mut [[[[u8; 11]; 3]; 8]; 4], d: &mut BoolD
     }
 }
 
-/// The luma mode probabilities: all anew where that is asked for and their flag is set.
+/// If `asked`: reads a flag, and if it is set, new luma mode probabilities.
 #[tactic(auto, unfolding(crate::specs::Probabilities::luma_mode_probabilities, vp_bool::specs::Reader::bind))]
 pub(crate) fn read_luma_if(asked: bool, old: &mut [u8; 4], d: &mut BoolDecoder)
     ensures value { old.new ≡ (when asked (luma_mode_probabilities old.old) old.old d.old).0 }
@@ -62,7 +62,7 @@ pub(crate) fn read_luma_if(asked: bool, old: &mut [u8; 4], d: &mut BoolDecoder)
     }
 }
 
-/// The chroma mode probabilities, likewise.
+/// If `asked`: reads a flag, and if it is set, new chroma mode probabilities.
 #[tactic(auto, unfolding(crate::specs::Probabilities::chroma, vp_bool::specs::Reader::bind))]
 pub(crate) fn read_chroma_if(asked: bool, old: &mut [u8; 3], d: &mut BoolDecoder)
     ensures value { old.new ≡ (when asked (chroma old.old) old.old d.old).0 }
@@ -73,7 +73,7 @@ pub(crate) fn read_chroma_if(asked: bool, old: &mut [u8; 3], d: &mut BoolDecoder
     }
 }
 
-/// A vector probability behind a flag, or this where the flag isn't set.
+/// Reads a flag of this probability, and if it is set, a motion vector probability. Otherwise returns `old`.
 #[tactic(auto, unfolding(crate::specs::Probabilities::vector_renewed, vp_bool::specs::Reader::bind))]
 fn read_vector_renewed(probability: u8, old: u8, d: &mut BoolDecoder) -> u8
     ensures value { result ≡ (vector_renewed probability old d.old).0 }
@@ -104,7 +104,7 @@ fn read_vectors(old: &mut [[u8; 19]; 2], d: &mut BoolDecoder)
     }
 }
 
-/// The vector probabilities: each by its flag, where that is asked for.
+/// If `asked`: reads the updates of the motion vector probabilities, each with its own flag.
 pub(crate) fn read_vectors_if(asked: bool, old: &mut [[u8; 19]; 2], d: &mut BoolDecoder)
     ensures value { old.new ≡ (when asked (vectors old.old) old.old d.old).0 }
     ensures rest { d.new ≡ (when asked (vectors old.old) old.old d.old).1 }

@@ -1,4 +1,4 @@
-//! The probabilities that are kept, and how they are written anew.
+//! Writing updates of the saved probabilities.
 
 ghost use Rattle.std.specs.Prelude.{◌≡◌, ℕ, true, false, slice_index, OnOk};
 ghost use Rattle.vp_bool.specs.Reader.{when};
@@ -54,7 +54,7 @@ fn write_type(
     Ok(())
 }
 
-/// Coefficient probabilities: those that are not as they stood.
+/// Writes the token probabilities that changed.
 pub(crate) fn write_coefficients(
     old: &[[[[u8; 11]; 3]; 8]; 4],
     new: &[[[[u8; 11]; 3]; 8]; 4],
@@ -69,7 +69,7 @@ pub(crate) fn write_coefficients(
     Ok(())
 }
 
-/// The luma mode probabilities, where that is asked for: all, unless they are as they stood.
+/// If `asked`: writes the luma mode probabilities, unless all are unchanged.
 pub(crate) fn write_luma_if(
     asked: bool,
     old: &[u8; 4],
@@ -94,7 +94,7 @@ pub(crate) fn write_luma_if(
     Ok(())
 }
 
-/// The chroma mode probabilities, likewise.
+/// If `asked`: writes the chroma mode probabilities, unless all are unchanged.
 pub(crate) fn write_chroma_if(
     asked: bool,
     old: &[u8; 3],
@@ -118,7 +118,7 @@ pub(crate) fn write_chroma_if(
     Ok(())
 }
 
-/// A vector probability behind a flag of this probability, or a flag that isn't set where it is as it stood.
+/// Writes a flag of this probability, and the motion vector probability if it changed.
 fn write_vector_renewed(
     probability: u8,
     old: u8,
@@ -166,7 +166,7 @@ fn write_vectors(
     Ok(())
 }
 
-/// The vector probabilities, where that is asked for: those that are not as they stood.
+/// If `asked`: writes the motion vector probabilities that changed.
 pub(crate) fn write_vectors_if(
     asked: bool,
     old: &[[u8; 19]; 2],

@@ -1,4 +1,4 @@
-//! The parts of the header, written, each a few rows.
+//! Writing the parts of the frame header.
 
 ghost use Rattle.std.specs.Prelude.{◌≡◌, ◌<◌, ◌≤◌, ◌^◌, ℕ, Bool, true, false, [], ◌∷◌, OnOk};
 ghost use Rattle.vp_bool.specs.Reader.{when};
@@ -20,7 +20,7 @@ use crate::rows::Refreshes;
 use std::alloc::AllocError;
 use vp_bool::BoolEncoder;
 
-/// A flag, where it is asked for.
+/// Writes a flag, if `asked`.
 pub(crate) fn write_flag_if(asked: bool, value: bool, e: &mut BoolEncoder) -> Result<(), AllocError>
     ensures { OnOk result ((otherwise : Bool) → (asked ≡ false → value ≡ otherwise)
         → Writes (when asked flag otherwise) e.old e.new value) }
@@ -31,7 +31,7 @@ pub(crate) fn write_flag_if(asked: bool, value: bool, e: &mut BoolEncoder) -> Re
     Ok(())
 }
 
-/// A number and its sign behind a flag, or a flag that isn't set where it is as it stands without.
+/// Writes a flag, and a signed number if it differs from the default.
 fn write_signed(bits: u32, otherwise: i8, value: i8, e: &mut BoolEncoder) -> Result<(), AllocError>
     requires width { bits ≤ 7 }
     requires fits { IsSigned bits otherwise value }
@@ -47,7 +47,7 @@ fn write_signed(bits: u32, otherwise: i8, value: i8, e: &mut BoolEncoder) -> Res
     Ok(())
 }
 
-/// A probability behind a flag of this probability, or a flag that isn't set where it is as it stood.
+/// Writes a flag of this probability, and the new probability if it changed.
 #[tactic(auto, using(vp_bool::proofs::WritingLemmas::writes), unfolding(crate::specs::Rows::renewed))]
 pub(crate) fn write_renewed(
     probability: u8,
@@ -93,7 +93,7 @@ fn write_segment_values(values: &SegmentValues, e: &mut BoolEncoder) -> Result<(
     Ok(())
 }
 
-/// The values of the segments, where they are asked for, in place of those that were kept.
+/// Writes the segment values, if `asked`. Otherwise the kept ones stay in force.
 fn write_segment_values_if(
     asked: bool,
     values: &SegmentValues,
@@ -116,7 +116,7 @@ fn are_same(a: &SegmentValues, b: &SegmentValues) -> bool
     a == b
 }
 
-/// The probabilities of the segment tree, where they are asked for.
+/// Writes the probabilities of the segment tree, if `asked`.
 fn write_tree_probabilities_if(
     asked: bool,
     probabilities: &[u8; 3],
@@ -135,7 +135,7 @@ fn write_tree_probabilities_if(
     Ok(())
 }
 
-/// Segmentation; its values are written where they are not as they were kept.
+/// Writes segmentation. Its values are written only if they changed.
 pub(crate) fn write_segmentation(
     kept: &SegmentValues,
     s: &Segmentation,
@@ -167,7 +167,7 @@ pub(crate) fn write_filter(f: &Filter, e: &mut BoolEncoder) -> Result<(), AllocE
     Ok(())
 }
 
-/// Whether the level deltas apply, and those that are not as they were kept.
+/// Writes whether the filter level deltas apply, and the deltas that changed.
 pub(crate) fn write_level_deltas(
     kept: &LevelDeltas,
     enabled: bool,
@@ -203,7 +203,7 @@ pub(crate) fn write_quantiser_indices(
     Ok(())
 }
 
-/// What is copied to a reference, where it is asked for.
+/// Writes the reference that is copied, if `asked`.
 fn write_copy_if(asked: bool, from: ReferenceCopy, e: &mut BoolEncoder) -> Result<(), AllocError>
     requires { asked ≡ false → from ≡ ReferenceCopy.Nothing }
     ensures { OnOk result (Writes (when asked copy ReferenceCopy.Nothing) e.old e.new from) }
@@ -215,6 +215,7 @@ fn write_copy_if(asked: bool, from: ReferenceCopy, e: &mut BoolEncoder) -> Resul
     Ok(())
 }
 
+/// The code of a copied reference: 0 to 3.
 fn copy_number(from: ReferenceCopy) -> u8
     ensures same { copy_of result ≡ from }
     ensures small { result < 2 ^ 2 }
@@ -227,6 +228,7 @@ fn copy_number(from: ReferenceCopy) -> u8
     }
 }
 
+/// Writes the updates of reference frames, sign biases and probabilities.
 pub(crate) fn write_refreshes(
     key: bool,
     r: &Refreshes,
@@ -247,7 +249,7 @@ pub(crate) fn write_refreshes(
     Ok(())
 }
 
-/// The probability that a macroblock isn't skipped, where skipping is coded.
+/// Writes the probability that a macroblock is not skipped, if skipping is coded.
 pub(crate) fn write_skip(probability: Option<u8>, e: &mut BoolEncoder) -> Result<(), AllocError>
     ensures { OnOk result (Writes skip e.old e.new probability) }
 {
@@ -264,7 +266,7 @@ pub(crate) fn write_skip(probability: Option<u8>, e: &mut BoolEncoder) -> Result
     }
 }
 
-/// The probabilities of the references, where they are asked for.
+/// Writes the probabilities of reference frames, if `asked`.
 pub(crate) fn write_reference_probabilities_if(
     asked: bool,
     probabilities: &ReferenceProbabilities,

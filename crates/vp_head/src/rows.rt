@@ -1,4 +1,4 @@
-//! The parts of the header, each a few rows.
+//! Reading the parts of the frame header.
 
 ghost use Rattle.std.specs.Prelude.{◌≡◌, ◌<◌, ◌≤◌, ◌^◌, ℕ, ℤ};
 ghost use Rattle.vp_bool.specs.Bools.{literal};
@@ -14,16 +14,18 @@ use crate::fields::{
 };
 use vp_bool::BoolDecoder;
 
-/// What is refreshed by a frame, and how vectors are turned.
+/// How a frame updates reference frames, sign biases and probabilities.
 #[derive(Clone, Copy)]
 pub struct Refreshes {
+    /// The updates of the reference frames.
     pub updates: ReferenceUpdates,
+    /// The sign biases.
     pub biases: SignBiases,
-    /// Whether the probabilities are kept.
+    /// Whether the probabilities are saved for the next frame.
     pub entropy: bool,
 }
 
-/// A number of so many bits.
+/// Reads an unsigned number of `bits` bits.
 pub(crate) fn number(bits: u32, d: &mut BoolDecoder) -> u8
     requires { bits ≤ 8 }
     ensures value { result ≡ (literal bits d.old).0 }
@@ -33,7 +35,7 @@ pub(crate) fn number(bits: u32, d: &mut BoolDecoder) -> u8
     d.literal(bits)
 }
 
-/// A flag where it is asked for, else this.
+/// Reads a flag if `asked`. Otherwise returns `otherwise`.
 pub(crate) fn flag_if(asked: bool, otherwise: bool, d: &mut BoolDecoder) -> bool
     ensures value { result ≡ (when asked flag otherwise d.old).0 }
     ensures rest { d.new ≡ (when asked flag otherwise d.old).1 }
@@ -41,7 +43,7 @@ pub(crate) fn flag_if(asked: bool, otherwise: bool, d: &mut BoolDecoder) -> bool
     if asked { d.read(128) } else { otherwise }
 }
 
-/// A number and its sign.
+/// Reads a number and its sign.
 #[tactic(auto, unfolding(crate::specs::Rows::magnitude, vp_bool::specs::Reader::bind))]
 fn read_magnitude(bits: u32, d: &mut BoolDecoder) -> i8
     requires { bits ≤ 7 }
@@ -52,7 +54,7 @@ fn read_magnitude(bits: u32, d: &mut BoolDecoder) -> i8
     if d.read(128) { -value } else { value }
 }
 
-/// A number and its sign behind a flag, or this where the flag isn't set.
+/// Reads a flag, and if it is set, a number and its sign. Otherwise returns `otherwise`.
 #[tactic(auto, unfolding(crate::specs::Rows::optional_signed, vp_bool::specs::Reader::bind))]
 fn read_signed(bits: u32, otherwise: i8, d: &mut BoolDecoder) -> i8
     requires { bits ≤ 7 }
@@ -66,7 +68,7 @@ fn read_signed(bits: u32, otherwise: i8, d: &mut BoolDecoder) -> i8
     }
 }
 
-/// A probability behind a flag, or this where the flag isn't set.
+/// Reads a flag of this probability, and if it is set, a probability. Otherwise returns `otherwise`.
 #[inline(always)]
 #[tactic(auto, unfolding(crate::specs::Rows::renewed, vp_bool::specs::Reader::bind))]
 pub(crate) fn read_renewed(probability: u8, otherwise: u8, d: &mut BoolDecoder) -> u8
@@ -174,7 +176,7 @@ pub(crate) fn read_filter(d: &mut BoolDecoder) -> Filter
     }
 }
 
-/// Whether the level deltas apply, and their values.
+/// Reads whether the filter level deltas apply, and their values.
 #[tactic(auto, unfolding(crate::specs::Header::level_deltas, vp_bool::specs::Reader::bind))]
 pub(crate) fn read_level_deltas(kept: &LevelDeltas, d: &mut BoolDecoder) -> (bool, LevelDeltas)
     ensures value { result ≡ (level_deltas kept.now d.old).0 }
@@ -205,6 +207,7 @@ pub(crate) fn read_quantiser_indices(d: &mut BoolDecoder) -> QuantiserIndices
     }
 }
 
+/// The copied reference of a code: 0 to 3.
 fn copy_from(number: u8) -> ReferenceCopy
     ensures { result ≡ copy_of number }
 {
@@ -216,7 +219,7 @@ fn copy_from(number: u8) -> ReferenceCopy
     }
 }
 
-/// What is copied to a reference where it is asked for, else nothing.
+/// Reads the reference that is copied, if `asked`. Otherwise it is `Nothing`.
 #[tactic(auto, unfolding(crate::specs::Header::copy, vp_bool::specs::Reader::bind))]
 fn copy_if(asked: bool, d: &mut BoolDecoder) -> ReferenceCopy
     ensures value { result ≡ (when asked copy ReferenceCopy.Nothing d.old).0 }
@@ -229,6 +232,7 @@ fn copy_if(asked: bool, d: &mut BoolDecoder) -> ReferenceCopy
     }
 }
 
+/// Reads the updates of reference frames, sign biases and probabilities.
 #[tactic(auto, unfolding(crate::specs::Header::refreshes, vp_bool::specs::Reader::bind))]
 pub(crate) fn read_refreshes(key: bool, kept: &SignBiases, d: &mut BoolDecoder) -> Refreshes
     ensures value { result ≡ (refreshes key kept.now d.old).0 }
@@ -255,7 +259,7 @@ pub(crate) fn read_refreshes(key: bool, kept: &SignBiases, d: &mut BoolDecoder) 
     }
 }
 
-/// The probability that a macroblock isn't skipped, where skipping is coded.
+/// Reads the probability that a macroblock is not skipped, if skipping is coded.
 #[tactic(auto, unfolding(crate::specs::Header::skip, vp_bool::specs::Reader::bind))]
 pub(crate) fn read_skip(d: &mut BoolDecoder) -> Option<u8>
     ensures value { result ≡ (skip d.old).0 }
@@ -268,7 +272,7 @@ pub(crate) fn read_skip(d: &mut BoolDecoder) -> Option<u8>
     }
 }
 
-/// The probabilities of the references where they are asked for, else 0.
+/// Reads the probabilities of reference frames if `asked`. Otherwise they are 0.
 #[tactic(auto, unfolding(crate::specs::Header::reference_probabilities, vp_bool::specs::Reader::bind))]
 pub(crate) fn reference_probabilities_if(asked: bool, d: &mut BoolDecoder) -> ReferenceProbabilities
     ensures value { result ≡ (when asked reference_probabilities no_references d.old).0 }

@@ -1,3 +1,5 @@
+//! Reading the frame tag.
+
 ghost use Rattle.std.specs.Prelude.{IfOk, ◌≡◌, ◌≤◌, ◌<◌, ◌+◌, ◌^◌, length};
 ghost use Rattle.vp_head.specs.Bounds.{IsTagInRange};
 ghost use Rattle.vp_head.specs.Tag.{tag_of, tag_of_word, key_of, word_at, dim_within_limits, tag_dim};
@@ -7,9 +9,8 @@ use crate::fields::{KeyTag, Tag};
 use vp_base::{Dim, DimFault, Limits};
 
 impl Tag {
-    /// Reads the tag of a packet: three bytes, or ten of a key packet (RFC 6386, chapter 9.1). Of several faults it
-    /// answers the first in the order `Truncated`, `Version`, and for a key packet `Truncated`, `StartCode`, `Size`,
-    /// `TooLarge`.
+    /// Reads the tag of a packet: 3 bytes, or 10 of a key packet (RFC 6386, chapter 9.1). It returns the first fault
+    /// in the order `Truncated`, `Version`, and in a key packet `Truncated`, `StartCode`, `Size`, `TooLarge`.
     #[tactic(auto, unfolding(crate::specs::Tag::tag_of))]
     pub fn read(packet: &[u8], limits: &Limits) -> Result<Tag, PacketFault>
         ensures value { result ≡ tag_of limits.now packet.now }
@@ -23,7 +24,7 @@ impl Tag {
     }
 }
 
-/// The tag that the first three bytes' number says.
+/// The tag of the number in the first three bytes.
 #[tactic(auto, unfolding(crate::specs::Tag::tag_of_word))]
 fn tag_from(word: u32, packet: &[u8], limits: &Limits) -> Result<Tag, PacketFault>
     requires { word < 2 ^ 24 }
@@ -46,7 +47,7 @@ fn tag_from(word: u32, packet: &[u8], limits: &Limits) -> Result<Tag, PacketFaul
     })
 }
 
-/// What the tag of a key packet goes on with.
+/// The further fields of a key packet.
 #[tactic(auto, unfolding(crate::specs::Tag::key_of))]
 fn read_key(packet: &[u8], limits: &Limits) -> Result<KeyTag, PacketFault>
     ensures { result ≡ key_of limits.now packet.now }
@@ -67,7 +68,7 @@ fn read_key(packet: &[u8], limits: &Limits) -> Result<KeyTag, PacketFault>
     })
 }
 
-/// Two bytes, the lower first.
+/// The little-endian 16-bit number at index `at`.
 fn read_word(packet: &[u8], at: usize) -> u16
     requires { at + 2 ≤ length packet.now }
     ensures { result ≡ word_at at packet.now }
@@ -75,7 +76,7 @@ fn read_word(packet: &[u8], at: usize) -> u16
     u16::from_le_bytes([packet[at], packet[at + 1]])
 }
 
-/// The size that two words say.
+/// The size in the low 14 bits of both words, if it is within the limits.
 fn dim_within(width: u16, height: u16, limits: &Limits) -> Result<Dim, PacketFault>
     ensures { result ≡ dim_within_limits limits.now (tag_dim width height) }
 {

@@ -1,4 +1,4 @@
--- Inter prediction of a pixel: horizontal pass, vertical pass, and the reference extended by its nearest pixel (RFC
+-- Inter prediction of a pixel: horizontal pass, vertical pass, and the reference extended by its border pixels (RFC
 -- 6386, chapters 5, 18.1 and 18.3). Pinned by streams of other encoders in the gate, of versions 0 to 3.
 use Rattle.std.specs.Prelude.{ℕ, ℤ, pos, negsuc, ◌+◌, ◌-◌, ◌+ℤ◌, ◌≤ℤ◌, min, List}
 use Rattle.vp_base.specs.Raster.{Raster, pixel}
@@ -6,27 +6,27 @@ use Rattle.vp_inter.specs.declared.vector.PlaneVector.{PlaneVector}
 use Rattle.vp_inter.specs.Vectors.{fraction, first_tap}
 use Rattle.vp_inter.specs.Filter.{taps, filter_six}
 
--- the nearest to a place of 0 .. size - 1
+-- a coordinate clamped to 0 to size - 1
 abbrev pub nearest : ℕ → ℤ → ℕ
 nearest size (pos at) = min at (size - 1)
 nearest size (negsuc _) = 0
 
--- a reference has a pixel at each column and row: outside the plane it is the nearest pixel of the plane
+-- the pixel of a reference at any column and row: outside the plane it is the nearest pixel of the plane
 unfoldable pub reference_pixel : Raster → ℤ → ℤ → ℕ
 reference_pixel p column row = pixel p (nearest p.width column) (nearest p.height row)
 
--- a block of so many columns and rows at a place lies inside the plane
+-- the block of this many columns and rows at (left, top) is inside the plane
 abbrev pub IsInside : Raster → ℤ → ℤ → ℕ → ℕ → Type 0
 IsInside p left top columns rows =
     (pos 0 ≤ℤ left) × ((left +ℤ pos columns) ≤ℤ pos p.width) × (pos 0 ≤ℤ top) × ((top +ℤ pos rows) ≤ℤ pos p.height)
 
--- the horizontal pass: the pixel made of the six from column left + c on, at row top + i
+-- the horizontal pass: the pixel filtered from the six that begin at column left + c, in row top + i
 unfoldable pub horizontal_pass : List ℤ → Raster → ℤ → ℤ → ℕ → ℕ → ℕ
 horizontal_pass weights p left top i c = filter_six weights (λ k. reference_pixel p (left +ℤ pos (c + k))
     (top +ℤ pos i))
 
--- the pixel at row r and column c of the block at column x of row y, moved by a vector: the vertical pass over what the
--- horizontal pass makes of the six rows round it
+-- The predicted pixel at row r and column c of the block at column x of row y, displaced by vector v. It is the
+-- vertical pass over six rows of the horizontal pass.
 unfoldable pub inter_pixel : ℕ → Raster → ℕ → ℕ → PlaneVector → ℕ → ℕ → ℕ
 inter_pixel version p x y v r c =
     filter_six (taps version (fraction v.row))

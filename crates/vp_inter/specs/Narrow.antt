@@ -1,11 +1,11 @@
--- Inside the crate: sums that an i16 holds: a weighed sum of six pixels does, once 16384 is taken away from it.
+-- Private to the crate: when sums fit in i16. A weighted sum of six pixels does after 16384 is subtracted.
 use Rattle.std.specs.Prelude.{◌≡◌, ◌<◌, ℕ, ℤ, pos, negsuc, ◌+ℤ◌, ◌-ℤ◌, ◌*ℤ◌, ◌≤ℤ◌, List, slice_index_or}
 
--- from low to high
+-- z is from low to high
 abbrev pub IsFrom : ℤ → ℤ → ℤ → Type 0
 IsFrom low high z = (low ≤ℤ z) × (z ≤ℤ high)
 
--- what an i16 holds
+-- z fits in i16
 abbrev pub IsShort : ℤ → Type 0
 IsShort = IsFrom (negsuc 32767) (pos 32767)
 
@@ -13,11 +13,11 @@ IsShort = IsFrom (negsuc 32767) (pos 32767)
 abbrev pub weight : List ℤ → ℕ → ℤ
 weight weights k = slice_index_or weights k (pos 0)
 
--- two pixels, each times its weight
+-- the weighted sum of two pixels
 abbrev pub pair : ℕ → ℕ → ℤ → ℤ → ℤ
 pair a b weight_a weight_b = pos a *ℤ weight_a +ℤ pos b *ℤ weight_b
 
--- the sums of a pass over six pixels, a half added and 16384 taken away: of the two in the middle, of four, of all
+-- the weighted sums of the middle two, the middle four, and all six pixels, each plus 64 for rounding and minus 16384
 abbrev pub sum_of_two : List ℤ → (ℕ → ℕ) → ℤ
 sum_of_two weights pixel = pair (pixel 2) (pixel 3) (weight weights 2) (weight weights 3) -ℤ pos 16320
 
@@ -27,14 +27,14 @@ sum_of_four weights pixel = sum_of_two weights pixel +ℤ pair (pixel 1) (pixel 
 abbrev pub sum_of_six : List ℤ → (ℕ → ℕ) → ℤ
 sum_of_six weights pixel = sum_of_four weights pixel +ℤ pair (pixel 0) (pixel 5) (weight weights 0) (weight weights 5)
 
--- only so many of six weights count: below six not those at the ends, and below four not those beside them
+-- weights outside the middle count of six are 0
 abbrev pub AreFew : List ℤ → ℕ → Type 0
 AreFew weights count =
     (count < 6 → (weight weights 0 ≡ pos 0) × (weight weights 5 ≡ pos 0))
     × (count < 4 → (weight weights 1 ≡ pos 0) × (weight weights 4 ≡ pos 0))
 
--- weights of a sum that fits: the two in the middle aren't negative and come to at most 154, those beside them lie from
--- -16 to 0, those at the ends from 0 to 3, and those three apart come to at most 128
+-- Weights whose sums fit in i16. The middle two are nonnegative, and their sum is at most 154. The second and the
+-- fifth are from -16 to 0, the first and the last from 0 to 3. Weights three apart add up to at most 128.
 abbrev pub AreGentle : List ℤ → Type 0
 AreGentle weights =
     IsFrom (pos 0) (pos 3) (weight weights 0) × IsFrom (negsuc 15) (pos 0) (weight weights 1)
@@ -43,6 +43,6 @@ AreGentle weights =
     × IsFrom (negsuc 15) (pos 0) (weight weights 4) × IsFrom (pos 0) (pos 3) (weight weights 5)
     × ((weight weights 0 +ℤ weight weights 3) ≤ℤ pos 128) × ((weight weights 2 +ℤ weight weights 5) ≤ℤ pos 128)
 
--- two weights of a pair of pixels that an i16 holds
+-- two weights of a multiply-add whose sum fits in i16
 abbrev pub ArePairable : ℤ → ℤ → Type 0
 ArePairable u v = IsFrom (negsuc 15) (pos 127) u × IsFrom (negsuc 15) (pos 127) v × ((u +ℤ v) ≤ℤ pos 128)

@@ -1,4 +1,4 @@
--- Inside the crate: the weights of six taps as lanes that are two weights by turns.
+-- Private to the crate: six filter weights in vectors of two alternating weights.
 use Rattle.std.specs.Prelude.{◌≡◌, ◌+◌, ◌*◌, ◌/◌, ◌%◌, ◌<◌, ◌≤ℤ◌, ℕ, zero, suc, ℤ, pos, List, slice_index}
 use Rattle.vp_lanes.specs.Lane.{lane}
 use Rattle.vp_inter.specs.Narrow.{weight, AreGentle}
@@ -6,49 +6,48 @@ use Rattle.vp_inter.specs.declared.six_tap_1d.RowWeights.{RowWeights}
 use Rattle.vp_inter.specs.declared.six_tap_1d.ColumnWeights.{ColumnWeights}
 use Rattle.vp_inter.specs.declared.six_tap_2d.Pair.{Pair}
 
--- sixteen lanes that are two weights by turns
+-- sixteen lanes with two alternating weights
 abbrev pub AreByTurns : List ℤ → ℤ → ℤ → Type 0
 AreByTurns lanes even odd = (j : ℕ) → j < 8 → (lane lanes (2 * j) ≡ even) × (lane lanes (2 * j + 1) ≡ odd)
 
--- for pixels side by side
+-- the weight vectors for adjacent pixels
 abbrev pub AreNear : List ℤ → RowWeights → Type 0
 AreNear weights near =
     AreByTurns near.first (weight weights 0) (pos 0) × AreByTurns near.left (weight weights 1) (weight weights 2)
     × AreByTurns near.right (weight weights 3) (weight weights 4) × AreByTurns near.last (pos 0) (weight weights 5)
 
--- for rows, of which those three apart are a pair
+-- the weight vectors for rows, in pairs three apart
 abbrev pub AreFar : List ℤ → ColumnWeights → Type 0
 AreFar weights far =
     AreByTurns far.first (weight weights 0) (weight weights 3)
     × AreByTurns far.second (weight weights 1) (weight weights 4)
     × AreByTurns far.third (weight weights 2) (weight weights 5)
 
--- weights of six taps: those at both ends are above 0
+-- weights of a six-tap filter: the first and the last are above 0
 abbrev pub AreSix : List ℤ → Type 0
 AreSix weights = AreGentle weights × (pos 1 ≤ℤ weight weights 0) × (pos 1 ≤ℤ weight weights 5)
 
--- the place of column c in a row that has its even columns before its odd ones
+-- the index of column c in a row whose even columns are first
 abbrev pub half_place : ℕ → ℕ
 half_place c = 8 * (c % 2) + c / 2
 
--- and in two such rows by turns, of the first (0) or of the second (1)
+-- the index of column c of the first (0) or second (1) of two such rows that are interleaved
 abbrev pub pair_place : ℕ → ℕ → ℕ
 pair_place c t = 16 * (c % 2) + 2 * (c / 2) + t
 
--- one of three
+-- vector k of three
 abbrev pub one_of_three : List ℕ → List ℕ → List ℕ → ℕ → List ℕ
 one_of_three a b c zero = a
 one_of_three a b c (suc zero) = b
 one_of_three a b c (suc (suc _)) = c
 
--- a run of pairs of rows that begins with an empty pair: each of every third row, from `from` on, and of the row
--- three below
+-- A run of pairs after an unused entry: pair e interleaves row 3 e + from with the row three below.
 abbrev pub HoldsPairs : List ℕ → (ℕ → ℕ → ℕ) → ℕ → ℕ → Type 0
 HoldsPairs run pixel from count =
     (e c t : ℕ) → e < count → c < 16 → t < 2 → slice_index run (32 * (e + 1) + pair_place c t)
     ≡ pixel (3 * e + from + 3 * t) c
 
--- the even and the odd columns of row r and of the row three below, by turns
+-- row r interleaved with the row three below: even columns, and odd ones
 abbrev pub IsPair : Pair → (ℕ → ℕ → ℕ) → ℕ → Type 0
 IsPair pair pixel r =
     (j t : ℕ) → j < 8 → t < 2

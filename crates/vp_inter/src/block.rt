@@ -1,4 +1,4 @@
-//! Blocks of an earlier picture, moved by a vector (RFC 6386, chapter 18).
+//! Inter prediction of square blocks (RFC 6386, chapter 18).
 
 ghost use Rattle.std.specs.Prelude.{◌≡◌, ℕ, ℤ, pos, negsuc, ◌+◌, ◌*◌, ◌%◌, ◌<◌, ◌≤◌, ◌+ℤ◌, ◌≤ℤ◌, length, slice_index};
 ghost use Rattle.std.specs.Prelude.{IsTrue};
@@ -14,8 +14,8 @@ use crate::vector::{PlaneVector, first_tap, fraction};
 use std::simd::prelude::*;
 use vp_base::Plane;
 
-/// The 16 by 16 block that `vector` moves to column `x` of row `y`, row after row, out of the reference `plane`.
-/// `version` is that of the frame's tag; `x` and `y` are at most 16,384, and the plane isn't empty.
+/// Predicts the 16x16 block at column `x` of row `y` from the reference plane, displaced by `vector`. Returns it in
+/// raster order. `version` is that of the frame tag. `x` and `y` are at most 16,384, and the plane is not empty.
 pub fn predict_block16(
     plane: &Plane,
     x: usize,
@@ -33,7 +33,7 @@ pub fn predict_block16(
     predict::<16, 21, 336, 256>(plane, x, y, vector, version)
 }
 
-/// The same of 8 by 8.
+/// Predicts an 8x8 block as `predict_block16` does.
 pub fn predict_block8(
     plane: &Plane,
     x: usize,
@@ -51,7 +51,7 @@ pub fn predict_block8(
     predict::<8, 13, 104, 64>(plane, x, y, vector, version)
 }
 
-/// The same of 4 by 4.
+/// Predicts a 4x4 block as `predict_block16` does.
 pub fn predict_block4(
     plane: &Plane,
     x: usize,
@@ -69,9 +69,8 @@ pub fn predict_block4(
     predict::<4, 9, 36, 16>(plane, x, y, vector, version)
 }
 
-/// A block of rows of `N`. The vertical pass makes it of `W` rows, five more, with `L` pixels; a block at whole
-/// rows needs
-/// no others than its own, and one at whole columns no horizontal pass.
+/// Predicts a block of `N` by `N` pixels. The horizontal pass gives `W = N + 5` rows, `L` pixels in all, to the
+/// vertical pass. A vector without a fractional row or column needs only one pass.
 fn predict<const N: usize, const W: usize, const L: usize, const M: usize>(
     plane: &Plane,
     x: usize,
@@ -115,7 +114,8 @@ fn predict<const N: usize, const W: usize, const L: usize, const M: usize>(
     block
 }
 
-/// Both passes. Between them stand `W` rows with `L` pixels, but for a large block and six weights that all count.
+/// Both passes, with `W` rows of `L` pixels between them. A 16x16 block with six nonzero weights in both uses
+/// `six_tap_2d`.
 fn pass_both<const N: usize, const W: usize, const L: usize, const M: usize>(
     pixels: &mut [u8],
     plane: &Plane,
@@ -148,7 +148,7 @@ fn pass_both<const N: usize, const W: usize, const L: usize, const M: usize>(
     pass_columns::<N, M>(pixels, &rows, column_weights);
 }
 
-/// `rows` rows of the reference as they stand.
+/// Copies `rows` rows of the reference.
 fn copied_rows<const N: usize, const L: usize>(
     plane: &Plane,
     left: i32,
@@ -177,9 +177,8 @@ fn copied_rows<const N: usize, const L: usize>(
     pixels
 }
 
-/// The horizontal pass over `rows` rows of the reference. What holds for the whole block, where it lies and which
-/// weights
-/// count, is asked before the loop over its rows.
+/// The horizontal pass over `rows` rows of the reference. Whether the block is inside the plane, and how many weights
+/// are nonzero, is tested before the loop over the rows.
 #[inline(never)]
 fn pass_rows<const N: usize, const W: usize>(
     pixels: &mut [u8],
@@ -211,7 +210,7 @@ fn pass_rows<const N: usize, const W: usize>(
     }
 }
 
-/// The same, with rows that all lie inside the plane if `INSIDE` says so.
+/// The horizontal pass. If `INSIDE`, all rows are inside the plane.
 #[inline(always)]
 fn counted_rows<const N: usize, const W: usize, const INSIDE: bool>(
     pixels: &mut [u8],
@@ -243,9 +242,8 @@ fn counted_rows<const N: usize, const W: usize, const INSIDE: bool>(
     }
 }
 
-/// The same, by `COUNT` weights. The loop reads a copy of them, which no write to `pixels` can change, so that each
-/// stays
-/// in a register.
+/// The horizontal pass with `COUNT` nonzero weights. The loop reads a local copy of them, which no write to `pixels`
+/// can alias, so each weight stays in a register.
 #[inline(always)]
 fn moved_rows<const N: usize, const W: usize, const INSIDE: bool, const COUNT: usize>(
     pixels: &mut [u8],
@@ -276,7 +274,7 @@ fn moved_rows<const N: usize, const W: usize, const INSIDE: bool, const COUNT: u
     }
 }
 
-/// The horizontal pass over one row of the reference, straight from the plane if `INSIDE` says so.
+/// The horizontal pass over one row of the reference. If `INSIDE`, it reads directly from the plane.
 #[inline(always)]
 fn moved_row<const N: usize, const W: usize, const INSIDE: bool, const COUNT: usize>(
     plane: &Plane,
@@ -302,7 +300,7 @@ fn moved_row<const N: usize, const W: usize, const INSIDE: bool, const COUNT: us
     pass::<N, COUNT>(&line, 0, 1, weights)
 }
 
-/// The vertical pass over rows of `N`, of which there are five more than it makes.
+/// The vertical pass over rows of `N` pixels, five more than it produces.
 #[inline(never)]
 fn pass_columns<const N: usize, const M: usize>(pixels: &mut [u8], rows: &[u8], weights: &[i16; 6])
     requires size { N ≤ 16 }
@@ -326,9 +324,8 @@ fn pass_columns<const N: usize, const M: usize>(pixels: &mut [u8], rows: &[u8], 
     }
 }
 
-/// The same by `COUNT` weights, of which the loop reads a copy, as `moved_rows` does: sixteen pixels at a time,
-/// whatever
-/// the rows that they stand in.
+/// The vertical pass with `COUNT` nonzero weights, of which the loop reads a local copy, as `moved_rows` does. It
+/// produces sixteen pixels at a time, across row boundaries.
 #[inline(always)]
 fn counted_columns<const N: usize, const M: usize, const COUNT: usize>(
     pixels: &mut [u8],
@@ -353,7 +350,7 @@ fn counted_columns<const N: usize, const M: usize, const COUNT: usize>(
     }
 }
 
-/// Writes row `r` of rows of `N`.
+/// Writes row `r` of a block of `N` columns.
 #[inline(always)]
 pub(crate) fn put_lanes<const N: usize>(pixels: &mut [u8], r: usize, row: Simd<u8, N>)
     requires size { N ≤ 16 }

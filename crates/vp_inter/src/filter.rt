@@ -1,4 +1,4 @@
-//! The filters between pixels (RFC 6386, chapter 18.3), in lanes of one pixel each.
+//! The interpolation filters (RFC 6386, chapter 18.3), with one pixel per lane.
 
 ghost use Rattle.std.specs.Prelude.{◌≡◌, ℕ, ℤ, pos, negsuc, ◌+◌, ◌*◌, ◌<◌, ◌≤◌, ◌*ℤ◌, ◌+ℤ◌, ◌-ℤ◌, ◌≤ℤ◌, length};
 ghost use Rattle.std.specs.Prelude.{slice_index, IsTrue};
@@ -11,7 +11,7 @@ ghost use Rattle.vp_inter.specs.Narrow.{AreGentle};
 use std::simd::prelude::*;
 use vp_tables::six_taps;
 
-/// The weights of the pixels at -2 to 3.
+/// The filter weights of the pixels at offsets -2 to 3.
 #[tactic(auto, unfolding(crate::specs::Filter::taps))]
 pub(crate) fn taps(version: u8, eighths: usize) -> [i16; 6]
     requires { eighths < 8 }
@@ -26,7 +26,7 @@ pub(crate) fn taps(version: u8, eighths: usize) -> [i16; 6]
     }
 }
 
-/// The `N` bytes from `at` on.
+/// Loads `N` bytes from index `at` on.
 #[inline(always)]
 pub(crate) fn load<const N: usize>(s: &[u8], at: usize) -> Simd<u8, N>
     requires { at + N ≤ length s.now }
@@ -35,7 +35,7 @@ pub(crate) fn load<const N: usize>(s: &[u8], at: usize) -> Simd<u8, N>
     Simd::from_slice(&s[at..])
 }
 
-/// The sum of the two pixels in the middle, a half added for rounding and 16384 taken away, so that an i16 holds it.
+/// The weighted sum of the two middle pixels, plus 64 for rounding, minus 16384 so that it fits in i16.
 fn begun<const N: usize>(
     a: Simd<u8, N>,
     b: Simd<u8, N>,
@@ -54,7 +54,7 @@ fn begun<const N: usize>(
         + b.cast::<i16>() * Simd::splat(weight_b)
 }
 
-/// The sum and two pixels more.
+/// The sum, plus two more weighted pixels.
 fn more<const N: usize>(
     sum: Simd<i16, N>,
     a: Simd<u8, N>,
@@ -73,7 +73,7 @@ fn more<const N: usize>(
     sum + (a.cast::<i16>() * Simd::splat(weight_a) + b.cast::<i16>() * Simd::splat(weight_b))
 }
 
-/// The pixels that sums give: 128ths rounded down, held to what a signed byte holds, and the 16384 put back.
+/// The filtered pixels: 128ths of the sums, rounded down, with the bias restored, and clamped to 0 to 255.
 pub(crate) fn ended<const N: usize>(sum: Simd<i16, N>) -> Simd<u8, N>
     requires { N ≤ 16 }
     ensures { (j : ℕ) → j < N → slice_index result j ≡ clamp_to_byte (shr_z (lane sum.entry j) 128 +ℤ pos 128) }
@@ -81,7 +81,7 @@ pub(crate) fn ended<const N: usize>(sum: Simd<i16, N>) -> Simd<u8, N>
     ((sum >> 7).simd_clamp(Simd::splat(-128), Simd::splat(127)) + Simd::splat(128)).cast::<u8>()
 }
 
-/// The sum of the two pixels in the middle of six, `step` apart and the first at `at`.
+/// The weighted sum of the middle two of six pixels, which begin at index `at` and are `step` apart.
 fn middle<const N: usize>(s: &[u8], at: usize, step: usize, weights: &[i16; 6]) -> Simd<i16, N>
     requires lanes { N ≤ 16 }
     requires room { at + 5 * step + N ≤ length s.now }
@@ -96,7 +96,7 @@ fn middle<const N: usize>(s: &[u8], at: usize, step: usize, weights: &[i16; 6]) 
     )
 }
 
-/// The sum of the four pixels in the middle of six.
+/// The weighted sum of the middle four of six pixels.
 fn inner<const N: usize>(s: &[u8], at: usize, step: usize, weights: &[i16; 6]) -> Simd<i16, N>
     requires lanes { N ≤ 16 }
     requires room { at + 5 * step + N ≤ length s.now }
@@ -112,7 +112,7 @@ fn inner<const N: usize>(s: &[u8], at: usize, step: usize, weights: &[i16; 6]) -
     )
 }
 
-/// The sum of all six pixels.
+/// The weighted sum of all six pixels.
 fn whole_sum<const N: usize>(s: &[u8], at: usize, step: usize, weights: &[i16; 6]) -> Simd<i16, N>
     requires lanes { N ≤ 16 }
     requires room { at + 5 * step + N ≤ length s.now }
@@ -128,23 +128,22 @@ fn whole_sum<const N: usize>(s: &[u8], at: usize, step: usize, weights: &[i16; 6
     )
 }
 
-/// Whether the weights at both ends are 0.
+/// Whether the first and the last weight are 0.
 pub(crate) fn ends_are_zero(weights: &[i16; 6]) -> bool
     ensures { IsTrue result → (weight weights.now 0 ≡ pos 0) × (weight weights.now 5 ≡ pos 0) }
 {
     weights[0] == 0 && weights[5] == 0
 }
 
-/// Whether the weights beside those at the ends are 0.
+/// Whether the second and the fifth weight are 0.
 pub(crate) fn seconds_are_zero(weights: &[i16; 6]) -> bool
     ensures { IsTrue result → (weight weights.now 1 ≡ pos 0) × (weight weights.now 4 ≡ pos 0) }
 {
     weights[1] == 0 && weights[4] == 0
 }
 
-/// A pass of `N` pixels: each is made of six, `step` apart, the first of them at `at` and its own place. Only
-/// `COUNT` of
-/// the weights, which is 6, 4 or 2, take work: those that are 0 at the ends, or beside them too, take none.
+/// Filters `N` pixels. Each is computed from six pixels that are `step` apart; pixel `j` begins at index `at + j`.
+/// Only the middle `COUNT` weights are used: 2, 4 or 6. The others must be 0.
 #[inline(always)]
 pub(crate) fn pass<const N: usize, const COUNT: usize>(
     s: &[u8],

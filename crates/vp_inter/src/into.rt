@@ -1,4 +1,4 @@
-//! Blocks of an earlier picture, moved by a vector and written to a picture (RFC 6386, chapter 18).
+//! Inter prediction of square blocks, written to a picture (RFC 6386, chapter 18).
 
 ghost use Rattle.std.specs.Prelude.{◌≡◌, ℕ, pos, ◌+◌, ◌+ℤ◌, ◌<◌, ◌≤◌, IfSome, IsTrue};
 ghost use Rattle.vp_base.specs.Block.{with_block};
@@ -11,8 +11,8 @@ use crate::reference::lies_inside;
 use crate::vector::{PlaneVector, first_tap, fraction};
 use vp_base::{Picture, Plane};
 
-/// Writes to plane `k` of `picture` the 16 by 16 block at column `x` of row `y` that `vector` moves there, out of the
-/// plane `reference`, which isn't empty. `version` is that of the frame's tag.
+/// Predicts the 16x16 block at column `x` of row `y` of plane `k`, and writes it to `picture`. The reference plane is
+/// displaced by `vector`, and not empty. `version` is that of the frame tag.
 pub fn predict_into16(
     picture: &mut Picture,
     k: usize,
@@ -37,7 +37,7 @@ pub fn predict_into16(
     }
 }
 
-/// The same of 8 by 8.
+/// Predicts an 8x8 block as `predict_into16` does.
 pub fn predict_into8(
     picture: &mut Picture,
     k: usize,
@@ -62,7 +62,7 @@ pub fn predict_into8(
     }
 }
 
-/// The same of 4 by 4.
+/// Predicts a 4x4 block as `predict_into16` does.
 pub fn predict_into4(
     picture: &mut Picture,
     k: usize,
@@ -87,9 +87,8 @@ pub fn predict_into4(
     }
 }
 
-/// Copies the block of `N` by `N` that a vector of whole pixels moves, where the reference has all of it, and says
-/// whether
-/// it did.
+/// Copies an `N` by `N` block for a vector of whole pixels, if the reference contains all of it. Returns whether it
+/// did.
 fn copied_whole<const N: usize>(
     picture: &mut Picture,
     k: usize,
@@ -116,9 +115,8 @@ fn copied_whole<const N: usize>(
     false
 }
 
-/// The column and row of the reference at which the block of so many columns and rows stands that a vector of whole
-/// pixels
-/// moves to column `x` of row `y`, if the reference has all of it.
+/// The column and row of the reference from which a block of `size` by `size` pixels at (`x`, `y`) is copied. None
+/// unless the vector is in whole pixels and the reference contains the block.
 fn whole_place(
     reference: &Plane,
     x: usize,

@@ -1,4 +1,4 @@
-//! Inter prediction: blocks of an earlier picture, moved by a vector (RFC 6386, chapter 18).
+//! Inter prediction: blocks of a reference frame, displaced by a motion vector (RFC 6386, chapter 18).
 #![tactic(auto)]
 
 mod block;

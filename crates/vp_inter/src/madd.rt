@@ -1,5 +1,5 @@
-//! Bytes times weights, summed by twos. The compiler knows this form of them, of weights that it reads from memory, as
-//! one instruction for eight sums.
+//! Multiply-add of bytes: products of bytes and weights, added in pairs. The compiler turns this form, with weights
+//! that it loads from memory, into one instruction for eight sums.
 
 ghost use Rattle.std.specs.Prelude.{◌≡◌, ℕ, pos, negsuc, ◌+◌, ◌*◌, ◌<◌, ◌≤◌, ◌+ℤ◌, ◌*ℤ◌, length, slice_index};
 ghost use Rattle.std.specs.Int.{int_max, int_min};
@@ -10,7 +10,7 @@ ghost use Rattle.vp_inter.specs.Turns.{AreByTurns};
 use crate::filter::load;
 use std::simd::prelude::*;
 
-/// Two weights by turns.
+/// Two weights in alternating lanes.
 pub(crate) fn by_turns(even: i16, odd: i16) -> i8x16
     requires even { IsFrom (negsuc 127) (pos 127) even }
     requires odd { IsFrom (negsuc 127) (pos 127) odd }
@@ -60,7 +60,7 @@ fn added(a: i32x8, b: i32x8) -> i32x8
     a + b
 }
 
-/// The numbers, held to what an i16 holds.
+/// Clamps each number to i16.
 fn short(sum: i32x8) -> i16x8
     ensures { (j : ℕ) → j < 8 → lane result j ≡ int_min (pos 32767) (int_max (negsuc 32767) (lane sum j)) }
 {
@@ -68,7 +68,7 @@ fn short(sum: i32x8) -> i16x8
         .cast::<i16>()
 }
 
-/// Sixteen bytes, each times its weight, summed by twos.
+/// Multiplies sixteen bytes by their weights, and adds the products in pairs.
 pub(crate) fn pair_sums(a: u8x16, w: i8x16) -> i16x8
     requires { (j : ℕ) → j < 8 → IsShort (pos (slice_index a (2 * j)) *ℤ lane w (2 * j) +ℤ pos
         (slice_index a (2 * j + 1)) *ℤ lane w (2 * j + 1)) }
@@ -81,7 +81,7 @@ pub(crate) fn pair_sums(a: u8x16, w: i8x16) -> i16x8
     ))
 }
 
-/// The sums by twos of sixteen bytes, times two weights by turns.
+/// Multiplies sixteen bytes by two alternating weights, and adds the products in pairs.
 pub(crate) fn turned_sums(a: u8x16, w: i8x16, even: i16, odd: i16) -> i16x8
     requires turns { AreByTurns w even odd }
     requires fits { ArePairable even odd }
@@ -90,7 +90,7 @@ pub(crate) fn turned_sums(a: u8x16, w: i8x16, even: i16, odd: i16) -> i16x8
     pair_sums(a, w)
 }
 
-/// The sums by twos of the bytes from `at` on, times two weights by turns.
+/// Multiplies sixteen bytes from index `at` on by two alternating weights, and adds the products in pairs.
 pub(crate) fn turn_sums(s: &[u8], at: usize, w: i8x16, even: i16, odd: i16) -> i16x8
     requires room { at + 16 ≤ length s.now }
     requires turns { AreByTurns w even odd }

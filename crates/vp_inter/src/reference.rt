@@ -1,4 +1,4 @@
-//! The pixels of a reference, which go on outside the plane (RFC 6386, chapter 5).
+//! Reading a reference plane, which is extended by its border pixels (RFC 6386, chapter 5).
 
 ghost use Rattle.std.specs.Prelude.{◌≡◌, ℕ, ℤ, pos, negsuc, ◌+◌, ◌-◌, ◌<◌, ◌≤◌, ◌+ℤ◌, ◌≤ℤ◌, length, min, slice_index};
 ghost use Rattle.std.specs.Prelude.{IsTrue};
@@ -9,7 +9,7 @@ use crate::filter::load;
 use std::simd::prelude::*;
 use vp_base::Plane;
 
-/// The nearest to `at` of 0 to `size - 1`: a reference goes on with its outermost pixels (RFC 6386, chapter 18.1).
+/// Clamps `at` to 0 to `size - 1`: a reference is extended by its border pixels (RFC 6386, chapter 18.1).
 pub fn nearest(at: i32, size: usize) -> usize
     requires some { 0 < size }
     ensures value { result ≡ nearest size at }
@@ -22,7 +22,7 @@ pub fn nearest(at: i32, size: usize) -> usize
     }
 }
 
-/// Whether the plane has all of the block of so many columns and rows that begins at column `left` of row `top`.
+/// Whether the block of this many columns and rows at (`left`, `top`) is inside the plane.
 pub(crate) fn lies_inside(plane: &Plane, left: i32, top: i32, columns: usize, rows: usize) -> bool
     requires columns { columns ≤ 21 }
     requires rows { rows ≤ 21 }
@@ -34,7 +34,7 @@ pub(crate) fn lies_inside(plane: &Plane, left: i32, top: i32, columns: usize, ro
         && top as usize + rows <= plane.height()
 }
 
-/// The `N` pixels from column `left` of row `row` on, straight from the plane where `inside` says so.
+/// Loads `N` pixels of row `row` from column `left` on. If `inside`, they are read directly from the plane.
 #[inline(always)]
 pub(crate) fn plain_row<const N: usize>(
     plane: &Plane,
@@ -55,9 +55,8 @@ pub(crate) fn plain_row<const N: usize>(
     load(&reference_line(plane, left, row), 0)
 }
 
-/// The 32 pixels from column `left` of row `row` on, wherever they are. What hangs on the column alone is found
-/// before a
-/// loop over rows, and what isn't read of the result isn't made.
+/// Loads 32 pixels of row `row` from column `left` on, inside the plane or not. The compiler hoists what depends on
+/// the column alone out of a loop over rows, and drops pixels that aren't used.
 #[inline(always)]
 pub(crate) fn reference_line(plane: &Plane, left: i32, row: i32) -> [u8; 32]
     requires columns { 0 < plane.now.width }
@@ -68,7 +67,7 @@ pub(crate) fn reference_line(plane: &Plane, left: i32, row: i32) -> [u8; 32]
     nearest_numbers(plane.row(nearest(row, plane.height())), left)
 }
 
-/// The 32 numbers nearest to `left` and the places behind it.
+/// The 32 pixels of a row from column `left` on, extended by its border pixels.
 #[inline(always)]
 fn nearest_numbers(line: &[u8], left: i32) -> [u8; 32]
     requires some { 0 < length line.now }
@@ -86,14 +85,14 @@ fn nearest_numbers(line: &[u8], left: i32) -> [u8; 32]
     pixels
 }
 
-/// Where the sixteen pixels from a place on stand among sixteen of a line: from 16 on in their order, before that the
-/// first again and again, and from 32 on the last.
+/// Sixteen consecutive entries select lanes of a vector of sixteen: from entry 16 on all of them in order. Earlier
+/// entries repeat the first lane, later ones the last.
 const PLACES: [u8; 48] = [
     0, 0, 0, 0, 0, 0, 0, 0, 0, 0, 0, 0, 0, 0, 0, 0, 0, 1, 2, 3, 4, 5, 6, 7, 8, 9, 10, 11, 12, 13,
     14, 15, 15, 15, 15, 15, 15, 15, 15, 15, 15, 15, 15, 15, 15, 15, 15, 15,
 ];
 
-/// Sixteen of them.
+/// Sixteen entries of that table.
 #[inline(always)]
 fn places(from: usize) -> u8x16
     requires { from ≤ 32 }
@@ -102,7 +101,7 @@ fn places(from: usize) -> u8x16
     load(&PLACES, from)
 }
 
-/// The lanes at these places.
+/// Selects the lanes at these indices.
 #[inline(always)]
 fn shuffle(lanes: u8x16, places: u8x16) -> u8x16
     requires { (c : ℕ) → c < 16 → slice_index places c < 16 }
@@ -111,7 +110,7 @@ fn shuffle(lanes: u8x16, places: u8x16) -> u8x16
     lanes.swizzle_dyn(places)
 }
 
-/// The sixteen numbers nearest to `at` and the places behind it, of a line that has as many.
+/// The sixteen pixels from column `at` on, extended by the border pixels. The row must have at least sixteen.
 #[inline(always)]
 fn sixteen(line: &[u8], at: i32) -> u8x16
     requires some { 16 ≤ length line.now }
@@ -123,7 +122,7 @@ fn sixteen(line: &[u8], at: i32) -> u8x16
     shuffle(load(line, first), places(from as usize))
 }
 
-/// The same 32, one by one.
+/// The 32 pixels of a row from column `left` on, extended by its border pixels, one by one.
 #[inline(never)]
 fn beyond(line: &[u8], left: i32) -> [u8; 32]
     requires some { 0 < length line.now }

@@ -1,4 +1,4 @@
-//! Six taps of sixteen pixels a row (RFC 6386, chapter 18.3), by bytes times weights that are summed by twos.
+//! The six-tap filter on rows of sixteen pixels (RFC 6386, chapter 18.3), by multiply-add of bytes.
 
 ghost use Rattle.std.specs.Prelude.{◌≡◌, ℕ, ℤ, pos, negsuc, ◌+◌, ◌*◌, ◌/◌, ◌%◌, ◌<◌, ◌≤◌, ◌+ℤ◌, ◌-ℤ◌, ◌≤ℤ◌, length};
 ghost use Rattle.std.specs.Prelude.{slice_index, IsTrue};
@@ -15,16 +15,15 @@ use crate::reference::reference_line;
 use std::simd::prelude::*;
 use vp_base::Plane;
 
-/// Whether the weights at both ends are above 0.
+/// Whether the first and the last weight are above 0.
 pub(crate) fn both_ends_count(weights: &[i16; 6]) -> bool
     ensures { IsTrue result → (pos 1 ≤ℤ weight weights.now 0) × (pos 1 ≤ℤ weight weights.now 5) }
 {
     weights[0] > 0 && weights[5] > 0
 }
 
-/// The weights of six pixels that stand side by side, by turns: of the first, of the second and third, of the
-/// fourth and
-/// fifth, and of the last.
+/// The weights of six adjacent pixels, each vector with two alternating weights: of pixel 0, of 1 and 2, of 3 and 4,
+/// and of 5.
 #[derive(Clone, Copy)]
 pub(crate) struct RowWeights {
     first: i8x16,
@@ -33,7 +32,7 @@ pub(crate) struct RowWeights {
     last: i8x16,
 }
 
-/// The weights of six rows, by turns: of each of the first three, and of the row three below.
+/// The weights of six rows, each vector with two alternating weights: of rows 0 and 3, of 1 and 4, and of 2 and 5.
 #[derive(Clone, Copy)]
 pub(crate) struct ColumnWeights {
     first: i8x16,
@@ -41,7 +40,7 @@ pub(crate) struct ColumnWeights {
     third: i8x16,
 }
 
-/// `weights` by turns, for pixels side by side.
+/// The weights in alternating lanes, for adjacent pixels.
 pub(crate) fn paired_row_weights(weights: &[i16; 6]) -> RowWeights
     requires { AreSix weights.now }
     ensures { AreNear weights.now result }
@@ -54,7 +53,7 @@ pub(crate) fn paired_row_weights(weights: &[i16; 6]) -> RowWeights
     }
 }
 
-/// `weights` by turns, for rows.
+/// The weights in alternating lanes, for rows.
 pub(crate) fn paired_column_weights(weights: &[i16; 6]) -> ColumnWeights
     requires { AreSix weights.now }
     ensures { AreFar weights.now result }
@@ -66,7 +65,7 @@ pub(crate) fn paired_column_weights(weights: &[i16; 6]) -> ColumnWeights
     }
 }
 
-/// The lanes of both added.
+/// Adds the lanes of both.
 fn sum_of_both(a: i16x8, b: i16x8) -> i16x8
     requires { (j : ℕ) → j < 8 → IsShort (lane a j +ℤ lane b j) }
     ensures { (j : ℕ) → j < 8 → lane result j ≡ lane a j +ℤ lane b j }
@@ -74,7 +73,7 @@ fn sum_of_both(a: i16x8, b: i16x8) -> i16x8
     a + b
 }
 
-/// The lanes of all three added, with a half for rounding, and 16384 taken away.
+/// Adds the lanes of all three, plus 64 for rounding, minus 16384.
 fn sum_of_three(a: i16x8, b: i16x8, c: i16x8) -> i16x8
     requires first { (j : ℕ) → j < 8 → IsShort (lane a j -ℤ pos 16320) }
     requires both { (j : ℕ) → j < 8 → IsShort (lane a j -ℤ pos 16320 +ℤ lane b j) }
@@ -84,7 +83,7 @@ fn sum_of_three(a: i16x8, b: i16x8, c: i16x8) -> i16x8
     a + Simd::splat(64 - 16384) + b + c
 }
 
-/// The eight bytes of each, by turns.
+/// Interleaves the eight bytes of each.
 pub(crate) fn interleave(even: u8x8, odd: u8x8) -> u8x16
     ensures even { (j : ℕ) → j < 8 → slice_index result (2 * j) ≡ slice_index even j }
     ensures odd { (j : ℕ) → j < 8 → slice_index result (2 * j + 1) ≡ slice_index odd j }
@@ -92,7 +91,7 @@ pub(crate) fn interleave(even: u8x8, odd: u8x8) -> u8x16
     even.shuffle::<16>(odd, [0, 8, 1, 9, 2, 10, 3, 11, 4, 12, 5, 13, 6, 14, 7, 15])
 }
 
-/// The eight bytes of one and then those of the other.
+/// Concatenates both.
 fn joined(front: u8x8, back: u8x8) -> u8x16
     ensures front { (j : ℕ) → j < 8 → slice_index result j ≡ slice_index front j }
     ensures back { (j : ℕ) → j < 8 → slice_index result (8 + j) ≡ slice_index back j }
@@ -100,7 +99,7 @@ fn joined(front: u8x8, back: u8x8) -> u8x16
     front.shuffle::<16>(back, [0, 1, 2, 3, 4, 5, 6, 7, 8, 9, 10, 11, 12, 13, 14, 15])
 }
 
-/// The sums of six pixels side by side: of those from `at` on, of those from two pixels on, and so on.
+/// The weighted sums of six adjacent pixels, which begin at index `at`, `at + 2`, `at + 4` and so on.
 fn horizontal_sums(s: &[u8], at: usize, weights: &[i16; 6], near: &RowWeights) -> i16x8
     requires room { at + 20 ≤ length s.now }
     requires six { AreSix weights.now }
@@ -117,7 +116,7 @@ fn horizontal_sums(s: &[u8], at: usize, weights: &[i16; 6], near: &RowWeights) -
     )
 }
 
-/// The sums of six rows, of which those three apart stand by turns.
+/// The weighted sums of six rows. Each vector interleaves two rows that are three apart.
 fn vertical_sums(a: u8x16, b: u8x16, c: u8x16, weights: &[i16; 6], far: &ColumnWeights) -> i16x8
     requires six { AreSix weights.now }
     requires turns { AreFar weights.now far.now }
@@ -131,7 +130,7 @@ fn vertical_sums(a: u8x16, b: u8x16, c: u8x16, weights: &[i16; 6], far: &ColumnW
     )
 }
 
-/// Eight pixels, each made of six side by side: of those from `at` on, of those from two pixels on, and so on.
+/// Filters eight pixels horizontally. They begin at index `at`, `at + 2`, `at + 4` and so on.
 fn horizontal_eight(s: &[u8], at: usize, weights: &[i16; 6], near: &RowWeights) -> u8x8
     requires room { at + 20 ≤ length s.now }
     requires six { AreSix weights.now }
@@ -142,7 +141,7 @@ fn horizontal_eight(s: &[u8], at: usize, weights: &[i16; 6], near: &RowWeights) 
     ended::<8>(horizontal_sums(s, at, weights, near))
 }
 
-/// Eight pixels, each made of six rows, of which those three apart stand by turns.
+/// Filters eight pixels vertically. Each vector interleaves two rows that are three apart.
 pub(crate) fn vertical_eight(
     a: u8x16,
     b: u8x16,
@@ -158,7 +157,7 @@ pub(crate) fn vertical_eight(
     ended::<8>(vertical_sums(a, b, c, weights, far))
 }
 
-/// Sixteen pixels, each made of six side by side, from its own place on: those at even places before the others.
+/// Filters sixteen adjacent pixels horizontally: even columns first, then odd ones.
 fn horizontal_halves(s: &[u8], at: usize, weights: &[i16; 6], near: &RowWeights) -> u8x16
     requires room { at + 21 ≤ length s.now }
     requires six { AreSix weights.now }
@@ -172,7 +171,7 @@ fn horizontal_halves(s: &[u8], at: usize, weights: &[i16; 6], near: &RowWeights)
     )
 }
 
-/// Sixteen pixels, each made of six rows, of which those three apart stand by turns.
+/// Filters sixteen pixels vertically, from interleaved rows that are three apart.
 fn vertical_sixteen(pairs: &[u8], at: usize, weights: &[i16; 6], far: &ColumnWeights) -> u8x16
     requires room { at + 96 ≤ length pairs.now }
     requires six { AreSix weights.now }
@@ -197,8 +196,8 @@ fn vertical_sixteen(pairs: &[u8], at: usize, weights: &[i16; 6], far: &ColumnWei
     joined(front, back)
 }
 
-/// The horizontal pass over one row of the reference, straight from the plane if `INSIDE` says so: even columns before
-/// odd ones.
+/// Filters one row of the reference horizontally: even columns first, then odd ones. If `INSIDE`, it reads directly
+/// from the plane.
 #[inline(always)]
 pub(crate) fn halves_row<const INSIDE: bool>(
     plane: &Plane,
@@ -223,15 +222,15 @@ pub(crate) fn halves_row<const INSIDE: bool>(
     horizontal_halves(&line, 0, weights, near)
 }
 
-/// Sixteen pixels in their order, of which those at even places came before the others.
+/// Restores the order of sixteen pixels whose even columns are first.
 fn in_order(halves: u8x16) -> u8x16
     ensures { (c : ℕ) → c < 16 → slice_index result c ≡ slice_index halves (half_place c) }
 {
     halves.swizzle::<16>([0, 8, 1, 9, 2, 10, 3, 11, 4, 12, 5, 13, 6, 14, 7, 15])
 }
 
-/// The horizontal pass over `rows` rows of the reference. The loop reads the weights from memory again and again: what
-/// stood in registers from before it would not be multiplied and summed by one instruction.
+/// The horizontal pass over `rows` rows of the reference. The loop reloads the weights from memory: with weights in
+/// registers the compiler doesn't select the multiply-add instruction.
 #[inline(never)]
 fn wide_rows<const INSIDE: bool>(
     pixels: &mut [u8],
@@ -260,8 +259,8 @@ fn wide_rows<const INSIDE: bool>(
     }
 }
 
-/// The horizontal pass by six weights over `rows` rows of the reference, which all lie inside the plane if `inside`
-/// says so.
+/// The horizontal pass with six weights over `rows` rows of the reference. If `inside`, all of them are inside the
+/// plane.
 pub(crate) fn six_rows(
     pixels: &mut [u8],
     plane: &Plane,
@@ -290,7 +289,7 @@ pub(crate) fn six_rows(
     }
 }
 
-/// Writes the pixels of eighteen rows of sixteen, each and then that of the row three below.
+/// Interleaves eighteen rows of sixteen pixels, each with the row three below.
 #[inline(never)]
 fn pair_rows(pairs: &mut [u8], rows: &[u8])
     requires whole { length pairs.old ≡ 576 }
@@ -303,7 +302,7 @@ fn pair_rows(pairs: &mut [u8], rows: &[u8])
     }
 }
 
-/// The vertical pass over pairs of rows of sixteen.
+/// The vertical pass over interleaved rows of sixteen pixels.
 #[inline(never)]
 fn wide_columns(pixels: &mut [u8], pairs: &[u8], weights: &[i16; 6], far: &ColumnWeights)
     requires room { length pairs.now ≡ 576 }
@@ -319,7 +318,7 @@ fn wide_columns(pixels: &mut [u8], pairs: &[u8], weights: &[i16; 6], far: &Colum
     }
 }
 
-/// The vertical pass by six weights over rows of sixteen, of which there are five more than it makes.
+/// The vertical pass with six weights over rows of sixteen pixels, five more than it produces.
 pub(crate) fn six_columns(pixels: &mut [u8], rows: &[u8], weights: &[i16; 6])
     requires all { length rows.now ≡ 336 }
     requires whole { length pixels.old ≡ 256 }

@@ -1,5 +1,5 @@
-//! Both passes by six weights over a block of sixteen by sixteen pixels (RFC 6386, chapter 18.3). The rows of the first
-//! are written in pairs, as the second multiplies them, and each pass takes three rows a turn.
+//! Both passes with six weights over a 16x16 block (RFC 6386, chapter 18.3). The horizontal pass writes its rows
+//! interleaved, as the vertical pass multiplies them. Each pass processes three rows per iteration.
 
 ghost use Rattle.std.specs.Prelude.{◌≡◌, ℕ, ℤ, pos, negsuc, ◌+◌, ◌*◌, ◌<◌, ◌≤◌, ◌+ℤ◌, ◌≤ℤ◌, length, slice_index};
 ghost use Rattle.std.specs.Prelude.{IsTrue};
@@ -25,14 +25,14 @@ struct Three {
     third: u8x16,
 }
 
-/// A row and the row three below, by turns: their even columns and their odd ones.
+/// A row interleaved with the row three below: even columns, and odd ones.
 #[derive(Clone, Copy)]
 struct Pair {
     even: u8x16,
     odd: u8x16,
 }
 
-/// The horizontal pass over three rows of the reference: even columns before odd ones.
+/// Filters three rows of the reference horizontally: even columns first, then odd ones.
 fn three_rows<const INSIDE: bool>(
     plane: &Plane,
     left: i32,
@@ -61,7 +61,7 @@ fn three_rows<const INSIDE: bool>(
     }
 }
 
-/// The first eight of each, by turns.
+/// Interleaves the low eight bytes of each.
 fn interleave_lo(a: u8x16, b: u8x16) -> u8x16
     ensures even { (j : ℕ) → j < 8 → slice_index result (2 * j) ≡ slice_index a j }
     ensures odd { (j : ℕ) → j < 8 → slice_index result (2 * j + 1) ≡ slice_index b j }
@@ -69,7 +69,7 @@ fn interleave_lo(a: u8x16, b: u8x16) -> u8x16
     a.shuffle::<16>(b, [0, 16, 1, 17, 2, 18, 3, 19, 4, 20, 5, 21, 6, 22, 7, 23])
 }
 
-/// The last eight of each, by turns.
+/// Interleaves the high eight bytes of each.
 fn interleave_hi(a: u8x16, b: u8x16) -> u8x16
     ensures even { (j : ℕ) → j < 8 → slice_index result (2 * j) ≡ slice_index a (8 + j) }
     ensures odd { (j : ℕ) → j < 8 → slice_index result (2 * j + 1) ≡ slice_index b (8 + j) }
@@ -80,7 +80,7 @@ fn interleave_hi(a: u8x16, b: u8x16) -> u8x16
     )
 }
 
-/// Writes two rows by turns at place `i` of a run of pairs.
+/// Writes two interleaved rows at entry `i` of a run of pairs.
 fn put_pair(run: &mut [u8], i: usize, a: u8x16, b: u8x16)
     requires { 32 * i + 32 ≤ length run.old }
     ensures first { (c : ℕ) → c < 16 → slice_index run.new (32 * i + pair_place c 0) ≡ slice_index a (half_place c) }
@@ -91,9 +91,8 @@ fn put_pair(run: &mut [u8], i: usize, a: u8x16, b: u8x16)
     put_lanes::<16>(run, 2 * i + 1, interleave_hi(a, b));
 }
 
-/// The horizontal pass, to three runs of pairs, of which each takes every third row. The loop reads the weights from
-/// memory again and again: what stood in registers from before it would not be multiplied and summed by one
-/// instruction.
+/// The horizontal pass, to three runs of pairs; each has every third row. The loop reloads the weights from memory:
+/// with weights in registers the compiler doesn't select the multiply-add instruction.
 #[inline(never)]
 fn paired_rows<const INSIDE: bool>(
     first: &mut [u8],
@@ -134,7 +133,7 @@ fn paired_rows<const INSIDE: bool>(
     }
 }
 
-/// The same, straight from the plane where it has all of the rows.
+/// The horizontal pass, to three runs of pairs. It reads directly from the plane if all rows are inside.
 fn all_rows(
     first: &mut [u8],
     second: &mut [u8],
@@ -164,7 +163,7 @@ fn all_rows(
     }
 }
 
-/// Pair `e` of a run, behind the empty one.
+/// Pair `e` of a run. Entry 0 of a run is unused.
 fn pair_at(run: &[u8], e: usize) -> Pair
     requires size { length run.now ≡ 224 }
     requires place { e < 6 }
@@ -176,7 +175,7 @@ fn pair_at(run: &[u8], e: usize) -> Pair
     }
 }
 
-/// The row that three pairs of rows make, each one below the one before.
+/// Filters one row vertically, from three consecutive pairs of rows.
 fn vertical_row(a: &Pair, b: &Pair, c: &Pair, weights: &[i16; 6], far: &ColumnWeights) -> u8x16
     requires six { AreSix weights.now }
     requires turns { AreFar weights.now far.now }
@@ -190,7 +189,7 @@ fn vertical_row(a: &Pair, b: &Pair, c: &Pair, weights: &[i16; 6], far: &ColumnWe
     )
 }
 
-/// Three rows, of five pairs of the three runs: from pair `e` of the first on.
+/// Filters three rows vertically, from five consecutive pairs of the three runs, beginning with pair `e` of the first.
 fn vertical_three_rows(
     first: &[u8],
     second: &[u8],
@@ -258,8 +257,8 @@ fn paired_columns(
     put_lanes::<16>(pixels, 15, last);
 }
 
-/// Both passes by six weights over a block of the reference. Three runs of this size are cleared in place, where one as
-/// large as all of them would be by a call.
+/// Both passes with six weights over a block of the reference. Three small runs are cleared inline; one buffer for all
+/// would be cleared by a call.
 pub(crate) fn six_tap_2d_block(
     pixels: &mut [u8],
     plane: &Plane,

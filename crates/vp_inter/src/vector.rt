@@ -1,16 +1,16 @@
-//! Vectors of a plane, and what is read of them.
+//! Motion vectors of a plane: whole pixels, fractions, and chroma vectors.
 
 ghost use Rattle.std.specs.Prelude.{◌≡◌, ℕ, ℤ, pos, negsuc, ◌+◌, ◌<◌, ◌≤◌, ◌+ℤ◌, ◌-ℤ◌, ◌*ℤ◌, ◌≤ℤ◌, unsigned_abs, ◌^◌};
 ghost use lib.Signed.{shr_z};
 ghost use Rattle.vp_inter.specs.Vectors.{whole_pixels, fraction, first_tap, IsFarBelowI32, AreFarBelowI32};
 ghost use Rattle.vp_inter.specs.Vectors.{mean_of_four, chroma_eighths, luma_vector, chroma_vector};
 
-/// How far a block moves, in eighths of the plane's pixels (RFC 6386, chapter 5).
+/// A motion vector in eighths of the plane's pixels (RFC 6386, chapter 5).
 #[derive(Clone, Copy, Debug, PartialEq, Eq, Default)]
 pub struct PlaneVector {
-    /// Positive is down.
+    /// Rows; positive is down.
     pub row: i32,
-    /// Positive is to the right.
+    /// Columns; positive is right.
     pub column: i32,
 }
 
@@ -23,7 +23,7 @@ fn whole_pixels(eighths: i32) -> i32
     eighths >> 3
 }
 
-/// The eighths above the whole pixels.
+/// The remaining eighths, 0 to 7.
 #[tactic(auto, unfolding(crate::specs::Vectors::fraction))]
 pub(crate) fn fraction(eighths: i32) -> usize
     ensures value { result ≡ fraction eighths }
@@ -32,7 +32,7 @@ pub(crate) fn fraction(eighths: i32) -> usize
     eighths.rem_euclid(8) as usize
 }
 
-/// Where the first of the six pixels stands that the pixel at `at` is made of.
+/// The position of the first of the six pixels that the pixel at `at` is computed from.
 #[tactic(auto, unfolding(crate::specs::Vectors::first_tap))]
 pub(crate) fn first_tap(at: usize, eighths: i32) -> i32
     requires { at ≤ 16384 }
@@ -42,7 +42,7 @@ pub(crate) fn first_tap(at: usize, eighths: i32) -> i32
     at as i32 + whole_pixels(eighths) - 2
 }
 
-/// The vector of a luma block that moves by so many quarters of a pixel.
+/// The vector of a luma block, from quarter pixels.
 #[tactic(auto, unfolding(crate::specs::Vectors::luma_vector))]
 pub fn luma_vector(row: i32, column: i32) -> PlaneVector
     requires row { IsFarBelowI32 row }
@@ -55,9 +55,8 @@ pub fn luma_vector(row: i32, column: i32) -> PlaneVector
     }
 }
 
-/// The vector of a block of 4 by 4 colour pixels, of the rows and the columns, in quarters of a pixel, of the
-/// vectors of
-/// the four luma blocks of 4 by 4 that it lies under. `version` is the frame's.
+/// The vector of a 4x4 chroma block: the mean of the vectors of the four luma blocks that it covers, given by rows and
+/// columns in quarter pixels. `version` is that of the frame tag; version 3 uses whole pixels.
 #[tactic(auto, unfolding(crate::specs::Vectors::chroma_vector))]
 pub fn chroma_vector(version: u8, rows: &[i32; 4], columns: &[i32; 4]) -> PlaneVector
     requires rows { AreFarBelowI32 rows.now }
@@ -70,6 +69,7 @@ pub fn chroma_vector(version: u8, rows: &[i32; 4], columns: &[i32; 4]) -> PlaneV
     }
 }
 
+/// The mean of four rows or columns in quarter luma pixels, in eighths of a chroma pixel.
 #[tactic(auto, unfolding(crate::specs::Vectors::chroma_eighths))]
 fn chroma_eighths(version: u8, quarters: &[i32; 4]) -> i32
     requires { AreFarBelowI32 quarters.now }
@@ -94,6 +94,7 @@ fn sum_of_two(a: i32, b: i32) -> i32
     a + b
 }
 
+/// A quarter of the sum, rounded to the nearest, halves away from zero.
 #[tactic(auto, unfolding(crate::specs::Vectors::mean_of_four))]
 fn mean_of_four(sum: i32) -> i32
     requires { (negsuc 67108863 ≤ℤ sum) × (sum ≤ℤ pos 67108864) }

@@ -1,5 +1,5 @@
--- Intra prediction of a luma subblock by its ten modes, and the row that the pixels above and to the right come from
--- (RFC 6386, chapter 12.3). Pinned by the test `ten_subblock_modes`.
+-- Intra prediction of a luma subblock by its ten modes, and the row of the pixels above and to the right (RFC 6386,
+-- chapter 12.3). Pinned by the test `ten_subblock_modes`.
 use Rattle.std.specs.Prelude.{ℕ, ◌+◌, ◌*◌, ◌-◌, ◌/◌, ◌%◌, ◌==◌, min, List, [], ◌∷◌, sum, take, drop, map, slice_index}
 use Rattle.std.specs.Prelude.{replicate, if◌then◌else◌}
 use Rattle.std.specs.List.{range_with_len}
@@ -8,43 +8,45 @@ use Rattle.vp_tables.specs.declared.modes.SubMode.{SubMode}
 use Rattle.vp_tables.specs.declared.modes.SubMode.TheVariants.{Dc, Tm, Ve, He, Ld, Rd, Vr, Vl, Hd, Hu}
 use Rattle.vp_intra.specs.Edges.{above_pixel, left_pixel, corner_pixel, clamped_pixel}
 
--- the row below the pixels above and to the right of the subblock at column x of row y: in the last column of a
--- macroblock it is the macroblock's first row, not the subblock's
+-- The row below the pixels above and to the right of the subblock at column x of row y. In the last column of a
+-- macroblock it is the macroblock's first row, not the subblock's.
 unfoldable pub right_row : ℕ → ℕ → ℕ
 right_row x y = if x % 16 == 12 then y - y % 16 else y
 
--- the i-th of these pixels: above the frame it is 127, and past the last column the last pixel is repeated
+-- pixel i of those above and to the right; above the frame it is 127; past the last column the last pixel is repeated
 unfoldable pub above_right_pixel : Raster → ℕ → ℕ → ℕ → ℕ
 above_right_pixel p x y i = if right_row x y == 0 then 127 else pixel p (min (x + 4 + i) (p.width - 1))
     (right_row x y - 1)
 
--- The thirteen pixels round a subblock, from the bottom of the left column up, over the corner, and along the row
--- above: number 4 is the corner, number 5 the first of the row above, and number 3 the top of the left column.
+-- The thirteen pixels around a subblock: the left column from the bottom up, the corner, the row above and above
+-- right. Index 3 is the top of the left column, 4 the corner, 5 the first of the row above.
 abbrev pub around : Raster → ℕ → ℕ → List ℕ
 around p x y =
     left_pixel p x y 3 ∷ left_pixel p x y 2 ∷ left_pixel p x y 1 ∷ left_pixel p x y 0 ∷ corner_pixel p x y ∷
     above_pixel p x y 0 ∷ above_pixel p x y 1 ∷ above_pixel p x y 2 ∷ above_pixel p x y 3 ∷
     above_right_pixel p x y 0 ∷ above_right_pixel p x y 1 ∷ above_right_pixel p x y 2 ∷ above_right_pixel p x y 3 ∷ []
 
+-- the mean of two pixels, rounded
 unfoldable pub avg2 : ℕ → ℕ → ℕ
 avg2 x y = (x + y + 1) / 2
 
+-- the mean of three pixels with weights 1, 2, 1, rounded
 unfoldable pub avg3 : ℕ → ℕ → ℕ → ℕ
 avg3 x y z = (x + 2 * y + z + 2) / 4
 
--- two neighbours of the thirteen
+-- the mean of pixels k and k + 1
 abbrev pub two : List ℕ → ℕ → ℕ
 two es k = avg2 (slice_index es k) (slice_index es (k + 1))
 
--- one of them with its neighbours
+-- the weighted mean of pixels k - 1, k and k + 1
 abbrev pub about : List ℕ → ℕ → ℕ
 about es k = avg3 (slice_index es (k - 1)) (slice_index es k) (slice_index es (k + 1))
 
--- the sixteen pixels of a subblock, row after row
+-- the sixteen pixels of a subblock in raster order
 abbrev pub sixteen : (ℕ → ℕ → ℕ) → List ℕ
 sixteen f = map (λ i. f (i / 4) (i % 4)) (range_with_len 0 16)
 
--- what a mode makes of the thirteen
+-- the subblock that a mode predicts from the thirteen pixels
 abbrev pub predicted : SubMode → List ℕ → List ℕ
 predicted Dc es = replicate 16 ((sum (take 4 es) + sum (take 4 (drop 5 es)) + 4) / 8)
 predicted Tm es = sixteen (λ r c. clamped_pixel (slice_index es (3 - r)) (slice_index es (5 + c)) (slice_index es 4))
@@ -76,6 +78,6 @@ predicted Hu es =
     two es 0 ∷ avg3 (slice_index es 1) (slice_index es 0) (slice_index es 0) ∷ slice_index es 0 ∷ slice_index es 0 ∷
     slice_index es 0 ∷ slice_index es 0 ∷ slice_index es 0 ∷ slice_index es 0 ∷ []
 
--- row r and column c of the subblock at column x of row y of p
+-- the predicted pixel at row r and column c of the subblock at column x of row y of p
 unfoldable pub sub_pixel : SubMode → Raster → ℕ → ℕ → ℕ → ℕ → ℕ
 sub_pixel mode p x y r c = slice_index (predicted mode (around p x y)) (r * 4 + c)

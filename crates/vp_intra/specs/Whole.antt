@@ -1,5 +1,5 @@
--- Intra prediction of a macroblock's luma and chroma as a whole: DC, V, H and TM (RFC 6386, chapters 12.2 and 12.3).
--- Pinned by the test `whole_modes`.
+-- Intra prediction of a macroblock's whole luma and chroma: DC, V, H and TM (RFC 6386, chapters 12.2 and 12.3). Pinned
+-- by the test `whole_modes`.
 use Rattle.std.specs.Prelude.{ℕ}
 use Rattle.vp_base.specs.Raster.{Raster}
 use Rattle.vp_tables.specs.declared.modes.LumaMode.{LumaMode}
@@ -9,7 +9,7 @@ use Rattle.vp_tables.specs.declared.modes.ChromaMode.TheVariants.{Dc as ChromaDc
 use Rattle.vp_tables.specs.declared.modes.ChromaMode.TheVariants.{Tm as ChromaTm}
 use Rattle.vp_intra.specs.Edges.{above_pixel, left_pixel, true_motion, edge, rounded_mean}
 
--- row r and column c of the 16 by 16 block at column x of row y of p; B predicts no whole block, and has no pixel here
+-- the pixel at row r and column c of the 16x16 block at column x of row y of p; B has no whole-block prediction, so 0
 unfoldable pub luma_pixel : LumaMode → Raster → ℕ → ℕ → ℕ → ℕ → ℕ
 luma_pixel Dc p x y r c = rounded_mean (edge p x y 16)
 luma_pixel V p x y r c = above_pixel p x y c
@@ -17,7 +17,7 @@ luma_pixel H p x y r c = left_pixel p x y r
 luma_pixel Tm p x y r c = true_motion p x y r c
 luma_pixel B p x y r c = 0
 
--- row r and column c of the 8 by 8 block at column x of row y of p
+-- the pixel at row r and column c of the 8x8 block at column x of row y of p
 unfoldable pub chroma_pixel : ChromaMode → Raster → ℕ → ℕ → ℕ → ℕ → ℕ
 chroma_pixel ChromaDc p x y r c = rounded_mean (edge p x y 8)
 chroma_pixel ChromaV p x y r c = above_pixel p x y c

@@ -1,4 +1,4 @@
-//! The pixels round a block (chapter 12.2).
+//! The pixels around a block (RFC 6386, chapter 12.2).
 
 ghost use Rattle.std.specs.Prelude.{◌≡◌, ℕ, ◌+◌, ◌*◌, ◌/◌, ◌<◌, ◌≤◌, length, sum};
 ghost use Rattle.vp_base.specs.Raster.{Raster, pixel};
@@ -7,7 +7,7 @@ ghost use Rattle.vp_intra.specs.Edges.{first, above_pixel, left_pixel, corner_pi
 use std::simd::prelude::*;
 use vp_base::Plane;
 
-/// The row above a block.
+/// The row above a block; 127 above the frame.
 #[tactic(auto, unfolding(crate::specs::Edges::above_pixel))]
 pub(crate) fn edge_above<const N: usize>(plane: &Plane, x: usize, y: usize) -> [u8; N]
     requires size { N ≤ 16 }
@@ -22,7 +22,7 @@ pub(crate) fn edge_above<const N: usize>(plane: &Plane, x: usize, y: usize) -> [
     edge
 }
 
-/// The column to the left of a block.
+/// The column to the left of a block; 129 left of the frame.
 #[tactic(auto, unfolding(crate::specs::Edges::left_pixel))]
 pub(crate) fn edge_left<const N: usize>(plane: &Plane, x: usize, y: usize) -> [u8; N]
     requires size { N ≤ 16 }
@@ -56,7 +56,7 @@ pub(crate) fn edge_corner(plane: &Plane, x: usize, y: usize) -> u8
     }
 }
 
-/// The rounded mean of the pixels above and to the left that lie inside the picture.
+/// The rounded mean of the pixels above and to the left that are inside the frame; 128 if there are none.
 #[tactic(auto, unfolding(crate::specs::Edges::edge))]
 pub(crate) fn edge_mean<const N: usize>(plane: &Plane, x: usize, y: usize) -> u8
     requires columns { x + N ≤ plane.now.width }
@@ -93,7 +93,7 @@ fn rounded(sum: u16, count: u16) -> u8
     ((sum + count / 2) / count) as u8
 }
 
-/// The sum of an edge, in lanes: it compiles to one instruction.
+/// Sums an edge in lanes; it compiles to one instruction.
 fn sum_of_edge<const N: usize>(edge: Simd<u8, N>) -> u16
     requires size { N ≤ 16 }
     ensures value { result ≡ sum edge.entry }
@@ -102,7 +102,7 @@ fn sum_of_edge<const N: usize>(edge: Simd<u8, N>) -> u16
     edge.cast::<u16>().strict_reduce_sum()
 }
 
-/// The sum of at most sixteen pixels.
+/// Sums at most sixteen pixels.
 pub(crate) fn sum_of(bytes: &[u8]) -> u16
     requires { length bytes.now ≤ 16 }
     ensures value { result ≡ sum bytes.now }

@@ -1,4 +1,4 @@
-//! Intra prediction: blocks from the pixels round them (RFC 6386, chapter 12).
+//! Intra prediction: a block from the pixels around it (RFC 6386, chapter 12).
 #![tactic(auto)]
 
 mod edges;

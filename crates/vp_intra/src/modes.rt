@@ -1,4 +1,4 @@
-//! The ten modes of a subblock of 4 by 4 pixels (chapter 12.3).
+//! The ten prediction modes of a 4x4 subblock (RFC 6386, chapter 12.3).
 
 ghost use Rattle.std.specs.Prelude.{◌≡◌, ℕ, ◌+◌, ◌*◌, ◌/◌, ◌<◌, ◌≤◌, length, slice_index};
 ghost use Rattle.vp_intra.specs.Edges.{clamped_pixel};
@@ -7,6 +7,7 @@ ghost use Rattle.vp_intra.specs.Sub.{avg2, avg3, predicted};
 use crate::edges::sum_of;
 use vp_tables::SubMode;
 
+/// The mean of two pixels, rounded.
 #[tactic(auto, unfolding(crate::specs::Sub::avg2))]
 fn mean2(x: u8, y: u8) -> u8
     ensures { result ≡ avg2 x y }
@@ -14,6 +15,7 @@ fn mean2(x: u8, y: u8) -> u8
     ((u16::from(x) + u16::from(y) + 1) >> 1) as u8
 }
 
+/// The mean of three pixels with weights 1, 2, 1, rounded.
 #[tactic(auto, unfolding(crate::specs::Sub::avg3))]
 fn mean3(x: u8, y: u8, z: u8) -> u8
     ensures { result ≡ avg3 x y z }
@@ -142,6 +144,7 @@ fn horizontal_up(e: &[u8; 13]) -> [u8; 16]
     [t2, a2, t1, a1, t1, a1, t0, a0, t0, a0, l, l, l, l, l, l]
 }
 
+/// DC prediction: the mean of the pixels above and to the left.
 fn direct(e: &[u8; 13]) -> [u8; 16]
     ensures { result ≡ predicted SubMode.Dc e.now }
 {
@@ -181,7 +184,7 @@ fn true_motion(e: &[u8; 13]) -> [u8; 16]
     ]
 }
 
-/// The block that a mode makes of the thirteen pixels round it.
+/// Predicts a 4x4 block from the thirteen pixels around it.
 pub(crate) fn predict(mode: SubMode, e: &[u8; 13]) -> [u8; 16]
     ensures { result ≡ predicted mode e.now }
 {

@@ -1,4 +1,4 @@
-//! Prediction of a subblock of 4 by 4 pixels (chapter 12.3).
+//! Intra prediction of a 4x4 subblock (RFC 6386, chapter 12.3).
 
 ghost use Rattle.std.specs.Prelude.{◌≡◌, ℕ, ◌+◌, ◌<◌, ◌≤◌};
 ghost use Rattle.vp_intra.specs.Edges.{block};
@@ -9,8 +9,8 @@ use crate::modes::predict;
 use vp_base::Plane;
 use vp_tables::SubMode;
 
-/// The subblock that `mode` makes at column `x` of row `y` of `plane`, row after row. Both are multiples of 4 in a
-/// plane of luma; the last column of each macroblock takes the pixels above and to the right from the row above the
+/// Predicts the 4x4 subblock at column `x` of row `y` of a luma plane; both are multiples of 4. Returns it in raster
+/// order. In the last column of a macroblock, the pixels above and to the right are those of the row above the
 /// macroblock.
 pub fn predict_sub(plane: &Plane, x: usize, y: usize, mode: SubMode) -> [u8; 16]
     requires columns { x + 4 ≤ plane.now.width }
@@ -20,6 +20,7 @@ pub fn predict_sub(plane: &Plane, x: usize, y: usize, mode: SubMode) -> [u8; 16]
     predict(mode, &pixels_around(plane, x, y))
 }
 
+/// The row below the pixels above and to the right of a subblock.
 #[tactic(auto, unfolding(crate::specs::Sub::right_row))]
 fn row_at_right(x: usize, y: usize) -> usize
     ensures value { result ≡ right_row x y }
@@ -28,6 +29,7 @@ fn row_at_right(x: usize, y: usize) -> usize
     if x % 16 == 12 { y - y % 16 } else { y }
 }
 
+/// Pixel `i`, 0 to 3, of those above and to the right of a subblock.
 #[tactic(auto, unfolding(crate::specs::Sub::above_right_pixel))]
 fn pixel_at_right(plane: &Plane, x: usize, y: usize, i: usize) -> u8
     requires column { x + 4 ≤ plane.now.width }
@@ -44,7 +46,7 @@ fn pixel_at_right(plane: &Plane, x: usize, y: usize, i: usize) -> u8
     }
 }
 
-/// The thirteen pixels round a subblock.
+/// The thirteen pixels around a subblock: left column from the bottom, corner, row above.
 fn pixels_around(plane: &Plane, x: usize, y: usize) -> [u8; 13]
     requires columns { x + 4 ≤ plane.now.width }
     requires rows { y + 4 ≤ plane.now.height }

@@ -1,4 +1,4 @@
-//! Prediction of a macroblock's luma or chroma as a whole (chapters 12.2 and 12.3).
+//! Intra prediction of a whole macroblock's luma or chroma (RFC 6386, chapters 12.2 and 12.3).
 
 ghost use Rattle.std.specs.Prelude.{◌≡◌, ℕ, ◌+◌, ◌*◌, ◌<◌, ◌≤◌, length, slice_index};
 ghost use Rattle.vp_base.specs.Raster.{Raster, pixel};
@@ -12,7 +12,7 @@ use std::simd::prelude::*;
 use vp_base::{Picture, Plane};
 use vp_tables::{ChromaMode, LumaMode};
 
-/// The 16 by 16 block that `mode` makes at column `x` of row `y` of `plane`, row after row.
+/// Predicts the 16x16 luma block at column `x` of row `y`. Returns it in raster order. `mode` must not be `B`.
 pub fn predict_luma(plane: &Plane, x: usize, y: usize, mode: LumaMode) -> [u8; 256]
     requires columns { x + 16 ≤ plane.now.width }
     requires rows { y + 16 ≤ plane.now.height }
@@ -32,7 +32,7 @@ pub fn predict_luma(plane: &Plane, x: usize, y: usize, mode: LumaMode) -> [u8; 2
     }
 }
 
-/// The 8 by 8 block that `mode` makes at column `x` of row `y` of `plane`, row after row.
+/// Predicts the 8x8 chroma block at column `x` of row `y`. Returns it in raster order.
 pub fn predict_chroma(plane: &Plane, x: usize, y: usize, mode: ChromaMode) -> [u8; 64]
     requires columns { x + 8 ≤ plane.now.width }
     requires rows { y + 8 ≤ plane.now.height }
@@ -50,7 +50,8 @@ pub fn predict_chroma(plane: &Plane, x: usize, y: usize, mode: ChromaMode) -> [u
     }
 }
 
-/// Writes to `picture` the 16 by 16 luma block that `mode` makes at column `x` of row `y`. Its pixels are bytes.
+/// Predicts the 16x16 luma block at column `x` of row `y`, and writes it to `picture`. `mode` must not be `B`. The
+/// predicted pixels are bytes.
 pub fn predict_luma_into(picture: &mut Picture, x: usize, y: usize, mode: LumaMode)
     requires columns { x + 16 ≤ picture.old.luma.width }
     requires rows { y + 16 ≤ picture.old.luma.height }
@@ -84,7 +85,7 @@ pub fn predict_luma_into(picture: &mut Picture, x: usize, y: usize, mode: LumaMo
     }
 }
 
-/// Writes to plane `k` of `picture`, one of colour, the 8 by 8 block that `mode` makes at column `x` of row `y`.
+/// Predicts the 8x8 block at column `x` of row `y` of chroma plane `k`, and writes it to `picture`.
 pub fn predict_chroma_into(picture: &mut Picture, k: usize, x: usize, y: usize, mode: ChromaMode)
     requires plane { k < 3 }
     requires columns { x + 8 ≤ (plane_of picture.old k).width }
@@ -117,7 +118,7 @@ pub fn predict_chroma_into(picture: &mut Picture, k: usize, x: usize, y: usize, 
     }
 }
 
-/// The row above in each row of `N`.
+/// Vertical prediction: copies the row above to `N` rows.
 fn vertical<const N: usize, const M: usize>(above: &[u8; N]) -> [u8; M]
     requires size { N ≤ 16 }
     requires square { M ≡ N * N }
@@ -132,7 +133,7 @@ fn vertical<const N: usize, const M: usize>(above: &[u8; N]) -> [u8; M]
     pixels
 }
 
-/// The column to the left in each column of `N`.
+/// Horizontal prediction: copies the column to the left to `N` columns.
 fn horizontal<const N: usize, const M: usize>(left: &[u8; N]) -> [u8; M]
     requires size { N ≤ 16 }
     requires square { M ≡ N * N }
@@ -146,7 +147,7 @@ fn horizontal<const N: usize, const M: usize>(left: &[u8; N]) -> [u8; M]
     pixels
 }
 
-/// A row of one pixel again and again.
+/// A row of `N` equal pixels.
 fn even_row<const N: usize>(pixel: u8) -> Simd<u8, N>
     requires size { N ≤ 16 }
     ensures { (c : ℕ) → c < N → slice_index result c ≡ pixel }
@@ -154,7 +155,7 @@ fn even_row<const N: usize>(pixel: u8) -> Simd<u8, N>
     Simd::splat(pixel)
 }
 
-/// Left and above less the corner, clamped.
+/// TrueMotion prediction: left plus above minus corner, clamped.
 fn true_motion<const N: usize, const M: usize>(
     above: &[u8; N],
     left: &[u8; N],
@@ -173,8 +174,8 @@ fn true_motion<const N: usize, const M: usize>(
     pixels
 }
 
-/// One row of true motion: what the left is above the corner is added to the row above, or what it is below it is taken
-/// away. One of the two is 0.
+/// One row of TrueMotion prediction. The positive part of left minus corner is added to the row above, and the
+/// negative part is subtracted, both with saturation. One of the two is 0.
 fn true_motion_row<const N: usize>(above: Simd<u8, N>, left: u8, corner: u8) -> Simd<u8, N>
     requires size { N ≤ 16 }
     ensures { (c : ℕ) → c < N → slice_index result c ≡ clamped_pixel left (slice_index above.entry c) corner }
@@ -186,7 +187,7 @@ fn true_motion_row<const N: usize>(above: Simd<u8, N>, left: u8, corner: u8) -> 
         .saturating_sub(Simd::splat(down))
 }
 
-/// Writes row `r` of a block of rows of `N`.
+/// Writes row `r` of a block of `N` columns.
 fn put_row<const N: usize>(pixels: &mut [u8], r: usize, row: Simd<u8, N>)
     requires size { N ≤ 16 }
     requires room { r * N + N ≤ length pixels.old }

@@ -1,5 +1,5 @@
--- The head and the packets of an IVF file, and the faults in their order. All numbers are little endian. IVF is the
--- container of the standard's test streams, and no part of RFC 6386. Pinned by the tests `packet_limits`,
+-- The header and the packets of an IVF file, and its faults in order. All numbers are little endian. IVF is the
+-- container of the standard's test streams, and not part of RFC 6386. Pinned by the tests `packet_limits`,
 -- `file_cut_short` and `fed_byte_by_byte`.
 use Rattle.std.specs.Prelude.{ℕ, zero, suc, ◌+◌, nat_lt, nat_eq, not, List, [], ◌∷◌, ◌++◌, length, take, drop, Option}
 use Rattle.std.specs.Prelude.{Some, None, Result, Ok, Err, if◌then◌else◌, codes}
@@ -10,8 +10,8 @@ use Rattle.vp_ivf.specs.declared.packet.IvfHead.{IvfHead}
 use Rattle.vp_ivf.specs.declared.fault.FileFault.{FileFault}
 use Rattle.vp_ivf.specs.declared.fault.FileFault.TheVariants.{Signature, Codec, TooMany, PacketTooLarge}
 
--- what is known of a file by its bytes so far: its head, the packets that were cut, how many more may come,
--- the fault that was met, and the bytes that weren't cut
+-- what the bytes so far contain: the header, the complete packets, how many more are allowed, the fault, and the
+-- remaining bytes
 pub record Contents : Type 0 where
   pub head : Option IvfHead
   pub packets : List Packet
@@ -19,7 +19,7 @@ pub record Contents : Type 0 where
   pub fault : Option FileFault
   pub rest : List ℕ
 
--- what the 32 bytes of a file's head say
+-- the fields of the 32 bytes of the file header
 abbrev pub parsed_ivf_head : List ℕ → IvfHead
 parsed_ivf_head b = record {
   w = little_number 2 (drop 12 b);
@@ -28,23 +28,22 @@ parsed_ivf_head b = record {
   scale = little_number 4 (drop 20 b);
 }
 
--- the head, once its 32 bytes are there
+-- the file header, once its 32 bytes are there
 unfoldable pub next_head : List ℕ → Result (Option IvfHead) FileFault
 next_head b =
     if nat_lt (length b) 32 then Ok None else
     if not (starts_with nat_eq b (codes "DKIF")) then Err Signature else
     if not (starts_with nat_eq (drop 8 b) (codes "VP80")) then Err Codec else Ok (Some (parsed_ivf_head b))
 
--- the size that a packet's head says
+-- the size in a packet header
 abbrev pub packet_size : List ℕ → ℕ
 packet_size b = little_number 4 b
 
--- the packet at the front, of this size: its time and its bytes, behind the 12 bytes of its head
+-- the first packet, of this size: its time and its bytes, after the 12 bytes of its header
 abbrev pub packet_at : ℕ → List ℕ → Packet
 packet_at size b = record { time = little_number 8 (drop 4 b); bytes = take size (drop 12 b) }
 
--- the size of the packet at the front, once it is whole, where packets of at most max bytes are allowed and n more
--- of them
+-- the size of the first packet, once it is complete; at most n more packets of at most max bytes each are allowed
 unfoldable pub next_size : ℕ → ℕ → List ℕ → Result (Option ℕ) FileFault
 next_size max zero b = if nat_lt (length b) 12 then Ok None else Err TooMany
 next_size max (suc n) b =
@@ -52,44 +51,46 @@ next_size max (suc n) b =
     if nat_lt max (packet_size b) then Err PacketTooLarge else
     if nat_lt (length b) (12 + packet_size b) then Ok None else Ok (Some (packet_size b))
 
--- nothing more can be cut
+-- the contents if nothing more can be read
 abbrev pub stop : Option IvfHead → ℕ → Option FileFault → List ℕ → Contents
 stop head n fault b = record { head = head; packets = []; left = n; fault = fault; rest = b }
 
--- these packets come before
+-- contents with these packets first
 abbrev pub with_front : List Packet → Contents → Contents
 with_front front r = record r { packets = front ++ r.packets }
 
--- a fault or want of bytes stops; else the packet comes before what is cut later
+-- a fault or missing bytes end the reading; else the packet precedes the packets that are read later
 abbrev pub after_next : Option IvfHead → Result (Option ℕ) FileFault → ℕ → List ℕ → Contents → Contents
 after_next head (Err fault) n b later = stop head n (Some fault) b
 after_next head (Ok None) n b later = stop head n None b
 after_next head (Ok (Some size)) n b later = with_front (packet_at size b ∷ []) later
 
--- what is cut behind the head, where n packets may still come
+-- the contents after the file header, with at most n more packets
 unfoldable pub cuts : Option IvfHead → ℕ → ℕ → List ℕ → Contents
 cuts head max zero b = after_next head (next_size max zero b) 0 b (stop head 0 None b)
 cuts head max (suc n) b = after_next head (next_size max (suc n) b) (suc n) b
     (cuts head max n (drop (12 + packet_size b) b))
 
+-- the contents of a file, given its header, a fault, or too few bytes for a header
 abbrev pub after_head : Result (Option IvfHead) FileFault → ℕ → ℕ → List ℕ → Contents
 after_head (Err fault) max n b = stop None n (Some fault) b
 after_head (Ok None) max n b = stop None n None b
 after_head (Ok (Some head)) max n b = cuts (Some head) max n (drop 32 b)
 
--- a whole file, of at most n packets of at most max bytes each
+-- the contents of a file of at most n packets of at most max bytes each
 unfoldable pub read_file : ℕ → ℕ → List ℕ → Contents
 read_file max n b = after_head (next_head b) max n b
 
--- reading goes on behind a head that is known, or not yet
+-- the contents of further bytes; the file header is known or still to be read
 abbrev pub read_from : Option IvfHead → ℕ → ℕ → List ℕ → Contents
 read_from None max n b = read_file max n b
 read_from (Some head) max n b = cuts (Some head) max n b
 
--- more bytes come; behind a fault they are not read
+-- the contents after more bytes; after a fault they are not read
 abbrev pub resume_at : Option FileFault → ℕ → Contents → List ℕ → Contents
 resume_at (Some fault) max r more = record r { rest = r.rest ++ more }
 resume_at None max r more = with_front r.packets (read_from r.head max r.left (r.rest ++ more))
 
+-- the contents of a file after more bytes
 abbrev pub resume : ℕ → Contents → List ℕ → Contents
 resume max r more = resume_at r.fault max r more

@@ -3,6 +3,7 @@ use Rattle.std.specs.Prelude.{ℕ, List, codes}
 use Rattle.vp_ivf.specs.declared.fault.FileFault.{FileFault}
 use Rattle.vp_ivf.specs.declared.fault.FileFault.TheVariants.{Signature, Codec, TooMany, PacketTooLarge, Torn, Ended}
 
+-- the name of a fault as ASCII codes
 abbrev pub file_fault_name : FileFault → List ℕ
 file_fault_name Signature = codes "Signature"
 file_fault_name Codec = codes "Codec"

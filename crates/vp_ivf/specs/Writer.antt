@@ -1,4 +1,4 @@
--- The model of an IVF writer: what is on the device, the packets that remain, and the faults in their order. Pinned by
+-- The model of an IVF writer: the contents of the device, the packets that remain, and the faults in order. Pinned by
 -- the tests `file_of_one_packet` and `fails_at_each_write`.
 use Rattle.std.specs.Prelude.{ℕ, zero, suc, Bool, true, false, ◌≡◌, ◌≤◌, ◌-◌, List, [], ◌∷◌, ◌++◌, length, Option, Some}
 use Rattle.std.specs.Prelude.{None, Result, Ok, Err}
@@ -11,19 +11,19 @@ use Rattle.vp_ivf.specs.declared.writer.WriteFault.{WriteFault}
 use Rattle.vp_ivf.specs.declared.writer.WriteFault.TheVariants.{Device, Count}
 use Rattle.vp_ivf.specs.Text.{file_text}
 
--- which reference to its device the writer holds
+-- the identity of the mutable reference to the device
 abbrev pub device_name : {W : Type 0} → Writer W → ℕ
 device_name writer = writer.out.ghost_name
 
--- what stands there, where that is known
+-- the contents of the device, if known
 abbrev pub device_contents : {W : Type 0} → (W → Option (List ℕ)) → Writer W → Option (List ℕ)
 device_contents contents writer = counted_contents contents writer.out.now
 
--- how many of its calls failed
+-- the number of failed calls of the device
 abbrev pub device_failures : {W : Type 0} → Writer W → ℕ
 device_failures writer = counted_failures writer.out.now
 
--- how many packets may still come
+-- the number of packets that may still be written
 abbrev pub packets_left : {W : Type 0} → Writer W → ℕ
 packets_left writer = writer.left
 
@@ -31,23 +31,24 @@ packets_left writer = writer.left
 abbrev pub has_failed : {W : Type 0} → Writer W → Bool
 has_failed writer = writer.failed
 
--- what a packet is refused with before anything is written: a device that failed, then a count that is reached
+-- why a packet is rejected before anything is written: a failed device, then a reached count
 abbrev pub write_refusal : Bool → ℕ → Option WriteFault
 write_refusal true left = Some Device
 write_refusal false zero = Some Count
 write_refusal false (suc left) = None
 
+-- why a writer rejects a packet
 abbrev pub packet_refusal : {W : Type 0} → Writer W → Option WriteFault
 packet_refusal writer = write_refusal writer.failed writer.left
 
--- what telling the end answers: a device that failed, then packets that didn't come
+-- the result of finish: a failed device, then missing packets
 abbrev pub finish_at : Bool → ℕ → Result (Unit {0}) WriteFault
 finish_at true left = Err Device
 finish_at false zero = Ok tt
 finish_at false (suc left) = Err Count
 
--- how a file was written: what stood on the device and how many of its calls had failed before, what the head
--- says, the packets that were handed to the device, in order, and whether it failed, which was with the last of them
+-- a history: the contents and the failed calls of the device before the file, the header, the packets passed to the
+-- device, in order, and whether the device failed. A failure ends the packets.
 pub record Written : Type 0 where
   pub before : Option (List ℕ)
   pub failures : ℕ
@@ -56,6 +57,7 @@ pub record Written : Type 0 where
   pub packets : List Packet
   pub failed : Bool
 
+-- the history after the header was passed to the device, which failed or not
 abbrev pub begun : Option (List ℕ) → ℕ → IvfHead → ℕ → Bool → Written
 begun before failures head count failed = record {
   before = before;
@@ -66,24 +68,25 @@ begun before failures head count failed = record {
   failed = failed;
 }
 
--- one more packet was handed to the device, which failed or not
+-- the history after one more packet was passed to the device, which failed or not
 abbrev pub with_packet : Written → Packet → Bool → Written
 with_packet h packet failed = record h { packets = h.packets ++ packet ∷ []; failed = failed }
 
+-- the bytes of the file so far
 abbrev pub written_bytes : Written → List ℕ
 written_bytes h = file_text h.head h.count h.packets
 
--- the text stands behind what stood there before; where the device failed, a front of it
+-- the device contains its old contents and then the file; or a prefix of it, if the device failed
 abbrev pub IsWrittenAt : Bool → Option (List ℕ) → Option (List ℕ) → List ℕ → Type 0
 IsWrittenAt false before now text = Appends before now text
 IsWrittenAt true before now text = AppendsFront before now text
 
--- no call failed; where the device failed, the count of failures rose or stands at its greatest
+-- without a failure the count of failed calls is unchanged; else it rose, or is saturated
 abbrev pub IsCountedAt : Bool → ℕ → ℕ → Type 0
 IsCountedAt false before now = now ≡ before
 IsCountedAt true before now = HasFailed before now
 
--- the writer is what this history makes of it
+-- the writer is in the state that this history gives
 pub record IsWriterAfter {W : Type 0} (contents : W → Option (List ℕ)) (writer : Writer W) (h : Written) : Type 0 where
   pub fits : length h.packets ≤ h.count
   pub left : packets_left writer ≡ h.count - length h.packets

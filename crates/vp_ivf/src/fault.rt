@@ -1,28 +1,28 @@
-//! What is wrong with a file.
+//! Faults of IVF files.
 
 ghost use Rattle.std.specs.Prelude.{Some};
 ghost use Rattle.vp_ivf.specs.Names.{file_fault_name};
 
 use std::fmt;
 
-/// What is wrong with a file.
+/// A fault of an IVF file.
 #[derive(Clone, Copy, Debug, PartialEq, Eq)]
 pub enum FileFault {
-    /// Its head doesn't begin with `DKIF`.
+    /// The file header doesn't begin with `DKIF`.
     Signature,
-    /// Its head doesn't say `VP80`.
+    /// The codec in the file header is not `VP80`.
     Codec,
-    /// It has more packets than the limits allow.
+    /// The file has more packets than the limits allow.
     TooMany,
     /// A packet is larger than the limits allow.
     PacketTooLarge,
-    /// It ends inside its head or a packet.
+    /// The file ends inside the file header or a packet.
     Torn,
-    /// It was fed after its end.
+    /// The reader was fed after its end.
     Ended,
 }
 
-/// The fault's name, as it is told.
+/// The name of the fault, as printed.
 impl fmt::Display for FileFault {
     ghost output = { λ fault. Some (file_fault_name fault) };
 
@@ -38,11 +38,11 @@ impl fmt::Display for FileFault {
     }
 }
 
-/// Why a reader didn't take a piece, or what is wrong with the file by that piece.
+/// Why a reader rejects a piece, or the fault of the file that the piece reveals.
 #[derive(Clone, Copy, Debug, PartialEq, Eq)]
 pub enum FeedError {
-    /// Memory was refused; the piece wasn't taken.
+    /// Out of memory. The piece was not consumed.
     Memory,
-    /// The fault that the piece met, or for which no piece is taken any more.
+    /// The fault that this piece reveals, or the earlier fault that makes the reader reject all pieces.
     Fault(FileFault),
 }

@@ -1,4 +1,4 @@
-//! IVF files, read packet by packet from bytes that come in any pieces, and written packet by packet.
+//! IVF files: a reader that is fed pieces of any length, and a writer; both work packet by packet.
 #![tactic(auto)]
 
 mod cutting;

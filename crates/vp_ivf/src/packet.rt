@@ -1,25 +1,25 @@
-//! What a file has.
+//! The packets and the header of an IVF file.
 
 use vp_base::ByteList;
 
-/// A packet, which is one frame of VP8.
+/// A packet: one VP8 frame.
 #[derive(Debug, Drop)]
 pub struct Packet {
-    /// When it is shown: this number times the head's `scale / rate` seconds.
+    /// Presentation time in units of `scale / rate` seconds.
     pub time: u64,
-    /// The frame's bytes.
+    /// The bytes of the frame.
     pub bytes: ByteList,
 }
 
-/// What a file's head says.
+/// The fields of the file header.
 #[derive(Clone, Copy, Debug, PartialEq, Eq)]
 pub struct IvfHead {
-    /// The columns, which no packet needs to have.
+    /// Width in pixels. Packets may have another one.
     pub w: u16,
-    /// The rows, which no packet needs to have.
+    /// Height in pixels. Packets may have another one.
     pub h: u16,
-    /// How many units of time `scale` seconds have.
+    /// Time base denominator: `rate / scale` frames per second.
     pub rate: u32,
-    /// How many seconds `rate` units of time take.
+    /// Time base numerator: `rate / scale` frames per second.
     pub scale: u32,
 }

@@ -1,4 +1,4 @@
-//! A reader that is fed a file in pieces.
+//! The IVF reader.
 
 ghost use Rattle.std.specs.Prelude.{◌≡◌, ◌≢◌, ◌≤◌, ◌+◌, ◌/◌, length, None, Some, Err, slice_get, option_to_list};
 ghost use Rattle.vp_ivf.specs.Ivf.{read_file, resume};
@@ -15,12 +15,12 @@ use std::collections::VecDeque;
 use std::marker::Model;
 use vp_base::Limits;
 
-/// A reader that is fed a file in pieces, however it is cut, and gives the file's packets in order.
+/// Reads the packets of an IVF file that is fed in pieces of any length.
 ///
-/// What it answers depends only on all bytes fed, on how many packets were taken, and on whether the end was
-/// told. Faults come as soon as the bytes that show them are in: `Signature`, then `Codec`, with the 32 bytes
-/// of the head; `TooMany`, then `PacketTooLarge`, with the 12 bytes before a packet. These four stand for good,
-/// and the packets before them can still be taken.
+/// The results depend only on all bytes fed, the number of packets taken, and whether `finish` was called. A fault is
+/// reported by the call that completes the bytes that reveal it. With the 32 bytes of the file header: `Signature`,
+/// then `Codec`. With the 12 bytes of a packet header: `TooMany`, then `PacketTooLarge`. These four are permanent; the
+/// packets before them can still be taken.
 #[derive(Drop)]
 pub struct Reader {
     alloc: Global,
@@ -64,7 +64,7 @@ impl Model for Reader {
 }
 
 impl Reader {
-    /// A reader that was fed nothing. Of the limits it keeps those on packets.
+    /// Creates an empty reader. Of the limits it uses those on packets.
     pub fn new(alloc: Global, limits: Limits) -> Reader
         ensures state { result ≡ initial_reader limits.packet_bytes limits.packets }
         ensures stands { IsReaderAfter result empty_reader_history }
@@ -82,7 +82,7 @@ impl Reader {
         }
     }
 
-    /// What the file's head says, once it is whole and good.
+    /// The file header, once it is complete and valid.
     pub fn head(&self) -> Option<IvfHead>
         ensures value { result ≡ self.now.reading.head }
         ensures head { (h : ReaderHistory) → IsReaderAfter self.now h →
@@ -91,7 +91,7 @@ impl Reader {
         self.head
     }
 
-    /// What `feed` would refuse with, whatever the piece: the fault that was met, or `Ended`.
+    /// The fault with which `feed` would reject any piece: the fault of the file, or `Ended`.
     pub fn refusal(&self) -> Option<FileFault>
         ensures { result ≡ refusal self.now }
     {
@@ -102,7 +102,7 @@ impl Reader {
         }
     }
 
-    /// Takes the first packet that was cut and not taken yet. It needs no memory.
+    /// Takes the next packet that is complete. Allocates nothing.
     pub fn next_packet(&mut self) -> Option<Packet>
         ensures limits { SameLimits self.old self.new }
         ensures first { result ≡ slice_get self.old.reading.packets 0 }
@@ -115,20 +115,20 @@ impl Reader {
         self.packets.pop_front()
     }
 
-    /// Takes the next piece of the file, of any length.
+    /// Feeds the next piece of the file, of any length. Reports the fault that it reveals, or `Memory`.
     pub fn feed(&mut self, piece: &[u8]) -> Result<(), FeedError>
         ensures limits { SameLimits self.old self.new }
 
-        // What earlier calls refuse comes first, and changes nothing. Nor does want of memory.
+        // An earlier fault is reported again and changes nothing. Nor does an out-of-memory error change anything.
         ensures refused { (fault : FileFault) → refusal self.old ≡ Some fault →
             (result ≡ Err (FeedError.Fault fault)) × (self.new ≡ self.old) }
         ensures memory { result ≡ Err FeedError.Memory → self.new ≡ self.old }
 
-        // It adds few packets.
+        // A piece adds at most one packet for each 12 bytes, and one more.
         ensures few { length self.new.reading.packets
             ≤ length self.old.reading.packets + length piece.now / 12 + 1 }
 
-        // Else the piece is taken, and the answer is the fault that it meets, if it does.
+        // Otherwise the piece is consumed, and the result is the fault that it reveals, if any.
         ensures answer { refusal self.old ≡ None → result ≢ Err FeedError.Memory →
             result ≡ answer_by self.new.reading.fault }
         ensures reading { refusal self.old ≡ None → result ≢ Err FeedError.Memory →
@@ -142,7 +142,7 @@ impl Reader {
         self.take_piece(piece)
     }
 
-    // Takes a piece that nothing refuses. What can fail comes before the first change that stays.
+    // Consumes a piece that is not rejected. Everything that can fail precedes the first change.
     fn take_piece(&mut self, piece: &[u8]) -> Result<(), FeedError>
         requires { refusal self.old ≡ None }
         ensures memory { result ≡ Err FeedError.Memory → self.new ≡ self.old }
@@ -173,7 +173,7 @@ impl Reader {
         answer(cutting.fault)
     }
 
-    /// Tells the file's end. After it the same is answered again, and no piece is taken.
+    /// Ends the file. `Torn` if it ends inside the header or a packet. Repeated calls give the same result.
     pub fn finish(&mut self) -> Result<(), FileFault>
         ensures limits { SameLimits self.old self.new }
         ensures answer { result ≡ finish_answer self.old.reading }
@@ -192,6 +192,7 @@ impl Reader {
     }
 }
 
+/// The result of `feed` for a fault or none.
 fn answer(fault: Option<FileFault>) -> Result<(), FeedError>
     ensures { result ≡ answer_by fault }
 {

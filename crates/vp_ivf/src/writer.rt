@@ -1,4 +1,4 @@
-//! A file that is written packet by packet.
+//! The IVF writer.
 
 ghost use Rattle.std.specs.Prelude.{◌≡◌, ◌≢◌, ◌<◌, ◌^◌, ◌+◌, ◌-◌, true, false, length, None, Some, Ok, Err, OnOk};
 ghost use Rattle.std.specs.Prelude.{OnErr, is_ok, not};
@@ -13,19 +13,19 @@ use byteorder::{ByteOrder, LittleEndian};
 use std::io::Write;
 use vp_base::{Counted, Device, Dim, put_all};
 
-/// Why a packet wasn't written, or why the file isn't whole.
+/// Why a packet was not written, or why the file is incomplete.
 #[derive(Clone, Copy, Debug, PartialEq, Eq)]
 pub enum WriteFault {
     /// A write failed, in this call or an earlier one.
     Device,
-    /// The head says fewer packets, or more than were written.
+    /// The number of packets is not the one in the file header.
     Count,
 }
 
-/// A file that is written packet by packet. No call takes memory, and none flushes what it writes to.
+/// Writes an IVF file packet by packet. No call allocates memory or flushes the device.
 ///
-/// Once the device failed each call answers `Device`, and nothing is written any more: a front of the file's
-/// bytes stands there.
+/// After a failed write each call returns `Device`, and nothing more is written: the device then contains a prefix of
+/// the file.
 #[derive(Drop)]
 pub struct Writer<'a, W: Write> {
     out: &'a mut Counted<W>,
@@ -34,8 +34,8 @@ pub struct Writer<'a, W: Write> {
 }
 
 impl<'a, W: Write> Writer<'a, W> {
-    /// Writes the head of a file of `count` packets, whose times count `scale / rate` seconds. Where the device fails,
-    /// the calls of this writer say so.
+    /// Writes the header of a file of `count` packets, with a time base of `scale / rate` seconds. If the write fails,
+    /// later calls return `Device`.
     pub fn begin(
         out: &'a mut Counted<W>,
         dim: Dim,
@@ -46,7 +46,7 @@ impl<'a, W: Write> Writer<'a, W> {
         ensures same_reference { device_name result ≡ out.entry.ghost_name }
         ensures left { packets_left result ≡ count }
 
-        // The head is written, or a front of it where the device failed.
+        // The header is written, or a prefix of it if the device failed.
         ensures ok { has_failed result ≡ false →
             Appends (counted_contents W.contents out.entry.now) (device_contents W.contents result)
             (head_text dim.w dim.h rate scale count) }
@@ -67,16 +67,16 @@ impl<'a, W: Write> Writer<'a, W> {
         }
     }
 
-    /// Writes the next packet.
+    /// Writes the next packet. `Device` after a failed write; `Count` if the header allows no more packets.
     pub fn packet(&mut self, time: u64, bytes: &[u8]) -> Result<(), WriteFault>
         requires size { length bytes.now < 2 ^ 32 }
         ensures same_reference { device_name self.new ≡ device_name self.old }
 
-        // What earlier calls refuse changes nothing: a device that failed, then a count that is reached.
+        // A failed device, then a reached count, reject the packet and change nothing.
         ensures refused { (fault : WriteFault) → packet_refusal self.old ≡ Some fault →
             (result ≡ Err fault) × (self.new ≡ self.old) }
 
-        // Else the packet is written, or a front of it where the device fails.
+        // Otherwise the packet is written, or a prefix of it if the device fails.
         ensures taken { packet_refusal self.old ≡ None → result ≢ Err WriteFault.Count }
         ensures failed { packet_refusal self.old ≡ None → has_failed self.new ≡ not (is_ok result) }
         ensures left { packet_refusal self.old ≡ None → packets_left self.new + 1 ≡ packets_left self.old }
@@ -91,7 +91,7 @@ impl<'a, W: Write> Writer<'a, W> {
         ensures device { packet_refusal self.old ≡ None → result ≡ Err WriteFault.Device →
             HasFailed (device_failures self.old) (device_failures self.new) }
 
-        // The same of whole runs.
+        // For every history of the writer:
         ensures refusal { (h : Written) → IsWriterAfter W.contents self.old h →
             packet_refusal self.old ≡ write_refusal h.failed (h.count - length h.packets) }
         ensures stands { packet_refusal self.old ≡ None → (h : Written) → IsWriterAfter W.contents self.old h →
@@ -114,7 +114,7 @@ impl<'a, W: Write> Writer<'a, W> {
         }
     }
 
-    /// Tells the file's end. It writes nothing, and after `Count` packets may still come.
+    /// Checks that the file is complete. It writes nothing; after `Count` more packets may be written.
     pub fn finish(&self) -> Result<(), WriteFault>
         ensures answer { result ≡ finish_at (has_failed self.now) (packets_left self.now) }
         ensures whole { (h : Written) → IsWriterAfter W.contents self.now h →
@@ -130,6 +130,7 @@ impl<'a, W: Write> Writer<'a, W> {
     }
 }
 
+/// The 32 bytes of the file header.
 #[tactic(auto, unfolding(crate::specs::Text::head_text))]
 fn head_bytes(dim: Dim, rate: u32, scale: u32, count: u32) -> [u8; 32]
     ensures { result ≡ head_text dim.w dim.h rate scale count }
@@ -146,6 +147,7 @@ fn head_bytes(dim: Dim, rate: u32, scale: u32, count: u32) -> [u8; 32]
     head
 }
 
+/// The 12 bytes of a packet header.
 #[tactic(auto, unfolding(crate::specs::Text::packet_head_text))]
 fn packet_head_bytes(size: u32, time: u64) -> [u8; 12]
     ensures { result ≡ packet_head_text size time }
@@ -156,7 +158,7 @@ fn packet_head_bytes(size: u32, time: u64) -> [u8; 12]
     head
 }
 
-// A packet's head and its bytes.
+// Writes the header and the bytes of a packet.
 fn put_packet<W: Write>(out: &mut Counted<W>, time: u64, bytes: &[u8]) -> Result<(), Device>
     requires size { length bytes.now < 2 ^ 32 }
     ensures ok { OnOk result (Appends (counted_contents W.contents out.old) (counted_contents W.contents out.new)

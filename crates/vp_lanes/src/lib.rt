@@ -1,5 +1,5 @@
-//! Sixteen lanes at a time: what the loop filter does to sixteen lines at once. No public contract of another crate
-//! sees lanes.
+//! Vectors of 16 lanes: the loop filter processes sixteen lines at a time. No public contract of another crate
+//! mentions lanes.
 #![tactic(auto)]
 
 ghost use Rattle.std.specs.Prelude.{◌≡◌, ℕ, ◌+◌, ◌≤◌, ◌<◌, ◌≤ℤ◌, pos, length, cond, slice_index, int_lt};
@@ -15,7 +15,7 @@ pub use steps::{
     raised, saturating_difference, weighted_filter_value, where_high, where_low,
 };
 
-/// The sixteen bytes from `at` on.
+/// Loads sixteen bytes from index `at` on.
 pub fn load16(s: &[u8], at: usize) -> u8x16
     requires { at + 16 ≤ length s.now }
     ensures { result ≡ chunk at 16 s.now }
@@ -23,7 +23,7 @@ pub fn load16(s: &[u8], at: usize) -> u8x16
     u8x16::from_slice(&s[at..])
 }
 
-/// The eight bytes from `at` on.
+/// Loads eight bytes from index `at` on.
 pub fn load8(s: &[u8], at: usize) -> u8x8
     requires { at + 8 ≤ length s.now }
     ensures { result ≡ chunk at 8 s.now }
@@ -31,7 +31,7 @@ pub fn load8(s: &[u8], at: usize) -> u8x8
     u8x8::from_slice(&s[at..])
 }
 
-/// Writes sixteen bytes from `at` on.
+/// Stores sixteen bytes from index `at` on.
 pub fn store16(s: &mut [u8], at: usize, lanes: u8x16)
     requires { at + 16 ≤ length s.old }
     ensures { s.new ≡ put_chunk at s.old lanes }
@@ -39,7 +39,7 @@ pub fn store16(s: &mut [u8], at: usize, lanes: u8x16)
     lanes.copy_to_slice(&mut s[at..]);
 }
 
-/// Writes eight bytes from `at` on.
+/// Stores eight bytes from index `at` on.
 pub fn store8(s: &mut [u8], at: usize, v: u8x8)
     requires { at + 8 ≤ length s.old }
     ensures { s.new ≡ put_chunk at s.old v }
@@ -47,14 +47,14 @@ pub fn store8(s: &mut [u8], at: usize, v: u8x8)
     v.copy_to_slice(&mut s[at..]);
 }
 
-/// How far apart the lanes are.
+/// The absolute difference, lane by lane.
 pub fn abs_diff16(a: u8x16, b: u8x16) -> u8x16
     ensures { (j : ℕ) → j < 16 → slice_index result j ≡ abs_diff (slice_index a j) (slice_index b j) }
 {
     a.abs_diff(b)
 }
 
-/// The lanes held to `low` and `high`.
+/// Clamps each lane to `low` to `high`.
 pub fn clamp_i16(v: i16x16, low: i16, high: i16) -> i16x16
     requires { low ≤ℤ high }
     ensures { (j : ℕ) → j < 16 → lane result j ≡ int_min high (int_max low (lane v j)) }
@@ -62,7 +62,7 @@ pub fn clamp_i16(v: i16x16, low: i16, high: i16) -> i16x16
     v.simd_clamp(i16x16::splat(low), i16x16::splat(high))
 }
 
-/// The lanes of `a` where the mask's are set, else those of `b`.
+/// Selects the lane of `a` if the mask's lane is set, else that of `b`.
 pub fn select16(mask: mask16x16, a: i16x16, b: i16x16) -> i16x16
     ensures { (j : ℕ) → j < 16 → lane result j ≡ cond (int_lt (lane mask j) (pos 0)) (lane a j) (lane b j) }
 {

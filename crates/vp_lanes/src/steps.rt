@@ -1,6 +1,6 @@
-//! The parts of a line step (RFC 6386, chapters 15.2 and 15.3), sixteen lines at a time. Numbers from -128 to 127 are
-//! held in bytes, each so much higher than it is: where a difference is added, what it is above 0 is added, and what it
-//! is below 0 is taken away. One of the two is 0.
+//! The steps of the loop filter on sixteen lines at a time (RFC 6386, chapters 15.2 and 15.3). Signed numbers are
+//! stored in bytes with a bias, usually 128. To add a difference to a pixel, its positive part is added and its
+//! negative part is subtracted, both with saturation; one of the two is 0.
 
 ghost use Rattle.std.specs.Prelude.{◌≡◌, ℕ, ◌+◌, ◌-◌, ◌*◌, ◌/◌, ◌≤◌, ◌<◌, ◌+ℤ◌, ◌-ℤ◌, ◌*ℤ◌, ◌==◌, ◌&&◌, pos, cond};
 ghost use Rattle.std.specs.Prelude.{slice_index, nat_le, nat_lt, min, max};
@@ -10,35 +10,35 @@ ghost use Rattle.vp_lanes.specs.Lane.{biased, clamp_to_i8, clamp_to_byte};
 
 use std::simd::prelude::*;
 
-/// The larger lane of two.
+/// The maximum, lane by lane.
 pub fn lane_max(a: u8x16, b: u8x16) -> u8x16
     ensures { (j : ℕ) → j < 16 → slice_index result j ≡ max (slice_index a j) (slice_index b j) }
 {
     a.simd_max(b)
 }
 
-/// How far the lanes of `x` are above those of `y`: 0 where they are not.
+/// `x - y`, or 0 if that is negative, lane by lane.
 pub fn saturating_difference(x: u8x16, y: u8x16) -> u8x16
     ensures { (j : ℕ) → j < 16 → slice_index result j ≡ slice_index x j - slice_index y j }
 {
     x.saturating_sub(y)
 }
 
-/// The lanes of `x` and `y` added: 255 where it would be more.
+/// `x + y`, or 255 if that is more, lane by lane.
 pub fn saturating_sum(x: u8x16, y: u8x16) -> u8x16
     ensures { (j : ℕ) → j < 16 → slice_index result j ≡ min (slice_index x j + slice_index y j) 255 }
 {
     x.saturating_add(y)
 }
 
-/// How far the lanes are apart, as the larger of both differences.
+/// The absolute difference, lane by lane: the larger of both saturating differences.
 pub fn lane_abs_diff(x: u8x16, y: u8x16) -> u8x16
     ensures { (j : ℕ) → j < 16 → slice_index result j ≡ abs_diff (slice_index x j) (slice_index y j) }
 {
     lane_max(saturating_difference(x, y), saturating_difference(y, x))
 }
 
-/// `x - y`, held to a signed byte.
+/// `x - y` clamped to -128 to 127, with bias 128.
 pub fn difference(x: u8x16, y: u8x16) -> u8x16
     ensures { (j : ℕ) → j < 16 → biased 128 result j ≡ clamp_to_i8 (pos (slice_index x j) -ℤ pos (slice_index y j)) }
 {
@@ -48,7 +48,7 @@ pub fn difference(x: u8x16, y: u8x16) -> u8x16
     )
 }
 
-/// `w` and three times `y - x`, held to a signed byte.
+/// `w + 3 * (y - x)` clamped to -128 to 127. `w` and the result have bias 128.
 pub fn filter_value(w: u8x16, x: u8x16, y: u8x16) -> u8x16
     ensures { (j : ℕ) → j < 16 → biased 128 result j ≡ clamp_to_i8
         (biased 128 w j +ℤ pos 3 *ℤ (pos (slice_index y j) -ℤ pos (slice_index x j))) }
@@ -62,7 +62,7 @@ pub fn filter_value(w: u8x16, x: u8x16, y: u8x16) -> u8x16
     )
 }
 
-/// An eighth of `a + by`.
+/// `a + by` clamped to 127, then divided by 8, rounded down. `a` has bias 128, the result 16.
 pub fn eighth(a: u8x16, by: u8) -> u8x16
     requires { by ≤ 4 }
     ensures value { (j : ℕ) → j < 16 → biased 16 result j ≡ shr_z (clamp_to_i8 (biased 128 a j +ℤ pos by)) 8 }
@@ -71,7 +71,7 @@ pub fn eighth(a: u8x16, by: u8) -> u8x16
     saturating_sum(a, u8x16::splat(by)) >> 3
 }
 
-/// Half of `f`, rounded up.
+/// `(f + 1) / 2`, rounded down. `f` has bias 16, the result 8.
 pub fn half(f: u8x16) -> u8x16
     requires { (j : ℕ) → j < 16 → slice_index f j < 32 }
     ensures { (j : ℕ) → j < 16 → biased 8 result j ≡ shr_z (biased 16 f j +ℤ pos 1) 2 }
@@ -79,7 +79,7 @@ pub fn half(f: u8x16) -> u8x16
     (f + u8x16::splat(1)) >> 1
 }
 
-/// So many 128ths of `w`, rounded.
+/// `(w * k + 63) / 128`, rounded down and clamped to -128 to 127. `w` has bias 128, the result `k`.
 pub fn weighted_filter_value(w: u8x16, k: u8) -> u8x16
     requires { k ≤ 27 }
     ensures { (j : ℕ) → j < 16 → biased k result j ≡ clamp_to_i8 (shr_z (biased 128 w j *ℤ pos k +ℤ pos 63) 128) }
@@ -87,7 +87,8 @@ pub fn weighted_filter_value(w: u8x16, k: u8) -> u8x16
     ((w.cast::<u16>() * u16x16::splat(k as u16) + u16x16::splat(63)) >> 7).cast::<u8>()
 }
 
-/// `x + by`, held to a byte. The lanes of `x` are bytes: where 0 is added, they stay as they are.
+/// `x + by` clamped to 0 to 255; `by` has bias `held_by`. The second clause states that the lanes of `x` are bytes, so
+/// adding 0 doesn't change them.
 pub fn raised(x: u8x16, by: u8x16, held_by: u8) -> u8x16
     ensures value { (j : ℕ) → j < 16 → slice_index result j ≡ clamp_to_byte
         (pos (slice_index x j) +ℤ biased held_by by j) }
@@ -100,7 +101,8 @@ pub fn raised(x: u8x16, by: u8x16, held_by: u8) -> u8x16
     )
 }
 
-/// `x - by`, held to a byte. The lanes of `x` are bytes: where 0 is taken, they stay as they are.
+/// `x - by` clamped to 0 to 255; `by` has bias `held_by`. The second clause states that the lanes of `x` are bytes, so
+/// subtracting 0 doesn't change them.
 pub fn lowered(x: u8x16, by: u8x16, held_by: u8) -> u8x16
     ensures value { (j : ℕ) → j < 16 → slice_index result j ≡ clamp_to_byte
         (pos (slice_index x j) -ℤ biased held_by by j) }
@@ -113,8 +115,8 @@ pub fn lowered(x: u8x16, by: u8x16, held_by: u8) -> u8x16
     )
 }
 
-/// 0 where a step over an edge is within the limit: `edge` is how far the pixels next to it are apart, `outer`
-/// those behind.
+/// 0 if a line is within the edge limit. `edge` is the absolute difference of the two pixels at the edge, `outer` that
+/// of the next two.
 fn excess(edge: u8x16, outer: u8x16, limit: u8) -> u8x16
     ensures { (j : ℕ) → j < 16 → (slice_index result j == 0) ≡ nat_le (slice_index edge j * 2
         + slice_index outer j / 2) limit }
@@ -127,7 +129,7 @@ fn excess(edge: u8x16, outer: u8x16, limit: u8) -> u8x16
     )
 }
 
-/// `w` where the mask of the line lets it be changed, else 0.
+/// `w` in the lines that the filter mask includes, else 0. `w` and the result have bias 128.
 pub fn masked(w: u8x16, edge: u8x16, outer: u8x16, limit: u8, most: u8x16, interior: u8) -> u8x16
     ensures { (j : ℕ) → j < 16 → biased 128 result j ≡ cond (nat_le (slice_index edge j * 2
         + slice_index outer j / 2) limit && nat_le (slice_index most j) interior) (biased 128 w j) (pos 0) }
@@ -138,7 +140,7 @@ pub fn masked(w: u8x16, edge: u8x16, outer: u8x16, limit: u8, most: u8x16, inter
         .select(w, u8x16::splat(128))
 }
 
-/// `w` where the variance is high, else 0.
+/// `w` in the lines of high edge variance, else 0. `w` and the result have bias `held_by`.
 pub fn where_high(w: u8x16, apart: u8x16, threshold: u8, held_by: u8) -> u8x16
     ensures { (j : ℕ) → j < 16 → biased held_by result j ≡ cond (nat_lt threshold (slice_index apart j))
         (biased held_by w j) (pos 0) }
@@ -148,7 +150,7 @@ pub fn where_high(w: u8x16, apart: u8x16, threshold: u8, held_by: u8) -> u8x16
         .select(w, u8x16::splat(held_by))
 }
 
-/// `w` where the variance is low, else 0.
+/// `w` in the lines without high edge variance, else 0. `w` and the result have bias `held_by`.
 pub fn where_low(w: u8x16, apart: u8x16, threshold: u8, held_by: u8) -> u8x16
     ensures { (j : ℕ) → j < 16 → biased held_by result j ≡ cond (nat_lt threshold (slice_index apart j)) (pos 0)
         (biased held_by w j) }
@@ -158,7 +160,7 @@ pub fn where_low(w: u8x16, apart: u8x16, threshold: u8, held_by: u8) -> u8x16
         .select(u8x16::splat(held_by), w)
 }
 
-/// The eighth `a` where the variance is high, else the share `b`.
+/// `a` in the lines of high edge variance, else `b`. `a` has bias 16, `b` and the result 27.
 pub fn either(a: u8x16, b: u8x16, apart: u8x16, threshold: u8) -> u8x16
     requires { (j : ℕ) → j < 16 → slice_index a j < 32 }
     ensures { (j : ℕ) → j < 16 → biased 27 result j ≡ cond (nat_lt threshold (slice_index apart j)) (biased 16 a j)

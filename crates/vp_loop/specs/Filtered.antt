@@ -1,4 +1,4 @@
--- The filtered picture (RFC 6386, chapter 15.1): the line steps of all macroblocks in raster order, each by its own
+-- The filtered picture (RFC 6386, chapter 15.1): the line steps of all macroblocks in raster order, each with its own
 -- level. Pinned by the test `filter_two_macroblocks`, and streams of other encoders in the gate.
 use Rattle.std.specs.Prelude.{ℕ, List, ◌+◌, ◌*◌, ◌==◌, slice_index_or, if◌then◌else◌}
 use Rattle.vp_base.specs.declared.place.Place.{Place}
@@ -9,11 +9,11 @@ use Rattle.vp_loop.specs.declared.strength.Level.{Level}
 use Rattle.vp_loop.specs.Levels.{no_level}
 use Rattle.vp_loop.specs.Edges.{block_filtered}
 
--- the simple filter leaves colour alone
+-- the chroma of a macroblock; the simple filter does not filter it
 abbrev pub colour_filtered : Level → ℕ → ℕ → Raster → Raster
 colour_filtered level x y p = if level.interior == 0 then p else block_filtered 8 level x y p
 
--- one macroblock, plane by plane
+-- the filtered macroblock, plane by plane
 abbrev pub macroblock_filtered : Level → ℕ → ℕ → Image → Image
 macroblock_filtered level column row p = record p {
   luma = block_filtered 16 level (16 * column) (16 * row) p.luma;
@@ -21,7 +21,7 @@ macroblock_filtered level column row p = record p {
   v = colour_filtered level (8 * column) (8 * row) p.v;
 }
 
--- a row of macroblocks, from left to right, each by its own level
+-- a row of macroblocks, from left to right
 unfoldable pub row_filtered : (Place → Level) → ℕ → Image → Image
 row_filtered level row p =
     over (macroblocks p.width) (λ column. macroblock_filtered
@@ -31,6 +31,6 @@ row_filtered level row p =
 unfoldable pub filtered : (Place → Level) → Image → Image
 filtered level p = over (macroblocks p.height) (row_filtered level) p
 
--- the level at a place, of those of all macroblocks in raster order
+-- the level at a place, from the levels of all macroblocks in raster order
 abbrev pub level_in : List Level → ℕ → Place → Level
 level_in levels columns p = slice_index_or levels (p.row * columns + p.column) no_level

@@ -1,4 +1,4 @@
--- Inside the crate: sixteen lines side by side, as the lanes hold them.
+-- Private to the crate: sixteen lines side by side, as stored in lanes.
 use Rattle.std.specs.Prelude.{ℕ, ◌≡◌, ◌<◌, ◌+◌, ◌*◌, ◌-◌, List, [], ◌∷◌, slice_index}
 use Rattle.vp_loop.specs.declared.lines.Line.{Line}
 use Rattle.vp_loop.specs.declared.lines.LineStep.{LineStep}
@@ -6,7 +6,7 @@ use Rattle.vp_loop.specs.declared.lanes.Lines.{Lines}
 use Rattle.vp_loop.specs.LineSteps.{stepped}
 use Rattle.vp_loop.specs.Edges.{pixel_at}
 
--- line j of them
+-- line j
 abbrev pub line_of : Lines → ℕ → Line
 line_of l j = record {
   p3 = slice_index l.p3 j;
@@ -19,7 +19,7 @@ line_of l j = record {
   q3 = slice_index l.q3 j;
 }
 
--- the line whose pixels are the first eight numbers of a list
+-- the line of the first eight numbers of a list
 abbrev pub line_in : List ℕ → Line
 line_in r = record {
   p3 = slice_index r 0;
@@ -32,17 +32,17 @@ line_in r = record {
   q3 = slice_index r 7;
 }
 
--- the first n and the last n pixels of a line stay as they are
+-- the step does not change the first n and the last n pixels of a line
 abbrev pub KeepsEnds : ℕ → LineStep → Type 0
 KeepsEnds n step =
     (l : Line) (k : ℕ) → k < n
     → (pixel_at (stepped step l) k ≡ pixel_at l k) × (pixel_at (stepped step l) (7 - k) ≡ pixel_at l (7 - k))
 
--- the four pixels at the edge
+-- the middle four pixels of a line
 abbrev pub middle_of : Line → List ℕ
 middle_of l = l.p1 ∷ l.p0 ∷ l.q0 ∷ l.q1 ∷ []
 
--- the line down a list of numbers in rows of so many, from place i on
+-- the line down a column of a list with rows of stride numbers, from index i on
 abbrev pub line_down : List ℕ → ℕ → ℕ → Line
 line_down ps i stride = record {
   p3 = slice_index ps i;

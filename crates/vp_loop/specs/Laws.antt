@@ -1,5 +1,5 @@
--- The statements of the laws of the loop filter (RFC 6386, chapter 15.1): which steps commute, which rows a step reads
--- and changes, and the order by planes and by edges.
+-- The laws of the loop filter (RFC 6386, chapter 15.1): which steps commute, which rows a step reads and changes, and
+-- filtering by planes or by edges.
 use Rattle.std.specs.Prelude.{ℕ, ◌≡◌, ◌+◌, ◌-◌, ◌*◌, ◌≤◌, ◌<◌, ◌==◌, nat_lt, Bool, ◌&&◌, if◌then◌else◌}
 use Rattle.vp_base.specs.declared.place.Place.{Place}
 use Rattle.vp_base.specs.Raster.{Raster}
@@ -13,19 +13,21 @@ use Rattle.vp_loop.specs.Edges.{Way, along, down, columns_of, rows_of, line_at, 
 use Rattle.vp_loop.specs.Edges.{outer_step, inner_step, apply_if, inner_edges, on_plane}
 use Rattle.vp_loop.specs.Filtered.{macroblock_filtered, row_filtered}
 
--- a line of a plane: the way it lies, and the column and row where it begins
+-- a line of a plane: its direction, and the column and row at which it begins
 pub record PlaneLine : Type 0 where
   pub way : Way
   pub x : ℕ
   pub y : ℕ
 
--- whether column i of row j is one of its eight pixels
+-- whether the pixel at column i of row j is one of the line's eight
 abbrev pub has_pixel : PlaneLine → ℕ → ℕ → Bool
 has_pixel l i j = is_in_block l.x l.y (columns_of l.way) (rows_of l.way) i j
 
+-- the line is inside the plane
 abbrev pub IsLineWithin : PlaneLine → Raster → Type 0
 IsLineWithin l p = (l.x + columns_of l.way ≤ p.width) × (l.y + rows_of l.way ≤ p.height)
 
+-- no pixel is in both lines
 abbrev pub SharesNoPixel : PlaneLine → PlaneLine → Type 0
 SharesNoPixel l m = (i j : ℕ) → (has_pixel l i j && has_pixel m i j) ≡ Bool.false
 
@@ -33,21 +35,21 @@ SharesNoPixel l m = (i j : ℕ) → (has_pixel l i j && has_pixel m i j) ≡ Boo
 abbrev pub step_of : LineStep → PlaneLine → Raster → Raster
 step_of step l p = line_step l.way step l.x l.y p
 
--- line steps that share no pixel may change places
+-- Line steps that share no pixel commute.
 abbrev pub DisjointStepsCommute : Type 0
 DisjointStepsCommute =
     (p : Raster) (l m : PlaneLine) (a b : LineStep) → IsLineWithin l p → IsLineWithin m p → SharesNoPixel l m
     → step_of b m (step_of a l p) ≡ step_of a l (step_of b m p)
 
--- ---- a row of macroblocks
+-- ---- A row of macroblocks
 
--- filtering a row of macroblocks changes nothing below the row
+-- Filtering a row of macroblocks changes nothing below the row.
 abbrev pub RowKeepsBelow : Type 0
 RowKeepsBelow =
     (level : Place → Level) (row : ℕ) (p : Image) → IsAligned p → row < macroblocks p.height
     → AreSameFrom (16 * (row + 1)) (8 * (row + 1)) (row_filtered level row p) p
 
--- what it makes of the rest depends on the rest alone
+-- Its result above does not depend on the pixels below.
 abbrev pub RowReadsAbove : Type 0
 RowReadsAbove =
     (level : Place → Level) (row : ℕ) (p q : Image) → IsAligned p → IsAligned q → AreOneSize p q
@@ -55,31 +57,33 @@ RowReadsAbove =
     → AreSameAbove (16 * (row + 1)) (8 * (row + 1)) p q
     → AreSameAbove (16 * (row + 1)) (8 * (row + 1)) (row_filtered level row p) (row_filtered level row q)
 
--- and it changes nothing above the last three rows of pixels over its own
+-- It changes nothing above the last three rows of pixels before its own.
 abbrev pub RowKeepsAbove : Type 0
 RowKeepsAbove =
     (level : Place → Level) (row : ℕ) (p : Image) → IsAligned p → row < macroblocks p.height
     → AreSameAbove (16 * row - 3) (8 * row - 3) (row_filtered level row p) p
 
--- filtering keeps a picture's size, and the sizes of its planes
+-- Filtering keeps a picture's size, and the sizes of its planes.
 abbrev pub RowKeepsSize : Type 0
 RowKeepsSize = (level : Place → Level) (row : ℕ) (p : Image) → AreOneSize (row_filtered level row p) p
 
+-- Planes of whole macroblocks stay planes of whole macroblocks.
 abbrev pub RowKeepsAligned : Type 0
 RowKeepsAligned = (level : Place → Level) (row : ℕ) (p : Image) → IsAligned p → IsAligned (row_filtered level row p)
 
+-- Each plane still has exactly one number for each pixel.
 abbrev pub RowKeepsWhole : Type 0
 RowKeepsWhole = (level : Place → Level) (row : ℕ) (p : Image) → AreWhole p → AreWhole (row_filtered level row p)
 
--- ---- plane by plane, or edge by edge
+-- ---- Plane by plane, or edge by edge
 
--- what is done to two different planes may change places
+-- Steps on two different planes commute.
 abbrev pub PlanesCommute : Type 0
 PlanesCommute =
     (j k : ℕ) (f g : Raster → Raster) (p : Image) → j < 3 → k < 3 → ¬ (j ≡ k)
     → on_plane j f (on_plane k g p) ≡ on_plane k g (on_plane j f p)
 
--- a macroblock's own edge of one way, unless the plane begins there, and the edges of that way inside it
+-- the left or top edge of a macroblock, unless the plane begins there, and the edges of that direction inside it
 abbrev pub own_edge : Way → Level → ℕ → ℕ → ℕ → Raster → Raster
 own_edge along level size x y = apply_if (nat_lt 0 x) (edge_lines along (outer_step level) size (x - 4) y)
 own_edge down level size x y = apply_if (nat_lt 0 y) (edge_lines down (outer_step level) size x (y - 4))
@@ -87,7 +91,7 @@ own_edge down level size x y = apply_if (nat_lt 0 y) (edge_lines down (outer_ste
 abbrev pub edges_inside : Way → Level → ℕ → ℕ → ℕ → Raster → Raster
 edges_inside way level size x y = apply_if (nat_lt 0 level.inner) (inner_edges way (inner_step level) size x y)
 
--- f done to a macroblock's pixels of luma and, but for the simple filter, of both colours
+-- f applied to a macroblock's luma and, except in the simple filter, to both chroma planes
 abbrev pub in_planes : Level → (ℕ → ℕ → ℕ → Raster → Raster) → ℕ → ℕ → Image → Image
 in_planes level f column row p = record p {
   luma = f 16 (16 * column) (16 * row) p.luma;
@@ -95,8 +99,8 @@ in_planes level f column row p = record p {
   v = if level.interior == 0 then p.v else f 8 (8 * column) (8 * row) p.v;
 }
 
--- a macroblock filtered as chapter 15.1 has it: the left edge of all planes, the vertical edges inside, the top
--- edge, the rest
+-- a macroblock filtered in the order of chapter 15.1: for all planes the left edge, the vertical edges inside, the top
+-- edge, then the horizontal edges inside
 abbrev pub filtered_by_edges : Level → ℕ → ℕ → Image → Image
 filtered_by_edges level column row p =
     if level.edge == 0 then p
@@ -105,13 +109,13 @@ filtered_by_edges level column row p =
     (in_planes level (edges_inside along level) column row
     (in_planes level (own_edge along level) column row p)))
 
--- which gives what plane by plane gives
+-- Filtering edge by edge gives the same result as plane by plane.
 abbrev pub EdgeByEdge : Type 0
 EdgeByEdge =
     (level : Level) (column row : ℕ) (p : Image)
     → filtered_by_edges level column row p ≡ macroblock_filtered level column row p
 
--- the lines of an edge may be done at once, each from the plane as it was
+-- The lines of an edge may be filtered at once, each from the plane before any of them.
 abbrev pub EdgesAtOnce : Type 0
 EdgesAtOnce =
     (step : LineStep) (n x y : ℕ) (p : Raster) → IsWhole p

@@ -13,14 +13,14 @@ use Rattle.vp_loop.specs.declared.strength.MacroblockKind.{MacroblockKind}
 use Rattle.vp_loop.specs.declared.strength.ModeClass.{ModeClass}
 use Rattle.vp_loop.specs.declared.strength.ModeClass.TheVariants.{Whole, Subblocks, Zero, Moved, Split}
 
--- a level held to 0 .. 63
+-- z clamped to 0 to 63
 abbrev pub clamped_level : ℤ → ℕ
 clamped_level z = unsigned_abs (int_min (pos 63) (int_max (pos 0) z))
 
 abbrev pub signed_at : List ℤ → ℕ → ℤ
 signed_at xs i = slice_index_or xs i (pos 0)
 
--- the frame's level; under segmentation the segment's, absolute or added to the frame's (chapter 9.3)
+-- the level of the frame or, with segmentation, of the segment: absolute, or added to the frame's (chapter 9.3)
 abbrev pub segment_level : Header → ℕ → ℕ
 segment_level header segment =
     if header.segmentation.enabled
@@ -29,14 +29,14 @@ segment_level header segment =
     else pos header.filter.level +ℤ signed_at header.segmentation.values.levels segment)
     else header.filter.level
 
--- what the reference adds (chapter 9.4)
+-- the delta of the reference frame (chapter 9.4)
 abbrev pub reference_delta : LevelDeltas → Reference → ℤ
 reference_delta deltas Intra = signed_at deltas.reference 0
 reference_delta deltas Last = signed_at deltas.reference 1
 reference_delta deltas Golden = signed_at deltas.reference 2
 reference_delta deltas Alt = signed_at deltas.reference 3
 
--- what the mode adds (chapter 9.4)
+-- the delta of the mode (chapter 9.4)
 abbrev pub mode_delta : LevelDeltas → ModeClass → ℤ
 mode_delta deltas Whole = pos 0
 mode_delta deltas Subblocks = signed_at deltas.mode 0
@@ -44,13 +44,13 @@ mode_delta deltas Zero = signed_at deltas.mode 1
 mode_delta deltas Moved = signed_at deltas.mode 2
 mode_delta deltas Split = signed_at deltas.mode 3
 
--- that level and what reference and mode add to it
+-- the segment level plus the deltas of reference frame and mode, clamped
 abbrev pub summed_level : Header → ℕ → MacroblockKind → ℕ
 summed_level header segment kind = clamped_level (pos (segment_level header segment)
     +ℤ (if header.deltas_enabled then reference_delta header.deltas kind.reference +ℤ mode_delta header.deltas
     kind.prediction else pos 0))
 
--- the macroblock's level; 0 where the frame's is, whatever segments and deltas say
+-- the level of the macroblock; 0 if the frame's level is 0, whatever segments and deltas are
 abbrev pub macroblock_level : Header → ℕ → MacroblockKind → ℕ
 macroblock_level header segment kind = if header.filter.level == 0 then 0 else summed_level header segment kind
 
@@ -66,7 +66,7 @@ variance_threshold key level =
     then (if nat_le 40 level then 2 else (if nat_le 15 level then 1 else 0))
     else (if nat_le 40 level then 3 else (if nat_le 20 level then 2 else (if nat_le 15 level then 1 else 0)))
 
--- whether the edges between subblocks are filtered: some block had a token, or subblocks were predicted each for itself
+-- whether the edges between subblocks are filtered: some block has a token, or the mode is B_PRED or SPLITMV
 abbrev pub has_inner_edges : MacroblockKind → Bool
 has_inner_edges kind = kind.coded || elim kind.prediction [
   | Whole ↦ Bool.false
@@ -76,10 +76,11 @@ has_inner_edges kind = kind.coded || elim kind.prediction [
   | Split ↦ Bool.true
 ]
 
+-- the filter parameters of a macroblock that isn't filtered
 abbrev pub no_level : Level
 no_level = record { edge = 0; inner = 0; interior = 0; hev = 0 }
 
--- limits and thresholds; the simple filter has no interior limit and no threshold
+-- the filter parameters; the simple filter has no interior limit and no threshold
 unfoldable pub filter_level : Header → ℕ → MacroblockKind → Level
 filter_level header segment kind =
     let level = macroblock_level header segment kind in

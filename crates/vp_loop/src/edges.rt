@@ -1,4 +1,5 @@
-//! The lines across the edges of one macroblock: all lines of an edge at once, those of both planes of colour together.
+//! Filtering the edges of one macroblock. All lines of an edge are filtered at once, and those of both chroma planes
+//! together.
 
 ghost use Rattle.std.specs.Prelude.{◌≡◌, ℕ, ◌+◌, ◌<◌, ◌≤◌};
 ghost use Rattle.vp_base.specs.Image.{Image};
@@ -16,6 +17,7 @@ use crate::transpose::{
 use vp_base::Picture;
 
 impl Level {
+    /// The line step of macroblock edges.
     #[inline(always)]
     pub(crate) fn outer_step(self) -> LineStep
         ensures { result ≡ outer_step self }
@@ -32,6 +34,7 @@ impl Level {
         }
     }
 
+    /// The line step of subblock edges.
     #[inline(always)]
     pub(crate) fn inner_step(self) -> LineStep
         ensures { result ≡ inner_step self }
@@ -49,7 +52,7 @@ impl Level {
     }
 }
 
-/// Filters over a vertical edge of luma: sixteen lines, the first of which begins at column `x` of row `y`.
+/// Filters a vertical luma edge: sixteen lines, the first of which begins at column `x` of row `y`.
 #[inline(always)]
 fn filter_luma_along(picture: &mut Picture, x: usize, y: usize, step: LineStep)
     requires columns { x + 8 ≤ picture.old.luma.width }
@@ -64,9 +67,8 @@ fn filter_luma_along(picture: &mut Picture, x: usize, y: usize, step: LineStep)
     write_rows8(picture, 0, x, y, &lines);
 }
 
-/// Filters over a vertical edge inside a macroblock of luma: of its sixteen lines, the first of which begins at
-/// column `x`
-/// of row `y`, the four pixels at the edge are written.
+/// Filters a vertical luma edge inside a macroblock: sixteen lines, the first of which begins at column `x` of row
+/// `y`. Only the middle four pixels of each line are written.
 #[inline(always)]
 fn filter_luma_inside_along(picture: &mut Picture, x: usize, y: usize, step: LineStep)
     requires columns { x + 8 ≤ picture.old.luma.width }
@@ -82,9 +84,8 @@ fn filter_luma_inside_along(picture: &mut Picture, x: usize, y: usize, step: Lin
     write_rows4(picture, 0, x + 2, y, &lines);
 }
 
-/// Filters over a horizontal edge of luma: sixteen lines, the first of which begins at column `x` of row `y`. The
-/// `kept`
-/// rows at each end of the lines, which the step leaves as they are, are not written.
+/// Filters a horizontal luma edge: sixteen lines, the first of which begins at column `x` of row `y`. The first and
+/// last `kept` rows, which the step does not change, are not written.
 #[inline(always)]
 fn filter_luma_down(picture: &mut Picture, x: usize, y: usize, step: LineStep, kept: usize)
     requires columns { x + 16 ≤ picture.old.luma.width }
@@ -101,7 +102,7 @@ fn filter_luma_down(picture: &mut Picture, x: usize, y: usize, step: LineStep, k
     write_rows16(picture, 0, x, y + kept, &rows[kept..8 - kept]);
 }
 
-/// Filters over a vertical edge of both planes of colour: eight lines of each.
+/// Filters a vertical edge of both chroma planes: eight lines of each.
 #[inline(always)]
 fn filter_colours_along(picture: &mut Picture, x: usize, y: usize, step: LineStep)
     requires u_columns { x + 8 ≤ picture.old.u.width }
@@ -122,7 +123,7 @@ fn filter_colours_along(picture: &mut Picture, x: usize, y: usize, step: LineSte
     write_rows8(picture, 2, x, y, &lines[8..16]);
 }
 
-/// Filters over a horizontal edge of both planes of colour: eight lines of each, but for the `kept` rows at each end.
+/// Filters a horizontal edge of both chroma planes: eight lines of each, without the first and last `kept` rows.
 #[inline(always)]
 fn filter_colours_down(picture: &mut Picture, x: usize, y: usize, step: LineStep, kept: usize)
     requires u_columns { x + 8 ≤ picture.old.u.width }
@@ -146,7 +147,7 @@ fn filter_colours_down(picture: &mut Picture, x: usize, y: usize, step: LineStep
     write_rows8(picture, 2, x, y + kept, &v_rows[kept..8 - kept]);
 }
 
-/// Filters over the vertical edges inside a macroblock of luma.
+/// Filters the vertical luma edges inside a macroblock.
 #[inline(always)]
 fn filter_inner_luma_along(picture: &mut Picture, x: usize, y: usize, step: LineStep)
     requires columns { x + 16 ≤ picture.old.luma.width }
@@ -162,7 +163,7 @@ fn filter_inner_luma_along(picture: &mut Picture, x: usize, y: usize, step: Line
     }
 }
 
-/// Filters over the horizontal edges inside a macroblock of luma.
+/// Filters the horizontal luma edges inside a macroblock.
 #[inline(always)]
 fn filter_inner_luma_down(picture: &mut Picture, x: usize, y: usize, step: LineStep)
     requires columns { x + 16 ≤ picture.old.luma.width }
@@ -178,9 +179,8 @@ fn filter_inner_luma_down(picture: &mut Picture, x: usize, y: usize, step: LineS
     }
 }
 
-/// Filters over the vertical edge inside a macroblock of both planes of colour: of the lines the four pixels at the
-/// edge
-/// are written.
+/// Filters the vertical edge inside a macroblock of both chroma planes. Only the middle four pixels of each line are
+/// written.
 #[inline(always)]
 fn filter_inner_colours_along(picture: &mut Picture, x: usize, y: usize, step: LineStep)
     requires u_columns { x + 8 ≤ picture.old.u.width }
@@ -202,7 +202,7 @@ fn filter_inner_colours_along(picture: &mut Picture, x: usize, y: usize, step: L
     write_rows4(picture, 2, x + 2, y, &lines[8..16]);
 }
 
-/// Filters over the horizontal edge inside a macroblock of both planes of colour.
+/// Filters the horizontal edge inside a macroblock of both chroma planes.
 #[inline(always)]
 fn filter_inner_colours_down(picture: &mut Picture, x: usize, y: usize, step: LineStep)
     requires u_columns { x + 8 ≤ picture.old.u.width }
@@ -219,7 +219,7 @@ fn filter_inner_colours_down(picture: &mut Picture, x: usize, y: usize, step: Li
     filter_colours_down(picture, x, y, step, 2);
 }
 
-/// Filters over the vertical edges of a macroblock of luma, the left one unless the plane begins there.
+/// Filters the vertical luma edges of a macroblock. At the left of the plane there is no left edge.
 #[tactic(auto, unfolding(crate::specs::Edges::block_edges))]
 #[inline(always)]
 fn filter_all_luma_along(picture: &mut Picture, x: usize, y: usize, level: Level)
@@ -238,7 +238,7 @@ fn filter_all_luma_along(picture: &mut Picture, x: usize, y: usize, level: Level
     }
 }
 
-/// Filters over the horizontal edges of a macroblock of luma, the top one unless the plane begins there.
+/// Filters the horizontal luma edges of a macroblock. At the top of the plane there is no top edge.
 #[tactic(auto, unfolding(crate::specs::Edges::block_edges))]
 #[inline(always)]
 fn filter_all_luma_down(picture: &mut Picture, x: usize, y: usize, level: Level)
@@ -257,7 +257,7 @@ fn filter_all_luma_down(picture: &mut Picture, x: usize, y: usize, level: Level)
     }
 }
 
-/// The same of both planes of colour, whose macroblocks have one edge of each way inside.
+/// Filters the vertical edges of a macroblock of both chroma planes, which have one edge inside.
 #[tactic(auto, unfolding(crate::specs::Edges::block_edges))]
 #[inline(always)]
 fn filter_all_colours_along(picture: &mut Picture, x: usize, y: usize, level: Level)
@@ -280,6 +280,7 @@ fn filter_all_colours_along(picture: &mut Picture, x: usize, y: usize, level: Le
     }
 }
 
+/// Filters the horizontal edges of a macroblock of both chroma planes, which have one edge inside.
 #[tactic(auto, unfolding(crate::specs::Edges::block_edges))]
 #[inline(always)]
 fn filter_all_colours_down(picture: &mut Picture, x: usize, y: usize, level: Level)
@@ -302,7 +303,7 @@ fn filter_all_colours_down(picture: &mut Picture, x: usize, y: usize, level: Lev
     }
 }
 
-/// Filters a macroblock of luma, whose first pixel is at column `x` of row `y`.
+/// Filters the luma of the macroblock whose first pixel is at column `x` of row `y`.
 #[tactic(auto, unfolding(crate::specs::Edges::block_filtered))]
 #[inline(always)]
 pub(crate) fn filter_luma(picture: &mut Picture, x: usize, y: usize, level: Level)
@@ -318,7 +319,7 @@ pub(crate) fn filter_luma(picture: &mut Picture, x: usize, y: usize, level: Leve
     }
 }
 
-/// Filters a macroblock of both planes of colour, whose first pixels are at column `x` of row `y`.
+/// Filters both chroma planes of the macroblock whose first pixels are at column `x` of row `y`.
 #[tactic(auto, unfolding(crate::specs::Edges::block_filtered))]
 #[inline(always)]
 pub(crate) fn filter_colours(picture: &mut Picture, x: usize, y: usize, level: Level)

@@ -23,8 +23,8 @@ fn filter_macroblock(picture: &mut Picture, level: Level, column: usize, row: us
     }
 }
 
-/// Filters a row of macroblocks, by the levels of all macroblocks in raster order, at least through that row.
-/// It may change the last three pixel rows of the macroblocks above.
+/// Filters a row of macroblocks. `levels` are those of all macroblocks in raster order, at least through that row. It
+/// may change the last three pixel rows of the macroblocks above.
 pub fn filter_row(picture: &mut Picture, levels: &[Level], row: usize)
     requires row { row < macroblocks picture.old.height }
     requires levels { row * macroblocks picture.old.width + macroblocks picture.old.width ≤ length levels.now }
@@ -37,7 +37,7 @@ pub fn filter_row(picture: &mut Picture, levels: &[Level], row: usize)
     }
 }
 
-/// Filters a whole picture, by the levels of its macroblocks in raster order.
+/// Filters a whole picture. `levels` are those of its macroblocks in raster order.
 pub fn filter_picture(picture: &mut Picture, levels: &[Level])
     requires { macroblocks picture.old.height * macroblocks picture.old.width ≤ length levels.now }
     ensures { picture.new ≡ filtered (level_in levels.now (macroblocks picture.old.width)) picture.old }
@@ -48,16 +48,16 @@ pub fn filter_picture(picture: &mut Picture, levels: &[Level])
     }
 }
 
-/// What filters a picture a row of macroblocks at a time.
+/// A loop filter that works on one row of macroblocks at a time.
 pub trait RowFilter {
-    /// Does what [`filter_row`] does.
+    /// Filters a row of macroblocks as [`filter_row`] does.
     fn row(&mut self, picture: &mut Picture, levels: &[Level], row: usize)
         requires row { row < macroblocks picture.old.height }
         requires levels { row * macroblocks picture.old.width + macroblocks picture.old.width ≤ length levels.now }
         ensures { picture.new ≡ row_filtered (level_in levels.now (macroblocks picture.old.width)) row picture.old };
 }
 
-/// The filter of this crate.
+/// The loop filter of this crate, in lanes.
 #[derive(Clone, Copy, Debug, PartialEq, Eq)]
 pub struct Lanes;
 

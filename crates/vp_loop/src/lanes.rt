@@ -1,4 +1,4 @@
-//! The line step on sixteen lines at once: mask and high edge variance are of each line.
+//! The line step on sixteen lines at once. Each line has its own filter mask and high edge variance.
 
 ghost use Rattle.std.specs.Prelude.{◌≡◌, ℕ, ◌<◌, ◌*◌, ◌/◌, ◌+◌, slice_index, max, cond, ◌&&◌, true};
 ghost use Rattle.std.specs.Int.{abs_diff};
@@ -14,7 +14,7 @@ use vp_lanes::{
     masked, raised, weighted_filter_value, where_high, where_low,
 };
 
-/// Sixteen lines: a vector for each of their eight pixels.
+/// Sixteen lines, with one vector for each of their eight pixels.
 #[derive(Clone, Copy)]
 pub(crate) struct Lines {
     pub(crate) p3: u8x16,
@@ -27,7 +27,7 @@ pub(crate) struct Lines {
     pub(crate) q3: u8x16,
 }
 
-/// How far neighbours on one side of an edge are apart at most.
+/// The greatest absolute difference of adjacent pixels on one side of the edge.
 #[inline(always)]
 fn most_apart(l: Lines) -> u8x16
     ensures { (j : ℕ) → j < 16 → slice_index result j
@@ -47,7 +47,7 @@ fn most_apart(l: Lines) -> u8x16
     lane_max(p, q)
 }
 
-/// How far the two pixels next to an edge are apart at most, on either side.
+/// The greater of `|p1 - p0|` and `|q1 - q0|`.
 #[inline(always)]
 fn inner_apart(l: Lines) -> u8x16
     ensures { (j : ℕ) → j < 16 → slice_index result j ≡ max (abs_diff (slice_index l.p1 j) (slice_index l.p0 j))
@@ -56,7 +56,7 @@ fn inner_apart(l: Lines) -> u8x16
     lane_max(abs_diff16(l.p1, l.p0), abs_diff16(l.q1, l.q0))
 }
 
-/// The inner step.
+/// The normal filter of a subblock edge.
 #[inline(always)]
 fn inner(l: Lines, limit: u8, interior: u8, threshold: u8) -> Lines
     ensures { (j : ℕ) → j < 16 → line_of result j ≡ cond (is_small_step limit (line_of l j)
@@ -84,7 +84,7 @@ fn inner(l: Lines, limit: u8, interior: u8, threshold: u8) -> Lines
     }
 }
 
-/// The step over the edge of a macroblock.
+/// The normal filter of a macroblock edge.
 #[inline(always)]
 fn outer(l: Lines, limit: u8, interior: u8, threshold: u8) -> Lines
     ensures { (j : ℕ) → j < 16 → line_of result j ≡ cond (is_small_step limit (line_of l j)
@@ -118,7 +118,7 @@ fn outer(l: Lines, limit: u8, interior: u8, threshold: u8) -> Lines
     }
 }
 
-/// The step of the simple filter.
+/// The simple filter.
 #[inline(always)]
 fn simple(l: Lines, limit: u8) -> Lines
     ensures { (j : ℕ) → j < 16 → line_of result j ≡ cond (is_small_step limit (line_of l j))
@@ -128,7 +128,7 @@ fn simple(l: Lines, limit: u8) -> Lines
     let outer = lane_abs_diff(l.p1, l.q1);
     let d = difference(l.p1, l.q1);
     let s = filter_value(d, l.p0, l.q0);
-    // no byte is above 255, so that smoothness is not asked
+    // No byte is above 255, so this interior limit never excludes a line.
     let w = masked(s, edge, outer, limit, l.p0, 255);
     let f1 = eighth(w, 4);
     let f2 = eighth(w, 3);
@@ -140,7 +140,7 @@ fn simple(l: Lines, limit: u8) -> Lines
 }
 
 impl LineStep {
-    /// Sixteen lines as the filter leaves them.
+    /// Filters sixteen lines.
     #[tactic(auto, unfolding(crate::specs::LineSteps::stepped))]
     #[inline(always)]
     pub(crate) fn apply_to_all(self, lines: Lines) -> Lines

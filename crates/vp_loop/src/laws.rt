@@ -1,18 +1,18 @@
-//! What holds of line steps and rows of macroblocks, whatever their pixels are.
+//! Laws of line steps and of rows of macroblocks, for any pixels.
 ghost use Rattle.vp_loop.specs.Laws.{DisjointStepsCommute, EdgesAtOnce, PlanesCommute, EdgeByEdge, RowKeepsBelow};
 ghost use Rattle.vp_loop.specs.Laws.{RowReadsAbove, RowKeepsAbove, RowKeepsSize, RowKeepsAligned, RowKeepsWhole};
 
-/// Line steps that share no pixel may change places.
+/// Line steps that share no pixel commute.
 pub fn disjoint_steps_commute()
     ensures { DisjointStepsCommute }
 {}
 
-/// The lines of an edge may be filtered at once, each from the plane as it was.
+/// The lines of an edge may be filtered at once, each from the plane before any of them.
 pub fn edge_at_once()
     ensures { EdgesAtOnce }
 {}
 
-/// Work on two planes may change places, so that a macroblock may be filtered plane by plane or edge by edge.
+/// Steps on two planes commute, so a macroblock may be filtered plane by plane or edge by edge.
 pub fn planes_commute()
     ensures commute { PlanesCommute }
     ensures edges { EdgeByEdge }
@@ -29,7 +29,7 @@ pub fn rows_above_are_final()
     ensures { RowKeepsAbove }
 {}
 
-/// Filtering a row of macroblocks keeps all sizes.
+/// Filtering a row of macroblocks changes no size.
 pub fn sizes_are_kept()
     ensures sizes { RowKeepsSize }
     ensures aligned { RowKeepsAligned }

@@ -1,4 +1,4 @@
-//! The loop filters (RFC 6386, chapter 15): levels of macroblocks, line steps, and the filtered picture.
+//! The loop filters (RFC 6386, chapter 15): filter levels of macroblocks, line steps, and filtered pictures.
 #![tactic(auto)]
 
 mod edges;

@@ -1,4 +1,4 @@
-//! The line step: eight pixels across an edge, to eight pixels.
+//! The line step: filters the eight pixels of one line across an edge.
 
 ghost use Rattle.std.specs.Prelude.{◌≡◌, ℕ, ℤ, ◌+◌, ◌*◌, ◌/◌, ◌≤◌, ◌≤ℤ◌, ◌+ℤ◌, ◌-ℤ◌, ◌*ℤ◌, pos, negsuc, cond, nat_le};
 ghost use Rattle.std.specs.Prelude.{nat_lt, ◌&&◌, ◌||◌, Bool, true};
@@ -9,42 +9,52 @@ ghost use Rattle.vp_loop.specs.LineSteps.{outer_tap_adjustment, subblock_edge_fi
 ghost use Rattle.vp_loop.specs.LineSteps.{macroblock_edge_filtered, is_small_step, is_smooth, is_high, is_changed};
 ghost use Rattle.vp_loop.specs.LineSteps.{filtered_line, stepped};
 
-/// Eight pixels across an edge: four before it and four behind it, `p0` and `q0` next to it.
+/// Eight pixels across an edge: `p3` to `p0` before it, `q0` to `q3` after it.
 #[derive(Clone, Copy, Debug, PartialEq, Eq)]
 pub struct Line {
+    /// The pixel furthest before the edge.
     pub p3: u8,
+    /// The third pixel before the edge.
     pub p2: u8,
+    /// The second pixel before the edge.
     pub p1: u8,
+    /// The pixel just before the edge.
     pub p0: u8,
+    /// The pixel just after the edge.
     pub q0: u8,
+    /// The second pixel after the edge.
     pub q1: u8,
+    /// The third pixel after the edge.
     pub q2: u8,
+    /// The pixel furthest after the edge.
     pub q3: u8,
 }
 
-/// The three ways to filter over an edge (RFC 6386, chapter 15.2, 15.3).
+/// The kind of filter of an edge (RFC 6386, chapters 15.2 and 15.3).
 #[derive(Clone, Copy, Debug, PartialEq, Eq)]
 pub enum EdgeKind {
-    /// Either edge under the simple filter.
+    /// The simple filter, for both kinds of edges.
     Simple,
-    /// An edge between subblocks.
+    /// The normal filter of an edge between subblocks.
     Inner,
-    /// An edge between macroblocks.
+    /// The normal filter of an edge between macroblocks.
     Macroblock,
 }
 
-/// How each line across an edge is filtered.
+/// The parameters of the filter of an edge.
 #[derive(Clone, Copy, Debug, PartialEq, Eq)]
 pub struct LineStep {
+    /// The kind of filter.
     pub kind: EdgeKind,
-    /// Of the step over the edge.
+    /// The edge limit: of `2 |p0 - q0| + |p1 - q1| / 2`.
     pub limit: u8,
-    /// Of the steps on either side; of no account for the simple filter.
+    /// The interior limit: of differences of adjacent pixels on either side. Unused by the simple filter.
     pub interior: u8,
-    /// The threshold of high edge variance; of no account for the simple filter.
+    /// The threshold of high edge variance. Unused by the simple filter.
     pub hev: u8,
 }
 
+/// Clamps to -128 to 127.
 fn clamped(x: i32) -> i32
     ensures value { result ≡ clamp8 x }
     ensures range { (negsuc 127 ≤ℤ result) × (result ≤ℤ pos 127) }
@@ -52,6 +62,7 @@ fn clamped(x: i32) -> i32
     x.clamp(-128, 127)
 }
 
+/// A pixel minus 128.
 fn signed(x: u8) -> i32
     ensures value { result ≡ signed x }
     ensures range { (negsuc 127 ≤ℤ result) × (result ≤ℤ pos 127) }
@@ -59,6 +70,7 @@ fn signed(x: u8) -> i32
     i32::from(x) - 128
 }
 
+/// Clamps to -128 to 127, and adds 128.
 fn pixel_from(x: i32) -> u8
     requires { (negsuc 9999 ≤ℤ x) × (x ≤ℤ pos 9999) }
     ensures { result ≡ pixel_from x }
@@ -66,6 +78,7 @@ fn pixel_from(x: i32) -> u8
     (clamped(x) + 128) as u8
 }
 
+/// `x + by` clamped to -128 to 127, then divided by 8, rounded down.
 fn eighth(x: i32, by: i32) -> i32
     requires { (negsuc 127 ≤ℤ x) × (x ≤ℤ pos 127) × (pos 0 ≤ℤ by) × (by ≤ℤ pos 4) }
     ensures value { result ≡ eighth x by }
@@ -74,6 +87,7 @@ fn eighth(x: i32, by: i32) -> i32
     clamped(x + by) >> 3
 }
 
+/// Half of `x`, rounded up.
 fn half(x: i32) -> i32
     requires { (negsuc 127 ≤ℤ x) × (x ≤ℤ pos 127) }
     ensures value { result ≡ shr_z (x +ℤ pos 1) 2 }
@@ -89,6 +103,7 @@ fn difference(p: u8, q: u8) -> i32
     signed(p) - signed(q)
 }
 
+/// `p1 - q1` clamped to -128 to 127 if the outer taps are used, else 0.
 fn outer_tap_difference(outer: bool, line: Line) -> i32
     ensures value { result ≡ cond outer (clamp8 (signed line.p1 -ℤ signed line.q1)) (pos 0) }
     ensures range { (negsuc 127 ≤ℤ result) × (result ≤ℤ pos 127) }
@@ -100,6 +115,7 @@ fn outer_tap_difference(outer: bool, line: Line) -> i32
     }
 }
 
+/// The filter value: `3 * (q0 - p0)`, with or without the outer taps, clamped to -128 to 127.
 fn filter_value(outer: bool, line: Line) -> i32
     ensures value { result ≡ filter_value outer line }
     ensures range { (negsuc 127 ≤ℤ result) × (result ≤ℤ pos 127) }
@@ -109,6 +125,7 @@ fn filter_value(outer: bool, line: Line) -> i32
     clamped(apart + 3 * step)
 }
 
+/// `weight / 128` of the filter value, rounded to the nearest and clamped to -128 to 127.
 fn weighted_filter_value(weight: i32, pull: i32) -> i32
     requires weight { (pos 0 ≤ℤ weight) × (weight ≤ℤ pos 27) }
     requires filter_value { (negsuc 127 ≤ℤ filter_value) × (filter_value ≤ℤ pos 127) }
@@ -132,7 +149,7 @@ fn lowered(pixel: u8, by: i32) -> u8
     pixel_from(signed(pixel) - by)
 }
 
-/// The line drawn together by its pull.
+/// Adjusts `p0` and `q0` by the filter value `by`.
 fn common_adjust_by(by: i32, line: Line) -> Line
     requires { (negsuc 127 ≤ℤ by) × (by ≤ℤ pos 127) }
     ensures { (outer : Bool) → by ≡ filter_value outer line → result ≡ common_adjusted outer line }
@@ -146,13 +163,14 @@ fn common_adjust_by(by: i32, line: Line) -> Line
     }
 }
 
+/// Adjusts `p0` and `q0` by an eighth of the filter value.
 fn common_adjust(outer: bool, line: Line) -> Line
     ensures { result ≡ common_adjusted outer line }
 {
     common_adjust_by(filter_value(outer, line), line)
 }
 
-/// The step of a line whose pull is `by`.
+/// The adjustment of `p1` and `q1` for the filter value `by`.
 fn outer_tap_adjustment(high: bool, by: i32) -> i32
     requires { (negsuc 127 ≤ℤ by) × (by ≤ℤ pos 127) }
     ensures value { (line : Line) → by ≡ filter_value high line → result ≡ outer_tap_adjustment high line }
@@ -161,6 +179,7 @@ fn outer_tap_adjustment(high: bool, by: i32) -> i32
     if high { 0 } else { half(eighth(by, 4)) }
 }
 
+/// The normal filter of a subblock edge.
 fn subblock_filter(high: bool, line: Line) -> Line
     ensures { result ≡ subblock_edge_filtered high line }
 {
@@ -173,6 +192,7 @@ fn subblock_filter(high: bool, line: Line) -> Line
     }
 }
 
+/// The normal filter of a macroblock edge.
 fn macroblock_filter(high: bool, line: Line) -> Line
     ensures { result ≡ macroblock_edge_filtered high line }
 {
@@ -194,6 +214,7 @@ fn macroblock_filter(high: bool, line: Line) -> Line
     }
 }
 
+/// Whether the differences at the edge are within the edge limit.
 fn is_small_step(limit: u8, line: Line) -> bool
     ensures { result ≡ is_small_step limit line }
 {
@@ -201,6 +222,7 @@ fn is_small_step(limit: u8, line: Line) -> bool
         <= u16::from(limit)
 }
 
+/// Whether the differences of adjacent pixels on either side are within the interior limit.
 fn is_smooth(interior: u8, line: Line) -> bool
     ensures { result ≡ is_smooth interior line }
 {
@@ -212,6 +234,7 @@ fn is_smooth(interior: u8, line: Line) -> bool
         && line.q3.abs_diff(line.q2) <= interior
 }
 
+/// Whether there is high edge variance.
 fn is_high(threshold: u8, line: Line) -> bool
     ensures { result ≡ is_high threshold line }
 {
@@ -219,7 +242,7 @@ fn is_high(threshold: u8, line: Line) -> bool
 }
 
 impl LineStep {
-    /// Whether the mask of this line lets it be changed.
+    /// Whether the filter mask includes this line.
     pub(crate) fn is_changed(self, line: Line) -> bool
         ensures { result ≡ is_changed self line }
     {
@@ -231,7 +254,7 @@ impl LineStep {
         }
     }
 
-    /// What a line that is changed becomes.
+    /// The filtered line, for a line that the filter mask includes.
     pub(crate) fn changed(self, line: Line) -> Line
         ensures { result ≡ filtered_line self line }
     {
@@ -242,7 +265,7 @@ impl LineStep {
         }
     }
 
-    /// The line as the filter leaves it.
+    /// Filters one line. A line that the filter mask excludes is unchanged.
     #[tactic(auto, unfolding(crate::specs::LineSteps::stepped))]
     pub fn apply(self, line: Line) -> Line
         ensures { result ≡ stepped self line }

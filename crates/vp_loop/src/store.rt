@@ -1,4 +1,4 @@
-//! Lanes written to a plane.
+//! Storing vectors of pixels in a plane.
 
 ghost use Rattle.std.specs.Prelude.{◌≡◌, ℕ, ◌+◌, ◌*◌, ◌<◌, ◌≤◌, List, [], length, slice_index, slice_index_or};
 ghost use Rattle.std.specs.Simd.Lanes.{put_chunk};
@@ -11,7 +11,7 @@ use std::simd::prelude::*;
 use vp_base::Picture;
 use vp_lanes::{store8, store16};
 
-/// Writes sixteen bytes from `at` on.
+/// Stores sixteen bytes from index `at` on.
 fn put16(s: &mut [u8], at: usize, v: u8x16)
     requires { at + 16 ≤ length s.old }
     ensures value { s.new ≡ put_chunk at s.old v }
@@ -20,7 +20,7 @@ fn put16(s: &mut [u8], at: usize, v: u8x16)
     store16(s, at, v);
 }
 
-/// Writes eight bytes from `at` on.
+/// Stores eight bytes from index `at` on.
 fn put8(s: &mut [u8], at: usize, v: u8x8)
     requires { at + 8 ≤ length s.old }
     ensures value { s.new ≡ put_chunk at s.old v }
@@ -29,7 +29,7 @@ fn put8(s: &mut [u8], at: usize, v: u8x8)
     store8(s, at, v);
 }
 
-/// Writes four bytes from `at` on.
+/// Stores four bytes from index `at` on.
 fn put4(s: &mut [u8], at: usize, v: u8x4)
     requires { at + 4 ≤ length s.old }
     ensures value { s.new ≡ put_chunk at s.old v }
@@ -38,7 +38,7 @@ fn put4(s: &mut [u8], at: usize, v: u8x4)
     v.copy_to_slice(&mut s[at..]);
 }
 
-/// Writes 16 numbers a row, the first row from `at` on; rows are `stride` apart.
+/// Stores rows of sixteen pixels, the first from index `at` on; rows are `stride` apart.
 #[inline(always)]
 fn put_rows16(pixels: &mut [u8], at: usize, stride: usize, rows: &[u8x16])
     requires room { (r : ℕ) → r < length rows.now → at + r * stride + 16 ≤ length pixels.old }
@@ -56,7 +56,7 @@ fn put_rows16(pixels: &mut [u8], at: usize, stride: usize, rows: &[u8x16])
     }
 }
 
-/// Writes rows of sixteen pixels from column `x` of row `y` on.
+/// Writes rows of sixteen pixels to plane `k`, with their top left corner at (`x`, `y`).
 #[inline(always)]
 pub(crate) fn write_rows16(picture: &mut Picture, k: usize, x: usize, y: usize, rows: &[u8x16])
     requires plane { k < 3 }
@@ -70,7 +70,7 @@ pub(crate) fn write_rows16(picture: &mut Picture, k: usize, x: usize, y: usize, 
     put_rows16(picture.pixels_mut(k), y * stride + x, stride, rows);
 }
 
-/// Writes 8 numbers a row, the first row from `at` on; rows are `stride` apart.
+/// Stores rows of eight pixels, the first from index `at` on; rows are `stride` apart.
 #[inline(always)]
 fn put_rows8(pixels: &mut [u8], at: usize, stride: usize, rows: &[u8x8])
     requires room { (r : ℕ) → r < length rows.now → at + r * stride + 8 ≤ length pixels.old }
@@ -88,7 +88,7 @@ fn put_rows8(pixels: &mut [u8], at: usize, stride: usize, rows: &[u8x8])
     }
 }
 
-/// Writes rows of eight pixels from column `x` of row `y` on.
+/// Writes rows of eight pixels to plane `k`, with their top left corner at (`x`, `y`).
 #[inline(always)]
 pub(crate) fn write_rows8(picture: &mut Picture, k: usize, x: usize, y: usize, rows: &[u8x8])
     requires plane { k < 3 }
@@ -102,7 +102,7 @@ pub(crate) fn write_rows8(picture: &mut Picture, k: usize, x: usize, y: usize, r
     put_rows8(picture.pixels_mut(k), y * stride + x, stride, rows);
 }
 
-/// Writes 4 numbers a row, the first row from `at` on; rows are `stride` apart.
+/// Stores rows of four pixels, the first from index `at` on; rows are `stride` apart.
 #[inline(always)]
 fn put_rows4(pixels: &mut [u8], at: usize, stride: usize, rows: &[u8x4])
     requires room { (r : ℕ) → r < length rows.now → at + r * stride + 4 ≤ length pixels.old }
@@ -120,7 +120,7 @@ fn put_rows4(pixels: &mut [u8], at: usize, stride: usize, rows: &[u8x4])
     }
 }
 
-/// Writes rows of four pixels from column `x` of row `y` on.
+/// Writes rows of four pixels to plane `k`, with their top left corner at (`x`, `y`).
 #[inline(always)]
 pub(crate) fn write_rows4(picture: &mut Picture, k: usize, x: usize, y: usize, rows: &[u8x4])
     requires plane { k < 3 }

@@ -1,4 +1,4 @@
-//! How strongly a macroblock is filtered.
+//! The filter level of a macroblock.
 
 ghost use Rattle.std.specs.Prelude.{◌≡◌, ℕ, ℤ, ◌+◌, ◌-◌, ◌*◌, ◌/◌, ◌<◌, ◌≤◌, ◌≤ℤ◌, ◌+ℤ◌, pos, negsuc, ◌==◌, ◌||◌};
 ghost use Rattle.std.specs.Prelude.{length};
@@ -8,38 +8,40 @@ ghost use Rattle.vp_loop.specs.Levels.{has_inner_edges, no_level, filter_level};
 
 use vp_head::{Header, LevelDeltas, Reference};
 
-/// How a macroblock was predicted, as far as its filter level asks.
+/// How a macroblock is predicted, as far as its filter level depends on it.
 #[derive(Clone, Copy, Debug, PartialEq, Eq)]
 pub enum ModeClass {
-    /// Intra, by a mode for the whole macroblock.
+    /// Intra, with one mode for the whole macroblock.
     Whole,
-    /// Intra, each luma subblock by a mode of its own (`B_PRED`).
+    /// Intra, with a mode for each luma subblock (`B_PRED`).
     Subblocks,
-    /// By the zero vector.
+    /// Inter, with the zero vector.
     Zero,
-    /// By the nearest, near or a new vector.
+    /// Inter, with the nearest, near or a new vector.
     Moved,
-    /// By a vector for each part.
+    /// Inter, with a vector for each part (`SPLITMV`).
     Split,
 }
 
-/// What a macroblock's filter level depends on.
+/// The properties of a macroblock that its filter level depends on.
 #[derive(Clone, Copy, Debug, PartialEq, Eq)]
 pub struct MacroblockKind {
+    /// The reference frame.
     pub reference: Reference,
+    /// The class of the prediction mode.
     pub prediction: ModeClass,
-    /// Whether some block had a token.
+    /// Whether any block has a token.
     pub coded: bool,
 }
 
-/// How a macroblock is filtered (RFC 6386, chapters 15.2 to 15.4).
+/// The filter parameters of a macroblock (RFC 6386, chapters 15.2 to 15.4).
 #[derive(Clone, Copy, Debug, PartialEq, Eq)]
 pub struct Level {
-    /// The limit over the edges of the macroblock, at most 193; 0 where it isn't filtered.
+    /// The edge limit of macroblock edges, at most 193; 0 if they aren't filtered.
     pub edge: u8,
-    /// The limit over its inner edges, at most 189; 0 where they aren't filtered.
+    /// The edge limit of subblock edges, at most 189; 0 if they aren't filtered.
     pub inner: u8,
-    /// The limit on either side of an edge, 1 to 63 in the normal filter; 0 stands for the simple filter.
+    /// The interior limit, 1 to 63 in the normal filter; 0 selects the simple filter.
     pub interior: u8,
     /// The threshold of high edge variance, 0 to 3 in the normal filter; 0 in the simple one.
     pub hev: u8,
@@ -62,6 +64,7 @@ fn signed_at(values: &[i8; 4], index: u8) -> i32
     }
 }
 
+/// The level of the frame or, with segmentation, of the segment.
 fn segment_level(header: &Header, segment: u8) -> u8
     ensures { result ≡ segment_level header.now segment }
 {
@@ -101,6 +104,7 @@ fn mode_delta(deltas: &LevelDeltas, prediction: ModeClass) -> i32
     }
 }
 
+/// The segment level plus the deltas of reference frame and mode, clamped to 0 to 63.
 fn summed_level(header: &Header, segment: u8, kind: &MacroblockKind) -> u8
     ensures value { result ≡ summed_level header.now segment kind.now }
     ensures range { result ≤ 63 }
@@ -115,6 +119,7 @@ fn summed_level(header: &Header, segment: u8, kind: &MacroblockKind) -> u8
     )
 }
 
+/// The level of a macroblock; 0 if that of the frame is 0.
 fn macroblock_level(header: &Header, segment: u8, kind: &MacroblockKind) -> u8
     ensures value { result ≡ macroblock_level header.now segment kind.now }
     ensures range { result ≤ 63 }
@@ -125,6 +130,7 @@ fn macroblock_level(header: &Header, segment: u8, kind: &MacroblockKind) -> u8
     summed_level(header, segment, kind)
 }
 
+/// The interior limit of a level (RFC 6386, chapter 15.4).
 fn interior_limit(sharpness: u8, level: u8) -> u8
     ensures value { result ≡ interior_limit sharpness level }
     ensures range { level ≤ 63 → result ≤ 63 }
@@ -136,6 +142,7 @@ fn interior_limit(sharpness: u8, level: u8) -> u8
     part.min(9u8.saturating_sub(sharpness)).max(1)
 }
 
+/// The threshold of high edge variance of a level (RFC 6386, chapter 15.4).
 fn variance_threshold(key: bool, level: u8) -> u8
     ensures { result ≡ variance_threshold key level }
 {
@@ -149,6 +156,7 @@ fn variance_threshold(key: bool, level: u8) -> u8
     }
 }
 
+/// Whether subblock edges are filtered: some block has a token, or the mode is `B_PRED` or `SPLITMV`.
 fn has_inner_edges(kind: &MacroblockKind) -> bool
     ensures { result ≡ has_inner_edges kind.now }
 {
@@ -159,9 +167,9 @@ fn has_inner_edges(kind: &MacroblockKind) -> bool
         }
 }
 
-/// How a macroblock of segment `segment` (0 to 3) is filtered; all 0 where it isn't. The numbers come from the frame's
-/// level and the segment's (RFC 6386, chapter 9.3), the differences of reference and mode (9.4) and the sharpness
-/// (15.4).
+/// The filter parameters of a macroblock of segment `segment`, 0 to 3; all 0 if it isn't filtered. They depend on the
+/// level of the frame and of the segment (RFC 6386, chapter 9.3), the deltas of reference frame and mode (9.4), and
+/// the sharpness (15.4).
 #[tactic(auto, unfolding(crate::specs::Levels::filter_level))]
 pub fn levels(header: &Header, segment: u8, kind: &MacroblockKind) -> Level
     ensures { result ≡ filter_level header.now segment kind.now }

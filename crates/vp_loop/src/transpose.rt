@@ -1,4 +1,4 @@
-//! Sixteen lines along rows, turned into lanes and back, and lines down columns.
+//! Loading lines: lines along rows are transposed to lanes and back, lines down columns need no transpose.
 
 ghost use Rattle.std.specs.Prelude.{◌≡◌, ℕ, ◌+◌, ◌*◌, ◌-◌, ◌≤◌, ◌<◌, List, [], ◌∷◌, length, slice_index};
 ghost use Rattle.std.specs.Prelude.{slice_index_or};
@@ -11,7 +11,7 @@ use std::simd::prelude::*;
 use vp_base::Plane;
 use vp_lanes::{load8, load16};
 
-/// The lines that lie in sixteen rows of eight pixels.
+/// Transposes sixteen rows of eight pixels to lines.
 fn transpose(
     r0: u8x8,
     r1: u8x8,
@@ -65,7 +65,7 @@ fn transpose(
     }
 }
 
-/// The eight pixels of each of sixteen lines, line after line.
+/// Transposes sixteen lines to rows of eight pixels.
 pub(crate) fn untranspose(
     p3: u8x16,
     p2: u8x16,
@@ -113,7 +113,7 @@ pub(crate) fn untranspose(
     ]
 }
 
-/// The four pixels at the edge, of each of sixteen lines, line after line.
+/// Transposes the middle four pixels of sixteen lines to rows.
 pub(crate) fn untranspose_middle(p1: u8x16, p0: u8x16, q0: u8x16, q1: u8x16) -> [u8x4; 16]
     ensures len { length result ≡ 16 }
     ensures value { (j : ℕ) → j < 16 → slice_index_or result j []
@@ -193,7 +193,7 @@ pub(crate) fn second_halves(l: Lines) -> [u8x8; 8]
     ]
 }
 
-/// Eight pixels of one plane from `u_at` on, and behind them eight of the other from `v_at` on.
+/// Loads eight pixels of one plane from index `u_at` on, followed by eight of the other from `v_at` on.
 #[inline(always)]
 fn eight_of_both(u: &[u8], u_at: usize, v: &[u8], v_at: usize) -> u8x16
     requires u_room { u_at + 8 ≤ length u.now }
@@ -207,8 +207,8 @@ fn eight_of_both(u: &[u8], u_at: usize, v: &[u8], v_at: usize) -> u8x16
     )
 }
 
-/// Sixteen lines down, the first from `at` on. Rows are `stride` apart: each place comes of the one before by one
-/// addition.
+/// Loads sixteen lines down columns, the first from index `at` on. Rows are `stride` apart: each index is the previous
+/// one plus `stride`.
 #[inline(always)]
 fn rows_down(pixels: &[u8], at: usize, stride: usize) -> Lines
     requires room { at + 7 * stride + 16 ≤ length pixels.now }
@@ -233,7 +233,7 @@ fn rows_down(pixels: &[u8], at: usize, stride: usize) -> Lines
     }
 }
 
-/// Eight lines down one plane, and behind them eight down the other.
+/// Loads eight lines down columns of one plane, followed by eight of the other.
 #[inline(always)]
 fn rows_down_both(
     u: &[u8],
@@ -274,7 +274,7 @@ fn rows_down_both(
     }
 }
 
-/// Sixteen lines along rows, the first from `at` on.
+/// Loads sixteen lines along rows, the first from index `at` on.
 #[inline(always)]
 fn rows_along(pixels: &[u8], at: usize, stride: usize) -> Lines
     requires room { at + 15 * stride + 8 ≤ length pixels.now }
@@ -315,7 +315,7 @@ fn rows_along(pixels: &[u8], at: usize, stride: usize) -> Lines
     )
 }
 
-/// Eight lines along the rows of one plane, and behind them eight of the other.
+/// Loads eight lines along rows of one plane, followed by eight of the other.
 #[inline(always)]
 fn rows_along_both(
     u: &[u8],
@@ -364,7 +364,7 @@ fn rows_along_both(
     )
 }
 
-/// The sixteen lines down the columns from column `x` on, each beginning at row `y`.
+/// Loads the sixteen lines down columns `x` to `x + 15`, from row `y` on.
 #[inline(always)]
 pub(crate) fn lines_down(plane: &Plane, x: usize, y: usize) -> Lines
     requires columns { x + 16 ≤ plane.now.width }
@@ -376,7 +376,7 @@ pub(crate) fn lines_down(plane: &Plane, x: usize, y: usize) -> Lines
     rows_down(plane.pixels(), y * stride + x, stride)
 }
 
-/// The eight lines down the columns of one plane, and behind them those of the other.
+/// Loads eight lines down columns of one plane, followed by eight of the other.
 #[inline(always)]
 pub(crate) fn lines_down_both(u: &Plane, v: &Plane, x: usize, y: usize) -> Lines
     requires u_columns { x + 8 ≤ u.now.width }
@@ -393,7 +393,7 @@ pub(crate) fn lines_down_both(u: &Plane, v: &Plane, x: usize, y: usize) -> Lines
     rows_down_both(u.pixels(), y * us + x, us, v.pixels(), y * vs + x, vs)
 }
 
-/// The sixteen lines along the rows from row `y` on, each beginning at column `x`.
+/// Loads the sixteen lines along rows `y` to `y + 15`, from column `x` on.
 #[inline(always)]
 pub(crate) fn lines_along(plane: &Plane, x: usize, y: usize) -> Lines
     requires columns { x + 8 ≤ plane.now.width }
@@ -405,7 +405,7 @@ pub(crate) fn lines_along(plane: &Plane, x: usize, y: usize) -> Lines
     rows_along(plane.pixels(), y * stride + x, stride)
 }
 
-/// The eight lines along the rows of one plane, and behind them those of the other.
+/// Loads eight lines along rows of one plane, followed by eight of the other.
 #[inline(always)]
 pub(crate) fn lines_along_both(u: &Plane, v: &Plane, x: usize, y: usize) -> Lines
     requires u_columns { x + 8 ≤ u.now.width }

@@ -10,6 +10,7 @@ use Rattle.vp_tables.specs.declared.modes.LumaMode.TheVariants as luma_is
 use Rattle.vp_tables.specs.declared.modes.SubMode.{SubMode}
 use Rattle.vp_tables.specs.declared.modes.SubMode.TheVariants as sub_is
 
+-- the header of a macroblock, without motion vectors
 pub record Modes : Type 0 where
   pub segment : ℕ
   pub skip : Bool
@@ -18,7 +19,7 @@ pub record Modes : Type 0 where
   pub subs : List SubMode
   pub chroma : ChromaMode
 
--- intra, not skipped, of segment 0, with DC modes
+-- the default modes: intra, not skipped, segment 0, DC
 unfoldable pub plain : Modes
 plain = record {
   segment = 0;
@@ -29,6 +30,6 @@ plain = record {
   chroma = chroma_is.Dc;
 }
 
--- plain, but of a segment
+-- the default modes, with this segment
 abbrev pub plain_of : ℕ → Modes
 plain_of segment = record plain { segment = segment }

@@ -1,5 +1,5 @@
--- The modes of a frame's macroblocks: the segment map that the next frame keeps (RFC 6386, chapters 9.3 and 10), and
--- the contexts of subblock modes (chapter 11.3). Pinned by the tests `modes_of_a_picture` and
+-- The modes of a frame's macroblocks: the segment map that the next frame inherits (RFC 6386, chapters 9.3 and 10),
+-- and the contexts of subblock modes (chapter 11.3). Pinned by the tests `modes_of_a_picture` and
 -- `modes_by_their_neighbours`.
 use Rattle.std.specs.Prelude.{ℕ, List, slice_index_or, if◌then◌else◌}
 use Rattle.vp_base.specs.declared.place.Place.{Place}
@@ -13,15 +13,15 @@ use Rattle.vp_tables.specs.declared.modes.SubMode.TheVariants as sub_is
 use Rattle.vp_tables.specs.Modes.{is_by_subblocks}
 use Rattle.vp_modes.specs.Entry.{Modes, plain_of}
 
--- the segments of a frame's macroblocks, which the next frame keeps (chapter 9.3)
+-- the segments of a frame's macroblocks, which the next frame inherits (chapter 9.3)
 abbrev pub segments_of : Grid Modes → Grid ℕ
 segments_of g = mapped (λ m. m.segment) g
 
--- the modes before a frame is read: plain, but of the segments that are kept
+-- the modes before a frame is read: default modes, with the inherited segments
 abbrev pub of_segments : Grid ℕ → Grid Modes
 of_segments g = mapped plain_of g
 
--- the subblock mode that a 16x16 mode counts as (chapter 11.3)
+-- the subblock mode that a whole-block luma mode counts as (chapter 11.3)
 abbrev pub like : LumaMode → SubMode
 like luma_is.Dc = sub_is.Dc
 like luma_is.V = sub_is.Ve
@@ -33,8 +33,8 @@ like luma_is.B = sub_is.Dc
 unfoldable pub sub_of : Modes → ℕ → SubMode
 sub_of m k = if is_by_subblocks m.luma then slice_index_or m.subs k sub_is.Dc else like m.luma
 
--- the modes above subblock k of the macroblock at a place, and to its left, where those before k are in found;
--- outside the frame they are DC
+-- The modes above subblock k of the macroblock at p, and to its left. found contains its subblock modes before k.
+-- Outside the frame the mode is DC.
 unfoldable pub context_above : Grid Modes → Place → List SubMode → ℕ → SubMode
 context_above g p found k = value sub_of sub_is.Dc g found (seen_from 4 p (above (block_place 4 p k)))
 

@@ -25,16 +25,16 @@ use Rattle.vp_head.specs.Reference.{is_intra}
 use Rattle.vp_modes.specs.Entry.{Modes, plain}
 use Rattle.vp_modes.specs.Map.{context_above, context_left}
 
--- the segment by its tree (chapter 10)
+-- a segment id by the segment tree (chapter 10)
 unfoldable pub segment_id : List ℕ → Reader ℕ
 segment_id probabilities = walk_from 0 SEGMENT_TREE probabilities 0
 
--- It is read where the map is updated. Else it is 0 in a key frame, and in an inter frame what it was.
+-- The segment is read if the map is updated. Otherwise it is 0 in a key frame, and unchanged in an inter frame.
 unfoldable pub segment_of : Header → ℕ → Reader ℕ
 segment_of h kept = when h.segmentation.update_map (segment_id h.segmentation.tree_probabilities)
     (if h.key then 0 else kept)
 
--- whether there are no tokens (chapter 11.1)
+-- whether the macroblock has no tokens (chapter 11.1)
 abbrev pub skip_by : Option ℕ → Reader Bool
 skip_by (Some p) = read p
 skip_by None = give false
@@ -45,13 +45,13 @@ far_reference p = do
   alt ← read p.golden
   give (if alt then reference_is.Alt else reference_is.Golden)
 
--- last, golden or altref (chapter 16.2)
+-- the reference frame of an inter macroblock: last, golden or altref (chapter 16.2)
 unfoldable pub inter_reference : ReferenceProbabilities → Reader Reference
 inter_reference p = do
   far ← read p.last
   when far (far_reference p) reference_is.Last
 
--- A key frame's macroblocks are intra.
+-- the reference frame; in a key frame it is intra
 unfoldable pub reference_of : Header → Reader Reference
 reference_of h = do
   inter ← when (not h.key) (read h.references.intra) false
@@ -62,31 +62,32 @@ unfoldable pub luma_mode : Header → Reader LumaMode
 luma_mode h = if h.key then walk_from luma_is.Dc KEY_LUMA_TREE KEY_LUMA_PROBABILITIES 0 else walk_from luma_is.Dc
     LUMA_TREE h.probabilities.luma 0
 
--- its chroma mode (chapters 11.4, 16.1)
+-- the chroma mode of an intra macroblock (chapters 11.4, 16.1)
 unfoldable pub chroma_mode : Header → Reader ChromaMode
 chroma_mode h = walk_from chroma_is.Dc CHROMA_TREE
     (if h.key then KEY_CHROMA_PROBABILITIES else h.probabilities.chroma) 0
 
--- In a key frame the modes above and to the left choose the probabilities of a subblock's mode; in an inter frame
--- they are fixed (chapters 11.3, 16.1).
+-- The probabilities of a subblock mode (chapters 11.3, 16.1). In a key frame they depend on the modes above and to the
+-- left. In an inter frame they are fixed.
 unfoldable pub sub_probabilities : Header → Grid Modes → Place → List SubMode → ℕ → List ℕ
 sub_probabilities h g p found k =
     if h.key then key_sub_probabilities (context_above g p found k) (context_left g p found k) else SUB_PROBABILITIES
 
+-- a subblock mode with these probabilities
 unfoldable pub sub_mode : List ℕ → Reader SubMode
 sub_mode probabilities = walk_from sub_is.Dc SUB_TREE probabilities 0
 
--- the mode of subblock k, where those before it are found
+-- the mode of subblock k, added to those of the subblocks before it
 unfoldable pub sub_row : Header → Grid Modes → Place → ℕ → List SubMode → Reader (List SubMode)
 sub_row h g p k found = do
   mode ← sub_mode (sub_probabilities h g p found k)
   give (slice_set found k mode)
 
--- the sixteen modes of the macroblock at p
+-- the sixteen subblock modes of the macroblock at p
 unfoldable pub sub_modes : Header → Grid Modes → Place → Reader (List SubMode)
 sub_modes h g p = rows 16 (sub_row h g p) (replicate 16 sub_is.Dc)
 
--- the modes of an intra macroblock, whose subblocks have modes of their own where its luma mode is B_PRED
+-- the modes of an intra macroblock; its subblocks have modes if its luma mode is B_PRED
 unfoldable pub intra_modes : Header → Grid Modes → Place → Modes → Reader Modes
 intra_modes h g p m = do
   luma ← luma_mode h
@@ -94,11 +95,11 @@ intra_modes h g p m = do
   chroma ← chroma_mode h
   give (record m { luma = luma; subs = subs; chroma = chroma })
 
--- An inter macroblock's modes are read with its vectors.
+-- the modes of an intra macroblock; an inter macroblock's mode is read with its motion vectors
 unfoldable pub prediction : Header → Grid Modes → Place → Modes → Reader Modes
 prediction h g p m = when (is_intra m.reference) (intra_modes h g p m) m
 
--- with DC modes
+-- the header of a macroblock whose modes aren't read: they are DC
 abbrev pub unread : ℕ → Bool → Reference → Modes
 unread segment skip reference = record {
   segment = segment;
@@ -109,8 +110,8 @@ unread segment skip reference = record {
   chroma = chroma_is.Dc;
 }
 
--- what the macroblock at p says of itself, where g has the modes of this frame's macroblocks before it, and at p
--- those of the frame before
+-- the header of the macroblock at p; g contains the modes of this frame's earlier macroblocks, and at p those of the
+-- previous frame
 unfoldable pub modes_at : Header → Grid Modes → Place → Reader Modes
 modes_at h g p = do
   segment ← segment_of h (at plain g p).segment

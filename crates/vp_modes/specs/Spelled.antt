@@ -12,15 +12,15 @@ use Rattle.vp_head.specs.Reference.{is_intra}
 use Rattle.vp_modes.specs.Entry.{Modes, plain}
 use Rattle.vp_modes.specs.Modes.{unread, modes_at}
 
--- where g has at p the modes of the frame before
+-- the modes m can be written at p; g contains at p the modes of the previous frame
 pub record AreWritableModes (h : Header) (g : Grid Modes) (p : Place) (m : Modes) : Type 0 where
   pub segment : h.segmentation.update_map ≡ false → m.segment ≡ (if h.key then 0 else (at plain g p).segment)
   pub skip : h.skip ≡ None → m.skip ≡ false
   pub reference : h.key ≡ true → m.reference ≡ reference_is.Intra
-  -- An inter macroblock has no intra modes.
+  -- an inter macroblock has no intra modes
   pub inter : is_intra m.reference ≡ false → m ≡ unread m.segment m.skip m.reference
   pub subs : is_by_subblocks m.luma ≡ false → m.subs ≡ replicate 16 sub_is.Dc
 
--- what is read can be written
+-- The modes of each macroblock that can be read can also be written.
 abbrev pub CanBeWrittenAgain : Type 0
 CanBeWrittenAgain = (h : Header) (g : Grid Modes) (p : Place) (s : State) → AreWritableModes h g p (modes_at h g p s).0

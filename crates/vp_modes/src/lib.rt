@@ -1,4 +1,4 @@
-//! The modes of a frame's macroblocks, and the map that they stand in.
+//! The modes of a frame's macroblocks, and the map that contains them.
 #![tactic(auto)]
 
 mod contexts;

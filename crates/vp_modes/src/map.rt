@@ -1,3 +1,5 @@
+//! The modes of all macroblocks of a frame.
+
 ghost use Rattle.std.specs.Prelude.{◌≡◌, ◌≢◌, ◌<◌, ◌≤◌, Some, IfOk, []};
 ghost use Rattle.vp_base.specs.declared.place.Place.{Place};
 ghost use Rattle.vp_base.specs.Grid.{Has, all, entry, with_entry};
@@ -37,7 +39,7 @@ impl Model for ModeMap {
     ghost view = { λ m. m.grid };
 }
 
-/// Plain, but of this segment.
+/// The default modes, with this segment.
 #[tactic(auto, unfolding(crate::specs::Entry::plain))]
 fn plain_of(segment: Segment) -> Modes
     ensures { result ≡ plain_of segment }
@@ -49,7 +51,7 @@ fn plain_of(segment: Segment) -> Modes
 }
 
 impl ModeMap {
-    /// A map of no macroblocks, for which no memory is asked.
+    /// A map without macroblocks. Allocates nothing.
     pub fn empty(alloc: Global) -> ModeMap
         ensures { result ≡ record { columns = 0; rows = 0; entries = [] } }
     {
@@ -58,14 +60,15 @@ impl ModeMap {
         }
     }
 
-    /// A map for frames of this size, in which every macroblock is intra, not skipped, of segment 0 and with DC modes.
+    /// Allocates a map for frames of this size. Every macroblock has the default modes: intra, not skipped, segment 0,
+    /// DC.
     pub fn new(alloc: Global, dim: Dim) -> Result<ModeMap, AllocError>
         ensures { IfOk result (λ m. m ≡ all (macroblocks dim.w) (macroblocks dim.h) plain) }
     {
         ModeMap::empty(alloc).refill(dim)
     }
 
-    /// The same, in the memory of this map.
+    /// Resets the map to `new(dim)`. Allocates only if its buffer is too small.
     #[tactic(auto, unfolding(crate::specs::Entry::plain))]
     pub fn refill(self, dim: Dim) -> Result<ModeMap, AllocError>
         ensures { IfOk result (λ m. m ≡ all (macroblocks dim.w) (macroblocks dim.h) plain) }
@@ -76,7 +79,7 @@ impl ModeMap {
         Ok(ModeMap { grid })
     }
 
-    /// An equal map.
+    /// Copies the map into new memory.
     pub fn copy(&self, alloc: Global) -> Result<ModeMap, AllocError>
         ensures { IfOk result (λ m. m ≡ self.now) }
     {
@@ -84,14 +87,14 @@ impl ModeMap {
         Ok(ModeMap { grid })
     }
 
-    /// A map for the next frame: every macroblock is plain, but of the segment that it had (chapter 9.3).
+    /// Allocates a map for the next frame: default modes, with these segments (chapter 9.3).
     pub fn of_segments(alloc: Global, segments: &Grid<Segment>) -> Result<ModeMap, AllocError>
         ensures { IfOk result (λ m. m ≡ of_segments segments.now) }
     {
         ModeMap::empty(alloc).refill_of(segments)
     }
 
-    /// The same, in the memory of this map.
+    /// Resets the map to `of_segments(segments)`. Allocates only if its buffer is too small.
     pub fn refill_of(self, segments: &Grid<Segment>) -> Result<ModeMap, AllocError>
         ensures { IfOk result (λ m. m ≡ of_segments segments.now) }
     {
@@ -106,14 +109,14 @@ impl ModeMap {
         Ok(ModeMap { grid })
     }
 
-    /// The segments of the macroblocks.
+    /// Allocates a grid with the segments of the macroblocks.
     pub fn segments(&self, alloc: Global) -> Result<Grid<Segment>, AllocError>
         ensures { IfOk result (λ g. g ≡ segments_of self.now) }
     {
         self.segments_in(Grid::empty(alloc))
     }
 
-    /// The same, in the memory of `room`.
+    /// Stores the segments of the macroblocks in the buffer of `room`. Allocates only if it is too small.
     pub fn segments_in(&self, room: Grid<Segment>) -> Result<Grid<Segment>, AllocError>
         ensures { IfOk result (λ g. g ≡ segments_of self.now) }
     {
@@ -129,7 +132,7 @@ impl ModeMap {
         Ok(Grid::of(self.columns(), self.rows(), segments))
     }
 
-    /// How many macroblocks a row has.
+    /// The number of macroblock columns, at most 1,024.
     pub fn columns(&self) -> usize
         ensures value { result ≡ self.now.columns }
         ensures bound { result ≤ 1024 }
@@ -137,7 +140,7 @@ impl ModeMap {
         self.grid.columns()
     }
 
-    /// How many rows of macroblocks there are.
+    /// The number of macroblock rows, at most 1,024.
     pub fn rows(&self) -> usize
         ensures value { result ≡ self.now.rows }
         ensures bound { result ≤ 1024 }
@@ -145,7 +148,7 @@ impl ModeMap {
         self.grid.rows()
     }
 
-    /// The modes at a place.
+    /// The modes of the macroblock at a place.
     pub fn get(&self, place: Place) -> &Modes
         requires { Has self.now place }
         ensures { entry self.now place ≡ Some result.now }
@@ -153,7 +156,7 @@ impl ModeMap {
         self.grid.get(place)
     }
 
-    /// Changes the modes at a place, and at no other.
+    /// Replaces the modes of the macroblock at a place.
     pub fn set(&mut self, place: Place, modes: &Modes)
         requires { Has self.old place }
         ensures changed { self.new ≡ with_entry self.old place modes.now }

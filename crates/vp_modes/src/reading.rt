@@ -1,3 +1,5 @@
+//! Reading the modes of a macroblock.
+
 ghost use Rattle.std.specs.Prelude.{◌≡◌, ◌<◌, replicate};
 ghost use Rattle.vp_base.specs.Grid.{Has};
 ghost use Rattle.vp_bool.specs.Reader.{when};
@@ -19,7 +21,7 @@ use vp_tables::{
 };
 use vp_tree::read_tree;
 
-/// A segment id by the segment tree.
+/// Reads a segment id by the segment tree.
 #[tactic(auto, unfolding(crate::specs::Modes::segment_id))]
 fn read_segment_id(probabilities: &[u8; 3], d: &mut BoolDecoder) -> u8
     ensures value { result ≡ (segment_id probabilities.now d.old).0 }
@@ -29,7 +31,7 @@ fn read_segment_id(probabilities: &[u8; 3], d: &mut BoolDecoder) -> u8
     read_tree(&SEGMENT_TREE, probabilities, d)
 }
 
-/// The segment, where the map is updated; else 0 in a key frame, and what is kept in an inter frame.
+/// Reads the segment if the map is updated. Otherwise it is 0 in a key frame, and unchanged in an inter frame.
 #[tactic(auto, unfolding(crate::specs::Modes::segment_of))]
 fn read_segment(header: &Header, kept: u8, d: &mut BoolDecoder) -> u8
     requires { kept < 4 }
@@ -56,7 +58,7 @@ fn read_skip(probability: Option<u8>, d: &mut BoolDecoder) -> bool
     }
 }
 
-/// Last, golden or altref.
+/// Reads the reference frame of an inter macroblock: last, golden or altref.
 #[tactic(auto, unfolding(crate::specs::Modes::inter_reference, vp_bool::specs::Reader::bind))]
 fn read_inter_reference(probabilities: &ReferenceProbabilities, d: &mut BoolDecoder) -> Reference
     ensures value { result ≡ (inter_reference probabilities.now d.old).0 }
@@ -71,7 +73,7 @@ fn read_inter_reference(probabilities: &ReferenceProbabilities, d: &mut BoolDeco
     }
 }
 
-/// The reference: a key frame's macroblocks are intra.
+/// Reads the reference frame. In a key frame it is `Intra`.
 #[tactic(auto, unfolding(crate::specs::Modes::reference_of, vp_bool::specs::Reader::bind))]
 fn read_reference(header: &Header, d: &mut BoolDecoder) -> Reference
     ensures value { result ≡ (reference_of header.now d.old).0 }
@@ -93,7 +95,7 @@ fn read_luma_by(probabilities: &[u8; 4], d: &mut BoolDecoder) -> LumaMode
     read_tree(&LUMA_TREE, probabilities, d)
 }
 
-/// The luma mode of an intra macroblock.
+/// Reads the luma mode of an intra macroblock.
 #[tactic(auto, unfolding(crate::specs::Modes::luma_mode))]
 fn read_luma(header: &Header, d: &mut BoolDecoder) -> LumaMode
     ensures value { result ≡ (luma_mode header.now d.old).0 }
@@ -113,7 +115,7 @@ fn read_chroma_by(probabilities: &[u8; 3], d: &mut BoolDecoder) -> ChromaMode
     read_tree(&CHROMA_TREE, probabilities, d)
 }
 
-/// The chroma mode of an intra macroblock.
+/// Reads the chroma mode of an intra macroblock.
 #[tactic(auto, unfolding(crate::specs::Modes::chroma_mode))]
 fn read_chroma(header: &Header, d: &mut BoolDecoder) -> ChromaMode
     ensures value { result ≡ (chroma_mode header.now d.old).0 }
@@ -126,7 +128,8 @@ fn read_chroma(header: &Header, d: &mut BoolDecoder) -> ChromaMode
     }
 }
 
-/// The probabilities of the mode of subblock k of the macroblock at a place, whose subblocks before k are in found.
+/// The mode probabilities of subblock `k` of the macroblock at `place`. `found` contains its subblock modes before
+/// `k`.
 #[tactic(auto, unfolding(crate::specs::Modes::sub_probabilities))]
 pub(crate) fn probabilities_of(
     header: &Header,
@@ -157,7 +160,7 @@ fn read_sub(probabilities: &[u8; 9], d: &mut BoolDecoder) -> SubMode
     read_tree(&SUB_TREE, probabilities, d)
 }
 
-/// The modes of the subblocks of the macroblock at a place.
+/// Reads the subblock modes of the macroblock at `place`.
 fn read_subs(header: &Header, map: &ModeMap, place: Place, d: &mut BoolDecoder) -> [SubMode; 16]
     requires { Has map.now place }
     ensures value { result ≡ (sub_modes header.now map.now place d.old).0 }
@@ -171,7 +174,7 @@ fn read_subs(header: &Header, map: &ModeMap, place: Place, d: &mut BoolDecoder) 
     found
 }
 
-/// The modes of the subblocks where each has one, else DC.
+/// Reads the subblock modes if the luma mode is `B`. Otherwise all are DC.
 fn read_subs_of(
     luma: LumaMode,
     header: &Header,
@@ -192,7 +195,7 @@ fn read_subs_of(
     }
 }
 
-/// Adds the modes of an intra macroblock.
+/// Reads the modes of an intra macroblock, and adds them to `modes`.
 #[tactic(auto, unfolding(crate::specs::Modes::intra_modes, vp_bool::specs::Reader::bind))]
 fn read_intra(
     header: &Header,
@@ -216,7 +219,7 @@ fn read_intra(
     }
 }
 
-/// Adds the modes of the macroblock at a place, where it is intra.
+/// Reads the modes of the macroblock at `place` if it is intra.
 #[tactic(auto, unfolding(crate::specs::Modes::prediction))]
 fn read_prediction(
     header: &Header,
@@ -236,8 +239,8 @@ fn read_prediction(
     }
 }
 
-/// What the macroblock at a place says of itself. The map has the modes of this frame's macroblocks before it, and at
-/// the place itself those of the frame before, whose segment may be kept.
+/// Reads the header of the macroblock at `place`, without motion vectors. The map contains the modes of this frame's
+/// earlier macroblocks. At `place` it contains those of the previous frame, whose segment may be kept.
 #[tactic(auto, unfolding(crate::specs::Modes::modes_at, vp_bool::specs::Reader::bind))]
 pub fn read_modes(header: &Header, map: &ModeMap, place: Place, d: &mut BoolDecoder) -> Modes
     requires { Has map.now place }

@@ -1,9 +1,11 @@
+//! The segment of a macroblock.
+
 use std::marker::Model;
 
-/// Which of a frame's four segments a macroblock belongs to (RFC 6386, chapter 9.3).
+/// The segment of a macroblock (RFC 6386, chapter 9.3).
 #[derive(Clone, Copy, Debug, PartialEq, Eq)]
 pub struct Segment {
-    /// 0 to 3.
+    /// The segment number, 0 to 3.
     pub number: u8,
 }
 

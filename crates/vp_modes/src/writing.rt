@@ -1,3 +1,5 @@
+//! Writing the modes of a macroblock.
+
 ghost use Rattle.std.specs.Prelude.{◌≡◌, ◌<◌, ℕ, false, true, List, replicate, None, OnOk};
 ghost use Rattle.vp_base.specs.Grid.{Has};
 ghost use Rattle.vp_bool.specs.Reader.{when};
@@ -22,7 +24,7 @@ use vp_tables::{
 };
 use vp_tree::write_tree;
 
-/// A segment id by the segment tree, where it is asked for.
+/// Writes a segment id by the segment tree, if `asked`.
 fn write_segment_if(
     asked: bool,
     probabilities: &[u8; 3],
@@ -49,7 +51,7 @@ fn write_skip(probability: Option<u8>, skip: bool, e: &mut BoolEncoder) -> Resul
     Ok(())
 }
 
-/// Last, golden or altref.
+/// Writes the reference frame of an inter macroblock: last, golden or altref.
 fn write_inter_reference(
     probabilities: &ReferenceProbabilities,
     reference: Reference,
@@ -73,7 +75,7 @@ fn write_inter_reference(
     Ok(())
 }
 
-/// The reference: a key frame's macroblocks are intra.
+/// Writes the reference frame. In a key frame it is `Intra`, and not coded.
 fn write_reference(
     header: &Header,
     reference: Reference,
@@ -93,7 +95,7 @@ fn write_reference(
     Ok(())
 }
 
-/// The luma mode of an intra macroblock.
+/// Writes the luma mode of an intra macroblock.
 fn write_luma(header: &Header, mode: LumaMode, e: &mut BoolEncoder) -> Result<(), AllocError>
     ensures { OnOk result (Writes (luma_mode header.now) e.old e.new mode) }
 {
@@ -105,7 +107,7 @@ fn write_luma(header: &Header, mode: LumaMode, e: &mut BoolEncoder) -> Result<()
     Ok(())
 }
 
-/// The chroma mode of an intra macroblock.
+/// Writes the chroma mode of an intra macroblock.
 fn write_chroma(header: &Header, mode: ChromaMode, e: &mut BoolEncoder) -> Result<(), AllocError>
     ensures { OnOk result (Writes (chroma_mode header.now) e.old e.new mode) }
 {
@@ -124,7 +126,7 @@ fn write_sub(probabilities: &[u8; 9], mode: SubMode, e: &mut BoolEncoder) -> Res
     Ok(())
 }
 
-/// The modes of the subblocks of the macroblock at a place.
+/// Writes the subblock modes of the macroblock at `place`.
 fn write_subs(
     header: &Header,
     map: &ModeMap,
@@ -144,7 +146,7 @@ fn write_subs(
     Ok(())
 }
 
-/// The modes of the subblocks, where each has one.
+/// Writes the subblock modes if the luma mode is `B`.
 fn write_subs_of(
     luma: LumaMode,
     header: &Header,
@@ -164,7 +166,7 @@ fn write_subs_of(
     Ok(())
 }
 
-/// The modes of an intra macroblock.
+/// Writes the modes of an intra macroblock.
 fn write_intra(
     header: &Header,
     map: &ModeMap,
@@ -183,10 +185,10 @@ fn write_intra(
     Ok(())
 }
 
-/// Writes what the macroblock at a place says of itself, but for its vectors. The map has the modes of this frame's
-/// macroblocks before it, and at the place itself those of the frame before, whose segment may be kept.
+/// Writes the header of the macroblock at `place`, without motion vectors. The map contains the modes of this frame's
+/// earlier macroblocks. At `place` it contains those of the previous frame, whose segment may be kept.
 ///
-/// Where memory is refused, a part of it may have been written.
+/// If out of memory, a part of the header may have been written.
 pub fn write_modes(
     header: &Header,
     map: &ModeMap,

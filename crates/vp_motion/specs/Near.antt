@@ -1,6 +1,6 @@
--- The candidate vectors of a macroblock: best, nearest and near, with their weights, sign biases and clamps (RFC 6386,
--- chapter 16.3). Pinned by the law `near_of_three_neighbours`, the test `vectors_by_their_neighbours`, and streams of
--- other encoders in the gate.
+-- The candidate vectors of a macroblock: best, nearest and near, with their weights, sign biases and clamping (RFC
+-- 6386, chapter 16.3). Pinned by the law `near_of_three_neighbours`, the test `vectors_by_their_neighbours`, and
+-- streams of other encoders in the gate.
 use Rattle.std.specs.Prelude.{◌≡◌, ◌<◌, ℕ, ◌+◌, ◌-◌, ◌*◌, ◌&&◌, Bool, true, false, not, nat_lt, nat_le, eqb, List, []}
 use Rattle.std.specs.Prelude.{◌∷◌, ◌++◌, length, replicate, slice_index_or, ℤ, pos, negsuc, neg_ℤ, int_lt}
 use Rattle.std.specs.Prelude.{if◌then◌else◌}
@@ -21,6 +21,7 @@ use Rattle.vp_motion.specs.Map.{intra, own}
 
 -- ---- A neighbour's vector
 
+-- the sign bias of a reference frame
 abbrev pub bias_of : Reference → SignBiases → Bool
 bias_of reference_is.Intra b = false
 bias_of reference_is.Last b = false
@@ -43,61 +44,65 @@ same_number (negsuc m) (negsuc n) = eqb m n
 unfoldable pub same : Vector → Vector → Bool
 same u v = same_number u.row v.row && same_number u.column v.column
 
--- It is negated where the sign biases of the two references differ.
+-- a neighbour's vector, negated if the sign biases of the two reference frames differ
 unfoldable pub bias_corrected : Reference → SignBiases → MacroblockMotion → Vector
 bias_corrected r b e = if same_bool (bias_of e.reference b) (bias_of r b) then own e else negated (own e)
 
--- a neighbour's vector and its weight, where it counts
+-- a neighbour's vector and its weight; an intra neighbour doesn't count
 unfoldable pub weighted_neighbour : Reference → SignBiases → ℕ → MacroblockMotion → List Weighted
 weighted_neighbour r b weight e = if is_intra e.reference then [] else record {
   vector = bias_corrected r b e;
   weight = weight;
 } ∷ []
 
--- those above, to the left and above-left; outside the frame nothing counts
+-- the neighbours above, to the left, and above left; outside the frame there is none
 unfoldable pub neighbours : Grid MacroblockMotion → Place → Reference → SignBiases → List Weighted
 neighbours g p r b = weighted_neighbour r b 2 (look intra g (above p))
     ++ (weighted_neighbour r b 2 (look intra g (left p)) ++ weighted_neighbour r b 1 (look intra g (corner p)))
 
--- ---- The vectors that are found, with their weights
+-- ---- Vectors and their weights
 
--- the weights of the zero vectors
+-- the sum of the weights of zero vectors
 unfoldable pub still_weight : List Weighted → ℕ
 still_weight [] = 0
 still_weight (w ∷ ws) = (if same w.vector still then w.weight else 0) + still_weight ws
 
--- the nonzero ones
+-- the nonzero vectors
 unfoldable pub moving : List Weighted → List Weighted
 moving [] = []
 moving (w ∷ ws) = if same w.vector still then moving ws else w ∷ moving ws
 
--- neighbours in a row with one vector are one entry, with their weights' sum
+-- consecutive equal vectors become one entry, and their weights are added
 unfoldable pub onto : Weighted → List Weighted → List Weighted
 onto w [] = w ∷ []
 onto w (e ∷ es) = if same w.vector e.vector then record { vector = w.vector; weight = w.weight + e.weight } ∷ es else w
     ∷ (e ∷ es)
 
+-- the entries of a list of vectors
 unfoldable pub runs : List Weighted → List Weighted
 runs [] = []
 runs (w ∷ ws) = onto w (runs ws)
 
+-- an entry of the zero vector with weight 0
 abbrev pub nobody : Weighted
 nobody = record { vector = still; weight = 0 }
 
+-- entry k; past the end the zero vector with weight 0
 abbrev pub weighted_at : List Weighted → ℕ → Weighted
 weighted_at es k = slice_index_or es k nobody
 
--- the first entry, which grows by 1 where three entries stand and the third equals it
+-- the first entry; its weight grows by 1 if there are three entries and the third equals it
 unfoldable pub first_candidate : List Weighted → Weighted
 first_candidate es =
     if nat_lt 2 (length es) && same (weighted_at es 2).vector (weighted_at es 0).vector
     then record { vector = (weighted_at es 0).vector; weight = (weighted_at es 0).weight + 1 }
     else weighted_at es 0
 
--- whether a neighbour's vectors are split
+-- whether a neighbour has split vectors
 unfoldable pub splits : MacroblockMotion → Bool
 splits e = if is_intra e.reference then false else is_split e.mode
 
+-- the weights of the neighbours with split vectors: 2 above, 2 to the left, 1 above left
 unfoldable pub split_count : Grid MacroblockMotion → Place → ℕ
 split_count g p = 2 * from_bool (splits (look intra g (above p))) + 2 * from_bool (splits (look intra g (left p)))
     + from_bool (splits (look intra g (corner p)))
@@ -107,18 +112,18 @@ split_count g p = 2 * from_bool (splits (look intra g (above p))) + 2 * from_boo
 abbrev pub clamped : ℤ → ℤ → ℤ → ℤ
 clamped low high z = if int_lt z low then low else if int_lt high z then high else z
 
--- clamped so that the macroblock at a place is moved past the frame's edges by its own size at most, in quarter pixels
+-- a vector, in quarter pixels, clamped so that the block at p lies at most one macroblock outside the frame
 unfoldable pub clamped_vector : Grid MacroblockMotion → Place → Vector → Vector
 clamped_vector g p v = record {
   row = clamped (neg_ℤ (pos (64 * (p.row + 1)))) (pos (64 * (g.rows - p.row))) v.row;
   column = clamped (neg_ℤ (pos (64 * (p.column + 1)))) (pos (64 * (g.columns - p.column))) v.column;
 }
 
--- what was found, each vector clamped
+-- the candidates with each vector clamped
 abbrev pub clamped_by : (Vector → Vector) → Nearby → Candidates
 clamped_by clamp n = record { counts = n.counts; best = clamp n.best; nearest = clamp n.nearest; near = clamp n.near }
 
--- the candidates, where nearest and near are already the heavier and the lighter of the first two entries
+-- the candidates, given the heavier and the lighter of the first two entries
 abbrev pub from_two : (Vector → Vector) → ℕ → ℕ → Weighted → Weighted → Candidates
 from_two clamp zeros splits nearest near = record {
   counts = zeros ∷ nearest.weight ∷ near.weight ∷ splits ∷ [];
@@ -127,26 +132,29 @@ from_two clamp zeros splits nearest near = record {
   near = clamp near.vector;
 }
 
+-- the candidates, from the zero weight, the split weight and the entries
 unfoldable pub from_entries : (Vector → Vector) → ℕ → ℕ → List Weighted → Candidates
 from_entries clamp zeros splits es =
     if nat_lt (first_candidate es).weight (weighted_at es 1).weight
     then from_two clamp zeros splits (weighted_at es 1) (first_candidate es)
     else from_two clamp zeros splits (first_candidate es) (weighted_at es 1)
 
+-- the candidates of the macroblock at p with reference frame r
 unfoldable pub candidates : Grid MacroblockMotion → Place → Reference → SignBiases → Candidates
 candidates g p r b =
     let ws = neighbours g p r b in
     from_entries (clamped_vector g p) (still_weight ws) (split_count g p) (runs (moving ws))
 
--- ---- A worked example: the middle of three rows of three
+-- ---- A worked example: the centre of 3x3 macroblocks
 
 abbrev pub example_vector : Vector
 example_vector = record { row = pos 4; column = pos 0 }
 
+-- the motion of a macroblock that uses the last frame and one new vector
 abbrev pub inter : Vector → MacroblockMotion
 inter v = record { reference = reference_is.Last; mode = vector_is.New; vectors = replicate 16 v }
 
--- above and to the left (4, 0), above-left zero
+-- (4, 0) above and to the left, zero above left
 unfoldable pub example_grid : Grid MacroblockMotion
 example_grid = record {
   columns = 3;
@@ -155,25 +163,26 @@ example_grid = record {
       ∷ inter example_vector ∷ intra ∷ intra ∷ intra ∷ intra ∷ intra ∷ [];
 }
 
--- ---- What the code keeps of the neighbours
+-- ---- The tally that the code keeps of the neighbours
 
--- w after the entries es: it joins the last one where equal to it
+-- the entries es with w added: if it equals the last one, their weights are added
 unfoldable pub joined : List Weighted → Weighted → List Weighted
 joined [] w = w ∷ []
 joined (e ∷ []) w = if same e.vector w.vector then record { vector = e.vector; weight = e.weight + w.weight }
     ∷ [] else e ∷ (w ∷ [])
 joined (e ∷ (f ∷ es)) w = e ∷ joined (f ∷ es) w
 
+-- the sum of the weights
 abbrev pub total : List Weighted → ℕ
 total [] = 0
 total (w ∷ ws) = w.weight + total ws
 
--- each weighs something
+-- each weight is at least 1
 abbrev pub AreHeavy : List Weighted → Type 0
 AreHeavy [] = Unit {0}
 AreHeavy (w ∷ ws) = (0 < w.weight) × AreHeavy ws
 
--- the weights and the entries that were found among the neighbours ws
+-- the zero weight and the entries of the neighbours ws
 pub record IsTally (ws : List Weighted) (zeros : ℕ) (es : List Weighted) : Type 0 where
   pub still_ones : zeros ≡ still_weight ws
   pub entries : es ≡ runs (moving ws)

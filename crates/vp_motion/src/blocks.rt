@@ -1,3 +1,5 @@
+//! The motion vectors of neighbouring blocks.
+
 ghost use Rattle.std.specs.Prelude.{◌≡◌, ◌<◌};
 ghost use Rattle.vp_base.specs.Grid.{Has};
 ghost use Rattle.vp_base.specs.Near.{IsBefore, value};
@@ -8,7 +10,7 @@ use crate::map::VectorMap;
 use crate::vector::{MacroblockMotion, STILL, Vector};
 use vp_base::{Near, Place};
 
-/// The vector of a macroblock's block b.
+/// The vector of block `b` of a macroblock; zero if it is intra.
 #[tactic(auto, unfolding(crate::specs::Map::block_vector))]
 fn vector_in(entry: &MacroblockMotion, b: usize) -> Vector
     requires { b < 16 }
@@ -21,7 +23,7 @@ fn vector_in(entry: &MacroblockMotion, b: usize) -> Vector
     }
 }
 
-/// The vector of a block near the macroblock at a place, whose own are in found as far as they are read.
+/// The vector of a block near the macroblock at `place`. `found` contains the vectors of that macroblock read so far.
 fn vector_near(map: &VectorMap, place: Place, found: &[Vector; 16], near: Near) -> Vector
     requires place { Has map.now place }
     requires before { IsBefore place near }
@@ -34,7 +36,7 @@ fn vector_near(map: &VectorMap, place: Place, found: &[Vector; 16], near: Near) 
     }
 }
 
-/// The vector above block b of the macroblock at a place, whose blocks before b are in found.
+/// The vector above block `b` of the macroblock at `place`. `found` contains the vectors of its blocks before `b`.
 #[tactic(auto, unfolding(crate::specs::Map::above_block))]
 pub(crate) fn vector_above(map: &VectorMap, place: Place, found: &[Vector; 16], b: usize) -> Vector
     requires place { Has map.now place }
@@ -44,7 +46,8 @@ pub(crate) fn vector_above(map: &VectorMap, place: Place, found: &[Vector; 16], 
     vector_near(map, place, found, place.above_block(b))
 }
 
-/// The vector to the left of block b of the macroblock at a place, whose blocks before b are in found.
+/// The vector to the left of block `b` of the macroblock at `place`. `found` contains the vectors of its blocks before
+/// `b`.
 #[tactic(auto, unfolding(crate::specs::Map::left_block))]
 pub(crate) fn vector_left(map: &VectorMap, place: Place, found: &[Vector; 16], b: usize) -> Vector
     requires place { Has map.now place }

@@ -1,3 +1,5 @@
+//! The candidate vectors of a macroblock (RFC 6386, chapter 16.3).
+
 ghost use Rattle.std.specs.Prelude.{◌≡◌, ℕ, ◌+◌, ◌-◌, ◌*◌, ◌<◌, ◌≤◌, List, ◌++◌, length, slice_index, IfSome, pos};
 ghost use Rattle.std.specs.Prelude.{neg_ℤ, ◌≤ℤ◌};
 ghost use Rattle.std.specs.Int.{from_bool};
@@ -15,7 +17,7 @@ use vp_base::Place;
 use vp_head::{Reference, SignBiases};
 use vp_tables::VectorMode;
 
-/// The entry at a place, where there is one.
+/// The entry at an optional place, or `outside`.
 fn look<'a>(
     map: &'a VectorMap,
     outside: &'a MacroblockMotion,
@@ -31,7 +33,8 @@ fn look<'a>(
     }
 }
 
-/// How far a vector may lead to the left of, or above, a macroblock with so many up to it.
+/// The lower bound of a clamped component, in quarter pixels. `macroblocks` counts those from the frame's left or top
+/// edge up to this one, inclusive.
 fn before(macroblocks: usize) -> i32
     requires { macroblocks ≤ 1024 }
     ensures { result ≡ neg_ℤ (pos (64 * macroblocks)) }
@@ -39,7 +42,8 @@ fn before(macroblocks: usize) -> i32
     -((64 * macroblocks) as i32)
 }
 
-/// How far it may lead to the other side, with so many from it on.
+/// The upper bound of a clamped component, in quarter pixels. `macroblocks` counts those from this one, inclusive, to
+/// the frame's right or bottom edge.
 fn behind(macroblocks: usize) -> i32
     requires { macroblocks ≤ 1024 }
     ensures { result ≡ pos (64 * macroblocks) }
@@ -62,7 +66,7 @@ fn clamp(low: i32, high: i32, z: i32) -> i32
     }
 }
 
-/// The vector, or the nearest that moves the macroblock past the frame's edges by its own size at most.
+/// Clamps a vector so that the block lies at most one macroblock outside the frame.
 #[tactic(auto, unfolding(crate::specs::Near::clamped_vector))]
 pub(crate) fn clamp_vector(map: &VectorMap, place: Place, vector: Vector) -> Vector
     requires place { Has map.now place }
@@ -87,6 +91,7 @@ pub(crate) fn is_same(u: Vector, v: Vector) -> bool
     u.row == v.row && u.column == v.column
 }
 
+/// The sign bias of a reference frame; false for the last frame.
 fn bias(reference: Reference, biases: SignBiases) -> bool
     ensures { result ≡ bias_of reference biases }
 {
@@ -98,6 +103,7 @@ fn bias(reference: Reference, biases: SignBiases) -> bool
     }
 }
 
+/// Whether a neighbour has split vectors.
 #[tactic(auto, unfolding(crate::specs::Near::splits))]
 fn has_split(neighbour: &MacroblockMotion) -> bool
     ensures { result ≡ splits neighbour.now }
@@ -109,7 +115,7 @@ fn has_split(neighbour: &MacroblockMotion) -> bool
     }
 }
 
-/// A neighbour's own vector, turned round where the biases differ.
+/// A neighbour's vector, negated if the sign biases of the two reference frames differ.
 #[tactic(auto, unfolding(crate::specs::Near::bias_corrected, crate::specs::Map::own))]
 fn seen_vector(reference: Reference, biases: SignBiases, neighbour: &MacroblockMotion) -> Vector
     ensures { result ≡ bias_corrected reference biases neighbour.now }
@@ -128,6 +134,7 @@ fn seen_vector(reference: Reference, biases: SignBiases, neighbour: &MacroblockM
     }
 }
 
+/// Appends an entry, or adds its weight to the last one if their vectors are equal.
 fn put(entries: &mut ArrayVec<Weighted, 3>, weighted: Weighted)
     requires room { length entries.old.items < 3 }
     requires light { total entries.old.items + weighted.weight ≤ 255 }
@@ -150,7 +157,7 @@ fn put(entries: &mut ArrayVec<Weighted, 3>, weighted: Weighted)
     }
 }
 
-/// Adds a vector: it joins the last one where equal to it.
+/// Adds a vector. If it equals the last one, their weights are added.
 fn join(entries: &mut ArrayVec<Weighted, 3>, weighted: Weighted)
     requires room { length entries.old.items < 3 }
     requires light { total entries.old.items + weighted.weight ≤ 255 }
@@ -163,7 +170,7 @@ fn join(entries: &mut ArrayVec<Weighted, 3>, weighted: Weighted)
     put(entries, weighted);
 }
 
-/// What was found among the neighbours so far.
+/// The motion found among the neighbours so far.
 #[derive(Drop)]
 struct NearbyMotion {
     zeros: u8,
@@ -204,6 +211,7 @@ const NOBODY: Weighted = Weighted {
     weight: 0,
 };
 
+/// Entry `k`, or the zero vector with weight 0.
 fn entry_at(entries: &ArrayVec<Weighted, 3>, k: usize) -> Weighted
     ensures value { result ≡ weighted_at entries.now.items k }
     ensures light { result.weight ≤ total entries.now.items }
@@ -215,7 +223,7 @@ fn entry_at(entries: &ArrayVec<Weighted, 3>, k: usize) -> Weighted
     }
 }
 
-/// The first entry, which the third may add to.
+/// The first entry. Its weight grows by 1 if there are three entries and the third equals it.
 #[tactic(auto, unfolding(crate::specs::Near::first_candidate))]
 fn first_entry(entries: &ArrayVec<Weighted, 3>) -> Weighted
     requires light { total entries.now.items ≤ 5 }
@@ -234,7 +242,7 @@ fn first_entry(entries: &ArrayVec<Weighted, 3>) -> Weighted
     }
 }
 
-/// What `near` finds before it is clamped to the frame, by the heavier and the lighter of the first two entries.
+/// The candidates before clamping, from the heavier and the lighter of the first two entries.
 fn nearby_of(zeros: u8, splits: u8, nearest: Weighted, near: Weighted) -> Nearby
     requires zeros { zeros ≤ 5 }
     requires splits { splits ≤ 5 }
@@ -256,7 +264,7 @@ fn nearby_of(zeros: u8, splits: u8, nearest: Weighted, near: Weighted) -> Nearby
     }
 }
 
-/// The same of the entries found.
+/// The candidates before clamping, from the entries found.
 #[tactic(auto, unfolding(crate::specs::Near::from_entries))]
 fn choose(zeros: u8, splits: u8, entries: &ArrayVec<Weighted, 3>) -> Nearby
     requires zeros { zeros ≤ 5 }
@@ -276,6 +284,7 @@ fn choose(zeros: u8, splits: u8, entries: &ArrayVec<Weighted, 3>) -> Nearby
     }
 }
 
+/// The weight of the neighbours with split vectors: 2 above, 2 to the left, 1 above left.
 fn splits_of(above: bool, left: bool, corner: bool) -> u8
     ensures value { result ≡ 2 * from_bool above + 2 * from_bool left + from_bool corner }
     ensures light { result ≤ 5 }
@@ -283,7 +292,7 @@ fn splits_of(above: bool, left: bool, corner: bool) -> u8
     2 * above as u8 + 2 * left as u8 + corner as u8
 }
 
-/// What `near` finds before it is clamped to the frame.
+/// The candidates of the macroblock at `place`, before clamping.
 pub(crate) fn nearby(
     map: &VectorMap,
     place: Place,
@@ -309,10 +318,11 @@ pub(crate) fn nearby(
     choose(found.zeros, splits, &found.entries)
 }
 
-/// The vectors near the macroblock at a place, by those of the macroblocks above, to the left and above-left of it
-/// (RFC 6386, chapter 16.3).
+/// The candidate vectors of the macroblock at `place`, from the macroblocks above, to the left, and above left (RFC
+/// 6386, chapter 16.3).
 ///
-/// `reference` is the macroblock's own: a neighbour's vector is turned round where its reference has another bias.
+/// `reference` is the reference frame of the macroblock. A neighbour's vector is negated if its reference frame has
+/// the other sign bias.
 pub fn near(map: &VectorMap, place: Place, reference: Reference, biases: SignBiases) -> Candidates
     requires place { Has map.now place }
     ensures { result ≡ candidates map.now place reference biases }

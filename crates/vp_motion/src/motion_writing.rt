@@ -1,4 +1,4 @@
-//! How a macroblock moves, written.
+//! Writing the motion of a macroblock.
 
 ghost use Rattle.std.specs.Prelude.{◌≡◌, ◌<◌, ◌≤◌, ◌↔◌, ℕ, IsTrue, OnOk, replicate, slice_index};
 ghost use Rattle.vp_base.specs.declared.place.Place.{Place};
@@ -22,9 +22,9 @@ use vp_tables::{VECTOR_MODE_TREE, VectorMode};
 use vp_tree::write_tree;
 
 impl Candidates {
-    /// Whether a mode can give the whole macroblock this vector, so that `write_motion` can write both.
+    /// Whether a vector mode can code this vector for the whole macroblock, so that `write_motion` accepts both.
     ///
-    /// A new vector can be 1,023 quarter pixels from the best one in each part. Split gives no one vector, and is never
+    /// `New` codes vectors whose components differ from `best` by at most 1,023 quarter pixels. `Split` is never
     /// written.
     pub fn can_give(&self, mode: VectorMode, vector: Vector) -> bool
         ensures { IsTrue result ↔ GivesVector self.now mode vector }
@@ -39,7 +39,7 @@ impl Candidates {
     }
 }
 
-/// Whether a new vector can say this one.
+/// Whether `New` can code this vector.
 fn is_spelled(vector: Vector, best: Vector) -> bool
     requires { IsWithin 65536 best }
     ensures { IsTrue result ↔ IsWithin 1023 (difference_of vector best) }
@@ -55,7 +55,7 @@ fn write_mode(counts: &[u8; 4], mode: VectorMode, e: &mut BoolEncoder) -> Result
     Ok(())
 }
 
-/// Writes a new vector: what it adds to the best one.
+/// Writes the difference between a new vector and `best`.
 fn write_new(
     probabilities: &[[u8; 19]; 2],
     best: Vector,
@@ -74,7 +74,7 @@ fn write_new(
     Ok(())
 }
 
-/// Writes what stands behind the mode.
+/// Writes the vector after the vector mode, if the mode needs it.
 fn write_given(
     probabilities: &[[u8; 19]; 2],
     candidates: &Candidates,
@@ -92,7 +92,7 @@ fn write_given(
     Ok(())
 }
 
-/// Writes the mode and the vector, where the candidates are known.
+/// Writes the vector mode and the vector, with these candidates.
 fn write_by(
     probabilities: &[[u8; 19]; 2],
     candidates: &Candidates,
@@ -114,12 +114,11 @@ fn write_by(
     Ok(())
 }
 
-/// Writes how an inter macroblock moves (RFC 6386, chapter 16.3).
+/// Writes the motion of an inter macroblock (RFC 6386, chapter 16.3).
 ///
-/// The map has the motion of this frame's macroblocks before the place; `reference` is the macroblock's own. Whether a
-/// mode can be written there with a vector is told by `Candidates::can_give` of what `near` finds there. Where
-/// memory is
-/// refused, a part of the motion may have been written: the encoder isn't to be used again.
+/// The map contains the motion of this frame's earlier macroblocks. `reference` is the reference frame of the
+/// macroblock. `Candidates::can_give`, on the result of `near`, decides whether a mode and a vector can be written. If
+/// out of memory, a part may have been written, and the encoder must not be used again.
 pub fn write_motion(
     header: &Header,
     map: &VectorMap,

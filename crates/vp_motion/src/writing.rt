@@ -1,4 +1,4 @@
-//! A vector, written.
+//! Writing a motion vector.
 
 ghost use Rattle.std.specs.Prelude.{◌≡◌, ◌<◌, ◌≤◌, nat_lt, pos, neg_ℤ, ◌≤ℤ◌, OnOk};
 ghost use Rattle.vp_bool.specs.Reader.{when};
@@ -13,7 +13,7 @@ use vp_bool::BoolEncoder;
 use vp_tables::SHORT_VECTOR_TREE;
 use vp_tree::write_tree;
 
-/// Writes bit i of the size of a long part.
+/// Writes bit `i` of a long magnitude.
 fn write_bit(
     probabilities: &[u8; 19],
     magnitude: u32,
@@ -27,7 +27,7 @@ fn write_bit(
     Ok(())
 }
 
-/// Writes bit 3, where a bit above it is set: else it must be set itself.
+/// Writes bit 3 if a higher bit is set. Otherwise it is 1, and not coded.
 fn write_bit_3(
     probabilities: &[u8; 19],
     magnitude: u32,
@@ -44,7 +44,7 @@ fn write_bit_3(
     Ok(())
 }
 
-/// Writes the size of a long part, 8 to 1,023.
+/// Writes a long magnitude, 8 to 1,023.
 fn write_long(
     probabilities: &[u8; 19],
     magnitude: u32,
@@ -67,7 +67,7 @@ fn write_long(
     Ok(())
 }
 
-/// Writes the size of a short part, 0 to 7.
+/// Writes a short magnitude, 0 to 7.
 fn write_short(
     probabilities: &[u8; 19],
     magnitude: u8,
@@ -80,6 +80,7 @@ fn write_short(
     Ok(())
 }
 
+/// Writes the magnitude of a component, 0 to 1,023.
 fn write_size(
     probabilities: &[u8; 19],
     magnitude: u32,
@@ -98,7 +99,7 @@ fn write_size(
     Ok(())
 }
 
-/// Writes a part of a vector.
+/// Writes a component of a vector, -1,023 to 1,023.
 fn write_component(
     probabilities: &[u8; 19],
     value: i32,
@@ -117,10 +118,10 @@ fn write_component(
     Ok(())
 }
 
-/// Writes a vector, the row and then the column (RFC 6386, chapter 17.1).
+/// Writes a motion vector: the row, then the column (RFC 6386, chapter 17.1).
 ///
-/// It is what a new vector adds to the best one, in quarter luma pixels; the probabilities are those of `read_vector`.
-/// Where memory is refused, a part of it may have been written: the encoder isn't to be used again.
+/// `difference` is the new vector minus `best`, in quarter luma pixels. The probabilities are those of `read_vector`.
+/// If out of memory, a part may have been written, and the encoder must not be used again.
 pub fn write_vector(
     probabilities: &[[u8; 19]; 2],
     difference: Vector,

@@ -9,12 +9,12 @@ use Rattle.vp_quant.specs.declared.factors.Factors.{Factors}
 use Rattle.vp_tables.specs.Tables.{ac_factor, dc_factor}
 use Rattle.vp_tables.specs.declared.tokens.TheConstants.{ZIGZAG}
 
--- the nearest number from 0 to 127
+-- z clamped to 0 to 127
 abbrev pub clamped_index : ℤ → ℕ
 clamped_index (pos n) = min n 127
 clamped_index (negsuc n) = 0
 
--- the quantiser index of a segment's macroblocks (chapters 9.3, 9.6)
+-- the quantiser index of the macroblocks of a segment (chapters 9.3, 9.6)
 abbrev pub index_of : Header → ℕ → ℕ
 index_of header segment =
     let frame : ℤ = pos header.quantiser.y_ac in
@@ -22,7 +22,7 @@ index_of header segment =
     clamped_index (if header.segmentation.enabled then (if header.segmentation.values.absolute then own else
     (frame +ℤ own)) else frame)
 
--- the six factors (chapters 9.6, 14.1)
+-- the six factors of a quantiser index with the frame's deltas (chapters 9.6, 14.1)
 abbrev pub factors : ℕ → QuantiserIndices → Factors
 factors index deltas = record {
   y_dc = dc_factor (clamped_index (pos index +ℤ deltas.y_dc));
@@ -33,22 +33,22 @@ factors index deltas = record {
   uv_ac = ac_factor (clamped_index (pos index +ℤ deltas.uv_ac));
 }
 
--- ---- a block of levels (chapters 13, 14.1)
+-- ---- Dequantisation of a block (chapters 13, 14.1)
 
--- the position whose level stands at a place of the block, row after row
+-- the zigzag position of the level at a place in raster order
 abbrev pub position_at : ℕ → ℕ
 position_at place = position_or_len (λ z. z == place) ZIGZAG
 
--- the level of a position, times its factor
+-- the coefficient: the level at a position times its factor
 abbrev pub coefficient : List ℤ → ℕ → ℕ → ℕ → ℤ
 coefficient levels dc ac position = slice_index_or levels position (pos 0) *ℤ pos (if position == 0 then dc else ac)
 
--- the coefficients of the first positions, at their places; 0 elsewhere
+-- the coefficients of the first count positions, in raster order; 0 elsewhere
 unfoldable pub dequantised_prefix : List ℤ → ℕ → ℕ → ℕ → List ℤ
 dequantised_prefix levels dc ac count =
     map (λ place. if nat_lt (position_at place) count then coefficient levels dc ac (position_at place) else pos 0)
     (range_with_len 0 16)
 
--- all sixteen
+-- all sixteen coefficients, in raster order
 unfoldable pub dequantised : List ℤ → ℕ → ℕ → List ℤ
 dequantised levels dc ac = map (λ place. coefficient levels dc ac (position_at place)) (range_with_len 0 16)

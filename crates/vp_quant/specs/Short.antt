@@ -1,15 +1,15 @@
--- When the coefficients of a block fit into 16 bits, so that narrow lanes compute the transforms exactly. Pinned by the
+-- When the coefficients of a block fit in 16 bits, so that narrow lanes compute the transforms exactly. Pinned by the
 -- test `short_coefficients`.
 use Rattle.std.specs.Prelude.{ℕ, ◌*◌, ◌<◌, ◌≤◌, max, ℤ, pos, List, slice_index_or, unsigned_abs}
 
--- the larger factor, or 1
+-- the larger factor, at least 1
 abbrev pub largest : ℕ → ℕ → ℕ
 largest dc ac = max (max dc ac) 1
 
--- the level's product with either factor is from -2200 to 2200, and so is the level
+-- the level, and its product with either factor, is from -2200 to 2200
 abbrev pub HasSmallProduct : ℤ → ℕ → ℕ → Type 0
 HasSmallProduct level dc ac = unsigned_abs level * largest dc ac ≤ 2200
 
--- each of a block's levels is so near to 0
+-- each level of a block has small products
 abbrev pub AreShort : List ℤ → ℕ → ℕ → Type 0
 AreShort levels dc ac = (i : ℕ) → i < 16 → HasSmallProduct (slice_index_or levels i (pos 0)) dc ac

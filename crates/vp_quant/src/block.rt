@@ -1,11 +1,13 @@
+//! Dequantisation of a block.
+
 ghost use Rattle.std.specs.Prelude.{◌≡◌, ℕ, ◌+◌, ◌*◌, ◌^◌, ◌<◌, ◌≤◌, max, pos, unsigned_abs, slice_index_or};
 ghost use Rattle.vp_tables.specs.Tables.{zigzag};
 ghost use Rattle.vp_quant.specs.Quant.{coefficient, dequantised};
 
 use vp_tables::zigzag;
 
-/// A block's coefficients, row after row, from its sixteen levels by position: the level at position i stands at
-/// the i-th place of the zigzag, the first times `dc`, the others times `ac` (RFC 6386, chapters 13, 14.1).
+/// Dequantises a block: sixteen levels in zigzag order give coefficients in raster order. The first level is
+/// multiplied by `dc`, the others by `ac` (RFC 6386, chapters 13 and 14.1).
 pub fn dequant(levels: &[i16; 16], dc: u16, ac: u16) -> [i64; 16]
     ensures value { result ≡ dequantised levels.now dc ac }
     ensures within { (i : ℕ) → unsigned_abs (slice_index_or result i (pos 0)) ≤ 2 ^ 31 }
@@ -20,7 +22,7 @@ pub fn dequant(levels: &[i16; 16], dc: u16, ac: u16) -> [i64; 16]
     block
 }
 
-/// The level at the position times its factor.
+/// The level at a position times its factor.
 fn coefficient(levels: &[i16; 16], position: usize, dc: u16, ac: u16) -> i64
     requires { position < 16 }
     ensures value { result ≡ coefficient levels.now dc ac position }

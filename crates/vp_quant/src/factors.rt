@@ -1,28 +1,30 @@
+//! The dequantisation factors of a macroblock.
+
 ghost use Rattle.std.specs.Prelude.{◌≡◌, ◌+◌, ◌<◌, ◌≤◌, pos, ◌+ℤ◌};
 ghost use Rattle.vp_quant.specs.Quant.{clamped_index, index_of, factors};
 
 use vp_head::{Header, QuantiserIndices};
 use vp_tables::{ac_factor, dc_factor};
 
-/// What the levels of a macroblock's blocks are multiplied by (RFC 6386, chapter 14.1).
+/// The dequantisation factors of a macroblock's blocks (RFC 6386, chapter 14.1).
 #[derive(Clone, Copy, Debug, PartialEq, Eq)]
 pub struct Factors {
-    /// Of a luma block's first level.
+    /// DC of a luma block.
     pub y_dc: u16,
-    /// Of its other levels.
+    /// AC of a luma block.
     pub y_ac: u16,
-    /// Of the first level of the block of luma DCs.
+    /// DC of the Y2 block, which contains the luma DCs.
     pub y2_dc: u16,
-    /// Of its other levels.
+    /// AC of the Y2 block.
     pub y2_ac: u16,
-    /// Of a chroma block's first level.
+    /// DC of a chroma block.
     pub uv_dc: u16,
-    /// Of its other levels.
+    /// AC of a chroma block.
     pub uv_ac: u16,
 }
 
 impl Factors {
-    /// The factors for a quantiser index and the frame's differences from it, `y_ac` apart (chapter 9.6).
+    /// The factors of a quantiser index with the frame's deltas; `y_ac` of the deltas is not used (chapter 9.6).
     pub fn of(index: u8, deltas: &QuantiserIndices) -> Self
         ensures value { result ≡ factors index deltas.now }
         ensures least { (1 ≤ result.y_dc) × (1 ≤ result.y_ac) × (1 ≤ result.y2_dc) × (1 ≤ result.y2_ac)
@@ -41,8 +43,8 @@ impl Factors {
     }
 }
 
-/// The quantiser index of a macroblock of the segment: the frame's, or, with segmentation, the segment's own or
-/// the frame's with the segment's added (chapters 9.3, 9.6).
+/// The quantiser index of a segment, 0 to 127. Without segmentation it is the frame's; else the segment's value, or
+/// the sum of both (chapters 9.3 and 9.6).
 pub fn segment_index(header: &Header, segment: u8) -> u8
     requires { segment < 4 }
     ensures value { result ≡ index_of header.now segment }
@@ -61,7 +63,7 @@ pub fn segment_index(header: &Header, segment: u8) -> u8
     moved(frame, value)
 }
 
-/// The index with the difference added, brought into 0 to 127.
+/// `index + difference`, clamped to 0 to 127.
 fn moved(index: u8, difference: i8) -> u8
     ensures value { result ≡ clamped_index (pos index +ℤ difference) }
     ensures bound { result ≤ 127 }

@@ -1,5 +1,5 @@
-//! Quantiser indices and factors, blocks of levels times factors (RFC 6386, chapters 9.3, 9.6 and 14.1), and the
-//! levels of coefficients.
+//! Quantiser indices and factors, dequantisation of blocks (RFC 6386, chapters 9.3, 9.6 and 14.1), and quantisation of
+//! coefficients.
 #![tactic(auto)]
 
 mod block;

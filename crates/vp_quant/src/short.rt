@@ -1,4 +1,4 @@
-//! Blocks of levels times factors in lanes of i16, for products from -2200 to 2200.
+//! Dequantisation in i16 lanes, for coefficients from -2,200 to 2,200.
 
 ghost use Rattle.std.specs.Prelude.{◌≡◌, ◌≢◌, ℕ, ◌*◌, ◌/◌, ◌<◌, ◌≤◌, pos, ◌*ℤ◌, ℤ, List, Some, None, true, false, max};
 ghost use Rattle.std.specs.Prelude.{min, unsigned_abs, slice_index_or, ◌==◌, if◌then◌else◌};
@@ -9,11 +9,11 @@ ghost use Rattle.vp_quant.specs.Short.{largest, AreShort, HasSmallProduct};
 use std::simd::prelude::*;
 use vp_lanes::clamp_i16;
 
-/// How far from 0 a coefficient may be.
+/// The greatest magnitude of a coefficient.
 const MOST: u16 = 2200;
 
-/// What `dequant` gives, in 16 bits, where each product of a level and the larger factor is from -2200 to 2200, and so
-/// is each level; else nothing.
+/// Dequantises in 16 bits: the result of `dequant` if each level, and its product with the larger factor, is from
+/// -2,200 to 2,200. Else None.
 pub fn dequant_short(levels: [i16; 16], dc: u16, ac: u16) -> Option<[i16; 16]>
     ensures value { (block : List ℤ) → result ≡ Some block → block ≡ dequantised levels dc ac }
     ensures small { (block : List ℤ) → result ≡ Some block → (i : ℕ)
@@ -30,14 +30,14 @@ pub fn dequant_short(levels: [i16; 16], dc: u16, ac: u16) -> Option<[i16; 16]>
     }
 }
 
-/// How far from 0 a level may be for that.
+/// The greatest magnitude of a level for these factors.
 fn most_of(dc: u16, ac: u16) -> i16
     ensures { result ≡ pos (2200 / largest dc ac) }
 {
     (MOST / dc.max(ac).max(1)) as i16
 }
 
-/// Whether all lanes are the same.
+/// Whether all lanes are equal.
 fn are_same(a: i16x16, b: i16x16) -> bool
     ensures same { result ≡ true → (j : ℕ) → j < 16 → lane a j ≡ lane b j }
     ensures other { ((j : ℕ) → j < 16 → lane a j ≡ lane b j) → result ≡ true }
@@ -45,7 +45,7 @@ fn are_same(a: i16x16, b: i16x16) -> bool
     a.simd_eq(b).all()
 }
 
-/// The levels, of which none is further from 0 than the factors let it be, times their factors.
+/// The levels times their factors. Each product must be small.
 fn products(levels: i16x16, dc: u16, ac: u16) -> i16x16
     requires { (j : ℕ) → j < 16 → HasSmallProduct (lane levels j) dc ac }
     ensures { (j : ℕ) → j < 16 → lane result j ≡ lane levels j *ℤ pos (if j == 0 then dc else ac) }
@@ -59,7 +59,7 @@ fn products(levels: i16x16, dc: u16, ac: u16) -> i16x16
         )
 }
 
-/// The lanes by position, each at its place.
+/// Moves each lane from its zigzag position to its raster index.
 fn placed(v: i16x16) -> i16x16
     ensures { (place : ℕ) → place < 16 → lane result place ≡ lane v (position_at place) }
 {

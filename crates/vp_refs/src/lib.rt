@@ -1,4 +1,4 @@
-//! The three pictures that inter frames are predicted from.
+//! The reference frames: last, golden and altref.
 #![tactic(auto)]
 
 mod refs;

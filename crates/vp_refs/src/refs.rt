@@ -1,4 +1,4 @@
-//! The three pictures that inter frames are predicted from.
+//! The reference frames: last, golden and altref.
 
 ghost use Rattle.std.specs.Prelude.{◌≡◌, IfOk, IfSome, OnOk, OnErr, if◌then◌else◌};
 ghost use Rattle.vp_refs.specs.References.{IsOneOf, all_of, copied_by, reference_picture, updated};
@@ -9,8 +9,8 @@ use std::rc::Rc;
 use vp_base::Picture;
 use vp_head::{Header, Reference, ReferenceCopy};
 
-/// The last, the golden and the altref picture (RFC 6386, chapters 5, 9.7 and 9.8), and the picture that was handed
-/// in last, which needn't be one of them. Pictures are shared and never copied.
+/// The last, golden and altref frame (RFC 6386, chapters 5, 9.7 and 9.8), and the newest picture, which need not be
+/// one of them. Pictures are shared, never copied.
 #[derive(Drop)]
 pub struct Refs {
     last: Rc<Picture>,
@@ -33,7 +33,7 @@ impl Model for Refs {
 }
 
 impl Refs {
-    /// What a key frame's picture leaves: it is all of them.
+    /// The reference frames after a key frame: its picture is all of them.
     pub fn of_key(picture: Rc<Picture>) -> Result<Refs, AllocError>
         ensures { IfOk result (λ r. r ≡ all_of picture.value) }
     {
@@ -45,8 +45,7 @@ impl Refs {
         })
     }
 
-    /// The picture that a macroblock of this reference is predicted from; an intra macroblock has none, and
-    /// gets the last.
+    /// The picture of a reference frame. For `Intra`, which has none, returns the last frame.
     pub fn get(&self, reference: Reference) -> &Picture
         ensures { result.now ≡ reference_picture self.now reference }
     {
@@ -57,14 +56,14 @@ impl Refs {
         }
     }
 
-    /// The picture that was handed in last, whether or not a reference took it.
+    /// The picture of the last `update`, even if no reference frame uses it.
     pub fn newest(&self) -> &Rc<Picture>
         ensures { result.now.value ≡ self.now.newest }
     {
         &self.newest
     }
 
-    /// The same pictures, shared.
+    /// Shares the same pictures.
     pub fn share(&self) -> Result<Refs, AllocError>
         ensures { IfOk result (λ r. r ≡ self.now) }
     {
@@ -76,7 +75,7 @@ impl Refs {
         })
     }
 
-    /// One of the pictures, where nothing else holds one; the others are let go.
+    /// One of the pictures that is not shared elsewhere; None if there is none. The others are dropped.
     pub fn into_unshared(self) -> Option<Picture>
         ensures { IfSome result (λ p. IsOneOf self p) }
     {
@@ -87,7 +86,8 @@ impl Refs {
         last.or(golden).or(alt).or(newest)
     }
 
-    /// Takes a frame's picture, after its loop filter, and changes the references as its header says.
+    /// Updates the reference frames with a frame's picture after its loop filter, as its header says. If out of
+    /// memory, nothing changes.
     pub fn update(&mut self, header: &Header, newest: Rc<Picture>) -> Result<(), AllocError>
         ensures ok { OnOk result (self.new ≡ updated header.now newest.value self.old) }
         ensures memory { OnErr result (self.new ≡ self.old) }
@@ -106,7 +106,7 @@ impl Refs {
     }
 }
 
-// What a copy leaves in a reference, beside the last picture and the other one of golden and altref.
+// The new picture of golden or altref after a copy. `other` is altref or golden, `own` its picture before.
 fn copied(
     copy: ReferenceCopy,
     last: &Rc<Picture>,
@@ -122,6 +122,7 @@ fn copied(
     }
 }
 
+/// The new picture if the reference is refreshed, else its own.
 fn refreshed(
     refresh: bool,
     newest: &Rc<Picture>,

@@ -4,23 +4,23 @@ use Rattle.std.specs.Prelude.{ℕ, ◌+◌, ◌*◌, List, length, slice_index}
 use Rattle.std.specs.Int.{abs_diff}
 use Rattle.vp_search.specs.Sums.{sum_below}
 
--- the sum of absolute differences of two blocks, each given by its pixel at row r and column c
+-- the sum of absolute differences of two blocks; f r c is the pixel at row r and column c
 abbrev pub sum_of_differences : ℕ → ℕ → (ℕ → ℕ → ℕ) → (ℕ → ℕ → ℕ) → ℕ
 sum_of_differences rows columns f g = sum_below rows (λ r. sum_below columns (λ c. abs_diff (f r c) (g r c)))
 
--- a block whose rows stand in a list, the first from `at` on, each `stride` behind the one before
+-- a block in a list: its first row begins at index at, and each later row stride further
 abbrev pub strided_block : List ℕ → ℕ → ℕ → ℕ → ℕ → ℕ
 strided_block xs at stride r c = slice_index xs (at + r * stride + c)
 
--- a block of 16 columns, row after row
+-- a block of 16 columns, in raster order
 abbrev pub block16 : List ℕ → ℕ → ℕ → ℕ
 block16 xs r c = slice_index xs (r * 16 + c)
 
--- the squared difference of the numbers at a place of two lists
+-- the squared difference of the numbers at index i of two lists
 abbrev pub squared_difference : List ℕ → List ℕ → ℕ → ℕ
 squared_difference xs ys i = abs_diff (slice_index xs i) (slice_index ys i) * abs_diff (slice_index xs i)
     (slice_index ys i)
 
--- the sum of squared differences of two lists of one length
+-- the sum of squared differences of two lists of equal length
 abbrev pub sum_of_squares : List ℕ → List ℕ → ℕ
 sum_of_squares xs ys = sum_below (length xs) (squared_difference xs ys)

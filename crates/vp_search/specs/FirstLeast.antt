@@ -1,7 +1,7 @@
 -- The first index at which a function has its least value.
 use Rattle.std.specs.Prelude.{ℕ, ◌<◌, ◌≤◌}
 
--- of f 0 .. f (n - 1) none is less than the one at `best`, and those before it are larger
+-- best is the first index below n at which f is least
 pub record IsFirstLeast (n : ℕ) (f : ℕ → ℕ) (best : ℕ) : Type 0 where
   pub within : best < n
   pub least : (k : ℕ) → k < n → f best ≤ f k

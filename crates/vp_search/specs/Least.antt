@@ -1,22 +1,22 @@
--- The best vector of a search: the least cost, and ties by size, row and column. The encoder's own choice. Pinned by
--- tests on moved blocks and flat planes.
+-- The best vector of a search: the least cost; ties are broken by length, row and column. The encoder's own choice.
+-- Pinned by tests on moved blocks and flat planes.
 use Rattle.std.specs.Prelude.{◌≡◌, ℕ, ◌≤◌, ◌≤ℤ◌}
 use Rattle.vp_search.specs.declared.vector.WholeVector.{WholeVector}
 use Rattle.vp_search.specs.Vectors.{vector_length, IsNear}
 
--- a vector v of cost a is no larger than a vector w of cost b: by cost, then size, then row, then column
+-- a vector v of cost a precedes or equals a vector w of cost b: by cost, then length, then row, then column
 pub record NoLarger (a : ℕ) (v : WholeVector) (b : ℕ) (w : WholeVector) : Type 0 where
   pub by_cost : a ≤ b
   pub by_size : a ≡ b → vector_length v ≤ vector_length w
   pub by_row : a ≡ b → vector_length v ≡ vector_length w → v.row ≤ℤ w.row
   pub by_column : a ≡ b → vector_length v ≡ vector_length w → v.row ≡ w.row → v.column ≤ℤ w.column
 
--- a vector within range that is no larger than any other there
+-- best is within range, and precedes or equals every vector within range
 pub record IsLeast (range : ℕ) (cost : WholeVector → ℕ) (best : WholeVector) : Type 0 where
   pub near : IsNear range best
   pub least : (v : WholeVector) → IsNear range v → NoLarger (cost best) best (cost v) v
 
--- two least vectors are one
+-- A search has only one best vector.
 abbrev pub LeastIsOne : Type 0
 LeastIsOne = (range : ℕ) (cost : WholeVector → ℕ) (v w : WholeVector) → IsLeast range cost v → IsLeast range cost w
     → v ≡ w

@@ -1,4 +1,4 @@
--- The refinement of a vector by half pixels, and then by quarter pixels. The encoder's own choice. Pinned by tests on
+-- The refinement of a vector by half pixels, then by quarter pixels. The encoder's own choice. Pinned by tests on
 -- moved blocks.
 use Rattle.std.specs.Prelude.{◌≡◌, ℕ, ℤ, pos, ◌+ℤ◌, ◌-ℤ◌, List, [], ◌∷◌, slice_index_or}
 use Rattle.vp_search.specs.declared.vector.WholeVector.{WholeVector}
@@ -6,7 +6,7 @@ use Rattle.vp_search.specs.declared.vector.QuarterVector.{QuarterVector}
 use Rattle.vp_search.specs.Vectors.{quarters}
 use Rattle.vp_search.specs.FirstLeast.{IsFirstLeast}
 
--- a centre, and then its eight neighbours at a distance, row after row
+-- a centre, then its eight neighbours at distance d in raster order
 abbrev pub candidates_around : QuarterVector → ℤ → List QuarterVector
 candidates_around centre d =
     centre
@@ -20,23 +20,24 @@ candidates_around centre d =
     ∷ record { row = centre.row +ℤ d; column = centre.column +ℤ d }
     ∷ []
 
+-- candidate k around a centre
 abbrev pub neighbour : QuarterVector → ℤ → ℕ → QuarterVector
 neighbour centre d k = slice_index_or (candidates_around centre d) k centre
 
--- the first of them with the least cost
+-- best is the first of them with the least cost
 pub record IsBestOf (cost : QuarterVector → ℕ) (centre : QuarterVector) (d : ℤ) (best : QuarterVector) : Type 0 where
   pub number : ℕ
   pub first : IsFirstLeast 9 (λ k. cost (neighbour centre d k)) number
   pub is : best ≡ neighbour centre d number
 
--- the best of a vector in whole pixels and its neighbours half a pixel away, and then of that one and its neighbours a
--- quarter of a pixel away
+-- halfway is the best of the centre and its neighbours half a pixel away; best is that of halfway and its neighbours a
+-- quarter pixel away
 pub record IsRefined (cost : QuarterVector → ℕ) (centre : WholeVector) (best : QuarterVector) : Type 0 where
   pub halfway : QuarterVector
   pub first : IsBestOf cost (quarters centre) (pos 2) halfway
   pub second : IsBestOf cost halfway (pos 1) best
 
--- two refinements are one
+-- A refinement has only one best vector.
 abbrev pub RefinedIsOne : Type 0
 RefinedIsOne = (cost : QuarterVector → ℕ) (centre : WholeVector) (v w : QuarterVector) → IsRefined cost centre v
     → IsRefined cost centre w → v ≡ w

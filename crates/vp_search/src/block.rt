@@ -1,4 +1,4 @@
-//! Blocks cut from a plane.
+//! Copying blocks out of a plane.
 
 ghost use Rattle.std.specs.Prelude.{◌≡◌, ℕ, ◌+◌, ◌*◌, ◌<◌, ◌≤◌, slice_index, length};
 ghost use Rattle.vp_base.specs.Raster.{pixel};
@@ -6,7 +6,7 @@ ghost use Rattle.vp_search.specs.Blocks.{macroblock_pixels};
 
 use vp_base::{Place, Plane};
 
-/// The pixels of the block at `place` among all blocks of `SIDE` by `SIDE` pixels, row after row.
+/// Copies the block of `SIDE` by `SIDE` pixels at `place`, which is in units of such blocks, in raster order.
 pub fn cut_block<const SIDE: usize, const AREA: usize>(plane: &Plane, place: Place) -> [u8; AREA]
     requires side { SIDE ≤ 16 }
     requires area { AREA ≡ SIDE * SIDE }
@@ -24,7 +24,7 @@ pub fn cut_block<const SIDE: usize, const AREA: usize>(plane: &Plane, place: Pla
     pixels
 }
 
-/// The pixels of the macroblock of luma at `place`, row after row.
+/// Copies the luma macroblock at `place`, in raster order.
 pub fn macroblock(plane: &Plane, place: Place) -> [u8; 256]
     requires columns { 16 * place.column + 16 ≤ plane.now.width }
     requires rows { 16 * place.row + 16 ≤ plane.now.height }
@@ -33,7 +33,7 @@ pub fn macroblock(plane: &Plane, place: Place) -> [u8; 256]
     cut_block::<16, 256>(plane, place)
 }
 
-/// Writes row `r` of a block of `SIDE` columns, from the numbers of `line` from `start` on.
+/// Writes row `r` of a block of `SIDE` columns, from index `start` of `line` on.
 fn put_row<const SIDE: usize>(pixels: &mut [u8], r: usize, line: &[u8], start: usize)
     requires row { r * SIDE + SIDE ≤ length pixels.old }
     requires room { start + SIDE ≤ length line.now }

@@ -1,11 +1,11 @@
-//! Sums of absolute differences of blocks of 16 by 16 pixels.
+//! Sums of absolute differences of 16x16 blocks.
 
 ghost use Rattle.std.specs.Prelude.{◌≡◌, ◌+◌, ◌*◌, ◌<◌, ◌≤◌, length};
 ghost use Rattle.vp_search.specs.Differences.{sum_of_differences, strided_block, block16};
 
 use crate::kernel::four_rows;
 
-/// The sum of absolute differences of two blocks of 16 by 16 pixels, each row after row.
+/// The sum of absolute differences of two 16x16 blocks in raster order.
 pub fn sad16(a: &[u8; 256], b: &[u8; 256]) -> u32
     ensures value { result ≡ sum_of_differences 16 16 (block16 a.now) (block16 b.now) }
     ensures bound { result ≤ 65280 }
@@ -13,9 +13,8 @@ pub fn sad16(a: &[u8; 256], b: &[u8; 256]) -> u32
     sad_within(a, b, 0, 16, u32::MAX)
 }
 
-/// The sum of absolute differences of a block and the one at `at` in rows of `stride`, where it is at most `limit`,
-/// else
-/// a number above `limit`.
+/// The sum of absolute differences of a block and the one at index `at` of a window with rows of `stride` pixels. If
+/// the sum is above `limit`, returns some number above `limit`.
 pub(crate) fn sad_within(block: &[u8], window: &[u8], at: usize, stride: usize, limit: u32) -> u32
     requires block { 256 ≤ length block.now }
     requires window { at + 15 * stride + 16 ≤ length window.now }

@@ -1,4 +1,4 @@
-//! Sums of differences in lanes, which compile to one instruction a row.
+//! Sums of differences in lanes, which compile to one instruction per row.
 
 ghost use Rattle.std.specs.Prelude.{◌≡◌, ℕ, ◌+◌, ◌*◌, ◌<◌, ◌≤◌, length, slice_index};
 ghost use Rattle.std.specs.Int.{abs_diff};
@@ -8,7 +8,7 @@ ghost use Rattle.vp_search.specs.Differences.{sum_of_differences, strided_block,
 use std::simd::prelude::*;
 use vp_lanes::load16;
 
-/// How far apart the lanes are. Of bytes cast to i32 and back, the sum compiles to one instruction.
+/// The absolute differences of the lanes. With bytes cast to i32 and back, the sum compiles to one instruction.
 fn apart(p: u8x16, q: u8x16) -> u32x16
     ensures value { (j : ℕ) → j < 16 → slice_index result j ≡ abs_diff (slice_index p j) (slice_index q j) }
     ensures range { (j : ℕ) → j < 16 → slice_index result j ≤ 255 }
@@ -16,7 +16,7 @@ fn apart(p: u8x16, q: u8x16) -> u32x16
     (p.cast::<i32>() - q.cast::<i32>()).abs().cast::<u32>()
 }
 
-/// Two sums added, each of two differences at most.
+/// Adds two sums, each of at most two differences.
 fn both(a: u32x16, b: u32x16) -> u32x16
     requires a_in { (j : ℕ) → j < 16 → slice_index a j ≤ 2 * 255 }
     requires b_in { (j : ℕ) → j < 16 → slice_index b j ≤ 2 * 255 }
@@ -34,7 +34,7 @@ fn squared(a: u32x16) -> u32x16
     a * a
 }
 
-/// The sum of all lanes, each a sum of four differences at most, or the square of one.
+/// The sum of all lanes, each a sum of at most four differences, or one square.
 fn total(a: u32x16) -> u32
     requires { (j : ℕ) → j < 16 → slice_index a j ≤ 255 * 255 }
     ensures value { result ≡ sum_below 16 (slice_index a) }
@@ -43,7 +43,7 @@ fn total(a: u32x16) -> u32
     a.strict_reduce_sum()
 }
 
-/// The sum of differences of four rows of sixteen pixels.
+/// The sum of absolute differences of four rows of sixteen pixels.
 pub(crate) fn four_rows(
     a: &[u8],
     b: &[u8],

@@ -1,9 +1,9 @@
-//! The first of the least.
+//! The first least cost.
 
 ghost use Rattle.std.specs.Prelude.{◌<◌, length, slice_index};
 ghost use Rattle.vp_search.specs.FirstLeast.{IsFirstLeast};
 
-/// The place of the least cost, the first of equal ones.
+/// The index of the least cost; of equal costs the first.
 pub fn first_least(costs: &[u32]) -> usize
     requires { 0 < length costs.now }
     ensures { IsFirstLeast (length costs.now) (slice_index costs.now) result }

@@ -1,4 +1,4 @@
-//! The motion search of the encoder: how much blocks differ, and the vectors by which they differ least.
+//! The motion search of the encoder: differences of blocks, and the vectors that minimise them.
 #![tactic(auto)]
 
 mod block;

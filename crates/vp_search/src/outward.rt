@@ -1,4 +1,4 @@
-//! The least vector of a window, by rows from the middle outwards: a search finds the same vector in any order.
+//! The best vector of a window. Rows are searched from the centre outwards; the result does not depend on the order.
 
 ghost use Rattle.std.specs.Prelude.{◌≡◌, ℕ, ◌+◌, ◌*◌, ◌<◌, ◌≤◌, ◌⊎◌, length, slice_index};
 ghost use Rattle.vp_search.specs.Vectors.{IsNear};
@@ -9,7 +9,7 @@ use crate::difference::sad_within;
 use crate::vector::{Found, vector_at, vector_length};
 use crate::window::WINDOW_WIDTH;
 
-/// The less of a known vector and the one at row `i` and column `j`.
+/// The better of a known vector and the one at row `i` and column `j`.
 fn consider(block: &[u8], window: &[u8], range: u8, best: Found, i: usize, j: usize) -> Found
     requires block { 256 ≤ length block.now }
     requires window { (2 * range + 16) * WINDOW_WIDTH ≤ length window.now }
@@ -35,7 +35,7 @@ fn consider(block: &[u8], window: &[u8], range: u8, best: Found, i: usize, j: us
     )
 }
 
-/// The less of two: by cost, then how far it goes, then row, then column.
+/// The better of two vectors: by cost, then length, then row, then column.
 fn lesser(old: Found, new: Found) -> Found
     requires old { IsNear 64 old.vector }
     requires new { IsNear 64 new.vector }
@@ -64,7 +64,7 @@ fn lesser(old: Found, new: Found) -> Found
     }
 }
 
-/// The less of a known vector and those of row `i`.
+/// The best of a known vector and those of row `i`.
 fn consider_row(block: &[u8], window: &[u8], range: u8, best: Found, i: usize) -> Found
     requires block { 256 ≤ length block.now }
     requires window { (2 * range + 16) * WINDOW_WIDTH ≤ length window.now }
@@ -83,7 +83,7 @@ fn consider_row(block: &[u8], window: &[u8], range: u8, best: Found, i: usize) -
     found
 }
 
-/// The least vector of a window.
+/// The best vector of a window.
 pub(crate) fn search_outwards(block: &[u8], window: &[u8], range: u8) -> Found
     requires block { 256 ≤ length block.now }
     requires window { (2 * range + 16) * WINDOW_WIDTH ≤ length window.now }

@@ -1,4 +1,4 @@
-//! The refinement of a vector to quarter pixels.
+//! Refinement of a vector to quarter pixels.
 
 ghost use Rattle.std.specs.Prelude.{◌≡◌, pos, ◌+◌, ◌*◌, ◌<◌, ◌≤◌, ◌-ℤ◌, ◌*ℤ◌, unsigned_abs};
 ghost use Rattle.vp_search.specs.Vectors.{quarters, IsNear};
@@ -13,9 +13,10 @@ use crate::vector::{QuarterVector, Refined, WholeVector, quarters};
 use vp_base::{Place, Plane};
 use vp_inter::{luma_vector, predict_block16};
 
-/// The vector in quarter pixels that predicts the source's macroblock at `place` best: of `centre` and its eight
-/// neighbours half a pixel away, and then of that one and its eight neighbours a quarter of a pixel away. Of equal ones
-/// the middle one is taken, then the first by rows. Prediction is version 0's, of six taps (RFC 6386, chapter 18).
+/// Refines a vector to quarter pixels for the source macroblock at `place`. First the best of `centre` and its eight
+/// neighbours half a pixel away is chosen; then the best of that one and its eight neighbours a quarter pixel away. Of
+/// equal costs the middle one is chosen, then the first in raster order. Prediction uses the six-tap filter of version
+/// 0 (RFC 6386, chapter 18).
 pub fn refine(source: &Plane, reference: &Plane, place: Place, centre: WholeVector) -> Refined
     requires columns { 16 * place.column + 16 ≤ source.now.width }
     requires rows { 16 * place.row + 16 ≤ source.now.height }
@@ -32,7 +33,7 @@ pub fn refine(source: &Plane, reference: &Plane, place: Place, centre: WholeVect
     refine_block(&macroblock(source, place), reference, place, centre)
 }
 
-/// What `refine` finds for a macroblock at `place` whose luma is `block`, row after row.
+/// Refines a vector as `refine` does, for a macroblock at `place` with luma `block` in raster order.
 pub fn refine_block(
     block: &[u8; 256],
     reference: &Plane,
@@ -54,9 +55,8 @@ pub fn refine_block(
     best_of(block, reference, place, halfway.vector, 1)
 }
 
-/// The best of `centre` and its eight neighbours at a distance. `centre` is a vector in whole pixels, which are at
-/// most 16,384
-/// either way, or one of its neighbours, which is two quarters further at most.
+/// The best of `centre` and its eight neighbours at a distance. `centre` is a vector of whole pixels, at most 16,384
+/// in each direction, or at most two quarter pixels from one.
 fn best_of(
     block: &[u8; 256],
     reference: &Plane,
@@ -88,7 +88,7 @@ fn best_of(
     }
 }
 
-/// A vector, and then its eight neighbours at a distance, row after row.
+/// A vector, then its eight neighbours at a distance in raster order.
 fn around(centre: QuarterVector, distance: i32) -> [QuarterVector; 9]
     requires row { unsigned_abs centre.row ≤ 4 * 16384 + 2 }
     requires column { unsigned_abs centre.column ≤ 4 * 16384 + 2 }
@@ -123,7 +123,7 @@ fn around(centre: QuarterVector, distance: i32) -> [QuarterVector; 9]
     ]
 }
 
-/// How much a block differs from what a vector predicts, one that `best_of` tries.
+/// The cost of a vector that `best_of` tries: the sum of absolute differences of the block and its prediction.
 fn cost_of(block: &[u8; 256], reference: &Plane, place: Place, vector: QuarterVector) -> u32
     requires columns { 16 * place.column ≤ 16384 }
     requires rows { 16 * place.row ≤ 16384 }

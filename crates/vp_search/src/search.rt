@@ -1,4 +1,4 @@
-//! The search over whole pixels.
+//! The full search over whole pixels.
 
 ghost use Rattle.std.specs.Prelude.{◌≡◌, ◌+◌, ◌*◌, ◌<◌, ◌≤◌};
 ghost use Rattle.vp_search.specs.Vectors.{quarters};
@@ -12,20 +12,19 @@ use crate::vector::Found;
 use crate::window::{GREATEST_RANGE, WINDOW_WIDTH, cut_window};
 use vp_base::{Place, Plane};
 
-/// The range that a small window is enough for, of which there is less to clear than of a whole one.
+/// The greatest range for which the small window is used; less memory has to be cleared.
 const SMALL_RANGE: u8 = 16;
 
-/// How many pixels there are in the rows of a window that a search of a small range reaches.
+/// The number of pixels in the window of a search of the small range.
 const SMALL_WINDOW: usize = (16 + 2 * SMALL_RANGE as usize) * WINDOW_WIDTH;
 
-/// .. and in those that a search of any range reaches.
+/// The number of pixels in the window of a search of the greatest range.
 const WHOLE_WINDOW: usize = (16 + 2 * GREATEST_RANGE) * WINDOW_WIDTH;
 
-/// Of all vectors in whole pixels whose row and column are at most `range`, either way, the one that moves to the
-/// macroblock at `place` the pixels of the reference that differ least from the source's luma there. Of equal ones the
-/// shortest is taken (row and column added), then the one with the least row, then with the least column. Both
-/// planes are
-/// planes of luma of whole macroblocks; the reference goes on outside by its nearest pixel (RFC 6386, chapter 5).
+/// Searches all vectors of whole pixels whose row and column are from `-range` to `range`. Returns the one with the
+/// least sum of absolute differences for the source macroblock at `place`. Of equal costs the shortest vector is
+/// chosen (sum of both magnitudes), then the least row, then the least column. Both planes are luma planes of whole
+/// macroblocks; the reference is extended by its border pixels (RFC 6386, chapter 5).
 pub fn full_search(source: &Plane, reference: &Plane, place: Place, range: u8) -> Found
     requires columns { 16 * place.column + 16 ≤ source.now.width }
     requires rows { 16 * place.row + 16 ≤ source.now.height }
@@ -41,7 +40,7 @@ pub fn full_search(source: &Plane, reference: &Plane, place: Place, range: u8) -
     search_block(&macroblock(source, place), reference, place, range)
 }
 
-/// What `full_search` finds for a macroblock at `place` whose luma is `block`, row after row.
+/// Searches as `full_search` does, for a macroblock at `place` with luma `block` in raster order.
 pub fn search_block(block: &[u8; 256], reference: &Plane, place: Place, range: u8) -> Found
     requires columns { 16 * place.column ≤ 16384 }
     requires rows { 16 * place.row ≤ 16384 }
@@ -59,7 +58,7 @@ pub fn search_block(block: &[u8; 256], reference: &Plane, place: Place, range: u
     }
 }
 
-/// The same through a window of `AREA` pixels.
+/// Searches as `full_search` does, with a window of `AREA` pixels.
 fn search_in<const AREA: usize>(
     block: &[u8; 256],
     reference: &Plane,

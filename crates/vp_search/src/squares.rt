@@ -7,7 +7,7 @@ ghost use Rattle.vp_search.specs.Differences.{squared_difference, sum_of_squares
 
 use crate::kernel::squares16;
 
-/// The sum of squared differences of two slices of one length, which is below 2 to the 48th: then the sum fits.
+/// The sum of squared differences of two slices of equal length below 2^48, so that the sum fits in u64.
 pub fn sse(a: &[u8], b: &[u8]) -> u64
     requires same { length a.now ≡ length b.now }
     requires fits { length a.now < 2 ^ 48 }
@@ -22,7 +22,7 @@ pub fn sse(a: &[u8], b: &[u8]) -> u64
     add_rest(a, b, 16 * pieces, sum)
 }
 
-/// `sum`, with the squared differences from `start` on added.
+/// Adds the squared differences from index `start` on to `sum`.
 fn add_rest(a: &[u8], b: &[u8], start: usize, sum: u64) -> u64
     requires same { length a.now ≡ length b.now }
     requires fits { length a.now < 2 ^ 48 }
@@ -39,7 +39,7 @@ fn add_rest(a: &[u8], b: &[u8], start: usize, sum: u64) -> u64
     total
 }
 
-/// The square of how far two pixels are apart.
+/// The squared difference of two pixels.
 fn squared_difference(x: u8, y: u8) -> u64
     ensures value { result ≡ abs_diff x y * abs_diff x y }
     ensures bound { result ≤ 255 * 255 }

@@ -1,46 +1,46 @@
-//! Vectors of a luma block.
+//! Motion vectors of a luma block, and search results.
 
 ghost use Rattle.std.specs.Prelude.{◌≡◌, ◌≤◌, ◌*◌};
 ghost use Rattle.vp_search.specs.Vectors.{quarters, vector_length, IsNear};
 ghost use Rattle.vp_search.specs.Window.{vector_at};
 
-/// How far a block moves, in whole luma pixels.
+/// A motion vector in whole luma pixels.
 #[derive(Clone, Copy, Debug, PartialEq, Eq, Default)]
 pub struct WholeVector {
-    /// Positive is down.
+    /// Rows; positive is down.
     pub row: i32,
-    /// Positive is to the right.
+    /// Columns; positive is right.
     pub column: i32,
 }
 
-/// How far a block moves, in quarter luma pixels (RFC 6386, chapter 5).
+/// A motion vector in quarter luma pixels (RFC 6386, chapter 5).
 #[derive(Clone, Copy, Debug, PartialEq, Eq, Default)]
 pub struct QuarterVector {
-    /// Positive is down.
+    /// Rows; positive is down.
     pub row: i32,
-    /// Positive is to the right.
+    /// Columns; positive is right.
     pub column: i32,
 }
 
-/// A vector in whole pixels, and the sum of absolute differences that it leaves.
+/// The result of a full search.
 #[derive(Clone, Copy, Debug, PartialEq, Eq)]
 pub struct Found {
-    /// From the macroblock to the pixels of the reference that it moves there.
+    /// The best vector, in whole pixels.
     pub vector: WholeVector,
-    /// How much the source's luma differs from those pixels.
+    /// Its sum of absolute differences.
     pub cost: u32,
 }
 
-/// A vector in quarter pixels, and the sum of absolute differences that it leaves.
+/// The result of a refinement.
 #[derive(Clone, Copy, Debug, PartialEq, Eq)]
 pub struct Refined {
-    /// From the macroblock to where the reference predicts it.
+    /// The best vector, in quarter pixels.
     pub vector: QuarterVector,
-    /// How much the source's luma differs from that prediction.
+    /// Its sum of absolute differences.
     pub cost: u32,
 }
 
-/// The vector whose block begins at row `i` and column `j` of a window that goes `range` pixels to each side.
+/// The vector of row `i` and column `j` of a window with `range` pixels on each side.
 pub(crate) fn vector_at(i: usize, j: usize, range: u8) -> WholeVector
     requires range { range ≤ 64 }
     requires i { i ≤ 2 * range }
@@ -53,7 +53,7 @@ pub(crate) fn vector_at(i: usize, j: usize, range: u8) -> WholeVector
     }
 }
 
-/// How far it goes, over both directions.
+/// The length of a vector: the sum of the magnitudes of row and column.
 pub(crate) fn vector_length(vector: WholeVector) -> u32
     requires { IsNear 64 vector }
     ensures { result ≡ vector_length vector }
@@ -61,7 +61,7 @@ pub(crate) fn vector_length(vector: WholeVector) -> u32
     vector.row.unsigned_abs() + vector.column.unsigned_abs()
 }
 
-/// The same vector in quarter pixels.
+/// Converts whole pixels to quarter pixels.
 pub fn quarters(vector: WholeVector) -> QuarterVector
     requires { IsNear 16384 vector }
     ensures { result ≡ quarters vector }

@@ -1,4 +1,4 @@
-//! The window of a reference that is searched.
+//! The window of the reference that is searched.
 
 ghost use Rattle.std.specs.Prelude.{◌≡◌, ℕ, pos, ◌+◌, ◌*◌, ◌<◌, ◌≤◌, ◌+ℤ◌, length, slice_index, unsigned_abs};
 ghost use Rattle.vp_inter.specs.Inter.{nearest};
@@ -7,14 +7,14 @@ ghost use Rattle.vp_search.specs.Window.{searched_pixel};
 use vp_base::{Place, Plane};
 use vp_inter::nearest;
 
-/// How far a search goes at most, in whole pixels.
+/// The greatest search range, in whole pixels.
 pub(crate) const GREATEST_RANGE: usize = 64;
 
-/// How many pixels each row of a window has, whatever the range: the sixteen of a block, and the greatest range on each
-/// side of it. A search of a lesser range fills the first of them, and reads no others.
+/// The number of pixels in each row of a window: a block, and the greatest range on each side. A search of a smaller
+/// range uses only the first pixels of each row.
 pub(crate) const WINDOW_WIDTH: usize = 16 + 2 * GREATEST_RANGE;
 
-/// Fills the window with the pixels round the macroblock at `place`, `range` of them to each side.
+/// Fills the window with the pixels of the reference around the macroblock at `place`, `range` of them on each side.
 pub(crate) fn cut_window(window: &mut [u8], reference: &Plane, place: Place, range: u8)
     requires range { range ≤ 64 }
     requires room { (2 * range + 16) * WINDOW_WIDTH ≤ length window.old }
@@ -34,7 +34,7 @@ pub(crate) fn cut_window(window: &mut [u8], reference: &Plane, place: Place, ran
     }
 }
 
-/// Writes, from `at` on, the `side` numbers of `line` nearest to `left` and the places behind it.
+/// Writes `side` pixels of `line` from column `left` on, extended by its border pixels, to index `at` of the window.
 fn cut_row(window: &mut [u8], at: usize, side: usize, line: &[u8], left: i32)
     requires room { at + side ≤ length window.old }
     requires side { side ≤ WINDOW_WIDTH }

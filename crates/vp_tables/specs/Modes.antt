@@ -6,7 +6,7 @@ use Rattle.vp_tables.specs.declared.modes.LumaMode.TheVariants as luma_is
 use Rattle.vp_tables.specs.declared.modes.VectorMode.{VectorMode}
 use Rattle.vp_tables.specs.declared.modes.VectorMode.TheVariants as vector_is
 
--- each luma subblock has a mode of its own (B_PRED)
+-- whether each luma subblock has its own mode (B_PRED)
 abbrev pub is_by_subblocks : LumaMode → Bool
 is_by_subblocks luma_is.Dc = false
 is_by_subblocks luma_is.V = false
@@ -14,7 +14,7 @@ is_by_subblocks luma_is.H = false
 is_by_subblocks luma_is.Tm = false
 is_by_subblocks luma_is.B = true
 
--- the parts of the macroblock have vectors of their own
+-- whether the parts of the macroblock have their own vectors (SPLITMV)
 abbrev pub is_split : VectorMode → Bool
 is_split vector_is.Zero = false
 is_split vector_is.Nearest = false

@@ -1,5 +1,5 @@
--- The entries of the constant tables, by their indices (RFC 6386, chapters 11.5, 13.2 to 13.5, 14.1 and 18.3). Pinned
--- by `scripts/compare_tables.py`, which compares every number with a transcription of the standard's.
+-- The entries of the constant tables, by index (RFC 6386, chapters 11.5, 13.2 to 13.5, 14.1 and 18.3). Pinned by
+-- `scripts/compare_tables.py`, which compares every number with a transcription of the standard's.
 use Rattle.std.specs.Prelude.{ℕ, ℤ, pos, ◌+ℤ◌, ◌==◌, List, [], ◌∷◌, slice_index, slice_index_or, count_by}
 use Rattle.vp_tables.specs.declared.modes.SubMode.{SubMode}
 use Rattle.vp_tables.specs.declared.modes.SubMode.TheVariants as sub_is
@@ -12,7 +12,7 @@ use Rattle.vp_tables.specs.declared.taps.TheConstants.{SIX_TAPS}
 use Rattle.vp_tables.specs.declared.tokens.TheConstants.{BANDS, CATEGORY_1, CATEGORY_2, CATEGORY_3, CATEGORY_4}
 use Rattle.vp_tables.specs.declared.tokens.TheConstants.{CATEGORY_5, CATEGORY_6, CATEGORY_BASES, ZIGZAG}
 
--- the order of the subblock modes in the tables
+-- the index of a subblock mode in the tables
 abbrev pub sub_number : SubMode → ℕ
 sub_number sub_is.Dc = 0
 sub_number sub_is.Tm = 1
@@ -25,38 +25,38 @@ sub_number sub_is.Vl = 7
 sub_number sub_is.Hd = 8
 sub_number sub_is.Hu = 9
 
--- the probabilities of a subblock's mode in a key frame, by the modes above and to the left (chapter 11.5)
+-- subblock mode probabilities of a key frame, by the modes above and to the left (chapter 11.5)
 unfoldable pub key_sub_probabilities : SubMode → SubMode → List ℕ
 key_sub_probabilities above left = slice_index_or (slice_index_or KEY_SUB_PROBABILITIES (sub_number above) [])
     (sub_number left) []
 
--- the probabilities of tokens that a key frame starts from, by block type, band, context and entry (chapter 13.5)
+-- default token probabilities of a key frame, by block type, band, context and tree entry (chapter 13.5)
 unfoldable pub coefficient_probabilities : List (List (List (List ℕ)))
 coefficient_probabilities = COEFFICIENT_PROBABILITIES
 
--- the probabilities that they stay (chapter 13.4)
+-- the probabilities that a token probability is not updated (chapter 13.4)
 unfoldable pub coefficient_updates : List (List (List (List ℕ)))
 coefficient_updates = COEFFICIENT_UPDATES
 
--- the factors by the quantiser's index (chapter 14.1)
+-- the factors of a quantiser index (chapter 14.1)
 unfoldable pub dc_factor : ℕ → ℕ
 dc_factor index = slice_index DC_FACTORS index
 
 unfoldable pub ac_factor : ℕ → ℕ
 ac_factor index = slice_index AC_FACTORS index
 
--- the weights of the pixels at -2 to 3, by eighths of a pixel (chapter 18.3)
+-- filter weights of the pixels at offsets -2 to 3, by eighths of a pixel (chapter 18.3)
 unfoldable pub six_taps : ℕ → List ℤ
 six_taps eighths = slice_index_or SIX_TAPS eighths []
 
--- the band, and the place in raster order, of a position (chapter 13)
+-- the band, and the raster index, of a coefficient position (chapter 13)
 unfoldable pub band : ℕ → ℕ
 band position = slice_index BANDS position
 
 unfoldable pub zigzag : ℕ → ℕ
 zigzag position = slice_index ZIGZAG position
 
--- the least size that a token stands for (chapter 13.2)
+-- the least magnitude that a token encodes (chapter 13.2)
 unfoldable pub least_size : Token → ℕ
 least_size token_is.EndOfBlock = 0
 least_size token_is.Zero = 0
@@ -71,7 +71,7 @@ least_size token_is.Category4 = slice_index CATEGORY_BASES 3
 least_size token_is.Category5 = slice_index CATEGORY_BASES 4
 least_size token_is.Category6 = slice_index CATEGORY_BASES 5
 
--- the probabilities of the extra bits that are added to it, the most significant first
+-- probabilities of the extra bits that are added to it, most significant first
 unfoldable pub extra_probabilities : Token → List ℕ
 extra_probabilities token_is.EndOfBlock = []
 extra_probabilities token_is.Zero = []
@@ -86,11 +86,11 @@ extra_probabilities token_is.Category4 = CATEGORY_4
 extra_probabilities token_is.Category5 = CATEGORY_5
 extra_probabilities token_is.Category6 = CATEGORY_6
 
--- how often a place stands in a list
+-- the number of times that a place occurs in a list
 abbrev pub occurrences : ℕ → List ℕ → ℕ
 occurrences place = count_by (λ x. x == place)
 
--- the sum of the weights
+-- the sum of a list of weights
 abbrev pub sum_of_weights : List ℤ → ℤ
 sum_of_weights [] = pos 0
 sum_of_weights (x ∷ xs) = x +ℤ sum_of_weights xs

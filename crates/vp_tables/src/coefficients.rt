@@ -1,8 +1,10 @@
+//! Token probabilities: the defaults, and the probabilities of their updates.
+
 ghost use Rattle.std.specs.Prelude.{◌≡◌};
 ghost use Rattle.vp_tables.specs.Tables.{coefficient_probabilities, coefficient_updates};
 
-/// The probabilities of tokens, as a key frame sets them: by block type, band, context and entry of the tree (RFC
-/// 6386, chapter 13.5).
+/// The default token probabilities of a key frame, by block type, band, context and tree entry (RFC 6386, chapter
+/// 13.5).
 pub static COEFFICIENT_PROBABILITIES: [[[[u8; 11]; 3]; 8]; 4] = [
     [
         [
@@ -174,7 +176,7 @@ pub static COEFFICIENT_PROBABILITIES: [[[[u8; 11]; 3]; 8]; 4] = [
     ],
 ];
 
-/// The probabilities of tokens that a key frame starts from.
+/// The default token probabilities of a key frame.
 #[tactic(auto, unfolding(crate::specs::Tables::coefficient_probabilities))]
 pub fn coefficient_probabilities() -> &'static [[[[u8; 11]; 3]; 8]; 4]
     ensures { result.now ≡ coefficient_probabilities }
@@ -182,7 +184,7 @@ pub fn coefficient_probabilities() -> &'static [[[[u8; 11]; 3]; 8]; 4]
     &COEFFICIENT_PROBABILITIES
 }
 
-/// The probabilities that one of tokens stays (RFC 6386, chapter 13.4).
+/// The probabilities that a token probability is not updated (RFC 6386, chapter 13.4). Indexed as the defaults.
 pub static COEFFICIENT_UPDATES: [[[[u8; 11]; 3]; 8]; 4] = [
     [
         [
@@ -354,7 +356,7 @@ pub static COEFFICIENT_UPDATES: [[[[u8; 11]; 3]; 8]; 4] = [
     ],
 ];
 
-/// By which probabilities the probabilities of tokens stay.
+/// The probabilities that a token probability is not updated.
 #[tactic(auto, unfolding(crate::specs::Tables::coefficient_updates))]
 pub fn coefficient_updates() -> &'static [[[[u8; 11]; 3]; 8]; 4]
     ensures { result.now ≡ coefficient_updates }

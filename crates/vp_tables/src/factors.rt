@@ -1,7 +1,9 @@
+//! Dequantisation factors, by quantiser index.
+
 ghost use Rattle.std.specs.Prelude.{◌≡◌, ◌<◌, ◌≤◌};
 ghost use Rattle.vp_tables.specs.Tables.{dc_factor, ac_factor};
 
-/// The factor of a block's first level, by the quantiser's index (RFC 6386, chapter 14.1).
+/// DC factors, by quantiser index (RFC 6386, chapter 14.1).
 pub static DC_FACTORS: [u16; 128] = [
     4, 5, 6, 7, 8, 9, 10, 10, 11, 12, 13, 14, 15, 16, 17, 17, 18, 19, 20, 20, 21, 21, 22, 22, 23,
     23, 24, 25, 25, 26, 27, 28, 29, 30, 31, 32, 33, 34, 35, 36, 37, 37, 38, 39, 40, 41, 42, 43, 44,
@@ -11,7 +13,7 @@ pub static DC_FACTORS: [u16; 128] = [
     132, 134, 136, 138, 140, 143, 145, 148, 151, 154, 157,
 ];
 
-/// The factor of the other levels.
+/// AC factors, by quantiser index (RFC 6386, chapter 14.1).
 pub static AC_FACTORS: [u16; 128] = [
     4, 5, 6, 7, 8, 9, 10, 11, 12, 13, 14, 15, 16, 17, 18, 19, 20, 21, 22, 23, 24, 25, 26, 27, 28,
     29, 30, 31, 32, 33, 34, 35, 36, 37, 38, 39, 40, 41, 42, 43, 44, 45, 46, 47, 48, 49, 50, 51, 52,
@@ -29,7 +31,7 @@ fn dc_entry(index: u8) -> u16
     DC_FACTORS[index as usize]
 }
 
-/// The factor of a block's first level.
+/// The DC factor of a quantiser index: 4 to 157.
 #[tactic(auto, using(crate::proofs::Bounds::factor_bounds))]
 pub fn dc_factor(index: u8) -> u16
     requires { index < 128 }
@@ -48,7 +50,7 @@ fn ac_entry(index: u8) -> u16
     AC_FACTORS[index as usize]
 }
 
-/// The factor of a block's other levels.
+/// The AC factor of a quantiser index: 4 to 284.
 #[tactic(auto, using(crate::proofs::Bounds::factor_bounds))]
 pub fn ac_factor(index: u8) -> u16
     requires { index < 128 }

@@ -1,3 +1,5 @@
+//! Laws of the constant tables.
+
 ghost use Rattle.std.specs.Prelude.{◌≡◌, ℕ, ◌<◌, IsTrue, pos, slice_index_or, []};
 ghost use Rattle.vp_tree.specs.Tree.{is_tree};
 ghost use Rattle.vp_tables.specs.Tables.{occurrences, sum_of_weights};
@@ -9,7 +11,7 @@ use crate::trees::{
     SUB_TREE, TOKEN_TREE, VECTOR_MODE_TREE,
 };
 
-/// Every table of entries is a tree.
+/// Every tree table is a valid tree.
 pub fn trees_are_formed()
     ensures segment { IsTrue (is_tree SEGMENT_TREE) }
     ensures key_luma { IsTrue (is_tree KEY_LUMA_TREE) }
@@ -23,12 +25,12 @@ pub fn trees_are_formed()
     ensures token { IsTrue (is_tree TOKEN_TREE) }
 {}
 
-/// The zigzag meets each place of a block once.
+/// Each place of a block occurs exactly once in the zigzag order.
 pub fn zigzag_meets_each_place_once()
     ensures { (place : ℕ) → place < 16 → occurrences place ZIGZAG ≡ 1 }
 {}
 
-/// The six weights at each eighth of a pixel sum to 128.
+/// The six filter weights at each eighth of a pixel sum to 128.
 pub fn taps_sum_to_128()
     ensures { (eighths : ℕ) → eighths < 8 → sum_of_weights (slice_index_or SIX_TAPS eighths []) ≡ pos 128 }
 {}

@@ -1,4 +1,4 @@
-//! The constants of VP8: trees, probabilities, quantisers, filters.
+//! The constant tables of VP8: trees, probabilities, dequantisation factors, filter taps.
 #![tactic(auto)]
 
 mod coefficients;

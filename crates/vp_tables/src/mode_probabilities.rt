@@ -1,19 +1,21 @@
-/// The probabilities of the luma mode in a key frame (RFC 6386, chapter 11.2).
+//! Probabilities of modes and motion vectors.
+
+/// Luma mode probabilities of a key frame (RFC 6386, chapter 11.2).
 pub const KEY_LUMA_PROBABILITIES: [u8; 4] = [145, 156, 163, 128];
 
-/// The probabilities of the luma mode in an inter frame, as a key frame sets them (chapter 16.1).
+/// Default luma mode probabilities of inter frames (chapter 16.1).
 pub const LUMA_PROBABILITIES: [u8; 4] = [112, 86, 140, 37];
 
-/// The probabilities of the chroma mode in a key frame (chapter 11.4).
+/// Chroma mode probabilities of a key frame (chapter 11.4).
 pub const KEY_CHROMA_PROBABILITIES: [u8; 3] = [142, 114, 183];
 
-/// The probabilities of the chroma mode in an inter frame, as a key frame sets them (chapter 16.1).
+/// Default chroma mode probabilities of inter frames (chapter 16.1).
 pub const CHROMA_PROBABILITIES: [u8; 3] = [162, 101, 204];
 
-/// The probabilities of a subblock's mode in an inter frame, which has no contexts (chapter 16.1).
+/// Subblock mode probabilities of inter frames, which have no contexts (chapter 16.1).
 pub const SUB_PROBABILITIES: [u8; 9] = [120, 90, 79, 133, 87, 85, 80, 111, 151];
 
-/// The probabilities of the vector mode: its probability i stands in the row that count i names (chapter 16.3).
+/// Vector mode probabilities: probability `i` is entry `i` of the row that count `i` selects (chapter 16.3).
 pub const VECTOR_MODE_PROBABILITIES: [[u8; 4]; 6] = [
     [7, 1, 1, 143],
     [14, 18, 14, 107],
@@ -23,10 +25,10 @@ pub const VECTOR_MODE_PROBABILITIES: [[u8; 4]; 6] = [
     [234, 188, 128, 28],
 ];
 
-/// The probabilities of how a macroblock is parted (chapter 16.4).
+/// Split kind probabilities (chapter 16.4).
 pub const SPLIT_PROBABILITIES: [u8; 3] = [110, 111, 150];
 
-/// The probabilities of a part's vector mode, by the context that the vectors left and above give (chapter 16.4).
+/// Part mode probabilities, by the context of the vectors to the left and above (chapter 16.4).
 pub const PART_PROBABILITIES: [[u8; 3]; 5] = [
     [147, 136, 18],
     [106, 145, 1],
@@ -35,8 +37,8 @@ pub const PART_PROBABILITIES: [[u8; 3]; 5] = [
     [208, 1, 1],
 ];
 
-/// The probabilities of vectors, as a key frame sets them: rows, then columns; each is short or long, sign, seven
-/// of the short tree, ten of the long bits (chapter 17.2).
+/// Default motion vector probabilities: of rows, then of columns. Each has: long flag, sign, seven of the short tree,
+/// ten of the long bits (chapter 17.2).
 pub const VECTOR_PROBABILITIES: [[u8; 19]; 2] = [
     [
         162, 128, 225, 146, 172, 147, 214, 39, 156, 128, 129, 132, 75, 145, 178, 206, 239, 254, 254,
@@ -47,7 +49,7 @@ pub const VECTOR_PROBABILITIES: [[u8; 19]; 2] = [
     ],
 ];
 
-/// The probabilities that one of vectors stays (chapter 17.2).
+/// The probabilities that a motion vector probability is not updated (chapter 17.2).
 pub const VECTOR_UPDATES: [[u8; 19]; 2] = [
     [
         237, 246, 253, 253, 254, 254, 254, 254, 254, 254, 254, 254, 254, 254, 250, 250, 252, 254,

@@ -1,23 +1,25 @@
+//! Prediction modes, vector modes and tokens.
+
 ghost use Rattle.std.specs.Prelude.{◌≡◌};
 ghost use Rattle.vp_tables.specs.Modes.{is_by_subblocks, is_split};
 
-/// How the luma of an intra macroblock is predicted (RFC 6386, chapter 8.2, 11.2).
+/// The luma prediction mode of an intra macroblock (RFC 6386, chapters 8.2 and 11.2).
 #[derive(Clone, Copy, Debug, PartialEq, Eq)]
 pub enum LumaMode {
-    /// The mean of the edges.
+    /// DC: the mean of the row above and the column to the left.
     Dc,
-    /// The row above.
+    /// Vertical: copies the row above.
     V,
-    /// The column to the left.
+    /// Horizontal: copies the column to the left.
     H,
-    /// True motion: left plus above less corner.
+    /// TrueMotion: left plus above minus corner.
     Tm,
-    /// Each of the sixteen subblocks by a mode of its own (`B_PRED`).
+    /// `B_PRED`: each of the sixteen subblocks has its own mode.
     B,
 }
 
 impl LumaMode {
-    /// Whether each luma subblock has a mode of its own.
+    /// Whether each luma subblock has its own mode.
     pub fn is_by_subblocks(self) -> bool
         ensures { result ≡ is_by_subblocks self }
     {
@@ -25,51 +27,62 @@ impl LumaMode {
     }
 }
 
-/// How both chroma planes of an intra macroblock are predicted (chapters 8.2, 11.4).
+/// The prediction mode of both chroma planes of an intra macroblock (chapters 8.2 and 11.4).
 #[derive(Clone, Copy, Debug, PartialEq, Eq)]
 pub enum ChromaMode {
+    /// DC: the mean of the row above and the column to the left.
     Dc,
+    /// Vertical: copies the row above.
     V,
+    /// Horizontal: copies the column to the left.
     H,
+    /// TrueMotion: left plus above minus corner.
     Tm,
 }
 
-/// How a luma subblock of 4 by 4 pixels is predicted (chapter 11.2), in the order of the rows of
+/// The prediction mode of a 4x4 luma subblock (chapter 11.2). The order is that of the rows of
 /// `KEY_SUB_PROBABILITIES`.
 #[derive(Clone, Copy, Debug, PartialEq, Eq)]
 pub enum SubMode {
+    /// DC: the mean of the four pixels above and the four to the left.
     Dc,
+    /// TrueMotion: left plus above minus corner.
     Tm,
-    /// Vertical.
+    /// Vertical, smoothed.
     Ve,
-    /// Horizontal.
+    /// Horizontal, smoothed.
     He,
-    /// Left and down.
+    /// Left-down: diagonal.
     Ld,
-    /// Right and down.
+    /// Right-down: diagonal.
     Rd,
-    /// Vertical right.
+    /// Vertical-right.
     Vr,
-    /// Vertical left.
+    /// Vertical-left.
     Vl,
-    /// Horizontal down.
+    /// Horizontal-down.
     Hd,
-    /// Horizontal up.
+    /// Horizontal-up.
     Hu,
 }
 
-/// How the vector of an inter macroblock is found (chapter 16.3).
+/// How an inter macroblock's motion vector is coded (chapter 16.3).
 #[derive(Clone, Copy, Debug, PartialEq, Eq)]
 pub enum VectorMode {
+    /// The zero vector.
     Zero,
+    /// The candidate `nearest`.
     Nearest,
+    /// The candidate `near`.
     Near,
+    /// The candidate `best` plus a coded difference.
     New,
+    /// Each part has its own vector (`SPLITMV`).
     Split,
 }
 
 impl VectorMode {
-    /// Whether the parts of the macroblock have vectors of their own.
+    /// Whether the parts of the macroblock have their own vectors.
     pub fn is_split(self) -> bool
         ensures { result ≡ is_split self }
     {
@@ -77,48 +90,57 @@ impl VectorMode {
     }
 }
 
-/// How a macroblock with split vectors is parted (chapter 16.4).
+/// How a macroblock with split vectors is divided into parts (chapter 16.4).
 #[derive(Clone, Copy, Debug, PartialEq, Eq)]
 pub enum SplitKind {
-    /// Sixteen blocks of 4 by 4.
+    /// 16 parts of 4x4 pixels.
     Sixteenths,
-    /// Four blocks of 8 by 8.
+    /// 4 parts of 8x8 pixels.
     Quarters,
-    /// Two blocks of 16 by 8.
+    /// 2 parts of 16x8 pixels: the upper and the lower half.
     TopBottom,
-    /// Two blocks of 8 by 16.
+    /// 2 parts of 8x16 pixels: the left and the right half.
     LeftRight,
 }
 
-/// How the vector of a part is found (chapter 16.4).
+/// How the motion vector of a part is coded (chapter 16.4).
 #[derive(Clone, Copy, Debug, PartialEq, Eq)]
 pub enum PartMode {
+    /// The vector of the block to the left.
     Left,
+    /// The vector of the block above.
     Above,
+    /// The zero vector.
     Zero,
+    /// The candidate `best` plus a coded difference.
     New,
 }
 
-/// A token of a block's coefficients (chapter 13.2).
+/// A token: a coefficient value or a range of them, or the end of block (chapter 13.2).
 #[derive(Clone, Copy, Debug, PartialEq, Eq)]
 pub enum Token {
-    /// No further level of the block but 0.
+    /// End of block: all remaining coefficients are 0.
     EndOfBlock,
+    /// 0; never followed by an end of block.
     Zero,
+    /// 1.
     One,
+    /// 2.
     Two,
+    /// 3.
     Three,
+    /// 4.
     Four,
-    /// 5 or 6: one extra bit follows.
+    /// 5 or 6, with 1 extra bit.
     Category1,
-    /// 7 to 10.
+    /// 7 to 10, with 2 extra bits.
     Category2,
-    /// 11 to 18.
+    /// 11 to 18, with 3 extra bits.
     Category3,
-    /// 19 to 34.
+    /// 19 to 34, with 4 extra bits.
     Category4,
-    /// 35 to 66.
+    /// 35 to 66, with 5 extra bits.
     Category5,
-    /// 67 to 2,114: eleven extra bits follow.
+    /// 67 to 2,114, with 11 extra bits.
     Category6,
 }

@@ -1,10 +1,11 @@
+//! Subblock mode probabilities of key frames.
+
 ghost use Rattle.std.specs.Prelude.{◌≡◌};
 ghost use Rattle.vp_tables.specs.Tables.{key_sub_probabilities};
 
 use crate::modes::SubMode;
 
-/// The probabilities of a subblock's mode in a key frame, by the mode above, then the mode to the left (RFC 6386,
-/// chapter 11.5).
+/// Subblock mode probabilities of a key frame, by the mode above, then the mode to the left (RFC 6386, chapter 11.5).
 pub static KEY_SUB_PROBABILITIES: [[[u8; 9]; 10]; 10] = [
     [
         [231, 120, 48, 89, 115, 113, 120, 152, 112],
@@ -128,7 +129,7 @@ pub static KEY_SUB_PROBABILITIES: [[[u8; 9]; 10]; 10] = [
     ],
 ];
 
-/// The probabilities of a subblock's mode in a key frame, by the modes above and to the left.
+/// The subblock mode probabilities of a key frame, for the modes above and to the left.
 #[tactic(auto, unfolding(crate::specs::Tables::key_sub_probabilities))]
 pub fn key_sub_probabilities(above: SubMode, left: SubMode) -> &'static [u8; 9]
     ensures { result.now ≡ key_sub_probabilities above left }

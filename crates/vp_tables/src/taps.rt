@@ -1,7 +1,9 @@
+//! The six-tap interpolation filters.
+
 ghost use Rattle.std.specs.Prelude.{◌≡◌, ◌<◌};
 ghost use Rattle.vp_tables.specs.Tables.{six_taps};
 
-/// The weights of the pixels at -2 to 3, by eighths of a pixel (RFC 6386, chapter 18.3).
+/// Filter weights of the pixels at offsets -2 to 3, by eighths of a pixel (RFC 6386, chapter 18.3).
 pub static SIX_TAPS: [[i16; 6]; 8] = [
     [0, 0, 128, 0, 0, 0],
     [0, -6, 123, 12, -1, 0],
@@ -13,7 +15,7 @@ pub static SIX_TAPS: [[i16; 6]; 8] = [
     [0, -1, 12, 123, -6, 0],
 ];
 
-/// The six weights at so many eighths of a pixel.
+/// The six filter weights at this many eighths of a pixel.
 #[tactic(auto, unfolding(crate::specs::Tables::six_taps))]
 pub fn six_taps(eighths: usize) -> &'static [i16; 6]
     requires { eighths < 8 }

@@ -1,36 +1,38 @@
+//! Tables of tokens and of coefficient positions.
+
 ghost use Rattle.std.specs.Prelude.{◌≡◌, ◌<◌, ◌≤◌, length};
 ghost use Rattle.vp_tables.specs.Tables.{band, zigzag, least_size, extra_probabilities};
 
 use crate::modes::Token;
 
-/// The band of each position of a block (RFC 6386, chapter 13.3).
+/// The band of each coefficient position (RFC 6386, chapter 13.3).
 pub const BANDS: [u8; 16] = [0, 1, 2, 3, 6, 4, 5, 6, 6, 6, 6, 6, 6, 6, 6, 7];
 
-/// The place, in raster order, of each position of a block (chapter 13).
+/// Zigzag order: the raster index of each coefficient position (chapter 13).
 pub const ZIGZAG: [u8; 16] = [0, 1, 4, 8, 5, 2, 3, 6, 9, 12, 13, 10, 7, 11, 14, 15];
 
-/// The least size of each category (chapter 13.2).
+/// The least magnitude of each category (chapter 13.2).
 pub const CATEGORY_BASES: [u16; 6] = [5, 7, 11, 19, 35, 67];
 
-/// The probabilities of the extra bits of category 1, the most significant first.
+/// Probabilities of the extra bit of category 1.
 const CATEGORY_1: [u8; 1] = [159];
 
-/// The probabilities of the extra bits of category 2, the most significant first.
+/// Probabilities of the extra bits of category 2, most significant first.
 const CATEGORY_2: [u8; 2] = [165, 145];
 
-/// The probabilities of the extra bits of category 3, the most significant first.
+/// Probabilities of the extra bits of category 3, most significant first.
 const CATEGORY_3: [u8; 3] = [173, 148, 140];
 
-/// The probabilities of the extra bits of category 4, the most significant first.
+/// Probabilities of the extra bits of category 4, most significant first.
 const CATEGORY_4: [u8; 4] = [176, 155, 140, 135];
 
-/// The probabilities of the extra bits of category 5, the most significant first.
+/// Probabilities of the extra bits of category 5, most significant first.
 const CATEGORY_5: [u8; 5] = [180, 157, 141, 134, 130];
 
-/// The probabilities of the extra bits of category 6, the most significant first.
+/// Probabilities of the extra bits of category 6, most significant first.
 const CATEGORY_6: [u8; 11] = [254, 254, 243, 230, 196, 177, 153, 140, 133, 130, 129];
 
-/// The band of a position, 0 to 7.
+/// The band of a coefficient position: 0 to 7.
 #[tactic(auto, unfolding(crate::specs::Tables::band))]
 pub fn band(position: usize) -> usize
     requires { position < 16 }
@@ -40,7 +42,7 @@ pub fn band(position: usize) -> usize
     BANDS[position] as usize
 }
 
-/// The place in raster order of a position.
+/// The raster index of a coefficient position: 0 to 15.
 #[tactic(auto, unfolding(crate::specs::Tables::zigzag))]
 pub fn zigzag(position: usize) -> usize
     requires { position < 16 }
@@ -50,7 +52,7 @@ pub fn zigzag(position: usize) -> usize
     ZIGZAG[position] as usize
 }
 
-/// The least size that a token stands for; 0 for the end of a block.
+/// The least magnitude that a token encodes; 0 for the end of block.
 #[tactic(auto, unfolding(crate::specs::Tables::least_size))]
 pub fn least_size(token: Token) -> u16
     ensures value { result ≡ least_size token }
@@ -71,7 +73,7 @@ pub fn least_size(token: Token) -> u16
     }
 }
 
-/// The probabilities of a token's extra bits, the most significant first; none but for the categories.
+/// The probabilities of a token's extra bits, most significant first. Empty unless the token is a category.
 #[tactic(auto, unfolding(crate::specs::Tables::extra_probabilities))]
 pub fn extra_probabilities(token: Token) -> &'static [u8]
     ensures value { result.now ≡ extra_probabilities token }

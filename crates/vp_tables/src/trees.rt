@@ -1,10 +1,12 @@
+//! The trees of all syntax elements that are coded by trees.
+
 use crate::modes::{ChromaMode, LumaMode, PartMode, SplitKind, SubMode, Token, VectorMode};
 use vp_tree::TreeEntry::{self, Leaf, Pair};
 
-/// The tree of a macroblock's segment, 0 to 3 (RFC 6386, chapter 10).
+/// Tree of segment ids, 0 to 3 (RFC 6386, chapter 10).
 pub const SEGMENT_TREE: [TreeEntry<u8>; 6] = [Pair(2), Pair(4), Leaf(0), Leaf(1), Leaf(2), Leaf(3)];
 
-/// The tree of a luma mode in a key frame (chapter 11.2).
+/// Tree of luma modes in key frames (chapter 11.2).
 pub const KEY_LUMA_TREE: [TreeEntry<LumaMode>; 8] = [
     Leaf(LumaMode::B),
     Pair(2),
@@ -16,7 +18,7 @@ pub const KEY_LUMA_TREE: [TreeEntry<LumaMode>; 8] = [
     Leaf(LumaMode::Tm),
 ];
 
-/// The tree of an intra macroblock's luma mode in an inter frame (chapter 16.1).
+/// Tree of luma modes of intra macroblocks in inter frames (chapter 16.1).
 pub const LUMA_TREE: [TreeEntry<LumaMode>; 8] = [
     Leaf(LumaMode::Dc),
     Pair(2),
@@ -28,7 +30,7 @@ pub const LUMA_TREE: [TreeEntry<LumaMode>; 8] = [
     Leaf(LumaMode::B),
 ];
 
-/// The tree of a chroma mode (chapter 11.4).
+/// Tree of chroma modes (chapter 11.4).
 pub const CHROMA_TREE: [TreeEntry<ChromaMode>; 6] = [
     Leaf(ChromaMode::Dc),
     Pair(2),
@@ -38,7 +40,7 @@ pub const CHROMA_TREE: [TreeEntry<ChromaMode>; 6] = [
     Leaf(ChromaMode::Tm),
 ];
 
-/// The tree of a subblock's mode (chapter 11.2).
+/// Tree of subblock modes (chapter 11.2).
 pub const SUB_TREE: [TreeEntry<SubMode>; 18] = [
     Leaf(SubMode::Dc),
     Pair(2),
@@ -60,7 +62,7 @@ pub const SUB_TREE: [TreeEntry<SubMode>; 18] = [
     Leaf(SubMode::Hu),
 ];
 
-/// The tree of an inter macroblock's vector mode (chapter 16.3).
+/// Tree of vector modes of inter macroblocks (chapter 16.3).
 pub const VECTOR_MODE_TREE: [TreeEntry<VectorMode>; 8] = [
     Leaf(VectorMode::Zero),
     Pair(2),
@@ -72,7 +74,7 @@ pub const VECTOR_MODE_TREE: [TreeEntry<VectorMode>; 8] = [
     Leaf(VectorMode::Split),
 ];
 
-/// The tree of how a macroblock is parted (chapter 16.4).
+/// Tree of split kinds (chapter 16.4).
 pub const SPLIT_TREE: [TreeEntry<SplitKind>; 6] = [
     Leaf(SplitKind::Sixteenths),
     Pair(2),
@@ -82,7 +84,7 @@ pub const SPLIT_TREE: [TreeEntry<SplitKind>; 6] = [
     Leaf(SplitKind::LeftRight),
 ];
 
-/// The tree of a part's vector mode (chapter 16.4).
+/// Tree of vector modes of parts (chapter 16.4).
 pub const PART_TREE: [TreeEntry<PartMode>; 6] = [
     Leaf(PartMode::Left),
     Pair(2),
@@ -92,7 +94,7 @@ pub const PART_TREE: [TreeEntry<PartMode>; 6] = [
     Leaf(PartMode::New),
 ];
 
-/// The tree of a vector's part below 8 (chapter 17.1).
+/// Tree of short magnitudes of a motion vector component, 0 to 7 (chapter 17.1).
 pub const SHORT_VECTOR_TREE: [TreeEntry<u8>; 14] = [
     Pair(2),
     Pair(8),
@@ -110,7 +112,8 @@ pub const SHORT_VECTOR_TREE: [TreeEntry<u8>; 14] = [
     Leaf(7),
 ];
 
-/// The tree of a token (chapter 13.2). After a zero token no end can come, and the walk starts at entry 2.
+/// Tree of tokens (chapter 13.2). A zero token is never followed by an end of block, so then the walk starts at entry
+/// 2.
 pub const TOKEN_TREE: [TreeEntry<Token>; 22] = [
     Leaf(Token::EndOfBlock),
     Pair(2),

@@ -2,8 +2,7 @@
 use Rattle.std.specs.Prelude.{◌≡◌, ◌≢◌, ◌<◌, ◌≤◌, ℕ, ◌-◌, ℤ, pos, Bool, nat_lt, List, length, replicate, slice_index_or}
 use Rattle.std.specs.Prelude.{unsigned_abs}
 
--- the levels by position, in the order in which they are read, and the position behind the last token before the end
--- of the block
+-- the levels in zigzag order, as they are coded, and the position after the last token before the end of block
 pub record Block : Type 0 where
   pub levels : List ℤ
   pub tokens : ℕ
@@ -12,20 +11,21 @@ pub record Block : Type 0 where
 abbrev pub no_tokens : Block
 no_tokens = record { levels = replicate 16 (pos 0); tokens = 0 }
 
--- whether a token was read before the end of the block
+-- whether the block has a token before its end
 abbrev pub has_token : Block → Bool
 has_token b = nat_lt 0 b.tokens
 
+-- the level at a position in zigzag order
 abbrev pub level_of : Block → ℕ → ℤ
 level_of b i = slice_index_or b.levels i (pos 0)
 
--- What holds of each block: no level is further than 2,114 from 0, and there is none behind the last token.
+-- The invariant of a block: each level is from -2114 to 2114, and levels after the last token are 0.
 pub record IsBlock (b : Block) : Type 0 where
   pub whole : length b.levels ≡ 16
   pub within : (i : ℕ) → unsigned_abs (level_of b i) ≤ 2114
   pub behind : (i : ℕ) → b.tokens ≤ i → level_of b i ≡ pos 0
   pub count : b.tokens ≤ 16
 
--- no zero token stands behind the last level that isn't 0, nor in a block without one
+-- the last token of the block is a nonzero level, if it has a token
 abbrev pub IsTight : Block → Type 0
 IsTight b = 0 < b.tokens → level_of b (b.tokens - 1) ≢ pos 0

@@ -1,18 +1,18 @@
--- The context flags that the code keeps while it reads a frame's tokens: nine for each column and nine for the row (RFC
--- 6386, chapter 13.3), and what they mean in terms of the blocks read before.
+-- The context flags that the code keeps while it reads the tokens of a frame (RFC 6386, chapter 13.3). There are nine
+-- for each column and nine for the row. Their meaning is stated in terms of the blocks read before.
 use Rattle.std.specs.Prelude.{◌≡◌, ◌<◌, ℕ, ◌+◌, ◌*◌, Bool, nat_lt, List, [], ◌∷◌, length, slice_index_or, if◌then◌else◌}
 use Rattle.vp_base.specs.declared.place.Place.{Place}
 use Rattle.vp_base.specs.Place as place
 use Rattle.vp_base.specs.Grid.{Grid, look}
 use Rattle.vp_tokens.specs.Blocks.{Blocks, no_blocks_read, flag_at, y2_above, y2_left}
 
--- nine flags of each column, and nine of the row: 4 of Y, 2 of U, 2 of V, 1 of Y2
+-- nine flags for each column, and nine for the row: 4 Y, 2 U, 2 V, 1 Y2
 pub record Contexts : Type 0 where
   pub above : List (List Bool)
   pub left : List Bool
 
--- which of the lowest blocks of a macroblock had a token, and which of those at its right side; behind them stands a
--- flag of Y2
+-- which blocks in the bottom rows of a macroblock have a token, and which in its right columns; each followed by a Y2
+-- flag
 abbrev pub lowest : List Bool → Bool → List Bool
 lowest had y2 =
     flag_at had 13 ∷ flag_at had 14 ∷ flag_at had 15 ∷ flag_at had 16 ∷ flag_at had 19 ∷ flag_at had 20 ∷ flag_at had 23
@@ -30,19 +30,18 @@ above_flags g p = lowest (look no_blocks_read g (place.above p)).had (y2_above g
 unfoldable pub left_flags : Grid Blocks → Place → List Bool
 left_flags g p = rightmost (look no_blocks_read g (place.left p)).had (y2_left g p)
 
--- the first macroblock of column u that wasn't read, where those before p, in raster order, were
+-- the first macroblock of column u that was not read; those before p in raster order were
 abbrev pub first_unread : Place → ℕ → Place
 first_unread p u = record { column = u; row = (if nat_lt u p.column then p.row + 1 else p.row) }
 
--- The flags stand for what g has of the macroblocks before p, in raster order. Behind a row p is the place right of
--- the row's last one,
--- or the first of the next row.
+-- The flags are those of the macroblocks before p, in raster order, in g. After a row, p is the place right of its
+-- last macroblock, or the first place of the next row.
 pub record AreContextsAt (g : Grid Blocks) (p : Place) (c : Contexts) : Type 0 where
   pub whole : length g.entries ≡ g.rows * g.columns
   pub columns : length c.above ≡ g.columns
   pub above : (u : ℕ) → u < g.columns → slice_index_or c.above u [] ≡ above_flags g (first_unread p u)
   pub left : 0 < p.column → c.left ≡ left_flags g p
 
--- the place of the next macroblock of a row
+-- the place to the right
 abbrev pub right : Place → Place
 right p = record { column = p.column + 1; row = p.row }

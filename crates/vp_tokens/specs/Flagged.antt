@@ -1,11 +1,11 @@
--- Inside the crate: the contexts of blocks by flags, and the flags behind a macroblock.
+-- Private to the crate: the contexts of blocks by flags, and the flags after a macroblock.
 use Rattle.std.specs.Prelude.{ℕ, ◌+◌, ◌-◌, ◌/◌, ◌%◌, ◌==◌, Bool, false, nat_lt, List, [], replicate, slice_index_or}
 use Rattle.std.specs.Prelude.{slice_set, if◌then◌else◌}
 use Rattle.vp_base.specs.declared.place.Place.{Place}
 use Rattle.vp_tokens.specs.Blocks.{Blocks, flag_at, true_count, y2_or}
 use Rattle.vp_tokens.specs.Contexts.{Contexts, lowest, rightmost}
 
--- the block above block k, and the one to its left: outside the macroblock by a flag, else one that was read before
+-- whether the block above block k has a token, and the one to its left: a flag outside the macroblock, else in had
 unfoldable pub above_flag : List Bool → List Bool → ℕ → Bool
 above_flag above had k =
     if k == 0 then flag_at above 8
@@ -23,6 +23,7 @@ left_flag left had k =
     else if nat_lt k 21 then (if (k - 17) % 2 == 0 then flag_at left (4 + (k - 17) / 2) else flag_at had (k - 1))
     else (if (k - 21) % 2 == 0 then flag_at left (6 + (k - 21) / 2) else flag_at had (k - 1))
 
+-- the context of the first token of block k
 abbrev pub by_flags : List Bool → List Bool → List Bool → ℕ → ℕ
 by_flags above left had k = true_count (above_flag above had k) (left_flag left had k)
 
@@ -30,7 +31,7 @@ by_flags above left had k = true_count (above_flag above had k) (left_flag left 
 abbrev pub left_at : Contexts → Place → List Bool
 left_at c p = if p.column == 0 then replicate 9 false else c.left
 
--- the flags behind the macroblock at p
+-- the flags after the macroblock at p
 abbrev pub flags_after : Contexts → Place → Blocks → Contexts
 flags_after c p m = record {
   above = slice_set c.above p.column (lowest m.had (y2_or m (flag_at (slice_index_or c.above p.column []) 8)));

@@ -1,4 +1,4 @@
--- Inside the crate: the blocks of a macroblock by nine flags above them and nine to their left, which go along.
+-- Private to the crate: reading the blocks of a macroblock while nine flags above and nine to the left are updated.
 use Rattle.std.specs.Prelude.{ℕ, ◌+◌, ◌-◌, Bool, List, slice_index, slice_set}
 use Rattle.vp_bool.specs.Reader.{Reader, ◌>>=◌, give, when, rows}
 use Rattle.vp_tokens.specs.declared.block.BlockKind.{BlockKind}
@@ -9,22 +9,23 @@ use Rattle.vp_tokens.specs.Block.{Block, has_token}
 use Rattle.vp_tokens.specs.Levels.{Probabilities, bands_of, first_of, levels, block_with}
 use Rattle.vp_tokens.specs.Blocks.{flag_at, true_count, kind_of}
 
--- the blocks of a macroblock while they are read, and the flags round those to come
+-- the blocks of a macroblock while they are read, and the flags of the blocks around the remaining ones
 pub record Reading : Type 0 where
   pub blocks : List Block
   pub above : List Bool
   pub left : List Bool
 
+-- blocks and flags as one state
 abbrev pub reading : List Block → Flags → Reading
 reading blocks flags = record { blocks = blocks; above = flags.above; left = flags.left }
 
--- a block by the probabilities of its type, from its first position on
+-- a block with the probabilities of its type, from its first position on
 unfoldable pub banded : List (List (List ℕ)) → ℕ → ℕ → Reader Block
 banded bands first context = do
   found ← levels bands (16 - first) first context 0
   give (block_with first found)
 
--- block k, whose flag stands for it from then on
+-- block k, whose flag replaces those above and to the left
 unfoldable pub placed : List (List (List ℕ)) → ℕ → ℕ → Reading → Reader Reading
 placed bands first k r = do
   b ← banded bands first (true_count (flag_at r.above (slice_index ABOVE k)) (flag_at r.left (slice_index LEFT k)))
@@ -38,7 +39,7 @@ placed bands first k r = do
 unfoldable pub plane : Probabilities → BlockKind → ℕ → ℕ → Reading → Reader Reading
 plane probabilities kind k n = rows n (λ j. placed (bands_of probabilities kind) (first_of kind) (k + j))
 
--- those of a macroblock
+-- all blocks of a macroblock
 unfoldable pub all_placed : Probabilities → Bool → Reading → Reader Reading
 all_placed probabilities has_y2 r = do
   y2 ← when has_y2 (plane probabilities kind_is.Y2 0 1 r) r

@@ -1,53 +1,53 @@
--- Inside the crate: the walk of the token tree, written out pair by pair.
+-- Private to the crate: the walk of the token tree, unrolled pair by pair.
 use Rattle.std.specs.Prelude.{ℕ, zero, suc, ◌≡◌, ◌⊎◌, Bool, false, not, List, slice_index, if◌then◌else◌}
 use Rattle.vp_bool.specs.Bools.{read}
 use Rattle.vp_bool.specs.Reader.{Reader, ◌>>=◌, give}
 use Rattle.vp_tables.specs.declared.modes.Token.{Token}
 use Rattle.vp_tables.specs.declared.modes.Token.TheVariants as token_is
 
--- one of two tokens, by the probability at place i
+-- one of two tokens, with the probability at index i
 abbrev pub one_of : ℕ → Token → Token → List ℕ → Reader Token
 one_of i low high row = do
   b ← read (slice_index row i)
   give (if b then high else low)
 
--- behind the pair at 16
+-- the walk from the pair at index 16
 unfoldable pub far : List ℕ → Reader Token
 far row = do
   b ← read (slice_index row 8)
   if b then one_of 10 token_is.Category5 token_is.Category6 row else one_of 9 token_is.Category3 token_is.Category4 row
 
--- behind the pair at 12
+-- the walk from the pair at index 12
 unfoldable pub middle : List ℕ → Reader Token
 middle row = do
   b ← read (slice_index row 6)
   if b then far row else one_of 7 token_is.Category1 token_is.Category2 row
 
--- behind the pair at 8
+-- the walk from the pair at index 8
 unfoldable pub few : List ℕ → Reader Token
 few row = do
   b ← read (slice_index row 4)
   if b then one_of 5 token_is.Three token_is.Four row else give token_is.Two
 
--- behind the pair at 6
+-- the walk from the pair at index 6
 unfoldable pub large : List ℕ → Reader Token
 large row = do
   b ← read (slice_index row 3)
   if b then middle row else few row
 
--- behind the pair at 4
+-- the walk from the pair at index 4
 unfoldable pub some : List ℕ → Reader Token
 some row = do
   b ← read (slice_index row 2)
   if b then large row else give token_is.One
 
--- behind the pair at 2
+-- the walk from the pair at index 2
 unfoldable pub more : List ℕ → Reader Token
 more row = do
   b ← read (slice_index row 1)
   if b then some row else give token_is.Zero
 
--- where a walk starts: at the root, or behind the end of the block
+-- a walk starts at the root, or at pair 2, which skips the end of block
 abbrev pub IsStart : ℕ → Type 0
 IsStart from = (from ≡ 0) ⊎ (from ≡ 2)
 
@@ -58,7 +58,7 @@ end_of_block row zero = do
   give (not b)
 end_of_block row (suc n) = give false
 
--- the context behind a token
+-- the context after a token
 abbrev pub context_behind : Token → ℕ
 context_behind token_is.EndOfBlock = 0
 context_behind token_is.Zero = 0

@@ -1,17 +1,17 @@
--- Inside the crate: how far writing has come, and the token that tells a size.
+-- Private to the crate: the blocks written so far, and the token of a magnitude.
 use Rattle.std.specs.Prelude.{◌≡◌, ◌<◌, ◌≤◌, ℕ, zero, suc, ◌+◌, ◌^◌, false, List, [], ◌∷◌, length}
 use Rattle.vp_tables.specs.declared.modes.Token.{Token}
 use Rattle.vp_tables.specs.Tables.{least_size, extra_probabilities}
 use Rattle.vp_tokens.specs.Block.{Block, no_tokens}
 use Rattle.vp_tokens.specs.Levels.{is_end}
 
--- The token tells the size s: what s is above the token's least size is told by its extra bits.
+-- The token encodes magnitude s: its extra bits encode the difference between s and its least magnitude.
 pub record IsTokenOf (t : Token) (s : ℕ) : Type 0 where
   pub goes_on : is_end t ≡ false
   pub least : least_size t ≤ s
   pub extra : s < least_size t + 2 ^ length (extra_probabilities t)
 
--- the first n items, and others for what stands behind them
+-- the first n items, and other for each later one
 abbrev pub padded_prefix : {X : Type 0} → X → ℕ → List X → List X
 padded_prefix other n [] = []
 padded_prefix other zero (x ∷ xs) = other ∷ padded_prefix other zero xs

@@ -1,3 +1,5 @@
+//! The coefficient levels of a block, and reading them.
+
 ghost use Rattle.std.specs.Prelude.{◌≡◌, ◌≤◌, ◌<◌, ◌+◌, ℕ, pos, slice_index_or, slice_set, unsigned_abs};
 ghost use Rattle.vp_tokens.specs.Block.{has_token, no_tokens, IsTight, IsBlock};
 ghost use Rattle.vp_tokens.specs.Levels.{Probabilities, bands_of, first_of, row, token, is_end, pair_after};
@@ -10,13 +12,12 @@ use std::marker::Model;
 use vp_bool::BoolDecoder;
 use vp_tables::{Token, band};
 
-/// The levels of a block of 4 by 4 coefficients: none is further than 2,114 from 0, and none stands behind the last
-/// token.
+/// The levels of a 4x4 block of coefficients. Each level is from -2,114 to 2,114; levels after the last token are 0.
 #[derive(Clone, Copy, Debug, PartialEq, Eq)]
 pub struct Block {
-    /// By position, in the order in which they are read; the residue layer puts them into raster order.
+    /// The levels in zigzag order, as they are coded.
     pub levels: [i16; 16],
-    /// The position behind the last token that was read before the end of the block; 0 where none was.
+    /// The end of block: the position after the last token; 0 if the block has no token.
     pub tokens: u8,
 }
 
@@ -32,27 +33,27 @@ impl Model for Block {
     ghost inverse = { λ b. record { levels = b.levels; tokens = b.tokens } };
 }
 
-/// The types of block, by which probabilities are chosen (RFC 6386, chapter 13.3).
+/// The type of a block, which selects its token probabilities (RFC 6386, chapter 13.3).
 #[derive(Clone, Copy, Debug, PartialEq, Eq)]
 pub enum BlockKind {
-    /// Luma of a macroblock with a Y2 block, which has the levels of position 0.
+    /// Luma in a macroblock with a Y2 block, which contains the levels of position 0.
     LumaAfterY2,
-    /// The levels of position 0 of the sixteen luma blocks, transformed once more.
+    /// Y2: the DC levels of the sixteen luma blocks, transformed once more.
     Y2,
-    /// U or V.
+    /// Chroma: U or V.
     Chroma,
-    /// Luma of a macroblock without a Y2 block.
+    /// Luma in a macroblock without a Y2 block.
     Luma,
 }
 
 impl Block {
-    /// Without tokens: all levels are 0.
+    /// A block without tokens: all levels are 0.
     pub const NONE: Block = Block {
         levels: [0; 16],
         tokens: 0,
     };
 
-    /// The block of these levels: its tokens end with the last level that isn't 0.
+    /// The block of these levels. Its last token is the last nonzero level.
     pub fn of_levels(levels: &[i16; 16]) -> Block
         requires { (i : ℕ) → unsigned_abs (slice_index_or levels.now i (pos 0)) ≤ 2114 }
         ensures levels { result.levels ≡ levels.now }
@@ -69,14 +70,14 @@ impl Block {
         }
     }
 
-    /// Whether a token was read before the end of the block.
+    /// Whether the block has a token before its end.
     pub fn has_token(&self) -> bool
         ensures { result ≡ has_token self.now }
     {
         self.tokens > 0
     }
 
-    /// Puts the level of the next token.
+    /// Stores the level of the next token.
     #[inline(always)]
     fn put(&mut self, position: usize, level: i16)
         requires position { position < 16 }
@@ -89,7 +90,7 @@ impl Block {
     }
 }
 
-/// The probabilities of a type of block, by band, context and pair of the tree.
+/// The probabilities of a block type, by band, context and token tree pair.
 pub(crate) fn bands_of(
     probabilities: &[[[[u8; 11]; 3]; 8]; 4],
     kind: BlockKind,
@@ -104,7 +105,7 @@ pub(crate) fn bands_of(
     }
 }
 
-/// The position of the first token.
+/// The position of the first token: 1 for luma after Y2, else 0.
 pub(crate) fn first_of(kind: BlockKind) -> usize
     ensures value { result ≡ first_of kind }
     ensures small { result ≤ 1 }
@@ -115,7 +116,7 @@ pub(crate) fn first_of(kind: BlockKind) -> usize
     }
 }
 
-/// The probabilities at a position and in a context.
+/// The probabilities at a position, in a context.
 #[tactic(auto, unfolding(crate::specs::Levels::row))]
 pub(crate) fn row_of(bands: &[[[u8; 11]; 3]; 8], position: usize, context: usize) -> &[u8; 11]
     requires position_in { position < 16 }
@@ -125,7 +126,7 @@ pub(crate) fn row_of(bands: &[[[u8; 11]; 3]; 8], position: usize, context: usize
     &bands[band(position)][context]
 }
 
-/// The token at a position, from a pair of the tree on.
+/// Reads the token at a position, from a pair of the tree on.
 #[inline(always)]
 #[tactic(auto, unfolding(crate::specs::Levels::token))]
 fn read_token(
@@ -144,14 +145,14 @@ fn read_token(
     walked(row_of(bands, position, context), from, d)
 }
 
-/// Whether no further token of the block follows.
+/// Whether the token is the end of block.
 fn is_end(token: Token) -> bool
     ensures { result ≡ is_end token }
 {
     matches!(token, Token::EndOfBlock)
 }
 
-/// The pair where the walk after a level of this size starts: none ends a block right behind a 0.
+/// The pair at which the walk for the token after a level of this magnitude starts. No end of block follows a 0.
 pub(crate) fn start_after(size: u16) -> usize
     ensures value { result ≡ pair_after size }
     ensures start { IsStart result }
@@ -159,7 +160,7 @@ pub(crate) fn start_after(size: u16) -> usize
     if size == 0 { 2 } else { 0 }
 }
 
-/// Reads the tokens of a block by the probabilities of its type, from its first position on, in this context.
+/// Reads the tokens of a block from its first position on, with the probabilities of its type and this context.
 #[inline(always)]
 pub(crate) fn read_block(
     bands: &[[[u8; 11]; 3]; 8],

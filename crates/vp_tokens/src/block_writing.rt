@@ -1,3 +1,5 @@
+//! Writing the tokens of a block.
+
 ghost use Rattle.std.specs.Prelude.{◌≡◌, ◌⊎◌, ◌<◌, false, OnOk};
 ghost use Rattle.vp_bool.specs.Writing.{Writes};
 ghost use Rattle.vp_tokens.specs.Levels.{token, is_end, coefficient_block};
@@ -10,7 +12,7 @@ use vp_bool::BoolEncoder;
 use vp_tables::{TOKEN_TREE, Token};
 use vp_tree::write_tree_from;
 
-/// The token at a position, from a pair of the tree on.
+/// Writes the token at a position, from a pair of the tree on.
 fn write_token(
     bands: &[[[u8; 11]; 3]; 8],
     position: usize,
@@ -28,7 +30,7 @@ fn write_token(
     Ok(())
 }
 
-/// The tokens of a block of this type in this context.
+/// Writes the tokens of a block of this type, in this context.
 pub(crate) fn write_block(
     probabilities: &[[[[u8; 11]; 3]; 8]; 4],
     kind: BlockKind,

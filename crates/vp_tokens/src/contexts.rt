@@ -1,3 +1,5 @@
+//! The blocks of a macroblock, and the token contexts of a frame.
+
 ghost use Rattle.std.specs.Prelude.{◌≡◌, ℕ, pos, Bool, true, false, ◌<◌, ◌≤◌, [], length, slice_index_or, slice_set};
 ghost use Rattle.std.specs.Prelude.{unsigned_abs, IfOk};
 ghost use Rattle.vp_base.specs.declared.place.Place.{Place};
@@ -13,20 +15,20 @@ use std::alloc::{AllocError, Global};
 use std::marker::Model;
 use vp_base::Place;
 
-/// The blocks of a macroblock: Y2, 16 of Y, 4 of U, 4 of V, each plane in raster order (RFC 6386, chapter 13).
+/// The blocks of a macroblock: Y2, 16 Y, 4 U, 4 V, each plane in raster order (RFC 6386, chapter 13).
 #[derive(Clone, Copy, Debug, PartialEq, Eq)]
 pub struct Tokens {
-    /// Without a Y2 block the first one has no tokens.
+    /// The 25 blocks. If the macroblock has no Y2 block, the first one has no tokens.
     pub blocks: [Block; 25],
 }
 
 impl Tokens {
-    /// Those of a skipped macroblock: no block has any.
+    /// The blocks of a skipped macroblock: none has a token.
     pub const NONE: Tokens = Tokens {
         blocks: [Block::NONE; 25],
     };
 
-    /// The blocks of these levels: the tokens of each end with its last level that isn't 0.
+    /// The blocks of these levels. The last token of each is its last nonzero level.
     pub fn of_levels(levels: &[[i16; 16]; 25]) -> Tokens
         requires { (k i : ℕ) → unsigned_abs (slice_index_or (levels_of levels.now k) i (pos 0)) ≤ 2114 }
         ensures levels { (k : ℕ) → k < 25 → (block_of result k).levels ≡ levels_of levels.now k }
@@ -41,7 +43,7 @@ impl Tokens {
         Tokens { blocks }
     }
 
-    /// Whether some block had a token before its end.
+    /// Whether any block has a token before its end.
     pub fn any(&self) -> bool
         ensures { result ≡ any_token self.now }
     {
@@ -49,9 +51,9 @@ impl Tokens {
     }
 }
 
-/// Which blocks above and to the left of the next macroblock had a token before their end.
+/// The token contexts: which blocks above and to the left of the next macroblock have a token before their end.
 ///
-/// Nine flags for each column and nine for the row: 4 of Y, 2 of U, 2 of V, 1 of Y2.
+/// Nine flags for each column, and nine for the row: 4 Y, 2 U, 2 V, 1 Y2.
 #[derive(Drop)]
 pub struct Contexts {
     above: Vec<[bool; 9]>,
@@ -66,7 +68,7 @@ impl Model for Contexts {
     ghost view = { λ c. record { above = c.above.items; left = c.left } };
 }
 
-/// How many of the two.
+/// The number of flags that are set: 0 to 2.
 pub(crate) fn count(above: bool, left: bool) -> usize
     ensures value { result ≡ true_count above left }
     ensures small { result ≤ 2 }
@@ -74,7 +76,7 @@ pub(crate) fn count(above: bool, left: bool) -> usize
     above as usize + left as usize
 }
 
-/// Whether a block of this macroblock had a token.
+/// Whether block `k` of this macroblock has a token.
 fn had(blocks: &[Block; 25], k: usize) -> bool
     requires { k < 25 }
     ensures { result ≡ flag_at (had_of blocks.now) k }
@@ -82,7 +84,7 @@ fn had(blocks: &[Block; 25], k: usize) -> bool
     blocks[k].has_token()
 }
 
-/// Whether the block above block k had a token.
+/// Whether the block above block `k` has a token.
 #[tactic(auto, unfolding(crate::specs::Flagged::above_flag))]
 pub(crate) fn had_above(above: &[bool; 9], blocks: &[Block; 25], k: usize) -> bool
     requires { k < 25 }
@@ -105,7 +107,7 @@ pub(crate) fn had_above(above: &[bool; 9], blocks: &[Block; 25], k: usize) -> bo
     }
 }
 
-/// Whether the block to the left of block k had a token.
+/// Whether the block to the left of block `k` has a token.
 #[tactic(auto, unfolding(crate::specs::Flagged::left_flag))]
 pub(crate) fn had_left(left: &[bool; 9], blocks: &[Block; 25], k: usize) -> bool
     requires { k < 25 }
@@ -132,7 +134,7 @@ pub(crate) fn had_left(left: &[bool; 9], blocks: &[Block; 25], k: usize) -> bool
     }
 }
 
-/// The type of block k.
+/// The type of block `k`.
 pub(crate) fn kind_of(has_y2: bool, k: usize) -> BlockKind
     ensures { result ≡ kind_of has_y2 k }
 {
@@ -147,14 +149,14 @@ pub(crate) fn kind_of(has_y2: bool, k: usize) -> BlockKind
     }
 }
 
-/// The Y2 flag behind a macroblock, where `old` is the one before it.
+/// The Y2 flag after a macroblock; without a Y2 block it stays `old`.
 fn y2_flag(old: bool, has_y2: bool, blocks: &[Block; 25]) -> bool
     ensures { result ≡ y2_or (record { has_y2 = has_y2; had = had_of blocks.now }) old }
 {
     if has_y2 { had(blocks, 0) } else { old }
 }
 
-/// The flags below a macroblock, with that of Y2.
+/// The flags for the macroblock below, with this Y2 flag.
 fn lowest(blocks: &[Block; 25], y2: bool) -> [bool; 9]
     ensures { result ≡ lowest (had_of blocks.now) y2 }
 {
@@ -171,7 +173,7 @@ fn lowest(blocks: &[Block; 25], y2: bool) -> [bool; 9]
     ]
 }
 
-/// The flags to the right of a macroblock, with that of Y2.
+/// The flags for the macroblock to the right, with this Y2 flag.
 fn rightmost(blocks: &[Block; 25], y2: bool) -> [bool; 9]
     ensures { result ≡ rightmost (had_of blocks.now) y2 }
 {
@@ -189,7 +191,7 @@ fn rightmost(blocks: &[Block; 25], y2: bool) -> [bool; 9]
 }
 
 impl Contexts {
-    /// Those of no columns, for which no memory is asked.
+    /// Contexts of no columns. Allocates nothing.
     pub fn empty(alloc: Global) -> Contexts
         ensures { result.above ≡ [] }
     {
@@ -199,7 +201,7 @@ impl Contexts {
         }
     }
 
-    /// Before the first macroblock of a frame of so many columns of macroblocks.
+    /// Allocates contexts for a frame of this many macroblock columns, before its first macroblock.
     pub fn new(alloc: Global, columns: usize) -> Result<Contexts, AllocError>
         ensures stands { IfOk result (λ c. (rows : ℕ) → AreContextsAt (all columns rows no_blocks_read)
             (record { column = 0; row = 0 }) c) }
@@ -208,7 +210,7 @@ impl Contexts {
         Contexts::empty(alloc).refill(columns)
     }
 
-    /// The same, in the memory of these.
+    /// Resets the contexts to `new(columns)`. Allocates only if the buffer is too small.
     pub fn refill(self, columns: usize) -> Result<Contexts, AllocError>
         ensures stands { IfOk result (λ c. (rows : ℕ) → AreContextsAt (all columns rows no_blocks_read)
             (record { column = 0; row = 0 }) c) }
@@ -242,7 +244,7 @@ impl Contexts {
         }
     }
 
-    /// Keeps which blocks of the macroblock at a place had a token.
+    /// Stores which blocks of the macroblock at a place have a token.
     pub(crate) fn keep(&mut self, place: Place, has_y2: bool, blocks: &[Block; 25])
         requires { place.column < length self.old.above }
         ensures { self.new ≡ flags_after self.old place (record { has_y2 = has_y2; had = had_of blocks.now }) }
@@ -252,7 +254,7 @@ impl Contexts {
         self.put(place, lowest(blocks, above), rightmost(blocks, left));
     }
 
-    /// Keeps the flags below the macroblock at a place, and those to its right.
+    /// Stores the flags for the macroblocks below and to the right of the one at a place.
     pub(crate) fn put(&mut self, place: Place, lower: [bool; 9], right: [bool; 9])
         requires { place.column < length self.old.above }
         ensures { self.new ≡ record { above = slice_set self.old.above place.column lower; left = right } }

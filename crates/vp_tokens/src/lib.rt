@@ -1,5 +1,4 @@
-//! The token partitions of a packet, and the coefficient levels of its macroblocks, read and written (RFC 6386,
-//! chapters 9.5
+//! Token partitions of a packet, and reading and writing the coefficient levels of macroblocks (RFC 6386, chapters 9.5
 //! and 13).
 #![tactic(auto)]
 

@@ -16,24 +16,24 @@ use crate::contexts::{Contexts, Tokens, count, kind_of};
 use vp_base::Place;
 use vp_bool::BoolDecoder;
 
-/// Whether the blocks above and to the left of those to come had a token: 4 of Y, 2 of U, 2 of V, 1 of Y2.
+/// Which blocks above and to the left of the remaining blocks have a token: 4 Y, 2 U, 2 V, 1 Y2.
 #[derive(Clone, Copy)]
 struct Flags {
     above: [bool; 9],
     left: [bool; 9],
 }
 
-/// Where the flag of each block stands among the nine above.
+/// By block: the index of its flag among the nine above.
 const ABOVE: [u8; 25] = [
     8, 0, 1, 2, 3, 0, 1, 2, 3, 0, 1, 2, 3, 0, 1, 2, 3, 4, 5, 4, 5, 6, 7, 6, 7,
 ];
 
-/// Where it stands among the nine to the left.
+/// By block: the index of its flag among the nine to the left.
 const LEFT: [u8; 25] = [
     8, 0, 0, 0, 0, 1, 1, 1, 1, 2, 2, 2, 2, 3, 3, 3, 3, 4, 4, 5, 5, 6, 6, 7, 7,
 ];
 
-/// Reads block k, and keeps its flag for the blocks below it and to its right.
+/// Reads block `k`, and stores its flag for the blocks below and to the right.
 #[inline(always)]
 #[tactic(auto, unfolding(crate::specs::Placed::placed, vp_bool::specs::Reader::bind))]
 fn read_placed(
@@ -59,7 +59,7 @@ fn read_placed(
     flags.left[side] = had;
 }
 
-/// Reads so many blocks of one type, from block k on, which have no tokens yet.
+/// Reads `count` blocks of one type from block `k` on. They must have no tokens yet.
 #[inline(never)]
 fn read_plane(
     probabilities: &[[[[u8; 11]; 3]; 8]; 4],
@@ -79,7 +79,7 @@ fn read_plane(
 {
     let bands = bands_of(probabilities, kind);
     let first = first_of(kind);
-    // The compiler keeps a decoder of its own in registers.
+    // The compiler keeps a local decoder in registers.
     let mut own = d.copy();
     for i in 0..count {
         read_placed(bands, first, k + i, blocks, flags, &mut own);
@@ -87,7 +87,7 @@ fn read_plane(
     *d = own;
 }
 
-/// Reads all blocks, which have no tokens yet.
+/// Reads all blocks. They must have no tokens yet.
 fn read_all(
     probabilities: &[[[[u8; 11]; 3]; 8]; 4],
     has_y2: bool,
@@ -108,7 +108,7 @@ fn read_all(
     read_plane(probabilities, BlockKind::Chroma, 17, 8, blocks, flags, d);
 }
 
-/// The flags behind a macroblock without tokens.
+/// The flags after a macroblock without tokens.
 fn flags_without(old: &[bool; 9], has_y2: bool) -> [bool; 9]
     ensures lowest { result ≡ lowest (had_of no_blocks) (y2_or (record { has_y2 = has_y2; had = had_of no_blocks })
         (flag_at old.now 8)) }
@@ -119,7 +119,7 @@ fn flags_without(old: &[bool; 9], has_y2: bool) -> [bool; 9]
     [false, false, false, false, false, false, false, false, y2]
 }
 
-/// Reads all blocks, which have no tokens yet, unless the macroblock is skipped.
+/// Reads all blocks, unless the macroblock is skipped. They must have no tokens yet.
 fn read_unless(
     skipped: bool,
     probabilities: &[[[[u8; 11]; 3]; 8]; 4],
@@ -146,10 +146,10 @@ fn read_unless(
     }
 }
 
-/// Reads the tokens of the macroblock at a place, from the partition of its row, over whatever `tokens` were. A frame's
-/// macroblocks are read in raster order.
+/// Reads the tokens of the macroblock at `place` from the partition of its row, and updates the contexts. `tokens` is
+/// overwritten. The macroblocks of a frame must be read in raster order.
 ///
-/// `has_y2` is false where the luma is predicted or moved by subblocks. Of a skipped macroblock nothing is read.
+/// `has_y2` is false for luma modes `B_PRED` and `SPLITMV`. If the macroblock is skipped, nothing is read.
 pub fn read_macroblock(
     probabilities: &[[[[u8; 11]; 3]; 8]; 4],
     contexts: &mut Contexts,
@@ -181,11 +181,10 @@ pub fn read_macroblock(
     contexts.put(place, flags.above, flags.left);
 }
 
-/// Passes the skipped macroblock at a place: nothing is read of it, its tokens are [`Tokens::NONE`], and the
-/// contexts are
-/// left as [`read_macroblock`] leaves them. A frame's macroblocks are passed and read in raster order.
+/// Updates the contexts for the skipped macroblock at `place`, whose tokens are [`Tokens::NONE`], as
+/// [`read_macroblock`] does. The macroblocks of a frame must be passed or read in raster order.
 ///
-/// `has_y2` is false where the luma is predicted or moved by subblocks.
+/// `has_y2` is false for luma modes `B_PRED` and `SPLITMV`.
 pub fn pass_macroblock(contexts: &mut Contexts, place: Place, has_y2: bool)
     requires { place.column < length contexts.old.above }
     ensures value { (g : Grid Blocks) (d : State) (probabilities : Probabilities) → AreContextsAt g place contexts.old

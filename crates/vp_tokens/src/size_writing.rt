@@ -1,3 +1,5 @@
+//! Writing the extra bits and the sign of a level.
+
 ghost use Rattle.std.specs.Prelude.{◌≡◌, ◌<◌, ◌≤◌, ◌^◌, length, unsigned_abs, OnOk};
 ghost use Rattle.vp_bool.specs.Writing.{Writes};
 ghost use Rattle.vp_tokens.specs.Levels.{bits, size, signed_level};
@@ -7,7 +9,7 @@ use std::alloc::AllocError;
 use vp_bool::BoolEncoder;
 use vp_tables::{Token, extra_probabilities, least_size};
 
-/// A number of one bit for each probability, the most significant first.
+/// Writes a number of one bit for each probability, most significant first.
 fn write_bits(value: u16, probabilities: &[u8], e: &mut BoolEncoder) -> Result<(), AllocError>
     requires few { length probabilities.now ≤ 11 }
     requires fits { value < 2 ^ length probabilities.now }
@@ -21,7 +23,7 @@ fn write_bits(value: u16, probabilities: &[u8], e: &mut BoolEncoder) -> Result<(
     Ok(())
 }
 
-/// The token of a size.
+/// The token of a magnitude.
 #[tactic(auto, unfolding(vp_tables::specs::Tables::least_size, vp_tables::specs::Tables::extra_probabilities))]
 pub(crate) fn token_of(value: u16) -> Token
     requires { value ≤ 2114 }
@@ -42,7 +44,7 @@ pub(crate) fn token_of(value: u16) -> Token
     }
 }
 
-/// What follows a token to tell a size.
+/// Writes the extra bits of a magnitude.
 #[tactic(auto, unfolding(crate::specs::Levels::size))]
 pub(crate) fn write_size(token: Token, value: u16, e: &mut BoolEncoder) -> Result<(), AllocError>
     requires { IsTokenOf token value }
@@ -52,7 +54,7 @@ pub(crate) fn write_size(token: Token, value: u16, e: &mut BoolEncoder) -> Resul
     Ok(())
 }
 
-/// The sign of a level that isn't 0.
+/// Writes the sign of a level, unless the level is 0.
 pub(crate) fn write_signed(level: i16, e: &mut BoolEncoder) -> Result<(), AllocError>
     requires { unsigned_abs level ≤ 2114 }
     ensures { OnOk result (Writes (signed_level (unsigned_abs level)) e.old e.new level) }

@@ -1,3 +1,5 @@
+//! Reading the extra bits and the sign of a level.
+
 ghost use Rattle.std.specs.Prelude.{◌≡◌, ◌≤◌, ◌<◌, ◌^◌, length, unsigned_abs};
 ghost use Rattle.vp_tables.specs.Tables.{least_size};
 ghost use Rattle.vp_tokens.specs.Levels.{bits, size, signed_level, context_after};
@@ -6,7 +8,7 @@ ghost use Rattle.vp_tokens.specs.Walks.{context_behind};
 use vp_bool::BoolDecoder;
 use vp_tables::{Token, extra_probabilities, least_size};
 
-/// A number of one bit for each probability, the most significant first.
+/// Reads a number of one bit for each probability, most significant first.
 #[inline(always)]
 fn read_bits(probabilities: &[u8], d: &mut BoolDecoder) -> u16
     requires { length probabilities.now ≤ 11 }
@@ -21,7 +23,7 @@ fn read_bits(probabilities: &[u8], d: &mut BoolDecoder) -> u16
     value
 }
 
-/// The size that a token stands for which has extra bits.
+/// Reads the magnitude of a token that has extra bits.
 #[inline(always)]
 #[tactic(auto, unfolding(crate::specs::Levels::size, vp_bool::specs::Reader::bind))]
 fn read_category(token: Token, d: &mut BoolDecoder) -> u16
@@ -34,7 +36,7 @@ fn read_category(token: Token, d: &mut BoolDecoder) -> u16
     least_size(token) + extra
 }
 
-/// The size that a token stands for.
+/// Reads the magnitude of a token.
 #[inline(always)]
 #[tactic(auto, unfolding(crate::specs::Levels::size, crate::specs::Levels::bits, vp_tables::specs::Tables::least_size, vp_tables::specs::Tables::extra_probabilities, vp_bool::specs::Reader::bind))]
 pub(crate) fn read_size(token: Token, d: &mut BoolDecoder) -> u16
@@ -43,7 +45,7 @@ pub(crate) fn read_size(token: Token, d: &mut BoolDecoder) -> u16
     ensures small { result ≤ 2114 }
     ensures context { context_behind token ≡ context_after result }
 {
-    // Each type has an arm of its own, so that it is compiled with its own probabilities.
+    // Each token has its own arm, so that each is compiled with its own probabilities.
     match token {
         Token::EndOfBlock | Token::Zero => 0,
         Token::One => 1,
@@ -59,7 +61,7 @@ pub(crate) fn read_size(token: Token, d: &mut BoolDecoder) -> u16
     }
 }
 
-/// The context behind a token.
+/// The context after a token.
 #[inline(always)]
 pub(crate) fn context_behind(token: Token) -> usize
     ensures value { result ≡ context_behind token }
@@ -72,7 +74,7 @@ pub(crate) fn context_behind(token: Token) -> usize
     }
 }
 
-/// The level of this size, whose sign is read where it isn't 0.
+/// Reads the sign of a magnitude, unless it is 0, and returns the level.
 #[inline(always)]
 #[tactic(auto, unfolding(crate::specs::Levels::signed_level, vp_bool::specs::Reader::bind))]
 pub(crate) fn read_signed(size: u16, d: &mut BoolDecoder) -> i16

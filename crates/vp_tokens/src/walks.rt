@@ -1,4 +1,4 @@
-//! The walk of the token tree, written out (RFC 6386, chapter 13.2).
+//! The walk of the token tree, unrolled (RFC 6386, chapter 13.2).
 ghost use Rattle.std.specs.Prelude.{◌≡◌, ◌≤◌, ◌<◌};
 ghost use Rattle.vp_tables.specs.declared.trees.TheConstants.{TOKEN_TREE};
 ghost use Rattle.vp_tables.specs.declared.modes.Token.TheVariants as token_is;
@@ -8,7 +8,7 @@ ghost use Rattle.vp_tokens.specs.Walks.{far, middle, few, large, some, more, end
 use vp_bool::BoolDecoder;
 use vp_tables::Token;
 
-/// Behind the pair at 16.
+/// The walk from the pair at index 16.
 #[inline(always)]
 #[tactic(auto, unfolding(crate::specs::Walks::far, vp_bool::specs::Reader::bind))]
 fn far(row: &[u8; 11], d: &mut BoolDecoder) -> Token
@@ -28,7 +28,7 @@ fn far(row: &[u8; 11], d: &mut BoolDecoder) -> Token
     }
 }
 
-/// Behind the pair at 12.
+/// The walk from the pair at index 12.
 #[inline(always)]
 #[tactic(auto, unfolding(crate::specs::Walks::middle, vp_bool::specs::Reader::bind))]
 fn middle(row: &[u8; 11], d: &mut BoolDecoder) -> Token
@@ -44,7 +44,7 @@ fn middle(row: &[u8; 11], d: &mut BoolDecoder) -> Token
     }
 }
 
-/// Behind the pair at 8.
+/// The walk from the pair at index 8.
 #[inline(always)]
 #[tactic(auto, unfolding(crate::specs::Walks::few, vp_bool::specs::Reader::bind))]
 fn few(row: &[u8; 11], d: &mut BoolDecoder) -> Token
@@ -62,7 +62,7 @@ fn few(row: &[u8; 11], d: &mut BoolDecoder) -> Token
     }
 }
 
-/// Behind the pair at 6.
+/// The walk from the pair at index 6.
 #[inline(always)]
 #[tactic(auto, unfolding(crate::specs::Walks::large, vp_bool::specs::Reader::bind))]
 fn large(row: &[u8; 11], d: &mut BoolDecoder) -> Token
@@ -76,7 +76,7 @@ fn large(row: &[u8; 11], d: &mut BoolDecoder) -> Token
     }
 }
 
-/// Behind the pair at 4.
+/// The walk from the pair at index 4.
 #[inline(always)]
 #[tactic(auto, unfolding(crate::specs::Walks::some, vp_bool::specs::Reader::bind))]
 fn some(row: &[u8; 11], d: &mut BoolDecoder) -> Token
@@ -90,7 +90,7 @@ fn some(row: &[u8; 11], d: &mut BoolDecoder) -> Token
     }
 }
 
-/// Behind the pair at 2.
+/// The walk from the pair at index 2.
 #[inline(always)]
 #[tactic(auto, unfolding(crate::specs::Walks::more, vp_bool::specs::Reader::bind))]
 fn more(row: &[u8; 11], d: &mut BoolDecoder) -> Token
@@ -104,7 +104,7 @@ fn more(row: &[u8; 11], d: &mut BoolDecoder) -> Token
     }
 }
 
-/// Whether the block ends here, which isn't asked behind a 0.
+/// Reads whether the block ends here. After a 0 this isn't coded.
 #[inline(always)]
 #[tactic(auto, unfolding(crate::specs::Walks::end_of_block, vp_bool::specs::Reader::bind))]
 fn end_of_block(row: &[u8; 11], from: usize, d: &mut BoolDecoder) -> bool
@@ -114,7 +114,7 @@ fn end_of_block(row: &[u8; 11], from: usize, d: &mut BoolDecoder) -> bool
     if from == 0 { !d.read(row[0]) } else { false }
 }
 
-/// The token of a walk from a pair on.
+/// Reads a token, from a pair of the tree on.
 #[inline(always)]
 pub(crate) fn walked(row: &[u8; 11], from: usize, d: &mut BoolDecoder) -> Token
     requires { IsStart from }

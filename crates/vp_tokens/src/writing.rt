@@ -1,3 +1,5 @@
+//! Writing the tokens of a macroblock (RFC 6386, chapter 13).
+
 ghost use Rattle.std.specs.Prelude.{◌≡◌, ◌<◌, ◌+◌, ℕ, true, false, length, slice_index_or, OnOk, OnErr};
 ghost use Rattle.vp_base.specs.Grid.{Grid, Has, with_entry};
 ghost use Rattle.vp_bool.specs.Writing.{Writes};
@@ -14,7 +16,7 @@ use std::alloc::AllocError;
 use vp_base::Place;
 use vp_bool::BoolEncoder;
 
-/// Writes block k, where the macroblock has it.
+/// Writes block `k`, if the macroblock has it.
 fn write_at(
     probabilities: &[[[[u8; 11]; 3]; 8]; 4],
     above: &[bool; 9],
@@ -60,11 +62,11 @@ fn write_all(
     Ok(())
 }
 
-/// Writes the tokens of the macroblock at a place into the partition of its row, and keeps the contexts as
-/// [`read_macroblock`](crate::read_macroblock) does. A frame's macroblocks are written in raster order.
+/// Writes the tokens of the macroblock at `place` into the partition of its row, and updates the contexts as
+/// [`read_macroblock`](crate::read_macroblock) does. The macroblocks of a frame must be written in raster order.
 ///
-/// `has_y2` is false where the luma is predicted or moved by subblocks. Of a skipped macroblock nothing is written, and
-/// its blocks have no tokens. Where memory is refused, a part of the tokens may have been written.
+/// `has_y2` is false for luma modes `B_PRED` and `SPLITMV`. A skipped macroblock has no tokens, and nothing is
+/// written. If out of memory, a part of the tokens may have been written.
 pub fn write_macroblock(
     probabilities: &[[[[u8; 11]; 3]; 8]; 4],
     contexts: &mut Contexts,

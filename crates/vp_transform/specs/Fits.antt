@@ -1,13 +1,14 @@
--- When the transforms of a block stay within an i64.
+-- When the transforms of a block do not overflow i64.
 use Rattle.std.specs.Prelude.{◌≤◌, ℕ, ◌<◌, ℤ, pos, ◌+ℤ◌, ◌-ℤ◌, ◌*ℤ◌, List, slice_index_or, unsigned_abs, ◌+◌, ◌^◌}
 use Rattle.std.specs.Int.{w64}
 use Rattle.std.specs.Int.RustNames.{FitsSigned}
 use Rattle.vp_transform.specs.Transform.{element_at, scaled, turned, vertical}
 
+-- z fits in i64
 abbrev pub Fits : ℤ → Type 0
 Fits z = FitsSigned w64 z
 
--- each number that the transform of four numbers computes is an i64
+-- each intermediate result of the one-dimensional transform fits in i64
 pub record TurnFits (i0 i1 i2 i3 : ℤ) : Type 0 where
   pub a : Fits (i0 +ℤ i2)
   pub b : Fits (i0 -ℤ i2)
@@ -24,36 +25,40 @@ pub record TurnFits (i0 i1 i2 i3 : ℤ) : Type 0 where
   pub third : Fits ((i0 -ℤ i2) -ℤ (scaled i1 35468 -ℤ (i3 +ℤ scaled i3 20091)))
   pub fourth : Fits ((i0 +ℤ i2) -ℤ ((i1 +ℤ scaled i1 20091) +ℤ scaled i3 35468))
 
--- .. and, before they are rounded, its results with 4 added
+-- so does each result with 4 added, before it is rounded
 pub record TurnAndRoundFits (i0 i1 i2 i3 : ℤ) : Type 0 where
   pub turn : TurnFits i0 i1 i2 i3
   pub more : (k : ℕ) → k < 4 → Fits (slice_index_or (turned i0 i1 i2 i3) k (pos 0) +ℤ pos 4)
 
+-- each intermediate result of transforming the columns fits in i64
 pub record ColumnsFit (block : List ℤ) : Type 0 where
   pub column : (c : ℕ) → c < 4 → TurnFits (element_at block 0 c) (element_at block 1 c) (element_at block 2 c)
       (element_at block 3 c)
 
+-- each intermediate result of transforming and rounding the rows fits in i64
 pub record RowsFit (block : List ℤ) : Type 0 where
   pub row : (r : ℕ) → r < 4 → TurnAndRoundFits (element_at block r 0) (element_at block r 1) (element_at block r 2)
       (element_at block r 3)
 
--- each number that `idct` computes of the block is an i64
+-- each intermediate result of `idct` of the block fits in i64
 pub record IdctFits (block : List ℤ) : Type 0 where
   pub columns : ColumnsFit block
   pub rows : RowsFit (vertical block)
 
--- ---- the inverse Walsh-Hadamard transform
+-- ---- The inverse Walsh-Hadamard transform
 
+-- the sum of the absolute values in a column
 abbrev pub column_size : List ℤ → ℕ → ℕ
 column_size block c = unsigned_abs (element_at block 0 c) + unsigned_abs (element_at block 1 c)
     + unsigned_abs (element_at block 2 c) + unsigned_abs (element_at block 3 c)
 
+-- the sum of the absolute values in a row
 abbrev pub row_size : List ℤ → ℕ → ℕ
 row_size block r = unsigned_abs (element_at block r 0) + unsigned_abs (element_at block r 1)
     + unsigned_abs (element_at block r 2) + unsigned_abs (element_at block r 3)
 
--- The sum of the sixteen absolute values, with the 3 that is added, is an i64: so is each sum of any of the numbers,
--- whatever their signs are and in whatever order they are added.
+-- The sum of the sixteen absolute values, plus 3, fits in i64. So does each sum of any of the numbers, with any signs
+-- and in any order.
 abbrev pub IwhtFits : List ℤ → Type 0
 IwhtFits block = column_size block 0 + column_size block 1 + column_size block 2 + column_size block 3 + 3 < 2 ^ 63
 

@@ -1,4 +1,4 @@
--- Inside the crate: blocks held in lanes: four vectors of four numbers, the block's rows.
+-- Private to the crate: blocks in lanes: four vectors of four numbers are the rows of a block.
 use Rattle.std.specs.Prelude.{ℕ, ℤ, List, [], ◌∷◌, ◌<◌, ◌≤◌, unsigned_abs}
 use Rattle.vp_lanes.specs.Lane.{lane}
 
@@ -6,7 +6,7 @@ use Rattle.vp_lanes.specs.Lane.{lane}
 abbrev pub column_of : List ℤ → List ℤ → List ℤ → List ℤ → ℕ → List ℤ
 column_of a b c d j = lane a j ∷ lane b j ∷ lane c j ∷ lane d j ∷ []
 
--- the block whose rows are four vectors
+-- the block with these four rows
 abbrev pub block_in : List ℤ → List ℤ → List ℤ → List ℤ → List ℤ
 block_in a b c d =
     lane a 0 ∷ lane a 1 ∷ lane a 2 ∷ lane a 3 ∷ lane b 0 ∷ lane b 1 ∷ lane b 2 ∷ lane b 3 ∷

@@ -4,12 +4,12 @@ use Rattle.std.specs.Prelude.{ℕ, ℤ, List, [], ◌∷◌}
 use Rattle.vp_lanes.specs.Lane.{lane}
 use Rattle.vp_transform.specs.Transform.{element_at, block_from}
 
--- row r of the first block and, behind it, row r of the second
+-- row r of the first block, followed by row r of the second
 abbrev pub row_in : List ℤ → List ℤ → ℕ → List ℤ
 row_in a b r = element_at a r 0 ∷ element_at a r 1 ∷ element_at a r 2 ∷ element_at a r 3 ∷ element_at b r 0
     ∷ element_at b r 1 ∷ element_at b r 2 ∷ element_at b r 3 ∷ []
 
--- ---- inside the crate: two blocks by turns, in four vectors of eight numbers, their rows
+-- ---- Private to the crate: two interleaved blocks, as four vectors of eight numbers, their rows
 
 -- the block in the even lanes
 abbrev pub even_block : List ℤ → List ℤ → List ℤ → List ℤ → List ℤ
@@ -23,6 +23,6 @@ odd_block a b c d =
     lane a 1 ∷ lane a 3 ∷ lane a 5 ∷ lane a 7 ∷ lane b 1 ∷ lane b 3 ∷ lane b 5 ∷ lane b 7 ∷
     lane c 1 ∷ lane c 3 ∷ lane c 5 ∷ lane c 7 ∷ lane d 1 ∷ lane d 3 ∷ lane d 5 ∷ lane d 7 ∷ []
 
--- rows made columns
+-- the block transposed
 abbrev pub transposed : List ℤ → List ℤ
 transposed block = block_from (λ r c. element_at block c r)

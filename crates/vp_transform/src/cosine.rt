@@ -1,3 +1,5 @@
+//! The inverse DCT (RFC 6386, chapter 14.4).
+
 ghost use Rattle.std.specs.Prelude.{map, ◌∷◌, replicate, ◌≡◌, ℕ, ◌+◌, ◌*◌, ◌<◌, ◌≤◌, length, unsigned_abs, pos, ◌+ℤ◌};
 ghost use Rattle.vp_transform.specs.Fits.{Fits, TurnFits, TurnAndRoundFits, ColumnsFit, RowsFit, IdctFits, EachWithin};
 ghost use Rattle.vp_transform.specs.Transform.{element_at, column_turned, row_turned, turned, rounded, vertical};
@@ -10,10 +12,10 @@ const SINE: i64 = 35468;
 /// sqrt 2 * cos (pi / 8) - 1, times 2^16.
 const COSINE: i64 = 20091;
 
-/// Blocks of numbers below this are transformed in lanes of i32.
+/// Blocks whose numbers are below this bound are transformed in i32 lanes.
 const NARROW: u64 = 1 << 13;
 
-/// The inverse DCT of a block: sixteen numbers, row after row (RFC 6386, chapter 14.4).
+/// The inverse DCT of a block of sixteen numbers in raster order (RFC 6386, chapter 14.4).
 pub fn idct(block: &[i64; 16]) -> [i64; 16]
     requires { IdctFits block.now }
     ensures value { result ≡ idct block.now }
@@ -26,7 +28,7 @@ pub fn idct(block: &[i64; 16]) -> [i64; 16]
     }
 }
 
-/// The same in i64, for every block that can be transformed.
+/// The inverse DCT in i64, for every block whose transform fits.
 pub(crate) fn wide_idct(block: &[i64; 16]) -> [i64; 16]
     requires { IdctFits block.now }
     ensures { result ≡ idct block.now }
@@ -34,7 +36,7 @@ pub(crate) fn wide_idct(block: &[i64; 16]) -> [i64; 16]
     by_rows(&by_columns(block))
 }
 
-/// What `idct` gives in each place where all of the block's numbers but the first, `dc`, are 0.
+/// The value of each number of `idct` of a DC-only block, whose numbers after `dc` are all 0.
 pub fn idct_of_first(dc: i64) -> i64
     requires { Fits (dc +ℤ pos 4) }
     ensures value { idct (dc ∷ replicate 15 (pos 0)) ≡ replicate 16 result }
@@ -43,6 +45,7 @@ pub fn idct_of_first(dc: i64) -> i64
     round(dc)
 }
 
+/// Transforms each column.
 fn by_columns(x: &[i64; 16]) -> [i64; 16]
     requires { ColumnsFit x.now }
     ensures { result ≡ vertical x.now }
@@ -57,7 +60,7 @@ fn by_columns(x: &[i64; 16]) -> [i64; 16]
     ]
 }
 
-/// Column c, transformed.
+/// Transforms column `c`.
 fn column(x: &[i64; 16], c: usize) -> [i64; 4]
     requires inside { c < 4 }
     requires fits { TurnFits (element_at x.now 0 c) (element_at x.now 1 c) (element_at x.now 2 c)
@@ -67,6 +70,7 @@ fn column(x: &[i64; 16], c: usize) -> [i64; 4]
     turn(x[c], x[4 + c], x[8 + c], x[12 + c])
 }
 
+/// Transforms and rounds each row.
 fn by_rows(x: &[i64; 16]) -> [i64; 16]
     requires { RowsFit x.now }
     ensures { result ≡ horizontal x.now }
@@ -81,7 +85,7 @@ fn by_rows(x: &[i64; 16]) -> [i64; 16]
     ]
 }
 
-/// Row r, transformed and rounded.
+/// Transforms and rounds row `r`.
 fn row(x: &[i64; 16], r: usize) -> [i64; 4]
     requires inside { r < 4 }
     requires fits { TurnAndRoundFits (element_at x.now r 0) (element_at x.now r 1) (element_at x.now r 2)
@@ -99,7 +103,7 @@ fn round(z: i64) -> i64
     (z + 4) >> 3
 }
 
-/// The transform of four numbers.
+/// The one-dimensional transform of four numbers.
 fn turn(i0: i64, i1: i64, i2: i64, i3: i64) -> [i64; 4]
     requires { TurnFits i0 i1 i2 i3 }
     ensures { result ≡ turned i0 i1 i2 i3 }

@@ -1,3 +1,5 @@
+//! The encoder's forward DCT.
+
 ghost use Rattle.std.specs.Prelude.{◌≡◌, ℕ, ◌+◌, ◌*◌, ◌^◌, ◌<◌, ◌≤◌, unsigned_abs};
 ghost use Rattle.vp_transform.specs.Fits.{EachWithin};
 ghost use Rattle.vp_transform.specs.Transform.{element_at};
@@ -8,8 +10,8 @@ const SINE: i64 = 2217;
 /// sqrt 2 * cos (pi / 8), times 2^12.
 const COSINE: i64 = 5352;
 
-/// The DCT of a block: sixteen numbers, row after row, each within 2^44. Of sixteen equal numbers it is eight times
-/// that number, and 0 fifteen times.
+/// The forward DCT of a block of sixteen numbers in raster order, each from -2^44 to 2^44. Sixteen equal numbers give
+/// eight times that number, and then fifteen zeros.
 pub fn fdct(block: &[i64; 16]) -> [i64; 16]
     requires { EachWithin (2 ^ 44) block.now }
     ensures value { result ≡ fdct block.now }
@@ -18,6 +20,7 @@ pub fn fdct(block: &[i64; 16]) -> [i64; 16]
     by_columns(&by_rows(block))
 }
 
+/// Transforms each row.
 fn by_rows(x: &[i64; 16]) -> [i64; 16]
     requires { EachWithin (2 ^ 44) x.now }
     ensures { result ≡ across x.now }
@@ -32,6 +35,7 @@ fn by_rows(x: &[i64; 16]) -> [i64; 16]
     ]
 }
 
+/// Transforms each column.
 fn by_columns(x: &[i64; 16]) -> [i64; 16]
     requires { EachWithin (2 ^ 49) x.now }
     ensures { result ≡ down x.now }
@@ -46,7 +50,7 @@ fn by_columns(x: &[i64; 16]) -> [i64; 16]
     ]
 }
 
-/// Row r, transformed.
+/// Transforms row `r`.
 fn row(x: &[i64; 16], r: usize) -> [i64; 4]
     requires inside { r < 4 }
     requires small { EachWithin (2 ^ 44) x.now }
@@ -65,7 +69,7 @@ fn row(x: &[i64; 16], r: usize) -> [i64; 4]
     ]
 }
 
-/// Column c, transformed.
+/// Transforms column `c`.
 fn column(x: &[i64; 16], column: usize) -> [i64; 4]
     requires inside { column < 4 }
     requires small { EachWithin (2 ^ 49) x.now }

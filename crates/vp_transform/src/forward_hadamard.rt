@@ -1,3 +1,5 @@
+//! The encoder's forward Walsh-Hadamard transform.
+
 ghost use Rattle.std.specs.Prelude.{◌≡◌, ℕ, ◌+◌, ◌*◌, ◌<◌, ◌^◌, pos, ◌+ℤ◌, map, slice_index_or, unsigned_abs};
 ghost use Rattle.vp_transform.specs.Fits.{Fits, IwhtFits, EachWithin};
 ghost use Rattle.vp_transform.specs.Forward.{fwht};
@@ -5,7 +7,7 @@ ghost use lib.Signed.{shr_z};
 
 use crate::hadamard::{by_columns, by_rows};
 
-/// The Walsh-Hadamard transform of a block: sixteen numbers, row after row.
+/// The forward Walsh-Hadamard transform of a block of sixteen numbers in raster order.
 pub fn fwht(block: &[i64; 16]) -> [i64; 16]
     requires { IwhtFits block.now }
     ensures value { result ≡ fwht block.now }
@@ -14,7 +16,7 @@ pub fn fwht(block: &[i64; 16]) -> [i64; 16]
     all_halved(&by_rows(&by_columns(block)))
 }
 
-/// Sixteen numbers, each halved.
+/// Halves each number of a block, rounding up.
 fn all_halved(x: &[i64; 16]) -> [i64; 16]
     requires { (k : ℕ) → k < 16 → unsigned_abs (slice_index_or x.now k (pos 0)) + 3 < 2 ^ 63 }
     ensures { result ≡ map (λ z. shr_z (z +ℤ pos 1) 2) x.now }

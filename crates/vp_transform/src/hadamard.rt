@@ -1,3 +1,5 @@
+//! The inverse Walsh-Hadamard transform (RFC 6386, chapter 14.3).
+
 ghost use Rattle.std.specs.Prelude.{◌≡◌, ℕ, ◌+◌, ◌*◌, ◌<◌, ◌≤◌, ◌^◌, ◌∷◌, replicate, pos, ◌+ℤ◌, map, slice_index_or};
 ghost use Rattle.std.specs.Prelude.{unsigned_abs};
 ghost use Rattle.vp_transform.specs.Steps.{mixed, column_product, row_product};
@@ -8,10 +10,10 @@ ghost use lib.Signed.{shr_z};
 use crate::hadamard_lanes::narrow_iwht;
 use crate::lanes::is_narrow;
 
-/// Blocks of numbers below this are transformed in lanes of i32: no stream's are larger.
+/// Blocks whose numbers are below this bound are transformed in i32 lanes. The numbers of streams always are.
 const NARROW: u64 = 1 << 26;
 
-/// The inverse Walsh-Hadamard transform of a block: sixteen numbers, row after row (RFC 6386, chapter 14.3).
+/// The inverse Walsh-Hadamard transform of a block of sixteen numbers in raster order (RFC 6386, chapter 14.3).
 pub fn iwht(block: &[i64; 16]) -> [i64; 16]
     requires { IwhtFits block.now }
     ensures value { result ≡ iwht block.now }
@@ -24,7 +26,7 @@ pub fn iwht(block: &[i64; 16]) -> [i64; 16]
     }
 }
 
-/// The same in i64, for every block that can be transformed.
+/// The inverse Walsh-Hadamard transform in i64, for every block whose transform fits.
 pub(crate) fn wide_iwht(block: &[i64; 16]) -> [i64; 16]
     requires { IwhtFits block.now }
     ensures { result ≡ iwht block.now }
@@ -32,7 +34,7 @@ pub(crate) fn wide_iwht(block: &[i64; 16]) -> [i64; 16]
     all_rounded(&by_rows(&by_columns(block)))
 }
 
-/// What `iwht` gives in each place where all of the block's numbers but the first, `dc`, are 0.
+/// The value of each number of `iwht` of a DC-only block, whose numbers after `dc` are all 0.
 pub fn iwht_of_first(dc: i64) -> i64
     requires { unsigned_abs dc + 3 < 2 ^ 63 }
     ensures value { iwht (dc ∷ replicate 15 (pos 0)) ≡ replicate 16 result }
@@ -41,6 +43,7 @@ pub fn iwht_of_first(dc: i64) -> i64
     round(dc)
 }
 
+/// The product of the matrix and the block.
 pub(crate) fn by_columns(x: &[i64; 16]) -> [i64; 16]
     requires { IwhtFits x.now }
     ensures { result ≡ hadamard_times x.now }
@@ -55,7 +58,7 @@ pub(crate) fn by_columns(x: &[i64; 16]) -> [i64; 16]
     ]
 }
 
-/// The matrix times column c.
+/// The product of the matrix and column `c`.
 fn column(x: &[i64; 16], c: usize) -> [i64; 4]
     requires inside { c < 4 }
     requires fits { column_size x.now c < 2 ^ 63 }
@@ -64,7 +67,7 @@ fn column(x: &[i64; 16], c: usize) -> [i64; 4]
     mix(x[c], x[4 + c], x[8 + c], x[12 + c])
 }
 
-/// The block times the matrix.
+/// The product of the block and the matrix.
 pub(crate) fn by_rows(x: &[i64; 16]) -> [i64; 16]
     requires { (r : ℕ) → r < 4 → row_size x.now r + 3 < 2 ^ 63 }
     ensures value { result ≡ times_hadamard x.now }
@@ -80,7 +83,7 @@ pub(crate) fn by_rows(x: &[i64; 16]) -> [i64; 16]
     ]
 }
 
-/// Row r times the matrix.
+/// The product of row `r` and the matrix.
 fn row(x: &[i64; 16], r: usize) -> [i64; 4]
     requires inside { r < 4 }
     requires fits { row_size x.now r + 3 < 2 ^ 63 }
@@ -89,7 +92,7 @@ fn row(x: &[i64; 16], r: usize) -> [i64; 4]
     mix(x[4 * r], x[4 * r + 1], x[4 * r + 2], x[4 * r + 3])
 }
 
-/// Sixteen numbers, each rounded.
+/// Rounds each number of a block.
 fn all_rounded(x: &[i64; 16]) -> [i64; 16]
     requires { (k : ℕ) → k < 16 → unsigned_abs (slice_index_or x.now k (pos 0)) + 3 < 2 ^ 63 }
     ensures { result ≡ map (λ z. shr_z (z +ℤ pos 3) 8) x.now }

@@ -1,5 +1,5 @@
-//! The inverse Walsh-Hadamard transform in lanes of i32, a row to a vector: for numbers so small that nothing which is
-//! computed of them leaves i32.
+//! The inverse Walsh-Hadamard transform in i32 lanes, one vector for each row. The numbers are so small that no
+//! intermediate result overflows.
 
 ghost use Rattle.std.specs.Prelude.{◌≡◌, ℕ, ◌^◌, ◌<◌, ◌≤◌, pos, ◌+ℤ◌, map};
 ghost use Rattle.vp_transform.specs.Fits.{EachWithin};
@@ -10,7 +10,7 @@ ghost use lib.Signed.{shr_z};
 use crate::lanes::{across, joined, row};
 use std::simd::prelude::*;
 
-/// The matrix times the block whose rows are the vectors: the rows of the product.
+/// The product of the matrix and a block; the vectors are rows.
 fn mix(i0: i32x4, i1: i32x4, i2: i32x4, i3: i32x4) -> (i32x4, i32x4, i32x4, i32x4)
     requires { EachWithin (2 ^ 28) (block_in i0 i1 i2 i3) }
     ensures { block_in result.0 result.1 result.2 result.3 ≡ hadamard_times (block_in i0 i1 i2 i3) }
@@ -22,7 +22,7 @@ fn mix(i0: i32x4, i1: i32x4, i2: i32x4, i3: i32x4) -> (i32x4, i32x4, i32x4, i32x
     (a + b, c + d, a - b, d - c)
 }
 
-/// The lanes over 8, rounded.
+/// `(z + 3) / 8` in each lane, rounded down.
 fn rounded(a: i32x4, b: i32x4, c: i32x4, d: i32x4) -> (i32x4, i32x4, i32x4, i32x4)
     requires { EachWithin (2 ^ 30) (block_in a b c d) }
     ensures { block_in result.0 result.1 result.2 result.3 ≡ map (λ z. shr_z (z +ℤ pos 3) 8) (block_in a b c d) }

@@ -1,4 +1,5 @@
-//! Blocks in lanes of i32, a row to a vector: for numbers so small that nothing which is computed of them leaves i32.
+//! The inverse DCT in i32 lanes, one vector for each row. The numbers are so small that no intermediate result
+//! overflows.
 
 ghost use Rattle.std.specs.Prelude.{◌≡◌, ℕ, ◌*◌, ◌^◌, ◌<◌, ◌≤◌, List, true, length, map, pos};
 ghost use Rattle.vp_lanes.specs.Lane.{lane};
@@ -13,7 +14,7 @@ const SINE: i32 = 35468;
 /// sqrt 2 * cos (pi / 8) - 1, times 2^16.
 const COSINE: i32 = 20091;
 
-/// Whether each number is from `-bound` to `bound - 1`, where `bound` is a power of two.
+/// Whether each number is from `-bound` to `bound - 1`. `bound` must be a power of two.
 pub(crate) fn is_narrow(block: &[i64; 16], bound: u64) -> bool
     requires { bound ≤ 2 ^ 40 }
     ensures { result ≡ true → EachWithin bound block.now }
@@ -25,7 +26,7 @@ pub(crate) fn is_narrow(block: &[i64; 16], bound: u64) -> bool
     bits < 2 * bound
 }
 
-/// Row `r` of a block of small numbers.
+/// Loads row `r` of a block of small numbers.
 pub(crate) fn row(block: &[i64; 16], r: usize) -> i32x4
     requires inside { r < 4 }
     requires small { EachWithin (2 ^ 26) block.now }
@@ -35,7 +36,7 @@ pub(crate) fn row(block: &[i64; 16], r: usize) -> i32x4
     i64x4::from_array([block[i], block[i + 1], block[i + 2], block[i + 3]]).cast::<i32>()
 }
 
-/// The block whose rows are four vectors.
+/// The block with these four rows.
 pub(crate) fn joined(a: i32x4, b: i32x4, c: i32x4, d: i32x4) -> [i64; 16]
     ensures { result ≡ block_in a b c d }
 {
@@ -48,7 +49,7 @@ pub(crate) fn joined(a: i32x4, b: i32x4, c: i32x4, d: i32x4) -> [i64; 16]
     ]
 }
 
-/// Rows made columns.
+/// Transposes four rows.
 pub(crate) fn across(a: i32x4, b: i32x4, c: i32x4, d: i32x4) -> (i32x4, i32x4, i32x4, i32x4)
     ensures first { result.0 ≡ column_of a b c d 0 }
     ensures second { result.1 ≡ column_of a b c d 1 }
@@ -62,7 +63,7 @@ pub(crate) fn across(a: i32x4, b: i32x4, c: i32x4, d: i32x4) -> (i32x4, i32x4, i
     (first, second, third, fourth)
 }
 
-/// The transform of the four numbers of each column.
+/// The one-dimensional transform of each column.
 fn turn(i0: i32x4, i1: i32x4, i2: i32x4, i3: i32x4) -> (i32x4, i32x4, i32x4, i32x4)
     requires first { LanesWithin 40960 i0 }
     requires second { LanesWithin 40960 i1 }
@@ -80,7 +81,7 @@ fn turn(i0: i32x4, i1: i32x4, i2: i32x4, i3: i32x4) -> (i32x4, i32x4, i32x4, i32
     (a + d, b + c, b - c, a - d)
 }
 
-/// The lanes over 8, rounded.
+/// `(z + 4) / 8` in each lane, rounded down.
 fn round(z: i32x4) -> i32x4
     requires { LanesWithin 204800 z }
     ensures { (j : ℕ) → j < 4 → lane result j ≡ rounded (lane z j) }
@@ -88,7 +89,7 @@ fn round(z: i32x4) -> i32x4
     (z + i32x4::splat(4)) >> 3
 }
 
-/// The inverse DCT of a block of small numbers, whose rows are the vectors: the rows of the result.
+/// The inverse DCT of a block of small numbers; vectors are rows.
 pub(crate) fn turned_back(a: i32x4, b: i32x4, c: i32x4, d: i32x4) -> (i32x4, i32x4, i32x4, i32x4)
     requires first { LanesWithin 8192 a }
     requires second { LanesWithin 8192 b }
@@ -111,8 +112,8 @@ pub(crate) fn narrow_idct(block: &[i64; 16]) -> [i64; 16]
     joined(a, b, c, d)
 }
 
-/// The inverse DCT of a block of numbers from -8191 to 8191: what `idct` gives, in lanes from end to end and with
-/// no test of the block.
+/// The inverse DCT of a block of numbers from -8,191 to 8,191. It gives the result of `idct`, in lanes and without a
+/// test of the block.
 pub fn idct_short(block: &[i16; 16]) -> [i16; 16]
     requires { EachWithin 8191 block.now }
     ensures { result ≡ idct block.now }
@@ -126,7 +127,7 @@ pub fn idct_short(block: &[i16; 16]) -> [i16; 16]
     short_joined(a, b, c, d)
 }
 
-/// Row `r` of a block of small numbers in i16.
+/// Loads row `r` of a block of small i16 numbers.
 fn short_row(block: &[i16; 16], r: usize) -> i32x4
     requires inside { r < 4 }
     requires small { EachWithin 8191 block.now }
@@ -136,7 +137,7 @@ fn short_row(block: &[i16; 16], r: usize) -> i32x4
     i16x4::from_array([block[i], block[i + 1], block[i + 2], block[i + 3]]).cast::<i32>()
 }
 
-/// The block whose rows are four vectors, in i16.
+/// The i16 block with these four rows.
 pub(crate) fn short_joined(a: i32x4, b: i32x4, c: i32x4, d: i32x4) -> [i16; 16]
     requires first { LanesWithin 32764 a }
     requires second { LanesWithin 32764 b }

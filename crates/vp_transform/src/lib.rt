@@ -1,4 +1,4 @@
-//! The transforms of a block: the inverse ones (RFC 6386, chapter 14), and the encoder's.
+//! The inverse transforms of a block (RFC 6386, chapter 14), and the encoder's forward transforms.
 #![tactic(auto)]
 
 mod cosine;

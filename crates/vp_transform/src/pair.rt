@@ -1,4 +1,5 @@
-//! Two blocks at once, in lanes of i16: for numbers so small that nothing which is computed of them leaves i16.
+//! The inverse DCT of two blocks at once, in i16 lanes. The numbers are so small that no intermediate result
+//! overflows.
 
 ghost use Rattle.std.specs.Prelude.{◌≡◌, ℕ, ◌<◌, ◌≤◌, pos, ◌*ℤ◌, map, unsigned_abs};
 ghost use Rattle.vp_lanes.specs.Lane.{lane};
@@ -14,9 +15,8 @@ const HALF_SINE: u16 = 17734;
 /// sqrt 2 * cos (pi / 8) - 1, times 2^16.
 const COSINE: u16 = 20091;
 
-/// The inverse DCTs of two blocks of numbers from -2200 to 2200, side by side: each vector is a row of what `idct`
-/// gives
-/// of the first block and, behind it, of the second (RFC 6386, chapter 14.4).
+/// The inverse DCTs of two blocks of numbers from -2,200 to 2,200 (RFC 6386, chapter 14.4). Each vector is a row of
+/// the first result, followed by the same row of the second.
 pub fn idct_pair(a: &[i16; 16], b: &[i16; 16]) -> (i16x8, i16x8, i16x8, i16x8)
     requires first { EachWithin 2200 a.now }
     requires second { EachWithin 2200 b.now }
@@ -33,7 +33,7 @@ pub fn idct_pair(a: &[i16; 16], b: &[i16; 16]) -> (i16x8, i16x8, i16x8, i16x8)
     side_by_side(i0, i1, i2, i3)
 }
 
-/// The rows of two blocks by turns: the first block's in the even lanes.
+/// Interleaves the rows of two blocks: the first block is in the even lanes.
 fn by_turns(a: &[i16; 16], b: &[i16; 16]) -> (i16x8, i16x8, i16x8, i16x8)
     requires first { EachWithin 2200 a.now }
     requires second { EachWithin 2200 b.now }
@@ -57,6 +57,7 @@ fn high(z: i16x8, k: u16) -> i16x8
     ((z.cast::<i32>() * i32x8::splat(k as i32)) >> 16).cast::<i16>()
 }
 
+/// `sqrt 2 * sin (pi / 8) * z`, rounded down.
 fn sine(z: i16x8) -> i16x8
     requires { (j : ℕ) → j < 8 → unsigned_abs (lane z j) ≤ 16383 }
     ensures { (j : ℕ) → j < 8 → lane result j ≡ scaled (lane z j) 35468 }
@@ -64,13 +65,14 @@ fn sine(z: i16x8) -> i16x8
     high(z + z, HALF_SINE)
 }
 
+/// `(sqrt 2 * cos (pi / 8) - 1) * z`, rounded down.
 fn cosine(z: i16x8) -> i16x8
     ensures { (j : ℕ) → j < 8 → lane result j ≡ scaled (lane z j) 20091 }
 {
     high(z, COSINE)
 }
 
-/// The transform of the four numbers of each column.
+/// The one-dimensional transform of each column.
 fn turn(i0: i16x8, i1: i16x8, i2: i16x8, i3: i16x8) -> (i16x8, i16x8, i16x8, i16x8)
     requires even { EachWithin 8466 (even_block i0 i1 i2 i3) }
     requires odd { EachWithin 8466 (odd_block i0 i1 i2 i3) }
@@ -84,7 +86,7 @@ fn turn(i0: i16x8, i1: i16x8, i2: i16x8, i3: i16x8) -> (i16x8, i16x8, i16x8, i16
     (a + d, b + c, b - c, a - d)
 }
 
-/// Rows made columns, of both blocks at once.
+/// Transposes both blocks.
 fn across(a: i16x8, b: i16x8, c: i16x8, d: i16x8) -> (i16x8, i16x8, i16x8, i16x8)
     ensures even { even_block result.0 result.1 result.2 result.3 ≡ transposed (even_block a b c d) }
     ensures odd { odd_block result.0 result.1 result.2 result.3 ≡ transposed (odd_block a b c d) }
@@ -101,7 +103,7 @@ fn across(a: i16x8, b: i16x8, c: i16x8, d: i16x8) -> (i16x8, i16x8, i16x8, i16x8
     )
 }
 
-/// The lanes over 8, rounded.
+/// `(z + 4) / 8` in each lane, rounded down.
 fn round(a: i16x8, b: i16x8, c: i16x8, d: i16x8) -> (i16x8, i16x8, i16x8, i16x8)
     requires even { EachWithin 32763 (even_block a b c d) }
     requires odd { EachWithin 32763 (odd_block a b c d) }
@@ -117,7 +119,7 @@ fn round(a: i16x8, b: i16x8, c: i16x8, d: i16x8) -> (i16x8, i16x8, i16x8, i16x8)
     )
 }
 
-/// Two blocks by turns, whose columns are the vectors: their rows side by side.
+/// Transposes two interleaved blocks, and puts their rows side by side.
 fn side_by_side(a: i16x8, b: i16x8, c: i16x8, d: i16x8) -> (i16x8, i16x8, i16x8, i16x8)
     ensures top { result.0 ≡ row_in (transposed (even_block a b c d)) (transposed (odd_block a b c d)) 0 }
     ensures upper { result.1 ≡ row_in (transposed (even_block a b c d)) (transposed (odd_block a b c d)) 1 }

@@ -1,5 +1,4 @@
-//! The inverse DCT into i16, for a residue that is added to pixels: a number that i16 doesn't hold is cut to the
-//! nearest.
+//! The inverse DCT clamped to i16, for a residue that is added to pixels.
 
 ghost use Rattle.std.specs.Prelude.{◌≡◌, ℕ, ◌<◌, pos, slice_index_or};
 ghost use Rattle.vp_transform.specs.Fits.{EachWithin, IdctFits};
@@ -9,10 +8,10 @@ ghost use Rattle.vp_transform.specs.Short.{cut};
 use crate::cosine::wide_idct;
 use crate::lanes::{is_narrow, row, short_joined, turned_back};
 
-/// Blocks of numbers below this are transformed in lanes of i32, and the results fit i16.
+/// Blocks whose numbers are below this bound are transformed in i32 lanes, and the results fit in i16.
 const NARROW: u64 = 1 << 12;
 
-/// The inverse DCT of a block, each number cut.
+/// The inverse DCT of a block, with each number clamped to i16.
 pub fn idct_cut(block: &[i64; 16]) -> [i16; 16]
     requires { IdctFits block.now }
     ensures { (i : ℕ) → i < 16 → slice_index_or result i (pos 0) ≡ cut (slice_index_or (idct block.now) i (pos 0)) }
@@ -24,7 +23,7 @@ pub fn idct_cut(block: &[i64; 16]) -> [i16; 16]
     }
 }
 
-/// The same of a block of numbers from -4096 to 4096: none has to be cut.
+/// The inverse DCT of a block of numbers from -4,096 to 4,096. No number has to be clamped.
 fn narrow_idct_cut(block: &[i64; 16]) -> [i16; 16]
     requires { EachWithin 4096 block.now }
     ensures { result ≡ idct block.now }
@@ -33,7 +32,7 @@ fn narrow_idct_cut(block: &[i64; 16]) -> [i16; 16]
     short_joined(a, b, c, d)
 }
 
-/// Sixteen numbers, each cut.
+/// Clamps each number to i16.
 pub(crate) fn all_cut(numbers: &[i64; 16]) -> [i16; 16]
     ensures { (i : ℕ) → i < 16 → slice_index_or result i (pos 0) ≡ cut (slice_index_or numbers.now i (pos 0)) }
 {
@@ -44,7 +43,7 @@ pub(crate) fn all_cut(numbers: &[i64; 16]) -> [i16; 16]
     kept
 }
 
-/// The nearest number that i16 holds.
+/// Clamps a number to i16.
 #[tactic(auto, unfolding(crate::specs::Short::cut))]
 pub fn cut(z: i64) -> i16
     ensures { result ≡ cut z }

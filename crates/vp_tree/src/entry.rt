@@ -1,12 +1,13 @@
-/// One of the two entries of a pair: a leaf, or the place of another pair.
+//! The entries of a tree table.
+
+/// One of the two entries of a pair: a leaf, or the index of another pair.
 ///
-/// A tree is a table of entries, two for each pair: those of the root are at the places 0 and 1
-/// (RFC 6386, chapter 8.1). The probability of the pair at the places i and i + 1 is at the place
-/// i / 2 of its probabilities.
+/// A tree is a table of entries, two for each pair; the root is the pair at indices 0 and 1 (RFC 6386, chapter 8.1).
+/// The probability of the pair at indices `i` and `i + 1` has index `i / 2`.
 #[derive(Clone, Copy)]
 pub enum TreeEntry<T> {
-    /// What the bools so far mean.
+    /// The value that the bools so far encode.
     Leaf(T),
-    /// The place of the first entry of a pair further on, which is even.
+    /// The index of the first entry of a later pair. It is even.
     Pair(u8),
 }

@@ -1,4 +1,4 @@
-//! What holds of all trees.
+//! Laws of all trees.
 ghost use Rattle.std.specs.Prelude.{IsTrue};
 ghost use Rattle.vp_tree.specs.Tree.{is_tree, OnePath, OneLeaf, TakesPaths};
 
@@ -19,7 +19,7 @@ pub fn one_leaf<T>(tree: &[TreeEntry<T>])
     let _ = tree;
 }
 
-/// A walk gives the leaf whose path the bools spell.
+/// A walk along the bools of a path gives its leaf.
 pub fn takes_paths<T>(tree: &[TreeEntry<T>])
     requires { IsTrue (is_tree tree.now) }
     ensures { TakesPaths tree.now }

@@ -1,4 +1,4 @@
-//! Trees of bools, with leaves of any type (RFC 6386, chapter 8.1).
+//! Binary trees of bools, with leaves of any type (RFC 6386, chapter 8.1).
 #![tactic(auto)]
 
 mod entry;

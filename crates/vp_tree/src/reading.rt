@@ -1,12 +1,14 @@
+//! Reading a leaf of a tree.
+
 ghost use Rattle.std.specs.Prelude.{◌≡◌, ◌≤◌, ◌<◌, ◌*◌, ◌+◌, Bool, length, IsTrue};
 ghost use Rattle.vp_tree.specs.Tree.{is_tree, walk_from, LeadsToLeaf, leaves_pass};
 
 use crate::entry::TreeEntry;
 use vp_bool::BoolDecoder;
 
-/// Reads bools from a pair of the tree on, to a leaf (RFC 6386, chapter 8.1).
+/// Reads bools from a pair of the tree down to a leaf (RFC 6386, chapter 8.1).
 ///
-/// `from` is the place of that pair's first entry.
+/// `from` is the index of that pair's first entry.
 #[inline(always)]
 pub fn read_tree_from<T: Copy>(
     tree: &[TreeEntry<T>],
@@ -17,12 +19,12 @@ pub fn read_tree_from<T: Copy>(
     requires formed { IsTrue (is_tree tree.now) }
     requires from_in { from + 1 < length tree.now }
     requires probs_in { length tree.now ≤ 2 * length probabilities.now }
-    // The default is never met.
+    // `default` is never used.
     ensures value { (default : T) → result ≡ (walk_from default tree.now probabilities.now from decoder.old).0 }
     ensures rest { (default : T) → decoder.new ≡ (walk_from default tree.now probabilities.now from decoder.old).1 }
     // The bools read are those of a path to that leaf.
     ensures path { LeadsToLeaf tree.now probabilities.now from decoder.old result decoder.new }
-    // What holds of all leaves of the table holds of this one.
+    // A test that all leaves pass is passed by this one.
     ensures leaf { (passes : T → Bool) → IsTrue (leaves_pass passes tree.now) → IsTrue (passes result) }
 {
     let mut place = from;
@@ -35,7 +37,7 @@ pub fn read_tree_from<T: Copy>(
     }
 }
 
-/// Reads bools from the root of the tree on, to a leaf (RFC 6386, chapter 8.1).
+/// Reads bools from the root of the tree down to a leaf (RFC 6386, chapter 8.1).
 #[inline(always)]
 pub fn read_tree<T: Copy>(
     tree: &[TreeEntry<T>],
@@ -44,12 +46,12 @@ pub fn read_tree<T: Copy>(
 ) -> T
     requires formed { IsTrue (is_tree tree.now) }
     requires probs_in { length tree.now ≤ 2 * length probabilities.now }
-    // The default is never met.
+    // `default` is never used.
     ensures value { (default : T) → result ≡ (walk_from default tree.now probabilities.now 0 decoder.old).0 }
     ensures rest { (default : T) → decoder.new ≡ (walk_from default tree.now probabilities.now 0 decoder.old).1 }
     // The bools read are those of a path to that leaf.
     ensures path { LeadsToLeaf tree.now probabilities.now 0 decoder.old result decoder.new }
-    // What holds of all leaves of the table holds of this one.
+    // A test that all leaves pass is passed by this one.
     ensures leaf { (passes : T → Bool) → IsTrue (leaves_pass passes tree.now) → IsTrue (passes result) }
 {
     read_tree_from(tree, probabilities, 0, decoder)

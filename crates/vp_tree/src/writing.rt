@@ -1,3 +1,5 @@
+//! Writing a leaf of a tree.
+
 ghost use Rattle.std.specs.Prelude.{◌≡◌, ◌≤◌, ◌<◌, ◌*◌, ◌/◌, ◌+◌, ◌%◌, ℕ, true, length, slice_get, Some, IsTrue, OnOk};
 ghost use Rattle.vp_bool.specs.Writing.{write_all, Writes};
 ghost use Rattle.vp_tree.specs.declared.steps.Step.{Step};
@@ -11,8 +13,7 @@ use vp_bool::BoolEncoder;
 
 /// Writes the bools of the path from a pair of the tree to a leaf (RFC 6386, chapter 8.1).
 ///
-/// `from` is the place of that pair's first entry. Where memory is refused, a part of the path may
-/// have been written.
+/// `from` is the index of that pair's first entry. If out of memory, a part of the path may have been written.
 pub fn write_tree_from<T: Copy + PartialEq>(
     tree: &[TreeEntry<T>],
     probabilities: &[u8],
@@ -26,9 +27,9 @@ pub fn write_tree_from<T: Copy + PartialEq>(
     requires from_even { from % 2 ≡ 0 }
     requires probs_in { length tree.now ≤ 2 * length probabilities.now }
     requires leaf_in { IsTrue (has_leaf (T.eq leaf) tree.now from) }
-    // Nothing else is equal to the leaf.
+    // Nothing else equals the leaf.
     requires exact { (other : T) → T.eq leaf other ≡ true → leaf ≡ other }
-    // What was written is read as the leaf, whatever follows. The default is never met.
+    // What was written is read as the leaf, whatever follows. `default` is never used.
     ensures { OnOk result ((default : T) → Writes
         (walk_from default tree.now probabilities.now from) encoder.old encoder.new leaf) }
 {
@@ -39,7 +40,7 @@ pub fn write_tree_from<T: Copy + PartialEq>(
 
 /// Writes the bools of the path from the root of the tree to a leaf (RFC 6386, chapter 8.1).
 ///
-/// Where memory is refused, a part of the path may have been written.
+/// If out of memory, a part of the path may have been written.
 pub fn write_tree<T: Copy + PartialEq>(
     tree: &[TreeEntry<T>],
     probabilities: &[u8],
@@ -50,16 +51,16 @@ pub fn write_tree<T: Copy + PartialEq>(
     requires small { length tree.now ≤ 32 }
     requires probs_in { length tree.now ≤ 2 * length probabilities.now }
     requires leaf_in { IsTrue (has_leaf (T.eq leaf) tree.now 0) }
-    // Nothing else is equal to the leaf.
+    // Nothing else equals the leaf.
     requires exact { (other : T) → T.eq leaf other ≡ true → leaf ≡ other }
-    // What was written is read as the leaf, whatever follows. The default is never met.
+    // What was written is read as the leaf, whatever follows. `default` is never used.
     ensures { OnOk result ((default : T) → Writes
         (walk_from default tree.now probabilities.now 0) encoder.old encoder.new leaf) }
 {
     write_tree_from(tree, probabilities, 0, leaf, encoder)
 }
 
-/// Writes the bools of a path, each by the probability of its pair.
+/// Writes the bools of a path, each with the probability of its pair.
 fn write_path(
     path: &[Step],
     probabilities: &[u8],

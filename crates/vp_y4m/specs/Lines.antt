@@ -10,9 +10,8 @@ use Rattle.vp_y4m.specs.Reads.{Shows, ShowsAtEnd, TakesBytes}
 abbrev pub is_line_feed : ℕ → Bool
 is_line_feed byte = byte == 10
 
--- the line at the front of some bytes, without its line feed, and what stands behind that; none where there are no
--- bytes.
--- More than 1,024 bytes without a line feed are `Magic`, fewer at the end of all bytes `Torn`
+-- the first line of some bytes, without its line feed, and the bytes after it; None if there are no bytes. More than
+-- 1,024 bytes without a line feed are `Magic`; fewer at the end of the input are `Torn`.
 unfoldable pub first_line : List ℕ → Result (Option (List ℕ × List ℕ)) SourceFault
 first_line bytes =
     if length bytes == 0 then Ok None else
@@ -20,20 +19,20 @@ first_line bytes =
     if nat_lt (position_or_len is_line_feed bytes) (length bytes) then Ok
     (Some (before_first is_line_feed bytes, after_first is_line_feed bytes)) else Err Torn
 
--- the next byte was taken, or the end was met, or nothing was taken
+-- the next byte is consumed, or the input ended, or nothing is consumed
 abbrev pub ReadsByte : Result (Option ℕ) SourceFault → Option (List ℕ) → Option (List ℕ) → Type 0
 ReadsByte (Ok (Some byte)) before after = Consumes before after (byte ∷ [])
 ReadsByte (Ok None) before after = Consumes before after [] × IsAtEnd after
 ReadsByte (Err fault) before after = (fault ≡ Device) × Consumes before after []
 
--- 1,025 bytes without a line feed were taken
+-- 1,025 bytes without a line feed are consumed
 pub record IsLineTooLong (before after : Option (List ℕ)) : Type 0 where
   pub taken : List ℕ
   pub consumed : Consumes before after taken
   pub long : length taken ≡ 1025
   pub no_feed : position_or_len is_line_feed taken ≡ length taken
 
--- a line is too long, or the end comes inside it, or a read failed
+-- a line is too long, or the input ends inside it, or a read failed
 abbrev pub LineFails : SourceFault → Option (List ℕ) → Option (List ℕ) → Type 0
 LineFails Magic before after = IsLineTooLong before after
 LineFails Torn before after = ShowsAtEnd first_line (Err Torn) before after
@@ -43,7 +42,7 @@ LineFails Colour before after = ⊥
 LineFails Interlaced before after = ⊥
 LineFails Memory before after = ⊥
 
--- a line was read into the front of some bytes: its length, or none where the end was met first
+-- a line is read into a prefix of the bytes: its length, or None at the end of the input
 abbrev pub ReadsLine : Result (Option ℕ) SourceFault → List ℕ → Option (List ℕ) → Option (List ℕ) → Type 0
 ReadsLine (Ok (Some n)) bytes before after = (n ≤ 1024) × Shows first_line
     (λ rest. Ok (Some (take n bytes, rest))) before after

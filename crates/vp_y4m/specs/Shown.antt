@@ -1,4 +1,4 @@
--- The model of a header: the numbers that its struct holds.
+-- The model of a header: the numbers in its struct.
 use Rattle.std.specs.Prelude.{ℕ, List, Option, Result, Ok, Err}
 use Rattle.std.specs.Option.{option_map}
 use Rattle.std.specs.Borrow.{Bor}
@@ -7,14 +7,16 @@ use Rattle.vp_y4m.specs.declared.header.SourceHead.{SourceHead}
 use Rattle.vp_y4m.specs.declared.fault.SourceFault.{SourceFault}
 use Rattle.vp_y4m.specs.Header.{Head}
 
+-- the model of a header
 abbrev pub head_shown : SourceHead → Head
 head_shown head = record { w = head.dim.w; h = head.dim.h; rate = head.rate; scale = head.scale }
 
+-- the model of the result of parsing a header
 abbrev pub outcome_shown : Result SourceHead SourceFault → Result Head SourceFault
 outcome_shown (Ok head) = Ok (head_shown head)
 outcome_shown (Err fault) = Err fault
 
--- the text that was lent, if any
+-- the borrowed text, if any
 abbrev pub borrowed_text : Option (Bor (List ℕ)) → Option (List ℕ)
 borrowed_text text = option_map (λ t. t.now) text
 

@@ -1,4 +1,4 @@
--- The model of a source of pictures: its reader, header and progress, and the answer to each request.
+-- The model of a source of pictures: its reader, header and progress, and the result of each call.
 use Rattle.std.specs.Prelude.{ℕ, List, Option, Some, None, Result, Ok, Err}
 use Rattle.vp_base.specs.Counted.{counted_remaining, counted_failures, counted_reads}
 use Rattle.vp_y4m.specs.declared.fault.SourceFault.{SourceFault}
@@ -12,36 +12,37 @@ use Rattle.vp_y4m.specs.Frames.{GivesPicture}
 use Rattle.vp_y4m.specs.Header.{Head}
 use Rattle.vp_y4m.specs.Shown.{head_shown}
 
--- which reference to its reader it holds
+-- the identity of the mutable reference to the reader
 abbrev pub reader_name : {R : Type 0} → Source R → ℕ
 reader_name source = source.reader.ghost_name
 
--- the bytes that its reader has left, where they are known
+-- the remaining bytes of its reader, if known
 abbrev pub bytes_left : {R : Type 0} → (R → Option (List ℕ)) → Source R → Option (List ℕ)
 bytes_left remaining source = counted_remaining remaining source.reader.now
 
--- how many of its reader's calls failed
+-- the number of failed calls of its reader
 abbrev pub failures_of : {R : Type 0} → Source R → ℕ
 failures_of source = counted_failures source.reader.now
 
--- how often its reader was read
+-- the number of reads of its reader
 abbrev pub reads_of : {R : Type 0} → Source R → ℕ
 reads_of source = counted_reads source.reader.now
 
+-- the header of a source
 abbrev pub head_of : {R : Type 0} → Source R → Head
 head_of source = head_shown source.head
 
--- whether pictures may still come, or the end was met, or a fault stands
+-- whether more pictures may follow, or the input ended, or a fault is permanent
 abbrev pub progress_of : {R : Type 0} → Source R → Progress
 progress_of source = source.progress
 
--- what becomes of a source that pictures may come from, by its answer
+-- the progress of an open source after a result
 abbrev pub progress_after : {P : Type 0} → Result (Option P) SourceFault → Progress
 progress_after (Ok (Some picture)) = Open
 progress_after (Ok None) = Ended
 progress_after (Err fault) = Failed fault
 
--- an answer is that of the bytes: the next picture, the end, or a fault
+-- a result is determined by the bytes: the next picture, the end, or a fault
 abbrev pub AnswersNextPicture : ℕ → ℕ → Result (Option Image) SourceFault → Option (List ℕ) → Option (List ℕ) → Type 0
 AnswersNextPicture w h (Ok (Some picture)) before after = GivesPicture w h picture before after
 AnswersNextPicture w h (Ok None) before after = ShowsAtEnd (next_of w h) (Ok None) before after

@@ -1,13 +1,13 @@
-//! What is wrong with a source.
+//! Faults of YUV4MPEG2 files.
 
-/// Why a source gave no picture.
+/// Why a source gives no picture.
 #[derive(Clone, Copy, Debug, PartialEq, Eq)]
 pub enum SourceFault {
-    /// A line is longer than 1,024 bytes, or doesn't begin with its word, or a rate isn't two numbers.
+    /// A line is longer than 1,024 bytes or begins with the wrong word, or the frame rate is malformed.
     Magic,
-    /// A side is missing, isn't a number, or is refused by the limits.
+    /// The width or the height is missing, malformed, or not allowed by the limits.
     Size,
-    /// The colours aren't 4:2:0 of 8 bits.
+    /// The chroma format is not 8-bit 4:2:0.
     Colour,
     /// The pictures are interlaced.
     Interlaced,
@@ -15,6 +15,6 @@ pub enum SourceFault {
     Torn,
     /// A read failed.
     Device,
-    /// Memory was refused.
+    /// Out of memory.
     Memory,
 }

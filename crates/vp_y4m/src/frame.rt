@@ -1,4 +1,4 @@
-//! Reading of one picture with its line.
+//! Reading one picture with its frame line.
 
 ghost use Rattle.std.specs.Prelude.{◌≡◌, ◌≢◌, ◌≤◌, ◌+◌, if◌then◌else◌, Err};
 ghost use Rattle.vp_base.specs.Image.{blank_image};
@@ -15,7 +15,7 @@ use crate::pixels::read_pixels;
 use std::io::Read;
 use vp_base::{Counted, Picture};
 
-// Reads the line before a picture; false where the reader's end comes before it.
+// Reads the frame line of a picture. Returns false at the end of the input.
 fn read_frame_line<R: Read>(reader: &mut Counted<R>) -> Result<bool, SourceFault>
     ensures found { FindsFrame result (counted_remaining R.remaining reader.old)
         (counted_remaining R.remaining reader.new) }
@@ -40,7 +40,7 @@ fn read_frame_line<R: Read>(reader: &mut Counted<R>) -> Result<bool, SourceFault
     }
 }
 
-/// Reads the next picture into a picture of zeros; false where the reader's end comes before its line.
+/// Reads the next picture into a picture of zeros. Returns false at the end of the input.
 pub(crate) fn read_frame<R: Read>(
     reader: &mut Counted<R>,
     picture: &mut Picture,

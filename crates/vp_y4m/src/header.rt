@@ -1,4 +1,4 @@
-//! What the line before all pictures says.
+//! Parsing the header line.
 
 ghost use Rattle.std.specs.Prelude.{◌≡◌, ◌==◌, ◌<◌, ◌≤◌, ◌*◌, length, position, IfSome, IfOk, IfErr, MatchOption, ◌⊎◌};
 ghost use Rattle.std.specs.Char.{is_ascii_digit};
@@ -11,18 +11,18 @@ ghost use Rattle.vp_y4m.specs.Shown.{outcome_shown, borrowed_text, sides_of};
 use crate::fault::SourceFault;
 use vp_base::{Dim, Limits};
 
-/// What a file says before its pictures. Its fields are public, so it may also be one that no file said.
+/// The fields of the header line. Its fields are public, so a value need not come from a file.
 #[derive(Clone, Copy, Debug, PartialEq, Eq)]
 pub struct SourceHead {
-    /// The size of all its pictures.
+    /// The size of all pictures.
     pub dim: Dim,
-    /// How many pictures `scale` seconds have.
+    /// Frame rate numerator: `rate / scale` pictures per second.
     pub rate: u32,
-    /// How many seconds `rate` pictures take.
+    /// Frame rate denominator: `rate / scale` pictures per second.
     pub scale: u32,
 }
 
-// Where a byte stands first.
+// The index of the first occurrence of a byte.
 fn place_of(text: &[u8], byte: u8) -> Option<usize>
     ensures place { result ≡ position (λ b. b == byte) text.now }
     ensures there { IfSome result (λ i. i < length text.now) }
@@ -30,7 +30,7 @@ fn place_of(text: &[u8], byte: u8) -> Option<usize>
     text.iter().position(|b| *b == byte)
 }
 
-// Whether the line's first token is the word.
+// Whether the first token of the line is this word.
 pub(crate) fn is_first_token(line: &[u8], word: &[u8]) -> bool
     ensures { result ≡ begins_with word.now line.now }
 {
@@ -40,7 +40,7 @@ pub(crate) fn is_first_token(line: &[u8], word: &[u8]) -> bool
     }
 }
 
-// The token's text behind its first byte, where that names the kind.
+// The text of a token after its first byte, if that byte is `kind`.
 fn text_behind(token: &[u8], kind: u8) -> Option<&[u8]>
     ensures { borrowed_text result ≡ text_after_kind kind token.now }
 {
@@ -50,7 +50,7 @@ fn text_behind(token: &[u8], kind: u8) -> Option<&[u8]>
     }
 }
 
-// The first token and what stands behind its space, or none where the line has one token.
+// The first token, and the text after the following space. None if the line is one token.
 fn split_token(line: &[u8]) -> Option<(&[u8], &[u8])>
     ensures { MatchOption result (position_or_len is_space line.now ≡ length line.now) (λ p.
         (position_or_len is_space line.now < length line.now)
@@ -81,7 +81,7 @@ fn all_digits(text: &[u8]) -> bool
     text.iter().all(|c| c.is_ascii_digit())
 }
 
-// A decimal number without a sign.
+// Parses an unsigned decimal number.
 fn number(text: &[u8]) -> Option<u32>
     ensures { result ≡ number_in text.now }
 {
@@ -94,7 +94,7 @@ fn number(text: &[u8]) -> Option<u32>
     text.parse::<u32>().ok()
 }
 
-// Rate and scale, 25:1 where nothing is said.
+// Parses the frame rate; 25:1 if there is none.
 fn rate_of(text: Option<&[u8]>) -> Option<(u32, u32)>
     ensures { result ≡ rate_in (borrowed_text text.entry) }
 {
@@ -107,13 +107,14 @@ fn rate_of(text: Option<&[u8]>) -> Option<(u32, u32)>
     Some((rate, scale))
 }
 
+/// Parses a width or height.
 fn side(text: Option<&[u8]>) -> Option<u32>
     ensures { result ≡ side_in (borrowed_text text.entry) }
 {
     number(text?)
 }
 
-// The size, where both sides are a picture's and the limits allow it.
+// The size, if both sides are valid and within the limits.
 fn size_of(w: Option<u32>, h: Option<u32>, limits: Limits) -> Option<Dim>
     ensures sides { sides_of result ≡ size_within limits.pixels (option_pair w h) }
     ensures small { IfSome result (λ d. d.w * d.h ≤ limits.pixels) }
@@ -123,6 +124,7 @@ fn size_of(w: Option<u32>, h: Option<u32>, limits: Limits) -> Option<Dim>
     Dim::new(w, h, &limits).ok()
 }
 
+/// Whether the chroma format is 8-bit 4:2:0; so if there is no token.
 fn is_colour(text: Option<&[u8]>) -> bool
     ensures { result ≡ is_taken_colour (borrowed_text text.entry) }
 {
@@ -137,6 +139,7 @@ fn is_colour(text: Option<&[u8]>) -> bool
     }
 }
 
+/// Whether the pictures are not interlaced: no token, `p`, or `?` (unknown).
 fn is_frame_wise(text: Option<&[u8]>) -> bool
     ensures { result ≡ is_progressive (borrowed_text text.entry) }
 {
@@ -146,7 +149,7 @@ fn is_frame_wise(text: Option<&[u8]>) -> bool
     }
 }
 
-/// What the first line of a file says. The faults come in the order `Magic`, `Size`, `Colour`, `Interlaced`.
+/// Parses the header line. Returns the first fault in the order `Magic`, `Size`, `Colour`, `Interlaced`.
 #[tactic(auto, unfolding(crate::specs::Header::head_in))]
 pub(crate) fn read_head_line(line: &[u8], limits: Limits) -> Result<SourceHead, SourceFault>
     ensures value { outcome_shown result ≡ head_in limits.pixels line.now }

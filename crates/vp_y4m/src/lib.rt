@@ -1,4 +1,4 @@
-//! YUV4MPEG2 files, written and read.
+//! Reading and writing YUV4MPEG2 files.
 #![tactic(auto)]
 
 mod fault;

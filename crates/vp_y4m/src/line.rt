@@ -1,4 +1,4 @@
-//! Reading of lines.
+//! Reading lines.
 
 ghost use Rattle.std.specs.Prelude.{◌≡◌, ◌≢◌, ◌==◌, ◌≤◌, ◌+◌, if◌then◌else◌, length, None, Ok, Err};
 ghost use Rattle.vp_base.specs.Counted.{counted_remaining, counted_failures, counted_reads, one_more, HasFailed};
@@ -10,7 +10,7 @@ use crate::fault::SourceFault;
 use std::io::Read;
 use vp_base::Counted;
 
-// The next byte, or none at the reader's end.
+// Reads the next byte. Returns None at the end of the input.
 fn read_byte<R: Read>(reader: &mut Counted<R>) -> Result<Option<u8>, SourceFault>
     ensures byte { ReadsByte result (counted_remaining R.remaining reader.old)
         (counted_remaining R.remaining reader.new) }
@@ -27,8 +27,8 @@ fn read_byte<R: Read>(reader: &mut Counted<R>) -> Result<Option<u8>, SourceFault
     }
 }
 
-/// Reads a line of 1,024 bytes at most and its line feed, and no byte behind it. Gives the line's length, or
-/// None where the reader's end comes before the first byte.
+/// Reads a line of at most 1,024 bytes and its line feed, and nothing after it. Returns the line's length, or None if
+/// the input ends before the first byte.
 pub(crate) fn read_line<R: Read>(
     reader: &mut Counted<R>,
     line: &mut [u8],
@@ -59,7 +59,7 @@ pub(crate) fn read_line<R: Read>(
     }
 }
 
-// The reader's end behind the first n bytes of a line.
+// The result at the end of the input, after the first `n` bytes of a line.
 fn end_after(n: usize) -> Result<Option<usize>, SourceFault>
     ensures { result ≡ (if n == 0 then Ok None else Err SourceFault.Torn) }
 {

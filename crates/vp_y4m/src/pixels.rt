@@ -1,4 +1,4 @@
-//! Reading of pixels.
+//! Reading pixels.
 
 ghost use Rattle.std.specs.Prelude.{◌≡◌, ◌≢◌, ◌<◌, ◌≤◌, ◌*◌, ◌+◌, ℕ, List, length, take, drop, OnOk, IfErr, Err};
 ghost use Rattle.std.specs.Io.KnownBytes.{Consumes};
@@ -16,7 +16,7 @@ use crate::fault::SourceFault;
 use std::io::Read;
 use vp_base::{Counted, Picture};
 
-// Reads the first `w` bytes of the row.
+// Reads the first `w` bytes of a row.
 fn fill<R: Read>(reader: &mut Counted<R>, row: &mut [u8], w: usize) -> Result<(), SourceFault>
     requires { w ≤ length row.old }
     ensures ok { OnOk result (Consumes (counted_remaining R.remaining reader.old)
@@ -70,7 +70,7 @@ fn read_row<R: Read>(
     fill(reader, picture.row_mut(k, y), w)
 }
 
-// Reads the first `w` columns of the first `h` rows of plane `k`, row after row.
+// Reads the first `w` columns of the first `h` rows of plane `k`, in raster order.
 fn read_plane<R: Read>(
     reader: &mut Counted<R>,
     picture: &mut Picture,
@@ -132,7 +132,7 @@ fn read_shown<R: Read>(
     }
 }
 
-/// Reads the shown pixels of a picture of zeros: Y, U, V, each plane by rows.
+/// Reads the shown pixels of a picture of zeros: planes Y, U, V, each in raster order.
 pub(crate) fn read_pixels<R: Read>(
     reader: &mut Counted<R>,
     picture: &mut Picture,

@@ -1,4 +1,4 @@
-//! A file that is read picture by picture.
+//! Reading a YUV4MPEG2 file picture by picture.
 
 ghost use Rattle.std.specs.Prelude.{◌≡◌, ◌≢◌, ◌≤◌, ◌+◌, ◌*◌, length, None, Ok, Err, IfOk, IfErr, IfSome};
 ghost use Rattle.vp_base.specs.Counted.{counted_remaining, counted_failures, counted_reads, HasFailed};
@@ -18,8 +18,7 @@ use std::io::Read;
 use vp_base::{Counted, Dim, Limits, Picture};
 
 impl SourceHead {
-    /// Reads the line before all pictures, and no byte behind it. No fault is remembered: a second call reads the
-    /// next line.
+    /// Reads the header line, and nothing after it. Faults are not remembered: a second call reads the next line.
     pub fn read<R: Read>(reader: &mut Counted<R>, limits: Limits) -> Result<SourceHead, SourceFault>
         ensures ok { IfOk result (λ head. Shows (file_head limits.pixels) (λ rest. Ok (head_shown head, rest))
             (counted_remaining R.remaining reader.old) (counted_remaining R.remaining reader.new)) }
@@ -30,8 +29,8 @@ impl SourceHead {
             → HasFailed (counted_failures reader.old) (counted_failures reader.new) }
         ensures quiet { result ≢ Err SourceFault.Device → counted_failures reader.new ≡ counted_failures reader.old }
 
-        // However it ends, each read but the last took a byte or more, and the last one too where the line is whole. So
-        // no more reads are made than these, of any reader and of one whose bytes are known.
+        // In every case each read except the last consumes at least one byte, and the last one too if the line is
+        // complete. This bounds the number of reads, also for readers whose bytes are not known.
         ensures reads { TakesInReads (idle_reads (λ _. 0) result) (counted_remaining R.remaining reader.old)
             (counted_remaining R.remaining reader.new) (counted_reads reader.old) (counted_reads reader.new) }
         ensures within { counted_reads reader.new ≤ counted_reads reader.old + 1025 }
@@ -50,19 +49,19 @@ impl SourceHead {
     }
 }
 
-/// How far a source has come.
+/// The progress of a source.
 #[derive(Clone, Copy, Debug, PartialEq, Eq)]
 pub enum Progress {
-    /// Pictures may still come.
+    /// More pictures may follow.
     Open,
-    /// The end was met where a picture might have begun.
+    /// The input ended before a picture.
     Ended,
-    /// This fault is answered for good.
+    /// This fault is returned by every call.
     Failed(SourceFault),
 }
 
-/// A file that is read picture by picture. It reads no byte ahead: after each answer exactly the bytes of the
-/// lines and pictures so far were taken from the reader.
+/// Reads a file picture by picture, without read-ahead: after each call exactly the bytes of the lines and pictures so
+/// far are consumed.
 #[derive(Drop)]
 pub struct Source<'a, R: Read> {
     alloc: Global,
@@ -75,7 +74,7 @@ impl<'a, R: Read> Source<'a, R> {
     ghost use Rattle.vp_y4m.specs.Source.{reader_name, bytes_left, failures_of, reads_of, head_of, progress_of};
     ghost use Rattle.vp_y4m.specs.Source.{progress_after, AnswersNextPicture};
 
-    /// The pictures behind a head that was read from this reader.
+    /// Creates a source of the pictures after a header that was read from this reader.
     pub fn open(alloc: Global, reader: &'a mut Counted<R>, head: SourceHead) -> Source<'a, R>
         ensures same_reference { reader_name result ≡ reader.entry.ghost_name }
         ensures head { head_of result ≡ head_shown head }
@@ -100,32 +99,32 @@ impl<'a, R: Read> Source<'a, R> {
         self.head.dim
     }
 
-    /// How many pictures `scale` seconds have.
+    /// Frame rate numerator: `rate / scale` pictures per second.
     pub fn rate(&self) -> u32
         ensures { result ≡ (head_of self.now).rate }
     {
         self.head.rate
     }
 
-    /// How many seconds `rate` pictures take.
+    /// Frame rate denominator: `rate / scale` pictures per second.
     pub fn scale(&self) -> u32
         ensures { result ≡ (head_of self.now).scale }
     {
         self.head.scale
     }
 
-    /// The next picture, or None at the file's end. The pixels that aren't shown are 0.
+    /// Reads the next picture. Returns None at the end of the file. The pixels that aren't shown are 0.
     pub fn next_picture(&mut self) -> Result<Option<Picture>, SourceFault>
         ensures same_reference { reader_name self.new ≡ reader_name self.old }
         ensures head { head_of self.new ≡ head_of self.old }
 
-        // The end and a fault stand for good. Room comes before the first read.
+        // The end and a fault are permanent. Memory is allocated before the first read.
         ensures ended { progress_of self.old ≡ Progress.Ended → (result ≡ Ok None) × (self.new ≡ self.old) }
         ensures failed { (fault : SourceFault) → progress_of self.old ≡ Progress.Failed fault
             → (result ≡ Err fault) × (self.new ≡ self.old) }
         ensures memory { progress_of self.old ≡ Progress.Open → result ≡ Err SourceFault.Memory → self.new ≡ self.old }
 
-        // Else the answer is that of the bytes.
+        // Otherwise the bytes determine the result.
         ensures answer { progress_of self.old ≡ Progress.Open → result ≢ Err SourceFault.Memory
             → AnswersNextPicture (head_of self.old).w (head_of self.old).h result
             (bytes_left R.remaining self.old) (bytes_left R.remaining self.new) }
@@ -136,9 +135,8 @@ impl<'a, R: Read> Source<'a, R> {
         ensures quiet { progress_of self.old ≡ Progress.Open → result ≢ Err SourceFault.Device
             → failures_of self.new ≡ failures_of self.old }
 
-        // However it ends, each read but the last took a byte or more, and the last one too where there is a
-        // picture. So
-        // no more reads are made than these, of any reader and of one whose bytes are known.
+        // In every case each read except the last consumes at least one byte, and the last one too if there is a
+        // picture. This bounds the number of reads, also for readers whose bytes are not known.
         ensures reads { TakesInReads (idle_reads idle_at_none result) (bytes_left R.remaining self.old)
             (bytes_left R.remaining self.new) (reads_of self.old) (reads_of self.new) }
         ensures within { reads_of self.new

@@ -1,4 +1,4 @@
-//! Writing of headers and pictures.
+//! Writing headers and pictures.
 
 ghost use Rattle.std.specs.Prelude.{◌≡◌, ◌≢◌, ◌≤◌, ◌+◌, ◌++◌, ◌↔◌, ◌⊎◌, ℕ, length, take, OnOk, OnErr, Err};
 ghost use Rattle.std.specs.Fmt.{decimal};
@@ -9,16 +9,16 @@ ghost use Rattle.vp_y4m.specs.Text.{header_text, picture_text, i420_length};
 use std::io::Write;
 use vp_base::{Counted, Device, Dim, put_all};
 
-/// Why a picture wasn't written.
+/// Why a picture is not written.
 #[derive(Clone, Copy, Debug, PartialEq, Eq)]
 pub enum PictureFault {
-    /// Its size isn't that of the file.
+    /// Its size is not that of the file.
     SizeChange,
     /// A write failed.
     Device,
 }
 
-// Writes a piece of text into the line from `at` on; gives the place behind it.
+// Writes text to the line from index `at` on. Returns the index after it.
 fn put_text(line: &mut [u8], at: usize, text: &[u8]) -> usize
     requires { at + length text.now ≤ length line.old }
     ensures place { result ≡ at + length text.now }
@@ -29,7 +29,7 @@ fn put_text(line: &mut [u8], at: usize, text: &[u8]) -> usize
     end
 }
 
-// Writes a number in decimal into the line from `at` on; gives the place behind it.
+// Writes a decimal number to the line from index `at` on. Returns the index after it.
 fn put_digits(line: &mut [u8], at: usize, n: u32) -> usize
     requires { at + length (decimal n) ≤ length line.old }
     ensures place { result ≡ at + length (decimal n) }
@@ -43,7 +43,7 @@ fn put_digits(line: &mut [u8], at: usize, n: u32) -> usize
     put_text(line, at, &digit)
 }
 
-// The same, where there is room for any number of 32 bits.
+// Writes a decimal number as `put_digits` does. There is room for any 32-bit number.
 fn put_number(line: &mut [u8], at: usize, n: u32) -> usize
     requires { at + 10 ≤ length line.old }
     ensures place { result ≤ at + 10 }
@@ -52,7 +52,7 @@ fn put_number(line: &mut [u8], at: usize, n: u32) -> usize
     put_digits(line, at, n)
 }
 
-// Writes the line of a header from the front on; gives its length.
+// Writes the header line. Returns its length.
 #[tactic(auto, unfolding(crate::specs::Text::header_text))]
 fn put_header(line: &mut [u8], dim: Dim, rate: u32, scale: u32) -> usize
     requires { length line.old ≡ 80 }
@@ -70,8 +70,8 @@ fn put_header(line: &mut [u8], dim: Dim, rate: u32, scale: u32) -> usize
     put_text(line, at, b" Ip A0:0 C420jpeg\n")
 }
 
-/// Writes the line of a file whose pictures have this size, `rate` of them in `scale` seconds. It is one
-/// write where the writer takes all bytes at once.
+/// Writes the header line of a file with pictures of this size, `rate / scale` of them per second. It is one write if
+/// the writer takes all bytes at once.
 pub fn write_header<W: Write>(
     out: &mut Counted<W>,
     dim: Dim,
@@ -90,7 +90,7 @@ pub fn write_header<W: Write>(
     put_all(out, &line[..at])
 }
 
-/// Writes a picture, as I420 of its own size, into a file of the size `file`.
+/// Writes a picture of size `dim`, given as I420, to a file of size `file`. `SizeChange` if the sizes differ.
 #[tactic(auto, unfolding(crate::specs::Text::picture_text))]
 pub fn write_picture<W: Write>(
     out: &mut Counted<W>,
