@@ -126,13 +126,13 @@ fn filter_value(outer: bool, line: Line) -> i32
 }
 
 /// `weight / 128` of the filter value, rounded to the nearest and clamped to -128 to 127.
-fn weighted_filter_value(weight: i32, pull: i32) -> i32
+fn weighted_filter_value(weight: i32, w: i32) -> i32
     requires weight { (pos 0 ≤ℤ weight) × (weight ≤ℤ pos 27) }
-    requires filter_value { (negsuc 127 ≤ℤ filter_value) × (filter_value ≤ℤ pos 127) }
-    ensures value { result ≡ clamp8 (shr_z (filter_value *ℤ weight +ℤ pos 63) 128) }
+    requires w { (negsuc 127 ≤ℤ w) × (w ≤ℤ pos 127) }
+    ensures value { result ≡ clamp8 (shr_z (w *ℤ weight +ℤ pos 63) 128) }
     ensures range { (negsuc 127 ≤ℤ result) × (result ≤ℤ pos 127) }
 {
-    clamped((pull * weight + 63) >> 7)
+    clamped((w * weight + 63) >> 7)
 }
 
 fn raised(pixel: u8, by: i32) -> u8
@@ -183,12 +183,12 @@ fn outer_tap_adjustment(high: bool, by: i32) -> i32
 fn subblock_filter(high: bool, line: Line) -> Line
     ensures { result ≡ subblock_edge_filtered high line }
 {
-    let pull = filter_value(high, line);
-    let half = outer_tap_adjustment(high, pull);
+    let w = filter_value(high, line);
+    let half = outer_tap_adjustment(high, w);
     Line {
         p1: raised(line.p1, half),
         q1: lowered(line.q1, half),
-        ..common_adjust_by(pull, line)
+        ..common_adjust_by(w, line)
     }
 }
 
@@ -199,10 +199,10 @@ fn macroblock_filter(high: bool, line: Line) -> Line
     if high {
         return common_adjust(true, line);
     }
-    let pull = filter_value(true, line);
-    let near = weighted_filter_value(27, pull);
-    let middle = weighted_filter_value(18, pull);
-    let far = weighted_filter_value(9, pull);
+    let w = filter_value(true, line);
+    let near = weighted_filter_value(27, w);
+    let middle = weighted_filter_value(18, w);
+    let far = weighted_filter_value(9, w);
     Line {
         p2: raised(line.p2, far),
         p1: raised(line.p1, middle),

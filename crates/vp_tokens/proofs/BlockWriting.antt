@@ -93,7 +93,7 @@ not_last kind b i spelled lt none small = elim (cases_lt (i + 1) b.tokens) [
   | inl more ↦ more
   | inr le ↦
       let at : b.tokens - 1 ≡ i = omega arith in
-      absurd (spelled.end_of_block (omega arith) (omega arith) (rw at (abs_zero (level_of b i) none)))
+      absurd (spelled.ended (omega arith) (omega arith) (rw at (abs_zero (level_of b i) none)))
 ]
 
 pub start_next : (n from : ℕ) {P : Type 0} → from ≡ pair_after n → (n ≡ 0 → P) → (from ≡ 0) ⊎ ((from ≡ 2) × P)

@@ -17,4 +17,4 @@ returns-in-Some-clause-written g c version done =
     ∙ ap (with_plane c.args.picture.now c.args.k)
     (with_block_same (plane_of c.args.picture.now c.args.k) c.args.x c.args.y g.row.N g.row.N block (inter_pixel version p c.args.x c.args.y c.args.vector)
     (λ i j iin jin. inter_copied version p c.args.x c.args.y c.args.vector column row i j (omega arith) (omega arith)
-    c.in-Some.ensures.place.0 c.in-Some.ensures.place.1 c.in-Some.ensures.whole_pixels.1 c.in-Some.ensures.whole_pixels.0 (c.copy_block.ensures.bytes i j iin jin)))
+    c.in-Some.ensures.place.0 c.in-Some.ensures.place.1 c.in-Some.ensures.whole.1 c.in-Some.ensures.whole.0 (c.copy_block.ensures.bytes i j iin jin)))

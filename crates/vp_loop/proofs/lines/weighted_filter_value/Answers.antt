@@ -7,4 +7,4 @@ use Rattle.vp_loop.proofs.lines.weighted_filter_value.Goals as goal
 pub returns-clause-value : goal.returns-clause-value
 returns-clause-value c =
     same_is _ c.clamped.ensures.range ∙ (c.clamped.ensures.value
-    ∙ ap clamp8 (shared c.args.filter_value c.args.weight c.requires.filter_value c.requires.weight.0 c.requires.weight.1))
+    ∙ ap clamp8 (shared c.args.w c.args.weight c.requires.w c.requires.weight.0 c.requires.weight.1))

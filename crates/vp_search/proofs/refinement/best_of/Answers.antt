@@ -43,7 +43,7 @@ loop-k-preserved c =
     let d : ℤ = passed c.args.distance in
     record {
       size = search rules;
-      done = costs_more (λ j. cost (neighbour c.args.centre d j)) c.loop-k.costs c.loop-k.k c.cost_of.result c.loop-k.invariant.vector_length (omega arith) c.loop-k.invariant.done
+      done = costs_more (λ j. cost (neighbour c.args.centre d j)) c.loop-k.costs c.loop-k.k c.cost_of.result c.loop-k.invariant.size (omega arith) c.loop-k.invariant.done
           (c.cost_of.ensures ∙ listed_cost cost c.args.centre d c.around-vectors.result zero_vector c.loop-k.k c.around-vectors.ensures (omega arith));
     }
 
@@ -51,7 +51,7 @@ pub returns-clause-cost : goal.returns-clause-cost
 returns-clause-cost c =
     let cost : QuarterVector → ℕ = quarter_cost (block16 c.args.block.now) c.args.reference.now c.args.place in
     let d : ℤ = passed c.args.distance in
-    let size = c.loop-k.invariant.vector_length in
+    let size = c.loop-k.invariant.size in
     let within = c.first_least-best.ensures.within in
     let best = c.first_least-best.result in
     c.loop-k.invariant.done best (omega arith)
@@ -63,14 +63,14 @@ returns-clause-best c =
     let costs : List ℕ = c.loop-k.costs in
     let best = c.first_least-best.result in
     let e = passed_small c.args.distance c.requires.distance in
-    let first : IsFirstLeast 9 (λ k. get_or costs k 0) best = subst (λ (n : ℕ). IsFirstLeast n (λ k. get_or costs k 0) best) c.loop-k.invariant.vector_length c.first_least-best.ensures in
+    let first : IsFirstLeast 9 (λ k. get_or costs k 0) best = subst (λ (n : ℕ). IsFirstLeast n (λ k. get_or costs k 0) best) c.loop-k.invariant.size c.first_least-best.ensures in
     subst (λ (z : ℤ). IsBestOf cost c.args.centre z (get_or c.around-vectors.result best zero_vector)) e
     (best_is cost c.args.centre (passed c.args.distance) c.around-vectors.result zero_vector costs best c.around-vectors.ensures
     (λ k h. c.loop-k.invariant.done k (omega arith)) first)
 
 pub returns-clause-row : goal.returns-clause-row
 returns-clause-row c =
-    let size = c.loop-k.invariant.vector_length in
+    let size = c.loop-k.invariant.size in
     let within = c.first_least-best.ensures.within in
     let d : ℤ = passed c.args.distance in
     let best = c.first_least-best.result in
@@ -79,7 +79,7 @@ returns-clause-row c =
 
 pub returns-clause-column : goal.returns-clause-column
 returns-clause-column c =
-    let size = c.loop-k.invariant.vector_length in
+    let size = c.loop-k.invariant.size in
     let within = c.first_least-best.ensures.within in
     let d : ℤ = passed c.args.distance in
     let best = c.first_least-best.result in
