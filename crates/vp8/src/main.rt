@@ -1,4 +1,4 @@
-//! The program `vp8`. What it does is in `vp_app`.
+//! The program `vp8`. Its commands are in the crate `vp_app`.
 #![tactic(auto)]
 
 use std::io;

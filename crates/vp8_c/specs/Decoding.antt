@@ -11,40 +11,42 @@ use Rattle.vp8_c.specs.Arguments.{Size, given_in, result_map, size_of}
 use Rattle.vp8_c.specs.Handle.{held_in}
 use Rattle.vp8_c.specs.Status.{outcome_number}
 
+-- the value is a decoder
 abbrev pub decoder_of : HandleValue → Option Decoder
 decoder_of (Decoder d) = Some d
 decoder_of (Stream s) = None
 decoder_of (Encoder e) = None
 
+-- the decoder of a handle, if it is one
 abbrev pub decoder_in : Handle → Option Decoder
 decoder_in h = option_and_then decoder_of (held_in h)
 
--- the picture that its last packet showed
+-- the picture that the decoder's last packet showed
 abbrev pub last_picture : HandleValue → Result Image ℕ
 last_picture (Decoder d) = ok_or d.shown NO_PICTURE
 last_picture (Stream s) = Err CLOSED
 last_picture (Encoder e) = Err CLOSED
 
+-- the picture that the last packet showed, or the status of a call without one
 abbrev pub handle_picture : Handle → Result Image ℕ
 handle_picture h = given_in last_picture h
 
--- its columns and rows
+-- the size of that picture
 abbrev pub shown_size_in : Handle → Result Size ℕ
 shown_size_in h = result_map (λ p. size_of p.width p.height) (handle_picture h)
 
--- a decoder before its first packet, which refuses pictures of more pixels
+-- a decoder without state; pictures of more pixels are refused
 pub record IsFresh (pixels : ℕ) (d : Decoder) : Type 0 where
   pub limit : d.limits.pixels ≡ pixels
   pub state : d.state ≡ None
   pub shown : d.shown ≡ None
 
--- no limit on a picture's pixels
+-- an invalid limit on a picture's pixels
 abbrev pub IsNoLimit : ℕ → Type 0
 IsNoLimit pixels = (pixels ≡ 0) ⊎ (268402689 < pixels)
 
--- A packet is decoded: the number of what its step comes to is answered, and the decoder after the step is kept. Or
--- memory
--- was refused, for a packet that has bytes and no fault, and nothing changed.
+-- The packet is decoded: the status is that of its step, and the decoder is the one after the step. Or memory ran out,
+-- for a packet that is not empty and has no fault, and nothing changed.
 pub record Decodes (packet : List ℕ) (status : ℕ) (old new : Decoder) : Type 0 where
   pub outcome_is : status ≢ MEMORY → status ≡ outcome_number (outcome (step old.limits old.state packet).1)
   pub after_is : status ≢ MEMORY → new ≡ after old (step old.limits old.state packet)

@@ -1,4 +1,4 @@
--- The encoder of a handle: settings, and the effect of encoding a picture from the caller's rows. Pinned by the tests
+-- The encoder of a handle: settings, and the effect of encoding a picture in the caller's planes. Pinned by the tests
 -- `settings_of_c` and `a_picture_is_encoded`.
 use Rattle.std.specs.Prelude.{◌≡◌, ◌≢◌, ◌⊎◌, ◌↔◌, ◌==◌, not, ℕ, List, length, Option, Some, None, Result, Err, ok_or}
 use Rattle.std.specs.Prelude.{option_and_then}
@@ -19,20 +19,23 @@ use Rattle.vp8_c.specs.declared.handle_value.HandleValue.TheVariants.{Decoder, S
 use Rattle.vp8_c.specs.declared.handle.Handle.{Handle}
 use Rattle.vp8_c.specs.Handle.{held_in}
 
+-- the value is an encoder
 abbrev pub encoder_of : HandleValue → Option EncoderHandle
 encoder_of (Decoder d) = None
 encoder_of (Stream a) = None
 encoder_of (Encoder e) = Some e
 
+-- the encoder of a handle, if it is one
 abbrev pub encoder_in : Handle → Option EncoderHandle
 encoder_in h = option_and_then encoder_of (held_in h)
 
--- the frame that it encoded last
+-- the last encoded frame
 abbrev pub encoded_of : HandleValue → Result Encoded ℕ
 encoded_of (Decoder d) = Err CLOSED
 encoded_of (Stream a) = Err CLOSED
 encoded_of (Encoder e) = ok_or e.encoded NO_PICTURE
 
+-- the last encoded frame, or the status of a call without one
 abbrev pub encoded_in : Handle → Result Encoded ℕ
 encoded_in h = given_in encoded_of h
 
@@ -40,18 +43,19 @@ encoded_in h = given_in encoded_of h
 abbrev pub encoded_packet : Handle → Result (List ℕ) ℕ
 encoded_packet h = result_map (λ f. f.packet) (encoded_in h)
 
+-- the length of its packet in bytes
 abbrev pub packet_size_in : Handle → Result ℕ ℕ
 packet_size_in h = result_map (λ f. length f.packet) (encoded_in h)
 
--- the picture that decoders show for it
+-- its reconstruction: the picture that a decoder shows for it
 abbrev pub recon_in : Handle → Result Image ℕ
 recon_in h = result_map (λ f. f.recon.value) (encoded_in h)
 
--- how far that is from the source
+-- the squared distance of the reconstruction from the source
 abbrev pub error_in : Handle → Result ℕ ℕ
 error_in h = result_map (λ f. f.squared_error) (encoded_in h)
 
--- the settings that C's stand for
+-- the library's settings for C's settings
 abbrev pub settings_in : EncoderSettings → Settings
 settings_in s = record {
   qi = s.qi;
@@ -65,7 +69,7 @@ settings_in s = record {
   partitions = s.partitions;
 }
 
--- an encoder of pictures of this size before its first frame
+-- an encoder for pictures of this size before its first frame
 pub record IsReady (width height : ℕ) (settings : Settings) (e : EncoderHandle) : Type 0 where
   pub columns_are : e.encoder.dim.w ≡ width
   pub rows_are : e.encoder.dim.h ≡ height
@@ -74,20 +78,20 @@ pub record IsReady (width height : ℕ) (settings : Settings) (e : EncoderHandle
   pub since : e.encoder.since ≡ 0
   pub encoded : e.encoded ≡ None
 
--- The frame that is kept after e is the source, encoded over what e keeps.
+-- the kept frame is the source, encoded in the state e
 pub record EncodesSource (e : EncoderState) (source : Image) (next : EncoderHandle) : Type 0 where
   pub frame : Encoded
   pub kept : next.encoded ≡ Some frame
   pub encoded : IsEncoded e (record { source = source; packet = frame.packet; recon = frame.recon.value }) next.encoder
   pub error : frame.squared_error ≡ squared_distance source frame.recon.value
 
--- .. of a source whose shown pixels are the caller's rows
+-- the kept frame is a source whose shown pixels are in the caller's planes, encoded in the state e
 pub record EncodesRows (e : EncoderState) (planes : Planes) (next : EncoderHandle) : Type 0 where
   pub source : Image
   pub rows : AreRowsOf e.dim.w e.dim.h planes source
   pub encodes : EncodesSource e source next
 
--- a source with the caller's rows, one of whose partitions is too long
+-- a source in the caller's planes has a partition that is too long
 pub record AreTooLong (e : EncoderState) (planes : Planes) : Type 0 where
   pub source : Image
   pub rows : AreRowsOf e.dim.w e.dim.h planes source
@@ -100,9 +104,8 @@ pub record IsFrameForgotten (e : EncoderState) (next : EncoderHandle) : Type 0 w
   pub state : next.encoder.state ≡ None
   pub encoded : next.encoded ≡ None
 
--- Planes are encoded where a picture of the encoder's size fits: its frame is kept, or a partition is too long, or
--- memory
--- was refused, and then no frame is. Where it doesn't fit, nothing changes.
+-- If the planes have room for a picture of the encoder's size, it is encoded, and its frame is kept. If a partition is
+-- too long or memory runs out, no frame is kept. If the planes are too small, nothing changes.
 pub record Encodes (planes : Planes) (status : ℕ) (old new : EncoderHandle) : Type 0 where
   pub answer : (status ≡ OK) ⊎ (status ≡ BUFFER) ⊎ (status ≡ TOO_LONG) ⊎ (status ≡ MEMORY)
   pub fits : (status ≢ BUFFER) ↔ AllFit old.encoder.dim.w old.encoder.dim.h planes

@@ -6,7 +6,7 @@ use Rattle.vp8_c.specs.declared.status.TheConstants.{SIGNATURE, CODEC, TOO_MANY,
 use Rattle.vp8_c.specs.declared.status.TheConstants.{SETTINGS, TOO_LONG, CLOSED, OPEN, MEMORY, LIMITS, DIMENSIONS}
 use Rattle.vp8_c.specs.declared.status.TheConstants.{NO_PICTURE, NO_PACKET, BUFFER}
 
--- what is done, by its number
+-- success, by its number
 abbrev pub done_name : ℕ → List ℕ
 done_name n =
     if n == OK then codes "Ok" else
@@ -37,7 +37,7 @@ file_name n =
     if n == ENDED then codes "Ended" else
     []
 
--- why a frame isn't encoded, by its number
+-- an encoder's fault, by its number
 abbrev pub frame_name : ℕ → List ℕ
 frame_name n =
     if n == SETTINGS then codes "Settings" else
@@ -70,7 +70,7 @@ partition_name i =
     if i == 7 then codes "Partition 7" else
     []
 
--- the name of a number that a call answers, which is empty where none does
+-- the name of a status number; empty if there is no such status
 abbrev pub status_name : ℕ → List ℕ
 status_name n =
     if nat_lt n TRUNCATED then done_name n else

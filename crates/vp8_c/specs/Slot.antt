@@ -7,14 +7,15 @@ use base.Fml.{Fml, ftrue}
 use denote.RawPtr.{Ptr}
 use Rattle.vp8_c.specs.contracts.held.HandleValue.{the_row}
 
--- what a slot leads to, if to anything
+-- the value of a slot, if there is one
 abbrev pub MaybeHeld : Type 0
 MaybeHeld = Option the_row.Denot
 
+-- the type of a slot's value, for the ownership predicate
 abbrev pub coded_held : Coded MaybeHeld
 coded_held = coded_option the_row.coded
 
--- the block of the C library's heap that the pointer leads to, with what lies there, and the right to free it
+-- the block of the C library's heap that the pointer refers to, with its contents, and the permission to free it
 abbrev pub slot_owns : Ptr → MaybeHeld → Fml
 slot_owns p None = ftrue
 slot_owns p (Some x) = box_owns (λ ty q. chunk ty q) the_row p x

@@ -27,7 +27,7 @@ fault_number FirstPartition = FIRST_PARTITION
 fault_number PartitionTable = PARTITION_TABLE
 fault_number (Partition i) = PARTITION + i
 
--- the number of what became of a packet
+-- the number of a packet's outcome
 abbrev pub outcome_number : Outcome → ℕ
 outcome_number Shown = OK
 outcome_number Hidden = HIDDEN
@@ -42,12 +42,12 @@ file_number file.PacketTooLarge = PACKET_TOO_LARGE
 file_number file.Torn = TORN
 file_number file.Ended = ENDED
 
--- the number of what a file's end was told
+-- the number of the result of marking a file's end
 abbrev pub ending_number : Result (Unit {0}) FileFault → ℕ
 ending_number (Ok u) = OK
 ending_number (Err fault) = file_number fault
 
--- the number of what is told of a packet that was asked for
+-- the number of the answer for a requested packet
 abbrev pub told_number : AnswerValue → ℕ
 told_number (seeking.Shown w h bytes) = OK
 told_number seeking.Hidden = HIDDEN

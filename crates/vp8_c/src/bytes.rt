@@ -1,10 +1,10 @@
-//! Bytes in the caller's memory.
+//! Copies bytes to the caller's memory.
 
 ghost use Rattle.vp8_c.specs.Arguments.{CopiesBytes};
 
 use crate::status::{BUFFER, OK};
 
-/// Copies bytes to the front, where there is room for them.
+/// Copies bytes to the beginning of `out`, or returns `BUFFER` if they don't fit.
 pub fn put_front(out: &mut [u8], bytes: &[u8]) -> u32
     ensures { CopiesBytes bytes.now result out.old out.new }
 {

@@ -1,4 +1,4 @@
-//! Calls as C makes them, on one handle: it is opened, asked, and freed.
+//! Tests of calls as C makes them: a handle is opened, used and freed.
 
 use crate::decoder::{
     vp8_decoder_copy, vp8_decoder_decode, vp8_decoder_free, vp8_decoder_new, vp8_decoder_size,
@@ -19,16 +19,16 @@ use std::fmt::Debug;
 use std::process::Abort;
 use vp_encode::Settings;
 
-/// Fails the test where these differ, and says what was found and what was wanted.
+/// Fails the test if the values differ, and prints both.
 fn equal<T: PartialEq + Debug>(rt: &impl Abort, found: &T, wanted: &T) {
     assert_eq!(rt; found, wanted);
 }
 
-/// A key packet of 17 columns and 1 row whose first partition is empty: each pixel of its picture is 128.
+/// A key packet of 17 by 1 pixels whose first partition is empty: each pixel of its picture is 128.
 const KEY: [u8; 10] = [0x10, 0, 0, 0x9d, 0x01, 0x2a, 17, 0, 1, 0];
 
-/// A file of 17 columns and 1 row, 30 pictures in 2 seconds: the key packet, a hidden packet, a packet of one byte, and
-/// five of the twelve bytes before a fourth one.
+/// A file of 17 by 1 pixels, 30 pictures in 2 seconds. It has the key packet, a hidden packet, a packet of one byte,
+/// and five of the twelve bytes before a fourth one.
 const FILE: [u8; 87] = [
     0x44, 0x4b, 0x49, 0x46, 0, 0, 0x20, 0, 0x56, 0x50, 0x38, 0x30, 17, 0, 1, 0, 30, 0, 0, 0, 2, 0,
     0, 0, 4, 0, 0, 0, 0, 0, 0, 0, 10, 0, 0, 0, 0, 0, 0, 0, 0, 0, 0, 0, 0x10, 0, 0, 0x9d, 0x01,
@@ -36,7 +36,7 @@ const FILE: [u8; 87] = [
     0, 0, 0, 0x11, 3, 0, 0, 0, 3,
 ];
 
-/// Each packet of a file, and one that it doesn't have.
+/// Requests each packet of a file, and one that it doesn't have.
 #[test]
 fn a_file_is_asked(rt: HostRuntime) {
     let alloc = rt.alloc();
@@ -69,7 +69,7 @@ fn a_file_is_asked(rt: HostRuntime) {
     assert!(rt; i420 == wanted);
 }
 
-/// What is known of a file that breaks off in a packet, and of bytes that are no file.
+/// Gets the information about a file that ends inside a packet, and about bytes that are not a file.
 #[test]
 fn a_file_is_told(rt: HostRuntime) {
     let alloc = rt.alloc();
@@ -112,7 +112,7 @@ fn a_file_is_told(rt: HostRuntime) {
     equal(&rt, &(other.packets, other.fault), &(0, 32));
 }
 
-/// A packet's picture in the caller's rows, and what no decoder is made for.
+/// Copies a packet's picture to the caller's rows, and tries sizes for which no decoder can be opened.
 #[test]
 fn a_packet_is_decoded(rt: HostRuntime) {
     let alloc = rt.alloc();
@@ -165,7 +165,7 @@ fn settings(simple: u8, subpel: u8) -> EncoderSettings {
     }
 }
 
-/// Each of C's settings is the library's of its name.
+/// Each C setting becomes the library's setting of the same name.
 #[test]
 fn settings_of_c(rt: HostRuntime) {
     let wanted = Settings {
@@ -188,7 +188,7 @@ fn settings_of_c(rt: HostRuntime) {
     equal(&rt, &settings(0, 1).settings(), &turned);
 }
 
-/// A flat picture, which is reconstructed as it is, and rows that don't fit behind it, which change nothing.
+/// A flat picture is reconstructed exactly. Rows that don't fit after it change nothing.
 #[test]
 fn a_picture_is_encoded(rt: HostRuntime) {
     let alloc = rt.alloc();
@@ -233,7 +233,7 @@ fn a_picture_is_encoded(rt: HostRuntime) {
     assert!(rt; luma == y && first == colour && second == colour);
 }
 
-/// A packet goes where there is just room for it, and what it holds is decoded to the flat picture again.
+/// A packet is copied to a buffer of exactly its length, and decodes to the flat picture again.
 #[test]
 fn a_packet_is_handed_out(rt: HostRuntime) {
     let alloc = rt.alloc();
@@ -276,7 +276,7 @@ fn a_packet_is_handed_out(rt: HostRuntime) {
     assert!(rt; luma == y && first == colour && second == colour && packet[size] == 9);
 }
 
-/// A name and the 0 behind it, where there is room for both.
+/// A name and its final 0 are copied if there is room for both.
 #[test]
 fn a_name_is_copied(rt: HostRuntime) {
     let mut out = [9; 10];

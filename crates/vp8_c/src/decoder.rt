@@ -1,4 +1,4 @@
-//! Decoding packets.
+//! The C functions for decoding packets.
 
 ghost use Rattle.std.specs.Prelude.{◌≡◌, ◌⊎◌, ◌↔◌, None, IfSome, IsSomeAnd};
 ghost use Rattle.vp8_c.specs.Handle.{held_in};
@@ -15,7 +15,9 @@ use std::alloc::Global;
 use vp_base::Limits;
 use vp_decode::Decoder;
 
-/// Opens a decoder that refuses pictures of more pixels, from 1 to 268,402,689.
+/// Opens a decoder that refuses pictures of more than `max_pixels` pixels, from 1 to 268,402,689.
+///
+/// Status: `OPEN`, `LIMITS`, `MEMORY`.
 #[unsafe(no_mangle)]
 pub extern "C" fn vp8_decoder_new(alloc: Global, decoder: &mut Handle, max_pixels: u32) -> u32
     ensures answer { (result ≡ OK) ⊎ (result ≡ OPEN) ⊎ (result ≡ LIMITS) ⊎ (result ≡ MEMORY) }
@@ -37,7 +39,9 @@ pub extern "C" fn vp8_decoder_new(alloc: Global, decoder: &mut Handle, max_pixel
     }
 }
 
-/// Decodes a packet, which is one frame. A packet of no bytes is a frame that its sender dropped.
+/// Decodes a packet, which is one frame. An empty packet is a frame that its sender dropped.
+///
+/// Status: `HIDDEN`, the faults of a packet, `MEMORY`, `CLOSED`.
 #[unsafe(no_mangle)]
 pub extern "C" fn vp8_decoder_decode(alloc: Global, decoder: &mut Handle, packet: &[u8]) -> u32
     ensures closed { decoder_in decoder.old ≡ None → IsClosed result decoder.old decoder.new }
@@ -52,7 +56,9 @@ pub extern "C" fn vp8_decoder_decode(alloc: Global, decoder: &mut Handle, packet
     status
 }
 
-/// Tells the size of the picture that the last packet showed, in pixels.
+/// Writes the size in pixels of the picture that the last packet showed.
+///
+/// Status: `NO_PICTURE`, `CLOSED`.
 #[unsafe(no_mangle)]
 pub extern "C" fn vp8_decoder_size(
     alloc: Global,
@@ -76,6 +82,8 @@ pub extern "C" fn vp8_decoder_size(
 }
 
 /// Copies the picture that the last packet showed, row by row.
+///
+/// Status: `NO_PICTURE`, `BUFFER`, `CLOSED`.
 #[unsafe(no_mangle)]
 pub extern "C" fn vp8_decoder_copy(
     alloc: Global,
@@ -108,7 +116,7 @@ pub extern "C" fn vp8_decoder_copy(
     status
 }
 
-/// Frees what the decoder holds, and closes it.
+/// Frees the decoder's memory, and closes the handle.
 #[unsafe(no_mangle)]
 pub extern "C" fn vp8_decoder_free(alloc: Global, decoder: &mut Handle)
     ensures { held_in decoder.new ≡ None }

@@ -1,4 +1,4 @@
-//! Encoding pictures.
+//! The C functions for encoding pictures.
 
 ghost use Rattle.std.specs.Prelude.{◌≡◌, ◌⊎◌, ◌↔◌, None, IfSome, IsSomeAnd};
 ghost use Rattle.vp_base.specs.Limits.{IsNoSide};
@@ -20,7 +20,9 @@ use crate::status::{CLOSED, DIMENSIONS, MEMORY, OK, OPEN, SETTINGS};
 use std::alloc::Global;
 use vp_encode::Encoder;
 
-/// Opens an encoder of pictures of this size in pixels.
+/// Opens an encoder for pictures of this size in pixels.
+///
+/// Status: `OPEN`, `DIMENSIONS`, `SETTINGS`, `MEMORY`.
 #[unsafe(no_mangle)]
 pub extern "C" fn vp8_encoder_new(
     alloc: Global,
@@ -57,7 +59,9 @@ pub extern "C" fn vp8_encoder_new(
     }
 }
 
-/// Encodes a picture of the encoder's size, and keeps its packet and the picture that decoders show for it.
+/// Encodes a picture of the encoder's size, and keeps the packet and its reconstruction.
+///
+/// Status: `TOO_LONG`, `MEMORY`, `BUFFER`, `CLOSED`.
 #[unsafe(no_mangle)]
 pub extern "C" fn vp8_encoder_encode(
     alloc: Global,
@@ -86,7 +90,9 @@ pub extern "C" fn vp8_encoder_encode(
     status
 }
 
-/// Tells the length in bytes of the packet that is kept.
+/// Writes the length in bytes of the last packet.
+///
+/// Status: `NO_PICTURE`, `CLOSED`.
 #[unsafe(no_mangle)]
 pub extern "C" fn vp8_encoder_packet_size(
     alloc: Global,
@@ -110,7 +116,9 @@ pub extern "C" fn vp8_encoder_packet_size(
     status
 }
 
-/// Copies the packet that is kept.
+/// Copies the last packet.
+///
+/// Status: `NO_PICTURE`, `BUFFER`, `CLOSED`.
 #[unsafe(no_mangle)]
 pub extern "C" fn vp8_encoder_packet(alloc: Global, encoder: &mut Handle, out: &mut [u8]) -> u32
     ensures held { held_in encoder.new ≡ held_in encoder.old }
@@ -127,7 +135,9 @@ pub extern "C" fn vp8_encoder_packet(alloc: Global, encoder: &mut Handle, out: &
     status
 }
 
-/// Copies the picture that decoders show for the packet that is kept, row by row.
+/// Copies the reconstruction of the last packet, row by row: the picture that a decoder shows for it.
+///
+/// Status: `NO_PICTURE`, `BUFFER`, `CLOSED`.
 #[unsafe(no_mangle)]
 pub extern "C" fn vp8_encoder_reconstruction(
     alloc: Global,
@@ -160,7 +170,9 @@ pub extern "C" fn vp8_encoder_reconstruction(
     status
 }
 
-/// Tells how far that picture is from the source: the sum of squared differences of Y, U and V.
+/// Writes the sum of the squared differences between the source and that picture, over Y, U and V.
+///
+/// Status: `NO_PICTURE`, `CLOSED`.
 #[unsafe(no_mangle)]
 pub extern "C" fn vp8_encoder_squared_error(
     alloc: Global,
@@ -184,7 +196,7 @@ pub extern "C" fn vp8_encoder_squared_error(
     status
 }
 
-/// Frees what the encoder holds, and closes it.
+/// Frees the encoder's memory, and closes the handle.
 #[unsafe(no_mangle)]
 pub extern "C" fn vp8_encoder_free(alloc: Global, encoder: &mut Handle)
     ensures { held_in encoder.new ≡ None }

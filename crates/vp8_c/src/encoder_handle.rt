@@ -1,4 +1,4 @@
-//! An encoder, room for its source, and the frame that it encoded last.
+//! The encoder of a handle.
 
 ghost use Rattle.std.specs.Prelude.{◌≡◌, ◌≢◌, ◌⊎◌, None, IfSome};
 ghost use Rattle.vp_encode.specs.TooLong.{IsTooLong};
@@ -11,11 +11,14 @@ use std::alloc::Global;
 use vp_base::{Dim, Picture};
 use vp_encode::{EncodeFault, Encoded, Encoder};
 
-/// An encoder, room for its source, and the frame that it encoded last, if that wasn't refused.
+/// An encoder, a buffer for its source, and the last encoded frame, unless that was refused.
 #[derive(Drop)]
 pub struct EncoderHandle {
+    /// The encoder.
     pub encoder: Encoder,
+    /// A buffer for the source picture, of the encoder's size.
     pub source: Picture,
+    /// The last encoded frame; None before the first one, and after a refused one.
     pub encoded: Option<Encoded>,
     ghost columns: { source.width ≡ encoder.dim.w },
     ghost rows: { source.height ≡ encoder.dim.h },
@@ -24,7 +27,7 @@ pub struct EncoderHandle {
 impl EncoderHandle {
     ghost use Rattle.vp8_c.specs.EncoderHandle.{Encodes, EncodesSource, IsFrameForgotten};
 
-    /// An encoder of pictures of this size with room for its source, or None where memory was refused.
+    /// Creates a handle's encoder for pictures of this size. None if memory runs out.
     pub fn of(alloc: Global, encoder: Encoder, dim: Dim) -> Option<EncoderHandle>
         requires { encoder.dim ≡ dim }
         ensures encoder { IfSome result (λ c. c.encoder ≡ encoder) }
@@ -40,7 +43,7 @@ impl EncoderHandle {
         }
     }
 
-    /// Encodes the source, and keeps the frame.
+    /// Encodes the source in the buffer, and keeps the frame.
     fn encode_source(&mut self) -> u32
         ensures answer { (result ≡ OK) ⊎ (result ≡ TOO_LONG) ⊎ (result ≡ MEMORY) }
         ensures encoded { result ≡ OK → EncodesSource self.old.encoder self.old.source self.new }
@@ -64,7 +67,7 @@ impl EncoderHandle {
         }
     }
 
-    /// Encodes the caller's rows, where they fit, and keeps the frame.
+    /// Encodes the picture in the caller's planes, if they are large enough, and keeps the frame.
     pub fn encode(&mut self, planes: CallerPlanes) -> u32
         ensures { Encodes (planes_in planes.entry) result self.old self.new }
     {

@@ -1,4 +1,4 @@
-//! A file in memory, and what was asked of it.
+//! The IVF file of a handle.
 
 ghost use Rattle.std.specs.Prelude.{◌≡◌, IfSome, option_map};
 ghost use Rattle.vp_stream.specs.Seeking.{answer_value};
@@ -10,40 +10,45 @@ use vp_base::{Dim, Limits};
 use vp_ivf::{FeedError, FileFault};
 use vp_stream::{Answer, Stream};
 
-/// A whole file, what its end was told, and the answer for the packet that was asked for last.
+/// A whole file, the result of marking its end, and the answer for the last requested packet.
 #[derive(Drop)]
 pub struct FileHandle {
+    /// The stream that all bytes of the file were fed to.
     pub stream: Stream,
+    /// The result of marking the end of the file.
     pub ended: Result<(), FileFault>,
+    /// The answer for the last requested packet.
     pub answer: Answer,
 }
 
-/// What is known of a file.
+/// Information about a file.
 #[repr(C)]
 #[derive(Clone, Copy)]
 pub struct StreamInfo {
-    /// The columns that its head says.
+    /// The width in pixels in the file's head.
     pub width: u32,
-    /// The rows that its head says.
+    /// The height in pixels in the file's head.
     pub height: u32,
-    /// How many units of time `scale` seconds have.
+    /// The numerator of the frame rate: `rate / scale` pictures a second.
     pub rate: u32,
-    /// How many seconds `rate` units of time take.
+    /// The denominator of the frame rate.
     pub scale: u32,
-    /// How many packets are whole.
+    /// The number of whole packets.
     pub packets: u32,
-    /// `OK`, or why no more are read.
+    /// `OK`, or the fault of the file.
     pub fault: u32,
 }
 
-/// The picture of a packet: its size, and its I420.
+/// The picture of a packet: its size in pixels, and its I420 pixels.
 #[derive(Clone, Copy)]
 pub struct KeptPicture<'a> {
+    /// The size in pixels.
     pub dim: Dim,
+    /// The pixels of Y, U and V, without gaps between rows.
     pub i420: &'a [u8],
 }
 
-/// The number of what an answer says.
+/// Returns the status number of an answer.
 fn answer_number(answer: &Answer) -> u32
     ensures { result ≡ told_number (answer_value answer.now) }
 {
@@ -58,7 +63,7 @@ fn answer_number(answer: &Answer) -> u32
 impl FileHandle {
     ghost use Rattle.vp8_c.specs.FileHandle.{AnswersPacket, IsFile, stream_info, shown_picture, i420_picture};
 
-    /// A whole file, or None where memory was refused.
+    /// Creates a handle's file from all its bytes. None if memory runs out.
     pub fn of_file(alloc: Global, bytes: &[u8]) -> Option<FileHandle>
         ensures { IfSome result (IsFile bytes.now) }
     {
@@ -74,7 +79,7 @@ impl FileHandle {
         })
     }
 
-    /// What is known of the file.
+    /// Returns information about the file.
     pub fn info(&self) -> StreamInfo
         ensures { result ≡ stream_info self.now }
     {
@@ -103,7 +108,7 @@ impl FileHandle {
         }
     }
 
-    /// Asks for packet `n`, and keeps the answer.
+    /// Decodes packet `n`, and keeps the answer.
     pub fn ask(&mut self, n: u32) -> u32
         ensures { AnswersPacket n result self.old self.new }
     {
@@ -117,7 +122,7 @@ impl FileHandle {
         }
     }
 
-    /// The picture that is kept.
+    /// Returns the kept picture.
     pub fn picture(&self) -> Option<KeptPicture<'_>>
         ensures { option_map i420_picture result ≡ shown_picture (answer_value self.now.answer) }
     {

@@ -1,4 +1,4 @@
-//! Handles, as C has them.
+//! Handles in C's memory layout.
 
 ghost use Rattle.std.specs.Prelude.{◌≡◌, Some, None, option_map, is_some, if◌then◌else◌};
 
@@ -8,7 +8,7 @@ use crate::slot::Slot;
 use std::alloc::Global;
 use std::mem;
 
-/// A handle in the caller's memory: closed where both fields are 0.
+/// A handle in the caller's memory. It is closed if both fields are 0.
 #[repr(C)]
 pub struct Handle {
     in_use: u32,
@@ -19,14 +19,14 @@ pub struct Handle {
 impl Handle {
     ghost use Rattle.vp8_c.specs.Handle.{held_in};
 
-    /// Whether it leads to something.
+    /// Returns whether the handle is open.
     pub fn is_open(&self) -> bool
         ensures { result ≡ is_some (held_in self.now) }
     {
         self.in_use != 0
     }
 
-    /// Takes what it leads to out of it.
+    /// Takes the value out of the handle, which is closed then.
     pub fn take(&mut self, alloc: Global) -> Option<Box<HandleValue, Global>>
         ensures taken { option_map (λ b. b.value) result ≡ held_in self.old }
         ensures closed { held_in self.new ≡ None }
@@ -43,7 +43,7 @@ impl Handle {
         Some(slot.into_parts(alloc).into_box())
     }
 
-    /// Makes a closed handle lead to this.
+    /// Puts a value into a closed handle.
     pub fn put(&mut self, held: Box<HandleValue, Global>)
         requires { held_in self.old ≡ None }
         ensures { held_in self.new ≡ Some held.value }
@@ -61,7 +61,7 @@ impl Handle {
 impl Handle {
     ghost use Rattle.vp8_c.specs.Handle.{held_in};
 
-    /// A closed handle, as C makes it.
+    /// Returns a closed handle, as C's `VP8_INIT`.
     pub fn closed() -> Handle
         ensures { held_in result ≡ None }
     {
@@ -71,7 +71,7 @@ impl Handle {
         }
     }
 
-    /// Lets a closed handle go.
+    /// Consumes a closed handle.
     pub fn forget(self)
         requires { held_in self ≡ None }
     {

@@ -1,4 +1,4 @@
-//! What handles lead to.
+//! The value of a handle: a decoder, a file or an encoder.
 
 ghost use Rattle.std.specs.Prelude.{◌≡◌, None, IfSome, IsSomeAnd, option_map};
 ghost use Rattle.vp8_c.specs.Planes.{planes_in};
@@ -11,11 +11,14 @@ use vp_base::Picture;
 use vp_decode::Decoder;
 use vp_encode::Encoded;
 
-/// What a handle leads to.
+/// The value that an open handle refers to.
 #[derive(Drop)]
 pub enum HandleValue {
+    /// A `vp8_decoder`.
     Decoder(Decoder),
+    /// A `vp8_stream`.
     Stream(FileHandle),
+    /// A `vp8_encoder`.
     Encoder(EncoderHandle),
 }
 
@@ -25,7 +28,7 @@ impl HandleValue {
     ghost use Rattle.vp8_c.specs.EncoderHandle.{Encodes, encoded_of, encoder_of};
     ghost use Rattle.vp8_c.specs.Arguments.{result_map};
 
-    /// Decodes a packet, where it is a decoder.
+    /// Decodes a packet. The status is `CLOSED` if the value isn't a decoder.
     pub fn decode(&mut self, packet: &[u8]) -> u32
         ensures closed { decoder_of self.old ≡ None → (result ≡ CLOSED) × (self.new ≡ self.old) }
         ensures decoded { IfSome (decoder_of self.old) (λ d. IsSomeAnd (decoder_of self.new)
@@ -40,7 +43,7 @@ impl HandleValue {
         }
     }
 
-    /// The picture that its last packet showed, where it is a decoder; else the status of a call that finds none.
+    /// Returns the picture that the decoder's last packet showed, or the status of a call without one.
     pub fn shown(&self) -> Result<&Picture, u32>
         ensures { result_map (λ p. p.now) result ≡ last_picture self.now }
     {
@@ -53,7 +56,7 @@ impl HandleValue {
         }
     }
 
-    /// The file, where it is one.
+    /// Returns the file, if the value is one.
     pub fn asked(&self) -> Option<&FileHandle>
         ensures { option_map (λ a. a.now) result ≡ stream_of self.now }
     {
@@ -63,7 +66,7 @@ impl HandleValue {
         }
     }
 
-    /// Asks for packet `n`, where it is a file.
+    /// Decodes packet `n` of the file. The status is `CLOSED` if the value isn't a file.
     pub fn ask(&mut self, n: u32) -> u32
         ensures closed { stream_of self.old ≡ None → (result ≡ CLOSED) × (self.new ≡ self.old) }
         ensures answered { IfSome (stream_of self.old) (λ a. IsSomeAnd (stream_of self.new)
@@ -75,8 +78,7 @@ impl HandleValue {
         }
     }
 
-    /// The picture of the packet that was asked for last, where it is a file; else the status of a call that
-    /// finds none.
+    /// Returns the picture of the last requested packet, or the status of a call without one.
     pub fn kept(&self) -> Result<KeptPicture<'_>, u32>
         ensures { result_map i420_picture result ≡ kept_of self.now }
     {
@@ -89,7 +91,7 @@ impl HandleValue {
         }
     }
 
-    /// Encodes the caller's rows, where it is an encoder.
+    /// Encodes the picture in the caller's planes. The status is `CLOSED` if the value isn't an encoder.
     pub fn encode(&mut self, planes: CallerPlanes) -> u32
         ensures closed { encoder_of self.old ≡ None → (result ≡ CLOSED) × (self.new ≡ self.old) }
         ensures encoded { IfSome (encoder_of self.old) (λ e. IsSomeAnd (encoder_of self.new)
@@ -101,7 +103,7 @@ impl HandleValue {
         }
     }
 
-    /// The frame that was encoded last, where it is an encoder; else the status of a call that finds none.
+    /// Returns the last encoded frame, or the status of a call without one.
     pub fn encoded(&self) -> Result<&Encoded, u32>
         ensures { result_map (λ f. f.now) result ≡ encoded_of self.now }
     {

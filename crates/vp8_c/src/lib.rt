@@ -1,4 +1,4 @@
-//! Decoding, encoding and IVF files for callers in C, over the crates of the library. `include/vp8.h` is its header.
+//! The C interface: decoding, encoding and IVF files. Its header is `include/vp8.h`.
 #![tactic(auto)]
 
 mod bytes;

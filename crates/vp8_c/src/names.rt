@@ -1,4 +1,4 @@
-//! The names of what calls answer.
+//! The names of status numbers.
 
 ghost use Rattle.std.specs.Prelude.{◌≡◌, ◌≢◌, ◌≤◌, ◌<◌, ◌+◌, ◌++◌, [], ◌∷◌, length};
 ghost use Rattle.vp8_c.specs.Bytes.{BeginsWith};
@@ -11,7 +11,7 @@ use crate::status::{
     SIGNATURE, SIZE, START_CODE, TOO_LARGE, TOO_LONG, TOO_MANY, TORN, TRUNCATED, VERSION,
 };
 
-/// The name of what is done.
+/// Returns the name of a status of success.
 fn done_name(status: u32) -> &'static str
     ensures { result.now ≡ done_name status }
 {
@@ -22,7 +22,7 @@ fn done_name(status: u32) -> &'static str
     }
 }
 
-/// The name of a packet's fault.
+/// Returns the name of a packet's fault.
 fn packet_name(status: u32) -> &'static str
     ensures { result.now ≡ packet_name status }
 {
@@ -39,7 +39,7 @@ fn packet_name(status: u32) -> &'static str
     }
 }
 
-/// The name of a file's fault.
+/// Returns the name of a file's fault.
 fn file_name(status: u32) -> &'static str
     ensures { result.now ≡ file_name status }
 {
@@ -54,7 +54,7 @@ fn file_name(status: u32) -> &'static str
     }
 }
 
-/// The name of why a frame isn't encoded.
+/// Returns the name of an encoder's fault.
 fn frame_name(status: u32) -> &'static str
     ensures { result.now ≡ frame_name status }
 {
@@ -65,7 +65,7 @@ fn frame_name(status: u32) -> &'static str
     }
 }
 
-/// The name of a refused call.
+/// Returns the name of a refused call.
 fn call_name(status: u32) -> &'static str
     ensures { result.now ≡ call_name status }
 {
@@ -82,7 +82,7 @@ fn call_name(status: u32) -> &'static str
     }
 }
 
-/// The name of the fault of token partition `i`.
+/// Returns the name of the fault of token partition `i`, from 0 to 7.
 fn partition_name(i: u32) -> &'static str
     ensures { result.now ≡ partition_name i }
 {
@@ -99,7 +99,7 @@ fn partition_name(i: u32) -> &'static str
     }
 }
 
-/// The name of a number that a call answers, which is empty where none does.
+/// Returns the name of a status number; empty if there is no such status.
 pub fn status_name(status: u32) -> &'static str
     ensures { result.now ≡ status_name status }
 {
@@ -118,7 +118,7 @@ pub fn status_name(status: u32) -> &'static str
     }
 }
 
-/// Copies the name of a status and a 0 behind it, where there is room for both. Gives the name's length without the 0.
+/// Copies the name of a status and a final 0, if there is room for both. Returns the name's length without the 0.
 #[unsafe(no_mangle)]
 pub extern "C" fn vp8_status_name(status: u32, out: &mut [u8]) -> usize
     ensures len { result ≡ length (status_name status) }

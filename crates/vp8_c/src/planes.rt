@@ -5,42 +5,56 @@ ghost use Rattle.vp8_c.specs.Planes.{AllFit, HasRoomForRows, colour_layout, luma
 
 use vp_base::Dim;
 
-/// How many bytes lie from the first one of a row to that of the next, in each plane.
+/// The strides of the three planes: the distance in bytes from one row to the next.
 #[derive(Clone, Copy)]
 pub struct Strides {
+    /// The stride of luma.
     pub y: usize,
+    /// The stride of U.
     pub u: usize,
+    /// The stride of V.
     pub v: usize,
 }
 
-/// Planes that are read.
+/// Planes to read from.
 #[derive(Clone, Copy)]
 pub struct CallerPlanes<'a> {
+    /// The bytes of luma.
     pub y: &'a [u8],
+    /// The bytes of U.
     pub u: &'a [u8],
+    /// The bytes of V.
     pub v: &'a [u8],
+    /// The strides of the planes.
     pub strides: Strides,
 }
 
-/// Planes that are written.
+/// Planes to write to.
 #[derive(Drop)]
 pub struct CallerPlanesMut<'a> {
+    /// The bytes of luma.
     pub y: &'a mut [u8],
+    /// The bytes of U.
     pub u: &'a mut [u8],
+    /// The bytes of V.
     pub v: &'a mut [u8],
+    /// The strides of the planes.
     pub strides: Strides,
 }
 
-/// How many columns and rows a plane has, and how far apart its rows stand.
+/// The size of a plane in pixels, and its stride in bytes.
 #[derive(Clone, Copy)]
 pub struct Layout {
+    /// The width in pixels, which is also the bytes of a row.
     pub width: usize,
+    /// The number of rows.
     pub height: usize,
+    /// The distance in bytes from one row to the next.
     pub stride: usize,
 }
 
 impl Layout {
-    /// That of the luma plane of a picture.
+    /// Returns the layout of the luma plane of a picture.
     pub fn luma(dim: Dim, stride: usize) -> Layout
         ensures { result ≡ luma_layout dim.w dim.h stride }
     {
@@ -51,7 +65,7 @@ impl Layout {
         }
     }
 
-    /// That of a colour plane.
+    /// Returns the layout of a chroma plane of a picture.
     pub fn colour(dim: Dim, stride: usize) -> Layout
         ensures { result ≡ colour_layout dim.w dim.h stride }
     {
@@ -62,7 +76,7 @@ impl Layout {
         }
     }
 
-    /// Whether so many bytes have room for the rows.
+    /// Returns whether `len` bytes have room for the rows.
     pub fn fits(self, len: usize) -> bool
         ensures { IsTrue result ↔ HasRoomForRows self len }
     {
@@ -80,7 +94,7 @@ impl Layout {
 }
 
 impl<'a> CallerPlanes<'a> {
-    /// Whether the planes have room for a picture of this size.
+    /// Returns whether the planes have room for a picture of this size.
     pub fn fit(&self, dim: Dim) -> bool
         ensures { IsTrue result ↔ AllFit dim.w dim.h (planes_in self.now) }
     {
@@ -91,7 +105,7 @@ impl<'a> CallerPlanes<'a> {
 }
 
 impl<'a> CallerPlanesMut<'a> {
-    /// Whether the planes have room for a picture of this size.
+    /// Returns whether the planes have room for a picture of this size.
     pub fn fit(&self, dim: Dim) -> bool
         ensures { IsTrue result ↔ AllFit dim.w dim.h (planes_in_mut self.now) }
     {

@@ -1,4 +1,4 @@
-//! A box as its pointer.
+//! A box as a raw pointer.
 
 ghost use Rattle.std.specs.Prelude.{◌≡◌};
 ghost use Rattle.std.specs.Box.Ownership.{box_owns};
@@ -6,7 +6,7 @@ ghost use Rattle.std.specs.Box.Ownership.{box_owns};
 use std::alloc::Allocator;
 use std::marker::Model;
 
-/// What a box is made of: the pointer to its value, and the allocator.
+/// The parts of a box: the pointer to its value, and the allocator.
 pub struct RawBox<T, A: Allocator> {
     pub(crate) ptr: *mut T,
     pub(crate) alloc: A,
@@ -18,7 +18,7 @@ impl<T, A: Allocator> Model for RawBox<T, A> {
 }
 
 impl<T, A: Allocator> RawBox<T, A> {
-    /// Takes a box apart.
+    /// Splits a box into its parts.
     pub fn of(b: Box<T, A>) -> RawBox<T, A>
     where
         T: Drop,
@@ -28,7 +28,7 @@ impl<T, A: Allocator> RawBox<T, A> {
         RawBox { ptr, alloc }
     }
 
-    /// The box again.
+    /// Joins the parts to a box again.
     pub fn into_box(self) -> Box<T, A>
         ensures { result.value ≡ self.value }
     {

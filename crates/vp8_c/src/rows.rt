@@ -1,4 +1,4 @@
-//! Pictures copied to the caller's planes, and read from them.
+//! Copies pictures to and from the caller's planes.
 
 ghost use Rattle.std.specs.Prelude.{◌≡◌, ◌≤◌, ◌<◌, ◌+◌, ◌↔◌, length, IsTrue};
 ghost use Rattle.std.specs.Bool.{OnTrue, OnFalse};
@@ -12,7 +12,7 @@ use crate::planes::{CallerPlanes, CallerPlanesMut, Layout};
 use crate::status::{BUFFER, OK};
 use vp_base::{Dim, Picture, Plane};
 
-/// Writes a run of bytes.
+/// Writes bytes from `start` on.
 #[tactic(auto, unfolding(vp_base::specs::Raster::overlay))]
 fn put_run(out: &mut [u8], start: usize, run: &[u8])
     requires { start + length run.now ≤ length out.old }
@@ -21,7 +21,7 @@ fn put_run(out: &mut [u8], start: usize, run: &[u8])
     out[start..start + run.len()].copy_from_slice(run);
 }
 
-/// Copies the first columns of the first rows of a plane.
+/// Copies a plane, without its padding, to rows in the caller's memory.
 fn copy_plane(plane: &Plane, layout: Layout, out: &mut [u8])
     requires columns { layout.width ≤ plane.now.width }
     requires rows { layout.height ≤ plane.now.height }
@@ -33,7 +33,7 @@ fn copy_plane(plane: &Plane, layout: Layout, out: &mut [u8])
     }
 }
 
-/// Copies the shown pixels of a picture, where its planes fit.
+/// Copies the shown pixels of a picture, or returns `BUFFER` if the planes are too small.
 pub fn put_picture(picture: &Picture, planes: &mut CallerPlanesMut) -> u32
     ensures memory { AreSameMemory planes.old planes.new }
     ensures picture { CopiesPicture picture.now result (planes_in_mut planes.old) (planes_in_mut planes.new) }
@@ -49,7 +49,7 @@ pub fn put_picture(picture: &Picture, planes: &mut CallerPlanesMut) -> u32
     OK
 }
 
-/// Writes a size.
+/// Writes the width and the height of a picture.
 pub fn put_size(dim: Dim, width: &mut u32, height: &mut u32) -> u32
     ensures { Puts (size_of dim.w dim.h) result (size_of width.old height.old) (size_of width.new height.new) }
 {
@@ -58,7 +58,7 @@ pub fn put_size(dim: Dim, width: &mut u32, height: &mut u32) -> u32
     OK
 }
 
-/// Reads the first columns of the first rows of a plane from rows of bytes.
+/// Reads a plane, without its padding, from rows in the caller's memory.
 fn read_plane(picture: &mut Picture, k: usize, layout: Layout, bytes: &[u8])
     requires plane { k < 3 }
     requires columns { layout.width ≤ (plane_of picture.old k).width }
@@ -74,7 +74,7 @@ fn read_plane(picture: &mut Picture, k: usize, layout: Layout, bytes: &[u8])
     }
 }
 
-/// Reads the shown pixels of a picture from the caller's planes, where they fit. Gives whether they do.
+/// Reads the shown pixels of a picture from the caller's planes, if they are large enough. Returns whether they are.
 pub fn read_picture(picture: &mut Picture, planes: CallerPlanes) -> bool
     ensures fits { IsTrue result ↔ AllFit picture.old.width picture.old.height (planes_in planes.entry) }
     ensures read { OnTrue result (AreRowsOf picture.old.width picture.old.height (planes_in planes.entry) picture.new) }

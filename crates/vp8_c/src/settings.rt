@@ -1,4 +1,4 @@
-//! What C sets an encoder to.
+//! The encoder's settings in C's types.
 
 ghost use Rattle.std.specs.Prelude.{◌≡◌, ◌⊎◌, IsNone, IfSome};
 ghost use Rattle.vp_base.specs.Limits.{IsSide, IsNoSide};
@@ -6,34 +6,34 @@ ghost use Rattle.vp_base.specs.Limits.{IsSide, IsNoSide};
 use vp_base::{Dim, Limits};
 use vp_encode::Settings;
 
-/// What an encoder is set to, in C's types.
+/// The encoder's settings in C's types.
 #[repr(C)]
 #[derive(Clone, Copy)]
 pub struct EncoderSettings {
-    /// The quantiser index, 0 to 127: 0 loses least.
+    /// The quantiser index, 0 to 127; 0 is the best quality.
     pub qi: u8,
-    /// The loop filter's level, 0 to 63; 0 filters nothing.
+    /// The loop filter level, 0 to 63; 0 turns the filter off.
     pub level: u8,
-    /// The loop filter's sharpness, 0 to 7.
+    /// The loop filter sharpness, 0 to 7.
     pub sharpness: u8,
-    /// Not 0: the simple loop filter.
+    /// Not 0: use the simple loop filter.
     pub simple: u8,
-    /// How many frames there are from one key frame to the next.
+    /// The key frame interval in frames, at least 1.
     pub key_every: u32,
-    /// How many frames there are from one golden picture to the next; 0: none but the key frame's.
+    /// The golden frame interval in frames. With 0, golden stays that of the key frame.
     pub golden_every: u32,
-    /// How many whole pixels a vector goes at most, 0 to 64.
+    /// The search range in whole pixels, 0 to 64.
     pub range: u8,
-    /// Not 0: vectors in quarter pixels.
+    /// Not 0: refine vectors to quarter pixels.
     pub subpel: u8,
-    /// How many token partitions a packet has: 1, 2, 4 or 8.
+    /// The number of token partitions in a packet: 1, 2, 4 or 8.
     pub partitions: u8,
 }
 
 impl EncoderSettings {
     ghost use Rattle.vp8_c.specs.EncoderHandle.{settings_in};
 
-    /// The settings of the library.
+    /// Converts the settings to the library's type.
     pub fn settings(&self) -> Settings
         ensures { result ≡ settings_in self.now }
     {
@@ -51,7 +51,7 @@ impl EncoderSettings {
     }
 }
 
-/// The size of a picture, or None where a side is 0 or over 16,383.
+/// Returns the size of a picture. None if a side is 0 or greater than 16,383.
 pub fn dim_of(width: u32, height: u32) -> Option<Dim>
     ensures none { IsNone result → IsNoSide width ⊎ IsNoSide height }
     ensures some { IfSome result (λ d. (d.w ≡ width) × (d.h ≡ height) × IsSide width × IsSide height) }

@@ -1,4 +1,4 @@
-//! A box, or nothing, behind a plain pointer.
+//! A nullable pointer that owns a box.
 
 ghost use Rattle.std.specs.Prelude.{◌≡◌, Some, None, IsSome};
 ghost use Rattle.vp8_c.specs.Slot.{MaybeHeld, slot_owns, coded_held};
@@ -9,8 +9,8 @@ use std::alloc::Global;
 use std::marker::Model;
 use std::ptr;
 
-/// A pointer to what a handle leads to, which it owns, or null. C sees a `void *`. It can't be let go while it owns
-/// something.
+/// An owning pointer to a handle's value, or null; `void *` in C. A slot that owns a value can't be dropped: the value
+/// must be taken out first.
 #[repr(C)]
 pub struct Slot {
     at: *mut u8,
@@ -22,7 +22,7 @@ impl Model for Slot {
 }
 
 impl Slot {
-    /// A slot that owns nothing.
+    /// Returns a null slot.
     pub fn empty() -> Slot
         ensures { result.held ≡ None }
     {
@@ -31,7 +31,7 @@ impl Slot {
         }
     }
 
-    /// A slot that owns what a box did.
+    /// Creates a slot from the parts of a box.
     pub fn of_parts(parts: RawBox<HandleValue, Global>) -> Slot
         ensures { result.held ≡ Some parts.value }
     {
@@ -39,7 +39,7 @@ impl Slot {
         Slot { at: ptr as *mut u8 }
     }
 
-    /// What the box was made of.
+    /// Takes the parts of the box out of the slot.
     pub fn into_parts(self, alloc: Global) -> RawBox<HandleValue, Global>
         requires { IsSome self.held }
         ensures { Some result.value ≡ self.held }
@@ -51,7 +51,7 @@ impl Slot {
         }
     }
 
-    /// Lets a slot go that owns nothing.
+    /// Consumes a null slot.
     pub fn forget(self)
         requires { self.held ≡ None }
     {

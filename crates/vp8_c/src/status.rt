@@ -1,4 +1,4 @@
-//! What calls answer, as numbers.
+//! The status numbers of the C interface.
 
 ghost use Rattle.std.specs.Prelude.{◌≡◌};
 ghost use Rattle.vp8_c.specs.Status.{fault_number, file_number, outcome_number};
@@ -7,41 +7,41 @@ use vp_decode::Outcome;
 use vp_head::PacketFault;
 use vp_ivf::FileFault;
 
-/// It is done. Of a packet: its picture is shown.
+/// Success. For a packet: it is decoded and its picture is shown.
 pub const OK: u32 = 0;
-/// The packet is decoded, and its picture isn't to be shown.
+/// The packet is decoded and its picture is not shown.
 pub const HIDDEN: u32 = 1;
 
-/// A packet has too few bytes.
+/// The packet has too few bytes.
 pub const TRUNCATED: u32 = 16;
-/// Its version is over 3.
+/// The packet's version is greater than 3.
 pub const VERSION: u32 = 17;
-/// A key packet without the start code.
+/// The key packet has no start code.
 pub const START_CODE: u32 = 18;
-/// A side of 0.
+/// The key packet's width or height is 0.
 pub const SIZE: u32 = 19;
-/// More pixels than are allowed.
+/// The picture has more pixels than the decoder allows.
 pub const TOO_LARGE: u32 = 20;
-/// An inter packet that has no picture to be decoded over.
+/// An inter packet without a reference frame.
 pub const NO_REFERENCE: u32 = 21;
-/// The first partition passes the end of the packet.
+/// The first partition extends past the end of the packet.
 pub const FIRST_PARTITION: u32 = 22;
-/// The table of the token partitions' sizes passes the end.
+/// The partition table extends past the end of the packet.
 pub const PARTITION_TABLE: u32 = 23;
-/// `PARTITION + n`: token partition `n` passes the end.
+/// `PARTITION + n`: token partition `n` extends past the end of the packet.
 pub const PARTITION: u32 = 256;
 
-/// A file's head doesn't begin as one.
+/// The file's head doesn't begin with DKIF.
 pub const SIGNATURE: u32 = 32;
-/// Its head says another codec.
+/// The file's codec isn't VP80.
 pub const CODEC: u32 = 33;
-/// It has more packets than are allowed.
+/// The file has more packets than allowed.
 pub const TOO_MANY: u32 = 34;
-/// A packet is larger than is allowed.
+/// A packet is larger than allowed.
 pub const PACKET_TOO_LARGE: u32 = 35;
-/// It ends inside its head or a packet.
+/// The file ends inside its head or a packet.
 pub const TORN: u32 = 36;
-/// It had ended before.
+/// The file has ended.
 pub const ENDED: u32 = 37;
 
 /// A setting is out of its range.
@@ -49,24 +49,24 @@ pub const SETTINGS: u32 = 48;
 /// A partition of the packet is too long for the format.
 pub const TOO_LONG: u32 = 49;
 
-/// The handle is closed, or leads to something else.
+/// The handle is closed, or has another kind of value.
 pub const CLOSED: u32 = 64;
 /// The handle is open already.
 pub const OPEN: u32 = 65;
-/// Memory was refused.
+/// Out of memory.
 pub const MEMORY: u32 = 66;
-/// A limit that isn't allowed.
+/// The pixel limit is 0 or too large.
 pub const LIMITS: u32 = 67;
-/// A side that no picture has.
+/// The width or height is 0 or too large.
 pub const DIMENSIONS: u32 = 68;
-/// There is no picture to give.
+/// There is no picture.
 pub const NO_PICTURE: u32 = 69;
 /// The file has no packet of this number.
 pub const NO_PACKET: u32 = 70;
 /// A length or a stride is too small.
 pub const BUFFER: u32 = 71;
 
-/// The number of a packet's fault.
+/// Returns the status number of a packet's fault.
 pub fn fault_number(fault: PacketFault) -> u32
     ensures { result ≡ fault_number fault }
 {
@@ -83,7 +83,7 @@ pub fn fault_number(fault: PacketFault) -> u32
     }
 }
 
-/// The number of what became of a packet.
+/// Returns the status number of a packet's outcome.
 pub fn outcome_number(outcome: Outcome) -> u32
     ensures { result ≡ outcome_number outcome }
 {
@@ -94,7 +94,7 @@ pub fn outcome_number(outcome: Outcome) -> u32
     }
 }
 
-/// The number of a file's fault.
+/// Returns the status number of a file's fault.
 pub fn file_number(fault: FileFault) -> u32
     ensures { result ≡ file_number fault }
 {

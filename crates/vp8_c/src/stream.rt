@@ -1,4 +1,4 @@
-//! An IVF file in memory, whose pictures are asked for by number.
+//! The C functions for an IVF file in memory, whose pictures are requested by number.
 
 ghost use Rattle.std.specs.Prelude.{◌≡◌, ◌⊎◌, None, IfSome, IsSomeAnd};
 ghost use Rattle.vp8_c.specs.Handle.{held_in};
@@ -13,7 +13,9 @@ use crate::rows::put_size;
 use crate::status::{CLOSED, MEMORY, OK, OPEN};
 use std::alloc::Global;
 
-/// Opens a stream of a whole IVF file, whose bytes are copied.
+/// Opens a stream, and copies the bytes of a whole IVF file into it.
+///
+/// Status: `OPEN`, `MEMORY`.
 #[unsafe(no_mangle)]
 pub extern "C" fn vp8_stream_new(alloc: Global, stream: &mut Handle, bytes: &[u8]) -> u32
     ensures answer { (result ≡ OK) ⊎ (result ≡ OPEN) ⊎ (result ≡ MEMORY) }
@@ -34,7 +36,9 @@ pub extern "C" fn vp8_stream_new(alloc: Global, stream: &mut Handle, bytes: &[u8
     }
 }
 
-/// Tells what is known of the file.
+/// Writes information about the file.
+///
+/// Status: `CLOSED`.
 #[unsafe(no_mangle)]
 pub extern "C" fn vp8_stream_get_info(
     alloc: Global,
@@ -58,7 +62,9 @@ pub extern "C" fn vp8_stream_get_info(
     status
 }
 
-/// Decodes packet `n`, from the last key packet before it on, and keeps its picture.
+/// Decodes packet `n`, starting at the last key packet up to it, and keeps its picture.
+///
+/// Status: `HIDDEN`, the faults of a packet, `NO_PACKET`, `MEMORY`, `CLOSED`.
 #[unsafe(no_mangle)]
 pub extern "C" fn vp8_stream_picture_at(alloc: Global, stream: &mut Handle, n: u32) -> u32
     ensures closed { stream_in stream.old ≡ None → IsClosed result stream.old stream.new }
@@ -73,7 +79,9 @@ pub extern "C" fn vp8_stream_picture_at(alloc: Global, stream: &mut Handle, n: u
     status
 }
 
-/// Tells the size of the picture that is kept, in pixels.
+/// Writes the size in pixels of the kept picture.
+///
+/// Status: `NO_PICTURE`, `CLOSED`.
 #[unsafe(no_mangle)]
 pub extern "C" fn vp8_stream_size(
     alloc: Global,
@@ -96,7 +104,9 @@ pub extern "C" fn vp8_stream_size(
     status
 }
 
-/// Copies the picture that is kept: Y, U and V, each row after row with nothing between.
+/// Copies the kept picture as I420: Y, U and V, without gaps between rows.
+///
+/// Status: `NO_PICTURE`, `BUFFER`, `CLOSED`.
 #[unsafe(no_mangle)]
 pub extern "C" fn vp8_stream_copy_i420(alloc: Global, stream: &mut Handle, out: &mut [u8]) -> u32
     ensures held { held_in stream.new ≡ held_in stream.old }
@@ -113,7 +123,7 @@ pub extern "C" fn vp8_stream_copy_i420(alloc: Global, stream: &mut Handle, out: 
     status
 }
 
-/// Frees what the stream holds, and closes it.
+/// Frees the stream's memory, and closes the handle.
 #[unsafe(no_mangle)]
 pub extern "C" fn vp8_stream_free(alloc: Global, stream: &mut Handle)
     ensures { held_in stream.new ≡ None }

@@ -1,4 +1,4 @@
-//! The numbers that `include/vp8.h` has, and planes whose rows stand apart.
+//! Tests of the numbers in `include/vp8.h`, and of planes with strides.
 
 use crate::handle_value::HandleValue;
 use crate::names::status_name;
@@ -19,12 +19,12 @@ use vp_decode::{Decoder, Outcome};
 use vp_head::PacketFault;
 use vp_ivf::FileFault;
 
-/// Fails the test where these differ, and says what was found and what was wanted.
+/// Fails the test if the values differ, and prints both.
 fn equal<T: PartialEq + Debug>(rt: &impl Abort, found: &T, wanted: &T) {
     assert_eq!(rt; found, wanted);
 }
 
-/// The faults of a packet, by the numbers of the header, and their names.
+/// The numbers and names of a packet's faults are those of the header.
 #[test]
 fn numbers_of_packet_faults(rt: HostRuntime) {
     let faults = [
@@ -48,7 +48,7 @@ fn numbers_of_packet_faults(rt: HostRuntime) {
     equal(&rt, &outcome_number(Outcome::Hidden), &1);
 }
 
-/// The faults of a file, likewise.
+/// The numbers and names of a file's faults are those of the header.
 #[test]
 fn numbers_of_file_faults(rt: HostRuntime) {
     let faults = [
@@ -65,7 +65,7 @@ fn numbers_of_file_faults(rt: HostRuntime) {
     }
 }
 
-/// What calls answer else.
+/// The names of the other statuses.
 #[test]
 fn names_of_other_numbers(rt: HostRuntime) {
     let names = [
@@ -137,7 +137,7 @@ fn nothing_to_give(rt: HostRuntime) {
     assert!(rt; matches!(held.encoded(), Err(CLOSED)));
 }
 
-/// Rows of 3, 2 and 2 pixels, the first ones 5 bytes apart, with no byte behind the last one.
+/// Three rows of three pixels with a stride of 5 bytes, ending directly after the last row.
 const LUMA: [u8; 13] = [1, 2, 3, 0, 0, 4, 5, 6, 0, 0, 7, 8, 9];
 
 const FIRST: [u8; 4] = [10, 11, 12, 13];
@@ -163,7 +163,8 @@ fn picture_of_rows(alloc: Global) -> Result<Picture, Fail> {
     Err("the rows don't fit".into())
 }
 
-/// The shown pixels of rows that stand apart, and the same rows 4 bytes apart, with the bytes between them kept.
+/// Reads the shown pixels of rows with a stride, and writes them with a stride of 4 bytes. The bytes between rows are
+/// unchanged.
 #[test]
 fn rows_stand_apart(rt: HostRuntime) -> Result<(), Fail> {
     let picture = picture_of_rows(rt.alloc())?;
@@ -186,7 +187,7 @@ fn rows_stand_apart(rt: HostRuntime) -> Result<(), Fail> {
     Ok(())
 }
 
-/// One byte too few of a plane, or a row longer than the way to the next: nothing is written.
+/// If a plane is one byte too short, or a row is longer than the stride, nothing is written.
 #[test]
 fn rows_that_do_not_fit(rt: HostRuntime) -> Result<(), Fail> {
     let picture = picture_of_rows(rt.alloc())?;

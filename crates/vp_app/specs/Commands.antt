@@ -1,4 +1,4 @@
--- What each command does with its standard streams and files, and its exit status. Pinned by the tests
+-- The effect of each command on its standard streams and files, and its exit status. Pinned by the tests
 -- `pictures_of_over_16777216_pixels_are_too_large` and `info_that_is_not_printed_has_status_1`.
 use Rattle.std.specs.Prelude.{◌≡◌, ◌≢◌, ◌⊎◌, ℕ, Bool, true, false, List, codes, Option, Some, None, Result, Ok, Err}
 use Rattle.std.specs.Prelude.{OnOk, IfOk, MatchBool}
@@ -32,31 +32,33 @@ use Rattle.vp_app.specs.Serving.{IsService}
 use Rattle.vp_app.specs.Args.{Asked, decodes, encodes, tells, serves, nothing, AreNoSettings, AreSettings, IsFlag}
 use Rattle.vp_app.specs.Args.{IsNoService, IsServiceFor, is_y4m}
 
--- ---- the streams
+-- ---- standard streams
 
--- what a reader has left, or what a writer holds, where that is known, and how many of its calls failed
+-- the bytes that a reader has left, or that a writer holds, if they are known; and the number of failed calls
 pub record Side : Type 0 where
   pub bytes : Option (List ℕ)
   pub failures : ℕ
 
+-- the side of a reader
 abbrev pub read_side : {R : Type 0} → (R → Option (List ℕ)) → Counted R → Side
 read_side remaining r = record { bytes = counted_remaining remaining r; failures = counted_failures r }
 
+-- the side of a writer
 abbrev pub written_side : {W : Type 0} → (W → Option (List ℕ)) → Counted W → Side
 written_side contents w = record { bytes = counted_contents contents w; failures = counted_failures w }
 
+-- the name is that of a standard stream
 abbrev pub is_stream : List ℕ → Bool
 is_stream name = bytes_eq name (codes "-")
 
--- the work was done over the stream where the name is `-`; else over a file, of whose bytes nothing is known, and
--- the stream
--- is as before
+-- If the name is `-`, the work is done over the standard stream. Else it is done over a file, about whose bytes nothing
+-- is known, and the standard stream is unchanged.
 abbrev pub Over : List ℕ → (Side → Side → Type 0) → Side → Side → Type 0
 Over name Work old new = MatchBool (is_stream name) (Work old new) ((new ≡ old) × ((a : Side) × (b : Side) × Work a b))
 
--- ---- to decode
+-- ---- vp8 decode
 
--- as the whole decoder says
+-- the result of `decode_all`
 pub record IsFileDecoded (form : Form) (done : Result Report DecodeFault) (input input' output output' : Side)
     : Type 0 where
   pub limits : Limits
@@ -70,22 +72,25 @@ pub record IsFileDecoded (form : Form) (done : Result Report DecodeFault) (input
   pub device : done ≡ Err Device → HasFailed input.failures input'.failures ⊎ HasFailed output.failures output'.failures
   pub quiet : done ≢ Err Device → (input'.failures ≡ input.failures) × (output'.failures ≡ output.failures)
 
--- a named file couldn't be opened or made, or is the one that is read: it ended by one of these faults
+-- a file couldn't be opened or created, or the output is the input file: the work ended by one of these faults
 abbrev pub IsUnopened : {T F : Type 0} → F → F → List ℕ → Result T F → Type 0
 IsUnopened device memory name done = (is_stream name ≡ false) × ((done ≡ Err device) ⊎ (done ≡ Err memory))
 
+-- decodes to the output file, once the input is open
 abbrev pub DecodesInto : Form → List ℕ → Result Report DecodeFault → Side → Side → Side → Side → Type 0
 DecodesInto form to done input input' output output' =
     (IsUnopened Device Memory to done × (input' ≡ input) × (output' ≡ output))
     ⊎ Over to (IsFileDecoded form done input input') output output'
 
+-- decodes from the input file to the output file
 abbrev pub DecodesFile : Form → List ℕ → List ℕ → Result Report DecodeFault → Side → Side → Side → Side → Type 0
 DecodesFile form from to done input input' output output' =
     (IsUnopened Device Memory from done × (input' ≡ input) × (output' ≡ output))
     ⊎ Over from (λ a b. DecodesInto form to done a b output output') input input'
 
--- ---- to tell what a file holds
+-- ---- vp8 info
 
+-- the result of `survey`
 pub record IsLooked (told : Result Survey SurveyFault) (input input' : Side) : Type 0 where
   pub limits : Limits
   pub usual : AreLimits 16 limits
@@ -97,29 +102,34 @@ pub record IsLooked (told : Result Survey SurveyFault) (input input' : Side) : T
   pub device : told ≡ Err SurveyFault.Device → HasFailed input.failures input'.failures
   pub quiet : told ≢ Err SurveyFault.Device → input'.failures ≡ input.failures
 
+-- a fault of reading as a fault of decoding
 abbrev pub told_as : Result Survey SurveyFault → Result Survey DecodeFault
 told_as (Ok survey) = Ok survey
 told_as (Err fault) = Err (read_fault_by fault)
 
+-- surveys an open input
 abbrev pub LooksOver : Result Survey DecodeFault → Side → Side → Type 0
 LooksOver done input input' = (told : Result Survey SurveyFault) × (done ≡ told_as told) × IsLooked told input input'
 
+-- surveys the input file
 abbrev pub Looks : List ℕ → Result Survey DecodeFault → Side → Side → Type 0
 Looks from done input input' = (IsUnopened Device Memory from done × (input' ≡ input))
     ⊎ Over from (LooksOver done) input input'
 
+-- the exit status for the file's fault
 abbrev pub status_by_fault : Option FileFault → ℕ
 status_by_fault None = 0
 status_by_fault (Some fault) = 1
 
--- the text of a survey is printed, or a write failed
+-- the survey is printed, or a write failed
 abbrev pub PrintsSurvey : Result Survey DecodeFault → ℕ → Option (List ℕ) → Option (List ℕ) → Type 0
 PrintsSurvey (Ok survey) status before after = ((status ≡ status_by_fault survey.fault)
     × Appends before after (survey_text survey)) ⊎ (status ≡ 1)
 PrintsSurvey (Err fault) status before after = (status ≡ 1) × (after ≡ before)
 
--- ---- to encode
+-- ---- vp8 encode
 
+-- the result of `encode_all`
 pub record IsFileEncoded (settings : Settings) (done : Result EncodeReport EncodeAllFault)
     (input input' output output' : Side) : Type 0 where
   pub limits : Limits
@@ -133,62 +143,71 @@ pub record IsFileEncoded (settings : Settings) (done : Result EncodeReport Encod
       ⊎ HasFailed output.failures output'.failures
   pub quiet : done ≢ Err encode_fault.Device → (input'.failures ≡ input.failures) × (output'.failures ≡ output.failures)
 
+-- encodes to the output file, once the input is open
 abbrev pub EncodesInto : Settings → List ℕ → Result EncodeReport EncodeAllFault → Side → Side → Side → Side → Type 0
 EncodesInto settings to done input input' output output' =
     (IsUnopened encode_fault.Device encode_fault.Memory to done × (input' ≡ input) × (output' ≡ output))
     ⊎ Over to (IsFileEncoded settings done input input') output output'
 
+-- encodes from the input file to the output file
 abbrev pub EncodesFile : Settings → List ℕ → List ℕ → Result EncodeReport EncodeAllFault → Side → Side → Side → Side
     → Type 0
 EncodesFile settings from to done input input' output output' =
     (IsUnopened encode_fault.Device encode_fault.Memory from done × (input' ≡ input) × (output' ≡ output))
     ⊎ Over from (λ a b. EncodesInto settings to done a b output output') input input'
 
+-- the exit status of encoding
 abbrev pub status_by_report : Result EncodeReport EncodeAllFault → ℕ
 status_by_report (Ok report) = 0
 status_by_report (Err fault) = 1
 
--- ---- what is asked for is done, with this status
+-- ---- the effect of the command, with this exit status
 
--- memory was refused before anything was done
+-- memory ran out before anything was done
 abbrev pub IsUnbegun : ℕ → Side → Side → Side → Side → Type 0
 IsUnbegun status input input' output output' = (status ≡ 1) × (input' ≡ input) × (output' ≡ output)
 
+-- the arguments are refused before anything is done
 abbrev pub IsUsageFault : ℕ → Side → Side → Side → Side → Type 0
 IsUsageFault status input input' output output' = (status ≡ 2) × (input' ≡ input) × (output' ≡ output)
 
+-- the effect of `vp8 decode`
 abbrev pub DoesDecode : Option (List ℕ) → List ℕ → List ℕ → ℕ → Side → Side → Side → Side → Type 0
 DoesDecode flag from to status input input' output output' =
     (form : Form) × (done : Result Report DecodeFault) × IsFlag flag (is_y4m form) × (status ≡ status_of done)
     × DecodesFile form from to done input input' output output'
 
+-- the effect of `vp8 encode`
 abbrev pub DoesEncode : List Row → List ℕ → List ℕ → ℕ → Side → Side → Side → Side → Type 0
 DoesEncode rows from to status input input' output output' =
     (settings : Settings) × (done : Result EncodeReport EncodeAllFault) × AreSettings rows settings
     × (status ≡ status_by_report done) × EncodesFile settings from to done input input' output output'
 
+-- the effect of `vp8 info`
 abbrev pub DoesTell : List ℕ → ℕ → Side → Side → Side → Side → Type 0
 DoesTell from status input input' output output' =
     (done : Result Survey DecodeFault) × Looks from done input input'
     × PrintsSurvey done status output.bytes output'.bytes
 
--- the connections were served, or a fault of files, names, addresses or memory came before
+-- the connections are served, or there was a fault of files, names, address or memory before that
 abbrev pub ServesConnections : ServeArgs → Result Bool ServiceFault → Side → Side → Type 0
 ServesConnections service (Ok well) input input' = IsService service.streams.items service.cache service.connections
     well input.bytes input'.bytes
 ServesConnections service (Err fault) input input' = Unit {0}
 
+-- the exit status of serving: 0 only if all connections are served to their ends
 abbrev pub status_by_service : Result Bool ServiceFault → ℕ
 status_by_service (Ok true) = 0
 status_by_service _ = 1
 
--- nothing is printed but the address, where that is asked for
+-- only the address is printed, if that is asked for
 abbrev pub DoesServe : List Row → List ℕ → List ℕ → List (List ℕ) → ℕ → Side → Side → Side → Side → Type 0
 DoesServe rows address connections operands status input input' output output' =
     (service : ServeArgs) × (done : Result Bool ServiceFault) × IsServiceFor rows address connections operands service
     × (status ≡ status_by_service done) × ServesConnections service done input input'
     × (service.show_address ≡ false → output' ≡ output)
 
+-- the effect of a task; memory may run out before it begins, and values may be refused
 abbrev pub Does : Asked → ℕ → Side → Side → Side → Side → Type 0
 Does (decodes flag from to) status input input' output output' =
     DoesDecode flag from to status input input' output output' ⊎ IsUnbegun status input input' output output'

@@ -1,4 +1,4 @@
--- Feeding a file to a hub in pieces, to its end or to its first fault. Pinned by the tests `files_are_fed`,
+-- Feeding a file to a hub in pieces, to its end or to its fault. Pinned by the tests `files_are_fed`,
 -- `named_files_are_fed` and `long_files_are_fed_whole`.
 use Rattle.std.specs.Prelude.{◌≡◌, ◌≢◌, ◌⊎◌, ℕ, Bool, true, false, List, [], ◌∷◌, ◌++◌, Option, Some, None, Result, Ok}
 use Rattle.std.specs.Prelude.{Err, All, IsOk}
@@ -13,24 +13,23 @@ use Rattle.vp_hub.specs.Hub.{Outcome, HubState, IsStep}
 use Rattle.vp_hub.specs.View.{IsRun}
 use Rattle.vp_app.specs.declared.service.ServiceFault.{ServiceFault}
 
--- the pieces of a stream, as events
+-- the events for the pieces of a stream
 abbrev pub feeds : List ℕ → List (List ℕ) → List Event
 feeds name [] = []
 feeds name (piece ∷ pieces) = Feed name piece ∷ feeds name pieces
 
--- a piece that was refused, if there is one
+-- the result of a piece that is refused, if there is one
 abbrev pub refused : Option HubFault → List Outcome
 refused None = []
 refused (Some fault) = Err fault ∷ []
 
--- no piece is refused and the reader is at its end; or one is, and not for want of memory
+-- no piece is refused and the reader is at its end; or one is refused, and memory has not run out
 abbrev pub IsFeedingDone : Option HubFault → Option (List ℕ) → Type 0
 IsFeedingDone None left = IsAtEnd left
 IsFeedingDone (Some fault) left = fault ≢ Memory
 
--- the pieces of a file were fed, and then its end was told. Each piece is taken, to the end of the file; or up to
--- one that is
--- refused, since the stream has a fault
+-- The pieces of a file are fed, and then its end is marked. Either all pieces are taken, to the end of the file; or
+-- they are taken up to one that is refused, because the stream has a fault.
 pub record IsFed (name : List ℕ) (old new : HubState) (file : List ℕ) (left : Option (List ℕ)) : Type 0 where
   pub pieces : List (List ℕ)
   pub taken : List Outcome
@@ -41,7 +40,7 @@ pub record IsFed (name : List ℕ) (old new : HubState) (file : List ℕ) (left 
   pub all_taken : All IsOk taken
   pub whole : IsFeedingDone fault left
 
--- one read: a piece was fed; or the end was told, at the reader's end or behind a piece that was refused
+-- one read: a piece is fed; or the end is marked, at the reader's end or after a piece that is refused
 abbrev pub FeedsPiece : List ℕ → HubState → HubState → Result Bool ServiceFault → List ℕ → Option (List ℕ) → Type 0
 FeedsPiece name old new (Ok true) piece left = (reply : Reply) × IsStep old (Feed name piece) (Ok reply) new
 FeedsPiece name old new (Ok false) piece left =

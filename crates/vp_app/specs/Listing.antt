@@ -6,25 +6,25 @@ use Rattle.vp_decode.specs.declared.decoder.Outcome.TheVariants as outcome
 use Rattle.vp_stream.specs.declared.outcomes.Survey.{Survey}
 use Rattle.vp_hub.specs.Pages.{head_lines}
 
--- what became of a packet
+-- the word for the outcome of a packet
 abbrev pub word_of : Outcome → List ℕ
 word_of outcome.Shown = codes "Shown"
 word_of outcome.Hidden = codes "Hidden"
 word_of (outcome.Fault fault) = packet_fault_name fault
 
--- its number, its bytes, and what became of it
+-- a packet's number, its length in bytes, and its outcome
 abbrev pub packet_line : ℕ → ℕ → Outcome → List ℕ
 packet_line number bytes o = decimal number ++ (codes " " ++ (decimal bytes
     ++ (codes " " ++ (word_of o ++ codes "\n"))))
 
--- the lines of the first n packets
+-- the lines for the first n packets
 unfoldable pub packet_lines : List (ℕ × Outcome) → ℕ → List ℕ
 packet_lines packets zero = []
 packet_lines packets (suc n) =
     let packet = slice_index_or packets n (0, outcome.Shown) in
     packet_lines packets n ++ packet_line n packet.0 packet.1
 
--- the size and the rate, where the head is good, how many packets there are, and a line for each
+-- the size and the rate if the head is valid, the number of packets, and a line for each
 abbrev pub survey_text : Survey → List ℕ
 survey_text s =
     head_lines s.head ++ (codes "packets " ++ (decimal (length s.packets)

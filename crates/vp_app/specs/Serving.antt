@@ -19,10 +19,11 @@ use Rattle.vp_app.specs.Feeding.{IsFed}
 
 -- ---- the hub
 
+-- the names of the streams
 abbrev pub names_of : List NamedFile → List (List ℕ)
 names_of streams = map (λ s. s.name.now) streams
 
--- a hub of the streams, which no event came to
+-- a new hub for the streams
 abbrev pub IsNewHub : List NamedFile → ℕ → Hub → Type 0
 IsNewHub streams cache hub =
     (limits : Limits) × AreLimits cache limits × (hub ≡ record {
@@ -33,14 +34,14 @@ IsNewHub streams cache hub =
 
 -- ---- the files
 
--- the stream was fed its file, which for `-` is what the input has from here on
+-- the stream is fed its file; for `-` that is the rest of standard input
 abbrev pub IsFileFed : NamedFile → HubState → HubState → Option (List ℕ) → Option (List ℕ) → Type 0
 IsFileFed s old new before after =
     (file : List ℕ) × MatchBool (bytes_eq s.file.now (codes "-"))
     (Consumes before after file × IsFed s.name.now old new file after)
     ((after ≡ before) × ((left : Option (List ℕ)) × IsFed s.name.now old new file left))
 
--- each stream in turn
+-- all streams, one after another
 abbrev pub AreFilesFed : List NamedFile → HubState → HubState → Option (List ℕ) → Option (List ℕ) → Type 0
 AreFilesFed [] old new before after = (new ≡ old) × (after ≡ before)
 AreFilesFed (s ∷ streams) old new before after =
@@ -49,27 +50,26 @@ AreFilesFed (s ∷ streams) old new before after =
 
 -- ---- the connections
 
--- no connection of this number could be accepted; or it was turned away; or it was served, over a socket, whose
--- bytes nobody
--- knows. The hub's state is as before.
+-- No connection could be accepted; or it was refused by the hub; or it was served over a socket, about whose bytes
+-- nothing is known. The hub's state is as before.
 abbrev pub IsServed : ℕ → HubState → Result (Unit {0}) ServeFault → Type 0
 IsServed number s o =
     (o ≡ Err Device) ⊎ (IsTurnedAway number s s o
     ⊎ ((read : List ℕ) × (failures : ℕ) × IsSession number s s o read None None None (HasFailed 0 failures)))
 
--- each in turn, numbered from this number on
+-- connections one after another, numbered from this number on
 abbrev pub AreServed : ℕ → HubState → List (Result (Unit {0}) ServeFault) → Type 0
 AreServed number s [] = Unit {0}
 AreServed number s (o ∷ os) = IsServed number s o × AreServed (number + 1) s os
 
--- so many connections were served, and whether each was served to its end
+-- this many connections are served; the result says whether each was served to its end
 pub record IsServing (connections : ℕ) (s : HubState) (well : Bool) : Type 0 where
   pub outcomes : List (Result (Unit {0}) ServeFault)
   pub count : length outcomes ≡ connections
   pub served : AreServed 0 s outcomes
   pub well_is : well ≡ list_all is_ok outcomes
 
--- ---- the whole: all files are fed into a new hub, and then the connections are served
+-- ---- the whole run: all files are fed into a new hub, and then the connections are served
 pub record IsService (streams : List NamedFile) (cache connections : ℕ) (well : Bool) (before after : Option (List ℕ))
     : Type 0 where
   pub hub : Hub

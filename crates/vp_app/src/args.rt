@@ -1,4 +1,4 @@
-//! The words of the program.
+//! Parses the command line.
 
 ghost use Rattle.std.specs.Prelude.{◌≡◌, ◌<◌, ◌≤◌, ◌^◌, [], IfErr, IfOk, IfSome, None, Ok, codes, false, option_map};
 ghost use Rattle.clap.specs.Words.{app_of, found_of, rows_of, rule_of, subcommand_rows_of};
@@ -21,33 +21,33 @@ use std::alloc::{AllocError, Global};
 use vp_encode::Settings;
 use vp_stream::Form;
 
-/// What the words ask for. A file named `-` is a standard stream.
+/// The task that the arguments ask for. A file named `-` is standard input or output.
 #[derive(Drop)]
 pub enum Task<'a> {
-    /// To decode the file `input` into pictures in the file `output`.
+    /// Decode the file `input`, and write its pictures to the file `output`.
     Decode {
         form: Form,
         input: &'a str,
         output: &'a str,
     },
-    /// To encode a file of pictures.
+    /// Encode a file of pictures.
     Encode(EncodeArgs<'a>),
-    /// To tell what the file `input` holds.
+    /// Print the contents of the file `input`.
     Info {
         input: &'a str,
     },
-    /// To serve streams.
+    /// Serve streams over HTTP.
     Serve(ServeArgs<'a>),
-    /// Nothing that there is.
+    /// No such task.
     Nothing,
 }
 
-/// Why the words ask for nothing.
+/// The reasons for which the arguments are refused.
 #[derive(Drop)]
 pub enum Refusal {
-    /// The error's text says what is wrong, or is the help or the version that was asked for.
+    /// The error has a message, or is a request for help or the version.
     Words(Error),
-    /// An operand, or the value of an option, isn't what it has to be.
+    /// An operand, or the value of an option, is invalid. The text says what is expected.
     Value(&'static str),
 }
 
@@ -72,7 +72,7 @@ impl From<AllocError> for Refusal {
     }
 }
 
-/// Reads the words, of which the first is the program's name.
+/// Parses the arguments; the first is the program's name.
 pub fn read_args<'a>(alloc: Global, words: &'a [&'a str]) -> Result<Task<'a>, Refusal>
     ensures plan { IfOk result (λ plan. (faults_of (texts words.now) ≡ [])
         × IsPlanFor (asked_of (texts words.now)) plan) }
@@ -90,7 +90,7 @@ fn parse_args<'a>(alloc: Global, words: &'a [&'a str]) -> Result<ArgMatches<'a>,
     program(alloc)?.try_get_matches_from(words)
 }
 
-// Reads what was found for the words.
+// Converts parsed arguments into a task.
 fn read_matches<'a>(alloc: Global, matches: &ArgMatches<'a>) -> Result<Task<'a>, Refusal>
     ensures plan { IfOk result (IsPlanFor (parsed_command (subcommand_rows_of matches.now))) }
     ensures refusal { IfErr result (IsNoPlanFor (parsed_command (subcommand_rows_of matches.now))) }
@@ -113,7 +113,7 @@ fn program<'a>(alloc: Global) -> Result<Command<'a>, AllocError>
     with_made(tells, serve_command(alloc))
 }
 
-// The program without its commands.
+// The program's command, without its subcommands.
 fn vp8_command<'a>(alloc: Global) -> Command<'a>
     ensures { app_of result ≡ vp8_app }
 {
@@ -124,7 +124,7 @@ fn vp8_command<'a>(alloc: Global) -> Command<'a>
         .subcommand_required(true)
 }
 
-// With one more command, where that could be made.
+// Adds a subcommand, unless creating it failed.
 fn with_made<'a>(
     command: Command<'a>,
     made: Result<Command<'a>, AllocError>,
@@ -155,7 +155,7 @@ fn decode_command<'a>(alloc: Global) -> Result<Command<'a>, AllocError>
     with_arg(with_arg(with_arg(Ok(command), y4m), input), output)
 }
 
-// With one more argument, where the command could be made.
+// Adds an argument, unless creating the command failed.
 fn with_arg<'a>(
     command: Result<Command<'a>, AllocError>,
     arg: Arg<'a>,
@@ -177,7 +177,7 @@ fn encode_command<'a>(alloc: Global) -> Result<Command<'a>, AllocError>
     with_files(alloc, frames)
 }
 
-// Whether progress is told, and the files.
+// Adds the progress flag and the files.
 fn with_files<'a>(
     alloc: Global,
     command: Result<Command<'a>, AllocError>,
@@ -194,7 +194,7 @@ fn with_files<'a>(
     with_arg(with_arg(with_arg(command, progress), input), output)
 }
 
-// How macroblocks are coded and filtered.
+// Adds the options for coding and filtering macroblocks.
 fn with_macroblock_settings<'a>(
     alloc: Global,
     command: Result<Command<'a>, AllocError>,
@@ -235,7 +235,7 @@ fn with_macroblock_settings<'a>(
     )
 }
 
-// How frames follow one another.
+// Adds the options for sequences of frames.
 fn with_frame_settings<'a>(
     alloc: Global,
     command: Result<Command<'a>, AllocError>,
@@ -360,7 +360,7 @@ fn operand<'a>(alloc: Global, name: &'a str, help: &'a str) -> Arg<'a>
         .action(ArgAction::Set)
 }
 
-// One operand or more.
+// Creates an operand that takes one value or more.
 fn operands<'a>(alloc: Global, name: &'a str, help: &'a str) -> Arg<'a>
     ensures rule { rule_of result ≡ operands_rule name.entry.now }
     ensures local { result.global ≡ false }
@@ -370,21 +370,21 @@ fn operands<'a>(alloc: Global, name: &'a str, help: &'a str) -> Arg<'a>
         .action(ArgAction::Append)
 }
 
-// The first text that was found for an argument.
+// Returns the first value of an argument.
 fn text_of<'a>(found: &ArgMatches<'a>, name: &str) -> Option<&'a str>
     ensures { option_map (λ t. t.now) result ≡ first_of name.now (rows_of (found_of found.now)) }
 {
     found.get_str(name)
 }
 
-// All texts that were found for an argument.
+// Returns all values of an argument.
 fn texts_of<'a, 'b>(found: &'b ArgMatches<'a>, name: &str) -> Option<&'b [&'a str]>
     ensures { option_map (λ all. texts all.now) result ≡ all_of name.now (rows_of (found_of found.now)) }
 {
     found.get_strs(name)
 }
 
-// Whether a flag is set.
+// Returns whether a flag is set.
 fn is_set(found: &ArgMatches<'_>, name: &str) -> bool
     ensures { IsFlag (one_of name.now (rows_of (found_of found.now))) result }
 {
@@ -473,7 +473,7 @@ fn encoder_settings(found: &ArgMatches<'_>) -> Result<Settings, Refusal>
     })
 }
 
-// The number of 32 bits that an option says, or the usual one where it isn't said.
+// Returns the 32-bit number of an option, or its default.
 fn count(
     found: &ArgMatches<'_>,
     option: &str,
@@ -493,7 +493,7 @@ fn count(
     }
 }
 
-// The number of 8 bits that an option says, or the usual one where it isn't said.
+// Returns the 8-bit number of an option, or its default.
 #[tactic(auto, using(crate::proofs::NumberLemmas::misnumbered_byte, crate::proofs::NumberLemmas::misnumbered_still))]
 fn byte(
     found: &ArgMatches<'_>,
@@ -561,7 +561,7 @@ fn service_plan<'a>(
     }))
 }
 
-// How many pictures are kept.
+// Returns the number of cached pictures, 1 to 4096; the default is 16.
 fn kept_pictures(found: &ArgMatches<'_>) -> Result<u32, Refusal>
     ensures number { IfOk result (λ n. IsNumber (first_of (codes "cache") (rows_of (found_of found.now))) 16 n × (0 < n)
         × (n ≤ 4096)) }
@@ -575,7 +575,7 @@ fn kept_pictures(found: &ArgMatches<'_>) -> Result<u32, Refusal>
     Ok(cache)
 }
 
-// Names and files, parted at the first `=` of each operand.
+// Splits operands of the form `NAME=FILE` at the first `=`.
 fn named_files<'a>(alloc: Global, operands: &[&'a str]) -> Result<Vec<NamedFile<'a>>, Refusal>
     ensures named { IfOk result (λ streams. AreNamed (texts operands.now) streams.items) }
     ensures refusal { IfErr result (IsNoNaming (texts operands.now)) }
@@ -592,7 +592,7 @@ fn named_files<'a>(alloc: Global, operands: &[&'a str]) -> Result<Vec<NamedFile<
     Ok(streams)
 }
 
-// A decimal number without a sign.
+// Parses a decimal number without a sign.
 #[tactic(auto, using(crate::proofs::NumberLemmas::no_plus, crate::proofs::NumberLemmas::no_signed_numeral))]
 fn decimal(text: &str) -> Option<u32>
     ensures number { IfSome result (IsDecimal text.now) }

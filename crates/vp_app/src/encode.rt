@@ -1,4 +1,4 @@
-//! EncodeArgs a file.
+//! The command `vp8 encode`.
 
 ghost use Rattle.std.specs.Prelude.{◌≡◌, ⊤, false};
 ghost use Rattle.vp_app.specs.Commands.{is_stream, read_side, written_side, EncodesFile, EncodesInto, IsFileEncoded};
@@ -11,12 +11,12 @@ use std::rt::Files;
 use vp_base::{Counted, Limits};
 use vp_encode::{EncodeAllFault, EncodeReport, Settings, Watcher, encode_all_watched};
 
-/// What is to be encoded, and how. A file named `-` is a standard stream.
+/// The arguments of `vp8 encode`. A file named `-` is standard input or output.
 #[derive(Clone, Copy, Debug, PartialEq, Eq)]
 pub struct EncodeArgs<'a> {
-    /// What the encoder is set to.
+    /// The encoder's settings.
     pub settings: Settings,
-    /// Whether it is told how far the work has come.
+    /// Whether progress is reported.
     pub progress: bool,
     /// The file of pictures.
     pub input: &'a str,
@@ -24,7 +24,7 @@ pub struct EncodeArgs<'a> {
     pub output: &'a str,
 }
 
-/// Tells after every tenth frame how many are encoded, where that is asked for.
+/// A progress callback that prints the number of encoded frames after every tenth one, if progress is reported.
 #[derive(Drop)]
 struct Progress<'a, E: Write> {
     errors: &'a mut Counted<E>,
@@ -41,9 +41,8 @@ impl<E: Write> Watcher for Progress<'_, E> {
     }
 }
 
-/// Opens the file of pictures, and then makes that of packets, and encodes. A file that is to be read isn't
-/// written, for
-/// making it anew empties it.
+/// Opens the input file, creates the output file, and encodes. The output must not be the input file, because creating
+/// it would empty it.
 #[tactic(auto, using(crate::proofs::CommandLemmas::pictures_stream, crate::proofs::CommandLemmas::pictures_file, crate::proofs::CommandLemmas::pictures_none))]
 pub(crate) fn encode<H: Files + AllocGlobal, R: Read, W: Write, E: Write>(
     rt: &H,

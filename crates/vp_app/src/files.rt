@@ -1,4 +1,4 @@
-//! Files that can't be opened.
+//! Errors of opening files.
 
 ghost use Rattle.std.specs.Prelude.{◌≡◌, ◌≢◌, ◌⊎◌};
 ghost use Rattle.std.specs.IoError.{error_kind};
@@ -6,7 +6,7 @@ ghost use Rattle.std.specs.declared.io.ErrorKind.{ErrorKind};
 
 use std::io;
 
-/// What a file that can't be opened, or made, comes to: want of memory, or else a device's fault.
+/// Converts the error of a file that can't be opened or created: out of memory, or else a device fault.
 pub(crate) fn file_fault<F: Drop>(error: &io::Error, device: F, memory: F) -> F
     ensures either { (result ≡ device) ⊎ (result ≡ memory) }
     ensures memory { error_kind error.now ≡ ErrorKind.OutOfMemory → result ≡ memory }

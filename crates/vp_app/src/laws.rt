@@ -1,4 +1,4 @@
-//! Laws of the words.
+//! Theorems about the command line and the exit status.
 
 ghost use Rattle.std.specs.Prelude.{◌≡◌, [], ◌∷◌, Err, Ok, Some, codes, false, true};
 ghost use Rattle.clap.specs.Walk.{Text};
@@ -6,7 +6,7 @@ ghost use Rattle.vp_app.specs.Commands.{status_by_service};
 ghost use Rattle.vp_app.specs.declared.service.ServiceFault.{ServiceFault};
 ghost use Rattle.vp_app.specs.Args.{asked_of, decodes, faults_of, tells, IsOperand};
 
-/// `vp8 decode IN OUT` and `vp8 decode --y4m IN OUT` ask for just that.
+/// `vp8 decode IN OUT` and `vp8 decode --y4m IN OUT` ask for exactly that.
 pub fn decode_words()
     ensures plain { (name input output : Text) → IsOperand input → IsOperand output
         → (faults_of (name ∷ codes "decode" ∷ input ∷ output ∷ []) ≡ [])
@@ -16,14 +16,14 @@ pub fn decode_words()
         × (asked_of (name ∷ codes "decode" ∷ codes "--y4m" ∷ input ∷ output ∷ []) ≡ decodes (Some (codes "true")) input output) }
 {}
 
-/// `vp8 info IN` asks for just that.
+/// `vp8 info IN` asks for exactly that.
 pub fn info_words()
     ensures { (name input : Text) → IsOperand input
         → (faults_of (name ∷ codes "info" ∷ input ∷ []) ≡ [])
         × (asked_of (name ∷ codes "info" ∷ input ∷ []) ≡ tells input) }
 {}
 
-/// A service in which a connection met a fault ends with 1, and so does one that met a fault itself.
+/// `vp8 serve` has exit status 1 if a connection has a fault, or if serving itself has one.
 pub fn statuses_of_serve()
     ensures well { status_by_service (Ok true) ≡ 0 }
     ensures ill { status_by_service (Ok false) ≡ 1 }

@@ -1,4 +1,4 @@
-//! The program `vp8`, over any streams.
+//! The program `vp8`, over any standard streams.
 #![tactic(auto)]
 
 mod args;

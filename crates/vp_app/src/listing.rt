@@ -1,4 +1,4 @@
-//! What a file holds, as lines of text.
+//! Prints the contents of a file.
 
 ghost use Rattle.std.specs.Prelude.{◌≡◌, length, OnOk};
 ghost use Rattle.std.specs.Io.KnownBytes.{Appends};
@@ -11,8 +11,8 @@ use vp_base::Counted;
 use vp_decode::Outcome;
 use vp_stream::{OutcomeList, Survey};
 
-/// Prints the file's size and rate, where its head is good, how many packets it has, and a line for each of them:
-/// its number, its bytes, and `Shown`, `Hidden` or its fault.
+/// Prints a survey: the size and the rate if the head is valid, the number of packets, and a line for each packet. The
+/// line has the packet's number, its length in bytes, and `Shown`, `Hidden` or its fault.
 pub(crate) fn print_survey<W: Write>(survey: &Survey, output: &mut Counted<W>) -> io::Result<()>
     ensures { OnOk result (Appends (counted_contents W.contents output.old) (counted_contents W.contents output.new)
         (survey_text survey.now)) }

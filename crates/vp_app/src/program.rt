@@ -1,4 +1,4 @@
-//! The program, over any streams.
+//! The program: runs the command line over any standard streams.
 
 ghost use Rattle.std.specs.Prelude.{◌≡◌, ◌≢◌, ◌≤◌, ◌⊎◌, [], IfOk, IsOk, None, false};
 ghost use Rattle.clap.specs.Values.{kind_of};
@@ -29,19 +29,22 @@ use vp_base::{Counted, Limits};
 use vp_encode::{EncodeAllFault, EncodeReport};
 use vp_stream::{DecodeFault, Form, Report, Survey, SurveyFault, decode_all, survey};
 
-/// Does what the words ask for, of which the first is the program's name, and gives the status that the
-/// program ends with: 0, or 1 after a fault, or 2 where the words ask for nothing that there is.
+/// Runs the command that the arguments ask for; the first argument is the program's name. Returns the exit status: 0, 1
+/// after a fault, or 2 after a usage error.
 ///
-/// `vp8 decode IN OUT` writes the pictures of an IVF file as I420, `vp8 decode --y4m IN OUT` as YUV4MPEG2. Faults
-/// are named on `errors`, a line each: `vp8: NAME` where the work ended by it, else `vp8: packet N: NAME`.
-/// Words that ask for nothing are told there too, and then nothing was read and nothing written.
-/// `vp8 encode IN OUT` writes the pictures of a YUV4MPEG2 file as VP8 in an IVF file, once they are all encoded,
-/// and tells
-/// `frames N error E` on `errors`: how many there are, and the sum of their squared errors.
-/// `vp8 info IN` prints what an IVF file holds, the packets' faults too. `vp8 serve --listen ADDR --connections N
-/// NAME=FILE...` serves the pictures of files over HTTP, until so many connections were served; a fault of a
-/// connection is
-/// named, and the next one is served. The name `-` is `input` or `output`.
+/// `vp8 decode IN OUT` writes the pictures of an IVF file as I420, `vp8 decode --y4m IN OUT` as YUV4MPEG2. Faults are
+/// printed on `errors`, one per line: `vp8: NAME` if it ended the work, else `vp8: packet N: NAME`. Usage errors are
+/// printed there too; nothing is read or written then.
+///
+/// `vp8 encode IN OUT` writes the pictures of a YUV4MPEG2 file as VP8 in an IVF file, once all are encoded. It prints
+/// `frames N error E` on `errors`: the number of frames, and the sum of their squared errors.
+///
+/// `vp8 info IN` prints the contents of an IVF file, including the packets' faults.
+///
+/// `vp8 serve --listen ADDR --connections N NAME=FILE...` serves the pictures of files over HTTP, and ends after N
+/// connections. The fault of a connection is printed, and the next one is served.
+///
+/// The file name `-` is `input` or `output`.
 #[tactic(auto, using(crate::proofs::CommandLemmas::does_refused, crate::proofs::CommandLemmas::mistaken_words, crate::proofs::CommandLemmas::never_mistaken))]
 pub fn command<
     H: Files + AllocGlobal + Net<Stream = TcpStream, Listener = TcpListener>,
@@ -58,12 +61,13 @@ pub fn command<
     ensures status { result ≤ 2 }
     ensures usage { result ≡ 2 → (input.new ≡ input.old) × (output.new ≡ output.old) }
 
-    // Words without a fault are done as they ask.
+    // If clap accepts the arguments, the command is carried out.
     ensures does { faults_of (texts words.now) ≡ [] → Does (asked_of (texts words.now)) result
         (read_side R.remaining input.old) (read_side R.remaining input.new)
         (written_side W.contents output.old) (written_side W.contents output.new) }
 
-    // Words with a fault are a usage fault, unless they ask for the help or the version or memory is refused.
+    // If clap refuses the arguments, and they don't ask for help or the version, the status is 2, or 1 if memory runs
+    // out.
     ensures mistaken { AreMistaken (texts words.now) → (result ≡ 2)
         ⊎ ((result ≡ 1) × (input.new ≡ input.old) × (output.new ≡ output.old)) }
 {
@@ -73,7 +77,7 @@ pub fn command<
     }
 }
 
-// Does what is planned, and gives the status.
+// Runs a task, and returns the exit status.
 #[tactic(auto, using(crate::proofs::CommandLemmas::does_decode, crate::proofs::CommandLemmas::does_encode, crate::proofs::CommandLemmas::does_tell, crate::proofs::CommandLemmas::does_serve, crate::proofs::CommandLemmas::does_nothing))]
 fn run_task<
     H: Files + AllocGlobal + Net<Stream = TcpStream, Listener = TcpListener>,
@@ -110,7 +114,7 @@ fn run_task<
     }
 }
 
-// Says why nothing is done, and gives the status.
+// Reports why no task is run, and returns the exit status.
 fn reject<W: Write, E: Write>(
     refusal: &Refusal,
     output: &mut Counted<W>,
@@ -128,7 +132,7 @@ fn reject<W: Write, E: Write>(
     }
 }
 
-// Opens the files, and decodes. A file that is to be read isn't written, for making it anew empties it.
+// Opens the files, and decodes. The output must not be the input file, because creating it would empty it.
 #[tactic(auto, using(crate::proofs::CommandLemmas::from_stream, crate::proofs::CommandLemmas::from_file, crate::proofs::CommandLemmas::from_none))]
 fn decode<H: Files + AllocGlobal, R: Read, W: Write>(
     rt: &H,
@@ -191,7 +195,7 @@ fn decode_over<R: Read, W: Write>(
     decode_all(alloc, input, output, form, Limits::usual())
 }
 
-// Opens the file, and goes through it.
+// Opens the file, and surveys it.
 #[tactic(auto, using(crate::proofs::CommandLemmas::look_stream, crate::proofs::CommandLemmas::look_file, crate::proofs::CommandLemmas::look_none))]
 fn survey_file<H: Files + AllocGlobal, R: Read>(
     rt: &H,
@@ -225,7 +229,7 @@ fn survey_over<R: Read>(alloc: Global, input: &mut Counted<R>) -> Result<Survey,
     survey(alloc, input, Limits::usual())
 }
 
-// Names the fault that the work ended by.
+// Prints the fault that ended the work.
 fn report_fault<F: fmt::Display + Drop, E: Write>(fault: F, errors: &mut Counted<E>) -> u8
     ensures { result ≡ 1 }
 {
@@ -233,7 +237,7 @@ fn report_fault<F: fmt::Display + Drop, E: Write>(fault: F, errors: &mut Counted
     1
 }
 
-// Names the faults, and gives the status.
+// Prints the faults, and returns the exit status.
 fn report_decode<E: Write>(done: Result<Report, DecodeFault>, errors: &mut Counted<E>) -> u8
     ensures status { result ≡ status_of done }
     ensures ended { result ≤ 1 }
@@ -248,7 +252,7 @@ fn report_decode<E: Write>(done: Result<Report, DecodeFault>, errors: &mut Count
     if report.faults.is_empty() { 0 } else { 1 }
 }
 
-// Tells how many frames there are and the sum of their squared errors, or names the fault, and gives the status.
+// Prints the number of frames and the sum of their squared errors, or the fault, and returns the exit status.
 fn report_encode<E: Write>(
     done: Result<EncodeReport, EncodeAllFault>,
     errors: &mut Counted<E>,
@@ -265,7 +269,7 @@ fn report_encode<E: Write>(
     }
 }
 
-// Prints what was found in a file, names what is wrong with it, and gives the status.
+// Prints a survey and the file's fault, and returns the exit status.
 fn report_survey<W: Write, E: Write>(
     done: Result<Survey, DecodeFault>,
     output: &mut Counted<W>,
@@ -289,7 +293,7 @@ fn report_survey<W: Write, E: Write>(
     }
 }
 
-// Prints the help, or what is wrong with the words.
+// Prints the help, or the usage error.
 fn report_args_error<W: Write, E: Write>(
     error: &Error,
     output: &mut Counted<W>,
@@ -314,7 +318,7 @@ fn report_args_error<W: Write, E: Write>(
     }
 }
 
-// Says what is wrong with a value.
+// Prints an error about a value.
 fn report_usage_error<E: Write>(text: &str, errors: &mut Counted<E>) -> u8
     ensures { result ≡ 2 }
 {
@@ -322,7 +326,7 @@ fn report_usage_error<E: Write>(text: &str, errors: &mut Counted<E>) -> u8
     2
 }
 
-// Names the fault that kept the server from serving, and gives the status.
+// Prints the fault that prevented serving, and returns the exit status.
 fn report_serve<E: Write>(done: Result<bool, ServiceFault>, errors: &mut Counted<E>) -> u8
     ensures status { result ≤ 1 }
     ensures by { result ≡ status_by_service done }
@@ -334,7 +338,7 @@ fn report_serve<E: Write>(done: Result<bool, ServiceFault>, errors: &mut Counted
     }
 }
 
-/// As `command`, with the words that the program was started with. A word that isn't UTF-8 asks for nothing.
+/// Runs the program with its own command line, as `command` does. An argument that isn't UTF-8 is a usage error.
 pub fn command_line<
     H: Files + AllocGlobal + Env + Net<Stream = TcpStream, Listener = TcpListener>,
     R: Read,

@@ -1,24 +1,24 @@
-//! What is to be served.
+//! The arguments of `vp8 serve`.
 
 ghost use Rattle.std.specs.Prelude.{◌<◌, ◌≤◌};
 
-/// A stream's name, and the file that holds it.
+/// A stream's name and its file.
 #[derive(Clone, Copy, Debug, PartialEq, Eq)]
 pub struct NamedFile<'a> {
     /// The name.
     pub name: &'a str,
-    /// The file, or `-` for the standard input.
+    /// The file, or `-` for standard input.
     pub file: &'a str,
 }
 
-/// What is to be served, and where.
+/// The arguments of `vp8 serve`.
 #[derive(Drop)]
 pub struct ServeArgs<'a> {
-    /// The address and port to listen at.
+    /// The address and the port to listen on.
     pub listen: &'a str,
-    /// How many connections are served.
+    /// The number of connections to serve.
     pub connections: u32,
-    /// How many pictures are kept.
+    /// The number of pictures to cache.
     pub cache: u32,
     /// Whether the address is printed.
     pub show_address: bool,

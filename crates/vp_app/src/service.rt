@@ -1,4 +1,4 @@
-//! The server: files are fed into a hub, and then connections are served, one after another.
+//! The command `vp8 serve`: feeds files into a hub, and then serves connections, one after another.
 
 ghost use Rattle.std.specs.Prelude.{◌≡◌, ◌≢◌, ℕ, List, Err, IfOk, false};
 ghost use Rattle.std.specs.IoError.{error_kind};
@@ -24,20 +24,20 @@ use std::{fmt, fs, io};
 use vp_base::{ByteList, Counted, Limits};
 use vp_hub::{Event, Hub, HubFault, NewFault, ServeFault, serve_one};
 
-/// Why nothing is served.
+/// The reasons for which nothing is served.
 #[derive(Clone, Copy, Debug, PartialEq, Eq)]
 pub enum ServiceFault {
-    /// The names may not be streams' names.
+    /// The names are not valid names for streams.
     Names,
-    /// A file can't be opened or read, or the address can't be listened at or printed.
+    /// A file can't be opened or read, or the program can't listen on the address or print it.
     Device,
-    /// A file didn't end within 4,294,967,295 reads.
+    /// A file did not end within 4,294,967,295 reads.
     ReadTurns,
-    /// Memory was refused.
+    /// Out of memory.
     Memory,
 }
 
-/// The fault's name, as it is told.
+/// Writes the fault's name.
 impl fmt::Display for ServiceFault {
     fn fmt<W: fmt::Write>(&self, f: &mut fmt::Formatter<W>) -> fmt::Result {
         f.write_str(match self {
@@ -67,9 +67,8 @@ impl From<io::Error> for ServiceFault {
     }
 }
 
-/// Feeds each file to its end, or to what is wrong with it, and then serves as many connections as are asked for; where
-/// that is none it listens nowhere. True where each connection was served to its end; what ends one is named on
-/// `errors`.
+/// Feeds each file to its end or its fault, and then serves the given number of connections. If that is 0, it doesn't
+/// listen. Returns whether each connection was served to its end; the faults of the others are printed on `errors`.
 pub(crate) fn serve<
     H: Files + AllocGlobal + Net<Stream = TcpStream, Listener = TcpListener>,
     R: Read,
@@ -85,14 +84,14 @@ pub(crate) fn serve<
     ensures served { ServesConnections service.now result (read_side R.remaining input.old)
         (read_side R.remaining input.new) }
 
-    // Nothing is printed but the address, where that is asked for.
+    // Only the address is printed, if that is asked for.
     ensures quiet { service.now.show_address ≡ false → output.new ≡ output.old }
 {
     let mut hub = new_hub(rt.alloc(), service)?;
     serve_over(rt, &mut hub, service, input, output, errors)
 }
 
-// The same over a new hub.
+// Feeds the files and serves the connections, as `serve` does, with a new hub.
 fn serve_over<
     H: Files + AllocGlobal + Net<Stream = TcpStream, Listener = TcpListener>,
     R: Read,
@@ -119,7 +118,7 @@ fn serve_over<
     Ok(serve_each(hub, &listener, service.connections, errors))
 }
 
-/// Listens at the address, and prints it where that is asked for.
+/// Listens on the address, and prints it if that is asked for.
 pub fn listen<H: AllocGlobal + Net<Stream = TcpStream, Listener = TcpListener>, W: Write>(
     rt: &H,
     service: &ServeArgs<'_>,
@@ -140,7 +139,7 @@ fn print_address<W: Write>(listener: &TcpListener, output: &mut Counted<W>) -> i
     output.flush()
 }
 
-/// A hub of the streams, which were fed nothing.
+/// Creates a hub for the streams, without bytes.
 pub fn new_hub(alloc: Global, service: &ServeArgs<'_>) -> Result<Hub, ServiceFault>
     ensures hub { IfOk result (λ hub. IsNewHub service.now.streams.items service.now.cache hub) }
     ensures names { result ≡ Err ServiceFault.Names → are_names (names_of service.now.streams.items) ≡ false }
@@ -180,7 +179,7 @@ fn byte_list(alloc: Global, bytes: &[u8]) -> Result<ByteList, AllocError>
     Ok(ByteList::from_vec(bytes.to_vec(alloc)?))
 }
 
-/// Feeds each stream its file, one after another, and tells its end.
+/// Feeds each stream its file, one after another, and marks its end.
 pub fn feed_all<H: Files + AllocGlobal, R: Read>(
     rt: &H,
     hub: &mut Hub,
@@ -196,7 +195,7 @@ pub fn feed_all<H: Files + AllocGlobal, R: Read>(
     Ok(())
 }
 
-// Feeds the file of a stream, and tells its end.
+// Feeds the file of a stream, and marks its end.
 fn feed_stream<H: Files + AllocGlobal, R: Read>(
     rt: &H,
     hub: &mut Hub,
@@ -231,9 +230,7 @@ fn feed<R: Read>(
     Err(ServiceFault::ReadTurns)
 }
 
-// Reads once, and feeds what was read; at the end, and behind what is wrong with the file, the stream is ended and
-// there
-// is no more.
+// Reads once, and feeds the bytes. At the end, or after the file's fault, it marks the stream's end and returns false.
 fn feed_piece<R: Read>(
     alloc: Global,
     hub: &mut Hub,
@@ -269,8 +266,8 @@ fn is_memory(fault: HubFault) -> bool
     matches!(fault, HubFault::Memory)
 }
 
-/// Serves so many connections, one after another; true where each was served to its end. What ends one is named on
-/// `errors`.
+/// Serves the given number of connections, one after another. Returns whether each was served to its end; the faults of
+/// the others are printed on `errors`.
 pub fn serve_each<E: Write>(
     hub: &mut Hub,
     listener: &TcpListener,
@@ -290,7 +287,7 @@ pub fn serve_each<E: Write>(
     well
 }
 
-// Serves the next connection that comes, under this number.
+// Accepts a connection, and serves it under this number.
 fn serve_next(hub: &mut Hub, listener: &TcpListener, number: u32) -> Result<(), ServeFault>
     ensures served { IsServed number hub.old.state result }
     ensures stays { hub.new.state ≡ hub.old.state }
@@ -306,9 +303,8 @@ fn serve_next(hub: &mut Hub, listener: &TcpListener, number: u32) -> Result<(), 
     served
 }
 
-// Ends what is written, and reads what still comes, for a while: a socket that is dropped with bytes unread takes
-// the last
-// reply back from a peer that hasn't read it.
+// Shuts down writing, and reads for a while. Dropping a socket with unread bytes would make the peer lose a response
+// that it hasn't read yet.
 fn part(stream: &TcpStream) {
     let _ = stream.shutdown(Shutdown::Write);
     if stream

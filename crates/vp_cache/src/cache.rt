@@ -1,4 +1,4 @@
-//! A cache of pictures.
+//! A least-recently-used cache of decoded pictures.
 
 ghost use Rattle.std.specs.Prelude.{◌≡◌, ◌≢◌, ◌<◌, ◌≤◌, ◌⊎◌, ℕ, [], length, IfOk, OnOk, OnErr};
 ghost use Rattle.std.specs.Map.{lookup};
@@ -16,7 +16,7 @@ use std::marker::Model;
 use std::num::NonZeroUsize;
 use vp_stream::{Answer, Stream};
 
-/// The pictures asked for last, of all streams, by the stream's number and the packet's.
+/// The most recently used pictures of all streams. The key is the number of the stream and the number of the packet.
 #[derive(Drop)]
 pub struct Cache {
     alloc: Global,
@@ -35,7 +35,7 @@ impl Model for Cache {
 }
 
 impl Cache {
-    /// An empty cache for so many pictures.
+    /// Creates an empty cache for at most `capacity` pictures.
     pub fn new(alloc: Global, capacity: u32) -> Result<Cache, AllocError>
         requires { 0 < capacity }
         ensures { IfOk result (λ c. c ≡ empty capacity) }
@@ -49,7 +49,8 @@ impl Cache {
         })
     }
 
-    /// What is kept for packet `n` of a stream, lent. It stays where it is; `promote` has it in front.
+    /// Returns the cached picture for packet `n` of a stream, if there is one. Its position in the cache doesn't
+    /// change; see `promote`.
     pub fn cached(&self, stream_no: usize, n: u32) -> Option<&CachedPicture>
         ensures value { lent result ≡ cached stream_no n self.now.entries }
         ensures answer { (stream : StreamState) → AreAnswersOf stream_no stream self.now.entries
@@ -58,7 +59,7 @@ impl Cache {
         self.entries.peek(&(stream_no, n))
     }
 
-    /// Brings what is kept for packet `n` of a stream to the front, as what was asked for last.
+    /// Moves the cached picture for packet `n` of a stream to the front: it is now the most recently used.
     pub fn promote(&mut self, stream_no: usize, n: u32)
         ensures entries { self.new ≡ promoted self.old stream_no n (cached stream_no n self.old.entries) }
         ensures kept { (number : ℕ) (stream : StreamState) →
@@ -67,8 +68,11 @@ impl Cache {
         self.entries.promote(&(stream_no, n));
     }
 
-    /// What packet `n` of a stream shows, as if nothing were kept. A number stands for one stream, which may grow.
-    /// Adds to `work` how many packets were decoded, which stays at the greatest number.
+    /// Decodes packet `n` of a stream, or returns the cached picture: the answer is the same. A stream's number must
+    /// always name the same stream, which may grow. The number of decoded packets is added to `work`; the sum saturates
+    /// at 2^64 - 1.
+    ///
+    /// Errors: out of memory.
     pub fn picture(
         &mut self,
         stream_no: usize,
@@ -82,7 +86,7 @@ impl Cache {
         ensures stands { IfOk result (λ a. (h : StreamHistory) → IsStreamAfter stream.now h →
             answer_value a ≡ answer_at stream.now.limits (packets_of stream.now h) n) }
 
-        // Nothing is decoded for a picture that is kept.
+        // A cache hit decodes nothing.
         ensures work { OnOk result (work.new ≡
             saturating_count work.old (work_beside
             (cached stream_no n self.old.entries) stream.now.reading.packets n)) }
@@ -90,14 +94,14 @@ impl Cache {
             saturating_count work.old (work_beside
             (cached stream_no n self.old.entries) stream.now.reading.packets n))) }
 
-        // A shown picture is the newest entry then; where there was no memory for it, nothing changes.
+        // After it, a shown picture is the most recent entry. If there was no memory for it, the cache is unchanged.
         ensures entries { IfOk result (λ a.
             IsAfter self.old stream_no n (cached stream_no n self.old.entries) (answer_value a) self.new) }
         ensures kept { AreAnswersOf stream_no stream.now self.new.entries }
         ensures others { (other : ℕ) (s : StreamState) → other ≢ stream_no →
             AreAnswersOf other s self.old.entries → AreAnswersOf other s self.new.entries }
 
-        // Memory is taken only for a packet that is there, and the entries stay where it is refused.
+        // Memory is allocated only for a packet that exists. If it runs out, the cache is unchanged.
         ensures memory { OnErr result (self.new ≡ self.old) }
         ensures there { OnErr result (n < length stream.now.reading.packets) }
     {
@@ -113,7 +117,7 @@ impl Cache {
     }
 }
 
-/// Puts a copy of a shown picture in front, where there is memory for it.
+/// Caches a copy of a shown picture as the most recent entry, if there is memory for it.
 fn keep(
     alloc: Global,
     entries: &mut LruCache<(usize, u32), CachedPicture>,

@@ -1,4 +1,4 @@
-//! A picture that is kept.
+//! A cached picture.
 
 ghost use Rattle.std.specs.Prelude.{◌≡◌, IfOk};
 ghost use Rattle.vp_cache.specs.Cache.{cached_answer};
@@ -9,7 +9,7 @@ use std::marker::Model;
 use vp_base::{ByteList, Dim};
 use vp_stream::Answer;
 
-/// A shown picture: its size and its I420.
+/// A shown picture: its size in pixels, and its I420 pixels.
 #[derive(Drop)]
 pub struct CachedPicture {
     dim: Dim,
@@ -25,21 +25,21 @@ impl Model for CachedPicture {
 }
 
 impl CachedPicture {
-    /// The picture's size.
+    /// Returns the picture's size.
     pub fn dim(&self) -> Dim
         ensures { (result.w ≡ self.now.width) × (result.h ≡ self.now.height) }
     {
         self.dim
     }
 
-    /// The picture as I420 (Y, U, V, each by rows, cropped to the size), lent.
+    /// Returns the pixels as I420 (Y, U, V, each plane by rows, cropped to the size).
     pub fn as_slice(&self) -> &[u8]
         ensures { result.now ≡ self.now.pixels }
     {
         self.bytes.as_slice()
     }
 
-    /// A copy of a picture.
+    /// Copies a picture.
     pub(crate) fn copied(
         alloc: Global,
         dim: Dim,
@@ -54,7 +54,7 @@ impl CachedPicture {
         })
     }
 
-    /// The picture as an answer, in memory of its own.
+    /// Returns the picture as an answer, in newly allocated memory.
     pub(crate) fn answer(&self, alloc: Global) -> Result<Answer, AllocError>
         ensures { IfOk result (λ a. answer_value a ≡ cached_answer self.now) }
     {

@@ -1,4 +1,4 @@
-//! Pictures of streams, the last ones asked for kept.
+//! A cache of the most recently used pictures of streams.
 #![tactic(auto)]
 
 mod cache;

@@ -16,11 +16,11 @@ use Rattle.vp_choose.specs.Frame.{FrameSearch, Search, source_by}
 use Rattle.vp_choose.specs.Intra.{IsLuma, IsIntra}
 use Rattle.vp_choose.specs.Inter.{IsMoved, IsInter}
 
--- the intra modes, where luma is the best of them
+-- the intra choice with this luma
 abbrev pub IsIntraChoice : FrameSearch → Image → Place → Luma → Choice → Type 0
 IsIntraChoice frame p place luma c = IsIntra frame.source frame.factors place p luma c.modes c.tokens
 
--- Inter is taken where it costs no more than the intra luma.
+-- inter is chosen if it costs no more than the intra luma
 pub record IsWeighed (frame : FrameSearch) (s : Search) (p : Image) (g : Grid MacroblockMotion) (place : Place)
     (luma : Luma) (c : Choice) : Type 0 where
   pub moved : Moved
@@ -28,23 +28,23 @@ pub record IsWeighed (frame : FrameSearch) (s : Search) (p : Image) (g : Grid Ma
   pub inter : moved.cost ≤ luma.cost → IsInter frame.source frame.factors s g place p moved c
   pub intra : luma.cost < moved.cost → IsIntraChoice frame p place luma c
 
--- In a key frame all is intra.
+-- in a key frame all macroblocks are intra
 abbrev pub IsTaken : Option Search → FrameSearch → Image → Grid MacroblockMotion → Place → Luma → Choice → Type 0
 IsTaken None frame p g place luma c = IsIntraChoice frame p place luma c
 IsTaken (Some s) frame p g place luma c = IsWeighed frame s p g place luma c
 
--- the choice for the macroblock at a place of p, where those before it are rebuilt and not filtered yet, and g has
+-- the choice for the macroblock at a place of p; the macroblocks before it are rebuilt and not filtered yet, and g has
 -- their motion
 pub record IsChoice (frame : FrameSearch) (p : Image) (g : Grid MacroblockMotion) (place : Place) (c : Choice)
     : Type 0 where
   pub luma : Luma
   pub best : IsLuma (block_pixels 16 frame.source.luma place) frame.factors place p.luma luma
   pub taken : IsTaken frame.search frame p g place luma c
-  -- Segments are not used.
+  -- segments are not used
   pub segment : c.modes.segment ≡ 0
-  -- It is skipped where all its levels are 0.
+  -- a macroblock is skipped if all its levels are 0
   pub skip : c.modes.skip ≡ not (any_token c.tokens)
   pub none : any_token c.tokens ≡ false → c.tokens.blocks ≡ no_blocks
-  -- The end of a block follows its last level that isn't 0.
+  -- a block's end of block follows its last nonzero level
   pub tight : AreTight c.tokens.blocks
   pub spelled : AreSpelled (has_y2 (source_by frame.search c)) c.tokens.blocks

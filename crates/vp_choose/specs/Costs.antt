@@ -1,5 +1,5 @@
--- The costs of intra predictions: sums of absolute differences between the source and its prediction. The encoder's own
--- choice.
+-- The costs of intra predictions: sums of absolute differences between source and prediction. RFC 6386 leaves them
+-- open.
 use Rattle.std.specs.Prelude.{ℕ, ◌+◌, ◌*◌, ◌<◌, List, slice_index}
 use Rattle.vp_base.specs.declared.place.Place.{Place}
 use Rattle.vp_base.specs.Raster.{Raster, pixel}
@@ -11,32 +11,32 @@ use Rattle.vp_intra.specs.Whole.{luma_pixel, chroma_pixel}
 use Rattle.vp_intra.specs.Sub.{sub_pixel}
 use Rattle.vp_search.specs.Differences.{sum_of_differences}
 
--- the pixels of the block at a place among all blocks of n by n pixels
+-- the pixels of a block of n by n pixels; its place is among all such blocks of the plane
 abbrev pub block_pixels : ℕ → Raster → Place → ℕ → ℕ → ℕ
 block_pixels n p place r c = pixel p (n * place.column + c) (n * place.row + r)
 
--- the macroblocks of a picture
+-- a place within the picture's macroblocks
 pub record HasMacroblock (p : Image) (place : Place) : Type 0 where
   pub column : place.column < macroblocks p.width
   pub row : place.row < macroblocks p.height
 
--- a block of rows of n pixels, row after row
+-- a block whose rows of n pixels are listed in raster order
 abbrev pub block_from_rows : ℕ → List ℕ → ℕ → ℕ → ℕ
 block_from_rows n xs r c = slice_index xs (r * n + c)
 
--- what a mode costs the luma subblock f at a place among all subblocks of p
+-- the cost of a mode for the luma subblock f; its place is among all subblocks of p
 unfoldable pub sub_cost : (ℕ → ℕ → ℕ) → Raster → Place → SubMode → ℕ
 sub_cost f p place mode = sum_of_differences 4 4 f (sub_pixel mode p (4 * place.column) (4 * place.row))
 
--- what a mode that predicts all luma at once costs the luma f of the macroblock at a place of p
+-- the cost of a luma mode other than B_PRED for the luma f of the macroblock at a place of p
 unfoldable pub luma_mode_cost : (ℕ → ℕ → ℕ) → Raster → Place → LumaMode → ℕ
 luma_mode_cost f p place mode = sum_of_differences 16 16 f (luma_pixel mode p (16 * place.column) (16 * place.row))
 
--- what a mode costs one of its planes of colour
+-- the cost of a chroma mode in one plane
 unfoldable pub plane_cost : (ℕ → ℕ → ℕ) → Raster → Place → ChromaMode → ℕ
 plane_cost f p place mode = sum_of_differences 8 8 f (chroma_pixel mode p (8 * place.column) (8 * place.row))
 
--- .. and both, U and V
+-- the cost of a chroma mode over U and V
 abbrev pub chroma_cost : Image → Image → Place → ChromaMode → ℕ
 chroma_cost source p place mode = plane_cost (block_pixels 8 source.u place) p.u place mode
     + plane_cost (block_pixels 8 source.v place) p.v place mode

@@ -1,4 +1,4 @@
--- Inside the crate: the source of a macroblock as the code cuts it.
+-- Inside the crate: the source pixels of a macroblock, as lists.
 use Rattle.std.specs.Prelude.{◌≡◌}
 use Rattle.vp_base.specs.declared.place.Place.{Place}
 use Rattle.vp_base.specs.Image.{Image}
@@ -6,7 +6,7 @@ use Rattle.vp_intra.specs.Edges.{block as listed}
 use Rattle.vp_choose.specs.declared.blocks.Blocks.{Blocks}
 use Rattle.vp_choose.specs.Costs.{block_pixels}
 
--- the blocks of the macroblock at a place of a source
+-- the source pixels of the macroblock at a place
 pub record AreCut (source : Image) (place : Place) (b : Blocks) : Type 0 where
   pub luma : b.luma ≡ listed 16 (block_pixels 16 source.luma place)
   pub u : b.u ≡ listed 8 (block_pixels 8 source.u place)

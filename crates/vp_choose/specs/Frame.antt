@@ -1,4 +1,4 @@
--- The inputs of the choice for a frame's macroblocks: source, factors, search range and references.
+-- The inputs of the choice for a frame's macroblocks: source, factors, search range and reference frames.
 use Rattle.std.specs.Prelude.{ℕ, Bool, false, Option, Some, None, if◌then◌else◌}
 use Rattle.std.specs.Option.{option_map}
 use Rattle.vp_base.specs.Image.{Image}
@@ -12,35 +12,37 @@ use Rattle.vp_choose.specs.declared.frame.Search.{Search as LentSearch}
 use Rattle.vp_choose.specs.declared.frame.FrameSearch.{FrameSearch as LentFrame}
 use Rattle.vp_choose.specs.declared.frame.Choice.{Choice}
 
--- where vectors are searched, and how far: in quarter pixels or in whole ones, in golden too or in last alone
+-- where vectors are searched: the reference frames, whether golden is searched too, the range in whole pixels, and
+-- whether vectors are refined to quarter pixels
 pub record Search : Type 0 where
   pub references : References
   pub golden : Bool
   pub range : ℕ
   pub subpel : Bool
 
--- A key frame is not searched.
+-- the source, the factors, and the search; a key frame has none
 pub record FrameSearch : Type 0 where
   pub source : Image
   pub factors : Factors
   pub search : Option Search
 
--- those that the code lends
+-- the values of a borrowed search in the code
 abbrev pub search_of : LentSearch → Search
 search_of s = record { references = s.references.now; golden = s.golden; range = s.range; subpel = s.subpel }
 
+-- the value of the borrowed inputs in the code
 abbrev pub lent_frame : LentFrame → FrameSearch
 lent_frame f = record { source = f.source.now; factors = f.factors.now; search = option_map search_of f.search }
 
--- no vector is turned round
+-- no sign bias is set
 abbrev pub no_biases : SignBiases
 no_biases = record { golden = false; alt = false }
 
--- how a macroblock moves, as it is kept
+-- a macroblock's motion with its reference frame
 abbrev pub choice_motion : Choice → MacroblockMotion
 choice_motion c = record { reference = c.modes.reference; mode = c.motion.mode; vectors = c.motion.vectors }
 
--- what a macroblock is predicted from
+-- the predictor of a macroblock by its choice
 abbrev pub source_by : Option Search → Choice → Predictor
 source_by None c = Intra c.modes
 source_by (Some s) c =

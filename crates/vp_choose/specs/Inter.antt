@@ -1,5 +1,5 @@
--- The choice of a macroblock's reference, vector and mode, and its levels. The encoder's own choice. Pinned by the test
--- `a_still_macroblock`.
+-- The choice of a macroblock's reference frame, vector and mode, and its levels. RFC 6386 leaves it open. Pinned by the
+-- test `a_still_macroblock`.
 use Rattle.std.specs.Prelude.{◌≡◌, ◌≢◌, ◌<◌, ◌≤◌, ℕ, true, false, replicate, unsigned_abs}
 use Rattle.vp_base.specs.declared.place.Place.{Place}
 use Rattle.vp_base.specs.Grid.{Grid}
@@ -29,11 +29,11 @@ use Rattle.vp_choose.specs.Costs.{block_pixels}
 use Rattle.vp_choose.specs.Levels.{HasLumaAndY2, HasChroma}
 use Rattle.vp_choose.specs.Frame.{Search, choice_motion, no_biases}
 
--- what a vector costs in a reference
+-- the cost of a vector in a reference frame
 abbrev pub vector_cost : Raster → Raster → Place → QuarterVector → ℕ
 vector_cost source reference place v = quarter_cost (block_pixels 16 source place) reference place v
 
--- the least vector of a reference in whole pixels, and then refined or not; and its cost
+-- the best vector of a reference frame in whole pixels, refined to quarter pixels or not, and its cost
 pub record IsFound (s : Search) (source reference : Raster) (place : Place) (found : Refined) : Type 0 where
   pub whole : WholeVector
   pub least : IsLeast s.range (whole_cost (block_pixels 16 source place) reference place) whole
@@ -41,24 +41,25 @@ pub record IsFound (s : Search) (source reference : Raster) (place : Place) (fou
   pub unrefined : s.subpel ≡ false → found.vector ≡ quarters whole
   pub cost : found.cost ≡ vector_cost source reference place found.vector
 
+-- a vector and its cost, with the reference frame that it is found in
 abbrev pub found_in : Reference → Refined → Moved
 found_in reference found = record { reference = reference; vector = found.vector; cost = found.cost }
 
--- Golden is taken where it costs less than last.
+-- golden is chosen if it costs less than last
 pub record IsLess (s : Search) (source : Raster) (place : Place) (last : Refined) (m : Moved) : Type 0 where
   pub golden : Refined
   pub in_golden : IsFound s source s.references.golden.luma place golden
   pub less : golden.cost < last.cost → m ≡ found_in reference_is.Golden golden
   pub not_less : last.cost ≤ golden.cost → m ≡ found_in reference_is.Last last
 
--- the reference that is taken, with its vector
+-- the reference frame that is chosen, with its vector
 pub record IsMoved (s : Search) (source : Raster) (place : Place) (m : Moved) : Type 0 where
   pub last : Refined
   pub in_last : IsFound s source s.references.last.luma place last
   pub last_alone : s.golden ≡ false → m ≡ found_in reference_is.Last last
   pub golden_too : s.golden ≡ true → IsLess s source place last m
 
--- the first of zero, nearest, near and new that gives a vector
+-- the mode is the first of zero, nearest, near and new that gives the vector
 abbrev pub IsFirstGiving : Candidates → Vector → VectorMode → Type 0
 IsFirstGiving c v vector_is.Zero = v ≡ still
 IsFirstGiving c v vector_is.Nearest = (v ≢ still) × (v ≡ c.nearest)
@@ -66,18 +67,19 @@ IsFirstGiving c v vector_is.Near = (v ≢ still) × (v ≢ c.nearest) × (v ≡ 
 IsFirstGiving c v vector_is.New = (v ≢ still) × (v ≢ c.nearest) × (v ≢ c.near)
 IsFirstGiving c v vector_is.Split = ⊥
 
+-- the vector without its cost
 abbrev pub vector_of : Moved → Vector
 vector_of m = record { row = m.vector.row; column = m.vector.column }
 
--- as short as a vector is that is searched for within 64 pixels: 256 quarters, and 3 by its refinement
+-- the greatest vector of a search within 64 pixels: 256 quarter pixels, and 3 by refinement
 abbrev pub IsInSearchRange : QuarterVector → Type 0
 IsInSearchRange v = (unsigned_abs v.row ≤ 259) × (unsigned_abs v.column ≤ 259)
 
--- what an inter macroblock is predicted from
+-- the predictor of an inter macroblock
 abbrev pub moved_source : Search → Moved → Choice → Predictor
 moved_source s m c = Inter (choice_motion c) (reference_picture s.references m.reference) 0
 
--- an inter macroblock that is moved so: it has no intra modes
+-- the choice for an inter macroblock with this motion; its intra modes are unused
 pub record IsInter (source : Image) (factors : Factors) (s : Search) (g : Grid MacroblockMotion) (place : Place)
     (p : Image) (m : Moved) (c : Choice) : Type 0 where
   pub modes : c.modes ≡ unread 0 c.modes.skip m.reference

@@ -1,5 +1,5 @@
--- The choice of a macroblock's intra modes, and its levels; ties go to the first mode in order. The encoder's own
--- choice. Pinned by the test `encode_flat_bright`.
+-- The choice of a macroblock's intra modes, and its levels; ties go to the first mode in order. RFC 6386 leaves it
+-- open. Pinned by the test `encode_flat_bright`.
 use Rattle.std.specs.Prelude.{◌≡◌, ℕ, ◌+◌, ◌<◌, pos, false, true, List, [], ◌∷◌, replicate, slice_index_or}
 use Rattle.std.specs.Prelude.{if◌then◌else◌}
 use Rattle.vp_base.specs.declared.place.Place.{Place}
@@ -25,18 +25,19 @@ use Rattle.vp_choose.specs.Costs.{block_pixels, luma_mode_cost, chroma_cost}
 use Rattle.vp_choose.specs.Levels.{HasLumaAndY2, HasChroma}
 use Rattle.vp_choose.specs.Subblocks.{AreSubblocksChosen, levels_in}
 
--- the luma modes in the order in which ties are broken
+-- the luma modes in tie-breaking order
 abbrev pub luma_order : List LumaMode
 luma_order = luma_is.Dc ∷ luma_is.V ∷ luma_is.H ∷ luma_is.Tm ∷ luma_is.B ∷ []
 
+-- the luma mode at a position in this order
 abbrev pub luma_at : ℕ → LumaMode
 luma_at i = slice_index_or luma_order i luma_is.Dc
 
--- what a mode costs the luma f: B_PRED, whose subblocks cost so much, costs 128 more
+-- the cost of a luma mode for the luma f; B_PRED costs 128 more than its subblocks
 abbrev pub luma_cost : (ℕ → ℕ → ℕ) → Raster → Place → ℕ → LumaMode → ℕ
 luma_cost f p place subblocks mode = if is_by_subblocks mode then subblocks + 128 else luma_mode_cost f p place mode
 
--- the first luma mode of the least cost, its cost, and what B_PRED chooses for the subblocks
+-- the first luma mode of the least cost, its cost, and the subblock modes of B_PRED
 pub record IsLuma (f : ℕ → ℕ → ℕ) (factors : Factors) (place : Place) (p : Raster) (l : Luma) : Type 0 where
   pub subblocks : AreSubblocksChosen f factors place p l.subblocks
   pub number : ℕ
@@ -44,24 +45,26 @@ pub record IsLuma (f : ℕ → ℕ → ℕ) (factors : Factors) (place : Place) 
   pub mode : l.mode ≡ luma_at number
   pub cost : l.cost ≡ luma_cost f p place l.subblocks.cost l.mode
 
+-- the chroma modes in tie-breaking order
 abbrev pub chroma_order : List ChromaMode
 chroma_order = chroma_is.Dc ∷ chroma_is.V ∷ chroma_is.H ∷ chroma_is.Tm ∷ []
 
+-- the chroma mode at a position in this order
 abbrev pub chroma_at : ℕ → ChromaMode
 chroma_at i = slice_index_or chroma_order i chroma_is.Dc
 
--- the first chroma mode of the least cost, over U and V
+-- the first chroma mode of the least cost over U and V
 pub record IsChroma (source : Image) (place : Place) (p : Image) (mode : ChromaMode) : Type 0 where
   pub number : ℕ
   pub first : IsFirstLeast 4 (λ i. chroma_cost source p place (chroma_at i)) number
   pub is : mode ≡ chroma_at number
 
--- luma where each subblock has a mode of its own: the levels that were chosen with them, and no Y2 block
+-- the luma of B_PRED: the levels that were chosen with the subblock modes, and no Y2 block
 pub record HasSubblocks (s : Subblocks) (t : Tokens) : Type 0 where
   pub y2 : (tokens_of t 0).levels ≡ replicate 16 (pos 0)
   pub luma : (k : ℕ) → k < 16 → (tokens_of t (1 + k)).levels ≡ levels_in s k
 
--- the modes of an intra macroblock with this luma, and its levels
+-- the modes and the levels of an intra macroblock with this luma
 pub record IsIntra (source : Image) (factors : Factors) (place : Place) (p : Image) (l : Luma) (m : Modes) (t : Tokens)
     : Type 0 where
   pub reference : m.reference ≡ reference_is.Intra

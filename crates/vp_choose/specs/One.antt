@@ -11,18 +11,19 @@ use Rattle.vp_choose.specs.declared.frame.Choice.{Choice}
 use Rattle.vp_choose.specs.Frame.{FrameSearch}
 use Rattle.vp_choose.specs.Choice.{IsChoice}
 
--- what is true of each choice that stands in memory: sixteen subblock modes, and 25 blocks
+-- the lengths of any choice in memory: sixteen subblock modes, and 25 blocks
 pub record IsWellFormedChoice (c : Choice) : Type 0 where
   pub subs : length c.modes.subs ≡ 16
   pub number : length c.tokens.blocks ≡ 25
   pub blocks : (k : ℕ) → k < 25 → IsBlock (tokens_of c.tokens k)
 
--- they say the same: an intra macroblock says nothing of motion
+-- the choices are equal, except for the unused motion of an intra macroblock
 pub record AreSameChoice (a b : Choice) : Type 0 where
   pub modes : a.modes ≡ b.modes
   pub tokens : a.tokens ≡ b.tokens
   pub motion : is_intra a.modes.reference ≡ false → a.motion ≡ b.motion
 
+-- two choices for one macroblock are equal
 abbrev pub ChoiceIsOne : Type 0
 ChoiceIsOne = (frame : FrameSearch) (p : Image) (g : Grid MacroblockMotion) (place : Place) (a b : Choice)
     → IsWellFormedChoice a → IsWellFormedChoice b

@@ -1,5 +1,5 @@
--- The choice of the subblock modes of B_PRED, one after another, each over the subblocks rebuilt before it. The
--- encoder's own choice.
+-- The choice of the subblock modes of B_PRED, in raster order; each is predicted from the subblocks rebuilt before it.
+-- RFC 6386 leaves it open.
 use Rattle.std.specs.Prelude.{◌≡◌, ℕ, ◌*◌, ◌<◌, ℤ, List, [], ◌∷◌, slice_index_or}
 use Rattle.vp_base.specs.declared.place.Place.{Place}
 use Rattle.vp_base.specs.Raster.{Raster}
@@ -17,20 +17,21 @@ use Rattle.vp_choose.specs.declared.subblocks.Subblocks.{Subblocks}
 use Rattle.vp_choose.specs.Costs.{sub_cost}
 use Rattle.vp_choose.specs.Levels.{part, coefficients, quantised_levels}
 
--- the modes in the order in which ties are broken
+-- the modes in tie-breaking order
 abbrev pub order : List SubMode
 order = Dc ∷ Tm ∷ Ve ∷ He ∷ Ld ∷ Rd ∷ Vr ∷ Vl ∷ Hd ∷ Hu ∷ []
 
+-- the mode at a position in this order
 abbrev pub mode_at : ℕ → SubMode
 mode_at i = slice_index_or order i Dc
 
--- the first mode of the least cost for the subblock f at a place among all subblocks of p
+-- the first mode of the least cost for the subblock f; its place is among all subblocks of p
 pub record IsBestMode (f : ℕ → ℕ → ℕ) (p : Raster) (place : Place) (mode : SubMode) : Type 0 where
   pub number : ℕ
   pub first : IsFirstLeast 10 (λ i. sub_cost f p place (mode_at i)) number
   pub is : mode ≡ mode_at number
 
--- its levels by a mode
+-- the levels of a subblock that is predicted by a mode
 abbrev pub sub_levels : (ℕ → ℕ → ℕ) → Raster → Place → SubMode → Factors → List ℤ
 sub_levels f p place mode factors =
     quantised_levels (coefficients f (sub_pixel mode p (4 * place.column) (4 * place.row))) factors.y_dc factors.y_ac
@@ -39,6 +40,7 @@ sub_levels f p place mode factors =
 abbrev pub mode_of : Subblocks → ℕ → SubMode
 mode_of s k = slice_index_or s.modes k Dc
 
+-- the levels of subblock k
 abbrev pub levels_in : Subblocks → ℕ → List ℤ
 levels_in s k = slice_index_or s.levels k []
 
@@ -47,13 +49,11 @@ abbrev pub sub_rebuilt : Factors → Place → Subblocks → ℕ → Raster → 
 sub_rebuilt factors place s k p = with_sub p (block_place 4 place k) (mode_of s k)
     (residue (levels_in s k) factors.y_dc factors.y_ac)
 
--- p with the first n rebuilt
+-- p with the first n subblocks rebuilt
 abbrev pub after_subblocks : Factors → Place → Raster → Subblocks → ℕ → Raster
 after_subblocks factors place p s n = over n (sub_rebuilt factors place s) p
 
--- Each subblock of the luma f of the macroblock at a place of p has its best mode over those before it, and the
--- levels of
--- that mode; the cost is the sum of theirs.
+-- each subblock has the best mode, given those before it, and the levels of that mode; the cost is their sum
 pub record AreSubblocksChosen (f : ℕ → ℕ → ℕ) (factors : Factors) (place : Place) (p : Raster) (s : Subblocks)
     : Type 0 where
   pub modes : (k : ℕ) → k < 16 → IsBestMode (part 4 f k) (after_subblocks factors place p s k) (block_place 4 place k)

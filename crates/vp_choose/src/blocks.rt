@@ -1,4 +1,4 @@
-//! The source of a macroblock.
+//! The source pixels of one macroblock.
 
 ghost use Rattle.vp_choose.specs.Costs.{HasMacroblock};
 ghost use Rattle.vp_choose.specs.Cut.{AreCut};
@@ -6,7 +6,7 @@ ghost use Rattle.vp_choose.specs.Cut.{AreCut};
 use vp_base::{Picture, Place};
 use vp_search::{cut_block, macroblock};
 
-/// The pixels of a macroblock's source, each plane's row after row.
+/// The source pixels of a macroblock, each plane in raster order.
 #[derive(Clone, Copy)]
 pub(crate) struct Blocks {
     pub(crate) luma: [u8; 256],
@@ -14,7 +14,7 @@ pub(crate) struct Blocks {
     pub(crate) v: [u8; 64],
 }
 
-/// The blocks of the macroblock at `place`.
+/// Copies the source pixels of the macroblock at `place`.
 pub(crate) fn cut_blocks(source: &Picture, place: Place) -> Blocks
     requires { HasMacroblock source.now place }
     ensures { AreCut source.now place result }

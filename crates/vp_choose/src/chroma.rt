@@ -1,4 +1,4 @@
-//! The choice of an intra macroblock's chroma mode.
+//! Chooses an intra macroblock's chroma mode.
 
 ghost use Rattle.std.specs.Prelude.{◌≡◌, ℕ, ◌+◌, ◌*◌, ◌≤◌};
 ghost use Rattle.vp_base.specs.Image.{Image};
@@ -14,10 +14,10 @@ use vp_intra::predict_chroma;
 use vp_search::first_least;
 use vp_tables::ChromaMode;
 
-/// The modes in the order in which ties are broken.
+/// The modes in tie-breaking order.
 const ORDER: [ChromaMode; 4] = [ChromaMode::Dc, ChromaMode::V, ChromaMode::H, ChromaMode::Tm];
 
-/// What a mode costs one plane of colour.
+/// Returns the cost of a mode in one chroma plane: the sum of absolute differences.
 fn plane_cost(block: &[u8; 64], plane: &Plane, place: Place, mode: ChromaMode) -> u32
     requires columns { 8 * place.column + 8 ≤ plane.now.width }
     requires rows { 8 * place.row + 8 ≤ plane.now.height }
@@ -29,7 +29,7 @@ fn plane_cost(block: &[u8; 64], plane: &Plane, place: Place, mode: ChromaMode) -
     sad8(block, &prediction)
 }
 
-/// What a mode costs, over U and V.
+/// Returns the cost of a mode over U and V.
 fn cost_of(blocks: &Blocks, picture: &Picture, place: Place, mode: ChromaMode) -> u32
     requires { HasMacroblock picture.now place }
     ensures value { (source : Image) → AreCut source place blocks.now
@@ -41,7 +41,7 @@ fn cost_of(blocks: &Blocks, picture: &Picture, place: Place, mode: ChromaMode) -
         + plane_cost(&blocks.v, picture.plane(2), place, mode)
 }
 
-/// The best chroma mode of a macroblock.
+/// Returns the chroma mode of the least cost.
 pub(crate) fn choose_chroma(blocks: &Blocks, picture: &Picture, place: Place) -> ChromaMode
     requires { HasMacroblock picture.now place }
     ensures { (source : Image) → AreCut source place blocks.now → IsChroma source place picture.now result }

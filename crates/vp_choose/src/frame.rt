@@ -1,4 +1,4 @@
-//! What the macroblocks of a frame are chosen by, and what is chosen.
+//! The inputs and the result of the encoder's choice for a macroblock.
 
 use vp_base::Picture;
 use vp_modes::Modes;
@@ -7,38 +7,37 @@ use vp_quant::Factors;
 use vp_refs::Refs;
 use vp_tokens::Tokens;
 
-/// Where and how the vectors of an inter frame are searched.
+/// Where and how motion vectors are searched in an inter frame.
 #[derive(Clone, Copy)]
 pub struct Search<'a> {
-    /// The pictures that vectors point into: last is always searched.
+    /// The reference frames. The last frame is always searched.
     pub references: &'a Refs,
-    /// Whether golden is searched too.
+    /// Whether the golden frame is searched too.
     pub golden: bool,
-    /// How many whole pixels a vector goes at most, down or to the right or back; at most 64.
+    /// The search range in whole pixels, in each direction: 0 to 64.
     pub range: u8,
     /// Whether vectors are refined to quarter pixels.
     pub subpel: bool,
 }
 
-/// What the macroblocks of a frame are chosen by.
+/// The inputs of the choice for all macroblocks of a frame.
 #[derive(Clone, Copy)]
 pub struct FrameSearch<'a> {
-    /// The source. Its pixels that aren't shown continue it.
+    /// The source picture, padded to whole macroblocks by its edge pixels.
     pub source: &'a Picture,
-    /// Each is 1 or more.
+    /// The dequantisation factors; each is at least 1.
     pub factors: &'a Factors,
     /// None for a key frame.
     pub search: Option<Search<'a>>,
 }
 
-/// What is chosen for a macroblock.
+/// The encoder's choice for a macroblock.
 #[derive(Clone, Copy)]
 pub struct Choice {
-    /// What is said of it before its levels: whether it is skipped, its reference, and the modes of an intra
-    /// macroblock.
+    /// Whether it is skipped, its reference frame, and the modes of an intra macroblock.
     pub modes: Modes,
-    /// Zero, and of no meaning, for an intra macroblock.
+    /// The motion of an inter macroblock. Zero, and meaningless, for an intra macroblock.
     pub motion: Motion,
-    /// The levels of its blocks; no token at all where it is skipped.
+    /// The levels of its blocks. A skipped macroblock has no tokens.
     pub tokens: Tokens,
 }

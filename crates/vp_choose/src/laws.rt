@@ -1,6 +1,8 @@
+//! Theorems about the encoder's choice.
+
 ghost use Rattle.vp_choose.specs.One.{ChoiceIsOne};
 
-/// A macroblock has one choice.
+/// The choice for a macroblock is unique.
 pub fn choice_is_one()
     ensures { ChoiceIsOne }
 {}

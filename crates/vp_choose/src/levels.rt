@@ -1,4 +1,4 @@
-//! The levels of a block: forward transforms of source less prediction, quantised.
+//! Computes the levels of a block: the forward transform of source minus prediction, quantised.
 
 ghost use Rattle.std.specs.Prelude.{◌≡◌, ℕ, ◌+◌, ◌*◌, ◌/◌, ◌%◌, ◌<◌, ◌≤◌, pos, length, slice_index_or, unsigned_abs};
 ghost use Rattle.vp_transform.specs.Fits.{EachWithin};
@@ -9,7 +9,7 @@ use vp_quant::quantise;
 use vp_tables::zigzag;
 use vp_transform::fdct;
 
-/// Subblock `k` of a block that is `ACROSS` subblocks wide and high.
+/// Returns subblock `k` of a block that is `ACROSS` subblocks wide and high.
 pub(crate) fn part_of<const ACROSS: usize>(block: &[u8], k: usize) -> [u8; 16]
     requires some { 0 < ACROSS }
     requires size { ACROSS ≤ 4 }
@@ -26,7 +26,7 @@ pub(crate) fn part_of<const ACROSS: usize>(block: &[u8], k: usize) -> [u8; 16]
     part
 }
 
-/// The coefficients of a subblock, by its prediction.
+/// Returns the coefficients of a subblock: the forward transform of source minus prediction.
 #[tactic(auto, unfolding(crate::specs::Levels::coefficients))]
 pub(crate) fn coefficients(source: &[u8; 16], prediction: &[u8; 16]) -> [i64; 16]
     ensures value { (f g : ℕ → ℕ → ℕ) → source.now ≡ listed 4 f → prediction.now ≡ listed 4 g
@@ -40,7 +40,8 @@ pub(crate) fn coefficients(source: &[u8; 16], prediction: &[u8; 16]) -> [i64; 16
     fdct(&less)
 }
 
-/// The levels of a block of coefficients, by position: the first by the factor `dc`, the others by `ac`.
+/// Quantises a block of coefficients and puts the levels in zigzag order. The DC coefficient is quantised by `dc`, the
+/// others by `ac`.
 #[tactic(auto, unfolding(crate::specs::Levels::quantised_levels))]
 pub(crate) fn quantised_levels(coefficients: &[i64; 16], dc: u16, ac: u16) -> [i16; 16]
     requires dc { 1 ≤ dc }

@@ -1,4 +1,4 @@
-//! What the encoder chooses for one macroblock: its modes, its vector and its levels. RFC 6386 leaves all of it open.
+//! The encoder's choices for one macroblock: modes, motion vector and levels. RFC 6386 leaves all of them open.
 #![tactic(auto)]
 
 mod blocks;

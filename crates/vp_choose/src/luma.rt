@@ -1,4 +1,4 @@
-//! The choice of an intra macroblock's luma mode.
+//! Chooses an intra macroblock's luma mode.
 
 ghost use Rattle.std.specs.Prelude.{◌≡◌, ℕ, ◌+◌, ◌*◌, ◌≤◌};
 ghost use Rattle.vp_intra.specs.Edges.{block as listed};
@@ -14,7 +14,7 @@ use vp_quant::Factors;
 use vp_search::{first_least, sad16};
 use vp_tables::LumaMode;
 
-/// The modes in the order in which ties are broken.
+/// The modes in tie-breaking order.
 const ORDER: [LumaMode; 5] = [
     LumaMode::Dc,
     LumaMode::V,
@@ -23,7 +23,7 @@ const ORDER: [LumaMode; 5] = [
     LumaMode::B,
 ];
 
-/// What is chosen for an intra macroblock's luma, and what it costs.
+/// The luma mode of an intra macroblock, its cost, and its subblock modes.
 #[derive(Clone, Copy)]
 pub(crate) struct Luma {
     pub(crate) mode: LumaMode,
@@ -31,7 +31,7 @@ pub(crate) struct Luma {
     pub(crate) cost: u32,
 }
 
-/// What a mode costs that predicts all luma at once.
+/// Returns the cost of a mode other than B_PRED: the sum of absolute differences.
 fn cost_of(block: &[u8; 256], plane: &Plane, place: Place, mode: LumaMode) -> u32
     requires columns { 16 * place.column + 16 ≤ plane.now.width }
     requires rows { 16 * place.row + 16 ≤ plane.now.height }
@@ -44,7 +44,7 @@ fn cost_of(block: &[u8; 256], plane: &Plane, place: Place, mode: LumaMode) -> u3
     sad16(block, &prediction)
 }
 
-/// The best luma mode of a macroblock whose source is `block`. The picture is afterwards as it was.
+/// Returns the luma mode of the least cost for a source `block`. The picture is used as scratch memory and restored.
 pub(crate) fn choose_luma(
     block: &[u8; 256],
     factors: &Factors,

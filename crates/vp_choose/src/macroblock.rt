@@ -1,4 +1,4 @@
-//! The choice for one macroblock.
+//! Chooses for one macroblock: intra or inter.
 
 ghost use Rattle.std.specs.Prelude.{◌≡◌, ℕ, ◌*◌, ◌<◌, ◌≤◌, true, false, not, IfSome, replicate, if◌then◌else◌};
 ghost use Rattle.vp_base.specs.Grid.{Has};
@@ -44,7 +44,7 @@ use vp_search::QuarterVector;
 use vp_tables::{ChromaMode, LumaMode, SubMode, VectorMode};
 use vp_tokens::Tokens;
 
-/// The levels of an intra macroblock.
+/// Returns the levels of an intra macroblock.
 fn intra_tokens(
     blocks: &Blocks,
     factors: &Factors,
@@ -79,7 +79,7 @@ fn intra_tokens(
     tokens_with_y2(&blocks.luma, factors, &prediction, &chroma)
 }
 
-/// The intra modes of a macroblock, by its levels.
+/// Returns the modes of an intra macroblock, skipped if it has no tokens.
 fn intra_modes(luma: &Luma, chroma: ChromaMode, tokens: &Tokens) -> Modes
     ensures { result ≡ record {
       segment = 0;
@@ -106,7 +106,7 @@ fn intra_modes(luma: &Luma, chroma: ChromaMode, tokens: &Tokens) -> Modes
     }
 }
 
-/// Chooses for an intra macroblock whose luma is chosen, and rebuilds it.
+/// Completes the choice for an intra macroblock whose luma mode is chosen, and rebuilds it.
 fn choose_intra(
     blocks: &Blocks,
     factors: &Factors,
@@ -143,7 +143,7 @@ fn choose_intra(
     }
 }
 
-/// The levels of an inter macroblock.
+/// Returns the levels of an inter macroblock.
 fn inter_tokens(
     blocks: &Blocks,
     factors: &Factors,
@@ -179,7 +179,7 @@ fn inter_tokens(
     tokens_with_y2(&blocks.luma, factors, &prediction, &chroma)
 }
 
-/// How a macroblock moves, as it is kept.
+/// Returns a macroblock's motion with its reference frame.
 fn entry_of(reference: Reference, motion: &Motion) -> MacroblockMotion
     ensures { result ≡ record { reference = reference; mode = motion.now.mode; vectors = motion.now.vectors } }
 {
@@ -191,7 +191,7 @@ fn entry_of(reference: Reference, motion: &Motion) -> MacroblockMotion
     }
 }
 
-/// Chooses for a macroblock whose vector is chosen, and rebuilds it.
+/// Completes the choice for an inter macroblock whose vector is chosen, and rebuilds it.
 fn choose_inter(
     blocks: &Blocks,
     factors: &Factors,
@@ -243,10 +243,10 @@ fn choose_inter(
     }
 }
 
-/// Chooses for the macroblock at `place`, and rebuilds it.
+/// Chooses the coding of the macroblock at `place`, and rebuilds it.
 ///
-/// `picture` has the macroblocks before it, in raster order, rebuilt and not filtered yet; `vectors` has their motion.
-/// The macroblock's own motion isn't put there. No memory is taken.
+/// In `picture` the macroblocks before it, in raster order, are rebuilt and not filtered yet; `vectors` has their
+/// motion. The macroblock's own motion is not stored there. No memory is allocated.
 pub fn choose_macroblock(
     frame: &FrameSearch,
     picture: &mut Picture,
@@ -263,7 +263,7 @@ pub fn choose_macroblock(
     ensures chosen { IsChoice (lent_frame frame.now) picture.old vectors.now place result }
     ensures rebuilt { picture.new ≡ rebuilt (macroblock_of (source_by
         (lent_frame frame.now).search result) result.tokens (lent_frame frame.now).factors) place picture.old }
-    // `write_motion` can say the motion at this place, where no vector is turned round.
+    // `write_motion` can code the motion at this place if no sign bias is set.
     ensures written { is_intra result.modes.reference ≡ false
         → CanBeWritten (candidates vectors.now place result.modes.reference no_biases) result.motion }
     ensures short { IsWithin 259 (last_of result.motion.vectors) }

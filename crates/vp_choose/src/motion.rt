@@ -1,4 +1,4 @@
-//! The choice of a macroblock's reference, vector and mode.
+//! Chooses a macroblock's reference frame, motion vector and vector mode.
 
 ghost use Rattle.std.specs.Prelude.{◌≡◌, ℕ, ◌+◌, ◌*◌, ◌<◌, ◌≤◌, true, false, unsigned_abs, replicate};
 ghost use Rattle.vp_base.specs.Grid.{Has};
@@ -21,7 +21,7 @@ use vp_motion::{Candidates, Motion, Vector, VectorMap, near};
 use vp_search::{QuarterVector, Refined, quarters, refine_block, search_block};
 use vp_tables::VectorMode;
 
-/// A reference, the vector that is found in it, and what that costs.
+/// A reference frame, the best vector found in it, and its cost.
 #[derive(Clone, Copy)]
 pub(crate) struct Moved {
     pub(crate) reference: Reference,
@@ -29,7 +29,7 @@ pub(crate) struct Moved {
     pub(crate) cost: u32,
 }
 
-/// The vector that is found in one of the references for the luma `block` of a macroblock at `place`.
+/// Finds the best vector in one reference frame for the luma `block` of the macroblock at `place`.
 fn find(search: &Search, block: &[u8; 256], reference: Reference, place: Place) -> Refined
     requires columns { 16 * place.column ≤ 16384 }
     requires rows { 16 * place.row ≤ 16384 }
@@ -52,7 +52,7 @@ fn find(search: &Search, block: &[u8; 256], reference: Reference, place: Place) 
     }
 }
 
-/// What is found, with the reference that it is found in.
+/// Adds the reference frame to a vector and its cost.
 fn found_in(reference: Reference, found: Refined) -> Moved
     ensures { result ≡ found_in reference found }
 {
@@ -63,7 +63,7 @@ fn found_in(reference: Reference, found: Refined) -> Moved
     }
 }
 
-/// The reference and the vector of a macroblock, if it is moved.
+/// Returns the reference frame and the vector with the least cost.
 pub(crate) fn choose_reference(search: &Search, block: &[u8; 256], place: Place) -> Moved
     requires columns { 16 * place.column ≤ 16384 }
     requires rows { 16 * place.row ≤ 16384 }
@@ -83,7 +83,7 @@ pub(crate) fn choose_reference(search: &Search, block: &[u8; 256], place: Place)
     found_in(Reference::Last, last)
 }
 
-/// The first mode that gives a vector.
+/// Returns the first mode that gives a vector: zero, nearest, near, or new.
 pub(crate) fn mode_of(candidates: &Candidates, vector: Vector) -> VectorMode
     ensures { IsFirstGiving candidates.now vector result }
 {
@@ -99,7 +99,7 @@ pub(crate) fn mode_of(candidates: &Candidates, vector: Vector) -> VectorMode
     VectorMode::New
 }
 
-/// How a macroblock that is moved says so.
+/// Returns the vector mode and the vectors that code the chosen motion.
 pub(crate) fn motion_of(vectors: &VectorMap, place: Place, moved: &Moved) -> Motion
     requires place { Has vectors.now place }
     requires map { AreWithin 511 vectors.now }

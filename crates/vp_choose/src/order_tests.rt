@@ -1,4 +1,4 @@
-//! Choices between costs that are equal or nearly so, worked by hand.
+//! Tests of ties and near-ties between costs, worked by hand.
 
 ghost use Rattle.std.specs.Prelude.{◌≡◌, ◌<◌, ◌≤◌};
 ghost use Rattle.vp_motion.specs.Vector.{IsWithin};
@@ -21,12 +21,12 @@ use vp_motion::{Candidates, Vector};
 use vp_refs::Refs;
 use vp_tables::{ChromaMode, LumaMode, VectorMode};
 
-/// Above it stand 127, to its left 129.
+/// The pixels above the first macroblock are 127, and those to its left 129.
 const FIRST: Place = Place { column: 0, row: 0 };
 
 const SECOND: Place = Place { column: 1, row: 1 };
 
-/// What LD makes of 130 above and 127 above and to the right, but for its first pixel, which would be 130.
+/// The LD prediction from 130 above and 127 above and to the right, except for its first pixel, which would be 130.
 const SLOPE: [u8; 16] = [
     129, 130, 129, 128, 130, 129, 128, 127, 129, 128, 127, 127, 128, 127, 127, 127,
 ];
@@ -39,7 +39,7 @@ fn put(picture: &mut Picture, k: usize, x: usize, y: usize, value: u8)
     }
 }
 
-/// Writes what stands round the second macroblock: a corner, and two numbers by turns above it and to its left.
+/// Writes the pixels around the second macroblock: a corner, and two alternating values above it and to its left.
 fn surround(picture: &mut Picture, k: usize, side: usize, corner: u8, beside: [[u8; 2]; 2])
     requires plane { k < 3 }
     requires side { (1 ≤ side) × (side ≤ 16) }
@@ -51,7 +51,7 @@ fn surround(picture: &mut Picture, k: usize, side: usize, corner: u8, beside: [[
     }
 }
 
-/// The luma mode of a macroblock; none outside the picture.
+/// Returns the luma mode of a macroblock; None outside the picture.
 fn luma_mode(block: &[u8; 256], picture: &mut Picture, place: Place) -> Option<LumaMode>
     ensures { picture.new ≡ picture.old }
 {
@@ -62,7 +62,7 @@ fn luma_mode(block: &[u8; 256], picture: &mut Picture, place: Place) -> Option<L
     Some(choose_luma(block, &FACTORS, picture, place).mode)
 }
 
-/// The chroma mode of a macroblock whose U and V are the same; none outside the picture.
+/// Returns the chroma mode of a macroblock whose U and V are equal; None outside the picture.
 fn chroma_mode(block: &[u8; 64], picture: &Picture, place: Place) -> Option<ChromaMode> {
     let dim = picture.dim();
     if place.column >= usize::from(dim.mb_cols()) || place.row >= usize::from(dim.mb_rows()) {
@@ -76,7 +76,7 @@ fn chroma_mode(block: &[u8; 64], picture: &Picture, place: Place) -> Option<Chro
     Some(choose_chroma(&blocks, picture, place))
 }
 
-/// A number, and one more in nine subblocks: the lower half, and the first of the row above it.
+/// `number`, and `number + 1` in nine subblocks: those of the lower half, and the first of the row above it.
 fn nine_more(number: u8) -> [u8; 256]
     requires { number < 255 }
 {
@@ -89,7 +89,7 @@ fn nine_more(number: u8) -> [u8; 256]
     pixels
 }
 
-/// The same of 129, with a slope in the last subblock.
+/// `nine_more(129)`, with a slope in the last subblock.
 fn nine_more_with_slope() -> [u8; 256] {
     let mut pixels = nine_more(129);
     for i in 0..16 {
@@ -98,7 +98,7 @@ fn nine_more_with_slope() -> [u8; 256] {
     pixels
 }
 
-/// 100 and 102 by turns: in the first two of four rows from column to column, in the others from row to row.
+/// 100 and 102 alternately: in the first two of each four rows by column, in the others by row.
 fn woven<const SIDE: usize, const AREA: usize>() -> [u8; AREA]
     requires { (1 ≤ SIDE) × (AREA ≤ 256) }
 {
@@ -113,7 +113,7 @@ fn woven<const SIDE: usize, const AREA: usize>() -> [u8; AREA]
     pixels
 }
 
-/// 127 and 128 by turns.
+/// 127 and 128 alternately.
 fn between<const AREA: usize>() -> [u8; AREA]
     requires { AREA ≤ 256 }
 {
@@ -131,16 +131,13 @@ fn square(alloc: Global, side: u16) -> Result<Picture, Fail> {
     Ok(Picture::new(alloc, dim, 0)?)
 }
 
-/// DC is 128, V 127, H and TM are 129. With nine subblocks of 130 and seven of 129, H costs 9 * 16 = 144, as TM
-/// does. B_PRED
-/// predicts the first of the nine by 129, for 16, and all others exactly: 16 + 128 is 144 too, and H comes first;
-/// with 127
-/// for 128 B_PRED would be taken.
+/// DC is 128, V 127, H and TM are 129. With nine subblocks of 130 and seven of 129, H costs 9 * 16 = 144, as TM does.
+/// B_PRED predicts the first of the nine by 129, for a cost of 16, and all others exactly. The sum 16 + 128 is 144 too,
+/// and H is first in order. With a penalty of 127 instead of 128 B_PRED would be chosen.
 ///
-/// With the slope, the last subblock costs H 18 for 16, 146 in all. B_PRED predicts it by LD from 130 above and 127
-/// above
-/// and to the right, and misses its first pixel by 1: 17 + 128 is 145, less than 146; with 129 for 128 H would be
-/// taken.
+/// With the slope, the last subblock costs H 18 instead of 16, 146 in all. B_PRED predicts it by LD from 130 above and
+/// 127 above and to the right, and misses its first pixel by 1. The sum 17 + 128 is 145, less than 146. With a penalty
+/// of 129 H would be chosen.
 #[test]
 fn subblocks_cost_128_more(rt: HostRuntime) -> Result<(), Fail> {
     let mut picture = square(rt.alloc(), 32)?;
@@ -149,17 +146,15 @@ fn subblocks_cost_128_more(rt: HostRuntime) -> Result<(), Fail> {
     Ok(())
 }
 
-/// Between 127 and 128, DC (128) and V (127) cost 128 each, H and TM (129) 384: DC comes first.
+/// Between 127 and 128, DC (128) and V (127) cost 128 each, H and TM (129) 384: DC is first in order.
 ///
-/// Below 100 and 102 by turns, and to the right of the same, V misses by 2 what stands as in its row, and H what
-/// stands as
-/// in its column, a quarter of the pixels each: 128. DC (101) and TM (99, 101, 103; the corner is 101) miss all by
-/// 1: 256.
-/// B_PRED costs 128 at least: V comes first.
+/// The second block is below and to the right of 100 and 102 alternately. V misses by 2 the pixels that vary by row,
+/// and H those that vary by column: a quarter of the pixels each, so 128. DC (101) and TM (99, 101, 103; the corner is
+/// 101) miss all by 1: 256. B_PRED costs 128 at least: V is first in order.
 ///
-/// Below 100 and to the right of 102, with 99 at the corner, TM is 103. With nine subblocks of 104 and seven of 103
-/// it costs
-/// 144. So does B_PRED, as above. H (102), V (100) and DC (101) cost 400 at least: TM comes before B_PRED.
+/// The third is below 100 and to the right of 102, with 99 at the corner: TM is 103. With nine subblocks of 104 and
+/// seven of 103 it costs 144. So does B_PRED, as above. H (102), V (100) and DC (101) cost 400 at least: TM is before
+/// B_PRED in order.
 #[test]
 fn ties_of_luma_modes(rt: HostRuntime) -> Result<(), Fail> {
     let mut picture = square(rt.alloc(), 32)?;
@@ -171,7 +166,8 @@ fn ties_of_luma_modes(rt: HostRuntime) -> Result<(), Fail> {
     Ok(())
 }
 
-/// The same with a quarter of the pixels: DC and V cost 32 in each plane, then V and H; and 129 costs H and TM nothing.
+/// The ties of luma modes with a quarter of the pixels: DC and V cost 32 in each plane, then V and H. With 129, H and
+/// TM cost nothing.
 #[test]
 fn ties_of_chroma_modes(rt: HostRuntime) -> Result<(), Fail> {
     let mut picture = square(rt.alloc(), 32)?;
@@ -183,7 +179,7 @@ fn ties_of_chroma_modes(rt: HostRuntime) -> Result<(), Fail> {
     Ok(())
 }
 
-/// Neighbours without weights.
+/// Candidate vectors without weights.
 fn candidates(nearest: Vector, near: Vector) -> Candidates
     requires nearest { IsWithin 65536 nearest }
     requires near { IsWithin 65536 near }
@@ -198,7 +194,7 @@ fn candidates(nearest: Vector, near: Vector) -> Candidates
     }
 }
 
-/// Two neighbours' vectors that go further out than a block may are both cut to the same one.
+/// Two neighbours' vectors that reach too far outside the picture may both be clamped to one vector.
 #[test]
 fn first_mode_that_gives_a_vector(rt: HostRuntime) {
     let cut = Vector {
@@ -214,7 +210,7 @@ fn first_mode_that_gives_a_vector(rt: HostRuntime) {
     assert!(rt; mode_of(&candidates(still, still), still) == VectorMode::Zero);
 }
 
-/// An inter frame's header by which its picture becomes last alone.
+/// An inter frame's header that replaces the last frame only.
 fn to_last() -> Header {
     let saved = Saved::defaults();
     Header {
@@ -262,7 +258,7 @@ fn to_last() -> Header {
     }
 }
 
-/// A picture whose luma is 4 more in each column than in the one before it: `first`, `first` + 4, ..
+/// A picture whose luma rises by 4 from column to column: `first`, `first` + 4, ..
 fn ramp(alloc: Global, first: u8) -> Result<Picture, Fail>
     requires { first ≤ 2 }
 {
@@ -273,7 +269,7 @@ fn ramp(alloc: Global, first: u8) -> Result<Picture, Fail>
     Ok(picture)
 }
 
-/// References to choose from.
+/// Reference frames to choose from.
 fn references(alloc: Global, last: Picture, golden: Picture) -> Result<Refs, Fail> {
     let last = Rc::new(alloc, last)?;
     let mut references = Refs::of_key(Rc::new(alloc, golden)?)?;
@@ -281,7 +277,7 @@ fn references(alloc: Global, last: Picture, golden: Picture) -> Result<Refs, Fai
     Ok(references)
 }
 
-/// The reference that is taken for a macroblock of the ramp that begins with 2.
+/// Returns the reference frame that is chosen for a macroblock of the ramp that begins with 2.
 fn reference_of(references: &Refs) -> Reference {
     let search = Search {
         references,
@@ -296,18 +292,16 @@ fn reference_of(references: &Refs) -> Reference {
     choose_reference(&search, &block, SECOND).reference
 }
 
-/// The ramp that begins with 2, but for one pixel.
+/// The ramp that begins with 2, with one pixel changed.
 fn spotted(alloc: Global) -> Result<Picture, Fail> {
     let mut picture = ramp(alloc, 2)?;
     put(&mut picture, 0, 20, 20, 90);
     Ok(picture)
 }
 
-/// In whole pixels the ramp that begins with 0 costs 2 a pixel, 512; half a pixel to the right it costs nothing.
-/// The ramp
-/// that begins with 2 costs nothing but 8 in one pixel, wherever it is refined. So the first is better, though not
-/// before
-/// it is refined, be it last or golden.
+/// In whole pixels the ramp that begins with 0 costs 2 a pixel, 512; half a pixel to the right it costs nothing. The
+/// changed ramp that begins with 2 costs 8, in one pixel, with or without refinement. So the first is better, but only
+/// after refinement, be it last or golden.
 #[test]
 fn references_are_weighed_refined(rt: HostRuntime) -> Result<(), Fail> {
     let alloc = rt.alloc();

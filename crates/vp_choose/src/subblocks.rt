@@ -1,4 +1,4 @@
-//! The choice of the luma subblocks' modes.
+//! Chooses the modes of the luma subblocks for B_PRED.
 
 ghost use Rattle.std.specs.Prelude.{◌≡◌, ℕ, ◌+◌, ◌*◌, ◌<◌, ◌≤◌, pos, slice_index_or, unsigned_abs};
 ghost use Rattle.vp_base.specs.Image.{with_plane};
@@ -21,7 +21,7 @@ use vp_search::{first_least, macroblock};
 use vp_tables::SubMode;
 use vp_tokens::Block;
 
-/// The modes in the order in which ties are broken.
+/// The modes in tie-breaking order.
 const ORDER: [SubMode; 10] = [
     SubMode::Dc,
     SubMode::Tm,
@@ -35,7 +35,7 @@ const ORDER: [SubMode; 10] = [
     SubMode::Hu,
 ];
 
-/// What is chosen for the luma subblocks, in raster order, and what it costs.
+/// The modes and levels of the sixteen luma subblocks, in raster order, and their cost.
 #[derive(Clone, Copy)]
 pub(crate) struct Subblocks {
     pub(crate) modes: [SubMode; 16],
@@ -43,7 +43,7 @@ pub(crate) struct Subblocks {
     pub(crate) cost: u32,
 }
 
-/// What is chosen for one of them.
+/// The mode, the levels and the cost of one subblock.
 #[derive(Clone, Copy)]
 struct Subblock {
     mode: SubMode,
@@ -51,7 +51,7 @@ struct Subblock {
     cost: u32,
 }
 
-/// What a mode costs one of them.
+/// Returns the cost of a mode for one subblock: the sum of absolute differences.
 fn cost_of(block: &[u8; 16], plane: &Plane, place: Place, mode: SubMode) -> u32
     requires columns { 4 * place.column + 4 ≤ plane.now.width }
     requires rows { 4 * place.row + 4 ≤ plane.now.height }
@@ -63,7 +63,7 @@ fn cost_of(block: &[u8; 16], plane: &Plane, place: Place, mode: SubMode) -> u32
     sad4(block, &prediction)
 }
 
-/// The number of the best mode, and its cost.
+/// Returns the index of the mode of the least cost, and its cost.
 fn best_mode(block: &[u8; 16], plane: &Plane, place: Place) -> (usize, u32)
     requires columns { 4 * place.column + 4 ≤ plane.now.width }
     requires rows { 4 * place.row + 4 ≤ plane.now.height }
@@ -81,7 +81,7 @@ fn best_mode(block: &[u8; 16], plane: &Plane, place: Place) -> (usize, u32)
     (best, costs[best])
 }
 
-/// The levels of a subblock by a mode.
+/// Returns the levels of a subblock that is predicted by a mode.
 fn levels_by(
     block: &[u8; 16],
     factors: &Factors,
@@ -101,7 +101,7 @@ fn levels_by(
     quantised_levels(&numbers, factors.y_dc, factors.y_ac)
 }
 
-/// Chooses for one subblock, and rebuilds it.
+/// Chooses the mode of one subblock, and rebuilds it.
 fn choose_subblock(
     block: &[u8; 16],
     factors: &Factors,
@@ -129,7 +129,7 @@ fn choose_subblock(
     Subblock { mode, levels, cost }
 }
 
-/// Chooses for all subblocks of a macroblock, and rebuilds them.
+/// Chooses the modes of all subblocks of a macroblock, and rebuilds them.
 fn choose_all(
     source: &[u8; 256],
     factors: &Factors,
@@ -169,7 +169,7 @@ fn choose_all(
     }
 }
 
-/// What would be chosen for all subblocks of a macroblock. The picture is afterwards as it was.
+/// Returns the choice for all subblocks of a macroblock. The picture is used as scratch memory and restored.
 pub(crate) fn choose_subblocks(
     source: &[u8; 256],
     factors: &Factors,

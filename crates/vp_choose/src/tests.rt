@@ -1,3 +1,5 @@
+//! Tests of the choice for single macroblocks.
+
 use super::*;
 use std::alloc::Global;
 use std::rc::Rc;
@@ -8,7 +10,7 @@ use vp_quant::Factors;
 use vp_refs::Refs;
 use vp_tables::{ChromaMode, LumaMode, SubMode, VectorMode};
 
-/// Those of quantiser index 0.
+/// The factors of quantiser index 0.
 pub(crate) const FACTORS: Factors = Factors {
     y_dc: 4,
     y_ac: 4,
@@ -20,7 +22,7 @@ pub(crate) const FACTORS: Factors = Factors {
 
 const TOP: Place = Place { column: 0, row: 0 };
 
-/// The first row and the first column true motion, the others DC.
+/// TM in the first row and the first column, DC elsewhere.
 const FLAT_MODES: [SubMode; 16] = [
     SubMode::Tm,
     SubMode::Tm,
@@ -40,7 +42,7 @@ const FLAT_MODES: [SubMode; 16] = [
     SubMode::Dc,
 ];
 
-/// Whether all pixels of a picture of 16 by 16 are 200.
+/// Returns whether all pixels of a picture of 16 by 16 are 200.
 fn is_bright(bytes: &[u8]) -> bool {
     for byte in bytes {
         if *byte != 200 {

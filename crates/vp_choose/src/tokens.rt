@@ -1,4 +1,4 @@
-//! The levels of a macroblock, from its predictions.
+//! Computes a macroblock's tokens from its source and its predictions.
 
 ghost use Rattle.std.specs.Prelude.{◌≡◌, ℕ, ◌+◌, ◌*◌, ◌<◌, ◌≤◌, true, false, ℤ, pos, List, [], slice_index_or};
 ghost use Rattle.std.specs.Prelude.{slice_set, replicate, unsigned_abs};
@@ -18,7 +18,7 @@ use vp_transform::fwht;
 /// The levels of a plane's blocks in raster order.
 pub(crate) type Levels<const N: usize> = [[i16; 16]; N];
 
-/// The coefficients of the sixteen luma subblocks.
+/// Returns the coefficients of the sixteen luma subblocks.
 fn luma_coefficients(source: &[u8; 256], prediction: &[u8; 256]) -> [[i64; 16]; 16]
     ensures value { (f g : ℕ → ℕ → ℕ) → source.now ≡ listed 16 f → prediction.now ≡ listed 16 g
         → AreListed 16 result (part_coefficients 4 f g) }
@@ -31,7 +31,7 @@ fn luma_coefficients(source: &[u8; 256], prediction: &[u8; 256]) -> [[i64; 16]; 
     all
 }
 
-/// The first coefficients of the sixteen luma subblocks.
+/// Returns the DC coefficients of the sixteen luma subblocks.
 #[tactic(auto, unfolding(crate::specs::Levels::firsts))]
 fn firsts(all: &[[i64; 16]; 16]) -> [i64; 16]
     requires { (k : ℕ) → EachWithin 2040 (slice_index_or all.now k []) }
@@ -45,7 +45,7 @@ fn firsts(all: &[[i64; 16]; 16]) -> [i64; 16]
     firsts
 }
 
-/// The levels of the Y2 block.
+/// Returns the levels of the Y2 block.
 fn y2_levels(all: &[[i64; 16]; 16], factors: &Factors) -> [i16; 16]
     requires within { (k : ℕ) → EachWithin 2040 (slice_index_or all.now k []) }
     requires factors { ArePositive factors.now }
@@ -57,7 +57,7 @@ fn y2_levels(all: &[[i64; 16]; 16], factors: &Factors) -> [i16; 16]
     quantised_levels(&fwht(&firsts), factors.y2_dc, factors.y2_ac)
 }
 
-/// The levels of the luma subblocks behind a Y2 block, which has those of position 0.
+/// Returns the AC levels of the luma subblocks; the Y2 block has their DC coefficients.
 fn luma_levels(all: &[[i64; 16]; 16], factors: &Factors) -> Levels<16>
     requires { ArePositive factors.now }
     ensures value { (each : ℕ → List ℤ) → AreListed 16 all.now each
@@ -74,7 +74,7 @@ fn luma_levels(all: &[[i64; 16]; 16], factors: &Factors) -> Levels<16>
     levels
 }
 
-/// The levels of the four subblocks of a plane of colour.
+/// Returns the levels of the four subblocks of a chroma plane.
 fn chroma_levels(source: &[u8; 64], prediction: &[u8; 64], factors: &Factors) -> Levels<4>
     requires { ArePositive factors.now }
     ensures value { (f g : ℕ → ℕ → ℕ) → source.now ≡ listed 8 f → prediction.now ≡ listed 8 g
@@ -89,14 +89,14 @@ fn chroma_levels(source: &[u8; 64], prediction: &[u8; 64], factors: &Factors) ->
     levels
 }
 
-/// The levels of the planes of colour.
+/// The levels of both chroma planes.
 #[derive(Clone, Copy)]
 pub(crate) struct Chroma {
     u: Levels<4>,
     v: Levels<4>,
 }
 
-/// The levels of both, from their predictions.
+/// Returns the levels of both chroma planes, from their predictions.
 pub(crate) fn chroma_of(blocks: &Blocks, factors: &Factors, u: &[u8; 64], v: &[u8; 64]) -> Chroma
     requires { ArePositive factors.now }
     ensures u { (f g : ℕ → ℕ → ℕ) → blocks.now.u ≡ listed 8 f → u.now ≡ listed 8 g
@@ -112,7 +112,7 @@ pub(crate) fn chroma_of(blocks: &Blocks, factors: &Factors, u: &[u8; 64], v: &[u
     }
 }
 
-/// The levels of block `n`: Y2, luma, U and V.
+/// Returns the levels of block `n`: 0 is Y2, 1 to 16 are luma, 17 to 20 U, and 21 to 24 V.
 #[tactic(auto, unfolding(crate::specs::Gathered::gathered))]
 fn levels_at(y2: &[i16; 16], luma: &Levels<16>, chroma: &Chroma, n: usize) -> [i16; 16]
     requires { n < 25 }
@@ -130,7 +130,7 @@ fn levels_at(y2: &[i16; 16], luma: &Levels<16>, chroma: &Chroma, n: usize) -> [i
     chroma.v[n - 21]
 }
 
-/// The blocks of a macroblock.
+/// Returns the tokens of a macroblock from its levels.
 fn gather(y2: &[i16; 16], luma: &Levels<16>, chroma: &Chroma) -> Tokens
     requires y2 { (i : ℕ) → unsigned_abs (slice_index_or y2.now i (pos 0)) ≤ 2047 }
     requires luma { AreSmall luma.now }
@@ -148,7 +148,7 @@ fn gather(y2: &[i16; 16], luma: &Levels<16>, chroma: &Chroma) -> Tokens
     Tokens::of_levels(&all)
 }
 
-/// The blocks of a macroblock whose luma is predicted at once.
+/// Returns the tokens of a macroblock with a Y2 block.
 pub(crate) fn tokens_with_y2(
     block: &[u8; 256],
     factors: &Factors,
@@ -172,7 +172,7 @@ pub(crate) fn tokens_with_y2(
     )
 }
 
-/// The blocks of a macroblock without a Y2 block.
+/// Returns the tokens of a macroblock without a Y2 block.
 pub(crate) fn tokens_without_y2(luma: &Levels<16>, chroma: &Chroma) -> Tokens
     requires luma { AreSmall luma.now }
     requires u { AreSmall chroma.now.u }

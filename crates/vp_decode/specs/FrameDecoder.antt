@@ -1,5 +1,5 @@
--- Inside the crate: a frame while its rows are rebuilt, what one step and one row make of it, and what all rows leave
--- beside the picture, whose window has words of its own.
+-- Inside the crate: a frame whose rows are being rebuilt; how one macroblock and one row change it; the state after a
+-- number of rows.
 use Rattle.std.specs.Prelude.{◌≡◌, ◌≢◌, ◌<◌, ℕ, ◌+◌, Bool, List, Some, length}
 use Rattle.vp_bool.specs.Bools.{State}
 use Rattle.vp_base.specs.declared.place.Place.{Place}
@@ -14,13 +14,14 @@ use Rattle.vp_decode.specs.MacroblockInfo.{place}
 use Rattle.vp_decode.specs.Frame.{FrameInfo, tokens_read, seen_read, row_seen, row_tokens, readings, tokens_of}
 use Rattle.vp_decode.specs.Frame.{macroblock_at, level_at}
 
+-- the frame's info, its token contexts, the picture so far and the filter levels so far
 pub record FrameDecoder : Type 0 where
   pub info : FrameInfo
   pub contexts : Contexts
   pub picture : Image
   pub levels : Grid Level
 
--- all its parts are of one frame
+-- all parts belong to a frame of one size
 pub record IsOneFrame (b : FrameDecoder) : Type 0 where
   pub columns : b.info.maps.modes.columns ≡ macroblocks b.picture.width
   pub rows : b.info.maps.modes.rows ≡ macroblocks b.picture.height
@@ -28,9 +29,8 @@ pub record IsOneFrame (b : FrameDecoder) : Type 0 where
   pub level_rows : b.levels.rows ≡ macroblocks b.picture.height
   pub contexts : length b.contexts.above ≡ macroblocks b.picture.width
 
--- What the macroblock at p of a frame makes of a before its level is found, where g was seen before and the
--- partition stands
--- at s: b, with t left of the partition, and whether it has any tokens.
+-- b is a after the macroblock at p is rebuilt, before its filter level is computed. g has the blocks before p. s and t
+-- are the states of the partition before and after. `coded` says whether there is any token.
 pub record IsRebuilt (f : FrameInfo) (p : Place) (g : Grid Blocks) (s t : State) (coded : Bool) (a b : FrameDecoder)
     : Type 0 where
   pub contexts : AreContextsAt (seen_read f p g s).0 (right p) b.contexts
@@ -38,9 +38,8 @@ pub record IsRebuilt (f : FrameInfo) (p : Place) (g : Grid Blocks) (s t : State)
   pub picture : b.picture ≡ rebuilt (macroblock_at f p (tokens_read f p g s).0) p a.picture
   pub any : coded ≡ any_token (tokens_read f p g s).0
 
--- What the macroblock at p of a frame makes of a, where g was seen before and the partition stands at s: b, with t
--- left of
--- the partition.
+-- b is a after the macroblock at p is rebuilt and its level is computed. g has the blocks before p. s and t are the
+-- states of the partition before and after.
 pub record IsMacroblockStep (f : FrameInfo) (p : Place) (g : Grid Blocks) (s t : State) (a b : FrameDecoder)
     : Type 0 where
   pub contexts : AreContextsAt (seen_read f p g s).0 (record { column = p.column + 1; row = p.row }) b.contexts
@@ -49,7 +48,7 @@ pub record IsMacroblockStep (f : FrameInfo) (p : Place) (g : Grid Blocks) (s t :
   pub here : entry b.levels p ≡ Some (level_at f p (tokens_read f p g s).0)
   pub elsewhere : (q : Place) → q ≢ p → entry b.levels q ≡ entry a.levels q
 
--- What the first n macroblocks of a row make of it.
+-- b is a after the first n macroblocks of a row
 pub record IsRow (f : FrameInfo) (row n : ℕ) (g : Grid Blocks) (s t : State) (a b : FrameDecoder) : Type 0 where
   pub contexts : AreContextsAt (row_seen f row n g s).0 (place row n) b.contexts
   pub rest : t ≡ (row_seen f row n g s).1
@@ -59,7 +58,7 @@ pub record IsRow (f : FrameInfo) (row n : ℕ) (g : Grid Blocks) (s t : State) (
       ≡ Some (level_at f (place row column) (row_tokens f row g s column))
   pub elsewhere : (q : Place) → q.row ≢ row → entry b.levels q ≡ entry a.levels q
 
--- What the rows before one have left: contexts above, what is unread of each partition, and the filter's levels.
+-- the state after the rows above `row`: the token contexts, the states ds of the partitions, and the filter levels
 pub record IsAfterRows (f : FrameInfo) (partitions : List State) (row : ℕ) (ds : List State) (b : FrameDecoder)
     : Type 0 where
   pub contexts : AreContextsAt (readings f partitions row).seen (place row 0) b.contexts

@@ -1,5 +1,5 @@
 -- The modes and motion of all macroblocks, read in raster order from the first partition (RFC 6386, chapter 19.3).
--- Pinned by the test `split_vectors_far_outside`, and streams of other encoders in the gate.
+-- Pinned by the test `split_vectors_far_outside`, and by streams of other encoders in the gate.
 use Rattle.std.specs.Prelude.{ℕ, not}
 use Rattle.vp_bool.specs.Reader.{Reader, ◌>>=◌, give, when, rows}
 use Rattle.vp_base.specs.declared.place.Place.{Place}
@@ -18,39 +18,44 @@ pub record MacroblockInfo : Type 0 where
   pub modes : Grid Modes
   pub motion : Grid MacroblockMotion
 
+-- outside the frame the modes are `plain`
 abbrev pub modes_in : MacroblockInfo → Place → Modes
 modes_in m p = at plain m.modes p
 
+-- outside the frame the motion is `intra`
 abbrev pub motion_in : MacroblockInfo → Place → MacroblockMotion
 motion_in m p = at intra m.motion p
 
+-- the place of a macroblock in a row
 abbrev pub place : ℕ → ℕ → Place
 place row column = record { column = column; row = row }
 
+-- m with these modes at p
 abbrev pub with_modes : MacroblockInfo → Place → Modes → MacroblockInfo
 with_modes m p modes = record m { modes = with_entry m.modes p modes }
 
+-- m with this motion at p
 abbrev pub with_motion : MacroblockInfo → Place → Reference → Motion → MacroblockInfo
 with_motion m p reference motion = record m {
   motion = with_entry m.motion p (record { reference = reference; mode = motion.mode; vectors = motion.vectors });
 }
 
--- the motion of an inter macroblock
+-- reads the motion of an inter macroblock
 unfoldable pub motion_read : Header → Place → Reference → MacroblockInfo → Reader MacroblockInfo
 motion_read h p reference m = do
   motion ← motion_at h m.motion p reference
   give (with_motion m p reference motion)
 
--- a macroblock: its modes, and where it is inter its motion
+-- reads a macroblock: its modes, then its motion if it is an inter macroblock
 unfoldable pub macroblock_read : Header → Place → MacroblockInfo → Reader MacroblockInfo
 macroblock_read h p m = do
   modes ← modes_at h m.modes p
   when (not (is_intra modes.reference)) (motion_read h p modes.reference (with_modes m p modes)) (with_modes m p modes)
 
--- a row of so many macroblocks
+-- reads the first `columns` macroblocks of a row
 unfoldable pub row_read : Header → ℕ → ℕ → MacroblockInfo → Reader MacroblockInfo
 row_read h columns row = rows columns (λ column. macroblock_read h (place row column))
 
--- all rows
+-- reads all rows
 unfoldable pub maps_read : Header → MacroblockInfo → Reader MacroblockInfo
 maps_read h m = rows m.modes.rows (row_read h m.modes.columns) m

@@ -1,5 +1,5 @@
--- The statement of the law `modes_and_motion_are_read_in_their_place` (RFC 6386, chapter 19.3): the modes and motion at
--- a place are what is read once all macroblocks before it are read.
+-- The statement of the law `modes_and_motion_are_read_in_their_place` (RFC 6386, chapter 19.3): the modes and motion of
+-- a macroblock are read directly after those of all macroblocks before it.
 use Rattle.std.specs.Prelude.{◌≡◌, ◌*◌, true, false, length}
 use Rattle.vp_bool.specs.Bools.{State}
 use Rattle.vp_bool.specs.Reader.{Reader, ◌>>=◌, rows}
@@ -13,28 +13,29 @@ use Rattle.vp_motion.specs.Vector.{MacroblockMotion, Motion}
 use Rattle.vp_motion.specs.Motion.{motion_at}
 use Rattle.vp_decode.specs.MacroblockInfo.{MacroblockInfo, modes_in, motion_in, row_read, maps_read}
 
--- modes and motion of as many macroblocks, each at its place
+-- modes and motion have one size, with an entry for each place
 pub record AreMaps (m : MacroblockInfo) : Type 0 where
   pub columns : m.motion.columns ≡ m.modes.columns
   pub rows : m.motion.rows ≡ m.modes.rows
   pub modes : length m.modes.entries ≡ m.modes.rows * m.modes.columns
   pub motion : length m.motion.entries ≡ m.motion.rows * m.motion.columns
 
--- The macroblocks before p are read: the rows above it, and those left of it.
+-- reads the macroblocks before p: the rows above it, then those to its left
 unfoldable pub read_before : Header → Place → MacroblockInfo → Reader MacroblockInfo
 read_before h p m = do
   above ← rows p.row (row_read h m.modes.columns) m
   row_read h p.column p.row above
 
--- what is kept of a motion
+-- the motion of a macroblock with its reference
 abbrev pub moved : Reference → Motion → MacroblockMotion
 moved reference motion = record { reference = reference; mode = motion.mode; vectors = motion.vectors }
 
--- where reading has come to p, the modes there, and what is left
+-- reads the modes at p, after all macroblocks before it
 abbrev pub modes_said : Header → Place → MacroblockInfo → Reader Modes
 modes_said h p m s = modes_at h (read_before h p m s).0.modes p (read_before h p m s).1
 
--- All being read, the macroblock at p has these modes, and where it is inter the motion that is read behind them.
+-- After all macroblocks are read, the macroblock at p has the modes that were read at its turn. An inter macroblock has
+-- the motion that was read after them; the motion of an intra macroblock is unchanged.
 pub record AreSaid (h : Header) (m : MacroblockInfo) (s : State) (p : Place) : Type 0 where
   pub modes : modes_in (maps_read h m s).0 p ≡ (modes_said h p m s).0
   pub motion : is_intra (modes_said h p m s).0.reference ≡ false

@@ -1,4 +1,4 @@
-//! One frame decoded, and nothing kept of it yet.
+//! Decodes one frame, without changing the decoder's state yet.
 
 ghost use Rattle.std.specs.Prelude.{◌≡◌, ◌<◌, ◌≤◌, length, map, IfOk, option_map};
 ghost use Rattle.vp_base.specs.Image.{macroblocks};
@@ -23,18 +23,18 @@ use vp_modes::Segment;
 use vp_recon::unfiltered_picture_solves_its_equation;
 use vp_tokens::Partitions;
 
-/// What a frame leaves, before it is kept.
+/// A decoded frame that is not yet part of the decoder's state.
 #[derive(Drop)]
 pub(crate) struct DecodedFrame {
     pub header: Header,
     pub saved: Saved,
     pub segments: Grid<Segment>,
     pub picture: Rc<Picture>,
-    /// The last picture that was shown, this one or one before it.
+    /// The last shown picture: this frame's if it is shown, else an earlier one.
     pub shown: Option<Rc<Picture>>,
 }
 
-/// The picture of a frame, from its token partitions.
+/// Decodes a frame's picture from its 1 to 8 token partitions.
 fn decode_picture<F: RowFilter>(
     alloc: Global,
     buffers: &mut FrameBuffers,
@@ -53,7 +53,7 @@ fn decode_picture<F: RowFilter>(
     Ok(rebuilding.picture(partitions, filter, buffers))
 }
 
-/// The last picture that was shown, where this one is shown or not.
+/// Returns the last shown picture: this one if `show` is set, else the one before it.
 fn shown_after(
     show: bool,
     picture: &Rc<Picture>,
@@ -71,7 +71,7 @@ fn shown_after(
     }
 }
 
-/// Decodes the frame of a packet, in the memory of `buffers`.
+/// Decodes the frame of a parsed packet, reusing the memory of `buffers`. Fails only if memory runs out.
 pub(crate) fn decode_frame<F: RowFilter>(
     alloc: Global,
     buffers: &mut FrameBuffers,

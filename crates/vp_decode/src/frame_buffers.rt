@@ -1,4 +1,4 @@
-//! The memory of one frame after another.
+//! Memory that is reused from frame to frame.
 
 ghost use Rattle.std.specs.Prelude.{◌≡◌, None, IfOk};
 ghost use Rattle.vp_base.specs.Image.{AreWhole};
@@ -11,18 +11,18 @@ use vp_loop::Level;
 use vp_modes::Segment;
 use vp_tokens::Contexts;
 
-/// The memory of the frames before, for the next one. What stands in it has no meaning.
+/// The memory of earlier frames, for reuse by the next one. Its contents have no meaning.
 #[derive(Drop)]
 pub(crate) struct FrameBuffers {
     pub maps: MacroblockInfo,
     pub segments: Grid<Segment>,
     pub contexts: Contexts,
     pub levels: Grid<Level>,
-    /// One that nothing refers to any more.
+    /// A picture that nothing refers to any more.
     pub picture: Option<Picture>,
 }
 
-/// What is known of the planes of a picture.
+/// Proves that the planes of a picture hold as many bytes as their sizes say.
 fn are_whole(picture: &Picture)
     ensures { AreWhole picture.now }
 {
@@ -32,7 +32,7 @@ fn are_whole(picture: &Picture)
 }
 
 impl FrameBuffers {
-    /// Before the first frame, without memory.
+    /// Creates buffers that hold no memory yet.
     pub(crate) fn new(alloc: Global) -> FrameBuffers
         ensures { result.picture ≡ None }
     {
@@ -45,12 +45,12 @@ impl FrameBuffers {
         }
     }
 
-    /// A picture of this size, to be written whole: that of the room, where it has the size.
+    /// Returns a picture of this size, whose pixels are arbitrary. Reuses the kept picture if it has the size.
     pub(crate) fn picture(&mut self, alloc: Global, dim: Dim) -> Result<Picture, AllocError>
         ensures width { IfOk result (λ p. p.width ≡ dim.w) }
         ensures height { IfOk result (λ p. p.height ≡ dim.h) }
         ensures shaped { IfOk result (λ p. IsShaped p.width p.height p) }
-        // The room has no picture any more, and keeps all else.
+        // The kept picture is taken; the other buffers are unchanged.
         ensures used { self.new ≡ record self.old { picture = None } }
     {
         let picture = match self.picture.take() {

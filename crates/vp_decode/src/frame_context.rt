@@ -1,4 +1,4 @@
-//! What a frame is decoded over.
+//! The context that a frame is decoded in: defaults for a key frame, the saved state for an inter frame.
 
 ghost use Rattle.std.specs.Prelude.{◌≡◌, Ok, Err, IfOk, MatchResult, option_map};
 ghost use Rattle.vp_decode.specs.Step.{current_state, context_of, maps_before};
@@ -13,17 +13,17 @@ use vp_head::{KeyTag, PacketFault, Saved};
 use vp_modes::{ModeMap, Segment};
 use vp_refs::Refs;
 
-/// What a frame is decoded over: a key frame over nothing but its size, an inter frame over the state.
+/// The context that a frame is decoded in. A key frame uses only its own size; an inter frame uses the decoder's state.
 #[derive(Drop)]
 pub(crate) struct FrameContext<'a> {
     pub dim: Dim,
-    /// The values that its header starts from.
+    /// The values that the frame's header starts from.
     pub saved: Saved,
-    /// None where its macroblocks begin with plain modes.
+    /// The segment map before the frame. None for a key frame, whose macroblocks start with segment 0.
     pub segments: Option<&'a Grid<Segment>>,
     /// None for a key frame.
     pub references: Option<&'a Refs>,
-    /// The last picture that was shown.
+    /// The last shown picture, if there is one.
     pub shown: Option<&'a Rc<Picture>>,
 }
 
@@ -53,7 +53,7 @@ impl<'a> Model for FrameContext<'a> {
     }) };
 }
 
-/// The state that stands; without one there is nothing to refer to.
+/// Returns the current state, or `NoReference` if there is none.
 pub(crate) fn current_state(state: &Option<DecoderState>) -> Result<&DecoderState, PacketFault>
     ensures { MatchResult result (λ k. current_state state.now ≡ Ok k.now) (λ f. current_state state.now ≡ Err f) }
 {
@@ -64,7 +64,8 @@ pub(crate) fn current_state(state: &Option<DecoderState>) -> Result<&DecoderStat
 }
 
 impl<'a> FrameContext<'a> {
-    /// That of a frame whose tag has this key part. A key frame takes nothing of the state.
+    /// Returns the context of a frame. The tag selects defaults (key frame), the saved state (inter frame), or
+    /// `NoReference`.
     pub(crate) fn of(
         key: Option<KeyTag>,
         state: &'a Option<DecoderState>,
@@ -86,14 +87,14 @@ impl<'a> FrameContext<'a> {
         }
     }
 
-    /// The pictures that the frame refers to; None for a key frame.
+    /// Returns the reference frames; None for a key frame.
     pub(crate) fn references(&self) -> Option<&Refs>
         ensures { option_map (λ r. r.now) result ≡ self.now.references }
     {
         self.references
     }
 
-    /// The maps before the frame, in the memory of `buffers`.
+    /// Returns the macroblock info before the frame, in the memory of `buffers`.
     pub(crate) fn maps_before(&self, buffers: MacroblockInfo) -> Result<MacroblockInfo, AllocError>
         ensures { IfOk result (λ m. m ≡ maps_before self.now.modes) }
     {
@@ -102,7 +103,7 @@ impl<'a> FrameContext<'a> {
         Ok(MacroblockInfo { modes, motion })
     }
 
-    /// The modes before the frame, in the memory of `buffers`.
+    /// Returns the modes before the frame, in the memory of `buffers`.
     fn modes(&self, buffers: ModeMap) -> Result<ModeMap, AllocError>
         ensures { IfOk result (λ m. m ≡ self.now.modes) }
     {

@@ -1,4 +1,4 @@
-//! A frame's picture while its rows are rebuilt and filtered.
+//! Rebuilds and filters a frame's picture, row by row of macroblocks.
 
 ghost use Rattle.std.specs.Prelude.{◌≡◌, ℕ, ◌+◌, ◌*◌, ◌<◌, ◌≤◌, true, false, IfOk, [], length, map, slice_index_or};
 ghost use Rattle.vp_base.specs.Grid.{Grid, Has, all};
@@ -35,14 +35,14 @@ const NO_LEVEL: Level = Level {
     hev: 0,
 };
 
-/// A frame's picture while its rows are rebuilt and filtered, and what is kept from macroblock to macroblock.
+/// A frame's picture while its rows are rebuilt and filtered, with the token contexts and the filter levels.
 #[derive(Drop)]
 pub(crate) struct FrameDecoder<'a> {
     info: &'a FrameInfo<'a>,
     contexts: Contexts,
     picture: Picture,
     levels: Grid<Level>,
-    /// Those of the macroblock that was read last; a skipped one isn't read.
+    /// The tokens of the macroblock that was read last. A skipped macroblock doesn't change them.
     tokens: Tokens,
 }
 
@@ -62,7 +62,7 @@ impl<'a> Model for FrameDecoder<'a> {
 }
 
 impl<'a> FrameDecoder<'a> {
-    /// Before the first row, of a picture of this size, whatever stands in it, and in the memory of `buffers`.
+    /// Starts a frame of this size in the memory of `buffers`. The initial pixels don't matter.
     pub(crate) fn new(
         alloc: Global,
         buffers: &mut FrameBuffers,
@@ -95,7 +95,7 @@ impl<'a> FrameDecoder<'a> {
         })
     }
 
-    /// Passes the skipped macroblock at a place, and rebuilds it.
+    /// Updates the token contexts for the skipped macroblock at a place, and rebuilds it.
     fn update_contexts(&mut self, place: Place, source: &Predictor)
         requires place { Has self.old.info.maps.modes place }
         requires source { predictor_of source.now ≡ predictor_at self.old.info place }
@@ -112,7 +112,8 @@ impl<'a> FrameDecoder<'a> {
         info.rebuild_without_tokens(place, source, &mut self.picture);
     }
 
-    /// Reads the tokens of the macroblock at a place, which isn't skipped, and rebuilds it. Says whether there are any.
+    /// Reads the tokens of the macroblock at a place, which isn't skipped, and rebuilds it. Returns whether it has any
+    /// token.
     fn read(&mut self, place: Place, source: &Predictor, d: &mut BoolDecoder) -> bool
         requires place { Has self.old.info.maps.modes place }
         requires source { predictor_of source.now ≡ predictor_at self.old.info place }
@@ -130,7 +131,8 @@ impl<'a> FrameDecoder<'a> {
         coded
     }
 
-    /// Passes the macroblock at a place or reads its tokens, and rebuilds it. Says whether it has any.
+    /// Reads the tokens of the macroblock at a place, if it isn't skipped, and rebuilds it. Returns whether it has any
+    /// token.
     fn rebuild(&mut self, place: Place, source: &Predictor, d: &mut BoolDecoder) -> bool
         requires place { Has self.old.info.maps.modes place }
         requires source { predictor_of source.now ≡ predictor_at self.old.info place }
@@ -149,7 +151,7 @@ impl<'a> FrameDecoder<'a> {
         }
     }
 
-    /// Passes or reads the macroblock at a place, rebuilds it, and finds its filter level.
+    /// Decodes the macroblock at a place: reads its tokens, rebuilds it, and computes its filter level.
     fn macroblock(&mut self, place: Place, d: &mut BoolDecoder)
         requires { Has self.old.info.maps.modes place }
         ensures info { self.new.info ≡ self.old.info }
@@ -165,7 +167,7 @@ impl<'a> FrameDecoder<'a> {
         self.levels.set(place, info.level(place, &source, coded));
     }
 
-    /// Reads the tokens of a row of macroblocks, and rebuilds it.
+    /// Decodes a row of macroblocks.
     fn row(&mut self, row: usize, d: &mut BoolDecoder)
         requires { row < self.old.info.maps.modes.rows }
         ensures info { self.new.info ≡ self.old.info }
@@ -181,7 +183,7 @@ impl<'a> FrameDecoder<'a> {
         }
     }
 
-    /// Filters the row before a row, where there is one.
+    /// Filters the row above `row`, if there is one.
     fn filter_before<F: RowFilter>(&mut self, row: usize, filter: &mut F)
         requires { row ≤ self.old.info.maps.modes.rows }
         ensures info { self.new.info ≡ self.old.info }
@@ -198,7 +200,7 @@ impl<'a> FrameDecoder<'a> {
         }
     }
 
-    /// Rebuilds all rows; each is filtered once the row below it is rebuilt.
+    /// Rebuilds all rows. Each row is filtered once the row below it is rebuilt.
     fn rows<F: RowFilter>(&mut self, decoders: &mut [BoolDecoder], filter: &mut F)
         requires some { 0 < length decoders.old }
         requires contexts { AreContextsAt
@@ -223,7 +225,7 @@ impl<'a> FrameDecoder<'a> {
         self.filter_before(rows, filter);
     }
 
-    /// The frame's picture, from its token partitions. The rest goes back into `buffers`.
+    /// Decodes the picture from its token partitions. The other memory goes back into `buffers`.
     pub(crate) fn picture<F: RowFilter>(
         mut self,
         parts: &Partitions,
@@ -256,7 +258,7 @@ impl<'a> FrameDecoder<'a> {
     }
 }
 
-/// A token partition, empty where there is none.
+/// Returns token partition `i`, or no bytes if there is none.
 fn part_or_none<'a>(parts: &Partitions<'a>, i: usize) -> &'a [u8]
     ensures { result.now ≡ slice_index_or parts.now i [] }
 {

@@ -1,4 +1,4 @@
-//! What is known of a frame once its first partition is read.
+//! The frame header, the modes and the motion of a frame: all that its first partition holds.
 
 ghost use Rattle.std.specs.Prelude.{◌≡◌, ◌<◌, ◌≤◌, true, false, length, option_map};
 ghost use Rattle.vp_bool.specs.Bools.{State};
@@ -27,16 +27,16 @@ use vp_refs::Refs;
 use vp_tables::VectorMode;
 use vp_tokens::{Contexts, Tokens, pass_macroblock, read_macroblock};
 
-/// What is known of a frame once its first partition is read.
+/// The frame header and the modes and motion of all macroblocks, read from the first partition.
 #[derive(Drop)]
 pub(crate) struct FrameInfo<'a> {
     header: &'a Header,
-    /// That of the frame's tag.
+    /// The version in the frame tag (RFC 6386, chapter 9.1).
     version: u8,
-    /// None in a key frame.
+    /// None for a key frame.
     references: Option<&'a Refs>,
     maps: MacroblockInfo,
-    /// Those of the four segments.
+    /// The dequantisation factors of the four segments.
     factors: [Factors; 4],
 }
 
@@ -66,7 +66,7 @@ fn inter_mode_class(mode: VectorMode) -> ModeClass
     }
 }
 
-/// How a macroblock is predicted, as far as its filter level asks.
+/// Returns the mode class of a macroblock, which its filter level depends on (RFC 6386, chapter 9.4).
 fn mode_class_of(source: &Predictor) -> ModeClass
     ensures { result ≡ mode_class_of (predictor_of source.now) }
 {
@@ -82,7 +82,7 @@ fn mode_class_of(source: &Predictor) -> ModeClass
     }
 }
 
-/// What a macroblock is predicted from: where there are no references, from its own picture.
+/// Returns the predictor of a macroblock: its own picture, or one of the reference frames.
 fn source_by<'a>(
     references: Option<&'a Refs>,
     version: u8,
@@ -105,7 +105,7 @@ fn source_by<'a>(
     }
 }
 
-/// The factors of a segment.
+/// Returns the dequantisation factors of a segment.
 fn factors_of(header: &Header, segment: u8) -> Factors
     requires { segment < 4 }
     ensures { result ≡ factors_of header.now segment }
@@ -141,14 +141,14 @@ impl<'a> FrameInfo<'a> {
         }
     }
 
-    /// The maps, whose memory is used again.
+    /// Returns the macroblock info, so that its memory can be reused.
     pub(crate) fn into_maps(self) -> MacroblockInfo
         ensures { result ≡ self.entry.maps }
     {
         self.maps
     }
 
-    /// How many macroblocks a row has.
+    /// The width of the frame in macroblocks.
     pub(crate) fn columns(&self) -> usize
         ensures value { result ≡ self.now.maps.modes.columns }
         ensures bound { result ≤ 1024 }
@@ -156,7 +156,7 @@ impl<'a> FrameInfo<'a> {
         self.maps.modes.columns()
     }
 
-    /// How many rows of macroblocks there are.
+    /// The height of the frame in macroblocks.
     pub(crate) fn rows(&self) -> usize
         ensures value { result ≡ self.now.maps.modes.rows }
         ensures bound { result ≤ 1024 }
@@ -164,7 +164,7 @@ impl<'a> FrameInfo<'a> {
         self.maps.modes.rows()
     }
 
-    /// The modes of the macroblock at a place.
+    /// Returns the modes of the macroblock at a place.
     pub(crate) fn modes(&self, place: Place) -> &Modes
         requires { Has self.now.maps.modes place }
         ensures { result.now ≡ modes_in self.now.maps place }
@@ -172,7 +172,7 @@ impl<'a> FrameInfo<'a> {
         self.maps.modes.get(place)
     }
 
-    /// The motion of the macroblock at a place.
+    /// Returns the motion of the macroblock at a place.
     fn motion(&self, place: Place) -> &MacroblockMotion
         requires { Has self.now.maps.modes place }
         ensures { result.now ≡ motion_in self.now.maps place }
@@ -180,7 +180,7 @@ impl<'a> FrameInfo<'a> {
         self.maps.motion.get(place)
     }
 
-    /// What the macroblock at a place is predicted from.
+    /// Returns the predictor of the macroblock at a place.
     #[tactic(auto, unfolding(crate::specs::Frame::predictor_at))]
     pub(crate) fn source(&self, place: Place) -> Predictor<'_>
         requires { Has self.now.maps.modes place }
@@ -194,7 +194,7 @@ impl<'a> FrameInfo<'a> {
         )
     }
 
-    /// Whether the macroblock at a place has no tokens.
+    /// Returns whether the macroblock at a place is skipped: it has no tokens.
     pub(crate) fn is_skipped(&self, place: Place) -> bool
         requires { Has self.now.maps.modes place }
         ensures { result ≡ (modes_in self.now.maps place).skip }
@@ -202,8 +202,8 @@ impl<'a> FrameInfo<'a> {
         self.modes(place).skip
     }
 
-    /// Passes the skipped macroblock at a place, of which nothing is read, where those before it in raster
-    /// order are read.
+    /// Updates the token contexts for a skipped macroblock. All macroblocks before it in raster order must have been
+    /// processed.
     #[tactic(auto, unfolding(crate::specs::Frame::tokens_read))]
     pub(crate) fn update_contexts(&self, place: Place, source: &Predictor, contexts: &mut Contexts)
         requires source { predictor_of source.now ≡ predictor_at self.now place }
@@ -219,9 +219,8 @@ impl<'a> FrameInfo<'a> {
         pass_macroblock(contexts, place, source.has_y2());
     }
 
-    /// Reads the tokens of the macroblock at a place, which isn't skipped, where those before it in raster
-    /// order are read,
-    /// and says whether there are any.
+    /// Reads the tokens of a macroblock that isn't skipped, and returns whether there are any. All macroblocks before
+    /// it in raster order must have been processed.
     #[tactic(auto, unfolding(crate::specs::Frame::tokens_read))]
     pub(crate) fn read_tokens(
         &self,
@@ -256,7 +255,7 @@ impl<'a> FrameInfo<'a> {
         tokens.any()
     }
 
-    /// Rebuilds the macroblock at a place from its tokens.
+    /// Rebuilds the macroblock at a place from its prediction and its tokens.
     pub(crate) fn rebuild(
         &self,
         place: Place,
@@ -273,8 +272,8 @@ impl<'a> FrameInfo<'a> {
         rebuild_macroblock(picture, place, source, tokens, &self.factors(place));
     }
 
-    /// Rebuilds the macroblock at a place, which has no tokens, as one that has. Out of line, so that none are cleared
-    /// where a macroblock is only moved.
+    /// Rebuilds a macroblock without tokens through the general path. It is not inlined: the other paths then need not
+    /// clear a set of tokens.
     #[inline(never)]
     fn rebuild_from_nothing(&self, place: Place, source: &Predictor, picture: &mut Picture)
         requires place { Has self.now.maps.modes place }
@@ -286,9 +285,7 @@ impl<'a> FrameInfo<'a> {
         self.rebuild(place, source, &Tokens::NONE, picture);
     }
 
-    /// Rebuilds the macroblock at a place, which has no tokens: one that moves is only moved, one that is
-    /// predicted at once
-    /// only predicted.
+    /// Rebuilds a macroblock without tokens. Except for B_PRED, it is its prediction alone.
     pub(crate) fn rebuild_without_tokens(
         &self,
         place: Place,
@@ -314,7 +311,7 @@ impl<'a> FrameInfo<'a> {
         }
     }
 
-    /// The factors of the macroblock at a place.
+    /// Returns the dequantisation factors of the macroblock at a place.
     #[tactic(auto, unfolding(crate::specs::Frame::factors_at))]
     fn factors(&self, place: Place) -> Factors
         requires { Has self.now.maps.modes place }
@@ -323,7 +320,7 @@ impl<'a> FrameInfo<'a> {
         self.factors[usize::from(self.modes(place).segment)]
     }
 
-    /// How the macroblock at a place is filtered, where it has tokens or none.
+    /// Returns the loop filter level of the macroblock at a place. `coded` says whether it has any token.
     #[tactic(auto, unfolding(crate::specs::Frame::level_at))]
     pub(crate) fn level(&self, place: Place, source: &Predictor, coded: bool) -> Level
         requires place { Has self.now.maps.modes place }

@@ -1,4 +1,4 @@
-//! What a frame's macroblocks say of themselves.
+//! The modes and the motion of a frame's macroblocks, read from the first partition.
 
 ghost use Rattle.std.specs.Prelude.{◌≡◌, ◌<◌, []};
 ghost use Rattle.vp_base.specs.Grid.{Has};
@@ -12,7 +12,7 @@ use vp_head::Header;
 use vp_modes::{ModeMap, read_modes};
 use vp_motion::{VectorMap, read_into};
 
-/// The modes and the motion of a frame's macroblocks, by their places.
+/// The modes and the motion of a frame's macroblocks, by place.
 #[derive(Drop)]
 pub(crate) struct MacroblockInfo {
     pub modes: ModeMap,
@@ -31,7 +31,7 @@ impl Model for MacroblockInfo {
 }
 
 impl MacroblockInfo {
-    /// Of no macroblocks.
+    /// Returns the info of a frame of no macroblocks.
     pub(crate) fn empty(alloc: Global) -> MacroblockInfo
         ensures { result ≡ record {
           modes = record { columns = 0; rows = 0; entries = [] };
@@ -44,7 +44,7 @@ impl MacroblockInfo {
         }
     }
 
-    /// Reads the modes of a macroblock, and the motion of one that is predicted from another frame.
+    /// Reads the modes of a macroblock, and its motion if it is an inter macroblock.
     #[tactic(auto, unfolding(crate::specs::MacroblockInfo::macroblock_read, crate::specs::MacroblockInfo::motion_read, vp_bool::specs::Reader::bind))]
     fn read_macroblock(&mut self, header: &Header, place: Place, d: &mut BoolDecoder)
         requires { Has self.old.modes place }
@@ -61,7 +61,7 @@ impl MacroblockInfo {
         read_into(header, &mut self.motion, place, modes.reference, d);
     }
 
-    /// Reads a row of macroblocks.
+    /// Reads a row of macroblocks, from left to right.
     fn read_row(&mut self, header: &Header, row: usize, d: &mut BoolDecoder)
         requires { row < self.old.modes.rows }
         ensures maps { self.new ≡ (row_read header.now self.old.modes.columns row self.old d.old).0 }
@@ -74,7 +74,7 @@ impl MacroblockInfo {
         }
     }
 
-    /// Reads all macroblocks of a frame.
+    /// Reads all macroblocks of a frame, in raster order.
     pub(crate) fn read(&mut self, header: &Header, d: &mut BoolDecoder)
         ensures value { self.new ≡ (maps_read header.now self.old d.old).0 }
         ensures columns { self.new.modes.columns ≡ self.old.modes.columns }

@@ -1,4 +1,4 @@
-//! The faults of a packet, in order, and what else is known before anything is decoded.
+//! Parses a packet and detects its faults, in the order in which they are reported.
 
 ghost use Rattle.std.specs.Prelude.{◌≡◌, ◌≤◌, ◌<◌};
 ghost use Rattle.vp_base.specs.declared.limits.Limits.{Limits};
@@ -12,15 +12,15 @@ use vp_bool::BoolDecoder;
 use vp_head::{Header, PacketFault, Saved, Tag};
 use vp_tokens::Partitions;
 
-/// What is known of a packet before anything is decoded.
+/// A parsed packet: its tag, its frame header, and its partitions.
 #[derive(Drop)]
 pub(crate) struct ParsedPacket<'a> {
     pub tag: Tag,
     pub context: FrameContext<'a>,
     pub header: Header,
-    /// What is kept after the frame.
+    /// The values that are saved for the next frame's header.
     pub saved: Saved,
-    /// The first partition, behind the header.
+    /// The first partition, after the frame header.
     pub first: BoolDecoder<'a>,
     /// The token partitions.
     pub partitions: Partitions<'a>,
@@ -54,7 +54,7 @@ fn partition_count(log2: u8) -> usize
     1 << log2
 }
 
-/// Where the first partition begins.
+/// Returns the length of the tag in bytes: 10 for a key frame, else 3.
 fn length_of(tag: &Tag) -> usize
     ensures value { result ≡ tag_length tag.now }
     ensures small { result ≤ 10 }
@@ -62,7 +62,7 @@ fn length_of(tag: &Tag) -> usize
     if tag.key.is_some() { 10 } else { 3 }
 }
 
-/// Opens what follows the tag.
+/// Parses the packet after its tag.
 fn parse_in_context<'a>(
     tag: Tag,
     context: FrameContext<'a>,
@@ -91,7 +91,7 @@ fn parse_in_context<'a>(
     }
 }
 
-/// Opens a packet, or finds the first of its faults.
+/// Parses a packet, or returns the first of its faults.
 #[tactic(auto, unfolding(crate::specs::Step::parsed))]
 pub(crate) fn parse_packet<'a>(
     limits: &Limits,

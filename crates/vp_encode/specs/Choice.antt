@@ -1,4 +1,4 @@
--- A packet carries the encoder's choice for a source, as a decoder reads it, and the squared distance of two pictures.
+-- A packet carries the encoder's choice for a source, as a decoder reads it; and the squared distance of two pictures.
 -- Pinned by the test `error_over_shown_pixels`.
 use Rattle.std.specs.Prelude.{◌≡◌, ◌<◌, ◌≤◌, ◌*◌, ℕ, true, List, [], Ok, length, map, slice_index_or}
 use Rattle.vp_bool.specs.Bools.{State, initial_state}
@@ -17,13 +17,12 @@ use Rattle.vp_decode.specs.Step.{ParsedPacket, first_part, parsed, frame_info_of
 use Rattle.vp_encode.specs.Encoder.{EncoderState, kept_for, tag_key, header_of, frame_for}
 use Rattle.vp_encode.specs.PacketContents.{HasFinalZero}
 
--- a picture of so many columns and rows before the macroblock at p is rebuilt: the rows above are, and what stands
--- left of it
+-- a picture of this size in pixels with the macroblocks before p rebuilt: the rows above, and those to the left
 abbrev pub rebuilt_before : ℕ → ℕ → (Place → Macroblock) → Place → Image
 rebuilt_before width height f p =
     row_rebuilt p.column f p.row (over p.row (row_rebuilt (macroblocks width) f) (blank_image width height 0))
 
--- what is read of the macroblock at p
+-- what a decoder reads for the macroblock at p
 abbrev pub choice_read : FrameInfo → List State → Place → Choice
 choice_read f partitions p = record {
   modes = modes_in f.maps p;
@@ -31,13 +30,13 @@ choice_read f partitions p = record {
   tokens = tokens_of f partitions p;
 }
 
--- Each macroblock is the choice for the source, over the picture that those before it make and over their motion.
+-- each macroblock is the choice for the source, given the reconstruction and the motion of those before it
 abbrev pub AreChoices : EncoderState → Image → FrameInfo → List State → Type 0
 AreChoices e source f partitions = (p : Place) → p.column < macroblocks e.dim.w → p.row < macroblocks e.dim.h
     → IsChoice (frame_for e source) (rebuilt_before e.dim.w e.dim.h
     (frame_of f partitions e.dim.w e.dim.h).macroblock p) f.maps.motion p (choice_read f partitions p)
 
--- The packet, as it is read, is shown and of version 0, has the encoder's header, and is the choice for the source.
+-- the packet is shown and of version 0, has the encoder's header, and carries the choice for the source
 pub record IsChosen (e : EncoderState) (source : Image) (packet : List ℕ) : Type 0 where
   pub opening : ParsedPacket
   pub opens : (limits : Limits) → e.dim.w * e.dim.h ≤ limits.pixels
@@ -47,10 +46,10 @@ pub record IsChosen (e : EncoderState) (source : Image) (packet : List ℕ) : Ty
   pub key : opening.tag.key ≡ tag_key e.dim (kept_for e)
   pub header : opening.header ≡ header_of e
   pub choices : AreChoices e source (frame_info_of opening) (map initial_state opening.partitions)
-  -- Each partition ends with a zero byte.
+  -- each partition ends with a byte of 0
   pub first_closed : HasFinalZero (first_part opening.tag packet)
   pub closed : (i : ℕ) → i < length opening.partitions → HasFinalZero (slice_index_or opening.partitions i [])
 
--- the squared distance of two pictures of one size: over the pixels that are shown, of Y, U and V
+-- the squared distance of two pictures of one size, over the shown pixels of Y, U and V
 abbrev pub squared_distance : Image → Image → ℕ
 squared_distance p q = sum_of_squares (i420 p) (i420 q)

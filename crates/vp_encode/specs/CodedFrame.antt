@@ -1,5 +1,5 @@
--- A frame that can be written: its header, and each macroblock's modes, motion and tokens (RFC 6386, chapters 5, 9, 13,
--- 16 and 19). Pinned by the test `flat_macroblock`.
+-- A frame to be written: its header, and each macroblock's modes, motion and tokens (RFC 6386, chapters 5, 9, 13, 16
+-- and 19). Pinned by the test `flat_macroblock`.
 use Rattle.std.specs.Prelude.{◌≡◌, Bool, true, false, not, replicate, if◌then◌else◌}
 use Rattle.vp_base.specs.declared.place.Place.{Place}
 use Rattle.vp_base.specs.Grid.{Grid, Has, at, mapped}
@@ -19,7 +19,7 @@ use Rattle.vp_tokens.specs.Spelled.{AreSpelled}
 use Rattle.vp_choose.specs.declared.frame.Choice.{Choice}
 use Rattle.vp_encode.specs.declared.coded_frame.CodedFrame.{CodedFrame}
 
--- what counts as standing outside the frame
+-- the choice that is assumed outside the frame
 unfoldable pub nothing : Choice
 nothing = record {
   modes = plain;
@@ -27,16 +27,17 @@ nothing = record {
   tokens = record { blocks = no_blocks };
 }
 
+-- the choice for the macroblock at p
 abbrev pub coded_choice : CodedFrame → Place → Choice
 coded_choice c p = at nothing c.macroblocks p
 
--- what is kept of a macroblock's motion
+-- the motion that later macroblocks see: an intra macroblock has none
 abbrev pub saved_motion : Choice → MacroblockMotion
 saved_motion m =
     if is_intra m.modes.reference then intra
     else record { reference = m.modes.reference; mode = m.motion.mode; vectors = m.motion.vectors }
 
--- the motion of the frame
+-- the motion of all macroblocks
 abbrev pub motion_of : CodedFrame → Grid MacroblockMotion
 motion_of c = mapped saved_motion c.macroblocks
 
@@ -45,24 +46,25 @@ abbrev pub choice_has_y2 : Choice → Bool
 choice_has_y2 m = if is_intra m.modes.reference then not (is_by_subblocks m.modes.luma) else not
     (is_split m.motion.mode)
 
--- Each part is one that its own writer can spell. Modes are told over those that stood before the frame.
+-- the modes can be written; segments are coded relative to those before the frame
 abbrev pub AreModesSpelled : CodedFrame → Grid Modes → Type 0
 AreModesSpelled c before = (p : Place) → Has c.macroblocks p → modes.AreWritableModes c.header before p
     (coded_choice c p).modes
 
--- Vectors are told over those of the macroblocks above and to the left.
+-- the vectors can be written, relative to those of the macroblocks above and to the left
 abbrev pub IsMotionSpelled : CodedFrame → Type 0
 IsMotionSpelled c = (p : Place) → Has c.macroblocks p → is_intra (coded_choice c p).modes.reference ≡ false
     → motion.CanBeWritten (candidates (motion_of c) p (coded_choice c p).modes.reference c.header.biases)
     (coded_choice c p).motion
 
+-- the tokens can be written; a skipped macroblock has none
 pub record AreTokensSpelled (c : CodedFrame) : Type 0 where
   pub blocks : (p : Place) → Has c.macroblocks p → AreSpelled (choice_has_y2 (coded_choice c p))
       (coded_choice c p).tokens.blocks
   pub skipped : (p : Place) → Has c.macroblocks p → (coded_choice c p).modes.skip ≡ true
       → (coded_choice c p).tokens.blocks ≡ no_blocks
 
--- A frame that can be told: a key frame or another one, over the values that are kept and the modes before it.
+-- the frame can be written: a key frame or an inter frame, relative to the saved values and the modes before it
 pub record CanBeTold (key : Bool) (kept : Saved) (before : Grid Modes) (c : CodedFrame) : Type 0 where
   pub header : head.IsWritableHeader key kept c.header
   pub modes : AreModesSpelled c before

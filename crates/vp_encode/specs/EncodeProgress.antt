@@ -1,4 +1,4 @@
--- Inside the crate: encoding as it goes on, picture by picture.
+-- Inside the crate: the progress of encoding a file, picture by picture.
 use Rattle.std.specs.Prelude.{◌≡◌, ◌≤◌, ◌<◌, ◌+◌, ℕ, List, [], ◌∷◌, ◌++◌, Option, Result, Ok, Err, length, map}
 use Rattle.std.specs.List.{All}
 use Rattle.vp_base.specs.declared.limits.Limits.{Limits}
@@ -14,7 +14,7 @@ use Rattle.vp_encode.specs.Pictures.{BeginWith}
 use Rattle.vp_encode.specs.File.{Work, IsDone, HasAllPictures, IsEndedBehind, source_of, packet_of}
 use Rattle.vp_encode.specs.TooLong.{IsTooLong}
 
--- the encoder, the limits, the packets that it made, and the sum of their errors
+-- the limits, the encoder, its packets so far, and the sum of their squared errors
 pub record EncodeProgress : Type 0 where
   pub limits : Limits
   pub encoder : EncoderState
@@ -25,9 +25,9 @@ pub record EncodeProgress : Type 0 where
 abbrev pub start : Limits → EncoderState → EncodeProgress
 start limits encoder = record { limits = limits; encoder = encoder; packets = []; error = 0 }
 
--- ---- one picture: what is refused adds no packet
+-- ---- one picture; a refused picture adds no packet
 
--- there was room for one more frame, and this one was added
+-- there was room for one more frame, and this one is added
 pub record IsAdded (old : EncodeProgress) (f : EncodedFrame) (new : EncodeProgress) : Type 0 where
   pub room : length old.packets < old.limits.packets
   pub small : length f.packet ≤ old.limits.packet_bytes
@@ -36,6 +36,7 @@ pub record IsAdded (old : EncodeProgress) (f : EncodedFrame) (new : EncodeProgre
   pub packets : new.packets ≡ old.packets ++ f.packet ∷ []
   pub error : new.error ≡ old.error + error_of f
 
+-- picture p is refused with this fault: too many pictures, a partition too long, or a packet too large
 abbrev pub IsPictureRefused : EncodeProgress → Image → EncodeAllFault → Type 0
 IsPictureRefused r p fault.Magic = ⊥
 IsPictureRefused r p fault.Size = ⊥
@@ -50,17 +51,18 @@ IsPictureRefused r p fault.PacketTooLarge = (f : EncodedFrame) × (next : Encode
 IsPictureRefused r p fault.Device = ⊥
 IsPictureRefused r p fault.Memory = Unit {0}
 
+-- picture p is encoded, or refused
 abbrev pub TakesPicture : EncodeProgress → Image → Result (Unit {0}) EncodeAllFault → EncodeProgress → Type 0
 TakesPicture old p (Ok done) new = (f : EncodedFrame) × (f.source ≡ p) × IsAdded old f new
 TakesPicture old p (Err fault) new = IsPictureRefused old p fault × (new.packets ≡ old.packets)
 
 -- ---- all of them
 
--- the front of a file is its head's line
+-- front is the header line of a file with this head
 abbrev pub IsHeadLine : ℕ → List ℕ → Head → Type 0
 IsHeadLine pixels front head = (rest : List ℕ) → file_head pixels (front ++ rest) ≡ Ok (head, rest)
 
--- this front of a file is the line of a head, and the run begins with its size and allowed settings
+-- front is the header line of a file with this head; the work begins with its size and allowed settings
 pub record IsBegun (front : List ℕ) (head : Head) (begun : EncodeProgress) : Type 0 where
   pub line : IsHeadLine begun.limits.pixels front head
   pub first : begun ≡ start begun.limits (initial_encoder begun.encoder.dim begun.encoder.settings)
@@ -68,7 +70,7 @@ pub record IsBegun (front : List ℕ) (head : Head) (begun : EncodeProgress) : T
   pub width : begun.encoder.dim.w ≡ head.w
   pub height : begun.encoder.dim.h ≡ head.h
 
--- these bytes behind the head were read, and these frames of their pictures were added
+-- these bytes after the head are read, and these frames of their pictures are added
 pub record IsAt (head : Head) (begun now : EncodeProgress) (bytes : List ℕ) (frames : List EncodedFrame) : Type 0 where
   pub pictures : (rest : List ℕ) → BeginWith head.w head.h (bytes ++ rest) (map source_of frames) rest
   pub encoded : AreEncoded begun.encoder frames now.encoder
@@ -79,12 +81,12 @@ pub record IsAt (head : Head) (begun now : EncodeProgress) (bytes : List ℕ) (f
   pub few : length frames ≤ begun.limits.packets
   pub small : All (λ f. length f.packet ≤ begun.limits.packet_bytes) frames
 
--- the work's frames were added, and no others
+-- exactly the frames of the work are added
 pub record HasWorkFrames (w : Work) (r : EncodeProgress) : Type 0 where
   pub packets : r.packets ≡ map packet_of w.frames
   pub error : r.error ≡ errors_of w.frames
 
--- the pictures of a file with this head were encoded, or the work ended before anything was written
+-- all pictures of a file with this head are encoded, or encoding ended before anything was written
 abbrev pub EndsEncode : Limits → Settings → Result (Unit {0}) EncodeAllFault → Head → List ℕ → EncodeProgress → Type 0
 EndsEncode limits settings (Ok done) head file r = (w : Work) × IsDone limits settings file w × HasAllPictures w
     × (w.head ≡ head) × HasWorkFrames w r

@@ -13,15 +13,14 @@ use Rattle.vp_encode.specs.Choice.{IsChosen, squared_distance}
 abbrev pub initial_encoder : Dim → Settings → EncoderState
 initial_encoder dim settings = record { dim = dim; settings = settings; state = None; since = 0 }
 
--- a picture, its packet, and the picture that this is decoded to
+-- a source picture, its packet, and the picture that this decodes to
 pub record EncodedFrame : Type 0 where
   pub source : Image
   pub packet : List ℕ
   pub recon : Image
 
--- The packet is the choice for the source. Decoding it over what is kept shows the reconstruction, and what it
--- leaves is kept
--- for the next frame.
+-- The packet is the choice for the source. Decoding it in the encoder's state shows the reconstruction, and gives the
+-- state for the next frame.
 pub record IsEncoded (e : EncoderState) (f : EncodedFrame) (next : EncoderState) : Type 0 where
   pub chosen : IsChosen e f.source f.packet
   pub decoded : (limits : Limits) → e.dim.w * e.dim.h ≤ limits.pixels
@@ -30,14 +29,15 @@ pub record IsEncoded (e : EncoderState) (f : EncodedFrame) (next : EncoderState)
   pub settings : next.settings ≡ e.settings
   pub since : next.since ≡ (if next_is_key e then 1 else e.since + 1)
 
--- one frame after another
+-- the frames follow each other, from encoder e to `last`
 abbrev pub AreEncoded : EncoderState → List EncodedFrame → EncoderState → Type 0
 AreEncoded e [] last = last ≡ e
 AreEncoded e (f ∷ fs) last = (next : EncoderState) × IsEncoded e f next × AreEncoded next fs last
 
--- how far the reconstruction is from the source
+-- the squared distance of the reconstruction from the source
 abbrev pub error_of : EncodedFrame → ℕ
 error_of f = squared_distance f.source f.recon
 
+-- the sum over all frames
 abbrev pub errors_of : List EncodedFrame → ℕ
 errors_of frames = sum_by error_of frames

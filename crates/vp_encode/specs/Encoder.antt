@@ -1,6 +1,6 @@
--- The encoder's settings and state, the kind and header of the next frame, and the source extended to whole
--- macroblocks. The encoder's own choice within RFC 6386, chapter 9. Pinned by the tests `encode_flat_key`,
--- `encode_flat_inter` and `source_is_continued`.
+-- The encoder's settings and state, the kind and header of the next frame, and the source padded to whole macroblocks.
+-- RFC 6386, chapter 9, leaves these choices open. Pinned by the tests `encode_flat_key`, `encode_flat_inter` and
+-- `source_is_continued`.
 use Rattle.std.specs.Prelude.{◌≡◌, ◌<◌, ◌≤◌, ◌⊎◌, ℕ, ◌+◌, ◌-◌, ◌/◌, ◌%◌, ◌==◌, ◌&&◌, min, pos, not, Bool, true, false}
 use Rattle.std.specs.Prelude.{Option, Some, None, ◌∷◌, [], is_none, if◌then◌else◌}
 use Rattle.vp_base.specs.declared.limits.Dim.{Dim}
@@ -22,7 +22,7 @@ use Rattle.vp_decode.specs.Step.{DecoderState, FrameContext, key_context, inter_
 use Rattle.vp_encode.specs.declared.settings.Settings.{Settings}
 use Rattle.vp_encode.specs.PacketContents.{key_tag}
 
--- settings that an encoder takes
+-- the settings are in their ranges
 pub record AreAllowed (s : Settings) : Type 0 where
   pub quantiser : s.qi ≤ 127
   pub level : s.level ≤ 63
@@ -31,9 +31,8 @@ pub record AreAllowed (s : Settings) : Type 0 where
   pub range : s.range ≤ 64
   pub partitions : (s.partitions ≡ 1) ⊎ (s.partitions ≡ 2) ⊎ (s.partitions ≡ 4) ⊎ (s.partitions ≡ 8)
 
--- an encoder between frames: what its packets leave, none before the first frame and after a refusal; and how many
--- frames
--- came since the last key frame began, with that one
+-- An encoder between frames. `state` is the decoder's state after its packets: none before the first frame and after a
+-- refused one. `since` is the number of frames since the last key frame, including that one.
 pub record EncoderState : Type 0 where
   pub dim : Dim
   pub settings : Settings
@@ -42,26 +41,31 @@ pub record EncoderState : Type 0 where
 
 -- ---- the kind of the next frame
 
--- what it is told over: nothing for a key frame, which comes where no state stands and after every `key_every` frames
+-- the state that the next frame is coded with: none for a key frame; that is every `key_every`th frame, and any frame
+-- without a state
 abbrev pub kept_for : EncoderState → Option DecoderState
 kept_for e = if e.since == e.settings.key_every then None else e.state
 
+-- the next frame is a key frame
 abbrev pub next_is_key : EncoderState → Bool
 next_is_key e = is_none (kept_for e)
 
--- An inter frame refreshes golden where its distance from the key frame is a multiple of `golden_every`.
+-- an inter frame refreshes golden if its distance from the key frame is a multiple of `golden_every`
 abbrev pub refreshes_golden : EncoderState → Bool
 refreshes_golden e = not (e.settings.golden_every == 0) && e.since % e.settings.golden_every == 0
 
--- ---- what it is decoded over
+-- ---- the context that the next frame is decoded in
 
+-- the context of a frame that is coded with this state
 abbrev pub basis_over : Dim → Option DecoderState → FrameContext
 basis_over dim None = key_context dim
 basis_over dim (Some k) = inter_context k
 
+-- the context of the next frame
 abbrev pub basis_for : EncoderState → FrameContext
 basis_for e = basis_over e.dim (kept_for e)
 
+-- the key part of the tag of a frame that is coded with this state
 abbrev pub tag_key : Dim → Option DecoderState → Option KeyTag
 tag_key dim None = Some (key_tag dim)
 tag_key dim (Some k) = None
@@ -77,11 +81,11 @@ no_segmentation saved = record {
   tree_probabilities = 255 ∷ 255 ∷ 255 ∷ [];
 }
 
--- one index for all factors
+-- all factors use one index
 abbrev pub quantiser : ℕ → QuantiserIndices
 quantiser index = record { y_ac = index; y_dc = pos 0; y2_dc = pos 0; y2_ac = pos 0; uv_dc = pos 0; uv_ac = pos 0 }
 
--- A key frame refreshes all, an inter frame last, and golden at times.
+-- a key frame refreshes all references; an inter frame refreshes last, and golden at intervals
 abbrev pub updates : Bool → Bool → ReferenceUpdates
 updates key golden = record {
   refresh_golden = if key then true else golden;
@@ -91,13 +95,15 @@ updates key golden = record {
   refresh_last = true;
 }
 
+-- even probabilities for the reference frames
 abbrev pub even : ReferenceProbabilities
 even = record { intra = 128; last = 128; golden = 128 }
 
+-- the logarithm of a number of partitions: 1, 2, 4 or 8
 abbrev pub log2_of : ℕ → ℕ
 log2_of partitions = if partitions == 1 then 0 else if partitions == 2 then 1 else if partitions == 4 then 2 else 3
 
--- the header of a frame that is told over these values
+-- the header of a frame that is coded relative to these saved values
 abbrev pub header_over : Saved → Bool → Bool → Settings → Header
 header_over saved key golden s = record {
   key = key;
@@ -117,18 +123,19 @@ header_over saved key golden s = record {
   references = if key then no_references else even;
 }
 
+-- the header of the next frame
 abbrev pub header_of : EncoderState → Header
 header_of e = header_over (basis_for e).saved (next_is_key e) (refreshes_golden e) e.settings
 
--- ---- what its macroblocks are chosen by
+-- ---- the inputs of the choice for its macroblocks
 
--- a plane of which so many columns and rows are the source's: all other numbers are the nearest of those
+-- a plane with width by height pixels of the source, padded by the nearest of them
 abbrev pub continued_plane : ℕ → ℕ → Raster → Raster
 continued_plane width height p = record p {
   pixels = numbers p.width p.height (λ x y. pixel p (min x (width - 1)) (min y (height - 1)));
 }
 
--- a colour plane has half as many
+-- the source padded to whole macroblocks; chroma planes have half the width and height, rounded up
 unfoldable pub continued : Image → Image
 continued p = record p {
   luma = continued_plane p.width p.height p.luma;
@@ -136,7 +143,7 @@ continued p = record p {
   v = continued_plane ((p.width + 1) / 2) ((p.height + 1) / 2) p.v;
 }
 
--- A key frame isn't searched. Golden is searched where it is ever refreshed.
+-- a key frame has no search; golden is searched if it is ever refreshed
 abbrev pub search_in : Settings → Option DecoderState → Option Search
 search_in s None = None
 search_in s (Some k) = Some (record {
@@ -146,6 +153,7 @@ search_in s (Some k) = Some (record {
   subpel = s.subpel;
 })
 
+-- the inputs of the choice for a frame that is coded with this state
 abbrev pub frame_over : Option DecoderState → Settings → Image → FrameSearch
 frame_over kept s source = record {
   source = continued source;
@@ -153,5 +161,6 @@ frame_over kept s source = record {
   search = search_in s kept;
 }
 
+-- the inputs of the choice for the next frame
 abbrev pub frame_for : EncoderState → Image → FrameSearch
 frame_for e source = frame_over (kept_for e) e.settings source

@@ -1,5 +1,5 @@
--- The results of encoding a source file: the report or the fault, and what was written. Faults are in the order of the
--- work. Pinned by tests on whole files and on failing reads and writes.
+-- The results of encoding a source file: the report or the fault, and the output. Faults are in the order of the work.
+-- Pinned by tests on whole files and on failing reads and writes.
 use Rattle.std.specs.Prelude.{◌≡◌, ◌≢◌, ◌≤◌, ◌<◌, ◌+◌, ◌*◌, ◌⊎◌, ℕ, zero, suc, List, [], ◌∷◌, ◌++◌, Option, None}
 use Rattle.std.specs.Prelude.{Result, Ok, Err, OnOk, length, map}
 use Rattle.std.specs.List.{All, enumerate_from}
@@ -24,18 +24,20 @@ use Rattle.vp_encode.specs.Encoded.{EncodedFrame, IsEncoded, AreEncoded, initial
 use Rattle.vp_encode.specs.Pictures.{BeginWith}
 use Rattle.vp_encode.specs.TooLong.{IsTooLong}
 
--- ---- what was done: the head was read, the first pictures behind it were encoded, and some bytes are left
+-- ---- the work done: the head is read, the first pictures after it are encoded, and some bytes are left
 
+-- the head, the encoded frames, the encoder after them, and the bytes of the file that are left
 pub record Work : Type 0 where
   pub head : Head
   pub frames : List EncodedFrame
   pub encoder : EncoderState
   pub rest : List ℕ
 
+-- the source picture of a frame
 abbrev pub source_of : EncodedFrame → Image
 source_of f = f.source
 
--- with these settings, under the limits
+-- the work is done with these settings, under these limits
 pub record IsDone (limits : Limits) (settings : Settings) (file : List ℕ) (w : Work) : Type 0 where
   pub body : List ℕ
   pub headed : file_head limits.pixels file ≡ Ok (w.head, body)
@@ -48,33 +50,37 @@ pub record IsDone (limits : Limits) (settings : Settings) (file : List ℕ) (w :
   pub few : length w.frames ≤ limits.packets
   pub small : All (λ f. length f.packet ≤ limits.packet_bytes) w.frames
 
--- the pictures are all of the file
+-- all pictures of the file are encoded
 abbrev pub HasAllPictures : Work → Type 0
 HasAllPictures w = next_of w.head.w w.head.h w.rest ≡ Ok None
 
--- nothing is left behind one more picture
+-- exactly one more picture is left
 abbrev pub HasOneMore : Work → Image → Type 0
 HasOneMore w p = BeginWith w.head.w w.head.h w.rest (p ∷ []) []
 
--- ---- what is written: the packets behind the source's size and rate, with times 0, 1, ..
+-- ---- the output: an IVF file with the source's size and rate; the times of the packets are 0, 1, ..
 
+-- the packet with its number as its time
 abbrev pub timed : ℕ × List ℕ → Packet
 timed e = record { time = e.0; bytes = e.1 }
 
+-- the IVF file of these packets
 abbrev pub ivf_text : Head → List (List ℕ) → List ℕ
 ivf_text head packets =
     file_text (record { w = head.w; h = head.h; rate = head.rate; scale = head.scale }) (length packets)
     (map timed (enumerate_from 0 packets))
 
+-- the packet of a frame
 abbrev pub packet_of : EncodedFrame → List ℕ
 packet_of f = f.packet
 
+-- the IVF file of all frames of the work
 abbrev pub encoded_file : Work → List ℕ
 encoded_file w = ivf_text w.head (map packet_of w.frames)
 
--- ---- the ends
+-- ---- results
 
--- what a fault of the source is for the whole work
+-- a fault of the source as a fault of encoding
 abbrev pub encode_fault_of : SourceFault → EncodeAllFault
 encode_fault_of source.Magic = fault.Magic
 encode_fault_of source.Size = fault.Size
@@ -84,6 +90,7 @@ encode_fault_of source.Torn = fault.Torn
 encode_fault_of source.Device = fault.Device
 encode_fault_of source.Memory = fault.Memory
 
+-- the result is a report: all pictures are encoded, and the whole file is written
 pub record IsEncodeReported (limits : Limits) (settings : Settings) (report : EncodeReport) (file : List ℕ)
     (before after : Option (List ℕ)) : Type 0 where
   pub work : Work
@@ -93,21 +100,21 @@ pub record IsEncodeReported (limits : Limits) (settings : Settings) (report : En
   pub error : report.error ≡ errors_of work.frames
   pub writes : Appends before after (encoded_file work)
 
--- so many pictures were encoded
+-- this number of pictures is encoded
 abbrev pub HasDone : ℕ → Limits → Settings → List ℕ → Work → Type 0
 HasDone pictures limits settings file w = IsDone limits settings file w × (length w.frames ≡ pictures)
 
--- the head has this fault, or what stands behind the pictures
+-- the head has this fault, or the bytes after the pictures have it
 abbrev pub IsFaulty : ℕ → Limits → Settings → SourceFault → List ℕ → Type 0
 IsFaulty pictures limits settings fault file =
     ((file_head limits.pixels file ≡ Err fault) × (pictures ≡ 0))
     ⊎ ((w : Work) × HasDone pictures limits settings file w × (next_of w.head.w w.head.h w.rest ≡ Err fault))
 
--- no picture was encoded yet, or so many
+-- no picture is encoded yet, or this number of them
 abbrev pub IsUnderWay : ℕ → Limits → Settings → List ℕ → Type 0
 IsUnderWay pictures limits settings file = (pictures ≡ 0) ⊎ ((w : Work) × HasDone pictures limits settings file w)
 
--- The work ended behind so many pictures. A device that fails at a write leaves a front of the whole text.
+-- Encoding ended after this number of pictures. If a write failed, a prefix of the output is written.
 abbrev pub IsEndedBehind : ℕ → Limits → Settings → EncodeAllFault → List ℕ → Option (List ℕ) → Option (List ℕ) → Type 0
 IsEndedBehind pictures limits settings fault.Magic file before after = IsFaulty pictures limits settings source.Magic
     file
@@ -135,10 +142,12 @@ IsEndedBehind pictures limits settings fault.Device file before after =
     × AppendsFront before after (encoded_file w))
 IsEndedBehind pictures limits settings fault.Memory file before after = IsUnderWay pictures limits settings file
 
+-- encoding ended by this fault, after some number of pictures
 abbrev pub IsEncodeEndedBy : Limits → Settings → EncodeAllFault → List ℕ → Option (List ℕ) → Option (List ℕ) → Type 0
 IsEncodeEndedBy limits settings fault file before after = (pictures : ℕ)
     × IsEndedBehind pictures limits settings fault file before after
 
+-- the result of encoding a file: a report, or a fault
 abbrev pub IsEncodeAnswerFor : Limits → Settings → Result EncodeReport EncodeAllFault → List ℕ → Option (List ℕ)
     → Option (List ℕ) → Type 0
 IsEncodeAnswerFor limits settings (Ok report) file before after = IsEncodeReported limits settings report file before
@@ -146,7 +155,7 @@ IsEncodeAnswerFor limits settings (Ok report) file before after = IsEncodeReport
 IsEncodeAnswerFor limits settings (Err fault) file before after = IsEncodeEndedBy limits settings fault file before
     after
 
--- the same, where it is known behind how many pictures
+-- the result of encoding a file, after this number of pictures
 abbrev pub IsAnswerBehind : ℕ → Limits → Settings → Result EncodeReport EncodeAllFault → List ℕ → Option (List ℕ)
     → Option (List ℕ) → Type 0
 IsAnswerBehind pictures limits settings (Ok report) file before after = IsEncodeReported limits settings report file
@@ -156,7 +165,7 @@ IsAnswerBehind pictures limits settings (Err fault) file before after = IsEndedB
 
 -- ---- the whole work, from a reader to a writer
 
--- what is read and written, where their bytes are known
+-- the result of encoding, if the reader's and the writer's bytes are known
 pub record IsAnswerOver {R W : Type 0} (remaining : R → Option (List ℕ)) (contents : W
     → Option (List ℕ)) (limits : Limits) (settings : Settings)
     (result : Result EncodeReport EncodeAllFault) (reader reader' : Counted R) (writer writer' : Counted W)
@@ -166,10 +175,10 @@ pub record IsAnswerOver {R W : Type 0} (remaining : R → Option (List ℕ)) (co
   pub answer : IsEncodeAnswerFor limits settings result file (counted_contents contents writer)
       (counted_contents contents writer')
   pub unwritten : (f : EncodeAllFault) → result ≡ Err f → f ≢ fault.Device → writer' ≡ writer
-  -- A report, and `Torn`, come only at the reader's end.
+  -- a report and `Torn` are returned only at the reader's end
   pub end : OnOk result (IsAtEnd (counted_remaining remaining reader'))
   pub torn : result ≡ Err fault.Torn → IsAtEnd (counted_remaining remaining reader')
-  -- `Device` comes where a read or a write failed, and only there.
+  -- `Device` is returned only after a failed read or write, and always after one
   pub device : result ≡ Err fault.Device
       → HasFailed (counted_failures reader) (counted_failures reader')
       ⊎ HasFailed (counted_failures writer) (counted_failures writer')
@@ -181,11 +190,11 @@ abbrev pub numbers_to : ℕ → List ℕ
 numbers_to zero = []
 numbers_to (suc n) = numbers_to n ++ suc n ∷ []
 
--- Whatever numbers a watcher was told before, it was told these behind them.
+-- the progress callback receives these numbers after any earlier ones
 abbrev pub IsToldMore : (before after : List ℕ → Type 0) → List ℕ → Type 0
 IsToldMore before after numbers = (earlier : List ℕ) → before earlier → after (earlier ++ numbers)
 
--- A watcher was told the number of each picture, once it was encoded: of all that the work ended behind.
+-- the progress callback receives 1, 2, .. up to the number of pictures encoded
 pub record IsWatched {R W : Type 0} (remaining : R → Option (List ℕ)) (contents : W
     → Option (List ℕ)) (limits : Limits) (settings : Settings)
     (result : Result EncodeReport EncodeAllFault) (reader reader' : Counted R) (writer writer' : Counted W)
@@ -197,10 +206,9 @@ pub record IsWatched {R W : Type 0} (remaining : R → Option (List ℕ)) (conte
   pub answer : IsAnswerBehind pictures limits settings result file (counted_contents contents writer)
       (counted_contents contents writer')
 
--- ---- how often the source is read
+-- ---- the number of reads
 
--- a read for each byte of the greatest file under the limits, with one picture more: lines of 1,025 bytes, and three
--- numbers
--- for a pixel at most
+-- one read for each byte of the longest file under the limits, plus one picture: lines of 1,025 bytes, and at most
+-- three bytes for a pixel
 abbrev pub most_reads : Limits → ℕ
 most_reads limits = 1025 + (limits.packets + 1) * (1025 + 3 * limits.pixels)

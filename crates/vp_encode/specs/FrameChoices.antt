@@ -1,5 +1,5 @@
--- All macroblocks of a frame are chosen, each over the picture and motion of those before it. The last part is inside
--- the crate.
+-- The choices for all macroblocks of a frame; each depends on the reconstruction and the motion of those before it. The
+-- last part is inside the crate.
 use Rattle.std.specs.Prelude.{◌≡◌, ◌<◌, ◌≤◌, ℕ, false}
 use Rattle.vp_base.specs.declared.limits.Dim.{Dim}
 use Rattle.vp_base.specs.declared.place.Place.{Place}
@@ -19,35 +19,37 @@ use Rattle.vp_encode.specs.declared.frame_choices.FrameChoices.{FrameChoices}
 use Rattle.vp_encode.specs.CodedFrame.{nothing, saved_motion}
 use Rattle.vp_encode.specs.Choice.{rebuilt_before}
 
+-- the choice for the macroblock at p
 abbrev pub choice_at : Grid Choice → Place → Choice
 choice_at g p = at nothing g p
 
--- what a choice makes of its macroblock
+-- the macroblock that results from a choice
 abbrev pub macroblock_by : FrameSearch → Choice → Macroblock
 macroblock_by frame c = macroblock_of (source_by frame.search c) c.tokens frame.factors
 
--- the picture before the macroblock at p, as the choices make it
+-- the reconstruction of the macroblocks before p
 abbrev pub picture_before : FrameSearch → Grid Choice → Place → Image
 picture_before frame g = rebuilt_before frame.source.width frame.source.height
     (λ q. macroblock_by frame (choice_at g q))
 
--- their motion
+-- the motion of all macroblocks
 abbrev pub saved_motions : Grid Choice → Grid MacroblockMotion
 saved_motions g = mapped saved_motion g
 
--- What stands at p is the choice over the picture and the motion that those before it make, and its motion can be told.
+-- the macroblock at p is the choice, given the reconstruction and the motion of those before it, and its motion can be
+-- written
 pub record IsChosenAt (frame : FrameSearch) (g : Grid Choice) (p : Place) : Type 0 where
   pub is : IsChoice frame (picture_before frame g p) (saved_motions g) p (choice_at g p)
   pub written : is_intra (choice_at g p).modes.reference ≡ false
       → CanBeWritten (candidates (saved_motions g) p (choice_at g p).modes.reference no_biases) (choice_at g p).motion
 
--- All macroblocks of the frame are chosen.
+-- all macroblocks of the frame are chosen
 pub record AreChosen (frame : FrameSearch) (g : Grid Choice) : Type 0 where
   pub columns : g.columns ≡ macroblocks frame.source.width
   pub rows : g.rows ≡ macroblocks frame.source.height
   pub each : (p : Place) → Has g p → IsChosenAt frame g p
 
--- Of a frame of this size the segments are kept, and each is 0.
+-- a segment map for a frame of this size, in which all segments are 0
 pub record AreUnsegmented (dim : Dim) (g : Grid ℕ) : Type 0 where
   pub columns : g.columns ≡ macroblocks dim.w
   pub rows : g.rows ≡ macroblocks dim.h
@@ -55,12 +57,12 @@ pub record AreUnsegmented (dim : Dim) (g : Grid ℕ) : Type 0 where
 
 -- ---- inside the crate
 
--- q comes before p in raster order
+-- q is before p in raster order
 pub record IsBeforeInRaster (q p : Place) : Type 0 where
   pub row : q.row ≤ p.row
   pub column : q.row ≡ p.row → q.column < p.column
 
--- The macroblocks before p are chosen.
+-- the macroblocks before p are chosen
 pub record AreChosenBefore (frame : FrameSearch) (p : Place) (b : FrameChoices) : Type 0 where
   pub size : AreOneSize frame.source b.picture
   pub columns : b.chosen.columns ≡ macroblocks frame.source.width

@@ -3,6 +3,7 @@ use Rattle.std.specs.Prelude.{ℕ, List, codes}
 use Rattle.vp_encode.specs.declared.report.EncodeAllFault.{EncodeAllFault}
 use Rattle.vp_encode.specs.declared.report.EncodeAllFault.TheVariants as fault
 
+-- the name of a fault of encoding
 abbrev pub encode_fault_name : EncodeAllFault → List ℕ
 encode_fault_name fault.Magic = codes "Magic"
 encode_fault_name fault.Size = codes "Size"

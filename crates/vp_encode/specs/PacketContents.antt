@@ -17,7 +17,7 @@ use Rattle.vp_decode.specs.Step.{parsed, frame_info_of, first_part}
 use Rattle.vp_encode.specs.declared.coded_frame.CodedFrame.{CodedFrame}
 use Rattle.vp_encode.specs.CodedFrame.{coded_choice, saved_motion}
 
--- a key packet's tag of this size, not scaled (chapter 9.1)
+-- the key part of a tag of this size, without scaling (chapter 9.1)
 abbrev pub key_tag : Dim → KeyTag
 key_tag dim = record { dim = dim; horizontal_scale = 0; vertical_scale = 0 }
 
@@ -26,9 +26,8 @@ pub record HasFinalZero (bytes : List ℕ) : Type 0 where
   pub some : 0 < length bytes
   pub last : slice_index bytes (length bytes - 1) ≡ 0
 
--- What is opened of a packet is a shown one of version 0 over this context, with this frame's header; and its
--- partitions say
--- at each place what the frame is told to be there.
+-- the parsed packet is shown, of version 0, has this context and the frame's header; its partitions give the frame's
+-- modes, motion and tokens at each place
 pub record HasContents (key : Option KeyTag) (context : FrameContext) (c : CodedFrame) (packet : List ℕ)
     (o : ParsedPacket) : Type 0 where
   pub version : o.tag.version ≡ 0
@@ -41,12 +40,11 @@ pub record HasContents (key : Option KeyTag) (context : FrameContext) (c : Coded
   pub motion : (p : Place) → Has c.macroblocks p → motion_in (frame_info_of o).maps p ≡ saved_motion (coded_choice c p)
   pub tokens : (p : Place) → Has c.macroblocks p → tokens_of (frame_info_of o) (map initial_state o.partitions) p
       ≡ (coded_choice c p).tokens
-  -- Behind each partition stands a byte of 0.
+  -- each partition ends with a byte of 0
   pub first_closed : HasFinalZero (first_part o.tag packet)
   pub closed : (i : ℕ) → i < length o.partitions → HasFinalZero (slice_index_or o.partitions i [])
 
--- The packet says the frame wherever its tag and the state give this context, under all limits that a size in its
--- tag passes.
+-- the packet carries the frame whenever its tag and the state give this context, under all limits that allow its size
 pub record EncodesFrame (key : Option KeyTag) (context : FrameContext) (c : CodedFrame) (packet : List ℕ) : Type 0 where
   pub opening : ParsedPacket
   pub opens : (limits : Limits) (state : Option DecoderState) → context_of key state ≡ Ok context
@@ -54,11 +52,11 @@ pub record EncodesFrame (key : Option KeyTag) (context : FrameContext) (c : Code
       → parsed limits state packet ≡ Ok opening
   pub says : HasContents key context c packet opening
 
--- the packet of a key frame, whatever is kept
+-- the packet of a key frame, in any state
 abbrev pub IsKeyFramePacket : Dim → CodedFrame → List ℕ → Type 0
 IsKeyFramePacket dim c packet = EncodesFrame (Some (key_tag dim)) (key_context dim) c packet
 
--- the packet of an inter frame, over these values and segments, and any references
+-- the packet of an inter frame, for these saved values and segments, and any references
 abbrev pub IsInterFramePacket : Saved → Grid ℕ → CodedFrame → List ℕ → Type 0
 IsInterFramePacket saved segments c packet = (k : DecoderState) → k.saved ≡ saved → k.segments ≡ segments
     → EncodesFrame None (inter_context k) c packet

@@ -13,12 +13,12 @@ pub record IsFrameFor (e : EncoderState) (source : Image) (c : CodedFrame) : Typ
   pub header : c.header ≡ header_of e
   pub chosen : AreChosen (frame_for e source) c.macroblocks
 
--- A frame that is told over what is kept has a partition that is too long.
+-- a frame that is coded with this state has a partition that is too long
 abbrev pub IsTooLongOver : Dim → Option DecoderState → CodedFrame → Type 0
 IsTooLongOver dim kept c = HasLongPartition (tag_key dim kept) (basis_over dim kept).saved
     (maps_before (basis_over dim kept).modes) c
 
--- The frame that is chosen for the source has one.
+-- the frame that is chosen for the source has a partition that is too long
 pub record IsTooLong (e : EncoderState) (source : Image) : Type 0 where
   pub coded : CodedFrame
   pub is : IsFrameFor e source coded

@@ -1,5 +1,5 @@
--- The bytes of a packet: tag, first partition and token partitions (RFC 6386, chapters 9.1, 9.5 and 19). In part inside
--- the crate: the state of writing. Pinned by the tests `eight_partitions` and `flat_macroblock`.
+-- The bytes of a packet: tag, first partition and token partitions (RFC 6386, chapters 9.1, 9.5 and 19). The state of
+-- writing is inside the crate. Pinned by the tests `eight_partitions` and `flat_macroblock`.
 use Rattle.std.specs.Prelude.{◌≡◌, ◌≢◌, ◌<◌, ◌≤◌, ◌⊎◌, ◌*◌, ◌^◌, ◌+◌, ◌-◌, ◌/◌, ◌%◌, ℕ, Bool, true, false, List, []}
 use Rattle.std.specs.Prelude.{◌∷◌, ◌++◌, length, map, slice_index_or, Option, Some, None, Ok}
 use Rattle.vp_bool.specs.Bools.{State, initial_state}
@@ -30,24 +30,24 @@ use Rattle.vp_encode.specs.CodedFrame.{coded_choice, saved_motion}
 
 -- ---- modes and motion
 
--- maps of the frame's size
+-- the info has the frame's size
 pub record AreOf (c : CodedFrame) (m : MacroblockInfo) : Type 0 where
   pub columns : m.modes.columns ≡ c.macroblocks.columns
   pub rows : m.modes.rows ≡ c.macroblocks.rows
   pub motion_columns : m.motion.columns ≡ c.macroblocks.columns
   pub motion_rows : m.motion.rows ≡ c.macroblocks.rows
 
--- what the maps have of the macroblock at p
+-- the info at p is that of the frame's macroblock
 pub record Have (c : CodedFrame) (p : Place) (m : MacroblockInfo) : Type 0 where
   pub modes : modes_in m p ≡ (coded_choice c p).modes
   pub motion : motion_in m p ≡ saved_motion (coded_choice c p)
 
--- at p the maps are alike
+-- the info of m and n is equal at p
 pub record AreMapsEqualAt (p : Place) (m n : MacroblockInfo) : Type 0 where
   pub modes : modes_in m p ≡ modes_in n p
   pub motion : motion_in m p ≡ motion_in n p
 
--- at p the maps have what x is told to be, and elsewhere they are as before
+-- at p the info is updated with choice x; elsewhere it is unchanged
 pub record AreMapsUpdated (p : Place) (x : Choice) (old new : MacroblockInfo) : Type 0 where
   pub columns : new.modes.columns ≡ old.modes.columns
   pub rows : new.modes.rows ≡ old.modes.rows
@@ -58,14 +58,14 @@ pub record AreMapsUpdated (p : Place) (x : Choice) (old new : MacroblockInfo) : 
   pub moved : is_intra x.modes.reference ≡ false → motion_in new p ≡ saved_motion x
   pub elsewhere : (q : Place) → q ≢ p → AreMapsEqualAt q new old
 
--- the rows before one are told; from it on the maps are as before, without motion
+-- the rows above `row` are written; from it on the modes are those before the frame, and there is no motion
 pub record AreRowsTold (c : CodedFrame) (before : Grid Modes) (row : ℕ) (m : MacroblockInfo) : Type 0 where
   pub size : AreOf c m
   pub told : (p : Place) → p.row < row → p.column < c.macroblocks.columns → Have c p m
   pub ahead : (p : Place) → row ≤ p.row → modes_in m p ≡ at plain before p
   pub unmoved : (p : Place) → row ≤ p.row → motion_in m p ≡ intra
 
--- the first n macroblocks of a row are told, and all others are as they were
+-- the first n macroblocks of a row are written, and all others are unchanged
 pub record IsRowTold (c : CodedFrame) (row n : ℕ) (old new : MacroblockInfo) : Type 0 where
   pub size : AreOf c new
   pub told : (column : ℕ) → column < n → Have c (place row column) new
@@ -73,7 +73,7 @@ pub record IsRowTold (c : CodedFrame) (row n : ℕ) (old new : MacroblockInfo) :
 
 -- ---- the first partition
 
--- The bytes of all that was written, and a byte of 0 behind them.
+-- the bytes of all bools that were written, and a final byte of 0
 abbrev pub finished : Interval → List ℕ
 finished e = interval_bytes e ++ 0 ∷ []
 
@@ -81,15 +81,14 @@ finished e = interval_bytes e ++ 0 ∷ []
 abbrev pub partition_of_bools : List (Bool × ℕ) → List ℕ
 partition_of_bools bools = finished (write_all bools whole_interval)
 
--- how the first partition is read: the header, and then the modes and the motion
+-- how a first partition is read: the header, then the modes and the motion
 unfoldable pub first_read : Saved → Tag → MacroblockInfo → Reader ((Header × Saved) × MacroblockInfo)
 first_read kept tag before = do
   head ← header kept tag
   maps ← maps_read head.0 before
   give (head, maps)
 
--- The partition of bools of which the header is read, and then these modes and this motion: of all of them, and of
--- no others.
+-- the partition of bools from which exactly the header, these modes and this motion are read
 pub record IsFirst (kept : Saved) (tag : Tag) (before : MacroblockInfo) (c : CodedFrame) (bytes : List ℕ) : Type 0 where
   pub bools : List (Bool × ℕ)
   pub probabilities : AreProbabilities bools
@@ -102,18 +101,18 @@ pub record IsFirst (kept : Saved) (tag : Tag) (before : MacroblockInfo) (c : Cod
 
 -- ---- the token partitions
 
--- a plan of the frame: it has the frame's header, modes and motion, and without references all is intra
+-- f has the frame's header, modes and motion; without references all macroblocks are intra
 pub record IsPlanOf (c : CodedFrame) (f : FrameInfo) : Type 0 where
   pub header : f.header ≡ c.header
   pub size : AreOf c f.maps
   pub told : (p : Place) → Has c.macroblocks p → Have c p f.maps
   pub own : f.references ≡ None → (p : Place) → Has c.macroblocks p → is_intra (coded_choice c p).modes.reference ≡ true
 
--- before all macroblocks
+-- the blocks before the first macroblock
 abbrev pub none_seen : ℕ → ℕ → Grid Blocks
 none_seen columns rows = everywhere columns rows no_blocks_read
 
--- what was written of the first n macroblocks of a row, where g was seen before
+-- the first n macroblocks of a row are written; g has the blocks of the rows above
 pub record IsTokenRow (f : FrameInfo) (c : CodedFrame) (row n : ℕ) (g : Grid Blocks) (contexts : Contexts)
     (old new : Interval) : Type 0 where
   pub seen : Grid Blocks
@@ -124,13 +123,13 @@ pub record IsTokenRow (f : FrameInfo) (c : CodedFrame) (row n : ℕ) (g : Grid B
   pub tokens : (s t : State) → Reads written.bools s t → (column : ℕ) → column < n
       → row_tokens f row g s column ≡ (coded_choice c (place row column)).tokens
 
--- the bools bss, one list for each partition, are read from the states ss, and ts are left
+-- the bools bss, one list for each partition, are read from the states ss, which leaves ts
 abbrev pub AllRead : List (List (Bool × ℕ)) → List State → List State → Type 0
 AllRead bss ss ts = (length ss ≡ length bss) × (length ts ≡ length bss)
     × ((i : ℕ) → i < length bss → Reads (slice_index_or bss i []) (slice_index_or ss i (initial_state []))
     (slice_index_or ts i (initial_state [])))
 
--- what was written of the rows before one, each into the partition of its row
+-- the rows above `row` are written, each into its partition
 pub record AreTokenRows (f : FrameInfo) (c : CodedFrame) (row : ℕ) (contexts : Contexts) (es : List Interval)
     : Type 0 where
   pub seen : Grid Blocks
@@ -145,7 +144,7 @@ pub record AreTokenRows (f : FrameInfo) (c : CodedFrame) (row : ℕ) (contexts :
   pub tokens : (ss ts : List State) → AllRead bools ss ts
       → (p : Place) → p.row < row → p.column < c.macroblocks.columns → tokens_of f ss p ≡ (coded_choice c p).tokens
 
--- Of these bools, a list for each partition, all tokens of the frame are read, and no bools are left.
+-- from these bools, one list for each partition, exactly the tokens of the frame are read
 pub record AreTokens (f : FrameInfo) (c : CodedFrame) (bools : List (List (Bool × ℕ))) : Type 0 where
   pub probabilities : (i : ℕ) → AreProbabilities (slice_index_or bools i [])
   pub tokens : (ss ts : List State) → AllRead bools ss ts → (p : Place) → Has c.macroblocks p
@@ -160,14 +159,15 @@ pub record AreTokenPartitions (c : CodedFrame) (parts : List (List ℕ)) : Type 
 
 -- ---- the tag
 
--- a number of 24 bits, the lowest byte first
+-- a 24-bit number, little-endian
 abbrev pub three_bytes : ℕ → List ℕ
 three_bytes w = w % 256 ∷ w / 256 % 256 ∷ w / 65536 ∷ []
 
+-- a 16-bit number, little-endian
 abbrev pub two_bytes : ℕ → List ℕ
 two_bytes w = w % 256 ∷ w / 256 ∷ []
 
--- a shown packet of version 0, not scaled, with a first partition of so many bytes
+-- the tag of a shown packet of version 0, without scaling; `first` is the length of the first partition
 abbrev pub tag_bytes : Option KeyTag → ℕ → List ℕ
 tag_bytes (Some key) first = three_bytes (32 * first + 16) ++ (0x9d ∷ 0x01 ∷ 0x2a ∷ []) ++ two_bytes key.dim.w
     ++ two_bytes key.dim.h
@@ -175,20 +175,21 @@ tag_bytes None first = three_bytes (32 * first + 17)
 
 -- ---- the packet
 
+-- a shown packet of version 0; `first` is the length of the first partition
 abbrev pub encoder_tag : Option KeyTag → ℕ → Tag
 encoder_tag key first = record { version = 0; show = true; first_partition = first; key = key }
 
--- what a frame with this tag starts from
+-- the saved values that a frame with this tag starts from
 abbrev pub kept_by : Saved → Option KeyTag → Saved
 kept_by saved key = kept_before saved (encoder_tag key 0)
 
--- The bytes are the tag, a first partition and token partitions behind their table.
+-- the bytes are the tag, the first partition, the partition table and the token partitions
 pub record IsPutTogether (key : Option KeyTag) (first : List ℕ) (parts : List (List ℕ)) (bytes : List ℕ) : Type 0 where
   pub rest : List ℕ
   pub cut : cut_of rest (length parts) ≡ Ok parts
   pub bytes_are : bytes ≡ tag_bytes key (length first) ++ (first ++ rest)
 
--- The bytes are a packet of the frame.
+-- the bytes are a packet of the frame
 pub record IsPacket (key : Option KeyTag) (saved : Saved) (before : MacroblockInfo) (c : CodedFrame) (bytes : List ℕ)
     : Type 0 where
   pub first : List ℕ
@@ -198,11 +199,10 @@ pub record IsPacket (key : Option KeyTag) (saved : Saved) (before : MacroblockIn
   pub first_is : IsFirst saved (encoder_tag key 0) before c first
   pub parts_are : AreTokenPartitions c parts
 
--- ---- a frame that no packet holds
+-- ---- frames that no packet can carry
 
--- A partition is longer than its size can be said: the first one in 19 bits (chapter 9.1), or a token partition but
--- the last
--- in 24 (chapter 9.5).
+-- a partition is too long for its size field: 19 bits for the first one (chapter 9.1), 24 bits for a token partition
+-- other than the last (chapter 9.5)
 abbrev pub HasLongPartition : Option KeyTag → Saved → MacroblockInfo → CodedFrame → Type 0
 HasLongPartition key saved before c =
     ((first : List ℕ) × IsFirst saved (encoder_tag key 0) before c first × (2 ^ 19 ≤ length first))

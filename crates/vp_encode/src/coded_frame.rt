@@ -1,4 +1,4 @@
-//! What a frame is told to be.
+//! The frame that the encoder writes as a packet.
 
 ghost use Rattle.std.specs.Prelude.{◌≡◌};
 ghost use Rattle.vp_encode.specs.CodedFrame.{choice_has_y2};
@@ -7,7 +7,7 @@ use vp_base::Grid;
 use vp_choose::Choice;
 use vp_head::Header;
 
-/// Whether a macroblock has a Y2 block: unless its luma subblocks have modes, or vectors, of their own.
+/// Returns whether a macroblock has a Y2 block: not with B_PRED or split vectors.
 pub(crate) fn has_y2(macroblock: &Choice) -> bool
     ensures { result ≡ choice_has_y2 macroblock.now }
 {
@@ -18,10 +18,11 @@ pub(crate) fn has_y2(macroblock: &Choice) -> bool
     }
 }
 
-/// What a frame is told to be: its header, with the values in force for it, and its macroblocks. The motion of an intra
-/// macroblock isn't told.
+/// A frame to be written: its header and its macroblocks. The motion of an intra macroblock is not written.
 #[derive(Drop)]
 pub struct CodedFrame {
+    /// The frame header.
     pub header: Header,
+    /// The choice for each macroblock.
     pub macroblocks: Grid<Choice>,
 }

@@ -1,4 +1,4 @@
-//! How far two pictures are apart.
+//! The squared distance of two pictures.
 
 ghost use Rattle.std.specs.Prelude.{◌≡◌, ◌*◌, ◌≤◌};
 ghost use Rattle.vp_base.specs.Raster.{pixel};
@@ -9,7 +9,7 @@ ghost use Rattle.vp_encode.specs.Choice.{squared_distance};
 use vp_base::{Picture, Plane};
 use vp_search::sse;
 
-/// The sum of squared differences over the first columns of the first rows of two planes.
+/// Returns the sum of squared differences over the first `width` columns and `height` rows of two planes.
 fn plane_distance(a: &Plane, b: &Plane, width: usize, height: usize) -> u64
     requires columns { (width ≤ a.now.width) × (width ≤ b.now.width) }
     requires rows { (height ≤ a.now.height) × (height ≤ b.now.height) }
@@ -25,7 +25,7 @@ fn plane_distance(a: &Plane, b: &Plane, width: usize, height: usize) -> u64
     sum
 }
 
-/// The squared distance of two pictures of one size, over the pixels that are shown.
+/// Returns the squared distance of two pictures of one size, over their shown pixels.
 #[tactic(auto, unfolding(vp_base::specs::Image::i420))]
 pub(crate) fn squared_distance(source: &Picture, recon: &Picture) -> u64
     requires width { source.now.width ≡ recon.now.width }

@@ -1,4 +1,4 @@
-//! EncoderState picture by picture.
+//! Encodes a file picture by picture.
 
 ghost use Rattle.std.specs.Prelude.{◌≡◌, length};
 ghost use Rattle.vp_encode.specs.EncodeProgress.{start, TakesPicture};
@@ -10,7 +10,7 @@ use std::alloc::Global;
 use std::marker::Model;
 use vp_base::{ByteList, Limits, Picture};
 
-/// An encoder, the packets that it made of the pictures of a file, and the sum of their squared errors.
+/// An encoder, the packets that it made of a file's pictures, and the sum of their squared errors.
 #[derive(Drop)]
 pub(crate) struct EncodeProgress {
     limits: Limits,
@@ -32,7 +32,7 @@ impl Model for EncodeProgress {
 }
 
 impl EncodeProgress {
-    /// Before the first picture.
+    /// Creates the state before the first picture.
     pub(crate) fn new(alloc: Global, encoder: Encoder, limits: Limits) -> EncodeProgress
         ensures { result ≡ start limits encoder }
     {
@@ -44,7 +44,7 @@ impl EncodeProgress {
         }
     }
 
-    /// Encodes the next picture, which has the encoder's size.
+    /// Encodes the next picture, which must have the encoder's size.
     pub(crate) fn picture(&mut self, picture: &Picture) -> Result<(), EncodeAllFault>
         requires width { picture.now.width ≡ self.old.encoder.dim.w }
         requires height { picture.now.height ≡ self.old.encoder.dim.h }
@@ -69,21 +69,21 @@ impl EncodeProgress {
         Ok(())
     }
 
-    /// The packets, in order.
+    /// Returns the packets, in order.
     pub(crate) fn packets(&self) -> &[ByteList]
         ensures { result.now ≡ self.now.packets }
     {
         self.packets.as_slice()
     }
 
-    /// How many pictures there were.
+    /// Returns the number of pictures encoded.
     pub(crate) fn frames(&self) -> u32
         ensures { result ≡ length self.now.packets }
     {
         self.packets.len() as u32
     }
 
-    /// The report of all pictures.
+    /// Returns the report of all pictures.
     pub(crate) fn report(&self) -> EncodeReport
         ensures { result ≡ record { frames = length self.now.packets; error = self.now.error } }
     {

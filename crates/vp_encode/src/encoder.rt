@@ -1,4 +1,4 @@
-//! Frames encoded, one after another.
+//! The encoder: encodes frames, one after another.
 
 ghost use Rattle.std.specs.Prelude.{◌≡◌, ◌≢◌, ◌⊎◌, ◌≤◌, ◌+◌, ◌*◌, ◌↔◌, ◌++◌, ◌∷◌, [], List, None, Err, IsErr, IfOk};
 ghost use Rattle.std.specs.Prelude.{IfErr, IfSome, IsTrue, option_map, if◌then◌else◌};
@@ -27,27 +27,26 @@ use vp_base::{ByteList, Dim, Limits, Picture};
 use vp_decode::{Decoder, DecoderState};
 use vp_recon::unfiltered_picture_solves_its_equation;
 
-/// A frame that is encoded.
+/// An encoded frame.
 #[derive(Drop)]
 pub struct Encoded {
-    /// One packet, to be decoded behind those of the frames before it.
+    /// The packet, to be decoded after those of the frames before it.
     pub packet: ByteList,
-    /// The picture that decoders show for it.
+    /// The reconstruction: the picture that a decoder shows for the packet.
     pub recon: Rc<Picture>,
-    /// The sum of the squares of the differences between the source's shown pixels and `recon`'s, of Y, U and V.
+    /// The sum of the squared differences between the source and `recon`, over the shown pixels of Y, U and V.
     pub squared_error: u64,
 }
 
-/// Encodes the frames of one stream, in order, each as it is shown (RFC 6386, chapter 5). It holds the decoder of
-/// its own
-/// packets, so what frames are predicted from is what decoders have.
+/// Encodes the frames of one stream, in order (RFC 6386, chapter 5). It decodes its own packets, so that its reference
+/// frames are those of any decoder.
 #[derive(Drop)]
 pub struct Encoder {
     alloc: Global,
     dim: Dim,
     settings: Settings,
     decoder: Decoder,
-    /// How many frames came since the last key frame began, with that one.
+    /// The number of frames since the last key frame, including that one.
     since: u32,
 }
 
@@ -67,7 +66,7 @@ impl Model for Encoder {
     }) };
 }
 
-/// Limits that pictures of every size pass.
+/// Returns limits that allow pictures of every size.
 fn widest() -> Limits
     ensures { result.pixels ≡ 268402689 }
 {
@@ -77,7 +76,7 @@ fn widest() -> Limits
     limits
 }
 
-/// Whether each setting is in its range.
+/// Returns whether each setting is in its range.
 fn are_allowed(settings: &Settings) -> bool
     ensures { IsTrue result ↔ AreAllowed settings.now }
 {
@@ -90,13 +89,13 @@ fn are_allowed(settings: &Settings) -> bool
     matches!(settings.partitions, 1 | 2 | 4 | 8)
 }
 
-/// Decodes a packet, and shares the picture that it shows.
+/// Decodes a packet, and returns the picture that it shows.
 fn decode_shown(decoder: &mut Decoder, packet: &[u8]) -> Result<Rc<Picture>, AllocError>
     requires { ShowsNewest decoder.old.limits decoder.old.state packet.now }
     ensures limits { decoder.new.limits ≡ decoder.old.limits }
     ensures shown { IfOk result (λ r. step decoder.old.limits decoder.old.state packet.now
         ≡ (decoder.new.state, Shown r.value)) }
-    // Memory may be refused before the packet is decoded, or behind it.
+    // Memory may run out before the packet is decoded, or after it.
     ensures state { (decoder.new.state ≡ decoder.old.state) ⊎ (decoder.new.state
         ≡ (step decoder.old.limits decoder.old.state packet.now).0) }
 {
@@ -108,7 +107,9 @@ fn decode_shown(decoder: &mut Decoder, packet: &[u8]) -> Result<Rc<Picture>, All
 }
 
 impl Encoder {
-    /// An encoder before its first frame.
+    /// Creates an encoder for pictures of this size.
+    ///
+    /// Errors: `SettingsFault` if a setting is out of its range.
     pub fn new(alloc: Global, dim: Dim, settings: Settings) -> Result<Encoder, SettingsFault>
         ensures ok { IfOk result (λ e. e ≡ record { dim = dim; settings = settings; state = None; since = 0 }) }
         ensures allowed { IfOk result (λ _. AreAllowed settings) }
@@ -127,25 +128,28 @@ impl Encoder {
         })
     }
 
-    /// Encodes a frame: a key frame at first, after `key_every` frames and after a refusal, and else an inter frame.
-    /// `TooLong` and `Memory` may be met again with the same source; the next frame is then a key frame.
+    /// Encodes a frame. It is a key frame at first, after `key_every` frames, and after a refused frame; else an inter
+    /// frame.
+    ///
+    /// Errors: `SourceSize` leaves the encoder unchanged. After `TooLong` or `Memory` the next frame is a key frame,
+    /// and the source may be tried again.
     pub fn encode(&mut self, source: &Picture) -> Result<Encoded, EncodeFault>
         ensures size { result ≡ Err EncodeFault.SourceSize ↔ ((source.now.width ≢ self.old.dim.w)
             ⊎ (source.now.height ≢ self.old.dim.h)) }
         ensures unchanged { result ≡ Err EncodeFault.SourceSize → self.new ≡ self.old }
         ensures dim { self.new.dim ≡ self.old.dim }
         ensures settings { self.new.settings ≡ self.old.settings }
-        // The packet shows the reconstruction, and leaves the state that the next frame is encoded over.
+        // Decoding the packet shows the reconstruction, and gives the state for the next frame.
         ensures decoded { IfOk result (λ r. (limits : Limits) → self.old.dim.w * self.old.dim.h ≤ limits.pixels
             → step limits self.old.state r.packet ≡ (self.new.state, Shown r.recon.value)) }
         ensures choice { IfOk result (λ r. IsChosen self.old source.now r.packet) }
         ensures error { IfOk result (λ r. r.squared_error ≡ squared_distance source.now r.recon.value) }
         ensures since { IfOk result (λ _. self.new.since ≡ (if next_is_key self.old then 1 else self.old.since + 1)) }
-        // A refused frame leaves no state, so that the next one is a key frame.
+        // A refused frame leaves no state: the next frame is a key frame.
         ensures forgotten { (result ≡ Err EncodeFault.TooLong) ⊎ (result ≡ Err EncodeFault.Memory)
             → self.new.state ≡ None }
         ensures too_long { result ≡ Err EncodeFault.TooLong → IsTooLong self.old source.now }
-        // What stands for the calls since `new` stands for them and this one.
+        // The history of the encoder's calls is extended by this call.
         ensures stands { (calls : List Call) → IsEncoderAfter self.old calls
             → IsEncoderAfter self.new (calls ++ record { source = source.now; result = result } ∷ []) }
     {
@@ -162,7 +166,7 @@ impl Encoder {
         }
     }
 
-    /// Encodes a frame of the encoder's size. Where it is refused, the state that stands is of no meaning.
+    /// Encodes a frame of the encoder's size. If it is refused, the state that is left must be dropped.
     fn encode_frame(&mut self, source: &Picture) -> Result<Encoded, PacketError>
         requires { HasSize self.old.dim source.now }
         ensures dim { self.new.dim ≡ self.old.dim }
@@ -188,7 +192,7 @@ impl Encoder {
         })
     }
 
-    /// What the next frame is told over: nothing for a key frame.
+    /// Returns the state that the next frame is coded with; None for a key frame.
     fn kept(&self) -> Option<&DecoderState>
         ensures value { option_map (λ k. k.now) result ≡ kept_for self.now }
         ensures kept { IfSome result (λ k. IsKeptFor self.now.dim k.now) }
@@ -199,7 +203,7 @@ impl Encoder {
         self.decoder.kept()
     }
 
-    /// How many frames came since the last key frame began, once the next frame is encoded.
+    /// Returns the number of frames since the last key frame, once the next frame is encoded.
     fn next_since(&self) -> u32
         ensures value { result ≡ (if next_is_key self.now then 1 else self.now.since + 1) }
         ensures few { result ≤ self.now.settings.key_every }
@@ -210,7 +214,7 @@ impl Encoder {
         self.since + 1
     }
 
-    /// Whether an inter frame refreshes golden.
+    /// Returns whether the next inter frame refreshes golden.
     fn refreshes_golden(&self) -> bool
         ensures { result ≡ refreshes_golden self.now }
     {
@@ -218,7 +222,7 @@ impl Encoder {
         every != 0 && self.since % every == 0
     }
 
-    /// The frame that is chosen for a source.
+    /// Chooses the coding of a frame.
     fn choose(&self, source: &Picture) -> Result<CodedFrame, AllocError>
         requires { HasSize self.now.dim source.now }
         ensures frame { IfOk result (λ c. IsFrameFor self.now source.now c) }

@@ -1,4 +1,4 @@
-//! EncoderState a whole file.
+//! Encodes a whole file.
 
 ghost use Rattle.std.specs.Prelude.{◌≡◌, ◌≢◌, ◌<◌, ◌≤◌, ◌+◌, ◌*◌, ◌^◌, ◌++◌, ◌∷◌, ℕ, List, [], ⊤, length, OnOk, OnErr};
 ghost use Rattle.std.specs.Prelude.{IfSome, Err};
@@ -27,17 +27,17 @@ use vp_base::{ByteList, Counted, Device, Limits};
 use vp_ivf::Writer;
 use vp_y4m::{Source, SourceHead};
 
-/// Is told of each picture of a file that is encoded.
+/// The progress callback of encoding a file.
 pub trait Watcher {
-    /// What it is where it was told these numbers, one after another.
+    /// The numbers that it has received so far, in order.
     ghost told: { Self → List ℕ → Type 0 };
 
-    /// So many pictures are encoded.
+    /// Receives the number of pictures encoded so far.
     fn encoded(&mut self, frames: u32)
         ensures { (before : List ℕ) → told self.old before → told self.new (before ++ frames ∷ []) };
 }
 
-/// Looks at nothing.
+/// A progress callback that does nothing.
 #[derive(Clone, Copy, Debug, PartialEq, Eq)]
 pub struct Unwatched;
 
@@ -47,13 +47,12 @@ impl Watcher for Unwatched {
     fn encoded(&mut self, _frames: u32) {}
 }
 
-/// Encodes the pictures of a YUV4MPEG2 file to its end, and then writes them as an IVF file, with the source's size and
-/// rate, and times 0, 1, and so on. All packets are held until then, for the file's head says how many there are.
+/// Encodes a YUV4MPEG2 file to its end, and writes an IVF file with its size and rate. The times of the packets are 0,
+/// 1, and so on. All packets are kept in memory until the end, because the IVF head has their number.
 ///
-/// What refuses comes in the order of the work: what is wrong with the head, the settings, and then for each picture
-/// what is wrong with it, `TooMany`, `TooLong` and `PacketTooLarge`. Nothing is written but a whole file, or a
-/// front of it
-/// where a write fails.
+/// Errors, in the order of the work: a fault of the head; `Settings`; then for each picture its fault, `TooMany`,
+/// `TooLong` and `PacketTooLarge`. Nothing is written in these cases. If a write fails, a prefix of the file is
+/// written.
 pub fn encode_all<R: Read, W: Write>(
     alloc: Global,
     reader: &mut Counted<R>,
@@ -64,9 +63,8 @@ pub fn encode_all<R: Read, W: Write>(
     ensures answer { IsAnswerOver R.remaining W.contents limits settings result reader.old reader.new writer.old
         writer.new }
 
-    // However it ends, each read but the last took a byte or more. So no more reads are made than these, of any
-    // reader and
-    // of one whose bytes are known.
+    // Each read except the last takes at least one byte. This bounds the number of reads, whether or not the reader's
+    // bytes are known.
     ensures reads { TakesInReads 1 (counted_remaining R.remaining reader.old) (counted_remaining R.remaining reader.new)
         (counted_reads reader.old) (counted_reads reader.new) }
     ensures within { counted_reads reader.new ≤ counted_reads reader.old + most_reads limits }
@@ -76,9 +74,8 @@ pub fn encode_all<R: Read, W: Write>(
     encode_all_watched(alloc, reader, writer, settings, limits, &mut Unwatched)
 }
 
-/// The same, and `watcher` is told of each picture once it is encoded, by how many there are: of all of them where
-/// there is
-/// a report, and else of those before what refuses.
+/// Encodes a file as `encode_all` does. The progress callback receives 1, 2, .. up to the number of pictures encoded,
+/// whether encoding succeeds or fails.
 pub fn encode_all_watched<R: Read, W: Write, T: Watcher>(
     alloc: Global,
     reader: &mut Counted<R>,
@@ -93,9 +90,8 @@ pub fn encode_all_watched<R: Read, W: Write, T: Watcher>(
         writer.new
         (T.told watcher.old) (T.told watcher.new) }
 
-    // However it ends, each read but the last took a byte or more. So no more reads are made than these, of any
-    // reader and
-    // of one whose bytes are known.
+    // Each read except the last takes at least one byte. This bounds the number of reads, whether or not the reader's
+    // bytes are known.
     ensures reads { TakesInReads 1 (counted_remaining R.remaining reader.old) (counted_remaining R.remaining reader.new)
         (counted_reads reader.old) (counted_reads reader.new) }
     ensures within { counted_reads reader.new ≤ counted_reads reader.old + most_reads limits }
@@ -110,7 +106,7 @@ pub fn encode_all_watched<R: Read, W: Write, T: Watcher>(
     Ok(run.report())
 }
 
-/// Encodes the pictures that a reader has behind a file's head.
+/// Encodes the pictures that follow a file's head.
 fn encode_source<R: Read, T: Watcher>(
     alloc: Global,
     reader: &mut Counted<R>,
@@ -141,7 +137,7 @@ fn encode_source<R: Read, T: Watcher>(
     encode_pictures(&mut source, run, watcher)
 }
 
-/// Encodes the pictures behind a file's head.
+/// Encodes the pictures that follow a file's head.
 fn encode_pictures<R: Read, T: Watcher>(
     source: &mut Source<'_, R>,
     run: &mut EncodeProgress,
@@ -174,7 +170,7 @@ fn encode_pictures<R: Read, T: Watcher>(
     Ok(())
 }
 
-/// Writes a whole file of packets.
+/// Writes a whole IVF file of packets.
 fn write_file<W: Write>(
     head: SourceHead,
     packets: &[ByteList],

@@ -1,13 +1,13 @@
-//! Why a frame isn't written, or isn't encoded.
+//! The errors of writing a packet and of encoding a frame.
 
 use std::alloc::AllocError;
 
-/// Why a frame isn't written as a packet.
+/// The reasons for which a frame can't be written as a packet.
 #[derive(Clone, Copy, Debug, PartialEq, Eq)]
 pub enum PacketError {
-    /// The first partition is longer than 524,287 bytes, or a token partition but the last longer than 16,777,215.
+    /// The first partition exceeds 524,287 bytes, or a token partition other than the last exceeds 16,777,215 bytes.
     TooLong,
-    /// Memory was refused.
+    /// Out of memory.
     Memory,
 }
 
@@ -22,21 +22,21 @@ impl From<AllocError> for PacketError {
     }
 }
 
-/// Why an encoder isn't made.
+/// The reasons for which an encoder can't be created.
 #[derive(Clone, Copy, Debug, PartialEq, Eq)]
 pub enum SettingsFault {
     /// A setting is out of its range.
     Settings,
 }
 
-/// Why a frame isn't encoded.
+/// The reasons for which a frame can't be encoded.
 #[derive(Clone, Copy, Debug, PartialEq, Eq)]
 pub enum EncodeFault {
-    /// The source hasn't the encoder's size.
+    /// The source differs in size from the encoder.
     SourceSize,
-    /// The first partition is longer than 524,287 bytes, or a token partition but the last longer than 16,777,215.
+    /// The first partition exceeds 524,287 bytes, or a token partition other than the last exceeds 16,777,215 bytes.
     TooLong,
-    /// Memory was refused.
+    /// Out of memory.
     Memory,
 }
 

@@ -1,4 +1,4 @@
-//! A frame, as it is to be told.
+//! Chooses the coding of a frame: its header and its macroblocks.
 
 ghost use Rattle.std.specs.Prelude.{◌≡◌, ◌≤◌, Option, IfOk, IfSome, is_none, option_map};
 ghost use Rattle.vp_base.specs.declared.limits.Dim.{Dim};
@@ -20,7 +20,7 @@ use vp_decode::DecoderState;
 use vp_head::Saved;
 use vp_quant::Factors;
 
-/// Where the vectors of a frame are searched that is told over what is kept.
+/// Returns where the vectors of a frame are searched; None for a key frame.
 fn search_in<'a>(settings: &Settings, kept: Option<&'a DecoderState>) -> Option<Search<'a>>
     requires { settings.now.range ≤ 64 }
     ensures value { option_map search_of result ≡ search_in settings.now (option_map (λ k. k.now) kept.entry) }
@@ -37,7 +37,7 @@ fn search_in<'a>(settings: &Settings, kept: Option<&'a DecoderState>) -> Option<
     }
 }
 
-/// The values that a frame's header is told over.
+/// Returns the saved values that a frame's header is coded relative to; a key frame uses the defaults.
 fn saved_in(kept: Option<&DecoderState>) -> Saved
     ensures { (dim : Dim) → result ≡ (basis_over dim (option_map (λ k. k.now) kept.entry)).saved }
 {
@@ -47,8 +47,8 @@ fn saved_in(kept: Option<&DecoderState>) -> Saved
     }
 }
 
-/// Chooses a frame for the source, over what is kept: a key frame where nothing is. `golden` is whether an inter frame
-/// refreshes golden.
+/// Chooses the coding of a frame: a key frame if there is no state, else an inter frame. `golden` says whether an inter
+/// frame refreshes golden.
 pub(crate) fn choose_frame(
     alloc: Global,
     dim: Dim,

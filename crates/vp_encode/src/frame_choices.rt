@@ -1,4 +1,4 @@
-//! The macroblocks of a frame, chosen one after another.
+//! Chooses the macroblocks of a frame, in raster order.
 
 ghost use Rattle.std.specs.Prelude.{◌≡◌, ◌+◌, ◌<◌, ◌≤◌, IfOk, IfSome};
 ghost use Rattle.vp_base.specs.Grid.{Has};
@@ -17,7 +17,7 @@ use vp_motion::{Motion, Vector, VectorMap};
 use vp_tables::{ChromaMode, LumaMode, SubMode, VectorMode};
 use vp_tokens::{Block, Tokens};
 
-/// What stands for a macroblock that isn't chosen yet.
+/// Returns a placeholder for a macroblock that isn't chosen yet.
 #[tactic(auto, unfolding(crate::specs::CodedFrame::nothing, vp_modes::specs::Entry::plain))]
 fn nothing() -> Choice
     ensures { result ≡ nothing }
@@ -41,10 +41,10 @@ fn nothing() -> Choice
     }
 }
 
-/// A frame while its macroblocks are chosen, in raster order.
+/// A frame whose macroblocks are being chosen, in raster order.
 #[derive(Drop)]
 struct FrameChoices {
-    /// Those before are rebuilt, and not filtered.
+    /// The macroblocks chosen so far are rebuilt in it, and not filtered.
     picture: Picture,
     motion: VectorMap,
     chosen: Grid<Choice>,
@@ -103,7 +103,8 @@ impl FrameChoices {
     }
 }
 
-/// Chooses the macroblocks of a frame, each over the picture and the motion that those before it make.
+/// Chooses all macroblocks of a frame. Each is predicted from the reconstruction of those before it, and its vectors
+/// are coded relative to theirs.
 pub(crate) fn choose_macroblocks(
     alloc: Global,
     frame: &FrameSearch,

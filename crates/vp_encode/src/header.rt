@@ -1,4 +1,4 @@
-//! The header of a frame, by what an encoder is set to.
+//! The frame header, from the encoder's settings.
 
 ghost use Rattle.std.specs.Prelude.{◌≡◌, if◌then◌else◌};
 ghost use Rattle.vp_head.specs.Header.{no_references};
@@ -21,7 +21,7 @@ fn no_segmentation(saved: &Saved) -> Segmentation
     }
 }
 
-/// One index for all factors.
+/// Returns quantiser indices that use one index for all factors.
 pub(crate) fn quantiser(index: u8) -> QuantiserIndices
     ensures { result ≡ quantiser index }
 {
@@ -58,7 +58,7 @@ fn log2_of(partitions: u8) -> u8
     }
 }
 
-/// How the macroblocks tell their reference.
+/// Returns the probabilities of the reference frames: even ones in an inter frame.
 fn references(key: bool) -> ReferenceProbabilities
     ensures { result ≡ (if key then no_references else even) }
 {
@@ -70,8 +70,8 @@ fn references(key: bool) -> ReferenceProbabilities
     }
 }
 
-/// The header of a frame that is told over the values that are kept; a key frame is told over the defaults. `golden` is
-/// whether an inter frame refreshes golden.
+/// Returns the header of a frame, given the saved values that it is coded relative to. A key frame uses the defaults.
+/// `golden` says whether an inter frame refreshes golden.
 pub(crate) fn header_over(saved: &Saved, key: bool, golden: bool, settings: &Settings) -> Header
     ensures { result ≡ header_over saved.now key golden settings.now }
 {

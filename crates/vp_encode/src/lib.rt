@@ -1,6 +1,4 @@
-//! Frames encoded (RFC 6386, chapters 5, 9 and 19): what is chosen for them, their packets, what decoders show of
-//! them, and
-//! files of pictures as files of packets.
+//! The VP8 encoder (RFC 6386, chapters 5, 9 and 19): choices, packets, reconstructions, and whole files.
 #![tactic(auto)]
 
 mod coded_frame;

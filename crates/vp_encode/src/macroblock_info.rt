@@ -1,4 +1,4 @@
-//! What a frame's macroblocks say of themselves, written.
+//! Writes the modes and the motion of a frame's macroblocks.
 
 ghost use Rattle.std.specs.Prelude.{◌≡◌, ◌<◌, ◌≤◌, ◌+◌, ℕ, false, OnOk};
 ghost use Rattle.vp_base.specs.declared.place.Place.{Place};
@@ -23,7 +23,7 @@ use vp_head::Header;
 use vp_modes::{ModeMap, write_modes};
 use vp_motion::{VectorMap, write_motion};
 
-/// The modes and the motion of the macroblocks that are told so far.
+/// The modes and the motion of the macroblocks that are written so far.
 #[derive(Drop)]
 pub(crate) struct MacroblockInfo {
     pub modes: ModeMap,
@@ -42,7 +42,7 @@ impl Model for MacroblockInfo {
 }
 
 impl MacroblockInfo {
-    /// Writes the modes of a macroblock, and the motion of one that is predicted from another frame.
+    /// Writes the modes of a macroblock, and its motion if it is an inter macroblock.
     fn write_macroblock(
         &mut self,
         header: &Header,
@@ -99,7 +99,7 @@ impl MacroblockInfo {
         Ok(())
     }
 
-    /// Writes all macroblocks of a frame, over the modes before it and no motion.
+    /// Writes all macroblocks of a frame. Initially the info has the modes before the frame, and no motion.
     pub(crate) fn write(
         &mut self,
         coded: &CodedFrame,

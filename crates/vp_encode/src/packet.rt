@@ -1,4 +1,4 @@
-//! A frame, written as a packet.
+//! Writes a frame as a packet.
 
 ghost use Rattle.std.specs.Prelude.{◌≡◌, ◌≤◌, ◌<◌, ◌^◌, ◌-◌, ℕ, true, false, length, take, slice_index_or, [], IfOk};
 ghost use Rattle.std.specs.Prelude.{IfErr, is_some};
@@ -25,14 +25,16 @@ use vp_modes::{ModeMap, Segment};
 use vp_motion::VectorMap;
 use vp_tokens::Partitions;
 
-/// The most bytes of a first partition, which has 19 bits for its size.
+/// The maximum length of the first partition in bytes: its size has 19 bits (RFC 6386, chapter 9.1).
 const MOST_FIRST: usize = 524_287;
 
-/// The most bytes of a token partition but the last, which has 24 bits for its size.
+/// The maximum length of a token partition other than the last: its size has 24 bits (RFC 6386, chapter 9.5).
 const MOST_PART: usize = 16_777_215;
 
-/// Writes the packet of a key frame of this size: the frame tag, the first partition with the header, the modes and the
-/// motion, and the token partitions, as many as the header says. A byte of 0 stands behind each partition.
+/// Writes the packet of a key frame of this size: tag, first partition (header, modes and motion), and token
+/// partitions. The header gives the number of token partitions. Each partition ends with an additional byte of 0.
+///
+/// Errors: `TooLong`, `Memory`.
 pub fn write_key_packet(
     alloc: Global,
     dim: Dim,
@@ -55,7 +57,10 @@ pub fn write_key_packet(
     write_packet(alloc, Some(key), dim, &Saved::defaults(), before, coded)
 }
 
-/// Writes the packet of an inter frame of the size of the references, over the values and the segments that are kept.
+/// Writes the packet of an inter frame, coded relative to the saved values and the segment map. Its size must be that
+/// of the reference frames.
+///
+/// Errors: `TooLong`, `Memory`.
 pub fn write_inter_packet(
     alloc: Global,
     dim: Dim,
@@ -105,7 +110,7 @@ fn write_packet(
     Ok(ByteList::from_vec(bytes))
 }
 
-/// The first partition: the header, and what the macroblocks say of themselves.
+/// Returns the first partition: the header, the modes and the motion.
 fn write_first(
     alloc: Global,
     key: Option<KeyTag>,
@@ -139,7 +144,7 @@ fn write_first(
     Ok(bytes)
 }
 
-/// Whether each part's size can be said in 24 bits.
+/// Returns whether the size of each partition fits in 24 bits.
 fn are_short(parts: &[Vec<u8>]) -> bool
     ensures short { result ≡ true → AreBelow24Bits (lists parts.now) }
     ensures long { result ≡ false → (i : ℕ) × (i < length parts.now)
@@ -153,7 +158,7 @@ fn are_short(parts: &[Vec<u8>]) -> bool
     true
 }
 
-/// The tag, the first partition and the token partitions behind their table.
+/// Concatenates the tag, the first partition, the partition table and the token partitions.
 fn put_together(
     alloc: Global,
     key: Option<KeyTag>,

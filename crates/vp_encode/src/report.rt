@@ -1,4 +1,4 @@
-//! How the work on a source file ends.
+//! The report and the faults of encoding a file.
 
 ghost use Rattle.std.specs.Prelude.{◌≡◌, Some};
 ghost use Rattle.vp_encode.specs.Names.{encode_fault_name};
@@ -9,43 +9,43 @@ use std::fmt;
 use vp_base::Device;
 use vp_y4m::SourceFault;
 
-/// What came of a source file that was encoded.
+/// The report of encoding a file.
 #[derive(Clone, Copy, Debug, PartialEq, Eq)]
 pub struct EncodeReport {
-    /// How many pictures it has.
+    /// The number of pictures.
     pub frames: u32,
-    /// The sum of their squared distances from what their packets are decoded to, over all shown numbers of Y, U and V.
+    /// The sum of the squared errors of all pictures, over the shown pixels of Y, U and V.
     pub error: u128,
 }
 
-/// Why a source file isn't encoded to its end.
+/// The reasons for which a file can't be encoded.
 #[derive(Clone, Copy, Debug, PartialEq, Eq)]
 pub enum EncodeAllFault {
-    /// A line is longer than 1,024 bytes, or doesn't begin with its word, or a rate isn't two numbers.
+    /// A line is longer than 1,024 bytes or doesn't begin with its keyword, or a rate isn't two numbers.
     Magic,
-    /// A side is missing, isn't a number, or is refused by the limits.
+    /// The width or the height is missing, isn't a number, or exceeds the limits.
     Size,
-    /// The colours aren't 4:2:0 of 8 bits.
+    /// The colour space isn't 4:2:0 of 8 bits.
     Colour,
     /// The pictures are interlaced.
     Interlaced,
-    /// The file ends before its header's end, inside a line or inside a picture.
+    /// The file ends inside its header, a line or a picture.
     Torn,
-    /// A setting is outside its range.
+    /// A setting is out of its range.
     Settings,
     /// The file has more pictures than the limits allow packets.
     TooMany,
-    /// A frame has more bytes than its packet can tell the partitions' sizes of.
+    /// A partition is longer than the packet format allows.
     TooLong,
     /// A packet has more bytes than the limits allow.
     PacketTooLarge,
     /// A read or a write failed.
     Device,
-    /// Memory was refused.
+    /// Out of memory.
     Memory,
 }
 
-/// The fault's name, as it is told.
+/// Writes the fault's name.
 impl fmt::Display for EncodeAllFault {
     ghost output = { λ fault. Some (encode_fault_name fault) };
 

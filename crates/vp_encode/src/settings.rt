@@ -1,25 +1,24 @@
-//! What an encoder is set to.
+//! The encoder's settings.
 
-/// What an encoder is set to.
+/// The encoder's settings.
 #[derive(Clone, Copy, Debug, PartialEq, Eq)]
 pub struct Settings {
-    /// The quantiser index, 0 to 127: 0 loses least.
+    /// The quantiser index, 0 to 127; 0 is the best quality.
     pub qi: u8,
-    /// The loop filter's level, 0 to 63; 0 filters nothing.
+    /// The loop filter level, 0 to 63; 0 turns the filter off.
     pub level: u8,
-    /// The loop filter's sharpness, 0 to 7.
+    /// The loop filter sharpness, 0 to 7.
     pub sharpness: u8,
     /// Whether the simple loop filter is used.
     pub simple: bool,
-    /// How many frames there are from one key frame to the next; 1 makes each one a key frame.
+    /// The key frame interval in frames, at least 1; 1 makes each frame a key frame.
     pub key_every: u32,
-    /// How many frames there are from one golden picture to the next; with 0 golden stays that of the key frame, and
-    /// isn't searched.
+    /// The golden frame interval in frames. With 0, golden stays that of the key frame, and isn't searched.
     pub golden_every: u32,
-    /// How many whole pixels a vector goes at most, down or to the right or back; 0 to 64.
+    /// The search range in whole pixels, in each direction: 0 to 64.
     pub range: u8,
     /// Whether vectors are refined to quarter pixels.
     pub subpel: bool,
-    /// How many token partitions a packet has: 1, 2, 4 or 8.
+    /// The number of token partitions in a packet: 1, 2, 4 or 8.
     pub partitions: u8,
 }

@@ -1,4 +1,4 @@
-//! The source, continued to whole macroblocks.
+//! Pads the source to whole macroblocks.
 
 ghost use Rattle.std.specs.Prelude.{◌≡◌, ◌<◌, IfOk};
 ghost use Rattle.vp_base.specs.Image.{plane_of, with_plane};
@@ -8,9 +8,7 @@ ghost use Rattle.vp_encode.specs.Continued.{ExtendsPlane, row_continued};
 use std::alloc::{AllocError, Global};
 use vp_base::{Picture, Plane};
 
-/// Writes row `y` of plane `k`: the row of the source, or the last one of those that it has, and behind its columns
-/// the last
-/// pixel again.
+/// Writes row `y` of plane `k`: that row of the source, or its last row below it, extended by its last pixel.
 fn continue_row(
     source: &Plane,
     width: usize,
@@ -31,8 +29,7 @@ fn continue_row(
     picture.write_run(k, width, y, &behind[..source.width() - width]);
 }
 
-/// Writes plane `k`: the source's, of which so many columns and rows are shown, and all other pixels the nearest of
-/// those.
+/// Writes plane `k`: the first `width` columns and `height` rows of the source, extended by the nearest pixel.
 fn continue_plane(source: &Plane, width: usize, height: usize, k: usize, picture: &mut Picture)
     requires plane { k < 3 }
     requires size { ExtendsPlane width height source.now (plane_of picture.old k) }
@@ -43,7 +40,7 @@ fn continue_plane(source: &Plane, width: usize, height: usize, k: usize, picture
     }
 }
 
-/// The source, in which each pixel that isn't shown is the nearest one that is.
+/// Returns the source padded to whole macroblocks: each pixel that isn't shown is the nearest shown one.
 #[tactic(auto, unfolding(crate::specs::Encoder::continued))]
 pub(crate) fn continued(alloc: Global, source: &Picture) -> Result<Picture, AllocError>
     ensures value { IfOk result (λ p. p ≡ continued source.now) }

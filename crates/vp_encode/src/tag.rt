@@ -1,4 +1,4 @@
-//! The tag of a packet, written.
+//! Writes the tag of a packet.
 
 ghost use Rattle.std.specs.Prelude.{◌≡◌, ◌<◌, ◌^◌, ◌++◌, OnOk};
 ghost use Rattle.vp_encode.specs.Written.{three_bytes, two_bytes, tag_bytes};
@@ -6,7 +6,7 @@ ghost use Rattle.vp_encode.specs.Written.{three_bytes, two_bytes, tag_bytes};
 use std::alloc::AllocError;
 use vp_head::KeyTag;
 
-/// A number of 24 bits, the lowest byte first.
+/// Returns a 24-bit number, little-endian.
 fn three_bytes(number: u32) -> [u8; 3]
     requires { number < 2 ^ 24 }
     ensures { result ≡ three_bytes number }
@@ -18,16 +18,15 @@ fn three_bytes(number: u32) -> [u8; 3]
     ]
 }
 
-/// A number of 16 bits, the lowest byte first.
+/// Returns a 16-bit number, little-endian.
 fn two_bytes(number: u16) -> [u8; 2]
     ensures { result ≡ two_bytes number }
 {
     [(number % 256) as u8, (number / 256) as u8]
 }
 
-/// Puts the tag of a shown packet of version 0, whose first partition has so many bytes: a key packet's with its
-/// size, or
-/// an inter packet's (RFC 6386, chapter 9.1).
+/// Appends the tag of a shown packet of version 0 (RFC 6386, chapter 9.1). `first` is the length of the first partition
+/// in bytes; a key packet's tag also has its size.
 pub(crate) fn put_tag(
     key: Option<KeyTag>,
     first: u32,

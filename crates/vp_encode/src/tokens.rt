@@ -1,4 +1,4 @@
-//! The token partitions of a frame, written.
+//! Writes the token partitions of a frame.
 
 ghost use Rattle.std.specs.Prelude.{◌≡◌, ◌<◌, ◌≤◌, ◌+◌, ◌^◌, ℕ, length, map, slice_index_or, OnOk, IfOk};
 ghost use Rattle.vp_base.specs.Grid.{Grid};
@@ -18,7 +18,7 @@ use vp_base::Place;
 use vp_bool::BoolEncoder;
 use vp_tokens::{Contexts, write_macroblock};
 
-/// Writes the tokens of a row of macroblocks into the partition of the row.
+/// Writes the tokens of a row of macroblocks into the row's partition.
 fn write_row(
     coded: &CodedFrame,
     row: usize,
@@ -50,8 +50,7 @@ fn write_row(
     Ok(())
 }
 
-/// Writes the tokens of all rows, each into the partition whose number is that of the row modulo the number of
-/// partitions.
+/// Writes the tokens of all rows. Row r goes into partition r modulo the number of partitions (RFC 6386, chapter 9.5).
 fn write_rows(
     coded: &CodedFrame,
     contexts: &mut Contexts,
@@ -74,7 +73,7 @@ fn write_rows(
     Ok(())
 }
 
-/// So many encoders.
+/// Creates `count` encoders.
 fn new_encoders(alloc: Global, count: usize) -> Result<Vec<BoolEncoder>, AllocError>
     ensures count { IfOk result (λ v. length v.items ≡ count) }
     ensures empty { IfOk result (λ v. (i : ℕ) → i < count → slice_index_or v.items i whole_interval ≡ whole_interval) }
@@ -86,7 +85,7 @@ fn new_encoders(alloc: Global, count: usize) -> Result<Vec<BoolEncoder>, AllocEr
     Ok(encoders)
 }
 
-/// The partition of what was written, and a byte of 0 behind it: readers that look ahead find one.
+/// Finishes a partition, and appends a byte of 0 for readers that look ahead.
 pub(crate) fn finish(encoder: BoolEncoder) -> Result<Vec<u8>, AllocError>
     ensures { IfOk result (λ v. v.items ≡ finished encoder) }
 {
@@ -95,7 +94,7 @@ pub(crate) fn finish(encoder: BoolEncoder) -> Result<Vec<u8>, AllocError>
     Ok(bytes)
 }
 
-/// The partitions of what was written.
+/// Finishes all partitions.
 fn finish_all(alloc: Global, encoders: Vec<BoolEncoder>) -> Result<Vec<Vec<u8>>, AllocError>
     ensures { IfOk result (λ v. lists v.items ≡ map finished encoders.items) }
 {
@@ -107,7 +106,7 @@ fn finish_all(alloc: Global, encoders: Vec<BoolEncoder>) -> Result<Vec<Vec<u8>>,
     Ok(parts)
 }
 
-/// The token partitions of a frame, as many as its header says.
+/// Returns the token partitions of a frame, as many as its header says.
 pub(crate) fn write_tokens(alloc: Global, coded: &CodedFrame) -> Result<Vec<Vec<u8>>, AllocError>
     requires few { coded.now.header.log2_partitions ≤ 3 }
     requires spelled { AreTokensSpelled coded.now }
@@ -120,7 +119,7 @@ pub(crate) fn write_tokens(alloc: Global, coded: &CodedFrame) -> Result<Vec<Vec<
     Ok(parts)
 }
 
-/// How many token partitions there are.
+/// Returns the number of token partitions.
 fn partition_count(log2: u8) -> usize
     requires { log2 ≤ 3 }
     ensures value { result ≡ count_of log2 }

@@ -1,4 +1,4 @@
-//! Three packets, each behind a key packet; one byte of one takes each of its values.
+//! Tests of three packets, each after a key packet, with one byte set to each of its 256 values.
 
 ghost use Rattle.std.specs.Prelude.{◌≡◌, ◌<◌, ◌≤◌, ◌^◌, Some, None, true, false, length};
 ghost use Rattle.vp_head.specs.declared.fault.PacketFault.{PacketFault};
@@ -11,32 +11,31 @@ use vp_base::Limits;
 use vp_decode::{Decoder, Outcome};
 use vp_head::PacketFault;
 
-/// How many bytes the three packets have.
+/// The length of the three packets in bytes.
 const SIZE: usize = 38;
 
-/// From 0 a key packet of 16 by 16 pixels without a bool; from 10 an inter packet without a bool; from 13 an inter
-/// packet
-/// whose first partition is one byte of ones, so that all its bools are 1: it has eight token partitions, whose sizes
-/// stand in 21 bytes from 17 on. They are all 0.
+/// From byte 0 a key packet of 16 by 16 pixels with an empty first partition. From 10 an inter packet with an empty
+/// first partition. From 13 an inter packet whose first partition is one byte of ones, so that all its bools are 1.
+/// That packet has eight token partitions, whose sizes are in the 21 bytes from 17 on; all of them are 0.
 const PACKETS: [u8; SIZE] = [
     0x10, 0, 0, 0x9d, 0x01, 0x2a, 0x10, 0, 0x10, 0, 0x11, 0, 0, 0x31, 0, 0, 0xff, 0, 0, 0, 0, 0, 0,
     0, 0, 0, 0, 0, 0, 0, 0, 0, 0, 0, 0, 0, 0, 0,
 ];
 
-/// The most pixels of a picture.
+/// The maximum number of pixels of a picture.
 const PIXELS: u32 = 1_024;
 
-/// What the first three bytes of a packet say (RFC 6386, chapter 9.1).
+/// The fields in the first three bytes of a packet (RFC 6386, chapter 9.1).
 #[derive(Clone, Copy)]
 struct Tag {
     key: bool,
     version: u8,
     shown: bool,
-    /// How many bytes the first partition has.
+    /// The length of the first partition in bytes.
     first: usize,
 }
 
-/// The bits of the first three bytes, lowest first: one, three, one and nineteen of them.
+/// Splits the bits of the first three bytes, lowest first: one, three, one and nineteen bits.
 fn tag_of(packet: &[u8]) -> Tag
     requires { 3 ≤ length packet.now }
     ensures version { result.version < 8 }
@@ -51,7 +50,7 @@ fn tag_of(packet: &[u8]) -> Tag
     }
 }
 
-/// The fault of what a key packet has behind its tag, in the order of the standard; a side has fourteen bits.
+/// Returns the fault of a key packet's start code and size, in the order of the RFC; a side has fourteen bits.
 fn key_fault(packet: &[u8]) -> Option<PacketFault>
     ensures { length packet.now < 10 → result ≡ Some PacketFault.Truncated }
 {
@@ -70,9 +69,8 @@ fn key_fault(packet: &[u8]) -> Option<PacketFault>
     }
 }
 
-/// The fault of a packet's tag, of what a key packet has behind it, and of the first partition's size, in that
-/// order, where
-/// a key packet was shown before.
+/// Returns the fault of a packet's tag, of a key packet's start code and size, or of the first partition's size, in
+/// that order. A key packet was shown before.
 fn tag_fault(packet: &[u8]) -> Option<PacketFault>
     requires { 3 ≤ length packet.now }
 {
@@ -91,11 +89,10 @@ fn tag_fault(packet: &[u8]) -> Option<PacketFault>
     None
 }
 
-/// The fault of the first packet behind its tag, if that is one of an inter packet whose first partition fits. What
-/// stands
-/// for a start code and a size is then that partition: its bools say four or eight token partitions, whose sizes
-/// take nine
-/// or 21 bytes, and six at most are left. An empty one says one token partition.
+/// Returns the fault of the first packet after its tag, if that has become the tag of an inter packet whose first
+/// partition fits. The bytes of the start code and the size are then that partition. Its bools give four or eight token
+/// partitions, whose sizes take nine or 21 bytes, and at most six are left. An empty partition gives one token
+/// partition.
 fn turned_fault(packet: &[u8]) -> Option<PacketFault>
     requires { 3 ≤ length packet.now }
 {
@@ -106,9 +103,8 @@ fn turned_fault(packet: &[u8]) -> Option<PacketFault>
     Some(PacketFault::PartitionTable)
 }
 
-/// The fault of the third packet behind its tag, which says a first partition that fits. One of ones that has more
-/// than one
-/// byte leaves no room for the table; a size that isn't 0 passes the end, since nothing is left.
+/// Returns the fault of the third packet after its tag, if its first partition fits. A partition of ones with more than
+/// one byte leaves no room for the partition table. A size other than 0 extends past the end, because nothing is left.
 fn table_fault(packet: &[u8], at: usize) -> Option<PacketFault>
     requires long { length packet.now ≡ 25 }
     requires inside { at < 25 }
@@ -122,7 +118,7 @@ fn table_fault(packet: &[u8], at: usize) -> Option<PacketFault>
     None
 }
 
-/// What comes of a packet of this fault and this tag.
+/// Returns the outcome of a packet with this fault and this tag.
 fn outcome_by(fault: Option<PacketFault>, tag: Tag) -> Outcome
     ensures fault { (f : PacketFault) → fault ≡ Some f → result ≡ Outcome.Fault f }
     ensures shown { fault ≡ None → tag.shown ≡ true → result ≡ Outcome.Shown }
@@ -135,7 +131,7 @@ fn outcome_by(fault: Option<PacketFault>, tag: Tag) -> Outcome
     }
 }
 
-/// What comes of the packet that byte `at` was changed in, behind a key packet.
+/// Returns the outcome of the packet in which byte `at` was changed, after a key packet.
 fn changed_outcome(packet: &[u8], at: usize) -> Outcome
     requires first { at < 10 → length packet.now ≡ 10 }
     requires second { 10 ≤ at → at < 13 → length packet.now ≡ 3 }
@@ -149,7 +145,7 @@ fn changed_outcome(packet: &[u8], at: usize) -> Outcome
     outcome_by(fault, tag_of(packet))
 }
 
-/// The packet that byte `at` stands in.
+/// Returns the packet that contains byte `at`.
 fn packet_of(bytes: &[u8; SIZE], at: usize) -> &[u8]
     ensures first { at < 10 → length result.now ≡ 10 }
     ensures second { 10 ≤ at → at < 13 → length result.now ≡ 3 }
@@ -162,7 +158,7 @@ fn packet_of(bytes: &[u8; SIZE], at: usize) -> &[u8]
     }
 }
 
-/// What comes of an inter packet behind one of which this came.
+/// Returns the outcome of an inter packet after a packet with this outcome.
 fn outcome_behind(outcome: Outcome) -> Outcome
     ensures { (f : PacketFault) → outcome ≡ Outcome.Fault f → result ≡ Outcome.Fault PacketFault.NoReference }
 {
@@ -172,7 +168,7 @@ fn outcome_behind(outcome: Outcome) -> Outcome
     }
 }
 
-/// Whether this comes of a packet.
+/// Returns whether a packet has this outcome.
 fn gives(decoder: &mut Decoder, packet: &[u8], wanted: Outcome) -> bool {
     match decoder.decode(packet) {
         Ok(outcome) => outcome == wanted,
@@ -180,7 +176,7 @@ fn gives(decoder: &mut Decoder, packet: &[u8], wanted: Outcome) -> bool {
     }
 }
 
-/// Whether the decoder shows the picture of the key packet.
+/// Returns whether the decoder shows the picture of the key packet.
 fn shows_key(alloc: Global, decoder: &Decoder) -> bool {
     let Some(picture) = decoder.picture() else {
         return false;
@@ -191,9 +187,8 @@ fn shows_key(alloc: Global, decoder: &Decoder) -> bool {
     }
 }
 
-/// Whether the packet that byte `at` stands in, that byte being this one, comes to what it should behind a key
-/// packet, and so
-/// an inter packet behind it, and the key packet behind that to its picture.
+/// Sets byte `at` to a value, and decodes a key packet, the changed packet, an inter packet and the key packet. Returns
+/// whether all outcomes and the last picture are as expected.
 fn stands(alloc: Global, at: usize, value: u8) -> bool
     requires { at < SIZE }
 {
@@ -212,7 +207,7 @@ fn stands(alloc: Global, at: usize, value: u8) -> bool
         && shows_key(alloc, &decoder)
 }
 
-/// The first value of byte `at` at which something else comes of the packets.
+/// Returns the first value of byte `at` with other outcomes than expected.
 fn first_wrong(alloc: Global, at: usize) -> Option<u8>
     requires { at < SIZE }
 {

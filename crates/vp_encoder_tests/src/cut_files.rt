@@ -1,5 +1,4 @@
-//! A file that is cut at each of its lengths: what is counted, what is written, and how it ends follow from where its
-//! packets stand.
+//! Tests of a file cut at each of its lengths: counts, output and result follow from the positions of its packets.
 
 ghost use Rattle.std.specs.Prelude.{◌≡◌, ◌≤◌, IfSome};
 ghost use Rattle.vp_ivf.specs.declared.fault.FileFault.{FileFault};
@@ -12,7 +11,7 @@ use vp_head::PacketFault;
 use vp_ivf::FileFault;
 use vp_stream::{DecodeFault, Form, Report, Survey, decode_all, survey};
 
-/// The fault of the file's first bytes.
+/// Returns the fault of the file's first `length` bytes.
 fn fault_of(length: usize) -> Option<FileFault>
     ensures { IfSome result (λ fault. fault ≡ FileFault.Torn) }
 {
@@ -23,7 +22,7 @@ fn fault_of(length: usize) -> Option<FileFault>
     }
 }
 
-/// Whether a survey of the file's first bytes has the packets that are whole, and their fault.
+/// Returns whether a survey of the file's first bytes has the whole packets, and the expected fault.
 fn is_survey_of(found: &Survey, length: usize) -> bool {
     let packets = packets_in(length);
     found.head.is_some() == (length >= 32)
@@ -31,7 +30,7 @@ fn is_survey_of(found: &Survey, length: usize) -> bool {
         && found.packets.as_slice() == &PACKETS[..packets]
 }
 
-/// Whether the file's first bytes, read in pieces of so many bytes, are surveyed as what they are.
+/// Returns whether the file's first bytes, read in pieces of `size` bytes, have the expected survey.
 fn surveys(alloc: Global, length: usize, size: usize) -> bool
     requires { length ≤ SIZE }
 {
@@ -45,7 +44,7 @@ fn surveys(alloc: Global, length: usize, size: usize) -> bool
     }
 }
 
-/// The numbers are those of the packets; the one with a fault is the fourth.
+/// Returns whether the report has the numbers of these packets; only the fourth one has a fault.
 fn is_report_of(report: &Report, packets: usize) -> bool {
     let faults = [(3, PacketFault::Truncated)];
     let count = if packets < 4 { 0 } else { 1 };
@@ -57,7 +56,7 @@ fn is_report_of(report: &Report, packets: usize) -> bool {
         && report.faults.as_slice() == &faults[..count]
 }
 
-/// Whether the decoding of the file's first bytes ends as it should.
+/// Returns whether decoding the file's first bytes ends as expected.
 fn is_end_of(end: &Result<Report, DecodeFault>, length: usize) -> bool {
     match end {
         Ok(report) => is_whole(length) && is_report_of(report, packets_in(length)),
@@ -65,8 +64,8 @@ fn is_end_of(end: &Result<Report, DecodeFault>, length: usize) -> bool {
     }
 }
 
-/// Whether the file's first bytes, read in pieces of so many bytes, are decoded to the pictures of the packets that
-/// are whole.
+/// Returns whether the file's first bytes, read in pieces of `size` bytes, are decoded to the pictures of the whole
+/// packets.
 fn decodes(alloc: Global, length: usize, size: usize) -> bool
     requires { length ≤ SIZE }
 {

@@ -1,4 +1,4 @@
-//! Frames by themselves: packets written of what is chosen, and pictures encoded.
+//! Tests of single frames: packets written from given choices, and encoded pictures.
 
 ghost use Rattle.std.specs.Prelude.{◌≡◌, ◌≤◌, true, false, IsSome, IfOk};
 ghost use Rattle.vp_base.specs.declared.place.Place.{Place};
@@ -39,7 +39,7 @@ use vp_motion::{Motion, Vector};
 use vp_tables::{ChromaMode, LumaMode, SubMode, VectorMode};
 use vp_tokens::{Block, Tokens};
 
-/// A header over the defaults with quantiser index 0, without a loop filter.
+/// Returns a header relative to the defaults, with quantiser index 0 and without a loop filter.
 fn header(key: bool, log2_partitions: u8) -> Header
     requires { log2_partitions ≤ 3 }
     ensures spelled { IsWritableHeader key defaults result }
@@ -92,7 +92,7 @@ fn header(key: bool, log2_partitions: u8) -> Header
     }
 }
 
-/// Without levels and motion, and skipped.
+/// Returns a skipped macroblock without levels and motion.
 fn macroblock(reference: Reference, luma: LumaMode) -> Choice
     requires { is_by_subblocks luma ≡ false }
     ensures intra { reference ≡ Intra → (h : Header) (g : Grid Modes) (p : Place) → h.key ≡ true → IsSome h.skip
@@ -124,7 +124,7 @@ fn macroblock(reference: Reference, luma: LumaMode) -> Choice
     }
 }
 
-/// A key frame of one column of so many skipped macroblocks of one luma mode.
+/// Returns a key frame of one column of `rows` skipped macroblocks with one luma mode.
 fn column_of(
     alloc: Global,
     log2_partitions: u8,
@@ -145,7 +145,7 @@ fn column_of(
     })
 }
 
-/// An inter frame of one macroblock that stays as it is in the last picture.
+/// Returns an inter frame of one macroblock that is copied from the last frame.
 fn still_frame(alloc: Global) -> Result<CodedFrame, AllocError>
     ensures columns { IfOk result (λ c. c.macroblocks.columns ≡ 1) }
     ensures rows { IfOk result (λ c. c.macroblocks.rows ≡ 1) }
@@ -158,9 +158,8 @@ fn still_frame(alloc: Global) -> Result<CodedFrame, AllocError>
     })
 }
 
-/// A skipped macroblock whose subblocks are predicted left and down, and vertical right, as the fields of a
-/// chessboard are
-/// white and black: side by side, no others take more bools to be told.
+/// Returns a skipped macroblock whose subblock modes are LD and VR alternately, like the fields of a chessboard. No
+/// other adjacent modes take more bools to code.
 fn chessboard() -> Choice
     ensures spelled { (h : Header) (g : Grid Modes) (p : Place) → h.key ≡ true → IsSome h.skip
         → modes_spelled h g p result.modes }
@@ -187,7 +186,7 @@ fn chessboard() -> Choice
     }
 }
 
-/// The key packet of a frame of this size that has no other macroblocks.
+/// Returns the key packet of a frame of this size in which all macroblocks are such.
 fn chessboard_packet(alloc: Global, dim: Dim) -> Result<ByteList, PacketError> {
     let columns = usize::from(dim.mb_cols());
     let rows = usize::from(dim.mb_rows());
@@ -199,7 +198,7 @@ fn chessboard_packet(alloc: Global, dim: Dim) -> Result<ByteList, PacketError> {
     write_key_packet(alloc, dim, &coded)
 }
 
-/// The luma of the first column, one pixel of each row of macroblocks, as the decoder shows it behind this packet.
+/// Returns the luma of the first column after this packet, one pixel for each row of macroblocks.
 fn first_column(
     alloc: Global,
     decoder: &mut Decoder,
@@ -216,7 +215,7 @@ fn first_column(
     Ok(found)
 }
 
-/// Whether a new decoder shows these packets one behind the other, each with this luma in the first column.
+/// Returns whether a new decoder shows these packets, one after another, each with this luma in the first column.
 fn show_column(alloc: Global, packets: &[&ByteList], wanted: &[u8]) -> Result<bool, AllocError> {
     let mut decoder = Decoder::new(alloc, Limits::usual());
     for packet in packets {
@@ -227,7 +226,7 @@ fn show_column(alloc: Global, packets: &[&ByteList], wanted: &[u8]) -> Result<bo
     Ok(true)
 }
 
-/// The key packet of one macroblock of this mode.
+/// Returns the key packet of one macroblock with this mode.
 fn one_macroblock(alloc: Global, luma: LumaMode) -> Result<ByteList, Fail>
     requires { is_by_subblocks luma ≡ false }
 {
@@ -243,7 +242,7 @@ fn flat_macroblock(rt: HostRuntime) -> Result<(), Fail> {
     Ok(())
 }
 
-/// The key packet of nine macroblocks, one below the other, in eight partitions.
+/// Returns the key packet of nine macroblocks, one below another, in eight partitions.
 fn nine_macroblocks(alloc: Global) -> Result<ByteList, Fail> {
     let coded = column_of(alloc, 3, 9, LumaMode::Dc)?;
     let dim = Dim::new(16, 144, &Limits::usual())?;
@@ -257,7 +256,7 @@ fn eight_partitions(rt: HostRuntime) -> Result<(), Fail> {
     Ok(())
 }
 
-/// The packet of the still frame.
+/// Returns the packet of the still frame.
 fn still_packet(alloc: Global) -> Result<ByteList, Fail> {
     let dim = Dim::new(16, 16, &Limits::usual())?;
     let still = still_frame(alloc)?;
@@ -265,7 +264,7 @@ fn still_packet(alloc: Global) -> Result<ByteList, Fail> {
     Ok(write_inter_packet(alloc, dim, &Saved::defaults(), &segments, &still)?)
 }
 
-/// Above a frame stands 127, which a still inter frame keeps; an intra one would have 128.
+/// The pixels above a frame are 127, which a still inter frame keeps; an intra frame would have 128.
 #[test]
 fn still_frame_keeps_last(rt: HostRuntime) -> Result<(), Fail> {
     let key = one_macroblock(rt.alloc(), LumaMode::V)?;
@@ -274,9 +273,8 @@ fn still_frame_keeps_last(rt: HostRuntime) -> Result<(), Fail> {
     Ok(())
 }
 
-/// The first partition of one row of macroblocks less has 522,769 bytes, and this one 526,703, by a script apart
-/// from this
-/// program; its size has 19 bits.
+/// With one row of macroblocks less, the first partition has 522,769 bytes; this one has 526,703, according to an
+/// independent script. Its size field has 19 bits.
 #[test]
 fn first_partition_too_long(rt: HostRuntime) -> Result<(), Fail> {
     let fits = Dim::new(2400, 2128, &Limits::usual())?;
@@ -287,12 +285,12 @@ fn first_partition_too_long(rt: HostRuntime) -> Result<(), Fail> {
     Ok(())
 }
 
-/// The lowest bit of an inter packet is 1.
+/// Returns whether a packet is an inter packet, by its lowest bit (RFC 6386, chapter 9.1).
 fn is_inter(packet: &ByteList) -> bool {
     packet.as_slice().first().is_some_and(|byte| byte % 2 == 1)
 }
 
-/// The pixels that the decoder shows for a packet.
+/// Returns the pixels that the decoder shows for a packet.
 fn shown(alloc: Global, decoder: &mut Decoder, packet: &ByteList) -> Result<Vec<u8>, AllocError> {
     if decoder.decode(packet.as_slice())? == Outcome::Shown {
         if let Some(picture) = decoder.picture() {
@@ -302,12 +300,12 @@ fn shown(alloc: Global, decoder: &mut Decoder, packet: &ByteList) -> Result<Vec<
     Ok(Vec::new(alloc))
 }
 
-/// Whether each pixel of a picture of 16 by 16 pixels has this value.
+/// Returns whether each pixel of a picture of 16 by 16 pixels has this value.
 fn is_all(alloc: Global, picture: &Picture, value: u8) -> Result<bool, AllocError> {
     Ok(picture.crop_i420(alloc)?.as_slice() == [value; 384].as_slice())
 }
 
-/// The modes of the first macroblock of a key packet.
+/// Returns the modes of the first macroblock of a key packet.
 fn first_modes(alloc: Global, dim: Dim, packet: &ByteList) -> Option<Modes> {
     let bytes = packet.as_slice();
     let tag = Tag::read(bytes, &Limits::usual()).ok()?;
@@ -320,19 +318,19 @@ fn first_modes(alloc: Global, dim: Dim, packet: &ByteList) -> Option<Modes> {
     Some(read_modes(&header, &map, Place { column: 0, row: 0 }, &mut d))
 }
 
-/// Whether a macroblock is skipped, with DC modes.
+/// Returns whether a macroblock is skipped, with DC modes.
 fn is_flat(modes: &Modes) -> bool {
     modes.skip && modes.luma == LumaMode::Dc && modes.chroma == ChromaMode::Dc
 }
 
-/// Whether a packet shows a picture of 16 by 16 pixels that is 128 everywhere.
+/// Returns whether a packet shows a picture of 16 by 16 pixels that is 128 everywhere.
 fn shows_flat(alloc: Global, packet: &ByteList) -> Result<bool, AllocError> {
     let mut decoder = Decoder::new(alloc, Limits::usual());
     let pixels = shown(alloc, &mut decoder, packet)?;
     Ok(pixels.as_slice() == [128; 384].as_slice())
 }
 
-/// Whether an inter packet does so behind the first one.
+/// Returns whether an inter packet shows such a picture after the first packet.
 fn shows_flat_behind(
     alloc: Global,
     first: &ByteList,
@@ -344,7 +342,7 @@ fn shows_flat_behind(
     Ok(is_inter(second) && pixels.as_slice() == [128; 384].as_slice())
 }
 
-/// The next packet, where nothing is lost.
+/// Returns the next packet, if the reconstruction is exact.
 fn next_packet(encoder: &mut Encoder, source: &Picture) -> Option<ByteList> {
     match encoder.encode(source) {
         Ok(encoded) if encoded.squared_error == 0 => Some(encoded.packet),
@@ -352,21 +350,21 @@ fn next_packet(encoder: &mut Encoder, source: &Picture) -> Option<ByteList> {
     }
 }
 
-/// The next two packets, where nothing is lost.
+/// Returns the next two packets, if the reconstructions are exact.
 fn two_packets(encoder: &mut Encoder, source: &Picture) -> Option<(ByteList, ByteList)> {
     let key = next_packet(encoder, source)?;
     let inter = next_packet(encoder, source)?;
     Some((key, inter))
 }
 
-/// The first two packets of a picture of 16 by 16 pixels that is 128 everywhere.
+/// Returns the first two packets of a picture of 16 by 16 pixels that is 128 everywhere.
 fn flat_packets(alloc: Global, dim: Dim) -> Option<(ByteList, ByteList)> {
     let source = Picture::new(alloc, dim, 128).ok()?;
     let mut encoder = Encoder::new(alloc, dim, settings(0, 1)).ok()?;
     two_packets(&mut encoder, &source)
 }
 
-/// Whether the first macroblock of a key packet is skipped, with DC modes.
+/// Returns whether the first macroblock of a key packet is skipped, with DC modes.
 fn begins_flat(alloc: Global, dim: Dim, packet: &ByteList) -> bool {
     match first_modes(alloc, dim, packet) {
         Some(modes) => is_flat(&modes),
@@ -412,13 +410,13 @@ fn settings_and_events_refused(rt: HostRuntime) -> Result<(), Fail> {
     Ok(())
 }
 
-/// What kind of packet it is.
+/// The kind of a packet.
 #[derive(Clone, Copy, Debug, PartialEq, Eq)]
 enum Kind {
     Key,
     /// An inter packet that refreshes golden.
     Golden,
-    /// One that doesn't.
+    /// An inter packet that doesn't refresh golden.
     Plain,
     Other,
 }
@@ -441,7 +439,7 @@ fn kind_of(packet: &[u8]) -> Kind {
     }
 }
 
-/// The kinds of the packets of a flat picture that is encoded four times, each without an error.
+/// Encodes a flat picture four times without an error, and returns the kinds of the packets.
 fn four_kinds(alloc: Global, settings: Settings) -> Result<[Kind; 4], Fail> {
     let dim = Dim::new(16, 16, &Limits::usual())?;
     let source = Picture::new(alloc, dim, 128)?;

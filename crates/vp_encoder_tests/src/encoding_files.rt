@@ -1,4 +1,4 @@
-//! Whole files: what is written, and what is refused.
+//! Tests of encoding whole files: the output, and the faults.
 
 ghost use Rattle.std.specs.Prelude.{◌≡◌, false};
 
@@ -8,16 +8,16 @@ use std::test::Fail;
 use vp_base::{Counted, FailAt, Limits};
 use vp_encode::{EncodeAllFault, Settings, Watcher, encode_all, encode_all_watched};
 
-/// The line of a source of 16 by 16 pixels, 30 pictures a second.
+/// The header line of a source of 16 by 16 pixels, 30 pictures a second.
 const LINE: &[u8] = b"YUV4MPEG2 W16 H16 F30:1\n";
 
-/// An IVF file of that size and rate without a packet.
+/// An IVF file of that size and rate without packets.
 const EMPTY: [u8; 32] = [
     0x44, 0x4b, 0x49, 0x46, 0, 0, 0x20, 0, 0x56, 0x50, 0x38, 0x30, 0x10, 0, 0x10, 0, 0x1e, 0, 0, 0,
     1, 0, 0, 0, 0, 0, 0, 0, 0, 0, 0, 0,
 ];
 
-/// The source of so many pictures of 128.
+/// Returns a source of `pictures` pictures, all 128.
 fn source(alloc: Global, pictures: u32) -> Result<Vec<u8>, AllocError> {
     let mut bytes = LINE.to_vec(alloc)?;
     for _ in 0..pictures {
@@ -41,7 +41,7 @@ fn settings(qi: u8) -> Settings {
     }
 }
 
-/// The limits with so many packets of so many bytes.
+/// Returns limits of this number of packets of this length.
 fn limits(packet_bytes: u32, packets: u32) -> Limits {
     let usual = Limits::usual();
     match Limits::new(usual.pixels, packet_bytes, packets, usual.cache) {
@@ -50,7 +50,7 @@ fn limits(packet_bytes: u32, packets: u32) -> Limits {
     }
 }
 
-/// What encoding a source comes to, and how many bytes are written.
+/// Returns the result of encoding a source, and the number of bytes written.
 fn ends(
     alloc: Global,
     source: &[u8],
@@ -66,7 +66,7 @@ fn ends(
     (end, writer.into_inner().len())
 }
 
-/// The same for a fault.
+/// Returns the fault of encoding a source, and the number of bytes written.
 fn refused(
     alloc: Global,
     source: &[u8],
@@ -133,7 +133,7 @@ fn sources_are_refused(rt: HostRuntime) -> Result<(), Fail> {
     Ok(())
 }
 
-/// What is wrong with a source at a reader that fails after so many reads.
+/// Returns the fault of a source, with a reader that fails after this number of reads.
 fn read_until(alloc: Global, source: &[u8], reads: u64) -> Option<EncodeAllFault> {
     let mut reader = Counted::new(FailAt::new(source, reads));
     let mut writer = Counted::new(Vec::new(alloc));
@@ -160,8 +160,8 @@ fn fails_at_each_read(rt: HostRuntime) -> Result<(), Fail> {
     Ok(())
 }
 
-/// The line's 24 bytes and the next line's 6 are read one by one, then 16 rows of Y, 8 of U and 8 of V, and then
-/// the end.
+/// The header line's 24 bytes and the frame line's 6 are read one by one, then 16 rows of Y, 8 of U and 8 of V. One
+/// more read finds the end.
 #[test]
 fn reads_are_counted(rt: HostRuntime) -> Result<(), Fail> {
     let bytes = source(rt.alloc(), 1)?;
@@ -195,7 +195,7 @@ fn fails_at_the_first_write(rt: HostRuntime) -> Result<(), Fail> {
     Ok(())
 }
 
-/// Keeps the numbers that it is told, unless memory is refused.
+/// A progress callback that records the numbers it receives, unless memory runs out.
 #[derive(Drop)]
 struct Keeping {
     numbers: Vec<u32>,
@@ -212,7 +212,8 @@ impl Watcher for Keeping {
     }
 }
 
-/// What is wrong with a source of three pictures under these limits, and what a watcher is told.
+/// Returns the fault of a source of three pictures under these limits, and the numbers that the progress callback
+/// receives.
 fn told(alloc: Global, limits: Limits) -> Result<(Option<EncodeAllFault>, Vec<u32>), AllocError> {
     let bytes = source(alloc, 3)?;
     let mut reader = Counted::new(bytes.as_slice());
@@ -284,7 +285,7 @@ fn too_many_pictures(rt: HostRuntime) -> Result<(), Fail> {
     Ok(())
 }
 
-/// Rows of points of 255 on 64, of which a large quantiser loses much.
+/// Rows of points of 255 on 64: a large quantiser index loses many of them.
 const POINTS: [[u8; 40]; 4] = [
     [
         64, 64, 64, 64, 64, 64, 64, 64, 64, 64, 64, 64, 64, 64, 64, 64, 64, 64, 64, 64, 64, 64, 64,
@@ -304,7 +305,7 @@ const POINTS: [[u8; 40]; 4] = [
     ],
 ];
 
-/// Adds a row of points `count` times.
+/// Appends a row of points `count` times.
 fn add_row(bytes: &mut Vec<u8>, row: &[u8; 40], count: u32) -> Result<(), AllocError> {
     for _ in 0..count {
         bytes.extend_from_slice(row)?;
@@ -312,7 +313,7 @@ fn add_row(bytes: &mut Vec<u8>, row: &[u8; 40], count: u32) -> Result<(), AllocE
     Ok(())
 }
 
-/// Adds 1,264 rows of points, each repeated as often as `count` says.
+/// Appends 1,264 rows of points, each repeated `count` times.
 fn add_rows(bytes: &mut Vec<u8>, count: u32) -> Result<(), AllocError> {
     for row in 0..1264usize {
         add_row(bytes, &POINTS[row % 4], count)?;
@@ -328,7 +329,7 @@ fn points(alloc: Global) -> Result<Vec<u8>, AllocError> {
     Ok(bytes)
 }
 
-/// Both numbers are those of an encoder that was written apart from this one.
+/// Both numbers come from an independent encoder.
 #[test]
 fn an_error_of_over_32_bits(rt: HostRuntime) -> Result<(), Fail> {
     let bytes = points(rt.alloc())?;

@@ -1,4 +1,4 @@
-//! What is encoded of a source: the pixels that are shown, continued by the nearest of them, and a sum over them alone.
+//! Tests of the encoder's source: its padding by the nearest shown pixels, and an error over shown pixels only.
 
 use crate::check::equal;
 use crate::worked_rows::{encoded, settings};
@@ -6,14 +6,14 @@ use std::alloc::{AllocError, Global};
 use std::test::Fail;
 use vp_base::{Dim, Limits, Picture};
 
-/// Changes a pixel, where there is one.
+/// Sets a pixel, if it exists.
 fn put(picture: &mut Picture, k: usize, x: usize, y: usize, value: u8) {
     if k < 3 && x < picture.plane(k).width() && y < picture.plane(k).height() {
         picture.set(k, x, y, value);
     }
 }
 
-/// A pixel, where there is one.
+/// Returns a pixel, if it exists.
 fn pixel(picture: &Picture, k: usize, x: usize, y: usize) -> Option<u8> {
     if k < 3 && x < picture.plane(k).width() && y < picture.plane(k).height() {
         return Some(picture.plane(k).get(x, y));
@@ -21,7 +21,7 @@ fn pixel(picture: &Picture, k: usize, x: usize, y: usize) -> Option<u8> {
     None
 }
 
-/// The luma of the last shown column, of one beside it, and of the last corner.
+/// Returns the luma of the last shown column, of one after it, and of the last corner.
 fn first_luma(picture: &Picture) -> [Option<u8>; 3] {
     [
         pixel(picture, 0, 16, 0),
@@ -30,7 +30,7 @@ fn first_luma(picture: &Picture) -> [Option<u8>; 3] {
     ]
 }
 
-/// Luma below what is shown, in two columns, U in its last column and beside it, and the last corner of V.
+/// Returns luma below the shown pixels, in two columns; U in its last column and after it; and the last corner of V.
 fn other_pixels(picture: &Picture) -> [Option<u8>; 5] {
     [
         pixel(picture, 0, 3, 7),
@@ -41,7 +41,7 @@ fn other_pixels(picture: &Picture) -> [Option<u8>; 5] {
     ]
 }
 
-/// A picture of 17 by 1 pixels with other values where nothing is shown.
+/// Returns a picture of 17 by 1 pixels with other values in the padding.
 fn narrow(alloc: Global) -> Result<Picture, Fail> {
     let dim = Dim::new(17, 1, &Limits::usual())?;
     let mut source = Picture::new(alloc, dim, 5)?;
@@ -52,7 +52,7 @@ fn narrow(alloc: Global) -> Result<Picture, Fail> {
     Ok(source)
 }
 
-/// Each macroblock is of one value in each plane, so the reconstruction is the continued source.
+/// Each macroblock has one value in each plane, so the reconstruction is the padded source.
 #[test]
 fn source_is_continued(rt: HostRuntime) -> Result<(), Fail> {
     let source = narrow(rt.alloc())?;
@@ -64,7 +64,7 @@ fn source_is_continued(rt: HostRuntime) -> Result<(), Fail> {
     Ok(())
 }
 
-/// The sum of the squared differences of the shown pixels.
+/// Returns the sum of the squared differences of the shown pixels.
 fn distance(alloc: Global, a: &Picture, b: &Picture) -> Result<u64, AllocError> {
     let [a, b] = [a.crop_i420(alloc)?, b.crop_i420(alloc)?];
     let mut sum = 0u64;
@@ -75,7 +75,7 @@ fn distance(alloc: Global, a: &Picture, b: &Picture) -> Result<u64, AllocError> 
     Ok(sum)
 }
 
-/// At the coarsest factors the reconstruction is another picture, and what isn't shown differs most.
+/// With the largest factors the reconstruction differs from the source, most of all in the padding.
 #[test]
 fn error_over_shown_pixels(rt: HostRuntime) -> Result<(), Fail> {
     let source = narrow(rt.alloc())?;

@@ -1,6 +1,5 @@
-//! Readers and writers of which each call fails in turn: what is answered, and how much was written, follow from
-//! where the
-//! parts of the files stand.
+//! Tests of readers and writers whose calls fail one by one: the result and the output follow from the structure of the
+//! files.
 
 ghost use Rattle.std.specs.Prelude.{◌≡◌, ◌+◌, ◌*◌, ◌≤◌, IfOk, vec_len};
 
@@ -11,9 +10,9 @@ use vp_base::{Counted, FailAt, Limits};
 use vp_encode::{EncodeAllFault, EncodeReport, Settings, encode_all};
 use vp_stream::{DecodeFault, Form, decode_all};
 
-/// Whether the decoding of the file to YUV4MPEG2, where so many reads of single bytes and so many writes of at most
-/// 64 bytes
-/// come before one fails, ends so, and writes so many of the bytes of its pictures.
+/// Decodes the file to YUV4MPEG2, by reads of single bytes and writes of at most 64 bytes. The first `reads` reads and
+/// the first `writes` writes succeed, and the next one fails. Returns whether the fault and the length of the output
+/// are as expected.
 fn decodes(
     alloc: Global,
     (reads, writes): (usize, usize),
@@ -31,7 +30,7 @@ fn decodes(
     end.err() == wanted && written.len() == length && are_video(&written)
 }
 
-/// The last of the reads finds the file's end.
+/// The last read finds the file's end.
 #[test]
 fn each_read_of_a_decoding(rt: HostRuntime) -> Result<(), Fail> {
     for reads in 0..=SIZE {
@@ -49,7 +48,8 @@ fn each_read_of_a_decoding(rt: HostRuntime) -> Result<(), Fail> {
     Ok(())
 }
 
-/// How many bytes so many writes make: one is that of the first line, and each picture has one of its line and six.
+/// Returns the number of bytes in this number of writes: one for the header line, and for each picture one for its line
+/// and six for its pixels.
 fn written_by(writes: usize) -> usize
     requires { writes ≤ 22 }
     ensures { result ≤ 41 + 390 * writes }
@@ -76,7 +76,7 @@ fn each_write_of_a_decoding(rt: HostRuntime) -> Result<(), Fail> {
     Ok(())
 }
 
-/// A file of two pictures.
+/// Returns a file of two pictures.
 fn video(alloc: Global) -> Result<Vec<u8>, AllocError>
     ensures { IfOk result (λ bytes. vec_len bytes ≡ 821) }
 {
@@ -99,7 +99,8 @@ const SETTINGS: Settings = Settings {
     partitions: 1,
 };
 
-/// What encoding a file comes to where so many reads and so many writes come before one fails; and what is written.
+/// Encodes a file. The first `reads` reads and the first `writes` writes succeed, and the next one fails. Returns the
+/// result, and the bytes written.
 fn encoded(
     alloc: Global,
     video: &[u8],
@@ -112,7 +113,7 @@ fn encoded(
     (end, writer.into_inner().into_inner())
 }
 
-/// Whether what two pictures are encoded to, without a loss, is decoded to them.
+/// Returns whether two pictures, encoded without loss, are decoded to themselves.
 fn plays_back(alloc: Global, video: &[u8], coded: &[u8]) -> bool {
     let mut reader = Counted::new(coded);
     let mut writer = Counted::new(Vec::new(alloc));
@@ -120,9 +121,8 @@ fn plays_back(alloc: Global, video: &[u8], coded: &[u8]) -> bool {
     end.is_ok() && writer.into_inner().as_slice() == video
 }
 
-/// The first line is read byte by byte, and so is that of a picture, which has 16 rows of luma and 8 of each
-/// colour. The
-/// last read finds the end, and nothing is written before it.
+/// The header line is read byte by byte, and so is the line of a picture, which has 16 rows of luma and 8 of each
+/// chroma plane. The last read finds the end, and nothing is written before it.
 fn fails_at_each_read(alloc: Global, video: &[u8]) -> bool {
     for reads in 0..41 + 2 * (6 + 32) + 1 {
         let (end, written) = encoded(alloc, video, reads, 0);
@@ -133,9 +133,8 @@ fn fails_at_each_read(alloc: Global, video: &[u8]) -> bool {
     true
 }
 
-/// One write is that of the head, and each packet has one of its 12 bytes and one of its own. A front is written,
-/// longer each
-/// time.
+/// There is one write for the head, and two for each packet: its header of 12 bytes, and its own bytes. A prefix is
+/// written, longer each time.
 fn fails_at_each_write(alloc: Global, video: &[u8], whole: &[u8]) -> bool {
     let mut least = 0;
     for writes in 0..5 {

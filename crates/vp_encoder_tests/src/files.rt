@@ -1,4 +1,4 @@
-//! The file of the trials, its pictures byte by byte, and readers and writers that move a few bytes at a time.
+//! The test file, its pictures byte by byte, and readers and writers that transfer a few bytes at a time.
 
 ghost use Rattle.std.specs.Prelude.{◌≡◌, ◌≤◌, ◌<◌, ◌-◌, ◌%◌, IsTrue, length};
 
@@ -13,14 +13,13 @@ pub const KEY: [u8; 10] = [0x10, 0, 0, 0x9d, 0x01, 0x2a, 0x10, 0, 0x10, 0];
 /// An inter packet whose first partition is empty.
 pub const INTER: [u8; 3] = [0x11, 0, 0];
 
-/// How many bytes the file has.
+/// The length of the file in bytes.
 pub const SIZE: usize = 117;
 
-/// A file of 16 columns and 16 rows, 30 pictures a second. Each packet has 12 bytes before its own:
-/// 0 to 32 the head; to 54 a key packet of 10 bytes, shown; to 69 an inter packet of 3 bytes, hidden; to 81 a
-/// packet of no
-/// bytes, which shows the first picture again; to 95 an inter packet of 2 bytes, too short; to 117 the key packet
-/// again.
+/// A file of 16 by 16 pixels, 30 pictures a second. Each packet follows its header of 12 bytes. The head ends at byte
+/// 32. A shown key packet of 10 bytes ends at 54, and a hidden inter packet of 3 bytes at 69. An empty packet ends at
+/// 81: it shows the first picture again. An inter packet of 2 bytes, which is too short, ends at 95, and the key packet
+/// again at 117.
 pub const FILE: [u8; SIZE] = [
     0x44, 0x4b, 0x49, 0x46, 0, 0, 0x20, 0, 0x56, 0x50, 0x38, 0x30, 0x10, 0, 0x10, 0, 0x1e, 0, 0, 0,
     1, 0, 0, 0, 5, 0, 0, 0, 0, 0, 0, 0, 10, 0, 0, 0, 0, 0, 0, 0, 0, 0, 0, 0, 0x10, 0, 0, 0x9d,
@@ -29,7 +28,7 @@ pub const FILE: [u8; SIZE] = [
     0, 0, 0x10, 0, 0, 0x9d, 0x01, 0x2a, 0x10, 0, 0x10, 0,
 ];
 
-/// The packets of the file, by their bytes and what comes of them.
+/// The packets of the file: their lengths and outcomes.
 pub const PACKETS: [(usize, Outcome); 5] = [
     (10, Outcome::Shown),
     (3, Outcome::Hidden),
@@ -38,7 +37,7 @@ pub const PACKETS: [(usize, Outcome); 5] = [
     (10, Outcome::Shown),
 ];
 
-/// How many packets are whole in the file's first bytes.
+/// Returns the number of whole packets in the file's first bytes.
 pub(crate) fn packets_in(length: usize) -> usize
     ensures { result ≤ 5 }
 {
@@ -52,7 +51,7 @@ pub(crate) fn packets_in(length: usize) -> usize
     }
 }
 
-/// How many of the file's first packets are shown: the first, the third and the fifth.
+/// Returns the number of shown packets among the first ones: the first, the third and the fifth are shown.
 pub(crate) fn shown_of(packets: usize) -> usize
     ensures few { result ≤ 3 }
     ensures some { 0 < packets → 0 < result }
@@ -65,15 +64,14 @@ pub(crate) fn shown_of(packets: usize) -> usize
     }
 }
 
-/// Whether the file may end behind its first bytes: behind the head or a packet.
+/// Returns whether the file may end after its first bytes: after the head or a packet.
 pub(crate) fn is_whole(length: usize) -> bool
     ensures { IsTrue result → 32 ≤ length }
 {
     matches!(length, 32 | 54 | 69 | 81 | 95 | SIZE)
 }
 
-/// Byte `i` of the key packet's picture as Y, U and V: of luma rows 0 to 3 are 128 and rows 4 to 15 are 129, colour
-/// is 128.
+/// Returns byte `i` of the key packet's picture as I420: luma rows 0 to 3 are 128, rows 4 to 15 are 129, chroma is 128.
 fn picture_byte(i: usize) -> u8
     ensures least { 128 ≤ result }
     ensures most { result ≤ 129 }
@@ -84,7 +82,7 @@ fn picture_byte(i: usize) -> u8
     }
 }
 
-/// Whether the bytes are the first ones of the picture, written again and again.
+/// Returns whether the bytes are a prefix of the picture, repeated.
 pub(crate) fn are_pictures(bytes: &[u8]) -> bool
     ensures { length bytes.now ≡ 0 → IsTrue result }
 {
@@ -96,11 +94,11 @@ pub(crate) fn are_pictures(bytes: &[u8]) -> bool
     true
 }
 
-/// The line of a YUV4MPEG2 file of the size and rate of the file, 41 bytes.
+/// The header line of a YUV4MPEG2 file with the size and rate of the file, 41 bytes.
 pub const LINE: &[u8; 41] = b"YUV4MPEG2 W16 H16 F30:1 Ip A0:0 C420jpeg\n";
 
-/// Byte `i` of a YUV4MPEG2 file of that line in which the picture comes again and again, each time behind a line of
-/// its own.
+/// Returns byte `i` of a YUV4MPEG2 file with that header line in which the picture is repeated, each time after a frame
+/// line.
 pub(crate) fn video_byte(i: usize) -> u8
     ensures { 41 ≤ i → 6 ≤ (i - 41) % 390 → 128 ≤ result }
 {
@@ -114,7 +112,7 @@ pub(crate) fn video_byte(i: usize) -> u8
     picture_byte(place - 6)
 }
 
-/// Whether the bytes are the first ones of that file.
+/// Returns whether the bytes are a prefix of that file.
 pub(crate) fn are_video(bytes: &[u8]) -> bool
     ensures { length bytes.now ≡ 0 → IsTrue result }
 {
@@ -126,12 +124,12 @@ pub(crate) fn are_video(bytes: &[u8]) -> bool
     true
 }
 
-/// Gives at most `size` bytes at each read.
+/// A reader that gives at most `size` bytes at each read.
 #[derive(Drop)]
 pub struct Pieces<'a> {
-    /// What wasn't read yet.
+    /// The bytes that are not read yet.
     pub left: &'a [u8],
-    /// The most bytes of a piece.
+    /// The maximum length of a piece in bytes.
     pub size: usize,
 }
 
@@ -142,7 +140,7 @@ impl Read for Pieces<'_> {
     }
 }
 
-/// Takes at most 64 bytes at each write.
+/// A writer that takes at most 64 bytes at each write.
 #[derive(Drop)]
 pub struct Narrow(pub Vec<u8>);
 
@@ -158,7 +156,7 @@ impl Write for Narrow {
 }
 
 impl Narrow {
-    /// What was written.
+    /// Returns the bytes written.
     pub(crate) fn into_bytes(self) -> Vec<u8>
         ensures { result ≡ self.0 }
     {

@@ -1,6 +1,5 @@
-//! Tests of the encoder, and trials that go through all layers: cut files, changed bytes, failing devices. There is
-//! nothing
-//! here but tests; what they want is worked by hand from the rules of the formats.
+//! Tests of the encoder, and of all layers together: cut files, changed bytes, failing devices. This crate contains
+//! only tests. The expected results are worked by hand from the rules of the formats.
 #![tactic(auto)]
 
 #[cfg(test)]

@@ -1,4 +1,4 @@
-//! A long run of an encoder, and the forward transforms of numbers far over any residue.
+//! Tests of a long run of an encoder, and of the forward transforms of numbers far larger than any residue.
 
 use crate::check::equal;
 use crate::worked_rows::settings;
@@ -8,7 +8,7 @@ use vp_base::{Dim, Limits, Picture};
 use vp_encode::Encoder;
 use vp_transform::{fdct, fwht};
 
-/// Whether a packet is a key frame's, by its lowest bit (RFC 6386, chapter 9.1).
+/// Returns whether a packet is a key packet, by its lowest bit (RFC 6386, chapter 9.1).
 fn is_key(packet: &[u8]) -> bool {
     match packet.first() {
         Some(byte) => byte % 2 == 0,
@@ -16,9 +16,7 @@ fn is_key(packet: &[u8]) -> bool {
     }
 }
 
-/// The first of so many frames that is a key frame where it shouldn't be, or isn't one where it should: one comes,
-/// and 63
-/// others behind it.
+/// Returns the first of these frames that isn't of the expected kind: every 64th frame is a key frame.
 fn other_kind(
     encoder: &mut Encoder,
     source: &Picture,
@@ -33,7 +31,8 @@ fn other_kind(
     Ok(None)
 }
 
-/// The same of a flat picture and a new encoder, whose `key_every` is 64.
+/// Encodes a flat picture with a new encoder whose `key_every` is 64, and returns the first frame of an unexpected
+/// kind.
 fn other_flat_kind(alloc: Global, frames: usize) -> Result<Option<usize>, Fail> {
     let dim = Dim::new(16, 16, &Limits::usual())?;
     let source = Picture::new(alloc, dim, 128)?;
@@ -41,16 +40,15 @@ fn other_flat_kind(alloc: Global, frames: usize) -> Result<Option<usize>, Fail> 
     other_kind(&mut encoder, &source, frames)
 }
 
-/// The frames of the numbers 0 and 64 are key frames.
+/// Frames 0 and 64 are key frames.
 #[test]
 fn a_key_frame_behind_64_frames(rt: HostRuntime) -> Result<(), Fail> {
     equal(&rt, &other_flat_kind(rt.alloc(), 66)?, &None);
     Ok(())
 }
 
-/// Sixteen times the least level by the greatest luma DC factor, and the same with turns of sign like a
-/// chessboard's. What is wanted
-/// was worked out from the formulas by a script apart from this program.
+/// Sixteen times the least level times the greatest luma DC factor, and the same numbers with the signs of a
+/// chessboard. The expected results come from the formulas, computed by an independent script.
 #[test]
 fn great_numbers_forward(rt: HostRuntime) {
     let level = [-2114 * 157; 16];

@@ -1,5 +1,5 @@
-//! Worked packets, files and pictures: what stands behind a packet, what is counted of a file that ends early, what is
-//! refused, and what is encoded into several token partitions.
+//! Tests of worked packets, files and pictures: the state after a packet, the counts of a file that ends early, refused
+//! input, and pictures encoded into several token partitions.
 
 ghost use Rattle.std.specs.Prelude.{◌≡◌, ◌≤◌, ◌<◌};
 
@@ -18,14 +18,14 @@ use vp_stream::{Answer, Stream};
 /// The inter packet's picture, 128 everywhere.
 const FLAT: [u8; 384] = [128; 384];
 
-/// The key packet's picture: of luma rows 0 to 3 are 128 and rows 4 to 15 are 129, colour is 128.
+/// The key packet's picture: luma rows 0 to 3 are 128, rows 4 to 15 are 129, chroma is 128.
 fn empty_frame() -> [u8; 384] {
     let mut bytes = [128; 384];
     bytes[64..256].fill(129);
     bytes
 }
 
-/// The first place where the bytes aren't these, or end.
+/// Returns the first position at which the bytes differ from these, or end.
 fn first_difference(found: &[u8], wanted: &[u8]) -> Option<usize> {
     for (i, (one, other)) in found.iter().zip(wanted).enumerate() {
         if one != other {
@@ -39,7 +39,7 @@ fn first_difference(found: &[u8], wanted: &[u8]) -> Option<usize> {
     }
 }
 
-/// The first place where a picture's bytes aren't these; 0 where there is no picture.
+/// Returns the first position at which a picture's bytes differ from these; 0 if there is no picture.
 fn picture_difference(
     alloc: Global,
     picture: Option<&Picture>,
@@ -51,7 +51,7 @@ fn picture_difference(
     }
 }
 
-/// The first packet that comes to something else, by its number and what it comes to.
+/// Returns the number and the outcome of the first packet with an unexpected outcome.
 fn other_outcome(
     decoder: &mut Decoder,
     steps: &[(&[u8], Outcome)],
@@ -65,7 +65,7 @@ fn other_outcome(
     Ok(None)
 }
 
-/// The first reference that isn't this picture, and the first place where it isn't.
+/// Returns the first reference frame that isn't this picture, and the first position at which it differs.
 fn other_reference(
     alloc: Global,
     decoder: &Decoder,
@@ -80,7 +80,7 @@ fn other_reference(
     Ok(None)
 }
 
-/// The settings of an encoder that loses by the quantiser alone.
+/// Returns the settings of an encoder without a loop filter.
 pub(crate) fn settings(qi: u8, partitions: u8) -> Settings
     ensures qi { result.qi ≡ qi }
     ensures partitions { result.partitions ≡ partitions }
@@ -98,7 +98,7 @@ pub(crate) fn settings(qi: u8, partitions: u8) -> Settings
     }
 }
 
-/// The source as a new encoder's first frame.
+/// Encodes the source as a new encoder's first frame.
 pub(crate) fn encoded(
     alloc: Global,
     source: &Picture,
@@ -108,14 +108,14 @@ pub(crate) fn encoded(
     Ok(encoder.encode(source)?)
 }
 
-/// A picture of 16 by 16 pixels of this value as a new encoder's first frame.
+/// Encodes a picture of 16 by 16 pixels of this value as a new encoder's first frame.
 pub(crate) fn encoded_flat(alloc: Global, value: u8, settings: Settings) -> Result<Encoded, Fail> {
     let dim = Dim::new(16, 16, &Limits::usual())?;
     let source = Picture::new(alloc, dim, value)?;
     encoded(alloc, &source, settings)
 }
 
-/// The logarithm of the number of token partitions that a key packet says.
+/// Returns the logarithm of the number of token partitions in a key packet's header.
 fn log2_partitions(packet: &[u8]) -> Option<u8> {
     let tag = Tag::read(packet, &Limits::usual()).ok()?;
     if tag.key.is_none() {
@@ -126,7 +126,7 @@ fn log2_partitions(packet: &[u8]) -> Option<u8> {
     Some(header.log2_partitions)
 }
 
-/// The first place where a new decoder shows something else for a packet; 0 where it shows nothing.
+/// Returns the first position at which a new decoder's picture for a packet is unexpected; 0 if it shows none.
 fn decoded_difference(
     alloc: Global,
     packet: &[u8],
@@ -137,12 +137,11 @@ fn decoded_difference(
     picture_difference(alloc, decoder.picture(), wanted)
 }
 
-/// What a packet of several partitions is to have: the logarithm of their number and the error; and the first place
-/// where
-/// it shows something else.
+/// The result for a packet of several partitions: the logarithm of their number, the error, and the first unexpected
+/// position of its picture.
 type Coded = (Option<u8>, u64, Option<usize>);
 
-/// The same of an encoded picture.
+/// Returns that result for an encoded picture.
 fn coded(alloc: Global, encoded: &Encoded, wanted: &[u8]) -> Result<Coded, AllocError> {
     let packet = encoded.packet.as_slice();
     Ok((
@@ -164,7 +163,7 @@ fn eight_partitions(rt: HostRuntime) -> Result<(), Fail> {
     Ok(())
 }
 
-/// Gives each row of a plane its own number as its value.
+/// Sets each pixel of a plane to the number of its row.
 fn number_rows(picture: &mut Picture, k: usize)
     requires { k < 3 }
 {
@@ -176,7 +175,7 @@ fn number_rows(picture: &mut Picture, k: usize)
     }
 }
 
-/// A picture of 16 columns and 64 rows, each of whose rows has its number as its value.
+/// Returns a picture of 16 by 64 pixels, each of which has the number of its row as its value.
 fn numbered_rows(alloc: Global) -> Result<Picture, Fail> {
     let dim = Dim::new(16, 64, &Limits::usual())?;
     let mut picture = Picture::new(alloc, dim, 0)?;
@@ -186,9 +185,8 @@ fn numbered_rows(alloc: Global) -> Result<Picture, Fail> {
     Ok(picture)
 }
 
-/// What the source is encoded to by so many partitions, decoded against its own reconstruction; and the first place
-/// where
-/// that isn't this one.
+/// Encodes the source into this number of partitions, and decodes it. Returns the result against its own
+/// reconstruction, and the first position at which that differs from the expected one.
 fn coded_by(
     alloc: Global,
     source: &Picture,
@@ -201,7 +199,7 @@ fn coded_by(
     Ok((coded(alloc, &found, &bytes)?, difference))
 }
 
-/// The first number of partitions by which the source is encoded to something else than this, which was encoded by one.
+/// Returns the first number of partitions for which the result differs from that of one partition.
 fn other_partitions(alloc: Global, source: &Picture, one: &Encoded) -> Result<Option<u8>, Fail> {
     for (log2, partitions) in [(0, 1), (1, 2), (2, 4), (3, 8)] {
         let wanted = ((Some(log2), one.squared_error, None), None);
@@ -220,15 +218,15 @@ fn partitions_change_no_picture(rt: HostRuntime) -> Result<(), Fail> {
     Ok(())
 }
 
-/// What is otherwise behind two packets that are shown: what one comes to, or a place of the picture; and a place of a
-/// reference.
+/// The differences after two shown packets: an unexpected outcome or a position in the picture, and a position in a
+/// reference frame.
 type Other = (
     Option<(usize, Outcome)>,
     Option<usize>,
     Option<(Reference, usize)>,
 );
 
-/// The first of each behind a key packet and this one.
+/// Returns the first differences after a key packet and this packet.
 fn other_behind(
     alloc: Global,
     packet: &[u8],
@@ -244,7 +242,7 @@ fn other_behind(
     ))
 }
 
-/// An inter packet whose bools are all 0 predicts from its own frame and replaces no reference.
+/// An inter packet whose bools are all 0 is intra-predicted, and replaces no reference.
 #[test]
 fn inter_keeps_last(rt: HostRuntime) -> Result<(), Fail> {
     let found = other_behind(rt.alloc(), &INTER, &FLAT, &empty_frame())?;
@@ -252,14 +250,13 @@ fn inter_keeps_last(rt: HostRuntime) -> Result<(), Fail> {
     Ok(())
 }
 
-/// An inter packet whose bools are all 1, with eight token partitions without a byte.
+/// An inter packet whose bools are all 1, with eight empty token partitions.
 const ONES: [u8; 25] = [
     0x31, 0, 0, 0xff, 0, 0, 0, 0, 0, 0, 0, 0, 0, 0, 0, 0, 0, 0, 0, 0, 0, 0, 0, 0, 0,
 ];
 
-/// It predicts each half of the macroblock from far above the reference and left of it, where all is 128, and
-/// replaces all
-/// references.
+/// It predicts each half of the macroblock from far above and to the left of the reference frame, where all is 128, and
+/// replaces all references.
 #[test]
 fn split_vectors_far_outside(rt: HostRuntime) -> Result<(), Fail> {
     let found = other_behind(rt.alloc(), &ONES, &FLAT, &FLAT)?;
@@ -267,12 +264,11 @@ fn split_vectors_far_outside(rt: HostRuntime) -> Result<(), Fail> {
     Ok(())
 }
 
-/// How many bytes the file has.
+/// The length of the file in bytes.
 const SIZE: usize = 106;
 
-/// A file of 16 columns and 16 rows, 30 pictures a second. Its head ends behind 32 bytes, and its packets, of which
-/// each
-/// has 12 bytes before its own, behind 54, 69, 91 and 106: the key packet and the inter packet, and both again.
+/// A file of 16 by 16 pixels, 30 pictures a second. Its head ends at byte 32. Its packets, each after a header of 12
+/// bytes, end at 54, 69, 91 and 106: the key packet and the inter packet, and both again.
 const FOUR: [u8; SIZE] = [
     0x44, 0x4b, 0x49, 0x46, 0, 0, 0x20, 0, 0x56, 0x50, 0x38, 0x30, 0x10, 0, 0x10, 0, 0x1e, 0, 0, 0,
     1, 0, 0, 0, 4, 0, 0, 0, 0, 0, 0, 0, 10, 0, 0, 0, 0, 0, 0, 0, 0, 0, 0, 0, 0x10, 0, 0, 0x9d,
@@ -281,7 +277,7 @@ const FOUR: [u8; SIZE] = [
     0, 0, 0, 0x11, 0, 0,
 ];
 
-/// How the file's first bytes end, and how many packets are whole in them.
+/// Returns the fault of the file's first bytes, and the number of whole packets in them.
 fn end_of(length: usize) -> (Option<FileFault>, u32) {
     let torn = Some(FileFault::Torn);
     match length {
@@ -297,7 +293,7 @@ fn end_of(length: usize) -> (Option<FileFault>, u32) {
     }
 }
 
-/// How many packets are taken from a reader, of at most nine.
+/// Returns the number of packets taken from a reader, at most nine.
 fn taken(reader: &mut Reader) -> u32 {
     for count in 0..9 {
         if reader.next_packet().is_none() {
@@ -307,7 +303,7 @@ fn taken(reader: &mut Reader) -> u32 {
     9
 }
 
-/// How a reader ends that is fed the file's first bytes, and how many packets it has.
+/// Feeds the file's first bytes to a reader, and returns its fault and the number of its packets.
 fn read_front(alloc: Global, length: usize) -> Result<(Option<FileFault>, u32), FeedError>
     requires { length ≤ SIZE }
 {
@@ -329,8 +325,8 @@ fn each_cut_read(rt: HostRuntime) -> Result<(), Fail> {
     Ok(())
 }
 
-/// Whether this is the answer for packet `number` of so many: the key packet's picture and the inter packet's come
-/// in turn.
+/// Returns whether this is the answer for packet `number` of `count`: the key packet's and the inter packet's picture
+/// alternately.
 fn is_answer(answer: &Answer, number: u32, count: u32) -> bool {
     let wanted = if number % 2 == 0 { empty_frame() } else { FLAT };
     match answer {
@@ -344,7 +340,7 @@ fn is_answer(answer: &Answer, number: u32, count: u32) -> bool {
     }
 }
 
-/// The first packet that is answered otherwise than as one of so many.
+/// Returns the first packet with an unexpected answer.
 fn other_answer(stream: &Stream, count: u32) -> Result<Option<u32>, AllocError> {
     for number in 0..5 {
         if !is_answer(&stream.picture_at(number)?, number, count) {
@@ -354,7 +350,8 @@ fn other_answer(stream: &Stream, count: u32) -> Result<Option<u32>, AllocError> 
     Ok(None)
 }
 
-/// How a stream ends that is fed the file's first bytes, how many packets it has, and the first that isn't answered so.
+/// Feeds the file's first bytes to a stream. Returns its fault, the number of its packets, and the first packet with an
+/// unexpected answer.
 fn stream_front(
     alloc: Global,
     length: usize,
@@ -397,7 +394,7 @@ fn other_signature(rt: HostRuntime) -> Result<(), Fail> {
 /// The key packet, not to be shown.
 const HIDDEN: [u8; 10] = [0, 0, 0, 0x9d, 0x01, 0x2a, 0x10, 0, 0x10, 0];
 
-/// A packet without a byte shows nothing behind a key packet that isn't shown, whatever was shown before.
+/// After a hidden key packet, an empty packet shows nothing, whatever was shown before.
 #[test]
 fn empty_packet_behind_hidden_key(rt: HostRuntime) -> Result<(), Fail> {
     let mut decoder = Decoder::new(rt.alloc(), Limits::usual());
@@ -413,13 +410,13 @@ fn empty_packet_behind_hidden_key(rt: HostRuntime) -> Result<(), Fail> {
     Ok(())
 }
 
-/// The hidden key packet and the packet without a byte, with the twelve bytes before each.
+/// The hidden key packet and an empty packet, each after a header of twelve bytes.
 const HIDDEN_AND_EMPTY: [u8; 34] = [
     10, 0, 0, 0, 0, 0, 0, 0, 0, 0, 0, 0, 0, 0, 0, 0x9d, 0x01, 0x2a, 0x10, 0, 0x10, 0, 0, 0, 0, 0,
     1, 0, 0, 0, 0, 0, 0, 0,
 ];
 
-/// What a stream of both answers for a packet.
+/// Returns whether the stream's answer for a packet is `Hidden`.
 fn is_hidden(stream: &Stream, number: u32) -> Result<bool, AllocError> {
     Ok(matches!(stream.picture_at(number)?, Answer::Hidden))
 }
@@ -435,23 +432,20 @@ fn stream_of_hidden_packets(rt: HostRuntime) -> Result<(), Fail> {
     Ok(())
 }
 
-/// What comes of a key packet that was changed.
+/// The result of a changed key packet.
 #[derive(Clone, Copy)]
 enum Change {
-    /// It is shown, by this size.
+    /// It is shown, with this size.
     Shown(u16, u16),
-    /// It isn't shown, and has the size as before.
+    /// It isn't shown, and its size is unchanged.
     Hidden,
     Fault(PacketFault),
 }
 
-/// What comes of the key packet in which the byte of this number has become 0, 0x7f and 0xff. The first bit of byte
-/// 0 tells
-/// that it is no key packet, three bits have its version, of at most 3, then one says that it is shown; and the
-/// other three
-/// bits, with bytes 1 and 2, how many bytes the first partition has, of which there are none. Three bytes are the
-/// same in
-/// all key packets. Of the sides, two bytes each, lowest first, the two highest bits are a scale.
+/// The results of the key packet with each byte set to 0, 0x7f and 0xff. Bit 0 of byte 0 is 1 for an inter packet;
+/// three bits are the version, at most 3; one says whether it is shown. The other three bits, with bytes 1 and 2, are
+/// the length of the first partition, which has no bytes here. Three bytes are the start code. Of the width and the
+/// height, two bytes each, little-endian, the two highest bits are a scale.
 const CHANGES: [[Change; 3]; 10] = [
     [
         Change::Hidden,
@@ -493,7 +487,7 @@ const CHANGES: [[Change; 3]; 10] = [
     ],
 ];
 
-/// What comes of a changed packet, and of the inter packet behind it.
+/// Returns the outcomes of a changed packet and of the inter packet after it.
 fn outcomes(change: Change) -> (Outcome, Outcome) {
     match change {
         Change::Shown(_, _) => (Outcome::Shown, Outcome::Shown),
@@ -505,7 +499,7 @@ fn outcomes(change: Change) -> (Outcome, Outcome) {
     }
 }
 
-/// How many bytes luma has, and how many there are with both colours.
+/// Returns the number of luma bytes, and of all bytes.
 fn lengths(width: u16, height: u16) -> (usize, usize) {
     let (columns, rows) = (usize::from(width), usize::from(height));
     let luma = columns.saturating_mul(rows);
@@ -513,7 +507,7 @@ fn lengths(width: u16, height: u16) -> (usize, usize) {
     (luma, luma.saturating_add(colour.saturating_mul(2)))
 }
 
-/// The picture of a key packet of this size, whose bools are all 0: the first four rows of luma are 128.
+/// Returns the picture of a key packet of this size whose bools are all 0: the first four rows of luma are 128.
 fn key_picture(alloc: Global, width: u16, height: u16) -> Result<Vec<u8>, AllocError> {
     let (luma, all) = lengths(width, height);
     let mut bytes = Vec::new(alloc);
@@ -523,8 +517,8 @@ fn key_picture(alloc: Global, width: u16, height: u16) -> Result<Vec<u8>, AllocE
     Ok(bytes)
 }
 
-/// The first place where a decoder doesn't show a changed key packet's picture; where it is to show one and shows
-/// none, 0.
+/// Returns the first position at which a decoder's picture of a changed key packet is unexpected; 0 if it should show
+/// one and doesn't.
 fn changed_difference(
     alloc: Global,
     decoder: &Decoder,
@@ -539,7 +533,8 @@ fn changed_difference(
     }
 }
 
-/// The same behind the inter packet, which is 128 everywhere; it isn't shown behind a fault.
+/// Returns the first unexpected position of the picture after the inter packet, which is 128 everywhere; it isn't shown
+/// after a fault.
 fn inter_difference(
     alloc: Global,
     decoder: &Decoder,
@@ -555,9 +550,8 @@ fn inter_difference(
     picture_difference(alloc, decoder.picture(), &wanted)
 }
 
-/// Whether the key packet, the same with one byte changed and the inter packet come to what they should. A fault
-/// leaves no
-/// state.
+/// Returns whether the key packet, the changed one and the inter packet have the expected outcomes. After a fault there
+/// is no state.
 fn is_change(
     alloc: Global,
     decoder: &mut Decoder,
@@ -576,7 +570,7 @@ fn is_change(
     Ok(is_first && behind == second && inter_difference(alloc, decoder, change)?.is_none())
 }
 
-/// The first of the three values of a byte at which they don't.
+/// Returns the first of the three values of a byte with unexpected outcomes.
 fn other_change(alloc: Global, decoder: &mut Decoder, at: usize) -> Result<Option<u8>, AllocError>
     requires { at < 10 }
 {
@@ -590,7 +584,7 @@ fn other_change(alloc: Global, decoder: &mut Decoder, at: usize) -> Result<Optio
     Ok(None)
 }
 
-/// All changes come twice, one behind another, and come to the same both times.
+/// All changes are tried twice, one after another, with equal results.
 #[test]
 fn changed_key_packets(rt: HostRuntime) -> Result<(), Fail> {
     let mut decoder = Decoder::new(rt.alloc(), Limits::usual());

@@ -1,4 +1,4 @@
--- What a request head asks for, or the error to answer, with the checks in order. Pinned by the tests
+-- The request in a request head, or the error to answer, with the checks in order. Pinned by the tests
 -- `method_and_host_refused` and `head_requests`.
 use Rattle.std.specs.Prelude.{◌≡◌, ◌⊎◌, ◌==◌, ◌||◌, not, ℕ, Bool, true, false, nat_eq, List, map, codes, count_by}
 use Rattle.std.specs.Prelude.{if◌then◌else◌}
@@ -16,17 +16,19 @@ use Rattle.vp_heads.specs.Fields.{Pair, is_named, is_body_field, is_host_wrong, 
 use Rattle.vp_heads.specs.Ranges.{range_in}
 use Rattle.vp_heads.specs.Routes.{at_path}
 
+-- the method is GET
 abbrev pub is_get : List ℕ → Bool
 is_get method = bytes_eq method (codes "GET")
 
+-- the method is HEAD
 abbrev pub is_head : List ℕ → Bool
 is_head method = bytes_eq method (codes "HEAD")
 
+-- the byte `?`
 abbrev pub is_question : ℕ → Bool
 is_question b = b == 63
 
--- what is wanted, by the method, the target, the version, how many Host fields there are, and whether a body is
--- announced
+-- the resource, given the method, the target, the version, the number of Host fields, and whether a body is announced
 unfoldable pub wanted_by : List (List ℕ) → List ℕ → List ℕ → ℕ → ℕ → Bool → Resource
 wanted_by names method target minor hosts body =
     if body then Bad else
@@ -34,6 +36,7 @@ wanted_by names method target minor hosts body =
     if not (is_get method || is_head method) then WrongMethod else
     if not (starts_with nat_eq target (codes "/")) then Bad else at_path names (before_first is_question target)
 
+-- a bad request
 abbrev pub is_bad : Resource → Bool
 is_bad Bad = true
 is_bad WrongMethod = false
@@ -43,7 +46,7 @@ is_bad (Info stream) = false
 is_bad (Frame stream n) = false
 is_bad (Video stream n) = false
 
--- a bad request closes the connection; so does HTTP/1.0, and a Connection that says so
+-- the connection is closed after a bad request, with HTTP/1.0, or if a Connection field asks for it
 abbrev pub request_by : Resource → List ℕ → ℕ → Bool → Range → Request
 request_by wanted method minor closing range = record {
   wanted = wanted;
@@ -52,22 +55,22 @@ request_by wanted method minor closing range = record {
   range = if is_get method then range else Whole;
 }
 
--- what a head asks for, by its parts
+-- the request, given the parts of a head
 abbrev pub asked_by : List (List ℕ) → List ℕ → List ℕ → ℕ → List Pair → Request
 asked_by names method target minor fields =
     request_by (wanted_by names method target minor (count_by (is_named (codes "host")) fields)
     (list_any is_body_field fields))
     method minor (list_any is_closing_field fields) (range_in fields)
 
--- what a head asks for
+-- the request of a head
 abbrev pub asked : List (List ℕ) → RequestHead → Request
 asked names h = asked_by names h.method h.target h.minor (map name_and_value h.fields)
 
--- bytes that are no head: a bad request
+-- a bad request, for bytes that aren't a valid head
 abbrev pub unreadable : Request
 unreadable = record { wanted = Bad; head_only = false; closing = true; range = Whole }
 
--- what the bytes of a head ask for, of streams with these names
+-- the request in the bytes of a head, for streams with these names
 abbrev pub IsAsked : List (List ℕ) → List ℕ → Request → Type 0
 IsAsked names bytes request =
     ((h : RequestHead) × IsHeadOf bytes h × (request ≡ asked names h)) ⊎ (HasNoHead bytes × (request ≡ unreadable))

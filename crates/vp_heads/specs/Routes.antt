@@ -15,11 +15,12 @@ use Rattle.vp_heads.specs.declared.request.Resource.{Resource}
 use Rattle.vp_heads.specs.declared.request.Resource.TheVariants.{Missing, Streams, Info, Frame, Video}
 use Rattle.vp_heads.specs.Numbers.{packet_number}
 
--- the rows with one more route
+-- the routes with one more
 abbrev pub with_scan : Result Scan InsertError → Page → RowsOf (RouteOf Page) → RowsOf (RouteOf Page)
 with_scan (Ok s) p rows = placed (s.pattern, route_from s p) rows
 with_scan (Err e) p rows = rows
 
+-- the routes with one more, if it is valid
 abbrev pub with_route : List ℕ → Page → RowsOf (RouteOf Page) → RowsOf (RouteOf Page)
 with_route text p rows = with_scan (parse_route text) p rows
 
@@ -31,49 +32,57 @@ our_routes =
     (with_route (codes "/s/{name}/info") page.Info
     (with_route (codes "/streams") page.Streams [])))
 
--- the page of a path: none where no route fits, or where it isn't UTF-8
+-- the page of a path: none if no route matches, or if the path isn't UTF-8
 abbrev pub page_at : List ℕ → Option Page
 page_at path = if is_utf8 path then option_map (λ r. r.value) (first our_routes path) else None
 
--- the route can be read, and conflicts with none
+-- the route is valid, and conflicts with none
 abbrev pub ScanHasPlace : Result Scan InsertError → RowsOf (RouteOf Page) → Type 0
 ScanHasPlace (Ok s) rows = nearest s.pattern rows ≡ None
 ScanHasPlace (Err e) rows = ⊥
 
+-- the route is valid, and conflicts with none
 abbrev pub HasPlace : List ℕ → RowsOf (RouteOf Page) → Type 0
 HasPlace text rows = ScanHasPlace (parse_route text) rows
 
--- ---- the stream's name and the packet's number: what stands behind `/s/`, and behind the slash after the page's word
+-- ---- the stream's name (after `/s/`) and the packet's number (after the page's word and a slash) in a path
 
+-- the byte `/`
 abbrev pub is_slash : ℕ → Bool
 is_slash b = b == 47
 
+-- the stream's name in a path
 abbrev pub name_in : List ℕ → List ℕ
 name_in path = before_first is_slash (drop 3 path)
 
+-- the packet's number in a path
 abbrev pub number_segment : List ℕ → List ℕ
 number_segment path = after_first is_slash (after_first is_slash (drop 3 path))
 
--- the place of a name among names
+-- the index of a name among names
 abbrev pub name_index : List (List ℕ) → List ℕ → Option ℕ
 name_index names name = position (λ x. bytes_eq x name) names
 
--- ---- what a path asks for; nothing where there is no such stream, or no number
+-- ---- the resource that a path names; `Missing` if there is no such stream, or no number
 
+-- the information about a stream
 abbrev pub info_route : Option ℕ → Resource
 info_route None = Missing
 info_route (Some stream) = Info stream
 
+-- a picture as I420
 abbrev pub frame_route : Option ℕ → Option ℕ → Resource
 frame_route (Some stream) (Some n) = Frame stream n
 frame_route (Some stream) None = Missing
 frame_route None n = Missing
 
+-- a picture as YUV4MPEG2
 abbrev pub video_route : Option ℕ → Option ℕ → Resource
 video_route (Some stream) (Some n) = Video stream n
 video_route (Some stream) None = Missing
 video_route None n = Missing
 
+-- the resource on a page, given the path
 abbrev pub on_page : Option Page → List (List ℕ) → List ℕ → Resource
 on_page None names path = Missing
 on_page (Some page.Streams) names path = Streams
@@ -83,5 +92,6 @@ on_page (Some page.Frame) names path = frame_route (name_index names (name_in pa
 on_page (Some page.Video) names path = video_route (name_index names (name_in path))
     (packet_number (number_segment path))
 
+-- the resource that a path names
 unfoldable pub at_path : List (List ℕ) → List ℕ → Resource
 at_path names path = on_page (page_at path) names path

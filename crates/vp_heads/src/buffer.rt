@@ -1,4 +1,4 @@
-//! Bytes that grow.
+//! A growable buffer of bytes.
 
 ghost use Rattle.std.specs.Prelude.{◌≡◌, ◌++◌, ◌∷◌, [], length, OnOk, OnErr};
 
@@ -6,7 +6,7 @@ use std::alloc::{AllocError, Global};
 use std::marker::Model;
 use vp_base::ByteList;
 
-/// Bytes that grow, which contracts see as the list of them.
+/// A growable buffer of bytes. Its model is the list of its bytes.
 #[derive(Debug, Drop)]
 pub struct Buffer {
     bytes: Vec<u8>,
@@ -21,7 +21,7 @@ impl Model for Buffer {
 }
 
 impl Buffer {
-    /// No bytes.
+    /// Creates an empty buffer.
     pub fn new(alloc: Global) -> Buffer
         ensures { result ≡ [] }
     {
@@ -30,21 +30,21 @@ impl Buffer {
         }
     }
 
-    /// The bytes, lent.
+    /// Returns the bytes.
     pub fn as_slice(&self) -> &[u8]
         ensures { result.now ≡ self.now }
     {
         self.bytes.as_slice()
     }
 
-    /// How many bytes there are.
+    /// Returns the number of bytes.
     pub fn len(&self) -> usize
         ensures { result ≡ length self.now }
     {
         self.bytes.len()
     }
 
-    /// Puts a byte behind.
+    /// Appends a byte. If memory runs out, the buffer is unchanged.
     pub fn push(&mut self, byte: u8) -> Result<(), AllocError>
         ensures ok { OnOk result (self.new ≡ self.old ++ byte ∷ []) }
         ensures err { OnErr result (self.new ≡ self.old) }
@@ -53,7 +53,7 @@ impl Buffer {
         Ok(())
     }
 
-    /// Puts bytes behind.
+    /// Appends bytes. If memory runs out, the buffer is unchanged.
     pub fn append(&mut self, more: &[u8]) -> Result<(), AllocError>
         ensures ok { OnOk result (self.new ≡ self.old ++ more.now) }
         ensures err { OnErr result (self.new ≡ self.old) }
@@ -61,14 +61,14 @@ impl Buffer {
         self.bytes.extend_from_slice(more)
     }
 
-    /// Drops all bytes, and keeps the room for them.
+    /// Removes all bytes, and keeps the allocated memory.
     pub fn clear(&mut self)
         ensures { self.new ≡ [] }
     {
         self.bytes.clear();
     }
 
-    /// The bytes as a list that doesn't grow.
+    /// Converts the buffer into a list of fixed length.
     pub fn into_list(self) -> ByteList
         ensures { result ≡ self }
     {

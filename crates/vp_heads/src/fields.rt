@@ -1,4 +1,4 @@
-//! What the fields of a head say.
+//! The header fields of a request that the server looks at (RFC 9110, chapter 5).
 
 ghost use Rattle.std.specs.Prelude.{◌≡◌, ◌==◌, ◌<◌, ◌⊎◌, All, length, reverse, map, position, count_by, codes, IfSome};
 ghost use Rattle.std.specs.Prelude.{MatchOption};
@@ -10,7 +10,7 @@ ghost use Rattle.vp_heads.specs.Fields.{value_of};
 
 use httparse::spans::HeaderSpan;
 
-/// Whether a field has a name, in any case.
+/// Returns whether a field has this name, ignoring case.
 fn has_name(bytes: &[u8], field: &HeaderSpan, name: &[u8]) -> bool
     requires { IsHeaderWithin (length bytes.now) field.now }
     ensures { result ≡ is_named name.now (header_bytes bytes.now field.now) }
@@ -18,7 +18,7 @@ fn has_name(bytes: &[u8], field: &HeaderSpan, name: &[u8]) -> bool
     field.name.of(bytes).eq_ignore_ascii_case(name)
 }
 
-/// How many fields have a name, in any case.
+/// Returns the number of fields with this name, ignoring case.
 pub(crate) fn count_named(bytes: &[u8], fields: &[HeaderSpan], name: &[u8]) -> usize
     requires { All (IsHeaderWithin (length bytes.now)) fields.now }
     ensures { result ≡ count_by (λ field. is_named name.now (header_bytes bytes.now field)) fields.now }
@@ -29,7 +29,7 @@ pub(crate) fn count_named(bytes: &[u8], fields: &[HeaderSpan], name: &[u8]) -> u
         .count()
 }
 
-/// The value of the first field of a name, or nothing.
+/// Returns the value of the first field with this name, or no bytes.
 pub(crate) fn value_named<'a>(bytes: &'a [u8], fields: &[HeaderSpan], name: &[u8]) -> &'a [u8]
     requires { All (IsHeaderWithin (length bytes.now)) fields.now }
     ensures { result.now ≡ value_of name.now (map (header_bytes bytes.now) fields.now) }
@@ -42,7 +42,7 @@ pub(crate) fn value_named<'a>(bytes: &'a [u8], fields: &[HeaderSpan], name: &[u8
     &[]
 }
 
-/// Whether a field announces a body.
+/// Returns whether a field announces a body: a Transfer-Encoding, or a Content-Length other than 0.
 pub(crate) fn has_body_field(bytes: &[u8], fields: &[HeaderSpan]) -> bool
     requires { All (IsHeaderWithin (length bytes.now)) fields.now }
     ensures { result ≡ list_any (λ f. is_body_field (header_bytes bytes.now f)) fields.now }
@@ -57,7 +57,7 @@ fn announces_body(name: &[u8], value: &[u8]) -> bool
         || (name.eq_ignore_ascii_case(b"content-length") && value != b"0".as_slice())
 }
 
-/// Whether a field closes the connection.
+/// Returns whether a Connection field asks to close the connection.
 pub(crate) fn has_closing_field(bytes: &[u8], fields: &[HeaderSpan]) -> bool
     requires { All (IsHeaderWithin (length bytes.now)) fields.now }
     ensures { result ≡ list_any (λ f. is_closing_field (header_bytes bytes.now f)) fields.now }
@@ -71,7 +71,7 @@ fn closes(name: &[u8], value: &[u8]) -> bool
     name.eq_ignore_ascii_case(b"connection") && names_close(value)
 }
 
-/// Whether a member of the value is `close`.
+/// Returns whether an element of the comma-separated value is `close`.
 fn names_close(value: &[u8]) -> bool
     ensures { result ≡ has_close value.now }
 {
@@ -85,14 +85,14 @@ fn names_close(value: &[u8]) -> bool
     is_close_member(rest)
 }
 
-/// Whether a member is `close`, in any case.
+/// Returns whether an element is `close`, ignoring case and surrounding spaces and tabs.
 fn is_close_member(member: &[u8]) -> bool
     ensures { result ≡ is_close member.now }
 {
     trim(member).eq_ignore_ascii_case(b"close")
 }
 
-/// Where the first comma is.
+/// Returns the position of the first comma.
 fn comma_place(value: &[u8]) -> Option<usize>
     ensures place { result ≡ position is_comma value.now }
     ensures there { IfSome result (λ i. i < length value.now) }
@@ -100,7 +100,7 @@ fn comma_place(value: &[u8]) -> Option<usize>
     value.iter().position(|b| *b == b',')
 }
 
-/// What stands before the first comma and behind it, or none where there is no comma.
+/// Splits a value at its first comma. None if there is no comma.
 fn split_member(value: &[u8]) -> Option<(&[u8], &[u8])>
     ensures { MatchOption result (position_or_len is_comma value.now ≡ length value.now) (λ p.
         (position_or_len is_comma value.now < length value.now)
@@ -112,7 +112,7 @@ fn split_member(value: &[u8]) -> Option<(&[u8], &[u8])>
     Some((&value[..place], &value[place + 1..]))
 }
 
-/// The bytes without the spaces and tabs at both ends.
+/// Removes spaces and tabs at both ends.
 #[tactic(auto, unfolding(httparse::specs::Grammar::trim_ows))]
 fn trim(bytes: &[u8]) -> &[u8]
     ensures { result.now ≡ trim_ows bytes.now }

@@ -1,4 +1,4 @@
-//! Reading of heads.
+//! Parses request heads.
 
 ghost use Rattle.std.specs.Prelude.{◌≡◌, None, length, IfSome};
 ghost use Rattle.httparse.specs.Grammar.{RequestHead};
@@ -8,7 +8,7 @@ ghost use Rattle.vp_heads.specs.Heads.{IsHeadOf, HasNoHead};
 use httparse::Status;
 use httparse::spans::{HeaderSpan, RequestSpans, parse_request};
 
-/// Reads a whole head that ends where the bytes end.
+/// Parses a request head that must end exactly at the end of the bytes.
 pub(crate) fn read_head(bytes: &[u8], room: &mut [HeaderSpan]) -> Option<RequestSpans>
     requires { length room.old ≡ 32 }
     ensures head { IfSome result (λ spans. (h : RequestHead) × IsHeadOf bytes.now h

@@ -1,4 +1,4 @@
-//! Heads of requests, read and judged, and the bytes of replies.
+//! Parses HTTP request heads, and writes HTTP responses.
 #![tactic(auto)]
 
 mod buffer;

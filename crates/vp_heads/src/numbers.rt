@@ -1,4 +1,4 @@
-//! Numbers in decimal.
+//! Decimal numbers in paths and fields.
 
 ghost use Rattle.std.specs.Prelude.{◌≡◌, ◌&&◌, ◌==◌, ◌||◌, not, length, slice_index};
 ghost use Rattle.std.specs.Char.{is_ascii_digit};
@@ -11,7 +11,7 @@ fn all_digits(text: &[u8]) -> bool
     text.iter().all(|c| c.is_ascii_digit())
 }
 
-/// A number of one digit or more; one over the greatest counts as that.
+/// Parses a decimal number of one digit or more. It saturates at 2^64 - 1.
 pub(crate) fn count(text: &[u8]) -> Option<u64>
     ensures { result ≡ count_in text.now }
 {
@@ -30,7 +30,7 @@ fn is_plain(text: &[u8]) -> bool
     text.len() <= 1 || text[0] != b'0'
 }
 
-/// The number of a packet.
+/// Parses the number of a packet: below 2^32, without leading zeros.
 pub(crate) fn packet(text: &[u8]) -> Option<u32>
     ensures { result ≡ packet_number text.now }
 {

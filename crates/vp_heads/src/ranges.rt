@@ -1,4 +1,4 @@
-//! Byte ranges.
+//! Byte ranges (RFC 9110, chapter 14).
 
 ghost use Rattle.std.specs.Prelude.{◌≡◌, ◌<◌, ◌≤◌, All, length, map, position, IfSome};
 ghost use Rattle.std.specs.List.{before_first, after_first, list_any};
@@ -11,31 +11,31 @@ use crate::fields::{count_named, value_named};
 use crate::numbers::count;
 use httparse::spans::HeaderSpan;
 
-/// What a Range field says of a body's bytes, which are counted from 0.
+/// The byte range that a Range field asks for. Bytes are counted from 0.
 #[derive(Clone, Copy, Debug, PartialEq, Eq, Drop)]
 pub enum Range {
-    /// Nothing that counts: the whole body.
+    /// No valid range: the whole body.
     Whole,
-    /// From the first byte named to the second, which doesn't count where the second comes first.
+    /// From the first number to the second, inclusive. It is ignored if the second is smaller.
     Between(u64, u64),
-    /// From this byte on.
+    /// From this byte to the end.
     From(u64),
-    /// So many last bytes.
+    /// The last bytes; this is their number.
     Last(u64),
 }
 
-/// A part of a body.
+/// The part of a body that is sent.
 #[derive(Clone, Copy, Debug, PartialEq, Eq, Drop)]
 pub enum Part {
-    /// All of it.
+    /// The whole body.
     All,
-    /// From the first byte named to the second.
+    /// The bytes from the first number to the second, inclusive.
     Slice(usize, usize),
-    /// Nothing: it would begin behind the end.
+    /// Nothing: the range begins after the end of the body.
     Beyond,
 }
 
-/// The part of a body of `size` bytes.
+/// Returns the part of a body of `size` bytes that a range selects.
 pub fn part_of(range: Range, size: usize) -> Part
     ensures part { result ≡ part_is range size }
     ensures within { IsPartWithin size result }
@@ -55,7 +55,7 @@ pub fn part_of(range: Range, size: usize) -> Part
     }
 }
 
-/// What stands before the dash and behind it.
+/// Parses a range, given the text before the dash and after it.
 fn range_between(front: &[u8], back: &[u8]) -> Range
     ensures { result ≡ range_by front.now back.now }
 {
@@ -84,7 +84,7 @@ fn dash_place(text: &[u8]) -> Option<usize>
     text.iter().position(|b| *b == b'-')
 }
 
-/// The range behind `bytes=`.
+/// Parses the range after `bytes=`.
 fn range_after(text: &[u8]) -> Range
     ensures { result ≡ range_behind text.now }
 {
@@ -94,7 +94,7 @@ fn range_after(text: &[u8]) -> Range
     }
 }
 
-/// What a Range field's value says.
+/// Parses the value of a Range field.
 fn read_range(value: &[u8]) -> Range
     ensures { result ≡ range_of value.now }
 {
@@ -105,7 +105,7 @@ fn read_range(value: &[u8]) -> Range
     }
 }
 
-/// The range that the fields of a head ask for.
+/// Returns the range that the fields of a head ask for.
 pub(crate) fn range_in(bytes: &[u8], fields: &[HeaderSpan]) -> Range
     requires { All (IsHeaderWithin (length bytes.now)) fields.now }
     ensures { result ≡ range_is (map (header_bytes bytes.now) fields.now) }

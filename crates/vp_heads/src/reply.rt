@@ -1,4 +1,4 @@
-//! Replies.
+//! Writes HTTP responses (RFC 9112, chapter 4).
 
 ghost use Rattle.std.specs.Prelude.{◌≡◌, ◌++◌, ◌+◌, ◌-◌, ◌<◌, ◌≤◌, ◌∷◌, [], length, take, drop, IfOk, OnOk, codes};
 ghost use Rattle.std.specs.Prelude.{true};
@@ -14,7 +14,7 @@ use crate::request::{Request, unreadable};
 use crate::status::Status;
 use std::alloc::{AllocError, Global};
 
-/// The lines before a body of `length` bytes.
+/// Returns the head of a response with a body of `length` bytes.
 #[tactic(auto, unfolding(crate::specs::Replies::reply_head))]
 fn head(
     alloc: Global,
@@ -63,7 +63,7 @@ fn put_both(front: &[u8], back: &[u8], out: &mut Buffer) -> Result<(), AllocErro
     out.append(back)
 }
 
-/// A reply of one line and its line feed.
+/// Appends a response whose body is one line of text.
 fn put_line(
     alloc: Global,
     request: Request,
@@ -89,7 +89,7 @@ fn put_line(
     put_both(line.as_bytes(), b"\n", out)
 }
 
-/// The bytes from `first` to before `end` of two pieces, one behind the other.
+/// Appends bytes `first` to `end - 1` of the concatenation of `front` and `back`.
 fn put_slice(
     front: &[u8],
     back: &[u8],
@@ -118,7 +118,7 @@ fn size_of(front: &[u8], back: &[u8]) -> usize
     front.len() + back.len()
 }
 
-/// The whole of the pixels.
+/// Appends a response with the whole picture.
 fn put_all(
     alloc: Global,
     request: Request,
@@ -156,7 +156,7 @@ fn no_range_text(alloc: Global, size: usize) -> Result<String, AllocError>
     format!(in alloc; "Content-Range: bytes */{size}\r\n")
 }
 
-/// The part of the pixels from the first byte to the last.
+/// Appends a response with bytes `first` to `last` of the picture.
 fn put_part(
     alloc: Global,
     request: Request,
@@ -188,7 +188,7 @@ fn put_part(
     put_slice(front, back, first, last + 1, out)
 }
 
-/// No part of the pixels.
+/// Appends the response to a range that begins after the end of the picture (416).
 fn put_no_part(
     alloc: Global,
     request: Request,
@@ -204,7 +204,7 @@ fn put_no_part(
     put_line(alloc, request, status, line.as_str(), status.phrase(), out)
 }
 
-/// Puts the reply whose body is these lines of text. After want of memory `out` may have a part of it.
+/// Appends a response whose body is text. If memory runs out, `out` may hold a part of it.
 #[tactic(auto, unfolding(crate::specs::Replies::reply_to))]
 pub fn put_lines(
     alloc: Global,
@@ -229,8 +229,8 @@ pub fn put_lines(
     out.append(body)
 }
 
-/// Puts the reply whose body is a picture, or the part of it that the request asks for. The picture's text is
-/// `front` and then `back`. After want of memory `out` may have a part of the reply.
+/// Appends a response whose body is a picture, or the part of it that the request asks for. The picture's bytes are
+/// `front` followed by `back`. If memory runs out, `out` may hold a part of the response.
 #[tactic(auto, unfolding(crate::specs::Replies::reply_to))]
 pub fn put_pixels(
     alloc: Global,
@@ -249,8 +249,7 @@ pub fn put_pixels(
     }
 }
 
-/// Puts the reply to a request for a packet with a fault of this name. After want of memory `out` may have a part
-/// of it.
+/// Appends the response for a packet with a fault of this name (422). If memory runs out, `out` may hold a part of it.
 #[tactic(auto, unfolding(crate::specs::Replies::reply_to))]
 pub fn put_faulted(
     alloc: Global,
@@ -263,7 +262,7 @@ pub fn put_faulted(
     put_line(alloc, request, Status::Unprocessable, "", name, out)
 }
 
-/// The line that says which methods are allowed, where the status is that another one came.
+/// Returns the Allow field for status 405, else no bytes.
 fn allowed(status: Status) -> &'static str
     ensures { result.now ≡ allowing status }
 {
@@ -273,7 +272,7 @@ fn allowed(status: Status) -> &'static str
     }
 }
 
-/// Puts the reply that is an error. After want of memory `out` may have a part of it.
+/// Appends an error response. If memory runs out, `out` may hold a part of it.
 #[tactic(auto, unfolding(crate::specs::Replies::reply_to))]
 pub fn put_error(
     alloc: Global,
@@ -293,7 +292,8 @@ pub fn put_error(
     )
 }
 
-/// Puts the reply to 8,192 bytes without a head's end. After want of memory `out` may have a part of it.
+/// Appends the response to a head that doesn't end within 8,192 bytes (431). If memory runs out, `out` may hold a part
+/// of it.
 #[tactic(auto, unfolding(crate::specs::Replies::too_long))]
 pub fn put_too_long(alloc: Global, out: &mut Buffer) -> Result<(), AllocError>
     ensures { OnOk result (out.new ≡ out.old ++ too_long) }

@@ -1,4 +1,4 @@
-//! What a head asks for.
+//! The request in a request head.
 
 ghost use Rattle.std.specs.Prelude.{◌≡◌, ◌==◌, ◌||◌, ◌<◌, if◌then◌else◌, All, length, map, position, IfSome};
 ghost use Rattle.std.specs.List.{list_any, before_first};
@@ -19,35 +19,35 @@ use httparse::spans::{EMPTY_HEADER_SPAN, HeaderSpan, RequestSpans};
 use matchit::Router;
 use vp_base::ByteList;
 
-/// What is wanted, streams named by their places among the names.
+/// The resource that a request asks for. Streams are given by their index among the names.
 #[derive(Clone, Copy, Debug, PartialEq, Eq, Drop)]
 pub enum Resource {
-    /// Nothing: no head, a body, a wrong number of Host fields, or a target that isn't a path.
+    /// A bad request: no valid head, a body, a wrong number of Host fields, or a target that isn't a path.
     Bad,
-    /// Nothing: neither GET nor HEAD.
+    /// A method other than GET and HEAD.
     WrongMethod,
-    /// A page, stream or packet that there can't be.
+    /// No such page or stream, or an invalid packet number.
     Missing,
-    /// The names of all streams.
+    /// The list of the names of all streams.
     Streams,
-    /// What is known of a stream.
+    /// Information about a stream.
     Info(usize),
-    /// A packet's picture as I420.
+    /// The picture of a packet as I420.
     Frame(usize, u32),
-    /// A packet's picture as a Y4M file.
+    /// The picture of a packet as a YUV4MPEG2 file.
     Video(usize, u32),
 }
 
-/// What a head asks for.
+/// A parsed request.
 #[derive(Clone, Copy, Debug, PartialEq, Eq, Drop)]
 pub struct Request {
-    /// What is wanted.
+    /// The resource.
     pub wanted: Resource,
-    /// Whether the reply has no body (RFC 9110, chapter 9.3.2).
+    /// Whether the response has no body: the method is HEAD (RFC 9110, chapter 9.3.2).
     pub head_only: bool,
-    /// Whether the connection is closed behind the reply.
+    /// Whether the connection is closed after the response.
     pub closing: bool,
-    /// Which part of a picture is wanted.
+    /// The byte range of a picture.
     pub range: Range,
 }
 
@@ -63,14 +63,15 @@ fn is_head(method: &[u8]) -> bool
     method == b"HEAD".as_slice()
 }
 
-/// Whether the connection is closed behind the reply.
+/// Returns whether the connection is closed after the response: a bad request, HTTP/1.0, or a Connection field that
+/// closes.
 fn is_last(wanted: Resource, minor: u8, closing: bool) -> bool
     ensures { result ≡ (is_bad wanted || (minor == 0 || closing)) }
 {
     matches!(wanted, Resource::Bad) || minor == 0 || closing
 }
 
-/// The range that counts for a method.
+/// Returns the range for a method: only GET has one.
 fn range_for(method: &[u8], bytes: &[u8], fields: &[HeaderSpan]) -> Range
     requires { All (IsHeaderWithin (length bytes.now)) fields.now }
     ensures { result ≡ (if names_get method.now then range_is
@@ -83,7 +84,7 @@ fn range_for(method: &[u8], bytes: &[u8], fields: &[HeaderSpan]) -> Range
     }
 }
 
-/// What is wanted by a head's parts.
+/// Returns the resource, given the parts of a head.
 #[tactic(auto, unfolding(crate::specs::Requests::wanted_by))]
 fn wanted_of(
     router: &Router<Page>,
@@ -109,7 +110,7 @@ fn wanted_of(
     wanted_at(router, names, path_of(target))
 }
 
-/// The target up to a question mark.
+/// Returns the target up to a question mark: the path without the query.
 fn path_of(target: &[u8]) -> &[u8]
     ensures { result.now ≡ before_first is_question target.now }
 {
@@ -126,7 +127,7 @@ fn question_place(target: &[u8]) -> Option<usize>
     target.iter().position(|b| *b == b'?')
 }
 
-/// What the parts of a head ask for.
+/// Returns the request, given the parts of a head.
 fn judge(
     router: &Router<Page>,
     names: &[ByteList],
@@ -151,7 +152,7 @@ fn judge(
     }
 }
 
-/// What a head that was read asks for.
+/// Returns the request of a parsed head.
 fn judge_head(
     router: &Router<Page>,
     names: &[ByteList],
@@ -174,7 +175,7 @@ fn judge_head(
     )
 }
 
-/// What the bytes of a head ask for, of streams with these names. No memory is taken.
+/// Returns the request in the bytes of a head, for streams with these names. No memory is allocated.
 pub fn read_request(router: &Router<Page>, names: &[ByteList], bytes: &[u8]) -> Request
     requires { router.now ≡ our_routes }
     ensures { IsAsked names.now bytes.now result }
@@ -186,7 +187,7 @@ pub fn read_request(router: &Router<Page>, names: &[ByteList], bytes: &[u8]) -> 
     }
 }
 
-/// What bytes that are no head ask for.
+/// Returns the bad request for bytes that aren't a valid head.
 pub(crate) fn unreadable() -> Request
     ensures { result ≡ no_request }
 {

@@ -1,4 +1,4 @@
-//! Routes.
+//! The routes of the server.
 
 ghost use Rattle.std.specs.Prelude.{◌≡◌, ◌==◌, ◌+◌, ◌<◌, ℕ, List, [], Option, Some, None, IfOk, OnOk, IfSome, length};
 ghost use Rattle.std.specs.Prelude.{position, drop};
@@ -14,20 +14,20 @@ use std::alloc::{AllocError, Global};
 use std::str::from_utf8;
 use vp_base::ByteList;
 
-/// What a route gives.
+/// The pages of the server.
 #[derive(Clone, Copy, Debug, PartialEq, Eq, Drop)]
 pub enum Page {
-    /// The names of all streams.
+    /// The list of the names of all streams.
     Streams,
-    /// What is known of a stream.
+    /// Information about a stream.
     Info,
-    /// A packet's picture as I420.
+    /// The picture of a packet as I420.
     Frame,
-    /// A packet's picture as a Y4M file.
+    /// The picture of a packet as a YUV4MPEG2 file.
     Video,
 }
 
-/// The router of the four pages.
+/// Creates the router of the four pages.
 #[tactic(auto, unfolding(crate::specs::Routes::our_routes))]
 pub fn router(alloc: Global) -> Result<Router<Page>, AllocError>
     ensures { IfOk result (λ r. r ≡ our_routes) }
@@ -40,7 +40,7 @@ pub fn router(alloc: Global) -> Result<Router<Page>, AllocError>
     Ok(router)
 }
 
-/// Adds a route that conflicts with none.
+/// Adds a route, which must not conflict with the others.
 fn add(router: &mut Router<Page>, route: &str, page: Page) -> Result<(), AllocError>
     requires { HasPlace route.now router.old }
     ensures { OnOk result (router.new ≡ with_route route.now page router.old) }
@@ -52,7 +52,7 @@ fn add(router: &mut Router<Page>, route: &str, page: Page) -> Result<(), AllocEr
     }
 }
 
-/// The page of a path.
+/// Returns the page of a path.
 fn page_of(router: &Router<Page>, path: &[u8]) -> Option<Page>
     requires { router.now ≡ our_routes }
     ensures { result ≡ page_at path.now }
@@ -73,7 +73,7 @@ fn slash_place(path: &[u8]) -> Option<usize>
     path.iter().position(|b| *b == b'/')
 }
 
-/// The bytes before the first slash, or all of them.
+/// Returns the bytes before the first slash, or all of them.
 fn part(path: &[u8]) -> &[u8]
     ensures { result.now ≡ before_first is_slash path.now }
 {
@@ -83,7 +83,7 @@ fn part(path: &[u8]) -> &[u8]
     }
 }
 
-/// The bytes behind the first slash, or none.
+/// Returns the bytes after the first slash, or none.
 fn rest(path: &[u8]) -> &[u8]
     ensures { result.now ≡ after_first is_slash path.now }
 {
@@ -93,7 +93,7 @@ fn rest(path: &[u8]) -> &[u8]
     }
 }
 
-/// The bytes behind the first three, or none.
+/// Returns the bytes after the first three, or none.
 fn behind_three(path: &[u8]) -> &[u8]
     ensures { result.now ≡ drop 3 path.now }
 {
@@ -115,7 +115,7 @@ fn number_of(path: &[u8]) -> &[u8]
     rest(rest(behind_three(path)))
 }
 
-/// The place of a name among names.
+/// Returns the index of a name among names.
 pub fn place_of(names: &[ByteList], name: &[u8]) -> Option<usize>
     ensures place { result ≡ place_in names.now name.now }
     ensures there { IfSome result (λ i. i < length names.now) }
@@ -123,7 +123,7 @@ pub fn place_of(names: &[ByteList], name: &[u8]) -> Option<usize>
     names.iter().position(|x| x.as_slice() == name)
 }
 
-/// What a path asks for.
+/// Returns the resource that a path names.
 #[tactic(auto, unfolding(crate::specs::Routes::at_path))]
 pub(crate) fn wanted_at(router: &Router<Page>, names: &[ByteList], path: &[u8]) -> Resource
     requires { router.now ≡ our_routes }

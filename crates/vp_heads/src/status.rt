@@ -1,33 +1,33 @@
-//! Statuses.
+//! HTTP status codes (RFC 9110, chapter 15).
 
 ghost use Rattle.std.specs.Prelude.{◌≡◌};
 ghost use Rattle.vp_heads.specs.Replies.{code_of, phrase_of};
 
 use http::StatusCode;
 
-/// The statuses of replies.
+/// The statuses of responses.
 #[derive(Clone, Copy, Debug, PartialEq, Eq, Drop)]
 pub enum Status {
-    /// 200.
+    /// 200 OK.
     Good,
-    /// 206: a part of a picture.
+    /// 206 Partial Content: a part of a picture.
     Partial,
-    /// 400.
+    /// 400 Bad Request.
     BadRequest,
-    /// 404: no such page, stream or packet, or a packet whose picture isn't shown.
+    /// 404 Not Found: no such page, stream or packet, or the packet's picture isn't shown.
     NotFound,
-    /// 405: neither GET nor HEAD.
+    /// 405 Method Not Allowed: a method other than GET and HEAD.
     MethodNotAllowed,
-    /// 416: a range that begins behind the picture's end.
+    /// 416 Range Not Satisfiable: the range begins after the end of the picture.
     RangeNotSatisfiable,
-    /// 422: a packet with a fault.
+    /// 422: the packet has a fault.
     Unprocessable,
-    /// 431: a head that doesn't end.
+    /// 431 Request Header Fields Too Large: the head doesn't end within 8,192 bytes.
     TooLong,
 }
 
 impl Status {
-    /// The status as HTTP's.
+    /// Returns the status code.
     pub(crate) fn code(self) -> StatusCode
         ensures { result ≡ code_of self }
     {
@@ -43,7 +43,7 @@ impl Status {
         }
     }
 
-    /// The phrase that HTTP has for it.
+    /// Returns the reason phrase.
     #[tactic(auto, unfolding(crate::specs::Replies::phrase_of))]
     pub fn phrase(self) -> &'static str
         ensures { result.now ≡ phrase_of self }

@@ -5,31 +5,32 @@ use Rattle.vp_hub.specs.Pages.{Streams, IsReply}
 use Rattle.vp_hub.specs.declared.connection.ConnectionState.{ConnectionState}
 use Rattle.vp_hub.specs.Hub.{ends_head, Serves, HubState, link_of}
 
--- no front of the bytes ends as a head does
+-- no prefix of the bytes ends as a request head does
 abbrev pub HasNoEnd : List ℕ → Type 0
 HasNoEnd bytes = (k : ℕ) → k ≤ length bytes → ends_head (take k bytes) ≡ false
 
--- through the first end
+-- a request head: the bytes up to the first end of a head
 pub record IsRequestHead (h : List ℕ) : Type 0 where
   pub ends : ends_head h ≡ true
   pub first : (k : ℕ) → k < length h → ends_head (take k h) ≡ false
   pub short : length h ≤ 8192
 
--- less than a head
+-- an incomplete head
 pub record IsPartial (bytes : List ℕ) : Type 0 where
   pub none : HasNoEnd bytes
   pub short : length bytes < 8192
 
--- too many bytes without an end
+-- 8,192 bytes without the end of a head
 pub record IsLong (bytes : List ℕ) : Type 0 where
   pub none : HasNoEnd bytes
   pub long : length bytes ≡ 8192
 
+-- the state of a connection that the hub has closed
 abbrev pub gone : ConnectionState
 gone = record { pending = []; closed = true }
 
--- the bytes are these heads, and then less than one or too many; this is kept of them, and this is replied:
--- what follows a head that closes is dropped
+-- The bytes are these heads, followed by an incomplete or an overlong one. The pair is the connection's state and the
+-- response to them; the bytes after a head that closes are dropped.
 abbrev pub AnswersHeads : Streams → List (List ℕ) → List ℕ → ConnectionState × List ℕ → Type 0
 AnswersHeads streams [] bytes v =
     (IsPartial bytes × (v ≡ (record { pending = bytes; closed = false }, [])))
@@ -40,16 +41,17 @@ AnswersHeads streams (h ∷ hs) bytes v =
     ⊎ (IsReply streams h (reply, false) × (w : ConnectionState × List ℕ) × AnswersHeads streams hs rest w
     × (v ≡ (w.0, reply ++ w.1))))
 
--- what is served to a piece, behind less than a head, is the answer to the heads of both
+-- the response to a piece, after an incomplete head, is the response to the heads in both together
 abbrev pub IsCutIntoHeads : Type 0
 IsCutIntoHeads = (streams : Streams) (pending piece : List ℕ) (v : ConnectionState × List ℕ) → IsPartial pending
     → Serves streams piece (record { pending = pending; closed = false }, []) v
     → (hs : List (List ℕ)) × AnswersHeads streams hs (pending ++ piece) v
 
--- what is kept of a connection that isn't closed is less than a head
+-- the bytes of an open connection that are not answered yet are an incomplete head
 abbrev pub KeepsPartial : Option ConnectionState → Type 0
 KeepsPartial l = (state_of_connection : ConnectionState) → l ≡ Some state_of_connection
     → state_of_connection.closed ≡ false → IsPartial state_of_connection.pending
 
+-- this holds for all connections
 abbrev pub AllKeepPartial : HubState → Type 0
 AllKeepPartial s = (c : ℕ) → KeepsPartial (link_of c s.connections)

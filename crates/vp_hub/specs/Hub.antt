@@ -1,4 +1,4 @@
--- The server as a state machine: streams and connections, and the effect and answer of each event. Pinned by the tests
+-- The hub as a state machine: streams and connections, and the effect and the answer of each event. Pinned by the tests
 -- `settings_and_events_refused`, `feed_between_bytes` and `head_too_long`.
 use Rattle.std.specs.Prelude.{◌≡◌, ◌≢◌, ◌==◌, ◌<◌, ◌≤◌, slice_index_or, not, ℕ, nat_lt, nat_eq, Bool, true, false}
 use Rattle.std.specs.Prelude.{codes, List, [], ◌∷◌, ◌++◌, length, map, filter, Option, Some, None, Result, Ok, Err}
@@ -29,16 +29,16 @@ use Rattle.vp_hub.specs.declared.event.HubFault.{HubFault}
 use Rattle.vp_hub.specs.declared.event.HubFault.TheVariants.{UnknownStream, Ended, UnknownConn, AlreadyOpen, TooMany}
 use Rattle.vp_hub.specs.declared.event.HubFault.TheVariants.{Failed, Memory}
 
--- the bytes end as a head does
+-- the bytes end as a request head does
 unfoldable pub ends_head : List ℕ → Bool
 ends_head bytes = ends_with nat_eq bytes (codes "\r\n\r\n")
 
--- one of two facts, by a test
+-- A or B, selected by a condition
 abbrev pub Chosen : Bool → Type 0 → Type 0 → Type 0
 Chosen true A B = A
 Chosen false A B = B
 
--- one byte of a connection: what is kept, and what is written so far
+-- the state of a connection and its output, once a byte is received
 abbrev pub Settles : Streams → List ℕ → List ℕ → ConnectionState × List ℕ → Type 0
 Settles streams pending out w =
     Chosen (ends_head pending)
@@ -46,36 +46,39 @@ Settles streams pending out w =
     (w ≡ (if nat_lt (length pending) 8192 then (record { pending = pending; closed = false }, out) else
     (record { pending = []; closed = true }, out ++ too_long)))
 
+-- one byte of a connection: the states and the outputs before and after
 abbrev pub TakesByte : Streams → ℕ → ConnectionState × List ℕ → ConnectionState × List ℕ → Type 0
 TakesByte streams b v w = Chosen v.0.closed (w ≡ v) (Settles streams (v.0.pending ++ b ∷ []) v.1 w)
 
--- each byte in turn
+-- a piece, byte by byte
 abbrev pub Serves : Streams → List ℕ → ConnectionState × List ℕ → ConnectionState × List ℕ → Type 0
 Serves streams [] v w = w ≡ v
 Serves streams (b ∷ bs) v w = (mid : ConnectionState × List ℕ) × TakesByte streams b v mid × Serves streams bs mid w
 
+-- the result of an event
 abbrev pub Outcome : Type 0
 Outcome = Result Reply HubFault
 
+-- a response without bytes
 abbrev pub no_bytes : Reply
 no_bytes = record { bytes = []; close = false }
 
--- the end isn't told
+-- the end isn't marked yet
 abbrev pub is_open_end : Ending → Bool
 is_open_end ending.Open = true
 is_open_end ending.Good = false
 is_open_end (ending.Faulty f) = false
 
--- the end, by what the stream says of it
+-- how a stream has ended, by the answer to marking its end
 abbrev pub ending_by : Result (Unit {0}) FileFault → Ending
 ending_by (Ok u) = ending.Good
 ending_by (Err f) = ending.Faulty f
 
--- a stream that is lent
+-- the value of a borrowed stream
 abbrev pub lent_source : Option (Bor Source) → Option Source
 lent_source o = option_map (λ s. s.now) o
 
--- the state of the hub
+-- the streams and the connections of a hub
 pub record HubState : Type 0 where
   pub streams : Streams
   pub connections : List Connection
@@ -83,8 +86,7 @@ pub record HubState : Type 0 where
 pub one_is_in_range : (0 < 1) × (1 ≤ 4096)
 one_is_in_range = (lit< tt, lit≤ tt)
 
--- what a stream is held to: the hub's limits but for the cache's number, which is left at 1, since a stream keeps no
--- pictures
+-- the limits of a single stream: those of the hub, except that `cache` is 1, because a stream keeps no pictures
 abbrev pub stream_limits : Limits → Limits
 stream_limits limits = record {
   pixels = limits.pixels;
@@ -97,24 +99,27 @@ stream_limits limits = record {
   cache_in_range = one_is_in_range;
 }
 
--- a hub that no event came to: streams of these names, which were fed nothing
+-- a new stream
 abbrev pub new_source : Limits → Source
 new_source limits = record { stream = fresh_stream (stream_limits limits); end = ending.Open }
 
+-- a new hub: streams with these names, without bytes, and no connections
 abbrev pub initial_hub : List (List ℕ) → Limits → HubState
 initial_hub names limits = record {
   streams = record { names = names; sources = map (λ _. new_source limits) names };
   connections = [];
 }
 
--- what is kept of the connection of a number
+-- the state of the connection with this number
 abbrev pub link_of : ℕ → List Connection → Option ConnectionState
 link_of c [] = None
 link_of c (x ∷ xs) = if x.number == c then Some x.state_of_connection else link_of c xs
 
+-- all connections except the one with this number
 abbrev pub without_connection : ℕ → List Connection → List Connection
 without_connection c xs = filter (λ x. not (x.number == c)) xs
 
+-- the connections with a new state for the one with this number
 abbrev pub with_link : ℕ → ConnectionState → List Connection → List Connection
 with_link c state_of_connection [] = []
 with_link c state_of_connection (x ∷ xs) = if x.number == c then record {
@@ -122,7 +127,7 @@ with_link c state_of_connection (x ∷ xs) = if x.number == c then record {
   state_of_connection = state_of_connection;
 } ∷ xs else x ∷ with_link c state_of_connection xs
 
--- a stream after a piece, and the answer: its end is told, or it met a fault, or it takes the piece
+-- the stream after a piece, and the answer: it has ended, or it has a fault, or it takes the piece
 abbrev pub fed_by : Option FileFault → List ℕ → Source → Source × Outcome
 fed_by (Some file_fault.Ended) piece source = (source, Err Ended)
 fed_by (Some file_fault.Signature) piece source = (source, Err Failed)
@@ -132,11 +137,12 @@ fed_by (Some file_fault.PacketTooLarge) piece source = (source, Err Failed)
 fed_by (Some file_fault.Torn) piece source = (source, Err Failed)
 fed_by None piece source = (record source { stream = after_piece source.stream piece }, Ok no_bytes)
 
+-- a stream after a piece, and the answer; a stream whose end is marked refuses it
 abbrev pub fed : List ℕ → Source → Source × Outcome
 fed piece source = if is_open_end source.end then fed_by (stream_refusal source.stream) piece source else
     (source, Err Ended)
 
--- a stream after its end is told, and the answer
+-- the stream after its end is marked, and the answer
 abbrev pub ended_source : Source → Source × Outcome
 ended_source source =
     if is_open_end source.end
@@ -150,7 +156,7 @@ ended_source source =
     )
     else (source, Err Ended)
 
--- the same at the stream of a name
+-- the effect of f on one stream of the hub
 abbrev pub at_source : (Source → Source × Outcome) → ℕ → Streams → Option Source → Streams × Outcome
 at_source f k streams None = (streams, Err UnknownStream)
 at_source f k streams (Some source) = (
@@ -158,14 +164,16 @@ at_source f k streams (Some source) = (
   (f source).1,
 )
 
+-- the effect of f on the stream at a place, if there is one
 abbrev pub at_place : (Source → Source × Outcome) → Streams → Option ℕ → Streams × Outcome
 at_place f streams None = (streams, Err UnknownStream)
 at_place f streams (Some k) = at_source f k streams (slice_get streams.sources k)
 
+-- the effect of f on the stream with this name, if there is one
 abbrev pub at_name : (Source → Source × Outcome) → List ℕ → Streams → Streams × Outcome
 at_name f name streams = at_place f streams (name_index streams.names name)
 
--- a piece of a connection's bytes: what is kept, and the answer
+-- the state of a connection after a piece of its bytes, and the answer
 abbrev pub Gets : Streams → List ℕ → ConnectionState → ConnectionState × Outcome → Type 0
 Gets streams piece state_of_connection r =
     Chosen state_of_connection.closed
@@ -173,15 +181,19 @@ Gets streams piece state_of_connection r =
     ((w : ConnectionState × List ℕ) × Serves streams piece (state_of_connection, []) w
     × (r ≡ (w.0, Ok (record { bytes = w.1; close = w.0.closed }))))
 
+-- the hub with these streams, and the answer
 abbrev pub with_streams : HubState → Streams × Outcome → HubState × Outcome
 with_streams s r = (record { streams = r.0; connections = s.connections }, r.1)
 
+-- the hub with these connections, and the answer
 abbrev pub with_connections : HubState → List Connection × Outcome → HubState × Outcome
 with_connections s r = (record { streams = s.streams; connections = r.0 }, r.1)
 
+-- the state of a new connection
 abbrev pub new_link : ConnectionState
 new_link = record { pending = []; closed = false }
 
+-- the connections after `Open`, and the answer
 abbrev pub opened : ℕ → List Connection → Option ConnectionState → List Connection × Outcome
 opened c xs (Some state_of_connection) = (xs, Err AlreadyOpen)
 opened c xs None = if nat_lt (length xs) 64 then (
@@ -190,20 +202,23 @@ opened c xs None = if nat_lt (length xs) 64 then (
   Ok no_bytes,
 ) else (xs, Err TooMany)
 
+-- the connections after a piece of bytes, and the answer
 abbrev pub Asks : Streams → ℕ → List ℕ → List Connection → Option ConnectionState → List Connection × Outcome → Type 0
 Asks streams c piece xs None r = r ≡ (xs, Err UnknownConn)
 Asks streams c piece xs (Some state_of_connection) r = (g : ConnectionState × Outcome)
     × Gets streams piece state_of_connection g × (r ≡ (with_link c g.0 xs, g.1))
 
+-- the connection exists, and the hub has not closed it
 abbrev pub is_open : Option ConnectionState → Bool
 is_open None = false
 is_open (Some state_of_connection) = not state_of_connection.closed
 
+-- the connections after `Shut`, and the answer
 abbrev pub shut : ℕ → List Connection → Option ConnectionState → List Connection × Outcome
 shut c xs None = (xs, Err UnknownConn)
 shut c xs (Some state_of_connection) = (without_connection c xs, Ok no_bytes)
 
--- one event: the state after it, and the answer, where memory isn't refused
+-- one event: the state after it, and the answer, unless memory runs out
 abbrev pub HubStep : Event → HubState → HubState × Outcome → Type 0
 HubStep (Feed name piece) s r = r ≡ with_streams s (at_name (fed piece) name s.streams)
 HubStep (End name) s r = r ≡ with_streams s (at_name ended_source name s.streams)
@@ -212,7 +227,7 @@ HubStep (Bytes c piece) s r = Asks s.streams c piece s.connections (link_of c s.
     × (r.0.streams ≡ s.streams)
 HubStep (Shut c) s r = r ≡ with_connections s (shut c s.connections (link_of c s.connections))
 
--- the event would be answered, and not refused
+-- the event would be accepted
 abbrev pub IsFine : Event → HubState → Type 0
 IsFine (Feed name piece) s = IsOk (at_name (fed piece) name s.streams).1
 IsFine (End name) s = ⊥
@@ -220,7 +235,7 @@ IsFine (Open c) s = IsOk (opened c s.connections (link_of c s.connections)).1
 IsFine (Bytes c piece) s = is_open (link_of c s.connections) ≡ true
 IsFine (Shut c) s = ⊥
 
--- where memory is refused: a connection whose bytes came is closed
+-- the state after memory runs out: a connection whose bytes were handled is closed
 abbrev pub after_memory : Event → HubState → HubState
 after_memory (Bytes c piece) s = record {
   streams = s.streams;
@@ -231,7 +246,7 @@ after_memory (End name) s = s
 after_memory (Open c) s = s
 after_memory (Shut c) s = s
 
--- memory is refused only to an event that takes some, and that would be answered otherwise
+-- memory runs out only for events that would be accepted otherwise, and that need memory
 pub record IsRefusedMemory (old : HubState) (e : Event) (new : HubState) : Type 0 where
   pub fine : IsFine e old
   pub after : new ≡ after_memory e old
@@ -240,7 +255,7 @@ pub record IsRefusedMemory (old : HubState) (e : Event) (new : HubState) : Type 
 abbrev pub IsStep : HubState → Event → Outcome → HubState → Type 0
 IsStep old e o new = (o ≡ Err Memory → IsRefusedMemory old e new) × (o ≢ Err Memory → HubStep e old (new, o))
 
--- the connection of the number stands there
+-- i is the index of the connection with this number
 pub record IsPlaceOf (c : ℕ) (xs : List Connection) (i : ℕ) : Type 0 where
   pub there : i < length xs
   pub number : (d : Connection) → (slice_index_or xs i d).number ≡ c
@@ -248,6 +263,6 @@ pub record IsPlaceOf (c : ℕ) (xs : List Connection) (i : ℕ) : Type 0 where
   pub set : (state_of_connection : ConnectionState) → slice_set xs i
       (record { number = c; state_of_connection = state_of_connection }) ≡ with_link c state_of_connection xs
 
--- each kept picture is the answer of the stream that its number says
+-- each cached picture is the answer of the stream with its number
 abbrev pub AreKept : List Source → List CacheEntry → Type 0
 AreKept sources entries = (k : ℕ) (s : Source) → slice_get sources k ≡ Some s → AreAnswersOf k s.stream entries

@@ -12,10 +12,11 @@ use Rattle.vp_hub.specs.declared.session.ServeFault.TheVariants.{Hub, Device, Re
 abbrev pub is_name_byte : ℕ → Bool
 is_name_byte b = (nat_le 97 b && nat_le b 122) || ((nat_le 48 b && nat_le b 57) || (b == 45 || b == 95))
 
--- 1 to 32 of them
+-- 1 to 32 such characters
 abbrev pub is_name : List ℕ → Bool
 is_name name = nat_le 1 (length name) && (nat_le (length name) 32 && list_all is_name_byte name)
 
+-- no two names are equal
 unfoldable pub are_distinct : List (List ℕ) → Bool
 are_distinct [] = true
 are_distinct (name ∷ more) = not (list_any (λ x. bytes_eq x name) more) && are_distinct more
@@ -25,8 +26,9 @@ abbrev pub are_names : List (List ℕ) → Bool
 are_names names = nat_le 1 (length names) && (nat_le (length names) 16
     && (list_all is_name names && are_distinct names))
 
--- ---- the names of faults, as they are told
+-- ---- the names of faults, as printed
 
+-- the name of a fault of the hub
 abbrev pub hub_fault_name : HubFault → List ℕ
 hub_fault_name UnknownStream = codes "UnknownStream"
 hub_fault_name Ended = codes "Ended"
@@ -36,6 +38,7 @@ hub_fault_name TooMany = codes "TooMany"
 hub_fault_name Failed = codes "Failed"
 hub_fault_name Memory = codes "Memory"
 
+-- the name of a fault of serving
 abbrev pub serve_fault_name : ServeFault → List ℕ
 serve_fault_name (Hub fault) = hub_fault_name fault
 serve_fault_name Device = codes "Device"

@@ -20,60 +20,67 @@ use Rattle.vp_hub.specs.declared.source.Source.{Source}
 use Rattle.vp_hub.specs.declared.source.Ending.{Ending}
 use Rattle.vp_hub.specs.declared.source.Ending.TheVariants.{Open, Good, Faulty}
 
--- the streams: their names, and in the same order what is known of each
+-- the names of the streams, and the streams in the same order
 pub record Streams : Type 0 where
   pub names : List (List ℕ)
   pub sources : List Source
 
--- ---- the names: each and a line feed
+-- ---- the list of names: each name and a line feed
 
+-- the list of names
 abbrev pub names_text : List (List ℕ) → List ℕ
 names_text names = flat_map (λ (name : List ℕ). name ++ 10 ∷ []) names
 
--- ---- what is known of a stream: its state, how many packets are whole, and once its head is good what that says
+-- ---- a stream's information: its state, the number of whole packets, and the lines for its head once it is valid
 
--- the fault that it has, also that it is torn where its end was told, or whether the end was told
+-- the fault of the stream, if it has one, which includes `Torn` after its end; else whether it has ended
 abbrev pub state_by : Ending → Option FileFault → List ℕ
 state_by (Faulty f) fault = file_fault_name f
 state_by Good fault = codes "ended"
 state_by Open (Some f) = file_fault_name f
 state_by Open None = codes "open"
 
+-- the lines for a stream's head: its size and its rate
 abbrev pub head_lines : Option IvfHead → List ℕ
 head_lines None = []
 head_lines (Some h) =
     codes "size " ++ (decimal h.w ++ (codes "x" ++ (decimal h.h
     ++ (codes "\nrate " ++ (decimal h.rate ++ (codes "/" ++ (decimal h.scale ++ codes "\n")))))))
 
+-- the information about a stream
 unfoldable pub info_text : Source → List ℕ
 info_text s =
     codes "state " ++ (state_by s.end (stream_refusal s.stream)
     ++ (codes "\npackets " ++ (decimal (length s.stream.reading.packets)
     ++ (codes "\n" ++ head_lines s.stream.reading.head))))
 
+-- the content of the information page
 abbrev pub info_content : Option Source → Content
 info_content None = Failed NotFound
 info_content (Some s) = Lines (info_text s)
 
--- ---- a packet's picture: its I420; before it, in a Y4M file, the line of the header and that of the picture
+-- ---- a packet's picture: its I420 pixels; in a YUV4MPEG2 file after the header line and the frame line
 
+-- the bytes before the I420 pixels: the header line and the frame line of a YUV4MPEG2 file
 abbrev pub front_by : Bool → Option IvfHead → ℕ → ℕ → List ℕ
 front_by false head w h = []
 front_by true None w h = codes "FRAME\n"
 front_by true (Some head) w h = header_text w h head.rate head.scale ++ codes "FRAME\n"
 
+-- the content for a packet's answer
 abbrev pub picture_by : Bool → Option IvfHead → AnswerValue → Content
 picture_by video head (Shown w h pixels) = Pixels (front_by video head w h ++ pixels)
 picture_by video head Hidden = Failed NotFound
 picture_by video head NoPacket = Failed NotFound
 picture_by video head (Fault f) = Faulted (packet_fault_name f)
 
+-- the content for packet n of a stream
 abbrev pub picture_content : Bool → Option Source → ℕ → Content
 picture_content video None n = Failed NotFound
 picture_content video (Some s) n = picture_by video s.stream.reading.head
     (answer_at s.stream.limits s.stream.reading.packets n)
 
--- what is found for what is wanted
+-- the content for a resource
 abbrev pub content_of : Streams → Resource → Content
 content_of s wanted.Bad = Failed BadRequest
 content_of s wanted.WrongMethod = Failed MethodNotAllowed
@@ -83,7 +90,7 @@ content_of s (wanted.Info k) = info_content (slice_get s.sources k)
 content_of s (wanted.Frame k n) = picture_content false (slice_get s.sources k) n
 content_of s (wanted.Video k n) = picture_content true (slice_get s.sources k) n
 
--- the reply to a head, and whether it closes the connection
+-- the response to a request head, and whether it closes the connection
 unfoldable pub IsReply : Streams → List ℕ → List ℕ × Bool → Type 0
 IsReply s head r =
     (request : Request) × IsAsked s.names head request × (r ≡

@@ -15,18 +15,19 @@ use Rattle.vp_hub.specs.Pages.{Streams}
 use Rattle.vp_hub.specs.Hub.{Outcome, HubState, initial_hub, stream_limits, ending_by}
 use Rattle.vp_hub.specs.View.{IsRun}
 
--- the stream at a place is what these bytes make of it
+-- the stream at place k results from these bytes
 pub record IsReadFrom (limits : Limits) (k : ℕ) (streams : Streams) (bytes : List ℕ) : Type 0 where
   pub source : Source
   pub there : slice_get streams.sources k ≡ Some source
   pub limits_are : source.stream.limits ≡ limits
   pub reading : source.stream.reading ≡ reading_of limits bytes
 
+-- the stream's index is k
 abbrev pub is_at : ℕ → Option ℕ → Bool
 is_at k None = false
 is_at k (Some j) = j == k
 
--- the piece of that stream that the event brought, if it was accepted
+-- the piece of stream k that the event brings, if it is accepted
 abbrev pub accepted : List (List ℕ) → ℕ → Event → Outcome → List ℕ
 accepted names k (Feed name piece) (Ok reply) = if is_at k (name_index names name) then piece else []
 accepted names k (Feed name piece) (Err f) = []
@@ -35,16 +36,18 @@ accepted names k (Open c) o = []
 accepted names k (Bytes c piece) o = []
 accepted names k (Shut c) o = []
 
+-- the pieces of stream k that the run accepts
 abbrev pub all_accepted : List (List ℕ) → ℕ → List Event → List Outcome → List ℕ
 all_accepted names k [] os = []
 all_accepted names k (e ∷ es) [] = []
 all_accepted names k (e ∷ es) (o ∷ os) = accepted names k e o ++ all_accepted names k es os
 
--- after a run each stream is what its bytes before and its accepted pieces make of it
+-- after a run, each stream results from its earlier bytes and its accepted pieces
 abbrev pub AreAcceptedPieces : HubState → List Event → List Outcome → HubState → Type 0
 AreAcceptedPieces s es os new = (limits : Limits) (k : ℕ) (bytes : List ℕ) → IsReadFrom limits k s.streams bytes
     → IsReadFrom limits k new.streams (bytes ++ all_accepted s.streams.names k es os)
 
+-- this holds for all runs
 abbrev pub RunsAddAcceptedPieces : Type 0
 RunsAddAcceptedPieces = (s new : HubState) (es : List Event) (os : List Outcome) → IsRun s es os new
     → AreAcceptedPieces s es os new
@@ -56,7 +59,7 @@ NewStreamsHaveNoBytes = (names : List (List ℕ)) (limits : Limits) (k : ℕ) �
 
 -- ---- the end
 
--- the event told the end of that stream, and was accepted
+-- the event marks the end of stream k, and is accepted
 abbrev pub accepts_end : List (List ℕ) → ℕ → Event → Outcome → Bool
 accepts_end names k (End name) (Ok reply) = is_at k (name_index names name)
 accepts_end names k (End name) (Err f) = false
@@ -65,31 +68,31 @@ accepts_end names k (Open c) o = false
 accepts_end names k (Bytes c piece) o = false
 accepts_end names k (Shut c) o = false
 
--- one of the events did
+-- one of the events does so
 abbrev pub end_accepted : List (List ℕ) → ℕ → List Event → List Outcome → Bool
 end_accepted names k [] os = false
 end_accepted names k (e ∷ es) [] = false
 end_accepted names k (e ∷ es) (o ∷ os) = accepts_end names k e o || end_accepted names k es os
 
--- what is said of the end: nothing before it is told, `Torn` neither; from then on what is wrong with the bytes
+-- how a stream has ended: it is open before its end is marked, and then its bytes determine its fault
 abbrev pub end_by : Bool → Contents → Ending
 end_by false reading = ending.Open
 end_by true reading = ending_by (finish_answer reading)
 
--- the stream at a place is what these bytes make of it, and its end is told, or it isn't; a fault that was met stays
--- in its place
+-- the stream at place k results from these bytes, and its end is marked or not; a fault takes precedence
 pub record IsEndedFrom (limits : Limits) (k : ℕ) (streams : Streams) (bytes : List ℕ) (told : Bool) : Type 0 where
   pub read : IsReadFrom limits k streams bytes
   pub end : read.source.end ≡ end_by told (reading_of limits bytes)
   pub ended : read.source.stream.ended ≡ (told && is_none (reading_of limits bytes).fault)
 
--- after a run the end of each stream is told where it was, or where the run accepted an End of it, and nowhere else
+-- after a run, a stream's end is marked exactly if it was before, or if the run accepted an `End` for it
 abbrev pub AreAcceptedEnds : HubState → List Event → List Outcome → HubState → Type 0
 AreAcceptedEnds s es os new = (limits : Limits) (k : ℕ) (bytes : List ℕ) (told : Bool)
     → IsEndedFrom limits k s.streams bytes told
     → IsEndedFrom limits k new.streams (bytes ++ all_accepted s.streams.names k es os) (told
     || end_accepted s.streams.names k es os)
 
+-- this holds for all runs
 abbrev pub RunsEndAtAcceptedEnds : Type 0
 RunsEndAtAcceptedEnds = (s new : HubState) (es : List Event) (os : List Outcome) → IsRun s es os new
     → AreAcceptedEnds s es os new

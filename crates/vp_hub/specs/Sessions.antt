@@ -1,5 +1,5 @@
--- One connection over a reader and a writer, from its opening to its end: what is read, answered and written. Pinned by
--- the tests `serve_one_in_single_bytes` and `reads_are_not_refused`.
+-- One connection over a reader and a writer, from its opening to its end: the bytes read, the responses, and the bytes
+-- written. Pinned by the tests `serve_one_in_single_bytes` and `reads_are_not_refused`.
 use Rattle.std.specs.Prelude.{◌≡◌, ◌<◌, ◌≤◌, ◌^◌, ◌⊎◌, ℕ, Bool, true, false, List, [], ◌∷◌, ◌++◌, length, Option, Some}
 use Rattle.std.specs.Prelude.{None, Result, Ok, Err, IsOk, All}
 use Rattle.std.specs.List.{concat}
@@ -18,46 +18,46 @@ use Rattle.vp_hub.specs.Hub.{Outcome, HubState, IsStep, no_bytes, with_link}
 use Rattle.vp_hub.specs.Heads.{AnswersHeads}
 use Rattle.vp_hub.specs.View.{IsRun}
 
--- ---- the words
+-- ---- pieces and responses
 
--- what is handed in at once
+-- the bytes of one read
 abbrev pub IsPiece : List ℕ → Type 0
 IsPiece piece = (0 < length piece) × (length piece ≤ 4096)
 
--- the pieces that a connection brings, as events
+-- the events for the pieces of a connection
 abbrev pub byte_events : ℕ → List (List ℕ) → List Event
 byte_events c [] = []
 byte_events c (piece ∷ pieces) = Bytes c piece ∷ byte_events c pieces
 
--- the bytes of the replies, one behind the other
+-- the bytes of a response
 abbrev pub reply_bytes : Outcome → List ℕ
 reply_bytes (Ok reply) = reply.bytes
 reply_bytes (Err fault) = []
 
+-- the bytes of all responses
 abbrev pub replies : List Outcome → List ℕ
 replies [] = []
 replies (o ∷ os) = reply_bytes o ++ replies os
 
--- the connection stays open behind it
+-- the connection stays open after the answer
 abbrev pub StaysOpen : Outcome → Type 0
 StaysOpen (Ok reply) = reply.close ≡ false
 StaysOpen (Err fault) = ⊥
 
--- the connection is closed behind it
+-- the connection is closed after the answer
 abbrev pub Closes : Outcome → Type 0
 Closes (Ok reply) = reply.close ≡ true
 Closes (Err fault) = ⊥
 
--- the bytes are cut into heads, and this is the reply to them
+-- the bytes are split into request heads, and the text is the response to them
 abbrev pub AreAnswered : Streams → List ℕ → List ℕ → Type 0
 AreAnswered streams bytes text = (heads : List (List ℕ)) × (kept : ConnectionState)
     × AnswersHeads streams heads bytes (kept, text)
 
--- ---- how it ends
+-- ---- the end of a session
 
--- by the outcome of the last piece, where that is an end: it ends well at the reader's end, or behind a reply that
--- closes;
--- by a fault of the hub; where a read or a write failed; or behind 1,048,576 reads
+-- The end of a session, given the answer to the last piece. It succeeds at the reader's end, or after a response that
+-- closes. It fails by a fault of the hub, a failed read or write, or after 1,048,576 reads.
 abbrev pub EndsBy : Result (Unit {0}) ServeFault → Option Outcome → ℕ → Option (List ℕ) → Type 0
 EndsBy (Ok u) None reads left = IsAtEnd left
 EndsBy (Ok u) (Some last) reads left = Closes last
@@ -66,14 +66,14 @@ EndsBy (Err Device) None reads left = Unit {0}
 EndsBy (Err Device) (Some last) reads left = IsOk last
 EndsBy (Err ReadTurns) last reads left = (last ≡ None) × (reads ≡ 2 ^ 20)
 
--- all replies are written, or a front of them where a write failed
+-- all responses are written, or a prefix of them if a write failed
 abbrev pub WritesBy : Result (Unit {0}) ServeFault → Type 0 → List ℕ → Option (List ℕ) → Option (List ℕ) → Type 0
 WritesBy (Ok u) failed text before after = Appends before after text
 WritesBy (Err (Hub fault)) failed text before after = Appends before after text
 WritesBy (Err Device) failed text before after = Appends before after text ⊎ (failed × AppendsFront before after text)
 WritesBy (Err ReadTurns) failed text before after = Appends before after text
 
--- all that was read is answered; where the hub met a fault a front of it
+-- the responses answer all bytes read; after a fault of the hub, a prefix of them
 abbrev pub AnsweredBy : Result (Unit {0}) ServeFault → Streams → List ℕ → List ℕ → Type 0
 AnsweredBy (Ok u) streams bytes text = AreAnswered streams bytes text
 AnsweredBy (Err (Hub fault)) streams bytes text = (front back : List ℕ) × (bytes ≡ front ++ back)
@@ -81,9 +81,10 @@ AnsweredBy (Err (Hub fault)) streams bytes text = (front back : List ℕ) × (by
 AnsweredBy (Err Device) streams bytes text = AreAnswered streams bytes text
 AnsweredBy (Err ReadTurns) streams bytes text = AreAnswered streams bytes text
 
--- ---- the whole
+-- ---- the whole session
 
--- between its coming and its going: what is read is handed in, each piece as an event; all outcomes but the last go on
+-- a session after its opening and before its shutting: each piece read is an event; all answers except the last keep
+-- the connection open
 pub record IsOpenSession (c : ℕ) (old new : HubState) (o : Result (Unit {0}) ServeFault) (read : List ℕ)
     (left before after : Option (List ℕ)) (failed : Type 0) : Type 0 where
   pub pieces : List (List ℕ)
@@ -97,7 +98,7 @@ pub record IsOpenSession (c : ℕ) (old new : HubState) (o : Result (Unit {0}) S
   pub writes : WritesBy o failed (replies (going ++ option_to_list last)) before after
   pub answered : AnsweredBy o old.streams read (replies (going ++ option_to_list last))
 
--- the connection comes, talks and goes
+-- a session: the connection is opened, served and shut
 pub record IsSession (c : ℕ) (old new : HubState) (o : Result (Unit {0}) ServeFault) (read : List ℕ)
     (left before after : Option (List ℕ)) (failed : Type 0) : Type 0 where
   pub first : HubState
@@ -106,22 +107,22 @@ pub record IsSession (c : ℕ) (old new : HubState) (o : Result (Unit {0}) Serve
   pub talks : IsOpenSession c first last o read left before after failed
   pub goes : IsStep last (Shut c) (Ok no_bytes) new
 
--- the coming is refused
+-- the opening is refused
 abbrev pub IsTurnedAway : ℕ → HubState → HubState → Result (Unit {0}) ServeFault → Type 0
 IsTurnedAway c old new o = (fault : HubFault) × IsStep old (Open c) (Err fault) new × (o ≡ Err (Hub fault))
 
--- streams and connections are the same, but for what is kept of that connection
+-- only the state of connection c has changed
 abbrev pub StandsApart : ℕ → HubState → HubState → Type 0
 StandsApart c old new = (state_of_connection : ConnectionState)
     × (new ≡ record { streams = old.streams; connections = with_link c state_of_connection old.connections })
 
 -- ---- one read
 
--- a piece with its reply
+-- a piece with its response
 abbrev pub GetsReply : ℕ → HubState → HubState → List ℕ → Reply → Type 0
 GetsReply c old new piece reply = IsPiece piece × IsStep old (Bytes c piece) (Ok reply) new
 
--- what comes of it: a reply that goes on; or the reader's end, or a reply that closes; or a fault
+-- one read: a response that keeps the connection open; or the reader's end, or a response that closes; or a fault
 abbrev pub Exchanges : ℕ → HubState → HubState → Result Bool ServeFault → List ℕ → Option (List ℕ) → Option (List ℕ)
     → Option (List ℕ) → Type 0 → Type 0
 Exchanges c old new (Ok true) piece left before after failed =

@@ -1,4 +1,4 @@
--- Which connections are open, by the history of events and results alone, and the limit of 64.
+-- The connections of a hub, determined by the history of events and results alone, and the limit of 64.
 use Rattle.std.specs.Prelude.{◌≡◌, ◌==◌, ◌≤◌, ◌↔◌, ℕ, not, Bool, false, List, [], ◌∷◌, ◌++◌, length, map, filter, Ok}
 use Rattle.std.specs.Prelude.{Err}
 use Rattle.std.specs.List.{list_any}
@@ -13,7 +13,7 @@ use Rattle.vp_hub.specs.View.{IsRun}
 abbrev pub connection_numbers : List Connection → List ℕ
 connection_numbers connections = map (λ x. x.number) connections
 
--- an opening that was accepted adds its number; a shutting takes its number away
+-- an accepted `Open` adds the number; a `Shut` removes it
 abbrev pub standing_after : List ℕ → Event → Outcome → List ℕ
 standing_after cs (Open c) (Ok reply) = cs ++ c ∷ []
 standing_after cs (Open c) (Err fault) = cs
@@ -22,25 +22,26 @@ standing_after cs (Bytes c piece) o = cs
 standing_after cs (Feed name piece) o = cs
 standing_after cs (End name) o = cs
 
--- the numbers that stand after a history, where these stood before it
+-- the numbers after a history, given those before it
 abbrev pub standing : List ℕ → List Event → List Outcome → List ℕ
 standing cs [] os = cs
 standing cs (e ∷ es) [] = cs
 standing cs (e ∷ es) (o ∷ os) = standing (standing_after cs e o) es os
 
+-- the number is in the list
 abbrev pub stands : ℕ → List ℕ → Bool
 stands c cs = list_any (λ x. x == c) cs
 
--- 64 others stand
+-- there are 64 others
 abbrev pub IsFull : ℕ → List ℕ → Type 0
 IsFull c cs = (stands c cs ≡ false) × (64 ≤ length cs)
 
--- a connection stands from its accepted opening to its shutting, and no longer
+-- a connection is there from its accepted `Open` to its `Shut`, and no longer
 abbrev pub StandsToShut : Type 0
 StandsToShut = (s new : HubState) (es : List Event) (os : List Outcome) → IsRun s es os new
     → connection_numbers new.connections ≡ standing (connection_numbers s.connections) es os
 
--- behind a history an opening is one too many exactly where 64 others stand by it
+-- after a history, an `Open` is refused with `TooMany` exactly if there are 64 others by that history
 abbrev pub IsTooManyByHistory : Type 0
 IsTooManyByHistory = (s mid new : HubState) (es : List Event) (os : List Outcome) (c : ℕ) (o : Outcome)
     → IsRun s es os mid → IsStep mid (Open c) o new

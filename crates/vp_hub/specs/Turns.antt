@@ -1,5 +1,5 @@
--- The statement of the law `histories_are_cut`: all bytes of a connection as heads, each answered at the event that
--- completes it.
+-- The statement of the law `histories_are_cut`: all bytes of a connection as request heads, each answered at the event
+-- that completes it.
 use Rattle.std.specs.Prelude.{◌≡◌, false, ℕ, List, [], ◌∷◌, ◌++◌, Option, Some, None, Ok, IfSome}
 use Rattle.std.specs.List.{concat}
 use Rattle.vp_hub.specs.declared.connection.ConnectionState.{ConnectionState}
@@ -7,7 +7,7 @@ use Rattle.vp_hub.specs.Hub.{Chosen, Outcome}
 use Rattle.vp_hub.specs.Heads.{AnswersHeads, IsPartial}
 use Rattle.vp_hub.specs.View.{Seen, Fed, Over, Opened, Got, Gone, Lost, Sight, See, Leads}
 
--- the bytes of the pieces
+-- the bytes of all pieces
 abbrev pub bytes_seen : List Seen → List ℕ
 bytes_seen [] = []
 bytes_seen (Got piece ∷ es) = piece ++ bytes_seen es
@@ -17,15 +17,13 @@ bytes_seen (Opened ∷ es) = bytes_seen es
 bytes_seen (Gone ∷ es) = bytes_seen es
 bytes_seen (Lost ∷ es) = bytes_seen es
 
--- an open connection that keeps these bytes
+-- an open connection with these bytes pending
 abbrev pub keeps : List ℕ → ConnectionState
 keeps kept = record { pending = kept; closed = false }
 
--- A connection that keeps these bytes sees these events, from v on: each piece, behind what is kept, is cut into
--- heads, and they
--- are answered at that event, as the streams are then. These are all heads, and the rest is less than one; there is
--- none
--- where a head closed it, or it is gone or lost.
+-- A connection with these bytes pending sees these events, starting at v. Each piece, after the pending bytes, is split
+-- into heads, which are answered at that event with the streams as they are then. `heads` are all of these heads.
+-- `rest` is the incomplete head at the end; there is none if a head closed the connection, or if it is gone or lost.
 abbrev pub AreCutInTurn : List ℕ → List Seen → Sight → List Outcome → List (List ℕ) → Option (List ℕ) → Type 0
 AreCutInTurn kept [] v os heads rest = (heads ≡ []) × (rest ≡ Some kept)
 AreCutInTurn kept (e ∷ es) v [] heads rest = ⊥
@@ -43,9 +41,8 @@ AreCutInTurn kept (Opened ∷ es) v (o ∷ os) heads rest = (mid : Sight) × See
 AreCutInTurn kept (Gone ∷ es) v (o ∷ os) heads rest = (heads ≡ []) × (rest ≡ None)
 AreCutInTurn kept (Lost ∷ es) v (o ∷ os) heads rest = (heads ≡ []) × (rest ≡ None)
 
--- from its opening on, whatever else comes between, all bytes of a connection are cut into heads, each answered at
--- the event
--- that brings its last byte
+-- from its opening on, whatever happens in between, all bytes of a connection are split into request heads, each
+-- answered at the event that brings its last byte
 abbrev pub HistoriesAreCut : Type 0
 HistoriesAreCut = (es : List Seen) (v w : Sight) (os : List Outcome) → Leads es v os w
     → v.state_of_connection ≡ Some (keeps [])

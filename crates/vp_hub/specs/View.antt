@@ -1,4 +1,4 @@
--- The events that one connection sees, and the results that follow from them alone: isolation of connections.
+-- The events that one connection sees, and the results that they determine: isolation of connections.
 use Rattle.std.specs.Prelude.{◌≡◌, ◌==◌, ℕ, Bool, true, false, List, [], ◌∷◌, ◌++◌, Option, Some, None, Ok, Err}
 use Rattle.std.specs.Prelude.{if◌then◌else◌}
 use Rattle.vp_base.specs.declared.limits.Limits.{Limits}
@@ -11,7 +11,7 @@ use Rattle.vp_hub.specs.declared.event.HubFault.TheVariants.{Failed, Memory}
 use Rattle.vp_hub.specs.Hub.{Outcome, HubState, link_of, fed, ended_source, at_name, Gets, no_bytes, new_link, IsStep}
 use Rattle.vp_hub.specs.Hub.{initial_hub}
 
--- events as one connection sees them; the last is that the hub closed it
+-- an event as one connection sees it; `Lost`: the hub has closed the connection because memory ran out
 pub data Seen : Type 0 where
   Fed : (name piece : List ℕ) → Seen
   Over : (name : List ℕ) → Seen
@@ -20,6 +20,7 @@ pub data Seen : Type 0 where
   Gone : Seen
   Lost : Seen
 
+-- memory ran out
 abbrev pub is_memory : Outcome → Bool
 is_memory (Err Memory) = true
 is_memory (Err TooMany) = false
@@ -30,6 +31,7 @@ is_memory (Err AlreadyOpen) = false
 is_memory (Err Failed) = false
 is_memory (Ok reply) = false
 
+-- there are too many connections
 abbrev pub is_too_many : Outcome → Bool
 is_too_many (Err Memory) = false
 is_too_many (Err TooMany) = true
@@ -40,8 +42,8 @@ is_too_many (Err AlreadyOpen) = false
 is_too_many (Err Failed) = false
 is_too_many (Ok reply) = false
 
--- what connection c sees of one event with its result: a piece of a stream or an opening that memory was
--- refused for isn't seen, nor an opening that was one too many; bytes that memory was refused for close
+-- What connection c sees of an event, given its result. It doesn't see a piece of a stream, or an opening, for which
+-- memory ran out, nor an opening that was refused with `TooMany`. If memory runs out for its bytes, it is closed.
 abbrev pub seen_events : ℕ → Event → Outcome → List Seen
 seen_events c (Feed name piece) o = if is_memory o then [] else Fed name piece ∷ []
 seen_events c (End name) o = Over name ∷ []
@@ -50,53 +52,62 @@ seen_events c (Open d) o = if d == c then (if is_memory o then [] else if is_too
 seen_events c (Bytes d piece) o = if d == c then (if is_memory o then Lost ∷ [] else Got piece ∷ []) else []
 seen_events c (Shut d) o = if d == c then Gone ∷ [] else []
 
--- the view of connection c, and the results of the events in it
+-- the view of connection c: all events that it sees
 abbrev pub view_of : ℕ → List Event → List Outcome → List Seen
 view_of c [] os = []
 view_of c (e ∷ es) [] = []
 view_of c (e ∷ es) (o ∷ os) = seen_events c e o ++ view_of c es os
 
+-- the result of an event, if the connection sees it
 abbrev pub told : List Seen → Outcome → List Outcome
 told [] o = []
 told (e ∷ es) o = o ∷ []
 
+-- the results of the events that connection c sees
 abbrev pub results_of : ℕ → List Event → List Outcome → List Outcome
 results_of c [] os = []
 results_of c (e ∷ es) [] = []
 results_of c (e ∷ es) (o ∷ os) = told (seen_events c e o) o ++ results_of c es os
 
--- what a connection's results depend on: the streams, and what is kept of it
+-- the state that a connection's results depend on: the streams, and its own state
 pub record Sight : Type 0 where
   pub streams : Streams
   pub state_of_connection : Option ConnectionState
 
+-- the state for connection c
 abbrev pub sight : ℕ → HubState → Sight
 sight c s = record { streams = s.streams; state_of_connection = link_of c s.connections }
 
+-- `Open` as the connection sees it
 abbrev pub open_again : Option ConnectionState → Option ConnectionState × Outcome
 open_again (Some state_of_connection) = (Some state_of_connection, Err AlreadyOpen)
 open_again None = (Some new_link, Ok no_bytes)
 
+-- a piece of bytes as the connection sees it
 abbrev pub AsksAgain : Streams → List ℕ → Option ConnectionState → Option ConnectionState × Outcome → Type 0
 AsksAgain streams piece None r = r ≡ (None, Err UnknownConn)
 AsksAgain streams piece (Some state_of_connection) r = (g : ConnectionState × Outcome)
     × Gets streams piece state_of_connection g × (r ≡ (Some g.0, g.1))
 
+-- `Shut` as the connection sees it
 abbrev pub go : Option ConnectionState → Option ConnectionState × Outcome
 go None = (None, Err UnknownConn)
 go (Some state_of_connection) = (None, Ok no_bytes)
 
+-- a connection whose bytes memory ran out for
 abbrev pub lose : Option ConnectionState → Option ConnectionState
 lose None = None
 lose (Some state_of_connection) = Some (record { pending = []; closed = true })
 
+-- the state with these streams, and the answer
 abbrev pub with_streams_of : Sight → Streams × Outcome → Sight × Outcome
 with_streams_of v r = (record { streams = r.0; state_of_connection = v.state_of_connection }, r.1)
 
+-- the state with this connection, and the answer
 abbrev pub with_link_of : Sight → Option ConnectionState × Outcome → Sight × Outcome
 with_link_of v r = (record { streams = v.streams; state_of_connection = r.0 }, r.1)
 
--- one event of a view: what is kept after it, and its result
+-- one event of a view: the state after it, and its result
 abbrev pub See : Seen → Sight → Sight × Outcome → Type 0
 See (Fed name piece) v r = r ≡ with_streams_of v (at_name (fed piece) name v.streams)
 See (Over name) v r = r ≡ with_streams_of v (at_name ended_source name v.streams)
@@ -106,7 +117,7 @@ See (Got piece) v r = AsksAgain v.streams piece v.state_of_connection (r.0.state
 See Gone v r = r ≡ with_link_of v (go v.state_of_connection)
 See Lost v r = r ≡ with_link_of v (lose v.state_of_connection, Err Memory)
 
--- from a, the events of a view have these results and lead to b
+-- the events of a view lead from a to b, with these results
 abbrev pub Leads : List Seen → Sight → List Outcome → Sight → Type 0
 Leads [] a [] b = b ≡ a
 Leads (e ∷ es) a (o ∷ os) b = (mid : Sight) × See e a (mid, o) × Leads es mid os b
@@ -120,32 +131,33 @@ IsRun old (e ∷ es) (o ∷ os) new = (mid : HubState) × IsStep old e o mid × 
 IsRun old [] (o ∷ os) new = ⊥
 IsRun old (e ∷ es) [] new = ⊥
 
--- one run behind another is a run
+-- two consecutive runs are one run
 abbrev pub RunsAreJoined : Type 0
 RunsAreJoined = (s mid new : HubState) (es fs : List Event) (os ps : List Outcome) → IsRun s es os mid
     → IsRun mid fs ps new
     → IsRun s (es ++ fs) (os ++ ps) new
 
--- each connection gets the results that its view gives
+-- each connection gets the results that its view determines
 abbrev pub IsIsolated : HubState → List Event → List Outcome → HubState → Type 0
 IsIsolated s es os new = (c : ℕ) → Leads (view_of c es os) (sight c s) (results_of c es os) (sight c new)
 
+-- this holds for all runs
 abbrev pub RunsAreIsolated : Type 0
 RunsAreIsolated = (s new : HubState) (es : List Event) (os : List Outcome) → IsRun s es os new → IsIsolated s es os new
 
--- two runs, from hubs alike to connection c, whose views of c are equal answer c alike
+-- in two runs from hubs that are equal for connection c, equal views of c give equal results
 abbrev pub AnswersAlike : Type 0
 AnswersAlike = (c : ℕ) (s t : HubState) (es fs : List Event) (os ps : List Outcome) (new mid : HubState)
     → IsRun s es os new → IsRun t fs ps mid → sight c s ≡ sight c t → view_of c es os ≡ view_of c fs ps
     → results_of c es os ≡ results_of c fs ps
 
--- the same limits, but for how many pictures are kept
+-- the limits are equal, except for the number of cached pictures
 pub record AreLimitsBesideCache (a b : Limits) : Type 0 where
   pub pixels : a.pixels ≡ b.pixels
   pub packet_bytes : a.packet_bytes ≡ b.packet_bytes
   pub packets : a.packets ≡ b.packets
 
--- so do two new hubs of the same names, however many pictures each keeps
+-- two new hubs with the same names give equal results, whatever the number of pictures that each caches
 abbrev pub NewHubsAnswerAlike : Type 0
 NewHubsAnswerAlike = (names : List (List ℕ)) (a b : Limits) (c : ℕ) (es fs : List Event) (os ps : List Outcome)
     (new mid : HubState)

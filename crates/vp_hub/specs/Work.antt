@@ -18,13 +18,13 @@ use Rattle.vp_hub.specs.Hub.{Chosen, Outcome, ends_head, TakesByte, HubState, li
 
 -- ---- one request
 
--- the packets that are decoded for packet n of stream k: none where its picture is kept or there is no such packet,
--- else
--- those from the last key packet on
+-- the number of packets decoded for packet n of stream k: 0 for a cache hit or without such a packet, else those from
+-- the last key packet on
 abbrev pub picture_cost : Option Source → ℕ → ℕ → Cache → ℕ
 picture_cost None k n cache = 0
 picture_cost (Some s) k n cache = work_beside (cached k n cache.entries) s.stream.reading.packets n
 
+-- the number of packets decoded for a resource
 abbrev pub cost_of : Streams → Resource → Cache → ℕ
 cost_of streams wanted.Bad cache = 0
 cost_of streams wanted.WrongMethod cache = 0
@@ -34,12 +34,13 @@ cost_of streams (wanted.Info k) cache = 0
 cost_of streams (wanted.Frame k n) cache = picture_cost (slice_get streams.sources k) k n cache
 cost_of streams (wanted.Video k n) cache = picture_cost (slice_get streams.sources k) k n cache
 
--- the cache after it: a shown picture is the newest entry, but where there was no memory for it
+-- the cache after it: a shown picture is the most recent entry, unless memory ran out for it
 abbrev pub IsAfterPicture : Option Source → ℕ → ℕ → Cache → Cache → Type 0
 IsAfterPicture None k n old new = new ≡ old
 IsAfterPicture (Some s) k n old new =
     IsAfter old k n (cached k n old.entries) (answer_at s.stream.limits s.stream.reading.packets n) new
 
+-- the cache after a request for a resource
 abbrev pub IsAfterAsked : Streams → Resource → Cache → Cache → Type 0
 IsAfterAsked streams wanted.Bad old new = new ≡ old
 IsAfterAsked streams wanted.WrongMethod old new = new ≡ old
@@ -51,28 +52,28 @@ IsAfterAsked streams (wanted.Video k n) old new = IsAfterPicture (slice_get stre
 
 -- ---- the bytes of a connection
 
--- what a request costs
+-- the number of packets decoded for a request, and the cache after it
 pub record IsCost (streams : Streams) (head : List ℕ) (old new : Cache) (cost : ℕ) : Type 0 where
   pub request : Request
   pub asked : IsAsked streams.names head request
   pub after : IsAfterAsked streams request.wanted old new
   pub cost_is : cost ≡ cost_of streams request.wanted old
 
--- what it costs at most, where memory was refused on the way; its picture is kept by then, or not
+-- an upper bound if memory runs out during a request; its picture may be cached or not
 pub record IsMostCost (streams : Streams) (head : List ℕ) (old new : Cache) (cost : ℕ) : Type 0 where
   pub request : Request
   pub asked : IsAsked streams.names head request
   pub after : (new ≡ old) ⊎ IsAfterAsked streams request.wanted old new
   pub cost_is : cost ≡ cost_of streams request.wanted old
 
--- a byte costs what the head does that it ends, if it ends one
+-- a byte costs as much as the request head that it completes, else nothing
 abbrev pub CostsByte : Streams → ℕ → ConnectionState → Cache → Cache → ℕ → Type 0
 CostsByte streams b state_of_connection old new cost =
     Chosen state_of_connection.closed ((new ≡ old) × (cost ≡ 0))
     (Chosen (ends_head (state_of_connection.pending ++ b ∷ []))
     (IsCost streams (state_of_connection.pending ++ b ∷ []) old new cost) ((new ≡ old) × (cost ≡ 0)))
 
--- each byte in turn: what is kept of the connection and written after it, the cache after it, and what it costs in all
+-- a piece, byte by byte: the connection's state and output after it, the cache after it, and the total cost
 abbrev pub Costs : Streams → List ℕ → ConnectionState × List ℕ → ConnectionState × List ℕ → Cache → Cache → ℕ → Type 0
 Costs streams [] v w old new cost = (w ≡ v) × (new ≡ old) × (cost ≡ 0)
 Costs streams (b ∷ bs) v w old new cost =
@@ -80,7 +81,7 @@ Costs streams (b ∷ bs) v w old new cost =
     × TakesByte streams b v mid × CostsByte streams b v.0 old cache first × Costs streams bs mid w cache new rest
     × (cost ≡ first + rest)
 
--- the same for a connection that stands, or doesn't
+-- a piece of a connection, which may not exist
 abbrev pub CostsPiece : Streams → List ℕ → Option ConnectionState → Cache → Cache → ℕ → Type 0
 CostsPiece streams piece None old new cost = (new ≡ old) × (cost ≡ 0)
 CostsPiece streams piece (Some state_of_connection) old new cost = (w : ConnectionState × List ℕ)
@@ -88,7 +89,7 @@ CostsPiece streams piece (Some state_of_connection) old new cost = (w : Connecti
 
 -- ---- an event
 
--- the cache after an event, and how many packets are decoded: none but for the bytes of a connection
+-- the cache after an event, and the number of packets decoded: 0 except for the bytes of a connection
 abbrev pub IsWork : Event → HubState → Cache → Cache → ℕ → Type 0
 IsWork (Feed name piece) s old new work = (new ≡ old) × (work ≡ 0)
 IsWork (End name) s old new work = (new ≡ old) × (work ≡ 0)
@@ -96,13 +97,13 @@ IsWork (Open c) s old new work = (new ≡ old) × (work ≡ 0)
 IsWork (Bytes c piece) s old new work = CostsPiece s.streams piece (link_of c s.connections) old new work
 IsWork (Shut c) s old new work = (new ≡ old) × (work ≡ 0)
 
--- where memory was refused at a byte: nothing is decoded, or no more than for the head that the byte ends
+-- memory ran out at this byte: the cost is 0, or at most that of the request head that the byte completes
 abbrev pub CostsByteAtMost : Streams → ℕ → ConnectionState → Cache → Cache → ℕ → Type 0
 CostsByteAtMost streams b state_of_connection old new cost =
     ((new ≡ old) × (cost ≡ 0)) ⊎ ((ends_head (state_of_connection.pending ++ b ∷ []) ≡ true)
     × IsMostCost streams (state_of_connection.pending ++ b ∷ []) old new cost)
 
--- the bytes before that one cost what they do, and no less is counted
+-- memory ran out inside a piece: the cost is that of the bytes before, and at most that of the next byte
 pub record CostsAtMost (streams : Streams) (piece : List ℕ) (v : ConnectionState × List ℕ) (old new : Cache) (work : ℕ)
     : Type 0 where
   pub front : List ℕ
@@ -118,12 +119,13 @@ pub record CostsAtMost (streams : Streams) (piece : List ℕ) (v : ConnectionSta
   pub least : saturating_count 0 before ≤ work
   pub most : work ≤ saturating_count 0 (before + last)
 
+-- an upper bound if memory runs out during a piece of a connection, which may not exist
 abbrev pub CostsPieceAtMost : Streams → List ℕ → Option ConnectionState → Cache → Cache → ℕ → Type 0
 CostsPieceAtMost streams piece None old new work = (new ≡ old) × (work ≡ 0)
 CostsPieceAtMost streams piece (Some state_of_connection) old new work = CostsAtMost streams piece
     (state_of_connection, []) old new work
 
--- where memory was refused to an event
+-- memory ran out during an event
 abbrev pub IsWorkAtMost : Event → HubState → Cache → Cache → ℕ → Type 0
 IsWorkAtMost (Feed name piece) s old new work = (new ≡ old) × (work ≡ 0)
 IsWorkAtMost (End name) s old new work = (new ≡ old) × (work ≡ 0)
@@ -137,15 +139,14 @@ pub record Hub : Type 0 where
   pub cache : Cache
   pub work : ℕ
 
--- after an event the work is that number, which stays at the greatest; where memory was refused no more than that,
--- and no less than for the
--- bytes before the one that it was refused at
+-- The work of an event is its cost; it saturates. If memory ran out, it is at most that cost, and at least the cost of
+-- the bytes before the one at which memory ran out.
 pub record IsWorked (old : Hub) (e : Event) (o : Outcome) (new : Hub) : Type 0 where
   pub work : o ≢ Err Memory → (cost : ℕ) × IsWork e old.state old.cache new.cache cost
       × (new.work ≡ saturating_count 0 cost)
   pub most : o ≡ Err Memory → IsWorkAtMost e old.state old.cache new.cache new.work
 
--- a run: each event with its result and its work, and what the cache keeps after it
+-- a run: each event with its result, its work, and the cache after it
 abbrev pub IsWorkedRun : Hub → List Event → List Outcome → Hub → Type 0
 IsWorkedRun old [] [] new = new ≡ old
 IsWorkedRun old (e ∷ es) (o ∷ os) new = (mid : Hub) × IsStep old.state e o mid.state × IsWorked old e o mid

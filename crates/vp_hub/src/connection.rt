@@ -1,4 +1,4 @@
-//! Connections by their numbers.
+//! The connections of a hub, by number.
 
 ghost use Rattle.std.specs.Prelude.{◌≡◌, ◌≢◌, ◌==◌, ◌<◌, Ok, Err, None, IsOk, IfSome, length, position};
 ghost use Rattle.vp_hub.specs.declared.event.HubFault.TheVariants.{Memory};
@@ -9,21 +9,21 @@ use crate::source::nothing;
 use std::alloc::Global;
 use vp_heads::Buffer;
 
-/// What is kept of a connection.
+/// The state of a connection.
 #[derive(Drop)]
 pub struct ConnectionState {
-    /// What it sent behind the last whole head.
+    /// The bytes received after the last whole request head.
     pub pending: Buffer,
-    /// Whether the hub closed it.
+    /// Whether the hub has closed it.
     pub closed: bool,
 }
 
-/// A connection with its number.
+/// A connection and its number.
 #[derive(Drop)]
 pub struct Connection {
-    /// Its number.
+    /// The connection's number.
     pub number: u32,
-    /// What is kept of it.
+    /// The connection's state.
     pub state_of_connection: ConnectionState,
 }
 
@@ -34,7 +34,7 @@ fn place_of(connections: &[Connection], number: u32) -> Option<usize>
     connections.iter().position(|x| x.number == number)
 }
 
-/// The place of the connection of a number.
+/// Returns the index of the connection with this number.
 pub(crate) fn find(connections: &[Connection], number: u32) -> Option<usize>
     ensures none { result ≡ None → link_of number connections.now ≡ None }
     ensures some { IfSome result (IsPlaceOf number connections.now) }
@@ -42,7 +42,7 @@ pub(crate) fn find(connections: &[Connection], number: u32) -> Option<usize>
     place_of(connections, number)
 }
 
-/// A connection that comes.
+/// Opens a connection with this number.
 pub(crate) fn open_one(
     alloc: Global,
     connections: &mut Vec<Connection>,
@@ -73,7 +73,7 @@ pub(crate) fn open_one(
     Ok(nothing(alloc))
 }
 
-/// A connection that goes.
+/// Removes the connection with this number.
 pub(crate) fn shut_one(
     alloc: Global,
     connections: &mut Vec<Connection>,
@@ -90,7 +90,7 @@ pub(crate) fn shut_one(
     Ok(nothing(alloc))
 }
 
-/// Leaves each other connection.
+/// Removes all connections with this number; the others keep their order.
 fn remove_all(connections: &mut Vec<Connection>, number: u32)
     ensures { connections.new.items ≡ without_connection number connections.old.items }
 {

@@ -1,4 +1,4 @@
-//! What comes to the hub, and what it answers.
+//! The events that a hub handles, and its answers.
 
 ghost use Rattle.std.specs.Prelude.{Some};
 ghost use Rattle.vp_hub.specs.Names.{hub_fault_name};
@@ -6,50 +6,50 @@ ghost use Rattle.vp_hub.specs.Names.{hub_fault_name};
 use std::fmt;
 use vp_base::ByteList;
 
-/// What comes to the hub.
+/// An event that a hub handles.
 #[derive(Drop)]
 pub enum Event {
-    /// A piece of the stream of this name.
+    /// A piece of the stream with this name.
     Feed(ByteList, ByteList),
-    /// The end of the stream of this name.
+    /// The end of the stream with this name.
     End(ByteList),
-    /// A connection of this number comes.
+    /// A connection with this number opens.
     Open(u32),
-    /// A piece of what the connection of this number sends.
+    /// A piece of the bytes that the connection with this number has received.
     Bytes(u32, ByteList),
-    /// The connection of this number goes.
+    /// The connection with this number is gone.
     Shut(u32),
 }
 
-/// What is sent back.
+/// The answer to an event.
 #[derive(Debug, Drop)]
 pub struct Reply {
-    /// What is to be written to the connection.
+    /// The bytes to be sent on the connection.
     pub bytes: ByteList,
-    /// Whether the connection is to be closed behind it.
+    /// Whether the connection is to be closed after they are sent.
     pub close: bool,
 }
 
-/// Why an event was refused.
+/// The reasons for which an event is refused.
 #[derive(Clone, Copy, Debug, PartialEq, Eq, Drop)]
 pub enum HubFault {
-    /// There is no stream of this name.
+    /// There is no stream with this name.
     UnknownStream,
-    /// The stream's end was told.
+    /// The stream has ended.
     Ended,
-    /// No connection of this number stands.
+    /// There is no connection with this number.
     UnknownConn,
-    /// A connection of this number stands.
+    /// There is a connection with this number already.
     AlreadyOpen,
-    /// 64 other connections stand.
+    /// There are 64 other connections.
     TooMany,
-    /// The stream has a fault, or the hub closed the connection.
+    /// The stream has a fault, or the hub has closed the connection.
     Failed,
-    /// Memory was refused.
+    /// Out of memory.
     Memory,
 }
 
-/// The fault's name, as it is told.
+/// Writes the fault's name.
 impl fmt::Display for HubFault {
     ghost output = { λ fault. Some (hub_fault_name fault) };
 

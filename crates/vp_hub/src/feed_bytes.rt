@@ -1,4 +1,4 @@
-//! The bytes of one connection.
+//! Handles the bytes of one connection.
 
 ghost use Rattle.std.specs.Prelude.{◌≡◌, ◌≤◌, ◌++◌, ◌∷◌, [], ℕ, List, OnOk, OnErr, false};
 ghost use Rattle.vp_stream.specs.Seeking.{saturating_count};
@@ -12,7 +12,7 @@ use crate::streams::Streams;
 use std::alloc::{AllocError, Global};
 use vp_heads::{Buffer, put_too_long};
 
-/// Whether the bytes end as a head does.
+/// Returns whether the bytes end as a request head does: with an empty line.
 #[tactic(auto, unfolding(crate::specs::Hub::ends_head))]
 fn is_head(bytes: &[u8]) -> bool
     ensures { result ≡ ends_head bytes.now }
@@ -20,7 +20,7 @@ fn is_head(bytes: &[u8]) -> bool
     bytes.ends_with(b"\r\n\r\n")
 }
 
-/// Takes one byte.
+/// Handles one byte. If it completes a request head, the response is appended to `out`.
 fn take(
     alloc: Global,
     shelf: &Streams,
@@ -61,7 +61,7 @@ fn take(
     Ok(())
 }
 
-/// Takes a piece.
+/// Handles a piece, and appends the responses to `out`.
 pub(crate) fn feed_bytes(
     alloc: Global,
     shelf: &Streams,

@@ -1,4 +1,4 @@
-//! The hub.
+//! The hub: the state machine of the frame server.
 
 ghost use Rattle.std.specs.Prelude.{◌≡◌, ◌≢◌, ◌↔◌, ◌≤◌, ◌<◌, ◌+◌, ◌++◌, ◌∷◌, [], ℕ, List, true, false, Some, Ok, Err};
 ghost use Rattle.std.specs.Prelude.{IfOk, OnOk, OnErr, length, vec_len};
@@ -28,7 +28,7 @@ use vp_base::{ByteList, Limits};
 use vp_cache::Cache;
 use vp_heads::Buffer;
 
-/// Streams that grow, and connections that ask for their pictures.
+/// A hub: growing streams, and connections that request their pictures.
 #[derive(Drop)]
 pub struct Hub {
     alloc: Global,
@@ -49,13 +49,15 @@ impl Model for Hub {
       work = h.pictures.work;
     } };
 
-    // Whatever is kept is what the streams answer.
+    // All cached pictures are the answers of the streams.
     ghost invariant = { λ h. AreKept h.shelf.sources h.pictures.cache.entries };
 }
 
 impl Hub {
-    /// A hub of streams of these names, with no bytes and no connections. Of the limits, `cache` is how many
-    /// pictures are kept.
+    /// Creates a hub for streams with these names, without bytes and without connections. `limits.cache` is the number
+    /// of cached pictures.
+    ///
+    /// Errors: `Names` if the names are not valid, `Memory`.
     pub fn new(alloc: Global, names: Vec<ByteList>, limits: Limits) -> Result<Hub, NewFault>
         ensures names { (result ≡ Err NewFault.Names) ↔ (may_be_names names.items ≡ false) }
         ensures hub { IfOk result (λ h. h ≡ record {
@@ -83,13 +85,16 @@ impl Hub {
         })
     }
 
-    /// One event.
+    /// Handles one event.
+    ///
+    /// Errors: `HubFault`. If memory runs out while bytes of a connection are handled, that connection is closed.
+    /// Otherwise a refused event changes no stream and no connection.
     pub fn step(&mut self, event: &Event) -> Result<Reply, HubFault>
         ensures step { IsStep self.old.state event.now result self.new.state }
         ensures partial { AllKeepPartial self.old.state → AllKeepPartial self.new.state }
         ensures worked { IsWorked self.old event.now result self.new }
 
-        // Each run that led here goes on by this event with its result, also a refusal, and with its work.
+        // `step` extends any earlier history, so a theorem about runs holds for events one by one.
         ensures stands { (s : HubState) (events : List Event) (results : List Outcome)
             → IsRun s events results self.old.state
             → IsRun s (events ++ event.now ∷ []) (results ++ result ∷ []) self.new.state }
@@ -100,14 +105,14 @@ impl Hub {
         self.turn(event)
     }
 
-    /// How many packets were decoded for the last event, refused or not. It stays at the greatest number.
+    /// Returns the number of packets decoded for the last event, refused or not. It saturates at 2^64 - 1.
     pub fn work(&self) -> u64
         ensures { result ≡ self.now.work }
     {
         self.pictures.work
     }
 
-    // One event, by its kind.
+    // Handles one event, by its kind.
     fn turn(&mut self, event: &Event) -> Result<Reply, HubFault>
         ensures step { IsStep self.old.state event.now result self.new.state }
         ensures worked { IsWorked self.old event.now result self.new }
@@ -125,7 +130,7 @@ impl Hub {
         }
     }
 
-    /// A piece of what the connection of a number sends.
+    /// Handles a piece of the bytes that the connection with this number has received.
     pub(crate) fn bytes(&mut self, number: u32, piece: &[u8]) -> Result<Reply, HubFault>
         ensures step { IsStep self.old.state (Event.Bytes number piece.now) result self.new.state }
         ensures worked { IsWorked self.old (Event.Bytes number piece.now) result self.new }
@@ -141,7 +146,7 @@ impl Hub {
         )
     }
 
-    /// A list of events, the room for their results taken first.
+    /// Handles a list of events, and returns their results. The memory for the results is allocated first.
     pub fn run(&mut self, events: &[Event]) -> Result<Vec<Result<Reply, HubFault>>, AllocError>
         ensures run { IfOk result (λ results. IsRun self.old.state events.now results.items self.new.state) }
         ensures partial { AllKeepPartial self.old.state → AllKeepPartial self.new.state }
@@ -152,7 +157,7 @@ impl Hub {
         ensures ends { IfOk result (λ results. AreAcceptedEnds self.old.state events.now results.items self.new.state) }
         ensures err { OnErr result (self.new ≡ self.old) }
 
-        // Each run that led here goes on by these events with their results, also with their work.
+        // `run` extends any earlier history, including its work.
         ensures stands { IfOk result (λ results. (s : HubState) (before : List Event) (had : List Outcome)
             → IsRun s before had self.old.state
             → IsRun s (before ++ events.now) (had ++ results.items) self.new.state) }
@@ -169,7 +174,7 @@ impl Hub {
     }
 }
 
-/// Puts a result where there is room.
+/// Appends a result; there must be room for it.
 fn put(results: &mut Vec<Result<Reply, HubFault>>, res: Result<Reply, HubFault>)
     requires { vec_len results.old < vec_capacity results.old }
     ensures items { results.new.items ≡ results.old.items ++ res ∷ [] }
@@ -181,7 +186,7 @@ fn put(results: &mut Vec<Result<Reply, HubFault>>, res: Result<Reply, HubFault>)
     };
 }
 
-/// Bytes of a connection.
+/// Handles bytes of the connection with this number.
 fn ask(
     alloc: Global,
     shelf: &Streams,
@@ -219,7 +224,7 @@ fn ask(
     )
 }
 
-/// Bytes of the connection that is there.
+/// Handles bytes of an open or closed connection.
 fn answer(
     alloc: Global,
     shelf: &Streams,

@@ -1,4 +1,4 @@
-//! What holds of all hubs, each as the contract of a function that does nothing.
+//! Theorems about hubs. Each is the contract of a function that does nothing.
 
 ghost use Rattle.vp_hub.specs.Heads.{IsCutIntoHeads};
 ghost use Rattle.vp_hub.specs.Pieces.{NewStreamsAreOpen, NewStreamsHaveNoBytes, RunsAddAcceptedPieces};
@@ -7,36 +7,36 @@ ghost use Rattle.vp_hub.specs.Standing.{StandsToShut, IsTooManyByHistory};
 ghost use Rattle.vp_hub.specs.Turns.{HistoriesAreCut};
 ghost use Rattle.vp_hub.specs.View.{AnswersAlike, NewHubsAnswerAlike, RunsAreIsolated, RunsAreJoined};
 
-/// Bytes are answered by the heads that they are cut into.
+/// The bytes of a connection are split into request heads, and the response is that to these heads.
 pub fn cut_into_heads()
     ensures { IsCutIntoHeads }
 {}
 
-/// All bytes of a connection since its opening are cut into heads, each answered at the event that brings its last
-/// byte.
+/// All bytes of a connection since it was opened are split into request heads. Each is answered at the event that
+/// brings its last byte.
 pub fn histories_are_cut()
     ensures { HistoriesAreCut }
 {}
 
-/// A run of steps and one that begins where it led are one run.
+/// Two consecutive runs are one run.
 pub fn runs_are_joined()
     ensures { RunsAreJoined }
 {}
 
-/// Of every run of steps each connection gets the results that its own view gives.
+/// Isolation: in every run, each connection gets the results that its own view determines.
 pub fn runs_are_isolated()
     ensures { RunsAreIsolated }
 {}
 
-/// Two runs whose views of a connection are equal answer it alike, also of two hubs that keep different numbers of
-/// pictures.
+/// If the views of a connection are equal in two runs, its results are equal. The two hubs may cache different numbers
+/// of pictures.
 pub fn answers_alike()
     ensures alike { AnswersAlike }
     ensures new { NewHubsAnswerAlike }
 {}
 
-/// By every run of steps a stream's bytes grow by the pieces that were accepted; at first there are none. It is open
-/// until an `End` of it is accepted, and from then on it has ended by what is wrong with its bytes.
+/// In every run, a stream's bytes are its accepted pieces; a new stream has none. It is open until an `End` for it is
+/// accepted, and then has ended, with the fault that its bytes have, if any.
 pub fn bytes_are_accepted_pieces()
     ensures runs { RunsAddAcceptedPieces }
     ensures new { NewStreamsHaveNoBytes }
@@ -44,12 +44,12 @@ pub fn bytes_are_accepted_pieces()
     ensures open { NewStreamsAreOpen }
 {}
 
-/// A connection stands from its accepted opening to its shutting.
+/// A connection is there from its accepted `Open` to its `Shut`.
 pub fn stands_to_shut()
     ensures { StandsToShut }
 {}
 
-/// An opening is one too many exactly where 64 others stand by the history before it.
+/// An `Open` is refused with `TooMany` exactly if there are 64 others, according to the history before it.
 pub fn is_too_many_by_history()
     ensures { IsTooManyByHistory }
 {}

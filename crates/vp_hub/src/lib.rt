@@ -1,4 +1,4 @@
-//! The core of the frame server: events in, replies out.
+//! The core of the frame server: a state machine from events to responses.
 #![tactic(auto)]
 
 mod connection;

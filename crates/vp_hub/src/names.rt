@@ -1,4 +1,4 @@
-//! The names of streams.
+//! Validates the names of streams.
 
 ghost use Rattle.std.specs.Prelude.{◌≡◌};
 ghost use Rattle.std.specs.List.{list_all, list_any};
@@ -8,12 +8,12 @@ ghost use Rattle.vp_hub.specs.Names.{are_names as may_be_names};
 
 use vp_base::ByteList;
 
-/// Why a hub wasn't made.
+/// The reasons for which a hub can't be created.
 #[derive(Clone, Copy, Debug, PartialEq, Eq, Drop)]
 pub enum NewFault {
-    /// They are not 1 to 16 distinct names of 1 to 32 bytes out of `a` to `z`, `0` to `9`, `-` and `_`.
+    /// The names are not 1 to 16 distinct names of 1 to 32 characters of `a` to `z`, `0` to `9`, `-` and `_`.
     Names,
-    /// Memory was refused.
+    /// Out of memory.
     Memory,
 }
 
@@ -57,7 +57,7 @@ fn all_are(names: &[ByteList]) -> bool
     names.iter().all(|x| is_one(x.as_slice()))
 }
 
-/// Whether streams may have these names.
+/// Returns whether these are valid names for streams.
 pub(crate) fn are_names(names: &[ByteList]) -> bool
     ensures { result ≡ may_be_names names.now }
 {

@@ -1,4 +1,4 @@
-//! What is found for a request.
+//! The content of the pages.
 
 ghost use Rattle.std.specs.Prelude.{◌≡◌, ◌≢◌, ◌≤◌, ◌⊎◌, ◌++◌, ℕ, List, codes, decimal, Some, IfOk, OnOk, OnErr};
 ghost use Rattle.std.specs.Prelude.{slice_get};
@@ -23,7 +23,7 @@ use vp_heads::{Buffer, Request, Resource, Status, put_error, put_faulted, put_li
 use vp_ivf::IvfHead;
 use vp_stream::Answer;
 
-/// Each name and a line feed.
+/// Returns the names, each followed by a line feed.
 fn names_lines(alloc: Global, names: &[ByteList]) -> Result<Buffer, AllocError>
     ensures { IfOk result (λ text. text ≡ names_text names.now) }
 {
@@ -35,7 +35,7 @@ fn names_lines(alloc: Global, names: &[ByteList]) -> Result<Buffer, AllocError>
     Ok(text)
 }
 
-/// The word for a stream's state.
+/// Returns the word for a stream's state: `open`, `ended`, or the name of its fault.
 fn state_word(alloc: Global, source: &Source) -> Result<String, AllocError>
     ensures { IfOk result (λ r. string_bytes r ≡ state_by source.now.end (stream_refusal source.now.stream)) }
 {
@@ -49,7 +49,7 @@ fn state_word(alloc: Global, source: &Source) -> Result<String, AllocError>
     }
 }
 
-/// What a stream's head says, once it is good.
+/// Returns the lines for a stream's head; none before it is whole and valid.
 fn head_text(alloc: Global, head: Option<IvfHead>) -> Result<String, AllocError>
     ensures { IfOk result (λ r. string_bytes r ≡ head_lines head) }
 {
@@ -66,7 +66,7 @@ fn info_lines(alloc: Global, state: &str, count: u32, head: &str) -> Result<Stri
     format!(in alloc; "state {state}\npackets {count}\n{head}")
 }
 
-/// What is known of a stream.
+/// Returns the information page of a stream.
 #[tactic(auto, unfolding(crate::specs::Pages::info_text))]
 fn info(alloc: Global, source: &Source) -> Result<String, AllocError>
     ensures { IfOk result (λ r. string_bytes r ≡ info_text source.now) }
@@ -103,7 +103,7 @@ fn put_names(
     put_lines(alloc, request, text.as_slice(), out)
 }
 
-/// The line of a Y4M file's header and that of its picture.
+/// Returns the header line of a YUV4MPEG2 file, and the line before its picture.
 #[tactic(auto, unfolding(vp_y4m::specs::Text::header_text))]
 fn video_front(alloc: Global, w: u16, h: u16, rate: u32, scale: u32) -> Result<String, AllocError>
     ensures { IfOk result (λ r. string_bytes r ≡ header_text w h rate scale ++ codes "FRAME\n") }
@@ -111,7 +111,7 @@ fn video_front(alloc: Global, w: u16, h: u16, rate: u32, scale: u32) -> Result<S
     format!(in alloc; "YUV4MPEG2 W{w} H{h} F{rate}:{scale} Ip A0:0 C420jpeg\nFRAME\n")
 }
 
-/// What stands before a picture's I420.
+/// Returns the bytes before a picture's I420 pixels; none unless a YUV4MPEG2 file is requested.
 fn front_text(
     alloc: Global,
     video: bool,
@@ -167,7 +167,7 @@ fn put_answer(
     }
 }
 
-/// The reply to a request for packet `n` of the stream at a place. A picture that is kept is lent.
+/// Appends the response for packet `n` of a stream. A cached picture is borrowed, not copied.
 fn put_picture(
     alloc: Global,
     source: &Source,
@@ -213,7 +213,7 @@ fn put_picture(
     put_answer(alloc, request, video, head, &answer, out)
 }
 
-/// The same, where there may be no such stream.
+/// Appends the response for packet `n` of the stream at a place, which may not exist.
 fn put_picture_of(
     alloc: Global,
     shelf: &Streams,
@@ -245,7 +245,7 @@ fn put_picture_of(
     }
 }
 
-/// The reply to a request.
+/// Appends the response to a request.
 fn put_content(
     alloc: Global,
     shelf: &Streams,
@@ -281,7 +281,7 @@ fn put_content(
     }
 }
 
-/// Puts the reply to a head, and says whether it closes the connection.
+/// Appends the response to a request head, and returns whether it closes the connection.
 #[tactic(auto, unfolding(crate::specs::Pages::IsReply))]
 pub(crate) fn put_reply(
     alloc: Global,

@@ -1,20 +1,20 @@
-//! PictureCache for requests, by the cache.
+//! The picture cache of a hub, with a count of decoded packets.
 
 ghost use Rattle.std.specs.Prelude.{◌≡◌};
 
 use vp_cache::Cache;
 
-/// The cache, and how many packets were decoded for the last event.
+/// The picture cache, and the number of packets decoded for the last event.
 #[derive(Drop)]
 pub struct PictureCache {
     /// The cache.
     pub cache: Cache,
-    /// How many packets were decoded, which stays at the greatest number.
+    /// The number of decoded packets; it saturates at 2^64 - 1.
     pub work: u64,
 }
 
 impl PictureCache {
-    /// An event begins: nothing was decoded for it yet.
+    /// Resets the count at the start of an event.
     pub(crate) fn begin(&mut self)
         ensures { self.new ≡ record self.old { work = 0 } }
     {

@@ -1,4 +1,4 @@
-//! One connection over a reader and a writer.
+//! Serves one connection over a reader and a writer.
 
 ghost use Rattle.std.specs.Prelude.{◌≡◌, ◌≢◌, ◌⊎◌, ◌≤◌, ◌+◌, ◌^◌, ℕ, List, Some, Ok, Err};
 ghost use Rattle.std.specs.Io.KnownBytes.{Consumes};
@@ -15,18 +15,18 @@ use std::fmt;
 use std::io::{Read, Write};
 use vp_base::{Counted, put_all};
 
-/// Why a connection isn't served to its end.
+/// The reasons for which a connection isn't served to its end.
 #[derive(Clone, Copy, Debug, PartialEq, Eq)]
 pub enum ServeFault {
-    /// What the hub refused.
+    /// The hub refused an event.
     Hub(HubFault),
     /// A read or a write failed.
     Device,
-    /// The connection didn't end within 1,048,576 reads.
+    /// The connection did not end within 1,048,576 reads.
     ReadTurns,
 }
 
-/// The fault's name, as it is told.
+/// Writes the fault's name.
 impl fmt::Display for ServeFault {
     ghost output = { λ fault. Some (serve_fault_name fault) };
 
@@ -40,16 +40,18 @@ impl fmt::Display for ServeFault {
     }
 }
 
-/// Serves one connection: opens it in the hub, hands in what is read in pieces of at most 4,096 bytes, writes each
-/// reply before the next read, and shuts the connection at a reply that closes, at the reader's end or at a fault.
-/// Nothing is tried again.
+/// Serves one connection. It is opened in the hub, and each piece read (at most 4,096 bytes) is handed to the hub. The
+/// response is written before the next read. The connection is shut after a response that closes it, at the reader's
+/// end, or after a fault. Failed reads and writes are not retried.
+///
+/// Errors: `ServeFault`.
 pub fn serve_one<R: Read, W: Write>(
     hub: &mut Hub,
     conn: u32,
     reader: &mut Counted<R>,
     writer: &mut Counted<W>,
 ) -> Result<(), ServeFault>
-    // Where the opening is refused nothing is read and nothing written, and the cache stays too.
+    // If the opening is refused, nothing is read or written, and the cache is unchanged.
     ensures served { (IsTurnedAway conn hub.old.state hub.new.state result × (hub.new.cache ≡ hub.old.cache)
         × (reader.new ≡ reader.old) × (writer.new ≡ writer.old))
         ⊎ ((read : List ℕ)
@@ -58,10 +60,10 @@ pub fn serve_one<R: Read, W: Write>(
         (counted_contents W.contents writer.old) (counted_contents W.contents writer.new)
         (HasFailed (counted_failures writer.old) (counted_failures writer.new))) }
 
-    // Afterwards streams and connections are as before, so the connection no longer stands.
+    // Afterwards the streams and connections are as before: the connection is gone.
     ensures stays { hub.new.state ≡ hub.old.state }
 
-    // `Device` comes where a read or a write failed, and only there.
+    // `Device` is returned only after a failed read or write, and always after one.
     ensures device { result ≡ Err ServeFault.Device →
         HasFailed (counted_failures reader.old) (counted_failures reader.new)
         ⊎ HasFailed (counted_failures writer.old) (counted_failures writer.new) }
@@ -69,7 +71,7 @@ pub fn serve_one<R: Read, W: Write>(
         (counted_failures reader.new ≡ counted_failures reader.old)
         × (counted_failures writer.new ≡ counted_failures writer.old) }
 
-    // However it ends, no more reads are made than these. `ReadTurns` comes behind all of them.
+    // In all cases at most 2^20 reads are made. `ReadTurns` is returned after exactly that many.
     ensures reads { counted_reads reader.new ≤ counted_reads reader.old + 2 ^ 20 }
     ensures turns { result ≡ Err ServeFault.ReadTurns →
         HasRisenBy (2 ^ 20) (counted_reads reader.old) (counted_reads reader.new) }
@@ -82,7 +84,7 @@ pub fn serve_one<R: Read, W: Write>(
     served
 }
 
-// Reads and replies until the end, a reply that closes or a fault.
+// Reads and responds until the end, a response that closes the connection, or a fault.
 fn serve_open<R: Read, W: Write>(
     hub: &mut Hub,
     conn: u32,
@@ -114,7 +116,8 @@ fn serve_open<R: Read, W: Write>(
     Err(ServeFault::ReadTurns)
 }
 
-// Reads once, and writes the reply; false at the reader's end and behind a reply that closes.
+// Reads once, and writes the response. Returns false at the reader's end, and after a response that closes the
+// connection.
 fn exchange<R: Read, W: Write>(
     hub: &mut Hub,
     conn: u32,

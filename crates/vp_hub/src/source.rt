@@ -1,4 +1,4 @@
-//! One stream of the hub.
+//! One stream of a hub.
 
 ghost use Rattle.std.specs.Prelude.{◌≡◌, ◌≢◌, Ok, Err, IsOk};
 ghost use Rattle.vp_hub.specs.declared.event.HubFault.TheVariants.{Memory};
@@ -12,27 +12,27 @@ use vp_cache::feeding_keeps_answers;
 use vp_ivf::{FeedError, FileFault};
 use vp_stream::Stream;
 
-/// What a stream said of its end.
+/// The end of a stream.
 #[derive(Clone, Copy, Debug, PartialEq, Eq, Drop)]
 pub enum Ending {
-    /// The end isn't told.
+    /// The end isn't marked yet.
     Open,
-    /// It ended well.
+    /// The stream has ended without a fault.
     Good,
-    /// It has this fault.
+    /// The stream has ended with this fault.
     Faulty(FileFault),
 }
 
-/// A stream, and what it said of its end.
+/// A stream and its end.
 #[derive(Drop)]
 pub struct Source {
     /// The stream.
     pub stream: Stream,
-    /// What it said of its end.
+    /// Whether and how the stream has ended.
     pub end: Ending,
 }
 
-/// Nothing to send.
+/// Returns a response of no bytes.
 pub(crate) fn nothing(alloc: Global) -> Reply
     ensures { result ≡ no_bytes }
 {
@@ -48,7 +48,7 @@ fn is_open(end: Ending) -> bool
     matches!(end, Ending::Open)
 }
 
-/// A piece of the stream.
+/// Feeds a piece to a stream. It is refused if the stream has ended or has a fault.
 pub(crate) fn feed_source(
     alloc: Global,
     source: &mut Source,
@@ -73,7 +73,7 @@ pub(crate) fn feed_source(
     }
 }
 
-/// The stream's end.
+/// Marks the end of a stream. It is refused if the stream has ended.
 pub(crate) fn end_source(alloc: Global, source: &mut Source) -> Result<Reply, HubFault>
     ensures memory { result ≢ Err Memory }
     ensures step { (source.new, result) ≡ ended_source source.old }

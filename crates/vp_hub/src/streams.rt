@@ -18,7 +18,7 @@ use vp_base::{ByteList, Limits};
 use vp_heads::{Page, Request, place_of, read_request, router};
 use vp_stream::Stream;
 
-/// The streams, each with its name, and the router of the pages.
+/// The streams, their names, and the router of the pages.
 #[derive(Drop)]
 pub struct Streams {
     names: Vec<ByteList>,
@@ -38,7 +38,7 @@ impl Model for Streams {
     ghost invariant = { λ a. a.router ≡ our_routes };
 }
 
-/// What a stream is held to. It keeps no pictures, so it isn't told how many the hub keeps.
+/// Returns the limits of a single stream. It keeps no pictures, so its `cache` is 1.
 fn limits_of_stream(limits: Limits) -> Limits
     ensures { result ≡ stream_limits limits }
 {
@@ -50,7 +50,7 @@ fn limits_of_stream(limits: Limits) -> Limits
     }
 }
 
-/// As many streams as there are names, which were fed nothing.
+/// Creates a stream without bytes for each name.
 fn new_sources(alloc: Global, names: &[ByteList], limits: Limits) -> Result<Vec<Source>, AllocError>
     ensures { IfOk result (λ sources. sources.items ≡ map (λ _. new_source limits) names.now) }
 {
@@ -65,7 +65,7 @@ fn new_sources(alloc: Global, names: &[ByteList], limits: Limits) -> Result<Vec<
 }
 
 impl Streams {
-    /// Streams of these names, which were fed nothing.
+    /// Creates streams with these names, without bytes.
     pub(crate) fn new(
         alloc: Global,
         names: Vec<ByteList>,
@@ -82,28 +82,28 @@ impl Streams {
         })
     }
 
-    /// What the bytes of a head ask for.
+    /// Returns the request in the bytes of a head.
     pub(crate) fn read(&self, head: &[u8]) -> Request
         ensures { IsAsked self.now.names head.now result }
     {
         read_request(&self.router, &self.names, head)
     }
 
-    /// The names, in order.
+    /// Returns the names, in order.
     pub(crate) fn names(&self) -> &[ByteList]
         ensures { result.now ≡ self.now.names }
     {
         &self.names
     }
 
-    /// The stream of a place.
+    /// Returns the stream at a place.
     pub(crate) fn source(&self, place: usize) -> Option<&Source>
         ensures { lent_source result ≡ slice_get self.now.sources place }
     {
         self.sources.get(place)
     }
 
-    /// A piece of the stream of a name. What was kept of its pictures stays right.
+    /// Feeds a piece to the stream with this name. Its cached pictures remain correct.
     pub(crate) fn feed(
         &mut self,
         alloc: Global,
@@ -125,7 +125,7 @@ impl Streams {
         feed_source(alloc, source, piece)
     }
 
-    /// The end of the stream of a name.
+    /// Marks the end of the stream with this name.
     pub(crate) fn end(&mut self, alloc: Global, name: &[u8]) -> Result<Reply, HubFault>
         ensures memory { result ≢ Err Memory }
         ensures step { (self.new, result) ≡ at_name ended_source name.now self.old }

@@ -1,4 +1,4 @@
-//! The server's own calls: connections over TCP, the address that is printed, and an output that fails.
+//! Tests of the server's own functions: connections over TCP, the printed address, and an output that fails.
 
 use crate::hubs::{HEAD, KEY, LAST_LINES, hub_of, is_key_behind};
 use std::alloc::Global;
@@ -10,17 +10,17 @@ use vp_app::{ServeArgs, Task, command, listen, read_args, serve_each};
 use vp_base::{Counted, FailAt};
 use vp_hub::{Event, Hub};
 
-/// What asks for the picture of packet 0, and closes.
+/// A request for the picture of packet 0 that closes the connection.
 const ASKS: &[u8] = b"GET /s/a/frame/0 HTTP/1.1\r\nHost: x\r\nConnection: close\r\n\r\n";
 
-/// A hub of one stream with a key packet, where no connection of the numbers 0 to 2 stands.
+/// Returns a hub of one stream with a key packet; no connection has one of the numbers 0 to 2.
 fn hub_of_one(alloc: Global) -> Option<Hub> {
     let mut hub = hub_of(alloc, &[b"a"], &[&HEAD, &KEY], 16)?;
     let _ = hub.step(&Event::Shut(1));
     Some(hub)
 }
 
-/// A connection on which this was sent, and nothing behind it.
+/// Opens a connection, sends these bytes, and shuts down writing.
 fn sending(rt: &HostRuntime, listener: &TcpListener, sent: &[u8]) -> io::Result<TcpStream> {
     let mut client = TcpStream::connect(rt, listener.local_addr()?)?;
     client.write_all(sent)?;
@@ -28,14 +28,14 @@ fn sending(rt: &HostRuntime, listener: &TcpListener, sent: &[u8]) -> io::Result<
     Ok(client)
 }
 
-/// What is still read from a connection.
+/// Reads the rest of the bytes of a connection.
 fn rest_of(alloc: Global, client: &mut TcpStream) -> io::Result<Vec<u8>> {
     let mut got = Vec::new(alloc);
     client.read_to_end(&mut got)?;
     Ok(got)
 }
 
-/// Whether a request that closes is replied its picture, and nothing behind it.
+/// Returns whether a request that closes the connection is answered with its picture and nothing else.
 fn is_served(rt: &HostRuntime, hub: &mut Hub) -> io::Result<bool> {
     let listener = TcpListener::bind(rt, "127.0.0.1:0")?;
     let more = b"GET /s/a/frame/0 HTTP/1.1\r\nHost: x\r\nConnection: close\r\n\r\nGET /streams";
@@ -54,8 +54,8 @@ fn one_connection_over_tcp(rt: HostRuntime) -> Result<(), Fail> {
     Ok(())
 }
 
-/// Whether of two connections that send the same, where the hub has the first one's number already, the first one is
-/// refused, which is told, and the second one is replied its picture.
+/// Two connections send the same request; the hub has the number of the first one already. Returns whether the first
+/// one is refused, with an error, and the second one is answered with its picture.
 fn is_second_served(rt: &HostRuntime, hub: &mut Hub) -> io::Result<bool> {
     let listener = TcpListener::bind(rt, "127.0.0.1:0")?;
     let mut first = sending(rt, &listener, ASKS)?;
@@ -81,7 +81,7 @@ fn a_connection_behind_a_refused_one_is_served(rt: HostRuntime) -> Result<(), Fa
     Ok(())
 }
 
-/// What these words ask to be served.
+/// Parses arguments of `vp8 serve`.
 fn asked<'a>(alloc: Global, words: &'a [&'a str]) -> Option<ServeArgs<'a>> {
     match read_args(alloc, words) {
         Ok(Task::Serve(service)) => Some(service),
@@ -89,8 +89,8 @@ fn asked<'a>(alloc: Global, words: &'a [&'a str]) -> Option<ServeArgs<'a>> {
     }
 }
 
-/// Whether listening at a free port of the loopback address with these words prints just the address that is found, or
-/// just nothing.
+/// Listens on a free port of the loopback address with these arguments. Returns whether exactly the address is printed,
+/// or nothing.
 fn prints_address(rt: &HostRuntime, words: &[&str], prints: bool) -> io::Result<bool> {
     let Some(service) = asked(rt.alloc(), words) else {
         return Ok(false);
@@ -123,7 +123,7 @@ fn addresses_are_printed_where_that_is_asked(rt: HostRuntime) -> Result<(), Fail
     Ok(())
 }
 
-/// The status of `info` over a file's head where no write goes well, and whether just that is told.
+/// Returns the status of `info` for a file's head if every write fails, and whether exactly that fault is printed.
 fn info_unprinted(rt: &HostRuntime) -> (u8, bool) {
     let words = ["vp8", "info", "-"];
     let mut input = Counted::new(HEAD.as_slice());

@@ -1,4 +1,4 @@
-//! Requests in one piece, and connections of which each read and each write fails in turn.
+//! Tests of requests in one piece, and of connections whose reads and writes fail one by one.
 
 ghost use Rattle.std.specs.Prelude.{◌≡◌, ◌≤◌};
 
@@ -17,11 +17,11 @@ use vp_hub::{Hub, HubFault, Reply, ServeFault, serve_one};
 const BOTH: [u8; 76] =
     *b"GET /s/a/frame/0 HTTP/1.1\r\nHost: x\r\n\r\nGET /s/a/frame/1 HTTP/1.1\r\nHost: x\r\n\r\n";
 
-/// The same, of which the first closes the connection.
+/// The two requests; the first one closes the connection.
 const LAST: [u8; 95] =
     *b"GET /s/a/frame/0 HTTP/1.1\r\nHost: x\r\nConnection: close\r\n\r\nGET /s/a/frame/1 HTTP/1.1\r\nHost: x\r\n\r\n";
 
-/// Whether an event was answered with the key packet's picture, and the connection closed.
+/// Returns whether an event is answered with the key packet's picture, and the connection is closed.
 fn is_answered_last(answer: &Result<Reply, HubFault>) -> bool {
     match answer {
         Ok(reply) => is_key_behind(LAST_LINES, reply.bytes.as_slice()) && reply.close,
@@ -29,7 +29,7 @@ fn is_answered_last(answer: &Result<Reply, HubFault>) -> bool {
     }
 }
 
-/// Whether the second isn't answered where the first closes, and nothing is taken behind it.
+/// Returns whether the second request isn't answered if the first one closes, and no more bytes are taken.
 fn drops_the_second(alloc: Global) -> bool {
     let Some(mut hub) = hub_of(alloc, &[b"a"], &parts(), 1) else {
         return false;
@@ -38,7 +38,8 @@ fn drops_the_second(alloc: Global) -> bool {
         && is_refused(&says(alloc, &mut hub, 1, &LAST), HubFault::Failed)
 }
 
-/// Whether each of both, sent in two pieces of which the first has so many bytes, is answered with its last byte.
+/// Sends both requests in two pieces, the first of `place` bytes. Returns whether each request is answered at its last
+/// byte.
 fn answers_at_the_last_byte(alloc: Global, place: usize) -> bool
     requires { place ≤ 76 }
 {
@@ -66,12 +67,12 @@ fn two_requests_in_one_piece(rt: HostRuntime) -> Result<(), Fail> {
     Ok(())
 }
 
-/// Gives at most `size` bytes at each read.
+/// A reader that gives at most `size` bytes at each read.
 #[derive(Drop)]
 struct Pieces<'a> {
-    /// What wasn't read yet.
+    /// The bytes that are not read yet.
     left: &'a [u8],
-    /// The most bytes of a piece.
+    /// The maximum length of a piece in bytes.
     size: usize,
 }
 
@@ -82,7 +83,7 @@ impl Read for Pieces<'_> {
     }
 }
 
-/// Takes at most 64 bytes at each write.
+/// A writer that takes at most 64 bytes at each write.
 #[derive(Drop)]
 struct Narrow(Vec<u8>);
 
@@ -98,7 +99,7 @@ impl Write for Narrow {
 }
 
 impl Narrow {
-    /// What was written.
+    /// Returns the bytes written.
     fn into_bytes(self) -> Vec<u8>
         ensures { result ≡ self.0 }
     {
@@ -107,8 +108,8 @@ impl Narrow {
     }
 }
 
-/// How serving connection 2 ends that sends both requests in pieces of so many bytes, where so many reads, and so many
-/// writes of 64 bytes, come before one fails; and what is written.
+/// Serves connection 2, which sends both requests in pieces of `size` bytes. The first `reads` reads and the first
+/// `writes` writes succeed, and the next one fails. Returns the result, and the bytes written.
 fn served(
     alloc: Global,
     hub: &mut Hub,
@@ -123,7 +124,7 @@ fn served(
     (end, writer.into_inner().into_inner().into_bytes())
 }
 
-/// Whether each of the fifteen writes of 928 bytes fails in turn, behind those before it.
+/// Returns whether each of the fifteen writes of 928 bytes can fail, after those before it.
 fn fails_at_each_write(alloc: Global, hub: &mut Hub, whole: &[u8]) -> bool {
     for writes in 0..15usize {
         let (end, written) = served(alloc, hub, 76, 10, writes as u64);
@@ -134,9 +135,8 @@ fn fails_at_each_write(alloc: Global, hub: &mut Hub, whole: &[u8]) -> bool {
     true
 }
 
-/// Whether each of the twelve reads of seven bytes fails in turn. The first request ends in the sixth, the second
-/// in the
-/// eleventh, and the last finds the end.
+/// Returns whether each of the twelve reads of seven bytes can fail. The first request ends in the sixth, the second in
+/// the eleventh, and the last one finds the end.
 fn fails_at_each_read(alloc: Global, hub: &mut Hub, whole: &[u8]) -> bool {
     for reads in 0..12u64 {
         let length = match reads {
@@ -152,9 +152,8 @@ fn fails_at_each_read(alloc: Global, hub: &mut Hub, whole: &[u8]) -> bool {
     true
 }
 
-/// Whether a hub serves connection 2 to its end, and again after all these failures, by so many reads and writes as
-/// there
-/// must be.
+/// Returns whether a hub serves connection 2 to its end, and again after all these failures, with the minimum numbers
+/// of reads and writes.
 fn serves_again(alloc: Global, hub: &mut Hub) -> bool {
     let (first, whole) = served(alloc, hub, 76, 10, 100);
     let is_fine = first == Ok(())
@@ -165,7 +164,7 @@ fn serves_again(alloc: Global, hub: &mut Hub) -> bool {
     is_fine && last == Ok(()) && again.as_slice() == whole.as_slice()
 }
 
-/// Whether another connection goes on meanwhile with what it had sent before.
+/// Returns whether another connection can still complete the request that it sent a part of before.
 fn goes_on(alloc: Global) -> bool {
     let Some(mut hub) = hub_of(alloc, &[b"a"], &parts(), 1) else {
         return false;

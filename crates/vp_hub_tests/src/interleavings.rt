@@ -1,4 +1,4 @@
-//! Connections and a stream whose bytes come in turn: each connection is answered as if it were alone.
+//! Tests of connections and a stream whose bytes are interleaved: each connection is answered as if it were alone.
 
 ghost use Rattle.std.specs.Prelude.{◌≤◌};
 
@@ -11,7 +11,7 @@ use std::alloc::Global;
 use std::test::Fail;
 use vp_hub::{Event, Hub, HubFault, Reply};
 
-/// Someone who sends bytes, one in each turn.
+/// A client that sends one byte in each turn.
 #[derive(Drop)]
 struct Peer<'a> {
     number: u32,
@@ -19,8 +19,7 @@ struct Peer<'a> {
     got: Vec<u8>,
 }
 
-/// The peer's turn: its next byte, if there is one, is sent, and what is replied is put behind. False where memory
-/// is short.
+/// A client's turn: its next byte, if there is one, is sent, and the response is recorded. False if memory runs out.
 fn speaks(alloc: Global, hub: &mut Hub, peer: &mut Peer<'_>) -> bool {
     let Some((byte, rest)) = peer.left.split_first() else {
         return true;
@@ -32,8 +31,8 @@ fn speaks(alloc: Global, hub: &mut Hub, peer: &mut Peer<'_>) -> bool {
     }
 }
 
-/// Connection 2 comes, is refused a second time, sends a bad request, is refused what it sends behind it, goes, and is
-/// refused to go again. False where it isn't answered so.
+/// Connection 2 is opened, refused a second opening, sends a bad request, is refused more bytes, is shut, and is
+/// refused a second shutting. Returns whether it is answered so.
 fn a_third_comes(alloc: Global, hub: &mut Hub) -> bool {
     let bad = b"GET /streams HTTP/1.1\r\n\r\n";
     hub.step(&Event::Open(2)).is_ok()
@@ -45,7 +44,7 @@ fn a_third_comes(alloc: Global, hub: &mut Hub) -> bool {
         && is_refused(&says(alloc, hub, 2, bad), HubFault::UnknownConn)
 }
 
-/// What speaks in turn: two connections, and a stream of which these bytes are left.
+/// Two connections, and the bytes that are left of a stream.
 #[derive(Drop)]
 struct Speakers<'a> {
     first: Peer<'a>,
@@ -53,7 +52,7 @@ struct Speakers<'a> {
     stream: &'a [u8],
 }
 
-/// The stream's turn: the next of the bytes that are left, if there is one, is fed.
+/// The stream's turn: its next byte, if there is one, is fed.
 fn grows(alloc: Global, hub: &mut Hub, speakers: &mut Speakers<'_>) -> bool {
     let Some((byte, rest)) = speakers.stream.split_first() else {
         return true;
@@ -62,17 +61,17 @@ fn grows(alloc: Global, hub: &mut Hub, speakers: &mut Speakers<'_>) -> bool {
     feeds(alloc, hub, &[*byte]).is_ok()
 }
 
-/// Whose turn it is.
+/// A participant whose turn it is.
 #[derive(Clone, Copy, Debug)]
 enum Turn {
     First,
     Second,
     Stream,
-    /// That of a connection that comes and goes.
+    /// The connection that is opened and shut again.
     Third,
 }
 
-/// One turn.
+/// Takes one turn.
 fn take(alloc: Global, hub: &mut Hub, speakers: &mut Speakers<'_>, turn: Turn) -> bool {
     match turn {
         First => speaks(alloc, hub, &mut speakers.first),
@@ -82,7 +81,8 @@ fn take(alloc: Global, hub: &mut Hub, speakers: &mut Speakers<'_>, turn: Turn) -
     }
 }
 
-/// Turns of this order again and again, until nobody has a byte left: each has 38 at most, and a turn in each eight.
+/// Repeats turns in this order until no bytes are left: each participant has at most 38 bytes, and a turn in every
+/// eight.
 fn take_all(alloc: Global, hub: &mut Hub, speakers: &mut Speakers<'_>, order: [Turn; 8]) -> bool {
     for number in 0..8 * 38 {
         if !take(alloc, hub, speakers, order[number % 8]) {
@@ -92,7 +92,7 @@ fn take_all(alloc: Global, hub: &mut Hub, speakers: &mut Speakers<'_>, order: [T
     true
 }
 
-/// A key packet and an inter packet more, with the twelve bytes before each.
+/// Another key packet and inter packet, each after its frame header of twelve bytes.
 const MORE: [u8; 37] = [
     10, 0, 0, 0, 0, 0, 0, 0, 0, 0, 0, 0, 0x10, 0, 0, 0x9d, 0x01, 0x2a, 0x10, 0, 0x10, 0, 3, 0, 0,
     0, 0, 0, 0, 0, 0, 0, 0, 0, 0x11, 0, 0,
@@ -101,16 +101,15 @@ const MORE: [u8; 37] = [
 const INFO: &[u8] =
     b"HTTP/1.1 200 OK\r\nContent-Type: text/plain\r\nContent-Length: 42\r\n\r\nstate open\npackets 4\nsize 16x16\nrate 30/1\n";
 
-/// Whether the stream has four packets, of which the last is shown.
+/// Returns whether the stream has four packets, the last of which is shown.
 fn has_grown(alloc: Global, hub: &mut Hub) -> bool {
     let info = b"GET /s/a/info HTTP/1.1\r\nHost: x\r\n\r\n";
     let last = b"GET /s/a/frame/3 HTTP/1.1\r\nHost: x\r\n\r\n";
     is_answered(&says(alloc, hub, 1, info), INFO) && is_inter(replied(&says(alloc, hub, 3, last)))
 }
 
-/// Whether two connections that ask for two pictures in turns of this order, while the stream grows and a third
-/// connection
-/// comes and goes, are each answered by their picture.
+/// Two connections request two pictures in turns of this order, while the stream grows and a third connection is opened
+/// and shut. Returns whether each is answered with its picture.
 fn asks_in(alloc: Global, cache: u32, order: [Turn; 8]) -> bool {
     let Some(mut hub) = hub_of(alloc, &[b"a"], &parts(), cache) else {
         return false;
@@ -160,22 +159,22 @@ fn bytes_in_turn(rt: HostRuntime) -> Result<(), Fail> {
     Ok(())
 }
 
-/// What is answered where a file's last bytes are fed behind so many bytes of a request.
+/// The answers if a file's last bytes are fed after a part of a request is sent.
 #[derive(Drop)]
 struct Answers {
-    /// Another connection's whole request, before the file's last bytes.
+    /// To another connection's whole request, before the file's last bytes.
     before: Result<Reply, HubFault>,
-    /// The bytes of the request that come before them.
+    /// To the part of the request before them.
     early: Result<Reply, HubFault>,
-    /// The file's last bytes.
+    /// To the file's last bytes.
     fed: Result<Reply, HubFault>,
-    /// The bytes of the request that are left.
+    /// To the rest of the request.
     late: Result<Reply, HubFault>,
-    /// The other connection's request again.
+    /// To the other connection's request, sent again.
     behind: Result<Reply, HubFault>,
 }
 
-/// What is answered by a hub whose stream has begun.
+/// Sends a part of a request, feeds the rest of the file, and sends the rest of the request.
 fn ask_around(alloc: Global, begun: &[&[u8]], rest: &[u8], place: usize) -> Option<Answers>
     requires { place ≤ 38 }
 {
@@ -189,14 +188,14 @@ fn ask_around(alloc: Global, begun: &[&[u8]], rest: &[u8], place: usize) -> Opti
     })
 }
 
-/// Whether the picture is there behind the file's last bytes, and not before them, for the other connection.
+/// Returns whether the picture is available to the other connection after the file's last bytes, and not before.
 fn are_others(answers: &Answers) -> bool {
     is_answered(&answers.before, NOT_FOUND)
         && is_answered(&answers.fed, b"")
         && is_key(replied(&answers.behind))
 }
 
-/// Whether the request is answered once it is whole: by none, where that is before the file's last bytes.
+/// Returns whether the request is answered at its last byte: with 404 if that is before the file's last bytes.
 fn is_whole(answers: &Answers, place: usize) -> bool {
     if place == 38 {
         return is_answered(&answers.early, NOT_FOUND) && is_answered(&answers.late, b"");
@@ -204,7 +203,7 @@ fn is_whole(answers: &Answers, place: usize) -> bool {
     is_answered(&answers.early, b"") && is_key(replied(&answers.late))
 }
 
-/// Whether both connections are answered by what is there at that moment.
+/// Returns whether both connections are answered by the state of the stream at that moment.
 fn fed_behind(alloc: Global, begun: &[&[u8]], rest: &[u8], place: usize) -> bool
     requires { place ≤ 38 }
 {

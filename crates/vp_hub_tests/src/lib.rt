@@ -1,8 +1,6 @@
-//! Tests of the hub and of the server that no list of events and replies says: requests cut at each place,
-//! connections and a
-//! stream that take turns byte by byte, events in one run, readers and writers that fail, sockets. There is nothing
-//! here but
-//! tests; what they want is worked by hand from the rules of the formats.
+//! Tests of the hub and the server that a transcript can't express: requests split at each place, interleaved
+//! connections and streams, events in one run, failing readers and writers, sockets. This crate contains only tests.
+//! The expected results are worked by hand from the rules of the formats.
 #![tactic(auto)]
 
 #[cfg(test)]

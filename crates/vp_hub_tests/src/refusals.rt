@@ -1,4 +1,4 @@
-//! Events in one run, of which some are refused, and change nothing; a hub without a stream.
+//! Tests of events in one run, some of which are refused and change nothing, and of a hub without streams.
 
 ghost use Rattle.std.specs.Prelude.{◌≡◌, IfOk, suc, vec_len};
 
@@ -11,7 +11,7 @@ use std::test::Fail;
 use vp_base::Limits;
 use vp_hub::{Event, Hub, HubFault, NewFault, Reply};
 
-/// An event, its bytes lent.
+/// An event with borrowed bytes.
 #[derive(Clone, Copy)]
 enum Told<'a> {
     Feed(&'a [u8], &'a [u8]),
@@ -21,17 +21,17 @@ enum Told<'a> {
     Shut(u32),
 }
 
-/// What an event comes to.
+/// The expected answer to an event.
 #[derive(Clone, Copy)]
 enum Answer<'a> {
-    /// It is taken, and nothing is replied.
+    /// It is accepted, without a response.
     Taken,
-    /// Just these bytes are replied, and the connection is closed.
+    /// Exactly these bytes are the response, and the connection is closed.
     Last(&'a [u8]),
     Refused(HubFault),
 }
 
-/// The event, its bytes its own.
+/// Converts the event to one with bytes of its own.
 fn event(alloc: Global, told: Told<'_>) -> Result<Event, AllocError> {
     Ok(match told {
         Told::Feed(name, bytes) => Event::Feed(list(alloc, name)?, list(alloc, bytes)?),
@@ -42,7 +42,7 @@ fn event(alloc: Global, told: Told<'_>) -> Result<Event, AllocError> {
     })
 }
 
-/// Whether an event came to this.
+/// Returns whether an event has this answer.
 fn is_answer(found: &Result<Reply, HubFault>, answer: Answer<'_>) -> bool {
     match answer {
         Taken => is_answered(found, b""),
@@ -53,9 +53,8 @@ fn is_answer(found: &Result<Reply, HubFault>, answer: Answer<'_>) -> bool {
     }
 }
 
-/// Events in order. No stream is called `d` or `aa`; `b` meets a fault in its head, and `c` ends without a byte;
-/// connections 1
-/// and 3 to 65 stand, which are 64, until 65 goes; then 2 comes and goes.
+/// Events in order. No stream is named `d` or `aa`; `b` has a fault in its head, and `c` ends without a byte. The 64
+/// connections 1 and 3 to 65 are open, until 65 is shut; then 2 is opened and shut.
 const STEPS: [(Told<'static>, Answer<'static>); 28] = [
     (Told::Feed(b"d", b"x"), Refused(HubFault::UnknownStream)),
     (Told::Feed(b"aa", b"x"), Refused(HubFault::UnknownStream)),
@@ -87,8 +86,8 @@ const STEPS: [(Told<'static>, Answer<'static>); 28] = [
     (Told::Bytes(2, b"x"), Refused(HubFault::UnknownConn)),
 ];
 
-/// A hub of the streams `a`, `b` and `c`, of which `a` has two packets; connections 1 and 3 to 65 stand, and 1 sent a
-/// request but for its last byte.
+/// Returns a hub with the streams `a`, `b` and `c`; `a` has two packets. Connections 1 and 3 to 65 are open, and 1 has
+/// sent a request except for its last byte.
 fn hub_of_three(alloc: Global) -> Option<Hub> {
     let mut hub = hub_of(alloc, &[b"a", b"b", b"c"], &parts(), 1)?;
     let _ = says(alloc, &mut hub, 1, &ASKS_KEY[..37]);
@@ -101,7 +100,7 @@ fn hub_of_three(alloc: Global) -> Option<Hub> {
 const INFO: &[u8] =
     b"HTTP/1.1 200 OK\r\nContent-Type: text/plain\r\nContent-Length: 42\r\n\r\nstate open\npackets 2\nsize 16x16\nrate 30/1\n";
 
-/// Puts an event behind.
+/// Appends an event.
 fn put(alloc: Global, events: &mut Vec<Event>, told: Told<'_>) -> Result<(), AllocError>
     ensures { IfOk result (λ done. vec_len events.new ≡ suc (vec_len events.old)) }
 {
@@ -110,7 +109,7 @@ fn put(alloc: Global, events: &mut Vec<Event>, told: Told<'_>) -> Result<(), All
     Ok(())
 }
 
-/// The events of all steps, behind each of which connection 3 asks what is known of stream `a`.
+/// Returns the events of all steps. After each of them, connection 3 requests the information about stream `a`.
 fn events(alloc: Global) -> Result<Vec<Event>, AllocError>
     ensures { IfOk result (λ events. vec_len events ≡ 56) }
 {
@@ -123,7 +122,7 @@ fn events(alloc: Global) -> Result<Vec<Event>, AllocError>
     Ok(events)
 }
 
-/// Whether each step has its answer, and connection 3 is told the same of stream `a` as ever.
+/// Returns whether each step has its answer, and the information about stream `a` is always the same.
 fn are_answers(found: &[Result<Reply, HubFault>]) -> bool {
     for ((_, answer), pair) in STEPS.iter().zip(found.chunks(2)) {
         let [of_step, of_asking] = pair else {
@@ -136,7 +135,7 @@ fn are_answers(found: &[Result<Reply, HubFault>]) -> bool {
     found.len() == 56
 }
 
-/// Whether all steps in one run come to their answers.
+/// Returns whether all steps in one run have their answers.
 fn run_is_answered(alloc: Global, hub: &mut Hub) -> bool {
     let Ok(events) = events(alloc) else {
         return false;
@@ -147,7 +146,7 @@ fn run_is_answered(alloc: Global, hub: &mut Hub) -> bool {
     }
 }
 
-/// Whether connection 1, behind all steps, is answered its picture by its request's last byte.
+/// Returns whether connection 1, after all steps, is answered with its picture at its request's last byte.
 fn goes_on(alloc: Global) -> bool {
     match hub_of_three(alloc) {
         Some(mut hub) => {
@@ -164,7 +163,7 @@ fn refused_events_change_nothing(rt: HostRuntime) -> Result<(), Fail> {
     Ok(())
 }
 
-/// A hub has one stream at least.
+/// A hub needs at least one stream.
 #[test]
 fn no_name_is_refused(rt: HostRuntime) -> Result<(), Fail> {
     let hub = Hub::new(rt.alloc(), Vec::new(rt.alloc()), Limits::usual());

@@ -1,4 +1,4 @@
-//! How a connection is read: how many bytes at once, and how often.
+//! Tests of how a connection is read: the sizes and the number of its reads.
 
 use crate::hubs::hub_of;
 use std::alloc::{AllocError, Global};
@@ -9,7 +9,7 @@ use std::test::Fail;
 use vp_base::Counted;
 use vp_hub::{ServeFault, serve_one};
 
-/// Notes how many bytes it gave in all, and the most that it was asked for at once.
+/// A reader that records the total number of bytes it gave, and the largest size it was asked for.
 #[derive(Drop)]
 struct Asked<'a> {
     left: &'a [u8],
@@ -26,7 +26,7 @@ impl Read for Asked<'_> {
     }
 }
 
-/// Notes at each write how many bytes were given by then.
+/// A writer that records, at each write, the number of bytes read so far.
 #[derive(Drop)]
 struct Noted<'a> {
     given: &'a Cell<usize>,
@@ -46,9 +46,8 @@ impl Write for Noted<'_> {
     }
 }
 
-/// Whether three requests of these bytes are read in three pieces, each request being replied to behind the piece
-/// that ends
-/// it.
+/// Returns whether three requests in these bytes are read in three pieces, and each request is answered after the piece
+/// that ends it.
 fn reads_in_pieces(alloc: Global, sent: &[u8]) -> bool {
     let Some(mut hub) = hub_of(alloc, &[b"a"], &[], 1) else {
         return false;
@@ -71,7 +70,7 @@ fn reads_in_pieces(alloc: Global, sent: &[u8]) -> bool {
         && at.as_slice() == [4096, 8192, 9000].as_slice()
 }
 
-/// A request of 3,000 bytes.
+/// Returns a request of 3,000 bytes.
 fn long_request(alloc: Global) -> Result<Vec<u8>, AllocError> {
     let mut sent = b"GET /streams HTTP/1.1\r\nHost: x\r\nA: ".to_vec(alloc)?;
     sent.extend_from_slice(&[b'b'; 2961])?;
@@ -79,7 +78,7 @@ fn long_request(alloc: Global) -> Result<Vec<u8>, AllocError> {
     Ok(sent)
 }
 
-/// Three of them.
+/// Returns three such requests.
 fn three_requests(alloc: Global) -> Result<Vec<u8>, AllocError> {
     let request = long_request(alloc)?;
     let mut sent = Vec::new(alloc);
@@ -89,9 +88,8 @@ fn three_requests(alloc: Global) -> Result<Vec<u8>, AllocError> {
     Ok(sent)
 }
 
-/// At most 4,096 bytes are read at once, and handed in as one piece. Of three requests of 3,000 bytes each, one
-/// ends in each
-/// piece, and the last read finds the end.
+/// At most 4,096 bytes are read at once, and handed to the hub as one piece. Of three requests of 3,000 bytes each, one
+/// ends in each piece, and the last read finds the end.
 #[test]
 fn pieces_of_4096_bytes(rt: HostRuntime) -> Result<(), Fail> {
     let sent = three_requests(rt.alloc())?;
@@ -99,7 +97,7 @@ fn pieces_of_4096_bytes(rt: HostRuntime) -> Result<(), Fail> {
     Ok(())
 }
 
-/// Gives single bytes, those of a request again and again, so many in all.
+/// A reader that gives single bytes of a repeated request, up to a total number.
 #[derive(Drop)]
 struct Again<'a> {
     request: &'a [u8],
@@ -121,7 +119,7 @@ impl Read for Again<'_> {
     }
 }
 
-/// Takes all that is written.
+/// A writer that discards everything.
 #[derive(Drop)]
 struct Nowhere;
 
@@ -135,7 +133,8 @@ impl Write for Nowhere {
     }
 }
 
-/// Whether a connection that gives so many single bytes, in requests of 3,000, ends so, by so many reads.
+/// Returns whether a connection that gives `bytes` single bytes, in requests of 3,000, ends with this result after this
+/// number of reads.
 fn ends_by(
     alloc: Global,
     bytes: usize,
@@ -156,7 +155,7 @@ fn ends_by(
     Ok(served == wanted && reader.reads() == reads)
 }
 
-/// A connection may end with its 1,048,576th read, and no later.
+/// A connection may end at its 1,048,576th read, and no later.
 #[test]
 fn reads_of_a_connection(rt: HostRuntime) -> Result<(), Fail> {
     let turns = Err(ServeFault::ReadTurns);

@@ -1,4 +1,4 @@
-//! Connections served over memory.
+//! Tests of connections served over memory.
 
 use crate::hubs::{HEAD, KEY, LINES, hub_of, is_refused, key_picture};
 use std::alloc::{AllocError, Global};
@@ -9,10 +9,10 @@ use std::test::Fail;
 use vp_base::{Counted, FailAt};
 use vp_hub::{Event, Hub, HubFault, ServeFault, serve_one};
 
-// What asks for the picture of the first packet.
+// A request for the picture of the first packet.
 const SENT: &[u8] = b"GET /s/a/frame/0 HTTP/1.1\r\nHost: x\r\n\r\n";
 
-/// The reply of the key packet's picture.
+/// The response with the key packet's picture.
 fn key_reply() -> [u8; 464] {
     let mut reply = [0; 464];
     reply[..80].copy_from_slice(LINES);
@@ -20,7 +20,7 @@ fn key_reply() -> [u8; 464] {
     reply
 }
 
-/// Gives one byte at each read.
+/// A reader that gives one byte at each read.
 #[derive(Drop)]
 struct Single<'a>(&'a [u8]);
 
@@ -31,9 +31,8 @@ impl Read for Single<'_> {
     }
 }
 
-/// Serves connection 2 over single bytes, where so many reads and so many writes come before one fails: how it
-/// ended, and
-/// whether these bytes were written.
+/// Serves connection 2 over single bytes. The first `reads` reads and the first `writes` writes succeed, and the next
+/// one fails. Returns the result, and whether these bytes are written.
 fn serve_two(
     alloc: Global,
     hub: &mut Hub,
@@ -63,7 +62,7 @@ fn serve_one_in_single_bytes(rt: HostRuntime) -> Result<(), Fail> {
     Ok(())
 }
 
-/// Whether 5,000 reads of less than a head are taken, and nothing is replied.
+/// Returns whether 5,000 reads of an incomplete head are accepted without a response.
 fn takes_many_reads(alloc: Global) -> bool {
     match hub_of(alloc, &[b"a"], &[], 16) {
         Some(mut hub) => {
@@ -79,7 +78,7 @@ fn reads_are_not_refused(rt: HostRuntime) -> Result<(), Fail> {
     Ok(())
 }
 
-/// Whether the connection no longer stands, and another of its number is taken.
+/// Returns whether the connection is gone, so that another one with its number is accepted.
 fn has_gone(hub: &mut Hub) -> bool {
     is_refused(&hub.step(&Event::Shut(2)), HubFault::UnknownConn)
         && hub.step(&Event::Open(2)).is_ok()
@@ -90,7 +89,7 @@ fn has_gone(hub: &mut Hub) -> bool {
 const TWICE: &[u8] =
     b"GET /s/a/frame/0 HTTP/1.1\r\nHost: x\r\n\r\nGET /s/a/frame/0 HTTP/1.1\r\nHost: x\r\n\r\n";
 
-/// So many replies to them.
+/// Returns `count` responses to them.
 fn key_replies(alloc: Global, count: usize) -> Result<Vec<u8>, AllocError> {
     let mut replies = Vec::new(alloc);
     for _ in 0..count {
@@ -99,7 +98,7 @@ fn key_replies(alloc: Global, count: usize) -> Result<Vec<u8>, AllocError> {
     Ok(replies)
 }
 
-/// Whether two requests are served up to a read or a write that fails: the replies before it are written.
+/// Serves two requests up to a read or a write that fails. Returns whether the responses before it are written.
 fn fails_at(alloc: Global, reads: u64, writes: u64, replies: usize) -> Result<bool, AllocError> {
     let wanted = key_replies(alloc, replies)?;
     let Some(mut hub) = hub_of(alloc, &[b"a"], &[&HEAD, &KEY], 16) else {
@@ -127,7 +126,7 @@ fn each_read_fails(rt: HostRuntime) -> Result<(), Fail> {
     Ok(())
 }
 
-/// Whether a connection of a number that stands is refused, and nothing is read or written.
+/// Returns whether a connection whose number is in use is refused, and nothing is read or written.
 fn turns_away(alloc: Global) -> bool {
     let Some(mut hub) = hub_of(alloc, &[b"a"], &[&HEAD, &KEY], 16) else {
         return false;
@@ -146,7 +145,7 @@ fn refused_opening_reads_nothing(rt: HostRuntime) -> Result<(), Fail> {
     Ok(())
 }
 
-/// Gives the first request, and the second only once something was written.
+/// A reader that gives the first request, and the second one only after something is written.
 #[derive(Drop)]
 struct Asking<'a> {
     first: &'a [u8],
@@ -166,7 +165,7 @@ impl Read for Asking<'_> {
     }
 }
 
-/// Notes that something was written.
+/// A writer that records whether something is written.
 #[derive(Drop)]
 struct Noting<'a>(&'a Cell<bool>);
 
@@ -181,7 +180,7 @@ impl Write for Noting<'_> {
     }
 }
 
-/// Whether the first reply is written before what follows its request is read.
+/// Returns whether the first response is written before the bytes after its request are read.
 fn replies_before_reading(alloc: Global) -> bool {
     let Some(mut hub) = hub_of(alloc, &[b"a"], &[&HEAD, &KEY], 16) else {
         return false;

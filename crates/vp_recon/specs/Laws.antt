@@ -1,4 +1,5 @@
--- The statements of the laws of reconstruction: its equation, the rows that it reads, and what it leaves unchanged.
+-- The statements of the laws of reconstruction: its equation, the rows that it reads, and the pixels that it leaves
+-- unchanged.
 use Rattle.std.specs.Prelude.{◌≡◌, ℕ, ◌+◌, ◌-◌, ◌*◌, ◌<◌, ◌≤◌, true, slice_index_or}
 use Rattle.vp_base.specs.declared.place.Place.{Place}
 use Rattle.vp_base.specs.Raster.{Raster}
@@ -23,7 +24,8 @@ HasOneSolution f =
     (p q : Image) → IsAligned p → IsAligned q → AreOneSize p q → AreWhole p → AreWhole q → IsUnfiltered f p
     → IsUnfiltered f q → p ≡ q
 
--- What a macroblock makes from some row on depends on the rows from there on, if the last one above it is one of them.
+-- from any row on, the result of rebuilding a macroblock depends only on the rows from there on, if these include the
+-- last row above the macroblock
 abbrev pub ReadsOneRowAbove : Macroblock → Place → Type 0
 ReadsOneRowAbove m place =
     (p q : Image) (a b : ℕ) → IsAligned p → IsAligned q → AreOneSize p q
@@ -31,13 +33,13 @@ ReadsOneRowAbove m place =
     → b ≤ 8 * place.row - 1
     → AreSameFrom a b p q → AreSameFrom a b (rebuilt m place p) (rebuilt m place q)
 
--- An inter macroblock needs no such row.
+-- an inter macroblock doesn't need the row above it
 abbrev pub ReadsNoRowAbove : Macroblock → Place → Type 0
 ReadsNoRowAbove m place =
     (p q : Image) (a b : ℕ) → IsAligned p → IsAligned q → AreOneSize p q
     → AreSameFrom a b p q → AreSameFrom a b (rebuilt m place p) (rebuilt m place q)
 
--- luma whose subblocks have modes of their own, one of them after another
+-- the luma of a B_PRED macroblock is rebuilt subblock by subblock
 abbrev pub IsBySubblocks : Modes → Tokens → Factors → Place → Raster → Type 0
 IsBySubblocks modes tokens factors place p =
     is_by_subblocks modes.luma ≡ true

@@ -1,4 +1,4 @@
--- Inside the crate: what the residues of a plane's subblocks are made of.
+-- Inside the crate: the coefficients from which the residues of a plane's subblocks are computed.
 use Rattle.std.specs.Prelude.{◌≡◌, ℕ, ◌+◌, ◌<◌, ◌^◌, ℤ, pos, List, ◌∷◌, replicate, Option, Some, None, slice_index_or}
 use Rattle.std.specs.Prelude.{slice_set}
 use Rattle.vp_tokens.specs.Blocks.{block_of}
@@ -7,7 +7,7 @@ use Rattle.vp_transform.specs.Fits.{EachWithin}
 use Rattle.vp_transform.specs.Transform.{idct}
 use Rattle.vp_recon.specs.declared.residue.Residues.{Residues}
 
--- a subblock's coefficients, of which the first is number k of those that stand apart, where there are such
+-- the coefficients of subblock k, whose DC coefficient comes from the Y2 block if there is one
 abbrev pub with_first : Option (List ℤ) → ℕ → List ℤ → List ℤ
 with_first None k own = own
 with_first (Some firsts) k own = slice_set own 0 (slice_index_or firsts k (pos 0))
@@ -16,19 +16,19 @@ with_first (Some firsts) k own = slice_set own 0 (slice_index_or firsts k (pos 0
 abbrev pub coefficients_in : Residues → ℕ → List ℤ
 coefficients_in r k = with_first r.firsts k (dequantised (block_of r.tokens.now (r.first + k)).levels r.dc r.ac)
 
--- its residue
+-- the residue of subblock k
 abbrev pub residue_in : Residues → ℕ → List ℤ
 residue_in r k = idct (coefficients_in r k)
 
--- the residues of n subblocks are these
+-- the residues of n subblocks
 abbrev pub HasResidues : ℕ → Residues → (ℕ → List ℤ) → Type 0
 HasResidues n r residue = (k : ℕ) → k < n → residue_in r k ≡ residue k
 
--- first coefficients that stand apart are small enough to be transformed
+-- DC coefficients from a Y2 block are small enough for the inverse transform in 64 bits
 abbrev pub HasSmallFirsts : Residues → Type 0
 HasSmallFirsts r = (firsts : List ℤ) → r.firsts ≡ Some firsts → EachWithin (2 ^ 40) firsts
 
--- the first coefficient of subblock k is its only one that is not 0
+-- the AC coefficients of subblock k are 0
 abbrev pub IsAlone : Residues → ℕ → Type 0
 IsAlone r k = (first : ℤ) → slice_set (dequantised (block_of r.tokens.now (r.first + k)).levels 0 r.ac) 0 first
     ≡ first ∷ replicate 15 (pos 0)

@@ -1,5 +1,5 @@
--- What a macroblock is rebuilt from: its predictor (its own picture or a reference), its tokens, and its factors (RFC
--- 6386, chapters 5 and 13.1).
+-- The inputs of reconstruction: a macroblock's predictor (its own picture or a reference frame), its tokens, and its
+-- factors (RFC 6386, chapters 5 and 13.1).
 use Rattle.std.specs.Prelude.{ℕ, Bool, false, not}
 use Rattle.vp_base.specs.Image.{Image}
 use Rattle.vp_tables.specs.Modes.{is_by_subblocks, is_split}
@@ -10,30 +10,33 @@ use Rattle.vp_quant.specs.declared.factors.Factors.{Factors}
 use Rattle.vp_recon.specs.declared.predictor.Predictor.{Predictor as Lent}
 use Rattle.vp_recon.specs.declared.predictor.Predictor.TheVariants as lent
 
--- the picture that it is a part of, or a reference, by its motion and the filters of a version
+-- intra: the macroblock's own picture; inter: its motion, a reference frame, and the version that selects the
+-- interpolation filter
 pub data Predictor : Type 0 where
   Intra : Modes → Predictor
   Inter : MacroblockMotion → Image → ℕ → Predictor
 
+-- a macroblock: its predictor, its tokens, and its dequantisation factors
 pub record Macroblock : Type 0 where
   pub source : Predictor
   pub tokens : Tokens
   pub factors : Factors
 
+-- the macroblock with these parts
 abbrev pub macroblock_of : Predictor → Tokens → Factors → Macroblock
 macroblock_of source tokens factors = record { source = source; tokens = tokens; factors = factors }
 
--- the source that the code lends
+-- the value of a borrowed predictor in the code
 abbrev pub predictor_of : Lent → Predictor
 predictor_of (lent.Intra modes) = Intra modes.now
 predictor_of (lent.Inter motion reference version) = Inter motion.now reference.now version
 
--- each luma subblock is predicted by an intra mode of its own
+-- whether the luma subblocks have intra modes of their own (B_PRED)
 abbrev pub has_sub_modes : Predictor → Bool
 has_sub_modes (Intra modes) = is_by_subblocks modes.luma
 has_sub_modes (Inter motion reference version) = false
 
--- It has a Y2 block unless its luma subblocks have modes, or vectors, of their own (chapter 13).
+-- whether there is a Y2 block: not with B_PRED or split vectors (chapter 13)
 abbrev pub has_y2 : Predictor → Bool
 has_y2 (Intra modes) = not (is_by_subblocks modes.luma)
 has_y2 (Inter motion reference version) = not (is_split motion.mode)

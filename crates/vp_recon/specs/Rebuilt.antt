@@ -14,48 +14,50 @@ use Rattle.vp_recon.specs.Prediction.{luma_prediction, chroma_prediction}
 
 -- ---- a pixel
 
--- a number, or the nearest of 0 and 255
+-- clamps to 0..255
 abbrev pub to_byte : ℤ → ℕ
 to_byte (pos n) = min n 255
 to_byte (negsuc _) = 0
 
--- a pixel of its prediction and its residue
+-- a pixel: its prediction plus its residue, clamped
 unfoldable pub summed : ℕ → ℤ → ℕ
 summed prediction residue = to_byte (pos prediction +ℤ residue)
 
--- the residue at row r and column c of a block that is `across` subblocks wide: subblock k has `residue k`, row
--- after row
+-- the residue at row r and column c of a block that is `across` subblocks wide; `residue k` is that of subblock k in
+-- raster order
 abbrev pub residue_at : ℕ → (ℕ → List ℤ) → ℕ → ℕ → ℤ
 residue_at across residue r c = slice_index_or (residue (across * (r / 4) + c / 4)) (4 * (r % 4) + c % 4) (pos 0)
 
--- what m makes of the pixel at row r and column c of the luma of the macroblock at a place, where its plane is p
+-- the pixel at row r and column c of a macroblock's luma in plane p
 abbrev pub luma_made : Macroblock → Place → Raster → ℕ → ℕ → ℕ
 luma_made m place p r c =
     summed (luma_prediction m.source place p r c) (residue_at 4 (luma_residue (has_y2 m.source) m.tokens m.factors) r c)
 
--- the same of plane k, one of colour
+-- the pixel at row r and column c of a macroblock's chroma plane k in plane p
 abbrev pub chroma_made : Macroblock → ℕ → Place → Raster → ℕ → ℕ → ℕ
 chroma_made m k place p r c =
     summed (chroma_prediction m.source k place p r c) (residue_at 2 (chroma_residue m.tokens m.factors k) r c)
 
 -- ---- a macroblock
 
--- p with luma subblock k of the macroblock at a place rebuilt: four stand side by side
+-- p with luma subblock k (0 to 15, in raster order) of the macroblock at a place rebuilt
 abbrev pub sub_step : Macroblock → Place → ℕ → Raster → Raster
 sub_step m place k p =
     with_block p (16 * place.column + 4 * (k % 4)) (16 * place.row + 4 * (k / 4)) 4 4
     (λ r c. luma_made m place p (4 * (k / 4) + r) (4 * (k % 4) + c))
 
--- its luma: where each subblock has a mode of its own, subblock after subblock, from those before it too; else at once
+-- the pixels of a macroblock's luma: with B_PRED subblock by subblock, each predicted from those before it; else at
+-- once
 unfoldable pub luma_numbers : Macroblock → Place → Raster → List ℕ
 luma_numbers m place p =
     (if has_sub_modes m.source then over 16 (sub_step m place) p
     else with_block p (16 * place.column) (16 * place.row) 16 16 (luma_made m place p)).pixels
 
+-- p with a macroblock's luma rebuilt
 abbrev pub luma_rebuilt : Macroblock → Place → Raster → Raster
 luma_rebuilt m place p = record p { pixels = luma_numbers m place p }
 
--- plane k, one of colour
+-- chroma plane k
 abbrev pub chroma_rebuilt : Macroblock → ℕ → Place → Raster → Raster
 chroma_rebuilt m k place p = with_block p (8 * place.column) (8 * place.row) 8 8 (chroma_made m k place p)
 
@@ -67,21 +69,21 @@ rebuilt m place p = record p {
   v = chroma_rebuilt m 2 place p.v;
 }
 
--- ---- a frame, where f says what stands at each place
+-- ---- a frame; f gives the macroblock at each place
 
--- p with so many macroblocks of a row rebuilt, from the left
+-- p with the first `columns` macroblocks of a row rebuilt, from left to right
 abbrev pub row_rebuilt : ℕ → (Place → Macroblock) → ℕ → Image → Image
 row_rebuilt columns f row p =
     over columns (λ column. rebuilt (f (record { column = column; row = row }))
     (record { column = column; row = row })) p
 
--- p with all macroblocks rebuilt, row after row
+-- p with all macroblocks rebuilt, row by row
 abbrev pub all_rebuilt : (Place → Macroblock) → Image → Image
 all_rebuilt f p = over (macroblocks p.height) (row_rebuilt (macroblocks p.width) f) p
 
--- ---- one luma subblock by itself
+-- ---- a single luma subblock
 
--- p with the block at a place among all luma blocks rebuilt
+-- p with one luma subblock rebuilt; `block` is its place among all luma subblocks
 abbrev pub with_sub : Raster → Place → SubMode → List ℤ → Raster
 with_sub p block mode residue =
     with_block p (4 * block.column) (4 * block.row) 4 4

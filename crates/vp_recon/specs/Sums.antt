@@ -1,40 +1,40 @@
--- Inside the crate: a residue as the code keeps it, in small numbers, and its sums with prediction.
+-- Inside the crate: residues clamped to 16 bits, and their sums with a prediction.
 use Rattle.std.specs.Prelude.{ℕ, ◌+◌, ◌*◌, ◌/◌, ◌%◌, ◌<◌, ◌≤◌, ◌≡◌, ℤ, pos, List, slice_index, slice_index_or}
 use Rattle.vp_base.specs.Raster.{Raster, pixel}
 use Rattle.vp_inter.specs.declared.vector.PlaneVector.{PlaneVector}
 use Rattle.vp_recon.specs.Rebuilt.{summed}
 
--- sixteen numbers that give the sums of a residue
+-- sixteen numbers that give the same sums as a residue when added to any byte and clamped
 abbrev pub HasEqualSums : List ℤ → List ℤ → Type 0
 HasEqualSums kept residue =
     (i : ℕ) → i < 16 → (pixel : ℕ) → pixel ≤ 255 → summed pixel (slice_index_or kept i (pos 0))
     ≡ summed pixel (slice_index_or residue i (pos 0))
 
--- a residue of sixteen zeros
+-- a residue of zeros
 abbrev pub IsNothing : List ℤ → Type 0
 IsNothing residue = (i : ℕ) → i < 16 → slice_index_or residue i (pos 0) ≡ pos 0
 
--- the pixels of a subblock, row after row, of its prediction and its residue
+-- the pixels of a subblock are the sums of its prediction and its residue
 abbrev pub AreSums : List ℕ → List ℕ → List ℤ → Type 0
 AreSums pixels prediction residue =
     (r c : ℕ) → r < 4 → c < 4 → slice_index pixels (r * 4 + c)
     ≡ summed (slice_index prediction (r * 4 + c)) (slice_index_or residue (4 * r + c) (pos 0))
 
--- the pixels of p in the block at column x of row y that has n columns and rows are bytes
+-- the n by n pixels of p from column x of row y on are bytes
 abbrev pub ArePixelBytes : Raster → ℕ → ℕ → ℕ → Type 0
 ArePixelBytes p x y n = (r c : ℕ) → r < n → c < n → pixel p (x + c) (y + r) ≤ 255
 
--- ---- moved blocks
+-- ---- motion
 
 -- the vectors of n subblocks
 abbrev pub AreVectors : ℕ → List PlaneVector → (ℕ → PlaneVector) → Type 0
 AreVectors n vectors vector = (k : ℕ) → k < n → slice_index_or vectors k (record { row = pos 0; column = pos 0 })
     ≡ vector k
 
--- four vectors are one
+-- four vectors are equal
 abbrev pub AreEqualVectors : List PlaneVector → Type 0
 AreEqualVectors vectors = AreVectors 4 vectors (λ k. slice_index_or vectors 0 (record { row = pos 0; column = pos 0 }))
 
--- subblock k of two by two in a quarter of luma, by its number among all sixteen
+-- the number among all sixteen of subblock k in a quarter of the luma
 abbrev pub sub_of_quarter : ℕ → ℕ → ℕ
 sub_of_quarter quarter k = 8 * (quarter / 2) + 2 * (quarter % 2) + (4 * (k / 2) + k % 2)

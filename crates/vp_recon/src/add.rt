@@ -1,4 +1,4 @@
-//! Residues added to the prediction that a picture has.
+//! Adds residues to the prediction that a picture already holds.
 
 ghost use Rattle.std.specs.Prelude.{◌≡◌, ℕ, ◌+◌, ◌*◌, ◌%◌, ◌<◌, ◌≤◌, ℤ, List};
 ghost use Rattle.vp_base.specs.Raster.{pixel};
@@ -17,7 +17,8 @@ use crate::subblock::{load_subblock, store_subblock};
 use vp_base::Picture;
 use vp_transform::idct_pair;
 
-/// Adds to the block at column `x` of row `y` the residues of its subblocks, of which `ACROSS` stand side by side.
+/// Adds the residues of a block's subblocks to its prediction. The block begins at column `x` of row `y`, and is
+/// `ACROSS` subblocks (2 or 4) wide and high.
 pub(crate) fn add_residues<const ACROSS: usize>(
     picture: &mut Picture,
     plane: usize,
@@ -49,8 +50,7 @@ pub(crate) fn add_residues<const ACROSS: usize>(
     }
 }
 
-/// Adds to the block at column `x` of row `y` the residues of its subblocks `k` to `k + 3`, where those before are
-/// added.
+/// Adds the residues of subblocks `k` to `k + 3` of that block. Those of the subblocks before `k` have been added.
 #[inline(always)]
 fn add_by_fours<const ACROSS: usize>(
     picture: &mut Picture,
@@ -87,7 +87,7 @@ fn add_by_fours<const ACROSS: usize>(
     add_by_twos::<ACROSS>(picture, plane, x, y, residues, k + 2);
 }
 
-/// The same of subblocks `k` and `k + 1`.
+/// Adds the residues of subblocks `k` and `k + 1` of that block. Those of the subblocks before `k` have been added.
 #[inline(always)]
 fn add_by_twos<const ACROSS: usize>(
     picture: &mut Picture,
@@ -124,9 +124,8 @@ fn add_by_twos<const ACROSS: usize>(
     }
 }
 
-/// Adds to the four subblocks side by side from column `x` of row `y` on the residues of subblocks `k` to `k + 3`,
-/// of each of
-/// which only the first coefficient is not 0.
+/// Adds the residues of subblocks `k` to `k + 3`, which have DC coefficients only, to four adjacent subblocks. The
+/// first subblock begins at column `x` of row `y`.
 fn add_four(picture: &mut Picture, plane: usize, x: usize, y: usize, residues: &Residues, k: usize)
     requires plane { plane < 3 }
     requires columns { x + 16 ≤ (plane_of picture.old plane).width }
@@ -149,8 +148,8 @@ fn add_four(picture: &mut Picture, plane: usize, x: usize, y: usize, residues: &
     add_sixteen(picture, plane, x, y, four_numbers(a, b, c, d));
 }
 
-/// Adds to the subblock at column `x` of row `y` the residue of subblock `k`, and to the one to the right that of
-/// the next.
+/// Adds the residues of subblocks `k` and `k + 1` to two adjacent subblocks. The left one begins at column `x` of row
+/// `y`.
 fn add_two(picture: &mut Picture, plane: usize, x: usize, y: usize, residues: &Residues, k: usize)
     requires plane { plane < 3 }
     requires columns { x + 8 ≤ (plane_of picture.old plane).width }
@@ -178,7 +177,7 @@ fn add_two(picture: &mut Picture, plane: usize, x: usize, y: usize, residues: &R
     add_rows(picture, plane, x, y, top, upper, lower, bottom);
 }
 
-/// The same one by one, however large the coefficients are.
+/// Adds the residues of subblocks `k` and `k + 1` as `add_two` does, one by one, for coefficients of any size.
 fn add_each(picture: &mut Picture, plane: usize, x: usize, y: usize, residues: &Residues, k: usize)
     requires plane { plane < 3 }
     requires columns { x + 8 ≤ (plane_of picture.old plane).width }
@@ -194,7 +193,7 @@ fn add_each(picture: &mut Picture, plane: usize, x: usize, y: usize, residues: &
     add_kept(picture, plane, x + 4, y, residues.kept(k + 1));
 }
 
-/// Adds to the subblock at column `x` of row `y` the numbers that are kept of its residue.
+/// Adds a residue, clamped to 16 bits, to the subblock at column `x` of row `y`.
 fn add_kept(picture: &mut Picture, plane: usize, x: usize, y: usize, numbers: [i16; 16])
     requires plane { plane < 3 }
     requires columns { x + 4 ≤ (plane_of picture.old plane).width }

@@ -1,4 +1,4 @@
-//! Residues added to four subblocks side by side, of one number each: four rows of sixteen pixels.
+//! Adds DC-only residues to four adjacent subblocks: four rows of sixteen pixels.
 
 ghost use Rattle.std.specs.Prelude.{◌≡◌, ℕ, ◌+◌, ◌*◌, ◌<◌, ◌≤◌, [], length, slice_index, slice_index_or};
 ghost use Rattle.vp_base.specs.Raster.{pixel, with_run};
@@ -12,7 +12,7 @@ use std::simd::prelude::*;
 use vp_base::{Picture, Plane};
 use vp_lanes::{load16, store16};
 
-/// A row of four subblocks, of one number each.
+/// Returns a row of the residues of four subblocks, each of which has one value for all its pixels.
 pub(crate) fn four_numbers(a: i16, b: i16, c: i16, d: i16) -> i16x16
     ensures first { (j : ℕ) → j < 4 → lane result j ≡ a }
     ensures second { (j : ℕ) → j < 4 → lane result (4 + j) ≡ b }
@@ -27,7 +27,7 @@ pub(crate) fn four_numbers(a: i16, b: i16, c: i16, d: i16) -> i16x16
         )
 }
 
-/// The sixteen pixels of row `y` from column `x` on, each with its number.
+/// Returns the sixteen pixels of row `y` from column `x` on, with their residues added.
 fn added_sixteen(plane: &Plane, x: usize, y: usize, numbers: i16x16) -> u8x16
     requires columns { x + 16 ≤ plane.now.width }
     requires row { y < plane.now.height }
@@ -37,7 +37,7 @@ fn added_sixteen(plane: &Plane, x: usize, y: usize, numbers: i16x16) -> u8x16
     add(load16(plane.row(y), x), numbers)
 }
 
-/// Writes sixteen pixels from column `x` of row `y` on.
+/// Writes sixteen pixels to row `y` from column `x` on.
 fn write16(picture: &mut Picture, k: usize, x: usize, y: usize, row: u8x16)
     requires plane { k < 3 }
     requires columns { x + 16 ≤ (plane_of picture.old k).width }
@@ -49,7 +49,7 @@ fn write16(picture: &mut Picture, k: usize, x: usize, y: usize, row: u8x16)
     store16(picture.row_mut(k, y), x, row);
 }
 
-/// Writes four rows of sixteen pixels, the first from column `x` of row `y` on.
+/// Writes four rows of sixteen pixels. The first begins at column `x` of row `y`.
 fn write_rows(picture: &mut Picture, k: usize, x: usize, y: usize, rows: [u8x16; 4])
     requires plane { k < 3 }
     requires columns { x + 16 ≤ (plane_of picture.old k).width }
@@ -64,7 +64,7 @@ fn write_rows(picture: &mut Picture, k: usize, x: usize, y: usize, rows: [u8x16;
     write16(picture, k, x, y + 3, rows[3]);
 }
 
-/// Four rows of sixteen pixels from row `y` on, each pixel with its number: one for a column.
+/// Returns four rows of sixteen pixels from row `y` on, with a residue added for each column.
 fn added_rows(plane: &Plane, x: usize, y: usize, numbers: i16x16) -> [u8x16; 4]
     requires columns { x + 16 ≤ plane.now.width }
     requires rows { y + 4 ≤ plane.now.height }
@@ -81,7 +81,7 @@ fn added_rows(plane: &Plane, x: usize, y: usize, numbers: i16x16) -> [u8x16; 4]
     ]
 }
 
-/// Adds to four rows of sixteen pixels, the first from column `x` of row `y` on, a number for each column.
+/// Adds a residue for each column to four rows of sixteen pixels. The first row begins at column `x` of row `y`.
 pub(crate) fn add_sixteen(picture: &mut Picture, plane: usize, x: usize, y: usize, numbers: i16x16)
     requires plane { plane < 3 }
     requires columns { x + 16 ≤ (plane_of picture.old plane).width }

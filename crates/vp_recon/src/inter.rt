@@ -1,4 +1,4 @@
-//! Macroblocks that are predicted from a reference (chapter 18).
+//! Rebuilds inter macroblocks (RFC 6386, chapter 18).
 
 ghost use Rattle.std.specs.Prelude.{◌≡◌, ℕ, ◌+◌, ◌*◌, ◌<◌, ◌≤◌, ℤ, List, length, map, true, false};
 ghost use Rattle.vp_base.specs.Block.{with_block};
@@ -20,7 +20,7 @@ use vp_motion::{MacroblockMotion, Vector};
 use vp_quant::Factors;
 use vp_tokens::Tokens;
 
-/// Luma of an inter macroblock.
+/// Rebuilds the luma of an inter macroblock.
 pub(crate) fn rebuild_inter_luma(
     picture: &mut Picture,
     place: Place,
@@ -42,7 +42,7 @@ pub(crate) fn rebuild_inter_luma(
     add_residues::<4>(picture, 0, x, y, &residues);
 }
 
-/// Predicts luma: at once, unless its parts have vectors of their own.
+/// Predicts the luma of an inter macroblock: as one block, or by quarters for split vectors.
 pub(crate) fn predict_luma(
     picture: &mut Picture,
     x: usize,
@@ -66,7 +66,7 @@ pub(crate) fn predict_luma(
     }
 }
 
-/// One of the colour planes of an inter macroblock.
+/// Rebuilds a chroma plane (1 or 2) of an inter macroblock.
 pub(crate) fn rebuild_inter_chroma(
     picture: &mut Picture,
     plane: usize,
@@ -91,7 +91,7 @@ pub(crate) fn rebuild_inter_chroma(
     add_residues::<2>(picture, plane, x, y, &residues);
 }
 
-/// Predicts one of the colour planes.
+/// Predicts a chroma plane of an inter macroblock.
 pub(crate) fn predict_chroma(
     picture: &mut Picture,
     plane: usize,
@@ -118,7 +118,7 @@ pub(crate) fn predict_chroma(
     }
 }
 
-/// How luma subblock `k` moves.
+/// Returns the motion vector of luma subblock `k`.
 #[tactic(auto, unfolding(crate::specs::Prediction::luma_moved))]
 fn luma_vector_of(motion: &MacroblockMotion, k: usize) -> PlaneVector
     requires { k < 16 }
@@ -128,7 +128,7 @@ fn luma_vector_of(motion: &MacroblockMotion, k: usize) -> PlaneVector
     luma_vector(vector.row, vector.column)
 }
 
-/// How subblock `k` of either colour plane moves.
+/// Returns the motion vector of subblock `k` of either chroma plane.
 #[tactic(auto, unfolding(crate::specs::Prediction::chroma_moved))]
 fn chroma_vector_of(version: u8, motion: &MacroblockMotion, k: usize) -> PlaneVector
     requires { k < 4 }
@@ -137,7 +137,7 @@ fn chroma_vector_of(version: u8, motion: &MacroblockMotion, k: usize) -> PlaneVe
     vector_of_four(version, &motion.vectors, 8 * (k / 2) + 2 * (k % 2))
 }
 
-/// How a chroma subblock moves, by the vectors of two by two luma subblocks, of which `first` is at the top left.
+/// Returns the chroma vector for a square of four luma subblocks. `first` is the number of the one at the top left.
 fn vector_of_four(version: u8, vectors: &[Vector; 16], first: usize) -> PlaneVector
     requires { first ≤ 10 }
     ensures { result ≡ chroma_vector version (map (λ v. v.row) (four_from vectors.now first))
@@ -152,7 +152,7 @@ fn vector_of_four(version: u8, vectors: &[Vector; 16], first: usize) -> PlaneVec
     )
 }
 
-/// How the four subblocks of a quarter of luma move.
+/// Returns the motion vectors of the four subblocks in a quarter of the luma.
 fn quarter_vectors(motion: &MacroblockMotion, quarter: usize) -> [PlaneVector; 4]
     requires { quarter < 4 }
     ensures len { length result ≡ 4 }
@@ -167,7 +167,7 @@ fn quarter_vectors(motion: &MacroblockMotion, quarter: usize) -> [PlaneVector; 4
     ]
 }
 
-/// How the subblocks of either colour plane move.
+/// Returns the motion vectors of the four subblocks of either chroma plane.
 fn chroma_vectors(version: u8, motion: &MacroblockMotion) -> [PlaneVector; 4]
     ensures len { length result ≡ 4 }
     ensures value { AreVectors 4 result (chroma_moved version motion.now) }
@@ -180,7 +180,7 @@ fn chroma_vectors(version: u8, motion: &MacroblockMotion) -> [PlaneVector; 4]
     ]
 }
 
-/// Predicts luma whose subblocks have vectors of their own, a quarter after another.
+/// Predicts luma with split vectors, quarter by quarter.
 fn predict_quarters(
     picture: &mut Picture,
     x: usize,

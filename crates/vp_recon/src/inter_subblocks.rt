@@ -1,4 +1,4 @@
-//! Blocks whose subblocks move by vectors of their own.
+//! Predicts blocks whose subblocks have motion vectors of their own.
 
 ghost use Rattle.std.specs.Prelude.{◌≡◌, ℕ, ◌+◌, ◌<◌, ◌≤◌, true, length};
 ghost use Rattle.vp_base.specs.Block.{with_block};
@@ -10,7 +10,7 @@ ghost use Rattle.vp_recon.specs.Sums.{AreVectors, AreEqualVectors};
 use vp_base::{Picture, Plane};
 use vp_inter::{PlaneVector, predict_into4, predict_into8};
 
-/// Predicts two by two subblocks: at once, if they move alike, else one after another.
+/// Predicts a square of four subblocks: as one block if their vectors are equal, else one by one.
 pub(crate) fn predict_four(
     picture: &mut Picture,
     plane: usize,
@@ -42,7 +42,7 @@ pub(crate) fn predict_four(
     }
 }
 
-/// Whether four subblocks move as the first of them.
+/// Returns whether four vectors are equal.
 fn are_alike(vectors: &[PlaneVector; 4]) -> bool
     ensures { result ≡ true → AreEqualVectors vectors.now }
 {

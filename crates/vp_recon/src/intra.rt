@@ -1,4 +1,4 @@
-//! Macroblocks that are predicted from their own picture (chapter 12).
+//! Rebuilds intra macroblocks (RFC 6386, chapter 12).
 
 ghost use Rattle.std.specs.Prelude.{◌≡◌, ◌+◌, ◌*◌, ◌<◌, ◌≤◌, true, false};
 ghost use Rattle.vp_base.specs.Image.{plane_of, with_plane};
@@ -18,8 +18,8 @@ use vp_quant::Factors;
 use vp_tables::SubMode;
 use vp_tokens::{Block, Tokens};
 
-/// Rebuilds the luma block at the place `block` among all luma blocks, from the pixels round it, and without a Y2
-/// block.
+/// Rebuilds one luma subblock from the pixels around it and its residue, for macroblocks without a Y2 block. `block` is
+/// its place among all luma subblocks of the picture.
 pub fn rebuild_subblock(
     picture: &mut Picture,
     block: Place,
@@ -42,7 +42,7 @@ pub fn rebuild_subblock(
     store_subblock(picture, 0, x, y, pixels);
 }
 
-/// Luma of a macroblock whose subblocks have modes of their own.
+/// Rebuilds the luma of a B_PRED macroblock: its subblocks have modes of their own.
 pub(crate) fn rebuild_subs(
     picture: &mut Picture,
     place: Place,
@@ -68,7 +68,7 @@ pub(crate) fn rebuild_subs(
     }
 }
 
-/// Luma of a macroblock that is predicted at once.
+/// Rebuilds the luma of a macroblock that has one luma mode.
 pub(crate) fn rebuild_at_once(
     picture: &mut Picture,
     place: Place,
@@ -90,7 +90,7 @@ pub(crate) fn rebuild_at_once(
     add_residues::<4>(picture, 0, x, y, &luma_residues(true, tokens, factors));
 }
 
-/// One of the colour planes of an intra macroblock.
+/// Rebuilds a chroma plane of an intra macroblock.
 pub(crate) fn rebuild_intra_chroma(
     picture: &mut Picture,
     plane: usize,

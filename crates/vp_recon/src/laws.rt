@@ -1,4 +1,4 @@
-//! What holds of a whole unfiltered picture, and of what one macroblock reads and writes, whatever its source.
+//! Theorems about the whole unfiltered picture, and about the rows that rebuilding one macroblock reads and writes.
 
 ghost use Rattle.std.specs.Prelude.{ℕ, ◌*◌};
 ghost use Rattle.vp_base.specs.declared.place.Place.{Place};
@@ -14,8 +14,8 @@ ghost use Rattle.vp_recon.specs.Rebuilt.{rebuilt, all_rebuilt};
 ghost use Rattle.vp_recon.specs.Equation.{IsUnfiltered};
 ghost use Rattle.vp_recon.specs.Laws.{HasOneSolution, ReadsOneRowAbove, ReadsNoRowAbove, IsBySubblocks};
 
-/// Each pixel of a picture whose macroblocks are all rebuilt is its prediction from that picture itself or from a
-/// reference, and its residue (RFC 6386, chapters 5, 12, 14.5 and 18). The picture has the size of that before.
+/// Each pixel of a rebuilt picture is the sum of its residue and its prediction, from that picture or a reference frame
+/// (RFC 6386, chapters 5, 12, 14.5 and 18). Rebuilding keeps the picture's size.
 pub fn unfiltered_picture_solves_its_equation()
     ensures solves { (f : Place → Macroblock) (p : Image) → IsAligned p → IsUnfiltered f (all_rebuilt f p) }
     ensures size { (f : Place → Macroblock) (p : Image) → AreOneSize (all_rebuilt f p) p }
@@ -23,12 +23,12 @@ pub fn unfiltered_picture_solves_its_equation()
     ensures whole { (f : Place → Macroblock) (p : Image) → AreWhole p → AreWhole (all_rebuilt f p) }
 {}
 
-/// Two pictures of one size that solve the equation of a frame are equal.
+/// The equation of a frame has at most one solution among pictures of one size.
 pub fn unfiltered_equation_has_one_solution()
     ensures { (f : Place → Macroblock) → HasOneSolution f }
 {}
 
-/// A picture with a macroblock rebuilt has the size of that before, and its planes are as whole.
+/// Rebuilding a macroblock keeps the picture's size, and the sizes of its planes.
 pub fn rebuilding_keeps_shape()
     ensures size { (m : Macroblock) (place : Place) (p : Image) → AreOneSize (rebuilt m place p) p }
     ensures aligned { (m : Macroblock) (place : Place) (p : Image) → IsAligned p → IsAligned (rebuilt m place p) }
@@ -41,11 +41,8 @@ pub fn rebuilding_keeps_rows_above()
         (rebuilt m place p) p }
 {}
 
-/// What rebuilding a macroblock makes from some row on depends on the rows from there on alone, if the last row
-/// above the
-/// macroblock is one of them: 1 row of luma and of chroma. An inter macroblock needs no such row: it reads none of
-/// its own
-/// picture.
+/// Rebuilding a macroblock reads at most one row above its own, in luma and in chroma. An inter macroblock reads
+/// nothing of its own picture.
 pub fn rebuilding_reads_one_row_above()
     ensures any { (m : Macroblock) (place : Place) → ReadsOneRowAbove m place }
     ensures inter { (motion : MacroblockMotion) (reference : Image) (version : ℕ) (tokens : Tokens) (factors : Factors)
@@ -53,7 +50,7 @@ pub fn rebuilding_reads_one_row_above()
         → ReadsNoRowAbove (macroblock_of (Inter motion reference version) tokens factors) place }
 {}
 
-/// Luma whose subblocks have modes of their own is rebuilt one of them after another.
+/// The luma of a B_PRED macroblock is rebuilt subblock by subblock.
 pub fn luma_is_rebuilt_by_subblocks()
     ensures { (modes : Modes) (tokens : Tokens) (factors : Factors) (place : Place) (p : Raster)
         → IsBySubblocks modes tokens factors place p }

@@ -1,4 +1,4 @@
-//! Rebuilding of one macroblock: prediction plus residue (RFC 6386, chapters 12, 14 and 18).
+//! Rebuilds macroblocks: prediction plus residue (RFC 6386, chapters 12, 14 and 18).
 #![tactic(auto)]
 
 mod add;

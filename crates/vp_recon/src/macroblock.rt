@@ -1,4 +1,4 @@
-//! One macroblock of the unfiltered picture.
+//! Rebuilds one macroblock of the unfiltered picture.
 
 ghost use Rattle.std.specs.Prelude.{◌≡◌, ◌+◌, ◌*◌, ◌<◌, ◌≤◌};
 ghost use Rattle.vp_base.specs.Image.{plane_of, with_plane, macroblocks};
@@ -12,7 +12,7 @@ use vp_base::{Picture, Place};
 use vp_quant::Factors;
 use vp_tokens::Tokens;
 
-/// Rebuilds the macroblock at `place` from its source and its residue.
+/// Rebuilds the macroblock at `place` from its prediction and its residue.
 pub fn rebuild_macroblock(
     picture: &mut Picture,
     place: Place,
@@ -30,7 +30,7 @@ pub fn rebuild_macroblock(
     rebuild_chroma(picture, 2, place, source, tokens, factors);
 }
 
-/// Luma of a macroblock.
+/// Rebuilds the luma of a macroblock.
 fn rebuild_luma(
     picture: &mut Picture,
     place: Place,
@@ -56,7 +56,7 @@ fn rebuild_luma(
     }
 }
 
-/// One of the colour planes of a macroblock.
+/// Rebuilds a chroma plane (1 or 2) of a macroblock.
 fn rebuild_chroma(
     picture: &mut Picture,
     plane: usize,

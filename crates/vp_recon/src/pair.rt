@@ -1,4 +1,4 @@
-//! Residues added to two subblocks side by side: four rows of eight pixels.
+//! Adds residues to two adjacent subblocks: four rows of eight pixels.
 
 ghost use Rattle.std.specs.Prelude.{◌≡◌, ℕ, ◌+◌, ◌*◌, ◌<◌, ◌≤◌, ◌^◌, ℤ, pos, List, [], ◌∷◌, replicate, length};
 ghost use Rattle.std.specs.Prelude.{slice_index, slice_index_or, unsigned_abs};
@@ -15,7 +15,7 @@ use vp_base::{Picture, Plane};
 use vp_lanes::{load8, store8};
 use vp_transform::idct_of_first;
 
-/// What a residue whose coefficients but the first are 0 adds to each pixel.
+/// Returns the residue of each pixel of a DC-only subblock, clamped to -255..255. `first` is its DC coefficient.
 pub(crate) fn even_number(first: i64) -> i16
     requires { unsigned_abs first ≤ 2 ^ 40 }
     ensures value { (i pixel : ℕ) → i < 16 → pixel ≤ 255 → summed pixel result
@@ -25,7 +25,7 @@ pub(crate) fn even_number(first: i64) -> i16
     idct_of_first(first).clamp(-255, 255) as i16
 }
 
-/// A row of two subblocks, of one number each.
+/// Returns a row of the residues of two subblocks, each of which has one value for all its pixels.
 pub(crate) fn even_row(left: i16, right: i16) -> i16x8
     ensures left { (j : ℕ) → j < 4 → lane result j ≡ left }
     ensures right { (j : ℕ) → j < 4 → lane result (4 + j) ≡ right }
@@ -33,7 +33,7 @@ pub(crate) fn even_row(left: i16, right: i16) -> i16x8
     i16x8::splat(left).shuffle::<8>(i16x8::splat(right), [0, 1, 2, 3, 8, 9, 10, 11])
 }
 
-/// Each pixel with its number.
+/// Adds residues to eight pixels, and clamps the sums to a byte.
 fn added(pixels: u8x8, numbers: i16x8) -> u8x8
     requires { AreLow numbers }
     ensures { (j : ℕ) → j < 8 → slice_index result j ≡ summed (slice_index pixels j) (lane numbers j) }
@@ -43,7 +43,7 @@ fn added(pixels: u8x8, numbers: i16x8) -> u8x8
         .cast::<u8>()
 }
 
-/// The eight pixels of row `y` from column `x` on, each with its number.
+/// Returns the eight pixels of row `y` from column `x` on, with their residues added.
 fn added_row(plane: &Plane, x: usize, y: usize, numbers: i16x8) -> u8x8
     requires columns { x + 8 ≤ plane.now.width }
     requires row { y < plane.now.height }
@@ -54,7 +54,7 @@ fn added_row(plane: &Plane, x: usize, y: usize, numbers: i16x8) -> u8x8
     added(load8(plane.row(y), x), numbers)
 }
 
-/// Four rows of pixels from row `y` on, each pixel with its number.
+/// Returns four rows of eight pixels from row `y` on, with their residues added.
 fn added_rows(
     plane: &Plane,
     x: usize,
@@ -83,7 +83,7 @@ fn added_rows(
     ]
 }
 
-/// Writes eight pixels from column `x` of row `y` on.
+/// Writes eight pixels to row `y` from column `x` on.
 fn write8(picture: &mut Picture, k: usize, x: usize, y: usize, row: u8x8)
     requires plane { k < 3 }
     requires columns { x + 8 ≤ (plane_of picture.old k).width }
@@ -95,7 +95,7 @@ fn write8(picture: &mut Picture, k: usize, x: usize, y: usize, row: u8x8)
     store8(picture.row_mut(k, y), x, row);
 }
 
-/// Writes four rows of eight pixels, the first from column `x` of row `y` on.
+/// Writes four rows of eight pixels. The first begins at column `x` of row `y`.
 fn write_rows(picture: &mut Picture, k: usize, x: usize, y: usize, rows: [u8x8; 4])
     requires plane { k < 3 }
     requires columns { x + 8 ≤ (plane_of picture.old k).width }
@@ -110,7 +110,7 @@ fn write_rows(picture: &mut Picture, k: usize, x: usize, y: usize, rows: [u8x8; 
     write8(picture, k, x, y + 3, rows[3]);
 }
 
-/// Adds to the subblock at column `x` of row `y` and to the one to the right of it their residues, given row by row.
+/// Adds residues, given row by row, to two adjacent subblocks. The left one begins at column `x` of row `y`.
 pub(crate) fn add_rows(
     picture: &mut Picture,
     plane: usize,

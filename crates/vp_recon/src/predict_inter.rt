@@ -1,4 +1,4 @@
-//! Inter macroblocks that have no residue.
+//! Predicts inter macroblocks that have no residue.
 
 ghost use Rattle.std.specs.Prelude.{◌≡◌, ◌<◌};
 ghost use Rattle.vp_base.specs.Image.{macroblocks};
@@ -12,7 +12,7 @@ use crate::inter::{predict_chroma, predict_luma};
 use vp_base::{Picture, Place};
 use vp_motion::MacroblockMotion;
 
-/// Rebuilds the macroblock at `place`, which moves and has no residue: it is its prediction.
+/// Rebuilds the inter macroblock at `place`, which has no residue: it is its prediction.
 pub fn predict_inter_macroblock(
     picture: &mut Picture,
     place: Place,

@@ -1,4 +1,4 @@
-//! Intra macroblocks that have no residue, and one luma mode.
+//! Predicts intra macroblocks that have no residue and one luma mode.
 
 ghost use Rattle.std.specs.Prelude.{◌≡◌, ℕ, ◌+◌, ◌*◌, ◌<◌, ◌≤◌, false};
 ghost use Rattle.vp_base.specs.Block.{with_block};
@@ -15,7 +15,7 @@ use vp_base::{Picture, Place};
 use vp_intra::{predict_chroma, predict_luma};
 use vp_modes::Modes;
 
-/// Luma of a macroblock that is predicted at once.
+/// Predicts the luma of a macroblock that has one luma mode.
 fn predict_at_once(picture: &mut Picture, place: Place, modes: &Modes)
     requires columns { 16 * place.column + 16 ≤ picture.old.luma.width }
     requires rows { 16 * place.row + 16 ≤ picture.old.luma.height }
@@ -33,7 +33,7 @@ fn predict_at_once(picture: &mut Picture, place: Place, modes: &Modes)
     picture.write_block::<16>(0, x, y, &prediction);
 }
 
-/// One of the colour planes.
+/// Predicts a chroma plane.
 fn predict_colour(picture: &mut Picture, plane: usize, place: Place, modes: &Modes)
     requires plane { plane < 3 }
     requires columns { 8 * place.column + 8 ≤ (plane_of picture.old plane).width }
@@ -52,8 +52,7 @@ fn predict_colour(picture: &mut Picture, plane: usize, place: Place, modes: &Mod
     picture.write_block::<8>(plane, x, y, &prediction);
 }
 
-/// Rebuilds the macroblock at `place`, which is predicted at once from its own picture and has no residue: it is its
-/// prediction.
+/// Rebuilds the intra macroblock at `place`, which has one luma mode and no residue: it is its prediction.
 pub fn predict_macroblock(picture: &mut Picture, place: Place, modes: &Modes)
     requires column { place.column < macroblocks picture.old.width }
     requires row { place.row < macroblocks picture.old.height }

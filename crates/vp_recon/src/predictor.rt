@@ -1,4 +1,4 @@
-//! What a macroblock is predicted from.
+//! The predictor of a macroblock.
 
 ghost use Rattle.std.specs.Prelude.{◌≡◌};
 ghost use Rattle.vp_recon.specs.Predictor.{predictor_of, has_y2};
@@ -7,12 +7,13 @@ use vp_base::Picture;
 use vp_modes::Modes;
 use vp_motion::MacroblockMotion;
 
-/// What a macroblock is predicted from (RFC 6386, chapter 5).
+/// The predictor of a macroblock (RFC 6386, chapter 5).
 #[derive(Clone, Copy)]
 pub enum Predictor<'a> {
-    /// The picture that it is a part of, by its modes: from the pixels above it and to its left, not filtered yet.
+    /// Intra: predicted from the unfiltered pixels above it and to its left in its own picture.
     Intra(&'a Modes),
-    /// A filtered picture, into which its vectors lead. The version is that of the frame's tag.
+    /// Inter: predicted from a reference frame, which is filtered, by motion vectors. The frame's version selects the
+    /// interpolation filter.
     Inter {
         motion: &'a MacroblockMotion,
         reference: &'a Picture,
@@ -21,7 +22,7 @@ pub enum Predictor<'a> {
 }
 
 impl<'a> Predictor<'a> {
-    /// Whether the macroblock has a Y2 block (chapter 13).
+    /// Returns whether the macroblock has a Y2 block (RFC 6386, chapter 13).
     pub fn has_y2(&self) -> bool
         ensures { result ≡ has_y2 (predictor_of self.now) }
     {

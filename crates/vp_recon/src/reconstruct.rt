@@ -1,4 +1,4 @@
-//! Sums of prediction and residue (chapter 14.5).
+//! Adds residues to predictions (RFC 6386, chapter 14.5).
 
 ghost use Rattle.std.specs.Prelude.{◌≡◌, ℕ, ◌+◌, ◌*◌, ◌<◌, ℤ, List, slice_index};
 ghost use Rattle.vp_lanes.specs.Lane.{lane};
@@ -8,7 +8,7 @@ ghost use Rattle.vp_recon.specs.Sums.{HasEqualSums, AreSums};
 use std::simd::prelude::*;
 use vp_lanes::clamp_i16;
 
-/// Each pixel with its number. Numbers above 255 add no more than that.
+/// Adds a number to each pixel, and clamps the sums to a byte.
 pub(crate) fn add(pixels: u8x16, numbers: i16x16) -> u8x16
     ensures { (j : ℕ) → j < 16 → slice_index result j ≡ summed (slice_index pixels j) (lane numbers j) }
 {
@@ -16,7 +16,7 @@ pub(crate) fn add(pixels: u8x16, numbers: i16x16) -> u8x16
     clamp_i16(sums, 0, 255).cast::<u8>()
 }
 
-/// The pixels of a subblock with the numbers that are kept of its residue.
+/// Adds a residue, clamped to 16 bits, to the prediction of a subblock.
 pub(crate) fn sums(prediction: u8x16, numbers: [i16; 16]) -> u8x16
     ensures { (residue : List ℤ) → HasEqualSums numbers residue → AreSums result prediction residue }
 {

@@ -1,4 +1,4 @@
-//! The residues of a macroblock's subblocks (chapter 14).
+//! The residues of a macroblock's subblocks (RFC 6386, chapter 14).
 
 ghost use Rattle.std.specs.Prelude.{◌≡◌, ℕ, ◌+◌, ◌*◌, ◌<◌, ◌≤◌, ◌^◌, ℤ, pos, ◌*ℤ◌, List, ◌∷◌, length, replicate};
 ghost use Rattle.std.specs.Prelude.{slice_index_or, slice_set, unsigned_abs, Some, false, true};
@@ -16,7 +16,7 @@ use vp_quant::{Factors, dequant, dequant_short};
 use vp_tokens::{Block, Tokens};
 use vp_transform::{cut, idct_cut, idct_of_first, idct_short, iwht, iwht_of_first};
 
-/// Block `n`: 0 is Y2, 1 to 16 are luma, 17 to 20 U and 21 to 24 V.
+/// Returns block `n`: 0 is Y2, 1 to 16 are luma, 17 to 20 U, and 21 to 24 V.
 pub(crate) fn block_of(tokens: &Tokens, n: usize) -> &Block
     requires { n < 25 }
     ensures { result.now ≡ block_of tokens.now n }
@@ -24,7 +24,7 @@ pub(crate) fn block_of(tokens: &Tokens, n: usize) -> &Block
     &tokens.blocks[n]
 }
 
-/// The first coefficient of a subblock of levels.
+/// Returns the DC coefficient of a block, dequantised.
 fn first_of(levels: &[i16; 16], dc: u16) -> i64
     ensures value { result ≡ slice_index_or levels.now 0 (pos 0) *ℤ pos dc }
     ensures within { unsigned_abs result ≤ 2 ^ 31 }
@@ -32,7 +32,8 @@ fn first_of(levels: &[i16; 16], dc: u16) -> i64
     i64::from(levels[0]) * i64::from(dc)
 }
 
-/// What is kept of the residue of a subblock whose first coefficient is `first`; the others are its levels times `ac`.
+/// Returns the residue of a subblock, clamped to 16 bits. `first` is its DC coefficient; its AC levels are multiplied
+/// by `ac`.
 fn residue_with_first(block: &Block, first: i64, ac: u16) -> [i16; 16]
     requires { unsigned_abs first ≤ 2 ^ 40 }
     ensures { HasEqualSums result (idct (slice_set (dequantised block.now.levels 0 ac) 0 first)) }
@@ -46,8 +47,8 @@ fn residue_with_first(block: &Block, first: i64, ac: u16) -> [i16; 16]
     }
 }
 
-/// The coefficients of a subblock whose first one is `first`, where all are from -2200 to 2200 and its levels are
-/// as small.
+/// Returns the coefficients of a subblock whose DC coefficient is `first`, if all are from -2200 to 2200. Its levels
+/// must be small enough for 16-bit products.
 fn short_with_first(block: &Block, first: i64, ac: u16) -> Option<[i16; 16]>
     ensures value { (zs : List ℤ) → result ≡ Some zs → zs ≡ slice_set (dequantised block.now.levels 0 ac) 0 first }
     ensures small { (zs : List ℤ) → result ≡ Some zs → EachWithin 2200 zs }
@@ -58,7 +59,7 @@ fn short_with_first(block: &Block, first: i64, ac: u16) -> Option<[i16; 16]>
     }
 }
 
-/// The block with another first number, where that is from -2200 to 2200.
+/// Returns the block with its first number replaced, if the new one is from -2200 to 2200.
 fn with_small_first(block: [i16; 16], first: i64) -> Option<[i16; 16]>
     requires { EachWithin 2200 block }
     ensures value { (zs : List ℤ) → result ≡ Some zs → zs ≡ slice_set block 0 first }
@@ -71,7 +72,7 @@ fn with_small_first(block: [i16; 16], first: i64) -> Option<[i16; 16]>
     }
 }
 
-/// The block with another first number.
+/// Returns the block with its first number replaced.
 fn with_first(block: [i16; 16], first: i16) -> [i16; 16]
     ensures { result ≡ slice_set block 0 first }
 {
@@ -83,7 +84,7 @@ fn with_first(block: [i16; 16], first: i16) -> [i16; 16]
         .to_array()
 }
 
-/// The same by way of i64, however large the coefficients are.
+/// Returns the residue of a subblock, clamped to 16 bits, in 64-bit arithmetic: for coefficients of any size.
 fn large_residue(block: &Block, first: i64, ac: u16) -> [i16; 16]
     requires { unsigned_abs first ≤ 2 ^ 40 }
     ensures { HasEqualSums result (idct (slice_set (dequantised block.now.levels 0 ac) 0 first)) }
@@ -93,7 +94,7 @@ fn large_residue(block: &Block, first: i64, ac: u16) -> [i16; 16]
     idct_cut(&coefficients)
 }
 
-/// The pixels of a subblock with its residue, the first of whose levels is multiplied by `dc`, the others by `ac`.
+/// Adds the residue of a subblock to its prediction. Its DC level is multiplied by `dc`, its AC levels by `ac`.
 pub(crate) fn with_residue(prediction: u8x16, block: &Block, dc: u16, ac: u16) -> u8x16
     ensures { AreSums result prediction (residue block.now.levels dc ac) }
 {
@@ -104,22 +105,22 @@ pub(crate) fn with_residue(prediction: u8x16, block: &Block, dc: u16, ac: u16) -
     sums(prediction, residue_with_first(block, first, ac))
 }
 
-/// What the residues of the subblocks of a plane are made of.
+/// The inputs from which the residues of a plane's subblocks are computed.
 #[derive(Clone, Copy)]
 pub(crate) struct Residues<'a> {
     tokens: &'a Tokens,
-    /// The number of the first subblock's block.
+    /// The number of the first subblock's block among all 25.
     first: usize,
-    /// What a block's first level is multiplied by.
+    /// The factor of the DC levels.
     dc: u16,
-    /// What its other levels are multiplied by.
+    /// The factor of the AC levels.
     ac: u16,
-    /// The first coefficients, where a Y2 block gives them.
+    /// The DC coefficients, if a Y2 block gives them.
     firsts: Option<[i64; 16]>,
 }
 
 impl<'a> Residues<'a> {
-    /// Whether subblock `k` or the next may have a residue that is not 0.
+    /// Returns whether subblock `k` or the next may have a nonzero residue.
     pub(crate) fn has_in_pair(&self, k: usize) -> bool
         requires { self.now.first + k + 1 < 25 }
         ensures left { result ≡ false → IsNothing (residue_in self.now k) }
@@ -128,7 +129,7 @@ impl<'a> Residues<'a> {
         self.has(k) || self.has(k + 1)
     }
 
-    /// Whether subblock `k` may have a residue that is not 0.
+    /// Returns whether subblock `k` may have a nonzero residue.
     fn has(&self, k: usize) -> bool
         requires { self.now.first + k < 25 }
         ensures { result ≡ false → IsNothing (residue_in self.now k) }
@@ -140,7 +141,8 @@ impl<'a> Residues<'a> {
         }
     }
 
-    /// Whether none of the first `count` subblocks has a residue that is not 0, as far as that is seen at once.
+    /// Returns true only if the residues of the first `count` subblocks are all zero. A quick test: it may miss some
+    /// such cases.
     pub(crate) fn has_none(&self, count: usize) -> bool
         requires { self.now.first + count ≤ 25 }
         ensures { result ≡ true → (k : ℕ) → k < count → IsNothing (residue_in self.now k) }
@@ -152,7 +154,7 @@ impl<'a> Residues<'a> {
         tokens == 0 && self.firsts.is_none()
     }
 
-    /// The first coefficient of subblock `k`.
+    /// Returns the DC coefficient of subblock `k`.
     pub(crate) fn first_coefficient(&self, k: usize) -> i64
         requires subblock { k < 16 }
         requires block { self.now.first + k < 25 }
@@ -167,7 +169,7 @@ impl<'a> Residues<'a> {
         }
     }
 
-    /// Whether subblock `k` may have other coefficients that are not 0.
+    /// Returns whether subblock `k` may have nonzero AC coefficients.
     pub(crate) fn has_others(&self, k: usize) -> bool
         requires { self.now.first + k < 25 }
         ensures { result ≡ false → (first : ℤ) → slice_set (dequantised
@@ -177,7 +179,7 @@ impl<'a> Residues<'a> {
         block_of(self.tokens, self.first + k).tokens > 1
     }
 
-    /// Whether first coefficients stand apart, and subblocks `k` to `k + 3` have no other that is not 0.
+    /// Returns whether a Y2 block gives the DC coefficients, and subblocks `k` to `k + 3` have no others.
     pub(crate) fn has_firsts_alone(&self, k: usize) -> bool
         requires { self.now.first + k + 3 < 25 }
         ensures first { result ≡ true → IsAlone self.now k }
@@ -194,7 +196,8 @@ impl<'a> Residues<'a> {
         !self.has_others(k + 2) && !self.has_others(k + 3)
     }
 
-    /// The coefficients of subblock `k`, where all are from -2200 to 2200 and its levels are as small.
+    /// Returns the coefficients of subblock `k`, if all are from -2200 to 2200 and its levels are small enough for
+    /// 16-bit products.
     pub(crate) fn small_coefficients(&self, k: usize) -> Option<[i16; 16]>
         requires subblock { k < 16 }
         requires block { self.now.first + k < 25 }
@@ -212,7 +215,7 @@ impl<'a> Residues<'a> {
         }
     }
 
-    /// What is kept of the residue of subblock `k`.
+    /// Returns the residue of subblock `k`, clamped to 16 bits.
     pub(crate) fn kept(&self, k: usize) -> [i16; 16]
         requires subblock { k < 16 }
         requires block { self.now.first + k < 25 }
@@ -224,7 +227,7 @@ impl<'a> Residues<'a> {
     }
 }
 
-/// The first coefficients of the luma subblocks, from the Y2 block.
+/// Returns the DC coefficients of the luma subblocks, from the Y2 block (RFC 6386, chapter 14.3).
 #[tactic(auto, unfolding(crate::specs::Residue::luma_firsts))]
 fn luma_firsts(tokens: &Tokens, factors: &Factors) -> [i64; 16]
     ensures value { result ≡ luma_firsts tokens.now factors.now }
@@ -237,7 +240,7 @@ fn luma_firsts(tokens: &Tokens, factors: &Factors) -> [i64; 16]
     iwht(&dequant(&block.levels, factors.y2_dc, factors.y2_ac))
 }
 
-/// The residues of the luma subblocks of a macroblock, with a Y2 block or without.
+/// Returns the luma residues of a macroblock, with a Y2 block or without.
 #[tactic(auto, unfolding(crate::specs::Residue::luma_residue, crate::specs::Residue::luma_coefficients))]
 pub(crate) fn luma_residues<'a>(y2: bool, tokens: &'a Tokens, factors: &Factors) -> Residues<'a>
     ensures first { result.first ≡ 1 }
@@ -256,7 +259,7 @@ pub(crate) fn luma_residues<'a>(y2: bool, tokens: &'a Tokens, factors: &Factors)
     }
 }
 
-/// The same with a Y2 block: where that has no tokens, the first coefficients are 0.
+/// Returns the luma residues of a macroblock with a Y2 block. If that has no tokens, all DC coefficients are 0.
 fn residues_with_y2<'a>(tokens: &'a Tokens, factors: &Factors) -> Residues<'a>
     ensures first { result.first ≡ 1 }
     ensures small { HasSmallFirsts result }
@@ -282,7 +285,7 @@ fn residues_with_y2<'a>(tokens: &'a Tokens, factors: &Factors) -> Residues<'a>
     }
 }
 
-/// The residues of the four subblocks of a plane of colour, 1 or 2.
+/// Returns the residues of a chroma plane: 1 is U, 2 is V.
 #[tactic(auto, unfolding(crate::specs::Residue::chroma_residue))]
 pub(crate) fn chroma_residues<'a>(
     tokens: &'a Tokens,

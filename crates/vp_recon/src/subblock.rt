@@ -1,4 +1,4 @@
-//! The sixteen pixels of a subblock in lanes, row after row.
+//! Loads and stores the sixteen pixels of a subblock as one vector, in raster order.
 
 ghost use Rattle.std.specs.Prelude.{◌≡◌, ℕ, ◌+◌, ◌*◌, ◌<◌, ◌≤◌, List, [], ◌∷◌, length, slice_index, slice_index_or};
 ghost use Rattle.std.specs.Simd.Lanes.{chunk, put_chunk};
@@ -9,7 +9,7 @@ ghost use Rattle.vp_base.specs.Image.{plane_of, with_plane};
 use std::simd::prelude::*;
 use vp_base::{Picture, Plane};
 
-/// The four bytes from `at` on.
+/// Loads the four bytes from `at` on.
 fn load4(s: &[u8], at: usize) -> u8x4
     requires { at + 4 ≤ length s.now }
     ensures { result ≡ chunk at 4 s.now }
@@ -17,7 +17,7 @@ fn load4(s: &[u8], at: usize) -> u8x4
     u8x4::from_slice(&s[at..])
 }
 
-/// Writes four bytes from `at` on.
+/// Stores four bytes from `at` on.
 fn store4(s: &mut [u8], at: usize, lanes: u8x4)
     requires { at + 4 ≤ length s.old }
     ensures { s.new ≡ put_chunk at s.old lanes }
@@ -25,7 +25,7 @@ fn store4(s: &mut [u8], at: usize, lanes: u8x4)
     lanes.copy_to_slice(&mut s[at..]);
 }
 
-/// The four pixels of row `y` from column `x` on.
+/// Loads the four pixels of row `y` from column `x` on.
 fn row4(plane: &Plane, x: usize, y: usize) -> u8x4
     requires columns { x + 4 ≤ plane.now.width }
     requires row { y < plane.now.height }
@@ -34,7 +34,7 @@ fn row4(plane: &Plane, x: usize, y: usize) -> u8x4
     load4(plane.row(y), x)
 }
 
-/// Four rows, one after another.
+/// Concatenates four rows.
 fn joined(a: u8x4, b: u8x4, c: u8x4, d: u8x4) -> u8x16
     ensures { (i : ℕ) → i < 4 → (j : ℕ) → j < 4 → slice_index result (i * 4 + j)
         ≡ slice_index (slice_index_or (a ∷ b ∷ c ∷ d ∷ []) i []) j }
@@ -47,7 +47,7 @@ fn joined(a: u8x4, b: u8x4, c: u8x4, d: u8x4) -> u8x16
     )
 }
 
-/// The pixels of the subblock that begins at column `x` of row `y`.
+/// Loads the pixels of the subblock that begins at column `x` of row `y`.
 pub(crate) fn load_subblock(plane: &Plane, x: usize, y: usize) -> u8x16
     requires columns { x + 4 ≤ plane.now.width }
     requires rows { y + 4 ≤ plane.now.height }
@@ -62,7 +62,7 @@ pub(crate) fn load_subblock(plane: &Plane, x: usize, y: usize) -> u8x16
     )
 }
 
-/// Writes four pixels from column `x` of row `y` on.
+/// Writes four pixels to row `y` from column `x` on.
 fn write4(picture: &mut Picture, k: usize, x: usize, y: usize, row: u8x4)
     requires plane { k < 3 }
     requires columns { x + 4 ≤ (plane_of picture.old k).width }
@@ -74,7 +74,7 @@ fn write4(picture: &mut Picture, k: usize, x: usize, y: usize, row: u8x4)
     store4(picture.row_mut(k, y), x, row);
 }
 
-/// The four rows of a subblock.
+/// Splits a subblock into its four rows.
 fn rows_of(pixels: u8x16) -> [u8x4; 4]
     ensures { (i : ℕ) → i < 4 → (j : ℕ) → j < 4 → slice_index (slice_index_or result i []) j
         ≡ slice_index pixels (i * 4 + j) }

@@ -1,5 +1,5 @@
--- The model of a stream: a growing file whose packets are all kept, and all bytes fed to it. Pinned by the tests
--- `fed_byte_by_byte` and `file_cut_short`.
+-- The model of a stream: a growing file whose packets are all kept, and the history of all bytes fed to it. Pinned by
+-- the tests `fed_byte_by_byte` and `file_cut_short`.
 use Rattle.std.specs.Prelude.{◌≡◌, ◌+◌, ℕ, Bool, false, List, [], ◌++◌, length, Option, None}
 use Rattle.vp_base.specs.declared.limits.Limits.{Limits}
 use Rattle.vp_ivf.specs.declared.packet.Packet.{Packet}
@@ -10,58 +10,61 @@ use Rattle.vp_ivf.specs.Reader.{Stream as ReaderState}
 use Rattle.vp_stream.specs.Answers.{reading_of}
 use Rattle.vp_stream.specs.Seeking.{AreKeys}
 
--- the limits, what is known of the file with all its packets, and whether the end was told
+-- the limits, the contents of the file so far with all packets, and whether its end was marked
 pub record Stream : Type 0 where
   pub limits : Limits
   pub reading : Contents
   pub ended : Bool
 
--- a stream that was fed nothing
+-- a stream without any bytes
 abbrev pub initial_stream : Limits → Stream
 initial_stream limits = record { limits = limits; reading = stop None limits.packets None []; ended = false }
 
--- what earlier calls refuse: the fault that was met, or the end that was told
+-- the error that the next piece is refused with: the file's fault, or `Ended` after its end
 abbrev pub stream_refusal : Stream → Option FileFault
 stream_refusal s = refusal_at s.reading.fault s.ended
 
--- a piece was taken
+-- the stream after a piece
 abbrev pub after_piece : Stream → List ℕ → Stream
 after_piece s piece = record s { reading = resume s.limits.packet_bytes s.reading piece }
 
--- the end was told, unless a fault was met before
+-- the stream after its end is marked; a fault takes precedence
 abbrev pub stream_after_end : Stream → Stream
 stream_after_end s = record s { ended = ended_by s.reading.fault s.ended }
 
--- all bytes fed, and whether the end was told before a fault was met
+-- all bytes fed, and whether the end was marked before the file had a fault
 pub record StreamHistory : Type 0 where
   pub fed : List ℕ
   pub ended : Bool
 
+-- the history of a new stream
 abbrev pub empty_stream_history : StreamHistory
 empty_stream_history = record { fed = []; ended = false }
 
+-- the history with one more piece
 abbrev pub with_piece : StreamHistory → List ℕ → StreamHistory
 with_piece h piece = record h { fed = h.fed ++ piece }
 
+-- the history after the end is marked
 abbrev pub with_end : StreamHistory → Option FileFault → StreamHistory
 with_end h fault = record h { ended = ended_by fault h.ended }
 
--- the stream is what this history makes of it
+-- the stream's state is determined by this history
 pub record IsStreamAfter (s : Stream) (h : StreamHistory) : Type 0 where
   pub reading : s.reading ≡ reading_of s.limits h.fed
   pub ended : s.ended ≡ h.ended
 
--- the packets of all bytes fed
+-- the packets in all bytes fed
 abbrev pub packets_of : Stream → StreamHistory → List Packet
 packets_of s h = (reading_of s.limits h.fed).packets
 
--- ---- what a stream holds: a reader whose packets were all taken, and the packets
+-- ---- the representation: a reader whose packets were all taken, and these packets
 
--- what is known of the file, with the packets that were taken
+-- the contents of the file, including the packets that were taken
 abbrev pub with_taken_packets : ReaderState → List Packet → Contents
 with_taken_packets r packets = with_front packets r.reading
 
--- the reader has given its packets, no more than the limit, and the key packet before each of them is noted
+-- the packets are taken from the reader, no more than the limit, and the key packet for each of them is known
 pub record IsKept (limits : Limits) (r : ReaderState) (packets : List Packet) (keys : List (Option ℕ)) : Type 0 where
   pub max : r.max ≡ limits.packet_bytes
   pub taken : r.reading.packets ≡ []

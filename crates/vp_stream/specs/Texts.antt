@@ -11,38 +11,40 @@ use Rattle.vp_stream.specs.declared.form.Form.{Form}
 use Rattle.vp_stream.specs.declared.form.Form.TheVariants.{I420, Y4m}
 use Rattle.vp_stream.specs.Answers.{reading_of, answers_of}
 
--- the pictures that are shown, in order
+-- the shown pictures, in order
 abbrev pub shown_in : List Answer → List Image
 shown_in answers = filter_map picture_in answers
 
+-- whether two pictures have one size
 abbrev pub same_size : Image → Image → Bool
 same_size p q = (p.width == q.width) && (p.height == q.height)
 
--- the pictures before the first one whose size isn't that of the first of all
+-- the pictures before the first one that differs in size from the first
 abbrev pub before_change : List Image → List Image
 before_change [] = []
 before_change (p ∷ ps) = p ∷ take_while (same_size p) ps
 
--- a file's first line, by its head and its first picture
+-- the YUV4MPEG2 header line, from the file's head and the first picture
 abbrev pub y4m_header : Option IvfHead → Image → List ℕ
 y4m_header None p = []
 y4m_header (Some head) p = header_text p.width p.height head.rate head.scale
 
--- pictures as I420, or with a line before them all and one before each
+-- pictures as I420, or as YUV4MPEG2 with a header line and a line before each picture
 abbrev pub text : Form → Option IvfHead → List Image → List ℕ
 text I420 head ps = flat_map i420 ps
 text Y4m head [] = []
 text Y4m head (p ∷ ps) = y4m_header head p ++ flat_map (λ q. picture_text (i420 q)) (before_change (p ∷ ps))
 
--- whether there is a picture that the form has no place for
+-- whether a picture differs in size from the first one and the form requires one size
 abbrev pub changes_size : Form → List Image → Bool
 changes_size I420 ps = false
 changes_size Y4m [] = false
 changes_size Y4m (p ∷ ps) = not (list_all (same_size p) ps)
 
--- the pictures of a file that are shown
+-- the shown pictures of a file
 abbrev pub pictures_of : Limits → List ℕ → List Image
 pictures_of limits file = shown_in (answers_of limits file)
 
+-- all output for a file
 abbrev pub decoded_text : Limits → Form → List ℕ → List ℕ
 decoded_text limits form file = text form (reading_of limits file).head (pictures_of limits file)

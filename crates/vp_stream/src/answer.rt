@@ -1,16 +1,16 @@
-//! What a question for a packet is answered.
+//! The answer of a stream for one packet.
 
 use vp_base::{ByteList, Dim};
 use vp_head::PacketFault;
 
-/// What a question for a packet is answered.
+/// The answer of a stream for one packet.
 #[derive(Debug, Drop)]
 pub enum Answer {
-    /// Its picture is shown: the size, and the pixels as I420 (Y, U, V, each by rows, cropped to the size).
+    /// Its picture is shown: the size in pixels, and the cropped pixels as I420 (Y, U, V, each plane by rows).
     Shown(Dim, ByteList),
-    /// It was decoded, and its picture isn't to be shown.
+    /// The packet is decoded and its picture is not shown.
     Hidden,
-    /// It can't be decoded.
+    /// The packet can't be decoded.
     Fault(PacketFault),
     /// The file has no such packet, or not yet.
     NoPacket,

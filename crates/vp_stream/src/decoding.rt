@@ -1,4 +1,4 @@
-//! Decoding a whole file.
+//! Decodes a whole IVF file.
 
 ghost use Rattle.std.specs.Prelude.{◌≡◌, ◌≢◌, ◌⊎◌, ◌≤◌, ◌+◌, ◌-◌, ◌^◌, ℕ, List, OnOk, Err};
 ghost use Rattle.std.specs.Result.{result_map_both};
@@ -20,9 +20,11 @@ use std::alloc::Global;
 use std::io::{Read, Write};
 use vp_base::{Counted, Limits};
 
-/// Decodes an IVF file to its end, and writes each picture that is shown as soon as its packet is read, in
-/// order. A packet that can't be decoded writes nothing, and the work goes on. Where the form has one size for
-/// all pictures, a picture of another size than the first ends the work, and nothing of it is written.
+/// Decodes an IVF file to its end, and writes each shown picture as soon as its packet is read. A packet that can't be
+/// decoded writes nothing, and decoding continues.
+///
+/// Errors: `DecodeFault`. If the form requires one size for all pictures, decoding ends before the first picture of
+/// another size than the first one.
 pub fn decode_all<R: Read, W: Write>(
     alloc: Global,
     reader: &mut Counted<R>,
@@ -36,12 +38,12 @@ pub fn decode_all<R: Read, W: Write>(
         (counted_failures writer.new)) file
         (counted_contents W.contents writer.old) (counted_contents W.contents writer.new) }
 
-    // A report, and `Torn`, come only at the reader's end.
+    // A report and `Torn` are returned only at the reader's end.
     ensures end { OnOk result (IsAtEnd (counted_remaining R.remaining reader.new)) }
     ensures torn { result ≡ Err (DecodeFault.File FileFault.Torn) →
         IsAtEnd (counted_remaining R.remaining reader.new) }
 
-    // `Device` comes where a read or a write failed, and only there.
+    // `Device` is returned only after a failed read or write, and always after one.
     ensures device { result ≡ Err DecodeFault.Device →
         HasFailed (counted_failures reader.old) (counted_failures reader.new)
         ⊎ HasFailed (counted_failures writer.old) (counted_failures writer.new) }
@@ -49,7 +51,7 @@ pub fn decode_all<R: Read, W: Write>(
         (counted_failures reader.new ≡ counted_failures reader.old)
         × (counted_failures writer.new ≡ counted_failures writer.old) }
 
-    // However it ends, no more reads are made than these. `ReadTurns` comes behind all of them.
+    // In all cases at most 2^32 - 1 reads are made. `ReadTurns` is returned after exactly that many.
     ensures reads { counted_reads reader.new ≤ counted_reads reader.old + (2 ^ 32 - 1) }
     ensures turns { result ≡ Err DecodeFault.ReadTurns →
         HasRisenBy (2 ^ 32 - 1) (counted_reads reader.old) (counted_reads reader.new) }
@@ -60,7 +62,7 @@ pub fn decode_all<R: Read, W: Write>(
     Ok(run.into_report())
 }
 
-// Decodes and writes the packets of a file that nothing was read of yet.
+// Decodes and writes the packets of a file that hasn't been read yet.
 fn decode_packets<R: Read, W: Write>(
     file: &mut PacketReader,
     run: &mut TranscodeState,

@@ -1,4 +1,4 @@
-//! Why the work on a file ends early.
+//! The faults of decoding and of surveying a file.
 
 ghost use Rattle.std.specs.Prelude.{◌≡◌, Some};
 ghost use Rattle.vp_stream.specs.Names.{decode_fault_name};
@@ -9,22 +9,22 @@ use vp_base::Device;
 use vp_ivf::FileFault;
 use vp_y4m::PictureFault;
 
-/// Why a file isn't decoded to its end.
+/// The reasons for which a file isn't decoded to its end.
 #[derive(Clone, Copy, Debug, PartialEq, Eq)]
 pub enum DecodeFault {
-    /// What is wrong with the file.
+    /// A fault of the file.
     File(FileFault),
-    /// A picture hasn't the size of the first one, which the form asks for.
+    /// A picture differs in size from the first one, and the form requires one size.
     SizeChange,
     /// A read or a write failed.
     Device,
-    /// The file didn't end within 4,294,967,295 reads.
+    /// The file did not end within 4,294,967,295 reads.
     ReadTurns,
-    /// Memory was refused.
+    /// Out of memory.
     Memory,
 }
 
-/// The fault's name, as it is told.
+/// Writes the fault's name.
 impl fmt::Display for DecodeFault {
     ghost output = { λ fault. Some (decode_fault_name fault) };
 
@@ -40,25 +40,25 @@ impl fmt::Display for DecodeFault {
     }
 }
 
-/// Why a file isn't read to its end.
+/// The reasons for which a file isn't surveyed to its end.
 #[derive(Clone, Copy, Debug, PartialEq, Eq)]
 pub enum SurveyFault {
     /// A read failed.
     Device,
-    /// The file didn't end within 4,294,967,295 reads.
+    /// The file did not end within 4,294,967,295 reads.
     ReadTurns,
-    /// Memory was refused.
+    /// Out of memory.
     Memory,
 }
 
-/// Why decoding and writing stops.
+/// The reasons for which decoding and writing stop, other than faults of the file.
 #[derive(Clone, Copy, Debug, PartialEq, Eq)]
 pub enum Interruption {
-    /// A picture hasn't the size of the first one.
+    /// A picture differs in size from the first one.
     SizeChange,
     /// A write failed.
     Device,
-    /// Memory was refused.
+    /// Out of memory.
     Memory,
 }
 

@@ -1,11 +1,11 @@
-//! Forms of output.
+//! The output formats for pictures.
 
-/// How pictures are written.
+/// The output format of decoded pictures.
 #[derive(Clone, Copy, Debug, PartialEq, Eq)]
 pub enum Form {
-    /// Each picture's shown pixels as I420, one picture after another: Y, U, V, each plane by rows.
+    /// The pixels of each picture as I420: Y, U, V, each plane by rows. Pictures follow each other without headers.
     I420,
-    /// YUV4MPEG2: a line with the first picture's size and the file's rate, then each picture as I420 behind a
-    /// line of its own. All pictures have one size.
+    /// YUV4MPEG2: a header line with the first picture's size and the file's rate, then a line and the I420 pixels for
+    /// each picture. All pictures have one size.
     Y4m,
 }

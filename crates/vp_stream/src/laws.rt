@@ -1,4 +1,4 @@
-//! What holds of all files, each as the contract of a function that does nothing.
+//! Theorems about all files. Each is the contract of a function that does nothing.
 
 ghost use Rattle.std.specs.Prelude.{◌≡◌, ◌≢◌, ◌-◌, ◌++◌, ℕ, List, drop, Some};
 ghost use Rattle.vp_base.specs.declared.limits.Limits.{Limits};
@@ -10,7 +10,7 @@ use vp_decode::key_packet_resets;
 use vp_head::first_byte_says_kind;
 use vp_ivf::growing_keeps_what_was_read;
 
-/// A growing file: bytes that are added change no answer but `NoPacket`.
+/// Growing: appended bytes change no answer other than `NoPacket`.
 pub fn growing_keeps_answers()
     ensures { (limits : Limits) (file more : List ℕ) (n : ℕ)
         → answer_at limits (reading_of limits file).packets n ≢ NoPacket
@@ -20,8 +20,8 @@ pub fn growing_keeps_answers()
     growing_keeps_what_was_read();
 }
 
-/// Seeking: no packet before the last key packet counts for an answer, and none but the packet itself where there
-/// is no key packet.
+/// Seeking: the answer for a packet depends only on the packets from the last key packet on. Without a key packet, it
+/// depends on the packet alone.
 pub fn answers_come_from_the_last_key_packet()
     ensures { (limits : Limits) (packets : List Packet) (n : ℕ)
         → answer_at limits packets n ≡ answer_at limits (drop (seek_start packets n) packets)
@@ -31,7 +31,7 @@ pub fn answers_come_from_the_last_key_packet()
     first_byte_says_kind();
 }
 
-/// A shown picture has the size that the last key packet says.
+/// A shown picture has the size that the last key packet gives.
 pub fn shown_pictures_have_the_key_packets_size()
     ensures { (limits : Limits) (packets : List Packet) (n width height : ℕ) (pixels : List ℕ)
         → answer_at limits packets n ≡ Shown width height pixels

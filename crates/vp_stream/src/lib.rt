@@ -1,4 +1,4 @@
-//! From a file of packets to its pictures: packet by packet as they are asked for, or the whole file.
+//! Decodes IVF files: single packets of a growing file, or a whole file.
 #![tactic(auto)]
 
 mod answer;

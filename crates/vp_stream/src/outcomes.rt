@@ -1,4 +1,4 @@
-//! What a file has, packet by packet.
+//! The survey of a file: its packets and their outcomes.
 
 ghost use Rattle.std.specs.Prelude.{◌≡◌, ◌++◌, ◌∷◌, [], OnOk, OnErr};
 
@@ -7,7 +7,7 @@ use std::marker::Model;
 use vp_decode::Outcome;
 use vp_ivf::{FileFault, IvfHead};
 
-/// Packets in order, each by its number of bytes and what came of it. Contracts see it as the list of them.
+/// The packets of a file in order: the length of each in bytes, and the outcome of decoding it. Its model is a list.
 #[derive(Debug, Drop)]
 pub struct OutcomeList {
     packets: Vec<(usize, Outcome)>,
@@ -23,7 +23,7 @@ impl Model for OutcomeList {
 }
 
 impl OutcomeList {
-    /// The list of no packets.
+    /// Creates an empty list.
     pub(crate) fn new(alloc: Global) -> OutcomeList
         ensures { result ≡ [] }
     {
@@ -32,14 +32,14 @@ impl OutcomeList {
         }
     }
 
-    /// The packets, in order.
+    /// Returns the packets, in order.
     pub fn as_slice(&self) -> &[(usize, Outcome)]
         ensures { result.now ≡ self.now }
     {
         self.packets.as_slice()
     }
 
-    /// Adds a packet at the end.
+    /// Appends a packet. If memory runs out, the list is unchanged.
     pub(crate) fn push(&mut self, bytes: usize, outcome: Outcome) -> Result<(), AllocError>
         ensures ok { OnOk result (self.new ≡ self.old ++ (bytes, outcome) ∷ []) }
         ensures err { OnErr result (self.new ≡ self.old) }
@@ -49,13 +49,13 @@ impl OutcomeList {
     }
 }
 
-/// What a file has.
+/// The survey of a file: its head, its packets, and its fault.
 #[derive(Debug, Drop)]
 pub struct Survey {
-    /// The file's head, where it is good.
+    /// The file's head, if it is whole and valid.
     pub head: Option<IvfHead>,
-    /// The packets, in order, each by its number of bytes and what came of it.
+    /// The packets in order: the length of each in bytes, and the outcome of decoding it.
     pub packets: OutcomeList,
-    /// What is wrong with the file, behind these packets.
+    /// The fault that follows these packets, if there is one.
     pub fault: Option<FileFault>,
 }

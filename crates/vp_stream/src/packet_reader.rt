@@ -1,4 +1,4 @@
-//! The packets of a file, read as they are asked for.
+//! Reads the packets of a file, one by one.
 
 ghost use Rattle.std.specs.Prelude.{◌≡◌, ◌≢◌, ◌++◌, ◌+◌, ◌-◌, ◌^◌, ◌<◌, ◌≤◌, ℕ, List, None, Err, Ok, true};
 ghost use Rattle.std.specs.Io.KnownBytes.{Consumes, IsAtEnd};
@@ -17,16 +17,16 @@ use std::marker::Model;
 use vp_base::{Counted, Limits};
 use vp_ivf::{FeedError, FileFault, IvfHead, Packet, Reader};
 
-/// What comes next in a file.
+/// The next item of a file.
 #[derive(Drop)]
 pub enum Next {
     /// A packet, with the file's head.
     Packet(IvfHead, Packet),
-    /// The end, or what is wrong with the file.
+    /// The end of the file, or its fault.
     End(Option<FileFault>),
 }
 
-/// Reads a file in pieces, and gives each packet once.
+/// Reads a file in pieces, and returns each packet once.
 #[derive(Drop)]
 pub struct PacketReader {
     file: Reader,
@@ -42,7 +42,7 @@ impl Model for PacketReader {
 }
 
 impl PacketReader {
-    /// Before the first read.
+    /// Creates a reader that hasn't read anything yet.
     pub(crate) fn new(alloc: Global, limits: Limits) -> PacketReader
         ensures { result ≡ before_first_read limits }
     {
@@ -52,14 +52,14 @@ impl PacketReader {
         }
     }
 
-    /// The file's head, once it is read.
+    /// Returns the file's head, once it is read.
     pub(crate) fn head(&self) -> Option<IvfHead>
         ensures { result ≡ self.now.file.reading.head }
     {
         self.file.head()
     }
 
-    /// What comes next. After the end nothing more is asked for.
+    /// Reads until the next packet is whole, and returns it, or the file's end or fault.
     pub(crate) fn next<R: Read>(&mut self, reader: &mut Counted<R>) -> Result<Next, SurveyFault>
         ensures given { (limits : Limits) (fed : List ℕ) (given : List Packet)
             → IsReading limits self.old fed given
@@ -88,7 +88,7 @@ impl PacketReader {
         }
     }
 
-    // The first packet that was read and not given yet.
+    // Returns the first packet that is read and not returned yet.
     fn waiting(&mut self) -> Option<(IvfHead, Packet)>
         ensures next { result ≡ next_waiting self.old }
         ensures rest { self.new ≡ without_next self.old }
@@ -98,7 +98,7 @@ impl PacketReader {
         Some((head, packet))
     }
 
-    // Reads a piece, and tells whether there was one.
+    // Reads a piece, and returns false at the reader's end.
     fn read_piece<R: Read>(&mut self, reader: &mut Counted<R>) -> Result<bool, SurveyFault>
         requires { refusal self.old.file ≡ None }
         ensures took { (piece : List ℕ)

@@ -1,4 +1,4 @@
-//! PictureWriter, written one after another.
+//! Writes pictures, one after another.
 
 ghost use Rattle.std.specs.Prelude.{◌≡◌, ◌≢◌, ◌++◌, true, false, OnOk, IfOk, Err, Some, length};
 ghost use Rattle.std.specs.Io.KnownBytes.{Appends};
@@ -20,7 +20,7 @@ use vp_decode::Decoder;
 use vp_ivf::IvfHead;
 use vp_y4m::{write_header, write_picture};
 
-/// Writes pictures in a form. It keeps the first picture's size where the form has one size for all.
+/// Writes pictures in a form. It remembers the first picture's size if the form requires one size for all.
 #[derive(Drop)]
 pub struct PictureWriter {
     alloc: Global,
@@ -38,7 +38,7 @@ impl Model for PictureWriter {
 }
 
 impl PictureWriter {
-    /// Before the first picture.
+    /// Creates a writer before its first picture.
     pub(crate) fn new(alloc: Global, form: Form) -> PictureWriter
         ensures { result ≡ unsized form }
     {
@@ -49,7 +49,7 @@ impl PictureWriter {
         }
     }
 
-    /// Writes the picture that a decoder shows, where it shows one, of a file with this head.
+    /// Writes the picture that a decoder shows, if it shows one. `head` is the file's head.
     pub(crate) fn write_shown<W: Write>(
         &mut self,
         head: IvfHead,
@@ -97,7 +97,7 @@ impl PictureWriter {
         self.write_text(head, picture, &text, writer)
     }
 
-    // Writes a picture by its I420.
+    // Writes a picture, given its I420 pixels.
     fn write_text<W: Write>(
         &mut self,
         head: IvfHead,
@@ -124,7 +124,7 @@ impl PictureWriter {
         }
     }
 
-    // Writes a picture behind its line, and before the first picture the file's line.
+    // Writes a picture after its frame line. The first picture is preceded by the file's header line.
     fn write_y4m<W: Write>(
         &mut self,
         head: IvfHead,
@@ -153,7 +153,8 @@ impl PictureWriter {
         Ok(())
     }
 
-    // Gives the size that all pictures have. The first picture gives it, and the file's line is written.
+    // Returns the size that all pictures must have. The first call takes it from the picture, and writes the file's
+    // header line.
     fn open<W: Write>(
         &mut self,
         head: IvfHead,

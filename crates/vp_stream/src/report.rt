@@ -1,4 +1,4 @@
-//! What came of the packets of a file.
+//! The report of decoding a file: counts and faults.
 
 ghost use Rattle.std.specs.Prelude.{◌≡◌, ◌+◌, ◌-◌, ◌^◌, ◌<◌, ◌≤◌, ◌++◌, ◌∷◌, ◌↔◌, [], IsTrue, OnOk, OnErr};
 
@@ -7,7 +7,7 @@ use std::marker::Model;
 use vp_decode::Outcome;
 use vp_head::PacketFault;
 
-/// Packets by their numbers, each with its fault. Contracts see it as the list of them.
+/// The faulty packets of a file: the number of each, and its fault. Its model is a list.
 #[derive(Debug, Drop)]
 pub struct FaultList {
     faults: Vec<(u32, PacketFault)>,
@@ -23,7 +23,7 @@ impl Model for FaultList {
 }
 
 impl FaultList {
-    /// The list of no packets.
+    /// Creates an empty list.
     pub(crate) fn new(alloc: Global) -> FaultList
         ensures { result ≡ [] }
     {
@@ -32,21 +32,21 @@ impl FaultList {
         }
     }
 
-    /// The packets and their faults, in order.
+    /// Returns the packets' numbers and faults, in order.
     pub fn as_slice(&self) -> &[(u32, PacketFault)]
         ensures { result.now ≡ self.now }
     {
         self.faults.as_slice()
     }
 
-    /// Whether there is none.
+    /// Returns whether there are no faults.
     pub fn is_empty(&self) -> bool
         ensures { IsTrue result ↔ (self.now ≡ []) }
     {
         self.faults.is_empty()
     }
 
-    /// Adds a packet at the end.
+    /// Appends a packet. If memory runs out, the list is unchanged.
     pub(crate) fn push(&mut self, packet: u32, fault: PacketFault) -> Result<(), AllocError>
         ensures ok { OnOk result (self.new ≡ self.old ++ (packet, fault) ∷ []) }
         ensures err { OnErr result (self.new ≡ self.old) }
@@ -56,23 +56,23 @@ impl FaultList {
     }
 }
 
-/// What came of the packets of a file.
+/// The report of decoding a file.
 #[derive(Debug, Drop)]
 pub struct Report {
-    /// How many packets there were.
+    /// The number of packets.
     pub packets: u32,
-    /// How many of their pictures were shown.
+    /// The number of pictures shown.
     pub shown: u32,
-    /// How many were decoded, and not to be shown.
+    /// The number of packets that are decoded and not shown.
     pub hidden: u32,
-    /// Those that couldn't be decoded, by their numbers from 0, with their faults.
+    /// The packets that can't be decoded: their numbers, from 0, and their faults.
     pub faults: FaultList,
 }
 
 impl Report {
     ghost use Rattle.vp_stream.specs.Transcode.{with_outcome};
 
-    /// The report of no packets.
+    /// Creates the report of no packets.
     pub(crate) fn new(alloc: Global) -> Report
         ensures { result ≡ record { packets = 0; shown = 0; hidden = 0; faults = [] } }
     {
@@ -84,7 +84,7 @@ impl Report {
         }
     }
 
-    /// Counts one more packet. After want of memory the report is as before.
+    /// Counts one more packet. If memory runs out, the report is unchanged.
     pub(crate) fn count(&mut self, outcome: Outcome) -> Result<(), AllocError>
         requires room { self.old.packets + 1 < 2 ^ 32 }
         requires numbers { self.old.shown + self.old.hidden ≤ self.old.packets }

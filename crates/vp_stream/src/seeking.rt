@@ -1,4 +1,4 @@
-//! Keeping packets, finding key packets, and decoding from them.
+//! Stores packets, finds key packets, and decodes from them.
 
 ghost use Rattle.std.specs.Prelude.{◌≡◌, ◌+◌, ◌-◌, ◌^◌, ◌<◌, ◌≤◌, ◌++◌, ◌∷◌, [], length, drop, IfOk, OnOk, OnErr};
 ghost use Rattle.std.specs.Prelude.{vec_len};
@@ -13,14 +13,14 @@ use vp_base::{ByteList, Limits};
 use vp_decode::{Decoder, Outcome};
 use vp_ivf::{Packet, Reader};
 
-/// Whether it is a key packet by its length and its first byte.
+/// Returns whether a packet is a key packet, by its length and its first byte (RFC 6386, chapter 9.1).
 fn is_key(packet: &[u8]) -> bool
     ensures { result ≡ is_key packet.now }
 {
     packet.len() >= 3 && packet[0] % 2 == 0
 }
 
-/// Keeps a packet behind the others, for which there is room.
+/// Appends a packet; there must be room for it.
 fn keep(packet: Packet, packets: &mut Vec<Packet>, keys: &mut Vec<Option<u32>>)
     requires room { vec_len packets.old < vec_capacity packets.old }
     requires key_room { vec_len keys.old < vec_capacity keys.old }
@@ -43,7 +43,7 @@ fn keep(packet: Packet, packets: &mut Vec<Packet>, keys: &mut Vec<Option<u32>>)
     packets.push_reserved(packet);
 }
 
-/// Keeps the packets that a reader has waiting, for which there is room.
+/// Appends the packets that a reader has found; there must be room for them.
 pub(crate) fn keep_waiting(
     reader: &mut Reader,
     packets: &mut Vec<Packet>,
@@ -63,7 +63,7 @@ pub(crate) fn keep_waiting(
     }
 }
 
-/// The last key packet of packets 0 to `n`.
+/// Returns the number of the last key packet among packets 0 to `n`.
 pub(crate) fn key_of(packets: &[Packet], keys: &[Option<u32>], n: u32) -> Option<u32>
     requires { AreKeys packets.now keys.now }
     ensures { result ≡ key_before packets.now n }
@@ -98,7 +98,7 @@ fn decode_each(
     Ok(())
 }
 
-/// Decodes a packet, and gives what it shows.
+/// Decodes a packet, and returns the answer for it.
 fn answer_to(alloc: Global, decoder: &mut Decoder, packet: &[u8]) -> Result<Answer, AllocError>
     ensures { IfOk result (λ a.
         answer_value a ≡ told_of (step decoder.old.limits decoder.old.state packet.now).1) }
@@ -110,12 +110,12 @@ fn answer_to(alloc: Global, decoder: &mut Decoder, packet: &[u8]) -> Result<Answ
     }
     match outcome {
         Outcome::Fault(fault) => Ok(Answer::Fault(fault)),
-        // A shown picture was given above.
+        // A shown picture is returned above.
         Outcome::Shown | Outcome::Hidden => Ok(Answer::Hidden),
     }
 }
 
-/// Decodes packets `first` to `n`, counts them, and gives what the last of them shows.
+/// Decodes packets `first` to `n`, counts them, and returns the answer for the last one.
 pub(crate) fn answer_from(
     alloc: Global,
     limits: Limits,

@@ -1,4 +1,4 @@
-//! A file that grows, whose packets are all kept.
+//! A growing IVF file, all packets of which are kept.
 
 ghost use Rattle.std.specs.Prelude.{◌≡◌, ◌≢◌, ◌<◌, ◌≤◌, length, None, Some, Err, IfOk, OnOk, OnErr};
 ghost use Rattle.vp_ivf.specs.declared.fault.FileFault.{FileFault};
@@ -17,15 +17,15 @@ use std::marker::Model;
 use vp_base::Limits;
 use vp_ivf::{FeedError, FileFault, IvfHead, Packet, Reader};
 
-/// A file that is fed in pieces, however it is cut, and whose packets can be asked for in any order, also while
-/// it grows. What it answers depends only on all bytes fed, and on whether the end was told.
+/// A growing IVF file. It is fed in pieces of any length, and any of its packets can be decoded at any time. Its
+/// answers depend only on the bytes fed so far, and on whether `finish` was called.
 #[derive(Drop)]
 pub struct Stream {
     alloc: Global,
     limits: Limits,
     reader: Reader,
     packets: Vec<Packet>,
-    // For each packet the place of the last key packet up to it.
+    // For each packet, the number of the last key packet up to it.
     keys: Vec<Option<u32>>,
 }
 
@@ -44,7 +44,7 @@ impl Model for Stream {
 }
 
 impl Stream {
-    /// A stream that was fed nothing.
+    /// Creates a stream without any bytes.
     pub fn new(alloc: Global, limits: Limits) -> Stream
         ensures state { result ≡ initial_stream limits }
         ensures stands { IsStreamAfter result empty_stream_history }
@@ -59,15 +59,18 @@ impl Stream {
     }
 
     /// Takes the next piece of the file, of any length.
+    ///
+    /// Errors: the fault of the file, if it has one; `Ended` after `finish`; `Memory`, which leaves the stream
+    /// unchanged.
     pub fn feed(&mut self, piece: &[u8]) -> Result<(), FeedError>
         ensures limits { self.new.limits ≡ self.old.limits }
 
-        // What earlier calls refuse comes first, and changes nothing. Nor does want of memory.
+        // A fault of an earlier call is returned again. It, and running out of memory, leave the stream unchanged.
         ensures refused { (fault : FileFault) → stream_refusal self.old ≡ Some fault →
             (result ≡ Err (FeedError.Fault fault)) × (self.new ≡ self.old) }
         ensures memory { result ≡ Err FeedError.Memory → self.new ≡ self.old }
 
-        // Else the piece is taken, and the answer is the fault that it meets, if it does.
+        // Otherwise the piece is taken, and the answer is the file's fault, if it has one now.
         ensures answer { stream_refusal self.old ≡ None → result ≢ Err FeedError.Memory →
             result ≡ answer_by self.new.reading.fault }
         ensures reading { stream_refusal self.old ≡ None → result ≢ Err FeedError.Memory →
@@ -90,7 +93,8 @@ impl Stream {
         result
     }
 
-    /// Tells the file's end. After it the same is answered again, and no piece is taken.
+    /// Marks the end of the file, and returns its fault, if it has one. Later calls return the same answer, and no more
+    /// pieces are taken.
     pub fn finish(&mut self) -> Result<(), FileFault>
         ensures limits { self.new.limits ≡ self.old.limits }
         ensures answer { result ≡ finish_answer self.old.reading }
@@ -103,7 +107,7 @@ impl Stream {
         self.reader.finish()
     }
 
-    /// What `feed` would refuse with, whatever the piece: the fault that was met, or `Ended`.
+    /// Returns the error with which `feed` refuses any piece: the file's fault, or `Ended` after `finish`.
     pub fn refusal(&self) -> Option<FileFault>
         ensures value { result ≡ stream_refusal self.now }
         ensures file { (h : StreamHistory) → IsStreamAfter self.now h →
@@ -112,7 +116,7 @@ impl Stream {
         self.reader.refusal()
     }
 
-    /// What the file's head says, once it is whole and good.
+    /// Returns the file's head, once it is whole and valid.
     pub fn head(&self) -> Option<IvfHead>
         ensures value { result ≡ self.now.reading.head }
         ensures head { (h : StreamHistory) → IsStreamAfter self.now h →
@@ -121,7 +125,7 @@ impl Stream {
         self.reader.head()
     }
 
-    /// How many packets are whole.
+    /// Returns the number of whole packets.
     pub fn count(&self) -> u32
         ensures value { result ≡ length self.now.reading.packets }
         ensures packets { (h : StreamHistory) → IsStreamAfter self.now h →
@@ -131,7 +135,8 @@ impl Stream {
         self.packets.len() as u32
     }
 
-    /// The last key packet of packets 0 to `n`: one of three bytes or more whose first byte is even.
+    /// Returns the number of the last key packet among packets 0 to `n`. A key packet has three bytes or more, and its
+    /// first byte is even (RFC 6386, chapter 9.1).
     pub fn key_before(&self, n: u32) -> Option<u32>
         ensures value { result ≡ key_before self.now.reading.packets n }
         ensures greatest { IsKeyBefore self.now.reading.packets n result }
@@ -141,7 +146,9 @@ impl Stream {
         key_of(&self.packets, &self.keys, n)
     }
 
-    /// What packet `n` shows. It is decoded from the last key packet before it on, or alone where there is none.
+    /// Decodes packet `n`, starting at the last key packet up to it. Without a key packet it is decoded alone.
+    ///
+    /// Errors: out of memory.
     pub fn picture_at(&self, n: u32) -> Result<Answer, AllocError>
         ensures answer { IfOk result (λ a.
             answer_value a ≡ answer_at self.now.limits self.now.reading.packets n) }
@@ -153,7 +160,8 @@ impl Stream {
         self.picture_counted(n, &mut work)
     }
 
-    /// The same. Adds to `work` how many packets were decoded, which stays at the greatest number.
+    /// Decodes packet `n` as `picture_at` does, and adds the number of decoded packets to `work`. The sum saturates at
+    /// 2^64 - 1.
     pub fn picture_counted(&self, n: u32, work: &mut u64) -> Result<Answer, AllocError>
         ensures answer { IfOk result (λ a.
             answer_value a ≡ answer_at self.now.limits self.now.reading.packets n) }
@@ -161,7 +169,8 @@ impl Stream {
             answer_value a ≡ answer_at self.now.limits (packets_of self.now h) n) }
         ensures memory { OnErr result (n < length self.now.reading.packets) }
 
-        // The packets decoded are those from the key packet to n, or n alone. After want of memory they are no more.
+        // The decoded packets are those from the key packet to n, or n alone. If memory runs out, there are at most as
+        // many.
         ensures work { OnOk result (work.new ≡ saturating_count work.old (work_of self.now.reading.packets n)) }
         ensures most { OnErr result ((work.old ≤ work.new)
             × (work.new ≤ saturating_count work.old (work_of self.now.reading.packets n))) }
@@ -172,7 +181,7 @@ impl Stream {
         answer
     }
 
-    // What packet n shows, and how many packets are decoded for it.
+    // Decodes packet n, and counts the packets that are decoded for it.
     fn decode_to(&self, n: u32, decoded: &mut u64) -> Result<Answer, AllocError>
         requires { decoded.old ≡ 0 }
         ensures answer { IfOk result (λ a.
@@ -184,7 +193,7 @@ impl Stream {
         if n >= self.count() {
             return Ok(Answer::NoPacket);
         }
-        // The law by which no packet before the key packet is needed.
+        // By this law no packet before the key packet is needed.
         answers_come_from_the_last_key_packet();
         let first = key_of(&self.packets, &self.keys, n).unwrap_or(n);
         answer_from(self.alloc, self.limits, &self.packets, first, n, decoded)

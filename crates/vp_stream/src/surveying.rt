@@ -1,4 +1,4 @@
-//! Going through a whole file.
+//! Surveys a whole file: decodes each packet, and keeps only the outcomes.
 
 ghost use Rattle.std.specs.Prelude.{◌≡◌, ◌≢◌, ◌≤◌, ◌+◌, ◌-◌, ◌^◌, ◌++◌, ◌∷◌, ℕ, List, [], length, None, Some, OnOk};
 ghost use Rattle.std.specs.Prelude.{IfOk, Err};
@@ -17,8 +17,9 @@ use std::io::Read;
 use vp_base::{Counted, Limits};
 use vp_decode::Decoder;
 
-/// Reads a file to its end, or to what is wrong with it, and decodes each packet once, in order. No picture
-/// outlives the next packet.
+/// Reads a file to its end or its fault, and decodes each packet once, in order. Decoded pictures are not collected.
+///
+/// Errors: `SurveyFault`. A fault of the file is part of the survey.
 pub fn survey<R: Read>(
     alloc: Global,
     reader: &mut Counted<R>,
@@ -28,18 +29,18 @@ pub fn survey<R: Read>(
         × Consumes (counted_remaining R.remaining reader.old) (counted_remaining R.remaining reader.new) file
         × IsSurveyFor limits result file }
 
-    // A survey with no fault, or with `Torn`, comes only at the reader's end.
+    // A survey without a fault, or with `Torn`, is returned only at the reader's end.
     ensures end { IfOk result (λ s. s.fault ≡ None → IsAtEnd (counted_remaining R.remaining reader.new)) }
     ensures torn { IfOk result (λ s. s.fault ≡ Some FileFault.Torn →
         IsAtEnd (counted_remaining R.remaining reader.new)) }
 
-    // `Device` comes where a read failed, and only there.
+    // `Device` is returned only after a failed read, and always after one.
     ensures device { result ≡ Err SurveyFault.Device →
         HasFailed (counted_failures reader.old) (counted_failures reader.new) }
     ensures quiet { result ≢ Err SurveyFault.Device →
         counted_failures reader.new ≡ counted_failures reader.old }
 
-    // However it ends, no more reads are made than these. `ReadTurns` comes behind all of them.
+    // In all cases at most 2^32 - 1 reads are made. `ReadTurns` is returned after exactly that many.
     ensures reads { counted_reads reader.new ≤ counted_reads reader.old + (2 ^ 32 - 1) }
     ensures turns { result ≡ Err SurveyFault.ReadTurns →
         HasRisenBy (2 ^ 32 - 1) (counted_reads reader.old) (counted_reads reader.new) }
@@ -63,7 +64,7 @@ pub fn survey<R: Read>(
     }
 }
 
-// Decodes a packet, and tells what came of it.
+// Decodes a packet, and appends its outcome to the list.
 fn tell(packet: &[u8], decoder: &mut Decoder, packets: &mut OutcomeList) -> Result<(), AllocError>
     ensures decoder { OnOk result (decoder.new
         ≡ after decoder.old (step decoder.old.limits decoder.old.state packet.now)) }

@@ -1,4 +1,4 @@
-//! Decoding and writing, packet by packet.
+//! Decodes packets and writes their pictures, packet by packet.
 
 ghost use Rattle.std.specs.Prelude.{◌≡◌, ◌≢◌, ◌+◌, ◌^◌, ◌<◌, true, false, OnOk, Err};
 ghost use Rattle.std.specs.Io.KnownBytes.{Appends};
@@ -17,7 +17,7 @@ use vp_base::{Counted, Limits};
 use vp_decode::Decoder;
 use vp_ivf::IvfHead;
 
-/// A decoder, the form that its pictures are written in, and the report of the packets that it was given.
+/// A decoder, a picture writer, and the report of the packets so far.
 #[derive(Drop)]
 pub struct TranscodeState {
     decoder: Decoder,
@@ -42,7 +42,7 @@ impl Model for TranscodeState {
 }
 
 impl TranscodeState {
-    /// Before the first packet.
+    /// Creates the state before the first packet.
     pub(crate) fn new(alloc: Global, limits: Limits, form: Form) -> TranscodeState
         ensures { result ≡ fresh limits form }
     {
@@ -53,7 +53,7 @@ impl TranscodeState {
         }
     }
 
-    /// Decodes a packet of a file with this head, and writes its picture where that is shown.
+    /// Decodes a packet, and writes its picture if it is shown. `head` is the file's head.
     pub(crate) fn packet<W: Write>(
         &mut self,
         head: IvfHead,
@@ -82,7 +82,7 @@ impl TranscodeState {
         Ok(())
     }
 
-    /// The report of all packets.
+    /// Returns the report of all packets.
     pub(crate) fn into_report(self) -> Report
         ensures { result ≡ self.report }
     {

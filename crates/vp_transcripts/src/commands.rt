@@ -1,8 +1,8 @@
-//! Command lines: `vp8 WORD.. [< NAME] [> NAME] [2> NAME]` runs the program over bytes that have a name. It prints the
-//! status, how many bytes are left unread, and the output and the errors, if these aren't given a name. `limited WORD..
-//! < NAME` encodes a source as words of `encode` ask, under the limits that `limits PIXELS BYTES PACKETS CACHE` sets.
-//! `plan WORD..` prints what words of `encode` and `serve` ask for, `read PATH` what a file holds, `show TEXT` what
-//! bytes are, and `sum TEXT` their MD5.
+//! The transcript commands for the command line. `vp8 WORD.. [< NAME] [> NAME] [2> NAME]` runs the program over named
+//! bytes. It prints the exit status, the number of unread input bytes, and the output and errors that aren't redirected
+//! to a name. `limited WORD.. < NAME` encodes a source with arguments of `encode`, under the limits that `limits PIXELS
+//! BYTES PACKETS CACHE` sets. `plan WORD..` prints the task of `encode` or `serve` arguments, `read PATH` the contents
+//! of a file, `show TEXT` the bytes of a text, and `sum TEXT` their MD5.
 
 use crate::text::{Names, limits, malformed};
 use crate::transcript::{Found, Script};
@@ -12,14 +12,14 @@ use vp_app::{ServeArgs, Task, command, read_args};
 use vp_base::{Counted, Limits};
 use vp_encode::{Settings, encode_all};
 
-/// The program, and the limits of what is encoded beside it.
+/// The state of the transcript commands for the command line: the limits of `limited`.
 #[derive(Drop)]
 pub(crate) struct Commands {
     alloc: Global,
     limits: Limits,
 }
 
-/// A line up to a sign that stands behind it with a name, and that name.
+/// Splits a line at a redirection sign that is followed by a name. Returns the line before it, and the name.
 fn cut<'a>(line: &'a str, sign: &str) -> (&'a str, Option<&'a str>) {
     match line.split_once(sign) {
         Some((line, name)) => (line, Some(name)),
@@ -27,7 +27,7 @@ fn cut<'a>(line: &'a str, sign: &str) -> (&'a str, Option<&'a str>) {
     }
 }
 
-/// Says bytes, if there are any, or keeps them under a name.
+/// Prints bytes, if there are any, or stores them under a name.
 fn tell(
     word: &str,
     bytes: &[u8],
@@ -41,17 +41,17 @@ fn tell(
     }
 }
 
-/// What came of a run.
+/// The result of a run.
 #[derive(Drop)]
 struct Done {
     status: u8,
-    /// How many bytes of the input weren't read.
+    /// The number of input bytes that weren't read.
     left: usize,
     output: Vec<u8>,
     errors: Vec<u8>,
 }
 
-/// Runs the program with these words over an input.
+/// Runs the program with these arguments over an input.
 fn run_over(rt: &HostRuntime, words: &[&str], input: &[u8]) -> Done {
     let mut input = Counted::new(input);
     let mut output = Counted::new(Vec::new(rt.alloc()));
@@ -65,7 +65,7 @@ fn run_over(rt: &HostRuntime, words: &[&str], input: &[u8]) -> Done {
     }
 }
 
-/// The bytes of a name, and none without a name.
+/// Returns the bytes of a name; none without a name.
 fn input_of<'a>(names: &'a Names, name: Option<&str>) -> io::Result<&'a [u8]> {
     match name {
         Some(name) => names.get(name),
@@ -81,7 +81,7 @@ impl Commands {
         }
     }
 
-    /// Encodes a source by its line, under the case's limits.
+    /// Encodes a source with the arguments in a line, under the case's limits.
     fn encode(&self, line: &str, names: &Names, found: &mut Found) -> io::Result<()> {
         let (line, name) = line.split_once(" < ").ok_or(malformed())?;
         let words: Vec<&str> = line.split(' ').collect(self.alloc)?;
@@ -90,7 +90,7 @@ impl Commands {
         encode_within(self.alloc, self.limits, settings, source, found)
     }
 
-    /// Runs the program by its line.
+    /// Runs the program with the arguments in a line.
     fn run(
         &self,
         rt: &HostRuntime,
@@ -106,7 +106,7 @@ impl Commands {
         self.tell_done(&done, (output, errors), names, found)
     }
 
-    /// Says what came of a run, its output and errors under these names where they are given.
+    /// Prints the result of a run, or stores its output and errors under these names.
     fn tell_done(
         &self,
         done: &Done,
@@ -121,7 +121,7 @@ impl Commands {
     }
 }
 
-/// Says what the options of `encode` come to.
+/// Prints the settings that the options of `encode` select.
 fn tell_settings(alloc: Global, settings: &Settings, found: &mut Found) -> io::Result<()> {
     let (qi, level, sharpness) = (settings.qi, settings.level, settings.sharpness);
     let (key_every, golden_every) = (settings.key_every, settings.golden_every);
@@ -133,7 +133,7 @@ fn tell_settings(alloc: Global, settings: &Settings, found: &mut Found) -> io::R
     Ok(())
 }
 
-/// Says what the options and operands of `serve` come to.
+/// Prints the values of the arguments of `serve`.
 fn tell_service(alloc: Global, service: &ServeArgs<'_>, found: &mut Found) -> io::Result<()> {
     let (listen, connections) = (service.listen, service.connections);
     let (cache, show_address) = (service.cache, service.show_address);
@@ -146,7 +146,7 @@ fn tell_service(alloc: Global, service: &ServeArgs<'_>, found: &mut Found) -> io
     Ok(())
 }
 
-/// Says what words ask for.
+/// Prints the task that the arguments ask for.
 fn tell_plan(alloc: Global, line: &str, found: &mut Found) -> io::Result<()> {
     let words: Vec<&str> = line.split(' ').collect(alloc)?;
     match read_args(alloc, &words) {
@@ -156,7 +156,7 @@ fn tell_plan(alloc: Global, line: &str, found: &mut Found) -> io::Result<()> {
     }
 }
 
-/// The settings that these words ask for.
+/// Returns the settings that the arguments of `encode` select.
 fn asked(alloc: Global, words: &[&str]) -> Option<Settings> {
     match read_args(alloc, words) {
         Ok(Task::Encode(encoding)) => Some(encoding.settings),
@@ -164,7 +164,7 @@ fn asked(alloc: Global, words: &[&str]) -> Option<Settings> {
     }
 }
 
-/// Encodes a source under limits, and says the report or the refusal, and how many bytes are written.
+/// Encodes a source under limits. Prints the report or the fault, and the number of bytes written.
 fn encode_within(
     alloc: Global,
     limits: Limits,
@@ -184,7 +184,7 @@ fn encode_within(
     Ok(found.count_if_any("bytes", writer.into_inner().len() as u64)?)
 }
 
-/// Says what a file holds.
+/// Prints the contents of a file.
 fn read(rt: &HostRuntime, path: &str, found: &mut Found) -> io::Result<()> {
     match fs::read(rt, path) {
         Ok(bytes) => Ok(found.bytes("holds", &bytes)?),

@@ -1,9 +1,9 @@
-//! Connections to a hub: `hub NAME..` makes one of streams of these names. `feed NAME TEXT`, `end NAME`, `open NUMBER`,
-//! `send NUMBER TEXT` and `shut NUMBER` are its events; `open FROM..TO` hands it several in one run. The reply is
-//! printed, whether the connection is closed after it, and how many packets were decoded. `ask TEXT` opens a
-//! connection, sends the text and shuts the connection; `cut SIZE TEXT` sends it in pieces of `SIZE` bytes. `limits
-//! PIXELS BYTES PACKETS CACHE` are those of the next hub. `vp8 serve WORD.. < NAME` makes a hub and feeds it as the
-//! program does.
+//! The transcript commands for connections to a hub. `hub NAME..` creates a hub with streams of these names. `feed NAME
+//! TEXT`, `end NAME`, `open NUMBER`, `send NUMBER TEXT` and `shut NUMBER` are its events; `open FROM..TO` hands it
+//! several in one run. Printed are the response, whether the connection is closed, and the number of packets decoded.
+//! `ask TEXT` opens a connection, sends the text and shuts it; `cut SIZE TEXT` does so in pieces of `SIZE` bytes.
+//! `limits PIXELS BYTES PACKETS CACHE` sets the limits of the next hub. `vp8 serve WORD.. < NAME` creates and feeds a
+//! hub as the program does.
 
 use crate::text::{Names, limits, malformed, number};
 use crate::transcript::{Found, Script};
@@ -13,7 +13,7 @@ use vp_app::{ServeArgs, Task, feed_all, new_hub, read_args};
 use vp_base::{ByteList, Counted, Limits};
 use vp_hub::{Event, Hub, HubFault, NewFault, Reply};
 
-/// The number of the connection that comes and goes.
+/// The number of the connection that `ask` and `cut` open.
 const VISITOR: u32 = 99;
 
 /// A hub, and the limits of the next one.
@@ -24,12 +24,12 @@ pub(crate) struct Connections {
     hub: Option<Hub>,
 }
 
-/// The bytes of a text as a list.
+/// Returns the bytes of a text as a list.
 fn list(names: &Names, text: &str) -> io::Result<ByteList> {
     Ok(ByteList::from_vec(names.read(text)?))
 }
 
-/// An event by its line.
+/// Parses an event.
 fn event(names: &Names, line: &str) -> io::Result<Event> {
     let (word, rest) = line.split_once(' ').ok_or(malformed())?;
     let (first, text) = rest.split_once(' ').unwrap_or((rest, ""));
@@ -43,7 +43,7 @@ fn event(names: &Names, line: &str) -> io::Result<Event> {
     }
 }
 
-/// Says what is replied.
+/// Prints a response.
 fn tell_reply(reply: &Reply, found: &mut Found) -> io::Result<()> {
     found.bytes_if_any("reply", reply.bytes.as_slice())?;
     if reply.close {
@@ -52,13 +52,13 @@ fn tell_reply(reply: &Reply, found: &mut Found) -> io::Result<()> {
     Ok(())
 }
 
-/// Tells a hub of an event, and says what comes of it.
+/// Hands an event to a hub, and prints the result.
 fn step(alloc: Global, hub: &mut Hub, event: &Event, found: &mut Found) -> io::Result<()> {
     tell_answer(alloc, &hub.step(event), found)?;
     Ok(found.count_if_any("work", hub.work())?)
 }
 
-/// Says the answer to an event.
+/// Prints the answer to an event.
 fn tell_answer(
     alloc: Global,
     answer: &Result<Reply, HubFault>,
@@ -70,7 +70,7 @@ fn tell_answer(
     }
 }
 
-/// Hands a hub events in one run, and says the answer to each.
+/// Hands events to a hub in one run, and prints the answer to each.
 fn run(alloc: Global, hub: &mut Hub, events: &[Event], found: &mut Found) -> io::Result<()> {
     let answers = hub.run(events)?;
     for answer in &answers {
@@ -79,7 +79,7 @@ fn run(alloc: Global, hub: &mut Hub, events: &[Event], found: &mut Found) -> io:
     Ok(())
 }
 
-/// A hub of the service's streams, fed from their files and this input.
+/// Creates a hub with these streams, fed from their files and this input.
 fn fed_hub(rt: &HostRuntime, service: &ServeArgs<'_>, input: &[u8]) -> Option<Hub> {
     let mut hub = new_hub(rt.alloc(), service).ok()?;
     let mut input = Counted::new(input);
@@ -89,7 +89,7 @@ fn fed_hub(rt: &HostRuntime, service: &ServeArgs<'_>, input: &[u8]) -> Option<Hu
     }
 }
 
-/// What these words ask to be served.
+/// Parses arguments of `vp8 serve`.
 fn asked<'a>(alloc: Global, words: &'a [&'a str]) -> Option<ServeArgs<'a>> {
     match read_args(alloc, words) {
         Ok(Task::Serve(service)) => Some(service),
@@ -97,7 +97,7 @@ fn asked<'a>(alloc: Global, words: &'a [&'a str]) -> Option<ServeArgs<'a>> {
     }
 }
 
-/// Sends bytes in pieces, and says all that is replied as one.
+/// Sends bytes in pieces, and prints all responses as one.
 fn send(
     alloc: Global,
     hub: &mut Hub,
@@ -124,7 +124,7 @@ impl Connections {
         }
     }
 
-    /// Makes the hub.
+    /// Creates the hub.
     fn make(&mut self, line: &str, names: &Names, found: &mut Found) -> io::Result<()> {
         let mut streams = Vec::new(self.alloc);
         for name in line.split(' ') {
@@ -138,7 +138,7 @@ impl Connections {
         Ok(())
     }
 
-    /// Makes the hub and feeds it as the program does that has these words, and bytes of this name as its input.
+    /// Creates the hub and feeds it as the program does with these arguments; the input has a name.
     fn serve(&mut self, rt: &HostRuntime, line: &str, names: &Names) -> io::Result<()> {
         let (line, name) = line.split_once(" < ").ok_or(malformed())?;
         let input = names.get(name)?;
@@ -148,12 +148,12 @@ impl Connections {
         Ok(())
     }
 
-    /// The hub.
+    /// Returns the hub.
     fn hub(&mut self) -> io::Result<&mut Hub> {
         self.hub.as_mut().ok_or(malformed())
     }
 
-    /// Opens connections in one run, by `FROM..TO`.
+    /// Opens connections in one run, given `FROM..TO`.
     fn open_all(&mut self, range: &str, found: &mut Found) -> io::Result<()> {
         let alloc = self.alloc;
         let (from, to) = range.split_once("..").ok_or(malformed())?;
@@ -176,7 +176,7 @@ impl Connections {
         Ok(())
     }
 
-    /// Sends a text in pieces, by `SIZE TEXT`.
+    /// Sends a text in pieces, given `SIZE TEXT`.
     fn cut(&mut self, line: &str, names: &Names, found: &mut Found) -> io::Result<()> {
         let alloc = self.alloc;
         let (size, text) = line.split_once(' ').ok_or(malformed())?;

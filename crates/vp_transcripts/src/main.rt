@@ -1,6 +1,6 @@
-//! What outside streams decode to, what the program makes of command lines, and what a hub replies to connections. Its
-//! words name files, of streams (`ivf`) and of transcripts (`packets`, `commands`, `connections`). It prints the sum of
-//! each stream's pictures, the name of each case of a transcript, and each line where something else is found.
+//! Runs transcripts, and prints the MD5 of the pictures of streams from other encoders. Its arguments are files:
+//! streams (`ivf`) and transcripts (`packets`, `commands`, `connections`). It prints the digest of each stream's
+//! pictures, the name of each case of a transcript, and each line whose result is unexpected.
 #![tactic(auto)]
 
 mod commands;
@@ -16,7 +16,7 @@ use crate::packets::Packets;
 use crate::text::malformed;
 use std::{env, fs, io};
 
-/// Prints what comes of a file.
+/// Prints the result for a file.
 fn tell(rt: &HostRuntime, file: &str) -> io::Result<()> {
     let alloc = rt.alloc();
     let (name, kind) = file.rsplit_once('.').ok_or(malformed())?;

@@ -1,10 +1,8 @@
-//! Packets, one after another or in a file that grows. `packet TEXT` is decoded, and `picture` is what is shown
-//! then, cropped
-//! and as I420, `pixels FROM..TO` a part of that. `feed TEXT` is a piece of a file, `single TEXT` the same byte by
-//! byte, `finish` its end; `head`, `count`,
-//! `refusal`, `key NUMBER` (the last key packet up to that one) and `at NUMBER` (that packet's picture, and how
-//! many packets
-//! are decoded for it) ask what is known of it. `limits PIXELS BYTES PACKETS CACHE` begins both anew.
+//! The transcript commands for packets and growing files. `packet TEXT` decodes a packet. `picture` prints the shown
+//! picture, cropped and as I420; `pixels FROM..TO` a part of it. `feed TEXT` feeds a piece of a file, `single TEXT`
+//! does so byte by byte, and `finish` marks its end. `head`, `count` and `refusal` print what is known of the file.
+//! `key NUMBER` prints the last key packet up to that one; `at NUMBER` that packet's picture, and the number of packets
+//! decoded for it. `limits PIXELS BYTES PACKETS CACHE` starts again with a new decoder and a new stream.
 
 use crate::text::{Names, limits, malformed, number, part};
 use crate::transcript::{Found, Script};
@@ -15,7 +13,7 @@ use vp_decode::{Decoder, Outcome};
 use vp_ivf::FeedError;
 use vp_stream::{Answer, Stream};
 
-/// A decoder, and a stream.
+/// A decoder and a stream.
 #[derive(Drop)]
 pub(crate) struct Packets {
     alloc: Global,
@@ -32,13 +30,13 @@ impl Packets {
         }
     }
 
-    /// Begins anew under these limits.
+    /// Starts again under these limits.
     fn begin_within(&mut self, limits: Limits) {
         self.decoder = Decoder::new(self.alloc, limits);
         self.stream = Stream::new(self.alloc, limits);
     }
 
-    /// Decodes a packet, and says what comes of it.
+    /// Decodes a packet, and prints its outcome.
     fn packet(&mut self, bytes: &[u8], found: &mut Found) -> io::Result<()> {
         match self.decoder.decode(bytes)? {
             Outcome::Shown => found.word("Shown")?,
@@ -48,7 +46,7 @@ impl Packets {
         Ok(())
     }
 
-    /// Says the pixels of the picture that is shown.
+    /// Prints the pixels of the shown picture.
     fn picture(&self, found: &mut Found) -> io::Result<()> {
         match self.decoder.picture() {
             Some(picture) => found.bytes("pixels", &picture.crop_i420(self.alloc)?)?,
@@ -57,14 +55,14 @@ impl Packets {
         Ok(())
     }
 
-    /// Says a part of those pixels, by `FROM..TO`.
+    /// Prints a part of these pixels, given `FROM..TO`.
     fn pixels(&self, range: &str, found: &mut Found) -> io::Result<()> {
         let picture = self.decoder.picture().ok_or(malformed())?;
         let pixels = picture.crop_i420(self.alloc)?;
         Ok(found.bytes("pixels", part(&pixels, range)?)?)
     }
 
-    /// Feeds a piece, and says why it is refused.
+    /// Feeds a piece, and prints why it is refused.
     fn feed(&mut self, bytes: &[u8], found: &mut Found) -> io::Result<()> {
         match self.stream.feed(bytes) {
             Ok(()) => Ok(()),
@@ -75,7 +73,7 @@ impl Packets {
         }
     }
 
-    /// Feeds single bytes, and says behind how many there is a packet more.
+    /// Feeds single bytes, and prints the numbers of bytes at which a packet is completed.
     fn feed_singly(&mut self, bytes: &[u8], found: &mut Found) -> io::Result<()> {
         let mut count = self.stream.count();
         for (i, byte) in bytes.iter().enumerate() {
@@ -88,7 +86,7 @@ impl Packets {
         Ok(())
     }
 
-    /// Says how the file ended.
+    /// Marks the end of the file, and prints the result.
     fn finish(&mut self, found: &mut Found) -> io::Result<()> {
         match self.stream.finish() {
             Ok(()) => Ok(found.word("ended")?),
@@ -96,7 +94,7 @@ impl Packets {
         }
     }
 
-    /// Says what is known of the file.
+    /// Prints what is known of the file.
     fn tell(&self, line: &str, found: &mut Found) -> io::Result<()> {
         match line {
             "picture" => return self.picture(found),
@@ -117,7 +115,7 @@ impl Packets {
         Ok(())
     }
 
-    /// Says the last key packet up to that of a number.
+    /// Prints the number of the last key packet up to packet `n`.
     fn key(&self, n: u32, found: &mut Found) -> io::Result<()> {
         match self.stream.key_before(n) {
             Some(key) => Ok(found.line(format!(in self.alloc; "packet {key}")?)?),
@@ -125,7 +123,7 @@ impl Packets {
         }
     }
 
-    /// Says what the packet of a number shows.
+    /// Prints the answer for packet `n`.
     fn at(&self, n: u32, found: &mut Found) -> io::Result<()> {
         let mut work = 0;
         match self.stream.picture_counted(n, &mut work)? {

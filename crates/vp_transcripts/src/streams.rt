@@ -1,6 +1,5 @@
-//! Streams of other encoders: the MD5 of the pictures that each shows, cropped and as I420, one after another. What
-//! it must be
-//! comes from other decoders.
+//! Streams of other encoders: the MD5 of the pictures of each, cropped and as I420, one after another. The expected
+//! digests come from other decoders.
 
 use md5::{Digest, Md5};
 use std::alloc::Global;
@@ -19,7 +18,7 @@ struct Work {
 }
 
 impl Work {
-    /// Decodes a packet; false where memory is short.
+    /// Decodes a packet; false if memory runs out.
     fn packet(&mut self, bytes: &[u8]) -> bool {
         let Ok(Outcome::Shown) = self.decoder.decode(bytes) else {
             return true;
@@ -34,7 +33,7 @@ impl Work {
         true
     }
 
-    /// Decodes the packets that stand ready.
+    /// Decodes the packets that are ready.
     fn packets(&mut self, file: &mut Reader) -> bool {
         for _ in 0..u16::MAX {
             let Some(packet) = file.next_packet() else {
@@ -48,7 +47,7 @@ impl Work {
     }
 }
 
-/// The digest of a whole file.
+/// Returns the digest of a whole file.
 fn digest<R: Read>(alloc: Global, input: &mut R) -> io::Result<[u8; 16]> {
     let mut file = Reader::new(alloc, Limits::usual());
     let mut work = Work {
@@ -69,7 +68,7 @@ fn digest<R: Read>(alloc: Global, input: &mut R) -> io::Result<[u8; 16]> {
     Ok(work.digest.finalize())
 }
 
-/// Prints the stream's name and the sum of its pictures.
+/// Prints the stream's name and the digest of its pictures.
 pub(crate) fn tell(rt: &HostRuntime, file: &str, name: &str) -> io::Result<()> {
     let mut input = fs::open(rt, file)?;
     let sum = digest(rt.alloc(), &mut input)?;

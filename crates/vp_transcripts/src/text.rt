@@ -1,6 +1,6 @@
-//! Bytes as text. Printed signs and blanks stand for themselves, and `\r`, `\n` and `\\` for one byte each; braces hold
-//! bytes in two hexadecimal digits and bytes by their name, each of which may be cut and repeated:
-//! `DKIF{00 00 KEY KEY[..21] 00*11}`.
+//! The text form of bytes. Printable characters and spaces are themselves; `\r`, `
+//! ` and `\\` are one byte each. Braces contain bytes in two hexadecimal digits, and named bytes; each item may be
+//! sliced and repeated: `DKIF{00 00 KEY KEY[..21] 00*11}`.
 
 use std::alloc::{AllocError, Global};
 use std::collections::BTreeMap;
@@ -8,24 +8,24 @@ use std::io;
 use std::io::{Error, ErrorKind};
 use vp_base::Limits;
 
-/// Bytes by their names.
+/// Named bytes.
 #[derive(Drop)]
 pub(crate) struct Names {
     alloc: Global,
     bytes: BTreeMap<String, Vec<u8>>,
 }
 
-/// What a text that isn't well formed is refused by.
+/// Returns the error for a malformed text.
 pub(crate) fn malformed() -> Error {
     Error::from(ErrorKind::InvalidData)
 }
 
-/// The number that the digits say.
+/// Parses a decimal number.
 pub(crate) fn number(digits: &str) -> io::Result<u32> {
     digits.parse::<u32>().map_err(|_| malformed())
 }
 
-/// The limits by their four numbers: of pixels, bytes of a packet, packets, and pictures that are kept.
+/// Parses the four limits: pixels, bytes of a packet, packets, and cached pictures.
 pub(crate) fn limits(line: &str) -> io::Result<Limits> {
     let mut numbers = [0; 4];
     for (to, digits) in numbers.iter_mut().zip(line.split(' ')) {
@@ -35,7 +35,7 @@ pub(crate) fn limits(line: &str) -> io::Result<Limits> {
     Limits::new(pixels, packet_bytes, packets, cache).ok_or(malformed())
 }
 
-/// A part of the bytes, by `FROM..TO`, where each may be left out.
+/// Returns a part of the bytes, given `FROM..TO`; each number may be left out.
 pub(crate) fn part<'a>(bytes: &'a [u8], range: &str) -> io::Result<&'a [u8]> {
     let (from, to) = range.split_once("..").ok_or(malformed())?;
     let from = if from.is_empty() {
@@ -51,7 +51,7 @@ pub(crate) fn part<'a>(bytes: &'a [u8], range: &str) -> io::Result<&'a [u8]> {
     bytes.get(from..to).ok_or(malformed())
 }
 
-/// Adds what stands outside of braces.
+/// Appends the bytes of the text outside braces.
 fn add_plain(text: &str, bytes: &mut Vec<u8>) -> io::Result<()> {
     let mut escaped = false;
     for byte in text.bytes() {
@@ -74,14 +74,14 @@ impl Names {
         }
     }
 
-    /// Gives bytes a name, by `NAME TEXT`.
+    /// Gives bytes a name, given `NAME TEXT`.
     pub(crate) fn name(&mut self, line: &str) -> io::Result<()> {
         let (name, text) = line.split_once(' ').ok_or(malformed())?;
         let bytes = self.read(text)?;
         self.keep(name, &bytes)
     }
 
-    /// Keeps bytes under a name.
+    /// Stores bytes under a name.
     pub(crate) fn keep(&mut self, name: &str, bytes: &[u8]) -> io::Result<()> {
         let bytes = bytes.to_vec(self.alloc)?;
         self.bytes
@@ -89,7 +89,7 @@ impl Names {
         Ok(())
     }
 
-    /// The bytes of a name.
+    /// Returns the bytes of a name.
     pub(crate) fn get(&self, name: &str) -> io::Result<&[u8]> {
         match self.bytes.get(name) {
             Some(bytes) => Ok(bytes.as_slice()),
@@ -97,7 +97,7 @@ impl Names {
         }
     }
 
-    /// The bytes of a text.
+    /// Returns the bytes of a text.
     pub(crate) fn read(&self, text: &str) -> io::Result<Vec<u8>> {
         let mut bytes = Vec::new(self.alloc);
         for (i, part) in text.split('{').enumerate() {
@@ -114,7 +114,7 @@ impl Names {
         Ok(bytes)
     }
 
-    /// Adds what stands in braces.
+    /// Appends the bytes of the items in braces.
     fn add_items(&self, items: &str, bytes: &mut Vec<u8>) -> io::Result<()> {
         for item in items.split(' ') {
             let (item, count) = match item.split_once('*') {
@@ -136,7 +136,7 @@ impl Names {
         Ok(())
     }
 
-    /// The bytes of `NAME` or `NAME[FROM..TO]`.
+    /// Returns the bytes of `NAME` or `NAME[FROM..TO]`.
     fn named(&self, item: &str) -> io::Result<&[u8]> {
         match item.split_once('[') {
             Some((name, range)) => {
@@ -148,7 +148,7 @@ impl Names {
     }
 }
 
-/// Text to which bytes are added.
+/// The text form of the bytes written so far.
 #[derive(Drop)]
 struct Written {
     text: String,
@@ -157,7 +157,7 @@ struct Written {
 }
 
 impl Written {
-    /// Adds as many of a byte.
+    /// Appends a byte, `count` times.
     fn add(&mut self, byte: u8, count: usize) -> Result<(), AllocError> {
         let sign = match byte {
             b'\r' => "\\r",
@@ -173,7 +173,7 @@ impl Written {
         Ok(())
     }
 
-    /// Adds a printed sign.
+    /// Appends a printable character, `count` times.
     fn add_sign(&mut self, byte: u8, count: usize) -> Result<(), AllocError> {
         self.close()?;
         for _ in 0..count {
@@ -182,7 +182,7 @@ impl Written {
         Ok(())
     }
 
-    /// Adds a byte in braces.
+    /// Appends a byte in braces, `count` times.
     fn add_number(&mut self, byte: u8, count: usize) -> Result<(), AllocError> {
         self.text.push(if self.is_open { ' ' } else { '{' })?;
         self.is_open = true;
@@ -193,7 +193,7 @@ impl Written {
         Ok(())
     }
 
-    /// Ends what stands in braces.
+    /// Closes the braces.
     fn close(&mut self) -> Result<(), AllocError> {
         if self.is_open {
             self.text.push('}')?;
@@ -203,7 +203,7 @@ impl Written {
     }
 }
 
-/// The text of the bytes, which has no names.
+/// Returns the text form of bytes, without names.
 pub(crate) fn text_of(alloc: Global, bytes: &[u8]) -> Result<String, AllocError> {
     let mut written = Written {
         text: String::new(alloc),

@@ -1,5 +1,5 @@
-//! Transcripts: files of commands, below each of which stands what comes of it, line by line behind two blanks.
-//! `let NAME TEXT` gives bytes a name, `write PATH TEXT` writes a file, `case NAME` begins a case, `#` a comment.
+//! Transcripts: files of commands, each followed by the lines of its result, indented by two spaces. `let NAME TEXT`
+//! gives bytes a name, `write PATH TEXT` writes a file, `case NAME` begins a case, and `#` begins a comment.
 
 use crate::text::{Names, malformed, text_of};
 use md5::{Digest, Md5};
@@ -7,14 +7,14 @@ use std::alloc::{AllocError, Global};
 use std::collections::VecDeque;
 use std::{fs, io};
 
-/// The MD5 of bytes.
+/// Returns the MD5 of bytes.
 fn md5_of(bytes: &[u8]) -> [u8; 16] {
     let mut digest = Md5::new();
     digest.update(bytes);
     digest.finalize()
 }
 
-/// What came of commands, and wasn't met yet.
+/// The lines of the results that haven't been compared yet.
 #[derive(Drop)]
 pub(crate) struct Found {
     alloc: Global,
@@ -22,24 +22,24 @@ pub(crate) struct Found {
 }
 
 impl Found {
-    /// Says a line.
+    /// Adds a line.
     pub(crate) fn line(&mut self, line: String) -> Result<(), AllocError> {
         self.lines.push_back(line)?;
         Ok(())
     }
 
-    /// Says a word.
+    /// Adds a line of one word.
     pub(crate) fn word(&mut self, word: &str) -> Result<(), AllocError> {
         self.line(String::from_str(self.alloc, word)?)
     }
 
-    /// Says bytes behind a word that tells what they are.
+    /// Adds a line of bytes, after a word that says what they are.
     pub(crate) fn bytes(&mut self, word: &str, bytes: &[u8]) -> Result<(), AllocError> {
         let text = text_of(self.alloc, bytes)?;
         self.line(format!(in self.alloc; "{word} {}", text.as_str())?)
     }
 
-    /// Says the same where there is a byte.
+    /// Adds such a line, unless there are no bytes.
     pub(crate) fn bytes_if_any(&mut self, word: &str, bytes: &[u8]) -> Result<(), AllocError> {
         if bytes.is_empty() {
             return Ok(());
@@ -47,7 +47,7 @@ impl Found {
         self.bytes(word, bytes)
     }
 
-    /// Says the MD5 of bytes.
+    /// Adds a line with the MD5 of bytes.
     pub(crate) fn sum(&mut self, bytes: &[u8]) -> Result<(), AllocError> {
         let mut text = String::from_str(self.alloc, "sum ")?;
         for byte in &md5_of(bytes) {
@@ -56,7 +56,7 @@ impl Found {
         self.line(text)
     }
 
-    /// Says a number other than 0 behind a word that tells what it counts.
+    /// Adds a line with a number, after a word that says what it counts, unless the number is 0.
     pub(crate) fn count_if_any(&mut self, word: &str, count: u64) -> Result<(), AllocError> {
         if count == 0 {
             return Ok(());
@@ -65,12 +65,12 @@ impl Found {
     }
 }
 
-/// What commands work on.
+/// The commands of a kind of transcript, and their state.
 pub(crate) trait Script {
-    /// Begins a case: of the last one only names are left.
+    /// Begins a case: only the names of the one before are kept.
     fn begin(&mut self);
 
-    /// Carries a command out, and says what came of it.
+    /// Runs a command, and adds its result.
     fn command(
         &mut self,
         rt: &HostRuntime,
@@ -80,7 +80,7 @@ pub(crate) trait Script {
     ) -> io::Result<()>;
 }
 
-/// A transcript that is told.
+/// A transcript that is being run.
 #[derive(Drop)]
 struct Transcript<'a> {
     file: &'a str,
@@ -88,8 +88,8 @@ struct Transcript<'a> {
     found: Found,
 }
 
-/// Carries the commands of a transcript out. Prints its name, that of each case, each line where a command gives
-/// something else than is wanted, and the place of a command that can't be carried out, which ends the work.
+/// Runs the commands of a transcript. Prints its name, that of each case, and each line whose result is unexpected. A
+/// command that can't be carried out ends the run, and its line number is printed.
 pub(crate) fn tell<S: Script>(
     rt: &HostRuntime,
     file: &str,
@@ -112,7 +112,7 @@ pub(crate) fn tell<S: Script>(
 }
 
 impl Transcript<'_> {
-    /// Meets a line, or carries it out, and prints its place if that fails.
+    /// Handles a line, and prints its number if that fails.
     fn line<S: Script>(
         &mut self,
         rt: &HostRuntime,
@@ -128,7 +128,7 @@ impl Transcript<'_> {
         done
     }
 
-    /// Meets a line, or carries it out.
+    /// Runs a command, or compares an expected line.
     fn carry_out<S: Script>(
         &mut self,
         rt: &HostRuntime,
@@ -158,7 +158,7 @@ impl Transcript<'_> {
         fs::write(rt, path, self.names.read(text)?)
     }
 
-    /// Prints the line where something else was found than is wanted.
+    /// Prints the line if the result differs from the expected one.
     fn meet(&mut self, rt: &HostRuntime, number: usize, wanted: &str) -> io::Result<()> {
         let file = self.file;
         let wanted = text_of(rt.alloc(), &self.names.read(wanted)?)?;
@@ -169,7 +169,7 @@ impl Transcript<'_> {
         }
     }
 
-    /// Prints what was found and no line met.
+    /// Prints results without an expected line.
     fn tell_unmet(&mut self, rt: &HostRuntime, number: usize) -> io::Result<()> {
         let file = self.file;
         for _ in 0..self.found.lines.len() {

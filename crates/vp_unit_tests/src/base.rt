@@ -1,4 +1,4 @@
-//! vp_base by itself: pictures, planes, grids, sizes and limits, and devices that are counted or fail.
+//! Tests of vp_base: pictures, planes, grids, sizes and limits, and counting and failing devices.
 
 ghost use Rattle.std.specs.Prelude.{◌≡◌};
 
@@ -7,10 +7,10 @@ use std::io::{Read, Write};
 use std::test::Fail;
 use vp_base::{Counted, Dim, DimFault, FailAt, Grid, Limits, Picture, Plane, put_all};
 
-// What `mark` writes into the 35 pixels that are shown, by their places.
+// The pixels that `mark` writes among the 35 shown ones: positions and values.
 const MARKS: [(usize, u8); 6] = [(14, 5), (15, 6), (16, 1), (24, 2), (25, 4), (26, 3)];
 
-// Writes a block, a pixel, a run and a row's first pixel, and gives a pixel of the block that isn't shown.
+// Writes a block, a pixel, a run and a row's first pixel. Returns a pixel of the block that isn't shown.
 fn mark(picture: &mut Picture) -> u8
     requires wide { picture.old.width ≡ 17 }
     requires high { picture.old.height ≡ 1 }
@@ -23,7 +23,7 @@ fn mark(picture: &mut Picture) -> u8
     picture.plane(0).get(15, 1)
 }
 
-// What `marks` says of the place i, or else 128.
+// Returns the value of `marks` at position i, or 128.
 fn value_at(i: usize, marks: &[(usize, u8)]) -> u8 {
     for (at, value) in marks {
         if *at == i {
@@ -33,7 +33,7 @@ fn value_at(i: usize, marks: &[(usize, u8)]) -> u8 {
     128
 }
 
-// Whether the picture of 35 pixels shows 128, but for the marks.
+// Returns whether the 35 shown pixels are 128, except for the marks.
 fn shows(rt: HostRuntime, picture: &Picture, marks: &[(usize, u8)]) -> bool {
     let Ok(bytes) = picture.crop_i420(rt.alloc()) else {
         return false;
@@ -59,7 +59,7 @@ fn seventeen_by_one(rt: HostRuntime) -> Result<(), Fail> {
     Ok(())
 }
 
-// Copies a block of a plane of nine pixels, and gives its last pixel, which isn't shown.
+// Copies a block of a plane of nine pixels. Returns its last pixel, which isn't shown.
 fn copy_four(picture: &mut Picture, nine: &mut Plane) -> u8
     requires wide { picture.old.width ≡ 17 }
     requires high { picture.old.height ≡ 1 }
@@ -115,7 +115,7 @@ fn fails_at_each_write(rt: HostRuntime) -> Result<(), Fail> {
     Ok(())
 }
 
-/// The next two bytes, unless the read fails, and the failures so far.
+/// Returns the next two bytes, unless the read fails, and the number of failures so far.
 fn next_two(reader: &mut Counted<FailAt<&[u8]>>) -> (Option<[u8; 2]>, u64) {
     let mut piece = [0u8; 2];
     let two = match reader.read(&mut piece) {
@@ -134,7 +134,7 @@ fn reads_are_passed_on(rt: HostRuntime) {
     equal(&rt, &reader.reads(), &3);
 }
 
-// The greatest side of 14 bits, the greatest limits and the usual ones.
+// The greatest side of 14 bits, the greatest limits and the default ones.
 #[test]
 fn greatest_sides_and_limits(rt: HostRuntime) -> Result<(), Fail> {
     let usual = Limits::usual();
@@ -156,7 +156,7 @@ fn greatest_sides_and_limits(rt: HostRuntime) -> Result<(), Fail> {
     Ok(())
 }
 
-// A grid of six places, in the memory of one of 35.
+// A grid of six places reuses the memory of one of 35.
 #[test]
 fn a_grid_refilled(rt: HostRuntime) -> Result<(), Fail> {
     let grid = Grid::new(rt.alloc(), 7, 5, 1u8)?.refill(3, 2, 2)?;

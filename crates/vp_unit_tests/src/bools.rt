@@ -1,4 +1,4 @@
-//! vp_bool by itself: worked bools, read and written.
+//! Tests of vp_bool: worked examples, read and written.
 
 use crate::check::equal;
 use std::test::Fail;

@@ -1,4 +1,4 @@
-//! vp_cache by itself, over a stream written by hand: a key packet, and an inter packet that changes nothing.
+//! Tests of vp_cache with a handwritten stream: a key packet, and an inter packet that changes nothing.
 
 use crate::check::equal;
 use std::alloc::Global;
@@ -7,14 +7,14 @@ use vp_base::Limits;
 use vp_cache::Cache;
 use vp_stream::{Answer, Stream};
 
-// An IVF file of 16 columns and 16 rows with those two packets.
+// An IVF file of 16 by 16 pixels with those two packets.
 const FILE: [u8; 69] = [
     0x44, 0x4b, 0x49, 0x46, 0, 0, 0x20, 0, 0x56, 0x50, 0x38, 0x30, 0x10, 0, 0x10, 0, 0x1e, 0, 0, 0,
     1, 0, 0, 0, 1, 0, 0, 0, 0, 0, 0, 0, 0x0a, 0, 0, 0, 0, 0, 0, 0, 0, 0, 0, 0, 0x10, 0, 0, 0x9d,
     0x01, 0x2a, 0x10, 0, 0x10, 0, 3, 0, 0, 0, 0, 0, 0, 0, 0, 0, 0, 0, 0x11, 0, 0,
 ];
 
-/// Whether it is a picture of 16 by 16 pixels, 128 everywhere.
+/// Returns whether the answer is a picture of 16 by 16 pixels, all 128.
 fn is_grey(answer: &Answer) -> bool {
     match answer {
         Answer::Shown(dim, bytes) => {

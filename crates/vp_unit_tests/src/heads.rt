@@ -1,4 +1,4 @@
-//! vp_head by itself: tags and headers, worked and of streams, and their faults.
+//! Tests of vp_head: tags, headers and their faults, in worked examples and from streams.
 
 use crate::check::equal;
 use std::alloc::Global;
@@ -13,10 +13,10 @@ use vp_head::{
 
 const KEY: [u8; 10] = [0x10, 0, 0, 0x9d, 0x01, 0x2a, 0x10, 0, 0x10, 0];
 
-/// A key packet with another start code, and no width.
+/// A key packet with a wrong start code, and a width of 0.
 const OTHER: [u8; 10] = [0x10, 0, 0, 0x9d, 0x01, 0x2b, 0, 0, 0x10, 0];
 
-/// The tag of a packet, or why it has none.
+/// Returns the tag of a packet, or its fault.
 fn tag_of(packet: &[u8]) -> Result<Tag, PacketFault> {
     Tag::read(packet, &Limits::usual())
 }
@@ -37,14 +37,14 @@ fn packet_faults(rt: HostRuntime) -> Result<(), Fail> {
     Ok(())
 }
 
-/// The tag of a key packet with these words of width and height.
+/// Returns the tag of a key packet with these width and height fields.
 fn tag_of_size(size: [u8; 4], limits: &Limits) -> Result<Tag, PacketFault> {
     let [w, w_scale, h, h_scale] = size;
     let packet = [0x10, 0, 0, 0x9d, 0x01, 0x2a, w, w_scale, h, h_scale];
     Tag::read(&packet, limits)
 }
 
-/// Width, height and their scales.
+/// Returns the width, the height and their scales.
 fn sides_of(key: Option<KeyTag>) -> Option<(u16, u16, u8, u8)> {
     let key = key?;
     Some((
@@ -65,7 +65,7 @@ fn size_limits(rt: HostRuntime) -> Result<(), Fail> {
     Ok(())
 }
 
-/// The header that stands in a packet's first partition, what is kept after it, and the eight bits behind it.
+/// Returns the header in a packet's first partition, the values saved after it, and the eight bits that follow it.
 fn header_of(packet: &[u8], partition: &[u8]) -> Result<(Header, Saved, u8), Fail> {
     let tag = Tag::read(packet, &Limits::usual())?;
     let mut decoder = BoolDecoder::new(partition);
@@ -73,7 +73,7 @@ fn header_of(packet: &[u8], partition: &[u8]) -> Result<(Header, Saved, u8), Fai
     Ok((header, saved, decoder.literal(8)))
 }
 
-/// What a header says of segments, filter and quantiser.
+/// Returns a header's segmentation, filter and quantiser indices.
 fn rows_of(header: &Header) -> (Segmentation, Filter, QuantiserIndices) {
     (header.segmentation, header.filter, header.quantiser)
 }
@@ -126,7 +126,7 @@ fn all_ones_header(rt: HostRuntime) -> Result<(), Fail> {
     Ok(())
 }
 
-/// The probabilities of luma, chroma and vectors.
+/// Returns the probabilities of luma modes, chroma modes and vectors.
 fn parts_of(probabilities: &Probabilities) -> ([u8; 4], [u8; 3], [[u8; 19]; 2]) {
     let luma = probabilities.luma;
     let chroma = probabilities.chroma;
@@ -156,15 +156,16 @@ fn all_ones_inter_header(rt: HostRuntime) -> Result<(), Fail> {
     Ok(())
 }
 
-/// The first packet of `synth_20008.ivf` in crates/vp_transcripts/data, to the end of its header. The values below
-/// are those of a reader that was written apart from this one.
+/// The first packet of `synth_20008.ivf` in crates/vp_transcripts/data, to the end of its header. The expected values
+/// come from an independent reader.
 const KEY_PACKET: [u8; 34] = [
     0xf0, 0x05, 0x00, 0x9d, 0x01, 0x2a, 0x40, 0x00, 0x30, 0x00, 0x6a, 0x8b, 0xe2, 0x5f, 0xc3, 0x1b,
     0x76, 0x37, 0xb2, 0x24, 0xaa, 0x49, 0xbd, 0x71, 0x46, 0x26, 0xd1, 0xc9, 0xb1, 0x73, 0x5b, 0x85,
     0xb9, 0xdd,
 ];
 
-/// Its fourth packet, likewise, as if nothing had been kept before it.
+/// The fourth packet of that file, to the end of its header, read with the default saved values. The expected values
+/// come from an independent reader.
 const INTER_PACKET: [u8; 52] = [
     0xe3, 0x08, 0x00, 0xe7, 0x46, 0x6c, 0x59, 0x78, 0xfa, 0xa7, 0x27, 0xf2, 0x22, 0x33, 0xa5, 0x2c,
     0x80, 0xb8, 0x40, 0xd2, 0xde, 0xfa, 0x45, 0x13, 0xe4, 0x35, 0x7f, 0xfa, 0xbd, 0x14, 0x0a, 0x7c,
@@ -309,7 +310,7 @@ fn inter_probabilities_of_a_stream(rt: HostRuntime) -> Result<(), Fail> {
     Ok(())
 }
 
-/// The header that stands in a packet's first partition, written anew and read back.
+/// Writes the header of a packet's first partition, and reads it back.
 fn written_back(alloc: Global, packet: &[u8], partition: &[u8]) -> Result<Header, Fail> {
     let tag = Tag::read(packet, &Limits::usual())?;
     let saved = Saved::defaults();
@@ -338,7 +339,7 @@ fn is_told_as(alloc: Global, fault: PacketFault, name: &str) -> Result<bool, Fai
     Ok(format!(in alloc; "{fault}")?.as_str() == name)
 }
 
-/// The faults by their names, a partition with its number.
+/// The names of the faults; that of a partition includes its number.
 #[test]
 fn names_of_packet_faults(rt: HostRuntime) -> Result<(), Fail> {
     let names = [
@@ -358,7 +359,7 @@ fn names_of_packet_faults(rt: HostRuntime) -> Result<(), Fail> {
     Ok(())
 }
 
-/// A key packet of fewer than ten bytes is cut short, whatever its start code and its sizes are.
+/// A key packet of fewer than ten bytes is truncated, whatever its start code and size are.
 #[test]
 fn truncated_before_start_code(rt: HostRuntime) -> Result<(), Fail> {
     assert!(rt; tag_of(&OTHER[..9]) == Err(PacketFault::Truncated));

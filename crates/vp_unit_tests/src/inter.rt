@@ -1,4 +1,4 @@
-//! vp_inter by itself: moved blocks against chapter 18.3 of RFC 6386, pixel by pixel.
+//! Tests of vp_inter: inter prediction against RFC 6386, chapter 18.3, pixel by pixel.
 
 ghost use Rattle.std.specs.Prelude.{◌<◌, ◌≤◌};
 
@@ -11,7 +11,7 @@ use vp_inter::{
     predict_into4, predict_into8, predict_into16,
 };
 
-/// Makes three columns 0, of a plane of 16 columns.
+/// Sets three columns of a plane of 16 columns to 0.
 fn darken(plane: &mut Plane) {
     for y in 0..16 {
         if plane.width() == 16 && y < plane.height() {
@@ -20,7 +20,8 @@ fn darken(plane: &mut Plane) {
     }
 }
 
-/// Whether the pixels at the edge of the plane are these, moved by a quarter of a pixel and by far.
+/// Returns whether the pixels at the edge of the plane are predicted as expected, for vectors of a quarter pixel and
+/// far outside.
 fn moves(plane: &Plane) -> bool {
     if plane.width() != 16 || plane.height() != 16 {
         return false;
@@ -33,7 +34,7 @@ fn moves(plane: &Plane) -> bool {
         && predict_block8(plane, 8, 8, turned, 0)[63] == 0
 }
 
-/// Three columns of 0 and then 255.
+/// Three columns of 0, followed by 255.
 #[test]
 fn kernel_examples(rt: HostRuntime) {
     let Ok(mut plane) = Plane::new(rt.alloc(), 16, 16, 255) else {
@@ -55,12 +56,12 @@ fn kernel_examples(rt: HostRuntime) {
     );
 }
 
-/// Whole pixels that a block is moved by: far outside, across each border, just outside and just inside, for each size.
+/// Offsets in whole pixels: far outside, across each border, just outside and just inside, for each block size.
 const OFFSETS: [i32; 19] = [
     -1000, -18, -17, -16, -15, -14, 0, 13, 14, 16, 17, 21, 22, 24, 25, 26, 28, 29, 1000,
 ];
 
-/// Fills a row with 0, 51 and so on to 255, far apart from one pixel to the next.
+/// Fills a row with 0, 51, .. 255, so that adjacent pixels differ greatly.
 fn fill(row: &mut [u8], y: usize) {
     for x in 0..row.len() {
         let mixed = x
@@ -70,7 +71,7 @@ fn fill(row: &mut [u8], y: usize) {
     }
 }
 
-/// The weights of chapter 18.3's table for each eighth of a pixel, of the pixels at -2 to 3.
+/// The filter taps of RFC 6386, chapter 18.3, for each eighth of a pixel, for the pixels at -2 to 3.
 const SIX: [[i32; 6]; 8] = [
     [0, 0, 128, 0, 0, 0],
     [0, -6, 123, 12, -1, 0],
@@ -82,7 +83,7 @@ const SIX: [[i32; 6]; 8] = [
     [0, -1, 12, 123, -6, 0],
 ];
 
-/// The weights in a version: six taps, or two in proportion.
+/// Returns the filter taps of a version: six taps, or two bilinear ones.
 fn weights(version: u8, eighths: i32) -> [i32; 6] {
     let eighths = (eighths & 7) as usize % 8;
     if version == 0 {
@@ -92,7 +93,7 @@ fn weights(version: u8, eighths: i32) -> [i32; 6] {
     [0, 0, 128 - second, second, 0, 0]
 }
 
-/// The pixel that six make.
+/// Applies filter taps to six pixels.
 fn weighed(six: [i32; 6], weights: [i32; 6]) -> i32 {
     let mut sum = 64i32;
     for k in 0..6 {
@@ -101,7 +102,7 @@ fn weighed(six: [i32; 6], weights: [i32; 6]) -> i32 {
     (sum >> 7).clamp(0, 255)
 }
 
-/// The pixel at a place, or where that is outside, the nearest one.
+/// Returns the pixel at a place, clamped to the plane.
 fn pixel(plane: &Plane, x: i32, y: i32) -> i32 {
     let x = (x.max(0) as usize).min(plane.width().wrapping_sub(1));
     let y = (y.max(0) as usize).min(plane.height().wrapping_sub(1));
@@ -112,7 +113,7 @@ fn pixel(plane: &Plane, x: i32, y: i32) -> i32 {
     }
 }
 
-/// The pixel that those at -2 to 3 of a row make.
+/// Filters a row horizontally at a place.
 fn across(plane: &Plane, x: i32, y: i32, weights: [i32; 6]) -> i32 {
     let mut six = [0; 6];
     for k in 0..6 {
@@ -121,7 +122,7 @@ fn across(plane: &Plane, x: i32, y: i32, weights: [i32; 6]) -> i32 {
     weighed(six, weights)
 }
 
-/// Pixels of one row moved to columns 16 to 31.
+/// Predicts columns 16 to 31 of one row, filtered horizontally.
 fn moved_row(plane: &Plane, y: i32, vector: PlaneVector, version: u8) -> [i32; 16] {
     let weights = weights(version, vector.column);
     let x = 16i32.wrapping_add(vector.column >> 3);
@@ -132,7 +133,7 @@ fn moved_row(plane: &Plane, y: i32, vector: PlaneVector, version: u8) -> [i32; 1
     row
 }
 
-/// The rows from which those at 16 to 31 are made: two more above, and three below.
+/// Predicts the rows from which rows 16 to 31 are filtered vertically: two more above, and three below.
 fn moved_rows(plane: &Plane, vector: PlaneVector, version: u8) -> [[i32; 16]; 21] {
     let y = 14i32.wrapping_add(vector.row >> 3);
     let mut rows = [[0; 16]; 21];
@@ -142,7 +143,7 @@ fn moved_rows(plane: &Plane, vector: PlaneVector, version: u8) -> [[i32; 16]; 21
     rows
 }
 
-/// The pixel that a vector moves to a place of the block, as chapter 18.3 tells it: rows first, then columns.
+/// Returns the predicted pixel of the block, by RFC 6386, chapter 18.3: filtered horizontally, then vertically.
 fn moved(rows: &[[i32; 16]; 21], column: usize, row: usize, weights: [i32; 6]) -> i32 {
     let mut six = [0; 6];
     for k in 0..6 {
@@ -151,7 +152,7 @@ fn moved(rows: &[[i32; 16]; 21], column: usize, row: usize, weights: [i32; 6]) -
     weighed(six, weights)
 }
 
-/// Whether a block of rows of `size` has the pixels that are made of these rows.
+/// Returns whether a block with rows of `size` pixels equals the prediction from these rows.
 fn is_made_of(block: &[u8], size: usize, rows: &[[i32; 16]; 21], weights: [i32; 6]) -> bool
     requires { 0 < size }
 {
@@ -163,7 +164,7 @@ fn is_made_of(block: &[u8], size: usize, rows: &[[i32; 16]; 21], weights: [i32; 
     block.len() == size.wrapping_mul(size)
 }
 
-/// Whether a block of some size, at column and row 16, has other pixels.
+/// Returns whether the prediction of some block size at column and row 16 differs from the expected one.
 fn differ(plane: &Plane, vector: PlaneVector, version: u8) -> bool
     requires wide { 0 < plane.now.width }
     requires high { 0 < plane.now.height }
@@ -178,7 +179,7 @@ fn differ(plane: &Plane, vector: PlaneVector, version: u8) -> bool
         || !is_made_of(&small, 4, &rows, down)
 }
 
-/// The first vector of those whole pixels, with any eighths, and version where they differ.
+/// Returns the first vector with those whole pixels, and the version, for which the prediction differs.
 fn difference_at(plane: &Plane, row: i32, column: i32) -> Option<(PlaneVector, u8)>
     requires wide { 0 < plane.now.width }
     requires high { 0 < plane.now.height }
@@ -197,7 +198,7 @@ fn difference_at(plane: &Plane, row: i32, column: i32) -> Option<(PlaneVector, u
     None
 }
 
-/// The first of all of them: across one border, and across two at a corner.
+/// Returns the first vector and version for which the prediction differs: across one border, or across two at a corner.
 fn first_difference(plane: &Plane) -> Option<(PlaneVector, u8)>
     requires wide { 0 < plane.now.width }
     requires high { 0 < plane.now.height }
@@ -226,7 +227,7 @@ fn lanes_predict_as_pixels(rt: HostRuntime) -> Result<(), Fail> {
     Ok(())
 }
 
-/// The pixel wanted at a place: of the block of rows of `size` that begins at column and row `at`, or 7 round it.
+/// Returns the expected pixel: of the block of `size` by `size` pixels from column and row `at` on, or 7 outside it.
 fn wanted(block: &[u8], size: usize, at: usize, x: usize, y: usize) -> u8 {
     let [column, row] = [x.wrapping_sub(at), y.wrapping_sub(at)];
     if column >= size || row >= size {
@@ -238,7 +239,7 @@ fn wanted(block: &[u8], size: usize, at: usize, x: usize, y: usize) -> u8 {
     }
 }
 
-/// Whether row `y` has the pixels wanted.
+/// Returns whether row `y` has the expected pixels.
 fn has_row(row: &[u8], block: &[u8], size: usize, at: usize, y: usize) -> bool {
     for x in 0..row.len() {
         if row[x] != wanted(block, size, at, x, y) {
@@ -248,7 +249,7 @@ fn has_row(row: &[u8], block: &[u8], size: usize, at: usize, y: usize) -> bool {
     true
 }
 
-/// Whether a plane has the block at column and row `at`, and 7 round it.
+/// Returns whether a plane has the block at column and row `at`, and 7 elsewhere.
 fn has_block(plane: &Plane, block: &[u8], size: usize, at: usize) -> bool {
     for y in 0..plane.height() {
         if !has_row(plane.row(y), block, size, at, y) {
@@ -258,7 +259,8 @@ fn has_block(plane: &Plane, block: &[u8], size: usize, at: usize) -> bool {
     true
 }
 
-/// Whether blocks of each size, written to the three planes of a picture of 7, stand there and leave the rest.
+/// Returns whether blocks of each size, written to the planes of a picture of 7, are at their places, and all other
+/// pixels are unchanged.
 fn are_written(
     alloc: Global,
     dim: Dim,

@@ -1,4 +1,4 @@
-//! vp_intra by itself: predicted blocks, worked by hand.
+//! Tests of vp_intra: predicted blocks, worked by hand.
 
 ghost use Rattle.std.specs.Prelude.{◌≡◌};
 
@@ -7,7 +7,7 @@ use vp_base::Plane;
 use vp_intra::{predict_chroma, predict_luma, predict_sub};
 use vp_tables::{ChromaMode, LumaMode, SubMode};
 
-/// A plane of 32 by 32 pixels that differ.
+/// Returns a plane of 32 by 32 different pixels.
 fn sample(alloc: Global) -> Result<Plane, AllocError> {
     let mut plane = Plane::new(alloc, 32, 32, 0)?;
     for y in 0..plane.height() {
@@ -20,7 +20,7 @@ fn sample(alloc: Global) -> Result<Plane, AllocError> {
     Ok(plane)
 }
 
-// The pixels of each subblock mode at column 4 of row 4.
+// The prediction of each subblock mode at column 4 of row 4.
 const SUB_MODES: [(SubMode, [u8; 16]); 10] = [
     (
         SubMode::Dc,
@@ -84,7 +84,7 @@ const SUB_MODES: [(SubMode, [u8; 16]); 10] = [
     ),
 ];
 
-/// Whether each subblock mode predicts its pixels.
+/// Returns whether each subblock mode gives the expected prediction.
 fn predicts_subs(plane: &Plane) -> bool
     requires width { plane.now.width ≡ 32 }
     requires height { plane.now.height ≡ 32 }

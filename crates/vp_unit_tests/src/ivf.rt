@@ -1,4 +1,4 @@
-//! vp_ivf by itself: files read in pieces, their faults in order, and files written.
+//! Tests of vp_ivf: files read in pieces, the order of their faults, and files written.
 
 ghost use Rattle.std.specs.Prelude.{◌<◌};
 
@@ -8,26 +8,26 @@ use std::test::Fail;
 use vp_base::{Counted, Dim, FailAt, Limits};
 use vp_ivf::{FeedError, FileFault, IvfHead, Reader, WriteFault, Writer};
 
-// A file of one packet, 16 columns and 16 rows, whose frame is an empty key frame of ten bytes.
+// A file of one packet, 16 by 16 pixels, whose frame is an empty key frame of ten bytes.
 const FILE: [u8; 54] = [
     0x44, 0x4b, 0x49, 0x46, 0, 0, 0x20, 0, 0x56, 0x50, 0x38, 0x30, 0x10, 0, 0x10, 0, 0x1e, 0, 0, 0,
     1, 0, 0, 0, 1, 0, 0, 0, 0, 0, 0, 0, 0x0a, 0, 0, 0, 0, 0, 0, 0, 0, 0, 0, 0, 0x10, 0, 0, 0x9d,
     0x01, 0x2a, 0x10, 0, 0x10, 0,
 ];
 
-// A file of two packets, 273 columns and one row, of three bytes and of none.
+// A file of two packets, 273 by 1 pixels, of three bytes and of none.
 const WIDE: [u8; 59] = [
     0x44, 0x4b, 0x49, 0x46, 0, 0, 0x20, 0, 0x56, 0x50, 0x38, 0x30, 0x11, 1, 1, 0, 0x30, 0x75, 0, 0,
     0xe9, 3, 0, 0, 2, 0, 0, 0, 0, 0, 0, 0, 3, 0, 0, 0, 4, 3, 0, 0, 2, 1, 0, 0x80, 0xaa, 0xbb, 0xcc,
     0, 0, 0, 0, 0, 1, 0, 0, 0, 0, 0, 0,
 ];
 
-/// Whether no packet is ready before the byte, and the byte is taken, at the latest in the second try.
+/// Returns whether no packet is ready before the byte, and the byte is taken at the first or the second attempt.
 fn takes(reader: &mut Reader, byte: &[u8]) -> bool {
     reader.next_packet().is_none() && (reader.feed(byte) == Ok(()) || reader.feed(byte) == Ok(()))
 }
 
-/// Whether the next packet has this time and these bytes.
+/// Returns whether the next packet has this time and these bytes.
 fn gives(reader: &mut Reader, time: u64, bytes: &[u8]) -> bool {
     match reader.next_packet() {
         Some(packet) => packet.time == time && packet.bytes.as_slice() == bytes,
@@ -35,7 +35,7 @@ fn gives(reader: &mut Reader, time: u64, bytes: &[u8]) -> bool {
     }
 }
 
-/// Whether the file ends well, twice, and nothing is taken after its end.
+/// Returns whether marking the end succeeds, twice, and no more bytes are taken.
 fn ends(reader: &mut Reader) -> bool {
     reader.next_packet().is_none()
         && reader.refusal() == None
@@ -55,7 +55,8 @@ fn fed_byte_by_byte(rt: HostRuntime) {
     assert!(rt; ends(&mut reader));
 }
 
-/// Whether the file's front is taken, shows its head or not, gives no packet, and ends so.
+/// Returns whether a prefix of the file is taken, its head is there or not, no packet is, and marking its end gives
+/// this answer.
 fn ends_after(alloc: Global, front: &[u8], has_head: bool, answer: Result<(), FileFault>) -> bool {
     let mut reader = Reader::new(alloc, Limits::usual());
     reader.feed(front) == Ok(())
@@ -71,7 +72,7 @@ fn file_cut_short(rt: HostRuntime) {
     assert!(rt; ends_after(rt.alloc(), &FILE[..53], true, Err(FileFault::Torn)));
 }
 
-/// Whether the file with another letter in its head has this fault, from the head's last byte on.
+/// Returns whether the file with another byte in its head has this fault, once the head is complete.
 fn has_head_fault(alloc: Global, at: usize, letter: u8, fault: FileFault) -> bool
     requires { at < 54 }
 {
@@ -98,7 +99,7 @@ const HEAD: IvfHead = IvfHead {
     scale: 1,
 };
 
-/// Whether the file, and then the head of a second packet, of eleven bytes, meets this fault.
+/// Returns whether the file, followed by the head of a second packet of eleven bytes, has this fault.
 fn meets(reader: &mut Reader, fault: FileFault) -> bool {
     reader.feed(&FILE) == Ok(())
         && reader.head() == Some(HEAD)
@@ -108,7 +109,7 @@ fn meets(reader: &mut Reader, fault: FileFault) -> bool {
         && reader.finish() == Err(fault)
 }
 
-/// Whether a reader of at most so many packets of ten bytes meets this fault.
+/// Returns whether a reader with a limit of `packets` packets of ten bytes meets this fault.
 fn limits_meet(alloc: Global, packets: u32, fault: FileFault) -> bool {
     match Limits::new(256, 10, packets, 1) {
         Some(limits) => meets(&mut Reader::new(alloc, limits), fault),
@@ -129,7 +130,7 @@ const WIDE_HEAD: IvfHead = IvfHead {
     scale: 1_001,
 };
 
-/// The time of the first packet of the wide file.
+/// The time of the first packet in the wide file.
 const TIME: u64 = 0x8000_0102_0000_0304;
 
 #[test]
@@ -142,7 +143,7 @@ fn numbers_of_several_bytes(rt: HostRuntime) {
     equal(&rt, &reader.finish(), &Ok(()));
 }
 
-/// Whether the file is whole after one packet, and no other packet is taken.
+/// Returns whether the file is complete after one packet, and no other packet is taken.
 fn takes_one(writer: &mut Writer<Vec<u8>>) -> bool {
     writer.finish() == Err(WriteFault::Count)
         && writer.packet(0, &FILE[44..]) == Ok(())
@@ -160,7 +161,7 @@ fn file_of_one_packet(rt: HostRuntime) {
     assert!(rt; out.into_inner().as_slice() == FILE.as_slice());
 }
 
-/// Whether the file is whole after two packets, and not after one.
+/// Returns whether the file is complete after two packets, and not after one.
 fn takes_two(writer: &mut Writer<Vec<u8>>) -> bool {
     writer.packet(TIME, &[0xaa, 0xbb, 0xcc]) == Ok(())
         && writer.finish() == Err(WriteFault::Count)
@@ -178,14 +179,14 @@ fn file_of_two_packets(rt: HostRuntime) {
     assert!(rt; out.into_inner().as_slice() == WIDE.as_slice());
 }
 
-/// Whether the device's failure is answered each time.
+/// Returns whether each call reports the device's failure.
 fn has_failed(writer: &mut Writer<FailAt<Vec<u8>>>) -> bool {
     writer.packet(0, &FILE[44..]) == Err(WriteFault::Device)
         && writer.packet(0, &FILE[44..]) == Err(WriteFault::Device)
         && writer.finish() == Err(WriteFault::Device)
 }
 
-/// Whether the file of one packet fails once where write `k` fails, after what was written before.
+/// Returns whether the file of one packet fails at write `k`, after these bytes are written.
 fn fails_after(alloc: Global, dim: Dim, k: u64, written: &[u8]) -> bool {
     let mut out = Counted::new(FailAt::new(Vec::new(alloc), k));
     has_failed(&mut Writer::begin(&mut out, dim, 30, 1, 1))
@@ -223,7 +224,7 @@ fn names_of_file_faults(rt: HostRuntime) -> Result<(), Fail> {
     Ok(())
 }
 
-// Version, length and count of the head are not checked: the packets stand from byte 32 on.
+// Version, length and frame count of the head are not checked: packets begin at byte 32.
 #[test]
 fn other_numbers_of_a_head(rt: HostRuntime) {
     let mut bytes = FILE;

@@ -1,4 +1,5 @@
-//! Tests of each layer by itself: worked rows of its public calls, and whole files. There is nothing here but tests.
+//! Tests of each layer separately: worked examples of its public functions, and whole files. This crate contains only
+//! tests.
 #![tactic(auto)]
 
 #[cfg(test)]

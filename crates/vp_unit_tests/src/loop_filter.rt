@@ -1,4 +1,4 @@
-//! vp_loop by itself: levels, line steps, and pictures against a filter that goes line by line.
+//! Tests of vp_loop: levels, single steps, and pictures against a filter that processes one line of pixels at a time.
 
 ghost use Rattle.std.specs.Prelude.{◌≡◌, ◌*◌, ◌<◌, ◌≤◌, IsTrue, ◌↔◌};
 ghost use Rattle.vp_base.specs.Image.{macroblocks};
@@ -11,7 +11,7 @@ use vp_bool::BoolDecoder;
 use vp_head::{Header, KeyTag, LevelDeltas, Reference, Saved, Tag};
 use vp_loop::{EdgeKind, Level, Line, LineStep, MacroblockKind, ModeClass, filter_picture, levels};
 
-/// A key frame's header with filter level 16 and sharpness 0, all else 0 or as by default.
+/// Returns a key frame's header with filter level 16 and sharpness 0; all other fields are 0 or defaults.
 fn header(dim: Dim) -> Header {
     let tag = Tag {
         version: 0,
@@ -94,9 +94,8 @@ fn filter_one_line(rt: HostRuntime) {
     }
 }
 
-/// The strength of a key frame's macroblock whose subblocks have modes of their own, with these levels and
-/// sharpness: the
-/// frame's, the segment's in its place if there is one, and what reference and mode add.
+/// Returns the strength for a B_PRED macroblock of a key frame. `own` is the frame's level, `segment` replaces it, and
+/// `deltas` are those of the reference and the mode.
 fn level_with(dim: Dim, own: u8, sharpness: u8, segment: Option<i8>, deltas: [i8; 2]) -> Level {
     let mut header = header(dim);
     header.filter.level = own;
@@ -127,9 +126,8 @@ fn strength(edge: u8, inner: u8, interior: u8, hev: u8) -> Level {
     }
 }
 
-/// Where levels are held to 0 to 63: the segment's before the deltas, and their sum, but not between the two
-/// deltas; key
-/// frames have the delta of intra macroblocks too. The interior limit is 1 at least.
+/// Levels are clamped to 0..63: the segment's level before the deltas, and their sum after both deltas. Key frames have
+/// the delta of intra macroblocks too. The interior limit is at least 1.
 #[test]
 fn levels_are_held(rt: HostRuntime) -> Result<(), Fail> {
     let Ok(dim) = Dim::new(16, 16, &Limits::usual()) else {
@@ -163,7 +161,7 @@ fn levels_are_held(rt: HostRuntime) -> Result<(), Fail> {
     Ok(())
 }
 
-/// Differences and steps are held to -128 to 127.
+/// Differences and filter values are clamped to -128..127.
 #[test]
 fn steps_are_held(rt: HostRuntime) {
     let simple = LineStep {
@@ -232,7 +230,7 @@ fn fill_plane(picture: &mut Picture, k: usize)
     }
 }
 
-/// The pixels of a plane of at most 48 columns and rows, row by row.
+/// The pixels of a plane of at most 48 by 48, in raster order.
 #[derive(Clone, Copy)]
 struct Pixels {
     all: [u8; 2304],
@@ -269,7 +267,7 @@ impl Pixels {
         }
     }
 
-    /// Filters the line of eight pixels that begins at a place, each `apart` behind the one before it.
+    /// Filters the line of eight pixels that begins at `at`; `apart` is the distance from one pixel to the next.
     fn filter_line(&mut self, at: usize, apart: usize, step: LineStep) {
         let mut eight = [0; 8];
         for k in 0..8 {
@@ -285,14 +283,14 @@ impl Pixels {
         }
     }
 
-    /// Filters over an edge: `count` lines, each beginning `next` behind the one before it.
+    /// Filters an edge: `count` lines; `next` is the distance from one line to the next.
     fn filter_edge(&mut self, at: usize, apart: usize, next: usize, count: usize, step: LineStep) {
         for j in 0..count {
             self.filter_line(at.wrapping_add(next.wrapping_mul(j)), apart, step);
         }
     }
 
-    /// Filters over the edges inside a block, one in every fourth place.
+    /// Filters the edges inside a block, at every fourth position.
     fn filter_inside(&mut self, at: usize, apart: usize, next: usize, size: usize, step: LineStep) {
         for i in 0..size.saturating_sub(4) / 4 {
             let edge = at.wrapping_add(apart.wrapping_mul(i.wrapping_mul(4)));
@@ -300,9 +298,8 @@ impl Pixels {
         }
     }
 
-    /// Filters a block of `size` pixels each way whose first pixel is at column `x` of row `y`, as chapter 15
-    /// orders it:
-    /// over its left edge, the vertical ones inside, the edge above it, and the horizontal ones inside.
+    /// Filters a block of `size` by `size` pixels from column `x` of row `y`, in the order of RFC 6386, chapter 15. Its
+    /// left edge is first, then the vertical edges inside, its top edge, and the horizontal edges inside.
     fn filter_block(&mut self, x: usize, y: usize, size: usize, level: &Level) {
         let width = self.width;
         let at = width.wrapping_mul(y).wrapping_add(x);
@@ -333,7 +330,7 @@ impl Pixels {
         }
     }
 
-    /// The first row in which the plane has other pixels.
+    /// Returns the first row in which the plane differs.
     fn differs_at(&self, plane: &Plane) -> Option<usize> {
         for y in 0..plane.height() {
             for x in 0..plane.width() {
@@ -347,7 +344,7 @@ impl Pixels {
     }
 }
 
-/// The step over edges of a kind with this limit; a level of the simple filter has an interior limit of 0.
+/// Returns the step for edges of a kind with this limit. A level of the simple filter has an interior limit of 0.
 fn step_of(level: &Level, kind: EdgeKind, limit: u8) -> LineStep {
     LineStep {
         kind: if level.interior == 0 {
@@ -361,7 +358,8 @@ fn step_of(level: &Level, kind: EdgeKind, limit: u8) -> LineStep {
     }
 }
 
-/// A plane's pixels filtered line by line, at one level. The simple filter leaves colour, and a level of 0 all.
+/// Filters a plane's pixels line by line, at one level. The simple filter leaves chroma unchanged, and level 0 leaves
+/// all planes unchanged.
 fn filtered_by_lines(plane: &Plane, k: usize, level: &Level) -> Pixels {
     let mut pixels = Pixels::of(plane);
     let size = if k == 0 { 16 } else { 8 };
@@ -371,7 +369,7 @@ fn filtered_by_lines(plane: &Plane, k: usize, level: &Level) -> Pixels {
     pixels
 }
 
-/// Where the filtered picture has other pixels than the filter line by line gives: plane and row.
+/// Returns the plane and row in which the filtered picture differs from the one filtered line by line.
 fn difference(alloc: Global, dim: Dim, level: Level) -> Result<Option<(usize, usize)>, AllocError> {
     let mut picture = Picture::new(alloc, dim, 0)?;
     for k in 0..3 {
@@ -394,7 +392,7 @@ fn first_difference(before: &Picture, after: &Picture, level: &Level) -> Option<
     None
 }
 
-/// Whether nine levels are enough.
+/// Returns whether the picture has at most nine macroblocks.
 fn picture_fits(picture: &Picture) -> bool
     ensures { IsTrue result ↔ (macroblocks picture.now.height * macroblocks picture.now.width ≤ 9) }
 {
@@ -402,7 +400,7 @@ fn picture_fits(picture: &Picture) -> bool
     usize::from(dim.mb_rows()) * usize::from(dim.mb_cols()) <= 9
 }
 
-/// Where they differ for some sharpness, type and kind of frame.
+/// Returns where they differ for some sharpness, filter type and kind of frame.
 fn difference_at(
     alloc: Global,
     dim: Dim,
@@ -429,10 +427,10 @@ fn difference_at(
     Ok(None)
 }
 
-/// The sides of the pictures.
+/// The widths and heights of the pictures.
 const SIDES: [u16; 6] = [1, 15, 16, 17, 33, 48];
 
-/// The first height at which they differ on a picture of this width and level, or which is no side.
+/// Returns the first height at which they differ on a picture of this width and level.
 fn height_of_difference(
     alloc: Global,
     width: u16,
@@ -463,7 +461,7 @@ fn lanes_filter_as_lines(rt: HostRuntime) -> Result<(), Fail> {
     Ok(())
 }
 
-/// The threshold of a level, in a key frame or another.
+/// Returns the high edge variance threshold of a level, in a key frame or an inter frame.
 fn threshold(dim: Dim, key: bool, own: u8) -> u8 {
     let mut header = header(dim);
     header.key = key;
@@ -476,7 +474,8 @@ fn threshold(dim: Dim, key: bool, own: u8) -> u8 {
     levels(&header, 0, &kind).hev
 }
 
-/// Levels at the ends of each threshold's run: in key frames from 15 and 40 on, in others from 15, 20 and 40 on.
+/// Levels at both ends of each threshold's range: it changes at 15 and 40 in key frames, and at 15, 20 and 40 in inter
+/// frames.
 #[test]
 fn thresholds_by_frame(rt: HostRuntime) -> Result<(), Fail> {
     let Ok(dim) = Dim::new(16, 16, &Limits::usual()) else {
@@ -498,7 +497,8 @@ fn thresholds_by_frame(rt: HostRuntime) -> Result<(), Fail> {
     Ok(())
 }
 
-/// A half of the level from sharpness 1 on, a fourth from 5 on, at most 9 less the sharpness, at least 1.
+/// The level is halved from sharpness 1 on, and quartered from 5 on; then it is at most 9 minus the sharpness, and at
+/// least 1.
 #[test]
 fn interior_limits(rt: HostRuntime) -> Result<(), Fail> {
     let Ok(dim) = Dim::new(16, 16, &Limits::usual()) else {
@@ -525,7 +525,7 @@ fn interior_limits(rt: HostRuntime) -> Result<(), Fail> {
     Ok(())
 }
 
-/// The strength for a kind of macroblock without coefficients, at level 20 with eight deltas that differ.
+/// Returns the strength for a kind of macroblock without coefficients, at level 20 with eight different deltas.
 fn strength_of(dim: Dim, reference: Reference, prediction: ModeClass) -> Level {
     let mut header = header(dim);
     header.key = false;
@@ -543,8 +543,8 @@ fn strength_of(dim: Dim, reference: Reference, prediction: ModeClass) -> Level {
     levels(&header, 0, &kind)
 }
 
-/// Each reference and each mode has its own delta; inner edges without coefficients are those of subblock modes and of
-/// split macroblocks alone. The levels are 21, 30, 12, 28 and 31.
+/// Each reference and each mode class has its own delta. Without coefficients, only B_PRED and split macroblocks have
+/// inner edges filtered. The levels are 21, 30, 12, 28 and 31.
 #[test]
 fn deltas_by_kind(rt: HostRuntime) -> Result<(), Fail> {
     let Ok(dim) = Dim::new(16, 16, &Limits::usual()) else {
@@ -566,7 +566,7 @@ fn deltas_by_kind(rt: HostRuntime) -> Result<(), Fail> {
     Ok(())
 }
 
-/// A frame's level of 0 filters nothing, whatever segments and deltas add.
+/// A frame level of 0 turns the filter off, whatever segments and deltas add.
 #[test]
 fn no_level_no_filter(rt: HostRuntime) -> Result<(), Fail> {
     let Ok(dim) = Dim::new(16, 16, &Limits::usual()) else {

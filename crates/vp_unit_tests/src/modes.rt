@@ -1,4 +1,4 @@
-//! vp_modes by itself: modes read of worked partitions and of streams, and written again.
+//! Tests of vp_modes: modes read from worked partitions and from streams, and written again.
 
 ghost use Rattle.std.specs.Prelude.{◌≡◌, ◌<◌};
 
@@ -26,7 +26,7 @@ fn key_tag(dim: Dim) -> Tag {
 
 const FIRST: Place = Place { column: 0, row: 0 };
 
-/// The first macroblock's modes in a partition of their own, after the header of another one.
+/// Reads the first macroblock's modes from a partition of their own, with the header of another one.
 fn modes_of(dim: Dim, map: &ModeMap, of_header: &[u8], of_modes: &[u8]) -> Modes
     requires column { 0 < map.now.columns }
     requires row { 0 < map.now.rows }
@@ -39,7 +39,7 @@ fn modes_of(dim: Dim, map: &ModeMap, of_header: &[u8], of_modes: &[u8]) -> Modes
     read_modes(&header, map, FIRST, &mut BoolDecoder::new(of_modes))
 }
 
-/// A partition that begins with 255 is ones for ever.
+/// A partition that begins with 255 gives only bools of 1.
 #[test]
 fn all_ones_header(rt: HostRuntime) {
     let Ok(dim) = Dim::new(16, 16, &Limits::usual()) else {
@@ -69,7 +69,7 @@ const CHANGED: Modes = Modes {
     chroma: ChromaMode::H,
 };
 
-/// Whether a change of one place of the copy changes no other place, nor the map.
+/// Returns whether a change of one place of the copy changes no other place, and not the original map.
 fn changes_alone(map: &ModeMap, copy: &mut ModeMap) -> bool
     requires columns { map.now.columns ≡ 2 }
     requires rows { map.now.rows ≡ 3 }
@@ -100,7 +100,7 @@ fn succeeds_with_memory_maps(rt: HostRuntime) {
     assert!(rt; changes_alone(&map, &mut copy));
 }
 
-/// A picture of 16 by 16 pixels that libwebp made.
+/// A picture of 16 by 16 pixels, encoded by libwebp.
 const PICTURE: [u8; 20] = [
     3, 0, 52, 37, 176, 2, 116, 48, 79, 8, 133, 12, 124, 3, 29, 8, 44, 253, 232, 0,
 ];
@@ -109,7 +109,7 @@ const SUBS_OF_PICTURE: [SubMode; 16] = [
     Dc, Ld, Dc, Tm, Dc, Ld, Rd, Dc, Ld, Dc, Dc, Tm, Tm, Dc, Hu, Hu,
 ];
 
-/// The first macroblock's modes, that follow the header.
+/// Reads the first macroblock's modes, which follow the header.
 fn modes_after_header(dim: Dim, map: &ModeMap, bytes: &[u8]) -> Modes
     requires column { 0 < map.now.columns }
     requires row { 0 < map.now.rows }
@@ -133,7 +133,7 @@ fn modes_of_a_picture(rt: HostRuntime) {
     equal(&rt, &modes.chroma, &ChromaMode::V);
 }
 
-/// A header with segmentation and skipping, and four macroblocks with random modes, the first one with a 16x16 mode.
+/// A header with segmentation and skipping, and four macroblocks with random modes, the first of them not B_PRED.
 const FOUR: [u8; 42] = [
     53, 226, 121, 200, 0, 0, 0, 64, 1, 6, 47, 195, 174, 105, 99, 6, 195, 189, 51, 32, 249, 213, 89,
     77, 66, 205, 207, 181, 77, 255, 67, 232, 104, 113, 33, 125, 119, 21, 158, 84, 103, 32,
@@ -180,7 +180,7 @@ const MODES: [Modes; 4] = [
     },
 ];
 
-/// Reads a macroblock, puts it into the map, and tells whether it is as wanted.
+/// Reads a macroblock, stores it in the map, and returns whether it is as expected.
 fn puts_next(
     header: &Header,
     map: &mut ModeMap,
@@ -200,7 +200,7 @@ fn puts_next(
     modes == *wanted
 }
 
-/// Whether the next four macroblocks are as wanted.
+/// Returns whether the next four macroblocks are as expected.
 fn puts_four(header: &Header, map: &mut ModeMap, wanted: &[Modes; 4], d: &mut BoolDecoder) -> bool
     requires columns { map.old.columns ≡ 2 }
     requires rows { map.old.rows ≡ 2 }
@@ -228,7 +228,7 @@ fn modes_by_their_neighbours(rt: HostRuntime) {
     assert!(rt; puts_four(&header, &mut map, &MODES, &mut d));
 }
 
-/// The header and the first macroblock's modes of a partition, written again.
+/// Reads a partition's header and the first macroblock's modes, and writes them again.
 fn written_again(
     alloc: Global,
     dim: Dim,
@@ -260,6 +260,6 @@ fn a_picture_written_again(rt: HostRuntime) {
     let Ok(bytes) = written_again(rt.alloc(), dim, &map, &PICTURE) else {
         panic!(rt; "memory");
     };
-    // A zero byte more stands behind libwebp's.
+    // libwebp's partition has one more byte of 0.
     equal(&rt, &bytes.as_slice(), &&PICTURE[..19]);
 }

@@ -1,4 +1,4 @@
-//! vp_motion by itself: vectors by their neighbours, read and written.
+//! Tests of vp_motion: vectors coded relative to their neighbours, read and written.
 
 ghost use Rattle.std.specs.Prelude.{◌≡◌, ◌<◌, IfOk};
 ghost use Rattle.vp_base.specs.Grid.{Has};
@@ -48,14 +48,14 @@ const SIDE: Vector = Vector {
     column: 0,
 };
 
-/// The reference of the one macroblock of a frame.
+/// Reads the reference of the only macroblock of a frame.
 fn reference_of(alloc: Global, header: &Header, d: &mut BoolDecoder) -> Option<Reference> {
     let dim = Dim::new(16, 16, &Limits::usual()).ok()?;
     let modes = ModeMap::new(alloc, dim).ok()?;
     Some(read_modes(header, &modes, FIRST, d).reference)
 }
 
-/// A partition that begins with 255 is ones for ever, and says so of all that an inter packet may say.
+/// A partition that begins with 255 gives only bools of 1: every optional field of an inter packet is present.
 #[test]
 fn split_vectors_far_outside(rt: HostRuntime) -> Result<(), Fail> {
     let dim = Dim::new(16, 16, &Limits::usual()).ok().ok_or("a size")?;
@@ -87,7 +87,7 @@ fn put_four(map: &mut VectorMap, place: Place)
     map.set(place, Reference::Last, New, &[FOUR; 16]);
 }
 
-/// A new map, and what is put into it.
+/// A new map, and the motion that is stored in it.
 #[test]
 fn succeeds_with_memory_map(rt: HostRuntime) -> Result<(), Fail> {
     let dim = Dim::new(48, 33, &Limits::usual()).ok().ok_or("a size")?;
@@ -103,8 +103,8 @@ fn succeeds_with_memory_map(rt: HostRuntime) -> Result<(), Fail> {
     Ok(())
 }
 
-// Random bytes, and the motion that they mean for the inter macroblocks of three rows of three, as libvpx reads it,
-// with the probabilities of a key frame.
+// Random bytes, and the motion of the inter macroblocks of three rows of three that libvpx reads from them with the
+// default probabilities.
 const BYTES: [u8; 80] = [
     107, 218, 150, 93, 61, 147, 228, 23, 119, 170, 253, 218, 157, 52, 25, 178, 23, 196, 104, 26,
     93, 191, 128, 86, 115, 254, 38, 218, 153, 190, 90, 102, 113, 164, 74, 254, 247, 60, 223, 184,
@@ -158,7 +158,7 @@ const REFERENCES: [Reference; 9] = [
     Reference::Alt,
 ];
 
-/// Whether these are the vectors of the macroblock i.
+/// Returns whether these are the expected vectors of macroblock i.
 fn are_wanted(vectors: &[Vector; 16], i: usize) -> bool
     requires { i < 9 }
 {
@@ -218,7 +218,7 @@ fn vectors_by_their_neighbours(rt: HostRuntime) -> Result<(), Fail> {
 
 const MIXED: Vector = Vector { row: 4, column: -9 };
 
-/// Two vectors in one partition, by the probabilities that a key frame starts from.
+/// Two vectors in one partition, coded with the default probabilities.
 #[test]
 fn write_vector_examples(rt: HostRuntime) -> Result<(), Fail> {
     let saved = Saved::defaults();
@@ -233,7 +233,7 @@ fn write_vector_examples(rt: HostRuntime) -> Result<(), Fail> {
     Ok(())
 }
 
-/// Writes a motion in the reference `Last`, if its mode can give its vector, and says whether it does.
+/// Writes a motion with the reference `Last`, if its mode can give its vector. Returns whether it is written.
 fn write_if_given(
     header: &Header,
     map: &VectorMap,
@@ -256,7 +256,7 @@ fn write_if_given(
     Ok(true)
 }
 
-/// The farthest down from (4, 0), and one further.
+/// The farthest vector down from (4, 0), and one farther.
 const DOWN: Vector = Vector {
     row: 1027,
     column: -1023,
@@ -267,7 +267,7 @@ const TOO_FAR: Vector = Vector {
     column: -1023,
 };
 
-/// Motions between two neighbours with (4, 0), and some that can't be told by their modes.
+/// Motions between two neighbours with (4, 0), and some that their modes can't give.
 const GIVEN: [(VectorMode, Vector); 4] = [
     (Zero, STILL),
     (Nearest, FOUR),
@@ -282,7 +282,7 @@ const REFUSED: [(VectorMode, Vector); 4] = [
     (Split, FOUR),
 ];
 
-/// The first of these that is written, or isn't.
+/// Returns the first of these motions that is written, or that isn't.
 fn first_given(
     header: &Header,
     map: &VectorMap,
@@ -301,7 +301,7 @@ fn first_given(
     Ok(None)
 }
 
-/// The first that isn't read back.
+/// Returns the first motion that isn't read back.
 fn first_other(header: &Header, map: &VectorMap, place: Place, d: &mut BoolDecoder) -> Option<usize>
     requires { Has map.now place }
 {
@@ -317,7 +317,7 @@ fn first_other(header: &Header, map: &VectorMap, place: Place, d: &mut BoolDecod
     None
 }
 
-/// Whether just those that can be given are written, and read back.
+/// Returns whether exactly the motions that can be coded are written, and are read back.
 fn read_back(
     alloc: Global,
     header: &Header,
@@ -334,7 +334,7 @@ fn read_back(
     Ok(given.is_none() && refused.is_none() && other.is_none())
 }
 
-/// All modes but split.
+/// All modes except split.
 #[test]
 fn motions_read_back(rt: HostRuntime) -> Result<(), Fail> {
     let dim = Dim::new(32, 32, &Limits::usual()).ok().ok_or("a size")?;

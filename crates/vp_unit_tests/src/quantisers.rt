@@ -1,4 +1,4 @@
-//! vp_quant by itself: factors by quantiser indices, and levels of coefficients.
+//! Tests of vp_quant: factors by quantiser indices, and dequantised and quantised levels.
 
 use crate::check::equal;
 use std::test::Fail;
@@ -6,7 +6,7 @@ use vp_bool::BoolDecoder;
 use vp_head::{Header, QuantiserIndices, Saved, Tag};
 use vp_quant::{Factors, dequant, dequant_short, quantise, segment_index};
 
-/// The first and the last numbers of RFC 6386's tables (chapter 14.1), and their bounds.
+/// The first and the last entries of the tables in RFC 6386, chapter 14.1, and the clamped factors.
 #[test]
 fn factors_of_both_ends(rt: HostRuntime) -> Result<(), Fail> {
     let same = QuantiserIndices {
@@ -55,8 +55,7 @@ fn factors_of_both_ends(rt: HostRuntime) -> Result<(), Fail> {
     Ok(())
 }
 
-/// The factor of a luma block's first level, for the frame's index, what its segment adds to that, and the frame's
-/// difference.
+/// Returns the luma DC factor for the frame's index, the segment's delta, and the frame's DC delta.
 fn first_factor(y_ac: u8, of_segment: i8, y_dc: i8) -> u16 {
     let tag = Tag {
         version: 0,
@@ -72,14 +71,14 @@ fn first_factor(y_ac: u8, of_segment: i8, y_dc: i8) -> u16 {
     Factors::of(segment_index(&header, 0), &header.quantiser).y_dc
 }
 
-/// A segment's index is held to 0 to 127 before the frame's difference is added: 112 and 15 here, not 125 and 0.
+/// A segment's index is clamped to 0..127 before the frame's delta is added: the results are 112 and 15, not 125 and 0.
 #[test]
 fn indices_are_held(rt: HostRuntime) {
     equal(&rt, &first_factor(120, 20, -15), &122);
     equal(&rt, &first_factor(5, -20, 15), &17);
 }
 
-/// The zigzag of chapter 13: positions 2 and 3 stand at places 4 and 8.
+/// The zigzag order of RFC 6386, chapter 13: positions 2 and 3 are places 4 and 8.
 #[test]
 fn levels_at_their_places(rt: HostRuntime) -> Result<(), Fail> {
     let mut levels = [0i16; 16];
@@ -101,7 +100,7 @@ fn kernel_examples(rt: HostRuntime) {
     equal(&rt, &quantise(1 << 40, 4), &2047);
 }
 
-/// The same numbers as the plain way, in 16 bits: as far as 2200, and no further.
+/// Products in 16 bits equal those in 64 bits up to 2200, and are refused beyond.
 #[test]
 fn short_coefficients(rt: HostRuntime) {
     let mut levels = [0i16; 16];

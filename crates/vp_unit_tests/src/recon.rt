@@ -1,4 +1,4 @@
-//! vp_recon by itself: intra macroblocks rebuilt.
+//! Tests of vp_recon: intra macroblocks.
 
 ghost use Rattle.std.specs.Prelude.{◌≡◌, ◌≤◌, ◌≤ℤ◌, pos, negsuc};
 
@@ -33,7 +33,7 @@ fn modes(luma: LumaMode) -> Modes {
     }
 }
 
-/// Whether luma is 128 in rows 0 to 3 and 129 below, of 16 columns and 32 rows, and chroma 128.
+/// Returns whether luma is 128 in rows 0 to 3 and 129 below, of 16 columns and 32 rows, and chroma is 128.
 fn is_empty_picture(bytes: &[u8]) -> bool {
     for (i, byte) in bytes.iter().enumerate() {
         let wanted = if i >= 64 && i < 512 { 129 } else { 128 };
@@ -44,7 +44,7 @@ fn is_empty_picture(bytes: &[u8]) -> bool {
     bytes.len() == 768
 }
 
-/// Whether two macroblocks without residue, each predicted by subblocks, make the empty picture.
+/// Returns whether two B_PRED macroblocks without residue give the empty picture.
 fn rebuilds_empty(alloc: Global, picture: &mut Picture) -> bool
     requires width { picture.old.width ≡ 16 }
     requires height { picture.old.height ≡ 32 }
@@ -74,7 +74,7 @@ fn two_macroblock_rows(rt: HostRuntime) {
     assert!(rt; rebuilds_empty(rt.alloc(), &mut picture));
 }
 
-/// Whether the plane has these four rows of four pixels, the first one at column `at` of row `at`.
+/// Returns whether the plane has this 4 by 4 block at column and row `at`.
 fn has_block(plane: &Plane, at: usize, wanted: &[[u8; 4]; 4]) -> bool
     requires { at ≤ 4 }
 {
@@ -133,13 +133,14 @@ fn one_subblock(rt: HostRuntime) {
     assert!(rt; has_block(picture.plane(0), 0, &FIRST_OF_ONES));
 }
 
-/// Two levels, the first of which is multiplied to more than 16 bits hold.
+/// Two levels; the product of the first one exceeds 16 bits.
 const GREAT: Block = Block {
     levels: [300, 1, 0, 0, 0, 0, 0, 0, 0, 0, 0, 0, 0, 0, 0, 0],
     tokens: 2,
 };
 
-/// 300 times 157 is 47,100, an eighth of which takes each pixel past 255; 16 bits would wrap it to less than nothing.
+/// 300 times 157 is 47,100, an eighth of which exceeds 255 for each pixel. In 16 bits it would wrap to a negative
+/// number.
 #[test]
 fn great_products_do_not_wrap(rt: HostRuntime) {
     let Ok(dim) = Dim::new(16, 16, &Limits::usual()) else {
@@ -181,7 +182,7 @@ const MIXED: [[u8; 4]; 4] = [
     [139, 136, 132, 130],
 ];
 
-/// Whether the plane is of one macroblock, with these pixels in its corners.
+/// Returns whether the plane has one macroblock, with these pixels in its corners.
 fn has_corners(plane: &Plane, first: u8, last: u8) -> bool {
     plane.width() == 16
         && plane.height() == 16
@@ -211,13 +212,13 @@ const OTHER: Block = Block {
     tokens: 6,
 };
 
-/// Its coefficients are too large for two subblocks at once.
+/// Its coefficients are too large for the path for pairs of subblocks.
 const LARGE: Block = Block {
     levels: [0, 600, 0, 0, 0, 0, 0, 0, 0, 0, 0, 0, 0, 0, 0, 0],
     tokens: 2,
 };
 
-/// A block whose first level alone is not 0.
+/// Returns a block with only a DC level.
 fn first_alone(level: i16) -> Block
     requires low { negsuc 99 ≤ℤ level }
     requires high { level ≤ℤ pos 100 }
@@ -227,7 +228,7 @@ fn first_alone(level: i16) -> Block
     Block { levels, tokens: 1 }
 }
 
-/// Subblocks side by side: both with more than a first coefficient, with that alone, one of each, and one too large.
+/// Pairs of adjacent subblocks: both with AC levels, both with DC only, one of each, and one too large.
 fn tokens_of_pairs() -> Tokens {
     let mut blocks = [Block::NONE; 25];
     blocks[1] = SIXTH;
@@ -241,7 +242,7 @@ fn tokens_of_pairs() -> Tokens {
     Tokens { blocks }
 }
 
-/// Whether the plane has these four rows of eight pixels from column `x` of its first row on.
+/// Returns whether the plane has these four rows of eight pixels from column `x` of its first row on.
 fn has_pair(plane: &Plane, x: usize, wanted: &[[u8; 8]; 4]) -> bool
     requires { x ≤ 8 }
 {
@@ -256,9 +257,8 @@ fn has_pair(plane: &Plane, x: usize, wanted: &[[u8; 8]; 4]) -> bool
     true
 }
 
-/// The sums were worked out from RFC 6386's formulas (chapter 14) by a script apart from this program: the
-/// prediction is
-/// 128 everywhere.
+/// The expected sums come from the formulas of RFC 6386, chapter 14, computed by an independent script. The prediction
+/// is 128 everywhere.
 #[test]
 fn subblocks_side_by_side(rt: HostRuntime) {
     let Ok(dim) = Dim::new(16, 16, &Limits::usual()) else {

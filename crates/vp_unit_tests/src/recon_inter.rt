@@ -1,4 +1,4 @@
-//! vp_recon by itself: inter macroblocks rebuilt.
+//! Tests of vp_recon: inter macroblocks.
 
 ghost use Rattle.std.specs.Prelude.{◌≡◌, ◌<◌};
 
@@ -16,7 +16,7 @@ const RIGHT: Vector = Vector { row: 0, column: 4 };
 
 const STILL: Vector = Vector { row: 0, column: 0 };
 
-/// Whether the 384 pixels are 200 from one place to another, and else 7.
+/// Returns whether the 384 pixels are 200 from one position to another, and 7 elsewhere.
 fn is_lit(bytes: &[u8], from: usize, to: usize) -> bool {
     for (i, byte) in bytes.iter().enumerate() {
         let wanted = if i >= from && i < to { 200 } else { 7 };
@@ -27,7 +27,7 @@ fn is_lit(bytes: &[u8], from: usize, to: usize) -> bool {
     bytes.len() == 384
 }
 
-/// A picture of 16 by 16 pixels that all are 7 but one of luma, which is 200.
+/// Returns a picture of 16 by 16 pixels, all 7 except for one luma pixel, which is 200.
 fn lit_at(alloc: Global, dim: Dim, x: usize, y: usize) -> Option<Picture>
     requires width { dim.w ≡ 16 }
     requires height { dim.h ≡ 16 }
@@ -43,7 +43,7 @@ fn lit_at(alloc: Global, dim: Dim, x: usize, y: usize) -> Option<Picture>
     Some(picture)
 }
 
-/// Whether a picture is lit from one place to another.
+/// Returns whether a picture's pixels are 200 from one position to another.
 fn shows(alloc: Global, picture: &Picture, from: usize, to: usize) -> bool {
     match picture.crop_i420(alloc) {
         Ok(bytes) => is_lit(&bytes, from, to),
@@ -51,7 +51,8 @@ fn shows(alloc: Global, picture: &Picture, from: usize, to: usize) -> bool {
     }
 }
 
-/// Whether the macroblock that is moved so, without residue, is lit from one place to another, by either call.
+/// Returns whether the macroblock predicted with this motion, without residue, has 200 from one position to another, by
+/// either function.
 fn moves_to(
     alloc: Global,
     dim: Dim,

@@ -1,4 +1,4 @@
-//! vp_refs by itself: which picture stands where, frame by frame.
+//! Tests of vp_refs: the reference frames, frame by frame.
 
 use crate::check::equal;
 use std::alloc::{AllocError, Global};
@@ -16,14 +16,14 @@ const INTER: Tag = Tag {
     key: None,
 };
 
-// An inter frame's header that asks for these updates.
+// Returns an inter frame's header with these updates.
 fn asking_for(updates: ReferenceUpdates) -> Header {
     let (mut header, _) = Header::read(&Saved::defaults(), &INTER, &mut BoolDecoder::new(&[]));
     header.updates = updates;
     header
 }
 
-// The first pixel of luma.
+// Returns the first luma pixel.
 fn corner(picture: &Picture) -> Option<u8> {
     let plane = picture.plane(0);
     if plane.width() == 0 || plane.height() == 0 {
@@ -32,7 +32,7 @@ fn corner(picture: &Picture) -> Option<u8> {
     Some(plane.get(0, 0))
 }
 
-// A picture of one value.
+// Returns a picture with one value for all pixels.
 fn flat(alloc: Global, dim: Dim, value: u8) -> Result<Rc<Picture>, AllocError> {
     Ok(Rc::new(alloc, Picture::new(alloc, dim, value)?)?)
 }
@@ -45,7 +45,7 @@ const NOTHING: ReferenceUpdates = ReferenceUpdates {
     refresh_last: false,
 };
 
-// The first pixels of last, golden, altref and the newest picture.
+// Returns the first pixels of last, golden, altref and the newest picture.
 fn corners(refs: &Refs) -> [Option<u8>; 4] {
     [
         corner(refs.get(Reference::Last)),
@@ -55,7 +55,7 @@ fn corners(refs: &Refs) -> [Option<u8>; 4] {
     ]
 }
 
-// Behind a frame that asks for these updates, whose picture is of one value.
+// Updates the references by a frame with these updates, whose picture has one value.
 fn update(
     alloc: Global,
     refs: &mut Refs,
@@ -67,7 +67,8 @@ fn update(
     refs.update(&asking_for(updates), picture)
 }
 
-// Behind a key frame of 1, and one frame for each of these updates, whose pictures are of 2, 3 and so on.
+// Returns the references after a key frame of 1, and one frame for each of these updates, with pictures of 2, 3 and so
+// on.
 fn refs_behind(alloc: Global, dim: Dim, updates: &[ReferenceUpdates]) -> Result<Refs, AllocError> {
     let mut refs = Refs::of_key(flat(alloc, dim, 1)?)?;
     let mut value = 1u8;
@@ -78,7 +79,7 @@ fn refs_behind(alloc: Global, dim: Dim, updates: &[ReferenceUpdates]) -> Result<
     Ok(refs)
 }
 
-// As libvpx does: altref takes the last picture, and then golden takes altref's.
+// As in libvpx: altref is copied from last, and then golden from the new altref.
 #[test]
 fn altref_is_copied_before_golden(rt: HostRuntime) -> Result<(), Fail> {
     let dim = Dim::new(16, 16, &Limits::usual()).ok().ok_or("a size")?;
@@ -95,7 +96,7 @@ fn altref_is_copied_before_golden(rt: HostRuntime) -> Result<(), Fail> {
     let before = refs.share()?;
     update(rt.alloc(), &mut refs, dim, copies, 3)?;
     equal(&rt, &corners(&refs), &[Some(2), Some(2), Some(2), Some(3)]);
-    // The first picture is held by nothing else now.
+    // Nothing else refers to the first picture now.
     equal(
         &rt,
         &corners(&before),
@@ -106,7 +107,7 @@ fn altref_is_copied_before_golden(rt: HostRuntime) -> Result<(), Fail> {
     Ok(())
 }
 
-// Copy number 3 copies nothing.
+// Copy flag 3 copies nothing.
 #[test]
 fn unused_number_copies_nothing(rt: HostRuntime) -> Result<(), Fail> {
     let dim = Dim::new(16, 16, &Limits::usual()).ok().ok_or("a size")?;

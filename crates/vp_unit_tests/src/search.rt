@@ -1,4 +1,4 @@
-//! vp_search by itself: where blocks are found, and ties.
+//! Tests of vp_search: where blocks are found, and how ties are broken.
 
 ghost use Rattle.std.specs.Prelude.{◌≡◌, ◌<◌, length};
 ghost use Rattle.vp_search.specs.Vectors.{IsNear};
@@ -11,7 +11,7 @@ use vp_search::{
     Found, QuarterVector, Refined, WholeVector, first_least, full_search, refine, sad16, sse,
 };
 
-/// A number for each column and row, without a pattern that comes again nearby.
+/// Returns a pseudo-random number for each column and row.
 fn noise(x: usize, y: usize) -> u8 {
     let a = (x % 256) as u8;
     let b = (y % 256) as u8;
@@ -19,14 +19,15 @@ fn noise(x: usize, y: usize) -> u8 {
     c.wrapping_mul(c ^ b.wrapping_mul(113))
 }
 
-/// A number for each column and row, near those beside it: slopes that turn every few pixels.
+/// Returns a number for each column and row that differs little between neighbours: slopes that change direction every
+/// few pixels.
 fn slope(x: usize, y: usize) -> u8 {
     let a = (x % 24) as u8;
     let b = (y % 20) as u8;
     a.abs_diff(12) * 10 + b.abs_diff(10) * 12
 }
 
-/// The nearest to `at + by` of 0 to 47.
+/// Returns `at + by`, clamped to 0..47.
 fn cached(at: usize, by: i32) -> usize
     requires { at < 48 }
 {
@@ -36,7 +37,7 @@ fn cached(at: usize, by: i32) -> usize
     ((at as i64 + i64::from(by)) as usize).min(47)
 }
 
-/// Fills a plane of 48 by 48 with what stands so far down and to the right in a plane of noise.
+/// Fills a plane of 48 by 48 with noise, shifted down and to the right.
 fn fill(plane: &mut Plane, down: i32, right: i32) {
     for y in 0..48 {
         for x in 0..48 {
@@ -57,7 +58,7 @@ fn fill_slope(plane: &mut Plane) {
     }
 }
 
-/// Fills a plane of 48 by 48 with noise that is the same along lines: `slant` rows down and a column to the left.
+/// Fills a plane of 48 by 48 with noise that is constant along lines: `slant` rows down for each column to the left.
 fn fill_lines(plane: &mut Plane, slant: usize, later: usize) {
     for y in 0..48 {
         for x in 0..48 {
@@ -76,7 +77,7 @@ fn found(row: i32, column: i32, cost: u32) -> Found {
     }
 }
 
-/// What is found for a macroblock of planes of 48 by 48; none elsewhere.
+/// Searches for a macroblock in planes of 48 by 48; None outside them.
 fn search(
     source: &Plane,
     reference: &Plane,
@@ -93,13 +94,13 @@ fn search(
     }
 }
 
-/// Whether the macroblock at a place is found that was moved from so far down and to the right.
+/// Returns whether the macroblock at a place is found at the distance it was shifted by.
 fn is_found(source: &mut Plane, reference: &Plane, at: [usize; 2], down: i32, right: i32) -> bool {
     fill(source, down, right);
     search(source, reference, at[0], at[1], 16) == Some(found(down, right, 0))
 }
 
-/// Where the middle macroblock comes from, of a source that is `later` rows up in a plane of lines.
+/// Searches for the middle macroblock of a source that is shifted `later` rows up in a plane of lines.
 fn along_lines(
     source: &mut Plane,
     reference: &mut Plane,
@@ -111,7 +112,7 @@ fn along_lines(
     search(source, reference, 1, 1, 4)
 }
 
-/// What `refine` gives for the middle macroblock of a plane, out of `reference`.
+/// Refines the vector of the middle macroblock of a plane in `reference`.
 fn refined(source: &Plane, reference: &Plane, row: i32, column: i32) -> Option<Refined>
     requires { IsNear 100 (record { row = row; column = column }) }
 {
@@ -125,7 +126,7 @@ fn refined(source: &Plane, reference: &Plane, row: i32, column: i32) -> Option<R
     }
 }
 
-/// Makes the middle macroblock what a vector in quarter pixels predicts.
+/// Replaces the middle macroblock by its prediction with a vector in quarter pixels.
 fn predict_middle(source: &mut Plane, reference: &Plane, row: i32, column: i32)
     requires { IsNear 100 (record { row = row; column = column }) }
 {
@@ -136,7 +137,7 @@ fn predict_middle(source: &mut Plane, reference: &Plane, row: i32, column: i32)
     }
 }
 
-/// The plain sum of absolute differences.
+/// The sum of absolute differences, computed directly.
 fn plain_differences(a: &[u8; 256], b: &[u8; 256]) -> u32 {
     let mut sum = 0u32;
     for i in 0..256 {
@@ -145,7 +146,7 @@ fn plain_differences(a: &[u8; 256], b: &[u8; 256]) -> u32 {
     sum
 }
 
-/// The plain sum of squared differences.
+/// The sum of squared differences, computed directly.
 fn plain_squares(a: &[u8], b: &[u8]) -> u64
     requires { length a.now ≡ length b.now }
 {
@@ -165,7 +166,7 @@ fn noise_block(row: usize) -> [u8; 256] {
     block
 }
 
-/// The first length up to 67 at which the sum of squares is another than the plain one.
+/// Returns the first length up to 67 at which the sum of squares differs from the direct one.
 fn first_wrong_length(a: &[u8; 256], b: &[u8; 256]) -> Option<usize> {
     for n in 0..68 {
         if sse(&a[..n], &b[..n]) != plain_squares(&a[..n], &b[..n]) {
@@ -212,7 +213,7 @@ fn moved_blocks_are_found(rt: HostRuntime) -> Result<(), Fail> {
     Ok(())
 }
 
-/// Far down and to the left of the plane all pixels are the one at its corner: the shortest way there is taken.
+/// Far below and to the left of the plane all pixels equal its corner: the shortest such vector is chosen.
 #[test]
 fn far_outside_the_shortest_is_taken(rt: HostRuntime) -> Result<(), Fail> {
     let mut reference = Plane::new(rt.alloc(), 48, 48, 0)?;
@@ -227,8 +228,9 @@ fn far_outside_the_shortest_is_taken(rt: HostRuntime) -> Result<(), Fail> {
     Ok(())
 }
 
-/// Along lines many vectors find the same pixels. A column to the right, or a row down: the least row. Three columns to
-/// the right, or two and two rows down: the shortest, both directions added. Every second column: the least one.
+/// Along lines many vectors find equal pixels. A column to the right, or a row down: the least row is chosen. Three
+/// columns to the right, or two and two rows down: the shortest, with both directions added. Every second column: the
+/// least one.
 #[test]
 fn of_equal_vectors_by_length_row_and_column(rt: HostRuntime) -> Result<(), Fail> {
     let mut reference = Plane::new(rt.alloc(), 48, 48, 0)?;
@@ -251,7 +253,8 @@ fn of_equal_vectors_by_length_row_and_column(rt: HostRuntime) -> Result<(), Fail
     Ok(())
 }
 
-/// Half a pixel to the right is half a pixel down along lines that go as far down as to the left: the first by rows.
+/// Along lines that go as far down as to the left, half a pixel to the right equals half a pixel down: the first by
+/// rows is chosen.
 #[test]
 fn of_equal_neighbours_by_rows(rt: HostRuntime) -> Result<(), Fail> {
     let mut reference = Plane::new(rt.alloc(), 48, 48, 0)?;

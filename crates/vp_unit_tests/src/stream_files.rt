@@ -1,4 +1,4 @@
-//! Whole files: `decode_all` and `survey`.
+//! Tests of whole files: `decode_all` and `survey`.
 
 use crate::check::equal;
 use crate::files::{HIDDEN, INTER, KEY, file, file_and, runs, y4m};
@@ -11,7 +11,7 @@ use vp_head::PacketFault;
 use vp_ivf::{FileFault, IvfHead};
 use vp_stream::{Answer, DecodeFault, Form, Report, Stream, SurveyFault, decode_all, survey};
 
-// An empty key frame of 17 columns and one row.
+// An empty key frame of 17 by 1 pixels.
 const WIDE: [u8; 10] = [0x10, 0, 0, 0x9d, 0x01, 0x2a, 0x11, 0, 0x01, 0];
 
 fn decoded(
@@ -25,8 +25,8 @@ fn decoded(
     decode_all(alloc, &mut reader, &mut writer, form, Limits::usual())
 }
 
-// The numbers of packets, of shown and of hidden ones, of a file whose other packets must have these faults; and how
-// many bytes are written.
+// Returns the numbers of packets, of shown and of hidden ones, and the number of bytes written. The faulty packets must
+// be these.
 fn reported(
     alloc: Global,
     file: &[u8],
@@ -42,14 +42,14 @@ fn reported(
     Ok((numbers, written.len()))
 }
 
-// The fault that ends the decoding of a file, and how many bytes are written.
+// Returns the fault that ends decoding a file, and the number of bytes written.
 fn ended(alloc: Global, file: &[u8], form: Form) -> (Option<DecodeFault>, usize) {
     let mut written = Vec::new(alloc);
     let fault = decoded(alloc, file, form, &mut written).err();
     (fault, written.len())
 }
 
-// Whether decoding a file ends with this fault, if with any, and writes just these bytes.
+// Returns whether decoding a file ends with this fault, if any, and writes exactly these bytes.
 fn writes(
     alloc: Global,
     file: &[u8],
@@ -126,7 +126,7 @@ fn no_picture_no_bytes(rt: HostRuntime) -> Result<(), Fail> {
     Ok(())
 }
 
-// As `ended`, of a file's first bytes.
+// Decodes a prefix of a file, as `ended` does.
 fn front_ended(
     alloc: Global,
     whole: &[u8],
@@ -162,8 +162,8 @@ fn size_change_before_file_fault(rt: HostRuntime) -> Result<(), Fail> {
     Ok(())
 }
 
-// Two pictures, read in two pieces, by a reader and a writer that fail from some call on: how many packets are
-// reported, 0 where none are, and how many bytes are written.
+// Decodes two pictures, read in two pieces, with a reader and a writer that fail from some call on. Returns the number
+// of packets in the report, or 0 without one, and the number of bytes written.
 fn failing(alloc: Global, form: Form, reads: u64, writes: u64) -> Result<(u32, usize), Fail> {
     let bytes = file(alloc, &[&KEY, &KEY])?;
     let (first, second) = bytes.as_slice().split_at_checked(60).ok_or("two pieces")?;
@@ -203,7 +203,7 @@ fn a_read_or_a_write_fails(rt: HostRuntime) -> Result<(), Fail> {
     Ok(())
 }
 
-// A file's head and fault, whose packets must be those of `survey_of_three_packets`.
+// Returns a file's head and fault. Its packets must be those of `survey_of_three_packets`.
 fn surveyed(alloc: Global, file: &[u8]) -> Result<(Option<IvfHead>, Option<FileFault>), Fail> {
     let mut reader = Counted::new(file);
     let found = survey(alloc, &mut reader, Limits::usual())?;

@@ -1,4 +1,4 @@
-//! vp_tokens by itself: partitions cut, tokens read and written, contexts.
+//! Tests of vp_tokens: partitions, tokens read and written, and contexts.
 
 ghost use Rattle.std.specs.Prelude.{◌≡◌, ◌<◌, ◌≤◌, length};
 ghost use Rattle.vp_tokens.specs.Spelled.{AreSpelled};
@@ -39,7 +39,7 @@ fn packet_faults(rt: HostRuntime) {
     );
 }
 
-/// The first macroblock's tokens in a partition of ones.
+/// Reads the first macroblock's tokens from a partition of ones.
 fn tokens_of_ones(contexts: &mut Contexts, has_y2: bool, skipped: bool) -> Tokens
     requires { 0 < length contexts.old.above }
     ensures { length contexts.new.above ≡ length contexts.old.above }
@@ -63,7 +63,7 @@ const ONES: Block = Block {
     tokens: 16,
 };
 
-/// Whether each block is one of ones.
+/// Returns whether each block is the one that bools of 1 give.
 fn are_ones(blocks: &[Block]) -> bool {
     for block in blocks {
         if *block != ONES {
@@ -94,7 +94,7 @@ fn skipped_has_no_tokens(rt: HostRuntime) {
     assert!(rt; tokens == Tokens::NONE);
 }
 
-/// The bytes of a macroblock of empty blocks, not skipped: they tell which of the blocks above had tokens.
+/// Writes a macroblock of empty blocks that isn't skipped. Its bytes depend on which blocks above have tokens.
 fn bytes_below(contexts: &mut Contexts, alloc: Global) -> Result<Vec<u8>, AllocError>
     requires { 0 < length contexts.old.above }
 {
@@ -112,7 +112,7 @@ fn bytes_below(contexts: &mut Contexts, alloc: Global) -> Result<Vec<u8>, AllocE
     e.finish()
 }
 
-/// The bytes of a macroblock below one whose Y2 block alone has tokens.
+/// Writes such a macroblock below one whose Y2 block alone has tokens.
 fn bytes_below_y2(contexts: &mut Contexts, alloc: Global) -> Result<Vec<u8>, AllocError>
     requires { 0 < length contexts.old.above }
 {
@@ -132,9 +132,8 @@ fn bytes_below_y2(contexts: &mut Contexts, alloc: Global) -> Result<Vec<u8>, All
     bytes_below(contexts, alloc)
 }
 
-// The standard's rule by hand: a skipped macroblock leaves that its blocks have no tokens, but where it has no Y2
-// block,
-// what stood of the one above it, or to its left, stays.
+// The RFC's rule, worked by hand: after a skipped macroblock its blocks count as empty. If it has no Y2 block, the Y2
+// context of the macroblock above it, or to its left, is unchanged.
 #[test]
 fn skipped_leaves_y2(rt: HostRuntime) -> Result<(), Fail> {
     let alloc = rt.alloc();
@@ -153,12 +152,11 @@ fn skipped_leaves_y2(rt: HostRuntime) -> Result<(), Fail> {
     Ok(())
 }
 
-// The token partition of the first row of macroblocks, three, of a stream of another program's; a third program read
-// what
-// is expected. The stream changes probabilities, but none that this row is read with.
+// The token partition of a row of three macroblocks from another encoder's stream; a third program read the expected
+// values. The probabilities that the stream changes are not used in this row.
 const ROW: [u8; 12] = [183, 180, 245, 129, 148, 100, 0, 0, 108, 1, 80, 0];
 
-/// Whether a block begins with these levels, and has so many tokens.
+/// Returns whether a block begins with these levels, and has this many tokens.
 fn begins(block: &Block, levels: &[i16], tokens: u8) -> bool
     requires { length levels.now ≤ 16 }
 {
@@ -186,7 +184,7 @@ fn is_third(blocks: &[Block; 25]) -> bool {
     blocks[0] == Block::NONE && level(&blocks[14], 10) == 1 && begins(&blocks[14], &[], 11)
 }
 
-/// The tokens of the row's macroblock in a column; it isn't skipped.
+/// Reads the tokens of a macroblock of the row; it isn't skipped.
 fn next_of_row(contexts: &mut Contexts, column: usize, has_y2: bool, d: &mut BoolDecoder) -> Tokens
     requires { column < length contexts.old.above }
     ensures columns { length contexts.new.above ≡ length contexts.old.above }
@@ -220,7 +218,7 @@ fn row_of_a_stream(rt: HostRuntime) {
     assert!(rt; is_third(&third.blocks));
 }
 
-/// Reads the row's macroblock in a column, and writes it again.
+/// Reads a macroblock of the row, and writes it again.
 fn copy_next(
     read: &mut Contexts,
     written: &mut Contexts,
@@ -247,7 +245,7 @@ fn copy_next(
     )
 }
 
-// What is read of the stream's row is written as the other program wrote it.
+// The row is written exactly as the other encoder wrote it.
 #[test]
 fn writes_row_of_a_stream(rt: HostRuntime) -> Result<(), Fail> {
     let mut read = Contexts::new(rt.alloc(), 3)?;

@@ -1,4 +1,4 @@
-//! vp_transform by itself: worked blocks, and the formulas of RFC 6386 (chapter 14) in plain code.
+//! Tests of vp_transform: worked blocks, and direct code for the formulas of RFC 6386, chapter 14.
 
 ghost use Rattle.std.specs.Prelude.{ℕ, ◌*◌, ◌^◌, ◌≤◌, unsigned_abs};
 ghost use Rattle.vp_transform.specs.Fits.{EachWithin, IdctFits, IwhtFits};
@@ -9,7 +9,7 @@ use vp_transform::{
     cut, fdct, fwht, idct, idct_cut, idct_of_first, idct_pair, idct_short, iwht, iwht_of_first,
 };
 
-/// The second block's numbers are those that RFC 6386's own program gives (chapters 14.3, 14.4).
+/// The expected numbers of the second block are those of RFC 6386's own program (chapters 14.3 and 14.4).
 #[test]
 fn kernel_examples(rt: HostRuntime) -> Result<(), Fail> {
     let mut first = [0; 16];
@@ -38,7 +38,7 @@ fn kernel_examples(rt: HostRuntime) -> Result<(), Fail> {
     Ok(())
 }
 
-/// The same block in i16.
+/// The inverse transform of that block in 16 bits.
 #[test]
 fn short_example(rt: HostRuntime) {
     let block = [
@@ -53,7 +53,7 @@ fn short_example(rt: HostRuntime) {
     );
 }
 
-/// The same block and that of the first example, side by side, in either order.
+/// The inverse transform of that block and the first one as a pair, in either order.
 #[test]
 fn pair_example(rt: HostRuntime) {
     let block = [
@@ -73,9 +73,8 @@ fn pair_example(rt: HostRuntime) {
     equal(&rt, &bottom.to_array(), &[1, 1, 1, 1, -18, 5, 174, -551]);
 }
 
-/// Two blocks whose numbers are as far from 0 as they may be, and one of numbers that look like chance: what the
-/// formulas
-/// of RFC 6386 (chapter 14.4) give was worked out by a script apart from this program.
+/// Two blocks of extreme numbers, and one of pseudo-random numbers. The expected results come from the formulas of RFC
+/// 6386, chapter 14.4, computed by an independent script.
 #[test]
 fn scattered_pairs(rt: HostRuntime) {
     let far = [
@@ -130,7 +129,7 @@ fn scattered_pairs(rt: HostRuntime) {
     );
 }
 
-/// The second block's numbers were worked out from the formulas by a script apart from this program.
+/// The expected numbers of the second block come from the formulas, computed by an independent script.
 #[test]
 fn forward_examples(rt: HostRuntime) {
     let mut even = [0; 16];
@@ -157,17 +156,17 @@ fn forward_examples(rt: HostRuntime) {
     );
 }
 
-/// A number times sqrt(2) sin(pi / 8), as RFC 6386 (chapter 14.4) gives it.
+/// Multiplies by sqrt(2) sin(pi / 8), in the integer form of RFC 6386, chapter 14.4.
 fn sine(x: i64) -> i64 {
     x.wrapping_mul(35468) >> 16
 }
 
-/// A number times sqrt(2) cos(pi / 8).
+/// Multiplies by sqrt(2) cos(pi / 8), in the integer form of RFC 6386, chapter 14.4.
 fn cosine(x: i64) -> i64 {
     x.wrapping_add(x.wrapping_mul(20091) >> 16)
 }
 
-/// One line of the inverse cosine transform.
+/// One line of the inverse DCT.
 fn cosine_line([a, b, c, d]: [i64; 4]) -> [i64; 4] {
     let [even, odd] = [a.wrapping_add(c), a.wrapping_sub(c)];
     let inner = sine(b).wrapping_sub(cosine(d));
@@ -180,7 +179,7 @@ fn cosine_line([a, b, c, d]: [i64; 4]) -> [i64; 4] {
     ]
 }
 
-/// One line of the inverse Walsh-Hadamard transform (chapter 14.3).
+/// One line of the inverse Walsh-Hadamard transform (RFC 6386, chapter 14.3).
 fn hadamard_line([a, b, c, d]: [i64; 4]) -> [i64; 4] {
     let [outer, inner] = [a.wrapping_add(d), b.wrapping_add(c)];
     let [apart, beside] = [a.wrapping_sub(d), b.wrapping_sub(c)];
@@ -192,7 +191,7 @@ fn hadamard_line([a, b, c, d]: [i64; 4]) -> [i64; 4] {
     ]
 }
 
-/// Four numbers, each `apart` behind the one before it.
+/// Returns four numbers of a block; `apart` is the distance from one to the next.
 fn line_of(block: &[i64; 16], first: usize, apart: usize) -> [i64; 4] {
     let mut four = [0; 4];
     for k in 0..4 {
@@ -201,7 +200,7 @@ fn line_of(block: &[i64; 16], first: usize, apart: usize) -> [i64; 4] {
     four
 }
 
-/// A block with four such numbers in place of those it has.
+/// Returns the block with those four numbers replaced.
 fn with_line(block: &[i64; 16], first: usize, apart: usize, four: [i64; 4]) -> [i64; 16] {
     let mut block = *block;
     for k in 0..4 {
@@ -210,7 +209,7 @@ fn with_line(block: &[i64; 16], first: usize, apart: usize, four: [i64; 4]) -> [
     block
 }
 
-/// The eighths of numbers to which `half` is added.
+/// Adds `half` to each number, and divides by 8.
 fn eighths(block: &[i64; 16], half: i64) -> [i64; 16] {
     let mut rounded = [0; 16];
     for i in 0..16 {
@@ -219,7 +218,7 @@ fn eighths(block: &[i64; 16], half: i64) -> [i64; 16] {
     rounded
 }
 
-/// The inverse cosine transform as the standard's program has it: columns, then rows.
+/// The inverse DCT as in the RFC's program: columns, then rows.
 fn plain_idct(block: &[i64; 16]) -> [i64; 16] {
     let mut block = *block;
     for (first, apart) in LINES {
@@ -229,7 +228,7 @@ fn plain_idct(block: &[i64; 16]) -> [i64; 16] {
     eighths(&block, 4)
 }
 
-/// The inverse Walsh-Hadamard transform as the standard's program has it.
+/// The inverse Walsh-Hadamard transform as in the RFC's program.
 fn plain_iwht(block: &[i64; 16]) -> [i64; 16] {
     let mut block = *block;
     for (first, apart) in LINES {
@@ -239,7 +238,7 @@ fn plain_iwht(block: &[i64; 16]) -> [i64; 16] {
     eighths(&block, 3)
 }
 
-/// The first of each line and how far its numbers are apart: four columns, then four rows.
+/// The start of each line, and the distance between its numbers: four columns, then four rows.
 const LINES: [(usize, usize); 8] = [
     (0, 4),
     (1, 4),
@@ -251,7 +250,7 @@ const LINES: [(usize, usize); 8] = [
     (12, 1),
 ];
 
-/// Whether the numbers of a block are those of another, cut.
+/// Returns whether the numbers of a block are those of another, clamped to 16 bits.
 fn are_cut(block: &[i16; 16], other: &[i64; 16]) -> bool {
     for i in 0..16 {
         if block[i] != cut(other[i]) {
@@ -261,14 +260,15 @@ fn are_cut(block: &[i16; 16], other: &[i64; 16]) -> bool {
     true
 }
 
-/// Whether `idct` gives what the plain formula does.
+/// Returns whether `idct` equals the direct formula.
 fn is_as_plain(block: &[i64; 16]) -> bool
     requires { IdctFits block.now }
 {
     idct(block) == plain_idct(block)
 }
 
-/// Numbers at the bounds of the lanes and one beyond, in the first place and in the last, and the largest of a stream.
+/// Numbers at the bounds of 16-bit arithmetic and one beyond, in the first and in the last place, and the largest of a
+/// stream.
 #[test]
 fn narrow_and_wide_blocks(rt: HostRuntime) {
     assert!(rt; is_as_plain(&[-2114 * 157; 16]));
@@ -284,14 +284,14 @@ fn narrow_and_wide_blocks(rt: HostRuntime) {
     assert!(rt; is_as_plain(&block));
 }
 
-/// Whether `idct_cut` gives what the plain formula does, cut.
+/// Returns whether `idct_cut` equals the direct formula, clamped to 16 bits.
 fn cut_is_as_plain(block: &[i64; 16]) -> bool
     requires { IdctFits block.now }
 {
     are_cut(&idct_cut(block), &plain_idct(block))
 }
 
-/// Numbers whose transform is cut, numbers at the bounds of the lanes, and one beyond.
+/// Numbers whose transform is clamped, numbers at the bounds of 16-bit arithmetic, and one beyond.
 #[test]
 fn cut_blocks(rt: HostRuntime) {
     equal(&rt, &cut(-32769), &-32768);
@@ -308,14 +308,14 @@ fn cut_blocks(rt: HostRuntime) {
     assert!(rt; cut_is_as_plain(&block));
 }
 
-/// Whether `iwht` gives what the plain formula does.
+/// Returns whether `iwht` equals the direct formula.
 fn hadamard_is_as_plain(block: &[i64; 16]) -> bool
     requires { IwhtFits block.now }
 {
     iwht(block) == plain_iwht(block)
 }
 
-/// The same of `iwht`, whose lanes take larger numbers.
+/// Numbers at the bounds of the arithmetic of `iwht` and one beyond.
 #[test]
 fn narrow_and_wide_hadamard_blocks(rt: HostRuntime) {
     assert!(rt; hadamard_is_as_plain(&[-2114 * 157; 16]));
@@ -331,14 +331,14 @@ fn narrow_and_wide_hadamard_blocks(rt: HostRuntime) {
     assert!(rt; hadamard_is_as_plain(&block));
 }
 
-/// A number that looks like chance.
+/// Returns a pseudo-random number.
 fn scattered(seed: u64) -> i64
     ensures { unsigned_abs result ≤ 2 ^ 14 }
 {
     (seed.wrapping_mul(6364136223846793005) >> 49) as i64 - 16384
 }
 
-/// Sixteen such numbers.
+/// Returns sixteen pseudo-random numbers.
 fn scattered_block(seed: u64) -> [i64; 16]
     ensures { EachWithin (2 ^ 14) result }
 {
@@ -349,7 +349,7 @@ fn scattered_block(seed: u64) -> [i64; 16]
     block
 }
 
-/// Both transforms against their plain formulas, of numbers that fit the lanes and of others.
+/// Both transforms equal their direct formulas, for numbers within the bounds of 16-bit arithmetic and beyond.
 #[test]
 fn scattered_blocks(rt: HostRuntime) {
     for seed in 1..50 {

@@ -1,4 +1,4 @@
-//! vp_tree by itself: paths, and leaves read and written.
+//! Tests of vp_tree: paths, and leaves read and written.
 
 use crate::check::equal;
 use std::test::Fail;
@@ -26,7 +26,7 @@ const SEASONS: [TreeEntry<Season>; 6] = [
 #[test]
 fn reads_leaves(rt: HostRuntime) {
     let even = [128; 3];
-    // The number 5 in three bits: the bools 1, 0, 1.
+    // The bools 1, 0, 1: the number 5 in three bits.
     let mut five = BoolDecoder::new(&[0x9f, 0xc0]);
     equal(&rt, &read_tree(&SEASONS, &even, &mut five), &Season::Autumn);
     let mut zeros = BoolDecoder::new(&[]);
@@ -46,7 +46,7 @@ fn reads_leaves(rt: HostRuntime) {
         &read_tree(&SEASONS, &[255, 0, 1], &mut ones),
         &Season::Winter,
     );
-    // A single 1.
+    // A single bool of 1.
     let mut one = BoolDecoder::new(&[0x80, 0]);
     equal(
         &rt,
@@ -85,7 +85,7 @@ fn writes_leaves(rt: HostRuntime) -> Result<(), Fail> {
     write_tree(&SEASONS, &even, Season::Autumn, &mut five)?;
     let five = five.finish()?;
     equal(&rt, &five.as_slice(), &[0x9f, 0xc0].as_slice());
-    // A single 1.
+    // A single bool of 1.
     let mut one = BoolEncoder::new(rt.alloc());
     write_tree_from(&SEASONS, &even, 4, Season::Autumn, &mut one)?;
     let one = one.finish()?;

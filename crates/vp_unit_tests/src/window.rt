@@ -1,4 +1,4 @@
-//! Rows of macroblocks are filtered one behind.
+//! Tests that rows of macroblocks are filtered one row after they are rebuilt.
 
 use crate::check::equal;
 use std::test::Fail;
@@ -6,14 +6,14 @@ use vp_base::{Limits, Picture};
 use vp_decode::{Decoder, Outcome};
 use vp_loop::{Level, RowFilter, filter_row};
 
-/// A filter that notes, when it is asked, for which row, and the first pixels of luma rows 31 and 47 then.
+/// A filter that records the row of each call, and the first pixels of luma rows 31 and 47 at that time.
 #[derive(Drop)]
 struct Noting {
     seen: [(usize, u8, u8); 4],
     asked: usize,
 }
 
-/// The first pixel of a row of luma; 1 where there is no such row.
+/// Returns the first pixel of a luma row, or 1 if there is no such row.
 fn first_pixel(picture: &Picture, row: usize) -> u8 {
     let plane = picture.plane(0);
     if row < plane.height() && 0 < plane.width() {

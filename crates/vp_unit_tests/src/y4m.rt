@@ -1,4 +1,4 @@
-//! vp_y4m by itself: files written and read back, their faults, and devices that fail.
+//! Tests of vp_y4m: files written and read back, their faults, and failing devices.
 
 use crate::check::equal;
 use std::alloc::Global;
@@ -7,7 +7,7 @@ use std::test::Fail;
 use vp_base::{Counted, Dim, FailAt, Limits, Picture};
 use vp_y4m::{PictureFault, Source, SourceFault, SourceHead, write_header, write_picture};
 
-// A picture of 16 by 16: the first four rows of luma are 128, the others 129, both planes of colour 128.
+// A picture of 16 by 16: the first four rows of luma are 128, the others 129, and both chroma planes 128.
 fn pixels() -> [u8; 384] {
     let mut bytes = [128u8; 384];
     for byte in &mut bytes[64..256] {
@@ -16,7 +16,7 @@ fn pixels() -> [u8; 384] {
     bytes
 }
 
-// What reading the line gives, at a reader that fails after k reads.
+// Returns the result of reading the header line, with a reader that fails after k reads.
 fn head_of(line: &[u8], k: u64) -> Result<SourceHead, SourceFault> {
     let mut reader = Counted::new(FailAt::new(line, k));
     SourceHead::read(&mut reader, Limits::usual())
@@ -32,7 +32,7 @@ fn header_text(rt: HostRuntime) -> Result<(), Fail> {
     Ok(())
 }
 
-// What becomes of a picture of 16 by 16 and of one of 16 by 15, in a file of 16 by 16.
+// Writes a picture of 16 by 16 and one of 16 by 15 to a file of 16 by 16, and returns both results.
 fn write_two<W: Write>(
     file: &mut Counted<W>,
 ) -> Option<(Result<(), PictureFault>, Result<(), PictureFault>)> {
@@ -51,7 +51,7 @@ fn picture_of_another_size(rt: HostRuntime) -> Result<(), Fail> {
     Ok(())
 }
 
-// Writes a header and a picture: whether the header is written, and what becomes of the picture.
+// Writes a header and a picture. Returns whether the header is written, and the result for the picture.
 fn write_file<W: Write>(file: &mut Counted<W>) -> Option<(bool, Result<(), PictureFault>)> {
     let dim = Dim::new(16, 16, &Limits::usual()).ok()?;
     let header = write_header(file, dim, 30, 1).is_ok();
@@ -65,7 +65,7 @@ fn holds(alloc: Global, picture: &Picture, wanted: &[u8]) -> bool {
     }
 }
 
-// Whether a picture of these bytes comes next.
+// Returns whether the next picture has these bytes.
 fn gives(alloc: Global, source: &mut Source<'_, &[u8]>, wanted: &[u8]) -> bool {
     match source.next_picture() {
         Ok(Some(picture)) => holds(alloc, &picture, wanted),
@@ -104,7 +104,7 @@ fn source_says_its_head(rt: HostRuntime) -> Result<(), Fail> {
     Ok(())
 }
 
-// Width, height, rate and scale that the line says.
+// Returns the width, height, rate and scale in the header line.
 fn said_of(line: &[u8], k: u64) -> Option<(u16, u16, u32, u32)> {
     match head_of(line, k) {
         Ok(head) => Some((head.dim.w, head.dim.h, head.rate, head.scale)),
@@ -159,7 +159,7 @@ fn header_faults(rt: HostRuntime) -> Result<(), Fail> {
 
 const SMALL: &[u8] = b"YUV4MPEG2 W1 H1\nFRAME\nabcFRAME x\ndefFRAME\ngh";
 
-// How many pictures come, to four, and the fault behind them.
+// Returns the number of pictures, up to four, and the fault after them.
 fn pictures_of(source: &mut Source<'_, FailAt<&[u8]>>) -> (u64, Option<SourceFault>) {
     for pictures in 0..4u64 {
         match source.next_picture() {
@@ -171,7 +171,7 @@ fn pictures_of(source: &mut Source<'_, FailAt<&[u8]>>) -> (u64, Option<SourceFau
     (4, None)
 }
 
-// How many pictures the small file gives, and its fault, at a reader that fails after k reads.
+// Returns the number of pictures in the small file, and its fault, with a reader that fails after k reads.
 fn read_all(alloc: Global, k: u64) -> (u64, Option<SourceFault>) {
     let mut reader = Counted::new(FailAt::new(SMALL, k));
     match SourceHead::read(&mut reader, Limits::usual()) {
@@ -207,7 +207,7 @@ fn fails_at_each_read(rt: HostRuntime) -> Result<(), Fail> {
     Ok(())
 }
 
-/// Sixteen bytes of line, six of the next line and three of pixels are read one by one, and then the end once.
+/// The header line's 16 bytes, the frame line's 6 and the 3 pixels are read one by one; one more read finds the end.
 #[test]
 fn reads_are_counted(rt: HostRuntime) -> Result<(), Fail> {
     let file = b"YUV4MPEG2 W1 H1\nFRAME\nabc".as_slice();
@@ -221,7 +221,7 @@ fn reads_are_counted(rt: HostRuntime) -> Result<(), Fail> {
     Ok(())
 }
 
-/// No read comes behind one that failed.
+/// After a failed read there are no more reads.
 #[test]
 fn a_failed_read_is_the_last(rt: HostRuntime) -> Result<(), Fail> {
     let mut reader = Counted::new(FailAt::new(SMALL, 3));
@@ -231,7 +231,7 @@ fn a_failed_read_is_the_last(rt: HostRuntime) -> Result<(), Fail> {
     Ok(())
 }
 
-// What becomes of header and picture, and the bytes written, at a writer that fails after k writes.
+// Returns the results for header and picture, and the number of bytes written, with a writer that fails after k writes.
 fn write_all(alloc: Global, k: u64) -> (Option<(bool, Result<(), PictureFault>)>, usize) {
     let mut file = Counted::new(FailAt::new(Vec::new(alloc), k));
     let told = write_file(&mut file);
@@ -247,7 +247,7 @@ fn fails_at_each_write(rt: HostRuntime) -> Result<(), Fail> {
     Ok(())
 }
 
-/// The rows of Y, of U and of V follow one another, those of colour as wide as half of three, rounded up.
+/// The rows of Y, U and V follow each other; those of chroma have half of three pixels, rounded up.
 #[test]
 fn planes_stand_in_order(rt: HostRuntime) -> Result<(), Fail> {
     let mut reader = Counted::new(b"YUV4MPEG2 W3 H1\nFRAME\nabcdefg".as_slice());
@@ -259,7 +259,7 @@ fn planes_stand_in_order(rt: HostRuntime) -> Result<(), Fail> {
     Ok(())
 }
 
-/// What the pictures behind a head of one pixel end with.
+/// Returns how the pictures of a file of one pixel end.
 fn end_of(alloc: Global, file: &[u8]) -> (u64, Option<SourceFault>) {
     let mut reader = Counted::new(FailAt::new(file, 2_000));
     match SourceHead::read(&mut reader, Limits::usual()) {
@@ -268,7 +268,7 @@ fn end_of(alloc: Global, file: &[u8]) -> (u64, Option<SourceFault>) {
     }
 }
 
-/// The first word of a line is whole, not only the beginning of one.
+/// The keyword of a line must be a whole word, not only a prefix of one.
 #[test]
 fn first_words_are_whole(rt: HostRuntime) -> Result<(), Fail> {
     let longer = b"YUV4MPEG22 W1 H1\nFRAME\nabc";
