@@ -23,7 +23,7 @@ use Rattle.core.proofs.alloc.Calls.{Al, handle_tells}
 use Rattle.core.proofs.cell.Inside.{Good}
 use Rattle.std_alloc.specs.Box.Ownership.{box_owns}
 use Rattle.std_alloc.proofs.ResultValues.{and_tt}
-use Rattle.vp8_c.specs.contracts.parts.RawBox as parts
+use Rattle.vp8_c.specs.contracts.raw_box.RawBox as parts
 use Rattle.vp8_c.specs.contracts.slot.Slot as slot
 use Rattle.vp8_c.specs.Slot.{MaybeHeld, slot_owns}
 
@@ -61,7 +61,7 @@ word p = vstruct (vcons (ptr_val p) vnil)
 
 module _ {M : Type 1} {𝓤 : Ura M} {𝓛 : Logic 𝓤} {K : Type 0} {Γ : List (Item 𝓤)} {G : Goal 𝓤 𝓛.H} where
   pub slot_out : K → (d : (slot.the_row).Denot) (vs : List Val)
-      → (vs ≡ word d.at ∷ [] → Seq K 𝓛 (‵ (slot_owns d.at d.cached) ∷ Γ) G)
+      → (vs ≡ word d.at ∷ [] → Seq K 𝓛 (‵ (slot_owns d.at d.held) ∷ Γ) G)
       → Seq K 𝓛 (‵ ((slot.the_row).own_val d vs) ∷ Γ) G
   slot_out t d vs k =
       fsplit t $ fpick t (λ vss. fsplit t $ feq_l t (λ ev. fsplit t $ feq_l t (λ ep. drop t $

@@ -5,7 +5,7 @@ use Rattle.std.specs.Box.Ownership.{box_owns}
 use Rattle.libc.specs.Heap.{chunk}
 use base.Fml.{Fml, ftrue}
 use denote.RawPtr.{Ptr}
-use Rattle.vp8_c.specs.contracts.held.HandleValue.{the_row}
+use Rattle.vp8_c.specs.contracts.handle_value.HandleValue.{the_row}
 
 -- the value of a slot, if there is one
 abbrev pub MaybeHeld : Type 0

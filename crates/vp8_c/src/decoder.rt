@@ -121,5 +121,5 @@ pub extern "C" fn vp8_decoder_copy(
 pub extern "C" fn vp8_decoder_free(alloc: Global, decoder: &mut Handle)
     ensures { held_in decoder.new ≡ None }
 {
-    let _held = decoder.take(alloc);
+    let _known = decoder.take(alloc);
 }

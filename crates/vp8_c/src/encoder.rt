@@ -201,5 +201,5 @@ pub extern "C" fn vp8_encoder_squared_error(
 pub extern "C" fn vp8_encoder_free(alloc: Global, encoder: &mut Handle)
     ensures { held_in encoder.new ≡ None }
 {
-    let _held = encoder.take(alloc);
+    let _known = encoder.take(alloc);
 }

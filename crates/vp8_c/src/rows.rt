@@ -66,9 +66,9 @@ fn read_plane(picture: &mut Picture, k: usize, layout: Layout, bytes: &[u8])
     requires fits { HasRoomForRows layout (length bytes.now) }
     ensures { ReadsPlane layout bytes.now k picture.old picture.new }
 {
-    let _old = picture.plane(k).width();
+    let _known = picture.plane(k).width();
     for y in 0..layout.height {
-        let _whole = picture.plane(k).width();
+        let _known = picture.plane(k).width();
         let start = y * layout.stride;
         picture.write_run(k, 0, y, &bytes[start..start + layout.width]);
     }
@@ -88,9 +88,9 @@ pub fn read_picture(picture: &mut Picture, planes: CallerPlanes) -> bool
     }
     let strides = planes.strides;
     read_plane(picture, 0, Layout::luma(dim, strides.y), planes.y);
-    let _first = picture.dim();
+    let _known = picture.dim();
     read_plane(picture, 1, Layout::colour(dim, strides.u), planes.u);
-    let _second = picture.dim();
+    let _known = picture.dim();
     read_plane(picture, 2, Layout::colour(dim, strides.v), planes.v);
     true
 }

@@ -128,5 +128,5 @@ pub extern "C" fn vp8_stream_copy_i420(alloc: Global, stream: &mut Handle, out: 
 pub extern "C" fn vp8_stream_free(alloc: Global, stream: &mut Handle)
     ensures { held_in stream.new ≡ None }
 {
-    let _held = stream.take(alloc);
+    let _known = stream.take(alloc);
 }

@@ -11,11 +11,11 @@ use Rattle.lru.proofs.CallerLemmas.{Contains-lookup, Contains-remove_entry, Cont
 use Rattle.vp_ivf.specs.declared.packet.Packet.{Packet}
 use Rattle.vp_stream.specs.Seeking.{AnswerValue, Shown, Hidden, Fault, NoPacket, answer_at, work_of, saturating_count}
 use Rattle.vp_base.specs.declared.limits.Limits.{Limits}
-use Rattle.vp_decode.specs.Step.{step, DecoderState as DecoderState}
+use Rattle.vp_decode.specs.Step.{step, DecoderState}
 use Rattle.vp_stream.specs.Answers.{answers_from}
 use Rattle.vp_stream.specs.Seeking.{told_or_none}
-use Rattle.vp_stream.specs.Stream.{Cache as StreamState}
-use Rattle.vp_cache.specs.DecoderState.{CachedPicture, CacheEntry, Cache, AreAnswersOf, IsAfter, IsAnswerIf, brought, cached_answer, option_shown, pair_eq, held, in_front, put, work_beside}
+use Rattle.vp_stream.specs.Stream.{Stream as StreamState}
+use Rattle.vp_cache.specs.Cache.{CachedPicture, CacheEntry, Cache, AreAnswersOf, IsAfter, IsAnswerIf, moved_to_front, cached_answer, option_shown, pair_eq, cached, in_front, put, work_beside}
 
 both : (a b : Bool) → (a && b) ≡ true → (a ≡ true) × (b ≡ true)
 both true b h = (refl, h)
@@ -82,31 +82,31 @@ not_found None h = refl
 abbrev pub seen : LruCache (ℕ × ℕ) CachedPicture → Cache
 seen c = record { entries = c.entries; capacity = c.cap }
 
-after_hit : (old : Cache) (number n : ℕ) (a : AnswerValue) → Some a ≡ option_shown (held number n old.entries)
-    → IsAfter old number n (held number n old.entries) a (record { entries = promoted (pair_eq (number, n)) old.entries; capacity = old.capacity })
+after_hit : (old : Cache) (number n : ℕ) (a : AnswerValue) → Some a ≡ option_shown (cached number n old.entries)
+    → IsAfter old number n (cached number n old.entries) a (record { entries = promoted (pair_eq (number, n)) old.entries; capacity = old.capacity })
 after_hit old number n a h =
-    let f = found (held number n old.entries) a h in
+    let f = found (cached number n old.entries) a h in
     rw f.1 (ap (λ (es : List CacheEntry). record old { entries = es }) (promoted-found (number, n) old.entries f.0 f.1))
 
 pub after_found : (old : Cache) (inside new : LruCache (ℕ × ℕ) CachedPicture) (number n : ℕ) (a : AnswerValue) → seen inside ≡ old
-    → new ≡ lru_cache (promoted (pair_eq (number, n)) inside.entries) inside.cap → Some a ≡ option_shown (held number n old.entries)
-    → IsAfter old number n (held number n old.entries) a (seen new)
+    → new ≡ lru_cache (promoted (pair_eq (number, n)) inside.entries) inside.cap → Some a ≡ option_shown (cached number n old.entries)
+    → IsAfter old number n (cached number n old.entries) a (seen new)
 after_found old inside new number n a was is h =
     let e : seen new ≡ record { entries = promoted (pair_eq (number, n)) old.entries; capacity = old.capacity } =
     ap seen is ∙ ap (λ (s : Cache). record { entries = promoted (pair_eq (number, n)) s.entries; capacity = s.capacity }) was in
-    subst (λ (s : Cache). IsAfter old number n (held number n old.entries) a s) (sym e) (after_hit old number n a h)
+    subst (λ (s : Cache). IsAfter old number n (cached number n old.entries) a s) (sym e) (after_hit old number n a h)
 
 abbrev pub IsPutOrNot : ℕ × ℕ → AnswerValue → LruCache (ℕ × ℕ) CachedPicture → LruCache (ℕ × ℕ) CachedPicture → Type 0
 IsPutOrNot key a old new = (new ≡ old) ⊎ (new ≡ lru_cache (put key a old.cap old.entries) old.cap)
 
-after_miss : (old new : Cache) (number n : ℕ) (a : AnswerValue) → None ≡ option_shown (held number n old.entries)
+after_miss : (old new : Cache) (number n : ℕ) (a : AnswerValue) → None ≡ option_shown (cached number n old.entries)
     → (new ≡ old) ⊎ (new ≡ record old { entries = put (number, n) a old.capacity old.entries })
-    → IsAfter old number n (held number n old.entries) a new
-after_miss old new number n a h is = rw (not_found (held number n old.entries) h) is
+    → IsAfter old number n (cached number n old.entries) a new
+after_miss old new number n a h is = rw (not_found (cached number n old.entries) h) is
 
 pub after_not_found : (old : Cache) (inside new : LruCache (ℕ × ℕ) CachedPicture) (number n : ℕ) (a : AnswerValue) → seen inside ≡ old
-    → IsPutOrNot (number, n) a inside new → None ≡ option_shown (held number n old.entries)
-    → IsAfter old number n (held number n old.entries) a (seen new)
+    → IsPutOrNot (number, n) a inside new → None ≡ option_shown (cached number n old.entries)
+    → IsAfter old number n (cached number n old.entries) a (seen new)
 after_not_found old inside new number n a was is h = after_miss old (seen new) number n a h (elim is [
   | inl same ↦ inl (ap seen same ∙ was)
   | inr fresh ↦ inr (ap seen fresh ∙ ap (λ (s : Cache). record s { entries = put (number, n) a s.capacity s.entries }) was)
@@ -129,7 +129,7 @@ put_entry old number n Hidden e c = inl c
 put_entry old number n (Fault f) e c = inl c
 put_entry old number n NoPacket e c = inl c
 
-pub entry_after : (old new : Cache) (number n : ℕ) (o : Option CachedPicture) (a : AnswerValue) (e : CacheEntry) → held number n old.entries ≡ o
+pub entry_after : (old new : Cache) (number n : ℕ) (o : Option CachedPicture) (a : AnswerValue) (e : CacheEntry) → cached number n old.entries ≡ o
     → IsAfter old number n o a new → Contains new.entries e → Contains old.entries e ⊎ IsNew a number n e
 entry_after old new number n (Some p) a e h is c =
     let was = Contains-lookup (pair_eq (number, n)) old.entries p h in
@@ -143,18 +143,18 @@ entry_after old new number n None a e h is c = elim is [
 ]
 
 pub kept_on : (old new : Cache) (number n : ℕ) (a : AnswerValue) (s : StreamState) → a ≡ answer_at s.limits s.reading.packets n
-    → IsAfter old number n (held number n old.entries) a new → AreAnswersOf number s old.entries → AreAnswersOf number s new.entries
+    → IsAfter old number n (cached number n old.entries) a new → AreAnswersOf number s old.entries → AreAnswersOf number s new.entries
 kept_on old new number n a s answer is kept = record {
-  each = λ e c same. elim (entry_after old new number n (held number n old.entries) a e refl is c) [
+  each = λ e c same. elim (entry_after old new number n (cached number n old.entries) a e refl is c) [
     | inl was ↦ kept.each e was same
     | inr fresh ↦ ap (λ (k : ℕ × ℕ). answer_at s.limits s.reading.packets k.1) fresh.0 ∙ (sym answer ∙ fresh.1)
   ];
 }
 
 pub others_on : (old new : Cache) (number n : ℕ) (a : AnswerValue) (other : ℕ) (s : StreamState) → other ≢ number
-    → IsAfter old number n (held number n old.entries) a new → AreAnswersOf other s old.entries → AreAnswersOf other s new.entries
+    → IsAfter old number n (cached number n old.entries) a new → AreAnswersOf other s old.entries → AreAnswersOf other s new.entries
 others_on old new number n a other s apart is kept = record {
-  each = λ e c same. elim (entry_after old new number n (held number n old.entries) a e refl is c) [
+  each = λ e c same. elim (entry_after old new number n (cached number n old.entries) a e refl is c) [
     | inl was ↦ kept.each e was same
     | inr fresh ↦ absurd (apart (sym same ∙ ap (λ (k : ℕ × ℕ). k.0) fresh.0))
   ];
@@ -162,10 +162,10 @@ others_on old new number n a other s apart is kept = record {
 
 -- ---- the answer that was found is the stream's
 
-pub found_is_answer : (number n : ℕ) (a : AnswerValue) (s : StreamState) (es : List CacheEntry) → Some a ≡ option_shown (held number n es)
+pub found_is_answer : (number n : ℕ) (a : AnswerValue) (s : StreamState) (es : List CacheEntry) → Some a ≡ option_shown (cached number n es)
     → AreAnswersOf number s es → a ≡ answer_at s.limits s.reading.packets n
 found_is_answer number n a s es h kept =
-    let f = found (held number n es) a h in
+    let f = found (cached number n es) a h in
     let was = Contains-lookup (pair_eq (number, n)) es f.0 f.1 in
     let key : (number, n) ≡ was.0 = same_key (number, n) was.0 was.2 in
     f.2 ∙ (sym (kept.each (was.0, f.0) was.1 (ap (λ (k : ℕ × ℕ). k.0) (sym key)))
@@ -186,25 +186,25 @@ pub nothing_counted : {X Y : Type 0} (r : Result X Y) (work more : ℕ) → work
 nothing_counted (Ok x) work more range = tt
 nothing_counted (Err y) work more range = (omega arith, omega (arith, range))
 
--- ---- a picture that is brought to the front
+-- ---- a picture that is moved_to_front to the front
 
 not_promoted : (key : ℕ × ℕ) (es : List CacheEntry) → lookup (pair_eq key) es ≡ None → promoted (pair_eq key) es ≡ es
 not_promoted key es h =
     ap (λ (o : Option CacheEntry). option_map_or (λ e. e ∷ remove_entry (pair_eq key) es) o es) (no_entry key es h)
 
-promoted_is : (old : Cache) (number n : ℕ) (o : Option CachedPicture) → held number n old.entries ≡ o
-    → record { entries = promoted (pair_eq (number, n)) old.entries; capacity = old.capacity } ≡ brought old number n o
+promoted_is : (old : Cache) (number n : ℕ) (o : Option CachedPicture) → cached number n old.entries ≡ o
+    → record { entries = promoted (pair_eq (number, n)) old.entries; capacity = old.capacity } ≡ moved_to_front old number n o
 promoted_is old number n (Some p) h = ap (λ (es : List CacheEntry). record old { entries = es }) (promoted-found (number, n) old.entries p h)
 promoted_is old number n None h = ap (λ (es : List CacheEntry). record old { entries = es }) (not_promoted (number, n) old.entries h)
 
 pub brought_is : (old : Cache) (inside new : LruCache (ℕ × ℕ) CachedPicture) (number n : ℕ) → seen inside ≡ old
-    → new ≡ lru_cache (promoted (pair_eq (number, n)) inside.entries) inside.cap → seen new ≡ brought old number n (held number n old.entries)
+    → new ≡ lru_cache (promoted (pair_eq (number, n)) inside.entries) inside.cap → seen new ≡ moved_to_front old number n (cached number n old.entries)
 brought_is old inside new number n was is =
     ap seen is ∙ ap (λ (s : Cache). record { entries = promoted (pair_eq (number, n)) s.entries; capacity = s.capacity }) was
-    ∙ promoted_is old number n (held number n old.entries) refl
+    ∙ promoted_is old number n (cached number n old.entries) refl
 
-brought_entry : (old : Cache) (number n : ℕ) (o : Option CachedPicture) (e : CacheEntry) → held number n old.entries ≡ o
-    → Contains (brought old number n o).entries e → Contains old.entries e
+brought_entry : (old : Cache) (number n : ℕ) (o : Option CachedPicture) (e : CacheEntry) → cached number n old.entries ≡ o
+    → Contains (moved_to_front old number n o).entries e → Contains old.entries e
 brought_entry old number n (Some p) e h c =
     let was = Contains-lookup (pair_eq (number, n)) old.entries p h in
     elim (Contains-cons ((number, n), p) (remove_entry (pair_eq (number, n)) old.entries) e c) [
@@ -215,19 +215,19 @@ brought_entry old number n None e h c = c
 
 -- each entry was there
 pub brought_keeps : (old : Cache) (number n other : ℕ) (s : StreamState) → AreAnswersOf other s old.entries
-    → AreAnswersOf other s (brought old number n (held number n old.entries)).entries
+    → AreAnswersOf other s (moved_to_front old number n (cached number n old.entries)).entries
 brought_keeps old number n other s kept = record {
-  each = λ e c same. kept.each e (brought_entry old number n (held number n old.entries) e refl c) same;
+  each = λ e c same. kept.each e (brought_entry old number n (cached number n old.entries) e refl c) same;
 }
 
 -- ---- what is kept is the stream's answer
 
-held_by : (number n : ℕ) (s : StreamState) (es : List CacheEntry) (o : Option CachedPicture) → held number n es ≡ o → AreAnswersOf number s es → IsAnswerIf o s n
+held_by : (number n : ℕ) (s : StreamState) (es : List CacheEntry) (o : Option CachedPicture) → cached number n es ≡ o → AreAnswersOf number s es → IsAnswerIf o s n
 held_by number n s es (Some p) h kept = sym (found_is_answer number n (cached_answer p) s es (ap option_shown (sym h)) kept)
 held_by number n s es None h kept = tt
 
-pub held_answer : (number n : ℕ) (s : StreamState) (es : List CacheEntry) → AreAnswersOf number s es → IsAnswerIf (held number n es) s n
-held_answer number n s es kept = held_by number n s es (held number n es) refl kept
+pub held_answer : (number n : ℕ) (s : StreamState) (es : List CacheEntry) → AreAnswersOf number s es → IsAnswerIf (cached number n es) s n
+held_answer number n s es kept = held_by number n s es (cached number n es) refl kept
 
 shown_there : (limits : Limits) (state : Option DecoderState) (ps : List Packet) (n : ℕ) (p : CachedPicture)
     → told_or_none (slice_get (answers_from limits state ps) n) ≡ cached_answer p → n < length ps
@@ -236,7 +236,7 @@ shown_there limits state (q ∷ ps) zero p h = omega arith
 shown_there limits state (q ∷ ps) (suc n) p h = omega (arith, shown_there limits (step limits state q.bytes).0 ps n p h)
 
 -- a picture that is kept is of a packet that is there
-pub kept_there : {X Y : Type 0} (r : Result X Y) (number n : ℕ) (p : CachedPicture) (s : StreamState) (es : List CacheEntry) → Some p ≡ held number n es
+pub kept_there : {X Y : Type 0} (r : Result X Y) (number n : ℕ) (p : CachedPicture) (s : StreamState) (es : List CacheEntry) → Some p ≡ cached number n es
     → AreAnswersOf number s es → OnErr r (n < length s.reading.packets)
 kept_there (Ok x) number n p s es h kept = tt
 kept_there (Err y) number n p s es h kept =

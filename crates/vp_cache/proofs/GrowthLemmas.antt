@@ -6,7 +6,7 @@ use Rattle.vp_base.specs.declared.limits.Limits.{Limits}
 use Rattle.vp_ivf.specs.declared.fault.FileFault.{FileFault}
 use Rattle.vp_ivf.specs.Ivf.{Contents, resume_at, read_from}
 use Rattle.vp_stream.specs.Seeking.{NoPacket, answer_at}
-use Rattle.vp_stream.specs.Stream.{Cache as StreamState}
+use Rattle.vp_stream.specs.Stream.{Stream as StreamState}
 use Rattle.vp_stream.proofs.AnswerLemmas.{answers_stay}
 use Rattle.vp_cache.specs.Cache.{AreAnswersOf, cached_answer}
 use Rattle.vp_cache.specs.Streams.{GrowingKeepsEntries, OneGrowing}

@@ -6,7 +6,7 @@ use Rattle.std.specs.Option.{option_map}
 use Rattle.std.specs.Map.{lookup, remove_entry}
 use Rattle.vp_ivf.specs.declared.packet.Packet.{Packet}
 use Rattle.vp_stream.specs.Seeking.{AnswerValue, Shown, Hidden, Fault, NoPacket, answer_at, work_of}
-use Rattle.vp_stream.specs.Stream.{Cache as StreamState}
+use Rattle.vp_stream.specs.Stream.{Stream as StreamState}
 
 -- a shown picture: its width, height and I420 pixels
 pub record CachedPicture : Type 0 where
@@ -88,6 +88,6 @@ IsAnswerIf (Some p) stream n = answer_at stream.limits stream.reading.packets n 
 IsAnswerIf None stream n = Unit {0}
 
 -- the cache after the picture is moved to the front; unchanged after a miss
-abbrev pub promoted : Cache → ℕ → ℕ → Option CachedPicture → Cache
-promoted old number n (Some p) = record old { entries = in_front (number, n) p old.entries }
-promoted old number n None = old
+abbrev pub moved_to_front : Cache → ℕ → ℕ → Option CachedPicture → Cache
+moved_to_front old number n (Some p) = record old { entries = in_front (number, n) p old.entries }
+moved_to_front old number n None = old

@@ -1,7 +1,7 @@
 -- The statements of the laws that cached pictures remain correct while streams grow.
 use Rattle.std.specs.Prelude.{◌≡◌, ◌≢◌, ℕ, List, Some, slice_get, slice_set}
 use Rattle.vp_stream.specs.Seeking.{NoPacket, answer_at}
-use Rattle.vp_stream.specs.Stream.{Cache as StreamState}
+use Rattle.vp_stream.specs.Stream.{Stream as StreamState}
 use Rattle.vp_cache.specs.Cache.{AreAnswersOf, CacheEntry}
 
 -- the stream has grown: only answers `NoPacket` have changed

@@ -5,8 +5,9 @@ ghost use Rattle.std.specs.Map.{lookup};
 ghost use Rattle.lru.specs.LruCache.{lru_cache};
 ghost use Rattle.vp_stream.specs.Seeking.{answer_value, answer_at, saturating_count};
 ghost use Rattle.vp_stream.specs.Stream.{StreamHistory, IsStreamAfter, packets_of};
-ghost use Rattle.vp_stream.specs.Stream.{Cache as StreamState};
-ghost use Rattle.vp_cache.specs.Cache.{AreAnswersOf, IsAfter, IsAnswerIf, empty, cached, promoted, put, pair_eq, lent};
+ghost use Rattle.vp_stream.specs.Stream.{Stream as StreamState};
+ghost use Rattle.vp_cache.specs.Cache.{AreAnswersOf, IsAfter, IsAnswerIf, empty, cached, moved_to_front, put, pair_eq};
+ghost use Rattle.vp_cache.specs.Cache.{lent};
 ghost use Rattle.vp_cache.specs.Cache.{work_beside};
 
 use crate::cached_picture::CachedPicture;
@@ -61,7 +62,7 @@ impl Cache {
 
     /// Moves the cached picture for packet `n` of a stream to the front: it is now the most recently used.
     pub fn promote(&mut self, stream_no: usize, n: u32)
-        ensures entries { self.new ≡ promoted self.old stream_no n (cached stream_no n self.old.entries) }
+        ensures entries { self.new ≡ moved_to_front self.old stream_no n (cached stream_no n self.old.entries) }
         ensures kept { (number : ℕ) (stream : StreamState) →
             AreAnswersOf number stream self.old.entries → AreAnswersOf number stream self.new.entries }
     {
@@ -105,7 +106,7 @@ impl Cache {
         ensures memory { OnErr result (self.new ≡ self.old) }
         ensures there { OnErr result (n < length stream.now.reading.packets) }
     {
-        let _work = *work;
+        let _known = *work;
         if let Some(kept) = self.cached(stream_no, n) {
             let answer = kept.answer(self.alloc)?;
             self.promote(stream_no, n);

@@ -19,7 +19,7 @@ pub(crate) fn cut_blocks(source: &Picture, place: Place) -> Blocks
     requires { HasMacroblock source.now place }
     ensures { AreCut source.now place result }
 {
-    let _dim = source.dim();
+    let _known = source.dim();
     Blocks {
         luma: macroblock(source.plane(0), place),
         u: cut_block::<8, 64>(source.plane(1), place),

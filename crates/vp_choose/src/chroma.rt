@@ -24,7 +24,7 @@ fn plane_cost(block: &[u8; 64], plane: &Plane, place: Place, mode: ChromaMode) -
     ensures value { (f : ℕ → ℕ → ℕ) → block.now ≡ listed 8 f → result ≡ plane_cost f plane.now place mode }
     ensures bound { result ≤ 16320 }
 {
-    let _size = [plane.width(), plane.height()];
+    let _known = [plane.width(), plane.height()];
     let prediction = predict_chroma(plane, 8 * place.column, 8 * place.row, mode);
     sad8(block, &prediction)
 }
@@ -36,7 +36,7 @@ fn cost_of(blocks: &Blocks, picture: &Picture, place: Place, mode: ChromaMode) -
         → result ≡ chroma_cost source picture.now place mode }
     ensures bound { result ≤ 32640 }
 {
-    let _dim = picture.dim();
+    let _known = picture.dim();
     plane_cost(&blocks.u, picture.plane(1), place, mode)
         + plane_cost(&blocks.v, picture.plane(2), place, mode)
 }

@@ -39,7 +39,7 @@ fn cost_of(block: &[u8; 256], plane: &Plane, place: Place, mode: LumaMode) -> u3
     ensures value { (f : ℕ → ℕ → ℕ) → block.now ≡ listed 16 f → result ≡ luma_mode_cost f plane.now place mode }
     ensures bound { result ≤ 65280 }
 {
-    let _size = [plane.width(), plane.height()];
+    let _known = [plane.width(), plane.height()];
     let prediction = predict_luma(plane, 16 * place.column, 16 * place.row, mode);
     sad16(block, &prediction)
 }
@@ -57,7 +57,7 @@ pub(crate) fn choose_luma(
     ensures kept { picture.new ≡ picture.old }
     ensures within { AreSmall result.subblocks.levels }
 {
-    let _dim = picture.dim();
+    let _known = picture.dim();
     let subblocks = choose_subblocks(block, factors, picture, place);
     let plane = picture.plane(0);
     let costs = [

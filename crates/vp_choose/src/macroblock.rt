@@ -66,7 +66,7 @@ fn intra_tokens(
         (chroma_pixel mode picture.now.v (8 * place.column) (8 * place.row)) factors.now result 2 }
     ensures writable { AreWritable (not (is_by_subblocks luma.now.mode)) result }
 {
-    let _dim = picture.dim();
+    let _known = picture.dim();
     let [x, y] = [8 * place.column, 8 * place.row];
     let u = predict_chroma(picture.plane(1), x, y, mode);
     let v = predict_chroma(picture.plane(2), x, y, mode);
@@ -166,7 +166,7 @@ fn inter_tokens(
         (Inter e reference.now 0) 2 place p) factors.now result 2 }
     ensures writable { AreWritable true result }
 {
-    let _dim = reference.dim();
+    let _known = reference.dim();
     let [x, y] = [8 * place.column, 8 * place.row];
     let QuarterVector { row, column } = moved.vector;
     let vector = chroma_vector(0, &[row; 4], &[column; 4]);
@@ -217,7 +217,7 @@ fn choose_inter(
     ensures short { IsWithin 259 (last_of result.motion.vectors) }
     ensures reference { is_intra result.modes.reference ≡ false }
 {
-    let _dim = picture.dim();
+    let _known = picture.dim();
     let reference = search.references.get(moved.reference);
     let tokens = inter_tokens(blocks, factors, reference, place, moved);
     let motion = motion_of(vectors, place, moved);
@@ -270,7 +270,7 @@ pub fn choose_macroblock(
     ensures unmoved { is_intra result.modes.reference ≡ true → (result.motion.mode ≡ VectorMode.Zero)
         × (result.motion.vectors ≡ replicate 16 still) }
 {
-    let _dims = [frame.source.dim(), picture.dim()];
+    let _known = [frame.source.dim(), picture.dim()];
     let blocks = cut_blocks(frame.source, place);
     let luma = choose_luma(&blocks.luma, frame.factors, picture, place);
     if let Some(search) = &frame.search {

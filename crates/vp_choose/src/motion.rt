@@ -40,7 +40,7 @@ fn find(search: &Search, block: &[u8; 256], reference: Reference, place: Place) 
     ensures short { IsInSearchRange result.vector }
 {
     let picture = search.references.get(reference);
-    let _dim = picture.dim();
+    let _known = picture.dim();
     let plane = picture.plane(0);
     let whole = search_block(block, plane, place, search.range);
     if search.subpel {

@@ -58,7 +58,7 @@ fn cost_of(block: &[u8; 16], plane: &Plane, place: Place, mode: SubMode) -> u32
     ensures value { (f : ℕ → ℕ → ℕ) → block.now ≡ listed 4 f → result ≡ sub_cost f plane.now place mode }
     ensures bound { result ≤ 4080 }
 {
-    let _size = [plane.width(), plane.height()];
+    let _known = [plane.width(), plane.height()];
     let prediction = predict_sub(plane, 4 * place.column, 4 * place.row, mode);
     sad4(block, &prediction)
 }
@@ -95,7 +95,7 @@ fn levels_by(
     ensures value { (f : ℕ → ℕ → ℕ) → block.now ≡ listed 4 f → result ≡ sub_levels f plane.now place mode factors.now }
     ensures within { (i : ℕ) → unsigned_abs (slice_index_or result i (pos 0)) ≤ 2047 }
 {
-    let _size = [plane.width(), plane.height()];
+    let _known = [plane.width(), plane.height()];
     let prediction = predict_sub(plane, 4 * place.column, 4 * place.row, mode);
     let numbers = coefficients(block, &prediction);
     quantised_levels(&numbers, factors.y_dc, factors.y_ac)
@@ -121,7 +121,7 @@ fn choose_subblock(
     ensures within { (i : ℕ) → unsigned_abs (slice_index_or result.levels i (pos 0)) ≤ 2047 }
     ensures bound { result.cost ≤ 4080 }
 {
-    let _size = [picture.plane(0).width(), picture.plane(0).height()];
+    let _known = [picture.plane(0).width(), picture.plane(0).height()];
     let (number, cost) = best_mode(block, picture.plane(0), place);
     let mode = ORDER[number];
     let levels = levels_by(block, factors, picture.plane(0), place, mode);
@@ -146,7 +146,7 @@ fn choose_all(
     ensures within { AreSmall result.levels }
     ensures bound { result.cost ≤ 65280 }
 {
-    let _size = [picture.plane(0).width(), picture.plane(0).height()];
+    let _known = [picture.plane(0).width(), picture.plane(0).height()];
     let mut modes = [SubMode::Dc; 16];
     let mut levels = [[0; 16]; 16];
     let mut cost = 0;
@@ -185,7 +185,7 @@ pub(crate) fn choose_subblocks(
     ensures within { AreSmall result.levels }
     ensures bound { result.cost ≤ 65280 }
 {
-    let _size = [picture.plane(0).width(), picture.plane(0).height()];
+    let _known = [picture.plane(0).width(), picture.plane(0).height()];
     let kept = macroblock(picture.plane(0), place);
     let chosen = choose_all(source, factors, picture, place);
     picture.write_block::<16>(0, 16 * place.column, 16 * place.row, &kept);

@@ -26,9 +26,9 @@ pub(crate) struct FrameBuffers {
 fn are_whole(picture: &Picture)
     ensures { AreWhole picture.now }
 {
-    let _luma = picture.plane(0).width();
-    let _u = picture.plane(1).width();
-    let _v = picture.plane(2).width();
+    let _known = picture.plane(0).width();
+    let _known = picture.plane(1).width();
+    let _known = picture.plane(2).width();
 }
 
 impl FrameBuffers {
@@ -58,7 +58,7 @@ impl FrameBuffers {
             _ => Picture::new(alloc, dim, 0)?,
         };
         are_whole(&picture);
-        let _dim = picture.dim();
+        let _known = picture.dim();
         Ok(picture)
     }
 }

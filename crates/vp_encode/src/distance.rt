@@ -33,7 +33,7 @@ pub(crate) fn squared_distance(source: &Picture, recon: &Picture) -> u64
     ensures { result ≡ squared_distance source.now recon.now }
 {
     let dim = source.dim();
-    let _recon = recon.dim();
+    let _known = recon.dim();
     let [width, height] = [usize::from(dim.w), usize::from(dim.h)];
     let [half_width, half_height] = [(width + 1) / 2, (height + 1) / 2];
     let luma = plane_distance(source.plane(0), recon.plane(0), width, height);

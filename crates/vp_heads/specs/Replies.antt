@@ -61,14 +61,8 @@ allow_line = codes "Allow: GET, HEAD\r\n"
 
 -- the Allow field for an error: only status 405 has one
 abbrev pub allowing : Status → List ℕ
-allowing status.Good = []
-allowing status.Partial = []
-allowing status.BadRequest = []
-allowing status.NotFound = []
 allowing status.MethodNotAllowed = allow_line
-allowing status.RangeNotSatisfiable = []
-allowing status.Unprocessable = []
-allowing status.TooLong = []
+allowing _ = []
 
 -- an error response
 abbrev pub error_text : Request → Status → List ℕ

@@ -39,12 +39,7 @@ wanted_by names method target minor hosts body =
 -- a bad request
 abbrev pub is_bad : Resource → Bool
 is_bad Bad = true
-is_bad WrongMethod = false
-is_bad Missing = false
-is_bad Streams = false
-is_bad (Info stream) = false
-is_bad (Frame stream n) = false
-is_bad (Video stream n) = false
+is_bad _ = false
 
 -- the connection is closed after a bad request, with HTTP/1.0, or if a Connection field asks for it
 abbrev pub request_by : Resource → List ℕ → ℕ → Bool → Range → Request

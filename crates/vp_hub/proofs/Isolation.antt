@@ -9,9 +9,9 @@ use Rattle.vp_hub.specs.Pages.{Streams}
 use Rattle.vp_hub.specs.declared.connection.ConnectionState.{ConnectionState}
 use Rattle.vp_hub.specs.declared.connection.Connection.{Connection}
 use Rattle.vp_hub.specs.declared.event.HubFault.TheVariants.{UnknownStream, Ended, UnknownConn, AlreadyOpen, TooMany, Failed, Memory}
-use Rattle.vp_hub.specs.Hub.{Outcome, HubState, HubStep, IsFine, after_memory, IsStep, link_of, without_connection, opened, Asks, shut, Gets, Serves, new_link, no_bytes}
+use Rattle.vp_hub.specs.Hub.{Outcome, HubState, HubStep, IsFine, after_memory, IsStep, connection_state_of, without_connection, opened, Asks, shut, Gets, Serves, new_connection_state, no_bytes}
 use Rattle.vp_hub.specs.View.{Seen, Fed, Over, Opened, Got, Gone, Lost, Sight, sight, See, AsksAgain, Leads, lose, AnswersAlike, told, seen_events, view_of, results_of, IsRun, IsIsolated, is_memory, is_too_many}
-use Rattle.vp_hub.proofs.Links.{first_of, link_of-push, link_of-with_link, link_of_other-with_link, link_of-without, link_of_other-without}
+use Rattle.vp_hub.proofs.ConnectionStateLemmas.{first_of, link_of-push, link_of-with_link, link_of_other-with_link, link_of-without, link_of_other-without}
 use Rattle.vp_hub.proofs.Serving.{serves_unique, chosen_unique}
 
 leads-append : (xs ys : List Seen) (a b d : Sight) (os ps : List Outcome) → Leads xs a os b → Leads ys b ps d → Leads (xs ++ ys) a (os ++ ps) d
@@ -47,53 +47,53 @@ sight_is : (s t : Streams) (l m : Option ConnectionState) → s ≡ t → l ≡ 
 sight_is s t l m h k = ap (λ x. record { streams = x; state_of_connection = l }) h ∙ ap (λ x. record { streams = t; state_of_connection = x }) k
 
 -- an opening of the connection's own number: what was kept of it says what comes
-own_open : (c : ℕ) (ss : Streams) (xs : List Connection) (l : Option ConnectionState) → link_of c xs ≡ l
+own_open : (c : ℕ) (ss : Streams) (xs : List Connection) (l : Option ConnectionState) → connection_state_of c xs ≡ l
     → Follows (cond (is_memory (opened c xs l).1) [] (cond (is_too_many (opened c xs l).1) [] (Opened ∷ []))) (opened c xs l).1
-    (record { streams = ss; state_of_connection = l }) (record { streams = ss; state_of_connection = link_of c (opened c xs l).0 })
-own_open c ss xs (Some state_of_connection) h = one Opened (Err AlreadyOpen) (record { streams = ss; state_of_connection = Some state_of_connection }) (record { streams = ss; state_of_connection = link_of c xs }) (ap (λ l. (record { streams = ss; state_of_connection = l }, Err AlreadyOpen)) h)
+    (record { streams = ss; state_of_connection = l }) (record { streams = ss; state_of_connection = connection_state_of c (opened c xs l).0 })
+own_open c ss xs (Some state_of_connection) h = one Opened (Err AlreadyOpen) (record { streams = ss; state_of_connection = Some state_of_connection }) (record { streams = ss; state_of_connection = connection_state_of c xs }) (ap (λ l. (record { streams = ss; state_of_connection = l }, Err AlreadyOpen)) h)
 own_open c ss xs None h = by_room (nat_lt (length xs) 64)
   where
     r : Bool → List Connection × Outcome
-    r t = cond t (xs ++ record { number = c; state_of_connection = new_link } ∷ [], Ok no_bytes) (xs, Err TooMany)
+    r t = cond t (xs ++ record { number = c; state_of_connection = new_connection_state } ∷ [], Ok no_bytes) (xs, Err TooMany)
 
     by_room : (t : Bool) → Follows (cond (is_memory (r t).1) [] (cond (is_too_many (r t).1) [] (Opened ∷ []))) (r t).1
-        (record { streams = ss; state_of_connection = None }) (record { streams = ss; state_of_connection = link_of c (r t).0 })
-    by_room true = one Opened (Ok no_bytes) (record { streams = ss; state_of_connection = None }) (record { streams = ss; state_of_connection = link_of c (xs ++ record { number = c; state_of_connection = new_link } ∷ []) }) (ap (λ l. (record { streams = ss; state_of_connection = l }, Ok no_bytes)) (link_of-push c c new_link xs ∙ ap (λ a. first_of a (cond (c == c) (Some new_link) None)) h ∙ grind (arith, nat_tests)))
+        (record { streams = ss; state_of_connection = None }) (record { streams = ss; state_of_connection = connection_state_of c (r t).0 })
+    by_room true = one Opened (Ok no_bytes) (record { streams = ss; state_of_connection = None }) (record { streams = ss; state_of_connection = connection_state_of c (xs ++ record { number = c; state_of_connection = new_connection_state } ∷ []) }) (ap (λ l. (record { streams = ss; state_of_connection = l }, Ok no_bytes)) (link_of-push c c new_connection_state xs ∙ ap (λ a. first_of a (cond (c == c) (Some new_connection_state) None)) h ∙ grind (arith, nat_tests)))
     by_room false = ap (λ l. record { streams = ss; state_of_connection = l }) h
 
 first_none : (a : Option ConnectionState) → first_of a None ≡ a
 first_none None = refl
 first_none (Some a) = refl
 
-other_open : (c d : ℕ) (xs : List Connection) (l : Option ConnectionState) → (d == c) ≡ false → link_of c (opened d xs l).0 ≡ link_of c xs
+other_open : (c d : ℕ) (xs : List Connection) (l : Option ConnectionState) → (d == c) ≡ false → connection_state_of c (opened d xs l).0 ≡ connection_state_of c xs
 other_open c d xs (Some state_of_connection) h = refl
 other_open c d xs None h = by_room (nat_lt (length xs) 64)
   where
-    by_room : (t : Bool) → link_of c (cond {A = List Connection × Outcome} t (xs ++ record { number = d; state_of_connection = new_link } ∷ [], Ok no_bytes) (xs, Err TooMany)).0 ≡ link_of c xs
-    by_room true = link_of-push c d new_link xs ∙ ap (λ t. first_of (link_of c xs) (cond t (Some new_link) None)) h ∙ first_none (link_of c xs)
+    by_room : (t : Bool) → connection_state_of c (cond {A = List Connection × Outcome} t (xs ++ record { number = d; state_of_connection = new_connection_state } ∷ [], Ok no_bytes) (xs, Err TooMany)).0 ≡ connection_state_of c xs
+    by_room true = link_of-push c d new_connection_state xs ∙ ap (λ t. first_of (connection_state_of c xs) (cond t (Some new_connection_state) None)) h ∙ first_none (connection_state_of c xs)
     by_room false = refl
 
-own_ask : (c : ℕ) (ss : Streams) (piece : List ℕ) (xs ys : List Connection) (o : Outcome) (l : Option ConnectionState) → link_of c xs ≡ l → Asks ss c piece xs l (ys, o)
-    → AsksAgain ss piece l (link_of c ys, o)
-own_ask c ss piece xs ys o None e h = ap (λ (x : List Connection × Outcome). (link_of c x.0, x.1)) h ∙ ap (λ l. (l, Err UnknownConn)) e
+own_ask : (c : ℕ) (ss : Streams) (piece : List ℕ) (xs ys : List Connection) (o : Outcome) (l : Option ConnectionState) → connection_state_of c xs ≡ l → Asks ss c piece xs l (ys, o)
+    → AsksAgain ss piece l (connection_state_of c ys, o)
+own_ask c ss piece xs ys o None e h = ap (λ (x : List Connection × Outcome). (connection_state_of c x.0, x.1)) h ∙ ap (λ l. (l, Err UnknownConn)) e
 own_ask c ss piece xs ys o (Some state_of_connection) e h = (
   h.0,
   h.1,
-  ap (λ (x : List Connection × Outcome). (link_of c x.0, x.1)) h.2
+  ap (λ (x : List Connection × Outcome). (connection_state_of c x.0, x.1)) h.2
       ∙ ap (λ l. (l, h.0.1)) (link_of-with_link c h.0.0 xs ∙ ap (option_map (λ _. h.0.0)) e),
 )
 
 other_ask : (c d : ℕ) (ss : Streams) (piece : List ℕ) (xs ys : List Connection) (o : Outcome) (l : Option ConnectionState) → (d == c) ≡ false → Asks ss d piece xs l (ys, o)
-    → link_of c ys ≡ link_of c xs
-other_ask c d ss piece xs ys o None e h = ap (λ (x : List Connection × Outcome). link_of c x.0) h
-other_ask c d ss piece xs ys o (Some state_of_connection) e h = ap (λ (x : List Connection × Outcome). link_of c x.0) h.2 ∙ link_of_other-with_link c d h.0.0 xs e
+    → connection_state_of c ys ≡ connection_state_of c xs
+other_ask c d ss piece xs ys o None e h = ap (λ (x : List Connection × Outcome). connection_state_of c x.0) h
+other_ask c d ss piece xs ys o (Some state_of_connection) e h = ap (λ (x : List Connection × Outcome). connection_state_of c x.0) h.2 ∙ link_of_other-with_link c d h.0.0 xs e
 
-own_shut : (c : ℕ) (ss : Streams) (xs : List Connection) (l : Option ConnectionState) → link_of c xs ≡ l
-    → Follows (Gone ∷ []) (shut c xs l).1 (record { streams = ss; state_of_connection = l }) (record { streams = ss; state_of_connection = link_of c (shut c xs l).0 })
-own_shut c ss xs None h = one Gone (Err UnknownConn) (record { streams = ss; state_of_connection = None }) (record { streams = ss; state_of_connection = link_of c xs }) (ap (λ l. (record { streams = ss; state_of_connection = l }, Err UnknownConn)) h)
-own_shut c ss xs (Some state_of_connection) h = one Gone (Ok no_bytes) (record { streams = ss; state_of_connection = Some state_of_connection }) (record { streams = ss; state_of_connection = link_of c (without_connection c xs) }) (ap (λ l. (record { streams = ss; state_of_connection = l }, Ok no_bytes)) (link_of-without c xs))
+own_shut : (c : ℕ) (ss : Streams) (xs : List Connection) (l : Option ConnectionState) → connection_state_of c xs ≡ l
+    → Follows (Gone ∷ []) (shut c xs l).1 (record { streams = ss; state_of_connection = l }) (record { streams = ss; state_of_connection = connection_state_of c (shut c xs l).0 })
+own_shut c ss xs None h = one Gone (Err UnknownConn) (record { streams = ss; state_of_connection = None }) (record { streams = ss; state_of_connection = connection_state_of c xs }) (ap (λ l. (record { streams = ss; state_of_connection = l }, Err UnknownConn)) h)
+own_shut c ss xs (Some state_of_connection) h = one Gone (Ok no_bytes) (record { streams = ss; state_of_connection = Some state_of_connection }) (record { streams = ss; state_of_connection = connection_state_of c (without_connection c xs) }) (ap (λ l. (record { streams = ss; state_of_connection = l }, Ok no_bytes)) (link_of-without c xs))
 
-other_shut : (c d : ℕ) (xs : List Connection) (l : Option ConnectionState) → (d == c) ≡ false → link_of c (shut d xs l).0 ≡ link_of c xs
+other_shut : (c d : ℕ) (xs : List Connection) (l : Option ConnectionState) → (d == c) ≡ false → connection_state_of c (shut d xs l).0 ≡ connection_state_of c xs
 other_shut c d xs None h = refl
 other_shut c d xs (Some state_of_connection) h = link_of_other-without c d xs h
 
@@ -118,23 +118,23 @@ at_step c old new o (Feed name piece) hm h = pick (is_memory o) [] (Fed name pie
 at_step c old new o (End name) hm h = one (Over name) o (sight c old) (sight c new) (ap (λ (x : HubState × Outcome). (sight c x.0, x.1)) h)
 at_step c old new o (Open d) hm h =
     subst (λ (x : HubState × Outcome). Follows (seen_events c (Open d) x.1) x.1 (sight c old) (sight c x.0)) (sym h)
-    (let r = opened d old.connections (link_of d old.connections) in
+    (let r = opened d old.connections (connection_state_of d old.connections) in
     let mid : HubState = record { streams = old.streams; connections = r.0 } in
     choose (d == c) (cond (is_memory r.1) [] (cond (is_too_many r.1) [] (Opened ∷ []))) [] r.1 (sight c old) (sight c mid)
-    (λ e. own (cond (is_memory r.1) [] (cond (is_too_many r.1) [] (Opened ∷ []))) r.1 old mid d c (eqb-true d c e) (own_open d old.streams old.connections (link_of d old.connections) refl))
-    (λ e. sight_is old.streams old.streams (link_of c r.0) (link_of c old.connections) refl (other_open c d old.connections (link_of d old.connections) e)))
+    (λ e. own (cond (is_memory r.1) [] (cond (is_too_many r.1) [] (Opened ∷ []))) r.1 old mid d c (eqb-true d c e) (own_open d old.streams old.connections (connection_state_of d old.connections) refl))
+    (λ e. sight_is old.streams old.streams (connection_state_of c r.0) (connection_state_of c old.connections) refl (other_open c d old.connections (connection_state_of d old.connections) e)))
 at_step c old new o (Bytes d piece) hm h =
     choose (d == c) (cond (is_memory o) (Lost ∷ []) (Got piece ∷ [])) [] o (sight c old) (sight c new)
     (λ e. pick (is_memory o) (Lost ∷ []) (Got piece ∷ []) o (sight c old) (sight c new) hm
-    (own (Got piece ∷ []) o old new d c (eqb-true d c e) (one (Got piece) o (sight d old) (sight d new) (own_ask d old.streams piece old.connections new.connections o (link_of d old.connections) refl h.0, h.1))))
-    (λ e. sight_is new.streams old.streams (link_of c new.connections) (link_of c old.connections) h.1 (other_ask c d old.streams piece old.connections new.connections o (link_of d old.connections) e h.0))
+    (own (Got piece ∷ []) o old new d c (eqb-true d c e) (one (Got piece) o (sight d old) (sight d new) (own_ask d old.streams piece old.connections new.connections o (connection_state_of d old.connections) refl h.0, h.1))))
+    (λ e. sight_is new.streams old.streams (connection_state_of c new.connections) (connection_state_of c old.connections) h.1 (other_ask c d old.streams piece old.connections new.connections o (connection_state_of d old.connections) e h.0))
 at_step c old new o (Shut d) hm h =
     subst (λ (x : HubState × Outcome). Follows (seen_events c (Shut d) x.1) x.1 (sight c old) (sight c x.0)) (sym h)
-    (let r = shut d old.connections (link_of d old.connections) in
+    (let r = shut d old.connections (connection_state_of d old.connections) in
     let mid : HubState = record { streams = old.streams; connections = r.0 } in
     choose (d == c) (Gone ∷ []) [] r.1 (sight c old) (sight c mid)
-    (λ e. own (Gone ∷ []) r.1 old mid d c (eqb-true d c e) (own_shut d old.streams old.connections (link_of d old.connections) refl))
-    (λ e. sight_is old.streams old.streams (link_of c r.0) (link_of c old.connections) refl (other_shut c d old.connections (link_of d old.connections) e)))
+    (λ e. own (Gone ∷ []) r.1 old mid d c (eqb-true d c e) (own_shut d old.streams old.connections (connection_state_of d old.connections) refl))
+    (λ e. sight_is old.streams old.streams (connection_state_of c r.0) (connection_state_of c old.connections) refl (other_shut c d old.connections (connection_state_of d old.connections) e)))
 
 -- where it is
 at_refusal : (c : ℕ) (old : HubState) (e : Event) → IsFine e old → Follows (seen_events c e (Err Memory)) (Err Memory) (sight c old) (sight c (after_memory e old))
@@ -146,8 +146,8 @@ at_refusal c old (Bytes d piece) h =
     let mid = after_memory (Bytes d piece) old in
     choose (d == c) (Lost ∷ []) [] (Err Memory) (sight c old) (sight c mid)
     (λ e. own (Lost ∷ []) (Err Memory) old mid d c (eqb-true d c e)
-    (one Lost (Err Memory) (sight d old) (sight d mid) (ap (λ l. (record { streams = old.streams; state_of_connection = l }, Err Memory)) (link_of-with_link d lost old.connections ∙ lose_is (link_of d old.connections)))))
-    (λ e. sight_is old.streams old.streams (link_of c mid.connections) (link_of c old.connections) refl (link_of_other-with_link c d lost old.connections e))
+    (one Lost (Err Memory) (sight d old) (sight d mid) (ap (λ l. (record { streams = old.streams; state_of_connection = l }, Err Memory)) (link_of-with_link d lost old.connections ∙ lose_is (connection_state_of d old.connections)))))
+    (λ e. sight_is old.streams old.streams (connection_state_of c mid.connections) (connection_state_of c old.connections) refl (link_of_other-with_link c d lost old.connections e))
 at_refusal c old (Shut d) h = absurd h
 
 -- one step, as connection c sees it

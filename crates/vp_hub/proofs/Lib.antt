@@ -1,9 +1,9 @@
 pub mod Serving
 pub mod Places
-pub mod Links
+pub mod ConnectionStateLemmas
 pub mod Isolation
 pub mod Cutting
-pub mod Kept
+pub mod CacheLemmas
 pub mod Turning
 pub mod PageLemmas
 pub mod Growing

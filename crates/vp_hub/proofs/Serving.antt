@@ -8,7 +8,7 @@ use Rattle.vp_hub.specs.declared.connection.ConnectionState.{ConnectionState}
 use Rattle.vp_heads.specs.Replies.{too_long, reply_to}
 use Rattle.vp_hub.specs.declared.event.Event.{Event}
 use Rattle.vp_hub.specs.Hub.{Chosen, Outcome, ends_head, Settles, TakesByte, Serves, IsStep}
-use Rattle.vp_cache.specs.CachedPicture.{Cache as Cache}
+use Rattle.vp_cache.specs.Cache.{Cache}
 use Rattle.std.specs.Prelude.{Result, Ok, Err, OnErr, slice_index}
 use Rattle.std.proofs.lemmas.List.{take-append-drop, take_all, drop_more}
 use Rattle.vp_stream.specs.Seeking.{saturating_count}

@@ -8,7 +8,7 @@ use Rattle.vp_hub.specs.Heads.{AnswersHeads, IsPartial}
 use Rattle.vp_hub.specs.View.{Seen, Fed, Over, Opened, Got, Gone, Lost, Sight, AsksAgain, Leads, open_again}
 use Rattle.vp_hub.specs.Turns.{AreCutInTurn, HistoriesAreCut, bytes_seen, keeps}
 use Rattle.vp_hub.proofs.Cutting.{cut_into_heads, no_bytes_yet}
-use Rattle.vp_hub.proofs.Kept.{answers_partial, not_gone}
+use Rattle.vp_hub.proofs.CacheLemmas.{answers_partial, not_gone}
 
 concat-append : (xs ys : List (List ℕ)) → concat (xs ++ ys) ≡ concat xs ++ concat ys
 concat-append [] ys = refl

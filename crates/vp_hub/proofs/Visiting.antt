@@ -22,11 +22,11 @@ use Rattle.vp_hub.specs.declared.connection.Connection.{Connection}
 use Rattle.vp_hub.specs.declared.session.ServeFault.{ServeFault}
 use Rattle.vp_hub.specs.declared.session.ServeFault.TheVariants.{Hub, Device, ReadTurns}
 use Rattle.vp_hub.specs.Pages.{Streams, IsReply}
-use Rattle.vp_hub.specs.Hub.{Outcome, HubState, IsStep, Chosen, Settles, TakesByte, Serves, Asks, ends_head, no_bytes, new_link, link_of, with_link, without_connection, with_connections, opened, shut}
+use Rattle.vp_hub.specs.Hub.{Outcome, HubState, IsStep, Chosen, Settles, TakesByte, Serves, Asks, ends_head, no_bytes, new_connection_state, connection_state_of, with_connection_state, without_connection, with_connections, opened, shut}
 use Rattle.vp_hub.specs.View.{IsRun, is_memory}
 use Rattle.vp_hub.specs.Sessions.{IsPiece, byte_events, reply_bytes, replies, StaysOpen, AreAnswered, EndsBy, WritesBy, AnsweredBy, IsOpenSession, StandsApart, Exchanges}
 use Rattle.vp_hub.proofs.Cutting.{cut_into_heads, no_bytes_yet}
-use Rattle.vp_hub.proofs.Links.{link_of-with_link, link_of-push, first_of}
+use Rattle.vp_hub.proofs.ConnectionStateLemmas.{link_of-with_link, link_of-push, first_of}
 use Rattle.vp_hub.proofs.Isolation.{run_more, memory_is, memory_isn't}
 
 -- ---- the bytes of a connection, one piece behind the other
@@ -73,7 +73,7 @@ serves_more ss xs ys u state_of_connection out w first more =
 
 -- ---- the connection's place
 
-pub with_link-same : (c : ℕ) (state_of_connection : ConnectionState) (xs : List Connection) → link_of c xs ≡ Some state_of_connection → with_link c state_of_connection xs ≡ xs
+pub with_link-same : (c : ℕ) (state_of_connection : ConnectionState) (xs : List Connection) → connection_state_of c xs ≡ Some state_of_connection → with_connection_state c state_of_connection xs ≡ xs
 with_link-same c state_of_connection [] h = refl
 with_link-same c state_of_connection (x ∷ xs) h = at (with_link-same c state_of_connection xs) (x.number == c) refl h
   where
@@ -83,12 +83,12 @@ with_link-same c state_of_connection (x ∷ xs) h = at (with_link-same c state_o
     same : (n : ℕ) (l : ConnectionState) → n ≡ c → l ≡ state_of_connection → ◌≡◌ {A = Connection} (record { number = c; state_of_connection = state_of_connection }) (record { number = n; state_of_connection = l })
     same n l e f = ap (λ (m : ℕ). record { number = m; state_of_connection = state_of_connection }) (sym e) ∙ ap (λ (m : ConnectionState). record { number = n; state_of_connection = m }) (sym f)
 
-    at : (link_of c xs ≡ Some state_of_connection → with_link c state_of_connection xs ≡ xs) → (t : Bool) → (x.number == c) ≡ t → cond t (Some x.state_of_connection) (link_of c xs) ≡ Some state_of_connection
-        → cond t (record { number = c; state_of_connection = state_of_connection } ∷ xs) (x ∷ with_link c state_of_connection xs) ≡ x ∷ xs
+    at : (connection_state_of c xs ≡ Some state_of_connection → with_connection_state c state_of_connection xs ≡ xs) → (t : Bool) → (x.number == c) ≡ t → cond t (Some x.state_of_connection) (connection_state_of c xs) ≡ Some state_of_connection
+        → cond t (record { number = c; state_of_connection = state_of_connection } ∷ xs) (x ∷ with_connection_state c state_of_connection xs) ≡ x ∷ xs
     at more true e h = ap (λ (y : Connection). y ∷ xs) (same x.number x.state_of_connection (eqb-true x.number c e) (one x.state_of_connection state_of_connection h))
     at more false e h = ap (λ (ys : List Connection). x ∷ ys) (more h)
 
-pub with_link-twice : (c : ℕ) (a b : ConnectionState) (xs : List Connection) → with_link c a (with_link c b xs) ≡ with_link c a xs
+pub with_link-twice : (c : ℕ) (a b : ConnectionState) (xs : List Connection) → with_connection_state c a (with_connection_state c b xs) ≡ with_connection_state c a xs
 with_link-twice c a b [] = refl
 with_link-twice c a b (x ∷ xs) = grind (arith, nat_tests, with_link-twice c a b xs)
 
@@ -100,23 +100,23 @@ pub record IsServed (ss : Streams) (c : ℕ) (piece : List ℕ) (state_of_connec
   pub serves : Serves ss piece (state_of_connection, []) w
   pub bytes : reply.bytes ≡ w.1
   pub close : reply.close ≡ w.0.closed
-  pub new_is : new ≡ record { streams = ss; connections = with_link c w.0 xs }
+  pub new_is : new ≡ record { streams = ss; connections = with_connection_state c w.0 xs }
 
 -- the state in which a connection speaks
 abbrev pub speaking : Streams → ℕ → ConnectionState → List Connection → HubState
-speaking ss c state_of_connection xs = record { streams = ss; connections = with_link c state_of_connection xs }
+speaking ss c state_of_connection xs = record { streams = ss; connections = with_connection_state c state_of_connection xs }
 
 ok_same : (a b : Reply) → ◌≡◌ {A = Outcome} (Ok a) (Ok b) → a ≡ b
 ok_same a b e = cc
 
-link_there : (c : ℕ) (state_of_connection old : ConnectionState) (xs : List Connection) → link_of c xs ≡ Some old → link_of c (with_link c state_of_connection xs) ≡ Some state_of_connection
+link_there : (c : ℕ) (state_of_connection old : ConnectionState) (xs : List Connection) → connection_state_of c xs ≡ Some old → connection_state_of c (with_connection_state c state_of_connection xs) ≡ Some state_of_connection
 link_there c state_of_connection old xs h = link_of-with_link c state_of_connection xs ∙ ap (option_map (λ _. state_of_connection)) h
 
-got : (ss : Streams) (c : ℕ) (piece : List ℕ) (state_of_connection old : ConnectionState) (xs : List Connection) (o : Outcome) (new : HubState) → state_of_connection.closed ≡ false → link_of c xs ≡ Some old
+got : (ss : Streams) (c : ℕ) (piece : List ℕ) (state_of_connection old : ConnectionState) (xs : List Connection) (o : Outcome) (new : HubState) → state_of_connection.closed ≡ false → connection_state_of c xs ≡ Some old
     → o ≢ Err Memory → IsStep (speaking ss c state_of_connection xs) (Bytes c piece) o new
     → (w : ConnectionState × List ℕ) × Serves ss piece (state_of_connection, []) w × (o ≡ Ok (record { bytes = w.1; close = w.0.closed })) × (new ≡ speaking ss c w.0 xs)
 got ss c piece state_of_connection old xs o new unclosed there not step =
-    let conns = with_link c state_of_connection xs in
+    let conns = with_connection_state c state_of_connection xs in
     let h = step.1 not in
     let asked : Asks ss c piece conns (Some state_of_connection) (new.connections, o) = subst (λ l. Asks ss c piece conns l (new.connections, o)) (link_there c state_of_connection old xs there) h.0 in
     let g : ConnectionState × Outcome = asked.0 in
@@ -126,10 +126,10 @@ got ss c piece state_of_connection old xs o new unclosed there not step =
       ap (λ (x : List Connection × Outcome). x.1) asked.2 ∙ ap (λ (x : ConnectionState × Outcome). x.1) gets.2,
       ap (λ (s : Streams). record { streams = s; connections = new.connections }) h.1
           ∙ ap (λ (ys : List Connection). record { streams = ss; connections = ys })
-          (ap (λ (x : List Connection × Outcome). x.0) asked.2 ∙ (ap (λ (x : ConnectionState × Outcome). with_link c x.0 conns) gets.2 ∙ with_link-twice c gets.0.0 state_of_connection xs)),
+          (ap (λ (x : List Connection × Outcome). x.0) asked.2 ∙ (ap (λ (x : ConnectionState × Outcome). with_connection_state c x.0 conns) gets.2 ∙ with_link-twice c gets.0.0 state_of_connection xs)),
     )
 
-served : (ss : Streams) (c : ℕ) (piece : List ℕ) (state_of_connection old : ConnectionState) (xs : List Connection) (reply : Reply) (new : HubState) → state_of_connection.closed ≡ false → link_of c xs ≡ Some old
+served : (ss : Streams) (c : ℕ) (piece : List ℕ) (state_of_connection old : ConnectionState) (xs : List Connection) (reply : Reply) (new : HubState) → state_of_connection.closed ≡ false → connection_state_of c xs ≡ Some old
     → IsStep (speaking ss c state_of_connection xs) (Bytes c piece) (Ok reply) new → IsServed ss c piece state_of_connection xs reply new
 served ss c piece state_of_connection old xs reply new unclosed there step =
     let h = got ss c piece state_of_connection old xs (Ok reply) new unclosed there (λ e. cc) step in
@@ -137,7 +137,7 @@ served ss c piece state_of_connection old xs reply new unclosed there step =
     record { w = h.0; serves = h.1; bytes = ap (λ (r : Reply). r.bytes) same; close = ap (λ (r : Reply). r.close) same; new_is = h.3 }
 
 -- where the hub has a fault, memory was refused
-refused_apart : (ss : Streams) (c : ℕ) (piece : List ℕ) (state_of_connection old : ConnectionState) (xs : List Connection) (fault : HubFault) (new : HubState) → state_of_connection.closed ≡ false → link_of c xs ≡ Some old
+refused_apart : (ss : Streams) (c : ℕ) (piece : List ℕ) (state_of_connection old : ConnectionState) (xs : List Connection) (fault : HubFault) (new : HubState) → state_of_connection.closed ≡ false → connection_state_of c xs ≡ Some old
     → IsStep (speaking ss c state_of_connection xs) (Bytes c piece) (Err fault) new → (l : ConnectionState) × (new ≡ speaking ss c l xs)
 refused_apart ss c piece state_of_connection old xs fault new unclosed there step = by_memory (is_memory (Err fault)) refl
   where
@@ -180,35 +180,35 @@ pub record IsSpeaking (c : ℕ) (old now : HubState) (read : List ℕ) (before a
   pub goes_on : All StaysOpen results
   pub now_is : now ≡ speaking old.streams c state_of_connection old.connections
   pub unclosed : state_of_connection.closed ≡ false
-  pub serves : Serves old.streams read (new_link, []) (state_of_connection, replies results)
+  pub serves : Serves old.streams read (new_connection_state, []) (state_of_connection, replies results)
   pub writes : Appends before after (replies results)
   pub count : length pieces ≡ reads
 
 none_yet : {X : Type 0} (P : X → Type 0) → All P []
 none_yet P k d lt = absurd (omega (arith, lt))
 
-pub at_first : (c : ℕ) (old : HubState) (before : Option (List ℕ)) → link_of c old.connections ≡ Some new_link → IsSpeaking c old old [] before before 0
+pub at_first : (c : ℕ) (old : HubState) (before : Option (List ℕ)) → connection_state_of c old.connections ≡ Some new_connection_state → IsSpeaking c old old [] before before 0
 at_first c old before there = record {
   pieces = [];
   results = [];
-  state_of_connection = new_link;
+  state_of_connection = new_connection_state;
   read_is = refl;
   small = none_yet IsPiece;
   run = refl;
   goes_on = none_yet StaysOpen;
-  now_is = ap (λ (ys : List Connection). record { streams = old.streams; connections = ys }) (sym (with_link-same c new_link old.connections there));
+  now_is = ap (λ (ys : List Connection). record { streams = old.streams; connections = ys }) (sym (with_link-same c new_connection_state old.connections there));
   unclosed = refl;
   serves = refl;
   writes = appends_none before;
   count = refl;
 }
 
-answered_by_heads : (ss : Streams) (bytes text : List ℕ) (state_of_connection : ConnectionState) → Serves ss bytes (new_link, []) (state_of_connection, text) → AreAnswered ss bytes text
+answered_by_heads : (ss : Streams) (bytes text : List ℕ) (state_of_connection : ConnectionState) → Serves ss bytes (new_connection_state, []) (state_of_connection, text) → AreAnswered ss bytes text
 answered_by_heads ss bytes text state_of_connection h =
     let a = cut_into_heads ss [] bytes (state_of_connection, text) no_bytes_yet h in
     (a.0, state_of_connection, a.1)
 
-module _ (c : ℕ) (old now : HubState) (there : link_of c old.connections ≡ Some new_link) (read : List ℕ) (before after : Option (List ℕ)) (reads : ℕ)
+module _ (c : ℕ) (old now : HubState) (there : connection_state_of c old.connections ≡ Some new_connection_state) (read : List ℕ) (before after : Option (List ℕ)) (reads : ℕ)
     (h : IsSpeaking c old now read before after reads) where
   step_there : (e : Event) (o : Outcome) (new : HubState) → IsStep now e o new → IsStep (speaking old.streams c h.state_of_connection old.connections) e o new
   step_there e o new step = subst (λ (s : HubState). IsStep s e o new) h.now_is step
@@ -251,7 +251,7 @@ module _ (c : ℕ) (old now : HubState) (there : link_of c old.connections ≡ S
 
     module _ (reply : Reply) (step : IsStep now (Bytes c piece) (Ok reply) new) where
       one : IsServed old.streams c piece h.state_of_connection old.connections reply new
-      one = served old.streams c piece h.state_of_connection new_link old.connections reply new h.unclosed there (step_there (Bytes c piece) (Ok reply) new step)
+      one = served old.streams c piece h.state_of_connection new_connection_state old.connections reply new h.unclosed there (step_there (Bytes c piece) (Ok reply) new step)
 
       text_on : replies (h.results ++ Ok reply ∷ []) ≡ replies h.results ++ reply.bytes
       text_on = replies_push h.results (Ok reply)
@@ -259,10 +259,10 @@ module _ (c : ℕ) (old now : HubState) (there : link_of c old.connections ≡ S
       pub apart_on : StandsApart c old new
       apart_on = (one.w.0, one.new_is)
 
-      serves_on : Serves old.streams (read ++ piece) (new_link, []) (one.w.0, replies (h.results ++ Ok reply ∷ []))
-      serves_on = subst (λ (text : List ℕ). Serves old.streams (read ++ piece) (new_link, []) (one.w.0, text))
+      serves_on : Serves old.streams (read ++ piece) (new_connection_state, []) (one.w.0, replies (h.results ++ Ok reply ∷ []))
+      serves_on = subst (λ (text : List ℕ). Serves old.streams (read ++ piece) (new_connection_state, []) (one.w.0, text))
           (sym (text_on ∙ ap (λ (xs : List ℕ). replies h.results ++ xs) one.bytes))
-          (serves_more old.streams read piece (new_link, []) h.state_of_connection (replies h.results) one.w h.serves one.serves)
+          (serves_more old.streams read piece (new_connection_state, []) h.state_of_connection (replies h.results) one.w h.serves one.serves)
 
       pub goes_on : (then : Option (List ℕ)) → reply.close ≡ false → Appends after then reply.bytes → IsSpeaking c old new (read ++ piece) before then (reads + 1)
       goes_on then close w = record {
@@ -301,7 +301,7 @@ module _ (c : ℕ) (old now : HubState) (there : link_of c old.connections ≡ S
 
     module _ (fault : HubFault) (step : IsStep now (Bytes c piece) (Err fault) new) where
       pub refused_stands : StandsApart c old new
-      refused_stands = refused_apart old.streams c piece h.state_of_connection new_link old.connections fault new h.unclosed there (step_there (Bytes c piece) (Err fault) new step)
+      refused_stands = refused_apart old.streams c piece h.state_of_connection new_connection_state old.connections fault new h.unclosed there (step_there (Bytes c piece) (Err fault) new step)
 
       text_kept : replies h.results ≡ replies (h.results ++ Err fault ∷ [])
       text_kept = sym (replies_push h.results (Err fault) ∙ append-nil (replies h.results))
@@ -323,7 +323,7 @@ module _ (c : ℕ) (old now : HubState) (there : link_of c old.connections ≡ S
 -- ---- the ends
 
 -- one more exchange ends the talk by a fault
-pub ends_faulty : (c : ℕ) (old now new : HubState) (there : link_of c old.connections ≡ Some new_link) (read piece : List ℕ) (before after then left : Option (List ℕ)) (reads : ℕ) (failed : Type 0)
+pub ends_faulty : (c : ℕ) (old now new : HubState) (there : connection_state_of c old.connections ≡ Some new_connection_state) (read piece : List ℕ) (before after then left : Option (List ℕ)) (reads : ℕ) (failed : Type 0)
     → IsSpeaking c old now read before after reads → (fault : ServeFault) → Exchanges c now new (Err fault) piece left after then failed
     → IsOpenSession c old new (Err fault) (read ++ piece) left before then failed × StandsApart c old new
 ends_faulty c old now new there read piece before after then left reads failed h (Hub fault) x =
@@ -345,7 +345,7 @@ ends_faulty c old now new there read piece before after then left reads failed h
 ends_faulty c old now new there read piece before after then left reads failed h ReadTurns x = absurd x
 
 -- or well
-pub ends_well : (c : ℕ) (old now new : HubState) (there : link_of c old.connections ≡ Some new_link) (read piece : List ℕ) (before after then left : Option (List ℕ)) (reads : ℕ) (failed : Type 0)
+pub ends_well : (c : ℕ) (old now new : HubState) (there : connection_state_of c old.connections ≡ Some new_connection_state) (read piece : List ℕ) (before after then left : Option (List ℕ)) (reads : ℕ) (failed : Type 0)
     → IsSpeaking c old now read before after reads → (b : Bool) → b ≡ false → Exchanges c now new (Ok b) piece left after then failed
     → IsOpenSession c old new (Ok tt) (read ++ piece) left before then failed × StandsApart c old new
 ends_well c old now new there read piece before after then left reads failed h true is x = absurd (differ is)
@@ -367,13 +367,13 @@ ends_well c old now new there read piece before after then left reads failed h f
 )
 
 -- the reads ran out
-pub runs_out : (c : ℕ) (old now : HubState) (there : link_of c old.connections ≡ Some new_link) (read : List ℕ) (before after left : Option (List ℕ)) (reads : ℕ) (failed : Type 0)
+pub runs_out : (c : ℕ) (old now : HubState) (there : connection_state_of c old.connections ≡ Some new_connection_state) (read : List ℕ) (before after left : Option (List ℕ)) (reads : ℕ) (failed : Type 0)
     → IsSpeaking c old now read before after reads → reads ≡ 2 ^ 20 → IsOpenSession c old now (Err ReadTurns) read left before after failed
 runs_out c old now there read before after left reads failed h most =
     no_more c old now there read before after reads h (Err ReadTurns) left failed (refl, h.count ∙ most) (λ w. w) (λ a. a)
 
 -- the talk goes on
-pub talks_on : (c : ℕ) (old now new : HubState) (there : link_of c old.connections ≡ Some new_link) (read piece : List ℕ) (before after then left : Option (List ℕ)) (reads : ℕ) (failed : Type 0)
+pub talks_on : (c : ℕ) (old now new : HubState) (there : connection_state_of c old.connections ≡ Some new_connection_state) (read piece : List ℕ) (before after then left : Option (List ℕ)) (reads : ℕ) (failed : Type 0)
     → IsSpeaking c old now read before after reads → (b : Bool) → b ≡ true → Exchanges c now new (Ok b) piece left after then failed
     → IsSpeaking c old new (read ++ piece) before then (reads + 1)
 talks_on c old now new there read piece before after then left reads failed h true is (reply, gets, close, w) =
@@ -386,7 +386,7 @@ talks_on c old now new there read piece before after then left reads failed h fa
 -- ---- the coming and the going
 
 -- another connection's coming and going
-pub without-push : (c : ℕ) (state_of_connection : ConnectionState) (xs : List Connection) → link_of c xs ≡ None → without_connection c (xs ++ record { number = c; state_of_connection = state_of_connection } ∷ []) ≡ xs
+pub without-push : (c : ℕ) (state_of_connection : ConnectionState) (xs : List Connection) → connection_state_of c xs ≡ None → without_connection c (xs ++ record { number = c; state_of_connection = state_of_connection } ∷ []) ≡ xs
 without-push c state_of_connection [] h = here (c == c) (same c)
   where
     same : (n : ℕ) → (n == n) ≡ true
@@ -403,16 +403,16 @@ without-push c state_of_connection (x ∷ xs) h = at (without-push c state_of_co
     never : (l : ConnectionState) → Some l ≡ None → ⊥
     never l e = cc
 
-    at : (link_of c xs ≡ None → without_connection c (xs ++ record { number = c; state_of_connection = state_of_connection } ∷ []) ≡ xs) → (t : Bool) → cond t (Some x.state_of_connection) (link_of c xs) ≡ None
+    at : (connection_state_of c xs ≡ None → without_connection c (xs ++ record { number = c; state_of_connection = state_of_connection } ∷ []) ≡ xs) → (t : Bool) → cond t (Some x.state_of_connection) (connection_state_of c xs) ≡ None
         → cond (not t) (x ∷ without_connection c (xs ++ record { number = c; state_of_connection = state_of_connection } ∷ [])) (without_connection c (xs ++ record { number = c; state_of_connection = state_of_connection } ∷ [])) ≡ x ∷ xs
     at more true h = absurd (never x.state_of_connection h)
     at more false h = ap (λ (ys : List Connection). x ∷ ys) (more h)
 
-without-with_link : (c : ℕ) (state_of_connection : ConnectionState) (xs : List Connection) → without_connection c (with_link c state_of_connection xs) ≡ without_connection c xs
+without-with_link : (c : ℕ) (state_of_connection : ConnectionState) (xs : List Connection) → without_connection c (with_connection_state c state_of_connection xs) ≡ without_connection c xs
 without-with_link c state_of_connection [] = refl
 without-with_link c state_of_connection (x ∷ xs) = grind (arith, nat_tests, without-with_link c state_of_connection xs)
 
-there_after_push : (c : ℕ) (state_of_connection : ConnectionState) (xs : List Connection) → link_of c xs ≡ None → link_of c (xs ++ record { number = c; state_of_connection = state_of_connection } ∷ []) ≡ Some state_of_connection
+there_after_push : (c : ℕ) (state_of_connection : ConnectionState) (xs : List Connection) → connection_state_of c xs ≡ None → connection_state_of c (xs ++ record { number = c; state_of_connection = state_of_connection } ∷ []) ≡ Some state_of_connection
 there_after_push c state_of_connection xs h = link_of-push c c state_of_connection xs ∙ (ap (λ l. first_of l (cond (c == c) (Some state_of_connection) None)) h ∙ ap (λ t. cond t (Some state_of_connection) None) (same c))
   where
     same : (n : ℕ) → (n == n) ≡ true
@@ -421,38 +421,38 @@ there_after_push c state_of_connection xs h = link_of-push c c state_of_connecti
 -- an accepted coming
 pub record IsCome (c : ℕ) (old new : HubState) (reply : Reply) : Type 0 where
   pub reply_is : ◌≡◌ {A = Outcome} (Ok reply) (Ok no_bytes)
-  pub absent : link_of c old.connections ≡ None
-  pub new_is : new ≡ record { streams = old.streams; connections = old.connections ++ record { number = c; state_of_connection = new_link } ∷ [] }
+  pub absent : connection_state_of c old.connections ≡ None
+  pub new_is : new ≡ record { streams = old.streams; connections = old.connections ++ record { number = c; state_of_connection = new_connection_state } ∷ [] }
 
 pub come : (c : ℕ) (old new : HubState) (reply : Reply) → IsStep old (Open c) (Ok reply) new → IsCome c old new reply
-come c old new reply step = at (link_of c old.connections) refl (step.1 (λ e. cc))
+come c old new reply step = at (connection_state_of c old.connections) refl (step.1 (λ e. cc))
   where
     never : (f : HubFault) → ◌≡◌ {A = Outcome} (Ok reply) (Err f) → ⊥
     never f e = cc
 
-    by_room : (t : Bool) → link_of c old.connections ≡ None
-        → (new, Ok reply) ≡ with_connections old (cond t (old.connections ++ record { number = c; state_of_connection = new_link } ∷ [], Ok no_bytes) (old.connections, Err TooMany)) → IsCome c old new reply
+    by_room : (t : Bool) → connection_state_of c old.connections ≡ None
+        → (new, Ok reply) ≡ with_connections old (cond t (old.connections ++ record { number = c; state_of_connection = new_connection_state } ∷ [], Ok no_bytes) (old.connections, Err TooMany)) → IsCome c old new reply
     by_room true none h = record { reply_is = ap (λ (r : HubState × Outcome). r.1) h; absent = none; new_is = ap (λ (r : HubState × Outcome). r.0) h }
     by_room false none h = absurd (never TooMany (ap (λ (r : HubState × Outcome). r.1) h))
 
-    at : (l : Option ConnectionState) → link_of c old.connections ≡ l → (new, Ok reply) ≡ with_connections old (opened c old.connections l) → IsCome c old new reply
+    at : (l : Option ConnectionState) → connection_state_of c old.connections ≡ l → (new, Ok reply) ≡ with_connections old (opened c old.connections l) → IsCome c old new reply
     at (Some state_of_connection) is h = absurd (never AlreadyOpen (ap (λ (r : HubState × Outcome). r.1) h))
     at None is h = by_room (nat_lt (length old.connections) 64) is h
 
-pub come_there : (c : ℕ) (old new : HubState) (reply : Reply) → IsCome c old new reply → link_of c new.connections ≡ Some new_link
-come_there c old new reply h = ap (λ (s : HubState). link_of c s.connections) h.new_is ∙ there_after_push c new_link old.connections h.absent
+pub come_there : (c : ℕ) (old new : HubState) (reply : Reply) → IsCome c old new reply → connection_state_of c new.connections ≡ Some new_connection_state
+come_there c old new reply h = ap (λ (s : HubState). connection_state_of c s.connections) h.new_is ∙ there_after_push c new_connection_state old.connections h.absent
 
 -- the going of a connection that came
 pub gone : (c : ℕ) (old first last new : HubState) (reply : Reply) (o : Outcome) → IsCome c old first reply → StandsApart c first last → IsStep last (Shut c) o new
     → (o ≡ Ok no_bytes) × (new ≡ old)
 gone c old first last new reply o h apart step =
-    let is : (link_of c last.connections) ≡ Some apart.0 = ap (λ (s : HubState). link_of c s.connections) apart.1
+    let is : (connection_state_of c last.connections) ≡ Some apart.0 = ap (λ (s : HubState). connection_state_of c s.connections) apart.1
     ∙ (link_of-with_link c apart.0 first.connections ∙ ap (option_map (λ _. apart.0)) (come_there c old first reply h)) in
     let went = step.1 (λ e. (step.0 e).fine) in
     let shuts = went ∙ ap (λ l. with_connections last (shut c last.connections l)) is in
     let left : without_connection c last.connections ≡ old.connections = ap (λ (s : HubState). without_connection c s.connections) apart.1
     ∙ (without-with_link c apart.0 first.connections
-    ∙ (ap (λ (s : HubState). without_connection c s.connections) h.new_is ∙ without-push c new_link old.connections h.absent)) in
+    ∙ (ap (λ (s : HubState). without_connection c s.connections) h.new_is ∙ without-push c new_connection_state old.connections h.absent)) in
     let streams : last.streams ≡ old.streams = ap (λ (s : HubState). s.streams) apart.1 ∙ ap (λ (s : HubState). s.streams) h.new_is in (
       ap (λ (r : HubState × Outcome). r.1) shuts,
       ap (λ (r : HubState × Outcome). r.0) shuts

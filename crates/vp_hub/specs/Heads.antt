@@ -3,7 +3,7 @@ use Rattle.std.specs.Prelude.{◌≡◌, ◌<◌, ◌≤◌, ◌⊎◌, ℕ, tru
 use Rattle.vp_heads.specs.Replies.{too_long}
 use Rattle.vp_hub.specs.Pages.{Streams, IsReply}
 use Rattle.vp_hub.specs.declared.connection.ConnectionState.{ConnectionState}
-use Rattle.vp_hub.specs.Hub.{ends_head, Serves, HubState, link_of}
+use Rattle.vp_hub.specs.Hub.{ends_head, Serves, HubState, connection_state_of}
 
 -- no prefix of the bytes ends as a request head does
 abbrev pub HasNoEnd : List ℕ → Type 0
@@ -54,4 +54,4 @@ KeepsPartial l = (state_of_connection : ConnectionState) → l ≡ Some state_of
 
 -- this holds for all connections
 abbrev pub AllKeepPartial : HubState → Type 0
-AllKeepPartial s = (c : ℕ) → KeepsPartial (link_of c s.connections)
+AllKeepPartial s = (c : ℕ) → KeepsPartial (connection_state_of c s.connections)

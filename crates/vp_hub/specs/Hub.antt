@@ -111,30 +111,26 @@ initial_hub names limits = record {
 }
 
 -- the state of the connection with this number
-abbrev pub link_of : ℕ → List Connection → Option ConnectionState
-link_of c [] = None
-link_of c (x ∷ xs) = if x.number == c then Some x.state_of_connection else link_of c xs
+abbrev pub connection_state_of : ℕ → List Connection → Option ConnectionState
+connection_state_of c [] = None
+connection_state_of c (x ∷ xs) = if x.number == c then Some x.state_of_connection else connection_state_of c xs
 
 -- all connections except the one with this number
 abbrev pub without_connection : ℕ → List Connection → List Connection
 without_connection c xs = filter (λ x. not (x.number == c)) xs
 
 -- the connections with a new state for the one with this number
-abbrev pub with_link : ℕ → ConnectionState → List Connection → List Connection
-with_link c state_of_connection [] = []
-with_link c state_of_connection (x ∷ xs) = if x.number == c then record {
+abbrev pub with_connection_state : ℕ → ConnectionState → List Connection → List Connection
+with_connection_state c state_of_connection [] = []
+with_connection_state c state_of_connection (x ∷ xs) = if x.number == c then record {
   number = c;
   state_of_connection = state_of_connection;
-} ∷ xs else x ∷ with_link c state_of_connection xs
+} ∷ xs else x ∷ with_connection_state c state_of_connection xs
 
 -- the stream after a piece, and the answer: it has ended, or it has a fault, or it takes the piece
 abbrev pub fed_by : Option FileFault → List ℕ → Source → Source × Outcome
 fed_by (Some file_fault.Ended) piece source = (source, Err Ended)
-fed_by (Some file_fault.Signature) piece source = (source, Err Failed)
-fed_by (Some file_fault.Codec) piece source = (source, Err Failed)
-fed_by (Some file_fault.TooMany) piece source = (source, Err Failed)
-fed_by (Some file_fault.PacketTooLarge) piece source = (source, Err Failed)
-fed_by (Some file_fault.Torn) piece source = (source, Err Failed)
+fed_by (Some _) piece source = (source, Err Failed)
 fed_by None piece source = (record source { stream = after_piece source.stream piece }, Ok no_bytes)
 
 -- a stream after a piece, and the answer; a stream whose end is marked refuses it
@@ -190,14 +186,14 @@ abbrev pub with_connections : HubState → List Connection × Outcome → HubSta
 with_connections s r = (record { streams = s.streams; connections = r.0 }, r.1)
 
 -- the state of a new connection
-abbrev pub new_link : ConnectionState
-new_link = record { pending = []; closed = false }
+abbrev pub new_connection_state : ConnectionState
+new_connection_state = record { pending = []; closed = false }
 
 -- the connections after `Open`, and the answer
 abbrev pub opened : ℕ → List Connection → Option ConnectionState → List Connection × Outcome
 opened c xs (Some state_of_connection) = (xs, Err AlreadyOpen)
 opened c xs None = if nat_lt (length xs) 64 then (
-  xs ++ record { number = c; state_of_connection = new_link }
+  xs ++ record { number = c; state_of_connection = new_connection_state }
       ∷ [],
   Ok no_bytes,
 ) else (xs, Err TooMany)
@@ -206,7 +202,7 @@ opened c xs None = if nat_lt (length xs) 64 then (
 abbrev pub Asks : Streams → ℕ → List ℕ → List Connection → Option ConnectionState → List Connection × Outcome → Type 0
 Asks streams c piece xs None r = r ≡ (xs, Err UnknownConn)
 Asks streams c piece xs (Some state_of_connection) r = (g : ConnectionState × Outcome)
-    × Gets streams piece state_of_connection g × (r ≡ (with_link c g.0 xs, g.1))
+    × Gets streams piece state_of_connection g × (r ≡ (with_connection_state c g.0 xs, g.1))
 
 -- the connection exists, and the hub has not closed it
 abbrev pub is_open : Option ConnectionState → Bool
@@ -222,29 +218,27 @@ shut c xs (Some state_of_connection) = (without_connection c xs, Ok no_bytes)
 abbrev pub HubStep : Event → HubState → HubState × Outcome → Type 0
 HubStep (Feed name piece) s r = r ≡ with_streams s (at_name (fed piece) name s.streams)
 HubStep (End name) s r = r ≡ with_streams s (at_name ended_source name s.streams)
-HubStep (Open c) s r = r ≡ with_connections s (opened c s.connections (link_of c s.connections))
-HubStep (Bytes c piece) s r = Asks s.streams c piece s.connections (link_of c s.connections) (r.0.connections, r.1)
+HubStep (Open c) s r = r ≡ with_connections s (opened c s.connections (connection_state_of c s.connections))
+HubStep (Bytes c piece) s r = Asks s.streams c piece s.connections (connection_state_of c s.connections)
+    (r.0.connections, r.1)
     × (r.0.streams ≡ s.streams)
-HubStep (Shut c) s r = r ≡ with_connections s (shut c s.connections (link_of c s.connections))
+HubStep (Shut c) s r = r ≡ with_connections s (shut c s.connections (connection_state_of c s.connections))
 
 -- the event would be accepted
 abbrev pub IsFine : Event → HubState → Type 0
 IsFine (Feed name piece) s = IsOk (at_name (fed piece) name s.streams).1
 IsFine (End name) s = ⊥
-IsFine (Open c) s = IsOk (opened c s.connections (link_of c s.connections)).1
-IsFine (Bytes c piece) s = is_open (link_of c s.connections) ≡ true
+IsFine (Open c) s = IsOk (opened c s.connections (connection_state_of c s.connections)).1
+IsFine (Bytes c piece) s = is_open (connection_state_of c s.connections) ≡ true
 IsFine (Shut c) s = ⊥
 
 -- the state after memory runs out: a connection whose bytes were handled is closed
 abbrev pub after_memory : Event → HubState → HubState
 after_memory (Bytes c piece) s = record {
   streams = s.streams;
-  connections = with_link c (record { pending = []; closed = true }) s.connections;
+  connections = with_connection_state c (record { pending = []; closed = true }) s.connections;
 }
-after_memory (Feed name piece) s = s
-after_memory (End name) s = s
-after_memory (Open c) s = s
-after_memory (Shut c) s = s
+after_memory _ s = s
 
 -- memory runs out only for events that would be accepted otherwise, and that need memory
 pub record IsRefusedMemory (old : HubState) (e : Event) (new : HubState) : Type 0 where
@@ -259,9 +253,11 @@ IsStep old e o new = (o ≡ Err Memory → IsRefusedMemory old e new) × (o ≢ 
 pub record IsPlaceOf (c : ℕ) (xs : List Connection) (i : ℕ) : Type 0 where
   pub there : i < length xs
   pub number : (d : Connection) → (slice_index_or xs i d).number ≡ c
-  pub state_of_connection : (d : Connection) → link_of c xs ≡ Some (slice_index_or xs i d).state_of_connection
+  pub state_of_connection : (d : Connection) → connection_state_of c xs
+      ≡ Some (slice_index_or xs i d).state_of_connection
   pub set : (state_of_connection : ConnectionState) → slice_set xs i
-      (record { number = c; state_of_connection = state_of_connection }) ≡ with_link c state_of_connection xs
+      (record { number = c; state_of_connection = state_of_connection })
+      ≡ with_connection_state c state_of_connection xs
 
 -- each cached picture is the answer of the stream with its number
 abbrev pub AreKept : List Source → List CacheEntry → Type 0

@@ -30,11 +30,7 @@ is_at k (Some j) = j == k
 -- the piece of stream k that the event brings, if it is accepted
 abbrev pub accepted : List (List ℕ) → ℕ → Event → Outcome → List ℕ
 accepted names k (Feed name piece) (Ok reply) = if is_at k (name_index names name) then piece else []
-accepted names k (Feed name piece) (Err f) = []
-accepted names k (End name) o = []
-accepted names k (Open c) o = []
-accepted names k (Bytes c piece) o = []
-accepted names k (Shut c) o = []
+accepted names k _ _ = []
 
 -- the pieces of stream k that the run accepts
 abbrev pub all_accepted : List (List ℕ) → ℕ → List Event → List Outcome → List ℕ
@@ -62,11 +58,7 @@ NewStreamsHaveNoBytes = (names : List (List ℕ)) (limits : Limits) (k : ℕ) �
 -- the event marks the end of stream k, and is accepted
 abbrev pub accepts_end : List (List ℕ) → ℕ → Event → Outcome → Bool
 accepts_end names k (End name) (Ok reply) = is_at k (name_index names name)
-accepts_end names k (End name) (Err f) = false
-accepts_end names k (Feed name piece) o = false
-accepts_end names k (Open c) o = false
-accepts_end names k (Bytes c piece) o = false
-accepts_end names k (Shut c) o = false
+accepts_end names k _ _ = false
 
 -- one of the events does so
 abbrev pub end_accepted : List (List ℕ) → ℕ → List Event → List Outcome → Bool

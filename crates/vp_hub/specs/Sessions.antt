@@ -14,7 +14,7 @@ use Rattle.vp_hub.specs.declared.connection.ConnectionState.{ConnectionState}
 use Rattle.vp_hub.specs.declared.session.ServeFault.{ServeFault}
 use Rattle.vp_hub.specs.declared.session.ServeFault.TheVariants.{Hub, Device, ReadTurns}
 use Rattle.vp_hub.specs.Pages.{Streams}
-use Rattle.vp_hub.specs.Hub.{Outcome, HubState, IsStep, no_bytes, with_link}
+use Rattle.vp_hub.specs.Hub.{Outcome, HubState, IsStep, no_bytes, with_connection_state}
 use Rattle.vp_hub.specs.Heads.{AnswersHeads}
 use Rattle.vp_hub.specs.View.{IsRun}
 
@@ -114,7 +114,10 @@ IsTurnedAway c old new o = (fault : HubFault) × IsStep old (Open c) (Err fault)
 -- only the state of connection c has changed
 abbrev pub StandsApart : ℕ → HubState → HubState → Type 0
 StandsApart c old new = (state_of_connection : ConnectionState)
-    × (new ≡ record { streams = old.streams; connections = with_link c state_of_connection old.connections })
+    × (new ≡ record {
+      streams = old.streams;
+      connections = with_connection_state c state_of_connection old.connections;
+    })
 
 -- ---- one read
 

@@ -8,7 +8,8 @@ use Rattle.vp_hub.specs.Pages.{Streams}
 use Rattle.vp_hub.specs.declared.connection.ConnectionState.{ConnectionState}
 use Rattle.vp_hub.specs.declared.event.HubFault.TheVariants.{UnknownStream, Ended, UnknownConn, AlreadyOpen, TooMany}
 use Rattle.vp_hub.specs.declared.event.HubFault.TheVariants.{Failed, Memory}
-use Rattle.vp_hub.specs.Hub.{Outcome, HubState, link_of, fed, ended_source, at_name, Gets, no_bytes, new_link, IsStep}
+use Rattle.vp_hub.specs.Hub.{Outcome, HubState, connection_state_of, fed, ended_source, at_name, Gets, no_bytes}
+use Rattle.vp_hub.specs.Hub.{new_connection_state, IsStep}
 use Rattle.vp_hub.specs.Hub.{initial_hub}
 
 -- an event as one connection sees it; `Lost`: the hub has closed the connection because memory ran out
@@ -23,24 +24,12 @@ pub data Seen : Type 0 where
 -- memory ran out
 abbrev pub is_memory : Outcome → Bool
 is_memory (Err Memory) = true
-is_memory (Err TooMany) = false
-is_memory (Err UnknownStream) = false
-is_memory (Err Ended) = false
-is_memory (Err UnknownConn) = false
-is_memory (Err AlreadyOpen) = false
-is_memory (Err Failed) = false
-is_memory (Ok reply) = false
+is_memory _ = false
 
 -- there are too many connections
 abbrev pub is_too_many : Outcome → Bool
-is_too_many (Err Memory) = false
 is_too_many (Err TooMany) = true
-is_too_many (Err UnknownStream) = false
-is_too_many (Err Ended) = false
-is_too_many (Err UnknownConn) = false
-is_too_many (Err AlreadyOpen) = false
-is_too_many (Err Failed) = false
-is_too_many (Ok reply) = false
+is_too_many _ = false
 
 -- What connection c sees of an event, given its result. It doesn't see a piece of a stream, or an opening, for which
 -- memory ran out, nor an opening that was refused with `TooMany`. If memory runs out for its bytes, it is closed.
@@ -76,12 +65,12 @@ pub record Sight : Type 0 where
 
 -- the state for connection c
 abbrev pub sight : ℕ → HubState → Sight
-sight c s = record { streams = s.streams; state_of_connection = link_of c s.connections }
+sight c s = record { streams = s.streams; state_of_connection = connection_state_of c s.connections }
 
 -- `Open` as the connection sees it
 abbrev pub open_again : Option ConnectionState → Option ConnectionState × Outcome
 open_again (Some state_of_connection) = (Some state_of_connection, Err AlreadyOpen)
-open_again None = (Some new_link, Ok no_bytes)
+open_again None = (Some new_connection_state, Ok no_bytes)
 
 -- a piece of bytes as the connection sees it
 abbrev pub AsksAgain : Streams → List ℕ → Option ConnectionState → Option ConnectionState × Outcome → Type 0
@@ -104,18 +93,18 @@ abbrev pub with_streams_of : Sight → Streams × Outcome → Sight × Outcome
 with_streams_of v r = (record { streams = r.0; state_of_connection = v.state_of_connection }, r.1)
 
 -- the state with this connection, and the answer
-abbrev pub with_link_of : Sight → Option ConnectionState × Outcome → Sight × Outcome
-with_link_of v r = (record { streams = v.streams; state_of_connection = r.0 }, r.1)
+abbrev pub with_connection_state_of : Sight → Option ConnectionState × Outcome → Sight × Outcome
+with_connection_state_of v r = (record { streams = v.streams; state_of_connection = r.0 }, r.1)
 
 -- one event of a view: the state after it, and its result
 abbrev pub See : Seen → Sight → Sight × Outcome → Type 0
 See (Fed name piece) v r = r ≡ with_streams_of v (at_name (fed piece) name v.streams)
 See (Over name) v r = r ≡ with_streams_of v (at_name ended_source name v.streams)
-See Opened v r = r ≡ with_link_of v (open_again v.state_of_connection)
+See Opened v r = r ≡ with_connection_state_of v (open_again v.state_of_connection)
 See (Got piece) v r = AsksAgain v.streams piece v.state_of_connection (r.0.state_of_connection, r.1)
     × (r.0.streams ≡ v.streams)
-See Gone v r = r ≡ with_link_of v (go v.state_of_connection)
-See Lost v r = r ≡ with_link_of v (lose v.state_of_connection, Err Memory)
+See Gone v r = r ≡ with_connection_state_of v (go v.state_of_connection)
+See Lost v r = r ≡ with_connection_state_of v (lose v.state_of_connection, Err Memory)
 
 -- the events of a view lead from a to b, with these results
 abbrev pub Leads : List Seen → Sight → List Outcome → Sight → Type 0

@@ -3,7 +3,7 @@
 use Rattle.std.specs.Prelude.{◌≡◌, ◌≢◌, ◌≤◌, ◌⊎◌, ◌+◌, ℕ, true, List, [], ◌∷◌, ◌++◌, Option, Some, None, Err, slice_get}
 use Rattle.vp_stream.specs.Seeking.{answer_at, saturating_count}
 use Rattle.vp_cache.specs.Cache.{IsAfter, cached, work_beside}
-use Rattle.vp_cache.specs.Cache.{Cache as Cache}
+use Rattle.vp_cache.specs.Cache.{Cache}
 use Rattle.vp_heads.specs.declared.request.Request.{Request}
 use Rattle.vp_heads.specs.declared.request.Resource.{Resource}
 use Rattle.vp_heads.specs.declared.request.Resource.TheVariants as wanted
@@ -14,7 +14,7 @@ use Rattle.vp_hub.specs.declared.event.Event.{Event}
 use Rattle.vp_hub.specs.declared.event.Event.TheVariants.{Feed, End, Open, Bytes, Shut}
 use Rattle.vp_hub.specs.declared.event.HubFault.TheVariants.{Memory}
 use Rattle.vp_hub.specs.Pages.{Streams}
-use Rattle.vp_hub.specs.Hub.{Chosen, Outcome, ends_head, TakesByte, HubState, link_of, IsStep}
+use Rattle.vp_hub.specs.Hub.{Chosen, Outcome, ends_head, TakesByte, HubState, connection_state_of, IsStep}
 
 -- ---- one request
 
@@ -26,13 +26,9 @@ picture_cost (Some s) k n cache = work_beside (cached k n cache.entries) s.strea
 
 -- the number of packets decoded for a resource
 abbrev pub cost_of : Streams → Resource → Cache → ℕ
-cost_of streams wanted.Bad cache = 0
-cost_of streams wanted.WrongMethod cache = 0
-cost_of streams wanted.Missing cache = 0
-cost_of streams wanted.Streams cache = 0
-cost_of streams (wanted.Info k) cache = 0
 cost_of streams (wanted.Frame k n) cache = picture_cost (slice_get streams.sources k) k n cache
 cost_of streams (wanted.Video k n) cache = picture_cost (slice_get streams.sources k) k n cache
+cost_of streams _ cache = 0
 
 -- the cache after it: a shown picture is the most recent entry, unless memory ran out for it
 abbrev pub IsAfterPicture : Option Source → ℕ → ℕ → Cache → Cache → Type 0
@@ -42,13 +38,9 @@ IsAfterPicture (Some s) k n old new =
 
 -- the cache after a request for a resource
 abbrev pub IsAfterAsked : Streams → Resource → Cache → Cache → Type 0
-IsAfterAsked streams wanted.Bad old new = new ≡ old
-IsAfterAsked streams wanted.WrongMethod old new = new ≡ old
-IsAfterAsked streams wanted.Missing old new = new ≡ old
-IsAfterAsked streams wanted.Streams old new = new ≡ old
-IsAfterAsked streams (wanted.Info k) old new = new ≡ old
 IsAfterAsked streams (wanted.Frame k n) old new = IsAfterPicture (slice_get streams.sources k) k n old new
 IsAfterAsked streams (wanted.Video k n) old new = IsAfterPicture (slice_get streams.sources k) k n old new
+IsAfterAsked streams _ old new = new ≡ old
 
 -- ---- the bytes of a connection
 
@@ -91,11 +83,8 @@ CostsPiece streams piece (Some state_of_connection) old new cost = (w : Connecti
 
 -- the cache after an event, and the number of packets decoded: 0 except for the bytes of a connection
 abbrev pub IsWork : Event → HubState → Cache → Cache → ℕ → Type 0
-IsWork (Feed name piece) s old new work = (new ≡ old) × (work ≡ 0)
-IsWork (End name) s old new work = (new ≡ old) × (work ≡ 0)
-IsWork (Open c) s old new work = (new ≡ old) × (work ≡ 0)
-IsWork (Bytes c piece) s old new work = CostsPiece s.streams piece (link_of c s.connections) old new work
-IsWork (Shut c) s old new work = (new ≡ old) × (work ≡ 0)
+IsWork (Bytes c piece) s old new work = CostsPiece s.streams piece (connection_state_of c s.connections) old new work
+IsWork _ s old new work = (new ≡ old) × (work ≡ 0)
 
 -- memory ran out at this byte: the cost is 0, or at most that of the request head that the byte completes
 abbrev pub CostsByteAtMost : Streams → ℕ → ConnectionState → Cache → Cache → ℕ → Type 0
@@ -127,11 +116,9 @@ CostsPieceAtMost streams piece (Some state_of_connection) old new work = CostsAt
 
 -- memory ran out during an event
 abbrev pub IsWorkAtMost : Event → HubState → Cache → Cache → ℕ → Type 0
-IsWorkAtMost (Feed name piece) s old new work = (new ≡ old) × (work ≡ 0)
-IsWorkAtMost (End name) s old new work = (new ≡ old) × (work ≡ 0)
-IsWorkAtMost (Open c) s old new work = (new ≡ old) × (work ≡ 0)
-IsWorkAtMost (Bytes c piece) s old new work = CostsPieceAtMost s.streams piece (link_of c s.connections) old new work
-IsWorkAtMost (Shut c) s old new work = (new ≡ old) × (work ≡ 0)
+IsWorkAtMost (Bytes c piece) s old new work = CostsPieceAtMost s.streams piece
+    (connection_state_of c s.connections) old new work
+IsWorkAtMost _ s old new work = (new ≡ old) × (work ≡ 0)
 
 -- ---- a hub: its state, its cache, and the work of the last event
 pub record Hub : Type 0 where

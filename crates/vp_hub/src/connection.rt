@@ -2,7 +2,7 @@
 
 ghost use Rattle.std.specs.Prelude.{◌≡◌, ◌≢◌, ◌==◌, ◌<◌, Ok, Err, None, IsOk, IfSome, length, position};
 ghost use Rattle.vp_hub.specs.declared.event.HubFault.TheVariants.{Memory};
-ghost use Rattle.vp_hub.specs.Hub.{IsPlaceOf, link_of, without_connection, opened, shut};
+ghost use Rattle.vp_hub.specs.Hub.{IsPlaceOf, connection_state_of, without_connection, opened, shut};
 
 use crate::event::{HubFault, Reply};
 use crate::source::nothing;
@@ -36,7 +36,7 @@ fn place_of(connections: &[Connection], number: u32) -> Option<usize>
 
 /// Returns the index of the connection with this number.
 pub(crate) fn find(connections: &[Connection], number: u32) -> Option<usize>
-    ensures none { result ≡ None → link_of number connections.now ≡ None }
+    ensures none { result ≡ None → connection_state_of number connections.now ≡ None }
     ensures some { IfSome result (IsPlaceOf number connections.now) }
 {
     place_of(connections, number)
@@ -50,9 +50,9 @@ pub(crate) fn open_one(
 ) -> Result<Reply, HubFault>
     ensures memory { result ≡ Err Memory → connections.new.items ≡ connections.old.items }
     ensures fine { result ≡ Err Memory → IsOk (opened number connections.old.items
-        (link_of number connections.old.items)).1 }
+        (connection_state_of number connections.old.items)).1 }
     ensures step { result ≢ Err Memory → (connections.new.items, result)
-        ≡ opened number connections.old.items (link_of number connections.old.items) }
+        ≡ opened number connections.old.items (connection_state_of number connections.old.items) }
 {
     if let Some(_) = find(connections, number) {
         return Err(HubFault::AlreadyOpen);
@@ -81,7 +81,7 @@ pub(crate) fn shut_one(
 ) -> Result<Reply, HubFault>
     ensures memory { result ≢ Err Memory }
     ensures step { (connections.new.items, result)
-        ≡ shut number connections.old.items (link_of number connections.old.items) }
+        ≡ shut number connections.old.items (connection_state_of number connections.old.items) }
 {
     let Some(_) = find(connections, number) else {
         return Err(HubFault::UnknownConn);

@@ -23,30 +23,30 @@ fn is_head(bytes: &[u8]) -> bool
 /// Handles one byte. If it completes a request head, the response is appended to `out`.
 fn take(
     alloc: Global,
-    shelf: &Streams,
+    streams: &Streams,
     pictures: &mut PictureCache,
     byte: u8,
     state_of_connection: &mut ConnectionState,
     out: &mut Buffer,
 ) -> Result<(), AllocError>
     requires fresh { state_of_connection.old.closed ≡ false }
-    requires kept { AreKept shelf.now.sources pictures.old.cache.entries }
-    ensures kept { AreKept shelf.now.sources pictures.new.cache.entries }
-    ensures took { OnOk result (TakesByte shelf.now byte (state_of_connection.old, out.old)
+    requires kept { AreKept streams.now.sources pictures.old.cache.entries }
+    ensures kept { AreKept streams.now.sources pictures.new.cache.entries }
+    ensures took { OnOk result (TakesByte streams.now byte (state_of_connection.old, out.old)
         (state_of_connection.new, out.new)) }
     ensures work { OnOk result ((cost : ℕ)
-        × CostsByte shelf.now byte state_of_connection.old pictures.old.cache pictures.new.cache cost
+        × CostsByte streams.now byte state_of_connection.old pictures.old.cache pictures.new.cache cost
         × (pictures.new.work ≡ saturating_count pictures.old.work cost)) }
     ensures most { OnErr result ((cost : ℕ)
-        × CostsByteAtMost shelf.now byte state_of_connection.old pictures.old.cache pictures.new.cache cost
+        × CostsByteAtMost streams.now byte state_of_connection.old pictures.old.cache pictures.new.cache cost
         × (pictures.old.work ≤ pictures.new.work) × (pictures.new.work ≤ saturating_count pictures.old.work cost)) }
 {
-    let _work = pictures.work;
+    let _known = pictures.work;
     state_of_connection.pending.push(byte)?;
     if is_head(state_of_connection.pending.as_slice()) {
         let close = put_reply(
             alloc,
-            shelf,
+            streams,
             pictures,
             state_of_connection.pending.as_slice(),
             out,
@@ -64,29 +64,29 @@ fn take(
 /// Handles a piece, and appends the responses to `out`.
 pub(crate) fn feed_bytes(
     alloc: Global,
-    shelf: &Streams,
+    streams: &Streams,
     pictures: &mut PictureCache,
     piece: &[u8],
     state_of_connection: &mut ConnectionState,
     out: &mut Buffer,
 ) -> Result<(), AllocError>
-    requires kept { AreKept shelf.now.sources pictures.old.cache.entries }
+    requires kept { AreKept streams.now.sources pictures.old.cache.entries }
     requires idle { pictures.old.work ≡ 0 }
-    ensures kept { AreKept shelf.now.sources pictures.new.cache.entries }
-    ensures served { OnOk result (Serves shelf.now piece.now (state_of_connection.old, out.old)
+    ensures kept { AreKept streams.now.sources pictures.new.cache.entries }
+    ensures served { OnOk result (Serves streams.now piece.now (state_of_connection.old, out.old)
         (state_of_connection.new, out.new)) }
     ensures work { OnOk result ((cost : ℕ)
-        × Costs shelf.now piece.now (state_of_connection.old, out.old)
+        × Costs streams.now piece.now (state_of_connection.old, out.old)
         (state_of_connection.new, out.new) pictures.old.cache pictures.new.cache cost
         × (pictures.new.work ≡ saturating_count 0 cost)) }
-    ensures most { OnErr result (CostsAtMost shelf.now piece.now
+    ensures most { OnErr result (CostsAtMost streams.now piece.now
         (state_of_connection.old, out.old) pictures.old.cache pictures.new.cache pictures.new.work) }
 {
     for byte in piece {
         if state_of_connection.closed {
             break;
         }
-        take(alloc, shelf, pictures, *byte, state_of_connection, out)?;
+        take(alloc, streams, pictures, *byte, state_of_connection, out)?;
     }
     Ok(())
 }

@@ -10,7 +10,8 @@ ghost use Rattle.vp_hub.specs.declared.event.HubFault.TheVariants.{Memory};
 ghost use Rattle.vp_hub.specs.declared.names.NewFault.{NewFault};
 ghost use Rattle.vp_hub.specs.Heads.{AllKeepPartial};
 ghost use Rattle.vp_hub.specs.Names.{are_names as may_be_names};
-ghost use Rattle.vp_hub.specs.Hub.{AreKept, IsStep, Outcome, HubState, initial_hub, link_of, with_link, Gets, Asks};
+ghost use Rattle.vp_hub.specs.Hub.{AreKept, IsStep, Outcome, HubState, initial_hub, connection_state_of};
+ghost use Rattle.vp_hub.specs.Hub.{with_connection_state, Gets, Asks};
 ghost use Rattle.vp_hub.specs.Hub.{is_open};
 ghost use Rattle.vp_hub.specs.Pieces.{AreAcceptedEnds, AreAcceptedPieces};
 ghost use Rattle.vp_hub.specs.View.{IsRun, IsIsolated};
@@ -32,7 +33,7 @@ use vp_heads::Buffer;
 #[derive(Drop)]
 pub struct Hub {
     alloc: Global,
-    shelf: Streams,
+    streams: Streams,
     connections: Vec<Connection>,
     pictures: PictureCache,
 }
@@ -44,13 +45,13 @@ impl Model for Hub {
     ghost Value = { Hub };
 
     ghost view = { λ h. record {
-      state = record { streams = h.shelf; connections = h.connections.items };
+      state = record { streams = h.streams; connections = h.connections.items };
       cache = h.pictures.cache;
       work = h.pictures.work;
     } };
 
     // All cached pictures are the answers of the streams.
-    ghost invariant = { λ h. AreKept h.shelf.sources h.pictures.cache.entries };
+    ghost invariant = { λ h. AreKept h.streams.sources h.pictures.cache.entries };
 }
 
 impl Hub {
@@ -71,7 +72,7 @@ impl Hub {
         if !are_names(&names) {
             return Err(NewFault::Names);
         }
-        let Ok(shelf) = Streams::new(alloc, names, limits) else {
+        let Ok(streams) = Streams::new(alloc, names, limits) else {
             return Err(NewFault::Memory);
         };
         let Ok(cache) = Cache::new(alloc, limits.cache) else {
@@ -79,7 +80,7 @@ impl Hub {
         };
         Ok(Hub {
             alloc,
-            shelf,
+            streams,
             connections: Vec::new(alloc),
             pictures: PictureCache { cache, work: 0 },
         })
@@ -120,10 +121,10 @@ impl Hub {
         self.pictures.begin();
         match event {
             Event::Feed(name, piece) => {
-                self.shelf
+                self.streams
                     .feed(self.alloc, name.as_slice(), piece.as_slice())
             }
-            Event::End(name) => self.shelf.end(self.alloc, name.as_slice()),
+            Event::End(name) => self.streams.end(self.alloc, name.as_slice()),
             Event::Open(number) => open_one(self.alloc, &mut self.connections, *number),
             Event::Bytes(number, piece) => self.bytes(*number, piece.as_slice()),
             Event::Shut(number) => shut_one(self.alloc, &mut self.connections, *number),
@@ -138,7 +139,7 @@ impl Hub {
         self.pictures.begin();
         ask(
             self.alloc,
-            &self.shelf,
+            &self.streams,
             &mut self.pictures,
             &mut self.connections,
             number,
@@ -189,35 +190,36 @@ fn put(results: &mut Vec<Result<Reply, HubFault>>, res: Result<Reply, HubFault>)
 /// Handles bytes of the connection with this number.
 fn ask(
     alloc: Global,
-    shelf: &Streams,
+    streams: &Streams,
     pictures: &mut PictureCache,
     connections: &mut Vec<Connection>,
     number: u32,
     piece: &[u8],
 ) -> Result<Reply, HubFault>
-    requires kept { AreKept shelf.now.sources pictures.old.cache.entries }
+    requires kept { AreKept streams.now.sources pictures.old.cache.entries }
     requires idle { pictures.old.work ≡ 0 }
-    ensures kept { AreKept shelf.now.sources pictures.new.cache.entries }
+    ensures kept { AreKept streams.now.sources pictures.new.cache.entries }
     ensures memory { result ≡ Err Memory → connections.new.items
-        ≡ with_link number (record { pending = []; closed = true }) connections.old.items }
-    ensures fine { result ≡ Err Memory → is_open (link_of number connections.old.items) ≡ true }
+        ≡ with_connection_state number (record { pending = []; closed = true }) connections.old.items }
+    ensures fine { result ≡ Err Memory → is_open (connection_state_of number connections.old.items) ≡ true }
     ensures step { result ≢ Err Memory →
-        Asks shelf.now number piece.now connections.old.items (link_of number connections.old.items)
+        Asks streams.now number piece.now connections.old.items (connection_state_of number connections.old.items)
         (connections.new.items, result) }
     ensures work { result ≢ Err Memory → (cost : ℕ)
-        × CostsPiece shelf.now piece.now (link_of number connections.old.items) pictures.old.cache pictures.new.cache
+        × CostsPiece streams.now piece.now
+        (connection_state_of number connections.old.items) pictures.old.cache pictures.new.cache
         cost
         × (pictures.new.work ≡ saturating_count 0 cost) }
     ensures most { result ≡ Err Memory →
-        CostsPieceAtMost shelf.now piece.now
-        (link_of number connections.old.items) pictures.old.cache pictures.new.cache pictures.new.work }
+        CostsPieceAtMost streams.now piece.now
+        (connection_state_of number connections.old.items) pictures.old.cache pictures.new.cache pictures.new.work }
 {
     let Some(place) = find(connections, number) else {
         return Err(HubFault::UnknownConn);
     };
     answer(
         alloc,
-        shelf,
+        streams,
         pictures,
         &mut connections[place].state_of_connection,
         piece,
@@ -227,30 +229,37 @@ fn ask(
 /// Handles bytes of an open or closed connection.
 fn answer(
     alloc: Global,
-    shelf: &Streams,
+    streams: &Streams,
     pictures: &mut PictureCache,
     state_of_connection: &mut ConnectionState,
     piece: &[u8],
 ) -> Result<Reply, HubFault>
-    requires kept { AreKept shelf.now.sources pictures.old.cache.entries }
+    requires kept { AreKept streams.now.sources pictures.old.cache.entries }
     requires idle { pictures.old.work ≡ 0 }
-    ensures kept { AreKept shelf.now.sources pictures.new.cache.entries }
+    ensures kept { AreKept streams.now.sources pictures.new.cache.entries }
     ensures memory { result ≡ Err Memory → state_of_connection.new ≡ record { pending = []; closed = true } }
     ensures fine { result ≡ Err Memory → state_of_connection.old.closed ≡ false }
-    ensures step { result ≢ Err Memory → Gets shelf.now piece.now state_of_connection.old
+    ensures step { result ≢ Err Memory → Gets streams.now piece.now state_of_connection.old
         (state_of_connection.new, result) }
     ensures work { result ≢ Err Memory → (cost : ℕ)
-        × CostsPiece shelf.now piece.now (Some state_of_connection.old) pictures.old.cache pictures.new.cache cost
+        × CostsPiece streams.now piece.now (Some state_of_connection.old) pictures.old.cache pictures.new.cache cost
         × (pictures.new.work ≡ saturating_count 0 cost) }
     ensures most { result ≡ Err Memory →
-        CostsPieceAtMost shelf.now piece.now
+        CostsPieceAtMost streams.now piece.now
         (Some state_of_connection.old) pictures.old.cache pictures.new.cache pictures.new.work }
 {
     if state_of_connection.closed {
         return Err(HubFault::Failed);
     }
     let mut out = Buffer::new(alloc);
-    let Ok(()) = feed_bytes(alloc, shelf, pictures, piece, state_of_connection, &mut out) else {
+    let Ok(()) = feed_bytes(
+        alloc,
+        streams,
+        pictures,
+        piece,
+        state_of_connection,
+        &mut out,
+    ) else {
         state_of_connection.pending.clear();
         state_of_connection.closed = true;
         return Err(HubFault::Memory);

@@ -167,32 +167,41 @@ fn put_answer(
     }
 }
 
+/// The picture that a request asks for: packet `n` of the stream at `place`, as a Y4M file if `video` is set.
+#[derive(Clone, Copy)]
+struct AskedPicture {
+    place: usize,
+    n: u32,
+    video: bool,
+}
+
 /// Appends the response for packet `n` of a stream. A cached picture is borrowed, not copied.
 fn put_picture(
     alloc: Global,
     source: &Source,
     pictures: &mut PictureCache,
     request: Request,
-    video: bool,
-    place: usize,
-    n: u32,
+    asked: AskedPicture,
     out: &mut Buffer,
 ) -> Result<(), AllocError>
-    requires { AreAnswersOf place source.now.stream pictures.old.cache.entries }
-    ensures content { OnOk result (out.new ≡ out.old ++ reply_to request (picture_content video (Some source.now) n)) }
+    requires { AreAnswersOf asked.place source.now.stream pictures.old.cache.entries }
+    ensures content { OnOk result (out.new ≡ out.old ++ reply_to request
+        (picture_content asked.video (Some source.now) asked.n)) }
     ensures work { OnOk result (pictures.new.work ≡ saturating_count pictures.old.work
-        (picture_cost (Some source.now) place n pictures.old.cache)) }
+        (picture_cost (Some source.now) asked.place asked.n pictures.old.cache)) }
     ensures most { OnErr result ((pictures.old.work ≤ pictures.new.work)
         × (pictures.new.work ≤ saturating_count pictures.old.work
-        (picture_cost (Some source.now) place n pictures.old.cache))) }
-    ensures after { OnOk result (IsAfterPicture (Some source.now) place n pictures.old.cache pictures.new.cache) }
+        (picture_cost (Some source.now) asked.place asked.n pictures.old.cache))) }
+    ensures after { OnOk result (IsAfterPicture
+        (Some source.now) asked.place asked.n pictures.old.cache pictures.new.cache) }
     ensures left { OnErr result ((pictures.new.cache ≡ pictures.old.cache)
-        ⊎ IsAfterPicture (Some source.now) place n pictures.old.cache pictures.new.cache) }
-    ensures kept { AreAnswersOf place source.now.stream pictures.new.cache.entries }
-    ensures others { (other : ℕ) (s : StreamState) → other ≢ place →
+        ⊎ IsAfterPicture (Some source.now) asked.place asked.n pictures.old.cache pictures.new.cache) }
+    ensures kept { AreAnswersOf asked.place source.now.stream pictures.new.cache.entries }
+    ensures others { (other : ℕ) (s : StreamState) → other ≢ asked.place →
         AreAnswersOf other s pictures.old.cache.entries → AreAnswersOf other s pictures.new.cache.entries }
 {
-    let _work = pictures.work;
+    let _known = pictures.work;
+    let AskedPicture { place, n, video } = asked;
     let head = source.stream.head();
     if let Some(kept) = pictures.cache.cached(place, n) {
         put_shown(
@@ -216,31 +225,30 @@ fn put_picture(
 /// Appends the response for packet `n` of the stream at a place, which may not exist.
 fn put_picture_of(
     alloc: Global,
-    shelf: &Streams,
+    streams: &Streams,
     pictures: &mut PictureCache,
     request: Request,
-    video: bool,
-    place: usize,
-    n: u32,
+    asked: AskedPicture,
     out: &mut Buffer,
 ) -> Result<(), AllocError>
-    requires { AreKept shelf.now.sources pictures.old.cache.entries }
+    requires { AreKept streams.now.sources pictures.old.cache.entries }
     ensures content { OnOk result (out.new ≡ out.old ++ reply_to request
-        (picture_content video (slice_get shelf.now.sources place) n)) }
+        (picture_content asked.video (slice_get streams.now.sources asked.place) asked.n)) }
     ensures work { OnOk result (pictures.new.work ≡ saturating_count pictures.old.work
-        (picture_cost (slice_get shelf.now.sources place) place n pictures.old.cache)) }
+        (picture_cost (slice_get streams.now.sources asked.place) asked.place asked.n pictures.old.cache)) }
     ensures most { OnErr result ((pictures.old.work ≤ pictures.new.work)
         × (pictures.new.work ≤ saturating_count pictures.old.work
-        (picture_cost (slice_get shelf.now.sources place) place n pictures.old.cache))) }
+        (picture_cost (slice_get streams.now.sources asked.place) asked.place asked.n pictures.old.cache))) }
     ensures after { OnOk result (IsAfterPicture
-        (slice_get shelf.now.sources place) place n pictures.old.cache pictures.new.cache) }
+        (slice_get streams.now.sources asked.place) asked.place asked.n pictures.old.cache pictures.new.cache) }
     ensures left { OnErr result ((pictures.new.cache ≡ pictures.old.cache)
-        ⊎ IsAfterPicture (slice_get shelf.now.sources place) place n pictures.old.cache pictures.new.cache) }
-    ensures kept { AreKept shelf.now.sources pictures.new.cache.entries }
+        ⊎ IsAfterPicture (slice_get streams.now.sources asked.place) asked.place asked.n pictures.old.cache
+        pictures.new.cache) }
+    ensures kept { AreKept streams.now.sources pictures.new.cache.entries }
 {
-    let _work = pictures.work;
-    match shelf.source(place) {
-        Some(source) => put_picture(alloc, source, pictures, request, video, place, n, out),
+    let _known = pictures.work;
+    match streams.source(asked.place) {
+        Some(source) => put_picture(alloc, source, pictures, request, asked, out),
         None => put_error(alloc, request, Status::NotFound, out),
     }
 }
@@ -248,35 +256,45 @@ fn put_picture_of(
 /// Appends the response to a request.
 fn put_content(
     alloc: Global,
-    shelf: &Streams,
+    streams: &Streams,
     pictures: &mut PictureCache,
     request: Request,
     out: &mut Buffer,
 ) -> Result<(), AllocError>
-    requires { AreKept shelf.now.sources pictures.old.cache.entries }
-    ensures content { OnOk result (out.new ≡ out.old ++ reply_to request (content_of shelf.now request.wanted)) }
+    requires { AreKept streams.now.sources pictures.old.cache.entries }
+    ensures content { OnOk result (out.new ≡ out.old ++ reply_to request (content_of streams.now request.wanted)) }
     ensures work { OnOk result (pictures.new.work ≡ saturating_count pictures.old.work
-        (cost_of shelf.now request.wanted pictures.old.cache)) }
+        (cost_of streams.now request.wanted pictures.old.cache)) }
     ensures most { OnErr result ((pictures.old.work ≤ pictures.new.work)
         × (pictures.new.work ≤ saturating_count pictures.old.work
-        (cost_of shelf.now request.wanted pictures.old.cache))) }
-    ensures after { OnOk result (IsAfterAsked shelf.now request.wanted pictures.old.cache pictures.new.cache) }
+        (cost_of streams.now request.wanted pictures.old.cache))) }
+    ensures after { OnOk result (IsAfterAsked streams.now request.wanted pictures.old.cache pictures.new.cache) }
     ensures left { OnErr result ((pictures.new.cache ≡ pictures.old.cache)
-        ⊎ IsAfterAsked shelf.now request.wanted pictures.old.cache pictures.new.cache) }
-    ensures kept { AreKept shelf.now.sources pictures.new.cache.entries }
+        ⊎ IsAfterAsked streams.now request.wanted pictures.old.cache pictures.new.cache) }
+    ensures kept { AreKept streams.now.sources pictures.new.cache.entries }
 {
-    let _work = pictures.work;
+    let _known = pictures.work;
     match request.wanted {
         Resource::Bad => put_error(alloc, request, Status::BadRequest, out),
         Resource::WrongMethod => put_error(alloc, request, Status::MethodNotAllowed, out),
         Resource::Missing => put_error(alloc, request, Status::NotFound, out),
-        Resource::Streams => put_names(alloc, request, shelf.names(), out),
-        Resource::Info(place) => put_info(alloc, request, shelf.source(place), out),
+        Resource::Streams => put_names(alloc, request, streams.names(), out),
+        Resource::Info(place) => put_info(alloc, request, streams.source(place), out),
         Resource::Frame(place, n) => {
-            put_picture_of(alloc, shelf, pictures, request, false, place, n, out)
+            let asked = AskedPicture {
+                place,
+                n,
+                video: false,
+            };
+            put_picture_of(alloc, streams, pictures, request, asked, out)
         }
         Resource::Video(place, n) => {
-            put_picture_of(alloc, shelf, pictures, request, true, place, n, out)
+            let asked = AskedPicture {
+                place,
+                n,
+                video: true,
+            };
+            put_picture_of(alloc, streams, pictures, request, asked, out)
         }
     }
 }
@@ -285,21 +303,21 @@ fn put_content(
 #[tactic(auto, unfolding(crate::specs::Pages::IsReply))]
 pub(crate) fn put_reply(
     alloc: Global,
-    shelf: &Streams,
+    streams: &Streams,
     pictures: &mut PictureCache,
     head: &[u8],
     out: &mut Buffer,
 ) -> Result<bool, AllocError>
-    requires { AreKept shelf.now.sources pictures.old.cache.entries }
-    ensures reply { IfOk result (λ close. (bytes : List ℕ) × IsReply shelf.now head.now (bytes, close)
+    requires { AreKept streams.now.sources pictures.old.cache.entries }
+    ensures reply { IfOk result (λ close. (bytes : List ℕ) × IsReply streams.now head.now (bytes, close)
         × (out.new ≡ out.old ++ bytes)) }
-    ensures work { OnOk result ((cost : ℕ) × IsCost shelf.now head.now pictures.old.cache pictures.new.cache cost
+    ensures work { OnOk result ((cost : ℕ) × IsCost streams.now head.now pictures.old.cache pictures.new.cache cost
         × (pictures.new.work ≡ saturating_count pictures.old.work cost)) }
-    ensures most { OnErr result ((cost : ℕ) × IsMostCost shelf.now head.now pictures.old.cache pictures.new.cache cost
+    ensures most { OnErr result ((cost : ℕ) × IsMostCost streams.now head.now pictures.old.cache pictures.new.cache cost
         × (pictures.old.work ≤ pictures.new.work) × (pictures.new.work ≤ saturating_count pictures.old.work cost)) }
-    ensures kept { AreKept shelf.now.sources pictures.new.cache.entries }
+    ensures kept { AreKept streams.now.sources pictures.new.cache.entries }
 {
-    let request = shelf.read(head);
-    put_content(alloc, shelf, pictures, request, out)?;
+    let request = streams.read(head);
+    put_content(alloc, streams, pictures, request, out)?;
     Ok(request.closing)
 }

@@ -5,7 +5,7 @@ ghost use Rattle.std.specs.Io.KnownBytes.{Consumes};
 ghost use Rattle.vp_base.specs.Counted.{counted_remaining, counted_contents, counted_failures, counted_reads, one_more};
 ghost use Rattle.vp_base.specs.Counted.{HasFailed, HasRisenBy};
 ghost use Rattle.vp_hub.specs.declared.session.ServeFault.{ServeFault};
-ghost use Rattle.vp_hub.specs.Hub.{link_of, new_link};
+ghost use Rattle.vp_hub.specs.Hub.{connection_state_of, new_connection_state};
 ghost use Rattle.vp_hub.specs.Names.{serve_fault_name};
 ghost use Rattle.vp_hub.specs.Sessions.{Exchanges, IsOpenSession, IsSession, IsTurnedAway, StandsApart};
 
@@ -91,7 +91,7 @@ fn serve_open<R: Read, W: Write>(
     reader: &mut Counted<R>,
     writer: &mut Counted<W>,
 ) -> Result<(), ServeFault>
-    requires { link_of conn hub.old.state.connections ≡ Some new_link }
+    requires { connection_state_of conn hub.old.state.connections ≡ Some new_connection_state }
     ensures talked { (read : List ℕ)
         × Consumes (counted_remaining R.remaining reader.old) (counted_remaining R.remaining reader.new) read
         × IsOpenSession conn hub.old.state hub.new.state result read (counted_remaining R.remaining reader.new)

@@ -90,8 +90,8 @@ fn predict<const N: usize, const W: usize, const L: usize, const M: usize>(
     ensures { (r c : ℕ) → r < N → c < N → slice_index result (r * N + c)
         ≡ inter_pixel version plane.now x y vector r c }
 {
-    let _width = plane.width();
-    let _height = plane.height();
+    let _known = plane.width();
+    let _known = plane.height();
     let left = first_tap(x, vector.column);
     let top = first_tap(y, vector.row);
     let across = fraction(vector.column);

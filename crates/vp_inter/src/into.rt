@@ -30,7 +30,7 @@ pub fn predict_into16(
     ensures { picture.new ≡ with_plane picture.old k (with_block (plane_of picture.old k) x y 16 16
         (inter_pixel version reference.now x y vector)) }
 {
-    let _size = [picture.plane(k).width(), picture.plane(k).height()];
+    let _known = [picture.plane(k).width(), picture.plane(k).height()];
     if !copied_whole::<16>(picture, k, x, y, reference, vector) {
         let block = predict_block16(reference, x, y, vector, version);
         picture.write_block::<16>(k, x, y, &block);
@@ -55,7 +55,7 @@ pub fn predict_into8(
     ensures { picture.new ≡ with_plane picture.old k (with_block (plane_of picture.old k) x y 8 8
         (inter_pixel version reference.now x y vector)) }
 {
-    let _size = [picture.plane(k).width(), picture.plane(k).height()];
+    let _known = [picture.plane(k).width(), picture.plane(k).height()];
     if !copied_whole::<8>(picture, k, x, y, reference, vector) {
         let block = predict_block8(reference, x, y, vector, version);
         picture.write_block::<8>(k, x, y, &block);
@@ -80,7 +80,7 @@ pub fn predict_into4(
     ensures { picture.new ≡ with_plane picture.old k (with_block (plane_of picture.old k) x y 4 4
         (inter_pixel version reference.now x y vector)) }
 {
-    let _size = [picture.plane(k).width(), picture.plane(k).height()];
+    let _known = [picture.plane(k).width(), picture.plane(k).height()];
     if !copied_whole::<4>(picture, k, x, y, reference, vector) {
         let block = predict_block4(reference, x, y, vector, version);
         picture.write_block::<4>(k, x, y, &block);

@@ -31,7 +31,7 @@ pub(crate) fn edge_left<const N: usize>(plane: &Plane, x: usize, y: usize) -> [u
     ensures { result ≡ first N (left_pixel plane.now x y) }
 {
     let mut edge = [129; N];
-    let _height = plane.height();
+    let _known = plane.height();
     if x > 0 {
         for r in 0..N {
             edge[r] = plane.get(x - 1, y + r);

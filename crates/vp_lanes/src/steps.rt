@@ -87,28 +87,28 @@ pub fn weighted_filter_value(w: u8x16, k: u8) -> u8x16
     ((w.cast::<u16>() * u16x16::splat(k as u16) + u16x16::splat(63)) >> 7).cast::<u8>()
 }
 
-/// `x + by` clamped to 0 to 255; `by` has bias `held_by`. The second clause states that the lanes of `x` are bytes, so
+/// `x + by` clamped to 0 to 255; `by` has bias `bias`. The second clause states that the lanes of `x` are bytes, so
 /// adding 0 doesn't change them.
-pub fn raised(x: u8x16, by: u8x16, held_by: u8) -> u8x16
+pub fn raised(x: u8x16, by: u8x16, bias: u8) -> u8x16
     ensures value { (j : ℕ) → j < 16 → slice_index result j ≡ clamp_to_byte
-        (pos (slice_index x j) +ℤ biased held_by by j) }
+        (pos (slice_index x j) +ℤ biased bias by j) }
     ensures bytes { (j : ℕ) → j < 16 → slice_index x j < 256 }
 {
-    let zero = u8x16::splat(held_by);
+    let zero = u8x16::splat(bias);
     saturating_difference(
         saturating_sum(x, saturating_difference(by, zero)),
         saturating_difference(zero, by),
     )
 }
 
-/// `x - by` clamped to 0 to 255; `by` has bias `held_by`. The second clause states that the lanes of `x` are bytes, so
+/// `x - by` clamped to 0 to 255; `by` has bias `bias`. The second clause states that the lanes of `x` are bytes, so
 /// subtracting 0 doesn't change them.
-pub fn lowered(x: u8x16, by: u8x16, held_by: u8) -> u8x16
+pub fn lowered(x: u8x16, by: u8x16, bias: u8) -> u8x16
     ensures value { (j : ℕ) → j < 16 → slice_index result j ≡ clamp_to_byte
-        (pos (slice_index x j) -ℤ biased held_by by j) }
+        (pos (slice_index x j) -ℤ biased bias by j) }
     ensures bytes { (j : ℕ) → j < 16 → slice_index x j < 256 }
 {
-    let zero = u8x16::splat(held_by);
+    let zero = u8x16::splat(bias);
     saturating_difference(
         saturating_sum(x, saturating_difference(zero, by)),
         saturating_difference(by, zero),
@@ -140,24 +140,24 @@ pub fn masked(w: u8x16, edge: u8x16, outer: u8x16, limit: u8, most: u8x16, inter
         .select(w, u8x16::splat(128))
 }
 
-/// `w` in the lines of high edge variance, else 0. `w` and the result have bias `held_by`.
-pub fn where_high(w: u8x16, apart: u8x16, threshold: u8, held_by: u8) -> u8x16
-    ensures { (j : ℕ) → j < 16 → biased held_by result j ≡ cond (nat_lt threshold (slice_index apart j))
-        (biased held_by w j) (pos 0) }
+/// `w` in the lines of high edge variance, else 0. `w` and the result have bias `bias`.
+pub fn where_high(w: u8x16, apart: u8x16, threshold: u8, bias: u8) -> u8x16
+    ensures { (j : ℕ) → j < 16 → biased bias result j ≡ cond (nat_lt threshold (slice_index apart j))
+        (biased bias w j) (pos 0) }
 {
     apart
         .simd_gt(u8x16::splat(threshold))
-        .select(w, u8x16::splat(held_by))
+        .select(w, u8x16::splat(bias))
 }
 
-/// `w` in the lines without high edge variance, else 0. `w` and the result have bias `held_by`.
-pub fn where_low(w: u8x16, apart: u8x16, threshold: u8, held_by: u8) -> u8x16
-    ensures { (j : ℕ) → j < 16 → biased held_by result j ≡ cond (nat_lt threshold (slice_index apart j)) (pos 0)
-        (biased held_by w j) }
+/// `w` in the lines without high edge variance, else 0. `w` and the result have bias `bias`.
+pub fn where_low(w: u8x16, apart: u8x16, threshold: u8, bias: u8) -> u8x16
+    ensures { (j : ℕ) → j < 16 → biased bias result j ≡ cond (nat_lt threshold (slice_index apart j)) (pos 0)
+        (biased bias w j) }
 {
     apart
         .simd_gt(u8x16::splat(threshold))
-        .select(u8x16::splat(held_by), w)
+        .select(u8x16::splat(bias), w)
 }
 
 /// `a` in the lines of high edge variance, else `b`. `a` has bias 16, `b` and the result 27.

@@ -61,7 +61,7 @@ fn filter_luma_along(picture: &mut Picture, x: usize, y: usize, step: LineStep)
     ensures wide { picture.new.luma.width ≡ picture.old.luma.width }
     ensures high { picture.new.luma.height ≡ picture.old.luma.height }
 {
-    let _height = picture.plane(0).height();
+    let _known = picture.plane(0).height();
     let l = step.apply_to_all(lines_along(picture.plane(0), x, y));
     let lines = untranspose(l.p3, l.p2, l.p1, l.p0, l.q0, l.q1, l.q2, l.q3);
     write_rows8(picture, 0, x, y, &lines);
@@ -78,7 +78,7 @@ fn filter_luma_inside_along(picture: &mut Picture, x: usize, y: usize, step: Lin
     ensures wide { picture.new.luma.width ≡ picture.old.luma.width }
     ensures high { picture.new.luma.height ≡ picture.old.luma.height }
 {
-    let _width = picture.plane(0).width();
+    let _known = picture.plane(0).width();
     let l = step.apply_to_all(lines_along(picture.plane(0), x, y));
     let lines = untranspose_middle(l.p1, l.p0, l.q0, l.q1);
     write_rows4(picture, 0, x + 2, y, &lines);
@@ -96,7 +96,7 @@ fn filter_luma_down(picture: &mut Picture, x: usize, y: usize, step: LineStep, k
     ensures wide { picture.new.luma.width ≡ picture.old.luma.width }
     ensures high { picture.new.luma.height ≡ picture.old.luma.height }
 {
-    let _height = picture.plane(0).height();
+    let _known = picture.plane(0).height();
     let l = step.apply_to_all(lines_down(picture.plane(0), x, y));
     let rows = [l.p3, l.p2, l.p1, l.p0, l.q0, l.q1, l.q2, l.q3];
     write_rows16(picture, 0, x, y + kept, &rows[kept..8 - kept]);
@@ -115,8 +115,8 @@ fn filter_colours_along(picture: &mut Picture, x: usize, y: usize, step: LineSte
     ensures v_wide { picture.new.v.width ≡ picture.old.v.width }
     ensures v_high { picture.new.v.height ≡ picture.old.v.height }
 {
-    let _u_height = picture.plane(1).height();
-    let _v_height = picture.plane(2).height();
+    let _known = picture.plane(1).height();
+    let _known = picture.plane(2).height();
     let l = step.apply_to_all(lines_along_both(picture.plane(1), picture.plane(2), x, y));
     let lines = untranspose(l.p3, l.p2, l.p1, l.p0, l.q0, l.q1, l.q2, l.q3);
     write_rows8(picture, 1, x, y, &lines[0..8]);
@@ -138,8 +138,8 @@ fn filter_colours_down(picture: &mut Picture, x: usize, y: usize, step: LineStep
     ensures v_wide { picture.new.v.width ≡ picture.old.v.width }
     ensures v_high { picture.new.v.height ≡ picture.old.v.height }
 {
-    let _u_height = picture.plane(1).height();
-    let _v_height = picture.plane(2).height();
+    let _known = picture.plane(1).height();
+    let _known = picture.plane(2).height();
     let l = step.apply_to_all(lines_down_both(picture.plane(1), picture.plane(2), x, y));
     let u_rows = first_halves(l);
     let v_rows = second_halves(l);
@@ -157,7 +157,7 @@ fn filter_inner_luma_along(picture: &mut Picture, x: usize, y: usize, step: Line
     ensures wide { picture.new.luma.width ≡ picture.old.luma.width }
     ensures high { picture.new.luma.height ≡ picture.old.luma.height }
 {
-    let _width = picture.plane(0).width();
+    let _known = picture.plane(0).width();
     for i in 0..3 {
         filter_luma_inside_along(picture, x + 4 * i, y, step);
     }
@@ -173,7 +173,7 @@ fn filter_inner_luma_down(picture: &mut Picture, x: usize, y: usize, step: LineS
     ensures wide { picture.new.luma.width ≡ picture.old.luma.width }
     ensures high { picture.new.luma.height ≡ picture.old.luma.height }
 {
-    let _height = picture.plane(0).height();
+    let _known = picture.plane(0).height();
     for i in 0..3 {
         filter_luma_down(picture, x, y + 4 * i, step, 2);
     }
@@ -194,8 +194,8 @@ fn filter_inner_colours_along(picture: &mut Picture, x: usize, y: usize, step: L
     ensures v_wide { picture.new.v.width ≡ picture.old.v.width }
     ensures v_high { picture.new.v.height ≡ picture.old.v.height }
 {
-    let _u_width = picture.plane(1).width();
-    let _v_width = picture.plane(2).width();
+    let _known = picture.plane(1).width();
+    let _known = picture.plane(2).width();
     let l = step.apply_to_all(lines_along_both(picture.plane(1), picture.plane(2), x, y));
     let lines = untranspose_middle(l.p1, l.p0, l.q0, l.q1);
     write_rows4(picture, 1, x + 2, y, &lines[0..8]);

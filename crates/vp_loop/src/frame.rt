@@ -16,7 +16,7 @@ fn filter_macroblock(picture: &mut Picture, level: Level, column: usize, row: us
     requires row { row < macroblocks picture.old.height }
     ensures { picture.new ≡ macroblock_filtered level column row picture.old }
 {
-    let _dim = picture.dim();
+    let _known = picture.dim();
     filter_luma(picture, 16 * column, 16 * row, level);
     if level.interior > 0 {
         filter_colours(picture, 8 * column, 8 * row, level);

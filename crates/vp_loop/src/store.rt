@@ -65,7 +65,7 @@ pub(crate) fn write_rows16(picture: &mut Picture, k: usize, x: usize, y: usize, 
     ensures { picture.new ≡ on_plane k (λ p. with_block p x y 16 (length rows.now)
         (λ r c. slice_index (slice_index_or rows.now r []) c)) picture.old }
 {
-    let _height = picture.plane(k).height();
+    let _known = picture.plane(k).height();
     let stride = picture.plane(k).width();
     put_rows16(picture.pixels_mut(k), y * stride + x, stride, rows);
 }
@@ -97,7 +97,7 @@ pub(crate) fn write_rows8(picture: &mut Picture, k: usize, x: usize, y: usize, r
     ensures { picture.new ≡ on_plane k (λ p. with_block p x y 8 (length rows.now)
         (λ r c. slice_index (slice_index_or rows.now r []) c)) picture.old }
 {
-    let _height = picture.plane(k).height();
+    let _known = picture.plane(k).height();
     let stride = picture.plane(k).width();
     put_rows8(picture.pixels_mut(k), y * stride + x, stride, rows);
 }
@@ -129,7 +129,7 @@ pub(crate) fn write_rows4(picture: &mut Picture, k: usize, x: usize, y: usize, r
     ensures { picture.new ≡ on_plane k (λ p. with_block p x y 4 (length rows.now)
         (λ r c. slice_index (slice_index_or rows.now r []) c)) picture.old }
 {
-    let _height = picture.plane(k).height();
+    let _known = picture.plane(k).height();
     let stride = picture.plane(k).width();
     put_rows4(picture.pixels_mut(k), y * stride + x, stride, rows);
 }

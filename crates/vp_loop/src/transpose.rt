@@ -371,7 +371,7 @@ pub(crate) fn lines_down(plane: &Plane, x: usize, y: usize) -> Lines
     requires rows { y + 8 ≤ plane.now.height }
     ensures { (c : ℕ) → c < 16 → line_of result c ≡ line_at down plane.now (x + c) y }
 {
-    let _height = plane.height();
+    let _known = plane.height();
     let stride = plane.width();
     rows_down(plane.pixels(), y * stride + x, stride)
 }
@@ -386,8 +386,8 @@ pub(crate) fn lines_down_both(u: &Plane, v: &Plane, x: usize, y: usize) -> Lines
     ensures first { (c : ℕ) → c < 8 → line_of result c ≡ line_at down u.now (x + c) y }
     ensures second { (c : ℕ) → c < 8 → line_of result (8 + c) ≡ line_at down v.now (x + c) y }
 {
-    let _u_height = u.height();
-    let _v_height = v.height();
+    let _known = u.height();
+    let _known = v.height();
     let us = u.width();
     let vs = v.width();
     rows_down_both(u.pixels(), y * us + x, us, v.pixels(), y * vs + x, vs)
@@ -400,7 +400,7 @@ pub(crate) fn lines_along(plane: &Plane, x: usize, y: usize) -> Lines
     requires rows { y + 16 ≤ plane.now.height }
     ensures { (j : ℕ) → j < 16 → line_of result j ≡ line_at along plane.now x (y + j) }
 {
-    let _height = plane.height();
+    let _known = plane.height();
     let stride = plane.width();
     rows_along(plane.pixels(), y * stride + x, stride)
 }
@@ -415,8 +415,8 @@ pub(crate) fn lines_along_both(u: &Plane, v: &Plane, x: usize, y: usize) -> Line
     ensures first { (j : ℕ) → j < 8 → line_of result j ≡ line_at along u.now x (y + j) }
     ensures second { (j : ℕ) → j < 8 → line_of result (8 + j) ≡ line_at along v.now x (y + j) }
 {
-    let _u_height = u.height();
-    let _v_height = v.height();
+    let _known = u.height();
+    let _known = v.height();
     let us = u.width();
     let vs = v.width();
     rows_along_both(u.pixels(), y * us + x, us, v.pixels(), y * vs + x, vs)

@@ -40,8 +40,8 @@ pub(crate) fn add_residues<const ACROSS: usize>(
         (with_block (plane_of picture.old plane) x y (4 * ACROSS) (4 * ACROSS)
         (λ r c. summed (pixel (plane_of picture.old plane) (x + c) (y + r)) (residue_at ACROSS residue r c))) }
 {
-    let _width = picture.plane(plane).width();
-    let _height = picture.plane(plane).height();
+    let _known = picture.plane(plane).width();
+    let _known = picture.plane(plane).height();
     if residues.has_none(ACROSS * ACROSS) {
         return;
     }
@@ -78,7 +78,7 @@ fn add_by_fours<const ACROSS: usize>(
     ensures wide { (plane_of picture.new plane).width ≡ (plane_of picture.old plane).width }
     ensures high { (plane_of picture.new plane).height ≡ (plane_of picture.old plane).height }
 {
-    let _height = picture.plane(plane).height();
+    let _known = picture.plane(plane).height();
     if ACROSS == 4 && residues.has_firsts_alone(k) {
         add_four(picture, plane, x, y + 4 * (k / 4), residues, k);
         return;
@@ -115,8 +115,8 @@ fn add_by_twos<const ACROSS: usize>(
     ensures wide { (plane_of picture.new plane).width ≡ (plane_of picture.old plane).width }
     ensures high { (plane_of picture.new plane).height ≡ (plane_of picture.old plane).height }
 {
-    let _width = picture.plane(plane).width();
-    let _height = picture.plane(plane).height();
+    let _known = picture.plane(plane).width();
+    let _known = picture.plane(plane).height();
     if residues.has_in_pair(k) {
         let column = x + 4 * (k % ACROSS);
         let row = y + 4 * (k / ACROSS);
@@ -188,7 +188,7 @@ fn add_each(picture: &mut Picture, plane: usize, x: usize, y: usize, residues: &
     ensures { picture.new ≡ with_plane picture.old plane (with_both_added (plane_of picture.old plane) x y
         (residue_in residues.now k) (residue_in residues.now (k + 1))) }
 {
-    let _width = picture.plane(plane).width();
+    let _known = picture.plane(plane).width();
     add_kept(picture, plane, x, y, residues.kept(k));
     add_kept(picture, plane, x + 4, y, residues.kept(k + 1));
 }

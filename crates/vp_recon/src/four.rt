@@ -45,7 +45,7 @@ fn write16(picture: &mut Picture, k: usize, x: usize, y: usize, row: u8x16)
     ensures value { picture.new ≡ with_plane picture.old k (with_run (plane_of picture.old k) x y row) }
     ensures long { length row ≡ 16 }
 {
-    let _width = picture.plane(k).width();
+    let _known = picture.plane(k).width();
     store16(picture.row_mut(k, y), x, row);
 }
 
@@ -57,7 +57,7 @@ fn write_rows(picture: &mut Picture, k: usize, x: usize, y: usize, rows: [u8x16;
     ensures { picture.new ≡ with_plane picture.old k (with_block (plane_of picture.old k) x y 16 4
         (λ r c. slice_index (slice_index_or rows r []) c)) }
 {
-    let _height = picture.plane(k).height();
+    let _known = picture.plane(k).height();
     write16(picture, k, x, y, rows[0]);
     write16(picture, k, x, y + 1, rows[1]);
     write16(picture, k, x, y + 2, rows[2]);
@@ -72,7 +72,7 @@ fn added_rows(plane: &Plane, x: usize, y: usize, numbers: i16x16) -> [u8x16; 4]
         ≡ summed (pixel plane.now (x + j) (y + r)) (lane numbers j) }
     ensures bytes { (r : ℕ) → r < 4 → (j : ℕ) → j < 16 → pixel plane.now (x + j) (y + r) ≤ 255 }
 {
-    let _height = plane.height();
+    let _known = plane.height();
     [
         added_sixteen(plane, x, y, numbers),
         added_sixteen(plane, x, y + 1, numbers),

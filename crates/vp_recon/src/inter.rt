@@ -35,7 +35,7 @@ pub(crate) fn rebuild_inter_luma(
     ensures { picture.new ≡ with_plane picture.old 0 (luma_rebuilt
         (macroblock_of (Inter motion.now reference.now version) tokens.now factors.now) place picture.old.luma) }
 {
-    let _size = [picture.plane(0).width(), picture.plane(0).height()];
+    let _known = [picture.plane(0).width(), picture.plane(0).height()];
     let [x, y] = [16 * place.column, 16 * place.row];
     predict_luma(picture, x, y, motion, reference, version);
     let residues = luma_residues(!motion.mode.is_split(), tokens, factors);
@@ -56,7 +56,7 @@ pub(crate) fn predict_luma(
     ensures { picture.new ≡ with_plane picture.old 0 (with_block picture.old.luma x y 16 16
         (moved_pixel version reference.now.luma x y 4 (luma_moved motion.now))) }
 {
-    let _dim = reference.dim();
+    let _known = reference.dim();
     let source = reference.plane(0);
     if motion.mode.is_split() {
         predict_quarters(picture, x, y, source, motion, version);
@@ -84,7 +84,7 @@ pub(crate) fn rebuild_inter_chroma(
         (macroblock_of (Inter motion.now reference.now version) tokens.now factors.now) plane place
         (plane_of picture.old plane)) }
 {
-    let _size = [picture.plane(plane).width(), picture.plane(plane).height()];
+    let _known = [picture.plane(plane).width(), picture.plane(plane).height()];
     let [x, y] = [8 * place.column, 8 * place.row];
     predict_chroma(picture, plane, x, y, motion, reference, version);
     let residues = chroma_residues(tokens, factors, plane);
@@ -107,7 +107,7 @@ pub(crate) fn predict_chroma(
     ensures { picture.new ≡ with_plane picture.old plane (with_block (plane_of picture.old plane) x y 8 8
         (moved_pixel version (plane_of reference.now plane) x y 2 (chroma_moved version motion.now))) }
 {
-    let _dim = reference.dim();
+    let _known = reference.dim();
     let source = reference.plane(plane);
     if motion.mode.is_split() {
         let vectors = chroma_vectors(version, motion);
@@ -196,8 +196,8 @@ fn predict_quarters(
     ensures { picture.new ≡ with_plane picture.old 0 (with_block picture.old.luma x y 16 16
         (moved_pixel version source.now x y 4 (luma_moved motion.now))) }
 {
-    let _width = picture.plane(0).width();
-    let _height = picture.plane(0).height();
+    let _known = picture.plane(0).width();
+    let _known = picture.plane(0).height();
     for quarter in 0..4 {
         let column = x + 8 * (quarter % 2);
         let row = y + 8 * (quarter / 2);

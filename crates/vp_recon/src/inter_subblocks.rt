@@ -29,8 +29,8 @@ pub(crate) fn predict_four(
         → picture.new ≡ with_plane picture.old plane
         (with_block (plane_of picture.old plane) x y 8 8 (moved_pixel version source.now x y 2 vector)) }
 {
-    let _width = picture.plane(plane).width();
-    let _height = picture.plane(plane).height();
+    let _known = picture.plane(plane).width();
+    let _known = picture.plane(plane).height();
     if are_alike(vectors) {
         predict_into8(picture, plane, x, y, source, vectors[0], version);
         return;

@@ -32,8 +32,8 @@ pub fn rebuild_subblock(
     ensures { picture.new ≡ with_plane picture.old 0 (with_sub picture.old.luma block mode
         (residue levels.now.levels factors.now.y_dc factors.now.y_ac)) }
 {
-    let _width = picture.plane(0).width();
-    let _height = picture.plane(0).height();
+    let _known = picture.plane(0).width();
+    let _known = picture.plane(0).height();
     let x = 4 * block.column;
     let y = 4 * block.row;
     let prediction = predict_sub(picture.plane(0), x, y, mode);
@@ -56,8 +56,8 @@ pub(crate) fn rebuild_subs(
     ensures { picture.new ≡ with_plane picture.old 0 (luma_rebuilt
         (macroblock_of (Intra modes.now) tokens.now factors.now) place picture.old.luma) }
 {
-    let _width = picture.plane(0).width();
-    let _height = picture.plane(0).height();
+    let _known = picture.plane(0).width();
+    let _known = picture.plane(0).height();
     for k in 0..16 {
         let block = Place {
             column: place.column * 4 + k % 4,
@@ -82,8 +82,8 @@ pub(crate) fn rebuild_at_once(
     ensures { picture.new ≡ with_plane picture.old 0 (luma_rebuilt
         (macroblock_of (Intra modes.now) tokens.now factors.now) place picture.old.luma) }
 {
-    let _width = picture.plane(0).width();
-    let _height = picture.plane(0).height();
+    let _known = picture.plane(0).width();
+    let _known = picture.plane(0).height();
     let x = 16 * place.column;
     let y = 16 * place.row;
     predict_luma_into(picture, x, y, modes.luma);
@@ -105,8 +105,8 @@ pub(crate) fn rebuild_intra_chroma(
     ensures { picture.new ≡ with_plane picture.old plane (chroma_rebuilt
         (macroblock_of (Intra modes.now) tokens.now factors.now) plane place (plane_of picture.old plane)) }
 {
-    let _width = picture.plane(plane).width();
-    let _height = picture.plane(plane).height();
+    let _known = picture.plane(plane).width();
+    let _known = picture.plane(plane).height();
     let x = 8 * place.column;
     let y = 8 * place.row;
     predict_chroma_into(picture, plane, x, y, modes.chroma);

@@ -24,7 +24,7 @@ pub fn rebuild_macroblock(
     requires row { place.row < macroblocks picture.old.height }
     ensures { picture.new ≡ rebuilt (macroblock_of (predictor_of source.now) tokens.now factors.now) place picture.old }
 {
-    let _dim = picture.dim();
+    let _known = picture.dim();
     rebuild_luma(picture, place, source, tokens, factors);
     rebuild_chroma(picture, 1, place, source, tokens, factors);
     rebuild_chroma(picture, 2, place, source, tokens, factors);

@@ -74,7 +74,7 @@ fn added_rows(
         ≡ summed (pixel plane.now (x + j) (y + r)) (row_lane a b c d r j) }
     ensures bytes { (r : ℕ) → r < 4 → (j : ℕ) → j < 8 → pixel plane.now (x + j) (y + r) ≤ 255 }
 {
-    let _height = plane.height();
+    let _known = plane.height();
     [
         added_row(plane, x, y, a),
         added_row(plane, x, y + 1, b),
@@ -91,7 +91,7 @@ fn write8(picture: &mut Picture, k: usize, x: usize, y: usize, row: u8x8)
     ensures value { picture.new ≡ with_plane picture.old k (with_run (plane_of picture.old k) x y row) }
     ensures long { length row ≡ 8 }
 {
-    let _width = picture.plane(k).width();
+    let _known = picture.plane(k).width();
     store8(picture.row_mut(k, y), x, row);
 }
 
@@ -103,7 +103,7 @@ fn write_rows(picture: &mut Picture, k: usize, x: usize, y: usize, rows: [u8x8; 
     ensures { picture.new ≡ with_plane picture.old k (with_block (plane_of picture.old k) x y 8 4
         (λ r c. slice_index (slice_index_or rows r []) c)) }
 {
-    let _height = picture.plane(k).height();
+    let _known = picture.plane(k).height();
     write8(picture, k, x, y, rows[0]);
     write8(picture, k, x, y + 1, rows[1]);
     write8(picture, k, x, y + 2, rows[2]);

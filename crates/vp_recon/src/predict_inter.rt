@@ -26,7 +26,7 @@ pub fn predict_inter_macroblock(
         → picture.new ≡ rebuilt (macroblock_of
         (Inter motion.now reference.now version) tokens factors) place picture.old }
 {
-    let _dim = picture.dim();
+    let _known = picture.dim();
     let [x, y] = [16 * place.column, 16 * place.row];
     predict_luma(picture, x, y, motion, reference, version);
     let [x, y] = [8 * place.column, 8 * place.row];

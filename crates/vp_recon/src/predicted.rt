@@ -25,8 +25,8 @@ fn predict_at_once(picture: &mut Picture, place: Place, modes: &Modes)
     ensures bytes { (r c : ℕ) → r < 16 → c < 16 → luma_pixel modes.now.luma picture.old.luma (16 * place.column)
         (16 * place.row) r c ≤ 255 }
 {
-    let _width = picture.plane(0).width();
-    let _height = picture.plane(0).height();
+    let _known = picture.plane(0).width();
+    let _known = picture.plane(0).height();
     let x = 16 * place.column;
     let y = 16 * place.row;
     let prediction = predict_luma(picture.plane(0), x, y, modes.luma);
@@ -44,8 +44,8 @@ fn predict_colour(picture: &mut Picture, plane: usize, place: Place, modes: &Mod
     ensures bytes { (r c : ℕ) → r < 8 → c < 8 → chroma_pixel modes.now.chroma (plane_of picture.old plane)
         (8 * place.column) (8 * place.row) r c ≤ 255 }
 {
-    let _width = picture.plane(plane).width();
-    let _height = picture.plane(plane).height();
+    let _known = picture.plane(plane).width();
+    let _known = picture.plane(plane).height();
     let x = 8 * place.column;
     let y = 8 * place.row;
     let prediction = predict_chroma(picture.plane(plane), x, y, modes.chroma);
@@ -60,7 +60,7 @@ pub fn predict_macroblock(picture: &mut Picture, place: Place, modes: &Modes)
     ensures { (tokens : Tokens) (factors : Factors) → tokens.blocks ≡ no_blocks
         → picture.new ≡ rebuilt (macroblock_of (Intra modes.now) tokens factors) place picture.old }
 {
-    let _dim = picture.dim();
+    let _known = picture.dim();
     predict_at_once(picture, place, modes);
     predict_colour(picture, 1, place, modes);
     predict_colour(picture, 2, place, modes);

@@ -53,7 +53,7 @@ pub(crate) fn load_subblock(plane: &Plane, x: usize, y: usize) -> u8x16
     requires rows { y + 4 ≤ plane.now.height }
     ensures { (r : ℕ) → r < 4 → (c : ℕ) → c < 4 → slice_index result (r * 4 + c) ≡ pixel plane.now (x + c) (y + r) }
 {
-    let _height = plane.height();
+    let _known = plane.height();
     joined(
         row4(plane, x, y),
         row4(plane, x, y + 1),
@@ -70,7 +70,7 @@ fn write4(picture: &mut Picture, k: usize, x: usize, y: usize, row: u8x4)
     ensures value { picture.new ≡ with_plane picture.old k (with_run (plane_of picture.old k) x y row) }
     ensures long { length row ≡ 4 }
 {
-    let _width = picture.plane(k).width();
+    let _known = picture.plane(k).width();
     store4(picture.row_mut(k, y), x, row);
 }
 
@@ -95,7 +95,7 @@ pub(crate) fn store_subblock(picture: &mut Picture, k: usize, x: usize, y: usize
     ensures { picture.new ≡ with_plane picture.old k (with_block (plane_of picture.old k) x y 4 4
         (λ r c. slice_index pixels (r * 4 + c))) }
 {
-    let _height = picture.plane(k).height();
+    let _known = picture.plane(k).height();
     let rows = rows_of(pixels);
     write4(picture, k, x, y, rows[0]);
     write4(picture, k, x, y + 1, rows[1]);

@@ -15,7 +15,7 @@ pub fn cut_block<const SIDE: usize, const AREA: usize>(plane: &Plane, place: Pla
     ensures { (r c : ℕ) → r < SIDE → c < SIDE → slice_index result (r * SIDE + c)
         ≡ pixel plane.now (SIDE * place.column + c) (SIDE * place.row + r) }
 {
-    let _size = [plane.width(), plane.height()];
+    let _known = [plane.width(), plane.height()];
     let mut pixels = [0; AREA];
     for r in 0..SIDE {
         let line = plane.row(SIDE * place.row + r);

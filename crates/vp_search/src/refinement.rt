@@ -29,7 +29,7 @@ pub fn refine(source: &Plane, reference: &Plane, place: Place, centre: WholeVect
     ensures row { unsigned_abs (result.vector.row -ℤ pos 4 *ℤ centre.row) ≤ 3 }
     ensures column { unsigned_abs (result.vector.column -ℤ pos 4 *ℤ centre.column) ≤ 3 }
 {
-    let _size = [source.width(), source.height()];
+    let _known = [source.width(), source.height()];
     refine_block(&macroblock(source, place), reference, place, centre)
 }
 

@@ -36,7 +36,7 @@ pub fn full_search(source: &Plane, reference: &Plane, place: Place, range: u8) -
     ensures predicted { result.cost ≡ quarter_cost (macroblock_pixels source.now place) reference.now place
         (quarters result.vector) }
 {
-    let _size = [source.width(), source.height()];
+    let _known = [source.width(), source.height()];
     search_block(&macroblock(source, place), reference, place, range)
 }
 

@@ -7,7 +7,7 @@ use Rattle.vp_ivf.specs.declared.packet.Packet.{Packet}
 use Rattle.vp_ivf.specs.declared.packet.IvfHead.{IvfHead}
 use Rattle.vp_ivf.specs.declared.fault.FileFault.{FileFault}
 use Rattle.vp_ivf.specs.Ivf.{Contents, next_size, next_head, cuts, read_file, read_from, with_front, resume, resume_at}
-use Rattle.vp_ivf.specs.Reader.{Stream as ReaderState}
+use Rattle.vp_ivf.specs.Reader.{ReaderState}
 use Rattle.vp_ivf.specs.declared.fault.FeedError.{FeedError}
 use Rattle.vp_ivf.specs.declared.fault.FeedError.TheVariants.{Memory, Fault}
 use Rattle.vp_ivf.proofs.Cuts.{cuts-whole, cuts-stop, cuts-fault}

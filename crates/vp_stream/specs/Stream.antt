@@ -6,7 +6,7 @@ use Rattle.vp_ivf.specs.declared.packet.Packet.{Packet}
 use Rattle.vp_ivf.specs.declared.fault.FileFault.{FileFault}
 use Rattle.vp_ivf.specs.Ivf.{Contents, stop, resume, with_front}
 use Rattle.vp_ivf.specs.Reader.{refusal_at, ended_by}
-use Rattle.vp_ivf.specs.Reader.{Stream as ReaderState}
+use Rattle.vp_ivf.specs.Reader.{ReaderState}
 use Rattle.vp_stream.specs.Answers.{reading_of}
 use Rattle.vp_stream.specs.Seeking.{AreKeys}
 

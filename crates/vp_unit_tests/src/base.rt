@@ -15,7 +15,7 @@ fn mark(picture: &mut Picture) -> u8
     requires wide { picture.old.width ≡ 17 }
     requires high { picture.old.height ≡ 1 }
 {
-    let _dim = picture.dim();
+    let _known = picture.dim();
     picture.write_block::<2>(0, 14, 0, &[5, 6, 7, 8]);
     picture.set(0, 16, 0, 1);
     picture.write_run(1, 7, 0, &[2, 4]);
@@ -66,7 +66,7 @@ fn copy_four(picture: &mut Picture, nine: &mut Plane) -> u8
     requires columns { nine.old.width ≡ 3 }
     requires rows { nine.old.height ≡ 3 }
 {
-    let _dim = picture.dim();
+    let _known = picture.dim();
     nine.write_block::<3>(0, 0, &[1, 2, 3, 4, 5, 6, 7, 8, 9]);
     picture.copy_block::<2>(0, 15, 0, nine, 1, 1);
     picture.plane(0).get(16, 1)

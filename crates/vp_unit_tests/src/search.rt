@@ -28,7 +28,7 @@ fn slope(x: usize, y: usize) -> u8 {
 }
 
 /// Returns `at + by`, clamped to 0..47.
-fn cached(at: usize, by: i32) -> usize
+fn shifted(at: usize, by: i32) -> usize
     requires { at < 48 }
 {
     if at as i64 + i64::from(by) < 0 {
@@ -42,7 +42,7 @@ fn fill(plane: &mut Plane, down: i32, right: i32) {
     for y in 0..48 {
         for x in 0..48 {
             if x < plane.width() && y < plane.height() {
-                plane.set(x, y, noise(held(x, right), held(y, down)));
+                plane.set(x, y, noise(shifted(x, right), shifted(y, down)));
             }
         }
     }

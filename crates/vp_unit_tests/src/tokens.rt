@@ -142,11 +142,11 @@ fn skipped_leaves_y2(rt: HostRuntime) -> Result<(), Fail> {
     let y2_alone = bytes_below_y2(&mut Contexts::new(alloc, 1)?, alloc)?;
     assert!(rt; none != y2_alone);
     let mut contexts = Contexts::new(alloc, 1)?;
-    let _ones = tokens_of_ones(&mut contexts, true, false);
+    let _known = tokens_of_ones(&mut contexts, true, false);
     pass_macroblock(&mut contexts, below, false);
     assert!(rt; bytes_below(&mut contexts, alloc)? == y2_alone);
     let mut contexts = Contexts::new(alloc, 1)?;
-    let _ones = tokens_of_ones(&mut contexts, true, false);
+    let _known = tokens_of_ones(&mut contexts, true, false);
     pass_macroblock(&mut contexts, below, true);
     assert!(rt; bytes_below(&mut contexts, alloc)? == none);
     Ok(())

@@ -92,7 +92,7 @@ fn read_plane<R: Read>(
         (counted_remaining R.remaining reader.new) (counted_reads reader.old) (counted_reads reader.new) }
     ensures within { counted_reads reader.new ≤ counted_reads reader.old + h * w }
 {
-    let _width = picture.plane(k).width();
+    let _known = picture.plane(k).width();
     for y in 0..h {
         match read_row(reader, picture, k, y, w) {
             Ok(()) => {}

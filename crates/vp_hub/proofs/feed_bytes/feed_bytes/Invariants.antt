@@ -7,8 +7,8 @@ use Rattle.vp_hub.proofs.feed_bytes.feed_bytes.Given as goal
 -- the bytes so far led here, and cost what was counted
 abbrev pub invariant-loop-byte : goal.invariant-loop-byte
 invariant-loop-byte l = record {
-  kept : AreKept l.shelf.sources l.pictures.cache.entries;
+  kept : AreKept l.streams.sources l.pictures.cache.entries;
   cost : ℕ;
-  costs : Costs l.shelf (take l.byte-index l.piece) (l.fn.state_of_connection, l.fn.out) (l.state_of_connection, l.out) l.fn.pictures.cache l.pictures.cache cost;
+  costs : Costs l.streams (take l.byte-index l.piece) (l.fn.state_of_connection, l.fn.out) (l.state_of_connection, l.out) l.fn.pictures.cache l.pictures.cache cost;
   work : l.pictures.work ≡ saturating_count 0 cost;
 }

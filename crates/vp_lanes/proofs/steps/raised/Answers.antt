@@ -3,7 +3,7 @@ use Rattle.vp_lanes.proofs.steps.raised.Goals as goal
 
 pub returns-clause-value : goal.returns-clause-value
 returns-clause-value c j h =
-    raised_is _ _ c.args.held_by _ _ _ _ _ (byte_lane _ c.fits-x j h) (splat_lane c.args.held_by j h) (c.saturating_difference.ensures j h) (c.saturating_difference-2.ensures j h) (c.saturating_sum.ensures j h) (c.saturating_difference-3.ensures j h)
+    raised_is _ _ c.args.bias _ _ _ _ _ (byte_lane _ c.fits-x j h) (splat_lane c.args.bias j h) (c.saturating_difference.ensures j h) (c.saturating_difference-2.ensures j h) (c.saturating_sum.ensures j h) (c.saturating_difference-3.ensures j h)
 
 pub returns-clause-bytes : goal.returns-clause-bytes
 returns-clause-bytes c j h = byte_lane _ c.fits-x j h

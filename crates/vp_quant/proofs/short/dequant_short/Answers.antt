@@ -7,17 +7,17 @@ use Rattle.vp_quant.specs.Short.{HasSmallProduct}
 use Rattle.vp_quant.proofs.Sixteen.{handed, held_in_near, held_in_same, position_below, block_is, block_within}
 use Rattle.vp_quant.proofs.short.dequant_short.Goals as goal
 
-near_at : (c : goal.After-row_known-1) (j : ℕ) → j < 16 → HasSmallProduct (lane (map (to_z w16) (map (of_z w16) c.clamp_i16-cached.result)) j) c.args.dc c.args.ac
+near_at : (c : goal.After-row_known-1) (j : ℕ) → j < 16 → HasSmallProduct (lane (map (to_z w16) (map (of_z w16) c.clamp_i16-held.result)) j) c.args.dc c.args.ac
 near_at c j h =
-    let held = signed_param 16 c.clamp_i16-cached.result _ c.clamp_i16-cached.type_inv in
-    subst (λ (z : ℤ). HasSmallProduct z c.args.dc c.args.ac) (sym (handed c.clamp_i16-cached.result held j h ∙ c.clamp_i16-cached.ensures j h))
+    let held = signed_param 16 c.clamp_i16-held.result _ c.clamp_i16-held.type_inv in
+    subst (λ (z : ℤ). HasSmallProduct z c.args.dc c.args.ac) (sym (handed c.clamp_i16-held.result held j h ∙ c.clamp_i16-held.ensures j h))
     (held_in_near c.most_of-most.result (lane (map (to_z w16) (map (of_z w16) c.args.levels)) j) c.args.dc c.args.ac c.most_of-most.ensures)
 
 pub products-requires : goal.products-requires
 products-requires c j h =
-    let held = signed_param 16 c.clamp_i16-cached.result _ c.clamp_i16-cached.type_inv in
+    let held = signed_param 16 c.clamp_i16-held.result _ c.clamp_i16-held.type_inv in
     subst (λ (z : ℤ). HasSmallProduct z c.args.dc c.args.ac) (c.are_same.ensures.same c.if-are_same.true j h)
-    (subst (λ (z : ℤ). HasSmallProduct z c.args.dc c.args.ac) (sym (handed c.clamp_i16-cached.result held j h ∙ c.clamp_i16-cached.ensures j h))
+    (subst (λ (z : ℤ). HasSmallProduct z c.args.dc c.args.ac) (sym (handed c.clamp_i16-held.result held j h ∙ c.clamp_i16-held.ensures j h))
     (held_in_near c.most_of-most.result (lane (map (to_z w16) (map (of_z w16) c.args.levels)) j) c.args.dc c.args.ac c.most_of-most.ensures))
 
 coefficient_at : (c : goal.After-row_known-1) (place : ℕ) → place < 16
@@ -53,10 +53,10 @@ returns-then-are_same-clause-small c block is =
 pub returns-else-are_same-clause-some : goal.returns-else-are_same-clause-some
 returns-else-are_same-clause-some c short none =
     let levels = signed_param 16 c.args.levels _ c.well_formed.0 in
-    let held = signed_param 16 c.clamp_i16-cached.result _ c.clamp_i16-cached.type_inv in
+    let held = signed_param 16 c.clamp_i16-held.result _ c.clamp_i16-held.type_inv in
     let same = c.are_same.ensures.other
     (λ j h.
-    handed c.clamp_i16-cached.result held j h ∙ c.clamp_i16-cached.ensures j h
+    handed c.clamp_i16-held.result held j h ∙ c.clamp_i16-held.ensures j h
     ∙ held_in_same c.most_of-most.result (lane (map (to_z w16) (map (of_z w16) c.args.levels)) j) c.args.dc c.args.ac c.most_of-most.ensures
     (subst (λ (z : ℤ). HasSmallProduct z c.args.dc c.args.ac) (sym (handed c.args.levels levels j h)) (short j h))) in
     grind (arith, same, c.if-are_same.false)

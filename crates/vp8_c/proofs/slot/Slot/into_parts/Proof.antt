@@ -28,7 +28,7 @@ use Rattle.std.proofs.raw_atomic.Walks.{proved_at, leaves}
 use Rattle.std_alloc.specs.Box.Ownership.{box_owns}
 use Rattle.vp8_c.specs.Slot.{slot_owns, MaybeHeld}
 use Rattle.vp8_c.proofs.Values.{slot_out, word, both, al, parts_in, parts_good}
-use Rattle.vp8_c.specs.contracts.cached.HandleValue as held_type
+use Rattle.vp8_c.specs.contracts.handle_value.HandleValue as held_type
 use Rattle.vp8_c.specs.contracts.slot.Slot as slot
 use Rattle.vp8_c.specs.contracts.slot.Slot.into_parts as f
 use Rattle.vp8_c.proofs.slot.Slot.into_parts.Statement.{statement}
@@ -47,8 +47,8 @@ into_parts_spec 𝓤 𝓛 𝓜 𝓡 wired =
     proved_at 𝓛 f.ended stayed c 𝓜 𝓡 (Goes-blank 𝓛 0 (plain (λ _. slot.the_row)) yes (λ κs x g. tt), (Goes-blank 𝓛 0 (plain (λ _. heap.the_row)) yes (λ κs x g. tt), tt))
     f.Key.name code.function (code.unfolded 𝓤 𝓛.H 𝓜 𝓡 wired) (λ z are.
     let d = z.0.3.0 in let a = z.0.3.1.0 in let Post : Val → SProp 𝓤 = (walk_of 𝓛 f.ended stayed c).post z in let Run : List Val → SProp 𝓤 = λ ws. WpFn 𝓤 H 𝓣.C 𝓣.Λ code.function ws Post in
-    qed 𝓛 ((‵ ftrue ⊛ ‵ (owns (slot.the_row ∷ heap.the_row ∷ []) z.0.3 z.0.4)) ∷ raw (fact 𝓤 (IsSome d.cached)) ∷ []) ∵ move ! (1 ∷ []) $ heard ! (IsSome d.cached) (λ there.
-    let x = (some_of d.cached there).0 in let held_is : d.cached ≡ Some x = (some_of d.cached there).1 in
+    qed 𝓛 ((‵ ftrue ⊛ ‵ (owns (slot.the_row ∷ heap.the_row ∷ []) z.0.3 z.0.4)) ∷ raw (fact 𝓤 (IsSome d.held)) ∷ []) ∵ move ! (1 ∷ []) $ heard ! (IsSome d.held) (λ there.
+    let x = (some_of d.held there).0 in let held_is : d.held ≡ Some x = (some_of d.held there).1 in
     split ! $ move ! (1 ∷ []) $ fsplit ! $ move ! (1 ∷ []) $ fsplit ! $ move ! (2 ∷ []) $
     slot_out ! d z.0.4.0 (λ ws. rewrite ! 0 (λ (h : MaybeHeld). ‵ (slot_owns d.at h)) held_is refl $
     in_a_block ! d.at (λ p. box_owns (ghosts.dealloc_token a) held_type.the_row p x) (fst∗ 𝓤 (never 𝓤) (sem 𝓛 (ghosts.dealloc_token a (bare (lone (held_type.the_row).mir)) null_ptr))) (λ b o e.
@@ -62,5 +62,5 @@ into_parts_spec 𝓤 𝓛 𝓜 𝓡 wired =
     sets ! (agg ! (and_then ! (get ! refl) (and_then ! (get ! refl) (no_more !)))) refl (parts_good held_type.the_row heap.the_row the_row_laws ghosts b o h fits) $
     returns ! (look_at ! 0 refl) $ free_all ! refl $
     move ! (1 ∷ 0 ∷ []) $ parts_in held_type.the_row heap.the_row the_row_laws ghosts ! b o h a x $
-    use0 𝓛 (raw (fact 𝓤 (Some x ≡ d.cached))) (fact_i 𝓤 (Some x ≡ d.cached) (emp 𝓤) (sym held_is)) $ nothing ! $ nothing ! $ fjoin ! $ nothing ! $ fjoin ! $
+    use0 𝓛 (raw (fact 𝓤 (Some x ≡ d.held))) (fact_i 𝓤 (Some x ≡ d.held) (emp 𝓤) (sym held_is)) $ nothing ! $ nothing ! $ fjoin ! $ nothing ! $ fjoin ! $
     keep ! (3 ∷ 0 ∷ 2 ∷ 1 ∷ []) $ by ! (leaves 𝓛 f.ended stayed c z (both (vptr b o) h) (record { ptr = block_ptr b o; alloc = a; value = x }) (tt, (tt, tt)) (tt, (tt, tt)))))))))

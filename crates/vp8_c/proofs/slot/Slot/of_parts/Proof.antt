@@ -23,7 +23,7 @@ use denote.Triple.Walked.{Stays, stay_dropped, walk_of}
 use Rattle.core.proofs.alloc.Calls.{Goes-blank}
 use Rattle.std.proofs.raw_atomic.Walks.{proved_at, leaves}
 use Rattle.vp8_c.proofs.Values.{slot_in, word, both, RawBox, parts_out, parts_good}
-use Rattle.vp8_c.specs.contracts.cached.HandleValue as held_type
+use Rattle.vp8_c.specs.contracts.handle_value.HandleValue as held_type
 use Rattle.vp8_c.specs.contracts.slot.Slot.of_parts as f
 use Rattle.vp8_c.proofs.slot.Slot.of_parts.Statement.{statement}
 use Rattle.vp8_c.proofs.slot.Slot.of_parts.Code as code

@@ -1,7 +1,7 @@
 use Rattle.std.proofs.Common.{rules, arith}
 use Rattle.std.proofs.lemmas.List.{take_more}
 use Rattle.vp_hub.proofs.Fed.{all_ended_at_end, all_fed_at_end}
-use Rattle.vp_hub.proofs.Kept.{run_partial}
+use Rattle.vp_hub.proofs.CacheLemmas.{run_partial}
 use Rattle.vp_hub.proofs.Isolation.{isolated_at_end, joined_at_end, run_more}
 use Rattle.vp_hub.proofs.Serving.{worked_joined_at_end, worked_more}
 use Rattle.vp_hub.proofs.hub.Hub.run.Goals as goal

@@ -1,5 +1,5 @@
 use Rattle.vp_hub.proofs.Isolation.{run_more}
-use Rattle.vp_hub.proofs.Kept.{step_partial}
+use Rattle.vp_hub.proofs.CacheLemmas.{step_partial}
 use Rattle.vp_hub.proofs.Serving.{worked_more}
 use Rattle.vp_hub.proofs.hub.Hub.step.Goals as goal
 

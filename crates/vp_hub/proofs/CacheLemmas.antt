@@ -4,7 +4,7 @@ use Rattle.vp_hub.specs.declared.event.Event.{Event}
 use Rattle.vp_hub.specs.Pages.{Streams}
 use Rattle.vp_hub.specs.declared.connection.ConnectionState.{ConnectionState}
 use Rattle.vp_hub.specs.declared.event.HubFault.TheVariants.{Failed}
-use Rattle.vp_hub.specs.Hub.{Chosen, Outcome, HubState, IsStep, Gets, Serves, new_link}
+use Rattle.vp_hub.specs.Hub.{Chosen, Outcome, HubState, IsStep, Gets, Serves, new_connection_state}
 use Rattle.vp_hub.specs.Heads.{IsPartial, AnswersHeads, gone, KeepsPartial, AllKeepPartial}
 use Rattle.vp_hub.specs.View.{IsRun, Seen, Fed, Over, Opened, Got, Gone, Lost, Sight, sight, See, AsksAgain, Leads, open_again, go, lose, told, seen_events}
 use Rattle.vp_hub.proofs.Cutting.{cut_into_heads, no_bytes_yet}
@@ -52,7 +52,7 @@ asks_partial ss piece (Some old) r k h state_of_connection e o =
 again_partial : (l : Option ConnectionState) → KeepsPartial l → KeepsPartial (open_again l).0
 again_partial None k state_of_connection e o = subst (λ x. IsPartial x.pending) (same e) no_bytes_yet
   where
-    same : Some new_link ≡ Some state_of_connection → new_link ≡ state_of_connection
+    same : Some new_connection_state ≡ Some state_of_connection → new_connection_state ≡ state_of_connection
     same e = cc
 again_partial (Some l) k state_of_connection e o = k state_of_connection e o
 
