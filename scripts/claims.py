@@ -8,7 +8,7 @@ definitions in reading order, each with its number of reached lines and its firs
 `--write` renews the table in CLAIMS.md.
 
 It fails if CLAIMS.md doesn't have the table, if a public contract reaches a file whose first comment begins with
-`Inside the crate`, if no public contract reaches a file without those words, if a law isn't exported, and if a door's
+`Private to the crate`, if no public contract reaches a file without those words, if a law isn't exported, and if a door's
 function doesn't exist. Run it at the top of the repository.
 
 Counted are the definitions that a contract names, and all that these name. A contract is the clauses of a function, and
@@ -155,7 +155,7 @@ def faults(library, public):
                 names, by = ", ".join(sorted(public[spec.path])), library.reached_by(spec.path)
                 yield f"{spec.path} is inside the crate, and public contracts reach {names}: {by}"
             elif not spec.is_inside and spec.path not in public:
-                yield f"{spec.path}: no public contract reaches it, and it isn't called `Inside the crate`"
+                yield f"{spec.path}: no public contract reaches it, and it isn't called `Private to the crate`"
 
 
 def block_fault(text, write):

@@ -204,7 +204,7 @@ def file_list(crates, wrong):
             wrong += [] if spec.comment else [f"{spec.path}: no first comment"]
             lines += wrapped(f"{number}. `{short(spec)}` ({size} lines). {spec.comment}", "", "   ")
         inside = ", ".join(f"`{spec.path.name}`" for spec in specs if spec.is_inside)
-        lines += wrapped(f"Inside the crate, for its proofs alone: {inside}.", "\n", "") if inside else []
+        lines += wrapped(f"Private to the crate, for its proofs alone: {inside}.", "\n", "") if inside else []
         lines.append("")
     return lines
 

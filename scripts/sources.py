@@ -112,7 +112,7 @@ class Spec:
 
     @property
     def is_inside(self):
-        return self.comment.startswith("Inside the crate")
+        return self.comment.startswith("Private to the crate")
 
     def uses(self, name):
         """The definitions that one definition names, in this file and in others."""

@@ -25,7 +25,7 @@ use Rattle.std_alloc.specs.Box.Ownership.{box_owns}
 use Rattle.std_alloc.proofs.ResultValues.{and_tt}
 use Rattle.vp8_c.specs.contracts.raw_box.RawBox as parts
 use Rattle.vp8_c.specs.contracts.slot.Slot as slot
-use Rattle.vp8_c.specs.Slot.{MaybeHeld, slot_owns}
+use Rattle.vp8_c.specs.Slot.{MaybeHandleValue, slot_owns}
 
 abbrev pub both : Val → Val → Val
 both v w = vstruct (vcons v (vcons w vnil))
@@ -67,7 +67,7 @@ module _ {M : Type 1} {𝓤 : Ura M} {𝓛 : Logic 𝓤} {K : Type 0} {Γ : List
       fsplit t $ fpick t (λ vss. fsplit t $ feq_l t (λ ev. fsplit t $ feq_l t (λ ep. drop t $
       k (subst (λ (ps : List Val). vs ≡ vstruct (of_list (ps ++ [])) ∷ []) ep ev))))
 
-  pub slot_in : K → (p : Ptr) (x : MaybeHeld)
+  pub slot_in : K → (p : Ptr) (x : MaybeHandleValue)
       → Step K 𝓛 (‵ ((slot.the_row).own_val (record { at = p; held = x }) (word p ∷ [])) ∷ Γ) G (‵ (slot_owns p x) ∷ Γ) G
   slot_in t p x = step (λ s.
       nothing t $ feq_i t (List Val) (ptr_val p ∷ []) (ptr_val p ∷ []) refl $ fjoin t $ feq_i t (List Val) (word p ∷ []) (word p ∷ []) refl $ fjoin t $

@@ -6,9 +6,9 @@ use Rattle.vp8_c.specs.declared.status.TheConstants.{BUFFER, CLOSED, OK, OPEN}
 use Rattle.vp8_c.specs.declared.handle_value.HandleValue.{HandleValue}
 use Rattle.vp8_c.specs.declared.handle.Handle.{Handle}
 use Rattle.vp8_c.specs.Bytes.{BeginsWith}
-use Rattle.vp8_c.specs.Handle.{held_in}
+use Rattle.vp8_c.specs.Handle.{handle_value_in}
 use Rattle.vp8_c.specs.Planes.{AllFit, HoldPicture, Planes}
-use Rattle.vp8_c.specs.Slot.{MaybeHeld}
+use Rattle.vp8_c.specs.Slot.{MaybeHandleValue}
 
 -- f of the value, if there is one
 abbrev pub result_map : {A B E : Type 0} → (A → B) → Result A E → Result B E
@@ -18,13 +18,13 @@ result_map f (Err e) = Err e
 -- ---- a value, or the status of a call without one
 
 -- a closed handle returns CLOSED
-abbrev pub given_of : {A : Type 0} → (HandleValue → Result A ℕ) → MaybeHeld → Result A ℕ
+abbrev pub given_of : {A : Type 0} → (HandleValue → Result A ℕ) → MaybeHandleValue → Result A ℕ
 given_of f None = Err CLOSED
 given_of f (Some held) = f held
 
 -- the value of a handle has this to return
 abbrev pub given_in : {A : Type 0} → (HandleValue → Result A ℕ) → Handle → Result A ℕ
-given_in f h = given_of f (held_in h)
+given_in f h = given_of f (handle_value_in h)
 
 -- the value is returned as P says; or the status says why there is none, and the caller's memory is unchanged
 abbrev pub GivesOrFails : {A B : Type 0} → (A → ℕ → B → B → Type 0) → Result A ℕ → ℕ → B → B → Type 0
@@ -64,10 +64,10 @@ pub record CopiesPicture (p : Image) (status : ℕ) (before after : Planes) : Ty
 
 -- an open handle is refused; a handle that is opened satisfies P; otherwise the handle is unchanged
 pub record Opens (P : Handle → Type 0) (status : ℕ) (old new : Handle) : Type 0 where
-  pub open_already : (status ≡ OPEN) ↔ IsSome (held_in old)
+  pub open_already : (status ≡ OPEN) ↔ IsSome (handle_value_in old)
   pub opened : status ≡ OK → P new
-  pub refused : status ≢ OK → held_in new ≡ held_in old
+  pub refused : status ≢ OK → handle_value_in new ≡ handle_value_in old
 
 -- the call is refused because the handle has no value of this kind, and nothing changes
 abbrev pub IsClosed : ℕ → Handle → Handle → Type 0
-IsClosed status old new = (status ≡ CLOSED) × (held_in new ≡ held_in old)
+IsClosed status old new = (status ≡ CLOSED) × (handle_value_in new ≡ handle_value_in old)

@@ -8,7 +8,7 @@ use Rattle.vp8_c.specs.declared.handle_value.HandleValue.{HandleValue}
 use Rattle.vp8_c.specs.declared.handle_value.HandleValue.TheVariants.{Decoder, Stream, Encoder}
 use Rattle.vp8_c.specs.declared.handle.Handle.{Handle}
 use Rattle.vp8_c.specs.Arguments.{Size, given_in, result_map, size_of}
-use Rattle.vp8_c.specs.Handle.{held_in}
+use Rattle.vp8_c.specs.Handle.{handle_value_in}
 use Rattle.vp8_c.specs.Status.{outcome_number}
 
 -- the value is a decoder
@@ -19,7 +19,7 @@ decoder_of (Encoder e) = None
 
 -- the decoder of a handle, if it is one
 abbrev pub decoder_in : Handle → Option Decoder
-decoder_in h = option_and_then decoder_of (held_in h)
+decoder_in h = option_and_then decoder_of (handle_value_in h)
 
 -- the picture that the decoder's last packet showed
 abbrev pub last_picture : HandleValue → Result Image ℕ

@@ -17,7 +17,7 @@ use Rattle.vp8_c.specs.declared.encoder_handle.EncoderHandle.{EncoderHandle}
 use Rattle.vp8_c.specs.declared.handle_value.HandleValue.{HandleValue}
 use Rattle.vp8_c.specs.declared.handle_value.HandleValue.TheVariants.{Decoder, Stream, Encoder}
 use Rattle.vp8_c.specs.declared.handle.Handle.{Handle}
-use Rattle.vp8_c.specs.Handle.{held_in}
+use Rattle.vp8_c.specs.Handle.{handle_value_in}
 
 -- the value is an encoder
 abbrev pub encoder_of : HandleValue → Option EncoderHandle
@@ -27,7 +27,7 @@ encoder_of (Encoder e) = Some e
 
 -- the encoder of a handle, if it is one
 abbrev pub encoder_in : Handle → Option EncoderHandle
-encoder_in h = option_and_then encoder_of (held_in h)
+encoder_in h = option_and_then encoder_of (handle_value_in h)
 
 -- the last encoded frame
 abbrev pub encoded_of : HandleValue → Result Encoded ℕ

@@ -14,8 +14,8 @@ use Rattle.vp8_c.specs.declared.handle_value.HandleValue.{HandleValue}
 use Rattle.vp8_c.specs.declared.handle_value.HandleValue.TheVariants.{Decoder, Stream, Encoder}
 use Rattle.vp8_c.specs.declared.handle.Handle.{Handle}
 use Rattle.vp8_c.specs.Arguments.{Size, given_in, result_map, size_of}
-use Rattle.vp8_c.specs.Handle.{held_in}
-use Rattle.vp8_c.specs.Status.{ending_number, told_number}
+use Rattle.vp8_c.specs.Handle.{handle_value_in}
+use Rattle.vp8_c.specs.Status.{ending_number, answer_status}
 
 -- the value is a file
 abbrev pub stream_of : HandleValue → Option FileHandle
@@ -25,7 +25,7 @@ stream_of (Encoder e) = None
 
 -- the file of a handle, if it is one
 abbrev pub stream_in : Handle → Option FileHandle
-stream_in h = option_and_then stream_of (held_in h)
+stream_in h = option_and_then stream_of (handle_value_in h)
 
 -- a whole file of these bytes under the default limits, before any request
 pub record IsFile (bytes : List ℕ) (a : FileHandle) : Type 0 where
@@ -90,7 +90,7 @@ info_in h = result_map stream_info (ok_or (stream_in h) CLOSED)
 -- Packet n was requested: the status is that of its answer, and the answer is kept. Or memory ran out, for a packet
 -- that the file has, and nothing changed.
 pub record AnswersPacket (n status : ℕ) (old new : FileHandle) : Type 0 where
-  pub number : status ≢ MEMORY → status ≡ told_number (answer_at old.stream.limits old.stream.reading.packets n)
+  pub number : status ≢ MEMORY → status ≡ answer_status (answer_at old.stream.limits old.stream.reading.packets n)
   pub answer : status ≢ MEMORY → answer_value new.answer ≡ answer_at old.stream.limits old.stream.reading.packets n
   pub stream : new.stream ≡ old.stream
   pub ended : new.ended ≡ old.ended

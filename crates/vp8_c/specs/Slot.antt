@@ -8,14 +8,14 @@ use denote.RawPtr.{Ptr}
 use Rattle.vp8_c.specs.contracts.handle_value.HandleValue.{the_row}
 
 -- the value of a slot, if there is one
-abbrev pub MaybeHeld : Type 0
-MaybeHeld = Option the_row.Denot
+abbrev pub MaybeHandleValue : Type 0
+MaybeHandleValue = Option the_row.Denot
 
 -- the type of a slot's value, for the ownership predicate
-abbrev pub coded_held : Coded MaybeHeld
+abbrev pub coded_held : Coded MaybeHandleValue
 coded_held = coded_option the_row.coded
 
 -- the block of the C library's heap that the pointer refers to, with its contents, and the permission to free it
-abbrev pub slot_owns : Ptr → MaybeHeld → Fml
+abbrev pub slot_owns : Ptr → MaybeHandleValue → Fml
 slot_owns p None = ftrue
 slot_owns p (Some x) = box_owns (λ ty q. chunk ty q) the_row p x

@@ -48,8 +48,8 @@ ending_number (Ok u) = OK
 ending_number (Err fault) = file_number fault
 
 -- the number of the answer for a requested packet
-abbrev pub told_number : AnswerValue → ℕ
-told_number (seeking.Shown w h bytes) = OK
-told_number seeking.Hidden = HIDDEN
-told_number (seeking.Fault fault) = fault_number fault
-told_number seeking.NoPacket = NO_PACKET
+abbrev pub answer_status : AnswerValue → ℕ
+answer_status (seeking.Shown w h bytes) = OK
+answer_status seeking.Hidden = HIDDEN
+answer_status (seeking.Fault fault) = fault_number fault
+answer_status seeking.NoPacket = NO_PACKET

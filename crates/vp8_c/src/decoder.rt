@@ -1,7 +1,7 @@
 //! The C functions for decoding packets.
 
 ghost use Rattle.std.specs.Prelude.{◌≡◌, ◌⊎◌, ◌↔◌, None, IfSome, IsSomeAnd};
-ghost use Rattle.vp8_c.specs.Handle.{held_in};
+ghost use Rattle.vp8_c.specs.Handle.{handle_value_in};
 ghost use Rattle.vp8_c.specs.Arguments.{CopiesPicture, GivesOrFails, IsClosed, Opens, Puts, size_of};
 ghost use Rattle.vp8_c.specs.Planes.{planes_of};
 ghost use Rattle.vp8_c.specs.Decoding.{Decodes, IsFresh, IsNoLimit, decoder_in, handle_picture, shown_size_in};
@@ -22,7 +22,7 @@ use vp_decode::Decoder;
 pub extern "C" fn vp8_decoder_new(alloc: Global, decoder: &mut Handle, max_pixels: u32) -> u32
     ensures answer { (result ≡ OK) ⊎ (result ≡ OPEN) ⊎ (result ≡ LIMITS) ⊎ (result ≡ MEMORY) }
     ensures opens { Opens (λ h. IsSomeAnd (decoder_in h) (IsFresh max_pixels)) result decoder.old decoder.new }
-    ensures limits { held_in decoder.old ≡ None → ((result ≡ LIMITS) ↔ IsNoLimit max_pixels) }
+    ensures limits { handle_value_in decoder.old ≡ None → ((result ≡ LIMITS) ↔ IsNoLimit max_pixels) }
 {
     if decoder.is_open() {
         return OPEN;
@@ -66,7 +66,7 @@ pub extern "C" fn vp8_decoder_size(
     width: &mut u32,
     height: &mut u32,
 ) -> u32
-    ensures held { held_in decoder.new ≡ held_in decoder.old }
+    ensures held { handle_value_in decoder.new ≡ handle_value_in decoder.old }
     ensures size { GivesOrFails Puts (shown_size_in decoder.old) result (size_of width.old height.old)
         (size_of width.new height.new) }
 {
@@ -95,7 +95,7 @@ pub extern "C" fn vp8_decoder_copy(
     v: &mut [u8],
     v_stride: usize,
 ) -> u32
-    ensures held { held_in decoder.new ≡ held_in decoder.old }
+    ensures held { handle_value_in decoder.new ≡ handle_value_in decoder.old }
     ensures picture { GivesOrFails CopiesPicture (handle_picture decoder.old) result
         (planes_of y.old y_stride u.old u_stride v.old v_stride)
         (planes_of y.new y_stride u.new u_stride v.new v_stride) }
@@ -119,7 +119,7 @@ pub extern "C" fn vp8_decoder_copy(
 /// Frees the decoder's memory, and closes the handle.
 #[unsafe(no_mangle)]
 pub extern "C" fn vp8_decoder_free(alloc: Global, decoder: &mut Handle)
-    ensures { held_in decoder.new ≡ None }
+    ensures { handle_value_in decoder.new ≡ None }
 {
     let _known = decoder.take(alloc);
 }

@@ -3,7 +3,7 @@
 ghost use Rattle.std.specs.Prelude.{◌≡◌, ◌⊎◌, ◌↔◌, None, IfSome, IsSomeAnd};
 ghost use Rattle.vp_base.specs.Limits.{IsNoSide};
 ghost use Rattle.vp_encode.specs.Encoder.{AreAllowed};
-ghost use Rattle.vp8_c.specs.Handle.{held_in};
+ghost use Rattle.vp8_c.specs.Handle.{handle_value_in};
 ghost use Rattle.vp8_c.specs.Arguments.{CopiesBytes, CopiesPicture, GivesOrFails, IsClosed, Opens, Puts};
 ghost use Rattle.vp8_c.specs.Planes.{planes_of};
 ghost use Rattle.vp8_c.specs.EncoderHandle.{Encodes, IsReady, encoder_in, error_in, encoded_packet, packet_size_in};
@@ -34,8 +34,9 @@ pub extern "C" fn vp8_encoder_new(
     ensures answer { (result ≡ OK) ⊎ (result ≡ OPEN) ⊎ (result ≡ DIMENSIONS) ⊎ (result ≡ SETTINGS) ⊎ (result ≡ MEMORY) }
     ensures opens { Opens (λ h. IsSomeAnd (encoder_in h) (IsReady width height
         (settings_in settings.now))) result encoder.old encoder.new }
-    ensures dimensions { held_in encoder.old ≡ None → (result ≡ DIMENSIONS) ↔ (IsNoSide width ⊎ IsNoSide height) }
-    ensures settings { held_in encoder.old ≡ None → ¬ (IsNoSide width ⊎ IsNoSide height)
+    ensures dimensions { handle_value_in encoder.old ≡ None → (result ≡ DIMENSIONS) ↔ (IsNoSide width
+        ⊎ IsNoSide height) }
+    ensures settings { handle_value_in encoder.old ≡ None → ¬ (IsNoSide width ⊎ IsNoSide height)
         → (result ≡ SETTINGS) ↔ ¬ (AreAllowed (settings_in settings.now)) }
 {
     if encoder.is_open() {
@@ -99,7 +100,7 @@ pub extern "C" fn vp8_encoder_packet_size(
     encoder: &mut Handle,
     size: &mut usize,
 ) -> u32
-    ensures held { held_in encoder.new ≡ held_in encoder.old }
+    ensures held { handle_value_in encoder.new ≡ handle_value_in encoder.old }
     ensures size { GivesOrFails Puts (packet_size_in encoder.old) result size.old size.new }
 {
     let Some(held) = encoder.take(alloc) else {
@@ -121,7 +122,7 @@ pub extern "C" fn vp8_encoder_packet_size(
 /// Status: `NO_PICTURE`, `BUFFER`, `CLOSED`.
 #[unsafe(no_mangle)]
 pub extern "C" fn vp8_encoder_packet(alloc: Global, encoder: &mut Handle, out: &mut [u8]) -> u32
-    ensures held { held_in encoder.new ≡ held_in encoder.old }
+    ensures held { handle_value_in encoder.new ≡ handle_value_in encoder.old }
     ensures packet { GivesOrFails CopiesBytes (encoded_packet encoder.old) result out.old out.new }
 {
     let Some(held) = encoder.take(alloc) else {
@@ -149,7 +150,7 @@ pub extern "C" fn vp8_encoder_reconstruction(
     v: &mut [u8],
     v_stride: usize,
 ) -> u32
-    ensures held { held_in encoder.new ≡ held_in encoder.old }
+    ensures held { handle_value_in encoder.new ≡ handle_value_in encoder.old }
     ensures picture { GivesOrFails CopiesPicture (recon_in encoder.old) result
         (planes_of y.old y_stride u.old u_stride v.old v_stride)
         (planes_of y.new y_stride u.new u_stride v.new v_stride) }
@@ -179,7 +180,7 @@ pub extern "C" fn vp8_encoder_squared_error(
     encoder: &mut Handle,
     error: &mut u64,
 ) -> u32
-    ensures held { held_in encoder.new ≡ held_in encoder.old }
+    ensures held { handle_value_in encoder.new ≡ handle_value_in encoder.old }
     ensures error { GivesOrFails Puts (error_in encoder.old) result error.old error.new }
 {
     let Some(held) = encoder.take(alloc) else {
@@ -199,7 +200,7 @@ pub extern "C" fn vp8_encoder_squared_error(
 /// Frees the encoder's memory, and closes the handle.
 #[unsafe(no_mangle)]
 pub extern "C" fn vp8_encoder_free(alloc: Global, encoder: &mut Handle)
-    ensures { held_in encoder.new ≡ None }
+    ensures { handle_value_in encoder.new ≡ None }
 {
     let _known = encoder.take(alloc);
 }

@@ -2,7 +2,7 @@
 
 ghost use Rattle.std.specs.Prelude.{◌≡◌, IfSome, option_map};
 ghost use Rattle.vp_stream.specs.Seeking.{answer_value};
-ghost use Rattle.vp8_c.specs.Status.{told_number};
+ghost use Rattle.vp8_c.specs.Status.{answer_status};
 
 use crate::status::{HIDDEN, MEMORY, NO_PACKET, OK, fault_number, file_number};
 use std::alloc::Global;
@@ -50,7 +50,7 @@ pub struct KeptPicture<'a> {
 
 /// Returns the status number of an answer.
 fn answer_number(answer: &Answer) -> u32
-    ensures { result ≡ told_number (answer_value answer.now) }
+    ensures { result ≡ answer_status (answer_value answer.now) }
 {
     match answer {
         Answer::Shown(_, _) => OK,

@@ -17,19 +17,19 @@ pub struct Handle {
 }
 
 impl Handle {
-    ghost use Rattle.vp8_c.specs.Handle.{held_in};
+    ghost use Rattle.vp8_c.specs.Handle.{handle_value_in};
 
     /// Returns whether the handle is open.
     pub fn is_open(&self) -> bool
-        ensures { result ≡ is_some (held_in self.now) }
+        ensures { result ≡ is_some (handle_value_in self.now) }
     {
         self.in_use != 0
     }
 
     /// Takes the value out of the handle, which is closed then.
     pub fn take(&mut self, alloc: Global) -> Option<Box<HandleValue, Global>>
-        ensures taken { option_map (λ b. b.value) result ≡ held_in self.old }
-        ensures closed { held_in self.new ≡ None }
+        ensures taken { option_map (λ b. b.value) result ≡ handle_value_in self.old }
+        ensures closed { handle_value_in self.new ≡ None }
     {
         let closed = Handle {
             in_use: 0,
@@ -45,8 +45,8 @@ impl Handle {
 
     /// Puts a value into a closed handle.
     pub fn put(&mut self, held: Box<HandleValue, Global>)
-        requires { held_in self.old ≡ None }
-        ensures { held_in self.new ≡ Some held.value }
+        requires { handle_value_in self.old ≡ None }
+        ensures { handle_value_in self.new ≡ Some held.value }
     {
         let open = Handle {
             in_use: 1,
@@ -59,11 +59,11 @@ impl Handle {
 
 #[cfg(test)]
 impl Handle {
-    ghost use Rattle.vp8_c.specs.Handle.{held_in};
+    ghost use Rattle.vp8_c.specs.Handle.{handle_value_in};
 
     /// Returns a closed handle, as C's `VP8_INIT`.
     pub fn closed() -> Handle
-        ensures { held_in result ≡ None }
+        ensures { handle_value_in result ≡ None }
     {
         Handle {
             in_use: 0,
@@ -73,7 +73,7 @@ impl Handle {
 
     /// Consumes a closed handle.
     pub fn forget(self)
-        requires { held_in self ≡ None }
+        requires { handle_value_in self ≡ None }
     {
         let Handle { in_use: _, slot } = self;
         slot.forget();

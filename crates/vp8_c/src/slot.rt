@@ -1,7 +1,7 @@
 //! A nullable pointer that owns a box.
 
 ghost use Rattle.std.specs.Prelude.{◌≡◌, Some, None, IsSome};
-ghost use Rattle.vp8_c.specs.Slot.{MaybeHeld, slot_owns, coded_held};
+ghost use Rattle.vp8_c.specs.Slot.{MaybeHandleValue, slot_owns, coded_held};
 
 use crate::handle_value::HandleValue;
 use crate::raw_box::RawBox;
@@ -14,7 +14,7 @@ use std::ptr;
 #[repr(C)]
 pub struct Slot {
     at: *mut u8,
-    pub ghost held: { MaybeHeld } by { coded_held },
+    pub ghost held: { MaybeHandleValue } by { coded_held },
 }
 
 impl Model for Slot {

@@ -1,7 +1,7 @@
 //! The C functions for an IVF file in memory, whose pictures are requested by number.
 
 ghost use Rattle.std.specs.Prelude.{◌≡◌, ◌⊎◌, None, IfSome, IsSomeAnd};
-ghost use Rattle.vp8_c.specs.Handle.{held_in};
+ghost use Rattle.vp8_c.specs.Handle.{handle_value_in};
 ghost use Rattle.vp8_c.specs.Arguments.{CopiesBytes, GivesOrFails, IsClosed, Opens, Puts, size_of};
 ghost use Rattle.vp8_c.specs.FileHandle.{AnswersPacket, IsFile, info_in, kept_i420_in, kept_size_in, stream_in};
 
@@ -45,7 +45,7 @@ pub extern "C" fn vp8_stream_get_info(
     stream: &mut Handle,
     info: &mut StreamInfo,
 ) -> u32
-    ensures held { held_in stream.new ≡ held_in stream.old }
+    ensures held { handle_value_in stream.new ≡ handle_value_in stream.old }
     ensures info { GivesOrFails Puts (info_in stream.old) result info.old info.new }
 {
     let Some(held) = stream.take(alloc) else {
@@ -89,7 +89,7 @@ pub extern "C" fn vp8_stream_size(
     width: &mut u32,
     height: &mut u32,
 ) -> u32
-    ensures held { held_in stream.new ≡ held_in stream.old }
+    ensures held { handle_value_in stream.new ≡ handle_value_in stream.old }
     ensures size { GivesOrFails Puts (kept_size_in stream.old) result (size_of width.old height.old)
         (size_of width.new height.new) }
 {
@@ -109,7 +109,7 @@ pub extern "C" fn vp8_stream_size(
 /// Status: `NO_PICTURE`, `BUFFER`, `CLOSED`.
 #[unsafe(no_mangle)]
 pub extern "C" fn vp8_stream_copy_i420(alloc: Global, stream: &mut Handle, out: &mut [u8]) -> u32
-    ensures held { held_in stream.new ≡ held_in stream.old }
+    ensures held { handle_value_in stream.new ≡ handle_value_in stream.old }
     ensures i420 { GivesOrFails CopiesBytes (kept_i420_in stream.old) result out.old out.new }
 {
     let Some(held) = stream.take(alloc) else {
@@ -126,7 +126,7 @@ pub extern "C" fn vp8_stream_copy_i420(alloc: Global, stream: &mut Handle, out: 
 /// Frees the stream's memory, and closes the handle.
 #[unsafe(no_mangle)]
 pub extern "C" fn vp8_stream_free(alloc: Global, stream: &mut Handle)
-    ensures { held_in stream.new ≡ None }
+    ensures { handle_value_in stream.new ≡ None }
 {
     let _known = stream.take(alloc);
 }

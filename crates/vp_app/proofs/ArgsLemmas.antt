@@ -20,7 +20,7 @@ use Rattle.vp_app.specs.declared.args.Task.TheVariants.{Decode, Encode, Info, No
 use Rattle.vp_app.specs.declared.args.Refusal.{Refusal}
 use Rattle.vp_app.specs.declared.args.Refusal.TheVariants.{Words, Value}
 use Rattle.vp_app.specs.declared.encode.EncodeArgs.{EncodeArgs}
-use Rattle.vp_app.specs.Args.{Asked, decodes, encodes, serves, tells, decode_app, encode_app, faults_of, info_app, serve_app, vp8_app, Gains, IsFlag, IsForMemory, IsNoNaming, IsNoPlanFor, IsPlanFor, is_equals, is_parted, is_y4m, program, with_operand, with_operands, with_rules, with_service}
+use Rattle.vp_app.specs.Args.{ParsedArgs, decodes, encodes, serves, tells, decode_app, encode_app, faults_of, info_app, serve_app, vp8_app, Gains, IsFlag, IsForMemory, IsNoNaming, IsNoPlanFor, IsPlanFor, is_equals, is_parted, is_y4m, program, with_operand, with_operands, with_rules, with_service}
 
 -- ---- the commands
 
@@ -118,7 +118,7 @@ pub to_decode : (flag from to : Option Text) (form : Form) (input output : Bor T
     → IsPlanFor (with_operands (decodes flag) from to) (Decode form input output)
 to_decode flag from to form input output is e f = rw (← e, ← f) (is, refl, refl)
 
-pub no_operands : (ask : Text → Text → Asked) (from to : Option Text) → (from ≡ None) ⊎ (to ≡ None) → IsPlanFor (with_operands ask from to) Nothing
+pub no_operands : (ask : Text → Text → ParsedArgs) (from to : Option Text) → (from ≡ None) ⊎ (to ≡ None) → IsPlanFor (with_operands ask from to) Nothing
 no_operands ask None to e = tt
 no_operands ask (Some a) None e = tt
 no_operands ask (Some a) (Some b) (inl e) = cc
@@ -131,7 +131,7 @@ pub no_operand : (from : Option Text) → from ≡ None → IsPlanFor (with_oper
 no_operand from e = rw e tt
 
 pub to_serve : (rows : List Row) (address connections : Option Text) (operands : Option (List Text)) (a c : Text) (o : List Text)
-    → Some a ≡ address → Some c ≡ connections → Some o ≡ operands → (P : Asked → Type 0) → P (serves rows a c o)
+    → Some a ≡ address → Some c ≡ connections → Some o ≡ operands → (P : ParsedArgs → Type 0) → P (serves rows a c o)
     → P (with_service rows address connections operands)
 to_serve rows address connections operands a c o e f g P h = rw (← e, ← f, ← g) h
 

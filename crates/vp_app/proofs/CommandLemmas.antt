@@ -24,8 +24,8 @@ use Rattle.vp_app.specs.declared.args.Task.TheVariants.{Decode, Encode, Info, Se
 use Rattle.vp_app.specs.declared.args.Refusal.{Refusal}
 use Rattle.vp_app.specs.declared.args.Refusal.TheVariants.{Words, Value}
 use Rattle.vp_app.specs.Status.{status_of}
-use Rattle.vp_app.specs.Args.{Asked, decodes, encodes, tells, serves, nothing, asked_of, faults_of, IsForMemory, IsOfValue, IsPlanFor, IsMistake, IsRefusalFor, HasInvalidValue, AreMistaken}
-use Rattle.vp_app.specs.Commands.{DecodesFile, DecodesInto, Does, EncodesFile, EncodesInto, IsFileDecoded, IsFileEncoded, IsUnbegun, IsUnopened, IsUsageFault, Looks, LooksOver, Over, ServesConnections, Side, PrintsSurvey, is_stream, status_by_report, status_by_service}
+use Rattle.vp_app.specs.Args.{ParsedArgs, decodes, encodes, tells, serves, nothing, parsed_args, faults_of, IsForMemory, IsOfValue, IsPlanFor, IsMistake, IsRefusalFor, HasInvalidValue, AreMistaken}
+use Rattle.vp_app.specs.Commands.{DecodesFile, DecodesInto, Does, EncodesFile, EncodesInto, IsFileDecoded, IsFileEncoded, IsUnbegun, IsUnopened, IsUsageFault, SurveysFile, SurveysInput, Over, ServesConnections, Side, PrintsSurvey, is_stream, status_by_report, status_by_service}
 
 pub over_stream : (name : List ℕ) (Work : Side → Side → Type 0) (old new : Side) → is_stream name ≡ true → Work old new → Over name Work old new
 over_stream name Work old new e h =
@@ -68,13 +68,13 @@ from_none form from to fault i o e f = inl (unopened Device Memory from fault e 
 
 -- ---- to look
 
-pub look_stream : (from : List ℕ) (done : Result Survey DecodeFault) (i i' : Side) → is_stream from ≡ true → LooksOver done i i' → Looks from done i i'
-look_stream from done i i' e h = inr (over_stream from (LooksOver done) i i' e h)
+pub look_stream : (from : List ℕ) (done : Result Survey DecodeFault) (i i' : Side) → is_stream from ≡ true → SurveysInput done i i' → SurveysFile from done i i'
+look_stream from done i i' e h = inr (over_stream from (SurveysInput done) i i' e h)
 
-pub look_file : (from : List ℕ) (done : Result Survey DecodeFault) (i a b : Side) → is_stream from ≡ false → LooksOver done a b → Looks from done i i
-look_file from done i a b e h = inr (over_file from (LooksOver done) i a b e h)
+pub look_file : (from : List ℕ) (done : Result Survey DecodeFault) (i a b : Side) → is_stream from ≡ false → SurveysInput done a b → SurveysFile from done i i
+look_file from done i a b e h = inr (over_file from (SurveysInput done) i a b e h)
 
-pub look_none : (from : List ℕ) (fault : DecodeFault) (i : Side) → is_stream from ≡ false → (fault ≡ Device) ⊎ (fault ≡ Memory) → Looks from (Err fault) i i
+pub look_none : (from : List ℕ) (fault : DecodeFault) (i : Side) → is_stream from ≡ false → (fault ≡ Device) ⊎ (fault ≡ Memory) → SurveysFile from (Err fault) i i
 look_none from fault i e f = inl (unopened Device Memory from fault e f, refl)
 
 -- ---- to encode
@@ -105,71 +105,71 @@ pictures_none s from to fault i o e f = inl (unopened encode_fault.Device encode
 
 -- ---- what is planned is done
 
-pub does_decode : (asked : Asked) (plan : Task) (form : Form) (from to : Bor (List ℕ)) (done : Result Report DecodeFault) (status : ℕ) (i i' o o' : Side)
+pub does_decode : (asked : ParsedArgs) (plan : Task) (form : Form) (from to : Bor (List ℕ)) (done : Result Report DecodeFault) (status : ℕ) (i i' o o' : Side)
     → plan ≡ Decode form from to → IsPlanFor asked plan → status ≡ status_of done → DecodesFile form from.now to.now done i i' o o'
     → Does asked status i i' o o'
 does_decode asked plan form from to done status i i' o o' e h s d = go asked (subst (IsPlanFor asked) e h)
   where
-    go : (x : Asked) → IsPlanFor x (Decode form from to) → Does x status i i' o o'
+    go : (x : ParsedArgs) → IsPlanFor x (Decode form from to) → Does x status i i' o o'
     go (decodes flag f t) p = rw (← p.1, ← p.2) (inl (form, done, p.0, s, d))
     go (encodes rows f t) p = absurd p
     go (tells f) p = absurd p
     go (serves r a c t) p = absurd p
     go nothing p = absurd p
 
-pub does_encode : (asked : Asked) (plan : Task) (encoding : EncodeArgs) (done : Result EncodeReport EncodeAllFault) (status : ℕ) (i i' o o' : Side)
+pub does_encode : (asked : ParsedArgs) (plan : Task) (encoding : EncodeArgs) (done : Result EncodeReport EncodeAllFault) (status : ℕ) (i i' o o' : Side)
     → plan ≡ Encode encoding → IsPlanFor asked plan → status ≡ status_by_report done
     → EncodesFile encoding.settings encoding.input.now encoding.output.now done i i' o o' → Does asked status i i' o o'
 does_encode asked plan encoding done status i i' o o' e h s d = go asked (subst (IsPlanFor asked) e h)
   where
-    go : (x : Asked) → IsPlanFor x (Encode encoding) → Does x status i i' o o'
+    go : (x : ParsedArgs) → IsPlanFor x (Encode encoding) → Does x status i i' o o'
     go (decodes flag f t) p = absurd p
     go (encodes rows f t) p = rw (← p.2, ← p.3) (inl (encoding.settings, done, p.0, s, d))
     go (tells f) p = absurd p
     go (serves r a c t) p = absurd p
     go nothing p = absurd p
 
-pub does_tell : (asked : Asked) (plan : Task) (from : Bor (List ℕ)) (done : Result Survey DecodeFault) (status : ℕ) (i i' o o' : Side)
-    → plan ≡ Info from → IsPlanFor asked plan → Looks from.now done i i' → PrintsSurvey done status o.bytes o'.bytes → Does asked status i i' o o'
+pub does_tell : (asked : ParsedArgs) (plan : Task) (from : Bor (List ℕ)) (done : Result Survey DecodeFault) (status : ℕ) (i i' o o' : Side)
+    → plan ≡ Info from → IsPlanFor asked plan → SurveysFile from.now done i i' → PrintsSurvey done status o.bytes o'.bytes → Does asked status i i' o o'
 does_tell asked plan from done status i i' o o' e h d t = go asked (subst (IsPlanFor asked) e h)
   where
-    go : (x : Asked) → IsPlanFor x (Info from) → Does x status i i' o o'
+    go : (x : ParsedArgs) → IsPlanFor x (Info from) → Does x status i i' o o'
     go (decodes flag f g) p = absurd p
     go (encodes rows f g) p = absurd p
     go (tells f) p = rw (← p) (inl (done, d, t))
     go (serves r a c t) p = absurd p
     go nothing p = absurd p
 
-pub does_serve : (asked : Asked) (plan : Task) (service : ServeArgs) (done : Result Bool ServiceFault) (status : ℕ) (i i' o o' : Side)
+pub does_serve : (asked : ParsedArgs) (plan : Task) (service : ServeArgs) (done : Result Bool ServiceFault) (status : ℕ) (i i' o o' : Side)
     → plan ≡ Serve service → IsPlanFor asked plan → status ≡ status_by_service done → ServesConnections service done i i' → (service.show_address ≡ false → o' ≡ o)
     → Does asked status i i' o o'
 does_serve asked plan service done status i i' o o' e h s d q = go asked (subst (IsPlanFor asked) e h)
   where
-    go : (x : Asked) → IsPlanFor x (Serve service) → Does x status i i' o o'
+    go : (x : ParsedArgs) → IsPlanFor x (Serve service) → Does x status i i' o o'
     go (decodes flag f g) p = absurd p
     go (encodes rows f g) p = absurd p
     go (tells f) p = absurd p
     go (serves rows address connections operands) p = inl (service, done, p, s, d, q)
     go nothing p = absurd p
 
-pub does_nothing : (asked : Asked) (plan : Task) (i o : Side) → plan ≡ Nothing → IsPlanFor asked plan → Does asked 2 i i o o
+pub does_nothing : (asked : ParsedArgs) (plan : Task) (i o : Side) → plan ≡ Nothing → IsPlanFor asked plan → Does asked 2 i i o o
 does_nothing asked plan i o e h = go asked (subst (IsPlanFor asked) e h)
   where
-    go : (x : Asked) → IsPlanFor x Nothing → Does x 2 i i o o
+    go : (x : ParsedArgs) → IsPlanFor x Nothing → Does x 2 i i o o
     go (decodes flag f g) p = absurd p
     go (encodes rows f g) p = absurd p
     go (tells f) p = absurd p
     go (serves r a c t) p = absurd p
     go nothing p = inr (refl, refl, refl)
 
-unbegun : (asked : Asked) (status : ℕ) (i i' o o' : Side) → IsUnbegun status i i' o o' → Does asked status i i' o o'
+unbegun : (asked : ParsedArgs) (status : ℕ) (i i' o o' : Side) → IsUnbegun status i i' o o' → Does asked status i i' o o'
 unbegun (decodes flag f g) status i i' o o' h = inr h
 unbegun (encodes rows f g) status i i' o o' h = inr (inl h)
 unbegun (tells f) status i i' o o' h = inr h
 unbegun (serves r a c t) status i i' o o' h = inr (inl h)
 unbegun nothing status i i' o o' h = inl h
 
-misused : (asked : Asked) (status : ℕ) (i i' o o' : Side) → HasInvalidValue asked → IsUsageFault status i i' o o' → Does asked status i i' o o'
+misused : (asked : ParsedArgs) (status : ℕ) (i i' o o' : Side) → HasInvalidValue asked → IsUsageFault status i i' o o' → Does asked status i i' o o'
 misused (decodes flag f g) status i i' o o' m h = absurd m
 misused (encodes rows f g) status i i' o o' m h = inr (inr (m, h))
 misused (tells f) status i i' o o' m h = absurd m
@@ -183,11 +183,11 @@ for_memory e (k ∷ ks) none h = cc
 
 pub does_refused : (words : List Text) (refusal : Refusal) (status : ℕ) (i o o' : Side) → IsRefusalFor words refusal
     → (IsForMemory refusal → (status ≡ 1) × (o' ≡ o)) → (IsOfValue refusal → (status ≡ 2) × (o' ≡ o)) → faults_of words ≡ []
-    → Does (asked_of words) status i i o o'
+    → Does (parsed_args words) status i i o o'
 does_refused words (Words e) status i o o' h memory value none =
-    let m = memory (for_memory e (faults_of words) none h) in unbegun (asked_of words) status i i o o' (m.0, refl, m.1)
+    let m = memory (for_memory e (faults_of words) none h) in unbegun (parsed_args words) status i i o o' (m.0, refl, m.1)
 does_refused words (Value t) status i o o' h memory value none =
-    let v = value tt in misused (asked_of words) status i i o o' h.1 (v.0, refl, v.1)
+    let v = value tt in misused (parsed_args words) status i i o o' h.1 (v.0, refl, v.1)
 
 -- ---- words with a fault
 

@@ -116,33 +116,33 @@ program = with_subcommand (with_subcommand
 -- ---- the task that the arguments ask for
 
 -- the task that the arguments ask for
-pub data Asked : Type 0 where
+pub data ParsedArgs : Type 0 where
   -- the value of the flag y4m, and the two files
-  decodes : Option Text → Text → Text → Asked
+  decodes : Option Text → Text → Text → ParsedArgs
   -- the options, and the two files
-  encodes : List Row → Text → Text → Asked
-  tells : Text → Asked
+  encodes : List Row → Text → Text → ParsedArgs
+  tells : Text → ParsedArgs
   -- the options, the address, the number of connections, and the operands
-  serves : List Row → Text → Text → List Text → Asked
-  nothing : Asked
+  serves : List Row → Text → Text → List Text → ParsedArgs
+  nothing : ParsedArgs
 
 -- the task, if both operands are present
-abbrev pub with_operands : (Text → Text → Asked) → Option Text → Option Text → Asked
+abbrev pub with_operands : (Text → Text → ParsedArgs) → Option Text → Option Text → ParsedArgs
 with_operands ask (Some input) (Some output) = ask input output
 with_operands ask _ _ = nothing
 
 -- the task, if the operand is present
-abbrev pub with_operand : (Text → Asked) → Option Text → Asked
+abbrev pub with_operand : (Text → ParsedArgs) → Option Text → ParsedArgs
 with_operand ask (Some input) = ask input
 with_operand ask None = nothing
 
 -- the task, if the required options and the operands are present
-abbrev pub with_service : List Row → Option Text → Option Text → Option (List Text) → Asked
+abbrev pub with_service : List Row → Option Text → Option Text → Option (List Text) → ParsedArgs
 with_service rows (Some address) (Some connections) (Some operands) = serves rows address connections operands
 with_service rows _ _ _ = nothing
 
 -- the task, given a subcommand's name and its arguments
-abbrev pub asked_at : Text → List Row → Asked
+abbrev pub asked_at : Text → List Row → ParsedArgs
 asked_at name rows =
     if bytes_eq name (codes "decode") then with_operands (decodes (one_of (codes "y4m") rows))
     (first_of (codes "IN") rows) (first_of (codes "OUT") rows)
@@ -155,13 +155,13 @@ asked_at name rows =
     else nothing)))
 
 -- the task, given a subcommand, if there is one
-abbrev pub parsed_command : Option (Text × List Row) → Asked
+abbrev pub parsed_command : Option (Text × List Row) → ParsedArgs
 parsed_command None = nothing
 parsed_command (Some p) = asked_at p.0 p.1
 
 -- the task, given arguments that clap accepts
-abbrev pub asked_of : List Text → Asked
-asked_of words = parsed_command (subcommand_of program words)
+abbrev pub parsed_args : List Text → ParsedArgs
+parsed_args words = parsed_command (subcommand_of program words)
 
 -- the kinds of errors for which clap refuses the arguments
 abbrev pub faults_of : List Text → Kinds
@@ -228,7 +228,7 @@ pub record IsServiceFor (rows : List Row) (address connections : Text) (operands
   pub streams_are : AreNamed operands s.streams.items
 
 -- the task has the values that the arguments ask for
-abbrev pub IsPlanFor : Asked → Task → Type 0
+abbrev pub IsPlanFor : ParsedArgs → Task → Type 0
 IsPlanFor (decodes flag from to) (Decode form input output) = IsFlag flag (is_y4m form) × (input.now ≡ from)
     × (output.now ≡ to)
 IsPlanFor (encodes rows from to) (Encode e) =
@@ -271,13 +271,13 @@ IsNoService rows connections operands =
     IsNoDecimal (2 ^ 32) connections ⊎ (IsNoCache (first_of (codes "cache") rows) ⊎ list_all is_parted operands ≡ false)
 
 -- some value is refused
-abbrev pub HasInvalidValue : Asked → Type 0
+abbrev pub HasInvalidValue : ParsedArgs → Type 0
 HasInvalidValue (encodes rows from to) = AreNoSettings rows
 HasInvalidValue (serves rows address connections operands) = IsNoService rows connections operands
 HasInvalidValue _ = ⊥
 
 -- a refusal after clap accepted the arguments: out of memory, or a refused value
-abbrev pub IsNoPlanFor : Asked → Refusal → Type 0
+abbrev pub IsNoPlanFor : ParsedArgs → Refusal → Type 0
 IsNoPlanFor asked (Words e) = kind_of e ≡ OutOfMemory
 IsNoPlanFor asked (Value text) = HasInvalidValue asked
 
@@ -304,7 +304,7 @@ IsMistake (Value text) = Unit {0}
 -- clap refuses the arguments; or it accepts them, and a value is refused
 abbrev pub IsRefusalFor : List Text → Refusal → Type 0
 IsRefusalFor words (Words e) = HasKind (faults_of words) e
-IsRefusalFor words (Value text) = (faults_of words ≡ []) × HasInvalidValue (asked_of words)
+IsRefusalFor words (Value text) = (faults_of words ≡ []) × HasInvalidValue (parsed_args words)
 
 -- the argument is not a flag, not an option, and not `--`
 pub record IsOperand (word : Text) : Type 0 where

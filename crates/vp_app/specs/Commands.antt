@@ -29,7 +29,7 @@ use Rattle.vp_app.specs.Usual.{AreLimits}
 use Rattle.vp_app.specs.declared.serve_args.ServeArgs.{ServeArgs}
 use Rattle.vp_app.specs.declared.service.ServiceFault.{ServiceFault}
 use Rattle.vp_app.specs.Serving.{IsService}
-use Rattle.vp_app.specs.Args.{Asked, decodes, encodes, tells, serves, nothing, AreNoSettings, AreSettings, IsFlag}
+use Rattle.vp_app.specs.Args.{ParsedArgs, decodes, encodes, tells, serves, nothing, AreNoSettings, AreSettings, IsFlag}
 use Rattle.vp_app.specs.Args.{IsNoService, IsServiceFor, is_y4m}
 
 -- ---- standard streams
@@ -91,7 +91,7 @@ DecodesFile form from to done input input' output output' =
 -- ---- vp8 info
 
 -- the result of `survey`
-pub record IsLooked (told : Result Survey SurveyFault) (input input' : Side) : Type 0 where
+pub record IsFileSurveyed (told : Result Survey SurveyFault) (input input' : Side) : Type 0 where
   pub limits : Limits
   pub usual : AreLimits 16 limits
   pub file : List ℕ
@@ -108,13 +108,14 @@ told_as (Ok survey) = Ok survey
 told_as (Err fault) = Err (read_fault_by fault)
 
 -- surveys an open input
-abbrev pub LooksOver : Result Survey DecodeFault → Side → Side → Type 0
-LooksOver done input input' = (told : Result Survey SurveyFault) × (done ≡ told_as told) × IsLooked told input input'
+abbrev pub SurveysInput : Result Survey DecodeFault → Side → Side → Type 0
+SurveysInput done input input' = (told : Result Survey SurveyFault) × (done ≡ told_as told)
+    × IsFileSurveyed told input input'
 
 -- surveys the input file
-abbrev pub Looks : List ℕ → Result Survey DecodeFault → Side → Side → Type 0
-Looks from done input input' = (IsUnopened Device Memory from done × (input' ≡ input))
-    ⊎ Over from (LooksOver done) input input'
+abbrev pub SurveysFile : List ℕ → Result Survey DecodeFault → Side → Side → Type 0
+SurveysFile from done input input' = (IsUnopened Device Memory from done × (input' ≡ input))
+    ⊎ Over from (SurveysInput done) input input'
 
 -- the exit status for the file's fault
 abbrev pub status_by_fault : Option FileFault → ℕ
@@ -184,9 +185,9 @@ DoesEncode rows from to status input input' output output' =
     × (status ≡ status_by_report done) × EncodesFile settings from to done input input' output output'
 
 -- the effect of `vp8 info`
-abbrev pub DoesTell : List ℕ → ℕ → Side → Side → Side → Side → Type 0
-DoesTell from status input input' output output' =
-    (done : Result Survey DecodeFault) × Looks from done input input'
+abbrev pub DoesInfo : List ℕ → ℕ → Side → Side → Side → Side → Type 0
+DoesInfo from status input input' output output' =
+    (done : Result Survey DecodeFault) × SurveysFile from done input input'
     × PrintsSurvey done status output.bytes output'.bytes
 
 -- the connections are served, or there was a fault of files, names, address or memory before that
@@ -208,7 +209,7 @@ DoesServe rows address connections operands status input input' output output' =
     × (service.show_address ≡ false → output' ≡ output)
 
 -- the effect of a task; memory may run out before it begins, and values may be refused
-abbrev pub Does : Asked → ℕ → Side → Side → Side → Side → Type 0
+abbrev pub Does : ParsedArgs → ℕ → Side → Side → Side → Side → Type 0
 Does (decodes flag from to) status input input' output output' =
     DoesDecode flag from to status input input' output output' ⊎ IsUnbegun status input input' output output'
 Does (encodes rows from to) status input input' output output' =
@@ -216,7 +217,7 @@ Does (encodes rows from to) status input input' output output' =
     ⊎ (IsUnbegun status input input' output output' ⊎ (AreNoSettings rows
     × IsUsageFault status input input' output output'))
 Does (tells from) status input input' output output' =
-    DoesTell from status input input' output output' ⊎ IsUnbegun status input input' output output'
+    DoesInfo from status input input' output output' ⊎ IsUnbegun status input input' output output'
 Does (serves rows address connections operands) status input input' output output' =
     DoesServe rows address connections operands status input input' output output'
     ⊎ (IsUnbegun status input input' output output' ⊎ (IsNoService rows connections operands

@@ -7,7 +7,7 @@ ghost use Rattle.clap.specs.Kinds.{HasKind};
 ghost use Rattle.clap.specs.Simple.{subcommand_of};
 ghost use Rattle.clap.specs.Walk.{all_of, first_of, one_of, texts};
 ghost use Rattle.clap.specs.declared.builder.command.Command.TheViews.{out-Command as fields_of};
-ghost use Rattle.vp_app.specs.Args.{asked_at, parsed_command, asked_of, encodes, faults_of, AreNamed, AreNoSettings};
+ghost use Rattle.vp_app.specs.Args.{asked_at, parsed_command, parsed_args, encodes, faults_of, AreNamed, AreNoSettings};
 ghost use Rattle.vp_app.specs.Args.{AreSettings, Gains, IsDecimal, IsFlag, IsMisnumbered, IsNoCache, IsNoDecimal};
 ghost use Rattle.vp_app.specs.Args.{IsNoNaming, IsNoPlanFor, IsNumber, IsOfValue, IsPlanFor, IsRefusalFor, decode_app};
 ghost use Rattle.vp_app.specs.Args.{encode_app, file_rules, flag_rule, frame_rules, info_app, macroblock_rules};
@@ -75,7 +75,7 @@ impl From<AllocError> for Refusal {
 /// Parses the arguments; the first is the program's name.
 pub fn read_args<'a>(alloc: Global, words: &'a [&'a str]) -> Result<Task<'a>, Refusal>
     ensures plan { IfOk result (λ plan. (faults_of (texts words.now) ≡ [])
-        × IsPlanFor (asked_of (texts words.now)) plan) }
+        × IsPlanFor (parsed_args (texts words.now)) plan) }
     ensures refusal { IfErr result (IsRefusalFor (texts words.now)) }
 {
     let matches = parse_args(alloc, words)?;

@@ -7,10 +7,11 @@ ghost use Rattle.clap.specs.declared.error.kind.ErrorKind.{ErrorKind};
 ghost use Rattle.vp_stream.specs.declared.fault.DecodeFault.{DecodeFault};
 ghost use Rattle.vp_base.specs.Counted.{counted_contents};
 ghost use Rattle.vp_app.specs.Commands.{is_stream, read_side, written_side, status_by_report, status_by_service};
-ghost use Rattle.vp_app.specs.Commands.{DecodesFile, DecodesInto, Does, IsFileDecoded, IsLooked, Looks, LooksOver};
+ghost use Rattle.vp_app.specs.Commands.{DecodesFile, DecodesInto, Does, IsFileDecoded, IsFileSurveyed, SurveysFile};
+ghost use Rattle.vp_app.specs.Commands.{SurveysInput};
 ghost use Rattle.vp_app.specs.Commands.{PrintsSurvey};
 ghost use Rattle.vp_app.specs.Status.{status_of};
-ghost use Rattle.vp_app.specs.Args.{asked_of, faults_of, AreMistaken, Asked, IsForMemory, IsMistake, IsOfValue};
+ghost use Rattle.vp_app.specs.Args.{parsed_args, faults_of, AreMistaken, ParsedArgs, IsForMemory, IsMistake, IsOfValue};
 ghost use Rattle.vp_app.specs.Args.{IsPlanFor};
 
 use crate::args::{Refusal, Task, read_args};
@@ -62,7 +63,7 @@ pub fn command<
     ensures usage { result ≡ 2 → (input.new ≡ input.old) × (output.new ≡ output.old) }
 
     // If clap accepts the arguments, the command is carried out.
-    ensures does { faults_of (texts words.now) ≡ [] → Does (asked_of (texts words.now)) result
+    ensures does { faults_of (texts words.now) ≡ [] → Does (parsed_args (texts words.now)) result
         (read_side R.remaining input.old) (read_side R.remaining input.new)
         (written_side W.contents output.old) (written_side W.contents output.new) }
 
@@ -94,7 +95,7 @@ fn run_task<
     ensures status { result ≤ 2 }
     ensures usage { result ≡ 2 → (input.new ≡ input.old) × (output.new ≡ output.old) }
     ensures nothing { plan.now ≡ Task.Nothing → result ≡ 2 }
-    ensures does { (asked : Asked) → IsPlanFor asked plan.now → Does asked result
+    ensures does { (asked : ParsedArgs) → IsPlanFor asked plan.now → Does asked result
         (read_side R.remaining input.old) (read_side R.remaining input.new)
         (written_side W.contents output.old) (written_side W.contents output.new) }
 {
@@ -202,7 +203,7 @@ fn survey_file<H: Files + AllocGlobal, R: Read>(
     from: &str,
     input: &mut Counted<R>,
 ) -> Result<Survey, DecodeFault>
-    ensures looked { Looks from.now result (read_side R.remaining input.old) (read_side R.remaining input.new) }
+    ensures looked { SurveysFile from.now result (read_side R.remaining input.old) (read_side R.remaining input.new) }
     ensures unread { is_stream from.now ≡ false → input.new ≡ input.old }
 {
     if from == "-" {
@@ -215,7 +216,7 @@ fn survey_file<H: Files + AllocGlobal, R: Read>(
 }
 
 fn survey_input<R: Read>(alloc: Global, input: &mut Counted<R>) -> Result<Survey, DecodeFault>
-    ensures { LooksOver result (read_side R.remaining input.old) (read_side R.remaining input.new) }
+    ensures { SurveysInput result (read_side R.remaining input.old) (read_side R.remaining input.new) }
 {
     match survey_over(alloc, input) {
         Ok(survey) => Ok(survey),
@@ -224,7 +225,7 @@ fn survey_input<R: Read>(alloc: Global, input: &mut Counted<R>) -> Result<Survey
 }
 
 fn survey_over<R: Read>(alloc: Global, input: &mut Counted<R>) -> Result<Survey, SurveyFault>
-    ensures { IsLooked result (read_side R.remaining input.old) (read_side R.remaining input.new) }
+    ensures { IsFileSurveyed result (read_side R.remaining input.old) (read_side R.remaining input.new) }
 {
     survey(alloc, input, Limits::usual())
 }

@@ -13,7 +13,7 @@ use Rattle.vp_stream.specs.Seeking.{AnswerValue, Shown, Hidden, Fault, NoPacket,
 use Rattle.vp_base.specs.declared.limits.Limits.{Limits}
 use Rattle.vp_decode.specs.Step.{step, DecoderState}
 use Rattle.vp_stream.specs.Answers.{answers_from}
-use Rattle.vp_stream.specs.Seeking.{told_or_none}
+use Rattle.vp_stream.specs.Seeking.{answer_or_none}
 use Rattle.vp_stream.specs.Stream.{Stream as StreamState}
 use Rattle.vp_cache.specs.Cache.{CachedPicture, CacheEntry, Cache, AreAnswersOf, IsAfter, IsAnswerIf, moved_to_front, cached_answer, option_shown, pair_eq, cached, in_front, put, work_beside}
 
@@ -230,7 +230,7 @@ pub held_answer : (number n : ℕ) (s : StreamState) (es : List CacheEntry) → 
 held_answer number n s es kept = held_by number n s es (cached number n es) refl kept
 
 shown_there : (limits : Limits) (state : Option DecoderState) (ps : List Packet) (n : ℕ) (p : CachedPicture)
-    → told_or_none (slice_get (answers_from limits state ps) n) ≡ cached_answer p → n < length ps
+    → answer_or_none (slice_get (answers_from limits state ps) n) ≡ cached_answer p → n < length ps
 shown_there limits state [] n p h = let no : NoPacket ≡ cached_answer p = h in cc
 shown_there limits state (q ∷ ps) zero p h = omega arith
 shown_there limits state (q ∷ ps) (suc n) p h = omega (arith, shown_there limits (step limits state q.bytes).0 ps n p h)

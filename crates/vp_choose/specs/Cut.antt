@@ -1,4 +1,4 @@
--- Inside the crate: the source pixels of a macroblock, as lists.
+-- Private to the crate: the source pixels of a macroblock, as lists.
 use Rattle.std.specs.Prelude.{◌≡◌}
 use Rattle.vp_base.specs.declared.place.Place.{Place}
 use Rattle.vp_base.specs.Image.{Image}

@@ -1,4 +1,4 @@
--- Inside the crate: the levels of a macroblock's blocks as lists.
+-- Private to the crate: the levels of a macroblock's blocks as lists.
 use Rattle.std.specs.Prelude.{◌≡◌, ℕ, ◌+◌, ◌-◌, ◌<◌, ◌==◌, nat_lt, if◌then◌else◌, ◌≤◌, ℤ, pos, Bool, false, List, []}
 use Rattle.std.specs.Prelude.{slice_index_or, unsigned_abs}
 use Rattle.vp_tokens.specs.declared.contexts.Tokens.{Tokens}

@@ -16,7 +16,7 @@ use Rattle.vp_motion.specs.Vector.{MacroblockMotion}
 use Rattle.vp_motion.specs.Map.{intra}
 use Rattle.vp_motion.specs.Motion.{motion_at}
 use Rattle.vp_decode.specs.MacroblockInfo.{MacroblockInfo, modes_in, motion_in, macroblock_read, motion_read, row_read, maps_read, place}
-use Rattle.vp_decode.specs.ReadingOrder.{AreMaps, AreSaid, moved, read_before}
+use Rattle.vp_decode.specs.ReadingOrder.{AreMaps, AreReadInOrder, moved, read_before}
 
 -- ---- rows in general
 
@@ -173,7 +173,7 @@ module _ (h : Header) (columns rows_ : ℕ) where
       (λ j b t right within. step-holds p modes motion p.row j b t below within (λ e. let same : p.column ≡ j = ap (λ (x : Place). x.column) e in absurd (omega arith))))
       (λ j b t under within. row-holds p modes motion j b t within under)
 
-pub are_said : (h : Header) (m : MacroblockInfo) (s : State) (p : Place) → AreMaps m → Has m.modes p → AreSaid h m s p
+pub are_said : (h : Header) (m : MacroblockInfo) (s : State) (p : Place) → AreMaps m → Has m.modes p → AreReadInOrder h m s p
 unfolding maps_read read_before bind
 are_said h m s p maps has_p =
     let columns = m.modes.columns in

@@ -189,7 +189,7 @@ unfolding step
 step-one_size law limits None [] one = tt
 step-one_size law limits (Some k) [] one = one
 step-one_size law limits state (b ∷ bs) one =
-    decoded-one_size law (parsed limits state (b ∷ bs)) (λ o e. context-whole o.tag.key state o.context (opened-is limits state (b ∷ bs) o e).basis_is one)
+    decoded-one_size law (parsed limits state (b ∷ bs)) (λ o e. context-whole o.tag.key state o.context (opened-is limits state (b ∷ bs) o e).context_is one)
 
 -- ---- the two cases of a step
 

@@ -39,7 +39,7 @@ pub kept_left : (limits : Limits) (state : Option DecoderState) (packet : List �
     → state_from_frame (references_in state) f ≡ state_after o
 kept_left limits state packet o f e is =
     let from = opened-is limits state packet o (sym e) in
-    let over = references_over o.tag.key state o.context o.header (picture_of (frame_of_packet o)) from.basis_is from.key_is in
+    let over = references_over o.tag.key state o.context o.header (picture_of (frame_of_packet o)) from.context_is from.key_is in
     (λ i. record { saved = is.saved i; segments = is.segments i; references = references_after (references_in state) (is.header i) (is.picture i); shown = is.shown i })
     ∙ (λ i. record { saved = o.saved; segments = segments_of (frame_info_of o).maps.modes; references = over i; shown = shown_after o.tag.show (picture_of (frame_of_packet o)) o.context.shown })
 

@@ -1,4 +1,4 @@
--- Inside the crate: a frame whose rows are being rebuilt; how one macroblock and one row change it; the state after a
+-- Private to the crate: a frame whose rows are being rebuilt; how one macroblock and one row change it; the state after a
 -- number of rows.
 use Rattle.std.specs.Prelude.{◌≡◌, ◌≢◌, ◌<◌, ℕ, ◌+◌, Bool, List, Some, length}
 use Rattle.vp_bool.specs.Bools.{State}

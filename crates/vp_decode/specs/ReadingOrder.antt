@@ -31,15 +31,15 @@ abbrev pub moved : Reference → Motion → MacroblockMotion
 moved reference motion = record { reference = reference; mode = motion.mode; vectors = motion.vectors }
 
 -- reads the modes at p, after all macroblocks before it
-abbrev pub modes_said : Header → Place → MacroblockInfo → Reader Modes
-modes_said h p m s = modes_at h (read_before h p m s).0.modes p (read_before h p m s).1
+abbrev pub modes_when_read : Header → Place → MacroblockInfo → Reader Modes
+modes_when_read h p m s = modes_at h (read_before h p m s).0.modes p (read_before h p m s).1
 
 -- After all macroblocks are read, the macroblock at p has the modes that were read at its turn. An inter macroblock has
 -- the motion that was read after them; the motion of an intra macroblock is unchanged.
-pub record AreSaid (h : Header) (m : MacroblockInfo) (s : State) (p : Place) : Type 0 where
-  pub modes : modes_in (maps_read h m s).0 p ≡ (modes_said h p m s).0
-  pub motion : is_intra (modes_said h p m s).0.reference ≡ false
+pub record AreReadInOrder (h : Header) (m : MacroblockInfo) (s : State) (p : Place) : Type 0 where
+  pub modes : modes_in (maps_read h m s).0 p ≡ (modes_when_read h p m s).0
+  pub motion : is_intra (modes_when_read h p m s).0.reference ≡ false
       → motion_in (maps_read h m s).0 p
-      ≡ moved (modes_said h p m s).0.reference
-      (motion_at h (read_before h p m s).0.motion p (modes_said h p m s).0.reference (modes_said h p m s).1).0
-  pub unmoved : is_intra (modes_said h p m s).0.reference ≡ true → motion_in (maps_read h m s).0 p ≡ motion_in m p
+      ≡ moved (modes_when_read h p m s).0.reference
+      (motion_at h (read_before h p m s).0.motion p (modes_when_read h p m s).0.reference (modes_when_read h p m s).1).0
+  pub unmoved : is_intra (modes_when_read h p m s).0.reference ≡ true → motion_in (maps_read h m s).0 p ≡ motion_in m p

@@ -1,4 +1,4 @@
--- Inside the crate: pictures of one size, and operations that read and write only rows above, or only rows from, a
+-- Private to the crate: pictures of one size, and operations that read and write only rows above, or only rows from, a
 -- given row of macroblocks.
 use Rattle.std.specs.Prelude.{◌≡◌, ℕ, ◌*◌}
 use Rattle.vp_base.specs.Image.{Image, IsAligned, AreWhole}

@@ -1,4 +1,4 @@
--- Inside the crate: the state after a decoded frame, and the sizes in a frame's context.
+-- Private to the crate: the state after a decoded frame, and the sizes in a frame's context.
 use Rattle.std.specs.Prelude.{◌≡◌, ℕ, Option, Some, None, IfSome, option_map}
 use Rattle.vp_base.specs.declared.limits.Dim.{Dim}
 use Rattle.vp_base.specs.Grid.{Grid, all}

@@ -21,7 +21,7 @@ use Rattle.vp_encode.specs.Encoder.{EncoderState}
 use Rattle.vp_encode.specs.Encoded.{initial_encoder, error_of, errors_of}
 use Rattle.vp_encode.specs.File.{packet_of}
 use Rattle.vp_encode.specs.Playing.{answers_from_state, shown}
-use Rattle.vp_encode.specs.Calls.{Call, IsForgotten, frame_with, Leaves, AreCalls, IsEncoderAfter, frames_of, error_by, errors_told, ArePlayedBack, CallsArePlayedBack}
+use Rattle.vp_encode.specs.Calls.{Call, IsForgotten, frame_with, Leaves, AreCalls, IsEncoderAfter, frames_of, error_by, errors_reported, ArePlayedBack, CallsArePlayedBack}
 
 -- ---- A packet that shows a picture over no state shows it over every state: it is a key packet.
 
@@ -91,8 +91,8 @@ calls_play limits state e (c ∷ cs) last are follows fit =
 -- ---- the errors that are told
 
 error_adds : (e : EncoderState) (source : Image) (result : Result Encoded EncodeFault) (next : EncoderState) (cs : List Call) → Leaves e source result next
-    → errors_told cs ≡ errors_of (frames_of cs)
-    → errors_told (record { source = source; result = result } ∷ cs) ≡ errors_of (frames_of (record { source = source; result = result } ∷ cs))
+    → errors_reported cs ≡ errors_of (frames_of cs)
+    → errors_reported (record { source = source; result = result } ∷ cs) ≡ errors_of (frames_of (record { source = source; result = result } ∷ cs))
 error_adds e source (Ok encoded) next cs left others =
     sum_by-cons (λ (c : Call). error_by c.result) (record { source = source; result = Ok encoded }) cs
     ∙ ap₂ (λ n m. n + m) left.error others
@@ -101,7 +101,7 @@ error_adds e source (Err fault) next cs left others =
     let first = sum_by-cons (λ (c : Call). error_by c.result) (record { source = source; result = Err fault }) cs in
     omega (arith, first, others)
 
-errors_add : (e : EncoderState) (calls : List Call) (last : EncoderState) → AreCalls e calls last → errors_told calls ≡ errors_of (frames_of calls)
+errors_add : (e : EncoderState) (calls : List Call) (last : EncoderState) → AreCalls e calls last → errors_reported calls ≡ errors_of (frames_of calls)
 errors_add e [] last are = refl
 errors_add e (c ∷ cs) last are = error_adds e c.source c.result are.0 cs are.1 (errors_add are.0 cs last are.2)
 

@@ -33,7 +33,7 @@ use Rattle.vp_encode.specs.declared.settings.Settings.{Settings}
 use Rattle.vp_encode.specs.declared.coded_frame.CodedFrame.{CodedFrame}
 use Rattle.vp_encode.specs.CodedFrame.{coded_choice, saved_motion}
 use Rattle.vp_encode.specs.PacketContents.{HasContents}
-use Rattle.vp_encode.specs.Encoder.{EncoderState, AreAllowed, kept_for, basis_over, basis_for, tag_key, header_of, frame_for, search_in, continued, quantiser}
+use Rattle.vp_encode.specs.Encoder.{EncoderState, AreAllowed, kept_for, context_over, context_for, tag_key, header_of, frame_for, search_in, continued, quantiser}
 use Rattle.vp_encode.specs.FrameChoices.{choice_at, macroblock_by, picture_before, saved_motions, AreChosen, AreUnsegmented}
 use Rattle.vp_encode.specs.Choice.{rebuilt_before, choice_read, AreChoices, IsChosen}
 use Rattle.vp_encode.proofs.Candidates.{candidates-same, motion_by-at}
@@ -181,8 +181,8 @@ pub segments_stay : (dim : Dim) (key : Option KeyTag) (context : FrameContext) (
 segments_stay dim key context c packet o wide high columns rows says none =
     let m : MacroblockInfo = (frame_info_of o).maps in
     let sized = plan-sized o in
-    let wide_too = sized.columns ∙ ap (λ (z : FrameContext). z.modes.columns) says.basis_is ∙ wide in
-    let high_too = sized.rows ∙ ap (λ (z : FrameContext). z.modes.rows) says.basis_is ∙ high in
+    let wide_too = sized.columns ∙ ap (λ (z : FrameContext). z.modes.columns) says.context_is ∙ wide in
+    let high_too = sized.rows ∙ ap (λ (z : FrameContext). z.modes.rows) says.context_is ∙ high in
     record {
       columns = wide_too;
       rows = high_too;
@@ -200,7 +200,7 @@ chosen_unsegmented frame g chosen p has = (chosen.each p has).is.segment
 
 -- what it is predicted from
 source_read : (s : Settings) (dim : Dim) (kept : Option DecoderState) (version : ℕ) (modes : Modes) (motion : MacroblockMotion) (c : Choice)
-    → version ≡ 0 → modes ≡ c.modes → motion ≡ saved_motion c → source_read_by (basis_over dim kept).references version modes motion ≡ source_by (search_in s kept) c
+    → version ≡ 0 → modes ≡ c.modes → motion ≡ saved_motion c → source_read_by (context_over dim kept).references version modes motion ≡ source_by (search_in s kept) c
 source_read s dim None version modes motion c v m e = ap Intra m
 source_read s dim (Some k) version modes motion c v m e = elim (cases_Bool (is_intra c.modes.reference)) [
   | inl own ↦
@@ -219,7 +219,7 @@ index_same n h = omega arith
 
 module _ (e : EncoderState) (source : Image) (packet : List ℕ) (g : Grid Choice) (allowed : AreAllowed e.settings)
     (wide : source.width ≡ e.dim.w) (high : source.height ≡ e.dim.h) (chosen : AreChosen (frame_for e source) g)
-    (columns_over : (basis_for e).modes.columns ≡ macroblocks e.dim.w) (rows_over : (basis_for e).modes.rows ≡ macroblocks e.dim.h) where
+    (columns_over : (context_for e).modes.columns ≡ macroblocks e.dim.w) (rows_over : (context_for e).modes.rows ≡ macroblocks e.dim.h) where
   abbrev c : CodedFrame
   c = record { header = header_of e; macroblocks = g }
 
@@ -227,7 +227,7 @@ module _ (e : EncoderState) (source : Image) (packet : List ℕ) (g : Grid Choic
   frame = frame_for e source
 
   abbrev SaysSo : ParsedPacket → Type 0
-  SaysSo = HasContents (tag_key e.dim (kept_for e)) (basis_for e) c packet
+  SaysSo = HasContents (tag_key e.dim (kept_for e)) (context_for e) c packet
 
   frame_width : frame.source.width ≡ e.dim.w
   unfolding continued
@@ -247,7 +247,7 @@ module _ (e : EncoderState) (source : Image) (packet : List ℕ) (g : Grid Choic
     source_same : (p : Place) → Has g p → predictor_at plan p ≡ source_by frame.search (choice_at g p)
     unfolding predictor_at frame_info_of
     source_same p has =
-        ap (λ (b : FrameContext). source_read_by b.references o.tag.version (modes_in plan.maps p) (motion_in plan.maps p)) says.basis_is
+        ap (λ (b : FrameContext). source_read_by b.references o.tag.version (modes_in plan.maps p) (motion_in plan.maps p)) says.context_is
         ∙ source_read e.settings e.dim (kept_for e) o.tag.version (modes_in plan.maps p) (motion_in plan.maps p) (choice_at g p) says.version (says.modes p has) (says.motion p has)
 
     factors_same : (p : Place) → factors_at plan p ≡ frame.factors
@@ -280,8 +280,8 @@ module _ (e : EncoderState) (source : Image) (packet : List ℕ) (g : Grid Choic
     candidates_same : (p : Place) → Has g p → AreSameCandidates (saved_motions g) plan.maps.motion p
     candidates_same p has r =
         let sized = plan-sized o in
-        let motion_columns = sized.motion_columns ∙ ap (λ (b : FrameContext). b.modes.columns) says.basis_is ∙ columns_over in
-        let motion_rows = sized.motion_rows ∙ ap (λ (b : FrameContext). b.modes.rows) says.basis_is ∙ rows_over in
+        let motion_columns = sized.motion_columns ∙ ap (λ (b : FrameContext). b.modes.columns) says.context_is ∙ columns_over in
+        let motion_rows = sized.motion_rows ∙ ap (λ (b : FrameContext). b.modes.rows) says.context_is ∙ rows_over in
         let row = has.row in
         candidates-same (saved_motions g) plan.maps.motion p r no_biases (around (saved_motions g) plan.maps.motion p
         (chosen.columns ∙ ap macroblocks frame_width ∙ sym motion_columns) (chosen.rows ∙ ap macroblocks frame_height ∙ sym motion_rows) has.column

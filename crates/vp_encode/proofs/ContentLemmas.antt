@@ -20,7 +20,7 @@ use Rattle.vp_decode.specs.MacroblockInfo.{MacroblockInfo, motion_in, with_modes
 use Rattle.vp_choose.specs.declared.frame.Choice.{Choice}
 use Rattle.vp_encode.specs.declared.coded_frame.CodedFrame.{CodedFrame}
 use Rattle.vp_encode.specs.CodedFrame.{coded_choice}
-use Rattle.vp_encode.specs.Written.{AreOf, Have, AreMapsEqualAt, AreMapsUpdated, IsRowTold}
+use Rattle.vp_encode.specs.Written.{AreOf, Have, AreMapsEqualAt, AreMapsUpdated, IsRowWritten}
 
 -- ---- a macroblock
 
@@ -85,7 +85,7 @@ inter_written_as h p m x r e g k {old = old} {mid = mid} {new = new} away same i
 
 -- ---- a row
 
-pub row_none : (c : CodedFrame) (row : ℕ) (m : MacroblockInfo) → AreOf c m → IsRowTold c row 0 m m
+pub row_none : (c : CodedFrame) (row : ℕ) (m : MacroblockInfo) → AreOf c m → IsRowWritten c row 0 m m
 row_none c row m size = record {
   size = size;
   told = λ column never. absurd (omega arith);
@@ -104,8 +104,8 @@ have_told c p m n told still = record {
   ];
 }
 
-pub row_next : (c : CodedFrame) (row n : ℕ) (old m r : MacroblockInfo) → IsRowTold c row n old m → AreMapsUpdated (place row n) (coded_choice c (place row n)) m r
-    → motion_in old (place row n) ≡ intra → IsRowTold c row (n + 1) old r
+pub row_next : (c : CodedFrame) (row n : ℕ) (old m r : MacroblockInfo) → IsRowWritten c row n old m → AreMapsUpdated (place row n) (coded_choice c (place row n)) m r
+    → motion_in old (place row n) ≡ intra → IsRowWritten c row (n + 1) old r
 row_next c row n old m r made last still =
     let same_place : (q : Place) → q.row ≡ row → q.column ≡ n → q ≡ place row n = λ q e f i. record { column = f i; row = e i } in
     let before = made.others (place row n) (λ e. let t : n ≤ n = omega arith in t) in

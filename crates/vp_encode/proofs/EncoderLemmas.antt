@@ -18,10 +18,10 @@ use Rattle.vp_decode.proofs.SizeLemmas.{KeepsShape, newest_is, picture_shaped}
 use Rattle.vp_encode.specs.declared.coded_frame.CodedFrame.{CodedFrame}
 use Rattle.vp_encode.specs.declared.fault.PacketError.{PacketError}
 use Rattle.vp_encode.specs.declared.fault.PacketError.TheVariants.{TooLong}
-use Rattle.vp_encode.specs.CodedFrame.{CanBeTold, coded_choice}
+use Rattle.vp_encode.specs.CodedFrame.{CanBeEncoded, coded_choice}
 use Rattle.vp_encode.specs.PacketContents.{key_tag, IsKeyFramePacket, IsInterFramePacket, HasContents, EncodesFrame}
 use Rattle.vp_encode.specs.Written.{HasLongPartition}
-use Rattle.vp_encode.specs.Encoder.{EncoderState, AreAllowed, next_is_key, kept_for, basis_over, basis_for, tag_key, header_of, continued, frame_for}
+use Rattle.vp_encode.specs.Encoder.{EncoderState, AreAllowed, next_is_key, kept_for, context_over, context_for, tag_key, header_of, continued, frame_for}
 use Rattle.vp_encode.specs.Choice.{IsChosen}
 use Rattle.vp_encode.specs.TooLong.{IsFrameFor, IsTooLongOver}
 use Rattle.vp_encode.specs.Between.{HasSize, IsPacketOver, IsKeptFor, IsSound, ShowsNewest}
@@ -64,8 +64,8 @@ told_leaves law dim key context state c packet simple sized over within x =
       kept = state_after o;
       sound = record {
         size = record {
-          width = ap (λ (p : Image). p.width) newest ∙ s.width_is ∙ ap (λ (b : FrameContext). b.width) x.says.basis_is ∙ sized.width_is;
-          height = ap (λ (p : Image). p.height) newest ∙ s.height_is ∙ ap (λ (b : FrameContext). b.height) x.says.basis_is ∙ sized.height_is;
+          width = ap (λ (p : Image). p.width) newest ∙ s.width_is ∙ ap (λ (b : FrameContext). b.width) x.says.context_is ∙ sized.width_is;
+          height = ap (λ (p : Image). p.height) newest ∙ s.height_is ∙ ap (λ (b : FrameContext). b.height) x.says.context_is ∙ sized.height_is;
         };
         segments = segments_stay dim key context c packet o sized.columns sized.rows simple.columns simple.rows x.says simple.zero;
       };
@@ -86,7 +86,7 @@ none_or false state = inr refl
 kept_is : (e : EncoderState) → (kept_for e ≡ None) ⊎ (kept_for e ≡ e.state)
 kept_is e = none_or (eqb e.since e.settings.key_every) e.state
 
-basis_sized : (dim : Dim) (state kept : Option DecoderState) → (kept ≡ None) ⊎ (kept ≡ state) → IfSome state (IsKeptFor dim) → IsBasisOf dim (basis_over dim kept)
+basis_sized : (dim : Dim) (state kept : Option DecoderState) → (kept ≡ None) ⊎ (kept ≡ state) → IfSome state (IsKeptFor dim) → IsBasisOf dim (context_over dim kept)
 basis_sized dim state None is sound = key_sized dim
 basis_sized dim state (Some k) is sound = elim is [
   | inl e ↦ absurd cc
@@ -106,7 +106,7 @@ packet_leaves law dim state (Some k) c packet is simple sound x = elim is [
 -- ---- what the packet says
 
 abbrev SaysOver : Dim → Option DecoderState → CodedFrame → List ℕ → ParsedPacket → Type 0
-SaysOver dim kept c packet = HasContents (tag_key dim kept) (basis_over dim kept) c packet
+SaysOver dim kept c packet = HasContents (tag_key dim kept) (context_over dim kept) c packet
 
 is_ok_and : (P : ParsedPacket → Type 0) (r : Result ParsedPacket PacketFault) (o : ParsedPacket) → r ≡ Ok o → P o → IsOkAnd r P
 is_ok_and P r o is h = subst (λ (z : Result ParsedPacket PacketFault). IsOkAnd z P) (sym is) h
@@ -221,9 +221,9 @@ module _ (law : KeepsShape) (limits : Limits) (z e : EncoderState) (source : Ima
 
 -- a key frame is told over nothing
 module _ (e : EncoderState) (dim : Dim) (c : CodedFrame) (same : dim ≡ e.dim) (over : None ≡ kept_for e) where
-  pub told_over_nothing : CanBeTold (next_is_key e) (basis_for e).saved (basis_for e).modes c → CanBeTold true (key_context dim).saved (key_context dim).modes c
+  pub told_over_nothing : CanBeEncoded (next_is_key e) (context_for e).saved (context_for e).modes c → CanBeEncoded true (key_context dim).saved (key_context dim).modes c
   told_over_nothing told =
-      let T : Dim → Option DecoderState → Type 0 = λ d o. CanBeTold (is_none o) (basis_over d o).saved (basis_over d o).modes c in
+      let T : Dim → Option DecoderState → Type 0 = λ d o. CanBeEncoded (is_none o) (context_over d o).saved (context_over d o).modes c in
       subst (λ (d : Dim). T d None) (sym same) (subst (T e.dim) (sym over) told)
 
   pub packet_over_nothing : (result : Result (List ℕ) PacketError) → IfOk result (λ v. IsKeyFramePacket dim c v) → IfOk result (λ v. IsPacketOver e.dim (kept_for e) c v)
@@ -241,10 +241,10 @@ module _ (e : EncoderState) (dim : Dim) (c : CodedFrame) (same : dim ≡ e.dim) 
 -- an inter frame is told over what is kept
 module _ (e : EncoderState) (k : DecoderState) (saved : Saved) (segments : Grid Segment) (c : CodedFrame)
     (over : Some k ≡ kept_for e) (values : saved ≡ k.saved) (numbers : segments ≡ k.segments) where
-  pub told_over_kept : CanBeTold (next_is_key e) (basis_for e).saved (basis_for e).modes c → CanBeTold false saved (of_segments segments) c
+  pub told_over_kept : CanBeEncoded (next_is_key e) (context_for e).saved (context_for e).modes c → CanBeEncoded false saved (of_segments segments) c
   told_over_kept told =
-      let T : Option DecoderState → Type 0 = λ o. CanBeTold (is_none o) (basis_over e.dim o).saved (basis_over e.dim o).modes c in
-      let K : Saved → Grid Segment → Type 0 = λ s g. CanBeTold false s (of_segments g) c in
+      let T : Option DecoderState → Type 0 = λ o. CanBeEncoded (is_none o) (context_over e.dim o).saved (context_over e.dim o).modes c in
+      let K : Saved → Grid Segment → Type 0 = λ s g. CanBeEncoded false s (of_segments g) c in
       subst (λ (s : Saved). K s segments) (sym values) (subst (K k.saved) (sym numbers) (subst T (sym over) told))
 
   pub packet_over_kept : (result : Result (List ℕ) PacketError) → IfOk result (λ v. IsInterFramePacket saved segments c v) → IfOk result (λ v. IsPacketOver e.dim (kept_for e) c v)

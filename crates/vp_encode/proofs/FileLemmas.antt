@@ -11,7 +11,7 @@ use Rattle.vp_base.specs.declared.limits.Dim.{Dim}
 use Rattle.vp_base.specs.declared.limits.Limits.{Limits}
 use Rattle.vp_base.specs.Image.{Image, i420}
 use Rattle.vp_base.specs.declared.counted.Counted.{Counted}
-use Rattle.vp_base.specs.Counted.{AppendsFront, HasFailed, counted_remaining, counted_contents, counted_failures}
+use Rattle.vp_base.specs.Counted.{AppendsPrefix, HasFailed, counted_remaining, counted_contents, counted_failures}
 use Rattle.vp_y4m.specs.declared.fault.SourceFault.{SourceFault}
 use Rattle.vp_y4m.specs.declared.fault.SourceFault.TheVariants as source
 use Rattle.vp_y4m.specs.Header.{Head}
@@ -27,7 +27,7 @@ use Rattle.vp_encode.specs.declared.report.EncodeAllFault.TheVariants as fault
 use Rattle.vp_encode.specs.Encoder.{EncoderState, AreAllowed}
 use Rattle.vp_encode.specs.Encoded.{EncodedFrame, IsEncoded, AreEncoded, initial_encoder, error_of}
 use Rattle.vp_encode.specs.Pictures.{IsPicture, BeginWith}
-use Rattle.vp_encode.specs.File.{IsToldMore, Work, IsDone, HasAllPictures, IsEncodeReported, HasOneMore, IsEndedBehind, IsAnswerBehind, IsAnswerOver, HasDone, most_reads, source_of, packet_of, ivf_text, encoded_file, encode_fault_of, numbers_to}
+use Rattle.vp_encode.specs.File.{IsWrittenFurther, Work, IsDone, HasAllPictures, IsEncodeReported, HasOneMore, IsEndedBehind, IsAnswerBehind, IsAnswerOver, HasDone, most_reads, source_of, packet_of, ivf_text, encoded_file, encode_fault_of, numbers_to}
 use Rattle.vp_encode.specs.EncodeProgress.{EncodeProgress, IsAdded, IsPictureRefused, IsHeadLine, IsBegun, IsAt, HasWorkFrames, EndsEncode, start}
 
 -- ---- small facts, for where much else is known
@@ -99,16 +99,16 @@ at_more head begun now new bytes taken frames f h is next a =
 
 -- ---- what a watcher is told
 
-pub told_none : (told : List ℕ → Type 0) → IsToldMore told told (numbers_to 0)
+pub told_none : (told : List ℕ → Type 0) → IsWrittenFurther told told (numbers_to 0)
 told_none told earlier is = subst told (sym (append-nil earlier)) is
 
-pub told_first : (r : EncodeProgress) (told : List ℕ → Type 0) → r ≡ start r.limits (initial_encoder r.encoder.dim r.encoder.settings) → IsToldMore told told (numbers_to (length r.packets))
+pub told_first : (r : EncodeProgress) (told : List ℕ → Type 0) → r ≡ start r.limits (initial_encoder r.encoder.dim r.encoder.settings) → IsWrittenFurther told told (numbers_to (length r.packets))
 told_first r told first = λ earlier is.
     let none : length r.packets ≡ 0 = ap (λ (x : EncodeProgress). length x.packets) first in
     subst (λ (n : ℕ). told (earlier ++ numbers_to n)) (sym none) (subst told (sym (append-nil earlier)) is)
 
-pub told_more : (before mid after : List ℕ → Type 0) (now new : EncodeProgress) (f : EncodedFrame) (frames : ℕ) → IsToldMore before mid (numbers_to (length now.packets))
-    → IsAdded now f new → frames ≡ length new.packets → IsToldMore mid after (frames ∷ []) → IsToldMore before after (numbers_to (length new.packets))
+pub told_more : (before mid after : List ℕ → Type 0) (now new : EncodeProgress) (f : EncodedFrame) (frames : ℕ) → IsWrittenFurther before mid (numbers_to (length now.packets))
+    → IsAdded now f new → frames ≡ length new.packets → IsWrittenFurther mid after (frames ∷ []) → IsWrittenFurther before after (numbers_to (length new.packets))
 told_more before mid after now new f frames told added is more = λ earlier was.
     let many : length new.packets ≡ suc (length now.packets) = ap length added.packets ∙ length-append now.packets (f.packet ∷ []) ∙ add-one (length now.packets) in
     let told_now = more (earlier ++ numbers_to (length now.packets)) (told earlier was) in
@@ -361,8 +361,8 @@ module _ (limits : Limits) (settings : Settings) (head : Head) (file : List ℕ)
   text_is : ivf_text head packets ≡ encoded_file e.0
   text_is = ap (λ (h : Head). ivf_text h packets) (sym e.3) ∙ ap (ivf_text e.0.head) packets_are
 
-  pub written_front : (before now : Option (List ℕ)) → AppendsFront before now (ivf_text head packets) → IsEndedBehind (length after.packets) limits settings fault.Device file before now
-  written_front before now w = let P : List ℕ → Type 0 = λ t. AppendsFront before now t in inr (e.0, (e.1, all_counted), e.2, subst P text_is w)
+  pub written_front : (before now : Option (List ℕ)) → AppendsPrefix before now (ivf_text head packets) → IsEndedBehind (length after.packets) limits settings fault.Device file before now
+  written_front before now w = let P : List ℕ → Type 0 = λ t. AppendsPrefix before now t in inr (e.0, (e.1, all_counted), e.2, subst P text_is w)
 
   pub written_whole : (before now : Option (List ℕ)) (report : EncodeReport) → report ≡ record { frames = length after.packets; error = after.error }
       → Appends before now (ivf_text head packets) → IsAnswerBehind (length after.packets) limits settings (Ok report) file before now

@@ -31,8 +31,8 @@ use Rattle.vp_choose.specs.Choice.{IsIntraChoice, IsTaken}
 use Rattle.vp_decode.specs.Step.{DecoderState}
 use Rattle.vp_encode.specs.declared.settings.Settings.{Settings}
 use Rattle.vp_encode.specs.declared.coded_frame.CodedFrame.{CodedFrame}
-use Rattle.vp_encode.specs.CodedFrame.{choice_has_y2, AreModesSpelled, AreTokensSpelled, CanBeTold}
-use Rattle.vp_encode.specs.Encoder.{AreAllowed, header_over, log2_of, basis_over, search_in, continued, frame_over}
+use Rattle.vp_encode.specs.CodedFrame.{choice_has_y2, AreModesSpelled, AreTokensSpelled, CanBeEncoded}
+use Rattle.vp_encode.specs.Encoder.{AreAllowed, header_over, log2_of, context_over, search_in, continued, frame_over}
 use Rattle.vp_encode.specs.FrameChoices.{choice_at, picture_before, saved_motions, AreChosen, AreUnsegmented}
 
 log2_small : (n : ℕ) → log2_of n < 2 ^ 2
@@ -139,7 +139,7 @@ search_none : (s : Settings) (kept : Option DecoderState) → is_none kept ≡ t
 search_none s None e = refl
 search_none s (Some k) e = absurd cc
 
-defaults_in : (dim : Dim) (kept : Option DecoderState) → is_none kept ≡ true → (basis_over dim kept).saved ≡ defaults
+defaults_in : (dim : Dim) (kept : Option DecoderState) → is_none kept ≡ true → (context_over dim kept).saved ≡ defaults
 defaults_in dim None e = refl
 defaults_in dim (Some k) e = absurd cc
 
@@ -163,7 +163,7 @@ segment_before g p =
 
 -- It is asked in an inter frame.
 zero_before : (dim : Dim) (kept : Option DecoderState) (p : Place) → IfSome kept (λ k. AreUnsegmented dim k.segments) → p.column < macroblocks dim.w → p.row < macroblocks dim.h
-    → 0 ≡ (if is_none kept then 0 else (at plain (basis_over dim kept).modes p).segment)
+    → 0 ≡ (if is_none kept then 0 else (at plain (context_over dim kept).modes p).segment)
 zero_before dim None p zeros column row = refl
 zero_before dim (Some k) p zeros column row =
     let wide = zeros.columns in
@@ -176,14 +176,14 @@ module _ (dim : Dim) (kept : Option DecoderState) (golden : Bool) (s : Settings)
     (wide : frame.source.width ≡ dim.w) (high : frame.source.height ≡ dim.h) (search : frame.search ≡ search_in s kept)
     (zeros : IfSome kept (λ k. AreUnsegmented dim k.segments)) (chosen : AreChosen frame g) where
   abbrev header : Header
-  header = header_over (basis_over dim kept).saved (is_none kept) golden s
+  header = header_over (context_over dim kept).saved (is_none kept) golden s
 
   own : (p : Place) → Has g p → is_none kept ≡ true → (choice_at g p).modes.reference ≡ reference_is.Intra
   own p has key =
       let is = (chosen.each p has).is in
       own_without frame.search frame (picture_before frame g p) (saved_motions g) p is.luma (choice_at g p) (search ∙ search_none s kept key) is.taken
 
-  modes_told : AreModesSpelled (coded header g) (basis_over dim kept).modes
+  modes_told : AreModesSpelled (coded header g) (context_over dim kept).modes
   modes_told p has =
       let is = (chosen.each p has).is in
       let are = modes_taken frame.search frame (picture_before frame g p) (saved_motions g) p is.luma (choice_at g p) is.taken in
@@ -209,9 +209,9 @@ module _ (dim : Dim) (kept : Option DecoderState) (golden : Bool) (s : Settings)
         is.none (not_true (any_token (choice_at g p).tokens) (sym skip ∙ is.skip));
   }
 
-  pub frame_told : AreAllowed s → CanBeTold (is_none kept) (basis_over dim kept).saved (basis_over dim kept).modes (coded header g)
+  pub frame_told : AreAllowed s → CanBeEncoded (is_none kept) (context_over dim kept).saved (context_over dim kept).modes (coded header g)
   frame_told allowed = record {
-    header = header_spelled (basis_over dim kept).saved (is_none kept) golden s allowed (defaults_in dim kept);
+    header = header_spelled (context_over dim kept).saved (is_none kept) golden s allowed (defaults_in dim kept);
     modes = modes_told;
     motion = λ p has away. (chosen.each p has).written away;
     tokens = tokens_told;
@@ -221,7 +221,7 @@ module _ (dim : Dim) (kept : Option DecoderState) (golden : Bool) (s : Settings)
 
 pub frame_over_told : (dim : Dim) (kept : Option DecoderState) (golden : Bool) (s : Settings) (source : Image) (g : Grid Choice) → AreAllowed s
     → source.width ≡ dim.w → source.height ≡ dim.h → IfSome kept (λ k. AreUnsegmented dim k.segments) → AreChosen (frame_over kept s source) g
-    → CanBeTold (is_none kept) (basis_over dim kept).saved (basis_over dim kept).modes (coded (header_over (basis_over dim kept).saved (is_none kept) golden s) g)
+    → CanBeEncoded (is_none kept) (context_over dim kept).saved (context_over dim kept).modes (coded (header_over (context_over dim kept).saved (is_none kept) golden s) g)
 unfolding continued
 frame_over_told dim kept golden s source g allowed wide high zeros chosen = frame_told dim kept golden s (frame_over kept s source) g wide high refl zeros chosen allowed
 
@@ -238,12 +238,12 @@ none_is (Some a) false e = refl
 -- the same, in what the code has at hand
 pub told_as : {A : Type 0} (of : A → DecoderState) (o : Option A) (dim : Dim) (golden key : Bool) (saved : Saved) (s : Settings) (source : Image) (frame : FrameSearch) (g : Grid Choice) (h : Header) → AreAllowed s
     → source.width ≡ dim.w → source.height ≡ dim.h → IfSome (option_map of o) (λ k. AreUnsegmented dim k.segments) → frame ≡ frame_over (option_map of o) s source → AreChosen frame g
-    → saved ≡ (basis_over dim (option_map of o)).saved → key ≡ is_none o → h ≡ header_over saved key golden s
-    → CanBeTold (is_none o) (basis_over dim (option_map of o)).saved (basis_over dim (option_map of o)).modes (coded h g)
+    → saved ≡ (context_over dim (option_map of o)).saved → key ≡ is_none o → h ≡ header_over saved key golden s
+    → CanBeEncoded (is_none o) (context_over dim (option_map of o)).saved (context_over dim (option_map of o)).modes (coded h g)
 told_as of o dim golden key saved s source frame g h allowed wide high zeros frame_is chosen saved_is key_is header_is =
     let kept : Option DecoderState = option_map of o in
     let told = frame_over_told dim (option_map of o) golden s source g allowed wide high zeros (subst (λ (f : FrameSearch). AreChosen f g) frame_is chosen) in
-    let same : header_over (basis_over dim (option_map of o)).saved (is_none (option_map of o)) golden s ≡ h =
+    let same : header_over (context_over dim (option_map of o)).saved (is_none (option_map of o)) golden s ≡ h =
     (λ i. header_over (sym saved_is i) ((none_mapped of o ∙ sym key_is) i) golden s) ∙ sym header_is in
-    subst (λ (b : Bool). CanBeTold b (basis_over dim (option_map of o)).saved (basis_over dim (option_map of o)).modes (coded h g)) (none_mapped of o)
-    (subst (λ (x : Header). CanBeTold (is_none (option_map of o)) (basis_over dim (option_map of o)).saved (basis_over dim (option_map of o)).modes (coded x g)) same told)
+    subst (λ (b : Bool). CanBeEncoded b (context_over dim (option_map of o)).saved (context_over dim (option_map of o)).modes (coded h g)) (none_mapped of o)
+    (subst (λ (x : Header). CanBeEncoded (is_none (option_map of o)) (context_over dim (option_map of o)).saved (context_over dim (option_map of o)).modes (coded x g)) same told)

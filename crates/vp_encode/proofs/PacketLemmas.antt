@@ -172,7 +172,7 @@ module _ (key : Option KeyTag) (context : FrameContext) (c : CodedFrame) (packet
         version = refl;
         shown = refl;
         key_is = refl;
-        basis_is = refl;
+        context_is = refl;
         header = refl;
         saved = ap (λ (k : Saved). kept_after k c.header) begun;
         modes = λ p inside. (told p inside).modes;

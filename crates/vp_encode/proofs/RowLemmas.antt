@@ -14,7 +14,7 @@ use Rattle.vp_decode.specs.MacroblockInfo.{MacroblockInfo, motion_in, place}
 use Rattle.vp_choose.specs.declared.frame.Choice.{Choice}
 use Rattle.vp_encode.specs.declared.coded_frame.CodedFrame.{CodedFrame}
 use Rattle.vp_encode.specs.CodedFrame.{nothing, coded_choice, saved_motion, motion_of, IsMotionSpelled}
-use Rattle.vp_encode.specs.Written.{AreOf, Have, AreRowsTold, IsRowTold}
+use Rattle.vp_encode.specs.Written.{AreOf, Have, AreRowsWritten, IsRowWritten}
 use Rattle.vp_encode.proofs.Candidates.{AreAlikeAround, candidates-same, motion_by-at}
 
 -- ---- the motion of the frame
@@ -24,7 +24,7 @@ motion_of-at c p = motion_by-at c.macroblocks p
 
 -- ---- the vectors of a macroblock are told over those of the frame
 
-pub alike_around : (c : CodedFrame) (row n : ℕ) (old m : MacroblockInfo) → IsRowTold c row n old m → n < c.macroblocks.columns
+pub alike_around : (c : CodedFrame) (row n : ℕ) (old m : MacroblockInfo) → IsRowWritten c row n old m → n < c.macroblocks.columns
     → ((p : Place) → p.row < row → p.column < c.macroblocks.columns → motion_in old p ≡ saved_motion (coded_choice c p))
     → AreAlikeAround (motion_of c) m.motion (place row n)
 alike_around c row n old m made within above =
@@ -41,7 +41,7 @@ alike_around c row n old m made within above =
       corner_of_it = λ q next up. earlier q (omega arith) (omega arith);
     }
 
-pub gives : (c : CodedFrame) (row n : ℕ) (old m : MacroblockInfo) (x : Choice) → IsRowTold c row n old m → n < c.macroblocks.columns → row < c.macroblocks.rows
+pub gives : (c : CodedFrame) (row n : ℕ) (old m : MacroblockInfo) (x : Choice) → IsRowWritten c row n old m → n < c.macroblocks.columns → row < c.macroblocks.rows
     → ((p : Place) → p.row < row → p.column < c.macroblocks.columns → motion_in old p ≡ saved_motion (coded_choice c p))
     → IsMotionSpelled c → entry c.macroblocks (place row n) ≡ Some x → is_intra x.modes.reference ≡ false
     → CanBeWritten (candidates m.motion (place row n) x.modes.reference c.header.biases) x.motion
@@ -56,7 +56,7 @@ gives c row n old m x made within inside above spelled is away =
 
 -- ---- rows
 
-pub rows_none : (c : CodedFrame) (m : MacroblockInfo) → AreOf c m → ((p : Place) → motion_in m p ≡ intra) → AreRowsTold c m.modes 0 m
+pub rows_none : (c : CodedFrame) (m : MacroblockInfo) → AreOf c m → ((p : Place) → motion_in m p ≡ intra) → AreRowsWritten c m.modes 0 m
 rows_none c m size still = record {
   size = size;
   told = λ p never within. absurd (omega arith);
@@ -64,7 +64,7 @@ rows_none c m size still = record {
   unmoved = λ p h. still p;
 }
 
-pub rows_next : (c : CodedFrame) (before : Grid Modes) (row : ℕ) (m r : MacroblockInfo) → AreRowsTold c before row m → IsRowTold c row c.macroblocks.columns m r → AreRowsTold c before (row + 1) r
+pub rows_next : (c : CodedFrame) (before : Grid Modes) (row : ℕ) (m r : MacroblockInfo) → AreRowsWritten c before row m → IsRowWritten c row c.macroblocks.columns m r → AreRowsWritten c before (row + 1) r
 rows_next c before row m r made last = record {
   size = last.size;
   told = λ p below within. elim (cases_lt p.row row) [

@@ -4,7 +4,7 @@ use Rattle.std.specs.List.{enumerate_from}
 use Rattle.std.specs.Result.{is_ok, is_err}
 use Rattle.std.proofs.lemmas.List.{length-take, length-map, take-append-drop, take_more}
 use Rattle.std.proofs.lemmas.List.FromFn.{length-enumerate_from}
-use Rattle.vp_base.specs.Counted.{AppendsFront, HasFailed}
+use Rattle.vp_base.specs.Counted.{AppendsPrefix, HasFailed}
 use Rattle.vp_base.proofs.Writes.{front_first}
 use Rattle.vp_ivf.specs.declared.packet.Packet.{Packet}
 use Rattle.vp_ivf.specs.declared.packet.IvfHead.{IvfHead}
@@ -54,12 +54,12 @@ history before failures head count packets failed =
     record { before = before; failures = failures; head = head; count = count; packets = packets; failed = failed }
 
 written_front : (failed : Bool) (before now : Option (List ℕ)) (h : IvfHead) (count : ℕ) (xs : List (List ℕ)) (i : ℕ)
-    → IsWrittenAt failed before now (file_text h count (timed_from 0 (take i xs))) → AppendsFront before now (file_text h count (timed_from 0 xs))
+    → IsWrittenAt failed before now (file_text h count (timed_from 0 (take i xs))) → AppendsPrefix before now (file_text h count (timed_from 0 xs))
 written_front false before now h count xs i w =
     let f = front_text h count xs i in (file_text h count (timed_from 0 (take i xs)), f.0, f.1, w)
 written_front true before now h count xs i w =
     let f = front_text h count xs i in
-    let P : List ℕ → Type 0 = λ t. AppendsFront before now t in
+    let P : List ℕ → Type 0 = λ t. AppendsPrefix before now t in
     subst P (sym f.1) (front_first before now (file_text h count (timed_from 0 (take i xs))) f.0 w)
 
 -- ---- one packet
@@ -134,7 +134,7 @@ module _ {W : Type 0} (contents : W → Option (List ℕ)) (before : Option (Lis
           (i + 1, next true (subst P (not_ok result bad) (stands e.1 (so_far i failed) s)))
     ]
 
-    pub packet_front : is_err result ≡ true → AppendsFront before (device_contents contents new) (file_text head (length xs) (timed_from 0 xs))
+    pub packet_front : is_err result ≡ true → AppendsPrefix before (device_contents contents new) (file_text head (length xs) (timed_from 0 xs))
     packet_front bad = let h = stopped bad in written_front true before (device_contents contents new) head (length xs) xs h.0 h.1.bytes
 
     pub packet_failed : is_err result ≡ true → HasFailed failures (device_failures new)
@@ -150,7 +150,7 @@ module _ {W : Type 0} (contents : W → Option (List ℕ)) (before : Option (Lis
         let none : packets_left file ≡ 0 = omega (arith, length-take i xs) in
         sym s.failed ∙ finish_failed (has_failed file) (packets_left file) fault none finish
 
-    pub file_front : AppendsFront before (device_contents contents file) (file_text head (length xs) (timed_from 0 xs))
+    pub file_front : AppendsPrefix before (device_contents contents file) (file_text head (length xs) (timed_from 0 xs))
     file_front = written_front failed before (device_contents contents file) head (length xs) xs i s.bytes
 
     pub file_failed : HasFailed failures (device_failures file)

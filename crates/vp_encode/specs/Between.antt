@@ -1,4 +1,4 @@
--- Inside the crate: an encoder between frames, and the state after its packets.
+-- Private to the crate: an encoder between frames, and the state after its packets.
 use Rattle.std.specs.Prelude.{◌≡◌, ◌≤◌, Option, Some, None, IfSome, List, ℕ}
 use Rattle.vp_base.specs.declared.limits.Dim.{Dim}
 use Rattle.vp_base.specs.declared.limits.Limits.{Limits}

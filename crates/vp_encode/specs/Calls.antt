@@ -73,14 +73,14 @@ error_by (Ok encoded) = encoded.squared_error
 error_by (Err fault) = 0
 
 -- the sum of the errors that they returned
-abbrev pub errors_told : List Call → ℕ
-errors_told calls = sum_by (λ c. error_by c.result) calls
+abbrev pub errors_reported : List Call → ℕ
+errors_reported calls = sum_by (λ c. error_by c.result) calls
 
 -- Decoding the packets, the first one without a state, shows the reconstructions, one for each, in order. The returned
 -- errors are the squared distances of these from the sources.
 pub record ArePlayedBack (limits : Limits) (calls : List Call) : Type 0 where
   pub pictures : answers_from_state limits None (map packet_of (frames_of calls)) ≡ map shown (frames_of calls)
-  pub errors : errors_told calls ≡ errors_of (frames_of calls)
+  pub errors : errors_reported calls ≡ errors_of (frames_of calls)
 
 -- this holds for every encoder, whichever calls were refused, under all limits that allow its size
 abbrev pub CallsArePlayedBack : Type 0

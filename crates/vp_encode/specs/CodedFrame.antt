@@ -65,7 +65,7 @@ pub record AreTokensSpelled (c : CodedFrame) : Type 0 where
       → (coded_choice c p).tokens.blocks ≡ no_blocks
 
 -- the frame can be written: a key frame or an inter frame, relative to the saved values and the modes before it
-pub record CanBeTold (key : Bool) (kept : Saved) (before : Grid Modes) (c : CodedFrame) : Type 0 where
+pub record CanBeEncoded (key : Bool) (kept : Saved) (before : Grid Modes) (c : CodedFrame) : Type 0 where
   pub header : head.IsWritableHeader key kept c.header
   pub modes : AreModesSpelled c before
   pub motion : IsMotionSpelled c

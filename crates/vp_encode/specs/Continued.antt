@@ -1,4 +1,4 @@
--- Inside the crate: padding the source to whole macroblocks.
+-- Private to the crate: padding the source to whole macroblocks.
 use Rattle.std.specs.Prelude.{◌≡◌, ◌<◌, ◌≤◌, ℕ, ◌+◌, ◌-◌, min, take, replicate}
 use Rattle.vp_base.specs.Raster.{Raster, pixel, row_of, with_run}
 use Rattle.vp_base.specs.Block.{IsWhole}

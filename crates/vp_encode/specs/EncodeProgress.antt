@@ -1,4 +1,4 @@
--- Inside the crate: the progress of encoding a file, picture by picture.
+-- Private to the crate: the progress of encoding a file, picture by picture.
 use Rattle.std.specs.Prelude.{◌≡◌, ◌≤◌, ◌<◌, ◌+◌, ℕ, List, [], ◌∷◌, ◌++◌, Option, Result, Ok, Err, length, map}
 use Rattle.std.specs.List.{All}
 use Rattle.vp_base.specs.declared.limits.Limits.{Limits}

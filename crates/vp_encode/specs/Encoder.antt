@@ -57,13 +57,13 @@ refreshes_golden e = not (e.settings.golden_every == 0) && e.since % e.settings.
 -- ---- the context that the next frame is decoded in
 
 -- the context of a frame that is coded with this state
-abbrev pub basis_over : Dim → Option DecoderState → FrameContext
-basis_over dim None = key_context dim
-basis_over dim (Some k) = inter_context k
+abbrev pub context_over : Dim → Option DecoderState → FrameContext
+context_over dim None = key_context dim
+context_over dim (Some k) = inter_context k
 
 -- the context of the next frame
-abbrev pub basis_for : EncoderState → FrameContext
-basis_for e = basis_over e.dim (kept_for e)
+abbrev pub context_for : EncoderState → FrameContext
+context_for e = context_over e.dim (kept_for e)
 
 -- the key part of the tag of a frame that is coded with this state
 abbrev pub tag_key : Dim → Option DecoderState → Option KeyTag
@@ -125,7 +125,7 @@ header_over saved key golden s = record {
 
 -- the header of the next frame
 abbrev pub header_of : EncoderState → Header
-header_of e = header_over (basis_for e).saved (next_is_key e) (refreshes_golden e) e.settings
+header_of e = header_over (context_for e).saved (next_is_key e) (refreshes_golden e) e.settings
 
 -- ---- the inputs of the choice for its macroblocks
 

@@ -8,7 +8,7 @@ use Rattle.vp_base.specs.declared.limits.Dim.{Dim}
 use Rattle.vp_base.specs.declared.limits.Limits.{Limits}
 use Rattle.vp_base.specs.Image.{Image}
 use Rattle.vp_base.specs.declared.counted.Counted.{Counted}
-use Rattle.vp_base.specs.Counted.{AppendsFront, HasFailed, counted_contents, counted_failures, counted_remaining}
+use Rattle.vp_base.specs.Counted.{AppendsPrefix, HasFailed, counted_contents, counted_failures, counted_remaining}
 use Rattle.vp_ivf.specs.declared.packet.Packet.{Packet}
 use Rattle.vp_ivf.specs.Text.{file_text}
 use Rattle.vp_y4m.specs.declared.fault.SourceFault.{SourceFault}
@@ -111,8 +111,8 @@ IsFaulty pictures limits settings fault file =
     ⊎ ((w : Work) × HasDone pictures limits settings file w × (next_of w.head.w w.head.h w.rest ≡ Err fault))
 
 -- no picture is encoded yet, or this number of them
-abbrev pub IsUnderWay : ℕ → Limits → Settings → List ℕ → Type 0
-IsUnderWay pictures limits settings file = (pictures ≡ 0) ⊎ ((w : Work) × HasDone pictures limits settings file w)
+abbrev pub IsInProgress : ℕ → Limits → Settings → List ℕ → Type 0
+IsInProgress pictures limits settings file = (pictures ≡ 0) ⊎ ((w : Work) × HasDone pictures limits settings file w)
 
 -- Encoding ended after this number of pictures. If a write failed, a prefix of the output is written.
 abbrev pub IsEndedBehind : ℕ → Limits → Settings → EncodeAllFault → List ℕ → Option (List ℕ) → Option (List ℕ) → Type 0
@@ -137,10 +137,10 @@ IsEndedBehind pictures limits settings fault.PacketTooLarge file before after =
     × HasOneMore w f.source
     × (length w.frames < limits.packets) × IsEncoded w.encoder f next × (limits.packet_bytes < length f.packet)
 IsEndedBehind pictures limits settings fault.Device file before after =
-    ((after ≡ before) × IsUnderWay pictures limits settings file)
+    ((after ≡ before) × IsInProgress pictures limits settings file)
     ⊎ ((w : Work) × HasDone pictures limits settings file w × HasAllPictures w
-    × AppendsFront before after (encoded_file w))
-IsEndedBehind pictures limits settings fault.Memory file before after = IsUnderWay pictures limits settings file
+    × AppendsPrefix before after (encoded_file w))
+IsEndedBehind pictures limits settings fault.Memory file before after = IsInProgress pictures limits settings file
 
 -- encoding ended by this fault, after some number of pictures
 abbrev pub IsEncodeEndedBy : Limits → Settings → EncodeAllFault → List ℕ → Option (List ℕ) → Option (List ℕ) → Type 0
@@ -191,8 +191,8 @@ numbers_to zero = []
 numbers_to (suc n) = numbers_to n ++ suc n ∷ []
 
 -- the progress callback receives these numbers after any earlier ones
-abbrev pub IsToldMore : (before after : List ℕ → Type 0) → List ℕ → Type 0
-IsToldMore before after numbers = (earlier : List ℕ) → before earlier → after (earlier ++ numbers)
+abbrev pub IsWrittenFurther : (before after : List ℕ → Type 0) → List ℕ → Type 0
+IsWrittenFurther before after numbers = (earlier : List ℕ) → before earlier → after (earlier ++ numbers)
 
 -- the progress callback receives 1, 2, .. up to the number of pictures encoded
 pub record IsWatched {R W : Type 0} (remaining : R → Option (List ℕ)) (contents : W
@@ -200,7 +200,7 @@ pub record IsWatched {R W : Type 0} (remaining : R → Option (List ℕ)) (conte
     (result : Result EncodeReport EncodeAllFault) (reader reader' : Counted R) (writer writer' : Counted W)
     (before after : List ℕ → Type 0) : Type 0 where
   pub pictures : ℕ
-  pub told : IsToldMore before after (numbers_to pictures)
+  pub told : IsWrittenFurther before after (numbers_to pictures)
   pub file : List ℕ
   pub consumed : Consumes (counted_remaining remaining reader) (counted_remaining remaining reader') file
   pub answer : IsAnswerBehind pictures limits settings result file (counted_contents contents writer)

@@ -33,7 +33,7 @@ pub record HasContents (key : Option KeyTag) (context : FrameContext) (c : Coded
   pub version : o.tag.version ≡ 0
   pub shown : o.tag.show ≡ true
   pub key_is : o.tag.key ≡ key
-  pub basis_is : o.context ≡ context
+  pub context_is : o.context ≡ context
   pub header : o.header ≡ c.header
   pub saved : o.saved ≡ kept_after context.saved c.header
   pub modes : (p : Place) → Has c.macroblocks p → modes_in (frame_info_of o).maps p ≡ (coded_choice c p).modes

@@ -4,7 +4,7 @@ use Rattle.vp_base.specs.declared.limits.Dim.{Dim}
 use Rattle.vp_base.specs.Image.{Image}
 use Rattle.vp_decode.specs.Step.{DecoderState, maps_before}
 use Rattle.vp_encode.specs.declared.coded_frame.CodedFrame.{CodedFrame}
-use Rattle.vp_encode.specs.Encoder.{EncoderState, kept_for, basis_over, tag_key, header_of, frame_for}
+use Rattle.vp_encode.specs.Encoder.{EncoderState, kept_for, context_over, tag_key, header_of, frame_for}
 use Rattle.vp_encode.specs.FrameChoices.{AreChosen}
 use Rattle.vp_encode.specs.Written.{HasLongPartition}
 
@@ -15,8 +15,8 @@ pub record IsFrameFor (e : EncoderState) (source : Image) (c : CodedFrame) : Typ
 
 -- a frame that is coded with this state has a partition that is too long
 abbrev pub IsTooLongOver : Dim → Option DecoderState → CodedFrame → Type 0
-IsTooLongOver dim kept c = HasLongPartition (tag_key dim kept) (basis_over dim kept).saved
-    (maps_before (basis_over dim kept).modes) c
+IsTooLongOver dim kept c = HasLongPartition (tag_key dim kept) (context_over dim kept).saved
+    (maps_before (context_over dim kept).modes) c
 
 -- the frame that is chosen for the source has a partition that is too long
 pub record IsTooLong (e : EncoderState) (source : Image) : Type 0 where

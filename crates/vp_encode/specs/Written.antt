@@ -59,14 +59,14 @@ pub record AreMapsUpdated (p : Place) (x : Choice) (old new : MacroblockInfo) : 
   pub elsewhere : (q : Place) → q ≢ p → AreMapsEqualAt q new old
 
 -- the rows above `row` are written; from it on the modes are those before the frame, and there is no motion
-pub record AreRowsTold (c : CodedFrame) (before : Grid Modes) (row : ℕ) (m : MacroblockInfo) : Type 0 where
+pub record AreRowsWritten (c : CodedFrame) (before : Grid Modes) (row : ℕ) (m : MacroblockInfo) : Type 0 where
   pub size : AreOf c m
   pub told : (p : Place) → p.row < row → p.column < c.macroblocks.columns → Have c p m
   pub ahead : (p : Place) → row ≤ p.row → modes_in m p ≡ at plain before p
   pub unmoved : (p : Place) → row ≤ p.row → motion_in m p ≡ intra
 
 -- the first n macroblocks of a row are written, and all others are unchanged
-pub record IsRowTold (c : CodedFrame) (row n : ℕ) (old new : MacroblockInfo) : Type 0 where
+pub record IsRowWritten (c : CodedFrame) (row n : ℕ) (old new : MacroblockInfo) : Type 0 where
   pub size : AreOf c new
   pub told : (column : ℕ) → column < n → Have c (place row column) new
   pub others : (p : Place) → (p.row ≡ row → n ≤ p.column) → AreMapsEqualAt p new old

@@ -7,8 +7,8 @@ ghost use Rattle.vp_base.specs.Image.{macroblocks};
 ghost use Rattle.vp_decode.specs.Step.{Shown, step};
 ghost use Rattle.vp_encode.specs.declared.fault.EncodeFault.{EncodeFault};
 ghost use Rattle.vp_encode.specs.declared.fault.PacketError.{PacketError};
-ghost use Rattle.vp_encode.specs.CodedFrame.{CanBeTold};
-ghost use Rattle.vp_encode.specs.Encoder.{AreAllowed, next_is_key, kept_for, basis_for, refreshes_golden};
+ghost use Rattle.vp_encode.specs.CodedFrame.{CanBeEncoded};
+ghost use Rattle.vp_encode.specs.Encoder.{AreAllowed, next_is_key, kept_for, context_for, refreshes_golden};
 ghost use Rattle.vp_encode.specs.TooLong.{IsFrameFor, IsTooLong, IsTooLongOver};
 ghost use Rattle.vp_encode.specs.Between.{HasSize, IsPacketOver, IsKeptFor, ShowsNewest};
 ghost use Rattle.vp_encode.specs.Choice.{IsChosen, squared_distance};
@@ -226,8 +226,8 @@ impl Encoder {
     fn choose(&self, source: &Picture) -> Result<CodedFrame, AllocError>
         requires { HasSize self.now.dim source.now }
         ensures frame { IfOk result (λ c. IsFrameFor self.now source.now c) }
-        ensures told { IfOk result (λ c. CanBeTold (next_is_key self.now) (basis_for self.now).saved
-            (basis_for self.now).modes c) }
+        ensures told { IfOk result (λ c. CanBeEncoded (next_is_key self.now) (context_for self.now).saved
+            (context_for self.now).modes c) }
     {
         let golden = self.refreshes_golden();
         let kept = self.kept();
@@ -238,8 +238,8 @@ impl Encoder {
     fn write(&self, coded: &CodedFrame) -> Result<ByteList, PacketError>
         requires columns { coded.now.macroblocks.columns ≡ macroblocks self.now.dim.w }
         requires rows { coded.now.macroblocks.rows ≡ macroblocks self.now.dim.h }
-        requires told { CanBeTold (next_is_key self.now) (basis_for self.now).saved
-            (basis_for self.now).modes coded.now }
+        requires told { CanBeEncoded (next_is_key self.now) (context_for self.now).saved
+            (context_for self.now).modes coded.now }
         ensures packet { IfOk result (λ v. IsPacketOver self.now.dim (kept_for self.now) coded.now v) }
         ensures too_long { IfErr result (λ e. e ≡ PacketError.TooLong
             → IsTooLongOver self.now.dim (kept_for self.now) coded.now) }

@@ -5,7 +5,7 @@ ghost use Rattle.std.specs.Prelude.{IfSome, Err};
 ghost use Rattle.std.specs.List.{All};
 ghost use Rattle.std.specs.Io.KnownBytes.{Appends, Consumes, IsAtEnd};
 ghost use Rattle.vp_base.specs.Counted.{counted_remaining, counted_contents, counted_failures, counted_reads};
-ghost use Rattle.vp_base.specs.Counted.{HasFailed, AppendsFront};
+ghost use Rattle.vp_base.specs.Counted.{HasFailed, AppendsPrefix};
 ghost use Rattle.vp_y4m.specs.declared.source.Progress.{Progress};
 ghost use Rattle.vp_y4m.specs.Shown.{head_shown};
 ghost use Rattle.vp_y4m.specs.Source.{reader_name, bytes_left, failures_of, reads_of, head_of, progress_of};
@@ -14,7 +14,7 @@ ghost use Rattle.vp_y4m.specs.Text.{i420_length};
 ghost use Rattle.vp_encode.specs.declared.report.EncodeAllFault.{EncodeAllFault};
 ghost use Rattle.vp_encode.specs.Encoder.{AreAllowed};
 ghost use Rattle.vp_encode.specs.Encoded.{initial_encoder};
-ghost use Rattle.vp_encode.specs.File.{IsAnswerOver, IsToldMore, IsWatched, ivf_text, most_reads, numbers_to};
+ghost use Rattle.vp_encode.specs.File.{IsAnswerOver, IsWrittenFurther, IsWatched, ivf_text, most_reads, numbers_to};
 ghost use Rattle.vp_encode.specs.EncodeProgress.{start, IsHeadLine, EndsEncode};
 
 use crate::encode_progress::EncodeProgress;
@@ -131,7 +131,7 @@ fn encode_source<R: Read, T: Watcher>(
         (counted_reads reader.old) (counted_reads reader.new) }
     ensures within { counted_reads reader.new ≤ counted_reads reader.old
         + (run.old.limits.packets + 1) * (1025 + i420_length head.dim.w head.dim.h) }
-    ensures watched { IsToldMore (T.told watcher.old) (T.told watcher.new) (numbers_to (length run.new.packets)) }
+    ensures watched { IsWrittenFurther (T.told watcher.old) (T.told watcher.new) (numbers_to (length run.new.packets)) }
 {
     let mut source = Source::open(alloc, reader, head);
     encode_pictures(&mut source, run, watcher)
@@ -161,7 +161,7 @@ fn encode_pictures<R: Read, T: Watcher>(
         (reads_of source.old) (reads_of source.new) }
     ensures within { reads_of source.new ≤ reads_of source.old
         + (run.old.limits.packets + 1) * (1025 + i420_length (head_of source.old).w (head_of source.old).h) }
-    ensures watched { IsToldMore (T.told watcher.old) (T.told watcher.new) (numbers_to (length run.new.packets)) }
+    ensures watched { IsWrittenFurther (T.told watcher.old) (T.told watcher.new) (numbers_to (length run.new.packets)) }
 {
     while let Some(picture) = source.next_picture()? {
         run.picture(&picture)?;
@@ -180,7 +180,7 @@ fn write_file<W: Write>(
     requires small { All (λ p. length p < 2 ^ 32) packets.now }
     ensures ok { OnOk result (Appends (counted_contents W.contents writer.old)
         (counted_contents W.contents writer.new) (ivf_text (head_shown head) packets.now)) }
-    ensures prefix { OnErr result (AppendsFront (counted_contents W.contents writer.old)
+    ensures prefix { OnErr result (AppendsPrefix (counted_contents W.contents writer.old)
         (counted_contents W.contents writer.new) (ivf_text (head_shown head) packets.now)) }
     ensures device { OnErr result (HasFailed (counted_failures writer.old) (counted_failures writer.new)) }
     ensures quiet { OnOk result (counted_failures writer.new ≡ counted_failures writer.old) }

@@ -4,8 +4,8 @@ ghost use Rattle.std.specs.Prelude.{◌≡◌, ◌≤◌, Option, IfOk, IfSome, 
 ghost use Rattle.vp_base.specs.declared.limits.Dim.{Dim};
 ghost use Rattle.vp_choose.specs.Frame.{search_of};
 ghost use Rattle.vp_decode.specs.Step.{DecoderState};
-ghost use Rattle.vp_encode.specs.CodedFrame.{CanBeTold};
-ghost use Rattle.vp_encode.specs.Encoder.{AreAllowed, basis_over, header_over, search_in, frame_over};
+ghost use Rattle.vp_encode.specs.CodedFrame.{CanBeEncoded};
+ghost use Rattle.vp_encode.specs.Encoder.{AreAllowed, context_over, header_over, search_in, frame_over};
 ghost use Rattle.vp_encode.specs.FrameChoices.{AreChosen, AreUnsegmented};
 
 use crate::coded_frame::CodedFrame;
@@ -39,7 +39,7 @@ fn search_in<'a>(settings: &Settings, kept: Option<&'a DecoderState>) -> Option<
 
 /// Returns the saved values that a frame's header is coded relative to; a key frame uses the defaults.
 fn saved_in(kept: Option<&DecoderState>) -> Saved
-    ensures { (dim : Dim) → result ≡ (basis_over dim (option_map (λ k. k.now) kept.entry)).saved }
+    ensures { (dim : Dim) → result ≡ (context_over dim (option_map (λ k. k.now) kept.entry)).saved }
 {
     match kept {
         Some(kept) => *kept.saved(),
@@ -62,12 +62,12 @@ pub(crate) fn choose_frame(
     requires height { source.now.height ≡ dim.h }
     requires segments { IfSome (option_map (λ k. k.now) kept) (λ k. AreUnsegmented dim k.segments) }
     ensures header { IfOk result (λ c. c.header ≡ header_over
-        (basis_over dim (option_map (λ k. k.now) kept.entry)).saved (is_none kept.entry) golden settings.now) }
+        (context_over dim (option_map (λ k. k.now) kept.entry)).saved (is_none kept.entry) golden settings.now) }
     ensures chosen { IfOk result (λ c. AreChosen (frame_over (option_map
         (λ k. k.now) kept.entry) settings.now source.now) c.macroblocks) }
-    ensures told { IfOk result (CanBeTold (is_none kept.entry)
-        (basis_over dim (option_map (λ k. k.now) kept.entry)).saved
-        (basis_over dim (option_map (λ k. k.now) kept.entry)).modes) }
+    ensures told { IfOk result (CanBeEncoded (is_none kept.entry)
+        (context_over dim (option_map (λ k. k.now) kept.entry)).saved
+        (context_over dim (option_map (λ k. k.now) kept.entry)).modes) }
 {
     let source = continued(alloc, source)?;
     let factors = Factors::of(settings.qi, &quantiser(settings.qi));

@@ -11,7 +11,7 @@ ghost use Rattle.vp_motion.specs.Near.{candidates};
 ghost use Rattle.vp_motion.specs.Spelled.{CanBeWritten};
 ghost use Rattle.vp_decode.specs.MacroblockInfo.{macroblock_read, row_read, maps_read, motion_in, place};
 ghost use Rattle.vp_encode.specs.CodedFrame.{coded_choice, saved_motion, AreModesSpelled, IsMotionSpelled};
-ghost use Rattle.vp_encode.specs.Written.{AreOf, AreMapsUpdated, AreRowsTold, IsRowTold};
+ghost use Rattle.vp_encode.specs.Written.{AreOf, AreMapsUpdated, AreRowsWritten, IsRowWritten};
 
 use crate::coded_frame::CodedFrame;
 use std::alloc::AllocError;
@@ -89,7 +89,7 @@ impl MacroblockInfo {
         requires motion { IsMotionSpelled coded.now }
         ensures writes { OnOk result (Writes
             (row_read coded.now.header self.old.modes.columns row self.old) e.old e.new self.new) }
-        ensures told { OnOk result (IsRowTold coded.now row coded.now.macroblocks.columns self.old self.new) }
+        ensures told { OnOk result (IsRowWritten coded.now row coded.now.macroblocks.columns self.old self.new) }
     {
         for column in 0..coded.macroblocks.columns() {
             let place = Place { column, row };
@@ -110,7 +110,7 @@ impl MacroblockInfo {
         requires modes { AreModesSpelled coded.now self.old.modes }
         requires motion { IsMotionSpelled coded.now }
         ensures writes { OnOk result (Writes (maps_read coded.now.header self.old) e.old e.new self.new) }
-        ensures told { OnOk result (AreRowsTold coded.now self.old.modes coded.now.macroblocks.rows self.new) }
+        ensures told { OnOk result (AreRowsWritten coded.now self.old.modes coded.now.macroblocks.rows self.new) }
     {
         for row in 0..coded.macroblocks.rows() {
             self.write_row(coded, row, e)?;

@@ -6,7 +6,7 @@ ghost use Rattle.vp_base.specs.Image.{macroblocks};
 ghost use Rattle.vp_modes.specs.Map.{of_segments};
 ghost use Rattle.vp_tokens.specs.Partitions.{lists, AreBelow24Bits};
 ghost use Rattle.vp_decode.specs.Step.{key_context, maps_before};
-ghost use Rattle.vp_encode.specs.CodedFrame.{CanBeTold};
+ghost use Rattle.vp_encode.specs.CodedFrame.{CanBeEncoded};
 ghost use Rattle.vp_encode.specs.PacketContents.{key_tag, IsKeyFramePacket, IsInterFramePacket};
 ghost use Rattle.vp_encode.specs.Written.{IsFirst, AreTokenPartitions, IsPutTogether, IsPacket, HasLongPartition};
 ghost use Rattle.vp_encode.specs.Written.{encoder_tag, kept_by};
@@ -42,7 +42,7 @@ pub fn write_key_packet(
 ) -> Result<ByteList, PacketError>
     requires columns { coded.now.macroblocks.columns ≡ macroblocks dim.w }
     requires rows { coded.now.macroblocks.rows ≡ macroblocks dim.h }
-    requires told { CanBeTold true (key_context dim).saved (key_context dim).modes coded.now }
+    requires told { CanBeEncoded true (key_context dim).saved (key_context dim).modes coded.now }
     ensures packet { IfOk result (λ v. IsKeyFramePacket dim coded.now v) }
     ensures too_long { IfErr result (λ e. e ≡ PacketError.TooLong
         → HasLongPartition (Some (key_tag dim)) (key_context dim).saved
@@ -72,7 +72,7 @@ pub fn write_inter_packet(
     requires rows { coded.now.macroblocks.rows ≡ macroblocks dim.h }
     requires segment_columns { segments.now.columns ≡ macroblocks dim.w }
     requires segment_rows { segments.now.rows ≡ macroblocks dim.h }
-    requires told { CanBeTold false saved.now (of_segments segments.now) coded.now }
+    requires told { CanBeEncoded false saved.now (of_segments segments.now) coded.now }
     ensures packet { IfOk result (λ v. IsInterFramePacket saved.now segments.now coded.now v) }
     ensures too_long { IfErr result (λ e. e ≡ PacketError.TooLong
         → HasLongPartition None saved.now (maps_before (of_segments segments.now)) coded.now) }
@@ -93,7 +93,7 @@ fn write_packet(
     requires rows { coded.now.macroblocks.rows ≡ macroblocks dim.h }
     requires before_columns { before.columns ≡ macroblocks dim.w }
     requires before_rows { before.rows ≡ macroblocks dim.h }
-    requires told { CanBeTold (is_some key) (kept_by saved.now key) before coded.now }
+    requires told { CanBeEncoded (is_some key) (kept_by saved.now key) before coded.now }
     ensures packet { IfOk result (λ v. IsPacket key saved.now (maps_before before) coded.now v) }
     ensures too_long { IfErr result (λ e. e ≡ PacketError.TooLong
         → HasLongPartition key saved.now (maps_before before) coded.now) }
@@ -123,7 +123,7 @@ fn write_first(
     requires rows { coded.now.macroblocks.rows ≡ macroblocks dim.h }
     requires before_columns { before.columns ≡ macroblocks dim.w }
     requires before_rows { before.rows ≡ macroblocks dim.h }
-    requires told { CanBeTold (is_some key) (kept_by saved.now key) before coded.now }
+    requires told { CanBeEncoded (is_some key) (kept_by saved.now key) before coded.now }
     ensures { IfOk result (λ v. IsFirst saved.now (encoder_tag key 0) (maps_before before) coded.now v.items) }
 {
     let tag = Tag {

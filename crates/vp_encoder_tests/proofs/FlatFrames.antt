@@ -9,7 +9,7 @@ use Rattle.vp_base.specs.Grid.{Grid, Has, at, entry, repeated, all}
 use Rattle.vp_base.proofs.GridLemmas.{number_fits}
 use Rattle.vp_choose.specs.declared.frame.Choice.{Choice}
 use Rattle.vp_encode.specs.declared.coded_frame.CodedFrame.{CodedFrame}
-use Rattle.vp_encode.specs.CodedFrame.{nothing, coded_choice, motion_of, choice_has_y2, CanBeTold}
+use Rattle.vp_encode.specs.CodedFrame.{nothing, coded_choice, motion_of, choice_has_y2, CanBeEncoded}
 use Rattle.vp_head.specs.declared.fields.Header.{Header}
 use Rattle.vp_head.specs.Reference.{is_intra}
 use Rattle.vp_head.specs.Saved.{defaults}
@@ -49,7 +49,7 @@ none_spelled y2 = record {
 -- a frame of one macroblock without levels, at each place
 pub flat_told : (columns rows : ℕ) (key : Bool) (before : Grid Modes) (h : Header) (m : Choice) (g : Grid Choice) → g ≡ all columns rows m → head.IsWritableHeader key defaults h
     → ((p : Place) → p.column < columns → p.row < rows → modes.AreWritableModes h before p m.modes) → m.tokens.blocks ≡ no_blocks
-    → (is_intra m.modes.reference ≡ false → (c : Candidates) → CanBeWritten c m.motion) → CanBeTold key defaults before (record { header = h; macroblocks = g })
+    → (is_intra m.modes.reference ≡ false → (c : Candidates) → CanBeWritten c m.motion) → CanBeEncoded key defaults before (record { header = h; macroblocks = g })
 flat_told columns rows key before h m g grid spelled told none still =
     let coded : CodedFrame = record { header = h; macroblocks = g } in
     let column : (p : Place) → Has g p → p.column < columns = λ p inside. omega (arith, inside.column, ap (λ (g : Grid Choice). g.columns) grid) in

@@ -16,7 +16,7 @@ ghost use Rattle.vp_motion.specs.Vector.{Candidates};
 ghost use Rattle.vp_motion.specs.Spelled.{CanBeWritten};
 ghost use Rattle.vp_modes.specs.Spelled.{AreWritableModes as modes_spelled};
 ghost use Rattle.vp_tokens.specs.Blocks.{no_blocks};
-ghost use Rattle.vp_encode.specs.CodedFrame.{choice_has_y2, CanBeTold};
+ghost use Rattle.vp_encode.specs.CodedFrame.{choice_has_y2, CanBeEncoded};
 
 use crate::check::equal;
 use crate::worked_rows::{encoded_flat, settings};
@@ -136,7 +136,7 @@ fn column_of(
     requires luma { is_by_subblocks luma ≡ false }
     ensures columns { IfOk result (λ c. c.macroblocks.columns ≡ 1) }
     ensures rows { IfOk result (λ c. c.macroblocks.rows ≡ rows) }
-    ensures told { IfOk result (λ c. (before : Grid Modes) → CanBeTold true defaults before c) }
+    ensures told { IfOk result (λ c. (before : Grid Modes) → CanBeEncoded true defaults before c) }
 {
     let macroblocks = Grid::new(alloc, 1, rows, macroblock(Reference::Intra, luma))?;
     Ok(CodedFrame {
@@ -149,7 +149,7 @@ fn column_of(
 fn still_frame(alloc: Global) -> Result<CodedFrame, AllocError>
     ensures columns { IfOk result (λ c. c.macroblocks.columns ≡ 1) }
     ensures rows { IfOk result (λ c. c.macroblocks.rows ≡ 1) }
-    ensures told { IfOk result (λ c. CanBeTold false defaults (of_segments (all 1 1 0)) c) }
+    ensures told { IfOk result (λ c. CanBeEncoded false defaults (of_segments (all 1 1 0)) c) }
 {
     let macroblocks = Grid::new(alloc, 1, 1, macroblock(Reference::Last, LumaMode::Dc))?;
     Ok(CodedFrame {

@@ -2,9 +2,9 @@
 use Rattle.std.proofs.Common.{◌≡◌, ◌∙◌, ℕ, List, ap, sym, inl, inr, []}
 use Rattle.httparse.proofs.GrammarLemmas.{request_unique}
 use Rattle.vp_heads.specs.declared.request.Request.{Request}
-use Rattle.vp_heads.specs.Requests.{asked, IsAsked}
+use Rattle.vp_heads.specs.Requests.{asked, IsRequestFor}
 
-pub asked_unique : (names : List (List ℕ)) (bytes : List ℕ) (a b : Request) → IsAsked names bytes a → IsAsked names bytes b → a ≡ b
+pub asked_unique : (names : List (List ℕ)) (bytes : List ℕ) (a b : Request) → IsRequestFor names bytes a → IsRequestFor names bytes b → a ≡ b
 asked_unique names bytes a b (inl (h, is, e)) (inl (k, was, f)) =
     e ∙ ap (asked names) (request_unique bytes h k [] [] is.reads was.reads).0 ∙ sym f
 asked_unique names bytes a b (inl (h, is, e)) (inr (none, f)) = absurd (none h is)

@@ -66,6 +66,6 @@ abbrev pub unreadable : Request
 unreadable = record { wanted = Bad; head_only = false; closing = true; range = Whole }
 
 -- the request in the bytes of a head, for streams with these names
-abbrev pub IsAsked : List (List ℕ) → List ℕ → Request → Type 0
-IsAsked names bytes request =
+abbrev pub IsRequestFor : List (List ℕ) → List ℕ → Request → Type 0
+IsRequestFor names bytes request =
     ((h : RequestHead) × IsHeadOf bytes h × (request ≡ asked names h)) ⊎ (HasNoHead bytes × (request ≡ unreadable))

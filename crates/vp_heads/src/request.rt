@@ -5,7 +5,7 @@ ghost use Rattle.std.specs.List.{list_any, before_first};
 ghost use Rattle.httparse.specs.Grammar.{RequestHead};
 ghost use Rattle.httparse.specs.Spans.{IsRequestAt, IsRequestWithin, IsHeaderWithin, header_bytes};
 ghost use Rattle.vp_heads.specs.Fields.{is_named, is_body_field};
-ghost use Rattle.vp_heads.specs.Requests.{asked, asked_by, wanted_by, IsAsked, is_bad, is_question};
+ghost use Rattle.vp_heads.specs.Requests.{asked, asked_by, wanted_by, IsRequestFor, is_bad, is_question};
 ghost use Rattle.vp_heads.specs.Requests.{unreadable as no_request};
 ghost use Rattle.vp_heads.specs.Requests.{is_get as names_get, is_head as names_head};
 ghost use Rattle.vp_heads.specs.Ranges.{range_in as range_is};
@@ -178,7 +178,7 @@ fn judge_head(
 /// Returns the request in the bytes of a head, for streams with these names. No memory is allocated.
 pub fn read_request(router: &Router<Page>, names: &[ByteList], bytes: &[u8]) -> Request
     requires { router.now ≡ our_routes }
-    ensures { IsAsked names.now bytes.now result }
+    ensures { IsRequestFor names.now bytes.now result }
 {
     let mut room = [EMPTY_HEADER_SPAN; 32];
     match read_head(bytes, &mut room) {

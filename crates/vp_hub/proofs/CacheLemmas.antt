@@ -6,7 +6,7 @@ use Rattle.vp_hub.specs.declared.connection.ConnectionState.{ConnectionState}
 use Rattle.vp_hub.specs.declared.event.HubFault.TheVariants.{Failed}
 use Rattle.vp_hub.specs.Hub.{Chosen, Outcome, HubState, IsStep, Gets, Serves, new_connection_state}
 use Rattle.vp_hub.specs.Heads.{IsPartial, AnswersHeads, gone, KeepsPartial, AllKeepPartial}
-use Rattle.vp_hub.specs.View.{IsRun, Seen, Fed, Over, Opened, Got, Gone, Lost, Sight, sight, See, AsksAgain, Leads, open_again, go, lose, told, seen_events}
+use Rattle.vp_hub.specs.View.{IsRun, Seen, Fed, Over, Opened, Got, Gone, Lost, ConnectionView, connection_view, See, AsksAgain, Leads, open_again, removed_connection, closed_by_refusal, told, seen_events}
 use Rattle.vp_hub.proofs.Cutting.{cut_into_heads, no_bytes_yet}
 use Rattle.vp_hub.proofs.Isolation.{follows}
 
@@ -56,33 +56,33 @@ again_partial None k state_of_connection e o = subst (λ x. IsPartial x.pending)
     same e = cc
 again_partial (Some l) k state_of_connection e o = k state_of_connection e o
 
-go_partial : (l : Option ConnectionState) → KeepsPartial (go l).0
+go_partial : (l : Option ConnectionState) → KeepsPartial (removed_connection l).0
 go_partial None state_of_connection e o = cc
 go_partial (Some l) state_of_connection e o = cc
 
-lose_partial : (l : Option ConnectionState) → KeepsPartial (lose l)
+lose_partial : (l : Option ConnectionState) → KeepsPartial (closed_by_refusal l)
 lose_partial None state_of_connection e o = cc
 lose_partial (Some l) state_of_connection e o = cc
 
-abbrev pub Kept : Sight → Type 0
+abbrev pub Kept : ConnectionView → Type 0
 Kept v = KeepsPartial v.state_of_connection
 
-see_partial : (e : Seen) (v : Sight) (r : Sight × Outcome) → Kept v → See e v r → Kept r.0
-see_partial (Fed name piece) v r k h = subst (λ (x : Sight × Outcome). Kept x.0) (sym h) k
-see_partial (Over name) v r k h = subst (λ (x : Sight × Outcome). Kept x.0) (sym h) k
-see_partial Opened v r k h = subst (λ (x : Sight × Outcome). Kept x.0) (sym h) (again_partial v.state_of_connection k)
+see_partial : (e : Seen) (v : ConnectionView) (r : ConnectionView × Outcome) → Kept v → See e v r → Kept r.0
+see_partial (Fed name piece) v r k h = subst (λ (x : ConnectionView × Outcome). Kept x.0) (sym h) k
+see_partial (Over name) v r k h = subst (λ (x : ConnectionView × Outcome). Kept x.0) (sym h) k
+see_partial Opened v r k h = subst (λ (x : ConnectionView × Outcome). Kept x.0) (sym h) (again_partial v.state_of_connection k)
 see_partial (Got piece) v r k h = asks_partial v.streams piece v.state_of_connection (r.0.state_of_connection, r.1) k h.0
-see_partial Gone v r k h = subst (λ (x : Sight × Outcome). Kept x.0) (sym h) (go_partial v.state_of_connection)
-see_partial Lost v r k h = subst (λ (x : Sight × Outcome). Kept x.0) (sym h) (lose_partial v.state_of_connection)
+see_partial Gone v r k h = subst (λ (x : ConnectionView × Outcome). Kept x.0) (sym h) (go_partial v.state_of_connection)
+see_partial Lost v r k h = subst (λ (x : ConnectionView × Outcome). Kept x.0) (sym h) (lose_partial v.state_of_connection)
 
-leads_partial : (vs : List Seen) (a b : Sight) (os : List Outcome) → Leads vs a os b → Kept a → Kept b
+leads_partial : (vs : List Seen) (a b : ConnectionView) (os : List Outcome) → Leads vs a os b → Kept a → Kept b
 leads_partial [] a b [] h k = subst Kept (sym h) k
 leads_partial (e ∷ vs) a b (o ∷ os) h k = leads_partial vs h.0 b os h.2 (see_partial e a (h.0, o) k h.1)
 leads_partial [] a b (o ∷ os) h k = absurd h
 leads_partial (e ∷ vs) a b [] h k = absurd h
 
 pub step_partial : (old new : HubState) (e : Event) (o : Outcome) → IsStep old e o new → AllKeepPartial old → AllKeepPartial new
-step_partial old new e o step k c = leads_partial (seen_events c e o) (sight c old) (sight c new) (told (seen_events c e o) o) (follows c old new e o step) (k c)
+step_partial old new e o step k c = leads_partial (seen_events c e o) (connection_view c old) (connection_view c new) (told (seen_events c e o) o) (follows c old new e o step) (k c)
 
 pub run_partial : (es : List Event) (os : List Outcome) (old new : HubState) → IsRun old es os new → AllKeepPartial old → AllKeepPartial new
 run_partial [] [] old new h k = subst AllKeepPartial (sym h) k

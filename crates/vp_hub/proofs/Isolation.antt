@@ -10,21 +10,21 @@ use Rattle.vp_hub.specs.declared.connection.ConnectionState.{ConnectionState}
 use Rattle.vp_hub.specs.declared.connection.Connection.{Connection}
 use Rattle.vp_hub.specs.declared.event.HubFault.TheVariants.{UnknownStream, Ended, UnknownConn, AlreadyOpen, TooMany, Failed, Memory}
 use Rattle.vp_hub.specs.Hub.{Outcome, HubState, HubStep, IsFine, after_memory, IsStep, connection_state_of, without_connection, opened, Asks, shut, Gets, Serves, new_connection_state, no_bytes}
-use Rattle.vp_hub.specs.View.{Seen, Fed, Over, Opened, Got, Gone, Lost, Sight, sight, See, AsksAgain, Leads, lose, AnswersAlike, told, seen_events, view_of, results_of, IsRun, IsIsolated, is_memory, is_too_many}
+use Rattle.vp_hub.specs.View.{Seen, Fed, Over, Opened, Got, Gone, Lost, ConnectionView, connection_view, See, AsksAgain, Leads, closed_by_refusal, AnswersAlike, told, seen_events, view_of, results_of, IsRun, IsIsolated, is_memory, is_too_many}
 use Rattle.vp_hub.proofs.ConnectionStateLemmas.{first_of, link_of-push, link_of-with_link, link_of_other-with_link, link_of-without, link_of_other-without}
 use Rattle.vp_hub.proofs.Serving.{serves_unique, chosen_unique}
 
-leads-append : (xs ys : List Seen) (a b d : Sight) (os ps : List Outcome) → Leads xs a os b → Leads ys b ps d → Leads (xs ++ ys) a (os ++ ps) d
+leads-append : (xs ys : List Seen) (a b d : ConnectionView) (os ps : List Outcome) → Leads xs a os b → Leads ys b ps d → Leads (xs ++ ys) a (os ++ ps) d
 leads-append [] ys a b d [] ps h k = subst (λ x. Leads ys x ps d) h k
 leads-append (e ∷ xs) ys a b d (o ∷ os) ps h k = (h.0, h.1, leads-append xs ys h.0 b d os ps h.2 k)
 leads-append [] ys a b d (o ∷ os) ps h k = absurd h
 leads-append (e ∷ xs) ys a b d [] ps h k = absurd h
 
 -- what was seen of one event leads from a to b with this result
-abbrev pub Follows : List Seen → Outcome → Sight → Sight → Type 0
+abbrev pub Follows : List Seen → Outcome → ConnectionView → ConnectionView → Type 0
 Follows vs o a b = Leads vs a (told vs o) b
 
-one : (e : Seen) (o : Outcome) (a b : Sight) → See e a (b, o) → Follows (e ∷ []) o a b
+one : (e : Seen) (o : Outcome) (a b : ConnectionView) → See e a (b, o) → Follows (e ∷ []) o a b
 one e o a b h = (b, h, refl)
 
 pub memory_is : (o : Outcome) → is_memory o ≡ true → o ≡ Err Memory
@@ -43,7 +43,7 @@ memory_isn't o h e = memory_differs (sym (ap is_memory e) ∙ h)
     memory_differs : true ≡ false → ⊥
     memory_differs e = cc
 
-sight_is : (s t : Streams) (l m : Option ConnectionState) → s ≡ t → l ≡ m → ◌≡◌ {A = Sight} (record { streams = s; state_of_connection = l }) (record { streams = t; state_of_connection = m })
+sight_is : (s t : Streams) (l m : Option ConnectionState) → s ≡ t → l ≡ m → ◌≡◌ {A = ConnectionView} (record { streams = s; state_of_connection = l }) (record { streams = t; state_of_connection = m })
 sight_is s t l m h k = ap (λ x. record { streams = x; state_of_connection = l }) h ∙ ap (λ x. record { streams = t; state_of_connection = x }) k
 
 -- an opening of the connection's own number: what was kept of it says what comes
@@ -97,75 +97,75 @@ other_shut : (c d : ℕ) (xs : List Connection) (l : Option ConnectionState) →
 other_shut c d xs None h = refl
 other_shut c d xs (Some state_of_connection) h = link_of_other-without c d xs h
 
-lose_is : (l : Option ConnectionState) → option_map (λ _. record { pending = []; closed = true }) l ≡ lose l
+lose_is : (l : Option ConnectionState) → option_map (λ _. record { pending = []; closed = true }) l ≡ closed_by_refusal l
 lose_is None = refl
 lose_is (Some state_of_connection) = refl
 
-choose : (t : Bool) (xs ys : List Seen) (o : Outcome) (a b : Sight) → (t ≡ true → Follows xs o a b) → (t ≡ false → Follows ys o a b) → Follows (cond t xs ys) o a b
+choose : (t : Bool) (xs ys : List Seen) (o : Outcome) (a b : ConnectionView) → (t ≡ true → Follows xs o a b) → (t ≡ false → Follows ys o a b) → Follows (cond t xs ys) o a b
 choose true xs ys o a b f g = f refl
 choose false xs ys o a b f g = g refl
 
-pick : (t : Bool) (xs ys : List Seen) (o : Outcome) (a b : Sight) → t ≡ false → Follows ys o a b → Follows (cond t xs ys) o a b
+pick : (t : Bool) (xs ys : List Seen) (o : Outcome) (a b : ConnectionView) → t ≡ false → Follows ys o a b → Follows (cond t xs ys) o a b
 pick true xs ys o a b h f = cc
 pick false xs ys o a b h f = f
 
-own : (xs : List Seen) (o : Outcome) (old new : HubState) (d c : ℕ) → d ≡ c → Follows xs o (sight d old) (sight d new) → Follows xs o (sight c old) (sight c new)
-own xs o old new d c h f = subst (λ k. Follows xs o (sight k old) (sight k new)) h f
+own : (xs : List Seen) (o : Outcome) (old new : HubState) (d c : ℕ) → d ≡ c → Follows xs o (connection_view d old) (connection_view d new) → Follows xs o (connection_view c old) (connection_view c new)
+own xs o old new d c h f = subst (λ k. Follows xs o (connection_view k old) (connection_view k new)) h f
 
 -- where memory isn't refused
-at_step : (c : ℕ) (old new : HubState) (o : Outcome) (e : Event) → is_memory o ≡ false → HubStep e old (new, o) → Follows (seen_events c e o) o (sight c old) (sight c new)
-at_step c old new o (Feed name piece) hm h = pick (is_memory o) [] (Fed name piece ∷ []) o (sight c old) (sight c new) hm (one (Fed name piece) o (sight c old) (sight c new) (ap (λ (x : HubState × Outcome). (sight c x.0, x.1)) h))
-at_step c old new o (End name) hm h = one (Over name) o (sight c old) (sight c new) (ap (λ (x : HubState × Outcome). (sight c x.0, x.1)) h)
+at_step : (c : ℕ) (old new : HubState) (o : Outcome) (e : Event) → is_memory o ≡ false → HubStep e old (new, o) → Follows (seen_events c e o) o (connection_view c old) (connection_view c new)
+at_step c old new o (Feed name piece) hm h = pick (is_memory o) [] (Fed name piece ∷ []) o (connection_view c old) (connection_view c new) hm (one (Fed name piece) o (connection_view c old) (connection_view c new) (ap (λ (x : HubState × Outcome). (connection_view c x.0, x.1)) h))
+at_step c old new o (End name) hm h = one (Over name) o (connection_view c old) (connection_view c new) (ap (λ (x : HubState × Outcome). (connection_view c x.0, x.1)) h)
 at_step c old new o (Open d) hm h =
-    subst (λ (x : HubState × Outcome). Follows (seen_events c (Open d) x.1) x.1 (sight c old) (sight c x.0)) (sym h)
+    subst (λ (x : HubState × Outcome). Follows (seen_events c (Open d) x.1) x.1 (connection_view c old) (connection_view c x.0)) (sym h)
     (let r = opened d old.connections (connection_state_of d old.connections) in
     let mid : HubState = record { streams = old.streams; connections = r.0 } in
-    choose (d == c) (cond (is_memory r.1) [] (cond (is_too_many r.1) [] (Opened ∷ []))) [] r.1 (sight c old) (sight c mid)
+    choose (d == c) (cond (is_memory r.1) [] (cond (is_too_many r.1) [] (Opened ∷ []))) [] r.1 (connection_view c old) (connection_view c mid)
     (λ e. own (cond (is_memory r.1) [] (cond (is_too_many r.1) [] (Opened ∷ []))) r.1 old mid d c (eqb-true d c e) (own_open d old.streams old.connections (connection_state_of d old.connections) refl))
     (λ e. sight_is old.streams old.streams (connection_state_of c r.0) (connection_state_of c old.connections) refl (other_open c d old.connections (connection_state_of d old.connections) e)))
 at_step c old new o (Bytes d piece) hm h =
-    choose (d == c) (cond (is_memory o) (Lost ∷ []) (Got piece ∷ [])) [] o (sight c old) (sight c new)
-    (λ e. pick (is_memory o) (Lost ∷ []) (Got piece ∷ []) o (sight c old) (sight c new) hm
-    (own (Got piece ∷ []) o old new d c (eqb-true d c e) (one (Got piece) o (sight d old) (sight d new) (own_ask d old.streams piece old.connections new.connections o (connection_state_of d old.connections) refl h.0, h.1))))
+    choose (d == c) (cond (is_memory o) (Lost ∷ []) (Got piece ∷ [])) [] o (connection_view c old) (connection_view c new)
+    (λ e. pick (is_memory o) (Lost ∷ []) (Got piece ∷ []) o (connection_view c old) (connection_view c new) hm
+    (own (Got piece ∷ []) o old new d c (eqb-true d c e) (one (Got piece) o (connection_view d old) (connection_view d new) (own_ask d old.streams piece old.connections new.connections o (connection_state_of d old.connections) refl h.0, h.1))))
     (λ e. sight_is new.streams old.streams (connection_state_of c new.connections) (connection_state_of c old.connections) h.1 (other_ask c d old.streams piece old.connections new.connections o (connection_state_of d old.connections) e h.0))
 at_step c old new o (Shut d) hm h =
-    subst (λ (x : HubState × Outcome). Follows (seen_events c (Shut d) x.1) x.1 (sight c old) (sight c x.0)) (sym h)
+    subst (λ (x : HubState × Outcome). Follows (seen_events c (Shut d) x.1) x.1 (connection_view c old) (connection_view c x.0)) (sym h)
     (let r = shut d old.connections (connection_state_of d old.connections) in
     let mid : HubState = record { streams = old.streams; connections = r.0 } in
-    choose (d == c) (Gone ∷ []) [] r.1 (sight c old) (sight c mid)
+    choose (d == c) (Gone ∷ []) [] r.1 (connection_view c old) (connection_view c mid)
     (λ e. own (Gone ∷ []) r.1 old mid d c (eqb-true d c e) (own_shut d old.streams old.connections (connection_state_of d old.connections) refl))
     (λ e. sight_is old.streams old.streams (connection_state_of c r.0) (connection_state_of c old.connections) refl (other_shut c d old.connections (connection_state_of d old.connections) e)))
 
 -- where it is
-at_refusal : (c : ℕ) (old : HubState) (e : Event) → IsFine e old → Follows (seen_events c e (Err Memory)) (Err Memory) (sight c old) (sight c (after_memory e old))
+at_refusal : (c : ℕ) (old : HubState) (e : Event) → IsFine e old → Follows (seen_events c e (Err Memory)) (Err Memory) (connection_view c old) (connection_view c (after_memory e old))
 at_refusal c old (Feed name piece) h = refl
 at_refusal c old (End name) h = absurd h
-at_refusal c old (Open d) h = choose (d == c) [] [] (Err Memory) (sight c old) (sight c old) (λ _. refl) (λ _. refl)
+at_refusal c old (Open d) h = choose (d == c) [] [] (Err Memory) (connection_view c old) (connection_view c old) (λ _. refl) (λ _. refl)
 at_refusal c old (Bytes d piece) h =
     let lost : ConnectionState = record { pending = []; closed = true } in
     let mid = after_memory (Bytes d piece) old in
-    choose (d == c) (Lost ∷ []) [] (Err Memory) (sight c old) (sight c mid)
+    choose (d == c) (Lost ∷ []) [] (Err Memory) (connection_view c old) (connection_view c mid)
     (λ e. own (Lost ∷ []) (Err Memory) old mid d c (eqb-true d c e)
-    (one Lost (Err Memory) (sight d old) (sight d mid) (ap (λ l. (record { streams = old.streams; state_of_connection = l }, Err Memory)) (link_of-with_link d lost old.connections ∙ lose_is (connection_state_of d old.connections)))))
+    (one Lost (Err Memory) (connection_view d old) (connection_view d mid) (ap (λ l. (record { streams = old.streams; state_of_connection = l }, Err Memory)) (link_of-with_link d lost old.connections ∙ lose_is (connection_state_of d old.connections)))))
     (λ e. sight_is old.streams old.streams (connection_state_of c mid.connections) (connection_state_of c old.connections) refl (link_of_other-with_link c d lost old.connections e))
 at_refusal c old (Shut d) h = absurd h
 
 -- one step, as connection c sees it
-pub follows : (c : ℕ) (old new : HubState) (e : Event) (o : Outcome) → IsStep old e o new → Follows (seen_events c e o) o (sight c old) (sight c new)
+pub follows : (c : ℕ) (old new : HubState) (e : Event) (o : Outcome) → IsStep old e o new → Follows (seen_events c e o) o (connection_view c old) (connection_view c new)
 follows c old new e o step = by_memory (is_memory o) refl
   where
-    by_memory : (t : Bool) → is_memory o ≡ t → Follows (seen_events c e o) o (sight c old) (sight c new)
+    by_memory : (t : Bool) → is_memory o ≡ t → Follows (seen_events c e o) o (connection_view c old) (connection_view c new)
     by_memory true h =
         let is = memory_is o h in
         let r = step.0 is in
-        subst (λ x. Follows (seen_events c e x) x (sight c old) (sight c new)) (sym is)
-        (subst (λ x. Follows (seen_events c e (Err Memory)) (Err Memory) (sight c old) (sight c x)) (sym r.after) (at_refusal c old e r.fine))
+        subst (λ x. Follows (seen_events c e x) x (connection_view c old) (connection_view c new)) (sym is)
+        (subst (λ x. Follows (seen_events c e (Err Memory)) (Err Memory) (connection_view c old) (connection_view c x)) (sym r.after) (at_refusal c old e r.fine))
     by_memory false h = at_step c old new o e h (step.1 (memory_isn't o h))
 
 pub isolated : (s : HubState) (es : List Event) (os : List Outcome) (new : HubState) → IsRun s es os new → IsIsolated s es os new
-isolated s [] [] new run c = ap (sight c) run
+isolated s [] [] new run c = ap (connection_view c) run
 isolated s (e ∷ es) (o ∷ os) new run c =
-    leads-append (seen_events c e o) (view_of c es os) (sight c s) (sight c run.0) (sight c new) (told (seen_events c e o) o) (results_of c es os)
+    leads-append (seen_events c e o) (view_of c es os) (connection_view c s) (connection_view c run.0) (connection_view c new) (told (seen_events c e o) o) (results_of c es os)
     (follows c s run.0 e o run.1) (isolated run.0 es os new run.2 c)
 isolated s [] (o ∷ os) new run c = absurd run
 isolated s (e ∷ es) [] new run c = absurd run
@@ -204,7 +204,7 @@ asks_unique : (ss : Streams) (piece : List ℕ) (l : Option ConnectionState) (x 
 asks_unique ss piece None x y a b = a ∙ sym b
 asks_unique ss piece (Some state_of_connection) x y a b = a.2 ∙ ap (λ (g : ConnectionState × Outcome). (Some g.0, g.1)) (gets_unique ss piece state_of_connection a.0 b.0 a.1 b.1) ∙ sym b.2
 
-see_unique : (e : Seen) (v : Sight) (x y : Sight × Outcome) → See e v x → See e v y → x ≡ y
+see_unique : (e : Seen) (v : ConnectionView) (x y : ConnectionView × Outcome) → See e v x → See e v y → x ≡ y
 see_unique (Fed name piece) v x y a b = a ∙ sym b
 see_unique (Over name) v x y a b = a ∙ sym b
 see_unique Opened v x y a b = a ∙ sym b
@@ -214,12 +214,12 @@ see_unique (Got piece) v x y a b =
 see_unique Gone v x y a b = a ∙ sym b
 see_unique Lost v x y a b = a ∙ sym b
 
-leads_unique : (vs : List Seen) (a b d : Sight) (os ps : List Outcome) → Leads vs a os b → Leads vs a ps d → os ≡ ps
+leads_unique : (vs : List Seen) (a b d : ConnectionView) (os ps : List Outcome) → Leads vs a os b → Leads vs a ps d → os ≡ ps
 leads_unique [] a b d [] [] h k = refl
 leads_unique (e ∷ vs) a b d (o ∷ os) (p ∷ ps) h k =
     let same = see_unique e a (h.0, o) (k.0, p) h.1 k.1 in
-    ap (λ (x : Sight × Outcome). x.1 ∷ os) same
-    ∙ ap (λ xs. p ∷ xs) (leads_unique vs h.0 b d os ps h.2 (subst (λ m. Leads vs m ps d) (sym (ap (λ (x : Sight × Outcome). x.0) same)) k.2))
+    ap (λ (x : ConnectionView × Outcome). x.1 ∷ os) same
+    ∙ ap (λ xs. p ∷ xs) (leads_unique vs h.0 b d os ps h.2 (subst (λ m. Leads vs m ps d) (sym (ap (λ (x : ConnectionView × Outcome). x.0) same)) k.2))
 leads_unique [] a b d (o ∷ os) ps h k = absurd h
 leads_unique [] a b d [] (p ∷ ps) h k = absurd k
 leads_unique (e ∷ vs) a b d [] ps h k = absurd h
@@ -227,7 +227,7 @@ leads_unique (e ∷ vs) a b d (o ∷ os) [] h k = absurd k
 
 pub alike : AnswersAlike
 alike c s t es fs os ps new mid run ran first same =
-    leads_unique (view_of c es os) (sight c s) (sight c new) (sight c mid) (results_of c es os) (results_of c fs ps)
+    leads_unique (view_of c es os) (connection_view c s) (connection_view c new) (connection_view c mid) (results_of c es os) (results_of c fs ps)
     (isolated s es os new run c)
-    (subst (λ vs. Leads vs (sight c s) (results_of c fs ps) (sight c mid)) (sym same)
-    (subst (λ v. Leads (view_of c fs ps) v (results_of c fs ps) (sight c mid)) (sym first) (isolated t fs ps mid ran c)))
+    (subst (λ vs. Leads vs (connection_view c s) (results_of c fs ps) (connection_view c mid)) (sym same)
+    (subst (λ v. Leads (view_of c fs ps) v (results_of c fs ps) (connection_view c mid)) (sym first) (isolated t fs ps mid ran c)))

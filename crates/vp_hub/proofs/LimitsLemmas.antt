@@ -3,9 +3,9 @@ use Rattle.std.proofs.Common.{◌≡◌, ◌<◌, ◌≤◌, ℕ, [], map, ap, s
 use Rattle.std.specs.Coded.{×_prop, le_prop}
 use Rattle.vp_base.specs.declared.limits.Limits.{Limits}
 use Rattle.vp_stream.specs.Stream.{initial_stream}
-use Rattle.vp_hub.specs.declared.source.Ending.TheVariants.{Open}
+use Rattle.vp_hub.specs.declared.source.StreamEnd.TheVariants.{Open}
 use Rattle.vp_hub.specs.Hub.{stream_limits, one_is_in_range}
-use Rattle.vp_hub.specs.View.{sight, NewHubsAnswerAlike}
+use Rattle.vp_hub.specs.View.{connection_view, NewHubsAnswerAlike}
 use Rattle.vp_hub.proofs.Isolation.{alike}
 
 abbrev IsPixels : ℕ → Type 0
@@ -43,5 +43,5 @@ same_limits a b e f g =
 pub new_alike : NewHubsAnswerAlike
 new_alike names a b c es fs os ps new mid same run ran views =
     alike c _ _ es fs os ps new mid run ran
-    (ap (λ (l : Limits). sight c (record { streams = record { names = names; sources = map (λ _. record { stream = initial_stream l; end = Open }) names }; connections = [] }))
+    (ap (λ (l : Limits). connection_view c (record { streams = record { names = names; sources = map (λ _. record { stream = initial_stream l; end = Open }) names }; connections = [] }))
     (same_limits a b same.pixels same.packet_bytes same.packets)) views

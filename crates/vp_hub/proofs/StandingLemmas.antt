@@ -12,7 +12,7 @@ use Rattle.vp_hub.specs.declared.connection.Connection.{Connection}
 use Rattle.vp_hub.specs.Pages.{Streams}
 use Rattle.vp_hub.specs.Hub.{Outcome, HubState, IsStep, HubStep, after_memory, IsFine, Asks, opened, shut, no_bytes, new_connection_state, connection_state_of, with_connection_state, without_connection}
 use Rattle.vp_hub.specs.View.{is_memory}
-use Rattle.vp_hub.specs.Standing.{connection_numbers, standing_after, standing, stands, IsFull, StandsToShut, IsTooManyByHistory}
+use Rattle.vp_hub.specs.Standing.{connection_numbers, open_after, standing, stands, IsFull, StandsToShut, IsTooManyByHistory}
 use Rattle.vp_hub.proofs.Isolation.{memory_is, memory_isn't}
 
 numbers-push : (c : ℕ) (state_of_connection : ConnectionState) (xs : List Connection) → connection_numbers (xs ++ record { number = c; state_of_connection = state_of_connection } ∷ []) ≡ connection_numbers xs ++ c ∷ []
@@ -58,18 +58,18 @@ stands_by_link c (x ∷ xs) = grind (arith, nat_tests, stands_by_link c xs)
 abbrev pub conns_of : HubState × Outcome → List ℕ
 conns_of r = connection_numbers r.0.connections
 
-after_open : (c : ℕ) (s new : HubState) (o : Outcome) (l : Option ConnectionState) → ◌≡◌ {A = List Connection × Outcome} (new.connections, o) (opened c s.connections l) → connection_numbers new.connections ≡ standing_after (connection_numbers s.connections) (Open c) o
+after_open : (c : ℕ) (s new : HubState) (o : Outcome) (l : Option ConnectionState) → ◌≡◌ {A = List Connection × Outcome} (new.connections, o) (opened c s.connections l) → connection_numbers new.connections ≡ open_after (connection_numbers s.connections) (Open c) o
 after_open c s new o (Some state_of_connection) h =
     ap (λ (x : List Connection × Outcome). connection_numbers x.0) h
-    ∙ ap (λ (p : Outcome). standing_after (connection_numbers s.connections) (Open c) p) (sym (ap (λ (x : List Connection × Outcome). x.1) h))
+    ∙ ap (λ (p : Outcome). open_after (connection_numbers s.connections) (Open c) p) (sym (ap (λ (x : List Connection × Outcome). x.1) h))
 after_open c s new o None h = at (nat_lt (length s.connections) 64) h
   where
     at : (t : Bool) → ◌≡◌ {A = List Connection × Outcome} (new.connections, o) (cond t (s.connections ++ record { number = c; state_of_connection = new_connection_state } ∷ [], Ok no_bytes) (s.connections, Err TooMany))
-        → connection_numbers new.connections ≡ standing_after (connection_numbers s.connections) (Open c) o
+        → connection_numbers new.connections ≡ open_after (connection_numbers s.connections) (Open c) o
     at true h = ap (λ (x : List Connection × Outcome). connection_numbers x.0) h ∙ (numbers-push c new_connection_state s.connections
-        ∙ ap (λ (p : Outcome). standing_after (connection_numbers s.connections) (Open c) p) (sym (ap (λ (x : List Connection × Outcome). x.1) h)))
+        ∙ ap (λ (p : Outcome). open_after (connection_numbers s.connections) (Open c) p) (sym (ap (λ (x : List Connection × Outcome). x.1) h)))
     at false h = ap (λ (x : List Connection × Outcome). connection_numbers x.0) h
-        ∙ ap (λ (p : Outcome). standing_after (connection_numbers s.connections) (Open c) p) (sym (ap (λ (x : List Connection × Outcome). x.1) h))
+        ∙ ap (λ (p : Outcome). open_after (connection_numbers s.connections) (Open c) p) (sym (ap (λ (x : List Connection × Outcome). x.1) h))
 
 after_bytes : (ss : Streams) (c : ℕ) (piece : List ℕ) (s new : HubState) (o : Outcome) (l : Option ConnectionState) → Asks ss c piece s.connections l (new.connections, o) → connection_numbers new.connections ≡ connection_numbers s.connections
 after_bytes ss c piece s new o None h = ap (λ (x : List Connection × Outcome). connection_numbers x.0) h
@@ -81,28 +81,28 @@ after_shut c s new o None there h = ap (λ (x : List Connection × Outcome). con
     ∙ (ap connection_numbers (sym (none_without c s.connections there)) ∙ numbers-without c s.connections)
 after_shut c s new o (Some state_of_connection) there h = ap (λ (x : List Connection × Outcome). connection_numbers x.0) h ∙ numbers-without c s.connections
 
-at_step : (e : Event) (s new : HubState) (o : Outcome) → HubStep e s (new, o) → connection_numbers new.connections ≡ standing_after (connection_numbers s.connections) e o
+at_step : (e : Event) (s new : HubState) (o : Outcome) → HubStep e s (new, o) → connection_numbers new.connections ≡ open_after (connection_numbers s.connections) e o
 at_step (Feed name piece) s new o h = ap conns_of h
 at_step (End name) s new o h = ap conns_of h
 at_step (Open c) s new o h = after_open c s new o (connection_state_of c s.connections) (ap (λ (r : HubState × Outcome). (r.0.connections, r.1)) h)
 at_step (Bytes c piece) s new o h = after_bytes s.streams c piece s new o (connection_state_of c s.connections) h.0
 at_step (Shut c) s new o h = after_shut c s new o (connection_state_of c s.connections) refl (ap (λ (r : HubState × Outcome). (r.0.connections, r.1)) h)
 
-at_memory : (e : Event) (s : HubState) → IsFine e s → connection_numbers (after_memory e s).connections ≡ standing_after (connection_numbers s.connections) e (Err Memory)
+at_memory : (e : Event) (s : HubState) → IsFine e s → connection_numbers (after_memory e s).connections ≡ open_after (connection_numbers s.connections) e (Err Memory)
 at_memory (Feed name piece) s h = refl
 at_memory (End name) s h = absurd h
 at_memory (Open c) s h = refl
 at_memory (Bytes c piece) s h = numbers-with_link c (record { pending = []; closed = true }) s.connections
 at_memory (Shut c) s h = absurd h
 
-stand_after : (s new : HubState) (e : Event) (o : Outcome) → IsStep s e o new → connection_numbers new.connections ≡ standing_after (connection_numbers s.connections) e o
+stand_after : (s new : HubState) (e : Event) (o : Outcome) → IsStep s e o new → connection_numbers new.connections ≡ open_after (connection_numbers s.connections) e o
 stand_after s new e o step = by_memory (is_memory o) refl
   where
-    by_memory : (t : Bool) → is_memory o ≡ t → connection_numbers new.connections ≡ standing_after (connection_numbers s.connections) e o
+    by_memory : (t : Bool) → is_memory o ≡ t → connection_numbers new.connections ≡ open_after (connection_numbers s.connections) e o
     by_memory true h =
         let r = step.0 (memory_is o h) in
         ap (λ (x : HubState). connection_numbers x.connections) r.after ∙ (at_memory e s r.fine
-        ∙ ap (λ (p : Outcome). standing_after (connection_numbers s.connections) e p) (sym (memory_is o h)))
+        ∙ ap (λ (p : Outcome). open_after (connection_numbers s.connections) e p) (sym (memory_is o h)))
     by_memory false h = at_step e s new o (step.1 (memory_isn't o h))
 
 -- ---- a run

@@ -5,7 +5,7 @@ use Rattle.vp_hub.specs.Pages.{Streams}
 use Rattle.vp_hub.specs.declared.connection.ConnectionState.{ConnectionState}
 use Rattle.vp_hub.specs.Hub.{Chosen, Outcome}
 use Rattle.vp_hub.specs.Heads.{AnswersHeads, IsPartial}
-use Rattle.vp_hub.specs.View.{Seen, Fed, Over, Opened, Got, Gone, Lost, Sight, AsksAgain, Leads, open_again}
+use Rattle.vp_hub.specs.View.{Seen, Fed, Over, Opened, Got, Gone, Lost, ConnectionView, AsksAgain, Leads, open_again}
 use Rattle.vp_hub.specs.Turns.{AreCutInTurn, HistoriesAreCut, bytes_seen, keeps}
 use Rattle.vp_hub.proofs.Cutting.{cut_into_heads, no_bytes_yet}
 use Rattle.vp_hub.proofs.CacheLemmas.{answers_partial, not_gone}
@@ -25,7 +25,7 @@ answers_whole ss (x ∷ hs) bytes v (rest, reply, is, e, inr a) h =
     ∙ ap (λ (y : ConnectionState × List ℕ). concat hs ++ y.0.pending) (sym a.3)) ∙ sym (append_assoc x (concat hs) v.0.pending))
 
 -- all that is said of a history that begins with these bytes kept
-abbrev Cuts : List ℕ → List Seen → Sight → List Outcome → Type 0
+abbrev Cuts : List ℕ → List Seen → ConnectionView → List Outcome → Type 0
 Cuts kept es v os = (heads : List (List ℕ)) × (rest : Option (List ℕ)) × AreCutInTurn kept es v os heads rest
     × IfSome rest (λ r. IsPartial r × (kept ++ bytes_seen es ≡ concat heads ++ r))
 
@@ -33,7 +33,7 @@ open_link : (l : ConnectionState) → l.closed ≡ false → l ≡ keeps l.pendi
 open_link l e = ap (λ b. record { pending = l.pending; closed = b }) e
 
 -- a piece that is cut, and what comes behind it
-piece_cut : (kept piece : List ℕ) (es : List Seen) (v : Sight) (o : Outcome) (os : List Outcome) (here : List (List ℕ)) (w : ConnectionState × List ℕ)
+piece_cut : (kept piece : List ℕ) (es : List Seen) (v : ConnectionView) (o : Outcome) (os : List Outcome) (here : List (List ℕ)) (w : ConnectionState × List ℕ)
     → AnswersHeads v.streams here (kept ++ piece) w → o ≡ Ok (record { bytes = w.1; close = w.0.closed })
     → (w.0.closed ≡ false → Cuts w.0.pending es (record { streams = v.streams; state_of_connection = Some w.0 }) os) → Cuts kept (Got piece ∷ es) v (o ∷ os)
 piece_cut kept piece es v o os here w a e later = by_closed w.0.closed refl
@@ -73,7 +73,7 @@ piece_cut kept piece es v o os here w a e later = by_closed w.0.closed refl
         )
 
 -- one more event that leaves what is kept
-histories : (es : List Seen) (v w : Sight) (os : List Outcome) (kept : List ℕ) → Leads es v os w → v.state_of_connection ≡ Some (keeps kept) → IsPartial kept
+histories : (es : List Seen) (v w : ConnectionView) (os : List Outcome) (kept : List ℕ) → Leads es v os w → v.state_of_connection ≡ Some (keeps kept) → IsPartial kept
     → Cuts kept es v os
 histories [] v w [] kept h l p = ([], Some kept, (refl, refl), (p, append-nil kept))
 histories [] v w (o ∷ os) kept h l p = absurd h
@@ -89,15 +89,15 @@ histories (Got piece ∷ es) v w (o ∷ os) kept h l p =
     (λ c. histories es (record { streams = v.streams; state_of_connection = Some served.0.0 }) w os served.0.0.pending (subst (λ x. Leads es x os w) now h.2)
     (ap Some (open_link served.0.0 c)) (answers_partial v.streams cut.0 (kept ++ piece) served.0 cut.1 c))
   where
-    sight_is : (s : Sight) (ss : Streams) (state_of_connection : ConnectionState) → s.streams ≡ ss → s.state_of_connection ≡ Some state_of_connection → ◌≡◌ {A = Sight} s (record { streams = ss; state_of_connection = Some state_of_connection })
+    sight_is : (s : ConnectionView) (ss : Streams) (state_of_connection : ConnectionState) → s.streams ≡ ss → s.state_of_connection ≡ Some state_of_connection → ◌≡◌ {A = ConnectionView} s (record { streams = ss; state_of_connection = Some state_of_connection })
     sight_is s ss state_of_connection a b = ap (λ x. record { streams = x; state_of_connection = s.state_of_connection }) a ∙ ap (λ x. record { streams = ss; state_of_connection = x }) b
 histories (Fed name piece ∷ es) v w (o ∷ os) kept h l p =
-    let k = histories es h.0 w os kept h.2 (ap (λ (x : Sight × Outcome). x.0.state_of_connection) h.1 ∙ l) p in (k.0, k.1, (h.0, h.1, k.2), k.3)
+    let k = histories es h.0 w os kept h.2 (ap (λ (x : ConnectionView × Outcome). x.0.state_of_connection) h.1 ∙ l) p in (k.0, k.1, (h.0, h.1, k.2), k.3)
 histories (Over name ∷ es) v w (o ∷ os) kept h l p =
-    let k = histories es h.0 w os kept h.2 (ap (λ (x : Sight × Outcome). x.0.state_of_connection) h.1 ∙ l) p in (k.0, k.1, (h.0, h.1, k.2), k.3)
+    let k = histories es h.0 w os kept h.2 (ap (λ (x : ConnectionView × Outcome). x.0.state_of_connection) h.1 ∙ l) p in (k.0, k.1, (h.0, h.1, k.2), k.3)
 histories (Opened ∷ es) v w (o ∷ os) kept h l p =
     let k = histories es h.0 w os kept h.2
-    (ap (λ (x : Sight × Outcome). x.0.state_of_connection) h.1 ∙ ap (λ x. (open_again x).0) l) p in (k.0, k.1, (h.0, h.1, k.2), k.3)
+    (ap (λ (x : ConnectionView × Outcome). x.0.state_of_connection) h.1 ∙ ap (λ x. (open_again x).0) l) p in (k.0, k.1, (h.0, h.1, k.2), k.3)
 histories (Gone ∷ es) v w (o ∷ os) kept h l p = ([], None, (refl, refl), tt)
 histories (Lost ∷ es) v w (o ∷ os) kept h l p = ([], None, (refl, refl), tt)
 

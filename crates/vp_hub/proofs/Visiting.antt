@@ -24,7 +24,7 @@ use Rattle.vp_hub.specs.declared.session.ServeFault.TheVariants.{Hub, Device, Re
 use Rattle.vp_hub.specs.Pages.{Streams, IsReply}
 use Rattle.vp_hub.specs.Hub.{Outcome, HubState, IsStep, Chosen, Settles, TakesByte, Serves, Asks, ends_head, no_bytes, new_connection_state, connection_state_of, with_connection_state, without_connection, with_connections, opened, shut}
 use Rattle.vp_hub.specs.View.{IsRun, is_memory}
-use Rattle.vp_hub.specs.Sessions.{IsPiece, byte_events, reply_bytes, replies, StaysOpen, AreAnswered, EndsBy, WritesBy, AnsweredBy, IsOpenSession, StandsApart, Exchanges}
+use Rattle.vp_hub.specs.Sessions.{IsPiece, byte_events, reply_bytes, replies, StaysOpen, AreAnswered, EndsBy, WritesBy, AnsweredBy, IsOpenSession, IsUnchangedApart, Exchanges}
 use Rattle.vp_hub.proofs.Cutting.{cut_into_heads, no_bytes_yet}
 use Rattle.vp_hub.proofs.ConnectionStateLemmas.{link_of-with_link, link_of-push, first_of}
 use Rattle.vp_hub.proofs.Isolation.{run_more, memory_is, memory_isn't}
@@ -213,7 +213,7 @@ module _ (c : ℕ) (old now : HubState) (there : connection_state_of c old.conne
   step_there : (e : Event) (o : Outcome) (new : HubState) → IsStep now e o new → IsStep (speaking old.streams c h.state_of_connection old.connections) e o new
   step_there e o new step = subst (λ (s : HubState). IsStep s e o new) h.now_is step
 
-  pub apart : StandsApart c old now
+  pub apart : IsUnchangedApart c old now
   apart = (h.state_of_connection, h.now_is)
 
   -- nothing more is handed in
@@ -256,7 +256,7 @@ module _ (c : ℕ) (old now : HubState) (there : connection_state_of c old.conne
       text_on : replies (h.results ++ Ok reply ∷ []) ≡ replies h.results ++ reply.bytes
       text_on = replies_push h.results (Ok reply)
 
-      pub apart_on : StandsApart c old new
+      pub apart_on : IsUnchangedApart c old new
       apart_on = (one.w.0, one.new_is)
 
       serves_on : Serves old.streams (read ++ piece) (new_connection_state, []) (one.w.0, replies (h.results ++ Ok reply ∷ []))
@@ -300,7 +300,7 @@ module _ (c : ℕ) (old now : HubState) (there : connection_state_of c old.conne
       }
 
     module _ (fault : HubFault) (step : IsStep now (Bytes c piece) (Err fault) new) where
-      pub refused_stands : StandsApart c old new
+      pub refused_stands : IsUnchangedApart c old new
       refused_stands = refused_apart old.streams c piece h.state_of_connection new_connection_state old.connections fault new h.unclosed there (step_there (Bytes c piece) (Err fault) new step)
 
       text_kept : replies h.results ≡ replies (h.results ++ Err fault ∷ [])
@@ -325,13 +325,13 @@ module _ (c : ℕ) (old now : HubState) (there : connection_state_of c old.conne
 -- one more exchange ends the talk by a fault
 pub ends_faulty : (c : ℕ) (old now new : HubState) (there : connection_state_of c old.connections ≡ Some new_connection_state) (read piece : List ℕ) (before after then left : Option (List ℕ)) (reads : ℕ) (failed : Type 0)
     → IsSpeaking c old now read before after reads → (fault : ServeFault) → Exchanges c now new (Err fault) piece left after then failed
-    → IsOpenSession c old new (Err fault) (read ++ piece) left before then failed × StandsApart c old new
+    → IsOpenSession c old new (Err fault) (read ++ piece) left before then failed × IsUnchangedApart c old new
 ends_faulty c old now new there read piece before after then left reads failed h (Hub fault) x =
     let P : Option (List ℕ) → Type 0 = λ b. IsOpenSession c old new (Err (Hub fault)) (read ++ piece) left before b failed in
     (subst P (sym x.2) (refused c old now there read before after reads h piece new x.0 fault x.1 left failed), refused_stands c old now there read before after reads h piece new x.0 fault x.1)
 ends_faulty c old now new there read piece before after then left reads failed h Device (inl x) =
     let P : HubState → List ℕ → Option (List ℕ) → Type 0 = λ s bytes b. IsOpenSession c old s (Err Device) bytes left before b failed in
-    let Q : HubState → Type 0 = λ s. StandsApart c old s in
+    let Q : HubState → Type 0 = λ s. IsUnchangedApart c old s in
     let same : read ≡ read ++ piece = sym (ap (λ (xs : List ℕ). read ++ xs) x.0 ∙ append-nil read) in (
       subst (λ (s : HubState). P s (read ++ piece) then) (sym x.1) (subst (λ (xs : List ℕ). P now xs then) same (subst (λ (b : Option (List ℕ)). P now read b) (sym x.2)
           (no_more c old now there read before after reads h (Err Device) left failed tt (λ w. inl w) (λ a. a)))),
@@ -347,14 +347,14 @@ ends_faulty c old now new there read piece before after then left reads failed h
 -- or well
 pub ends_well : (c : ℕ) (old now new : HubState) (there : connection_state_of c old.connections ≡ Some new_connection_state) (read piece : List ℕ) (before after then left : Option (List ℕ)) (reads : ℕ) (failed : Type 0)
     → IsSpeaking c old now read before after reads → (b : Bool) → b ≡ false → Exchanges c now new (Ok b) piece left after then failed
-    → IsOpenSession c old new (Ok tt) (read ++ piece) left before then failed × StandsApart c old new
+    → IsOpenSession c old new (Ok tt) (read ++ piece) left before then failed × IsUnchangedApart c old new
 ends_well c old now new there read piece before after then left reads failed h true is x = absurd (differ is)
   where
     differ : true ≡ false → ⊥
     differ e = cc
 ends_well c old now new there read piece before after then left reads failed h false is (inl x) =
     let P : HubState → List ℕ → Option (List ℕ) → Type 0 = λ s bytes b. IsOpenSession c old s (Ok tt) bytes left before b failed in
-    let Q : HubState → Type 0 = λ s. StandsApart c old s in
+    let Q : HubState → Type 0 = λ s. IsUnchangedApart c old s in
     let same : read ≡ read ++ piece = sym (ap (λ (xs : List ℕ). read ++ xs) x.0 ∙ append-nil read) in (
       subst (λ (s : HubState). P s (read ++ piece) then) (sym x.1) (subst (λ (xs : List ℕ). P now xs then) same (subst (λ (b : Option (List ℕ)). P now read b) (sym x.2)
           (no_more c old now there read before after reads h (Ok tt) left failed x.3 (λ w. w) (λ a. a)))),
@@ -443,7 +443,7 @@ pub come_there : (c : ℕ) (old new : HubState) (reply : Reply) → IsCome c old
 come_there c old new reply h = ap (λ (s : HubState). connection_state_of c s.connections) h.new_is ∙ there_after_push c new_connection_state old.connections h.absent
 
 -- the going of a connection that came
-pub gone : (c : ℕ) (old first last new : HubState) (reply : Reply) (o : Outcome) → IsCome c old first reply → StandsApart c first last → IsStep last (Shut c) o new
+pub gone : (c : ℕ) (old first last new : HubState) (reply : Reply) (o : Outcome) → IsCome c old first reply → IsUnchangedApart c first last → IsStep last (Shut c) o new
     → (o ≡ Ok no_bytes) × (new ≡ old)
 gone c old first last new reply o h apart step =
     let is : (connection_state_of c last.connections) ≡ Some apart.0 = ap (λ (s : HubState). connection_state_of c s.connections) apart.1

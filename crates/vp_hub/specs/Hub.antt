@@ -20,8 +20,8 @@ use Rattle.vp_cache.specs.Cache.{CacheEntry, AreAnswersOf}
 use Rattle.vp_heads.specs.Routes.{name_index}
 use Rattle.vp_heads.specs.Replies.{too_long}
 use Rattle.vp_hub.specs.declared.source.Source.{Source}
-use Rattle.vp_hub.specs.declared.source.Ending.{Ending}
-use Rattle.vp_hub.specs.declared.source.Ending.TheVariants as ending
+use Rattle.vp_hub.specs.declared.source.StreamEnd.{StreamEnd}
+use Rattle.vp_hub.specs.declared.source.StreamEnd.TheVariants as ending
 use Rattle.vp_hub.specs.declared.connection.ConnectionState.{ConnectionState}
 use Rattle.vp_hub.specs.declared.connection.Connection.{Connection}
 use Rattle.vp_hub.specs.Pages.{Streams, IsReply}
@@ -64,13 +64,13 @@ abbrev pub no_bytes : Reply
 no_bytes = record { bytes = []; close = false }
 
 -- the end isn't marked yet
-abbrev pub is_open_end : Ending → Bool
+abbrev pub is_open_end : StreamEnd → Bool
 is_open_end ending.Open = true
 is_open_end ending.Good = false
 is_open_end (ending.Faulty f) = false
 
 -- how a stream has ended, by the answer to marking its end
-abbrev pub ending_by : Result (Unit {0}) FileFault → Ending
+abbrev pub ending_by : Result (Unit {0}) FileFault → StreamEnd
 ending_by (Ok u) = ending.Good
 ending_by (Err f) = ending.Faulty f
 

@@ -14,11 +14,11 @@ use Rattle.vp_heads.specs.declared.request.Request.{Request}
 use Rattle.vp_heads.specs.declared.request.Resource.{Resource}
 use Rattle.vp_heads.specs.declared.request.Resource.TheVariants as wanted
 use Rattle.vp_heads.specs.declared.status.Status.TheVariants.{BadRequest, NotFound, MethodNotAllowed}
-use Rattle.vp_heads.specs.Requests.{IsAsked}
+use Rattle.vp_heads.specs.Requests.{IsRequestFor}
 use Rattle.vp_heads.specs.Replies.{Content, Lines, Pixels, Faulted, Failed, reply_to}
 use Rattle.vp_hub.specs.declared.source.Source.{Source}
-use Rattle.vp_hub.specs.declared.source.Ending.{Ending}
-use Rattle.vp_hub.specs.declared.source.Ending.TheVariants.{Open, Good, Faulty}
+use Rattle.vp_hub.specs.declared.source.StreamEnd.{StreamEnd}
+use Rattle.vp_hub.specs.declared.source.StreamEnd.TheVariants.{Open, Good, Faulty}
 
 -- the names of the streams, and the streams in the same order
 pub record Streams : Type 0 where
@@ -34,7 +34,7 @@ names_text names = flat_map (λ (name : List ℕ). name ++ 10 ∷ []) names
 -- ---- a stream's information: its state, the number of whole packets, and the lines for its head once it is valid
 
 -- the fault of the stream, if it has one, which includes `Torn` after its end; else whether it has ended
-abbrev pub state_by : Ending → Option FileFault → List ℕ
+abbrev pub state_by : StreamEnd → Option FileFault → List ℕ
 state_by (Faulty f) fault = file_fault_name f
 state_by Good fault = codes "ended"
 state_by Open (Some f) = file_fault_name f
@@ -93,5 +93,5 @@ content_of s (wanted.Video k n) = picture_content true (slice_get s.sources k) n
 -- the response to a request head, and whether it closes the connection
 unfoldable pub IsReply : Streams → List ℕ → List ℕ × Bool → Type 0
 IsReply s head r =
-    (request : Request) × IsAsked s.names head request × (r ≡
+    (request : Request) × IsRequestFor s.names head request × (r ≡
     (reply_to request (content_of s request.wanted), request.closing))

@@ -9,8 +9,8 @@ use Rattle.vp_heads.specs.Routes.{name_index}
 use Rattle.vp_hub.specs.declared.event.Event.{Event}
 use Rattle.vp_hub.specs.declared.event.Event.TheVariants.{Feed, End, Open, Bytes, Shut}
 use Rattle.vp_hub.specs.declared.source.Source.{Source}
-use Rattle.vp_hub.specs.declared.source.Ending.{Ending}
-use Rattle.vp_hub.specs.declared.source.Ending.TheVariants as ending
+use Rattle.vp_hub.specs.declared.source.StreamEnd.{StreamEnd}
+use Rattle.vp_hub.specs.declared.source.StreamEnd.TheVariants as ending
 use Rattle.vp_hub.specs.Pages.{Streams}
 use Rattle.vp_hub.specs.Hub.{Outcome, HubState, initial_hub, stream_limits, ending_by}
 use Rattle.vp_hub.specs.View.{IsRun}
@@ -67,7 +67,7 @@ end_accepted names k (e ∷ es) [] = false
 end_accepted names k (e ∷ es) (o ∷ os) = accepts_end names k e o || end_accepted names k es os
 
 -- how a stream has ended: it is open before its end is marked, and then its bytes determine its fault
-abbrev pub end_by : Bool → Contents → Ending
+abbrev pub end_by : Bool → Contents → StreamEnd
 end_by false reading = ending.Open
 end_by true reading = ending_by (finish_answer reading)
 

@@ -5,7 +5,7 @@ use Rattle.std.specs.Prelude.{None, Result, Ok, Err, IsOk, All}
 use Rattle.std.specs.List.{concat}
 use Rattle.std.specs.Option.{option_to_list}
 use Rattle.std.specs.Io.KnownBytes.{Appends, IsAtEnd}
-use Rattle.vp_base.specs.Counted.{AppendsFront}
+use Rattle.vp_base.specs.Counted.{AppendsPrefix}
 use Rattle.vp_hub.specs.declared.event.Event.{Event}
 use Rattle.vp_hub.specs.declared.event.Event.TheVariants.{Open, Bytes, Shut}
 use Rattle.vp_hub.specs.declared.event.HubFault.{HubFault}
@@ -70,7 +70,7 @@ EndsBy (Err ReadTurns) last reads left = (last ≡ None) × (reads ≡ 2 ^ 20)
 abbrev pub WritesBy : Result (Unit {0}) ServeFault → Type 0 → List ℕ → Option (List ℕ) → Option (List ℕ) → Type 0
 WritesBy (Ok u) failed text before after = Appends before after text
 WritesBy (Err (Hub fault)) failed text before after = Appends before after text
-WritesBy (Err Device) failed text before after = Appends before after text ⊎ (failed × AppendsFront before after text)
+WritesBy (Err Device) failed text before after = Appends before after text ⊎ (failed × AppendsPrefix before after text)
 WritesBy (Err ReadTurns) failed text before after = Appends before after text
 
 -- the responses answer all bytes read; after a fault of the hub, a prefix of them
@@ -112,8 +112,8 @@ abbrev pub IsTurnedAway : ℕ → HubState → HubState → Result (Unit {0}) Se
 IsTurnedAway c old new o = (fault : HubFault) × IsStep old (Open c) (Err fault) new × (o ≡ Err (Hub fault))
 
 -- only the state of connection c has changed
-abbrev pub StandsApart : ℕ → HubState → HubState → Type 0
-StandsApart c old new = (state_of_connection : ConnectionState)
+abbrev pub IsUnchangedApart : ℕ → HubState → HubState → Type 0
+IsUnchangedApart c old new = (state_of_connection : ConnectionState)
     × (new ≡ record {
       streams = old.streams;
       connections = with_connection_state c state_of_connection old.connections;
@@ -137,5 +137,5 @@ Exchanges c old new (Err (Hub fault)) piece left before after failed =
     IsPiece piece × IsStep old (Bytes c piece) (Err fault) new × (after ≡ before)
 Exchanges c old new (Err Device) piece left before after failed =
     ((piece ≡ []) × (new ≡ old) × (after ≡ before))
-    ⊎ ((reply : Reply) × GetsReply c old new piece reply × failed × AppendsFront before after reply.bytes)
+    ⊎ ((reply : Reply) × GetsReply c old new piece reply × failed × AppendsPrefix before after reply.bytes)
 Exchanges c old new (Err ReadTurns) piece left before after failed = ⊥

@@ -14,19 +14,19 @@ abbrev pub connection_numbers : List Connection → List ℕ
 connection_numbers connections = map (λ x. x.number) connections
 
 -- an accepted `Open` adds the number; a `Shut` removes it
-abbrev pub standing_after : List ℕ → Event → Outcome → List ℕ
-standing_after cs (Open c) (Ok reply) = cs ++ c ∷ []
-standing_after cs (Open c) (Err fault) = cs
-standing_after cs (Shut c) o = filter (λ x. not (x == c)) cs
-standing_after cs (Bytes c piece) o = cs
-standing_after cs (Feed name piece) o = cs
-standing_after cs (End name) o = cs
+abbrev pub open_after : List ℕ → Event → Outcome → List ℕ
+open_after cs (Open c) (Ok reply) = cs ++ c ∷ []
+open_after cs (Open c) (Err fault) = cs
+open_after cs (Shut c) o = filter (λ x. not (x == c)) cs
+open_after cs (Bytes c piece) o = cs
+open_after cs (Feed name piece) o = cs
+open_after cs (End name) o = cs
 
 -- the numbers after a history, given those before it
 abbrev pub standing : List ℕ → List Event → List Outcome → List ℕ
 standing cs [] os = cs
 standing cs (e ∷ es) [] = cs
-standing cs (e ∷ es) (o ∷ os) = standing (standing_after cs e o) es os
+standing cs (e ∷ es) (o ∷ os) = standing (open_after cs e o) es os
 
 -- the number is in the list
 abbrev pub stands : ℕ → List ℕ → Bool

@@ -5,7 +5,7 @@ use Rattle.std.specs.List.{concat}
 use Rattle.vp_hub.specs.declared.connection.ConnectionState.{ConnectionState}
 use Rattle.vp_hub.specs.Hub.{Chosen, Outcome}
 use Rattle.vp_hub.specs.Heads.{AnswersHeads, IsPartial}
-use Rattle.vp_hub.specs.View.{Seen, Fed, Over, Opened, Got, Gone, Lost, Sight, See, Leads}
+use Rattle.vp_hub.specs.View.{Seen, Fed, Over, Opened, Got, Gone, Lost, ConnectionView, See, Leads}
 
 -- the bytes of all pieces
 abbrev pub bytes_seen : List Seen → List ℕ
@@ -24,7 +24,7 @@ keeps kept = record { pending = kept; closed = false }
 -- A connection with these bytes pending sees these events, starting at v. Each piece, after the pending bytes, is split
 -- into heads, which are answered at that event with the streams as they are then. `heads` are all of these heads.
 -- `rest` is the incomplete head at the end; there is none if a head closed the connection, or if it is gone or lost.
-abbrev pub AreCutInTurn : List ℕ → List Seen → Sight → List Outcome → List (List ℕ) → Option (List ℕ) → Type 0
+abbrev pub AreCutInTurn : List ℕ → List Seen → ConnectionView → List Outcome → List (List ℕ) → Option (List ℕ) → Type 0
 AreCutInTurn kept [] v os heads rest = (heads ≡ []) × (rest ≡ Some kept)
 AreCutInTurn kept (e ∷ es) v [] heads rest = ⊥
 AreCutInTurn kept (Got piece ∷ es) v (o ∷ os) heads rest =
@@ -32,11 +32,11 @@ AreCutInTurn kept (Got piece ∷ es) v (o ∷ os) heads rest =
     × AnswersHeads v.streams here (kept ++ piece) w × (o ≡ Ok (record { bytes = w.1; close = w.0.closed }))
     × Chosen w.0.closed ((later ≡ []) × (rest ≡ None))
     (AreCutInTurn w.0.pending es (record { streams = v.streams; state_of_connection = Some w.0 }) os later rest)
-AreCutInTurn kept (Fed name piece ∷ es) v (o ∷ os) heads rest = (mid : Sight) × See (Fed name piece) v (mid, o)
+AreCutInTurn kept (Fed name piece ∷ es) v (o ∷ os) heads rest = (mid : ConnectionView) × See (Fed name piece) v (mid, o)
     × AreCutInTurn kept es mid os heads rest
-AreCutInTurn kept (Over name ∷ es) v (o ∷ os) heads rest = (mid : Sight) × See (Over name) v (mid, o)
+AreCutInTurn kept (Over name ∷ es) v (o ∷ os) heads rest = (mid : ConnectionView) × See (Over name) v (mid, o)
     × AreCutInTurn kept es mid os heads rest
-AreCutInTurn kept (Opened ∷ es) v (o ∷ os) heads rest = (mid : Sight) × See Opened v (mid, o)
+AreCutInTurn kept (Opened ∷ es) v (o ∷ os) heads rest = (mid : ConnectionView) × See Opened v (mid, o)
     × AreCutInTurn kept es mid os heads rest
 AreCutInTurn kept (Gone ∷ es) v (o ∷ os) heads rest = (heads ≡ []) × (rest ≡ None)
 AreCutInTurn kept (Lost ∷ es) v (o ∷ os) heads rest = (heads ≡ []) × (rest ≡ None)
@@ -44,7 +44,7 @@ AreCutInTurn kept (Lost ∷ es) v (o ∷ os) heads rest = (heads ≡ []) × (res
 -- from its opening on, whatever happens in between, all bytes of a connection are split into request heads, each
 -- answered at the event that brings its last byte
 abbrev pub HistoriesAreCut : Type 0
-HistoriesAreCut = (es : List Seen) (v w : Sight) (os : List Outcome) → Leads es v os w
+HistoriesAreCut = (es : List Seen) (v w : ConnectionView) (os : List Outcome) → Leads es v os w
     → v.state_of_connection ≡ Some (keeps [])
     → (heads : List (List ℕ)) × (rest : Option (List ℕ)) × AreCutInTurn [] es v os heads rest
     × IfSome rest (λ r. IsPartial r × (bytes_seen es ≡ concat heads ++ r))

@@ -59,13 +59,13 @@ results_of c (e ∷ es) [] = []
 results_of c (e ∷ es) (o ∷ os) = told (seen_events c e o) o ++ results_of c es os
 
 -- the state that a connection's results depend on: the streams, and its own state
-pub record Sight : Type 0 where
+pub record ConnectionView : Type 0 where
   pub streams : Streams
   pub state_of_connection : Option ConnectionState
 
 -- the state for connection c
-abbrev pub sight : ℕ → HubState → Sight
-sight c s = record { streams = s.streams; state_of_connection = connection_state_of c s.connections }
+abbrev pub connection_view : ℕ → HubState → ConnectionView
+connection_view c s = record { streams = s.streams; state_of_connection = connection_state_of c s.connections }
 
 -- `Open` as the connection sees it
 abbrev pub open_again : Option ConnectionState → Option ConnectionState × Outcome
@@ -79,37 +79,37 @@ AsksAgain streams piece (Some state_of_connection) r = (g : ConnectionState × O
     × Gets streams piece state_of_connection g × (r ≡ (Some g.0, g.1))
 
 -- `Shut` as the connection sees it
-abbrev pub go : Option ConnectionState → Option ConnectionState × Outcome
-go None = (None, Err UnknownConn)
-go (Some state_of_connection) = (None, Ok no_bytes)
+abbrev pub removed_connection : Option ConnectionState → Option ConnectionState × Outcome
+removed_connection None = (None, Err UnknownConn)
+removed_connection (Some state_of_connection) = (None, Ok no_bytes)
 
 -- a connection whose bytes memory ran out for
-abbrev pub lose : Option ConnectionState → Option ConnectionState
-lose None = None
-lose (Some state_of_connection) = Some (record { pending = []; closed = true })
+abbrev pub closed_by_refusal : Option ConnectionState → Option ConnectionState
+closed_by_refusal None = None
+closed_by_refusal (Some state_of_connection) = Some (record { pending = []; closed = true })
 
 -- the state with these streams, and the answer
-abbrev pub with_streams_of : Sight → Streams × Outcome → Sight × Outcome
+abbrev pub with_streams_of : ConnectionView → Streams × Outcome → ConnectionView × Outcome
 with_streams_of v r = (record { streams = r.0; state_of_connection = v.state_of_connection }, r.1)
 
 -- the state with this connection, and the answer
-abbrev pub with_connection_state_of : Sight → Option ConnectionState × Outcome → Sight × Outcome
+abbrev pub with_connection_state_of : ConnectionView → Option ConnectionState × Outcome → ConnectionView × Outcome
 with_connection_state_of v r = (record { streams = v.streams; state_of_connection = r.0 }, r.1)
 
 -- one event of a view: the state after it, and its result
-abbrev pub See : Seen → Sight → Sight × Outcome → Type 0
+abbrev pub See : Seen → ConnectionView → ConnectionView × Outcome → Type 0
 See (Fed name piece) v r = r ≡ with_streams_of v (at_name (fed piece) name v.streams)
 See (Over name) v r = r ≡ with_streams_of v (at_name ended_source name v.streams)
 See Opened v r = r ≡ with_connection_state_of v (open_again v.state_of_connection)
 See (Got piece) v r = AsksAgain v.streams piece v.state_of_connection (r.0.state_of_connection, r.1)
     × (r.0.streams ≡ v.streams)
-See Gone v r = r ≡ with_connection_state_of v (go v.state_of_connection)
-See Lost v r = r ≡ with_connection_state_of v (lose v.state_of_connection, Err Memory)
+See Gone v r = r ≡ with_connection_state_of v (removed_connection v.state_of_connection)
+See Lost v r = r ≡ with_connection_state_of v (closed_by_refusal v.state_of_connection, Err Memory)
 
 -- the events of a view lead from a to b, with these results
-abbrev pub Leads : List Seen → Sight → List Outcome → Sight → Type 0
+abbrev pub Leads : List Seen → ConnectionView → List Outcome → ConnectionView → Type 0
 Leads [] a [] b = b ≡ a
-Leads (e ∷ es) a (o ∷ os) b = (mid : Sight) × See e a (mid, o) × Leads es mid os b
+Leads (e ∷ es) a (o ∷ os) b = (mid : ConnectionView) × See e a (mid, o) × Leads es mid os b
 Leads [] a (o ∷ os) b = ⊥
 Leads (e ∷ es) a [] b = ⊥
 
@@ -128,7 +128,8 @@ RunsAreJoined = (s mid new : HubState) (es fs : List Event) (os ps : List Outcom
 
 -- each connection gets the results that its view determines
 abbrev pub IsIsolated : HubState → List Event → List Outcome → HubState → Type 0
-IsIsolated s es os new = (c : ℕ) → Leads (view_of c es os) (sight c s) (results_of c es os) (sight c new)
+IsIsolated s es os new = (c : ℕ) → Leads (view_of c es os) (connection_view c s) (results_of c es os)
+    (connection_view c new)
 
 -- this holds for all runs
 abbrev pub RunsAreIsolated : Type 0
@@ -137,7 +138,8 @@ RunsAreIsolated = (s new : HubState) (es : List Event) (os : List Outcome) → I
 -- in two runs from hubs that are equal for connection c, equal views of c give equal results
 abbrev pub AnswersAlike : Type 0
 AnswersAlike = (c : ℕ) (s t : HubState) (es fs : List Event) (os ps : List Outcome) (new mid : HubState)
-    → IsRun s es os new → IsRun t fs ps mid → sight c s ≡ sight c t → view_of c es os ≡ view_of c fs ps
+    → IsRun s es os new → IsRun t fs ps mid → connection_view c s ≡ connection_view c t
+    → view_of c es os ≡ view_of c fs ps
     → results_of c es os ≡ results_of c fs ps
 
 -- the limits are equal, except for the number of cached pictures

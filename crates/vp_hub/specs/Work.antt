@@ -7,7 +7,7 @@ use Rattle.vp_cache.specs.Cache.{Cache}
 use Rattle.vp_heads.specs.declared.request.Request.{Request}
 use Rattle.vp_heads.specs.declared.request.Resource.{Resource}
 use Rattle.vp_heads.specs.declared.request.Resource.TheVariants as wanted
-use Rattle.vp_heads.specs.Requests.{IsAsked}
+use Rattle.vp_heads.specs.Requests.{IsRequestFor}
 use Rattle.vp_hub.specs.declared.source.Source.{Source}
 use Rattle.vp_hub.specs.declared.connection.ConnectionState.{ConnectionState}
 use Rattle.vp_hub.specs.declared.event.Event.{Event}
@@ -37,25 +37,25 @@ IsAfterPicture (Some s) k n old new =
     IsAfter old k n (cached k n old.entries) (answer_at s.stream.limits s.stream.reading.packets n) new
 
 -- the cache after a request for a resource
-abbrev pub IsAfterAsked : Streams → Resource → Cache → Cache → Type 0
-IsAfterAsked streams (wanted.Frame k n) old new = IsAfterPicture (slice_get streams.sources k) k n old new
-IsAfterAsked streams (wanted.Video k n) old new = IsAfterPicture (slice_get streams.sources k) k n old new
-IsAfterAsked streams _ old new = new ≡ old
+abbrev pub IsAfterRequest : Streams → Resource → Cache → Cache → Type 0
+IsAfterRequest streams (wanted.Frame k n) old new = IsAfterPicture (slice_get streams.sources k) k n old new
+IsAfterRequest streams (wanted.Video k n) old new = IsAfterPicture (slice_get streams.sources k) k n old new
+IsAfterRequest streams _ old new = new ≡ old
 
 -- ---- the bytes of a connection
 
 -- the number of packets decoded for a request, and the cache after it
 pub record IsCost (streams : Streams) (head : List ℕ) (old new : Cache) (cost : ℕ) : Type 0 where
   pub request : Request
-  pub asked : IsAsked streams.names head request
-  pub after : IsAfterAsked streams request.wanted old new
+  pub asked : IsRequestFor streams.names head request
+  pub after : IsAfterRequest streams request.wanted old new
   pub cost_is : cost ≡ cost_of streams request.wanted old
 
 -- an upper bound if memory runs out during a request; its picture may be cached or not
 pub record IsMostCost (streams : Streams) (head : List ℕ) (old new : Cache) (cost : ℕ) : Type 0 where
   pub request : Request
-  pub asked : IsAsked streams.names head request
-  pub after : (new ≡ old) ⊎ IsAfterAsked streams request.wanted old new
+  pub asked : IsRequestFor streams.names head request
+  pub after : (new ≡ old) ⊎ IsAfterRequest streams request.wanted old new
   pub cost_is : cost ≡ cost_of streams request.wanted old
 
 -- a byte costs as much as the request head that it completes, else nothing

@@ -22,4 +22,4 @@ pub use laws::{
 };
 pub use names::NewFault;
 pub use session::{ServeFault, serve_one};
-pub use source::{Ending, Source};
+pub use source::{Source, StreamEnd};

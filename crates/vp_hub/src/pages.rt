@@ -12,10 +12,10 @@ ghost use Rattle.vp_heads.specs.Replies.{Lines, reply_to};
 ghost use Rattle.vp_hub.specs.Pages.{IsReply, content_of, names_text, info_text, info_content, head_lines, state_by};
 ghost use Rattle.vp_hub.specs.Pages.{front_by, picture_by, picture_content};
 ghost use Rattle.vp_hub.specs.Hub.{AreKept, lent_source};
-ghost use Rattle.vp_hub.specs.Work.{IsAfterAsked, IsAfterPicture, IsCost, IsMostCost, cost_of, picture_cost};
+ghost use Rattle.vp_hub.specs.Work.{IsAfterRequest, IsAfterPicture, IsCost, IsMostCost, cost_of, picture_cost};
 
 use crate::picture_cache::PictureCache;
-use crate::source::{Ending, Source};
+use crate::source::{Source, StreamEnd};
 use crate::streams::Streams;
 use std::alloc::{AllocError, Global};
 use vp_base::{ByteList, Dim};
@@ -40,9 +40,9 @@ fn state_word(alloc: Global, source: &Source) -> Result<String, AllocError>
     ensures { IfOk result (λ r. string_bytes r ≡ state_by source.now.end (stream_refusal source.now.stream)) }
 {
     match source.end {
-        Ending::Faulty(fault) => format!(in alloc; "{fault}"),
-        Ending::Good => format!(in alloc; "ended"),
-        Ending::Open => match source.stream.refusal() {
+        StreamEnd::Faulty(fault) => format!(in alloc; "{fault}"),
+        StreamEnd::Good => format!(in alloc; "ended"),
+        StreamEnd::Open => match source.stream.refusal() {
             Some(fault) => format!(in alloc; "{fault}"),
             None => format!(in alloc; "open"),
         },
@@ -268,9 +268,9 @@ fn put_content(
     ensures most { OnErr result ((pictures.old.work ≤ pictures.new.work)
         × (pictures.new.work ≤ saturating_count pictures.old.work
         (cost_of streams.now request.wanted pictures.old.cache))) }
-    ensures after { OnOk result (IsAfterAsked streams.now request.wanted pictures.old.cache pictures.new.cache) }
+    ensures after { OnOk result (IsAfterRequest streams.now request.wanted pictures.old.cache pictures.new.cache) }
     ensures left { OnErr result ((pictures.new.cache ≡ pictures.old.cache)
-        ⊎ IsAfterAsked streams.now request.wanted pictures.old.cache pictures.new.cache) }
+        ⊎ IsAfterRequest streams.now request.wanted pictures.old.cache pictures.new.cache) }
     ensures kept { AreKept streams.now.sources pictures.new.cache.entries }
 {
     let _known = pictures.work;

@@ -7,7 +7,7 @@ ghost use Rattle.vp_base.specs.Counted.{HasFailed, HasRisenBy};
 ghost use Rattle.vp_hub.specs.declared.session.ServeFault.{ServeFault};
 ghost use Rattle.vp_hub.specs.Hub.{connection_state_of, new_connection_state};
 ghost use Rattle.vp_hub.specs.Names.{serve_fault_name};
-ghost use Rattle.vp_hub.specs.Sessions.{Exchanges, IsOpenSession, IsSession, IsTurnedAway, StandsApart};
+ghost use Rattle.vp_hub.specs.Sessions.{Exchanges, IsOpenSession, IsSession, IsTurnedAway, IsUnchangedApart};
 
 use crate::event::{Event, HubFault};
 use crate::hub::Hub;
@@ -97,7 +97,7 @@ fn serve_open<R: Read, W: Write>(
         × IsOpenSession conn hub.old.state hub.new.state result read (counted_remaining R.remaining reader.new)
         (counted_contents W.contents writer.old) (counted_contents W.contents writer.new)
         (HasFailed (counted_failures writer.old) (counted_failures writer.new)) }
-    ensures apart { StandsApart conn hub.old.state hub.new.state }
+    ensures apart { IsUnchangedApart conn hub.old.state hub.new.state }
     ensures device { result ≡ Err ServeFault.Device →
         HasFailed (counted_failures reader.old) (counted_failures reader.new)
         ⊎ HasFailed (counted_failures writer.old) (counted_failures writer.new) }

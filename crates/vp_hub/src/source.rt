@@ -14,7 +14,7 @@ use vp_stream::Stream;
 
 /// The end of a stream.
 #[derive(Clone, Copy, Debug, PartialEq, Eq, Drop)]
-pub enum Ending {
+pub enum StreamEnd {
     /// The end isn't marked yet.
     Open,
     /// The stream has ended without a fault.
@@ -29,7 +29,7 @@ pub struct Source {
     /// The stream.
     pub stream: Stream,
     /// Whether and how the stream has ended.
-    pub end: Ending,
+    pub end: StreamEnd,
 }
 
 /// Returns a response of no bytes.
@@ -42,10 +42,10 @@ pub(crate) fn nothing(alloc: Global) -> Reply
     }
 }
 
-fn is_open(end: Ending) -> bool
+fn is_open(end: StreamEnd) -> bool
     ensures { result ≡ is_open_end end }
 {
-    matches!(end, Ending::Open)
+    matches!(end, StreamEnd::Open)
 }
 
 /// Feeds a piece to a stream. It is refused if the stream has ended or has a fault.
@@ -84,8 +84,8 @@ pub(crate) fn end_source(alloc: Global, source: &mut Source) -> Result<Reply, Hu
         return Err(HubFault::Ended);
     }
     source.end = match source.stream.finish() {
-        Ok(()) => Ending::Good,
-        Err(fault) => Ending::Faulty(fault),
+        Ok(()) => StreamEnd::Good,
+        Err(fault) => StreamEnd::Faulty(fault),
     };
     Ok(nothing(alloc))
 }

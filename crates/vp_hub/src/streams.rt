@@ -3,14 +3,14 @@
 ghost use Rattle.std.specs.Prelude.{◌≡◌, ◌≢◌, ◌<◌, ℕ, List, Ok, Err, Some, None, Option, IsOk, IfOk, IfSome, length};
 ghost use Rattle.std.specs.Prelude.{slice_get, map};
 ghost use Rattle.vp_cache.specs.Cache.{CacheEntry};
-ghost use Rattle.vp_heads.specs.Requests.{IsAsked};
+ghost use Rattle.vp_heads.specs.Requests.{IsRequestFor};
 ghost use Rattle.vp_heads.specs.Routes.{name_index as place_in};
 ghost use Rattle.vp_hub.specs.declared.event.HubFault.TheVariants.{Memory};
 ghost use Rattle.vp_hub.specs.Hub.{AreKept, at_name, at_place, at_source, fed, ended_source, initial_hub, lent_source};
 ghost use Rattle.vp_hub.specs.Hub.{new_source, stream_limits};
 
 use crate::event::{HubFault, Reply};
-use crate::source::{Ending, Source, end_source, feed_source};
+use crate::source::{Source, StreamEnd, end_source, feed_source};
 use matchit::Router;
 use std::alloc::{AllocError, Global};
 use std::marker::Model;
@@ -58,7 +58,7 @@ fn new_sources(alloc: Global, names: &[ByteList], limits: Limits) -> Result<Vec<
     for _name in names {
         sources.push(Source {
             stream: Stream::new(alloc, limits_of_stream(limits)),
-            end: Ending::Open,
+            end: StreamEnd::Open,
         })?;
     }
     Ok(sources)
@@ -84,7 +84,7 @@ impl Streams {
 
     /// Returns the request in the bytes of a head.
     pub(crate) fn read(&self, head: &[u8]) -> Request
-        ensures { IsAsked self.now.names head.now result }
+        ensures { IsRequestFor self.now.names head.now result }
     {
         read_request(&self.router, &self.names, head)
     }

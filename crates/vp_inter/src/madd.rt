@@ -11,7 +11,7 @@ use crate::filter::load;
 use std::simd::prelude::*;
 
 /// Two weights in alternating lanes.
-pub(crate) fn by_turns(even: i16, odd: i16) -> i8x16
+pub(crate) fn interleaved_pairs(even: i16, odd: i16) -> i8x16
     requires even { IsFrom (negsuc 127) (pos 127) even }
     requires odd { IsFrom (negsuc 127) (pos 127) odd }
     ensures { AreByTurns result even odd }

@@ -10,7 +10,7 @@ ghost use Rattle.vp_inter.specs.Turns.{AreNear, AreFar, AreSix, one_of_three, ha
 
 use crate::block::put_lanes;
 use crate::filter::{ended, load};
-use crate::madd::{by_turns, turn_sums, turned_sums};
+use crate::madd::{interleaved_pairs, turn_sums, turned_sums};
 use crate::reference::reference_line;
 use std::simd::prelude::*;
 use vp_base::Plane;
@@ -46,10 +46,10 @@ pub(crate) fn paired_row_weights(weights: &[i16; 6]) -> RowWeights
     ensures { AreNear weights.now result }
 {
     RowWeights {
-        first: by_turns(weights[0], 0),
-        left: by_turns(weights[1], weights[2]),
-        right: by_turns(weights[3], weights[4]),
-        last: by_turns(0, weights[5]),
+        first: interleaved_pairs(weights[0], 0),
+        left: interleaved_pairs(weights[1], weights[2]),
+        right: interleaved_pairs(weights[3], weights[4]),
+        last: interleaved_pairs(0, weights[5]),
     }
 }
 
@@ -59,9 +59,9 @@ pub(crate) fn paired_column_weights(weights: &[i16; 6]) -> ColumnWeights
     ensures { AreFar weights.now result }
 {
     ColumnWeights {
-        first: by_turns(weights[0], weights[3]),
-        second: by_turns(weights[1], weights[4]),
-        third: by_turns(weights[2], weights[5]),
+        first: interleaved_pairs(weights[0], weights[3]),
+        second: interleaved_pairs(weights[1], weights[4]),
+        third: interleaved_pairs(weights[2], weights[5]),
     }
 }
 

@@ -8,8 +8,8 @@ use Rattle.vp_ivf.specs.declared.packet.Packet.{Packet}
 use Rattle.vp_ivf.specs.declared.packet.IvfHead.{IvfHead}
 use Rattle.vp_ivf.specs.declared.fault.FileFault.{FileFault}
 use Rattle.vp_ivf.specs.declared.fault.FileFault.TheVariants.{Signature, Codec, TooMany, PacketTooLarge}
-use Rattle.vp_ivf.specs.Ivf.{Contents, packet_size, packet_at, parsed_ivf_head, next_size, next_head, cuts, read_file, read_from, with_front, stop, resume, resume_at}
-use Rattle.vp_ivf.proofs.Cuts.{cuts-whole, cuts-stop, cuts-fault, with_front-front}
+use Rattle.vp_ivf.specs.Ivf.{Contents, packet_size, packet_at, parsed_ivf_head, next_size, next_head, cuts, read_file, read_from, with_prefix, stop, resume, resume_at}
+use Rattle.vp_ivf.proofs.Cuts.{cuts-whole, cuts-stop, cuts-fault, with_prefix-front}
 
 -- a number that stands whole in the bytes stays
 pub number-append : (k n : ℕ) (xs ys : List ℕ) → k + n ≤ length xs → little_number n (drop k (xs ++ ys)) ≡ little_number n (drop k xs)
@@ -69,10 +69,10 @@ pub stop-resume : (max n : ℕ) (h : IvfHead) (xs ys : List ℕ) → resume max 
 stop-resume max n h xs ys = refl
 
 -- the packet in front stays, whatever comes
-pub with_front-resume : (h : IvfHead) (max n : ℕ) (front : List Packet) (f : Option FileFault) (r : Contents) (ys : List ℕ)
-    → with_front front (resume_at f max r ys) ≡ resume_at f max (with_front front r) ys
-with_front-resume h max n front None r ys = with_front-front front r.packets (read_from r.head max r.left (r.rest ++ ys))
-with_front-resume h max n front (Some f) r ys = refl
+pub with_prefix-resume : (h : IvfHead) (max n : ℕ) (front : List Packet) (f : Option FileFault) (r : Contents) (ys : List ℕ)
+    → with_prefix front (resume_at f max r ys) ≡ resume_at f max (with_prefix front r) ys
+with_prefix-resume h max n front None r ys = with_prefix-front front r.packets (read_from r.head max r.left (r.rest ++ ys))
+with_prefix-resume h max n front (Some f) r ys = refl
 
 cuts_step : (h : IvfHead) (max n : ℕ) (xs ys : List ℕ) (r : Result (Option ℕ) FileFault) → next_size max (suc n) xs ≡ r
     → ((xs ys : List ℕ) → cuts (Some h) max n (xs ++ ys) ≡ resume max (cuts (Some h) max n xs) ys)
@@ -86,7 +86,7 @@ cuts_step h max n xs ys (Ok (Some s)) e later =
     let again = next_size-append max (suc n) xs ys (Ok (Some s)) e (λ x. cc) in
     let room = next_size-whole max (suc n) xs s e in
     rw (cuts-whole (Some h) max n xs s e, cuts-whole (Some h) max n (xs ++ ys) s again, packet_at-append s xs ys room, drop-append-le (12 + s) xs ys room, later (drop (12 + s) xs) ys)
-    (with_front-resume h max n (packet_at s xs ∷ []) (cuts (Some h) max n (drop (12 + s) xs)).fault (cuts (Some h) max n (drop (12 + s) xs)) ys)
+    (with_prefix-resume h max n (packet_at s xs ∷ []) (cuts (Some h) max n (drop (12 + s) xs)).fault (cuts (Some h) max n (drop (12 + s) xs)) ys)
 
 none_whole : (max : ℕ) (xs : List ℕ) (s : ℕ) → next_size max 0 xs ≡ Ok (Some s) → ⊥
 unfolding next_size

@@ -6,7 +6,7 @@ use Rattle.vp_ivf.specs.declared.packet.Packet.{Packet}
 use Rattle.vp_ivf.specs.declared.packet.IvfHead.{IvfHead}
 use Rattle.vp_ivf.specs.declared.fault.FileFault.{FileFault}
 use Rattle.vp_ivf.specs.declared.fault.FileFault.TheVariants.{TooMany, PacketTooLarge}
-use Rattle.vp_ivf.specs.Ivf.{Contents, packet_size, packet_at, next_size, next_head, cuts, read_file, with_front, stop}
+use Rattle.vp_ivf.specs.Ivf.{Contents, packet_size, packet_at, next_size, next_head, cuts, read_file, with_prefix, stop}
 
 zero_step : {A : Type 0} (short : Bool) (s : ℕ) → cond short (Ok None) (Err TooMany) ≡ Ok (Some s) → A
 zero_step true s h = cc
@@ -26,12 +26,12 @@ unfolding next_size
 next_size-size max zero b s h = zero_step (nat_lt (length b) 12) s h
 next_size-size max (suc n) b s h = size_step (nat_lt (length b) 12) (nat_lt max (packet_size b)) (nat_lt (length b) (12 + packet_size b)) (packet_size b) s h
 
-pub with_front-front : (xs ys : List Packet) (r : Contents) → with_front xs (with_front ys r) ≡ with_front (xs ++ ys) r
-with_front-front xs ys r = ap (λ ps. record r { packets = ps }) (sym (append_assoc xs ys r.packets))
+pub with_prefix-front : (xs ys : List Packet) (r : Contents) → with_prefix xs (with_prefix ys r) ≡ with_prefix (xs ++ ys) r
+with_prefix-front xs ys r = ap (λ ps. record r { packets = ps }) (sym (append_assoc xs ys r.packets))
 
 -- the cuts where a packet is whole
 pub cuts-whole : (head : Option IvfHead) (max n : ℕ) (b : List ℕ) (s : ℕ) → next_size max (suc n) b ≡ Ok (Some s)
-    → cuts head max (suc n) b ≡ with_front (packet_at s b ∷ []) (cuts head max n (drop (12 + s) b))
+    → cuts head max (suc n) b ≡ with_prefix (packet_at s b ∷ []) (cuts head max n (drop (12 + s) b))
 unfolding cuts
 cuts-whole head max n b s h = rw (h, ← next_size-size max (suc n) b s h) refl
 
@@ -49,33 +49,33 @@ cuts-fault head max (suc n) b f h = rw h refl
 pub goes_on : (head : Option IvfHead) (max left i used size : ℕ) (bytes : List ℕ) (packets : List Packet) (total : Contents)
     → i < left
     → next_size max (left - i) (drop used bytes) ≡ Ok (Some size)
-    → with_front packets (cuts head max (left - i) (drop used bytes)) ≡ total
-    → with_front (packets ++ packet_at size (drop used bytes) ∷ []) (cuts head max (left - (i + 1)) (drop (used + (12 + size)) bytes)) ≡ total
+    → with_prefix packets (cuts head max (left - i) (drop used bytes)) ≡ total
+    → with_prefix (packets ++ packet_at size (drop used bytes) ∷ []) (cuts head max (left - (i + 1)) (drop (used + (12 + size)) bytes)) ≡ total
 goes_on head max left i used size bytes packets total lt h so_far =
     let k : left - i ≡ suc (left - (i + 1)) = omega arith in
     let whole = cuts-whole head max (left - (i + 1)) (drop used bytes) size (rw (← k) h) in
-    let one : with_front packets (cuts head max (left - i) (drop used bytes)) ≡ with_front (packets ++ packet_at size (drop used bytes) ∷ []) (cuts head max (left - (i + 1)) (drop (used + (12 + size)) bytes))
-    = rw (k, whole, drop-drop (12 + size) used bytes) (with_front-front packets (packet_at size (drop used bytes) ∷ []) _) in
+    let one : with_prefix packets (cuts head max (left - i) (drop used bytes)) ≡ with_prefix (packets ++ packet_at size (drop used bytes) ∷ []) (cuts head max (left - (i + 1)) (drop (used + (12 + size)) bytes))
+    = rw (k, whole, drop-drop (12 + size) used bytes) (with_prefix-front packets (packet_at size (drop used bytes) ∷ []) _) in
     sym one ∙ so_far
 
-pub with_front-stop : (packets : List Packet) (head : Option IvfHead) (n : ℕ) (f : Option FileFault) (b : List ℕ) → with_front packets (stop head n f b) ≡ record { head = head; packets = packets; left = n; fault = f; rest = b }
-with_front-stop packets head n f b = ap (λ ps. record { head = head; packets = ps; left = n; fault = f; rest = b }) (append-nil packets)
+pub with_prefix-stop : (packets : List Packet) (head : Option IvfHead) (n : ℕ) (f : Option FileFault) (b : List ℕ) → with_prefix packets (stop head n f b) ≡ record { head = head; packets = packets; left = n; fault = f; rest = b }
+with_prefix-stop packets head n f b = ap (λ ps. record { head = head; packets = ps; left = n; fault = f; rest = b }) (append-nil packets)
 
 pub ends_waiting : (head : Option IvfHead) (max n used : ℕ) (bytes rest : List ℕ) (packets : List Packet) (total : Contents)
     → rest ≡ drop used bytes → Ok None ≡ next_size max n rest
-    → with_front packets (cuts head max n (drop used bytes)) ≡ total
+    → with_prefix packets (cuts head max n (drop used bytes)) ≡ total
     → record { head = head; packets = packets; left = n; fault = None; rest = drop used bytes } ≡ total
 ends_waiting head max n used bytes rest packets total r h so_far =
     let stopped = cuts-stop head max n (drop used bytes) (rw (← r) (sym h)) in
-    sym (with_front-stop packets head n None (drop used bytes)) ∙ (sym (ap (λ x. with_front packets x) stopped) ∙ so_far)
+    sym (with_prefix-stop packets head n None (drop used bytes)) ∙ (sym (ap (λ x. with_prefix packets x) stopped) ∙ so_far)
 
 pub ends_faulty : (head : Option IvfHead) (max n used : ℕ) (bytes rest : List ℕ) (packets : List Packet) (total : Contents) (f : FileFault)
     → rest ≡ drop used bytes → Err f ≡ next_size max n rest
-    → with_front packets (cuts head max n (drop used bytes)) ≡ total
+    → with_prefix packets (cuts head max n (drop used bytes)) ≡ total
     → record { head = head; packets = packets; left = n; fault = Some f; rest = drop used bytes } ≡ total
 ends_faulty head max n used bytes rest packets total f r h so_far =
     let stopped = cuts-fault head max n (drop used bytes) f (rw (← r) (sym h)) in
-    sym (with_front-stop packets head n (Some f) (drop used bytes)) ∙ (sym (ap (λ x. with_front packets x) stopped) ∙ so_far)
+    sym (with_prefix-stop packets head n (Some f) (drop used bytes)) ∙ (sym (ap (λ x. with_prefix packets x) stopped) ∙ so_far)
 
 -- where none may come, nothing is whole
 none_whole : {A : Type 0} (short : Bool) (size : ℕ) → Ok (Some size) ≡ cond short (Ok None) (Err TooMany) → A
@@ -85,7 +85,7 @@ none_whole false size h = cc
 -- where no more may come
 pub ends_full : (head : Option IvfHead) (max n used : ℕ) (bytes rest : List ℕ) (packets : List Packet) (total : Contents) (r : Result (Option ℕ) FileFault)
     → n ≡ 0 → rest ≡ drop used bytes → r ≡ next_size max 0 rest
-    → with_front packets (cuts head max n (drop used bytes)) ≡ total
+    → with_prefix packets (cuts head max n (drop used bytes)) ≡ total
     → record { head = head; packets = packets; left = 0; fault = result_err r; rest = drop used bytes } ≡ total
 unfolding next_size
 ends_full head max n used bytes rest packets total (Err f) z e h so_far =

@@ -7,7 +7,7 @@ use Rattle.vp_ivf.specs.declared.packet.Packet.{Packet}
 use Rattle.vp_ivf.specs.declared.packet.IvfHead.{IvfHead}
 use Rattle.vp_ivf.specs.declared.fault.FileFault.{FileFault}
 use Rattle.vp_ivf.specs.declared.fault.FileFault.TheVariants.{Signature, Codec, TooMany, PacketTooLarge, Torn, Ended}
-use Rattle.vp_ivf.specs.Ivf.{Contents, parsed_ivf_head, packet_size, packet_at, next_head, next_size, stop, with_front, cuts, read_file}
+use Rattle.vp_ivf.specs.Ivf.{Contents, parsed_ivf_head, packet_size, packet_at, next_head, next_size, stop, with_prefix, cuts, read_file}
 use Rattle.vp_ivf.specs.Laws.{IsHeadIn, IsCut, ComesWith, MayGrow, IsReadingEndedBy, KeepsLaws, ObeysLaws, IsDetermined, AreFileBytes}
 use Rattle.vp_ivf.proofs.Cuts.{cuts-whole, cuts-stop, cuts-fault}
 use Rattle.vp_ivf.proofs.Faithful.{cuts-faithful}
@@ -74,7 +74,7 @@ comes_next max n b h Ended e = absurd (grind (arith, nat_tests))
 
 -- ---- cuts end as the rest shows
 
-ended_front : (max : ℕ) (front : List Packet) (r : Contents) (fault : Option FileFault) → IsReadingEndedBy max r fault → IsReadingEndedBy max (with_front front r) fault
+ended_front : (max : ℕ) (front : List Packet) (r : Contents) (fault : Option FileFault) → IsReadingEndedBy max r fault → IsReadingEndedBy max (with_prefix front r) fault
 ended_front max front r None p = p
 ended_front max front r (Some f) p = (shows_front f max front r p.0, p.1)
 

@@ -7,7 +7,7 @@ use Rattle.vp_ivf.specs.declared.packet.Packet.{Packet}
 use Rattle.vp_ivf.specs.declared.packet.IvfHead.{IvfHead}
 use Rattle.vp_ivf.specs.declared.fault.FileFault.{FileFault}
 use Rattle.vp_ivf.specs.declared.fault.FileFault.TheVariants.{PacketTooLarge}
-use Rattle.vp_ivf.specs.Ivf.{Contents, packet_size, next_size, next_head, cuts, read_file, read_from, with_front, stop, resume, resume_at}
+use Rattle.vp_ivf.specs.Ivf.{Contents, packet_size, next_size, next_head, cuts, read_file, read_from, with_prefix, stop, resume, resume_at}
 use Rattle.vp_ivf.specs.Reader.{IsSettled}
 use Rattle.vp_ivf.proofs.Cuts.{cuts-whole, cuts-stop, cuts-fault}
 use Rattle.vp_ivf.proofs.Append.{number-append, next_size-whole, read-append, cuts-append, next_head-header}
@@ -26,7 +26,7 @@ made_of r head packets left fault rest a b c d e = rw (← a, ← b, ← c, ← 
 pub settles : (max : ℕ) (r : Contents) → r ≡ resume max r [] → IsSettled max r
 settles max r e = λ none.
     let later = read_from r.head max r.left (r.rest ++ []) in
-    let same : r ≡ with_front r.packets later = e ∙ ap (λ f. resume_at f max r []) none in
+    let same : r ≡ with_prefix r.packets later = e ∙ ap (λ f. resume_at f max r []) none in
     let empty : later.packets ≡ [] = nothing_joined r.packets later.packets (ap (λ x. x.packets) same) in
     rw (← append-nil r.rest) (made_of later _ _ _ _ _ (sym (ap (λ x. x.head) same)) empty (sym (ap (λ x. x.left) same)) (sym (ap (λ x. x.fault) same) ∙ none) (sym (ap (λ x. x.rest) same) ∙ sym (append-nil r.rest)))
 

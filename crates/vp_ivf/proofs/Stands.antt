@@ -5,7 +5,7 @@ use Rattle.vp_ivf.specs.declared.packet.Packet.{Packet}
 use Rattle.vp_ivf.specs.declared.packet.IvfHead.{IvfHead}
 use Rattle.vp_ivf.specs.declared.fault.FileFault.{FileFault}
 use Rattle.vp_ivf.specs.declared.cutting.Cutting.{Cutting}
-use Rattle.vp_ivf.specs.Ivf.{Contents, read_file, read_from, with_front, resume, resume_at, next_head, stop}
+use Rattle.vp_ivf.specs.Ivf.{Contents, read_file, read_from, with_prefix, resume, resume_at, next_head, stop}
 use Rattle.vp_ivf.specs.Cutting.{contents_of_cutting}
 use Rattle.vp_ivf.specs.Reader.{ReaderState, ReaderHistory, IsReaderAfter, without_packets, with_reader_piece, empty_reader_history, refusal, refusal_at, IsSettled}
 use Rattle.vp_ivf.proofs.Append.{read-append}
@@ -48,7 +48,7 @@ pub fed_reading : (head : Option IvfHead) (max left : ℕ) (packets newer : List
 fed_reading head max left packets newer rest piece all turned c kept is_all le is_kept t n r =
     let k : length (drop c.used all) ≡ kept = omega (arith, length-drop c.used all) in
     let back : take kept turned ≡ drop c.used all = rw t (take_at (drop c.used all) (take c.used all) kept k) in
-    rw (back, n) (ap (λ x. with_front packets x) r ∙ rw is_all refl)
+    rw (back, n) (ap (λ x. with_prefix packets x) r ∙ rw is_all refl)
 
 pub no_fault : (f : Option FileFault) (ended : Bool) → refusal_at f ended ≡ None → f ≡ None
 no_fault None ended e = refl

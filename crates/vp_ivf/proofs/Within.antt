@@ -8,7 +8,7 @@ use Rattle.vp_ivf.specs.declared.packet.Packet.{Packet}
 use Rattle.vp_ivf.specs.declared.packet.IvfHead.{IvfHead}
 use Rattle.vp_ivf.specs.declared.fault.FileFault.{FileFault}
 use Rattle.vp_ivf.specs.declared.fault.FileFault.TheVariants.{Signature, Codec, TooMany, PacketTooLarge, Torn, Ended}
-use Rattle.vp_ivf.specs.Ivf.{Contents, packet_size, parsed_ivf_head, packet_at, next_size, next_head, cuts, read_file, with_front, stop}
+use Rattle.vp_ivf.specs.Ivf.{Contents, packet_size, parsed_ivf_head, packet_at, next_size, next_head, cuts, read_file, with_prefix, stop}
 use Rattle.vp_ivf.specs.Laws.{AreFileBytes, PacketFits, AllPacketsFit, ShowsFileFault, CountsPackets, CutsWhatFits, ShowsFaults}
 use Rattle.vp_ivf.proofs.Cuts.{cuts-whole, cuts-stop, cuts-fault, next_size-size}
 use Rattle.vp_ivf.proofs.Append.{next_size-whole}
@@ -118,7 +118,7 @@ shows_next max (suc n) b h f e =
     let is = faulty_suc (length b) max (packet_size b) f _ e refl in
     rw is.0 (omega arith, is.1, is.2)
 
-pub shows_front : (f : FileFault) (max : ℕ) (front : List Packet) (r : Contents) → ShowsFileFault f max r → ShowsFileFault f max (with_front front r)
+pub shows_front : (f : FileFault) (max : ℕ) (front : List Packet) (r : Contents) → ShowsFileFault f max r → ShowsFileFault f max (with_prefix front r)
 shows_front Signature max front r s = s
 shows_front Codec max front r s = s
 shows_front TooMany max front r s = s

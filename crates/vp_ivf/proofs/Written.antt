@@ -6,7 +6,7 @@ use Rattle.byteorder.specs.Endian.{little_number, little_bytes}
 use Rattle.byteorder.specs.Numbers.{little_number-reads_back}
 use Rattle.vp_ivf.specs.declared.packet.Packet.{Packet}
 use Rattle.vp_ivf.specs.declared.packet.IvfHead.{IvfHead}
-use Rattle.vp_ivf.specs.Ivf.{Contents, packet_size, packet_at, next_size, next_head, cuts, read_file, with_front}
+use Rattle.vp_ivf.specs.Ivf.{Contents, packet_size, packet_at, next_size, next_head, cuts, read_file, with_prefix}
 use Rattle.vp_ivf.specs.Reader.{finish_answer}
 use Rattle.vp_ivf.specs.Text.{head_text, packet_head_text, packet_text, packets_text}
 use Rattle.vp_ivf.specs.Laws.{PacketFits, AllPacketsFit, IsReadBack, EndsWell, IsHead}
@@ -53,7 +53,7 @@ next-none max (suc n) = refl
 
 -- packets that stand before a rest are cut from it
 pub cuts-before : (head : Option IvfHead) (max n : ℕ) (ps : List Packet) (rest : List ℕ) → AllPacketsFit max ps → length ps ≤ n
-    → cuts head max n (packets_text ps ++ rest) ≡ with_front ps (cuts head max (n - length ps) rest)
+    → cuts head max n (packets_text ps ++ rest) ≡ with_prefix ps (cuts head max (n - length ps) rest)
 cuts-before head max n [] rest f le = let e : n - 0 ≡ n = omega arith in rw e refl
 cuts-before head max zero (p ∷ ps) rest f le = absurd (omega arith)
 cuts-before head max (suc n) (p ∷ ps) rest f le =
@@ -64,7 +64,7 @@ cuts-before head max (suc n) (p ∷ ps) rest f le =
     let back : drop (12 + length p.bytes) (text ++ tail) ≡ tail
     = drop_at text tail (12 + length p.bytes) (omega (arith, length-append (packet_head_text (length p.bytes) p.time) p.bytes, length-packet_head (length p.bytes) p.time)) in
     rw (joined, cuts-whole head max n _ (length p.bytes) (next-packet max n p tail f.0), packet-back max p tail f.0, back, e)
-    (ap (λ (r : Contents). with_front (p ∷ []) r) (cuts-before head max n ps rest f.1 (omega arith)))
+    (ap (λ (r : Contents). with_prefix (p ∷ []) r) (cuts-before head max n ps rest f.1 (omega arith)))
 
 pub cuts-text : (head : Option IvfHead) (max n : ℕ) (ps : List Packet) → AllPacketsFit max ps → length ps ≤ n
     → cuts head max n (packets_text ps) ≡ record { head = head; packets = ps; left = n - length ps; fault = None; rest = [] }

@@ -56,14 +56,14 @@ abbrev pub stop : Option IvfHead → ℕ → Option FileFault → List ℕ → C
 stop head n fault b = record { head = head; packets = []; left = n; fault = fault; rest = b }
 
 -- contents with these packets first
-abbrev pub with_front : List Packet → Contents → Contents
-with_front front r = record r { packets = front ++ r.packets }
+abbrev pub with_prefix : List Packet → Contents → Contents
+with_prefix front r = record r { packets = front ++ r.packets }
 
 -- a fault or missing bytes end the reading; else the packet precedes the packets that are read later
 abbrev pub after_next : Option IvfHead → Result (Option ℕ) FileFault → ℕ → List ℕ → Contents → Contents
 after_next head (Err fault) n b later = stop head n (Some fault) b
 after_next head (Ok None) n b later = stop head n None b
-after_next head (Ok (Some size)) n b later = with_front (packet_at size b ∷ []) later
+after_next head (Ok (Some size)) n b later = with_prefix (packet_at size b ∷ []) later
 
 -- the contents after the file header, with at most n more packets
 unfoldable pub cuts : Option IvfHead → ℕ → ℕ → List ℕ → Contents
@@ -89,7 +89,7 @@ read_from (Some head) max n b = cuts (Some head) max n b
 -- the contents after more bytes; after a fault they are not read
 abbrev pub resume_at : Option FileFault → ℕ → Contents → List ℕ → Contents
 resume_at (Some fault) max r more = record r { rest = r.rest ++ more }
-resume_at None max r more = with_front r.packets (read_from r.head max r.left (r.rest ++ more))
+resume_at None max r more = with_prefix r.packets (read_from r.head max r.left (r.rest ++ more))
 
 -- the contents of a file after more bytes
 abbrev pub resume : ℕ → Contents → List ℕ → Contents

@@ -3,7 +3,7 @@
 use Rattle.std.specs.Prelude.{ℕ, zero, suc, Bool, true, false, ◌≡◌, ◌≤◌, ◌-◌, List, [], ◌∷◌, ◌++◌, length, Option, Some}
 use Rattle.std.specs.Prelude.{None, Result, Ok, Err}
 use Rattle.std.specs.Io.KnownBytes.{Appends}
-use Rattle.vp_base.specs.Counted.{counted_contents, counted_failures, AppendsFront, HasFailed}
+use Rattle.vp_base.specs.Counted.{counted_contents, counted_failures, AppendsPrefix, HasFailed}
 use Rattle.vp_ivf.specs.declared.packet.Packet.{Packet}
 use Rattle.vp_ivf.specs.declared.packet.IvfHead.{IvfHead}
 use Rattle.vp_ivf.specs.declared.writer.Writer.{Writer}
@@ -79,7 +79,7 @@ written_bytes h = file_text h.head h.count h.packets
 -- the device contains its old contents and then the file; or a prefix of it, if the device failed
 abbrev pub IsWrittenAt : Bool → Option (List ℕ) → Option (List ℕ) → List ℕ → Type 0
 IsWrittenAt false before now text = Appends before now text
-IsWrittenAt true before now text = AppendsFront before now text
+IsWrittenAt true before now text = AppendsPrefix before now text
 
 -- without a failure the count of failed calls is unchanged; else it rose, or is saturated
 abbrev pub IsCountedAt : Bool → ℕ → ℕ → Type 0

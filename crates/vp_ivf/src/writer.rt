@@ -3,7 +3,7 @@
 ghost use Rattle.std.specs.Prelude.{◌≡◌, ◌≢◌, ◌<◌, ◌^◌, ◌+◌, ◌-◌, true, false, length, None, Some, Ok, Err, OnOk};
 ghost use Rattle.std.specs.Prelude.{OnErr, is_ok, not};
 ghost use Rattle.std.specs.Io.KnownBytes.{Appends};
-ghost use Rattle.vp_base.specs.Counted.{counted_contents, counted_failures, AppendsFront, HasFailed};
+ghost use Rattle.vp_base.specs.Counted.{counted_contents, counted_failures, AppendsPrefix, HasFailed};
 ghost use Rattle.vp_ivf.specs.Text.{head_text, packet_head_text, packet_text};
 ghost use Rattle.vp_ivf.specs.Writer.{Written, IsWriterAfter, begun, with_packet, device_name, device_contents};
 ghost use Rattle.vp_ivf.specs.Writer.{device_failures, packets_left, has_failed, packet_refusal, write_refusal};
@@ -51,7 +51,7 @@ impl<'a, W: Write> Writer<'a, W> {
             Appends (counted_contents W.contents out.entry.now) (device_contents W.contents result)
             (head_text dim.w dim.h rate scale count) }
         ensures ok_count { has_failed result ≡ false → device_failures result ≡ counted_failures out.entry.now }
-        ensures prefix { AppendsFront (counted_contents W.contents out.entry.now) (device_contents W.contents result)
+        ensures prefix { AppendsPrefix (counted_contents W.contents out.entry.now) (device_contents W.contents result)
             (head_text dim.w dim.h rate scale count) }
         ensures device { has_failed result ≡ true → HasFailed (counted_failures out.entry.now)
             (device_failures result) }
@@ -86,7 +86,7 @@ impl<'a, W: Write> Writer<'a, W> {
         ensures ok_count { packet_refusal self.old ≡ None → result ≡ Ok tt →
             device_failures self.new ≡ device_failures self.old }
         ensures prefix { packet_refusal self.old ≡ None →
-            AppendsFront (device_contents W.contents self.old) (device_contents W.contents self.new)
+            AppendsPrefix (device_contents W.contents self.old) (device_contents W.contents self.new)
             (packet_text time bytes.now) }
         ensures device { packet_refusal self.old ≡ None → result ≡ Err WriteFault.Device →
             HasFailed (device_failures self.old) (device_failures self.new) }
@@ -164,7 +164,7 @@ fn put_packet<W: Write>(out: &mut Counted<W>, time: u64, bytes: &[u8]) -> Result
     ensures ok { OnOk result (Appends (counted_contents W.contents out.old) (counted_contents W.contents out.new)
         (packet_text time bytes.now)) }
     ensures ok_count { OnOk result (counted_failures out.new ≡ counted_failures out.old) }
-    ensures prefix { AppendsFront (counted_contents W.contents out.old) (counted_contents W.contents out.new)
+    ensures prefix { AppendsPrefix (counted_contents W.contents out.old) (counted_contents W.contents out.new)
         (packet_text time bytes.now) }
     ensures device { OnErr result (HasFailed (counted_failures out.old) (counted_failures out.new)) }
 {

@@ -1,4 +1,4 @@
--- Inside the crate: two adjacent subblocks, and their residues in vectors.
+-- Private to the crate: two adjacent subblocks, and their residues in vectors.
 use Rattle.std.specs.Prelude.{◌≡◌, ℕ, ◌+◌, ◌*◌, ◌/◌, ◌<◌, ◌≤◌, ℤ, pos, List, [], ◌∷◌, nat_lt, slice_index_or}
 use Rattle.std.specs.Prelude.{unsigned_abs, if◌then◌else◌}
 use Rattle.vp_base.specs.Raster.{Raster, pixel}

@@ -1,4 +1,4 @@
--- Inside the crate: the coefficients from which the residues of a plane's subblocks are computed.
+-- Private to the crate: the coefficients from which the residues of a plane's subblocks are computed.
 use Rattle.std.specs.Prelude.{◌≡◌, ℕ, ◌+◌, ◌<◌, ◌^◌, ℤ, pos, List, ◌∷◌, replicate, Option, Some, None, slice_index_or}
 use Rattle.std.specs.Prelude.{slice_set}
 use Rattle.vp_tokens.specs.Blocks.{block_of}

@@ -1,4 +1,4 @@
--- Inside the crate: residues clamped to 16 bits, and their sums with a prediction.
+-- Private to the crate: residues clamped to 16 bits, and their sums with a prediction.
 use Rattle.std.specs.Prelude.{ℕ, ◌+◌, ◌*◌, ◌/◌, ◌%◌, ◌<◌, ◌≤◌, ◌≡◌, ℤ, pos, List, slice_index, slice_index_or}
 use Rattle.vp_base.specs.Raster.{Raster, pixel}
 use Rattle.vp_inter.specs.declared.vector.PlaneVector.{PlaneVector}

@@ -14,7 +14,7 @@ use Rattle.vp_head.specs.Tag.{IsKeyPacket, IsInterPacket, tag_of}
 use Rattle.vp_ivf.specs.declared.packet.Packet.{Packet}
 use Rattle.vp_decode.specs.Step.{DecoderState, FrameContext, ◌>>=◌, context_of, parsed_in_context, parsed, decoded, Answer, Decoder, step, after}
 use Rattle.vp_stream.specs.Answers.{answers_from}
-use Rattle.vp_stream.specs.Seeking.{AnswerValue, NoPacket, told_of, told_or_none, work_of, answer_at, state_after_packets, HasKey, IsKeyAt, IsKeyBefore, seek_start, key_before}
+use Rattle.vp_stream.specs.Seeking.{AnswerValue, NoPacket, answer_values, answer_or_none, work_of, answer_at, state_after_packets, HasKey, IsKeyAt, IsKeyBefore, seek_start, key_before}
 use Rattle.vp_stream.proofs.KeyLemmas.{is_key_before}
 
 pub state_after-append : (limits : Limits) (s : Option DecoderState) (ps qs : List Packet) → state_after_packets limits s (ps ++ qs) ≡ state_after_packets limits (state_after_packets limits s ps) qs
@@ -57,8 +57,8 @@ from_key limits ps n k p reset there key le =
     let e : n ≡ k + (n - k) = omega arith in
     let d = drop_there ps k p there in
     let s = state_after_packets limits None (take k ps) in
-    ap (λ x. told_or_none (slice_get (answers_from limits None ps) x)) e
-    ∙ ap told_or_none (answers_past limits None ps k (n - k)
+    ap (λ x. answer_or_none (slice_get (answers_from limits None ps) x)) e
+    ∙ ap answer_or_none (answers_past limits None ps k (n - k)
     ∙ (ap (λ qs. slice_get (answers_from limits s qs) (n - k)) d
     ∙ (ap (λ as_. slice_get as_ (n - k)) (answers-reset limits s p (drop (suc k) ps) reset key)
     ∙ ap (λ qs. slice_get (answers_from limits None qs) (n - k)) (sym d))))
@@ -116,8 +116,8 @@ alone limits ps n says other =
     let z : n - n ≡ 0 = omega arith in
     let same : n ≡ n + 0 = omega arith in
     let none = stays_none limits ps n says (λ k l. other k (omega arith)) in
-    ap (λ x. told_or_none (slice_get (answers_from limits None ps) x)) same
-    ∙ ap told_or_none (answers_past limits None ps n 0 ∙ ap (λ (s : Option DecoderState). slice_get (answers_from limits s (drop n ps)) 0) none)
+    ap (λ x. answer_or_none (slice_get (answers_from limits None ps) x)) same
+    ∙ ap answer_or_none (answers_past limits None ps n 0 ∙ ap (λ (s : Option DecoderState). slice_get (answers_from limits s (drop n ps)) 0) none)
     ∙ ap (λ x. answer_at limits (drop n ps) x) (sym z)
 
 -- ---- both
@@ -139,8 +139,8 @@ from_last_key limits ps n reset says = by_key limits ps n (key_before ps n) rese
 -- ---- packets that come behind
 
 pub answers_stay : (limits : Limits) (s : Option DecoderState) (ps qs : List Packet) (n : ℕ)
-    → told_or_none (slice_get (answers_from limits s ps) n) ≢ NoPacket
-    → told_or_none (slice_get (answers_from limits s (ps ++ qs)) n) ≡ told_or_none (slice_get (answers_from limits s ps) n)
+    → answer_or_none (slice_get (answers_from limits s ps) n) ≢ NoPacket
+    → answer_or_none (slice_get (answers_from limits s (ps ++ qs)) n) ≡ answer_or_none (slice_get (answers_from limits s ps) n)
 answers_stay limits s [] qs n h = absurd (h refl)
 answers_stay limits s (p ∷ ps) qs zero h = refl
 answers_stay limits s (p ∷ ps) qs (suc n) h = answers_stay limits (step limits s p.bytes).0 ps qs n h
@@ -164,27 +164,27 @@ decoded_on limits s ps i p old new bytes same_limits same_state step_is same_byt
 
 -- the answer for the last packet of a part
 last_of_part : (limits : Limits) (ps : List Packet) (first n : ℕ) (p : Packet) → first ≤ n → n < length ps → p ≡ get_or ps n p
-    → told_of (step limits (state_after_packets limits None (slice_range ps first n)) p.bytes).1 ≡ answer_at limits (drop first ps) (n - first)
+    → answer_values (step limits (state_after_packets limits None (slice_range ps first n)) p.bytes).1 ≡ answer_at limits (drop first ps) (n - first)
 last_of_part limits ps first n p order within read =
     let place : n ≡ first + (n - first) = omega arith in
     let there : p ≡ get_or (drop first ps) (n - first) p = read ∙ (ap (λ x. get_or ps x p) place ∙ sym (get_or-drop first ps (n - first) p)) in
     let some = slice_get_read (drop first ps) (length (drop first ps)) (n - first) p refl (omega (arith, length-drop first ps)) there in
-    sym (ap told_or_none (answer_there limits None (drop first ps) (n - first) p some))
+    sym (ap answer_or_none (answer_there limits None (drop first ps) (n - first) p some))
 
 pub answer_is : (limits : Limits) (ps : List Packet) (first n : ℕ) (p : Packet) (a : AnswerValue) (start now : Decoder) (bytes : List ℕ)
     → first ≤ n → n < length ps → p ≡ get_or ps n p
     → start ≡ record { limits = limits; state = None; shown = None }
     → now.limits ≡ start.limits → now.state ≡ state_after_packets start.limits start.state (slice_range ps first n)
-    → bytes ≡ (get_or ps n p).bytes → a ≡ told_of (step now.limits now.state bytes).1
+    → bytes ≡ (get_or ps n p).bytes → a ≡ answer_values (step now.limits now.state bytes).1
     → a ≡ answer_at limits (drop first ps) (n - first)
 answer_is limits ps first n p a start now bytes order within read starts same_limits same_state same_bytes e =
     let limits_are : now.limits ≡ limits = same_limits ∙ ap (λ (d : Decoder). d.limits) starts in
     let state_is : now.state ≡ state_after_packets limits None (slice_range ps first n)
     = same_state ∙ ap (λ (d : Decoder). state_after_packets d.limits d.state (slice_range ps first n)) starts in
     let bytes_are : bytes ≡ p.bytes = same_bytes ∙ ap (λ (q : Packet). q.bytes) (sym read) in
-    e ∙ (ap (λ (l : Limits). told_of (step l now.state bytes).1) limits_are
-    ∙ (ap (λ (s : Option DecoderState). told_of (step limits s bytes).1) state_is
-    ∙ (ap (λ (b : List ℕ). told_of (step limits (state_after_packets limits None (slice_range ps first n)) b).1) bytes_are
+    e ∙ (ap (λ (l : Limits). answer_values (step l now.state bytes).1) limits_are
+    ∙ (ap (λ (s : Option DecoderState). answer_values (step limits s bytes).1) state_is
+    ∙ (ap (λ (b : List ℕ). answer_values (step limits (state_after_packets limits None (slice_range ps first n)) b).1) bytes_are
     ∙ last_of_part limits ps first n p order within read)))
 
 -- ---- past the end
@@ -195,7 +195,7 @@ length-answers limits s (p ∷ ps) = ap (λ n. suc n) (length-answers limits (st
 
 pub no_answer : (limits : Limits) (ps : List Packet) (n : ℕ) → length ps ≤ n → answer_at limits ps n ≡ NoPacket
 no_answer limits ps n past =
-    ap told_or_none (slice_get_past (answers_from limits None ps) n (omega (arith, length-answers limits None ps)))
+    ap answer_or_none (slice_get_past (answers_from limits None ps) n (omega (arith, length-answers limits None ps)))
 
 pub no_work : (ps : List Packet) (n : ℕ) → length ps ≤ n → work_of ps n ≡ 0
 unfolding work_of

@@ -6,7 +6,7 @@ use Rattle.std.proofs.lemmas.List.{length-append}
 use Rattle.std.proofs.lemmas.List.Elements.{filter_map-append}
 use Rattle.vp_base.specs.declared.limits.Limits.{Limits}
 use Rattle.vp_base.specs.Image.{Image}
-use Rattle.vp_base.specs.Counted.{AppendsFront}
+use Rattle.vp_base.specs.Counted.{AppendsPrefix}
 use Rattle.vp_base.proofs.Writes.{appends_none, appends_both, front_first, front_second}
 use Rattle.vp_ivf.specs.declared.packet.Packet.{Packet}
 use Rattle.vp_ivf.specs.declared.packet.IvfHead.{IvfHead}
@@ -29,7 +29,7 @@ use Rattle.vp_stream.specs.Texts.{shown_in, text, decoded_text, pictures_of, cha
 use Rattle.vp_stream.specs.Reports.{report_of}
 use Rattle.vp_stream.specs.PacketReader.{PacketReader, IsReading, IsFront, IsStoppedBy, AreGivenAt, EndsReading, before_first_read}
 use Rattle.vp_stream.specs.Transcode.{PictureWriter, TranscodeState, with_outcome, fresh, after_packet, after_packets, answers_to, answer_to, picture_to, with_shown, fits_shown, shown_text, decode_fault_of, read_fault_by}
-use Rattle.vp_stream.specs.Written.{WritesText, WritesFront, WritesAll, IsDecodeReported, IsDecodeEndedBy}
+use Rattle.vp_stream.specs.Written.{WritesText, WritesPrefix, WritesAll, IsDecodeReported, IsDecodeEndedBy}
 use Rattle.vp_stream.proofs.CountLemmas.{count-read}
 use Rattle.vp_stream.proofs.IncomingLemmas.{at_start, headless}
 use Rattle.vp_stream.proofs.ReportLemmas.{after_packets-append, answers_to-append, packets_counted, report_of_packets}
@@ -125,7 +125,7 @@ nothing_in [] ys e = refl
 nothing_in (x ∷ xs) ys e = cc
 
 -- a front of nothing is nothing
-front_of_none : (a b : Option (List ℕ)) (xs : List ℕ) → xs ≡ [] → AppendsFront a b xs → Appends a b []
+front_of_none : (a b : Option (List ℕ)) (xs : List ℕ) → xs ≡ [] → AppendsPrefix a b xs → Appends a b []
 front_of_none a b xs e w =
     let P : List ℕ → Type 0 = λ ys. Appends a b ys in
     subst P (nothing_in w.0 w.1 (sym w.2 ∙ e)) w.3
@@ -136,7 +136,7 @@ module _ (limits : Limits) (form : Form) (source : PacketReader) (run : Transcod
   so_far = let P : List ℕ → Type 0 = λ xs. Appends before now xs in
       subst P (sym (same_text limits form source fed more given h.reading)) h.writes
 
-  stopped : IsFront limits (fed ++ more) given → WritesFront limits form (fed ++ more) before now
+  stopped : IsFront limits (fed ++ more) given → WritesPrefix limits form (fed ++ more) before now
   stopped f =
       let whole = text_of_front limits form (fed ++ more) given f in
       (text form (reading_of limits (fed ++ more)).head (shown_of limits given), whole.0, whole.1, so_far)
@@ -193,17 +193,17 @@ module _ (limits : Limits) (form : Form) (source : PacketReader) (run : Transcod
     abbrev is_front : IsFront limits (fed ++ more) (given ++ packet ∷ [])
     is_front = (later.file.reading.packets, ap (λ (x : Contents). x.packets) r.0.reading)
 
-    cut_front : (written : Option (List ℕ)) → AppendsFront now written (shown_text run.sizing head (picture_to run packet.bytes)) → WritesFront limits form (fed ++ more) before written
+    cut_front : (written : Option (List ℕ)) → AppendsPrefix now written (shown_text run.sizing head (picture_to run packet.bytes)) → WritesPrefix limits form (fed ++ more) before written
     cut_front written w =
         let so = text form (reading_of limits (fed ++ more)).head (shown_of limits given) in
         let one = shown_text run.sizing head (picture_to run packet.bytes) in
         let whole = text_of_front limits form (fed ++ more) (given ++ packet ∷ []) is_front in
-        let P : List ℕ → Type 0 = λ xs. AppendsFront before written xs in
+        let P : List ℕ → Type 0 = λ xs. AppendsPrefix before written xs in
         subst P (sym (whole.1 ∙ ap (λ xs. xs ++ whole.0) text_next))
         (front_first before written (so ++ one) whole.0 (front_second before now written so one so_far w))
 
     changed : (written : Option (List ℕ)) → fits_shown run.sizing (picture_to run packet.bytes) ≡ false
-        → AppendsFront now written (shown_text run.sizing head (picture_to run packet.bytes))
+        → AppendsPrefix now written (shown_text run.sizing head (picture_to run packet.bytes))
         → (changes_size form (pictures_of limits (fed ++ more)) ≡ true) × WritesText limits form (fed ++ more) before written
     changed written no_room w =
         let k = (reading_of limits (fed ++ more)).head in
@@ -227,7 +227,7 @@ module _ (limits : Limits) (form : Form) (source : PacketReader) (run : Transcod
     pub cut : (W : Type 0) (i : Interruption) (written : Option (List ℕ))
         → (i ≡ interrupted.Device → W)
         → (i ≡ interrupted.SizeChange → fits_shown run.sizing (picture_to run packet.bytes) ≡ false)
-        → AppendsFront now written (shown_text run.sizing head (picture_to run packet.bytes))
+        → AppendsPrefix now written (shown_text run.sizing head (picture_to run packet.bytes))
         → IsDecodeEndedBy limits form (decode_fault_of i) W (fed ++ more) before written
     cut W interrupted.SizeChange written fails change w = changed written (change refl) w
     cut W interrupted.Device written fails change w = inr (fails refl, cut_front written w)

@@ -9,10 +9,10 @@ use Rattle.vp_base.specs.declared.limits.Limits.{Limits}
 use Rattle.vp_ivf.specs.declared.packet.Packet.{Packet}
 use Rattle.vp_ivf.specs.declared.packet.IvfHead.{IvfHead}
 use Rattle.vp_ivf.specs.declared.fault.FileFault.{FileFault}
-use Rattle.vp_ivf.specs.Ivf.{Contents, next_head, cuts, read_file, read_from, resume, resume_at, with_front, stop}
+use Rattle.vp_ivf.specs.Ivf.{Contents, next_head, cuts, read_file, read_from, resume, resume_at, with_prefix, stop}
 use Rattle.vp_ivf.specs.Reader.{ReaderState, refusal, refusal_at, without_packets, finish_answer, finish_by, is_torn}
 use Rattle.vp_ivf.proofs.Append.{read-append}
-use Rattle.vp_ivf.proofs.Cuts.{with_front-front}
+use Rattle.vp_ivf.proofs.Cuts.{with_prefix-front}
 use Rattle.vp_ivf.proofs.Few.{cuts-head}
 use Rattle.vp_ivf.proofs.Growing.{keeps_packets}
 use Rattle.vp_ivf.proofs.Stands.{settled_first}
@@ -32,8 +32,8 @@ at_start limits =
 -- ---- a piece more
 
 given-resume : (given : List Packet) (f : Option FileFault) (max : ℕ) (r : Contents) (piece : List ℕ)
-    → with_front given (resume_at f max r piece) ≡ resume_at f max (with_front given r) piece
-given-resume given None max r piece = with_front-front given r.packets (read_from r.head max r.left (r.rest ++ piece))
+    → with_prefix given (resume_at f max r piece) ≡ resume_at f max (with_prefix given r) piece
+given-resume given None max r piece = with_prefix-front given r.packets (read_from r.head max r.left (r.rest ++ piece))
 given-resume given (Some f) max r piece = refl
 
 pub read_on : (limits : Limits) (s : PacketReader) (fed piece : List ℕ) (given : List Packet)
@@ -43,7 +43,7 @@ read_on limits s fed piece given h some left = record {
   reading = read-append limits.packet_bytes limits.packets fed piece
       ∙ (ap (λ (r : Contents). resume limits.packet_bytes r piece) h.reading
       ∙ (sym (given-resume given s.file.reading.fault limits.packet_bytes s.file.reading piece)
-      ∙ ap (λ (m : ℕ). with_front given (resume m s.file.reading piece)) (sym h.max)));
+      ∙ ap (λ (m : ℕ). with_prefix given (resume m s.file.reading piece)) (sym h.max)));
   unended = h.unended;
   turns = let old = h.turns in let both = length-append fed piece in omega arith;
 }
@@ -84,7 +84,7 @@ taken limits s fed given head packet h e =
       record {
         max = ap (λ (f : ReaderState). f.max) rest ∙ h.max;
         reading = h.reading ∙ (ap (λ (ps : List Packet). record s.file.reading { packets = ps }) packets
-            ∙ ap (λ (f : ReaderState). with_front (given ++ packet ∷ []) f.reading) (sym rest));
+            ∙ ap (λ (f : ReaderState). with_prefix (given ++ packet ∷ []) f.reading) (sym rest));
         unended = ap (λ (f : ReaderState). f.ended) rest ∙ h.unended;
         turns = h.turns;
       },

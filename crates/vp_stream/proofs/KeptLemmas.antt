@@ -6,7 +6,7 @@ use Rattle.vp_base.specs.declared.limits.Limits.{Limits}
 use Rattle.vp_ivf.specs.declared.packet.Packet.{Packet}
 use Rattle.vp_ivf.specs.declared.packet.IvfHead.{IvfHead}
 use Rattle.vp_ivf.specs.declared.fault.FileFault.{FileFault}
-use Rattle.vp_ivf.specs.Ivf.{Contents, next_size, next_head, cuts, read_file, read_from, with_front, resume, resume_at}
+use Rattle.vp_ivf.specs.Ivf.{Contents, next_size, next_head, cuts, read_file, read_from, with_prefix, resume, resume_at}
 use Rattle.vp_ivf.specs.Reader.{ReaderState}
 use Rattle.vp_ivf.specs.declared.fault.FeedError.{FeedError}
 use Rattle.vp_ivf.specs.declared.fault.FeedError.TheVariants.{Memory, Fault}
@@ -66,12 +66,12 @@ resume_all max r more = resumed r.fault max r more
 -- ---- packets that were taken before come in front
 
 front_resumes : (f : Option FileFault) (max : ℕ) (front : List Packet) (r : Contents) (more : List ℕ)
-    → with_front front (resume_at f max r more) ≡ resume_at f max (with_front front r) more
+    → with_prefix front (resume_at f max r more) ≡ resume_at f max (with_prefix front r) more
 front_resumes None max front r more =
     ap (λ ps. record (read_from r.head max r.left (r.rest ++ more)) { packets = ps }) (sym (append_assoc front r.packets _))
 front_resumes (Some f) max front r more = refl
 
-pub front_resume : (max : ℕ) (front : List Packet) (r : Contents) (more : List ℕ) → with_front front (resume max r more) ≡ resume max (with_front front r) more
+pub front_resume : (max : ℕ) (front : List Packet) (r : Contents) (more : List ℕ) → with_prefix front (resume max r more) ≡ resume max (with_prefix front r) more
 front_resume max front r more = front_resumes r.fault max front r more
 
 -- ---- a piece
@@ -121,7 +121,7 @@ after_taking limits old fed last before packets piece max fed_is last_is packets
     ap (λ (s : ReaderState). with_taken_packets s packets) last_is
     ∙ (ap (λ ps. record fed.reading { packets = ps }) (append-nil packets ∙ packets_are)
     ∙ (ap (λ (s : ReaderState). with_taken_packets s before) fed_is
-    ∙ (ap (λ m. with_front before (resume m old.reading piece)) max ∙ front_resume limits.packet_bytes before old.reading piece))) in
+    ∙ (ap (λ m. with_prefix before (resume m old.reading piece)) max ∙ front_resume limits.packet_bytes before old.reading piece))) in
     let ended : last.ended ≡ old.ended = ap (λ (s : ReaderState). s.ended) (last_is ∙ ap (λ (s : ReaderState). record s { reading = record s.reading { packets = [] } }) fed_is) in
     λ i. record { limits = limits; reading = reading i; ended = ended i }
 

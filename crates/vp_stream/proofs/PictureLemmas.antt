@@ -5,7 +5,7 @@ use Rattle.std.proofs.lemmas.List.{length-append}
 use Rattle.vp_base.specs.Image.{Image, i420}
 use Rattle.vp_base.specs.Raster.{pixel}
 use Rattle.vp_base.specs.Block.{numbers}
-use Rattle.vp_base.specs.Counted.{AppendsFront}
+use Rattle.vp_base.specs.Counted.{AppendsPrefix}
 use Rattle.vp_base.proofs.BlockLemmas.{length-numbers}
 use Rattle.vp_base.proofs.Writes.{appends_none, front_second}
 use Rattle.vp_y4m.specs.Text.{i420_length}
@@ -37,19 +37,19 @@ length-i420 p = three (numbers p.width p.height (pixel p.luma)) (numbers ((p.wid
     (counted p.width p.height (pixel p.luma)) (counted ((p.width + 1) / 2) ((p.height + 1) / 2) (pixel p.u)) (counted ((p.width + 1) / 2) ((p.height + 1) / 2) (pixel p.v))
 
 -- nothing is a front of all
-pub nothing_written : (old new : Option (List ℕ)) (xs : List ℕ) → new ≡ old → AppendsFront old new xs
+pub nothing_written : (old new : Option (List ℕ)) (xs : List ℕ) → new ≡ old → AppendsPrefix old new xs
 nothing_written old new xs e =
-    let P : Option (List ℕ) → Type 0 = λ b. AppendsFront old b xs in
+    let P : Option (List ℕ) → Type 0 = λ b. AppendsPrefix old b xs in
     subst P (sym e) ([], xs, refl, appends_none old)
 
 -- where there is room for a picture a front of its text is written, else nothing
-pub front_by : (room : Bool) (old new : Option (List ℕ)) (xs : List ℕ) → (room ≡ false → new ≡ old) → AppendsFront old new xs → AppendsFront old new (text_if room xs)
+pub front_by : (room : Bool) (old new : Option (List ℕ)) (xs : List ℕ) → (room ≡ false → new ≡ old) → AppendsPrefix old new xs → AppendsPrefix old new (text_if room xs)
 front_by true old new xs none w = w
 front_by false old new xs none w = nothing_written old new [] (none refl)
 
 -- after the line a front of a picture's text
-pub second_by : (old mid new : Option (List ℕ)) (line xs : List ℕ) (room : Bool) → Appends old mid line → (room ≡ false → new ≡ mid) → AppendsFront mid new xs
-    → AppendsFront old new (line ++ text_if room xs)
+pub second_by : (old mid new : Option (List ℕ)) (line xs : List ℕ) (room : Bool) → Appends old mid line → (room ≡ false → new ≡ mid) → AppendsPrefix mid new xs
+    → AppendsPrefix old new (line ++ text_if room xs)
 second_by old mid new line xs room w none f = front_second old mid new line (text_if room xs) w (front_by room mid new xs none f)
 
 abbrev size_in : ℕ × ℕ → Option (ℕ × ℕ) → ℕ × ℕ

@@ -20,7 +20,7 @@ use Rattle.vp_decode.specs.Step.{DecoderState, current_state, FrameContext, key_
 use Rattle.vp_decode.proofs.SizeLemmas.{newest_is}
 use Rattle.vp_decode.proofs.CutLemmas.{opened-is}
 use Rattle.vp_stream.specs.Answers.{answers_from}
-use Rattle.vp_stream.specs.Seeking.{told_or_none, answer_at, HasKey, IsKeyAt, IsKeyBefore, key_before, size_in, size_in_key, size_in_packet, size_at}
+use Rattle.vp_stream.specs.Seeking.{answer_or_none, answer_at, HasKey, IsKeyAt, IsKeyBefore, key_before, size_in, size_in_key, size_in_packet, size_at}
 use Rattle.vp_stream.specs.Seeking as told_is
 use Rattle.vp_stream.proofs.KeyLemmas.{is_key_before}
 use Rattle.vp_stream.proofs.AnswerLemmas.{Resets, SaysInter, drop_there, keyless, from_key}
@@ -117,7 +117,7 @@ step_sized limits s (b ∷ bs) z h none =
     decoded_sized (parsed limits s (b ∷ bs)) z
     (λ o e.
     let is = opened-is limits s (b ∷ bs) o e in
-    basis_sized o.tag.key s o.context z is.basis_is (subst (λ (r : Result Tag PacketFault). FollowsIn r s z) is.tag_is h))
+    basis_sized o.tag.key s o.context z is.context_is (subst (λ (r : Result Tag PacketFault). FollowsIn r s z) is.tag_is h))
 
 -- ---- key packets, and others
 
@@ -166,7 +166,7 @@ sized_key limits q ps (suc j) key says is_key other p e =
 -- ---- what an answer tells
 
 told_size : (o : Option Answer) (z : Option (ℕ × ℕ)) (w h : ℕ) (bytes : List ℕ) → ((p : Image) → o ≡ Some (Shown p) → z ≡ Some (size_of p))
-    → told_or_none o ≡ told_is.Shown w h bytes → z ≡ Some (w, h)
+    → answer_or_none o ≡ told_is.Shown w h bytes → z ≡ Some (w, h)
 told_size None z w h bytes f e = absurd cc
 told_size (Some Hidden) z w h bytes f e = absurd cc
 told_size (Some (Fault fault)) z w h bytes f e = absurd cc
@@ -192,7 +192,7 @@ with_key limits ps n k (Some q) w h bytes reset key says there has le other e =
     λ i a l has_key.
     let same : slice_get (q ∷ drop (suc k) ps) i ≡ slice_get ps (k + i) = ap (λ (qs : List Packet). slice_get qs i) (sym d) ∙ get_past ps k i in
     other (k + i) (omega arith) (omega arith) (rw (← same) has_key) in
-    let here : told_or_none (slice_get (answers_from limits None (q ∷ drop (suc k) ps)) (n - k)) ≡ told_is.Shown w h bytes =
+    let here : answer_or_none (slice_get (answers_from limits None (q ∷ drop (suc k) ps)) (n - k)) ≡ told_is.Shown w h bytes =
     ap (λ (qs : List Packet). answer_at limits qs (n - k)) (sym d) ∙ (sym (from_key limits ps n k q reset there has le) ∙ e) in
     told_size (slice_get (answers_from limits None (q ∷ drop (suc k) ps)) (n - k)) (size_in (tag_of limits q.bytes)) w h bytes
     (sized_key limits q (drop (suc k) ps) (n - k) key says has none) here

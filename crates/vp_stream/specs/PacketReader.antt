@@ -9,7 +9,7 @@ use Rattle.vp_ivf.specs.declared.packet.Packet.{Packet}
 use Rattle.vp_ivf.specs.declared.packet.IvfHead.{IvfHead}
 use Rattle.vp_ivf.specs.declared.fault.FileFault.{FileFault}
 use Rattle.vp_ivf.specs.declared.fault.FileFault.TheVariants.{Torn}
-use Rattle.vp_ivf.specs.Ivf.{resume, with_front}
+use Rattle.vp_ivf.specs.Ivf.{resume, with_prefix}
 use Rattle.vp_ivf.specs.Reader as ivf
 use Rattle.vp_ivf.specs.Reader.{ReaderState, without_packets, finish_answer}
 use Rattle.vp_stream.specs.declared.fault.SurveyFault.{SurveyFault}
@@ -30,7 +30,7 @@ before_first_read limits = record { file = ivf.initial_reader limits.packet_byte
 -- the state after these bytes were read and these packets returned
 pub record IsReading (limits : Limits) (s : PacketReader) (fed : List ℕ) (given : List Packet) : Type 0 where
   pub max : s.file.max ≡ limits.packet_bytes
-  pub reading : reading_of limits fed ≡ with_front given s.file.reading
+  pub reading : reading_of limits fed ≡ with_prefix given s.file.reading
   pub unended : s.file.ended ≡ false
   pub turns : 2 ^ 32 - 1 ≤ s.turns + length fed
 

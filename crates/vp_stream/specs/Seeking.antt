@@ -36,19 +36,19 @@ answer_value (code.Fault f) = Fault f
 answer_value code.NoPacket = NoPacket
 
 -- the value of the answer of the packet step
-abbrev pub told_of : StepAnswer → AnswerValue
-told_of (step_is.Shown p) = Shown p.width p.height (i420 p)
-told_of step_is.Hidden = Hidden
-told_of (step_is.Fault f) = Fault f
+abbrev pub answer_values : StepAnswer → AnswerValue
+answer_values (step_is.Shown p) = Shown p.width p.height (i420 p)
+answer_values step_is.Hidden = Hidden
+answer_values (step_is.Fault f) = Fault f
 
 -- NoPacket without an answer
-abbrev pub told_or_none : Option StepAnswer → AnswerValue
-told_or_none (Some a) = told_of a
-told_or_none None = NoPacket
+abbrev pub answer_or_none : Option StepAnswer → AnswerValue
+answer_or_none (Some a) = answer_values a
+answer_or_none None = NoPacket
 
 -- the answer for packet n when all packets are decoded one after another, the first one without a state
 abbrev pub answer_at : Limits → List Packet → ℕ → AnswerValue
-answer_at limits packets n = told_or_none (slice_get (answers_from limits None packets) n)
+answer_at limits packets n = answer_or_none (slice_get (answers_from limits None packets) n)
 
 -- the state after a list of packets
 abbrev pub state_after_packets : Limits → Option DecoderState → List Packet → Option DecoderState

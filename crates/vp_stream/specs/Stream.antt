@@ -4,7 +4,7 @@ use Rattle.std.specs.Prelude.{◌≡◌, ◌+◌, ℕ, Bool, false, List, [], �
 use Rattle.vp_base.specs.declared.limits.Limits.{Limits}
 use Rattle.vp_ivf.specs.declared.packet.Packet.{Packet}
 use Rattle.vp_ivf.specs.declared.fault.FileFault.{FileFault}
-use Rattle.vp_ivf.specs.Ivf.{Contents, stop, resume, with_front}
+use Rattle.vp_ivf.specs.Ivf.{Contents, stop, resume, with_prefix}
 use Rattle.vp_ivf.specs.Reader.{refusal_at, ended_by}
 use Rattle.vp_ivf.specs.Reader.{ReaderState}
 use Rattle.vp_stream.specs.Answers.{reading_of}
@@ -62,7 +62,7 @@ packets_of s h = (reading_of s.limits h.fed).packets
 
 -- the contents of the file, including the packets that were taken
 abbrev pub with_taken_packets : ReaderState → List Packet → Contents
-with_taken_packets r packets = with_front packets r.reading
+with_taken_packets r packets = with_prefix packets r.reading
 
 -- the packets are taken from the reader, no more than the limit, and the key packet for each of them is known
 pub record IsKept (limits : Limits) (r : ReaderState) (packets : List Packet) (keys : List (Option ℕ)) : Type 0 where

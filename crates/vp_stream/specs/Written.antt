@@ -3,7 +3,7 @@
 use Rattle.std.specs.Prelude.{◌≡◌, ◌≤◌, ◌-◌, ◌^◌, ◌⊎◌, ℕ, true, false, List, Option, Result, Ok, Err, length}
 use Rattle.std.specs.Io.KnownBytes.{Appends}
 use Rattle.vp_base.specs.declared.limits.Limits.{Limits}
-use Rattle.vp_base.specs.Counted.{AppendsFront}
+use Rattle.vp_base.specs.Counted.{AppendsPrefix}
 use Rattle.vp_ivf.specs.Reader.{finish_answer}
 use Rattle.vp_stream.specs.declared.report.Report.{Report}
 use Rattle.vp_stream.specs.declared.form.Form.{Form}
@@ -21,8 +21,8 @@ abbrev pub WritesText : Limits → Form → List ℕ → Option (List ℕ) → O
 WritesText limits form file before after = Appends before after (decoded_text limits form file)
 
 -- a prefix of the output for the file is appended, if the writer's bytes are known
-abbrev pub WritesFront : Limits → Form → List ℕ → Option (List ℕ) → Option (List ℕ) → Type 0
-WritesFront limits form file before after = AppendsFront before after (decoded_text limits form file)
+abbrev pub WritesPrefix : Limits → Form → List ℕ → Option (List ℕ) → Option (List ℕ) → Type 0
+WritesPrefix limits form file before after = AppendsPrefix before after (decoded_text limits form file)
 
 -- all output is appended, and all pictures have the required size
 abbrev pub WritesAll : Limits → Form → List ℕ → Option (List ℕ) → Option (List ℕ) → Type 0
@@ -45,10 +45,10 @@ IsDecodeEndedBy limits form (File fault) write_failed file before after =
 IsDecodeEndedBy limits form SizeChange write_failed file before after =
     (changes_size form (pictures_of limits file) ≡ true) × WritesText limits form file before after
 IsDecodeEndedBy limits form Device write_failed file before after =
-    WritesAll limits form file before after ⊎ (write_failed × WritesFront limits form file before after)
+    WritesAll limits form file before after ⊎ (write_failed × WritesPrefix limits form file before after)
 IsDecodeEndedBy limits form ReadTurns write_failed file before after =
     (2 ^ 32 - 1 ≤ length file) × WritesAll limits form file before after
-IsDecodeEndedBy limits form Memory write_failed file before after = WritesFront limits form file before after
+IsDecodeEndedBy limits form Memory write_failed file before after = WritesPrefix limits form file before after
 
 -- the result of `decode_all`: a report, or a fault
 abbrev pub IsDecodeAnswerFor : Limits → Form → Result Report DecodeFault → Type 0 → List ℕ → Option (List ℕ)

@@ -2,7 +2,7 @@
 
 ghost use Rattle.std.specs.Prelude.{◌≡◌, ◌≢◌, ◌++◌, true, false, OnOk, IfOk, Err, Some, length};
 ghost use Rattle.std.specs.Io.KnownBytes.{Appends};
-ghost use Rattle.vp_base.specs.Counted.{counted_contents, counted_failures, HasFailed, AppendsFront};
+ghost use Rattle.vp_base.specs.Counted.{counted_contents, counted_failures, HasFailed, AppendsPrefix};
 ghost use Rattle.vp_base.specs.Image.{i420};
 ghost use Rattle.vp_stream.specs.declared.fault.Interruption.{Interruption};
 ghost use Rattle.vp_y4m.specs.Text.{picture_text, i420_length};
@@ -61,7 +61,7 @@ impl PictureWriter {
         ensures change { result ≡ Err Interruption.SizeChange → fits_shown self.old decoder.now.shown ≡ false }
         ensures written { OnOk result (Appends (counted_contents W.contents writer.old)
             (counted_contents W.contents writer.new) (shown_text self.old head decoder.now.shown)) }
-        ensures prefix { AppendsFront (counted_contents W.contents writer.old)
+        ensures prefix { AppendsPrefix (counted_contents W.contents writer.old)
             (counted_contents W.contents writer.new) (shown_text self.old head decoder.now.shown) }
         ensures device { result ≡ Err Interruption.Device →
             HasFailed (counted_failures writer.old) (counted_failures writer.new) }
@@ -86,7 +86,7 @@ impl PictureWriter {
         ensures change { result ≡ Err Interruption.SizeChange → fits self.old picture.now ≡ false }
         ensures written { OnOk result (Appends (counted_contents W.contents writer.old)
             (counted_contents W.contents writer.new) (one_text self.old head picture.now)) }
-        ensures prefix { AppendsFront (counted_contents W.contents writer.old)
+        ensures prefix { AppendsPrefix (counted_contents W.contents writer.old)
             (counted_contents W.contents writer.new) (one_text self.old head picture.now) }
         ensures device { result ≡ Err Interruption.Device →
             HasFailed (counted_failures writer.old) (counted_failures writer.new) }
@@ -111,7 +111,7 @@ impl PictureWriter {
         ensures change { result ≡ Err Interruption.SizeChange → fits self.old picture.now ≡ false }
         ensures written { OnOk result (Appends (counted_contents W.contents writer.old)
             (counted_contents W.contents writer.new) (one_text self.old head picture.now)) }
-        ensures prefix { AppendsFront (counted_contents W.contents writer.old)
+        ensures prefix { AppendsPrefix (counted_contents W.contents writer.old)
             (counted_contents W.contents writer.new) (one_text self.old head picture.now) }
         ensures device { result ≡ Err Interruption.Device →
             HasFailed (counted_failures writer.old) (counted_failures writer.new) }
@@ -139,7 +139,7 @@ impl PictureWriter {
         ensures written { OnOk result (Appends (counted_contents W.contents writer.old)
             (counted_contents W.contents writer.new)
             (line_before self.old.size head dim.w dim.h ++ picture_text text.now)) }
-        ensures prefix { AppendsFront (counted_contents W.contents writer.old)
+        ensures prefix { AppendsPrefix (counted_contents W.contents writer.old)
             (counted_contents W.contents writer.new)
             (line_before self.old.size head dim.w dim.h
             ++ text_if (has_size self.old.size dim.w dim.h) (picture_text text.now)) }
@@ -166,7 +166,7 @@ impl PictureWriter {
         ensures refused { result ≢ Err Interruption.SizeChange }
         ensures written { OnOk result (Appends (counted_contents W.contents writer.old)
             (counted_contents W.contents writer.new) (line_before self.old.size head dim.w dim.h)) }
-        ensures prefix { AppendsFront (counted_contents W.contents writer.old)
+        ensures prefix { AppendsPrefix (counted_contents W.contents writer.old)
             (counted_contents W.contents writer.new) (line_before self.old.size head dim.w dim.h) }
         ensures device { result ≡ Err Interruption.Device →
             HasFailed (counted_failures writer.old) (counted_failures writer.new) }

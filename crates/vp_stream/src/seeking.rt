@@ -4,7 +4,8 @@ ghost use Rattle.std.specs.Prelude.{◌≡◌, ◌+◌, ◌-◌, ◌^◌, ◌<�
 ghost use Rattle.std.specs.Prelude.{vec_len};
 ghost use Rattle.std.specs.Vec.{vec_capacity};
 ghost use Rattle.vp_decode.specs.Step.{step};
-ghost use Rattle.vp_stream.specs.Seeking.{AreKeys, is_key, key_before, answer_value, told_of, state_after_packets};
+ghost use Rattle.vp_stream.specs.Seeking.{AreKeys, is_key, key_before, answer_value, answer_values};
+ghost use Rattle.vp_stream.specs.Seeking.{state_after_packets};
 ghost use Rattle.vp_stream.specs.Seeking.{answer_at};
 
 use crate::answer::Answer;
@@ -101,7 +102,7 @@ fn decode_each(
 /// Decodes a packet, and returns the answer for it.
 fn answer_to(alloc: Global, decoder: &mut Decoder, packet: &[u8]) -> Result<Answer, AllocError>
     ensures { IfOk result (λ a.
-        answer_value a ≡ told_of (step decoder.old.limits decoder.old.state packet.now).1) }
+        answer_value a ≡ answer_values (step decoder.old.limits decoder.old.state packet.now).1) }
 {
     let outcome = decoder.decode(packet)?;
     if let Some(picture) = decoder.picture() {

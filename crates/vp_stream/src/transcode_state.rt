@@ -2,7 +2,7 @@
 
 ghost use Rattle.std.specs.Prelude.{◌≡◌, ◌≢◌, ◌+◌, ◌^◌, ◌<◌, true, false, OnOk, Err};
 ghost use Rattle.std.specs.Io.KnownBytes.{Appends};
-ghost use Rattle.vp_base.specs.Counted.{counted_contents, counted_failures, HasFailed, AppendsFront};
+ghost use Rattle.vp_base.specs.Counted.{counted_contents, counted_failures, HasFailed, AppendsPrefix};
 ghost use Rattle.vp_stream.specs.declared.fault.Interruption.{Interruption};
 ghost use Rattle.vp_stream.specs.Transcode.{fresh, after_packet, picture_to, fits_shown, shown_text};
 
@@ -68,7 +68,7 @@ impl TranscodeState {
         ensures written { OnOk result (Appends (counted_contents W.contents writer.old)
             (counted_contents W.contents writer.new) (shown_text self.old.sizing head
             (picture_to self.old packet.now))) }
-        ensures prefix { AppendsFront (counted_contents W.contents writer.old)
+        ensures prefix { AppendsPrefix (counted_contents W.contents writer.old)
             (counted_contents W.contents writer.new) (shown_text self.old.sizing head
             (picture_to self.old packet.now)) }
         ensures device { result ≡ Err Interruption.Device →

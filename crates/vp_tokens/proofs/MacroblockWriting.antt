@@ -16,7 +16,7 @@ use Rattle.vp_tokens.specs.Blocks.{Blocks, flag_at, had_of, true_count, kind_of,
 use Rattle.vp_tokens.specs.declared.contexts.Tokens.{Tokens}
 use Rattle.vp_tokens.specs.Contexts.{above_flags, left_flags}
 use Rattle.vp_tokens.specs.Flagged.{above_flag, left_flag, by_flags}
-use Rattle.vp_tokens.specs.Written.{front_blocks}
+use Rattle.vp_tokens.specs.Written.{prefix_blocks}
 use Rattle.vp_tokens.proofs.Reading.{macroblock-is}
 use Rattle.vp_tokens.proofs.FrontLemmas.{front-more, front-all, front-none}
 
@@ -36,18 +36,18 @@ left-before left had other k same = elim (cases_eq k 0) [
   | inr some ↦ rw (same (k - 1) (omega arith)) refl
 ]
 
-had-front : (k : ℕ) (blocks : List Block) (j : ℕ) → j < k → flag_at (had_of (front_blocks k blocks)) j ≡ flag_at (had_of blocks) j
+had-front : (k : ℕ) (blocks : List Block) (j : ℕ) → j < k → flag_at (had_of (prefix_blocks k blocks)) j ≡ flag_at (had_of blocks) j
 had-front k [] j h = refl
 had-front zero (x ∷ xs) j h = absurd (omega arith)
 had-front (suc k) (x ∷ xs) zero h = refl
 had-front (suc k) (x ∷ xs) (suc j) h = had-front k xs j (omega arith)
 
 context-front : (above left : List Bool) (k : ℕ) (blocks : List Block)
-    → by_flags above left (had_of (front_blocks k blocks)) k ≡ true_count (above_flag above (had_of blocks) k) (left_flag left (had_of blocks) k)
+    → by_flags above left (had_of (prefix_blocks k blocks)) k ≡ true_count (above_flag above (had_of blocks) k) (left_flag left (had_of blocks) k)
 context-front above left k blocks =
     rw (
-      above-before above (had_of (front_blocks k blocks)) (had_of blocks) k (had-front k blocks),
-      left-before left (had_of (front_blocks k blocks)) (had_of blocks) k (had-front k blocks),
+      above-before above (had_of (prefix_blocks k blocks)) (had_of blocks) k (had-front k blocks),
+      left-before left (had_of (prefix_blocks k blocks)) (had_of blocks) k (had-front k blocks),
     ) refl
 
 -- ---- one block
@@ -63,14 +63,14 @@ there_with has_y2 (suc k) h = refl
 module _ (p : Probabilities) (has_y2 : Bool) (above left : List Bool) where
   pub block_written : (k n : ℕ) (blocks : List Block) (b : Block) {old new : Interval} → k < length blocks → is_there has_y2 k ≡ true
       → n ≡ true_count (above_flag above (had_of blocks) k) (left_flag left (had_of blocks) k) → b ≡ get_or blocks k no_tokens
-      → Writes (coefficient_block p (kind_of has_y2 k) n) old new b → Writes (block_at p has_y2 (by_flags above left) k (front_blocks k blocks)) old new (front_blocks (k + 1) blocks)
+      → Writes (coefficient_block p (kind_of has_y2 k) n) old new b → Writes (block_at p has_y2 (by_flags above left) k (prefix_blocks k blocks)) old new (prefix_blocks (k + 1) blocks)
   unfolding block_at
   block_written k n blocks b lt there e same w =
       let n' = e ∙ sym (context-front above left k blocks) in
       rw there (Writes-then _ (rw (same, n') at w) (Continues-given (front-more no_tokens k blocks lt) _))
 
   pub no_block_written : (k : ℕ) (blocks : List Block) (old : Interval) → k ≡ 0 → has_y2 ≡ false → get_or blocks 0 no_tokens ≡ no_tokens
-      → Writes (block_at p has_y2 (by_flags above left) k (front_blocks k blocks)) old old (front_blocks (k + 1) blocks)
+      → Writes (block_at p has_y2 (by_flags above left) k (prefix_blocks k blocks)) old old (prefix_blocks (k + 1) blocks)
   unfolding block_at
   no_block_written k [] old z without same = rw (z, without) (Continues-none _ _)
   no_block_written k (x ∷ xs) old z without same = rw (z, without, same) (Continues-none _ _)
@@ -81,11 +81,11 @@ pub rows-begun : {A : Type 0} (row : ℕ → A → Reader A) (a b : A) (old : In
 unfolding rows
 rows-begun row a b old same = Continues-given same old
 
-pub front_blocks-none : (blocks : List Block) → length blocks ≡ 25 → no_blocks ≡ front_blocks 0 blocks
-front_blocks-none blocks whole = sym (front-none no_tokens 0 blocks (λ k h. absurd (omega arith)) ∙ ap (λ n. replicate n no_tokens) whole)
+pub prefix_blocks-none : (blocks : List Block) → length blocks ≡ 25 → no_blocks ≡ prefix_blocks 0 blocks
+prefix_blocks-none blocks whole = sym (front-none no_tokens 0 blocks (λ k h. absurd (omega arith)) ∙ ap (λ n. replicate n no_tokens) whole)
 
-pub front_blocks-all : (blocks : List Block) (k : ℕ) → length blocks ≤ k → front_blocks k blocks ≡ blocks
-front_blocks-all blocks k whole = front-all no_tokens k blocks (λ j a b. absurd (omega arith))
+pub prefix_blocks-all : (blocks : List Block) (k : ℕ) → length blocks ≤ k → prefix_blocks k blocks ≡ blocks
+prefix_blocks-all blocks k whole = front-all no_tokens k blocks (λ j a b. absurd (omega arith))
 
 pub all_written : (p : Probabilities) (has_y2 skipped : Bool) (context : List Bool → ℕ → ℕ) (blocks : List Block) {old new : Interval} → skipped ≡ false
     → Writes (rows 25 (block_at p has_y2 context) no_blocks) old new blocks → Writes (all_blocks p has_y2 skipped context) old new blocks

@@ -59,8 +59,8 @@ end_of_block row zero = do
 end_of_block row (suc n) = give false
 
 -- the context after a token
-abbrev pub context_behind : Token → ℕ
-context_behind token_is.EndOfBlock = 0
-context_behind token_is.Zero = 0
-context_behind token_is.One = 1
-context_behind _ = 2
+abbrev pub context_after_token : Token → ℕ
+context_after_token token_is.EndOfBlock = 0
+context_after_token token_is.Zero = 0
+context_after_token token_is.One = 1
+context_after_token _ = 2

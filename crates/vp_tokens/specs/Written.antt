@@ -18,5 +18,5 @@ padded_prefix other zero (x ∷ xs) = other ∷ padded_prefix other zero xs
 padded_prefix other (suc n) (x ∷ xs) = x ∷ padded_prefix other n xs
 
 -- the blocks before block k; the others have no tokens yet
-abbrev pub front_blocks : ℕ → List Block → List Block
-front_blocks k blocks = padded_prefix no_tokens k blocks
+abbrev pub prefix_blocks : ℕ → List Block → List Block
+prefix_blocks k blocks = padded_prefix no_tokens k blocks

@@ -6,7 +6,7 @@ ghost use Rattle.vp_tokens.specs.Levels.{Probabilities, bands_of, first_of, row,
 ghost use Rattle.vp_tokens.specs.Placed.{banded};
 ghost use Rattle.vp_tokens.specs.Walks.{IsStart};
 
-use crate::sizes::{context_behind, read_signed, read_size};
+use crate::sizes::{context_after_token, read_signed, read_size};
 use crate::walks::walked;
 use std::marker::Model;
 use vp_bool::BoolDecoder;
@@ -182,7 +182,7 @@ pub(crate) fn read_block(
         if is_end(token) {
             return;
         }
-        context = context_behind(token);
+        context = context_after_token(token);
         let size = read_size(token, d);
         found.put(i, read_signed(size, d));
         from = start_after(size);

@@ -3,7 +3,7 @@
 ghost use Rattle.std.specs.Prelude.{◌≡◌, ◌≤◌, ◌<◌, ◌^◌, length, unsigned_abs};
 ghost use Rattle.vp_tables.specs.Tables.{least_size};
 ghost use Rattle.vp_tokens.specs.Levels.{bits, size, signed_level, context_after};
-ghost use Rattle.vp_tokens.specs.Walks.{context_behind};
+ghost use Rattle.vp_tokens.specs.Walks.{context_after_token};
 
 use vp_bool::BoolDecoder;
 use vp_tables::{Token, extra_probabilities, least_size};
@@ -43,7 +43,7 @@ pub(crate) fn read_size(token: Token, d: &mut BoolDecoder) -> u16
     ensures value { result ≡ (size token d.old).0 }
     ensures rest { d.new ≡ (size token d.old).1 }
     ensures small { result ≤ 2114 }
-    ensures context { context_behind token ≡ context_after result }
+    ensures context { context_after_token token ≡ context_after result }
 {
     // Each token has its own arm, so that each is compiled with its own probabilities.
     match token {
@@ -63,8 +63,8 @@ pub(crate) fn read_size(token: Token, d: &mut BoolDecoder) -> u16
 
 /// The context after a token.
 #[inline(always)]
-pub(crate) fn context_behind(token: Token) -> usize
-    ensures value { result ≡ context_behind token }
+pub(crate) fn context_after_token(token: Token) -> usize
+    ensures value { result ≡ context_after_token token }
     ensures small { result < 3 }
 {
     match token {

@@ -7,7 +7,7 @@ ghost use Rattle.vp_tokens.specs.Blocks.{Blocks, blocks_of, block_at, all_blocks
 ghost use Rattle.vp_tokens.specs.Contexts.{AreContextsAt, right};
 ghost use Rattle.vp_tokens.specs.Flagged.{by_flags};
 ghost use Rattle.vp_tokens.specs.Spelled.{AreSpelled};
-ghost use Rattle.vp_tokens.specs.Written.{front_blocks};
+ghost use Rattle.vp_tokens.specs.Written.{prefix_blocks};
 
 use crate::block::Block;
 use crate::block_writing::write_block;
@@ -29,7 +29,7 @@ fn write_at(
     requires k_in { k < 25 }
     requires spelled { AreSpelled has_y2 blocks.now }
     ensures { OnOk result (Writes (block_at probabilities.now has_y2 (by_flags above.now left.now) k
-        (front_blocks k blocks.now)) e.old e.new (front_blocks (k + 1) blocks.now)) }
+        (prefix_blocks k blocks.now)) e.old e.new (prefix_blocks (k + 1) blocks.now)) }
 {
     if k > 0 || has_y2 {
         let context = count(had_above(above, blocks, k), had_left(left, blocks, k));

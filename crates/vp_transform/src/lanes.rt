@@ -90,7 +90,7 @@ fn round(z: i32x4) -> i32x4
 }
 
 /// The inverse DCT of a block of small numbers; vectors are rows.
-pub(crate) fn turned_back(a: i32x4, b: i32x4, c: i32x4, d: i32x4) -> (i32x4, i32x4, i32x4, i32x4)
+pub(crate) fn untransposed(a: i32x4, b: i32x4, c: i32x4, d: i32x4) -> (i32x4, i32x4, i32x4, i32x4)
     requires first { LanesWithin 8192 a }
     requires second { LanesWithin 8192 b }
     requires third { LanesWithin 8192 c }
@@ -108,7 +108,7 @@ pub(crate) fn narrow_idct(block: &[i64; 16]) -> [i64; 16]
     requires { EachWithin 8192 block.now }
     ensures { result ≡ idct block.now }
 {
-    let (a, b, c, d) = turned_back(row(block, 0), row(block, 1), row(block, 2), row(block, 3));
+    let (a, b, c, d) = untransposed(row(block, 0), row(block, 1), row(block, 2), row(block, 3));
     joined(a, b, c, d)
 }
 
@@ -118,7 +118,7 @@ pub fn idct_short(block: &[i16; 16]) -> [i16; 16]
     requires { EachWithin 8191 block.now }
     ensures { result ≡ idct block.now }
 {
-    let (a, b, c, d) = turned_back(
+    let (a, b, c, d) = untransposed(
         short_row(block, 0),
         short_row(block, 1),
         short_row(block, 2),

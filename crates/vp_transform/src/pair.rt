@@ -25,7 +25,7 @@ pub fn idct_pair(a: &[i16; 16], b: &[i16; 16]) -> (i16x8, i16x8, i16x8, i16x8)
     ensures lower { result.2 ≡ row_in (idct a.now) (idct b.now) 2 }
     ensures bottom { result.3 ≡ row_in (idct a.now) (idct b.now) 3 }
 {
-    let (i0, i1, i2, i3) = by_turns(a, b);
+    let (i0, i1, i2, i3) = interleaved_pairs(a, b);
     let (i0, i1, i2, i3) = turn(i0, i1, i2, i3);
     let (i0, i1, i2, i3) = across(i0, i1, i2, i3);
     let (i0, i1, i2, i3) = turn(i0, i1, i2, i3);
@@ -34,7 +34,7 @@ pub fn idct_pair(a: &[i16; 16], b: &[i16; 16]) -> (i16x8, i16x8, i16x8, i16x8)
 }
 
 /// Interleaves the rows of two blocks: the first block is in the even lanes.
-fn by_turns(a: &[i16; 16], b: &[i16; 16]) -> (i16x8, i16x8, i16x8, i16x8)
+fn interleaved_pairs(a: &[i16; 16], b: &[i16; 16]) -> (i16x8, i16x8, i16x8, i16x8)
     requires first { EachWithin 2200 a.now }
     requires second { EachWithin 2200 b.now }
     ensures even { even_block result.0 result.1 result.2 result.3 ≡ block_from (element_at a.now) }

@@ -41,7 +41,7 @@ pub(crate) fn is_first_token(line: &[u8], word: &[u8]) -> bool
 }
 
 // The text of a token after its first byte, if that byte is `kind`.
-fn text_behind(token: &[u8], kind: u8) -> Option<&[u8]>
+fn text_after_kind(token: &[u8], kind: u8) -> Option<&[u8]>
     ensures { borrowed_text result ≡ text_after_kind kind token.now }
 {
     match token {
@@ -69,10 +69,10 @@ fn last_text(line: &[u8], kind: u8) -> Option<&[u8]>
     let mut rest = line;
     let mut last = None;
     while let Some((token, behind)) = split_token(rest) {
-        last = text_behind(token, kind).or(last);
+        last = text_after_kind(token, kind).or(last);
         rest = behind;
     }
-    text_behind(rest, kind).or(last)
+    text_after_kind(rest, kind).or(last)
 }
 
 fn all_digits(text: &[u8]) -> bool

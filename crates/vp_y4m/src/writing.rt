@@ -3,7 +3,7 @@
 ghost use Rattle.std.specs.Prelude.{◌≡◌, ◌≢◌, ◌≤◌, ◌+◌, ◌++◌, ◌↔◌, ◌⊎◌, ℕ, length, take, OnOk, OnErr, Err};
 ghost use Rattle.std.specs.Fmt.{decimal};
 ghost use Rattle.std.specs.Io.KnownBytes.{Appends};
-ghost use Rattle.vp_base.specs.Counted.{counted_contents, counted_failures, HasFailed, AppendsFront};
+ghost use Rattle.vp_base.specs.Counted.{counted_contents, counted_failures, HasFailed, AppendsPrefix};
 ghost use Rattle.vp_y4m.specs.Text.{header_text, picture_text, i420_length};
 
 use std::io::Write;
@@ -82,7 +82,7 @@ pub fn write_header<W: Write>(
         (counted_contents W.contents out.new) (header_text dim.w dim.h rate scale)) }
     ensures ok_count { OnOk result (counted_failures out.new ≡ counted_failures out.old) }
     ensures device { OnErr result (HasFailed (counted_failures out.old) (counted_failures out.new)) }
-    ensures prefix { AppendsFront (counted_contents W.contents out.old)
+    ensures prefix { AppendsPrefix (counted_contents W.contents out.old)
         (counted_contents W.contents out.new) (header_text dim.w dim.h rate scale) }
 {
     let mut line = [0; 80];
@@ -107,7 +107,7 @@ pub fn write_picture<W: Write>(
     ensures ok_count { OnOk result (counted_failures out.new ≡ counted_failures out.old) }
     ensures device { result ≡ Err PictureFault.Device
         → HasFailed (counted_failures out.old) (counted_failures out.new) }
-    ensures prefix { AppendsFront (counted_contents W.contents out.old)
+    ensures prefix { AppendsPrefix (counted_contents W.contents out.old)
         (counted_contents W.contents out.new) (picture_text bytes.now) }
 {
     if file.w != dim.w || file.h != dim.h {

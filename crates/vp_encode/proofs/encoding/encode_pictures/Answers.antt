@@ -7,7 +7,7 @@ use Rattle.vp_y4m.specs.Frames.{GivesPicture}
 use Rattle.vp_y4m.specs.Reads.{ShowsAtEnd}
 use Rattle.vp_y4m.specs.Pictures.{next_of}
 use Rattle.vp_y4m.proofs.ReadLemmas.{no_reads, one_at_most, one_at_an_answer, reads_more, reads_then}
-use Rattle.vp_encode.specs.File.{IsToldMore, numbers_to}
+use Rattle.vp_encode.specs.File.{IsWrittenFurther, numbers_to}
 use Rattle.vp_encode.specs.EncodeProgress.{IsBegun}
 use Rattle.vp_encode.proofs.FileLemmas.{ok_is_no_error, none_at_most, no_fewer, at_start, next_failed, refused_same, ended, faulty_answer, given_answer, end_answer, is_picture, at_next, told_first, told_more, few_now, within_next, within_more}
 use Rattle.vp_encode.proofs.encoding.encode_pictures.Goals as goal
@@ -60,7 +60,7 @@ returns-in_err-picture-2-clause-ends g c = λ front line.
 
 pub returns-in_err-picture-2-clause-watched : goal.returns-in_err-picture-2-clause-watched
 returns-in_err-picture-2-clause-watched g c =
-    let T : List (List ℕ) → Type 0 = λ ps. IsToldMore (g.T.Watcher.told c.args.watcher.now) (g.T.Watcher.told c.loop-picture.watcher) (numbers_to (length ps)) in
+    let T : List (List ℕ) → Type 0 = λ ps. IsWrittenFurther (g.T.Watcher.told c.args.watcher.now) (g.T.Watcher.told c.loop-picture.watcher) (numbers_to (length ps)) in
     subst T (sym c.in_err-picture-2.ensures.1) c.loop-picture.invariant.8
 
 pub loop-picture-preserved : goal.loop-picture-preserved

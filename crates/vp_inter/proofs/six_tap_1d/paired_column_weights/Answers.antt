@@ -13,12 +13,12 @@ returns c =
     let f4 : SFits w16 (get_or c.args.weights.now 4 (pos 0)) = search rules in
     let f5 : SFits w16 (get_or c.args.weights.now 5 (pos 0)) = search rules in (
       (λ j h.
-          let t = c.by_turns.ensures j h in
-          (passed w8 16 c.by_turns.result _ c.by_turns.type_inv (2 * j) (omega arith) ∙ t.0 ∙ to_z-of_z w16 _ f0, passed w8 16 c.by_turns.result _ c.by_turns.type_inv (2 * j + 1) (omega arith) ∙ t.1 ∙ to_z-of_z w16 _ f3)),
+          let t = c.interleaved_pairs.ensures j h in
+          (passed w8 16 c.interleaved_pairs.result _ c.interleaved_pairs.type_inv (2 * j) (omega arith) ∙ t.0 ∙ to_z-of_z w16 _ f0, passed w8 16 c.interleaved_pairs.result _ c.interleaved_pairs.type_inv (2 * j + 1) (omega arith) ∙ t.1 ∙ to_z-of_z w16 _ f3)),
       (λ j h.
-          let t = c.by_turns-2.ensures j h in
-          (passed w8 16 c.by_turns-2.result _ c.by_turns-2.type_inv (2 * j) (omega arith) ∙ t.0 ∙ to_z-of_z w16 _ f1, passed w8 16 c.by_turns-2.result _ c.by_turns-2.type_inv (2 * j + 1) (omega arith) ∙ t.1 ∙ to_z-of_z w16 _ f4)),
+          let t = c.interleaved_pairs-2.ensures j h in
+          (passed w8 16 c.interleaved_pairs-2.result _ c.interleaved_pairs-2.type_inv (2 * j) (omega arith) ∙ t.0 ∙ to_z-of_z w16 _ f1, passed w8 16 c.interleaved_pairs-2.result _ c.interleaved_pairs-2.type_inv (2 * j + 1) (omega arith) ∙ t.1 ∙ to_z-of_z w16 _ f4)),
       (λ j h.
-          let t = c.by_turns-3.ensures j h in
-          (passed w8 16 c.by_turns-3.result _ c.by_turns-3.type_inv (2 * j) (omega arith) ∙ t.0 ∙ to_z-of_z w16 _ f2, passed w8 16 c.by_turns-3.result _ c.by_turns-3.type_inv (2 * j + 1) (omega arith) ∙ t.1 ∙ to_z-of_z w16 _ f5)),
+          let t = c.interleaved_pairs-3.ensures j h in
+          (passed w8 16 c.interleaved_pairs-3.result _ c.interleaved_pairs-3.type_inv (2 * j) (omega arith) ∙ t.0 ∙ to_z-of_z w16 _ f2, passed w8 16 c.interleaved_pairs-3.result _ c.interleaved_pairs-3.type_inv (2 * j + 1) (omega arith) ∙ t.1 ∙ to_z-of_z w16 _ f5)),
     )

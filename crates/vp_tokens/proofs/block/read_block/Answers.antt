@@ -31,10 +31,10 @@ loop-i-preserved c =
     let more = level_more c.args.bands.now c.loop-i.i c.loop-i.context c.loop-i.from _ _ _ c.loop-i.found _ _ _ _ c.loop-i-test.true t.ensures.value t.ensures.rest (let e : is_end t.result ≡ false = cc in e)
     m.ensures.value m.ensures.rest r.ensures.value r.ensures.rest in
     record {
-      context_in = c.context_behind-context.ensures.small;
+      context_in = c.context_after_token-context.ensures.small;
       start_in = c.start_after-from.ensures.start;
       before = rw c.put.ensures (omega arith);
-      so_far = rw (c.put.ensures, to_z-of_z w16 r.result fits, c.context_behind-context.ensures.value, m.ensures.context, c.start_after-from.ensures.value) (sym more ∙ c.loop-i.invariant.so_far);
+      so_far = rw (c.put.ensures, to_z-of_z w16 r.result fits, c.context_after_token-context.ensures.value, m.ensures.context, c.start_after-from.ensures.value) (sym more ∙ c.loop-i.invariant.so_far);
     }
 
 pub returns : goal.returns

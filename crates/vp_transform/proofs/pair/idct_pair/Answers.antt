@@ -6,21 +6,21 @@ pub turn-requires-clause-even : goal.turn-requires-clause-even
 turn-requires-clause-even c =
     let x = c.args.a.now in
     let y = c.args.b.now in
-    let read = pair 2200 c.by_turns.result.0 c.by_turns.result.1 c.by_turns.result.2 c.by_turns.result.3 (omega arith) c.by_turns.ensures.even c.by_turns.ensures.odd (read-within 2200 x c.requires.first) (read-within 2200 y c.requires.second) in
+    let read = pair 2200 c.interleaved_pairs.result.0 c.interleaved_pairs.result.1 c.interleaved_pairs.result.2 c.interleaved_pairs.result.3 (omega arith) c.interleaved_pairs.ensures.even c.interleaved_pairs.ensures.odd (read-within 2200 x c.requires.first) (read-within 2200 y c.requires.second) in
     even-within 8466 (omega arith) read
 
 pub turn-requires-clause-odd : goal.turn-requires-clause-odd
 turn-requires-clause-odd c =
     let x = c.args.a.now in
     let y = c.args.b.now in
-    let read = pair 2200 c.by_turns.result.0 c.by_turns.result.1 c.by_turns.result.2 c.by_turns.result.3 (omega arith) c.by_turns.ensures.even c.by_turns.ensures.odd (read-within 2200 x c.requires.first) (read-within 2200 y c.requires.second) in
+    let read = pair 2200 c.interleaved_pairs.result.0 c.interleaved_pairs.result.1 c.interleaved_pairs.result.2 c.interleaved_pairs.result.3 (omega arith) c.interleaved_pairs.ensures.even c.interleaved_pairs.ensures.odd (read-within 2200 x c.requires.first) (read-within 2200 y c.requires.second) in
     odd-within 8466 (omega arith) read
 
 pub turn-requires-2-clause-even : goal.turn-requires-2-clause-even
 turn-requires-2-clause-even c =
     let x = c.args.a.now in
     let y = c.args.b.now in
-    let read = pair 2200 c.by_turns.result.0 c.by_turns.result.1 c.by_turns.result.2 c.by_turns.result.3 (omega arith) c.by_turns.ensures.even c.by_turns.ensures.odd (read-within 2200 x c.requires.first) (read-within 2200 y c.requires.second) in
+    let read = pair 2200 c.interleaved_pairs.result.0 c.interleaved_pairs.result.1 c.interleaved_pairs.result.2 c.interleaved_pairs.result.3 (omega arith) c.interleaved_pairs.ensures.even c.interleaved_pairs.ensures.odd (read-within 2200 x c.requires.first) (read-within 2200 y c.requires.second) in
     let once = turned_pair read c.turn.result.0 c.turn.result.1 c.turn.result.2 c.turn.result.3 1191 675 (omega arith) (omega arith) (omega arith) c.turn.ensures.even c.turn.ensures.odd in
     let crossed = crossed_pair once c.across.result.0 c.across.result.1 c.across.result.2 c.across.result.3 (omega arith) c.across.ensures.even c.across.ensures.odd in
     even-within 8466 (omega arith) crossed
@@ -29,7 +29,7 @@ pub turn-requires-2-clause-odd : goal.turn-requires-2-clause-odd
 turn-requires-2-clause-odd c =
     let x = c.args.a.now in
     let y = c.args.b.now in
-    let read = pair 2200 c.by_turns.result.0 c.by_turns.result.1 c.by_turns.result.2 c.by_turns.result.3 (omega arith) c.by_turns.ensures.even c.by_turns.ensures.odd (read-within 2200 x c.requires.first) (read-within 2200 y c.requires.second) in
+    let read = pair 2200 c.interleaved_pairs.result.0 c.interleaved_pairs.result.1 c.interleaved_pairs.result.2 c.interleaved_pairs.result.3 (omega arith) c.interleaved_pairs.ensures.even c.interleaved_pairs.ensures.odd (read-within 2200 x c.requires.first) (read-within 2200 y c.requires.second) in
     let once = turned_pair read c.turn.result.0 c.turn.result.1 c.turn.result.2 c.turn.result.3 1191 675 (omega arith) (omega arith) (omega arith) c.turn.ensures.even c.turn.ensures.odd in
     let crossed = crossed_pair once c.across.result.0 c.across.result.1 c.across.result.2 c.across.result.3 (omega arith) c.across.ensures.even c.across.ensures.odd in
     odd-within 8466 (omega arith) crossed
@@ -38,7 +38,7 @@ pub round-requires-clause-even : goal.round-requires-clause-even
 round-requires-clause-even c =
     let x = c.args.a.now in
     let y = c.args.b.now in
-    let read = pair 2200 c.by_turns.result.0 c.by_turns.result.1 c.by_turns.result.2 c.by_turns.result.3 (omega arith) c.by_turns.ensures.even c.by_turns.ensures.odd (read-within 2200 x c.requires.first) (read-within 2200 y c.requires.second) in
+    let read = pair 2200 c.interleaved_pairs.result.0 c.interleaved_pairs.result.1 c.interleaved_pairs.result.2 c.interleaved_pairs.result.3 (omega arith) c.interleaved_pairs.ensures.even c.interleaved_pairs.ensures.odd (read-within 2200 x c.requires.first) (read-within 2200 y c.requires.second) in
     let once = turned_pair read c.turn.result.0 c.turn.result.1 c.turn.result.2 c.turn.result.3 1191 675 (omega arith) (omega arith) (omega arith) c.turn.ensures.even c.turn.ensures.odd in
     let crossed = crossed_pair once c.across.result.0 c.across.result.1 c.across.result.2 c.across.result.3 (omega arith) c.across.ensures.even c.across.ensures.odd in
     let twice = turned_pair crossed c.turn-2.result.0 c.turn-2.result.1 c.turn-2.result.2 c.turn-2.result.3 4582 2596 (omega arith) (omega arith) (omega arith) c.turn-2.ensures.even c.turn-2.ensures.odd in
@@ -48,7 +48,7 @@ pub round-requires-clause-odd : goal.round-requires-clause-odd
 round-requires-clause-odd c =
     let x = c.args.a.now in
     let y = c.args.b.now in
-    let read = pair 2200 c.by_turns.result.0 c.by_turns.result.1 c.by_turns.result.2 c.by_turns.result.3 (omega arith) c.by_turns.ensures.even c.by_turns.ensures.odd (read-within 2200 x c.requires.first) (read-within 2200 y c.requires.second) in
+    let read = pair 2200 c.interleaved_pairs.result.0 c.interleaved_pairs.result.1 c.interleaved_pairs.result.2 c.interleaved_pairs.result.3 (omega arith) c.interleaved_pairs.ensures.even c.interleaved_pairs.ensures.odd (read-within 2200 x c.requires.first) (read-within 2200 y c.requires.second) in
     let once = turned_pair read c.turn.result.0 c.turn.result.1 c.turn.result.2 c.turn.result.3 1191 675 (omega arith) (omega arith) (omega arith) c.turn.ensures.even c.turn.ensures.odd in
     let crossed = crossed_pair once c.across.result.0 c.across.result.1 c.across.result.2 c.across.result.3 (omega arith) c.across.ensures.even c.across.ensures.odd in
     let twice = turned_pair crossed c.turn-2.result.0 c.turn-2.result.1 c.turn-2.result.2 c.turn-2.result.3 4582 2596 (omega arith) (omega arith) (omega arith) c.turn-2.ensures.even c.turn-2.ensures.odd in
@@ -58,7 +58,7 @@ pub returns-clause-top : goal.returns-clause-top
 returns-clause-top c =
     let x = c.args.a.now in
     let y = c.args.b.now in
-    let read = pair 2200 c.by_turns.result.0 c.by_turns.result.1 c.by_turns.result.2 c.by_turns.result.3 (omega arith) c.by_turns.ensures.even c.by_turns.ensures.odd (read-within 2200 x c.requires.first) (read-within 2200 y c.requires.second) in
+    let read = pair 2200 c.interleaved_pairs.result.0 c.interleaved_pairs.result.1 c.interleaved_pairs.result.2 c.interleaved_pairs.result.3 (omega arith) c.interleaved_pairs.ensures.even c.interleaved_pairs.ensures.odd (read-within 2200 x c.requires.first) (read-within 2200 y c.requires.second) in
     let once = turned_pair read c.turn.result.0 c.turn.result.1 c.turn.result.2 c.turn.result.3 1191 675 (omega arith) (omega arith) (omega arith) c.turn.ensures.even c.turn.ensures.odd in
     let crossed = crossed_pair once c.across.result.0 c.across.result.1 c.across.result.2 c.across.result.3 (omega arith) c.across.ensures.even c.across.ensures.odd in
     let twice = turned_pair crossed c.turn-2.result.0 c.turn-2.result.1 c.turn-2.result.2 c.turn-2.result.3 4582 2596 (omega arith) (omega arith) (omega arith) c.turn-2.ensures.even c.turn-2.ensures.odd in
@@ -69,7 +69,7 @@ pub returns-clause-upper : goal.returns-clause-upper
 returns-clause-upper c =
     let x = c.args.a.now in
     let y = c.args.b.now in
-    let read = pair 2200 c.by_turns.result.0 c.by_turns.result.1 c.by_turns.result.2 c.by_turns.result.3 (omega arith) c.by_turns.ensures.even c.by_turns.ensures.odd (read-within 2200 x c.requires.first) (read-within 2200 y c.requires.second) in
+    let read = pair 2200 c.interleaved_pairs.result.0 c.interleaved_pairs.result.1 c.interleaved_pairs.result.2 c.interleaved_pairs.result.3 (omega arith) c.interleaved_pairs.ensures.even c.interleaved_pairs.ensures.odd (read-within 2200 x c.requires.first) (read-within 2200 y c.requires.second) in
     let once = turned_pair read c.turn.result.0 c.turn.result.1 c.turn.result.2 c.turn.result.3 1191 675 (omega arith) (omega arith) (omega arith) c.turn.ensures.even c.turn.ensures.odd in
     let crossed = crossed_pair once c.across.result.0 c.across.result.1 c.across.result.2 c.across.result.3 (omega arith) c.across.ensures.even c.across.ensures.odd in
     let twice = turned_pair crossed c.turn-2.result.0 c.turn-2.result.1 c.turn-2.result.2 c.turn-2.result.3 4582 2596 (omega arith) (omega arith) (omega arith) c.turn-2.ensures.even c.turn-2.ensures.odd in
@@ -80,7 +80,7 @@ pub returns-clause-lower : goal.returns-clause-lower
 returns-clause-lower c =
     let x = c.args.a.now in
     let y = c.args.b.now in
-    let read = pair 2200 c.by_turns.result.0 c.by_turns.result.1 c.by_turns.result.2 c.by_turns.result.3 (omega arith) c.by_turns.ensures.even c.by_turns.ensures.odd (read-within 2200 x c.requires.first) (read-within 2200 y c.requires.second) in
+    let read = pair 2200 c.interleaved_pairs.result.0 c.interleaved_pairs.result.1 c.interleaved_pairs.result.2 c.interleaved_pairs.result.3 (omega arith) c.interleaved_pairs.ensures.even c.interleaved_pairs.ensures.odd (read-within 2200 x c.requires.first) (read-within 2200 y c.requires.second) in
     let once = turned_pair read c.turn.result.0 c.turn.result.1 c.turn.result.2 c.turn.result.3 1191 675 (omega arith) (omega arith) (omega arith) c.turn.ensures.even c.turn.ensures.odd in
     let crossed = crossed_pair once c.across.result.0 c.across.result.1 c.across.result.2 c.across.result.3 (omega arith) c.across.ensures.even c.across.ensures.odd in
     let twice = turned_pair crossed c.turn-2.result.0 c.turn-2.result.1 c.turn-2.result.2 c.turn-2.result.3 4582 2596 (omega arith) (omega arith) (omega arith) c.turn-2.ensures.even c.turn-2.ensures.odd in
@@ -91,7 +91,7 @@ pub returns-clause-bottom : goal.returns-clause-bottom
 returns-clause-bottom c =
     let x = c.args.a.now in
     let y = c.args.b.now in
-    let read = pair 2200 c.by_turns.result.0 c.by_turns.result.1 c.by_turns.result.2 c.by_turns.result.3 (omega arith) c.by_turns.ensures.even c.by_turns.ensures.odd (read-within 2200 x c.requires.first) (read-within 2200 y c.requires.second) in
+    let read = pair 2200 c.interleaved_pairs.result.0 c.interleaved_pairs.result.1 c.interleaved_pairs.result.2 c.interleaved_pairs.result.3 (omega arith) c.interleaved_pairs.ensures.even c.interleaved_pairs.ensures.odd (read-within 2200 x c.requires.first) (read-within 2200 y c.requires.second) in
     let once = turned_pair read c.turn.result.0 c.turn.result.1 c.turn.result.2 c.turn.result.3 1191 675 (omega arith) (omega arith) (omega arith) c.turn.ensures.even c.turn.ensures.odd in
     let crossed = crossed_pair once c.across.result.0 c.across.result.1 c.across.result.2 c.across.result.3 (omega arith) c.across.ensures.even c.across.ensures.odd in
     let twice = turned_pair crossed c.turn-2.result.0 c.turn-2.result.1 c.turn-2.result.2 c.turn-2.result.3 4582 2596 (omega arith) (omega arith) (omega arith) c.turn-2.ensures.even c.turn-2.ensures.odd in

@@ -12,7 +12,7 @@ use denote.RawPtr.{null_ptr}
 use denote.Steps.{nothing}
 use denote.Triple.Walked.{Stays}
 use Rattle.std.proofs.raw_atomic.Walks.{proved_at, leaves}
-use Rattle.vp8_c.specs.Slot.{MaybeHeld}
+use Rattle.vp8_c.specs.Slot.{MaybeHandleValue}
 use Rattle.vp8_c.proofs.Values.{slot_in, word}
 use Rattle.vp8_c.specs.contracts.slot.Slot.empty as f
 use Rattle.vp8_c.proofs.slot.Slot.empty.Statement.{statement}
@@ -23,7 +23,7 @@ stayed = tt
 
 pub empty_spec : {M : Type 1} → statement M
 empty_spec 𝓤 𝓛 𝓜 𝓡 wired =
-    let c = f.clauses 𝓛 𝓜.mem 𝓡.returns in let none : MaybeHeld = None in
+    let c = f.clauses 𝓛 𝓜.mem 𝓡.returns in let none : MaybeHandleValue = None in
     proved_at 𝓛 f.ended stayed c 𝓜 𝓡 tt f.Key.name code.function (code.unfolded 𝓤 𝓛.H 𝓜 𝓡 wired) (λ z are.
     qed 𝓛 ((‵ ftrue ⊛ ‵ ftrue) ∷ ‵ ftrue ∷ []) ∵ split ! $
     enter ! _ _ _ _ _ $ alloc_all ! (λ l. pass_all ! refl tt $

@@ -26,7 +26,7 @@ use denote.Triple.Walked.{Stays, stay_dropped, walk_of}
 use Rattle.core.proofs.alloc.Calls.{Goes-blank, handle_tells}
 use Rattle.std.proofs.raw_atomic.Walks.{proved_at, leaves}
 use Rattle.std_alloc.specs.Box.Ownership.{box_owns}
-use Rattle.vp8_c.specs.Slot.{slot_owns, MaybeHeld}
+use Rattle.vp8_c.specs.Slot.{slot_owns, MaybeHandleValue}
 use Rattle.vp8_c.proofs.Values.{slot_out, word, both, al, parts_in, parts_good}
 use Rattle.vp8_c.specs.contracts.handle_value.HandleValue as held_type
 use Rattle.vp8_c.specs.contracts.slot.Slot as slot
@@ -50,7 +50,7 @@ into_parts_spec 𝓤 𝓛 𝓜 𝓡 wired =
     qed 𝓛 ((‵ ftrue ⊛ ‵ (owns (slot.the_row ∷ heap.the_row ∷ []) z.0.3 z.0.4)) ∷ raw (fact 𝓤 (IsSome d.held)) ∷ []) ∵ move ! (1 ∷ []) $ heard ! (IsSome d.held) (λ there.
     let x = (some_of d.held there).0 in let held_is : d.held ≡ Some x = (some_of d.held there).1 in
     split ! $ move ! (1 ∷ []) $ fsplit ! $ move ! (1 ∷ []) $ fsplit ! $ move ! (2 ∷ []) $
-    slot_out ! d z.0.4.0 (λ ws. rewrite ! 0 (λ (h : MaybeHeld). ‵ (slot_owns d.at h)) held_is refl $
+    slot_out ! d z.0.4.0 (λ ws. rewrite ! 0 (λ (h : MaybeHandleValue). ‵ (slot_owns d.at h)) held_is refl $
     in_a_block ! d.at (λ p. box_owns (ghosts.dealloc_token a) held_type.the_row p x) (fst∗ 𝓤 (never 𝓤) (sem 𝓛 (ghosts.dealloc_token a (bare (lone (held_type.the_row).mir)) null_ptr))) (λ b o e.
     move ! (1 ∷ []) $ handle_tells (al held_type.the_row heap.the_row the_row_laws ghosts) ! a z.0.4.1.0 (λ h us fits.
     let w : Val = word (block_ptr b o) in

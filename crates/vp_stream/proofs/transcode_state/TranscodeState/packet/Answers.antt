@@ -1,6 +1,6 @@
 use Rattle.std.proofs.Common.{◌≡◌, ◌∙◌, ℕ, List, subst, ap}
 use Rattle.std.specs.Io.KnownBytes.{Appends}
-use Rattle.vp_base.specs.Counted.{counted_contents, AppendsFront}
+use Rattle.vp_base.specs.Counted.{counted_contents, AppendsPrefix}
 use Rattle.vp_ivf.specs.declared.packet.IvfHead.{IvfHead}
 use Rattle.vp_decode.specs.Step.{Decoder, step, after}
 use Rattle.vp_stream.specs.declared.report.Report.{Report}
@@ -23,6 +23,6 @@ returns-clause-written g c =
 
 pub returns-clause-prefix : goal.returns-clause-prefix
 returns-clause-prefix g c =
-    let P : List ℕ → Type 0 = λ xs. AppendsFront (counted_contents g.W.Write.contents c.args.writer.now) (counted_contents g.W.Write.contents c.write_shown.new.writer) xs in
+    let P : List ℕ → Type 0 = λ xs. AppendsPrefix (counted_contents g.W.Write.contents c.args.writer.now) (counted_contents g.W.Write.contents c.write_shown.new.writer) xs in
     subst P (same_text c.self.inside.decoder c.decode.new.self c.self.inside.pictures c.self.inside.report c.args.self.now c.args.packet.now c.args.head c.self.view_is c.in_ok-outcome.ensures.after)
     c.in_ok-write_shown.ensures.prefix

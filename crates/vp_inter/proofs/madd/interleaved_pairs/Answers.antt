@@ -1,5 +1,5 @@
 use Rattle.vp_inter.proofs.LongLanes.{by_eight, turned}
-use Rattle.vp_inter.proofs.madd.by_turns.Goals as goal
+use Rattle.vp_inter.proofs.madd.interleaved_pairs.Goals as goal
 
 pub returns : goal.returns
 returns c =

@@ -1,7 +1,7 @@
 use Rattle.std.proofs.Common.{refl, arith}
 use Rattle.vp_transform.proofs.Eights.{signed_block, in_first, in_second, once}
 use Rattle.vp_transform.proofs.Vectors.{sixteen}
-use Rattle.vp_transform.proofs.pair.by_turns.Goals as goal
+use Rattle.vp_transform.proofs.pair.interleaved_pairs.Goals as goal
 
 pub returns-clause-even : goal.returns-clause-even
 returns-clause-even c =

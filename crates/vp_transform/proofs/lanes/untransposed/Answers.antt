@@ -4,7 +4,7 @@ use Rattle.vp_transform.specs.Narrow.{LanesWithin}
 use Rattle.vp_transform.specs.Transform.{turned, vertical, horizontal, idct}
 use Rattle.vp_transform.proofs.Along.{get, turned_along, rows_along}
 use Rattle.vp_transform.proofs.Vectors.{handed, passes, small_passes, within, column_is, turned_across, turned-within, lanes-within, rounded_across}
-use Rattle.vp_transform.proofs.lanes.turned_back.Goals as goal
+use Rattle.vp_transform.proofs.lanes.untransposed.Goals as goal
 
 pub turn-requires-clause-first : goal.turn-requires-clause-first
 turn-requires-clause-first c = within 8192 40960 (passes c.args.a _ c.well_formed.0) (omega arith) c.requires.first
