@@ -139,12 +139,12 @@ fn decode_command<'a>(alloc: Global) -> Result<Command<'a>, AllocError>
     ensures local { IfOk result (λ c. (fields_of c).has_globals ≡ false) }
 {
     let command = Command::new(alloc, "decode").about(
-        "Decodes an IVF file into the pictures that are shown, one after another",
+        "Decodes an IVF file and writes each shown picture, one after another",
     );
     let y4m = flag(
         alloc,
         "y4m",
-        "Writes YUV4MPEG2 with size and rate, in place of bare I420",
+        "Writes YUV4MPEG2 (size and rate included) instead of raw I420",
     );
     let input = operand(alloc, "IN", "The IVF file, or - for standard input");
     let output = operand(
@@ -170,7 +170,7 @@ fn encode_command<'a>(alloc: Global) -> Result<Command<'a>, AllocError>
     ensures local { IfOk result (λ c. (fields_of c).has_globals ≡ false) }
 {
     let command = Command::new(alloc, "encode").about(
-        "Encodes the pictures of a YUV4MPEG2 file as VP8 in an IVF file, and tells how many there are and the sum of their squared errors",
+        "Encodes a YUV4MPEG2 file (4:2:0) as VP8 in an IVF file and reports frames and squared error",
     );
     let macroblocks = with_macroblock_settings(alloc, Ok(command));
     let frames = with_frame_settings(alloc, macroblocks);
@@ -187,7 +187,7 @@ fn with_files<'a>(
     let progress = flag(
         alloc,
         "progress",
-        "Tells on standard error after every tenth frame how many are encoded",
+        "Prints the number of encoded frames on standard error after every tenth frame",
     );
     let input = operand(alloc, "IN", "The YUV4MPEG2 file, or - for standard input");
     let output = operand(alloc, "OUT", "The IVF file, or - for standard output");
@@ -206,7 +206,7 @@ fn with_macroblock_settings<'a>(
         setting(
             alloc,
             "qi",
-            "The quantiser index, from 0, which loses least, to 127; 32 unless it is said",
+            "The quantiser index, 0 (loses least) to 127 [default: 32]",
         ),
     );
     let command = with_arg(
@@ -214,7 +214,7 @@ fn with_macroblock_settings<'a>(
         setting(
             alloc,
             "filter",
-            "The loop filter's level, from 0, which filters nothing, to 63; 16 unless it is said",
+            "The level of the loop filter, 0 (none) to 63 [default: 16]",
         ),
     );
     let command = with_arg(
@@ -222,7 +222,7 @@ fn with_macroblock_settings<'a>(
         setting(
             alloc,
             "sharpness",
-            "The loop filter's sharpness, from 0 to 7; 0 unless it is said",
+            "The sharpness of the loop filter, 0 to 7 [default: 0]",
         ),
     );
     with_arg(
@@ -230,7 +230,7 @@ fn with_macroblock_settings<'a>(
         flag(
             alloc,
             "simple",
-            "Filters by the simple loop filter, which leaves colour alone",
+            "Uses the simple loop filter, which filters luma alone",
         ),
     )
 }
@@ -247,7 +247,7 @@ fn with_frame_settings<'a>(
         setting(
             alloc,
             "key-every",
-            "How many frames there are from one key frame to the next, at least 1; 64 unless it is said",
+            "Frames from one key frame to the next, at least 1 [default: 64]",
         ),
     );
     let command = with_arg(
@@ -255,7 +255,7 @@ fn with_frame_settings<'a>(
         setting(
             alloc,
             "golden-every",
-            "How many frames there are from one golden picture to the next, or 0 for none but the key frame's; 0 unless it is said",
+            "Frames from one golden frame to the next; 0: key frames only [default: 0]",
         ),
     );
     let command = with_arg(
@@ -263,19 +263,23 @@ fn with_frame_settings<'a>(
         setting(
             alloc,
             "range",
-            "How many pixels a motion vector goes each way at most, from 0 to 64; 16 unless it is said",
+            "The range of motion vectors in whole pixels, 0 to 64 [default: 16]",
         ),
     );
     let command = with_arg(
         command,
-        flag(alloc, "subpel", "Refines motion vectors to quarter pixels"),
+        flag(
+            alloc,
+            "subpel",
+            "Refines motion vectors to quarter pixels: fewer bytes, more time",
+        ),
     );
     with_arg(
         command,
         setting(
             alloc,
             "partitions",
-            "How many token partitions a packet has: 1, 2, 4 or 8; 1 unless it is said",
+            "Token partitions of a packet: 1, 2, 4 or 8 [default: 1]",
         ),
     )
 }
@@ -286,7 +290,7 @@ fn info_command<'a>(alloc: Global) -> Result<Command<'a>, AllocError>
 {
     Command::new(alloc, "info")
         .about(
-            "Prints the size in pixels, the rate in pictures a second and the packets of an IVF file: for each its number, its bytes, and Shown, Hidden or its fault",
+            "Lists an IVF file: size, rate, and for each packet its bytes and Shown, Hidden or its fault",
         )
         .arg(operand(alloc, "IN", "The IVF file, or - for standard input"))
 }
@@ -296,11 +300,16 @@ fn serve_command<'a>(alloc: Global) -> Result<Command<'a>, AllocError>
     ensures local { IfOk result (λ c. (fields_of c).has_globals ≡ false) }
 {
     let command = Command::new(alloc, "serve").about(
-        "Serves the pictures of IVF files over HTTP, one connection after another, and then ends",
+        "Serves frames of IVF files over HTTP, one connection after another, then ends",
     );
-    let listen = setting(alloc, "listen", "The address and port to listen at").required(true);
+    let listen = setting(
+        alloc,
+        "listen",
+        "The address and port to listen on, as 127.0.0.1:8080",
+    )
+    .required(true);
     let command = with_arg(Ok(command), listen);
-    let connections = setting(alloc, "connections", "How many connections are served").required(
+    let connections = setting(alloc, "connections", "The number of connections to serve").required(
         true,
     );
     let command = with_arg(command, connections);
@@ -309,7 +318,7 @@ fn serve_command<'a>(alloc: Global) -> Result<Command<'a>, AllocError>
         setting(
             alloc,
             "cache",
-            "How many pictures are kept, from 1 to 4096; 16 unless it is said",
+            "The number of decoded pictures to cache, 1 to 4096 [default: 16]",
         ),
     );
     let command = with_arg(
@@ -317,7 +326,7 @@ fn serve_command<'a>(alloc: Global) -> Result<Command<'a>, AllocError>
         flag(
             alloc,
             "show-address",
-            "Prints the address and port that it listens at, which shows the port that was found where 0 is asked for",
+            "Prints the address and port, which shows the port chosen for port 0",
         ),
     );
     with_arg(
@@ -325,7 +334,7 @@ fn serve_command<'a>(alloc: Global) -> Result<Command<'a>, AllocError>
         operands(
             alloc,
             "NAME=FILE",
-            "A stream's name and its IVF file, or - for standard input",
+            "The name of a stream and its IVF file, or - for standard input",
         ),
     )
 }

@@ -13,7 +13,8 @@ pub fn decode_words()
         × (parsed_args (name ∷ codes "decode" ∷ input ∷ output ∷ []) ≡ decodes (Some (codes "false")) input output) }
     ensures y4m { (name input output : Text) → IsOperand input → IsOperand output
         → (faults_of (name ∷ codes "decode" ∷ codes "--y4m" ∷ input ∷ output ∷ []) ≡ [])
-        × (parsed_args (name ∷ codes "decode" ∷ codes "--y4m" ∷ input ∷ output ∷ []) ≡ decodes (Some (codes "true")) input output) }
+        × (parsed_args (name ∷ codes "decode" ∷ codes "--y4m" ∷ input ∷ output ∷ [])
+        ≡ decodes (Some (codes "true")) input output) }
 {}
 
 /// `vp8 info IN` asks for exactly that.

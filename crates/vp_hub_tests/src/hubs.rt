@@ -45,7 +45,8 @@ pub const NOT_FOUND: &[u8] =
 
 /// The response to a bad request; it closes the connection.
 pub const BAD: &[u8] =
-    b"HTTP/1.1 400 Bad Request\r\nContent-Type: text/plain\r\nContent-Length: 12\r\nConnection: close\r\n\r\nBad Request\n";
+    b"HTTP/1.1 400 Bad Request\r\nContent-Type: text/plain\r\nContent-Length: 12\r\n\
+    Connection: close\r\n\r\nBad Request\n";
 
 /// Copies bytes to a list.
 pub(crate) fn list(alloc: Global, bytes: &[u8]) -> Result<ByteList, AllocError>

@@ -98,8 +98,8 @@ const MORE: [u8; 37] = [
     0, 0, 0, 0, 0, 0, 0, 0, 0, 0x11, 0, 0,
 ];
 
-const INFO: &[u8] =
-    b"HTTP/1.1 200 OK\r\nContent-Type: text/plain\r\nContent-Length: 42\r\n\r\nstate open\npackets 4\nsize 16x16\nrate 30/1\n";
+const INFO: &[u8] = b"HTTP/1.1 200 OK\r\nContent-Type: text/plain\r\nContent-Length: 42\r\n\r\n\
+    state open\npackets 4\nsize 16x16\nrate 30/1\n";
 
 /// Returns whether the stream has four packets, the last of which is shown.
 fn has_grown(alloc: Global, hub: &mut Hub) -> bool {

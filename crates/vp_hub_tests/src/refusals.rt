@@ -97,8 +97,8 @@ fn hub_of_three(alloc: Global) -> Option<Hub> {
     Some(hub)
 }
 
-const INFO: &[u8] =
-    b"HTTP/1.1 200 OK\r\nContent-Type: text/plain\r\nContent-Length: 42\r\n\r\nstate open\npackets 2\nsize 16x16\nrate 30/1\n";
+const INFO: &[u8] = b"HTTP/1.1 200 OK\r\nContent-Type: text/plain\r\nContent-Length: 42\r\n\r\n\
+    state open\npackets 2\nsize 16x16\nrate 30/1\n";
 
 /// Appends an event.
 fn put(alloc: Global, events: &mut Vec<Event>, told: Told<'_>) -> Result<(), AllocError>
