@@ -17,12 +17,12 @@ returns-clause-value c =
     let x = c.args.x in
     let y = c.args.y in
     let step = c.args.step in
-    let whole_u : IsWhole p.u = subst IsWhole c.plane.ensures c.height-u_height.ensures.whole in
+    let whole_u : IsWhole p.u = subst IsWhole c.plane.ensures c.height-known.ensures.whole in
     let f_u : ℕ → ℕ → ℕ = λ r d. get_or (get_or c.first_halves-u_rows.result r []) d 0 in
     let at_u : (r d : ℕ) → r < 8 → d < 8 → f_u r d ≡ pixel_at (stepped step (line_at down p.u (x + d) y)) r =
     λ r d h g. down_pixel_is step p.u c.plane-3.result.now (x + d) y r (f_u r d) (line_of c.apply_to_all-l.result d) (line_of c.lines_down_both.result d)
     (c.first_halves-u_rows.ensures.value d g r h) (c.apply_to_all-l.ensures d (let i : d < 16 = omega arith in i)) (c.lines_down_both.ensures.first d g) c.plane-3.ensures in
-    let whole_v : IsWhole p.v = subst IsWhole c.plane-2.ensures c.height-v_height.ensures.whole in
+    let whole_v : IsWhole p.v = subst IsWhole c.plane-2.ensures c.height-known-2.ensures.whole in
     let f_v : ℕ → ℕ → ℕ = λ r d. get_or (get_or c.second_halves-v_rows.result r []) d 0 in
     let at_v : (r d : ℕ) → r < 8 → d < 8 → f_v r d ≡ pixel_at (stepped step (line_at down p.v (x + d) y)) r =
     λ r d h g. down_pixel_is step p.v c.plane-4.result.now (x + d) y r (f_v r d) (line_of c.apply_to_all-l.result (8 + d)) (line_of c.lines_down_both.result (8 + d))

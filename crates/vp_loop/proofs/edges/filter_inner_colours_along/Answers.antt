@@ -20,14 +20,14 @@ returns-clause-value c =
     let step = c.args.step in
     let lines = c.untranspose_middle-lines.result in
     let long : length lines ≡ 16 = c.untranspose_middle-lines.ensures.len in
-    let whole_u : IsWhole p.u = subst IsWhole c.plane.ensures c.width-u_width.ensures.whole in
+    let whole_u : IsWhole p.u = subst IsWhole c.plane.ensures c.width-known.ensures.whole in
     let rows_u : List (List ℕ) = slice_range lines 0 8 in
     let long_u : length rows_u ≡ 8 = simp (length-take, length-drop) (omega arith) in
     let row_u : (r : ℕ) → r < 8 → get_or rows_u r [] ≡ middle_of (stepped step (line_at along p.u x (y + r))) =
     λ r h. (let own : get_or rows_u r [] ≡ get_or lines r [] = search (rules, places) in own)
     ∙ turned_line middle_of step p.u c.plane-3.result.now x (y + r) (get_or lines r []) (line_of c.apply_to_all-l.result r) (line_of c.lines_along_both.result r)
     (c.untranspose_middle-lines.ensures.value r (let i : r < 16 = omega arith in i)) (c.apply_to_all-l.ensures r (let i : r < 16 = omega arith in i)) (c.lines_along_both.ensures.first r h) c.plane-3.ensures in
-    let whole_v : IsWhole p.v = subst IsWhole c.plane-2.ensures c.width-v_width.ensures.whole in
+    let whole_v : IsWhole p.v = subst IsWhole c.plane-2.ensures c.width-known-2.ensures.whole in
     let rows_v : List (List ℕ) = slice_range lines 8 16 in
     let long_v : length rows_v ≡ 8 = simp (length-take, length-drop) (omega arith) in
     let row_v : (r : ℕ) → r < 8 → get_or rows_v r [] ≡ middle_of (stepped step (line_at along p.v x (y + r))) =

@@ -18,7 +18,7 @@ returns-clause-value c =
     let step = c.args.step in
     let l = c.apply_to_all-l.result in
     let rows : List (List ℕ) = l.p3 ∷ l.p2 ∷ l.p1 ∷ l.p0 ∷ l.q0 ∷ l.q1 ∷ l.q2 ∷ l.q3 ∷ [] in
-    let whole : IsWhole p.luma = subst IsWhole c.plane.ensures c.height-height.ensures.whole in
+    let whole : IsWhole p.luma = subst IsWhole c.plane.ensures c.height-known.ensures.whole in
     let at : (r d : ℕ) → r < 8 → d < 16 → get_or (get_or rows r []) d 0 ≡ pixel_at (stepped step (line_at down p.luma (x + d) y)) r =
     λ r d h g. down_pixel_is step p.luma c.plane-2.result.now (x + d) y r (get_or (get_or rows r []) d 0) (line_of l d) (line_of c.lines_down.result d)
     (rows_pixel l d r h) (c.apply_to_all-l.ensures d g) (c.lines_down.ensures d g) c.plane-2.ensures in

@@ -17,7 +17,7 @@ returns-clause-value c =
     let y = c.args.y in
     let step = c.args.step in
     let lines = c.untranspose_middle-lines.result in
-    let whole : IsWhole p.luma = subst IsWhole c.plane.ensures c.width-width.ensures.whole in
+    let whole : IsWhole p.luma = subst IsWhole c.plane.ensures c.width-known.ensures.whole in
     let row : (r : ℕ) → r < 16 → get_or lines r [] ≡ middle_of (stepped step (line_at along p.luma x (y + r))) =
     λ r h. turned_line middle_of step p.luma c.plane-2.result.now x (y + r) (get_or lines r []) (line_of c.apply_to_all-l.result r) (line_of c.lines_along.result r)
     (c.untranspose_middle-lines.ensures.value r h) (c.apply_to_all-l.ensures r h) (c.lines_along.ensures r h) c.plane-2.ensures in

@@ -9,7 +9,7 @@ use Rattle.vp_loop.proofs.lines.macroblock_filter.Goals as goal
 pub returns : goal.returns
 returns c =
     let l = c.args.line in
-    let a = same_is _ c.filter_value-filter_value.ensures.range ∙ c.filter_value-filter_value.ensures.value in
+    let a = same_is _ c.filter_value-w.ensures.range ∙ c.filter_value-w.ensures.value in
     let weighted = λ (k z : ℤ). clamp8 (shr_z (z *ℤ k +ℤ pos 63) 128) in
     let near : c.weighted_filter_value-near.result ≡ weighted_filter_value (pos 27) l = c.weighted_filter_value-near.ensures.value ∙ ap (weighted (pos 27)) a in
     let middle : c.weighted_filter_value-middle.result ≡ weighted_filter_value (pos 18) l = c.weighted_filter_value-middle.ensures.value ∙ ap (weighted (pos 18)) a in

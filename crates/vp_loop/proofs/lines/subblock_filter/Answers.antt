@@ -5,7 +5,7 @@ use Rattle.vp_loop.proofs.lines.subblock_filter.Goals as goal
 
 pub returns : goal.returns
 returns c =
-    let a = same_is _ c.filter_value-filter_value.ensures.range ∙ c.filter_value-filter_value.ensures.value in
+    let a = same_is _ c.filter_value-w.ensures.range ∙ c.filter_value-w.ensures.value in
     let half = c.outer_tap_adjustment-half.ensures in
     let p = up_by _ _ _ _ c.raised.ensures half.range (half.value c.args.line a) in
     let q = down_by _ _ _ _ c.lowered.ensures half.range (half.value c.args.line a) in

@@ -10,8 +10,8 @@ use Rattle.vp_recon.proofs.add.add_by_fours.Goals as goal
 pub overflow_add-y : goal.overflow_add-y
 overflow_add-y g c =
     let total : c.args.k + 3 < 4 * 4 = subst (λ (a : ℕ). c.args.k + 3 < a * a) c.if-this-eq4.true c.requires.end in
-    let high : c.height-height.result ≡ (plane_of c.args.picture.now c.args.plane).height = c.height-height.ensures.value ∙ ap (λ (s : Raster). s.height) c.plane.ensures in
-    record { fits = omega (arith, total, high, c.requires.rows, c.if-this-eq4.true, c.height-height.ensures.bound) }
+    let high : c.height-known.result ≡ (plane_of c.args.picture.now c.args.plane).height = c.height-known.ensures.value ∙ ap (λ (s : Raster). s.height) c.plane.ensures in
+    record { fits = omega (arith, total, high, c.requires.rows, c.if-this-eq4.true, c.height-known.ensures.bound) }
 
 pub returns-then-has_firsts_alone-clause-step : goal.returns-then-has_firsts_alone-clause-step
 returns-then-has_firsts_alone-clause-step g c p residue are bytes columns rows is =

@@ -9,8 +9,8 @@ use Rattle.vp_recon.proofs.add.add_each.Goals as goal
 
 pub overflow_add-x : goal.overflow_add-x
 overflow_add-x c =
-    let wide : c.width-width.result ≡ (plane_of c.args.picture.now c.args.plane).width = c.width-width.ensures.value ∙ ap (λ (s : Raster). s.width) c.plane.ensures in
-    record { fits = omega (arith, wide, c.requires.columns, c.width-width.ensures.bound) }
+    let wide : c.width-known.result ≡ (plane_of c.args.picture.now c.args.plane).width = c.width-known.ensures.value ∙ ap (λ (s : Raster). s.width) c.plane.ensures in
+    record { fits = omega (arith, wide, c.requires.columns, c.width-known.ensures.bound) }
 
 pub add_kept-requires-2-clause-columns : goal.add_kept-requires-2-clause-columns
 add_kept-requires-2-clause-columns c =

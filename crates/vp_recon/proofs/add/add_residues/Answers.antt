@@ -19,7 +19,7 @@ returns-then-has_none g c residue are =
     let a : ℕ = g.row.ACROSS in
     let x : ℕ = c.args.x in
     let y : ℕ = c.args.y in
-    let whole : IsWhole (plane_of c.args.picture.now c.args.plane) = rw (← c.plane.ensures) c.width-width.ensures.whole in
+    let whole : IsWhole (plane_of c.args.picture.now c.args.plane) = rw (← c.plane.ensures) c.width-known.ensures.whole in
     sym (with_plane-plane_of p c.args.plane)
     ∙ ap (with_plane p c.args.plane) (with_block_of q x y (4 * a) whole
     ∙ with_block_same q x y (4 * a) (4 * a) (was q x y) (added a q x y residue)
@@ -33,7 +33,7 @@ loop-i-init g c =
     let p : Image = c.args.picture.now in
     let q : Raster = plane_of p c.args.plane in
     let a : ℕ = g.row.ACROSS in
-    let whole : IsWhole (plane_of c.args.picture.now c.args.plane) = rw (← c.plane.ensures) c.width-width.ensures.whole in
+    let whole : IsWhole (plane_of c.args.picture.now c.args.plane) = rw (← c.plane.ensures) c.width-known.ensures.whole in
     record {
       pixels = λ residue are.
           sym (with_plane-plane_of p c.args.plane)

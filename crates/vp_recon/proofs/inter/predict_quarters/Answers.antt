@@ -16,7 +16,7 @@ loop-quarter-init c =
     let p : Image = c.args.picture.now in
     let x : ℕ = c.args.x in
     let y : ℕ = c.args.y in
-    let whole : IsWhole c.args.picture.now.luma = rw (← c.plane.ensures) c.width-width.ensures.whole in
+    let whole : IsWhole c.args.picture.now.luma = rw (← c.plane.ensures) c.width-known.ensures.whole in
     record {
       pixels = sym (with_plane-plane_of p 0)
           ∙ ap (with_plane p 0) (with_block_of p.luma x y 16 whole

@@ -33,7 +33,7 @@ pub loop-k-init : goal.loop-k-init
 loop-k-init c =
     let p : Image = c.args.picture.now in
     let q : Raster = plane_of p c.args.plane in
-    let whole : IsWhole (plane_of c.args.picture.now c.args.plane) = rw (← c.plane.ensures) c.width-width.ensures.whole in
+    let whole : IsWhole (plane_of c.args.picture.now c.args.plane) = rw (← c.plane.ensures) c.width-known.ensures.whole in
     record {
       pixels = λ vector moved.
           sym (with_plane-plane_of p c.args.plane)

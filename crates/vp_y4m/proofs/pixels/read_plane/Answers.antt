@@ -8,7 +8,7 @@ use Rattle.vp_y4m.proofs.pixels.read_plane.Goals as goal
 
 pub loop-y-init : goal.loop-y-init
 loop-y-init g c =
-    let whole : IsWhole (plane_of c.args.picture.now c.args.k) = rw c.plane.ensures at c.width-width.ensures.whole in
+    let whole : IsWhole (plane_of c.args.picture.now c.args.k) = rw c.plane.ensures at c.width-known.ensures.whole in
     (refl, no_reads 0 _ _, omega arith, no_rows c.args.picture.now c.args.w c.args.k _ whole)
 
 pub returns-in-Err-clause-short : goal.returns-in-Err-clause-short
