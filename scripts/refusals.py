@@ -1,6 +1,7 @@
 #!/usr/bin/env python3
-"""Sees that docs/REFUSALS.md has each public call that gives a `Result`, and that each clause it names stands at each of
-the calls of its row (or, where a row has several calls, at one of them). Run at the top of the repository."""
+"""Checks that docs/REFUSALS.md lists each public call that returns a `Result`, and that each clause of a row is one of
+its call (if the row has several calls, of one of them). A row whose first cell is empty continues the row above it.
+Run it at the top of the repository."""
 import pathlib, re, sys
 
 CALL = re.compile(r"\s*pub (?:const |extern \"C\" )?fn (\w+)")
@@ -18,7 +19,8 @@ def calls():
             elif line == "}":
                 owner = None
             elif found := CALL.match(line):
-                end = next((k for k in range(at, len(lines)) if lines[k].strip() in ("{", "{}") or lines[k].endswith(";")), at)
+                ends = (k for k in range(at, len(lines)) if lines[k].strip() in ("{", "{}") or lines[k].endswith(";"))
+                end = next(ends, at)
                 head = "\n".join(lines[at : end + 1])
                 gives = re.split(r"\b(?:ensures|requires)\b", head)[0].rpartition("->")[2].strip()
                 name = f"{owner}::{found[1]}" if owner and line[0] == " " else found[1]
@@ -29,19 +31,23 @@ def main():
     known, wrong = {}, []
     for name, gives, clauses in calls():
         known.setdefault(name, (gives, set()))[1].update(clauses)
-    listed = set()
+    listed, clauses, calls_of_row = set(), set(), ""
     for line in open("docs/REFUSALS.md"):
         cells = [cell.strip() for cell in line.split("|")[1:-1]]
-        if len(cells) != 4 or not cells[0].startswith("`"):
+        if len(cells) != 4 or cells[0] and not cells[0].startswith("`"):
             continue
-        names = [name for name in re.findall(r"`([\w:]+)`", cells[0]) if name in known or "::" in name]
-        names = names[:1] if " of `" in cells[0] else names
-        listed.update(names)
-        stand = set().union(*(known.get(name, ("", set()))[1] for name in names))
-        wrong += [f"{name}: no such call" for name in names if name not in known]
-        wrong += [f"{cells[0]}: no clause {clause}" for clause in re.findall(r"`(\w+)`", cells[3]) if clause not in stand]
-    wrong += [f"{name}: not listed" for name, (gives, _) in known.items() if gives.startswith("Result") and name not in listed]
-    print("\n".join(sorted(wrong)) if wrong else f"{len(listed)} calls are listed, and their clauses stand")
+        if cells[0]:
+            names = [name for name in re.findall(r"`([\w:]+)`", cells[0]) if name in known or "::" in name]
+            names = names[:1] if " of `" in cells[0] else names
+            listed.update(names)
+            clauses = set().union(*(known.get(name, ("", set()))[1] for name in names))
+            wrong += [f"{name}: no such call" for name in names if name not in known]
+        calls_of_row = cells[0] or calls_of_row
+        named = re.findall(r"`(\w+)`", cells[3])
+        wrong += [f"{calls_of_row}: no clause {word}" for word in named if word not in clauses]
+    is_result = {name for name, (gives, _) in known.items() if gives.startswith("Result")}
+    wrong += [f"{name}: not listed" for name in is_result - listed]
+    print("\n".join(sorted(wrong)) if wrong else f"{len(listed)} calls are listed with clauses that they have")
     return 1 if wrong else 0
 
 
