@@ -12,7 +12,7 @@ ghost use Rattle.vp_recon.specs.Predictor.{Intra, macroblock_of};
 ghost use Rattle.vp_recon.specs.Rebuilt.{rebuilt};
 
 use vp_base::{Picture, Place};
-use vp_intra::{predict_chroma, predict_luma};
+use vp_intra::{predict_chroma_into, predict_luma_into};
 use vp_modes::Modes;
 
 /// Predicts the luma of a macroblock that has one luma mode.
@@ -29,8 +29,7 @@ fn predict_at_once(picture: &mut Picture, place: Place, modes: &Modes)
     let _known = picture.plane(0).height();
     let x = 16 * place.column;
     let y = 16 * place.row;
-    let prediction = predict_luma(picture.plane(0), x, y, modes.luma);
-    picture.write_block::<16>(0, x, y, &prediction);
+    predict_luma_into(picture, x, y, modes.luma);
 }
 
 /// Predicts a chroma plane.
@@ -48,8 +47,7 @@ fn predict_colour(picture: &mut Picture, plane: usize, place: Place, modes: &Mod
     let _known = picture.plane(plane).height();
     let x = 8 * place.column;
     let y = 8 * place.row;
-    let prediction = predict_chroma(picture.plane(plane), x, y, modes.chroma);
-    picture.write_block::<8>(plane, x, y, &prediction);
+    predict_chroma_into(picture, plane, x, y, modes.chroma);
 }
 
 /// Rebuilds the intra macroblock at `place`, which has one luma mode and no residue: it is its prediction.
