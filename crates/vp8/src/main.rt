@@ -7,6 +7,7 @@ use vp_app::command_line;
 use vp_base::Counted;
 
 fn main(rt: HostRuntime) -> ExitCode {
+    // `Counted` counts reads and failed calls, which contracts refer to.
     let mut input = Counted::new(rt.reader());
     let mut output = Counted::new(io::writer(&rt));
     let mut errors = Counted::new(rt.stderr());

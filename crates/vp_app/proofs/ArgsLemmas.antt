@@ -20,7 +20,7 @@ use Rattle.vp_app.specs.declared.args.Task.TheVariants.{Decode, Encode, Info, No
 use Rattle.vp_app.specs.declared.args.Refusal.{Refusal}
 use Rattle.vp_app.specs.declared.args.Refusal.TheVariants.{Words, Value}
 use Rattle.vp_app.specs.declared.encode.EncodeArgs.{EncodeArgs}
-use Rattle.vp_app.specs.Args.{ParsedArgs, decodes, encodes, serves, tells, decode_app, encode_app, faults_of, info_app, serve_app, vp8_app, Gains, IsFlag, IsForMemory, IsNoNaming, IsNoPlanFor, IsPlanFor, is_equals, is_parted, is_y4m, program, with_operand, with_operands, with_rules, with_service}
+use Rattle.vp_app.specs.Args.{ParsedArgs, decodes, encodes, serves, tells, decode_app, encode_app, faults_of, info_app, serve_app, vp8_app, Gains, IsFlag, IsForMemory, IsNoNaming, IsNoPlanFor, IsTaskFor, is_equals, is_parted, is_y4m, program, with_operand, with_operands, with_rules, with_service}
 
 -- ---- the commands
 
@@ -115,19 +115,19 @@ flag_is None flag absent set unset = absent refl
 flag_is (Some t) flag absent set unset = (λ e. set (rw e refl), λ e. unset (rw e refl))
 
 pub to_decode : (flag from to : Option Text) (form : Form) (input output : Bor Text) → IsFlag flag (is_y4m form) → Some input.now ≡ from → Some output.now ≡ to
-    → IsPlanFor (with_operands (decodes flag) from to) (Decode form input output)
+    → IsTaskFor (with_operands (decodes flag) from to) (Decode form input output)
 to_decode flag from to form input output is e f = rw (← e, ← f) (is, refl, refl)
 
-pub no_operands : (ask : Text → Text → ParsedArgs) (from to : Option Text) → (from ≡ None) ⊎ (to ≡ None) → IsPlanFor (with_operands ask from to) Nothing
+pub no_operands : (ask : Text → Text → ParsedArgs) (from to : Option Text) → (from ≡ None) ⊎ (to ≡ None) → IsTaskFor (with_operands ask from to) Nothing
 no_operands ask None to e = tt
 no_operands ask (Some a) None e = tt
 no_operands ask (Some a) (Some b) (inl e) = cc
 no_operands ask (Some a) (Some b) (inr e) = cc
 
-pub to_tell : (from : Option Text) (input : Bor Text) → Some input.now ≡ from → IsPlanFor (with_operand tells from) (Info input)
+pub to_tell : (from : Option Text) (input : Bor Text) → Some input.now ≡ from → IsTaskFor (with_operand tells from) (Info input)
 to_tell from input e = rw (← e) refl
 
-pub no_operand : (from : Option Text) → from ≡ None → IsPlanFor (with_operand tells from) Nothing
+pub no_operand : (from : Option Text) → from ≡ None → IsTaskFor (with_operand tells from) Nothing
 no_operand from e = rw e tt
 
 pub to_serve : (rows : List Row) (address connections : Option Text) (operands : Option (List Text)) (a c : Text) (o : List Text)
@@ -136,7 +136,7 @@ pub to_serve : (rows : List Row) (address connections : Option Text) (operands :
 to_serve rows address connections operands a c o e f g P h = rw (← e, ← f, ← g) h
 
 pub no_service : (rows : List Row) (address connections : Option Text) (operands : Option (List Text))
-    → (address ≡ None) ⊎ ((connections ≡ None) ⊎ (operands ≡ None)) → IsPlanFor (with_service rows address connections operands) Nothing
+    → (address ≡ None) ⊎ ((connections ≡ None) ⊎ (operands ≡ None)) → IsTaskFor (with_service rows address connections operands) Nothing
 no_service rows None connections operands e = tt
 no_service rows (Some a) None operands e = tt
 no_service rows (Some a) (Some c) None e = tt

@@ -24,7 +24,7 @@ use Rattle.vp_app.specs.declared.args.Task.TheVariants.{Decode, Encode, Info, Se
 use Rattle.vp_app.specs.declared.args.Refusal.{Refusal}
 use Rattle.vp_app.specs.declared.args.Refusal.TheVariants.{Words, Value}
 use Rattle.vp_app.specs.Status.{status_of}
-use Rattle.vp_app.specs.Args.{ParsedArgs, decodes, encodes, tells, serves, nothing, parsed_args, faults_of, IsForMemory, IsOfValue, IsPlanFor, IsMistake, IsRefusalFor, HasInvalidValue, AreMistaken}
+use Rattle.vp_app.specs.Args.{ParsedArgs, decodes, encodes, tells, serves, nothing, parsed_args, faults_of, IsForMemory, IsOfValue, IsTaskFor, IsMistake, IsRefusalFor, HasInvalidValue, AreMistaken}
 use Rattle.vp_app.specs.Commands.{DecodesFile, DecodesInto, Does, EncodesFile, EncodesInto, IsFileDecoded, IsFileEncoded, IsUnbegun, IsUnopened, IsUsageFault, SurveysFile, SurveysInput, Over, ServesConnections, Side, PrintsSurvey, is_stream, status_by_report, status_by_service}
 
 pub over_stream : (name : List ℕ) (Work : Side → Side → Type 0) (old new : Side) → is_stream name ≡ true → Work old new → Over name Work old new
@@ -106,11 +106,11 @@ pictures_none s from to fault i o e f = inl (unopened encode_fault.Device encode
 -- ---- what is planned is done
 
 pub does_decode : (asked : ParsedArgs) (plan : Task) (form : Form) (from to : Bor (List ℕ)) (done : Result Report DecodeFault) (status : ℕ) (i i' o o' : Side)
-    → plan ≡ Decode form from to → IsPlanFor asked plan → status ≡ status_of done → DecodesFile form from.now to.now done i i' o o'
+    → plan ≡ Decode form from to → IsTaskFor asked plan → status ≡ status_of done → DecodesFile form from.now to.now done i i' o o'
     → Does asked status i i' o o'
-does_decode asked plan form from to done status i i' o o' e h s d = go asked (subst (IsPlanFor asked) e h)
+does_decode asked plan form from to done status i i' o o' e h s d = go asked (subst (IsTaskFor asked) e h)
   where
-    go : (x : ParsedArgs) → IsPlanFor x (Decode form from to) → Does x status i i' o o'
+    go : (x : ParsedArgs) → IsTaskFor x (Decode form from to) → Does x status i i' o o'
     go (decodes flag f t) p = rw (← p.1, ← p.2) (inl (form, done, p.0, s, d))
     go (encodes rows f t) p = absurd p
     go (tells f) p = absurd p
@@ -118,11 +118,11 @@ does_decode asked plan form from to done status i i' o o' e h s d = go asked (su
     go nothing p = absurd p
 
 pub does_encode : (asked : ParsedArgs) (plan : Task) (encoding : EncodeArgs) (done : Result EncodeReport EncodeAllFault) (status : ℕ) (i i' o o' : Side)
-    → plan ≡ Encode encoding → IsPlanFor asked plan → status ≡ status_by_report done
+    → plan ≡ Encode encoding → IsTaskFor asked plan → status ≡ status_by_report done
     → EncodesFile encoding.settings encoding.input.now encoding.output.now done i i' o o' → Does asked status i i' o o'
-does_encode asked plan encoding done status i i' o o' e h s d = go asked (subst (IsPlanFor asked) e h)
+does_encode asked plan encoding done status i i' o o' e h s d = go asked (subst (IsTaskFor asked) e h)
   where
-    go : (x : ParsedArgs) → IsPlanFor x (Encode encoding) → Does x status i i' o o'
+    go : (x : ParsedArgs) → IsTaskFor x (Encode encoding) → Does x status i i' o o'
     go (decodes flag f t) p = absurd p
     go (encodes rows f t) p = rw (← p.2, ← p.3) (inl (encoding.settings, done, p.0, s, d))
     go (tells f) p = absurd p
@@ -130,10 +130,10 @@ does_encode asked plan encoding done status i i' o o' e h s d = go asked (subst 
     go nothing p = absurd p
 
 pub does_tell : (asked : ParsedArgs) (plan : Task) (from : Bor (List ℕ)) (done : Result Survey DecodeFault) (status : ℕ) (i i' o o' : Side)
-    → plan ≡ Info from → IsPlanFor asked plan → SurveysFile from.now done i i' → PrintsSurvey done status o.bytes o'.bytes → Does asked status i i' o o'
-does_tell asked plan from done status i i' o o' e h d t = go asked (subst (IsPlanFor asked) e h)
+    → plan ≡ Info from → IsTaskFor asked plan → SurveysFile from.now done i i' → PrintsSurvey done status o.bytes o'.bytes → Does asked status i i' o o'
+does_tell asked plan from done status i i' o o' e h d t = go asked (subst (IsTaskFor asked) e h)
   where
-    go : (x : ParsedArgs) → IsPlanFor x (Info from) → Does x status i i' o o'
+    go : (x : ParsedArgs) → IsTaskFor x (Info from) → Does x status i i' o o'
     go (decodes flag f g) p = absurd p
     go (encodes rows f g) p = absurd p
     go (tells f) p = rw (← p) (inl (done, d, t))
@@ -141,21 +141,21 @@ does_tell asked plan from done status i i' o o' e h d t = go asked (subst (IsPla
     go nothing p = absurd p
 
 pub does_serve : (asked : ParsedArgs) (plan : Task) (service : ServeArgs) (done : Result Bool ServiceFault) (status : ℕ) (i i' o o' : Side)
-    → plan ≡ Serve service → IsPlanFor asked plan → status ≡ status_by_service done → ServesConnections service done i i' → (service.show_address ≡ false → o' ≡ o)
+    → plan ≡ Serve service → IsTaskFor asked plan → status ≡ status_by_service done → ServesConnections service done i i' → (service.show_address ≡ false → o' ≡ o)
     → Does asked status i i' o o'
-does_serve asked plan service done status i i' o o' e h s d q = go asked (subst (IsPlanFor asked) e h)
+does_serve asked plan service done status i i' o o' e h s d q = go asked (subst (IsTaskFor asked) e h)
   where
-    go : (x : ParsedArgs) → IsPlanFor x (Serve service) → Does x status i i' o o'
+    go : (x : ParsedArgs) → IsTaskFor x (Serve service) → Does x status i i' o o'
     go (decodes flag f g) p = absurd p
     go (encodes rows f g) p = absurd p
     go (tells f) p = absurd p
     go (serves rows address connections operands) p = inl (service, done, p, s, d, q)
     go nothing p = absurd p
 
-pub does_nothing : (asked : ParsedArgs) (plan : Task) (i o : Side) → plan ≡ Nothing → IsPlanFor asked plan → Does asked 2 i i o o
-does_nothing asked plan i o e h = go asked (subst (IsPlanFor asked) e h)
+pub does_nothing : (asked : ParsedArgs) (plan : Task) (i o : Side) → plan ≡ Nothing → IsTaskFor asked plan → Does asked 2 i i o o
+does_nothing asked plan i o e h = go asked (subst (IsTaskFor asked) e h)
   where
-    go : (x : ParsedArgs) → IsPlanFor x Nothing → Does x 2 i i o o
+    go : (x : ParsedArgs) → IsTaskFor x Nothing → Does x 2 i i o o
     go (decodes flag f g) p = absurd p
     go (encodes rows f g) p = absurd p
     go (tells f) p = absurd p

@@ -228,16 +228,16 @@ pub record IsServiceFor (rows : List Row) (address connections : Text) (operands
   pub streams_are : AreNamed operands s.streams.items
 
 -- the task has the values that the arguments ask for
-abbrev pub IsPlanFor : ParsedArgs → Task → Type 0
-IsPlanFor (decodes flag from to) (Decode form input output) = IsFlag flag (is_y4m form) × (input.now ≡ from)
+abbrev pub IsTaskFor : ParsedArgs → Task → Type 0
+IsTaskFor (decodes flag from to) (Decode form input output) = IsFlag flag (is_y4m form) × (input.now ≡ from)
     × (output.now ≡ to)
-IsPlanFor (encodes rows from to) (Encode e) =
+IsTaskFor (encodes rows from to) (Encode e) =
     AreSettings rows e.settings × IsFlag (one_of (codes "progress") rows) e.progress × (e.input.now ≡ from)
     × (e.output.now ≡ to)
-IsPlanFor (tells from) (Info input) = input.now ≡ from
-IsPlanFor (serves rows address connections operands) (Serve s) = IsServiceFor rows address connections operands s
-IsPlanFor nothing Nothing = Unit {0}
-IsPlanFor _ _ = ⊥
+IsTaskFor (tells from) (Info input) = input.now ≡ from
+IsTaskFor (serves rows address connections operands) (Serve s) = IsServiceFor rows address connections operands s
+IsTaskFor nothing Nothing = Unit {0}
+IsTaskFor _ _ = ⊥
 
 -- ---- refused values
 

@@ -9,7 +9,7 @@ ghost use Rattle.clap.specs.Walk.{all_of, first_of, one_of, texts};
 ghost use Rattle.clap.specs.declared.builder.command.Command.TheViews.{out-Command as fields_of};
 ghost use Rattle.vp_app.specs.Args.{asked_at, parsed_command, parsed_args, encodes, faults_of, AreNamed, AreNoSettings};
 ghost use Rattle.vp_app.specs.Args.{AreSettings, Gains, IsDecimal, IsFlag, IsMisnumbered, IsNoCache, IsNoDecimal};
-ghost use Rattle.vp_app.specs.Args.{IsNoNaming, IsNoPlanFor, IsNumber, IsOfValue, IsPlanFor, IsRefusalFor, decode_app};
+ghost use Rattle.vp_app.specs.Args.{IsNoNaming, IsNoPlanFor, IsNumber, IsOfValue, IsTaskFor, IsRefusalFor, decode_app};
 ghost use Rattle.vp_app.specs.Args.{encode_app, file_rules, flag_rule, frame_rules, info_app, macroblock_rules};
 ghost use Rattle.vp_app.specs.Args.{operand_rule, operands_rule, program, serve_app, serves, setting_rule, vp8_app};
 ghost use Rattle.vp_app.specs.Args.{with_rules};
@@ -75,7 +75,7 @@ impl From<AllocError> for Refusal {
 /// Parses the arguments; the first is the program's name.
 pub fn read_args<'a>(alloc: Global, words: &'a [&'a str]) -> Result<Task<'a>, Refusal>
     ensures plan { IfOk result (λ plan. (faults_of (texts words.now) ≡ [])
-        × IsPlanFor (parsed_args (texts words.now)) plan) }
+        × IsTaskFor (parsed_args (texts words.now)) plan) }
     ensures refusal { IfErr result (IsRefusalFor (texts words.now)) }
 {
     let matches = parse_args(alloc, words)?;
@@ -92,14 +92,14 @@ fn parse_args<'a>(alloc: Global, words: &'a [&'a str]) -> Result<ArgMatches<'a>,
 
 // Converts parsed arguments into a task.
 fn read_matches<'a>(alloc: Global, matches: &ArgMatches<'a>) -> Result<Task<'a>, Refusal>
-    ensures plan { IfOk result (IsPlanFor (parsed_command (subcommand_rows_of matches.now))) }
+    ensures plan { IfOk result (IsTaskFor (parsed_command (subcommand_rows_of matches.now))) }
     ensures refusal { IfErr result (IsNoPlanFor (parsed_command (subcommand_rows_of matches.now))) }
 {
     match matches.subcommand() {
-        Some(("decode", found)) => Ok(decode_plan(found)),
-        Some(("encode", found)) => encode_plan(found),
-        Some(("info", found)) => Ok(info_plan(found)),
-        Some(("serve", found)) => serve_plan(alloc, found),
+        Some(("decode", found)) => Ok(decode_task(found)),
+        Some(("encode", found)) => encode_task(found),
+        Some(("info", found)) => Ok(info_task(found)),
+        Some(("serve", found)) => serve_task(alloc, found),
         _ => Ok(Task::Nothing),
     }
 }
@@ -400,8 +400,8 @@ fn is_set(found: &ArgMatches<'_>, name: &str) -> bool
     found.get_flag(name)
 }
 
-fn decode_plan<'a>(found: &ArgMatches<'a>) -> Task<'a>
-    ensures { IsPlanFor (asked_at (codes "decode") (rows_of (found_of found.now))) result }
+fn decode_task<'a>(found: &ArgMatches<'a>) -> Task<'a>
+    ensures { IsTaskFor (asked_at (codes "decode") (rows_of (found_of found.now))) result }
 {
     let form = if is_set(found, "y4m") {
         Form::Y4m
@@ -418,22 +418,22 @@ fn decode_plan<'a>(found: &ArgMatches<'a>) -> Task<'a>
     }
 }
 
-fn encode_plan<'a>(found: &ArgMatches<'a>) -> Result<Task<'a>, Refusal>
-    ensures plan { IfOk result (IsPlanFor (asked_at (codes "encode") (rows_of (found_of found.now)))) }
+fn encode_task<'a>(found: &ArgMatches<'a>) -> Result<Task<'a>, Refusal>
+    ensures plan { IfOk result (IsTaskFor (asked_at (codes "encode") (rows_of (found_of found.now)))) }
     ensures refusal { IfErr result (IsNoPlanFor (asked_at (codes "encode") (rows_of (found_of found.now)))) }
 {
     match (text_of(found, "IN"), text_of(found, "OUT")) {
-        (Some(input), Some(output)) => encoding_plan(found, input, output),
+        (Some(input), Some(output)) => encode_task_args(found, input, output),
         _ => Ok(Task::Nothing),
     }
 }
 
-fn encoding_plan<'a>(
+fn encode_task_args<'a>(
     found: &ArgMatches<'a>,
     input: &'a str,
     output: &'a str,
 ) -> Result<Task<'a>, Refusal>
-    ensures plan { IfOk result (IsPlanFor (encodes (rows_of (found_of found.now)) input.entry.now output.entry.now)) }
+    ensures plan { IfOk result (IsTaskFor (encodes (rows_of (found_of found.now)) input.entry.now output.entry.now)) }
     ensures refusal { IfErr result (IsNoPlanFor (encodes (rows_of
         (found_of found.now)) input.entry.now output.entry.now)) }
 {
@@ -520,8 +520,8 @@ fn byte(
     }
 }
 
-fn info_plan<'a>(found: &ArgMatches<'a>) -> Task<'a>
-    ensures { IsPlanFor (asked_at (codes "info") (rows_of (found_of found.now))) result }
+fn info_task<'a>(found: &ArgMatches<'a>) -> Task<'a>
+    ensures { IsTaskFor (asked_at (codes "info") (rows_of (found_of found.now))) result }
 {
     match text_of(found, "IN") {
         Some(input) => Task::Info { input },
@@ -529,8 +529,8 @@ fn info_plan<'a>(found: &ArgMatches<'a>) -> Task<'a>
     }
 }
 
-fn serve_plan<'a>(alloc: Global, found: &ArgMatches<'a>) -> Result<Task<'a>, Refusal>
-    ensures plan { IfOk result (IsPlanFor (asked_at (codes "serve") (rows_of (found_of found.now)))) }
+fn serve_task<'a>(alloc: Global, found: &ArgMatches<'a>) -> Result<Task<'a>, Refusal>
+    ensures plan { IfOk result (IsTaskFor (asked_at (codes "serve") (rows_of (found_of found.now)))) }
     ensures refusal { IfErr result (IsNoPlanFor (asked_at (codes "serve") (rows_of (found_of found.now)))) }
 {
     match (
@@ -539,20 +539,20 @@ fn serve_plan<'a>(alloc: Global, found: &ArgMatches<'a>) -> Result<Task<'a>, Ref
         texts_of(found, "NAME=FILE"),
     ) {
         (Some(listen), Some(connections), Some(operands)) => {
-            service_plan(alloc, found, listen, connections, operands)
+            serve_task_args(alloc, found, listen, connections, operands)
         }
         _ => Ok(Task::Nothing),
     }
 }
 
-fn service_plan<'a>(
+fn serve_task_args<'a>(
     alloc: Global,
     found: &ArgMatches<'a>,
     listen: &'a str,
     connections: &str,
     operands: &[&'a str],
 ) -> Result<Task<'a>, Refusal>
-    ensures plan { IfOk result (IsPlanFor (serves (rows_of (found_of found.now)) listen.entry.now connections.now
+    ensures plan { IfOk result (IsTaskFor (serves (rows_of (found_of found.now)) listen.entry.now connections.now
         (texts operands.now))) }
     ensures refusal { IfErr result (IsNoPlanFor (serves (rows_of (found_of found.now)) listen.entry.now connections.now
         (texts operands.now))) }

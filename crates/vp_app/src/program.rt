@@ -12,7 +12,7 @@ ghost use Rattle.vp_app.specs.Commands.{SurveysInput};
 ghost use Rattle.vp_app.specs.Commands.{PrintsSurvey};
 ghost use Rattle.vp_app.specs.Status.{status_of};
 ghost use Rattle.vp_app.specs.Args.{parsed_args, faults_of, AreMistaken, ParsedArgs, IsForMemory, IsMistake, IsOfValue};
-ghost use Rattle.vp_app.specs.Args.{IsPlanFor};
+ghost use Rattle.vp_app.specs.Args.{IsTaskFor};
 
 use crate::args::{Refusal, Task, read_args};
 use crate::encode::encode;
@@ -95,7 +95,7 @@ fn run_task<
     ensures status { result ≤ 2 }
     ensures usage { result ≡ 2 → (input.new ≡ input.old) × (output.new ≡ output.old) }
     ensures nothing { plan.now ≡ Task.Nothing → result ≡ 2 }
-    ensures does { (asked : ParsedArgs) → IsPlanFor asked plan.now → Does asked result
+    ensures does { (asked : ParsedArgs) → IsTaskFor asked plan.now → Does asked result
         (read_side R.remaining input.old) (read_side R.remaining input.new)
         (written_side W.contents output.old) (written_side W.contents output.new) }
 {

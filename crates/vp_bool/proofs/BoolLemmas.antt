@@ -6,7 +6,7 @@ use Rattle.std.proofs.Math.Dec.{leb}
 use Rattle.std.proofs.lemmas.Nat.{pow-add, pow_pos, leading_top, mul-le, div_below, shl_whole}
 use Rattle.std.specs.Int.Count.{count_leading_zeros}
 use Rattle.std.proofs.Math.Nat.{pow-suc, mod-eq_of_lt}
-use Rattle.vp_bool.specs.Bools.{State, number, doubled, doubled_at, normal, split_of, bool_of, rest_of, read, initial_state, whole_partition, literal}
+use Rattle.vp_bool.specs.Bools.{State, number, doubled, doubled_at, renormalised, split_of, bool_of, rest_of, read, initial_state, whole_partition, literal}
 use mir.Val.{bool_byte}
 use Rattle.vp_bool.specs.Window.{st, state, advanced, IsNormalised, IsUnnormalised, AreBytes}
 use Rattle.vp_bool.proofs.Numbers.{scaled, power_up, double_pow}
@@ -59,8 +59,8 @@ still_low r n high =
     let least : r * 1 ≤ r * 2 ^ n = mul-le r 1 r (2 ^ n) (omega arith) (omega (arith, pow_pos n)) in
     omega (arith, double_pow r n)
 
-pub normal_by : (fuel n : ℕ) (s : State) → n ≤ fuel → 128 ≤ s.range * 2 ^ n → s.range * 2 ^ n < 256 → normal fuel s ≡ shifted n s
-unfolding normal
+pub normal_by : (fuel n : ℕ) (s : State) → n ≤ fuel → 128 ≤ s.range * 2 ^ n → s.range * 2 ^ n < 256 → renormalised fuel s ≡ shifted n s
+unfolding renormalised
 normal_by zero zero s h low high = sym (shifted_zero s)
 normal_by zero (suc n) s h low high = absurd (omega arith)
 normal_by (suc fuel) zero s h low high =
@@ -108,7 +108,7 @@ doubles r some byte =
     let top = leading_top 32 r some big in
     doubles_at r top.0 byte top.1 top.2 top.3
 
-pub normal-shifted : (s : State) → 0 < s.range → s.range < 256 → normal 7 s ≡ shifted (doublings s.range) s
+pub normal-shifted : (s : State) → 0 < s.range → s.range < 256 → renormalised 7 s ≡ shifted (doublings s.range) s
 normal-shifted s some byte =
     let d = doubles s.range some byte in
     normal_by 7 (doublings s.range) s d.few d.low d.high
@@ -177,7 +177,7 @@ shifted_below v r j k h =
     let products : r * (2 ^ k * 2 ^ (j - k)) ≡ r * (2 ^ j * 2 ^ (k - j)) = ap (λ n. r * n) powers in
     omega (arith, scaled v (r * 2 ^ k) (2 ^ (j - k)) h)
 
-pub sound-normal : (s : State) → IsUnnormalised s → IsNormalised (normal 7 s)
+pub sound-normal : (s : State) → IsUnnormalised s → IsNormalised (renormalised 7 s)
 sound-normal s taken =
     let d = doubles s.range taken.some taken.byte in
     rw (normal-shifted s taken.some taken.byte)

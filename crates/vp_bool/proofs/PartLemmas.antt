@@ -2,7 +2,7 @@
 use Rattle.std.proofs.Common.{true, false, Bool, ◌≡◌, ℕ, ◌+◌, ◌-◌, ◌*◌, ◌%◌, ◌^◌, ◌<◌, ◌≤◌, List, refl, sym, ap, ◌∙◌, arith}
 use Rattle.std.proofs.lemmas.Bool.{leb-true, leb-false, le-leb, lt-leb}
 use Rattle.std.proofs.Math.Dec.{leb}
-use Rattle.vp_bool.specs.Bools.{State, normal, read, split_of, rest_of}
+use Rattle.vp_bool.specs.Bools.{State, renormalised, read, split_of, rest_of}
 use Rattle.vp_bool.specs.Window.{state, high_bits, IsLeftAligned, IsNormalised, IsUnnormalised, AreBytes}
 use Rattle.vp_bool.proofs.BoolLemmas.{bound_at, bound_whole, taken_off, window_bool, rest_true, rest_false, rest-taken}
 use Rattle.vp_bool.proofs.TopLemmas.{top_bool, front-is, aligned-by}
@@ -11,7 +11,7 @@ pub record IsPart (p : ℕ) (s : State) (bit : Bool) (word r c : ℕ) (bs : List
   pub aligned : IsLeftAligned word c
   pub taken : IsUnnormalised (state (high_bits word c) r c bs)
   pub value : bit ≡ (read p s).0
-  pub after : normal 7 (state (high_bits word c) r c bs) ≡ (read p s).1
+  pub after : renormalised 7 (state (high_bits word c) r c bs) ≡ (read p s).1
 
 part_of : (p : ℕ) (s : State) (bit : Bool) (word w r c : ℕ) (bs : List ℕ) → word ≡ w * 2 ^ (56 - c) → p < 256 → IsNormalised s → rest_of p s ≡ state w r c bs → bit ≡ (read p s).0 → IsPart p s bit word r c bs
 unfolding read

@@ -6,7 +6,7 @@ use Rattle.std.proofs.Math.Nat.{mul-div_cancel, mod-eq_of_lt, le_of_mul-le-mul_r
 use Rattle.std.proofs.lemmas.Nat.{pow-add, pow_pos}
 use Rattle.std.proofs.lemmas.Bool.{leb-true, ltb-true, ne_eqb, cases_lt}
 use Rattle.std.proofs.lemmas.List.{take_more, take_all, length-drop, take-append-drop}
-use Rattle.vp_bool.specs.Bools.{State, number, normal}
+use Rattle.vp_bool.specs.Bools.{State, number, renormalised}
 use Rattle.vp_bool.specs.Window.{state, high_bits, IsLeftAligned, IsUnnormalised, AreBytes}
 use Rattle.vp_bool.specs.declared.decoder.TheConstants.{DOUBLINGS}
 use Rattle.vp_bool.proofs.Numbers.{scaled, power_up}
@@ -116,12 +116,12 @@ moved_past w r c n [] h few none =
     rw end (moved_by _ (w * 2 ^ (n - c)) _ 0 [] _ (sym (bound_at w (56 - c) n) ∙ ap (λ k. w * 2 ^ k) sum ∙ bound_at w (n - c) 56) (advanced_past n w (r * 2 ^ n) c h))
 
 pub moved_on : (word w r c n : ℕ) (bs : List ℕ) → word ≡ w * 2 ^ (56 - c) → c ≤ 56 → IsUnnormalised (state w r c bs) → Doubling r n → (n ≤ c) ⊎ (length bs ≡ 0)
-    → IsMoved (word * 2 ^ n % 2 ^ 64) (r * 2 ^ n % 2 ^ 32) (c - n) bs (normal 7 (state w r c bs))
+    → IsMoved (word * 2 ^ n % 2 ^ 64) (r * 2 ^ n % 2 ^ 32) (c - n) bs (renormalised 7 (state w r c bs))
 moved_on word w r c n bs e few taken d fits =
     let room : w * 2 ^ (56 - c) * 2 ^ n < 2 ^ 64 = word_room w r c n (front_small w r c bs taken) d.high few in
     let word' : w * 2 ^ (56 - c) * 2 ^ n % 2 ^ 64 ≡ w * 2 ^ (56 - c) * 2 ^ n = mod-eq_of_lt room in
     let range' : r * 2 ^ n % 2 ^ 32 ≡ r * 2 ^ n = mod-eq_of_lt (omega (arith, d.high)) in
-    let norm : normal 7 (state w r c bs) ≡ shifted n (state w r c bs) = normal_by 7 n (state w r c bs) d.few d.low d.high in
+    let norm : renormalised 7 (state w r c bs) ≡ shifted n (state w r c bs) = normal_by 7 n (state w r c bs) d.few d.low d.high in
     rw (e, word', range', norm)
     (elim fits [
       | inl within ↦ moved_within w r c n bs within few
@@ -172,7 +172,7 @@ module _ (value r c t n k : ℕ) (bs : List ℕ) (aligned : IsLeftAligned value 
       rw word_is (omega (arith, room))
 
   pub moved_more : Doubling r k → (k ≤ c + 8 * t) ⊎ (length (drop t bs) ≡ 0)
-      → IsMoved ((value + n * 2 ^ (56 - (c + 8 * t)) % 2 ^ 64) * 2 ^ k % 2 ^ 64) (r * 2 ^ k % 2 ^ 32) ((c + 8 * t) - k) (drop t bs) (normal 7 (state (high_bits value c) r c bs))
+      → IsMoved ((value + n * 2 ^ (56 - (c + 8 * t)) % 2 ^ 64) * 2 ^ k % 2 ^ 64) (r * 2 ^ k % 2 ^ 32) ((c + 8 * t) - k) (drop t bs) (renormalised 7 (state (high_bits value c) r c bs))
   moved_more d fits = rw (← taken_is) (moved_on _ (high_bits value c * 2 ^ (8 * t) + n) r (c + 8 * t) k (drop t bs) word_is (omega arith) taken_too d fits)
 
 pub bytes_drop : (t : ℕ) (bs : List ℕ) → AreBytes bs → AreBytes (drop t bs)

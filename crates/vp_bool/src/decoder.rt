@@ -1,8 +1,8 @@
 //! The boolean entropy decoder (RFC 6386, chapter 7.3).
 
 ghost use Rattle.std.specs.Prelude.{◌≡◌, ℕ, ◌+◌, ◌-◌, ◌*◌, ◌/◌, ◌^◌, ◌<◌, ◌≤◌, length, List, [], ◌∷◌};
-ghost use Rattle.vp_bool.specs.Bools.{read, literal, initial_state, normal, number};
-ghost use Rattle.vp_bool.specs.Laws.{HasReadBools, ReadsOn, ReadsNumberOn};
+ghost use Rattle.vp_bool.specs.Bools.{read, literal, initial_state, renormalised, number};
+ghost use Rattle.vp_bool.specs.Laws.{HasReadBools, ReadsNextBool, ReadsNumberOn};
 ghost use Rattle.vp_bool.specs.Window.{state, high_bits, window_state, AreBytes, IsLeftAligned, IsUnnormalised};
 ghost use Rattle.vp_bool.specs.Window.{IsWindow};
 
@@ -80,16 +80,16 @@ impl<'a> BoolDecoder<'a> {
         ensures value { result ≡ (read probability self.old).0 }
         ensures rest { self.new ≡ (read probability self.old).1 }
         ensures run { (bytes ps : List ℕ) → AreBytes bytes → AreBytes ps → HasReadBools bytes ps self.old
-            → ReadsOn bytes ps (probability ∷ []) (result ∷ []) self.new }
+            → ReadsNextBool bytes ps (probability ∷ []) (result ∷ []) self.new }
     {
         let window = self.window;
         let split = 1 + (((window.range - 1) * u32::from(probability)) >> 8);
         let bound = u64::from(split) << 56;
         if window.value >= bound {
-            self.window = settled(window, window.value - bound, window.range - split);
+            self.window = renormalised(window, window.value - bound, window.range - split);
             true
         } else {
-            self.window = settled(window, window.value, split);
+            self.window = renormalised(window, window.value, split);
             false
         }
     }
@@ -100,7 +100,7 @@ impl<'a> BoolDecoder<'a> {
         ensures value { result ≡ (read 128 self.old).0 }
         ensures rest { self.new ≡ (read 128 self.old).1 }
         ensures run { (bytes ps : List ℕ) → AreBytes bytes → AreBytes ps → HasReadBools bytes ps self.old
-            → ReadsOn bytes ps (128 ∷ []) (result ∷ []) self.new }
+            → ReadsNextBool bytes ps (128 ∷ []) (result ∷ []) self.new }
     {
         let window = self.window;
         let split = (window.range + 1) >> 1;
@@ -112,7 +112,7 @@ impl<'a> BoolDecoder<'a> {
         } else {
             (window.value, split)
         };
-        self.window = settled(window, value, range);
+        self.window = renormalised(window, value, range);
         bit
     }
 
@@ -146,12 +146,12 @@ const DOUBLINGS: [u8; 256] = [
 
 /// Renormalises: shifts value and range left until the range is 128 or more, and loads bytes as needed.
 #[inline(always)]
-fn settled<'a>(window: Window<'a>, value: u64, range: u32) -> Window<'a>
+fn renormalised<'a>(window: Window<'a>, value: u64, range: u32) -> Window<'a>
     requires few { window.count ≤ 56 }
     requires bytes { AreBytes window.rest.now }
     requires aligned { IsLeftAligned value window.count }
     requires taken { IsUnnormalised (state (high_bits value window.count) range window.count window.rest.now) }
-    ensures after { window_state result ≡ normal 7
+    ensures after { window_state result ≡ renormalised 7
         (state (high_bits value window.entry.count) range window.entry.count window.entry.rest.now) }
     ensures window { IsWindow result }
 {

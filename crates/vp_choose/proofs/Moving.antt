@@ -4,7 +4,7 @@ use Rattle.std.proofs.lemmas.List.{get_or-replicate}
 use Rattle.vp_base.specs.declared.place.Place.{Place}
 use Rattle.vp_base.specs.Raster.{Raster}
 use Rattle.vp_base.specs.Image.{Image, plane_of}
-use Rattle.vp_motion.specs.Vector.{Vector, MacroblockMotion, still}
+use Rattle.vp_motion.specs.Vector.{Vector, MacroblockMotion, zero_vector}
 use Rattle.vp_intra.specs.Edges.{block}
 use Rattle.vp_intra.proofs.BlockLemmas.{is_block}
 use Rattle.vp_inter.specs.declared.vector.PlaneVector.{PlaneVector}
@@ -16,8 +16,8 @@ use Rattle.vp_recon.proofs.Parts.{sub_at, sub_below}
 use Rattle.vp_recon.proofs.MovedLemmas.{moved_alike}
 
 module _ (e : MacroblockMotion) (v : Vector) (are : e.vectors ≡ replicate 16 v) where
-  vector_at : (j : ℕ) → j < 16 → get_or e.vectors j still ≡ v
-  vector_at j below = ap (λ (vs : List Vector). get_or vs j still) are ∙ get_or-replicate 16 j v still below
+  vector_at : (j : ℕ) → j < 16 → get_or e.vectors j zero_vector ≡ v
+  vector_at j below = ap (λ (vs : List Vector). get_or vs j zero_vector) are ∙ get_or-replicate 16 j v zero_vector below
 
   luma_is : (k : ℕ) → k < 16 → luma_moved e k ≡ luma_vector v.row v.column
   unfolding luma_moved

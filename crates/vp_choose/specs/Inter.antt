@@ -10,7 +10,7 @@ use Rattle.vp_tables.specs.declared.modes.VectorMode.TheVariants as vector_is
 use Rattle.vp_head.specs.declared.fields.Reference.{Reference}
 use Rattle.vp_head.specs.declared.fields.Reference.TheVariants as reference_is
 use Rattle.vp_modes.specs.Modes.{unread}
-use Rattle.vp_motion.specs.Vector.{Vector, MacroblockMotion, Candidates, still}
+use Rattle.vp_motion.specs.Vector.{Vector, MacroblockMotion, Candidates, zero_vector}
 use Rattle.vp_motion.specs.Near.{candidates}
 use Rattle.vp_quant.specs.declared.factors.Factors.{Factors}
 use Rattle.vp_refs.specs.References.{reference_picture}
@@ -61,10 +61,10 @@ pub record IsMoved (s : Search) (source : Raster) (place : Place) (m : Moved) : 
 
 -- the mode is the first of zero, nearest, near and new that gives the vector
 abbrev pub IsFirstGiving : Candidates → Vector → VectorMode → Type 0
-IsFirstGiving c v vector_is.Zero = v ≡ still
-IsFirstGiving c v vector_is.Nearest = (v ≢ still) × (v ≡ c.nearest)
-IsFirstGiving c v vector_is.Near = (v ≢ still) × (v ≢ c.nearest) × (v ≡ c.near)
-IsFirstGiving c v vector_is.New = (v ≢ still) × (v ≢ c.nearest) × (v ≢ c.near)
+IsFirstGiving c v vector_is.Zero = v ≡ zero_vector
+IsFirstGiving c v vector_is.Nearest = (v ≢ zero_vector) × (v ≡ c.nearest)
+IsFirstGiving c v vector_is.Near = (v ≢ zero_vector) × (v ≢ c.nearest) × (v ≡ c.near)
+IsFirstGiving c v vector_is.New = (v ≢ zero_vector) × (v ≢ c.nearest) × (v ≢ c.near)
 IsFirstGiving c v vector_is.Split = ⊥
 
 -- the vector without its cost

@@ -7,7 +7,7 @@ ghost use Rattle.vp_base.specs.Raster.{Raster};
 ghost use Rattle.vp_base.specs.Rows.{AreOneSize};
 ghost use Rattle.vp_tables.specs.Modes.{is_by_subblocks};
 ghost use Rattle.vp_head.specs.Reference.{is_intra};
-ghost use Rattle.vp_motion.specs.Vector.{MacroblockMotion, IsWithin, last_of, still};
+ghost use Rattle.vp_motion.specs.Vector.{MacroblockMotion, IsWithin, last_of, zero_vector};
 ghost use Rattle.vp_motion.specs.Map.{AreWithin};
 ghost use Rattle.vp_motion.specs.Near.{candidates};
 ghost use Rattle.vp_motion.specs.Spelled.{CanBeWritten};
@@ -126,7 +126,7 @@ fn choose_intra(
     ensures writable { AreWritable (has_y2 (Intra result.modes)) result.tokens }
     ensures reference { is_intra result.modes.reference ≡ true }
     ensures mode { result.motion.mode ≡ VectorMode.Zero }
-    ensures vectors { result.motion.vectors ≡ replicate 16 still }
+    ensures vectors { result.motion.vectors ≡ replicate 16 zero_vector }
 {
     let chroma = choose_chroma(blocks, picture, place);
     let tokens = intra_tokens(blocks, factors, picture, place, luma, chroma);
@@ -268,7 +268,7 @@ pub fn choose_macroblock(
         → CanBeWritten (candidates vectors.now place result.modes.reference no_biases) result.motion }
     ensures short { IsWithin 259 (last_of result.motion.vectors) }
     ensures unmoved { is_intra result.modes.reference ≡ true → (result.motion.mode ≡ VectorMode.Zero)
-        × (result.motion.vectors ≡ replicate 16 still) }
+        × (result.motion.vectors ≡ replicate 16 zero_vector) }
 {
     let _known = [frame.source.dim(), picture.dim()];
     let blocks = cut_blocks(frame.source, place);

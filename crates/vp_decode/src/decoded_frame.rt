@@ -86,6 +86,7 @@ pub(crate) fn decode_frame<F: RowFilter>(
         ≡ shown_after parsed.entry.tag.show (picture_of (frame_of_packet parsed.entry)) parsed.entry.context.shown) }
     ensures one_size { IfOk result (λ _. IsOneSize (state_after parsed.entry)) }
 {
+    // A law, no work: each pixel is its prediction and its residue, whatever the order of macroblocks.
     unfiltered_picture_solves_its_equation();
     let context = parsed.context;
     let mut maps = context.maps_before(mem::replace(

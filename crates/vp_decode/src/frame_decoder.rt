@@ -28,6 +28,7 @@ use vp_recon::{
 };
 use vp_tokens::{Contexts, Partitions, Tokens};
 
+/// The filter limits of a macroblock that is not filtered.
 const NO_LEVEL: Level = Level {
     edge: 0,
     inner: 0,

@@ -45,11 +45,7 @@ impl MacroblockInfo {
     }
 
     /// Reads the modes of a macroblock, and its motion if it is an inter macroblock.
-    #[tactic(auto, unfolding(
-        crate::specs::MacroblockInfo::macroblock_read,
-        crate::specs::MacroblockInfo::motion_read,
-        vp_bool::specs::Reader::bind
-    ))]
+    #[tactic(auto, unfolding(crate::specs::MacroblockInfo::macroblock_read, crate::specs::MacroblockInfo::motion_read, vp_bool::specs::Reader::bind))]
     fn read_macroblock(&mut self, header: &Header, place: Place, d: &mut BoolDecoder)
         requires { Has self.old.modes place }
         ensures maps { self.new ≡ (macroblock_read header.now place self.old d.old).0 }

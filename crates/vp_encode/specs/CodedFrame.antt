@@ -10,7 +10,7 @@ use Rattle.vp_head.specs.Reference.{is_intra}
 use Rattle.vp_head.specs.Spelled as head
 use Rattle.vp_modes.specs.Entry.{Modes, plain}
 use Rattle.vp_modes.specs.Spelled as modes
-use Rattle.vp_motion.specs.Vector.{MacroblockMotion, still}
+use Rattle.vp_motion.specs.Vector.{MacroblockMotion, zero_vector}
 use Rattle.vp_motion.specs.Map.{intra}
 use Rattle.vp_motion.specs.Near.{candidates}
 use Rattle.vp_motion.specs.Spelled as motion
@@ -23,7 +23,7 @@ use Rattle.vp_encode.specs.declared.coded_frame.CodedFrame.{CodedFrame}
 unfoldable pub nothing : Choice
 nothing = record {
   modes = plain;
-  motion = record { mode = vector_is.Zero; vectors = replicate 16 still };
+  motion = record { mode = vector_is.Zero; vectors = replicate 16 zero_vector };
   tokens = record { blocks = no_blocks };
 }
 

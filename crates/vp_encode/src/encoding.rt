@@ -7,7 +7,7 @@ ghost use Rattle.std.specs.Io.KnownBytes.{Appends, Consumes, IsAtEnd};
 ghost use Rattle.vp_base.specs.Counted.{counted_remaining, counted_contents, counted_failures, counted_reads};
 ghost use Rattle.vp_base.specs.Counted.{HasFailed, AppendsPrefix};
 ghost use Rattle.vp_y4m.specs.declared.source.Progress.{Progress};
-ghost use Rattle.vp_y4m.specs.Shown.{head_shown};
+ghost use Rattle.vp_y4m.specs.Shown.{head_model};
 ghost use Rattle.vp_y4m.specs.Source.{reader_name, bytes_left, failures_of, reads_of, head_of, progress_of};
 ghost use Rattle.vp_y4m.specs.Reads.{TakesInReads};
 ghost use Rattle.vp_y4m.specs.Text.{i420_length};
@@ -118,10 +118,10 @@ fn encode_source<R: Read, T: Watcher>(
     requires allowed { AreAllowed run.old.encoder.settings }
     requires width { run.old.encoder.dim.w ≡ head.dim.w }
     requires height { run.old.encoder.dim.h ≡ head.dim.h }
-    ensures ends { (front : List ℕ) → IsHeadLine run.old.limits.pixels front (head_shown head)
+    ensures ends { (front : List ℕ) → IsHeadLine run.old.limits.pixels front (head_model head)
         → (bytes : List ℕ)
         × Consumes (counted_remaining R.remaining reader.old) (counted_remaining R.remaining reader.new) bytes
-        × EndsEncode run.old.limits run.old.encoder.settings result (head_shown head) (front ++ bytes) run.new }
+        × EndsEncode run.old.limits run.old.encoder.settings result (head_model head) (front ++ bytes) run.new }
     ensures end { OnOk result (IsAtEnd (counted_remaining R.remaining reader.new)) }
     ensures torn { result ≡ Err EncodeAllFault.Torn → IsAtEnd (counted_remaining R.remaining reader.new) }
     ensures device { result ≡ Err EncodeAllFault.Device → HasFailed (counted_failures reader.old)
@@ -179,9 +179,9 @@ fn write_file<W: Write>(
     requires few { length packets.now < 2 ^ 32 }
     requires small { All (λ p. length p < 2 ^ 32) packets.now }
     ensures ok { OnOk result (Appends (counted_contents W.contents writer.old)
-        (counted_contents W.contents writer.new) (ivf_text (head_shown head) packets.now)) }
+        (counted_contents W.contents writer.new) (ivf_text (head_model head) packets.now)) }
     ensures prefix { OnErr result (AppendsPrefix (counted_contents W.contents writer.old)
-        (counted_contents W.contents writer.new) (ivf_text (head_shown head) packets.now)) }
+        (counted_contents W.contents writer.new) (ivf_text (head_model head) packets.now)) }
     ensures device { OnErr result (HasFailed (counted_failures writer.old) (counted_failures writer.new)) }
     ensures quiet { OnOk result (counted_failures writer.new ≡ counted_failures writer.old) }
 {

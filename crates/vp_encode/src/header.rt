@@ -58,7 +58,7 @@ fn log2_of(partitions: u8) -> u8
     }
 }
 
-/// Returns the probabilities of the reference frames: even ones in an inter frame.
+/// Returns the probabilities of the reference frames: 128 each in an inter frame.
 fn references(key: bool) -> ReferenceProbabilities
     ensures { result ≡ (if key then no_references else even) }
 {

@@ -144,7 +144,7 @@ fn write_first(
     Ok(bytes)
 }
 
-/// Returns whether the size of each partition fits in 24 bits.
+/// Returns whether the size of each given partition (all but the last) fits in 24 bits.
 fn are_short(parts: &[Vec<u8>]) -> bool
     ensures short { result ≡ true → AreBelow24Bits (lists parts.now) }
     ensures long { result ≡ false → (i : ℕ) × (i < length parts.now)

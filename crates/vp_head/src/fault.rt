@@ -19,7 +19,7 @@ pub enum PacketFault {
     Size,
     /// The picture has more pixels than the limits allow.
     TooLarge,
-    /// An inter packet without a preceding key packet.
+    /// An inter packet without a key packet before it, or after a fault since.
     NoReference,
     /// The first partition extends past the end of the packet.
     FirstPartition,

@@ -54,7 +54,7 @@ fn write_type(
     Ok(())
 }
 
-/// Writes the token probabilities that changed.
+/// Writes an update flag for each token probability, and the value of each that changed.
 pub(crate) fn write_coefficients(
     old: &[[[[u8; 11]; 3]; 8]; 4],
     new: &[[[[u8; 11]; 3]; 8]; 4],

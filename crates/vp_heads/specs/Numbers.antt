@@ -11,8 +11,8 @@ count_in text = if list_all is_ascii_digit text && nat_lt 0 (length text) then S
     (min (digits_value 10 text) (2 ^ 64 - 1)) else None
 
 -- there is no leading zero before another digit
-abbrev pub starts_plainly : List ℕ → Bool
-starts_plainly text = nat_le (length text) 1 || not (slice_index text 0 == 48)
+abbrev pub has_no_leading_zero : List ℕ → Bool
+has_no_leading_zero text = nat_le (length text) 1 || not (slice_index text 0 == 48)
 
 -- the number, if it has at most 32 bits
 abbrev pub below_32_bits : Option ℕ → Option ℕ
@@ -21,4 +21,4 @@ below_32_bits (Some n) = if nat_lt n (2 ^ 32) then Some n else None
 
 -- the number of a packet: without leading zeros, at most 4,294,967,295
 abbrev pub packet_number : List ℕ → Option ℕ
-packet_number text = if starts_plainly text then below_32_bits (count_in text) else None
+packet_number text = if has_no_leading_zero text then below_32_bits (count_in text) else None

@@ -3,7 +3,7 @@
 ghost use Rattle.std.specs.Prelude.{◌≡◌, ◌&&◌, ◌==◌, ◌||◌, not, length, slice_index};
 ghost use Rattle.std.specs.Char.{is_ascii_digit};
 ghost use Rattle.std.specs.List.{list_all};
-ghost use Rattle.vp_heads.specs.Numbers.{count_in, starts_plainly, packet_number};
+ghost use Rattle.vp_heads.specs.Numbers.{count_in, has_no_leading_zero, packet_number};
 
 fn all_digits(text: &[u8]) -> bool
     ensures { result ≡ list_all is_ascii_digit text.now }
@@ -25,7 +25,7 @@ pub(crate) fn count(text: &[u8]) -> Option<u64>
 }
 
 fn is_plain(text: &[u8]) -> bool
-    ensures { result ≡ starts_plainly text.now }
+    ensures { result ≡ has_no_leading_zero text.now }
 {
     text.len() <= 1 || text[0] != b'0'
 }

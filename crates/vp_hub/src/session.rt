@@ -41,7 +41,8 @@ impl fmt::Display for ServeFault {
 }
 
 /// Serves one connection. It is opened in the hub, and each piece read (at most 4,096 bytes) is handed to the hub. The
-/// response is written before the next read. The connection is shut after a response that closes it, at the reader's
+/// response is written before the next read, which gives back-pressure. The connection is shut after a response
+/// that closes it, at the reader's
 /// end, or after a fault. Failed reads and writes are not retried.
 ///
 /// Errors: `ServeFault`.

@@ -1,6 +1,6 @@
 //! Tests of the server's own functions: connections over TCP, the printed address, and an output that fails.
 
-use crate::hubs::{HEAD, KEY, LAST_LINES, hub_of, is_key_behind};
+use crate::hubs::{HEAD, KEY, LAST_LINES, hub_of, is_key_after};
 use std::alloc::Global;
 use std::io;
 use std::io::{Read, Write};
@@ -42,7 +42,7 @@ fn is_served(rt: &HostRuntime, hub: &mut Hub) -> io::Result<bool> {
     let mut client = sending(rt, &listener, more)?;
     let mut errors = Counted::new(Vec::new(rt.alloc()));
     let well = serve_each(hub, &listener, 1, &mut errors);
-    Ok(well && is_key_behind(LAST_LINES, &rest_of(rt.alloc(), &mut client)?))
+    Ok(well && is_key_after(LAST_LINES, &rest_of(rt.alloc(), &mut client)?))
 }
 
 #[test]
@@ -68,7 +68,7 @@ fn is_second_served(rt: &HostRuntime, hub: &mut Hub) -> io::Result<bool> {
         !well
             && told.as_slice() == b"vp8: AlreadyOpen\n".as_slice()
             && rest_of(rt.alloc(), &mut first)?.is_empty()
-            && is_key_behind(LAST_LINES, &rest_of(rt.alloc(), &mut second)?),
+            && is_key_after(LAST_LINES, &rest_of(rt.alloc(), &mut second)?),
     )
 }
 

@@ -3,7 +3,7 @@
 ghost use Rattle.std.specs.Prelude.{◌≡◌, ◌≤◌};
 
 use crate::hubs::{
-    ASKS_KEY, LAST_LINES, are_both, hub_of, is_answered, is_inter, is_key, is_key_behind,
+    ASKS_KEY, LAST_LINES, are_both, hub_of, is_answered, is_inter, is_key, is_key_after,
     is_refused, parts, replied, says,
 };
 use std::alloc::Global;
@@ -24,7 +24,7 @@ const LAST: [u8; 95] =
 /// Returns whether an event is answered with the key packet's picture, and the connection is closed.
 fn is_answered_last(answer: &Result<Reply, HubFault>) -> bool {
     match answer {
-        Ok(reply) => is_key_behind(LAST_LINES, reply.bytes.as_slice()) && reply.close,
+        Ok(reply) => is_key_after(LAST_LINES, reply.bytes.as_slice()) && reply.close,
         Err(_) => false,
     }
 }

@@ -131,7 +131,7 @@ pub(crate) fn key_picture() -> [u8; 384] {
 }
 
 /// Returns whether the bytes are this head and the key packet's picture.
-pub(crate) fn is_key_behind(lines: &[u8], bytes: &[u8]) -> bool
+pub(crate) fn is_key_after(lines: &[u8], bytes: &[u8]) -> bool
     ensures { IsTrue result → length bytes.now ≡ length lines.now + 384 }
 {
     match bytes.strip_prefix(lines) {
@@ -144,7 +144,7 @@ pub(crate) fn is_key_behind(lines: &[u8], bytes: &[u8]) -> bool
 pub(crate) fn is_key(bytes: &[u8]) -> bool
     ensures { IsTrue result → length bytes.now ≡ 464 }
 {
-    is_key_behind(LINES, bytes)
+    is_key_after(LINES, bytes)
 }
 
 /// Returns whether the bytes are the response with the inter packet's picture: 128 everywhere.

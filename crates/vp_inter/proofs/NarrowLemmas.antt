@@ -7,7 +7,7 @@ use Rattle.std.specs.Int.{int_min, int_max}
 use Rattle.vp_lanes.specs.Lane.{clamp_to_byte}
 use Rattle.vp_tables.specs.Tables.{six_taps}
 use Rattle.vp_inter.specs.Filter.{clamp_to_pixel, weighed, filtered_pixel}
-use Rattle.vp_inter.specs.Narrow.{IsFrom, IsShort, weight, pair, sum_of_six, AreGentle, ArePairable}
+use Rattle.vp_inter.specs.Narrow.{IsFrom, IsShort, weight, pair, sum_of_six, SumsFitI16, ArePairable}
 
 -- ---- one product
 times : (x n : ℕ) → x < 256 → x * n ≤ 255 * n
@@ -52,7 +52,7 @@ pairable_fits a b (negsuc m) (negsuc n) g pa pb =
     let rb = lowered_in b (negsuc n) pb (omega (arith, ints)) in
     (omega (arith, ints), omega (arith, ints))
 
-pub inner_fits : (weights : List ℤ) (b c d e : ℕ) → AreGentle weights → b < 256 → c < 256 → d < 256 → e < 256
+pub inner_fits : (weights : List ℤ) (b c d e : ℕ) → SumsFitI16 weights → b < 256 → c < 256 → d < 256 → e < 256
     → IsShort (pair c d (weight weights 2) (weight weights 3) -ℤ pos 16320 +ℤ pair b e (weight weights 1) (weight weights 4))
 inner_fits weights b c d e g pb pc pd pe =
     let rb = lowered_in b (weight weights 1) pb g.1.1 in
@@ -61,7 +61,7 @@ inner_fits weights b c d e g pb pc pd pe =
     let re = lowered_in e (weight weights 4) pe g.5.1 in
     (omega (arith, ints), omega (arith, ints))
 
-pub whole_fits : (weights : List ℤ) (a b c d e f : ℕ) → AreGentle weights → a < 256 → b < 256 → c < 256 → d < 256 → e < 256 → f < 256
+pub whole_fits : (weights : List ℤ) (a b c d e f : ℕ) → SumsFitI16 weights → a < 256 → b < 256 → c < 256 → d < 256 → e < 256 → f < 256
     → IsShort (pair c d (weight weights 2) (weight weights 3) -ℤ pos 16320 +ℤ pair b e (weight weights 1) (weight weights 4) +ℤ pair a f (weight weights 0) (weight weights 5))
 whole_fits weights a b c d e f g pa pb pc pd pe pf =
     let ra = raised_in a (weight weights 0) pa g.0.0 in
@@ -73,7 +73,7 @@ whole_fits weights a b c d e f g pa pb pc pd pe pf =
     (omega (arith, ints), omega (arith, ints))
 
 -- pixels side by side, by twos
-pub near_fits : (weights : List ℤ) (a b c d e f : ℕ) → AreGentle weights → a < 256 → b < 256 → c < 256 → d < 256 → e < 256 → f < 256
+pub near_fits : (weights : List ℤ) (a b c d e f : ℕ) → SumsFitI16 weights → a < 256 → b < 256 → c < 256 → d < 256 → e < 256 → f < 256
     → IsShort (pair b c (weight weights 1) (weight weights 2) -ℤ pos 16320) × IsShort (pair b c (weight weights 1) (weight weights 2) -ℤ pos 16320 +ℤ pair d e (weight weights 3) (weight weights 4))
     × IsShort (pair a b (weight weights 0) (pos 0) +ℤ pair e f (pos 0) (weight weights 5)) × IsShort (pair b c (weight weights 1) (weight weights 2) -ℤ pos 16320 +ℤ pair d e (weight weights 3) (weight weights 4) +ℤ (pair a b (weight weights 0) (pos 0) +ℤ pair e f (pos 0) (weight weights 5)))
 near_fits weights a b c d e f g pa pb pc pd pe pf =
@@ -89,7 +89,7 @@ pub near_is : (weights : List ℤ) (pixel : ℕ → ℕ) → pair (pixel 1) (pix
 near_is weights pixel = omega (arith, ints)
 
 -- rows three apart, by twos
-pub far_fits : (weights : List ℤ) (a b c d e f : ℕ) → AreGentle weights → a < 256 → b < 256 → c < 256 → d < 256 → e < 256 → f < 256
+pub far_fits : (weights : List ℤ) (a b c d e f : ℕ) → SumsFitI16 weights → a < 256 → b < 256 → c < 256 → d < 256 → e < 256 → f < 256
     → IsShort (pair a d (weight weights 0) (weight weights 3) -ℤ pos 16320) × IsShort (pair a d (weight weights 0) (weight weights 3) -ℤ pos 16320 +ℤ pair b e (weight weights 1) (weight weights 4))
     × IsShort (pair a d (weight weights 0) (weight weights 3) -ℤ pos 16320 +ℤ pair b e (weight weights 1) (weight weights 4) +ℤ pair c f (weight weights 2) (weight weights 5))
 far_fits weights a b c d e f g pa pb pc pd pe pf =
@@ -151,7 +151,7 @@ middle_is weights a b c d e f first second fifth last =
     ap (λ (z : ℤ). clamp_to_byte (shr_z z 128 +ℤ pos 128)) same ∙ inner_is weights a b c d e f first last
 
 -- ---- the weights of the table
-pub six_taps-gentle : (eighths : ℕ) → eighths < 8 → AreGentle (six_taps eighths)
+pub six_taps-gentle : (eighths : ℕ) → eighths < 8 → SumsFitI16 (six_taps eighths)
 unfolding six_taps
 six_taps-gentle zero p = ((omega (arith, ints), omega (arith, ints)), (omega (arith, ints), omega (arith, ints)), (omega (arith, ints), omega (arith, ints)), (omega (arith, ints), omega (arith, ints)), omega (arith, ints), (omega (arith, ints), omega (arith, ints)), (omega (arith, ints), omega (arith, ints)), omega (arith, ints), omega (arith, ints))
 six_taps-gentle (suc zero) p = ((omega (arith, ints), omega (arith, ints)), (omega (arith, ints), omega (arith, ints)), (omega (arith, ints), omega (arith, ints)), (omega (arith, ints), omega (arith, ints)), omega (arith, ints), (omega (arith, ints), omega (arith, ints)), (omega (arith, ints), omega (arith, ints)), omega (arith, ints), omega (arith, ints))

@@ -1,7 +1,7 @@
 -- Private to the crate: six filter weights in vectors of two alternating weights.
 use Rattle.std.specs.Prelude.{◌≡◌, ◌+◌, ◌*◌, ◌/◌, ◌%◌, ◌<◌, ◌≤ℤ◌, ℕ, zero, suc, ℤ, pos, List, slice_index}
 use Rattle.vp_lanes.specs.Lane.{lane}
-use Rattle.vp_inter.specs.Narrow.{weight, AreGentle}
+use Rattle.vp_inter.specs.Narrow.{weight, SumsFitI16}
 use Rattle.vp_inter.specs.declared.six_tap_1d.RowWeights.{RowWeights}
 use Rattle.vp_inter.specs.declared.six_tap_1d.ColumnWeights.{ColumnWeights}
 use Rattle.vp_inter.specs.declared.six_tap_2d.Pair.{Pair}
@@ -25,7 +25,7 @@ AreFar weights far =
 
 -- weights of a six-tap filter: the first and the last are above 0
 abbrev pub AreSix : List ℤ → Type 0
-AreSix weights = AreGentle weights × (pos 1 ≤ℤ weight weights 0) × (pos 1 ≤ℤ weight weights 5)
+AreSix weights = SumsFitI16 weights × (pos 1 ≤ℤ weight weights 0) × (pos 1 ≤ℤ weight weights 5)
 
 -- the index of column c in a row whose even columns are first
 abbrev pub half_place : ℕ → ℕ

@@ -3,12 +3,12 @@
 ghost use Rattle.std.specs.Prelude.{◌≡◌, ℕ, ℤ, pos, negsuc, ◌+◌, ◌*◌, ◌%◌, ◌<◌, ◌≤◌, ◌+ℤ◌, ◌≤ℤ◌, length, slice_index};
 ghost use Rattle.std.specs.Prelude.{IsTrue};
 ghost use Rattle.vp_inter.specs.Filter.{filter_six};
-ghost use Rattle.vp_inter.specs.Narrow.{AreFew, AreGentle};
+ghost use Rattle.vp_inter.specs.Narrow.{OuterWeightsAreZero, SumsFitI16};
 ghost use Rattle.vp_inter.specs.Inter.{reference_pixel, horizontal_pass, inter_pixel, IsInside};
 
 use crate::filter::{ends_are_zero, pass, seconds_are_zero, taps};
 use crate::reference::{lies_inside, plain_row, reference_line};
-use crate::six_tap_1d::{both_ends_count, six_columns, six_rows};
+use crate::six_tap_1d::{has_six_taps, horizontal_six_tap_16, vertical_six_tap_16};
 use crate::six_tap_2d::six_tap_2d_block;
 use crate::vector::{PlaneVector, first_tap, fraction};
 use std::simd::prelude::*;
@@ -114,7 +114,8 @@ fn predict<const N: usize, const W: usize, const L: usize, const M: usize>(
     block
 }
 
-/// Both passes, with `W` rows of `L` pixels between them. A 16x16 block with six nonzero weights in both uses
+/// Both passes, with `W` rows of `N` pixels, `L` in all, between them. A 16x16 block with six nonzero weights in
+/// both uses
 /// `six_tap_2d`.
 fn pass_both<const N: usize, const W: usize, const L: usize, const M: usize>(
     pixels: &mut [u8],
@@ -130,8 +131,8 @@ fn pass_both<const N: usize, const W: usize, const L: usize, const M: usize>(
     requires square { (M ≡ N * N) × (M ≤ 256) }
     requires pieces { M % 16 ≡ 0 }
     requires whole { length pixels.old ≡ M }
-    requires horizontal_pass { AreGentle row_weights.now }
-    requires down { AreGentle column_weights.now }
+    requires horizontal_pass { SumsFitI16 row_weights.now }
+    requires down { SumsFitI16 column_weights.now }
     requires columns { 0 < plane.now.width }
     requires height { 0 < plane.now.height }
     requires near { (negsuc 400000000 ≤ℤ left) × (left ≤ℤ pos 400000000) }
@@ -139,7 +140,7 @@ fn pass_both<const N: usize, const W: usize, const L: usize, const M: usize>(
     ensures { (r c : ℕ) → r < N → c < N → slice_index pixels.new (r * N + c)
         ≡ filter_six column_weights.now (λ k. horizontal_pass row_weights.now plane.now left top (r + k) c) }
 {
-    if N == 16 && both_ends_count(row_weights) && both_ends_count(column_weights) {
+    if N == 16 && has_six_taps(row_weights) && has_six_taps(column_weights) {
         six_tap_2d_block(pixels, plane, left, top, row_weights, column_weights);
         return;
     }
@@ -192,7 +193,7 @@ fn pass_rows<const N: usize, const W: usize>(
     requires line { W ≡ N + 5 }
     requires rows { rows ≤ 21 }
     requires all { length pixels.old ≡ rows * N }
-    requires gentle { AreGentle weights.now }
+    requires gentle { SumsFitI16 weights.now }
     requires columns { 0 < plane.now.width }
     requires height { 0 < plane.now.height }
     requires near { (negsuc 400000000 ≤ℤ left) × (left ≤ℤ pos 400000000) }
@@ -201,18 +202,18 @@ fn pass_rows<const N: usize, const W: usize>(
         ≡ horizontal_pass weights.now plane.now left top i c }
 {
     let inside = lies_inside(plane, left, top, W, rows);
-    if N == 16 && both_ends_count(weights) {
-        six_rows(pixels, plane, left, top, weights, rows, inside);
+    if N == 16 && has_six_taps(weights) {
+        horizontal_six_tap_16(pixels, plane, left, top, weights, rows, inside);
     } else if inside {
-        counted_rows::<N, W, true>(pixels, plane, left, top, weights, rows);
+        horizontal_by_taps::<N, W, true>(pixels, plane, left, top, weights, rows);
     } else {
-        counted_rows::<N, W, false>(pixels, plane, left, top, weights, rows);
+        horizontal_by_taps::<N, W, false>(pixels, plane, left, top, weights, rows);
     }
 }
 
 /// The horizontal pass. If `INSIDE`, all rows are inside the plane.
 #[inline(always)]
-fn counted_rows<const N: usize, const W: usize, const INSIDE: bool>(
+fn horizontal_by_taps<const N: usize, const W: usize, const INSIDE: bool>(
     pixels: &mut [u8],
     plane: &Plane,
     left: i32,
@@ -224,7 +225,7 @@ fn counted_rows<const N: usize, const W: usize, const INSIDE: bool>(
     requires line { W ≡ N + 5 }
     requires rows { rows ≤ 21 }
     requires all { length pixels.old ≡ rows * N }
-    requires gentle { AreGentle weights.now }
+    requires gentle { SumsFitI16 weights.now }
     requires inside { IsTrue INSIDE → IsInside plane.now left top W rows }
     requires columns { 0 < plane.now.width }
     requires height { 0 < plane.now.height }
@@ -234,18 +235,18 @@ fn counted_rows<const N: usize, const W: usize, const INSIDE: bool>(
         ≡ horizontal_pass weights.now plane.now left top i c }
 {
     if !ends_are_zero(weights) {
-        moved_rows::<N, W, INSIDE, 6>(pixels, plane, left, top, weights, rows);
+        horizontal_rows::<N, W, INSIDE, 6>(pixels, plane, left, top, weights, rows);
     } else if !seconds_are_zero(weights) {
-        moved_rows::<N, W, INSIDE, 4>(pixels, plane, left, top, weights, rows);
+        horizontal_rows::<N, W, INSIDE, 4>(pixels, plane, left, top, weights, rows);
     } else {
-        moved_rows::<N, W, INSIDE, 2>(pixels, plane, left, top, weights, rows);
+        horizontal_rows::<N, W, INSIDE, 2>(pixels, plane, left, top, weights, rows);
     }
 }
 
 /// The horizontal pass with `COUNT` nonzero weights. The loop reads a local copy of them, which no write to `pixels`
 /// can alias, so each weight stays in a register.
 #[inline(always)]
-fn moved_rows<const N: usize, const W: usize, const INSIDE: bool, const COUNT: usize>(
+fn horizontal_rows<const N: usize, const W: usize, const INSIDE: bool, const COUNT: usize>(
     pixels: &mut [u8],
     plane: &Plane,
     left: i32,
@@ -257,9 +258,9 @@ fn moved_rows<const N: usize, const W: usize, const INSIDE: bool, const COUNT: u
     requires line { W ≡ N + 5 }
     requires rows { rows ≤ 21 }
     requires all { length pixels.old ≡ rows * N }
-    requires gentle { AreGentle weights.now }
+    requires gentle { SumsFitI16 weights.now }
     requires inside { IsTrue INSIDE → IsInside plane.now left top W rows }
-    requires few { AreFew weights.now COUNT }
+    requires few { OuterWeightsAreZero weights.now COUNT }
     requires columns { 0 < plane.now.width }
     requires height { 0 < plane.now.height }
     requires near { (negsuc 400000000 ≤ℤ left) × (left ≤ℤ pos 400000000) }
@@ -269,14 +270,14 @@ fn moved_rows<const N: usize, const W: usize, const INSIDE: bool, const COUNT: u
 {
     let own = *weights;
     for i in 0..rows {
-        let row = moved_row::<N, W, INSIDE, COUNT>(plane, left, top + i as i32, &own);
+        let row = horizontal_row::<N, W, INSIDE, COUNT>(plane, left, top + i as i32, &own);
         put_lanes(pixels, i, row);
     }
 }
 
 /// The horizontal pass over one row of the reference. If `INSIDE`, it reads directly from the plane.
 #[inline(always)]
-fn moved_row<const N: usize, const W: usize, const INSIDE: bool, const COUNT: usize>(
+fn horizontal_row<const N: usize, const W: usize, const INSIDE: bool, const COUNT: usize>(
     plane: &Plane,
     left: i32,
     row: i32,
@@ -285,8 +286,8 @@ fn moved_row<const N: usize, const W: usize, const INSIDE: bool, const COUNT: us
     requires size { N ≤ 16 }
     requires line { W ≡ N + 5 }
     requires inside { IsTrue INSIDE → IsInside plane.now left row W 1 }
-    requires gentle { AreGentle weights.now }
-    requires few { AreFew weights.now COUNT }
+    requires gentle { SumsFitI16 weights.now }
+    requires few { OuterWeightsAreZero weights.now COUNT }
     requires columns { 0 < plane.now.width }
     requires height { 0 < plane.now.height }
     requires near { (negsuc 400000000 ≤ℤ left) × (left ≤ℤ pos 400000000) }
@@ -309,25 +310,25 @@ fn pass_columns<const N: usize, const M: usize>(pixels: &mut [u8], rows: &[u8], 
     requires whole { length pixels.old ≡ M }
     requires room { M ≤ 256 }
     requires pieces { M % 16 ≡ 0 }
-    requires gentle { AreGentle weights.now }
+    requires gentle { SumsFitI16 weights.now }
     ensures { (r c : ℕ) → r < N → c < N → slice_index pixels.new (r * N + c)
         ≡ filter_six weights.now (λ k. slice_index rows.now ((r + k) * N + c)) }
 {
-    if N == 16 && both_ends_count(weights) {
-        six_columns(pixels, rows, weights);
+    if N == 16 && has_six_taps(weights) {
+        vertical_six_tap_16(pixels, rows, weights);
     } else if !ends_are_zero(weights) {
-        counted_columns::<N, M, 6>(pixels, rows, weights);
+        vertical_by_taps::<N, M, 6>(pixels, rows, weights);
     } else if !seconds_are_zero(weights) {
-        counted_columns::<N, M, 4>(pixels, rows, weights);
+        vertical_by_taps::<N, M, 4>(pixels, rows, weights);
     } else {
-        counted_columns::<N, M, 2>(pixels, rows, weights);
+        vertical_by_taps::<N, M, 2>(pixels, rows, weights);
     }
 }
 
-/// The vertical pass with `COUNT` nonzero weights, of which the loop reads a local copy, as `moved_rows` does. It
+/// The vertical pass with `COUNT` nonzero weights, of which the loop reads a local copy, as `horizontal_rows` does. It
 /// produces sixteen pixels at a time, across row boundaries.
 #[inline(always)]
-fn counted_columns<const N: usize, const M: usize, const COUNT: usize>(
+fn vertical_by_taps<const N: usize, const M: usize, const COUNT: usize>(
     pixels: &mut [u8],
     rows: &[u8],
     weights: &[i16; 6],
@@ -338,8 +339,8 @@ fn counted_columns<const N: usize, const M: usize, const COUNT: usize>(
     requires whole { length pixels.old ≡ M }
     requires room { M ≤ 256 }
     requires pieces { M % 16 ≡ 0 }
-    requires gentle { AreGentle weights.now }
-    requires few { AreFew weights.now COUNT }
+    requires gentle { SumsFitI16 weights.now }
+    requires few { OuterWeightsAreZero weights.now COUNT }
     ensures { (r c : ℕ) → r < N → c < N → slice_index pixels.new (r * N + c)
         ≡ filter_six weights.now (λ k. slice_index rows.now ((r + k) * N + c)) }
 {

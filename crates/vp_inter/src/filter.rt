@@ -5,8 +5,9 @@ ghost use Rattle.std.specs.Prelude.{slice_index, IsTrue};
 ghost use lib.Signed.{shr_z};
 ghost use Rattle.vp_lanes.specs.Lane.{lane, clamp_to_byte};
 ghost use Rattle.vp_inter.specs.Filter.{taps, filter_six};
-ghost use Rattle.vp_inter.specs.Narrow.{IsFrom, IsShort, pair, sum_of_two, sum_of_four, sum_of_six, weight, AreFew};
-ghost use Rattle.vp_inter.specs.Narrow.{AreGentle};
+ghost use Rattle.vp_inter.specs.Narrow.{IsFrom, IsShort, pair, sum_of_two, sum_of_four, sum_of_six, weight};
+ghost use Rattle.vp_inter.specs.Narrow.{OuterWeightsAreZero};
+ghost use Rattle.vp_inter.specs.Narrow.{SumsFitI16};
 
 use std::simd::prelude::*;
 use vp_tables::six_taps;
@@ -16,7 +17,7 @@ use vp_tables::six_taps;
 pub(crate) fn taps(version: u8, eighths: usize) -> [i16; 6]
     requires { eighths < 8 }
     ensures value { result ≡ taps version eighths }
-    ensures gentle { AreGentle result }
+    ensures gentle { SumsFitI16 result }
 {
     if version == 0 {
         *six_taps(eighths)
@@ -36,7 +37,7 @@ pub(crate) fn load<const N: usize>(s: &[u8], at: usize) -> Simd<u8, N>
 }
 
 /// The weighted sum of the two middle pixels, plus 64 for rounding, minus 16384 so that it fits in i16.
-fn begun<const N: usize>(
+fn middle_pair_sum<const N: usize>(
     a: Simd<u8, N>,
     b: Simd<u8, N>,
     weight_a: i16,
@@ -74,7 +75,7 @@ fn more<const N: usize>(
 }
 
 /// The filtered pixels: 128ths of the sums, rounded down, with the bias restored, and clamped to 0 to 255.
-pub(crate) fn ended<const N: usize>(sum: Simd<i16, N>) -> Simd<u8, N>
+pub(crate) fn rounded_pixels<const N: usize>(sum: Simd<i16, N>) -> Simd<u8, N>
     requires { N ≤ 16 }
     ensures { (j : ℕ) → j < N → slice_index result j ≡ clamp_to_byte (shr_z (lane sum.entry j) 128 +ℤ pos 128) }
 {
@@ -85,10 +86,10 @@ pub(crate) fn ended<const N: usize>(sum: Simd<i16, N>) -> Simd<u8, N>
 fn middle<const N: usize>(s: &[u8], at: usize, step: usize, weights: &[i16; 6]) -> Simd<i16, N>
     requires lanes { N ≤ 16 }
     requires room { at + 5 * step + N ≤ length s.now }
-    requires gentle { AreGentle weights.now }
+    requires gentle { SumsFitI16 weights.now }
     ensures { (j : ℕ) → j < N → lane result j ≡ sum_of_two weights.now (λ k. slice_index s.now (at + k * step + j)) }
 {
-    begun::<N>(
+    middle_pair_sum::<N>(
         load::<N>(s, at + 2 * step),
         load::<N>(s, at + 3 * step),
         weights[2],
@@ -100,7 +101,7 @@ fn middle<const N: usize>(s: &[u8], at: usize, step: usize, weights: &[i16; 6]) 
 fn inner<const N: usize>(s: &[u8], at: usize, step: usize, weights: &[i16; 6]) -> Simd<i16, N>
     requires lanes { N ≤ 16 }
     requires room { at + 5 * step + N ≤ length s.now }
-    requires gentle { AreGentle weights.now }
+    requires gentle { SumsFitI16 weights.now }
     ensures { (j : ℕ) → j < N → lane result j ≡ sum_of_four weights.now (λ k. slice_index s.now (at + k * step + j)) }
 {
     more::<N>(
@@ -116,7 +117,7 @@ fn inner<const N: usize>(s: &[u8], at: usize, step: usize, weights: &[i16; 6]) -
 fn whole_sum<const N: usize>(s: &[u8], at: usize, step: usize, weights: &[i16; 6]) -> Simd<i16, N>
     requires lanes { N ≤ 16 }
     requires room { at + 5 * step + N ≤ length s.now }
-    requires gentle { AreGentle weights.now }
+    requires gentle { SumsFitI16 weights.now }
     ensures { (j : ℕ) → j < N → lane result j ≡ sum_of_six weights.now (λ k. slice_index s.now (at + k * step + j)) }
 {
     more::<N>(
@@ -153,16 +154,16 @@ pub(crate) fn pass<const N: usize, const COUNT: usize>(
 ) -> Simd<u8, N>
     requires lanes { N ≤ 16 }
     requires room { at + 5 * step + N ≤ length s.now }
-    requires gentle { AreGentle weights.now }
-    requires few { AreFew weights.now COUNT }
+    requires gentle { SumsFitI16 weights.now }
+    requires few { OuterWeightsAreZero weights.now COUNT }
     ensures { (j : ℕ) → j < N → slice_index result j ≡ filter_six weights.now
         (λ k. slice_index s.now (at + k * step + j)) }
 {
     if COUNT >= 6 {
-        return ended::<N>(whole_sum::<N>(s, at, step, weights));
+        return rounded_pixels::<N>(whole_sum::<N>(s, at, step, weights));
     }
     if COUNT >= 4 {
-        return ended::<N>(inner::<N>(s, at, step, weights));
+        return rounded_pixels::<N>(inner::<N>(s, at, step, weights));
     }
-    ended::<N>(middle::<N>(s, at, step, weights))
+    rounded_pixels::<N>(middle::<N>(s, at, step, weights))
 }

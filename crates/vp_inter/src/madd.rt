@@ -82,7 +82,7 @@ pub(crate) fn pair_sums(a: u8x16, w: i8x16) -> i16x8
 }
 
 /// Multiplies sixteen bytes by two alternating weights, and adds the products in pairs.
-pub(crate) fn turned_sums(a: u8x16, w: i8x16, even: i16, odd: i16) -> i16x8
+pub(crate) fn alternating_madd(a: u8x16, w: i8x16, even: i16, odd: i16) -> i16x8
     requires turns { AreByTurns w even odd }
     requires fits { ArePairable even odd }
     ensures { (j : ℕ) → j < 8 → lane result j ≡ pair (slice_index a (2 * j)) (slice_index a (2 * j + 1)) even odd }
@@ -91,7 +91,7 @@ pub(crate) fn turned_sums(a: u8x16, w: i8x16, even: i16, odd: i16) -> i16x8
 }
 
 /// Multiplies sixteen bytes from index `at` on by two alternating weights, and adds the products in pairs.
-pub(crate) fn turn_sums(s: &[u8], at: usize, w: i8x16, even: i16, odd: i16) -> i16x8
+pub(crate) fn load_alternating_madd(s: &[u8], at: usize, w: i8x16, even: i16, odd: i16) -> i16x8
     requires room { at + 16 ≤ length s.now }
     requires turns { AreByTurns w even odd }
     requires fits { ArePairable even odd }

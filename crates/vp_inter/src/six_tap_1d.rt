@@ -9,14 +9,14 @@ ghost use Rattle.vp_inter.specs.Narrow.{IsShort, sum_of_six, weight};
 ghost use Rattle.vp_inter.specs.Turns.{AreNear, AreFar, AreSix, one_of_three, half_place};
 
 use crate::block::put_lanes;
-use crate::filter::{ended, load};
-use crate::madd::{interleaved_pairs, turn_sums, turned_sums};
+use crate::filter::{load, rounded_pixels};
+use crate::madd::{alternating_madd, interleaved_pairs, load_alternating_madd};
 use crate::reference::reference_line;
 use std::simd::prelude::*;
 use vp_base::Plane;
 
 /// Whether the first and the last weight are above 0.
-pub(crate) fn both_ends_count(weights: &[i16; 6]) -> bool
+pub(crate) fn has_six_taps(weights: &[i16; 6]) -> bool
     ensures { IsTrue result → (pos 1 ≤ℤ weight weights.now 0) × (pos 1 ≤ℤ weight weights.now 5) }
 {
     weights[0] > 0 && weights[5] > 0
@@ -107,11 +107,11 @@ fn horizontal_sums(s: &[u8], at: usize, weights: &[i16; 6], near: &RowWeights) -
     ensures { (j : ℕ) → j < 8 → lane result j ≡ sum_of_six weights.now (λ k. slice_index s.now (at + 2 * j + k)) }
 {
     sum_of_three(
-        turn_sums(s, at + 1, near.left, weights[1], weights[2]),
-        turn_sums(s, at + 3, near.right, weights[3], weights[4]),
+        load_alternating_madd(s, at + 1, near.left, weights[1], weights[2]),
+        load_alternating_madd(s, at + 3, near.right, weights[3], weights[4]),
         sum_of_both(
-            turn_sums(s, at, near.first, weights[0], 0),
-            turn_sums(s, at + 4, near.last, 0, weights[5]),
+            load_alternating_madd(s, at, near.first, weights[0], 0),
+            load_alternating_madd(s, at + 4, near.last, 0, weights[5]),
         ),
     )
 }
@@ -124,9 +124,9 @@ fn vertical_sums(a: u8x16, b: u8x16, c: u8x16, weights: &[i16; 6], far: &ColumnW
         (λ k. slice_index (one_of_three a b c (k % 3)) (2 * j + k / 3)) }
 {
     sum_of_three(
-        turned_sums(a, far.first, weights[0], weights[3]),
-        turned_sums(b, far.second, weights[1], weights[4]),
-        turned_sums(c, far.third, weights[2], weights[5]),
+        alternating_madd(a, far.first, weights[0], weights[3]),
+        alternating_madd(b, far.second, weights[1], weights[4]),
+        alternating_madd(c, far.third, weights[2], weights[5]),
     )
 }
 
@@ -138,7 +138,7 @@ fn horizontal_eight(s: &[u8], at: usize, weights: &[i16; 6], near: &RowWeights) 
     ensures { (j : ℕ) → j < 8 → slice_index result j ≡ filter_six weights.now
         (λ k. slice_index s.now (at + 2 * j + k)) }
 {
-    ended::<8>(horizontal_sums(s, at, weights, near))
+    rounded_pixels::<8>(horizontal_sums(s, at, weights, near))
 }
 
 /// Filters eight pixels vertically. Each vector interleaves two rows that are three apart.
@@ -154,7 +154,7 @@ pub(crate) fn vertical_eight(
     ensures { (j : ℕ) → j < 8 → slice_index result j ≡ filter_six weights.now
         (λ k. slice_index (one_of_three a b c (k % 3)) (2 * j + k / 3)) }
 {
-    ended::<8>(vertical_sums(a, b, c, weights, far))
+    rounded_pixels::<8>(vertical_sums(a, b, c, weights, far))
 }
 
 /// Filters sixteen adjacent pixels horizontally: even columns first, then odd ones.
@@ -261,7 +261,7 @@ fn wide_rows<const INSIDE: bool>(
 
 /// The horizontal pass with six weights over `rows` rows of the reference. If `inside`, all of them are inside the
 /// plane.
-pub(crate) fn six_rows(
+pub(crate) fn horizontal_six_tap_16(
     pixels: &mut [u8],
     plane: &Plane,
     left: i32,
@@ -319,7 +319,7 @@ fn wide_columns(pixels: &mut [u8], pairs: &[u8], weights: &[i16; 6], far: &Colum
 }
 
 /// The vertical pass with six weights over rows of sixteen pixels, five more than it produces.
-pub(crate) fn six_columns(pixels: &mut [u8], rows: &[u8], weights: &[i16; 6])
+pub(crate) fn vertical_six_tap_16(pixels: &mut [u8], rows: &[u8], weights: &[i16; 6])
     requires all { length rows.now ≡ 336 }
     requires whole { length pixels.old ≡ 256 }
     requires six { AreSix weights.now }

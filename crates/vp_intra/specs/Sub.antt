@@ -10,13 +10,13 @@ use Rattle.vp_intra.specs.Edges.{above_pixel, left_pixel, corner_pixel, clamped_
 
 -- The row below the pixels above and to the right of the subblock at column x of row y. In the last column of a
 -- macroblock it is the macroblock's first row, not the subblock's.
-unfoldable pub right_row : ℕ → ℕ → ℕ
-right_row x y = if x % 16 == 12 then y - y % 16 else y
+unfoldable pub above_right_row : ℕ → ℕ → ℕ
+above_right_row x y = if x % 16 == 12 then y - y % 16 else y
 
 -- pixel i of those above and to the right; above the frame it is 127; past the last column the last pixel is repeated
 unfoldable pub above_right_pixel : Raster → ℕ → ℕ → ℕ → ℕ
-above_right_pixel p x y i = if right_row x y == 0 then 127 else pixel p (min (x + 4 + i) (p.width - 1))
-    (right_row x y - 1)
+above_right_pixel p x y i = if above_right_row x y == 0 then 127 else pixel p (min (x + 4 + i) (p.width - 1))
+    (above_right_row x y - 1)
 
 -- The thirteen pixels around a subblock: the left column from the bottom up, the corner, the row above and above
 -- right. Index 3 is the top of the left column, 4 the corner, 5 the first of the row above.

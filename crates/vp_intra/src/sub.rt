@@ -2,7 +2,7 @@
 
 ghost use Rattle.std.specs.Prelude.{◌≡◌, ℕ, ◌+◌, ◌<◌, ◌≤◌};
 ghost use Rattle.vp_intra.specs.Edges.{block};
-ghost use Rattle.vp_intra.specs.Sub.{right_row, above_right_pixel, around, sub_pixel};
+ghost use Rattle.vp_intra.specs.Sub.{above_right_row, above_right_pixel, around, sub_pixel};
 
 use crate::edges::{edge_above, edge_corner, edge_left};
 use crate::modes::predict;
@@ -21,9 +21,9 @@ pub fn predict_sub(plane: &Plane, x: usize, y: usize, mode: SubMode) -> [u8; 16]
 }
 
 /// The row below the pixels above and to the right of a subblock.
-#[tactic(auto, unfolding(crate::specs::Sub::right_row))]
-fn row_at_right(x: usize, y: usize) -> usize
-    ensures value { result ≡ right_row x y }
+#[tactic(auto, unfolding(crate::specs::Sub::above_right_row))]
+fn row_of_above_right(x: usize, y: usize) -> usize
+    ensures value { result ≡ above_right_row x y }
     ensures bound { result ≤ y }
 {
     if x % 16 == 12 { y - y % 16 } else { y }
@@ -38,7 +38,7 @@ fn pixel_at_right(plane: &Plane, x: usize, y: usize, i: usize) -> u8
     ensures { result ≡ above_right_pixel plane.now x y i }
 {
     let width = plane.width();
-    let row = row_at_right(x, y);
+    let row = row_of_above_right(x, y);
     if row == 0 {
         127
     } else {

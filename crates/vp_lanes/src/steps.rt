@@ -79,7 +79,8 @@ pub fn half(f: u8x16) -> u8x16
     (f + u8x16::splat(1)) >> 1
 }
 
-/// `(w * k + 63) / 128`, rounded down and clamped to -128 to 127. `w` has bias 128, the result `k`.
+/// `(w * k + 63) / 128`, rounded down. With `k` at most 27 it never leaves -128 to 127, where RFC 6386 clamps it. `w`
+/// has bias 128, the result `k`.
 pub fn weighted_filter_value(w: u8x16, k: u8) -> u8x16
     requires { k ≤ 27 }
     ensures { (j : ℕ) → j < 16 → biased k result j ≡ clamp_to_i8 (shr_z (biased 128 w j *ℤ pos k +ℤ pos 63) 128) }
@@ -129,7 +130,8 @@ fn excess(edge: u8x16, outer: u8x16, limit: u8) -> u8x16
     )
 }
 
-/// `w` in the lines that the filter mask includes, else 0. `w` and the result have bias 128.
+/// `w` in the lines that the filter mask includes, else 0. `most` is the greatest difference of neighbours on one side
+/// of the edge. `w` and the result have bias 128.
 pub fn masked(w: u8x16, edge: u8x16, outer: u8x16, limit: u8, most: u8x16, interior: u8) -> u8x16
     ensures { (j : ℕ) → j < 16 → biased 128 result j ≡ cond (nat_le (slice_index edge j * 2
         + slice_index outer j / 2) limit && nat_le (slice_index most j) interior) (biased 128 w j) (pos 0) }

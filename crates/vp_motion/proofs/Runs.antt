@@ -8,7 +8,7 @@ use Rattle.vp_head.specs.declared.fields.SignBiases.{SignBiases}
 use Rattle.vp_base.specs.declared.place.Place.{Place}
 use Rattle.vp_base.specs.Place.{above, left, corner}
 use Rattle.vp_base.specs.Grid.{Grid, look}
-use Rattle.vp_motion.specs.Vector.{Vector, MacroblockMotion, still}
+use Rattle.vp_motion.specs.Vector.{Vector, MacroblockMotion, zero_vector}
 use Rattle.std.specs.Int.{from_bool}
 use Rattle.std.specs.Prelude.{nat_lt}
 use Rattle.vp_head.specs.Reference.{is_intra}
@@ -99,17 +99,17 @@ unfolding runs onto joined
 runs-push [] w = refl
 runs-push (v ∷ ws) w = ap (onto v) (runs-push ws w) ∙ onto-joined v w (runs ws)
 
-still_weight-push : (ws : List Weighted) (w : Weighted) → still_weight (ws ++ w ∷ []) ≡ still_weight ws + cond (same w.vector still) w.weight 0
+still_weight-push : (ws : List Weighted) (w : Weighted) → still_weight (ws ++ w ∷ []) ≡ still_weight ws + cond (same w.vector zero_vector) w.weight 0
 unfolding still_weight
 still_weight-push [] w = omega arith
 still_weight-push (v ∷ ws) w = rw (still_weight-push ws w) (omega arith)
 
-moving-push : (ws : List Weighted) (w : Weighted) → moving (ws ++ w ∷ []) ≡ cond (same w.vector still) (moving ws) (moving ws ++ w ∷ [])
+moving-push : (ws : List Weighted) (w : Weighted) → moving (ws ++ w ∷ []) ≡ cond (same w.vector zero_vector) (moving ws) (moving ws ++ w ∷ [])
 unfolding moving
 moving-push [] w = refl
-moving-push (v ∷ ws) w = elim (cases_Bool (same v.vector still)) [
+moving-push (v ∷ ws) w = elim (cases_Bool (same v.vector zero_vector)) [
   | inl t ↦ rw t (moving-push ws w)
-  | inr f ↦ rw (f, moving-push ws w) (elim (cases_Bool (same w.vector still)) [ inl t ↦ rw t refl | inr n ↦ rw n refl ])
+  | inr f ↦ rw (f, moving-push ws w) (elim (cases_Bool (same w.vector zero_vector)) [ inl t ↦ rw t refl | inr n ↦ rw n refl ])
 ]
 
 pub tally-intra : (ws : List Weighted) (count : ℕ) (es : List Weighted) (r : Reference) (b : SignBiases) (n : ℕ) (e : MacroblockMotion) → is_intra e.reference ≡ true
@@ -118,7 +118,7 @@ unfolding weighted_neighbour
 tally-intra ws count es r b n e h t = rw (h, append-nil ws) t
 
 pub tally-still : (ws : List Weighted) (count : ℕ) (es : List Weighted) (r : Reference) (b : SignBiases) (n : ℕ) (e : MacroblockMotion) → is_intra e.reference ≡ false
-    → same (bias_corrected r b e) still ≡ true → IsTally ws count es → IsTally (ws ++ weighted_neighbour r b n e) (count + n) es
+    → same (bias_corrected r b e) zero_vector ≡ true → IsTally ws count es → IsTally (ws ++ weighted_neighbour r b n e) (count + n) es
 unfolding weighted_neighbour
 tally-still ws count es r b n e h s t = rw h (let w : Weighted = record { vector = bias_corrected r b e; weight = n } in record {
   still_ones = ap (λ (k : ℕ). k + n) t.still_ones ∙ sym (still_weight-push ws w ∙ ap (λ (x : Bool). still_weight ws + cond x n 0) s);
@@ -126,7 +126,7 @@ tally-still ws count es r b n e h s t = rw h (let w : Weighted = record { vector
 })
 
 pub tally-moving : (ws : List Weighted) (count : ℕ) (es fs : List Weighted) (r : Reference) (b : SignBiases) (n : ℕ) (e : MacroblockMotion) → is_intra e.reference ≡ false
-    → same (bias_corrected r b e) still ≡ false → fs ≡ joined es (record { vector = bias_corrected r b e; weight = n }) → IsTally ws count es → IsTally (ws ++ weighted_neighbour r b n e) count fs
+    → same (bias_corrected r b e) zero_vector ≡ false → fs ≡ joined es (record { vector = bias_corrected r b e; weight = n }) → IsTally ws count es → IsTally (ws ++ weighted_neighbour r b n e) count fs
 unfolding weighted_neighbour
 tally-moving ws count es fs r b n e h s j t = rw h (let w : Weighted = record { vector = bias_corrected r b e; weight = n } in record {
   still_ones = t.still_ones ∙ sym (still_weight-push ws w ∙ ap (λ (x : Bool). still_weight ws + cond x n 0) s ∙ (let z : still_weight ws + 0 ≡ still_weight ws = omega arith in z));

@@ -22,7 +22,7 @@ use Rattle.vp_tables.specs.declared.modes.VectorMode.TheVariants as vector_is
 use Rattle.vp_tables.specs.declared.trees.TheConstants.{SHORT_VECTOR_TREE}
 use Rattle.vp_tables.specs.Modes.{is_split}
 use Rattle.vp_motion.specs.declared.vector.Weighted.{Weighted}
-use Rattle.vp_motion.specs.Vector.{Vector, Candidates, MacroblockMotion, IsWithin, last_of, still}
+use Rattle.vp_motion.specs.Vector.{Vector, Candidates, MacroblockMotion, IsWithin, last_of, zero_vector}
 use Rattle.vp_motion.specs.Map.{AreWithin, intra, own}
 use Rattle.vp_motion.specs.Motion.{all_new, bit, component, long_size, motion_at, motion_by, new_vector, short_size, component_magnitude, sum_of, vector, vectors_by}
 use Rattle.vp_motion.specs.Near.{bias_of, candidates, clamped, weighted_neighbour, weighted_at, first_candidate, from_entries, from_two, moving, negated, neighbours, onto, runs, same, same_bool, bias_corrected, clamped_vector}
@@ -112,7 +112,7 @@ abbrev AreShort : ℕ → List Weighted → Type 0
 AreShort n [] = Unit {0}
 AreShort n (w ∷ ws) = IsWithin n w.vector × AreShort n ws
 
-still-short : (n : ℕ) → IsWithin n still
+still-short : (n : ℕ) → IsWithin n zero_vector
 still-short n = record { low_row = omega (arith, ints); high_row = omega (arith, ints); low_column = omega (arith, ints); high_column = omega (arith, ints) }
 
 negated-short : (n : ℕ) (v : Vector) → IsWithin n v → IsWithin n (negated v)
@@ -134,14 +134,14 @@ append-short : (n : ℕ) (ws vs : List Weighted) → AreShort n ws → AreShort 
 append-short n [] vs h k = k
 append-short n (w ∷ ws) vs h k = (h.0, append-short n ws vs h.1 k)
 
-moving_by : (still : Bool) (n : ℕ) (w : Weighted) (ws : List Weighted) → IsWithin n w.vector → AreShort n ws → AreShort n (cond still ws (w ∷ ws))
+moving_by : (zero_vector : Bool) (n : ℕ) (w : Weighted) (ws : List Weighted) → IsWithin n w.vector → AreShort n ws → AreShort n (cond zero_vector ws (w ∷ ws))
 moving_by true n w ws h k = k
 moving_by false n w ws h k = (h, k)
 
 moving-short : (n : ℕ) (ws : List Weighted) → AreShort n ws → AreShort n (moving ws)
 unfolding moving
 moving-short n [] h = tt
-moving-short n (w ∷ ws) h = moving_by (same w.vector still) n w (moving ws) h.0 (moving-short n ws h.1)
+moving-short n (w ∷ ws) h = moving_by (same w.vector zero_vector) n w (moving ws) h.0 (moving-short n ws h.1)
 
 onto_by : (joins : Bool) (n : ℕ) (w e : Weighted) (es : List Weighted) (k : ℕ) → IsWithin n w.vector → AreShort n (e ∷ es)
     → AreShort n (cond joins (record { vector = w.vector; weight = k } ∷ es) (w ∷ (e ∷ es)))
@@ -197,7 +197,7 @@ pub record AreCandidatesWithin (n : ℕ) (c : Candidates) : Type 0 where
   pub nearest : IsWithin n c.nearest
   pub near : IsWithin n c.near
 
-best_by : (moves : Bool) (n : ℕ) (v : Vector) → IsWithin n v → IsWithin n (cond moves v still)
+best_by : (moves : Bool) (n : ℕ) (v : Vector) → IsWithin n v → IsWithin n (cond moves v zero_vector)
 best_by true n v h = h
 best_by false n v h = still-short n
 

@@ -8,11 +8,11 @@ use Rattle.vp_base.specs.Near.{block_place, seen_from, value}
 use Rattle.vp_head.specs.Reference.{is_intra}
 use Rattle.vp_head.specs.declared.fields.Reference.TheVariants as reference_is
 use Rattle.vp_tables.specs.declared.modes.VectorMode.TheVariants as vector_is
-use Rattle.vp_motion.specs.Vector.{Vector, MacroblockMotion, IsWithin, still, last_of}
+use Rattle.vp_motion.specs.Vector.{Vector, MacroblockMotion, IsWithin, zero_vector, last_of}
 
 -- the motion of an intra macroblock: zero vectors
 unfoldable pub intra : MacroblockMotion
-intra = record { reference = reference_is.Intra; mode = vector_is.Zero; vectors = replicate 16 still }
+intra = record { reference = reference_is.Intra; mode = vector_is.Zero; vectors = replicate 16 zero_vector }
 
 -- the macroblock's own vector, which its neighbours use as a candidate
 unfoldable pub own : MacroblockMotion → Vector
@@ -24,12 +24,12 @@ AreWithin n g = (p : Place) → IsWithin n (own (at intra g p))
 
 -- the vector of block b; zero in an intra macroblock
 unfoldable pub block_vector : MacroblockMotion → ℕ → Vector
-block_vector e b = if is_intra e.reference then still else slice_index_or e.vectors b still
+block_vector e b = if is_intra e.reference then zero_vector else slice_index_or e.vectors b zero_vector
 
 -- The vectors above block b of the macroblock at p, and to its left. found contains the vectors of its blocks before
 -- b. Outside the frame the vector is zero.
 unfoldable pub above_block : Grid MacroblockMotion → Place → List Vector → ℕ → Vector
-above_block g p found b = value block_vector still g found (seen_from 4 p (above (block_place 4 p b)))
+above_block g p found b = value block_vector zero_vector g found (seen_from 4 p (above (block_place 4 p b)))
 
 unfoldable pub left_block : Grid MacroblockMotion → Place → List Vector → ℕ → Vector
-left_block g p found b = value block_vector still g found (seen_from 4 p (left (block_place 4 p b)))
+left_block g p found b = value block_vector zero_vector g found (seen_from 4 p (left (block_place 4 p b)))

@@ -16,7 +16,7 @@ use Rattle.vp_base.specs.Place.{above, left, corner}
 use Rattle.vp_base.specs.Grid.{Grid, look}
 use Rattle.vp_motion.specs.declared.vector.Nearby.{Nearby}
 use Rattle.vp_motion.specs.declared.vector.Weighted.{Weighted}
-use Rattle.vp_motion.specs.Vector.{Vector, MacroblockMotion, Candidates, still}
+use Rattle.vp_motion.specs.Vector.{Vector, MacroblockMotion, Candidates, zero_vector}
 use Rattle.vp_motion.specs.Map.{intra, own}
 
 -- ---- A neighbour's vector
@@ -65,12 +65,12 @@ neighbours g p r b = weighted_neighbour r b 2 (look intra g (above p))
 -- the sum of the weights of zero vectors
 unfoldable pub still_weight : List Weighted → ℕ
 still_weight [] = 0
-still_weight (w ∷ ws) = (if same w.vector still then w.weight else 0) + still_weight ws
+still_weight (w ∷ ws) = (if same w.vector zero_vector then w.weight else 0) + still_weight ws
 
 -- the nonzero vectors
 unfoldable pub moving : List Weighted → List Weighted
 moving [] = []
-moving (w ∷ ws) = if same w.vector still then moving ws else w ∷ moving ws
+moving (w ∷ ws) = if same w.vector zero_vector then moving ws else w ∷ moving ws
 
 -- consecutive equal vectors become one entry, and their weights are added
 unfoldable pub onto : Weighted → List Weighted → List Weighted
@@ -85,7 +85,7 @@ runs (w ∷ ws) = onto w (runs ws)
 
 -- an entry of the zero vector with weight 0
 abbrev pub nobody : Weighted
-nobody = record { vector = still; weight = 0 }
+nobody = record { vector = zero_vector; weight = 0 }
 
 -- entry k; past the end the zero vector with weight 0
 abbrev pub weighted_at : List Weighted → ℕ → Weighted
@@ -127,7 +127,7 @@ clamped_by clamp n = record { counts = n.counts; best = clamp n.best; nearest = 
 abbrev pub from_two : (Vector → Vector) → ℕ → ℕ → Weighted → Weighted → Candidates
 from_two clamp zeros splits nearest near = record {
   counts = zeros ∷ nearest.weight ∷ near.weight ∷ splits ∷ [];
-  best = clamp (if nat_le zeros nearest.weight then nearest.vector else still);
+  best = clamp (if nat_le zeros nearest.weight then nearest.vector else zero_vector);
   nearest = clamp nearest.vector;
   near = clamp near.vector;
 }
@@ -159,7 +159,7 @@ unfoldable pub example_grid : Grid MacroblockMotion
 example_grid = record {
   columns = 3;
   rows = 3;
-  entries = inter still ∷ inter example_vector ∷ intra
+  entries = inter zero_vector ∷ inter example_vector ∷ intra
       ∷ inter example_vector ∷ intra ∷ intra ∷ intra ∷ intra ∷ intra ∷ [];
 }
 

@@ -3,7 +3,7 @@
 use Rattle.std.specs.Prelude.{◌≡◌, ℕ, ◌/◌, ◌%◌, ◌^◌, ◌==◌, ◌-ℤ◌, if◌then◌else◌}
 use Rattle.vp_tables.specs.declared.modes.VectorMode.{VectorMode}
 use Rattle.vp_tables.specs.declared.modes.VectorMode.TheVariants as vector_is
-use Rattle.vp_motion.specs.Vector.{Vector, Motion, Candidates, IsWithin, last_of, still}
+use Rattle.vp_motion.specs.Vector.{Vector, Motion, Candidates, IsWithin, last_of, zero_vector}
 
 -- the value of bit i of n
 abbrev pub bit_of : ℕ → ℕ → ℕ
@@ -16,7 +16,7 @@ difference_of v u = record { row = v.row -ℤ u.row; column = v.column -ℤ u.co
 -- The mode codes this vector for the whole macroblock: new codes vectors whose components differ from best by at most
 -- 1,023 quarter pixels, split codes none.
 abbrev pub GivesVector : Candidates → VectorMode → Vector → Type 0
-GivesVector c vector_is.Zero v = v ≡ still
+GivesVector c vector_is.Zero v = v ≡ zero_vector
 GivesVector c vector_is.Nearest v = v ≡ c.nearest
 GivesVector c vector_is.Near v = v ≡ c.near
 GivesVector c vector_is.New v = IsWithin 1023 (difference_of v c.best)

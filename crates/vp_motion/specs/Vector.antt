@@ -11,8 +11,8 @@ pub record Vector : Type 0 where
   pub column : ℤ
 
 -- the zero vector
-abbrev pub still : Vector
-still = record { row = pos 0; column = pos 0 }
+abbrev pub zero_vector : Vector
+zero_vector = record { row = pos 0; column = pos 0 }
 
 -- the components of a vector are from -n to n
 pub record IsWithin (n : ℕ) (v : Vector) : Type 0 where
@@ -27,7 +27,7 @@ IsSmall v = IsWithin 66559 v
 
 -- A macroblock's own vector is that of its last block.
 abbrev pub last_of : List Vector → Vector
-last_of vectors = slice_index_or vectors 15 still
+last_of vectors = slice_index_or vectors 15 zero_vector
 
 -- all blocks have one vector unless the mode is split
 abbrev pub AreOne : VectorMode → List Vector → Type 0

@@ -4,7 +4,7 @@ ghost use Rattle.std.specs.Prelude.{◌≡◌, ◌<◌};
 ghost use Rattle.vp_base.specs.Grid.{Has};
 ghost use Rattle.vp_base.specs.Near.{IsBefore, value};
 ghost use Rattle.vp_motion.specs.Map.{above_block, left_block, block_vector};
-ghost use Rattle.vp_motion.specs.Vector.{still};
+ghost use Rattle.vp_motion.specs.Vector.{zero_vector};
 
 use crate::map::VectorMap;
 use crate::vector::{MacroblockMotion, STILL, Vector};
@@ -26,8 +26,8 @@ fn vector_in(entry: &MacroblockMotion, b: usize) -> Vector
 /// The vector of a block near the macroblock at `place`. `found` contains the vectors of that macroblock read so far.
 fn vector_near(map: &VectorMap, place: Place, found: &[Vector; 16], near: Near) -> Vector
     requires place { Has map.now place }
-    requires before { IsBefore place near }
-    ensures { result ≡ value block_vector still map.now found.now near }
+    requires lower_bound { IsBefore place near }
+    ensures { result ≡ value block_vector zero_vector map.now found.now near }
 {
     match near {
         Near::Here(b) => found[b],

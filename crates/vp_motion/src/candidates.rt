@@ -35,7 +35,7 @@ fn look<'a>(
 
 /// The lower bound of a clamped component, in quarter pixels. `macroblocks` counts those from the frame's left or top
 /// edge up to this one, inclusive.
-fn before(macroblocks: usize) -> i32
+fn lower_bound(macroblocks: usize) -> i32
     requires { macroblocks ≤ 1024 }
     ensures { result ≡ neg_ℤ (pos (64 * macroblocks)) }
 {
@@ -44,7 +44,7 @@ fn before(macroblocks: usize) -> i32
 
 /// The upper bound of a clamped component, in quarter pixels. `macroblocks` counts those from this one, inclusive, to
 /// the frame's right or bottom edge.
-fn behind(macroblocks: usize) -> i32
+fn upper_bound(macroblocks: usize) -> i32
     requires { macroblocks ≤ 1024 }
     ensures { result ≡ pos (64 * macroblocks) }
 {
@@ -75,10 +75,14 @@ pub(crate) fn clamp_vector(map: &VectorMap, place: Place, vector: Vector) -> Vec
 {
     let (columns, rows) = (map.columns(), map.rows());
     Vector {
-        row: clamp(before(place.row + 1), behind(rows - place.row), vector.row),
+        row: clamp(
+            lower_bound(place.row + 1),
+            upper_bound(rows - place.row),
+            vector.row,
+        ),
         column: clamp(
-            before(place.column + 1),
-            behind(columns - place.column),
+            lower_bound(place.column + 1),
+            upper_bound(columns - place.column),
             vector.column,
         ),
     }

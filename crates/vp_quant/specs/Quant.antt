@@ -1,4 +1,4 @@
--- Quantiser indices, the six factors, and dequantised blocks in zigzag order (RFC 6386, chapters 9.3, 9.6 and 14.1).
+-- Quantiser indices, the six factors, and dequantised blocks in raster order (RFC 6386, chapters 9.3, 9.6 and 14.1).
 -- Pinned by the tests `factors_of_both_ends`, `indices_are_held` and `levels_at_their_places`.
 use Rattle.std.specs.Prelude.{ℕ, ◌*◌, ◌/◌, ◌==◌, nat_lt, min, max, ℤ, pos, negsuc, ◌+ℤ◌, ◌*ℤ◌, List, map}
 use Rattle.std.specs.Prelude.{slice_index_or, if◌then◌else◌}

@@ -9,8 +9,8 @@ ghost use Rattle.vp_quant.specs.Short.{largest, AreShort, HasSmallProduct};
 use std::simd::prelude::*;
 use vp_lanes::clamp_i16;
 
-/// The greatest magnitude of a coefficient.
-const MOST: u16 = 2200;
+/// The greatest magnitude of a coefficient on the 16-bit path.
+const COEFFICIENT_BOUND: u16 = 2200;
 
 /// Dequantises in 16 bits: the result of `dequant` if each level, and its product with the larger factor, is from
 /// -2,200 to 2,200. Else None.
@@ -21,7 +21,7 @@ pub fn dequant_short(levels: [i16; 16], dc: u16, ac: u16) -> Option<[i16; 16]>
     ensures some { AreShort levels dc ac → result ≢ None }
 {
     let read = i16x16::from_array(levels);
-    let most = most_of(dc, ac);
+    let most = greatest_level(dc, ac);
     let held = clamp_i16(read, -most, most);
     if are_same(held, read) {
         Some(placed(products(read, dc, ac)).to_array())
@@ -31,10 +31,10 @@ pub fn dequant_short(levels: [i16; 16], dc: u16, ac: u16) -> Option<[i16; 16]>
 }
 
 /// The greatest magnitude of a level for these factors.
-fn most_of(dc: u16, ac: u16) -> i16
+fn greatest_level(dc: u16, ac: u16) -> i16
     ensures { result ≡ pos (2200 / largest dc ac) }
 {
-    (MOST / dc.max(ac).max(1)) as i16
+    (COEFFICIENT_BOUND / dc.max(ac).max(1)) as i16
 }
 
 /// Whether all lanes are equal.
@@ -50,8 +50,8 @@ fn products(levels: i16x16, dc: u16, ac: u16) -> i16x16
     requires { (j : ℕ) → j < 16 → HasSmallProduct (lane levels j) dc ac }
     ensures { (j : ℕ) → j < 16 → lane result j ≡ lane levels j *ℤ pos (if j == 0 then dc else ac) }
 {
-    let first = i16x16::splat(dc.min(MOST) as i16);
-    let others = i16x16::splat(ac.min(MOST) as i16);
+    let first = i16x16::splat(dc.min(COEFFICIENT_BOUND) as i16);
+    let others = i16x16::splat(ac.min(COEFFICIENT_BOUND) as i16);
     levels
         * others.shuffle::<16>(
             first,

@@ -4,7 +4,7 @@ use Rattle.std.proofs.lemmas.List.{get_or-replicate}
 use Rattle.std.proofs.lemmas.Int.{ints}
 use Rattle.vp_base.specs.Raster.{Raster}
 use Rattle.vp_tables.specs.Modes.{is_split}
-use Rattle.vp_motion.specs.Vector.{Vector, MacroblockMotion, AreOne, last_of, still}
+use Rattle.vp_motion.specs.Vector.{Vector, MacroblockMotion, AreOne, last_of, zero_vector}
 use Rattle.vp_inter.specs.declared.vector.PlaneVector.{PlaneVector}
 use Rattle.vp_inter.specs.Inter.{reference_pixel, horizontal_pass, inter_pixel}
 use Rattle.vp_inter.specs.Vectors.{fraction, first_tap, luma_vector, chroma_vector}
@@ -103,14 +103,14 @@ pub luma_one : (e : MacroblockMotion) (k : ℕ) → AreOne e.mode e.vectors → 
 unfolding luma_moved
 luma_one e k one whole below =
     let v : Vector = last_of e.vectors in
-    let at : (j : ℕ) → j < 16 → get_or e.vectors j still ≡ v = λ j jin. ap (λ (vs : List Vector). get_or vs j still) (one whole) ∙ get_or-replicate 16 j v still jin in
+    let at : (j : ℕ) → j < 16 → get_or e.vectors j zero_vector ≡ v = λ j jin. ap (λ (vs : List Vector). get_or vs j zero_vector) (one whole) ∙ get_or-replicate 16 j v zero_vector jin in
     ap (λ (w : Vector). luma_vector w.row w.column) (at k below ∙ sym (at 0 (omega arith)))
 
 pub chroma_one : (version : ℕ) (e : MacroblockMotion) (k : ℕ) → AreOne e.mode e.vectors → is_split e.mode ≡ false → k < 4 → chroma_moved version e k ≡ chroma_moved version e 0
 unfolding chroma_moved
 chroma_one version e k one whole below =
     let v : Vector = last_of e.vectors in
-    let at : (j : ℕ) → j < 16 → get_or e.vectors j still ≡ v = λ j jin. ap (λ (vs : List Vector). get_or vs j still) (one whole) ∙ get_or-replicate 16 j v still jin in
+    let at : (j : ℕ) → j < 16 → get_or e.vectors j zero_vector ≡ v = λ j jin. ap (λ (vs : List Vector). get_or vs j zero_vector) (one whole) ∙ get_or-replicate 16 j v zero_vector jin in
     let four : (j : ℕ) → j ≤ 10 → four_from e.vectors j ≡ v ∷ v ∷ v ∷ v ∷ [] = λ j jin.
     let a = at j (omega arith) in
     let b = at (j + 1) (omega arith) in

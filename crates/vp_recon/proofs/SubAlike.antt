@@ -4,19 +4,19 @@ use Rattle.std.proofs.lemmas.Bool.{cases_lt, cases_eq, eq-eqb, ne_eqb}
 use Rattle.vp_base.specs.Raster.{Raster, pixel}
 use Rattle.vp_tables.specs.declared.modes.SubMode.{SubMode}
 use Rattle.vp_intra.specs.Edges.{above_pixel, left_pixel, corner_pixel}
-use Rattle.vp_intra.specs.Sub.{above_right_pixel, right_row, around, predicted, sub_pixel}
+use Rattle.vp_intra.specs.Sub.{above_right_pixel, above_right_row, around, predicted, sub_pixel}
 use Rattle.vp_intra.proofs.EdgeLemmas.{above_inside, above_outside, left_inside, left_outside}
 use Rattle.vp_recon.proofs.Alike.{corner_inside, corner_top, corner_side}
 
-pub right_inside : (p : Raster) (x y t : ℕ) → 0 < right_row x y → above_right_pixel p x y t ≡ pixel p (min (x + 4 + t) (p.width - 1)) (right_row x y - 1)
+pub right_inside : (p : Raster) (x y t : ℕ) → 0 < above_right_row x y → above_right_pixel p x y t ≡ pixel p (min (x + 4 + t) (p.width - 1)) (above_right_row x y - 1)
 unfolding above_right_pixel
-right_inside p x y t pos = ap (λ (b : Bool). cond b 127 (pixel p (min (x + 4 + t) (p.width - 1)) (right_row x y - 1))) (ne_eqb (right_row x y) 0 (λ e. omega arith))
+right_inside p x y t pos = ap (λ (b : Bool). cond b 127 (pixel p (min (x + 4 + t) (p.width - 1)) (above_right_row x y - 1))) (ne_eqb (above_right_row x y) 0 (λ e. omega arith))
 
-pub right_top : (p q : Raster) (x y t : ℕ) → right_row x y ≡ 0 → above_right_pixel p x y t ≡ above_right_pixel q x y t
+pub right_top : (p q : Raster) (x y t : ℕ) → above_right_row x y ≡ 0 → above_right_pixel p x y t ≡ above_right_pixel q x y t
 unfolding above_right_pixel
 right_top p q x y t none =
-    ap (λ (b : Bool). cond b 127 (pixel p (min (x + 4 + t) (p.width - 1)) (right_row x y - 1))) (eq-eqb (right_row x y) 0 none)
-    ∙ sym (ap (λ (b : Bool). cond b 127 (pixel q (min (x + 4 + t) (q.width - 1)) (right_row x y - 1))) (eq-eqb (right_row x y) 0 none))
+    ap (λ (b : Bool). cond b 127 (pixel p (min (x + 4 + t) (p.width - 1)) (above_right_row x y - 1))) (eq-eqb (above_right_row x y) 0 none)
+    ∙ sym (ap (λ (b : Bool). cond b 127 (pixel q (min (x + 4 + t) (q.width - 1)) (above_right_row x y - 1))) (eq-eqb (above_right_row x y) 0 none))
 
 -- places that the macroblock in column mx of row my is predicted from, and its own once k of its subblocks stand
 pub data Ready (mx my k u v : ℕ) : Type 0 where
@@ -26,11 +26,11 @@ pub data Ready (mx my k u v : ℕ) : Type 0 where
 
 -- where the pixels above and to the right stand
 data RightRow (my i x y : ℕ) : Type 0 where
-  ofMacroblock : right_row x y ≡ 16 * my → RightRow my i x y
-  ofBlock : right_row x y ≡ y → i < 3 → RightRow my i x y
+  ofMacroblock : above_right_row x y ≡ 16 * my → RightRow my i x y
+  ofBlock : above_right_row x y ≡ y → i < 3 → RightRow my i x y
 
 right_row_of : (mx my i j x y : ℕ) → i < 4 → j < 4 → x ≡ 16 * mx + 4 * i → y ≡ 16 * my + 4 * j → RightRow my i x y
-unfolding right_row
+unfolding above_right_row
 right_row_of mx my i j x y iin jin x_is y_is = elim (cases_eq (x % 16) 12) [
   | inl last ↦ ofMacroblock (ap (λ (b : Bool). cond b (y - y % 16) y) (eq-eqb (x % 16) 12 last) ∙ (let e : y - y % 16 ≡ 16 * my = omega arith in e))
   | inr other ↦ ofBlock (ap (λ (b : Bool). cond b (y - y % 16) y) (ne_eqb (x % 16) 12 other)) (elim (cases_lt i 3) [ inl low ↦ low | inr past ↦ absurd (other (omega arith)) ])
@@ -83,18 +83,18 @@ module _ (p q : Raster) (mx my i j x y : ℕ) (iin : i < 4) (jin : j < 4) (x_is 
   ]
 
   right_same : (t : ℕ) → t < 4 → above_right_pixel p x y t ≡ above_right_pixel q x y t
-  right_same t tin = elim (cases_lt 0 (right_row x y)) [
+  right_same t tin = elim (cases_lt 0 (above_right_row x y)) [
     | inr none ↦ right_top p q x y t (omega arith)
     | inl pos ↦
         right_inside p x y t pos
         ∙ elim (right_row_of mx my i j x y iin jin x_is y_is) [
-          | ofMacroblock e ↦ same (min (x + 4 + t) (p.width - 1)) (right_row x y - 1) (omega arith) (omega arith) (readyHigher (omega arith))
-          | ofBlock e third ↦ same (min (x + 4 + t) (p.width - 1)) (right_row x y - 1) (omega arith) (omega arith) (elim (cases_lt 0 j) [
+          | ofMacroblock e ↦ same (min (x + 4 + t) (p.width - 1)) (above_right_row x y - 1) (omega arith) (omega arith) (readyHigher (omega arith))
+          | ofBlock e third ↦ same (min (x + 4 + t) (p.width - 1)) (above_right_row x y - 1) (omega arith) (omega arith) (elim (cases_lt 0 j) [
             | inr top ↦ readyHigher (omega arith)
             | inl lower ↦ readyOwn (omega arith) (omega arith) (omega arith) (omega arith) (omega arith)
           ])
         ]
-        ∙ ap (λ (w : ℕ). pixel q (min (x + 4 + t) (w - 1)) (right_row x y - 1)) wide
+        ∙ ap (λ (w : ℕ). pixel q (min (x + 4 + t) (w - 1)) (above_right_row x y - 1)) wide
         ∙ sym (right_inside q x y t pos)
   ]
 

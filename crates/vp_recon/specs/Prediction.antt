@@ -6,7 +6,7 @@ use Rattle.vp_base.specs.Raster.{Raster}
 use Rattle.vp_base.specs.Image.{plane_of}
 use Rattle.vp_tables.specs.declared.modes.SubMode.TheVariants as sub_is
 use Rattle.vp_tables.specs.Modes.{is_by_subblocks}
-use Rattle.vp_motion.specs.Vector.{Vector, MacroblockMotion, still}
+use Rattle.vp_motion.specs.Vector.{Vector, MacroblockMotion, zero_vector}
 use Rattle.vp_intra.specs.Whole.{luma_pixel, chroma_pixel}
 use Rattle.vp_intra.specs.Sub.{sub_pixel}
 use Rattle.vp_inter.specs.declared.vector.PlaneVector.{PlaneVector}
@@ -16,13 +16,13 @@ use Rattle.vp_recon.specs.Predictor.{Predictor, Intra, Inter}
 
 -- the motion vector of luma subblock k
 unfoldable pub luma_moved : MacroblockMotion → ℕ → PlaneVector
-luma_moved e k = let v = slice_index_or e.vectors k still in luma_vector v.row v.column
+luma_moved e k = let v = slice_index_or e.vectors k zero_vector in luma_vector v.row v.column
 
 -- the vectors of a square of four luma subblocks; `first` is the number of the one at the top left
 abbrev pub four_from : List Vector → ℕ → List Vector
 four_from vectors first =
-    slice_index_or vectors first still ∷ slice_index_or vectors (first + 1) still
-    ∷ slice_index_or vectors (first + 4) still ∷ slice_index_or vectors (first + 5) still ∷ []
+    slice_index_or vectors first zero_vector ∷ slice_index_or vectors (first + 1) zero_vector
+    ∷ slice_index_or vectors (first + 4) zero_vector ∷ slice_index_or vectors (first + 5) zero_vector ∷ []
 
 -- the motion vector of chroma subblock k, from those of the four luma subblocks that cover the same pixels
 unfoldable pub chroma_moved : ℕ → MacroblockMotion → ℕ → PlaneVector

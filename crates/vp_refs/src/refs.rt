@@ -16,6 +16,7 @@ pub struct Refs {
     last: Rc<Picture>,
     golden: Rc<Picture>,
     alt: Rc<Picture>,
+    /// The picture that was decoded last, a reference or not; it gives the size of inter frames.
     newest: Rc<Picture>,
 }
 
@@ -94,6 +95,7 @@ impl Refs {
     {
         let updates = &header.updates;
         let alt = copied(updates.copy_to_alt, &self.last, &self.golden, &self.alt)?;
+        // Altref is copied first: a golden frame copied from altref gets the new altref, as in libvpx.
         let golden = copied(updates.copy_to_golden, &self.last, &alt, &self.golden)?;
         let alt = refreshed(header.key || updates.refresh_alt, &newest, &alt)?;
         let golden = refreshed(header.key || updates.refresh_golden, &newest, &golden)?;

@@ -4,13 +4,13 @@ use Rattle.std.specs.Prelude.{unsigned_abs, ◌<ℤ◌}
 use Rattle.std.proofs.lemmas.Int.{ints}
 use Rattle.vp_search.specs.declared.vector.WholeVector.{WholeVector}
 use Rattle.vp_search.specs.Vectors.{vector_length, IsNear}
-use Rattle.vp_search.specs.Least.{NoLarger}
+use Rattle.vp_search.specs.Least.{IsNoWorse}
 use Rattle.vp_search.specs.Window.{vector_at}
 
-pub same : (a : ℕ) (v : WholeVector) → NoLarger a v a v
+pub same : (a : ℕ) (v : WholeVector) → IsNoWorse a v a v
 same a v = record { by_cost = omega arith; by_size = λ _. omega arith; by_row = λ _ _. omega (arith, ints); by_column = λ _ _ _. omega (arith, ints) }
 
-pub along : (a : ℕ) (u : WholeVector) (b : ℕ) (v : WholeVector) (c : ℕ) (w : WholeVector) → NoLarger a u b v → NoLarger b v c w → NoLarger a u c w
+pub along : (a : ℕ) (u : WholeVector) (b : ℕ) (v : WholeVector) (c : ℕ) (w : WholeVector) → IsNoWorse a u b v → IsNoWorse b v c w → IsNoWorse a u c w
 along a u b v c w p q =
     let e = p.by_cost in let f = q.by_cost in
     record {
@@ -40,14 +40,14 @@ near_at range i j hi hj = (omega (arith, ints), omega (arith, ints))
 pub vector_is : (u v : WholeVector) → u.row ≡ v.row → u.column ≡ v.column → u ≡ v
 vector_is u v p q = λ k. record { row = p k; column = q k }
 
-pub less_cost : (a : ℕ) (v : WholeVector) (b : ℕ) (w : WholeVector) → a < b → NoLarger a v b w
+pub less_cost : (a : ℕ) (v : WholeVector) (b : ℕ) (w : WholeVector) → a < b → IsNoWorse a v b w
 less_cost a v b w h = record { by_cost = omega arith; by_size = λ e. absurd (omega arith); by_row = λ e s. absurd (omega arith); by_column = λ e s r. absurd (omega arith) }
 
-pub less_size : (a : ℕ) (v : WholeVector) (b : ℕ) (w : WholeVector) → a ≡ b → vector_length v < vector_length w → NoLarger a v b w
+pub less_size : (a : ℕ) (v : WholeVector) (b : ℕ) (w : WholeVector) → a ≡ b → vector_length v < vector_length w → IsNoWorse a v b w
 less_size a v b w h k = record { by_cost = omega arith; by_size = λ e. omega arith; by_row = λ e s. absurd (omega arith); by_column = λ e s r. absurd (omega arith) }
 
-pub less_row : (a : ℕ) (v : WholeVector) (b : ℕ) (w : WholeVector) → a ≡ b → vector_length v ≡ vector_length w → v.row <ℤ w.row → NoLarger a v b w
+pub less_row : (a : ℕ) (v : WholeVector) (b : ℕ) (w : WholeVector) → a ≡ b → vector_length v ≡ vector_length w → v.row <ℤ w.row → IsNoWorse a v b w
 less_row a v b w h k l = record { by_cost = omega arith; by_size = λ e. omega arith; by_row = λ e s. omega (arith, ints); by_column = λ e s r. absurd (omega (arith, ints)) }
 
-pub less_column : (a : ℕ) (v : WholeVector) (b : ℕ) (w : WholeVector) → a ≡ b → vector_length v ≡ vector_length w → v.row ≡ w.row → v.column ≤ℤ w.column → NoLarger a v b w
+pub less_column : (a : ℕ) (v : WholeVector) (b : ℕ) (w : WholeVector) → a ≡ b → vector_length v ≡ vector_length w → v.row ≡ w.row → v.column ≤ℤ w.column → IsNoWorse a v b w
 less_column a v b w h k l m = record { by_cost = omega arith; by_size = λ e. omega arith; by_row = λ e s. omega (arith, ints); by_column = λ e s r. m }

@@ -18,7 +18,7 @@ use Rattle.vp_search.specs.declared.window.TheConstants.{WINDOW_WIDTH}
 use Rattle.vp_search.specs.Vectors.{quarters, IsNear}
 use Rattle.vp_search.specs.Differences.{sum_of_differences, strided_block, block16}
 use Rattle.vp_search.specs.Blocks.{moved_block, predicted_block, whole_cost, quarter_cost}
-use Rattle.vp_search.specs.Least.{NoLarger, IsLeast}
+use Rattle.vp_search.specs.Least.{IsNoWorse, IsLeast}
 use Rattle.vp_search.specs.Window.{searched_pixel, vector_at, window_place, window_cost, IsFoundInWindow}
 use Rattle.vp_search.proofs.SumLemmas.{sum_of_differences-same}
 use Rattle.vp_search.proofs.OrderLemmas.{index, near_at}
@@ -69,7 +69,7 @@ window_cost-whole block window p place range v filled near =
 pub least_same : (range : ℕ) (f g : WholeVector → ℕ) (best : WholeVector) → ((v : WholeVector) → IsNear range v → f v ≡ g v) → IsLeast range f best → IsLeast range g best
 least_same range f g best same p = record {
   near = p.near;
-  least = λ v h. subst (λ (k : ℕ). NoLarger k best (g v) v) (same best p.near) (subst (λ (k : ℕ). NoLarger (f best) best k v) (same v h) (p.least v h));
+  least = λ v h. subst (λ (k : ℕ). IsNoWorse k best (g v) v) (same best p.near) (subst (λ (k : ℕ). IsNoWorse (f best) best k v) (same v h) (p.least v h));
 }
 
 -- ---- a vector in whole pixels as a vector in quarters
@@ -138,11 +138,11 @@ kept_at block window range i j cost v hi hj e known = record {
 
 -- .. and it is no larger than itself
 pub taken_at : (block window : List ℕ) (range i j a cost : ℕ) (u v : WholeVector) → v ≡ vector_at range i j
-    → cost ≡ sum_of_differences 16 16 (strided_block block 0 16) (strided_block window (i * WINDOW_WIDTH + j) WINDOW_WIDTH) → NoLarger a u cost v
-    → NoLarger a u (window_cost block window range (vector_at range i j)) (vector_at range i j)
+    → cost ≡ sum_of_differences 16 16 (strided_block block 0 16) (strided_block window (i * WINDOW_WIDTH + j) WINDOW_WIDTH) → IsNoWorse a u cost v
+    → IsNoWorse a u (window_cost block window range (vector_at range i j)) (vector_at range i j)
 taken_at block window range i j a cost u v e known p =
-    subst (λ (w : WholeVector). NoLarger a u (window_cost block window range (vector_at range i j)) w) e
-    (subst (λ (k : ℕ). NoLarger a u k v) (known ∙ sym (cost_at block window range i j)) p)
+    subst (λ (w : WholeVector). IsNoWorse a u (window_cost block window range (vector_at range i j)) w) e
+    (subst (λ (k : ℕ). IsNoWorse a u k v) (known ∙ sym (cost_at block window range i j)) p)
 
 -- the kept one of two
 pub kept_of : (range : ℕ) (cost : WholeVector → ℕ) (old new found : Found) → IsFoundInWindow range cost old → IsFoundInWindow range cost new → (found ≡ old) ⊎ (found ≡ new) → IsFoundInWindow range cost found

@@ -2,7 +2,7 @@
 
 ghost use Rattle.std.specs.Prelude.{◌≡◌, ℕ, ◌+◌, ◌*◌, ◌<◌, ◌≤◌, ◌⊎◌, length, slice_index};
 ghost use Rattle.vp_search.specs.Vectors.{IsNear};
-ghost use Rattle.vp_search.specs.Least.{IsLeast, NoLarger};
+ghost use Rattle.vp_search.specs.Least.{IsLeast, IsNoWorse};
 ghost use Rattle.vp_search.specs.Window.{vector_at, window_cost, IsFoundInWindow};
 
 use crate::difference::sad_within;
@@ -18,8 +18,8 @@ fn consider(block: &[u8], window: &[u8], range: u8, best: Found, i: usize, j: us
     requires j { j ≤ 2 * range }
     requires best { IsFoundInWindow range (window_cost block.now window.now range) best }
     ensures kept { IsFoundInWindow range (window_cost block.now window.now range) result }
-    ensures old { NoLarger result.cost result.vector best.cost best.vector }
-    ensures here { NoLarger result.cost result.vector (window_cost block.now window.now range (vector_at range i j))
+    ensures old { IsNoWorse result.cost result.vector best.cost best.vector }
+    ensures here { IsNoWorse result.cost result.vector (window_cost block.now window.now range (vector_at range i j))
         (vector_at range i j) }
 {
     let cost = sad_within(block, window, i * WINDOW_WIDTH + j, WINDOW_WIDTH, best.cost);
@@ -39,8 +39,8 @@ fn consider(block: &[u8], window: &[u8], range: u8, best: Found, i: usize, j: us
 fn lesser(old: Found, new: Found) -> Found
     requires old { IsNear 64 old.vector }
     requires new { IsNear 64 new.vector }
-    ensures old { NoLarger result.cost result.vector old.cost old.vector }
-    ensures new { NoLarger result.cost result.vector new.cost new.vector }
+    ensures old { IsNoWorse result.cost result.vector old.cost old.vector }
+    ensures new { IsNoWorse result.cost result.vector new.cost new.vector }
     ensures one { (result ≡ old) ⊎ (result ≡ new) }
 {
     if new.cost != old.cost {
@@ -72,8 +72,8 @@ fn consider_row(block: &[u8], window: &[u8], range: u8, best: Found, i: usize) -
     requires i { i ≤ 2 * range }
     requires best { IsFoundInWindow range (window_cost block.now window.now range) best }
     ensures kept { IsFoundInWindow range (window_cost block.now window.now range) result }
-    ensures old { NoLarger result.cost result.vector best.cost best.vector }
-    ensures here { (j : ℕ) → j ≤ 2 * range → NoLarger result.cost result.vector
+    ensures old { IsNoWorse result.cost result.vector best.cost best.vector }
+    ensures here { (j : ℕ) → j ≤ 2 * range → IsNoWorse result.cost result.vector
         (window_cost block.now window.now range (vector_at range i j)) (vector_at range i j) }
 {
     let mut found = best;

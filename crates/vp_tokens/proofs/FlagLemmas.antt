@@ -12,7 +12,7 @@ use Rattle.vp_tokens.specs.declared.macroblock.TheConstants.{ABOVE, LEFT}
 use Rattle.vp_tokens.specs.Block.{Block, has_token, no_tokens}
 use Rattle.vp_tokens.specs.Levels.{Probabilities, bands_of, first_of, coefficient_block}
 use Rattle.vp_tokens.specs.Blocks.{flag_at, had_of, is_there, true_count, kind_of, y2_or, block_at, no_blocks}
-use Rattle.vp_tokens.specs.Contexts.{lowest, rightmost}
+use Rattle.vp_tokens.specs.Contexts.{bottom_row_flags, right_column_flags}
 use Rattle.vp_tokens.specs.Flagged.{above_flag, left_flag, by_flags}
 use Rattle.vp_tokens.specs.Placed.{Reading, banded, placed, plane, all_placed}
 use Rattle.vp_tokens.proofs.Around.{each_block}
@@ -39,7 +39,7 @@ module _ (a b c d e f g h i : Bool) (had : List Bool) where
   above-at false = each_block (λ (k : ℕ). is_there false k ≡ true → flag_at (flags_at ABOVE false start had k) (slice_index ABOVE k) ≡ above_flag start had k)
       (λ t. refl) (λ t. refl) (λ t. refl) (λ t. refl) (λ t. refl) (λ t. refl) (λ t. refl) (λ t. refl) (λ t. refl) (λ t. refl) (λ t. refl) (λ t. refl) (λ t. refl) (λ t. refl) (λ t. refl) (λ t. refl) (λ t. refl) (λ t. refl) (λ t. refl) (λ t. refl) (λ t. refl) (λ t. refl) (λ t. refl) (λ t. refl) (λ t. refl)
 
-  above-end : (has_y2 : Bool) → flags_at ABOVE has_y2 start had 25 ≡ lowest had (y2_or (record { has_y2 = has_y2; had = had }) (flag_at start 8))
+  above-end : (has_y2 : Bool) → flags_at ABOVE has_y2 start had 25 ≡ bottom_row_flags had (y2_or (record { has_y2 = has_y2; had = had }) (flag_at start 8))
   above-end true = refl
   above-end false = refl
 
@@ -50,7 +50,7 @@ module _ (a b c d e f g h i : Bool) (had : List Bool) where
   left-at false = each_block (λ (k : ℕ). is_there false k ≡ true → flag_at (flags_at LEFT false start had k) (slice_index LEFT k) ≡ left_flag start had k)
       (λ t. refl) (λ t. refl) (λ t. refl) (λ t. refl) (λ t. refl) (λ t. refl) (λ t. refl) (λ t. refl) (λ t. refl) (λ t. refl) (λ t. refl) (λ t. refl) (λ t. refl) (λ t. refl) (λ t. refl) (λ t. refl) (λ t. refl) (λ t. refl) (λ t. refl) (λ t. refl) (λ t. refl) (λ t. refl) (λ t. refl) (λ t. refl) (λ t. refl)
 
-  left-end : (has_y2 : Bool) → flags_at LEFT has_y2 start had 25 ≡ rightmost had (y2_or (record { has_y2 = has_y2; had = had }) (flag_at start 8))
+  left-end : (has_y2 : Bool) → flags_at LEFT has_y2 start had 25 ≡ right_column_flags had (y2_or (record { has_y2 = has_y2; had = had }) (flag_at start 8))
   left-end true = refl
   left-end false = refl
 
@@ -84,16 +84,16 @@ module _ (xs had : List Bool) (has_y2 : Bool) (whole : length xs ≡ 9) where
       let P : List Bool → Type 0 = λ zs. flag_at (flags_at LEFT has_y2 zs had k) (slice_index LEFT k) ≡ left_flag zs had k in
       subst P (nine-is xs whole) (left-at _ _ _ _ _ _ _ _ _ had has_y2 k lt t)
 
-  lowest-is : flags_at ABOVE has_y2 xs had 25 ≡ lowest had (y2_or (record { has_y2 = has_y2; had = had }) (flag_at xs 8))
+  bottom_row_flags-is : flags_at ABOVE has_y2 xs had 25 ≡ bottom_row_flags had (y2_or (record { has_y2 = has_y2; had = had }) (flag_at xs 8))
   unfolding nine
-  lowest-is =
-      let P : List Bool → Type 0 = λ zs. flags_at ABOVE has_y2 zs had 25 ≡ lowest had (y2_or (record { has_y2 = has_y2; had = had }) (flag_at zs 8)) in
+  bottom_row_flags-is =
+      let P : List Bool → Type 0 = λ zs. flags_at ABOVE has_y2 zs had 25 ≡ bottom_row_flags had (y2_or (record { has_y2 = has_y2; had = had }) (flag_at zs 8)) in
       subst P (nine-is xs whole) (above-end _ _ _ _ _ _ _ _ _ had has_y2)
 
-  rightmost-is : flags_at LEFT has_y2 xs had 25 ≡ rightmost had (y2_or (record { has_y2 = has_y2; had = had }) (flag_at xs 8))
+  right_column_flags-is : flags_at LEFT has_y2 xs had 25 ≡ right_column_flags had (y2_or (record { has_y2 = has_y2; had = had }) (flag_at xs 8))
   unfolding nine
-  rightmost-is =
-      let P : List Bool → Type 0 = λ zs. flags_at LEFT has_y2 zs had 25 ≡ rightmost had (y2_or (record { has_y2 = has_y2; had = had }) (flag_at zs 8)) in
+  right_column_flags-is =
+      let P : List Bool → Type 0 = λ zs. flags_at LEFT has_y2 zs had 25 ≡ right_column_flags had (y2_or (record { has_y2 = has_y2; had = had }) (flag_at zs 8)) in
       subst P (nine-is xs whole) (left-end _ _ _ _ _ _ _ _ _ had has_y2)
 
 -- ---- one block more
@@ -203,12 +203,12 @@ read-all p false r s wide high e =
 
 -- the flags behind the last block
 pub above-read : (p : Probabilities) (has_y2 : Bool) (a l : List Bool) (s : State) (r : Reading) (u : State) → length a ≡ 9 → IsRead p has_y2 a l s 25 r u
-    → r.above ≡ lowest (had_of r.blocks) (y2_or (record { has_y2 = has_y2; had = had_of r.blocks }) (flag_at a 8))
-above-read p has_y2 a l s r u wide v = v.above ∙ lowest-is a (had_of r.blocks) has_y2 wide
+    → r.above ≡ bottom_row_flags (had_of r.blocks) (y2_or (record { has_y2 = has_y2; had = had_of r.blocks }) (flag_at a 8))
+above-read p has_y2 a l s r u wide v = v.above ∙ bottom_row_flags-is a (had_of r.blocks) has_y2 wide
 
 pub left-read : (p : Probabilities) (has_y2 : Bool) (a l : List Bool) (s : State) (r : Reading) (u : State) → length l ≡ 9 → IsRead p has_y2 a l s 25 r u
-    → r.left ≡ rightmost (had_of r.blocks) (y2_or (record { has_y2 = has_y2; had = had_of r.blocks }) (flag_at l 8))
-left-read p has_y2 a l s r u high v = v.left ∙ rightmost-is l (had_of r.blocks) has_y2 high
+    → r.left ≡ right_column_flags (had_of r.blocks) (y2_or (record { has_y2 = has_y2; had = had_of r.blocks }) (flag_at l 8))
+left-read p has_y2 a l s r u high v = v.left ∙ right_column_flags-is l (had_of r.blocks) has_y2 high
 
 -- ---- what the code does
 

@@ -13,22 +13,22 @@ pub record Contexts : Type 0 where
 
 -- which blocks in the bottom rows of a macroblock have a token, and which in its right columns; each followed by a Y2
 -- flag
-abbrev pub lowest : List Bool → Bool → List Bool
-lowest had y2 =
+abbrev pub bottom_row_flags : List Bool → Bool → List Bool
+bottom_row_flags had y2 =
     flag_at had 13 ∷ flag_at had 14 ∷ flag_at had 15 ∷ flag_at had 16 ∷ flag_at had 19 ∷ flag_at had 20 ∷ flag_at had 23
     ∷ flag_at had 24 ∷ y2 ∷ []
 
-abbrev pub rightmost : List Bool → Bool → List Bool
-rightmost had y2 =
+abbrev pub right_column_flags : List Bool → Bool → List Bool
+right_column_flags had y2 =
     flag_at had 4 ∷ flag_at had 8 ∷ flag_at had 12 ∷ flag_at had 16 ∷ flag_at had 18 ∷ flag_at had 20 ∷ flag_at had 22
     ∷ flag_at had 24 ∷ y2 ∷ []
 
 -- the flags above the macroblock at p, and to its left
 unfoldable pub above_flags : Grid Blocks → Place → List Bool
-above_flags g p = lowest (look no_blocks_read g (place.above p)).had (y2_above g p)
+above_flags g p = bottom_row_flags (look no_blocks_read g (place.above p)).had (y2_above g p)
 
 unfoldable pub left_flags : Grid Blocks → Place → List Bool
-left_flags g p = rightmost (look no_blocks_read g (place.left p)).had (y2_left g p)
+left_flags g p = right_column_flags (look no_blocks_read g (place.left p)).had (y2_left g p)
 
 -- the first macroblock of column u that was not read; those before p in raster order were
 abbrev pub first_unread : Place → ℕ → Place

@@ -3,7 +3,7 @@ use Rattle.std.specs.Prelude.{ℕ, ◌+◌, ◌-◌, ◌/◌, ◌%◌, ◌==◌,
 use Rattle.std.specs.Prelude.{slice_set, if◌then◌else◌}
 use Rattle.vp_base.specs.declared.place.Place.{Place}
 use Rattle.vp_tokens.specs.Blocks.{Blocks, flag_at, true_count, y2_or}
-use Rattle.vp_tokens.specs.Contexts.{Contexts, lowest, rightmost}
+use Rattle.vp_tokens.specs.Contexts.{Contexts, bottom_row_flags, right_column_flags}
 
 -- whether the block above block k has a token, and the one to its left: a flag outside the macroblock, else in had
 unfoldable pub above_flag : List Bool → List Bool → ℕ → Bool
@@ -34,6 +34,7 @@ left_at c p = if p.column == 0 then replicate 9 false else c.left
 -- the flags after the macroblock at p
 abbrev pub flags_after : Contexts → Place → Blocks → Contexts
 flags_after c p m = record {
-  above = slice_set c.above p.column (lowest m.had (y2_or m (flag_at (slice_index_or c.above p.column []) 8)));
-  left = rightmost m.had (y2_or m (flag_at (left_at c p) 8));
+  above = slice_set c.above p.column (bottom_row_flags m.had (y2_or m
+      (flag_at (slice_index_or c.above p.column []) 8)));
+  left = right_column_flags m.had (y2_or m (flag_at (left_at c p) 8));
 }

@@ -17,7 +17,7 @@ use vp_tables::{Token, band};
 pub struct Block {
     /// The levels in zigzag order, as they are coded.
     pub levels: [i16; 16],
-    /// The end of block: the position after the last token; 0 if the block has no token.
+    /// The end of block (libvpx: eob): the position after the last token; 0 if the block has no token.
     pub tokens: u8,
 }
 

@@ -6,7 +6,7 @@ ghost use Rattle.vp_base.specs.declared.place.Place.{Place};
 ghost use Rattle.vp_base.specs.Grid.{Grid, Has, all, with_entry};
 ghost use Rattle.vp_tokens.specs.Blocks.{Blocks, no_blocks_read, blocks_of, had_of, flag_at, true_count, kind_of};
 ghost use Rattle.vp_tokens.specs.Blocks.{y2_or, block_of, block_at, all_blocks, no_blocks, macroblock, any_token};
-ghost use Rattle.vp_tokens.specs.Contexts.{AreContextsAt, lowest, rightmost, right};
+ghost use Rattle.vp_tokens.specs.Contexts.{AreContextsAt, bottom_row_flags, right_column_flags, right};
 ghost use Rattle.vp_tokens.specs.Flagged.{above_flag, left_flag, by_flags, left_at, flags_after};
 ghost use Rattle.vp_tokens.specs.Spelled.{levels_of, AreLevels, AreSpelled, AreTight};
 
@@ -76,7 +76,8 @@ pub(crate) fn count(above: bool, left: bool) -> usize
     above as usize + left as usize
 }
 
-/// Whether block `k` of this macroblock has a token.
+/// Whether block `k` of this macroblock has a token. Blocks: 0 is Y2, 1 to 16 Y, 17 to 20 U, 21 to 24 V. Flags: 0 to 3
+/// are Y, 4 and 5 U, 6 and 7 V, 8 Y2.
 fn had(blocks: &[Block; 25], k: usize) -> bool
     requires { k < 25 }
     ensures { result ≡ flag_at (had_of blocks.now) k }
@@ -157,8 +158,8 @@ fn y2_flag(old: bool, has_y2: bool, blocks: &[Block; 25]) -> bool
 }
 
 /// The flags for the macroblock below, with this Y2 flag.
-fn lowest(blocks: &[Block; 25], y2: bool) -> [bool; 9]
-    ensures { result ≡ lowest (had_of blocks.now) y2 }
+fn bottom_row_flags(blocks: &[Block; 25], y2: bool) -> [bool; 9]
+    ensures { result ≡ bottom_row_flags (had_of blocks.now) y2 }
 {
     [
         had(blocks, 13),
@@ -174,8 +175,8 @@ fn lowest(blocks: &[Block; 25], y2: bool) -> [bool; 9]
 }
 
 /// The flags for the macroblock to the right, with this Y2 flag.
-fn rightmost(blocks: &[Block; 25], y2: bool) -> [bool; 9]
-    ensures { result ≡ rightmost (had_of blocks.now) y2 }
+fn right_column_flags(blocks: &[Block; 25], y2: bool) -> [bool; 9]
+    ensures { result ≡ right_column_flags (had_of blocks.now) y2 }
 {
     [
         had(blocks, 4),
@@ -251,7 +252,11 @@ impl Contexts {
     {
         let above = y2_flag(self.above_of(place)[8], has_y2, blocks);
         let left = y2_flag(self.left_of(place)[8], has_y2, blocks);
-        self.put(place, lowest(blocks, above), rightmost(blocks, left));
+        self.put(
+            place,
+            bottom_row_flags(blocks, above),
+            right_column_flags(blocks, left),
+        );
     }
 
     /// Stores the flags for the macroblocks below and to the right of the one at a place.

@@ -6,7 +6,7 @@ ghost use Rattle.vp_tokens.specs.Block.{no_tokens};
 ghost use Rattle.vp_tokens.specs.Levels.{Probabilities};
 ghost use Rattle.vp_tokens.specs.Blocks.{Blocks, blocks_of, had_of, flag_at, y2_or, all_blocks, no_blocks};
 ghost use Rattle.vp_tokens.specs.Blocks.{without_tokens, macroblock};
-ghost use Rattle.vp_tokens.specs.Contexts.{AreContextsAt, lowest, rightmost, right};
+ghost use Rattle.vp_tokens.specs.Contexts.{AreContextsAt, bottom_row_flags, right_column_flags, right};
 ghost use Rattle.vp_tokens.specs.Flagged.{by_flags};
 ghost use Rattle.vp_tokens.specs.Placed.{reading, placed, plane, all_placed};
 ghost use Rattle.vp_tokens.specs.Spelled.{AreSpelled};
@@ -110,9 +110,10 @@ fn read_all(
 
 /// The flags after a macroblock without tokens.
 fn flags_without(old: &[bool; 9], has_y2: bool) -> [bool; 9]
-    ensures lowest { result ≡ lowest (had_of no_blocks) (y2_or (record { has_y2 = has_y2; had = had_of no_blocks })
+    ensures bottom_row_flags { result ≡ bottom_row_flags (had_of no_blocks)
+        (y2_or (record { has_y2 = has_y2; had = had_of no_blocks })
         (flag_at old.now 8)) }
-    ensures rightmost { result ≡ rightmost (had_of no_blocks)
+    ensures right_column_flags { result ≡ right_column_flags (had_of no_blocks)
         (y2_or (record { has_y2 = has_y2; had = had_of no_blocks }) (flag_at old.now 8)) }
 {
     let y2 = !has_y2 && old[8];
@@ -133,9 +134,9 @@ fn read_unless(
         (by_flags flags.old.above flags.old.left) d.old).0 }
     ensures rest { d.new ≡ (all_blocks probabilities.now has_y2 skipped
         (by_flags flags.old.above flags.old.left) d.old).1 }
-    ensures above { flags.new.above ≡ lowest (had_of blocks.new)
+    ensures above { flags.new.above ≡ bottom_row_flags (had_of blocks.new)
         (y2_or (record { has_y2 = has_y2; had = had_of blocks.new }) (flag_at flags.old.above 8)) }
-    ensures left { flags.new.left ≡ rightmost (had_of blocks.new)
+    ensures left { flags.new.left ≡ right_column_flags (had_of blocks.new)
         (y2_or (record { has_y2 = has_y2; had = had_of blocks.new }) (flag_at flags.old.left 8)) }
 {
     if skipped {

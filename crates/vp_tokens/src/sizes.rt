@@ -38,13 +38,7 @@ fn read_category(token: Token, d: &mut BoolDecoder) -> u16
 
 /// Reads the magnitude of a token.
 #[inline(always)]
-#[tactic(auto, unfolding(
-    crate::specs::Levels::size,
-    crate::specs::Levels::bits,
-    vp_tables::specs::Tables::least_size,
-    vp_tables::specs::Tables::extra_probabilities,
-    vp_bool::specs::Reader::bind
-))]
+#[tactic(auto, unfolding(crate::specs::Levels::size, crate::specs::Levels::bits, vp_tables::specs::Tables::least_size, vp_tables::specs::Tables::extra_probabilities, vp_bool::specs::Reader::bind))]
 pub(crate) fn read_size(token: Token, d: &mut BoolDecoder) -> u16
     ensures value { result ≡ (size token d.old).0 }
     ensures rest { d.new ≡ (size token d.old).1 }

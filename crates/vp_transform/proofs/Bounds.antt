@@ -61,7 +61,7 @@ module _ (b : ℕ) (block : List ℤ) (small : EachWithin b block) where
     columns = record { column = λ c k. turn_fits b (here _) (here _) (here _) (here _) (omega arith) };
     rows = record {
       row = λ r k. record {
-        turn = turn_fits (5 * b) (below _) (below _) (below _) (below _) (omega arith);
+        idct_1d = turn_fits (5 * b) (below _) (below _) (below _) (below _) (omega arith);
         more = λ k m. fits-at_most (sum-at_most (turned-at_most (5 * b) (below _) (below _) (below _) (below _) k) four-at_most) (omega arith);
       };
     };
@@ -79,14 +79,14 @@ module _ (b : ℕ) (block : List ℤ) (small : EachWithin b block) where
       each-block_of (4 * b) (λ r c. get (column_product block c) r)
       (λ r c. record { size = omega (arith, column-at_most block r c, (here (4 * 0 + c)).size, (here (4 * 1 + c)).size, (here (4 * 2 + c)).size, (here (4 * 3 + c)).size) })
 
-  across : (k : ℕ) → AtMost (4 * b) (get (hadamard_times block) k)
-  across = at_most (4 * b) (hadamard_times block) hadamard_times-within
+  transpose : (k : ℕ) → AtMost (4 * b) (get (hadamard_times block) k)
+  transpose = at_most (4 * b) (hadamard_times block) hadamard_times-within
 
   column_size-at_most : (c : ℕ) → column_size block c ≤ 4 * b
   column_size-at_most c = omega (arith, (here (4 * 0 + c)).size, (here (4 * 1 + c)).size, (here (4 * 2 + c)).size, (here (4 * 3 + c)).size)
 
   pub row_size-at_most : (r : ℕ) → row_size (hadamard_times block) r ≤ 16 * b
-  row_size-at_most r = omega (arith, (across (4 * r + 0)).size, (across (4 * r + 1)).size, (across (4 * r + 2)).size, (across (4 * r + 3)).size)
+  row_size-at_most r = omega (arith, (transpose (4 * r + 0)).size, (transpose (4 * r + 1)).size, (transpose (4 * r + 2)).size, (transpose (4 * r + 3)).size)
 
   pub iwht_fits : b ≤ 2 ^ 40 → IwhtFits block
   iwht_fits l = omega (arith, column_size-at_most 0, column_size-at_most 1, column_size-at_most 2, column_size-at_most 3)

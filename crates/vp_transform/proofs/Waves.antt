@@ -4,7 +4,7 @@ use Rattle.std.proofs.lemmas.Int.{ints}
 use Rattle.vp_transform.specs.Fits.{Fits, EachWithin}
 use Rattle.vp_transform.specs.Transform.{element_at, hadamard_times}
 use Rattle.vp_transform.specs.Steps.{row_product}
-use Rattle.vp_transform.specs.Forward.{row_waves, column_waves, across, down, fdct, times_hadamard_halved, fwht}
+use Rattle.vp_transform.specs.Forward.{row_waves, column_waves, row_pass, column_pass, fdct, times_hadamard_halved, fwht}
 use Rattle.vp_transform.proofs.Along.{get}
 use Rattle.vp_transform.proofs.Bounds.{at_most, each-block_of, row_size-at_most}
 use Rattle.vp_transform.proofs.Signs.{product_row-at_most}
@@ -145,19 +145,19 @@ module _ (b : ℕ) (block : List ℤ) (small : EachWithin b block) where
   here : (k : ℕ) → AtMost b (get block k)
   here = at_most b block small
 
-  pub across-within : EachWithin (32 * b) (across block)
-  unfolding across
-  across-within =
+  pub transpose-within : EachWithin (32 * b) (row_pass block)
+  unfolding row_pass
+  transpose-within =
       each-block_of (32 * b) (λ r c. get (row_waves (element_at block r 0) (element_at block r 1) (element_at block r 2) (element_at block r 3)) c)
       (λ r c. row-at_most b (here (4 * r + 0)) (here (4 * r + 1)) (here (4 * r + 2)) (here (4 * r + 3)) c)
 
-  below : (k : ℕ) → AtMost (32 * b) (get (across block) k)
-  below = at_most (32 * b) (across block) across-within
+  below : (k : ℕ) → AtMost (32 * b) (get (row_pass block) k)
+  below = at_most (32 * b) (row_pass block) transpose-within
 
   pub fdct-within : EachWithin (8 * b) (fdct block)
-  unfolding fdct down
+  unfolding fdct column_pass
   fdct-within =
-      each-block_of (8 * b) (λ r c. get (column_waves (element_at (across block) 0 c) (element_at (across block) 1 c) (element_at (across block) 2 c) (element_at (across block) 3 c)) r)
+      each-block_of (8 * b) (λ r c. get (column_waves (element_at (row_pass block) 0 c) (element_at (row_pass block) 1 c) (element_at (row_pass block) 2 c) (element_at (row_pass block) 3 c)) r)
       (λ r c. column-at_most b (below (4 * 0 + c)) (below (4 * 1 + c)) (below (4 * 2 + c)) (below (4 * 3 + c)) r)
 
 -- ---- the Walsh-Hadamard transform

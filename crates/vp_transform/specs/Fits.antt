@@ -27,7 +27,7 @@ pub record TurnFits (i0 i1 i2 i3 : ℤ) : Type 0 where
 
 -- so does each result with 4 added, before it is rounded
 pub record TurnAndRoundFits (i0 i1 i2 i3 : ℤ) : Type 0 where
-  pub turn : TurnFits i0 i1 i2 i3
+  pub idct_1d : TurnFits i0 i1 i2 i3
   pub more : (k : ℕ) → k < 4 → Fits (slice_index_or (turned i0 i1 i2 i3) k (pos 0) +ℤ pos 4)
 
 -- each intermediate result of transforming the columns fits in i64

@@ -38,15 +38,15 @@ column_waves i0 i1 i2 i3 =
     ∷ shr_z (pos 2217 *ℤ d -ℤ pos 5352 *ℤ c +ℤ pos 32768) 65536 ∷ []
 
 -- transforms each row
-unfoldable pub across : List ℤ → List ℤ
-across block = block_from (λ r c. slice_index_or (row_waves (element_at block r 0) (element_at block r 1)
+unfoldable pub row_pass : List ℤ → List ℤ
+row_pass block = block_from (λ r c. slice_index_or (row_waves (element_at block r 0) (element_at block r 1)
     (element_at block r 2) (element_at block r 3)) c (pos 0))
 
 -- transforms each column
-unfoldable pub down : List ℤ → List ℤ
-down block = block_from (λ r c. slice_index_or (column_waves (element_at block 0 c) (element_at block 1 c)
+unfoldable pub column_pass : List ℤ → List ℤ
+column_pass block = block_from (λ r c. slice_index_or (column_waves (element_at block 0 c) (element_at block 1 c)
     (element_at block 2 c) (element_at block 3 c)) r (pos 0))
 
 -- the forward DCT: rows, then columns
 unfoldable pub fdct : List ℤ → List ℤ
-fdct block = down (across block)
+fdct block = column_pass (row_pass block)

@@ -67,7 +67,7 @@ fn column(x: &[i64; 16], c: usize) -> [i64; 4]
         (element_at x.now 3 c) }
     ensures { result ≡ column_turned x.now c }
 {
-    turn(x[c], x[4 + c], x[8 + c], x[12 + c])
+    idct_1d(x[c], x[4 + c], x[8 + c], x[12 + c])
 }
 
 /// Transforms and rounds each row.
@@ -92,7 +92,7 @@ fn row(x: &[i64; 16], r: usize) -> [i64; 4]
         (element_at x.now r 3) }
     ensures { result ≡ map rounded (row_turned x.now r) }
 {
-    let [i0, i1, i2, i3] = turn(x[4 * r], x[4 * r + 1], x[4 * r + 2], x[4 * r + 3]);
+    let [i0, i1, i2, i3] = idct_1d(x[4 * r], x[4 * r + 1], x[4 * r + 2], x[4 * r + 3]);
     [round(i0), round(i1), round(i2), round(i3)]
 }
 
@@ -104,7 +104,7 @@ fn round(z: i64) -> i64
 }
 
 /// The one-dimensional transform of four numbers.
-fn turn(i0: i64, i1: i64, i2: i64, i3: i64) -> [i64; 4]
+fn idct_1d(i0: i64, i1: i64, i2: i64, i3: i64) -> [i64; 4]
     requires { TurnFits i0 i1 i2 i3 }
     ensures { result ≡ turned i0 i1 i2 i3 }
 {

@@ -3,7 +3,7 @@
 ghost use Rattle.std.specs.Prelude.{◌≡◌, ℕ, ◌+◌, ◌*◌, ◌^◌, ◌<◌, ◌≤◌, unsigned_abs};
 ghost use Rattle.vp_transform.specs.Fits.{EachWithin};
 ghost use Rattle.vp_transform.specs.Transform.{element_at};
-ghost use Rattle.vp_transform.specs.Forward.{row_waves, column_waves, across, down, fdct};
+ghost use Rattle.vp_transform.specs.Forward.{row_waves, column_waves, row_pass, column_pass, fdct};
 
 /// sqrt 2 * sin (pi / 8), times 2^12.
 const SINE: i64 = 2217;
@@ -23,7 +23,7 @@ pub fn fdct(block: &[i64; 16]) -> [i64; 16]
 /// Transforms each row.
 fn by_rows(x: &[i64; 16]) -> [i64; 16]
     requires { EachWithin (2 ^ 44) x.now }
-    ensures { result ≡ across x.now }
+    ensures { result ≡ row_pass x.now }
 {
     let a = row(x, 0);
     let b = row(x, 1);
@@ -38,7 +38,7 @@ fn by_rows(x: &[i64; 16]) -> [i64; 16]
 /// Transforms each column.
 fn by_columns(x: &[i64; 16]) -> [i64; 16]
     requires { EachWithin (2 ^ 49) x.now }
-    ensures { result ≡ down x.now }
+    ensures { result ≡ column_pass x.now }
 {
     let a = column(x, 0);
     let b = column(x, 1);

@@ -7,7 +7,7 @@ ghost use Rattle.vp_transform.specs.Narrow.{block_in};
 ghost use Rattle.vp_transform.specs.Transform.{hadamard_times, iwht};
 ghost use lib.Signed.{shr_z};
 
-use crate::lanes::{across, joined, row};
+use crate::lanes::{joined, row, transpose};
 use std::simd::prelude::*;
 
 /// The product of the matrix and a block; the vectors are rows.
@@ -42,9 +42,9 @@ pub(crate) fn narrow_iwht(block: &[i64; 16]) -> [i64; 16]
     ensures { result ≡ iwht block.now }
 {
     let (a, b, c, d) = mix(row(block, 0), row(block, 1), row(block, 2), row(block, 3));
-    let (a, b, c, d) = across(a, b, c, d);
+    let (a, b, c, d) = transpose(a, b, c, d);
     let (a, b, c, d) = mix(a, b, c, d);
     let (a, b, c, d) = rounded(a, b, c, d);
-    let (a, b, c, d) = across(a, b, c, d);
+    let (a, b, c, d) = transpose(a, b, c, d);
     joined(a, b, c, d)
 }

@@ -50,7 +50,7 @@ pub(crate) fn joined(a: i32x4, b: i32x4, c: i32x4, d: i32x4) -> [i64; 16]
 }
 
 /// Transposes four rows.
-pub(crate) fn across(a: i32x4, b: i32x4, c: i32x4, d: i32x4) -> (i32x4, i32x4, i32x4, i32x4)
+pub(crate) fn transpose(a: i32x4, b: i32x4, c: i32x4, d: i32x4) -> (i32x4, i32x4, i32x4, i32x4)
     ensures first { result.0 ≡ column_of a b c d 0 }
     ensures second { result.1 ≡ column_of a b c d 1 }
     ensures third { result.2 ≡ column_of a b c d 2 }
@@ -64,7 +64,7 @@ pub(crate) fn across(a: i32x4, b: i32x4, c: i32x4, d: i32x4) -> (i32x4, i32x4, i
 }
 
 /// The one-dimensional transform of each column.
-fn turn(i0: i32x4, i1: i32x4, i2: i32x4, i3: i32x4) -> (i32x4, i32x4, i32x4, i32x4)
+fn idct_1d(i0: i32x4, i1: i32x4, i2: i32x4, i3: i32x4) -> (i32x4, i32x4, i32x4, i32x4)
     requires first { LanesWithin 40960 i0 }
     requires second { LanesWithin 40960 i1 }
     requires third { LanesWithin 40960 i2 }
@@ -90,17 +90,17 @@ fn round(z: i32x4) -> i32x4
 }
 
 /// The inverse DCT of a block of small numbers; vectors are rows.
-pub(crate) fn untransposed(a: i32x4, b: i32x4, c: i32x4, d: i32x4) -> (i32x4, i32x4, i32x4, i32x4)
+pub(crate) fn inverse_rows(a: i32x4, b: i32x4, c: i32x4, d: i32x4) -> (i32x4, i32x4, i32x4, i32x4)
     requires first { LanesWithin 8192 a }
     requires second { LanesWithin 8192 b }
     requires third { LanesWithin 8192 c }
     requires fourth { LanesWithin 8192 d }
     ensures { block_in result.0 result.1 result.2 result.3 ≡ idct (block_in a b c d) }
 {
-    let (a, b, c, d) = turn(a, b, c, d);
-    let (a, b, c, d) = across(a, b, c, d);
-    let (a, b, c, d) = turn(a, b, c, d);
-    across(round(a), round(b), round(c), round(d))
+    let (a, b, c, d) = idct_1d(a, b, c, d);
+    let (a, b, c, d) = transpose(a, b, c, d);
+    let (a, b, c, d) = idct_1d(a, b, c, d);
+    transpose(round(a), round(b), round(c), round(d))
 }
 
 /// The inverse DCT of a block of small numbers.
@@ -108,7 +108,7 @@ pub(crate) fn narrow_idct(block: &[i64; 16]) -> [i64; 16]
     requires { EachWithin 8192 block.now }
     ensures { result ≡ idct block.now }
 {
-    let (a, b, c, d) = untransposed(row(block, 0), row(block, 1), row(block, 2), row(block, 3));
+    let (a, b, c, d) = inverse_rows(row(block, 0), row(block, 1), row(block, 2), row(block, 3));
     joined(a, b, c, d)
 }
 
@@ -118,7 +118,7 @@ pub fn idct_short(block: &[i16; 16]) -> [i16; 16]
     requires { EachWithin 8191 block.now }
     ensures { result ≡ idct block.now }
 {
-    let (a, b, c, d) = untransposed(
+    let (a, b, c, d) = inverse_rows(
         short_row(block, 0),
         short_row(block, 1),
         short_row(block, 2),

@@ -26,9 +26,9 @@ pub fn idct_pair(a: &[i16; 16], b: &[i16; 16]) -> (i16x8, i16x8, i16x8, i16x8)
     ensures bottom { result.3 ≡ row_in (idct a.now) (idct b.now) 3 }
 {
     let (i0, i1, i2, i3) = interleaved_pairs(a, b);
-    let (i0, i1, i2, i3) = turn(i0, i1, i2, i3);
-    let (i0, i1, i2, i3) = across(i0, i1, i2, i3);
-    let (i0, i1, i2, i3) = turn(i0, i1, i2, i3);
+    let (i0, i1, i2, i3) = idct_1d(i0, i1, i2, i3);
+    let (i0, i1, i2, i3) = transpose(i0, i1, i2, i3);
+    let (i0, i1, i2, i3) = idct_1d(i0, i1, i2, i3);
     let (i0, i1, i2, i3) = round(i0, i1, i2, i3);
     side_by_side(i0, i1, i2, i3)
 }
@@ -73,7 +73,7 @@ fn cosine(z: i16x8) -> i16x8
 }
 
 /// The one-dimensional transform of each column.
-fn turn(i0: i16x8, i1: i16x8, i2: i16x8, i3: i16x8) -> (i16x8, i16x8, i16x8, i16x8)
+fn idct_1d(i0: i16x8, i1: i16x8, i2: i16x8, i3: i16x8) -> (i16x8, i16x8, i16x8, i16x8)
     requires even { EachWithin 8466 (even_block i0 i1 i2 i3) }
     requires odd { EachWithin 8466 (odd_block i0 i1 i2 i3) }
     ensures even { even_block result.0 result.1 result.2 result.3 ≡ vertical (even_block i0 i1 i2 i3) }
@@ -87,7 +87,7 @@ fn turn(i0: i16x8, i1: i16x8, i2: i16x8, i3: i16x8) -> (i16x8, i16x8, i16x8, i16
 }
 
 /// Transposes both blocks.
-fn across(a: i16x8, b: i16x8, c: i16x8, d: i16x8) -> (i16x8, i16x8, i16x8, i16x8)
+fn transpose(a: i16x8, b: i16x8, c: i16x8, d: i16x8) -> (i16x8, i16x8, i16x8, i16x8)
     ensures even { even_block result.0 result.1 result.2 result.3 ≡ transposed (even_block a b c d) }
     ensures odd { odd_block result.0 result.1 result.2 result.3 ≡ transposed (odd_block a b c d) }
 {

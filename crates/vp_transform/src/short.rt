@@ -6,7 +6,7 @@ ghost use Rattle.vp_transform.specs.Transform.{idct};
 ghost use Rattle.vp_transform.specs.Short.{cut};
 
 use crate::cosine::wide_idct;
-use crate::lanes::{is_narrow, row, short_joined, untransposed};
+use crate::lanes::{inverse_rows, is_narrow, row, short_joined};
 
 /// Blocks whose numbers are below this bound are transformed in i32 lanes, and the results fit in i16.
 const NARROW: u64 = 1 << 12;
@@ -28,7 +28,7 @@ fn narrow_idct_cut(block: &[i64; 16]) -> [i16; 16]
     requires { EachWithin 4096 block.now }
     ensures { result ≡ idct block.now }
 {
-    let (a, b, c, d) = untransposed(row(block, 0), row(block, 1), row(block, 2), row(block, 3));
+    let (a, b, c, d) = inverse_rows(row(block, 0), row(block, 1), row(block, 2), row(block, 3));
     short_joined(a, b, c, d)
 }
 

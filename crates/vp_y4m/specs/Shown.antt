@@ -8,13 +8,13 @@ use Rattle.vp_y4m.specs.declared.fault.SourceFault.{SourceFault}
 use Rattle.vp_y4m.specs.Header.{Head}
 
 -- the model of a header
-abbrev pub head_shown : SourceHead → Head
-head_shown head = record { w = head.dim.w; h = head.dim.h; rate = head.rate; scale = head.scale }
+abbrev pub head_model : SourceHead → Head
+head_model head = record { w = head.dim.w; h = head.dim.h; rate = head.rate; scale = head.scale }
 
 -- the model of the result of parsing a header
-abbrev pub outcome_shown : Result SourceHead SourceFault → Result Head SourceFault
-outcome_shown (Ok head) = Ok (head_shown head)
-outcome_shown (Err fault) = Err fault
+abbrev pub outcome_model : Result SourceHead SourceFault → Result Head SourceFault
+outcome_model (Ok head) = Ok (head_model head)
+outcome_model (Err fault) = Err fault
 
 -- the borrowed text, if any
 abbrev pub borrowed_text : Option (Bor (List ℕ)) → Option (List ℕ)

@@ -10,7 +10,7 @@ use Rattle.vp_y4m.specs.Reads.{ShowsAtEnd, Fails}
 use Rattle.vp_y4m.specs.Pictures.{next_of}
 use Rattle.vp_y4m.specs.Frames.{GivesPicture}
 use Rattle.vp_y4m.specs.Header.{Head}
-use Rattle.vp_y4m.specs.Shown.{head_shown}
+use Rattle.vp_y4m.specs.Shown.{head_model}
 
 -- the identity of the mutable reference to the reader
 abbrev pub reader_name : {R : Type 0} → Source R → ℕ
@@ -30,7 +30,7 @@ reads_of source = counted_reads source.reader.now
 
 -- the header of a source
 abbrev pub head_of : {R : Type 0} → Source R → Head
-head_of source = head_shown source.head
+head_of source = head_model source.head
 
 -- whether more pictures may follow, or the input ended, or a fault is permanent
 abbrev pub progress_of : {R : Type 0} → Source R → Progress

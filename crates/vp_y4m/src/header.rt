@@ -6,7 +6,7 @@ ghost use Rattle.std.specs.List.{list_all, position_or_len, before_first, after_
 ghost use Rattle.vp_y4m.specs.declared.fault.SourceFault.{SourceFault};
 ghost use Rattle.vp_y4m.specs.Header.{is_space, begins_with, text_after_kind, last_token, number_in, side_in, rate_in};
 ghost use Rattle.vp_y4m.specs.Header.{size_within, option_pair, is_taken_colour, is_progressive, head_in};
-ghost use Rattle.vp_y4m.specs.Shown.{outcome_shown, borrowed_text, sides_of};
+ghost use Rattle.vp_y4m.specs.Shown.{outcome_model, borrowed_text, sides_of};
 
 use crate::fault::SourceFault;
 use vp_base::{Dim, Limits};
@@ -152,7 +152,7 @@ fn is_frame_wise(text: Option<&[u8]>) -> bool
 /// Parses the header line. Returns the first fault in the order `Magic`, `Size`, `Colour`, `Interlaced`.
 #[tactic(auto, unfolding(crate::specs::Header::head_in))]
 pub(crate) fn read_head_line(line: &[u8], limits: Limits) -> Result<SourceHead, SourceFault>
-    ensures value { outcome_shown result ≡ head_in limits.pixels line.now }
+    ensures value { outcome_model result ≡ head_in limits.pixels line.now }
     ensures faults { IfErr result (λ f. (f ≡ SourceFault.Magic) ⊎ ((f ≡ SourceFault.Size)
         ⊎ ((f ≡ SourceFault.Colour) ⊎ (f ≡ SourceFault.Interlaced)))) }
     ensures small { IfOk result (λ head. head.dim.w * head.dim.h ≤ limits.pixels) }

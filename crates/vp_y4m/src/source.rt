@@ -5,7 +5,7 @@ ghost use Rattle.vp_base.specs.Counted.{counted_remaining, counted_failures, cou
 ghost use Rattle.vp_y4m.specs.declared.fault.SourceFault.{SourceFault};
 ghost use Rattle.vp_y4m.specs.declared.source.Progress.{Progress};
 ghost use Rattle.vp_y4m.specs.Reads.{Shows, Fails, TakesInReads, idle_reads, idle_at_none};
-ghost use Rattle.vp_y4m.specs.Shown.{head_shown};
+ghost use Rattle.vp_y4m.specs.Shown.{head_model};
 ghost use Rattle.vp_y4m.specs.Pictures.{file_head};
 ghost use Rattle.vp_y4m.specs.Text.{i420_length};
 
@@ -20,7 +20,7 @@ use vp_base::{Counted, Dim, Limits, Picture};
 impl SourceHead {
     /// Reads the header line, and nothing after it. Faults are not remembered: a second call reads the next line.
     pub fn read<R: Read>(reader: &mut Counted<R>, limits: Limits) -> Result<SourceHead, SourceFault>
-        ensures ok { IfOk result (λ head. Shows (file_head limits.pixels) (λ rest. Ok (head_shown head, rest))
+        ensures ok { IfOk result (λ head. Shows (file_head limits.pixels) (λ rest. Ok (head_model head, rest))
             (counted_remaining R.remaining reader.old) (counted_remaining R.remaining reader.new)) }
         ensures small { IfOk result (λ head. head.dim.w * head.dim.h ≤ limits.pixels) }
         ensures err { IfErr result (λ f. Fails (file_head limits.pixels) f
@@ -77,7 +77,7 @@ impl<'a, R: Read> Source<'a, R> {
     /// Creates a source of the pictures after a header that was read from this reader.
     pub fn open(alloc: Global, reader: &'a mut Counted<R>, head: SourceHead) -> Source<'a, R>
         ensures same_reference { reader_name result ≡ reader.entry.ghost_name }
-        ensures head { head_of result ≡ head_shown head }
+        ensures head { head_of result ≡ head_model head }
         ensures open { progress_of result ≡ Progress.Open }
         ensures bytes { bytes_left R.remaining result ≡ counted_remaining R.remaining reader.entry.now }
         ensures failures { failures_of result ≡ counted_failures reader.entry.now }

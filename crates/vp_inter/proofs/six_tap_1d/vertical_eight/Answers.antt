@@ -7,6 +7,6 @@ use Rattle.vp_inter.proofs.six_tap_1d.vertical_eight.Goals as goal
 
 pub returns : goal.returns
 returns c j h =
-    c.ended.ensures j h
+    c.rounded_pixels.ensures j h
     ∙ ap (λ (z : ℤ). clamp_to_byte (shr_z z 128 +ℤ pos 128)) (passed w16 8 c.vertical_sums.result _ c.vertical_sums.type_inv j h ∙ c.vertical_sums.ensures j h)
     ∙ whole_is c.args.weights.now (get_or c.args.a (2 * j + 0) 0) (get_or c.args.b (2 * j + 0) 0) (get_or c.args.c (2 * j + 0) 0) (get_or c.args.a (2 * j + 1) 0) (get_or c.args.b (2 * j + 1) 0) (get_or c.args.c (2 * j + 1) 0)

@@ -7,22 +7,22 @@ use Rattle.vp_inter.proofs.LongLanes.{passed, byte_kept, short_kept, sum_same}
 use Rattle.vp_inter.proofs.NarrowLemmas.{pair_same, far_fits, far_is}
 use Rattle.vp_inter.proofs.six_tap_1d.vertical_sums.Goals as goal
 
-pub turned_sums-requires-clause-turns : goal.turned_sums-requires-clause-turns
-turned_sums-requires-clause-turns c j h =
+pub alternating_madd-requires-clause-turns : goal.alternating_madd-requires-clause-turns
+alternating_madd-requires-clause-turns c j h =
     let w : List ℤ = c.args.weights.now in
     let g = c.requires.six.0 in
     let t = c.requires.turns.0 j h in
     (byte_kept c.args.far.now.first (2 * j) (weight w 0) _ t.0 (omega (arith, ints), omega (arith, ints)) (short_kept (weight w 0) (omega (arith, ints), omega (arith, ints))), byte_kept c.args.far.now.first (2 * j + 1) (weight w 3) _ t.1 (omega (arith, ints), omega (arith, ints)) (short_kept (weight w 3) (omega (arith, ints), omega (arith, ints))))
 
-pub turned_sums-requires-2-clause-turns : goal.turned_sums-requires-2-clause-turns
-turned_sums-requires-2-clause-turns c j h =
+pub alternating_madd-requires-2-clause-turns : goal.alternating_madd-requires-2-clause-turns
+alternating_madd-requires-2-clause-turns c j h =
     let w : List ℤ = c.args.weights.now in
     let g = c.requires.six.0 in
     let t = c.requires.turns.1 j h in
     (byte_kept c.args.far.now.second (2 * j) (weight w 1) _ t.0 (omega (arith, ints), omega (arith, ints)) (short_kept (weight w 1) (omega (arith, ints), omega (arith, ints))), byte_kept c.args.far.now.second (2 * j + 1) (weight w 4) _ t.1 (omega (arith, ints), omega (arith, ints)) (short_kept (weight w 4) (omega (arith, ints), omega (arith, ints))))
 
-pub turned_sums-requires-3-clause-turns : goal.turned_sums-requires-3-clause-turns
-turned_sums-requires-3-clause-turns c j h =
+pub alternating_madd-requires-3-clause-turns : goal.alternating_madd-requires-3-clause-turns
+alternating_madd-requires-3-clause-turns c j h =
     let w : List ℤ = c.args.weights.now in
     let g = c.requires.six.0 in
     let t = c.requires.turns.2 j h in
@@ -36,7 +36,7 @@ sum_of_three-requires-clause-first c j h =
     let byte_b : (i : ℕ) → i < 16 → get_or c.args.b i 0 < 256 = λ i m. (lane_fits (Fits w8) 0 16 c.args.b c.fits-b.0 c.fits-b.1 i m).fits in
     let byte_c : (i : ℕ) → i < 16 → get_or c.args.c i 0 < 256 = λ i m. (lane_fits (Fits w8) 0 16 c.args.c c.fits-c.0 c.fits-c.1 i m).fits in
     let first_at : 2 * j ≡ 2 * j + 0 = omega arith in
-    let first = passed w16 8 c.turned_sums.result _ c.turned_sums.type_inv j h ∙ c.turned_sums.ensures j h
+    let first = passed w16 8 c.alternating_madd.result _ c.alternating_madd.type_inv j h ∙ c.alternating_madd.ensures j h
     ∙ pair_same _ _ _ _ _ _ _ _ (ap (λ (i : ℕ). get_or c.args.a i 0) first_at) refl (short_kept (weight w 0) (omega (arith, ints), omega (arith, ints))) (short_kept (weight w 3) (omega (arith, ints), omega (arith, ints))) in
     let fits = far_fits w (get_or c.args.a (2 * j + 0) 0) (get_or c.args.b (2 * j + 0) 0) (get_or c.args.c (2 * j + 0) 0) (get_or c.args.a (2 * j + 1) 0) (get_or c.args.b (2 * j + 1) 0) (get_or c.args.c (2 * j + 1) 0) g (byte_a (2 * j + 0) (omega arith)) (byte_b (2 * j + 0) (omega arith)) (byte_c (2 * j + 0) (omega arith)) (byte_a (2 * j + 1) (omega arith)) (byte_b (2 * j + 1) (omega arith)) (byte_c (2 * j + 1) (omega arith)) in
     subst (λ (z : ℤ). IsShort (z -ℤ pos 16320)) (sym first) fits.0
@@ -49,10 +49,10 @@ sum_of_three-requires-clause-both c j h =
     let byte_b : (i : ℕ) → i < 16 → get_or c.args.b i 0 < 256 = λ i m. (lane_fits (Fits w8) 0 16 c.args.b c.fits-b.0 c.fits-b.1 i m).fits in
     let byte_c : (i : ℕ) → i < 16 → get_or c.args.c i 0 < 256 = λ i m. (lane_fits (Fits w8) 0 16 c.args.c c.fits-c.0 c.fits-c.1 i m).fits in
     let first_at : 2 * j ≡ 2 * j + 0 = omega arith in
-    let first = passed w16 8 c.turned_sums.result _ c.turned_sums.type_inv j h ∙ c.turned_sums.ensures j h
+    let first = passed w16 8 c.alternating_madd.result _ c.alternating_madd.type_inv j h ∙ c.alternating_madd.ensures j h
     ∙ pair_same _ _ _ _ _ _ _ _ (ap (λ (i : ℕ). get_or c.args.a i 0) first_at) refl (short_kept (weight w 0) (omega (arith, ints), omega (arith, ints))) (short_kept (weight w 3) (omega (arith, ints), omega (arith, ints))) in
     let second_at : 2 * j ≡ 2 * j + 0 = omega arith in
-    let second = passed w16 8 c.turned_sums-2.result _ c.turned_sums-2.type_inv j h ∙ c.turned_sums-2.ensures j h
+    let second = passed w16 8 c.alternating_madd-2.result _ c.alternating_madd-2.type_inv j h ∙ c.alternating_madd-2.ensures j h
     ∙ pair_same _ _ _ _ _ _ _ _ (ap (λ (i : ℕ). get_or c.args.b i 0) second_at) refl (short_kept (weight w 1) (omega (arith, ints), omega (arith, ints))) (short_kept (weight w 4) (omega (arith, ints), omega (arith, ints))) in
     let fits = far_fits w (get_or c.args.a (2 * j + 0) 0) (get_or c.args.b (2 * j + 0) 0) (get_or c.args.c (2 * j + 0) 0) (get_or c.args.a (2 * j + 1) 0) (get_or c.args.b (2 * j + 1) 0) (get_or c.args.c (2 * j + 1) 0) g (byte_a (2 * j + 0) (omega arith)) (byte_b (2 * j + 0) (omega arith)) (byte_c (2 * j + 0) (omega arith)) (byte_a (2 * j + 1) (omega arith)) (byte_b (2 * j + 1) (omega arith)) (byte_c (2 * j + 1) (omega arith)) in
     subst (λ (z : ℤ). IsShort z) (sym (sum_same _ _ _ _ (ap (λ (z : ℤ). z -ℤ pos 16320) first) second)) fits.1
@@ -65,13 +65,13 @@ sum_of_three-requires-clause-all c j h =
     let byte_b : (i : ℕ) → i < 16 → get_or c.args.b i 0 < 256 = λ i m. (lane_fits (Fits w8) 0 16 c.args.b c.fits-b.0 c.fits-b.1 i m).fits in
     let byte_c : (i : ℕ) → i < 16 → get_or c.args.c i 0 < 256 = λ i m. (lane_fits (Fits w8) 0 16 c.args.c c.fits-c.0 c.fits-c.1 i m).fits in
     let first_at : 2 * j ≡ 2 * j + 0 = omega arith in
-    let first = passed w16 8 c.turned_sums.result _ c.turned_sums.type_inv j h ∙ c.turned_sums.ensures j h
+    let first = passed w16 8 c.alternating_madd.result _ c.alternating_madd.type_inv j h ∙ c.alternating_madd.ensures j h
     ∙ pair_same _ _ _ _ _ _ _ _ (ap (λ (i : ℕ). get_or c.args.a i 0) first_at) refl (short_kept (weight w 0) (omega (arith, ints), omega (arith, ints))) (short_kept (weight w 3) (omega (arith, ints), omega (arith, ints))) in
     let second_at : 2 * j ≡ 2 * j + 0 = omega arith in
-    let second = passed w16 8 c.turned_sums-2.result _ c.turned_sums-2.type_inv j h ∙ c.turned_sums-2.ensures j h
+    let second = passed w16 8 c.alternating_madd-2.result _ c.alternating_madd-2.type_inv j h ∙ c.alternating_madd-2.ensures j h
     ∙ pair_same _ _ _ _ _ _ _ _ (ap (λ (i : ℕ). get_or c.args.b i 0) second_at) refl (short_kept (weight w 1) (omega (arith, ints), omega (arith, ints))) (short_kept (weight w 4) (omega (arith, ints), omega (arith, ints))) in
     let third_at : 2 * j ≡ 2 * j + 0 = omega arith in
-    let third = passed w16 8 c.turned_sums-3.result _ c.turned_sums-3.type_inv j h ∙ c.turned_sums-3.ensures j h
+    let third = passed w16 8 c.alternating_madd-3.result _ c.alternating_madd-3.type_inv j h ∙ c.alternating_madd-3.ensures j h
     ∙ pair_same _ _ _ _ _ _ _ _ (ap (λ (i : ℕ). get_or c.args.c i 0) third_at) refl (short_kept (weight w 2) (omega (arith, ints), omega (arith, ints))) (short_kept (weight w 5) (omega (arith, ints), omega (arith, ints))) in
     let fits = far_fits w (get_or c.args.a (2 * j + 0) 0) (get_or c.args.b (2 * j + 0) 0) (get_or c.args.c (2 * j + 0) 0) (get_or c.args.a (2 * j + 1) 0) (get_or c.args.b (2 * j + 1) 0) (get_or c.args.c (2 * j + 1) 0) g (byte_a (2 * j + 0) (omega arith)) (byte_b (2 * j + 0) (omega arith)) (byte_c (2 * j + 0) (omega arith)) (byte_a (2 * j + 1) (omega arith)) (byte_b (2 * j + 1) (omega arith)) (byte_c (2 * j + 1) (omega arith)) in
     subst (λ (z : ℤ). IsShort z) (sym (sum_same _ _ _ _ (sum_same _ _ _ _ (ap (λ (z : ℤ). z -ℤ pos 16320) first) second) third)) fits.2
@@ -81,13 +81,13 @@ returns c j h =
     let w : List ℤ = c.args.weights.now in
     let g = c.requires.six.0 in
     let first_at : 2 * j ≡ 2 * j + 0 = omega arith in
-    let first = passed w16 8 c.turned_sums.result _ c.turned_sums.type_inv j h ∙ c.turned_sums.ensures j h
+    let first = passed w16 8 c.alternating_madd.result _ c.alternating_madd.type_inv j h ∙ c.alternating_madd.ensures j h
     ∙ pair_same _ _ _ _ _ _ _ _ (ap (λ (i : ℕ). get_or c.args.a i 0) first_at) refl (short_kept (weight w 0) (omega (arith, ints), omega (arith, ints))) (short_kept (weight w 3) (omega (arith, ints), omega (arith, ints))) in
     let second_at : 2 * j ≡ 2 * j + 0 = omega arith in
-    let second = passed w16 8 c.turned_sums-2.result _ c.turned_sums-2.type_inv j h ∙ c.turned_sums-2.ensures j h
+    let second = passed w16 8 c.alternating_madd-2.result _ c.alternating_madd-2.type_inv j h ∙ c.alternating_madd-2.ensures j h
     ∙ pair_same _ _ _ _ _ _ _ _ (ap (λ (i : ℕ). get_or c.args.b i 0) second_at) refl (short_kept (weight w 1) (omega (arith, ints), omega (arith, ints))) (short_kept (weight w 4) (omega (arith, ints), omega (arith, ints))) in
     let third_at : 2 * j ≡ 2 * j + 0 = omega arith in
-    let third = passed w16 8 c.turned_sums-3.result _ c.turned_sums-3.type_inv j h ∙ c.turned_sums-3.ensures j h
+    let third = passed w16 8 c.alternating_madd-3.result _ c.alternating_madd-3.type_inv j h ∙ c.alternating_madd-3.ensures j h
     ∙ pair_same _ _ _ _ _ _ _ _ (ap (λ (i : ℕ). get_or c.args.c i 0) third_at) refl (short_kept (weight w 2) (omega (arith, ints), omega (arith, ints))) (short_kept (weight w 5) (omega (arith, ints), omega (arith, ints))) in
     passed w16 8 c.sum_of_three.result _ c.sum_of_three.type_inv j h ∙ c.sum_of_three.ensures j h
     ∙ sum_same _ _ _ _ (sum_same _ _ _ _ (ap (λ (z : ℤ). z -ℤ pos 16320) first) second) third

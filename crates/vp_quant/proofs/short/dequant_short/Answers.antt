@@ -11,14 +11,14 @@ near_at : (c : goal.After-row_known-1) (j : ℕ) → j < 16 → HasSmallProduct 
 near_at c j h =
     let held = signed_param 16 c.clamp_i16-held.result _ c.clamp_i16-held.type_inv in
     subst (λ (z : ℤ). HasSmallProduct z c.args.dc c.args.ac) (sym (handed c.clamp_i16-held.result held j h ∙ c.clamp_i16-held.ensures j h))
-    (held_in_near c.most_of-most.result (lane (map (to_z w16) (map (of_z w16) c.args.levels)) j) c.args.dc c.args.ac c.most_of-most.ensures)
+    (held_in_near c.greatest_level-most.result (lane (map (to_z w16) (map (of_z w16) c.args.levels)) j) c.args.dc c.args.ac c.greatest_level-most.ensures)
 
 pub products-requires : goal.products-requires
 products-requires c j h =
     let held = signed_param 16 c.clamp_i16-held.result _ c.clamp_i16-held.type_inv in
     subst (λ (z : ℤ). HasSmallProduct z c.args.dc c.args.ac) (c.are_same.ensures.same c.if-are_same.true j h)
     (subst (λ (z : ℤ). HasSmallProduct z c.args.dc c.args.ac) (sym (handed c.clamp_i16-held.result held j h ∙ c.clamp_i16-held.ensures j h))
-    (held_in_near c.most_of-most.result (lane (map (to_z w16) (map (of_z w16) c.args.levels)) j) c.args.dc c.args.ac c.most_of-most.ensures))
+    (held_in_near c.greatest_level-most.result (lane (map (to_z w16) (map (of_z w16) c.args.levels)) j) c.args.dc c.args.ac c.greatest_level-most.ensures))
 
 coefficient_at : (c : goal.After-row_known-1) (place : ℕ) → place < 16
     → lane (map (to_z w16) (map (of_z w16) c.placed.result)) place ≡ coefficient c.args.levels c.args.dc c.args.ac (position_at place)
@@ -57,6 +57,6 @@ returns-else-are_same-clause-some c short none =
     let same = c.are_same.ensures.other
     (λ j h.
     handed c.clamp_i16-held.result held j h ∙ c.clamp_i16-held.ensures j h
-    ∙ held_in_same c.most_of-most.result (lane (map (to_z w16) (map (of_z w16) c.args.levels)) j) c.args.dc c.args.ac c.most_of-most.ensures
+    ∙ held_in_same c.greatest_level-most.result (lane (map (to_z w16) (map (of_z w16) c.args.levels)) j) c.args.dc c.args.ac c.greatest_level-most.ensures
     (subst (λ (z : ℤ). HasSmallProduct z c.args.dc c.args.ac) (sym (handed c.args.levels levels j h)) (short j h))) in
     grind (arith, same, c.if-are_same.false)

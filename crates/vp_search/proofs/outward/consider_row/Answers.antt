@@ -1,6 +1,6 @@
 use Rattle.std.proofs.Common.{◌≡◌, ℕ, sym, arith, subst, inl, inr}
 use Rattle.vp_search.specs.declared.vector.Found.{Found}
-use Rattle.vp_search.specs.Least.{NoLarger}
+use Rattle.vp_search.specs.Least.{IsNoWorse}
 use Rattle.vp_search.specs.Window.{window_cost, vector_at}
 use Rattle.vp_search.proofs.OrderLemmas.{along}
 use Rattle.vp_search.proofs.outward.consider_row.Goals as goal
@@ -17,6 +17,6 @@ loop-j-preserved c =
       old = along g.cost g.vector f.cost f.vector c.args.best.cost c.args.best.vector step.old inv.old;
       here = λ q h. elim (cases_lt q j) [
         | inl less ↦ along g.cost g.vector f.cost f.vector _ (vector_at r i q) step.old (inv.here q less)
-        | inr more ↦ (let e : q ≡ j = omega arith in subst (λ (k : ℕ). NoLarger g.cost g.vector (window_cost b w r (vector_at r i k)) (vector_at r i k)) (sym e) step.here)
+        | inr more ↦ (let e : q ≡ j = omega arith in subst (λ (k : ℕ). IsNoWorse g.cost g.vector (window_cost b w r (vector_at r i k)) (vector_at r i k)) (sym e) step.here)
       ];
     }

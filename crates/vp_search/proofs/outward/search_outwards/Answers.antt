@@ -2,7 +2,7 @@ use Rattle.std.proofs.Common.{◌≡◌, ℕ, ◌+◌, ◌*◌, sym, ap, ◌∙�
 use Rattle.vp_search.specs.declared.vector.WholeVector.{WholeVector}
 use Rattle.vp_search.specs.declared.vector.Found.{Found}
 use Rattle.vp_search.specs.declared.window.TheConstants.{WINDOW_WIDTH}
-use Rattle.vp_search.specs.Least.{NoLarger}
+use Rattle.vp_search.specs.Least.{IsNoWorse}
 use Rattle.vp_search.specs.Window.{window_cost, vector_at}
 use Rattle.vp_search.specs.Differences.{sum_of_differences, strided_block}
 use Rattle.std.proofs.lemmas.Bool.{cases_eq}
@@ -29,11 +29,11 @@ loop-d-preserved c =
     record {
       kept = two.kept;
       seen = λ p q low high wide. elim (cases_eq p (c.from-middle.result - 1 - d)) [
-        | inl e ↦ (let n : NoLarger g.cost g.vector (window_cost b w r (vector_at r p q)) (vector_at r p q) =
-            subst (λ (k : ℕ). NoLarger g.cost g.vector (window_cost b w r (vector_at r k q)) (vector_at r k q)) (sym e) (one.here q wide) in
+        | inl e ↦ (let n : IsNoWorse g.cost g.vector (window_cost b w r (vector_at r p q)) (vector_at r p q) =
+            subst (λ (k : ℕ). IsNoWorse g.cost g.vector (window_cost b w r (vector_at r k q)) (vector_at r k q)) (sym e) (one.here q wide) in
             along h.cost h.vector g.cost g.vector _ (vector_at r p q) two.old n)
         | inr u ↦ elim (cases_eq p (c.from-middle.result + 1 + d)) [
-          | inl e ↦ subst (λ (k : ℕ). NoLarger h.cost h.vector (window_cost b w r (vector_at r k q)) (vector_at r k q)) (sym e) (two.here q wide)
+          | inl e ↦ subst (λ (k : ℕ). IsNoWorse h.cost h.vector (window_cost b w r (vector_at r k q)) (vector_at r k q)) (sym e) (two.here q wide)
           | inr v ↦ along h.cost h.vector g.cost g.vector _ (vector_at r p q) two.old
               (along g.cost g.vector f.cost f.vector _ (vector_at r p q) one.old (inv.seen p q (omega arith) (omega arith) wide))
         ]
@@ -52,6 +52,6 @@ returns-clause-least c =
           let x = index r v.row near.0 in let y = index r v.column near.1 in
           let xw = x.within in let yw = y.within in
           let e : vector_at r x.at y.at ≡ v = vector_is (vector_at r x.at y.at) v (sym x.is) (sym y.is) in
-          subst (λ (k : ℕ). NoLarger k f.vector (cost v) v) c.loop-d.invariant.kept.known
-          (subst (λ (u : WholeVector). NoLarger f.cost f.vector (cost u) u) e (c.loop-d.invariant.seen x.at y.at (omega arith) (omega arith) yw));
+          subst (λ (k : ℕ). IsNoWorse k f.vector (cost v) v) c.loop-d.invariant.kept.known
+          (subst (λ (u : WholeVector). IsNoWorse f.cost f.vector (cost u) u) e (c.loop-d.invariant.seen x.at y.at (omega arith) (omega arith) yw));
     }

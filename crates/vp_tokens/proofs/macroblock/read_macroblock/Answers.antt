@@ -3,7 +3,7 @@ use Rattle.std.proofs.Common.{◌≡◌, Bool, sym, ◌∙◌, ap, subst, arith,
 use Rattle.vp_tokens.specs.declared.contexts.Tokens.{Tokens}
 use Rattle.vp_tokens.specs.Block.{Block}
 use Rattle.vp_tokens.specs.Blocks.{Blocks, had_of, flag_at, y2_or}
-use Rattle.vp_tokens.specs.Contexts.{Contexts, AreContextsAt, right, lowest, rightmost}
+use Rattle.vp_tokens.specs.Contexts.{Contexts, AreContextsAt, right, bottom_row_flags, right_column_flags}
 use Rattle.vp_base.specs.Grid.{Grid, with_entry}
 use Rattle.vp_tokens.proofs.Steps.{step}
 use Rattle.vp_tokens.specs.Flagged.{by_flags, flags_after}
@@ -19,8 +19,8 @@ returns c =
     let left = λ (g : Grid Blocks) (f : AreContextsAt g p old). c.left_of.ensures ∙ left_at-is g p old f in
     let same = λ (g : Grid Blocks) (f : AreContextsAt g p old). macroblock-is c.args.probabilities.now g p c.args.has_y2 c.args.skipped _ _ (above g f) (left g f) c.args.d.now in
     let m : Blocks = record { has_y2 = c.args.has_y2; had = had_of c.read_unless.new.blocks } in
-    let lower = c.read_unless.ensures.above ∙ ap (λ (l : List Bool). lowest m.had (y2_or m (flag_at l 8))) c.above_of.ensures in
-    let side = c.read_unless.ensures.left ∙ ap (λ (l : List Bool). rightmost m.had (y2_or m (flag_at l 8))) c.left_of.ensures in
+    let lower = c.read_unless.ensures.above ∙ ap (λ (l : List Bool). bottom_row_flags m.had (y2_or m (flag_at l 8))) c.above_of.ensures in
+    let side = c.read_unless.ensures.left ∙ ap (λ (l : List Bool). right_column_flags m.had (y2_or m (flag_at l 8))) c.left_of.ensures in
     let kept : c.put.new.self ≡ flags_after old p m = c.put.ensures ∙ (λ i. record { above = slice_set old.above p.column (lower i); left = side i }) in
     record {
       value = λ g f. ap (λ (z : List Block). let t : Tokens = record { blocks = z } in t) c.read_unless.ensures.value ∙ (λ i. (same g f i).0);

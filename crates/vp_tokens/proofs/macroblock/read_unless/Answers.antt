@@ -1,6 +1,6 @@
 use Rattle.std.proofs.Common.{◌≡◌, ◌∙◌, sym, ap, subst, refl, rules}
 use Rattle.vp_tokens.specs.Blocks.{had_of, flag_at, y2_or, all_blocks}
-use Rattle.vp_tokens.specs.Contexts.{lowest, rightmost}
+use Rattle.vp_tokens.specs.Contexts.{bottom_row_flags, right_column_flags}
 use Rattle.vp_tokens.specs.Flagged.{by_flags}
 use Rattle.vp_tokens.specs.Placed.{Reading, reading, all_placed}
 use Rattle.vp_tokens.proofs.Reading.{all_read}
@@ -37,11 +37,11 @@ returns-else-skipped-clause-rest c =
 pub returns-else-skipped-clause-above : goal.returns-else-skipped-clause-above
 returns-else-skipped-clause-above c =
     let e = (goal.at.returns-else-skipped-clause-above c).Else-skipped in
-    let P : Reading → Type 0 = λ r. r.above ≡ lowest (had_of r.blocks) (y2_or (record { has_y2 = c.args.has_y2; had = had_of r.blocks }) (flag_at c.args.flags.now.above 8)) in
+    let P : Reading → Type 0 = λ r. r.above ≡ bottom_row_flags (had_of r.blocks) (y2_or (record { has_y2 = c.args.has_y2; had = had_of r.blocks }) (flag_at c.args.flags.now.above 8)) in
     subst P (sym c.read_all.ensures.value) (above-read _ c.args.has_y2 _ _ _ _ _ (search rules) (read e))
 
 pub returns-else-skipped-clause-left : goal.returns-else-skipped-clause-left
 returns-else-skipped-clause-left c =
     let e = (goal.at.returns-else-skipped-clause-left c).Else-skipped in
-    let P : Reading → Type 0 = λ r. r.left ≡ rightmost (had_of r.blocks) (y2_or (record { has_y2 = c.args.has_y2; had = had_of r.blocks }) (flag_at c.args.flags.now.left 8)) in
+    let P : Reading → Type 0 = λ r. r.left ≡ right_column_flags (had_of r.blocks) (y2_or (record { has_y2 = c.args.has_y2; had = had_of r.blocks }) (flag_at c.args.flags.now.left 8)) in
     subst P (sym c.read_all.ensures.value) (left-read _ c.args.has_y2 _ _ _ _ _ (search rules) (read e))

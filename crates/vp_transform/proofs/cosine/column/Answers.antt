@@ -16,8 +16,8 @@ module _ (x : List ℤ) (k : ℕ) (f0 : Fits (slice_index_or x k (pos 0))) (f1 :
   turned_of : turned (coded (slice_index_or x k (pos 0))) (coded (slice_index_or x (4 + k) (pos 0))) (coded (slice_index_or x (8 + k) (pos 0))) (coded (slice_index_or x (12 + k) (pos 0))) ≡ column_turned x k
   turned_of = turned_along zeroth (read _ f1) (read _ f2) (read _ f3)
 
-pub turn-requires : goal.turn-requires
-turn-requires c = turn_of c.args.x.now c.args.c (search rules) (search rules) (search rules) (search rules) c.requires.fits
+pub idct_1d-requires : goal.idct_1d-requires
+idct_1d-requires c = turn_of c.args.x.now c.args.c (search rules) (search rules) (search rules) (search rules) c.requires.fits
 
 pub returns : goal.returns
-returns c = c.turn.ensures ∙ turned_of c.args.x.now c.args.c (search rules) (search rules) (search rules) (search rules)
+returns c = c.idct_1d.ensures ∙ turned_of c.args.x.now c.args.c (search rules) (search rules) (search rules) (search rules)

@@ -24,32 +24,32 @@ rounded_of : (xs ys : List ℤ) (k : ℕ) (r : ℤ) → xs ≡ ys → Fits (get 
 rounded_of xs ys k r e f g h =
     read r g ∙ h ∙ ap (λ v. rounded v) (read _ f ∙ ap (λ v. get v k) e)
 
-pub turn-requires : goal.turn-requires
-turn-requires c = turn_of c.args.x.now c.args.r (search rules) (search rules) (search rules) (search rules) c.requires.fits.turn
+pub idct_1d-requires : goal.idct_1d-requires
+idct_1d-requires c = turn_of c.args.x.now c.args.r (search rules) (search rules) (search rules) (search rules) c.requires.fits.idct_1d
 
 pub round-requires : goal.round-requires
 round-requires c =
-    let e = c.turn.ensures ∙ turned_of c.args.x.now c.args.r (search rules) (search rules) (search rules) (search rules) in
-    more_of c.turn.result _ 0 e (search rules) (c.requires.fits.more 0 (lit< tt))
+    let e = c.idct_1d.ensures ∙ turned_of c.args.x.now c.args.r (search rules) (search rules) (search rules) (search rules) in
+    more_of c.idct_1d.result _ 0 e (search rules) (c.requires.fits.more 0 (lit< tt))
 
 pub round-requires-2 : goal.round-requires-2
 round-requires-2 c =
-    let e = c.turn.ensures ∙ turned_of c.args.x.now c.args.r (search rules) (search rules) (search rules) (search rules) in
-    more_of c.turn.result _ 1 e (search rules) (c.requires.fits.more 1 (lit< tt))
+    let e = c.idct_1d.ensures ∙ turned_of c.args.x.now c.args.r (search rules) (search rules) (search rules) (search rules) in
+    more_of c.idct_1d.result _ 1 e (search rules) (c.requires.fits.more 1 (lit< tt))
 
 pub round-requires-3 : goal.round-requires-3
 round-requires-3 c =
-    let e = c.turn.ensures ∙ turned_of c.args.x.now c.args.r (search rules) (search rules) (search rules) (search rules) in
-    more_of c.turn.result _ 2 e (search rules) (c.requires.fits.more 2 (lit< tt))
+    let e = c.idct_1d.ensures ∙ turned_of c.args.x.now c.args.r (search rules) (search rules) (search rules) (search rules) in
+    more_of c.idct_1d.result _ 2 e (search rules) (c.requires.fits.more 2 (lit< tt))
 
 pub round-requires-4 : goal.round-requires-4
 round-requires-4 c =
-    let e = c.turn.ensures ∙ turned_of c.args.x.now c.args.r (search rules) (search rules) (search rules) (search rules) in
-    more_of c.turn.result _ 3 e (search rules) (c.requires.fits.more 3 (lit< tt))
+    let e = c.idct_1d.ensures ∙ turned_of c.args.x.now c.args.r (search rules) (search rules) (search rules) (search rules) in
+    more_of c.idct_1d.result _ 3 e (search rules) (c.requires.fits.more 3 (lit< tt))
 
 pub returns : goal.returns
 returns c =
-    let e = c.turn.ensures ∙ turned_of c.args.x.now c.args.r (search rules) (search rules) (search rules) (search rules) in
+    let e = c.idct_1d.ensures ∙ turned_of c.args.x.now c.args.r (search rules) (search rules) (search rules) (search rules) in
     four (rounded_of _ _ 0 _ e (search rules) (search rules) c.round.ensures)
     (rounded_of _ _ 1 _ e (search rules) (search rules) c.round-2.ensures)
     (rounded_of _ _ 2 _ e (search rules) (search rules) c.round-3.ensures)

@@ -1,10 +1,10 @@
 use Rattle.std.proofs.Common.{rules, ◌∙◌}
-use Rattle.vp_transform.specs.Forward.{down}
+use Rattle.vp_transform.specs.Forward.{column_pass}
 use Rattle.vp_transform.proofs.Along.{FourFit, columns_read, columns_along}
 use Rattle.vp_transform.proofs.forward_cosine.by_columns.Goals as goal
 
 pub returns : goal.returns
-unfolding down
+unfolding column_pass
 returns c =
     let i : FourFit c.column-a.result = λ k l. search rules in
     let j : FourFit c.column-b.result = λ k l. search rules in

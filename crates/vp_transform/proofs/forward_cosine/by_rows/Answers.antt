@@ -1,10 +1,10 @@
 use Rattle.std.proofs.Common.{rules, ◌∙◌}
-use Rattle.vp_transform.specs.Forward.{across}
+use Rattle.vp_transform.specs.Forward.{row_pass}
 use Rattle.vp_transform.proofs.Along.{FourFit, rows_read, rows_along}
 use Rattle.vp_transform.proofs.forward_cosine.by_rows.Goals as goal
 
 pub returns : goal.returns
-unfolding across
+unfolding row_pass
 returns c =
     let i : FourFit c.row-a.result = λ k l. search rules in
     let j : FourFit c.row-b.result = λ k l. search rules in

@@ -13,7 +13,7 @@ mix-requires-2 c =
     let x = c.args.block.now in
     let rows = rows_of (2 ^ 26) x c.row.result c.row-2.result c.row-3.result c.row-4.result (omega arith) c.requires c.row.ensures c.row-2.ensures c.row-3.ensures c.row-4.ensures in
     let down = mixed_block rows c.mix.result.0 c.mix.result.1 c.mix.result.2 c.mix.result.3 (omega arith) c.mix.ensures in
-    let turned = exchanged_block down c.across.result.0 c.across.result.1 c.across.result.2 c.across.result.3 (omega arith) c.across.ensures.first c.across.ensures.second c.across.ensures.third c.across.ensures.fourth in
+    let turned = exchanged_block down c.transpose.result.0 c.transpose.result.1 c.transpose.result.2 c.transpose.result.3 (omega arith) c.transpose.ensures.first c.transpose.ensures.second c.transpose.ensures.third c.transpose.ensures.fourth in
     passed-within (2 ^ 28) (omega arith) turned
 
 pub rounded-requires : goal.rounded-requires
@@ -21,7 +21,7 @@ rounded-requires c =
     let x = c.args.block.now in
     let rows = rows_of (2 ^ 26) x c.row.result c.row-2.result c.row-3.result c.row-4.result (omega arith) c.requires c.row.ensures c.row-2.ensures c.row-3.ensures c.row-4.ensures in
     let down = mixed_block rows c.mix.result.0 c.mix.result.1 c.mix.result.2 c.mix.result.3 (omega arith) c.mix.ensures in
-    let turned = exchanged_block down c.across.result.0 c.across.result.1 c.across.result.2 c.across.result.3 (omega arith) c.across.ensures.first c.across.ensures.second c.across.ensures.third c.across.ensures.fourth in
+    let turned = exchanged_block down c.transpose.result.0 c.transpose.result.1 c.transpose.result.2 c.transpose.result.3 (omega arith) c.transpose.ensures.first c.transpose.ensures.second c.transpose.ensures.third c.transpose.ensures.fourth in
     let along = mixed_block turned c.mix-2.result.0 c.mix-2.result.1 c.mix-2.result.2 c.mix-2.result.3 (omega arith) c.mix-2.ensures in
     passed-within (2 ^ 30) (omega arith) along
 
@@ -30,8 +30,8 @@ returns c =
     let x = c.args.block.now in
     let rows = rows_of (2 ^ 26) x c.row.result c.row-2.result c.row-3.result c.row-4.result (omega arith) c.requires c.row.ensures c.row-2.ensures c.row-3.ensures c.row-4.ensures in
     let down = mixed_block rows c.mix.result.0 c.mix.result.1 c.mix.result.2 c.mix.result.3 (omega arith) c.mix.ensures in
-    let turned = exchanged_block down c.across.result.0 c.across.result.1 c.across.result.2 c.across.result.3 (omega arith) c.across.ensures.first c.across.ensures.second c.across.ensures.third c.across.ensures.fourth in
+    let turned = exchanged_block down c.transpose.result.0 c.transpose.result.1 c.transpose.result.2 c.transpose.result.3 (omega arith) c.transpose.ensures.first c.transpose.ensures.second c.transpose.ensures.third c.transpose.ensures.fourth in
     let along = mixed_block turned c.mix-2.result.0 c.mix-2.result.1 c.mix-2.result.2 c.mix-2.result.3 (omega arith) c.mix-2.ensures in
     let even = rounded_block (2 ^ 27) along c.rounded.result.0 c.rounded.result.1 c.rounded.result.2 c.rounded.result.3 (omega arith) c.rounded.ensures in
-    let back = exchanged_block even c.across-2.result.0 c.across-2.result.1 c.across-2.result.2 c.across-2.result.3 (omega arith) c.across-2.ensures.first c.across-2.ensures.second c.across-2.ensures.third c.across-2.ensures.fourth in
+    let back = exchanged_block even c.transpose-2.result.0 c.transpose-2.result.1 c.transpose-2.result.2 c.transpose-2.result.3 (omega arith) c.transpose-2.ensures.first c.transpose-2.ensures.second c.transpose-2.ensures.third c.transpose-2.ensures.fourth in
     c.joined.ensures ∙ back.passed ∙ iwht_in_steps x

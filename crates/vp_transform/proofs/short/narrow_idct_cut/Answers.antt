@@ -2,26 +2,26 @@ use Rattle.std.proofs.Common.{◌∙◌, arith}
 use Rattle.vp_transform.proofs.Mixing.{rows_of, idct_block, first-within, second-within, third-within, fourth-within}
 use Rattle.vp_transform.proofs.short.narrow_idct_cut.Goals as goal
 
-pub untransposed-requires-clause-first : goal.untransposed-requires-clause-first
-untransposed-requires-clause-first c =
+pub inverse_rows-requires-clause-first : goal.inverse_rows-requires-clause-first
+inverse_rows-requires-clause-first c =
     let x = c.args.block.now in
     let rows = rows_of 4096 x c.row.result c.row-2.result c.row-3.result c.row-4.result (omega arith) c.requires c.row.ensures c.row-2.ensures c.row-3.ensures c.row-4.ensures in
     first-within 8192 (omega arith) rows
 
-pub untransposed-requires-clause-second : goal.untransposed-requires-clause-second
-untransposed-requires-clause-second c =
+pub inverse_rows-requires-clause-second : goal.inverse_rows-requires-clause-second
+inverse_rows-requires-clause-second c =
     let x = c.args.block.now in
     let rows = rows_of 4096 x c.row.result c.row-2.result c.row-3.result c.row-4.result (omega arith) c.requires c.row.ensures c.row-2.ensures c.row-3.ensures c.row-4.ensures in
     second-within 8192 (omega arith) rows
 
-pub untransposed-requires-clause-third : goal.untransposed-requires-clause-third
-untransposed-requires-clause-third c =
+pub inverse_rows-requires-clause-third : goal.inverse_rows-requires-clause-third
+inverse_rows-requires-clause-third c =
     let x = c.args.block.now in
     let rows = rows_of 4096 x c.row.result c.row-2.result c.row-3.result c.row-4.result (omega arith) c.requires c.row.ensures c.row-2.ensures c.row-3.ensures c.row-4.ensures in
     third-within 8192 (omega arith) rows
 
-pub untransposed-requires-clause-fourth : goal.untransposed-requires-clause-fourth
-untransposed-requires-clause-fourth c =
+pub inverse_rows-requires-clause-fourth : goal.inverse_rows-requires-clause-fourth
+inverse_rows-requires-clause-fourth c =
     let x = c.args.block.now in
     let rows = rows_of 4096 x c.row.result c.row-2.result c.row-3.result c.row-4.result (omega arith) c.requires c.row.ensures c.row-2.ensures c.row-3.ensures c.row-4.ensures in
     fourth-within 8192 (omega arith) rows
@@ -30,33 +30,33 @@ pub short_joined-requires-clause-first : goal.short_joined-requires-clause-first
 short_joined-requires-clause-first c =
     let x = c.args.block.now in
     let rows = rows_of 4096 x c.row.result c.row-2.result c.row-3.result c.row-4.result (omega arith) c.requires c.row.ensures c.row-2.ensures c.row-3.ensures c.row-4.ensures in
-    let back = idct_block 4096 x rows c.untransposed.result.0 c.untransposed.result.1 c.untransposed.result.2 c.untransposed.result.3 (omega arith) c.requires c.untransposed.ensures in
+    let back = idct_block 4096 x rows c.inverse_rows.result.0 c.inverse_rows.result.1 c.inverse_rows.result.2 c.inverse_rows.result.3 (omega arith) c.requires c.inverse_rows.ensures in
     first-within 32764 (omega arith) back
 
 pub short_joined-requires-clause-second : goal.short_joined-requires-clause-second
 short_joined-requires-clause-second c =
     let x = c.args.block.now in
     let rows = rows_of 4096 x c.row.result c.row-2.result c.row-3.result c.row-4.result (omega arith) c.requires c.row.ensures c.row-2.ensures c.row-3.ensures c.row-4.ensures in
-    let back = idct_block 4096 x rows c.untransposed.result.0 c.untransposed.result.1 c.untransposed.result.2 c.untransposed.result.3 (omega arith) c.requires c.untransposed.ensures in
+    let back = idct_block 4096 x rows c.inverse_rows.result.0 c.inverse_rows.result.1 c.inverse_rows.result.2 c.inverse_rows.result.3 (omega arith) c.requires c.inverse_rows.ensures in
     second-within 32764 (omega arith) back
 
 pub short_joined-requires-clause-third : goal.short_joined-requires-clause-third
 short_joined-requires-clause-third c =
     let x = c.args.block.now in
     let rows = rows_of 4096 x c.row.result c.row-2.result c.row-3.result c.row-4.result (omega arith) c.requires c.row.ensures c.row-2.ensures c.row-3.ensures c.row-4.ensures in
-    let back = idct_block 4096 x rows c.untransposed.result.0 c.untransposed.result.1 c.untransposed.result.2 c.untransposed.result.3 (omega arith) c.requires c.untransposed.ensures in
+    let back = idct_block 4096 x rows c.inverse_rows.result.0 c.inverse_rows.result.1 c.inverse_rows.result.2 c.inverse_rows.result.3 (omega arith) c.requires c.inverse_rows.ensures in
     third-within 32764 (omega arith) back
 
 pub short_joined-requires-clause-fourth : goal.short_joined-requires-clause-fourth
 short_joined-requires-clause-fourth c =
     let x = c.args.block.now in
     let rows = rows_of 4096 x c.row.result c.row-2.result c.row-3.result c.row-4.result (omega arith) c.requires c.row.ensures c.row-2.ensures c.row-3.ensures c.row-4.ensures in
-    let back = idct_block 4096 x rows c.untransposed.result.0 c.untransposed.result.1 c.untransposed.result.2 c.untransposed.result.3 (omega arith) c.requires c.untransposed.ensures in
+    let back = idct_block 4096 x rows c.inverse_rows.result.0 c.inverse_rows.result.1 c.inverse_rows.result.2 c.inverse_rows.result.3 (omega arith) c.requires c.inverse_rows.ensures in
     fourth-within 32764 (omega arith) back
 
 pub returns : goal.returns
 returns c =
     let x = c.args.block.now in
     let rows = rows_of 4096 x c.row.result c.row-2.result c.row-3.result c.row-4.result (omega arith) c.requires c.row.ensures c.row-2.ensures c.row-3.ensures c.row-4.ensures in
-    let back = idct_block 4096 x rows c.untransposed.result.0 c.untransposed.result.1 c.untransposed.result.2 c.untransposed.result.3 (omega arith) c.requires c.untransposed.ensures in
+    let back = idct_block 4096 x rows c.inverse_rows.result.0 c.inverse_rows.result.1 c.inverse_rows.result.2 c.inverse_rows.result.3 (omega arith) c.requires c.inverse_rows.ensures in
     c.short_joined.ensures ∙ back.passed

@@ -17,7 +17,7 @@ taken : (c : Then-window-bound) → IsPart c.args.probability (window_state c.se
 taken c =
     let w = c.self.inside.window in
     let good = c.self.invariant in
-    let b = bound (goal.at.settled-self-inside-requires-clause-aligned c).After-from-bound in
+    let b = bound (goal.at.renormalised-self-inside-requires-clause-aligned c).After-from-bound in
     rw (b, c.from.ensures)
     (part_true c.args.probability w.value w.range w.count w.rest.now (omega arith) good.aligned good.few good.sound good.bytes (rw (← b) c.if-window-bound.true))
 
@@ -25,18 +25,18 @@ left : (c : Else-window-bound) → IsPart c.args.probability (window_state c.sel
 left c =
     let w = c.self.inside.window in
     let good = c.self.invariant in
-    let b = bound (goal.at.settled-self-inside-requires-else-window-bound-clause-taken c).After-from-bound in
+    let b = bound (goal.at.renormalised-self-inside-requires-else-window-bound-clause-taken c).After-from-bound in
     rw (c.from.ensures)
     (part_false c.args.probability w.value w.range w.count w.rest.now (omega arith) good.aligned good.few good.sound good.bytes (rw (← b) c.if-window-bound.false))
 
-pub settled-self-inside-requires-clause-aligned : goal.settled-self-inside-requires-clause-aligned
-settled-self-inside-requires-clause-aligned c = (taken c).aligned
+pub renormalised-self-inside-requires-clause-aligned : goal.renormalised-self-inside-requires-clause-aligned
+renormalised-self-inside-requires-clause-aligned c = (taken c).aligned
 
-pub settled-self-inside-requires-clause-taken : goal.settled-self-inside-requires-clause-taken
-settled-self-inside-requires-clause-taken c = (taken c).taken
+pub renormalised-self-inside-requires-clause-taken : goal.renormalised-self-inside-requires-clause-taken
+renormalised-self-inside-requires-clause-taken c = (taken c).taken
 
-pub settled-self-inside-requires-else-window-bound-clause-taken : goal.settled-self-inside-requires-else-window-bound-clause-taken
-settled-self-inside-requires-else-window-bound-clause-taken c = (left c).taken
+pub renormalised-self-inside-requires-else-window-bound-clause-taken : goal.renormalised-self-inside-requires-else-window-bound-clause-taken
+renormalised-self-inside-requires-else-window-bound-clause-taken c = (left c).taken
 
 pub returns-then-window-bound-clause-value : goal.returns-then-window-bound-clause-value
 returns-then-window-bound-clause-value c =
@@ -44,13 +44,13 @@ returns-then-window-bound-clause-value c =
 
 pub returns-then-window-bound-clause-rest : goal.returns-then-window-bound-clause-rest
 returns-then-window-bound-clause-rest c =
-    c.settled-self-inside.ensures.after ∙ (taken (goal.at.returns-then-window-bound-clause-rest c).Then-window-bound).after ∙ ap (λ s. (read c.args.probability s).1) c.self.view_is
+    c.renormalised-self-inside.ensures.after ∙ (taken (goal.at.returns-then-window-bound-clause-rest c).Then-window-bound).after ∙ ap (λ s. (read c.args.probability s).1) c.self.view_is
 
 pub returns-then-window-bound-clause-run : goal.returns-then-window-bound-clause-run
 returns-then-window-bound-clause-run c =
     let part = taken (goal.at.returns-then-window-bound-clause-run c).Then-window-bound in
     reads_on c.args.probability c.args.self.now _ _ (omega arith) (part.value ∙ ap (λ s. (read c.args.probability s).0) c.self.view_is)
-    (c.settled-self-inside.ensures.after ∙ part.after ∙ ap (λ s. (read c.args.probability s).1) c.self.view_is)
+    (c.renormalised-self-inside.ensures.after ∙ part.after ∙ ap (λ s. (read c.args.probability s).1) c.self.view_is)
 
 pub returns-else-window-bound-clause-value : goal.returns-else-window-bound-clause-value
 returns-else-window-bound-clause-value c =
@@ -58,10 +58,10 @@ returns-else-window-bound-clause-value c =
 
 pub returns-else-window-bound-clause-rest : goal.returns-else-window-bound-clause-rest
 returns-else-window-bound-clause-rest c =
-    c.settled-self-inside-else-window-bound.ensures.after ∙ (left (goal.at.returns-else-window-bound-clause-rest c).Else-window-bound).after ∙ ap (λ s. (read c.args.probability s).1) c.self.view_is
+    c.renormalised-self-inside-else-window-bound.ensures.after ∙ (left (goal.at.returns-else-window-bound-clause-rest c).Else-window-bound).after ∙ ap (λ s. (read c.args.probability s).1) c.self.view_is
 
 pub returns-else-window-bound-clause-run : goal.returns-else-window-bound-clause-run
 returns-else-window-bound-clause-run c =
     let part = left (goal.at.returns-else-window-bound-clause-run c).Else-window-bound in
     reads_on c.args.probability c.args.self.now _ _ (omega arith) (part.value ∙ ap (λ s. (read c.args.probability s).0) c.self.view_is)
-    (c.settled-self-inside-else-window-bound.ensures.after ∙ part.after ∙ ap (λ s. (read c.args.probability s).1) c.self.view_is)
+    (c.renormalised-self-inside-else-window-bound.ensures.after ∙ part.after ∙ ap (λ s. (read c.args.probability s).1) c.self.view_is)

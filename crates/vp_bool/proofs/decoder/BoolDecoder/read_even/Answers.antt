@@ -32,11 +32,11 @@ part c =
           rw (v.value-is, h, ← p.value) p
     ]
 
-pub settled-self-inside-requires-clause-aligned : goal.settled-self-inside-requires-clause-aligned
-settled-self-inside-requires-clause-aligned c = (part (goal.at.settled-self-inside-requires-clause-aligned c).Joined-bit).aligned
+pub renormalised-self-inside-requires-clause-aligned : goal.renormalised-self-inside-requires-clause-aligned
+renormalised-self-inside-requires-clause-aligned c = (part (goal.at.renormalised-self-inside-requires-clause-aligned c).Joined-bit).aligned
 
-pub settled-self-inside-requires-clause-taken : goal.settled-self-inside-requires-clause-taken
-settled-self-inside-requires-clause-taken c = (part (goal.at.settled-self-inside-requires-clause-taken c).Joined-bit).taken
+pub renormalised-self-inside-requires-clause-taken : goal.renormalised-self-inside-requires-clause-taken
+renormalised-self-inside-requires-clause-taken c = (part (goal.at.renormalised-self-inside-requires-clause-taken c).Joined-bit).taken
 
 value : (c : Joined-bit) → leb (c.from-bound.result * 2 ^ 56 % 2 ^ 64) c.self.inside.window.value ≡ (read 128 c.args.self.now).0
 value c =
@@ -50,9 +50,9 @@ returns-clause-value c = value (goal.at.returns-clause-value c).Joined-bit
 
 pub returns-clause-rest : goal.returns-clause-rest
 returns-clause-rest c =
-    c.settled-self-inside.ensures.after ∙ (part (goal.at.returns-clause-rest c).Joined-bit).after ∙ ap (λ s. (read 128 s).1) c.self.view_is
+    c.renormalised-self-inside.ensures.after ∙ (part (goal.at.returns-clause-rest c).Joined-bit).after ∙ ap (λ s. (read 128 s).1) c.self.view_is
 
 pub returns-clause-run : goal.returns-clause-run
 returns-clause-run c =
     let j = (goal.at.returns-clause-run c).Joined-bit in
-    reads_on 128 c.args.self.now _ _ (omega arith) (value j) (c.settled-self-inside.ensures.after ∙ (part j).after ∙ ap (λ s. (read 128 s).1) c.self.view_is)
+    reads_on 128 c.args.self.now _ _ (omega arith) (value j) (c.renormalised-self-inside.ensures.after ∙ (part j).after ∙ ap (λ s. (read 128 s).1) c.self.view_is)
