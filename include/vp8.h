@@ -1,12 +1,12 @@
 /* vp8: decode and encode VP8 video (RFC 6386), from C.
  *
  * Each function is a proved one of the Rattle libraries: it does what its comment says whatever the bytes are, reads and
- * writes only the memory that it is handed, always returns, and never ends the process. The contracts behind the comments
- * stand in crates/vp8_c/src.
+ * writes only the memory that it is handed, always returns, and never ends the process. The contracts are in
+ * crates/vp8_c/src.
  *
- * What no contract can hold a caller to, and a caller has to keep:
- *   - No pointer is null, also where the length beside it is 0, and behind each are as many bytes as its length says.
- *   - Memory that a call writes to is handed to it once: two buffers of one call do not overlap, nor a buffer and a handle.
+ * The caller must ensure:
+ *   - No pointer is null, even if the length beside it is 0, and each points to as many bytes as its length says.
+ *   - Memory that a call writes to is passed once: two buffers of one call do not overlap, nor a buffer and a handle.
  *   - A handle is used by one thread at a time, is never copied, and its fields are never written.
  *   - malloc, realloc and free come from one allocator, and give blocks aligned as C's do. No call is made from a signal
  *     handler, or from the forked child of a process with threads.
@@ -21,7 +21,7 @@
  *
  * Pictures are I420: a plane of luma (Y) as large as the picture, and two of colour (U, V), whose sides are half of its,
  * rounded up. A plane in the caller's memory is a pointer, a length and a stride, all in bytes: row r begins r strides
- * behind the pointer. It fits where the stride is no less than the plane's width, and the last row ends within the length;
+ * after the pointer. It fits if the stride is no less than the plane's width and the last row ends within the length;
  * a plane that is too small is refused with VP8_BUFFER, and nothing is written.
  */
 #ifndef VP8_H
@@ -34,11 +34,11 @@
 extern "C" {
 #endif
 
-/* What a call came to. vp8_status_name gives the names. */
+/* The result of a call. vp8_status_name gives the names. */
 typedef uint32_t vp8_status;
 
 enum {
-  /* It is done. Of a packet: it is decoded, and its picture is shown. */
+  /* Success. For a packet: it is decoded, and its picture is shown. */
   VP8_OK = 0,
   /* The packet is decoded, and no picture is shown for it. */
   VP8_HIDDEN = 1,
@@ -60,7 +60,7 @@ enum {
   VP8_TOO_MANY = 34,         /* it has more packets than 1,048,576 */
   VP8_PACKET_TOO_LARGE = 35, /* a packet is larger than 16,777,216 bytes */
   VP8_TORN = 36,             /* it ends inside its head or a packet */
-  VP8_ENDED = 37,            /* it had ended before: no call here answers so, since a file is handed over whole */
+  VP8_ENDED = 37,            /* never returned by this library, since a file is passed whole */
 
   /* The encoder can't be opened, or the frame not encoded. */
   VP8_SETTINGS = 48, /* a setting is out of its range */
@@ -77,8 +77,8 @@ enum {
   VP8_BUFFER = 71      /* a length or a stride is too small */
 };
 
-/* Copies the name of a status, as "TooLarge" or "Partition 2", and a 0 behind it, to `out`, where there is room for both;
- * else `out` is left as it is. Returns the name's length without the 0, which is 0 for a number that is no status; no name
+/* Copies the name of a status, as "TooLarge" or "Partition 2", followed by a 0, to `out` if there is room for both;
+ * else `out` is unchanged. Returns the name's length without the 0, which is 0 for a number that is no status; no name
  * has more than 14 characters, and token partitions have names up to 7. */
 size_t vp8_status_name(vp8_status status, uint8_t *out, size_t out_len);
 
@@ -96,7 +96,7 @@ typedef struct vp8_decoder {
  * VP8_OPEN, VP8_LIMITS, VP8_MEMORY. */
 vp8_status vp8_decoder_new(vp8_decoder *decoder, uint32_t max_pixels);
 
-/* Decodes a packet, which is one frame: a key packet at first, and then each packet over those before it. A packet of no
+/* Decodes a packet, which is one frame: a key packet first, then each packet in order. A packet of no
  * bytes is a frame that its sender dropped: the last shown picture is shown again.
  * VP8_OK: its picture is shown, and vp8_decoder_copy gives it. VP8_HIDDEN: it is not to be shown.
  * VP8_TRUNCATED to VP8_PARTITION_TABLE, VP8_PARTITION + n: it can't be decoded; then inter packets are refused, by
@@ -135,7 +135,7 @@ typedef struct vp8_stream_info {
 } vp8_stream_info;
 
 /* Opens a stream, and copies the bytes of a whole IVF file into it. Pictures have at most 16,777,216 pixels.
- * What is wrong with the file is told by vp8_stream_get_info: its whole packets can be asked for all the same.
+ * vp8_stream_get_info reports what is wrong with the file; its whole packets can still be decoded.
  * VP8_OPEN, VP8_MEMORY: the stream is as before. */
 vp8_status vp8_stream_new(vp8_stream *stream, const uint8_t *bytes, size_t bytes_len);
 
@@ -143,15 +143,15 @@ vp8_status vp8_stream_new(vp8_stream *stream, const uint8_t *bytes, size_t bytes
 vp8_status vp8_stream_get_info(vp8_stream *stream, vp8_stream_info *info);
 
 /* Decodes packet n, from the last key packet before it on, and keeps its picture for the calls below.
- * VP8_OK, VP8_HIDDEN and the faults as vp8_decoder_decode's. VP8_NO_PACKET. VP8_MEMORY, VP8_CLOSED: what was kept before
- * is kept on. */
+ * VP8_OK, VP8_HIDDEN and the faults as vp8_decoder_decode's. VP8_NO_PACKET. VP8_MEMORY, VP8_CLOSED: the kept
+ * picture is unchanged. */
 vp8_status vp8_stream_picture_at(vp8_stream *stream, uint32_t n);
 
 /* The size in pixels of the picture that is kept. VP8_NO_PICTURE, VP8_CLOSED: nothing is written. */
 vp8_status vp8_stream_size(vp8_stream *stream, uint32_t *width, uint32_t *height);
 
 /* Copies the picture that is kept as Y, U and V, each row after row with nothing between: width * height bytes, and twice
- * ((width + 1) / 2) * ((height + 1) / 2). Bytes behind them stay as they are.
+ * ((width + 1) / 2) * ((height + 1) / 2). Bytes after them are unchanged.
  * VP8_NO_PICTURE, VP8_BUFFER, VP8_CLOSED: nothing is written. */
 vp8_status vp8_stream_copy_i420(vp8_stream *stream, uint8_t *out, size_t out_len);
 
@@ -172,7 +172,7 @@ typedef struct vp8_settings {
   uint8_t simple;        /* not 0: the simple loop filter */
   uint32_t key_every;    /* frames from one key frame to the next, from 1; 1 makes each one a key frame */
   uint32_t golden_every; /* frames from one golden picture to the next; 0: none but the key frame's */
-  uint8_t range;         /* how many whole pixels a vector goes at most, 0 to 64 */
+  uint8_t range;         /* the search range in whole pixels, 0 to 64 */
   uint8_t subpel;        /* not 0: vectors in quarter pixels */
   uint8_t partitions;    /* token partitions of a packet: 1, 2, 4 or 8 */
 } vp8_settings;
@@ -181,7 +181,7 @@ typedef struct vp8_settings {
  * VP8_OPEN, VP8_DIMENSIONS, VP8_SETTINGS, VP8_MEMORY. */
 vp8_status vp8_encoder_new(vp8_encoder *encoder, uint32_t width, uint32_t height, const vp8_settings *settings);
 
-/* Encodes a picture of the encoder's size as one packet, to be decoded behind those before it, and keeps the packet and the
+/* Encodes a picture of the encoder's size as one packet, to be decoded after those before it, and keeps the packet and the
  * picture that decoders show for it.
  * VP8_TOO_LONG, VP8_MEMORY: nothing is kept, and the next frame is a key frame. VP8_BUFFER, VP8_CLOSED: nothing changes. */
 vp8_status vp8_encoder_encode(vp8_encoder *encoder,
@@ -192,7 +192,7 @@ vp8_status vp8_encoder_encode(vp8_encoder *encoder,
 /* The length in bytes of the packet that is kept. VP8_NO_PICTURE, VP8_CLOSED: nothing is written. */
 vp8_status vp8_encoder_packet_size(vp8_encoder *encoder, size_t *size);
 
-/* Copies the packet that is kept; bytes behind it stay as they are.
+/* Copies the packet that is kept; bytes after it are unchanged.
  * VP8_NO_PICTURE, VP8_BUFFER, VP8_CLOSED: nothing is written. */
 vp8_status vp8_encoder_packet(vp8_encoder *encoder, uint8_t *out, size_t out_len);
 
