@@ -32,6 +32,14 @@ struct Pair {
     odd: u8x16,
 }
 
+/// The part of the reference that a block is filtered from. Its first row and column can lie outside the plane.
+#[derive(Clone, Copy)]
+struct Window<'a> {
+    plane: &'a Plane,
+    left: i32,
+    top: i32,
+}
+
 /// Filters three rows of the reference horizontally: even columns first, then odd ones.
 fn three_rows<const INSIDE: bool>(
     plane: &Plane,
@@ -98,26 +106,28 @@ fn paired_rows<const INSIDE: bool>(
     first: &mut [u8],
     second: &mut [u8],
     third: &mut [u8],
-    plane: &Plane,
-    left: i32,
-    top: i32,
+    window: Window,
     weights: &[i16; 6],
     near: &RowWeights,
 )
     requires one { length first.old ≡ 224 }
     requires two { length second.old ≡ 224 }
     requires three { length third.old ≡ 224 }
-    requires inside { IsTrue INSIDE → IsInside plane.now left top 21 21 }
+    requires inside { IsTrue INSIDE → IsInside window.plane.now window.left window.top 21 21 }
     requires six { AreSix weights.now }
     requires turns { AreNear weights.now near.now }
-    requires columns { 0 < plane.now.width }
-    requires height { 0 < plane.now.height }
-    requires near { (negsuc 400000000 ≤ℤ left) × (left ≤ℤ pos 400000000) }
-    requires beside { (negsuc 400000000 ≤ℤ top) × (top ≤ℤ pos 400000000) }
-    ensures first { HoldsPairs first.new (horizontal_pass weights.now plane.now left top) 0 6 }
-    ensures second { HoldsPairs second.new (horizontal_pass weights.now plane.now left top) 1 6 }
-    ensures third { HoldsPairs third.new (horizontal_pass weights.now plane.now left top) 2 6 }
+    requires columns { 0 < window.plane.now.width }
+    requires height { 0 < window.plane.now.height }
+    requires near { (negsuc 400000000 ≤ℤ window.left) × (window.left ≤ℤ pos 400000000) }
+    requires beside { (negsuc 400000000 ≤ℤ window.top) × (window.top ≤ℤ pos 400000000) }
+    ensures first { HoldsPairs first.new
+        (horizontal_pass weights.now window.entry.plane.now window.entry.left window.entry.top) 0 6 }
+    ensures second { HoldsPairs second.new
+        (horizontal_pass weights.now window.entry.plane.now window.entry.left window.entry.top) 1 6 }
+    ensures third { HoldsPairs third.new
+        (horizontal_pass weights.now window.entry.plane.now window.entry.left window.entry.top) 2 6 }
 {
+    let Window { plane, left, top } = window;
     let none = u8x16::splat(0);
     let mut above = Three {
         first: none,
@@ -138,28 +148,30 @@ fn all_rows(
     first: &mut [u8],
     second: &mut [u8],
     third: &mut [u8],
-    plane: &Plane,
-    left: i32,
-    top: i32,
+    window: Window,
     weights: &[i16; 6],
 )
     requires one { length first.old ≡ 224 }
     requires two { length second.old ≡ 224 }
     requires three { length third.old ≡ 224 }
     requires six { AreSix weights.now }
-    requires columns { 0 < plane.now.width }
-    requires height { 0 < plane.now.height }
-    requires near { (negsuc 400000000 ≤ℤ left) × (left ≤ℤ pos 400000000) }
-    requires beside { (negsuc 400000000 ≤ℤ top) × (top ≤ℤ pos 400000000) }
-    ensures first { HoldsPairs first.new (horizontal_pass weights.now plane.now left top) 0 6 }
-    ensures second { HoldsPairs second.new (horizontal_pass weights.now plane.now left top) 1 6 }
-    ensures third { HoldsPairs third.new (horizontal_pass weights.now plane.now left top) 2 6 }
+    requires columns { 0 < window.plane.now.width }
+    requires height { 0 < window.plane.now.height }
+    requires near { (negsuc 400000000 ≤ℤ window.left) × (window.left ≤ℤ pos 400000000) }
+    requires beside { (negsuc 400000000 ≤ℤ window.top) × (window.top ≤ℤ pos 400000000) }
+    ensures first { HoldsPairs first.new
+        (horizontal_pass weights.now window.entry.plane.now window.entry.left window.entry.top) 0 6 }
+    ensures second { HoldsPairs second.new
+        (horizontal_pass weights.now window.entry.plane.now window.entry.left window.entry.top) 1 6 }
+    ensures third { HoldsPairs third.new
+        (horizontal_pass weights.now window.entry.plane.now window.entry.left window.entry.top) 2 6 }
 {
     let near = paired_row_weights(weights);
-    if lies_inside(plane, left, top, 21, 21) {
-        paired_rows::<true>(first, second, third, plane, left, top, weights, &near);
+    let plane = window.plane;
+    if lies_inside(plane, window.left, window.top, 21, 21) {
+        paired_rows::<true>(first, second, third, window, weights, &near);
     } else {
-        paired_rows::<false>(first, second, third, plane, left, top, weights, &near);
+        paired_rows::<false>(first, second, third, window, weights, &near);
     }
 }
 
@@ -280,15 +292,8 @@ pub(crate) fn six_tap_2d_block(
     let mut first = [0; 224];
     let mut second = [0; 224];
     let mut third = [0; 224];
-    all_rows(
-        &mut first,
-        &mut second,
-        &mut third,
-        plane,
-        left,
-        top,
-        row_weights,
-    );
+    let window = Window { plane, left, top };
+    all_rows(&mut first, &mut second, &mut third, window, row_weights);
     let far = paired_column_weights(column_weights);
     paired_columns(pixels, &first, &second, &third, column_weights, &far);
 }

@@ -10,6 +10,7 @@ pub mod BandLemmas
 pub mod PlaneLaws
 pub mod LaneLines
 pub mod TransposeLemmas
+pub mod ArrayLemmas
 pub mod Loads
 pub mod RowReads
 pub mod RowWrites

@@ -63,7 +63,7 @@ fn filter_luma_along(picture: &mut Picture, x: usize, y: usize, step: LineStep)
 {
     let _known = picture.plane(0).height();
     let l = step.apply_to_all(lines_along(picture.plane(0), x, y));
-    let lines = untranspose(l.p3, l.p2, l.p1, l.p0, l.q0, l.q1, l.q2, l.q3);
+    let lines = untranspose(l);
     write_rows8(picture, 0, x, y, &lines);
 }
 
@@ -118,7 +118,7 @@ fn filter_colours_along(picture: &mut Picture, x: usize, y: usize, step: LineSte
     let _known = picture.plane(1).height();
     let _known = picture.plane(2).height();
     let l = step.apply_to_all(lines_along_both(picture.plane(1), picture.plane(2), x, y));
-    let lines = untranspose(l.p3, l.p2, l.p1, l.p0, l.q0, l.q1, l.q2, l.q3);
+    let lines = untranspose(l);
     write_rows8(picture, 1, x, y, &lines[0..8]);
     write_rows8(picture, 2, x, y, &lines[8..16]);
 }

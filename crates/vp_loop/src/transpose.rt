@@ -12,27 +12,12 @@ use vp_base::Plane;
 use vp_lanes::{load8, load16};
 
 /// Transposes sixteen rows of eight pixels to lines.
-fn transpose(
-    r0: u8x8,
-    r1: u8x8,
-    r2: u8x8,
-    r3: u8x8,
-    r4: u8x8,
-    r5: u8x8,
-    r6: u8x8,
-    r7: u8x8,
-    r8: u8x8,
-    r9: u8x8,
-    r10: u8x8,
-    r11: u8x8,
-    r12: u8x8,
-    r13: u8x8,
-    r14: u8x8,
-    r15: u8x8,
-) -> Lines
-    ensures { (j : ℕ) → j < 16 → line_of result j ≡ line_in (slice_index_or (r0 ∷ r1 ∷ r2 ∷ r3 ∷ r4 ∷ r5 ∷ r6 ∷ r7 ∷ r8
-        ∷ r9 ∷ r10 ∷ r11 ∷ r12 ∷ r13 ∷ r14 ∷ r15 ∷ []) j []) }
+#[inline(always)]
+fn transpose(rows: [u8x8; 16]) -> Lines
+    ensures { (j : ℕ) → j < 16 → line_of result j ≡ line_in (slice_index_or rows j []) }
 {
+    let [r0, r1, r2, r3, r4, r5, r6, r7, ..] = rows;
+    let [.., r8, r9, r10, r11, r12, r13, r14, r15] = rows;
     let a0 = r0.shuffle::<16>(r8, [0, 8, 1, 9, 2, 10, 3, 11, 4, 12, 5, 13, 6, 14, 7, 15]);
     let a1 = r1.shuffle::<16>(r9, [0, 8, 1, 9, 2, 10, 3, 11, 4, 12, 5, 13, 6, 14, 7, 15]);
     let a2 = r2.shuffle::<16>(r10, [0, 8, 1, 9, 2, 10, 3, 11, 4, 12, 5, 13, 6, 14, 7, 15]);
@@ -66,25 +51,17 @@ fn transpose(
 }
 
 /// Transposes sixteen lines to rows of eight pixels.
-pub(crate) fn untranspose(
-    p3: u8x16,
-    p2: u8x16,
-    p1: u8x16,
-    p0: u8x16,
-    q0: u8x16,
-    q1: u8x16,
-    q2: u8x16,
-    q3: u8x16,
-) -> [u8x8; 16]
+#[inline(always)]
+pub(crate) fn untranspose(l: Lines) -> [u8x8; 16]
     ensures len { length result ≡ 16 }
     ensures value { (j : ℕ) → j < 16 → slice_index_or result j []
-        ≡ (slice_index p3 j ∷ slice_index p2 j ∷ slice_index p1 j ∷ slice_index p0 j ∷ slice_index q0 j
-        ∷ slice_index q1 j ∷ slice_index q2 j ∷ slice_index q3 j ∷ []) }
+        ≡ (slice_index l.p3 j ∷ slice_index l.p2 j ∷ slice_index l.p1 j ∷ slice_index l.p0 j ∷ slice_index l.q0 j
+        ∷ slice_index l.q1 j ∷ slice_index l.q2 j ∷ slice_index l.q3 j ∷ []) }
 {
-    let (a0, a1) = p3.interleave(q0);
-    let (b0, b1) = p2.interleave(q1);
-    let (c0, c1) = p1.interleave(q2);
-    let (d0, d1) = p0.interleave(q3);
+    let (a0, a1) = l.p3.interleave(l.q0);
+    let (b0, b1) = l.p2.interleave(l.q1);
+    let (c0, c1) = l.p1.interleave(l.q2);
+    let (d0, d1) = l.p0.interleave(l.q3);
     let (e0, e1) = a0.interleave(c0);
     let (e2, e3) = a1.interleave(c1);
     let (f0, f1) = b0.interleave(d0);
@@ -295,7 +272,7 @@ fn rows_along(pixels: &[u8], at: usize, stride: usize) -> Lines
     let a13 = a12 + stride;
     let a14 = a13 + stride;
     let a15 = a14 + stride;
-    transpose(
+    transpose([
         load8(pixels, at),
         load8(pixels, a1),
         load8(pixels, a2),
@@ -312,7 +289,7 @@ fn rows_along(pixels: &[u8], at: usize, stride: usize) -> Lines
         load8(pixels, a13),
         load8(pixels, a14),
         load8(pixels, a15),
-    )
+    ])
 }
 
 /// Loads eight lines along rows of one plane, followed by eight of the other.
@@ -344,7 +321,7 @@ fn rows_along_both(
     let v5 = v4 + v_stride;
     let v6 = v5 + v_stride;
     let v7 = v6 + v_stride;
-    transpose(
+    transpose([
         load8(u, u_at),
         load8(u, u1),
         load8(u, u2),
@@ -361,7 +338,7 @@ fn rows_along_both(
         load8(v, v5),
         load8(v, v6),
         load8(v, v7),
-    )
+    ])
 }
 
 /// Loads the sixteen lines down columns `x` to `x + 15`, from row `y` on.

@@ -22,14 +22,6 @@ use Rattle.vp_recon.proofs.Parts.{is_in, in_it}
 pub low_handed : (xs : List ℤ) → AreLow xs → AreLow (handed16 xs)
 low_handed xs low j h = subst (λ z. unsigned_abs z ≤ 8800) (sym (passed16 xs j 8800 (omega arith) (low j h))) (low j h)
 
--- what vectors have as they are handed on
-module _ (a b c d : List ℤ) (la : AreLow a) (lb : AreLow b) (lc : AreLow c) (ld : AreLow d) where
-  pub number_handed : (r j : ℕ) → r < 4 → j < 8 → row_lane (handed16 a) (handed16 b) (handed16 c) (handed16 d) r j ≡ row_lane a b c d r j
-  number_handed r j rin jin =
-      below_four (λ i. row_lane (handed16 a) (handed16 b) (handed16 c) (handed16 d) i j ≡ row_lane a b c d i j)
-      (passed16 a j 8800 (omega arith) (la j jin)) (passed16 b j 8800 (omega arith) (lb j jin))
-      (passed16 c j 8800 (omega arith) (lc j jin)) (passed16 d j 8800 (omega arith) (ld j jin)) r rin
-
 -- ---- two residues of one number each
 module _ (row : List ℤ) (l m : ℤ) (el : (j : ℕ) → j < 4 → lane row j ≡ l) (em : (j : ℕ) → j < 4 → lane row (4 + j) ≡ m) where
   pub even_low : unsigned_abs l ≤ 255 → unsigned_abs m ≤ 255 → AreLow row
@@ -64,20 +56,20 @@ module _ (a b : List ℤ) (small_a : EachWithin 2200 a) (small_b : EachWithin 22
       (idct-within 2200 a small_a (4 * r + 0)) (idct-within 2200 a small_a (4 * r + 1)) (idct-within 2200 a small_a (4 * r + 2)) (idct-within 2200 a small_a (4 * r + 3))
       (idct-within 2200 b small_b (4 * r + 0)) (idct-within 2200 b small_b (4 * r + 1)) (idct-within 2200 b small_b (4 * r + 2)) (idct-within 2200 b small_b (4 * r + 3)))
 
-  number_first : (r : ℕ) (v : List ℤ) → v ≡ row_in (idct a) (idct b) r → (j : ℕ) → j < 4 → lane (handed16 v) j ≡ get_or (idct a) (4 * r + j) (pos 0)
-  number_first r v e j jin = passed16 v j 8800 (omega arith) (row_low r v e j (omega arith)) ∙ ap (λ (u : List ℤ). lane u j) e ∙ row_first (idct a) (idct b) r j jin
+number_first : (x y : List ℤ) (r : ℕ) (v : List ℤ) → v ≡ row_in x y r → (j : ℕ) → j < 4 → lane v j ≡ get_or x (4 * r + j) (pos 0)
+number_first x y r v e j jin = ap (λ (u : List ℤ). lane u j) e ∙ row_first x y r j jin
 
-  number_second : (r : ℕ) (v : List ℤ) → v ≡ row_in (idct a) (idct b) r → (j : ℕ) → j < 4 → lane (handed16 v) (4 + j) ≡ get_or (idct b) (4 * r + j) (pos 0)
-  number_second r v e j jin = passed16 v (4 + j) 8800 (omega arith) (row_low r v e (4 + j) (omega arith)) ∙ ap (λ (u : List ℤ). lane u (4 + j)) e ∙ row_second (idct a) (idct b) r j jin
+number_second : (x y : List ℤ) (r : ℕ) (v : List ℤ) → v ≡ row_in x y r → (j : ℕ) → j < 4 → lane v (4 + j) ≡ get_or y (4 * r + j) (pos 0)
+number_second x y r v e j jin = ap (λ (u : List ℤ). lane u (4 + j)) e ∙ row_second x y r j jin
 
-  pub rows_kept : (v0 v1 v2 v3 : List ℤ) → v0 ≡ row_in (idct a) (idct b) 0 → v1 ≡ row_in (idct a) (idct b) 1 → v2 ≡ row_in (idct a) (idct b) 2 → v3 ≡ row_in (idct a) (idct b) 3
-      → ArePairedRows (handed16 v0) (handed16 v1) (handed16 v2) (handed16 v3) (idct a) (idct b)
-  rows_kept v0 v1 v2 v3 e0 e1 e2 e3 r j rin jin pixel byte = (
-    ap (summed pixel) (below_four (λ i. row_lane (handed16 v0) (handed16 v1) (handed16 v2) (handed16 v3) i j ≡ get_or (idct a) (4 * i + j) (pos 0))
-        (number_first 0 v0 e0 j jin) (number_first 1 v1 e1 j jin) (number_first 2 v2 e2 j jin) (number_first 3 v3 e3 j jin) r rin),
-    ap (summed pixel) (below_four (λ i. row_lane (handed16 v0) (handed16 v1) (handed16 v2) (handed16 v3) i (4 + j) ≡ get_or (idct b) (4 * i + j) (pos 0))
-        (number_second 0 v0 e0 j jin) (number_second 1 v1 e1 j jin) (number_second 2 v2 e2 j jin) (number_second 3 v3 e3 j jin) r rin),
-  )
+pub rows_kept : (x y v0 v1 v2 v3 : List ℤ) → v0 ≡ row_in x y 0 → v1 ≡ row_in x y 1 → v2 ≡ row_in x y 2 → v3 ≡ row_in x y 3
+    → ArePairedRows v0 v1 v2 v3 x y
+rows_kept x y v0 v1 v2 v3 e0 e1 e2 e3 r j rin jin pixel byte = (
+  ap (summed pixel) (below_four (λ i. row_lane v0 v1 v2 v3 i j ≡ get_or x (4 * i + j) (pos 0))
+      (number_first x y 0 v0 e0 j jin) (number_first x y 1 v1 e1 j jin) (number_first x y 2 v2 e2 j jin) (number_first x y 3 v3 e3 j jin) r rin),
+  ap (summed pixel) (below_four (λ i. row_lane v0 v1 v2 v3 i (4 + j) ≡ get_or y (4 * i + j) (pos 0))
+      (number_second x y 0 v0 e0 j jin) (number_second x y 1 v1 e1 j jin) (number_second x y 2 v2 e2 j jin) (number_second x y 3 v3 e3 j jin) r rin),
+)
 
 -- ---- a number held, which the code keeps in i16
 pub short_coded : (z : ℤ) → unsigned_abs z ≤ 255 → coded16 z ≡ z

@@ -164,7 +164,7 @@ fn add_two(picture: &mut Picture, plane: usize, x: usize, y: usize, residues: &R
         let left = even_number(residues.first_coefficient(k));
         let right = even_number(residues.first_coefficient(k + 1));
         let row = even_row(left, right);
-        add_rows(picture, plane, x, y, row, row, row, row);
+        add_rows(picture, plane, x, y, (row, row, row, row));
         return;
     }
     let Some(left) = residues.small_coefficients(k) else {
@@ -173,8 +173,7 @@ fn add_two(picture: &mut Picture, plane: usize, x: usize, y: usize, residues: &R
     let Some(right) = residues.small_coefficients(k + 1) else {
         return add_each(picture, plane, x, y, residues, k);
     };
-    let (top, upper, lower, bottom) = idct_pair(&left, &right);
-    add_rows(picture, plane, x, y, top, upper, lower, bottom);
+    add_rows(picture, plane, x, y, idct_pair(&left, &right));
 }
 
 /// Adds the residues of subblocks `k` and `k + 1` as `add_two` does, one by one, for coefficients of any size.

@@ -20,49 +20,56 @@ use vp_motion::{MacroblockMotion, Vector};
 use vp_quant::Factors;
 use vp_tokens::Tokens;
 
+/// What an inter macroblock is predicted from: motion vectors and a reference frame. The frame's version selects the
+/// interpolation filter.
+#[derive(Clone, Copy)]
+pub(crate) struct InterPredictor<'a> {
+    pub(crate) motion: &'a MacroblockMotion,
+    pub(crate) reference: &'a Picture,
+    pub(crate) version: u8,
+}
+
 /// Rebuilds the luma of an inter macroblock.
 pub(crate) fn rebuild_inter_luma(
     picture: &mut Picture,
     place: Place,
-    motion: &MacroblockMotion,
-    reference: &Picture,
-    version: u8,
+    source: InterPredictor,
     tokens: &Tokens,
     factors: &Factors,
 )
     requires columns { 16 * place.column + 16 ≤ picture.old.luma.width }
     requires rows { 16 * place.row + 16 ≤ picture.old.luma.height }
     ensures { picture.new ≡ with_plane picture.old 0 (luma_rebuilt
-        (macroblock_of (Inter motion.now reference.now version) tokens.now factors.now) place picture.old.luma) }
+        (macroblock_of (Inter source.entry.motion.now source.entry.reference.now source.entry.version)
+        tokens.now factors.now) place picture.old.luma) }
 {
     let _known = [picture.plane(0).width(), picture.plane(0).height()];
     let [x, y] = [16 * place.column, 16 * place.row];
-    predict_luma(picture, x, y, motion, reference, version);
+    predict_luma(picture, x, y, source);
+    let motion = source.motion;
     let residues = luma_residues(!motion.mode.is_split(), tokens, factors);
     add_residues::<4>(picture, 0, x, y, &residues);
 }
 
 /// Predicts the luma of an inter macroblock: as one block, or by quarters for split vectors.
-pub(crate) fn predict_luma(
-    picture: &mut Picture,
-    x: usize,
-    y: usize,
-    motion: &MacroblockMotion,
-    reference: &Picture,
-    version: u8,
-)
+pub(crate) fn predict_luma(picture: &mut Picture, x: usize, y: usize, source: InterPredictor)
     requires columns { x + 16 ≤ picture.old.luma.width }
     requires rows { y + 16 ≤ picture.old.luma.height }
     ensures { picture.new ≡ with_plane picture.old 0 (with_block picture.old.luma x y 16 16
-        (moved_pixel version reference.now.luma x y 4 (luma_moved motion.now))) }
+        (moved_pixel source.entry.version source.entry.reference.now.luma x y 4 (luma_moved source.entry.motion.now))) }
 {
+    let InterPredictor {
+        motion,
+        reference,
+        version,
+    } = source;
     let _known = reference.dim();
-    let source = reference.plane(0);
+    let from = reference.plane(0);
     if motion.mode.is_split() {
-        predict_quarters(picture, x, y, source, motion, version);
+        predict_quarters(picture, x, y, from, motion, version);
     } else {
         let vector = luma_vector_of(motion, 0);
-        predict_into16(picture, 0, x, y, source, vector, version);
+        predict_into16(picture, 0, x, y, from, vector, version);
     }
 }
 
@@ -71,9 +78,7 @@ pub(crate) fn rebuild_inter_chroma(
     picture: &mut Picture,
     plane: usize,
     place: Place,
-    motion: &MacroblockMotion,
-    reference: &Picture,
-    version: u8,
+    source: InterPredictor,
     tokens: &Tokens,
     factors: &Factors,
 )
@@ -81,12 +86,12 @@ pub(crate) fn rebuild_inter_chroma(
     requires columns { 8 * place.column + 8 ≤ (plane_of picture.old plane).width }
     requires rows { 8 * place.row + 8 ≤ (plane_of picture.old plane).height }
     ensures { picture.new ≡ with_plane picture.old plane (chroma_rebuilt
-        (macroblock_of (Inter motion.now reference.now version) tokens.now factors.now) plane place
-        (plane_of picture.old plane)) }
+        (macroblock_of (Inter source.entry.motion.now source.entry.reference.now source.entry.version)
+        tokens.now factors.now) plane place (plane_of picture.old plane)) }
 {
     let _known = [picture.plane(plane).width(), picture.plane(plane).height()];
     let [x, y] = [8 * place.column, 8 * place.row];
-    predict_chroma(picture, plane, x, y, motion, reference, version);
+    predict_chroma(picture, plane, x, y, source);
     let residues = chroma_residues(tokens, factors, plane);
     add_residues::<2>(picture, plane, x, y, &residues);
 }
@@ -97,24 +102,28 @@ pub(crate) fn predict_chroma(
     plane: usize,
     x: usize,
     y: usize,
-    motion: &MacroblockMotion,
-    reference: &Picture,
-    version: u8,
+    source: InterPredictor,
 )
     requires plane { plane < 3 }
     requires columns { x + 8 ≤ (plane_of picture.old plane).width }
     requires rows { y + 8 ≤ (plane_of picture.old plane).height }
     ensures { picture.new ≡ with_plane picture.old plane (with_block (plane_of picture.old plane) x y 8 8
-        (moved_pixel version (plane_of reference.now plane) x y 2 (chroma_moved version motion.now))) }
+        (moved_pixel source.entry.version (plane_of source.entry.reference.now plane) x y 2
+        (chroma_moved source.entry.version source.entry.motion.now))) }
 {
+    let InterPredictor {
+        motion,
+        reference,
+        version,
+    } = source;
     let _known = reference.dim();
-    let source = reference.plane(plane);
+    let from = reference.plane(plane);
     if motion.mode.is_split() {
         let vectors = chroma_vectors(version, motion);
-        predict_four(picture, plane, x, y, source, &vectors, version);
+        predict_four(picture, plane, x, y, from, &vectors, version);
     } else {
         let vector = chroma_vector_of(version, motion, 0);
-        predict_into8(picture, plane, x, y, source, vector, version);
+        predict_into8(picture, plane, x, y, from, vector, version);
     }
 }
 

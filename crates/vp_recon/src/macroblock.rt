@@ -5,7 +5,7 @@ ghost use Rattle.vp_base.specs.Image.{plane_of, with_plane, macroblocks};
 ghost use Rattle.vp_recon.specs.Predictor.{macroblock_of, predictor_of};
 ghost use Rattle.vp_recon.specs.Rebuilt.{luma_rebuilt, chroma_rebuilt, rebuilt};
 
-use crate::inter::{rebuild_inter_chroma, rebuild_inter_luma};
+use crate::inter::{InterPredictor, rebuild_inter_chroma, rebuild_inter_luma};
 use crate::intra::{rebuild_at_once, rebuild_intra_chroma, rebuild_subs};
 use crate::predictor::Predictor;
 use vp_base::{Picture, Place};
@@ -52,7 +52,14 @@ fn rebuild_luma(
             motion,
             reference,
             version,
-        } => rebuild_inter_luma(picture, place, motion, reference, *version, tokens, factors),
+        } => {
+            let source = InterPredictor {
+                motion,
+                reference,
+                version: *version,
+            };
+            rebuild_inter_luma(picture, place, source, tokens, factors)
+        }
     }
 }
 
@@ -79,8 +86,13 @@ fn rebuild_chroma(
             motion,
             reference,
             version,
-        } => rebuild_inter_chroma(
-            picture, plane, place, motion, reference, *version, tokens, factors,
-        ),
+        } => {
+            let source = InterPredictor {
+                motion,
+                reference,
+                version: *version,
+            };
+            rebuild_inter_chroma(picture, plane, place, source, tokens, factors)
+        }
     }
 }

@@ -55,31 +55,24 @@ fn added_row(plane: &Plane, x: usize, y: usize, numbers: i16x8) -> u8x8
 }
 
 /// Returns four rows of eight pixels from row `y` on, with their residues added.
-fn added_rows(
-    plane: &Plane,
-    x: usize,
-    y: usize,
-    a: i16x8,
-    b: i16x8,
-    c: i16x8,
-    d: i16x8,
-) -> [u8x8; 4]
+#[inline(always)]
+fn added_rows(plane: &Plane, x: usize, y: usize, numbers: (i16x8, i16x8, i16x8, i16x8)) -> [u8x8; 4]
     requires columns { x + 8 ≤ plane.now.width }
     requires rows { y + 4 ≤ plane.now.height }
-    requires first { AreLow a }
-    requires second { AreLow b }
-    requires third { AreLow c }
-    requires fourth { AreLow d }
+    requires first { AreLow numbers.0 }
+    requires second { AreLow numbers.1 }
+    requires third { AreLow numbers.2 }
+    requires fourth { AreLow numbers.3 }
     ensures value { (r : ℕ) → r < 4 → (j : ℕ) → j < 8 → slice_index (slice_index_or result r []) j
-        ≡ summed (pixel plane.now (x + j) (y + r)) (row_lane a b c d r j) }
+        ≡ summed (pixel plane.now (x + j) (y + r)) (row_lane numbers.0 numbers.1 numbers.2 numbers.3 r j) }
     ensures bytes { (r : ℕ) → r < 4 → (j : ℕ) → j < 8 → pixel plane.now (x + j) (y + r) ≤ 255 }
 {
     let _known = plane.height();
     [
-        added_row(plane, x, y, a),
-        added_row(plane, x, y + 1, b),
-        added_row(plane, x, y + 2, c),
-        added_row(plane, x, y + 3, d),
+        added_row(plane, x, y, numbers.0),
+        added_row(plane, x, y + 1, numbers.1),
+        added_row(plane, x, y + 2, numbers.2),
+        added_row(plane, x, y + 3, numbers.3),
     ]
 }
 
@@ -111,26 +104,25 @@ fn write_rows(picture: &mut Picture, k: usize, x: usize, y: usize, rows: [u8x8; 
 }
 
 /// Adds residues, given row by row, to two adjacent subblocks. The left one begins at column `x` of row `y`.
+#[inline(always)]
 pub(crate) fn add_rows(
     picture: &mut Picture,
     plane: usize,
     x: usize,
     y: usize,
-    a: i16x8,
-    b: i16x8,
-    c: i16x8,
-    d: i16x8,
+    numbers: (i16x8, i16x8, i16x8, i16x8),
 )
     requires plane { plane < 3 }
     requires columns { x + 8 ≤ (plane_of picture.old plane).width }
     requires rows { y + 4 ≤ (plane_of picture.old plane).height }
-    requires first { AreLow a }
-    requires second { AreLow b }
-    requires third { AreLow c }
-    requires fourth { AreLow d }
-    ensures { (left right : List ℤ) → ArePairedRows a b c d left right
+    requires first { AreLow numbers.0 }
+    requires second { AreLow numbers.1 }
+    requires third { AreLow numbers.2 }
+    requires fourth { AreLow numbers.3 }
+    ensures { (left right : List ℤ)
+        → ArePairedRows numbers.0 numbers.1 numbers.2 numbers.3 left right
         → picture.new ≡ with_plane picture.old plane (with_both_added (plane_of picture.old plane) x y left right) }
 {
-    let rows = added_rows(picture.plane(plane), x, y, a, b, c, d);
+    let rows = added_rows(picture.plane(plane), x, y, numbers);
     write_rows(picture, plane, x, y, rows);
 }

@@ -8,7 +8,7 @@ ghost use Rattle.vp_quant.specs.declared.factors.Factors.{Factors};
 ghost use Rattle.vp_recon.specs.Predictor.{Inter, macroblock_of};
 ghost use Rattle.vp_recon.specs.Rebuilt.{rebuilt};
 
-use crate::inter::{predict_chroma, predict_luma};
+use crate::inter::{InterPredictor, predict_chroma, predict_luma};
 use vp_base::{Picture, Place};
 use vp_motion::MacroblockMotion;
 
@@ -27,9 +27,14 @@ pub fn predict_inter_macroblock(
         (Inter motion.now reference.now version) tokens factors) place picture.old }
 {
     let _known = picture.dim();
+    let source = InterPredictor {
+        motion,
+        reference,
+        version,
+    };
     let [x, y] = [16 * place.column, 16 * place.row];
-    predict_luma(picture, x, y, motion, reference, version);
+    predict_luma(picture, x, y, source);
     let [x, y] = [8 * place.column, 8 * place.row];
-    predict_chroma(picture, 1, x, y, motion, reference, version);
-    predict_chroma(picture, 2, x, y, motion, reference, version);
+    predict_chroma(picture, 1, x, y, source);
+    predict_chroma(picture, 2, x, y, source);
 }

@@ -1,4 +1,5 @@
 use Rattle.std.proofs.Common.{◌≡◌, ◌∙◌, refl, ℕ, ℤ, pos, ◌+◌, ◌-◌, ◌*◌, ◌<◌, ◌+ℤ◌, ◌*ℤ◌, ap, get_or, arith, to_z, of_z, w32, rules}
+use mir.Val.{SFits}
 use Rattle.std.proofs.lemmas.Int.{ints, to_z-of_z}
 use Rattle.vp_inter.specs.Inter.{horizontal_pass}
 use Rattle.vp_inter.specs.Turns.{half_place}
@@ -10,18 +11,18 @@ three_rows-rows-requires-clause-inside g c t = let i = c.requires.inside t in (o
 
 pub loop-i-preserved : goal.loop-i-preserved
 loop-i-preserved g c =
-    let left : ℤ = to_z w32 (of_z w32 c.args.left) in
-    let top : ℤ = to_z w32 (of_z w32 c.args.top) in
+    let left : ℤ = to_z w32 (of_z w32 c.args.window.left) in
+    let top : ℤ = to_z w32 (of_z w32 c.args.window.top) in
     let i : ℕ = c.loop-i.i in
-    let pixel : ℕ → ℕ → ℕ = horizontal_pass c.args.weights.now c.args.plane.now left top in
+    let pixel : ℕ → ℕ → ℕ = horizontal_pass c.args.weights.now c.args.window.plane.now left top in
     let from : ℤ = to_z w32 (of_z w32 (top +ℤ to_z w32 (of_z w32 (pos 3 *ℤ to_z w32 i)))) in
     let here : from ≡ top +ℤ pos (3 * i) = omega (arith, ints) in
     let first : (x : ℕ) → x < 16 → get_or c.three_rows-rows.result.first (half_place x) 0 ≡ pixel (3 * i + 0) x =
-    λ x h. c.three_rows-rows.ensures.first x h ∙ across_below c.args.weights.now c.args.plane.now left top from (3 * i) 0 (3 * i + 0) x here refl in
+    λ x h. c.three_rows-rows.ensures.first x h ∙ across_below c.args.weights.now c.args.window.plane.now left top from (3 * i) 0 (3 * i + 0) x here refl in
     let second : (x : ℕ) → x < 16 → get_or c.three_rows-rows.result.second (half_place x) 0 ≡ pixel (3 * i + 1) x =
-    λ x h. c.three_rows-rows.ensures.second x h ∙ across_below c.args.weights.now c.args.plane.now left top from (3 * i) 1 (3 * i + 1) x here refl in
+    λ x h. c.three_rows-rows.ensures.second x h ∙ across_below c.args.weights.now c.args.window.plane.now left top from (3 * i) 1 (3 * i + 1) x here refl in
     let third : (x : ℕ) → x < 16 → get_or c.three_rows-rows.result.third (half_place x) 0 ≡ pixel (3 * i + 2) x =
-    λ x h. c.three_rows-rows.ensures.third x h ∙ across_below c.args.weights.now c.args.plane.now left top from (3 * i) 2 (3 * i + 2) x here refl in
+    λ x h. c.three_rows-rows.ensures.third x h ∙ across_below c.args.weights.now c.args.window.plane.now left top from (3 * i) 2 (3 * i + 2) x here refl in
     record {
       one = search rules;
       two = search rules;
@@ -39,18 +40,24 @@ loop-i-preserved g c =
 
 pub returns-clause-first : goal.returns-clause-first
 returns-clause-first g c e x t ein xin tin =
+    let left_fits : SFits w32 c.args.window.left = search rules in
+    let top_fits : SFits w32 c.args.window.top = search rules in
     c.loop-i.invariant.first_done e x t (omega arith) xin tin
-    ∙ ap (λ (z : ℤ). horizontal_pass c.args.weights.now c.args.plane.now z (to_z w32 (of_z w32 c.args.top)) (3 * e + 0 + 3 * t) x) (to_z-of_z w32 c.args.left c.ranges.left)
-    ∙ ap (λ (z : ℤ). horizontal_pass c.args.weights.now c.args.plane.now c.args.left z (3 * e + 0 + 3 * t) x) (to_z-of_z w32 c.args.top c.ranges.top)
+    ∙ ap (λ (z : ℤ). horizontal_pass c.args.weights.now c.args.window.plane.now z (to_z w32 (of_z w32 c.args.window.top)) (3 * e + 0 + 3 * t) x) (to_z-of_z w32 c.args.window.left left_fits)
+    ∙ ap (λ (z : ℤ). horizontal_pass c.args.weights.now c.args.window.plane.now c.args.window.left z (3 * e + 0 + 3 * t) x) (to_z-of_z w32 c.args.window.top top_fits)
 
 pub returns-clause-second : goal.returns-clause-second
 returns-clause-second g c e x t ein xin tin =
+    let left_fits : SFits w32 c.args.window.left = search rules in
+    let top_fits : SFits w32 c.args.window.top = search rules in
     c.loop-i.invariant.second_done e x t (omega arith) xin tin
-    ∙ ap (λ (z : ℤ). horizontal_pass c.args.weights.now c.args.plane.now z (to_z w32 (of_z w32 c.args.top)) (3 * e + 1 + 3 * t) x) (to_z-of_z w32 c.args.left c.ranges.left)
-    ∙ ap (λ (z : ℤ). horizontal_pass c.args.weights.now c.args.plane.now c.args.left z (3 * e + 1 + 3 * t) x) (to_z-of_z w32 c.args.top c.ranges.top)
+    ∙ ap (λ (z : ℤ). horizontal_pass c.args.weights.now c.args.window.plane.now z (to_z w32 (of_z w32 c.args.window.top)) (3 * e + 1 + 3 * t) x) (to_z-of_z w32 c.args.window.left left_fits)
+    ∙ ap (λ (z : ℤ). horizontal_pass c.args.weights.now c.args.window.plane.now c.args.window.left z (3 * e + 1 + 3 * t) x) (to_z-of_z w32 c.args.window.top top_fits)
 
 pub returns-clause-third : goal.returns-clause-third
 returns-clause-third g c e x t ein xin tin =
+    let left_fits : SFits w32 c.args.window.left = search rules in
+    let top_fits : SFits w32 c.args.window.top = search rules in
     c.loop-i.invariant.third_done e x t (omega arith) xin tin
-    ∙ ap (λ (z : ℤ). horizontal_pass c.args.weights.now c.args.plane.now z (to_z w32 (of_z w32 c.args.top)) (3 * e + 2 + 3 * t) x) (to_z-of_z w32 c.args.left c.ranges.left)
-    ∙ ap (λ (z : ℤ). horizontal_pass c.args.weights.now c.args.plane.now c.args.left z (3 * e + 2 + 3 * t) x) (to_z-of_z w32 c.args.top c.ranges.top)
+    ∙ ap (λ (z : ℤ). horizontal_pass c.args.weights.now c.args.window.plane.now z (to_z w32 (of_z w32 c.args.window.top)) (3 * e + 2 + 3 * t) x) (to_z-of_z w32 c.args.window.left left_fits)
+    ∙ ap (λ (z : ℤ). horizontal_pass c.args.weights.now c.args.window.plane.now c.args.window.left z (3 * e + 2 + 3 * t) x) (to_z-of_z w32 c.args.window.top top_fits)

@@ -1,5 +1,5 @@
+use Rattle.std.proofs.Common.{◌≡◌, length, refl, arith}
 use Rattle.vp_loop.proofs.TransposeLemmas.{below_sixteen, joined_is}
-use Rattle.std.proofs.Common.{refl, arith}
 use Rattle.vp_loop.proofs.transpose.untranspose.Goals as goal
 
 pub returns-clause-len : goal.returns-clause-len
@@ -7,11 +7,12 @@ returns-clause-len c = refl
 
 pub returns-clause-value : goal.returns-clause-value
 returns-clause-value c =
-    let e = joined_is c.args.p3 c.args.p2 c.args.p1 c.args.p0 c.args.q0 c.args.q1 c.args.q2 c.args.q3 in
-    let l3 = c.fits-p3.0 in
-    let l2 = c.fits-p2.0 in
-    let l1 = c.fits-p1.0 in
-    let l0 = c.fits-p0.0 in
+    let l = c.args.l in
+    let e = joined_is l.p3 l.p2 l.p1 l.p0 l.q0 l.q1 l.q2 l.q3 in
+    let l3 : length c.args.l.p3 ≡ 16 = c.well_formed.0.1.1.0.1.0.1 in
+    let l2 : length c.args.l.p2 ≡ 16 = c.well_formed.0.1.1.1.0.1.0.1 in
+    let l1 : length c.args.l.p1 ≡ 16 = c.well_formed.0.1.1.1.1.0.1.0.1 in
+    let l0 : length c.args.l.p0 ≡ 16 = c.well_formed.0.1.1.1.1.1.0.1.0.1 in
     below_sixteen _
     (e 0 l3 l2 l1 l0 (omega arith))
     (e 1 l3 l2 l1 l0 (omega arith))

@@ -82,7 +82,7 @@ add_rows-requires-2-clause-first c =
     let b : List ℤ = c.in-Some-small_coefficients.right in
     let small_a = c.small_coefficients.ensures.small a c.in-Some.is in
     let small_b = c.small_coefficients-2.ensures.small b c.in-Some-small_coefficients.is in
-    low_handed c.idct_pair.result.0 (row_low a b small_a small_b 0 c.idct_pair.result.0 c.idct_pair.ensures.top)
+    row_low a b small_a small_b 0 c.idct_pair.result.0 c.idct_pair.ensures.top
 
 pub add_rows-requires-2-clause-second : goal.add_rows-requires-2-clause-second
 add_rows-requires-2-clause-second c =
@@ -90,7 +90,7 @@ add_rows-requires-2-clause-second c =
     let b : List ℤ = c.in-Some-small_coefficients.right in
     let small_a = c.small_coefficients.ensures.small a c.in-Some.is in
     let small_b = c.small_coefficients-2.ensures.small b c.in-Some-small_coefficients.is in
-    low_handed c.idct_pair.result.1 (row_low a b small_a small_b 1 c.idct_pair.result.1 c.idct_pair.ensures.upper)
+    row_low a b small_a small_b 1 c.idct_pair.result.1 c.idct_pair.ensures.upper
 
 pub add_rows-requires-2-clause-third : goal.add_rows-requires-2-clause-third
 add_rows-requires-2-clause-third c =
@@ -98,7 +98,7 @@ add_rows-requires-2-clause-third c =
     let b : List ℤ = c.in-Some-small_coefficients.right in
     let small_a = c.small_coefficients.ensures.small a c.in-Some.is in
     let small_b = c.small_coefficients-2.ensures.small b c.in-Some-small_coefficients.is in
-    low_handed c.idct_pair.result.2 (row_low a b small_a small_b 2 c.idct_pair.result.2 c.idct_pair.ensures.lower)
+    row_low a b small_a small_b 2 c.idct_pair.result.2 c.idct_pair.ensures.lower
 
 pub add_rows-requires-2-clause-fourth : goal.add_rows-requires-2-clause-fourth
 add_rows-requires-2-clause-fourth c =
@@ -106,14 +106,12 @@ add_rows-requires-2-clause-fourth c =
     let b : List ℤ = c.in-Some-small_coefficients.right in
     let small_a = c.small_coefficients.ensures.small a c.in-Some.is in
     let small_b = c.small_coefficients-2.ensures.small b c.in-Some-small_coefficients.is in
-    low_handed c.idct_pair.result.3 (row_low a b small_a small_b 3 c.idct_pair.result.3 c.idct_pair.ensures.bottom)
+    row_low a b small_a small_b 3 c.idct_pair.result.3 c.idct_pair.ensures.bottom
 
 pub returns : goal.returns
 returns c =
     let a : List ℤ = c.in-Some.left in
     let b : List ℤ = c.in-Some-small_coefficients.right in
-    let small_a = c.small_coefficients.ensures.small a c.in-Some.is in
-    let small_b = c.small_coefficients-2.ensures.small b c.in-Some-small_coefficients.is in
     let r = c.args.residues.now in
     let k : ℕ = c.args.k in
     let v0 = c.idct_pair.result.0 in
@@ -121,6 +119,6 @@ returns c =
     let v2 = c.idct_pair.result.2 in
     let v3 = c.idct_pair.result.3 in
     c.add_rows-2.ensures (residue_in r k) (residue_in r (k + 1))
-    (subst (λ (zs : List ℤ). ArePairedRows (handed16 v0) (handed16 v1) (handed16 v2) (handed16 v3) (idct zs) (residue_in r (k + 1))) (c.small_coefficients.ensures.value a c.in-Some.is)
-    (subst (λ (zs : List ℤ). ArePairedRows (handed16 v0) (handed16 v1) (handed16 v2) (handed16 v3) (idct a) (idct zs)) (c.small_coefficients-2.ensures.value b c.in-Some-small_coefficients.is)
-    (rows_kept a b small_a small_b v0 v1 v2 v3 c.idct_pair.ensures.top c.idct_pair.ensures.upper c.idct_pair.ensures.lower c.idct_pair.ensures.bottom)))
+    (subst (λ (zs : List ℤ). ArePairedRows v0 v1 v2 v3 (idct zs) (residue_in r (k + 1))) (c.small_coefficients.ensures.value a c.in-Some.is)
+    (subst (λ (zs : List ℤ). ArePairedRows v0 v1 v2 v3 (idct a) (idct zs)) (c.small_coefficients-2.ensures.value b c.in-Some-small_coefficients.is)
+    (rows_kept (idct a) (idct b) v0 v1 v2 v3 c.idct_pair.ensures.top c.idct_pair.ensures.upper c.idct_pair.ensures.lower c.idct_pair.ensures.bottom)))

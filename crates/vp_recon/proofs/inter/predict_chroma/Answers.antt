@@ -16,8 +16,8 @@ pub returns-then-is_split : goal.returns-then-is_split
 returns-then-is_split c =
     let p : Image = c.args.picture.now in
     let q : Raster = plane_of p c.args.plane in
-    c.predict_four.ensures (chroma_moved c.args.version c.args.motion.now) c.chroma_vectors-vectors.ensures.value
-    ∙ ap (λ (s : Raster). with_plane p c.args.plane (with_block q c.args.x c.args.y 8 8 (moved_pixel c.args.version s c.args.x c.args.y 2 (chroma_moved c.args.version c.args.motion.now)))) c.plane-source.ensures
+    c.predict_four.ensures (chroma_moved c.args.source.version c.args.source.motion.now) c.chroma_vectors-vectors.ensures.value
+    ∙ ap (λ (s : Raster). with_plane p c.args.plane (with_block q c.args.x c.args.y 8 8 (moved_pixel c.args.source.version s c.args.x c.args.y 2 (chroma_moved c.args.source.version c.args.source.motion.now)))) c.plane-from.ensures
 
 pub returns-else-is_split : goal.returns-else-is_split
 returns-else-is_split c =
@@ -25,15 +25,15 @@ returns-else-is_split c =
     let q : Raster = plane_of p c.args.plane in
     let x : ℕ = c.args.x in
     let y : ℕ = c.args.y in
-    let e : MacroblockMotion = c.args.motion.now in
-    let ref : Raster = plane_of c.args.reference.now c.args.plane in
-    let moved = chroma_moved c.args.version c.args.motion.now in
-    let whole : is_split c.args.motion.now.mode ≡ false = ap (λ (a : MacroblockMotion). is_split a.mode) (sym c.motion.view_is) ∙ sym c.is_split.ensures ∙ c.if-is_split.false in
+    let e : MacroblockMotion = c.args.source.motion.now in
+    let ref : Raster = plane_of c.args.source.reference.now c.args.plane in
+    let moved = chroma_moved c.args.source.version c.args.source.motion.now in
+    let whole : is_split c.args.source.motion.now.mode ≡ false = ap (λ (a : MacroblockMotion). is_split a.mode) (sym c.motion.view_is) ∙ sym c.is_split.ensures ∙ c.if-is_split.false in
     let one : AreOne e.mode e.vectors = subst (λ (a : MacroblockMotion). AreOne a.mode a.vectors) c.motion.view_is c.motion.invariant in
     c.predict_into8.ensures
     ∙ ap (with_plane p c.args.plane) (with_block_same q x y 8 8
-    (inter_pixel c.args.version c.plane-source.result.now x y c.chroma_vector_of-vector.result) (moved_pixel c.args.version ref x y 2 moved)
+    (inter_pixel c.args.source.version c.plane-from.result.now x y c.chroma_vector_of-vector.result) (moved_pixel c.args.source.version ref x y 2 moved)
     (λ r j rin jin.
-    ap (λ (s : Raster). inter_pixel c.args.version s x y c.chroma_vector_of-vector.result r j) c.plane-source.ensures
-    ∙ ap (λ (v : PlaneVector). inter_pixel c.args.version ref x y v r j) c.chroma_vector_of-vector.ensures
-    ∙ moved_alike c.args.version ref x y 2 moved r j (chroma_one c.args.version e (sub_at 2 r j) one whole (sub_below 2 r j rin jin))))
+    ap (λ (s : Raster). inter_pixel c.args.source.version s x y c.chroma_vector_of-vector.result r j) c.plane-from.ensures
+    ∙ ap (λ (v : PlaneVector). inter_pixel c.args.source.version ref x y v r j) c.chroma_vector_of-vector.ensures
+    ∙ moved_alike c.args.source.version ref x y 2 moved r j (chroma_one c.args.source.version e (sub_at 2 r j) one whole (sub_below 2 r j rin jin))))

@@ -16,21 +16,21 @@ pub returns-then-is_split : goal.returns-then-is_split
 returns-then-is_split c =
     let p : Image = c.args.picture.now in
     c.predict_quarters.ensures
-    ∙ ap (λ (s : Raster). with_plane p 0 (with_block p.luma c.args.x c.args.y 16 16 (moved_pixel c.args.version s c.args.x c.args.y 4 (luma_moved c.args.motion.now)))) c.plane-source.ensures
+    ∙ ap (λ (s : Raster). with_plane p 0 (with_block p.luma c.args.x c.args.y 16 16 (moved_pixel c.args.source.version s c.args.x c.args.y 4 (luma_moved c.args.source.motion.now)))) c.plane-from.ensures
 
 pub returns-else-is_split : goal.returns-else-is_split
 returns-else-is_split c =
     let p : Image = c.args.picture.now in
     let x : ℕ = c.args.x in
     let y : ℕ = c.args.y in
-    let e : MacroblockMotion = c.args.motion.now in
-    let ref : Raster = c.args.reference.now.luma in
-    let whole : is_split c.args.motion.now.mode ≡ false = ap (λ (a : MacroblockMotion). is_split a.mode) (sym c.motion.view_is) ∙ sym c.is_split.ensures ∙ c.if-is_split.false in
+    let e : MacroblockMotion = c.args.source.motion.now in
+    let ref : Raster = c.args.source.reference.now.luma in
+    let whole : is_split c.args.source.motion.now.mode ≡ false = ap (λ (a : MacroblockMotion). is_split a.mode) (sym c.motion.view_is) ∙ sym c.is_split.ensures ∙ c.if-is_split.false in
     let one : AreOne e.mode e.vectors = subst (λ (a : MacroblockMotion). AreOne a.mode a.vectors) c.motion.view_is c.motion.invariant in
     c.predict_into16.ensures
     ∙ ap (with_plane p 0) (with_block_same p.luma x y 16 16
-    (inter_pixel c.args.version c.plane-source.result.now x y c.luma_vector_of-vector.result) (moved_pixel c.args.version ref x y 4 (luma_moved e))
+    (inter_pixel c.args.source.version c.plane-from.result.now x y c.luma_vector_of-vector.result) (moved_pixel c.args.source.version ref x y 4 (luma_moved e))
     (λ r j rin jin.
-    ap (λ (s : Raster). inter_pixel c.args.version s x y c.luma_vector_of-vector.result r j) c.plane-source.ensures
-    ∙ ap (λ (v : PlaneVector). inter_pixel c.args.version ref x y v r j) c.luma_vector_of-vector.ensures
-    ∙ moved_alike c.args.version ref x y 4 (luma_moved e) r j (luma_one e (sub_at 4 r j) one whole (sub_below 4 r j rin jin))))
+    ap (λ (s : Raster). inter_pixel c.args.source.version s x y c.luma_vector_of-vector.result r j) c.plane-from.ensures
+    ∙ ap (λ (v : PlaneVector). inter_pixel c.args.source.version ref x y v r j) c.luma_vector_of-vector.ensures
+    ∙ moved_alike c.args.source.version ref x y 4 (luma_moved e) r j (luma_one e (sub_at 4 r j) one whole (sub_below 4 r j rin jin))))

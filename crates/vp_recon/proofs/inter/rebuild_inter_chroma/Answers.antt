@@ -13,30 +13,30 @@ pub add_residues-requires-clause-columns : goal.add_residues-requires-clause-col
 add_residues-requires-clause-columns c =
     let x : ℕ = 8 * c.args.place.column in
     let y : ℕ = 8 * c.args.place.row in
-    let ref : Raster = plane_of c.args.reference.now c.args.plane in
-    still_wide c.args.picture.now c.predict_chroma.new.picture c.args.plane x y 8 (moved_pixel c.args.version ref x y 2 (chroma_moved c.args.version c.args.motion.now)) c.requires.columns c.requires.rows c.predict_chroma.ensures
+    let ref : Raster = plane_of c.args.source.reference.now c.args.plane in
+    still_wide c.args.picture.now c.predict_chroma.new.picture c.args.plane x y 8 (moved_pixel c.args.source.version ref x y 2 (chroma_moved c.args.source.version c.args.source.motion.now)) c.requires.columns c.requires.rows c.predict_chroma.ensures
 
 pub add_residues-requires-clause-rows : goal.add_residues-requires-clause-rows
 add_residues-requires-clause-rows c =
     let x : ℕ = 8 * c.args.place.column in
     let y : ℕ = 8 * c.args.place.row in
-    let ref : Raster = plane_of c.args.reference.now c.args.plane in
-    still_high c.args.picture.now c.predict_chroma.new.picture c.args.plane x y 8 (moved_pixel c.args.version ref x y 2 (chroma_moved c.args.version c.args.motion.now)) c.requires.columns c.requires.rows c.predict_chroma.ensures
+    let ref : Raster = plane_of c.args.source.reference.now c.args.plane in
+    still_high c.args.picture.now c.predict_chroma.new.picture c.args.plane x y 8 (moved_pixel c.args.source.version ref x y 2 (chroma_moved c.args.source.version c.args.source.motion.now)) c.requires.columns c.requires.rows c.predict_chroma.ensures
 
 pub add_residues-requires-clause-bytes : goal.add_residues-requires-clause-bytes
 add_residues-requires-clause-bytes c =
     let x : ℕ = 8 * c.args.place.column in
     let y : ℕ = 8 * c.args.place.row in
-    let ref : Raster = plane_of c.args.reference.now c.args.plane in
-    let vector = chroma_moved c.args.version c.args.motion.now in
-    predicted_bytes c.args.picture.now c.predict_chroma.new.picture c.args.plane x y 8 (moved_pixel c.args.version ref x y 2 vector) c.requires.columns c.requires.rows c.predict_chroma.ensures
-    (λ r j rin jin. inter_bound c.args.version ref (x + 4 * (j / 4)) (y + 4 * (r / 4)) (vector (sub_at 2 r j)) (r % 4) (j % 4))
+    let ref : Raster = plane_of c.args.source.reference.now c.args.plane in
+    let vector = chroma_moved c.args.source.version c.args.source.motion.now in
+    predicted_bytes c.args.picture.now c.predict_chroma.new.picture c.args.plane x y 8 (moved_pixel c.args.source.version ref x y 2 vector) c.requires.columns c.requires.rows c.predict_chroma.ensures
+    (λ r j rin jin. inter_bound c.args.source.version ref (x + 4 * (j / 4)) (y + 4 * (r / 4)) (vector (sub_at 2 r j)) (r % 4) (j % 4))
 
 pub returns : goal.returns
 returns c =
     let x : ℕ = 8 * c.args.place.column in
     let y : ℕ = 8 * c.args.place.row in
-    let ref : Raster = plane_of c.args.reference.now c.args.plane in
+    let ref : Raster = plane_of c.args.source.reference.now c.args.plane in
     let own = chroma_residue c.args.tokens.now c.args.factors.now c.args.plane in
-    summed_onto c.args.picture.now c.predict_chroma.new.picture c.args.plane x y 8 (moved_pixel c.args.version ref x y 2 (chroma_moved c.args.version c.args.motion.now)) c.requires.columns c.requires.rows c.predict_chroma.ensures
+    summed_onto c.args.picture.now c.predict_chroma.new.picture c.args.plane x y 8 (moved_pixel c.args.source.version ref x y 2 (chroma_moved c.args.source.version c.args.source.motion.now)) c.requires.columns c.requires.rows c.predict_chroma.ensures
     c.add_residues.new.picture (residue_at 2 own) (c.add_residues.ensures own c.chroma_residues-residues.ensures.value)

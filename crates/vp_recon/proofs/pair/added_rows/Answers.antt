@@ -9,16 +9,16 @@ use Rattle.vp_recon.proofs.PairLemmas.{low_handed}
 use Rattle.vp_recon.proofs.pair.added_rows.Goals as goal
 
 pub added_row-requires-clause-low : goal.added_row-requires-clause-low
-added_row-requires-clause-low c = low_handed c.args.a c.requires.first
+added_row-requires-clause-low c = low_handed c.args.numbers.0 c.requires.first
 
 pub added_row-requires-2-clause-low : goal.added_row-requires-2-clause-low
-added_row-requires-2-clause-low c = low_handed c.args.b c.requires.second
+added_row-requires-2-clause-low c = low_handed c.args.numbers.1 c.requires.second
 
 pub added_row-requires-3-clause-low : goal.added_row-requires-3-clause-low
-added_row-requires-3-clause-low c = low_handed c.args.c c.requires.third
+added_row-requires-3-clause-low c = low_handed c.args.numbers.2 c.requires.third
 
 pub added_row-requires-4-clause-low : goal.added_row-requires-4-clause-low
-added_row-requires-4-clause-low c = low_handed c.args.d c.requires.fourth
+added_row-requires-4-clause-low c = low_handed c.args.numbers.3 c.requires.fourth
 
 pub returns-clause-value : goal.returns-clause-value
 returns-clause-value c r rin j jin =
@@ -27,12 +27,12 @@ returns-clause-value c r rin j jin =
     let y : ℕ = c.args.y in
     below_four
     (λ i. slice_index (slice_index_or (c.added_row.result ∷ c.added_row-2.result ∷ c.added_row-3.result ∷ c.added_row-4.result ∷ []) i []) j
-    ≡ summed (pixel p (x + j) (y + i)) (row_lane c.args.a c.args.b c.args.c c.args.d i j))
-    (c.added_row.ensures.value j jin ∙ ap (λ (v : ℕ). summed (pixel p (x + j) v) (lane (handed16 c.args.a) j)) (let e : y ≡ y + 0 = omega arith in e)
-    ∙ ap (summed (pixel p (x + j) (y + 0))) (passed16 c.args.a j 8800 (omega arith) (c.requires.first j jin)))
-    (c.added_row-2.ensures.value j jin ∙ ap (summed (pixel p (x + j) (y + 1))) (passed16 c.args.b j 8800 (omega arith) (c.requires.second j jin)))
-    (c.added_row-3.ensures.value j jin ∙ ap (summed (pixel p (x + j) (y + 2))) (passed16 c.args.c j 8800 (omega arith) (c.requires.third j jin)))
-    (c.added_row-4.ensures.value j jin ∙ ap (summed (pixel p (x + j) (y + 3))) (passed16 c.args.d j 8800 (omega arith) (c.requires.fourth j jin)))
+    ≡ summed (pixel p (x + j) (y + i)) (row_lane c.args.numbers.0 c.args.numbers.1 c.args.numbers.2 c.args.numbers.3 i j))
+    (c.added_row.ensures.value j jin ∙ ap (λ (v : ℕ). summed (pixel p (x + j) v) (lane (handed16 c.args.numbers.0) j)) (let e : y ≡ y + 0 = omega arith in e)
+    ∙ ap (summed (pixel p (x + j) (y + 0))) (passed16 c.args.numbers.0 j 8800 (omega arith) (c.requires.first j jin)))
+    (c.added_row-2.ensures.value j jin ∙ ap (summed (pixel p (x + j) (y + 1))) (passed16 c.args.numbers.1 j 8800 (omega arith) (c.requires.second j jin)))
+    (c.added_row-3.ensures.value j jin ∙ ap (summed (pixel p (x + j) (y + 2))) (passed16 c.args.numbers.2 j 8800 (omega arith) (c.requires.third j jin)))
+    (c.added_row-4.ensures.value j jin ∙ ap (summed (pixel p (x + j) (y + 3))) (passed16 c.args.numbers.3 j 8800 (omega arith) (c.requires.fourth j jin)))
     r rin
 
 pub returns-clause-bytes : goal.returns-clause-bytes
