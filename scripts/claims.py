@@ -48,7 +48,7 @@ class Library:
     """All crates with definitions: their items, and what they export."""
 
     def __init__(self):
-        self.crates = [name for name in sources.crates() if pathlib.Path(f"crates/{name}/specs").is_dir()]
+        self.crates = [name for name in sources.crates() if self.is_library(name)]
         self.items, self.exports, self.types = {}, {}, {}
         for crate in self.crates:
             self.exports[crate] = sources.exported(crate)
@@ -56,6 +56,10 @@ class Library:
             for item in self.items[crate]:
                 if item.owner in self.exports[crate] or (item.owner and item.kind == "Value"):
                     self.types.setdefault(item.owner, []).append(item)
+
+    def is_library(self, crate):
+        """Whether a crate has definitions, and is no crate of tests."""
+        return pathlib.Path(f"crates/{crate}/specs").is_dir() and not crate.endswith("_tests")
 
     def is_public(self, item):
         """Whether callers of the crate can name an item."""

@@ -1,0 +1,13 @@
+pub mod Places
+pub mod Changes
+pub mod Traces
+pub mod TraceRuns
+pub mod LoopLemmas
+pub mod Continuing
+pub mod FirstLine
+pub mod OneConnection
+pub mod Served
+pub mod FeedingLemmas
+pub mod LineReplies
+pub mod BoundLemmas
+pub mod SameLemmas

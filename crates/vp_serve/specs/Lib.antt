@@ -1,0 +1,13 @@
+pub mod Connection
+pub mod Connections
+pub mod Reasons
+pub mod Lines
+pub mod ServerLoop
+pub mod Transfer
+pub mod Transport
+pub mod Reading
+pub mod Laws
+pub mod Replies
+pub mod Bounds
+pub mod SameConnections
+pub mod Files

@@ -1,0 +1,19 @@
+-- What passes over the transport.
+use Rattle.std.specs.Prelude.{◌≡◌, ◌++◌, ℕ, List, Option, Some, None}
+use Rattle.vp_serve.specs.declared.reason.CloseReason.{CloseReason}
+
+-- connection c is accepted; bytes are read from it; it takes bytes; its peer ends; a read or a write of it fails; it is
+-- closed; a file has more bytes
+pub data Transfer : Type 0 where
+  Accepts : (c : ℕ) → Transfer
+  Reads : (c : ℕ) (bytes : List ℕ) → Transfer
+  Writes : (c : ℕ) (bytes : List ℕ) → Transfer
+  PeerEnds : (c : ℕ) → Transfer
+  Fails : (c : ℕ) → Transfer
+  Closes : (c : ℕ) (reason : CloseReason) → Transfer
+  Grows : (name bytes : List ℕ) → Transfer
+
+-- a log, if it is known, grows by these
+abbrev pub Logs : Option (List Transfer) → Option (List Transfer) → List Transfer → Type 0
+Logs None new ts = new ≡ None
+Logs (Some l) new ts = new ≡ Some (l ++ ts)

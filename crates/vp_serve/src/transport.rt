@@ -1,0 +1,76 @@
+//! What carries the bytes of the connections, and reads the files.
+
+ghost use Rattle.std.specs.Prelude.{◌≡◌, ◌≤◌, ◌<◌, ◌∷◌, [], List, Option, length, take, if◌then◌else◌, nat_eq, ◌==◌};
+ghost use Rattle.vp_serve.specs.Transfer.{Transfer, Accepts, Closes, Grows, Logs};
+ghost use Rattle.vp_serve.specs.Transport.{read_count, written_count, read_transfers, write_transfers, grown_transfers};
+
+use crate::reason::CloseReason;
+use vp_hub::HubFault;
+
+/// What a read did.
+#[derive(Clone, Copy, Debug, PartialEq, Eq)]
+pub enum ReadOutcome {
+    /// It read this many bytes.
+    Bytes(usize),
+    /// There are no bytes for now.
+    WouldBlock,
+    /// The peer sends no more.
+    EndOfInput,
+    /// It failed.
+    Failed,
+}
+
+/// What a write did.
+#[derive(Clone, Copy, Debug, PartialEq, Eq)]
+pub enum WriteOutcome {
+    /// It wrote this many bytes.
+    Bytes(usize),
+    /// Nothing can be written for now.
+    WouldBlock,
+    /// It failed.
+    Failed,
+}
+
+/// Connections by their numbers, and files that grow.
+pub trait Transport {
+    /// What passed so far, if that is known.
+    ghost log: { Self → Option (List Transfer) };
+
+    /// Waits until something is ready or a short time is over. Does not wait if work is left. Returns the milliseconds
+    /// since a fixed start.
+    fn wait(&mut self, is_busy: bool) -> u64
+        ensures { log self.new ≡ log self.old };
+
+    /// Accepts a connection under this number, if one is there.
+    fn accept(&mut self, number: u32) -> bool
+        ensures { Logs (log self.old) (log self.new) (if result then Accepts number ∷ [] else []) };
+
+    /// Whether a read of a connection may do something.
+    fn can_read(&self, number: u32) -> bool;
+
+    /// Whether a write of a connection may do something.
+    fn can_write(&self, number: u32) -> bool;
+
+    /// Reads from a connection.
+    fn read(&mut self, number: u32, buffer: &mut [u8]) -> ReadOutcome
+        ensures within { read_count result ≤ length buffer.new }
+        ensures logs { Logs (log self.old) (log self.new) (read_transfers number result buffer.new) };
+
+    /// Writes to a connection.
+    fn write(&mut self, number: u32, bytes: &[u8]) -> WriteOutcome
+        ensures within { written_count result ≤ length bytes.now }
+        ensures logs { Logs (log self.old) (log self.new) (write_transfers number result bytes.now) };
+
+    /// Closes a connection.
+    fn close(&mut self, number: u32, reason: CloseReason)
+        ensures { Logs (log self.old) (log self.new) (Closes number reason ∷ []) };
+
+    /// Reads the next bytes of the file at an index, the file of the stream of this name. Returns their number.
+    fn read_file(&mut self, place: usize, name: &[u8], buffer: &mut [u8]) -> usize
+        ensures within { result ≤ length buffer.new }
+        ensures logs { Logs (log self.old) (log self.new) (grown_transfers name.now result buffer.new) };
+
+    /// Reports that a stream takes no more of its file.
+    fn stop_file(&mut self, place: usize, fault: HubFault)
+        ensures { log self.new ≡ log self.old };
+}

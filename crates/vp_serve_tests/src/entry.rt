@@ -1,0 +1,48 @@
+//! The entries of a transport's log.
+
+use std::fmt;
+use vp_base::ByteList;
+use vp_serve::CloseReason;
+
+/// One transfer.
+#[derive(Debug, Drop)]
+pub enum Entry {
+    /// A connection is accepted.
+    Accepts(u32),
+    /// Bytes are read from a connection.
+    Reads(u32, ByteList),
+    /// A connection takes bytes.
+    Writes(u32, ByteList),
+    /// The peer of a connection ends.
+    PeerEnds(u32),
+    /// A read or a write of a connection fails.
+    Fails(u32),
+    /// A connection is closed.
+    Closes(u32, CloseReason),
+    /// The file of the stream of a name has more bytes.
+    Grows(ByteList, ByteList),
+}
+
+fn text_of(bytes: &ByteList) -> &str {
+    match str::from_utf8(bytes.as_slice()) {
+        Ok(text) => text,
+        Err(_) => "?",
+    }
+}
+
+/// One line, with the bytes as text.
+impl fmt::Display for Entry {
+    fn fmt<W: fmt::Write>(&self, f: &mut fmt::Formatter<W>) -> fmt::Result {
+        match self {
+            Entry::Accepts(number) => write!(f, "accepts {number}\n"),
+            Entry::Reads(number, bytes) => write!(f, "reads {number} {}\n", text_of(bytes)),
+            Entry::Writes(number, bytes) => write!(f, "writes {number} {}\n", text_of(bytes)),
+            Entry::PeerEnds(number) => write!(f, "peer ends {number}\n"),
+            Entry::Fails(number) => write!(f, "fails {number}\n"),
+            Entry::Closes(number, reason) => write!(f, "closes {number} {reason:?}\n"),
+            Entry::Grows(name, bytes) => {
+                write!(f, "grows {} {}\n", text_of(name), text_of(bytes))
+            }
+        }
+    }
+}

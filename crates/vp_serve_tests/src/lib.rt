@@ -1,0 +1,10 @@
+//! Tests of the server over a transport in memory whose log is known: each kind of action, with the transfers that are
+//! expected written by hand. There is nothing here but tests.
+#![tactic(auto)]
+
+#[cfg(test)]
+mod entry;
+#[cfg(test)]
+mod script;
+#[cfg(test)]
+mod traces;

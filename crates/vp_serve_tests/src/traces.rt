@@ -1,0 +1,297 @@
+//! The server over scripts: one for each way in which a connection goes, and one for a file that grows.
+
+use crate::entry::Entry;
+use crate::script::{Input, Piece, Room, Script, Scripted};
+use std::alloc::{AllocError, Global};
+use std::fmt::Write;
+use std::process::Abort;
+use vp_base::{ByteList, Limits};
+use vp_hub::Hub;
+use vp_serve::{ServeOptions, ServerLoop, catch_up, serve, take_turn};
+
+/// A request for the names of the streams.
+const ASKS: &[u8] = b"GET /streams HTTP/1.1\r\nHost: x\r\n\r\n";
+
+/// A request for the names of the streams that closes the connection, and a second request after it.
+const LAST: &[u8] =
+    b"GET /streams HTTP/1.1\r\nHost: x\r\nConnection: close\r\n\r\nGET /streams HTTP/1.1\r\nHost: x\r\n\r\n";
+
+/// A script in which nothing happens.
+const NOTHING: Script = Script {
+    waiting: 0,
+    tick: 600,
+    inputs: &[],
+    rooms: &[],
+    pieces: &[],
+};
+
+/// What passes if the reply is written in two parts.
+const TWO_PARTS: &str = "accepts 0
+reads 0 GET /streams HTTP/1.1\r
+Host: x\r
+\r
+
+writes 0 HTTP/1.1 200 OK
+writes 0 \r
+Content-Type: text/plain\r
+Content-Length: 2\r
+\r
+a
+
+peer ends 0
+closes 0 PeerEnded
+";
+
+/// What passes if the request is read in two parts.
+const TWO_READS: &str = "accepts 0
+reads 0 GET /streams HTTP/1.1\r
+Ho
+reads 0 st: x\r
+\r
+
+writes 0 HTTP/1.1 200 OK\r
+Content-Type: text/plain\r
+Content-Length: 2\r
+\r
+a
+
+peer ends 0
+closes 0 PeerEnded
+";
+
+/// What passes if the first of two requests closes the connection.
+const FINISHED: &str = "accepts 0
+reads 0 GET /streams HTTP/1.1\r
+Host: x\r
+Connection: close\r
+\r
+GET /streams HTTP/1.1\r
+Host: x\r
+\r
+
+writes 0 HTTP/1.1 200 OK\r
+Content-Type: text/plain\r
+Content-Length: 2\r
+Connection: close\r
+\r
+a
+
+closes 0 Finished
+";
+
+/// What passes if the read of a connection fails, and then the write of the next one.
+const FAILURES: &str = "accepts 0
+fails 0
+closes 0 TransferFailed
+accepts 1
+reads 1 GET /streams HTTP/1.1\r
+Host: x\r
+\r
+
+fails 1
+closes 1 TransferFailed
+";
+
+/// What passes if a file grows by two pieces, the second of which shows that it is no VP8 file.
+const FILE: &str = "grows a DKIF
+grows a     rubbish, which is no head of a file
+accepts 0
+reads 0 GET /s/a/info HTTP/1.1\r
+Host: x\r
+\r
+
+writes 0 HTTP/1.1 200 OK\r
+Content-Type: text/plain\r
+Content-Length: 22\r
+\r
+state Codec
+packets 0
+
+peer ends 0
+closes 0 PeerEnded
+";
+
+fn options(max_connections: usize, total_connections: u32) -> ServeOptions {
+    ServeOptions {
+        max_connections,
+        total_connections,
+        idle_timeout: 1000,
+        poll_interval: 100,
+    }
+}
+
+fn names(alloc: Global) -> Result<Vec<ByteList>, AllocError> {
+    let mut names = Vec::new(alloc);
+    names.push(ByteList::from_vec(b"a".to_vec(alloc)?))?;
+    Ok(names)
+}
+
+/// A server of one stream, `a`, which was fed nothing.
+fn server(alloc: Global, options: ServeOptions) -> Option<ServerLoop> {
+    let names = names(alloc).ok()?;
+    let hub = Hub::new(alloc, names, Limits::usual()).ok()?;
+    Some(ServerLoop::new(alloc, hub, options))
+}
+
+fn text_of(alloc: Global, log: &[Entry]) -> Option<String> {
+    let mut text = String::new(alloc);
+    for entry in log {
+        write!(text, "{entry}").ok()?;
+    }
+    Some(text)
+}
+
+/// What passes while a server serves a script to its end.
+fn served<H: Abort>(
+    rt: &H,
+    alloc: Global,
+    options: ServeOptions,
+    script: Script,
+) -> Option<String> {
+    let mut server = server(alloc, options)?;
+    let mut transport = Scripted::new(rt, alloc, script);
+    if !serve(alloc, &mut server, &mut transport, &[]) {
+        return None;
+    }
+    text_of(alloc, transport.log())
+}
+
+/// Whether a server serves a script to its end, and just this passes.
+fn shows<H: Abort>(
+    rt: &H,
+    alloc: Global,
+    options: ServeOptions,
+    script: Script,
+    want: &str,
+) -> bool {
+    match served(rt, alloc, options, script) {
+        Some(text) => text.as_str() == want,
+        None => false,
+    }
+}
+
+#[test]
+fn reply_is_written_in_two_parts(rt: HostRuntime) {
+    let script = Script {
+        waiting: 1,
+        inputs: &[Input::Bytes(ASKS), Input::End],
+        rooms: &[Room::Bytes(15), Room::Block],
+        ..NOTHING
+    };
+    assert!(rt; shows(&rt, rt.alloc(), options(1, 1), script, TWO_PARTS));
+}
+
+#[test]
+fn request_is_read_in_two_parts(rt: HostRuntime) {
+    let script = Script {
+        waiting: 1,
+        inputs: &[
+            Input::Bytes(b"GET /streams HTTP/1.1\r\nHo"),
+            Input::Block,
+            Input::Bytes(b"st: x\r\n\r\n"),
+            Input::End,
+        ],
+        ..NOTHING
+    };
+    assert!(rt; shows(&rt, rt.alloc(), options(1, 1), script, TWO_READS));
+}
+
+#[test]
+fn closing_reply_is_the_last(rt: HostRuntime) {
+    let script = Script {
+        waiting: 1,
+        inputs: &[Input::Bytes(LAST)],
+        ..NOTHING
+    };
+    assert!(rt; shows(&rt, rt.alloc(), options(1, 1), script, FINISHED));
+}
+
+#[test]
+fn failures_close_one_connection(rt: HostRuntime) {
+    let script = Script {
+        waiting: 2,
+        inputs: &[Input::Fail, Input::Bytes(ASKS)],
+        rooms: &[Room::Fail],
+        ..NOTHING
+    };
+    assert!(rt; shows(&rt, rt.alloc(), options(1, 2), script, FAILURES));
+}
+
+#[test]
+fn idle_connection_is_closed(rt: HostRuntime) {
+    let script = Script {
+        waiting: 1,
+        ..NOTHING
+    };
+    assert!(rt;
+        shows(
+            &rt,
+            rt.alloc(),
+            options(1, 1),
+            script,
+            "accepts 0\ncloses 0 IdleTimeout\n"
+        )
+    );
+}
+
+/// Whether the hub refuses the 65th connection, which is then closed at once.
+fn refuses_the_65th<H: Abort>(rt: &H, alloc: Global) -> bool {
+    let Some(mut server) = server(alloc, options(65, 65)) else {
+        return false;
+    };
+    let script = Script {
+        waiting: 65,
+        ..NOTHING
+    };
+    let mut transport = Scripted::new(rt, alloc, script);
+    take_turn(alloc, &mut server, &mut transport, 0);
+    take_turn(alloc, &mut server, &mut transport, 0);
+    let Some(last) = transport.log().get(64..) else {
+        return false;
+    };
+    let Some(text) = text_of(alloc, last) else {
+        return false;
+    };
+    text.as_str() == "accepts 64\ncloses 64 HubRefused\n" && server.connection_count() == 64
+}
+
+#[test]
+fn hub_refuses_one_too_many(rt: HostRuntime) {
+    assert!(rt; refuses_the_65th(&rt, rt.alloc()));
+}
+
+/// Whether the pieces of a file are fed, and a request for the stream is answered by them.
+fn feeds_a_file<H: Abort>(rt: &H, alloc: Global) -> bool {
+    let Some(mut server) = server(alloc, options(1, 1)) else {
+        return false;
+    };
+    let Ok(names) = names(alloc) else {
+        return false;
+    };
+    let script = Script {
+        waiting: 1,
+        inputs: &[
+            Input::Bytes(b"GET /s/a/info HTTP/1.1\r\nHost: x\r\n\r\n"),
+            Input::End,
+        ],
+        pieces: &[
+            Piece(b"DKIF"),
+            Piece(b"    rubbish, which is no head of a file"),
+        ],
+        ..NOTHING
+    };
+    let mut transport = Scripted::new(rt, alloc, script);
+    catch_up(alloc, &mut server, &mut transport, &names);
+    if !serve(alloc, &mut server, &mut transport, &names) {
+        return false;
+    }
+    match text_of(alloc, transport.log()) {
+        Some(text) => text.as_str() == FILE,
+        None => false,
+    }
+}
+
+#[test]
+fn file_is_fed(rt: HostRuntime) {
+    assert!(rt; feeds_a_file(&rt, rt.alloc()));
+}
