@@ -27,7 +27,7 @@ phrase_of s = unwrap_or (reason_phrase (code_of s)) []
 
 -- the Content-Type of text
 abbrev pub plain_text : List ℕ
-plain_text = codes "text/plain_text"
+plain_text = codes "text/plain"
 
 -- the Content-Type of pictures
 abbrev pub octets : List ℕ
