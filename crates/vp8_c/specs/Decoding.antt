@@ -2,7 +2,8 @@
 use Rattle.std.specs.Prelude.{◌≡◌, ◌≢◌, ◌⊎◌, ◌<◌, ℕ, List, length, Option, Some, None, Result, Err, ok_or}
 use Rattle.std.specs.Prelude.{option_and_then}
 use Rattle.vp_base.specs.Image.{Image}
-use Rattle.vp_decode.specs.Step.{Decoder, IsDecoded, after, outcome, step}
+use Rattle.vp_decode.specs.Step.{IsDecoded, after, outcome, step}
+use Rattle.vp_decode.specs.Step.{Decoder as PacketDecoder}
 use Rattle.vp8_c.specs.declared.status.TheConstants.{CLOSED, MEMORY, NO_PICTURE}
 use Rattle.vp8_c.specs.declared.handle_value.HandleValue.{HandleValue}
 use Rattle.vp8_c.specs.declared.handle_value.HandleValue.TheVariants.{Decoder, Stream, Encoder}
@@ -12,13 +13,13 @@ use Rattle.vp8_c.specs.Handle.{handle_value_in}
 use Rattle.vp8_c.specs.Status.{outcome_number}
 
 -- the value is a decoder
-abbrev pub decoder_of : HandleValue → Option Decoder
+abbrev pub decoder_of : HandleValue → Option PacketDecoder
 decoder_of (Decoder d) = Some d
 decoder_of (Stream s) = None
 decoder_of (Encoder e) = None
 
 -- the decoder of a handle, if it is one
-abbrev pub decoder_in : Handle → Option Decoder
+abbrev pub decoder_in : Handle → Option PacketDecoder
 decoder_in h = option_and_then decoder_of (handle_value_in h)
 
 -- the picture that the decoder's last packet showed
@@ -36,7 +37,7 @@ abbrev pub shown_size_in : Handle → Result Size ℕ
 shown_size_in h = result_map (λ p. size_of p.width p.height) (handle_picture h)
 
 -- a decoder without state; pictures of more pixels are refused
-pub record IsFresh (pixels : ℕ) (d : Decoder) : Type 0 where
+pub record IsFresh (pixels : ℕ) (d : PacketDecoder) : Type 0 where
   pub limit : d.limits.pixels ≡ pixels
   pub state : d.state ≡ None
   pub shown : d.shown ≡ None
@@ -47,7 +48,7 @@ IsNoLimit pixels = (pixels ≡ 0) ⊎ (268402689 < pixels)
 
 -- The packet is decoded: the status is that of its step, and the decoder is the one after the step. Or memory ran out,
 -- for a packet that is not empty and has no fault, and nothing changed.
-pub record Decodes (packet : List ℕ) (status : ℕ) (old new : Decoder) : Type 0 where
+pub record Decodes (packet : List ℕ) (status : ℕ) (old new : PacketDecoder) : Type 0 where
   pub outcome_is : status ≢ MEMORY → status ≡ outcome_number (outcome (step old.limits old.state packet).1)
   pub after_is : status ≢ MEMORY → new ≡ after old (step old.limits old.state packet)
   pub refused : status ≡ MEMORY → new ≡ old

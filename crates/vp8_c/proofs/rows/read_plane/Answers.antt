@@ -15,7 +15,7 @@ loop-y-preserved c =
     let k = c.args.k in let y = c.loop-y.y in let bytes = c.args.bytes.now in let start = y * c.args.layout.stride in
     let W : Raster → Type 0 = λ r. IsWhole r in
     let whole : IsWhole (plane_of c.args.picture.now k) = subst W c.plane.ensures c.width-known.ensures.whole in
-    let whole_at : IsWhole (plane_of c.loop-y.picture k) = subst W c.plane-in-loop-y.ensures c.width-known-2.ensures.whole in
+    let whole_at : IsWhole (plane_of c.loop-y.picture k) = subst W c.plane-in-loop-y.ensures c.width-known-in-loop-y.ensures.whole in
     let ends : start + c.args.layout.width ≤ length bytes = ends_within c.args.layout.width c.args.layout.height c.args.layout.stride (length bytes) y c.requires.fits.1 c.loop-y-test.true in
     read_more c.args.picture.now c.loop-y.picture c.write_run.new.self k c.args.layout.width y c.args.layout.stride bytes (slice_range bytes start (start + c.args.layout.width))
     c.loop-y.invariant c.write_run.ensures whole whole_at c.requires.columns (let t = c.loop-y-test.true in let r = c.requires.rows in omega arith) (run_long bytes start c.args.layout.width ends)
