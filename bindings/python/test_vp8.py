@@ -1,0 +1,140 @@
+"""Tests of vp8.py: python3 -m unittest, with VP8_LIBRARY naming the shared library.
+
+VP8_STREAMS may name a folder of IVF files, and VP8_SUMS a file with lines NAME MD5: the sums of their pictures, from
+another decoder."""
+import copy
+import hashlib
+import os
+import pathlib
+import pickle
+import threading
+import unittest
+
+import vp8
+
+# A key packet of 17 by 1 pixels whose first partition is empty: each pixel of its picture is 128.
+KEY = bytes([0x10, 0, 0, 0x9d, 0x01, 0x2a, 17, 0, 1, 0])
+HIDDEN = bytes([0x01, 0, 0])
+
+
+def ivf(*packets):
+    head = b'DKIF' + bytes([0, 0, 32, 0]) + b'VP80' + bytes([17, 0, 1, 0, 30, 0, 0, 0, 2, 0, 0, 0]) + bytes(8)
+    return head + b''.join(len(packet).to_bytes(4, 'little') + bytes(8) + packet for packet in packets)
+
+
+def status_of(call, *arguments):
+    try:
+        call(*arguments)
+    except vp8.Error as error:
+        return error.status, error.name
+    return vp8.OK, ''
+
+
+class Packets(unittest.TestCase):
+    def test_whole_packets_are_given(self):
+        data = ivf(KEY, b'', HIDDEN)
+        self.assertEqual([bytes(packet) for packet in vp8.packets(data)], [KEY, b'', HIDDEN])
+        self.assertEqual(len(list(vp8.packets(data[:-1]))), 2)
+        self.assertEqual(list(vp8.packets(b'')), [])
+
+
+class Decoders(unittest.TestCase):
+    def test_a_picture_is_decoded(self):
+        with vp8.Decoder(17) as decoder:
+            picture = decoder.decode(KEY)
+            self.assertEqual((picture.width, picture.height), (17, 1))
+            self.assertEqual(picture.data, bytes([128]) * (17 + 9 + 9))
+            self.assertEqual((picture.y.shape, picture.u.shape, picture.v.shape), ((1, 17), (1, 9), (1, 9)))
+            picture.y[0, 16] = 1
+            self.assertEqual(picture.data[16], 1)
+            self.assertEqual(decoder.decode(b'').data, bytes([128]) * 35)
+            self.assertIsNone(decoder.decode(HIDDEN))
+
+    def test_packets_are_buffers(self):
+        with vp8.Decoder() as decoder:
+            for packet in (KEY, bytearray(KEY), memoryview(b'x' + KEY)[1:]):
+                self.assertEqual(decoder.decode(packet).width, 17)
+            for packet in (None, 5, 'text'):
+                self.assertRaises(TypeError, decoder.decode, packet)
+
+    def test_faults_are_named(self):
+        with vp8.Decoder() as decoder:
+            self.assertEqual(status_of(decoder.decode, HIDDEN), (vp8.NO_REFERENCE, 'NoReference'))
+            self.assertEqual(status_of(decoder.decode, b'\x10'), (vp8.TRUNCATED, 'Truncated'))
+        with vp8.Decoder(16) as decoder:
+            self.assertEqual(status_of(decoder.decode, KEY), (vp8.TOO_LARGE, 'TooLarge'))
+
+    def test_limits(self):
+        for limit in (0, 268402690, -1, 1 << 32):
+            self.assertEqual(status_of(vp8.Decoder, limit)[0], vp8.LIMITS)
+
+    def test_closing_and_copying(self):
+        decoder = vp8.Decoder()
+        self.assertRaises(TypeError, copy.copy, decoder)
+        self.assertRaises(TypeError, copy.deepcopy, decoder)
+        self.assertRaises(TypeError, pickle.dumps, decoder)
+        decoder.close()
+        decoder.close()
+        self.assertEqual(status_of(decoder.decode, KEY)[0], vp8.CLOSED)
+
+    def test_one_decoder_in_many_threads(self):
+        wrong = []
+
+        def decode():
+            for _ in range(200):
+                if decoder.decode(KEY).data != bytes([128]) * 35:
+                    wrong.append(1)
+
+        with vp8.Decoder() as decoder:
+            threads = [threading.Thread(target=decode) for _ in range(8)]
+            for thread in threads:
+                thread.start()
+            for thread in threads:
+                thread.join()
+        self.assertEqual(wrong, [])
+
+
+class Streams(unittest.TestCase):
+    def test_pictures_by_number(self):
+        with vp8.Stream(ivf(KEY, HIDDEN, b'\x11')) as stream:
+            self.assertEqual(stream.info, (17, 1, 30, 2, 3, vp8.OK))
+            self.assertEqual(len(stream), 3)
+            self.assertEqual(stream[0].data, bytes([128]) * 35)
+            self.assertIsNone(stream[1])
+            self.assertEqual(status_of(stream.__getitem__, 2), (vp8.TRUNCATED, 'Truncated'))
+            for number in (3, -1, 1 << 32):
+                self.assertRaises(IndexError, stream.__getitem__, number)
+
+    def test_damaged_files(self):
+        with vp8.Stream(b'') as stream:
+            self.assertEqual(stream.info, (0, 0, 0, 0, 0, vp8.TORN))
+        with vp8.Stream(ivf(KEY, KEY)[:-1]) as stream:
+            self.assertEqual((len(stream), stream.info.fault), (1, vp8.TORN))
+        stream.close()
+        self.assertEqual(status_of(len, stream)[0], vp8.CLOSED)
+
+
+@unittest.skipUnless('VP8_STREAMS' in os.environ, 'VP8_STREAMS is not set')
+class Sums(unittest.TestCase):
+    def test_sums_of_streams(self):
+        rows = [line.split() for line in pathlib.Path(os.environ['VP8_SUMS']).read_text().splitlines()]
+        sums = {row[0]: row[1] for row in rows if len(row) > 1 and row[0] != '#'}
+        paths = [path for path in sorted(pathlib.Path(os.environ['VP8_STREAMS']).glob('*.ivf')) if path.stem in sums]
+        self.assertTrue(paths)
+        right = 0
+        for path in paths:
+            data, found = path.read_bytes(), hashlib.md5()
+            with self.subTest(path.name), vp8.Decoder() as decoder, vp8.Stream(data) as stream:
+                for number, packet in enumerate(vp8.packets(data)):
+                    picture = decoder.decode(packet)
+                    found.update(picture.data if picture else b'')
+                    if number % 7 == 0:
+                        by_number = stream[number]
+                        self.assertEqual(by_number and by_number.data, picture and picture.data)
+                self.assertEqual(found.hexdigest(), sums[path.stem])
+                right += 1
+        print(f'{right} of {len(paths)} streams have the expected sums')
+
+
+if __name__ == '__main__':
+    unittest.main()

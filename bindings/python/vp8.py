@@ -1,0 +1,238 @@
+"""VP8 decoding from Python, by the shared library libvp8.
+
+Not proved: the whole file. The library is; this module passes it pointers and lengths (`_pointer`, `Picture`), which it
+trusts. A lock in each object keeps two threads out of one handle.
+
+    import vp8
+
+    with vp8.Decoder() as decoder:
+        for packet in vp8.packets(open('film.ivf', 'rb').read()):
+            picture = decoder.decode(packet)
+            if picture:
+                print(picture.width, picture.height, picture.y[0, 0])
+
+    with vp8.Stream(open('film.ivf', 'rb').read()) as stream:
+        picture = stream[5]
+
+The library is the file that the environment variable VP8_LIBRARY names, or libvp8.so.0 as the system finds it.
+"""
+import collections
+import ctypes
+import os
+import threading
+
+__all__ = ['Decoder', 'Error', 'Picture', 'Stream', 'StreamInfo', 'packets', 'DEFAULT_MAX_PIXELS',
+           'OK', 'HIDDEN', 'TRUNCATED', 'VERSION', 'START_CODE', 'SIZE', 'TOO_LARGE', 'NO_REFERENCE',
+           'FIRST_PARTITION', 'PARTITION_TABLE', 'PARTITION', 'SIGNATURE', 'CODEC', 'TOO_MANY', 'PACKET_TOO_LARGE',
+           'TORN', 'CLOSED', 'MEMORY', 'LIMITS', 'NO_PICTURE', 'NO_PACKET']
+
+# The numbers of include/vp8.h. PARTITION + n is token partition n.
+OK, HIDDEN = 0, 1
+TRUNCATED, VERSION, START_CODE, SIZE, TOO_LARGE, NO_REFERENCE, FIRST_PARTITION, PARTITION_TABLE = range(16, 24)
+SIGNATURE, CODEC, TOO_MANY, PACKET_TOO_LARGE, TORN = range(32, 37)
+CLOSED, OPEN, MEMORY, LIMITS, DIMENSIONS, NO_PICTURE, NO_PACKET, BUFFER = range(64, 72)
+PARTITION = 256
+
+DEFAULT_MAX_PIXELS = 16777216
+
+
+class _Handle(ctypes.Structure):
+    _fields_ = [('in_use', ctypes.c_uint32), ('state', ctypes.c_void_p)]
+
+
+class _StreamInfo(ctypes.Structure):
+    _fields_ = [(name, ctypes.c_uint32) for name in ('width', 'height', 'rate', 'scale', 'packets', 'fault')]
+
+
+def _load():
+    library = ctypes.CDLL(os.environ.get('VP8_LIBRARY') or 'libvp8.so.0')
+    handle, size, number = ctypes.POINTER(_Handle), ctypes.c_size_t, ctypes.c_uint32
+    memory, numbers = ctypes.c_void_p, ctypes.POINTER(ctypes.c_uint32)
+    declarations = {
+        'vp8_status_name': (size, [number, memory, size]),
+        'vp8_decoder_new': (number, [handle, number]),
+        'vp8_decoder_decode': (number, [handle, memory, size]),
+        'vp8_decoder_size': (number, [handle, numbers, numbers]),
+        'vp8_decoder_copy': (number, [handle] + [memory, size, size] * 3),
+        'vp8_decoder_free': (None, [handle]),
+        'vp8_stream_new': (number, [handle, memory, size]),
+        'vp8_stream_get_info': (number, [handle, ctypes.POINTER(_StreamInfo)]),
+        'vp8_stream_picture_at': (number, [handle, number]),
+        'vp8_stream_size': (number, [handle, numbers, numbers]),
+        'vp8_stream_copy_i420': (number, [handle, memory, size]),
+        'vp8_stream_free': (None, [handle]),
+    }
+    for name, (result, arguments) in declarations.items():
+        function = getattr(library, name)
+        function.restype, function.argtypes = result, arguments
+    return library
+
+
+_library = _load()
+
+
+class Error(Exception):
+    """A call is refused, or a packet can't be decoded. `status` is the number of vp8.h, `name` its name."""
+
+    def __init__(self, status):
+        name = ctypes.create_string_buffer(32)
+        _library.vp8_status_name(status, name, len(name) - 1)
+        self.status, self.name = status, name.value.decode('ascii')
+        super().__init__(self.name)
+
+
+def _check(status):
+    if status != OK:
+        raise Error(status)
+
+
+def _pointer(data):
+    """The bytes of an object that has the buffer protocol, and their length. They live as long as the first result."""
+    data = data if isinstance(data, bytes) else memoryview(data).tobytes()
+    return ctypes.c_char_p(data), len(data)
+
+
+class Picture:
+    """A picture in memory of its own. `data` is a bytearray of I420: Y, U and V, each row after row without padding.
+
+    `y`, `u` and `v` are views into it with two dimensions, rows first: `picture.y[row, column]`."""
+
+    def __init__(self, width, height):
+        self.width, self.height = width, height
+        chroma_width, chroma_height = (width + 1) // 2, (height + 1) // 2
+        luma, chroma = width * height, chroma_width * chroma_height
+        self.data = bytearray(luma + 2 * chroma)
+        view = memoryview(self.data)
+        self.y = view[:luma].cast('B', (height, width))
+        self.u = view[luma:luma + chroma].cast('B', (chroma_height, chroma_width))
+        self.v = view[luma + chroma:].cast('B', (chroma_height, chroma_width))
+
+    def __repr__(self):
+        return f'<vp8.Picture {self.width}x{self.height}>'
+
+    def _address(self):
+        return ctypes.addressof(ctypes.c_char.from_buffer(self.data))
+
+
+class _Closing:
+    """What decoders and streams share: a handle, its lock, and closing."""
+
+    def __init__(self):
+        self._handle, self._lock = _Handle(), threading.Lock()
+
+    def close(self):
+        """Frees the memory. Later calls raise Error with the status CLOSED."""
+        with self._lock:
+            self._free(self._handle)
+
+    def __enter__(self):
+        return self
+
+    def __exit__(self, *_):
+        self.close()
+
+    def __del__(self):
+        if hasattr(self, '_handle'):
+            self._free(self._handle)
+
+    def __copy__(self):
+        raise TypeError('a handle is never copied')
+
+    def __deepcopy__(self, _):
+        raise TypeError('a handle is never copied')
+
+    def __reduce__(self):
+        raise TypeError('a handle is never copied')
+
+    def _new_picture(self, size):
+        width, height = ctypes.c_uint32(), ctypes.c_uint32()
+        _check(size(self._handle, width, height))
+        return Picture(width.value, height.value)
+
+
+class Decoder(_Closing):
+    """Decodes packets, one after another. Pictures of more than `max_pixels` pixels are refused.
+
+    `max_pixels` is 1 to 268,402,689."""
+
+    _free = staticmethod(_library.vp8_decoder_free)
+
+    def __init__(self, max_pixels=DEFAULT_MAX_PIXELS):
+        super().__init__()
+        if not 0 <= max_pixels < 1 << 32:
+            raise Error(LIMITS)
+        _check(_library.vp8_decoder_new(self._handle, max_pixels))
+
+    def decode(self, packet):
+        """Decodes a packet (bytes or a buffer). Returns its Picture, or None if it shows none.
+
+        Raises Error if the packet can't be decoded. Packets that are not key packets then fail with NO_REFERENCE until
+        the next key packet. A packet of no bytes shows the last picture again."""
+        pointer, length = _pointer(packet)
+        with self._lock:
+            status = _library.vp8_decoder_decode(self._handle, pointer, length)
+            if status == HIDDEN:
+                return None
+            _check(status)
+            picture = self._new_picture(_library.vp8_decoder_size)
+            luma, chroma, half = picture.y.nbytes, picture.u.nbytes, (picture.width + 1) // 2
+            start = picture._address()
+            _check(_library.vp8_decoder_copy(self._handle, start, luma, picture.width, start + luma, chroma, half,
+                                             start + luma + chroma, chroma, half))
+            return picture
+
+
+StreamInfo = collections.namedtuple('StreamInfo', 'width height rate scale packets fault')
+StreamInfo.__doc__ = """What is known of a file.
+
+Width and height are those of its head. There are `rate` / `scale` pictures a second. `packets` counts the whole ones.
+`fault` is OK, or why no more are read: SIGNATURE to TORN."""
+
+
+class Stream(_Closing):
+    """An IVF file in memory. `stream[n]` is the picture of packet n, or None if it shows none.
+
+    Each is decoded from the last key packet before it: to decode a whole file in order, a Decoder takes less time."""
+
+    _free = staticmethod(_library.vp8_stream_free)
+
+    def __init__(self, data):
+        super().__init__()
+        _check(_library.vp8_stream_new(self._handle, *_pointer(data)))
+
+    @property
+    def info(self):
+        """The StreamInfo of the file."""
+        info = _StreamInfo()
+        with self._lock:
+            _check(_library.vp8_stream_get_info(self._handle, info))
+        return StreamInfo(*(getattr(info, name) for name in StreamInfo._fields))
+
+    def __len__(self):
+        return self.info.packets
+
+    def __getitem__(self, number):
+        """Decodes packet `number` from the last key packet before it. Raises IndexError, or Error as Decoder.decode."""
+        if not 0 <= number < 1 << 32:
+            raise IndexError(number)
+        with self._lock:
+            status = _library.vp8_stream_picture_at(self._handle, number)
+            if status == NO_PACKET:
+                raise IndexError(number)
+            if status == HIDDEN:
+                return None
+            _check(status)
+            picture = self._new_picture(_library.vp8_stream_size)
+            _check(_library.vp8_stream_copy_i420(self._handle, picture._address(), len(picture.data)))
+            return picture
+
+
+def packets(data):
+    """The whole packets of an IVF file, as views of `data`. The head is skipped, and not checked."""
+    view, at = memoryview(data).cast('B'), 32
+    while len(view) - at >= 12:
+        length = int.from_bytes(view[at:at + 4], 'little')
+        if len(view) - at - 12 < length:
+            return
+        yield view[at + 12:at + 12 + length]
+        at += 12 + length

@@ -1,0 +1,98 @@
+//! A decoder of packets.
+//!
+//! Not proved: the whole file. Each `unsafe` block passes pointers and lengths of slices to the library, and a handle
+//! that no other code has.
+
+use crate::ffi::{self, Handle};
+use crate::status::check;
+use crate::{Picture, Status};
+
+/// Decodes packets, one after another.
+pub struct Decoder(Handle);
+
+// SAFETY: the state is in memory from malloc that only this handle points to, and the library has no writable globals.
+unsafe impl Send for Decoder {}
+
+impl Decoder {
+    /// A limit on pixels that fits most uses: 4096 by 4096.
+    pub const DEFAULT_MAX_PIXELS: u32 = 16_777_216;
+
+    /// Opens a decoder that refuses pictures of more pixels than `max_pixels`, 1 to 268,402,689.
+    /// `LIMITS`, `MEMORY`.
+    pub fn new(max_pixels: u32) -> Result<Decoder, Status> {
+        let mut handle = Handle::CLOSED;
+        // SAFETY: the handle is closed and lives through the call.
+        check(unsafe { ffi::vp8_decoder_new(&mut handle, max_pixels) })?;
+        Ok(Decoder(handle))
+    }
+
+    /// Decodes a packet: `true` if it shows a picture, which `picture` gives. A packet of no bytes
+    /// shows the last picture again.
+    ///
+    /// `TRUNCATED` to `PARTITION_TABLE`, and `partition(n)`: it can't be decoded. Then packets that
+    /// are not key packets are refused by `NO_REFERENCE` until the next key packet. `MEMORY`: the
+    /// decoder is as before.
+    pub fn decode(&mut self, packet: &[u8]) -> Result<bool, Status> {
+        // SAFETY: the pointer and the length are of one slice; a slice's pointer is never null.
+        match unsafe { ffi::vp8_decoder_decode(&mut self.0, packet.as_ptr(), packet.len()) } {
+            Status::OK => Ok(true),
+            Status::HIDDEN => Ok(false),
+            status => Err(Status(status)),
+        }
+    }
+
+    /// Copies the picture that the last packet showed into `picture`, whose memory is reused.
+    /// `NO_PICTURE`, `MEMORY`.
+    pub fn picture(&mut self, picture: &mut Picture) -> Result<(), Status> {
+        let (mut width, mut height) = (0, 0);
+        // SAFETY: the pointers are of two variables.
+        check(unsafe { ffi::vp8_decoder_size(&mut self.0, &mut width, &mut height) })?;
+        let [y, u, v] = picture.resize(width, height)?;
+        let stride = usize::try_from(width).map_err(|_| Status::MEMORY)?;
+        let chroma_stride = stride.div_ceil(2);
+        // SAFETY: each pointer and length are of one slice, and the slices do not overlap.
+        check(unsafe {
+            ffi::vp8_decoder_copy(
+                &mut self.0,
+                y.as_mut_ptr(),
+                y.len(),
+                stride,
+                u.as_mut_ptr(),
+                u.len(),
+                chroma_stride,
+                v.as_mut_ptr(),
+                v.len(),
+                chroma_stride,
+            )
+        })
+    }
+
+    /// Decodes each packet of an iterator: the picture, `None` if none is shown, or the fault.
+    ///
+    /// The iterator goes on after a packet that can't be decoded.
+    pub fn pictures<'a, P>(
+        &'a mut self,
+        packets: P,
+    ) -> impl Iterator<Item = Result<Option<Picture>, Status>> + 'a
+    where
+        P: IntoIterator,
+        P::IntoIter: 'a,
+        P::Item: AsRef<[u8]>,
+    {
+        packets.into_iter().map(|packet| {
+            if !self.decode(packet.as_ref())? {
+                return Ok(None);
+            }
+            let mut picture = Picture::new();
+            self.picture(&mut picture)?;
+            Ok(Some(picture))
+        })
+    }
+}
+
+impl Drop for Decoder {
+    fn drop(&mut self) {
+        // SAFETY: the handle is this value's own.
+        unsafe { ffi::vp8_decoder_free(&mut self.0) }
+    }
+}

@@ -1,0 +1,127 @@
+//! Tests of each call. A key packet of 17 by 1 pixels with an empty first partition shows 128 in each pixel.
+
+use vp8::{packets, Decoder, Picture, Status, Stream, StreamInfo};
+
+const KEY: [u8; 10] = [0x10, 0, 0, 0x9d, 0x01, 0x2a, 17, 0, 1, 0];
+const HIDDEN: [u8; 3] = [0x01, 0, 0];
+
+fn ivf(packets: &[&[u8]]) -> Vec<u8> {
+    let mut file = b"DKIF\0\0\x20\0VP80\x11\0\x01\0\x1e\0\0\0\x02\0\0\0\0\0\0\0\0\0\0\0".to_vec();
+    for packet in packets {
+        file.extend((packet.len() as u32).to_le_bytes());
+        file.extend([0; 8]);
+        file.extend(*packet);
+    }
+    file
+}
+
+#[test]
+fn whole_packets_are_given() {
+    let file = ivf(&[&KEY, &[], &HIDDEN]);
+    assert_eq!(packets(&file).collect::<Vec<_>>(), [&KEY[..], &[], &HIDDEN]);
+    for cut in 0..file.len() {
+        let count = packets(&file[..cut]).count();
+        assert_eq!(
+            count,
+            [54, 66, 81].iter().filter(|end| cut >= **end).count()
+        );
+    }
+    let mut file = ivf(&[&KEY]);
+    file[32..36].copy_from_slice(&[255; 4]);
+    assert_eq!(packets(&file).next(), None);
+}
+
+#[test]
+fn a_picture_is_decoded() -> Result<(), Status> {
+    let mut decoder = Decoder::new(17)?;
+    let mut picture = Picture::new();
+    assert_eq!(decoder.picture(&mut picture), Err(Status::NO_PICTURE));
+    assert!(decoder.decode(&KEY)?);
+    decoder.picture(&mut picture)?;
+    assert_eq!(
+        (picture.width(), picture.height(), picture.chroma_width()),
+        (17, 1, 9)
+    );
+    assert_eq!(
+        (picture.y(), picture.u(), picture.v()),
+        (&[128; 17][..], &[128; 9][..], &[128; 9][..])
+    );
+    assert_eq!(picture.bytes(), [128; 35]);
+    assert!(!decoder.decode(&HIDDEN)?);
+    assert_eq!(decoder.picture(&mut picture), Err(Status::NO_PICTURE));
+    assert!(decoder.decode(&[])?);
+    assert_eq!(picture.clone().into_bytes(), [128; 35]);
+    Ok(())
+}
+
+#[test]
+fn faults_are_named() -> Result<(), Status> {
+    let mut decoder = Decoder::new(16)?;
+    let mut version = KEY;
+    version[0] |= 8;
+    assert_eq!(decoder.decode(&HIDDEN), Err(Status::NO_REFERENCE));
+    assert_eq!(decoder.decode(&KEY), Err(Status::TOO_LARGE));
+    assert_eq!(decoder.decode(&version), Err(Status::VERSION));
+    assert_eq!(decoder.decode(&KEY[..9]), Err(Status::TRUNCATED));
+    assert_eq!(Decoder::new(0).err(), Some(Status::LIMITS));
+    assert_eq!(Decoder::new(268_402_690).err(), Some(Status::LIMITS));
+    assert_eq!(Status::TOO_LARGE.to_string(), "TooLarge");
+    assert_eq!(Status::partition(2).to_string(), "Partition 2");
+    assert_eq!(Status::partition(u32::MAX).to_string(), "");
+    assert_eq!(format!("{:?}", Status::TORN), "Status(36, Torn)");
+    Ok(())
+}
+
+#[test]
+fn pictures_are_iterated() -> Result<(), Status> {
+    let file = ivf(&[&HIDDEN, &KEY, &HIDDEN, &[]]);
+    let mut decoder = Decoder::new(Decoder::DEFAULT_MAX_PIXELS)?;
+    let found: Vec<_> = decoder
+        .pictures(packets(&file))
+        .map(|it| it.map(|shown| shown.map(Picture::into_bytes)))
+        .collect();
+    let shown = || Ok(Some(vec![128; 35]));
+    assert_eq!(
+        found,
+        [Err(Status::NO_REFERENCE), shown(), Ok(None), shown()]
+    );
+    Ok(())
+}
+
+#[test]
+fn pictures_are_requested_by_number() -> Result<(), Status> {
+    let file = ivf(&[&KEY, &HIDDEN, &[0x11], &KEY]);
+    let mut stream = Stream::new(&file[..file.len() - 1])?;
+    let mut picture = Picture::new();
+    let info = StreamInfo {
+        width: 17,
+        height: 1,
+        rate: 30,
+        scale: 2,
+        packets: 3,
+        fault: Some(Status::TORN),
+    };
+    assert_eq!(stream.info()?, info);
+    assert!(!stream.picture_at(1, &mut picture)?);
+    assert_eq!(picture, Picture::new());
+    assert!(stream.picture_at(0, &mut picture)?);
+    assert_eq!(picture.bytes(), [128; 35]);
+    assert_eq!(stream.picture_at(2, &mut picture), Err(Status::TRUNCATED));
+    assert_eq!(stream.picture_at(3, &mut picture), Err(Status::NO_PACKET));
+    assert_eq!(Stream::new(&file)?.info()?.fault, None);
+    assert_eq!(
+        Stream::new(b"no file of this kind, but longer than a head")?
+            .info()?
+            .fault,
+        Some(Status::SIGNATURE)
+    );
+    Ok(())
+}
+
+#[test]
+fn decoders_move_between_threads() -> Result<(), Status> {
+    let mut decoder = Decoder::new(17)?;
+    let decoded = std::thread::spawn(move || decoder.decode(&KEY)).join();
+    assert!(matches!(decoded, Ok(Ok(true))));
+    Ok(())
+}
