@@ -2,7 +2,6 @@
 //! expected written by hand. There is nothing here but tests.
 #![tactic(auto)]
 
-#[cfg(test)]
 mod entry;
 #[cfg(test)]
 mod script;
