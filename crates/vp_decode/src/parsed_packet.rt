@@ -45,7 +45,8 @@ impl<'a> Model for ParsedPacket<'a> {
     ghost invariant = { λ o. HasConsistentSizes o.context × (0 < length o.partitions) × (length o.partitions ≤ 8) };
 }
 
-fn partition_count(log2: u8) -> usize
+/// Returns the number of token partitions (RFC 6386, chapter 9.5).
+pub(crate) fn partition_count(log2: u8) -> usize
     requires { log2 ≤ 3 }
     ensures value { result ≡ count_of log2 }
     ensures few { result ≤ 8 }
@@ -55,7 +56,7 @@ fn partition_count(log2: u8) -> usize
 }
 
 /// Returns the length of the tag in bytes: 10 for a key frame, else 3.
-fn length_of(tag: &Tag) -> usize
+pub(crate) fn length_of(tag: &Tag) -> usize
     ensures value { result ≡ tag_length tag.now }
     ensures small { result ≤ 10 }
 {

@@ -1,4 +1,4 @@
--- A file's packets are decoded, one after another, and told.
+-- The outcomes of a file's packets are told, one after another.
 use Rattle.std.proofs.Common.{◌≡◌, ℕ, ◌+◌, ◌-◌, ◌<◌, List, [], ◌∷◌, ◌++◌, length, map, Option, None, refl, sym, ap, ◌∙◌, arith}
 use Rattle.std.specs.List.{zip}
 use Rattle.std.proofs.lemmas.List.{length-append, map-append}
@@ -8,7 +8,8 @@ use Rattle.vp_ivf.specs.declared.packet.IvfHead.{IvfHead}
 use Rattle.vp_ivf.specs.declared.fault.FileFault.{FileFault}
 use Rattle.vp_ivf.specs.Ivf.{Contents}
 use Rattle.vp_decode.specs.declared.decoder.Outcome.{Outcome}
-use Rattle.vp_decode.specs.Step.{DecoderState, Answer, Decoder, step, after, outcome}
+use Rattle.vp_decode.specs.Outcomes.{OutcomeReader, reader_at}
+use Rattle.vp_decode.specs.Step.{DecoderState, Answer, step, outcome}
 use Rattle.vp_stream.specs.declared.form.Form.TheVariants.{I420}
 use Rattle.vp_stream.specs.Answers.{answers_from}
 use Rattle.vp_stream.specs.Reports.{outcomes}
@@ -19,15 +20,18 @@ use Rattle.vp_stream.proofs.CountLemmas.{count-read}
 use Rattle.vp_stream.proofs.IncomingLemmas.{at_start}
 use Rattle.vp_stream.proofs.ReportLemmas.{after_packets-append, answers_to-append, length-answers_to}
 
--- these bytes were read, and these packets of them were decoded and told
-pub record IsTold (limits : Limits) (file : PacketReader) (decoder : Decoder) (told : List (ℕ × Outcome)) (fed : List ℕ) (given : List Packet) : Type 0 where
+-- the state of a decoder after these packets
+abbrev pub state_after : Limits → List Packet → Option DecoderState
+state_after limits given = (after_packets (fresh limits I420) given).state
+
+-- these bytes were read, and these packets of them were told
+pub record IsTold (limits : Limits) (file : PacketReader) (reader : OutcomeReader) (told : List (ℕ × Outcome)) (fed : List ℕ) (given : List Packet) : Type 0 where
   pub reading : IsReading limits file fed given
-  pub limits_same : decoder.limits ≡ limits
-  pub state : decoder.state ≡ (after_packets (fresh limits I420) given).state
+  pub beside : reader ≡ reader_at limits (state_after limits given)
   pub is_told : told ≡ outcomes given (answers_from limits None given)
 
-pub told_first : (limits : Limits) (decoder : Decoder) → decoder ≡ record { limits = limits; state = None; shown = None } → IsTold limits (before_first_read limits) decoder [] [] []
-told_first limits decoder e = record { reading = at_start limits; limits_same = ap (λ (d : Decoder). d.limits) e; state = ap (λ (d : Decoder). d.state) e; is_told = refl }
+pub told_first : (limits : Limits) (reader : OutcomeReader) → reader ≡ record { limits = limits; shown = None } → IsTold limits (before_first_read limits) reader [] [] []
+told_first limits reader e = record { reading = at_start limits; beside = e; is_told = refl }
 
 zip-last : {A B : Type 0} (xs : List A) (ys : List B) (x : A) (y : B) → length xs ≡ length ys → zip (xs ++ x ∷ []) (ys ++ y ∷ []) ≡ zip xs ys ++ (x, y) ∷ []
 zip-last [] [] x y e = refl
@@ -64,8 +68,8 @@ limits_kept : (r : TranscodeState) (ps : List Packet) → (after_packets r ps).l
 limits_kept r [] = refl
 limits_kept r (p ∷ ps) = limits_kept (after_packet r p.bytes) ps
 
-module _ (limits : Limits) (source : PacketReader) (decoder : Decoder) (told : List (ℕ × Outcome)) (fed more : List ℕ) (given : List Packet)
-    (h : IsTold limits source decoder told fed given) where
+module _ (limits : Limits) (source : PacketReader) (reader : OutcomeReader) (told : List (ℕ × Outcome)) (fed more : List ℕ) (given : List Packet)
+    (h : IsTold limits source reader told fed given) where
   -- all packets were told
   pub surveyed : (s : PacketReader) (left : Option (List ℕ)) (fault : Option FileFault) (head : Option IvfHead) → EndsReading limits s left (fed ++ more) given fault → head ≡ s.file.reading.head
       → IsSurveyed limits (record { head = head; packets = told; fault = fault }) (fed ++ more)
@@ -85,22 +89,19 @@ module _ (limits : Limits) (source : PacketReader) (decoder : Decoder) (told : L
         omega arith
 
     -- one packet more
-    pub told_on : (last : Decoder) (o : Outcome) (now : List (ℕ × Outcome))
-        → last ≡ after decoder (step decoder.limits decoder.state packet.bytes)
-        → o ≡ outcome (step decoder.limits decoder.state packet.bytes).1
-        → now ≡ told ++ (length packet.bytes, o) ∷ []
+    pub told_on : (last : OutcomeReader) (now : List (ℕ × Outcome))
+        → last ≡ reader_at limits (step limits (state_after limits given) packet.bytes).0
+        → now ≡ told ++ (length packet.bytes, outcome (step limits (state_after limits given) packet.bytes).1) ∷ []
         → IsTold limits later last now (fed ++ more) (given ++ packet ∷ [])
-    told_on last o now is_last is_o is_now =
+    told_on last now is_last is_now =
         let p = after_packets (fresh limits I420) given in
-        let same : step decoder.limits decoder.state packet.bytes ≡ step p.limits p.state packet.bytes =
-        ap (λ (l : Limits). step l decoder.state packet.bytes) (h.limits_same ∙ sym (limits_kept (fresh limits I420) given))
-        ∙ ap (λ (s : Option DecoderState). step p.limits s packet.bytes) h.state in
+        let same : step limits p.state packet.bytes ≡ step p.limits p.state packet.bytes =
+        ap (λ (l : Limits). step l p.state packet.bytes) (sym (limits_kept (fresh limits I420) given)) in
         record {
           reading = r;
-          limits_same = ap (λ (d : Decoder). d.limits) is_last ∙ h.limits_same;
-          state = ap (λ (d : Decoder). d.state) is_last ∙ (ap (λ (x : Option DecoderState × Answer). x.0) same
+          beside = is_last ∙ ap (reader_at limits) (ap (λ (x : Option DecoderState × Answer). x.0) same
               ∙ ap (λ (q : TranscodeState). q.state) (sym (after_packets-append (fresh limits I420) given (packet ∷ []))));
-          is_told = is_now ∙ (ap (λ (x : Outcome). told ++ (length packet.bytes, x) ∷ []) (is_o ∙ ap (λ (x : Option DecoderState × Answer). outcome x.1) same)
+          is_told = is_now ∙ (ap (λ (x : Option DecoderState × Answer). told ++ (length packet.bytes, outcome x.1) ∷ []) same
               ∙ (ap (λ xs. xs ++ (length packet.bytes, outcome (answer_to p packet.bytes)) ∷ []) h.is_told ∙ sym (told_next limits given packet)));
         }
 

@@ -1,11 +1,13 @@
-//! Surveys a whole file: decodes each packet, and keeps only the outcomes.
+//! Surveys a whole file: keeps the outcome of each packet, and decodes no pictures.
 
 ghost use Rattle.std.specs.Prelude.{◌≡◌, ◌≢◌, ◌≤◌, ◌+◌, ◌-◌, ◌^◌, ◌++◌, ◌∷◌, ℕ, List, [], length, None, Some, OnOk};
-ghost use Rattle.std.specs.Prelude.{IfOk, Err};
+ghost use Rattle.std.specs.Prelude.{IfOk, Err, Option};
 ghost use Rattle.std.specs.Io.KnownBytes.{Consumes, IsAtEnd};
 ghost use Rattle.vp_base.specs.Counted.{counted_remaining, counted_failures, counted_reads, HasFailed, HasRisenBy};
 ghost use Rattle.vp_ivf.specs.declared.fault.FileFault.{FileFault};
-ghost use Rattle.vp_decode.specs.Step.{step, after, outcome};
+ghost use Rattle.vp_base.specs.declared.limits.Limits.{Limits};
+ghost use Rattle.vp_decode.specs.Outcomes.{reader_at};
+ghost use Rattle.vp_decode.specs.Step.{DecoderState, step, outcome};
 ghost use Rattle.vp_stream.specs.declared.fault.SurveyFault.{SurveyFault};
 ghost use Rattle.vp_stream.specs.Written.{IsSurveyFor};
 
@@ -15,9 +17,9 @@ use crate::packet_reader::{Next, PacketReader};
 use std::alloc::{AllocError, Global};
 use std::io::Read;
 use vp_base::{Counted, Limits};
-use vp_decode::Decoder;
+use vp_decode::OutcomeReader;
 
-/// Reads a file to its end or its fault, and decodes each packet once, in order. Decoded pictures are not collected.
+/// Reads a file to its end or its fault, and lists what decoding each packet gives, in order. Pictures are not decoded.
 ///
 /// Errors: `SurveyFault`. A fault of the file is part of the survey.
 pub fn survey<R: Read>(
@@ -46,12 +48,12 @@ pub fn survey<R: Read>(
         HasRisenBy (2 ^ 32 - 1) (counted_reads reader.old) (counted_reads reader.new) }
 {
     let mut file = PacketReader::new(alloc, limits);
-    let mut decoder = Decoder::new(alloc, limits);
+    let mut outcomes = OutcomeReader::new(limits);
     let mut packets = OutcomeList::new(alloc);
     'packets: loop {
         match file.next(reader)? {
             Next::Packet(_, packet) => {
-                tell(packet.bytes.as_slice(), &mut decoder, &mut packets)?;
+                tell(packet.bytes.as_slice(), &mut outcomes, &mut packets)?;
             }
             Next::End(fault) => {
                 return Ok(Survey {
@@ -64,14 +66,19 @@ pub fn survey<R: Read>(
     }
 }
 
-// Decodes a packet, and appends its outcome to the list.
-fn tell(packet: &[u8], decoder: &mut Decoder, packets: &mut OutcomeList) -> Result<(), AllocError>
-    ensures decoder { OnOk result (decoder.new
-        ≡ after decoder.old (step decoder.old.limits decoder.old.state packet.now)) }
-    ensures packets { OnOk result (packets.new ≡ packets.old
-        ++ (length packet.now, outcome (step decoder.old.limits decoder.old.state packet.now).1) ∷ []) }
+// Appends a packet to the list, with its outcome.
+fn tell(
+    packet: &[u8],
+    outcomes: &mut OutcomeReader,
+    packets: &mut OutcomeList,
+) -> Result<(), AllocError>
+    ensures outcomes { (limits : Limits) (state : Option DecoderState) → outcomes.old ≡ reader_at limits state
+        → OnOk result (outcomes.new ≡ reader_at limits (step limits state packet.now).0) }
+    ensures packets { (limits : Limits) (state : Option DecoderState) → outcomes.old ≡ reader_at limits state
+        → OnOk result (packets.new ≡ packets.old
+        ++ (length packet.now, outcome (step limits state packet.now).1) ∷ []) }
 {
-    let outcome = decoder.decode(packet)?;
+    let outcome = outcomes.outcome(packet);
     packets.push(packet.len(), outcome)?;
     Ok(())
 }

@@ -10,7 +10,7 @@ abbrev pub invariant-packets : goal.invariant-packets
 invariant-packets g l =
     (fed : List ℕ) × (given : List Packet)
     × Consumes (counted_remaining g.R.Read.remaining l.fn.reader) (counted_remaining g.R.Read.remaining l.reader) fed
-    × IsTold l.fn.limits l.file l.decoder l.packets fed given
+    × IsTold l.fn.limits l.file l.outcomes l.packets fed given
     × (counted_failures l.reader ≡ counted_failures l.fn.reader)
     × HasRead l.file (counted_reads l.fn.reader) (counted_reads l.reader)
 
