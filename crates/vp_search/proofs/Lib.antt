@@ -4,3 +4,6 @@ pub mod RowLemmas
 pub mod OrderLemmas
 pub mod WindowLemmas
 pub mod RefinedLemmas
+pub mod BoundLemmas
+pub mod SumLanes
+pub mod CutLemmas

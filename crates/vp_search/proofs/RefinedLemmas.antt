@@ -86,6 +86,10 @@ pub listed_cost : (cost : QuarterVector → ℕ) (centre : QuarterVector) (d : �
     → cost (get_or vectors k z) ≡ cost (neighbour centre d k)
 listed_cost cost centre d vectors z k e h = ap cost (listed centre d vectors z k e h)
 
+-- the cost of the centre
+pub first_cost : (cost : QuarterVector → ℕ) (centre : QuarterVector) (d : ℤ) (costs : List ℕ) → get_or costs 0 0 ≡ cost centre → (j : ℕ) → j < 1 → get_or costs j 0 ≡ cost (neighbour centre d j)
+first_cost cost centre d costs e j h = let z : 0 ≡ j = omega arith in subst (λ (k : ℕ). get_or costs k 0 ≡ cost (neighbour centre d k)) z e
+
 -- one cost more
 pub costs_more : (cost : ℕ → ℕ) (costs : List ℕ) (k new : ℕ) → length costs ≡ 9 → k < 9 → ((j : ℕ) → j < k → get_or costs j 0 ≡ cost j) → new ≡ cost k
     → (j : ℕ) → j < k + 1 → get_or (set costs k new) j 0 ≡ cost j

@@ -40,7 +40,7 @@ sum_below-plus (suc n) f g =
     ap (λ k. k + (f n + g n)) (sum_below-plus n f g)
     ∙ (let z : sum_below n f + sum_below n g + (f n + g n) ≡ (sum_below n f + f n) + (sum_below n g + g n) = omega arith in z)
 
-sum_below-head : (n : ℕ) (f : ℕ → ℕ) → sum_below (suc n) f ≡ f 0 + sum_below n (λ k. f (suc k))
+pub sum_below-head : (n : ℕ) (f : ℕ → ℕ) → sum_below (suc n) f ≡ f 0 + sum_below n (λ k. f (suc k))
 unfolding sum_below
 sum_below-head zero f = let z : 0 + f 0 ≡ f 0 + 0 = omega arith in z
 sum_below-head (suc n) f =

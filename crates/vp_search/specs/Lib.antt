@@ -6,4 +6,6 @@ pub mod Least
 pub mod FirstLeast
 pub mod Refined
 pub mod Window
+pub mod Bounds
 pub mod Predicted
+pub mod Summed

@@ -25,9 +25,6 @@ pub(crate) fn sad_within(block: &[u8], window: &[u8], at: usize, stride: usize, 
     ensures bound { result ≤ 16 * 16 * 255 }
 {
     let first = four_rows(block, window, 0, 16, at, stride);
-    if first > limit {
-        return first;
-    }
     let second = first + four_rows(block, window, 4 * 16, 16, at + 4 * stride, stride);
     if second > limit {
         return second;

@@ -10,6 +10,7 @@ mod outward;
 mod refinement;
 mod search;
 mod squares;
+mod sums;
 mod vector;
 mod window;
 
@@ -17,7 +18,7 @@ pub use block::{cut_block, macroblock};
 pub use difference::sad16;
 pub use laws::{least_vector_is_one, refined_vector_is_one, whole_vectors_are_predicted};
 pub use least::first_least;
-pub use refinement::{refine, refine_block};
+pub use refinement::{refine, refine_block, refine_found};
 pub use search::{full_search, search_block};
 pub use squares::sse;
 pub use vector::{Found, QuarterVector, Refined, WholeVector, quarters};

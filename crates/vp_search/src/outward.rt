@@ -1,13 +1,18 @@
-//! The best vector of a window. Rows are searched from the centre outwards; the result does not depend on the order.
+//! The best vector of a window. Rows are searched from the centre outwards; the result does not depend on the order. A
+//! vector whose bound is above the best known cost is skipped: it is neither the best nor a tie.
 
 ghost use Rattle.std.specs.Prelude.{◌≡◌, ℕ, ◌+◌, ◌*◌, ◌<◌, ◌≤◌, ◌⊎◌, length, slice_index};
 ghost use Rattle.vp_search.specs.Vectors.{IsNear};
 ghost use Rattle.vp_search.specs.Least.{IsLeast, IsNoWorse};
 ghost use Rattle.vp_search.specs.Window.{vector_at, window_cost, IsFoundInWindow};
+ghost use Rattle.vp_search.specs.Bounds.{IsSummed, IsBound};
+ghost use Rattle.vp_search.specs.Summed.{IsSummedSearch};
 
 use crate::difference::sad_within;
+use crate::sums::{SquareSums, block_sums, next_within};
 use crate::vector::{Found, vector_at, vector_length};
 use crate::window::WINDOW_WIDTH;
+use std::simd::prelude::*;
 
 /// The better of a known vector and the one at row `i` and column `j`.
 fn consider(block: &[u8], window: &[u8], range: u8, best: Found, i: usize, j: usize) -> Found
@@ -64,30 +69,143 @@ fn lesser(old: Found, new: Found) -> Found
     }
 }
 
+/// A row and a column of a window; of eight places in a row, the first column.
+#[derive(Clone, Copy)]
+struct Spot {
+    row: usize,
+    column: usize,
+}
+
+/// The better of a known vector and the one at `place`, whose cost is at least `bound`, if it is within the range.
+fn consider_bounded(
+    block: &[u8],
+    window: &[u8],
+    range: u8,
+    best: Found,
+    place: Spot,
+    bound: u32,
+) -> Found
+    requires block { 256 ≤ length block.now }
+    requires window { (2 * range + 16) * WINDOW_WIDTH ≤ length window.now }
+    requires range { range ≤ 64 }
+    requires row { place.row ≤ 2 * range }
+    requires bound { place.column ≤ 2 * range → bound ≤ window_cost block.now window.now range
+        (vector_at range place.row place.column) }
+    requires best { IsFoundInWindow range (window_cost block.now window.now range) best }
+    ensures kept { IsFoundInWindow range (window_cost block.now window.now range) result }
+    ensures old { IsNoWorse result.cost result.vector best.cost best.vector }
+    ensures here { place.column ≤ 2 * range → IsNoWorse result.cost result.vector
+        (window_cost block.now window.now range (vector_at range place.row place.column))
+        (vector_at range place.row place.column) }
+{
+    if place.column > 2 * usize::from(range) || bound > best.cost {
+        return best;
+    }
+    consider(block, window, range, best, place.row, place.column)
+}
+
+/// The best of a known vector and eight of a row, whose costs are at least `bounds`.
+fn consider_each(
+    block: &[u8],
+    window: &[u8],
+    range: u8,
+    best: Found,
+    spot: Spot,
+    bounds: [u16; 8],
+) -> Found
+    requires block { 256 ≤ length block.now }
+    requires window { (2 * range + 16) * WINDOW_WIDTH ≤ length window.now }
+    requires range { range ≤ 64 }
+    requires row { spot.row ≤ 2 * range }
+    requires column { spot.column ≤ 2 * range }
+    requires bounds { IsBound block.now window.now range spot.row spot.column bounds }
+    requires best { IsFoundInWindow range (window_cost block.now window.now range) best }
+    ensures kept { IsFoundInWindow range (window_cost block.now window.now range) result }
+    ensures old { IsNoWorse result.cost result.vector best.cost best.vector }
+    ensures here { (t : ℕ) → t < 8 → spot.column + t ≤ 2 * range → IsNoWorse result.cost result.vector
+        (window_cost block.now window.now range (vector_at range spot.row (spot.column + t)))
+        (vector_at range spot.row (spot.column + t)) }
+{
+    let mut found = best;
+    for t in 0..8 {
+        let place = Spot {
+            row: spot.row,
+            column: spot.column + t,
+        };
+        found = consider_bounded(block, window, range, found, place, u32::from(bounds[t]));
+    }
+    found
+}
+
+/// The best of a known vector and eight of a row, whose costs are at least `bounds`, if the first is within the range.
+fn consider_eight(
+    block: &[u8],
+    window: &[u8],
+    range: u8,
+    best: Found,
+    spot: Spot,
+    bounds: u16x8,
+) -> Found
+    requires block { 256 ≤ length block.now }
+    requires window { (2 * range + 16) * WINDOW_WIDTH ≤ length window.now }
+    requires range { range ≤ 64 }
+    requires row { spot.row ≤ 2 * range }
+    requires bounds { IsBound block.now window.now range spot.row spot.column bounds }
+    requires best { IsFoundInWindow range (window_cost block.now window.now range) best }
+    ensures kept { IsFoundInWindow range (window_cost block.now window.now range) result }
+    ensures old { IsNoWorse result.cost result.vector best.cost best.vector }
+    ensures here { (t : ℕ) → t < 8 → spot.column + t ≤ 2 * range → IsNoWorse result.cost result.vector
+        (window_cost block.now window.now range (vector_at range spot.row (spot.column + t)))
+        (vector_at range spot.row (spot.column + t)) }
+{
+    if spot.column > 2 * usize::from(range) {
+        return best;
+    }
+    consider_each(block, window, range, best, spot, bounds.to_array())
+}
+
 /// The best of a known vector and those of row `i`.
-fn consider_row(block: &[u8], window: &[u8], range: u8, best: Found, i: usize) -> Found
+fn consider_row(
+    block: &[u8],
+    window: &[u8],
+    sums: SquareSums,
+    range: u8,
+    best: Found,
+    i: usize,
+) -> Found
     requires block { 256 ≤ length block.now }
     requires window { (2 * range + 16) * WINDOW_WIDTH ≤ length window.now }
     requires range { range ≤ 64 }
     requires i { i ≤ 2 * range }
+    requires sums { IsSummedSearch block.now window.now range sums }
     requires best { IsFoundInWindow range (window_cost block.now window.now range) best }
     ensures kept { IsFoundInWindow range (window_cost block.now window.now range) result }
     ensures old { IsNoWorse result.cost result.vector best.cost best.vector }
     ensures here { (j : ℕ) → j ≤ 2 * range → IsNoWorse result.cost result.vector
         (window_cost block.now window.now range (vector_at range i j)) (vector_at range i j) }
 {
+    let groups = usize::from(range) / 4 + 1;
     let mut found = best;
-    for j in 0..2 * usize::from(range) + 1 {
-        found = consider(block, window, range, found, i, j);
+    let mut g = 0;
+    while g < groups {
+        let (next, bounds) = next_within(sums, i * WINDOW_WIDTH, g, groups, found.cost);
+        let spot = Spot {
+            row: i,
+            column: 8 * next,
+        };
+        found = consider_eight(block, window, range, found, spot, bounds);
+        g = next + 1;
     }
     found
 }
 
-/// The best vector of a window.
-pub(crate) fn search_outwards(block: &[u8], window: &[u8], range: u8) -> Found
+/// The best vector of a window, whose squares have the sums `sums`.
+pub(crate) fn search_outwards(block: &[u8], window: &[u8], sums: &[u16], range: u8) -> Found
     requires block { 256 ≤ length block.now }
     requires window { (2 * range + 16) * WINDOW_WIDTH ≤ length window.now }
+    requires sums { (2 * range + 16) * WINDOW_WIDTH ≤ length sums.now }
     requires range { range ≤ 64 }
+    requires summed { IsSummed window.now sums.now range }
     ensures cost { result.cost ≡ window_cost block.now window.now range result.vector }
     ensures least { IsLeast range (window_cost block.now window.now range) result.vector }
     ensures bytes { (k : ℕ) → slice_index window.now k ≤ 255 }
@@ -101,10 +219,21 @@ pub(crate) fn search_outwards(block: &[u8], window: &[u8], range: u8) -> Found
         WINDOW_WIDTH,
         u32::MAX,
     );
-    let mut best = consider_row(block, window, range, Found { vector, cost }, middle);
+    let squares = SquareSums {
+        block: block_sums(block),
+        window: sums,
+    };
+    let mut best = consider_row(
+        block,
+        window,
+        squares,
+        range,
+        Found { vector, cost },
+        middle,
+    );
     for d in 0..middle {
-        best = consider_row(block, window, range, best, middle - 1 - d);
-        best = consider_row(block, window, range, best, middle + 1 + d);
+        best = consider_row(block, window, squares, range, best, middle - 1 - d);
+        best = consider_row(block, window, squares, range, best, middle + 1 + d);
     }
     best
 }

@@ -9,7 +9,7 @@ ghost use Rattle.vp_search.specs.Refined.{candidates_around, IsBestOf, IsRefined
 use crate::block::macroblock;
 use crate::difference::sad16;
 use crate::least::first_least;
-use crate::vector::{QuarterVector, Refined, WholeVector, quarters};
+use crate::vector::{Found, QuarterVector, Refined, WholeVector, quarters};
 use vp_base::{Place, Plane};
 use vp_inter::{luma_vector, predict_block16};
 
@@ -50,35 +50,61 @@ pub fn refine_block(
     ensures row { unsigned_abs (result.vector.row -ℤ pos 4 *ℤ centre.row) ≤ 3 }
     ensures column { unsigned_abs (result.vector.column -ℤ pos 4 *ℤ centre.column) ≤ 3 }
 {
-    let middle = quarters(centre);
+    let cost = cost_of(block, reference, place, quarters(centre));
+    let found = Found {
+        vector: centre,
+        cost,
+    };
+    refine_found(block, reference, place, found)
+}
+
+/// Refines a vector as `refine_block` does, with its known cost, as a search returns them.
+pub fn refine_found(block: &[u8; 256], reference: &Plane, place: Place, found: Found) -> Refined
+    requires columns { 16 * place.column ≤ 16384 }
+    requires rows { 16 * place.row ≤ 16384 }
+    requires wide { 0 < reference.now.width }
+    requires high { 0 < reference.now.height }
+    requires near { IsNear 16384 found.vector }
+    requires cost { found.cost ≡ quarter_cost (block16 block.now) reference.now place (quarters found.vector) }
+    ensures cost { result.cost ≡ quarter_cost (block16 block.now) reference.now place result.vector }
+    ensures refined { IsRefined (quarter_cost (block16 block.now) reference.now place) found.vector result.vector }
+    ensures row { unsigned_abs (result.vector.row -ℤ pos 4 *ℤ found.vector.row) ≤ 3 }
+    ensures column { unsigned_abs (result.vector.column -ℤ pos 4 *ℤ found.vector.column) ≤ 3 }
+{
+    let middle = Refined {
+        vector: quarters(found.vector),
+        cost: found.cost,
+    };
     let halfway = best_of(block, reference, place, middle, 2);
-    best_of(block, reference, place, halfway.vector, 1)
+    best_of(block, reference, place, halfway, 1)
 }
 
 /// The best of `centre` and its eight neighbours at a distance. `centre` is a vector of whole pixels, at most 16,384
-/// in each direction, or at most two quarter pixels from one.
+/// in each direction, or at most two quarter pixels from one, with its cost.
 fn best_of(
     block: &[u8; 256],
     reference: &Plane,
     place: Place,
-    centre: QuarterVector,
+    centre: Refined,
     distance: i32,
 ) -> Refined
     requires columns { 16 * place.column ≤ 16384 }
     requires rows { 16 * place.row ≤ 16384 }
     requires wide { 0 < reference.now.width }
     requires high { 0 < reference.now.height }
-    requires row { unsigned_abs centre.row ≤ 4 * 16384 + 2 }
-    requires column { unsigned_abs centre.column ≤ 4 * 16384 + 2 }
+    requires cost { centre.cost ≡ quarter_cost (block16 block.now) reference.now place centre.vector }
+    requires row { unsigned_abs centre.vector.row ≤ 4 * 16384 + 2 }
+    requires column { unsigned_abs centre.vector.column ≤ 4 * 16384 + 2 }
     requires distance { unsigned_abs distance ≤ 2 }
     ensures cost { result.cost ≡ quarter_cost (block16 block.now) reference.now place result.vector }
-    ensures best { IsBestOf (quarter_cost (block16 block.now) reference.now place) centre distance result.vector }
-    ensures row { unsigned_abs (result.vector.row -ℤ centre.row) ≤ unsigned_abs distance }
-    ensures column { unsigned_abs (result.vector.column -ℤ centre.column) ≤ unsigned_abs distance }
+    ensures best { IsBestOf (quarter_cost
+        (block16 block.now) reference.now place) centre.vector distance result.vector }
+    ensures row { unsigned_abs (result.vector.row -ℤ centre.vector.row) ≤ unsigned_abs distance }
+    ensures column { unsigned_abs (result.vector.column -ℤ centre.vector.column) ≤ unsigned_abs distance }
 {
-    let vectors = around(centre, distance);
-    let mut costs = [0; 9];
-    for k in 0..9 {
+    let vectors = around(centre.vector, distance);
+    let mut costs = [centre.cost; 9];
+    for k in 1..9 {
         costs[k] = cost_of(block, reference, place, vectors[k]);
     }
     let best = first_least(&costs);

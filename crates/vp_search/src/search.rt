@@ -8,6 +8,7 @@ ghost use Rattle.vp_search.specs.Least.{IsLeast};
 
 use crate::block::macroblock;
 use crate::outward::search_outwards;
+use crate::sums::fill_sums;
 use crate::vector::Found;
 use crate::window::{GREATEST_RANGE, WINDOW_WIDTH, cut_window};
 use vp_base::{Place, Plane};
@@ -15,11 +16,11 @@ use vp_base::{Place, Plane};
 /// The greatest range for which the small window is used; less memory has to be cleared.
 const SMALL_RANGE: u8 = 16;
 
-/// The number of pixels in the window of a search of the small range.
-const SMALL_WINDOW: usize = (16 + 2 * SMALL_RANGE as usize) * WINDOW_WIDTH;
+/// The number of pixels in the window of a search of the small range, and eight more, as pixels are loaded by eight.
+const SMALL_WINDOW: usize = (16 + 2 * SMALL_RANGE as usize) * WINDOW_WIDTH + 8;
 
-/// The number of pixels in the window of a search of the greatest range.
-const WHOLE_WINDOW: usize = (16 + 2 * GREATEST_RANGE) * WINDOW_WIDTH;
+/// The number of pixels in the window of a search of the greatest range, and eight more.
+const WHOLE_WINDOW: usize = (16 + 2 * GREATEST_RANGE) * WINDOW_WIDTH + 8;
 
 /// Searches all vectors of whole pixels whose row and column are from `-range` to `range`. Returns the one with the
 /// least sum of absolute differences for the source macroblock at `place`. Of equal costs the shortest vector is
@@ -66,7 +67,7 @@ fn search_in<const AREA: usize>(
     range: u8,
 ) -> Found
     requires range { range ≤ 64 }
-    requires room { (2 * range + 16) * WINDOW_WIDTH ≤ AREA }
+    requires room { (2 * range + 16) * WINDOW_WIDTH + 8 ≤ AREA }
     requires small { AREA ≤ WHOLE_WINDOW }
     requires columns { 16 * place.column ≤ 16384 }
     requires rows { 16 * place.row ≤ 16384 }
@@ -78,5 +79,7 @@ fn search_in<const AREA: usize>(
 {
     let mut window = [0; AREA];
     cut_window(&mut window, reference, place, range);
-    search_outwards(block, &window, range)
+    let mut sums = [0; AREA];
+    fill_sums(&mut sums, &window, range);
+    search_outwards(block, &window, &sums, range)
 }

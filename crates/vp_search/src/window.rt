@@ -44,12 +44,31 @@ fn cut_row(window: &mut [u8], at: usize, side: usize, line: &[u8], left: i32)
         ≡ slice_index line.now (nearest (length line.now) (left +ℤ pos c)) }
     ensures before { (k : ℕ) → k < at → slice_index window.new k ≡ slice_index window.old k }
 {
-    if left >= 0 && left as usize + side <= line.len() {
-        let start = left as usize;
-        window[at..at + side].copy_from_slice(&line[start..start + side]);
-    } else {
-        for c in 0..side {
-            window[at + c] = line[nearest(left + c as i32, line.len())];
-        }
+    let outside = (left.min(0).unsigned_abs() as usize).min(side);
+    let start = (left.max(0) as usize).min(line.len());
+    let inside = (line.len() - start).min(side - outside);
+    put_same(window, at, outside, line[0]);
+    put_part(window, at + outside, &line[start..start + inside]);
+    let last = line[line.len() - 1];
+    put_same(window, at + outside + inside, side - outside - inside, last);
+}
+
+/// Writes a pixel `count` times, from index `at` of the window on.
+fn put_same(window: &mut [u8], at: usize, count: usize, pixel: u8)
+    requires { at + count ≤ length window.old }
+    ensures here { (c : ℕ) → c < count → slice_index window.new (at + c) ≡ pixel }
+    ensures before { (k : ℕ) → k < at → slice_index window.new k ≡ slice_index window.old k }
+{
+    for c in 0..count {
+        window[at + c] = pixel;
     }
+}
+
+/// Writes pixels from index `at` of the window on.
+fn put_part(window: &mut [u8], at: usize, part: &[u8])
+    requires { at + length part.now ≤ length window.old }
+    ensures here { (c : ℕ) → c < length part.now → slice_index window.new (at + c) ≡ slice_index part.now c }
+    ensures before { (k : ℕ) → k < at → slice_index window.new k ≡ slice_index window.old k }
+{
+    window[at..at + part.len()].copy_from_slice(part);
 }

@@ -2,9 +2,6 @@ use Rattle.std.proofs.Common.{arith}
 use Rattle.vp_search.proofs.RowLemmas.{by_fours}
 use Rattle.vp_search.proofs.difference.sad_within.Goals as goal
 
-pub returns-then-first-limit-clause-over : goal.returns-then-first-limit-clause-over
-returns-then-first-limit-clause-over c h = let e = by_fours c.args.block.now c.args.window.now c.args.at c.args.stride in omega (arith, c.four_rows-first.ensures.value)
-
 pub returns-then-second-limit-clause-over : goal.returns-then-second-limit-clause-over
 returns-then-second-limit-clause-over c h = let e = by_fours c.args.block.now c.args.window.now c.args.at c.args.stride in omega (arith, c.four_rows-first.ensures.value, c.four_rows.ensures.value)
 

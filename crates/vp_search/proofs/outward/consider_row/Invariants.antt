@@ -1,11 +1,15 @@
-use Rattle.std.proofs.Common.{ℕ, ◌<◌}
+use Rattle.std.proofs.Common.{ℕ, ◌-◌, ◌*◌, ◌<◌, ◌≤◌}
 use Rattle.vp_search.specs.Least.{IsNoWorse}
 use Rattle.vp_search.specs.Window.{IsFoundInWindow, window_cost, vector_at}
 use Rattle.vp_search.proofs.outward.consider_row.Given as goal
 
-abbrev pub invariant-loop-j : goal.invariant-loop-j
-invariant-loop-j l = record {
+abbrev pub invariant-loop-g : goal.invariant-loop-g
+invariant-loop-g l = record {
   kept : IsFoundInWindow l.range (window_cost l.block l.window l.range) l.found;
   old : IsNoWorse l.found.cost l.found.vector l.fn.best.cost l.fn.best.vector;
-  here : (j : ℕ) → j < l.j → IsNoWorse l.found.cost l.found.vector (window_cost l.block l.window l.range (vector_at l.range l.i j)) (vector_at l.range l.i j);
+  here : (j : ℕ) → j < 8 * l.g → j ≤ 2 * l.range
+      → IsNoWorse l.found.cost l.found.vector (window_cost l.block l.window l.range (vector_at l.range l.i j)) (vector_at l.range l.i j);
 }
+
+abbrev pub decreases-loop-g : goal.decreases-loop-g
+decreases-loop-g l = l.groups - l.g

@@ -4,19 +4,19 @@ use Rattle.vp_search.specs.declared.vector.QuarterVector.{QuarterVector}
 use Rattle.vp_search.specs.Differences.{block16}
 use Rattle.vp_search.specs.Blocks.{quarter_cost}
 use Rattle.vp_search.specs.Refined.{IsBestOf}
-use Rattle.vp_search.proofs.refinement.refine_block.Goals as goal
+use Rattle.vp_search.proofs.refinement.refine_found.Goals as goal
 
 pub best_of-requires-clause-row : goal.best_of-requires-clause-row
 best_of-requires-clause-row c =
     let near = c.requires.near.0 in
-    let e : c.quarters-middle.result.row ≡ pos 4 *ℤ c.args.centre.row = ap (λ (v : QuarterVector). v.row) c.quarters-middle.ensures in
+    let e : c.quarters.result.row ≡ pos 4 *ℤ c.args.found.vector.row = ap (λ (v : QuarterVector). v.row) c.quarters.ensures in
     let b = c.best_of-halfway.ensures.row in
     omega (arith, ints)
 
 pub best_of-requires-clause-column : goal.best_of-requires-clause-column
 best_of-requires-clause-column c =
     let near = c.requires.near.1 in
-    let e : c.quarters-middle.result.column ≡ pos 4 *ℤ c.args.centre.column = ap (λ (v : QuarterVector). v.column) c.quarters-middle.ensures in
+    let e : c.quarters.result.column ≡ pos 4 *ℤ c.args.found.vector.column = ap (λ (v : QuarterVector). v.column) c.quarters.ensures in
     let b = c.best_of-halfway.ensures.column in
     omega (arith, ints)
 
@@ -26,6 +26,6 @@ returns-clause-refined c =
     record {
       halfway = halfway;
       first = subst (λ (v : QuarterVector). IsBestOf (quarter_cost (block16 c.args.block.now) c.args.reference.now c.args.place) v (pos 2) halfway)
-          c.quarters-middle.ensures c.best_of-halfway.ensures.best;
+          c.quarters.ensures c.best_of-halfway.ensures.best;
       second = c.best_of.ensures.best;
     }

@@ -1,0 +1,111 @@
+-- Sums of pixels in lanes of sixteen bits.
+use Rattle.std.proofs.Common.{◌≡◌, ℕ, zero, suc, ◌+◌, ◌-◌, ◌*◌, ◌%◌, ◌<◌, ◌≤◌, Bool, true, false, not, cond, min, List, [], ◌∷◌, map, length, get_or, ltb, leb, eqb, refl, sym, ap, subst, ◌∙◌, arith, inl, inr}
+use Rattle.std.proofs.lemmas.Bool.{cases_lt}
+use Rattle.std.specs.Int.{abs_diff}
+use Rattle.std.proofs.lemmas.Bool.Decides.{nat_tests}
+use lib.Lanes.{top, mask_l}
+use Rattle.vp_search.specs.Sums.{sum_below}
+use Rattle.vp_search.specs.Bounds.{capped, column_sum, row_sum, square_sum}
+use Rattle.vp_search.proofs.SumLemmas.{sum_below-same, sum_below-add, sum_below-four, sum_below-head, sum_below-more, sum_below-bound}
+
+-- ---- what one lane computes
+pub sum16_is : (a b : ℕ) → a < 65536 → b < 65536 → (a + cond (top 15 (cond (ltb b (65535 - a)) 65535 0)) b (65535 - a)) % 65536 ≡ min (a + b) 65535
+sum16_is a b p q = grind arith
+
+pub apart16_is : (x y : ℕ) → x < 65536 → y < 65536
+    → (cond (top 15 (cond (ltb x y) 65535 0)) y x + (65536 - cond (top 15 (cond (ltb x y) 65535 0)) x y)) % 65536 ≡ abs_diff x y
+apart16_is x y p q = grind arith
+
+pub less16_is : (a b : ℕ) → a < 65536 → b < 65536 → (cond (top 15 (cond (ltb a b) 65535 0)) b a + (65536 - b)) % 65536 ≡ a - b
+less16_is a b p q = grind arith
+
+-- ---- sums of four and of eight
+pub four_are : (f : ℕ → ℕ) (a b c d p q r : ℕ) → a ≡ f 0 → b ≡ f 1 → c ≡ f 2 → d ≡ f 3 → p ≡ capped (a + b) → q ≡ capped (c + d) → r ≡ capped (p + q)
+    → r ≡ capped (sum_below 4 f)
+four_are f a b c d p q r ea eb ec ed ep eq er = let s = sum_below-four f in omega arith
+
+pub eight_are : (f g h : ℕ → ℕ) (p q r : ℕ) → ((k : ℕ) → k < 4 → g k ≡ f k) → ((k : ℕ) → k < 4 → h k ≡ f (4 + k))
+    → p ≡ capped (sum_below 4 g) → q ≡ capped (sum_below 4 h) → r ≡ capped (p + q) → r ≡ capped (sum_below 8 f)
+eight_are f g h p q r eg eh ep eq er =
+    let s = sum_below-add 4 4 f in
+    let t = sum_below-same 4 g f eg in
+    let u = sum_below-same 4 h (λ k. f (4 + k)) eh in
+    omega arith
+
+-- ---- eight numbers more in a list
+pub eight_more : (P : ℕ → ℕ → Type 0) (old new : List ℕ) (at g : ℕ) → ((x : ℕ) → x < 8 * g → P x (get_or old (at + x) 0))
+    → ((k : ℕ) → k < at + 8 * g → get_or new k 0 ≡ get_or old k 0)
+    → ((j : ℕ) → j < 8 → P (8 * g + j) (get_or new (at + 8 * g + j) 0))
+    → (x : ℕ) → x < 8 * (g + 1) → P x (get_or new (at + x) 0)
+eight_more P old new at g done same here x h =
+    elim (cases_lt x (8 * g)) [
+      | inl less ↦ (let e = same (at + x) (omega arith) in subst (λ (k : ℕ). P x k) (sym e) (done x less))
+      | inr more ↦
+          let j : ℕ = x - 8 * g in
+          let e : 8 * g + j ≡ x = omega arith in
+          let f : at + 8 * g + j ≡ at + x = omega arith in
+          let p : P (8 * g + j) (get_or new (at + 8 * g + j) 0) = here j (omega arith) in
+          subst (λ (k : ℕ). P x (get_or new k 0)) f (subst (λ (k : ℕ). P k (get_or new (at + 8 * g + j) 0)) e p)
+    ]
+
+-- the same from the start of a list
+pub eight_first : (P : ℕ → ℕ → Type 0) (old new : List ℕ) (g : ℕ) → ((x : ℕ) → x < 8 * g → P x (get_or old x 0))
+    → ((k : ℕ) → k < 8 * g → get_or new k 0 ≡ get_or old k 0)
+    → ((j : ℕ) → j < 8 → P (8 * g + j) (get_or new (8 * g + j) 0))
+    → (x : ℕ) → x < 8 * (g + 1) → P x (get_or new x 0)
+eight_first P old new g done same here x h =
+    elim (cases_lt x (8 * g)) [
+      | inl less ↦ subst (λ (k : ℕ). P x k) (sym (same x less)) (done x less)
+      | inr more ↦
+          let j : ℕ = x - 8 * g in
+          let e : 8 * g + j ≡ x = omega arith in
+          subst (λ (k : ℕ). P k (get_or new k 0)) e (here j (omega arith))
+    ]
+
+-- eight neighbouring sums of columns are the sum of a square
+pub row_is_square : (columns pixels : List ℕ) (at stride n x : ℕ) → ((k : ℕ) → k < n → get_or columns k 0 ≡ column_sum pixels (at + k) stride) → x + 8 ≤ n
+    → row_sum columns x ≡ square_sum pixels (at + x) stride
+unfolding row_sum square_sum
+row_is_square columns pixels at stride n x all room =
+    ap capped (sum_below-same 8 (λ c. get_or columns (x + c) 0) (λ c. column_sum pixels (at + x + c) stride)
+    (λ c h. all (x + c) (omega arith) ∙ (let e : at + (x + c) ≡ at + x + c = omega arith in ap (λ (k : ℕ). column_sum pixels k stride) e)))
+
+-- ---- masks
+bit_none : (b : Bool) (n : ℕ) → cond b 1 0 + 2 * n ≡ 0 → (b ≡ false) × (n ≡ 0)
+bit_none true n e = absurd (omega arith)
+bit_none false n e = (refl, omega arith)
+
+pub mask_none : (p : ℕ → Bool) (xs : List ℕ) → mask_l (map p xs) ≡ 0 → (j : ℕ) → j < length xs → p (get_or xs j 0) ≡ false
+mask_none p [] e j h = absurd (omega arith)
+mask_none p (x ∷ xs) e zero h = (bit_none (p x) (mask_l (map p xs)) e).0
+mask_none p (x ∷ xs) e (suc j) h = mask_none p xs (bit_none (p x) (mask_l (map p xs)) e).1 j (omega arith)
+
+pub zero_from : (m : ℕ) → not (eqb m 0) ≡ false → m ≡ 0
+zero_from m e = grind (arith, nat_tests)
+
+pub above_from : (x y limit : ℕ) → leb x y ≡ false → y ≡ min limit 65535 → x < 65536 → limit < x
+above_from x y limit e m f = grind (arith, nat_tests)
+
+-- ---- the bound of a place
+pub capped_sums : (a b c d w x y z p q r : ℕ) → a ≡ w → b ≡ x → c ≡ y → d ≡ z → p ≡ capped (a + b) → q ≡ capped (c + d) → r ≡ capped (p + q)
+    → r ≡ capped (capped (w + x) + capped (y + z))
+capped_sums a b c d w x y z p q r ea eb ec ed ep eq er = omega arith
+
+-- ---- the sum of a column one row further
+slid_number : (old above below new s t u : ℕ) → old ≡ capped s → s + below ≡ above + t → s ≤ 2040 → below < 256 → u ≡ t → new ≡ capped (old + below) - above → new ≡ capped u
+slid_number old above below new s t u eo e small byte eu en = omega arith
+
+pub slid : (pixels : List ℕ) (at stride old above below new : ℕ) → ((k : ℕ) → get_or pixels k 0 < 256) → old ≡ column_sum pixels at stride
+    → above ≡ get_or pixels at 0 → below ≡ get_or pixels (at + 8 * stride) 0 → new ≡ capped (old + below) - above → new ≡ column_sum pixels (at + stride) stride
+unfolding column_sum
+slid pixels at stride old above below new bytes eo ea eb en =
+    let f : ℕ → ℕ = λ r. get_or pixels (at + r * stride) 0 in
+    let g : ℕ → ℕ = λ r. get_or pixels (at + stride + r * stride) 0 in
+    let moved : sum_below 8 g ≡ sum_below 8 (λ r. f (suc r)) = sum_below-same 8 g (λ r. f (suc r)) (λ r h. let e : at + stride + r * stride ≡ at + suc r * stride = omega arith in ap (λ (i : ℕ). get_or pixels i 0) e) in
+    let head : sum_below 9 f ≡ f 0 + sum_below 8 (λ r. f (suc r)) = sum_below-head 8 f in
+    let last : sum_below 9 f ≡ sum_below 8 f + f 8 = sum_below-more 8 f in
+    let first : f 0 ≡ above = (let e : at + 0 * stride ≡ at = omega arith in ap (λ (i : ℕ). get_or pixels i 0) e) ∙ sym ea in
+    let end : f 8 ≡ below = sym eb in
+    let small : sum_below 8 f ≤ 8 * 255 = sum_below-bound 8 255 f (λ k h. let b = bytes (at + k * stride) in omega arith) in
+    let byte = bytes (at + 8 * stride) in
+    slid_number old above below new (sum_below 8 f) (sum_below 8 (λ r. f (suc r))) (sum_below 8 g) eo (omega arith) small (omega arith) moved en

@@ -1,0 +1,16 @@
+use Rattle.std.proofs.Common.{◌∙◌, Fits}
+use Rattle.vp_lanes.proofs.Shape.{lane_fits, lanes_of, mapped, zipped, selected, lane_is}
+use mir.Syntax.{w16, lt, mask, unsigned, wrap_sub}
+use lib.Lanes.{top}
+use borrow.Rule.Simd.Lanes.{act2}
+use borrow.Table.Row.{s_int}
+use Rattle.vp_search.proofs.SumLanes.{apart16_is}
+use Rattle.vp_search.proofs.sums.apart.Goals as goal
+
+pub returns : goal.returns
+returns c j h =
+    let x = lanes_of 0 8 c.args.a c.fits-a.0 in
+    let y = lanes_of 0 8 c.args.b c.fits-b.0 in
+    let t = mapped (top 15) (zipped (act2 (mask (lt unsigned)) (s_int w16) (s_int w16) (s_int w16)) x y) in
+    lane_is 0 (zipped (act2 wrap_sub (s_int w16) (s_int w16) (s_int w16)) (selected t y x) (selected t x y)) j h
+    ∙ apart16_is _ _ (lane_fits (Fits w16) 0 8 c.args.a c.fits-a.0 c.fits-a.1 j h).fits (lane_fits (Fits w16) 0 8 c.args.b c.fits-b.0 c.fits-b.1 j h).fits

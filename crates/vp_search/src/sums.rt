@@ -1,0 +1,261 @@
+//! Sums of the pixels of 8x8 squares, in lanes. They bound the costs of vectors from below (successive elimination, Li
+//! and Salari 1995): the difference of two sums is at most the sum of differences.
+
+ghost use Rattle.std.specs.Prelude.{◌≡◌, ℕ, ◌+◌, ◌-◌, ◌*◌, ◌<◌, ◌≤◌, [], ◌∷◌, length, slice_index, false};
+ghost use Rattle.std.specs.Int.{abs_diff};
+ghost use Rattle.vp_search.specs.Sums.{sum_below};
+ghost use Rattle.vp_search.specs.Bounds.{capped, column_sum, row_sum, square_sum, block_sums, bound_of, IsSummed};
+
+use crate::window::WINDOW_WIDTH;
+use std::simd::prelude::*;
+
+/// The number of column sums of a row, and eight more.
+const COLUMNS: usize = WINDOW_WIDTH + 8;
+
+/// The sums of the squares of a block and of a window.
+#[derive(Clone, Copy)]
+pub(crate) struct SquareSums<'a> {
+    /// Those of the four squares of the block.
+    pub(crate) block: [u16; 4],
+    /// Those of the squares at each place of the window.
+    pub(crate) window: &'a [u16],
+}
+
+/// Loads eight bytes from index `at` on.
+fn load_bytes(s: &[u8], at: usize) -> u16x8
+    requires { at + 8 ≤ length s.now }
+    ensures { (j : ℕ) → j < 8 → slice_index result j ≡ slice_index s.now (at + j) }
+{
+    u8x8::from_slice(&s[at..]).cast::<u16>()
+}
+
+/// Loads eight numbers from index `at` on.
+fn load_sums(s: &[u16], at: usize) -> u16x8
+    requires { at + 8 ≤ length s.now }
+    ensures { (j : ℕ) → j < 8 → slice_index result j ≡ slice_index s.now (at + j) }
+{
+    u16x8::from_slice(&s[at..])
+}
+
+/// Stores eight numbers from index `at` on.
+fn store_sums(s: &mut [u16], at: usize, lanes: u16x8)
+    requires { at + 8 ≤ length s.old }
+    ensures here { (j : ℕ) → j < 8 → slice_index s.new (at + j) ≡ slice_index lanes j }
+    ensures before { (k : ℕ) → k < at → slice_index s.new k ≡ slice_index s.old k }
+    ensures after { (k : ℕ) → at + 8 ≤ k → slice_index s.new k ≡ slice_index s.old k }
+{
+    lanes.copy_to_slice(&mut s[at..]);
+}
+
+/// The sum, lane by lane.
+fn plus(a: u16x8, b: u16x8) -> u16x8
+    ensures { (j : ℕ) → j < 8 → slice_index result j ≡ capped (slice_index a j + slice_index b j) }
+{
+    a.saturating_add(b)
+}
+
+/// The absolute difference, lane by lane.
+fn apart(a: u16x8, b: u16x8) -> u16x8
+    ensures { (j : ℕ) → j < 8 → slice_index result j ≡ abs_diff (slice_index a j) (slice_index b j) }
+{
+    a.abs_diff(b)
+}
+
+/// `a + b - c`, lane by lane.
+fn plus_less(a: u16x8, b: u16x8, c: u16x8) -> u16x8
+    ensures { (j : ℕ) → j < 8 → slice_index result j ≡ capped (slice_index a j + slice_index b j) - slice_index c j }
+{
+    less(plus(a, b), c)
+}
+
+/// `a - b`, or 0 if that is negative, lane by lane.
+fn less(a: u16x8, b: u16x8) -> u16x8
+    ensures { (j : ℕ) → j < 8 → slice_index result j ≡ slice_index a j - slice_index b j }
+{
+    a.saturating_sub(b)
+}
+
+/// The sums of four pixels of each of eight columns.
+fn four_pixels(pixels: &[u8], at: usize, step: usize) -> u16x8
+    requires { at + 3 * step + 8 ≤ length pixels.now }
+    ensures { (j : ℕ) → j < 8 → slice_index result j ≡ capped
+        (sum_below 4 (λ r. slice_index pixels.now (at + j + r * step))) }
+{
+    let first = load_bytes(pixels, at);
+    let second = load_bytes(pixels, at + step);
+    let third = load_bytes(pixels, at + 2 * step);
+    let fourth = load_bytes(pixels, at + 3 * step);
+    plus(plus(first, second), plus(third, fourth))
+}
+
+/// The sums of eight pixels of each of eight columns. The first pixels are at index `at`, each later row `step`
+/// further.
+fn column_sums(pixels: &[u8], at: usize, step: usize) -> u16x8
+    requires { at + 7 * step + 8 ≤ length pixels.now }
+    ensures { (j : ℕ) → j < 8 → slice_index result j ≡ column_sum pixels.now (at + j) step }
+{
+    let upper = four_pixels(pixels, at, step);
+    let lower = four_pixels(pixels, at + 4 * step, step);
+    plus(upper, lower)
+}
+
+/// The sums of four neighbours at each of eight places.
+fn four_columns(columns: &[u16], at: usize) -> u16x8
+    requires { at + 11 ≤ length columns.now }
+    ensures { (j : ℕ) → j < 8 → slice_index result j ≡ capped
+        (sum_below 4 (λ c. slice_index columns.now (at + j + c))) }
+{
+    let first = load_sums(columns, at);
+    let second = load_sums(columns, at + 1);
+    let third = load_sums(columns, at + 2);
+    let fourth = load_sums(columns, at + 3);
+    plus(plus(first, second), plus(third, fourth))
+}
+
+/// The sums of eight neighbours at each of eight places.
+fn row_sums(columns: &[u16], at: usize) -> u16x8
+    requires { at + 15 ≤ length columns.now }
+    ensures { (j : ℕ) → j < 8 → slice_index result j ≡ row_sum columns.now (at + j) }
+{
+    let left = four_columns(columns, at);
+    let right = four_columns(columns, at + 4);
+    plus(left, right)
+}
+
+/// Writes the sums of the columns of eight rows, eight at a time. The first row begins at index `at`, each later one
+/// `step` further.
+fn put_columns(columns: &mut [u16], pixels: &[u8], at: usize, step: usize, groups: usize)
+    requires room { 8 * groups ≤ length columns.old }
+    requires pixels { at + 7 * step + 8 * groups ≤ length pixels.now }
+    ensures { (x : ℕ) → x < 8 * groups → slice_index columns.new x ≡ column_sum pixels.now (at + x) step }
+{
+    for g in 0..groups {
+        store_sums(columns, 8 * g, column_sums(pixels, at + 8 * g, step));
+    }
+}
+
+/// Replaces the sums of the columns of eight rows by those of the eight rows that begin one row further.
+fn slide_columns(columns: &mut [u16], pixels: &[u8], at: usize, step: usize, groups: usize)
+    requires room { 8 * groups ≤ length columns.old }
+    requires pixels { at + 8 * step + 8 * groups ≤ length pixels.now }
+    requires known { (x : ℕ) → x < 8 * groups → slice_index columns.old x ≡ column_sum pixels.now (at + x) step }
+    ensures { (x : ℕ) → x < 8 * groups → slice_index columns.new x ≡ column_sum pixels.now (at + step + x) step }
+{
+    for g in 0..groups {
+        let sums = load_sums(columns, 8 * g);
+        let above = load_bytes(pixels, at + 8 * g);
+        let below = load_bytes(pixels, at + 8 * step + 8 * g);
+        store_sums(columns, 8 * g, plus_less(sums, below, above));
+    }
+}
+
+/// Writes the sums of eight neighbours each to index `at`, eight at a time.
+fn put_squares(sums: &mut [u16], at: usize, columns: &[u16], groups: usize)
+    requires room { at + 8 * groups ≤ length sums.old }
+    requires columns { 8 * groups + 8 ≤ length columns.now }
+    ensures here { (x : ℕ) → x < 8 * groups → slice_index sums.new (at + x) ≡ row_sum columns.now x }
+    ensures before { (k : ℕ) → k < at → slice_index sums.new k ≡ slice_index sums.old k }
+{
+    for g in 0..groups {
+        store_sums(sums, at + 8 * g, row_sums(columns, 8 * g));
+    }
+}
+
+/// Writes the sums of the squares of a window that a search compares.
+pub(crate) fn fill_sums(sums: &mut [u16], window: &[u8], range: u8)
+    requires range { range ≤ 64 }
+    requires room { (2 * range + 16) * WINDOW_WIDTH ≤ length sums.old }
+    requires window { (2 * range + 16) * WINDOW_WIDTH + 8 ≤ length window.now }
+    ensures { IsSummed window.now sums.new range }
+{
+    let groups = usize::from(range) / 4 + 2;
+    let mut columns = [0; COLUMNS];
+    put_columns(&mut columns, window, 0, WINDOW_WIDTH, groups + 1);
+    put_squares(sums, 0, &columns, groups);
+    for y in 0..2 * usize::from(range) + 8 {
+        let at = y * WINDOW_WIDTH;
+        slide_columns(&mut columns, window, at, WINDOW_WIDTH, groups + 1);
+        put_squares(sums, at + WINDOW_WIDTH, &columns, groups);
+    }
+}
+
+/// The sum of the pixels of the square at index `at` of a block.
+fn square_sum(block: &[u8], at: usize) -> u16
+    requires { at + 7 * 16 + 8 ≤ length block.now }
+    ensures { result ≡ square_sum block.now at 16 }
+{
+    let mut columns = [0; 16];
+    store_sums(&mut columns, 0, column_sums(block, at, 16));
+    let mut sums = [0; 8];
+    store_sums(&mut sums, 0, row_sums(&columns, 0));
+    sums[0]
+}
+
+/// The sums of the four squares of a block.
+pub(crate) fn block_sums(block: &[u8]) -> [u16; 4]
+    requires { 256 ≤ length block.now }
+    ensures { result ≡ block_sums block.now }
+{
+    [
+        square_sum(block, 0),
+        square_sum(block, 8),
+        square_sum(block, 8 * 16),
+        square_sum(block, 8 * 16 + 8),
+    ]
+}
+
+/// The differences of a sum and the eight from index `at` on.
+fn gaps(sum: u16, sums: &[u16], at: usize) -> u16x8
+    requires { at + 8 ≤ length sums.now }
+    ensures { (j : ℕ) → j < 8 → slice_index result j ≡ abs_diff sum (slice_index sums.now (at + j)) }
+{
+    apart(u16x8::splat(sum), load_sums(sums, at))
+}
+
+/// The bounds of the eight vectors whose blocks begin at index `at` and after it.
+fn bounds_at(block: [u16; 4], sums: &[u16], at: usize) -> u16x8
+    requires { at + 8 * WINDOW_WIDTH + 16 ≤ length sums.now }
+    ensures { (j : ℕ) → j < 8 → slice_index result j ≡ bound_of block sums.now (at + j) }
+{
+    let [first, second, third, fourth] = block;
+    let below = at + 8 * WINDOW_WIDTH;
+    plus(
+        plus(gaps(first, sums, at), gaps(second, sums, at + 8)),
+        plus(gaps(third, sums, below), gaps(fourth, sums, below + 8)),
+    )
+}
+
+/// Whether a bound is within the limit.
+fn any_within(bounds: u16x8, limit: u32) -> bool
+    ensures { result ≡ false → (j : ℕ) → j < 8 → limit < slice_index bounds j }
+{
+    let most = limit.min(65535) as u16;
+    bounds.simd_le(u16x8::splat(most)).to_bitmask() != 0
+}
+
+/// The first group of eight vectors, from group `start` on, that has a bound within the limit, with its bounds. Returns
+/// `groups`, and any bounds, if there is none. The blocks of the first group begin at index `at` and after it.
+pub(crate) fn next_within(
+    sums: SquareSums,
+    at: usize,
+    start: usize,
+    groups: usize,
+    limit: u32,
+) -> (usize, u16x8)
+    requires room { at + 8 * groups + 8 * WINDOW_WIDTH + 8 ≤ length sums.window.now }
+    requires start { start ≤ groups }
+    ensures later { start ≤ result.0 }
+    ensures bound { result.0 ≤ groups }
+    ensures skipped { (g t : ℕ) → start ≤ g → g < result.0 → t < 8
+        → limit < bound_of sums.entry.block sums.entry.window.now (at + 8 * g + t) }
+    ensures bounds { result.0 < groups → (t : ℕ) → t < 8 → slice_index result.1 t
+        ≡ bound_of sums.entry.block sums.entry.window.now (at + 8 * result.0 + t) }
+{
+    for g in start..groups {
+        let bounds = bounds_at(sums.block, sums.window, at + 8 * g);
+        if any_within(bounds, limit) {
+            return (g, bounds);
+        }
+    }
+    (groups, u16x8::splat(0))
+}
