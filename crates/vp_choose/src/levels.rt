@@ -5,9 +5,8 @@ ghost use Rattle.vp_transform.specs.Fits.{EachWithin};
 ghost use Rattle.vp_intra.specs.Edges.{block as listed};
 ghost use Rattle.vp_choose.specs.Levels.{part, coefficients, quantised_levels};
 
-use vp_quant::quantise;
-use vp_tables::zigzag;
-use vp_transform::fdct;
+use vp_quant::quantise_block;
+use vp_transform::{differences, fdct_short};
 
 /// Returns subblock `k` of a block that is `ACROSS` subblocks wide and high.
 pub(crate) fn part_of<const ACROSS: usize>(block: &[u8], k: usize) -> [u8; 16]
@@ -28,31 +27,23 @@ pub(crate) fn part_of<const ACROSS: usize>(block: &[u8], k: usize) -> [u8; 16]
 
 /// Returns the coefficients of a subblock: the forward transform of source minus prediction.
 #[tactic(auto, unfolding(crate::specs::Levels::coefficients))]
-pub(crate) fn coefficients(source: &[u8; 16], prediction: &[u8; 16]) -> [i64; 16]
+pub(crate) fn coefficients(source: &[u8; 16], prediction: &[u8; 16]) -> [i16; 16]
     ensures value { (f g : ℕ → ℕ → ℕ) → source.now ≡ listed 4 f → prediction.now ≡ listed 4 g
         → result ≡ coefficients f g }
     ensures within { EachWithin 2040 result }
 {
-    let mut less = [0; 16];
-    for i in 0..16 {
-        less[i] = i64::from(source[i]) - i64::from(prediction[i]);
-    }
-    fdct(&less)
+    fdct_short(&differences(source, prediction))
 }
 
 /// Quantises a block of coefficients and puts the levels in zigzag order. The DC coefficient is quantised by `dc`, the
 /// others by `ac`.
 #[tactic(auto, unfolding(crate::specs::Levels::quantised_levels))]
-pub(crate) fn quantised_levels(coefficients: &[i64; 16], dc: u16, ac: u16) -> [i16; 16]
+pub(crate) fn quantised_levels(coefficients: &[i16; 16], dc: u16, ac: u16) -> [i16; 16]
     requires dc { 1 ≤ dc }
     requires ac { 1 ≤ ac }
+    requires range { EachWithin 16320 coefficients.now }
     ensures value { result ≡ quantised_levels coefficients.now dc ac }
     ensures within { (i : ℕ) → unsigned_abs (slice_index_or result i (pos 0)) ≤ 2047 }
 {
-    let mut levels = [0; 16];
-    for position in 0..16 {
-        let factor = if position == 0 { dc } else { ac };
-        levels[position] = quantise(coefficients[zigzag(position)], factor);
-    }
-    levels
+    quantise_block(coefficients, dc, ac)
 }

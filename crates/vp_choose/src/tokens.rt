@@ -13,13 +13,13 @@ use crate::blocks::Blocks;
 use crate::levels::{coefficients, part_of, quantised_levels};
 use vp_quant::Factors;
 use vp_tokens::Tokens;
-use vp_transform::fwht;
+use vp_transform::fwht_short;
 
 /// The levels of a plane's blocks in raster order.
 pub(crate) type Levels<const N: usize> = [[i16; 16]; N];
 
 /// Returns the coefficients of the sixteen luma subblocks.
-fn luma_coefficients(source: &[u8; 256], prediction: &[u8; 256]) -> [[i64; 16]; 16]
+fn luma_coefficients(source: &[u8; 256], prediction: &[u8; 256]) -> [[i16; 16]; 16]
     ensures value { (f g : ℕ → ℕ → ℕ) → source.now ≡ listed 16 f → prediction.now ≡ listed 16 g
         → AreListed 16 result (part_coefficients 4 f g) }
     ensures within { (k : ℕ) → EachWithin 2040 (slice_index_or result k []) }
@@ -33,7 +33,7 @@ fn luma_coefficients(source: &[u8; 256], prediction: &[u8; 256]) -> [[i64; 16]; 
 
 /// Returns the DC coefficients of the sixteen luma subblocks.
 #[tactic(auto, unfolding(crate::specs::Levels::firsts))]
-fn firsts(all: &[[i64; 16]; 16]) -> [i64; 16]
+fn firsts(all: &[[i16; 16]; 16]) -> [i16; 16]
     requires { (k : ℕ) → EachWithin 2040 (slice_index_or all.now k []) }
     ensures value { (each : ℕ → List ℤ) → AreListed 16 all.now each → result ≡ firsts each }
     ensures within { EachWithin 2040 result }
@@ -46,7 +46,7 @@ fn firsts(all: &[[i64; 16]; 16]) -> [i64; 16]
 }
 
 /// Returns the levels of the Y2 block.
-fn y2_levels(all: &[[i64; 16]; 16], factors: &Factors) -> [i16; 16]
+fn y2_levels(all: &[[i16; 16]; 16], factors: &Factors) -> [i16; 16]
     requires within { (k : ℕ) → EachWithin 2040 (slice_index_or all.now k []) }
     requires factors { ArePositive factors.now }
     ensures value { (each : ℕ → List ℤ) → AreListed 16 all.now each
@@ -54,12 +54,13 @@ fn y2_levels(all: &[[i64; 16]; 16], factors: &Factors) -> [i16; 16]
     ensures within { (i : ℕ) → unsigned_abs (slice_index_or result i (pos 0)) ≤ 2047 }
 {
     let firsts = firsts(all);
-    quantised_levels(&fwht(&firsts), factors.y2_dc, factors.y2_ac)
+    quantised_levels(&fwht_short(&firsts), factors.y2_dc, factors.y2_ac)
 }
 
 /// Returns the AC levels of the luma subblocks; the Y2 block has their DC coefficients.
-fn luma_levels(all: &[[i64; 16]; 16], factors: &Factors) -> Levels<16>
-    requires { ArePositive factors.now }
+fn luma_levels(all: &[[i16; 16]; 16], factors: &Factors) -> Levels<16>
+    requires within { (k : ℕ) → EachWithin 2040 (slice_index_or all.now k []) }
+    requires factors { ArePositive factors.now }
     ensures value { (each : ℕ → List ℤ) → AreListed 16 all.now each
         → AreListed 16 result (λ k. slice_set (quantised_levels (each k) factors.now.y_dc factors.now.y_ac) 0 (pos 0)) }
     ensures within { AreSmall result }

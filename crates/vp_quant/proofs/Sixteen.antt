@@ -211,7 +211,7 @@ position_below (suc (suc (suc (suc (suc (suc (suc (suc (suc (suc (suc (suc (suc 
 position_below (suc (suc (suc (suc (suc (suc (suc (suc (suc (suc (suc (suc (suc (suc (suc (suc i)))))))))))))))) l = absurd (omega arith)
 
 -- ---- a block, lane by lane
-map_same : (f g : ℕ → ℤ) (a n : ℕ) → ((k : ℕ) → k < n → f (a + k) ≡ g (a + k)) → map f (range_with_len a n) ≡ map g (range_with_len a n)
+pub map_same : (f g : ℕ → ℤ) (a n : ℕ) → ((k : ℕ) → k < n → f (a + k) ≡ g (a + k)) → map f (range_with_len a n) ≡ map g (range_with_len a n)
 map_same f g a zero same = refl
 map_same f g a (suc n) same =
     let z : a + 0 ≡ a = omega arith in

@@ -5,9 +5,11 @@
 mod block;
 mod factors;
 mod level;
+mod quantised_block;
 mod short;
 
 pub use block::dequant;
 pub use factors::{Factors, segment_index};
 pub use level::quantise;
+pub use quantised_block::quantise_block;
 pub use short::dequant_short;

@@ -15,7 +15,7 @@ pub record Is (n : ℕ) (x m : ℤ) : Type 0 where
 pub is_read : {n : ℕ} (z : ℤ) → AtMost n z → n < 2 ^ 63 → Is n (coded z) z
 is_read z h l = record { same = read z (fits-at_most h l); size = h }
 
-multiple-at_most : (k : ℕ) {z : ℤ} {n : ℕ} → AtMost n z → AtMost (k * n) (pos k *ℤ z)
+pub multiple-at_most : (k : ℕ) {z : ℤ} {n : ℕ} → AtMost n z → AtMost (k * n) (pos k *ℤ z)
 multiple-at_most k {z} {n} h = record { size = subst (λ v. v ≤ k * n) (sym (unsigned_abs-mul (pos k) z)) (mul-le-mul_left k h.size) }
 
 pub is_at : {n : ℕ} {x y m : ℤ} → x ≡ y → Is n y m → Is n x m

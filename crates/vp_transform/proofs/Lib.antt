@@ -11,3 +11,5 @@ pub mod Products
 pub mod Mixing
 pub mod Eights
 pub mod Turning
+pub mod Shorts
+pub mod Halving

@@ -162,7 +162,7 @@ module _ (b : ℕ) (block : List ℤ) (small : EachWithin b block) where
 
 -- ---- the Walsh-Hadamard transform
 
-shr_1-at_most : (z : ℤ) (n : ℕ) → z ≤ℤ pos (2 * n + 1) → neg_ℤ (pos (2 * n)) ≤ℤ z → unsigned_abs (shr_z z 2) ≤ n
+pub shr_1-at_most : (z : ℤ) (n : ℕ) → z ≤ℤ pos (2 * n + 1) → neg_ℤ (pos (2 * n)) ≤ℤ z → unsigned_abs (shr_z z 2) ≤ n
 shr_1-at_most (pos a) n h l = let e : a ≤ 2 * n + 1 = omega (arith, ints) in omega arith
 shr_1-at_most (negsuc a) n h l = let e : suc a ≤ 2 * n = omega (arith, ints) in omega arith
 

@@ -128,7 +128,7 @@ pub fn idct_short(block: &[i16; 16]) -> [i16; 16]
 }
 
 /// Loads row `r` of a block of small i16 numbers.
-fn short_row(block: &[i16; 16], r: usize) -> i32x4
+pub(crate) fn short_row(block: &[i16; 16], r: usize) -> i32x4
     requires inside { r < 4 }
     requires small { EachWithin 8191 block.now }
     ensures { (j : ℕ) → j < 4 → lane result j ≡ element_at block.now r j }

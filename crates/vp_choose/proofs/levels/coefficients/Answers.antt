@@ -1,4 +1,4 @@
-use Rattle.std.proofs.Common.{◌≡◌, ◌∙◌, ap, List, ℤ, arith}
+use Rattle.std.proofs.Common.{◌≡◌, ◌∙◌, ap, List, ℤ, length, rules}
 use Rattle.vp_transform.specs.Forward.{fdct}
 use Rattle.vp_choose.specs.Levels.{coefficients}
 use Rattle.vp_choose.proofs.Listed.{less_listed}
@@ -7,9 +7,6 @@ use Rattle.vp_choose.proofs.levels.coefficients.Goals as goal
 pub returns-clause-value : goal.returns-clause-value
 unfolding coefficients
 returns-clause-value c f g fe ge =
-    let all : c.loop-i.i ≡ 16 = omega arith in
-    c.fdct.ensures.value
-    ∙ ap (λ (zs : List ℤ). fdct zs) (less_listed c.args.source.now c.args.prediction.now f g c.loop-i.less fe ge c.loop-i.invariant.size (λ i below. c.loop-i.invariant.done i (omega arith)))
-
-pub returns-clause-within : goal.returns-clause-within
-returns-clause-within c = c.fdct.ensures.within 255 c.loop-i.invariant.within
+    let size : length c.differences.result ≡ 16 = search rules in
+    c.fdct_short.ensures.value
+    ∙ ap (λ (zs : List ℤ). fdct zs) (less_listed c.args.source.now c.args.prediction.now f g c.differences.result fe ge size c.differences.ensures.value)
