@@ -5,6 +5,7 @@ mod blocks;
 mod chroma;
 mod difference;
 mod frame;
+mod kernel;
 mod laws;
 mod levels;
 mod luma;

@@ -18,7 +18,7 @@ use crate::frame::Search;
 use vp_base::Place;
 use vp_head::{Reference, SignBiases};
 use vp_motion::{Candidates, Motion, Vector, VectorMap, near};
-use vp_search::{QuarterVector, Refined, quarters, refine_block, search_block};
+use vp_search::{QuarterVector, Refined, quarters, refine_found, search_block};
 use vp_tables::VectorMode;
 
 /// A reference frame, the best vector found in it, and its cost.
@@ -44,7 +44,7 @@ fn find(search: &Search, block: &[u8; 256], reference: Reference, place: Place) 
     let plane = picture.plane(0);
     let whole = search_block(block, plane, place, search.range);
     if search.subpel {
-        return refine_block(block, plane, place, whole.vector);
+        return refine_found(block, plane, place, whole);
     }
     Refined {
         vector: quarters(whole.vector),

@@ -1,20 +1,22 @@
 //! Chooses the modes of the luma subblocks for B_PRED.
 
-ghost use Rattle.std.specs.Prelude.{◌≡◌, ℕ, ◌+◌, ◌*◌, ◌<◌, ◌≤◌, pos, slice_index_or, unsigned_abs};
+ghost use Rattle.std.specs.Prelude.{◌≡◌, ℕ, ◌+◌, ◌*◌, ◌<◌, ◌≤◌, pos, [], slice_index, slice_index_or, unsigned_abs};
 ghost use Rattle.vp_base.specs.Image.{with_plane};
 ghost use Rattle.vp_intra.specs.Edges.{block as listed};
+ghost use Rattle.vp_intra.specs.Sub.{sub_pixel};
 ghost use Rattle.vp_recon.specs.Rebuilt.{with_sub};
 ghost use Rattle.vp_recon.specs.Residue.{residue};
+ghost use Rattle.vp_search.specs.Differences.{sum_of_differences};
 ghost use Rattle.vp_search.specs.FirstLeast.{IsFirstLeast};
-ghost use Rattle.vp_choose.specs.Costs.{sub_cost};
-ghost use Rattle.vp_choose.specs.Levels.{ArePositive};
+ghost use Rattle.vp_choose.specs.Costs.{block_from_rows, sub_cost};
+ghost use Rattle.vp_choose.specs.Levels.{ArePositive, coefficients, quantised_levels};
 ghost use Rattle.vp_choose.specs.Gathered.{AreSmall};
 ghost use Rattle.vp_choose.specs.Subblocks.{IsBestMode, AreSubblocksChosen, mode_at, sub_levels, after_subblocks};
 
 use crate::difference::sad4;
 use crate::levels::{coefficients, part_of, quantised_levels};
 use vp_base::{Picture, Place, Plane};
-use vp_intra::predict_sub;
+use vp_intra::predict_sub_modes;
 use vp_quant::Factors;
 use vp_recon::rebuild_subblock;
 use vp_search::{first_least, macroblock};
@@ -51,53 +53,59 @@ struct Subblock {
     cost: u32,
 }
 
-/// Returns the cost of a mode for one subblock: the sum of absolute differences.
-fn cost_of(block: &[u8; 16], plane: &Plane, place: Place, mode: SubMode) -> u32
-    requires columns { 4 * place.column + 4 ≤ plane.now.width }
-    requires rows { 4 * place.row + 4 ≤ plane.now.height }
-    ensures value { (f : ℕ → ℕ → ℕ) → block.now ≡ listed 4 f → result ≡ sub_cost f plane.now place mode }
-    ensures bound { result ≤ 4080 }
-{
-    let _known = [plane.width(), plane.height()];
-    let prediction = predict_sub(plane, 4 * place.column, 4 * place.row, mode);
-    sad4(block, &prediction)
+/// The mode of the least cost for one subblock.
+#[derive(Clone, Copy)]
+struct Best {
+    number: usize,
+    cost: u32,
+    prediction: [u8; 16],
 }
 
-/// Returns the index of the mode of the least cost, and its cost.
-fn best_mode(block: &[u8; 16], plane: &Plane, place: Place) -> (usize, u32)
-    requires columns { 4 * place.column + 4 ≤ plane.now.width }
-    requires rows { 4 * place.row + 4 ≤ plane.now.height }
-    ensures best { (f : ℕ → ℕ → ℕ) → block.now ≡ listed 4 f → IsFirstLeast 10
-        (λ i. sub_cost f plane.now place (mode_at i)) result.0 }
-    ensures cost { (f : ℕ → ℕ → ℕ) → block.now ≡ listed 4 f → result.1 ≡ sub_cost f plane.now place (mode_at result.0) }
-    ensures number { result.0 < 10 }
-    ensures bound { result.1 ≤ 4080 }
+/// Returns the cost of each mode: the sum of absolute differences.
+fn costs_of(block: &[u8; 16], predictions: &[[u8; 16]; 10]) -> [u32; 10]
+    ensures value { (i : ℕ) → i < 10 → slice_index result i ≡ sum_of_differences 4 4 (block_from_rows 4 block.now)
+        (block_from_rows 4 (slice_index_or predictions.now i [])) }
+    ensures bound { (i : ℕ) → slice_index result i ≤ 4080 }
 {
     let mut costs = [0; 10];
     for i in 0..10 {
-        costs[i] = cost_of(block, plane, place, ORDER[i]);
+        costs[i] = sad4(block, &predictions[i]);
     }
-    let best = first_least(&costs);
-    (best, costs[best])
+    costs
 }
 
-/// Returns the levels of a subblock that is predicted by a mode.
-fn levels_by(
-    block: &[u8; 16],
-    factors: &Factors,
-    plane: &Plane,
-    place: Place,
-    mode: SubMode,
-) -> [i16; 16]
+/// Returns the mode of the least cost.
+fn best_mode(block: &[u8; 16], plane: &Plane, place: Place) -> Best
     requires columns { 4 * place.column + 4 ≤ plane.now.width }
     requires rows { 4 * place.row + 4 ≤ plane.now.height }
-    requires factors { ArePositive factors.now }
-    ensures value { (f : ℕ → ℕ → ℕ) → block.now ≡ listed 4 f → result ≡ sub_levels f plane.now place mode factors.now }
-    ensures within { (i : ℕ) → unsigned_abs (slice_index_or result i (pos 0)) ≤ 2047 }
+    ensures best { (f : ℕ → ℕ → ℕ) → block.now ≡ listed 4 f → IsFirstLeast 10
+        (λ i. sub_cost f plane.now place (mode_at i)) result.number }
+    ensures cost { (f : ℕ → ℕ → ℕ) → block.now ≡ listed 4 f
+        → result.cost ≡ sub_cost f plane.now place (mode_at result.number) }
+    ensures prediction { result.prediction
+        ≡ listed 4 (sub_pixel (mode_at result.number) plane.now (4 * place.column) (4 * place.row)) }
+    ensures number { result.number < 10 }
+    ensures bound { result.cost ≤ 4080 }
 {
     let _known = [plane.width(), plane.height()];
-    let prediction = predict_sub(plane, 4 * place.column, 4 * place.row, mode);
-    let numbers = coefficients(block, &prediction);
+    let predictions = predict_sub_modes(plane, 4 * place.column, 4 * place.row);
+    let costs = costs_of(block, &predictions);
+    let number = first_least(&costs);
+    Best {
+        number,
+        cost: costs[number],
+        prediction: predictions[number],
+    }
+}
+
+/// Returns the levels of a subblock from its prediction.
+fn levels_by(block: &[u8; 16], prediction: &[u8; 16], factors: &Factors) -> [i16; 16]
+    requires { ArePositive factors.now }
+    ensures value { (f g : ℕ → ℕ → ℕ) → block.now ≡ listed 4 f → prediction.now ≡ listed 4 g
+        → result ≡ quantised_levels (coefficients f g) factors.now.y_dc factors.now.y_ac }
+    ensures within { (i : ℕ) → unsigned_abs (slice_index_or result i (pos 0)) ≤ 2047 }
+{
+    let numbers = coefficients(block, prediction);
     quantised_levels(&numbers, factors.y_dc, factors.y_ac)
 }
 
@@ -122,11 +130,15 @@ fn choose_subblock(
     ensures bound { result.cost ≤ 4080 }
 {
     let _known = [picture.plane(0).width(), picture.plane(0).height()];
-    let (number, cost) = best_mode(block, picture.plane(0), place);
-    let mode = ORDER[number];
-    let levels = levels_by(block, factors, picture.plane(0), place, mode);
+    let best = best_mode(block, picture.plane(0), place);
+    let mode = ORDER[best.number];
+    let levels = levels_by(block, &best.prediction, factors);
     rebuild_subblock(picture, place, mode, &Block::of_levels(&levels), factors);
-    Subblock { mode, levels, cost }
+    Subblock {
+        mode,
+        levels,
+        cost: best.cost,
+    }
 }
 
 /// Chooses the modes of all subblocks of a macroblock, and rebuilds them.

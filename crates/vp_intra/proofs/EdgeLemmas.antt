@@ -1,10 +1,13 @@
 -- Lemmas on the numbers round a block.
-use Rattle.std.proofs.Common.{◌≡◌, ◌∙◌, ℕ, ◌+◌, ◌-◌, ◌<◌, ◌≤◌, Bool, cond, List, length, drop, get_or, replicate, slice_range, ap, sym, arith, rules}
+use Rattle.std.proofs.Common.{◌≡◌, ◌∙◌, ℕ, ◌+◌, ◌-◌, ◌<◌, ◌≤◌, min, Bool, cond, List, length, take, drop, get_or, replicate, slice_range, ap, sym, subst, arith, rules}
 use Rattle.std.proofs.lemmas.List.{places, length-take, length-drop, length-replicate, get_or-replicate}
 use Rattle.std.proofs.lemmas.List.FromFn.{fill_by_all, get_or-map-range_with_len}
 use Rattle.std.proofs.lemmas.Bool.{eq-eqb, ne_eqb}
+use Rattle.std.proofs.lemmas.Simd.{length-chunk, get_or-chunk}
+use lib.Lanes.{chunk}
 use Rattle.vp_base.specs.Raster.{Raster, pixel, row_of}
 use Rattle.vp_intra.specs.Edges.{first, above_pixel, left_pixel}
+use Rattle.vp_intra.specs.Sub.{above_right_row, above_right_pixel}
 
 pub above_inside : (p : Raster) (x y c : ℕ) → 0 < y → above_pixel p x y c ≡ pixel p (x + c) (y - 1)
 unfolding above_pixel
@@ -41,3 +44,31 @@ left_fill p x y n none = fill_by_all (left_pixel p x y) (replicate n 129) n 0 (l
 -- one of the numbers of a list that is `first n f`
 pub read_first : (xs : List ℕ) (n : ℕ) (f : ℕ → ℕ) (k : ℕ) → xs ≡ first n f → k < n → get_or xs k 0 ≡ f k
 read_first xs n f k e below = ap (λ (ys : List ℕ). get_or ys k 0) e ∙ get_or-map-range_with_len f 0 n k k 0 below (omega arith)
+
+-- the same of four pixels in lanes
+pub above_lanes : (p : Raster) (x y : ℕ) → 0 < y → x + 4 ≤ p.width → length (row_of p (y - 1)) ≡ p.width
+    → chunk x 4 (row_of p (y - 1)) ≡ first 4 (above_pixel p x y)
+above_lanes p x y pos fits long =
+    let four : 4 ≡ x + 4 - x = omega arith in
+    ap (λ (k : ℕ). take k (drop x (row_of p (y - 1)))) four ∙ above_run p x y 4 pos fits long
+
+-- ---- the pixels above and to the right
+
+pub right_inside : (p : Raster) (x y i : ℕ) → 0 < above_right_row x y → x + 4 + i < p.width
+    → above_right_pixel p x y i ≡ pixel p (x + 4 + i) (above_right_row x y - 1)
+unfolding above_right_pixel
+right_inside p x y i pos within =
+    let inside : min (x + 4 + i) (p.width - 1) ≡ x + 4 + i = omega arith in
+    ap (λ (b : Bool). cond b 127 (pixel p (min (x + 4 + i) (p.width - 1)) (above_right_row x y - 1))) (ne_eqb (above_right_row x y) 0 (λ e. omega arith))
+    ∙ ap (λ (c : ℕ). pixel p c (above_right_row x y - 1)) inside
+
+pub right_run : (p : Raster) (x y row : ℕ) → row ≡ above_right_row x y → 0 < row → x + 8 ≤ p.width → length (row_of p (row - 1)) ≡ p.width
+    → chunk (x + 4) 4 (row_of p (row - 1)) ≡ first 4 (above_right_pixel p x y)
+right_run p x y row is pos fits long =
+    let room : x + 4 + 4 ≤ length (row_of p (row - 1)) = omega arith in
+    fill_by_all (above_right_pixel p x y) (chunk (x + 4) 4 (row_of p (row - 1))) 4 0 (length-chunk (x + 4) 4 (row_of p (row - 1)) room)
+    (λ k below.
+    get_or-chunk (x + 4) 4 (row_of p (row - 1)) k 0 below
+    ∙ (let s : get_or (row_of p (row - 1)) (x + 4 + k) 0 ≡ pixel p (x + 4 + k) (row - 1) = search (rules, places) in s)
+    ∙ ap (λ (r : ℕ). pixel p (x + 4 + k) (r - 1)) is
+    ∙ sym (right_inside p x y k (subst (λ (r : ℕ). 0 < r) is pos) (omega arith)))

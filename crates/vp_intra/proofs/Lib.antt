@@ -1,4 +1,5 @@
 pub mod BlockLemmas
 pub mod EdgeLemmas
+pub mod MeanLemmas
 pub mod SubLemmas
 pub mod SumLemmas

@@ -1,7 +1,6 @@
 -- Sums of bytes in lanes.
 use Rattle.std.proofs.Common.{◌≡◌, ◌∙◌, ℕ, ◌+◌, ◌*◌, ◌<◌, ◌≤◌, List, [], ◌∷◌, map, length, sum, fold, refl, sym, ap, arith, Fits, w8, zero-add}
-use Rattle.std.proofs.lemmas.Simd.{fold-sum}
-use lib.Lanes.{Each1, sum_l, fold_l}
+use lib.Lanes.{Each1, sum_l}
 use mir.Syntax.{unsigned, cast, w16}
 use borrow.Rule.Simd.Lanes.{act1}
 use borrow.Table.Row.{s_int}

@@ -1,3 +1,4 @@
 pub mod Edges
 pub mod Whole
 pub mod Sub
+pub mod SubLanes

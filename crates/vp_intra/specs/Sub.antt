@@ -78,6 +78,10 @@ predicted Hu es =
     two es 0 ∷ avg3 (slice_index es 1) (slice_index es 0) (slice_index es 0) ∷ slice_index es 0 ∷ slice_index es 0 ∷
     slice_index es 0 ∷ slice_index es 0 ∷ slice_index es 0 ∷ slice_index es 0 ∷ []
 
+-- the ten modes in order
+abbrev pub sub_modes : List SubMode
+sub_modes = Dc ∷ Tm ∷ Ve ∷ He ∷ Ld ∷ Rd ∷ Vr ∷ Vl ∷ Hd ∷ Hu ∷ []
+
 -- the predicted pixel at row r and column c of the subblock at column x of row y of p
 unfoldable pub sub_pixel : SubMode → Raster → ℕ → ℕ → ℕ → ℕ → ℕ
 sub_pixel mode p x y r c = slice_index (predicted mode (around p x y)) (r * 4 + c)

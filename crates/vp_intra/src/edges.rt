@@ -94,23 +94,10 @@ fn rounded(sum: u16, count: u16) -> u8
 }
 
 /// Sums an edge in lanes; it compiles to one instruction.
-fn sum_of_edge<const N: usize>(edge: Simd<u8, N>) -> u16
+pub(crate) fn sum_of_edge<const N: usize>(edge: Simd<u8, N>) -> u16
     requires size { N ≤ 16 }
     ensures value { result ≡ sum edge.entry }
     ensures bound { result ≤ 255 * N }
 {
     edge.cast::<u16>().strict_reduce_sum()
-}
-
-/// Sums at most sixteen pixels.
-pub(crate) fn sum_of(bytes: &[u8]) -> u16
-    requires { length bytes.now ≤ 16 }
-    ensures value { result ≡ sum bytes.now }
-    ensures bound { result ≤ 255 * length bytes.now }
-{
-    let mut sum = 0;
-    for b in bytes {
-        sum += u16::from(*b);
-    }
-    sum
 }

@@ -1,203 +1,147 @@
-//! The ten prediction modes of a 4x4 subblock (RFC 6386, chapter 12.3).
+//! The ten prediction modes of a 4x4 subblock in lanes (RFC 6386, chapter 12.3). Each mode without arithmetic of its own
+//! takes its pixels from the means of neighbouring pixels around the subblock.
 
-ghost use Rattle.std.specs.Prelude.{◌≡◌, ℕ, ◌+◌, ◌*◌, ◌/◌, ◌<◌, ◌≤◌, length, slice_index};
-ghost use Rattle.vp_intra.specs.Edges.{clamped_pixel};
-ghost use Rattle.vp_intra.specs.Sub.{avg2, avg3, predicted};
+ghost use Rattle.std.specs.Prelude.{◌≡◌, ℕ, ◌+◌, ◌-◌, ◌<◌, List, length, min, map, slice_index};
+ghost use Rattle.vp_intra.specs.Edges.{first, clamped_pixel};
+ghost use Rattle.vp_intra.specs.Sub.{predicted, sub_modes};
+ghost use Rattle.vp_intra.specs.SubLanes.{padded, twos_of, threes_of};
 
-use crate::edges::sum_of;
+use crate::edges::sum_of_edge;
+use crate::means::{threes, twos};
+use std::simd::prelude::*;
+use vp_lanes::saturating_difference;
 use vp_tables::SubMode;
 
-/// The mean of two pixels, rounded.
-#[tactic(auto, unfolding(crate::specs::Sub::avg2))]
-fn mean2(x: u8, y: u8) -> u8
-    ensures { result ≡ avg2 x y }
+fn vertical(threes: u8x16) -> u8x16
+    ensures { (es : List ℕ) → threes ≡ threes_of es → result ≡ predicted SubMode.Ve es }
 {
-    ((u16::from(x) + u16::from(y) + 1) >> 1) as u8
+    threes.swizzle::<16>([5, 6, 7, 8, 5, 6, 7, 8, 5, 6, 7, 8, 5, 6, 7, 8])
 }
 
-/// The mean of three pixels with weights 1, 2, 1, rounded.
-#[tactic(auto, unfolding(crate::specs::Sub::avg3))]
-fn mean3(x: u8, y: u8, z: u8) -> u8
-    ensures { result ≡ avg3 x y z }
+fn horizontal(threes: u8x16) -> u8x16
+    ensures { (es : List ℕ) → threes ≡ threes_of es → result ≡ predicted SubMode.He es }
 {
-    ((u16::from(x) + 2 * u16::from(y) + u16::from(z) + 2) >> 2) as u8
+    threes.swizzle::<16>([3, 3, 3, 3, 2, 2, 2, 2, 1, 1, 1, 1, 0, 0, 0, 0])
 }
 
-fn vertical(e: &[u8; 13]) -> [u8; 16]
-    ensures { result ≡ predicted SubMode.Ve e.now }
+fn down_left(threes: u8x16) -> u8x16
+    ensures { (es : List ℕ) → threes ≡ threes_of es → result ≡ predicted SubMode.Ld es }
 {
-    let a5 = mean3(e[4], e[5], e[6]);
-    let a6 = mean3(e[5], e[6], e[7]);
-    let a7 = mean3(e[6], e[7], e[8]);
-    let a8 = mean3(e[7], e[8], e[9]);
-    [
-        a5, a6, a7, a8, a5, a6, a7, a8, a5, a6, a7, a8, a5, a6, a7, a8,
-    ]
+    threes.swizzle::<16>([6, 7, 8, 9, 7, 8, 9, 10, 8, 9, 10, 11, 9, 10, 11, 12])
 }
 
-fn horizontal(e: &[u8; 13]) -> [u8; 16]
-    ensures { result ≡ predicted SubMode.He e.now }
+fn down_right(threes: u8x16) -> u8x16
+    ensures { (es : List ℕ) → threes ≡ threes_of es → result ≡ predicted SubMode.Rd es }
 {
-    let a3 = mean3(e[2], e[3], e[4]);
-    let a2 = mean3(e[1], e[2], e[3]);
-    let a1 = mean3(e[0], e[1], e[2]);
-    let a0 = mean3(e[1], e[0], e[0]);
-    [
-        a3, a3, a3, a3, a2, a2, a2, a2, a1, a1, a1, a1, a0, a0, a0, a0,
-    ]
+    threes.swizzle::<16>([4, 5, 6, 7, 3, 4, 5, 6, 2, 3, 4, 5, 1, 2, 3, 4])
 }
 
-fn down_left(e: &[u8; 13]) -> [u8; 16]
-    ensures { result ≡ predicted SubMode.Ld e.now }
+fn vertical_right(twos: u8x16, threes: u8x16) -> u8x16
+    ensures { (es : List ℕ) → twos ≡ twos_of es → threes ≡ threes_of es → result ≡ predicted SubMode.Vr es }
 {
-    let a6 = mean3(e[5], e[6], e[7]);
-    let a7 = mean3(e[6], e[7], e[8]);
-    let a8 = mean3(e[7], e[8], e[9]);
-    let a9 = mean3(e[8], e[9], e[10]);
-    let a10 = mean3(e[9], e[10], e[11]);
-    let a11 = mean3(e[10], e[11], e[12]);
-    let a12 = mean3(e[11], e[12], e[12]);
-    [
-        a6, a7, a8, a9, a7, a8, a9, a10, a8, a9, a10, a11, a9, a10, a11, a12,
-    ]
+    twos.shuffle::<16>(
+        threes,
+        [4, 5, 6, 7, 20, 21, 22, 23, 19, 4, 5, 6, 18, 20, 21, 22],
+    )
 }
 
-fn down_right(e: &[u8; 13]) -> [u8; 16]
-    ensures { result ≡ predicted SubMode.Rd e.now }
+fn vertical_left(twos: u8x16, threes: u8x16) -> u8x16
+    ensures { (es : List ℕ) → twos ≡ twos_of es → threes ≡ threes_of es → result ≡ predicted SubMode.Vl es }
 {
-    let a1 = mean3(e[0], e[1], e[2]);
-    let a2 = mean3(e[1], e[2], e[3]);
-    let a3 = mean3(e[2], e[3], e[4]);
-    let a4 = mean3(e[3], e[4], e[5]);
-    let a5 = mean3(e[4], e[5], e[6]);
-    let a6 = mean3(e[5], e[6], e[7]);
-    let a7 = mean3(e[6], e[7], e[8]);
-    [
-        a4, a5, a6, a7, a3, a4, a5, a6, a2, a3, a4, a5, a1, a2, a3, a4,
-    ]
+    twos.shuffle::<16>(
+        threes,
+        [5, 6, 7, 8, 22, 23, 24, 25, 6, 7, 8, 26, 23, 24, 25, 27],
+    )
 }
 
-fn vertical_right(e: &[u8; 13]) -> [u8; 16]
-    ensures { result ≡ predicted SubMode.Vr e.now }
+fn horizontal_down(twos: u8x16, threes: u8x16) -> u8x16
+    ensures { (es : List ℕ) → twos ≡ twos_of es → threes ≡ threes_of es → result ≡ predicted SubMode.Hd es }
 {
-    let t4 = mean2(e[4], e[5]);
-    let t5 = mean2(e[5], e[6]);
-    let t6 = mean2(e[6], e[7]);
-    let t7 = mean2(e[7], e[8]);
-    let a2 = mean3(e[1], e[2], e[3]);
-    let a3 = mean3(e[2], e[3], e[4]);
-    let a4 = mean3(e[3], e[4], e[5]);
-    let a5 = mean3(e[4], e[5], e[6]);
-    let a6 = mean3(e[5], e[6], e[7]);
-    let a7 = mean3(e[6], e[7], e[8]);
-    [
-        t4, t5, t6, t7, a4, a5, a6, a7, a3, t4, t5, t6, a2, a4, a5, a6,
-    ]
+    twos.shuffle::<16>(
+        threes,
+        [3, 20, 21, 22, 2, 19, 3, 20, 1, 18, 2, 19, 0, 17, 1, 18],
+    )
 }
 
-fn vertical_left(e: &[u8; 13]) -> [u8; 16]
-    ensures { result ≡ predicted SubMode.Vl e.now }
+fn horizontal_up(twos: u8x16, threes: u8x16) -> u8x16
+    ensures { (es : List ℕ) → twos ≡ twos_of es → threes ≡ threes_of es → result ≡ predicted SubMode.Hu es }
 {
-    let t5 = mean2(e[5], e[6]);
-    let t6 = mean2(e[6], e[7]);
-    let t7 = mean2(e[7], e[8]);
-    let t8 = mean2(e[8], e[9]);
-    let a6 = mean3(e[5], e[6], e[7]);
-    let a7 = mean3(e[6], e[7], e[8]);
-    let a8 = mean3(e[7], e[8], e[9]);
-    let a9 = mean3(e[8], e[9], e[10]);
-    let a10 = mean3(e[9], e[10], e[11]);
-    let a11 = mean3(e[10], e[11], e[12]);
-    [
-        t5, t6, t7, t8, a6, a7, a8, a9, t6, t7, t8, a10, a7, a8, a9, a11,
-    ]
-}
-
-fn horizontal_down(e: &[u8; 13]) -> [u8; 16]
-    ensures { result ≡ predicted SubMode.Hd e.now }
-{
-    let t0 = mean2(e[0], e[1]);
-    let t1 = mean2(e[1], e[2]);
-    let t2 = mean2(e[2], e[3]);
-    let t3 = mean2(e[3], e[4]);
-    let a1 = mean3(e[0], e[1], e[2]);
-    let a2 = mean3(e[1], e[2], e[3]);
-    let a3 = mean3(e[2], e[3], e[4]);
-    let a4 = mean3(e[3], e[4], e[5]);
-    let a5 = mean3(e[4], e[5], e[6]);
-    let a6 = mean3(e[5], e[6], e[7]);
-    [
-        t3, a4, a5, a6, t2, a3, t3, a4, t1, a2, t2, a3, t0, a1, t1, a2,
-    ]
-}
-
-fn horizontal_up(e: &[u8; 13]) -> [u8; 16]
-    ensures { result ≡ predicted SubMode.Hu e.now }
-{
-    let t0 = mean2(e[0], e[1]);
-    let t1 = mean2(e[1], e[2]);
-    let t2 = mean2(e[2], e[3]);
-    let a1 = mean3(e[0], e[1], e[2]);
-    let a2 = mean3(e[1], e[2], e[3]);
-    let a0 = mean3(e[1], e[0], e[0]);
-    let l = e[0];
-    [t2, a2, t1, a1, t1, a1, t0, a0, t0, a0, l, l, l, l, l, l]
+    twos.shuffle::<16>(
+        threes,
+        [2, 18, 1, 17, 1, 17, 0, 16, 0, 16, 13, 14, 15, 13, 14, 15],
+    )
 }
 
 /// DC prediction: the mean of the pixels above and to the left.
-fn direct(e: &[u8; 13]) -> [u8; 16]
-    ensures { result ≡ predicted SubMode.Dc e.now }
+fn direct(pixels: u8x16) -> u8x16
+    ensures { (es : List ℕ) → length es ≡ 13 → pixels ≡ padded es → result ≡ predicted SubMode.Dc es }
 {
-    let sum = sum_of(&e[..4]) + sum_of(&e[5..9]);
-    [((sum + 4) >> 3) as u8; 16]
+    let sum = sum_of_edge::<8>(pixels.swizzle::<8>([0, 1, 2, 3, 5, 6, 7, 8]));
+    u8x16::splat(((sum + 4) >> 3) as u8)
 }
 
-fn clamp(left: u8, above: u8, corner: u8) -> u8
-    ensures { result ≡ clamped_pixel left above corner }
+/// `x + y`, or 255 if that is more, lane by lane.
+fn saturating_sum(x: u8x16, y: u8x16) -> u8x16
+    ensures { (j : ℕ) → j < 16 → slice_index result j ≡ min (slice_index x j + slice_index y j) 255 }
 {
-    (u16::from(left) + u16::from(above))
-        .saturating_sub(u16::from(corner))
-        .min(255) as u8
+    x.saturating_add(y)
 }
 
-fn true_motion(e: &[u8; 13]) -> [u8; 16]
-    ensures { result ≡ predicted SubMode.Tm e.now }
+/// Left plus above minus corner, clamped, lane by lane. The positive part of left minus corner is added and the negative
+/// part is subtracted, both with saturation. One of the two is 0.
+fn clamped(left: u8x16, above: u8x16, corner: u8x16) -> u8x16
+    ensures { result ≡ first 16 (λ j. clamped_pixel (slice_index left j) (slice_index above j) (slice_index corner j)) }
 {
-    let p = e[4];
-    [
-        clamp(e[3], e[5], p),
-        clamp(e[3], e[6], p),
-        clamp(e[3], e[7], p),
-        clamp(e[3], e[8], p),
-        clamp(e[2], e[5], p),
-        clamp(e[2], e[6], p),
-        clamp(e[2], e[7], p),
-        clamp(e[2], e[8], p),
-        clamp(e[1], e[5], p),
-        clamp(e[1], e[6], p),
-        clamp(e[1], e[7], p),
-        clamp(e[1], e[8], p),
-        clamp(e[0], e[5], p),
-        clamp(e[0], e[6], p),
-        clamp(e[0], e[7], p),
-        clamp(e[0], e[8], p),
-    ]
+    saturating_difference(
+        saturating_sum(above, saturating_difference(left, corner)),
+        saturating_difference(corner, left),
+    )
 }
 
-/// Predicts a 4x4 block from the thirteen pixels around it.
-pub(crate) fn predict(mode: SubMode, e: &[u8; 13]) -> [u8; 16]
-    ensures { result ≡ predicted mode e.now }
+fn true_motion(pixels: u8x16) -> u8x16
+    ensures { (es : List ℕ) → pixels ≡ padded es → result ≡ predicted SubMode.Tm es }
+{
+    clamped(
+        pixels.swizzle::<16>([3, 3, 3, 3, 2, 2, 2, 2, 1, 1, 1, 1, 0, 0, 0, 0]),
+        pixels.swizzle::<16>([5, 6, 7, 8, 5, 6, 7, 8, 5, 6, 7, 8, 5, 6, 7, 8]),
+        pixels.swizzle::<16>([4, 4, 4, 4, 4, 4, 4, 4, 4, 4, 4, 4, 4, 4, 4, 4]),
+    )
+}
+
+/// Predicts a 4x4 block by one mode from the thirteen pixels around it.
+pub(crate) fn predict(mode: SubMode, pixels: u8x16) -> u8x16
+    ensures { (es : List ℕ) → length es ≡ 13 → pixels ≡ padded es → result ≡ predicted mode es }
 {
     match mode {
-        SubMode::Dc => direct(e),
-        SubMode::Tm => true_motion(e),
-        SubMode::Ve => vertical(e),
-        SubMode::He => horizontal(e),
-        SubMode::Ld => down_left(e),
-        SubMode::Rd => down_right(e),
-        SubMode::Vr => vertical_right(e),
-        SubMode::Vl => vertical_left(e),
-        SubMode::Hd => horizontal_down(e),
-        SubMode::Hu => horizontal_up(e),
+        SubMode::Dc => direct(pixels),
+        SubMode::Tm => true_motion(pixels),
+        SubMode::Ve => vertical(threes(pixels)),
+        SubMode::He => horizontal(threes(pixels)),
+        SubMode::Ld => down_left(threes(pixels)),
+        SubMode::Rd => down_right(threes(pixels)),
+        SubMode::Vr => vertical_right(twos(pixels), threes(pixels)),
+        SubMode::Vl => vertical_left(twos(pixels), threes(pixels)),
+        SubMode::Hd => horizontal_down(twos(pixels), threes(pixels)),
+        SubMode::Hu => horizontal_up(twos(pixels), threes(pixels)),
     }
+}
+
+/// Predicts a 4x4 block by each mode from the thirteen pixels around it.
+pub(crate) fn predict_modes(pixels: u8x16) -> [[u8; 16]; 10]
+    ensures { (es : List ℕ) → length es ≡ 13 → pixels ≡ padded es → result ≡ map (λ mode. predicted mode es) sub_modes }
+{
+    let twos = twos(pixels);
+    let threes = threes(pixels);
+    [
+        direct(pixels).to_array(),
+        true_motion(pixels).to_array(),
+        vertical(threes).to_array(),
+        horizontal(threes).to_array(),
+        down_left(threes).to_array(),
+        down_right(threes).to_array(),
+        vertical_right(twos, threes).to_array(),
+        vertical_left(twos, threes).to_array(),
+        horizontal_down(twos, threes).to_array(),
+        horizontal_up(twos, threes).to_array(),
+    ]
 }

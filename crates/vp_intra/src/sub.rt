@@ -1,11 +1,14 @@
 //! Intra prediction of a 4x4 subblock (RFC 6386, chapter 12.3).
 
-ghost use Rattle.std.specs.Prelude.{◌≡◌, ℕ, ◌+◌, ◌<◌, ◌≤◌};
-ghost use Rattle.vp_intra.specs.Edges.{block};
-ghost use Rattle.vp_intra.specs.Sub.{above_right_row, above_right_pixel, around, sub_pixel};
+ghost use Rattle.std.specs.Prelude.{◌≡◌, ℕ, ◌+◌, ◌<◌, ◌≤◌, length, map};
+ghost use Rattle.std.specs.Simd.Lanes.{chunk};
+ghost use Rattle.vp_intra.specs.Edges.{block, first, above_pixel};
+ghost use Rattle.vp_intra.specs.Sub.{above_right_row, above_right_pixel, around, sub_pixel, sub_modes};
+ghost use Rattle.vp_intra.specs.SubLanes.{padded};
 
-use crate::edges::{edge_above, edge_corner, edge_left};
-use crate::modes::predict;
+use crate::edges::{edge_corner, edge_left};
+use crate::modes::{predict, predict_modes};
+use std::simd::prelude::*;
 use vp_base::Plane;
 use vp_tables::SubMode;
 
@@ -17,7 +20,17 @@ pub fn predict_sub(plane: &Plane, x: usize, y: usize, mode: SubMode) -> [u8; 16]
     requires rows { y + 4 ≤ plane.now.height }
     ensures { result ≡ block 4 (sub_pixel mode plane.now x y) }
 {
-    predict(mode, &pixels_around(plane, x, y))
+    predict(mode, pixels_around(plane, x, y)).to_array()
+}
+
+/// Predicts the subblock by each of the ten modes, in the order of `SubMode`. Each is the prediction of `predict_sub`;
+/// the pixels around are read once.
+pub fn predict_sub_modes(plane: &Plane, x: usize, y: usize) -> [[u8; 16]; 10]
+    requires columns { x + 4 ≤ plane.now.width }
+    requires rows { y + 4 ≤ plane.now.height }
+    ensures { result ≡ map (λ mode. block 4 (sub_pixel mode plane.now x y)) sub_modes }
+{
+    predict_modes(pixels_around(plane, x, y))
 }
 
 /// The row below the pixels above and to the right of a subblock.
@@ -46,20 +59,54 @@ fn pixel_at_right(plane: &Plane, x: usize, y: usize, i: usize) -> u8
     }
 }
 
-/// The thirteen pixels around a subblock: left column from the bottom, corner, row above.
-fn pixels_around(plane: &Plane, x: usize, y: usize) -> [u8; 13]
+/// Loads four bytes from index `at` on.
+fn load4(line: &[u8], at: usize) -> u8x4
+    requires { at + 4 ≤ length line.now }
+    ensures { result ≡ chunk at 4 line.now }
+{
+    u8x4::from_slice(&line[at..])
+}
+
+/// The four pixels above a subblock; 127 above the frame.
+fn above(plane: &Plane, x: usize, y: usize) -> u8x4
+    requires columns { x + 4 ≤ plane.now.width }
+    requires row { y < plane.now.height }
+    ensures { result ≡ first 4 (above_pixel plane.now x y) }
+{
+    if y == 0 {
+        return u8x4::splat(127);
+    }
+    load4(plane.row(y - 1), x)
+}
+
+/// The four pixels above and to the right of a subblock.
+fn above_right(plane: &Plane, x: usize, y: usize) -> u8x4
+    requires columns { x + 4 ≤ plane.now.width }
+    requires row { y < plane.now.height }
+    ensures { result ≡ first 4 (above_right_pixel plane.now x y) }
+{
+    let width = plane.width();
+    let row = row_of_above_right(x, y);
+    if row > 0 && x + 8 <= width {
+        return load4(plane.row(row - 1), x + 4);
+    }
+    u8x4::from_array([
+        pixel_at_right(plane, x, y, 0),
+        pixel_at_right(plane, x, y, 1),
+        pixel_at_right(plane, x, y, 2),
+        pixel_at_right(plane, x, y, 3),
+    ])
+}
+
+/// The thirteen pixels around a subblock: left column from the bottom, corner, row above; then the first three times.
+fn pixels_around(plane: &Plane, x: usize, y: usize) -> u8x16
     requires columns { x + 4 ≤ plane.now.width }
     requires rows { y + 4 ≤ plane.now.height }
-    ensures { result ≡ around plane.now x y }
+    ensures { result ≡ padded (around plane.now x y) }
 {
-    let l = edge_left::<4>(plane, x, y);
-    let p = edge_corner(plane, x, y);
-    let a = edge_above::<4>(plane, x, y);
-    let r0 = pixel_at_right(plane, x, y, 0);
-    let r1 = pixel_at_right(plane, x, y, 1);
-    let r2 = pixel_at_right(plane, x, y, 2);
-    let r3 = pixel_at_right(plane, x, y, 3);
-    [
-        l[3], l[2], l[1], l[0], p, a[0], a[1], a[2], a[3], r0, r1, r2, r3,
-    ]
+    let left = u8x4::from_array(edge_left::<4>(plane, x, y));
+    let corner = u8x4::splat(edge_corner(plane, x, y));
+    let row = above(plane, x, y).shuffle::<8>(above_right(plane, x, y), [0, 1, 2, 3, 4, 5, 6, 7]);
+    left.shuffle::<8>(corner, [3, 2, 1, 0, 4, 4, 4, 4])
+        .shuffle::<16>(row, [0, 1, 2, 3, 4, 8, 9, 10, 11, 12, 13, 14, 15, 0, 0, 0])
 }

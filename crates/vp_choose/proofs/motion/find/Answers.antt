@@ -19,16 +19,16 @@ returns-then-search-clause-found c source cut =
     let p : Raster = c.plane-plane.result.now in
     let f = block_pixels 16 source c.args.place in
     let v = c.search_block-whole.result.vector in
-    subst (λ (q : Raster). IsFound (search_of c.args.search.now) source q c.args.place c.refine_block.result)
+    subst (λ (q : Raster). IsFound (search_of c.args.search.now) source q c.args.place c.refine_found.result)
     (c.plane-plane.ensures ∙ ap (λ (i : Image). i.luma) c.get-picture.ensures)
     (record {
       whole = v;
       least = least_same c.args.search.now.range (whole_cost (block16 xs) p c.args.place) (whole_cost f p c.args.place) v
           (λ u near. whole_cost-listed xs f cut p c.args.place u) c.search_block-whole.ensures.least;
-      refined = λ e. refined_same (quarter_cost (block16 xs) p c.args.place) (quarter_cost f p c.args.place) v c.refine_block.result.vector
-          (quarter_cost-listed xs f cut p c.args.place) c.refine_block.ensures.refined;
+      refined = λ e. refined_same (quarter_cost (block16 xs) p c.args.place) (quarter_cost f p c.args.place) v c.refine_found.result.vector
+          (quarter_cost-listed xs f cut p c.args.place) c.refine_found.ensures.refined;
       unrefined = λ e. cc;
-      cost = c.refine_block.ensures.cost ∙ quarter_cost-listed xs f cut p c.args.place c.refine_block.result.vector;
+      cost = c.refine_found.ensures.cost ∙ quarter_cost-listed xs f cut p c.args.place c.refine_found.result.vector;
     })
 
 pub returns-then-search-clause-short : goal.returns-then-search-clause-short
@@ -37,8 +37,8 @@ returns-then-search-clause-short c =
     let near = c.search_block-whole.ensures.least.near in
     let y = near.0 in
     let x = near.1 in
-    let row = c.refine_block.ensures.row in
-    let column = c.refine_block.ensures.column in
+    let row = c.refine_found.ensures.row in
+    let column = c.refine_found.ensures.column in
     (omega (arith, ints), omega (arith, ints))
 
 pub returns-clause-found : goal.returns-clause-found

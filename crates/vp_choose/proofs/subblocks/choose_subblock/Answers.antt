@@ -1,6 +1,7 @@
-use Rattle.std.proofs.Common.{◌∙◌, ℕ, ℤ, List, refl, ap, subst}
+use Rattle.std.proofs.Common.{◌∙◌, ◌*◌, ℕ, ℤ, List, refl, ap, subst}
 use Rattle.vp_base.specs.Raster.{Raster}
 use Rattle.vp_base.specs.Image.{Image, with_plane}
+use Rattle.vp_intra.specs.Sub.{sub_pixel}
 use Rattle.vp_recon.specs.Residue.{residue}
 use Rattle.vp_recon.specs.Rebuilt.{with_sub}
 use Rattle.vp_search.specs.FirstLeast.{IsFirstLeast}
@@ -11,22 +12,23 @@ use Rattle.vp_choose.proofs.subblocks.choose_subblock.Goals as goal
 pub returns : goal.returns
 returns c =
     let p : Image = c.args.picture.now in
-    let n : ℕ = c.best_mode-number.result.0 in
+    let n : ℕ = c.best_mode-best.result.number in
     record {
       mode = λ f e. record {
         number = n;
-        first = subst (λ (q : Raster). IsFirstLeast 10 (λ i. sub_cost f q c.args.place (mode_at i)) n) c.plane-3.ensures (c.best_mode-number.ensures.best f e);
+        first = subst (λ (q : Raster). IsFirstLeast 10 (λ i. sub_cost f q c.args.place (mode_at i)) n) c.plane-3.ensures (c.best_mode-best.ensures.best f e);
         is = refl;
       };
       levels = λ f e.
-          c.levels_by-levels.ensures.value f e
-          ∙ ap (λ (q : Raster). sub_levels f q c.args.place (mode_at n) c.args.factors.now) c.plane-4.ensures;
+          let g : ℕ → ℕ → ℕ = sub_pixel (mode_at n) c.plane-3.result.now (4 * c.args.place.column) (4 * c.args.place.row) in
+          c.levels_by-levels.ensures.value f g e c.best_mode-best.ensures.prediction
+          ∙ ap (λ (q : Raster). sub_levels f q c.args.place (mode_at n) c.args.factors.now) c.plane-3.ensures;
       cost = λ f e.
-          c.best_mode-number.ensures.cost f e
+          c.best_mode-best.ensures.cost f e
           ∙ ap (λ (q : Raster). sub_cost f q c.args.place (mode_at n)) c.plane-3.ensures;
       rebuilt =
           c.rebuild_subblock.ensures
           ∙ ap (λ (l : List ℤ). with_plane p 0 (with_sub p.luma c.args.place (mode_at n) (residue l c.args.factors.now.y_dc c.args.factors.now.y_ac))) c.of_levels.ensures.levels;
       within = c.levels_by-levels.ensures.within;
-      bound = c.best_mode-number.ensures.bound;
+      bound = c.best_mode-best.ensures.bound;
     }

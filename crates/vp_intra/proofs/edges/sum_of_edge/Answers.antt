@@ -1,4 +1,4 @@
-use Rattle.std.proofs.Common.{◌≡◌, ◌∙◌, ℕ, ◌+◌, ◌*◌, ◌≤◌, List, length, sum, arith, w16, zero-add}
+use Rattle.std.proofs.Common.{◌≡◌, ◌∙◌, ℕ, ◌*◌, ◌≤◌, List, length, sum, arith, w16, zero-add}
 use Rattle.std.proofs.lemmas.Simd.{sum_fits, fold-sum}
 use lib.Lanes.{sum_l}
 use Rattle.vp_intra.proofs.SumLemmas.{widened, sum-widened, sum_of_bytes}

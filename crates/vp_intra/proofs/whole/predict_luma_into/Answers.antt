@@ -1,6 +1,5 @@
-use Rattle.std.proofs.Common.{◌≡◌, ◌∙◌, ℕ, ◌+◌, ◌*◌, ◌<◌, ◌≤◌, List, get_or, replicate, refl, sym, ap, subst, w8, arith}
+use Rattle.std.proofs.Common.{◌∙◌, ℕ, replicate, refl, sym, ap, w8}
 use Rattle.vp_base.specs.Raster.{Raster}
-use Rattle.vp_base.specs.Image.{Image, plane_of, with_plane}
 use Rattle.vp_tables.specs.declared.modes.LumaMode.{LumaMode}
 use Rattle.vp_lanes.proofs.Shape.{unsigned_lanes}
 use Rattle.vp_intra.specs.Edges.{block}

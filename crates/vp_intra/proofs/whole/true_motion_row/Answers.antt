@@ -1,11 +1,10 @@
-use Rattle.std.proofs.Common.{◌≡◌, ◌∙◌, ℕ, ◌+◌, ◌-◌, ◌<◌, min, get_or, ap, Fits, w8, arith}
+use Rattle.std.proofs.Common.{◌∙◌, ℕ, ◌+◌, ◌-◌, ◌<◌, min, get_or, ap, Fits, w8, arith}
 use Rattle.vp_lanes.proofs.Shape.{lanes_of, lane_fits, mapped, zipped, selected, splatted, lane_is}
 use mir.Syntax.{lt, mask, unsigned, wrap_add, wrap_sub, bit_not}
 use lib.Lanes.{top}
 use borrow.Rule.Simd.Lanes.{act1, act2}
 use borrow.Table.Row.{s_int}
 use Rattle.vp_lanes.proofs.Bytes.{above_is, sum_is}
-use Rattle.vp_intra.specs.Edges.{clamped_pixel}
 use Rattle.vp_intra.proofs.BlockLemmas.{moved_either_way}
 use Rattle.vp_intra.proofs.whole.true_motion_row.Goals as goal
 

@@ -1,0 +1,35 @@
+use Rattle.std.proofs.Common.{◌≡◌, ℕ, ◌<◌, get_or, refl, ◌∙◌, arith}
+use Rattle.std.specs.Int.{abs_diff}
+use Rattle.vp_choose.specs.Costs.{block_from_rows}
+use Rattle.vp_search.proofs.RowLemmas.{lane_is_pixel, four_sums}
+use Rattle.vp_choose.proofs.kernel.sixty_four.Goals as goal
+
+pub both-requires-3-clause-a_in : goal.both-requires-3-clause-a_in
+both-requires-3-clause-a_in c j h = let e = c.both.ensures j h in let x = c.apart-first.ensures.range j h in let y = c.apart-second.ensures.range j h in omega arith
+
+pub both-requires-3-clause-b_in : goal.both-requires-3-clause-b_in
+both-requires-3-clause-b_in c j h = let e = c.both-2.ensures j h in let x = c.apart-third.ensures.range j h in let y = c.apart-fourth.ensures.range j h in omega arith
+
+pub total-requires : goal.total-requires
+total-requires c j h =
+    let g = c.both-3.ensures j h in
+    let e = c.both.ensures j h in let x = c.apart-first.ensures.range j h in let y = c.apart-second.ensures.range j h in
+    let f = c.both-2.ensures j h in let z = c.apart-third.ensures.range j h in let w = c.apart-fourth.ensures.range j h in omega arith
+
+pub returns-clause-value : goal.returns-clause-value
+returns-clause-value c =
+    let a = c.args.a.now in let b = c.args.b.now in
+    let row : ℕ → ℕ → ℕ = λ r j. abs_diff (block_from_rows 16 a r j) (block_from_rows 16 b r j) in
+    let r0 : (j : ℕ) → j < 16 → get_or c.apart-first.result j 0 ≡ row 0 j =
+    lane_is_pixel c.load16.result c.load16-2.result c.apart-first.result a b 0 0 0 0 c.load16.ensures c.load16-2.ensures refl refl c.apart-first.ensures.value in
+    let r1 : (j : ℕ) → j < 16 → get_or c.apart-second.result j 0 ≡ row 1 j =
+    lane_is_pixel c.load16-3.result c.load16-4.result c.apart-second.result a b 16 16 16 16 c.load16-3.ensures c.load16-4.ensures refl refl c.apart-second.ensures.value in
+    let r2 : (j : ℕ) → j < 16 → get_or c.apart-third.result j 0 ≡ row 2 j =
+    lane_is_pixel c.load16-5.result c.load16-6.result c.apart-third.result a b 32 32 32 32 c.load16-5.ensures c.load16-6.ensures refl refl c.apart-third.ensures.value in
+    let r3 : (j : ℕ) → j < 16 → get_or c.apart-fourth.result j 0 ≡ row 3 j =
+    lane_is_pixel c.load16-7.result c.load16-8.result c.apart-fourth.result a b 48 48 48 48 c.load16-7.ensures c.load16-8.ensures refl refl c.apart-fourth.ensures.value in
+    c.total.ensures.value
+    ∙ four_sums row c.both-3.result (λ j h.
+    let e = c.both-3.ensures j h in let f = c.both.ensures j h in let g = c.both-2.ensures j h in
+    let p = r0 j h in let q = r1 j h in let u = r2 j h in let v = r3 j h in
+    omega arith)

@@ -1,0 +1,17 @@
+use Rattle.std.proofs.Common.{◌∙◌}
+use Rattle.vp_lanes.proofs.Shape.{lanes_of, mapped, zipped, selected, lane_is}
+use mir.Syntax.{w8, lt, mask, unsigned, wrap_add, bit_not}
+use lib.Lanes.{top}
+use borrow.Rule.Simd.Lanes.{act1, act2}
+use borrow.Table.Row.{s_int}
+use Rattle.vp_lanes.proofs.Bytes.{byte_lane, sum_is}
+use Rattle.vp_intra.proofs.modes.saturating_sum.Goals as goal
+
+pub returns : goal.returns
+returns c j h =
+    let x = lanes_of 0 16 c.args.x c.fits-x.0 in
+    let y = lanes_of 0 16 c.args.y c.fits-y.0 in
+    let n = mapped (act1 bit_not (s_int w8) (s_int w8)) x in
+    let t = mapped (top 7) (zipped (act2 (mask (lt unsigned)) (s_int w8) (s_int w8) (s_int w8)) y n) in
+    lane_is 0 (zipped (act2 wrap_add (s_int w8) (s_int w8) (s_int w8)) x (selected t y n)) j h
+    ∙ sum_is _ _ (byte_lane _ c.fits-x j h) (byte_lane _ c.fits-y j h)
