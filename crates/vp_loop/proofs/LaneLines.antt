@@ -41,10 +41,10 @@ up_is x t = let e : int_min (pos 255) (int_max (pos 0) (pos x +ℤ t)) ≡ clamp
 down_is : (x : ℕ) (t : ℤ) → clamp_to_byte (pos x -ℤ t) ≡ pixel_from (signed x -ℤ t)
 down_is x t = let e : int_min (pos 255) (int_max (pos 0) (pos x -ℤ t)) ≡ clamp8 (signed x -ℤ t) +ℤ pos 128 = omega (arith, ints, clamps) in ap unsigned_abs e
 
-up_zero : (x : ℕ) → x < 256 → clamp_to_byte (pos x +ℤ pos 0) ≡ x
+pub up_zero : (x : ℕ) → x < 256 → clamp_to_byte (pos x +ℤ pos 0) ≡ x
 up_zero x h = let e : int_min (pos 255) (int_max (pos 0) (pos x +ℤ pos 0)) ≡ pos x = omega (arith, ints, clamps) in ap unsigned_abs e
 
-down_zero : (x : ℕ) → x < 256 → clamp_to_byte (pos x -ℤ pos 0) ≡ x
+pub down_zero : (x : ℕ) → x < 256 → clamp_to_byte (pos x -ℤ pos 0) ≡ x
 down_zero x h = let e : int_min (pos 255) (int_max (pos 0) (pos x -ℤ pos 0)) ≡ pos x = omega (arith, ints, clamps) in ap unsigned_abs e
 
 -- ---- what the lanes compute: m is the mask, outer whether p1 and q1 pull too

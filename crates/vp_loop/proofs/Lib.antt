@@ -1,5 +1,6 @@
 pub mod Shift
 pub mod FilterValueLemmas
+pub mod StillLemmas
 pub mod StepLemmas
 pub mod PlaneLemmas
 pub mod EdgeLemmas
@@ -9,6 +10,7 @@ pub mod WindowLemmas
 pub mod BandLemmas
 pub mod PlaneLaws
 pub mod LaneLines
+pub mod NearLemmas
 pub mod TransposeLemmas
 pub mod ArrayLemmas
 pub mod Loads

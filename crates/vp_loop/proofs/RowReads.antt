@@ -1,11 +1,9 @@
 -- Lines of a plane, by the list of its pixels.
-use Rattle.std.proofs.Common.{◌≡◌, ◌∙◌, ℕ, ◌+◌, ◌*◌, ◌<◌, ◌≤◌, List, length, get_or, ap, arith}
+use Rattle.std.proofs.Common.{◌≡◌, ◌∙◌, ℕ, ◌+◌, ◌*◌, ◌<◌, ◌≤◌, List, get_or, ap, arith}
 use Rattle.std.proofs.lemmas.Simd.{get_or-chunk}
 use Rattle.std.proofs.lemmas.Nat.{row_fits}
 use lib.Lanes.{chunk}
-use Rattle.vp_base.specs.Raster.{Raster, pixel, pixel_index}
-use Rattle.vp_base.specs.Block.{IsWhole}
-use Rattle.vp_loop.specs.declared.lines.Line.{Line}
+use Rattle.vp_base.specs.Raster.{Raster, pixel}
 use Rattle.vp_loop.specs.Edges.{along, down, line_at}
 use Rattle.vp_loop.specs.Lanes.{line_in, line_down}
 

@@ -6,7 +6,7 @@ use lib.Lanes.{put_chunk}
 use Rattle.vp_base.specs.Raster.{Raster, pixel_index, overlay, with_pixels}
 use Rattle.vp_base.proofs.RasterLemmas.{raster}
 use Rattle.vp_base.specs.Block.{written, with_block, IsWhole}
-use Rattle.vp_base.proofs.BlockLemmas.{with_block_none, with_block_more, length-overlay}
+use Rattle.vp_base.proofs.BlockLemmas.{with_block_none, with_block_more}
 
 pub put_over : (xs : List ℕ) (i : ℕ) (vs : List ℕ) → i + length vs ≤ length xs → put_chunk i xs vs ≡ overlay xs i vs
 unfolding overlay

@@ -1,5 +1,5 @@
 -- Private to the crate: sixteen lines side by side, as stored in lanes.
-use Rattle.std.specs.Prelude.{ℕ, ◌≡◌, ◌<◌, ◌+◌, ◌*◌, ◌-◌, List, [], ◌∷◌, slice_index}
+use Rattle.std.specs.Prelude.{ℕ, ◌≡◌, ◌<◌, ◌+◌, ◌*◌, ◌-◌, List, [], ◌∷◌, slice_index, Option, Some, None}
 use Rattle.vp_loop.specs.declared.lines.Line.{Line}
 use Rattle.vp_loop.specs.declared.lines.LineStep.{LineStep}
 use Rattle.vp_loop.specs.declared.lanes.Lines.{Lines}
@@ -18,6 +18,11 @@ line_of l j = record {
   q2 = slice_index l.q2 j;
   q3 = slice_index l.q3 j;
 }
+
+-- the lines that replace l, or l itself
+abbrev pub lines_or : Lines → Option Lines → Lines
+lines_or l None = l
+lines_or l (Some m) = m
 
 -- the line of the first eight numbers of a list
 abbrev pub line_in : List ℕ → Line

@@ -62,7 +62,10 @@ fn filter_luma_along(picture: &mut Picture, x: usize, y: usize, step: LineStep)
     ensures high { picture.new.luma.height ≡ picture.old.luma.height }
 {
     let _known = picture.plane(0).height();
-    let l = step.apply_to_all(lines_along(picture.plane(0), x, y));
+    let l = match step.apply_to_all(lines_along(picture.plane(0), x, y)) {
+        None => return,
+        Some(l) => l,
+    };
     let lines = untranspose(l);
     write_rows8(picture, 0, x, y, &lines);
 }
@@ -79,7 +82,10 @@ fn filter_luma_inside_along(picture: &mut Picture, x: usize, y: usize, step: Lin
     ensures high { picture.new.luma.height ≡ picture.old.luma.height }
 {
     let _known = picture.plane(0).width();
-    let l = step.apply_to_all(lines_along(picture.plane(0), x, y));
+    let l = match step.apply_to_all(lines_along(picture.plane(0), x, y)) {
+        None => return,
+        Some(l) => l,
+    };
     let lines = untranspose_middle(l.p1, l.p0, l.q0, l.q1);
     write_rows4(picture, 0, x + 2, y, &lines);
 }
@@ -97,7 +103,10 @@ fn filter_luma_down(picture: &mut Picture, x: usize, y: usize, step: LineStep, k
     ensures high { picture.new.luma.height ≡ picture.old.luma.height }
 {
     let _known = picture.plane(0).height();
-    let l = step.apply_to_all(lines_down(picture.plane(0), x, y));
+    let l = match step.apply_to_all(lines_down(picture.plane(0), x, y)) {
+        None => return,
+        Some(l) => l,
+    };
     let rows = [l.p3, l.p2, l.p1, l.p0, l.q0, l.q1, l.q2, l.q3];
     write_rows16(picture, 0, x, y + kept, &rows[kept..8 - kept]);
 }
@@ -117,7 +126,10 @@ fn filter_colours_along(picture: &mut Picture, x: usize, y: usize, step: LineSte
 {
     let _known = picture.plane(1).height();
     let _known = picture.plane(2).height();
-    let l = step.apply_to_all(lines_along_both(picture.plane(1), picture.plane(2), x, y));
+    let l = match step.apply_to_all(lines_along_both(picture.plane(1), picture.plane(2), x, y)) {
+        None => return,
+        Some(l) => l,
+    };
     let lines = untranspose(l);
     write_rows8(picture, 1, x, y, &lines[0..8]);
     write_rows8(picture, 2, x, y, &lines[8..16]);
@@ -140,7 +152,10 @@ fn filter_colours_down(picture: &mut Picture, x: usize, y: usize, step: LineStep
 {
     let _known = picture.plane(1).height();
     let _known = picture.plane(2).height();
-    let l = step.apply_to_all(lines_down_both(picture.plane(1), picture.plane(2), x, y));
+    let l = match step.apply_to_all(lines_down_both(picture.plane(1), picture.plane(2), x, y)) {
+        None => return,
+        Some(l) => l,
+    };
     let u_rows = first_halves(l);
     let v_rows = second_halves(l);
     write_rows8(picture, 1, x, y + kept, &u_rows[kept..8 - kept]);
@@ -196,7 +211,10 @@ fn filter_inner_colours_along(picture: &mut Picture, x: usize, y: usize, step: L
 {
     let _known = picture.plane(1).width();
     let _known = picture.plane(2).width();
-    let l = step.apply_to_all(lines_along_both(picture.plane(1), picture.plane(2), x, y));
+    let l = match step.apply_to_all(lines_along_both(picture.plane(1), picture.plane(2), x, y)) {
+        None => return,
+        Some(l) => l,
+    };
     let lines = untranspose_middle(l.p1, l.p0, l.q0, l.q1);
     write_rows4(picture, 1, x + 2, y, &lines[0..8]);
     write_rows4(picture, 2, x + 2, y, &lines[8..16]);

@@ -6,9 +6,10 @@ use Rattle.vp_base.specs.Image.{Image}
 use Rattle.vp_base.specs.Block.{with_block, IsWhole}
 use Rattle.vp_loop.specs.LineSteps.{stepped}
 use Rattle.vp_loop.specs.Lanes.{line_of}
-use Rattle.vp_loop.specs.Edges.{along, line_at, pixels_of}
+use Rattle.vp_loop.specs.Edges.{along, edge_lines, line_at, pixels_of}
 use Rattle.vp_loop.proofs.StepLemmas.{width-edge_lines, height-edge_lines}
 use Rattle.vp_loop.proofs.WriteLemmas.{rows_along, turned_line}
+use Rattle.vp_loop.proofs.StillLemmas.{still_along, still_line}
 use Rattle.vp_loop.proofs.edges.filter_colours_along.Goals as goal
 
 pub returns-clause-value : goal.returns-clause-value
@@ -24,15 +25,15 @@ returns-clause-value c =
     let long_u : length rows_u ≡ 8 = simp (length-take, length-drop) (omega arith) in
     let row_u : (r : ℕ) → r < 8 → get_or rows_u r [] ≡ pixels_of (stepped step (line_at along p.u x (y + r))) =
     λ r h. (let own : get_or rows_u r [] ≡ get_or lines r [] = search (rules, places) in own)
-    ∙ turned_line pixels_of step p.u c.plane-3.result.now x (y + r) (get_or lines r []) (line_of c.apply_to_all-l.result r) (line_of c.lines_along_both.result r)
-    (c.untranspose-lines.ensures.value r (let i : r < 16 = omega arith in i)) (c.apply_to_all-l.ensures r (let i : r < 16 = omega arith in i)) (c.lines_along_both.ensures.first r h) c.plane-3.ensures in
+    ∙ turned_line pixels_of step p.u c.plane-3.result.now x (y + r) (get_or lines r []) (line_of c.in-Some.l r) (line_of c.lines_along_both.result r)
+    (c.untranspose-lines.ensures.value r (let i : r < 16 = omega arith in i)) (c.in-Some.ensures r (let i : r < 16 = omega arith in i)) (c.lines_along_both.ensures.first r h) c.plane-3.ensures in
     let whole_v : IsWhole p.v = subst IsWhole c.plane-2.ensures c.height-known-2.ensures.whole in
     let rows_v : List (List ℕ) = slice_range lines 8 16 in
     let long_v : length rows_v ≡ 8 = simp (length-take, length-drop) (omega arith) in
     let row_v : (r : ℕ) → r < 8 → get_or rows_v r [] ≡ pixels_of (stepped step (line_at along p.v x (y + r))) =
     λ r h. (let own : get_or rows_v r [] ≡ get_or lines (8 + r) [] = search (rules, places) in own)
-    ∙ turned_line pixels_of step p.v c.plane-4.result.now x (y + r) (get_or lines (8 + r) []) (line_of c.apply_to_all-l.result (8 + r)) (line_of c.lines_along_both.result (8 + r))
-    (c.untranspose-lines.ensures.value (8 + r) (let i : 8 + r < 16 = omega arith in i)) (c.apply_to_all-l.ensures (8 + r) (let i : 8 + r < 16 = omega arith in i)) (c.lines_along_both.ensures.second r h) c.plane-4.ensures in
+    ∙ turned_line pixels_of step p.v c.plane-4.result.now x (y + r) (get_or lines (8 + r) []) (line_of c.in-Some.l (8 + r)) (line_of c.lines_along_both.result (8 + r))
+    (c.untranspose-lines.ensures.value (8 + r) (let i : 8 + r < 16 = omega arith in i)) (c.in-Some.ensures (8 + r) (let i : 8 + r < 16 = omega arith in i)) (c.lines_along_both.ensures.second r h) c.plane-4.ensures in
     let f : Raster → Raster = λ q. with_block q x y 8 (length rows_v) (λ r d. get_or (get_or rows_v r []) d 0) in
     c.write_rows8-2.ensures
     ∙ (ap (λ (q : Image). record q { v = f q.v }) c.write_rows8.ensures
@@ -50,3 +51,17 @@ returns-clause-v_wide c = ap (λ (p : Image). p.v.width) (returns-clause-value c
 
 pub returns-clause-v_high : goal.returns-clause-v_high
 returns-clause-v_high c = ap (λ (p : Image). p.v.height) (returns-clause-value c) ∙ height-edge_lines along c.args.step 8 c.args.x c.args.y c.args.picture.now.v
+
+pub returns-in-None-clause-value : goal.returns-in-None-clause-value
+returns-in-None-clause-value c =
+    let p = c.args.picture.now in
+    let x = c.args.x in
+    let y = c.args.y in
+    let step = c.args.step in
+    let whole_u : IsWhole p.u = subst IsWhole c.plane.ensures c.height-known.ensures.whole in
+    let whole_v : IsWhole p.v = subst IsWhole c.plane-2.ensures c.height-known-2.ensures.whole in
+    let still_u : p.u ≡ edge_lines along step 8 x y p.u = still_along step 8 x y p.u whole_u (λ r h.
+    still_line along step p.u c.plane-3.result.now x (y + r) (line_of c.lines_along_both.result r) (c.in-None.ensures r (let i : r < 16 = omega arith in i)) (c.lines_along_both.ensures.first r h) c.plane-3.ensures) in
+    let still_v : p.v ≡ edge_lines along step 8 x y p.v = still_along step 8 x y p.v whole_v (λ r h.
+    still_line along step p.v c.plane-4.result.now x (y + r) (line_of c.lines_along_both.result (8 + r)) (c.in-None.ensures (8 + r) (let i : 8 + r < 16 = omega arith in i)) (c.lines_along_both.ensures.second r h) c.plane-4.ensures) in
+    ap₂ (λ (a b : Raster). record p { u = a; v = b }) still_u still_v

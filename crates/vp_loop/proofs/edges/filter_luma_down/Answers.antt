@@ -8,6 +8,7 @@ use Rattle.vp_loop.specs.Edges.{down, line_at, pixel_at}
 use Rattle.vp_loop.proofs.StepLemmas.{width-edge_lines, height-edge_lines}
 use Rattle.vp_loop.proofs.WriteLemmas.{down_pixel_is, rows_pixel}
 use Rattle.vp_loop.proofs.KeptLemmas.{rows_down}
+use Rattle.vp_loop.proofs.StillLemmas.{still_down, still_line}
 use Rattle.vp_loop.proofs.edges.filter_luma_down.Goals as goal
 
 pub returns-clause-value : goal.returns-clause-value
@@ -16,12 +17,12 @@ returns-clause-value c =
     let x = c.args.x in
     let y = c.args.y in
     let step = c.args.step in
-    let l = c.apply_to_all-l.result in
+    let l = c.in-Some.l in
     let rows : List (List ℕ) = l.p3 ∷ l.p2 ∷ l.p1 ∷ l.p0 ∷ l.q0 ∷ l.q1 ∷ l.q2 ∷ l.q3 ∷ [] in
     let whole : IsWhole p.luma = subst IsWhole c.plane.ensures c.height-known.ensures.whole in
     let at : (r d : ℕ) → r < 8 → d < 16 → get_or (get_or rows r []) d 0 ≡ pixel_at (stepped step (line_at down p.luma (x + d) y)) r =
     λ r d h g. down_pixel_is step p.luma c.plane-2.result.now (x + d) y r (get_or (get_or rows r []) d 0) (line_of l d) (line_of c.lines_down.result d)
-    (rows_pixel l d r h) (c.apply_to_all-l.ensures d g) (c.lines_down.ensures d g) c.plane-2.ensures in
+    (rows_pixel l d r h) (c.in-Some.ensures d g) (c.lines_down.ensures d g) c.plane-2.ensures in
     c.write_rows16.ensures ∙ ap (λ (q : Raster). record p { luma = q }) (rows_down step 16 c.args.kept x y p.luma rows refl whole c.requires.columns c.requires.rows c.requires.few c.requires.ends at)
 
 pub returns-clause-wide : goal.returns-clause-wide
@@ -29,3 +30,13 @@ returns-clause-wide c = ap (λ (p : Image). p.luma.width) (returns-clause-value 
 
 pub returns-clause-high : goal.returns-clause-high
 returns-clause-high c = ap (λ (p : Image). p.luma.height) (returns-clause-value c) ∙ height-edge_lines down c.args.step 16 c.args.x c.args.y c.args.picture.now.luma
+
+pub returns-in-None-clause-value : goal.returns-in-None-clause-value
+returns-in-None-clause-value c =
+    let p = c.args.picture.now in
+    let x = c.args.x in
+    let y = c.args.y in
+    let step = c.args.step in
+    let whole : IsWhole p.luma = subst IsWhole c.plane.ensures c.height-known.ensures.whole in
+    ap (λ (q : Raster). record p { luma = q }) (still_down step 16 x y p.luma whole (λ r h.
+    still_line down step p.luma c.plane-2.result.now (x + r) y (line_of c.lines_down.result r) (c.in-None.ensures r h) (c.lines_down.ensures r h) c.plane-2.ensures))

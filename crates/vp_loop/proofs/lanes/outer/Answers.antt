@@ -1,9 +1,12 @@
-use Rattle.std.proofs.Common.{◌≡◌, cond, ◌&&◌, nat_le, nat_lt, ap, ap₂, ◌∙◌, true, pos, ◌+ℤ◌, ◌-ℤ◌, ◌*ℤ◌, ◌*◌, ◌+◌, ◌/◌, slice_index}
+use Rattle.std.proofs.Common.{subst, w8, ◌<◌, ◌≡◌, cond, ◌&&◌, nat_le, nat_lt, ap, ap₂, ◌∙◌, true, pos, ◌+ℤ◌, ◌-ℤ◌, ◌*ℤ◌, ◌*◌, ◌+◌, ◌/◌, slice_index}
 use lib.Signed.{shr_z}
 use Rattle.vp_lanes.specs.Lane.{clamp_to_byte, biased}
 use Rattle.vp_loop.specs.LineSteps.{clamp8, is_small_step, is_smooth, is_high, macroblock_edge_filtered}
 use Rattle.vp_loop.specs.Lanes.{line_of}
 use Rattle.vp_loop.proofs.LaneLines.{smooth_is, lt_max, lane_pull, lane_eighth, lane_share, lane_outer, outer_is}
+use Rattle.vp_lanes.proofs.Bytes.{byte_lane}
+use Rattle.vp_lanes.proofs.Shape.{unsigned_lanes}
+use Rattle.vp_loop.proofs.NearLemmas.{HasNoEighth, HasNoShare, no_eighth, no_share, nearer, outer_none}
 use Rattle.vp_loop.proofs.lanes.outer.Goals as goal
 
 pub either-u0-requires : goal.either-u0-requires
@@ -45,3 +48,27 @@ returns c j h =
     all
     ∙ (outer_is m high l (c.raised.ensures.bytes j h) (c.raised-2.ensures.bytes j h) (c.raised-3.ensures.bytes j h) (c.lowered.ensures.bytes j h) (c.lowered-2.ensures.bytes j h) (c.lowered-3.ensures.bytes j h)
     ∙ ap₂ (λ x y. cond x (macroblock_edge_filtered y l) l) is_m is_h)
+
+pub returns-then-is_near_zero : goal.returns-then-is_near_zero
+returns-then-is_near_zero c j h =
+    let l = line_of c.args.l j in
+    let size = slice_index c.lane_abs_diff-edge.result j * 2 + slice_index c.lane_abs_diff-outer.result j / 2 in
+    let m = nat_le size c.args.limit && nat_le (slice_index c.most_apart-most.result j) c.args.interior in
+    let high = nat_lt c.args.threshold (slice_index c.inner_apart-apart.result j) in
+    let w : biased 128 c.masked-w.result j ≡ lane_pull m true l =
+    c.masked-w.ensures j h ∙ ap (λ z. cond m z (pos 0)) (c.filter_value-s.ensures j h ∙ ap (λ z. clamp8 (z +ℤ pos 3 *ℤ (pos l.q0 -ℤ pos l.p0))) (c.difference-d.ensures j h)) in
+    let is_m : m ≡ (is_small_step c.args.limit l && is_smooth c.args.interior l) =
+    ap₂ (λ x y. x && y) (ap₂ (λ x y. nat_le (x * 2 + y / 2) c.args.limit) (c.lane_abs_diff-edge.ensures j h) (c.lane_abs_diff-outer.ensures j h))
+    (ap (λ n. nat_le n c.args.interior) (c.most_apart-most.ensures j h) ∙ smooth_is c.args.interior _ _ _ _ _ _) in
+    let is_h : high ≡ is_high c.args.threshold l =
+    ap (λ n. nat_lt c.args.threshold n) (c.inner_apart-apart.ensures j h) ∙ lt_max c.args.threshold _ _ in
+    let near = c.is_near_zero.ensures c.if-is_near_zero.true j h in
+    let none : HasNoEighth (lane_pull m true l) = subst HasNoEighth w (no_eighth (slice_index c.masked-w.result j) (nearer (slice_index c.masked-w.result j) near)) in
+    let small : HasNoShare (lane_pull m true l) = subst HasNoShare w (no_share (slice_index c.masked-w.result j) near) in
+    let b2 : l.p2 < 256 = byte_lane c.args.l.p2 (unsigned_lanes w8 16 c.args.l.p2 _ c.well_formed.0.1.1.1.0) j h in
+    let b1 : l.p1 < 256 = byte_lane c.args.l.p1 (unsigned_lanes w8 16 c.args.l.p1 _ c.well_formed.0.1.1.1.1.0) j h in
+    let b0 : l.p0 < 256 = byte_lane c.args.l.p0 (unsigned_lanes w8 16 c.args.l.p0 _ c.well_formed.0.1.1.1.1.1.0) j h in
+    let c0 : l.q0 < 256 = byte_lane c.args.l.q0 (unsigned_lanes w8 16 c.args.l.q0 _ c.well_formed.0.1.1.1.1.1.1.0) j h in
+    let c1 : l.q1 < 256 = byte_lane c.args.l.q1 (unsigned_lanes w8 16 c.args.l.q1 _ c.well_formed.0.1.1.1.1.1.1.1.0) j h in
+    let c2 : l.q2 < 256 = byte_lane c.args.l.q2 (unsigned_lanes w8 16 c.args.l.q2 _ c.well_formed.0.1.1.1.1.1.1.1.1.0) j h in
+    outer_none m high l b2 b1 b0 c0 c1 c2 none small ∙ ap₂ (λ x y. cond x (macroblock_edge_filtered y l) l) is_m is_h

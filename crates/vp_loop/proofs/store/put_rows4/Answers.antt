@@ -1,4 +1,4 @@
-use Rattle.std.proofs.Common.{◌≡◌, ◌∙◌, ℕ, ◌+◌, ◌*◌, ◌<◌, ◌≤◌, List, [], length, slice_index, slice_index_or, ap, refl, arith}
+use Rattle.std.proofs.Common.{◌≡◌, ◌∙◌, [], length, slice_index, slice_index_or, ap, refl, arith}
 use Rattle.std.proofs.lemmas.Simd.{length-put_chunk}
 use Rattle.vp_loop.proofs.RowWrites.{none_yet, one_more}
 use Rattle.vp_loop.proofs.store.put_rows4.Goals as goal

@@ -1,7 +1,7 @@
-use Rattle.std.proofs.Common.{◌≡◌, ◌∙◌, ℕ, ◌+◌, ◌*◌, ◌<◌, ◌≤◌, List, [], length, slice_index, slice_index_or, ap, sym, subst, arith}
-use Rattle.vp_base.specs.Raster.{Raster, with_pixels}
+use Rattle.std.proofs.Common.{◌≡◌, ◌∙◌, ℕ, ◌+◌, ◌*◌, [], length, slice_index, slice_index_or, ap, sym, subst, arith}
+use Rattle.vp_base.specs.Raster.{Raster}
 use Rattle.vp_base.specs.Image.{plane_of, with_plane}
-use Rattle.vp_base.specs.Block.{IsWhole, with_block}
+use Rattle.vp_base.specs.Block.{IsWhole}
 use Rattle.vp_loop.proofs.RowReads.{block_room}
 use Rattle.vp_loop.proofs.RowWrites.{all_put}
 use Rattle.vp_loop.proofs.store.write_rows8.Goals as goal

@@ -1,5 +1,4 @@
 use Rattle.std.proofs.Common.{◌≡◌, ◌∙◌, ℕ, ◌+◌, ◌*◌, length, ap, sym, arith}
-use Rattle.vp_base.specs.Raster.{Raster}
 use Rattle.vp_loop.proofs.RowReads.{block_room, along_in}
 use Rattle.vp_loop.proofs.transpose.lines_along.Goals as goal
 

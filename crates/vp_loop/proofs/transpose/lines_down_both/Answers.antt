@@ -1,5 +1,4 @@
 use Rattle.std.proofs.Common.{◌≡◌, ◌∙◌, ℕ, ◌+◌, ◌*◌, length, ap, sym, arith}
-use Rattle.vp_base.specs.Raster.{Raster}
 use Rattle.vp_loop.proofs.RowReads.{block_room, down_in}
 use Rattle.vp_loop.proofs.transpose.lines_down_both.Goals as goal
 

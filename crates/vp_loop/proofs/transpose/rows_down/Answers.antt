@@ -1,4 +1,4 @@
-use Rattle.std.proofs.Common.{◌≡◌, ◌∙◌, ◌+◌, ◌*◌, get_or, arith}
+use Rattle.std.proofs.Common.{◌+◌, ◌*◌, arith}
 use Rattle.vp_loop.proofs.RowReads.{at_row}
 use Rattle.vp_loop.proofs.transpose.rows_down.Goals as goal
 
