@@ -4,7 +4,7 @@ ghost use Rattle.std.specs.Prelude.{◌≡◌};
 
 use std::alloc::{AllocError, Global};
 use vp_base::Plane;
-use vp_intra::{predict_chroma, predict_luma, predict_sub};
+use vp_intra::{predict_chroma, predict_luma, predict_sub, predict_sub_modes};
 use vp_tables::{ChromaMode, LumaMode, SubMode};
 
 /// Returns a plane of 32 by 32 different pixels.
@@ -115,6 +115,8 @@ fn ten_subblock_modes(rt: HostRuntime) {
     assert!(rt; predicts_subs(&plane));
     assert!(rt; predict_sub(&plane, 12, 20, SubMode::Ld) == RIGHT_OF_MACROBLOCK);
     assert!(rt; predict_sub(&plane, 28, 20, SubMode::Ld) == RIGHT_OF_FRAME);
+    // The fifth mode is LD.
+    assert!(rt; predict_sub_modes(&plane, 12, 20)[4] == RIGHT_OF_MACROBLOCK);
 }
 
 const ROW_OF_MOTION: [u8; 16] = [

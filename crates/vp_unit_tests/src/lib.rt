@@ -27,6 +27,8 @@ mod modes;
 #[cfg(test)]
 mod motion;
 #[cfg(test)]
+mod outcomes;
+#[cfg(test)]
 mod quantisers;
 #[cfg(test)]
 mod recon;

@@ -4,7 +4,7 @@ use crate::check::equal;
 use std::test::Fail;
 use vp_bool::BoolDecoder;
 use vp_head::{Header, QuantiserIndices, Saved, Tag};
-use vp_quant::{Factors, dequant, dequant_short, quantise, segment_index};
+use vp_quant::{Factors, dequant, dequant_short, quantise, quantise_block, segment_index};
 
 /// The first and the last entries of the tables in RFC 6386, chapter 14.1, and the clamped factors.
 #[test]
@@ -98,6 +98,20 @@ fn kernel_examples(rt: HostRuntime) {
     equal(&rt, &quantise(576, 4), &144);
     equal(&rt, &quantise(-7, 4), &-2);
     equal(&rt, &quantise(1 << 40, 4), &2047);
+}
+
+/// Halves are rounded away from 0. The last place in raster order is the last in zigzag order too; place 4 is third.
+#[test]
+fn quantised_blocks(rt: HostRuntime) {
+    let mut block = [0i16; 16];
+    block[0] = 576;
+    block[4] = -7;
+    block[15] = 30;
+    let mut wanted = [0i16; 16];
+    wanted[0] = 144;
+    wanted[2] = -1;
+    wanted[15] = 5;
+    equal(&rt, &quantise_block(&block, 4, 6), &wanted);
 }
 
 /// Products in 16 bits equal those in 64 bits up to 2200, and are refused beyond.

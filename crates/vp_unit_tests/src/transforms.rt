@@ -6,7 +6,8 @@ ghost use Rattle.vp_transform.specs.Fits.{EachWithin, IdctFits, IwhtFits};
 use crate::check::equal;
 use std::test::Fail;
 use vp_transform::{
-    cut, fdct, fwht, idct, idct_cut, idct_of_first, idct_pair, idct_short, iwht, iwht_of_first,
+    cut, differences, fdct, fdct_short, fwht, fwht_short, idct, idct_cut, idct_of_first, idct_pair,
+    idct_short, iwht, iwht_of_first,
 };
 
 /// The expected numbers of the second block are those of RFC 6386's own program (chapters 14.3 and 14.4).
@@ -149,6 +150,26 @@ fn forward_examples(rt: HostRuntime) {
     equal(
         &rt,
         &fwht(&block),
+        &[
+            -2135, 915, -300, 266, 797, -2353, 384, -66, -137, 493, -2482, 520, 243, -131, 854,
+            -2468,
+        ],
+    );
+}
+
+/// The same rows in 16-bit lanes.
+#[test]
+fn short_forward_examples(rt: HostRuntime) {
+    let mut even = [0i16; 16];
+    even[0] = 576;
+    equal(&rt, &differences(&[200; 16], &[128; 16]), &[72; 16]);
+    equal(&rt, &fdct_short(&[72; 16]), &even);
+    let block = [
+        -700, 123, -45, 6, 77, -888, 99, -10, 11, 12, -1313, 14, -15, 160, 17, -1818,
+    ];
+    equal(
+        &rt,
+        &fwht_short(&block),
         &[
             -2135, 915, -300, 266, 797, -2353, 384, -66, -137, 493, -2482, 520, 243, -131, 854,
             -2468,
