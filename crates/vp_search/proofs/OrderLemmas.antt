@@ -4,7 +4,7 @@ use Rattle.std.specs.Prelude.{unsigned_abs, ◌<ℤ◌}
 use Rattle.std.proofs.lemmas.Int.{ints}
 use Rattle.vp_search.specs.declared.vector.WholeVector.{WholeVector}
 use Rattle.vp_search.specs.Vectors.{vector_length, IsNear}
-use Rattle.vp_search.specs.Least.{IsNoWorse}
+use Rattle.vp_search.specs.Least.{IsNoWorse, IsLeast}
 use Rattle.vp_search.specs.Window.{vector_at}
 
 pub same : (a : ℕ) (v : WholeVector) → IsNoWorse a v a v
@@ -51,3 +51,15 @@ less_row a v b w h k l = record { by_cost = omega arith; by_size = λ e. omega a
 
 pub less_column : (a : ℕ) (v : WholeVector) (b : ℕ) (w : WholeVector) → a ≡ b → vector_length v ≡ vector_length w → v.row ≡ w.row → v.column ≤ℤ w.column → IsNoWorse a v b w
 less_column a v b w h k l m = record { by_cost = omega arith; by_size = λ e. omega arith; by_row = λ e s. omega (arith, ints); by_column = λ e s r. m }
+
+-- The zero vector is the best if it costs nothing.
+pub zero_least : (range : ℕ) (cost : WholeVector → ℕ) (v : WholeVector) → vector_length v ≡ 0 → cost v ≡ 0 → IsLeast range cost v
+zero_least range cost v short free = record {
+  near = (omega (arith, ints), omega (arith, ints));
+  least = λ w near. record {
+    by_cost = omega arith;
+    by_size = λ h. omega arith;
+    by_row = λ h k. omega (arith, ints);
+    by_column = λ h k m. omega (arith, ints);
+  };
+}

@@ -1,8 +1,9 @@
 //! The best vector of a window. Rows are searched from the centre outwards; the result does not depend on the order. A
-//! vector whose bound is above the best known cost is skipped: it is neither the best nor a tie.
+//! vector whose bound is above the best known cost is skipped: it is neither the best nor a tie. So is a longer one
+//! whose bound is that cost, as most are where the picture is flat: it is no better, and loses a tie.
 
 ghost use Rattle.std.specs.Prelude.{◌≡◌, ℕ, ◌+◌, ◌*◌, ◌<◌, ◌≤◌, ◌⊎◌, length, slice_index};
-ghost use Rattle.vp_search.specs.Vectors.{IsNear};
+ghost use Rattle.vp_search.specs.Vectors.{vector_length, IsNear};
 ghost use Rattle.vp_search.specs.Least.{IsLeast, IsNoWorse};
 ghost use Rattle.vp_search.specs.Window.{vector_at, window_cost, IsFoundInWindow};
 ghost use Rattle.vp_search.specs.Bounds.{IsSummed, IsBound};
@@ -99,6 +100,10 @@ fn consider_bounded(
         (vector_at range place.row place.column) }
 {
     if place.column > 2 * usize::from(range) || bound > best.cost {
+        return best;
+    }
+    let vector = vector_at(place.row, place.column, range);
+    if bound == best.cost && vector_length(vector) > vector_length(best.vector) {
         return best;
     }
     consider(block, window, range, best, place.row, place.column)
@@ -199,38 +204,46 @@ fn consider_row(
     found
 }
 
-/// The best vector of a window, whose squares have the sums `sums`.
-pub(crate) fn search_outwards(block: &[u8], window: &[u8], sums: &[u16], range: u8) -> Found
+/// The zero vector, whose block stands at the centre of the window, with its cost.
+pub(crate) fn centre_of(block: &[u8], window: &[u8], range: u8) -> Found
+    requires block { 256 ≤ length block.now }
+    requires window { (2 * range + 16) * WINDOW_WIDTH ≤ length window.now }
+    requires range { range ≤ 64 }
+    ensures found { IsFoundInWindow range (window_cost block.now window.now range) result }
+    ensures zero { vector_length result.vector ≡ 0 }
+    ensures bytes { (k : ℕ) → slice_index window.now k ≤ 255 }
+{
+    let middle = usize::from(range);
+    let at = middle * WINDOW_WIDTH + middle;
+    Found {
+        vector: vector_at(middle, middle, range),
+        cost: sad_within(block, window, at, WINDOW_WIDTH, u32::MAX),
+    }
+}
+
+/// The best of a known vector and all others of a window, whose squares have the sums `sums`.
+pub(crate) fn search_outwards(
+    block: &[u8],
+    window: &[u8],
+    sums: &[u16],
+    range: u8,
+    known: Found,
+) -> Found
     requires block { 256 ≤ length block.now }
     requires window { (2 * range + 16) * WINDOW_WIDTH ≤ length window.now }
     requires sums { (2 * range + 16) * WINDOW_WIDTH ≤ length sums.now }
     requires range { range ≤ 64 }
     requires summed { IsSummed window.now sums.now range }
+    requires known { IsFoundInWindow range (window_cost block.now window.now range) known }
     ensures cost { result.cost ≡ window_cost block.now window.now range result.vector }
     ensures least { IsLeast range (window_cost block.now window.now range) result.vector }
-    ensures bytes { (k : ℕ) → slice_index window.now k ≤ 255 }
 {
     let middle = usize::from(range);
-    let vector = vector_at(middle, middle, range);
-    let cost = sad_within(
-        block,
-        window,
-        middle * WINDOW_WIDTH + middle,
-        WINDOW_WIDTH,
-        u32::MAX,
-    );
     let squares = SquareSums {
         block: block_sums(block),
         window: sums,
     };
-    let mut best = consider_row(
-        block,
-        window,
-        squares,
-        range,
-        Found { vector, cost },
-        middle,
-    );
+    let mut best = consider_row(block, window, squares, range, known, middle);
     for d in 0..middle {
         best = consider_row(block, window, squares, range, best, middle - 1 - d);
         best = consider_row(block, window, squares, range, best, middle + 1 + d);

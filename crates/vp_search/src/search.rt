@@ -1,13 +1,14 @@
 //! The full search over whole pixels.
 
-ghost use Rattle.std.specs.Prelude.{◌≡◌, ◌+◌, ◌*◌, ◌<◌, ◌≤◌};
+ghost use Rattle.std.specs.Prelude.{◌≡◌, ℕ, ◌+◌, ◌*◌, ◌<◌, ◌≤◌, slice_index};
 ghost use Rattle.vp_search.specs.Vectors.{quarters};
 ghost use Rattle.vp_search.specs.Differences.{block16};
 ghost use Rattle.vp_search.specs.Blocks.{macroblock_pixels, whole_cost, quarter_cost};
 ghost use Rattle.vp_search.specs.Least.{IsLeast};
+ghost use Rattle.vp_search.specs.Window.{window_cost};
 
 use crate::block::macroblock;
-use crate::outward::search_outwards;
+use crate::outward::{centre_of, search_outwards};
 use crate::sums::fill_sums;
 use crate::vector::Found;
 use crate::window::{GREATEST_RANGE, WINDOW_WIDTH, cut_window};
@@ -79,7 +80,23 @@ fn search_in<const AREA: usize>(
 {
     let mut window = [0; AREA];
     cut_window(&mut window, reference, place, range);
+    search_window(block, &window, range)
+}
+
+/// The best vector of a window. If the zero vector costs nothing, as on black bars, no other is better.
+fn search_window<const AREA: usize>(block: &[u8; 256], window: &[u8; AREA], range: u8) -> Found
+    requires range { range ≤ 64 }
+    requires room { (2 * range + 16) * WINDOW_WIDTH + 8 ≤ AREA }
+    requires small { AREA ≤ WHOLE_WINDOW }
+    ensures cost { result.cost ≡ window_cost block.now window.now range result.vector }
+    ensures least { IsLeast range (window_cost block.now window.now range) result.vector }
+    ensures bytes { (k : ℕ) → slice_index window.now k ≤ 255 }
+{
+    let centre = centre_of(block, window, range);
+    if centre.cost == 0 {
+        return centre;
+    }
     let mut sums = [0; AREA];
-    fill_sums(&mut sums, &window, range);
-    search_outwards(block, &window, &sums, range)
+    fill_sums(&mut sums, window, range);
+    search_outwards(block, window, &sums, range, centre)
 }
