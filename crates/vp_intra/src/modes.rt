@@ -1,5 +1,5 @@
-//! The ten prediction modes of a 4x4 subblock in lanes (RFC 6386, chapter 12.3). Each mode without arithmetic of its own
-//! takes its pixels from the means of neighbouring pixels around the subblock.
+//! The ten prediction modes of a 4x4 subblock in lanes (RFC 6386, chapter 12.3). All modes but DC and TrueMotion take
+//! their pixels from the means of neighbouring pixels around the subblock.
 
 ghost use Rattle.std.specs.Prelude.{◌≡◌, ℕ, ◌+◌, ◌-◌, ◌<◌, List, length, min, map, slice_index};
 ghost use Rattle.vp_intra.specs.Edges.{first, clamped_pixel};

@@ -1,4 +1,4 @@
-//! The encoder's forward DCT of small numbers, in 16-bit lanes. No intermediate result overflows.
+//! The encoder's forward DCT of small numbers, in 16-bit lanes with 32-bit products. No intermediate result overflows.
 
 ghost use Rattle.std.specs.Prelude.{◌≡◌, ℕ, ◌<◌, ◌≤◌, pos, ◌+ℤ◌, ◌-ℤ◌, ◌*ℤ◌, slice_index, slice_index_or};
 ghost use Rattle.std.specs.Prelude.{unsigned_abs};

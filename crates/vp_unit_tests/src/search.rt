@@ -8,7 +8,8 @@ use std::test::Fail;
 use vp_base::{Place, Plane};
 use vp_inter::{luma_vector, predict_block16};
 use vp_search::{
-    Found, QuarterVector, Refined, WholeVector, first_least, full_search, refine, sad16, sse,
+    Found, QuarterVector, Refined, WholeVector, first_least, full_search, refine, refine_found,
+    sad16, search_block, sse,
 };
 
 /// Returns a pseudo-random number for each column and row.
@@ -135,6 +136,19 @@ fn predict_middle(source: &mut Plane, reference: &Plane, row: i32, column: i32)
         let block = predict_block16(reference, 16, 16, luma_vector(row, column), 0);
         source.write_block::<16>(16, 16, &block);
     }
+}
+
+/// Searches for the prediction of the middle macroblock with a vector in quarter pixels, and refines what is found.
+fn searched(reference: &Plane, row: i32, column: i32) -> Option<Refined>
+    requires { IsNear 100 (record { row = row; column = column }) }
+{
+    if reference.width() != 48 || reference.height() != 48 {
+        return None;
+    }
+    let place = Place { column: 1, row: 1 };
+    let block = predict_block16(reference, 16, 16, luma_vector(row, column), 0);
+    let found = search_block(&block, reference, place, 8);
+    Some(refine_found(&block, reference, place, found))
 }
 
 /// The sum of absolute differences, computed directly.
@@ -283,6 +297,21 @@ fn predicted_blocks_are_refined(rt: HostRuntime) -> Result<(), Fail> {
         cost: 0,
     };
     equal(&rt, &refined(&source, &reference, 2, -3), &Some(best));
+    Ok(())
+}
+
+#[test]
+fn found_blocks_are_refined(rt: HostRuntime) -> Result<(), Fail> {
+    let mut reference = Plane::new(rt.alloc(), 48, 48, 0)?;
+    fill_slope(&mut reference);
+    let best = Refined {
+        vector: QuarterVector {
+            row: 10,
+            column: -11,
+        },
+        cost: 0,
+    };
+    equal(&rt, &searched(&reference, 10, -11), &Some(best));
     Ok(())
 }
 
