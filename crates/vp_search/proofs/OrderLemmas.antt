@@ -1,11 +1,12 @@
 -- Lemmas on the order of vectors.
-use Rattle.std.proofs.Common.{◌≡◌, ℕ, ℤ, pos, negsuc, suc, ◌+◌, ◌*◌, ◌-◌, ◌<◌, ◌≤◌, ◌-ℤ◌, ◌≤ℤ◌, arith}
+use Rattle.std.proofs.Common.{◌≡◌, ℕ, ℤ, pos, negsuc, suc, ◌+◌, ◌*◌, ◌-◌, ◌<◌, ◌≤◌, ◌-ℤ◌, ◌≤ℤ◌, sym, subst, arith}
 use Rattle.std.specs.Prelude.{unsigned_abs, ◌<ℤ◌}
 use Rattle.std.proofs.lemmas.Int.{ints}
 use Rattle.vp_search.specs.declared.vector.WholeVector.{WholeVector}
 use Rattle.vp_search.specs.Vectors.{vector_length, IsNear}
 use Rattle.vp_search.specs.Least.{IsNoWorse, IsLeast}
-use Rattle.vp_search.specs.Window.{vector_at}
+use Rattle.vp_search.specs.declared.vector.Found.{Found}
+use Rattle.vp_search.specs.Window.{vector_at, IsFoundInWindow}
 
 pub same : (a : ℕ) (v : WholeVector) → IsNoWorse a v a v
 same a v = record { by_cost = omega arith; by_size = λ _. omega arith; by_row = λ _ _. omega (arith, ints); by_column = λ _ _ _. omega (arith, ints) }
@@ -62,4 +63,17 @@ zero_least range cost v short free = record {
     by_row = λ h k. omega (arith, ints);
     by_column = λ h k m. omega (arith, ints);
   };
+}
+
+-- A vector that is no worse than those at all places of a window is the best.
+pub least_of_all : (range : ℕ) (cost : WholeVector → ℕ) (found : Found) → IsFoundInWindow range cost found
+    → ((i j : ℕ) → i ≤ 2 * range → j ≤ 2 * range → IsNoWorse found.cost found.vector (cost (vector_at range i j)) (vector_at range i j))
+    → IsLeast range cost found.vector
+least_of_all range cost found kept seen = record {
+  near = kept.near;
+  least = λ v near.
+      let x = index range v.row near.0 in let y = index range v.column near.1 in
+      let e : vector_at range x.at y.at ≡ v = vector_is (vector_at range x.at y.at) v (sym x.is) (sym y.is) in
+      subst (λ (k : ℕ). IsNoWorse k found.vector (cost v) v) kept.known
+      (subst (λ (u : WholeVector). IsNoWorse found.cost found.vector (cost u) u) e (seen x.at y.at x.within y.within));
 }

@@ -221,6 +221,41 @@ pub(crate) fn centre_of(block: &[u8], window: &[u8], range: u8) -> Found
     }
 }
 
+/// The best of a known vector and those of row `i`, one by one.
+fn consider_plain_row(block: &[u8], window: &[u8], range: u8, best: Found, i: usize) -> Found
+    requires block { 256 ≤ length block.now }
+    requires window { (2 * range + 16) * WINDOW_WIDTH ≤ length window.now }
+    requires range { range ≤ 64 }
+    requires i { i ≤ 2 * range }
+    requires best { IsFoundInWindow range (window_cost block.now window.now range) best }
+    ensures kept { IsFoundInWindow range (window_cost block.now window.now range) result }
+    ensures old { IsNoWorse result.cost result.vector best.cost best.vector }
+    ensures here { (j : ℕ) → j ≤ 2 * range → IsNoWorse result.cost result.vector
+        (window_cost block.now window.now range (vector_at range i j)) (vector_at range i j) }
+{
+    let mut found = best;
+    for j in 0..2 * usize::from(range) + 1 {
+        found = consider(block, window, range, found, i, j);
+    }
+    found
+}
+
+/// The best of a known vector and all others of a window, one by one: for ranges in which bounds don't pay.
+pub(crate) fn search_plainly(block: &[u8], window: &[u8], range: u8, known: Found) -> Found
+    requires block { 256 ≤ length block.now }
+    requires window { (2 * range + 16) * WINDOW_WIDTH ≤ length window.now }
+    requires range { range ≤ 64 }
+    requires known { IsFoundInWindow range (window_cost block.now window.now range) known }
+    ensures cost { result.cost ≡ window_cost block.now window.now range result.vector }
+    ensures least { IsLeast range (window_cost block.now window.now range) result.vector }
+{
+    let mut best = known;
+    for i in 0..2 * usize::from(range) + 1 {
+        best = consider_plain_row(block, window, range, best, i);
+    }
+    best
+}
+
 /// The best of a known vector and all others of a window, whose squares have the sums `sums`.
 pub(crate) fn search_outwards(
     block: &[u8],

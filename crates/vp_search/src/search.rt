@@ -8,7 +8,7 @@ ghost use Rattle.vp_search.specs.Least.{IsLeast};
 ghost use Rattle.vp_search.specs.Window.{window_cost};
 
 use crate::block::macroblock;
-use crate::outward::{centre_of, search_outwards};
+use crate::outward::{centre_of, search_outwards, search_plainly};
 use crate::sums::fill_sums;
 use crate::vector::Found;
 use crate::window::{GREATEST_RANGE, WINDOW_WIDTH, cut_window};
@@ -16,6 +16,9 @@ use vp_base::{Place, Plane};
 
 /// The greatest range for which the small window is used; less memory has to be cleared.
 const SMALL_RANGE: u8 = 16;
+
+/// The least range for which the bounds of vectors are made: below it they cost more than they save.
+const LEAST_BOUNDED_RANGE: u8 = 6;
 
 /// The number of pixels in the window of a search of the small range, and eight more, as pixels are loaded by eight.
 const SMALL_WINDOW: usize = (16 + 2 * SMALL_RANGE as usize) * WINDOW_WIDTH + 8;
@@ -95,6 +98,9 @@ fn search_window<const AREA: usize>(block: &[u8; 256], window: &[u8; AREA], rang
     let centre = centre_of(block, window, range);
     if centre.cost == 0 {
         return centre;
+    }
+    if range < LEAST_BOUNDED_RANGE {
+        return search_plainly(block, window, range, centre);
     }
     let mut sums = [0; AREA];
     fill_sums(&mut sums, window, range);

@@ -1,10 +1,9 @@
 use Rattle.std.proofs.Common.{◌≡◌, ℕ, ◌+◌, sym, arith, subst, inl, inr, ◌-◌}
-use Rattle.vp_search.specs.declared.vector.WholeVector.{WholeVector}
 use Rattle.vp_search.specs.declared.vector.Found.{Found}
 use Rattle.vp_search.specs.Least.{IsNoWorse}
 use Rattle.vp_search.specs.Window.{window_cost, vector_at}
 use Rattle.std.proofs.lemmas.Bool.{cases_eq}
-use Rattle.vp_search.proofs.OrderLemmas.{index, vector_is, along}
+use Rattle.vp_search.proofs.OrderLemmas.{least_of_all, along}
 use Rattle.vp_search.proofs.outward.search_outwards.Goals as goal
 
 pub loop-d-preserved : goal.loop-d-preserved
@@ -30,16 +29,8 @@ loop-d-preserved c =
 
 pub returns-clause-least : goal.returns-clause-least
 returns-clause-least c =
-    let r = c.args.range in let f : Found = c.loop-d.best in
-    let cost = window_cost c.args.block.now c.args.window.now r in
+    let r = c.args.range in
     let m : c.from-middle.result ≡ r = c.from-middle.ensures in
     let t = c.loop-d-test.false in
-    record {
-      near = c.loop-d.invariant.kept.near;
-      least = λ v near.
-          let x = index r v.row near.0 in let y = index r v.column near.1 in
-          let xw = x.within in let yw = y.within in
-          let e : vector_at r x.at y.at ≡ v = vector_is (vector_at r x.at y.at) v (sym x.is) (sym y.is) in
-          subst (λ (k : ℕ). IsNoWorse k f.vector (cost v) v) c.loop-d.invariant.kept.known
-          (subst (λ (u : WholeVector). IsNoWorse f.cost f.vector (cost u) u) e (c.loop-d.invariant.seen x.at y.at (omega arith) (omega arith) yw));
-    }
+    least_of_all r (window_cost c.args.block.now c.args.window.now r) c.loop-d.best c.loop-d.invariant.kept
+    (λ i j high wide. c.loop-d.invariant.seen i j (omega arith) (omega arith) wide)
