@@ -6,7 +6,7 @@ use Rattle.vp_ivf.specs.declared.packet.Packet.{Packet}
 use Rattle.vp_ivf.specs.declared.packet.IvfHead.{IvfHead}
 use Rattle.vp_ivf.specs.declared.fault.FileFault.{FileFault}
 use Rattle.vp_ivf.specs.declared.fault.FileFault.TheVariants.{TooMany, PacketTooLarge}
-use Rattle.vp_ivf.specs.Ivf.{Contents, packet_size, packet_at, next_size, next_head, cuts, read_file, with_prefix, stop}
+use Rattle.vp_ivf.specs.Ivf.{Contents, packet_size, packet_at, next_size, next_head, cuts, read_file, read_from, with_prefix, stop}
 
 zero_step : {A : Type 0} (short : Bool) (s : ℕ) → cond short (Ok None) (Err TooMany) ≡ Ok (Some s) → A
 zero_step true s h = cc
@@ -39,6 +39,10 @@ pub cuts-stop : (head : Option IvfHead) (max n : ℕ) (b : List ℕ) → next_si
 unfolding cuts
 cuts-stop head max zero b h = rw h refl
 cuts-stop head max (suc n) b h = rw h refl
+
+-- behind the head, nothing is read before the first packet is whole
+pub waits : (head : Option IvfHead) (h : IvfHead) (max n : ℕ) (b : List ℕ) → head ≡ Some h → Ok None ≡ next_size max n b → read_from head max n b ≡ stop head n None b
+waits head h max n b e w = rw e (cuts-stop (Some h) max n b (sym w))
 
 pub cuts-fault : (head : Option IvfHead) (max n : ℕ) (b : List ℕ) (f : FileFault) → next_size max n b ≡ Err f → cuts head max n b ≡ stop head n (Some f) b
 unfolding cuts

@@ -1,6 +1,6 @@
 -- What a reader stands for after a call.
-use Rattle.std.proofs.Common.{◌≡◌, ℕ, ◌-◌, ◌+◌, ◌/◌, ◌≤◌, Bool, false, List, [], ◌++◌, length, take, drop, Option, Some, None, refl, sym, ap, subst, ◌∙◌, arith}
-use Rattle.std.proofs.lemmas.List.{length-append, length-drop, drop-append-le, take_at}
+use Rattle.std.proofs.Common.{◌≡◌, ℕ, ◌+◌, ◌/◌, ◌≤◌, Bool, false, List, [], ◌++◌, length, drop, Option, Some, None, refl, sym, ap, subst, ◌∙◌, arith}
+use Rattle.std.proofs.lemmas.List.{length-append, drop-append-le}
 use Rattle.vp_ivf.specs.declared.packet.Packet.{Packet}
 use Rattle.vp_ivf.specs.declared.packet.IvfHead.{IvfHead}
 use Rattle.vp_ivf.specs.declared.fault.FileFault.{FileFault}
@@ -39,16 +39,13 @@ stands_fed max limit r new ended h piece e s =
     }
 
 -- what feeding leaves
-pub fed_reading : (head : Option IvfHead) (max left : ℕ) (packets newer : List Packet) (rest piece all turned : List ℕ) (c : Cutting) (kept : ℕ)
-    → all ≡ rest ++ piece → c.used ≤ length all → kept ≡ length all - c.used
-    → turned ≡ drop c.used all ++ take c.used all
+pub fed_reading : (head : Option IvfHead) (max left : ℕ) (packets newer : List Packet) (rest piece all kept : List ℕ) (c : Cutting)
+    → all ≡ rest ++ piece → kept ≡ drop c.used all
     → newer ≡ packets ++ c.packets.items
     → contents_of_cutting c all ≡ read_from head max left all
-    → record { head = c.head; packets = newer; left = c.left; fault = c.fault; rest = take kept turned } ≡ resume_at None max (record { head = head; packets = packets; left = left; fault = None; rest = rest }) piece
-fed_reading head max left packets newer rest piece all turned c kept is_all le is_kept t n r =
-    let k : length (drop c.used all) ≡ kept = omega (arith, length-drop c.used all) in
-    let back : take kept turned ≡ drop c.used all = rw t (take_at (drop c.used all) (take c.used all) kept k) in
-    rw (back, n) (ap (λ x. with_prefix packets x) r ∙ rw is_all refl)
+    → record { head = c.head; packets = newer; left = c.left; fault = c.fault; rest = kept } ≡ resume_at None max (record { head = head; packets = packets; left = left; fault = None; rest = rest }) piece
+fed_reading head max left packets newer rest piece all kept c is_all k n r =
+    rw (k, n) (ap (λ x. with_prefix packets x) r ∙ rw is_all refl)
 
 pub no_fault : (f : Option FileFault) (ended : Bool) → refusal_at f ended ≡ None → f ≡ None
 no_fault None ended e = refl
@@ -70,15 +67,12 @@ pub stands_resumed : (old new : ReaderState) (h : ReaderHistory) (piece : List �
 stands_resumed old new h piece e s = rw e (stands_fed old.max old.limit old.reading (resume old.max old.reading piece) old.ended h piece refl s)
 
 -- what feeding leaves is settled
-pub fed_settled : (head : Option IvfHead) (max left : ℕ) (all turned : List ℕ) (c : Cutting) (kept : ℕ)
-    → c.used ≤ length all → kept ≡ length all - c.used
-    → turned ≡ drop c.used all ++ take c.used all
+pub fed_settled : (head : Option IvfHead) (max left : ℕ) (all kept : List ℕ) (c : Cutting)
+    → kept ≡ drop c.used all
     → contents_of_cutting c all ≡ read_from head max left all
-    → IsSettled max (record { head = c.head; packets = []; left = c.left; fault = c.fault; rest = take kept turned })
-fed_settled head max left all turned c kept le is_kept t r = λ none.
-    let k : length (drop c.used all) ≡ kept = omega (arith, length-drop c.used all) in
-    let back : take kept turned ≡ drop c.used all = rw t (take_at (drop c.used all) (take c.used all) kept k) in
-    rw back (let P : Contents → Type 0 = λ x. IsSettled max x in subst P (sym r) (read_from-settled head max left all) none)
+    → IsSettled max (record { head = c.head; packets = []; left = c.left; fault = c.fault; rest = kept })
+fed_settled head max left all kept c k r = λ none.
+    rw k (let P : Contents → Type 0 = λ x. IsSettled max x in subst P (sym r) (read_from-settled head max left all) none)
 
 pub settled_first : (max limit : ℕ) → read_file max limit [] ≡ stop None limit None []
 unfolding read_file next_head

@@ -1,13 +1,14 @@
 //! The IVF reader.
 
 ghost use Rattle.std.specs.Prelude.{◌≡◌, ◌≢◌, ◌≤◌, ◌+◌, ◌/◌, length, None, Some, Err, slice_get, option_to_list};
+ghost use Rattle.std.specs.Prelude.{[], vec_len, drop};
 ghost use Rattle.vp_ivf.specs.Ivf.{read_file, resume};
 ghost use Rattle.vp_ivf.specs.declared.fault.FileFault.{FileFault};
 ghost use Rattle.vp_ivf.specs.Reader.{ReaderHistory, IsReaderAfter, SameLimits, initial_reader, empty_reader_history};
 ghost use Rattle.vp_ivf.specs.Reader.{with_reader_piece, with_taken, with_reader_end, after_end, without_packets};
 ghost use Rattle.vp_ivf.specs.Reader.{refusal, answer_by, finish_answer, fed_packets};
 
-use crate::cutting::{Cutting, read_on};
+use crate::cutting::{Cutting, is_waiting, read_on};
 use crate::fault::{FeedError, FileFault};
 use crate::packet::{IvfHead, Packet};
 use std::alloc::Global;
@@ -152,9 +153,16 @@ impl Reader {
         ensures reading { result ≢ Err FeedError.Memory →
             self.new ≡ record self.old { reading = resume self.old.max self.old.reading piece.now } }
     {
+        if self.rest.is_empty() {
+            return self.take_alone(piece);
+        }
         let held = self.rest.len();
         if self.rest.extend_from_slice(piece).is_err() {
             return Err(FeedError::Memory);
+        }
+        // Short pieces mostly end here.
+        if is_waiting(self.head, self.max, self.left, &self.rest) {
+            return Ok(());
         }
         let Ok(mut cutting) = read_on(self.alloc, self.head, self.max, self.left, &self.rest) else {
             self.rest.truncate(held);
@@ -164,13 +172,42 @@ impl Reader {
             self.rest.truncate(held);
             return Err(FeedError::Memory);
         }
-        let kept = self.rest.len() - cutting.used;
-        self.rest.rotate_left(cutting.used);
-        self.rest.truncate(kept);
+        remove_front(&mut self.rest, cutting.used);
         self.head = cutting.head;
         self.left = cutting.left;
         self.fault = cutting.fault;
         answer(cutting.fault)
+    }
+
+    // Consumes a piece that is not rejected, while no bytes are kept. It is cut where it lies, and only the bytes after
+    // its packets are copied. Room is made for all of it, as if it were kept whole.
+    fn take_alone(&mut self, piece: &[u8]) -> Result<(), FeedError>
+        requires calm { refusal self.old ≡ None }
+        requires alone { self.old.reading.rest ≡ [] }
+        ensures memory { result ≡ Err FeedError.Memory → self.new ≡ self.old }
+        ensures few { length self.new.reading.packets
+            ≤ length self.old.reading.packets + length piece.now / 12 + 1 }
+        ensures answer { result ≢ Err FeedError.Memory → result ≡ answer_by self.new.reading.fault }
+        ensures reading { result ≢ Err FeedError.Memory →
+            self.new ≡ record self.old { reading = resume self.old.max self.old.reading piece.now } }
+    {
+        if self.rest.try_reserve(piece.len()).is_err() {
+            return Err(FeedError::Memory);
+        }
+        let Ok(mut cutting) = read_on(self.alloc, self.head, self.max, self.left, piece) else {
+            return Err(FeedError::Memory);
+        };
+        if self.packets.append(&mut cutting.packets).is_err() {
+            return Err(FeedError::Memory);
+        }
+        let Ok(()) = self.rest.extend_from_slice(piece.split_at(cutting.used).1) else {
+            unreachable!();
+        };
+        let fault = cutting.fault;
+        self.head = cutting.head;
+        self.left = cutting.left;
+        self.fault = fault;
+        answer(fault)
     }
 
     /// Ends the file. `Torn` if it ends inside the header or a packet. Repeated calls give the same result.
@@ -200,4 +237,19 @@ fn answer(fault: Option<FileFault>) -> Result<(), FeedError>
         Some(fault) => Err(FeedError::Fault(fault)),
         None => Ok(()),
     }
+}
+
+/// Removes the first `count` bytes. The others move to the front.
+fn remove_front(bytes: &mut Vec<u8>, count: usize)
+    requires { count ≤ vec_len bytes.old }
+    ensures { bytes.new.items ≡ drop count bytes.old.items }
+{
+    let kept = bytes.len() - count;
+    if kept <= count {
+        let (front, back) = bytes.as_mut_slice().split_at_mut(count);
+        front[..kept].copy_from_slice(back);
+    } else {
+        bytes.rotate_left(count);
+    }
+    bytes.truncate(kept);
 }
