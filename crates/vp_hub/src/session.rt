@@ -109,21 +109,24 @@ fn serve_open<R: Read, W: Write>(
     ensures turns { result ≡ Err ServeFault.ReadTurns →
         HasRisenBy (2 ^ 20) (counted_reads reader.old) (counted_reads reader.new) }
 {
+    // It is cleared only once, since that takes longer than a short read.
+    let mut buffer = [0; 4096];
     for _turn in 0..1_048_576u32 {
-        if !exchange(hub, conn, reader, writer)? {
+        if !exchange(hub, conn, reader, writer, &mut buffer)? {
             return Ok(());
         }
     }
     Err(ServeFault::ReadTurns)
 }
 
-// Reads once, and writes the response. Returns false at the reader's end, and after a response that closes the
-// connection.
+// Reads once into the buffer, and writes the response. Returns false at the reader's end, and after a response that
+// closes the connection.
 fn exchange<R: Read, W: Write>(
     hub: &mut Hub,
     conn: u32,
     reader: &mut Counted<R>,
     writer: &mut Counted<W>,
+    buffer: &mut [u8; 4096],
 ) -> Result<bool, ServeFault>
     ensures exchanged { (piece : List ℕ)
         × Consumes (counted_remaining R.remaining reader.old) (counted_remaining R.remaining reader.new) piece
@@ -138,8 +141,7 @@ fn exchange<R: Read, W: Write>(
         × (counted_failures writer.new ≡ counted_failures writer.old) }
     ensures counts { counted_reads reader.new ≡ one_more (counted_reads reader.old) }
 {
-    let mut buffer = [0; 4096];
-    let Ok(count) = reader.read(&mut buffer) else {
+    let Ok(count) = reader.read(buffer) else {
         return Err(ServeFault::Device);
     };
     if count == 0 {

@@ -31,6 +31,8 @@ pub enum Next {
 pub struct PacketReader {
     file: Reader,
     turns: u32,
+    // Each piece is read into this buffer. It is cleared only once, since that takes longer than a short read.
+    buffer: [u8; 4096],
 }
 
 impl Model for PacketReader {
@@ -49,6 +51,7 @@ impl PacketReader {
         PacketReader {
             file: Reader::new(alloc, limits),
             turns: u32::MAX,
+            buffer: [0; 4096],
         }
     }
 
@@ -116,15 +119,14 @@ impl PacketReader {
         if self.turns == 0 {
             return Err(SurveyFault::ReadTurns);
         }
-        let mut buffer = [0; 4096];
-        let Ok(count) = reader.read(&mut buffer) else {
+        let Ok(count) = reader.read(&mut self.buffer) else {
             return Err(SurveyFault::Device);
         };
         if count == 0 {
             return Ok(false);
         }
         self.turns -= 1;
-        match self.file.feed(&buffer[..count]) {
+        match self.file.feed(&self.buffer[..count]) {
             Err(FeedError::Memory) => Err(SurveyFault::Memory),
             Ok(()) | Err(FeedError::Fault(_)) => Ok(true),
         }
