@@ -1,6 +1,6 @@
 -- Nine flags that go along from block to block are those by which the blocks are read.
 use Rattle.std.proofs.Common.{◌≡◌, ◌∙◌, ℕ, zero, suc, ◌+◌, ◌<◌, ◌≤◌, Bool, true, false, List, [], ◌∷◌, length, get_or, refl, sym, ap, subst, arith, inl, inr, add-one, length-set}
-use Rattle.std.specs.Prelude.{slice_index, slice_set, if◌then◌else◌}
+use Rattle.std.specs.Prelude.{slice_index, slice_set}
 use Rattle.std.proofs.lemmas.Bool.{ne_eqb, le-ltb, lt-ltb, cases_lt}
 use Rattle.std.proofs.lemmas.List.{get_or-set_other, get_or-replicate, get_or_past}
 use Rattle.vp_bool.specs.Bools.{State}
@@ -14,14 +14,8 @@ use Rattle.vp_tokens.specs.Levels.{Probabilities, bands_of, first_of, coefficien
 use Rattle.vp_tokens.specs.Blocks.{flag_at, had_of, is_there, true_count, kind_of, y2_or, block_at, no_blocks}
 use Rattle.vp_tokens.specs.Contexts.{bottom_row_flags, right_column_flags}
 use Rattle.vp_tokens.specs.Flagged.{above_flag, left_flag, by_flags}
-use Rattle.vp_tokens.specs.Placed.{Reading, banded, placed, plane, all_placed}
+use Rattle.vp_tokens.specs.Placed.{Reading, flags_at, banded, placed, plane, all_placed}
 use Rattle.vp_tokens.proofs.Around.{each_block}
-
--- nine flags behind blocks 0 to k - 1, each of which was put at its place
-abbrev flags_at : List ℕ → Bool → List Bool → List Bool → ℕ → List Bool
-flags_at places has_y2 start had zero = start
-flags_at places has_y2 start had (suc k) =
-    if is_there has_y2 k then slice_set (flags_at places has_y2 start had k) (slice_index places k) (flag_at had k) else flags_at places has_y2 start had k
 
 flags-same : (places : List ℕ) (has_y2 : Bool) (start had had' : List Bool) (k : ℕ) → ((j : ℕ) → j < k → flag_at had j ≡ flag_at had' j) → flags_at places has_y2 start had k ≡ flags_at places has_y2 start had' k
 flags-same places has_y2 start had had' zero e = refl
@@ -72,13 +66,13 @@ nine-is (a ∷ (b ∷ (c ∷ (d ∷ (f ∷ (g ∷ (h ∷ (i ∷ (j ∷ [])))))))
 nine-is (a ∷ (b ∷ (c ∷ (d ∷ (f ∷ (g ∷ (h ∷ (i ∷ (j ∷ (k ∷ xs)))))))))) e = absurd (omega arith)
 
 module _ (xs had : List Bool) (has_y2 : Bool) (whole : length xs ≡ 9) where
-  above-is : (k : ℕ) → k < 25 → is_there has_y2 k ≡ true → flag_at (flags_at ABOVE has_y2 xs had k) (slice_index ABOVE k) ≡ above_flag xs had k
+  pub above-is : (k : ℕ) → k < 25 → is_there has_y2 k ≡ true → flag_at (flags_at ABOVE has_y2 xs had k) (slice_index ABOVE k) ≡ above_flag xs had k
   unfolding nine
   above-is k lt t =
       let P : List Bool → Type 0 = λ zs. flag_at (flags_at ABOVE has_y2 zs had k) (slice_index ABOVE k) ≡ above_flag zs had k in
       subst P (nine-is xs whole) (above-at _ _ _ _ _ _ _ _ _ had has_y2 k lt t)
 
-  left-is : (k : ℕ) → k < 25 → is_there has_y2 k ≡ true → flag_at (flags_at LEFT has_y2 xs had k) (slice_index LEFT k) ≡ left_flag xs had k
+  pub left-is : (k : ℕ) → k < 25 → is_there has_y2 k ≡ true → flag_at (flags_at LEFT has_y2 xs had k) (slice_index LEFT k) ≡ left_flag xs had k
   unfolding nine
   left-is k lt t =
       let P : List Bool → Type 0 = λ zs. flag_at (flags_at LEFT has_y2 zs had k) (slice_index LEFT k) ≡ left_flag zs had k in

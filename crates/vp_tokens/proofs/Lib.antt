@@ -5,8 +5,8 @@ pub mod FlagLemmas
 pub mod Reading
 pub mod Steps
 pub mod WritingLemmas
-pub mod TokenLemmas
 pub mod WalkLemmas
+pub mod WalkWritingLemmas
 pub mod FrontLemmas
 pub mod BlockWriting
 pub mod MacroblockWriting

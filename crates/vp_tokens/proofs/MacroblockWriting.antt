@@ -1,6 +1,6 @@
 -- How the blocks of a macroblock are written, one after another.
-use Rattle.std.proofs.Common.{◌≡◌, ◌∙◌, ℕ, ℤ, pos, zero, suc, ◌+◌, ◌-◌, ◌<◌, ◌≤◌, Bool, true, false, nat_lt, List, [], ◌∷◌, length, replicate, get_or, refl, sym, ap, arith, inl, inr}
-use Rattle.std.specs.Prelude.{◌||◌}
+use Rattle.std.proofs.Common.{◌≡◌, ◌∙◌, ℕ, ℤ, pos, zero, suc, ◌+◌, ◌-◌, ◌<◌, ◌≤◌, Bool, true, false, nat_lt, List, [], ◌∷◌, length, replicate, get_or, refl, sym, ap, arith, inl, inr, add-one}
+use Rattle.std.specs.Prelude.{◌||◌, slice_index, slice_set}
 use Rattle.std.specs.List.{list_any}
 use Rattle.std.proofs.lemmas.Bool.{cases_eq, cases_lt, lt-ltb}
 use Rattle.vp_base.specs.declared.place.Place.{Place}
@@ -16,8 +16,12 @@ use Rattle.vp_tokens.specs.Blocks.{Blocks, flag_at, had_of, true_count, kind_of,
 use Rattle.vp_tokens.specs.declared.contexts.Tokens.{Tokens}
 use Rattle.vp_tokens.specs.Contexts.{above_flags, left_flags}
 use Rattle.vp_tokens.specs.Flagged.{above_flag, left_flag, by_flags}
+use Rattle.vp_tokens.specs.declared.macroblock.Flags.{Flags}
+use Rattle.vp_tokens.specs.declared.macroblock.TheConstants.{ABOVE, LEFT}
+use Rattle.vp_tokens.specs.Placed.{AreFlagsAt}
 use Rattle.vp_tokens.specs.Written.{prefix_blocks}
 use Rattle.vp_tokens.proofs.Reading.{macroblock-is}
+use Rattle.vp_tokens.proofs.FlagLemmas.{above-is, left-is}
 use Rattle.vp_tokens.proofs.FrontLemmas.{front-more, front-all, front-none}
 
 -- ---- a block's context is known from the blocks before it
@@ -74,6 +78,32 @@ module _ (p : Probabilities) (has_y2 : Bool) (above left : List Bool) where
   unfolding block_at
   no_block_written k [] old z without same = rw (z, without) (Continues-none _ _)
   no_block_written k (x ∷ xs) old z without same = rw (z, without, same) (Continues-none _ _)
+
+-- ---- the flags around a block
+
+module _ (has_y2 : Bool) (above left : List Bool) (blocks : List Block) (k : ℕ) (flags : Flags) where
+  pub context-by : k < 25 → is_there has_y2 k ≡ true → AreFlagsAt has_y2 above left (had_of blocks) k flags
+      → true_count (flag_at flags.above (slice_index ABOVE k)) (flag_at flags.left (slice_index LEFT k))
+      ≡ true_count (above_flag above (had_of blocks) k) (left_flag left (had_of blocks) k)
+  context-by lt there f =
+      rw (f.above_is, f.left_is, above-is above (had_of blocks) has_y2 f.above_nine k lt there, left-is left (had_of blocks) has_y2 f.left_nine k lt there) refl
+
+  pub flags-more : is_there has_y2 k ≡ true → (b : Bool) → b ≡ flag_at (had_of blocks) k → AreFlagsAt has_y2 above left (had_of blocks) k flags
+      → AreFlagsAt has_y2 above left (had_of blocks) (k + 1) (record { above = slice_set flags.above (slice_index ABOVE k) b; left = slice_set flags.left (slice_index LEFT k) b })
+  flags-more there b e f = record {
+    above_nine = f.above_nine;
+    left_nine = f.left_nine;
+    above_is = rw (add-one, there, e, f.above_is) refl;
+    left_is = rw (add-one, there, e, f.left_is) refl;
+  }
+
+  pub flags-kept : k ≡ 0 → has_y2 ≡ false → AreFlagsAt has_y2 above left (had_of blocks) k flags → AreFlagsAt has_y2 above left (had_of blocks) (k + 1) flags
+  flags-kept z without f = record {
+    above_nine = f.above_nine;
+    left_nine = f.left_nine;
+    above_is = f.above_is ∙ rw (z, without) refl;
+    left_is = f.left_is ∙ rw (z, without) refl;
+  }
 
 -- ---- all of them
 

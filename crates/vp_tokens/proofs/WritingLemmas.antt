@@ -1,5 +1,5 @@
 -- How sizes and levels are written.
-use Rattle.std.proofs.Common.{◌≡◌, ◌≢◌, ℕ, ℤ, pos, negsuc, zero, suc, ◌+◌, ◌*◌, ◌/◌, ◌%◌, ◌^◌, ◌<◌, ◌≤◌, Bool, false, eqb, ltb, List, length, drop, get_or, refl, sym, arith, add-one}
+use Rattle.std.proofs.Common.{◌≡◌, ◌≢◌, ℕ, ℤ, pos, negsuc, zero, suc, ◌+◌, ◌*◌, ◌/◌, ◌%◌, ◌^◌, ◌<◌, ◌≤◌, Bool, false, eqb, ltb, List, [], length, drop, get_or, refl, sym, arith, add-one}
 use Rattle.std.specs.Prelude.{unsigned_abs}
 use Rattle.std.specs.Int.{from_bool}
 use Rattle.std.proofs.Math.Nat.{div-div-eq-div-mul}
@@ -13,7 +13,11 @@ use Rattle.vp_bool.specs.Reader.{give}
 use Rattle.vp_bool.specs.Intervals.{Interval}
 use Rattle.vp_bool.specs.Writing.{Continues, Writes}
 use Rattle.vp_bool.proofs.WritingLemmas.{Writes-then, Continues-none, Continues-given}
-use Rattle.vp_tokens.specs.Levels.{bits, signed_level}
+use Rattle.vp_tables.specs.declared.modes.Token.{Token}
+use Rattle.vp_tables.specs.declared.modes.Token.TheVariants as token_is
+use Rattle.vp_tables.specs.Tables.{least_size, extra_probabilities}
+use Rattle.vp_tokens.specs.Levels.{bits, size, signed_level}
+use Rattle.vp_tokens.specs.Written.{IsTokenOf}
 
 -- ---- bits
 
@@ -37,6 +41,27 @@ bits_written v i ps b lt w =
 pub bits_end : (v w i : ℕ) (ps : List ℕ) (old : Interval) → length ps ≤ i → v ≡ w → Continues (bits v (drop i ps)) (give w) old old
 unfolding bits
 bits_end v w i ps old le same = rw (drop_all i ps le) (Continues-given same old)
+
+-- a magnitude that is its token's only one
+only_size : (t : Token) (v : ℕ) (old : Interval) → extra_probabilities t ≡ [] → least_size t ≡ v → Writes (size t) old old v
+unfolding size bits
+only_size t v old none same = rw none (Writes-then _ (Continues-none _ old) (Continues-given (rw same (omega arith)) old))
+
+-- magnitudes below 5 have no extra bits
+pub size_unwritten : (t : Token) (v : ℕ) (old : Interval) → IsTokenOf t v → v < 5 → Writes (size t) old old v
+unfolding least_size extra_probabilities
+size_unwritten token_is.EndOfBlock v old is small = absurd (let on = is.goes_on in cc)
+size_unwritten token_is.Zero v old is small = only_size token_is.Zero v old refl (omega (arith, is.least, is.extra))
+size_unwritten token_is.One v old is small = only_size token_is.One v old refl (omega (arith, is.least, is.extra))
+size_unwritten token_is.Two v old is small = only_size token_is.Two v old refl (omega (arith, is.least, is.extra))
+size_unwritten token_is.Three v old is small = only_size token_is.Three v old refl (omega (arith, is.least, is.extra))
+size_unwritten token_is.Four v old is small = only_size token_is.Four v old refl (omega (arith, is.least, is.extra))
+size_unwritten token_is.Category1 v old is small = absurd (omega (arith, is.least))
+size_unwritten token_is.Category2 v old is small = absurd (omega (arith, is.least))
+size_unwritten token_is.Category3 v old is small = absurd (omega (arith, is.least))
+size_unwritten token_is.Category4 v old is small = absurd (omega (arith, is.least))
+size_unwritten token_is.Category5 v old is small = absurd (omega (arith, is.least))
+size_unwritten token_is.Category6 v old is small = absurd (omega (arith, is.least))
 
 -- ---- signs
 

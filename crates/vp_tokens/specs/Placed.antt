@@ -1,5 +1,6 @@
--- Private to the crate: reading the blocks of a macroblock while nine flags above and nine to the left are updated.
-use Rattle.std.specs.Prelude.{ℕ, ◌+◌, ◌-◌, Bool, List, slice_index, slice_set}
+-- Private to the crate: reading or writing the blocks of a macroblock while nine flags above and nine to the left are
+-- updated.
+use Rattle.std.specs.Prelude.{◌≡◌, ℕ, zero, suc, ◌+◌, ◌-◌, Bool, List, length, slice_index, slice_set, if◌then◌else◌}
 use Rattle.vp_bool.specs.Reader.{Reader, ◌>>=◌, give, when, rows}
 use Rattle.vp_tokens.specs.declared.block.BlockKind.{BlockKind}
 use Rattle.vp_tokens.specs.declared.block.BlockKind.TheVariants as kind_is
@@ -7,7 +8,7 @@ use Rattle.vp_tokens.specs.declared.macroblock.Flags.{Flags}
 use Rattle.vp_tokens.specs.declared.macroblock.TheConstants.{ABOVE, LEFT}
 use Rattle.vp_tokens.specs.Block.{Block, has_token}
 use Rattle.vp_tokens.specs.Levels.{Probabilities, bands_of, first_of, levels, block_with}
-use Rattle.vp_tokens.specs.Blocks.{flag_at, true_count, kind_of}
+use Rattle.vp_tokens.specs.Blocks.{flag_at, true_count, kind_of, is_there}
 
 -- the blocks of a macroblock while they are read, and the flags of the blocks around the remaining ones
 pub record Reading : Type 0 where
@@ -45,3 +46,18 @@ all_placed probabilities has_y2 r = do
   y2 ← when has_y2 (plane probabilities kind_is.Y2 0 1 r) r
   luma ← plane probabilities (kind_of has_y2 1) 1 16 y2
   plane probabilities kind_is.Chroma 17 8 luma
+
+-- nine flags after blocks 0 to k - 1, each of which was stored at its place
+abbrev pub flags_at : List ℕ → Bool → List Bool → List Bool → ℕ → List Bool
+flags_at places has_y2 start had zero = start
+flags_at places has_y2 start had (suc k) =
+    if is_there has_y2 k
+    then slice_set (flags_at places has_y2 start had k) (slice_index places k) (flag_at had k)
+    else flags_at places has_y2 start had k
+
+-- the flags before block k, from those above and to the left of the macroblock; had contains the flags of its blocks
+pub record AreFlagsAt (has_y2 : Bool) (above left had : List Bool) (k : ℕ) (flags : Flags) : Type 0 where
+  pub above_nine : length above ≡ 9
+  pub left_nine : length left ≡ 9
+  pub above_is : flags.above ≡ flags_at ABOVE has_y2 above had k
+  pub left_is : flags.left ≡ flags_at LEFT has_y2 left had k

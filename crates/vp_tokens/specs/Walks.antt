@@ -1,5 +1,5 @@
 -- Private to the crate: the walk of the token tree, unrolled pair by pair.
-use Rattle.std.specs.Prelude.{ℕ, zero, suc, ◌≡◌, ◌⊎◌, Bool, false, not, List, slice_index, if◌then◌else◌}
+use Rattle.std.specs.Prelude.{ℕ, zero, suc, ◌≡◌, ◌⊎◌, Bool, true, false, not, List, slice_index, if◌then◌else◌}
 use Rattle.vp_bool.specs.Bools.{read}
 use Rattle.vp_bool.specs.Reader.{Reader, ◌>>=◌, give}
 use Rattle.vp_tables.specs.declared.modes.Token.{Token}
@@ -64,3 +64,32 @@ context_after_token token_is.EndOfBlock = 0
 context_after_token token_is.Zero = 0
 context_after_token token_is.One = 1
 context_after_token _ = 2
+
+-- the tokens below the pairs at indices 16, 12, 8, 6 and 4
+abbrev pub is_far : Token → Bool
+is_far token_is.Category3 = true
+is_far token_is.Category4 = true
+is_far token_is.Category5 = true
+is_far token_is.Category6 = true
+is_far _ = false
+
+abbrev pub is_middle : Token → Bool
+is_middle token_is.Category1 = true
+is_middle token_is.Category2 = true
+is_middle t = is_far t
+
+abbrev pub is_few : Token → Bool
+is_few token_is.Two = true
+is_few token_is.Three = true
+is_few token_is.Four = true
+is_few _ = false
+
+abbrev pub is_large : Token → Bool
+is_large token_is.Two = true
+is_large token_is.Three = true
+is_large token_is.Four = true
+is_large t = is_middle t
+
+abbrev pub is_some : Token → Bool
+is_some token_is.One = true
+is_some t = is_large t

@@ -7,12 +7,13 @@ ghost use Rattle.vp_tokens.specs.Spelled.{IsSpelledBlock};
 
 use crate::block::{Block, BlockKind, bands_of, first_of, row_of, start_after};
 use crate::size_writing::{token_of, write_signed, write_size};
+use crate::walk_writing::write_walk;
 use std::alloc::AllocError;
 use vp_bool::BoolEncoder;
-use vp_tables::{TOKEN_TREE, Token};
-use vp_tree::write_tree_from;
+use vp_tables::Token;
 
 /// Writes the token at a position, from a pair of the tree on.
+#[inline(always)]
 fn write_token(
     bands: &[[[u8; 11]; 3]; 8],
     position: usize,
@@ -26,7 +27,7 @@ fn write_token(
     requires from_in { (from ≡ 0) ⊎ ((from ≡ 2) × (is_end what ≡ false)) }
     ensures { OnOk result (Writes (token bands.now position context from) e.old e.new what) }
 {
-    write_tree_from(&TOKEN_TREE, row_of(bands, position, context), from, what, e)?;
+    write_walk(row_of(bands, position, context), from, what, e)?;
     Ok(())
 }
 

@@ -78,61 +78,11 @@ pub(crate) fn count(above: bool, left: bool) -> usize
 
 /// Whether block `k` of this macroblock has a token. Blocks: 0 is Y2, 1 to 16 Y, 17 to 20 U, 21 to 24 V. Flags: 0 to 3
 /// are Y, 4 and 5 U, 6 and 7 V, 8 Y2.
-fn had(blocks: &[Block; 25], k: usize) -> bool
+pub(crate) fn had(blocks: &[Block; 25], k: usize) -> bool
     requires { k < 25 }
     ensures { result ≡ flag_at (had_of blocks.now) k }
 {
     blocks[k].has_token()
-}
-
-/// Whether the block above block `k` has a token.
-#[tactic(auto, unfolding(crate::specs::Flagged::above_flag))]
-pub(crate) fn had_above(above: &[bool; 9], blocks: &[Block; 25], k: usize) -> bool
-    requires { k < 25 }
-    ensures { result ≡ above_flag above.now (had_of blocks.now) k }
-{
-    if k == 0 {
-        above[8]
-    } else if k < 5 {
-        above[k - 1]
-    } else if k < 17 {
-        had(blocks, k - 4)
-    } else if k < 19 {
-        above[k - 13]
-    } else if k < 21 {
-        had(blocks, k - 2)
-    } else if k < 23 {
-        above[k - 15]
-    } else {
-        had(blocks, k - 2)
-    }
-}
-
-/// Whether the block to the left of block `k` has a token.
-#[tactic(auto, unfolding(crate::specs::Flagged::left_flag))]
-pub(crate) fn had_left(left: &[bool; 9], blocks: &[Block; 25], k: usize) -> bool
-    requires { k < 25 }
-    ensures { result ≡ left_flag left.now (had_of blocks.now) k }
-{
-    if k == 0 {
-        left[8]
-    } else if k < 17 {
-        if (k - 1) % 4 == 0 {
-            left[(k - 1) / 4]
-        } else {
-            had(blocks, k - 1)
-        }
-    } else if k < 21 {
-        if (k - 17) % 2 == 0 {
-            left[4 + (k - 17) / 2]
-        } else {
-            had(blocks, k - 1)
-        }
-    } else if (k - 21) % 2 == 0 {
-        left[6 + (k - 21) / 2]
-    } else {
-        had(blocks, k - 1)
-    }
 }
 
 /// The type of block `k`.

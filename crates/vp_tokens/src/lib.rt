@@ -9,6 +9,7 @@ mod macroblock;
 mod partitions;
 mod size_writing;
 mod sizes;
+mod walk_writing;
 mod walks;
 mod writing;
 

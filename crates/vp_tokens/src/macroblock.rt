@@ -18,18 +18,18 @@ use vp_bool::BoolDecoder;
 
 /// Which blocks above and to the left of the remaining blocks have a token: 4 Y, 2 U, 2 V, 1 Y2.
 #[derive(Clone, Copy)]
-struct Flags {
-    above: [bool; 9],
-    left: [bool; 9],
+pub(crate) struct Flags {
+    pub(crate) above: [bool; 9],
+    pub(crate) left: [bool; 9],
 }
 
 /// By block: the index of its flag among the nine above.
-const ABOVE: [u8; 25] = [
+pub(crate) const ABOVE: [u8; 25] = [
     8, 0, 1, 2, 3, 0, 1, 2, 3, 0, 1, 2, 3, 0, 1, 2, 3, 4, 5, 4, 5, 6, 7, 6, 7,
 ];
 
 /// By block: the index of its flag among the nine to the left.
-const LEFT: [u8; 25] = [
+pub(crate) const LEFT: [u8; 25] = [
     8, 0, 0, 0, 0, 1, 1, 1, 1, 2, 2, 2, 2, 3, 3, 3, 3, 4, 4, 5, 5, 6, 6, 7, 7,
 ];
 

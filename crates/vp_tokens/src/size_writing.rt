@@ -7,7 +7,7 @@ ghost use Rattle.vp_tokens.specs.Written.{IsTokenOf};
 
 use std::alloc::AllocError;
 use vp_bool::BoolEncoder;
-use vp_tables::{Token, extra_probabilities, least_size};
+use vp_tables::{CATEGORY_BASES, Token, extra_probabilities, least_size};
 
 /// Writes a number of one bit for each probability, most significant first.
 fn write_bits(value: u16, probabilities: &[u8], e: &mut BoolEncoder) -> Result<(), AllocError>
@@ -24,6 +24,7 @@ fn write_bits(value: u16, probabilities: &[u8], e: &mut BoolEncoder) -> Result<(
 }
 
 /// The token of a magnitude.
+#[inline(always)]
 #[tactic(auto, unfolding(vp_tables::specs::Tables::least_size, vp_tables::specs::Tables::extra_probabilities))]
 pub(crate) fn token_of(value: u16) -> Token
     requires { value ≤ 2114 }
@@ -45,8 +46,22 @@ pub(crate) fn token_of(value: u16) -> Token
 }
 
 /// Writes the extra bits of a magnitude.
-#[tactic(auto, unfolding(crate::specs::Levels::size))]
+#[inline(always)]
 pub(crate) fn write_size(token: Token, value: u16, e: &mut BoolEncoder) -> Result<(), AllocError>
+    requires { IsTokenOf token value }
+    ensures { OnOk result (Writes (size token) e.old e.new value) }
+{
+    if value < CATEGORY_BASES[0] {
+        return Ok(());
+    }
+    write_category(token, value, e)?;
+    Ok(())
+}
+
+/// Writes the extra bits of a magnitude, as many as its token has.
+#[inline(never)]
+#[tactic(auto, unfolding(crate::specs::Levels::size))]
+fn write_category(token: Token, value: u16, e: &mut BoolEncoder) -> Result<(), AllocError>
     requires { IsTokenOf token value }
     ensures { OnOk result (Writes (size token) e.old e.new value) }
 {
@@ -55,6 +70,7 @@ pub(crate) fn write_size(token: Token, value: u16, e: &mut BoolEncoder) -> Resul
 }
 
 /// Writes the sign of a level, unless the level is 0.
+#[inline(always)]
 pub(crate) fn write_signed(level: i16, e: &mut BoolEncoder) -> Result<(), AllocError>
     requires { unsigned_abs level ≤ 2114 }
     ensures { OnOk result (Writes (signed_level (unsigned_abs level)) e.old e.new level) }

@@ -1,39 +1,52 @@
 //! Writing the tokens of a macroblock (RFC 6386, chapter 13).
 
-ghost use Rattle.std.specs.Prelude.{◌≡◌, ◌<◌, ◌+◌, ℕ, true, false, length, slice_index_or, OnOk, OnErr};
+ghost use Rattle.std.specs.Prelude.{◌≡◌, ◌<◌, ◌+◌, ℕ, Bool, List, true, false, length, slice_index_or, OnOk, OnErr};
 ghost use Rattle.vp_base.specs.Grid.{Grid, Has, with_entry};
 ghost use Rattle.vp_bool.specs.Writing.{Writes};
-ghost use Rattle.vp_tokens.specs.Blocks.{Blocks, blocks_of, block_at, all_blocks, no_blocks, macroblock};
+ghost use Rattle.vp_tokens.specs.Blocks.{Blocks, had_of, blocks_of, block_at, all_blocks, no_blocks, macroblock};
 ghost use Rattle.vp_tokens.specs.Contexts.{AreContextsAt, right};
 ghost use Rattle.vp_tokens.specs.Flagged.{by_flags};
+ghost use Rattle.vp_tokens.specs.Placed.{AreFlagsAt};
 ghost use Rattle.vp_tokens.specs.Spelled.{AreSpelled};
 ghost use Rattle.vp_tokens.specs.Written.{prefix_blocks};
 
 use crate::block::Block;
 use crate::block_writing::write_block;
-use crate::contexts::{Contexts, Tokens, count, had_above, had_left, kind_of};
+use crate::contexts::{Contexts, Tokens, count, had, kind_of};
+use crate::macroblock::{ABOVE, Flags, LEFT};
 use std::alloc::AllocError;
 use vp_base::Place;
 use vp_bool::BoolEncoder;
 
-/// Writes block `k`, if the macroblock has it.
+/// Writes block `k`, if the macroblock has it, and stores its flag for the blocks below and to the right.
+#[inline(always)]
 fn write_at(
     probabilities: &[[[[u8; 11]; 3]; 8]; 4],
-    above: &[bool; 9],
-    left: &[bool; 9],
     has_y2: bool,
     k: usize,
     blocks: &[Block; 25],
+    flags: &mut Flags,
     e: &mut BoolEncoder,
 ) -> Result<(), AllocError>
     requires k_in { k < 25 }
     requires spelled { AreSpelled has_y2 blocks.now }
-    ensures { OnOk result (Writes (block_at probabilities.now has_y2 (by_flags above.now left.now) k
-        (prefix_blocks k blocks.now)) e.old e.new (prefix_blocks (k + 1) blocks.now)) }
+    // `above` and `left` are the flags before block 0.
+    ensures writes { OnOk result ((above left : List Bool)
+        → AreFlagsAt has_y2 above left (had_of blocks.now) k flags.old
+        → Writes (block_at probabilities.now has_y2 (by_flags above left) k (prefix_blocks k blocks.now))
+        e.old e.new (prefix_blocks (k + 1) blocks.now)) }
+    ensures flags { OnOk result ((above left : List Bool)
+        → AreFlagsAt has_y2 above left (had_of blocks.now) k flags.old
+        → AreFlagsAt has_y2 above left (had_of blocks.now) (k + 1) flags.new) }
 {
     if k > 0 || has_y2 {
-        let context = count(had_above(above, blocks, k), had_left(left, blocks, k));
+        let up = ABOVE[k] as usize;
+        let side = LEFT[k] as usize;
+        let context = count(flags.above[up], flags.left[side]);
         write_block(probabilities, kind_of(has_y2, k), context, &blocks[k], e)?;
+        let had = had(blocks, k);
+        flags.above[up] = had;
+        flags.left[side] = had;
     }
     Ok(())
 }
@@ -56,8 +69,12 @@ fn write_all(
     if skipped {
         return Ok(());
     }
+    let mut flags = Flags {
+        above: *above,
+        left: *left,
+    };
     for k in 0..25 {
-        write_at(probabilities, above, left, has_y2, k, blocks, e)?;
+        write_at(probabilities, has_y2, k, blocks, &mut flags, e)?;
     }
     Ok(())
 }
