@@ -3,15 +3,15 @@ use Rattle.std.proofs.Common.{true, false, Bool, ◌≡◌, ◌⊎◌, inl, inr,
 use Rattle.std.specs.Prelude.{nat_lt, nat_le, ◌&&◌, ◌||◌, ◌==◌}
 use Rattle.std.proofs.Math.Dec.{leb}
 use Rattle.std.proofs.Math.Nat.{mul-div_cancel, mod-eq_of_lt, le_of_mul-le-mul_right}
-use Rattle.std.proofs.lemmas.Nat.{pow-add, pow_pos}
+use Rattle.std.proofs.lemmas.Nat.{pow-add, pow_pos, mul-le}
 use Rattle.std.proofs.lemmas.Bool.{leb-true, ltb-true, ne_eqb, cases_lt}
 use Rattle.std.proofs.lemmas.List.{take_more, take_all, length-drop, take-append-drop}
 use Rattle.vp_bool.specs.Bools.{State, number, renormalised}
 use Rattle.vp_bool.specs.Window.{state, high_bits, IsLeftAligned, IsUnnormalised, AreBytes}
 use Rattle.vp_bool.specs.declared.decoder.TheConstants.{DOUBLINGS}
-use Rattle.vp_bool.proofs.Numbers.{scaled, power_up}
+use Rattle.vp_bool.proofs.Numbers.{scaled, power_up, double_pow}
 use Rattle.vp_bool.proofs.WindowLemmas.{same_state, advanced_within, advanced_past}
-use Rattle.vp_bool.proofs.BoolLemmas.{shifted, normal_by, bound_at, front_leb}
+use Rattle.vp_bool.proofs.BoolLemmas.{doublings, doubles, shifted, normal_by, bound_at, front_leb}
 use Rattle.vp_bool.proofs.LawLemmas.{number-append}
 use Rattle.vp_bool.proofs.EncoderLemmas.{number-push}
 
@@ -58,6 +58,22 @@ doubling r n some byte e =
     let none : 0 + r ≡ r = omega arith in
     let found = doubling_in DOUBLINGS 0 r (omega arith) table in
     rw e (doubling_by r (get_or DOUBLINGS r 0) (r == 0) (ne_eqb r 0 (λ z. absurd (omega arith))) (rw none at found))
+
+no_fewer : (r n m : ℕ) → 128 ≤ r * 2 ^ n → r * 2 ^ m < 256 → m ≤ n
+no_fewer r n m low high = elim (cases_lt n m) [
+  | inl less ↦
+      let double : 2 ^ suc n ≤ 2 ^ m = power_up (suc n) m less in
+      let least : r * 2 ^ suc n ≤ r * 2 ^ m = mul-le r (2 ^ suc n) r (2 ^ m) (omega arith) double in
+      absurd (omega (arith, double_pow r n))
+  | inr same ↦ same
+]
+
+-- the table counts what the leading zeros tell
+pub doubling-zeros : (r n : ℕ) → 0 < r → r < 256 → n ≡ get_or DOUBLINGS r 0 → n ≡ doublings r
+doubling-zeros r n some byte e =
+    let d = doubling r n some byte e in
+    let z = doubles r some byte in
+    omega (arith, no_fewer r n (doublings r) d.low z.high, no_fewer r (doublings r) n z.low d.high)
 
 -- ---- numbers of bytes
 
