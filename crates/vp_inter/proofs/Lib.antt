@@ -6,3 +6,4 @@ pub mod NarrowLemmas
 pub mod PlainLemmas
 pub mod LongLanes
 pub mod WideLemmas
+pub mod ShortLemmas

@@ -8,7 +8,7 @@ use Rattle.vp_inter.specs.declared.vector.PlaneVector.{PlaneVector}
 use Rattle.vp_inter.specs.Vectors.{fraction, first_tap}
 use Rattle.vp_inter.specs.Filter.{taps, filter_six}
 use Rattle.vp_inter.specs.Inter.{reference_pixel, horizontal_pass, inter_pixel}
-use Rattle.vp_inter.proofs.FilterLemmas.{filter_six-same, filter_six-whole_pixels, filtered_bound}
+use Rattle.vp_inter.proofs.FilterLemmas.{filter_six-whole_pixels, filtered_bound}
 
 -- one row more of a block of rows of n
 pub rows_more : (n i : ℕ) (old new row : List ℕ) (value : ℕ → ℕ → ℕ)
@@ -26,17 +26,6 @@ rows_more n i old new row value done here before last k c kin cin =
           let e : k ≡ i = omega arith in
           ap (λ (j : ℕ). get_or new (j * n + c) 0) e ∙ here c cin ∙ last c cin ∙ ap (λ (j : ℕ). value j c) (sym e)
     ]
-
--- both passes
-pub inter_both : (version : ℕ) (p : Raster) (x y : ℕ) (v : PlaneVector) (n : ℕ) (rows : List ℕ)
-    → ((i c : ℕ) → i < n + 5 → c < n → get_or rows (i * n + c) 0 ≡ horizontal_pass (taps version (fraction v.column)) p (first_tap x v.column) (first_tap y v.row) i c)
-    → (r c : ℕ) → r < n → c < n
-    → filter_six (taps version (fraction v.row)) (λ k. get_or rows ((r + k) * n + c) 0) ≡ inter_pixel version p x y v r c
-unfolding inter_pixel
-inter_both version p x y v n rows same r c rin cin =
-    filter_six-same (taps version (fraction v.row)) (λ k. get_or rows ((r + k) * n + c) 0)
-    (λ k. horizontal_pass (taps version (fraction v.column)) p (first_tap x v.column) (first_tap y v.row) (r + k) c)
-    (λ k kin. same (r + k) c (omega arith) cin)
 
 -- both passes, of weights and places that are as they should be
 pub inter_passes : (version : ℕ) (p : Raster) (x y : ℕ) (v : PlaneVector) (r c : ℕ)

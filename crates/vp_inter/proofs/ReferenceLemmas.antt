@@ -1,5 +1,5 @@
 -- Lemmas on the pixels of a reference.
-use Rattle.std.proofs.Common.{◌≡◌, ◌∙◌, ℕ, ◌+◌, ◌-◌, ◌<◌, ◌*◌, min, true, refl, ℤ, pos, negsuc, ◌+ℤ◌, ◌-ℤ◌, ◌≤◌, ◌≤ℤ◌, inl, inr, List, length, get_or, ap, sym, arith, rules, to_z, of_z, w32}
+use Rattle.std.proofs.Common.{◌≡◌, ◌∙◌, ℕ, ◌+◌, ◌-◌, ◌<◌, min, true, refl, ℤ, pos, negsuc, ◌+ℤ◌, ◌-ℤ◌, ◌≤◌, ◌≤ℤ◌, inl, inr, List, length, get_or, ap, sym, arith, rules, to_z, of_z, w32}
 use Rattle.std.proofs.lemmas.List.{places}
 use Rattle.std.proofs.lemmas.Bool.{cases_lt}
 use Rattle.std.proofs.lemmas.Int.{ints, clamps}

@@ -33,12 +33,13 @@ OuterWeightsAreZero weights count =
     (count < 6 → (weight weights 0 ≡ pos 0) × (weight weights 5 ≡ pos 0))
     × (count < 4 → (weight weights 1 ≡ pos 0) × (weight weights 4 ≡ pos 0))
 
--- Weights whose sums fit in i16. The middle two are nonnegative, and their sum is at most 154. The second and the
--- fifth are from -16 to 0, the first and the last from 0 to 3. Weights three apart add up to at most 128.
+-- Weights that fit in i8 and whose sums fit in i16. The middle two are nonnegative, and their sum is at most 154. The
+-- second and the fifth are from -16 to 0, the first and the last from 0 to 3. Weights three apart add up to at most
+-- 128.
 abbrev pub SumsFitI16 : List ℤ → Type 0
 SumsFitI16 weights =
     IsFrom (pos 0) (pos 3) (weight weights 0) × IsFrom (negsuc 15) (pos 0) (weight weights 1)
-    × IsFrom (pos 0) (pos 128) (weight weights 2) × IsFrom (pos 0) (pos 128) (weight weights 3)
+    × IsFrom (pos 0) (pos 127) (weight weights 2) × IsFrom (pos 0) (pos 127) (weight weights 3)
     × ((weight weights 2 +ℤ weight weights 3) ≤ℤ pos 154)
     × IsFrom (negsuc 15) (pos 0) (weight weights 4) × IsFrom (pos 0) (pos 3) (weight weights 5)
     × ((weight weights 0 +ℤ weight weights 3) ≤ℤ pos 128) × ((weight weights 2 +ℤ weight weights 5) ≤ℤ pos 128)

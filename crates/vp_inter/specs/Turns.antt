@@ -1,10 +1,11 @@
 -- Private to the crate: six filter weights in vectors of two alternating weights.
-use Rattle.std.specs.Prelude.{◌≡◌, ◌+◌, ◌*◌, ◌/◌, ◌%◌, ◌<◌, ◌≤ℤ◌, ℕ, zero, suc, ℤ, pos, List, slice_index}
+use Rattle.std.specs.Prelude.{◌≡◌, ◌+◌, ◌*◌, ◌/◌, ◌%◌, ◌<◌, ℕ, zero, suc, ℤ, pos, List, slice_index}
 use Rattle.vp_lanes.specs.Lane.{lane}
-use Rattle.vp_inter.specs.Narrow.{weight, SumsFitI16}
+use Rattle.vp_inter.specs.Narrow.{weight}
 use Rattle.vp_inter.specs.declared.six_tap_1d.RowWeights.{RowWeights}
 use Rattle.vp_inter.specs.declared.six_tap_1d.ColumnWeights.{ColumnWeights}
 use Rattle.vp_inter.specs.declared.six_tap_2d.Pair.{Pair}
+use Rattle.vp_inter.specs.declared.short_rows.RowFilter.{RowFilter}
 
 -- sixteen lanes with two alternating weights
 abbrev pub AreByTurns : List ℤ → ℤ → ℤ → Type 0
@@ -22,10 +23,6 @@ AreFar weights far =
     AreByTurns far.first (weight weights 0) (weight weights 3)
     × AreByTurns far.second (weight weights 1) (weight weights 4)
     × AreByTurns far.third (weight weights 2) (weight weights 5)
-
--- weights of a six-tap filter: the first and the last are above 0
-abbrev pub AreSix : List ℤ → Type 0
-AreSix weights = SumsFitI16 weights × (pos 1 ≤ℤ weight weights 0) × (pos 1 ≤ℤ weight weights 5)
 
 -- the index of column c in a row whose even columns are first
 abbrev pub half_place : ℕ → ℕ
@@ -53,3 +50,18 @@ IsPair pair pixel r =
     (j t : ℕ) → j < 8 → t < 2
     → (slice_index pair.even (2 * j + t) ≡ pixel (r + 3 * t) (2 * j))
     × (slice_index pair.odd (2 * j + t) ≡ pixel (r + 3 * t) (2 * j + 1))
+
+-- the places of a row filter are lanes of a vector of sixteen
+abbrev pub AreLanes : RowFilter → Type 0
+AreLanes filter =
+    (k : ℕ) → k < 16
+    → (slice_index filter.first k < 16) × (slice_index filter.second k < 16) × (slice_index filter.third k < 16)
+
+-- A row filter selects pixels beside those three to the right, from each of the first three of six on. `place` is the
+-- index in the row of each pixel.
+abbrev pub SelectsPairs : RowFilter → (ℕ → ℕ) → Type 0
+SelectsPairs filter place =
+    (j t : ℕ) → j < 8 → t < 2
+    → (filter.start + slice_index filter.first (2 * j + t) ≡ place (j + 3 * t))
+    × (filter.start + slice_index filter.second (2 * j + t) ≡ place (j + (3 * t + 1)))
+    × (filter.start + slice_index filter.third (2 * j + t) ≡ place (j + (3 * t + 2)))

@@ -2,12 +2,14 @@
 
 ghost use Rattle.std.specs.Prelude.{◌≡◌, ℕ, ℤ, pos, negsuc, ◌+◌, ◌*◌, ◌%◌, ◌<◌, ◌≤◌, ◌+ℤ◌, ◌≤ℤ◌, length, slice_index};
 ghost use Rattle.std.specs.Prelude.{IsTrue};
-ghost use Rattle.vp_inter.specs.Filter.{filter_six};
+ghost use Rattle.vp_inter.specs.Filter.{taps, filter_six};
+ghost use Rattle.vp_inter.specs.Vectors.{fraction};
 ghost use Rattle.vp_inter.specs.Narrow.{OuterWeightsAreZero, SumsFitI16};
 ghost use Rattle.vp_inter.specs.Inter.{reference_pixel, horizontal_pass, inter_pixel, IsInside};
 
 use crate::filter::{ends_are_zero, pass, seconds_are_zero, taps};
-use crate::reference::{lies_inside, plain_row, reference_line};
+use crate::reference::{Flat, lies_inside, plain_row, reference_line};
+use crate::short_rows::short_rows;
 use crate::six_tap_1d::{has_six_taps, horizontal_six_tap_16, vertical_six_tap_16};
 use crate::six_tap_2d::six_tap_2d_block;
 use crate::vector::{PlaneVector, first_tap, fraction};
@@ -16,6 +18,7 @@ use vp_base::Plane;
 
 /// Predicts the 16x16 block at column `x` of row `y` from the reference plane, displaced by `vector`. Returns it in
 /// raster order. `version` is that of the frame tag. `x` and `y` are at most 16,384, and the plane is not empty.
+#[inline(always)]
 pub fn predict_block16(
     plane: &Plane,
     x: usize,
@@ -34,6 +37,7 @@ pub fn predict_block16(
 }
 
 /// Predicts an 8x8 block as `predict_block16` does.
+#[inline(always)]
 pub fn predict_block8(
     plane: &Plane,
     x: usize,
@@ -52,6 +56,7 @@ pub fn predict_block8(
 }
 
 /// Predicts a 4x4 block as `predict_block16` does.
+#[inline(always)]
 pub fn predict_block4(
     plane: &Plane,
     x: usize,
@@ -70,7 +75,9 @@ pub fn predict_block4(
 }
 
 /// Predicts a block of `N` by `N` pixels. The horizontal pass gives `W = N + 5` rows, `L` pixels in all, to the
-/// vertical pass. A vector without a fractional row or column needs only one pass.
+/// vertical pass. A vector without a fractional row or column needs only one pass. Inlined into its callers, which then
+/// copy the block from where it is made.
+#[inline(always)]
 fn predict<const N: usize, const W: usize, const L: usize, const M: usize>(
     plane: &Plane,
     x: usize,
@@ -101,17 +108,97 @@ fn predict<const N: usize, const W: usize, const L: usize, const M: usize>(
     }
     let mut block = [0; M];
     if down == 0 {
-        let weights = taps(version, across);
-        pass_rows::<N, W>(&mut block, plane, left, top + 2, &weights, N);
+        predict_across::<N, W>(&mut block, plane, left, top + 2, across, version);
     } else if across == 0 {
-        let rows = copied_rows::<N, L>(plane, left + 2, top, W);
-        pass_columns::<N, M>(&mut block, &rows, &taps(version, down));
+        predict_down::<N, W, L, M>(&mut block, plane, left + 2, top, down, version);
     } else {
-        let rows = taps(version, across);
-        let columns = taps(version, down);
-        pass_both::<N, W, L, M>(&mut block, plane, left, top, &rows, &columns);
+        predict_both::<N, W, L, M>(&mut block, plane, left, top, vector, version);
     }
     block
+}
+
+/// Predicts a block by the horizontal pass alone.
+fn predict_across<const N: usize, const W: usize>(
+    pixels: &mut [u8],
+    plane: &Plane,
+    left: i32,
+    top: i32,
+    eighths: usize,
+    version: u8,
+)
+    requires size { (0 < N) × (N ≤ 16) }
+    requires line { W ≡ N + 5 }
+    requires whole { length pixels.old ≡ N * N }
+    requires some { 0 < eighths }
+    requires bound { eighths < 8 }
+    requires columns { 0 < plane.now.width }
+    requires height { 0 < plane.now.height }
+    requires near { (negsuc 400000000 ≤ℤ left) × (left ≤ℤ pos 400000000) }
+    requires beside { (negsuc 400000000 ≤ℤ top) × (top ≤ℤ pos 400000000) }
+    ensures { (r c : ℕ) → r < N → c < N → slice_index pixels.new (r * N + c)
+        ≡ horizontal_pass (taps version eighths) plane.now left top r c }
+{
+    let weights = taps(version, eighths);
+    pass_rows::<N, W>(pixels, plane, left, top, weights, N);
+}
+
+/// Predicts a block by the vertical pass alone. The second clause states that what it filters are bytes.
+fn predict_down<const N: usize, const W: usize, const L: usize, const M: usize>(
+    pixels: &mut [u8],
+    plane: &Plane,
+    left: i32,
+    top: i32,
+    eighths: usize,
+    version: u8,
+)
+    requires size { (0 < N) × (N ≤ 16) }
+    requires line { W ≡ N + 5 }
+    requires between { (L ≡ W * N) × (L ≤ 336) }
+    requires square { (M ≡ N * N) × (M ≤ 256) }
+    requires pieces { M % 16 ≡ 0 }
+    requires whole { length pixels.old ≡ M }
+    requires some { 0 < eighths }
+    requires bound { eighths < 8 }
+    requires columns { 0 < plane.now.width }
+    requires height { 0 < plane.now.height }
+    requires near { (negsuc 400000000 ≤ℤ left) × (left ≤ℤ pos 400000000) }
+    requires beside { (negsuc 400000000 ≤ℤ top) × (top ≤ℤ pos 400000000) }
+    ensures value { (r c : ℕ) → r < N → c < N → slice_index pixels.new (r * N + c) ≡ filter_six (taps version eighths)
+        (λ k. reference_pixel plane.now (left +ℤ pos c) (top +ℤ pos (r + k))) }
+    ensures bytes { (i c : ℕ) → i < W → c < N → reference_pixel plane.now (left +ℤ pos c) (top +ℤ pos i) ≤ 255 }
+{
+    let rows = copied_rows::<N, L>(plane, left, top, W);
+    pass_columns::<N, M>(pixels, &rows, taps(version, eighths));
+}
+
+/// Predicts a block by both passes.
+fn predict_both<const N: usize, const W: usize, const L: usize, const M: usize>(
+    pixels: &mut [u8],
+    plane: &Plane,
+    left: i32,
+    top: i32,
+    vector: PlaneVector,
+    version: u8,
+)
+    requires size { (0 < N) × (N ≤ 16) }
+    requires line { W ≡ N + 5 }
+    requires between { (L ≡ W * N) × (L ≤ 336) }
+    requires square { (M ≡ N * N) × (M ≤ 256) }
+    requires pieces { M % 16 ≡ 0 }
+    requires whole { length pixels.old ≡ M }
+    requires across { 0 < fraction vector.column }
+    requires down { 0 < fraction vector.row }
+    requires columns { 0 < plane.now.width }
+    requires height { 0 < plane.now.height }
+    requires near { (negsuc 400000000 ≤ℤ left) × (left ≤ℤ pos 400000000) }
+    requires beside { (negsuc 400000000 ≤ℤ top) × (top ≤ℤ pos 400000000) }
+    ensures { (r c : ℕ) → r < N → c < N → slice_index pixels.new (r * N + c)
+        ≡ filter_six (taps version (fraction vector.row))
+        (λ k. horizontal_pass (taps version (fraction vector.column)) plane.now left top (r + k) c) }
+{
+    let rows = taps(version, fraction(vector.column));
+    let columns = taps(version, fraction(vector.row));
+    pass_both::<N, W, L, M>(pixels, plane, left, top, rows, columns);
 }
 
 /// Both passes, with `W` rows of `N` pixels, `L` in all, between them. A 16x16 block with six nonzero weights in
@@ -170,18 +257,47 @@ fn copied_rows<const N: usize, const L: usize>(
     ensures bytes { (r c : ℕ) → r < rows → c < N → reference_pixel plane.now (left +ℤ pos c) (top +ℤ pos r) ≤ 255 }
 {
     let inside = lies_inside(plane, left, top, N, rows);
+    let flat = Flat::of(plane);
     let mut pixels = [0; L];
     for r in 0..rows {
-        let row = plain_row::<N>(plane, inside, left, top + r as i32);
+        let row = plain_row::<N>(&flat, inside, left, top + r as i32);
         put_lanes(&mut pixels, r, row);
     }
     pixels
 }
 
-/// The horizontal pass over `rows` rows of the reference. Whether the block is inside the plane, and how many weights
-/// are nonzero, is tested before the loop over the rows.
-#[inline(never)]
+/// The horizontal pass over `rows` rows of the reference.
 fn pass_rows<const N: usize, const W: usize>(
+    pixels: &mut [u8],
+    plane: &Plane,
+    left: i32,
+    top: i32,
+    weights: &[i16; 6],
+    rows: usize,
+)
+    requires size { N ≤ 16 }
+    requires line { W ≡ N + 5 }
+    requires rows { rows ≤ 21 }
+    requires all { length pixels.old ≡ rows * N }
+    requires gentle { SumsFitI16 weights.now }
+    requires columns { 0 < plane.now.width }
+    requires height { 0 < plane.now.height }
+    requires near { (negsuc 400000000 ≤ℤ left) × (left ≤ℤ pos 400000000) }
+    requires beside { (negsuc 400000000 ≤ℤ top) × (top ≤ℤ pos 400000000) }
+    ensures { (i c : ℕ) → i < rows → c < N → slice_index pixels.new (i * N + c)
+        ≡ horizontal_pass weights.now plane.now left top i c }
+{
+    if (N == 4 || N == 8) && plane.width() >= 16 {
+        short_rows::<N>(pixels, plane, left, top, weights, rows);
+    } else {
+        other_rows::<N, W>(pixels, plane, left, top, weights, rows);
+    }
+}
+
+/// The horizontal pass over long rows, and over rows of narrow planes. Whether the block is inside the plane, and how
+/// many weights are nonzero, is tested before the loop over the rows.
+#[inline(never)]
+fn other_rows<const N: usize, const W: usize>(
     pixels: &mut [u8],
     plane: &Plane,
     left: i32,
@@ -269,8 +385,9 @@ fn horizontal_rows<const N: usize, const W: usize, const INSIDE: bool, const COU
         ≡ horizontal_pass weights.now plane.now left top i c }
 {
     let own = *weights;
+    let flat = Flat::of(plane);
     for i in 0..rows {
-        let row = horizontal_row::<N, W, INSIDE, COUNT>(plane, left, top + i as i32, &own);
+        let row = horizontal_row::<N, W, INSIDE, COUNT>(&flat, left, top + i as i32, &own);
         put_lanes(pixels, i, row);
     }
 }
@@ -278,7 +395,7 @@ fn horizontal_rows<const N: usize, const W: usize, const INSIDE: bool, const COU
 /// The horizontal pass over one row of the reference. If `INSIDE`, it reads directly from the plane.
 #[inline(always)]
 fn horizontal_row<const N: usize, const W: usize, const INSIDE: bool, const COUNT: usize>(
-    plane: &Plane,
+    plane: &Flat,
     left: i32,
     row: i32,
     weights: &[i16; 6],

@@ -12,18 +12,30 @@ ghost use Rattle.vp_inter.specs.Narrow.{SumsFitI16};
 use std::simd::prelude::*;
 use vp_tables::six_taps;
 
-/// The filter weights of the pixels at offsets -2 to 3.
+/// The bilinear filter weights, by eighths of a pixel.
+static TWO_TAPS: [[i16; 6]; 8] = [
+    [0, 0, 128, 0, 0, 0],
+    [0, 0, 112, 16, 0, 0],
+    [0, 0, 96, 32, 0, 0],
+    [0, 0, 80, 48, 0, 0],
+    [0, 0, 64, 64, 0, 0],
+    [0, 0, 48, 80, 0, 0],
+    [0, 0, 32, 96, 0, 0],
+    [0, 0, 16, 112, 0, 0],
+];
+
+/// The filter weights of the pixels at offsets -2 to 3, for a fraction.
 #[tactic(auto, unfolding(crate::specs::Filter::taps))]
-pub(crate) fn taps(version: u8, eighths: usize) -> [i16; 6]
-    requires { eighths < 8 }
-    ensures value { result ≡ taps version eighths }
-    ensures gentle { SumsFitI16 result }
+pub(crate) fn taps(version: u8, eighths: usize) -> &'static [i16; 6]
+    requires some { 0 < eighths }
+    requires bound { eighths < 8 }
+    ensures value { result.now ≡ taps version eighths }
+    ensures gentle { SumsFitI16 result.now }
 {
     if version == 0 {
-        *six_taps(eighths)
+        six_taps(eighths)
     } else {
-        let second = 16 * eighths as i16;
-        [0, 0, 128 - second, second, 0, 0]
+        &TWO_TAPS[eighths]
     }
 }
 

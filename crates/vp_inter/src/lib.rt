@@ -6,6 +6,7 @@ mod filter;
 mod into;
 mod madd;
 mod reference;
+mod short_rows;
 mod six_tap_1d;
 mod six_tap_2d;
 mod vector;

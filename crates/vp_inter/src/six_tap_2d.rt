@@ -5,11 +5,12 @@ ghost use Rattle.std.specs.Prelude.{◌≡◌, ℕ, ℤ, pos, negsuc, ◌+◌, �
 ghost use Rattle.std.specs.Prelude.{IsTrue};
 ghost use Rattle.vp_inter.specs.Filter.{filter_six};
 ghost use Rattle.vp_inter.specs.Inter.{horizontal_pass, IsInside};
-ghost use Rattle.vp_inter.specs.Turns.{AreNear, AreFar, AreSix, HoldsPairs, IsPair, half_place, pair_place};
+ghost use Rattle.vp_inter.specs.Narrow.{SumsFitI16};
+ghost use Rattle.vp_inter.specs.Turns.{AreNear, AreFar, HoldsPairs, IsPair, half_place, pair_place};
 
 use crate::block::put_lanes;
 use crate::filter::load;
-use crate::reference::lies_inside;
+use crate::reference::{Flat, lies_inside};
 use crate::six_tap_1d::{
     ColumnWeights, RowWeights, halves_row, interleave, paired_column_weights, paired_row_weights,
     vertical_eight,
@@ -42,14 +43,14 @@ struct Window<'a> {
 
 /// Filters three rows of the reference horizontally: even columns first, then odd ones.
 fn three_rows<const INSIDE: bool>(
-    plane: &Plane,
+    plane: &Flat,
     left: i32,
     top: i32,
     weights: &[i16; 6],
     near: &RowWeights,
 ) -> Three
     requires inside { IsTrue INSIDE → IsInside plane.now left top 21 3 }
-    requires six { AreSix weights.now }
+    requires six { SumsFitI16 weights.now }
     requires turns { AreNear weights.now near.now }
     requires columns { 0 < plane.now.width }
     requires height { 0 < plane.now.height }
@@ -114,7 +115,7 @@ fn paired_rows<const INSIDE: bool>(
     requires two { length second.old ≡ 224 }
     requires three { length third.old ≡ 224 }
     requires inside { IsTrue INSIDE → IsInside window.plane.now window.left window.top 21 21 }
-    requires six { AreSix weights.now }
+    requires six { SumsFitI16 weights.now }
     requires turns { AreNear weights.now near.now }
     requires columns { 0 < window.plane.now.width }
     requires height { 0 < window.plane.now.height }
@@ -128,6 +129,7 @@ fn paired_rows<const INSIDE: bool>(
         (horizontal_pass weights.now window.entry.plane.now window.entry.left window.entry.top) 2 6 }
 {
     let Window { plane, left, top } = window;
+    let flat = Flat::of(plane);
     let none = u8x16::splat(0);
     let mut above = Three {
         first: none,
@@ -135,7 +137,7 @@ fn paired_rows<const INSIDE: bool>(
         third: none,
     };
     for i in 0..7 {
-        let rows = three_rows::<INSIDE>(plane, left, top + 3 * i as i32, weights, near);
+        let rows = three_rows::<INSIDE>(&flat, left, top + 3 * i as i32, weights, near);
         put_pair(first, i, above.first, rows.first);
         put_pair(second, i, above.second, rows.second);
         put_pair(third, i, above.third, rows.third);
@@ -154,7 +156,7 @@ fn all_rows(
     requires one { length first.old ≡ 224 }
     requires two { length second.old ≡ 224 }
     requires three { length third.old ≡ 224 }
-    requires six { AreSix weights.now }
+    requires six { SumsFitI16 weights.now }
     requires columns { 0 < window.plane.now.width }
     requires height { 0 < window.plane.now.height }
     requires near { (negsuc 400000000 ≤ℤ window.left) × (window.left ≤ℤ pos 400000000) }
@@ -189,7 +191,7 @@ fn pair_at(run: &[u8], e: usize) -> Pair
 
 /// Filters one row vertically, from three consecutive pairs of rows.
 fn vertical_row(a: &Pair, b: &Pair, c: &Pair, weights: &[i16; 6], far: &ColumnWeights) -> u8x16
-    requires six { AreSix weights.now }
+    requires six { SumsFitI16 weights.now }
     requires turns { AreFar weights.now far.now }
     ensures { (pixel : ℕ → ℕ → ℕ) → (r : ℕ) → IsPair a.now pixel r → IsPair b.now pixel (r + 1)
         → IsPair c.now pixel (r + 2) → (x : ℕ) → x < 16 → slice_index result x
@@ -214,7 +216,7 @@ fn vertical_three_rows(
     requires two { length second.now ≡ 224 }
     requires three { length third.now ≡ 224 }
     requires place { e < 5 }
-    requires six { AreSix weights.now }
+    requires six { SumsFitI16 weights.now }
     requires turns { AreFar weights.now far.now }
     ensures first { (pixel : ℕ → ℕ → ℕ) → HoldsPairs first.now pixel 0 6 → HoldsPairs second.now pixel 1 6
         → HoldsPairs third.now pixel 2 6 → (x : ℕ) → x < 16 → slice_index result.first x
@@ -251,7 +253,7 @@ fn paired_columns(
     requires one { length first.now ≡ 224 }
     requires two { length second.now ≡ 224 }
     requires three { length third.now ≡ 224 }
-    requires six { AreSix weights.now }
+    requires six { SumsFitI16 weights.now }
     requires turns { AreFar weights.now far.now }
     ensures { (pixel : ℕ → ℕ → ℕ) → HoldsPairs first.now pixel 0 6 → HoldsPairs second.now pixel 1 6
         → HoldsPairs third.now pixel 2 6 → (r c : ℕ) → r < 16 → c < 16
@@ -280,8 +282,8 @@ pub(crate) fn six_tap_2d_block(
     column_weights: &[i16; 6],
 )
     requires whole { length pixels.old ≡ 256 }
-    requires rows { AreSix row_weights.now }
-    requires columns { AreSix column_weights.now }
+    requires rows { SumsFitI16 row_weights.now }
+    requires columns { SumsFitI16 column_weights.now }
     requires width { 0 < plane.now.width }
     requires height { 0 < plane.now.height }
     requires near { (negsuc 400000000 ≤ℤ left) × (left ≤ℤ pos 400000000) }

@@ -11,8 +11,8 @@ plain_row-row-requires g c = (
   (
     omega arith,
     (
-      (λ t. let i = c.lies_inside-inside.ensures t in (i.0, i.1, omega (arith, ints), omega (arith, ints))),
-      (c.requires.columns, (c.requires.height, (omega (arith, ints), omega (arith, ints)))),
+      (λ t. let i = c.lies_inside-inside.ensures t in (i.0, omega (arith, ints), omega (arith, ints), omega (arith, ints))),
+      (rw c.of-flat.ensures.width c.requires.columns, (rw c.of-flat.ensures.height c.requires.height, (omega (arith, ints), omega (arith, ints)))),
     ),
   ),
 )
@@ -25,7 +25,9 @@ loop-r-preserved g c =
     let value : ℕ → ℕ → ℕ = λ (k i : ℕ). reference_pixel p (left +ℤ pos i) (top +ℤ pos k) in
     let row : to_z w32 (of_z w32 (top +ℤ to_z w32 c.loop-r.r)) ≡ top +ℤ pos c.loop-r.r = omega (arith, ints) in
     let last : (k : ℕ) → k < g.row.N → get_or c.plain_row-row.result k 0 ≡ value c.loop-r.r k =
-    λ k kin. c.plain_row-row.ensures k kin ∙ ap (λ (z : ℤ). reference_pixel p (left +ℤ pos k) z) row in
+    λ k kin. c.plain_row-row.ensures k kin
+    ∙ ap (λ (s : Raster). reference_pixel s (left +ℤ pos k) (to_z w32 (of_z w32 (top +ℤ to_z w32 c.loop-r.r)))) c.of-flat.ensures.value
+    ∙ ap (λ (z : ℤ). reference_pixel p (left +ℤ pos k) z) row in
     record {
       size = search rules;
       done = rows_more g.row.N c.loop-r.r c.loop-r.pixels c.put_lanes.new.pixels c.plain_row-row.result value

@@ -1,5 +1,6 @@
 use Rattle.std.proofs.Common.{◌≡◌, ◌∙◌, ℤ, pos, ◌+◌, ◌<◌, ◌+ℤ◌, ap, arith, to_z, of_z, w32, rules}
 use Rattle.std.proofs.lemmas.Int.{ints, to_z-of_z}
+use Rattle.vp_base.specs.Raster.{Raster}
 use Rattle.vp_inter.specs.Filter.{filter_six}
 use Rattle.vp_inter.specs.Inter.{reference_pixel, horizontal_pass}
 use Rattle.vp_inter.proofs.PassLemmas.{rows_more}
@@ -14,7 +15,7 @@ horizontal_row-row-requires g c = (
       c.requires.line,
       (
         (λ t. let i = c.requires.inside t in (omega (arith, ints), omega (arith, ints), omega (arith, ints), omega (arith, ints))),
-        (c.requires.gentle, (c.requires.few, (c.requires.columns, (c.requires.height, (omega (arith, ints), omega (arith, ints)))))),
+        (c.requires.gentle, (c.requires.few, (rw c.of-flat.ensures.width c.requires.columns, (rw c.of-flat.ensures.height c.requires.height, (omega (arith, ints), omega (arith, ints)))))),
       ),
     ),
   ),
@@ -30,7 +31,9 @@ loop-i-preserved g c =
       size = search rules;
       done = rows_more g.row.N c.loop-i.i c.loop-i.pixels c.put_lanes.new.pixels c.horizontal_row-row.result (horizontal_pass c.args.weights.now c.args.plane.now left top)
           c.loop-i.invariant.done c.put_lanes.ensures.here c.put_lanes.ensures.before
-          (λ k kin. c.horizontal_row-row.ensures k kin ∙ ap (λ (z : ℤ). filter_six c.args.weights.now (λ j. reference_pixel c.args.plane.now (left +ℤ pos (k + j)) z)) row);
+          (λ k kin. c.horizontal_row-row.ensures k kin
+          ∙ ap (λ (s : Raster). filter_six c.args.weights.now (λ j. reference_pixel s (left +ℤ pos (k + j)) (to_z w32 (of_z w32 (top +ℤ to_z w32 c.loop-i.i))))) c.of-flat.ensures.value
+          ∙ ap (λ (z : ℤ). filter_six c.args.weights.now (λ j. reference_pixel c.args.plane.now (left +ℤ pos (k + j)) z)) row);
     }
 
 pub returns : goal.returns

@@ -1,4 +1,4 @@
-use Rattle.std.proofs.Common.{◌≡◌, ◌∙◌, ℕ, ℤ, pos, ◌+◌, ◌*◌, ◌<◌, ◌≤◌, ◌+ℤ◌, ap, sym, subst, get_or, arith, List, w32, rules}
+use Rattle.std.proofs.Common.{◌≡◌, ◌∙◌, ℕ, ℤ, pos, ◌+◌, ◌<◌, ◌≤◌, ◌+ℤ◌, ap, sym, subst, arith, List, w32, rules}
 use Rattle.std.proofs.lemmas.Int.{ints, to_z-of_z}
 use mir.Val.{SFits}
 use Rattle.vp_base.specs.Raster.{Raster}
@@ -6,7 +6,8 @@ use Rattle.vp_inter.specs.Vectors.{fraction, first_tap}
 use Rattle.vp_inter.specs.Filter.{taps, filter_six}
 use Rattle.vp_inter.specs.Inter.{reference_pixel, horizontal_pass}
 use Rattle.vp_inter.proofs.Sums.{same, small_same}
-use Rattle.vp_inter.proofs.PassLemmas.{inter_both, inter_passes, inter_level, inter_whole, across_whole}
+use Rattle.vp_inter.proofs.FilterLemmas.{filter_six-same}
+use Rattle.vp_inter.proofs.PassLemmas.{inter_passes, inter_level, inter_whole, across_whole}
 use Rattle.vp_inter.proofs.block.predict.Goals as goal
 
 pub returns-then-down-eq0-2 : goal.returns-then-down-eq0-2
@@ -22,8 +23,8 @@ returns-then-down-eq0-2 g c r k rin kin =
     (let e : same (same c.first_tap-top.result +ℤ pos 2) ≡ c.first_tap-top.result +ℤ pos 2 = omega (arith, ints) in e)
     ∙ ap (λ (z : ℤ). z +ℤ pos 2) (c.first_tap-top.ensures.value ∙ ap (first_tap c.args.y) row) in
     let across_is : c.fraction-across.result ≡ fraction c.args.vector.column = c.fraction-across.ensures.value ∙ ap fraction column in
-    let weights : c.taps-weights.result ≡ taps c.args.version (fraction c.args.vector.column) = c.taps-weights.ensures.value ∙ ap (taps c.args.version) across_is in
-    c.pass_rows.ensures r k rin kin
+    let weights : taps c.args.version c.fraction-across.result ≡ taps c.args.version (fraction c.args.vector.column) = ap (taps c.args.version) across_is in
+    c.predict_across.ensures r k rin kin
     ∙ ap (λ (w : List ℤ). horizontal_pass w p (same c.first_tap-left.result) (same (same c.first_tap-top.result +ℤ pos 2)) r k) weights
     ∙ ap (λ (z : ℤ). horizontal_pass (taps c.args.version (fraction c.args.vector.column)) p z (same (same c.first_tap-top.result +ℤ pos 2)) r k) left
     ∙ ap (λ (z : ℤ). horizontal_pass (taps c.args.version (fraction c.args.vector.column)) p (first_tap c.args.x c.args.vector.column) z r k) top
@@ -40,13 +41,7 @@ returns-else-across-eq0-2 g c r k rin kin =
     small_same c.first_tap-left.result (omega (arith, ints), omega (arith, ints)) ∙ (c.first_tap-left.ensures.value ∙ ap (first_tap c.args.x) column) in
     let top : same c.first_tap-top.result ≡ first_tap c.args.y c.args.vector.row =
     small_same c.first_tap-top.result (omega (arith, ints), omega (arith, ints)) ∙ (c.first_tap-top.ensures.value ∙ ap (first_tap c.args.y) row) in
-    let across_is : c.fraction-across.result ≡ fraction c.args.vector.column = c.fraction-across.ensures.value ∙ ap fraction column in
-    let down_is : c.fraction-down.result ≡ fraction c.args.vector.row = c.fraction-down.ensures.value ∙ ap fraction row in
-    let first : c.taps-rows.result ≡ taps c.args.version (fraction c.args.vector.column) = c.taps-rows.ensures.value ∙ ap (taps c.args.version) across_is in
-    let second : c.taps-columns.result ≡ taps c.args.version (fraction c.args.vector.row) = c.taps-columns.ensures.value ∙ ap (taps c.args.version) down_is in
-    c.pass_both.ensures r k rin kin
-    ∙ ap (λ (w : List ℤ). filter_six w (λ j. horizontal_pass c.taps-rows.result p (same c.first_tap-left.result) (same c.first_tap-top.result) (r + j) k)) second
-    ∙ ap (λ (w : List ℤ). filter_six (taps c.args.version (fraction c.args.vector.row)) (λ j. horizontal_pass w p (same c.first_tap-left.result) (same c.first_tap-top.result) (r + j) k)) first
+    c.predict_both.ensures r k rin kin
     ∙ ap (λ (z : ℤ). filter_six (taps c.args.version (fraction c.args.vector.row)) (λ j. horizontal_pass (taps c.args.version (fraction c.args.vector.column)) p z (same c.first_tap-top.result) (r + j) k)) left
     ∙ ap (λ (z : ℤ). filter_six (taps c.args.version (fraction c.args.vector.row)) (λ j. horizontal_pass (taps c.args.version (fraction c.args.vector.column)) p (first_tap c.args.x c.args.vector.column) z (r + j) k)) top
     ∙ inter_passes c.args.version p c.args.x c.args.y c.args.vector r k
@@ -64,22 +59,19 @@ returns-then-across-eq0-2 g c r k rin kin =
     let top : same c.first_tap-top.result ≡ first_tap c.args.y c.args.vector.row =
     small_same c.first_tap-top.result (omega (arith, ints), omega (arith, ints)) ∙ (c.first_tap-top.ensures.value ∙ ap (first_tap c.args.y) row) in
     let down_is : c.fraction-down.result ≡ fraction c.args.vector.row = c.fraction-down.ensures.value ∙ ap fraction row in
-    let rows : List ℕ = c.copied_rows-rows.result in
     let x : ℤ = first_tap c.args.x c.args.vector.column in
     let y : ℤ = first_tap c.args.y c.args.vector.row in
     let none : fraction c.args.vector.column ≡ 0 = sym (ap fraction column) ∙ sym c.fraction-across.ensures.value ∙ c.if-across-eq0-2.true in
-    let weights : c.taps.result ≡ taps c.args.version (fraction c.args.vector.row) = c.taps.ensures.value ∙ ap (taps c.args.version) down_is in
-    let moved : (i j : ℕ) → reference_pixel p (same (same c.first_tap-left.result +ℤ pos 2) +ℤ pos j) (same c.first_tap-top.result +ℤ pos i) ≡ reference_pixel p (x +ℤ pos 2 +ℤ pos j) (y +ℤ pos i) =
-    λ i j. ap (λ (z : ℤ). reference_pixel p (z +ℤ pos j) (same c.first_tap-top.result +ℤ pos i)) left ∙ ap (λ (z : ℤ). reference_pixel p (x +ℤ pos 2 +ℤ pos j) (z +ℤ pos i)) top in
-    c.pass_columns.ensures r k rin kin
-    ∙ ap (λ (w : List ℤ). filter_six w (λ j. get_or rows ((r + j) * g.row.N + k) 0)) weights
-    ∙ inter_both c.args.version p c.args.x c.args.y c.args.vector g.row.N rows
-    (λ i j iin jin.
-    let within : i < g.row.W = omega arith in
-    c.copied_rows-rows.ensures.value i j within jin
-    ∙ moved i j
-    ∙ across_whole c.args.version (fraction c.args.vector.column) p x y i j none (subst (λ (v : ℕ). v ≤ 255) (moved i j) (c.copied_rows-rows.ensures.bytes i j within jin)))
-    r k rin kin
+    let moved : (i : ℕ) → reference_pixel p (same (same c.first_tap-left.result +ℤ pos 2) +ℤ pos k) (same c.first_tap-top.result +ℤ pos i) ≡ reference_pixel p (x +ℤ pos 2 +ℤ pos k) (y +ℤ pos i) =
+    λ i. ap (λ (z : ℤ). reference_pixel p (z +ℤ pos k) (same c.first_tap-top.result +ℤ pos i)) left ∙ ap (λ (z : ℤ). reference_pixel p (x +ℤ pos 2 +ℤ pos k) (z +ℤ pos i)) top in
+    c.predict_down.ensures.value r k rin kin
+    ∙ ap (λ (n : ℕ). filter_six (taps c.args.version n) (λ j. reference_pixel p (same (same c.first_tap-left.result +ℤ pos 2) +ℤ pos k) (same c.first_tap-top.result +ℤ pos (r + j)))) down_is
+    ∙ filter_six-same (taps c.args.version (fraction c.args.vector.row)) (λ j. reference_pixel p (same (same c.first_tap-left.result +ℤ pos 2) +ℤ pos k) (same c.first_tap-top.result +ℤ pos (r + j)))
+    (λ j. horizontal_pass (taps c.args.version (fraction c.args.vector.column)) p x y (r + j) k)
+    (λ j jin.
+    let within : r + j < g.row.W = omega arith in
+    moved (r + j) ∙ across_whole c.args.version (fraction c.args.vector.column) p x y (r + j) k none (subst (λ (v : ℕ). v ≤ 255) (moved (r + j)) (c.predict_down.ensures.bytes (r + j) k within kin)))
+    ∙ inter_passes c.args.version p c.args.x c.args.y c.args.vector r k
 
 pub returns-then-across-eq0 : goal.returns-then-across-eq0
 returns-then-across-eq0 g c r k rin kin =

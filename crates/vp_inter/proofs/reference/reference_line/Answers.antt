@@ -1,4 +1,4 @@
-use Rattle.std.proofs.Common.{◌≡◌, ◌∙◌, ℕ, ℤ, pos, ◌<◌, ◌+ℤ◌, length, ap, get_or, arith, to_z, of_z, w32}
+use Rattle.std.proofs.Common.{◌≡◌, ◌∙◌, ℤ, pos, ◌+ℤ◌, length, ap, get_or, w32}
 use Rattle.std.proofs.lemmas.Int.{to_z-of_z}
 use Rattle.vp_base.specs.Raster.{Raster, row_of}
 use Rattle.vp_inter.specs.Inter.{nearest}
@@ -8,8 +8,8 @@ use Rattle.vp_inter.proofs.reference.reference_line.Goals as goal
 pub returns : goal.returns
 returns c k below =
     let p : Raster = c.args.plane.now in
-    let line : c.row.result.now ≡ row_of p (nearest p.height c.args.row) =
-    c.row.ensures.value ∙ ap (row_of p) (c.nearest.ensures.value ∙ ap (nearest c.height.result) (to_z-of_z w32 c.args.row c.ranges.row) ∙ ap (λ (n : ℕ). nearest n c.args.row) c.height.ensures.value) in
+    let line : c.extended_row.result.now ≡ row_of p (nearest p.height c.args.row) =
+    c.extended_row.ensures.value ∙ ap (λ (z : ℤ). row_of p (nearest p.height z)) (to_z-of_z w32 c.args.row c.ranges.row) in
     c.nearest_numbers.ensures.value k below
-    ∙ ap (λ (z : ℤ). get_or c.row.result.now (nearest (length c.row.result.now) (z +ℤ pos k)) 0) (to_z-of_z w32 c.args.left c.ranges.left)
-    ∙ line_beyond p c.row.result.now (c.args.left +ℤ pos k) c.args.row line c.row.ensures.len c.requires.columns
+    ∙ ap (λ (z : ℤ). get_or c.extended_row.result.now (nearest (length c.extended_row.result.now) (z +ℤ pos k)) 0) (to_z-of_z w32 c.args.left c.ranges.left)
+    ∙ line_beyond p c.extended_row.result.now (c.args.left +ℤ pos k) c.args.row line c.extended_row.ensures.len c.requires.columns

@@ -1,5 +1,6 @@
 use Rattle.std.proofs.Common.{◌≡◌, ◌∙◌, ℤ, pos, ◌+◌, ◌<◌, ◌+ℤ◌, ap, arith, to_z, of_z, w32, rules}
 use Rattle.std.proofs.lemmas.Int.{ints, to_z-of_z}
+use Rattle.vp_base.specs.Raster.{Raster}
 use Rattle.vp_inter.specs.Filter.{filter_six}
 use Rattle.vp_inter.specs.Inter.{reference_pixel, horizontal_pass}
 use Rattle.vp_inter.proofs.PassLemmas.{rows_more}
@@ -18,7 +19,9 @@ loop-i-preserved g c =
       size = search rules;
       done = rows_more 16 c.loop-i.i c.loop-i.pixels c.put_lanes.new.pixels c.in_order.result (horizontal_pass c.args.weights.now c.args.plane.now left top)
           c.loop-i.invariant.done c.put_lanes.ensures.here c.put_lanes.ensures.before
-          (λ k kin. c.in_order.ensures k kin ∙ c.halves_row-halves.ensures k kin ∙ ap (λ (z : ℤ). filter_six c.args.weights.now (λ j. reference_pixel c.args.plane.now (left +ℤ pos (k + j)) z)) row);
+          (λ k kin. c.in_order.ensures k kin ∙ c.halves_row-halves.ensures k kin
+          ∙ ap (λ (s : Raster). filter_six c.args.weights.now (λ j. reference_pixel s (left +ℤ pos (k + j)) (to_z w32 (of_z w32 (top +ℤ to_z w32 c.loop-i.i))))) c.of-flat.ensures.value
+          ∙ ap (λ (z : ℤ). filter_six c.args.weights.now (λ j. reference_pixel c.args.plane.now (left +ℤ pos (k + j)) z)) row);
     }
 
 pub returns : goal.returns

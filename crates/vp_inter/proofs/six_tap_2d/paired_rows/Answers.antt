@@ -1,6 +1,7 @@
 use Rattle.std.proofs.Common.{◌≡◌, ◌∙◌, refl, ℕ, ℤ, pos, ◌+◌, ◌-◌, ◌*◌, ◌<◌, ◌+ℤ◌, ◌*ℤ◌, ap, get_or, arith, to_z, of_z, w32, rules}
 use mir.Val.{SFits}
 use Rattle.std.proofs.lemmas.Int.{ints, to_z-of_z}
+use Rattle.vp_base.specs.Raster.{Raster}
 use Rattle.vp_inter.specs.Inter.{horizontal_pass}
 use Rattle.vp_inter.specs.Turns.{half_place}
 use Rattle.vp_inter.proofs.WideLemmas.{pairs_more, across_below}
@@ -18,11 +19,11 @@ loop-i-preserved g c =
     let from : ℤ = to_z w32 (of_z w32 (top +ℤ to_z w32 (of_z w32 (pos 3 *ℤ to_z w32 i)))) in
     let here : from ≡ top +ℤ pos (3 * i) = omega (arith, ints) in
     let first : (x : ℕ) → x < 16 → get_or c.three_rows-rows.result.first (half_place x) 0 ≡ pixel (3 * i + 0) x =
-    λ x h. c.three_rows-rows.ensures.first x h ∙ across_below c.args.weights.now c.args.window.plane.now left top from (3 * i) 0 (3 * i + 0) x here refl in
+    λ x h. c.three_rows-rows.ensures.first x h ∙ ap (λ (s : Raster). horizontal_pass c.args.weights.now s left from 0 x) c.of-flat.ensures.value ∙ across_below c.args.weights.now c.args.window.plane.now left top from (3 * i) 0 (3 * i + 0) x here refl in
     let second : (x : ℕ) → x < 16 → get_or c.three_rows-rows.result.second (half_place x) 0 ≡ pixel (3 * i + 1) x =
-    λ x h. c.three_rows-rows.ensures.second x h ∙ across_below c.args.weights.now c.args.window.plane.now left top from (3 * i) 1 (3 * i + 1) x here refl in
+    λ x h. c.three_rows-rows.ensures.second x h ∙ ap (λ (s : Raster). horizontal_pass c.args.weights.now s left from 1 x) c.of-flat.ensures.value ∙ across_below c.args.weights.now c.args.window.plane.now left top from (3 * i) 1 (3 * i + 1) x here refl in
     let third : (x : ℕ) → x < 16 → get_or c.three_rows-rows.result.third (half_place x) 0 ≡ pixel (3 * i + 2) x =
-    λ x h. c.three_rows-rows.ensures.third x h ∙ across_below c.args.weights.now c.args.window.plane.now left top from (3 * i) 2 (3 * i + 2) x here refl in
+    λ x h. c.three_rows-rows.ensures.third x h ∙ ap (λ (s : Raster). horizontal_pass c.args.weights.now s left from 2 x) c.of-flat.ensures.value ∙ across_below c.args.weights.now c.args.window.plane.now left top from (3 * i) 2 (3 * i + 2) x here refl in
     record {
       one = search rules;
       two = search rules;
