@@ -91,20 +91,24 @@ pub(crate) fn rebuild_inter_chroma(
 {
     let _known = [picture.plane(plane).width(), picture.plane(plane).height()];
     let [x, y] = [8 * place.column, 8 * place.row];
-    predict_chroma(picture, plane, x, y, source);
+    let vectors = chroma_vectors(source.version, source.motion);
+    predict_chroma(picture, plane, x, y, source, &vectors);
     let residues = chroma_residues(tokens, factors, plane);
     add_residues::<2>(picture, plane, x, y, &residues);
 }
 
-/// Predicts a chroma plane of an inter macroblock.
+/// Predicts a chroma plane of an inter macroblock, by its vectors, which are those of both chroma planes.
+#[inline(always)]
 pub(crate) fn predict_chroma(
     picture: &mut Picture,
     plane: usize,
     x: usize,
     y: usize,
     source: InterPredictor,
+    vectors: &[PlaneVector; 4],
 )
     requires plane { plane < 3 }
+    requires vectors { AreVectors 4 vectors.now (chroma_moved source.version source.motion.now) }
     requires columns { x + 8 ≤ (plane_of picture.old plane).width }
     requires rows { y + 8 ≤ (plane_of picture.old plane).height }
     ensures { picture.new ≡ with_plane picture.old plane (with_block (plane_of picture.old plane) x y 8 8
@@ -119,11 +123,9 @@ pub(crate) fn predict_chroma(
     let _known = reference.dim();
     let from = reference.plane(plane);
     if motion.mode.is_split() {
-        let vectors = chroma_vectors(version, motion);
-        predict_four(picture, plane, x, y, from, &vectors, version);
+        predict_four(picture, plane, x, y, from, vectors, version);
     } else {
-        let vector = chroma_vector_of(version, motion, 0);
-        predict_into8(picture, plane, x, y, from, vector, version);
+        predict_into8(picture, plane, x, y, from, vectors[0], version);
     }
 }
 
@@ -176,17 +178,23 @@ fn quarter_vectors(motion: &MacroblockMotion, quarter: usize) -> [PlaneVector; 4
     ]
 }
 
-/// Returns the motion vectors of the four subblocks of either chroma plane.
-fn chroma_vectors(version: u8, motion: &MacroblockMotion) -> [PlaneVector; 4]
+/// Returns the motion vectors of the four subblocks of either chroma plane. They are equal unless the macroblock is
+/// split.
+pub(crate) fn chroma_vectors(version: u8, motion: &MacroblockMotion) -> [PlaneVector; 4]
     ensures len { length result ≡ 4 }
     ensures value { AreVectors 4 result (chroma_moved version motion.now) }
 {
-    [
-        chroma_vector_of(version, motion, 0),
-        chroma_vector_of(version, motion, 1),
-        chroma_vector_of(version, motion, 2),
-        chroma_vector_of(version, motion, 3),
-    ]
+    let first = chroma_vector_of(version, motion, 0);
+    if motion.mode.is_split() {
+        [
+            first,
+            chroma_vector_of(version, motion, 1),
+            chroma_vector_of(version, motion, 2),
+            chroma_vector_of(version, motion, 3),
+        ]
+    } else {
+        [first, first, first, first]
+    }
 }
 
 /// Predicts luma with split vectors, quarter by quarter.

@@ -8,7 +8,7 @@ ghost use Rattle.vp_quant.specs.declared.factors.Factors.{Factors};
 ghost use Rattle.vp_recon.specs.Predictor.{Inter, macroblock_of};
 ghost use Rattle.vp_recon.specs.Rebuilt.{rebuilt};
 
-use crate::inter::{InterPredictor, predict_chroma, predict_luma};
+use crate::inter::{InterPredictor, chroma_vectors, predict_chroma, predict_luma};
 use vp_base::{Picture, Place};
 use vp_motion::MacroblockMotion;
 
@@ -35,6 +35,7 @@ pub fn predict_inter_macroblock(
     let [x, y] = [16 * place.column, 16 * place.row];
     predict_luma(picture, x, y, source);
     let [x, y] = [8 * place.column, 8 * place.row];
-    predict_chroma(picture, 1, x, y, source);
-    predict_chroma(picture, 2, x, y, source);
+    let vectors = chroma_vectors(version, motion);
+    predict_chroma(picture, 1, x, y, source, &vectors);
+    predict_chroma(picture, 2, x, y, source, &vectors);
 }
