@@ -97,7 +97,7 @@ shown_size : (show : Bool) (p r : Image) (before : Option Image) → AreOneSize 
 shown_size true p r before a b = a
 shown_size false p r before a b = b
 
-info-mapped : (o : ParsedPacket) → IsMapped o.context.modes.columns o.context.modes.rows (frame_info_of o).maps
+pub info-mapped : (o : ParsedPacket) → IsMapped o.context.modes.columns o.context.modes.rows (frame_info_of o).maps
 unfolding frame_info_of
 info-mapped o = maps_read-mapped o.header o.context.modes.columns o.context.modes.rows _ o.first (record { columns_are = refl; rows_are = refl })
 

@@ -1,22 +1,27 @@
 //! Decodes one frame, without changing the decoder's state yet.
 
-ghost use Rattle.std.specs.Prelude.{◌≡◌, ◌<◌, ◌≤◌, length, map, IfOk, option_map};
+ghost use Rattle.std.specs.Prelude.{◌≡◌, ◌<◌, ◌≤◌, length, map, IfOk, IfSome, option_map};
 ghost use Rattle.vp_base.specs.Image.{macroblocks};
 ghost use Rattle.vp_modes.specs.Map.{segments_of};
 ghost use Rattle.vp_bool.specs.Bools.{initial_state};
 ghost use Rattle.vp_decode.specs.Equation.{IsOneSize};
 ghost use Rattle.vp_decode.specs.Frame.{frame_of, picture_of};
-ghost use Rattle.vp_decode.specs.Step.{frame_info_of, frame_of_packet, shown_after, state_after};
+ghost use Rattle.vp_decode.specs.MacroblockInfo.{maps_read};
+ghost use Rattle.vp_decode.specs.RebuiltFrame.{IsRebuiltFrame};
+ghost use Rattle.vp_decode.specs.Step.{maps_before, frame_info_of, frame_of_packet, shown_after, state_after};
 
 use crate::frame_buffers::FrameBuffers;
+use crate::frame_context::FrameContext;
 use crate::frame_decoder::FrameDecoder;
 use crate::frame_info::FrameInfo;
 use crate::macroblock_info::MacroblockInfo;
 use crate::parsed_packet::ParsedPacket;
+use crate::rebuilt_frame::filter_rebuilt;
 use std::alloc::{AllocError, Global};
 use std::mem;
 use std::rc::Rc;
 use vp_base::{Dim, Grid, Picture};
+use vp_bool::BoolDecoder;
 use vp_head::{Header, Saved};
 use vp_loop::RowFilter;
 use vp_modes::Segment;
@@ -71,13 +76,36 @@ fn shown_after(
     }
 }
 
-/// Decodes the frame of a parsed packet, reusing the memory of `buffers`. Fails only if memory runs out.
+/// Reads the modes and the motion of a frame's macroblocks, reusing the memory of `buffers`.
+fn read_maps(
+    alloc: Global,
+    buffers: &mut FrameBuffers,
+    context: &FrameContext,
+    header: &Header,
+    first: &mut BoolDecoder,
+) -> Result<MacroblockInfo, AllocError>
+    ensures value { IfOk result (λ m. m ≡ (maps_read header.now (maps_before context.now.modes) first.old).0) }
+    ensures columns { IfOk result (λ m. m.modes.columns ≡ context.now.modes.columns) }
+    ensures rows { IfOk result (λ m. m.modes.rows ≡ context.now.modes.rows) }
+{
+    let mut maps = context.maps_before(mem::replace(
+        &mut buffers.maps,
+        MacroblockInfo::empty(alloc),
+    ))?;
+    maps.read(header, first);
+    Ok(maps)
+}
+
+/// Decodes the frame of a parsed packet, reusing the memory of `buffers`. If the picture before the loop filter is
+/// given, it is only filtered. Fails only if memory runs out.
 pub(crate) fn decode_frame<F: RowFilter>(
     alloc: Global,
     buffers: &mut FrameBuffers,
     parsed: ParsedPacket,
     filter: &mut F,
+    rebuilt: Option<Picture>,
 ) -> Result<DecodedFrame, AllocError>
+    requires { IfSome rebuilt (IsRebuiltFrame parsed) }
     ensures header { IfOk result (λ f. f.header ≡ parsed.entry.header) }
     ensures saved { IfOk result (λ f. f.saved ≡ parsed.entry.saved) }
     ensures segments { IfOk result (λ f. f.segments ≡ segments_of (frame_info_of parsed.entry).maps.modes) }
@@ -89,28 +117,19 @@ pub(crate) fn decode_frame<F: RowFilter>(
     // A law, no work: each pixel is its prediction and its residue, whatever the order of macroblocks.
     unfiltered_picture_solves_its_equation();
     let context = parsed.context;
-    let mut maps = context.maps_before(mem::replace(
-        &mut buffers.maps,
-        MacroblockInfo::empty(alloc),
-    ))?;
     let mut first = parsed.first;
-    maps.read(&parsed.header, &mut first);
+    let maps = read_maps(alloc, buffers, &context, &parsed.header, &mut first)?;
     let kept = mem::replace(&mut buffers.segments, Grid::empty(alloc));
     let segments = maps.modes.segments_in(kept)?;
-    let info = FrameInfo::new(
-        &parsed.header,
-        parsed.tag.version,
-        context.references(),
-        maps,
-    );
-    let picture = decode_picture(
-        alloc,
-        buffers,
-        &info,
-        context.dim,
-        &parsed.partitions,
-        filter,
-    )?;
+    let version = parsed.tag.version;
+    let info = FrameInfo::new(&parsed.header, version, context.references(), maps);
+    let picture = match rebuilt {
+        Some(rebuilt) => filter_rebuilt(alloc, buffers, &info, rebuilt, filter)?,
+        None => {
+            let partitions = &parsed.partitions;
+            decode_picture(alloc, buffers, &info, context.dim, partitions, filter)?
+        }
+    };
     buffers.maps = info.into_maps();
     let picture = Rc::new(alloc, picture)?;
     let shown = shown_after(parsed.tag.show, &picture, context.shown)?;

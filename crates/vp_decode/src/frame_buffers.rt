@@ -1,15 +1,24 @@
 //! Memory that is reused from frame to frame.
 
-ghost use Rattle.std.specs.Prelude.{◌≡◌, None, IfOk};
+ghost use Rattle.std.specs.Prelude.{◌≡◌, ◌≤◌, None, IfOk};
 ghost use Rattle.vp_base.specs.Image.{AreWhole};
 ghost use Rattle.vp_decode.specs.RowBands.{IsShaped};
 
 use crate::macroblock_info::MacroblockInfo;
 use std::alloc::{AllocError, Global};
+use std::mem;
 use vp_base::{Dim, Grid, Picture};
 use vp_loop::Level;
 use vp_modes::Segment;
 use vp_tokens::Contexts;
+
+/// The filter limits of a macroblock that is not filtered.
+const NO_LEVEL: Level = Level {
+    edge: 0,
+    inner: 0,
+    interior: 0,
+    hev: 0,
+};
 
 /// The memory of earlier frames, for reuse by the next one. Its contents have no meaning.
 #[derive(Drop)]
@@ -60,5 +69,21 @@ impl FrameBuffers {
         are_whole(&picture);
         let _known = picture.dim();
         Ok(picture)
+    }
+
+    /// Returns filter levels for this many columns and rows of macroblocks, none of which is filtered. Reuses the memory
+    /// of the kept levels.
+    pub(crate) fn levels(
+        &mut self,
+        alloc: Global,
+        columns: usize,
+        rows: usize,
+    ) -> Result<Grid<Level>, AllocError>
+        requires columns { columns ≤ 1024 }
+        requires rows { rows ≤ 1024 }
+        ensures columns { IfOk result (λ g. g.columns ≡ columns) }
+        ensures rows { IfOk result (λ g. g.rows ≡ rows) }
+    {
+        mem::replace(&mut self.levels, Grid::empty(alloc)).refill(columns, rows, NO_LEVEL)
     }
 }

@@ -28,14 +28,6 @@ use vp_recon::{
 };
 use vp_tokens::{Contexts, Partitions, Tokens};
 
-/// The filter limits of a macroblock that is not filtered.
-const NO_LEVEL: Level = Level {
-    edge: 0,
-    inner: 0,
-    interior: 0,
-    hev: 0,
-};
-
 /// A frame's picture while its rows are rebuilt and filtered, with the token contexts and the filter levels.
 #[derive(Drop)]
 pub(crate) struct FrameDecoder<'a> {
@@ -82,11 +74,7 @@ impl<'a> FrameDecoder<'a> {
         let columns = info.columns();
         let picture = buffers.picture(alloc, dim)?;
         let contexts = mem::replace(&mut buffers.contexts, Contexts::empty(alloc)).refill(columns)?;
-        let levels = mem::replace(&mut buffers.levels, Grid::empty(alloc)).refill(
-            columns,
-            info.rows(),
-            NO_LEVEL,
-        )?;
+        let levels = buffers.levels(alloc, columns, info.rows())?;
         Ok(FrameDecoder {
             info,
             contexts,

@@ -1,13 +1,13 @@
 -- What was chosen is what the packet says.
 use Rattle.std.proofs.Common.{◌≡◌, ◌∙◌, ℕ, zero, suc, ◌+◌, ◌*◌, ◌<◌, ◌≤◌, Bool, true, false, List, length, map, min, refl, sym, ap, subst, arith, inl, inr}
-use Rattle.std.specs.Prelude.{Option, Some, None, Result, Ok, Err, IsOkAnd, option_map, unwrap_or, slice_get, nat_lt, if◌then◌else◌, ◌==◌}
+use Rattle.std.specs.Prelude.{Option, Some, None, Result, Ok, Err, IsOkAnd, not, option_map, unwrap_or, slice_get, nat_lt, if◌then◌else◌, ◌==◌}
 use Rattle.std.proofs.lemmas.Bool.{cases_Bool}
 use Rattle.std.proofs.lemmas.Option.{slice_get-map}
 use Rattle.vp_base.specs.declared.limits.Dim.{Dim}
 use Rattle.vp_base.specs.declared.limits.Limits.{Limits}
 use Rattle.vp_base.specs.declared.place.Place.{Place}
 use Rattle.vp_base.specs.Grid.{Grid, Has, at, entry}
-use Rattle.vp_base.specs.Image.{Image, macroblocks}
+use Rattle.vp_base.specs.Image.{Image, blank_image, macroblocks}
 use Rattle.vp_bool.specs.Bools.{State, initial_state}
 use Rattle.vp_bool.specs.Reader.{Reader, bind, rows as rows_of}
 use Rattle.vp_head.specs.declared.fault.PacketFault.{PacketFault}
@@ -21,23 +21,27 @@ use Rattle.vp_modes.specs.Entry.{Modes, plain}
 use Rattle.vp_modes.specs.Map.{segments_of}
 use Rattle.vp_modes.specs.Modes.{modes_at}
 use Rattle.vp_motion.specs.Vector.{MacroblockMotion}
+use Rattle.vp_tokens.specs.declared.contexts.Tokens.{Tokens}
+use Rattle.vp_tokens.specs.Blocks.{any_token}
 use Rattle.vp_quant.specs.Quant.{factors, index_of}
 use Rattle.vp_refs.specs.References.{reference_picture}
-use Rattle.vp_recon.specs.Predictor.{Intra, Inter, macroblock_of}
+use Rattle.vp_recon.specs.Predictor.{Macroblock, Intra, Inter, macroblock_of}
+use Rattle.vp_recon.specs.Rebuilt.{all_rebuilt}
 use Rattle.vp_choose.specs.declared.frame.Choice.{Choice}
 use Rattle.vp_choose.specs.Frame.{FrameSearch, source_by, no_biases}
 use Rattle.vp_decode.specs.MacroblockInfo.{MacroblockInfo, modes_in, motion_in, place, macroblock_read, motion_read, row_read, maps_read}
-use Rattle.vp_decode.specs.Frame.{FrameInfo, frame_of, predictor_at, factors_at, predictor_by as source_read_by}
+use Rattle.vp_decode.specs.Frame.{FrameInfo, frame_of, unfiltered, predictor_at, factors_at, predictor_by as source_read_by}
+use Rattle.vp_decode.specs.RebuiltFrame.{IsRebuiltFrame}
 use Rattle.vp_decode.specs.Step.{DecoderState, FrameContext, ◌>>=◌, context_of, ParsedPacket, parsed_in_context, parsed, frame_info_of, maps_before}
 use Rattle.vp_encode.specs.declared.settings.Settings.{Settings}
 use Rattle.vp_encode.specs.declared.coded_frame.CodedFrame.{CodedFrame}
 use Rattle.vp_encode.specs.CodedFrame.{coded_choice, saved_motion}
 use Rattle.vp_encode.specs.PacketContents.{HasContents}
 use Rattle.vp_encode.specs.Encoder.{EncoderState, AreAllowed, kept_for, context_over, context_for, tag_key, header_of, frame_for, search_in, continued, quantiser}
-use Rattle.vp_encode.specs.FrameChoices.{choice_at, macroblock_by, picture_before, saved_motions, AreChosen, AreUnsegmented}
+use Rattle.vp_encode.specs.FrameChoices.{choice_at, macroblock_by, picture_before, picture_by, saved_motions, AreChosen, AreUnsegmented}
 use Rattle.vp_encode.specs.Choice.{rebuilt_before, choice_read, AreChoices, IsChosen}
 use Rattle.vp_encode.proofs.Candidates.{candidates-same, motion_by-at}
-use Rattle.vp_encode.proofs.ChoosingLemmas.{AreLike, AreSameCandidates, choice_like, around, rebuilt_before-same}
+use Rattle.vp_encode.proofs.ChoosingLemmas.{AreLike, AreSameCandidates, choice_like, around, rows-same, rebuilt_before-same}
 
 -- ---- what is opened doesn't depend on the limits that a packet is within
 
@@ -295,6 +299,36 @@ module _ (e : EncoderState) (source : Image) (packet : List ℕ) (g : Grid Choic
         choice_like frame (picture_before frame g p) (rebuilt_before e.dim.w e.dim.h (frame_of plan parts e.dim.w e.dim.h).macroblock p) (saved_motions g) plan.maps.motion p (choice_at g p) (choice_read plan parts p)
         (pictures_same p has) (candidates_same p has) (like p has) (chosen.each p has).is
 
+    pictures_read : (width height : ℕ) → width ≡ e.dim.w → height ≡ e.dim.h → picture_by frame g ≡ unfiltered (frame_of plan parts width height)
+    unfolding unfiltered
+    pictures_read width height across down =
+        let f : Place → Macroblock = λ q. macroblock_by frame (choice_at g q) in
+        let read : Place → Macroblock = (frame_of plan parts width height).macroblock in
+        let columns = chosen.columns in
+        let rows = chosen.rows in
+        rows-same frame.source.width (macroblocks frame.source.height) f read (blank_image frame.source.width frame.source.height 0)
+        (λ q column row. macroblock_same q (record { column = omega arith; row = omega arith }))
+        ∙ (λ i. all_rebuilt read (blank_image ((frame_width ∙ sym across) i) ((frame_height ∙ sym down) i) 0))
+
+    -- the picture of the choices is the one that the packet describes
+    rebuilt_read : (picture : Image) → picture ≡ picture_by frame g → (context_for e).width ≡ e.dim.w → (context_for e).height ≡ e.dim.h → IsRebuiltFrame o picture
+    rebuilt_read picture is width_over height_over =
+        let sized = plan-sized o in
+        record {
+          picture = is
+              ∙ pictures_read o.context.width o.context.height
+              (ap (λ (b : FrameContext). b.width) says.context_is ∙ width_over) (ap (λ (b : FrameContext). b.height) says.context_is ∙ height_over);
+          skipped = λ q has.
+              let columns = sized.columns ∙ ap (λ (b : FrameContext). b.modes.columns) says.context_is ∙ columns_over in
+              let rows = sized.rows ∙ ap (λ (b : FrameContext). b.modes.rows) says.context_is ∙ rows_over in
+              let wide_too = chosen.columns ∙ ap macroblocks frame_width in
+              let high_too = chosen.rows ∙ ap macroblocks frame_height in
+              let column = has.column in
+              let row = has.row in
+              let inside : Has g q = record { column = omega arith; row = omega arith } in
+              ap (λ (m : Modes). m.skip) (says.modes q inside) ∙ (chosen.each q inside).is.skip ∙ ap (λ (t : Tokens). not (any_token t)) (sym (says.tokens q inside));
+        }
+
   -- The packet is read within some limits at least.
   pub carried : (limits : Limits) → e.dim.w * e.dim.h ≤ limits.pixels
       → ((l : Limits) → e.dim.w * e.dim.h ≤ l.pixels → IsOkAnd (parsed l e.state packet) SaysSo) → IsChosen e source packet
@@ -313,3 +347,9 @@ module _ (e : EncoderState) (source : Image) (packet : List ℕ) (g : Grid Choic
         first_closed = says.first_closed;
         closed = says.closed;
       }
+
+  pub rebuilt_carried : (limits : Limits) → IsOkAnd (parsed limits e.state packet) SaysSo
+      → (picture : Image) → picture ≡ picture_by frame g → (context_for e).width ≡ e.dim.w → (context_for e).height ≡ e.dim.h
+      → (o : ParsedPacket) → parsed limits e.state packet ≡ Ok o → IsRebuiltFrame o picture
+  rebuilt_carried limits told picture is width_over height_over o opens =
+      rebuilt_read o (subst (λ (r : Result ParsedPacket PacketFault). IsOkAnd r SaysSo) opens told) picture is width_over height_over

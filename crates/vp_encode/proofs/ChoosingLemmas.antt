@@ -21,7 +21,7 @@ use Rattle.vp_tokens.specs.Blocks.{any_token, no_blocks}
 use Rattle.vp_tokens.specs.Spelled.{AreSpelled, AreTight}
 use Rattle.vp_quant.specs.declared.factors.Factors.{Factors}
 use Rattle.vp_recon.specs.Predictor.{Predictor, Intra, Macroblock, has_y2}
-use Rattle.vp_recon.specs.Rebuilt.{rebuilt, row_rebuilt}
+use Rattle.vp_recon.specs.Rebuilt.{rebuilt, row_rebuilt, all_rebuilt}
 use Rattle.vp_decode.specs.MacroblockInfo.{place}
 use Rattle.vp_choose.specs.declared.frame.Choice.{Choice}
 use Rattle.vp_choose.specs.Frame.{FrameSearch, Search, source_by, no_biases, choice_motion as chosen_entry}
@@ -31,7 +31,7 @@ use Rattle.vp_choose.specs.Choice.{IsIntraChoice, IsTaken, IsChoice}
 use Rattle.vp_encode.specs.declared.frame_choices.FrameChoices.{FrameChoices}
 use Rattle.vp_encode.specs.CodedFrame.{nothing, saved_motion}
 use Rattle.vp_encode.specs.Choice.{rebuilt_before}
-use Rattle.vp_encode.specs.FrameChoices.{choice_at, macroblock_by, picture_before, saved_motions, IsChosenAt, AreChosen, IsBeforeInRaster, AreChosenBefore}
+use Rattle.vp_encode.specs.FrameChoices.{choice_at, macroblock_by, picture_before, picture_by, saved_motions, IsChosenAt, AreChosen, IsBeforeInRaster, AreChosenBefore}
 use Rattle.vp_encode.proofs.Candidates.{AreAlikeAround, candidates-same, motion_by-at}
 use Rattle.vp_encode.proofs.PacketLemmas.{all_still}
 
@@ -75,14 +75,20 @@ last_next row n = record { row = omega arith; column = λ e. omega arith }
 
 -- ---- the picture before a place
 
+-- what is rebuilt in the first rows of a picture
+pub rows-same : (width rows : ℕ) (f g : Place → Macroblock) (base : Image)
+    → ((q : Place) → q.column < macroblocks width → q.row < rows → f q ≡ g q) → over rows (row_rebuilt (macroblocks width) f) base ≡ over rows (row_rebuilt (macroblocks width) g) base
+rows-same width rows f g base same =
+    over-same rows (row_rebuilt (macroblocks width) f) (row_rebuilt (macroblocks width) g) base (λ row up a.
+    over-same (macroblocks width) (λ column. rebuilt (f (place row column)) (place row column)) (λ column. rebuilt (g (place row column)) (place row column)) a
+    (λ column inside b. ap (λ (m : Macroblock). rebuilt m (place row column) b) (same (place row column) inside up)))
+
 pub rebuilt_before-same : (width height : ℕ) (f g : Place → Macroblock) (p : Place) → p.column ≤ macroblocks width
     → ((q : Place) → q.column < macroblocks width → IsBeforeInRaster q p → f q ≡ g q) → rebuilt_before width height f p ≡ rebuilt_before width height g p
 rebuilt_before-same width height f g p within same =
     let base : Image = blank_image width height 0 in
     let above : over p.row (row_rebuilt (macroblocks width) f) base ≡ over p.row (row_rebuilt (macroblocks width) g) base =
-    over-same p.row (row_rebuilt (macroblocks width) f) (row_rebuilt (macroblocks width) g) base (λ row up a.
-    over-same (macroblocks width) (λ column. rebuilt (f (place row column)) (place row column)) (λ column. rebuilt (g (place row column)) (place row column)) a
-    (λ column inside b. ap (λ (m : Macroblock). rebuilt m (place row column) b) (same (place row column) inside (record { row = omega arith; column = λ e. absurd (omega arith) })))) in
+    rows-same width p.row f g base (λ q inside up. same q inside (record { row = omega arith; column = λ e. absurd (omega arith) })) in
     ap (row_rebuilt p.column f p.row) above
     ∙ over-same p.column (λ column. rebuilt (f (place p.row column)) (place p.row column)) (λ column. rebuilt (g (place p.row column)) (place p.row column))
     (over p.row (row_rebuilt (macroblocks width) g) base)
@@ -98,6 +104,10 @@ rebuilt_before-row : (width height : ℕ) (f : Place → Macroblock) (row : ℕ)
 rebuilt_before-row width height f row =
     over-none (λ column. rebuilt (f (place (row + 1) column)) (place (row + 1) column)) (over (row + 1) (row_rebuilt (macroblocks width) f) (blank_image width height 0))
     ∙ over-more row (row_rebuilt (macroblocks width) f) (blank_image width height 0)
+
+-- after all rows
+rebuilt_before-all : (width height : ℕ) (f : Place → Macroblock) → rebuilt_before width height f (place (macroblocks height) 0) ≡ all_rebuilt f (blank_image width height 0)
+rebuilt_before-all width height f = over-none _ _
 
 -- ---- the motion before a place
 
@@ -437,3 +447,9 @@ all_rows frame rows b all before = record {
   rows = before.rows;
   each = λ p has. let up = has.row in before.each p has (record { row = omega arith; column = λ e. absurd (omega arith) });
 }
+
+pub all_pictured : (frame : FrameSearch) (rows : ℕ) (b : FrameChoices) → rows ≡ b.chosen.rows → AreChosenBefore frame (place rows 0) b → b.picture ≡ picture_by frame b.chosen
+all_pictured frame rows b all before =
+    before.picture
+    ∙ ap (λ (k : ℕ). picture_before frame b.chosen (place k 0)) (all ∙ before.rows)
+    ∙ rebuilt_before-all frame.source.width frame.source.height (λ q. macroblock_by frame (choice_at b.chosen q))

@@ -14,6 +14,7 @@ use Rattle.vp_modes.specs.declared.segment.Segment.{Segment}
 use Rattle.vp_modes.specs.Map.{of_segments}
 use Rattle.vp_decode.specs.Frame.{picture_of}
 use Rattle.vp_decode.specs.Step.{DecoderState, FrameContext, maps_before, key_context, inter_context, context_of, ParsedPacket, parsed, frame_of_packet, state_after, Answer, Shown, Hidden, Fault, step}
+use Rattle.vp_decode.specs.RebuiltFrame.{IsRebuiltFrame}
 use Rattle.vp_decode.proofs.SizeLemmas.{KeepsShape, newest_is, picture_shaped}
 use Rattle.vp_encode.specs.declared.coded_frame.CodedFrame.{CodedFrame}
 use Rattle.vp_encode.specs.declared.fault.PacketError.{PacketError}
@@ -23,10 +24,11 @@ use Rattle.vp_encode.specs.PacketContents.{key_tag, IsKeyFramePacket, IsInterFra
 use Rattle.vp_encode.specs.Written.{HasLongPartition}
 use Rattle.vp_encode.specs.Encoder.{EncoderState, AreAllowed, next_is_key, kept_for, context_over, context_for, tag_key, header_of, continued, frame_for}
 use Rattle.vp_encode.specs.Choice.{IsChosen}
+use Rattle.vp_encode.specs.FrameChoices.{picture_by}
 use Rattle.vp_encode.specs.TooLong.{IsFrameFor, IsTooLongOver}
 use Rattle.vp_encode.specs.Between.{HasSize, IsPacketOver, IsKeptFor, IsSound, ShowsNewest}
 use Rattle.vp_encode.proofs.Showing.{told_shows}
-use Rattle.vp_encode.proofs.Carried.{segments_stay, chosen_unsegmented, carried}
+use Rattle.vp_encode.proofs.Carried.{segments_stay, chosen_unsegmented, carried, rebuilt_carried}
 
 -- Limits that are wide enough for every picture are so for this one.
 product : (w h : ℕ) → w ≤ 16383 → h ≤ 16383 → w * h ≤ 268402689
@@ -145,12 +147,23 @@ module _ (e : EncoderState) (source : Image) (c : CodedFrame) (allowed : AreAllo
     pub frame_leaves : KeepsShape → Leaves e.dim e.state packet
     frame_leaves law = packet_leaves law e.dim e.state (kept_for e) c packet (kept_is e) frame_plain sound over
 
+    says_whole : (l : Limits) → e.dim.w * e.dim.h ≤ l.pixels
+        → IsOkAnd (parsed l e.state packet) (SaysOver e.dim (kept_for e) (record { header = header_of e; macroblocks = c.macroblocks }) packet)
+    says_whole l fits =
+        subst (λ (x : CodedFrame). IsOkAnd (parsed l e.state packet) (SaysOver e.dim (kept_for e) x packet)) (sym whole)
+        (packet_says e.dim e.state (kept_for e) c packet (kept_is e) over l fits)
+
     pub frame_chosen : (limits : Limits) → 268402689 ≤ limits.pixels → IsChosen e source packet
     frame_chosen limits wide =
         let sized = basis_sized e.dim e.state (kept_for e) (kept_is e) sound in
-        carried e source packet c.macroblocks allowed size.width size.height is.chosen sized.columns sized.rows limits (size_fits e.dim limits.pixels wide)
-        (λ l fits. subst (λ (x : CodedFrame). IsOkAnd (parsed l e.state packet) (SaysOver e.dim (kept_for e) x packet)) (sym whole)
-        (packet_says e.dim e.state (kept_for e) c packet (kept_is e) over l fits))
+        carried e source packet c.macroblocks allowed size.width size.height is.chosen sized.columns sized.rows limits (size_fits e.dim limits.pixels wide) says_whole
+
+    pub frame_rebuilt : (limits : Limits) → 268402689 ≤ limits.pixels → (picture : Image) → picture ≡ picture_by (frame_for e source) c.macroblocks
+        → (o : ParsedPacket) → parsed limits e.state packet ≡ Ok o → IsRebuiltFrame o picture
+    frame_rebuilt limits wide picture by =
+        let sized = basis_sized e.dim e.state (kept_for e) (kept_is e) sound in
+        rebuilt_carried e source packet c.macroblocks allowed size.width size.height is.chosen sized.columns sized.rows limits (says_whole limits (size_fits e.dim limits.pixels wide))
+        picture by sized.width_is sized.height_is
 
 -- ---- what is shown
 
@@ -205,6 +218,10 @@ module _ (law : KeepsShape) (limits : Limits) (z e : EncoderState) (source : Ima
 
   pub packet_shows : ShowsNewest limits z.state bytes
   packet_shows = record { kept = leaves_here.kept; is = leaves_here.is limits (size_fits z.dim limits.pixels sound.wide) }
+
+  pub packet_rebuilt : (picture : Image) → picture ≡ picture_by (frame_for e source) c.macroblocks → (o : ParsedPacket) → parsed limits z.state bytes ≡ Ok o → IsRebuiltFrame o picture
+  packet_rebuilt picture by o opens =
+      frame_rebuilt e source c sound_too.settings sound_too.kept size is packet over limits sound.wide picture by o ((λ i. parsed limits (sym same i).state (sym lent i)) ∙ opens)
 
   pub packet_shown : (new : Option DecoderState) (recon : Image) → step limits z.state bytes ≡ (new, Shown recon) → IsShown e.dim e.state packet new recon
   packet_shown new recon shown =

@@ -4,7 +4,7 @@ use Rattle.std.specs.Prelude.{◌≡◌, ◌<◌, ◌≤◌, ℕ, false}
 use Rattle.vp_base.specs.declared.limits.Dim.{Dim}
 use Rattle.vp_base.specs.declared.place.Place.{Place}
 use Rattle.vp_base.specs.Grid.{Grid, Has, at, mapped}
-use Rattle.vp_base.specs.Image.{Image, macroblocks}
+use Rattle.vp_base.specs.Image.{Image, blank_image, macroblocks}
 use Rattle.vp_base.specs.Rows.{AreOneSize}
 use Rattle.vp_head.specs.Reference.{is_intra}
 use Rattle.vp_motion.specs.Vector.{MacroblockMotion}
@@ -12,6 +12,7 @@ use Rattle.vp_motion.specs.Map.{AreWithin, intra}
 use Rattle.vp_motion.specs.Near.{candidates}
 use Rattle.vp_motion.specs.Spelled.{CanBeWritten}
 use Rattle.vp_recon.specs.Predictor.{Macroblock, macroblock_of}
+use Rattle.vp_recon.specs.Rebuilt.{all_rebuilt}
 use Rattle.vp_choose.specs.declared.frame.Choice.{Choice}
 use Rattle.vp_choose.specs.Frame.{FrameSearch, source_by, no_biases}
 use Rattle.vp_choose.specs.Choice.{IsChoice}
@@ -56,6 +57,12 @@ pub record AreUnsegmented (dim : Dim) (g : Grid ℕ) : Type 0 where
   pub zero : (p : Place) → Has g p → at 0 g p ≡ 0
 
 -- ---- inside the crate
+
+-- the picture that results from the choices, before the loop filter
+abbrev pub picture_by : FrameSearch → Grid Choice → Image
+picture_by frame g =
+    all_rebuilt (λ q. macroblock_by frame (choice_at g q))
+    (blank_image frame.source.width frame.source.height 0)
 
 -- q is before p in raster order
 pub record IsBeforeInRaster (q p : Place) : Type 0 where

@@ -1,14 +1,16 @@
 //! The encoder: encodes frames, one after another.
 
-ghost use Rattle.std.specs.Prelude.{◌≡◌, ◌≢◌, ◌⊎◌, ◌≤◌, ◌+◌, ◌*◌, ◌↔◌, ◌++◌, ◌∷◌, [], List, None, Err, IsErr, IfOk};
+ghost use Rattle.std.specs.Prelude.{◌≡◌, ◌≢◌, ◌⊎◌, ◌≤◌, ◌+◌, ◌*◌, ◌↔◌, ◌++◌, ◌∷◌, [], List, None, Ok, Err, IsErr, IfOk};
 ghost use Rattle.std.specs.Prelude.{IfErr, IfSome, IsTrue, option_map, if◌then◌else◌};
 ghost use Rattle.vp_base.specs.declared.limits.Limits.{Limits};
 ghost use Rattle.vp_base.specs.Image.{macroblocks};
-ghost use Rattle.vp_decode.specs.Step.{Shown, step};
+ghost use Rattle.vp_decode.specs.RebuiltFrame.{IsRebuiltFrame};
+ghost use Rattle.vp_decode.specs.Step.{ParsedPacket, Shown, parsed, step};
 ghost use Rattle.vp_encode.specs.declared.fault.EncodeFault.{EncodeFault};
 ghost use Rattle.vp_encode.specs.declared.fault.PacketError.{PacketError};
 ghost use Rattle.vp_encode.specs.CodedFrame.{CanBeEncoded};
-ghost use Rattle.vp_encode.specs.Encoder.{AreAllowed, next_is_key, kept_for, context_for, refreshes_golden};
+ghost use Rattle.vp_encode.specs.Encoder.{AreAllowed, next_is_key, kept_for, context_for, frame_for, refreshes_golden};
+ghost use Rattle.vp_encode.specs.FrameChoices.{picture_by};
 ghost use Rattle.vp_encode.specs.TooLong.{IsFrameFor, IsTooLong, IsTooLongOver};
 ghost use Rattle.vp_encode.specs.Between.{HasSize, IsPacketOver, IsKeptFor, ShowsNewest};
 ghost use Rattle.vp_encode.specs.Choice.{IsChosen, squared_distance};
@@ -17,7 +19,7 @@ ghost use Rattle.vp_encode.specs.Calls.{Call, IsEncoderAfter};
 use crate::coded_frame::CodedFrame;
 use crate::distance::squared_distance;
 use crate::fault::{EncodeFault, PacketError, SettingsFault};
-use crate::frame::choose_frame;
+use crate::frame::{ChosenFrame, choose_frame};
 use crate::packet::{write_inter_packet, write_key_packet};
 use crate::settings::Settings;
 use std::alloc::{AllocError, Global};
@@ -89,9 +91,15 @@ fn are_allowed(settings: &Settings) -> bool
     matches!(settings.partitions, 1 | 2 | 4 | 8)
 }
 
-/// Decodes a packet, and returns the picture that it shows.
-fn decode_shown(decoder: &mut Decoder, packet: &[u8]) -> Result<Rc<Picture>, AllocError>
-    requires { ShowsNewest decoder.old.limits decoder.old.state packet.now }
+/// Decodes a packet, given its picture before the loop filter, and returns the picture that it shows.
+fn decode_shown(
+    decoder: &mut Decoder,
+    packet: &[u8],
+    rebuilt: Picture,
+) -> Result<Rc<Picture>, AllocError>
+    requires shows { ShowsNewest decoder.old.limits decoder.old.state packet.now }
+    requires rebuilt { (o : ParsedPacket) → parsed decoder.old.limits decoder.old.state packet.now ≡ Ok o
+        → IsRebuiltFrame o rebuilt }
     ensures limits { decoder.new.limits ≡ decoder.old.limits }
     ensures shown { IfOk result (λ r. step decoder.old.limits decoder.old.state packet.now
         ≡ (decoder.new.state, Shown r.value)) }
@@ -99,7 +107,7 @@ fn decode_shown(decoder: &mut Decoder, packet: &[u8]) -> Result<Rc<Picture>, All
     ensures state { (decoder.new.state ≡ decoder.old.state) ⊎ (decoder.new.state
         ≡ (step decoder.old.limits decoder.old.state packet.now).0) }
 {
-    decoder.decode(packet)?;
+    decoder.decode_rebuilt(packet, rebuilt)?;
     match decoder.kept() {
         Some(kept) => kept.references().newest().clone(),
         None => unreachable!(),
@@ -180,9 +188,9 @@ impl Encoder {
     {
         unfiltered_picture_solves_its_equation();
         let since = self.next_since();
-        let coded = self.choose(source)?;
-        let packet = self.write(&coded)?;
-        let recon = decode_shown(&mut self.decoder, packet.as_slice())?;
+        let chosen = self.choose(source)?;
+        let packet = self.write(&chosen.coded)?;
+        let recon = decode_shown(&mut self.decoder, packet.as_slice(), chosen.rebuilt)?;
         self.since = since;
         let squared_error = squared_distance(source, &recon);
         Ok(Encoded {
@@ -223,11 +231,13 @@ impl Encoder {
     }
 
     /// Chooses the coding of a frame.
-    fn choose(&self, source: &Picture) -> Result<CodedFrame, AllocError>
+    fn choose(&self, source: &Picture) -> Result<ChosenFrame, AllocError>
         requires { HasSize self.now.dim source.now }
-        ensures frame { IfOk result (λ c. IsFrameFor self.now source.now c) }
-        ensures told { IfOk result (λ c. CanBeEncoded (next_is_key self.now) (context_for self.now).saved
-            (context_for self.now).modes c) }
+        ensures frame { IfOk result (λ f. IsFrameFor self.now source.now f.coded) }
+        ensures rebuilt { IfOk result (λ f. f.rebuilt ≡ picture_by (frame_for self.now source.now)
+            f.coded.macroblocks) }
+        ensures told { IfOk result (λ f. CanBeEncoded (next_is_key self.now) (context_for self.now).saved
+            (context_for self.now).modes f.coded) }
     {
         let golden = self.refreshes_golden();
         let kept = self.kept();

@@ -6,7 +6,7 @@ ghost use Rattle.vp_choose.specs.Frame.{search_of};
 ghost use Rattle.vp_decode.specs.Step.{DecoderState};
 ghost use Rattle.vp_encode.specs.CodedFrame.{CanBeEncoded};
 ghost use Rattle.vp_encode.specs.Encoder.{AreAllowed, context_over, header_over, search_in, frame_over};
-ghost use Rattle.vp_encode.specs.FrameChoices.{AreChosen, AreUnsegmented};
+ghost use Rattle.vp_encode.specs.FrameChoices.{AreChosen, AreUnsegmented, picture_by};
 
 use crate::coded_frame::CodedFrame;
 use crate::frame_choices::choose_macroblocks;
@@ -19,6 +19,15 @@ use vp_choose::{FrameSearch, Search};
 use vp_decode::DecoderState;
 use vp_head::Saved;
 use vp_quant::Factors;
+
+/// A frame that is chosen for a source.
+#[derive(Drop)]
+pub(crate) struct ChosenFrame {
+    /// The frame to be written.
+    pub coded: CodedFrame,
+    /// Its picture before the loop filter.
+    pub rebuilt: Picture,
+}
 
 /// Returns where the vectors of a frame are searched; None for a key frame.
 fn search_in<'a>(settings: &Settings, kept: Option<&'a DecoderState>) -> Option<Search<'a>>
@@ -56,18 +65,20 @@ pub(crate) fn choose_frame(
     kept: Option<&DecoderState>,
     golden: bool,
     source: &Picture,
-) -> Result<CodedFrame, AllocError>
+) -> Result<ChosenFrame, AllocError>
     requires allowed { AreAllowed settings.now }
     requires width { source.now.width ≡ dim.w }
     requires height { source.now.height ≡ dim.h }
     requires segments { IfSome (option_map (λ k. k.now) kept) (λ k. AreUnsegmented dim k.segments) }
-    ensures header { IfOk result (λ c. c.header ≡ header_over
+    ensures header { IfOk result (λ f. f.coded.header ≡ header_over
         (context_over dim (option_map (λ k. k.now) kept.entry)).saved (is_none kept.entry) golden settings.now) }
-    ensures chosen { IfOk result (λ c. AreChosen (frame_over (option_map
-        (λ k. k.now) kept.entry) settings.now source.now) c.macroblocks) }
-    ensures told { IfOk result (CanBeEncoded (is_none kept.entry)
+    ensures chosen { IfOk result (λ f. AreChosen (frame_over (option_map
+        (λ k. k.now) kept.entry) settings.now source.now) f.coded.macroblocks) }
+    ensures rebuilt { IfOk result (λ f. f.rebuilt ≡ picture_by (frame_over (option_map
+        (λ k. k.now) kept.entry) settings.now source.now) f.coded.macroblocks) }
+    ensures told { IfOk result (λ f. CanBeEncoded (is_none kept.entry)
         (context_over dim (option_map (λ k. k.now) kept.entry)).saved
-        (context_over dim (option_map (λ k. k.now) kept.entry)).modes) }
+        (context_over dim (option_map (λ k. k.now) kept.entry)).modes f.coded) }
 {
     let source = continued(alloc, source)?;
     let factors = Factors::of(settings.qi, &quantiser(settings.qi));
@@ -76,10 +87,13 @@ pub(crate) fn choose_frame(
         factors: &factors,
         search: search_in(settings, kept),
     };
-    let macroblocks = choose_macroblocks(alloc, &frame)?;
+    let (macroblocks, rebuilt) = choose_macroblocks(alloc, &frame)?;
     let header = header_over(&saved_in(kept), kept.is_none(), golden, settings);
-    Ok(CodedFrame {
-        header,
-        macroblocks,
+    Ok(ChosenFrame {
+        coded: CodedFrame {
+            header,
+            macroblocks,
+        },
+        rebuilt,
     })
 }

@@ -6,7 +6,7 @@ ghost use Rattle.vp_choose.specs.Frame.{lent_frame};
 ghost use Rattle.vp_choose.specs.Levels.{ArePositive};
 ghost use Rattle.vp_decode.specs.MacroblockInfo.{place};
 ghost use Rattle.vp_encode.specs.CodedFrame.{nothing};
-ghost use Rattle.vp_encode.specs.FrameChoices.{AreChosen, AreChosenBefore};
+ghost use Rattle.vp_encode.specs.FrameChoices.{AreChosen, AreChosenBefore, picture_by};
 
 use std::alloc::{AllocError, Global};
 use vp_base::{Grid, Picture, Place};
@@ -103,19 +103,20 @@ impl FrameChoices {
     }
 }
 
-/// Chooses all macroblocks of a frame. Each is predicted from the reconstruction of those before it, and its vectors
-/// are coded relative to theirs.
+/// Chooses all macroblocks of a frame, and returns the choices and their picture before the loop filter. Each is
+/// predicted from the reconstruction of those before it, and its vectors are coded relative to theirs.
 pub(crate) fn choose_macroblocks(
     alloc: Global,
     frame: &FrameSearch,
-) -> Result<Grid<Choice>, AllocError>
+) -> Result<(Grid<Choice>, Picture), AllocError>
     requires factors { ArePositive (lent_frame frame.now).factors }
     requires range { IfSome (lent_frame frame.now).search (λ s. s.range ≤ 64) }
-    ensures { IfOk result (AreChosen (lent_frame frame.now)) }
+    ensures chosen { IfOk result (λ r. AreChosen (lent_frame frame.now) r.0) }
+    ensures rebuilt { IfOk result (λ r. r.1 ≡ picture_by (lent_frame frame.now) r.0) }
 {
     let mut choosing = FrameChoices::new(alloc, frame)?;
     for row in 0..choosing.chosen.rows() {
         choosing.row(frame, row);
     }
-    Ok(choosing.chosen)
+    Ok((choosing.chosen, choosing.picture))
 }

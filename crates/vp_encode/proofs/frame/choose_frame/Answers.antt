@@ -12,4 +12,4 @@ returns-clause-told c =
       factors = (c.of-factors.ensures.value ∙ ap (factors c.args.settings.now.qi) c.quantiser.ensures) i;
       search = c.search_in.ensures.value i;
     })
-    c.in_ok-macroblocks.ensures (c.saved_in.ensures c.args.dim) (none_is c.args.kept c.is_none.result c.is_none.ensures) c.header_over-header.ensures
+    c.in_ok-macroblocks.ensures.chosen (c.saved_in.ensures c.args.dim) (none_is c.args.kept c.is_none.result c.is_none.ensures) c.header_over-header.ensures

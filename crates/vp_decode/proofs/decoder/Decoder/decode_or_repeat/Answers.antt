@@ -4,7 +4,7 @@ use Rattle.std.proofs.lemmas.Bool.{eq-eqb}
 use Rattle.std.proofs.lemmas.Bool.Decides.{nat_tests}
 use Rattle.vp_decode.specs.Step.{DecoderState, Answer, after, outcome, IsDecoded}
 use Rattle.vp_decode.proofs.SizeLemmas.{step-empty, step-decoded}
-use Rattle.vp_decode.proofs.decoder.Decoder.decode_with.Goals as goal
+use Rattle.vp_decode.proofs.decoder.Decoder.decode_or_repeat.Goals as goal
 
 pub returns-then-is_empty-clause-after : goal.returns-then-is_empty-clause-after
 returns-then-is_empty-clause-after g c =
