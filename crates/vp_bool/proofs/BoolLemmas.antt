@@ -75,7 +75,6 @@ abbrev pub doublings : ℕ → ℕ
 doublings r = count_leading_zeros 32 r - 24
 
 pub record Doubles (r n : ℕ) : Type 0 where
-  pub zeros : 24 ≤ count_leading_zeros 32 r
   pub few : n ≤ 7
   pub low : 128 ≤ r * 2 ^ n
   pub high : r * 2 ^ n < 256
@@ -96,7 +95,7 @@ doubles_at r j byte zeros low high =
       | inl short ↦
           let e : j + doublings r ≡ 7 = omega arith in
           let both = together r j (doublings r) e low high in
-          record { zeros = omega arith; few = omega arith; low = both.0; high = both.1 }
+          record { few = omega arith; low = both.0; high = both.1 }
       | inr long ↦
           let more : 2 ^ 8 ≤ 2 ^ j = power_up 8 j long in
           absurd (omega arith)

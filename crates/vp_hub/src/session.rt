@@ -109,7 +109,7 @@ fn serve_open<R: Read, W: Write>(
     ensures turns { result ≡ Err ServeFault.ReadTurns →
         HasRisenBy (2 ^ 20) (counted_reads reader.old) (counted_reads reader.new) }
 {
-    // It is cleared only once, since that takes longer than a short read.
+    // Cleared once, not for each read: that would cost more than taking in a short piece.
     let mut buffer = [0; 4096];
     for _turn in 0..1_048_576u32 {
         if !exchange(hub, conn, reader, writer, &mut buffer)? {

@@ -15,7 +15,7 @@ use crate::reference::{Flat, reference_line};
 use std::simd::prelude::*;
 use vp_base::Plane;
 
-/// Whether the first and the last weight are above 0.
+/// Whether the first and the last weight are above 0. This only chooses a path: each gives the same pixels.
 pub(crate) fn has_six_taps(weights: &[i16; 6]) -> bool {
     weights[0] > 0 && weights[5] > 0
 }
@@ -100,7 +100,7 @@ pub(crate) fn joined(front: u8x8, back: u8x8) -> u8x16
 /// The weighted sums of six adjacent pixels, which begin at index `at`, `at + 2`, `at + 4` and so on.
 fn horizontal_sums(s: &[u8], at: usize, weights: &[i16; 6], near: &RowWeights) -> i16x8
     requires room { at + 20 ≤ length s.now }
-    requires six { SumsFitI16 weights.now }
+    requires gentle { SumsFitI16 weights.now }
     requires turns { AreNear weights.now near.now }
     ensures { (j : ℕ) → j < 8 → lane result j ≡ sum_of_six weights.now (λ k. slice_index s.now (at + 2 * j + k)) }
 {
@@ -116,7 +116,7 @@ fn horizontal_sums(s: &[u8], at: usize, weights: &[i16; 6], near: &RowWeights) -
 
 /// The weighted sums of six rows. Each vector interleaves two rows that are three apart.
 fn vertical_sums(a: u8x16, b: u8x16, c: u8x16, weights: &[i16; 6], far: &ColumnWeights) -> i16x8
-    requires six { SumsFitI16 weights.now }
+    requires gentle { SumsFitI16 weights.now }
     requires turns { AreFar weights.now far.now }
     ensures { (j : ℕ) → j < 8 → lane result j ≡ sum_of_six weights.now
         (λ k. slice_index (one_of_three a b c (k % 3)) (2 * j + k / 3)) }
@@ -131,7 +131,7 @@ fn vertical_sums(a: u8x16, b: u8x16, c: u8x16, weights: &[i16; 6], far: &ColumnW
 /// Filters eight pixels horizontally. They begin at index `at`, `at + 2`, `at + 4` and so on.
 fn horizontal_eight(s: &[u8], at: usize, weights: &[i16; 6], near: &RowWeights) -> u8x8
     requires room { at + 20 ≤ length s.now }
-    requires six { SumsFitI16 weights.now }
+    requires gentle { SumsFitI16 weights.now }
     requires turns { AreNear weights.now near.now }
     ensures { (j : ℕ) → j < 8 → slice_index result j ≡ filter_six weights.now
         (λ k. slice_index s.now (at + 2 * j + k)) }
@@ -147,7 +147,7 @@ pub(crate) fn vertical_eight(
     weights: &[i16; 6],
     far: &ColumnWeights,
 ) -> u8x8
-    requires six { SumsFitI16 weights.now }
+    requires gentle { SumsFitI16 weights.now }
     requires turns { AreFar weights.now far.now }
     ensures { (j : ℕ) → j < 8 → slice_index result j ≡ filter_six weights.now
         (λ k. slice_index (one_of_three a b c (k % 3)) (2 * j + k / 3)) }
@@ -158,7 +158,7 @@ pub(crate) fn vertical_eight(
 /// Filters sixteen adjacent pixels horizontally: even columns first, then odd ones.
 fn horizontal_halves(s: &[u8], at: usize, weights: &[i16; 6], near: &RowWeights) -> u8x16
     requires room { at + 21 ≤ length s.now }
-    requires six { SumsFitI16 weights.now }
+    requires gentle { SumsFitI16 weights.now }
     requires turns { AreNear weights.now near.now }
     ensures { (c : ℕ) → c < 16 → slice_index result (half_place c)
         ≡ filter_six weights.now (λ k. slice_index s.now (at + c + k)) }
@@ -172,7 +172,7 @@ fn horizontal_halves(s: &[u8], at: usize, weights: &[i16; 6], near: &RowWeights)
 /// Filters sixteen pixels vertically, from interleaved rows that are three apart.
 fn vertical_sixteen(pairs: &[u8], at: usize, weights: &[i16; 6], far: &ColumnWeights) -> u8x16
     requires room { at + 96 ≤ length pairs.now }
-    requires six { SumsFitI16 weights.now }
+    requires gentle { SumsFitI16 weights.now }
     requires turns { AreFar weights.now far.now }
     ensures { (j : ℕ) → j < 16 → slice_index result j ≡ filter_six weights.now
         (λ k. slice_index pairs.now (at + 32 * (k % 3) + (2 * j + k / 3))) }
@@ -205,7 +205,7 @@ pub(crate) fn halves_row<const INSIDE: bool>(
     near: &RowWeights,
 ) -> u8x16
     requires inside { IsTrue INSIDE → IsInside plane.now left row 21 1 }
-    requires six { SumsFitI16 weights.now }
+    requires gentle { SumsFitI16 weights.now }
     requires turns { AreNear weights.now near.now }
     requires columns { 0 < plane.now.width }
     requires height { 0 < plane.now.height }
@@ -242,7 +242,7 @@ fn wide_rows<const INSIDE: bool>(
     requires rows { rows ≤ 21 }
     requires all { length pixels.old ≡ rows * 16 }
     requires inside { IsTrue INSIDE → IsInside plane.now left top 21 rows }
-    requires six { SumsFitI16 weights.now }
+    requires gentle { SumsFitI16 weights.now }
     requires turns { AreNear weights.now near.now }
     requires columns { 0 < plane.now.width }
     requires height { 0 < plane.now.height }
@@ -272,7 +272,7 @@ pub(crate) fn horizontal_six_tap_16(
     requires rows { rows ≤ 21 }
     requires all { length pixels.old ≡ rows * 16 }
     requires inside { IsTrue inside → IsInside plane.now left top 21 rows }
-    requires six { SumsFitI16 weights.now }
+    requires gentle { SumsFitI16 weights.now }
     requires columns { 0 < plane.now.width }
     requires height { 0 < plane.now.height }
     requires near { (negsuc 400000000 ≤ℤ left) × (left ≤ℤ pos 400000000) }
@@ -306,7 +306,7 @@ fn pair_rows(pairs: &mut [u8], rows: &[u8])
 fn wide_columns(pixels: &mut [u8], pairs: &[u8], weights: &[i16; 6], far: &ColumnWeights)
     requires room { length pairs.now ≡ 576 }
     requires whole { length pixels.old ≡ 256 }
-    requires six { SumsFitI16 weights.now }
+    requires gentle { SumsFitI16 weights.now }
     requires turns { AreFar weights.now far.now }
     ensures { (r c : ℕ) → r < 16 → c < 16 → slice_index pixels.new (r * 16 + c)
         ≡ filter_six weights.now (λ k. slice_index pairs.now (32 * r + 32 * (k % 3) + (2 * c + k / 3))) }
@@ -321,7 +321,7 @@ fn wide_columns(pixels: &mut [u8], pairs: &[u8], weights: &[i16; 6], far: &Colum
 pub(crate) fn vertical_six_tap_16(pixels: &mut [u8], rows: &[u8], weights: &[i16; 6])
     requires all { length rows.now ≡ 336 }
     requires whole { length pixels.old ≡ 256 }
-    requires six { SumsFitI16 weights.now }
+    requires gentle { SumsFitI16 weights.now }
     ensures { (r c : ℕ) → r < 16 → c < 16 → slice_index pixels.new (r * 16 + c)
         ≡ filter_six weights.now (λ k. slice_index rows.now ((r + k) * 16 + c)) }
 {

@@ -50,7 +50,7 @@ fn three_rows<const INSIDE: bool>(
     near: &RowWeights,
 ) -> Three
     requires inside { IsTrue INSIDE → IsInside plane.now left top 21 3 }
-    requires six { SumsFitI16 weights.now }
+    requires gentle { SumsFitI16 weights.now }
     requires turns { AreNear weights.now near.now }
     requires columns { 0 < plane.now.width }
     requires height { 0 < plane.now.height }
@@ -115,7 +115,7 @@ fn paired_rows<const INSIDE: bool>(
     requires two { length second.old ≡ 224 }
     requires three { length third.old ≡ 224 }
     requires inside { IsTrue INSIDE → IsInside window.plane.now window.left window.top 21 21 }
-    requires six { SumsFitI16 weights.now }
+    requires gentle { SumsFitI16 weights.now }
     requires turns { AreNear weights.now near.now }
     requires columns { 0 < window.plane.now.width }
     requires height { 0 < window.plane.now.height }
@@ -156,7 +156,7 @@ fn all_rows(
     requires one { length first.old ≡ 224 }
     requires two { length second.old ≡ 224 }
     requires three { length third.old ≡ 224 }
-    requires six { SumsFitI16 weights.now }
+    requires gentle { SumsFitI16 weights.now }
     requires columns { 0 < window.plane.now.width }
     requires height { 0 < window.plane.now.height }
     requires near { (negsuc 400000000 ≤ℤ window.left) × (window.left ≤ℤ pos 400000000) }
@@ -191,7 +191,7 @@ fn pair_at(run: &[u8], e: usize) -> Pair
 
 /// Filters one row vertically, from three consecutive pairs of rows.
 fn vertical_row(a: &Pair, b: &Pair, c: &Pair, weights: &[i16; 6], far: &ColumnWeights) -> u8x16
-    requires six { SumsFitI16 weights.now }
+    requires gentle { SumsFitI16 weights.now }
     requires turns { AreFar weights.now far.now }
     ensures { (pixel : ℕ → ℕ → ℕ) → (r : ℕ) → IsPair a.now pixel r → IsPair b.now pixel (r + 1)
         → IsPair c.now pixel (r + 2) → (x : ℕ) → x < 16 → slice_index result x
@@ -216,7 +216,7 @@ fn vertical_three_rows(
     requires two { length second.now ≡ 224 }
     requires three { length third.now ≡ 224 }
     requires place { e < 5 }
-    requires six { SumsFitI16 weights.now }
+    requires gentle { SumsFitI16 weights.now }
     requires turns { AreFar weights.now far.now }
     ensures first { (pixel : ℕ → ℕ → ℕ) → HoldsPairs first.now pixel 0 6 → HoldsPairs second.now pixel 1 6
         → HoldsPairs third.now pixel 2 6 → (x : ℕ) → x < 16 → slice_index result.first x
@@ -253,7 +253,7 @@ fn paired_columns(
     requires one { length first.now ≡ 224 }
     requires two { length second.now ≡ 224 }
     requires three { length third.now ≡ 224 }
-    requires six { SumsFitI16 weights.now }
+    requires gentle { SumsFitI16 weights.now }
     requires turns { AreFar weights.now far.now }
     ensures { (pixel : ℕ → ℕ → ℕ) → HoldsPairs first.now pixel 0 6 → HoldsPairs second.now pixel 1 6
         → HoldsPairs third.now pixel 2 6 → (r c : ℕ) → r < 16 → c < 16

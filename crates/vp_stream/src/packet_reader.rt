@@ -31,7 +31,8 @@ pub enum Next {
 pub struct PacketReader {
     file: Reader,
     turns: u32,
-    // Each piece is read into this buffer. It is cleared only once, since that takes longer than a short read.
+    // Each piece is read into this buffer. Cleared once, not for each read: that would cost more than taking in a short
+    // piece.
     buffer: [u8; 4096],
 }
 

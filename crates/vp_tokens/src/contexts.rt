@@ -7,7 +7,7 @@ ghost use Rattle.vp_base.specs.Grid.{Grid, Has, all, with_entry};
 ghost use Rattle.vp_tokens.specs.Blocks.{Blocks, no_blocks_read, blocks_of, had_of, flag_at, true_count, kind_of};
 ghost use Rattle.vp_tokens.specs.Blocks.{y2_or, block_of, block_at, all_blocks, no_blocks, macroblock, any_token};
 ghost use Rattle.vp_tokens.specs.Contexts.{AreContextsAt, bottom_row_flags, right_column_flags, right};
-ghost use Rattle.vp_tokens.specs.Flagged.{above_flag, left_flag, by_flags, left_at, flags_after};
+ghost use Rattle.vp_tokens.specs.Flagged.{by_flags, left_at, flags_after};
 ghost use Rattle.vp_tokens.specs.Spelled.{levels_of, AreLevels, AreSpelled, AreTight};
 
 use crate::block::{Block, BlockKind};
@@ -76,8 +76,7 @@ pub(crate) fn count(above: bool, left: bool) -> usize
     above as usize + left as usize
 }
 
-/// Whether block `k` of this macroblock has a token. Blocks: 0 is Y2, 1 to 16 Y, 17 to 20 U, 21 to 24 V. Flags: 0 to 3
-/// are Y, 4 and 5 U, 6 and 7 V, 8 Y2.
+/// Whether block `k` of this macroblock has a token. Blocks: 0 is Y2, 1 to 16 Y, 17 to 20 U, 21 to 24 V.
 pub(crate) fn had(blocks: &[Block; 25], k: usize) -> bool
     requires { k < 25 }
     ensures { result ≡ flag_at (had_of blocks.now) k }

@@ -8,28 +8,28 @@ use Rattle.vp_inter.proofs.six_tap_1d.horizontal_sums.Goals as goal
 pub load_alternating_madd-requires-clause-turns : goal.load_alternating_madd-requires-clause-turns
 load_alternating_madd-requires-clause-turns c j h =
     let w : List ℤ = c.args.weights.now in
-    let g = c.requires.six in
+    let g = c.requires.gentle in
     let t = c.requires.turns.1 j h in
     (byte_kept c.args.near.now.left (2 * j) (weight w 1) _ t.0 (omega (arith, ints), omega (arith, ints)) (short_kept (weight w 1) (omega (arith, ints), omega (arith, ints))), byte_kept c.args.near.now.left (2 * j + 1) (weight w 2) _ t.1 (omega (arith, ints), omega (arith, ints)) (short_kept (weight w 2) (omega (arith, ints), omega (arith, ints))))
 
 pub load_alternating_madd-requires-2-clause-turns : goal.load_alternating_madd-requires-2-clause-turns
 load_alternating_madd-requires-2-clause-turns c j h =
     let w : List ℤ = c.args.weights.now in
-    let g = c.requires.six in
+    let g = c.requires.gentle in
     let t = c.requires.turns.2 j h in
     (byte_kept c.args.near.now.right (2 * j) (weight w 3) _ t.0 (omega (arith, ints), omega (arith, ints)) (short_kept (weight w 3) (omega (arith, ints), omega (arith, ints))), byte_kept c.args.near.now.right (2 * j + 1) (weight w 4) _ t.1 (omega (arith, ints), omega (arith, ints)) (short_kept (weight w 4) (omega (arith, ints), omega (arith, ints))))
 
 pub load_alternating_madd-requires-3-clause-turns : goal.load_alternating_madd-requires-3-clause-turns
 load_alternating_madd-requires-3-clause-turns c j h =
     let w : List ℤ = c.args.weights.now in
-    let g = c.requires.six in
+    let g = c.requires.gentle in
     let t = c.requires.turns.0 j h in
     (byte_kept c.args.near.now.first (2 * j) (weight w 0) _ t.0 (omega (arith, ints), omega (arith, ints)) (short_kept (weight w 0) (omega (arith, ints), omega (arith, ints))), byte_kept c.args.near.now.first (2 * j + 1) (pos 0) _ t.1 (omega (arith, ints), omega (arith, ints)) refl)
 
 pub load_alternating_madd-requires-4-clause-turns : goal.load_alternating_madd-requires-4-clause-turns
 load_alternating_madd-requires-4-clause-turns c j h =
     let w : List ℤ = c.args.weights.now in
-    let g = c.requires.six in
+    let g = c.requires.gentle in
     let t = c.requires.turns.3 j h in
     (byte_kept c.args.near.now.last (2 * j) (pos 0) _ t.0 (omega (arith, ints), omega (arith, ints)) refl, byte_kept c.args.near.now.last (2 * j + 1) (weight w 5) _ t.1 (omega (arith, ints), omega (arith, ints)) (short_kept (weight w 5) (omega (arith, ints), omega (arith, ints))))
 
@@ -38,7 +38,7 @@ sum_of_both-requires c j h =
     let s : List ℕ = c.args.s.now in
     let w : List ℤ = c.args.weights.now in
     let at : ℕ = c.args.at in
-    let g = c.requires.six in
+    let g = c.requires.gentle in
     let byte : (i : ℕ) → get_or s i 0 < 256 = λ i. omega (arith, c.type_inv.s i) in
     let first_a : at + 2 * j ≡ at + 2 * j + 0 = omega arith in
     let first_b : at + (2 * j + 1) ≡ at + 2 * j + 1 = omega arith in
@@ -56,7 +56,7 @@ sum_of_three-requires-clause-first c j h =
     let s : List ℕ = c.args.s.now in
     let w : List ℤ = c.args.weights.now in
     let at : ℕ = c.args.at in
-    let g = c.requires.six in
+    let g = c.requires.gentle in
     let byte : (i : ℕ) → get_or s i 0 < 256 = λ i. omega (arith, c.type_inv.s i) in
     let left_a : at + 1 + 2 * j ≡ at + 2 * j + 1 = omega arith in
     let left_b : at + 1 + (2 * j + 1) ≡ at + 2 * j + 2 = omega arith in
@@ -70,7 +70,7 @@ sum_of_three-requires-clause-both c j h =
     let s : List ℕ = c.args.s.now in
     let w : List ℤ = c.args.weights.now in
     let at : ℕ = c.args.at in
-    let g = c.requires.six in
+    let g = c.requires.gentle in
     let byte : (i : ℕ) → get_or s i 0 < 256 = λ i. omega (arith, c.type_inv.s i) in
     let left_a : at + 1 + 2 * j ≡ at + 2 * j + 1 = omega arith in
     let left_b : at + 1 + (2 * j + 1) ≡ at + 2 * j + 2 = omega arith in
@@ -88,7 +88,7 @@ sum_of_three-requires-clause-all c j h =
     let s : List ℕ = c.args.s.now in
     let w : List ℤ = c.args.weights.now in
     let at : ℕ = c.args.at in
-    let g = c.requires.six in
+    let g = c.requires.gentle in
     let byte : (i : ℕ) → get_or s i 0 < 256 = λ i. omega (arith, c.type_inv.s i) in
     let left_a : at + 1 + 2 * j ≡ at + 2 * j + 1 = omega arith in
     let left_b : at + 1 + (2 * j + 1) ≡ at + 2 * j + 2 = omega arith in
@@ -115,7 +115,7 @@ returns c j h =
     let s : List ℕ = c.args.s.now in
     let w : List ℤ = c.args.weights.now in
     let at : ℕ = c.args.at in
-    let g = c.requires.six in
+    let g = c.requires.gentle in
     let byte : (i : ℕ) → get_or s i 0 < 256 = λ i. omega (arith, c.type_inv.s i) in
     let left_a : at + 1 + 2 * j ≡ at + 2 * j + 1 = omega arith in
     let left_b : at + 1 + (2 * j + 1) ≡ at + 2 * j + 2 = omega arith in

@@ -10,28 +10,28 @@ use Rattle.vp_inter.proofs.six_tap_1d.vertical_sums.Goals as goal
 pub alternating_madd-requires-clause-turns : goal.alternating_madd-requires-clause-turns
 alternating_madd-requires-clause-turns c j h =
     let w : List ℤ = c.args.weights.now in
-    let g = c.requires.six in
+    let g = c.requires.gentle in
     let t = c.requires.turns.0 j h in
     (byte_kept c.args.far.now.first (2 * j) (weight w 0) _ t.0 (omega (arith, ints), omega (arith, ints)) (short_kept (weight w 0) (omega (arith, ints), omega (arith, ints))), byte_kept c.args.far.now.first (2 * j + 1) (weight w 3) _ t.1 (omega (arith, ints), omega (arith, ints)) (short_kept (weight w 3) (omega (arith, ints), omega (arith, ints))))
 
 pub alternating_madd-requires-2-clause-turns : goal.alternating_madd-requires-2-clause-turns
 alternating_madd-requires-2-clause-turns c j h =
     let w : List ℤ = c.args.weights.now in
-    let g = c.requires.six in
+    let g = c.requires.gentle in
     let t = c.requires.turns.1 j h in
     (byte_kept c.args.far.now.second (2 * j) (weight w 1) _ t.0 (omega (arith, ints), omega (arith, ints)) (short_kept (weight w 1) (omega (arith, ints), omega (arith, ints))), byte_kept c.args.far.now.second (2 * j + 1) (weight w 4) _ t.1 (omega (arith, ints), omega (arith, ints)) (short_kept (weight w 4) (omega (arith, ints), omega (arith, ints))))
 
 pub alternating_madd-requires-3-clause-turns : goal.alternating_madd-requires-3-clause-turns
 alternating_madd-requires-3-clause-turns c j h =
     let w : List ℤ = c.args.weights.now in
-    let g = c.requires.six in
+    let g = c.requires.gentle in
     let t = c.requires.turns.2 j h in
     (byte_kept c.args.far.now.third (2 * j) (weight w 2) _ t.0 (omega (arith, ints), omega (arith, ints)) (short_kept (weight w 2) (omega (arith, ints), omega (arith, ints))), byte_kept c.args.far.now.third (2 * j + 1) (weight w 5) _ t.1 (omega (arith, ints), omega (arith, ints)) (short_kept (weight w 5) (omega (arith, ints), omega (arith, ints))))
 
 pub sum_of_three-requires-clause-first : goal.sum_of_three-requires-clause-first
 sum_of_three-requires-clause-first c j h =
     let w : List ℤ = c.args.weights.now in
-    let g = c.requires.six in
+    let g = c.requires.gentle in
     let byte_a : (i : ℕ) → i < 16 → get_or c.args.a i 0 < 256 = λ i m. (lane_fits (Fits w8) 0 16 c.args.a c.fits-a.0 c.fits-a.1 i m).fits in
     let byte_b : (i : ℕ) → i < 16 → get_or c.args.b i 0 < 256 = λ i m. (lane_fits (Fits w8) 0 16 c.args.b c.fits-b.0 c.fits-b.1 i m).fits in
     let byte_c : (i : ℕ) → i < 16 → get_or c.args.c i 0 < 256 = λ i m. (lane_fits (Fits w8) 0 16 c.args.c c.fits-c.0 c.fits-c.1 i m).fits in
@@ -44,7 +44,7 @@ sum_of_three-requires-clause-first c j h =
 pub sum_of_three-requires-clause-both : goal.sum_of_three-requires-clause-both
 sum_of_three-requires-clause-both c j h =
     let w : List ℤ = c.args.weights.now in
-    let g = c.requires.six in
+    let g = c.requires.gentle in
     let byte_a : (i : ℕ) → i < 16 → get_or c.args.a i 0 < 256 = λ i m. (lane_fits (Fits w8) 0 16 c.args.a c.fits-a.0 c.fits-a.1 i m).fits in
     let byte_b : (i : ℕ) → i < 16 → get_or c.args.b i 0 < 256 = λ i m. (lane_fits (Fits w8) 0 16 c.args.b c.fits-b.0 c.fits-b.1 i m).fits in
     let byte_c : (i : ℕ) → i < 16 → get_or c.args.c i 0 < 256 = λ i m. (lane_fits (Fits w8) 0 16 c.args.c c.fits-c.0 c.fits-c.1 i m).fits in
@@ -60,7 +60,7 @@ sum_of_three-requires-clause-both c j h =
 pub sum_of_three-requires-clause-all : goal.sum_of_three-requires-clause-all
 sum_of_three-requires-clause-all c j h =
     let w : List ℤ = c.args.weights.now in
-    let g = c.requires.six in
+    let g = c.requires.gentle in
     let byte_a : (i : ℕ) → i < 16 → get_or c.args.a i 0 < 256 = λ i m. (lane_fits (Fits w8) 0 16 c.args.a c.fits-a.0 c.fits-a.1 i m).fits in
     let byte_b : (i : ℕ) → i < 16 → get_or c.args.b i 0 < 256 = λ i m. (lane_fits (Fits w8) 0 16 c.args.b c.fits-b.0 c.fits-b.1 i m).fits in
     let byte_c : (i : ℕ) → i < 16 → get_or c.args.c i 0 < 256 = λ i m. (lane_fits (Fits w8) 0 16 c.args.c c.fits-c.0 c.fits-c.1 i m).fits in
@@ -79,7 +79,7 @@ sum_of_three-requires-clause-all c j h =
 pub returns : goal.returns
 returns c j h =
     let w : List ℤ = c.args.weights.now in
-    let g = c.requires.six in
+    let g = c.requires.gentle in
     let first_at : 2 * j ≡ 2 * j + 0 = omega arith in
     let first = passed w16 8 c.alternating_madd.result _ c.alternating_madd.type_inv j h ∙ c.alternating_madd.ensures j h
     ∙ pair_same _ _ _ _ _ _ _ _ (ap (λ (i : ℕ). get_or c.args.a i 0) first_at) refl (short_kept (weight w 0) (omega (arith, ints), omega (arith, ints))) (short_kept (weight w 3) (omega (arith, ints), omega (arith, ints))) in
