@@ -2,6 +2,7 @@
 #![tactic(auto)]
 
 mod block;
+mod coarse;
 mod difference;
 mod kernel;
 mod laws;

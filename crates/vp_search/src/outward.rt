@@ -6,11 +6,11 @@ ghost use Rattle.std.specs.Prelude.{◌≡◌, ℕ, ◌+◌, ◌*◌, ◌<◌, �
 ghost use Rattle.vp_search.specs.Vectors.{vector_length, IsNear};
 ghost use Rattle.vp_search.specs.Least.{IsLeast, IsNoWorse};
 ghost use Rattle.vp_search.specs.Window.{vector_at, window_cost, IsFoundInWindow};
-ghost use Rattle.vp_search.specs.Bounds.{IsSummed, IsBound};
+ghost use Rattle.vp_search.specs.Bounds.{IsBound};
 ghost use Rattle.vp_search.specs.Summed.{IsSummedSearch};
 
 use crate::difference::sad_within;
-use crate::sums::{SquareSums, block_sums, next_within};
+use crate::sums::{SquareSums, next_within};
 use crate::vector::{Found, vector_at, vector_length};
 use crate::window::WINDOW_WIDTH;
 use std::simd::prelude::*;
@@ -260,28 +260,23 @@ pub(crate) fn search_plainly(block: &[u8], window: &[u8], range: u8, known: Foun
 pub(crate) fn search_outwards(
     block: &[u8],
     window: &[u8],
-    sums: &[u16],
+    sums: SquareSums,
     range: u8,
     known: Found,
 ) -> Found
     requires block { 256 ≤ length block.now }
     requires window { (2 * range + 16) * WINDOW_WIDTH ≤ length window.now }
-    requires sums { (2 * range + 16) * WINDOW_WIDTH ≤ length sums.now }
     requires range { range ≤ 64 }
-    requires summed { IsSummed window.now sums.now range }
+    requires sums { IsSummedSearch block.now window.now range sums }
     requires known { IsFoundInWindow range (window_cost block.now window.now range) known }
     ensures cost { result.cost ≡ window_cost block.now window.now range result.vector }
     ensures least { IsLeast range (window_cost block.now window.now range) result.vector }
 {
     let middle = usize::from(range);
-    let squares = SquareSums {
-        block: block_sums(block),
-        window: sums,
-    };
-    let mut best = consider_row(block, window, squares, range, known, middle);
+    let mut best = consider_row(block, window, sums, range, known, middle);
     for d in 0..middle {
-        best = consider_row(block, window, squares, range, best, middle - 1 - d);
-        best = consider_row(block, window, squares, range, best, middle + 1 + d);
+        best = consider_row(block, window, sums, range, best, middle - 1 - d);
+        best = consider_row(block, window, sums, range, best, middle + 1 + d);
     }
     best
 }

@@ -1,15 +1,17 @@
 //! The full search over whole pixels.
 
-ghost use Rattle.std.specs.Prelude.{◌≡◌, ℕ, ◌+◌, ◌*◌, ◌<◌, ◌≤◌, slice_index};
+ghost use Rattle.std.specs.Prelude.{◌≡◌, ℕ, ◌+◌, ◌*◌, ◌<◌, ◌≤◌, length, slice_index};
 ghost use Rattle.vp_search.specs.Vectors.{quarters};
 ghost use Rattle.vp_search.specs.Differences.{block16};
 ghost use Rattle.vp_search.specs.Blocks.{macroblock_pixels, whole_cost, quarter_cost};
 ghost use Rattle.vp_search.specs.Least.{IsLeast};
-ghost use Rattle.vp_search.specs.Window.{window_cost};
+ghost use Rattle.vp_search.specs.Bounds.{IsSummed};
+ghost use Rattle.vp_search.specs.Window.{window_cost, IsFoundInWindow};
 
 use crate::block::macroblock;
+use crate::coarse::{coarse_block, fill_coarse};
 use crate::outward::{centre_of, search_outwards, search_plainly};
-use crate::sums::fill_sums;
+use crate::sums::{SquareSums, block_sums, fill_sums};
 use crate::vector::Found;
 use crate::window::{GREATEST_RANGE, WINDOW_WIDTH, cut_window};
 use vp_base::{Place, Plane};
@@ -104,5 +106,40 @@ fn search_window<const AREA: usize>(block: &[u8; 256], window: &[u8; AREA], rang
     }
     let mut sums = [0; AREA];
     fill_sums(&mut sums, window, range);
-    search_outwards(block, window, &sums, range, centre)
+    search_summed(block, window, &sums, &mut [0; AREA], range, centre)
+}
+
+/// The best of a known vector and all others of a window, whose squares have the sums `sums`. `coarse` is memory for
+/// the coarse sums.
+fn search_summed(
+    block: &[u8],
+    window: &[u8],
+    sums: &[u16],
+    coarse: &mut [u8],
+    range: u8,
+    known: Found,
+) -> Found
+    requires block { 256 ≤ length block.now }
+    requires window { (2 * range + 16) * WINDOW_WIDTH ≤ length window.now }
+    requires sums { (2 * range + 16) * WINDOW_WIDTH ≤ length sums.now }
+    requires coarse { (2 * range + 16) * WINDOW_WIDTH ≤ length coarse.old }
+    requires range { range ≤ 64 }
+    requires summed { IsSummed window.now sums.now range }
+    requires known { IsFoundInWindow range (window_cost block.now window.now range) known }
+    ensures cost { result.cost ≡ window_cost block.now window.now range result.vector }
+    ensures least { IsLeast range (window_cost block.now window.now range) result.vector }
+{
+    fill_coarse(
+        coarse,
+        sums,
+        (2 * usize::from(range) + 9) * (WINDOW_WIDTH / 8),
+    );
+    let squares = block_sums(block);
+    let all = SquareSums {
+        block: squares,
+        window: sums,
+        coarse_block: coarse_block(squares),
+        coarse,
+    };
+    search_outwards(block, window, all, range, known)
 }

@@ -5,7 +5,9 @@ ghost use Rattle.std.specs.Prelude.{◌≡◌, ℕ, ◌+◌, ◌-◌, ◌*◌, �
 ghost use Rattle.std.specs.Int.{abs_diff};
 ghost use Rattle.vp_search.specs.Sums.{sum_below};
 ghost use Rattle.vp_search.specs.Bounds.{capped, column_sum, row_sum, square_sum, block_sums, bound_of, IsSummed};
+ghost use Rattle.vp_search.specs.Coarse.{AreCoarse};
 
+use crate::coarse::next_coarse;
 use crate::window::WINDOW_WIDTH;
 use std::simd::prelude::*;
 
@@ -19,6 +21,10 @@ pub(crate) struct SquareSums<'a> {
     pub(crate) block: [u16; 4],
     /// Those of the squares at each place of the window.
     pub(crate) window: &'a [u16],
+    /// Coarse sums of the squares of the block.
+    pub(crate) coarse_block: [u8; 4],
+    /// Coarse sums of the squares at each place of the window.
+    pub(crate) coarse: &'a [u8],
 }
 
 /// Loads eight bytes from index `at` on.
@@ -30,7 +36,7 @@ fn load_bytes(s: &[u8], at: usize) -> u16x8
 }
 
 /// Loads eight numbers from index `at` on.
-fn load_sums(s: &[u16], at: usize) -> u16x8
+pub(crate) fn load_sums(s: &[u16], at: usize) -> u16x8
     requires { at + 8 ≤ length s.now }
     ensures { (j : ℕ) → j < 8 → slice_index result j ≡ slice_index s.now (at + j) }
 {
@@ -243,7 +249,10 @@ pub(crate) fn next_within(
     limit: u32,
 ) -> (usize, u16x8)
     requires room { at + 8 * groups + 8 * WINDOW_WIDTH + 8 ≤ length sums.window.now }
+    requires coarse_room { at + 8 * groups + 8 * WINDOW_WIDTH + 16 ≤ length sums.coarse.now }
     requires start { start ≤ groups }
+    requires block { AreCoarse 4 sums.block sums.coarse_block }
+    requires coarse { AreCoarse (at + 8 * groups + 8 * WINDOW_WIDTH + 8) sums.window.now sums.coarse.now }
     ensures later { start ≤ result.0 }
     ensures bound { result.0 ≤ groups }
     ensures skipped { (g t : ℕ) → start ≤ g → g < result.0 → t < 8
@@ -251,10 +260,15 @@ pub(crate) fn next_within(
     ensures bounds { result.0 < groups → (t : ℕ) → t < 8 → slice_index result.1 t
         ≡ bound_of sums.entry.block sums.entry.window.now (at + 8 * result.0 + t) }
 {
-    for g in start..groups {
-        let bounds = bounds_at(sums.block, sums.window, at + 8 * g);
-        if any_within(bounds, limit) {
-            return (g, bounds);
+    let mut g = start;
+    while g < groups {
+        g = next_coarse(sums, at, g, groups, limit);
+        if g < groups {
+            let bounds = bounds_at(sums.block, sums.window, at + 8 * g);
+            if any_within(bounds, limit) {
+                return (g, bounds);
+            }
+            g += 1;
         }
     }
     (groups, u16x8::splat(0))
