@@ -112,6 +112,12 @@ normal-shifted s some byte =
     let d = doubles s.range some byte in
     normal_by 7 (doublings s.range) s d.few d.low d.high
 
+-- a state whose range is 128 or more stays
+pub normal-still : (n : ℕ) (s : State) → 128 ≤ s.range → renormalised n s ≡ s
+unfolding renormalised
+normal-still zero s h = refl
+normal-still (suc n) s h = rw (le-ltb s.range 128 h) refl
+
 -- ---- one bool, seen through a window
 
 -- a product compared at its front

@@ -94,6 +94,23 @@ impl<'a> BoolDecoder<'a> {
         }
     }
 
+    /// Reads the next bool as `read` does, for one that is seldom true and has a probability near 256. The range then
+    /// seldom has to be doubled, so that the branch is predictable, and the next bool need not wait for a shift.
+    #[inline(always)]
+    pub fn read_rare(&mut self, probability: u8) -> bool
+        ensures value { result ≡ (read probability self.old).0 }
+        ensures rest { self.new ≡ (read probability self.old).1 }
+        ensures run { (bytes ps : List ℕ) → AreBytes bytes → AreBytes ps → HasReadBools bytes ps self.old
+            → ReadsNextBool bytes ps (probability ∷ []) (result ∷ []) self.new }
+    {
+        let split = 1 + ((u32::from(probability) * (self.window.range - 1)) >> 8);
+        if split < 128 || self.window.value >= u64::from(split) << 56 {
+            return self.read(probability);
+        }
+        self.window.range = split;
+        false
+    }
+
     /// Reads the next bool with probability 128: both values are equally likely.
     #[inline(always)]
     pub fn read_even(&mut self) -> bool

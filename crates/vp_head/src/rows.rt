@@ -68,14 +68,14 @@ fn read_signed(bits: u32, otherwise: i8, d: &mut BoolDecoder) -> i8
     }
 }
 
-/// Reads a flag of this probability, and if it is set, a probability. Otherwise returns `otherwise`.
+/// Reads a flag of this probability, which is seldom set, and if it is, a probability. Otherwise returns `otherwise`.
 #[inline(always)]
 #[tactic(auto, unfolding(crate::specs::Rows::renewed, vp_bool::specs::Reader::bind))]
 pub(crate) fn read_renewed(probability: u8, otherwise: u8, d: &mut BoolDecoder) -> u8
     ensures value { result ≡ (renewed probability otherwise d.old).0 }
     ensures rest { d.new ≡ (renewed probability otherwise d.old).1 }
 {
-    if d.read(probability) {
+    if d.read_rare(probability) {
         d.literal(8)
     } else {
         otherwise
