@@ -7,3 +7,4 @@ pub mod RefinedLemmas
 pub mod BoundLemmas
 pub mod SumLanes
 pub mod CutLemmas
+pub mod SquareLemmas

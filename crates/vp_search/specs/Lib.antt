@@ -9,3 +9,5 @@ pub mod Window
 pub mod Bounds
 pub mod Predicted
 pub mod Summed
+pub mod Kept
+pub mod Searcher

@@ -4,7 +4,8 @@
 ghost use Rattle.std.specs.Prelude.{◌≡◌, ℕ, ◌+◌, ◌-◌, ◌*◌, ◌<◌, ◌≤◌, [], ◌∷◌, length, slice_index, false};
 ghost use Rattle.std.specs.Int.{abs_diff};
 ghost use Rattle.vp_search.specs.Sums.{sum_below};
-ghost use Rattle.vp_search.specs.Bounds.{capped, column_sum, row_sum, square_sum, block_sums, bound_of, IsSummed};
+ghost use Rattle.vp_search.specs.Bounds.{capped, column_sum, row_sum, square_sum, block_sums, bound_of};
+ghost use Rattle.vp_search.specs.Bounds.{IsSummed, AreSummed};
 
 use crate::window::WINDOW_WIDTH;
 use std::simd::prelude::*;
@@ -155,25 +156,29 @@ fn put_squares(sums: &mut [u16], at: usize, columns: &[u16], groups: usize)
     requires columns { 8 * groups + 8 ≤ length columns.now }
     ensures here { (x : ℕ) → x < 8 * groups → slice_index sums.new (at + x) ≡ row_sum columns.now x }
     ensures before { (k : ℕ) → k < at → slice_index sums.new k ≡ slice_index sums.old k }
+    ensures after { (k : ℕ) → at + 8 * groups ≤ k → slice_index sums.new k ≡ slice_index sums.old k }
 {
     for g in 0..groups {
         store_sums(sums, at + 8 * g, row_sums(columns, 8 * g));
     }
 }
 
-/// Writes the sums of the squares of a window that a search compares.
-pub(crate) fn fill_sums(sums: &mut [u16], window: &[u8], range: u8)
+/// Writes the sums of the squares of a window that a search compares, from column `first` on. Those before stand
+/// already.
+pub(crate) fn fill_sums(sums: &mut [u16], window: &[u8], range: u8, first: usize)
     requires range { range ≤ 64 }
     requires room { (2 * range + 16) * WINDOW_WIDTH ≤ length sums.old }
     requires window { (2 * range + 16) * WINDOW_WIDTH + 8 ≤ length window.now }
+    requires first { first ≤ 2 * range + 9 }
+    requires known { AreSummed window.now sums.old range first }
     ensures { IsSummed window.now sums.new range }
 {
-    let groups = usize::from(range) / 4 + 2;
+    let groups = (2 * usize::from(range) + 16 - first) / 8;
     let mut columns = [0; COLUMNS];
-    put_columns(&mut columns, window, 0, WINDOW_WIDTH, groups + 1);
-    put_squares(sums, 0, &columns, groups);
+    put_columns(&mut columns, window, first, WINDOW_WIDTH, groups + 1);
+    put_squares(sums, first, &columns, groups);
     for y in 0..2 * usize::from(range) + 8 {
-        let at = y * WINDOW_WIDTH;
+        let at = y * WINDOW_WIDTH + first;
         slide_columns(&mut columns, window, at, WINDOW_WIDTH, groups + 1);
         put_squares(sums, at + WINDOW_WIDTH, &columns, groups);
     }

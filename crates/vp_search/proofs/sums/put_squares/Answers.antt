@@ -10,4 +10,5 @@ loop-g-preserved c =
       here = eight_more (λ x v. v ≡ row_sum c.args.columns.now x) c.loop-g.sums c.store_sums.new.s c.args.at c.loop-g.g inv.here c.store_sums.ensures.before
           (λ j h. c.store_sums.ensures.here j h ∙ c.row_sums.ensures j h);
       before = λ k h. c.store_sums.ensures.before k (omega arith) ∙ inv.before k h;
+      after = λ k h. c.store_sums.ensures.after k (omega arith) ∙ inv.after k (omega arith);
     }
