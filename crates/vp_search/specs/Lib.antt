@@ -10,3 +10,5 @@ pub mod Bounds
 pub mod Coarse
 pub mod Predicted
 pub mod Summed
+pub mod Kept
+pub mod Searcher

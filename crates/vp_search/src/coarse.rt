@@ -6,36 +6,26 @@ ghost use Rattle.std.specs.Int.{abs_diff};
 ghost use Rattle.vp_search.specs.Bounds.{bound_of};
 ghost use Rattle.vp_search.specs.Coarse.{coarse_of, coarse_bound_of, AreCoarse};
 
-use crate::sums::{SquareSums, load_sums};
+use crate::sums::SquareSums;
 use crate::window::WINDOW_WIDTH;
 use std::simd::prelude::*;
 use vp_lanes::{abs_diff16, load16, store8};
 
 /// 64ths of eight sums.
-fn coarse_lanes(sums: u16x8) -> u8x8
+pub(crate) fn coarse_lanes(sums: u16x8) -> u8x8
     ensures { (j : ℕ) → j < 8 → slice_index result j ≡ coarse_of (slice_index sums j) }
 {
     (sums >> 6).simd_min(u16x8::splat(255)).cast::<u8>()
 }
 
 /// Stores eight coarse sums from index `at` on.
-fn store_coarse(coarse: &mut [u8], at: usize, lanes: u8x8)
+pub(crate) fn store_coarse(coarse: &mut [u8], at: usize, lanes: u8x8)
     requires { at + 8 ≤ length coarse.old }
     ensures here { (j : ℕ) → j < 8 → slice_index coarse.new (at + j) ≡ slice_index lanes j }
     ensures before { (k : ℕ) → k < at → slice_index coarse.new k ≡ slice_index coarse.old k }
+    ensures after { (k : ℕ) → at + 8 ≤ k → slice_index coarse.new k ≡ slice_index coarse.old k }
 {
     store8(coarse, at, lanes);
-}
-
-/// Writes the coarse sums of eight sums in each group.
-pub(crate) fn fill_coarse(coarse: &mut [u8], sums: &[u16], groups: usize)
-    requires room { 8 * groups ≤ length coarse.old }
-    requires sums { 8 * groups ≤ length sums.now }
-    ensures { AreCoarse (8 * groups) sums.now coarse.new }
-{
-    for g in 0..groups {
-        store_coarse(coarse, 8 * g, coarse_lanes(load_sums(sums, 8 * g)));
-    }
 }
 
 /// A 64th of a sum.

@@ -1,0 +1,15 @@
+use Rattle.std.proofs.Common.{arith}
+use Rattle.vp_search.specs.declared.searcher.TheConstants.{SUMS}
+use Rattle.vp_search.proofs.CoarseLemmas.{none_coarse}
+use Rattle.vp_search.proofs.searcher.Searcher.new.Goals as goal
+
+pub invariant_of-result : goal.invariant_of-result
+invariant_of-result c =
+    let none = c.none.ensures.columns in
+    let start = c.none.ensures.start in (
+      c.requires.range,
+      c.requires.wide,
+      c.requires.high,
+      record { few = omega arith; room = omega arith; are = λ y x h k. absurd (omega arith) },
+      none_coarse SUMS SUMS,
+    )
