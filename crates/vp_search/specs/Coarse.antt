@@ -19,4 +19,5 @@ within_byte n = min n 255
 unfoldable pub coarse_bound_of : List ℕ → List ℕ → ℕ → ℕ
 coarse_bound_of block coarse at = within_byte
     (within_byte (distance_of block coarse 0 at + distance_of block coarse 1 (at + 8))
-    + within_byte (distance_of block coarse 2 (at + 8 * WINDOW_WIDTH) + distance_of block coarse 3 (at + 8 * WINDOW_WIDTH + 8)))
+    + within_byte (distance_of block coarse 2 (at + 8 * WINDOW_WIDTH)
+    + distance_of block coarse 3 (at + 8 * WINDOW_WIDTH + 8)))

@@ -31,3 +31,31 @@ fn reads_examples(rt: HostRuntime) {
         assert!(rt; ones.read(probability));
     }
 }
+
+/// The number of bools after which `read_rare` and `read` differ, of 4,000 that both read from these bytes with these
+/// two probabilities by turns.
+fn first_other(bytes: &[u8], probabilities: [u8; 2]) -> Option<usize> {
+    let mut rare = BoolDecoder::new(bytes);
+    let mut plain = BoolDecoder::new(bytes);
+    for i in 0..4000 {
+        let probability = probabilities[i % 2];
+        if rare.read_rare(probability) != plain.read(probability) {
+            return Some(i);
+        }
+    }
+    None
+}
+
+#[test]
+fn rare_bools_are_the_same(rt: HostRuntime) {
+    let mut bytes = [0; 251];
+    for i in 0..251 {
+        bytes[i] = (i * i * 7 % 251) as u8;
+    }
+    for probability in 0..=255u8 {
+        equal(&rt, &first_other(&bytes, [probability, 255]), &None);
+        equal(&rt, &first_other(&bytes, [254, probability]), &None);
+    }
+    equal(&rt, &first_other(&[255], [255, 252]), &None);
+    equal(&rt, &first_other(&[], [1, 128]), &None);
+}
