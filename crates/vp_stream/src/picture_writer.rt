@@ -15,6 +15,7 @@ use crate::form::Form;
 use std::alloc::Global;
 use std::io::Write;
 use std::marker::Model;
+use std::mem;
 use vp_base::{Counted, Dim, Picture, put_all};
 use vp_decode::Decoder;
 use vp_ivf::IvfHead;
@@ -26,6 +27,8 @@ pub struct PictureWriter {
     alloc: Global,
     form: Form,
     size: Option<Dim>,
+    /// Memory for the pixels of a picture. It is used again for the next picture of the same size.
+    text: Vec<u8>,
 }
 
 impl Model for PictureWriter {
@@ -46,6 +49,7 @@ impl PictureWriter {
             alloc,
             form,
             size: None,
+            text: Vec::new(alloc),
         }
     }
 
@@ -93,8 +97,11 @@ impl PictureWriter {
         ensures quiet { result ≢ Err Interruption.Device →
             counted_failures writer.new ≡ counted_failures writer.old }
     {
-        let text = picture.crop_i420(self.alloc)?;
-        self.write_text(head, picture, &text, writer)
+        let mut text = mem::replace(&mut self.text, Vec::new(self.alloc));
+        picture.crop_into(self.alloc, &mut text)?;
+        let written = self.write_text(head, picture, &text, writer);
+        self.text = text;
+        written
     }
 
     // Writes a picture, given its I420 pixels.
