@@ -3,6 +3,8 @@ pub mod Listed
 pub mod Small
 pub mod Orders
 pub mod After
+pub mod Complete
+pub mod LumaCosts
 pub mod Restored
 pub mod Moving
 pub mod Giving

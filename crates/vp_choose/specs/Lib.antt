@@ -4,7 +4,10 @@ pub mod Levels
 pub mod Gathered
 pub mod Subblocks
 pub mod Intra
+pub mod Below
 pub mod Frame
 pub mod Inter
+pub mod Searched
+pub mod Searchers
 pub mod Choice
 pub mod One

@@ -1,11 +1,12 @@
 //! Chooses an intra macroblock's luma mode.
 
-ghost use Rattle.std.specs.Prelude.{◌≡◌, ℕ, ◌+◌, ◌*◌, ◌≤◌};
+ghost use Rattle.std.specs.Prelude.{◌≡◌, ℕ, ◌+◌, ◌*◌, ◌<◌, ◌≤◌, slice_index, IfSome, IsSome, MatchOption};
 ghost use Rattle.vp_intra.specs.Edges.{block as listed};
 ghost use Rattle.vp_choose.specs.Costs.{HasMacroblock, luma_mode_cost};
 ghost use Rattle.vp_choose.specs.Levels.{ArePositive};
 ghost use Rattle.vp_choose.specs.Gathered.{AreSmall};
-ghost use Rattle.vp_choose.specs.Intra.{IsLuma};
+ghost use Rattle.vp_choose.specs.Intra.{IsLuma, luma_at};
+ghost use Rattle.vp_choose.specs.Below.{IsLumaOver};
 
 use crate::subblocks::{Subblocks, choose_subblocks};
 use vp_base::{Picture, Place, Plane};
@@ -44,6 +45,69 @@ fn cost_of(block: &[u8; 256], plane: &Plane, place: Place, mode: LumaMode) -> u3
     sad16(block, &prediction)
 }
 
+/// Returns the costs of the modes other than B_PRED, in tie-breaking order.
+fn whole_costs(block: &[u8; 256], plane: &Plane, place: Place) -> [u32; 4]
+    requires columns { 16 * place.column + 16 ≤ plane.now.width }
+    requires rows { 16 * place.row + 16 ≤ plane.now.height }
+    ensures value { (f : ℕ → ℕ → ℕ) → block.now ≡ listed 16 f → (i : ℕ) → i < 4
+        → slice_index result i ≡ luma_mode_cost f plane.now place (luma_at i) }
+    ensures bound { slice_index result 0 ≤ 65280 }
+{
+    let _known = [plane.width(), plane.height()];
+    [
+        cost_of(block, plane, place, LumaMode::Dc),
+        cost_of(block, plane, place, LumaMode::V),
+        cost_of(block, plane, place, LumaMode::H),
+        cost_of(block, plane, place, LumaMode::Tm),
+    ]
+}
+
+/// Returns the limit of the subblocks' cost: if they reach it, no mode costs less than `limit`. It is out of reach if
+/// another mode does, of cost `whole`.
+fn subblocks_limit(whole: u32, limit: u32) -> u32
+    ensures over { limit ≤ whole → limit ≤ result + 128 }
+    ensures all { whole < limit → 65280 < result }
+{
+    if whole < limit {
+        return u32::MAX;
+    }
+    limit.saturating_sub(128)
+}
+
+/// Returns the luma mode of the least cost for a source `block`; None if that is not less than `limit`. The picture is
+/// used as scratch memory and restored.
+pub(crate) fn choose_luma_below(
+    block: &[u8; 256],
+    factors: &Factors,
+    picture: &mut Picture,
+    place: Place,
+    limit: u32,
+) -> Option<Luma>
+    requires picture { HasMacroblock picture.old place }
+    requires factors { ArePositive factors.now }
+    ensures luma { (f : ℕ → ℕ → ℕ) → block.now ≡ listed 16 f → MatchOption result
+        (IsLumaOver f factors.now place picture.old.luma limit) (IsLuma f factors.now place picture.old.luma) }
+    ensures below { IfSome result (λ l. l.cost < limit) }
+    ensures kept { picture.new ≡ picture.old }
+    ensures within { IfSome result (λ l. AreSmall l.subblocks.levels) }
+    ensures all { 65280 < limit → IsSome result }
+{
+    let _known = picture.dim();
+    let whole = whole_costs(block, picture.plane(0), place);
+    let most = subblocks_limit(whole[first_least(&whole)], limit);
+    let subblocks = choose_subblocks(block, factors, picture, place, most)?;
+    let costs = [whole[0], whole[1], whole[2], whole[3], subblocks.cost + 128];
+    let best = first_least(&costs);
+    if costs[best] >= limit {
+        return None;
+    }
+    Some(Luma {
+        mode: ORDER[best],
+        subblocks,
+        cost: costs[best],
+    })
+}
+
 /// Returns the luma mode of the least cost for a source `block`. The picture is used as scratch memory and restored.
 pub(crate) fn choose_luma(
     block: &[u8; 256],
@@ -57,20 +121,5 @@ pub(crate) fn choose_luma(
     ensures kept { picture.new ≡ picture.old }
     ensures within { AreSmall result.subblocks.levels }
 {
-    let _known = picture.dim();
-    let subblocks = choose_subblocks(block, factors, picture, place);
-    let plane = picture.plane(0);
-    let costs = [
-        cost_of(block, plane, place, LumaMode::Dc),
-        cost_of(block, plane, place, LumaMode::V),
-        cost_of(block, plane, place, LumaMode::H),
-        cost_of(block, plane, place, LumaMode::Tm),
-        subblocks.cost + 128,
-    ];
-    let best = first_least(&costs);
-    Luma {
-        mode: ORDER[best],
-        subblocks,
-        cost: costs[best],
-    }
+    choose_luma_below(block, factors, picture, place, u32::MAX).unwrap()
 }

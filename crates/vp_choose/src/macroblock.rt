@@ -24,13 +24,14 @@ ghost use Rattle.vp_choose.specs.Gathered.{AreSmall, AreWritable};
 ghost use Rattle.vp_choose.specs.Intra.{IsIntra, HasSubblocks};
 ghost use Rattle.vp_choose.specs.Frame.{lent_frame, search_of, source_by, no_biases};
 ghost use Rattle.vp_choose.specs.Inter.{IsInter, IsInSearchRange, moved_source, vector_of};
+ghost use Rattle.vp_choose.specs.Searched.{IsSearched};
 ghost use Rattle.vp_choose.specs.Choice.{IsChoice};
 
 use crate::blocks::{Blocks, cut_blocks};
 use crate::chroma::choose_chroma;
 use crate::frame::{Choice, FrameSearch, Search};
-use crate::luma::{Luma, choose_luma};
-use crate::motion::{Moved, choose_reference, motion_of};
+use crate::luma::{Luma, choose_luma, choose_luma_below};
+use crate::motion::{Moved, find_motion, motion_of};
 use crate::tokens::{chroma_of, tokens_with_y2, tokens_without_y2};
 use vp_base::{Picture, Place};
 use vp_head::Reference;
@@ -243,6 +244,48 @@ fn choose_inter(
     }
 }
 
+/// Chooses the coding of a macroblock whose motion is found, and rebuilds it.
+pub(crate) fn choose_with_motion(
+    frame: &FrameSearch,
+    blocks: &Blocks,
+    picture: &mut Picture,
+    vectors: &VectorMap,
+    place: Place,
+    moved: Option<Moved>,
+) -> Choice
+    requires picture { HasMacroblock picture.old place }
+    requires factors { ArePositive (lent_frame frame.now).factors }
+    requires cut { AreCut (lent_frame frame.now).source place blocks.now }
+    requires moved { IsSearched (lent_frame frame.now).search (lent_frame frame.now).source.luma place moved }
+    requires map { Has vectors.now place }
+    requires short { AreWithin 511 vectors.now }
+    ensures chosen { IsChoice (lent_frame frame.now) picture.old vectors.now place result }
+    ensures rebuilt { picture.new ≡ rebuilt (macroblock_of (source_by
+        (lent_frame frame.now).search result) result.tokens (lent_frame frame.now).factors) place picture.old }
+    ensures written { is_intra result.modes.reference ≡ false
+        → CanBeWritten (candidates vectors.now place result.modes.reference no_biases) result.motion }
+    ensures short { IsWithin 259 (last_of result.motion.vectors) }
+    ensures unmoved { is_intra result.modes.reference ≡ true → (result.motion.mode ≡ VectorMode.Zero)
+        × (result.motion.vectors ≡ replicate 16 zero_vector) }
+{
+    let (Some(search), Some(moved)) = (frame.search, moved) else {
+        let luma = choose_luma(&blocks.luma, frame.factors, picture, place);
+        return choose_intra(blocks, frame.factors, picture, place, &luma);
+    };
+    match choose_luma_below(&blocks.luma, frame.factors, picture, place, moved.cost) {
+        Some(luma) => choose_intra(blocks, frame.factors, picture, place, &luma),
+        None => choose_inter(
+            blocks,
+            frame.factors,
+            &search,
+            picture,
+            vectors,
+            place,
+            &moved,
+        ),
+    }
+}
+
 /// Chooses the coding of the macroblock at `place`, and rebuilds it.
 ///
 /// In `picture` the macroblocks before it, in raster order, are rebuilt and not filtered yet; `vectors` has their
@@ -272,20 +315,6 @@ pub fn choose_macroblock(
 {
     let _known = [frame.source.dim(), picture.dim()];
     let blocks = cut_blocks(frame.source, place);
-    let luma = choose_luma(&blocks.luma, frame.factors, picture, place);
-    if let Some(search) = &frame.search {
-        let moved = choose_reference(search, &blocks.luma, place);
-        if moved.cost <= luma.cost {
-            return choose_inter(
-                &blocks,
-                frame.factors,
-                search,
-                picture,
-                vectors,
-                place,
-                &moved,
-            );
-        }
-    }
-    choose_intra(&blocks, frame.factors, picture, place, &luma)
+    let moved = find_motion(frame, &blocks.luma, place);
+    choose_with_motion(frame, &blocks, picture, vectors, place, moved)
 }

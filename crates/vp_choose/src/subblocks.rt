@@ -1,6 +1,7 @@
 //! Chooses the modes of the luma subblocks for B_PRED.
 
 ghost use Rattle.std.specs.Prelude.{◌≡◌, ℕ, ◌+◌, ◌*◌, ◌<◌, ◌≤◌, pos, [], slice_index, slice_index_or, unsigned_abs};
+ghost use Rattle.std.specs.Prelude.{IfSome, IsSome, MatchOption};
 ghost use Rattle.vp_base.specs.Image.{with_plane};
 ghost use Rattle.vp_intra.specs.Edges.{block as listed};
 ghost use Rattle.vp_intra.specs.Sub.{sub_pixel};
@@ -11,7 +12,8 @@ ghost use Rattle.vp_search.specs.FirstLeast.{IsFirstLeast};
 ghost use Rattle.vp_choose.specs.Costs.{block_from_rows, sub_cost};
 ghost use Rattle.vp_choose.specs.Levels.{ArePositive, coefficients, quantised_levels};
 ghost use Rattle.vp_choose.specs.Gathered.{AreSmall};
-ghost use Rattle.vp_choose.specs.Subblocks.{IsBestMode, AreSubblocksChosen, mode_at, sub_levels, after_subblocks};
+ghost use Rattle.vp_choose.specs.Subblocks.{IsBestMode, AreSubblocksChosen, mode_at, sub_levels};
+ghost use Rattle.vp_choose.specs.Below.{AreSubblocksOver, IsPartlyRebuilt};
 
 use crate::difference::sad4;
 use crate::levels::{coefficients, part_of, quantised_levels};
@@ -141,28 +143,34 @@ fn choose_subblock(
     }
 }
 
-/// Chooses the modes of all subblocks of a macroblock, and rebuilds them.
+/// Chooses the modes of all subblocks of a macroblock, and rebuilds them; None if their cost reaches `limit` while one
+/// is left.
 fn choose_all(
     source: &[u8; 256],
     factors: &Factors,
     picture: &mut Picture,
     place: Place,
-) -> Subblocks
+    limit: u32,
+) -> Option<Subblocks>
     requires columns { 16 * place.column + 16 ≤ picture.old.luma.width }
     requires rows { 16 * place.row + 16 ≤ picture.old.luma.height }
     requires factors { ArePositive factors.now }
-    ensures chosen { (f : ℕ → ℕ → ℕ) → source.now ≡ listed 16 f
-        → AreSubblocksChosen f factors.now place picture.old.luma result }
-    ensures rebuilt { picture.new ≡ with_plane picture.old 0
-        (after_subblocks factors.now place picture.old.luma result 16) }
-    ensures within { AreSmall result.levels }
-    ensures bound { result.cost ≤ 65280 }
+    ensures chosen { (f : ℕ → ℕ → ℕ) → source.now ≡ listed 16 f → MatchOption result
+        (AreSubblocksOver f factors.now place picture.old.luma limit)
+        (AreSubblocksChosen f factors.now place picture.old.luma) }
+    ensures rebuilt { IsPartlyRebuilt factors.now place picture.old picture.new }
+    ensures within { IfSome result (λ s. AreSmall s.levels) }
+    ensures bound { IfSome result (λ s. s.cost ≤ 65280) }
+    ensures all { 65280 < limit → IsSome result }
 {
     let _known = [picture.plane(0).width(), picture.plane(0).height()];
     let mut modes = [SubMode::Dc; 16];
     let mut levels = [[0; 16]; 16];
     let mut cost = 0;
     for k in 0..16 {
+        if cost >= limit {
+            return None;
+        }
         let here = Place {
             column: place.column * 4 + k % 4,
             row: place.row * 4 + k / 4,
@@ -174,32 +182,36 @@ fn choose_all(
         levels[k] = own;
         cost += chosen.cost;
     }
-    Subblocks {
+    Some(Subblocks {
         modes,
         levels,
         cost,
-    }
+    })
 }
 
-/// Returns the choice for all subblocks of a macroblock. The picture is used as scratch memory and restored.
+/// Returns the choice for all subblocks of a macroblock; None if their cost reaches `limit` while one is left. The
+/// picture is used as scratch memory and restored.
 pub(crate) fn choose_subblocks(
     source: &[u8; 256],
     factors: &Factors,
     picture: &mut Picture,
     place: Place,
-) -> Subblocks
+    limit: u32,
+) -> Option<Subblocks>
     requires columns { 16 * place.column + 16 ≤ picture.old.luma.width }
     requires rows { 16 * place.row + 16 ≤ picture.old.luma.height }
     requires factors { ArePositive factors.now }
-    ensures chosen { (f : ℕ → ℕ → ℕ) → source.now ≡ listed 16 f
-        → AreSubblocksChosen f factors.now place picture.old.luma result }
+    ensures chosen { (f : ℕ → ℕ → ℕ) → source.now ≡ listed 16 f → MatchOption result
+        (AreSubblocksOver f factors.now place picture.old.luma limit)
+        (AreSubblocksChosen f factors.now place picture.old.luma) }
     ensures kept { picture.new ≡ picture.old }
-    ensures within { AreSmall result.levels }
-    ensures bound { result.cost ≤ 65280 }
+    ensures within { IfSome result (λ s. AreSmall s.levels) }
+    ensures bound { IfSome result (λ s. s.cost ≤ 65280) }
+    ensures all { 65280 < limit → IsSome result }
 {
     let _known = [picture.plane(0).width(), picture.plane(0).height()];
     let kept = macroblock(picture.plane(0), place);
-    let chosen = choose_all(source, factors, picture, place);
+    let chosen = choose_all(source, factors, picture, place, limit);
     picture.write_block::<16>(0, 16 * place.column, 16 * place.row, &kept);
     chosen
 }

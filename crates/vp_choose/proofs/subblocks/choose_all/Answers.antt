@@ -16,6 +16,7 @@ use Rattle.vp_choose.specs.Costs.{sub_cost}
 use Rattle.vp_choose.specs.Levels.{part}
 use Rattle.vp_choose.specs.Subblocks.{IsBestMode, after_subblocks, sub_levels, sub_rebuilt}
 use Rattle.vp_choose.proofs.After.{made, cost_at, after_new, costs_more, ones_more, has_more}
+use Rattle.vp_choose.proofs.Complete.{left}
 use Rattle.vp_choose.proofs.Small.{none_within, each_set, IsSmall}
 use Rattle.vp_choose.proofs.subblocks.choose_all.Goals as goal
 
@@ -72,6 +73,17 @@ loop-k-preserved c =
       within = each_set IsSmall [] levels k own l c.loop-k.invariant.within c.choose_subblock-chosen.ensures.within;
       bound = let b = c.choose_subblock-chosen.ensures.bound in let before = c.loop-k.invariant.bound in omega arith;
     }
+
+pub returns-then-cost-limit-clause-chosen : goal.returns-then-cost-limit-clause-chosen
+returns-then-cost-limit-clause-chosen c f e =
+    left f c.args.factors.now c.args.place c.args.picture.now.luma c.args.limit c.loop-k.k c.loop-k.cost c.loop-k.modes c.loop-k.levels (omega arith) (omega arith)
+    (record {
+      modes_size = c.loop-k.invariant.modes_size;
+      levels_size = c.loop-k.invariant.levels_size;
+      ones = c.loop-k.invariant.chosen f e;
+      has = c.loop-k.invariant.levels f e;
+      sum = c.loop-k.invariant.cost f e;
+    })
 
 pub returns-clause-chosen : goal.returns-clause-chosen
 returns-clause-chosen c f e =

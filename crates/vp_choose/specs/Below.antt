@@ -1,0 +1,29 @@
+-- Private to the crate: intra choices that are left because they cost too much.
+use Rattle.std.specs.Prelude.{◌≡◌, ℕ, ◌≤◌}
+use Rattle.vp_base.specs.declared.place.Place.{Place}
+use Rattle.vp_base.specs.Raster.{Raster}
+use Rattle.vp_base.specs.Image.{Image, with_plane}
+use Rattle.vp_quant.specs.declared.factors.Factors.{Factors}
+use Rattle.vp_choose.specs.declared.subblocks.Subblocks.{Subblocks}
+use Rattle.vp_choose.specs.declared.luma.Luma.{Luma}
+use Rattle.vp_choose.specs.Subblocks.{AreSubblocksChosen, after_subblocks}
+use Rattle.vp_choose.specs.Intra.{IsLuma}
+
+-- the choice of the subblocks costs at least a limit
+pub record AreSubblocksOver (f : ℕ → ℕ → ℕ) (factors : Factors) (place : Place) (p : Raster) (limit : ℕ) : Type 0 where
+  pub subblocks : Subblocks
+  pub chosen : AreSubblocksChosen f factors place p subblocks
+  pub over : limit ≤ subblocks.cost
+
+-- the choice of the luma mode costs at least a limit
+pub record IsLumaOver (f : ℕ → ℕ → ℕ) (factors : Factors) (place : Place) (p : Raster) (limit : ℕ) : Type 0 where
+  pub luma : Luma
+  pub is : IsLuma f factors place p luma
+  pub over : limit ≤ luma.cost
+
+-- q is p with some subblocks of the macroblock at a place rebuilt
+pub record IsPartlyRebuilt (factors : Factors) (place : Place) (p q : Image) : Type 0 where
+  pub subblocks : Subblocks
+  pub number : ℕ
+  pub most : number ≤ 16
+  pub is : q ≡ with_plane p 0 (after_subblocks factors place p.luma subblocks number)
