@@ -1,5 +1,5 @@
 -- Private to the crate: the motion searchers of a frame.
-use Rattle.std.specs.Prelude.{◌≡◌, true, false, Option, Some, None, MatchOption}
+use Rattle.std.specs.Prelude.{◌≡◌, true, false, Option, Some, None, MatchOption, ⊤}
 use Rattle.vp_head.specs.declared.fields.Reference.{Reference}
 use Rattle.vp_head.specs.declared.fields.Reference.TheVariants as reference_is
 use Rattle.vp_refs.specs.References.{reference_picture}
@@ -17,7 +17,7 @@ pub record AreSearchers (s : Search) (searchers : Searchers) : Type 0 where
   pub golden : s.golden ≡ true → searchers.golden ≡ Some (searcher_of s reference_is.Golden)
   pub last_alone : s.golden ≡ false → searchers.golden ≡ None
 
--- .. in an inter frame; there are none in a key frame
+-- .. if an inter frame has any; there are none in a key frame
 abbrev pub AreSearchersOf : Option Search → Option Searchers → Type 0
 AreSearchersOf None searchers = searchers ≡ None
-AreSearchersOf (Some s) searchers = MatchOption searchers ⊥ (AreSearchers s)
+AreSearchersOf (Some s) searchers = MatchOption searchers ⊤ (AreSearchers s)

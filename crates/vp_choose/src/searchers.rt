@@ -11,10 +11,16 @@ ghost use Rattle.vp_choose.specs.Searched.{IsBestMotion, IsSearched};
 ghost use Rattle.vp_choose.specs.Searchers.{AreSearchers, AreSearchersOf, searcher_of};
 
 use crate::frame::{FrameSearch, Search};
-use crate::motion::{Moved, better_of, refined};
+use crate::motion::{Moved, better_of, find_motion, refined};
 use vp_base::Place;
 use vp_head::Reference;
 use vp_search::{Refined, Searcher};
+
+/// The least search range for which searchers pay: below it the sums that they keep are made as fast as they are moved.
+const LEAST_RANGE: u8 = 17;
+
+/// The least number of macroblocks in a row for which searchers pay: their memory is cleared once a frame.
+const LEAST_COLUMNS: u16 = 4;
 
 /// The motion searchers of the reference frames that are searched.
 #[derive(Drop)]
@@ -33,12 +39,15 @@ fn searcher_of<'a>(search: &Search<'a>, reference: Reference) -> Searcher<'a>
     Searcher::new(picture.plane(0), search.range)
 }
 
-/// Makes the motion searchers; None in a key frame.
+/// Makes the motion searchers; None where they don't pay, and in a key frame.
 pub(crate) fn searchers_of<'a>(frame: &FrameSearch<'a>) -> Option<Searchers<'a>>
     requires { IfSome (lent_frame frame.now).search (λ s. s.range ≤ 64) }
     ensures { AreSearchersOf (lent_frame frame.now).search result }
 {
     let search = frame.search?;
+    if search.range < LEAST_RANGE || frame.source.dim().mb_cols() < LEAST_COLUMNS {
+        return None;
+    }
     let golden = if search.golden {
         Some(searcher_of(&search, Reference::Golden))
     } else {
@@ -110,10 +119,11 @@ pub(crate) fn find_motion_by(
     ensures motion { (source : Raster) → block.now ≡ listed 16 (block_pixels 16 source place)
         → IsSearched (lent_frame frame.now).search source place result }
 {
-    match (searchers, frame.search) {
-        (Some(searchers), Some(search)) => {
+    match searchers {
+        Some(searchers) => {
+            let search = frame.search?;
             Some(choose_reference_by(searchers, &search, block, place))
         }
-        _ => None,
+        None => find_motion(frame, block, place),
     }
 }
