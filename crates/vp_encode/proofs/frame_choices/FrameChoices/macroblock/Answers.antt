@@ -2,7 +2,6 @@ use Rattle.std.proofs.Common.{◌≡◌, ◌∙◌, true, false, sym, ap}
 use Rattle.vp_head.specs.Reference.{is_intra}
 use Rattle.vp_motion.specs.Vector.{Motion}
 use Rattle.vp_choose.specs.declared.frame.Choice.{Choice}
-use Rattle.vp_choose.specs.Frame.{lent_frame}
 use Rattle.vp_encode.proofs.ChoosingLemmas.{next, step_own, step_inter}
 use Rattle.vp_encode.proofs.frame_choices.FrameChoices.macroblock.Goals as goal
 
