@@ -16,11 +16,11 @@ use vp_base::Place;
 use vp_head::Reference;
 use vp_search::{Refined, Searcher};
 
-/// The least search range for which searchers pay: below it the sums that they keep are made as fast as they are moved.
-const LEAST_RANGE: u8 = 17;
+/// The least search range for which searchers pay: below it no sums are made that could be kept.
+const LEAST_RANGE: u8 = 6;
 
-/// The least number of macroblocks in a row for which searchers pay: their memory is cleared once a frame.
-const LEAST_COLUMNS: u16 = 4;
+/// The least number of macroblocks in a row for which searchers pay: their memory is cleared and moved once a frame.
+const LEAST_COLUMNS: u16 = 8;
 
 /// The motion searchers of the reference frames that are searched.
 #[derive(Drop)]
