@@ -17,7 +17,7 @@ use vp_head::Reference;
 use vp_search::{Refined, Searcher};
 
 /// The least search range for which searchers pay: below it no sums are made that could be kept.
-const LEAST_RANGE: u8 = 6;
+const LEAST_RANGE: u8 = 8;
 
 /// The least number of macroblocks in a row for which searchers pay: their memory is cleared and moved once a frame.
 const LEAST_COLUMNS: u16 = 8;

@@ -21,7 +21,7 @@ use vp_base::{Place, Plane};
 const SMALL_RANGE: u8 = 16;
 
 /// The least range for which the bounds of vectors are made: below it they cost more than they save.
-const LEAST_BOUNDED_RANGE: u8 = 6;
+const LEAST_BOUNDED_RANGE: u8 = 8;
 
 /// The number of pixels in the window of a search of the small range, and eight more, as pixels are loaded by eight.
 const SMALL_WINDOW: usize = (16 + 2 * SMALL_RANGE as usize) * WINDOW_WIDTH + 8;

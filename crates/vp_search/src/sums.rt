@@ -12,6 +12,10 @@ use crate::coarse::{coarse_lanes, next_coarse, store_coarse};
 use crate::window::WINDOW_WIDTH;
 use std::simd::prelude::*;
 
+/// The least number of groups of eight vectors in a row for which coarse bounds come first, and for which rows can be
+/// searched without bounds: in a shorter row neither pays.
+pub(crate) const WIDE_ROW: usize = 8;
+
 /// The number of column sums of a row, and eight more.
 const COLUMNS: usize = WINDOW_WIDTH + 8;
 
@@ -243,7 +247,7 @@ fn bounds_at(block: [u16; 4], sums: &[u16], at: usize) -> u16x8
 }
 
 /// Whether a bound is within the limit.
-fn any_within(bounds: u16x8, limit: u32) -> bool
+pub(crate) fn any_within(bounds: u16x8, limit: u32) -> bool
     ensures { result ≡ false → (j : ℕ) → j < 8 → limit < slice_index bounds j }
 {
     let most = limit.min(65535) as u16;
@@ -273,7 +277,9 @@ pub(crate) fn next_within(
 {
     let mut g = start;
     while g < groups {
-        g = next_coarse(sums, at, g, groups, limit);
+        if groups >= WIDE_ROW {
+            g = next_coarse(sums, at, g, groups, limit);
+        }
         if g < groups {
             let bounds = bounds_at(sums.block, sums.window, at + 8 * g);
             if any_within(bounds, limit) {

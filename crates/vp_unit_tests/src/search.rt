@@ -384,7 +384,8 @@ fn is_same_along(reference: &Plane, range: u8) -> bool {
 fn kept_sums_are_the_same(rt: HostRuntime) -> Result<(), Fail> {
     let mut reference = Plane::new(rt.alloc(), 53, 37, 0)?;
     fill_odd(&mut reference);
-    assert!(rt; is_same_along(&reference, 6));
+    assert!(rt; is_same_along(&reference, 7));
+    assert!(rt; is_same_along(&reference, 8));
     assert!(rt; is_same_along(&reference, 16));
     assert!(rt; is_same_along(&reference, 17));
     assert!(rt; is_same_along(&reference, 64));
