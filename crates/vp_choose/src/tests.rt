@@ -3,7 +3,6 @@
 use super::*;
 use std::alloc::Global;
 use std::rc::Rc;
-use std::test::Fail;
 use vp_base::{Dim, Limits, Picture, Place};
 use vp_head::Reference;
 use vp_motion::{Vector, VectorMap};
@@ -126,33 +125,4 @@ fn a_still_macroblock(rt: HostRuntime) {
         panic!(rt; "bytes");
     };
     assert!(rt; is_bright(&bytes));
-}
-
-/// Both reference frames are the source. Of equal costs the last frame's is chosen.
-#[test]
-fn a_still_frame(rt: HostRuntime) -> Result<(), Fail> {
-    let dim = Dim::new(16, 16, &Limits::usual())?;
-    let source = Picture::new(rt.alloc(), dim, 200)?;
-    let last = Picture::new(rt.alloc(), dim, 200)?;
-    let references = Refs::of_key(Rc::new(rt.alloc(), last)?)?;
-    let mut picture = Picture::new(rt.alloc(), dim, 0)?;
-    let vectors = VectorMap::new(rt.alloc(), dim)?;
-    let search = Search {
-        references: &references,
-        golden: true,
-        range: 16,
-        subpel: true,
-    };
-    let frame = FrameSearch {
-        source: &source,
-        factors: &FACTORS,
-        search: Some(search),
-    };
-    let mut chooser = FrameChooser::new(&frame);
-    let choice = chooser.choose(&mut picture, &vectors, TOP);
-    assert!(rt; choice.modes.reference == Reference::Last);
-    assert!(rt; choice.modes.skip);
-    assert!(rt; choice.motion.mode == VectorMode::Zero);
-    assert!(rt; is_bright(&picture.crop_i420(rt.alloc())?));
-    Ok(())
 }

@@ -10,7 +10,7 @@ ghost use Rattle.vp_encode.specs.FrameChoices.{AreChosen, AreChosenBefore, pictu
 
 use std::alloc::{AllocError, Global};
 use vp_base::{Grid, Picture, Place};
-use vp_choose::{Choice, FrameChooser, FrameSearch};
+use vp_choose::{Choice, FrameSearch, choose_macroblock};
 use vp_head::Reference;
 use vp_modes::Modes;
 use vp_motion::{Motion, Vector, VectorMap};
@@ -68,18 +68,17 @@ impl FrameChoices {
     }
 
     /// Chooses the macroblock at a place, and rebuilds it.
-    fn macroblock(&mut self, chooser: &mut FrameChooser, place: Place)
+    fn macroblock(&mut self, frame: &FrameSearch, place: Place)
         requires place { Has self.old.chosen place }
-        requires factors { ArePositive chooser.old.factors }
-        requires range { IfSome chooser.old.search (λ s. s.range ≤ 64) }
-        requires before { AreChosenBefore chooser.old place self.old }
-        ensures kept { chooser.new ≡ chooser.old }
-        ensures chosen { AreChosenBefore chooser.old (record {
+        requires factors { ArePositive (lent_frame frame.now).factors }
+        requires range { IfSome (lent_frame frame.now).search (λ s. s.range ≤ 64) }
+        requires before { AreChosenBefore (lent_frame frame.now) place self.old }
+        ensures { AreChosenBefore (lent_frame frame.now) (record {
           column = place.column + 1;
           row = place.row;
         }) self.new }
     {
-        let choice = chooser.choose(&mut self.picture, &self.motion, place);
+        let choice = choose_macroblock(frame, &mut self.picture, &self.motion, place);
         self.chosen.set(place, choice);
         let reference = choice.modes.reference;
         if reference.is_intra() {
@@ -91,16 +90,15 @@ impl FrameChoices {
     }
 
     /// Chooses a row of macroblocks.
-    fn row(&mut self, chooser: &mut FrameChooser, row: usize)
+    fn row(&mut self, frame: &FrameSearch, row: usize)
         requires row { row < self.old.chosen.rows }
-        requires factors { ArePositive chooser.old.factors }
-        requires range { IfSome chooser.old.search (λ s. s.range ≤ 64) }
-        requires before { AreChosenBefore chooser.old (place row 0) self.old }
-        ensures kept { chooser.new ≡ chooser.old }
-        ensures chosen { AreChosenBefore chooser.old (place (row + 1) 0) self.new }
+        requires factors { ArePositive (lent_frame frame.now).factors }
+        requires range { IfSome (lent_frame frame.now).search (λ s. s.range ≤ 64) }
+        requires before { AreChosenBefore (lent_frame frame.now) (place row 0) self.old }
+        ensures { AreChosenBefore (lent_frame frame.now) (place (row + 1) 0) self.new }
     {
         for column in 0..self.chosen.columns() {
-            self.macroblock(chooser, Place { column, row });
+            self.macroblock(frame, Place { column, row });
         }
     }
 }
@@ -117,9 +115,8 @@ pub(crate) fn choose_macroblocks(
     ensures rebuilt { IfOk result (λ r. r.1 ≡ picture_by (lent_frame frame.now) r.0) }
 {
     let mut choosing = FrameChoices::new(alloc, frame)?;
-    let mut chooser = FrameChooser::new(frame);
     for row in 0..choosing.chosen.rows() {
-        choosing.row(&mut chooser, row);
+        choosing.row(frame, row);
     }
     Ok((choosing.chosen, choosing.picture))
 }
