@@ -7,5 +7,3 @@ pub mod RefinedLemmas
 pub mod BoundLemmas
 pub mod SumLanes
 pub mod CutLemmas
-pub mod SquareLemmas
-pub mod CoarseLemmas

@@ -2,16 +2,13 @@
 #![tactic(auto)]
 
 mod block;
-mod coarse;
 mod difference;
-mod kept;
 mod kernel;
 mod laws;
 mod least;
 mod outward;
 mod refinement;
 mod search;
-mod searcher;
 mod squares;
 mod sums;
 mod vector;
@@ -23,6 +20,5 @@ pub use laws::{least_vector_is_one, refined_vector_is_one, whole_vectors_are_pre
 pub use least::first_least;
 pub use refinement::{refine, refine_block, refine_found};
 pub use search::{full_search, search_block};
-pub use searcher::Searcher;
 pub use squares::sse;
 pub use vector::{Found, QuarterVector, Refined, WholeVector, quarters};

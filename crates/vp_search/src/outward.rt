@@ -6,11 +6,11 @@ ghost use Rattle.std.specs.Prelude.{◌≡◌, ℕ, ◌+◌, ◌*◌, ◌<◌, �
 ghost use Rattle.vp_search.specs.Vectors.{vector_length, IsNear};
 ghost use Rattle.vp_search.specs.Least.{IsLeast, IsNoWorse};
 ghost use Rattle.vp_search.specs.Window.{vector_at, window_cost, IsFoundInWindow};
-ghost use Rattle.vp_search.specs.Bounds.{IsBound};
+ghost use Rattle.vp_search.specs.Bounds.{IsSummed, IsBound};
 ghost use Rattle.vp_search.specs.Summed.{IsSummedSearch};
 
 use crate::difference::sad_within;
-use crate::sums::{SquareSums, WIDE_ROW, any_within, next_within};
+use crate::sums::{SquareSums, block_sums, next_within};
 use crate::vector::{Found, vector_at, vector_length};
 use crate::window::WINDOW_WIDTH;
 use std::simd::prelude::*;
@@ -169,39 +169,7 @@ fn consider_eight(
     consider_each(block, window, range, best, spot, bounds.to_array())
 }
 
-/// A search between two rows.
-#[derive(Clone, Copy)]
-struct Progress {
-    /// The best vector so far.
-    best: Found,
-    /// The number of rows that are searched without bounds.
-    plain: usize,
-}
-
-/// The number of rows that are searched without bounds after one in which many bounds were below the best cost, as in
-/// noise, where bounds cost more than they save. Whether they save more in other rows is seen again after these.
-const PLAIN_ROWS: usize = 7;
-
-/// 1 if one of eight bounds is below the best cost, else 0.
-fn below_best(bounds: u16x8, cost: u32) -> usize
-    ensures { result ≤ 1 }
-{
-    usize::from(any_within(bounds, cost.saturating_sub(1)))
-}
-
-/// The number of rows to search without bounds after a row in which this many groups of eight had a bound below the best
-/// cost.
-fn plain_rows(passed: usize, groups: usize) -> usize
-    ensures { result ≤ PLAIN_ROWS }
-{
-    if groups >= WIDE_ROW && passed > groups / 4 {
-        PLAIN_ROWS
-    } else {
-        0
-    }
-}
-
-/// The best of a known vector and those of row `i`, by their bounds.
+/// The best of a known vector and those of row `i`.
 fn consider_row(
     block: &[u8],
     window: &[u8],
@@ -209,65 +177,31 @@ fn consider_row(
     range: u8,
     best: Found,
     i: usize,
-) -> Progress
+) -> Found
     requires block { 256 ≤ length block.now }
     requires window { (2 * range + 16) * WINDOW_WIDTH ≤ length window.now }
     requires range { range ≤ 64 }
     requires i { i ≤ 2 * range }
     requires sums { IsSummedSearch block.now window.now range sums }
     requires best { IsFoundInWindow range (window_cost block.now window.now range) best }
-    ensures kept { IsFoundInWindow range (window_cost block.now window.now range) result.best }
-    ensures old { IsNoWorse result.best.cost result.best.vector best.cost best.vector }
-    ensures here { (j : ℕ) → j ≤ 2 * range → IsNoWorse result.best.cost result.best.vector
+    ensures kept { IsFoundInWindow range (window_cost block.now window.now range) result }
+    ensures old { IsNoWorse result.cost result.vector best.cost best.vector }
+    ensures here { (j : ℕ) → j ≤ 2 * range → IsNoWorse result.cost result.vector
         (window_cost block.now window.now range (vector_at range i j)) (vector_at range i j) }
 {
     let groups = usize::from(range) / 4 + 1;
     let mut found = best;
     let mut g = 0;
-    let mut passed = 0;
     while g < groups {
         let (next, bounds) = next_within(sums, i * WINDOW_WIDTH, g, groups, found.cost);
         let spot = Spot {
             row: i,
             column: 8 * next,
         };
-        passed += below_best(bounds, found.cost);
         found = consider_eight(block, window, range, found, spot, bounds);
         g = next + 1;
     }
-    Progress {
-        best: found,
-        plain: plain_rows(passed, groups),
-    }
-}
-
-/// The best of a known vector and those of row `i`: by their bounds, or without.
-fn consider_next(
-    block: &[u8],
-    window: &[u8],
-    sums: SquareSums,
-    range: u8,
-    progress: Progress,
-    i: usize,
-) -> Progress
-    requires block { 256 ≤ length block.now }
-    requires window { (2 * range + 16) * WINDOW_WIDTH ≤ length window.now }
-    requires range { range ≤ 64 }
-    requires i { i ≤ 2 * range }
-    requires sums { IsSummedSearch block.now window.now range sums }
-    requires best { IsFoundInWindow range (window_cost block.now window.now range) progress.best }
-    ensures kept { IsFoundInWindow range (window_cost block.now window.now range) result.best }
-    ensures old { IsNoWorse result.best.cost result.best.vector progress.best.cost progress.best.vector }
-    ensures here { (j : ℕ) → j ≤ 2 * range → IsNoWorse result.best.cost result.best.vector
-        (window_cost block.now window.now range (vector_at range i j)) (vector_at range i j) }
-{
-    if progress.plain == 0 {
-        return consider_row(block, window, sums, range, progress.best, i);
-    }
-    Progress {
-        best: consider_plain_row(block, window, range, progress.best, i),
-        plain: progress.plain - 1,
-    }
+    found
 }
 
 /// The zero vector, whose block stands at the centre of the window, with its cost.
@@ -326,23 +260,28 @@ pub(crate) fn search_plainly(block: &[u8], window: &[u8], range: u8, known: Foun
 pub(crate) fn search_outwards(
     block: &[u8],
     window: &[u8],
-    sums: SquareSums,
+    sums: &[u16],
     range: u8,
     known: Found,
 ) -> Found
     requires block { 256 ≤ length block.now }
     requires window { (2 * range + 16) * WINDOW_WIDTH ≤ length window.now }
+    requires sums { (2 * range + 16) * WINDOW_WIDTH ≤ length sums.now }
     requires range { range ≤ 64 }
-    requires sums { IsSummedSearch block.now window.now range sums }
+    requires summed { IsSummed window.now sums.now range }
     requires known { IsFoundInWindow range (window_cost block.now window.now range) known }
     ensures cost { result.cost ≡ window_cost block.now window.now range result.vector }
     ensures least { IsLeast range (window_cost block.now window.now range) result.vector }
 {
     let middle = usize::from(range);
-    let mut progress = consider_row(block, window, sums, range, known, middle);
+    let squares = SquareSums {
+        block: block_sums(block),
+        window: sums,
+    };
+    let mut best = consider_row(block, window, squares, range, known, middle);
     for d in 0..middle {
-        progress = consider_next(block, window, sums, range, progress, middle - 1 - d);
-        progress = consider_next(block, window, sums, range, progress, middle + 1 + d);
+        best = consider_row(block, window, squares, range, best, middle - 1 - d);
+        best = consider_row(block, window, squares, range, best, middle + 1 + d);
     }
-    progress.best
+    best
 }

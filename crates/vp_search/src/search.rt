@@ -1,18 +1,15 @@
 //! The full search over whole pixels.
 
-ghost use Rattle.std.specs.Prelude.{◌≡◌, ℕ, ◌+◌, ◌*◌, ◌<◌, ◌≤◌, IfSome, length, slice_index};
-ghost use Rattle.vp_search.specs.Vectors.{quarters, vector_length};
+ghost use Rattle.std.specs.Prelude.{◌≡◌, ℕ, ◌+◌, ◌*◌, ◌<◌, ◌≤◌, slice_index};
+ghost use Rattle.vp_search.specs.Vectors.{quarters};
 ghost use Rattle.vp_search.specs.Differences.{block16};
 ghost use Rattle.vp_search.specs.Blocks.{macroblock_pixels, whole_cost, quarter_cost};
 ghost use Rattle.vp_search.specs.Least.{IsLeast};
-ghost use Rattle.vp_search.specs.Bounds.{IsSummed};
-ghost use Rattle.vp_search.specs.Coarse.{AreCoarse};
-ghost use Rattle.vp_search.specs.Window.{window_cost, IsFoundInWindow};
+ghost use Rattle.vp_search.specs.Window.{window_cost};
 
 use crate::block::macroblock;
-use crate::coarse::coarse_block;
 use crate::outward::{centre_of, search_outwards, search_plainly};
-use crate::sums::{SquareSums, block_sums, fill_sums};
+use crate::sums::fill_sums;
 use crate::vector::Found;
 use crate::window::{GREATEST_RANGE, WINDOW_WIDTH, cut_window};
 use vp_base::{Place, Plane};
@@ -21,13 +18,13 @@ use vp_base::{Place, Plane};
 const SMALL_RANGE: u8 = 16;
 
 /// The least range for which the bounds of vectors are made: below it they cost more than they save.
-const LEAST_BOUNDED_RANGE: u8 = 8;
+const LEAST_BOUNDED_RANGE: u8 = 6;
 
 /// The number of pixels in the window of a search of the small range, and eight more, as pixels are loaded by eight.
 const SMALL_WINDOW: usize = (16 + 2 * SMALL_RANGE as usize) * WINDOW_WIDTH + 8;
 
 /// The number of pixels in the window of a search of the greatest range, and eight more.
-pub(crate) const WHOLE_WINDOW: usize = (16 + 2 * GREATEST_RANGE) * WINDOW_WIDTH + 8;
+const WHOLE_WINDOW: usize = (16 + 2 * GREATEST_RANGE) * WINDOW_WIDTH + 8;
 
 /// Searches all vectors of whole pixels whose row and column are from `-range` to `range`. Returns the one with the
 /// least sum of absolute differences for the source macroblock at `place`. Of equal costs the shortest vector is
@@ -89,7 +86,7 @@ fn search_in<const AREA: usize>(
     search_window(block, &window, range)
 }
 
-/// The best vector of a window.
+/// The best vector of a window. If the zero vector costs nothing, as on black bars, no other is better.
 fn search_window<const AREA: usize>(block: &[u8; 256], window: &[u8; AREA], range: u8) -> Found
     requires range { range ≤ 64 }
     requires room { (2 * range + 16) * WINDOW_WIDTH + 8 ≤ AREA }
@@ -99,67 +96,13 @@ fn search_window<const AREA: usize>(block: &[u8; 256], window: &[u8; AREA], rang
     ensures bytes { (k : ℕ) → slice_index window.now k ≤ 255 }
 {
     let centre = centre_of(block, window, range);
-    if let Some(best) = search_without_sums(block, window, range, centre) {
-        return best;
-    }
-    let mut sums = [0; AREA];
-    let mut coarse = [0; AREA];
-    fill_sums(&mut sums, &mut coarse, window, range, 0);
-    search_summed(block, window, &sums, &coarse, range, centre)
-}
-
-/// The best vector of a window, or None if bounds pay to find it. If the zero vector `centre` costs nothing, as on
-/// black bars, no other is better.
-pub(crate) fn search_without_sums(
-    block: &[u8],
-    window: &[u8],
-    range: u8,
-    centre: Found,
-) -> Option<Found>
-    requires block { 256 ≤ length block.now }
-    requires window { (2 * range + 16) * WINDOW_WIDTH ≤ length window.now }
-    requires range { range ≤ 64 }
-    requires found { IsFoundInWindow range (window_cost block.now window.now range) centre }
-    requires zero { vector_length centre.vector ≡ 0 }
-    ensures cost { IfSome result (λ best. best.cost ≡ window_cost block.now window.now range best.vector) }
-    ensures least { IfSome result (λ best. IsLeast range (window_cost block.now window.now range) best.vector) }
-{
     if centre.cost == 0 {
-        return Some(centre);
+        return centre;
     }
     if range < LEAST_BOUNDED_RANGE {
-        return Some(search_plainly(block, window, range, centre));
+        return search_plainly(block, window, range, centre);
     }
-    None
-}
-
-/// The best of a known vector and all others of a window, whose squares have the sums `sums` and the coarse sums
-/// `coarse`.
-pub(crate) fn search_summed(
-    block: &[u8],
-    window: &[u8],
-    sums: &[u16],
-    coarse: &[u8],
-    range: u8,
-    known: Found,
-) -> Found
-    requires block { 256 ≤ length block.now }
-    requires window { (2 * range + 16) * WINDOW_WIDTH ≤ length window.now }
-    requires sums { (2 * range + 16) * WINDOW_WIDTH ≤ length sums.now }
-    requires coarse_room { (2 * range + 16) * WINDOW_WIDTH ≤ length coarse.now }
-    requires range { range ≤ 64 }
-    requires summed { IsSummed window.now sums.now range }
-    requires coarse { AreCoarse ((2 * range + 9) * WINDOW_WIDTH) sums.now coarse.now }
-    requires known { IsFoundInWindow range (window_cost block.now window.now range) known }
-    ensures cost { result.cost ≡ window_cost block.now window.now range result.vector }
-    ensures least { IsLeast range (window_cost block.now window.now range) result.vector }
-{
-    let squares = block_sums(block);
-    let all = SquareSums {
-        block: squares,
-        window: sums,
-        coarse_block: coarse_block(squares),
-        coarse,
-    };
-    search_outwards(block, window, all, range, known)
+    let mut sums = [0; AREA];
+    fill_sums(&mut sums, window, range);
+    search_outwards(block, window, &sums, range, centre)
 }
