@@ -8,5 +8,6 @@ pub mod Below
 pub mod Frame
 pub mod Inter
 pub mod Searched
+pub mod Searchers
 pub mod Choice
 pub mod One

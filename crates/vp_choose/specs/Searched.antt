@@ -1,11 +1,19 @@
 -- Private to the crate: the motion that is found for a macroblock.
-use Rattle.std.specs.Prelude.{◌≡◌, false, Option, Some, None, MatchOption}
+use Rattle.std.specs.Prelude.{◌≡◌, true, false, Option, Some, None, MatchOption}
 use Rattle.vp_base.specs.declared.place.Place.{Place}
 use Rattle.vp_base.specs.Raster.{Raster}
 use Rattle.vp_head.specs.Reference.{is_intra}
+use Rattle.vp_search.specs.declared.vector.Refined.{Refined}
 use Rattle.vp_choose.specs.declared.motion.Moved.{Moved}
 use Rattle.vp_choose.specs.Frame.{Search}
-use Rattle.vp_choose.specs.Inter.{IsMoved, IsInSearchRange}
+use Rattle.vp_choose.specs.Inter.{IsFound, IsMoved, IsInSearchRange}
+
+-- the best vectors in the last frame, and in golden if that is searched
+pub record AreFound (s : Search) (source : Raster) (place : Place) (last : Refined) (golden : Option Refined)
+    : Type 0 where
+  pub in_last : IsFound s source s.references.last.luma place last
+  pub last_alone : s.golden ≡ false → golden ≡ None
+  pub golden_too : s.golden ≡ true → MatchOption golden ⊥ (IsFound s source s.references.golden.luma place)
 
 -- the best motion, which is short
 pub record IsBestMotion (s : Search) (source : Raster) (place : Place) (m : Moved) : Type 0 where

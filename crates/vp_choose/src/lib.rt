@@ -5,6 +5,7 @@ mod blocks;
 mod chroma;
 mod difference;
 mod frame;
+mod frame_chooser;
 mod kernel;
 mod laws;
 mod levels;
@@ -13,11 +14,13 @@ mod macroblock;
 mod motion;
 #[cfg(test)]
 mod order_tests;
+mod searchers;
 mod subblocks;
 #[cfg(test)]
 mod tests;
 mod tokens;
 
 pub use frame::{Choice, FrameSearch, Search};
+pub use frame_chooser::FrameChooser;
 pub use laws::choice_is_one;
 pub use macroblock::choose_macroblock;

@@ -245,7 +245,7 @@ fn choose_inter(
 }
 
 /// Chooses the coding of a macroblock whose motion is found, and rebuilds it.
-fn choose_by(
+pub(crate) fn choose_with_motion(
     frame: &FrameSearch,
     blocks: &Blocks,
     picture: &mut Picture,
@@ -316,5 +316,5 @@ pub fn choose_macroblock(
     let _known = [frame.source.dim(), picture.dim()];
     let blocks = cut_blocks(frame.source, place);
     let moved = find_motion(frame, &blocks.luma, place);
-    choose_by(frame, &blocks, picture, vectors, place, moved)
+    choose_with_motion(frame, &blocks, picture, vectors, place, moved)
 }

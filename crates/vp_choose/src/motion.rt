@@ -10,16 +10,20 @@ ghost use Rattle.vp_motion.specs.Near.{candidates};
 ghost use Rattle.vp_motion.specs.Spelled.{CanBeWritten};
 ghost use Rattle.vp_refs.specs.References.{reference_picture};
 ghost use Rattle.vp_intra.specs.Edges.{block as listed};
+ghost use Rattle.vp_search.specs.Blocks.{whole_cost, quarter_cost};
+ghost use Rattle.vp_search.specs.Differences.{block16};
+ghost use Rattle.vp_search.specs.Least.{IsLeast};
+ghost use Rattle.vp_search.specs.Vectors.{quarters};
 ghost use Rattle.vp_choose.specs.Costs.{block_pixels};
-ghost use Rattle.vp_choose.specs.Frame.{lent_frame, search_of, no_biases};
+ghost use Rattle.vp_choose.specs.Frame.{Search as SearchValue, lent_frame, search_of, no_biases};
 ghost use Rattle.vp_choose.specs.Inter.{IsFound, IsMoved, IsFirstGiving, IsInSearchRange, found_in, vector_of};
-ghost use Rattle.vp_choose.specs.Searched.{IsSearched};
+ghost use Rattle.vp_choose.specs.Searched.{AreFound, IsSearched};
 
 use crate::frame::{FrameSearch, Search};
 use vp_base::Place;
 use vp_head::{Reference, SignBiases};
 use vp_motion::{Candidates, Motion, Vector, VectorMap, near};
-use vp_search::{QuarterVector, Refined, quarters, refine_found, search_block};
+use vp_search::{Found, QuarterVector, Refined, quarters, refine_found, search_block};
 use vp_tables::VectorMode;
 
 /// A reference frame, the best vector found in it, and its cost.
@@ -28,6 +32,37 @@ pub(crate) struct Moved {
     pub(crate) reference: Reference,
     pub(crate) vector: QuarterVector,
     pub(crate) cost: u32,
+}
+
+/// Completes the search in one reference frame: refines its best vector in whole pixels, if the settings say so.
+pub(crate) fn refined(
+    search: &Search,
+    block: &[u8; 256],
+    reference: Reference,
+    place: Place,
+    whole: Found,
+) -> Refined
+    requires columns { 16 * place.column ≤ 16384 }
+    requires rows { 16 * place.row ≤ 16384 }
+    requires range { search.now.range ≤ 64 }
+    requires least { IsLeast search.now.range (whole_cost (block16 block.now)
+        (reference_picture search.now.references.now reference).luma place) whole.vector }
+    requires predicted { whole.cost ≡ quarter_cost (block16 block.now)
+        (reference_picture search.now.references.now reference).luma place (quarters whole.vector) }
+    ensures found { (source : Raster) → block.now ≡ listed 16 (block_pixels 16 source place)
+        → IsFound (search_of search.now) source
+        (reference_picture search.now.references.now reference).luma place result }
+    ensures short { IsInSearchRange result.vector }
+{
+    if search.subpel {
+        let picture = search.references.get(reference);
+        let _known = picture.dim();
+        return refine_found(block, picture.plane(0), place, whole);
+    }
+    Refined {
+        vector: quarters(whole.vector),
+        cost: whole.cost,
+    }
 }
 
 /// Finds the best vector in one reference frame for the luma `block` of the macroblock at `place`.
@@ -42,15 +77,8 @@ fn find(search: &Search, block: &[u8; 256], reference: Reference, place: Place) 
 {
     let picture = search.references.get(reference);
     let _known = picture.dim();
-    let plane = picture.plane(0);
-    let whole = search_block(block, plane, place, search.range);
-    if search.subpel {
-        return refine_found(block, plane, place, whole);
-    }
-    Refined {
-        vector: quarters(whole.vector),
-        cost: whole.cost,
-    }
+    let whole = search_block(block, picture.plane(0), place, search.range);
+    refined(search, block, reference, place, whole)
 }
 
 /// Adds the reference frame to a vector and its cost.
@@ -64,6 +92,23 @@ fn found_in(reference: Reference, found: Refined) -> Moved
     }
 }
 
+/// Returns the better of the vectors found in the last frame and in golden, which may be unsearched.
+pub(crate) fn better_of(last: Refined, golden: Option<Refined>) -> Moved
+    requires last { IsInSearchRange last.vector }
+    requires golden { IfSome golden (λ g. IsInSearchRange g.vector) }
+    ensures moved { (s : SearchValue) (source : Raster) (place : Place) → AreFound s source place last golden
+        → IsMoved s source place result }
+    ensures short { IsInSearchRange result.vector }
+    ensures inter { is_intra result.reference ≡ false }
+{
+    if let Some(golden) = golden {
+        if golden.cost < last.cost {
+            return found_in(Reference::Golden, golden);
+        }
+    }
+    found_in(Reference::Last, last)
+}
+
 /// Returns the reference frame and the vector with the least cost.
 pub(crate) fn choose_reference(search: &Search, block: &[u8; 256], place: Place) -> Moved
     requires columns { 16 * place.column ≤ 16384 }
@@ -75,13 +120,12 @@ pub(crate) fn choose_reference(search: &Search, block: &[u8; 256], place: Place)
     ensures inter { is_intra result.reference ≡ false }
 {
     let last = find(search, block, Reference::Last, place);
-    if search.golden {
-        let golden = find(search, block, Reference::Golden, place);
-        if golden.cost < last.cost {
-            return found_in(Reference::Golden, golden);
-        }
-    }
-    found_in(Reference::Last, last)
+    let golden = if search.golden {
+        Some(find(search, block, Reference::Golden, place))
+    } else {
+        None
+    };
+    better_of(last, golden)
 }
 
 /// Finds the motion of a macroblock with luma `block`; None in a key frame.

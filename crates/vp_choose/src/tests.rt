@@ -3,6 +3,7 @@
 use super::*;
 use std::alloc::Global;
 use std::rc::Rc;
+use std::test::Fail;
 use vp_base::{Dim, Limits, Picture, Place};
 use vp_head::Reference;
 use vp_motion::{Vector, VectorMap};
@@ -125,4 +126,32 @@ fn a_still_macroblock(rt: HostRuntime) {
         panic!(rt; "bytes");
     };
     assert!(rt; is_bright(&bytes));
+}
+
+/// Both reference frames are the source, and the range is large enough for searchers. Of equal costs the last frame's is chosen.
+#[test]
+fn a_still_frame(rt: HostRuntime) -> Result<(), Fail> {
+    let dim = Dim::new(32, 32, &Limits::usual())?;
+    let source = Picture::new(rt.alloc(), dim, 200)?;
+    let last = Picture::new(rt.alloc(), dim, 200)?;
+    let references = Refs::of_key(Rc::new(rt.alloc(), last)?)?;
+    let mut picture = Picture::new(rt.alloc(), dim, 0)?;
+    let vectors = VectorMap::new(rt.alloc(), dim)?;
+    let search = Search {
+        references: &references,
+        golden: true,
+        range: 16,
+        subpel: true,
+    };
+    let frame = FrameSearch {
+        source: &source,
+        factors: &FACTORS,
+        search: Some(search),
+    };
+    let mut chooser = FrameChooser::new(rt.alloc(), &frame);
+    let choice = chooser.choose(&mut picture, &vectors, TOP);
+    assert!(rt; choice.modes.reference == Reference::Last);
+    assert!(rt; choice.modes.skip);
+    assert!(rt; choice.motion.mode == VectorMode::Zero);
+    Ok(())
 }

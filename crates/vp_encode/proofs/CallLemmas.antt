@@ -21,7 +21,7 @@ use Rattle.vp_encode.specs.Encoder.{EncoderState}
 use Rattle.vp_encode.specs.Encoded.{initial_encoder, error_of, errors_of}
 use Rattle.vp_encode.specs.File.{packet_of}
 use Rattle.vp_encode.specs.Playing.{answers_from_state, shown}
-use Rattle.vp_encode.specs.Calls.{Call, IsForgotten, frame_with, Leaves, AreCalls, IsEncoderAfter, frames_of, error_by, errors_reported, ArePlayedBack, CallsArePlayedBack}
+use Rattle.vp_encode.specs.Calls.{Call, IsForgotten, frame_with, Leaves, AreCalls, IsEncoderAfter, frames_of, error_by, errors_reported, CallsArePlayedBack}
 
 -- ---- A packet that shows a picture over no state shows it over every state: it is a key packet.
 

@@ -10,7 +10,7 @@ ghost use Rattle.vp_encode.specs.FrameChoices.{AreChosen, AreChosenBefore, pictu
 
 use std::alloc::{AllocError, Global};
 use vp_base::{Grid, Picture, Place};
-use vp_choose::{Choice, FrameSearch, choose_macroblock};
+use vp_choose::{Choice, FrameChooser, FrameSearch};
 use vp_head::Reference;
 use vp_modes::Modes;
 use vp_motion::{Motion, Vector, VectorMap};
@@ -68,17 +68,17 @@ impl FrameChoices {
     }
 
     /// Chooses the macroblock at a place, and rebuilds it.
-    fn macroblock(&mut self, frame: &FrameSearch, place: Place)
+    fn macroblock(&mut self, chooser: &mut FrameChooser, place: Place)
         requires place { Has self.old.chosen place }
-        requires factors { ArePositive (lent_frame frame.now).factors }
-        requires range { IfSome (lent_frame frame.now).search (λ s. s.range ≤ 64) }
-        requires before { AreChosenBefore (lent_frame frame.now) place self.old }
-        ensures { AreChosenBefore (lent_frame frame.now) (record {
+        requires factors { ArePositive chooser.old.factors }
+        requires before { AreChosenBefore chooser.old place self.old }
+        ensures kept { chooser.new ≡ chooser.old }
+        ensures chosen { AreChosenBefore chooser.old (record {
           column = place.column + 1;
           row = place.row;
         }) self.new }
     {
-        let choice = choose_macroblock(frame, &mut self.picture, &self.motion, place);
+        let choice = chooser.choose(&mut self.picture, &self.motion, place);
         self.chosen.set(place, choice);
         let reference = choice.modes.reference;
         if reference.is_intra() {
@@ -90,15 +90,15 @@ impl FrameChoices {
     }
 
     /// Chooses a row of macroblocks.
-    fn row(&mut self, frame: &FrameSearch, row: usize)
+    fn row(&mut self, chooser: &mut FrameChooser, row: usize)
         requires row { row < self.old.chosen.rows }
-        requires factors { ArePositive (lent_frame frame.now).factors }
-        requires range { IfSome (lent_frame frame.now).search (λ s. s.range ≤ 64) }
-        requires before { AreChosenBefore (lent_frame frame.now) (place row 0) self.old }
-        ensures { AreChosenBefore (lent_frame frame.now) (place (row + 1) 0) self.new }
+        requires factors { ArePositive chooser.old.factors }
+        requires before { AreChosenBefore chooser.old (place row 0) self.old }
+        ensures kept { chooser.new ≡ chooser.old }
+        ensures chosen { AreChosenBefore chooser.old (place (row + 1) 0) self.new }
     {
         for column in 0..self.chosen.columns() {
-            self.macroblock(frame, Place { column, row });
+            self.macroblock(chooser, Place { column, row });
         }
     }
 }
@@ -115,8 +115,9 @@ pub(crate) fn choose_macroblocks(
     ensures rebuilt { IfOk result (λ r. r.1 ≡ picture_by (lent_frame frame.now) r.0) }
 {
     let mut choosing = FrameChoices::new(alloc, frame)?;
+    let mut chooser = FrameChooser::new(alloc, frame);
     for row in 0..choosing.chosen.rows() {
-        choosing.row(frame, row);
+        choosing.row(&mut chooser, row);
     }
     Ok((choosing.chosen, choosing.picture))
 }

@@ -7,3 +7,5 @@ pub mod RefinedLemmas
 pub mod BoundLemmas
 pub mod SumLanes
 pub mod CutLemmas
+pub mod SquareLemmas
+pub mod CoarseLemmas

@@ -114,6 +114,27 @@ quarter_cost-whole f p place v bytes =
     sum_of_differences-same 16 16 f f (moved_block p place v) (predicted_block p place (quarters v)) (λ r c h k. refl)
     (λ r c h k. predicted_whole p place v r c (bytes r c h k))
 
+-- ---- the best vector of a window that is filled
+
+-- the best vector of a reference, with its cost
+pub record IsBest (f : ℕ → ℕ → ℕ) (p : Raster) (place : Place) (range : ℕ) (best : Found) : Type 0 where
+  pub cost : best.cost ≡ whole_cost f p place best.vector
+  pub least : IsLeast range (whole_cost f p place) best.vector
+  pub predicted : best.cost ≡ quarter_cost f p place (quarters best.vector)
+
+pub best_whole : (block window : List ℕ) (p : Raster) (place : Place) (range : ℕ) (best : Found) → IsFilled window p place range → ((k : ℕ) → get_or window k 0 ≤ 255)
+    → best.cost ≡ window_cost block window range best.vector → IsLeast range (window_cost block window range) best.vector
+    → IsBest (block16 block) p place range best
+best_whole block window p place range best filled bytes known least =
+    let whole = window_cost-whole block window p place range in
+    let cost : best.cost ≡ whole_cost (block16 block) p place best.vector = known ∙ whole best.vector filled least.near in
+    record {
+      cost = cost;
+      least = least_same range (window_cost block window range) (whole_cost (block16 block) p place) best.vector (λ v near. whole v filled near) least;
+      predicted = cost ∙ quarter_cost-whole (block16 block) p place best.vector
+          (λ r c h k. subst (λ (n : ℕ). n ≤ 255) (window_pixel window p place range best.vector filled least.near r c h k) (bytes _));
+    }
+
 -- ---- a block that was cut
 
 pub whole_cost-same : (f g : ℕ → ℕ → ℕ) (p : Raster) (place : Place) (v : WholeVector) → ((r c : ℕ) → r < 16 → c < 16 → f r c ≡ g r c)

@@ -40,6 +40,11 @@ abbrev pub IsSummed : List ℕ → List ℕ → ℕ → Type 0
 IsSummed window sums range = (y x : ℕ) → y ≤ 2 * range + 8 → x ≤ 2 * range + 8
     → slice_index sums (y * WINDOW_WIDTH + x) ≡ square_sum window (y * WINDOW_WIDTH + x) WINDOW_WIDTH
 
+-- the list holds those of the first columns
+abbrev pub AreSummed : List ℕ → List ℕ → ℕ → ℕ → Type 0
+AreSummed window sums range columns = (y x : ℕ) → y ≤ 2 * range + 8 → x < columns
+    → slice_index sums (y * WINDOW_WIDTH + x) ≡ square_sum window (y * WINDOW_WIDTH + x) WINDOW_WIDTH
+
 -- eight bounds of the costs of the vectors from a row and column of a window on
 abbrev pub IsBound : List ℕ → List ℕ → ℕ → ℕ → ℕ → List ℕ → Type 0
 IsBound block window range i j bounds = (t : ℕ) → t < 8 → j + t ≤ 2 * range

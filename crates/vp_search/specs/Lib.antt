@@ -7,5 +7,8 @@ pub mod FirstLeast
 pub mod Refined
 pub mod Window
 pub mod Bounds
+pub mod Coarse
 pub mod Predicted
 pub mod Summed
+pub mod Kept
+pub mod Searcher

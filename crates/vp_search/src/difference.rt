@@ -10,12 +10,19 @@ pub fn sad16(a: &[u8; 256], b: &[u8; 256]) -> u32
     ensures value { result ≡ sum_of_differences 16 16 (block16 a.now) (block16 b.now) }
     ensures bound { result ≤ 65280 }
 {
-    sad_within(a, b, 0, 16, u32::MAX)
+    sad_within::<false>(a, b, 0, 16, u32::MAX)
 }
 
 /// The sum of absolute differences of a block and the one at index `at` of a window with rows of `stride` pixels. If
-/// the sum is above `limit`, returns some number above `limit`.
-pub(crate) fn sad_within(block: &[u8], window: &[u8], at: usize, stride: usize, limit: u32) -> u32
+/// the sum is above `limit`, returns some number above `limit`. With `SOON` it is compared after the first four rows too,
+/// which pays unless a bound has excluded most blocks that differ much.
+pub(crate) fn sad_within<const SOON: bool>(
+    block: &[u8],
+    window: &[u8],
+    at: usize,
+    stride: usize,
+    limit: u32,
+) -> u32
     requires block { 256 ≤ length block.now }
     requires window { at + 15 * stride + 16 ≤ length window.now }
     ensures exact { result ≤ limit → result ≡ sum_of_differences 16 16 (strided_block block.now 0 16)
@@ -25,6 +32,9 @@ pub(crate) fn sad_within(block: &[u8], window: &[u8], at: usize, stride: usize, 
     ensures bound { result ≤ 16 * 16 * 255 }
 {
     let first = four_rows(block, window, 0, 16, at, stride);
+    if SOON && first > limit {
+        return first;
+    }
     let second = first + four_rows(block, window, 4 * 16, 16, at + 4 * stride, stride);
     if second > limit {
         return second;

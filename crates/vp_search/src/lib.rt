@@ -2,13 +2,16 @@
 #![tactic(auto)]
 
 mod block;
+mod coarse;
 mod difference;
+mod kept;
 mod kernel;
 mod laws;
 mod least;
 mod outward;
 mod refinement;
 mod search;
+mod searcher;
 mod squares;
 mod sums;
 mod vector;
@@ -19,6 +22,7 @@ pub use difference::sad16;
 pub use laws::{least_vector_is_one, refined_vector_is_one, whole_vectors_are_predicted};
 pub use least::first_least;
 pub use refinement::{refine, refine_block, refine_found};
-pub use search::{full_search, search_block};
+pub use search::{LEAST_BOUNDED_RANGE, full_search, search_block};
+pub use searcher::Searcher;
 pub use squares::sse;
 pub use vector::{Found, QuarterVector, Refined, WholeVector, quarters};

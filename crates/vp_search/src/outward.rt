@@ -6,17 +6,24 @@ ghost use Rattle.std.specs.Prelude.{◌≡◌, ℕ, ◌+◌, ◌*◌, ◌<◌, �
 ghost use Rattle.vp_search.specs.Vectors.{vector_length, IsNear};
 ghost use Rattle.vp_search.specs.Least.{IsLeast, IsNoWorse};
 ghost use Rattle.vp_search.specs.Window.{vector_at, window_cost, IsFoundInWindow};
-ghost use Rattle.vp_search.specs.Bounds.{IsSummed, IsBound};
+ghost use Rattle.vp_search.specs.Bounds.{IsBound};
 ghost use Rattle.vp_search.specs.Summed.{IsSummedSearch};
 
 use crate::difference::sad_within;
-use crate::sums::{SquareSums, block_sums, next_within};
+use crate::sums::{SquareSums, WIDE_ROW, any_within, next_within};
 use crate::vector::{Found, vector_at, vector_length};
 use crate::window::WINDOW_WIDTH;
 use std::simd::prelude::*;
 
 /// The better of a known vector and the one at row `i` and column `j`.
-fn consider(block: &[u8], window: &[u8], range: u8, best: Found, i: usize, j: usize) -> Found
+fn consider<const SOON: bool>(
+    block: &[u8],
+    window: &[u8],
+    range: u8,
+    best: Found,
+    i: usize,
+    j: usize,
+) -> Found
     requires block { 256 ≤ length block.now }
     requires window { (2 * range + 16) * WINDOW_WIDTH ≤ length window.now }
     requires range { range ≤ 64 }
@@ -28,7 +35,8 @@ fn consider(block: &[u8], window: &[u8], range: u8, best: Found, i: usize, j: us
     ensures here { IsNoWorse result.cost result.vector (window_cost block.now window.now range (vector_at range i j))
         (vector_at range i j) }
 {
-    let cost = sad_within(block, window, i * WINDOW_WIDTH + j, WINDOW_WIDTH, best.cost);
+    let at = i * WINDOW_WIDTH + j;
+    let cost = sad_within::<SOON>(block, window, at, WINDOW_WIDTH, best.cost);
     if cost > best.cost {
         return best;
     }
@@ -106,7 +114,7 @@ fn consider_bounded(
     if bound == best.cost && vector_length(vector) > vector_length(best.vector) {
         return best;
     }
-    consider(block, window, range, best, place.row, place.column)
+    consider::<false>(block, window, range, best, place.row, place.column)
 }
 
 /// The best of a known vector and eight of a row, whose costs are at least `bounds`.
@@ -169,7 +177,39 @@ fn consider_eight(
     consider_each(block, window, range, best, spot, bounds.to_array())
 }
 
-/// The best of a known vector and those of row `i`.
+/// A search between two rows.
+#[derive(Clone, Copy)]
+struct Progress {
+    /// The best vector so far.
+    best: Found,
+    /// The number of rows that are searched without bounds.
+    plain: usize,
+}
+
+/// The number of rows that are searched without bounds after one in which many bounds were below the best cost, as in
+/// noise, where bounds cost more than they save. Whether they save more in other rows is seen again after these.
+const PLAIN_ROWS: usize = 7;
+
+/// 1 if one of eight bounds is below the best cost, else 0.
+fn below_best(bounds: u16x8, cost: u32) -> usize
+    ensures { result ≤ 1 }
+{
+    usize::from(cost > 0 && any_within(bounds, cost - 1))
+}
+
+/// The number of rows to search without bounds after a row in which this many groups of eight had a bound below the best
+/// cost.
+fn plain_rows(passed: usize, groups: usize) -> usize
+    ensures { result ≤ PLAIN_ROWS }
+{
+    if groups >= WIDE_ROW && passed > groups / 4 {
+        PLAIN_ROWS
+    } else {
+        0
+    }
+}
+
+/// The best of a known vector and those of row `i`, by their bounds.
 fn consider_row(
     block: &[u8],
     window: &[u8],
@@ -177,31 +217,65 @@ fn consider_row(
     range: u8,
     best: Found,
     i: usize,
-) -> Found
+) -> Progress
     requires block { 256 ≤ length block.now }
     requires window { (2 * range + 16) * WINDOW_WIDTH ≤ length window.now }
     requires range { range ≤ 64 }
     requires i { i ≤ 2 * range }
     requires sums { IsSummedSearch block.now window.now range sums }
     requires best { IsFoundInWindow range (window_cost block.now window.now range) best }
-    ensures kept { IsFoundInWindow range (window_cost block.now window.now range) result }
-    ensures old { IsNoWorse result.cost result.vector best.cost best.vector }
-    ensures here { (j : ℕ) → j ≤ 2 * range → IsNoWorse result.cost result.vector
+    ensures kept { IsFoundInWindow range (window_cost block.now window.now range) result.best }
+    ensures old { IsNoWorse result.best.cost result.best.vector best.cost best.vector }
+    ensures here { (j : ℕ) → j ≤ 2 * range → IsNoWorse result.best.cost result.best.vector
         (window_cost block.now window.now range (vector_at range i j)) (vector_at range i j) }
 {
     let groups = usize::from(range) / 4 + 1;
     let mut found = best;
     let mut g = 0;
+    let mut passed = 0;
     while g < groups {
         let (next, bounds) = next_within(sums, i * WINDOW_WIDTH, g, groups, found.cost);
         let spot = Spot {
             row: i,
             column: 8 * next,
         };
+        passed += below_best(bounds, found.cost);
         found = consider_eight(block, window, range, found, spot, bounds);
         g = next + 1;
     }
-    found
+    Progress {
+        best: found,
+        plain: plain_rows(passed, groups),
+    }
+}
+
+/// The best of a known vector and those of row `i`: by their bounds, or without.
+fn consider_next(
+    block: &[u8],
+    window: &[u8],
+    sums: SquareSums,
+    range: u8,
+    progress: Progress,
+    i: usize,
+) -> Progress
+    requires block { 256 ≤ length block.now }
+    requires window { (2 * range + 16) * WINDOW_WIDTH ≤ length window.now }
+    requires range { range ≤ 64 }
+    requires i { i ≤ 2 * range }
+    requires sums { IsSummedSearch block.now window.now range sums }
+    requires best { IsFoundInWindow range (window_cost block.now window.now range) progress.best }
+    ensures kept { IsFoundInWindow range (window_cost block.now window.now range) result.best }
+    ensures old { IsNoWorse result.best.cost result.best.vector progress.best.cost progress.best.vector }
+    ensures here { (j : ℕ) → j ≤ 2 * range → IsNoWorse result.best.cost result.best.vector
+        (window_cost block.now window.now range (vector_at range i j)) (vector_at range i j) }
+{
+    if progress.plain == 0 {
+        return consider_row(block, window, sums, range, progress.best, i);
+    }
+    Progress {
+        best: consider_plain_row::<false>(block, window, range, progress.best, i),
+        plain: progress.plain - 1,
+    }
 }
 
 /// The zero vector, whose block stands at the centre of the window, with its cost.
@@ -217,12 +291,18 @@ pub(crate) fn centre_of(block: &[u8], window: &[u8], range: u8) -> Found
     let at = middle * WINDOW_WIDTH + middle;
     Found {
         vector: vector_at(middle, middle, range),
-        cost: sad_within(block, window, at, WINDOW_WIDTH, u32::MAX),
+        cost: sad_within::<false>(block, window, at, WINDOW_WIDTH, u32::MAX),
     }
 }
 
 /// The best of a known vector and those of row `i`, one by one.
-fn consider_plain_row(block: &[u8], window: &[u8], range: u8, best: Found, i: usize) -> Found
+fn consider_plain_row<const SOON: bool>(
+    block: &[u8],
+    window: &[u8],
+    range: u8,
+    best: Found,
+    i: usize,
+) -> Found
     requires block { 256 ≤ length block.now }
     requires window { (2 * range + 16) * WINDOW_WIDTH ≤ length window.now }
     requires range { range ≤ 64 }
@@ -235,23 +315,30 @@ fn consider_plain_row(block: &[u8], window: &[u8], range: u8, best: Found, i: us
 {
     let mut found = best;
     for j in 0..2 * usize::from(range) + 1 {
-        found = consider(block, window, range, found, i, j);
+        found = consider::<SOON>(block, window, range, found, i, j);
     }
     found
 }
 
-/// The best of a known vector and all others of a window, one by one: for ranges in which bounds don't pay.
-pub(crate) fn search_plainly(block: &[u8], window: &[u8], range: u8, known: Found) -> Found
+/// The best vector of a window, one by one: where bounds don't pay, or their memory is not at hand. If the zero vector
+/// `centre` costs nothing, as on black bars, no other is better.
+pub(crate) fn search_plainly(block: &[u8], window: &[u8], range: u8, centre: Found) -> Found
     requires block { 256 ≤ length block.now }
     requires window { (2 * range + 16) * WINDOW_WIDTH ≤ length window.now }
     requires range { range ≤ 64 }
-    requires known { IsFoundInWindow range (window_cost block.now window.now range) known }
+    requires found { IsFoundInWindow range (window_cost block.now window.now range) centre }
+    requires zero { vector_length centre.vector ≡ 0 }
     ensures cost { result.cost ≡ window_cost block.now window.now range result.vector }
     ensures least { IsLeast range (window_cost block.now window.now range) result.vector }
 {
-    let mut best = known;
-    for i in 0..2 * usize::from(range) + 1 {
-        best = consider_plain_row(block, window, range, best, i);
+    if centre.cost == 0 {
+        return centre;
+    }
+    let middle = usize::from(range);
+    let mut best = consider_plain_row::<true>(block, window, range, centre, middle);
+    for d in 0..middle {
+        best = consider_plain_row::<true>(block, window, range, best, middle - 1 - d);
+        best = consider_plain_row::<true>(block, window, range, best, middle + 1 + d);
     }
     best
 }
@@ -260,28 +347,23 @@ pub(crate) fn search_plainly(block: &[u8], window: &[u8], range: u8, known: Foun
 pub(crate) fn search_outwards(
     block: &[u8],
     window: &[u8],
-    sums: &[u16],
+    sums: SquareSums,
     range: u8,
     known: Found,
 ) -> Found
     requires block { 256 ≤ length block.now }
     requires window { (2 * range + 16) * WINDOW_WIDTH ≤ length window.now }
-    requires sums { (2 * range + 16) * WINDOW_WIDTH ≤ length sums.now }
     requires range { range ≤ 64 }
-    requires summed { IsSummed window.now sums.now range }
+    requires sums { IsSummedSearch block.now window.now range sums }
     requires known { IsFoundInWindow range (window_cost block.now window.now range) known }
     ensures cost { result.cost ≡ window_cost block.now window.now range result.vector }
     ensures least { IsLeast range (window_cost block.now window.now range) result.vector }
 {
     let middle = usize::from(range);
-    let squares = SquareSums {
-        block: block_sums(block),
-        window: sums,
-    };
-    let mut best = consider_row(block, window, squares, range, known, middle);
+    let mut progress = consider_row(block, window, sums, range, known, middle);
     for d in 0..middle {
-        best = consider_row(block, window, squares, range, best, middle - 1 - d);
-        best = consider_row(block, window, squares, range, best, middle + 1 + d);
+        progress = consider_next(block, window, sums, range, progress, middle - 1 - d);
+        progress = consider_next(block, window, sums, range, progress, middle + 1 + d);
     }
-    best
+    progress.best
 }

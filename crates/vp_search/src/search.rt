@@ -1,15 +1,18 @@
 //! The full search over whole pixels.
 
-ghost use Rattle.std.specs.Prelude.{◌≡◌, ℕ, ◌+◌, ◌*◌, ◌<◌, ◌≤◌, slice_index};
-ghost use Rattle.vp_search.specs.Vectors.{quarters};
+ghost use Rattle.std.specs.Prelude.{◌≡◌, ℕ, ◌+◌, ◌*◌, ◌<◌, ◌≤◌, IfSome, length, slice_index};
+ghost use Rattle.vp_search.specs.Vectors.{quarters, vector_length};
 ghost use Rattle.vp_search.specs.Differences.{block16};
 ghost use Rattle.vp_search.specs.Blocks.{macroblock_pixels, whole_cost, quarter_cost};
 ghost use Rattle.vp_search.specs.Least.{IsLeast};
-ghost use Rattle.vp_search.specs.Window.{window_cost};
+ghost use Rattle.vp_search.specs.Bounds.{IsSummed};
+ghost use Rattle.vp_search.specs.Coarse.{AreCoarse};
+ghost use Rattle.vp_search.specs.Window.{window_cost, IsFoundInWindow};
 
 use crate::block::macroblock;
+use crate::coarse::coarse_block;
 use crate::outward::{centre_of, search_outwards, search_plainly};
-use crate::sums::fill_sums;
+use crate::sums::{SquareSums, block_sums, fill_sums};
 use crate::vector::Found;
 use crate::window::{GREATEST_RANGE, WINDOW_WIDTH, cut_window};
 use vp_base::{Place, Plane};
@@ -18,13 +21,13 @@ use vp_base::{Place, Plane};
 const SMALL_RANGE: u8 = 16;
 
 /// The least range for which the bounds of vectors are made: below it they cost more than they save.
-const LEAST_BOUNDED_RANGE: u8 = 6;
+pub const LEAST_BOUNDED_RANGE: u8 = 8;
 
 /// The number of pixels in the window of a search of the small range, and eight more, as pixels are loaded by eight.
 const SMALL_WINDOW: usize = (16 + 2 * SMALL_RANGE as usize) * WINDOW_WIDTH + 8;
 
 /// The number of pixels in the window of a search of the greatest range, and eight more.
-const WHOLE_WINDOW: usize = (16 + 2 * GREATEST_RANGE) * WINDOW_WIDTH + 8;
+pub(crate) const WHOLE_WINDOW: usize = (16 + 2 * GREATEST_RANGE) * WINDOW_WIDTH + 8;
 
 /// Searches all vectors of whole pixels whose row and column are from `-range` to `range`. Returns the one with the
 /// least sum of absolute differences for the source macroblock at `place`. Of equal costs the shortest vector is
@@ -57,22 +60,17 @@ pub fn search_block(block: &[u8; 256], reference: &Plane, place: Place, range: u
     ensures predicted { result.cost ≡ quarter_cost (block16 block.now) reference.now place (quarters result.vector) }
 {
     if range <= SMALL_RANGE {
-        search_in::<SMALL_WINDOW>(block, reference, place, range)
+        search_small(block, reference, place, range)
     } else {
-        search_in::<WHOLE_WINDOW>(block, reference, place, range)
+        search_wide(block, reference, place, range)
     }
 }
 
-/// Searches as `full_search` does, with a window of `AREA` pixels.
-fn search_in<const AREA: usize>(
-    block: &[u8; 256],
-    reference: &Plane,
-    place: Place,
-    range: u8,
-) -> Found
-    requires range { range ≤ 64 }
-    requires room { (2 * range + 16) * WINDOW_WIDTH + 8 ≤ AREA }
-    requires small { AREA ≤ WHOLE_WINDOW }
+/// Searches as `full_search` does within the small range. It isn't inlined: what it holds on the stack, `search_wide`
+/// needn't hold too.
+#[inline(never)]
+fn search_small(block: &[u8; 256], reference: &Plane, place: Place, range: u8) -> Found
+    requires range { range ≤ SMALL_RANGE }
     requires columns { 16 * place.column ≤ 16384 }
     requires rows { 16 * place.row ≤ 16384 }
     requires wide { 0 < reference.now.width }
@@ -81,28 +79,95 @@ fn search_in<const AREA: usize>(
     ensures least { IsLeast range (whole_cost (block16 block.now) reference.now place) result.vector }
     ensures predicted { result.cost ≡ quarter_cost (block16 block.now) reference.now place (quarters result.vector) }
 {
-    let mut window = [0; AREA];
+    let mut window = [0; SMALL_WINDOW];
     cut_window(&mut window, reference, place, range);
     search_window(block, &window, range)
 }
 
-/// The best vector of a window. If the zero vector costs nothing, as on black bars, no other is better.
-fn search_window<const AREA: usize>(block: &[u8; 256], window: &[u8; AREA], range: u8) -> Found
+/// Searches as `full_search` does, without bounds: the sums of a large window would take too much of a small stack.
+/// `Searcher` has them on the heap.
+#[inline(never)]
+fn search_wide(block: &[u8; 256], reference: &Plane, place: Place, range: u8) -> Found
     requires range { range ≤ 64 }
-    requires room { (2 * range + 16) * WINDOW_WIDTH + 8 ≤ AREA }
-    requires small { AREA ≤ WHOLE_WINDOW }
+    requires columns { 16 * place.column ≤ 16384 }
+    requires rows { 16 * place.row ≤ 16384 }
+    requires wide { 0 < reference.now.width }
+    requires high { 0 < reference.now.height }
+    ensures cost { result.cost ≡ whole_cost (block16 block.now) reference.now place result.vector }
+    ensures least { IsLeast range (whole_cost (block16 block.now) reference.now place) result.vector }
+    ensures predicted { result.cost ≡ quarter_cost (block16 block.now) reference.now place (quarters result.vector) }
+{
+    let mut window = [0; WHOLE_WINDOW];
+    cut_window(&mut window, reference, place, range);
+    let centre = centre_of(block, &window, range);
+    search_plainly(block, &window, range, centre)
+}
+
+/// The best vector of a small window.
+fn search_window(block: &[u8; 256], window: &[u8; SMALL_WINDOW], range: u8) -> Found
+    requires range { range ≤ SMALL_RANGE }
     ensures cost { result.cost ≡ window_cost block.now window.now range result.vector }
     ensures least { IsLeast range (window_cost block.now window.now range) result.vector }
     ensures bytes { (k : ℕ) → slice_index window.now k ≤ 255 }
 {
     let centre = centre_of(block, window, range);
-    if centre.cost == 0 {
-        return centre;
+    if let Some(best) = search_without_sums(block, window, range, centre) {
+        return best;
     }
-    if range < LEAST_BOUNDED_RANGE {
-        return search_plainly(block, window, range, centre);
+    let mut sums = [0; SMALL_WINDOW];
+    let mut coarse = [0; SMALL_WINDOW];
+    fill_sums(&mut sums, &mut coarse, window, range, 0);
+    search_summed(block, window, &sums, &coarse, range, centre)
+}
+
+/// The best vector of a window, or None if bounds pay to find it: not if the zero vector `centre` costs nothing.
+pub(crate) fn search_without_sums(
+    block: &[u8],
+    window: &[u8],
+    range: u8,
+    centre: Found,
+) -> Option<Found>
+    requires block { 256 ≤ length block.now }
+    requires window { (2 * range + 16) * WINDOW_WIDTH ≤ length window.now }
+    requires range { range ≤ 64 }
+    requires found { IsFoundInWindow range (window_cost block.now window.now range) centre }
+    requires zero { vector_length centre.vector ≡ 0 }
+    ensures cost { IfSome result (λ best. best.cost ≡ window_cost block.now window.now range best.vector) }
+    ensures least { IfSome result (λ best. IsLeast range (window_cost block.now window.now range) best.vector) }
+{
+    if centre.cost == 0 || range < LEAST_BOUNDED_RANGE {
+        return Some(search_plainly(block, window, range, centre));
     }
-    let mut sums = [0; AREA];
-    fill_sums(&mut sums, window, range);
-    search_outwards(block, window, &sums, range, centre)
+    None
+}
+
+/// The best of a known vector and all others of a window, whose squares have the sums `sums` and the coarse sums
+/// `coarse`.
+pub(crate) fn search_summed(
+    block: &[u8],
+    window: &[u8],
+    sums: &[u16],
+    coarse: &[u8],
+    range: u8,
+    known: Found,
+) -> Found
+    requires block { 256 ≤ length block.now }
+    requires window { (2 * range + 16) * WINDOW_WIDTH ≤ length window.now }
+    requires sums { (2 * range + 16) * WINDOW_WIDTH ≤ length sums.now }
+    requires coarse_room { (2 * range + 16) * WINDOW_WIDTH ≤ length coarse.now }
+    requires range { range ≤ 64 }
+    requires summed { IsSummed window.now sums.now range }
+    requires coarse { AreCoarse ((2 * range + 9) * WINDOW_WIDTH) sums.now coarse.now }
+    requires known { IsFoundInWindow range (window_cost block.now window.now range) known }
+    ensures cost { result.cost ≡ window_cost block.now window.now range result.vector }
+    ensures least { IsLeast range (window_cost block.now window.now range) result.vector }
+{
+    let squares = block_sums(block);
+    let all = SquareSums {
+        block: squares,
+        window: sums,
+        coarse_block: coarse_block(squares),
+        coarse,
+    };
+    search_outwards(block, window, all, range, known)
 }

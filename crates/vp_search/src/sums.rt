@@ -4,10 +4,17 @@
 ghost use Rattle.std.specs.Prelude.{◌≡◌, ℕ, ◌+◌, ◌-◌, ◌*◌, ◌<◌, ◌≤◌, [], ◌∷◌, length, slice_index, false};
 ghost use Rattle.std.specs.Int.{abs_diff};
 ghost use Rattle.vp_search.specs.Sums.{sum_below};
-ghost use Rattle.vp_search.specs.Bounds.{capped, column_sum, row_sum, square_sum, block_sums, bound_of, IsSummed};
+ghost use Rattle.vp_search.specs.Bounds.{capped, column_sum, row_sum, square_sum, block_sums, bound_of};
+ghost use Rattle.vp_search.specs.Bounds.{IsSummed, AreSummed};
+ghost use Rattle.vp_search.specs.Coarse.{AreCoarse};
 
+use crate::coarse::{coarse_lanes, next_coarse, store_coarse};
 use crate::window::WINDOW_WIDTH;
 use std::simd::prelude::*;
+
+/// The least number of groups of eight vectors in a row for which coarse bounds come first, and for which rows can be
+/// searched without bounds: in a shorter row neither pays.
+pub(crate) const WIDE_ROW: usize = 8;
 
 /// The number of column sums of a row, and eight more.
 const COLUMNS: usize = WINDOW_WIDTH + 8;
@@ -19,6 +26,10 @@ pub(crate) struct SquareSums<'a> {
     pub(crate) block: [u16; 4],
     /// Those of the squares at each place of the window.
     pub(crate) window: &'a [u16],
+    /// Coarse sums of the squares of the block.
+    pub(crate) coarse_block: [u8; 4],
+    /// Coarse sums of the squares at each place of the window.
+    pub(crate) coarse: &'a [u8],
 }
 
 /// Loads eight bytes from index `at` on.
@@ -149,33 +160,43 @@ fn slide_columns(columns: &mut [u16], pixels: &[u8], at: usize, step: usize, gro
     }
 }
 
-/// Writes the sums of eight neighbours each to index `at`, eight at a time.
-fn put_squares(sums: &mut [u16], at: usize, columns: &[u16], groups: usize)
+/// Writes the sums of eight neighbours each, and their coarse sums, to index `at`, eight at a time.
+fn put_squares(sums: &mut [u16], coarse: &mut [u8], at: usize, columns: &[u16], groups: usize)
     requires room { at + 8 * groups ≤ length sums.old }
+    requires coarse_room { at + 8 * groups ≤ length coarse.old }
     requires columns { 8 * groups + 8 ≤ length columns.now }
     ensures here { (x : ℕ) → x < 8 * groups → slice_index sums.new (at + x) ≡ row_sum columns.now x }
     ensures before { (k : ℕ) → k < at → slice_index sums.new k ≡ slice_index sums.old k }
+    ensures after { (k : ℕ) → at + 8 * groups ≤ k → slice_index sums.new k ≡ slice_index sums.old k }
+    ensures coarse { (n : ℕ) → AreCoarse n sums.old coarse.old → AreCoarse n sums.new coarse.new }
 {
     for g in 0..groups {
-        store_sums(sums, at + 8 * g, row_sums(columns, 8 * g));
+        let squares = row_sums(columns, 8 * g);
+        store_sums(sums, at + 8 * g, squares);
+        store_coarse(coarse, at + 8 * g, coarse_lanes(squares));
     }
 }
 
-/// Writes the sums of the squares of a window that a search compares.
-pub(crate) fn fill_sums(sums: &mut [u16], window: &[u8], range: u8)
+/// Writes the sums of the squares of a window that a search compares, and their coarse sums, from column `first` on.
+/// Those before stand already.
+pub(crate) fn fill_sums(sums: &mut [u16], coarse: &mut [u8], window: &[u8], range: u8, first: usize)
     requires range { range ≤ 64 }
     requires room { (2 * range + 16) * WINDOW_WIDTH ≤ length sums.old }
+    requires coarse_room { (2 * range + 16) * WINDOW_WIDTH ≤ length coarse.old }
     requires window { (2 * range + 16) * WINDOW_WIDTH + 8 ≤ length window.now }
-    ensures { IsSummed window.now sums.new range }
+    requires first { first ≤ 2 * range + 9 }
+    requires known { AreSummed window.now sums.old range first }
+    ensures sums { IsSummed window.now sums.new range }
+    ensures coarse { (n : ℕ) → AreCoarse n sums.old coarse.old → AreCoarse n sums.new coarse.new }
 {
-    let groups = usize::from(range) / 4 + 2;
+    let groups = (2 * usize::from(range) + 16 - first) / 8;
     let mut columns = [0; COLUMNS];
-    put_columns(&mut columns, window, 0, WINDOW_WIDTH, groups + 1);
-    put_squares(sums, 0, &columns, groups);
+    put_columns(&mut columns, window, first, WINDOW_WIDTH, groups + 1);
+    put_squares(sums, coarse, first, &columns, groups);
     for y in 0..2 * usize::from(range) + 8 {
-        let at = y * WINDOW_WIDTH;
+        let at = y * WINDOW_WIDTH + first;
         slide_columns(&mut columns, window, at, WINDOW_WIDTH, groups + 1);
-        put_squares(sums, at + WINDOW_WIDTH, &columns, groups);
+        put_squares(sums, coarse, at + WINDOW_WIDTH, &columns, groups);
     }
 }
 
@@ -226,7 +247,7 @@ fn bounds_at(block: [u16; 4], sums: &[u16], at: usize) -> u16x8
 }
 
 /// Whether a bound is within the limit.
-fn any_within(bounds: u16x8, limit: u32) -> bool
+pub(crate) fn any_within(bounds: u16x8, limit: u32) -> bool
     ensures { result ≡ false → (j : ℕ) → j < 8 → limit < slice_index bounds j }
 {
     let most = limit.min(65535) as u16;
@@ -234,7 +255,7 @@ fn any_within(bounds: u16x8, limit: u32) -> bool
 }
 
 /// The first group of eight vectors, from group `start` on, that has a bound within the limit, with its bounds. Returns
-/// `groups`, and any bounds, if there is none. The blocks of the first group begin at index `at` and after it.
+/// `groups`, and the greatest bounds, if there is none. The blocks of the first group begin at index `at` and after it.
 pub(crate) fn next_within(
     sums: SquareSums,
     at: usize,
@@ -243,7 +264,10 @@ pub(crate) fn next_within(
     limit: u32,
 ) -> (usize, u16x8)
     requires room { at + 8 * groups + 8 * WINDOW_WIDTH + 8 ≤ length sums.window.now }
+    requires coarse_room { at + 8 * groups + 8 * WINDOW_WIDTH + 16 ≤ length sums.coarse.now }
     requires start { start ≤ groups }
+    requires block { AreCoarse 4 sums.block sums.coarse_block }
+    requires coarse { AreCoarse (at + 8 * groups + 8 * WINDOW_WIDTH + 8) sums.window.now sums.coarse.now }
     ensures later { start ≤ result.0 }
     ensures bound { result.0 ≤ groups }
     ensures skipped { (g t : ℕ) → start ≤ g → g < result.0 → t < 8
@@ -251,11 +275,18 @@ pub(crate) fn next_within(
     ensures bounds { result.0 < groups → (t : ℕ) → t < 8 → slice_index result.1 t
         ≡ bound_of sums.entry.block sums.entry.window.now (at + 8 * result.0 + t) }
 {
-    for g in start..groups {
-        let bounds = bounds_at(sums.block, sums.window, at + 8 * g);
-        if any_within(bounds, limit) {
-            return (g, bounds);
+    let mut g = start;
+    while g < groups {
+        if groups >= WIDE_ROW {
+            g = next_coarse(sums, at, g, groups, limit);
+        }
+        if g < groups {
+            let bounds = bounds_at(sums.block, sums.window, at + 8 * g);
+            if any_within(bounds, limit) {
+                return (g, bounds);
+            }
+            g += 1;
         }
     }
-    (groups, u16x8::splat(0))
+    (groups, u16x8::splat(u16::MAX))
 }

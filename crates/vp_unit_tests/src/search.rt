@@ -1,15 +1,16 @@
 //! Tests of vp_search: where blocks are found, and how ties are broken.
 
-ghost use Rattle.std.specs.Prelude.{◌≡◌, ◌<◌, length};
+ghost use Rattle.std.specs.Prelude.{◌≡◌, ◌<◌, ◌≤◌, length};
 ghost use Rattle.vp_search.specs.Vectors.{IsNear};
 
 use crate::check::equal;
+use std::alloc::{AllocError, Global};
 use std::test::Fail;
 use vp_base::{Place, Plane};
 use vp_inter::{luma_vector, predict_block16};
 use vp_search::{
-    Found, QuarterVector, Refined, WholeVector, first_least, full_search, refine, refine_found,
-    sad16, search_block, sse,
+    Found, QuarterVector, Refined, Searcher, WholeVector, first_least, full_search, refine,
+    refine_found, sad16, search_block, sse,
 };
 
 /// Returns a pseudo-random number for each column and row.
@@ -324,4 +325,70 @@ fn sums_are_the_plain_ones(rt: HostRuntime) {
     equal(&rt, &first_wrong_length(&a, &b), &None);
     equal(&rt, &sse(&[0, 3], &[5, 1]), &29);
     equal(&rt, &first_least(&[7, 2, 5, 2]), &1);
+}
+
+/// Fills a plane of 53 by 37 with noise.
+fn fill_odd(plane: &mut Plane) {
+    for y in 0..37 {
+        for x in 0..53 {
+            if x < plane.width() && y < plane.height() {
+                plane.set(x, y, noise(x, y));
+            }
+        }
+    }
+}
+
+/// The block of noise that is `down` rows and `right` columns from a macroblock's place.
+fn noise_at(place: Place, down: usize, right: usize) -> [u8; 256] {
+    let left = place.column.wrapping_mul(16).wrapping_add(right);
+    let top = place.row.wrapping_mul(16).wrapping_add(down);
+    let mut block = [0; 256];
+    for i in 0..256 {
+        block[i] = noise(left.wrapping_add(i % 16), top.wrapping_add(i / 16));
+    }
+    block
+}
+
+/// The place at a step of a walk: along two rows, the last place again, then back to the first row.
+fn stop(step: usize) -> Place
+    ensures column { result.column ≤ 3 }
+    ensures row { result.row ≤ 1 }
+{
+    let (column, row) = match step {
+        0..=7 => (step % 4, step / 4),
+        8 => (3, 1),
+        9 => (1, 0),
+        _ => (3, 0),
+    };
+    Place { column, row }
+}
+
+/// Whether a searcher finds the same as `search_block` at each step of a walk. At one of them, the block stands still.
+fn is_same_along(alloc: Global, reference: &Plane, range: u8) -> Result<bool, AllocError> {
+    if reference.width() == 0 || reference.height() == 0 || range > 64 {
+        return Ok(false);
+    }
+    let mut searcher = Searcher::new(alloc, reference, range)?;
+    for step in 0..11 {
+        let place = stop(step);
+        let moved = if step == 1 { 0 } else { step + 1 };
+        let block = noise_at(place, moved % 3, moved);
+        if searcher.search(&block, place) != search_block(&block, reference, place, range) {
+            return Ok(false);
+        }
+    }
+    Ok(true)
+}
+
+/// A searcher keeps sums from one macroblock to the next, and finds what a search from nothing does.
+#[test]
+fn kept_sums_are_the_same(rt: HostRuntime) -> Result<(), Fail> {
+    let mut reference = Plane::new(rt.alloc(), 53, 37, 0)?;
+    fill_odd(&mut reference);
+    assert!(rt; is_same_along(rt.alloc(), &reference, 7)?);
+    assert!(rt; is_same_along(rt.alloc(), &reference, 8)?);
+    assert!(rt; is_same_along(rt.alloc(), &reference, 16)?);
+    assert!(rt; is_same_along(rt.alloc(), &reference, 17)?);
+    assert!(rt; is_same_along(rt.alloc(), &reference, 64)?);
+    Ok(())
 }

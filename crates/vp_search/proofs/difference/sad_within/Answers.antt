@@ -2,14 +2,17 @@ use Rattle.std.proofs.Common.{arith}
 use Rattle.vp_search.proofs.RowLemmas.{by_fours}
 use Rattle.vp_search.proofs.difference.sad_within.Goals as goal
 
+pub returns-then-first-limit-clause-over : goal.returns-then-first-limit-clause-over
+returns-then-first-limit-clause-over g c h = let e = by_fours c.args.block.now c.args.window.now c.args.at c.args.stride in omega (arith, c.four_rows-first.ensures.value)
+
 pub returns-then-second-limit-clause-over : goal.returns-then-second-limit-clause-over
-returns-then-second-limit-clause-over c h = let e = by_fours c.args.block.now c.args.window.now c.args.at c.args.stride in omega (arith, c.four_rows-first.ensures.value, c.four_rows.ensures.value)
+returns-then-second-limit-clause-over g c h = let e = by_fours c.args.block.now c.args.window.now c.args.at c.args.stride in omega (arith, c.four_rows-first.ensures.value, c.four_rows.ensures.value)
 
 pub returns-then-third-limit-clause-over : goal.returns-then-third-limit-clause-over
-returns-then-third-limit-clause-over c h = let e = by_fours c.args.block.now c.args.window.now c.args.at c.args.stride in omega (arith, c.four_rows-first.ensures.value, c.four_rows.ensures.value, c.four_rows-2.ensures.value)
+returns-then-third-limit-clause-over g c h = let e = by_fours c.args.block.now c.args.window.now c.args.at c.args.stride in omega (arith, c.four_rows-first.ensures.value, c.four_rows.ensures.value, c.four_rows-2.ensures.value)
 
 pub returns-clause-exact : goal.returns-clause-exact
-returns-clause-exact c h = let e = by_fours c.args.block.now c.args.window.now c.args.at c.args.stride in omega (arith, c.four_rows-first.ensures.value, c.four_rows.ensures.value, c.four_rows-2.ensures.value, c.four_rows-3.ensures.value)
+returns-clause-exact g c h = let e = by_fours c.args.block.now c.args.window.now c.args.at c.args.stride in omega (arith, c.four_rows-first.ensures.value, c.four_rows.ensures.value, c.four_rows-2.ensures.value, c.four_rows-3.ensures.value)
 
 pub returns-clause-over : goal.returns-clause-over
-returns-clause-over c h = let e = by_fours c.args.block.now c.args.window.now c.args.at c.args.stride in omega (arith, c.four_rows-first.ensures.value, c.four_rows.ensures.value, c.four_rows-2.ensures.value, c.four_rows-3.ensures.value)
+returns-clause-over g c h = let e = by_fours c.args.block.now c.args.window.now c.args.at c.args.stride in omega (arith, c.four_rows-first.ensures.value, c.four_rows.ensures.value, c.four_rows-2.ensures.value, c.four_rows-3.ensures.value)

@@ -4,19 +4,19 @@ use Rattle.vp_search.proofs.WindowLemmas.{cost_at, kept_at, taken_at, kept_of}
 use Rattle.vp_search.proofs.outward.consider.Goals as goal
 
 pub returns-then-cost-best-clause-here : goal.returns-then-cost-best-clause-here
-returns-then-cost-best-clause-here c =
+returns-then-cost-best-clause-here g c =
     let over = c.sad_within-cost.ensures.over c.if-cost-best.true in
     let at = cost_at c.args.block.now c.args.window.now c.args.range c.args.i c.args.j in
     less_cost _ _ _ _ (omega arith)
 
 pub returns-clause-kept : goal.returns-clause-kept
-returns-clause-kept c =
+returns-clause-kept g c =
     kept_of _ _ c.args.best (record { vector = c.vector_at.result; cost = c.sad_within-cost.result }) c.lesser.result c.requires.best
     (kept_at c.args.block.now c.args.window.now c.args.range c.args.i c.args.j c.sad_within-cost.result c.vector_at.result c.requires.i c.requires.j c.vector_at.ensures
     (c.sad_within-cost.ensures.exact c.if-cost-best.false))
     c.lesser.ensures.one
 
 pub returns-clause-here : goal.returns-clause-here
-returns-clause-here c =
+returns-clause-here g c =
     taken_at c.args.block.now c.args.window.now c.args.range c.args.i c.args.j c.lesser.result.cost c.sad_within-cost.result c.lesser.result.vector c.vector_at.result c.vector_at.ensures
     (c.sad_within-cost.ensures.exact c.if-cost-best.false) c.lesser.ensures.new

@@ -21,7 +21,13 @@ loop-g-preserved c =
     let f : Found = c.loop-g.found in let g : Found = c.consider_eight-found.result in
     let inv = c.loop-g.invariant in
     let step = c.consider_eight-found.ensures in
+    let next = c.next_within-next.ensures.later in
+    let last = c.next_within-next.ensures.bound in
+    let counted = inv.few in
+    let one = c.below_best-passed.ensures in
     record {
+      few = omega arith;
+      within = omega arith;
       kept = step.kept;
       old = along g.cost g.vector f.cost f.vector c.args.best.cost c.args.best.vector step.old inv.old;
       here = λ q h within. elim (cases_lt q j) [

@@ -9,9 +9,9 @@ use Rattle.vp_search.proofs.outward.search_outwards.Goals as goal
 pub loop-d-preserved : goal.loop-d-preserved
 loop-d-preserved c =
     let b = c.args.block.now in let w = c.args.window.now in let r = c.args.range in let d = c.loop-d.d in
-    let f : Found = c.loop-d.best in let g : Found = c.consider_row-best-in-loop-d.result in let h : Found = c.consider_row-best-in-loop-d-2.result in
+    let f : Found = c.loop-d.progress.best in let g : Found = c.consider_next-progress.result.best in let h : Found = c.consider_next-progress-in-loop-d.result.best in
     let m : c.from-middle.result ≡ r = c.from-middle.ensures in
-    let one = c.consider_row-best-in-loop-d.ensures in let two = c.consider_row-best-in-loop-d-2.ensures in
+    let one = c.consider_next-progress.ensures in let two = c.consider_next-progress-in-loop-d.ensures in
     let inv = c.loop-d.invariant in
     record {
       kept = two.kept;
@@ -32,5 +32,5 @@ returns-clause-least c =
     let r = c.args.range in
     let m : c.from-middle.result ≡ r = c.from-middle.ensures in
     let t = c.loop-d-test.false in
-    least_of_all r (window_cost c.args.block.now c.args.window.now r) c.loop-d.best c.loop-d.invariant.kept
+    least_of_all r (window_cost c.args.block.now c.args.window.now r) c.loop-d.progress.best c.loop-d.invariant.kept
     (λ i j high wide. c.loop-d.invariant.seen i j (omega arith) (omega arith) wide)

@@ -1,11 +1,11 @@
-use Rattle.std.proofs.Common.{ℕ, ◌*◌, ◌<◌, ◌≤◌}
+use Rattle.std.proofs.Common.{ℕ, ◌+◌, ◌*◌, ◌≤◌}
 use Rattle.vp_search.specs.Least.{IsNoWorse}
 use Rattle.vp_search.specs.Window.{IsFoundInWindow, window_cost, vector_at}
 use Rattle.vp_search.proofs.outward.search_plainly.Given as goal
 
-abbrev pub invariant-loop-i : goal.invariant-loop-i
-invariant-loop-i l = record {
+abbrev pub invariant-loop-d : goal.invariant-loop-d
+invariant-loop-d l = record {
   kept : IsFoundInWindow l.range (window_cost l.block l.window l.range) l.best;
-  seen : (i j : ℕ) → i < l.i → j ≤ 2 * l.range
+  seen : (i j : ℕ) → l.range ≤ i + l.d → i ≤ l.range + l.d → j ≤ 2 * l.range
       → IsNoWorse l.best.cost l.best.vector (window_cost l.block l.window l.range (vector_at l.range i j)) (vector_at l.range i j);
 }

@@ -1,9 +1,10 @@
-use Rattle.std.proofs.Common.{sym, ◌∙◌}
-use Rattle.vp_search.specs.Window.{window_cost}
-use Rattle.vp_search.proofs.OrderLemmas.{zero_least}
+use Rattle.std.proofs.Common.{ℕ, ◌+◌, ◌*◌}
+use Rattle.vp_search.specs.declared.window.TheConstants.{WINDOW_WIDTH}
+use Rattle.vp_search.specs.declared.search.TheConstants.{SMALL_WINDOW}
+use Rattle.vp_search.proofs.CoarseLemmas.{none_coarse}
 use Rattle.vp_search.proofs.search.search_window.Goals as goal
 
-pub returns-then-centre-eq0-clause-least : goal.returns-then-centre-eq0-clause-least
-returns-then-centre-eq0-clause-least g c =
-    let free = sym c.centre_of-centre.ensures.found.known ∙ c.if-centre-eq0.true in
-    zero_least c.args.range (window_cost c.args.block.now c.args.window.now c.args.range) c.centre_of-centre.result.vector c.centre_of-centre.ensures.zero free
+pub search_summed-requires-clause-coarse : goal.search_summed-requires-clause-coarse
+search_summed-requires-clause-coarse c k h =
+    let n : ℕ = (2 * c.args.range + 9) * WINDOW_WIDTH in
+    c.fill_sums.ensures.coarse n (none_coarse n SMALL_WINDOW) k h

@@ -1,0 +1,112 @@
+-- The sums of the squares of a window, row by row, and of the window of another place.
+use Rattle.std.proofs.Common.{◌≡◌, ℕ, ◌+◌, ◌-◌, ◌*◌, ◌<◌, ◌≤◌, List, get_or, sym, ap, ap₂, ◌∙◌, inl, inr, arith, pos, ◌-ℤ◌, length, rules}
+use Rattle.std.proofs.lemmas.Bool.{cases_lt}
+use Rattle.std.proofs.lemmas.List.{places}
+use Rattle.std.proofs.lemmas.Simd.{get_or-chunk}
+use borrow.Rule.Slice.PartMut.{put_mid, mid_of}
+use Rattle.vp_base.specs.declared.place.Place.{Place}
+use Rattle.vp_base.specs.Raster.{Raster}
+use Rattle.vp_inter.specs.Inter.{reference_pixel}
+use Rattle.vp_search.specs.declared.window.TheConstants.{WINDOW_WIDTH}
+use Rattle.vp_search.specs.Sums.{sum_below}
+use Rattle.vp_search.specs.Window.{searched_pixel}
+use Rattle.vp_search.specs.Bounds.{capped, column_sum, row_sum, square_sum, IsSummed, AreSummed}
+use Rattle.vp_search.specs.declared.kept.TheConstants.{SLIDE}
+use Rattle.vp_search.specs.declared.kept.Kept.{Kept}
+use Rattle.vp_search.specs.Kept.{searched_square, AreKept}
+use Rattle.vp_search.proofs.SumLemmas.{sum_below-same}
+use Rattle.vp_search.proofs.SumLanes.{row_is_square}
+use Rattle.vp_search.proofs.WindowLemmas.{IsFilled}
+
+-- the sums of the first rows, and those of the first columns of all rows
+pub record Rows (window sums : List ℕ) (range first rows : ℕ) : Type 0 where
+  pub made : (y x : ℕ) → y < rows → x ≤ 2 * range + 8 → get_or sums (y * WINDOW_WIDTH + x) 0 ≡ square_sum window (y * WINDOW_WIDTH + x) WINDOW_WIDTH
+  pub known : AreSummed window sums range first
+
+-- none of the rows
+pub no_rows : (window sums : List ℕ) (range first : ℕ) → AreSummed window sums range first → Rows window sums range first 0
+no_rows window sums range first known = record { made = λ y x h k. absurd (omega arith); known = known }
+
+-- one row more
+pub row_more : (window old new columns : List ℕ) (range first i n at : ℕ) → Rows window old range first i → at ≡ i * WINDOW_WIDTH + first
+    → i ≤ 2 * range + 8 → first + 8 * n ≤ WINDOW_WIDTH → 2 * range + 9 ≤ first + 8 * n
+    → ((x : ℕ) → x < 8 * (n + 1) → get_or columns x 0 ≡ column_sum window (at + x) WINDOW_WIDTH)
+    → ((x : ℕ) → x < 8 * n → get_or new (at + x) 0 ≡ row_sum columns x)
+    → ((k : ℕ) → k < at → get_or new k 0 ≡ get_or old k 0)
+    → ((k : ℕ) → at + 8 * n ≤ k → get_or new k 0 ≡ get_or old k 0)
+    → Rows window new range first (i + 1)
+row_more window old new columns range first i n at done e within fits wide all here before after = record {
+  made = λ y x h k. elim (cases_lt y i) [
+    | inl less ↦ before (y * WINDOW_WIDTH + x) (omega arith) ∙ done.made y x less k
+    | inr more ↦ elim (cases_lt x first) [
+      | inl known ↦ before (y * WINDOW_WIDTH + x) (omega arith) ∙ done.known y x (omega arith) known
+      | inr new_one ↦
+          let j : ℕ = x - first in
+          let place : y * WINDOW_WIDTH + x ≡ at + j = omega arith in
+          ap (λ (k : ℕ). get_or new k 0) place ∙ here j (omega arith)
+          ∙ row_is_square columns window at WINDOW_WIDTH (8 * (n + 1)) j all (omega arith)
+          ∙ ap (λ (k : ℕ). square_sum window k WINDOW_WIDTH) (sym place)
+    ]
+  ];
+  known = λ y x h k. elim (cases_lt y (i + 1)) [
+    | inl less ↦ before (y * WINDOW_WIDTH + x) (omega arith) ∙ done.known y x h k
+    | inr more ↦ after (y * WINDOW_WIDTH + x) (omega arith) ∙ done.known y x h k
+  ];
+}
+
+-- ---- the squares of a reference
+
+-- a square of a window that is filled
+pub square_searched : (window : List ℕ) (p : Raster) (place : Place) (range y x : ℕ) → IsFilled window p place range → y ≤ 2 * range + 8 → x ≤ 2 * range + 8
+    → square_sum window (y * WINDOW_WIDTH + x) WINDOW_WIDTH ≡ searched_square p place range y x
+unfolding square_sum column_sum searched_square
+square_searched window p place range y x filled h k =
+    ap capped (sum_below-same 8 (λ c. column_sum window (y * WINDOW_WIDTH + x + c) WINDOW_WIDTH) (λ c. capped (sum_below 8 (λ r. searched_pixel p place range (y + r) (x + c))))
+    (λ c hc. ap capped (sum_below-same 8 (λ r. get_or window (y * WINDOW_WIDTH + x + c + r * WINDOW_WIDTH) 0) (λ r. searched_pixel p place range (y + r) (x + c))
+    (λ r hr. let e : y * WINDOW_WIDTH + x + c + r * WINDOW_WIDTH ≡ (y + r) * WINDOW_WIDTH + (x + c) = omega arith in
+    ap (λ (i : ℕ). get_or window i 0) e ∙ filled (y + r) (x + c) (omega arith) (omega arith)))))
+
+-- the same square in the window of a place further right
+pub square_moved : (p : Raster) (from to : Place) (range y x moved : ℕ) → to.row ≡ from.row → 16 * to.column ≡ 16 * from.column + moved
+    → searched_square p from range y (x + moved) ≡ searched_square p to range y x
+unfolding searched_square
+square_moved p from to range y x moved same further =
+    ap capped (sum_below-same 8 (λ c. capped (sum_below 8 (λ r. searched_pixel p from range (y + r) (x + moved + c)))) (λ c. capped (sum_below 8 (λ r. searched_pixel p to range (y + r) (x + c))))
+    (λ c hc. ap capped (sum_below-same 8 (λ r. searched_pixel p from range (y + r) (x + moved + c)) (λ r. searched_pixel p to range (y + r) (x + c))
+    (λ r hr. let column : 16 * from.column + (x + moved + c) ≡ 16 * to.column + (x + c) = omega arith in
+    let row : 16 * from.row + (y + r) ≡ 16 * to.row + (y + r) = omega arith in
+    ap₂ (λ (m n : ℕ). reference_pixel p (pos m -ℤ pos range) (pos n -ℤ pos range)) column row))))
+
+-- ---- a part of the sums that are held
+
+pub part_of : (xs : List ℕ) (start n k : ℕ) → k < n → get_or (mid_of start n xs) k 0 ≡ get_or xs (start + k) 0
+part_of xs start n k h = get_or-chunk start n xs k 0 h
+
+pub put_at : (xs ys : List ℕ) (start n k : ℕ) → start + n ≤ length xs → k < n → length ys ≡ n → get_or (put_mid start n xs ys) (start + k) 0 ≡ get_or ys k 0
+put_at xs ys start n k room h long = search (rules, places)
+
+pub put_before : (xs ys : List ℕ) (start n k : ℕ) → start + n ≤ length xs → k < start → length ys ≡ n → get_or (put_mid start n xs ys) k 0 ≡ get_or xs k 0
+put_before xs ys start n k room h long = search (rules, places)
+
+-- the kept sums are those of the window
+pub kept_summed : (window sums : List ℕ) (p : Raster) (place : Place) (range n : ℕ) (kept : Kept) → AreKept p range kept sums → kept.place ≡ place → IsFilled window p place range
+    → (2 * range + 16) * WINDOW_WIDTH ≤ n → range ≤ 64 → AreSummed window (mid_of kept.start n sums) range kept.columns
+kept_summed window sums p place range n kept all same filled room small y x h k =
+    let few = all.few in
+    part_of sums kept.start n (y * WINDOW_WIDTH + x) (omega arith)
+    ∙ all.are y x h k
+    ∙ ap (λ (q : Place). searched_square p q range y x) same
+    ∙ sym (square_searched window p place range y x filled h (omega arith))
+
+-- the sums of a window are kept
+pub summed_kept : (window sums made : List ℕ) (p : Raster) (place : Place) (range columns start n : ℕ) → IsSummed window made range → IsFilled window p place range → start ≤ SLIDE
+    → columns ≡ 2 * range + 9 → start + n ≤ length sums → length made ≡ n → (2 * range + 16) * WINDOW_WIDTH ≤ n → range ≤ 64
+    → AreKept p range (record { place = place; columns = columns; start = start }) (put_mid start n sums made)
+summed_kept window sums made p place range columns start n all filled room whole fits long wide small = record {
+  few = omega arith;
+  room = room;
+  are = λ y x h k.
+      put_at sums made start n (y * WINDOW_WIDTH + x) fits (omega arith) long
+      ∙ all y x h (omega arith)
+      ∙ square_searched window p place range y x filled h (omega arith);
+}

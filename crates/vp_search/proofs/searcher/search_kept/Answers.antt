@@ -1,0 +1,99 @@
+use Rattle.std.proofs.Common.{◌≡◌, ◌≤◌, List, ℕ, ◌+◌, ◌-◌, ◌*◌, length, subst, sym, arith, rules}
+use borrow.Rule.Slice.PartMut.{put_mid, mid_of}
+use Rattle.vp_base.specs.declared.place.Place.{Place}
+use Rattle.vp_search.specs.Differences.{block16}
+use Rattle.vp_search.specs.declared.kept.TheConstants.{SLIDE}
+use Rattle.vp_search.specs.Coarse.{AreCoarse}
+use Rattle.vp_search.specs.Kept.{AreKept}
+use Rattle.vp_search.proofs.WindowLemmas.{IsBest, best_whole}
+use Rattle.vp_search.proofs.SquareLemmas.{kept_summed, summed_kept}
+use Rattle.vp_search.proofs.CoarseLemmas.{part_coarse, whole_coarse}
+use Rattle.vp_search.proofs.searcher.search_kept.Goals as goal
+
+pub returns-in-Some-clause-cost : goal.returns-in-Some-clause-cost
+returns-in-Some-clause-cost c =
+    (best_whole c.args.block.now c.cut_window.new.window c.args.view.reference.now c.args.view.place c.args.view.range c.in-Some.best c.cut_window.ensures c.centre_of-centre.ensures.bytes
+    c.in-Some.ensures.cost c.in-Some.ensures.least).cost
+
+pub returns-in-Some-clause-least : goal.returns-in-Some-clause-least
+returns-in-Some-clause-least c =
+    (best_whole c.args.block.now c.cut_window.new.window c.args.view.reference.now c.args.view.place c.args.view.range c.in-Some.best c.cut_window.ensures c.centre_of-centre.ensures.bytes
+    c.in-Some.ensures.cost c.in-Some.ensures.least).least
+
+pub returns-in-Some-clause-predicted : goal.returns-in-Some-clause-predicted
+returns-in-Some-clause-predicted c =
+    (best_whole c.args.block.now c.cut_window.new.window c.args.view.reference.now c.args.view.place c.args.view.range c.in-Some.best c.cut_window.ensures c.centre_of-centre.ensures.bytes
+    c.in-Some.ensures.cost c.in-Some.ensures.least).predicted
+
+pub fill_sums-requires-clause-first : goal.fill_sums-requires-clause-first
+fill_sums-requires-clause-first c = (c.moved_to-moved.ensures.kept c.args.view.reference.now c.args.view.range c.args.sums.now c.requires.known).few
+
+pub fill_sums-requires-clause-known : goal.fill_sums-requires-clause-known
+fill_sums-requires-clause-known c =
+    let small = c.requires.range in
+    let room = c.moved_to-moved.ensures.start in
+    let size = c.requires.sums_size in
+    kept_summed c.cut_window.new.window c.args.sums.now c.args.view.reference.now c.args.view.place c.args.view.range (length c.args.sums.now - c.moved_to-moved.result.start) c.moved_to-moved.result
+    (c.moved_to-moved.ensures.kept c.args.view.reference.now c.args.view.range c.args.sums.now c.requires.known)
+    c.moved_to-moved.ensures.place c.cut_window.ensures (omega arith) small
+
+-- the coarse sums of the part that is lent
+lent : (sums coarse : List ℕ) (start : ℕ) → AreCoarse (length sums) sums coarse → length coarse ≡ length sums → start ≤ length sums
+    → AreCoarse (length sums - start) (mid_of start (length sums - start) sums) (mid_of start (length coarse - start) coarse)
+lent sums coarse start all wide room =
+    let e : length sums - start ≡ length coarse - start = omega arith in
+    subst (λ (m : ℕ). AreCoarse (length sums - start) (mid_of start (length sums - start) sums) (mid_of start m coarse)) e
+    (part_coarse sums coarse start (length sums - start) (length sums) all (omega arith))
+
+pub search_summed-requires-clause-coarse : goal.search_summed-requires-clause-coarse
+search_summed-requires-clause-coarse c k h =
+    let small = c.requires.range in
+    let room = c.moved_to-moved.ensures.start in
+    let size = c.requires.sums_size in
+    c.fill_sums.ensures.coarse (length c.args.sums.now - c.moved_to-moved.result.start)
+    (lent c.args.sums.now c.args.coarse.now c.moved_to-moved.result.start c.requires.coarse c.requires.coarse_size (omega arith)) k (omega arith)
+
+pub returns-clause-kept : goal.returns-clause-kept
+returns-clause-kept c =
+    let small = c.requires.range in
+    let room = c.moved_to-moved.ensures.start in
+    let r : c.from.result ≡ c.args.view.range = c.from.ensures in
+    let size = c.requires.sums_size in
+    let start : ℕ = c.moved_to-moved.result.start in
+    let n : ℕ = length c.args.sums.now - start in
+    let long : length c.fill_sums.new.sums ≡ n = search rules in
+    subst (λ (q : Place). AreKept c.args.view.reference.now c.args.view.range (record { place = q; columns = 2 * c.from.result + 9; start = start }) (put_mid start n c.args.sums.now c.fill_sums.new.sums))
+    (sym c.moved_to-moved.ensures.place)
+    (summed_kept c.cut_window.new.window c.args.sums.now c.fill_sums.new.sums c.args.view.reference.now c.args.view.place c.args.view.range (2 * c.from.result + 9) start n
+    c.fill_sums.ensures.sums c.cut_window.ensures room (omega arith) (omega arith) long (omega arith) small)
+
+pub returns-clause-coarse : goal.returns-clause-coarse
+returns-clause-coarse c =
+    let room = c.moved_to-moved.ensures.start in
+    let size = c.requires.sums_size in
+    let wide = c.requires.coarse_size in
+    let start : ℕ = c.moved_to-moved.result.start in
+    let n : ℕ = length c.args.sums.now - start in
+    let m : ℕ = length c.args.coarse.now - start in
+    let e : n ≡ m = omega arith in
+    let long : length c.fill_sums.new.sums ≡ n = search rules in
+    let broad : length c.fill_sums.new.coarse ≡ m = search rules in
+    subst (λ (k : ℕ). AreCoarse (length c.args.sums.now) (put_mid start n c.args.sums.now c.fill_sums.new.sums) (put_mid start k c.args.coarse.now c.fill_sums.new.coarse)) e
+    (whole_coarse c.args.sums.now c.args.coarse.now c.fill_sums.new.sums c.fill_sums.new.coarse start n (length c.args.sums.now) c.requires.coarse
+    (c.fill_sums.ensures.coarse n (lent c.args.sums.now c.args.coarse.now start c.requires.coarse wide (omega arith)))
+    (omega arith) (omega arith) (omega arith) long (omega arith))
+
+pub returns-clause-cost : goal.returns-clause-cost
+returns-clause-cost c =
+    (best_whole c.args.block.now c.cut_window.new.window c.args.view.reference.now c.args.view.place c.args.view.range c.search_summed.result c.cut_window.ensures c.centre_of-centre.ensures.bytes
+    c.search_summed.ensures.cost c.search_summed.ensures.least).cost
+
+pub returns-clause-least : goal.returns-clause-least
+returns-clause-least c =
+    (best_whole c.args.block.now c.cut_window.new.window c.args.view.reference.now c.args.view.place c.args.view.range c.search_summed.result c.cut_window.ensures c.centre_of-centre.ensures.bytes
+    c.search_summed.ensures.cost c.search_summed.ensures.least).least
+
+pub returns-clause-predicted : goal.returns-clause-predicted
+returns-clause-predicted c =
+    (best_whole c.args.block.now c.cut_window.new.window c.args.view.reference.now c.args.view.place c.args.view.range c.search_summed.result c.cut_window.ensures c.centre_of-centre.ensures.bytes
+    c.search_summed.ensures.cost c.search_summed.ensures.least).predicted

@@ -1,0 +1,171 @@
+//! Searches of one macroblock after another.
+
+ghost use Rattle.std.specs.Prelude.{◌≡◌, ◌+◌, ◌*◌, ◌<◌, ◌≤◌, IfOk, length};
+ghost use Rattle.vp_search.specs.Vectors.{quarters};
+ghost use Rattle.vp_search.specs.Differences.{block16};
+ghost use Rattle.vp_search.specs.Blocks.{whole_cost, quarter_cost};
+ghost use Rattle.vp_search.specs.Least.{IsLeast};
+ghost use Rattle.vp_search.specs.Kept.{AreKept};
+ghost use Rattle.vp_search.specs.Coarse.{AreCoarse};
+
+use crate::kept::{Kept, SLIDE};
+use crate::outward::centre_of;
+use crate::search::{search_summed, search_without_sums};
+use crate::sums::fill_sums;
+use crate::vector::Found;
+use crate::window::{WINDOW_WIDTH, cut_window};
+use std::alloc::{AllocError, Global};
+use std::marker::Model;
+use vp_base::{Place, Plane};
+
+/// The number of pixels in the window of a search within a range, and eight more, as pixels are loaded by eight.
+fn window_size(range: u8) -> usize
+    requires { range ≤ 64 }
+    ensures { result ≡ (2 * range + 16) * WINDOW_WIDTH + 8 }
+{
+    (2 * usize::from(range) + 16) * WINDOW_WIDTH + 8
+}
+
+/// Searches macroblocks of one reference plane, one after another, as `search_block` does. It keeps the window's sums:
+/// for the macroblock to the right of the one before, only those of the new columns are made. Its memory is 84 KiB for
+/// range 64, 30 KiB for range 16.
+#[derive(Drop)]
+pub struct Searcher<'a> {
+    reference: &'a Plane,
+    range: u8,
+    /// The pixels around the macroblock that was searched last.
+    window: Vec<u8>,
+    /// Those of a window, and as many more as they slide.
+    sums: Vec<u16>,
+    /// The coarse sums of all of them.
+    coarse: Vec<u8>,
+    /// Which of the sums are made.
+    kept: Kept,
+}
+
+impl<'a> Model for Searcher<'a> {
+    ghost use Rattle.std.specs.Prelude.{◌≡◌, ◌+◌, ◌*◌, ◌<◌, ◌≤◌, vec_len};
+    ghost use Rattle.vp_search.specs.Searcher.{Searcher};
+    ghost use Rattle.vp_search.specs.Kept.{AreKept};
+    ghost use Rattle.vp_search.specs.Coarse.{AreCoarse};
+    ghost use Rattle.vp_search.specs.declared.kept.TheConstants.{SLIDE};
+    ghost use Rattle.vp_search.specs.declared.window.TheConstants.{WINDOW_WIDTH};
+
+    ghost Value = { Searcher };
+
+    ghost view = { λ s. record { reference = s.reference.now; range = s.range } };
+
+    ghost invariant = { λ s. (s.range ≤ 64) × (0 < s.reference.now.width) × (0 < s.reference.now.height)
+        × AreKept s.reference.now s.range s.kept s.sums.items
+        × AreCoarse (vec_len s.sums) s.sums.items s.coarse.items
+        × (vec_len s.window ≡ (2 * s.range + 16) * WINDOW_WIDTH + 8)
+        × (vec_len s.sums ≡ (2 * s.range + 16) * WINDOW_WIDTH + 8 + SLIDE) × (vec_len s.coarse ≡ vec_len s.sums) };
+}
+
+impl<'a> Searcher<'a> {
+    /// Starts searches of all vectors of whole pixels whose row and column are from `-range` to `range`, at most 64. No
+    /// sums are made yet. Asks for memory three times.
+    pub fn new(alloc: Global, reference: &'a Plane, range: u8) -> Result<Searcher<'a>, AllocError>
+        requires wide { 0 < reference.now.width }
+        requires high { 0 < reference.now.height }
+        requires range { range ≤ 64 }
+        ensures reference { IfOk result (λ s. s.reference ≡ reference.now) }
+        ensures range { IfOk result (λ s. s.range ≡ range) }
+    {
+        let size = window_size(range);
+        let window = vec![in alloc; 0; size]?;
+        let sums = vec![in alloc; 0; size + SLIDE]?;
+        let coarse = vec![in alloc; 0; size + SLIDE]?;
+        Ok(Searcher {
+            reference,
+            range,
+            window,
+            sums,
+            coarse,
+            kept: Kept::none(Place { column: 0, row: 0 }),
+        })
+    }
+
+    /// Searches as `search_block` does, for a macroblock at `place` with luma `block` in raster order.
+    pub fn search(&mut self, block: &[u8; 256], place: Place) -> Found
+        requires columns { 16 * place.column ≤ 16384 }
+        requires rows { 16 * place.row ≤ 16384 }
+        ensures kept { self.new ≡ self.old }
+        ensures cost { result.cost ≡ whole_cost (block16 block.now) self.old.reference place result.vector }
+        ensures least { IsLeast self.old.range (whole_cost (block16 block.now) self.old.reference place) result.vector }
+        ensures predicted { result.cost ≡ quarter_cost (block16 block.now) self.old.reference place
+            (quarters result.vector) }
+    {
+        let view = View {
+            reference: self.reference,
+            range: self.range,
+            place,
+        };
+        let window = self.window.as_mut_slice();
+        let sums = self.sums.as_mut_slice();
+        let coarse = self.coarse.as_mut_slice();
+        let (found, kept) = search_kept(block, view, window, sums, coarse, self.kept);
+        self.kept = kept;
+        found
+    }
+}
+
+/// What is searched for one macroblock.
+#[derive(Clone, Copy)]
+struct View<'a> {
+    reference: &'a Plane,
+    range: u8,
+    place: Place,
+}
+
+/// Searches for a macroblock in memory that is lent, with the sums that are kept. Also returns which are kept after it.
+fn search_kept(
+    block: &[u8; 256],
+    view: View,
+    window: &mut [u8],
+    sums: &mut [u16],
+    coarse: &mut [u8],
+    known: Kept,
+) -> (Found, Kept)
+    requires wide { 0 < view.reference.now.width }
+    requires high { 0 < view.reference.now.height }
+    requires range { view.range ≤ 64 }
+    requires columns { 16 * view.place.column ≤ 16384 }
+    requires rows { 16 * view.place.row ≤ 16384 }
+    requires window_size { length window.old ≡ (2 * view.range + 16) * WINDOW_WIDTH + 8 }
+    requires sums_size { length sums.old ≡ (2 * view.range + 16) * WINDOW_WIDTH + 8 + SLIDE }
+    requires coarse_size { length coarse.old ≡ length sums.old }
+    requires known { AreKept view.reference.now view.range known sums.old }
+    requires coarse { AreCoarse (length sums.old) sums.old coarse.old }
+    ensures kept { AreKept view.entry.reference.now view.entry.range result.1 sums.new }
+    ensures coarse { AreCoarse (length sums.old) sums.new coarse.new }
+    ensures cost { result.0.cost ≡ whole_cost (block16 block.now) view.entry.reference.now view.entry.place
+        result.0.vector }
+    ensures least { IsLeast view.entry.range (whole_cost
+        (block16 block.now) view.entry.reference.now view.entry.place) result.0.vector }
+    ensures predicted { result.0.cost ≡ quarter_cost (block16 block.now) view.entry.reference.now view.entry.place
+        (quarters result.0.vector) }
+{
+    let View {
+        reference,
+        range,
+        place,
+    } = view;
+    cut_window(window, reference, place, range);
+    let centre = centre_of(block, window, range);
+    if let Some(best) = search_without_sums(block, window, range, centre) {
+        return (best, known);
+    }
+    let moved = known.moved_to(place);
+    let sums = &mut sums[moved.start..];
+    let coarse = &mut coarse[moved.start..];
+    fill_sums(sums, coarse, window, range, moved.columns);
+    let kept = Kept {
+        columns: 2 * usize::from(range) + 9,
+        ..moved
+    };
+    (
+        search_summed(block, window, sums, coarse, range, centre),
+        kept,
+    )
+}
