@@ -128,7 +128,8 @@ fn a_still_macroblock(rt: HostRuntime) {
     assert!(rt; is_bright(&bytes));
 }
 
-/// Both reference frames are the source, and the range is large enough for searchers. Of equal costs the last frame's is chosen.
+/// Both reference frames are the source, and the range is large enough for searchers. Of equal costs the last frame's
+/// is chosen.
 #[test]
 fn a_still_frame(rt: HostRuntime) -> Result<(), Fail> {
     let dim = Dim::new(32, 32, &Limits::usual())?;

@@ -14,8 +14,8 @@ pub fn sad16(a: &[u8; 256], b: &[u8; 256]) -> u32
 }
 
 /// The sum of absolute differences of a block and the one at index `at` of a window with rows of `stride` pixels. If
-/// the sum is above `limit`, returns some number above `limit`. With `SOON` it is compared after the first four rows too,
-/// which pays unless a bound has excluded most blocks that differ much.
+/// the sum is above `limit`, returns some number above `limit`. With `SOON` it is compared after the first four rows
+/// too: that pays where most blocks differ much, and not where bounds have excluded those, nor in noise.
 pub(crate) fn sad_within<const SOON: bool>(
     block: &[u8],
     window: &[u8],

@@ -16,7 +16,7 @@ use crate::window::WINDOW_WIDTH;
 use std::simd::prelude::*;
 
 /// The better of a known vector and the one at row `i` and column `j`.
-fn consider<const SOON: bool>(
+pub(crate) fn consider<const SOON: bool>(
     block: &[u8],
     window: &[u8],
     range: u8,
@@ -80,9 +80,9 @@ fn lesser(old: Found, new: Found) -> Found
 
 /// A row and a column of a window; of eight places in a row, the first column.
 #[derive(Clone, Copy)]
-struct Spot {
-    row: usize,
-    column: usize,
+pub(crate) struct Spot {
+    pub(crate) row: usize,
+    pub(crate) column: usize,
 }
 
 /// The better of a known vector and the one at `place`, whose cost is at least `bound`, if it is within the range.
@@ -197,8 +197,8 @@ fn below_best(bounds: u16x8, cost: u32) -> usize
     usize::from(cost > 0 && any_within(bounds, cost - 1))
 }
 
-/// The number of rows to search without bounds after a row in which this many groups of eight had a bound below the best
-/// cost.
+/// The number of rows to search without bounds after a row in which this many groups of eight had a bound below the
+/// best cost.
 fn plain_rows(passed: usize, groups: usize) -> usize
     ensures { result ≤ PLAIN_ROWS }
 {

@@ -26,8 +26,8 @@ pub const LEAST_BOUNDED_RANGE: u8 = 8;
 /// The number of pixels in the window of a search of the small range, and eight more, as pixels are loaded by eight.
 const SMALL_WINDOW: usize = (16 + 2 * SMALL_RANGE as usize) * WINDOW_WIDTH + 8;
 
-/// The number of pixels in the window of a search of the greatest range, and eight more.
-pub(crate) const WHOLE_WINDOW: usize = (16 + 2 * GREATEST_RANGE) * WINDOW_WIDTH + 8;
+/// The number of pixels in the window of a search of the greatest range.
+const WHOLE_WINDOW: usize = (16 + 2 * GREATEST_RANGE) * WINDOW_WIDTH;
 
 /// Searches all vectors of whole pixels whose row and column are from `-range` to `range`. Returns the one with the
 /// least sum of absolute differences for the source macroblock at `place`. Of equal costs the shortest vector is
@@ -120,7 +120,8 @@ fn search_window(block: &[u8; 256], window: &[u8; SMALL_WINDOW], range: u8) -> F
     search_summed(block, window, &sums, &coarse, range, centre)
 }
 
-/// The best vector of a window, or None if bounds pay to find it: not if the zero vector `centre` costs nothing.
+/// The best vector of a window where bounds don't pay: within a small range, and where the zero vector `centre` costs
+/// nothing. Else None.
 pub(crate) fn search_without_sums(
     block: &[u8],
     window: &[u8],

@@ -9,10 +9,10 @@ ghost use Rattle.vp_search.specs.Kept.{AreKept};
 ghost use Rattle.vp_search.specs.Coarse.{AreCoarse};
 
 use crate::kept::{Kept, SLIDE};
-use crate::outward::centre_of;
+use crate::outward::{Spot, centre_of, consider};
 use crate::search::{search_summed, search_without_sums};
 use crate::sums::fill_sums;
-use crate::vector::Found;
+use crate::vector::{Found, WholeVector};
 use crate::window::{WINDOW_WIDTH, cut_window};
 use std::alloc::{AllocError, Global};
 use std::marker::Model;
@@ -28,19 +28,22 @@ fn window_size(range: u8) -> usize
 
 /// Searches macroblocks of one reference plane, one after another, as `search_block` does. It keeps the window's sums:
 /// for the macroblock to the right of the one before, only those of the new columns are made. Its memory is 84 KiB for
-/// range 64, 30 KiB for range 16.
+/// range 64, 30 KiB for range 16. Below a range of `LEAST_BOUNDED_RANGE` it makes no sums.
 #[derive(Drop)]
 pub struct Searcher<'a> {
     reference: &'a Plane,
     range: u8,
     /// The pixels around the macroblock that was searched last.
     window: Vec<u8>,
-    /// Those of a window, and as many more as they slide.
+    /// The sums of a window's squares, and as many more as they slide.
     sums: Vec<u16>,
     /// The coarse sums of all of them.
     coarse: Vec<u8>,
     /// Which of the sums are made.
     kept: Kept,
+    /// Where the vector that was found last leads. The next one is often the same, so the next search begins there: the
+    /// less its best vector costs, the more others are excluded by their bounds.
+    begin: Spot,
 }
 
 impl<'a> Model for Searcher<'a> {
@@ -59,7 +62,8 @@ impl<'a> Model for Searcher<'a> {
         × AreKept s.reference.now s.range s.kept s.sums.items
         × AreCoarse (vec_len s.sums) s.sums.items s.coarse.items
         × (vec_len s.window ≡ (2 * s.range + 16) * WINDOW_WIDTH + 8)
-        × (vec_len s.sums ≡ (2 * s.range + 16) * WINDOW_WIDTH + 8 + SLIDE) × (vec_len s.coarse ≡ vec_len s.sums) };
+        × (vec_len s.sums ≡ (2 * s.range + 16) * WINDOW_WIDTH + 8 + SLIDE) × (vec_len s.coarse ≡ vec_len s.sums)
+        × (s.begin.row ≤ 2 * s.range) × (s.begin.column ≤ 2 * s.range) };
 }
 
 impl<'a> Searcher<'a> {
@@ -83,6 +87,10 @@ impl<'a> Searcher<'a> {
             sums,
             coarse,
             kept: Kept::none(Place { column: 0, row: 0 }),
+            begin: Spot {
+                row: usize::from(range),
+                column: usize::from(range),
+            },
         })
     }
 
@@ -100,22 +108,37 @@ impl<'a> Searcher<'a> {
             reference: self.reference,
             range: self.range,
             place,
+            begin: self.begin,
         };
         let window = self.window.as_mut_slice();
         let sums = self.sums.as_mut_slice();
         let coarse = self.coarse.as_mut_slice();
         let (found, kept) = search_kept(block, view, window, sums, coarse, self.kept);
         self.kept = kept;
+        self.begin = spot_of(found.vector, self.range);
         found
     }
 }
 
-/// What is searched for one macroblock.
+/// What is searched for one macroblock, and where in its window the search begins.
 #[derive(Clone, Copy)]
 struct View<'a> {
     reference: &'a Plane,
     range: u8,
     place: Place,
+    begin: Spot,
+}
+
+/// Where a vector leads in the window of a range; the nearest place of the window if that is outside.
+fn spot_of(vector: WholeVector, range: u8) -> Spot
+    ensures row { result.row ≤ 2 * range }
+    ensures column { result.column ≤ 2 * range }
+{
+    let range = i32::from(range);
+    Spot {
+        row: vector.row.saturating_add(range).clamp(0, 2 * range) as usize,
+        column: vector.column.saturating_add(range).clamp(0, 2 * range) as usize,
+    }
 }
 
 /// Searches for a macroblock in memory that is lent, with the sums that are kept. Also returns which are kept after it.
@@ -132,6 +155,8 @@ fn search_kept(
     requires range { view.range ≤ 64 }
     requires columns { 16 * view.place.column ≤ 16384 }
     requires rows { 16 * view.place.row ≤ 16384 }
+    requires begin_row { view.begin.row ≤ 2 * view.range }
+    requires begin_column { view.begin.column ≤ 2 * view.range }
     requires window_size { length window.old ≡ (2 * view.range + 16) * WINDOW_WIDTH + 8 }
     requires sums_size { length sums.old ≡ (2 * view.range + 16) * WINDOW_WIDTH + 8 + SLIDE }
     requires coarse_size { length coarse.old ≡ length sums.old }
@@ -150,6 +175,7 @@ fn search_kept(
         reference,
         range,
         place,
+        begin,
     } = view;
     cut_window(window, reference, place, range);
     let centre = centre_of(block, window, range);
@@ -164,8 +190,9 @@ fn search_kept(
         columns: 2 * usize::from(range) + 9,
         ..moved
     };
+    let first = consider::<false>(block, window, range, centre, begin.row, begin.column);
     (
-        search_summed(block, window, sums, coarse, range, centre),
+        search_summed(block, window, sums, coarse, range, first),
         kept,
     )
 }

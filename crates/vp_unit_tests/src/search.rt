@@ -327,10 +327,10 @@ fn sums_are_the_plain_ones(rt: HostRuntime) {
     equal(&rt, &first_least(&[7, 2, 5, 2]), &1);
 }
 
-/// Fills a plane of 53 by 37 with noise.
-fn fill_odd(plane: &mut Plane) {
-    for y in 0..37 {
-        for x in 0..53 {
+/// Fills a plane of this size with noise.
+fn fill_with_noise(plane: &mut Plane, width: usize, height: usize) {
+    for y in 0..height {
+        for x in 0..width {
             if x < plane.width() && y < plane.height() {
                 plane.set(x, y, noise(x, y));
             }
@@ -384,11 +384,38 @@ fn is_same_along(alloc: Global, reference: &Plane, range: u8) -> Result<bool, Al
 #[test]
 fn kept_sums_are_the_same(rt: HostRuntime) -> Result<(), Fail> {
     let mut reference = Plane::new(rt.alloc(), 53, 37, 0)?;
-    fill_odd(&mut reference);
+    fill_with_noise(&mut reference, 53, 37);
     assert!(rt; is_same_along(rt.alloc(), &reference, 7)?);
     assert!(rt; is_same_along(rt.alloc(), &reference, 8)?);
     assert!(rt; is_same_along(rt.alloc(), &reference, 16)?);
     assert!(rt; is_same_along(rt.alloc(), &reference, 17)?);
+    assert!(rt; is_same_along(rt.alloc(), &reference, 27)?);
+    assert!(rt; is_same_along(rt.alloc(), &reference, 28)?);
     assert!(rt; is_same_along(rt.alloc(), &reference, 64)?);
+    Ok(())
+}
+
+/// Whether a searcher finds the same as `search_block` along a row of 67 macroblocks.
+fn is_same_across(alloc: Global, reference: &Plane) -> Result<bool, AllocError> {
+    if reference.width() == 0 || reference.height() == 0 {
+        return Ok(false);
+    }
+    let mut searcher = Searcher::new(alloc, reference, 16)?;
+    for column in 0..67 {
+        let place = Place { column, row: 0 };
+        let block = noise_at(place, column % 3, column % 5);
+        if searcher.search(&block, place) != search_block(&block, reference, place, 16) {
+            return Ok(false);
+        }
+    }
+    Ok(true)
+}
+
+/// Sums slide by 64 macroblocks at most; then all are made anew.
+#[test]
+fn kept_sums_begin_anew(rt: HostRuntime) -> Result<(), Fail> {
+    let mut reference = Plane::new(rt.alloc(), 1072, 16, 0)?;
+    fill_with_noise(&mut reference, 1072, 16);
+    assert!(rt; is_same_across(rt.alloc(), &reference)?);
     Ok(())
 }

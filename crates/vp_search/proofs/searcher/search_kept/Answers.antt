@@ -1,11 +1,9 @@
 use Rattle.std.proofs.Common.{◌≡◌, ◌≤◌, List, ℕ, ◌+◌, ◌-◌, ◌*◌, length, subst, sym, arith, rules}
 use borrow.Rule.Slice.PartMut.{put_mid, mid_of}
 use Rattle.vp_base.specs.declared.place.Place.{Place}
-use Rattle.vp_search.specs.Differences.{block16}
-use Rattle.vp_search.specs.declared.kept.TheConstants.{SLIDE}
 use Rattle.vp_search.specs.Coarse.{AreCoarse}
 use Rattle.vp_search.specs.Kept.{AreKept}
-use Rattle.vp_search.proofs.WindowLemmas.{IsBest, best_whole}
+use Rattle.vp_search.proofs.WindowLemmas.{best_whole}
 use Rattle.vp_search.proofs.SquareLemmas.{kept_summed, summed_kept}
 use Rattle.vp_search.proofs.CoarseLemmas.{part_coarse, whole_coarse}
 use Rattle.vp_search.proofs.searcher.search_kept.Goals as goal

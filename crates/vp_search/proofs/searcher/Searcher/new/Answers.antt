@@ -15,4 +15,6 @@ invariant_of-result c =
       search rules,
       search rules,
       search rules,
+      omega arith,
+      omega arith,
     )
