@@ -9,6 +9,7 @@ use std::io::Read;
 use std::{fs, io};
 use vp_base::{Counted, Limits};
 use vp_decode::Outcome;
+use vp_head::PacketFault;
 use vp_stream::{Form, decode_all, survey};
 
 /// A small picture, often fed byte by byte; golden and altref with their signs turned, whole-pixel vectors.
@@ -107,6 +108,10 @@ fn decode<R: Read + Drop>(alloc: Global, input: R, digest: &mut Digest) -> io::R
     digest.number(u64::from(report.packets));
     digest.number(u64::from(report.shown));
     digest.number(report.faults.as_slice().len() as u64);
+    for (packet, fault) in report.faults.as_slice() {
+        digest.number(u64::from(*packet));
+        digest.number(packet_fault_number(*fault));
+    }
     Ok(())
 }
 
@@ -149,6 +154,21 @@ pub(crate) fn decode_awkward(
         decode_made(alloc, random, &TINY, 2_000, 16, digest)?;
     }
     Ok(())
+}
+
+/// Returns the number of a packet's fault.
+fn packet_fault_number(fault: PacketFault) -> u64 {
+    match fault {
+        PacketFault::Truncated => 2,
+        PacketFault::Version => 3,
+        PacketFault::StartCode => 4,
+        PacketFault::Size => 5,
+        PacketFault::TooLarge => 6,
+        PacketFault::NoReference => 7,
+        PacketFault::FirstPartition => 8,
+        PacketFault::PartitionTable => 9,
+        PacketFault::Partition(number) => 10 + u64::from(number),
+    }
 }
 
 /// Returns the number of an outcome.
