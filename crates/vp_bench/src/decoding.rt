@@ -3,14 +3,15 @@
 use crate::digest::Digest;
 use crate::pieces::Pieces;
 use crate::random::Random;
-use crate::stream::{Kind, file_of};
+use crate::stream::{Kind, damage, file_of};
 use std::alloc::Global;
 use std::io::Read;
 use std::{fs, io};
 use vp_base::{Counted, Limits};
 use vp_decode::Outcome;
 use vp_head::PacketFault;
-use vp_stream::{Form, decode_all, survey};
+use vp_ivf::FileFault;
+use vp_stream::{Form, Survey, decode_all, survey};
 
 /// A small picture, often fed byte by byte; golden and altref with their signs turned, whole-pixel vectors.
 const SMALL: Kind = Kind {
@@ -176,19 +177,50 @@ fn outcome_number(outcome: Outcome) -> u64 {
     match outcome {
         Outcome::Shown => 0,
         Outcome::Hidden => 1,
-        Outcome::Fault(_) => 2,
+        Outcome::Fault(fault) => packet_fault_number(fault),
     }
 }
 
-/// Makes `count` files, and lists the packets of each.
+/// Returns the number of what follows the packets of a file: its fault, or 0.
+fn end_number(fault: Option<FileFault>) -> u64 {
+    match fault {
+        None => 0,
+        Some(FileFault::Signature) => 1,
+        Some(FileFault::Codec) => 2,
+        Some(FileFault::TooMany) => 3,
+        Some(FileFault::PacketTooLarge) => 4,
+        Some(FileFault::Torn) => 5,
+        Some(FileFault::Ended) => 6,
+    }
+}
+
+/// Adds what a survey lists to a digest.
+fn add_survey(survey: &Survey, digest: &mut Digest) {
+    if let Some(head) = survey.head {
+        digest.number(u64::from(head.w));
+        digest.number(u64::from(head.h));
+        digest.number(u64::from(head.rate));
+        digest.number(u64::from(head.scale));
+    }
+    for (bytes, outcome) in survey.packets.as_slice() {
+        digest.number(*bytes as u64);
+        digest.number(outcome_number(*outcome));
+    }
+    digest.number(end_number(survey.fault));
+}
+
+/// Makes `count` files, and lists the packets of each. Every fourth is damaged.
 pub(crate) fn list(
     alloc: Global,
     random: &mut Random,
     count: u32,
     digest: &mut Digest,
 ) -> io::Result<()> {
-    for _ in 0..count {
-        let file = file_of(alloc, random, &FILM, 240)?;
+    for n in 0..count {
+        let mut file = file_of(alloc, random, &FILM, 240)?;
+        if n % 4 == 3 {
+            damage(&mut file, random);
+        }
         let mut reader = Counted::new(Pieces {
             left: &file,
             size: 4_096,
@@ -196,10 +228,7 @@ pub(crate) fn list(
         let Ok(survey) = survey(alloc, &mut reader, Limits::usual()) else {
             return Err(unexpected());
         };
-        for (bytes, outcome) in survey.packets.as_slice() {
-            digest.number(*bytes as u64);
-            digest.number(outcome_number(*outcome));
-        }
+        add_survey(&survey, digest);
     }
     Ok(())
 }

@@ -5,6 +5,7 @@
 ghost use Rattle.std.specs.Prelude.{◌<◌, ◌≤◌, ◌^◌};
 
 use crate::random::Random;
+use byteorder::{ByteOrder, LittleEndian};
 use std::alloc::{AllocError, Global};
 use vp_bool::BoolEncoder;
 use vp_tables::{VECTOR_UPDATES, coefficient_updates};
@@ -223,4 +224,21 @@ pub(crate) fn file_of(
         file.extend_from_slice(&packet)?;
     }
     Ok(file)
+}
+
+/// Damages an IVF file: one of the first ten bytes of one packet in sixteen, and the end of the last packet, which is
+/// cut off.
+pub(crate) fn damage(file: &mut Vec<u8>, random: &mut Random) {
+    let mut at = 32;
+    while at + 4 <= file.len() {
+        let size = LittleEndian::read_u32(&file[at..at + 4]) as usize;
+        if random.below(16) == 0 {
+            let place = at + 12 + random.below(10) as usize;
+            if let Some(byte) = file.get_mut(place) {
+                *byte = (random.next() & 255) as u8;
+            }
+        }
+        at += 12 + size;
+    }
+    file.truncate(file.len().saturating_sub(5));
 }
