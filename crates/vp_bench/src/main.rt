@@ -1,6 +1,6 @@
 //! The benchmark: jobs that users of the libraries wait for. Each prints one digest of all its results.
 //!
-//! `decode FILE..` decodes files; `awkward SEED COUNT`, `list SEED COUNT`, `scrub SEED COUNT`, `record SEED COUNT` and
+//! `decode FILE..` decodes files, and `film FILE COUNT` encodes the first pictures of one; `awkward SEED COUNT`, `list SEED COUNT`, `scrub SEED COUNT`, `record SEED COUNT` and
 //! `archive SEED COUNT` make their input from the number SEED, as much of it as COUNT says.
 #![tactic(auto)]
 
@@ -15,7 +15,7 @@ mod video;
 
 use crate::decoding::{decode_awkward, decode_files, list, unexpected};
 use crate::digest::Digest;
-use crate::encoding::{ARCHIVE, RECORDER, encode};
+use crate::encoding::{ARCHIVE, RECORDER, encode, encode_film};
 use crate::random::Random;
 use crate::serving::scrub;
 use std::{env, io};
@@ -51,10 +51,16 @@ fn run(rt: &HostRuntime, words: &[String], digest: &mut Digest) -> io::Result<()
     if job.as_str() == "decode" {
         return decode_files(rt, rest, digest);
     }
-    let [seed, count] = rest else {
+    let [first, count] = rest else {
         return Err(unexpected());
     };
-    run_made(rt, job.as_str(), seed.as_str(), count.as_str(), digest)
+    if job.as_str() == "film" {
+        let Ok(count) = count.parse::<u16>() else {
+            return Err(unexpected());
+        };
+        return encode_film(rt, first.as_str(), count, digest);
+    }
+    run_made(rt, job.as_str(), first.as_str(), count.as_str(), digest)
 }
 
 fn main(rt: HostRuntime) -> io::Result<()> {
