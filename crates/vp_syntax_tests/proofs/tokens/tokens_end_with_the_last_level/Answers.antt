@@ -1,6 +1,6 @@
 use Rattle.std.proofs.Common.{◌≤◌, ℕ, pos, negsuc, zero, suc, [], replicate, get_or, arith}
 use Rattle.std.specs.Prelude.{unsigned_abs}
-use Rattle.vp_unit_tests.proofs.tokens.tokens_end_with_the_last_level.Goals as goal
+use Rattle.vp_syntax_tests.proofs.tokens.tokens_end_with_the_last_level.Goals as goal
 
 level_within : (n i : ℕ) → unsigned_abs (get_or (replicate n (negsuc 2113)) i (pos 0)) ≤ 2114
 level_within zero i = omega arith

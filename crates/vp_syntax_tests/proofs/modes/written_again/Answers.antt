@@ -2,7 +2,7 @@ use Rattle.std.proofs.Common.{sym, subst, is_some}
 use Rattle.vp_head.specs.Spelled as header_spelled
 use Rattle.vp_head.proofs.SpelledLemmas.{header-spelled}
 use Rattle.vp_modes.proofs.SpelledLemmas.{spelled}
-use Rattle.vp_unit_tests.proofs.modes.written_again.Goals as goal
+use Rattle.vp_syntax_tests.proofs.modes.written_again.Goals as goal
 
 pub write-requires : goal.write-requires
 write-requires c =

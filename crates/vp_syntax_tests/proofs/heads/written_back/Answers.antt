@@ -1,7 +1,7 @@
 use Rattle.std.proofs.Common.{sym, subst, is_some}
 use Rattle.vp_head.specs.Spelled.{IsWritableHeader, kept_before}
 use Rattle.vp_head.proofs.SpelledLemmas.{header-spelled}
-use Rattle.vp_unit_tests.proofs.heads.written_back.Goals as goal
+use Rattle.vp_syntax_tests.proofs.heads.written_back.Goals as goal
 
 pub write-requires : goal.write-requires
 write-requires c =

@@ -1,5 +1,5 @@
 use Rattle.vp_transform.proofs.Bounds.{idct_fits_tested}
-use Rattle.vp_unit_tests.proofs.transforms.narrow_and_wide_blocks.Goals as goal
+use Rattle.vp_pixel_tests.proofs.transforms.narrow_and_wide_blocks.Goals as goal
 
 pub is_as_plain-requires : goal.is_as_plain-requires
 is_as_plain-requires g c = idct_fits_tested _ tt

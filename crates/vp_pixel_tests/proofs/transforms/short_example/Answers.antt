@@ -1,6 +1,6 @@
 use Rattle.std.proofs.Common.{pos, negsuc, [], ◌∷◌}
 use Rattle.vp_transform.proofs.Bounds.{each-tested}
-use Rattle.vp_unit_tests.proofs.transforms.short_example.Goals as goal
+use Rattle.vp_pixel_tests.proofs.transforms.short_example.Goals as goal
 
 pub idct_short-requires : goal.idct_short-requires
 idct_short-requires g c =

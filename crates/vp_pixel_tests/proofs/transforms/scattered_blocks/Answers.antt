@@ -1,6 +1,6 @@
 use Rattle.std.proofs.Common.{◌^◌, arith}
 use Rattle.vp_transform.proofs.Bounds.{idct_fits, iwht_fits}
-use Rattle.vp_unit_tests.proofs.transforms.scattered_blocks.Goals as goal
+use Rattle.vp_pixel_tests.proofs.transforms.scattered_blocks.Goals as goal
 
 pub is_as_plain-requires : goal.is_as_plain-requires
 is_as_plain-requires g c = idct_fits (2 ^ 14) _ c.scattered_block-block.ensures (omega arith)

@@ -1,5 +1,5 @@
 use Rattle.vp_transform.proofs.Bounds.{idct_fits_tested}
-use Rattle.vp_unit_tests.proofs.transforms.cut_blocks.Goals as goal
+use Rattle.vp_pixel_tests.proofs.transforms.cut_blocks.Goals as goal
 
 pub cut_is_as_plain-requires : goal.cut_is_as_plain-requires
 cut_is_as_plain-requires g c = idct_fits_tested _ tt
