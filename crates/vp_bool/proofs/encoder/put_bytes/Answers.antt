@@ -20,7 +20,7 @@ loop-pending-preserved c =
     let kept = c.loop-pending.invariant in
     rw (mask_whole q.value q.bits kept.most)
     (record {
-      same = out_same q.value q.bits q.range _ _ many c.in_ok-put_byte.ensures.value c.in_ok-put_byte.ensures.length ∙ kept.same;
+      same = out_same q.value q.bits q.range _ _ many c.put_byte.ensures.value c.put_byte.ensures.length ∙ kept.same;
       pending = record {
         least = omega arith;
         window = out_window q.value q.range q.bits many kept.pending.byte;
@@ -28,5 +28,6 @@ loop-pending-preserved c =
         byte = kept.pending.byte;
       };
       most = omega (arith, kept.most);
-      bytes = c.in_ok-put_byte.ensures.bytes;
+      bytes = c.put_byte.ensures.bytes;
+      room = omega (arith, kept.room, c.put_byte.ensures.length, c.put_byte.ensures.capacity);
     })

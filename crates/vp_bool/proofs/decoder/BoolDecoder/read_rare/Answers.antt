@@ -1,8 +1,8 @@
 use Rattle.std.proofs.Common.{◌≡◌, ℕ, ◌+◌, ◌-◌, ◌*◌, ◌/◌, ◌%◌, ◌^◌, ◌<◌, ◌≤◌, false, arith, ◌∙◌, ap, sym}
-use Rattle.vp_bool.specs.Bools.{read, renormalised, split_of}
+use Rattle.vp_bool.specs.Bools.{read, split_of}
 use Rattle.vp_bool.specs.Window.{window_state, state, high_bits, IsWindow}
 use Rattle.vp_bool.specs.declared.decoder.Window.{Window}
-use Rattle.vp_bool.proofs.BoolLemmas.{normal-still, sound-normal}
+use Rattle.vp_bool.proofs.BoolLemmas.{normal-still}
 use Rattle.vp_bool.proofs.LawLemmas.{reads_on}
 use Rattle.vp_bool.proofs.PartLemmas.{IsPart, part_false, whole_bound}
 use Rattle.vp_bool.proofs.decoder.BoolDecoder.read_rare.Goals as goal
