@@ -59,6 +59,19 @@ fn seventeen_by_one(rt: HostRuntime) -> Result<(), Fail> {
     Ok(())
 }
 
+// The memory of the shown pixels is of their size, whatever memory there was before.
+#[test]
+fn memory_of_the_size(rt: HostRuntime) -> Result<(), Fail> {
+    let dim = Dim::new(17, 1, &Limits::usual()).ok().ok_or("a size")?;
+    let picture = Picture::new(rt.alloc(), dim, 128)?;
+    for room in [0, 34, 35, 36, 1_000] {
+        let mut shown = Vec::with_capacity(rt.alloc(), room)?;
+        picture.crop_into(rt.alloc(), &mut shown)?;
+        equal(&rt, &(shown.len(), shown.capacity()), &(35, 35));
+    }
+    Ok(())
+}
+
 // Copies a block of a plane of nine pixels. Returns its last pixel, which isn't shown.
 fn copy_four(picture: &mut Picture, nine: &mut Plane) -> u8
     requires wide { picture.old.width ≡ 17 }
