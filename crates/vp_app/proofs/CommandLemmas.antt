@@ -16,16 +16,16 @@ use Rattle.vp_encode.specs.declared.settings.Settings.{Settings}
 use Rattle.vp_encode.specs.declared.report.EncodeReport.{EncodeReport}
 use Rattle.vp_encode.specs.declared.report.EncodeAllFault.{EncodeAllFault}
 use Rattle.vp_encode.specs.declared.report.EncodeAllFault.TheVariants as encode_fault
-use Rattle.vp_app.specs.declared.encode.EncodeArgs.{EncodeArgs}
-use Rattle.vp_app.specs.declared.serve_args.ServeArgs.{ServeArgs}
+use Rattle.vp_args.specs.declared.encode_args.EncodeArgs.{EncodeArgs}
+use Rattle.vp_args.specs.declared.serve_args.ServeArgs.{ServeArgs}
 use Rattle.vp_app.specs.declared.service.ServiceFault.{ServiceFault}
-use Rattle.vp_app.specs.declared.args.Task.{Task}
-use Rattle.vp_app.specs.declared.args.Task.TheVariants.{Decode, Encode, Info, Serve, Nothing}
-use Rattle.vp_app.specs.declared.args.Refusal.{Refusal}
-use Rattle.vp_app.specs.declared.args.Refusal.TheVariants.{Words, Value}
+use Rattle.vp_args.specs.declared.args.Task.{Task}
+use Rattle.vp_args.specs.declared.args.Task.TheVariants.{Decode, Encode, Info, Serve, Nothing}
+use Rattle.vp_args.specs.declared.args.Refusal.{Refusal}
+use Rattle.vp_args.specs.declared.args.Refusal.TheVariants.{Words, Value}
 use Rattle.vp_app.specs.Status.{status_of}
-use Rattle.vp_app.specs.Args.{ParsedArgs, decodes, encodes, tells, serves, nothing, parsed_args, faults_of, IsForMemory, IsOfValue, IsTaskFor, IsMistake, IsRefusalFor, HasInvalidValue, AreMistaken}
-use Rattle.vp_app.specs.Commands.{DecodesFile, DecodesInto, Does, EncodesFile, EncodesInto, IsFileDecoded, IsFileEncoded, IsUnbegun, IsUnopened, IsUsageFault, SurveysFile, SurveysInput, Over, ServesConnections, Side, PrintsSurvey, is_stream, status_by_report, status_by_service}
+use Rattle.vp_args.specs.Args.{ParsedArgs, decodes, encodes, tells, serves, nothing, parsed_args, faults_of, IsForMemory, IsOfValue, IsTaskFor, IsMistake, IsRefusalFor, HasInvalidValue, AreMistaken, IsFlag}
+use Rattle.vp_app.specs.Commands.{DecodesFile, DecodesInto, Does, EncodesFile, EncodesInto, IsFileDecoded, IsFileEncoded, IsUnbegun, IsUnopened, IsUsageFault, SurveysFile, SurveysInput, Over, ServesConnections, Side, PrintsSurvey, is_stream, is_y4m, settings_of, status_by_report, status_by_service}
 
 pub over_stream : (name : List ℕ) (Work : Side → Side → Type 0) (old new : Side) → is_stream name ≡ true → Work old new → Over name Work old new
 over_stream name Work old new e h =
@@ -105,13 +105,13 @@ pictures_none s from to fault i o e f = inl (unopened encode_fault.Device encode
 
 -- ---- what is planned is done
 
-pub does_decode : (asked : ParsedArgs) (plan : Task) (form : Form) (from to : Bor (List ℕ)) (done : Result Report DecodeFault) (status : ℕ) (i i' o o' : Side)
-    → plan ≡ Decode form from to → IsTaskFor asked plan → status ≡ status_of done → DecodesFile form from.now to.now done i i' o o'
+pub does_decode : (asked : ParsedArgs) (plan : Task) (y4m : Bool) (form : Form) (from to : Bor (List ℕ)) (done : Result Report DecodeFault) (status : ℕ) (i i' o o' : Side)
+    → plan ≡ Decode y4m from to → is_y4m form ≡ y4m → IsTaskFor asked plan → status ≡ status_of done → DecodesFile form from.now to.now done i i' o o'
     → Does asked status i i' o o'
-does_decode asked plan form from to done status i i' o o' e h s d = go asked (subst (IsTaskFor asked) e h)
+does_decode asked plan y4m form from to done status i i' o o' e y h s d = go asked (subst (IsTaskFor asked) e h)
   where
-    go : (x : ParsedArgs) → IsTaskFor x (Decode form from to) → Does x status i i' o o'
-    go (decodes flag f t) p = rw (← p.1, ← p.2) (inl (form, done, p.0, s, d))
+    go : (x : ParsedArgs) → IsTaskFor x (Decode y4m from to) → Does x status i i' o o'
+    go (decodes flag f t) p = rw (← p.1, ← p.2) (inl (form, done, subst (IsFlag flag) (sym y) p.0, s, d))
     go (encodes rows f t) p = absurd p
     go (tells f) p = absurd p
     go (serves r a c t) p = absurd p
@@ -119,12 +119,12 @@ does_decode asked plan form from to done status i i' o o' e h s d = go asked (su
 
 pub does_encode : (asked : ParsedArgs) (plan : Task) (encoding : EncodeArgs) (done : Result EncodeReport EncodeAllFault) (status : ℕ) (i i' o o' : Side)
     → plan ≡ Encode encoding → IsTaskFor asked plan → status ≡ status_by_report done
-    → EncodesFile encoding.settings encoding.input.now encoding.output.now done i i' o o' → Does asked status i i' o o'
+    → EncodesFile (settings_of encoding.options) encoding.input.now encoding.output.now done i i' o o' → Does asked status i i' o o'
 does_encode asked plan encoding done status i i' o o' e h s d = go asked (subst (IsTaskFor asked) e h)
   where
     go : (x : ParsedArgs) → IsTaskFor x (Encode encoding) → Does x status i i' o o'
     go (decodes flag f t) p = absurd p
-    go (encodes rows f t) p = rw (← p.2, ← p.3) (inl (encoding.settings, done, p.0, s, d))
+    go (encodes rows f t) p = rw (← p.2, ← p.3) (inl (encoding.options, done, p.0, s, d))
     go (tells f) p = absurd p
     go (serves r a c t) p = absurd p
     go nothing p = absurd p

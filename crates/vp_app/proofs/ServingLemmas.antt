@@ -9,7 +9,7 @@ use Rattle.vp_app.specs.Feeding.{IsFed}
 use Rattle.std.specs.List.{list_all}
 use Rattle.vp_hub.specs.declared.session.ServeFault.{ServeFault}
 use Rattle.vp_hub.specs.Hub.{HubState}
-use Rattle.vp_app.specs.declared.serve_args.NamedFile.{NamedFile}
+use Rattle.vp_args.specs.declared.serve_args.NamedFile.{NamedFile}
 use Rattle.vp_app.specs.Serving.{AreFilesFed, AreServed, IsFileFed, IsServed}
 
 pub files_more : (streams : List NamedFile) (s : NamedFile) (old mid new : HubState) (before between after : Option (List ℕ))

@@ -15,6 +15,7 @@ use Rattle.vp_encode.specs.declared.report.EncodeAllFault.{EncodeAllFault}
 use Rattle.vp_encode.specs.declared.report.EncodeAllFault.TheVariants as encode_fault
 use Rattle.vp_encode.specs.File.{IsEncodeAnswerFor as IsEncoderAnswerFor}
 use Rattle.vp_stream.specs.declared.form.Form.{Form}
+use Rattle.vp_stream.specs.declared.form.Form.TheVariants.{I420, Y4m}
 use Rattle.vp_stream.specs.declared.report.Report.{Report}
 use Rattle.vp_stream.specs.declared.fault.DecodeFault.{DecodeFault}
 use Rattle.vp_stream.specs.declared.fault.DecodeFault.TheVariants.{File, Device, Memory}
@@ -26,11 +27,12 @@ use Rattle.clap.specs.Walk.{Row}
 use Rattle.vp_app.specs.Listing.{survey_text}
 use Rattle.vp_app.specs.Status.{status_of}
 use Rattle.vp_app.specs.Usual.{AreLimits}
-use Rattle.vp_app.specs.declared.serve_args.ServeArgs.{ServeArgs}
+use Rattle.vp_args.specs.declared.encode_args.EncodeOptions.{EncodeOptions}
+use Rattle.vp_args.specs.declared.serve_args.ServeArgs.{ServeArgs}
 use Rattle.vp_app.specs.declared.service.ServiceFault.{ServiceFault}
 use Rattle.vp_app.specs.Serving.{IsService}
-use Rattle.vp_app.specs.Args.{ParsedArgs, decodes, encodes, tells, serves, nothing, AreNoSettings, AreSettings, IsFlag}
-use Rattle.vp_app.specs.Args.{IsNoService, IsServiceFor, is_y4m}
+use Rattle.vp_args.specs.Args.{ParsedArgs, decodes, encodes, tells, serves, nothing, AreNoSettings, AreSettings, IsFlag}
+use Rattle.vp_args.specs.Args.{IsNoService, IsServiceFor}
 
 -- ---- standard streams
 
@@ -57,6 +59,11 @@ abbrev pub Over : List ℕ → (Side → Side → Type 0) → Side → Side → 
 Over name Work old new = MatchBool (is_stream name) (Work old new) ((new ≡ old) × ((a : Side) × (b : Side) × Work a b))
 
 -- ---- vp8 decode
+
+-- the form is YUV4MPEG2
+abbrev pub is_y4m : Form → Bool
+is_y4m I420 = false
+is_y4m Y4m = true
 
 -- the result of `decode_all`
 pub record IsFileDecoded (form : Form) (done : Result Report DecodeFault) (input input' output output' : Side)
@@ -130,6 +137,20 @@ PrintsSurvey (Err fault) status before after = (status ≡ 1) × (after ≡ befo
 
 -- ---- vp8 encode
 
+-- the encoder's settings, as the options say
+abbrev pub settings_of : EncodeOptions → Settings
+settings_of o = record {
+  qi = o.qi;
+  level = o.level;
+  sharpness = o.sharpness;
+  simple = o.simple;
+  key_every = o.key_every;
+  golden_every = o.golden_every;
+  range = o.range;
+  subpel = o.subpel;
+  partitions = o.partitions;
+}
+
 -- the result of `encode_all`
 pub record IsFileEncoded (settings : Settings) (done : Result EncodeReport EncodeAllFault)
     (input input' output output' : Side) : Type 0 where
@@ -181,8 +202,8 @@ DoesDecode flag from to status input input' output output' =
 -- the effect of `vp8 encode`
 abbrev pub DoesEncode : List Row → List ℕ → List ℕ → ℕ → Side → Side → Side → Side → Type 0
 DoesEncode rows from to status input input' output output' =
-    (settings : Settings) × (done : Result EncodeReport EncodeAllFault) × AreSettings rows settings
-    × (status ≡ status_by_report done) × EncodesFile settings from to done input input' output output'
+    (options : EncodeOptions) × (done : Result EncodeReport EncodeAllFault) × AreSettings rows options
+    × (status ≡ status_by_report done) × EncodesFile (settings_of options) from to done input input' output output'
 
 -- the effect of `vp8 info`
 abbrev pub DoesInfo : List ℕ → ℕ → Side → Side → Side → Side → Type 0

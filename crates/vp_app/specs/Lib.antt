@@ -1,7 +1,6 @@
 pub mod Usual
 pub mod Status
 pub mod Listing
-pub mod Args
 pub mod Feeding
 pub mod Serving
 pub mod Commands

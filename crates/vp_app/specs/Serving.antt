@@ -13,7 +13,7 @@ use Rattle.vp_hub.specs.declared.session.ServeFault.TheVariants.{Device}
 use Rattle.vp_hub.specs.Hub.{HubState, initial_hub}
 use Rattle.vp_hub.specs.Work.{Hub}
 use Rattle.vp_hub.specs.Sessions.{IsSession, IsTurnedAway}
-use Rattle.vp_app.specs.declared.serve_args.NamedFile.{NamedFile}
+use Rattle.vp_args.specs.declared.serve_args.NamedFile.{NamedFile}
 use Rattle.vp_app.specs.Usual.{AreLimits}
 use Rattle.vp_app.specs.Feeding.{IsFed}
 

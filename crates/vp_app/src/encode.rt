@@ -1,27 +1,32 @@
 //! The command `vp8 encode`.
 
 ghost use Rattle.std.specs.Prelude.{◌≡◌, ⊤, false};
-ghost use Rattle.vp_app.specs.Commands.{is_stream, read_side, written_side, EncodesFile, EncodesInto, IsFileEncoded};
+ghost use Rattle.vp_app.specs.Commands.{is_stream, read_side, settings_of, written_side, EncodesFile, EncodesInto, IsFileEncoded};
 
 use crate::files::file_fault;
 use std::alloc::Global;
 use std::fs;
 use std::io::{Read, Write};
 use std::rt::Files;
+use vp_args::{EncodeArgs, EncodeOptions};
 use vp_base::{Counted, Limits};
 use vp_encode::{EncodeAllFault, EncodeReport, Settings, Watcher, encode_all_watched};
 
-/// The arguments of `vp8 encode`. A file named `-` is standard input or output.
-#[derive(Clone, Copy, Debug, PartialEq, Eq)]
-pub struct EncodeArgs<'a> {
-    /// The encoder's settings.
-    pub settings: Settings,
-    /// Whether progress is reported.
-    pub progress: bool,
-    /// The file of pictures.
-    pub input: &'a str,
-    /// The file of packets.
-    pub output: &'a str,
+/// Returns the encoder's settings, as the options say.
+pub fn settings_of(options: &EncodeOptions) -> Settings
+    ensures { result ≡ settings_of options.now }
+{
+    Settings {
+        qi: options.qi,
+        level: options.level,
+        sharpness: options.sharpness,
+        simple: options.simple,
+        key_every: options.key_every,
+        golden_every: options.golden_every,
+        range: options.range,
+        subpel: options.subpel,
+        partitions: options.partitions,
+    }
 }
 
 /// A progress callback that prints the number of encoded frames after every tenth one, if progress is reported.
@@ -51,7 +56,7 @@ pub(crate) fn encode<H: Files + AllocGlobal, R: Read, W: Write, E: Write>(
     output: &mut Counted<W>,
     errors: &mut Counted<E>,
 ) -> Result<EncodeReport, EncodeAllFault>
-    ensures encoded { EncodesFile encoding.now.settings encoding.now.input.now encoding.now.output.now result
+    ensures encoded { EncodesFile (settings_of encoding.now.options) encoding.now.input.now encoding.now.output.now result
         (read_side R.remaining input.old) (read_side R.remaining input.new)
         (written_side W.contents output.old) (written_side W.contents output.new) }
     ensures unread { is_stream encoding.now.input.now ≡ false → input.new ≡ input.old }
@@ -81,12 +86,12 @@ fn encode_into<H: Files + AllocGlobal, R: Read, W: Write, T: Watcher>(
     output: &mut Counted<W>,
     watcher: &mut T,
 ) -> Result<EncodeReport, EncodeAllFault>
-    ensures encoded { EncodesInto encoding.now.settings encoding.now.output.now result
+    ensures encoded { EncodesInto (settings_of encoding.now.options) encoding.now.output.now result
         (read_side R.remaining input.old) (read_side R.remaining input.new)
         (written_side W.contents output.old) (written_side W.contents output.new) }
     ensures unwritten { is_stream encoding.now.output.now ≡ false → output.new ≡ output.old }
 {
-    let settings = encoding.settings;
+    let settings = settings_of(&encoding.options);
     if encoding.output == "-" {
         return encode_over(rt.alloc(), settings, input, output, watcher);
     }

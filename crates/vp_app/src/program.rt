@@ -6,15 +6,14 @@ ghost use Rattle.clap.specs.Walk.{texts};
 ghost use Rattle.clap.specs.declared.error.kind.ErrorKind.{ErrorKind};
 ghost use Rattle.vp_stream.specs.declared.fault.DecodeFault.{DecodeFault};
 ghost use Rattle.vp_base.specs.Counted.{counted_contents};
-ghost use Rattle.vp_app.specs.Commands.{is_stream, read_side, written_side, status_by_report, status_by_service};
+ghost use Rattle.vp_app.specs.Commands.{is_stream, is_y4m, read_side, written_side, status_by_report, status_by_service};
 ghost use Rattle.vp_app.specs.Commands.{DecodesFile, DecodesInto, Does, IsFileDecoded, IsFileSurveyed, SurveysFile};
 ghost use Rattle.vp_app.specs.Commands.{SurveysInput};
 ghost use Rattle.vp_app.specs.Commands.{PrintsSurvey};
 ghost use Rattle.vp_app.specs.Status.{status_of};
-ghost use Rattle.vp_app.specs.Args.{parsed_args, faults_of, AreMistaken, ParsedArgs, IsForMemory, IsMistake, IsOfValue};
-ghost use Rattle.vp_app.specs.Args.{IsTaskFor};
+ghost use Rattle.vp_args.specs.Args.{parsed_args, faults_of, AreMistaken, ParsedArgs, IsForMemory, IsMistake, IsOfValue};
+ghost use Rattle.vp_args.specs.Args.{IsTaskFor};
 
-use crate::args::{Refusal, Task, read_args};
 use crate::encode::encode;
 use crate::files::file_fault;
 use crate::listing::print_survey;
@@ -26,6 +25,7 @@ use std::io::{Read, Write};
 use std::net::{Net, TcpListener, TcpStream};
 use std::rt::{Env, Files};
 use std::{env, fmt, fs, io};
+use vp_args::{Refusal, Task, read_args};
 use vp_base::{Counted, Limits};
 use vp_encode::{EncodeAllFault, EncodeReport};
 use vp_stream::{DecodeFault, Form, Report, Survey, SurveyFault, decode_all, survey};
@@ -101,10 +101,10 @@ fn run_task<
 {
     match plan {
         Task::Decode {
-            form,
+            y4m,
             input: from,
             output: to,
-        } => report_decode(decode(rt, *form, from, to, input, output), errors),
+        } => report_decode(decode(rt, form_of(*y4m), from, to, input, output), errors),
         Task::Encode(encoding) => report_encode(
             encode(rt, encoding, input, output, errors),
             errors,
@@ -113,6 +113,13 @@ fn run_task<
         Task::Serve(service) => report_serve(serve(rt, service, input, output, errors), errors),
         Task::Nothing => 2,
     }
+}
+
+// Returns the form of the pictures: YUV4MPEG2, or I420.
+fn form_of(y4m: bool) -> Form
+    ensures { is_y4m result ≡ y4m }
+{
+    if y4m { Form::Y4m } else { Form::I420 }
 }
 
 // Reports why no task is run, and returns the exit status.

@@ -14,13 +14,13 @@ ghost use Rattle.vp_app.specs.Feeding.{FeedsPiece, IsFed};
 ghost use Rattle.vp_app.specs.Serving.{AreFilesFed, IsFileFed, IsNewHub, IsServed, IsServing, names_of};
 
 use crate::files::file_fault;
-use crate::serve_args::{NamedFile, ServeArgs};
 use std::alloc::{AllocError, Global};
 use std::io::{Read, Write};
 use std::net::{Net, Shutdown, TcpListener, TcpStream};
 use std::rt::Files;
 use std::time::Duration;
 use std::{fmt, fs, io};
+use vp_args::{NamedFile, ServeArgs};
 use vp_base::{ByteList, Counted, Limits};
 use vp_hub::{Event, Hub, HubFault, NewFault, ServeFault, serve_one};
 

@@ -6,7 +6,8 @@ use std::io;
 use std::io::{Read, Write};
 use std::net::{Shutdown, TcpListener, TcpStream};
 use std::test::Fail;
-use vp_app::{ServeArgs, Task, command, listen, read_args, serve_each};
+use vp_app::{command, listen, serve_each};
+use vp_args::{ServeArgs, Task, read_args};
 use vp_base::{Counted, FailAt};
 use vp_hub::{Event, Hub};
 

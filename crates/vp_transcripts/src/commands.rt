@@ -8,7 +8,8 @@ use crate::text::{Names, limits, malformed};
 use crate::transcript::{Found, Script};
 use std::alloc::Global;
 use std::{fs, io};
-use vp_app::{ServeArgs, Task, command, read_args};
+use vp_app::{command, settings_of};
+use vp_args::{EncodeOptions, ServeArgs, Task, read_args};
 use vp_base::{Counted, Limits};
 use vp_encode::{Settings, encode_all};
 
@@ -122,7 +123,7 @@ impl Commands {
 }
 
 /// Prints the settings that the options of `encode` select.
-fn tell_settings(alloc: Global, settings: &Settings, found: &mut Found) -> io::Result<()> {
+fn tell_settings(alloc: Global, settings: &EncodeOptions, found: &mut Found) -> io::Result<()> {
     let (qi, level, sharpness) = (settings.qi, settings.level, settings.sharpness);
     let (key_every, golden_every) = (settings.key_every, settings.golden_every);
     let (range, partitions) = (settings.range, settings.partitions);
@@ -150,7 +151,7 @@ fn tell_service(alloc: Global, service: &ServeArgs<'_>, found: &mut Found) -> io
 fn tell_plan(alloc: Global, line: &str, found: &mut Found) -> io::Result<()> {
     let words: Vec<&str> = line.split(' ').collect(alloc)?;
     match read_args(alloc, &words) {
-        Ok(Task::Encode(encoding)) => tell_settings(alloc, &encoding.settings, found),
+        Ok(Task::Encode(encoding)) => tell_settings(alloc, &encoding.options, found),
         Ok(Task::Serve(service)) => tell_service(alloc, &service, found),
         _ => Err(malformed()),
     }
@@ -159,7 +160,7 @@ fn tell_plan(alloc: Global, line: &str, found: &mut Found) -> io::Result<()> {
 /// Returns the settings that the arguments of `encode` select.
 fn asked(alloc: Global, words: &[&str]) -> Option<Settings> {
     match read_args(alloc, words) {
-        Ok(Task::Encode(encoding)) => Some(encoding.settings),
+        Ok(Task::Encode(encoding)) => Some(settings_of(&encoding.options)),
         _ => None,
     }
 }

@@ -9,7 +9,8 @@ use crate::text::{Names, limits, malformed, number};
 use crate::transcript::{Found, Script};
 use std::alloc::Global;
 use std::io;
-use vp_app::{ServeArgs, Task, feed_all, new_hub, read_args};
+use vp_app::{feed_all, new_hub};
+use vp_args::{ServeArgs, Task, read_args};
 use vp_base::{ByteList, Counted, Limits};
 use vp_hub::{Event, Hub, HubFault, NewFault, Reply};
 

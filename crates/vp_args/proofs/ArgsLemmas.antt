@@ -1,0 +1,163 @@
+-- What was found for words, and the plan.
+use Rattle.std.proofs.Common.{◌≡◌, ◌∙◌, ◌⊎◌, ◌<◌, ◌∷◌, ◌++◌, [], inl, inr, ℕ, zero, suc, List, Option, Some, None, Bool, true, false, refl, sym, ap, subst, length, get_or, le_of_suc-le-suc, le_refl, not-suc-le-zero}
+use Rattle.std.proofs.lemmas.Bool.{le-ltb}
+use Rattle.std.specs.List.{list_all, position_or_len}
+use Rattle.std.specs.Prelude.{◌&&◌, ◌||◌, codes, option_map, Result, Ok, Err, IfOk, IfErr}
+use Rattle.std.specs.Borrow.{Bor}
+use Rattle.clap.specs.Built.{AddsArg, AddsSubcommand}
+use Rattle.clap.specs.Walk.{Row, Rule, Text, one_of, rule_of, texts}
+use Rattle.clap.specs.Kinds.{FailsBy, HasKind}
+use Rattle.clap.specs.Faults.{fault_of, is_simple_and_free}
+use Rattle.clap.specs.Simple.{App, HasMatchesOf, app_of, is_simple, subcommand_of, subcommand_rows_of, with_rule, with_subcommand}
+use Rattle.clap.proofs.OnLiterals.{clap_on_literals}
+use Rattle.clap.specs.declared.error.Error.{Error}
+use Rattle.clap.specs.declared.builder.arg.Arg.{Arg}
+use Rattle.clap.specs.declared.builder.command.Command.{Command}
+use Rattle.clap.specs.declared.builder.command.Command.TheViews.{out-Command as fields_of}
+use Rattle.clap.specs.declared.parser.matches.ArgMatches.{ArgMatches}
+use Rattle.vp_args.specs.declared.args.Task.TheVariants.{Decode, Encode, Info, Nothing}
+use Rattle.vp_args.specs.declared.args.Refusal.{Refusal}
+use Rattle.vp_args.specs.declared.args.Refusal.TheVariants.{Words, Value}
+use Rattle.vp_args.specs.declared.encode_args.EncodeArgs.{EncodeArgs}
+use Rattle.vp_args.specs.Args.{ParsedArgs, decodes, encodes, serves, tells, decode_app, encode_app, faults_of, info_app, serve_app, vp8_app, Gains, IsFlag, IsForMemory, IsNoNaming, IsNoPlanFor, IsTaskFor, is_equals, is_parted, program, with_operand, with_operands, with_rules, with_service}
+
+-- ---- the commands
+
+with_one_more : (a : App) (rules : List Rule) (r : Rule) → with_rules a (rules ++ r ∷ []) ≡ with_rule (with_rules a rules) r
+with_one_more a [] r = refl
+with_one_more a (x ∷ rules) r = with_one_more (with_rule a x) rules r
+
+globals_stay : (b c : Bool) → c ≡ false → (b || c) ≡ b
+globals_stay b c e = rw e (or_false b)
+  where
+    or_false : (x : Bool) → (x || false) ≡ x
+    or_false true = refl
+    or_false false = refl
+
+pub gains_one : (old : Command) (rules : List Rule) (mid : Command) (a : Arg) (r : Rule) (new : Command) → Gains old rules mid → AddsArg mid a new
+    → a.global ≡ false → rule_of a ≡ r → Gains old (rules ++ r ∷ []) new
+gains_one old rules mid a r new h adds local is = (
+  adds.shape local ∙ (ap (λ x. with_rule (app_of mid) x) is ∙ (ap (λ x. with_rule x r) h.0 ∙ sym (with_one_more (app_of old) rules r))),
+  adds.globals ∙ (globals_stay (fields_of mid).has_globals a.global local ∙ h.1),
+)
+
+-- the same of commands that were made, or weren't
+pub gains_next : {E : Type 0} (made : Result Command E) (rules : List Rule) (mid : Result Command E) (a : Arg) (r : Rule) (new : Result Command E)
+    → IfOk mid (λ m. (old : Command) × (made ≡ Ok old) × Gains old rules m)
+    → IfOk new (λ n. (m : Command) × (mid ≡ Ok m) × AddsArg m a n) → a.global ≡ false → rule_of a ≡ r
+    → IfOk new (λ n. (old : Command) × (made ≡ Ok old) × Gains old (rules ++ r ∷ []) n)
+gains_next made rules mid a r (Ok n) h (m, is, adds) local e =
+    let before = subst (λ x. IfOk x (λ m. (old : Command) × (made ≡ Ok old) × Gains old rules m)) is h in
+    (before.0, before.1, gains_one before.0 rules m a r n before.2 adds local e)
+gains_next made rules mid a r (Err f) h k local e = tt
+
+pub gains_first : {E : Type 0} (made : Result Command E) (a : Arg) (r : Rule) (new : Result Command E)
+    → IfOk new (λ n. (m : Command) × (made ≡ Ok m) × AddsArg m a n) → a.global ≡ false → rule_of a ≡ r
+    → IfOk new (λ n. (old : Command) × (made ≡ Ok old) × Gains old (r ∷ []) n)
+gains_first made a r (Ok n) (m, is, adds) local e = (m, is, gains_one m [] m a r n (refl, refl) adds local e)
+gains_first made a r (Err f) k local e = tt
+
+-- a command of this shape, where it was made
+abbrev pub IsMade : App → Command → Type 0
+IsMade a c = (app_of c ≡ a) × ((fields_of c).has_globals ≡ false)
+
+pub gained : {E : Type 0} (made : Result Command E) (a : App) (rules : List Rule) (new : Result Command E) → IfOk made (IsMade a)
+    → IfOk new (λ n. (old : Command) × (made ≡ Ok old) × Gains old rules n) → IfOk new (IsMade (with_rules a rules))
+gained made a rules (Ok n) h (old, is, k) =
+    let before = subst (λ m. IfOk m (IsMade a)) is h in
+    (k.0 ∙ ap (λ x. with_rules x rules) before.0, k.1 ∙ before.1)
+gained made a rules (Err f) h k = tt
+
+pub sub_met : (old sub new : Command) (a b : App) → app_of old ≡ a → app_of sub ≡ b → (fields_of sub).has_globals ≡ false → AddsSubcommand old sub new
+    → app_of new ≡ with_subcommand a b.top
+sub_met old sub new a b e f local adds = adds.shape local ∙ (ap (λ x. with_subcommand x (app_of sub).top) e ∙ ap (λ (x : App). with_subcommand a x.top) f)
+
+-- the same of a command that was made, or wasn't
+pub made_met : {E : Type 0} (old : Command) (made : Result Command E) (new : Command) (a b : App) → app_of old ≡ a → IfOk made (λ c. app_of c ≡ b)
+    → IfOk made (λ c. (fields_of c).has_globals ≡ false) → ((sub : Command) × (made ≡ Ok sub) × AddsSubcommand old sub new)
+    → app_of new ≡ with_subcommand a b.top
+made_met old made new a b e f local (sub, is, adds) =
+    sub_met old sub new a b e (subst (λ m. IfOk m (λ c. app_of c ≡ b)) is f) (subst (λ m. IfOk m (λ c. (fields_of c).has_globals ≡ false)) is local) adds
+
+pub all_met : (a : App) → a ≡ with_subcommand (with_subcommand (with_subcommand (with_subcommand vp8_app decode_app.top) encode_app.top) info_app.top) serve_app.top
+    → a ≡ program
+unfolding program
+all_met a e = e
+
+-- ---- the words
+
+is_free : is_simple_and_free program ≡ true
+unfolding program clap_on_literals
+is_free = refl
+
+is_plain : is_simple program ≡ true
+unfolding program clap_on_literals
+is_plain = refl
+
+pub is_found : (r : Result ArgMatches Error) (app : App) (words : List Text) → app ≡ program → IfOk r (HasMatchesOf app words)
+    → (is_simple_and_free app ≡ true → FailsBy (fault_of app words) r)
+    → IfOk r (λ m. (faults_of words ≡ []) × (subcommand_rows_of m ≡ subcommand_of program words))
+is_found (Ok m) app words e h k =
+    (subst (λ a. fault_of a words ≡ []) e (k (ap is_simple_and_free e ∙ is_free)), (h (ap is_simple e ∙ is_plain)).1 ∙ ap (λ a. subcommand_of a words) e)
+is_found (Err f) app words e h k = tt
+
+pub is_fault : (r : Result ArgMatches Error) (app : App) (words : List Text) → app ≡ program
+    → (is_simple_and_free app ≡ true → FailsBy (fault_of app words) r) → IfErr r (HasKind (faults_of words))
+is_fault (Ok m) app words e k = tt
+is_fault (Err f) app words e k = subst (λ a. HasKind (fault_of a words) f) e (k (ap is_simple_and_free e ∙ is_free))
+
+-- ---- the plan
+
+pub flag_is : (text : Option Text) (flag : Bool) → (text ≡ None → flag ≡ false) → (text ≡ Some (codes "true") → flag ≡ true)
+    → (text ≡ Some (codes "false") → flag ≡ false) → IsFlag text flag
+flag_is None flag absent set unset = absent refl
+flag_is (Some t) flag absent set unset = (λ e. set (rw e refl), λ e. unset (rw e refl))
+
+pub to_decode : (flag from to : Option Text) (y4m : Bool) (input output : Bor Text) → IsFlag flag y4m → Some input.now ≡ from → Some output.now ≡ to
+    → IsTaskFor (with_operands (decodes flag) from to) (Decode y4m input output)
+to_decode flag from to y4m input output is e f = rw (← e, ← f) (is, refl, refl)
+
+pub no_operands : (ask : Text → Text → ParsedArgs) (from to : Option Text) → (from ≡ None) ⊎ (to ≡ None) → IsTaskFor (with_operands ask from to) Nothing
+no_operands ask None to e = tt
+no_operands ask (Some a) None e = tt
+no_operands ask (Some a) (Some b) (inl e) = cc
+no_operands ask (Some a) (Some b) (inr e) = cc
+
+pub to_tell : (from : Option Text) (input : Bor Text) → Some input.now ≡ from → IsTaskFor (with_operand tells from) (Info input)
+to_tell from input e = rw (← e) refl
+
+pub no_operand : (from : Option Text) → from ≡ None → IsTaskFor (with_operand tells from) Nothing
+no_operand from e = rw e tt
+
+pub to_serve : (rows : List Row) (address connections : Option Text) (operands : Option (List Text)) (a c : Text) (o : List Text)
+    → Some a ≡ address → Some c ≡ connections → Some o ≡ operands → (P : ParsedArgs → Type 0) → P (serves rows a c o)
+    → P (with_service rows address connections operands)
+to_serve rows address connections operands a c o e f g P h = rw (← e, ← f, ← g) h
+
+pub no_service : (rows : List Row) (address connections : Option Text) (operands : Option (List Text))
+    → (address ≡ None) ⊎ ((connections ≡ None) ⊎ (operands ≡ None)) → IsTaskFor (with_service rows address connections operands) Nothing
+no_service rows None connections operands e = tt
+no_service rows (Some a) None operands e = tt
+no_service rows (Some a) (Some c) None e = tt
+no_service rows (Some a) (Some c) (Some o) (inl e) = cc
+no_service rows (Some a) (Some c) (Some o) (inr (inl e)) = cc
+no_service rows (Some a) (Some c) (Some o) (inr (inr e)) = cc
+
+-- ---- operands that aren't parted
+
+unparted : (text : Text) → position_or_len is_equals text ≡ length text → is_parted text ≡ false
+unparted text e = rw e (le-ltb (length text) (length text) (le_refl _))
+
+pub no_naming : (operands : List (Bor Text)) (i : ℕ) (d : Bor Text) → i < length operands
+    → position_or_len is_equals (get_or operands i d).now ≡ length (get_or operands i d).now → list_all is_parted (texts operands) ≡ false
+no_naming [] i d lt e = absurd (not-suc-le-zero lt)
+no_naming (x ∷ xs) zero d lt e = rw (unparted x.now e) refl
+no_naming (x ∷ xs) (suc i) d lt e = still (is_parted x.now) (list_all is_parted (texts xs)) (no_naming xs i d (le_of_suc-le-suc lt) e)
+  where
+    still : (a b : Bool) → b ≡ false → (a && b) ≡ false
+    still true b e = e
+    still false b e = refl
+
+pub naming_memory : (operands : List Text) (r : Refusal) → IsForMemory r → IsNoNaming operands r
+naming_memory operands (Words e) h = h
+naming_memory operands (Value t) h = absurd h

@@ -1,0 +1,312 @@
+-- The command line: commands, options and operands in the terms of the crate clap, and the tasks that they select.
+-- Pinned by the tests `usual_settings`, `each_option_sets_its_own` and `served_as_asked`.
+use Rattle.std.specs.Prelude.{◌≡◌, ◌≢◌, ◌⊎◌, ◌<◌, ◌==◌, ◌^◌, ℕ, Bool, true, false, List, [], ◌∷◌, length, map, nat_lt}
+use Rattle.std.specs.Prelude.{Option, Some, None, codes, if◌then◌else◌}
+use Rattle.std.specs.List.{after_first, before_first, list_all, position_or_len}
+use Rattle.std.specs.Str.{bytes_eq}
+use Rattle.std.specs.Str.Parse.{digits_value, IsNumeral}
+use Rattle.clap.specs.Lexer.{usize_max, long_of, short_of}
+use Rattle.clap.specs.Values.{kind_of}
+use Rattle.clap.specs.Kinds.{Kinds, HasKind, IsAmong}
+use Rattle.clap.specs.Walk.{Row, Rule, Text, all_of, first_of, one_of}
+use Rattle.clap.specs.Simple.{App, app_of, new_app, new_rule, on_top, subcommand_of, with_rule, with_subcommand}
+use Rattle.clap.specs.Faults.{fault_of}
+use Rattle.clap.specs.declared.builder.command.Command.{Command}
+use Rattle.clap.specs.declared.builder.command.Command.TheViews.{out-Command as fields_of}
+use Rattle.clap.specs.declared.builder.action.ArgAction.TheVariants.{Set, Append, SetTrue}
+use Rattle.clap.specs.declared.error.kind.ErrorKind.TheVariants.{DisplayHelp, DisplayVersion, OutOfMemory}
+use Rattle.vp_args.specs.declared.encode_args.EncodeOptions.{EncodeOptions}
+use Rattle.vp_args.specs.declared.serve_args.NamedFile.{NamedFile}
+use Rattle.vp_args.specs.declared.serve_args.ServeArgs.{ServeArgs}
+use Rattle.vp_args.specs.declared.args.Task.{Task}
+use Rattle.vp_args.specs.declared.args.Refusal.{Refusal}
+use Rattle.vp_args.specs.declared.args.Refusal.TheVariants.{Words, Value}
+use Rattle.vp_args.specs.declared.args.Task.TheVariants.{Decode, Encode, Info, Serve, Nothing}
+
+-- ---- the commands
+
+-- an option with a value
+abbrev pub setting_rule : Text → Rule
+setting_rule name = record (new_rule name) { long = Some name; action = Some Set }
+
+-- a flag
+abbrev pub flag_rule : Text → Rule
+flag_rule name = record (new_rule name) { long = Some name; action = Some SetTrue }
+
+-- an operand
+abbrev pub operand_rule : Text → Rule
+operand_rule name = record (new_rule name) { required = true; action = Some Set }
+
+-- an operand that takes one value or more
+abbrev pub operands_rule : Text → Rule
+operands_rule name =
+    record (operand_rule name) {
+      range = Some (record { start_inclusive = 1; end_inclusive = usize_max });
+      action = Some Append;
+    }
+
+-- the command with these additional arguments
+abbrev pub with_rules : App → List Rule → App
+with_rules a [] = a
+with_rules a (r ∷ rs) = with_rules (with_rule a r) rs
+
+-- the new command is the old one with these additional arguments
+abbrev pub Gains : Command → List Rule → Command → Type 0
+Gains old rules new = (app_of new ≡ with_rules (app_of old) rules)
+    × ((fields_of new).has_globals ≡ (fields_of old).has_globals)
+
+-- vp8 decode [--y4m] IN OUT
+abbrev pub decode_app : App
+decode_app =
+    with_rules (new_app (codes "decode")) (flag_rule (codes "y4m") ∷ operand_rule (codes "IN")
+    ∷ operand_rule (codes "OUT") ∷ [])
+
+-- the options for coding and filtering macroblocks
+abbrev pub macroblock_rules : List Rule
+macroblock_rules =
+    setting_rule (codes "qi") ∷ setting_rule (codes "filter") ∷ setting_rule (codes "sharpness")
+    ∷ flag_rule (codes "simple") ∷ []
+
+-- the options for sequences of frames
+abbrev pub frame_rules : List Rule
+frame_rules =
+    setting_rule (codes "key-every") ∷ setting_rule (codes "golden-every") ∷ setting_rule (codes "range")
+    ∷ flag_rule (codes "subpel")
+    ∷ setting_rule (codes "partitions") ∷ []
+
+-- the progress flag and the files
+abbrev pub file_rules : List Rule
+file_rules = flag_rule (codes "progress") ∷ operand_rule (codes "IN") ∷ operand_rule (codes "OUT") ∷ []
+
+-- vp8 encode [options] IN OUT
+abbrev pub encode_app : App
+encode_app = with_rules (with_rules (with_rules (new_app (codes "encode")) macroblock_rules) frame_rules) file_rules
+
+-- vp8 info IN
+abbrev pub info_app : App
+info_app = with_rules (new_app (codes "info")) (operand_rule (codes "IN") ∷ [])
+
+-- an argument that must be present
+abbrev pub required : Rule → Rule
+required r = record r { required = true }
+
+-- the options and operands of `serve`
+abbrev pub serve_rules : List Rule
+serve_rules =
+    required (setting_rule (codes "listen")) ∷ required (setting_rule (codes "connections"))
+    ∷ setting_rule (codes "cache")
+    ∷ flag_rule (codes "show-address") ∷ operands_rule (codes "NAME=FILE") ∷ []
+
+-- vp8 serve --listen ADDR --connections N [options] NAME=FILE..
+abbrev pub serve_app : App
+serve_app = with_rules (new_app (codes "serve")) serve_rules
+
+-- the program's command without its subcommands
+abbrev pub vp8_app : App
+vp8_app = on_top (λ s. record s { has_version = true; disable_help_subcommand = true; subcommand_required = true })
+    (new_app (codes "vp8"))
+
+-- the program's command with its subcommands
+unfoldable pub program : App
+program = with_subcommand (with_subcommand
+    (with_subcommand (with_subcommand vp8_app decode_app.top) encode_app.top) info_app.top) serve_app.top
+
+-- ---- the task that the arguments ask for
+
+-- the task that the arguments ask for
+pub data ParsedArgs : Type 0 where
+  -- the value of the flag y4m, and the two files
+  decodes : Option Text → Text → Text → ParsedArgs
+  -- the options, and the two files
+  encodes : List Row → Text → Text → ParsedArgs
+  tells : Text → ParsedArgs
+  -- the options, the address, the number of connections, and the operands
+  serves : List Row → Text → Text → List Text → ParsedArgs
+  nothing : ParsedArgs
+
+-- the task, if both operands are present
+abbrev pub with_operands : (Text → Text → ParsedArgs) → Option Text → Option Text → ParsedArgs
+with_operands ask (Some input) (Some output) = ask input output
+with_operands ask _ _ = nothing
+
+-- the task, if the operand is present
+abbrev pub with_operand : (Text → ParsedArgs) → Option Text → ParsedArgs
+with_operand ask (Some input) = ask input
+with_operand ask None = nothing
+
+-- the task, if the required options and the operands are present
+abbrev pub with_service : List Row → Option Text → Option Text → Option (List Text) → ParsedArgs
+with_service rows (Some address) (Some connections) (Some operands) = serves rows address connections operands
+with_service rows _ _ _ = nothing
+
+-- the task, given a subcommand's name and its arguments
+abbrev pub asked_at : Text → List Row → ParsedArgs
+asked_at name rows =
+    if bytes_eq name (codes "decode") then with_operands (decodes (one_of (codes "y4m") rows))
+    (first_of (codes "IN") rows) (first_of (codes "OUT") rows)
+    else (if bytes_eq name (codes "encode") then with_operands (encodes rows) (first_of (codes "IN") rows)
+    (first_of (codes "OUT") rows)
+    else (if bytes_eq name (codes "info") then with_operand tells (first_of (codes "IN") rows)
+    else (if bytes_eq name (codes "serve")
+    then with_service rows (first_of (codes "listen") rows) (first_of (codes "connections") rows)
+    (all_of (codes "NAME=FILE") rows)
+    else nothing)))
+
+-- the task, given a subcommand, if there is one
+abbrev pub parsed_command : Option (Text × List Row) → ParsedArgs
+parsed_command None = nothing
+parsed_command (Some p) = asked_at p.0 p.1
+
+-- the task, given arguments that clap accepts
+abbrev pub parsed_args : List Text → ParsedArgs
+parsed_args words = parsed_command (subcommand_of program words)
+
+-- the kinds of errors for which clap refuses the arguments
+abbrev pub faults_of : List Text → Kinds
+faults_of words = fault_of program words
+
+-- ---- the values of the task
+
+-- a flag by its value; it isn't set if it has none
+abbrev pub IsFlag : Option Text → Bool → Type 0
+IsFlag None flag = flag ≡ false
+IsFlag (Some t) flag = (t ≡ codes "true" → flag ≡ true) × (t ≡ codes "false" → flag ≡ false)
+
+-- the text is a decimal number without a sign
+abbrev pub IsDecimal : Text → ℕ → Type 0
+IsDecimal text number = IsNumeral 10 text × (number ≡ digits_value 10 text)
+
+-- an option's number by its value, or the default
+abbrev pub IsNumber : Option Text → ℕ → ℕ → Type 0
+IsNumber None usual number = number ≡ usual
+IsNumber (Some text) usual number = IsDecimal text number
+
+-- the settings of the encoder, with the defaults
+pub record AreSettings (rows : List Row) (s : EncodeOptions) : Type 0 where
+  pub qi : IsNumber (first_of (codes "qi") rows) 32 s.qi
+  pub level : IsNumber (first_of (codes "filter") rows) 16 s.level
+  pub sharpness : IsNumber (first_of (codes "sharpness") rows) 0 s.sharpness
+  pub simple : IsFlag (one_of (codes "simple") rows) s.simple
+  pub key_every : IsNumber (first_of (codes "key-every") rows) 64 s.key_every
+  pub golden_every : IsNumber (first_of (codes "golden-every") rows) 0 s.golden_every
+  pub range : IsNumber (first_of (codes "range") rows) 16 s.range
+  pub subpel : IsFlag (one_of (codes "subpel") rows) s.subpel
+  pub partitions : IsNumber (first_of (codes "partitions") rows) 1 s.partitions
+
+-- an operand of `serve`, split at its first `=`
+abbrev pub is_equals : ℕ → Bool
+is_equals byte = byte == 61
+
+-- the name and the file in an operand
+abbrev pub parted : Text → Text × Text
+parted operand = (before_first is_equals operand, after_first is_equals operand)
+
+-- the operand has a `=`
+abbrev pub is_parted : Text → Bool
+is_parted operand = nat_lt (position_or_len is_equals operand) (length operand)
+
+-- all operands have a `=`, and these are their names and files
+abbrev pub AreNamed : List Text → List NamedFile → Type 0
+AreNamed operands streams =
+    (list_all is_parted operands ≡ true) × (map (λ stream. (stream.name.now, stream.file.now)) streams
+    ≡ map parted operands)
+
+-- the arguments of `serve`: the streams and files are as the operands say
+pub record IsServiceFor (rows : List Row) (address connections : Text) (operands : List Text) (s : ServeArgs)
+    : Type 0 where
+  pub address_is : s.listen.now ≡ address
+  pub connections_are : IsDecimal connections s.connections
+  pub cache_is : IsNumber (first_of (codes "cache") rows) 16 s.cache
+  pub shows : IsFlag (one_of (codes "show-address") rows) s.show_address
+  pub streams_are : AreNamed operands s.streams.items
+
+-- the task has the values that the arguments ask for
+abbrev pub IsTaskFor : ParsedArgs → Task → Type 0
+IsTaskFor (decodes flag from to) (Decode y4m input output) = IsFlag flag y4m × (input.now ≡ from)
+    × (output.now ≡ to)
+IsTaskFor (encodes rows from to) (Encode e) =
+    AreSettings rows e.options × IsFlag (one_of (codes "progress") rows) e.progress × (e.input.now ≡ from)
+    × (e.output.now ≡ to)
+IsTaskFor (tells from) (Info input) = input.now ≡ from
+IsTaskFor (serves rows address connections operands) (Serve s) = IsServiceFor rows address connections operands s
+IsTaskFor nothing Nothing = Unit {0}
+IsTaskFor _ _ = ⊥
+
+-- ---- refused values
+
+-- the text is not a decimal number below the bound
+abbrev pub IsNoDecimal : ℕ → Text → Type 0
+IsNoDecimal bound text = IsNumeral 10 text → digits_value 10 text < bound → ⊥
+
+-- the option has a value that is not such a number
+abbrev pub IsMisnumbered : ℕ → Option Text → Type 0
+IsMisnumbered bound None = ⊥
+IsMisnumbered bound (Some text) = IsNoDecimal bound text
+
+-- some option of `encode` is not a number of its type
+abbrev pub AreNoSettings : List Row → Type 0
+AreNoSettings rows =
+    IsMisnumbered 256 (first_of (codes "qi") rows) ⊎ (IsMisnumbered 256 (first_of (codes "filter") rows)
+    ⊎ (IsMisnumbered 256 (first_of (codes "sharpness") rows) ⊎
+    (IsMisnumbered (2 ^ 32) (first_of (codes "key-every") rows)
+    ⊎ (IsMisnumbered (2 ^ 32) (first_of (codes "golden-every") rows)
+    ⊎ (IsMisnumbered 256 (first_of (codes "range") rows)
+    ⊎ IsMisnumbered 256 (first_of (codes "partitions") rows))))))
+
+-- the number of cached pictures is not from 1 to 4096
+abbrev pub IsNoCache : Option Text → Type 0
+IsNoCache None = ⊥
+IsNoCache (Some text) = IsNumeral 10 text → 0 < digits_value 10 text → digits_value 10 text < 4097 → ⊥
+
+-- some value of `serve` is refused
+abbrev pub IsNoService : List Row → Text → List Text → Type 0
+IsNoService rows connections operands =
+    IsNoDecimal (2 ^ 32) connections ⊎ (IsNoCache (first_of (codes "cache") rows) ⊎ list_all is_parted operands ≡ false)
+
+-- some value is refused
+abbrev pub HasInvalidValue : ParsedArgs → Type 0
+HasInvalidValue (encodes rows from to) = AreNoSettings rows
+HasInvalidValue (serves rows address connections operands) = IsNoService rows connections operands
+HasInvalidValue _ = ⊥
+
+-- a refusal after clap accepted the arguments: out of memory, or a refused value
+abbrev pub IsNoPlanFor : ParsedArgs → Refusal → Type 0
+IsNoPlanFor asked (Words e) = kind_of e ≡ OutOfMemory
+IsNoPlanFor asked (Value text) = HasInvalidValue asked
+
+-- memory runs out, or an operand has no `=`
+abbrev pub IsNoNaming : List Text → Refusal → Type 0
+IsNoNaming operands (Words e) = kind_of e ≡ OutOfMemory
+IsNoNaming operands (Value text) = list_all is_parted operands ≡ false
+
+-- the refusal is about a value
+abbrev pub IsOfValue : Refusal → Type 0
+IsOfValue (Words e) = ⊥
+IsOfValue (Value text) = Unit {0}
+
+-- the refusal is because memory ran out
+abbrev pub IsForMemory : Refusal → Type 0
+IsForMemory (Words e) = kind_of e ≡ OutOfMemory
+IsForMemory (Value text) = ⊥
+
+-- the error is neither a request for help nor for the version
+abbrev pub IsMistake : Refusal → Type 0
+IsMistake (Words e) = (kind_of e ≢ DisplayHelp) × (kind_of e ≢ DisplayVersion)
+IsMistake (Value text) = Unit {0}
+
+-- clap refuses the arguments; or it accepts them, and a value is refused
+abbrev pub IsRefusalFor : List Text → Refusal → Type 0
+IsRefusalFor words (Words e) = HasKind (faults_of words) e
+IsRefusalFor words (Value text) = (faults_of words ≡ []) × HasInvalidValue (parsed_args words)
+
+-- the argument is not a flag, not an option, and not `--`
+pub record IsOperand (word : Text) : Type 0 where
+  pub separator : bytes_eq word (45 ∷ 45 ∷ []) ≡ false
+  pub long : long_of word ≡ None
+  pub short : short_of word ≡ None
+
+-- clap refuses the arguments, and they don't ask for help or the version
+pub record AreMistaken (words : List Text) : Type 0 where
+  pub some : faults_of words ≢ []
+  pub no_help : IsAmong DisplayHelp (faults_of words) → ⊥
+  pub no_version : IsAmong DisplayVersion (faults_of words) → ⊥

@@ -1,0 +1,23 @@
+//! Theorems about the command line.
+
+ghost use Rattle.std.specs.Prelude.{◌≡◌, [], ◌∷◌, Some, codes};
+ghost use Rattle.clap.specs.Walk.{Text};
+ghost use Rattle.vp_args.specs.Args.{parsed_args, decodes, faults_of, tells, IsOperand};
+
+/// `vp8 decode IN OUT` and `vp8 decode --y4m IN OUT` ask for exactly that.
+pub fn decode_words()
+    ensures plain { (name input output : Text) → IsOperand input → IsOperand output
+        → (faults_of (name ∷ codes "decode" ∷ input ∷ output ∷ []) ≡ [])
+        × (parsed_args (name ∷ codes "decode" ∷ input ∷ output ∷ []) ≡ decodes (Some (codes "false")) input output) }
+    ensures y4m { (name input output : Text) → IsOperand input → IsOperand output
+        → (faults_of (name ∷ codes "decode" ∷ codes "--y4m" ∷ input ∷ output ∷ []) ≡ [])
+        × (parsed_args (name ∷ codes "decode" ∷ codes "--y4m" ∷ input ∷ output ∷ [])
+        ≡ decodes (Some (codes "true")) input output) }
+{}
+
+/// `vp8 info IN` asks for exactly that.
+pub fn info_words()
+    ensures { (name input : Text) → IsOperand input
+        → (faults_of (name ∷ codes "info" ∷ input ∷ []) ≡ [])
+        × (parsed_args (name ∷ codes "info" ∷ input ∷ []) ≡ tells input) }
+{}
