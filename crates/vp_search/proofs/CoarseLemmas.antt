@@ -76,8 +76,8 @@ zero_at (suc m) zero = refl
 zero_at (suc m) (suc k) = zero_at m k
 
 -- sums that are all 0
-pub none_coarse : (n m : ℕ) → AreCoarse n (replicate m 0) (replicate m 0)
-none_coarse n m k h = let z = zero_at m k in rw z refl
+pub none_coarse : (n m l : ℕ) → AreCoarse n (replicate m 0) (replicate l 0)
+none_coarse n m l k h = zero_at l k ∙ ap coarse_of (sym (zero_at m k))
 
 -- ---- a part of the sums that are held
 pub part_coarse : (sums coarse : List ℕ) (start n m : ℕ) → AreCoarse m sums coarse → start + n ≤ m → AreCoarse n (mid_of start n sums) (mid_of start n coarse)

@@ -1,5 +1,5 @@
 //! Coarse sums of 8x8 squares: 64ths of the sums, so that sixteen fit into a vector. The bound by coarse sums excludes
-//! most vectors at half the cost of the bound by the sums; where it doesn't, that one decides.
+//! most vectors at half the cost of the bound by the sums; where it doesn't, that one decides. Short rows have none.
 
 ghost use Rattle.std.specs.Prelude.{◌≡◌, ℕ, ◌+◌, ◌*◌, ◌<◌, ◌≤◌, length, min, slice_index, false};
 ghost use Rattle.std.specs.Int.{abs_diff};
@@ -11,21 +11,38 @@ use crate::window::WINDOW_WIDTH;
 use std::simd::prelude::*;
 use vp_lanes::{abs_diff16, load16, store8};
 
+/// The least range for which coarse sums are made. Within a smaller one a row has fewer than eight groups of eight
+/// vectors, and coarse bounds don't pay.
+pub(crate) const LEAST_COARSE_RANGE: u8 = 28;
+
 /// 64ths of eight sums.
-pub(crate) fn coarse_lanes(sums: u16x8) -> u8x8
+fn coarse_lanes(sums: u16x8) -> u8x8
     ensures { (j : ℕ) → j < 8 → slice_index result j ≡ coarse_of (slice_index sums j) }
 {
     (sums >> 6).simd_min(u16x8::splat(255)).cast::<u8>()
 }
 
 /// Stores eight coarse sums from index `at` on.
-pub(crate) fn store_coarse(coarse: &mut [u8], at: usize, lanes: u8x8)
+fn store_coarse(coarse: &mut [u8], at: usize, lanes: u8x8)
     requires { at + 8 ≤ length coarse.old }
     ensures here { (j : ℕ) → j < 8 → slice_index coarse.new (at + j) ≡ slice_index lanes j }
     ensures before { (k : ℕ) → k < at → slice_index coarse.new k ≡ slice_index coarse.old k }
     ensures after { (k : ℕ) → at + 8 ≤ k → slice_index coarse.new k ≡ slice_index coarse.old k }
 {
     store8(coarse, at, lanes);
+}
+
+/// Stores the coarse sums of eight sums from index `at` on, if any coarse sums are kept.
+pub(crate) fn put_coarse(coarse: &mut [u8], at: usize, sums: u16x8)
+    requires { 0 < length coarse.old → at + 8 ≤ length coarse.old }
+    ensures here { 0 < length coarse.old → (j : ℕ) → j < 8
+        → slice_index coarse.new (at + j) ≡ coarse_of (slice_index sums j) }
+    ensures before { (k : ℕ) → k < at → slice_index coarse.new k ≡ slice_index coarse.old k }
+    ensures after { (k : ℕ) → at + 8 ≤ k → slice_index coarse.new k ≡ slice_index coarse.old k }
+{
+    if !coarse.is_empty() {
+        store_coarse(coarse, at, coarse_lanes(sums));
+    }
 }
 
 /// A 64th of a sum.

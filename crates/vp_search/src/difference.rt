@@ -13,6 +13,14 @@ pub fn sad16(a: &[u8; 256], b: &[u8; 256]) -> u32
     sad_within::<false>(a, b, 0, 16, u32::MAX)
 }
 
+/// Whether the sum of absolute differences of four rows is above `limit` already.
+pub(crate) fn leaves_soon(block: &[u8], window: &[u8], at: usize, stride: usize, limit: u32) -> bool
+    requires block { 256 ≤ length block.now }
+    requires window { at + 3 * stride + 16 ≤ length window.now }
+{
+    four_rows(block, window, 0, 16, at, stride) > limit
+}
+
 /// The sum of absolute differences of a block and the one at index `at` of a window with rows of `stride` pixels. If
 /// the sum is above `limit`, returns some number above `limit`. With `SOON` it is compared after the first four rows
 /// too: that pays where most blocks differ much, and not where bounds have excluded those, nor in noise.

@@ -1,6 +1,7 @@
 //! The best vector of a window. Rows are searched from the centre outwards; the result does not depend on the order. A
 //! vector whose bound is above the best known cost is skipped: it is neither the best nor a tie. So is a longer one
-//! whose bound is that cost, as most are where the picture is flat: it is no better, and loses a tie.
+//! whose bound is that cost, as most are where the picture is flat: it is no better, and loses a tie. Where bounds
+//! exclude less than half, as in noise and in fine texture, rows are searched without them.
 
 ghost use Rattle.std.specs.Prelude.{◌≡◌, ℕ, ◌+◌, ◌*◌, ◌<◌, ◌≤◌, ◌⊎◌, length, slice_index};
 ghost use Rattle.vp_search.specs.Vectors.{vector_length, IsNear};
@@ -9,13 +10,15 @@ ghost use Rattle.vp_search.specs.Window.{vector_at, window_cost, IsFoundInWindow
 ghost use Rattle.vp_search.specs.Bounds.{IsBound};
 ghost use Rattle.vp_search.specs.Summed.{IsSummedSearch};
 
-use crate::difference::sad_within;
-use crate::sums::{SquareSums, WIDE_ROW, any_within, next_within};
+use crate::difference::{leaves_soon, sad_within};
+use crate::sums::{SquareSums, bounds_at, next_within};
 use crate::vector::{Found, vector_at, vector_length};
 use crate::window::WINDOW_WIDTH;
 use std::simd::prelude::*;
 
-/// The better of a known vector and the one at row `i` and column `j`.
+/// The better of a known vector and the one at row `i` and column `j`. Always inlined: with a call for each vector, a
+/// search takes a third more instructions.
+#[inline(always)]
 pub(crate) fn consider<const SOON: bool>(
     block: &[u8],
     window: &[u8],
@@ -177,35 +180,97 @@ fn consider_eight(
     consider_each(block, window, range, best, spot, bounds.to_array())
 }
 
-/// A search between two rows.
+/// The rows, or the macroblocks, that are searched next without bounds.
 #[derive(Clone, Copy)]
-struct Progress {
-    /// The best vector so far.
-    best: Found,
-    /// The number of rows that are searched without bounds.
-    plain: usize,
+pub(crate) struct Plain {
+    /// How many they are.
+    pub(crate) left: u8,
+    /// Whether their vectors are compared with the best after four rows of pixels too.
+    pub(crate) soon: bool,
 }
 
-/// The number of rows that are searched without bounds after one in which many bounds were below the best cost, as in
-/// noise, where bounds cost more than they save. Whether they save more in other rows is seen again after these.
-const PLAIN_ROWS: usize = 7;
+impl Plain {
+    /// None.
+    pub(crate) fn none() -> Plain {
+        Plain {
+            left: 0,
+            soon: false,
+        }
+    }
 
-/// 1 if one of eight bounds is below the best cost, else 0.
+    /// Those that are left after the next one.
+    pub(crate) fn next(self) -> Plain {
+        Plain {
+            left: self.left.saturating_sub(1),
+            soon: self.soon,
+        }
+    }
+}
+
+/// A search after some rows: the best vector so far, and the rows that follow without bounds.
+#[derive(Clone, Copy)]
+pub(crate) struct Progress {
+    pub(crate) best: Found,
+    pub(crate) plain: Plain,
+}
+
+/// The number of rows that are searched without bounds once most bounds of a row are below the best cost. Then a sample
+/// of the last one decides about as many more.
+const PLAIN_ROWS: u8 = 7;
+
+/// Half of a group of eight vectors.
+const HALF: usize = 4;
+
+/// The number of eight bounds that are below the best cost.
 fn below_best(bounds: u16x8, cost: u32) -> usize
-    ensures { result ≤ 1 }
+    ensures { result ≤ 8 }
 {
-    usize::from(cost > 0 && any_within(bounds, cost - 1))
+    let most = cost.min(65535) as u16;
+    let below = bounds.simd_lt(u16x8::splat(most)).to_bitmask().count_ones();
+    (below as usize).min(8)
 }
 
-/// The number of rows to search without bounds after a row in which this many groups of eight had a bound below the
-/// best cost.
-fn plain_rows(passed: usize, groups: usize) -> usize
-    ensures { result ≤ PLAIN_ROWS }
+/// Whether most bounds of row `i` are below the best cost, by the eight in its middle.
+fn most_pass(sums: SquareSums, range: u8, cost: u32, i: usize) -> bool
+    requires range { range ≤ 64 }
+    requires i { i ≤ 2 * range }
+    requires room { (2 * range + 16) * WINDOW_WIDTH ≤ length sums.window.now }
 {
-    if groups >= WIDE_ROW && passed > groups / 4 {
-        PLAIN_ROWS
-    } else {
-        0
+    let middle = i * WINDOW_WIDTH + usize::from(range);
+    below_best(bounds_at(sums.block, sums.window, middle), cost) > HALF
+}
+
+/// Whether half of the vectors of row `i` cost more than `limit` by their first four rows of pixels, by the eight in
+/// its middle. If fewer do, as in noise, comparing there costs more than it saves.
+fn half_leave_soon(block: &[u8], window: &[u8], range: u8, limit: u32, i: usize) -> bool
+    requires block { 256 ≤ length block.now }
+    requires window { (2 * range + 16) * WINDOW_WIDTH ≤ length window.now }
+    requires range { range ≤ 64 }
+    requires i { i ≤ 2 * range }
+{
+    let first = i * WINDOW_WIDTH + usize::from(range);
+    let mut count = 0;
+    for t in 0..8 {
+        if leaves_soon(block, window, first + t, WINDOW_WIDTH, limit) {
+            count += 1;
+        }
+    }
+    count >= HALF
+}
+
+/// The rows that are searched without bounds after row `i`: some if `pass`, most of its bounds being below `cost`.
+fn plain_after(block: &[u8], window: &[u8], range: u8, cost: u32, i: usize, pass: bool) -> Plain
+    requires block { 256 ≤ length block.now }
+    requires window { (2 * range + 16) * WINDOW_WIDTH ≤ length window.now }
+    requires range { range ≤ 64 }
+    requires i { i ≤ 2 * range }
+{
+    if !pass {
+        return Plain::none();
+    }
+    Plain {
+        left: PLAIN_ROWS,
+        soon: half_leave_soon(block, window, range, cost, i),
     }
 }
 
@@ -245,7 +310,7 @@ fn consider_row(
     }
     Progress {
         best: found,
-        plain: plain_rows(passed, groups),
+        plain: plain_after(block, window, range, found.cost, i, passed > HALF * groups),
     }
 }
 
@@ -269,12 +334,21 @@ fn consider_next(
     ensures here { (j : ℕ) → j ≤ 2 * range → IsNoWorse result.best.cost result.best.vector
         (window_cost block.now window.now range (vector_at range i j)) (vector_at range i j) }
 {
-    if progress.plain == 0 {
+    let plain = progress.plain;
+    if plain.left == 0 {
         return consider_row(block, window, sums, range, progress.best, i);
     }
+    let best = consider_plainly(block, window, range, progress.best, i, plain.soon);
+    if plain.left > 1 {
+        return Progress {
+            best,
+            plain: plain.next(),
+        };
+    }
+    let pass = most_pass(sums, range, best.cost, i);
     Progress {
-        best: consider_plain_row::<false>(block, window, range, progress.best, i),
-        plain: progress.plain - 1,
+        best,
+        plain: plain_after(block, window, range, best.cost, i, pass),
     }
 }
 
@@ -295,7 +369,8 @@ pub(crate) fn centre_of(block: &[u8], window: &[u8], range: u8) -> Found
     }
 }
 
-/// The best of a known vector and those of row `i`, one by one.
+/// The best of a known vector and those of row `i`, one by one. Not inlined, so that there are two copies in all.
+#[inline(never)]
 fn consider_plain_row<const SOON: bool>(
     block: &[u8],
     window: &[u8],
@@ -320,6 +395,51 @@ fn consider_plain_row<const SOON: bool>(
     found
 }
 
+/// The best of a known vector and those of row `i`, one by one. With `soon` they are compared with the best after four
+/// rows of pixels too.
+fn consider_plainly(
+    block: &[u8],
+    window: &[u8],
+    range: u8,
+    best: Found,
+    i: usize,
+    soon: bool,
+) -> Found
+    requires block { 256 ≤ length block.now }
+    requires window { (2 * range + 16) * WINDOW_WIDTH ≤ length window.now }
+    requires range { range ≤ 64 }
+    requires i { i ≤ 2 * range }
+    requires best { IsFoundInWindow range (window_cost block.now window.now range) best }
+    ensures kept { IsFoundInWindow range (window_cost block.now window.now range) result }
+    ensures old { IsNoWorse result.cost result.vector best.cost best.vector }
+    ensures here { (j : ℕ) → j ≤ 2 * range → IsNoWorse result.cost result.vector
+        (window_cost block.now window.now range (vector_at range i j)) (vector_at range i j) }
+{
+    if soon {
+        return consider_plain_row::<true>(block, window, range, best, i);
+    }
+    consider_plain_row::<false>(block, window, range, best, i)
+}
+
+/// The best of a known vector and all others of a window, one by one. With `soon` they are compared with the best after
+/// four rows of pixels too.
+pub(crate) fn search_rows(block: &[u8], window: &[u8], range: u8, known: Found, soon: bool) -> Found
+    requires block { 256 ≤ length block.now }
+    requires window { (2 * range + 16) * WINDOW_WIDTH ≤ length window.now }
+    requires range { range ≤ 64 }
+    requires known { IsFoundInWindow range (window_cost block.now window.now range) known }
+    ensures cost { result.cost ≡ window_cost block.now window.now range result.vector }
+    ensures least { IsLeast range (window_cost block.now window.now range) result.vector }
+{
+    let middle = usize::from(range);
+    let mut best = consider_plainly(block, window, range, known, middle, soon);
+    for d in 0..middle {
+        best = consider_plainly(block, window, range, best, middle - 1 - d, soon);
+        best = consider_plainly(block, window, range, best, middle + 1 + d, soon);
+    }
+    best
+}
+
 /// The best vector of a window, one by one: where bounds don't pay, or their memory is not at hand. If the zero vector
 /// `centre` costs nothing, as on black bars, no other is better.
 pub(crate) fn search_plainly(block: &[u8], window: &[u8], range: u8, centre: Found) -> Found
@@ -334,13 +454,7 @@ pub(crate) fn search_plainly(block: &[u8], window: &[u8], range: u8, centre: Fou
     if centre.cost == 0 {
         return centre;
     }
-    let middle = usize::from(range);
-    let mut best = consider_plain_row::<true>(block, window, range, centre, middle);
-    for d in 0..middle {
-        best = consider_plain_row::<true>(block, window, range, best, middle - 1 - d);
-        best = consider_plain_row::<true>(block, window, range, best, middle + 1 + d);
-    }
-    best
+    search_rows(block, window, range, centre, true)
 }
 
 /// The best of a known vector and all others of a window, whose squares have the sums `sums`.
@@ -350,14 +464,14 @@ pub(crate) fn search_outwards(
     sums: SquareSums,
     range: u8,
     known: Found,
-) -> Found
+) -> Progress
     requires block { 256 ≤ length block.now }
     requires window { (2 * range + 16) * WINDOW_WIDTH ≤ length window.now }
     requires range { range ≤ 64 }
     requires sums { IsSummedSearch block.now window.now range sums }
     requires known { IsFoundInWindow range (window_cost block.now window.now range) known }
-    ensures cost { result.cost ≡ window_cost block.now window.now range result.vector }
-    ensures least { IsLeast range (window_cost block.now window.now range) result.vector }
+    ensures cost { result.best.cost ≡ window_cost block.now window.now range result.best.vector }
+    ensures least { IsLeast range (window_cost block.now window.now range) result.best.vector }
 {
     let middle = usize::from(range);
     let mut progress = consider_row(block, window, sums, range, known, middle);
@@ -365,5 +479,5 @@ pub(crate) fn search_outwards(
         progress = consider_next(block, window, sums, range, progress, middle - 1 - d);
         progress = consider_next(block, window, sums, range, progress, middle + 1 + d);
     }
-    progress.best
+    progress
 }

@@ -1,6 +1,6 @@
 //! The full search over whole pixels.
 
-ghost use Rattle.std.specs.Prelude.{◌≡◌, ℕ, ◌+◌, ◌*◌, ◌<◌, ◌≤◌, IfSome, length, slice_index};
+ghost use Rattle.std.specs.Prelude.{◌≡◌, ◌+◌, ◌*◌, ◌<◌, ◌≤◌, IfSome, length};
 ghost use Rattle.vp_search.specs.Vectors.{quarters, vector_length};
 ghost use Rattle.vp_search.specs.Differences.{block16};
 ghost use Rattle.vp_search.specs.Blocks.{macroblock_pixels, whole_cost, quarter_cost};
@@ -11,8 +11,8 @@ ghost use Rattle.vp_search.specs.Window.{window_cost, IsFoundInWindow};
 
 use crate::block::macroblock;
 use crate::coarse::coarse_block;
-use crate::outward::{centre_of, search_outwards, search_plainly};
-use crate::sums::{SquareSums, block_sums, fill_sums};
+use crate::outward::{Progress, centre_of, search_outwards, search_plainly};
+use crate::sums::{SquareSums, block_sums};
 use crate::vector::Found;
 use crate::window::{GREATEST_RANGE, WINDOW_WIDTH, cut_window};
 use vp_base::{Place, Plane};
@@ -20,11 +20,11 @@ use vp_base::{Place, Plane};
 /// The greatest range for which the small window is used; less memory has to be cleared.
 const SMALL_RANGE: u8 = 16;
 
-/// The least range for which the bounds of vectors are made: below it they cost more than they save.
+/// The least range for which a searcher makes the bounds of vectors: below it they cost more than they save.
 pub const LEAST_BOUNDED_RANGE: u8 = 8;
 
-/// The number of pixels in the window of a search of the small range, and eight more, as pixels are loaded by eight.
-const SMALL_WINDOW: usize = (16 + 2 * SMALL_RANGE as usize) * WINDOW_WIDTH + 8;
+/// The number of pixels in the window of a search of the small range.
+const SMALL_WINDOW: usize = (16 + 2 * SMALL_RANGE as usize) * WINDOW_WIDTH;
 
 /// The number of pixels in the window of a search of the greatest range.
 const WHOLE_WINDOW: usize = (16 + 2 * GREATEST_RANGE) * WINDOW_WIDTH;
@@ -60,35 +60,24 @@ pub fn search_block(block: &[u8; 256], reference: &Plane, place: Place, range: u
     ensures predicted { result.cost ≡ quarter_cost (block16 block.now) reference.now place (quarters result.vector) }
 {
     if range <= SMALL_RANGE {
-        search_small(block, reference, place, range)
+        search_in::<SMALL_WINDOW>(block, reference, place, range)
     } else {
-        search_wide(block, reference, place, range)
+        search_in::<WHOLE_WINDOW>(block, reference, place, range)
     }
 }
 
-/// Searches as `full_search` does within the small range. It isn't inlined: what it holds on the stack, `search_wide`
-/// needn't hold too.
+/// Searches as `full_search` does, with a window of `AREA` pixels. It makes no bounds: for one macroblock, sums cost
+/// more than they save on many textures, and take too much of a small stack. `Searcher` keeps them on the heap.
 #[inline(never)]
-fn search_small(block: &[u8; 256], reference: &Plane, place: Place, range: u8) -> Found
-    requires range { range ≤ SMALL_RANGE }
-    requires columns { 16 * place.column ≤ 16384 }
-    requires rows { 16 * place.row ≤ 16384 }
-    requires wide { 0 < reference.now.width }
-    requires high { 0 < reference.now.height }
-    ensures cost { result.cost ≡ whole_cost (block16 block.now) reference.now place result.vector }
-    ensures least { IsLeast range (whole_cost (block16 block.now) reference.now place) result.vector }
-    ensures predicted { result.cost ≡ quarter_cost (block16 block.now) reference.now place (quarters result.vector) }
-{
-    let mut window = [0; SMALL_WINDOW];
-    cut_window(&mut window, reference, place, range);
-    search_window(block, &window, range)
-}
-
-/// Searches as `full_search` does, without bounds: the sums of a large window would take too much of a small stack.
-/// `Searcher` has them on the heap.
-#[inline(never)]
-fn search_wide(block: &[u8; 256], reference: &Plane, place: Place, range: u8) -> Found
+fn search_in<const AREA: usize>(
+    block: &[u8; 256],
+    reference: &Plane,
+    place: Place,
+    range: u8,
+) -> Found
     requires range { range ≤ 64 }
+    requires room { (2 * range + 16) * WINDOW_WIDTH ≤ AREA }
+    requires small { AREA ≤ WHOLE_WINDOW }
     requires columns { 16 * place.column ≤ 16384 }
     requires rows { 16 * place.row ≤ 16384 }
     requires wide { 0 < reference.now.width }
@@ -97,27 +86,10 @@ fn search_wide(block: &[u8; 256], reference: &Plane, place: Place, range: u8) ->
     ensures least { IsLeast range (whole_cost (block16 block.now) reference.now place) result.vector }
     ensures predicted { result.cost ≡ quarter_cost (block16 block.now) reference.now place (quarters result.vector) }
 {
-    let mut window = [0; WHOLE_WINDOW];
+    let mut window = [0; AREA];
     cut_window(&mut window, reference, place, range);
     let centre = centre_of(block, &window, range);
     search_plainly(block, &window, range, centre)
-}
-
-/// The best vector of a small window.
-fn search_window(block: &[u8; 256], window: &[u8; SMALL_WINDOW], range: u8) -> Found
-    requires range { range ≤ SMALL_RANGE }
-    ensures cost { result.cost ≡ window_cost block.now window.now range result.vector }
-    ensures least { IsLeast range (window_cost block.now window.now range) result.vector }
-    ensures bytes { (k : ℕ) → slice_index window.now k ≤ 255 }
-{
-    let centre = centre_of(block, window, range);
-    if let Some(best) = search_without_sums(block, window, range, centre) {
-        return best;
-    }
-    let mut sums = [0; SMALL_WINDOW];
-    let mut coarse = [0; SMALL_WINDOW];
-    fill_sums(&mut sums, &mut coarse, window, range, 0);
-    search_summed(block, window, &sums, &coarse, range, centre)
 }
 
 /// The best vector of a window where bounds don't pay: within a small range, and where the zero vector `centre` costs
@@ -142,8 +114,8 @@ pub(crate) fn search_without_sums(
     None
 }
 
-/// The best of a known vector and all others of a window, whose squares have the sums `sums` and the coarse sums
-/// `coarse`.
+/// The best of a known vector and all others of a window, whose squares have the sums `sums` and, if there are any, the
+/// coarse sums `coarse`.
 pub(crate) fn search_summed(
     block: &[u8],
     window: &[u8],
@@ -151,17 +123,17 @@ pub(crate) fn search_summed(
     coarse: &[u8],
     range: u8,
     known: Found,
-) -> Found
+) -> Progress
     requires block { 256 ≤ length block.now }
     requires window { (2 * range + 16) * WINDOW_WIDTH ≤ length window.now }
     requires sums { (2 * range + 16) * WINDOW_WIDTH ≤ length sums.now }
-    requires coarse_room { (2 * range + 16) * WINDOW_WIDTH ≤ length coarse.now }
+    requires coarse_room { 0 < length coarse.now → (2 * range + 16) * WINDOW_WIDTH ≤ length coarse.now }
     requires range { range ≤ 64 }
     requires summed { IsSummed window.now sums.now range }
-    requires coarse { AreCoarse ((2 * range + 9) * WINDOW_WIDTH) sums.now coarse.now }
+    requires coarse { 0 < length coarse.now → AreCoarse ((2 * range + 9) * WINDOW_WIDTH) sums.now coarse.now }
     requires known { IsFoundInWindow range (window_cost block.now window.now range) known }
-    ensures cost { result.cost ≡ window_cost block.now window.now range result.vector }
-    ensures least { IsLeast range (window_cost block.now window.now range) result.vector }
+    ensures cost { result.best.cost ≡ window_cost block.now window.now range result.best.vector }
+    ensures least { IsLeast range (window_cost block.now window.now range) result.best.vector }
 {
     let squares = block_sums(block);
     let all = SquareSums {

@@ -8,8 +8,9 @@ ghost use Rattle.vp_search.specs.Least.{IsLeast};
 ghost use Rattle.vp_search.specs.Kept.{AreKept};
 ghost use Rattle.vp_search.specs.Coarse.{AreCoarse};
 
+use crate::coarse::LEAST_COARSE_RANGE;
 use crate::kept::{Kept, SLIDE};
-use crate::outward::{Spot, centre_of, consider};
+use crate::outward::{Plain, Spot, centre_of, consider, search_rows};
 use crate::search::{search_summed, search_without_sums};
 use crate::sums::fill_sums;
 use crate::vector::{Found, WholeVector};
@@ -28,7 +29,8 @@ fn window_size(range: u8) -> usize
 
 /// Searches macroblocks of one reference plane, one after another, as `search_block` does. It keeps the window's sums:
 /// for the macroblock to the right of the one before, only those of the new columns are made. Its memory is 84 KiB for
-/// range 64, 30 KiB for range 16. Below a range of `LEAST_BOUNDED_RANGE` it makes no sums.
+/// range 64, 22 KiB for range 16. It makes no sums below a range of `LEAST_BOUNDED_RANGE`, nor for a few macroblocks
+/// after one whose bounds excluded little.
 #[derive(Drop)]
 pub struct Searcher<'a> {
     reference: &'a Plane,
@@ -37,13 +39,15 @@ pub struct Searcher<'a> {
     window: Vec<u8>,
     /// The sums of a window's squares, and as many more as they slide.
     sums: Vec<u16>,
-    /// The coarse sums of all of them.
+    /// The coarse sums of all of them; none below a range of `LEAST_COARSE_RANGE`.
     coarse: Vec<u8>,
     /// Which of the sums are made.
     kept: Kept,
     /// Where the vector that was found last leads. The next one is often the same, so the next search begins there: the
     /// less its best vector costs, the more others are excluded by their bounds.
     begin: Spot,
+    /// The macroblocks that follow without sums.
+    plain: Plain,
 }
 
 impl<'a> Model for Searcher<'a> {
@@ -60,15 +64,16 @@ impl<'a> Model for Searcher<'a> {
 
     ghost invariant = { λ s. (s.range ≤ 64) × (0 < s.reference.now.width) × (0 < s.reference.now.height)
         × AreKept s.reference.now s.range s.kept s.sums.items
-        × AreCoarse (vec_len s.sums) s.sums.items s.coarse.items
+        × (0 < vec_len s.coarse → AreCoarse (vec_len s.sums) s.sums.items s.coarse.items)
         × (vec_len s.window ≡ (2 * s.range + 16) * WINDOW_WIDTH + 8)
-        × (vec_len s.sums ≡ (2 * s.range + 16) * WINDOW_WIDTH + 8 + SLIDE) × (vec_len s.coarse ≡ vec_len s.sums)
+        × (vec_len s.sums ≡ (2 * s.range + 16) * WINDOW_WIDTH + 8 + SLIDE)
+        × (0 < vec_len s.coarse → vec_len s.coarse ≡ vec_len s.sums)
         × (s.begin.row ≤ 2 * s.range) × (s.begin.column ≤ 2 * s.range) };
 }
 
 impl<'a> Searcher<'a> {
     /// Starts searches of all vectors of whole pixels whose row and column are from `-range` to `range`, at most 64. No
-    /// sums are made yet. Asks for memory three times.
+    /// sums are made yet. Asks for memory three times, below a range of `LEAST_COARSE_RANGE` twice.
     pub fn new(alloc: Global, reference: &'a Plane, range: u8) -> Result<Searcher<'a>, AllocError>
         requires wide { 0 < reference.now.width }
         requires high { 0 < reference.now.height }
@@ -79,7 +84,12 @@ impl<'a> Searcher<'a> {
         let size = window_size(range);
         let window = vec![in alloc; 0; size]?;
         let sums = vec![in alloc; 0; size + SLIDE]?;
-        let coarse = vec![in alloc; 0; size + SLIDE]?;
+        let coarse_size = if range < LEAST_COARSE_RANGE {
+            0
+        } else {
+            size + SLIDE
+        };
+        let coarse = vec![in alloc; 0; coarse_size]?;
         Ok(Searcher {
             reference,
             range,
@@ -91,6 +101,7 @@ impl<'a> Searcher<'a> {
                 row: usize::from(range),
                 column: usize::from(range),
             },
+            plain: Plain::none(),
         })
     }
 
@@ -109,24 +120,39 @@ impl<'a> Searcher<'a> {
             range: self.range,
             place,
             begin: self.begin,
+            plain: self.plain,
         };
         let window = self.window.as_mut_slice();
         let sums = self.sums.as_mut_slice();
         let coarse = self.coarse.as_mut_slice();
-        let (found, kept) = search_kept(block, view, window, sums, coarse, self.kept);
+        let (found, kept, plain) = search_kept(block, view, window, sums, coarse, self.kept);
         self.kept = kept;
+        self.plain = plain;
         self.begin = spot_of(found.vector, self.range);
         found
     }
 }
 
-/// What is searched for one macroblock, and where in its window the search begins.
+/// What is searched for one macroblock, where in its window the search begins, and whether without sums.
 #[derive(Clone, Copy)]
 struct View<'a> {
     reference: &'a Plane,
     range: u8,
     place: Place,
     begin: Spot,
+    plain: Plain,
+}
+
+/// The macroblocks that are searched without sums after one whose rows ended thus. The last one with sums before it was
+/// `distance` columns to the left: while rows end without bounds, one is left out, then three, then seven.
+fn macroblocks_after(rows: Plain, distance: usize) -> Plain {
+    if rows.left == 0 {
+        return rows;
+    }
+    Plain {
+        left: (2 * distance.clamp(1, 4) - 1) as u8,
+        soon: rows.soon,
+    }
 }
 
 /// Where a vector leads in the window of a range; the nearest place of the window if that is outside.
@@ -141,7 +167,8 @@ fn spot_of(vector: WholeVector, range: u8) -> Spot
     }
 }
 
-/// Searches for a macroblock in memory that is lent, with the sums that are kept. Also returns which are kept after it.
+/// Searches for a macroblock in memory that is lent, with the sums that are kept. Also returns which are kept after it,
+/// and the macroblocks that follow without sums.
 fn search_kept(
     block: &[u8; 256],
     view: View,
@@ -149,7 +176,7 @@ fn search_kept(
     sums: &mut [u16],
     coarse: &mut [u8],
     known: Kept,
-) -> (Found, Kept)
+) -> (Found, Kept, Plain)
     requires wide { 0 < view.reference.now.width }
     requires high { 0 < view.reference.now.height }
     requires range { view.range ≤ 64 }
@@ -159,11 +186,11 @@ fn search_kept(
     requires begin_column { view.begin.column ≤ 2 * view.range }
     requires window_size { length window.old ≡ (2 * view.range + 16) * WINDOW_WIDTH + 8 }
     requires sums_size { length sums.old ≡ (2 * view.range + 16) * WINDOW_WIDTH + 8 + SLIDE }
-    requires coarse_size { length coarse.old ≡ length sums.old }
+    requires coarse_size { 0 < length coarse.old → length coarse.old ≡ length sums.old }
     requires known { AreKept view.reference.now view.range known sums.old }
-    requires coarse { AreCoarse (length sums.old) sums.old coarse.old }
+    requires coarse { 0 < length coarse.old → AreCoarse (length sums.old) sums.old coarse.old }
     ensures kept { AreKept view.entry.reference.now view.entry.range result.1 sums.new }
-    ensures coarse { AreCoarse (length sums.old) sums.new coarse.new }
+    ensures coarse { 0 < length coarse.old → AreCoarse (length sums.old) sums.new coarse.new }
     ensures cost { result.0.cost ≡ whole_cost (block16 block.now) view.entry.reference.now view.entry.place
         result.0.vector }
     ensures least { IsLeast view.entry.range (whole_cost
@@ -176,23 +203,32 @@ fn search_kept(
         range,
         place,
         begin,
+        plain,
     } = view;
     cut_window(window, reference, place, range);
     let centre = centre_of(block, window, range);
     if let Some(best) = search_without_sums(block, window, range, centre) {
-        return (best, known);
+        return (best, known, plain.next());
+    }
+    let first = consider::<false>(block, window, range, centre, begin.row, begin.column);
+    if plain.left > 0 {
+        let found = search_rows(block, window, range, first, plain.soon);
+        return (found, known, plain.next());
     }
     let moved = known.moved_to(place);
     let sums = &mut sums[moved.start..];
-    let coarse = &mut coarse[moved.start..];
+    let coarse_start = moved.start.min(coarse.len());
+    let coarse = &mut coarse[coarse_start..];
     fill_sums(sums, coarse, window, range, moved.columns);
     let kept = Kept {
         columns: 2 * usize::from(range) + 9,
         ..moved
     };
-    let first = consider::<false>(block, window, range, centre, begin.row, begin.column);
+    let progress = search_summed(block, window, sums, coarse, range, first);
+    let distance = place.column.saturating_sub(known.place.column);
     (
-        search_summed(block, window, sums, coarse, range, first),
+        progress.best,
         kept,
+        macroblocks_after(progress.plain, distance),
     )
 }

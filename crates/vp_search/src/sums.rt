@@ -8,13 +8,9 @@ ghost use Rattle.vp_search.specs.Bounds.{capped, column_sum, row_sum, square_sum
 ghost use Rattle.vp_search.specs.Bounds.{IsSummed, AreSummed};
 ghost use Rattle.vp_search.specs.Coarse.{AreCoarse};
 
-use crate::coarse::{coarse_lanes, next_coarse, store_coarse};
+use crate::coarse::{next_coarse, put_coarse};
 use crate::window::WINDOW_WIDTH;
 use std::simd::prelude::*;
-
-/// The least number of groups of eight vectors in a row for which coarse bounds come first, and for which rows can be
-/// searched without bounds: in a shorter row neither pays.
-pub(crate) const WIDE_ROW: usize = 8;
 
 /// The number of column sums of a row, and eight more.
 const COLUMNS: usize = WINDOW_WIDTH + 8;
@@ -28,7 +24,7 @@ pub(crate) struct SquareSums<'a> {
     pub(crate) window: &'a [u16],
     /// Coarse sums of the squares of the block.
     pub(crate) coarse_block: [u8; 4],
-    /// Coarse sums of the squares at each place of the window.
+    /// Coarse sums of the squares at each place of the window; none if coarse bounds don't pay.
     pub(crate) coarse: &'a [u8],
 }
 
@@ -160,34 +156,36 @@ fn slide_columns(columns: &mut [u16], pixels: &[u8], at: usize, step: usize, gro
     }
 }
 
-/// Writes the sums of eight neighbours each, and their coarse sums, to index `at`, eight at a time.
+/// Writes the sums of eight neighbours each, and their coarse sums if there are any, to index `at`, eight at a time.
 fn put_squares(sums: &mut [u16], coarse: &mut [u8], at: usize, columns: &[u16], groups: usize)
     requires room { at + 8 * groups ≤ length sums.old }
-    requires coarse_room { at + 8 * groups ≤ length coarse.old }
+    requires coarse_room { 0 < length coarse.old → at + 8 * groups ≤ length coarse.old }
     requires columns { 8 * groups + 8 ≤ length columns.now }
     ensures here { (x : ℕ) → x < 8 * groups → slice_index sums.new (at + x) ≡ row_sum columns.now x }
     ensures before { (k : ℕ) → k < at → slice_index sums.new k ≡ slice_index sums.old k }
     ensures after { (k : ℕ) → at + 8 * groups ≤ k → slice_index sums.new k ≡ slice_index sums.old k }
-    ensures coarse { (n : ℕ) → AreCoarse n sums.old coarse.old → AreCoarse n sums.new coarse.new }
+    ensures coarse { 0 < length coarse.old → (n : ℕ) → AreCoarse n sums.old coarse.old
+        → AreCoarse n sums.new coarse.new }
 {
     for g in 0..groups {
         let squares = row_sums(columns, 8 * g);
         store_sums(sums, at + 8 * g, squares);
-        store_coarse(coarse, at + 8 * g, coarse_lanes(squares));
+        put_coarse(coarse, at + 8 * g, squares);
     }
 }
 
-/// Writes the sums of the squares of a window that a search compares, and their coarse sums, from column `first` on.
-/// Those before stand already.
+/// Writes the sums of the squares of a window that a search compares, and their coarse sums if there are any, from
+/// column `first` on. Those before stand already.
 pub(crate) fn fill_sums(sums: &mut [u16], coarse: &mut [u8], window: &[u8], range: u8, first: usize)
     requires range { range ≤ 64 }
     requires room { (2 * range + 16) * WINDOW_WIDTH ≤ length sums.old }
-    requires coarse_room { (2 * range + 16) * WINDOW_WIDTH ≤ length coarse.old }
+    requires coarse_room { 0 < length coarse.old → (2 * range + 16) * WINDOW_WIDTH ≤ length coarse.old }
     requires window { (2 * range + 16) * WINDOW_WIDTH + 8 ≤ length window.now }
     requires first { first ≤ 2 * range + 9 }
     requires known { AreSummed window.now sums.old range first }
     ensures sums { IsSummed window.now sums.new range }
-    ensures coarse { (n : ℕ) → AreCoarse n sums.old coarse.old → AreCoarse n sums.new coarse.new }
+    ensures coarse { 0 < length coarse.old → (n : ℕ) → AreCoarse n sums.old coarse.old
+        → AreCoarse n sums.new coarse.new }
 {
     let groups = (2 * usize::from(range) + 16 - first) / 8;
     let mut columns = [0; COLUMNS];
@@ -234,7 +232,7 @@ fn gaps(sum: u16, sums: &[u16], at: usize) -> u16x8
 }
 
 /// The bounds of the eight vectors whose blocks begin at index `at` and after it.
-fn bounds_at(block: [u16; 4], sums: &[u16], at: usize) -> u16x8
+pub(crate) fn bounds_at(block: [u16; 4], sums: &[u16], at: usize) -> u16x8
     requires { at + 8 * WINDOW_WIDTH + 16 ≤ length sums.now }
     ensures { (j : ℕ) → j < 8 → slice_index result j ≡ bound_of block sums.now (at + j) }
 {
@@ -264,10 +262,12 @@ pub(crate) fn next_within(
     limit: u32,
 ) -> (usize, u16x8)
     requires room { at + 8 * groups + 8 * WINDOW_WIDTH + 8 ≤ length sums.window.now }
-    requires coarse_room { at + 8 * groups + 8 * WINDOW_WIDTH + 16 ≤ length sums.coarse.now }
+    requires coarse_room { 0 < length sums.coarse.now
+        → at + 8 * groups + 8 * WINDOW_WIDTH + 16 ≤ length sums.coarse.now }
     requires start { start ≤ groups }
     requires block { AreCoarse 4 sums.block sums.coarse_block }
-    requires coarse { AreCoarse (at + 8 * groups + 8 * WINDOW_WIDTH + 8) sums.window.now sums.coarse.now }
+    requires coarse { 0 < length sums.coarse.now
+        → AreCoarse (at + 8 * groups + 8 * WINDOW_WIDTH + 8) sums.window.now sums.coarse.now }
     ensures later { start ≤ result.0 }
     ensures bound { result.0 ≤ groups }
     ensures skipped { (g t : ℕ) → start ≤ g → g < result.0 → t < 8
@@ -277,7 +277,7 @@ pub(crate) fn next_within(
 {
     let mut g = start;
     while g < groups {
-        if groups >= WIDE_ROW {
+        if !sums.coarse.is_empty() {
             g = next_coarse(sums, at, g, groups, limit);
         }
         if g < groups {

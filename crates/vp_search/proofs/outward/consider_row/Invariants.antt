@@ -5,7 +5,7 @@ use Rattle.vp_search.proofs.outward.consider_row.Given as goal
 
 abbrev pub invariant-loop-g : goal.invariant-loop-g
 invariant-loop-g l = record {
-  few : l.passed ≤ l.g;
+  few : l.passed ≤ 8 * l.g;
   within : l.g ≤ l.groups + 1;
   kept : IsFoundInWindow l.range (window_cost l.block l.window l.range) l.found;
   old : IsNoWorse l.found.cost l.found.vector l.fn.best.cost l.fn.best.vector;

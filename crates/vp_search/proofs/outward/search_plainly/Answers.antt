@@ -1,39 +1,7 @@
-use Rattle.std.proofs.Common.{◌≡◌, ℕ, ◌+◌, sym, arith, subst, inl, inr, ◌-◌, ◌∙◌}
-use Rattle.vp_search.specs.declared.vector.Found.{Found}
-use Rattle.vp_search.specs.Least.{IsNoWorse}
-use Rattle.vp_search.specs.Window.{window_cost, vector_at}
-use Rattle.std.proofs.lemmas.Bool.{cases_eq}
-use Rattle.vp_search.proofs.OrderLemmas.{least_of_all, along, zero_least}
+use Rattle.std.proofs.Common.{sym, ◌∙◌}
+use Rattle.vp_search.specs.Window.{window_cost}
+use Rattle.vp_search.proofs.OrderLemmas.{zero_least}
 use Rattle.vp_search.proofs.outward.search_plainly.Goals as goal
-
-pub loop-d-preserved : goal.loop-d-preserved
-loop-d-preserved c =
-    let b = c.args.block.now in let w = c.args.window.now in let r = c.args.range in let d = c.loop-d.d in
-    let f : Found = c.loop-d.best in let g : Found = c.consider_plain_row-best-in-loop-d.result in let h : Found = c.consider_plain_row-best-in-loop-d-2.result in
-    let m : c.from-middle.result ≡ r = c.from-middle.ensures in
-    let one = c.consider_plain_row-best-in-loop-d.ensures in let two = c.consider_plain_row-best-in-loop-d-2.ensures in
-    let inv = c.loop-d.invariant in
-    record {
-      kept = two.kept;
-      seen = λ p q low high wide. elim (cases_eq p (c.from-middle.result - 1 - d)) [
-        | inl e ↦ (let n : IsNoWorse g.cost g.vector (window_cost b w r (vector_at r p q)) (vector_at r p q) =
-            subst (λ (k : ℕ). IsNoWorse g.cost g.vector (window_cost b w r (vector_at r k q)) (vector_at r k q)) (sym e) (one.here q wide) in
-            along h.cost h.vector g.cost g.vector _ (vector_at r p q) two.old n)
-        | inr u ↦ elim (cases_eq p (c.from-middle.result + 1 + d)) [
-          | inl e ↦ subst (λ (k : ℕ). IsNoWorse h.cost h.vector (window_cost b w r (vector_at r k q)) (vector_at r k q)) (sym e) (two.here q wide)
-          | inr v ↦ along h.cost h.vector g.cost g.vector _ (vector_at r p q) two.old
-              (along g.cost g.vector f.cost f.vector _ (vector_at r p q) one.old (inv.seen p q (omega arith) (omega arith) wide))
-        ]
-      ];
-    }
-
-pub returns-clause-least : goal.returns-clause-least
-returns-clause-least c =
-    let r = c.args.range in
-    let m : c.from-middle.result ≡ r = c.from-middle.ensures in
-    let t = c.loop-d-test.false in
-    least_of_all r (window_cost c.args.block.now c.args.window.now r) c.loop-d.best c.loop-d.invariant.kept
-    (λ i j high wide. c.loop-d.invariant.seen i j (omega arith) (omega arith) wide)
 
 pub returns-then-centre-eq0-clause-least : goal.returns-then-centre-eq0-clause-least
 returns-then-centre-eq0-clause-least c =

@@ -1,4 +1,4 @@
-use Rattle.std.proofs.Common.{◌≡◌, ◌≤◌, List, ℕ, ◌+◌, ◌-◌, ◌*◌, length, subst, sym, arith, rules}
+use Rattle.std.proofs.Common.{◌≡◌, ◌≤◌, ◌<◌, List, ℕ, ◌+◌, ◌-◌, ◌*◌, length, min, subst, sym, arith, rules}
 use borrow.Rule.Slice.PartMut.{put_mid, mid_of}
 use Rattle.vp_base.specs.declared.place.Place.{Place}
 use Rattle.vp_search.specs.Coarse.{AreCoarse}
@@ -23,6 +23,21 @@ returns-in-Some-clause-predicted c =
     (best_whole c.args.block.now c.cut_window.new.window c.args.view.reference.now c.args.view.place c.args.view.range c.in-Some.best c.cut_window.ensures c.centre_of-centre.ensures.bytes
     c.in-Some.ensures.cost c.in-Some.ensures.least).predicted
 
+pub returns-then-plain-gt0-clause-cost : goal.returns-then-plain-gt0-clause-cost
+returns-then-plain-gt0-clause-cost c =
+    (best_whole c.args.block.now c.cut_window.new.window c.args.view.reference.now c.args.view.place c.args.view.range c.search_rows-found.result c.cut_window.ensures c.centre_of-centre.ensures.bytes
+    c.search_rows-found.ensures.cost c.search_rows-found.ensures.least).cost
+
+pub returns-then-plain-gt0-clause-least : goal.returns-then-plain-gt0-clause-least
+returns-then-plain-gt0-clause-least c =
+    (best_whole c.args.block.now c.cut_window.new.window c.args.view.reference.now c.args.view.place c.args.view.range c.search_rows-found.result c.cut_window.ensures c.centre_of-centre.ensures.bytes
+    c.search_rows-found.ensures.cost c.search_rows-found.ensures.least).least
+
+pub returns-then-plain-gt0-clause-predicted : goal.returns-then-plain-gt0-clause-predicted
+returns-then-plain-gt0-clause-predicted c =
+    (best_whole c.args.block.now c.cut_window.new.window c.args.view.reference.now c.args.view.place c.args.view.range c.search_rows-found.result c.cut_window.ensures c.centre_of-centre.ensures.bytes
+    c.search_rows-found.ensures.cost c.search_rows-found.ensures.least).predicted
+
 pub fill_sums-requires-clause-first : goal.fill_sums-requires-clause-first
 fill_sums-requires-clause-first c = (c.moved_to-moved.ensures.kept c.args.view.reference.now c.args.view.range c.args.sums.now c.requires.known).few
 
@@ -35,21 +50,25 @@ fill_sums-requires-clause-known c =
     (c.moved_to-moved.ensures.kept c.args.view.reference.now c.args.view.range c.args.sums.now c.requires.known)
     c.moved_to-moved.ensures.place c.cut_window.ensures (omega arith) small
 
--- the coarse sums of the part that is lent
-lent : (sums coarse : List ℕ) (start : ℕ) → AreCoarse (length sums) sums coarse → length coarse ≡ length sums → start ≤ length sums
-    → AreCoarse (length sums - start) (mid_of start (length sums - start) sums) (mid_of start (length coarse - start) coarse)
-lent sums coarse start all wide room =
+-- the coarse sums of the part that is lent, if there are any
+lent : (sums coarse : List ℕ) (start first : ℕ) → AreCoarse (length sums) sums coarse → length coarse ≡ length sums → start ≤ length sums → first ≡ min start (length coarse)
+    → AreCoarse (length sums - start) (mid_of start (length sums - start) sums) (mid_of first (length coarse - first) coarse)
+lent sums coarse start first all wide room least =
     let e : length sums - start ≡ length coarse - start = omega arith in
-    subst (λ (m : ℕ). AreCoarse (length sums - start) (mid_of start (length sums - start) sums) (mid_of start m coarse)) e
-    (part_coarse sums coarse start (length sums - start) (length sums) all (omega arith))
+    let f : start ≡ first = omega arith in
+    subst (λ (k : ℕ). AreCoarse (length sums - start) (mid_of start (length sums - start) sums) (mid_of k (length coarse - k) coarse)) f
+    (subst (λ (m : ℕ). AreCoarse (length sums - start) (mid_of start (length sums - start) sums) (mid_of start m coarse)) e
+    (part_coarse sums coarse start (length sums - start) (length sums) all (omega arith)))
 
-pub search_summed-requires-clause-coarse : goal.search_summed-requires-clause-coarse
-search_summed-requires-clause-coarse c k h =
+pub search_summed-progress-requires-clause-coarse : goal.search_summed-progress-requires-clause-coarse
+search_summed-progress-requires-clause-coarse c some k h =
     let small = c.requires.range in
     let room = c.moved_to-moved.ensures.start in
     let size = c.requires.sums_size in
-    c.fill_sums.ensures.coarse (length c.args.sums.now - c.moved_to-moved.result.start)
-    (lent c.args.sums.now c.args.coarse.now c.moved_to-moved.result.start c.requires.coarse c.requires.coarse_size (omega arith)) k (omega arith)
+    let broad : length c.fill_sums.new.coarse ≡ length c.args.coarse.now - c.min-coarse_start.result = search rules in
+    let any : 0 < length c.args.coarse.now = omega arith in
+    c.fill_sums.ensures.coarse (omega arith) (length c.args.sums.now - c.moved_to-moved.result.start)
+    (lent c.args.sums.now c.args.coarse.now c.moved_to-moved.result.start c.min-coarse_start.result (c.requires.coarse any) (c.requires.coarse_size any) (omega arith) c.min-coarse_start.ensures) k (omega arith)
 
 pub returns-clause-kept : goal.returns-clause-kept
 returns-clause-kept c =
@@ -66,32 +85,37 @@ returns-clause-kept c =
     c.fill_sums.ensures.sums c.cut_window.ensures room (omega arith) (omega arith) long (omega arith) small)
 
 pub returns-clause-coarse : goal.returns-clause-coarse
-returns-clause-coarse c =
+returns-clause-coarse c some =
+    let small = c.requires.range in
     let room = c.moved_to-moved.ensures.start in
     let size = c.requires.sums_size in
-    let wide = c.requires.coarse_size in
+    let wide = c.requires.coarse_size some in
     let start : ℕ = c.moved_to-moved.result.start in
+    let first : ℕ = c.min-coarse_start.result in
+    let least : first ≡ min start (length c.args.coarse.now) = c.min-coarse_start.ensures in
     let n : ℕ = length c.args.sums.now - start in
-    let m : ℕ = length c.args.coarse.now - start in
+    let m : ℕ = length c.args.coarse.now - first in
     let e : n ≡ m = omega arith in
+    let f : start ≡ first = omega arith in
     let long : length c.fill_sums.new.sums ≡ n = search rules in
     let broad : length c.fill_sums.new.coarse ≡ m = search rules in
-    subst (λ (k : ℕ). AreCoarse (length c.args.sums.now) (put_mid start n c.args.sums.now c.fill_sums.new.sums) (put_mid start k c.args.coarse.now c.fill_sums.new.coarse)) e
-    (whole_coarse c.args.sums.now c.args.coarse.now c.fill_sums.new.sums c.fill_sums.new.coarse start n (length c.args.sums.now) c.requires.coarse
-    (c.fill_sums.ensures.coarse n (lent c.args.sums.now c.args.coarse.now start c.requires.coarse wide (omega arith)))
-    (omega arith) (omega arith) (omega arith) long (omega arith))
+    subst (λ (i : ℕ). AreCoarse (length c.args.sums.now) (put_mid start n c.args.sums.now c.fill_sums.new.sums) (put_mid i m c.args.coarse.now c.fill_sums.new.coarse)) f
+    (subst (λ (k : ℕ). AreCoarse (length c.args.sums.now) (put_mid start n c.args.sums.now c.fill_sums.new.sums) (put_mid start k c.args.coarse.now c.fill_sums.new.coarse)) e
+    (whole_coarse c.args.sums.now c.args.coarse.now c.fill_sums.new.sums c.fill_sums.new.coarse start n (length c.args.sums.now) (c.requires.coarse some)
+    (c.fill_sums.ensures.coarse (omega arith) n (lent c.args.sums.now c.args.coarse.now start first (c.requires.coarse some) wide (omega arith) least))
+    (omega arith) (omega arith) (omega arith) long (omega arith)))
 
 pub returns-clause-cost : goal.returns-clause-cost
 returns-clause-cost c =
-    (best_whole c.args.block.now c.cut_window.new.window c.args.view.reference.now c.args.view.place c.args.view.range c.search_summed.result c.cut_window.ensures c.centre_of-centre.ensures.bytes
-    c.search_summed.ensures.cost c.search_summed.ensures.least).cost
+    (best_whole c.args.block.now c.cut_window.new.window c.args.view.reference.now c.args.view.place c.args.view.range c.search_summed-progress.result.best c.cut_window.ensures c.centre_of-centre.ensures.bytes
+    c.search_summed-progress.ensures.cost c.search_summed-progress.ensures.least).cost
 
 pub returns-clause-least : goal.returns-clause-least
 returns-clause-least c =
-    (best_whole c.args.block.now c.cut_window.new.window c.args.view.reference.now c.args.view.place c.args.view.range c.search_summed.result c.cut_window.ensures c.centre_of-centre.ensures.bytes
-    c.search_summed.ensures.cost c.search_summed.ensures.least).least
+    (best_whole c.args.block.now c.cut_window.new.window c.args.view.reference.now c.args.view.place c.args.view.range c.search_summed-progress.result.best c.cut_window.ensures c.centre_of-centre.ensures.bytes
+    c.search_summed-progress.ensures.cost c.search_summed-progress.ensures.least).least
 
 pub returns-clause-predicted : goal.returns-clause-predicted
 returns-clause-predicted c =
-    (best_whole c.args.block.now c.cut_window.new.window c.args.view.reference.now c.args.view.place c.args.view.range c.search_summed.result c.cut_window.ensures c.centre_of-centre.ensures.bytes
-    c.search_summed.ensures.cost c.search_summed.ensures.least).predicted
+    (best_whole c.args.block.now c.cut_window.new.window c.args.view.reference.now c.args.view.place c.args.view.range c.search_summed-progress.result.best c.cut_window.ensures c.centre_of-centre.ensures.bytes
+    c.search_summed-progress.ensures.cost c.search_summed-progress.ensures.least).predicted

@@ -31,7 +31,7 @@ loop-y-preserved c =
     let put = c.put_squares-in-loop-y.ensures in
     record {
       columns = λ x h. c.slide_columns.ensures x h ∙ ap (λ (k : ℕ). column_sum c.args.window.now (k + x) WINDOW_WIDTH) next;
-      coarse = λ n all. put.coarse n (c.loop-y.invariant.coarse n all);
+      coarse = λ some n all. put.coarse (omega arith) n (c.loop-y.invariant.coarse some n all);
       squares = row_more c.args.window.now c.loop-y.sums c.put_squares-in-loop-y.new.sums c.slide_columns.new.columns c.args.range first (i + 1) _ at
           c.loop-y.invariant.squares next (omega arith) (omega arith) (omega arith)
           c.slide_columns.ensures put.here put.before put.after;

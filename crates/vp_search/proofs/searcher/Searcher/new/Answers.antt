@@ -11,7 +11,7 @@ invariant_of-result c =
       c.requires.wide,
       c.requires.high,
       record { few = omega arith; room = omega arith; are = λ y x h k. absurd (omega arith) },
-      rw (c.in_ok-sums.ensures.items_if_clones_equal (λ y e. e), c.in_ok-coarse.ensures.items_if_clones_equal (λ y e. e)) (none_coarse _ (c.window_size-size.result + SLIDE)),
+      λ some. rw (c.in_ok-sums.ensures.items_if_clones_equal (λ y e. e), c.in_ok-coarse.ensures.items_if_clones_equal (λ y e. e)) (none_coarse _ (c.window_size-size.result + SLIDE) _),
       search rules,
       search rules,
       search rules,

@@ -1,9 +1,9 @@
 use Rattle.vp_search.specs.Differences.{block16}
 use Rattle.vp_search.proofs.WindowLemmas.{IsBest, best_whole}
-use Rattle.vp_search.proofs.search.search_wide.Goals as goal
+use Rattle.vp_search.proofs.search.search_in.Goals as goal
 
 pub returns : goal.returns
-returns c =
+returns g c =
     let best : IsBest (block16 c.args.block.now) c.args.reference.now c.args.place c.args.range c.search_plainly.result =
     best_whole c.args.block.now c.cut_window.new.window c.args.reference.now c.args.place c.args.range c.search_plainly.result c.cut_window.ensures c.centre_of-centre.ensures.bytes
     c.search_plainly.ensures.cost c.search_plainly.ensures.least in
