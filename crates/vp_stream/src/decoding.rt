@@ -58,16 +58,19 @@ pub fn decode_all<R: Read, W: Write>(
 {
     let mut file = PacketReader::new(alloc, limits);
     let mut run = TranscodeState::new(alloc, limits, form);
-    decode_packets(&mut file, &mut run, reader, writer)?;
+    // Cleared once, not for each read: that would cost more than taking in a short piece.
+    let mut buffer = [0; 4096];
+    decode_packets(&mut file, &mut run, reader, writer, &mut buffer)?;
     Ok(run.into_report())
 }
 
-// Decodes and writes the packets of a file that hasn't been read yet.
+// Decodes and writes the packets of a file that hasn't been read yet. Each piece is read into `buffer`.
 fn decode_packets<R: Read, W: Write>(
     file: &mut PacketReader,
     run: &mut TranscodeState,
     reader: &mut Counted<R>,
     writer: &mut Counted<W>,
+    buffer: &mut [u8; 4096],
 ) -> Result<(), DecodeFault>
     requires unread { file.old ≡ before_first_read run.old.limits }
     requires fresh { run.old ≡ fresh run.old.limits run.old.sizing.form }
@@ -91,7 +94,7 @@ fn decode_packets<R: Read, W: Write>(
         HasRisenBy (2 ^ 32 - 1) (counted_reads reader.old) (counted_reads reader.new) }
 {
     'packets: loop {
-        match file.next(reader)? {
+        match file.next(reader, buffer)? {
             Next::Packet(head, packet) => run.packet(head, packet.bytes.as_slice(), writer)?,
             Next::End(None) => return Ok(()),
             Next::End(Some(fault)) => return Err(DecodeFault::File(fault)),

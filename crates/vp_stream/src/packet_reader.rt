@@ -31,9 +31,6 @@ pub enum Next {
 pub struct PacketReader {
     file: Reader,
     turns: u32,
-    // Each piece is read into this buffer. Cleared once, not for each read: that would cost more than taking in a short
-    // piece.
-    buffer: [u8; 4096],
 }
 
 impl Model for PacketReader {
@@ -52,7 +49,6 @@ impl PacketReader {
         PacketReader {
             file: Reader::new(alloc, limits),
             turns: u32::MAX,
-            buffer: [0; 4096],
         }
     }
 
@@ -63,8 +59,13 @@ impl PacketReader {
         self.file.head()
     }
 
-    /// Reads until the next packet is whole, and returns it, or the file's end or fault.
-    pub(crate) fn next<R: Read>(&mut self, reader: &mut Counted<R>) -> Result<Next, SurveyFault>
+    /// Reads until the next packet is whole, and returns it, or the file's end or fault. Each piece is read into `buffer`,
+    /// whose contents before and after don't matter.
+    pub(crate) fn next<R: Read>(
+        &mut self,
+        reader: &mut Counted<R>,
+        buffer: &mut [u8; 4096],
+    ) -> Result<Next, SurveyFault>
         ensures given { (limits : Limits) (fed : List ℕ) (given : List Packet)
             → IsReading limits self.old fed given
             → (more : List ℕ)
@@ -86,7 +87,7 @@ impl PacketReader {
             if let Some(fault) = self.file.refusal() {
                 return Ok(Next::End(Some(fault)));
             }
-            if !self.read_piece(reader)? {
+            if !self.read_piece(reader, buffer)? {
                 return Ok(Next::End(self.file.finish().err()));
             }
         }
@@ -102,8 +103,12 @@ impl PacketReader {
         Some((head, packet))
     }
 
-    // Reads a piece, and returns false at the reader's end.
-    fn read_piece<R: Read>(&mut self, reader: &mut Counted<R>) -> Result<bool, SurveyFault>
+    // Reads a piece into the buffer, and takes it in. Returns false at the reader's end.
+    fn read_piece<R: Read>(
+        &mut self,
+        reader: &mut Counted<R>,
+        buffer: &mut [u8; 4096],
+    ) -> Result<bool, SurveyFault>
         requires { refusal self.old.file ≡ None }
         ensures took { (piece : List ℕ)
             × Consumes (counted_remaining R.remaining reader.old) (counted_remaining R.remaining reader.new) piece
@@ -120,14 +125,14 @@ impl PacketReader {
         if self.turns == 0 {
             return Err(SurveyFault::ReadTurns);
         }
-        let Ok(count) = reader.read(&mut self.buffer) else {
+        let Ok(count) = reader.read(buffer) else {
             return Err(SurveyFault::Device);
         };
         if count == 0 {
             return Ok(false);
         }
         self.turns -= 1;
-        match self.file.feed(&self.buffer[..count]) {
+        match self.file.feed(&buffer[..count]) {
             Err(FeedError::Memory) => Err(SurveyFault::Memory),
             Ok(()) | Err(FeedError::Fault(_)) => Ok(true),
         }

@@ -27,7 +27,8 @@ pub struct PictureWriter {
     alloc: Global,
     form: Form,
     size: Option<Dim>,
-    /// Memory for the pixels of a picture. It is used again for the next picture of the same size.
+    /// Memory for the pixels of the last picture, if that was written. It is used again for the next picture of the same
+    /// size, and freed where no picture is written.
     text: Vec<u8>,
 }
 
@@ -53,7 +54,8 @@ impl PictureWriter {
         }
     }
 
-    /// Writes the picture that a decoder shows, if it shows one. `head` is the file's head.
+    /// Writes the picture that a decoder shows. If it shows none, the memory for the last picture is freed. `head` is the
+    /// file's head.
     pub(crate) fn write_shown<W: Write>(
         &mut self,
         head: IvfHead,
@@ -74,7 +76,10 @@ impl PictureWriter {
     {
         match decoder.picture() {
             Some(picture) => self.write(head, picture, writer),
-            None => Ok(()),
+            None => {
+                self.text = Vec::new(self.alloc);
+                Ok(())
+            }
         }
     }
 

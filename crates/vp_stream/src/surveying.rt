@@ -50,8 +50,10 @@ pub fn survey<R: Read>(
     let mut file = PacketReader::new(alloc, limits);
     let mut outcomes = OutcomeReader::new(limits);
     let mut packets = OutcomeList::new(alloc);
+    // Cleared once, not for each read: that would cost more than taking in a short piece.
+    let mut buffer = [0; 4096];
     'packets: loop {
-        match file.next(reader)? {
+        match file.next(reader, &mut buffer)? {
             Next::Packet(_, packet) => {
                 tell(packet.bytes.as_slice(), &mut outcomes, &mut packets)?;
             }
