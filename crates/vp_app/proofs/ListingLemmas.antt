@@ -1,18 +1,49 @@
 -- Lines that are printed one after another.
-use Rattle.std.proofs.Common.{◌≡◌, ℕ, ◌+◌, List, [], ◌++◌, add-one, sym, subst}
+use Rattle.std.proofs.Common.{◌≡◌, ℕ, ◌+◌, List, ◌++◌, length, codes, decimal, add-one, add-suc, sym, subst, ap, ◌∙◌, append_assoc, arith, zero, suc}
+use Rattle.std.proofs.lemmas.List.{append-nil}
 use Rattle.std.specs.Prelude.{Option, slice_index_or}
 use Rattle.std.specs.Io.KnownBytes.{Appends}
 use Rattle.vp_base.proofs.Writes.{appends_none, appends_both}
 use Rattle.vp_decode.specs.declared.decoder.Outcome.{Outcome}
 use Rattle.vp_decode.specs.declared.decoder.Outcome.TheVariants.{Shown}
-use Rattle.vp_app.specs.Listing.{packet_line, packet_lines}
+use Rattle.vp_stream.specs.declared.outcomes.Survey.{Survey}
+use Rattle.vp_hub.specs.Pages.{head_lines}
+use Rattle.vp_app.specs.Listing.{packet_line, packet_lines, lines_from, head_text, survey_text}
 
 pub no_lines : (packets : List (ℕ × Outcome)) (a : Option (List ℕ)) → Appends a a (packet_lines packets 0)
 unfolding packet_lines
 no_lines packets a = appends_none a
 
-pub one_more : (packets : List (ℕ × Outcome)) (n : ℕ) (packet : ℕ × Outcome) (a b c : Option (List ℕ)) → packet ≡ slice_index_or packets n (0, Shown)
-    → Appends a b (packet_lines packets n) → Appends b c (packet_line n packet.0 packet.1) → Appends a c (packet_lines packets (n + 1))
-unfolding packet_lines
-one_more packets n packet a b c is before line =
-    rw add-one (appends_both a b c _ _ before (subst (λ (p : ℕ × Outcome). Appends b c (packet_line n p.0 p.1)) is line))
+pub none_from : (packets : List (ℕ × Outcome)) (first : ℕ) (a : Option (List ℕ)) → Appends a a (lines_from packets first 0)
+unfolding lines_from
+none_from packets first a = appends_none a
+
+pub one_more : (packets : List (ℕ × Outcome)) (first n : ℕ) (packet : ℕ × Outcome) (a b c : Option (List ℕ)) → packet ≡ slice_index_or packets (first + n) (0, Shown)
+    → Appends a b (lines_from packets first n) → Appends b c (packet_line (first + n) packet.0 packet.1) → Appends a c (lines_from packets first (n + 1))
+unfolding lines_from
+one_more packets first n packet a b c is before line =
+    rw add-one (appends_both a b c _ _ before (subst (λ (p : ℕ × Outcome). Appends b c (packet_line (first + n) p.0 p.1)) is line))
+
+-- the lines of some packets follow those of the packets before them
+pub lines_follow : (packets : List (ℕ × Outcome)) (first n : ℕ) → packet_lines packets (first + n) ≡ packet_lines packets first ++ lines_from packets first n
+unfolding packet_lines lines_from
+lines_follow packets first zero = ap (packet_lines packets) (let e : first + 0 ≡ first = omega arith in e) ∙ sym (append-nil (packet_lines packets first))
+lines_follow packets first (suc n) =
+    let packet = slice_index_or packets (first + n) (0, Shown) in
+    let line = packet_line (first + n) packet.0 packet.1 in
+    rw add-suc (ap (λ (ns : List ℕ). ns ++ line) (lines_follow packets first n) ∙ append_assoc (packet_lines packets first) (lines_from packets first n) line)
+
+pub some_more : (packets : List (ℕ × Outcome)) (first n : ℕ) (a b c : Option (List ℕ))
+    → Appends a b (packet_lines packets first) → Appends b c (lines_from packets first n) → Appends a c (packet_lines packets (first + n))
+some_more packets first n a b c before lines = rw (lines_follow packets first n) (appends_both a b c _ _ before lines)
+
+-- the head's lines, and then the packets'
+pub whole_text : (s : Survey) (a b c : Option (List ℕ)) → Appends a b (head_text s)
+    → Appends b c (packet_lines s.packets (length s.packets)) → Appends a c (survey_text s)
+whole_text s a b c head lines =
+    let rest = packet_lines s.packets (length s.packets) in
+    let text : head_text s ++ rest ≡ survey_text s =
+    append_assoc (head_lines s.head) (codes "packets " ++ (decimal (length s.packets) ++ codes "\n")) rest
+    ∙ ap (λ (ns : List ℕ). head_lines s.head ++ ns) (append_assoc (codes "packets ") (decimal (length s.packets) ++ codes "\n") rest
+    ∙ ap (λ (ns : List ℕ). codes "packets " ++ ns) (append_assoc (decimal (length s.packets)) (codes "\n") rest))
+    in subst (λ (ns : List ℕ). Appends a c ns) text (appends_both a b c _ _ head lines)

@@ -1,55 +1,182 @@
-//! Prints the contents of a file.
+//! Prints the contents of a file, and the faults of its packets. Lines are gathered, and written many at once.
 
-ghost use Rattle.std.specs.Prelude.{◌≡◌, length, OnOk};
+ghost use Rattle.std.specs.Prelude.{◌≡◌, ◌+◌, ◌≤◌, length, OnOk};
 ghost use Rattle.std.specs.Io.KnownBytes.{Appends};
 ghost use Rattle.vp_base.specs.Counted.{counted_contents};
-ghost use Rattle.vp_app.specs.Listing.{packet_lines, packet_line, survey_text};
+ghost use Rattle.vp_app.specs.Listing.{head_text, lines_from, packet_lines, packet_line, survey_text};
 
+use std::alloc::Global;
 use std::io;
 use std::io::Write;
-use vp_base::Counted;
+use vp_base::{Counted, Device, put_all};
 use vp_decode::Outcome;
-use vp_stream::{OutcomeList, Survey};
+use vp_head::PacketFault;
+use vp_stream::Survey;
+
+// The greatest number of lines that are written at once. A line has at most 64 bytes.
+const GATHERED: usize = 1_024;
+
+// Returns memory for lines. If it is refused, there is none, and lines are then written one by one.
+fn room_for_lines(alloc: Global) -> Vec<u8> {
+    match Vec::with_capacity(alloc, 64 * GATHERED) {
+        Ok(text) => text,
+        Err(_) => Vec::new(alloc),
+    }
+}
 
 /// Prints a survey: the size and the rate if the head is valid, the number of packets, and a line for each packet. The
 /// line has the packet's number, its length in bytes, and `Shown`, `Hidden` or its fault.
-pub(crate) fn print_survey<W: Write>(survey: &Survey, output: &mut Counted<W>) -> io::Result<()>
+pub(crate) fn print_survey<W: Write>(
+    alloc: Global,
+    survey: &Survey,
+    output: &mut Counted<W>,
+) -> Result<(), Device>
     ensures { OnOk result (Appends (counted_contents W.contents output.old) (counted_contents W.contents output.new)
         (survey_text survey.now)) }
+{
+    let mut text = room_for_lines(alloc);
+    put_head(survey, &mut text, output)?;
+    put_packets(survey.packets.as_slice(), &mut text, output)?;
+    Ok(())
+}
+
+// Writes the lines before those of the packets.
+fn put_head<W: Write>(
+    survey: &Survey,
+    text: &mut Vec<u8>,
+    output: &mut Counted<W>,
+) -> Result<(), Device>
+    ensures { OnOk result (Appends (counted_contents W.contents output.old) (counted_contents W.contents output.new)
+        (head_text survey.now)) }
+{
+    text.clear();
+    if print_head(survey, text).is_ok() {
+        return put_all(output, text);
+    }
+    match print_head(survey, output) {
+        Ok(()) => Ok(()),
+        Err(_) => Err(Device),
+    }
+}
+
+// Writes a line for each packet.
+fn put_packets<W: Write>(
+    packets: &[(usize, Outcome)],
+    text: &mut Vec<u8>,
+    output: &mut Counted<W>,
+) -> Result<(), Device>
+    ensures { OnOk result (Appends (counted_contents W.contents output.old) (counted_contents W.contents output.new)
+        (packet_lines packets.now (length packets.now))) }
+{
+    let mut number = 0;
+    while number < packets.len() {
+        let left = packets.len() - number;
+        let count = if left < GATHERED { left } else { GATHERED };
+        put_lines(packets, number, count, text, output)?;
+        number += count;
+    }
+    Ok(())
+}
+
+// Writes the lines of `count` packets, from packet `first` on. They are gathered in `text`. If memory for that is refused,
+// they are written one by one.
+fn put_lines<W: Write>(
+    packets: &[(usize, Outcome)],
+    first: usize,
+    count: usize,
+    text: &mut Vec<u8>,
+    output: &mut Counted<W>,
+) -> Result<(), Device>
+    requires { first + count ≤ length packets.now }
+    ensures { OnOk result (Appends (counted_contents W.contents output.old) (counted_contents W.contents output.new)
+        (lines_from packets.now first count)) }
+{
+    text.clear();
+    if print_lines(packets, first, count, text).is_ok() {
+        return put_all(output, text);
+    }
+    match print_lines(packets, first, count, output) {
+        Ok(()) => Ok(()),
+        Err(_) => Err(Device),
+    }
+}
+
+// Prints the lines before those of the packets.
+fn print_head<W: Write>(survey: &Survey, output: &mut W) -> io::Result<()>
+    ensures { OnOk result (Appends (W.contents output.old) (W.contents output.new) (head_text survey.now)) }
 {
     if let Some(head) = &survey.head {
         writeln!(output, "size {}x{}", head.w, head.h)?;
         writeln!(output, "rate {}/{}", head.rate, head.scale)?;
     }
-    writeln!(output, "packets {}", survey.packets.as_slice().len())?;
-    print_packets(&survey.packets, output)
+    writeln!(output, "packets {}", survey.packets.as_slice().len())
 }
 
-/// Prints a line for each packet.
-fn print_packets<W: Write>(packets: &OutcomeList, output: &mut Counted<W>) -> io::Result<()>
-    ensures { OnOk result (Appends (counted_contents W.contents output.old) (counted_contents W.contents output.new)
-        (packet_lines packets.now (length packets.now))) }
+// Prints the lines of `count` packets, from packet `first` on.
+fn print_lines<W: Write>(
+    packets: &[(usize, Outcome)],
+    first: usize,
+    count: usize,
+    output: &mut W,
+) -> io::Result<()>
+    requires { first + count ≤ length packets.now }
+    ensures { OnOk result (Appends (W.contents output.old) (W.contents output.new)
+        (lines_from packets.now first count)) }
 {
-    let packets = packets.as_slice();
-    for number in 0..packets.len() {
-        let (bytes, outcome) = packets[number];
-        print_packet(number, bytes, outcome, output)?;
+    for place in 0..count {
+        let (bytes, outcome) = packets[first + place];
+        print_packet(first + place, bytes, outcome, output)?;
     }
     Ok(())
 }
 
+// Prints the line of a packet.
 fn print_packet<W: Write>(
     number: usize,
     bytes: usize,
     outcome: Outcome,
-    output: &mut Counted<W>,
+    output: &mut W,
 ) -> io::Result<()>
-    ensures { OnOk result (Appends (counted_contents W.contents output.old) (counted_contents W.contents output.new)
-        (packet_line number bytes outcome)) }
+    ensures { OnOk result (Appends (W.contents output.old) (W.contents output.new) (packet_line number bytes outcome)) }
 {
     match outcome {
         Outcome::Shown => writeln!(output, "{number} {bytes} Shown"),
         Outcome::Hidden => writeln!(output, "{number} {bytes} Hidden"),
         Outcome::Fault(fault) => writeln!(output, "{number} {bytes} {fault}"),
     }
+}
+
+/// Prints a line for each faulty packet. Failed writes are ignored.
+pub(crate) fn print_faults<E: Write>(
+    alloc: Global,
+    faults: &[(u32, PacketFault)],
+    errors: &mut Counted<E>,
+) {
+    let mut text = room_for_lines(alloc);
+    for some in faults.chunks(GATHERED) {
+        put_faults(some, &mut text, errors);
+    }
+}
+
+// Writes the lines of faulty packets. They are gathered in `text`. If memory for that is refused, they are written one by
+// one.
+fn put_faults<E: Write>(
+    faults: &[(u32, PacketFault)],
+    text: &mut Vec<u8>,
+    errors: &mut Counted<E>,
+) {
+    text.clear();
+    if print_fault_lines(faults, text).is_ok() {
+        let _ = put_all(errors, text);
+    } else {
+        let _ = print_fault_lines(faults, errors);
+    }
+}
+
+// Prints the lines of faulty packets.
+fn print_fault_lines<W: Write>(faults: &[(u32, PacketFault)], output: &mut W) -> io::Result<()> {
+    for (packet, fault) in faults {
+        writeln!(output, "vp8: packet {packet}: {fault}")?;
+    }
+    Ok(())
 }

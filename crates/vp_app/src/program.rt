@@ -16,7 +16,7 @@ ghost use Rattle.vp_args.specs.Args.{IsTaskFor};
 
 use crate::encode::encode;
 use crate::files::file_fault;
-use crate::listing::print_survey;
+use crate::listing::{print_faults, print_survey};
 use crate::service::{ServiceFault, serve};
 use clap::Error;
 use clap::error::ErrorKind;
@@ -104,12 +104,18 @@ fn run_task<
             y4m,
             input: from,
             output: to,
-        } => report_decode(decode(rt, form_of(*y4m), from, to, input, output), errors),
+        } => report_decode(
+            rt.alloc(),
+            decode(rt, form_of(*y4m), from, to, input, output),
+            errors,
+        ),
         Task::Encode(encoding) => report_encode(
             encode(rt, encoding, input, output, errors),
             errors,
         ),
-        Task::Info { input: from } => report_survey(survey_file(rt, from, input), output, errors),
+        Task::Info { input: from } => {
+            report_survey(rt.alloc(), survey_file(rt, from, input), output, errors)
+        }
         Task::Serve(service) => report_serve(serve(rt, service, input, output, errors), errors),
         Task::Nothing => 2,
     }
@@ -246,7 +252,11 @@ fn report_fault<F: fmt::Display + Drop, E: Write>(fault: F, errors: &mut Counted
 }
 
 // Prints the faults, and returns the exit status.
-fn report_decode<E: Write>(done: Result<Report, DecodeFault>, errors: &mut Counted<E>) -> u8
+fn report_decode<E: Write>(
+    alloc: Global,
+    done: Result<Report, DecodeFault>,
+    errors: &mut Counted<E>,
+) -> u8
     ensures status { result ≡ status_of done }
     ensures ended { result ≤ 1 }
 {
@@ -254,9 +264,7 @@ fn report_decode<E: Write>(done: Result<Report, DecodeFault>, errors: &mut Count
         Ok(report) => report,
         Err(fault) => return report_fault(fault, errors),
     };
-    for (packet, fault) in report.faults.as_slice() {
-        let _ = writeln!(errors, "vp8: packet {packet}: {fault}");
-    }
+    print_faults(alloc, report.faults.as_slice(), errors);
     if report.faults.is_empty() { 0 } else { 1 }
 }
 
@@ -279,6 +287,7 @@ fn report_encode<E: Write>(
 
 // Prints a survey and the file's fault, and returns the exit status.
 fn report_survey<W: Write, E: Write>(
+    alloc: Global,
     done: Result<Survey, DecodeFault>,
     output: &mut Counted<W>,
     errors: &mut Counted<E>,
@@ -292,7 +301,7 @@ fn report_survey<W: Write, E: Write>(
         Ok(survey) => survey,
         Err(fault) => return report_fault(fault, errors),
     };
-    if print_survey(&survey, output).is_err() {
+    if print_survey(alloc, &survey, output).is_err() {
         return report_fault(DecodeFault::Device, errors);
     }
     match survey.fault {
