@@ -219,7 +219,7 @@ pub(crate) fn list(
     for n in 0..count {
         let mut file = file_of(alloc, random, &FILM, 240)?;
         if n % 4 == 3 {
-            damage(&mut file, random);
+            damage(&mut file, random, 240);
         }
         let mut reader = Counted::new(Pieces {
             left: &file,

@@ -226,17 +226,17 @@ pub(crate) fn file_of(
     Ok(file)
 }
 
-/// Damages an IVF file: one of the first ten bytes of one packet in sixteen, and the end of the last packet, which is
-/// cut off.
-pub(crate) fn damage(file: &mut Vec<u8>, random: &mut Random) {
+/// Damages an IVF file of this many packets: one of the first ten bytes of one packet in sixteen, and the end of the
+/// last packet, which is cut off.
+pub(crate) fn damage(file: &mut Vec<u8>, random: &mut Random, packets: u32) {
     let mut at = 32;
-    while at + 4 <= file.len() {
+    for _ in 0..packets {
+        if file.len() < 22 || at > file.len() - 22 {
+            break;
+        }
         let size = LittleEndian::read_u32(&file[at..at + 4]) as usize;
         if random.below(16) == 0 {
-            let place = at + 12 + random.below(10) as usize;
-            if let Some(byte) = file.get_mut(place) {
-                *byte = (random.next() & 255) as u8;
-            }
+            file[at + 12 + random.below(10) as usize] = (random.next() & 255) as u8;
         }
         at += 12 + size;
     }
