@@ -2,3 +2,4 @@ pub mod CommandLemmas
 pub mod FeedingLemmas
 pub mod ListingLemmas
 pub mod ServingLemmas
+pub mod Bridge
