@@ -1,25 +1,69 @@
 -- Private to the crate: the state after a decoded frame, and the sizes in a frame's context.
-use Rattle.std.specs.Prelude.{◌≡◌, ℕ, Option, Some, None, IfSome, option_map}
+use Rattle.std.specs.Prelude.{◌≡◌, ℕ, List, Result, Ok, Err, Option, Some, None, IfSome, option_map}
 use Rattle.vp_base.specs.declared.limits.Dim.{Dim}
 use Rattle.vp_base.specs.Grid.{Grid, all}
 use Rattle.vp_base.specs.Image.{Image, macroblocks}
+use Rattle.vp_bool.specs.Bools.{State}
+use Rattle.vp_head.specs.declared.fields.Tag.{Tag}
+use Rattle.vp_head.specs.declared.fields.Header.{Header}
+use Rattle.vp_head.specs.declared.fields.Saved.{Saved}
+use Rattle.vp_head.specs.declared.fault.PacketFault.{PacketFault}
+use Rattle.vp_head.specs.Header.{header}
+use Rattle.vp_head.specs.Saved.{defaults}
 use Rattle.vp_modes.specs.Entry.{Modes, plain}
 use Rattle.vp_modes.specs.Map.{of_segments}
 use Rattle.vp_refs.specs.References.{References}
+use Rattle.vp_tokens.specs.Partitions.{cut_of}
 use Rattle.vp_decode.specs.declared.decoded_frame.DecodedFrame.{DecodedFrame}
-use Rattle.vp_decode.specs.Step.{FrameContext, DecoderState, references_after}
+use Rattle.vp_decode.specs.Step.{FrameContext, DecoderState, ParsedPacket, ◌>>=◌, count_of, references_after}
 
 -- the modes that a frame of this size starts with: those of the segment map, or `plain`
 abbrev pub modes_from : Dim → Option (Grid ℕ) → Grid Modes
 modes_from dim None = all (macroblocks dim.w) (macroblocks dim.h) plain
 modes_from dim (Some segments) = of_segments segments
 
--- the state after frame f, given the references before it
-abbrev pub state_from_frame : Option References → DecodedFrame → DecoderState
-state_from_frame before f = record {
-  saved = f.saved;
+-- the values that a frame's header starts from: those that are given, or the defaults
+abbrev pub saved_from : Option Saved → Saved
+saved_from None = defaults
+saved_from (Some saved) = saved
+
+-- an open packet: its tag and its context, the first partition, and the bytes after it
+pub record OpenPacket : Type 0 where
+  pub tag : Tag
+  pub context : FrameContext
+  pub first : State
+  pub rest : List ℕ
+
+-- the parsed packet, once the header h is read, after which s is saved
+abbrev pub with_header : OpenPacket → Header → Saved → Result ParsedPacket PacketFault
+with_header p h s = do
+  partitions ← cut_of p.rest (count_of h.log2_partitions)
+  Ok (record {
+    tag = p.tag;
+    context = p.context;
+    header = h;
+    saved = s;
+    first = p.first;
+    partitions = partitions;
+  })
+
+-- the parsed packet of an open one
+abbrev pub finished : OpenPacket → Result ParsedPacket PacketFault
+finished p =
+    let read : (Header × Saved) × State = header p.context.saved p.tag p.first in
+    with_header (record { tag = p.tag; context = p.context; first = read.1; rest = p.rest }) read.0.0 read.0.1
+
+-- the same, unless a fault was found before
+abbrev pub finished_from : Result OpenPacket PacketFault → Result ParsedPacket PacketFault
+finished_from (Err f) = Err f
+finished_from (Ok p) = finished p
+
+-- the state after frame f with this header, given the references before it and what is saved
+abbrev pub state_from_frame : Option References → Header → Saved → DecodedFrame → DecoderState
+state_from_frame before header saved f = record {
+  saved = saved;
   segments = f.segments;
-  references = references_after before f.header f.picture.value;
+  references = references_after before header f.picture.value;
   shown = option_map (λ p. p.value) f.shown;
 }
 

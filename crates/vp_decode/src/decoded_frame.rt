@@ -22,24 +22,24 @@ use std::mem;
 use std::rc::Rc;
 use vp_base::{Dim, Grid, Picture};
 use vp_bool::BoolDecoder;
-use vp_head::{Header, Saved};
+use vp_head::Header;
 use vp_loop::RowFilter;
 use vp_modes::Segment;
 use vp_recon::unfiltered_picture_solves_its_equation;
-use vp_tokens::Partitions;
+use vp_tokens::{Partitions, Tokens};
 
 /// A decoded frame that is not yet part of the decoder's state.
 #[derive(Drop)]
 pub(crate) struct DecodedFrame {
-    pub header: Header,
-    pub saved: Saved,
     pub segments: Grid<Segment>,
     pub picture: Rc<Picture>,
     /// The last shown picture: this frame's if it is shown, else an earlier one.
     pub shown: Option<Rc<Picture>>,
 }
 
-/// Decodes a frame's picture from its 1 to 8 token partitions.
+/// Decodes a frame's picture from its 1 to 8 token partitions. It is not inlined: its memory then is not part of the
+/// stack while the header is read.
+#[inline(never)]
 fn decode_picture<F: RowFilter>(
     alloc: Global,
     buffers: &mut FrameBuffers,
@@ -54,7 +54,8 @@ fn decode_picture<F: RowFilter>(
     requires few { length partitions.now ≤ 8 }
     ensures { IfOk result (λ p. p ≡ picture_of (frame_of info.now (map initial_state partitions.now) dim.w dim.h)) }
 {
-    let rebuilding = FrameDecoder::new(alloc, buffers, info, dim)?;
+    let mut tokens = Tokens::NONE;
+    let rebuilding = FrameDecoder::new(alloc, buffers, info, dim, &mut tokens)?;
     Ok(rebuilding.picture(partitions, filter, buffers))
 }
 
@@ -101,28 +102,26 @@ fn read_maps(
 pub(crate) fn decode_frame<F: RowFilter>(
     alloc: Global,
     buffers: &mut FrameBuffers,
-    parsed: ParsedPacket,
+    parsed: &ParsedPacket,
     filter: &mut F,
     rebuilt: Option<Picture>,
 ) -> Result<DecodedFrame, AllocError>
-    requires { IfSome rebuilt (IsRebuiltFrame parsed) }
-    ensures header { IfOk result (λ f. f.header ≡ parsed.entry.header) }
-    ensures saved { IfOk result (λ f. f.saved ≡ parsed.entry.saved) }
-    ensures segments { IfOk result (λ f. f.segments ≡ segments_of (frame_info_of parsed.entry).maps.modes) }
-    ensures picture { IfOk result (λ f. f.picture.value ≡ picture_of (frame_of_packet parsed.entry)) }
+    requires { IfSome rebuilt (IsRebuiltFrame parsed.now) }
+    ensures segments { IfOk result (λ f. f.segments ≡ segments_of (frame_info_of parsed.now).maps.modes) }
+    ensures picture { IfOk result (λ f. f.picture.value ≡ picture_of (frame_of_packet parsed.now)) }
     ensures shown { IfOk result (λ f. option_map (λ p. p.value) f.shown
-        ≡ shown_after parsed.entry.tag.show (picture_of (frame_of_packet parsed.entry)) parsed.entry.context.shown) }
-    ensures one_size { IfOk result (λ _. IsOneSize (state_after parsed.entry)) }
+        ≡ shown_after parsed.now.tag.show (picture_of (frame_of_packet parsed.now)) parsed.now.context.shown) }
+    ensures one_size { IfOk result (λ _. IsOneSize (state_after parsed.now)) }
 {
     // A law, no work: each pixel is its prediction and its residue, whatever the order of macroblocks.
     unfiltered_picture_solves_its_equation();
-    let context = parsed.context;
-    let mut first = parsed.first;
-    let maps = read_maps(alloc, buffers, &context, &parsed.header, &mut first)?;
+    let context = &parsed.context;
+    let mut first = parsed.first.copy();
+    let maps = read_maps(alloc, buffers, context, parsed.header, &mut first)?;
     let kept = mem::replace(&mut buffers.segments, Grid::empty(alloc));
     let segments = maps.modes.segments_in(kept)?;
     let version = parsed.tag.version;
-    let info = FrameInfo::new(&parsed.header, version, context.references(), maps);
+    let info = FrameInfo::new(parsed.header, version, context.references(), maps);
     let picture = match rebuilt {
         Some(rebuilt) => filter_rebuilt(alloc, buffers, &info, rebuilt, filter)?,
         None => {
@@ -134,8 +133,6 @@ pub(crate) fn decode_frame<F: RowFilter>(
     let picture = Rc::new(alloc, picture)?;
     let shown = shown_after(parsed.tag.show, &picture, context.shown)?;
     Ok(DecodedFrame {
-        header: parsed.header,
-        saved: parsed.saved,
         segments,
         picture,
         shown,

@@ -1,6 +1,7 @@
 //! The context that a frame is decoded in: defaults for a key frame, the saved state for an inter frame.
 
-ghost use Rattle.std.specs.Prelude.{◌≡◌, Ok, Err, IfOk, MatchResult, option_map};
+ghost use Rattle.std.specs.Prelude.{◌≡◌, ◌≤◌, Ok, Err, IfOk, MatchResult, option_map};
+ghost use Rattle.vp_head.specs.Header.{header};
 ghost use Rattle.vp_decode.specs.Step.{current_state, context_of, maps_before};
 
 use crate::decoder::DecoderState;
@@ -9,7 +10,8 @@ use std::alloc::AllocError;
 use std::marker::Model;
 use std::rc::Rc;
 use vp_base::{Dim, Grid, Picture};
-use vp_head::{KeyTag, PacketFault, Saved};
+use vp_bool::BoolDecoder;
+use vp_head::{Header, KeyTag, PacketFault, Saved, Tag};
 use vp_modes::{ModeMap, Segment};
 use vp_refs::Refs;
 
@@ -17,8 +19,8 @@ use vp_refs::Refs;
 #[derive(Drop)]
 pub(crate) struct FrameContext<'a> {
     pub dim: Dim,
-    /// The values that the frame's header starts from.
-    pub saved: Saved,
+    /// The values that the frame's header starts from. None for a key frame, which starts from the defaults.
+    pub saved: Option<&'a Saved>,
     /// The segment map before the frame. None for a key frame, whose macroblocks start with segment 0.
     pub segments: Option<&'a Grid<Segment>>,
     /// None for a key frame.
@@ -29,7 +31,7 @@ pub(crate) struct FrameContext<'a> {
 
 impl<'a> Model for FrameContext<'a> {
     ghost use Rattle.std.specs.Prelude.{option_map};
-    ghost use Rattle.vp_decode.specs.State.{modes_from, HasConsistentSizes};
+    ghost use Rattle.vp_decode.specs.State.{modes_from, saved_from, HasConsistentSizes};
     ghost use Rattle.vp_decode.specs.Step.{FrameContext};
 
     ghost Value = { FrameContext };
@@ -37,7 +39,7 @@ impl<'a> Model for FrameContext<'a> {
     ghost view = { λ b. record {
       width = b.dim.w;
       height = b.dim.h;
-      saved = b.saved;
+      saved = saved_from (option_map (λ s. s.now) b.saved);
       modes = modes_from b.dim (option_map (λ s. s.now) b.segments);
       references = option_map (λ r. r.now) b.references;
       shown = option_map (λ p. p.now.value) b.shown;
@@ -46,7 +48,7 @@ impl<'a> Model for FrameContext<'a> {
     ghost invariant = { λ b. HasConsistentSizes (record {
       width = b.dim.w;
       height = b.dim.h;
-      saved = b.saved;
+      saved = saved_from (option_map (λ s. s.now) b.saved);
       modes = modes_from b.dim (option_map (λ s. s.now) b.segments);
       references = option_map (λ r. r.now) b.references;
       shown = option_map (λ p. p.now.value) b.shown;
@@ -75,7 +77,7 @@ impl<'a> FrameContext<'a> {
         match key {
             Some(key) => Ok(FrameContext {
                 dim: key.dim,
-                saved: Saved::defaults(),
+                saved: None,
                 segments: None,
                 references: None,
                 shown: None,
@@ -85,6 +87,20 @@ impl<'a> FrameContext<'a> {
                 Ok(kept.context())
             }
         }
+    }
+
+    /// Reads the frame header with this tag, and returns it with the values that are saved for the next frame's header.
+    /// It is not inlined: the memory for reading the header then is not part of the stack while the frame is decoded.
+    #[inline(never)]
+    pub(crate) fn read_header(&self, tag: &Tag, first: &mut BoolDecoder) -> (Header, Saved)
+        ensures value { result ≡ (header self.now.saved tag.now first.old).0 }
+        ensures rest { first.new ≡ (header self.now.saved tag.now first.old).1 }
+        ensures few { result.0.log2_partitions ≤ 3 }
+    {
+        let Some(saved) = self.saved else {
+            return Header::read(&Saved::defaults(), tag, first);
+        };
+        Header::read(saved, tag, first)
     }
 
     /// Returns the reference frames; None for a key frame.

@@ -35,8 +35,9 @@ pub(crate) struct FrameDecoder<'a> {
     contexts: Contexts,
     picture: Picture,
     levels: Grid<Level>,
-    /// The tokens of the macroblock that was read last. A skipped macroblock doesn't change them.
-    tokens: Tokens,
+    /// The tokens of the macroblock that was read last. A skipped macroblock doesn't change them. They are lent: they
+    /// don't move with the frame.
+    tokens: &'a mut Tokens,
 }
 
 impl<'a> Model for FrameDecoder<'a> {
@@ -55,12 +56,13 @@ impl<'a> Model for FrameDecoder<'a> {
 }
 
 impl<'a> FrameDecoder<'a> {
-    /// Starts a frame of this size in the memory of `buffers`. The initial pixels don't matter.
+    /// Starts a frame of this size in the memory of `buffers`. The initial pixels and tokens don't matter.
     pub(crate) fn new(
         alloc: Global,
         buffers: &mut FrameBuffers,
         info: &'a FrameInfo<'a>,
         dim: Dim,
+        tokens: &'a mut Tokens,
     ) -> Result<FrameDecoder<'a>, AllocError>
         requires columns { info.now.maps.modes.columns ≡ macroblocks dim.w }
         requires rows { info.now.maps.modes.rows ≡ macroblocks dim.h }
@@ -80,7 +82,7 @@ impl<'a> FrameDecoder<'a> {
             contexts,
             picture,
             levels,
-            tokens: Tokens::NONE,
+            tokens,
         })
     }
 
@@ -115,8 +117,8 @@ impl<'a> FrameDecoder<'a> {
             → IsRebuilt self.old.info place g d.old d.new result self.old self.new }
     {
         let info = self.info;
-        let coded = info.read_tokens(place, source, &mut self.contexts, &mut self.tokens, d);
-        info.rebuild(place, source, &self.tokens, &mut self.picture);
+        let coded = info.read_tokens(place, source, &mut self.contexts, self.tokens, d);
+        info.rebuild(place, source, self.tokens, &mut self.picture);
         coded
     }
 

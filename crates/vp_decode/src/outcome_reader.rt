@@ -109,7 +109,7 @@ fn has_context(tag: &Tag, has_state: bool) -> bool
     tag.key.is_some() || has_state
 }
 
-/// Returns the tag of a packet that is not empty, or the first of its faults, in the order of `parse_packet`.
+/// Returns the tag of a packet that is not empty, or the first of its faults, in the order of a `Decoder`.
 fn read_checked_tag(limits: &Limits, has_state: bool, packet: &[u8]) -> Result<Tag, PacketFault>
     ensures { (state : Option DecoderState) → has_state ≡ is_some state
         → result ≡ tag_in (parsed limits.now state packet.now) }

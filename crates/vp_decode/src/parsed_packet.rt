@@ -2,6 +2,7 @@
 
 ghost use Rattle.std.specs.Prelude.{◌≡◌, ◌≤◌, ◌<◌};
 ghost use Rattle.vp_base.specs.declared.limits.Limits.{Limits};
+ghost use Rattle.vp_decode.specs.State.{finished, finished_from, with_header};
 ghost use Rattle.vp_decode.specs.Step.{parsed, parsed_in_context, count_of, tag_length};
 
 use crate::decoder::DecoderState;
@@ -12,14 +13,36 @@ use vp_bool::BoolDecoder;
 use vp_head::{Header, PacketFault, Saved, Tag};
 use vp_tokens::Partitions;
 
-/// A parsed packet: its tag, its frame header, and its partitions.
+/// An open packet: its tag is read, and its frame header isn't yet.
+#[derive(Drop)]
+pub(crate) struct OpenPacket<'a> {
+    tag: Tag,
+    context: FrameContext<'a>,
+    /// The first partition.
+    first: BoolDecoder<'a>,
+    /// The bytes after the first partition.
+    rest: &'a [u8],
+}
+
+impl<'a> Model for OpenPacket<'a> {
+    ghost use Rattle.vp_decode.specs.State.{HasConsistentSizes, OpenPacket};
+
+    ghost Value = { OpenPacket };
+
+    ghost view = { λ o. record { tag = o.tag; context = o.context; first = o.first; rest = o.rest.now } };
+
+    ghost invariant = { λ o. HasConsistentSizes o.context };
+}
+
+/// A parsed packet: its tag, its frame header, and its partitions. The header and the saved values are lent: they don't
+/// move with the packet.
 #[derive(Drop)]
 pub(crate) struct ParsedPacket<'a> {
     pub tag: Tag,
     pub context: FrameContext<'a>,
-    pub header: Header,
+    pub header: &'a Header,
     /// The values that are saved for the next frame's header.
-    pub saved: Saved,
+    pub saved: &'a Saved,
     /// The first partition, after the frame header.
     pub first: BoolDecoder<'a>,
     /// The token partitions.
@@ -36,8 +59,8 @@ impl<'a> Model for ParsedPacket<'a> {
     ghost view = { λ o. record {
       tag = o.tag;
       context = o.context;
-      header = o.header;
-      saved = o.saved;
+      header = o.header.now;
+      saved = o.saved.now;
       first = o.first;
       partitions = o.partitions;
     } };
@@ -63,45 +86,70 @@ pub(crate) fn length_of(tag: &Tag) -> usize
     if tag.key.is_some() { 10 } else { 3 }
 }
 
-/// Parses the packet after its tag.
-fn parse_in_context<'a>(
+impl<'a> OpenPacket<'a> {
+    /// Reads the frame header, and returns it with the values that are saved for the next frame's header.
+    pub(crate) fn read_header(&mut self) -> (Header, Saved)
+        ensures read { with_header self.new result.0 result.1 ≡ finished self.old }
+        ensures few { result.0.log2_partitions ≤ 3 }
+    {
+        self.context.read_header(&self.tag, &mut self.first)
+    }
+
+    /// Cuts the token partitions of a packet whose frame header is read.
+    pub(crate) fn with_header(
+        self,
+        header: &'a Header,
+        saved: &'a Saved,
+    ) -> Result<ParsedPacket<'a>, PacketFault>
+        requires { header.now.log2_partitions ≤ 3 }
+        ensures { result ≡ with_header self.entry header.now saved.now }
+    {
+        let count = partition_count(header.log2_partitions);
+        match Partitions::cut(self.rest, count) {
+            Ok(partitions) => Ok(ParsedPacket {
+                tag: self.tag,
+                context: self.context,
+                header,
+                saved,
+                first: self.first,
+                partitions,
+            }),
+            Err(fault) => Err(fault),
+        }
+    }
+}
+
+/// Opens the packet after its tag.
+fn open_in_context<'a>(
     tag: Tag,
     context: FrameContext<'a>,
     packet: &'a [u8],
-) -> Result<ParsedPacket<'a>, PacketFault>
-    ensures { result ≡ parsed_in_context tag context.entry packet.now }
+) -> Result<OpenPacket<'a>, PacketFault>
+    ensures { finished_from result ≡ parsed_in_context tag context.entry packet.now }
 {
     let begin = length_of(&tag);
     let end = begin + tag.first_partition as usize;
     if packet.len() < end {
         return Err(PacketFault::FirstPartition);
     }
-    let mut first = BoolDecoder::new(&packet[begin..end]);
-    let (header, saved) = Header::read(&context.saved, &tag, &mut first);
-    let count = partition_count(header.log2_partitions);
-    match Partitions::cut(&packet[end..], count) {
-        Ok(partitions) => Ok(ParsedPacket {
-            tag,
-            context,
-            header,
-            saved,
-            first,
-            partitions,
-        }),
-        Err(fault) => Err(fault),
-    }
+    Ok(OpenPacket {
+        tag,
+        context,
+        first: BoolDecoder::new(&packet[begin..end]),
+        rest: &packet[end..],
+    })
 }
 
-/// Parses a packet, or returns the first of its faults.
+/// Opens a packet, or returns the first of its faults.
 #[tactic(auto, unfolding(crate::specs::Step::parsed))]
-pub(crate) fn parse_packet<'a>(
+pub(crate) fn open_packet<'a>(
     limits: &Limits,
     state: &'a Option<DecoderState>,
     packet: &'a [u8],
-) -> Result<ParsedPacket<'a>, PacketFault>
-    ensures { result ≡ parsed limits.now state.now packet.now }
+) -> Result<OpenPacket<'a>, PacketFault>
+    ensures { finished_from result ≡ parsed limits.now state.now packet.now }
 {
     let tag = Tag::read(packet, limits)?;
     let context = FrameContext::of(tag.key, state)?;
-    parse_in_context(tag, context, packet)
+    open_in_context(tag, context, packet)
 }

@@ -60,7 +60,8 @@ fn filter_rows<F: RowFilter>(
 }
 
 /// Filters a frame's rebuilt picture, whose macroblocks have tokens unless they are skipped. The memory of the levels
-/// is that of `buffers`.
+/// is that of `buffers`. It is not inlined: its memory then is not part of the stack of other frames.
+#[inline(never)]
 pub(crate) fn filter_rebuilt<F: RowFilter>(
     alloc: Global,
     buffers: &mut FrameBuffers,

@@ -7,14 +7,18 @@ use Rattle.vp_decode.proofs.decoder.Decoder.decode_packet.Goals as goal
 pub keep-requires : goal.keep-requires
 keep-requires g c =
     let f = c.in_ok-frame.ensures in
-    subst IsOneSize (sym (kept_left c.self.inside.limits c.self.inside.state c.args.packet.now c.in-Ok.parsed c.in_ok-frame.frame c.in-Ok.ensures
-    (record { header = f.header; saved = f.saved; segments = f.segments; picture = f.picture; shown = f.shown }))) f.one_size
+    let made = c.in-Ok-with_header.ensures in
+    subst IsOneSize (sym (kept_left c.self.inside.limits c.self.inside.state c.args.packet.now c.read_header.new.self _ _ c.in-Ok-with_header.parsed c.in_ok-frame.frame made
+    (made ∙ c.read_header.ensures.read ∙ c.in-Ok.ensures)
+    (record { segments = f.segments; picture = f.picture; shown = f.shown }))) f.one_size
 
 pub returns-clause-after : goal.returns-clause-after
 returns-clause-after g c =
     let f = c.in_ok-frame.ensures in
     let d : Decoder = record { limits = c.self.inside.limits; state = c.self.inside.state; shown = shown_of c.self.inside.shown c.self.inside.state } in
-    let kept = kept_left c.self.inside.limits c.self.inside.state c.args.packet.now c.in-Ok.parsed c.in_ok-frame.frame c.in-Ok.ensures
-    (record { header = f.header; saved = f.saved; segments = f.segments; picture = f.picture; shown = f.shown }) in
-    after_left d c.args.packet.now c.in-Ok.parsed c.parsed.inside.tag.show c.keep.new.state c.in-Ok.ensures (ap (λ (o : ParsedPacket). o.tag.show) c.parsed.view_is) (c.in_ok-keep.ensures.ok ∙ ap Some kept)
+    let made = c.in-Ok-with_header.ensures in
+    let is = made ∙ c.read_header.ensures.read ∙ c.in-Ok.ensures in
+    let kept = kept_left c.self.inside.limits c.self.inside.state c.args.packet.now c.read_header.new.self _ _ c.in-Ok-with_header.parsed c.in_ok-frame.frame made is
+    (record { segments = f.segments; picture = f.picture; shown = f.shown }) in
+    after_left d c.args.packet.now c.in-Ok-with_header.parsed c.parsed.inside.tag.show c.keep.new.state is (ap (λ (o : ParsedPacket). o.tag.show) c.parsed.view_is) (c.in_ok-keep.ensures.ok ∙ ap Some kept)
     ∙ ap (λ (z : Decoder). after z (decoded (parsed z.limits z.state c.args.packet.now))) c.self.view_is
