@@ -70,7 +70,7 @@ fn read_signed(bits: u32, otherwise: i8, d: &mut BoolDecoder) -> i8
 
 /// Reads a flag of this probability, and if it is set, a probability. Otherwise returns `otherwise`. The flags of the
 /// 1,056 probabilities of coefficients are seldom set, for which `read_rare` is quick; those of the three probabilities
-/// of segments are set as often as not.
+/// of segments have probability 128.
 #[inline(always)]
 #[tactic(auto, unfolding(crate::specs::Rows::renewed, vp_bool::specs::Reader::bind))]
 pub(crate) fn read_renewed(probability: u8, otherwise: u8, d: &mut BoolDecoder) -> u8
