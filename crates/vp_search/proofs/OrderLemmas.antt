@@ -1,6 +1,7 @@
 -- Lemmas on the order of vectors.
-use Rattle.std.proofs.Common.{◌≡◌, ℕ, ℤ, pos, negsuc, suc, ◌+◌, ◌*◌, ◌-◌, ◌<◌, ◌≤◌, ◌-ℤ◌, ◌≤ℤ◌, sym, subst, arith}
+use Rattle.std.proofs.Common.{◌≡◌, ℕ, ℤ, pos, negsuc, suc, ◌+◌, ◌*◌, ◌-◌, ◌<◌, ◌≤◌, ◌-ℤ◌, ◌≤ℤ◌, sym, subst, arith, inl, inr}
 use Rattle.std.specs.Prelude.{unsigned_abs, ◌<ℤ◌}
+use Rattle.std.proofs.lemmas.Bool.{cases_lt}
 use Rattle.std.proofs.lemmas.Int.{ints}
 use Rattle.vp_search.specs.declared.vector.WholeVector.{WholeVector}
 use Rattle.vp_search.specs.Vectors.{vector_length, IsNear}
@@ -77,3 +78,18 @@ least_of_all range cost found kept seen = record {
       subst (λ (k : ℕ). IsNoWorse k found.vector (cost v) v) kept.known
       (subst (λ (u : WholeVector). IsNoWorse found.cost found.vector (cost u) u) e (seen x.at y.at x.within y.within));
 }
+
+-- A vector that is no worse than those of the rows near the middle, and than all in other rows, is the best.
+pub least_within : (range d : ℕ) (cost : WholeVector → ℕ) (found : Found) → IsFoundInWindow range cost found
+    → ((i j : ℕ) → range ≤ i + d → i ≤ range + d → j ≤ 2 * range → IsNoWorse found.cost found.vector (cost (vector_at range i j)) (vector_at range i j))
+    → ((c : ℕ) (v : WholeVector) → d < unsigned_abs v.row → IsNoWorse found.cost found.vector c v)
+    → IsLeast range cost found.vector
+least_within range d cost found kept seen beyond =
+    least_of_all range cost found kept
+    (λ i j high wide. elim (cases_lt (i + d) range) [
+      | inl above ↦ beyond (cost (vector_at range i j)) (vector_at range i j) (omega (arith, ints))
+      | inr low ↦ elim (cases_lt (range + d) i) [
+        | inl below ↦ beyond (cost (vector_at range i j)) (vector_at range i j) (omega (arith, ints))
+        | inr near ↦ seen i j (omega arith) (omega arith) wide
+      ]
+    ])

@@ -1,6 +1,10 @@
 -- Sums of pixels in lanes of sixteen bits.
-use Rattle.std.proofs.Common.{◌≡◌, ℕ, zero, suc, ◌+◌, ◌-◌, ◌*◌, ◌%◌, ◌<◌, ◌≤◌, Bool, true, false, not, cond, min, List, [], ◌∷◌, map, length, get_or, ltb, leb, eqb, refl, sym, ap, subst, ◌∙◌, arith, inl, inr}
+use Rattle.std.proofs.Common.{◌≡◌, ℕ, zero, suc, ◌+◌, ◌-◌, ◌*◌, ◌%◌, ◌^◌, ◌<◌, ◌≤◌, Bool, true, false, not, cond, min, List, [], ◌∷◌, map, length, get_or, ltb, leb, eqb, refl, sym, ap, subst, ◌∙◌, arith, inl, inr}
 use Rattle.std.proofs.lemmas.Bool.{cases_lt}
+use Rattle.std.proofs.lemmas.List.{get_or-map, length-map}
+use Rattle.std.proofs.lemmas.Nat.Bits.{bit_at_above}
+use Rattle.std.proofs.lemmas.Simd.{bit_mask_l, mask_l-lt}
+use Rattle.std.specs.Int.{bit_at}
 use Rattle.std.specs.Int.{abs_diff}
 use Rattle.std.proofs.lemmas.Bool.Decides.{nat_tests}
 use lib.Lanes.{top, mask_l}
@@ -79,6 +83,25 @@ pub mask_none : (p : ℕ → Bool) (xs : List ℕ) → mask_l (map p xs) ≡ 0 �
 mask_none p [] e j h = absurd (omega arith)
 mask_none p (x ∷ xs) e zero h = (bit_none (p x) (mask_l (map p xs)) e).0
 mask_none p (x ∷ xs) e (suc j) h = mask_none p xs (bit_none (p x) (mask_l (map p xs)) e).1 j (omega arith)
+
+bit_clear : (b : Bool) (n : ℕ) → n ≡ cond b 1 0 → n ≡ 0 → b ≡ false
+bit_clear true n e z = absurd (omega arith)
+bit_clear false n e z = refl
+
+-- a bit that is not set
+pub mask_clear : (p : ℕ → Bool) (xs : List ℕ) (m j : ℕ) → m ≡ mask_l (map p xs) → j < length xs → bit_at m j ≡ 0 → p (get_or xs j 0) ≡ false
+mask_clear p xs m j e h clear =
+    sym (get_or-map p xs j 0 false h) ∙ bit_clear (get_or (map p xs) j false) (bit_at m j) (ap (λ (n : ℕ). bit_at n j) e ∙ bit_mask_l (map p xs) j) clear
+
+pub mask_small : (p : ℕ → Bool) (xs : List ℕ) → length xs ≡ 8 → mask_l (map p xs) < 256
+mask_small p xs e = subst (λ (n : ℕ). mask_l (map p xs) < 2 ^ n) (length-map xs p ∙ e) (mask_l-lt (map p xs))
+
+-- the place of a bit that is set
+pub bit_within : (n k : ℕ) → n < 256 → bit_at n k ≡ 1 → k < 8
+bit_within n k h e = elim (cases_lt k 8) [
+  | inl less ↦ less
+  | inr more ↦ (let none = bit_at_above n 8 k h more in absurd (omega arith))
+]
 
 pub zero_from : (m : ℕ) → not (eqb m 0) ≡ false → m ≡ 0
 zero_from m e = grind (arith, nat_tests)

@@ -17,19 +17,10 @@ pub(crate) const LEAST_COARSE_RANGE: u8 = 28;
 
 /// 64ths of eight sums.
 fn coarse_lanes(sums: u16x8) -> u8x8
-    ensures { (j : ℕ) → j < 8 → slice_index result j ≡ coarse_of (slice_index sums j) }
+    ensures eight { length result ≡ 8 }
+    ensures value { (j : ℕ) → j < 8 → slice_index result j ≡ coarse_of (slice_index sums j) }
 {
     (sums >> 6).simd_min(u16x8::splat(255)).cast::<u8>()
-}
-
-/// Stores eight coarse sums from index `at` on.
-fn store_coarse(coarse: &mut [u8], at: usize, lanes: u8x8)
-    requires { at + 8 ≤ length coarse.old }
-    ensures here { (j : ℕ) → j < 8 → slice_index coarse.new (at + j) ≡ slice_index lanes j }
-    ensures before { (k : ℕ) → k < at → slice_index coarse.new k ≡ slice_index coarse.old k }
-    ensures after { (k : ℕ) → at + 8 ≤ k → slice_index coarse.new k ≡ slice_index coarse.old k }
-{
-    store8(coarse, at, lanes);
 }
 
 /// Stores the coarse sums of eight sums from index `at` on, if any coarse sums are kept.
@@ -41,7 +32,7 @@ pub(crate) fn put_coarse(coarse: &mut [u8], at: usize, sums: u16x8)
     ensures after { (k : ℕ) → at + 8 ≤ k → slice_index coarse.new k ≡ slice_index coarse.old k }
 {
     if !coarse.is_empty() {
-        store_coarse(coarse, at, coarse_lanes(sums));
+        store8(coarse, at, coarse_lanes(sums));
     }
 }
 

@@ -14,7 +14,13 @@ pub fn sad16(a: &[u8; 256], b: &[u8; 256]) -> u32
 }
 
 /// Whether the sum of absolute differences of four rows is above `limit` already.
-pub(crate) fn leaves_soon(block: &[u8], window: &[u8], at: usize, stride: usize, limit: u32) -> bool
+pub(crate) fn leaves_early(
+    block: &[u8],
+    window: &[u8],
+    at: usize,
+    stride: usize,
+    limit: u32,
+) -> bool
     requires block { 256 ≤ length block.now }
     requires window { at + 3 * stride + 16 ≤ length window.now }
 {
@@ -22,9 +28,9 @@ pub(crate) fn leaves_soon(block: &[u8], window: &[u8], at: usize, stride: usize,
 }
 
 /// The sum of absolute differences of a block and the one at index `at` of a window with rows of `stride` pixels. If
-/// the sum is above `limit`, returns some number above `limit`. With `SOON` it is compared after the first four rows
+/// the sum is above `limit`, returns some number above `limit`. With `EARLY` it is compared after the first four rows
 /// too: that pays where most blocks differ much, and not where bounds have excluded those, nor in noise.
-pub(crate) fn sad_within<const SOON: bool>(
+pub(crate) fn sad_within<const EARLY: bool>(
     block: &[u8],
     window: &[u8],
     at: usize,
@@ -40,7 +46,7 @@ pub(crate) fn sad_within<const SOON: bool>(
     ensures bound { result ≤ 16 * 16 * 255 }
 {
     let first = four_rows(block, window, 0, 16, at, stride);
-    if SOON && first > limit {
+    if EARLY && first > limit {
         return first;
     }
     let second = first + four_rows(block, window, 4 * 16, 16, at + 4 * stride, stride);

@@ -1,17 +1,20 @@
 //! The best vector of a window. Rows are searched from the centre outwards; the result does not depend on the order. A
 //! vector whose bound is above the best known cost is skipped: it is neither the best nor a tie. So is a longer one
 //! whose bound is that cost, as most are where the picture is flat: it is no better, and loses a tie. Where bounds
-//! exclude less than half, as in noise and in fine texture, rows are searched without them.
+//! exclude less than three of eight, as in noise and in fine texture, rows are searched without them. Once a vector
+//! costs nothing, as in a repeated pattern, rows further away than it is long are left out.
 
-ghost use Rattle.std.specs.Prelude.{◌≡◌, ℕ, ◌+◌, ◌*◌, ◌<◌, ◌≤◌, ◌⊎◌, length, slice_index};
+ghost use Rattle.std.specs.Prelude.{◌≡◌, ℕ, ◌+◌, ◌*◌, ◌<◌, ◌≤◌, ◌⊎◌, ◌≢◌, true, length, slice_index, unsigned_abs};
+ghost use Rattle.std.specs.Int.{bit_at};
+ghost use Rattle.vp_search.specs.declared.vector.WholeVector.{WholeVector};
 ghost use Rattle.vp_search.specs.Vectors.{vector_length, IsNear};
 ghost use Rattle.vp_search.specs.Least.{IsLeast, IsNoWorse};
 ghost use Rattle.vp_search.specs.Window.{vector_at, window_cost, IsFoundInWindow};
 ghost use Rattle.vp_search.specs.Bounds.{IsBound};
 ghost use Rattle.vp_search.specs.Summed.{IsSummedSearch};
 
-use crate::difference::{leaves_soon, sad_within};
-use crate::sums::{SquareSums, bounds_at, next_within};
+use crate::difference::{leaves_early, sad_within};
+use crate::sums::{SquareSums, bounds_at, next_within, within};
 use crate::vector::{Found, vector_at, vector_length};
 use crate::window::WINDOW_WIDTH;
 use std::simd::prelude::*;
@@ -19,7 +22,7 @@ use std::simd::prelude::*;
 /// The better of a known vector and the one at row `i` and column `j`. Always inlined: with a call for each vector, a
 /// search takes a third more instructions.
 #[inline(always)]
-pub(crate) fn consider<const SOON: bool>(
+pub(crate) fn consider<const EARLY: bool>(
     block: &[u8],
     window: &[u8],
     range: u8,
@@ -39,7 +42,7 @@ pub(crate) fn consider<const SOON: bool>(
         (vector_at range i j) }
 {
     let at = i * WINDOW_WIDTH + j;
-    let cost = sad_within::<SOON>(block, window, at, WINDOW_WIDTH, best.cost);
+    let cost = sad_within::<EARLY>(block, window, at, WINDOW_WIDTH, best.cost);
     if cost > best.cost {
         return best;
     }
@@ -120,40 +123,19 @@ fn consider_bounded(
     consider::<false>(block, window, range, best, place.row, place.column)
 }
 
-/// The best of a known vector and eight of a row, whose costs are at least `bounds`.
-fn consider_each(
-    block: &[u8],
-    window: &[u8],
-    range: u8,
-    best: Found,
-    spot: Spot,
-    bounds: [u16; 8],
-) -> Found
-    requires block { 256 ≤ length block.now }
-    requires window { (2 * range + 16) * WINDOW_WIDTH ≤ length window.now }
-    requires range { range ≤ 64 }
-    requires row { spot.row ≤ 2 * range }
-    requires column { spot.column ≤ 2 * range }
-    requires bounds { IsBound block.now window.now range spot.row spot.column bounds }
-    requires best { IsFoundInWindow range (window_cost block.now window.now range) best }
-    ensures kept { IsFoundInWindow range (window_cost block.now window.now range) result }
-    ensures old { IsNoWorse result.cost result.vector best.cost best.vector }
-    ensures here { (t : ℕ) → t < 8 → spot.column + t ≤ 2 * range → IsNoWorse result.cost result.vector
-        (window_cost block.now window.now range (vector_at range spot.row (spot.column + t)))
-        (vector_at range spot.row (spot.column + t)) }
+/// The first of the places whose bits are set, and the bits of the others.
+fn take_first(places: u64) -> (usize, u64)
+    requires some { 0 < places }
+    requires eight { places < 256 }
+    ensures place { result.0 < 8 }
+    ensures fewer { result.1 < places }
+    ensures others { (j : ℕ) → j < 8 → bit_at result.1 j ≡ 0 → j ≢ result.0 → bit_at places j ≡ 0 }
 {
-    let mut found = best;
-    for t in 0..8 {
-        let place = Spot {
-            row: spot.row,
-            column: spot.column + t,
-        };
-        found = consider_bounded(block, window, range, found, place, u32::from(bounds[t]));
-    }
-    found
+    let first = places.trailing_zeros() as usize;
+    (first, places & !(1 << first))
 }
 
-/// The best of a known vector and eight of a row, whose costs are at least `bounds`, if the first is within the range.
+/// The best of a known vector and those of eight in a row that are within the range. Their costs are at least `bounds`.
 fn consider_eight(
     block: &[u8],
     window: &[u8],
@@ -166,6 +148,7 @@ fn consider_eight(
     requires window { (2 * range + 16) * WINDOW_WIDTH ≤ length window.now }
     requires range { range ≤ 64 }
     requires row { spot.row ≤ 2 * range }
+    requires column { spot.column ≤ 2 * range + 8 }
     requires bounds { IsBound block.now window.now range spot.row spot.column bounds }
     requires best { IsFoundInWindow range (window_cost block.now window.now range) best }
     ensures kept { IsFoundInWindow range (window_cost block.now window.now range) result }
@@ -174,35 +157,44 @@ fn consider_eight(
         (window_cost block.now window.now range (vector_at range spot.row (spot.column + t)))
         (vector_at range spot.row (spot.column + t)) }
 {
-    if spot.column > 2 * usize::from(range) {
-        return best;
+    let each = bounds.to_array();
+    let mut left = within(bounds, best.cost);
+    let mut found = best;
+    while left != 0 {
+        let (t, others) = take_first(left);
+        let place = Spot {
+            row: spot.row,
+            column: spot.column + t,
+        };
+        found = consider_bounded(block, window, range, found, place, u32::from(each[t]));
+        left = others;
     }
-    consider_each(block, window, range, best, spot, bounds.to_array())
+    found
 }
 
 /// The rows, or the macroblocks, that are searched next without bounds.
 #[derive(Clone, Copy)]
-pub(crate) struct Plain {
+pub(crate) struct Unbounded {
     /// How many they are.
     pub(crate) left: u8,
     /// Whether their vectors are compared with the best after four rows of pixels too.
-    pub(crate) soon: bool,
+    pub(crate) early: bool,
 }
 
-impl Plain {
+impl Unbounded {
     /// None.
-    pub(crate) fn none() -> Plain {
-        Plain {
+    pub(crate) fn none() -> Unbounded {
+        Unbounded {
             left: 0,
-            soon: false,
+            early: false,
         }
     }
 
     /// Those that are left after the next one.
-    pub(crate) fn next(self) -> Plain {
-        Plain {
+    pub(crate) fn next(self) -> Unbounded {
+        Unbounded {
             left: self.left.saturating_sub(1),
-            soon: self.soon,
+            early: self.early,
         }
     }
 }
@@ -211,17 +203,20 @@ impl Plain {
 #[derive(Clone, Copy)]
 pub(crate) struct Progress {
     pub(crate) best: Found,
-    pub(crate) plain: Plain,
+    pub(crate) unbounded: Unbounded,
 }
 
-/// The number of rows that are searched without bounds once most bounds of a row are below the best cost. Then a sample
-/// of the last one decides about as many more.
-const PLAIN_ROWS: u8 = 7;
+/// The number of rows that are searched without bounds once more than `MOST` bounds of eight of a row are below the
+/// best cost. After these, a sample of the last row decides whether as many more follow.
+const UNBOUNDED_ROWS: u8 = 7;
+
+/// Bounds pay as long as at most this many of eight are below the best cost.
+const MOST: usize = 5;
 
 /// Half of a group of eight vectors.
 const HALF: usize = 4;
 
-/// The number of eight bounds that are below the best cost.
+/// How many of eight bounds are below the best cost.
 fn below_best(bounds: u16x8, cost: u32) -> usize
     ensures { result ≤ 8 }
 {
@@ -230,19 +225,19 @@ fn below_best(bounds: u16x8, cost: u32) -> usize
     (below as usize).min(8)
 }
 
-/// Whether most bounds of row `i` are below the best cost, by the eight in its middle.
+/// Whether more than `MOST` bounds of eight of row `i` are below the best cost, by the eight that begin at its middle.
 fn most_pass(sums: SquareSums, range: u8, cost: u32, i: usize) -> bool
     requires range { range ≤ 64 }
     requires i { i ≤ 2 * range }
     requires room { (2 * range + 16) * WINDOW_WIDTH ≤ length sums.window.now }
 {
     let middle = i * WINDOW_WIDTH + usize::from(range);
-    below_best(bounds_at(sums.block, sums.window, middle), cost) > HALF
+    below_best(bounds_at(sums.block, sums.window, middle), cost) > MOST
 }
 
-/// Whether half of the vectors of row `i` cost more than `limit` by their first four rows of pixels, by the eight in
-/// its middle. If fewer do, as in noise, comparing there costs more than it saves.
-fn half_leave_soon(block: &[u8], window: &[u8], range: u8, limit: u32, i: usize) -> bool
+/// Whether at least half of the vectors of row `i` cost more than `limit` by their first four rows of pixels, by the
+/// eight that begin at its middle. If fewer do, as in noise, comparing there costs more than it saves.
+fn half_leave_early(block: &[u8], window: &[u8], range: u8, limit: u32, i: usize) -> bool
     requires block { 256 ≤ length block.now }
     requires window { (2 * range + 16) * WINDOW_WIDTH ≤ length window.now }
     requires range { range ≤ 64 }
@@ -251,7 +246,7 @@ fn half_leave_soon(block: &[u8], window: &[u8], range: u8, limit: u32, i: usize)
     let first = i * WINDOW_WIDTH + usize::from(range);
     let mut count = 0;
     for t in 0..8 {
-        if leaves_soon(block, window, first + t, WINDOW_WIDTH, limit) {
+        if leaves_early(block, window, first + t, WINDOW_WIDTH, limit) {
             count += 1;
         }
     }
@@ -259,23 +254,31 @@ fn half_leave_soon(block: &[u8], window: &[u8], range: u8, limit: u32, i: usize)
 }
 
 /// The rows that are searched without bounds after row `i`: some if `pass`, most of its bounds being below `cost`.
-fn plain_after(block: &[u8], window: &[u8], range: u8, cost: u32, i: usize, pass: bool) -> Plain
+fn unbounded_after(
+    block: &[u8],
+    window: &[u8],
+    range: u8,
+    cost: u32,
+    i: usize,
+    pass: bool,
+) -> Unbounded
     requires block { 256 ≤ length block.now }
     requires window { (2 * range + 16) * WINDOW_WIDTH ≤ length window.now }
     requires range { range ≤ 64 }
     requires i { i ≤ 2 * range }
 {
     if !pass {
-        return Plain::none();
+        return Unbounded::none();
     }
-    Plain {
-        left: PLAIN_ROWS,
-        soon: half_leave_soon(block, window, range, cost, i),
+    Unbounded {
+        left: UNBOUNDED_ROWS,
+        early: half_leave_early(block, window, range, cost, i),
     }
 }
 
-/// The best of a known vector and those of row `i`, by their bounds.
-fn consider_row(
+/// The best of a known vector and those of row `i`, by their bounds. Of the bounds that are counted, some are past the
+/// range: 7 of 24 at range 8.
+fn consider_bounded_row(
     block: &[u8],
     window: &[u8],
     sums: SquareSums,
@@ -310,7 +313,7 @@ fn consider_row(
     }
     Progress {
         best: found,
-        plain: plain_after(block, window, range, found.cost, i, passed > HALF * groups),
+        unbounded: unbounded_after(block, window, range, found.cost, i, passed > MOST * groups),
     }
 }
 
@@ -334,21 +337,21 @@ fn consider_next(
     ensures here { (j : ℕ) → j ≤ 2 * range → IsNoWorse result.best.cost result.best.vector
         (window_cost block.now window.now range (vector_at range i j)) (vector_at range i j) }
 {
-    let plain = progress.plain;
-    if plain.left == 0 {
-        return consider_row(block, window, sums, range, progress.best, i);
+    let unbounded = progress.unbounded;
+    if unbounded.left == 0 {
+        return consider_bounded_row(block, window, sums, range, progress.best, i);
     }
-    let best = consider_plainly(block, window, range, progress.best, i, plain.soon);
-    if plain.left > 1 {
+    let best = consider_unbounded_row(block, window, range, progress.best, i, unbounded.early);
+    if unbounded.left > 1 {
         return Progress {
             best,
-            plain: plain.next(),
+            unbounded: unbounded.next(),
         };
     }
     let pass = most_pass(sums, range, best.cost, i);
     Progress {
         best,
-        plain: plain_after(block, window, range, best.cost, i, pass),
+        unbounded: unbounded_after(block, window, range, best.cost, i, pass),
     }
 }
 
@@ -371,7 +374,7 @@ pub(crate) fn centre_of(block: &[u8], window: &[u8], range: u8) -> Found
 
 /// The best of a known vector and those of row `i`, one by one. Not inlined, so that there are two copies in all.
 #[inline(never)]
-fn consider_plain_row<const SOON: bool>(
+fn consider_whole_row<const EARLY: bool>(
     block: &[u8],
     window: &[u8],
     range: u8,
@@ -390,20 +393,20 @@ fn consider_plain_row<const SOON: bool>(
 {
     let mut found = best;
     for j in 0..2 * usize::from(range) + 1 {
-        found = consider::<SOON>(block, window, range, found, i, j);
+        found = consider::<EARLY>(block, window, range, found, i, j);
     }
     found
 }
 
-/// The best of a known vector and those of row `i`, one by one. With `soon` they are compared with the best after four
+/// The best of a known vector and those of row `i`, one by one. With `early` they are compared with the best after four
 /// rows of pixels too.
-fn consider_plainly(
+fn consider_unbounded_row(
     block: &[u8],
     window: &[u8],
     range: u8,
     best: Found,
     i: usize,
-    soon: bool,
+    early: bool,
 ) -> Found
     requires block { 256 ≤ length block.now }
     requires window { (2 * range + 16) * WINDOW_WIDTH ≤ length window.now }
@@ -415,15 +418,31 @@ fn consider_plainly(
     ensures here { (j : ℕ) → j ≤ 2 * range → IsNoWorse result.cost result.vector
         (window_cost block.now window.now range (vector_at range i j)) (vector_at range i j) }
 {
-    if soon {
-        return consider_plain_row::<true>(block, window, range, best, i);
+    if early {
+        return consider_whole_row::<true>(block, window, range, best, i);
     }
-    consider_plain_row::<false>(block, window, range, best, i)
+    consider_whole_row::<false>(block, window, range, best, i)
 }
 
-/// The best of a known vector and all others of a window, one by one. With `soon` they are compared with the best after
-/// four rows of pixels too.
-pub(crate) fn search_rows(block: &[u8], window: &[u8], range: u8, known: Found, soon: bool) -> Found
+/// Whether no vector more than `distance` rows away from the centre is better than `best`: it costs nothing, and is no
+/// longer than that.
+fn is_best_beyond(best: Found, distance: usize) -> bool
+    requires near { IsNear 64 best.vector }
+    ensures { result ≡ true → (c : ℕ) (v : WholeVector) → distance < unsigned_abs v.row
+        → IsNoWorse best.cost best.vector c v }
+{
+    best.cost == 0 && vector_length(best.vector) as usize <= distance
+}
+
+/// The best of a known vector and all others of a window, one by one. With `early` they are compared with the best
+/// after four rows of pixels too.
+pub(crate) fn search_unbounded(
+    block: &[u8],
+    window: &[u8],
+    range: u8,
+    known: Found,
+    early: bool,
+) -> Found
     requires block { 256 ≤ length block.now }
     requires window { (2 * range + 16) * WINDOW_WIDTH ≤ length window.now }
     requires range { range ≤ 64 }
@@ -432,17 +451,20 @@ pub(crate) fn search_rows(block: &[u8], window: &[u8], range: u8, known: Found, 
     ensures least { IsLeast range (window_cost block.now window.now range) result.vector }
 {
     let middle = usize::from(range);
-    let mut best = consider_plainly(block, window, range, known, middle, soon);
+    let mut best = consider_unbounded_row(block, window, range, known, middle, early);
     for d in 0..middle {
-        best = consider_plainly(block, window, range, best, middle - 1 - d, soon);
-        best = consider_plainly(block, window, range, best, middle + 1 + d, soon);
+        if is_best_beyond(best, d) {
+            return best;
+        }
+        best = consider_unbounded_row(block, window, range, best, middle - 1 - d, early);
+        best = consider_unbounded_row(block, window, range, best, middle + 1 + d, early);
     }
     best
 }
 
 /// The best vector of a window, one by one: where bounds don't pay, or their memory is not at hand. If the zero vector
 /// `centre` costs nothing, as on black bars, no other is better.
-pub(crate) fn search_plainly(block: &[u8], window: &[u8], range: u8, centre: Found) -> Found
+pub(crate) fn search_from_centre(block: &[u8], window: &[u8], range: u8, centre: Found) -> Found
     requires block { 256 ≤ length block.now }
     requires window { (2 * range + 16) * WINDOW_WIDTH ≤ length window.now }
     requires range { range ≤ 64 }
@@ -454,7 +476,7 @@ pub(crate) fn search_plainly(block: &[u8], window: &[u8], range: u8, centre: Fou
     if centre.cost == 0 {
         return centre;
     }
-    search_rows(block, window, range, centre, true)
+    search_unbounded(block, window, range, centre, true)
 }
 
 /// The best of a known vector and all others of a window, whose squares have the sums `sums`.
@@ -474,8 +496,11 @@ pub(crate) fn search_outwards(
     ensures least { IsLeast range (window_cost block.now window.now range) result.best.vector }
 {
     let middle = usize::from(range);
-    let mut progress = consider_row(block, window, sums, range, known, middle);
+    let mut progress = consider_bounded_row(block, window, sums, range, known, middle);
     for d in 0..middle {
+        if is_best_beyond(progress.best, d) {
+            return progress;
+        }
         progress = consider_next(block, window, sums, range, progress, middle - 1 - d);
         progress = consider_next(block, window, sums, range, progress, middle + 1 + d);
     }

@@ -11,7 +11,7 @@ ghost use Rattle.vp_search.specs.Window.{window_cost, IsFoundInWindow};
 
 use crate::block::macroblock;
 use crate::coarse::coarse_block;
-use crate::outward::{Progress, centre_of, search_outwards, search_plainly};
+use crate::outward::{Progress, centre_of, search_from_centre, search_outwards};
 use crate::sums::{SquareSums, block_sums};
 use crate::vector::Found;
 use crate::window::{GREATEST_RANGE, WINDOW_WIDTH, cut_window};
@@ -89,7 +89,7 @@ fn search_in<const AREA: usize>(
     let mut window = [0; AREA];
     cut_window(&mut window, reference, place, range);
     let centre = centre_of(block, &window, range);
-    search_plainly(block, &window, range, centre)
+    search_from_centre(block, &window, range, centre)
 }
 
 /// The best vector of a window where bounds don't pay: within a small range, and where the zero vector `centre` costs
@@ -109,7 +109,7 @@ pub(crate) fn search_without_sums(
     ensures least { IfSome result (λ best. IsLeast range (window_cost block.now window.now range) best.vector) }
 {
     if centre.cost == 0 || range < LEAST_BOUNDED_RANGE {
-        return Some(search_plainly(block, window, range, centre));
+        return Some(search_from_centre(block, window, range, centre));
     }
     None
 }

@@ -10,7 +10,7 @@ ghost use Rattle.vp_search.specs.Coarse.{AreCoarse};
 
 use crate::coarse::LEAST_COARSE_RANGE;
 use crate::kept::{Kept, SLIDE};
-use crate::outward::{Plain, Spot, centre_of, consider, search_rows};
+use crate::outward::{Spot, Unbounded, centre_of, consider, search_unbounded};
 use crate::search::{search_summed, search_without_sums};
 use crate::sums::fill_sums;
 use crate::vector::{Found, WholeVector};
@@ -47,7 +47,7 @@ pub struct Searcher<'a> {
     /// less its best vector costs, the more others are excluded by their bounds.
     begin: Spot,
     /// The macroblocks that follow without sums.
-    plain: Plain,
+    unbounded: Unbounded,
 }
 
 impl<'a> Model for Searcher<'a> {
@@ -101,7 +101,7 @@ impl<'a> Searcher<'a> {
                 row: usize::from(range),
                 column: usize::from(range),
             },
-            plain: Plain::none(),
+            unbounded: Unbounded::none(),
         })
     }
 
@@ -120,14 +120,14 @@ impl<'a> Searcher<'a> {
             range: self.range,
             place,
             begin: self.begin,
-            plain: self.plain,
+            unbounded: self.unbounded,
         };
         let window = self.window.as_mut_slice();
         let sums = self.sums.as_mut_slice();
         let coarse = self.coarse.as_mut_slice();
-        let (found, kept, plain) = search_kept(block, view, window, sums, coarse, self.kept);
+        let (found, kept, unbounded) = search_kept(block, view, window, sums, coarse, self.kept);
         self.kept = kept;
-        self.plain = plain;
+        self.unbounded = unbounded;
         self.begin = spot_of(found.vector, self.range);
         found
     }
@@ -140,18 +140,18 @@ struct View<'a> {
     range: u8,
     place: Place,
     begin: Spot,
-    plain: Plain,
+    unbounded: Unbounded,
 }
 
-/// The macroblocks that are searched without sums after one whose rows ended thus. The last one with sums before it was
-/// `distance` columns to the left: while rows end without bounds, one is left out, then three, then seven.
-fn macroblocks_after(rows: Plain, distance: usize) -> Plain {
+/// How many macroblocks are searched without sums after one whose last rows had no bounds: 1, then 3, then 7 each time.
+/// `distance` is the number of columns since the last one with sums in this row; in another row it is only a guess.
+fn macroblocks_after(rows: Unbounded, distance: usize) -> Unbounded {
     if rows.left == 0 {
         return rows;
     }
-    Plain {
+    Unbounded {
         left: (2 * distance.clamp(1, 4) - 1) as u8,
-        soon: rows.soon,
+        early: rows.early,
     }
 }
 
@@ -176,7 +176,7 @@ fn search_kept(
     sums: &mut [u16],
     coarse: &mut [u8],
     known: Kept,
-) -> (Found, Kept, Plain)
+) -> (Found, Kept, Unbounded)
     requires wide { 0 < view.reference.now.width }
     requires high { 0 < view.reference.now.height }
     requires range { view.range ≤ 64 }
@@ -203,17 +203,17 @@ fn search_kept(
         range,
         place,
         begin,
-        plain,
+        unbounded,
     } = view;
     cut_window(window, reference, place, range);
     let centre = centre_of(block, window, range);
     if let Some(best) = search_without_sums(block, window, range, centre) {
-        return (best, known, plain.next());
+        return (best, known, unbounded.next());
     }
     let first = consider::<false>(block, window, range, centre, begin.row, begin.column);
-    if plain.left > 0 {
-        let found = search_rows(block, window, range, first, plain.soon);
-        return (found, known, plain.next());
+    if unbounded.left > 0 {
+        let found = search_unbounded(block, window, range, first, unbounded.early);
+        return (found, known, unbounded.next());
     }
     let moved = known.moved_to(place);
     let sums = &mut sums[moved.start..];
@@ -229,6 +229,6 @@ fn search_kept(
     (
         progress.best,
         kept,
-        macroblocks_after(progress.plain, distance),
+        macroblocks_after(progress.unbounded, distance),
     )
 }

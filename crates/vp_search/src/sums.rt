@@ -2,7 +2,7 @@
 //! and Salari 1995): the difference of two sums is at most the sum of differences.
 
 ghost use Rattle.std.specs.Prelude.{◌≡◌, ℕ, ◌+◌, ◌-◌, ◌*◌, ◌<◌, ◌≤◌, [], ◌∷◌, length, slice_index, false};
-ghost use Rattle.std.specs.Int.{abs_diff};
+ghost use Rattle.std.specs.Int.{abs_diff, bit_at};
 ghost use Rattle.vp_search.specs.Sums.{sum_below};
 ghost use Rattle.vp_search.specs.Bounds.{capped, column_sum, row_sum, square_sum, block_sums, bound_of};
 ghost use Rattle.vp_search.specs.Bounds.{IsSummed, AreSummed};
@@ -244,12 +244,20 @@ pub(crate) fn bounds_at(block: [u16; 4], sums: &[u16], at: usize) -> u16x8
     )
 }
 
-/// Whether a bound is within the limit.
-pub(crate) fn any_within(bounds: u16x8, limit: u32) -> bool
-    ensures { result ≡ false → (j : ℕ) → j < 8 → limit < slice_index bounds j }
+/// Which of eight bounds are within the limit: bit `j` is set for bound `j`.
+pub(crate) fn within(bounds: u16x8, limit: u32) -> u64
+    ensures eight { result < 256 }
+    ensures others { (j : ℕ) → j < 8 → bit_at result j ≡ 0 → limit < slice_index bounds j }
 {
     let most = limit.min(65535) as u16;
-    bounds.simd_le(u16x8::splat(most)).to_bitmask() != 0
+    bounds.simd_le(u16x8::splat(most)).to_bitmask()
+}
+
+/// Whether a bound is within the limit.
+fn any_within(bounds: u16x8, limit: u32) -> bool
+    ensures { result ≡ false → (j : ℕ) → j < 8 → limit < slice_index bounds j }
+{
+    within(bounds, limit) != 0
 }
 
 /// The first group of eight vectors, from group `start` on, that has a bound within the limit, with its bounds. Returns

@@ -349,30 +349,45 @@ fn noise_at(place: Place, down: usize, right: usize) -> [u8; 256] {
     block
 }
 
-/// The place at a step of a walk: along two rows, the last place again, then back to the first row.
+/// The place at a step of a walk: along two rows, the last place again, back to the first row, along the second one and
+/// beyond the plane, and along the first one again.
 fn stop(step: usize) -> Place
-    ensures column { result.column ≤ 3 }
+    ensures column { result.column ≤ 11 }
     ensures row { result.row ≤ 1 }
 {
     let (column, row) = match step {
         0..=7 => (step % 4, step / 4),
         8 => (3, 1),
         9 => (1, 0),
-        _ => (3, 0),
+        10 => (3, 0),
+        11..=22 => (step - 11, 1),
+        _ => (step.saturating_sub(23).min(3), 0),
     };
     Place { column, row }
 }
 
-/// Whether a searcher finds the same as `search_block` at each step of a walk. At one of them, the block stands still.
+/// The block at a step of that walk: noise that has moved, at one step not at all. On the way beyond the plane blocks
+/// match nothing, so that bounds exclude little.
+fn block_at(step: usize) -> [u8; 256] {
+    match step {
+        1 => noise_at(stop(step), 0, 0),
+        11..=22 => noise_block(step),
+        _ => {
+            let moved = step.wrapping_add(1);
+            noise_at(stop(step), moved % 3, moved % 13)
+        }
+    }
+}
+
+/// Whether a searcher finds the same as `search_block` at each step of a walk.
 fn is_same_along(alloc: Global, reference: &Plane, range: u8) -> Result<bool, AllocError> {
     if reference.width() == 0 || reference.height() == 0 || range > 64 {
         return Ok(false);
     }
     let mut searcher = Searcher::new(alloc, reference, range)?;
-    for step in 0..11 {
+    for step in 0..28 {
         let place = stop(step);
-        let moved = if step == 1 { 0 } else { step + 1 };
-        let block = noise_at(place, moved % 3, moved);
+        let block = block_at(step);
         if searcher.search(&block, place) != search_block(&block, reference, place, range) {
             return Ok(false);
         }
@@ -380,7 +395,8 @@ fn is_same_along(alloc: Global, reference: &Plane, range: u8) -> Result<bool, Al
     Ok(true)
 }
 
-/// A searcher keeps sums from one macroblock to the next, and finds what a search from nothing does.
+/// A searcher keeps sums from one macroblock to the next, leaves them out for some, and finds what a search from
+/// nothing does.
 #[test]
 fn kept_sums_are_the_same(rt: HostRuntime) -> Result<(), Fail> {
     let mut reference = Plane::new(rt.alloc(), 53, 37, 0)?;

@@ -1,5 +1,5 @@
 use Rattle.std.proofs.Common.{◌∙◌, ◌/◌, Fits, get_or}
-use Rattle.vp_lanes.proofs.Shape.{lane_fits, lanes_of, mapped, zipped, selected, splatted, lane_is, each_lane}
+use Rattle.vp_lanes.proofs.Shape.{lane_fits, lanes_of, mapped, zipped, selected, splatted, lane_is, each_lane, length-ByLane}
 use mir.Syntax.{w8, w16, lt, mask, unsigned, cast, shr}
 use lib.Lanes.{top}
 use borrow.Rule.Simd.Lanes.{act1, act2, Asks1}
@@ -13,8 +13,14 @@ overflow_cast-result c =
     let t = mapped (top 15) (zipped (act2 (mask (lt unsigned)) (s_int w16) (s_int w16) (s_int w16)) s (splatted 8 255)) in
     each_lane (Asks1 (cast unsigned unsigned w8) (s_int w16)) (selected t s (splatted 8 255)) (λ j h. record { fits = coarse_fits (get_or c.args.sums j 0 / 64) })
 
-pub returns : goal.returns
-returns c j h =
+pub returns-clause-eight : goal.returns-clause-eight
+returns-clause-eight c =
+    let s = zipped (act2 (shr unsigned) (s_int w16) (s_int w16) (s_int w16)) (lanes_of 0 8 c.args.sums c.fits-sums.0) (splatted 8 6) in
+    let t = mapped (top 15) (zipped (act2 (mask (lt unsigned)) (s_int w16) (s_int w16) (s_int w16)) s (splatted 8 255)) in
+    length-ByLane (mapped (act1 (cast unsigned unsigned w8) (s_int w16) (s_int w8)) (selected t s (splatted 8 255)))
+
+pub returns-clause-value : goal.returns-clause-value
+returns-clause-value c j h =
     let s = zipped (act2 (shr unsigned) (s_int w16) (s_int w16) (s_int w16)) (lanes_of 0 8 c.args.sums c.fits-sums.0) (splatted 8 6) in
     let t = mapped (top 15) (zipped (act2 (mask (lt unsigned)) (s_int w16) (s_int w16) (s_int w16)) s (splatted 8 255)) in
     let m = mapped (act1 (cast unsigned unsigned w8) (s_int w16) (s_int w8)) (selected t s (splatted 8 255)) in

@@ -3,7 +3,7 @@ use Rattle.vp_search.specs.declared.vector.Found.{Found}
 use Rattle.vp_search.specs.Least.{IsNoWorse}
 use Rattle.vp_search.specs.Window.{window_cost, vector_at}
 use Rattle.std.proofs.lemmas.Bool.{cases_eq}
-use Rattle.vp_search.proofs.OrderLemmas.{least_of_all, along}
+use Rattle.vp_search.proofs.OrderLemmas.{least_of_all, least_within, along}
 use Rattle.vp_search.proofs.outward.search_outwards.Goals as goal
 
 pub loop-d-preserved : goal.loop-d-preserved
@@ -26,6 +26,12 @@ loop-d-preserved c =
         ]
       ];
     }
+
+pub returns-then-is_best_beyond-clause-least : goal.returns-then-is_best_beyond-clause-least
+returns-then-is_best_beyond-clause-least c =
+    let r = c.args.range in
+    least_within r c.loop-d.d (window_cost c.args.block.now c.args.window.now r) c.loop-d.progress.best c.loop-d.invariant.kept c.loop-d.invariant.seen
+    (c.is_best_beyond.ensures c.if-is_best_beyond.true)
 
 pub returns-clause-least : goal.returns-clause-least
 returns-clause-least c =

@@ -4,7 +4,7 @@ use Rattle.vp_search.proofs.search.search_in.Goals as goal
 
 pub returns : goal.returns
 returns g c =
-    let best : IsBest (block16 c.args.block.now) c.args.reference.now c.args.place c.args.range c.search_plainly.result =
-    best_whole c.args.block.now c.cut_window.new.window c.args.reference.now c.args.place c.args.range c.search_plainly.result c.cut_window.ensures c.centre_of-centre.ensures.bytes
-    c.search_plainly.ensures.cost c.search_plainly.ensures.least in
+    let best : IsBest (block16 c.args.block.now) c.args.reference.now c.args.place c.args.range c.search_from_centre.result =
+    best_whole c.args.block.now c.cut_window.new.window c.args.reference.now c.args.place c.args.range c.search_from_centre.result c.cut_window.ensures c.centre_of-centre.ensures.bytes
+    c.search_from_centre.ensures.cost c.search_from_centre.ensures.least in
     record { cost = best.cost; least = best.least; predicted = best.predicted }

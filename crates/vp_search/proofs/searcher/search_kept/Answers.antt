@@ -23,20 +23,20 @@ returns-in-Some-clause-predicted c =
     (best_whole c.args.block.now c.cut_window.new.window c.args.view.reference.now c.args.view.place c.args.view.range c.in-Some.best c.cut_window.ensures c.centre_of-centre.ensures.bytes
     c.in-Some.ensures.cost c.in-Some.ensures.least).predicted
 
-pub returns-then-plain-gt0-clause-cost : goal.returns-then-plain-gt0-clause-cost
-returns-then-plain-gt0-clause-cost c =
-    (best_whole c.args.block.now c.cut_window.new.window c.args.view.reference.now c.args.view.place c.args.view.range c.search_rows-found.result c.cut_window.ensures c.centre_of-centre.ensures.bytes
-    c.search_rows-found.ensures.cost c.search_rows-found.ensures.least).cost
+pub returns-then-unbounded-gt0-clause-cost : goal.returns-then-unbounded-gt0-clause-cost
+returns-then-unbounded-gt0-clause-cost c =
+    (best_whole c.args.block.now c.cut_window.new.window c.args.view.reference.now c.args.view.place c.args.view.range c.search_unbounded-found.result c.cut_window.ensures c.centre_of-centre.ensures.bytes
+    c.search_unbounded-found.ensures.cost c.search_unbounded-found.ensures.least).cost
 
-pub returns-then-plain-gt0-clause-least : goal.returns-then-plain-gt0-clause-least
-returns-then-plain-gt0-clause-least c =
-    (best_whole c.args.block.now c.cut_window.new.window c.args.view.reference.now c.args.view.place c.args.view.range c.search_rows-found.result c.cut_window.ensures c.centre_of-centre.ensures.bytes
-    c.search_rows-found.ensures.cost c.search_rows-found.ensures.least).least
+pub returns-then-unbounded-gt0-clause-least : goal.returns-then-unbounded-gt0-clause-least
+returns-then-unbounded-gt0-clause-least c =
+    (best_whole c.args.block.now c.cut_window.new.window c.args.view.reference.now c.args.view.place c.args.view.range c.search_unbounded-found.result c.cut_window.ensures c.centre_of-centre.ensures.bytes
+    c.search_unbounded-found.ensures.cost c.search_unbounded-found.ensures.least).least
 
-pub returns-then-plain-gt0-clause-predicted : goal.returns-then-plain-gt0-clause-predicted
-returns-then-plain-gt0-clause-predicted c =
-    (best_whole c.args.block.now c.cut_window.new.window c.args.view.reference.now c.args.view.place c.args.view.range c.search_rows-found.result c.cut_window.ensures c.centre_of-centre.ensures.bytes
-    c.search_rows-found.ensures.cost c.search_rows-found.ensures.least).predicted
+pub returns-then-unbounded-gt0-clause-predicted : goal.returns-then-unbounded-gt0-clause-predicted
+returns-then-unbounded-gt0-clause-predicted c =
+    (best_whole c.args.block.now c.cut_window.new.window c.args.view.reference.now c.args.view.place c.args.view.range c.search_unbounded-found.result c.cut_window.ensures c.centre_of-centre.ensures.bytes
+    c.search_unbounded-found.ensures.cost c.search_unbounded-found.ensures.least).predicted
 
 pub fill_sums-requires-clause-first : goal.fill_sums-requires-clause-first
 fill_sums-requires-clause-first c = (c.moved_to-moved.ensures.kept c.args.view.reference.now c.args.view.range c.args.sums.now c.requires.known).few

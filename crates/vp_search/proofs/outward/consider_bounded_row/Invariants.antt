@@ -1,7 +1,7 @@
 use Rattle.std.proofs.Common.{ℕ, ◌+◌, ◌-◌, ◌*◌, ◌<◌, ◌≤◌}
 use Rattle.vp_search.specs.Least.{IsNoWorse}
 use Rattle.vp_search.specs.Window.{IsFoundInWindow, window_cost, vector_at}
-use Rattle.vp_search.proofs.outward.consider_row.Given as goal
+use Rattle.vp_search.proofs.outward.consider_bounded_row.Given as goal
 
 abbrev pub invariant-loop-g : goal.invariant-loop-g
 invariant-loop-g l = record {

@@ -1,7 +1,7 @@
 use Rattle.std.proofs.Common.{sym, ◌∙◌}
 use Rattle.vp_search.specs.Window.{window_cost}
 use Rattle.vp_search.proofs.OrderLemmas.{zero_least}
-use Rattle.vp_search.proofs.outward.search_plainly.Goals as goal
+use Rattle.vp_search.proofs.outward.search_from_centre.Goals as goal
 
 pub returns-then-centre-eq0-clause-least : goal.returns-then-centre-eq0-clause-least
 returns-then-centre-eq0-clause-least c =

@@ -3,15 +3,15 @@ use Rattle.vp_search.specs.declared.vector.Found.{Found}
 use Rattle.vp_search.specs.Least.{IsNoWorse}
 use Rattle.vp_search.specs.Window.{window_cost, vector_at}
 use Rattle.std.proofs.lemmas.Bool.{cases_eq}
-use Rattle.vp_search.proofs.OrderLemmas.{least_of_all, along}
-use Rattle.vp_search.proofs.outward.search_rows.Goals as goal
+use Rattle.vp_search.proofs.OrderLemmas.{least_of_all, least_within, along}
+use Rattle.vp_search.proofs.outward.search_unbounded.Goals as goal
 
 pub loop-d-preserved : goal.loop-d-preserved
 loop-d-preserved c =
     let b = c.args.block.now in let w = c.args.window.now in let r = c.args.range in let d = c.loop-d.d in
-    let f : Found = c.loop-d.best in let g : Found = c.consider_plainly-best-in-loop-d.result in let h : Found = c.consider_plainly-best-in-loop-d-2.result in
+    let f : Found = c.loop-d.best in let g : Found = c.consider_unbounded_row-best-in-loop-d.result in let h : Found = c.consider_unbounded_row-best-in-loop-d-2.result in
     let m : c.from-middle.result ≡ r = c.from-middle.ensures in
-    let one = c.consider_plainly-best-in-loop-d.ensures in let two = c.consider_plainly-best-in-loop-d-2.ensures in
+    let one = c.consider_unbounded_row-best-in-loop-d.ensures in let two = c.consider_unbounded_row-best-in-loop-d-2.ensures in
     let inv = c.loop-d.invariant in
     record {
       kept = two.kept;
@@ -26,6 +26,12 @@ loop-d-preserved c =
         ]
       ];
     }
+
+pub returns-then-is_best_beyond-clause-least : goal.returns-then-is_best_beyond-clause-least
+returns-then-is_best_beyond-clause-least c =
+    let r = c.args.range in
+    least_within r c.loop-d.d (window_cost c.args.block.now c.args.window.now r) c.loop-d.best c.loop-d.invariant.kept c.loop-d.invariant.seen
+    (c.is_best_beyond.ensures c.if-is_best_beyond.true)
 
 pub returns-clause-least : goal.returns-clause-least
 returns-clause-least c =

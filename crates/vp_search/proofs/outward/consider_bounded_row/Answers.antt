@@ -5,7 +5,7 @@ use Rattle.vp_search.specs.Least.{IsNoWorse}
 use Rattle.vp_search.specs.Window.{window_cost, vector_at}
 use Rattle.vp_search.proofs.OrderLemmas.{along, less_cost}
 use Rattle.vp_search.proofs.BoundLemmas.{bound_below, bounds_are}
-use Rattle.vp_search.proofs.outward.consider_row.Goals as goal
+use Rattle.vp_search.proofs.outward.consider_bounded_row.Goals as goal
 use Rattle.std.proofs.lemmas.Bool.{cases_lt}
 
 pub consider_eight-found-requires-clause-bounds : goal.consider_eight-found-requires-clause-bounds

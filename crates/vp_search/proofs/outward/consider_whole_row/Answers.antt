@@ -3,7 +3,7 @@ use Rattle.vp_search.specs.declared.vector.Found.{Found}
 use Rattle.vp_search.specs.Least.{IsNoWorse}
 use Rattle.vp_search.specs.Window.{window_cost, vector_at}
 use Rattle.vp_search.proofs.OrderLemmas.{along}
-use Rattle.vp_search.proofs.outward.consider_plain_row.Goals as goal
+use Rattle.vp_search.proofs.outward.consider_whole_row.Goals as goal
 use Rattle.std.proofs.lemmas.Bool.{cases_lt}
 
 pub loop-j-preserved : goal.loop-j-preserved

@@ -1,7 +1,7 @@
 use Rattle.std.proofs.Common.{ℕ, ◌<◌}
 use Rattle.vp_search.specs.Least.{IsNoWorse}
 use Rattle.vp_search.specs.Window.{IsFoundInWindow, window_cost, vector_at}
-use Rattle.vp_search.proofs.outward.consider_plain_row.Given as goal
+use Rattle.vp_search.proofs.outward.consider_whole_row.Given as goal
 
 abbrev pub invariant-loop-j : goal.invariant-loop-j
 invariant-loop-j g l = record {
