@@ -1,4 +1,4 @@
--- The effect of `vp8 encode` is what it was when its arguments held the encoder's settings in place of options.
+-- The effect of `vp8 encode`, stated of the encoder's settings in place of its options: both statements say the same.
 use Rattle.std.proofs.Common.{◌≡◌, ℕ, List, Result}
 use Rattle.std.specs.Prelude.{codes}
 use Rattle.clap.specs.Walk.{Row, first_of, one_of}
@@ -6,7 +6,7 @@ use Rattle.vp_encode.specs.declared.settings.Settings.{Settings}
 use Rattle.vp_encode.specs.declared.report.EncodeReport.{EncodeReport}
 use Rattle.vp_encode.specs.declared.report.EncodeAllFault.{EncodeAllFault}
 use Rattle.vp_args.specs.declared.encode_args.EncodeOptions.{EncodeOptions}
-use Rattle.vp_args.specs.Args.{AreSettings, IsFlag, IsNumber}
+use Rattle.vp_args.specs.Args.{IsFlag, IsNumber}
 use Rattle.vp_app.specs.Commands.{DoesEncode, EncodesFile, Side, settings_of, status_by_report}
 
 -- the settings of the encoder, with the defaults
@@ -21,7 +21,7 @@ pub record AreSettingsBefore (rows : List Row) (s : Settings) : Type 0 where
   pub subpel : IsFlag (one_of (codes "subpel") rows) s.subpel
   pub partitions : IsNumber (first_of (codes "partitions") rows) 1 s.partitions
 
--- the effect of `vp8 encode`
+-- the effect of `vp8 encode` with these settings
 abbrev pub DidEncode : List Row → List ℕ → List ℕ → ℕ → Side → Side → Side → Side → Type 0
 DidEncode rows from to status input input' output output' =
     (settings : Settings) × (done : Result EncodeReport EncodeAllFault) × AreSettingsBefore rows settings

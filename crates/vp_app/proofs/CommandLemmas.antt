@@ -1,6 +1,6 @@
 -- What the commands do.
-use Rattle.std.proofs.Common.{◌≡◌, ◌⊎◌, inl, inr, List, [], ◌∷◌, ℕ, Option, Bool, true, false, refl, sym, subst}
-use Rattle.std.specs.Prelude.{codes, Result, Ok, Err, MatchBool}
+use Rattle.std.proofs.Common.{◌≡◌, ◌⊎◌, inl, inr, List, [], ◌∷◌, ℕ, Bool, true, false, refl, sym, subst}
+use Rattle.std.specs.Prelude.{Result, Err, MatchBool}
 use Rattle.std.specs.Borrow.{Bor}
 use Rattle.clap.specs.Kinds.{HasKind, IsAmong, Kinds}
 use Rattle.clap.specs.Values.{kind_of}

@@ -129,7 +129,7 @@ abbrev pub status_by_fault : Option FileFault → ℕ
 status_by_fault None = 0
 status_by_fault (Some fault) = 1
 
--- the survey is printed, or a write failed
+-- the survey is printed, or the status is 1; without a survey nothing is printed
 abbrev pub PrintsSurvey : Result Survey DecodeFault → ℕ → Option (List ℕ) → Option (List ℕ) → Type 0
 PrintsSurvey (Ok survey) status before after = ((status ≡ status_by_fault survey.fault)
     × Appends before after (survey_text survey)) ⊎ (status ≡ 1)
@@ -211,7 +211,7 @@ DoesInfo from status input input' output output' =
     (done : Result Survey DecodeFault) × SurveysFile from done input input'
     × PrintsSurvey done status output.bytes output'.bytes
 
--- the connections are served, or there was a fault of files, names, address or memory before that
+-- the connections are served; of a fault before that, of files, names, address or memory, nothing is said
 abbrev pub ServesConnections : ServeArgs → Result Bool ServiceFault → Side → Side → Type 0
 ServesConnections service (Ok well) input input' = IsService service.streams.items service.cache service.connections
     well input.bytes input'.bytes
@@ -222,7 +222,7 @@ abbrev pub status_by_service : Result Bool ServiceFault → ℕ
 status_by_service (Ok true) = 0
 status_by_service _ = 1
 
--- only the address is printed, if that is asked for
+-- the effect of `vp8 serve`; nothing is printed unless the address is asked for
 abbrev pub DoesServe : List Row → List ℕ → List ℕ → List (List ℕ) → ℕ → Side → Side → Side → Side → Type 0
 DoesServe rows address connections operands status input input' output output' =
     (service : ServeArgs) × (done : Result Bool ServiceFault) × IsServiceFor rows address connections operands service

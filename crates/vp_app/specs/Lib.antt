@@ -1,5 +1,6 @@
 pub mod Usual
 pub mod Status
+pub mod FaultLines
 pub mod Listing
 pub mod Feeding
 pub mod Serving

@@ -1,8 +1,9 @@
 //! Prints the contents of a file, and the faults of its packets. Lines are gathered, and written many at once.
 
-ghost use Rattle.std.specs.Prelude.{◌≡◌, ◌+◌, ◌≤◌, length, OnOk};
+ghost use Rattle.std.specs.Prelude.{◌≡◌, ◌<◌, ◌+◌, ◌≤◌, length, true, OnOk};
 ghost use Rattle.std.specs.Io.KnownBytes.{Appends};
 ghost use Rattle.vp_base.specs.Counted.{counted_contents};
+ghost use Rattle.vp_app.specs.FaultLines.{fault_line, fault_lines};
 ghost use Rattle.vp_app.specs.Listing.{head_text, lines_from, packet_lines, packet_line, survey_text};
 
 use std::alloc::Global;
@@ -146,37 +147,88 @@ fn print_packet<W: Write>(
     }
 }
 
-/// Prints a line for each faulty packet. Failed writes are ignored.
+/// Prints a line for each faulty packet. Returns whether all are written; after a failed write it goes on with the next
+/// line.
 pub(crate) fn print_faults<E: Write>(
     alloc: Global,
     faults: &[(u32, PacketFault)],
     errors: &mut Counted<E>,
-) {
+) -> bool
+    ensures { result ≡ true → Appends (counted_contents E.contents errors.old) (counted_contents E.contents errors.new)
+        (fault_lines faults.now) }
+{
     let mut text = room_for_lines(alloc);
-    for some in faults.chunks(GATHERED) {
-        put_faults(some, &mut text, errors);
+    let mut well = true;
+    let mut rest = faults;
+    while !rest.is_empty() {
+        let (some, others) = rest.split_at(GATHERED.min(rest.len()));
+        well &= put_faults(some, &mut text, errors);
+        rest = others;
     }
+    well
 }
 
-// Writes the lines of faulty packets. They are gathered in `text`. If memory for that is refused, they are written one by
-// one.
+// Writes the lines of faulty packets, as `print_faults` does. They are gathered in `text`. If memory for that is refused,
+// they are written one by one.
 fn put_faults<E: Write>(
     faults: &[(u32, PacketFault)],
     text: &mut Vec<u8>,
     errors: &mut Counted<E>,
-) {
+) -> bool
+    ensures { result ≡ true → Appends (counted_contents E.contents errors.old) (counted_contents E.contents errors.new)
+        (fault_lines faults.now) }
+{
     text.clear();
-    if print_fault_lines(faults, text).is_ok() {
-        let _ = put_all(errors, text);
+    if print_fault_lines(faults, text) {
+        write_lines(text, errors)
     } else {
-        let _ = print_fault_lines(faults, errors);
+        print_fault_lines(faults, errors)
     }
 }
 
-// Prints the lines of faulty packets.
-fn print_fault_lines<W: Write>(faults: &[(u32, PacketFault)], output: &mut W) -> io::Result<()> {
+// Prints the lines of faulty packets, as `print_faults` does.
+fn print_fault_lines<W: Write>(faults: &[(u32, PacketFault)], output: &mut W) -> bool
+    ensures { result ≡ true → Appends (W.contents output.old) (W.contents output.new) (fault_lines faults.now) }
+{
+    let mut well = true;
     for (packet, fault) in faults {
-        writeln!(output, "vp8: packet {packet}: {fault}")?;
+        well &= print_fault(*packet, *fault, output).is_ok();
     }
-    Ok(())
+    well
+}
+
+// Prints the line of a faulty packet.
+fn print_fault<W: Write>(packet: u32, fault: PacketFault, output: &mut W) -> io::Result<()>
+    ensures { OnOk result (Appends (W.contents output.old) (W.contents output.new) (fault_line (packet, fault))) }
+{
+    writeln!(output, "vp8: packet {packet}: {fault}")
+}
+
+// Writes lines. Returns whether all are written; after a failed write it goes on with the next line.
+fn write_lines<W: Write>(lines: &[u8], output: &mut Counted<W>) -> bool
+    ensures { result ≡ true → Appends (counted_contents W.contents output.old) (counted_contents W.contents output.new)
+        lines.now }
+{
+    let mut rest = lines;
+    let mut well = true;
+    while !rest.is_empty() {
+        match output.write(rest) {
+            Ok(taken) if 0 < taken => rest = &rest[taken..],
+            _ => {
+                well = false;
+                rest = after_line(rest);
+            }
+        }
+    }
+    well
+}
+
+// Returns what follows the first line.
+fn after_line(lines: &[u8]) -> &[u8]
+    ensures { 0 < length lines.now → length result.now < length lines.now }
+{
+    match lines.iter().position(|byte| *byte == b'\n') {
+        Some(place) => &lines[place + 1..],
+        None => &[],
+    }
 }

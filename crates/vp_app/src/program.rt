@@ -73,7 +73,7 @@ pub fn command<
         ⊎ ((result ≡ 1) × (input.new ≡ input.old) × (output.new ≡ output.old)) }
 {
     match read_args(rt.alloc(), words) {
-        Ok(plan) => run_task(rt, &plan, input, output, errors),
+        Ok(task) => run_task(rt, &task, input, output, errors),
         Err(refusal) => reject(&refusal, output, errors),
     }
 }
@@ -87,19 +87,19 @@ fn run_task<
     E: Write,
 >(
     rt: &H,
-    plan: &Task<'_>,
+    task: &Task<'_>,
     input: &mut Counted<R>,
     output: &mut Counted<W>,
     errors: &mut Counted<E>,
 ) -> u8
     ensures status { result ≤ 2 }
     ensures usage { result ≡ 2 → (input.new ≡ input.old) × (output.new ≡ output.old) }
-    ensures nothing { plan.now ≡ Task.Nothing → result ≡ 2 }
-    ensures does { (asked : ParsedArgs) → IsTaskFor asked plan.now → Does asked result
+    ensures nothing { task.now ≡ Task.Nothing → result ≡ 2 }
+    ensures does { (asked : ParsedArgs) → IsTaskFor asked task.now → Does asked result
         (read_side R.remaining input.old) (read_side R.remaining input.new)
         (written_side W.contents output.old) (written_side W.contents output.new) }
 {
-    match plan {
+    match task {
         Task::Decode {
             y4m,
             input: from,
@@ -264,7 +264,7 @@ fn report_decode<E: Write>(
         Ok(report) => report,
         Err(fault) => return report_fault(fault, errors),
     };
-    print_faults(alloc, report.faults.as_slice(), errors);
+    let _ = print_faults(alloc, report.faults.as_slice(), errors);
     if report.faults.is_empty() { 0 } else { 1 }
 }
 
@@ -321,6 +321,8 @@ fn report_args_error<W: Write, E: Write>(
     ensures memory { kind_of error.now ≡ ErrorKind.OutOfMemory → (result ≡ 1) × (output.new ≡ output.old) }
     ensures mistake { kind_of error.now ≢ ErrorKind.DisplayHelp → kind_of error.now ≢ ErrorKind.DisplayVersion
         → (result ≡ 2) ⊎ ((result ≡ 1) × (output.new ≡ output.old)) }
+    ensures words { kind_of error.now ≢ ErrorKind.OutOfMemory → kind_of error.now ≢ ErrorKind.DisplayHelp
+        → kind_of error.now ≢ ErrorKind.DisplayVersion → result ≡ 2 }
 {
     if error.kind() == ErrorKind::OutOfMemory {
         return report_fault(DecodeFault::Memory, errors);

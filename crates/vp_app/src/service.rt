@@ -84,7 +84,7 @@ pub(crate) fn serve<
     ensures served { ServesConnections service.now result (read_side R.remaining input.old)
         (read_side R.remaining input.new) }
 
-    // Only the address is printed, if that is asked for.
+    // Nothing is printed unless the address is asked for.
     ensures quiet { service.now.show_address ≡ false → output.new ≡ output.old }
 {
     let mut hub = new_hub(rt.alloc(), service)?;
