@@ -102,7 +102,7 @@ unfolding step parsed
 still_none limits [] says other = refl
 still_none limits (x ∷ xs) says other = none_kept (tag_of limits (x ∷ xs)) (x ∷ xs) (keyless limits (x ∷ xs) says other)
 
-stays_none : (limits : Limits) (ps : List Packet) (n : ℕ) → SaysInter limits → ((k : ℕ) → k < n → ¬ IsKeyAt ps k)
+pub stays_none : (limits : Limits) (ps : List Packet) (n : ℕ) → SaysInter limits → ((k : ℕ) → k < n → ¬ IsKeyAt ps k)
     → state_after_packets limits None (take n ps) ≡ None
 stays_none limits ps zero says other = refl
 stays_none limits [] (suc n) says other = refl

@@ -1,5 +1,6 @@
 pub mod KeyLemmas
 pub mod AnswerLemmas
+pub mod CursorLemmas
 pub mod SizeLemmas
 pub mod KeptLemmas
 pub mod CountLemmas

@@ -1,6 +1,7 @@
 pub mod Answers
 pub mod Seeking
 pub mod Stream
+pub mod Cursor
 pub mod Texts
 pub mod Reports
 pub mod PacketReader

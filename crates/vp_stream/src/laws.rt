@@ -1,10 +1,12 @@
 //! Theorems about all files. Each is the contract of a function that does nothing.
 
-ghost use Rattle.std.specs.Prelude.{◌≡◌, ◌≢◌, ◌-◌, ◌++◌, ℕ, List, drop, Some};
+ghost use Rattle.std.specs.Prelude.{◌≡◌, ◌≢◌, ◌<◌, ◌≤◌, ◌+◌, ◌-◌, ◌++◌, ℕ, List, length, drop, Some};
 ghost use Rattle.vp_base.specs.declared.limits.Limits.{Limits};
 ghost use Rattle.vp_ivf.specs.declared.packet.Packet.{Packet};
 ghost use Rattle.vp_stream.specs.Answers.{reading_of};
-ghost use Rattle.vp_stream.specs.Seeking.{NoPacket, Shown, answer_at, seek_start, key_before, size_at};
+ghost use Rattle.vp_stream.specs.Seeking.{NoPacket, Shown, answer_at, seek_start, key_before, size_at, work_of};
+ghost use Rattle.vp_stream.specs.Stream.{Stream, after_piece, stream_after_end};
+ghost use Rattle.vp_stream.specs.Cursor.{Cursor, IsCursorOf, work_from};
 
 use vp_decode::key_packet_resets;
 use vp_head::first_byte_says_kind;
@@ -40,3 +42,28 @@ pub fn shown_pictures_have_the_key_packets_size()
     key_packet_resets();
     first_byte_says_kind();
 }
+
+/// A cursor of a stream stays one when the stream is fed or ended.
+pub fn cursor_outlives_a_feed()
+    ensures piece { (cursor : Cursor) (stream : Stream) (piece : List ℕ) → IsCursorOf cursor stream
+        → IsCursorOf cursor (after_piece stream piece) }
+    ensures end { (cursor : Cursor) (stream : Stream) → IsCursorOf cursor stream
+        → IsCursorOf cursor (stream_after_end stream) }
+{}
+
+/// With a cursor, packets in order cost one decoded packet each, and the packet decoded last costs none.
+pub fn packets_in_order_cost_one_each()
+    ensures order { (packets : List Packet) (n : ℕ) → n < length packets → work_from packets n n ≡ 1 }
+    ensures again { (packets : List Packet) (n : ℕ) → work_from packets (n + 1) n ≡ 0 }
+
+    // A cursor between the last key packet and packet n saves the packets before its next one.
+    ensures between { (packets : List Packet) (n key next : ℕ) → n < length packets → key_before packets n ≡ Some key
+        → key < next → next ≤ n → work_from packets next n ≡ n - next + 1 }
+
+    // A cursor elsewhere saves nothing, and no cursor costs more than none.
+    ensures before { (packets : List Packet) (n next : ℕ) → next ≤ seek_start packets n
+        → work_from packets next n ≡ work_of packets n }
+    ensures past { (packets : List Packet) (n next : ℕ) → n + 1 < next
+        → work_from packets next n ≡ work_of packets n }
+    ensures most { (packets : List Packet) (n next : ℕ) → work_from packets next n ≤ work_of packets n }
+{}

@@ -2,6 +2,7 @@
 #![tactic(auto)]
 
 mod answer;
+mod cursor;
 mod decoding;
 mod fault;
 mod form;
@@ -16,12 +17,13 @@ mod surveying;
 mod transcode_state;
 
 pub use answer::Answer;
+pub use cursor::Cursor;
 pub use decoding::decode_all;
 pub use fault::{DecodeFault, SurveyFault};
 pub use form::Form;
 pub use laws::{
-    answers_come_from_the_last_key_packet, growing_keeps_answers,
-    shown_pictures_have_the_key_packets_size,
+    answers_come_from_the_last_key_packet, cursor_outlives_a_feed, growing_keeps_answers,
+    packets_in_order_cost_one_each, shown_pictures_have_the_key_packets_size,
 };
 pub use outcomes::{OutcomeList, Survey};
 pub use report::{FaultList, Report};

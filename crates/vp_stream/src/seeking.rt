@@ -7,6 +7,7 @@ ghost use Rattle.vp_decode.specs.Step.{step};
 ghost use Rattle.vp_stream.specs.Seeking.{AreKeys, is_key, key_before, answer_value, answer_values};
 ghost use Rattle.vp_stream.specs.Seeking.{state_after_packets};
 ghost use Rattle.vp_stream.specs.Seeking.{answer_at};
+ghost use Rattle.vp_stream.specs.Cursor.{shown_value};
 
 use crate::answer::Answer;
 use std::alloc::{AllocError, Global};
@@ -99,12 +100,14 @@ fn decode_each(
     Ok(())
 }
 
-/// Decodes a packet, and returns the answer for it.
-fn answer_to(alloc: Global, decoder: &mut Decoder, packet: &[u8]) -> Result<Answer, AllocError>
-    ensures { IfOk result (λ a.
-        answer_value a ≡ answer_values (step decoder.old.limits decoder.old.state packet.now).1) }
+/// Returns the answer for the packet that a decoder decoded last, with this outcome.
+pub(crate) fn answer_of(
+    alloc: Global,
+    decoder: &Decoder,
+    outcome: Outcome,
+) -> Result<Answer, AllocError>
+    ensures { IfOk result (λ a. answer_value a ≡ shown_value decoder.now.shown outcome) }
 {
-    let outcome = decoder.decode(packet)?;
     if let Some(picture) = decoder.picture() {
         let bytes = picture.crop_i420(alloc)?;
         return Ok(Answer::Shown(picture.dim(), ByteList::from_vec(bytes)));
@@ -114,6 +117,15 @@ fn answer_to(alloc: Global, decoder: &mut Decoder, packet: &[u8]) -> Result<Answ
         // A shown picture is returned above.
         Outcome::Shown | Outcome::Hidden => Ok(Answer::Hidden),
     }
+}
+
+/// Decodes a packet, and returns the answer for it.
+fn answer_to(alloc: Global, decoder: &mut Decoder, packet: &[u8]) -> Result<Answer, AllocError>
+    ensures { IfOk result (λ a.
+        answer_value a ≡ answer_values (step decoder.old.limits decoder.old.state packet.now).1) }
+{
+    let outcome = decoder.decode(packet)?;
+    answer_of(alloc, decoder, outcome)
 }
 
 /// Decodes packets `first` to `n`, counts them, and returns the answer for the last one.

@@ -1,6 +1,6 @@
 //! A growing IVF file, all packets of which are kept.
 
-ghost use Rattle.std.specs.Prelude.{◌≡◌, ◌≢◌, ◌<◌, ◌≤◌, length, None, Some, Err, IfOk, OnOk, OnErr};
+ghost use Rattle.std.specs.Prelude.{◌≡◌, ◌≢◌, ◌<◌, ◌≤◌, ◌+◌, ◌^◌, length, None, Some, Err, IfOk, OnOk, OnErr};
 ghost use Rattle.vp_ivf.specs.declared.fault.FileFault.{FileFault};
 ghost use Rattle.vp_ivf.specs.Reader.{answer_by, finish_answer, refusal_at};
 ghost use Rattle.vp_stream.specs.Answers.{reading_of};
@@ -8,13 +8,17 @@ ghost use Rattle.vp_stream.specs.Seeking.{IsKeyBefore, key_before, answer_value,
 ghost use Rattle.vp_stream.specs.Stream.{StreamHistory, IsStreamAfter, initial_stream, empty_stream_history};
 ghost use Rattle.vp_stream.specs.Stream.{stream_refusal, after_piece, stream_after_end, with_piece, with_end};
 ghost use Rattle.vp_stream.specs.Stream.{packets_of};
+ghost use Rattle.vp_stream.specs.Cursor.{Cursor, IsCursorOf, initial_cursor, cursor_behind, work_from, next_after};
 
 use crate::answer::Answer;
+use crate::cursor::Cursor;
 use crate::laws::answers_come_from_the_last_key_packet;
 use crate::seeking::{answer_from, keep_waiting, key_of};
 use std::alloc::{AllocError, Global};
 use std::marker::Model;
 use vp_base::Limits;
+use vp_decode::key_packet_resets;
+use vp_head::first_byte_says_kind;
 use vp_ivf::{FeedError, FileFault, IvfHead, Packet, Reader};
 
 /// A growing IVF file. It is fed in pieces of any length, and any of its packets can be decoded at any time. Its
@@ -77,6 +81,8 @@ impl Stream {
             self.new ≡ after_piece self.old piece.now }
         ensures stands { stream_refusal self.old ≡ None → result ≢ Err FeedError.Memory →
             (h : StreamHistory) → IsStreamAfter self.old h → IsStreamAfter self.new (with_piece h piece.now) }
+        // In all cases the cursors of the stream stay valid.
+        ensures cursors { (cursor : Cursor) → IsCursorOf cursor self.old → IsCursorOf cursor self.new }
     {
         if let Some(fault) = self.reader.refusal() {
             return Err(FeedError::Fault(fault));
@@ -103,6 +109,7 @@ impl Stream {
         ensures state { self.new ≡ stream_after_end self.old }
         ensures stands { (h : StreamHistory) → IsStreamAfter self.old h →
             IsStreamAfter self.new (with_end h self.old.reading.fault) }
+        ensures cursors { (cursor : Cursor) → IsCursorOf cursor self.old → IsCursorOf cursor self.new }
     {
         self.reader.finish()
     }
@@ -197,5 +204,92 @@ impl Stream {
         answers_come_from_the_last_key_packet();
         let first = key_of(&self.packets, &self.keys, n).unwrap_or(n);
         answer_from(self.alloc, self.limits, &self.packets, first, n, decoded)
+    }
+
+    /// Decodes packet `n` as `picture_at` does, with a cursor of this stream: decoding goes on at the cursor's next
+    /// packet, or starts at the last key packet. Adds the number of decoded packets to `work`. The sum saturates at
+    /// 2^64 - 1.
+    ///
+    /// Errors: out of memory, after which the cursor stands behind no packet.
+    pub fn picture_from(
+        &self,
+        n: u32,
+        cursor: &mut Cursor,
+        work: &mut u64,
+    ) -> Result<Answer, AllocError>
+        requires { IsCursorOf cursor.old self.now }
+        ensures answer { IfOk result (λ a.
+            answer_value a ≡ answer_at self.now.limits self.now.reading.packets n) }
+        ensures stands { IfOk result (λ a. (h : StreamHistory) → IsStreamAfter self.now h →
+            answer_value a ≡ answer_at self.now.limits (packets_of self.now h) n) }
+        ensures memory { OnErr result (n < length self.now.reading.packets) }
+
+        // The cursor stays one of this stream. It then stands behind packet n, or where it was if there is no packet n.
+        // If memory runs out, it stands behind no packet.
+        ensures cursor { IsCursorOf cursor.new self.now }
+        ensures next { OnOk result (cursor.new.next ≡ next_after self.now.reading.packets cursor.old.next n) }
+        ensures cleared { OnErr result (cursor.new ≡ initial_cursor self.now.limits) }
+
+        // The decoded packets are those from the cursor's next packet to n, or from the key packet to n. If memory runs
+        // out, there are at most as many. There are never more than without a cursor, and none if the cursor stands
+        // right behind packet n.
+        ensures work { OnOk result (work.new ≡ saturating_count work.old
+            (work_from self.now.reading.packets cursor.old.next n)) }
+        ensures most { OnErr result ((work.old ≤ work.new) × (work.new ≤ saturating_count work.old
+            (work_from self.now.reading.packets cursor.old.next n))) }
+        ensures least { work.new ≤ saturating_count work.old (work_of self.now.reading.packets n) }
+        ensures again { cursor.old.next ≡ n + 1 → work.new ≡ work.old }
+    {
+        let mut decoded = 0;
+        let answer = self.answer_from_cursor(n, cursor, &mut decoded);
+        *work = work.saturating_add(decoded);
+        if answer.is_err() {
+            *cursor = Cursor::new(self.alloc, self.limits);
+        }
+        answer
+    }
+
+    // Decodes packet n with a cursor, and counts the packets that are decoded for it. If memory runs out, the cursor
+    // may be none of this stream.
+    fn answer_from_cursor(
+        &self,
+        n: u32,
+        cursor: &mut Cursor,
+        decoded: &mut u64,
+    ) -> Result<Answer, AllocError>
+        requires cursor { IsCursorOf cursor.old self.now }
+        requires none { decoded.old ≡ 0 }
+        ensures answer { IfOk result (λ a.
+            answer_value a ≡ answer_at self.now.limits self.now.reading.packets n) }
+        ensures memory { OnErr result (n < length self.now.reading.packets) }
+        ensures cursor { OnOk result (IsCursorOf cursor.new self.now) }
+        ensures next { OnOk result (cursor.new.next ≡ next_after self.now.reading.packets cursor.old.next n) }
+        ensures count { OnOk result (decoded.new ≡ work_from self.now.reading.packets cursor.old.next n) }
+        ensures most { OnErr result (decoded.new ≤ work_from self.now.reading.packets cursor.old.next n) }
+    {
+        if n >= self.count() {
+            return Ok(Answer::NoPacket);
+        }
+        self.move_behind(n, cursor, decoded)?;
+        cursor.answer(self.alloc)
+    }
+
+    // Decodes packets until a cursor stands behind packet n, and counts them.
+    fn move_behind(&self, n: u32, cursor: &mut Cursor, decoded: &mut u64) -> Result<(), AllocError>
+        requires there { n < length self.now.reading.packets }
+        requires few { length self.now.reading.packets < 2 ^ 32 }
+        requires cursor { IsCursorOf cursor.old self.now }
+        requires none { decoded.old ≡ 0 }
+        ensures cursor { OnOk result (cursor.new ≡ cursor_behind self.now.limits self.now.reading.packets (n + 1)) }
+        ensures count { OnOk result (decoded.new ≡ work_from self.now.reading.packets cursor.old.next n) }
+        ensures most { OnErr result (decoded.new ≤ work_from self.now.reading.packets cursor.old.next n) }
+    {
+        // By these laws no packet before the key packet is needed.
+        key_packet_resets();
+        first_byte_says_kind();
+        let start = key_of(&self.packets, &self.keys, n).unwrap_or(n);
+        let end = n + 1;
+        cursor.place(self.alloc, self.limits, start, end);
+        cursor.decode_each(&self.packets[cursor.next() as usize..end as usize], decoded)
     }
 }

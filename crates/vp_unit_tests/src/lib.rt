@@ -7,6 +7,8 @@ mod cache;
 #[cfg(test)]
 mod check;
 #[cfg(test)]
+mod cursor;
+#[cfg(test)]
 mod files;
 #[cfg(test)]
 mod ivf;
