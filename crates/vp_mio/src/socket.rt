@@ -1,0 +1,130 @@
+//! The socket of an open connection, and what it was found ready for.
+
+ghost use Rattle.std.specs.Prelude.{◌≤◌, length};
+ghost use Rattle.vp_serve.specs.Transport.{read_count, written_count};
+
+use mio::event::Event;
+use mio::net::TcpStream;
+use std::io::{ErrorKind, Read, Write};
+use vp_serve::{ReadOutcome, WriteOutcome};
+
+/// What an event reports of a socket.
+#[derive(Clone, Copy)]
+pub(crate) struct Readiness {
+    pub read: bool,
+    pub write: bool,
+    /// The peer sends no more than it has sent, so that no later event need report it.
+    pub ended: bool,
+}
+
+/// What an event reports. A socket that failed is ready for both, so that the next call finds the failure.
+pub(crate) fn readiness_of(event: &Event) -> Readiness {
+    let ended = event.is_read_closed() || event.is_error();
+    Readiness {
+        read: event.is_readable() || ended,
+        write: event.is_writable() || event.is_error() || event.is_write_closed(),
+        ended,
+    }
+}
+
+/// The socket of an open connection. Events report changes alone, so what a socket is ready for is kept until a call
+/// shows that it is over.
+#[derive(Drop)]
+pub(crate) struct Socket {
+    number: u32,
+    stream: TcpStream,
+    ready: Readiness,
+}
+
+impl Socket {
+    /// A socket that was just accepted. Its first read and write are tried without an event.
+    pub(crate) fn new(number: u32, stream: TcpStream) -> Socket {
+        Socket {
+            number,
+            stream,
+            ready: Readiness {
+                read: true,
+                write: true,
+                ended: false,
+            },
+        }
+    }
+
+    /// The number of its connection.
+    pub(crate) fn number(&self) -> u32 {
+        self.number
+    }
+
+    /// What it was found ready for.
+    pub(crate) fn ready(&self) -> Readiness {
+        self.ready
+    }
+
+    /// The stream, once its connection is closed.
+    pub(crate) fn into_stream(self) -> TcpStream {
+        let Socket {
+            number: _,
+            stream,
+            ready: _,
+        } = self;
+        stream
+    }
+
+    /// Notes what an event reports.
+    pub(crate) fn mark(&mut self, found: Readiness) {
+        self.ready = Readiness {
+            read: self.ready.read || found.read,
+            write: self.ready.write || found.write,
+            ended: self.ready.ended || found.ended,
+        };
+    }
+
+    /// Reads once. A short read has taken all there was.
+    pub(crate) fn read(&mut self, buffer: &mut [u8]) -> ReadOutcome
+        ensures { read_count result ≤ length buffer.new }
+    {
+        match (&self.stream).read(buffer) {
+            Ok(0) => ReadOutcome::EndOfInput,
+            Ok(count) => {
+                if count < buffer.len() {
+                    self.ready.read = self.ready.ended;
+                }
+                ReadOutcome::Bytes(count)
+            }
+            Err(error) => match error.kind() {
+                ErrorKind::WouldBlock => {
+                    self.ready.read = false;
+                    ReadOutcome::WouldBlock
+                }
+                ErrorKind::Interrupted => ReadOutcome::WouldBlock,
+                _ => ReadOutcome::Failed,
+            },
+        }
+    }
+
+    /// Writes once. A short write has filled all the room there was.
+    pub(crate) fn write(&mut self, bytes: &[u8]) -> WriteOutcome
+        ensures { written_count result ≤ length bytes.now }
+    {
+        match (&self.stream).write(bytes) {
+            Ok(0) => {
+                self.ready.write = false;
+                WriteOutcome::WouldBlock
+            }
+            Ok(count) => {
+                if count < bytes.len() {
+                    self.ready.write = false;
+                }
+                WriteOutcome::Bytes(count)
+            }
+            Err(error) => match error.kind() {
+                ErrorKind::WouldBlock => {
+                    self.ready.write = false;
+                    WriteOutcome::WouldBlock
+                }
+                ErrorKind::Interrupted => WriteOutcome::WouldBlock,
+                _ => WriteOutcome::Failed,
+            },
+        }
+    }
+}

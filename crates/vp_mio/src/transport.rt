@@ -1,0 +1,208 @@
+//! The transport over mio: a listener, sockets that do not block, and files.
+
+ghost use Rattle.std.specs.Prelude.{◌≤◌, length, None};
+
+use crate::files::FollowedFile;
+use crate::socket::{Socket, readiness_of};
+use crate::sockets::Sockets;
+use mio::net::TcpListener;
+use mio::{Events, Interest, Poll, Token};
+use std::alloc::Global;
+use std::io::{ErrorKind, Read, Write};
+use std::net::Net;
+use std::time::{Clock, Duration, Instant};
+use std::{io, net};
+use vp_hub::HubFault;
+use vp_serve::{CloseReason, ReadOutcome, Transport, WriteOutcome};
+
+/// The token of the listener; those of the sockets are the numbers of their connections, which are below it.
+const LISTENER: usize = usize::MAX;
+
+/// The most events that one wait reports; what is left is reported by the next.
+const EVENTS: usize = 256;
+
+/// Sockets by the numbers of their connections, and files. Faults of files are printed on `errors`.
+#[derive(Drop)]
+pub struct MioTransport<'a, C: Clock, F: Read + Drop, E: Write> {
+    clock: &'a C,
+    start: Instant,
+    now: u64,
+    // The longest wait in milliseconds.
+    tick: u64,
+    poll: Poll,
+    events: Events,
+    listener: Option<TcpListener>,
+    can_accept: bool,
+    sockets: Sockets,
+    // Whether a socket that lingers may have more to read.
+    drains: bool,
+    files: Vec<FollowedFile<'a, F>>,
+    errors: &'a mut E,
+}
+
+impl<'a, C: Clock, F: Read + Drop, E: Write> MioTransport<'a, C, F, E> {
+    /// No sockets, and these files. `tick` is the longest wait in milliseconds.
+    pub fn new<H: Net>(
+        rt: &H,
+        clock: &'a C,
+        alloc: Global,
+        tick: u64,
+        files: Vec<FollowedFile<'a, F>>,
+        errors: &'a mut E,
+    ) -> io::Result<MioTransport<'a, C, F, E>> {
+        Ok(MioTransport {
+            clock,
+            start: Instant::now(clock)?,
+            now: 0,
+            tick,
+            poll: Poll::new(rt)?,
+            events: Events::with_capacity(alloc, EVENTS)?,
+            listener: None,
+            can_accept: false,
+            sockets: Sockets::new(alloc)?,
+            drains: false,
+            files,
+            errors,
+        })
+    }
+
+    /// Accepts connections from this listener from now on.
+    pub fn listen(&mut self, bound: net::TcpListener) -> io::Result<()> {
+        bound.set_nonblocking(true)?;
+        let mut listener = TcpListener::from_std(bound);
+        self.poll
+            .registry()
+            .register(&mut listener, Token(LISTENER), Interest::READABLE)?;
+        self.listener = Some(listener);
+        self.can_accept = true;
+        Ok(())
+    }
+
+    /// Whether a file is read no more, because of a fault.
+    pub fn has_stopped_file(&self) -> bool {
+        self.files.iter().any(|file| file.is_stopped())
+    }
+
+    // Waits for events, and notes what they report. If that fails, it waits all the same.
+    fn poll_sockets(&mut self, milliseconds: u64) {
+        let timeout = Duration::from_millis(milliseconds);
+        if self.poll.poll(&mut self.events, Some(timeout)).is_err() {
+            self.clock.sleep(timeout);
+        }
+        for event in self.events.iter() {
+            let token = event.token().0;
+            if token == LISTENER {
+                self.can_accept = true;
+            } else if let Ok(number) = u32::try_from(token) {
+                self.sockets.mark(number, readiness_of(event));
+            }
+        }
+    }
+
+    // The milliseconds since the start, or the last ones if the clock can't be read.
+    fn read_clock(&mut self) -> u64 {
+        if let Ok(passed) = self.start.elapsed(self.clock) {
+            self.now = passed
+                .as_secs()
+                .saturating_mul(1000)
+                .saturating_add(u64::from(passed.subsec_millis()));
+        }
+        self.now
+    }
+
+    // The stream of the next connection that waits to be accepted.
+    fn next_stream(&mut self) -> Option<mio::net::TcpStream> {
+        let listener = self.listener.as_ref()?;
+        match listener.accept() {
+            Ok((stream, _)) => Some(stream),
+            Err(error) => {
+                if error.kind() == ErrorKind::WouldBlock {
+                    self.can_accept = false;
+                }
+                None
+            }
+        }
+    }
+}
+
+// Whether the peer of a connection that is closed may have to read its last reply yet.
+fn lingers(reason: CloseReason) -> bool {
+    match reason {
+        CloseReason::Finished | CloseReason::HubRefused | CloseReason::OutOfMemory => true,
+        CloseReason::PeerEnded | CloseReason::IdleTimeout | CloseReason::TransferFailed => false,
+    }
+}
+
+impl<'a, C: Clock, F: Read + Drop, E: Write> Transport for MioTransport<'a, C, F, E> {
+    ghost use Rattle.std.specs.Prelude.{None};
+
+    ghost log = { λ _. None };
+
+    fn wait(&mut self, is_busy: bool) -> u64 {
+        let milliseconds = if is_busy || self.drains { 0 } else { self.tick };
+        self.poll_sockets(milliseconds);
+        let now = self.read_clock();
+        self.drains = self.sockets.drain(now);
+        now
+    }
+
+    fn accept(&mut self, number: u32) -> bool {
+        if !self.can_accept || self.sockets.is_full() {
+            return false;
+        }
+        let Some(mut stream) = self.next_stream() else {
+            return false;
+        };
+        let _ = stream.set_nodelay(true);
+        let both = Interest::READABLE | Interest::WRITABLE;
+        let token = Token(number as usize);
+        if self
+            .poll
+            .registry()
+            .register(&mut stream, token, both)
+            .is_err()
+        {
+            return false;
+        }
+        self.sockets.add(Socket::new(number, stream))
+    }
+
+    fn can_read(&self, number: u32) -> bool {
+        match self.sockets.ready(number) {
+            Some(ready) => ready.read,
+            None => true,
+        }
+    }
+
+    fn can_write(&self, number: u32) -> bool {
+        match self.sockets.ready(number) {
+            Some(ready) => ready.write,
+            None => true,
+        }
+    }
+
+    fn read(&mut self, number: u32, buffer: &mut [u8]) -> ReadOutcome {
+        self.sockets.read(number, buffer)
+    }
+
+    fn write(&mut self, number: u32, bytes: &[u8]) -> WriteOutcome {
+        self.sockets.write(number, bytes)
+    }
+
+    fn close(&mut self, number: u32, reason: CloseReason) {
+        self.sockets.close(number, lingers(reason), self.now);
+    }
+
+    fn read_file(&mut self, place: usize, _name: &[u8], buffer: &mut [u8]) -> usize {
+        if place >= self.files.len() {
+            return 0;
+        }
+        self.files[place].read(buffer, self.errors)
+    }
+
+    fn stop_file(&mut self, place: usize, fault: HubFault) {
+        if place < self.files.len() {
+            self.files[place].stop(fault, self.errors);
+        }
+    }
+}
