@@ -19,7 +19,8 @@ use Rattle.vp_search.specs.Vectors.{quarters, IsNear}
 use Rattle.vp_search.specs.Differences.{sum_of_differences, strided_block, block16}
 use Rattle.vp_search.specs.Blocks.{moved_block, predicted_block, whole_cost, quarter_cost}
 use Rattle.vp_search.specs.Least.{IsNoWorse, IsLeast}
-use Rattle.vp_search.specs.Window.{searched_pixel, vector_at, window_place, window_cost, IsFoundInWindow}
+use Rattle.vp_search.specs.Window.{searched_pixel, vector_at, window_place, first_rows, window_cost, IsFoundInWindow}
+use Rattle.vp_search.proofs.RowLemmas.{by_fours}
 use Rattle.vp_search.proofs.SumLemmas.{sum_of_differences-same}
 use Rattle.vp_search.proofs.OrderLemmas.{index, near_at}
 
@@ -190,3 +191,10 @@ filled_more p place range i old new line left top small wide e long el et done h
           ∙ ap₂ (reference_pixel p) column et
           ∙ ap (λ (n : ℕ). searched_pixel p place range n j) (sym same)
     ]
+
+-- the first four rows of a vector's block are a part of its cost
+pub first_rows_below : (block window : List ℕ) (range i j : ℕ) → first_rows block window (i * WINDOW_WIDTH + j) ≤ window_cost block window range (vector_at range i j)
+first_rows_below block window range i j =
+    let whole = cost_at block window range i j in
+    let fours = by_fours block window (i * WINDOW_WIDTH + j) WINDOW_WIDTH in
+    omega (arith, whole, fours)

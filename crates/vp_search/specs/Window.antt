@@ -28,6 +28,10 @@ unfoldable pub window_cost : List ℕ → List ℕ → ℕ → WholeVector → �
 window_cost block window range v = sum_of_differences 16 16 (strided_block block 0 16)
     (strided_block window (window_place range v) WINDOW_WIDTH)
 
+-- the sum of differences of the first four rows, for the block that begins at an index of the window
+abbrev pub first_rows : List ℕ → List ℕ → ℕ → ℕ
+first_rows block window at = sum_of_differences 4 16 (strided_block block 0 16) (strided_block window at WINDOW_WIDTH)
+
 -- a vector within range, with its cost
 pub record IsFoundInWindow (range : ℕ) (cost : WholeVector → ℕ) (found : Found) : Type 0 where
   pub near : IsNear range found.vector

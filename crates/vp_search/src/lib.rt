@@ -4,6 +4,7 @@
 mod block;
 mod coarse;
 mod difference;
+mod early;
 mod kept;
 mod kernel;
 mod laws;

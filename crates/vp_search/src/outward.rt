@@ -1,7 +1,7 @@
 //! The best vector of a window. Rows are searched from the centre outwards; the result does not depend on the order. A
 //! vector whose bound is above the best known cost is skipped: it is neither the best nor a tie. So is a longer one
 //! whose bound is that cost, as most are where the picture is flat: it is no better, and loses a tie. Where bounds
-//! exclude less than three of eight, as in noise and in fine texture, rows are searched without them. Once a vector
+//! exclude less than half, as in noise and in fine texture, rows are searched without them. Once a vector
 //! costs nothing, as in a repeated pattern, rows further away than it is long are left out.
 
 ghost use Rattle.std.specs.Prelude.{◌≡◌, ℕ, ◌+◌, ◌*◌, ◌<◌, ◌≤◌, ◌⊎◌, ◌≢◌, true, length, slice_index, unsigned_abs};
@@ -9,47 +9,78 @@ ghost use Rattle.std.specs.Int.{bit_at};
 ghost use Rattle.vp_search.specs.declared.vector.WholeVector.{WholeVector};
 ghost use Rattle.vp_search.specs.Vectors.{vector_length, IsNear};
 ghost use Rattle.vp_search.specs.Least.{IsLeast, IsNoWorse};
-ghost use Rattle.vp_search.specs.Window.{vector_at, window_cost, IsFoundInWindow};
+ghost use Rattle.vp_search.specs.Window.{first_rows, vector_at, window_cost, IsFoundInWindow};
 ghost use Rattle.vp_search.specs.Bounds.{IsBound};
 ghost use Rattle.vp_search.specs.Summed.{IsSummedSearch};
 
-use crate::difference::{leaves_early, sad_within};
+use crate::difference::{first_rows, rest_within, sad_within};
+use crate::early::next_start;
 use crate::sums::{SquareSums, bounds_at, next_within, within};
 use crate::vector::{Found, vector_at, vector_length};
 use crate::window::WINDOW_WIDTH;
 use std::simd::prelude::*;
 
-/// The better of a known vector and the one at row `i` and column `j`. Always inlined: with a call for each vector, a
-/// search takes a third more instructions.
+/// A row and a column of a window; of eight places in a row, the first column.
+#[derive(Clone, Copy)]
+pub(crate) struct Spot {
+    pub(crate) row: usize,
+    pub(crate) column: usize,
+}
+
+/// The better of a known vector and the one at `place`. Always inlined: with a call for each vector, a search takes a
+/// third more instructions.
 #[inline(always)]
-pub(crate) fn consider<const EARLY: bool>(
+pub(crate) fn consider(block: &[u8], window: &[u8], range: u8, best: Found, place: Spot) -> Found
+    requires block { 256 ≤ length block.now }
+    requires window { (2 * range + 16) * WINDOW_WIDTH ≤ length window.now }
+    requires range { range ≤ 64 }
+    requires row { place.row ≤ 2 * range }
+    requires column { place.column ≤ 2 * range }
+    requires best { IsFoundInWindow range (window_cost block.now window.now range) best }
+    ensures kept { IsFoundInWindow range (window_cost block.now window.now range) result }
+    ensures old { IsNoWorse result.cost result.vector best.cost best.vector }
+    ensures here { IsNoWorse result.cost result.vector
+        (window_cost block.now window.now range (vector_at range place.row place.column))
+        (vector_at range place.row place.column) }
+{
+    let at = place.row * WINDOW_WIDTH + place.column;
+    let first = first_rows(block, window, at, WINDOW_WIDTH);
+    consider_rest(block, window, range, best, place, first)
+}
+
+/// The better of a known vector and the one at `place`, of whose block the first four rows differ by `first`.
+#[inline(always)]
+fn consider_rest(
     block: &[u8],
     window: &[u8],
     range: u8,
     best: Found,
-    i: usize,
-    j: usize,
+    place: Spot,
+    first: u32,
 ) -> Found
     requires block { 256 ≤ length block.now }
     requires window { (2 * range + 16) * WINDOW_WIDTH ≤ length window.now }
     requires range { range ≤ 64 }
-    requires i { i ≤ 2 * range }
-    requires j { j ≤ 2 * range }
+    requires row { place.row ≤ 2 * range }
+    requires column { place.column ≤ 2 * range }
     requires best { IsFoundInWindow range (window_cost block.now window.now range) best }
+    requires first { first ≡ first_rows block.now window.now (place.row * WINDOW_WIDTH + place.column) }
+    requires bound { first ≤ 4 * 16 * 255 }
     ensures kept { IsFoundInWindow range (window_cost block.now window.now range) result }
     ensures old { IsNoWorse result.cost result.vector best.cost best.vector }
-    ensures here { IsNoWorse result.cost result.vector (window_cost block.now window.now range (vector_at range i j))
-        (vector_at range i j) }
+    ensures here { IsNoWorse result.cost result.vector
+        (window_cost block.now window.now range (vector_at range place.row place.column))
+        (vector_at range place.row place.column) }
 {
-    let at = i * WINDOW_WIDTH + j;
-    let cost = sad_within::<EARLY>(block, window, at, WINDOW_WIDTH, best.cost);
+    let at = place.row * WINDOW_WIDTH + place.column;
+    let cost = rest_within(block, window, at, WINDOW_WIDTH, first, best.cost);
     if cost > best.cost {
         return best;
     }
     lesser(
         best,
         Found {
-            vector: vector_at(i, j, range),
+            vector: vector_at(place.row, place.column, range),
             cost,
         },
     )
@@ -84,13 +115,6 @@ fn lesser(old: Found, new: Found) -> Found
     }
 }
 
-/// A row and a column of a window; of eight places in a row, the first column.
-#[derive(Clone, Copy)]
-pub(crate) struct Spot {
-    pub(crate) row: usize,
-    pub(crate) column: usize,
-}
-
 /// The better of a known vector and the one at `place`, whose cost is at least `bound`, if it is within the range.
 fn consider_bounded(
     block: &[u8],
@@ -120,7 +144,7 @@ fn consider_bounded(
     if bound == best.cost && vector_length(vector) > vector_length(best.vector) {
         return best;
     }
-    consider::<false>(block, window, range, best, place.row, place.column)
+    consider(block, window, range, best, place)
 }
 
 /// The first of the places whose bits are set, and the bits of the others.
@@ -206,12 +230,9 @@ pub(crate) struct Progress {
     pub(crate) unbounded: Unbounded,
 }
 
-/// The number of rows that are searched without bounds once more than `MOST` bounds of eight of a row are below the
-/// best cost. After these, a sample of the last row decides whether as many more follow.
+/// The number of rows that are searched without bounds once most bounds of a row are below the best cost. After these, a
+/// sample of the last row decides whether as many more follow.
 const UNBOUNDED_ROWS: u8 = 7;
-
-/// Bounds pay as long as at most this many of eight are below the best cost.
-const MOST: usize = 5;
 
 /// Half of a group of eight vectors.
 const HALF: usize = 4;
@@ -225,14 +246,14 @@ fn below_best(bounds: u16x8, cost: u32) -> usize
     (below as usize).min(8)
 }
 
-/// Whether more than `MOST` bounds of eight of row `i` are below the best cost, by the eight that begin at its middle.
+/// Whether most bounds of row `i` are below the best cost, by the eight that begin at its middle.
 fn most_pass(sums: SquareSums, range: u8, cost: u32, i: usize) -> bool
     requires range { range ≤ 64 }
     requires i { i ≤ 2 * range }
     requires room { (2 * range + 16) * WINDOW_WIDTH ≤ length sums.window.now }
 {
     let middle = i * WINDOW_WIDTH + usize::from(range);
-    below_best(bounds_at(sums.block, sums.window, middle), cost) > MOST
+    below_best(bounds_at(sums.block, sums.window, middle), cost) > HALF
 }
 
 /// Whether at least half of the vectors of row `i` cost more than `limit` by their first four rows of pixels, by the
@@ -246,7 +267,7 @@ fn half_leave_early(block: &[u8], window: &[u8], range: u8, limit: u32, i: usize
     let first = i * WINDOW_WIDTH + usize::from(range);
     let mut count = 0;
     for t in 0..8 {
-        if leaves_early(block, window, first + t, WINDOW_WIDTH, limit) {
+        if first_rows(block, window, first + t, WINDOW_WIDTH) > limit {
             count += 1;
         }
     }
@@ -313,7 +334,7 @@ fn consider_bounded_row(
     }
     Progress {
         best: found,
-        unbounded: unbounded_after(block, window, range, found.cost, i, passed > MOST * groups),
+        unbounded: unbounded_after(block, window, range, found.cost, i, passed > HALF * groups),
     }
 }
 
@@ -368,19 +389,13 @@ pub(crate) fn centre_of(block: &[u8], window: &[u8], range: u8) -> Found
     let at = middle * WINDOW_WIDTH + middle;
     Found {
         vector: vector_at(middle, middle, range),
-        cost: sad_within::<false>(block, window, at, WINDOW_WIDTH, u32::MAX),
+        cost: sad_within(block, window, at, WINDOW_WIDTH, u32::MAX),
     }
 }
 
-/// The best of a known vector and those of row `i`, one by one. Not inlined, so that there are two copies in all.
+/// The best of a known vector and those of row `i`, one by one. Not inlined, so that there is one copy.
 #[inline(never)]
-fn consider_whole_row<const EARLY: bool>(
-    block: &[u8],
-    window: &[u8],
-    range: u8,
-    best: Found,
-    i: usize,
-) -> Found
+fn consider_each(block: &[u8], window: &[u8], range: u8, best: Found, i: usize) -> Found
     requires block { 256 ≤ length block.now }
     requires window { (2 * range + 16) * WINDOW_WIDTH ≤ length window.now }
     requires range { range ≤ 64 }
@@ -393,13 +408,43 @@ fn consider_whole_row<const EARLY: bool>(
 {
     let mut found = best;
     for j in 0..2 * usize::from(range) + 1 {
-        found = consider::<EARLY>(block, window, range, found, i, j);
+        let place = Spot { row: i, column: j };
+        found = consider(block, window, range, found, place);
     }
     found
 }
 
-/// The best of a known vector and those of row `i`, one by one. With `early` they are compared with the best after four
-/// rows of pixels too.
+/// The best of a known vector and those of row `i`, where most of these differ by more than the best costs by their
+/// first four rows of pixels.
+#[inline(never)]
+fn consider_starts(block: &[u8], window: &[u8], range: u8, best: Found, i: usize) -> Found
+    requires block { 256 ≤ length block.now }
+    requires window { (2 * range + 16) * WINDOW_WIDTH ≤ length window.now }
+    requires range { range ≤ 64 }
+    requires i { i ≤ 2 * range }
+    requires best { IsFoundInWindow range (window_cost block.now window.now range) best }
+    ensures kept { IsFoundInWindow range (window_cost block.now window.now range) result }
+    ensures old { IsNoWorse result.cost result.vector best.cost best.vector }
+    ensures here { (j : ℕ) → j ≤ 2 * range → IsNoWorse result.cost result.vector
+        (window_cost block.now window.now range (vector_at range i j)) (vector_at range i j) }
+{
+    let begin = i * WINDOW_WIDTH;
+    let end = begin + 2 * usize::from(range) + 1;
+    let mut found = best;
+    let mut from = begin;
+    while let Some(start) = next_start(block, window, from, end, found.cost) {
+        let place = Spot {
+            row: i,
+            column: start.at - begin,
+        };
+        found = consider_rest(block, window, range, found, place, start.first);
+        from = start.at + 1;
+    }
+    found
+}
+
+/// The best of a known vector and those of row `i`. With `early` they are compared with the best after four rows of
+/// pixels too.
 fn consider_unbounded_row(
     block: &[u8],
     window: &[u8],
@@ -419,9 +464,9 @@ fn consider_unbounded_row(
         (window_cost block.now window.now range (vector_at range i j)) (vector_at range i j) }
 {
     if early {
-        return consider_whole_row::<true>(block, window, range, best, i);
+        return consider_starts(block, window, range, best, i);
     }
-    consider_whole_row::<false>(block, window, range, best, i)
+    consider_each(block, window, range, best, i)
 }
 
 /// Whether no vector more than `distance` rows away from the centre is better than `best`: it costs nothing, and is no

@@ -210,7 +210,7 @@ fn search_kept(
     if let Some(best) = search_without_sums(block, window, range, centre) {
         return (best, known, unbounded.next());
     }
-    let first = consider::<false>(block, window, range, centre, begin.row, begin.column);
+    let first = consider(block, window, range, centre, begin);
     if unbounded.left > 0 {
         let found = search_unbounded(block, window, range, first, unbounded.early);
         return (found, known, unbounded.next());

@@ -3,11 +3,11 @@ use Rattle.vp_search.specs.declared.vector.Found.{Found}
 use Rattle.vp_search.specs.Least.{IsNoWorse}
 use Rattle.vp_search.specs.Window.{window_cost, vector_at}
 use Rattle.vp_search.proofs.OrderLemmas.{along}
-use Rattle.vp_search.proofs.outward.consider_whole_row.Goals as goal
+use Rattle.vp_search.proofs.outward.consider_each.Goals as goal
 use Rattle.std.proofs.lemmas.Bool.{cases_lt}
 
 pub loop-j-preserved : goal.loop-j-preserved
-loop-j-preserved g c =
+loop-j-preserved c =
     let b = c.args.block.now in let w = c.args.window.now in let r = c.args.range in let i = c.args.i in let j = c.loop-j.j in
     let f : Found = c.loop-j.found in let g : Found = c.consider-found.result in
     let inv = c.loop-j.invariant in
