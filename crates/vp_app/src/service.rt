@@ -125,6 +125,7 @@ pub fn listen<H: AllocGlobal + Net<Stream = TcpStream, Listener = TcpListener>, 
     output: &mut Counted<W>,
 ) -> Result<TcpListener, ServiceFault>
     ensures quiet { service.now.show_address ≡ false → output.new ≡ output.old }
+    ensures names { result ≢ Err ServiceFault.Names }
 {
     let listener = TcpListener::bind(rt, service.listen)?;
     if service.show_address {
@@ -186,8 +187,9 @@ pub fn feed_all<H: Files + AllocGlobal, R: Read>(
     streams: &[NamedFile<'_>],
     input: &mut Counted<R>,
 ) -> Result<(), ServiceFault>
-    ensures { IfOk result (λ _. AreFilesFed streams.now hub.old.state hub.new.state
+    ensures fed { IfOk result (λ _. AreFilesFed streams.now hub.old.state hub.new.state
         (counted_remaining R.remaining input.old) (counted_remaining R.remaining input.new)) }
+    ensures names { result ≢ Err ServiceFault.Names }
 {
     for stream in streams {
         feed_stream(rt, hub, stream, input)?;
@@ -202,8 +204,9 @@ fn feed_stream<H: Files + AllocGlobal, R: Read>(
     stream: &NamedFile<'_>,
     input: &mut Counted<R>,
 ) -> Result<(), ServiceFault>
-    ensures { IfOk result (λ _. IsFileFed stream.now hub.old.state hub.new.state
+    ensures fed { IfOk result (λ _. IsFileFed stream.now hub.old.state hub.new.state
         (counted_remaining R.remaining input.old) (counted_remaining R.remaining input.new)) }
+    ensures names { result ≢ Err ServiceFault.Names }
 {
     if stream.file == "-" {
         return feed(rt.alloc(), hub, stream.name, input);
@@ -218,9 +221,10 @@ fn feed<R: Read>(
     name: &str,
     reader: &mut Counted<R>,
 ) -> Result<(), ServiceFault>
-    ensures { IfOk result (λ _. (file : List ℕ)
+    ensures fed { IfOk result (λ _. (file : List ℕ)
         × Consumes (counted_remaining R.remaining reader.old) (counted_remaining R.remaining reader.new) file
         × IsFed name.now hub.old.state hub.new.state file (counted_remaining R.remaining reader.new)) }
+    ensures names { result ≢ Err ServiceFault.Names }
 {
     for _turn in 0..u32::MAX {
         if !feed_piece(alloc, hub, name, reader)? {
@@ -237,9 +241,10 @@ fn feed_piece<R: Read>(
     name: &str,
     reader: &mut Counted<R>,
 ) -> Result<bool, ServiceFault>
-    ensures { (piece : List ℕ)
+    ensures fed { (piece : List ℕ)
         × Consumes (counted_remaining R.remaining reader.old) (counted_remaining R.remaining reader.new) piece
         × FeedsPiece name.now hub.old.state hub.new.state result piece (counted_remaining R.remaining reader.new) }
+    ensures names { result ≢ Err ServiceFault.Names }
 {
     let mut buffer = [0; 4096];
     let count = reader.read(&mut buffer)?;

@@ -7,10 +7,10 @@ use Rattle.vp_app.proofs.service.feed.Goals as goal
 pub loop-turn-init : goal.loop-turn-init
 loop-turn-init g c = ([], Consumes-nil (counted_remaining g.R.Read.remaining c.args.reader.now), at_first c.args.name.now c.args.hub.now.state)
 
-pub returns-then-not-branch : goal.returns-then-not-branch
-returns-then-not-branch g c =
+pub returns-then-not-branch-clause-fed : goal.returns-then-not-branch-clause-fed
+returns-then-not-branch-clause-fed g c =
     let inv = c.loop-turn.invariant in
-    let now = c.in_ok-feed_piece.ensures in
+    let now = c.in_ok-feed_piece.ensures.fed in
     let left = counted_remaining g.R.Read.remaining c.feed_piece.new.reader in (
       inv.0 ++ now.0,
       Consumes-trans (counted_remaining g.R.Read.remaining c.args.reader.now) (counted_remaining g.R.Read.remaining c.loop-turn.reader) left inv.0 now.0 inv.1 now.1,
@@ -20,7 +20,7 @@ returns-then-not-branch g c =
 pub loop-turn-preserved : goal.loop-turn-preserved
 loop-turn-preserved g c =
     let inv = c.loop-turn.invariant in
-    let now = c.in_ok-feed_piece.ensures in
+    let now = c.in_ok-feed_piece.ensures.fed in
     let left = counted_remaining g.R.Read.remaining c.feed_piece.new.reader in (
       inv.0 ++ now.0,
       Consumes-trans (counted_remaining g.R.Read.remaining c.args.reader.now) (counted_remaining g.R.Read.remaining c.loop-turn.reader) left inv.0 now.0 inv.1 now.1,

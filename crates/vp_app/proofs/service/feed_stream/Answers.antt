@@ -4,12 +4,12 @@ use Rattle.std.specs.Str.{bytes_eq}
 use Rattle.vp_app.proofs.ServingLemmas.{from_input, from_file}
 use Rattle.vp_app.proofs.service.feed_stream.Goals as goal
 
-pub returns-then-eq : goal.returns-then-eq
-returns-then-eq g c =
+pub returns-then-eq-clause-fed : goal.returns-then-eq-clause-fed
+returns-then-eq-clause-fed g c =
     let is : bytes_eq c.args.stream.now.file.now (codes "-") ≡ true = search rules in
-    from_input c.args.stream.now c.args.hub.now.state c.feed.new.hub.state (g.R.Read.remaining c.args.input.now.inner) (g.R.Read.remaining c.feed.new.reader.inner) c.feed.result is c.feed.ensures
+    from_input c.args.stream.now c.args.hub.now.state c.feed.new.hub.state (g.R.Read.remaining c.args.input.now.inner) (g.R.Read.remaining c.feed.new.reader.inner) c.feed.result is c.feed.ensures.fed
 
-pub returns : goal.returns
-returns g c =
+pub returns-clause-fed : goal.returns-clause-fed
+returns-clause-fed g c =
     let is : bytes_eq c.args.stream.now.file.now (codes "-") ≡ false = search rules in
-    from_file c.args.stream.now c.args.hub.now.state _ _ _ _ c.feed-2.result is c.feed-2.ensures
+    from_file c.args.stream.now c.args.hub.now.state _ _ _ _ c.feed-2.result is c.feed-2.ensures.fed
