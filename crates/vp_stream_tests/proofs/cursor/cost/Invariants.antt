@@ -1,5 +1,5 @@
 use Rattle.vp_stream.specs.Cursor.{IsCursorOf}
-use Rattle.vp_unit_tests.proofs.cursor.cost.Given as goal
+use Rattle.vp_stream_tests.proofs.cursor.cost.Given as goal
 
 abbrev pub invariant-loop-n : goal.invariant-loop-n
 invariant-loop-n l = IsCursorOf l.cursor l.stream
