@@ -1,0 +1,22 @@
+use Rattle.std.proofs.Common.{arith}
+use Rattle.vp_search.proofs.OrderLemmas.{less_cost}
+use Rattle.vp_search.proofs.WindowLemmas.{cost_at, kept_at, taken_at, kept_of}
+use Rattle.vp_search.proofs.outward.consider_late.Goals as goal
+
+pub returns-then-cost-best-clause-here : goal.returns-then-cost-best-clause-here
+returns-then-cost-best-clause-here c =
+    let over = c.sad_late-cost.ensures.over c.if-cost-best.true in
+    let at = cost_at c.args.block.now c.args.window.now c.args.range c.args.place.row c.args.place.column in
+    less_cost _ _ _ _ (omega arith)
+
+pub returns-clause-kept : goal.returns-clause-kept
+returns-clause-kept c =
+    kept_of _ _ c.args.best (record { vector = c.vector_at.result; cost = c.sad_late-cost.result }) c.lesser.result c.requires.best
+    (kept_at c.args.block.now c.args.window.now c.args.range c.args.place.row c.args.place.column c.sad_late-cost.result c.vector_at.result c.requires.row c.requires.column c.vector_at.ensures
+    (c.sad_late-cost.ensures.exact c.if-cost-best.false))
+    c.lesser.ensures.one
+
+pub returns-clause-here : goal.returns-clause-here
+returns-clause-here c =
+    taken_at c.args.block.now c.args.window.now c.args.range c.args.place.row c.args.place.column c.lesser.result.cost c.sad_late-cost.result c.lesser.result.vector c.vector_at.result c.vector_at.ensures
+    (c.sad_late-cost.ensures.exact c.if-cost-best.false) c.lesser.ensures.new
