@@ -1,5 +1,7 @@
 //! Tests of the choice for single macroblocks.
 
+ghost use Rattle.std.specs.Prelude.{◌≡◌, IfSome};
+
 use super::*;
 use std::alloc::Global;
 use std::rc::Rc;
@@ -53,106 +55,110 @@ fn is_bright(bytes: &[u8]) -> bool {
     bytes.len() == 384
 }
 
-#[test]
-fn encode_flat_bright(rt: HostRuntime) {
-    let Ok(dim) = Dim::new(16, 16, &Limits::usual()) else {
-        panic!(rt; "a size");
-    };
-    let Ok(source) = Picture::new(rt.alloc(), dim, 200) else {
-        panic!(rt; "a source");
-    };
-    let Ok(mut picture) = Picture::new(rt.alloc(), dim, 0) else {
-        panic!(rt; "a picture");
-    };
-    let Ok(vectors) = VectorMap::new(rt.alloc(), dim) else {
-        panic!(rt; "a map");
-    };
+/// What the choice for a bright macroblock is.
+#[derive(Clone, Copy)]
+struct Seen {
+    /// The modes of a flat picture brighter than the pixels around it.
+    is_flat: bool,
+    /// The last frame's macroblock as it is.
+    is_still: bool,
+    /// It rebuilds the picture exactly.
+    is_bright: bool,
+}
+
+/// The choice for the only macroblock of a picture of 16 by 16 pixels, all 200.
+fn bright_choice(alloc: Global, search: Option<Search<'_>>) -> Result<Seen, Fail>
+    requires { IfSome search (λ s. s.range ≡ 16) }
+{
+    let dim = Dim::new(16, 16, &Limits::usual())?;
+    let source = Picture::new(alloc, dim, 200)?;
+    let mut picture = Picture::new(alloc, dim, 0)?;
+    let vectors = VectorMap::new(alloc, dim)?;
     let frame = FrameSearch {
         source: &source,
         factors: &FACTORS,
-        search: None,
+        search,
     };
     let choice = choose_macroblock(&frame, &mut picture, &vectors, TOP);
-    assert!(rt; choice.modes.luma == LumaMode::B);
-    assert!(rt; choice.modes.subs == FLAT_MODES);
-    assert!(rt; choice.modes.chroma == ChromaMode::H);
-    assert!(rt; !choice.modes.skip);
-    let Ok(bytes) = picture.crop_i420(rt.alloc()) else {
-        panic!(rt; "bytes");
-    };
-    assert!(rt; is_bright(&bytes));
+    let bytes = picture.crop_i420(alloc)?;
+    Ok(Seen {
+        is_flat: is_flat(&choice),
+        is_still: is_still(&choice),
+        is_bright: is_bright(&bytes),
+    })
+}
+
+/// Reference frames of `side` by `side` pixels, all 200.
+fn bright_references(alloc: Global, side: u16) -> Result<Refs, Fail> {
+    let dim = Dim::new(side, side, &Limits::usual())?;
+    let last = Picture::new(alloc, dim, 200)?;
+    Ok(Refs::of_key(Rc::new(alloc, last)?)?)
+}
+
+/// Whether a choice is the last frame's macroblock as it is.
+fn is_still(choice: &Choice) -> bool {
+    choice.modes.reference == Reference::Last
+        && choice.modes.skip
+        && choice.motion.mode == VectorMode::Zero
+        && choice.motion.vectors == [Vector { row: 0, column: 0 }; 16]
+}
+
+/// Whether a choice has the modes of a flat picture brighter than the pixels around it.
+fn is_flat(choice: &Choice) -> bool {
+    choice.modes.luma == LumaMode::B
+        && choice.modes.subs == FLAT_MODES
+        && choice.modes.chroma == ChromaMode::H
+        && !choice.modes.skip
 }
 
 #[test]
-fn a_still_macroblock(rt: HostRuntime) {
-    let Ok(dim) = Dim::new(16, 16, &Limits::usual()) else {
-        panic!(rt; "a size");
-    };
-    let Ok(source) = Picture::new(rt.alloc(), dim, 200) else {
-        panic!(rt; "a source");
-    };
-    let Ok(last) = Picture::new(rt.alloc(), dim, 200) else {
-        panic!(rt; "a reference");
-    };
-    let Ok(last) = Rc::new(rt.alloc(), last) else {
-        panic!(rt; "a reference");
-    };
-    let Ok(references) = Refs::of_key(last) else {
-        panic!(rt; "references");
-    };
-    let Ok(mut picture) = Picture::new(rt.alloc(), dim, 0) else {
-        panic!(rt; "a picture");
-    };
-    let Ok(vectors) = VectorMap::new(rt.alloc(), dim) else {
-        panic!(rt; "a map");
-    };
-    let search = Search {
-        references: &references,
+fn encode_flat_bright(rt: HostRuntime) -> Result<(), Fail> {
+    let seen = bright_choice(rt.alloc(), None)?;
+    assert!(rt; seen.is_flat && seen.is_bright);
+    Ok(())
+}
+
+/// The search of both frames in whole and quarter pixels.
+fn whole_search(references: &Refs) -> Search<'_>
+    ensures { result.range ≡ 16 }
+{
+    Search {
+        references,
         golden: true,
         range: 16,
         subpel: true,
-    };
-    let frame = FrameSearch {
-        source: &source,
-        factors: &FACTORS,
-        search: Some(search),
-    };
-    let choice = choose_macroblock(&frame, &mut picture, &vectors, TOP);
-    assert!(rt; choice.modes.reference == Reference::Last);
-    assert!(rt; choice.modes.skip);
-    assert!(rt; choice.motion.mode == VectorMode::Zero);
-    assert!(rt; choice.motion.vectors == [Vector { row: 0, column: 0 }; 16]);
-    let Ok(bytes) = picture.crop_i420(rt.alloc()) else {
-        panic!(rt; "bytes");
-    };
-    assert!(rt; is_bright(&bytes));
+    }
+}
+
+#[test]
+fn a_still_macroblock(rt: HostRuntime) -> Result<(), Fail> {
+    let references = bright_references(rt.alloc(), 16)?;
+    let seen = bright_choice(rt.alloc(), Some(whole_search(&references)))?;
+    assert!(rt; seen.is_still && seen.is_bright);
+    Ok(())
 }
 
 /// Both reference frames are the source, and the range is large enough for searchers. Of equal costs the last frame's
 /// is chosen.
 #[test]
 fn a_still_frame(rt: HostRuntime) -> Result<(), Fail> {
+    let references = bright_references(rt.alloc(), 32)?;
+    assert!(rt; is_chosen_still(rt.alloc(), &references)?);
+    Ok(())
+}
+
+/// Whether a chooser takes the last frame's macroblock for the first one of a picture of 32 by 32 pixels, all 200.
+fn is_chosen_still(alloc: Global, references: &Refs) -> Result<bool, Fail> {
     let dim = Dim::new(32, 32, &Limits::usual())?;
-    let source = Picture::new(rt.alloc(), dim, 200)?;
-    let last = Picture::new(rt.alloc(), dim, 200)?;
-    let references = Refs::of_key(Rc::new(rt.alloc(), last)?)?;
-    let mut picture = Picture::new(rt.alloc(), dim, 0)?;
-    let vectors = VectorMap::new(rt.alloc(), dim)?;
-    let search = Search {
-        references: &references,
-        golden: true,
-        range: 16,
-        subpel: true,
-    };
+    let source = Picture::new(alloc, dim, 200)?;
+    let mut picture = Picture::new(alloc, dim, 0)?;
+    let vectors = VectorMap::new(alloc, dim)?;
     let frame = FrameSearch {
         source: &source,
         factors: &FACTORS,
-        search: Some(search),
+        search: Some(whole_search(references)),
     };
-    let mut chooser = FrameChooser::new(rt.alloc(), &frame);
+    let mut chooser = FrameChooser::new(alloc, &frame);
     let choice = chooser.choose(&mut picture, &vectors, TOP);
-    assert!(rt; choice.modes.reference == Reference::Last);
-    assert!(rt; choice.modes.skip);
-    assert!(rt; choice.motion.mode == VectorMode::Zero);
-    Ok(())
+    Ok(is_still(&choice))
 }

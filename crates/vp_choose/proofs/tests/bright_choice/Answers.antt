@@ -3,8 +3,8 @@ use Rattle.vp_base.specs.Grid.{Grid}
 use Rattle.vp_motion.specs.Vector.{MacroblockMotion}
 use Rattle.vp_motion.specs.Map.{AreWithin}
 use Rattle.vp_motion.proofs.Sizes.{all-short}
-use Rattle.vp_choose.proofs.tests.encode_flat_bright.Goals as goal
+use Rattle.vp_choose.proofs.tests.bright_choice.Goals as goal
 
 pub choose_macroblock-choice-requires-clause-short : goal.choose_macroblock-choice-requires-clause-short
-choose_macroblock-choice-requires-clause-short g c =
-    subst (λ (m : Grid MacroblockMotion). AreWithin 511 m) (sym (c.in-Ok-new-3.ensures {u = tt})) (all-short 511 _ _)
+choose_macroblock-choice-requires-clause-short c =
+    subst (λ (m : Grid MacroblockMotion). AreWithin 511 m) (sym (c.in_ok-vectors.ensures {u = tt})) (all-short 511 _ _)
