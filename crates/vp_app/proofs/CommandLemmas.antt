@@ -1,4 +1,13 @@
 -- What the commands do.
+use Rattle.std.proofs.Common.{Option, Some, None, Ok, arith}
+use Rattle.std.specs.Io.KnownBytes.{Appends}
+use Rattle.vp_base.specs.Counted.{HasFailed}
+use Rattle.vp_ivf.specs.declared.fault.FileFault.{FileFault}
+use Rattle.vp_hub.specs.Hub.{HubState}
+use Rattle.vp_hub.specs.Sessions.{IsSession, IsTurnedAway}
+use Rattle.vp_app.specs.Commands.{status_by_fault}
+use Rattle.vp_app.specs.Listing.{survey_text}
+use Rattle.vp_app.specs.Serving.{IsServed}
 use Rattle.std.proofs.Common.{◌≡◌, ◌⊎◌, inl, inr, List, [], ◌∷◌, ℕ, Bool, true, false, refl, sym, subst}
 use Rattle.std.specs.Prelude.{Result, Err, MatchBool}
 use Rattle.std.specs.Borrow.{Bor}
@@ -188,6 +197,45 @@ does_refused words (Words e) status i o o' h memory value none =
     let m = memory (for_memory e (faults_of words) none h) in unbegun (parsed_args words) status i i o o' (m.0, refl, m.1)
 does_refused words (Value t) status i o o' h memory value none =
     let v = value tt in misused (parsed_args words) status i i o o' h.1 (v.0, refl, v.1)
+
+-- ---- the laws
+
+no_fault : (f : Option FileFault) → 0 ≡ status_by_fault f → f ≡ None
+no_fault None e = refl
+no_fault (Some f) e = absurd (omega (arith, e))
+
+pub listed : (s : Survey) (b a : Option (List ℕ)) → PrintsSurvey (Ok s) 0 b a → (s.fault ≡ None) × Appends b a (survey_text s)
+listed s b a (inl (e, w)) = (no_fault s.fault e, w)
+listed s b a (inr e) = absurd (omega (arith, e))
+
+pub never_done : (name : List ℕ) (r : Report) → IsUnopened {T = Report} Device Memory name (Ok r) → ⊥
+never_done name r (e, inl f) = absurd cc
+never_done name r (e, inr f) = absurd cc
+
+over_work : (b : Bool) (Work : Side → Side → Type 0) (old new : Side) → MatchBool b (Work old new) ((new ≡ old) × ((a : Side) × (b : Side) × Work a b))
+    → (a : Side) × (b : Side) × Work a b
+over_work true Work old new h = (old, new, h)
+over_work false Work old new h = h.1
+
+pub reads_by_decoding : (form : Form) (to : List ℕ) (done : Result Report DecodeFault) (i j o p : Side) → DecodesInto form to done i j o p
+    → (j ≡ i) ⊎ ((a : Side) × (b : Side) × IsFileDecoded form done i j a b)
+reads_by_decoding form to done i j o p (inl u) = inl u.1
+reads_by_decoding form to done i j o p (inr w) = inr (over_work (is_stream to) (IsFileDecoded form done i j) o p w)
+
+pub reads_by_encoding : (settings : Settings) (to : List ℕ) (done : Result EncodeReport EncodeAllFault) (i j o p : Side) → EncodesInto settings to done i j o p
+    → (j ≡ i) ⊎ ((a : Side) × (b : Side) × IsFileEncoded settings done i j a b)
+reads_by_encoding settings to done i j o p (inl u) = inl u.1
+reads_by_encoding settings to done i j o p (inr w) = inr (over_work (is_stream to) (IsFileEncoded settings done i j) o p w)
+
+pub reads_by_surveying : (from : List ℕ) (done : Result Survey DecodeFault) (i j : Side) → SurveysFile from done i j
+    → (j ≡ i) ⊎ ((a : Side) × (b : Side) × SurveysInput done a b)
+reads_by_surveying from done i j (inl u) = inl u.1
+reads_by_surveying from done i j (inr w) = inr (over_work (is_stream from) (SurveysInput done) i j w)
+
+pub is_session : (number : ℕ) (s : HubState) → IsServed number s (Ok tt) → IsTurnedAway number s s (Ok tt)
+    ⊎ ((read : List ℕ) × (failures : ℕ) × IsSession number s s (Ok tt) read None None None (HasFailed 0 failures))
+is_session number s (inl e) = absurd cc
+is_session number s (inr h) = h
 
 -- ---- words with a fault
 

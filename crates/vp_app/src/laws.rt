@@ -1,8 +1,59 @@
-//! Theorems about the exit status.
+//! Theorems about the exit status and the effects of commands.
 
-ghost use Rattle.std.specs.Prelude.{◌≡◌, Err, Ok, false, true};
+ghost use Rattle.std.specs.Prelude.{◌≡◌, ◌⊎◌, ℕ, List, Option, None, Result, Err, Ok, false, true};
+ghost use Rattle.std.specs.Io.KnownBytes.{Appends};
+ghost use Rattle.vp_base.specs.Counted.{HasFailed};
+ghost use Rattle.vp_hub.specs.Hub.{HubState};
+ghost use Rattle.vp_hub.specs.Sessions.{IsSession, IsTurnedAway};
+ghost use Rattle.vp_encode.specs.declared.settings.Settings.{Settings};
+ghost use Rattle.vp_encode.specs.declared.report.EncodeReport.{EncodeReport};
+ghost use Rattle.vp_encode.specs.declared.report.EncodeAllFault.{EncodeAllFault};
+ghost use Rattle.vp_stream.specs.declared.form.Form.{Form};
+ghost use Rattle.vp_stream.specs.declared.report.Report.{Report};
+ghost use Rattle.vp_stream.specs.declared.outcomes.Survey.{Survey};
+ghost use Rattle.vp_stream.specs.declared.fault.DecodeFault.{DecodeFault};
+ghost use Rattle.vp_stream.specs.declared.fault.DecodeFault.TheVariants.{Device, Memory};
+ghost use Rattle.vp_app.specs.Commands.{DecodesInto, EncodesInto, IsFileDecoded, IsFileEncoded, IsUnbegun, IsUnopened};
+ghost use Rattle.vp_app.specs.Commands.{PrintsSurvey, Side, SurveysFile, SurveysInput};
+ghost use Rattle.vp_app.specs.Listing.{survey_text};
+ghost use Rattle.vp_app.specs.Serving.{IsServed};
 ghost use Rattle.vp_app.specs.Commands.{status_by_service};
 ghost use Rattle.vp_app.specs.declared.service.ServiceFault.{ServiceFault};
+
+/// `vp8 info` has status 0 only if the file has no fault and all its lines are printed.
+#[tactic(auto, using(crate::proofs::CommandLemmas::listed))]
+pub fn status_0_of_info_says_that_all_is_printed()
+    ensures listed { (survey : Survey) (before after : Option (List ℕ)) → PrintsSurvey (Ok survey) 0 before after
+        → (survey.fault ≡ None) × Appends before after (survey_text survey) }
+    ensures unlisted { (fault : DecodeFault) (status : ℕ) (before after : Option (List ℕ))
+        → PrintsSurvey (Err fault) status before after → (status ≡ 1) × (after ≡ before) }
+{}
+
+/// Work over what cannot be opened ends by a fault, and work that is not begun leaves the streams.
+#[tactic(auto, using(crate::proofs::CommandLemmas::never_done))]
+pub fn what_is_not_begun_changes_nothing()
+    ensures unopened { (name : List ℕ) (report : Report) → ¬ (IsUnopened Device Memory name (Ok report)) }
+    ensures unbegun { (status : ℕ) (i j o p : Side) → IsUnbegun status i j o p → (status ≡ 1) × (j ≡ i) × (p ≡ o) }
+{}
+
+/// Standard input stays, or else a whole file was decoded, encoded or surveyed, as it stands in the file's answer.
+#[tactic(auto, using(crate::proofs::CommandLemmas::reads_by_decoding, crate::proofs::CommandLemmas::reads_by_encoding, crate::proofs::CommandLemmas::reads_by_surveying))]
+pub fn standard_input_is_left_or_answered()
+    ensures decoded { (form : Form) (to : List ℕ) (done : Result Report DecodeFault) (i j o p : Side)
+        → DecodesInto form to done i j o p → (j ≡ i) ⊎ ((a : Side) × (b : Side) × IsFileDecoded form done i j a b) }
+    ensures encoded { (settings : Settings) (to : List ℕ) (done : Result EncodeReport EncodeAllFault) (i j o p : Side)
+        → EncodesInto settings to done i j o p
+        → (j ≡ i) ⊎ ((a : Side) × (b : Side) × IsFileEncoded settings done i j a b) }
+    ensures surveyed { (from : List ℕ) (done : Result Survey DecodeFault) (i j : Side) → SurveysFile from done i j
+        → (j ≡ i) ⊎ ((a : Side) × (b : Side) × SurveysInput done a b) }
+{}
+
+/// A connection that is served to its end was turned away or had a session.
+#[tactic(auto, using(crate::proofs::CommandLemmas::is_session))]
+pub fn served_connections_have_sessions()
+    ensures { (number : ℕ) (s : HubState) → IsServed number s (Ok tt) → IsTurnedAway number s s (Ok tt)
+        ⊎ ((read : List ℕ) × (failures : ℕ) × IsSession number s s (Ok tt) read None None None (HasFailed 0 failures)) }
+{}
 
 /// `vp8 serve` has exit status 1 if a connection has a fault, or if serving itself has one.
 pub fn statuses_of_serve()

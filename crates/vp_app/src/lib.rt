@@ -9,6 +9,10 @@ mod program;
 mod service;
 
 pub use encode::settings_of;
-pub use laws::statuses_of_serve;
+pub use laws::{
+    served_connections_have_sessions, standard_input_is_left_or_answered,
+    status_0_of_info_says_that_all_is_printed, statuses_of_serve,
+    what_is_not_begun_changes_nothing,
+};
 pub use program::{command, command_line};
 pub use service::{ServiceFault, feed_all, listen, new_hub, serve_each};

@@ -1,6 +1,8 @@
 //! Theorems about all files. Each is the contract of a function that does nothing.
 
-ghost use Rattle.std.specs.Prelude.{◌≡◌, ◌≢◌, ◌<◌, ◌≤◌, ◌+◌, ◌-◌, ◌++◌, ℕ, List, length, drop, Some};
+ghost use Rattle.std.specs.Prelude.{◌≡◌, ◌≢◌, ◌<◌, ◌≤◌, ◌+◌, ◌-◌, ◌++◌, ℕ, List, length, drop, Some, None, Err};
+ghost use Rattle.vp_head.specs.declared.fault.PacketFault.{PacketFault};
+ghost use Rattle.vp_stream.specs.Seeking.{size_in_key, size_in, size_in_packet};
 ghost use Rattle.vp_base.specs.declared.limits.Limits.{Limits};
 ghost use Rattle.vp_ivf.specs.declared.packet.Packet.{Packet};
 ghost use Rattle.vp_stream.specs.Answers.{reading_of};
@@ -42,6 +44,13 @@ pub fn shown_pictures_have_the_key_packets_size()
     key_packet_resets();
     first_byte_says_kind();
 }
+
+/// Only a key packet whose tag can be read gives a size.
+pub fn only_key_packets_give_a_size()
+    ensures key { size_in_key None ≡ None }
+    ensures fault { (fault : PacketFault) → size_in (Err fault) ≡ None }
+    ensures past { (limits : Limits) → size_in_packet limits None ≡ None }
+{}
 
 /// A cursor of a stream stays one when the stream is fed or ended.
 pub fn cursor_outlives_a_feed()

@@ -23,7 +23,8 @@ pub use fault::{DecodeFault, SurveyFault};
 pub use form::Form;
 pub use laws::{
     answers_come_from_the_last_key_packet, cursor_outlives_a_feed, growing_keeps_answers,
-    packets_in_order_cost_one_each, shown_pictures_have_the_key_packets_size,
+    only_key_packets_give_a_size, packets_in_order_cost_one_each,
+    shown_pictures_have_the_key_packets_size,
 };
 pub use outcomes::{OutcomeList, Survey};
 pub use report::{FaultList, Report};
