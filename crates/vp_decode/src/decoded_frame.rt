@@ -97,6 +97,60 @@ fn read_maps(
     Ok(maps)
 }
 
+/// Decodes or filters the picture of a parsed packet, given the maps of its frame, whose memory is kept for the next one.
+fn picture_of_packet<F: RowFilter>(
+    alloc: Global,
+    buffers: &mut FrameBuffers,
+    parsed: &ParsedPacket,
+    filter: &mut F,
+    rebuilt: Option<Picture>,
+    maps: MacroblockInfo,
+) -> Result<Picture, AllocError>
+    requires columns { maps.modes.columns ≡ parsed.now.context.modes.columns }
+    requires rows { maps.modes.rows ≡ parsed.now.context.modes.rows }
+    requires given { IfSome rebuilt (IsRebuiltFrame parsed.now) }
+    requires maps { maps
+        ≡ (maps_read parsed.now.header (maps_before parsed.now.context.modes) parsed.now.first).0 }
+    ensures { IfOk result (λ p. p ≡ picture_of (frame_of_packet parsed.now)) }
+{
+    // A law, no work: each pixel is its prediction and its residue, whatever the order of macroblocks.
+    unfiltered_picture_solves_its_equation();
+    let context = &parsed.context;
+    let version = parsed.tag.version;
+    let info = FrameInfo::new(parsed.header, version, context.references(), maps);
+    let picture = match rebuilt {
+        Some(rebuilt) => filter_rebuilt(alloc, buffers, &info, rebuilt, filter)?,
+        None => {
+            let partitions = &parsed.partitions;
+            decode_picture(alloc, buffers, &info, context.dim, partitions, filter)?
+        }
+    };
+    buffers.maps = info.into_maps();
+    Ok(picture)
+}
+
+/// Returns a frame of this picture. It is the last shown picture too if `show` is set, else the one before it is.
+fn frame_of_picture(
+    alloc: Global,
+    show: bool,
+    before: Option<&Rc<Picture>>,
+    segments: Grid<Segment>,
+    picture: Picture,
+) -> Result<DecodedFrame, AllocError>
+    ensures segments { IfOk result (λ f. f.segments ≡ segments) }
+    ensures picture { IfOk result (λ f. f.picture.value ≡ picture) }
+    ensures shown { IfOk result (λ f. option_map (λ p. p.value) f.shown
+        ≡ shown_after show picture (option_map (λ p. p.now.value) before.entry)) }
+{
+    let picture = Rc::new(alloc, picture)?;
+    let shown = shown_after(show, &picture, before)?;
+    Ok(DecodedFrame {
+        segments,
+        picture,
+        shown,
+    })
+}
+
 /// Decodes the frame of a parsed packet, reusing the memory of `buffers`. If the picture before the loop filter is
 /// given, it is only filtered. Fails only if memory runs out.
 pub(crate) fn decode_frame<F: RowFilter>(
@@ -120,21 +174,6 @@ pub(crate) fn decode_frame<F: RowFilter>(
     let maps = read_maps(alloc, buffers, context, parsed.header, &mut first)?;
     let kept = mem::replace(&mut buffers.segments, Grid::empty(alloc));
     let segments = maps.modes.segments_in(kept)?;
-    let version = parsed.tag.version;
-    let info = FrameInfo::new(parsed.header, version, context.references(), maps);
-    let picture = match rebuilt {
-        Some(rebuilt) => filter_rebuilt(alloc, buffers, &info, rebuilt, filter)?,
-        None => {
-            let partitions = &parsed.partitions;
-            decode_picture(alloc, buffers, &info, context.dim, partitions, filter)?
-        }
-    };
-    buffers.maps = info.into_maps();
-    let picture = Rc::new(alloc, picture)?;
-    let shown = shown_after(parsed.tag.show, &picture, context.shown)?;
-    Ok(DecodedFrame {
-        segments,
-        picture,
-        shown,
-    })
+    let picture = picture_of_packet(alloc, buffers, parsed, filter, rebuilt, maps)?;
+    frame_of_picture(alloc, parsed.tag.show, context.shown, segments, picture)
 }

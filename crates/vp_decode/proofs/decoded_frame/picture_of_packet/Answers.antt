@@ -1,0 +1,49 @@
+use Rattle.std.proofs.Common.{◌≡◌, ◌∙◌, sym, ap}
+use Rattle.std.specs.Prelude.{Option, map}
+use Rattle.vp_bool.specs.Bools.{initial_state}
+use Rattle.vp_refs.specs.References.{References}
+use Rattle.vp_decode.specs.MacroblockInfo.{MacroblockInfo, maps_read}
+use Rattle.vp_decode.specs.Frame.{FrameInfo, frame_of, picture_of}
+use Rattle.vp_decode.specs.Step.{FrameContext, ParsedPacket, maps_before, frame_info_of, frame_of_packet}
+use Rattle.vp_decode.proofs.RebuiltLemmas.{rebuilt_picture, rebuilt_given, rebuilt_covered}
+use Rattle.vp_decode.proofs.decoded_frame.picture_of_packet.Goals as goal
+use Rattle.vp_decode.proofs.decoded_frame.picture_of_packet.Goals.{in-Some+in_ok-picture-in-Some, in-None+in_ok-picture-in-None}
+
+-- a plan of these maps is the frame's
+planned : (o : ParsedPacket) (f : FrameInfo) (references : Option References) (maps : MacroblockInfo) → f ≡ record { header = o.header; version = o.tag.version; references = references; maps = maps }
+    → references ≡ o.context.references → maps ≡ (maps_read o.header (maps_before o.context.modes) o.first).0 → f ≡ frame_info_of o
+unfolding frame_info_of
+planned o f references maps made r m = made ∙ (λ i. record { header = o.header; version = o.tag.version; references = r i; maps = m i })
+
+pub filter_rebuilt-requires-clause-columns : goal.filter_rebuilt-requires-clause-columns
+filter_rebuilt-requires-clause-columns g c =
+    let o : ParsedPacket = record { tag = c.parsed.inside.tag; context = c.parsed.inside.context; header = c.parsed.inside.header.now; saved = c.parsed.inside.saved.now; first = c.parsed.inside.first; partitions = c.parsed.inside.partitions } in
+    let law = c.unfiltered_picture_solves_its_equation.ensures in
+    (rebuilt_covered (record { size = law.size; aligned = law.aligned; whole = law.whole }) o c.new-info.result c.in-Some.rebuilt
+    (planned o c.new-info.result _ _ c.new-info.ensures c.references.ensures (c.requires.maps ∙ ap (λ (z : ParsedPacket). (maps_read z.header (maps_before z.context.modes) z.first).0) (sym c.parsed.view_is))) c.parsed.invariant.0
+    (rebuilt_given o c.args.parsed.now c.args.rebuilt c.in-Some.rebuilt (sym c.parsed.view_is) c.in-Some.is c.requires.given)).columns
+
+pub filter_rebuilt-requires-clause-rows : goal.filter_rebuilt-requires-clause-rows
+filter_rebuilt-requires-clause-rows g c =
+    let o : ParsedPacket = record { tag = c.parsed.inside.tag; context = c.parsed.inside.context; header = c.parsed.inside.header.now; saved = c.parsed.inside.saved.now; first = c.parsed.inside.first; partitions = c.parsed.inside.partitions } in
+    let law = c.unfiltered_picture_solves_its_equation.ensures in
+    (rebuilt_covered (record { size = law.size; aligned = law.aligned; whole = law.whole }) o c.new-info.result c.in-Some.rebuilt
+    (planned o c.new-info.result _ _ c.new-info.ensures c.references.ensures (c.requires.maps ∙ ap (λ (z : ParsedPacket). (maps_read z.header (maps_before z.context.modes) z.first).0) (sym c.parsed.view_is))) c.parsed.invariant.0
+    (rebuilt_given o c.args.parsed.now c.args.rebuilt c.in-Some.rebuilt (sym c.parsed.view_is) c.in-Some.is c.requires.given)).rows
+
+pub returns : goal.returns
+returns g c =
+    let o : ParsedPacket = record { tag = c.parsed.inside.tag; context = c.parsed.inside.context; header = c.parsed.inside.header.now; saved = c.parsed.inside.saved.now; first = c.parsed.inside.first; partitions = c.parsed.inside.partitions } in
+    let info : c.new-info.result ≡ frame_info_of o = planned o c.new-info.result _ _ c.new-info.ensures c.references.ensures (c.requires.maps ∙ ap (λ (z : ParsedPacket). (maps_read z.header (maps_before z.context.modes) z.first).0) (sym c.parsed.view_is)) in
+    let size : frame_of (frame_info_of o) (map initial_state o.partitions) c.context.inside.dim.w c.context.inside.dim.h ≡ frame_of_packet o =
+    ap (λ (b : FrameContext). frame_of (frame_info_of o) (map initial_state o.partitions) b.width b.height) c.context.view_is in
+    let made : c.match-rebuilt.picture ≡ picture_of (frame_of_packet o) = elim c.match-rebuilt.branch [
+      | in-Some+in_ok-picture-in-Some w ↦
+          w.picture-is ∙ rebuilt_picture o c.new-info.result w.in-Some.rebuilt w.in_ok-picture-in-Some.picture info
+          (rebuilt_given o c.args.parsed.now c.args.rebuilt w.in-Some.rebuilt (sym c.parsed.view_is) w.in-Some.is c.requires.given) w.in_ok-picture-in-Some.ensures
+      | in-None+in_ok-picture-in-None w ↦
+          w.picture-is ∙ w.in_ok-picture-in-None.ensures
+          ∙ ap (λ (f : FrameInfo). picture_of (frame_of f (map initial_state o.partitions) c.context.inside.dim.w c.context.inside.dim.h)) info
+          ∙ ap picture_of size
+    ] in
+    made ∙ ap (λ (z : ParsedPacket). picture_of (frame_of_packet z)) c.parsed.view_is
