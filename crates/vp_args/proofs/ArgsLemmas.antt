@@ -72,12 +72,15 @@ pub sub_met : (old sub new : Command) (a b : App) → app_of old ≡ a → app_o
     → app_of new ≡ with_subcommand a b.top
 sub_met old sub new a b e f local adds = adds.shape local ∙ (ap (λ x. with_subcommand x (app_of sub).top) e ∙ ap (λ (x : App). with_subcommand a x.top) f)
 
--- the same of a command that was made, or wasn't
-pub made_met : {E : Type 0} (old : Command) (made : Result Command E) (new : Command) (a b : App) → app_of old ≡ a → IfOk made (λ c. app_of c ≡ b)
-    → IfOk made (λ c. (fields_of c).has_globals ≡ false) → ((sub : Command) × (made ≡ Ok sub) × AddsSubcommand old sub new)
-    → app_of new ≡ with_subcommand a b.top
-made_met old made new a b e f local (sub, is, adds) =
-    sub_met old sub new a b e (subst (λ m. IfOk m (λ c. app_of c ≡ b)) is f) (subst (λ m. IfOk m (λ c. (fields_of c).has_globals ≡ false)) is local) adds
+-- the same of commands that were made, or weren't
+pub made_met : {E : Type 0} (command made new : Result Command E) (a b : App) → IfOk command (λ c. app_of c ≡ a) → IfOk made (λ c. app_of c ≡ b)
+    → IfOk made (λ c. (fields_of c).has_globals ≡ false)
+    → IfOk new (λ n. (old : Command) × (sub : Command) × (command ≡ Ok old) × (made ≡ Ok sub) × AddsSubcommand old sub n)
+    → IfOk new (λ n. app_of n ≡ with_subcommand a b.top)
+made_met command made (Ok n) a b e f local (old, sub, is, sub_is, adds) =
+    sub_met old sub n a b (subst (λ m. IfOk m (λ c. app_of c ≡ a)) is e) (subst (λ m. IfOk m (λ c. app_of c ≡ b)) sub_is f)
+    (subst (λ m. IfOk m (λ c. (fields_of c).has_globals ≡ false)) sub_is local) adds
+made_met command made (Err x) a b e f local h = tt
 
 pub all_met : (a : App) → a ≡ with_subcommand (with_subcommand (with_subcommand (with_subcommand vp8_app decode_app.top) encode_app.top) info_app.top) serve_app.top
     → a ≡ program

@@ -105,9 +105,9 @@ fn read_matches<'a>(alloc: Global, matches: &ArgMatches<'a>) -> Result<Task<'a>,
 fn program<'a>(alloc: Global) -> Result<Command<'a>, AllocError>
     ensures { IfOk result (λ c. app_of c ≡ program) }
 {
-    let decodes = with_made(vp8_command(alloc), decode_command(alloc))?;
-    let encodes = with_made(decodes, encode_command(alloc))?;
-    let tells = with_made(encodes, info_command(alloc))?;
+    let decodes = with_made(Ok(vp8_command(alloc)), decode_command(alloc));
+    let encodes = with_made(decodes, encode_command(alloc));
+    let tells = with_made(encodes, info_command(alloc));
     with_made(tells, serve_command(alloc))
 }
 
@@ -122,14 +122,15 @@ fn vp8_command<'a>(alloc: Global) -> Command<'a>
         .subcommand_required(true)
 }
 
-// Adds a subcommand, unless creating it failed.
+// Adds a subcommand, unless creating one of the two failed.
 fn with_made<'a>(
-    command: Command<'a>,
+    command: Result<Command<'a>, AllocError>,
     made: Result<Command<'a>, AllocError>,
 ) -> Result<Command<'a>, AllocError>
-    ensures { IfOk result (λ new. (sub : _) × (made.entry ≡ Ok sub) × AddsSubcommand command.entry sub new) }
+    ensures { IfOk result (λ new. (old : _) × (sub : _) × (command.entry ≡ Ok old) × (made.entry ≡ Ok sub)
+        × AddsSubcommand old sub new) }
 {
-    command.subcommand(made?)
+    command?.subcommand(made?)
 }
 
 fn decode_command<'a>(alloc: Global) -> Result<Command<'a>, AllocError>
