@@ -29,11 +29,14 @@ use Rattle.vp_args.specs.declared.encode_args.EncodeArgs.{EncodeArgs}
 use Rattle.vp_args.specs.declared.serve_args.ServeArgs.{ServeArgs}
 use Rattle.vp_app.specs.declared.service.ServiceFault.{ServiceFault}
 use Rattle.vp_args.specs.declared.args.Task.{Task}
-use Rattle.vp_args.specs.declared.args.Task.TheVariants.{Decode, Encode, Info, Serve, Nothing}
+use Rattle.vp_args.specs.declared.args.Task.TheVariants.{Decode, Encode, Info, Serve, ServeMany, Nothing}
 use Rattle.vp_args.specs.declared.args.Refusal.{Refusal}
 use Rattle.vp_args.specs.declared.args.Refusal.TheVariants.{Words, Value}
 use Rattle.vp_app.specs.Status.{status_of}
-use Rattle.vp_args.specs.Args.{ParsedArgs, decodes, encodes, tells, serves, nothing, parsed_args, faults_of, IsForMemory, IsOfValue, IsTaskFor, IsMistake, IsRefusalFor, HasInvalidValue, AreMistaken, IsFlag}
+use Rattle.vp_args.specs.declared.serve_args.ServeManyArgs.{ServeManyArgs}
+use Rattle.vp_app.specs.declared.many.ManyFault.{ManyFault}
+use Rattle.vp_app.specs.Many.{ServesMany, status_by_many}
+use Rattle.vp_args.specs.Args.{ParsedArgs, decodes, encodes, tells, serves, serves_many, nothing, parsed_args, faults_of, IsForMemory, IsOfValue, IsTaskFor, IsMistake, IsRefusalFor, HasInvalidValue, AreMistaken, IsFlag}
 use Rattle.vp_app.specs.Commands.{DecodesFile, DecodesInto, Does, EncodesFile, EncodesInto, IsFileDecoded, IsFileEncoded, IsUnbegun, IsUnopened, IsUsageFault, SurveysFile, SurveysInput, Over, ServesConnections, Side, PrintsSurvey, is_stream, is_y4m, settings_of, status_by_report, status_by_service}
 
 pub over_stream : (name : List ℕ) (Work : Side → Side → Type 0) (old new : Side) → is_stream name ≡ true → Work old new → Over name Work old new
@@ -124,6 +127,7 @@ does_decode asked plan y4m form from to done status i i' o o' e y h s d = go ask
     go (encodes rows f t) p = absurd p
     go (tells f) p = absurd p
     go (serves r a c t) p = absurd p
+    go (serves_many r a t) p = absurd p
     go nothing p = absurd p
 
 pub does_encode : (asked : ParsedArgs) (plan : Task) (encoding : EncodeArgs) (done : Result EncodeReport EncodeAllFault) (status : ℕ) (i i' o o' : Side)
@@ -136,6 +140,7 @@ does_encode asked plan encoding done status i i' o o' e h s d = go asked (subst 
     go (encodes rows f t) p = rw (← p.2, ← p.3) (inl (encoding.options, done, p.0, s, d))
     go (tells f) p = absurd p
     go (serves r a c t) p = absurd p
+    go (serves_many r a t) p = absurd p
     go nothing p = absurd p
 
 pub does_tell : (asked : ParsedArgs) (plan : Task) (from : Bor (List ℕ)) (done : Result Survey DecodeFault) (status : ℕ) (i i' o o' : Side)
@@ -147,6 +152,7 @@ does_tell asked plan from done status i i' o o' e h d t = go asked (subst (IsTas
     go (encodes rows f g) p = absurd p
     go (tells f) p = rw (← p) (inl (done, d, t))
     go (serves r a c t) p = absurd p
+    go (serves_many r a t) p = absurd p
     go nothing p = absurd p
 
 pub does_serve : (asked : ParsedArgs) (plan : Task) (service : ServeArgs) (done : Result Bool ServiceFault) (status : ℕ) (i i' o o' : Side)
@@ -159,6 +165,20 @@ does_serve asked plan service done status i i' o o' e h s d q = go asked (subst 
     go (encodes rows f g) p = absurd p
     go (tells f) p = absurd p
     go (serves rows address connections operands) p = inl (service, done, p, s, d, q)
+    go (serves_many r a t) p = absurd p
+    go nothing p = absurd p
+
+pub does_serve_many : (asked : ParsedArgs) (plan : Task) (many : ServeManyArgs) (done : Result Bool ManyFault) (status : ℕ) (i i' o o' : Side)
+    → plan ≡ ServeMany many → IsTaskFor asked plan → status ≡ status_by_many done → ServesMany many done i.bytes i'.bytes
+    → (many.service.show_address ≡ false → o' ≡ o) → Does asked status i i' o o'
+does_serve_many asked plan many done status i i' o o' e h s d q = go asked (subst (IsTaskFor asked) e h)
+  where
+    go : (x : ParsedArgs) → IsTaskFor x (ServeMany many) → Does x status i i' o o'
+    go (decodes flag f g) p = absurd p
+    go (encodes rows f g) p = absurd p
+    go (tells f) p = absurd p
+    go (serves r a c t) p = absurd p
+    go (serves_many rows address operands) p = inl (many, done, p, s, d, q)
     go nothing p = absurd p
 
 pub does_nothing : (asked : ParsedArgs) (plan : Task) (i o : Side) → plan ≡ Nothing → IsTaskFor asked plan → Does asked 2 i i o o
@@ -169,6 +189,7 @@ does_nothing asked plan i o e h = go asked (subst (IsTaskFor asked) e h)
     go (encodes rows f g) p = absurd p
     go (tells f) p = absurd p
     go (serves r a c t) p = absurd p
+    go (serves_many r a t) p = absurd p
     go nothing p = inr (refl, refl, refl)
 
 unbegun : (asked : ParsedArgs) (status : ℕ) (i i' o o' : Side) → IsUnbegun status i i' o o' → Does asked status i i' o o'
@@ -176,6 +197,7 @@ unbegun (decodes flag f g) status i i' o o' h = inr h
 unbegun (encodes rows f g) status i i' o o' h = inr (inl h)
 unbegun (tells f) status i i' o o' h = inr h
 unbegun (serves r a c t) status i i' o o' h = inr (inl h)
+unbegun (serves_many r a t) status i i' o o' h = inr (inl h)
 unbegun nothing status i i' o o' h = inl h
 
 misused : (asked : ParsedArgs) (status : ℕ) (i i' o o' : Side) → HasInvalidValue asked → IsUsageFault status i i' o o' → Does asked status i i' o o'
@@ -183,6 +205,7 @@ misused (decodes flag f g) status i i' o o' m h = absurd m
 misused (encodes rows f g) status i i' o o' m h = inr (inr (m, h))
 misused (tells f) status i i' o o' m h = absurd m
 misused (serves r a c t) status i i' o o' m h = inr (inr (m, h))
+misused (serves_many r a t) status i i' o o' m h = inr (inr (m, h))
 misused nothing status i i' o o' m h = absurd m
 
 for_memory : (e : Error) (kinds : Kinds) → kinds ≡ [] → HasKind kinds e → kind_of e ≡ OutOfMemory

@@ -31,8 +31,11 @@ use Rattle.vp_args.specs.declared.encode_args.EncodeOptions.{EncodeOptions}
 use Rattle.vp_args.specs.declared.serve_args.ServeArgs.{ServeArgs}
 use Rattle.vp_app.specs.declared.service.ServiceFault.{ServiceFault}
 use Rattle.vp_app.specs.Serving.{IsService}
-use Rattle.vp_args.specs.Args.{ParsedArgs, decodes, encodes, tells, serves, nothing, AreNoSettings, AreSettings, IsFlag}
-use Rattle.vp_args.specs.Args.{IsNoService, IsServiceFor}
+use Rattle.vp_app.specs.declared.many.ManyFault.{ManyFault}
+use Rattle.vp_app.specs.Many.{ServesMany, status_by_many}
+use Rattle.vp_args.specs.declared.serve_args.ServeManyArgs.{ServeManyArgs}
+use Rattle.vp_args.specs.Args.{ParsedArgs, decodes, encodes, tells, serves, serves_many, nothing, AreNoSettings}
+use Rattle.vp_args.specs.Args.{AreSettings, IsFlag, IsNoService, IsNoServiceOfMany, IsServiceFor, IsServiceOfMany}
 
 -- ---- standard streams
 
@@ -229,6 +232,13 @@ DoesServe rows address connections operands status input input' output output' =
     × (status ≡ status_by_service done) × ServesConnections service done input input'
     × (service.show_address ≡ false → output' ≡ output)
 
+-- the same for many connections at once
+abbrev pub DoesServeMany : List Row → List ℕ → List (List ℕ) → ℕ → Side → Side → Side → Side → Type 0
+DoesServeMany rows address operands status input input' output output' =
+    (many : ServeManyArgs) × (done : Result Bool ManyFault) × IsServiceOfMany rows address operands many
+    × (status ≡ status_by_many done) × ServesMany many done input.bytes input'.bytes
+    × (many.service.show_address ≡ false → output' ≡ output)
+
 -- the effect of a task; memory may run out before it begins, and values may be refused
 abbrev pub Does : ParsedArgs → ℕ → Side → Side → Side → Side → Type 0
 Does (decodes flag from to) status input input' output output' =
@@ -242,6 +252,10 @@ Does (tells from) status input input' output output' =
 Does (serves rows address connections operands) status input input' output output' =
     DoesServe rows address connections operands status input input' output output'
     ⊎ (IsUnbegun status input input' output output' ⊎ (IsNoService rows connections operands
+    × IsUsageFault status input input' output output'))
+Does (serves_many rows address operands) status input input' output output' =
+    DoesServeMany rows address operands status input input' output output'
+    ⊎ (IsUnbegun status input input' output output' ⊎ (IsNoServiceOfMany rows operands
     × IsUsageFault status input input' output output'))
 Does nothing status input input' output output' = IsUnbegun status input input' output output'
     ⊎ IsUsageFault status input input' output output'

@@ -4,4 +4,5 @@ pub mod FaultLines
 pub mod Listing
 pub mod Feeding
 pub mod Serving
+pub mod Many
 pub mod Commands

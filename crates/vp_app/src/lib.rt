@@ -5,6 +5,7 @@ mod encode;
 mod files;
 mod laws;
 mod listing;
+mod many;
 mod program;
 mod service;
 
@@ -14,5 +15,6 @@ pub use laws::{
     status_0_of_info_says_that_all_is_printed, statuses_of_serve,
     what_is_not_begun_changes_nothing,
 };
+pub use many::ManyFault;
 pub use program::{command, command_line};
 pub use service::{ServiceFault, feed_all, listen, new_hub, serve_each};

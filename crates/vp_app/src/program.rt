@@ -10,6 +10,7 @@ ghost use Rattle.vp_app.specs.Commands.{is_stream, is_y4m, read_side, written_si
 ghost use Rattle.vp_app.specs.Commands.{DecodesFile, DecodesInto, Does, IsFileDecoded, IsFileSurveyed, SurveysFile};
 ghost use Rattle.vp_app.specs.Commands.{SurveysInput};
 ghost use Rattle.vp_app.specs.Commands.{PrintsSurvey};
+ghost use Rattle.vp_app.specs.Many.{status_by_many};
 ghost use Rattle.vp_app.specs.Status.{status_of};
 ghost use Rattle.vp_args.specs.Args.{parsed_args, faults_of, AreMistaken, ParsedArgs, IsForMemory, IsMistake, IsOfValue};
 ghost use Rattle.vp_args.specs.Args.{IsTaskFor};
@@ -17,6 +18,7 @@ ghost use Rattle.vp_args.specs.Args.{IsTaskFor};
 use crate::encode::encode;
 use crate::files::file_fault;
 use crate::listing::{print_faults, print_survey};
+use crate::many::{ManyFault, print_fault, serve_many};
 use crate::service::{ServiceFault, serve};
 use clap::Error;
 use clap::error::ErrorKind;
@@ -24,8 +26,9 @@ use std::alloc::Global;
 use std::io::{Read, Write};
 use std::net::{Net, TcpListener, TcpStream};
 use std::rt::{Env, Files};
+use std::time::Clock;
 use std::{env, fmt, fs, io};
-use vp_args::{Refusal, Task, read_args};
+use vp_args::{Refusal, ServeManyArgs, Task, read_args};
 use vp_base::{Counted, Limits};
 use vp_encode::{EncodeAllFault, EncodeReport};
 use vp_stream::{DecodeFault, Form, Report, Survey, SurveyFault, decode_all, survey};
@@ -45,10 +48,12 @@ use vp_stream::{DecodeFault, Form, Report, Survey, SurveyFault, decode_all, surv
 /// `vp8 serve --listen ADDR --connections N NAME=FILE...` serves the pictures of files over HTTP, and ends after N
 /// connections. The fault of a connection is printed, and the next one is served.
 ///
+/// `vp8 serve --listen ADDR --max-connections K NAME=FILE...` serves up to K connections at once, without end.
+///
 /// The file name `-` is `input` or `output`.
 #[tactic(auto, using(crate::proofs::CommandLemmas::does_refused, crate::proofs::CommandLemmas::mistaken_words, crate::proofs::CommandLemmas::never_mistaken))]
 pub fn command<
-    H: Files + AllocGlobal + Net<Stream = TcpStream, Listener = TcpListener>,
+    H: Files + AllocGlobal + Clock + Net<Stream = TcpStream, Listener = TcpListener>,
     R: Read,
     W: Write,
     E: Write,
@@ -81,7 +86,7 @@ pub fn command<
 // Runs a task, and returns the exit status.
 #[tactic(auto, using(crate::proofs::CommandLemmas::does_decode, crate::proofs::CommandLemmas::does_encode, crate::proofs::CommandLemmas::does_tell, crate::proofs::CommandLemmas::does_serve, crate::proofs::CommandLemmas::does_nothing))]
 fn run_task<
-    H: Files + AllocGlobal + Net<Stream = TcpStream, Listener = TcpListener>,
+    H: Files + AllocGlobal + Clock + Net<Stream = TcpStream, Listener = TcpListener>,
     R: Read,
     W: Write,
     E: Write,
@@ -117,6 +122,11 @@ fn run_task<
             report_survey(rt.alloc(), survey_file(rt, from, input), output, errors)
         }
         Task::Serve(service) => report_serve(serve(rt, service, input, output, errors), errors),
+        Task::ServeMany(many) => report_serve_many(
+            serve_many(rt, many, input, output, errors),
+            many,
+            errors,
+        ),
         Task::Nothing => 2,
     }
 }
@@ -357,9 +367,28 @@ fn report_serve<E: Write>(done: Result<bool, ServiceFault>, errors: &mut Counted
     }
 }
 
+// Prints the fault that prevented serving many connections, and returns the exit status.
+fn report_serve_many<E: Write>(
+    done: Result<bool, ManyFault>,
+    many: &ServeManyArgs<'_>,
+    errors: &mut Counted<E>,
+) -> u8
+    ensures status { result ≤ 1 }
+    ensures by { result ≡ status_by_many done }
+{
+    match done {
+        Ok(true) => 0,
+        Ok(false) => 1,
+        Err(fault) => {
+            print_fault(&fault, many, errors);
+            1
+        }
+    }
+}
+
 /// Runs the program with its own command line, as `command` does. An argument that isn't UTF-8 is a usage error.
 pub fn command_line<
-    H: Files + AllocGlobal + Env + Net<Stream = TcpStream, Listener = TcpListener>,
+    H: Files + AllocGlobal + Clock + Env + Net<Stream = TcpStream, Listener = TcpListener>,
     R: Read,
     W: Write,
     E: Write,

@@ -134,7 +134,10 @@ pub fn listen<H: AllocGlobal + Net<Stream = TcpStream, Listener = TcpListener>, 
     Ok(listener)
 }
 
-fn print_address<W: Write>(listener: &TcpListener, output: &mut Counted<W>) -> io::Result<()> {
+pub(crate) fn print_address<W: Write>(
+    listener: &TcpListener,
+    output: &mut Counted<W>,
+) -> io::Result<()> {
     let address = listener.local_addr()?;
     writeln!(output, "{address}")?;
     output.flush()
@@ -164,7 +167,10 @@ pub fn new_hub(alloc: Global, service: &ServeArgs<'_>) -> Result<Hub, ServiceFau
     }
 }
 
-fn stream_names(alloc: Global, streams: &[NamedFile<'_>]) -> Result<Vec<ByteList>, AllocError>
+pub(crate) fn stream_names(
+    alloc: Global,
+    streams: &[NamedFile<'_>],
+) -> Result<Vec<ByteList>, AllocError>
     ensures { IfOk result (λ names. names.items ≡ names_of streams.now) }
 {
     let mut names = Vec::new(alloc);
@@ -198,7 +204,7 @@ pub fn feed_all<H: Files + AllocGlobal, R: Read>(
 }
 
 // Feeds the file of a stream, and marks its end.
-fn feed_stream<H: Files + AllocGlobal, R: Read>(
+pub(crate) fn feed_stream<H: Files + AllocGlobal, R: Read>(
     rt: &H,
     hub: &mut Hub,
     stream: &NamedFile<'_>,

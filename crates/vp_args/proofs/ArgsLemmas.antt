@@ -2,10 +2,10 @@
 use Rattle.std.proofs.Common.{◌≡◌, ◌∙◌, ◌⊎◌, ◌<◌, ◌∷◌, ◌++◌, [], inl, inr, ℕ, zero, suc, List, Option, Some, None, Bool, true, false, refl, sym, ap, subst, length, get_or, le_of_suc-le-suc, le_refl, not-suc-le-zero}
 use Rattle.std.proofs.lemmas.Bool.{le-ltb}
 use Rattle.std.specs.List.{list_all, position_or_len}
-use Rattle.std.specs.Prelude.{◌&&◌, ◌||◌, codes, option_map, Result, Ok, Err, IfOk, IfErr}
+use Rattle.std.specs.Prelude.{◌&&◌, ◌||◌, codes, Result, Ok, Err, IfOk, IfErr}
 use Rattle.std.specs.Borrow.{Bor}
 use Rattle.clap.specs.Built.{AddsArg, AddsSubcommand}
-use Rattle.clap.specs.Walk.{Row, Rule, Text, one_of, rule_of, texts}
+use Rattle.clap.specs.Walk.{Row, Rule, Text, rule_of, texts}
 use Rattle.clap.specs.Kinds.{FailsBy, HasKind}
 use Rattle.clap.specs.Faults.{fault_of, is_simple_and_free}
 use Rattle.clap.specs.Simple.{App, HasMatchesOf, app_of, is_simple, subcommand_of, subcommand_rows_of, with_rule, with_subcommand}
@@ -15,11 +15,10 @@ use Rattle.clap.specs.declared.builder.arg.Arg.{Arg}
 use Rattle.clap.specs.declared.builder.command.Command.{Command}
 use Rattle.clap.specs.declared.builder.command.Command.TheViews.{out-Command as fields_of}
 use Rattle.clap.specs.declared.parser.matches.ArgMatches.{ArgMatches}
-use Rattle.vp_args.specs.declared.args.Task.TheVariants.{Decode, Encode, Info, Nothing}
+use Rattle.vp_args.specs.declared.args.Task.TheVariants.{Decode, Info, Nothing}
 use Rattle.vp_args.specs.declared.args.Refusal.{Refusal}
 use Rattle.vp_args.specs.declared.args.Refusal.TheVariants.{Words, Value}
-use Rattle.vp_args.specs.declared.encode_args.EncodeArgs.{EncodeArgs}
-use Rattle.vp_args.specs.Args.{ParsedArgs, decodes, encodes, serves, tells, decode_app, encode_app, faults_of, info_app, serve_app, vp8_app, Gains, IsFlag, IsForMemory, IsNoNaming, IsNoPlanFor, IsTaskFor, is_equals, is_parted, program, with_operand, with_operands, with_rules, with_service}
+use Rattle.vp_args.specs.Args.{ParsedArgs, decodes, serves, tells, decode_app, encode_app, faults_of, info_app, serve_app, vp8_app, Gains, IsFlag, IsForMemory, IsNoNaming, IsTaskFor, is_equals, is_parted, program, with_operand, with_operands, with_rules, with_service, asks_many}
 
 -- ---- the commands
 
@@ -82,32 +81,35 @@ made_met command made (Ok n) a b e f local (old, sub, is, sub_is, adds) =
     (subst (λ m. IfOk m (λ c. (fields_of c).has_globals ≡ false)) sub_is local) adds
 made_met command made (Err x) a b e f local h = tt
 
-pub all_met : (a : App) → a ≡ with_subcommand (with_subcommand (with_subcommand (with_subcommand vp8_app decode_app.top) encode_app.top) info_app.top) serve_app.top
-    → a ≡ program
+pub all_met : (many : Bool) (a : App)
+    → a ≡ with_subcommand (with_subcommand (with_subcommand (with_subcommand vp8_app decode_app.top) encode_app.top) info_app.top) (serve_app many).top
+    → a ≡ program many
 unfolding program
-all_met a e = e
+all_met many a e = e
 
 -- ---- the words
 
-is_free : is_simple_and_free program ≡ true
+is_free : (many : Bool) → is_simple_and_free (program many) ≡ true
 unfolding program clap_on_literals
-is_free = refl
+is_free true = refl
+is_free false = refl
 
-is_plain : is_simple program ≡ true
+is_plain : (many : Bool) → is_simple (program many) ≡ true
 unfolding program clap_on_literals
-is_plain = refl
+is_plain true = refl
+is_plain false = refl
 
-pub is_found : (r : Result ArgMatches Error) (app : App) (words : List Text) → app ≡ program → IfOk r (HasMatchesOf app words)
+pub is_found : (r : Result ArgMatches Error) (app : App) (words : List Text) → app ≡ program (asks_many words) → IfOk r (HasMatchesOf app words)
     → (is_simple_and_free app ≡ true → FailsBy (fault_of app words) r)
-    → IfOk r (λ m. (faults_of words ≡ []) × (subcommand_rows_of m ≡ subcommand_of program words))
+    → IfOk r (λ m. (faults_of words ≡ []) × (subcommand_rows_of m ≡ subcommand_of (program (asks_many words)) words))
 is_found (Ok m) app words e h k =
-    (subst (λ a. fault_of a words ≡ []) e (k (ap is_simple_and_free e ∙ is_free)), (h (ap is_simple e ∙ is_plain)).1 ∙ ap (λ a. subcommand_of a words) e)
+    (subst (λ a. fault_of a words ≡ []) e (k (ap is_simple_and_free e ∙ is_free (asks_many words))), (h (ap is_simple e ∙ is_plain (asks_many words))).1 ∙ ap (λ a. subcommand_of a words) e)
 is_found (Err f) app words e h k = tt
 
-pub is_fault : (r : Result ArgMatches Error) (app : App) (words : List Text) → app ≡ program
+pub is_fault : (r : Result ArgMatches Error) (app : App) (words : List Text) → app ≡ program (asks_many words)
     → (is_simple_and_free app ≡ true → FailsBy (fault_of app words) r) → IfErr r (HasKind (faults_of words))
 is_fault (Ok m) app words e k = tt
-is_fault (Err f) app words e k = subst (λ a. HasKind (fault_of a words) f) e (k (ap is_simple_and_free e ∙ is_free))
+is_fault (Err f) app words e k = subst (λ a. HasKind (fault_of a words) f) e (k (ap is_simple_and_free e ∙ is_free (asks_many words)))
 
 -- ---- the plan
 

@@ -1,11 +1,11 @@
 -- Decimal numbers without a sign.
-use Rattle.std.proofs.Common.{◌≡◌, ◌≢◌, ◌⊎◌, ◌<◌, ◌≤◌, ◌∷◌, [], ℕ, List, Option, Some, None, Bool, true, false, refl, sym, ap, subst, arith}
+use Rattle.std.proofs.Common.{◌≡◌, ◌<◌, ◌≤◌, ◌∷◌, [], ℕ, Option, Some, None, true, false, refl, subst, arith}
 use Rattle.std.specs.Prelude.{◌==◌, ◌^◌, slice_index}
 use Rattle.std.proofs.lemmas.Bool.{eqb-true}
 use Rattle.std.specs.Char.{digit_value}
 use Rattle.std.specs.Str.Parse.{digits_value, without_leading_plus, IsNumeral}
 use Rattle.clap.specs.Walk.{Text}
-use Rattle.vp_args.specs.Args.{IsDecimal, IsMisnumbered, IsNoDecimal, IsNumber}
+use Rattle.vp_args.specs.Args.{IsMisnumbered, IsNumber}
 
 pub no_plus : (t : Text) → (slice_index t 0 == 43) ≡ false → without_leading_plus t ≡ t
 no_plus t e = rw e refl

@@ -1,8 +1,8 @@
 -- The command line: commands, options and operands in the terms of the crate clap, and the tasks that they select.
 -- Pinned by the tests `usual_settings`, `each_option_sets_its_own` and `served_as_asked`.
-use Rattle.std.specs.Prelude.{◌≡◌, ◌≢◌, ◌⊎◌, ◌<◌, ◌==◌, ◌^◌, ℕ, Bool, true, false, List, [], ◌∷◌, length, map, nat_lt}
-use Rattle.std.specs.Prelude.{Option, Some, None, codes, if◌then◌else◌}
-use Rattle.std.specs.List.{after_first, before_first, list_all, position_or_len}
+use Rattle.std.specs.Prelude.{◌≡◌, ◌≢◌, ◌⊎◌, ◌<◌, ◌≤◌, ◌==◌, ◌||◌, ◌^◌, ℕ, Bool, true, false, not, List, [], ◌∷◌, length}
+use Rattle.std.specs.Prelude.{map, nat_lt, Option, Some, None, codes, if◌then◌else◌}
+use Rattle.std.specs.List.{after_first, before_first, list_all, list_any, position_or_len}
 use Rattle.std.specs.Str.{bytes_eq}
 use Rattle.std.specs.Str.Parse.{digits_value, IsNumeral}
 use Rattle.clap.specs.Lexer.{usize_max, long_of, short_of}
@@ -18,10 +18,11 @@ use Rattle.clap.specs.declared.error.kind.ErrorKind.TheVariants.{DisplayHelp, Di
 use Rattle.vp_args.specs.declared.encode_args.EncodeOptions.{EncodeOptions}
 use Rattle.vp_args.specs.declared.serve_args.NamedFile.{NamedFile}
 use Rattle.vp_args.specs.declared.serve_args.ServeArgs.{ServeArgs}
+use Rattle.vp_args.specs.declared.serve_args.ServeManyArgs.{ServeManyArgs}
 use Rattle.vp_args.specs.declared.args.Task.{Task}
 use Rattle.vp_args.specs.declared.args.Refusal.{Refusal}
 use Rattle.vp_args.specs.declared.args.Refusal.TheVariants.{Words, Value}
-use Rattle.vp_args.specs.declared.args.Task.TheVariants.{Decode, Encode, Info, Serve, Nothing}
+use Rattle.vp_args.specs.declared.args.Task.TheVariants.{Decode, Encode, Info, Serve, ServeMany, Nothing}
 
 -- ---- the commands
 
@@ -90,16 +91,33 @@ info_app = with_rules (new_app (codes "info")) (operand_rule (codes "IN") ∷ []
 abbrev pub required : Rule → Rule
 required r = record r { required = true }
 
--- the options and operands of `serve`
-abbrev pub serve_rules : List Rule
-serve_rules =
-    required (setting_rule (codes "listen")) ∷ required (setting_rule (codes "connections"))
+-- an argument that must be present, or need not be
+abbrev pub required_if : Bool → Rule → Rule
+required_if must r = record r { required = must }
+
+-- the options of `serve`; the number of connections may be left out if many are served at once
+abbrev pub service_rules : Bool → List Rule
+service_rules many =
+    required (setting_rule (codes "listen")) ∷ required_if (not many) (setting_rule (codes "connections"))
     ∷ setting_rule (codes "cache")
-    ∷ flag_rule (codes "show-address") ∷ operands_rule (codes "NAME=FILE") ∷ []
+    ∷ flag_rule (codes "show-address") ∷ []
+
+-- its options for many connections at once
+abbrev pub many_rules : Bool → List Rule
+many_rules many =
+    required_if many (setting_rule (codes "max-connections")) ∷ setting_rule (codes "idle-timeout")
+    ∷ flag_rule (codes "follow")
+    ∷ setting_rule (codes "poll-interval") ∷ []
+
+-- its operands
+abbrev pub stream_rules : List Rule
+stream_rules = operands_rule (codes "NAME=FILE") ∷ []
 
 -- vp8 serve --listen ADDR --connections N [options] NAME=FILE..
-abbrev pub serve_app : App
-serve_app = with_rules (new_app (codes "serve")) serve_rules
+-- vp8 serve --listen ADDR --max-connections K [options] NAME=FILE..
+abbrev pub serve_app : Bool → App
+serve_app many =
+    with_rules (with_rules (with_rules (new_app (codes "serve")) (service_rules many)) (many_rules many)) stream_rules
 
 -- the program's command without its subcommands
 abbrev pub vp8_app : App
@@ -107,9 +125,30 @@ vp8_app = on_top (λ s. record s { has_version = true; disable_help_subcommand =
     (new_app (codes "vp8"))
 
 -- the program's command with its subcommands
-unfoldable pub program : App
-program = with_subcommand (with_subcommand
-    (with_subcommand (with_subcommand vp8_app decode_app.top) encode_app.top) info_app.top) serve_app.top
+unfoldable pub program : Bool → App
+program many = with_subcommand (with_subcommand
+    (with_subcommand (with_subcommand vp8_app decode_app.top) encode_app.top) info_app.top) (serve_app many).top
+
+-- the byte after the name of an option, and after the name of a stream
+abbrev pub is_equals : ℕ → Bool
+is_equals byte = byte == 61
+
+-- the argument is an option for many connections at once
+abbrev pub is_many_option : Text → Bool
+is_many_option word =
+    bytes_eq (before_first is_equals word) (codes "--max-connections")
+    || (bytes_eq (before_first is_equals word) (codes "--idle-timeout")
+    || (bytes_eq (before_first is_equals word) (codes "--follow")
+    || bytes_eq (before_first is_equals word) (codes "--poll-interval")))
+
+-- such an argument, or one after it
+abbrev pub asks_many_at : Text → Bool → Bool
+asks_many_at word later = if bytes_eq word (codes "--") then false else is_many_option word || later
+
+-- such an option stands before `--`
+unfoldable pub asks_many : List Text → Bool
+asks_many [] = false
+asks_many (w ∷ ws) = asks_many_at w (asks_many ws)
 
 -- ---- the task that the arguments ask for
 
@@ -122,6 +161,8 @@ pub data ParsedArgs : Type 0 where
   tells : Text → ParsedArgs
   -- the options, the address, the number of connections, and the operands
   serves : List Row → Text → Text → List Text → ParsedArgs
+  -- the options, the address, and the operands
+  serves_many : List Row → Text → List Text → ParsedArgs
   nothing : ParsedArgs
 
 -- the task, if both operands are present
@@ -139,6 +180,26 @@ abbrev pub with_service : List Row → Option Text → Option Text → Option (L
 with_service rows (Some address) (Some connections) (Some operands) = serves rows address connections operands
 with_service rows _ _ _ = nothing
 
+-- the task for many connections at once, if the address and the operands are present
+abbrev pub with_service_of_many : List Row → Option Text → Option (List Text) → ParsedArgs
+with_service_of_many rows (Some address) (Some operands) = serves_many rows address operands
+with_service_of_many rows _ _ = nothing
+
+-- the task of `serve` for one connection after another
+abbrev pub turns_of : List Row → ParsedArgs
+turns_of rows =
+    with_service rows (first_of (codes "listen") rows) (first_of (codes "connections") rows)
+    (all_of (codes "NAME=FILE") rows)
+
+-- the task of `serve` for many connections at once
+abbrev pub many_of : List Row → ParsedArgs
+many_of rows = with_service_of_many rows (first_of (codes "listen") rows) (all_of (codes "NAME=FILE") rows)
+
+-- the task of `serve`: many connections at once, if the option says how many, or one after another
+abbrev pub service_of : List Row → Option Text → ParsedArgs
+service_of rows None = turns_of rows
+service_of rows (Some most) = many_of rows
+
 -- the task, given a subcommand's name and its arguments
 abbrev pub asked_at : Text → List Row → ParsedArgs
 asked_at name rows =
@@ -148,8 +209,7 @@ asked_at name rows =
     (first_of (codes "OUT") rows)
     else (if bytes_eq name (codes "info") then with_operand tells (first_of (codes "IN") rows)
     else (if bytes_eq name (codes "serve")
-    then with_service rows (first_of (codes "listen") rows) (first_of (codes "connections") rows)
-    (all_of (codes "NAME=FILE") rows)
+    then service_of rows (first_of (codes "max-connections") rows)
     else nothing)))
 
 -- the task, given a subcommand, if there is one
@@ -159,11 +219,11 @@ parsed_command (Some p) = asked_at p.0 p.1
 
 -- the task, given arguments that clap accepts
 abbrev pub parsed_args : List Text → ParsedArgs
-parsed_args words = parsed_command (subcommand_of program words)
+parsed_args words = parsed_command (subcommand_of (program (asks_many words)) words)
 
 -- the kinds of errors for which clap refuses the arguments
 abbrev pub faults_of : List Text → Kinds
-faults_of words = fault_of program words
+faults_of words = fault_of (program (asks_many words)) words
 
 -- ---- the values of the task
 
@@ -193,11 +253,7 @@ pub record AreSettings (rows : List Row) (s : EncodeOptions) : Type 0 where
   pub subpel : IsFlag (one_of (codes "subpel") rows) s.subpel
   pub partitions : IsNumber (first_of (codes "partitions") rows) 1 s.partitions
 
--- an operand of `serve`, split at its first `=`
-abbrev pub is_equals : ℕ → Bool
-is_equals byte = byte == 61
-
--- the name and the file in an operand
+-- the name and the file in an operand of `serve`, split at its first `=`
 abbrev pub parted : Text → Text × Text
 parted operand = (before_first is_equals operand, after_first is_equals operand)
 
@@ -220,6 +276,23 @@ pub record IsServiceFor (rows : List Row) (address connections : Text) (operands
   pub shows : IsFlag (one_of (codes "show-address") rows) s.show_address
   pub streams_are : AreNamed operands s.streams.items
 
+-- the file is standard input
+abbrev pub is_input : NamedFile → Bool
+is_input stream = bytes_eq stream.file.now (codes "-")
+
+-- the arguments of `serve` for many connections at once
+pub record IsServiceOfMany (rows : List Row) (address : Text) (operands : List Text) (s : ServeManyArgs) : Type 0 where
+  pub address_is : s.service.listen.now ≡ address
+  pub connections_are : IsNumber (first_of (codes "connections") rows) 4294967295 s.service.connections
+  pub cache_is : IsNumber (first_of (codes "cache") rows) 16 s.service.cache
+  pub shows : IsFlag (one_of (codes "show-address") rows) s.service.show_address
+  pub streams_are : AreNamed operands s.service.streams.items
+  pub most_are : IsNumber (first_of (codes "max-connections") rows) 64 s.max_connections
+  pub timeout_is : IsNumber (first_of (codes "idle-timeout") rows) 30 s.idle_timeout
+  pub follows : IsFlag (one_of (codes "follow") rows) s.follow
+  pub interval_is : IsNumber (first_of (codes "poll-interval") rows) 100 s.poll_interval
+  pub files : s.follow ≡ true → list_any is_input s.service.streams.items ≡ false
+
 -- the task has the values that the arguments ask for
 abbrev pub IsTaskFor : ParsedArgs → Task → Type 0
 IsTaskFor (decodes flag from to) (Decode y4m input output) = IsFlag flag y4m × (input.now ≡ from)
@@ -229,6 +302,7 @@ IsTaskFor (encodes rows from to) (Encode e) =
     × (e.output.now ≡ to)
 IsTaskFor (tells from) (Info input) = input.now ≡ from
 IsTaskFor (serves rows address connections operands) (Serve s) = IsServiceFor rows address connections operands s
+IsTaskFor (serves_many rows address operands) (ServeMany s) = IsServiceOfMany rows address operands s
 IsTaskFor nothing Nothing = Unit {0}
 IsTaskFor _ _ = ⊥
 
@@ -263,10 +337,30 @@ abbrev pub IsNoService : List Row → Text → List Text → Type 0
 IsNoService rows connections operands =
     IsNoDecimal (2 ^ 32) connections ⊎ (IsNoCache (first_of (codes "cache") rows) ⊎ list_all is_parted operands ≡ false)
 
+-- the option has a value that is not a number from 1 to this one
+abbrev pub IsOutside : ℕ → Option Text → Type 0
+IsOutside most None = ⊥
+IsOutside most (Some text) = IsNumeral 10 text → 0 < digits_value 10 text → digits_value 10 text ≤ most → ⊥
+
+-- standard input is to be followed
+abbrev pub FollowsInput : List Row → List Text → Type 0
+FollowsInput rows operands =
+    IsFlag (one_of (codes "follow") rows) true
+    × ((streams : List NamedFile) × AreNamed operands streams × (list_any is_input streams ≡ true))
+
+-- some value of `serve` for many connections at once is refused
+abbrev pub IsNoServiceOfMany : List Row → List Text → Type 0
+IsNoServiceOfMany rows operands =
+    IsOutside 64 (first_of (codes "max-connections") rows) ⊎ (IsOutside 86400 (first_of (codes "idle-timeout") rows)
+    ⊎ (IsOutside 60000 (first_of (codes "poll-interval") rows) ⊎
+    (IsMisnumbered (2 ^ 32) (first_of (codes "connections") rows)
+    ⊎ (IsNoCache (first_of (codes "cache") rows) ⊎ (list_all is_parted operands ≡ false ⊎ FollowsInput rows operands)))))
+
 -- some value is refused
 abbrev pub HasInvalidValue : ParsedArgs → Type 0
 HasInvalidValue (encodes rows from to) = AreNoSettings rows
 HasInvalidValue (serves rows address connections operands) = IsNoService rows connections operands
+HasInvalidValue (serves_many rows address operands) = IsNoServiceOfMany rows operands
 HasInvalidValue _ = ⊥
 
 -- a refusal after clap accepted the arguments: out of memory, or a refused value

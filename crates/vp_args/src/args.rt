@@ -12,10 +12,11 @@ ghost use Rattle.vp_args.specs.Args.{AreSettings, Gains, IsDecimal, IsFlag, IsMi
 ghost use Rattle.vp_args.specs.Args.{IsNoNaming, IsNoPlanFor, IsNumber, IsOfValue, IsTaskFor, IsRefusalFor, decode_app};
 ghost use Rattle.vp_args.specs.Args.{encode_app, file_rules, flag_rule, frame_rules, info_app, macroblock_rules};
 ghost use Rattle.vp_args.specs.Args.{operand_rule, operands_rule, program, serve_app, serves, setting_rule, vp8_app};
-ghost use Rattle.vp_args.specs.Args.{with_rules};
+ghost use Rattle.vp_args.specs.Args.{asks_many, many_rules, service_rules, stream_rules, turns_of};
 
 use crate::encode_args::{EncodeArgs, EncodeOptions};
-use crate::serve_args::{NamedFile, ServeArgs};
+use crate::many_args::{asks_many, serve_many_task};
+use crate::serve_args::{NamedFile, ServeArgs, ServeManyArgs};
 use clap::{Arg, ArgAction, ArgMatches, Command, Error};
 use std::alloc::{AllocError, Global};
 
@@ -36,6 +37,8 @@ pub enum Task<'a> {
     },
     /// Serve streams over HTTP.
     Serve(ServeArgs<'a>),
+    /// Serve streams over HTTP to many connections at once.
+    ServeMany(ServeManyArgs<'a>),
     /// No such task.
     Nothing,
 }
@@ -82,10 +85,10 @@ pub fn read_args<'a>(alloc: Global, words: &'a [&'a str]) -> Result<Task<'a>, Re
 
 fn parse_args<'a>(alloc: Global, words: &'a [&'a str]) -> Result<ArgMatches<'a>, Error>
     ensures found { IfOk result (λ m. (faults_of (texts words.now) ≡ [])
-        × (subcommand_rows_of m ≡ subcommand_of program (texts words.now))) }
+        × (subcommand_rows_of m ≡ subcommand_of (program (asks_many (texts words.now))) (texts words.now))) }
     ensures fault { IfErr result (HasKind (faults_of (texts words.now))) }
 {
-    program(alloc)?.try_get_matches_from(words)
+    program(alloc, asks_many(words))?.try_get_matches_from(words)
 }
 
 // Converts parsed arguments into a task.
@@ -102,13 +105,13 @@ fn read_matches<'a>(alloc: Global, matches: &ArgMatches<'a>) -> Result<Task<'a>,
     }
 }
 
-fn program<'a>(alloc: Global) -> Result<Command<'a>, AllocError>
-    ensures { IfOk result (λ c. app_of c ≡ program) }
+fn program<'a>(alloc: Global, many: bool) -> Result<Command<'a>, AllocError>
+    ensures { IfOk result (λ c. app_of c ≡ program many) }
 {
     let decodes = with_made(Ok(vp8_command(alloc)), decode_command(alloc));
     let encodes = with_made(decodes, encode_command(alloc));
     let tells = with_made(encodes, info_command(alloc));
-    with_made(tells, serve_command(alloc))
+    with_made(tells, serve_command(alloc, many))
 }
 
 // The program's command, without its subcommands.
@@ -294,48 +297,98 @@ fn info_command<'a>(alloc: Global) -> Result<Command<'a>, AllocError>
         .arg(operand(alloc, "IN", "The IVF file, or - for standard input"))
 }
 
-fn serve_command<'a>(alloc: Global) -> Result<Command<'a>, AllocError>
-    ensures app { IfOk result (λ c. app_of c ≡ serve_app) }
+fn serve_command<'a>(alloc: Global, many: bool) -> Result<Command<'a>, AllocError>
+    ensures app { IfOk result (λ c. app_of c ≡ serve_app many) }
     ensures local { IfOk result (λ c. (fields_of c).has_globals ≡ false) }
 {
     let command = Command::new(alloc, "serve").about(
         "Serves frames of IVF files over HTTP, one connection after another, then ends",
     );
+    let service = with_service_settings(alloc, many, Ok(command));
+    let settings = with_many_settings(alloc, many, service);
+    with_streams(alloc, settings)
+}
+
+// Adds the options of a service.
+fn with_service_settings<'a>(
+    alloc: Global,
+    many: bool,
+    command: Result<Command<'a>, AllocError>,
+) -> Result<Command<'a>, AllocError>
+    ensures { IfOk result (λ new. (old : _) × (command.entry ≡ Ok old) × Gains old (service_rules many) new) }
+{
     let listen = setting(
         alloc,
         "listen",
         "The address and port to listen on, as 127.0.0.1:8080",
     )
     .required(true);
-    let command = with_arg(Ok(command), listen);
     let connections = setting(alloc, "connections", "The number of connections to serve").required(
-        true,
+        !many,
     );
-    let command = with_arg(command, connections);
-    let command = with_arg(
-        command,
-        setting(
-            alloc,
-            "cache",
-            "The number of decoded pictures to cache, 1 to 4096 [default: 16]",
-        ),
+    let cache = setting(
+        alloc,
+        "cache",
+        "The number of decoded pictures to cache, 1 to 4096 [default: 16]",
     );
-    let command = with_arg(
-        command,
-        flag(
-            alloc,
-            "show-address",
-            "Prints the address and port, which shows the port chosen for port 0",
-        ),
+    let show_address = flag(
+        alloc,
+        "show-address",
+        "Prints the address and port, which shows the port chosen for port 0",
     );
     with_arg(
-        command,
-        operands(
-            alloc,
-            "NAME=FILE",
-            "The name of a stream and its IVF file, or - for standard input",
-        ),
+        with_arg(with_arg(with_arg(command, listen), connections), cache),
+        show_address,
     )
+}
+
+// Adds the options for many connections at once.
+fn with_many_settings<'a>(
+    alloc: Global,
+    many: bool,
+    command: Result<Command<'a>, AllocError>,
+) -> Result<Command<'a>, AllocError>
+    ensures { IfOk result (λ new. (old : _) × (command.entry ≡ Ok old) × Gains old (many_rules many) new) }
+{
+    let max_connections = setting(
+        alloc,
+        "max-connections",
+        "Serves up to this many connections at once, 1 to 64; --connections may then be left out",
+    )
+    .required(many);
+    let idle_timeout = setting(
+        alloc,
+        "idle-timeout",
+        "Seconds after which an idle connection is closed, 1 to 86400 [default: 30]",
+    );
+    let follow = flag(alloc, "follow", "Reads the files on as they grow");
+    let poll_interval = setting(
+        alloc,
+        "poll-interval",
+        "Milliseconds between two polls of the files, 1 to 60000 [default: 100]",
+    );
+    with_arg(
+        with_arg(
+            with_arg(with_arg(command, max_connections), idle_timeout),
+            follow,
+        ),
+        poll_interval,
+    )
+}
+
+// Adds the streams.
+fn with_streams<'a>(
+    alloc: Global,
+    command: Result<Command<'a>, AllocError>,
+) -> Result<Command<'a>, AllocError>
+    ensures { IfOk result (λ new. (old : _) × (command.entry ≡ Ok old) × Gains old stream_rules new) }
+{
+    let streams = operands(
+        alloc,
+        "NAME=FILE",
+        "The name of a stream and its IVF file, or - for standard input",
+    );
+    with_arg(command, streams)
 }
 
 fn setting<'a>(alloc: Global, name: &'a str, help: &'a str) -> Arg<'a>
@@ -379,21 +432,21 @@ fn operands<'a>(alloc: Global, name: &'a str, help: &'a str) -> Arg<'a>
 }
 
 // Returns the first value of an argument.
-fn text_of<'a>(found: &ArgMatches<'a>, name: &str) -> Option<&'a str>
+pub(crate) fn text_of<'a>(found: &ArgMatches<'a>, name: &str) -> Option<&'a str>
     ensures { option_map (λ t. t.now) result ≡ first_of name.now (rows_of (found_of found.now)) }
 {
     found.get_str(name)
 }
 
 // Returns all values of an argument.
-fn texts_of<'a, 'b>(found: &'b ArgMatches<'a>, name: &str) -> Option<&'b [&'a str]>
+pub(crate) fn texts_of<'a, 'b>(found: &'b ArgMatches<'a>, name: &str) -> Option<&'b [&'a str]>
     ensures { option_map (λ all. texts all.now) result ≡ all_of name.now (rows_of (found_of found.now)) }
 {
     found.get_strs(name)
 }
 
 // Returns whether a flag is set.
-fn is_set(found: &ArgMatches<'_>, name: &str) -> bool
+pub(crate) fn is_set(found: &ArgMatches<'_>, name: &str) -> bool
     ensures { IsFlag (one_of name.now (rows_of (found_of found.now))) result }
 {
     found.get_flag(name)
@@ -474,7 +527,7 @@ fn encode_options(found: &ArgMatches<'_>) -> Result<EncodeOptions, Refusal>
 }
 
 // Returns the 32-bit number of an option, or its default.
-fn count(
+pub(crate) fn count(
     found: &ArgMatches<'_>,
     option: &str,
     usual: u32,
@@ -524,6 +577,17 @@ fn serve_task<'a>(alloc: Global, found: &ArgMatches<'a>) -> Result<Task<'a>, Ref
     ensures plan { IfOk result (IsTaskFor (asked_at (codes "serve") (rows_of (found_of found.now)))) }
     ensures refusal { IfErr result (IsNoPlanFor (asked_at (codes "serve") (rows_of (found_of found.now)))) }
 {
+    match text_of(found, "max-connections") {
+        Some(_) => serve_many_task(alloc, found),
+        None => serve_turns_task(alloc, found),
+    }
+}
+
+// The task of serving one connection after another.
+fn serve_turns_task<'a>(alloc: Global, found: &ArgMatches<'a>) -> Result<Task<'a>, Refusal>
+    ensures plan { IfOk result (IsTaskFor (turns_of (rows_of (found_of found.now)))) }
+    ensures refusal { IfErr result (IsNoPlanFor (turns_of (rows_of (found_of found.now)))) }
+{
     match (
         text_of(found, "listen"),
         text_of(found, "connections"),
@@ -562,7 +626,7 @@ fn serve_task_args<'a>(
 }
 
 // Returns the number of cached pictures, 1 to 4096; the default is 16.
-fn kept_pictures(found: &ArgMatches<'_>) -> Result<u32, Refusal>
+pub(crate) fn kept_pictures(found: &ArgMatches<'_>) -> Result<u32, Refusal>
     ensures number { IfOk result (λ n. IsNumber (first_of (codes "cache") (rows_of (found_of found.now))) 16 n × (0 < n)
         × (n ≤ 4096)) }
     ensures refusal { IfErr result (λ r. IsOfValue r × IsNoCache
@@ -576,7 +640,10 @@ fn kept_pictures(found: &ArgMatches<'_>) -> Result<u32, Refusal>
 }
 
 // Splits operands of the form `NAME=FILE` at the first `=`.
-fn named_files<'a>(alloc: Global, operands: &[&'a str]) -> Result<Vec<NamedFile<'a>>, Refusal>
+pub(crate) fn named_files<'a>(
+    alloc: Global,
+    operands: &[&'a str],
+) -> Result<Vec<NamedFile<'a>>, Refusal>
     ensures named { IfOk result (λ streams. AreNamed (texts operands.now) streams.items) }
     ensures refusal { IfErr result (IsNoNaming (texts operands.now)) }
 {

@@ -4,9 +4,10 @@
 mod args;
 mod encode_args;
 mod laws;
+mod many_args;
 mod serve_args;
 
 pub use args::{Refusal, Task, read_args};
 pub use encode_args::{EncodeArgs, EncodeOptions};
 pub use laws::{decode_words, info_words};
-pub use serve_args::{NamedFile, ServeArgs};
+pub use serve_args::{NamedFile, ServeArgs, ServeManyArgs};

@@ -26,3 +26,21 @@ pub struct ServeArgs<'a> {
     pub streams: Vec<NamedFile<'a>>,
     ghost cache_in_range: { 0 < cache × cache ≤ 4096 },
 }
+
+/// The arguments of `vp8 serve --max-connections`.
+#[derive(Drop)]
+pub struct ServeManyArgs<'a> {
+    /// The address, the streams, and the number of connections to serve, which is 4,294,967,295 by default.
+    pub service: ServeArgs<'a>,
+    /// The most connections that are open at once.
+    pub max_connections: u32,
+    /// The seconds after which an idle connection is closed.
+    pub idle_timeout: u32,
+    /// Whether the files are read on as they grow.
+    pub follow: bool,
+    /// The milliseconds between two polls of the files.
+    pub poll_interval: u32,
+    ghost connections_in_range: { 0 < max_connections × max_connections ≤ 64 },
+    ghost timeout_in_range: { 0 < idle_timeout × idle_timeout ≤ 86400 },
+    ghost interval_in_range: { 0 < poll_interval × poll_interval ≤ 60000 },
+}

@@ -1,9 +1,11 @@
 //! Tests of the server over a transport in memory whose log is known: each kind of action, with the transfers that are
-//! expected written by hand. There is nothing here but tests.
+//! expected written by hand; and over sockets. There is nothing here but tests.
 #![tactic(auto)]
 
 mod entry;
 #[cfg(test)]
 mod script;
+#[cfg(test)]
+mod sockets;
 #[cfg(test)]
 mod traces;

@@ -111,7 +111,7 @@ peer ends 0
 closes 0 PeerEnded
 ";
 
-fn options(max_connections: usize, total_connections: u32) -> ServeOptions {
+pub(crate) fn options(max_connections: usize, total_connections: u32) -> ServeOptions {
     ServeOptions {
         max_connections,
         total_connections,
@@ -120,14 +120,14 @@ fn options(max_connections: usize, total_connections: u32) -> ServeOptions {
     }
 }
 
-fn names(alloc: Global) -> Result<Vec<ByteList>, AllocError> {
+pub(crate) fn names(alloc: Global) -> Result<Vec<ByteList>, AllocError> {
     let mut names = Vec::new(alloc);
     names.push(ByteList::from_vec(b"a".to_vec(alloc)?))?;
     Ok(names)
 }
 
 /// A server of one stream, `a`, which was fed nothing.
-fn server(alloc: Global, options: ServeOptions) -> Option<ServerLoop> {
+pub(crate) fn server(alloc: Global, options: ServeOptions) -> Option<ServerLoop> {
     let names = names(alloc).ok()?;
     let hub = Hub::new(alloc, names, Limits::usual()).ok()?;
     Some(ServerLoop::new(alloc, hub, options))

@@ -1,6 +1,6 @@
-use Rattle.std.proofs.Common.{rules}
+use Rattle.std.proofs.Common.{rules, ap}
 use Rattle.vp_app.specs.Commands.{read_side, written_side}
-use Rattle.vp_app.proofs.CommandLemmas.{does_decode, does_encode}
+use Rattle.vp_app.proofs.CommandLemmas.{does_decode, does_encode, does_serve, does_serve_many}
 use Rattle.vp_app.proofs.program.run_task.Goals as goal
 
 pub returns-in-Decode-clause-does : goal.returns-in-Decode-clause-does
@@ -16,3 +16,19 @@ returns-in-Encode-clause-does g c = λ asked h.
     (read_side g.R.Read.remaining c.args.input.now) (read_side g.R.Read.remaining c.encode.new.input)
     (written_side g.W.Write.contents c.args.output.now) (written_side g.W.Write.contents c.encode.new.output)
     (search rules) h c.report_encode.ensures.by c.encode.ensures.encoded
+
+pub returns-in-Serve-clause-does : goal.returns-in-Serve-clause-does
+returns-in-Serve-clause-does g c = λ asked h.
+    does_serve asked c.args.task.now c.in-Serve.service c.serve.result c.report_serve.result
+    (read_side g.R.Read.remaining c.args.input.now) (read_side g.R.Read.remaining c.serve.new.input)
+    (written_side g.W.Write.contents c.args.output.now) (written_side g.W.Write.contents c.serve.new.output)
+    (search rules) h c.report_serve.ensures.by c.serve.ensures.served
+    (λ e. ap (λ w. written_side g.W.Write.contents w) (c.serve.ensures.quiet e))
+
+pub returns-in-ServeMany-clause-does : goal.returns-in-ServeMany-clause-does
+returns-in-ServeMany-clause-does g c = λ asked h.
+    does_serve_many asked c.args.task.now c.in-ServeMany.many c.serve_many.result c.report_serve_many.result
+    (read_side g.R.Read.remaining c.args.input.now) (read_side g.R.Read.remaining c.serve_many.new.input)
+    (written_side g.W.Write.contents c.args.output.now) (written_side g.W.Write.contents c.serve_many.new.output)
+    (search rules) h c.report_serve_many.ensures.by c.serve_many.ensures.served
+    (λ e. ap (λ w. written_side g.W.Write.contents w) (c.serve_many.ensures.quiet e))

@@ -1,8 +1,8 @@
-use Rattle.std.proofs.Common.{◌≡◌, rules, inl, inr}
-use Rattle.std.specs.Prelude.{codes, Some, None}
+use Rattle.std.proofs.Common.{rules, inl, inr}
+use Rattle.std.specs.Prelude.{codes}
 use Rattle.clap.specs.Walk.{one_of, first_of}
 use Rattle.clap.specs.Words.{rows_of, found_of}
-use Rattle.vp_args.specs.Args.{decodes, IsFlag}
+use Rattle.vp_args.specs.Args.{decodes}
 use Rattle.vp_args.proofs.ArgsLemmas.{no_operands, to_decode}
 use Rattle.vp_args.proofs.args.decode_task.Goals as goal
 use Rattle.vp_args.proofs.args.decode_task.Goals.{in_default-via-in-Some+in_default, in_default-via-in_default}

@@ -1,11 +1,11 @@
-use Rattle.std.proofs.Common.{◌≡◌, rules, inl, inr, IfOk, IfErr}
-use Rattle.std.specs.Prelude.{codes, Some, None}
+use Rattle.std.proofs.Common.{rules, inl, inr, IfOk, IfErr}
+use Rattle.std.specs.Prelude.{codes}
 use Rattle.clap.specs.Walk.{all_of, first_of, texts}
 use Rattle.clap.specs.Words.{rows_of, found_of}
 use Rattle.vp_args.specs.Args.{IsNoPlanFor, IsTaskFor}
 use Rattle.vp_args.proofs.ArgsLemmas.{no_service, to_serve}
-use Rattle.vp_args.proofs.args.serve_task.Goals as goal
-use Rattle.vp_args.proofs.args.serve_task.Goals.{in_default-via-in-Some+in-Some+in_default, in_default-via-in-Some+in_default, in_default-via-in_default}
+use Rattle.vp_args.proofs.args.serve_turns_task.Goals as goal
+use Rattle.vp_args.proofs.args.serve_turns_task.Goals.{in_default-via-in-Some+in-Some+in_default, in_default-via-in-Some+in_default, in_default-via-in_default}
 
 pub returns-in-Some-Some-Some-clause-plan : goal.returns-in-Some-Some-Some-clause-plan
 returns-in-Some-Some-Some-clause-plan c =

@@ -1,0 +1,293 @@
+//! The command `vp8 serve --max-connections`: feeds files into a hub, and then serves many connections at once.
+
+ghost use Rattle.std.specs.Prelude.{◌≡◌, ℕ, IfOk, List, None, false, true};
+ghost use Rattle.vp_base.specs.Counted.{counted_remaining};
+ghost use Rattle.vp_app.specs.Many.{IsFedBefore, ServesMany, WorksLoop, options_of};
+ghost use Rattle.vp_app.specs.Serving.{AreFilesFed, IsFileFed};
+
+use crate::service::{ServiceFault, feed_stream, new_hub, print_address, stream_names};
+use std::alloc::{AllocError, Global};
+use std::io::{Read, Write};
+use std::net::{Net, TcpListener, TcpStream};
+use std::rt::Files;
+use std::time::Clock;
+use std::{fs, io};
+use vp_args::{NamedFile, ServeArgs, ServeManyArgs};
+use vp_base::{ByteList, Counted};
+use vp_hub::Hub;
+use vp_mio::{FollowedFile, MioTransport};
+use vp_serve::{ServeOptions, ServerLoop, catch_up, serve};
+
+/// The most milliseconds between two looks at the clock.
+const LONGEST_WAIT: u32 = 250;
+
+/// The reasons for which connections are not served.
+#[derive(Drop)]
+pub enum ManyFault {
+    /// The names are not valid names for streams.
+    Names,
+    /// Out of memory.
+    Memory,
+    /// The file of the stream at an index can't be opened.
+    Open(usize, io::Error),
+    /// The file of the stream at an index can't be opened, read or fed.
+    Feed(usize, ServiceFault),
+    /// The program can't listen on the address.
+    Listen(io::Error),
+    /// The address can't be printed.
+    Print(io::Error),
+    /// There is no clock, or no means to wait for sockets.
+    System(io::Error),
+}
+
+impl From<ServiceFault> for ManyFault {
+    fn from(fault: ServiceFault) -> ManyFault {
+        match fault {
+            ServiceFault::Names => ManyFault::Names,
+            _ => ManyFault::Memory,
+        }
+    }
+}
+
+impl From<AllocError> for ManyFault {
+    fn from(_: AllocError) -> ManyFault {
+        ManyFault::Memory
+    }
+}
+
+/// The files that are followed, with the names of their streams.
+#[derive(Drop)]
+struct Followed<'a, F: Read + Drop> {
+    names: Vec<ByteList>,
+    files: Vec<FollowedFile<'a, F>>,
+}
+
+/// Feeds the files, unless they are followed, and serves connections until the given number was served, which by default
+/// is no end. Returns whether no followed file had a fault; such faults are printed on `errors`.
+pub(crate) fn serve_many<
+    H: Files + AllocGlobal + Clock + Net<Stream = TcpStream, Listener = TcpListener>,
+    R: Read,
+    W: Write,
+    E: Write,
+>(
+    rt: &H,
+    many: &ServeManyArgs<'_>,
+    input: &mut Counted<R>,
+    output: &mut Counted<W>,
+    errors: &mut Counted<E>,
+) -> Result<bool, ManyFault>
+    ensures served { ServesMany many.now result (counted_remaining R.remaining input.old)
+        (counted_remaining R.remaining input.new) }
+
+    // Only the address is printed, if that is asked for.
+    ensures quiet { many.now.service.show_address ≡ false → output.new ≡ output.old }
+{
+    let mut hub = new_hub(rt.alloc(), &many.service)?;
+    let followed = feed_or_follow(rt, &mut hub, many, input)?;
+    run(rt, hub, followed, many, output, errors)
+}
+
+// Feeds each stream its file to its end, or opens the files that are followed.
+fn feed_or_follow<'a, H: Files + AllocGlobal, R: Read>(
+    rt: &H,
+    hub: &mut Hub,
+    many: &'a ServeManyArgs<'_>,
+    input: &mut Counted<R>,
+) -> Result<Followed<'a, H::File>, ManyFault>
+    ensures { IfOk result (λ _. IsFedBefore many.now hub.old.state hub.new.state
+        (counted_remaining R.remaining input.old) (counted_remaining R.remaining input.new)) }
+{
+    if many.follow {
+        return follow_all(rt, &many.service.streams);
+    }
+    feed_each(rt, hub, &many.service.streams, input)?;
+    Ok(Followed {
+        names: Vec::new(rt.alloc()),
+        files: Vec::new(rt.alloc()),
+    })
+}
+
+// Opens the file of each stream.
+fn follow_all<'a, H: Files + AllocGlobal>(
+    rt: &H,
+    streams: &'a [NamedFile<'_>],
+) -> Result<Followed<'a, H::File>, ManyFault> {
+    let mut files = Vec::new(rt.alloc());
+    for (place, stream) in streams.iter().enumerate() {
+        let file = match fs::open(rt, stream.file) {
+            Ok(file) => FollowedFile::new(stream.name, stream.file, file),
+            Err(error) => return Err(ManyFault::Open(place, error)),
+        };
+        if files.push(file).is_err() {
+            return Err(ManyFault::Memory);
+        }
+    }
+    Ok(Followed {
+        names: stream_names(rt.alloc(), streams)?,
+        files,
+    })
+}
+
+// Feeds each stream its file, one after another, and marks its end.
+fn feed_each<H: Files + AllocGlobal, R: Read>(
+    rt: &H,
+    hub: &mut Hub,
+    streams: &[NamedFile<'_>],
+    input: &mut Counted<R>,
+) -> Result<(), ManyFault>
+    ensures { IfOk result (λ _. AreFilesFed streams.now hub.old.state hub.new.state
+        (counted_remaining R.remaining input.old) (counted_remaining R.remaining input.new)) }
+{
+    let mut place: usize = 0;
+    for stream in streams {
+        feed_next(rt, hub, stream, place, input)?;
+        place = place.saturating_add(1);
+    }
+    Ok(())
+}
+
+// Feeds the stream at an index its file, and marks its end.
+fn feed_next<H: Files + AllocGlobal, R: Read>(
+    rt: &H,
+    hub: &mut Hub,
+    stream: &NamedFile<'_>,
+    place: usize,
+    input: &mut Counted<R>,
+) -> Result<(), ManyFault>
+    ensures { IfOk result (λ _. IsFileFed stream.now hub.old.state hub.new.state
+        (counted_remaining R.remaining input.old) (counted_remaining R.remaining input.new)) }
+{
+    match feed_stream(rt, hub, stream, input) {
+        Ok(()) => Ok(()),
+        Err(fault) => Err(ManyFault::Feed(place, fault)),
+    }
+}
+
+// Reads the followed files to their ends for now, listens, and serves.
+fn run<
+    'a,
+    H: Files + AllocGlobal + Clock + Net<Stream = TcpStream, Listener = TcpListener>,
+    W: Write,
+    E: Write,
+>(
+    rt: &'a H,
+    hub: Hub,
+    followed: Followed<'a, H::File>,
+    many: &ServeManyArgs<'_>,
+    output: &mut Counted<W>,
+    errors: &'a mut Counted<E>,
+) -> Result<bool, ManyFault>
+    ensures works { IfOk result (λ well. WorksLoop (options_of many.now) hub.state well) }
+    ensures quiet { many.now.service.show_address ≡ false → output.new ≡ output.old }
+{
+    let alloc = rt.alloc();
+    let mut server = ServerLoop::new(alloc, hub, options_of(many));
+    let Followed { names, files } = followed;
+    let mut transport = match MioTransport::new(rt, rt, alloc, longest_wait(many), files, errors) {
+        Ok(transport) => transport,
+        Err(error) => return Err(ManyFault::System(error)),
+    };
+    catch_up(alloc, &mut server, &mut transport, &names);
+    let listener = listen(rt, &many.service, output)?;
+    if let Err(error) = transport.listen(listener) {
+        return Err(ManyFault::System(error));
+    }
+    let over = serve(alloc, &mut server, &mut transport, &names);
+    Ok(is_well(over, transport.has_stopped_file()))
+}
+
+// Whether all connections were served, and no followed file had a fault.
+fn is_well(over: bool, stopped: bool) -> bool
+    ensures { result ≡ true → over ≡ true }
+{
+    over && !stopped
+}
+
+fn options_of(many: &ServeManyArgs<'_>) -> ServeOptions
+    ensures { result ≡ options_of many.now }
+{
+    ServeOptions {
+        max_connections: many.max_connections as usize,
+        total_connections: many.service.connections,
+        idle_timeout: u64::from(many.idle_timeout) * 1000,
+        poll_interval: u64::from(many.poll_interval),
+    }
+}
+
+// The most milliseconds that are waited for sockets: a quarter of the interval at which files are polled.
+fn longest_wait(many: &ServeManyArgs<'_>) -> u64 {
+    if many.follow {
+        u64::from((many.poll_interval / 4).max(1).min(LONGEST_WAIT))
+    } else {
+        u64::from(LONGEST_WAIT)
+    }
+}
+
+// Listens on the address, and prints it if that is asked for.
+fn listen<H: Net<Stream = TcpStream, Listener = TcpListener>, W: Write>(
+    rt: &H,
+    service: &ServeArgs<'_>,
+    output: &mut Counted<W>,
+) -> Result<TcpListener, ManyFault>
+    ensures quiet { service.now.show_address ≡ false → output.new ≡ output.old }
+{
+    let listener = match TcpListener::bind(rt, service.listen) {
+        Ok(listener) => listener,
+        Err(error) => return Err(ManyFault::Listen(error)),
+    };
+    if service.show_address {
+        if let Err(error) = print_address(&listener, output) {
+            return Err(ManyFault::Print(error));
+        }
+    }
+    Ok(listener)
+}
+
+/// Prints what was wrong, where, and what to do.
+pub(crate) fn print_fault<E: Write>(
+    fault: &ManyFault,
+    many: &ServeManyArgs<'_>,
+    errors: &mut Counted<E>,
+) {
+    let address = many.service.listen;
+    let _ = match fault {
+        ManyFault::Names => writeln!(
+            errors,
+            "vp8: Names: give 1 to 16 streams, each with a name of its own of 1 to 32 of the characters a-z, 0-9, - and _"
+        ),
+        ManyFault::Memory => writeln!(errors, "vp8: Memory"),
+        ManyFault::Open(place, error) => {
+            let stream = stream_at(many, *place);
+            let (name, file) = (stream.name, stream.file);
+            writeln!(
+                errors,
+                "vp8: {name}={file}: the file can't be opened: {error}"
+            )
+        }
+        ManyFault::Feed(place, fault) => {
+            let stream = stream_at(many, *place);
+            let (name, file) = (stream.name, stream.file);
+            writeln!(
+                errors,
+                "vp8: {name}={file}: {fault}: the file can't be opened, or read to its end"
+            )
+        }
+        ManyFault::Listen(error) => writeln!(
+            errors,
+            "vp8: can't listen on {address}: {error}; give another ADDRESS:PORT by --listen"
+        ),
+        ManyFault::Print(error) => writeln!(
+            errors,
+            "vp8: the address can't be printed on standard output: {error}"
+        ),
+        ManyFault::System(error) => writeln!(errors, "vp8: sockets can't be waited for: {error}"),
+    };
+}
+
+// The stream at an index.
+fn stream_at<'a>(many: &ServeManyArgs<'a>, place: usize) -> NamedFile<'a> {
+    match many.service.streams.get(place) {
+        Some(stream) => *stream,
+        None => NamedFile { name: "", file: "" },
+    }
+}
