@@ -4,7 +4,6 @@ ghost use Rattle.std.specs.Prelude.{◌<◌};
 
 use crate::check::equal;
 use std::alloc::Global;
-use std::test::Fail;
 use vp_base::{Counted, Dim, FailAt, Limits};
 use vp_ivf::{FeedError, FileFault, IvfHead, Reader, WriteFault, Writer};
 
@@ -204,24 +203,27 @@ fn fails_at_each_write(rt: HostRuntime) {
     assert!(rt; fails_after(rt.alloc(), dim, 2, &FILE[..44]));
 }
 
-fn is_told_as(alloc: Global, fault: FileFault, name: &str) -> Result<bool, Fail> {
-    Ok(format!(in alloc; "{fault}")?.as_str() == name)
+fn is_told_as(alloc: Global, fault: FileFault, name: &str) -> bool {
+    match format!(in alloc; "{fault}") {
+        Ok(text) => text.as_str() == name,
+        Err(_) => false,
+    }
 }
 
+const NAMES: [(FileFault, &str); 6] = [
+    (FileFault::Signature, "Signature"),
+    (FileFault::Codec, "Codec"),
+    (FileFault::TooMany, "TooMany"),
+    (FileFault::PacketTooLarge, "PacketTooLarge"),
+    (FileFault::Torn, "Torn"),
+    (FileFault::Ended, "Ended"),
+];
+
 #[test]
-fn names_of_file_faults(rt: HostRuntime) -> Result<(), Fail> {
-    let names = [
-        (FileFault::Signature, "Signature"),
-        (FileFault::Codec, "Codec"),
-        (FileFault::TooMany, "TooMany"),
-        (FileFault::PacketTooLarge, "PacketTooLarge"),
-        (FileFault::Torn, "Torn"),
-        (FileFault::Ended, "Ended"),
-    ];
-    for (fault, name) in names {
-        assert!(rt; is_told_as(rt.alloc(), fault, name)?);
+fn names_of_file_faults(rt: HostRuntime) {
+    for (fault, name) in NAMES {
+        assert!(rt; is_told_as(rt.alloc(), fault, name));
     }
-    Ok(())
 }
 
 // Version, length and frame count of the head are not checked: packets begin at byte 32.

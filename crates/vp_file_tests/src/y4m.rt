@@ -2,7 +2,7 @@
 
 use crate::check::equal;
 use std::alloc::Global;
-use std::io::Write;
+use std::io::{Read, Write};
 use std::test::Fail;
 use vp_base::{Counted, Dim, FailAt, Limits, Picture};
 use vp_y4m::{PictureFault, Source, SourceFault, SourceHead, write_header, write_picture};
@@ -32,23 +32,28 @@ fn header_text(rt: HostRuntime) -> Result<(), Fail> {
     Ok(())
 }
 
+// Writes a picture of 16 by 15 to a file of another size.
+fn write_other<W: Write>(file: &mut Counted<W>, dim: Dim) -> Option<Result<(), PictureFault>> {
+    let other = Dim::new(16, 15, &Limits::usual()).ok()?;
+    let zeros = [0; 368];
+    Some(write_picture(file, dim, &zeros, other))
+}
+
 // Writes a picture of 16 by 16 and one of 16 by 15 to a file of 16 by 16, and returns both results.
 fn write_two<W: Write>(
     file: &mut Counted<W>,
 ) -> Option<(Result<(), PictureFault>, Result<(), PictureFault>)> {
     let dim = Dim::new(16, 16, &Limits::usual()).ok()?;
-    let other = Dim::new(16, 15, &Limits::usual()).ok()?;
     let first = write_picture(file, dim, &pixels(), dim);
-    Some((first, write_picture(file, dim, &[0; 368], other)))
+    Some((first, write_other(file, dim)?))
 }
 
 #[test]
-fn picture_of_another_size(rt: HostRuntime) -> Result<(), Fail> {
+fn picture_of_another_size(rt: HostRuntime) {
     let mut file = Counted::new(Vec::new(rt.alloc()));
     let fault = Err(PictureFault::SizeChange);
     equal(&rt, &write_two(&mut file), &Some((Ok(()), fault)));
     equal(&rt, &file.into_inner().len(), &390);
-    Ok(())
 }
 
 // Writes a header and a picture. Returns whether the header is written, and the result for the picture.
@@ -73,19 +78,33 @@ fn gives(alloc: Global, source: &mut Source<'_, &[u8]>, wanted: &[u8]) -> bool {
     }
 }
 
+/// Returns the number of pictures, up to four, and the fault after them.
+fn pictures_of<R: Read>(source: &mut Source<'_, R>) -> (u64, Option<SourceFault>) {
+    for pictures in 0..4u64 {
+        match source.next_picture() {
+            Ok(Some(_)) => {}
+            Ok(None) => return (pictures, None),
+            Err(fault) => return (pictures, Some(fault)),
+        }
+    }
+    (4, None)
+}
+
+/// Returns whether a file has one picture, and these are its bytes.
+fn is_one_picture(alloc: Global, file: &[u8], wanted: &[u8]) -> bool {
+    let mut reader = Counted::new(file);
+    let Ok(head) = SourceHead::read(&mut reader, Limits::usual()) else {
+        return false;
+    };
+    let mut source = Source::open(alloc, &mut reader, head);
+    gives(alloc, &mut source, wanted) && pictures_of(&mut source) == (0, None)
+}
+
 #[test]
-fn source_reads_back(rt: HostRuntime) -> Result<(), Fail> {
+fn source_reads_back(rt: HostRuntime) {
     let mut file = Counted::new(Vec::new(rt.alloc()));
     assert!(rt; write_file(&mut file) == Some((true, Ok(()))));
-    let file = file.into_inner();
-    let mut reader = Counted::new(file.as_slice());
-    let Ok(head) = SourceHead::read(&mut reader, Limits::usual()) else {
-        panic!(rt; "a head");
-    };
-    let mut source = Source::open(rt.alloc(), &mut reader, head);
-    assert!(rt; gives(rt.alloc(), &mut source, &pixels()));
-    assert!(rt; matches!(source.next_picture(), Ok(None)));
-    Ok(())
+    assert!(rt; is_one_picture(rt.alloc(), file.into_inner().as_slice(), &pixels()));
 }
 
 #[test]
@@ -113,7 +132,7 @@ fn said_of(line: &[u8], k: u64) -> Option<(u16, u16, u32, u32)> {
 }
 
 #[test]
-fn header_lines(rt: HostRuntime) -> Result<(), Fail> {
+fn header_lines(rt: HostRuntime) {
     let line = b"YUV4MPEG2  H02 W9 W007 Xany C420paldv I? F24:1\n";
     equal(&rt, &said_of(line, 2_000), &Some((7, 2, 24, 1)));
     let small = b"YUV4MPEG2 W1 H1\nFRAME\n";
@@ -122,58 +141,42 @@ fn header_lines(rt: HostRuntime) -> Result<(), Fail> {
     equal(&rt, &said_of(plain, 2_000), &Some((1, 1, 25, 1)));
     let mpeg2 = b"YUV4MPEG2 W1 H1 C420mpeg2\n";
     equal(&rt, &said_of(mpeg2, 2_000), &Some((1, 1, 25, 1)));
-    Ok(())
 }
 
 #[test]
-fn header_of_another_writer(rt: HostRuntime) -> Result<(), Fail> {
+fn header_of_another_writer(rt: HostRuntime) {
     let line =
         b"YUV4MPEG2 W35 H17 F30000:1001 Ip A1:1 C420jpeg XYSCSS=420JPEG XCOLORRANGE=LIMITED\n";
     equal(&rt, &said_of(line, 2_000), &Some((35, 17, 30_000, 1_001)));
-    Ok(())
 }
 
+/// Header lines that are refused, and their faults.
+const REFUSED: [(&[u8], SourceFault); 11] = [
+    (b"YUV4MPEG W1 H1\n", SourceFault::Magic),
+    (b"YUV4MPEG2 F30\n", SourceFault::Magic),
+    (b"YUV4MPEG2 W1 H1 F+30:1\n", SourceFault::Magic),
+    (&[b' '; 1_025], SourceFault::Magic),
+    (b"YUV4MPEG2 W1 C444\n", SourceFault::Size),
+    (b"YUV4MPEG2 W70000 H1\n", SourceFault::Size),
+    (b"YUV4MPEG2 W16000 H16000\n", SourceFault::Size),
+    (b"YUV4MPEG2 W1 H1 C444 Ii\n", SourceFault::Colour),
+    (b"YUV4MPEG2 W1 H1 Ip It\n", SourceFault::Interlaced),
+    (b"", SourceFault::Torn),
+    (&[b' '; 1_024], SourceFault::Torn),
+];
+
 #[test]
-fn header_faults(rt: HostRuntime) -> Result<(), Fail> {
-    let faults = [
-        (b"YUV4MPEG W1 H1\n".as_slice(), SourceFault::Magic),
-        (b"YUV4MPEG2 F30\n".as_slice(), SourceFault::Magic),
-        (b"YUV4MPEG2 W1 H1 F+30:1\n".as_slice(), SourceFault::Magic),
-        (&[b' '; 1_025], SourceFault::Magic),
-        (b"YUV4MPEG2 W1 C444\n".as_slice(), SourceFault::Size),
-        (b"YUV4MPEG2 W70000 H1\n".as_slice(), SourceFault::Size),
-        (b"YUV4MPEG2 W16000 H16000\n".as_slice(), SourceFault::Size),
-        (b"YUV4MPEG2 W1 H1 C444 Ii\n".as_slice(), SourceFault::Colour),
-        (
-            b"YUV4MPEG2 W1 H1 Ip It\n".as_slice(),
-            SourceFault::Interlaced,
-        ),
-        (b"".as_slice(), SourceFault::Torn),
-        (&[b' '; 1_024], SourceFault::Torn),
-    ];
-    for (line, fault) in faults {
+fn header_faults(rt: HostRuntime) {
+    for (line, fault) in REFUSED {
         equal(&rt, &head_of(line, 2_000).err(), &Some(fault));
     }
-    Ok(())
 }
 
 const SMALL: &[u8] = b"YUV4MPEG2 W1 H1\nFRAME\nabcFRAME x\ndefFRAME\ngh";
 
-// Returns the number of pictures, up to four, and the fault after them.
-fn pictures_of(source: &mut Source<'_, FailAt<&[u8]>>) -> (u64, Option<SourceFault>) {
-    for pictures in 0..4u64 {
-        match source.next_picture() {
-            Ok(Some(_)) => {}
-            Ok(None) => return (pictures, None),
-            Err(fault) => return (pictures, Some(fault)),
-        }
-    }
-    (4, None)
-}
-
-// Returns the number of pictures in the small file, and its fault, with a reader that fails after k reads.
-fn read_all(alloc: Global, k: u64) -> (u64, Option<SourceFault>) {
-    let mut reader = Counted::new(FailAt::new(SMALL, k));
+/// Returns the number of pictures in a file, and the fault after them, with a reader that fails after k reads.
+fn read_all(alloc: Global, file: &[u8], k: u64) -> (u64, Option<SourceFault>) {
+    let mut reader = Counted::new(FailAt::new(file, k));
     match SourceHead::read(&mut reader, Limits::usual()) {
         Ok(head) => pictures_of(&mut Source::open(alloc, &mut reader, head)),
         Err(fault) => (0, Some(fault)),
@@ -199,36 +202,36 @@ fn fault_after(k: u64) -> SourceFault {
 }
 
 #[test]
-fn fails_at_each_read(rt: HostRuntime) -> Result<(), Fail> {
+fn fails_at_each_read(rt: HostRuntime) {
     for k in 0..46u64 {
         let wanted = (pictures_before(k), Some(fault_after(k)));
-        equal(&rt, &read_all(rt.alloc(), k), &wanted);
+        equal(&rt, &read_all(rt.alloc(), SMALL, k), &wanted);
     }
-    Ok(())
+}
+
+/// Returns the number of reads for the header, how the pictures end, and the number of all reads.
+fn reads_of(alloc: Global, file: &[u8]) -> Option<(u64, (u64, Option<SourceFault>), u64)> {
+    let mut reader = Counted::new(FailAt::new(file, 2_000));
+    let head = SourceHead::read(&mut reader, Limits::usual()).ok()?;
+    let first = reader.reads();
+    let ended = pictures_of(&mut Source::open(alloc, &mut reader, head));
+    Some((first, ended, reader.reads()))
 }
 
 /// The header line's 16 bytes, the frame line's 6 and the 3 pixels are read one by one; one more read finds the end.
 #[test]
-fn reads_are_counted(rt: HostRuntime) -> Result<(), Fail> {
-    let file = b"YUV4MPEG2 W1 H1\nFRAME\nabc".as_slice();
-    let mut reader = Counted::new(FailAt::new(file, 2_000));
-    let Ok(head) = SourceHead::read(&mut reader, Limits::usual()) else {
-        panic!(rt; "a head");
-    };
-    equal(&rt, &reader.reads(), &16);
-    let ended = pictures_of(&mut Source::open(rt.alloc(), &mut reader, head));
-    equal(&rt, &(ended, reader.reads()), &((1, None), 26));
-    Ok(())
+fn reads_are_counted(rt: HostRuntime) {
+    let file = b"YUV4MPEG2 W1 H1\nFRAME\nabc";
+    equal(&rt, &reads_of(rt.alloc(), file), &Some((16, (1, None), 26)));
 }
 
 /// After a failed read there are no more reads.
 #[test]
-fn a_failed_read_is_the_last(rt: HostRuntime) -> Result<(), Fail> {
+fn a_failed_read_is_the_last(rt: HostRuntime) {
     let mut reader = Counted::new(FailAt::new(SMALL, 3));
     let fault = SourceHead::read(&mut reader, Limits::usual()).err();
     equal(&rt, &fault, &Some(SourceFault::Device));
     equal(&rt, &reader.reads(), &4);
-    Ok(())
 }
 
 // Returns the results for header and picture, and the number of bytes written, with a writer that fails after k writes.
@@ -239,12 +242,11 @@ fn write_all(alloc: Global, k: u64) -> (Option<(bool, Result<(), PictureFault>)>
 }
 
 #[test]
-fn fails_at_each_write(rt: HostRuntime) -> Result<(), Fail> {
+fn fails_at_each_write(rt: HostRuntime) {
     let fault = Err(PictureFault::Device);
     equal(&rt, &write_all(rt.alloc(), 0), &(Some((false, fault)), 0));
     equal(&rt, &write_all(rt.alloc(), 1), &(Some((true, fault)), 41));
     equal(&rt, &write_all(rt.alloc(), 2), &(Some((true, fault)), 47));
-    Ok(())
 }
 
 /// The rows of Y, U and V follow each other; those of chroma have half of three pixels, rounded up.
@@ -259,24 +261,18 @@ fn planes_stand_in_order(rt: HostRuntime) -> Result<(), Fail> {
     Ok(())
 }
 
-/// Returns how the pictures of a file of one pixel end.
-fn end_of(alloc: Global, file: &[u8]) -> (u64, Option<SourceFault>) {
-    let mut reader = Counted::new(FailAt::new(file, 2_000));
-    match SourceHead::read(&mut reader, Limits::usual()) {
-        Ok(head) => pictures_of(&mut Source::open(alloc, &mut reader, head)),
-        Err(fault) => (0, Some(fault)),
-    }
-}
-
 /// The keyword of a line must be a whole word, not only a prefix of one.
 #[test]
-fn first_words_are_whole(rt: HostRuntime) -> Result<(), Fail> {
+fn first_words_are_whole(rt: HostRuntime) {
     let longer = b"YUV4MPEG22 W1 H1\nFRAME\nabc";
     let magic = Some(SourceFault::Magic);
-    equal(&rt, &end_of(rt.alloc(), longer), &(0, magic));
+    equal(&rt, &read_all(rt.alloc(), longer, 2_000), &(0, magic));
     let frames = b"YUV4MPEG2 W1 H1\nFRAMES\nabc";
-    equal(&rt, &end_of(rt.alloc(), frames), &(0, magic));
+    equal(&rt, &read_all(rt.alloc(), frames, 2_000), &(0, magic));
     let frames_and_word = b"YUV4MPEG2 W1 H1\nFRAME\nabcFRAMES x\nabc";
-    equal(&rt, &end_of(rt.alloc(), frames_and_word), &(1, magic));
-    Ok(())
+    equal(
+        &rt,
+        &read_all(rt.alloc(), frames_and_word, 2_000),
+        &(1, magic),
+    );
 }

@@ -4,6 +4,7 @@ ghost use Rattle.std.specs.Prelude.{◌<◌, ◌≤◌};
 
 use crate::check::equal;
 use std::alloc::{AllocError, Global};
+use std::process::Abort;
 use std::test::Fail;
 use vp_base::{Dim, Limits, Picture, Plane};
 use vp_inter::{
@@ -215,13 +216,18 @@ fn first_difference(plane: &Plane) -> Option<(PlaneVector, u8)>
     None
 }
 
-#[test]
-fn lanes_predict_as_pixels(rt: HostRuntime) -> Result<(), Fail> {
-    let mut plane = Plane::new(rt.alloc(), 48, 48, 0)?;
+/// Fills the rows of a plane of 48 by 48.
+fn fill_rows(rt: &impl Abort, plane: &mut Plane) {
     for y in 0..48 {
         assert!(rt; y < plane.height());
         fill(plane.row_mut(y), y);
     }
+}
+
+#[test]
+fn lanes_predict_as_pixels(rt: HostRuntime) -> Result<(), Fail> {
+    let mut plane = Plane::new(rt.alloc(), 48, 48, 0)?;
+    fill_rows(&rt, &mut plane);
     assert!(rt; 0 < plane.width() && 0 < plane.height());
     equal(&rt, &first_difference(&plane), &None);
     Ok(())
@@ -259,6 +265,19 @@ fn has_block(plane: &Plane, block: &[u8], size: usize, at: usize) -> bool {
     true
 }
 
+/// Returns whether the planes have the predicted blocks at their places, and all other pixels are 7.
+fn has_blocks(picture: &Picture, reference: &Plane, vector: PlaneVector) -> bool
+    requires wide { 0 < reference.now.width }
+    requires high { 0 < reference.now.height }
+{
+    let large = predict_block16(reference, 16, 16, vector, 0);
+    let middle = predict_block8(reference, 8, 8, vector, 0);
+    let small = predict_block4(reference, 8, 8, vector, 0);
+    has_block(picture.plane(0), &large, 16, 16)
+        && has_block(picture.plane(1), &middle, 8, 8)
+        && has_block(picture.plane(2), &small, 4, 8)
+}
+
 /// Returns whether blocks of each size, written to the planes of a picture of 7, are at their places, and all other
 /// pixels are unchanged.
 fn are_written(
@@ -272,34 +291,37 @@ fn are_written(
     requires columns { 48 ≤ dim.w }
     requires rows { 48 ≤ dim.h }
 {
-    let large = predict_block16(reference, 16, 16, vector, 0);
-    let middle = predict_block8(reference, 8, 8, vector, 0);
-    let small = predict_block4(reference, 8, 8, vector, 0);
     let mut picture = Picture::new(alloc, dim, 7)?;
     predict_into16(&mut picture, 0, 16, 16, reference, vector, 0);
     predict_into8(&mut picture, 1, 8, 8, reference, vector, 0);
     predict_into4(&mut picture, 2, 8, 8, reference, vector, 0);
-    Ok(
-        has_block(picture.plane(0), &large, 16, 16)
-            && has_block(picture.plane(1), &middle, 8, 8)
-            && has_block(picture.plane(2), &small, 4, 8),
-    )
+    Ok(has_blocks(&picture, reference, vector))
+}
+
+/// Fails the test if blocks with one of these vectors are written elsewhere.
+fn check_written(
+    rt: &impl Abort,
+    alloc: Global,
+    dim: Dim,
+    reference: &Plane,
+) -> Result<(), AllocError>
+    requires columns { 48 ≤ dim.w }
+    requires rows { 48 ≤ dim.h }
+{
+    assert!(rt; 0 < reference.width() && 0 < reference.height());
+    for (row, column) in [(0, 0), (16, -8), (3, 5), (-4000, 4001)] {
+        let vector = PlaneVector { row, column };
+        assert!(rt; are_written(alloc, dim, reference, vector)?);
+    }
+    Ok(())
 }
 
 #[test]
 fn blocks_are_written_where_they_stand(rt: HostRuntime) -> Result<(), Fail> {
-    let mut reference = Plane::new(rt.alloc(), 48, 48, 0)?;
-    for y in 0..48 {
-        assert!(rt; y < reference.height());
-        fill(reference.row_mut(y), y);
-    }
-    assert!(rt; 0 < reference.width() && 0 < reference.height());
     let Ok(dim) = Dim::new(48, 48, &Limits::usual()) else {
         panic!(rt; "a usual size");
     };
-    for (row, column) in [(0, 0), (16, -8), (3, 5), (-4000, 4001)] {
-        let vector = PlaneVector { row, column };
-        assert!(rt; are_written(rt.alloc(), dim, &reference, vector)?);
-    }
-    Ok(())
+    let mut reference = Plane::new(rt.alloc(), 48, 48, 0)?;
+    fill_rows(&rt, &mut reference);
+    Ok(check_written(&rt, rt.alloc(), dim, &reference)?)
 }

@@ -2,7 +2,9 @@
 
 ghost use Rattle.std.specs.Prelude.{◌≡◌};
 
+use crate::check::equal;
 use std::alloc::{AllocError, Global};
+use std::process::Abort;
 use vp_base::Plane;
 use vp_intra::{predict_chroma, predict_luma, predict_sub, predict_sub_modes};
 use vp_tables::{ChromaMode, LumaMode, SubMode};
@@ -105,37 +107,54 @@ const RIGHT_OF_FRAME: [u8; 16] = [
     95, 89, 106, 105, 89, 106, 105, 87, 106, 105, 87, 87, 105, 87, 87, 87,
 ];
 
+/// Fails the test if the plane has another size.
+fn check_size(rt: &impl Abort, plane: &Plane)
+    ensures width { plane.now.width ≡ 32 }
+    ensures height { plane.now.height ≡ 32 }
+{
+    assert_eq!(rt; plane.width(), 32);
+    assert_eq!(rt; plane.height(), 32);
+}
+
+/// Fails the test if a subblock is predicted otherwise.
+fn check_subs(rt: &impl Abort, plane: &Plane) {
+    check_size(rt, plane);
+    assert!(rt; predicts_subs(plane));
+    assert!(rt; predict_sub(plane, 12, 20, SubMode::Ld) == RIGHT_OF_MACROBLOCK);
+    assert!(rt; predict_sub(plane, 28, 20, SubMode::Ld) == RIGHT_OF_FRAME);
+    // The fifth mode is LD.
+    assert!(rt; predict_sub_modes(plane, 12, 20)[4] == RIGHT_OF_MACROBLOCK);
+}
+
 #[test]
 fn ten_subblock_modes(rt: HostRuntime) {
     let Ok(plane) = sample(rt.alloc()) else {
         panic!(rt; "memory");
     };
-    assert_eq!(rt; plane.width(), 32);
-    assert_eq!(rt; plane.height(), 32);
-    assert!(rt; predicts_subs(&plane));
-    assert!(rt; predict_sub(&plane, 12, 20, SubMode::Ld) == RIGHT_OF_MACROBLOCK);
-    assert!(rt; predict_sub(&plane, 28, 20, SubMode::Ld) == RIGHT_OF_FRAME);
-    // The fifth mode is LD.
-    assert!(rt; predict_sub_modes(&plane, 12, 20)[4] == RIGHT_OF_MACROBLOCK);
+    check_subs(&rt, &plane);
 }
 
 const ROW_OF_MOTION: [u8; 16] = [
     255, 220, 128, 255, 237, 187, 151, 129, 121, 127, 147, 181, 229, 255, 255, 206,
 ];
 
+/// Fails the test if a whole block is predicted otherwise.
+fn check_whole(rt: &impl Abort, plane: &Plane) {
+    check_size(rt, plane);
+    let mean = predict_luma(plane, 16, 16, LumaMode::Dc);
+    equal(rt, &mean[255], &108);
+    let motion = predict_luma(plane, 16, 16, LumaMode::Tm);
+    assert!(rt; &motion[48..64] == ROW_OF_MOTION.as_slice());
+    let outside = predict_chroma(plane, 0, 0, ChromaMode::V);
+    equal(rt, &outside[63], &127);
+    let beside = predict_chroma(plane, 0, 8, ChromaMode::H);
+    equal(rt, &beside[0], &129);
+}
+
 #[test]
 fn whole_modes(rt: HostRuntime) {
     let Ok(plane) = sample(rt.alloc()) else {
         panic!(rt; "memory");
     };
-    assert_eq!(rt; plane.width(), 32);
-    assert_eq!(rt; plane.height(), 32);
-    let mean = predict_luma(&plane, 16, 16, LumaMode::Dc);
-    assert_eq!(rt; mean[255], 108);
-    let motion = predict_luma(&plane, 16, 16, LumaMode::Tm);
-    assert!(rt; &motion[48..64] == ROW_OF_MOTION.as_slice());
-    let outside = predict_chroma(&plane, 0, 0, ChromaMode::V);
-    assert_eq!(rt; outside[63], 127);
-    let beside = predict_chroma(&plane, 0, 8, ChromaMode::H);
-    assert_eq!(rt; beside[0], 129);
+    check_whole(&rt, &plane);
 }

@@ -5,6 +5,7 @@ ghost use Rattle.vp_base.specs.Image.{macroblocks};
 
 use crate::check::equal;
 use std::alloc::{AllocError, Global};
+use std::process::Abort;
 use std::test::Fail;
 use vp_base::{Dim, Limits, Picture, Plane};
 use vp_bool::BoolDecoder;
@@ -129,7 +130,7 @@ fn strength(edge: u8, inner: u8, interior: u8, hev: u8) -> Level {
 /// Levels are clamped to 0..63: the segment's level before the deltas, and their sum after both deltas. Key frames have
 /// the delta of intra macroblocks too. The interior limit is at least 1.
 #[test]
-fn levels_are_held(rt: HostRuntime) -> Result<(), Fail> {
+fn levels_are_held(rt: HostRuntime) {
     let Ok(dim) = Dim::new(16, 16, &Limits::usual()) else {
         panic!(rt; "the size is refused");
     };
@@ -158,7 +159,6 @@ fn levels_are_held(rt: HostRuntime) -> Result<(), Fail> {
         &level_with(dim, 1, 7, None, [0, 0]),
         &strength(7, 3, 1, 0),
     );
-    Ok(())
 }
 
 /// Differences and filter values are clamped to -128..127.
@@ -190,26 +190,44 @@ fn steps_are_held(rt: HostRuntime) {
     );
 }
 
-#[test]
-fn filter_two_macroblocks(rt: HostRuntime) -> Result<(), Fail> {
-    let Ok(dim) = Dim::new(32, 16, &Limits::usual()) else {
-        panic!(rt; "the size is refused");
-    };
-    let mut picture = Picture::new(rt.alloc(), dim, 128)?;
-    picture.write_block::<16>(0, 0, 0, &[100; 256]);
-    picture.write_block::<16>(0, 16, 0, &[110; 256]);
+fn flat_block(pixel: u8) -> [u8; 256] {
+    [pixel; 256]
+}
+
+/// Returns a filtered picture of two macroblocks: 100 beside 110 in luma, and 128 in chroma.
+fn two_macroblocks(alloc: Global) -> Option<Picture> {
+    let dim = Dim::new(32, 16, &Limits::usual()).ok()?;
+    let mut picture = Picture::new(alloc, dim, 128).ok()?;
+    picture.write_block::<16>(0, 0, 0, &flat_block(100));
+    picture.write_block::<16>(0, 16, 0, &flat_block(110));
     filter_picture(&mut picture, &[level(dim, false); 2]);
+    Some(picture)
+}
+
+/// Fails the test if one of the plane's first `count` rows is another one.
+fn rows_are(rt: &impl Abort, plane: &Plane, count: usize, row: &[u8]) {
+    for y in 0..count {
+        assert!(rt; y < plane.height());
+        equal(rt, &plane.row(y), &row);
+    }
+}
+
+/// Fails the test if not only the edge between the macroblocks is smoothed.
+fn check_two(rt: &impl Abort, picture: &Picture) {
     let mut row = [100; 32];
     row[12..20].copy_from_slice(&[100, 101, 103, 104, 106, 107, 109, 110]);
     row[20..].fill(110);
-    for y in 0..16 {
-        equal(&rt, &picture.plane(0).row(y), &row.as_slice());
-    }
-    for y in 0..8 {
-        equal(&rt, &picture.plane(1).row(y), &[128; 16].as_slice());
-        equal(&rt, &picture.plane(2).row(y), &[128; 16].as_slice());
-    }
-    Ok(())
+    rows_are(rt, picture.plane(0), 16, &row);
+    rows_are(rt, picture.plane(1), 8, &[128; 16]);
+    rows_are(rt, picture.plane(2), 8, &[128; 16]);
+}
+
+#[test]
+fn filter_two_macroblocks(rt: HostRuntime) {
+    let Some(picture) = two_macroblocks(rt.alloc()) else {
+        panic!(rt; "a picture");
+    };
+    check_two(&rt, &picture);
 }
 
 /// Fills a row with (17 x + 31 y) mod 256.
@@ -375,11 +393,20 @@ fn difference(alloc: Global, dim: Dim, level: Level) -> Result<Option<(usize, us
     for k in 0..3 {
         fill_plane(&mut picture, k);
     }
+    filtered_difference(alloc, &mut picture, &level)
+}
+
+/// Filters a picture. Returns the plane and row in which it differs from the one filtered line by line.
+fn filtered_difference(
+    alloc: Global,
+    picture: &mut Picture,
+    level: &Level,
+) -> Result<Option<(usize, usize)>, AllocError> {
     let before = picture.copy(alloc)?;
-    if picture_fits(&picture) {
-        filter_picture(&mut picture, &[level; 9]);
+    if picture_fits(picture) {
+        filter_picture(picture, &[*level; 9]);
     }
-    Ok(first_difference(&before, &picture, &level))
+    Ok(first_difference(&before, picture, level))
 }
 
 fn first_difference(before: &Picture, after: &Picture, level: &Level) -> Option<(usize, usize)> {
@@ -477,7 +504,7 @@ fn threshold(dim: Dim, key: bool, own: u8) -> u8 {
 /// Levels at both ends of each threshold's range: it changes at 15 and 40 in key frames, and at 15, 20 and 40 in inter
 /// frames.
 #[test]
-fn thresholds_by_frame(rt: HostRuntime) -> Result<(), Fail> {
+fn thresholds_by_frame(rt: HostRuntime) {
     let Ok(dim) = Dim::new(16, 16, &Limits::usual()) else {
         panic!(rt; "the size is refused");
     };
@@ -494,13 +521,12 @@ fn thresholds_by_frame(rt: HostRuntime) -> Result<(), Fail> {
         equal(&rt, &threshold(dim, true, own), &key);
         equal(&rt, &threshold(dim, false, own), &inter);
     }
-    Ok(())
 }
 
 /// The level is halved from sharpness 1 on, and quartered from 5 on; then it is at most 9 minus the sharpness, and at
 /// least 1.
 #[test]
-fn interior_limits(rt: HostRuntime) -> Result<(), Fail> {
+fn interior_limits(rt: HostRuntime) {
     let Ok(dim) = Dim::new(16, 16, &Limits::usual()) else {
         panic!(rt; "the size is refused");
     };
@@ -522,7 +548,6 @@ fn interior_limits(rt: HostRuntime) -> Result<(), Fail> {
             &interior,
         );
     }
-    Ok(())
 }
 
 /// Returns the strength for a kind of macroblock without coefficients, at level 20 with eight different deltas.
@@ -546,7 +571,7 @@ fn strength_of(dim: Dim, reference: Reference, prediction: ModeClass) -> Level {
 /// Each reference and each mode class has its own delta. Without coefficients, only B_PRED and split macroblocks have
 /// inner edges filtered. The levels are 21, 30, 12, 28 and 31.
 #[test]
-fn deltas_by_kind(rt: HostRuntime) -> Result<(), Fail> {
+fn deltas_by_kind(rt: HostRuntime) {
     let Ok(dim) = Dim::new(16, 16, &Limits::usual()) else {
         panic!(rt; "the size is refused");
     };
@@ -563,12 +588,11 @@ fn deltas_by_kind(rt: HostRuntime) -> Result<(), Fail> {
     ] {
         equal(&rt, &strength_of(dim, reference, prediction), &wanted);
     }
-    Ok(())
 }
 
 /// A frame level of 0 turns the filter off, whatever segments and deltas add.
 #[test]
-fn no_level_no_filter(rt: HostRuntime) -> Result<(), Fail> {
+fn no_level_no_filter(rt: HostRuntime) {
     let Ok(dim) = Dim::new(16, 16, &Limits::usual()) else {
         panic!(rt; "the size is refused");
     };
@@ -577,5 +601,4 @@ fn no_level_no_filter(rt: HostRuntime) -> Result<(), Fail> {
         &level_with(dim, 0, 0, Some(30), [20, 0]),
         &strength(0, 0, 0, 0),
     );
-    Ok(())
 }

@@ -1,14 +1,13 @@
 //! Tests of vp_quant: factors by quantiser indices, and dequantised and quantised levels.
 
 use crate::check::equal;
-use std::test::Fail;
 use vp_bool::BoolDecoder;
 use vp_head::{Header, QuantiserIndices, Saved, Tag};
 use vp_quant::{Factors, dequant, dequant_short, quantise, quantise_block, segment_index};
 
 /// The first and the last entries of the tables in RFC 6386, chapter 14.1, and the clamped factors.
 #[test]
-fn factors_of_both_ends(rt: HostRuntime) -> Result<(), Fail> {
+fn factors_of_both_ends(rt: HostRuntime) {
     let same = QuantiserIndices {
         y_ac: 0,
         y_dc: 0,
@@ -52,7 +51,6 @@ fn factors_of_both_ends(rt: HostRuntime) -> Result<(), Fail> {
         uv_ac: 284,
     };
     equal(&rt, &Factors::of(122, &mixed), &near_the_end);
-    Ok(())
 }
 
 /// Returns the luma DC factor for the frame's index, the segment's delta, and the frame's DC delta.
@@ -80,7 +78,7 @@ fn indices_are_held(rt: HostRuntime) {
 
 /// The zigzag order of RFC 6386, chapter 13: positions 2 and 3 are places 4 and 8.
 #[test]
-fn levels_at_their_places(rt: HostRuntime) -> Result<(), Fail> {
+fn levels_at_their_places(rt: HostRuntime) {
     let mut levels = [0i16; 16];
     levels[0] = -3;
     levels[2] = 5;
@@ -90,7 +88,6 @@ fn levels_at_their_places(rt: HostRuntime) -> Result<(), Fail> {
     wanted[4] = 100;
     wanted[8] = -140;
     equal(&rt, &dequant(&levels, 10, 20), &wanted);
-    Ok(())
 }
 
 #[test]

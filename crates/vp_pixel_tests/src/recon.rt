@@ -2,6 +2,7 @@
 
 ghost use Rattle.std.specs.Prelude.{◌≡◌, ◌≤◌, ◌≤ℤ◌, pos, negsuc};
 
+use crate::check::equal;
 use std::alloc::Global;
 use vp_base::{Dim, Limits, Picture, Place, Plane};
 use vp_head::Reference;
@@ -44,6 +45,13 @@ fn is_empty_picture(bytes: &[u8]) -> bool {
     bytes.len() == 768
 }
 
+fn is_empty(alloc: Global, picture: &Picture) -> bool {
+    match picture.crop_i420(alloc) {
+        Ok(bytes) => is_empty_picture(&bytes),
+        Err(_) => false,
+    }
+}
+
 /// Returns whether two B_PRED macroblocks without residue give the empty picture.
 fn rebuilds_empty(alloc: Global, picture: &mut Picture) -> bool
     requires width { picture.old.width ≡ 16 }
@@ -57,21 +65,19 @@ fn rebuilds_empty(alloc: Global, picture: &mut Picture) -> bool
     };
     rebuild_macroblock(picture, TOP, &source, &tokens, &FACTORS);
     rebuild_macroblock(picture, below, &source, &tokens, &FACTORS);
-    match picture.crop_i420(alloc) {
-        Ok(bytes) => is_empty_picture(&bytes),
-        Err(_) => false,
-    }
+    is_empty(alloc, picture)
+}
+
+/// Returns whether these two macroblocks of a black picture give the empty picture.
+fn gives_empty(alloc: Global) -> Option<bool> {
+    let dim = Dim::new(16, 32, &Limits::usual()).ok()?;
+    let mut picture = Picture::new(alloc, dim, 0).ok()?;
+    Some(rebuilds_empty(alloc, &mut picture))
 }
 
 #[test]
 fn two_macroblock_rows(rt: HostRuntime) {
-    let Ok(dim) = Dim::new(16, 32, &Limits::usual()) else {
-        panic!(rt; "a size");
-    };
-    let Ok(mut picture) = Picture::new(rt.alloc(), dim, 0) else {
-        panic!(rt; "a picture");
-    };
-    assert!(rt; rebuilds_empty(rt.alloc(), &mut picture));
+    equal(&rt, &gives_empty(rt.alloc()), &Some(true));
 }
 
 /// Returns whether the plane has this 4 by 4 block at column and row `at`.
@@ -101,36 +107,61 @@ const FIRST_OF_ONES: [[u8; 4]; 4] = [
     [0, 251, 5, 104],
 ];
 
-#[test]
-fn all_ones_tokens(rt: HostRuntime) {
-    let Ok(dim) = Dim::new(16, 16, &Limits::usual()) else {
-        panic!(rt; "a size");
-    };
-    let modes = modes(LumaMode::B);
+/// Returns a picture of one macroblock, first black, rebuilt with this luma mode.
+fn rebuilt(alloc: Global, luma: LumaMode, tokens: &Tokens) -> Option<Picture> {
+    let dim = Dim::new(16, 16, &Limits::usual()).ok()?;
+    let mut picture = Picture::new(alloc, dim, 0).ok()?;
+    let modes = modes(luma);
     let source = Predictor::Intra(&modes);
+    rebuild_macroblock(&mut picture, TOP, &source, tokens, &FACTORS);
+    Some(picture)
+}
+
+/// Returns whether each plane begins with the block.
+fn each_plane_has(picture: &Picture, wanted: &[[u8; 4]; 4]) -> bool {
+    has_block(picture.plane(0), 0, wanted)
+        && has_block(picture.plane(1), 0, wanted)
+        && has_block(picture.plane(2), 0, wanted)
+}
+
+/// Returns whether a macroblock with this luma mode has a Y2 block.
+fn has_y2(luma: LumaMode) -> bool {
+    Predictor::Intra(&modes(luma)).has_y2()
+}
+
+/// Returns whether each plane begins with these pixels, rebuilt from the least levels.
+fn all_ones_give(alloc: Global, wanted: &[[u8; 4]; 4]) -> Option<bool> {
     let tokens = Tokens {
         blocks: [LEAST; 25],
     };
-    let Ok(mut picture) = Picture::new(rt.alloc(), dim, 0) else {
-        panic!(rt; "a picture");
-    };
-    assert!(rt; !source.has_y2());
-    rebuild_macroblock(&mut picture, TOP, &source, &tokens, &FACTORS);
-    assert!(rt; has_block(picture.plane(0), 0, &FIRST_OF_ONES));
-    assert!(rt; has_block(picture.plane(1), 0, &FIRST_OF_ONES));
-    assert!(rt; has_block(picture.plane(2), 0, &FIRST_OF_ONES));
+    let picture = rebuilt(alloc, LumaMode::B, &tokens)?;
+    Some(each_plane_has(&picture, wanted))
+}
+
+#[test]
+fn all_ones_tokens(rt: HostRuntime) {
+    assert!(rt; !has_y2(LumaMode::B));
+    let found = all_ones_give(rt.alloc(), &FIRST_OF_ONES);
+    equal(&rt, &found, &Some(true));
+}
+
+/// Returns whether a black picture's first subblock, rebuilt from this block, has these pixels.
+fn subblock_gives(
+    alloc: Global,
+    block: &Block,
+    factors: &Factors,
+    wanted: &[[u8; 4]; 4],
+) -> Option<bool> {
+    let dim = Dim::new(16, 16, &Limits::usual()).ok()?;
+    let mut picture = Picture::new(alloc, dim, 0).ok()?;
+    rebuild_subblock(&mut picture, TOP, SubMode::Dc, block, factors);
+    Some(has_block(picture.plane(0), 0, wanted))
 }
 
 #[test]
 fn one_subblock(rt: HostRuntime) {
-    let Ok(dim) = Dim::new(16, 16, &Limits::usual()) else {
-        panic!(rt; "a size");
-    };
-    let Ok(mut picture) = Picture::new(rt.alloc(), dim, 0) else {
-        panic!(rt; "a picture");
-    };
-    rebuild_subblock(&mut picture, TOP, SubMode::Dc, &LEAST, &FACTORS);
-    assert!(rt; has_block(picture.plane(0), 0, &FIRST_OF_ONES));
+    let found = subblock_gives(rt.alloc(), &LEAST, &FACTORS, &FIRST_OF_ONES);
+    equal(&rt, &found, &Some(true));
 }
 
 /// Two levels; the product of the first one exceeds 16 bits.
@@ -143,19 +174,13 @@ const GREAT: Block = Block {
 /// number.
 #[test]
 fn great_products_do_not_wrap(rt: HostRuntime) {
-    let Ok(dim) = Dim::new(16, 16, &Limits::usual()) else {
-        panic!(rt; "a size");
-    };
-    let Ok(mut picture) = Picture::new(rt.alloc(), dim, 0) else {
-        panic!(rt; "a picture");
-    };
     let factors = Factors {
         y_dc: 157,
         y_ac: 284,
         ..FACTORS
     };
-    rebuild_subblock(&mut picture, TOP, SubMode::Dc, &GREAT, &factors);
-    assert!(rt; has_block(picture.plane(0), 0, &[[255; 4]; 4]));
+    let found = subblock_gives(rt.alloc(), &GREAT, &factors, &[[255; 4]; 4]);
+    equal(&rt, &found, &Some(true));
 }
 
 const Y2: Block = Block {
@@ -190,21 +215,18 @@ fn has_corners(plane: &Plane, first: u8, last: u8) -> bool {
         && plane.get(15, 15) == last
 }
 
+/// Returns whether luma has the sixth block's pixels at its place, and those of Y2 alone in its corners.
+fn two_blocks_give(alloc: Global, wanted: &[[u8; 4]; 4]) -> Option<bool> {
+    let tokens = tokens_of_two_blocks();
+    let picture = rebuilt(alloc, LumaMode::Dc, &tokens)?;
+    Some(has_block(picture.plane(0), 4, wanted) && has_corners(picture.plane(0), 128, 129))
+}
+
 #[test]
 fn first_coefficients_of_y2(rt: HostRuntime) {
-    let Ok(dim) = Dim::new(16, 16, &Limits::usual()) else {
-        panic!(rt; "a size");
-    };
-    let tokens = tokens_of_two_blocks();
-    let Ok(mut picture) = Picture::new(rt.alloc(), dim, 0) else {
-        panic!(rt; "a picture");
-    };
-    let modes = modes(LumaMode::Dc);
-    let source = Predictor::Intra(&modes);
-    assert!(rt; source.has_y2());
-    rebuild_macroblock(&mut picture, TOP, &source, &tokens, &FACTORS);
-    assert!(rt; has_block(picture.plane(0), 4, &MIXED));
-    assert!(rt; has_corners(picture.plane(0), 128, 129));
+    assert!(rt; has_y2(LumaMode::Dc));
+    let found = two_blocks_give(rt.alloc(), &MIXED);
+    equal(&rt, &found, &Some(true));
 }
 
 const OTHER: Block = Block {
@@ -257,52 +279,47 @@ fn has_pair(plane: &Plane, x: usize, wanted: &[[u8; 8]; 4]) -> bool
     true
 }
 
+const BOTH_WITH_AC: [[u8; 8]; 4] = [
+    [127, 124, 120, 118, 136, 161, 161, 136],
+    [130, 127, 124, 121, 96, 121, 121, 96],
+    [135, 132, 129, 126, 96, 121, 121, 96],
+    [139, 136, 132, 130, 136, 161, 161, 136],
+];
+
+const LARGE_AND_AC: [[u8; 8]; 4] = [
+    [255, 255, 0, 0, 127, 124, 120, 118],
+    [255, 255, 0, 0, 130, 127, 124, 121],
+    [255, 255, 0, 0, 135, 132, 129, 126],
+    [255, 255, 0, 0, 139, 136, 132, 130],
+];
+
+const BOTH_WITH_DC: [u8; 8] = [143, 143, 143, 143, 125, 125, 125, 125];
+
+const DC_AND_AC: [[u8; 8]; 4] = [
+    [133, 133, 133, 133, 137, 162, 162, 137],
+    [133, 133, 133, 133, 97, 122, 122, 97],
+    [133, 133, 133, 133, 97, 122, 122, 97],
+    [133, 133, 133, 133, 137, 162, 162, 137],
+];
+
+/// Returns whether the planes have the expected pairs.
+fn has_pairs(picture: &Picture) -> bool {
+    has_pair(picture.plane(0), 0, &BOTH_WITH_AC)
+        && has_pair(picture.plane(0), 8, &LARGE_AND_AC)
+        && has_pair(picture.plane(1), 0, &[BOTH_WITH_DC; 4])
+        && has_pair(picture.plane(2), 0, &DC_AND_AC)
+        && has_corners(picture.plane(0), 127, 128)
+}
+
+fn pairs_are_rebuilt(alloc: Global) -> Option<bool> {
+    let tokens = tokens_of_pairs();
+    let picture = rebuilt(alloc, LumaMode::Dc, &tokens)?;
+    Some(has_pairs(&picture))
+}
+
 /// The expected sums come from the formulas of RFC 6386, chapter 14, computed by an independent script. The prediction
 /// is 128 everywhere.
 #[test]
 fn subblocks_side_by_side(rt: HostRuntime) {
-    let Ok(dim) = Dim::new(16, 16, &Limits::usual()) else {
-        panic!(rt; "a size");
-    };
-    let Ok(mut picture) = Picture::new(rt.alloc(), dim, 0) else {
-        panic!(rt; "a picture");
-    };
-    let modes = modes(LumaMode::Dc);
-    let tokens = tokens_of_pairs();
-    rebuild_macroblock(
-        &mut picture,
-        TOP,
-        &Predictor::Intra(&modes),
-        &tokens,
-        &FACTORS,
-    );
-    let both = [
-        [127, 124, 120, 118, 136, 161, 161, 136],
-        [130, 127, 124, 121, 96, 121, 121, 96],
-        [135, 132, 129, 126, 96, 121, 121, 96],
-        [139, 136, 132, 130, 136, 161, 161, 136],
-    ];
-    assert!(rt; has_pair(picture.plane(0), 0, &both));
-    let large = [
-        [255, 255, 0, 0, 127, 124, 120, 118],
-        [255, 255, 0, 0, 130, 127, 124, 121],
-        [255, 255, 0, 0, 135, 132, 129, 126],
-        [255, 255, 0, 0, 139, 136, 132, 130],
-    ];
-    assert!(rt; has_pair(picture.plane(0), 8, &large));
-    assert!(rt;
-        has_pair(
-            picture.plane(1),
-            0,
-            &[[143, 143, 143, 143, 125, 125, 125, 125]; 4]
-        )
-    );
-    let mixed = [
-        [133, 133, 133, 133, 137, 162, 162, 137],
-        [133, 133, 133, 133, 97, 122, 122, 97],
-        [133, 133, 133, 133, 97, 122, 122, 97],
-        [133, 133, 133, 133, 137, 162, 162, 137],
-    ];
-    assert!(rt; has_pair(picture.plane(2), 0, &mixed));
-    assert!(rt; has_corners(picture.plane(0), 127, 128));
+    equal(&rt, &pairs_are_rebuilt(rt.alloc()), &Some(true));
 }

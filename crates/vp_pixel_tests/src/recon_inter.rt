@@ -2,6 +2,7 @@
 
 ghost use Rattle.std.specs.Prelude.{◌≡◌, ◌<◌};
 
+use crate::check::equal;
 use crate::recon::{FACTORS, TOP};
 use std::alloc::Global;
 use vp_base::{Dim, Limits, Picture};
@@ -51,9 +52,8 @@ fn shows(alloc: Global, picture: &Picture, from: usize, to: usize) -> bool {
     }
 }
 
-/// Returns whether the macroblock predicted with this motion, without residue, has 200 from one position to another, by
-/// either function.
-fn moves_to(
+/// Returns whether the macroblock rebuilt with this motion, without residue, has 200 from one position to another.
+fn rebuilds_to(
     alloc: Global,
     dim: Dim,
     motion: &MacroblockMotion,
@@ -67,20 +67,72 @@ fn moves_to(
     let tokens = Tokens {
         blocks: [Block::NONE; 25],
     };
-    let (Ok(mut rebuilt), Ok(mut moved)) = (
-        Picture::new(alloc, dim, 0),
-        Picture::new(alloc, dim, 0),
-    ) else {
-        return false;
-    };
     let source = Predictor::Inter {
         motion,
         reference,
         version: 0,
     };
-    rebuild_macroblock(&mut rebuilt, TOP, &source, &tokens, &FACTORS);
-    predict_inter_macroblock(&mut moved, TOP, motion, reference, 0);
-    shows(alloc, &rebuilt, from, to) && shows(alloc, &moved, from, to)
+    match Picture::new(alloc, dim, 0) {
+        Ok(mut rebuilt) => {
+            rebuild_macroblock(&mut rebuilt, TOP, &source, &tokens, &FACTORS);
+            shows(alloc, &rebuilt, from, to)
+        }
+        Err(_) => false,
+    }
+}
+
+/// Returns whether the macroblock predicted with this motion has 200 from one position to another.
+fn predicts_to(
+    alloc: Global,
+    dim: Dim,
+    motion: &MacroblockMotion,
+    reference: &Picture,
+    from: usize,
+    to: usize,
+) -> bool
+    requires width { dim.w ≡ 16 }
+    requires height { dim.h ≡ 16 }
+{
+    match Picture::new(alloc, dim, 0) {
+        Ok(mut moved) => {
+            predict_inter_macroblock(&mut moved, TOP, motion, reference, 0);
+            shows(alloc, &moved, from, to)
+        }
+        Err(_) => false,
+    }
+}
+
+/// Returns whether the macroblock has 200 from one position to another, by either function.
+fn moves_to(
+    alloc: Global,
+    dim: Dim,
+    motion: &MacroblockMotion,
+    reference: &Picture,
+    from: usize,
+    to: usize,
+) -> bool
+    requires width { dim.w ≡ 16 }
+    requires height { dim.h ≡ 16 }
+{
+    rebuilds_to(alloc, dim, motion, reference, from, to)
+        && predicts_to(alloc, dim, motion, reference, from, to)
+}
+
+/// Returns whether the luma pixel at column `x` of row `y` is moved to one position up to another.
+fn moves_pixel(
+    alloc: Global,
+    motion: &MacroblockMotion,
+    x: usize,
+    y: usize,
+    from: usize,
+    to: usize,
+) -> Option<bool>
+    requires column { x < 16 }
+    requires row { y < 16 }
+{
+    let dim = Dim::new(16, 16, &Limits::usual()).ok()?;
+    let reference = lit_at(alloc, dim, x, y)?;
+    Some(moves_to(alloc, dim, motion, &reference, from, to))
 }
 
 fn moved() -> MacroblockMotion {
@@ -93,13 +145,8 @@ fn moved() -> MacroblockMotion {
 
 #[test]
 fn a_moved_macroblock(rt: HostRuntime) {
-    let Ok(dim) = Dim::new(16, 16, &Limits::usual()) else {
-        panic!(rt; "a size");
-    };
-    let Some(reference) = lit_at(rt.alloc(), dim, 5, 3) else {
-        panic!(rt; "a reference");
-    };
-    assert!(rt; moves_to(rt.alloc(), dim, &moved(), &reference, 52, 53));
+    let found = moves_pixel(rt.alloc(), &moved(), 5, 3, 52, 53);
+    equal(&rt, &found, &Some(true));
 }
 
 fn split() -> MacroblockMotion {
@@ -114,11 +161,6 @@ fn split() -> MacroblockMotion {
 
 #[test]
 fn a_split_macroblock(rt: HostRuntime) {
-    let Ok(dim) = Dim::new(16, 16, &Limits::usual()) else {
-        panic!(rt; "a size");
-    };
-    let Some(reference) = lit_at(rt.alloc(), dim, 4, 0) else {
-        panic!(rt; "a reference");
-    };
-    assert!(rt; moves_to(rt.alloc(), dim, &split(), &reference, 3, 5));
+    let found = moves_pixel(rt.alloc(), &split(), 4, 0, 3, 5);
+    equal(&rt, &found, &Some(true));
 }

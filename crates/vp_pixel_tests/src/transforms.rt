@@ -4,7 +4,7 @@ ghost use Rattle.std.specs.Prelude.{ℕ, ◌*◌, ◌^◌, ◌≤◌, unsigned_a
 ghost use Rattle.vp_transform.specs.Fits.{EachWithin, IdctFits, IwhtFits};
 
 use crate::check::equal;
-use std::test::Fail;
+use std::process::Abort;
 use vp_transform::{
     cut, differences, fdct, fdct_short, fwht, fwht_short, idct, idct_cut, idct_of_first, idct_pair,
     idct_short, iwht, iwht_of_first,
@@ -12,7 +12,7 @@ use vp_transform::{
 
 /// The expected numbers of the second block are those of RFC 6386's own program (chapters 14.3 and 14.4).
 #[test]
-fn kernel_examples(rt: HostRuntime) -> Result<(), Fail> {
+fn kernel_examples(rt: HostRuntime) {
     let mut first = [0; 16];
     first[0] = 8;
     equal(&rt, &iwht(&first), &[1; 16]);
@@ -36,7 +36,6 @@ fn kernel_examples(rt: HostRuntime) -> Result<(), Fail> {
             -534, 229, -75, 66, 199, -588, 96, -17, -34, 123, -621, 130, 61, -33, 213, -617,
         ],
     );
-    Ok(())
 }
 
 /// The inverse transform of that block in 16 bits.
@@ -54,6 +53,18 @@ fn short_example(rt: HostRuntime) {
     );
 }
 
+/// Fails the test if the inverse transforms of a pair have other rows.
+fn check_pair(rt: &impl Abort, a: &[i16; 16], b: &[i16; 16], rows: &[[i16; 8]; 4])
+    requires first { EachWithin 2200 a.now }
+    requires second { EachWithin 2200 b.now }
+{
+    let (top, upper, lower, bottom) = idct_pair(a, b);
+    equal(rt, &top.to_array(), &rows[0]);
+    equal(rt, &upper.to_array(), &rows[1]);
+    equal(rt, &lower.to_array(), &rows[2]);
+    equal(rt, &bottom.to_array(), &rows[3]);
+}
+
 /// The inverse transform of that block and the first one as a pair, in either order.
 #[test]
 fn pair_example(rt: HostRuntime) {
@@ -62,16 +73,20 @@ fn pair_example(rt: HostRuntime) {
     ];
     let mut first = [0; 16];
     first[0] = 8;
-    let (top, upper, lower, bottom) = idct_pair(&block, &first);
-    equal(&rt, &top.to_array(), &[-447, 174, -18, -7, 1, 1, 1, 1]);
-    equal(&rt, &upper.to_array(), &[146, -669, 181, 16, 1, 1, 1, 1]);
-    equal(&rt, &lower.to_array(), &[28, 192, -694, 88, 1, 1, 1, 1]);
-    equal(&rt, &bottom.to_array(), &[-18, 5, 174, -551, 1, 1, 1, 1]);
-    let (top, upper, lower, bottom) = idct_pair(&first, &block);
-    equal(&rt, &top.to_array(), &[1, 1, 1, 1, -447, 174, -18, -7]);
-    equal(&rt, &upper.to_array(), &[1, 1, 1, 1, 146, -669, 181, 16]);
-    equal(&rt, &lower.to_array(), &[1, 1, 1, 1, 28, 192, -694, 88]);
-    equal(&rt, &bottom.to_array(), &[1, 1, 1, 1, -18, 5, 174, -551]);
+    let after = [
+        [-447, 174, -18, -7, 1, 1, 1, 1],
+        [146, -669, 181, 16, 1, 1, 1, 1],
+        [28, 192, -694, 88, 1, 1, 1, 1],
+        [-18, 5, 174, -551, 1, 1, 1, 1],
+    ];
+    check_pair(&rt, &block, &first, &after);
+    let before = [
+        [1, 1, 1, 1, -447, 174, -18, -7],
+        [1, 1, 1, 1, 146, -669, 181, 16],
+        [1, 1, 1, 1, 28, 192, -694, 88],
+        [1, 1, 1, 1, -18, 5, 174, -551],
+    ];
+    check_pair(&rt, &first, &block, &before);
 }
 
 /// Two blocks of extreme numbers, and one of pseudo-random numbers. The expected results come from the formulas of RFC
@@ -82,52 +97,24 @@ fn scattered_pairs(rt: HostRuntime) {
         -2200, -2200, 2200, 2200, -2200, -2200, 2200, 2200, 2200, 2200, -2200, -2200, -2200, 2200,
         -2200, 2200,
     ];
-    let (top, upper, lower, bottom) = idct_pair(&[2200; 16], &far);
-    equal(
-        &rt,
-        &top.to_array(),
-        &[4071, -810, 810, 161, -298, -1496, 59, -297],
-    );
-    equal(
-        &rt,
-        &upper.to_array(),
-        &[-810, 161, -161, -32, -480, -2414, -381, 1918],
-    );
-    equal(
-        &rt,
-        &lower.to_array(),
-        &[810, -161, 161, 32, -362, -1819, 214, -1075],
-    );
-    equal(
-        &rt,
-        &bottom.to_array(),
-        &[162, -32, 32, 7, 298, 1496, -59, 298],
-    );
+    let extreme = [
+        [4071, -810, 810, 161, -298, -1496, 59, -297],
+        [-810, 161, -161, -32, -480, -2414, -381, 1918],
+        [810, -161, 161, 32, -362, -1819, 214, -1075],
+        [162, -32, 32, 7, 298, 1496, -59, 298],
+    ];
+    check_pair(&rt, &[2200; 16], &far, &extreme);
     let scattered = [
         -108, 737, 2142, -1963, 1614, -160, -1776, -916, -1273, 845, 1642, -181, 919, -1365, -158,
         -2093,
     ];
-    let (top, upper, lower, bottom) = idct_pair(&scattered, &[2200; 16]);
-    equal(
-        &rt,
-        &top.to_array(),
-        &[126, 754, -793, 525, 4071, -810, 810, 161],
-    );
-    equal(
-        &rt,
-        &upper.to_array(),
-        &[363, 169, 104, -217, -810, 161, -161, -32],
-    );
-    equal(
-        &rt,
-        &lower.to_array(),
-        &[-224, 564, -505, 910, 810, -161, 161, 32],
-    );
-    equal(
-        &rt,
-        &bottom.to_array(),
-        &[701, -1131, -1413, -150, 162, -32, 32, 7],
-    );
+    let mixed = [
+        [126, 754, -793, 525, 4071, -810, 810, 161],
+        [363, 169, 104, -217, -810, 161, -161, -32],
+        [-224, 564, -505, 910, 810, -161, 161, 32],
+        [701, -1131, -1413, -150, 162, -32, 32, 7],
+    ];
+    check_pair(&rt, &scattered, &[2200; 16], &mixed);
 }
 
 /// The expected numbers of the second block come from the formulas, computed by an independent script.

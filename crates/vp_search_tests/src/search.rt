@@ -5,6 +5,7 @@ ghost use Rattle.vp_search.specs.Vectors.{IsNear};
 
 use crate::check::equal;
 use std::alloc::{AllocError, Global};
+use std::process::Abort;
 use std::test::Fail;
 use vp_base::{Place, Plane};
 use vp_inter::{luma_vector, predict_block16};
@@ -96,12 +97,6 @@ fn search(
     }
 }
 
-/// Returns whether the macroblock at a place is found at the distance it was shifted by.
-fn is_found(source: &mut Plane, reference: &Plane, at: [usize; 2], down: i32, right: i32) -> bool {
-    fill(source, down, right);
-    search(source, reference, at[0], at[1], 16) == Some(found(down, right, 0))
-}
-
 /// Searches for the middle macroblock of a source that is shifted `later` rows up in a plane of lines.
 fn along_lines(
     source: &mut Plane,
@@ -191,56 +186,95 @@ fn first_wrong_length(a: &[u8; 256], b: &[u8; 256]) -> Option<usize> {
     None
 }
 
-#[test]
-fn flat_planes_stand_still(rt: HostRuntime) -> Result<(), Fail> {
-    let source = Plane::new(rt.alloc(), 48, 48, 100)?;
-    let reference = Plane::new(rt.alloc(), 48, 48, 103)?;
+/// A frame and the one in which its blocks are searched for, of 48 by 48 pixels.
+#[derive(Drop)]
+struct Planes {
+    source: Plane,
+    reference: Plane,
+}
+
+/// Returns flat planes of these pixels.
+fn flat_planes(alloc: Global, source: u8, reference: u8) -> Result<Planes, AllocError> {
+    let source = Plane::new(alloc, 48, 48, source)?;
+    let reference = Plane::new(alloc, 48, 48, reference)?;
+    Ok(Planes { source, reference })
+}
+
+/// Fails the test if blocks of flat planes are found elsewhere than in place.
+fn check_flat(rt: &impl Abort, source: &Plane, reference: &Plane) {
+    equal(rt, &search(source, source, 1, 1, 16), &Some(found(0, 0, 0)));
     equal(
-        &rt,
-        &search(&source, &source, 1, 1, 16),
-        &Some(found(0, 0, 0)),
-    );
-    equal(
-        &rt,
-        &search(&source, &reference, 0, 2, 64),
+        rt,
+        &search(source, reference, 0, 2, 64),
         &Some(found(0, 0, 768)),
     );
     let still = Refined {
         vector: QuarterVector { row: 0, column: 0 },
         cost: 768,
     };
-    equal(&rt, &refined(&source, &reference, 0, 0), &Some(still));
+    equal(rt, &refined(source, reference, 0, 0), &Some(still));
+}
+
+#[test]
+fn flat_planes_stand_still(rt: HostRuntime) -> Result<(), Fail> {
+    let planes = flat_planes(rt.alloc(), 100, 103)?;
+    check_flat(&rt, &planes.source, &planes.reference);
     Ok(())
+}
+
+/// Columns and rows of macroblocks, and the rows down and columns to the right by which the noise is shifted.
+const MOVES: [(usize, usize, i32, i32); 7] = [
+    (1, 1, 5, -9),
+    (1, 1, -16, 16),
+    (1, 1, 16, -16),
+    (0, 1, 3, -12),
+    (2, 1, -2, 15),
+    (1, 0, -14, 1),
+    (0, 2, 13, -7),
+];
+
+/// Fails the test if a block is not found where it was moved to.
+fn check_moves(rt: &impl Abort, source: &mut Plane, reference: &mut Plane) {
+    fill(reference, 0, 0);
+    for (column, row, down, right) in MOVES {
+        fill(source, down, right);
+        let wanted = Some(found(down, right, 0));
+        equal(rt, &search(source, reference, column, row, 16), &wanted);
+    }
 }
 
 #[test]
 fn moved_blocks_are_found(rt: HostRuntime) -> Result<(), Fail> {
-    let mut reference = Plane::new(rt.alloc(), 48, 48, 0)?;
-    let mut source = Plane::new(rt.alloc(), 48, 48, 0)?;
-    fill(&mut reference, 0, 0);
-    assert!(rt; is_found(&mut source, &reference, [1, 1], 5, -9));
-    assert!(rt; is_found(&mut source, &reference, [1, 1], -16, 16));
-    assert!(rt; is_found(&mut source, &reference, [1, 1], 16, -16));
-    assert!(rt; is_found(&mut source, &reference, [0, 1], 3, -12));
-    assert!(rt; is_found(&mut source, &reference, [2, 1], -2, 15));
-    assert!(rt; is_found(&mut source, &reference, [1, 0], -14, 1));
-    assert!(rt; is_found(&mut source, &reference, [0, 2], 13, -7));
+    let mut planes = flat_planes(rt.alloc(), 0, 0)?;
+    check_moves(&rt, &mut planes.source, &mut planes.reference);
     Ok(())
+}
+
+/// Fails the test if another vector than the shortest is found far outside.
+fn check_far(rt: &impl Abort, source: &mut Plane, reference: &mut Plane) {
+    fill(reference, 0, 0);
+    fill(source, 40, -50);
+    equal(
+        rt,
+        &search(source, reference, 1, 1, 64),
+        &Some(found(31, -31, 0)),
+    );
 }
 
 /// Far below and to the left of the plane all pixels equal its corner: the shortest such vector is chosen.
 #[test]
 fn far_outside_the_shortest_is_taken(rt: HostRuntime) -> Result<(), Fail> {
-    let mut reference = Plane::new(rt.alloc(), 48, 48, 0)?;
-    let mut source = Plane::new(rt.alloc(), 48, 48, 0)?;
-    fill(&mut reference, 0, 0);
-    fill(&mut source, 40, -50);
-    equal(
-        &rt,
-        &search(&source, &reference, 1, 1, 64),
-        &Some(found(31, -31, 0)),
-    );
+    let mut planes = flat_planes(rt.alloc(), 0, 0)?;
+    check_far(&rt, &mut planes.source, &mut planes.reference);
     Ok(())
+}
+
+/// Fails the test if another one of equal vectors is found along lines.
+fn check_lines(rt: &impl Abort, source: &mut Plane, reference: &mut Plane) {
+    for (slant, later, column) in [(1, 1, 1), (2, 6, 3), (32, 32, -1)] {
+        let wanted = Some(found(0, column, 0));
+        equal(rt, &along_lines(source, reference, slant, later), &wanted);
+    }
 }
 
 /// Along lines many vectors find equal pixels. A column to the right, or a row down: the least row is chosen. Three
@@ -248,56 +282,51 @@ fn far_outside_the_shortest_is_taken(rt: HostRuntime) -> Result<(), Fail> {
 /// least one.
 #[test]
 fn of_equal_vectors_by_length_row_and_column(rt: HostRuntime) -> Result<(), Fail> {
-    let mut reference = Plane::new(rt.alloc(), 48, 48, 0)?;
-    let mut source = Plane::new(rt.alloc(), 48, 48, 0)?;
-    equal(
-        &rt,
-        &along_lines(&mut source, &mut reference, 1, 1),
-        &Some(found(0, 1, 0)),
-    );
-    equal(
-        &rt,
-        &along_lines(&mut source, &mut reference, 2, 6),
-        &Some(found(0, 3, 0)),
-    );
-    equal(
-        &rt,
-        &along_lines(&mut source, &mut reference, 32, 32),
-        &Some(found(0, -1, 0)),
-    );
+    let mut planes = flat_planes(rt.alloc(), 0, 0)?;
+    check_lines(&rt, &mut planes.source, &mut planes.reference);
     Ok(())
+}
+
+/// Fails the test if another one of equal neighbours is chosen.
+fn check_neighbours(rt: &impl Abort, source: &mut Plane, reference: &mut Plane) {
+    fill_lines(reference, 1, 0);
+    predict_middle(source, reference, 2, 0);
+    let best = Refined {
+        vector: QuarterVector { row: 0, column: 2 },
+        cost: 0,
+    };
+    equal(rt, &refined(source, reference, 0, 0), &Some(best));
 }
 
 /// Along lines that go as far down as to the left, half a pixel to the right equals half a pixel down: the first by
 /// rows is chosen.
 #[test]
 fn of_equal_neighbours_by_rows(rt: HostRuntime) -> Result<(), Fail> {
-    let mut reference = Plane::new(rt.alloc(), 48, 48, 0)?;
-    let mut source = Plane::new(rt.alloc(), 48, 48, 0)?;
-    fill_lines(&mut reference, 1, 0);
-    predict_middle(&mut source, &reference, 2, 0);
-    let best = Refined {
-        vector: QuarterVector { row: 0, column: 2 },
-        cost: 0,
-    };
-    equal(&rt, &refined(&source, &reference, 0, 0), &Some(best));
+    let mut planes = flat_planes(rt.alloc(), 0, 0)?;
+    check_neighbours(&rt, &mut planes.source, &mut planes.reference);
     Ok(())
+}
+
+/// The vector of predicted blocks in planes of slopes.
+const SLOPED: Refined = Refined {
+    vector: QuarterVector {
+        row: 10,
+        column: -11,
+    },
+    cost: 0,
+};
+
+/// Fails the test if a predicted block is refined to another vector.
+fn check_predicted(rt: &impl Abort, source: &mut Plane, reference: &mut Plane) {
+    fill_slope(reference);
+    predict_middle(source, reference, 10, -11);
+    equal(rt, &refined(source, reference, 2, -3), &Some(SLOPED));
 }
 
 #[test]
 fn predicted_blocks_are_refined(rt: HostRuntime) -> Result<(), Fail> {
-    let mut reference = Plane::new(rt.alloc(), 48, 48, 0)?;
-    let mut source = Plane::new(rt.alloc(), 48, 48, 0)?;
-    fill_slope(&mut reference);
-    predict_middle(&mut source, &reference, 10, -11);
-    let best = Refined {
-        vector: QuarterVector {
-            row: 10,
-            column: -11,
-        },
-        cost: 0,
-    };
-    equal(&rt, &refined(&source, &reference, 2, -3), &Some(best));
+    let mut planes = flat_planes(rt.alloc(), 0, 0)?;
+    check_predicted(&rt, &mut planes.source, &mut planes.reference);
     Ok(())
 }
 
@@ -305,14 +334,7 @@ fn predicted_blocks_are_refined(rt: HostRuntime) -> Result<(), Fail> {
 fn found_blocks_are_refined(rt: HostRuntime) -> Result<(), Fail> {
     let mut reference = Plane::new(rt.alloc(), 48, 48, 0)?;
     fill_slope(&mut reference);
-    let best = Refined {
-        vector: QuarterVector {
-            row: 10,
-            column: -11,
-        },
-        cost: 0,
-    };
-    equal(&rt, &searched(&reference, 10, -11), &Some(best));
+    equal(&rt, &searched(&reference, 10, -11), &Some(SLOPED));
     Ok(())
 }
 
@@ -395,20 +417,22 @@ fn is_same_along(alloc: Global, reference: &Plane, range: u8) -> Result<bool, Al
     Ok(true)
 }
 
+/// Fails the test if a searcher finds something else in one of these ranges.
+fn check_along(rt: &impl Abort, alloc: Global, reference: &Plane) -> Result<(), AllocError> {
+    for range in [7, 8, 16, 17, 27, 28, 64] {
+        let is_same = is_same_along(alloc, reference, range)?;
+        equal(rt, &(range, is_same), &(range, true));
+    }
+    Ok(())
+}
+
 /// A searcher keeps sums from one macroblock to the next, leaves them out for some, and finds what a search from
 /// nothing does.
 #[test]
 fn kept_sums_are_the_same(rt: HostRuntime) -> Result<(), Fail> {
     let mut reference = Plane::new(rt.alloc(), 53, 37, 0)?;
     fill_with_noise(&mut reference, 53, 37);
-    assert!(rt; is_same_along(rt.alloc(), &reference, 7)?);
-    assert!(rt; is_same_along(rt.alloc(), &reference, 8)?);
-    assert!(rt; is_same_along(rt.alloc(), &reference, 16)?);
-    assert!(rt; is_same_along(rt.alloc(), &reference, 17)?);
-    assert!(rt; is_same_along(rt.alloc(), &reference, 27)?);
-    assert!(rt; is_same_along(rt.alloc(), &reference, 28)?);
-    assert!(rt; is_same_along(rt.alloc(), &reference, 64)?);
-    Ok(())
+    Ok(check_along(&rt, rt.alloc(), &reference)?)
 }
 
 /// Whether a searcher finds the same as `search_block` along a row of 67 macroblocks.
