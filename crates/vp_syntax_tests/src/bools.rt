@@ -1,21 +1,29 @@
 //! Tests of vp_bool: worked examples, read and written.
 
-use crate::check::equal;
+use crate::check::{equal, equal_bytes};
+use std::alloc::{AllocError, Global};
 use std::test::Fail;
 use vp_bool::{BoolDecoder, BoolEncoder};
 
+/// Returns the bytes of a single bool of 1.
+fn one_bool(alloc: Global) -> Result<Vec<u8>, AllocError> {
+    let mut e = BoolEncoder::new(alloc);
+    e.write(true, 128)?;
+    e.finish()
+}
+
+/// Returns the bytes of the number 5 in three bits.
+fn five_in_three_bits(alloc: Global) -> Result<Vec<u8>, AllocError> {
+    let mut e = BoolEncoder::new(alloc);
+    e.literal(5, 3)?;
+    e.finish()
+}
+
 #[test]
 fn bool_encoder_examples(rt: HostRuntime) -> Result<(), Fail> {
-    let nothing = BoolEncoder::new(rt.alloc()).finish()?;
-    equal(&rt, &nothing.as_slice(), &[0].as_slice());
-    let mut one = BoolEncoder::new(rt.alloc());
-    one.write(true, 128)?;
-    let one = one.finish()?;
-    equal(&rt, &one.as_slice(), &[0x80, 0].as_slice());
-    let mut five = BoolEncoder::new(rt.alloc());
-    five.literal(5, 3)?;
-    let five = five.finish()?;
-    equal(&rt, &five.as_slice(), &[0x9f, 0xc0].as_slice());
+    equal_bytes(&rt, BoolEncoder::new(rt.alloc()).finish()?, &[0]);
+    equal_bytes(&rt, one_bool(rt.alloc())?, &[0x80, 0]);
+    equal_bytes(&rt, five_in_three_bits(rt.alloc())?, &[0x9f, 0xc0]);
     Ok(())
 }
 

@@ -2,6 +2,7 @@
 
 use crate::check::equal;
 use std::alloc::Global;
+use std::process::Abort;
 use std::test::Fail;
 use vp_base::Limits;
 use vp_bool::{BoolDecoder, BoolEncoder};
@@ -22,7 +23,7 @@ fn tag_of(packet: &[u8]) -> Result<Tag, PacketFault> {
 }
 
 #[test]
-fn packet_faults(rt: HostRuntime) -> Result<(), Fail> {
+fn packet_faults(rt: HostRuntime) {
     assert!(rt; tag_of(&KEY[..9]) == Err(PacketFault::Truncated));
     assert!(rt; tag_of(&[0x11, 0]) == Err(PacketFault::Truncated));
     assert!(rt; tag_of(&[0x18, 0, 0]) == Err(PacketFault::Version));
@@ -34,7 +35,6 @@ fn packet_faults(rt: HostRuntime) -> Result<(), Fail> {
         key: None,
     };
     assert!(rt; tag_of(&[0x31, 0x02, 0x80]) == Ok(wanted));
-    Ok(())
 }
 
 /// Returns the tag of a key packet with these width and height fields.
@@ -107,22 +107,31 @@ fn ones_rows() -> (Segmentation, Filter, QuantiserIndices) {
     (segmentation, filter, quantiser)
 }
 
+/// Checks some values of a key packet's header that is read from bools of 1.
+fn check_ones(rt: &impl Abort, header: &Header) {
+    assert!(rt; header.key && header.color_space && header.clamping_type);
+    assert!(rt; rows_of(header) == ones_rows());
+    assert!(rt; header.probabilities.coefficients == [[[[255; 11]; 3]; 8]; 4]);
+}
+
+fn check_ones_saved(rt: &impl Abort, saved: &Saved) {
+    equal(rt, &saved.segments, &ONES_VALUES);
+    let kept = Saved::defaults().probabilities.vectors;
+    assert!(rt; saved.probabilities.vectors == kept);
+}
+
 #[test]
 fn all_ones_header(rt: HostRuntime) -> Result<(), Fail> {
     let (header, saved, _) = header_of(&KEY, &[255])?;
-    assert!(rt; header.key && header.color_space && header.clamping_type);
+    check_ones(&rt, &header);
     assert!(rt; header.deltas_enabled && header.refresh_entropy);
-    assert!(rt; rows_of(&header) == ones_rows());
-    assert!(rt; saved.segments == ONES_VALUES);
     let deltas = LevelDeltas {
         reference: [-63; 4],
         mode: [-63; 4],
     };
-    assert!(rt; header.deltas == deltas);
+    equal(&rt, &header.deltas, &deltas);
     equal(&rt, &(header.log2_partitions, header.skip), &(3, Some(255)));
-    assert!(rt; header.probabilities.coefficients == [[[[255; 11]; 3]; 8]; 4]);
-    let kept = Saved::defaults().probabilities.vectors;
-    assert!(rt; saved.probabilities.vectors == kept);
+    check_ones_saved(&rt, &saved);
     Ok(())
 }
 
@@ -134,24 +143,29 @@ fn parts_of(probabilities: &Probabilities) -> ([u8; 4], [u8; 3], [[u8; 19]; 2]) 
     (luma, chroma, vectors)
 }
 
-#[test]
-fn all_ones_inter_header(rt: HostRuntime) -> Result<(), Fail> {
-    let (header, saved, _) = header_of(&[0x31, 0, 0], &[255])?;
+/// Checks the flags and the references of an inter packet's header that is read from bools of 1.
+fn check_ones_references(rt: &impl Abort, header: &Header) {
     assert!(rt; !header.key);
     let updates = header.updates;
     assert!(rt; updates.refresh_golden && updates.refresh_alt && updates.refresh_last);
-    equal(&rt, &updates.copy_to_golden, &ReferenceCopy::Nothing);
-    let biases = SignBiases {
-        golden: true,
-        alt: true,
-    };
-    assert!(rt; saved.biases == biases);
+    equal(rt, &updates.copy_to_golden, &ReferenceCopy::Nothing);
     let references = ReferenceProbabilities {
         intra: 255,
         last: 255,
         golden: 255,
     };
-    assert!(rt; header.references == references);
+    equal(rt, &header.references, &references);
+}
+
+#[test]
+fn all_ones_inter_header(rt: HostRuntime) -> Result<(), Fail> {
+    let (header, saved, _) = header_of(&[0x31, 0, 0], &[255])?;
+    check_ones_references(&rt, &header);
+    let biases = SignBiases {
+        golden: true,
+        alt: true,
+    };
+    equal(&rt, &saved.biases, &biases);
     assert!(rt; parts_of(&saved.probabilities) == ([255; 4], [255; 3], [[254; 19]; 2]));
     Ok(())
 }
@@ -208,16 +222,20 @@ fn change_for_key(coefficients: &mut [[[[u8; 11]; 3]; 8]; 4]) {
     coefficients[3][5][0][1] = 110;
 }
 
+fn check_key_coefficients(rt: &impl Abort, header: &Header, saved: &Saved) {
+    let mut wanted = Saved::defaults().probabilities;
+    assert!(rt; saved.probabilities.coefficients == wanted.coefficients);
+    change_for_key(&mut wanted.coefficients);
+    assert!(rt; header.probabilities.coefficients == wanted.coefficients);
+}
+
 #[test]
 fn key_rows_of_a_stream(rt: HostRuntime) -> Result<(), Fail> {
     let (header, saved, behind) = header_of(&KEY_PACKET, &KEY_PACKET[10..])?;
     assert!(rt; !header.color_space && header.clamping_type);
     assert!(rt; !header.deltas_enabled && !header.refresh_entropy);
     assert!(rt; rows_of(&header) == key_rows());
-    let mut wanted = Saved::defaults().probabilities;
-    assert!(rt; saved.probabilities.coefficients == wanted.coefficients);
-    change_for_key(&mut wanted.coefficients);
-    assert!(rt; header.probabilities.coefficients == wanted.coefficients);
+    check_key_coefficients(&rt, &header, &saved);
     equal(
         &rt,
         &(header.log2_partitions, header.skip, behind),
@@ -253,6 +271,22 @@ fn inter_rows() -> (Segmentation, Filter, QuantiserIndices) {
     (segmentation, filter, quantiser)
 }
 
+fn check_inter_references(rt: &impl Abort, header: &Header) {
+    let updates = ReferenceUpdates {
+        refresh_golden: true,
+        refresh_alt: false,
+        copy_to_golden: ReferenceCopy::Nothing,
+        copy_to_alt: ReferenceCopy::Last,
+        refresh_last: false,
+    };
+    equal(rt, &header.updates, &updates);
+    let biases = SignBiases {
+        golden: false,
+        alt: true,
+    };
+    equal(rt, &(header.log2_partitions, header.biases), &(0, biases));
+}
+
 #[test]
 fn inter_rows_of_a_stream(rt: HostRuntime) -> Result<(), Fail> {
     let (header, saved, _) = header_of(&INTER_PACKET, &INTER_PACKET[3..])?;
@@ -262,20 +296,8 @@ fn inter_rows_of_a_stream(rt: HostRuntime) -> Result<(), Fail> {
         reference: [0, 0, 46, 58],
         mode: [0, 0, 54, 61],
     };
-    assert!(rt; saved.deltas == deltas);
-    let updates = ReferenceUpdates {
-        refresh_golden: true,
-        refresh_alt: false,
-        copy_to_golden: ReferenceCopy::Nothing,
-        copy_to_alt: ReferenceCopy::Last,
-        refresh_last: false,
-    };
-    assert!(rt; header.updates == updates);
-    let biases = SignBiases {
-        golden: false,
-        alt: true,
-    };
-    assert!(rt; (header.log2_partitions, header.biases) == (0, biases));
+    equal(&rt, &saved.deltas, &deltas);
+    check_inter_references(&rt, &header);
     Ok(())
 }
 
@@ -324,10 +346,7 @@ fn written_back(alloc: Global, packet: &[u8], partition: &[u8]) -> Result<Header
 
 #[test]
 fn headers_read_back(rt: HostRuntime) -> Result<(), Fail> {
-    let key = written_back(rt.alloc(), &KEY, &[255])?;
-    assert!(rt; key.key && key.color_space && key.clamping_type);
-    assert!(rt; rows_of(&key) == ones_rows());
-    assert!(rt; key.probabilities.coefficients == [[[[255; 11]; 3]; 8]; 4]);
+    check_ones(&rt, &written_back(rt.alloc(), &KEY, &[255])?);
     let inter = written_back(rt.alloc(), &[0x31, 0, 0], &[255])?;
     assert!(rt; !inter.key && inter.biases.golden && inter.biases.alt);
     assert!(rt; rows_of(&inter) == ones_rows());
@@ -353,17 +372,16 @@ fn names_of_packet_faults(rt: HostRuntime) -> Result<(), Fail> {
         (PacketFault::PartitionTable, "PartitionTable"),
         (PacketFault::Partition(2), "Partition 2"),
     ];
-    for (fault, name) in names {
-        assert!(rt; is_told_as(rt.alloc(), fault, name)?);
+    for (fault, name) in &names {
+        assert!(rt; is_told_as(rt.alloc(), *fault, name)?);
     }
     Ok(())
 }
 
 /// A key packet of fewer than ten bytes is truncated, whatever its start code and size are.
 #[test]
-fn truncated_before_start_code(rt: HostRuntime) -> Result<(), Fail> {
+fn truncated_before_start_code(rt: HostRuntime) {
     assert!(rt; tag_of(&OTHER[..9]) == Err(PacketFault::Truncated));
     assert!(rt; tag_of(&OTHER[..6]) == Err(PacketFault::Truncated));
     assert!(rt; tag_of(&OTHER[..3]) == Err(PacketFault::Truncated));
-    Ok(())
 }

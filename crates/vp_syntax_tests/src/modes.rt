@@ -1,15 +1,28 @@
 //! Tests of vp_modes: modes read from worked partitions and from streams, and written again.
 
 ghost use Rattle.std.specs.Prelude.{◌≡◌, ◌<◌};
+ghost use Rattle.vp_base.specs.Image.{macroblocks};
 
-use crate::check::equal;
+use crate::check::{equal, equal_bytes, size};
 use std::alloc::{AllocError, Global};
-use vp_base::{Dim, Limits};
+use std::process::Abort;
+use vp_base::Dim;
 use vp_bool::{BoolDecoder, BoolEncoder};
 use vp_head::{Header, KeyTag, Reference, Saved, Tag};
 use vp_modes::{ModeMap, Modes, Place, read_modes, write_modes};
 use vp_tables::SubMode::{Dc, Hd, He, Hu, Ld, Rd, Tm, Ve, Vr};
 use vp_tables::{ChromaMode, LumaMode, SubMode};
+
+/// Allocates a map for frames of this size.
+fn new_map(rt: &impl Abort, alloc: Global, dim: Dim) -> ModeMap
+    ensures columns { result.columns ≡ macroblocks dim.w }
+    ensures rows { result.rows ≡ macroblocks dim.h }
+{
+    let Ok(map) = ModeMap::new(alloc, dim) else {
+        panic!(rt; "a map");
+    };
+    map
+}
 
 fn key_tag(dim: Dim) -> Tag {
     Tag {
@@ -42,12 +55,8 @@ fn modes_of(dim: Dim, map: &ModeMap, of_header: &[u8], of_modes: &[u8]) -> Modes
 /// A partition that begins with 255 gives only bools of 1.
 #[test]
 fn all_ones_header(rt: HostRuntime) {
-    let Ok(dim) = Dim::new(16, 16, &Limits::usual()) else {
-        panic!(rt; "a size");
-    };
-    let Ok(map) = ModeMap::new(rt.alloc(), dim) else {
-        panic!(rt; "a map");
-    };
+    let dim = size(&rt, 16, 16);
+    let map = new_map(&rt, rt.alloc(), dim);
     let modes = modes_of(dim, &map, &[255], &[255]);
     let wanted = Modes {
         segment: 3,
@@ -83,21 +92,23 @@ fn changes_alone(map: &ModeMap, copy: &mut ModeMap) -> bool
     *copy.get(place) == CHANGED && *copy.get(beside) == plain && *map.get(place) == plain
 }
 
+fn check_copy(rt: &impl Abort, alloc: Global, map: &ModeMap)
+    requires columns { map.now.columns ≡ 2 }
+    requires rows { map.now.rows ≡ 3 }
+{
+    let Ok(mut copy) = map.copy(alloc) else {
+        panic!(rt; "a copy");
+    };
+    assert!(rt; changes_alone(map, &mut copy));
+}
+
 /// A new map, and one that is copied and then changed.
 #[test]
 fn succeeds_with_memory_maps(rt: HostRuntime) {
-    let Ok(dim) = Dim::new(17, 33, &Limits::usual()) else {
-        panic!(rt; "a size");
-    };
-    let Ok(map) = ModeMap::new(rt.alloc(), dim) else {
-        panic!(rt; "a map");
-    };
-    equal(&rt, &map.columns(), &2);
-    equal(&rt, &map.rows(), &3);
-    let Ok(mut copy) = map.copy(rt.alloc()) else {
-        panic!(rt; "a copy");
-    };
-    assert!(rt; changes_alone(&map, &mut copy));
+    let dim = size(&rt, 17, 33);
+    let map = new_map(&rt, rt.alloc(), dim);
+    equal(&rt, &(map.columns(), map.rows()), &(2, 3));
+    check_copy(&rt, rt.alloc(), &map);
 }
 
 /// A picture of 16 by 16 pixels, encoded by libwebp.
@@ -121,12 +132,8 @@ fn modes_after_header(dim: Dim, map: &ModeMap, bytes: &[u8]) -> Modes
 
 #[test]
 fn modes_of_a_picture(rt: HostRuntime) {
-    let Ok(dim) = Dim::new(16, 16, &Limits::usual()) else {
-        panic!(rt; "a size");
-    };
-    let Ok(map) = ModeMap::new(rt.alloc(), dim) else {
-        panic!(rt; "a map");
-    };
+    let dim = size(&rt, 16, 16);
+    let map = new_map(&rt, rt.alloc(), dim);
     let modes = modes_after_header(dim, &map, &PICTURE);
     equal(&rt, &modes.luma, &LumaMode::B);
     assert!(rt; modes.subs == SUBS_OF_PICTURE);
@@ -215,17 +222,21 @@ fn puts_four(header: &Header, map: &mut ModeMap, wanted: &[Modes; 4], d: &mut Bo
         && puts_next(header, map, last, fourth, d)
 }
 
-#[test]
-fn modes_by_their_neighbours(rt: HostRuntime) {
-    let Ok(dim) = Dim::new(32, 32, &Limits::usual()) else {
-        panic!(rt; "a size");
-    };
-    let Ok(mut map) = ModeMap::new(rt.alloc(), dim) else {
-        panic!(rt; "a map");
-    };
+/// Returns whether the four macroblocks of the partition are as expected.
+fn reads_four(dim: Dim, map: &mut ModeMap) -> bool
+    requires columns { map.old.columns ≡ 2 }
+    requires rows { map.old.rows ≡ 2 }
+{
     let mut d = BoolDecoder::new(&FOUR);
     let (header, _) = Header::read(&Saved::defaults(), &key_tag(dim), &mut d);
-    assert!(rt; puts_four(&header, &mut map, &MODES, &mut d));
+    puts_four(&header, map, &MODES, &mut d)
+}
+
+#[test]
+fn modes_by_their_neighbours(rt: HostRuntime) {
+    let dim = size(&rt, 32, 32);
+    let mut map = new_map(&rt, rt.alloc(), dim);
+    assert!(rt; reads_four(dim, &mut map));
 }
 
 /// Reads a partition's header and the first macroblock's modes, and writes them again.
@@ -251,15 +262,11 @@ fn written_again(
 
 #[test]
 fn a_picture_written_again(rt: HostRuntime) {
-    let Ok(dim) = Dim::new(16, 16, &Limits::usual()) else {
-        panic!(rt; "a size");
-    };
-    let Ok(map) = ModeMap::new(rt.alloc(), dim) else {
-        panic!(rt; "a map");
-    };
+    let dim = size(&rt, 16, 16);
+    let map = new_map(&rt, rt.alloc(), dim);
     let Ok(bytes) = written_again(rt.alloc(), dim, &map, &PICTURE) else {
         panic!(rt; "memory");
     };
     // libwebp's partition has one more byte of 0.
-    equal(&rt, &bytes.as_slice(), &&PICTURE[..19]);
+    equal_bytes(&rt, bytes, &PICTURE[..19]);
 }

@@ -1,9 +1,10 @@
 //! Tests of vp_motion: vectors coded relative to their neighbours, read and written.
 
-ghost use Rattle.std.specs.Prelude.{◌≡◌, ◌<◌, IfOk};
+ghost use Rattle.std.specs.Prelude.{◌≡◌, ◌<◌};
 ghost use Rattle.vp_base.specs.Grid.{Has};
+ghost use Rattle.vp_base.specs.Image.{macroblocks};
 
-use crate::check::equal;
+use crate::check::{equal, size};
 use std::alloc::{AllocError, Global};
 use std::process::Abort;
 use std::test::Fail;
@@ -33,6 +34,8 @@ const STILL: Vector = Vector { row: 0, column: 0 };
 
 const FIRST: Place = Place { column: 0, row: 0 };
 
+const MIDDLE: Place = Place { column: 1, row: 1 };
+
 const FAR: Vector = Vector {
     row: -1023,
     column: -1023,
@@ -48,6 +51,17 @@ const SIDE: Vector = Vector {
     column: 0,
 };
 
+/// Allocates a map for frames of this size.
+fn map_of(rt: &impl Abort, alloc: Global, w: u16, h: u16) -> VectorMap
+    ensures columns { result.columns ≡ macroblocks w }
+    ensures rows { result.rows ≡ macroblocks h }
+{
+    let Ok(map) = VectorMap::new(alloc, size(rt, w, h)) else {
+        panic!(rt; "a map");
+    };
+    map
+}
+
 /// Reads the reference of the only macroblock of a frame.
 fn reference_of(alloc: Global, header: &Header, d: &mut BoolDecoder) -> Option<Reference> {
     let dim = Dim::new(16, 16, &Limits::usual()).ok()?;
@@ -55,25 +69,36 @@ fn reference_of(alloc: Global, header: &Header, d: &mut BoolDecoder) -> Option<R
     Some(read_modes(header, &modes, FIRST, d).reference)
 }
 
-/// A partition that begins with 255 gives only bools of 1: every optional field of an inter packet is present.
-#[test]
-fn split_vectors_far_outside(rt: HostRuntime) -> Result<(), Fail> {
-    let dim = Dim::new(16, 16, &Limits::usual()).ok().ok_or("a size")?;
-    let map = VectorMap::new(rt.alloc(), dim)?;
-    let mut d = BoolDecoder::new(&[255]);
-    let (header, _) = Header::read(&Saved::defaults(), &INTER, &mut d);
-    let reference = reference_of(rt.alloc(), &header, &mut d);
-    equal(&rt, &reference, &Some(Reference::Alt));
-    let motion = read_motion(&header, &map, FIRST, Reference::Alt, &mut d);
+fn check_far_vectors(rt: &impl Abort, header: &Header, map: &VectorMap, d: &mut BoolDecoder)
+    requires { Has map.now FIRST }
+{
+    let motion = read_motion(header, map, FIRST, Reference::Alt, d);
     let wanted = Motion {
         mode: Split,
         vectors: [FAR; 16],
     };
-    assert!(rt; motion == wanted);
+    equal(rt, &motion, &wanted);
     let probabilities = &header.probabilities.vectors;
-    assert!(rt; read_vector(probabilities, &mut d) == FAR);
-    assert!(rt; read_split(probabilities, &map, FIRST, BEST, &mut d) == [SIDE; 16]);
-    Ok(())
+    equal(rt, &read_vector(probabilities, d), &FAR);
+    let split = read_split(probabilities, map, FIRST, BEST, d);
+    equal(rt, &split, &[SIDE; 16]);
+}
+
+fn check_ones(rt: &impl Abort, alloc: Global, map: &VectorMap)
+    requires { Has map.now FIRST }
+{
+    let mut d = BoolDecoder::new(&[255]);
+    let (header, _) = Header::read(&Saved::defaults(), &INTER, &mut d);
+    let reference = reference_of(alloc, &header, &mut d);
+    equal(rt, &reference, &Some(Reference::Alt));
+    check_far_vectors(rt, &header, map, &mut d);
+}
+
+/// A partition that begins with 255 gives only bools of 1: every optional field of an inter packet is present.
+#[test]
+fn split_vectors_far_outside(rt: HostRuntime) {
+    let map = map_of(&rt, rt.alloc(), 16, 16);
+    check_ones(&rt, rt.alloc(), &map);
 }
 
 const FOUR: Vector = Vector { row: 4, column: 0 };
@@ -87,20 +112,35 @@ fn put_four(map: &mut VectorMap, place: Place)
     map.set(place, Reference::Last, New, &[FOUR; 16]);
 }
 
+/// Stores motion above the macroblock (1, 1) and to its left.
+fn put_neighbours(map: &mut VectorMap)
+    requires columns { 1 < map.old.columns }
+    requires rows { 1 < map.old.rows }
+    ensures columns { map.new.columns ≡ map.old.columns }
+    ensures rows { map.new.rows ≡ map.old.rows }
+{
+    put_four(map, Place { column: 1, row: 0 });
+    put_four(map, Place { column: 0, row: 1 });
+}
+
+fn check_neighbours(rt: &impl Abort, map: &mut VectorMap)
+    requires columns { map.old.columns ≡ 3 }
+    requires rows { map.old.rows ≡ 3 }
+{
+    put_neighbours(map);
+    let found = near(map, MIDDLE, Reference::Last, UNBIASED);
+    equal(rt, &found.counts, &[0, 4, 0, 0]);
+    equal(rt, &found.best, &FOUR);
+    let last = map.get(Place { column: 2, row: 2 }).reference;
+    equal(rt, &last, &Reference::Intra);
+}
+
 /// A new map, and the motion that is stored in it.
 #[test]
-fn succeeds_with_memory_map(rt: HostRuntime) -> Result<(), Fail> {
-    let dim = Dim::new(48, 33, &Limits::usual()).ok().ok_or("a size")?;
-    let mut map = VectorMap::new(rt.alloc(), dim)?;
+fn succeeds_with_memory_map(rt: HostRuntime) {
+    let mut map = map_of(&rt, rt.alloc(), 48, 33);
     equal(&rt, &(map.columns(), map.rows()), &(3, 3));
-    put_four(&mut map, Place { column: 1, row: 0 });
-    put_four(&mut map, Place { column: 0, row: 1 });
-    let found = near(&map, Place { column: 1, row: 1 }, Reference::Last, UNBIASED);
-    assert!(rt; found.counts == [0, 4, 0, 0]);
-    assert!(rt; found.best == FOUR);
-    let last = map.get(Place { column: 2, row: 2 }).reference;
-    equal(&rt, &last, &Reference::Intra);
-    Ok(())
+    check_neighbours(&rt, &mut map);
 }
 
 // Random bytes, and the motion of the inter macroblocks of three rows of three that libvpx reads from them with the
@@ -158,16 +198,37 @@ const REFERENCES: [Reference; 9] = [
     Reference::Alt,
 ];
 
-/// Returns whether these are the expected vectors of macroblock i.
-fn are_wanted(vectors: &[Vector; 16], i: usize) -> bool
+/// Returns the first block whose vector isn't the expected one of macroblock i.
+fn first_other_block(vectors: &[Vector; 16], i: usize) -> Option<usize>
     requires { i < 9 }
 {
     for (b, vector) in vectors.iter().enumerate() {
         if vector.row != ROWS[i][b] || vector.column != COLUMNS[i][b] {
-            return false;
+            return Some(b);
         }
     }
-    true
+    None
+}
+
+/// Checks the mode and the vectors of macroblock i.
+fn check_motion(rt: &impl Abort, i: usize, mode: VectorMode, vectors: &[Vector; 16])
+    requires { i < 9 }
+{
+    equal(rt, &(i, mode), &(i, MODES[i]));
+    equal(rt, &(i, first_other_block(vectors, i)), &(i, None));
+}
+
+/// Returns the next motion. The decoder stays where it is.
+fn next_motion(
+    header: &Header,
+    map: &VectorMap,
+    place: Place,
+    reference: Reference,
+    d: &BoolDecoder,
+) -> Motion
+    requires { Has map.now place }
+{
+    read_motion(header, map, place, reference, &mut d.copy())
 }
 
 fn put_next(
@@ -185,35 +246,42 @@ fn put_next(
     ensures rows { map.new.rows ≡ 3 }
 {
     let i = place.row * 3 + place.column;
-    let motion = read_motion(header, map, place, REFERENCES[i], &mut d.copy());
-    assert_eq!(rt; motion.mode, MODES[i], "at {i}");
-    assert!(rt; are_wanted(&motion.vectors, i), "at {i}");
-    read_into(header, map, place, REFERENCES[i], d);
+    let reference = REFERENCES[i];
+    let motion = next_motion(header, map, place, reference, d);
+    check_motion(rt, i, motion.mode, &motion.vectors);
+    read_into(header, map, place, reference, d);
     let kept = map.get(place);
-    assert_eq!(rt;
-        (kept.reference, kept.mode),
-        (REFERENCES[i], MODES[i]),
-        "at {i}"
-    );
-    assert!(rt; are_wanted(&kept.vectors, i), "at {i}");
+    equal(rt, &(i, kept.reference), &(i, reference));
+    check_motion(rt, i, kept.mode, &kept.vectors);
+}
+
+/// Puts all macroblocks but the intra one.
+fn put_all(rt: &impl Abort, header: &Header, map: &mut VectorMap, d: &mut BoolDecoder)
+    requires columns { map.old.columns ≡ 3 }
+    requires rows { map.old.rows ≡ 3 }
+{
+    put_next(rt, header, map, FIRST, d);
+    put_next(rt, header, map, Place { column: 1, row: 0 }, d);
+    put_next(rt, header, map, Place { column: 2, row: 0 }, d);
+    put_next(rt, header, map, Place { column: 0, row: 1 }, d);
+    put_next(rt, header, map, MIDDLE, d);
+    put_next(rt, header, map, Place { column: 0, row: 2 }, d);
+    put_next(rt, header, map, Place { column: 1, row: 2 }, d);
+    put_next(rt, header, map, Place { column: 2, row: 2 }, d);
+}
+
+/// Returns the header of an empty partition.
+fn empty_header() -> Header {
+    let (header, _) = Header::read(&Saved::defaults(), &INTER, &mut BoolDecoder::new(&[]));
+    header
 }
 
 #[test]
-fn vectors_by_their_neighbours(rt: HostRuntime) -> Result<(), Fail> {
-    let dim = Dim::new(48, 48, &Limits::usual()).ok().ok_or("a size")?;
-    let (mut header, _) = Header::read(&Saved::defaults(), &INTER, &mut BoolDecoder::new(&[]));
+fn vectors_by_their_neighbours(rt: HostRuntime) {
+    let mut header = empty_header();
     header.biases.golden = true;
-    let mut map = VectorMap::new(rt.alloc(), dim)?;
-    let mut d = BoolDecoder::new(&BYTES);
-    put_next(&rt, &header, &mut map, Place { column: 0, row: 0 }, &mut d);
-    put_next(&rt, &header, &mut map, Place { column: 1, row: 0 }, &mut d);
-    put_next(&rt, &header, &mut map, Place { column: 2, row: 0 }, &mut d);
-    put_next(&rt, &header, &mut map, Place { column: 0, row: 1 }, &mut d);
-    put_next(&rt, &header, &mut map, Place { column: 1, row: 1 }, &mut d);
-    put_next(&rt, &header, &mut map, Place { column: 0, row: 2 }, &mut d);
-    put_next(&rt, &header, &mut map, Place { column: 1, row: 2 }, &mut d);
-    put_next(&rt, &header, &mut map, Place { column: 2, row: 2 }, &mut d);
-    Ok(())
+    let mut map = map_of(&rt, rt.alloc(), 48, 48);
+    put_all(&rt, &header, &mut map, &mut BoolDecoder::new(&BYTES));
 }
 
 const MIXED: Vector = Vector { row: 4, column: -9 };
@@ -301,20 +369,35 @@ fn first_given(
     Ok(None)
 }
 
-/// Returns the first motion that isn't read back.
-fn first_other(header: &Header, map: &VectorMap, place: Place, d: &mut BoolDecoder) -> Option<usize>
+/// Returns the first motion that isn't read back from these bytes.
+fn first_other(header: &Header, map: &VectorMap, place: Place, bytes: &[u8]) -> Option<usize>
     requires { Has map.now place }
 {
+    let mut d = BoolDecoder::new(bytes);
     for (i, (mode, vector)) in GIVEN.iter().enumerate() {
         let wanted = Motion {
             mode: *mode,
             vectors: [*vector; 16],
         };
-        if read_motion(header, map, place, Reference::Last, d) != wanted {
+        if read_motion(header, map, place, Reference::Last, &mut d) != wanted {
             return Some(i);
         }
     }
     None
+}
+
+/// Returns whether exactly the motions that can be coded are written.
+fn writes_given(
+    header: &Header,
+    map: &VectorMap,
+    place: Place,
+    e: &mut BoolEncoder,
+) -> Result<bool, AllocError>
+    requires { Has map.now place }
+{
+    let given = first_given(header, map, place, &GIVEN, false, e)?;
+    let refused = first_given(header, map, place, &REFUSED, true, e)?;
+    Ok(given.is_none() && refused.is_none())
 }
 
 /// Returns whether exactly the motions that can be coded are written, and are read back.
@@ -327,23 +410,24 @@ fn read_back(
     requires { Has map.now place }
 {
     let mut e = BoolEncoder::new(alloc);
-    let given = first_given(header, map, place, &GIVEN, false, &mut e)?;
-    let refused = first_given(header, map, place, &REFUSED, true, &mut e)?;
+    let is_written = writes_given(header, map, place, &mut e)?;
     let bytes = e.finish()?;
-    let other = first_other(header, map, place, &mut BoolDecoder::new(bytes.as_slice()));
-    Ok(given.is_none() && refused.is_none() && other.is_none())
+    Ok(is_written && first_other(header, map, place, &bytes).is_none())
+}
+
+fn check_read_back(rt: &impl Abort, alloc: Global, map: &mut VectorMap)
+    requires columns { map.old.columns ≡ 2 }
+    requires rows { map.old.rows ≡ 2 }
+{
+    equal(rt, &(map.columns(), map.rows()), &(2, 2));
+    put_neighbours(map);
+    let is_read_back = read_back(alloc, &empty_header(), map, MIDDLE);
+    equal(rt, &is_read_back.ok(), &Some(true));
 }
 
 /// All modes except split.
 #[test]
-fn motions_read_back(rt: HostRuntime) -> Result<(), Fail> {
-    let dim = Dim::new(32, 32, &Limits::usual()).ok().ok_or("a size")?;
-    let mut map = VectorMap::new(rt.alloc(), dim)?;
-    assert_eq!(rt; (map.columns(), map.rows()), (2, 2));
-    put_four(&mut map, Place { column: 1, row: 0 });
-    put_four(&mut map, Place { column: 0, row: 1 });
-    let (header, _) = Header::read(&Saved::defaults(), &INTER, &mut BoolDecoder::new(&[]));
-    let place = Place { column: 1, row: 1 };
-    assert!(rt; read_back(rt.alloc(), &header, &map, place)?);
-    Ok(())
+fn motions_read_back(rt: HostRuntime) {
+    let mut map = map_of(&rt, rt.alloc(), 32, 32);
+    check_read_back(&rt, rt.alloc(), &mut map);
 }

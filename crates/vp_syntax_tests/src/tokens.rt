@@ -3,8 +3,9 @@
 ghost use Rattle.std.specs.Prelude.{◌≡◌, ◌<◌, ◌≤◌, length};
 ghost use Rattle.vp_tokens.specs.Spelled.{AreSpelled};
 
-use crate::check::equal;
+use crate::check::{equal, equal_bytes};
 use std::alloc::{AllocError, Global};
+use std::process::Abort;
 use std::test::Fail;
 use vp_base::Place;
 use vp_bool::{BoolDecoder, BoolEncoder};
@@ -39,6 +40,16 @@ fn packet_faults(rt: HostRuntime) {
     );
 }
 
+/// Allocates contexts for this number of columns.
+fn new_contexts(rt: &impl Abort, alloc: Global, columns: usize) -> Contexts
+    ensures { length result.above ≡ columns }
+{
+    let Ok(contexts) = Contexts::new(alloc, columns) else {
+        panic!(rt; "memory");
+    };
+    contexts
+}
+
 /// Reads the first macroblock's tokens from a partition of ones.
 fn tokens_of_ones(contexts: &mut Contexts, has_y2: bool, skipped: bool) -> Tokens
     requires { 0 < length contexts.old.above }
@@ -58,6 +69,12 @@ fn tokens_of_ones(contexts: &mut Contexts, has_y2: bool, skipped: bool) -> Token
     tokens
 }
 
+/// Reads them with new contexts.
+fn first_tokens_of_ones(rt: &impl Abort, alloc: Global, has_y2: bool, skipped: bool) -> Tokens {
+    let mut contexts = new_contexts(rt, alloc, 1);
+    tokens_of_ones(&mut contexts, has_y2, skipped)
+}
+
 const ONES: Block = Block {
     levels: [-2114; 16],
     tokens: 16,
@@ -75,10 +92,7 @@ fn are_ones(blocks: &[Block]) -> bool {
 
 #[test]
 fn all_ones_tokens(rt: HostRuntime) {
-    let Ok(mut contexts) = Contexts::new(rt.alloc(), 1) else {
-        panic!(rt; "memory");
-    };
-    let tokens = tokens_of_ones(&mut contexts, false, false);
+    let tokens = first_tokens_of_ones(&rt, rt.alloc(), false, false);
     assert!(rt; tokens.any());
     assert!(rt; tokens.blocks[0] == Block::NONE);
     assert!(rt; are_ones(&tokens.blocks[1..]));
@@ -86,10 +100,7 @@ fn all_ones_tokens(rt: HostRuntime) {
 
 #[test]
 fn skipped_has_no_tokens(rt: HostRuntime) {
-    let Ok(mut contexts) = Contexts::new(rt.alloc(), 1) else {
-        panic!(rt; "memory");
-    };
-    let tokens = tokens_of_ones(&mut contexts, true, true);
+    let tokens = first_tokens_of_ones(&rt, rt.alloc(), true, true);
     assert!(rt; !tokens.any());
     assert!(rt; tokens == Tokens::NONE);
 }
@@ -112,9 +123,10 @@ fn bytes_below(contexts: &mut Contexts, alloc: Global) -> Result<Vec<u8>, AllocE
     e.finish()
 }
 
-/// Writes such a macroblock below one whose Y2 block alone has tokens.
-fn bytes_below_y2(contexts: &mut Contexts, alloc: Global) -> Result<Vec<u8>, AllocError>
+/// Writes a macroblock whose Y2 block alone has tokens.
+fn put_y2(contexts: &mut Contexts, alloc: Global) -> Result<(), AllocError>
     requires { 0 < length contexts.old.above }
+    ensures { length contexts.new.above ≡ length contexts.old.above }
 {
     let mut tokens = Tokens::NONE;
     tokens.blocks[0] = Block::of_levels(&[1, 0, 0, 0, 0, 0, 0, 0, 0, 0, 0, 0, 0, 0, 0, 0]);
@@ -128,28 +140,39 @@ fn bytes_below_y2(contexts: &mut Contexts, alloc: Global) -> Result<Vec<u8>, All
         false,
         &tokens,
         &mut e,
-    )?;
-    bytes_below(contexts, alloc)
+    )
+}
+
+/// Writes an empty macroblock below one whose Y2 block alone has tokens.
+fn bytes_below_y2(alloc: Global) -> Result<Vec<u8>, AllocError> {
+    let mut contexts = Contexts::new(alloc, 1)?;
+    put_y2(&mut contexts, alloc)?;
+    bytes_below(&mut contexts, alloc)
+}
+
+/// Writes an empty macroblock below a skipped one, which is below one whose blocks all have tokens.
+fn bytes_below_skipped(alloc: Global, has_y2: bool) -> Result<Vec<u8>, AllocError> {
+    let mut contexts = Contexts::new(alloc, 1)?;
+    let _known = tokens_of_ones(&mut contexts, true, false);
+    pass_macroblock(&mut contexts, Place { column: 0, row: 1 }, has_y2);
+    bytes_below(&mut contexts, alloc)
+}
+
+/// Checks what is written below skipped macroblocks. `none` is written where no block above has tokens.
+fn check_skipped(rt: &impl Abort, alloc: Global, none: &[u8]) -> Result<(), Fail> {
+    let y2_alone = bytes_below_y2(alloc)?;
+    assert!(rt; none != y2_alone.as_slice());
+    equal_bytes(rt, bytes_below_skipped(alloc, false)?, &y2_alone);
+    equal_bytes(rt, bytes_below_skipped(alloc, true)?, none);
+    Ok(())
 }
 
 // The RFC's rule, worked by hand: after a skipped macroblock its blocks count as empty. If it has no Y2 block, the Y2
 // context of the macroblock above it, or to its left, is unchanged.
 #[test]
 fn skipped_leaves_y2(rt: HostRuntime) -> Result<(), Fail> {
-    let alloc = rt.alloc();
-    let below = Place { column: 0, row: 1 };
-    let none = bytes_below(&mut Contexts::new(alloc, 1)?, alloc)?;
-    let y2_alone = bytes_below_y2(&mut Contexts::new(alloc, 1)?, alloc)?;
-    assert!(rt; none != y2_alone);
-    let mut contexts = Contexts::new(alloc, 1)?;
-    let _known = tokens_of_ones(&mut contexts, true, false);
-    pass_macroblock(&mut contexts, below, false);
-    assert!(rt; bytes_below(&mut contexts, alloc)? == y2_alone);
-    let mut contexts = Contexts::new(alloc, 1)?;
-    let _known = tokens_of_ones(&mut contexts, true, false);
-    pass_macroblock(&mut contexts, below, true);
-    assert!(rt; bytes_below(&mut contexts, alloc)? == none);
-    Ok(())
+    let none = bytes_below(&mut Contexts::new(rt.alloc(), 1)?, rt.alloc())?;
+    check_skipped(&rt, rt.alloc(), &none)
 }
 
 // The token partition of a row of three macroblocks from another encoder's stream; a third program read the expected
@@ -204,18 +227,22 @@ fn next_of_row(contexts: &mut Contexts, column: usize, has_y2: bool, d: &mut Boo
     tokens
 }
 
+fn check_row(rt: &impl Abort, contexts: &mut Contexts)
+    requires { length contexts.old.above ≡ 3 }
+{
+    let mut d = BoolDecoder::new(&ROW);
+    let first = next_of_row(contexts, 0, false, &mut d);
+    assert!(rt; is_first(&first.blocks));
+    let second = next_of_row(contexts, 1, false, &mut d);
+    assert!(rt; is_second(&second.blocks));
+    let third = next_of_row(contexts, 2, true, &mut d);
+    assert!(rt; is_third(&third.blocks));
+}
+
 #[test]
 fn row_of_a_stream(rt: HostRuntime) {
-    let Ok(mut contexts) = Contexts::new(rt.alloc(), 3) else {
-        panic!(rt; "memory");
-    };
-    let mut d = BoolDecoder::new(&ROW);
-    let first = next_of_row(&mut contexts, 0, false, &mut d);
-    assert!(rt; is_first(&first.blocks));
-    let second = next_of_row(&mut contexts, 1, false, &mut d);
-    assert!(rt; is_second(&second.blocks));
-    let third = next_of_row(&mut contexts, 2, true, &mut d);
-    assert!(rt; is_third(&third.blocks));
+    let mut contexts = new_contexts(&rt, rt.alloc(), 3);
+    check_row(&rt, &mut contexts);
 }
 
 /// Reads a macroblock of the row, and writes it again.
@@ -245,18 +272,36 @@ fn copy_next(
     )
 }
 
+/// Reads the macroblocks of the row, and writes them again.
+fn copy_row(
+    read: &mut Contexts,
+    written: &mut Contexts,
+    e: &mut BoolEncoder,
+) -> Result<(), AllocError>
+    requires read { length read.old.above ≡ 3 }
+    requires written { length written.old.above ≡ 3 }
+{
+    let mut d = BoolDecoder::new(&ROW);
+    copy_next(read, written, 0, false, &mut d, e)?;
+    copy_next(read, written, 1, false, &mut d, e)?;
+    copy_next(read, written, 2, true, &mut d, e)
+}
+
+/// Returns the row as it is written again.
+fn copied_row(alloc: Global, read: &mut Contexts) -> Result<Vec<u8>, AllocError>
+    requires { length read.old.above ≡ 3 }
+{
+    let mut written = Contexts::new(alloc, 3)?;
+    let mut e = BoolEncoder::new(alloc);
+    copy_row(read, &mut written, &mut e)?;
+    e.finish()
+}
+
 // The row is written exactly as the other encoder wrote it.
 #[test]
 fn writes_row_of_a_stream(rt: HostRuntime) -> Result<(), Fail> {
     let mut read = Contexts::new(rt.alloc(), 3)?;
-    let mut written = Contexts::new(rt.alloc(), 3)?;
-    let mut d = BoolDecoder::new(&ROW);
-    let mut e = BoolEncoder::new(rt.alloc());
-    copy_next(&mut read, &mut written, 0, false, &mut d, &mut e)?;
-    copy_next(&mut read, &mut written, 1, false, &mut d, &mut e)?;
-    copy_next(&mut read, &mut written, 2, true, &mut d, &mut e)?;
-    let bytes = e.finish()?;
-    equal(&rt, &bytes.as_slice(), &&ROW[..]);
+    equal_bytes(&rt, copied_row(rt.alloc(), &mut read)?, &ROW);
     Ok(())
 }
 
@@ -273,8 +318,7 @@ fn puts_empty_parts(rt: HostRuntime) -> Result<(), Fail> {
         Vec::new(a),
         Vec::new(a),
     ];
-    let bytes = Partitions::put(a, &parts)?;
-    equal(&rt, &bytes.as_slice(), &[0; 21].as_slice());
+    equal_bytes(&rt, Partitions::put(a, &parts)?, &[0; 21]);
     Ok(())
 }
 

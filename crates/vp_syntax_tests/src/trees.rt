@@ -1,6 +1,7 @@
 //! Tests of vp_tree: paths, and leaves read and written.
 
-use crate::check::equal;
+use crate::check::{equal, equal_bytes};
+use std::alloc::{AllocError, Global};
 use std::test::Fail;
 use vp_bool::{BoolDecoder, BoolEncoder};
 use vp_tree::TreeEntry::{self, Leaf, Pair};
@@ -23,29 +24,26 @@ const SEASONS: [TreeEntry<Season>; 6] = [
     Leaf(Season::Autumn),
 ];
 
+/// Reads a leaf from these bytes.
+fn leaf_of(bytes: &[u8], probabilities: &[u8; 3]) -> Season {
+    read_tree(&SEASONS, probabilities, &mut BoolDecoder::new(bytes))
+}
+
+/// Reads two leaves from bools of 0: one from the root, and one from pair 2.
+fn leaves_of_zeros() -> (Season, Season) {
+    let mut zeros = BoolDecoder::new(&[]);
+    let root = read_tree(&SEASONS, &[1, 0, 255], &mut zeros);
+    let pair = read_tree_from(&SEASONS, &[1, 0, 255], 2, &mut zeros);
+    (root, pair)
+}
+
 #[test]
 fn reads_leaves(rt: HostRuntime) {
     let even = [128; 3];
     // The bools 1, 0, 1: the number 5 in three bits.
-    let mut five = BoolDecoder::new(&[0x9f, 0xc0]);
-    equal(&rt, &read_tree(&SEASONS, &even, &mut five), &Season::Autumn);
-    let mut zeros = BoolDecoder::new(&[]);
-    equal(
-        &rt,
-        &read_tree(&SEASONS, &[1, 0, 255], &mut zeros),
-        &Season::Spring,
-    );
-    equal(
-        &rt,
-        &read_tree_from(&SEASONS, &[1, 0, 255], 2, &mut zeros),
-        &Season::Summer,
-    );
-    let mut ones = BoolDecoder::new(&[255]);
-    equal(
-        &rt,
-        &read_tree(&SEASONS, &[255, 0, 1], &mut ones),
-        &Season::Winter,
-    );
+    equal(&rt, &leaf_of(&[0x9f, 0xc0], &even), &Season::Autumn);
+    equal(&rt, &leaves_of_zeros(), &(Season::Spring, Season::Summer));
+    equal(&rt, &leaf_of(&[255], &[255, 0, 1]), &Season::Winter);
     // A single bool of 1.
     let mut one = BoolDecoder::new(&[0x80, 0]);
     equal(
@@ -77,18 +75,23 @@ fn finds_paths(rt: HostRuntime) {
     );
 }
 
+/// Writes the bools 1, 0, 1: the number 5 in three bits.
+fn autumn(alloc: Global) -> Result<Vec<u8>, AllocError> {
+    let mut e = BoolEncoder::new(alloc);
+    write_tree(&SEASONS, &[128; 3], Season::Autumn, &mut e)?;
+    e.finish()
+}
+
+/// Writes a single bool of 1.
+fn autumn_from_its_pair(alloc: Global) -> Result<Vec<u8>, AllocError> {
+    let mut e = BoolEncoder::new(alloc);
+    write_tree_from(&SEASONS, &[128; 3], 4, Season::Autumn, &mut e)?;
+    e.finish()
+}
+
 #[test]
 fn writes_leaves(rt: HostRuntime) -> Result<(), Fail> {
-    let even = [128; 3];
-    // The bools 1, 0, 1: the number 5 in three bits.
-    let mut five = BoolEncoder::new(rt.alloc());
-    write_tree(&SEASONS, &even, Season::Autumn, &mut five)?;
-    let five = five.finish()?;
-    equal(&rt, &five.as_slice(), &[0x9f, 0xc0].as_slice());
-    // A single bool of 1.
-    let mut one = BoolEncoder::new(rt.alloc());
-    write_tree_from(&SEASONS, &even, 4, Season::Autumn, &mut one)?;
-    let one = one.finish()?;
-    equal(&rt, &one.as_slice(), &[0x80, 0].as_slice());
+    equal_bytes(&rt, autumn(rt.alloc())?, &[0x9f, 0xc0]);
+    equal_bytes(&rt, autumn_from_its_pair(rt.alloc())?, &[0x80, 0]);
     Ok(())
 }
