@@ -187,8 +187,22 @@ fn shows_key(alloc: Global, decoder: &Decoder) -> bool {
     }
 }
 
-/// Sets byte `at` to a value, and decodes a key packet, the changed packet, an inter packet and the key packet. Returns
-/// whether all outcomes and the last picture are as expected.
+/// Decodes a key packet, the changed packet, an inter packet and the key packet. Returns whether all outcomes are as
+/// expected.
+fn gives_each(decoder: &mut Decoder, packet: &[u8], changed: Outcome) -> bool {
+    gives(decoder, &KEY, Outcome::Shown)
+        && gives(decoder, packet, changed)
+        && gives(decoder, &INTER, outcome_behind(changed))
+        && gives(decoder, &KEY, Outcome::Shown)
+}
+
+/// Returns whether all outcomes of those packets and the last picture are as expected.
+fn plays(alloc: Global, limits: Limits, packet: &[u8], changed: Outcome) -> bool {
+    let mut decoder = Decoder::new(alloc, limits);
+    gives_each(&mut decoder, packet, changed) && shows_key(alloc, &decoder)
+}
+
+/// Sets byte `at` to a value, and returns whether the changed packet plays as expected.
 fn stands(alloc: Global, at: usize, value: u8) -> bool
     requires { at < SIZE }
 {
@@ -199,12 +213,7 @@ fn stands(alloc: Global, at: usize, value: u8) -> bool
     let Some(limits) = Limits::new(PIXELS, 16_384, 100, 1) else {
         return false;
     };
-    let mut decoder = Decoder::new(alloc, limits);
-    gives(&mut decoder, &KEY, Outcome::Shown)
-        && gives(&mut decoder, packet, changed)
-        && gives(&mut decoder, &INTER, outcome_behind(changed))
-        && gives(&mut decoder, &KEY, Outcome::Shown)
-        && shows_key(alloc, &decoder)
+    plays(alloc, limits, packet, changed)
 }
 
 /// Returns the first value of byte `at` with other outcomes than expected.

@@ -19,8 +19,9 @@ ghost use Rattle.vp_tokens.specs.Blocks.{no_blocks};
 ghost use Rattle.vp_encode.specs.CodedFrame.{choice_has_y2, CanBeEncoded};
 
 use crate::check::equal;
-use crate::worked_rows::{encoded_flat, settings};
+use crate::worked_rows::{encoded_flat, flat, header_of, settings};
 use std::alloc::{AllocError, Global};
+use std::process::Abort;
 use std::test::Fail;
 use vp_base::{ByteList, Dim, Grid, Limits, Picture, Place};
 use vp_bool::BoolDecoder;
@@ -198,41 +199,79 @@ fn chessboard_packet(alloc: Global, dim: Dim) -> Result<ByteList, PacketError> {
     write_key_packet(alloc, dim, &coded)
 }
 
-/// Returns the luma of the first column after this packet, one pixel for each row of macroblocks.
-fn first_column(
-    alloc: Global,
-    decoder: &mut Decoder,
-    packet: &ByteList,
-) -> Result<Vec<u8>, AllocError> {
-    let mut found = Vec::new(alloc);
-    if decoder.decode(packet.as_slice())? == Outcome::Shown {
-        if let Some(picture) = decoder.picture() {
-            for row in 0..usize::from(picture.dim().mb_rows()) {
-                found.push(picture.plane(0).get(0, 16 * row))?;
-            }
-        }
-    }
-    Ok(found)
+/// Returns the error of writing that packet.
+fn chessboard_fault(alloc: Global, dim: Dim) -> Option<PacketError> {
+    chessboard_packet(alloc, dim).err()
 }
 
-/// Returns whether a new decoder shows these packets, one after another, each with this luma in the first column.
-fn show_column(alloc: Global, packets: &[&ByteList], wanted: &[u8]) -> Result<bool, AllocError> {
-    let mut decoder = Decoder::new(alloc, Limits::usual());
+/// Returns whether the luma of a picture's first column is this, one pixel for each row of macroblocks.
+fn has_column(picture: &Picture, wanted: &[u8]) -> bool {
+    if usize::from(picture.dim().mb_rows()) != wanted.len() {
+        return false;
+    }
+    for row in 0..usize::from(picture.dim().mb_rows()) {
+        if picture.plane(0).get(0, 16 * row) != wanted[row] {
+            return false;
+        }
+    }
+    true
+}
+
+/// Returns whether the decoder shows this packet, with this luma in the first column.
+fn shows_column(
+    decoder: &mut Decoder,
+    packet: &ByteList,
+    wanted: &[u8],
+) -> Result<bool, AllocError> {
+    if decoder.decode(packet.as_slice())? == Outcome::Shown {
+        if let Some(picture) = decoder.picture() {
+            return Ok(has_column(picture, wanted));
+        }
+    }
+    Ok(false)
+}
+
+/// Returns whether the decoder shows these packets, one after another, each with this luma in the first column.
+fn shows_columns(
+    decoder: &mut Decoder,
+    packets: &[&ByteList],
+    wanted: &[u8],
+) -> Result<bool, AllocError> {
     for packet in packets {
-        if first_column(alloc, &mut decoder, packet)?.as_slice() != wanted {
+        if !shows_column(decoder, packet, wanted)? {
             return Ok(false);
         }
     }
     Ok(true)
 }
 
+/// Returns whether a new decoder does.
+fn show_column(alloc: Global, packets: &[&ByteList], wanted: &[u8]) -> Result<bool, AllocError> {
+    let mut decoder = Decoder::new(alloc, Limits::usual());
+    shows_columns(&mut decoder, packets, wanted)
+}
+
+/// Returns the key packet of a column of macroblocks with one luma mode.
+fn column_packet(
+    alloc: Global,
+    dim: Dim,
+    log2_partitions: u8,
+    luma: LumaMode,
+) -> Result<ByteList, PacketError>
+    requires width { dim.w ≡ 16 }
+    requires partitions { log2_partitions ≤ 3 }
+    requires luma { is_by_subblocks luma ≡ false }
+{
+    let coded = column_of(alloc, log2_partitions, usize::from(dim.mb_rows()), luma)?;
+    write_key_packet(alloc, dim, &coded)
+}
+
 /// Returns the key packet of one macroblock with this mode.
 fn one_macroblock(alloc: Global, luma: LumaMode) -> Result<ByteList, Fail>
     requires { is_by_subblocks luma ≡ false }
 {
-    let coded = column_of(alloc, 0, 1, luma)?;
     let dim = Dim::new(16, 16, &Limits::usual())?;
-    Ok(write_key_packet(alloc, dim, &coded)?)
+    Ok(column_packet(alloc, dim, 0, luma)?)
 }
 
 #[test]
@@ -244,9 +283,8 @@ fn flat_macroblock(rt: HostRuntime) -> Result<(), Fail> {
 
 /// Returns the key packet of nine macroblocks, one below another, in eight partitions.
 fn nine_macroblocks(alloc: Global) -> Result<ByteList, Fail> {
-    let coded = column_of(alloc, 3, 9, LumaMode::Dc)?;
     let dim = Dim::new(16, 144, &Limits::usual())?;
-    Ok(write_key_packet(alloc, dim, &coded)?)
+    Ok(column_packet(alloc, dim, 3, LumaMode::Dc)?)
 }
 
 #[test]
@@ -256,20 +294,38 @@ fn eight_partitions(rt: HostRuntime) -> Result<(), Fail> {
     Ok(())
 }
 
+/// Returns the packet of the still frame, relative to the defaults and these segments.
+fn still_packet_by(
+    alloc: Global,
+    dim: Dim,
+    segments: &Grid<Segment>,
+) -> Result<ByteList, PacketError>
+    requires width { dim.w ≡ 16 }
+    requires height { dim.h ≡ 16 }
+    requires segments { segments.now ≡ all 1 1 0 }
+{
+    let still = still_frame(alloc)?;
+    write_inter_packet(alloc, dim, &Saved::defaults(), segments, &still)
+}
+
 /// Returns the packet of the still frame.
 fn still_packet(alloc: Global) -> Result<ByteList, Fail> {
     let dim = Dim::new(16, 16, &Limits::usual())?;
-    let still = still_frame(alloc)?;
     let segments = Grid::new(alloc, 1, 1, Segment { number: 0 })?;
-    Ok(write_inter_packet(alloc, dim, &Saved::defaults(), &segments, &still)?)
+    Ok(still_packet_by(alloc, dim, &segments)?)
+}
+
+/// Returns whether a key packet and the still frame's packet have this luma.
+fn show_still(alloc: Global, key: &ByteList, wanted: u8) -> Result<bool, Fail> {
+    let still = still_packet(alloc)?;
+    Ok(show_column(alloc, &[key, &still], &[wanted])?)
 }
 
 /// The pixels above a frame are 127, which a still inter frame keeps; an intra frame would have 128.
 #[test]
 fn still_frame_keeps_last(rt: HostRuntime) -> Result<(), Fail> {
     let key = one_macroblock(rt.alloc(), LumaMode::V)?;
-    let still = still_packet(rt.alloc())?;
-    assert!(rt; show_column(rt.alloc(), &[&key, &still], &[127])?);
+    assert!(rt; show_still(rt.alloc(), &key, 127)?);
     Ok(())
 }
 
@@ -278,10 +334,13 @@ fn still_frame_keeps_last(rt: HostRuntime) -> Result<(), Fail> {
 #[test]
 fn first_partition_too_long(rt: HostRuntime) -> Result<(), Fail> {
     let fits = Dim::new(2400, 2128, &Limits::usual())?;
-    assert!(rt; chessboard_packet(rt.alloc(), fits).is_ok());
+    equal(&rt, &chessboard_fault(rt.alloc(), fits), &None);
     let taller = Dim::new(2400, 2144, &Limits::usual())?;
-    let refused = chessboard_packet(rt.alloc(), taller).err();
-    equal(&rt, &refused, &Some(PacketError::TooLong));
+    equal(
+        &rt,
+        &chessboard_fault(rt.alloc(), taller),
+        &Some(PacketError::TooLong),
+    );
     Ok(())
 }
 
@@ -290,32 +349,41 @@ fn is_inter(packet: &ByteList) -> bool {
     packet.as_slice().first().is_some_and(|byte| byte % 2 == 1)
 }
 
-/// Returns the pixels that the decoder shows for a packet.
-fn shown(alloc: Global, decoder: &mut Decoder, packet: &ByteList) -> Result<Vec<u8>, AllocError> {
-    if decoder.decode(packet.as_slice())? == Outcome::Shown {
-        if let Some(picture) = decoder.picture() {
-            return picture.crop_i420(alloc);
-        }
-    }
-    Ok(Vec::new(alloc))
-}
-
 /// Returns whether each pixel of a picture of 16 by 16 pixels has this value.
 fn is_all(alloc: Global, picture: &Picture, value: u8) -> Result<bool, AllocError> {
     Ok(picture.crop_i420(alloc)?.as_slice() == [value; 384].as_slice())
 }
 
-/// Returns the modes of the first macroblock of a key packet.
-fn first_modes(alloc: Global, dim: Dim, packet: &ByteList) -> Option<Modes> {
-    let bytes = packet.as_slice();
-    let tag = Tag::read(bytes, &Limits::usual()).ok()?;
-    let map = ModeMap::new(alloc, dim).ok()?;
-    let mut d = BoolDecoder::new(bytes.get(10..)?);
-    let (header, _) = Header::read(&Saved::defaults(), &tag, &mut d);
+/// Returns whether the decoder shows a picture of 16 by 16 pixels for a packet that is 128 everywhere.
+fn decodes_flat(
+    alloc: Global,
+    decoder: &mut Decoder,
+    packet: &ByteList,
+) -> Result<bool, AllocError> {
+    if decoder.decode(packet.as_slice())? == Outcome::Shown {
+        if let Some(picture) = decoder.picture() {
+            return is_all(alloc, picture, 128);
+        }
+    }
+    Ok(false)
+}
+
+/// Returns the modes of the first macroblock, which follow the header in the first partition.
+fn modes_behind(tag: &Tag, partition: &[u8], map: &ModeMap) -> Option<Modes> {
+    let mut d = BoolDecoder::new(partition);
+    let (header, _) = Header::read(&Saved::defaults(), tag, &mut d);
     if map.columns() == 0 || map.rows() == 0 {
         return None;
     }
-    Some(read_modes(&header, &map, Place { column: 0, row: 0 }, &mut d))
+    Some(read_modes(&header, map, Place { column: 0, row: 0 }, &mut d))
+}
+
+/// Returns the modes of the first macroblock of a key packet.
+fn first_modes(alloc: Global, dim: Dim, packet: &ByteList) -> Option<Modes> {
+    let tag = Tag::read(packet.as_slice(), &Limits::usual()).ok()?;
+    let partition = packet.as_slice().get(10..)?;
+    let map = ModeMap::new(alloc, dim).ok()?;
+    modes_behind(&tag, partition, &map)
 }
 
 /// Returns whether a macroblock is skipped, with DC modes.
@@ -326,20 +394,28 @@ fn is_flat(modes: &Modes) -> bool {
 /// Returns whether a packet shows a picture of 16 by 16 pixels that is 128 everywhere.
 fn shows_flat(alloc: Global, packet: &ByteList) -> Result<bool, AllocError> {
     let mut decoder = Decoder::new(alloc, Limits::usual());
-    let pixels = shown(alloc, &mut decoder, packet)?;
-    Ok(pixels.as_slice() == [128; 384].as_slice())
+    decodes_flat(alloc, &mut decoder, packet)
 }
 
-/// Returns whether an inter packet shows such a picture after the first packet.
+/// Returns whether the decoder shows such pictures for two packets.
+fn decodes_both_flat(
+    alloc: Global,
+    decoder: &mut Decoder,
+    first: &ByteList,
+    second: &ByteList,
+) -> Result<bool, AllocError> {
+    Ok(decodes_flat(alloc, decoder, first)? && decodes_flat(alloc, decoder, second)?)
+}
+
+/// Returns whether the first packet and an inter packet after it show such pictures.
 fn shows_flat_behind(
     alloc: Global,
     first: &ByteList,
     second: &ByteList,
 ) -> Result<bool, AllocError> {
     let mut decoder = Decoder::new(alloc, Limits::usual());
-    shown(alloc, &mut decoder, first)?;
-    let pixels = shown(alloc, &mut decoder, second)?;
-    Ok(is_inter(second) && pixels.as_slice() == [128; 384].as_slice())
+    let is_flat = decodes_both_flat(alloc, &mut decoder, first, second)?;
+    Ok(is_flat && is_inter(second))
 }
 
 /// Returns the next packet, if the reconstruction is exact.
@@ -351,17 +427,22 @@ fn next_packet(encoder: &mut Encoder, source: &Picture) -> Option<ByteList> {
 }
 
 /// Returns the next two packets, if the reconstructions are exact.
-fn two_packets(encoder: &mut Encoder, source: &Picture) -> Option<(ByteList, ByteList)> {
-    let key = next_packet(encoder, source)?;
-    let inter = next_packet(encoder, source)?;
-    Some((key, inter))
+fn two_packets(encoder: &mut Encoder, source: &Picture) -> Result<(ByteList, ByteList), Fail> {
+    let key = next_packet(encoder, source).ok_or("a packet")?;
+    let inter = next_packet(encoder, source).ok_or("a packet")?;
+    Ok((key, inter))
+}
+
+/// Returns a new encoder's first two packets of a picture.
+fn first_packets(alloc: Global, source: &Picture) -> Result<(ByteList, ByteList), Fail> {
+    let mut encoder = Encoder::new(alloc, source.dim(), settings(0, 1))?;
+    two_packets(&mut encoder, source)
 }
 
 /// Returns the first two packets of a picture of 16 by 16 pixels that is 128 everywhere.
-fn flat_packets(alloc: Global, dim: Dim) -> Option<(ByteList, ByteList)> {
-    let source = Picture::new(alloc, dim, 128).ok()?;
-    let mut encoder = Encoder::new(alloc, dim, settings(0, 1)).ok()?;
-    two_packets(&mut encoder, &source)
+fn flat_packets(alloc: Global) -> Result<(ByteList, ByteList), Fail> {
+    let source = flat(alloc, 128)?;
+    first_packets(alloc, &source)
 }
 
 /// Returns whether the first macroblock of a key packet is skipped, with DC modes.
@@ -372,20 +453,24 @@ fn begins_flat(alloc: Global, dim: Dim, packet: &ByteList) -> bool {
     }
 }
 
-#[test]
-fn encode_flat_key(rt: HostRuntime) -> Result<(), Fail> {
+/// Fails the test unless a key packet shows such a picture, and its first macroblock is skipped.
+fn check_flat_key(rt: &impl Abort, alloc: Global, key: &ByteList) -> Result<(), Fail> {
     let dim = Dim::new(16, 16, &Limits::usual())?;
-    let (key, _) = flat_packets(rt.alloc(), dim).ok_or("two packets")?;
-    assert!(rt; begins_flat(rt.alloc(), dim, &key));
-    assert!(rt; shows_flat(rt.alloc(), &key)?);
+    assert!(rt; begins_flat(alloc, dim, key));
+    assert!(rt; shows_flat(alloc, key)?);
     Ok(())
 }
 
 #[test]
+fn encode_flat_key(rt: HostRuntime) -> Result<(), Fail> {
+    let (key, _) = flat_packets(rt.alloc())?;
+    check_flat_key(&rt, rt.alloc(), &key)
+}
+
+#[test]
 fn encode_flat_inter(rt: HostRuntime) -> Result<(), Fail> {
-    let dim = Dim::new(16, 16, &Limits::usual())?;
-    let (key, inter) = flat_packets(rt.alloc(), dim).ok_or("two packets")?;
-    assert!(rt; shows_flat_behind(rt.alloc(), &key, &inter)?);
+    let packets = flat_packets(rt.alloc())?;
+    assert!(rt; shows_flat_behind(rt.alloc(), &packets.0, &packets.1)?);
     Ok(())
 }
 
@@ -397,15 +482,30 @@ fn encode_succeeds(rt: HostRuntime) -> Result<(), Fail> {
     Ok(())
 }
 
+/// Returns the fault of an encoder's settings.
+fn settings_fault(alloc: Global, dim: Dim, settings: Settings) -> Option<SettingsFault> {
+    Encoder::new(alloc, dim, settings).err()
+}
+
+/// Returns the fault of a picture for an encoder of pictures of this size.
+fn picture_fault(alloc: Global, dim: Dim, source: &Picture) -> Result<Option<EncodeFault>, Fail> {
+    let mut encoder = Encoder::new(alloc, dim, settings(0, 1))?;
+    Ok(encoder.encode(source).err())
+}
+
+/// Returns the fault of a flat picture of the second size for an encoder of pictures of the first one.
+fn size_fault(alloc: Global, dim: Dim, other: Dim) -> Result<Option<EncodeFault>, Fail> {
+    let source = Picture::new(alloc, other, 128)?;
+    picture_fault(alloc, dim, &source)
+}
+
 #[test]
 fn settings_and_events_refused(rt: HostRuntime) -> Result<(), Fail> {
     let dim = Dim::new(16, 16, &Limits::usual())?;
-    let refused = Encoder::new(rt.alloc(), dim, settings(128, 1)).err();
+    let refused = settings_fault(rt.alloc(), dim, settings(128, 1));
     equal(&rt, &refused, &Some(SettingsFault::Settings));
     let taller = Dim::new(16, 32, &Limits::usual())?;
-    let source = Picture::new(rt.alloc(), taller, 128)?;
-    let mut encoder = Encoder::new(rt.alloc(), dim, settings(0, 1))?;
-    let refused = encoder.encode(&source).err();
+    let refused = size_fault(rt.alloc(), dim, taller)?;
     equal(&rt, &refused, &Some(EncodeFault::SourceSize));
     Ok(())
 }
@@ -422,35 +522,36 @@ enum Kind {
 }
 
 fn kind_of(packet: &[u8]) -> Kind {
-    let Ok(tag) = Tag::read(packet, &Limits::usual()) else {
-        return Kind::Other;
-    };
-    if tag.key.is_some() {
-        return Kind::Key;
+    match header_of(packet) {
+        Some(header) if header.key => Kind::Key,
+        Some(header) if header.updates.refresh_golden => Kind::Golden,
+        Some(_) => Kind::Plain,
+        None => Kind::Other,
     }
-    let Some(first) = packet.get(3..) else {
-        return Kind::Other;
-    };
-    let (header, _) = Header::read(&Saved::defaults(), &tag, &mut BoolDecoder::new(first));
-    if header.updates.refresh_golden {
-        Kind::Golden
-    } else {
-        Kind::Plain
+}
+
+/// Returns the kind of the next packet, if the reconstruction is exact.
+fn next_kind(encoder: &mut Encoder, source: &Picture) -> Kind {
+    match next_packet(encoder, source) {
+        Some(packet) => kind_of(packet.as_slice()),
+        None => Kind::Other,
     }
+}
+
+/// Encodes a picture four times with a new encoder, and returns the kinds of the packets.
+fn first_kinds(alloc: Global, source: &Picture, settings: Settings) -> Result<[Kind; 4], Fail> {
+    let mut encoder = Encoder::new(alloc, source.dim(), settings)?;
+    let mut kinds = [Kind::Other; 4];
+    for i in 0..4 {
+        kinds[i] = next_kind(&mut encoder, source);
+    }
+    Ok(kinds)
 }
 
 /// Encodes a flat picture four times without an error, and returns the kinds of the packets.
 fn four_kinds(alloc: Global, settings: Settings) -> Result<[Kind; 4], Fail> {
-    let dim = Dim::new(16, 16, &Limits::usual())?;
-    let source = Picture::new(alloc, dim, 128)?;
-    let mut encoder = Encoder::new(alloc, dim, settings)?;
-    let mut kinds = [Kind::Other; 4];
-    for i in 0..4 {
-        if let Some(packet) = next_packet(&mut encoder, &source) {
-            kinds[i] = kind_of(packet.as_slice());
-        }
-    }
-    Ok(kinds)
+    let source = flat(alloc, 128)?;
+    first_kinds(alloc, &source, settings)
 }
 
 #[test]

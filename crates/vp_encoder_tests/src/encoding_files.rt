@@ -4,6 +4,7 @@ ghost use Rattle.std.specs.Prelude.{◌≡◌, false};
 
 use crate::check::equal;
 use std::alloc::{AllocError, Global};
+use std::process::Abort;
 use std::test::Fail;
 use vp_base::{Counted, FailAt, Limits};
 use vp_encode::{EncodeAllFault, Settings, Watcher, encode_all, encode_all_watched};
@@ -50,20 +51,24 @@ fn limits(packet_bytes: u32, packets: u32) -> Limits {
     }
 }
 
-/// Returns the result of encoding a source, and the number of bytes written.
-fn ends(
-    alloc: Global,
-    source: &[u8],
-    qi: u8,
-    limits: Limits,
-) -> (Result<(u32, u128), EncodeAllFault>, usize) {
+/// The number of pictures and their error, or a fault.
+type End = Result<(u32, u128), EncodeAllFault>;
+
+/// Returns the result of encoding a source, and the bytes written.
+fn written_by(alloc: Global, source: &[u8], qi: u8, limits: Limits) -> (End, Vec<u8>) {
     let mut reader = Counted::new(source);
     let mut writer = Counted::new(Vec::new(alloc));
-    let end = match encode_all(alloc, &mut reader, &mut writer, settings(qi), limits) {
-        Ok(report) => Ok((report.frames, report.error)),
-        Err(fault) => Err(fault),
-    };
-    (end, writer.into_inner().len())
+    let end = encode_all(alloc, &mut reader, &mut writer, settings(qi), limits).map(|report| (
+        report.frames,
+        report.error,
+    ));
+    (end, writer.into_inner())
+}
+
+/// Returns the result of encoding a source, and the number of bytes written.
+fn ends(alloc: Global, source: &[u8], qi: u8, limits: Limits) -> (End, usize) {
+    let (end, bytes) = written_by(alloc, source, qi, limits);
+    (end, bytes.len())
 }
 
 /// Returns the fault of encoding a source, and the number of bytes written.
@@ -81,17 +86,9 @@ fn refused(
 
 #[test]
 fn first_line_alone(rt: HostRuntime) -> Result<(), Fail> {
-    let mut reader = Counted::new(LINE);
-    let mut writer = Counted::new(Vec::new(rt.alloc()));
-    let done = encode_all(
-        rt.alloc(),
-        &mut reader,
-        &mut writer,
-        settings(0),
-        Limits::usual(),
-    );
-    assert!(rt; matches!(&done, Ok(report) if report.frames == 0 && report.error == 0));
-    assert!(rt; writer.into_inner().as_slice() == EMPTY.as_slice());
+    let (end, bytes) = written_by(rt.alloc(), LINE, 0, Limits::usual());
+    equal(&rt, &end, &Ok((0, 0)));
+    assert!(rt; bytes.as_slice() == EMPTY.as_slice());
     Ok(())
 }
 
@@ -160,22 +157,26 @@ fn fails_at_each_read(rt: HostRuntime) -> Result<(), Fail> {
     Ok(())
 }
 
+/// Returns the number of reads in which a source is encoded.
+fn reads_of(alloc: Global, source: &[u8]) -> Result<u64, EncodeAllFault> {
+    let mut reader = Counted::new(source);
+    let mut writer = Counted::new(Vec::new(alloc));
+    encode_all(
+        alloc,
+        &mut reader,
+        &mut writer,
+        settings(0),
+        Limits::usual(),
+    )?;
+    Ok(reader.reads())
+}
+
 /// The header line's 24 bytes and the frame line's 6 are read one by one, then 16 rows of Y, 8 of U and 8 of V. One
 /// more read finds the end.
 #[test]
 fn reads_are_counted(rt: HostRuntime) -> Result<(), Fail> {
     let bytes = source(rt.alloc(), 1)?;
-    let mut reader = Counted::new(bytes.as_slice());
-    let mut writer = Counted::new(Vec::new(rt.alloc()));
-    let done = encode_all(
-        rt.alloc(),
-        &mut reader,
-        &mut writer,
-        settings(0),
-        Limits::usual(),
-    );
-    assert!(rt; done.is_ok());
-    equal(&rt, &reader.reads(), &63);
+    equal(&rt, &reads_of(rt.alloc(), &bytes), &Ok(63));
     Ok(())
 }
 
@@ -212,45 +213,66 @@ impl Watcher for Keeping {
     }
 }
 
-/// Returns the fault of a source of three pictures under these limits, and the numbers that the progress callback
-/// receives.
-fn told(alloc: Global, limits: Limits) -> Result<(Option<EncodeAllFault>, Vec<u32>), AllocError> {
-    let bytes = source(alloc, 3)?;
-    let mut reader = Counted::new(bytes.as_slice());
+/// Encodes a source, and returns its fault.
+fn watched(
+    alloc: Global,
+    source: &[u8],
+    limits: Limits,
+    watcher: &mut Keeping,
+) -> Option<EncodeAllFault> {
+    let mut reader = Counted::new(source);
     let mut writer = Counted::new(Vec::new(alloc));
-    let mut watcher = Keeping {
-        numbers: Vec::new(alloc),
-        refused: false,
-    };
-    let done = encode_all_watched(
+    encode_all_watched(
         alloc,
         &mut reader,
         &mut writer,
         settings(0),
         limits,
-        &mut watcher,
-    );
-    let Keeping {
-        numbers,
-        refused: _,
-    } = watcher;
-    Ok((done.err(), numbers))
+        watcher,
+    )
+    .err()
+}
+
+/// Returns the fault of a source under these limits. The progress callback must receive these numbers.
+fn told_by(
+    rt: &impl Abort,
+    alloc: Global,
+    source: &[u8],
+    limits: Limits,
+    numbers: &[u32],
+) -> Option<EncodeAllFault> {
+    let mut watcher = Keeping {
+        numbers: Vec::new(alloc),
+        refused: false,
+    };
+    let fault = watched(alloc, source, limits, &mut watcher);
+    equal(rt, &watcher.numbers.as_slice(), &numbers);
+    fault
+}
+
+/// Returns the fault of a source of three pictures, as `told_by` does.
+fn told(
+    rt: &impl Abort,
+    alloc: Global,
+    limits: Limits,
+    numbers: &[u32],
+) -> Result<Option<EncodeAllFault>, AllocError> {
+    let bytes = source(alloc, 3)?;
+    Ok(told_by(rt, alloc, &bytes, limits, numbers))
 }
 
 #[test]
 fn pictures_are_told(rt: HostRuntime) -> Result<(), Fail> {
-    let (fault, numbers) = told(rt.alloc(), Limits::usual())?;
+    let fault = told(&rt, rt.alloc(), Limits::usual(), &[1, 2, 3])?;
     equal(&rt, &fault, &None);
-    equal(&rt, &numbers.as_slice(), &[1, 2, 3].as_slice());
     Ok(())
 }
 
 /// The third picture is refused.
 #[test]
 fn pictures_before_a_fault_are_told(rt: HostRuntime) -> Result<(), Fail> {
-    let (fault, numbers) = told(rt.alloc(), limits(16_777_216, 2))?;
+    let fault = told(&rt, rt.alloc(), limits(16_777_216, 2), &[1, 2])?;
     equal(&rt, &fault, &Some(EncodeAllFault::TooMany));
-    equal(&rt, &numbers.as_slice(), &[1, 2].as_slice());
     Ok(())
 }
 
@@ -333,8 +355,7 @@ fn points(alloc: Global) -> Result<Vec<u8>, AllocError> {
 #[test]
 fn an_error_of_over_32_bits(rt: HostRuntime) -> Result<(), Fail> {
     let bytes = points(rt.alloc())?;
-    let (end, written) = ends(rt.alloc(), &bytes, 127, Limits::usual());
-    equal(&rt, &end, &Ok((1, 4_404_395_212)));
-    equal(&rt, &written, &267_593);
+    let found = ends(rt.alloc(), &bytes, 127, Limits::usual());
+    equal(&rt, &found, &(Ok((1, 4_404_395_212)), 267_593));
     Ok(())
 }

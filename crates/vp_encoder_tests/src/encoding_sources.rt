@@ -3,8 +3,10 @@
 use crate::check::equal;
 use crate::worked_rows::{encoded, settings};
 use std::alloc::{AllocError, Global};
+use std::process::Abort;
 use std::test::Fail;
 use vp_base::{Dim, Limits, Picture};
+use vp_encode::Encoded;
 
 /// Sets a pixel, if it exists.
 fn put(picture: &mut Picture, k: usize, x: usize, y: usize, value: u8) {
@@ -52,36 +54,63 @@ fn narrow(alloc: Global) -> Result<Picture, Fail> {
     Ok(source)
 }
 
+/// Encodes that picture without loss.
+fn encoded_narrow(alloc: Global) -> Result<Encoded, Fail> {
+    let source = narrow(alloc)?;
+    encoded(alloc, &source, settings(0, 1))
+}
+
+/// Fails the test unless the reconstruction is the padded source.
+fn check_padding(rt: &impl Abort, found: &Encoded) {
+    equal(rt, &found.squared_error, &0);
+    equal(rt, &first_luma(&found.recon), &[Some(9); 3]);
+    let wanted = [Some(5), Some(5), Some(30), Some(5), Some(5)];
+    equal(rt, &other_pixels(&found.recon), &wanted);
+}
+
 /// Each macroblock has one value in each plane, so the reconstruction is the padded source.
 #[test]
 fn source_is_continued(rt: HostRuntime) -> Result<(), Fail> {
-    let source = narrow(rt.alloc())?;
-    let encoded = encoded(rt.alloc(), &source, settings(0, 1))?;
-    equal(&rt, &encoded.squared_error, &0);
-    equal(&rt, &first_luma(&encoded.recon), &[Some(9); 3]);
-    let wanted = [Some(5), Some(5), Some(30), Some(5), Some(5)];
-    equal(&rt, &other_pixels(&encoded.recon), &wanted);
+    check_padding(&rt, &encoded_narrow(rt.alloc())?);
     Ok(())
+}
+
+/// Returns the sum of the squared differences of the bytes.
+fn squared_differences(a: &[u8], b: &[u8]) -> u64 {
+    let mut sum = 0u64;
+    for i in 0..a.len().min(b.len()) {
+        let apart = u64::from(a[i].abs_diff(b[i]));
+        sum = sum.wrapping_add(apart.wrapping_mul(apart));
+    }
+    sum
 }
 
 /// Returns the sum of the squared differences of the shown pixels.
 fn distance(alloc: Global, a: &Picture, b: &Picture) -> Result<u64, AllocError> {
-    let [a, b] = [a.crop_i420(alloc)?, b.crop_i420(alloc)?];
-    let mut sum = 0u64;
-    for (one, other) in a.iter().zip(b.iter()) {
-        let apart = u64::from(one.abs_diff(*other));
-        sum = sum.wrapping_add(apart.wrapping_mul(apart));
-    }
-    Ok(sum)
+    let a = a.crop_i420(alloc)?;
+    Ok(squared_differences(&a, &b.crop_i420(alloc)?))
+}
+
+/// Encodes a picture with the largest factors. Returns the error, and the distance of its reconstruction.
+fn errors_of(alloc: Global, source: &Picture) -> Result<(u64, u64), Fail> {
+    let encoded = encoded(alloc, source, settings(127, 1))?;
+    Ok((
+        encoded.squared_error,
+        distance(alloc, source, &encoded.recon)?,
+    ))
+}
+
+/// Returns both for the narrow picture.
+fn narrow_errors(alloc: Global) -> Result<(u64, u64), Fail> {
+    let source = narrow(alloc)?;
+    errors_of(alloc, &source)
 }
 
 /// With the largest factors the reconstruction differs from the source, most of all in the padding.
 #[test]
 fn error_over_shown_pixels(rt: HostRuntime) -> Result<(), Fail> {
-    let source = narrow(rt.alloc())?;
-    let encoded = encoded(rt.alloc(), &source, settings(127, 1))?;
-    let wanted = distance(rt.alloc(), &source, &encoded.recon)?;
+    let (error, wanted) = narrow_errors(rt.alloc())?;
     assert!(rt; wanted > 0);
-    equal(&rt, &encoded.squared_error, &wanted);
+    equal(&rt, &error, &wanted);
     Ok(())
 }

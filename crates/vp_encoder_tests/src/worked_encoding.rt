@@ -1,10 +1,10 @@
 //! Tests of a long run of an encoder, and of the forward transforms of numbers far larger than any residue.
 
 use crate::check::equal;
-use crate::worked_rows::settings;
+use crate::worked_rows::{flat, settings};
 use std::alloc::Global;
 use std::test::Fail;
-use vp_base::{Dim, Limits, Picture};
+use vp_base::Picture;
 use vp_encode::Encoder;
 use vp_transform::{fdct, fwht};
 
@@ -31,13 +31,16 @@ fn other_kind(
     Ok(None)
 }
 
-/// Encodes a flat picture with a new encoder whose `key_every` is 64, and returns the first frame of an unexpected
-/// kind.
+/// Encodes a picture with a new encoder whose `key_every` is 64, and returns the first frame of an unexpected kind.
+fn other_new_kind(alloc: Global, source: &Picture, frames: usize) -> Result<Option<usize>, Fail> {
+    let mut encoder = Encoder::new(alloc, source.dim(), settings(0, 1))?;
+    other_kind(&mut encoder, source, frames)
+}
+
+/// Encodes a flat picture so.
 fn other_flat_kind(alloc: Global, frames: usize) -> Result<Option<usize>, Fail> {
-    let dim = Dim::new(16, 16, &Limits::usual())?;
-    let source = Picture::new(alloc, dim, 128)?;
-    let mut encoder = Encoder::new(alloc, dim, settings(0, 1))?;
-    other_kind(&mut encoder, &source, frames)
+    let source = flat(alloc, 128)?;
+    other_new_kind(alloc, &source, frames)
 }
 
 /// Frames 0 and 64 are key frames.

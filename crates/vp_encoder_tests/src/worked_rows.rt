@@ -6,6 +6,7 @@ ghost use Rattle.std.specs.Prelude.{◌≡◌, ◌≤◌, ◌<◌};
 use crate::check::equal;
 use crate::files::{INTER, KEY};
 use std::alloc::{AllocError, Global};
+use std::process::Abort;
 use std::test::Fail;
 use vp_base::{Dim, Limits, Picture};
 use vp_bool::BoolDecoder;
@@ -27,15 +28,16 @@ fn empty_frame() -> [u8; 384] {
 
 /// Returns the first position at which the bytes differ from these, or end.
 fn first_difference(found: &[u8], wanted: &[u8]) -> Option<usize> {
-    for (i, (one, other)) in found.iter().zip(wanted).enumerate() {
-        if one != other {
+    let shared = found.len().min(wanted.len());
+    for i in 0..shared {
+        if found[i] != wanted[i] {
             return Some(i);
         }
     }
     if found.len() == wanted.len() {
         None
     } else {
-        Some(found.len().min(wanted.len()))
+        Some(shared)
     }
 }
 
@@ -98,6 +100,11 @@ pub(crate) fn settings(qi: u8, partitions: u8) -> Settings
     }
 }
 
+/// Encodes the source as the next frame.
+fn next_frame(encoder: &mut Encoder, source: &Picture) -> Result<Encoded, Fail> {
+    Ok(encoder.encode(source)?)
+}
+
 /// Encodes the source as a new encoder's first frame.
 pub(crate) fn encoded(
     alloc: Global,
@@ -105,36 +112,59 @@ pub(crate) fn encoded(
     settings: Settings,
 ) -> Result<Encoded, Fail> {
     let mut encoder = Encoder::new(alloc, source.dim(), settings)?;
-    Ok(encoder.encode(source)?)
+    next_frame(&mut encoder, source)
 }
 
-/// Encodes a picture of 16 by 16 pixels of this value as a new encoder's first frame.
-pub(crate) fn encoded_flat(alloc: Global, value: u8, settings: Settings) -> Result<Encoded, Fail> {
+/// Returns a picture of 16 by 16 pixels of this value.
+pub(crate) fn flat(alloc: Global, value: u8) -> Result<Picture, Fail> {
     let dim = Dim::new(16, 16, &Limits::usual())?;
-    let source = Picture::new(alloc, dim, value)?;
+    Ok(Picture::new(alloc, dim, value)?)
+}
+
+/// Encodes such a picture as a new encoder's first frame.
+pub(crate) fn encoded_flat(alloc: Global, value: u8, settings: Settings) -> Result<Encoded, Fail> {
+    let source = flat(alloc, value)?;
     encoded(alloc, &source, settings)
+}
+
+/// Returns the header of a packet, relative to the defaults.
+pub(crate) fn header_of(packet: &[u8]) -> Option<Header> {
+    let tag = Tag::read(packet, &Limits::usual()).ok()?;
+    let begin = if tag.key.is_some() { 10 } else { 3 };
+    let mut first = BoolDecoder::new(packet.get(begin..)?);
+    let (header, _) = Header::read(&Saved::defaults(), &tag, &mut first);
+    Some(header)
 }
 
 /// Returns the logarithm of the number of token partitions in a key packet's header.
 fn log2_partitions(packet: &[u8]) -> Option<u8> {
-    let tag = Tag::read(packet, &Limits::usual()).ok()?;
-    if tag.key.is_none() {
-        return None;
+    let header = header_of(packet)?;
+    if header.key {
+        Some(header.log2_partitions)
+    } else {
+        None
     }
-    let mut first = BoolDecoder::new(packet.get(10..)?);
-    let (header, _) = Header::read(&Saved::defaults(), &tag, &mut first);
-    Some(header.log2_partitions)
 }
 
-/// Returns the first position at which a new decoder's picture for a packet is unexpected; 0 if it shows none.
+/// Returns the first position at which the decoder's picture for a packet is unexpected; 0 if it shows none.
+fn next_difference(
+    alloc: Global,
+    decoder: &mut Decoder,
+    packet: &[u8],
+    wanted: &[u8],
+) -> Result<Option<usize>, AllocError> {
+    decoder.decode(packet)?;
+    picture_difference(alloc, decoder.picture(), wanted)
+}
+
+/// Returns that position for a new decoder.
 fn decoded_difference(
     alloc: Global,
     packet: &[u8],
     wanted: &[u8],
 ) -> Result<Option<usize>, AllocError> {
     let mut decoder = Decoder::new(alloc, Limits::usual());
-    decoder.decode(packet)?;
-    picture_difference(alloc, decoder.picture(), wanted)
+    next_difference(alloc, &mut decoder, packet, wanted)
 }
 
 /// The result for a packet of several partitions: the logarithm of their number, the error, and the first unexpected
@@ -151,16 +181,18 @@ fn coded(alloc: Global, encoded: &Encoded, wanted: &[u8]) -> Result<Coded, Alloc
     ))
 }
 
+/// Fails the test unless this is a flat picture in eight partitions, without an error.
+fn check_eight(rt: &impl Abort, alloc: Global, found: &Encoded) -> Result<(), AllocError> {
+    equal(rt, &coded(alloc, found, &FLAT)?, &(Some(3), 0, None));
+    let difference = picture_difference(alloc, Some(&found.recon), &FLAT)?;
+    equal(rt, &difference, &None);
+    Ok(())
+}
+
 #[test]
 fn eight_partitions(rt: HostRuntime) -> Result<(), Fail> {
     let found = encoded_flat(rt.alloc(), 128, settings(0, 8))?;
-    equal(&rt, &coded(rt.alloc(), &found, &FLAT)?, &(Some(3), 0, None));
-    equal(
-        &rt,
-        &picture_difference(rt.alloc(), Some(&found.recon), &FLAT)?,
-        &None,
-    );
-    Ok(())
+    Ok(check_eight(&rt, rt.alloc(), &found)?)
 }
 
 /// Sets each pixel of a plane to the number of its row.
@@ -185,8 +217,19 @@ fn numbered_rows(alloc: Global) -> Result<Picture, Fail> {
     Ok(picture)
 }
 
-/// Encodes the source into this number of partitions, and decodes it. Returns the result against its own
-/// reconstruction, and the first position at which that differs from the expected one.
+/// Decodes an encoded picture. Returns the result against its own reconstruction, and the first position at which that
+/// differs from the expected one.
+fn decoded_against(
+    alloc: Global,
+    found: &Encoded,
+    wanted: &Encoded,
+) -> Result<(Coded, Option<usize>), AllocError> {
+    let bytes = found.recon.crop_i420(alloc)?;
+    let difference = picture_difference(alloc, Some(&wanted.recon), &bytes)?;
+    Ok((coded(alloc, found, &bytes)?, difference))
+}
+
+/// Encodes the source into this number of partitions, and compares as `decoded_against` does.
 fn coded_by(
     alloc: Global,
     source: &Picture,
@@ -194,12 +237,10 @@ fn coded_by(
     wanted: &Encoded,
 ) -> Result<(Coded, Option<usize>), Fail> {
     let found = encoded(alloc, source, settings(64, partitions))?;
-    let bytes = found.recon.crop_i420(alloc)?;
-    let difference = picture_difference(alloc, Some(&wanted.recon), &bytes)?;
-    Ok((coded(alloc, &found, &bytes)?, difference))
+    Ok(decoded_against(alloc, &found, wanted)?)
 }
 
-/// Returns the first number of partitions for which the result differs from that of one partition.
+/// Returns the first number of partitions for which the result differs from this one of one partition.
 fn other_partitions(alloc: Global, source: &Picture, one: &Encoded) -> Result<Option<u8>, Fail> {
     for (log2, partitions) in [(0, 1), (1, 2), (2, 4), (3, 8)] {
         let wanted = ((Some(log2), one.squared_error, None), None);
@@ -210,11 +251,16 @@ fn other_partitions(alloc: Global, source: &Picture, one: &Encoded) -> Result<Op
     Ok(None)
 }
 
+/// Encodes the source into one partition, and into others.
+fn other_than_one(alloc: Global, source: &Picture) -> Result<Option<u8>, Fail> {
+    let one = encoded(alloc, source, settings(64, 1))?;
+    other_partitions(alloc, source, &one)
+}
+
 #[test]
 fn partitions_change_no_picture(rt: HostRuntime) -> Result<(), Fail> {
     let source = numbered_rows(rt.alloc())?;
-    let one = encoded(rt.alloc(), &source, settings(64, 1))?;
-    equal(&rt, &other_partitions(rt.alloc(), &source, &one)?, &None);
+    equal(&rt, &other_than_one(rt.alloc(), &source)?, &None);
     Ok(())
 }
 
@@ -226,7 +272,23 @@ type Other = (
     Option<(Reference, usize)>,
 );
 
-/// Returns the first differences after a key packet and this packet.
+/// Decodes a key packet and this packet, and returns the first differences.
+fn other_by(
+    alloc: Global,
+    decoder: &mut Decoder,
+    packet: &[u8],
+    shown: &[u8],
+    kept: &[u8],
+) -> Result<Other, AllocError> {
+    let steps: [(&[u8], Outcome); 2] = [(&KEY, Outcome::Shown), (packet, Outcome::Shown)];
+    Ok((
+        other_outcome(decoder, &steps)?,
+        picture_difference(alloc, decoder.picture(), shown)?,
+        other_reference(alloc, decoder, kept)?,
+    ))
+}
+
+/// Returns the first differences of a new decoder after a key packet and this packet.
 fn other_behind(
     alloc: Global,
     packet: &[u8],
@@ -234,12 +296,7 @@ fn other_behind(
     kept: &[u8],
 ) -> Result<Other, AllocError> {
     let mut decoder = Decoder::new(alloc, Limits::usual());
-    let steps: [(&[u8], Outcome); 2] = [(&KEY, Outcome::Shown), (packet, Outcome::Shown)];
-    Ok((
-        other_outcome(&mut decoder, &steps)?,
-        picture_difference(alloc, decoder.picture(), shown)?,
-        other_reference(alloc, &decoder, kept)?,
-    ))
+    other_by(alloc, &mut decoder, packet, shown, kept)
 }
 
 /// An inter packet whose bools are all 0 is intra-predicted, and replaces no reference.
@@ -350,19 +407,23 @@ fn other_answer(stream: &Stream, count: u32) -> Result<Option<u32>, AllocError> 
     Ok(None)
 }
 
-/// Feeds the file's first bytes to a stream. Returns its fault, the number of its packets, and the first packet with an
-/// unexpected answer.
-fn stream_front(
-    alloc: Global,
-    length: usize,
-) -> Result<((Option<FileFault>, u32), Option<u32>), Fail>
+/// The fault of a stream and the number of its packets, and the first packet with an unexpected answer.
+type StreamEnd = ((Option<FileFault>, u32), Option<u32>);
+
+/// Feeds a file to a stream, and returns that.
+fn stream_end(stream: &mut Stream, file: &[u8]) -> Result<StreamEnd, Fail> {
+    stream.feed(file)?;
+    let fault = stream.finish().err();
+    let count = stream.count();
+    Ok(((fault, count), other_answer(stream, count)?))
+}
+
+/// Feeds the file's first bytes to a new stream.
+fn stream_front(alloc: Global, length: usize) -> Result<StreamEnd, Fail>
     requires { length ≤ SIZE }
 {
     let mut stream = Stream::new(alloc, Limits::usual());
-    stream.feed(&FOUR[..length])?;
-    let fault = stream.finish().err();
-    let count = stream.count();
-    Ok(((fault, count), other_answer(&stream, count)?))
+    stream_end(&mut stream, &FOUR[..length])
 }
 
 #[test]
@@ -377,27 +438,29 @@ fn each_cut_of_a_stream(rt: HostRuntime) -> Result<(), Fail> {
     Ok(())
 }
 
-/// A file that begins with other letters.
-#[test]
-fn other_signature(rt: HostRuntime) -> Result<(), Fail> {
+/// Feeds a new stream a file that begins with other letters, and the file.
+fn check_refused(rt: &impl Abort, stream: &mut Stream) -> Result<(), AllocError> {
     let mut bytes = FOUR;
     bytes[..4].copy_from_slice(b"DKIX");
-    let mut stream = Stream::new(rt.alloc(), Limits::usual());
     let refused = Err(FeedError::Fault(FileFault::Signature));
-    equal(&rt, &stream.feed(&bytes), &refused);
-    equal(&rt, &stream.feed(&FOUR), &refused);
-    equal(&rt, &(stream.head(), stream.count()), &(None, 0));
-    equal(&rt, &other_answer(&stream, 0)?, &None);
+    equal(rt, &stream.feed(&bytes), &refused);
+    equal(rt, &stream.feed(&FOUR), &refused);
+    equal(rt, &(stream.head(), stream.count()), &(None, 0));
+    equal(rt, &other_answer(stream, 0)?, &None);
     Ok(())
+}
+
+#[test]
+fn other_signature(rt: HostRuntime) -> Result<(), Fail> {
+    let mut stream = Stream::new(rt.alloc(), Limits::usual());
+    Ok(check_refused(&rt, &mut stream)?)
 }
 
 /// The key packet, not to be shown.
 const HIDDEN: [u8; 10] = [0, 0, 0, 0x9d, 0x01, 0x2a, 0x10, 0, 0x10, 0];
 
-/// After a hidden key packet, an empty packet shows nothing, whatever was shown before.
-#[test]
-fn empty_packet_behind_hidden_key(rt: HostRuntime) -> Result<(), Fail> {
-    let mut decoder = Decoder::new(rt.alloc(), Limits::usual());
+/// Decodes hidden key packets and empty packets, and a shown one between them. Returns the first unexpected outcome.
+fn other_hidden(decoder: &mut Decoder) -> Result<Option<(usize, Outcome)>, AllocError> {
     let steps: [(&[u8], Outcome); 5] = [
         (&HIDDEN, Outcome::Hidden),
         (&[], Outcome::Hidden),
@@ -405,7 +468,14 @@ fn empty_packet_behind_hidden_key(rt: HostRuntime) -> Result<(), Fail> {
         (&HIDDEN, Outcome::Hidden),
         (&[], Outcome::Hidden),
     ];
-    equal(&rt, &other_outcome(&mut decoder, &steps)?, &None);
+    other_outcome(decoder, &steps)
+}
+
+/// After a hidden key packet, an empty packet shows nothing, whatever was shown before.
+#[test]
+fn empty_packet_behind_hidden_key(rt: HostRuntime) -> Result<(), Fail> {
+    let mut decoder = Decoder::new(rt.alloc(), Limits::usual());
+    equal(&rt, &other_hidden(&mut decoder)?, &None);
     assert!(rt; decoder.picture().is_none());
     Ok(())
 }
@@ -421,15 +491,25 @@ fn is_hidden(stream: &Stream, number: u32) -> Result<bool, AllocError> {
     Ok(matches!(stream.picture_at(number)?, Answer::Hidden))
 }
 
+/// Feeds a new stream the file's head and these packets.
+fn feed_hidden(stream: &mut Stream) -> Result<(), FeedError> {
+    stream.feed(&FOUR[..32])?;
+    stream.feed(&HIDDEN_AND_EMPTY)
+}
+
+/// Fails the test unless the stream has these packets alone.
+fn check_hidden_packets(rt: &impl Abort, stream: &mut Stream) -> Result<(), AllocError> {
+    equal(rt, &(stream.count(), stream.finish()), &(2, Ok(())));
+    assert!(rt; is_hidden(stream, 0)?);
+    assert!(rt; is_hidden(stream, 1)?);
+    Ok(())
+}
+
 #[test]
 fn stream_of_hidden_packets(rt: HostRuntime) -> Result<(), Fail> {
     let mut stream = Stream::new(rt.alloc(), Limits::usual());
-    stream.feed(&FOUR[..32])?;
-    stream.feed(&HIDDEN_AND_EMPTY)?;
-    equal(&rt, &(stream.count(), stream.finish()), &(2, Ok(())));
-    assert!(rt; is_hidden(&stream, 0)?);
-    assert!(rt; is_hidden(&stream, 1)?);
-    Ok(())
+    feed_hidden(&mut stream)?;
+    Ok(check_hidden_packets(&rt, &mut stream)?)
 }
 
 /// The result of a changed key packet.
@@ -570,31 +650,34 @@ fn is_change(
     Ok(is_first && behind == second && inter_difference(alloc, decoder, change)?.is_none())
 }
 
+/// The three values of a changed byte.
+const VALUES: [u8; 3] = [0, 0x7f, 0xff];
+
 /// Returns the first of the three values of a byte with unexpected outcomes.
 fn other_change(alloc: Global, decoder: &mut Decoder, at: usize) -> Result<Option<u8>, AllocError>
     requires { at < 10 }
 {
-    for (value, change) in [0, 0x7f, 0xff].into_iter().zip(CHANGES[at]) {
+    for i in 0..3usize {
         let mut changed = KEY;
-        changed[at] = value;
-        if !is_change(alloc, decoder, &changed, change)? {
-            return Ok(Some(value));
+        changed[at] = VALUES[i];
+        if !is_change(alloc, decoder, &changed, CHANGES[at][i])? {
+            return Ok(Some(VALUES[i]));
         }
     }
     Ok(None)
 }
 
-/// All changes are tried twice, one after another, with equal results.
+/// Fails the test unless all changes have the expected outcomes, tried twice, one after another.
+fn check_changes(rt: &impl Abort, alloc: Global, decoder: &mut Decoder) -> Result<(), AllocError> {
+    for number in 0..20usize {
+        let at = number % 10;
+        assert_eq!(rt; other_change(alloc, decoder, at)?, None, "byte {at}");
+    }
+    Ok(())
+}
+
 #[test]
 fn changed_key_packets(rt: HostRuntime) -> Result<(), Fail> {
     let mut decoder = Decoder::new(rt.alloc(), Limits::usual());
-    for number in 0..20usize {
-        let at = number % 10;
-        assert_eq!(rt;
-            other_change(rt.alloc(), &mut decoder, at)?,
-            None,
-            "byte {at}"
-        );
-    }
-    Ok(())
+    Ok(check_changes(&rt, rt.alloc(), &mut decoder)?)
 }

@@ -1,4 +1,0 @@
-use Rattle.vp_encoder_tests.proofs.encoding.nine_macroblocks.Goals as goal
-
-pub write_key_packet-requires-clause-told : goal.write_key_packet-requires-clause-told
-write_key_packet-requires-clause-told c = c.in_ok-coded.ensures.told _

@@ -1,4 +1,0 @@
-use Rattle.vp_encoder_tests.proofs.encoding.still_packet.Goals as goal
-
-pub write_inter_packet-requires-clause-told : goal.write_inter_packet-requires-clause-told
-write_inter_packet-requires-clause-told c = rw (c.defaults.ensures, c.in_ok-segments.ensures) c.in_ok-still.ensures.told
