@@ -1,6 +1,6 @@
 //! The server over sockets of the loopback address, and over a file that fails.
 
-use crate::traces::{names, options, server};
+use crate::traces::{names, options, server, serves_all};
 use std::alloc::Global;
 use std::io;
 use std::io::{Read, Write};
@@ -8,7 +8,7 @@ use std::net::{TcpListener, TcpStream};
 use std::test::Fail;
 use vp_base::FailAt;
 use vp_mio::{FollowedFile, MioTransport};
-use vp_serve::{catch_up, serve};
+use vp_serve::{Transport, catch_up};
 
 /// A request that closes the connection, and the begin of another one.
 const ASKS: &[u8] =
@@ -21,31 +21,48 @@ const REPLY: &[u8] =
 /// What is printed if a file can't be read on.
 const STOPPED: &[u8] = b"vp8: a=a.ivf: the file is read no more: other error\n";
 
-/// Reads the rest of the bytes of a connection.
-fn rest_of(alloc: Global, client: &mut TcpStream) -> io::Result<Vec<u8>> {
+/// Returns whether these are the rest of the bytes of a connection.
+fn is_answered(alloc: Global, client: &mut TcpStream, wanted: &[u8]) -> io::Result<bool> {
     let mut got = Vec::new(alloc);
     client.read_to_end(&mut got)?;
-    Ok(got)
+    Ok(got.as_slice() == wanted)
 }
 
-/// Serves a silent client and one that asks, both at once. Whether the second is answered, and both are closed.
+/// Serves two connections. Returns whether the client that asks is answered, and both are closed.
+fn answers_one<T: Transport>(
+    alloc: Global,
+    transport: &mut T,
+    silent: &mut TcpStream,
+    asking: &mut TcpStream,
+) -> io::Result<bool> {
+    Ok(
+        serves_all(alloc, options(2, 2), transport)
+            && is_answered(alloc, asking, REPLY)?
+            && is_answered(alloc, silent, b"")?,
+    )
+}
+
+/// Does so over sockets that this listener accepts.
+fn answers_over(
+    rt: &HostRuntime,
+    listener: TcpListener,
+    silent: &mut TcpStream,
+    asking: &mut TcpStream,
+) -> io::Result<bool> {
+    let files: Vec<FollowedFile<'_, &[u8]>> = Vec::new(rt.alloc());
+    let mut errors = Vec::new(rt.alloc());
+    let mut transport = MioTransport::new(rt, rt, rt.alloc(), 10, files, &mut errors)?;
+    transport.listen(listener)?;
+    answers_one(rt.alloc(), &mut transport, silent, asking)
+}
+
+/// Serves a silent client and one that asks, both at once. Returns whether the second is answered, and both are closed.
 fn serves_both(rt: &HostRuntime) -> io::Result<bool> {
-    let alloc = rt.alloc();
-    let Some(mut server) = server(alloc, options(2, 2)) else {
-        return Ok(false);
-    };
     let listener = TcpListener::bind(rt, "127.0.0.1:0")?;
     let mut silent = TcpStream::connect(rt, listener.local_addr()?)?;
     let mut asking = TcpStream::connect(rt, listener.local_addr()?)?;
     asking.write_all(ASKS)?;
-    let files: Vec<FollowedFile<'_, &[u8]>> = Vec::new(alloc);
-    let mut errors = Vec::new(alloc);
-    let mut transport = MioTransport::new(rt, rt, alloc, 10, files, &mut errors)?;
-    transport.listen(listener)?;
-    let over = serve(alloc, &mut server, &mut transport, &[]);
-    let reply = rest_of(alloc, &mut asking)?;
-    let nothing = rest_of(alloc, &mut silent)?;
-    Ok(over && reply.as_slice() == REPLY && nothing.is_empty())
+    answers_over(rt, listener, &mut silent, &mut asking)
 }
 
 #[test]
@@ -54,21 +71,33 @@ fn silent_client_keeps_nobody_waiting(rt: HostRuntime) -> Result<(), Fail> {
     Ok(())
 }
 
-/// Whether a file whose second read fails is read no more, which is printed.
-fn stops_at_failure(rt: &HostRuntime) -> io::Result<bool> {
-    let alloc = rt.alloc();
-    let Some(mut server) = server(alloc, options(1, 1)) else {
-        return Ok(false);
+/// Reads the files of a transport for a server of one stream. Returns false if memory runs out.
+fn catches_up<T: Transport>(alloc: Global, transport: &mut T) -> bool {
+    let (Some(mut server), Ok(names)) = (server(alloc, options(1, 1)), names(alloc)) else {
+        return false;
     };
+    catch_up(alloc, &mut server, transport, &names);
+    true
+}
+
+/// Reads a file. Returns whether it is read no more.
+fn stops_over<R: Read + Drop>(
+    rt: &HostRuntime,
+    file: FollowedFile<'_, R>,
+    errors: &mut Vec<u8>,
+) -> io::Result<bool> {
+    let mut files = Vec::new(rt.alloc());
+    files.push(file)?;
+    let mut transport = MioTransport::new(rt, rt, rt.alloc(), 10, files, errors)?;
+    Ok(catches_up(rt.alloc(), &mut transport) && transport.has_stopped_file())
+}
+
+/// Returns whether a file whose second read fails is read no more, which is printed.
+fn stops_at_failure(rt: &HostRuntime) -> io::Result<bool> {
     let rubbish: &[u8] = b"DKIF    rubbish, which is no head of a file";
-    let mut files = Vec::new(alloc);
-    files.push(FollowedFile::new("a", "a.ivf", FailAt::new(rubbish, 1)))?;
-    let mut errors = Vec::new(alloc);
-    let mut transport = MioTransport::new(rt, rt, alloc, 10, files, &mut errors)?;
-    catch_up(alloc, &mut server, &mut transport, &names(alloc)?);
-    let stopped = transport.has_stopped_file();
-    drop(transport);
-    Ok(stopped && errors.as_slice() == STOPPED)
+    let file = FollowedFile::new("a", "a.ivf", FailAt::new(rubbish, 1));
+    let mut errors = Vec::new(rt.alloc());
+    Ok(stops_over(rt, file, &mut errors)? && errors.as_slice() == STOPPED)
 }
 
 #[test]

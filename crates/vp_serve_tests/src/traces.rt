@@ -7,7 +7,7 @@ use std::fmt::Write;
 use std::process::Abort;
 use vp_base::{ByteList, Limits};
 use vp_hub::Hub;
-use vp_serve::{ServeOptions, ServerLoop, catch_up, serve, take_turn};
+use vp_serve::{ServeOptions, ServerLoop, Transport, catch_up, serve, take_turn};
 
 /// A request for the names of the streams.
 const ASKS: &[u8] = b"GET /streams HTTP/1.1\r\nHost: x\r\n\r\n";
@@ -141,19 +141,24 @@ fn text_of(alloc: Global, log: &[Entry]) -> Option<String> {
     Some(text)
 }
 
-/// What passes while a server serves a script to its end.
-fn served<H: Abort>(
-    rt: &H,
+/// Whether this is what passed.
+fn is_logged(alloc: Global, log: &[Entry], want: &str) -> bool {
+    match text_of(alloc, log) {
+        Some(text) => text.as_str() == want,
+        None => false,
+    }
+}
+
+/// Whether a new server of one stream serves all connections of a transport.
+pub(crate) fn serves_all<T: Transport>(
     alloc: Global,
     options: ServeOptions,
-    script: Script,
-) -> Option<String> {
-    let mut server = server(alloc, options)?;
-    let mut transport = Scripted::new(rt, alloc, script);
-    if !serve(alloc, &mut server, &mut transport, &[]) {
-        return None;
+    transport: &mut T,
+) -> bool {
+    match server(alloc, options) {
+        Some(mut server) => serve(alloc, &mut server, transport, &[]),
+        None => false,
     }
-    text_of(alloc, transport.log())
 }
 
 /// Whether a server serves a script to its end, and just this passes.
@@ -164,10 +169,8 @@ fn shows<H: Abort>(
     script: Script,
     want: &str,
 ) -> bool {
-    match served(rt, alloc, options, script) {
-        Some(text) => text.as_str() == want,
-        None => false,
-    }
+    let mut transport = Scripted::new(rt, alloc, script);
+    serves_all(alloc, options, &mut transport) && is_logged(alloc, transport.log(), want)
 }
 
 #[test]
@@ -234,25 +237,32 @@ fn idle_connection_is_closed(rt: HostRuntime) {
     );
 }
 
+/// Returns how many connections a new server has after two turns.
+fn open_after_two_turns<T: Transport>(
+    alloc: Global,
+    options: ServeOptions,
+    transport: &mut T,
+) -> usize {
+    let Some(mut server) = server(alloc, options) else {
+        return 0;
+    };
+    take_turn(alloc, &mut server, transport, 0);
+    take_turn(alloc, &mut server, transport, 0);
+    server.connection_count()
+}
+
 /// Whether the hub refuses the 65th connection, which is then closed at once.
 fn refuses_the_65th<H: Abort>(rt: &H, alloc: Global) -> bool {
-    let Some(mut server) = server(alloc, options(65, 65)) else {
-        return false;
-    };
     let script = Script {
         waiting: 65,
         ..NOTHING
     };
     let mut transport = Scripted::new(rt, alloc, script);
-    take_turn(alloc, &mut server, &mut transport, 0);
-    take_turn(alloc, &mut server, &mut transport, 0);
-    let Some(last) = transport.log().get(64..) else {
-        return false;
-    };
-    let Some(text) = text_of(alloc, last) else {
-        return false;
-    };
-    text.as_str() == "accepts 64\ncloses 64 HubRefused\n" && server.connection_count() == 64
+    let open = open_after_two_turns(alloc, options(65, 65), &mut transport);
+    match transport.log().get(64..) {
+        Some(last) => open == 64 && is_logged(alloc, last, "accepts 64\ncloses 64 HubRefused\n"),
+        None => false,
+    }
 }
 
 #[test]
@@ -260,14 +270,17 @@ fn hub_refuses_one_too_many(rt: HostRuntime) {
     assert!(rt; refuses_the_65th(&rt, rt.alloc()));
 }
 
+/// Whether a new server reads the files of a transport, and then serves all its connections.
+fn serves_files<T: Transport>(alloc: Global, transport: &mut T) -> bool {
+    let (Some(mut server), Ok(names)) = (server(alloc, options(1, 1)), names(alloc)) else {
+        return false;
+    };
+    catch_up(alloc, &mut server, transport, &names);
+    serve(alloc, &mut server, transport, &names)
+}
+
 /// Whether the pieces of a file are fed, and a request for the stream is answered by them.
 fn feeds_a_file<H: Abort>(rt: &H, alloc: Global) -> bool {
-    let Some(mut server) = server(alloc, options(1, 1)) else {
-        return false;
-    };
-    let Ok(names) = names(alloc) else {
-        return false;
-    };
     let script = Script {
         waiting: 1,
         inputs: &[
@@ -281,14 +294,7 @@ fn feeds_a_file<H: Abort>(rt: &H, alloc: Global) -> bool {
         ..NOTHING
     };
     let mut transport = Scripted::new(rt, alloc, script);
-    catch_up(alloc, &mut server, &mut transport, &names);
-    if !serve(alloc, &mut server, &mut transport, &names) {
-        return false;
-    }
-    match text_of(alloc, transport.log()) {
-        Some(text) => text.as_str() == FILE,
-        None => false,
-    }
+    serves_files(alloc, &mut transport) && is_logged(alloc, transport.log(), FILE)
 }
 
 #[test]
