@@ -40,26 +40,6 @@ pub(crate) fn sad_within(block: &[u8], window: &[u8], at: usize, stride: usize, 
     rest_within(block, window, at, stride, first, limit)
 }
 
-/// As `sad_within`, but compared with `limit` after twelve rows alone. That pays where most blocks differ by no more in
-/// fewer rows.
-pub(crate) fn sad_late(block: &[u8], window: &[u8], at: usize, stride: usize, limit: u32) -> u32
-    requires block { 256 ≤ length block.now }
-    requires window { at + 15 * stride + 16 ≤ length window.now }
-    ensures exact { result ≤ limit → result ≡ sum_of_differences 16 16 (strided_block block.now 0 16)
-        (strided_block window.now at stride) }
-    ensures over { limit < result → limit < sum_of_differences 16 16 (strided_block block.now 0 16)
-        (strided_block window.now at stride) }
-    ensures bound { result ≤ 16 * 16 * 255 }
-{
-    let second = first_rows(block, window, at, stride)
-        + four_rows(block, window, 4 * 16, 16, at + 4 * stride, stride);
-    let third = second + four_rows(block, window, 8 * 16, 16, at + 8 * stride, stride);
-    if third > limit {
-        return third;
-    }
-    third + four_rows(block, window, 12 * 16, 16, at + 12 * stride, stride)
-}
-
 /// As `sad_within`, where the sum of the first four rows is known.
 pub(crate) fn rest_within(
     block: &[u8],

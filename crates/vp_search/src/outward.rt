@@ -13,7 +13,7 @@ ghost use Rattle.vp_search.specs.Window.{first_rows, vector_at, window_cost, IsF
 ghost use Rattle.vp_search.specs.Bounds.{IsBound};
 ghost use Rattle.vp_search.specs.Summed.{IsSummedSearch};
 
-use crate::difference::{first_rows, rest_within, sad_late, sad_within};
+use crate::difference::{first_rows, rest_within, sad_within};
 use crate::early::next_start;
 use crate::sums::{SquareSums, bounds_at, next_within, within};
 use crate::vector::{Found, vector_at, vector_length};
@@ -74,35 +74,6 @@ fn consider_rest(
 {
     let at = place.row * WINDOW_WIDTH + place.column;
     let cost = rest_within(block, window, at, WINDOW_WIDTH, first, best.cost);
-    if cost > best.cost {
-        return best;
-    }
-    lesser(
-        best,
-        Found {
-            vector: vector_at(place.row, place.column, range),
-            cost,
-        },
-    )
-}
-
-/// As `consider`, where most vectors differ by no more than the best one costs in fewer than twelve rows.
-#[inline(always)]
-fn consider_late(block: &[u8], window: &[u8], range: u8, best: Found, place: Spot) -> Found
-    requires block { 256 ≤ length block.now }
-    requires window { (2 * range + 16) * WINDOW_WIDTH ≤ length window.now }
-    requires range { range ≤ 64 }
-    requires row { place.row ≤ 2 * range }
-    requires column { place.column ≤ 2 * range }
-    requires best { IsFoundInWindow range (window_cost block.now window.now range) best }
-    ensures kept { IsFoundInWindow range (window_cost block.now window.now range) result }
-    ensures old { IsNoWorse result.cost result.vector best.cost best.vector }
-    ensures here { IsNoWorse result.cost result.vector
-        (window_cost block.now window.now range (vector_at range place.row place.column))
-        (vector_at range place.row place.column) }
-{
-    let at = place.row * WINDOW_WIDTH + place.column;
-    let cost = sad_late(block, window, at, WINDOW_WIDTH, best.cost);
     if cost > best.cost {
         return best;
     }
@@ -438,7 +409,7 @@ fn consider_each(block: &[u8], window: &[u8], range: u8, best: Found, i: usize) 
     let mut found = best;
     for j in 0..2 * usize::from(range) + 1 {
         let place = Spot { row: i, column: j };
-        found = consider_late(block, window, range, found, place);
+        found = consider(block, window, range, found, place);
     }
     found
 }

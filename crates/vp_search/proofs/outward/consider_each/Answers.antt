@@ -9,9 +9,9 @@ use Rattle.std.proofs.lemmas.Bool.{cases_lt}
 pub loop-j-preserved : goal.loop-j-preserved
 loop-j-preserved c =
     let b = c.args.block.now in let w = c.args.window.now in let r = c.args.range in let i = c.args.i in let j = c.loop-j.j in
-    let f : Found = c.loop-j.found in let g : Found = c.consider_late-found.result in
+    let f : Found = c.loop-j.found in let g : Found = c.consider-found.result in
     let inv = c.loop-j.invariant in
-    let step = c.consider_late-found.ensures in
+    let step = c.consider-found.ensures in
     record {
       kept = step.kept;
       old = along g.cost g.vector f.cost f.vector c.args.best.cost c.args.best.vector step.old inv.old;
