@@ -187,6 +187,9 @@ fn run<
         Ok(transport) => transport,
         Err(error) => return Err(ManyFault::System(error)),
     };
+    if many.access_log {
+        transport.log_accesses();
+    }
     catch_up(alloc, &mut server, &mut transport, &names);
     let listener = listen(rt, &many.service, output)?;
     if let Err(error) = transport.listen(listener) {

@@ -1,5 +1,5 @@
 -- Words in their plain order.
-use Rattle.std.proofs.Common.{◌≡◌, [], ◌∷◌, Bool, true, false, refl}
+use Rattle.std.proofs.Common.{◌≡◌, [], ◌∷◌, Bool, refl}
 use Rattle.std.specs.Prelude.{Some, codes}
 use Rattle.clap.specs.Walk.{Text}
 use Rattle.clap.specs.Faults.{fault_of}
@@ -9,8 +9,7 @@ use Rattle.vp_args.specs.Args.{parsed_args, parsed_command, asks_many, decodes, 
 
 info_taken_by : (many : Bool) (name input : Text) → IsOperand input → fault_of (program many) (name ∷ codes "info" ∷ input ∷ []) ≡ []
 unfolding program clap_on_literals
-info_taken_by true name input h = rw (h.separator, h.long, h.short) refl
-info_taken_by false name input h = rw (h.separator, h.long, h.short) refl
+info_taken_by many name input h = rw (h.separator, h.long, h.short) refl
 
 pub info_taken : (name input : Text) → IsOperand input → faults_of (name ∷ codes "info" ∷ input ∷ []) ≡ []
 info_taken name input h = info_taken_by (asks_many (name ∷ codes "info" ∷ input ∷ [])) name input h
@@ -18,8 +17,7 @@ info_taken name input h = info_taken_by (asks_many (name ∷ codes "info" ∷ in
 info_asked_by : (many : Bool) (name input : Text) → IsOperand input
     → parsed_command (subcommand_of (program many) (name ∷ codes "info" ∷ input ∷ [])) ≡ tells input
 unfolding program clap_on_literals
-info_asked_by true name input h = rw (h.separator, h.long, h.short) refl
-info_asked_by false name input h = rw (h.separator, h.long, h.short) refl
+info_asked_by many name input h = rw (h.separator, h.long, h.short) refl
 
 pub info_asked : (name input : Text) → IsOperand input → parsed_args (name ∷ codes "info" ∷ input ∷ []) ≡ tells input
 info_asked name input h = info_asked_by (asks_many (name ∷ codes "info" ∷ input ∷ [])) name input h
@@ -27,8 +25,7 @@ info_asked name input h = info_asked_by (asks_many (name ∷ codes "info" ∷ in
 decode_taken_by : (many : Bool) (name input output : Text) → IsOperand input → IsOperand output
     → fault_of (program many) (name ∷ codes "decode" ∷ input ∷ output ∷ []) ≡ []
 unfolding program clap_on_literals
-decode_taken_by true name input output h k = rw (h.separator, h.long, h.short, k.separator, k.long, k.short) refl
-decode_taken_by false name input output h k = rw (h.separator, h.long, h.short, k.separator, k.long, k.short) refl
+decode_taken_by many name input output h k = rw (h.separator, h.long, h.short, k.separator, k.long, k.short) refl
 
 pub decode_taken : (name input output : Text) → IsOperand input → IsOperand output
     → faults_of (name ∷ codes "decode" ∷ input ∷ output ∷ []) ≡ []
@@ -37,8 +34,7 @@ decode_taken name input output h k = decode_taken_by (asks_many (name ∷ codes 
 decode_asked_by : (many : Bool) (name input output : Text) → IsOperand input → IsOperand output
     → parsed_command (subcommand_of (program many) (name ∷ codes "decode" ∷ input ∷ output ∷ [])) ≡ decodes (Some (codes "false")) input output
 unfolding program clap_on_literals
-decode_asked_by true name input output h k = rw (h.separator, h.long, h.short, k.separator, k.long, k.short) refl
-decode_asked_by false name input output h k = rw (h.separator, h.long, h.short, k.separator, k.long, k.short) refl
+decode_asked_by many name input output h k = rw (h.separator, h.long, h.short, k.separator, k.long, k.short) refl
 
 pub decode_asked : (name input output : Text) → IsOperand input → IsOperand output
     → parsed_args (name ∷ codes "decode" ∷ input ∷ output ∷ []) ≡ decodes (Some (codes "false")) input output
@@ -47,8 +43,7 @@ decode_asked name input output h k = decode_asked_by (asks_many (name ∷ codes 
 y4m_taken_by : (many : Bool) (name input output : Text) → IsOperand input → IsOperand output
     → fault_of (program many) (name ∷ codes "decode" ∷ codes "--y4m" ∷ input ∷ output ∷ []) ≡ []
 unfolding program clap_on_literals
-y4m_taken_by true name input output h k = rw (h.separator, h.long, h.short, k.separator, k.long, k.short) refl
-y4m_taken_by false name input output h k = rw (h.separator, h.long, h.short, k.separator, k.long, k.short) refl
+y4m_taken_by many name input output h k = rw (h.separator, h.long, h.short, k.separator, k.long, k.short) refl
 
 pub y4m_taken : (name input output : Text) → IsOperand input → IsOperand output
     → faults_of (name ∷ codes "decode" ∷ codes "--y4m" ∷ input ∷ output ∷ []) ≡ []
@@ -58,8 +53,7 @@ y4m_asked_by : (many : Bool) (name input output : Text) → IsOperand input → 
     → parsed_command (subcommand_of (program many) (name ∷ codes "decode" ∷ codes "--y4m" ∷ input ∷ output ∷ []))
     ≡ decodes (Some (codes "true")) input output
 unfolding program clap_on_literals
-y4m_asked_by true name input output h k = rw (h.separator, h.long, h.short, k.separator, k.long, k.short) refl
-y4m_asked_by false name input output h k = rw (h.separator, h.long, h.short, k.separator, k.long, k.short) refl
+y4m_asked_by many name input output h k = rw (h.separator, h.long, h.short, k.separator, k.long, k.short) refl
 
 pub y4m_asked : (name input output : Text) → IsOperand input → IsOperand output
     → parsed_args (name ∷ codes "decode" ∷ codes "--y4m" ∷ input ∷ output ∷ []) ≡ decodes (Some (codes "true")) input output

@@ -105,9 +105,13 @@ service_rules many =
 -- its options for many connections at once
 abbrev pub many_rules : Bool → List Rule
 many_rules many =
-    required_if many (setting_rule (codes "max-connections")) ∷ setting_rule (codes "idle-timeout")
-    ∷ flag_rule (codes "follow")
-    ∷ setting_rule (codes "poll-interval") ∷ []
+    required_if many (setting_rule (codes "max-connections")) ∷ setting_rule (codes "idle-timeout") ∷ []
+
+-- its options for files that grow, and for the log
+abbrev pub follow_rules : List Rule
+follow_rules =
+    flag_rule (codes "follow") ∷ setting_rule (codes "poll-interval")
+    ∷ flag_rule (codes "access-log") ∷ []
 
 -- its operands
 abbrev pub stream_rules : List Rule
@@ -117,7 +121,9 @@ stream_rules = operands_rule (codes "NAME=FILE") ∷ []
 -- vp8 serve --listen ADDR --max-connections K [options] NAME=FILE..
 abbrev pub serve_app : Bool → App
 serve_app many =
-    with_rules (with_rules (with_rules (new_app (codes "serve")) (service_rules many)) (many_rules many)) stream_rules
+    with_rules (with_rules
+    (with_rules (with_rules (new_app (codes "serve")) (service_rules many)) (many_rules many)) follow_rules)
+    stream_rules
 
 -- the program's command without its subcommands
 abbrev pub vp8_app : App
@@ -139,7 +145,8 @@ is_many_option word =
     bytes_eq (before_first is_equals word) (codes "--max-connections")
     || (bytes_eq (before_first is_equals word) (codes "--idle-timeout")
     || (bytes_eq (before_first is_equals word) (codes "--follow")
-    || bytes_eq (before_first is_equals word) (codes "--poll-interval")))
+    || (bytes_eq (before_first is_equals word) (codes "--poll-interval")
+    || bytes_eq (before_first is_equals word) (codes "--access-log"))))
 
 -- such an argument, or one after it
 abbrev pub asks_many_at : Text → Bool → Bool
@@ -291,6 +298,7 @@ pub record IsServiceOfMany (rows : List Row) (address : Text) (operands : List T
   pub timeout_is : IsNumber (first_of (codes "idle-timeout") rows) 30 s.idle_timeout
   pub follows : IsFlag (one_of (codes "follow") rows) s.follow
   pub interval_is : IsNumber (first_of (codes "poll-interval") rows) 100 s.poll_interval
+  pub logs : IsFlag (one_of (codes "access-log") rows) s.access_log
   pub files : s.follow ≡ true → list_any is_input s.service.streams.items ≡ false
 
 -- the task has the values that the arguments ask for

@@ -12,7 +12,7 @@ ghost use Rattle.vp_args.specs.Args.{AreSettings, Gains, IsDecimal, IsFlag, IsMi
 ghost use Rattle.vp_args.specs.Args.{IsNoNaming, IsNoPlanFor, IsNumber, IsOfValue, IsTaskFor, IsRefusalFor, decode_app};
 ghost use Rattle.vp_args.specs.Args.{encode_app, file_rules, flag_rule, frame_rules, info_app, macroblock_rules};
 ghost use Rattle.vp_args.specs.Args.{operand_rule, operands_rule, program, serve_app, serves, setting_rule, vp8_app};
-ghost use Rattle.vp_args.specs.Args.{asks_many, many_rules, service_rules, stream_rules, turns_of};
+ghost use Rattle.vp_args.specs.Args.{asks_many, follow_rules, many_rules, service_rules, stream_rules, turns_of};
 
 use crate::encode_args::{EncodeArgs, EncodeOptions};
 use crate::many_args::{asks_many, serve_many_task};
@@ -305,8 +305,8 @@ fn serve_command<'a>(alloc: Global, many: bool) -> Result<Command<'a>, AllocErro
         "Serves frames of IVF files over HTTP, one connection after another, then ends",
     );
     let service = with_service_settings(alloc, many, Ok(command));
-    let settings = with_many_settings(alloc, many, service);
-    with_streams(alloc, settings)
+    let limits = with_many_settings(alloc, many, service);
+    with_streams(alloc, with_follow_settings(alloc, limits))
 }
 
 // Adds the options of a service.
@@ -361,18 +361,30 @@ fn with_many_settings<'a>(
         "idle-timeout",
         "Seconds after which an idle connection is closed, 1 to 86400 [default: 30]",
     );
+    with_arg(with_arg(command, max_connections), idle_timeout)
+}
+
+// Adds the options for files that grow, and for the log.
+fn with_follow_settings<'a>(
+    alloc: Global,
+    command: Result<Command<'a>, AllocError>,
+) -> Result<Command<'a>, AllocError>
+    ensures { IfOk result (λ new. (old : _) × (command.entry ≡ Ok old) × Gains old follow_rules new) }
+{
     let follow = flag(alloc, "follow", "Reads the files on as they grow");
     let poll_interval = setting(
         alloc,
         "poll-interval",
         "Milliseconds between two polls of the files, 1 to 60000 [default: 100]",
     );
+    let access_log = flag(
+        alloc,
+        "access-log",
+        "Prints a line for each request on standard error",
+    );
     with_arg(
-        with_arg(
-            with_arg(with_arg(command, max_connections), idle_timeout),
-            follow,
-        ),
-        poll_interval,
+        with_arg(with_arg(command, follow), poll_interval),
+        access_log,
     )
 }
 

@@ -37,6 +37,7 @@ fn is_many_option(word: &str) -> bool
         || name == "--idle-timeout"
         || name == "--follow"
         || name == "--poll-interval"
+        || name == "--access-log"
 }
 
 // What stands before the first `=`.
@@ -98,6 +99,7 @@ fn serve_many_args<'a>(
         idle_timeout,
         follow,
         poll_interval,
+        access_log: is_set(found, "access-log"),
     }))
 }
 

@@ -1,11 +1,14 @@
 //! The transport of the server: sockets that do not block, and files that grow.
 #![tactic(auto)]
 
+mod access_log;
 mod files;
+mod line;
 mod lingering;
 mod socket;
 mod sockets;
 mod transport;
 
+pub use access_log::{Access, access_line};
 pub use files::FollowedFile;
 pub use transport::MioTransport;

@@ -6,6 +6,7 @@ ghost use Rattle.vp_serve.specs.Transport.{read_count, written_count};
 use mio::event::Event;
 use mio::net::TcpStream;
 use std::io::{ErrorKind, Read, Write};
+use std::net::SocketAddr;
 use vp_serve::{ReadOutcome, WriteOutcome};
 
 /// What an event reports of a socket.
@@ -33,15 +34,17 @@ pub(crate) fn readiness_of(event: &Event) -> Readiness {
 pub(crate) struct Socket {
     number: u32,
     stream: TcpStream,
+    peer: SocketAddr,
     ready: Readiness,
 }
 
 impl Socket {
     /// A socket that was just accepted. Its first read and write are tried without an event.
-    pub(crate) fn new(number: u32, stream: TcpStream) -> Socket {
+    pub(crate) fn new(number: u32, stream: TcpStream, peer: SocketAddr) -> Socket {
         Socket {
             number,
             stream,
+            peer,
             ready: Readiness {
                 read: true,
                 write: true,
@@ -55,6 +58,11 @@ impl Socket {
         self.number
     }
 
+    /// The address of its peer.
+    pub(crate) fn peer(&self) -> SocketAddr {
+        self.peer
+    }
+
     /// What it was found ready for.
     pub(crate) fn ready(&self) -> Readiness {
         self.ready
@@ -65,6 +73,7 @@ impl Socket {
         let Socket {
             number: _,
             stream,
+            peer: _,
             ready: _,
         } = self;
         stream

@@ -6,7 +6,7 @@ ghost use Rattle.vp_serve.specs.Transport.{read_count, written_count};
 use crate::lingering::{Drained, LingeringSocket};
 use crate::socket::{Readiness, Socket};
 use std::alloc::{AllocError, Global};
-use std::net::Shutdown;
+use std::net::{Shutdown, SocketAddr};
 use vp_serve::{ReadOutcome, WriteOutcome};
 
 /// The most sockets of open connections, which is how many connections a hub has.
@@ -50,6 +50,12 @@ impl Sockets {
     pub(crate) fn ready(&self, number: u32) -> Option<Readiness> {
         let place = place_of(&self.connected, number)?;
         Some(self.connected[place].ready())
+    }
+
+    /// The address of the peer of a connection.
+    pub(crate) fn peer(&self, number: u32) -> Option<SocketAddr> {
+        let place = place_of(&self.connected, number)?;
+        Some(self.connected[place].peer())
     }
 
     /// Notes what an event reports of a connection.

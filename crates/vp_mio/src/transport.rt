@@ -2,6 +2,7 @@
 
 ghost use Rattle.std.specs.Prelude.{◌≤◌, length, None};
 
+use crate::access_log::{Access, access_line};
 use crate::files::FollowedFile;
 use crate::socket::{Socket, readiness_of};
 use crate::sockets::Sockets;
@@ -9,8 +10,8 @@ use mio::net::TcpListener;
 use mio::{Events, Interest, Poll, Token};
 use std::alloc::Global;
 use std::io::{ErrorKind, Read, Write};
-use std::net::Net;
-use std::time::{Clock, Duration, Instant};
+use std::net::{Net, SocketAddr};
+use std::time::{Clock, Duration, Instant, SystemTime, UNIX_EPOCH};
 use std::{io, net};
 use vp_hub::HubFault;
 use vp_serve::{CloseReason, ReadOutcome, Transport, WriteOutcome};
@@ -24,6 +25,7 @@ const EVENTS: usize = 256;
 /// Sockets by the numbers of their connections, and files. Faults of files are printed on `errors`.
 #[derive(Drop)]
 pub struct MioTransport<'a, C: Clock, F: Read + Drop, E: Write> {
+    alloc: Global,
     clock: &'a C,
     start: Instant,
     now: u64,
@@ -37,6 +39,8 @@ pub struct MioTransport<'a, C: Clock, F: Read + Drop, E: Write> {
     // Whether a socket that lingers may have more to read.
     drains: bool,
     files: Vec<FollowedFile<'a, F>>,
+    // Whether a line is printed for each reply.
+    logs_accesses: bool,
     errors: &'a mut E,
 }
 
@@ -51,6 +55,7 @@ impl<'a, C: Clock, F: Read + Drop, E: Write> MioTransport<'a, C, F, E> {
         errors: &'a mut E,
     ) -> io::Result<MioTransport<'a, C, F, E>> {
         Ok(MioTransport {
+            alloc,
             clock,
             start: Instant::now(clock)?,
             now: 0,
@@ -62,8 +67,15 @@ impl<'a, C: Clock, F: Read + Drop, E: Write> MioTransport<'a, C, F, E> {
             sockets: Sockets::new(alloc)?,
             drains: false,
             files,
+            logs_accesses: false,
             errors,
         })
+    }
+
+    /// Prints a line on `errors` for each reply from now on: the time, the connection, its peer, the line of the request,
+    /// the status, the number of bytes behind the reply's head, and the number of decoded packets.
+    pub fn log_accesses(&mut self) {
+        self.logs_accesses = true;
     }
 
     /// Accepts connections from this listener from now on.
@@ -110,11 +122,22 @@ impl<'a, C: Clock, F: Read + Drop, E: Write> MioTransport<'a, C, F, E> {
         self.now
     }
 
-    // The stream of the next connection that waits to be accepted.
-    fn next_stream(&mut self) -> Option<mio::net::TcpStream> {
+    // The seconds since 1970, or 0 if the clock can't be read.
+    fn seconds_since_1970(&self) -> u64 {
+        let Ok(now) = SystemTime::now(self.clock) else {
+            return 0;
+        };
+        match now.duration_since(UNIX_EPOCH) {
+            Ok(passed) => passed.as_secs(),
+            Err(_) => 0,
+        }
+    }
+
+    // The stream and the peer of the next connection that waits to be accepted.
+    fn next_stream(&mut self) -> Option<(mio::net::TcpStream, SocketAddr)> {
         let listener = self.listener.as_ref()?;
         match listener.accept() {
-            Ok((stream, _)) => Some(stream),
+            Ok(accepted) => Some(accepted),
             Err(error) => {
                 if error.kind() == ErrorKind::WouldBlock {
                     self.can_accept = false;
@@ -150,7 +173,7 @@ impl<'a, C: Clock, F: Read + Drop, E: Write> Transport for MioTransport<'a, C, F
         if !self.can_accept || self.sockets.is_full() {
             return false;
         }
-        let Some(mut stream) = self.next_stream() else {
+        let Some((mut stream, peer)) = self.next_stream() else {
             return false;
         };
         let _ = stream.set_nodelay(true);
@@ -164,7 +187,7 @@ impl<'a, C: Clock, F: Read + Drop, E: Write> Transport for MioTransport<'a, C, F
         {
             return false;
         }
-        self.sockets.add(Socket::new(number, stream))
+        self.sockets.add(Socket::new(number, stream, peer))
     }
 
     fn can_read(&self, number: u32) -> bool {
@@ -187,6 +210,30 @@ impl<'a, C: Clock, F: Read + Drop, E: Write> Transport for MioTransport<'a, C, F
 
     fn write(&mut self, number: u32, bytes: &[u8]) -> WriteOutcome {
         self.sockets.write(number, bytes)
+    }
+
+    fn replied(
+        &mut self,
+        number: u32,
+        _now: u64,
+        request: &[u8],
+        reply: &[u8],
+        packets: u64,
+    ) {
+        if !self.logs_accesses {
+            return;
+        }
+        let access = Access {
+            seconds: self.seconds_since_1970(),
+            number,
+            peer: self.sockets.peer(number),
+            request,
+            reply,
+            packets,
+        };
+        if let Some(line) = access_line(self.alloc, &access) {
+            let _ = self.errors.write_all(&line);
+        }
     }
 
     fn close(&mut self, number: u32, reason: CloseReason) {

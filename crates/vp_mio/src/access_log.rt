@@ -1,0 +1,85 @@
+//! A line for each reply, for whoever runs the server.
+
+ghost use Rattle.std.specs.Prelude.{◌≡◌, ◌≤◌, IfSome, length};
+ghost use Rattle.vp_mio.specs.Lines.{IsPlainLine};
+
+use crate::line::Line;
+use httpdate::HttpDate;
+use std::alloc::Global;
+use std::io::Write;
+use std::net::SocketAddr;
+
+/// A reply that was made.
+pub struct Access<'a> {
+    /// The seconds since 1970.
+    pub seconds: u64,
+    /// The number of its connection.
+    pub number: u32,
+    /// The address of the peer, if it is known.
+    pub peer: Option<SocketAddr>,
+    /// The line of the request.
+    pub request: &'a [u8],
+    /// The bytes of the reply.
+    pub reply: &'a [u8],
+    /// How many packets were decoded for it.
+    pub packets: u64,
+}
+
+/// A line about a reply: the time, the connection, its peer, the line of the request, the status, the number of bytes
+/// behind the reply's head, and the number of decoded packets. `None` if memory was refused.
+pub fn access_line(alloc: Global, access: &Access<'_>) -> Option<Vec<u8>>
+    ensures { IfSome result (λ line. IsPlainLine line.items) }
+{
+    let mut line = Line::new(alloc);
+    line.put(b"[");
+    put_time(&mut line, access.seconds);
+    put_peer(alloc, &mut line, access);
+    line.put_quoted(access.request);
+    put_reply(alloc, &mut line, access);
+    line.end()
+}
+
+// Appends a time as HTTP writes it, or as seconds if it is behind the year 9999.
+fn put_time(line: &mut Line, seconds: u64) {
+    if let Ok(date) = HttpDate::from_unix_secs(seconds) {
+        line.put(&date.to_bytes());
+    }
+}
+
+// Appends the number of a connection, and its peer.
+fn put_peer(alloc: Global, line: &mut Line, access: &Access<'_>) {
+    let mut text = Vec::new(alloc);
+    let _ = match access.peer {
+        Some(peer) => write!(text, "] {} {peer} ", access.number),
+        None => write!(text, "] {} - ", access.number),
+    };
+    line.put(&text);
+}
+
+// Appends the status of a reply, the bytes behind its head, and the number of packets.
+fn put_reply(alloc: Global, line: &mut Line, access: &Access<'_>) {
+    line.put(b" ");
+    line.put(status_of(access.reply));
+    let mut text = Vec::new(alloc);
+    let _ = write!(text, " {} {}", body_length(access.reply), access.packets);
+    line.put(&text);
+}
+
+// The three digits behind `HTTP/1.1 `.
+fn status_of(reply: &[u8]) -> &[u8] {
+    if reply.len() < 12 {
+        b"-"
+    } else {
+        &reply[9..12]
+    }
+}
+
+// How many bytes stand behind the blank line that ends the head.
+fn body_length(reply: &[u8]) -> usize
+    ensures { result ≤ length reply.now }
+{
+    match reply.windows(4).position(|four| four == b"\r\n\r\n".as_slice()) {
+        Some(place) => reply.len().saturating_sub(place).saturating_sub(4),
+        None => 0,
+    }
+}
