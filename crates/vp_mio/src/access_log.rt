@@ -10,6 +10,7 @@ use std::io::Write;
 use std::net::SocketAddr;
 
 /// A reply that was made.
+#[derive(Drop)]
 pub struct Access<'a> {
     /// The seconds since 1970.
     pub seconds: u64,
@@ -78,7 +79,10 @@ fn status_of(reply: &[u8]) -> &[u8] {
 fn body_length(reply: &[u8]) -> usize
     ensures { result ≤ length reply.now }
 {
-    match reply.windows(4).position(|four| four == b"\r\n\r\n".as_slice()) {
+    match reply
+        .windows(4)
+        .position(|four| four == b"\r\n\r\n".as_slice())
+    {
         Some(place) => reply.len().saturating_sub(place).saturating_sub(4),
         None => 0,
     }

@@ -212,14 +212,7 @@ impl<'a, C: Clock, F: Read + Drop, E: Write> Transport for MioTransport<'a, C, F
         self.sockets.write(number, bytes)
     }
 
-    fn replied(
-        &mut self,
-        number: u32,
-        _now: u64,
-        request: &[u8],
-        reply: &[u8],
-        packets: u64,
-    ) {
+    fn replied(&mut self, number: u32, _now: u64, request: &[u8], reply: &[u8], packets: u64) {
         if !self.logs_accesses {
             return;
         }

@@ -11,3 +11,7 @@ pub mod FeedingLemmas
 pub mod LineReplies
 pub mod BoundLemmas
 pub mod SameLemmas
+pub mod Performing
+pub mod Turning
+pub mod Cursor
+pub mod Timeouts

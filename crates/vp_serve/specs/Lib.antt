@@ -11,3 +11,6 @@ pub mod Replies
 pub mod Bounds
 pub mod SameConnections
 pub mod Files
+pub mod Turns
+pub mod Parts
+pub mod Schedule

@@ -1,12 +1,16 @@
 //! One connection: the bytes that were read and not yet handed to the hub, and the reply bytes not yet written.
 
 ghost use Rattle.std.specs.Prelude.{◌==◌, None, IfSome, IfOk, position, ◌≡◌, ◌≤◌, ◌<◌, ◌++◌, [], take, drop, length};
-ghost use Rattle.std.specs.Prelude.{true, false, if◌then◌else◌};
+ghost use Rattle.std.specs.Prelude.{true, false, if◌then◌else◌, List, ◌∷◌};
+ghost use Rattle.std.specs.List.{list_any};
 ghost use Rattle.vp_serve.specs.declared.connection.NextAction.{NextAction};
 ghost use Rattle.vp_serve.specs.Lines.{IsLine};
+ghost use Rattle.vp_serve.specs.Connection.{Connection as ConnectionModel};
 ghost use Rattle.vp_serve.specs.Connections.{new_connection, IsPrefix, after_outcome, after_reply, next_action};
 ghost use Rattle.vp_serve.specs.Connections.{connection_of, without, IsConnectionPlace};
+ghost use Rattle.vp_serve.specs.Turns.{is_due, IsNextOpen};
 
+use crate::request::PendingRequest;
 use std::alloc::{AllocError, Global};
 use std::marker::Model;
 use vp_base::ByteList;
@@ -25,6 +29,8 @@ pub struct Connection {
     closing: bool,
     fault: Option<HubFault>,
     last_active: u64,
+    // What the next reply answers. Contracts do not see it.
+    request: PendingRequest,
 }
 
 impl Model for Connection {
@@ -72,6 +78,7 @@ impl Connection {
             closing: false,
             fault: None,
             last_active: now,
+            request: PendingRequest::new(alloc),
         }
     }
 
@@ -133,6 +140,27 @@ impl Connection {
         }
     }
 
+    /// The line of the request that the last reply answers, or of the next one if bytes were handed to the hub since:
+    /// the first line of it that isn't blank, without its line end.
+    pub fn request_line(&self) -> &[u8] {
+        self.request.line()
+    }
+
+    /// The number of packets that were decoded for that request.
+    pub fn packets(&self) -> u64 {
+        self.request.packets()
+    }
+
+    /// Whether the server waits for nothing: it hands bytes of the connection to the hub, or closes it.
+    pub fn is_due(&self) -> bool
+        ensures { result ≡ is_due self.now }
+    {
+        match self.next_action() {
+            NextAction::Submit | NextAction::Close => true,
+            NextAction::Send | NextAction::Receive => false,
+        }
+    }
+
     /// These bytes were read.
     pub fn received(&mut self, bytes: ByteList)
         requires { self.old.unsubmitted ≡ [] }
@@ -167,6 +195,13 @@ impl Connection {
         }
     }
 
+    /// A line was handed to the hub, and packets were decoded for it: for `request_line` and `packets`.
+    pub fn keep_request(&mut self, line: ByteList, packets: u64)
+        ensures { self.new ≡ self.old }
+    {
+        self.request.add(line, packets);
+    }
+
     // The first bytes were handed to the hub.
     fn skip(&mut self, count: usize)
         requires { count ≤ length self.old.unsubmitted }
@@ -183,6 +218,7 @@ impl Connection {
     {
         if !bytes.is_empty() {
             self.last_active = now;
+            self.request.answer();
         }
         self.output = bytes;
         self.sent = 0;
@@ -213,6 +249,38 @@ pub fn find(connections: &[Connection], number: u32) -> Option<usize>
     ensures some { IfSome result (IsConnectionPlace number connections.now) }
 {
     place_of(connections, number)
+}
+
+// The smaller of a number, if it is at least `from`, and the smallest one so far.
+fn nearer(from: u64, next: Option<u32>, number: u32) -> Option<u32>
+    ensures { (connections : List ConnectionModel) → IsNextOpen from connections next
+        → (added : ConnectionModel) → added.number ≡ number → IsNextOpen from (connections ++ added ∷ []) result }
+{
+    if u64::from(number) < from {
+        return next;
+    }
+    match next {
+        Some(best) => { if best <= number { next } else { Some(number) } }
+        None => Some(number),
+    }
+}
+
+/// The number of the connection of the smallest number that is at least `from`.
+pub fn next_open(connections: &[Connection], from: u64) -> Option<u32>
+    ensures { IsNextOpen from connections.now result }
+{
+    let mut next = None;
+    for connection in connections {
+        next = nearer(from, next, connection.number());
+    }
+    next
+}
+
+/// Whether a connection has bytes that are to be handed to the hub, or is to be closed.
+pub fn is_one_due(connections: &[Connection]) -> bool
+    ensures { result ≡ list_any is_due connections.now }
+{
+    connections.iter().any(|x| x.is_due())
 }
 
 /// Removes the connection of a number.

@@ -1,12 +1,17 @@
 //! The loop of the server over any transport: turn after turn, with the idle timeouts and the files that grow.
 
-ghost use Rattle.std.specs.Prelude.{◌≡◌, List, Option, IfOk, true};
+ghost use Rattle.std.specs.Prelude.{◌≡◌, ◌≤◌, ◌<◌, ◌+◌, List, Option, Some, IfOk, true, false};
 ghost use Rattle.vp_serve.specs.ServerLoop.{is_over};
 ghost use Rattle.vp_serve.specs.Transfer.{Transfer, Logs};
 ghost use Rattle.vp_serve.specs.Transport.{ContinuesLoop, piece_transfers};
+ghost use Rattle.vp_serve.specs.Turns.{AwaitsPeers};
+ghost use Rattle.vp_serve.specs.Schedule.{AreStillOpen, IsNoneIdle, IsScheduled, IsTimely};
+ghost use Rattle.vp_serve.specs.Connection.{Connection};
+ghost use Rattle.vp_serve.specs.Connections.{connection_of};
 
 use crate::options::FilePiece;
 use crate::reason::CloseReason;
+use crate::schedule::Schedule;
 use crate::server_loop::ServerLoop;
 use crate::transport::Transport;
 use crate::turn::{close, either, turn, zeroed};
@@ -28,20 +33,9 @@ pub fn serve<T: Transport>(
     ensures continues { ContinuesLoop server.old server.new (T.log transport.old) (T.log transport.new) }
     ensures over { result ≡ true → is_over server.new ≡ true }
 {
-    let poll_interval = server.options().poll_interval;
-    let mut is_busy = false;
-    let mut next_check = 0;
-    let mut next_poll = 0;
+    let mut schedule = Schedule::new();
     for _turn in 0..u64::MAX {
-        let now = transport.wait(is_busy);
-        let moved = turn(alloc, server, transport, now);
-        close_idle(server, transport, now, now >= next_check);
-        next_check = next_time(next_check, now, IDLE_CHECK_INTERVAL);
-        let grew = poll_files(alloc, server, transport, names, now >= next_poll);
-        if !grew {
-            next_poll = next_time(next_poll, now, poll_interval);
-        }
-        is_busy = either(moved, grew);
+        serve_turn(alloc, server, transport, names, &mut schedule);
         if server.is_over() {
             return true;
         }
@@ -49,8 +43,62 @@ pub fn serve<T: Transport>(
     false
 }
 
+/// Waits, unless something may be done at once, and takes one turn. Then closes the connections whose idle timeout is
+/// over, once a second, and feeds the streams of these names, once in a poll interval or as long as a file grows.
+pub fn serve_turn<T: Transport>(
+    alloc: Global,
+    server: &mut ServerLoop,
+    transport: &mut T,
+    names: &[ByteList],
+    schedule: &mut Schedule,
+)
+    ensures continues { ContinuesLoop server.old server.new (T.log transport.old) (T.log transport.new) }
+    ensures waits { schedule.new.is_busy ≡ false → AwaitsPeers server.new }
+    ensures scheduled { IsScheduled schedule.old server.old → IsScheduled schedule.new server.new }
+    ensures timely { IsScheduled schedule.old server.old → IsTimely schedule.new.time server.new }
+    ensures forward { schedule.old.time ≤ schedule.new.time }
+{
+    let now = later(schedule.time, transport.wait(schedule.is_busy));
+    let moved = turn(alloc, server, transport, now);
+    close_idle(server, transport, now, schedule.next_check);
+    let grew = poll_files(alloc, server, transport, names, now >= schedule.next_poll);
+    let poll_interval = server.options().poll_interval;
+    *schedule = Schedule {
+        time: now,
+        next_check: next_time(schedule.next_check, now, IDLE_CHECK_INTERVAL),
+        next_poll: next_poll(schedule.next_poll, now, poll_interval, grew),
+        is_busy: is_busy(server, either(moved, grew)),
+    };
+}
+
+// The later one of two times.
+fn later(a: u64, b: u64) -> u64
+    ensures { a ≤ result }
+{
+    if a < b { b } else { a }
+}
+
+// Whether something may be done at once. If something just happened, more may come of it.
+fn is_busy(server: &ServerLoop, moved: bool) -> bool
+    ensures { result ≡ false → AwaitsPeers server.now }
+{
+    moved || server.is_due()
+}
+
+// The time of the next poll of the files: that which was due as long as they grow.
+fn next_poll(due: u64, now: u64, interval: u64, grew: bool) -> u64 {
+    if grew {
+        due
+    } else {
+        next_time(due, now, interval)
+    }
+}
+
 // The next time that is due, once this one is reached.
-fn next_time(due: u64, now: u64, interval: u64) -> u64 {
+fn next_time(due: u64, now: u64, interval: u64) -> u64
+    ensures waits { now < due → result ≡ due }
+    ensures next { due ≤ now → result ≤ now + interval }
+{
     if now < due {
         due
     } else {
@@ -58,24 +106,27 @@ fn next_time(due: u64, now: u64, interval: u64) -> u64 {
     }
 }
 
-// Closes each connection whose idle timeout is over.
-fn close_idle<T: Transport>(server: &mut ServerLoop, transport: &mut T, now: u64, is_due: bool)
-    ensures { ContinuesLoop server.old server.new (T.log transport.old) (T.log transport.new) }
+// Closes each connection whose idle timeout is over, once the time of the next check is reached.
+fn close_idle<T: Transport>(server: &mut ServerLoop, transport: &mut T, now: u64, next_check: u64)
+    ensures continues { ContinuesLoop server.old server.new (T.log transport.old) (T.log transport.new) }
+    ensures still_open { AreStillOpen server.old.connections server.new.connections }
+    ensures none { next_check ≤ now → IsNoneIdle now server.new }
 {
-    if !is_due {
+    if now < next_check {
         return;
     }
-    let count = server.connection_count();
-    for back in 0..count {
-        let Some(number) = server.number_at(count - 1 - back) else {
-            continue;
-        };
+    let mut from = 0;
+    while let Some(number) = server.next_open(from) {
         close_if_idle(server, transport, number, now);
+        from = u64::from(number) + 1;
     }
 }
 
 fn close_if_idle<T: Transport>(server: &mut ServerLoop, transport: &mut T, number: u32, now: u64)
-    ensures { ContinuesLoop server.old server.new (T.log transport.old) (T.log transport.new) }
+    ensures continues { ContinuesLoop server.old server.new (T.log transport.old) (T.log transport.new) }
+    ensures still_open { AreStillOpen server.old.connections server.new.connections }
+    ensures gone { (t : Connection) → connection_of number server.new.connections ≡ Some t
+        → now < t.last_active + server.new.options.idle_timeout }
 {
     if server.is_idle(number, now) {
         close(server, transport, number, now, CloseReason::IdleTimeout);
@@ -89,7 +140,8 @@ fn poll_files<T: Transport>(
     names: &[ByteList],
     is_due: bool,
 ) -> bool
-    ensures { ContinuesLoop server.old server.new (T.log transport.old) (T.log transport.new) }
+    ensures continues { ContinuesLoop server.old server.new (T.log transport.old) (T.log transport.new) }
+    ensures kept { server.new.connections ≡ server.old.connections }
 {
     if !is_due {
         return false;
@@ -120,7 +172,8 @@ fn read_files<T: Transport>(
     transport: &mut T,
     names: &[ByteList],
 ) -> bool
-    ensures { ContinuesLoop server.old server.new (T.log transport.old) (T.log transport.new) }
+    ensures continues { ContinuesLoop server.old server.new (T.log transport.old) (T.log transport.new) }
+    ensures kept { server.new.connections ≡ server.old.connections }
 {
     let mut grew = feed_waiting(server, transport);
     for (place, name) in names.iter().enumerate() {
@@ -139,7 +192,8 @@ fn read_one<T: Transport>(
     place: usize,
     name: &[u8],
 ) -> Result<bool, AllocError>
-    ensures { ContinuesLoop server.old server.new (T.log transport.old) (T.log transport.new) }
+    ensures continues { ContinuesLoop server.old server.new (T.log transport.old) (T.log transport.new) }
+    ensures kept { server.new.connections ≡ server.old.connections }
 {
     if server.waiting_place().is_some() {
         return Ok(false);
@@ -186,7 +240,8 @@ fn read_piece<T: Transport>(
 
 // Feeds the piece that waits. False if there is none, or memory is refused and it goes on waiting.
 fn feed_waiting<T: Transport>(server: &mut ServerLoop, transport: &mut T) -> bool
-    ensures { ContinuesLoop server.old server.new (T.log transport.old) (T.log transport.new) }
+    ensures continues { ContinuesLoop server.old server.new (T.log transport.old) (T.log transport.new) }
+    ensures kept { server.new.connections ≡ server.old.connections }
 {
     let Some(place) = server.waiting_place() else {
         return false;

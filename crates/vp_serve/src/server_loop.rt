@@ -15,9 +15,11 @@ ghost use Rattle.vp_serve.specs.Reasons.{IsReason};
 ghost use Rattle.vp_serve.specs.ServerLoop.{LoopState, initial, is_full, is_over, after_feed, Action, Accepted};
 ghost use Rattle.vp_serve.specs.ServerLoop.{Rejected, Received, Submitted, Sent, Closed, Grown, Fed, Ended};
 ghost use Rattle.vp_serve.specs.ServerLoop.{IsTransition};
+ghost use Rattle.vp_serve.specs.Turns.{AwaitsPeers, IsNextOpen, is_due};
+ghost use Rattle.std.specs.List.{list_any};
 ghost use Rattle.vp_serve.specs.Reading.{refusal_of_feed, is_idle, is_past};
 
-use crate::connection::{Connection, NextAction, find, remove_all};
+use crate::connection::{Connection, NextAction, find, is_one_due, next_open, remove_all};
 use crate::options::{FilePiece, ServeOptions};
 use crate::reason::CloseReason;
 use std::alloc::{AllocError, Global};
@@ -111,6 +113,21 @@ impl ServerLoop {
         }
     }
 
+    /// The number of the open connection of the smallest number that is at least `from`.
+    pub fn next_open(&self, from: u64) -> Option<u32>
+        ensures { IsNextOpen from self.now.connections result }
+    {
+        next_open(&self.connections, from)
+    }
+
+    /// Whether a connection has bytes that are to be handed to the hub, or is to be closed.
+    pub fn is_due(&self) -> bool
+        ensures all { result ≡ false → AwaitsPeers self.now }
+        ensures test { result ≡ list_any is_due self.now.connections }
+    {
+        is_one_due(&self.connections)
+    }
+
     /// What is done next for a connection; `None` if it is not open.
     pub fn next_action(&self, number: u32) -> Option<NextAction>
         ensures { result ≡ option_map next_action (connection_of number self.now.connections) }
@@ -150,6 +167,27 @@ impl ServerLoop {
         match find(&self.connections, number) {
             Some(place) => self.connections[place].unsent(),
             None => &[],
+        }
+    }
+
+    /// The line of the request that the last reply of a connection answers, or of the next one if bytes were handed to
+    /// the hub since: the first line of it that isn't blank, without its line end.
+    pub fn request_line(&self, number: u32) -> &[u8]
+        ensures { connection_of number self.now.connections ≡ None → result.now ≡ [] }
+    {
+        match find(&self.connections, number) {
+            Some(place) => self.connections[place].request_line(),
+            None => &[],
+        }
+    }
+
+    /// The number of packets that were decoded for that request. It saturates.
+    pub fn packets(&self, number: u32) -> u64
+        ensures { connection_of number self.now.connections ≡ None → result ≡ 0 }
+    {
+        match find(&self.connections, number) {
+            Some(place) => self.connections[place].packets(),
+            None => 0,
         }
     }
 
@@ -201,7 +239,9 @@ impl ServerLoop {
         let connection = &mut self.connections[place];
         let line = connection.line(self.alloc)?;
         let count = line.len();
-        let outcome = self.hub.step(&Event::Bytes(number, line));
+        let event = Event::Bytes(number, line);
+        let outcome = self.hub.step(&event);
+        keep_line(connection, event, self.hub.work());
         connection.submitted(self.alloc, count, outcome, now);
         Ok(())
     }
@@ -298,6 +338,19 @@ fn kept_piece(place: usize, event: Event, outcome: &Result<Reply, HubFault>) -> 
         Event::Open(_number) => None,
         Event::Bytes(_number, _bytes) => None,
         Event::Shut(_number) => None,
+    }
+}
+
+// Keeps the line of an event for the request that the next reply answers.
+fn keep_line(connection: &mut Connection, event: Event, packets: u64)
+    ensures { connection.new ≡ connection.old }
+{
+    match event {
+        Event::Bytes(_number, line) => connection.keep_request(line, packets),
+        Event::Feed(_name, _bytes) => {}
+        Event::End(_name) => {}
+        Event::Open(_number) => {}
+        Event::Shut(_number) => {}
     }
 }
 

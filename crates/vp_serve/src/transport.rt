@@ -61,6 +61,11 @@ pub trait Transport {
         ensures within { written_count result ≤ length bytes.now }
         ensures logs { Logs (log self.old) (log self.new) (write_transfers number result bytes.now) };
 
+    /// Notes that a reply was made for a connection: when, the line of the request, the bytes of the reply, all of them
+    /// still unwritten, and how many packets were decoded for it. Nothing passes by it.
+    fn replied(&mut self, number: u32, now: u64, request: &[u8], reply: &[u8], packets: u64)
+        ensures { log self.new ≡ log self.old };
+
     /// Closes a connection.
     fn close(&mut self, number: u32, reason: CloseReason)
         ensures { Logs (log self.old) (log self.new) (Closes number reason ∷ []) };

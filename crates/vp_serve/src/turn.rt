@@ -1,13 +1,18 @@
 //! One turn of the server over a transport: it accepts connections and attends those that are ready.
 
-ghost use Rattle.std.specs.Prelude.{◌≡◌, ◌∷◌, [], List, Option, Some, IfOk, option_map, vec_len};
+ghost use Rattle.std.specs.Prelude.{◌≡◌, ◌∷◌, ◌||◌, [], List, Option, Some, IfOk, option_map, vec_len};
+ghost use Rattle.std.specs.Prelude.{true, false, IfSome};
 ghost use Rattle.vp_hub.specs.Hub.{Outcome};
 ghost use Rattle.vp_serve.specs.Connection.{Connection};
-ghost use Rattle.vp_serve.specs.Connections.{connection_of};
+ghost use Rattle.vp_serve.specs.Connections.{connection_of, next_action};
+ghost use Rattle.vp_serve.specs.declared.connection.NextAction.TheVariants.{Submit, Close};
 ghost use Rattle.vp_serve.specs.Reasons.{IsNotFinished, IsReason};
 ghost use Rattle.vp_serve.specs.ServerLoop.{Closed, IsTransition};
 ghost use Rattle.vp_serve.specs.Transfer.{Transfer, Closes, Logs};
 ghost use Rattle.vp_serve.specs.Transport.{ContinuesLoop};
+ghost use Rattle.vp_serve.specs.Parts.{IsArrival, IsSubmissionOf, IsTransferOf, Performs};
+ghost use Rattle.vp_serve.specs.Turns.{AttendsOne, IsDueAt, TakesTurn};
+ghost use Rattle.vp_serve.specs.Turns.{is_due_action};
 
 use crate::connection::NextAction;
 use crate::reason::{CloseReason, reason_of};
@@ -16,27 +21,30 @@ use crate::transport::{ReadOutcome, Transport, WriteOutcome};
 use std::alloc::{AllocError, Global};
 use vp_base::ByteList;
 
-/// One turn at a time in milliseconds: accepts connections, and attends each that is ready. True if more may be done at
-/// once.
+/// One turn at a time in milliseconds: accepts connections, and attends each that is ready. False if nothing happened.
 pub fn turn<T: Transport>(
     alloc: Global,
     server: &mut ServerLoop,
     transport: &mut T,
     now: u64,
 ) -> bool
-    ensures { ContinuesLoop server.old server.new (T.log transport.old) (T.log transport.new) }
+    ensures continues { ContinuesLoop server.old server.new (T.log transport.old) (T.log transport.new) }
+    ensures fair { TakesTurn now server.old server.new (T.log transport.old) (T.log transport.new) }
+    ensures still { result ≡ false → server.new ≡ server.old }
 {
     let accepted = accept_all(server, transport, now);
     let moved = attend_all(alloc, server, transport, now);
     either(accepted, moved)
 }
 
-pub(crate) fn either(a: bool, b: bool) -> bool {
+pub(crate) fn either(a: bool, b: bool) -> bool
+    ensures { result ≡ a || b }
+{
     a || b
 }
 
 fn accept_all<T: Transport>(server: &mut ServerLoop, transport: &mut T, now: u64) -> bool
-    ensures { ContinuesLoop server.old server.new (T.log transport.old) (T.log transport.new) }
+    ensures { Performs (IsArrival now) result server.old server.new (T.log transport.old) (T.log transport.new) }
 {
     let mut accepted = false;
     for _ in 0..64 {
@@ -50,7 +58,7 @@ fn accept_all<T: Transport>(server: &mut ServerLoop, transport: &mut T, now: u64
 
 // Accepts a connection, if there is one and it may be open. False if there is none.
 fn accept_one<T: Transport>(server: &mut ServerLoop, transport: &mut T, now: u64) -> bool
-    ensures { ContinuesLoop server.old server.new (T.log transport.old) (T.log transport.new) }
+    ensures { Performs (IsArrival now) result server.old server.new (T.log transport.old) (T.log transport.new) }
 {
     if server.is_full() {
         return false;
@@ -68,24 +76,22 @@ fn accept_one<T: Transport>(server: &mut ServerLoop, transport: &mut T, now: u64
     }
 }
 
-// Attends each connection that is ready, the last one first, since one that is closed leaves its index to the next.
+// Attends each connection that is ready, in ascending order of their numbers.
 fn attend_all<T: Transport>(
     alloc: Global,
     server: &mut ServerLoop,
     transport: &mut T,
     now: u64,
 ) -> bool
-    ensures { ContinuesLoop server.old server.new (T.log transport.old) (T.log transport.new) }
+    ensures turn { TakesTurn now server.old server.new (T.log transport.old) (T.log transport.new) }
+    ensures still { result ≡ false → server.new ≡ server.old }
 {
-    let count = server.connection_count();
     let mut moved = false;
-    for back in 0..count {
-        let Some(number) = server.number_at(count - 1 - back) else {
-            continue;
-        };
-        if attend_if_ready(alloc, server, transport, number, now) {
-            moved = true;
-        }
+    let mut from = 0;
+    while let Some(number) = server.next_open(from) {
+        let attended = attend_if_ready(alloc, server, transport, number, now);
+        moved = either(moved, attended);
+        from = u64::from(number) + 1;
     }
     moved
 }
@@ -98,7 +104,8 @@ fn attend_if_ready<T: Transport>(
     number: u32,
     now: u64,
 ) -> bool
-    ensures { ContinuesLoop server.old server.new (T.log transport.old) (T.log transport.new) }
+    ensures own { AttendsOne number now result server.old server.new (T.log transport.old) (T.log transport.new) }
+    ensures due { IsDueAt number server.old → result ≡ true }
 {
     if !is_ready(transport, number, server.next_action(number)) {
         return false;
@@ -106,7 +113,9 @@ fn attend_if_ready<T: Transport>(
     attend(alloc, server, transport, number, now)
 }
 
-fn is_ready<T: Transport>(transport: &T, number: u32, action: Option<NextAction>) -> bool {
+fn is_ready<T: Transport>(transport: &T, number: u32, action: Option<NextAction>) -> bool
+    ensures { IfSome action (λ a. is_due_action a ≡ true → result ≡ true) }
+{
     match action {
         Some(NextAction::Send) => transport.can_write(number),
         Some(NextAction::Receive) => transport.can_read(number),
@@ -117,7 +126,7 @@ fn is_ready<T: Transport>(transport: &T, number: u32, action: Option<NextAction>
 }
 
 /// Does what can be done at once for a connection: writes, reads, hands lines to the hub, writes the reply, and closes
-/// it if it is finished. True if bytes were read or written, or it was closed.
+/// it if it is finished. False if nothing happened.
 pub fn attend<T: Transport>(
     alloc: Global,
     server: &mut ServerLoop,
@@ -127,18 +136,25 @@ pub fn attend<T: Transport>(
 ) -> bool
     ensures continues { ContinuesLoop server.old server.new (T.log transport.old) (T.log transport.new) }
     ensures closed { IsNotFinished number server.new.connections }
+    ensures own { AttendsOne number now result server.old server.new (T.log transport.old) (T.log transport.new) }
+    ensures still { result ≡ false → server.new ≡ server.old }
+    ensures due { IsDueAt number server.old → result ≡ true }
 {
     let sent = send(server, transport, number, now);
     let received = receive(alloc, server, transport, number, now);
-    submit_all(server, transport, number, now);
+    let submitted = submit_all(server, transport, number, now);
     let replied = send(server, transport, number, now);
     let closed = close_finished(server, transport, number, now);
-    either(either(sent, received), either(replied, closed))
+    either(
+        either(sent, received),
+        either(submitted, either(replied, closed)),
+    )
 }
 
 // Writes to a connection, if bytes of its reply are left.
 fn send<T: Transport>(server: &mut ServerLoop, transport: &mut T, number: u32, now: u64) -> bool
-    ensures { ContinuesLoop server.old server.new (T.log transport.old) (T.log transport.new) }
+    ensures { Performs (IsTransferOf number now) result server.old server.new
+        (T.log transport.old) (T.log transport.new) }
 {
     let Some(NextAction::Send) = server.next_action(number) else {
         return false;
@@ -164,7 +180,8 @@ fn receive<T: Transport>(
     number: u32,
     now: u64,
 ) -> bool
-    ensures { ContinuesLoop server.old server.new (T.log transport.old) (T.log transport.new) }
+    ensures { Performs (IsTransferOf number now) result server.old server.new
+        (T.log transport.old) (T.log transport.new) }
 {
     let Some(NextAction::Receive) = server.next_action(number) else {
         return false;
@@ -197,37 +214,66 @@ pub(crate) fn zeroed(alloc: Global, count: usize) -> Result<Vec<u8>, AllocError>
     Vec::from_elem(alloc, 0, count)
 }
 
-// Hands the bytes of a connection to the hub line by line, until there is a reply.
-fn submit_all<T: Transport>(server: &mut ServerLoop, transport: &mut T, number: u32, now: u64)
-    ensures { ContinuesLoop server.old server.new (T.log transport.old) (T.log transport.new) }
+// Hands the bytes of a connection to the hub line by line, until there is a reply. False if nothing happened.
+fn submit_all<T: Transport>(
+    server: &mut ServerLoop,
+    transport: &mut T,
+    number: u32,
+    now: u64,
+) -> bool
+    ensures performs { Performs (IsSubmissionOf number now) result server.old server.new
+        (T.log transport.old) (T.log transport.new) }
+    ensures due { option_map next_action (connection_of number server.old.connections) ≡ Some Submit
+        → result ≡ true }
 {
-    for _line in 0..4096 {
+    let mut moved = false;
+    for _line in 0..4096_u32 {
         if !submit_one(server, transport, number, now) {
-            return;
+            break;
         }
+        moved = true;
     }
+    moved
 }
 
-// Hands a line of a connection to the hub. False if there is none, if a reply is to be written first, or if memory was
-// refused.
+// Hands a line of a connection to the hub, or closes it if memory is refused for that. False if there is none, or a
+// reply is to be written first.
 fn submit_one<T: Transport>(
     server: &mut ServerLoop,
     transport: &mut T,
     number: u32,
     now: u64,
 ) -> bool
-    ensures { ContinuesLoop server.old server.new (T.log transport.old) (T.log transport.new) }
+    ensures performs { Performs (IsSubmissionOf number now) result server.old server.new
+        (T.log transport.old) (T.log transport.new) }
+    ensures due { option_map next_action (connection_of number server.old.connections) ≡ Some Submit
+        → result ≡ true }
 {
     let Some(NextAction::Submit) = server.next_action(number) else {
         return false;
     };
     match server.submit(number, now) {
-        Ok(()) => true,
+        Ok(()) => {
+            tell_reply(server, transport, number, now);
+            true
+        }
         Err(_) => {
             close(server, transport, number, now, CloseReason::OutOfMemory);
-            false
+            true
         }
     }
+}
+
+// Tells the transport of the reply to a line that was just handed to the hub, if there is one.
+fn tell_reply<T: Transport>(server: &ServerLoop, transport: &mut T, number: u32, now: u64)
+    ensures { T.log transport.new ≡ T.log transport.old }
+{
+    let reply = server.unsent(number);
+    if reply.is_empty() {
+        return;
+    }
+    let request = server.request_line(number);
+    transport.replied(number, now, request, reply, server.packets(number));
 }
 
 // Closes a connection that the hub closes, once its reply is written.
@@ -237,7 +283,9 @@ fn close_finished<T: Transport>(
     number: u32,
     now: u64,
 ) -> bool
-    ensures continues { ContinuesLoop server.old server.new (T.log transport.old) (T.log transport.new) }
+    ensures performs { Performs (IsTransferOf number now) result server.old server.new
+        (T.log transport.old) (T.log transport.new) }
+    ensures due { option_map next_action (connection_of number server.old.connections) ≡ Some Close → result ≡ true }
     ensures closed { IsNotFinished number server.new.connections }
 {
     let Some(NextAction::Close) = server.next_action(number) else {

@@ -1,4 +1,4 @@
-//! The entries of a transport's log.
+//! The entries of a transport's log, and the replies that it was told of.
 
 use std::fmt;
 use vp_base::ByteList;
@@ -21,6 +21,36 @@ pub enum Entry {
     Closes(u32, CloseReason),
     /// The file of the stream of a name has more bytes.
     Grows(ByteList, ByteList),
+}
+
+/// A reply that the transport was told of.
+#[derive(Debug, Drop)]
+pub struct ToldReply {
+    /// The number of its connection.
+    pub number: u32,
+    /// The time in milliseconds.
+    pub now: u64,
+    /// The line of the request.
+    pub request: ByteList,
+    /// The digits of its status.
+    pub status: ByteList,
+    /// How many bytes it has.
+    pub length: usize,
+    /// How many packets were decoded for it.
+    pub packets: u64,
+}
+
+/// One line.
+impl fmt::Display for ToldReply {
+    fn fmt<W: fmt::Write>(&self, f: &mut fmt::Formatter<W>) -> fmt::Result {
+        let (request, status) = (text_of(&self.request), text_of(&self.status));
+        write!(f, "{} {} {request}: ", self.now, self.number)?;
+        write!(
+            f,
+            "{status}, {} bytes, {} packets\n",
+            self.length, self.packets
+        )
+    }
 }
 
 fn text_of(bytes: &ByteList) -> &str {

@@ -4,6 +4,8 @@
 
 mod entry;
 #[cfg(test)]
+mod log_lines;
+#[cfg(test)]
 mod script;
 #[cfg(test)]
 mod sockets;

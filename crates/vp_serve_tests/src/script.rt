@@ -4,7 +4,7 @@ ghost use Rattle.std.specs.Prelude.{◌≡◌, ◌≤◌, ◌++◌, ◌∷◌, [
 ghost use Rattle.vp_serve_tests.specs.Script.{transfer_of, transfers};
 ghost use Rattle.vp_serve_tests.specs.declared.entry.Entry.{Entry};
 
-use crate::entry::Entry;
+use crate::entry::{Entry, ToldReply};
 use std::alloc::Global;
 use std::process::Abort;
 use vp_base::ByteList;
@@ -62,6 +62,7 @@ pub struct Scripted<'a, H: Abort> {
     script: Script,
     now: u64,
     log: Vec<Entry>,
+    told: Vec<ToldReply>,
 }
 
 impl<'a, H: Abort> Scripted<'a, H> {
@@ -73,12 +74,18 @@ impl<'a, H: Abort> Scripted<'a, H> {
             script,
             now: 0,
             log: Vec::new(alloc),
+            told: Vec::new(alloc),
         }
     }
 
     /// What passed over it.
     pub fn log(&self) -> &[Entry] {
         self.log.as_slice()
+    }
+
+    /// The replies that it was told of.
+    pub fn told(&self) -> &[ToldReply] {
+        self.told.as_slice()
     }
 }
 
@@ -212,6 +219,18 @@ impl<'a, H: Abort> Transport for Scripted<'a, H> {
                 WriteOutcome::Failed
             }
         }
+    }
+
+    fn replied(&mut self, number: u32, now: u64, request: &[u8], reply: &[u8], packets: u64) {
+        let told = ToldReply {
+            number,
+            now,
+            request: copy_of(self.rt, self.alloc, request),
+            status: copy_of(self.rt, self.alloc, reply.get(9..12).unwrap_or(b"")),
+            length: reply.len(),
+            packets,
+        };
+        self.told.push(told).expect(self.rt, "memory for the log");
     }
 
     fn close(&mut self, number: u32, reason: CloseReason) {

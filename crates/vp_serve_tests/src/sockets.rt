@@ -18,6 +18,9 @@ const ASKS: &[u8] =
 const REPLY: &[u8] =
     b"HTTP/1.1 200 OK\r\nContent-Type: text/plain\r\nContent-Length: 2\r\nConnection: close\r\n\r\na\n";
 
+/// What is logged of it, behind the time, the connection and its peer.
+const LOGGED: &[u8] = b" \"GET /streams HTTP/1.1\" 200 2 0\n";
+
 /// What is printed if a file can't be read on.
 const STOPPED: &[u8] = b"vp8: a=a.ivf: the file is read no more: other error\n";
 
@@ -42,18 +45,31 @@ fn answers_one<T: Transport>(
     )
 }
 
-/// Does so over sockets that this listener accepts.
+/// Does so over sockets that this listener accepts, with a log of accesses on `errors`.
+fn answers_with_log(
+    rt: &HostRuntime,
+    listener: TcpListener,
+    silent: &mut TcpStream,
+    asking: &mut TcpStream,
+    errors: &mut Vec<u8>,
+) -> io::Result<bool> {
+    let files: Vec<FollowedFile<'_, &[u8]>> = Vec::new(rt.alloc());
+    let mut transport = MioTransport::new(rt, rt, rt.alloc(), 10, files, errors)?;
+    transport.log_accesses();
+    transport.listen(listener)?;
+    answers_one(rt.alloc(), &mut transport, silent, asking)
+}
+
+/// Does so. Returns whether the log has a line for the one request that was answered.
 fn answers_over(
     rt: &HostRuntime,
     listener: TcpListener,
     silent: &mut TcpStream,
     asking: &mut TcpStream,
 ) -> io::Result<bool> {
-    let files: Vec<FollowedFile<'_, &[u8]>> = Vec::new(rt.alloc());
     let mut errors = Vec::new(rt.alloc());
-    let mut transport = MioTransport::new(rt, rt, rt.alloc(), 10, files, &mut errors)?;
-    transport.listen(listener)?;
-    answers_one(rt.alloc(), &mut transport, silent, asking)
+    let answered = answers_with_log(rt, listener, silent, asking, &mut errors)?;
+    Ok(answered && errors.starts_with(b"[") && errors.ends_with(LOGGED))
 }
 
 /// Serves a silent client and one that asks, both at once. Returns whether the second is answered, and both are closed.

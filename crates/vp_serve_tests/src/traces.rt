@@ -1,6 +1,6 @@
 //! The server over scripts: one for each way in which a connection goes, and one for a file that grows.
 
-use crate::entry::Entry;
+use crate::entry::{Entry, ToldReply};
 use crate::script::{Input, Piece, Room, Script, Scripted};
 use std::alloc::{AllocError, Global};
 use std::fmt::Write;
@@ -300,4 +300,60 @@ fn feeds_a_file<H: Abort>(rt: &H, alloc: Global) -> bool {
 #[test]
 fn file_is_fed(rt: HostRuntime) {
     assert!(rt; feeds_a_file(&rt, rt.alloc()));
+}
+
+/// The head of an IVF file of 16 by 16 pixels, 30 pictures a second.
+const HEAD: &[u8] = b"DKIF\0\0\x20\0VP80\x10\0\x10\0\x1e\0\0\0\x01\0\0\0\x01\0\0\0\0\0\0\0";
+
+/// A key packet of 16 by 16 pixels without coefficients, after its frame header of twelve bytes.
+const KEY: &[u8] = b"\x0a\0\0\0\0\0\0\0\0\0\0\0\x10\0\0\x9d\x01\x2a\x10\0\x10\0";
+
+/// An inter packet that changes nothing, after its frame header of twelve bytes.
+const INTER: &[u8] = b"\x03\0\0\0\0\0\0\0\0\0\0\0\x11\0\0";
+
+/// What is told of two requests one behind the other in three pieces, the first after a blank line, and of one for a
+/// stream that there isn't.
+const TOLD: &str = "200 0 GET /s/a/frame/1 HTTP/1.1: 200, 464 bytes, 2 packets
+400 0 GET /streams HTTP/1.1: 200, 66 bytes, 0 packets
+500 0 GET /s/b/info HTTP/1.1: 404, 82 bytes, 0 packets
+";
+
+fn told_text(alloc: Global, told: &[ToldReply]) -> Option<String> {
+    let mut text = String::new(alloc);
+    for reply in told {
+        write!(text, "{reply}").ok()?;
+    }
+    Some(text)
+}
+
+/// Whether this is what a transport was told.
+fn is_told(alloc: Global, told: &[ToldReply], want: &str) -> bool {
+    match told_text(alloc, told) {
+        Some(text) => text.as_str() == want,
+        None => false,
+    }
+}
+
+/// Whether a file of two packets is fed, and then each reply is told.
+fn tells_replies<H: Abort>(rt: &H, alloc: Global) -> bool {
+    let script = Script {
+        waiting: 1,
+        tick: 100,
+        inputs: &[
+            Input::Bytes(b"\r\nGET /s/a/fra"),
+            Input::Bytes(b"me/1 HTTP/1.1\r\nHost: x\r\n\r\nGET /str"),
+            Input::Bytes(b"eams HTTP/1.1\r\nHost: x\r\n\r\n"),
+            Input::Bytes(b"GET /s/b/info HTTP/1.1\r\nHost: x\r\n\r\n"),
+            Input::End,
+        ],
+        pieces: &[Piece(HEAD), Piece(KEY), Piece(INTER)],
+        ..NOTHING
+    };
+    let mut transport = Scripted::new(rt, alloc, script);
+    serves_files(alloc, &mut transport) && is_told(alloc, transport.told(), TOLD)
+}
+
+#[test]
+fn replies_are_told(rt: HostRuntime) {
+    assert!(rt; tells_replies(&rt, rt.alloc()));
 }

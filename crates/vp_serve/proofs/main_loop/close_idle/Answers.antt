@@ -1,14 +1,26 @@
-use Rattle.std.proofs.Common.{refl}
+use Rattle.std.proofs.Common.{◌+◌, ℕ, Option, refl, subst, sym, arith}
+use Rattle.vp_serve.specs.Turns.{IsNextOpen}
 use Rattle.vp_serve.proofs.Continuing.{none, on}
+use Rattle.vp_serve.proofs.Timeouts.{AreNoneIdleBelow, none_idle, open_both, still_below}
 use Rattle.vp_serve.proofs.main_loop.close_idle.Goals as goal
 
-pub loop-back-init : goal.loop-back-init
-loop-back-init g c = none c.args.server.now (g.T.Transport.log c.args.transport.now) (g.T.Transport.log c.args.transport.now) refl
+pub loop-number-init : goal.loop-number-init
+loop-number-init g c = (none c.args.server.now (g.T.Transport.log c.args.transport.now) (g.T.Transport.log c.args.transport.now) refl, λ k t is. is, λ k t less is. absurd (omega (arith, less)))
 
-pub loop-back-preserved : goal.loop-back-preserved
-loop-back-preserved g c =
+pub loop-number-preserved : goal.loop-number-preserved
+loop-number-preserved g c =
     let log = g.T.Transport.log in
-    on c.args.server.now c.loop-back.server c.close_if_idle.new.server (log c.args.transport.now) (log c.loop-back.transport) (log c.close_if_idle.new.transport) c.loop-back.invariant c.close_if_idle.ensures
+    let d = c.args.server.now in
+    let e = c.loop-number.server in
+    let f = c.close_if_idle.new.server in
+    let n = c.in-Some.number in
+    let next = subst (λ (o : Option ℕ). IsNextOpen c.loop-number.from e.connections o) c.in-Some.is c.next_open.ensures in
+    let part = c.close_if_idle.ensures in (
+      on d e f (log c.args.transport.now) (log c.loop-number.transport) (log c.close_if_idle.new.transport) c.loop-number.invariant.0 part.continues,
+      open_both d e f c.loop-number.invariant.1 part.still_open,
+      subst (λ (j : ℕ). AreNoneIdleBelow (j + 1) c.args.now f) (sym c.from-from.ensures)
+          (still_below c.loop-number.from n c.args.now e f part.continues.trace c.loop-number.invariant.2 next.2 part.continues.is_trace part.still_open part.gone),
+    )
 
-pub returns : goal.returns
-returns g c = c.loop-back.invariant
+pub returns-clause-none : goal.returns-clause-none
+returns-clause-none g c due = none_idle c.loop-number.from c.args.now c.loop-number.server c.loop-number.invariant.2 (subst (λ (o : Option ℕ). IsNextOpen c.loop-number.from c.loop-number.server.connections o) c.in_default.is c.next_open.ensures)

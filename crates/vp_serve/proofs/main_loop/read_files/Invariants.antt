@@ -1,5 +1,8 @@
+use Rattle.std.proofs.Common.{◌≡◌}
 use Rattle.vp_serve.specs.Transport.{ContinuesLoop}
 use Rattle.vp_serve.proofs.main_loop.read_files.Given as goal
 
 abbrev pub invariant-loop-place : goal.invariant-loop-place
-invariant-loop-place g l = ContinuesLoop l.fn.server l.server (g.T.Transport.log l.fn.transport) (g.T.Transport.log l.transport)
+invariant-loop-place g l =
+    ContinuesLoop l.fn.server l.server (g.T.Transport.log l.fn.transport) (g.T.Transport.log l.transport)
+    × (l.server.connections ≡ l.fn.server.connections)

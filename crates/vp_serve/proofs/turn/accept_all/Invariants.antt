@@ -1,5 +1,5 @@
-use Rattle.vp_serve.specs.Transport.{ContinuesLoop}
+use Rattle.vp_serve.specs.Parts.{Performs, IsArrival}
 use Rattle.vp_serve.proofs.turn.accept_all.Given as goal
 
 abbrev pub invariant-loop : goal.invariant-loop
-invariant-loop g l = ContinuesLoop l.fn.server l.server (g.T.Transport.log l.fn.transport) (g.T.Transport.log l.transport)
+invariant-loop g l = Performs (IsArrival l.fn.now) l.accepted l.fn.server l.server (g.T.Transport.log l.fn.transport) (g.T.Transport.log l.transport)

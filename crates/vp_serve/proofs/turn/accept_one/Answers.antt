@@ -3,15 +3,17 @@ use Rattle.vp_serve.specs.declared.reason.CloseReason.{CloseReason}
 use Rattle.vp_serve.specs.Reasons.{reason_by}
 use Rattle.vp_serve.specs.Transfer.{Logs, Accepts, Closes}
 use Rattle.vp_serve.specs.ServerLoop.{Accepted, Rejected}
-use Rattle.vp_serve.proofs.Continuing.{one, logs_both}
+use Rattle.vp_serve.specs.Parts.{IsArrival}
+use Rattle.vp_serve.proofs.Continuing.{logs_both}
+use Rattle.vp_serve.proofs.Performing.{performs_one}
 use Rattle.vp_serve.proofs.turn.accept_one.Goals as goal
 
 pub returns-in-Ok : goal.returns-in-Ok
 returns-in-Ok g c =
     let a = g.T.Transport.log c.args.transport.now in
     let b = g.T.Transport.log c.accept.new.self in
-    one c.args.server.now c.accept-2.new.self (Accepted c.args.server.now.next c.args.now) a b c.in-Ok.ensures.ok
-    (subst (λ (n : ℕ). Logs a b (Accepts n ∷ [])) c.next_number-number.ensures c.if-not-accept.ensures) refl
+    performs_one (IsArrival c.args.now) c.args.server.now c.accept-2.new.self (Accepted c.args.server.now.next c.args.now) a b c.in-Ok.ensures.ok
+    (subst (λ (n : ℕ). Logs a b (Accepts n ∷ [])) c.next_number-number.ensures c.if-not-accept.ensures) refl refl
 
 pub returns-in-Err : goal.returns-in-Err
 returns-in-Err g c =
@@ -20,7 +22,7 @@ returns-in-Err g c =
     let d = g.T.Transport.log c.close.new.self in
     let n = c.next_number-number.result in
     let r = reason_by (Some c.in-Err.fault) in
-    one c.args.server.now c.accept-2.new.self (Rejected c.args.server.now.next c.in-Err.fault) a d c.in-Err.ensures.err
+    performs_one (IsArrival c.args.now) c.args.server.now c.accept-2.new.self (Rejected c.args.server.now.next c.in-Err.fault) a d c.in-Err.ensures.err
     (subst (λ (n : ℕ). Logs a d (Accepts n ∷ Closes n r ∷ [])) c.next_number-number.ensures
     (logs_both a b d (Accepts n ∷ []) (Closes n r ∷ []) c.if-not-accept.ensures
-    (subst (λ (x : CloseReason). Logs b d (Closes n x ∷ [])) c.reason_of.ensures c.close.ensures))) refl
+    (subst (λ (x : CloseReason). Logs b d (Closes n x ∷ [])) c.reason_of.ensures c.close.ensures))) refl tt

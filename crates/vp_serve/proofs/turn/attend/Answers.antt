@@ -1,20 +1,55 @@
-use Rattle.vp_serve.proofs.Continuing.{on}
+use Rattle.std.proofs.Common.{◌∙◌, Bool, sym, subst}
+use Rattle.vp_serve.specs.Parts.{IsTransferOf, IsSubmissionOf}
+use Rattle.vp_serve.specs.Turns.{AttendsOne}
+use Rattle.vp_serve.proofs.Performing.{attends, continues, due_moves, either_of, still, still_of}
 use Rattle.vp_serve.proofs.turn.attend.Goals as goal
+
+pub returns-clause-own : goal.returns-clause-own
+returns-clause-own g c =
+    let log = g.T.Transport.log in
+    let first = c.send-sent.new in
+    let then = c.receive-received.new in
+    let next = c.submit_all-submitted.new in
+    let late = c.send-replied.new in
+    let last = c.close_finished-closed.new in
+    let a = log c.args.transport.now in
+    subst (λ (t : Bool). AttendsOne c.args.number c.args.now t c.args.server.now last.server a (log last.transport))
+    (sym (either_of c.send-sent.result c.receive-received.result c.submit_all-submitted.result c.send-replied.result c.close_finished-closed.result c.either.result c.either-2.result c.either-3.result c.either-4.result c.either.ensures c.either-2.ensures c.either-3.ensures c.either-4.ensures))
+    (attends c.args.number c.args.now c.send-sent.result c.receive-received.result c.submit_all-submitted.result c.send-replied.result c.close_finished-closed.result
+    c.args.server.now first.server then.server next.server late.server last.server a (log first.transport) (log then.transport) (log next.transport) (log late.transport) (log last.transport)
+    c.send-sent.ensures c.receive-received.ensures c.submit_all-submitted.ensures.performs c.send-replied.ensures c.close_finished-closed.ensures.performs)
 
 pub returns-clause-continues : goal.returns-clause-continues
 returns-clause-continues g c =
     let log = g.T.Transport.log in
-    let first = c.send-sent.new in
-    let then = c.receive-received.new in
-    let next = c.submit_all.new in
-    let late = c.send-replied.new in
-    let last = c.close_finished-closed.new in
-    let a = log c.args.transport.now in
-    let e = log last.transport in
-    on c.args.server.now first.server last.server a (log first.transport) e c.send-sent.ensures
-    (on first.server then.server last.server (log first.transport) (log then.transport) e c.receive-received.ensures
-    (on then.server next.server last.server (log then.transport) (log next.transport) e c.submit_all.ensures
-    (on next.server late.server last.server (log next.transport) (log late.transport) e c.send-replied.ensures c.close_finished-closed.ensures.continues)))
+    continues c.args.number c.args.now c.either-4.result c.args.server.now c.close_finished-closed.new.server (log c.args.transport.now) (log c.close_finished-closed.new.transport) (returns-clause-own g c)
 
 pub returns-clause-closed : goal.returns-clause-closed
 returns-clause-closed g c = c.close_finished-closed.ensures.closed
+
+pub returns-clause-still : goal.returns-clause-still
+returns-clause-still g c h =
+    let own = returns-clause-own g c in
+    still_of c.args.server.now c.close_finished-closed.new.server own.trace own.is_trace (own.moves ∙ h)
+
+pub returns-clause-due : goal.returns-clause-due
+returns-clause-due g c h =
+    let log = g.T.Transport.log in
+    let first = c.send-sent.new in
+    let then = c.receive-received.new in
+    let next = c.submit_all-submitted.new in
+    let late = c.send-replied.new in
+    let s = c.send-sent.result in
+    let r = c.receive-received.result in
+    let m = c.submit_all-submitted.result in
+    let p = c.send-replied.result in
+    let k = c.close_finished-closed.result in
+    let T = IsTransferOf c.args.number c.args.now in
+    let d = c.args.server.now in
+    either_of s r m p k c.either.result c.either-2.result c.either-3.result c.either-4.result c.either.ensures c.either-2.ensures c.either-3.ensures c.either-4.ensures
+    ∙ due_moves c.args.number s r m p k d first.server then.server next.server late.server
+    (still T s d first.server (log c.args.transport.now) (log first.transport) c.send-sent.ensures)
+    (still T r first.server then.server (log first.transport) (log then.transport) c.receive-received.ensures)
+    (still (IsSubmissionOf c.args.number c.args.now) m then.server next.server (log then.transport) (log next.transport) c.submit_all-submitted.ensures.performs)
+    (still T p next.server late.server (log next.transport) (log late.transport) c.send-replied.ensures)
+    c.submit_all-submitted.ensures.due c.close_finished-closed.ensures.due h

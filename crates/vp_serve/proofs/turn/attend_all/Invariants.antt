@@ -1,5 +1,11 @@
-use Rattle.vp_serve.specs.Transport.{ContinuesLoop}
+use Rattle.std.proofs.Common.{◌^◌, ◌-◌, ◌≡◌, false}
+use Rattle.vp_serve.proofs.Turning.{TurnSoFar}
 use Rattle.vp_serve.proofs.turn.attend_all.Given as goal
 
-abbrev pub invariant-loop-back : goal.invariant-loop-back
-invariant-loop-back g l = ContinuesLoop l.fn.server l.server (g.T.Transport.log l.fn.transport) (g.T.Transport.log l.transport)
+abbrev pub decreases-loop-number : goal.decreases-loop-number
+decreases-loop-number g l = 2 ^ 32 - l.from
+
+abbrev pub invariant-loop-number : goal.invariant-loop-number
+invariant-loop-number g l =
+    TurnSoFar l.from l.fn.now l.fn.server l.server (g.T.Transport.log l.fn.transport) (g.T.Transport.log l.transport)
+    × (l.moved ≡ false → l.server ≡ l.fn.server)

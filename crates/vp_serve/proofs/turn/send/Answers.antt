@@ -3,7 +3,9 @@ use Rattle.vp_serve.specs.declared.reason.CloseReason.TheVariants.{TransferFaile
 use Rattle.vp_serve.specs.Transfer.{Logs, Writes, Fails, Closes}
 use Rattle.vp_serve.specs.Connections.{unsent_of}
 use Rattle.vp_serve.specs.ServerLoop.{Sent, Closed}
-use Rattle.vp_serve.proofs.Continuing.{one, logs_both}
+use Rattle.vp_serve.proofs.Continuing.{logs_both}
+use Rattle.vp_serve.specs.Parts.{IsTransferOf}
+use Rattle.vp_serve.proofs.Performing.{performs_one}
 use Rattle.vp_serve.proofs.turn.send.Goals as goal
 
 pub returns-in-Bytes : goal.returns-in-Bytes
@@ -12,8 +14,8 @@ returns-in-Bytes g c =
     let b = g.T.Transport.log c.write.new.self in
     let n = c.args.number in
     let count = c.in-Bytes.count in
-    one c.args.server.now c.sent.new.self (Sent n c.args.now (take count (unsent_of n c.args.server.now.connections))) a b c.sent.ensures
-    (subst (λ (l : List ℕ). Logs a b (Writes n (take count l) ∷ [])) c.unsent.ensures c.in-Bytes.ensures.logs) refl
+    performs_one (IsTransferOf c.args.number c.args.now) c.args.server.now c.sent.new.self (Sent n c.args.now (take count (unsent_of n c.args.server.now.connections))) a b c.sent.ensures
+    (subst (λ (l : List ℕ). Logs a b (Writes n (take count l) ∷ [])) c.unsent.ensures c.in-Bytes.ensures.logs) refl (refl, refl)
 
 pub returns-in-Failed : goal.returns-in-Failed
 returns-in-Failed g c =
@@ -22,5 +24,5 @@ returns-in-Failed g c =
     let d = g.T.Transport.log c.close.new.transport in
     let n = c.args.number in
     let h = c.close.ensures.closed in
-    one c.args.server.now c.close.new.server (Closed n c.args.now TransferFailed h.0) a d h.1
-    (logs_both a b d (Fails n ∷ []) (Closes n TransferFailed ∷ []) c.in-Failed.ensures.logs c.close.ensures.logs) refl
+    performs_one (IsTransferOf c.args.number c.args.now) c.args.server.now c.close.new.server (Closed n c.args.now TransferFailed h.0) a d h.1
+    (logs_both a b d (Fails n ∷ []) (Closes n TransferFailed ∷ []) c.in-Failed.ensures.logs c.close.ensures.logs) refl (refl, refl)

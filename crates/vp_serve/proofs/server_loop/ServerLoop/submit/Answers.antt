@@ -18,7 +18,8 @@ returns-clause-ok c =
     let hub = c.step-outcome.new.self.state in
     let due : IsDue n Submit d = subst (IsDue n Submit) (sym c.self.view_is) c.requires in
     let change : c.submitted.new.self ≡ after_outcome o (drop (length line) t.unsubmitted) c.args.now t =
-    subst (λ k. c.submitted.new.self ≡ after_outcome o (drop k t.unsubmitted) c.args.now t) c.len-count.ensures c.submitted.ensures in (
+    subst (λ (u : Connection). c.submitted.new.self ≡ after_outcome o (drop (length line) u.unsubmitted) c.args.now u) c.keep_line.ensures
+    (subst (λ k. c.submitted.new.self ≡ after_outcome o (drop k c.keep_line.new.connection.unsubmitted) c.args.now c.keep_line.new.connection) c.len-count.ensures c.submitted.ensures) in (
       line,
       o,
       subst (λ (x : LoopState). IsTransition x (Submitted n c.args.now line o) (record d { hub = hub; connections = slice_set d.connections c.in-Some.place c.submitted.new.self })) c.self.view_is

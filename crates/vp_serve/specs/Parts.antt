@@ -1,0 +1,36 @@
+-- Private to the crate: the parts of a turn.
+use Rattle.std.specs.Prelude.{◌≡◌, ℕ, Bool, List, [], Option, flat_map}
+use Rattle.vp_serve.specs.ServerLoop.{LoopState, IsTrace, Action, Accepted, Rejected, Received, Submitted, Sent, Closed}
+use Rattle.vp_serve.specs.Transfer.{Transfer, Logs}
+use Rattle.vp_serve.specs.Transport.{transfers_of, ended_names}
+use Rattle.vp_serve.specs.Turns.{AreAll, has_actions}
+
+-- an action reads from connection c, writes to it or closes it
+abbrev pub IsTransferOf : ℕ → ℕ → Action → Type 0
+IsTransferOf c now (Received d bytes) = d ≡ c
+IsTransferOf c now (Sent d time bytes) = (d ≡ c) × (time ≡ now)
+IsTransferOf c now (Closed d time reason o) = (d ≡ c) × (time ≡ now)
+IsTransferOf c now _ = ⊥
+
+-- an action hands a line of connection c to the hub, or closes it
+abbrev pub IsSubmissionOf : ℕ → ℕ → Action → Type 0
+IsSubmissionOf c now (Submitted d time line o) = (d ≡ c) × (time ≡ now)
+IsSubmissionOf c now (Closed d time reason o) = (d ≡ c) × (time ≡ now)
+IsSubmissionOf c now _ = ⊥
+
+-- an action accepts or rejects a connection
+abbrev pub IsArrival : ℕ → Action → Type 0
+IsArrival now (Accepted d time) = time ≡ now
+IsArrival now (Rejected d fault) = Unit {0}
+IsArrival now _ = ⊥
+
+-- The server performs a trace of actions of one kind, and just its transfers are logged. It has moved if there is an
+-- action.
+pub record Performs (P : Action → Type 0) (moved : Bool) (old new : LoopState)
+    (before after : Option (List Transfer)) : Type 0 where
+  pub trace : List Action
+  pub is_trace : IsTrace old trace new
+  pub logs : Logs before after (flat_map transfers_of trace)
+  pub follows : flat_map ended_names trace ≡ []
+  pub kind : AreAll P trace
+  pub moves : has_actions trace ≡ moved

@@ -1,0 +1,116 @@
+-- What a turn of the server does, and when the loop waits.
+use Rattle.std.specs.Prelude.{◌≡◌, ◌==◌, ◌≤◌, ◌<◌, ◌+◌, ◌⊎◌, ◌∷◌, [], ℕ, Bool, true, false, List, Option, Some}
+use Rattle.std.specs.Prelude.{None, is_some, Ok, Err, flat_map, if◌then◌else◌}
+use Rattle.std.specs.List.{list_any}
+use Rattle.vp_hub.specs.Hub.{Outcome}
+use Rattle.vp_serve.specs.declared.connection.NextAction.{NextAction}
+use Rattle.vp_serve.specs.declared.connection.NextAction.TheVariants.{Send, Submit, Receive, Close}
+use Rattle.vp_serve.specs.Connection.{Connection}
+use Rattle.vp_serve.specs.Connections.{connection_of, next_action, is_nil}
+use Rattle.vp_serve.specs.ServerLoop.{LoopState, IsTrace, Action, Accepted, Rejected, Received, Submitted, Sent, Closed}
+use Rattle.vp_serve.specs.Transfer.{Transfer, Logs}
+use Rattle.vp_serve.specs.Transport.{transfers_of, ended_names}
+
+-- ---- what an action is
+
+-- a reply is made if there are bytes to be sent
+abbrev pub reply_count : Outcome → ℕ
+reply_count (Ok reply) = if is_nil reply.bytes then 0 else 1
+reply_count (Err fault) = 0
+
+-- how many replies an action makes for connection c
+abbrev pub replies_in : ℕ → Action → ℕ
+replies_in c (Submitted d now line o) = if d == c then reply_count o else 0
+replies_in c _ = 0
+
+-- how many replies a trace makes for connection c
+abbrev pub replies_made : ℕ → List Action → ℕ
+replies_made c [] = 0
+replies_made c (x ∷ xs) = replies_in c x + replies_made c xs
+
+-- if an action has a time, it is this one
+abbrev pub IsAt : ℕ → Action → Type 0
+IsAt now (Accepted d time) = time ≡ now
+IsAt now (Submitted d time line o) = time ≡ now
+IsAt now (Sent d time bytes) = time ≡ now
+IsAt now (Closed d time reason o) = time ≡ now
+IsAt now _ = Unit {0}
+
+-- an action reads from connection c, hands a line of it to the hub, writes to it or closes it, at a time
+abbrev pub IsOwn : ℕ → ℕ → Action → Type 0
+IsOwn c now (Received d bytes) = d ≡ c
+IsOwn c now (Submitted d time line o) = (d ≡ c) × (time ≡ now)
+IsOwn c now (Sent d time bytes) = (d ≡ c) × (time ≡ now)
+IsOwn c now (Closed d time reason o) = (d ≡ c) × (time ≡ now)
+IsOwn c now _ = ⊥
+
+-- an action is of connection c
+abbrev pub is_of : ℕ → Action → Bool
+is_of c (Accepted d now) = d == c
+is_of c (Rejected d fault) = d == c
+is_of c (Received d bytes) = d == c
+is_of c (Submitted d now line o) = d == c
+is_of c (Sent d now bytes) = d == c
+is_of c (Closed d now reason o) = d == c
+is_of c _ = false
+
+-- ---- traces
+
+-- all actions are of one kind
+abbrev pub AreAll : (Action → Type 0) → List Action → Type 0
+AreAll P [] = Unit {0}
+AreAll P (x ∷ xs) = P x × AreAll P xs
+
+-- something happens
+abbrev pub has_actions : List Action → Bool
+has_actions [] = false
+has_actions (x ∷ xs) = true
+
+-- the server waits for nothing: it hands bytes of a connection to the hub, or closes it
+abbrev pub is_due_action : NextAction → Bool
+is_due_action Submit = true
+is_due_action Close = true
+is_due_action _ = false
+
+abbrev pub is_due : Connection → Bool
+is_due t = is_due_action (next_action t)
+
+-- connection c is open, and due
+abbrev pub IsDueAt : ℕ → LoopState → Type 0
+IsDueAt c d = (t : Connection) × (connection_of c d.connections ≡ Some t) × (is_due t ≡ true)
+
+-- One connection is attended: the server performs a trace of actions of it alone, now, which make at most one reply.
+-- Just its transfers are logged. It has moved if there is an action.
+pub record AttendsOne (c now : ℕ) (moved : Bool) (old new : LoopState)
+    (before after : Option (List Transfer)) : Type 0 where
+  pub trace : List Action
+  pub is_trace : IsTrace old trace new
+  pub logs : Logs before after (flat_map transfers_of trace)
+  pub follows : flat_map ended_names trace ≡ []
+  pub own : AreAll (IsOwn c now) trace
+  pub fair : replies_made c trace ≤ 1
+  pub moves : has_actions trace ≡ moved
+
+-- A turn: at most one reply is made for each connection, all happens now, and each connection that was due has had an
+-- action.
+pub record TakesTurn (now : ℕ) (old new : LoopState) (before after : Option (List Transfer)) : Type 0 where
+  pub trace : List Action
+  pub is_trace : IsTrace old trace new
+  pub logs : Logs before after (flat_map transfers_of trace)
+  pub follows : flat_map ended_names trace ≡ []
+  pub fair : (c : ℕ) → replies_made c trace ≤ 1
+  pub at : AreAll (IsAt now) trace
+  pub served : (c : ℕ) → IsDueAt c old → list_any (is_of c) trace ≡ true
+
+-- ---- waiting
+
+-- each open connection waits for its peer: to take bytes of a reply, or to send more
+abbrev pub AwaitsPeers : LoopState → Type 0
+AwaitsPeers d = (c : ℕ) (t : Connection) → connection_of c d.connections ≡ Some t
+    → (next_action t ≡ Send) ⊎ (next_action t ≡ Receive)
+
+-- which open connection has the smallest number that is at least this one
+abbrev pub IsNextOpen : ℕ → List Connection → Option ℕ → Type 0
+IsNextOpen from xs None = (c : ℕ) → from ≤ c → connection_of c xs ≡ None
+IsNextOpen from xs (Some n) = (from ≤ n) × (is_some (connection_of n xs) ≡ true)
+    × ((c : ℕ) → from ≤ c → c < n → connection_of c xs ≡ None)
