@@ -4,6 +4,7 @@ use Rattle.std.specs.Io.KnownBytes.{Appends}
 use Rattle.vp_base.specs.Counted.{HasFailed}
 use Rattle.vp_ivf.specs.declared.fault.FileFault.{FileFault}
 use Rattle.vp_hub.specs.Hub.{HubState}
+use Rattle.vp_hub.specs.Work.{Hub}
 use Rattle.vp_hub.specs.Sessions.{IsSession, IsTurnedAway}
 use Rattle.vp_app.specs.Commands.{status_by_fault}
 use Rattle.vp_app.specs.Listing.{survey_text}
@@ -256,7 +257,7 @@ reads_by_surveying from done i j (inl u) = inl u.1
 reads_by_surveying from done i j (inr w) = inr (over_work (is_stream from) (SurveysInput done) i j w)
 
 pub is_session : (number : ℕ) (s : HubState) → IsServed number s (Ok tt) → IsTurnedAway number s s (Ok tt)
-    ⊎ ((read : List ℕ) × (failures : ℕ) × IsSession number s s (Ok tt) read None None None (HasFailed 0 failures))
+    ⊎ ((old new : Hub) × (old.state ≡ s) × (new.state ≡ s) × ((read : List ℕ) × (failures : ℕ) × IsSession number old new (Ok tt) read None None None (HasFailed 0 failures)))
 is_session number s (inl e) = absurd cc
 is_session number s (inr h) = h
 

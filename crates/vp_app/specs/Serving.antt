@@ -50,12 +50,14 @@ AreFilesFed (s ∷ streams) old new before after =
 
 -- ---- the connections
 
--- No connection could be accepted; or it was refused by the hub; or it was served over a socket, about whose bytes
--- nothing is known. The hub's state is as before.
+-- a session over a socket, about whose bytes nothing is known; the hub's state is as before, its cache may have changed
+abbrev pub IsSocketSession : ℕ → HubState → Result (Unit {0}) ServeFault → Type 0
+IsSocketSession number s o = (old new : Hub) × (old.state ≡ s) × (new.state ≡ s)
+    × ((read : List ℕ) × (failures : ℕ) × IsSession number old new o read None None None (HasFailed 0 failures))
+
+-- No connection could be accepted; or it was refused by the hub; or it was served. The hub's state is as before.
 abbrev pub IsServed : ℕ → HubState → Result (Unit {0}) ServeFault → Type 0
-IsServed number s o =
-    (o ≡ Err Device) ⊎ (IsTurnedAway number s s o
-    ⊎ ((read : List ℕ) × (failures : ℕ) × IsSession number s s o read None None None (HasFailed 0 failures)))
+IsServed number s o = (o ≡ Err Device) ⊎ (IsTurnedAway number s s o ⊎ IsSocketSession number s o)
 
 -- connections one after another, numbered from this number on
 abbrev pub AreServed : ℕ → HubState → List (Result (Unit {0}) ServeFault) → Type 0

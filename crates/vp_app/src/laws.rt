@@ -4,6 +4,7 @@ ghost use Rattle.std.specs.Prelude.{◌≡◌, ◌⊎◌, ℕ, List, Option, Non
 ghost use Rattle.std.specs.Io.KnownBytes.{Appends};
 ghost use Rattle.vp_base.specs.Counted.{HasFailed};
 ghost use Rattle.vp_hub.specs.Hub.{HubState};
+ghost use Rattle.vp_hub.specs.Work.{Hub};
 ghost use Rattle.vp_hub.specs.Sessions.{IsSession, IsTurnedAway};
 ghost use Rattle.vp_encode.specs.declared.settings.Settings.{Settings};
 ghost use Rattle.vp_encode.specs.declared.report.EncodeReport.{EncodeReport};
@@ -52,7 +53,8 @@ pub fn standard_input_is_left_or_answered()
 #[tactic(auto, using(crate::proofs::CommandLemmas::is_session))]
 pub fn served_connections_have_sessions()
     ensures { (number : ℕ) (s : HubState) → IsServed number s (Ok tt) → IsTurnedAway number s s (Ok tt)
-        ⊎ ((read : List ℕ) × (failures : ℕ) × IsSession number s s (Ok tt) read None None None (HasFailed 0 failures)) }
+        ⊎ ((old new : Hub) × (old.state ≡ s) × (new.state ≡ s) × ((read : List ℕ) × (failures : ℕ)
+        × IsSession number old new (Ok tt) read None None None (HasFailed 0 failures))) }
 {}
 
 /// `vp8 serve` has exit status 1 if a connection has a fault, or if serving itself has one.

@@ -9,6 +9,7 @@ pub mod PageLemmas
 pub mod Growing
 pub mod NameLemmas
 pub mod Fed
+pub mod FirstLine
 pub mod Visiting
 pub mod StandingLemmas
 pub mod LimitsLemmas

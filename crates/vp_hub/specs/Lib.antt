@@ -6,5 +6,6 @@ pub mod Turns
 pub mod Work
 pub mod Names
 pub mod Pieces
+pub mod Lines
 pub mod Sessions
 pub mod Standing

@@ -1,5 +1,6 @@
--- One connection over a reader and a writer, from its opening to its end: the bytes read, the responses, and the bytes
--- written. Pinned by the tests `serve_one_in_single_bytes` and `reads_are_not_refused`.
+-- One connection over a reader and a writer, from its opening to its end: the bytes read, the lines handed to the hub,
+-- the responses, and the bytes written. Pinned by the tests `serve_one_in_single_bytes`, `reads_are_not_refused` and
+-- `hundred_requests_in_one_piece`.
 use Rattle.std.specs.Prelude.{◌≡◌, ◌<◌, ◌≤◌, ◌^◌, ◌⊎◌, ℕ, Bool, true, false, List, [], ◌∷◌, ◌++◌, length, Option, Some}
 use Rattle.std.specs.Prelude.{None, Result, Ok, Err, IsOk, All}
 use Rattle.std.specs.List.{concat}
@@ -12,15 +13,16 @@ use Rattle.vp_hub.specs.declared.event.HubFault.{HubFault}
 use Rattle.vp_hub.specs.declared.event.Reply.{Reply}
 use Rattle.vp_hub.specs.declared.connection.ConnectionState.{ConnectionState}
 use Rattle.vp_hub.specs.declared.session.ServeFault.{ServeFault}
-use Rattle.vp_hub.specs.declared.session.ServeFault.TheVariants.{Hub, Device, ReadTurns}
+use Rattle.vp_hub.specs.declared.session.ServeFault.TheVariants as serve_fault
 use Rattle.vp_hub.specs.Pages.{Streams}
 use Rattle.vp_hub.specs.Hub.{Outcome, HubState, IsStep, no_bytes, with_connection_state}
 use Rattle.vp_hub.specs.Heads.{AnswersHeads}
-use Rattle.vp_hub.specs.View.{IsRun}
+use Rattle.vp_hub.specs.Lines.{IsLine}
+use Rattle.vp_hub.specs.Work.{Hub, IsWorked, IsWorkedRun}
 
 -- ---- pieces and responses
 
--- the bytes of one read
+-- the bytes of one read, or of one line of them
 abbrev pub IsPiece : List ℕ → Type 0
 IsPiece piece = (0 < length piece) × (length piece ≤ 4096)
 
@@ -56,60 +58,84 @@ AreAnswered streams bytes text = (heads : List (List ℕ)) × (kept : Connection
 
 -- ---- the end of a session
 
--- The end of a session, given the answer to the last piece. It succeeds at the reader's end, or after a response that
--- closes. It fails by a fault of the hub, a failed read or write, or after 1,048,576 reads.
+-- The end of a session, given the answer to the last line and the number of reads that gave bytes. It succeeds at the
+-- reader's end, or after a response that closes. It fails by a fault of the hub, a failed read or write, or after
+-- 1,048,576 reads.
 abbrev pub EndsBy : Result (Unit {0}) ServeFault → Option Outcome → ℕ → Option (List ℕ) → Type 0
 EndsBy (Ok u) None reads left = IsAtEnd left
 EndsBy (Ok u) (Some last) reads left = Closes last
-EndsBy (Err (Hub fault)) last reads left = last ≡ Some (Err fault)
-EndsBy (Err Device) None reads left = Unit {0}
-EndsBy (Err Device) (Some last) reads left = IsOk last
-EndsBy (Err ReadTurns) last reads left = (last ≡ None) × (reads ≡ 2 ^ 20)
+EndsBy (Err (serve_fault.Hub fault)) last reads left = last ≡ Some (Err fault)
+EndsBy (Err serve_fault.Device) None reads left = Unit {0}
+EndsBy (Err serve_fault.Device) (Some last) reads left = IsOk last
+EndsBy (Err serve_fault.ReadTurns) last reads left = (last ≡ None) × (reads ≡ 2 ^ 20)
+
+-- The bytes of the last read that are not handed to the hub: none, unless the answer to the last line ends the session
+-- by a response that closes, a fault, or a failed write. They are less than a piece.
+abbrev pub IsLeftOver : Option Outcome → List ℕ → Type 0
+IsLeftOver None rest = rest ≡ []
+IsLeftOver (Some last) rest = length rest < 4096
 
 -- all responses are written, or a prefix of them if a write failed
 abbrev pub WritesBy : Result (Unit {0}) ServeFault → Type 0 → List ℕ → Option (List ℕ) → Option (List ℕ) → Type 0
 WritesBy (Ok u) failed text before after = Appends before after text
-WritesBy (Err (Hub fault)) failed text before after = Appends before after text
-WritesBy (Err Device) failed text before after = Appends before after text ⊎ (failed × AppendsPrefix before after text)
-WritesBy (Err ReadTurns) failed text before after = Appends before after text
+WritesBy (Err (serve_fault.Hub fault)) failed text before after = Appends before after text
+WritesBy (Err serve_fault.Device) failed text before after =
+    Appends before after text ⊎ (failed × AppendsPrefix before after text)
+WritesBy (Err serve_fault.ReadTurns) failed text before after = Appends before after text
 
--- the responses answer all bytes read; after a fault of the hub, a prefix of them
-abbrev pub AnsweredBy : Result (Unit {0}) ServeFault → Streams → List ℕ → List ℕ → Type 0
-AnsweredBy (Ok u) streams bytes text = AreAnswered streams bytes text
-AnsweredBy (Err (Hub fault)) streams bytes text = (front back : List ℕ) × (bytes ≡ front ++ back)
-    × AreAnswered streams front text
-AnsweredBy (Err Device) streams bytes text = AreAnswered streams bytes text
-AnsweredBy (Err ReadTurns) streams bytes text = AreAnswered streams bytes text
+-- The responses answer all bytes read; after a failed read or write, those handed to the hub; and after a fault of the
+-- hub, a prefix of those.
+abbrev pub AnsweredBy : Result (Unit {0}) ServeFault → Streams → List ℕ → List ℕ → List ℕ → Type 0
+AnsweredBy (Ok u) streams read handed_in text = AreAnswered streams read text
+AnsweredBy (Err (serve_fault.Hub fault)) streams read handed_in text = (front back : List ℕ)
+    × (handed_in ≡ front ++ back) × AreAnswered streams front text
+AnsweredBy (Err serve_fault.Device) streams read handed_in text = AreAnswered streams handed_in text
+AnsweredBy (Err serve_fault.ReadTurns) streams read handed_in text = AreAnswered streams read text
 
 -- ---- the whole session
 
--- a session after its opening and before its shutting: each piece read is an event; all answers except the last keep
--- the connection open
-pub record IsOpenSession (c : ℕ) (old new : HubState) (o : Result (Unit {0}) ServeFault) (read : List ℕ)
-    (left before after : Option (List ℕ)) (failed : Type 0) : Type 0 where
-  pub pieces : List (List ℕ)
-  pub going : List Outcome
-  pub last : Option Outcome
+-- the bytes are read in these pieces
+pub record IsReadIn (pieces : List (List ℕ)) (read : List ℕ) : Type 0 where
   pub read_is : read ≡ concat pieces
   pub small : All IsPiece pieces
-  pub run : IsRun old (byte_events c pieces) (going ++ option_to_list last) new
+
+-- A session after its opening and before its shutting. Each line read is a piece that is handed to the hub as an event,
+-- in a run with its work; all answers except the last keep the connection open.
+pub record IsOpenSession (c : ℕ) (old new : Hub) (o : Result (Unit {0}) ServeFault) (read : List ℕ)
+    (left before after : Option (List ℕ)) (failed : Type 0) : Type 0 where
+  pub reads : List (List ℕ)
+  pub pieces : List (List ℕ)
+  pub rest : List ℕ
+  pub going : List Outcome
+  pub last : Option Outcome
+  pub read_in : IsReadIn reads read
+  pub read_is : read ≡ concat pieces ++ rest
+  pub left_over : IsLeftOver last rest
+  pub small : All IsPiece pieces
+  pub lines : All IsLine pieces
+  pub each_read : length reads ≤ length pieces
+  pub run : IsWorkedRun old (byte_events c pieces) (going ++ option_to_list last) new
   pub goes_on : All StaysOpen going
-  pub ends : EndsBy o last (length pieces) left
+  pub ends : EndsBy o last (length reads) left
   pub writes : WritesBy o failed (replies (going ++ option_to_list last)) before after
-  pub answered : AnsweredBy o old.streams read (replies (going ++ option_to_list last))
+  pub answered : AnsweredBy o old.state.streams read (concat pieces) (replies (going ++ option_to_list last))
+
+-- one event of a hub with its result, its work, and the cache after it
+abbrev pub IsWorkedStep : Hub → Event → Outcome → Hub → Type 0
+IsWorkedStep old e o new = IsStep old.state e o new.state × IsWorked old e o new
 
 -- a session: the connection is opened, served and shut
-pub record IsSession (c : ℕ) (old new : HubState) (o : Result (Unit {0}) ServeFault) (read : List ℕ)
+pub record IsSession (c : ℕ) (old new : Hub) (o : Result (Unit {0}) ServeFault) (read : List ℕ)
     (left before after : Option (List ℕ)) (failed : Type 0) : Type 0 where
-  pub first : HubState
-  pub last : HubState
-  pub comes : IsStep old (Open c) (Ok no_bytes) first
+  pub first : Hub
+  pub last : Hub
+  pub comes : IsWorkedStep old (Open c) (Ok no_bytes) first
   pub talks : IsOpenSession c first last o read left before after failed
-  pub goes : IsStep last (Shut c) (Ok no_bytes) new
+  pub goes : IsWorkedStep last (Shut c) (Ok no_bytes) new
 
 -- the opening is refused
 abbrev pub IsTurnedAway : ℕ → HubState → HubState → Result (Unit {0}) ServeFault → Type 0
-IsTurnedAway c old new o = (fault : HubFault) × IsStep old (Open c) (Err fault) new × (o ≡ Err (Hub fault))
+IsTurnedAway c old new o = (fault : HubFault) × IsStep old (Open c) (Err fault) new × (o ≡ Err (serve_fault.Hub fault))
 
 -- only the state of connection c has changed
 abbrev pub IsUnchangedApart : ℕ → HubState → HubState → Type 0
@@ -119,23 +145,56 @@ IsUnchangedApart c old new = (state_of_connection : ConnectionState)
       connections = with_connection_state c state_of_connection old.connections;
     })
 
+-- ---- one line
+
+-- a line handed to the hub, with its answer
+abbrev pub HandsIn : ℕ → Hub → Hub → List ℕ → Outcome → Type 0
+HandsIn c old new line o = IsPiece line × IsLine line × IsWorkedStep old (Bytes c line) o new
+
+-- one line: a response that keeps the connection open, or one that closes it; or a fault, or a failed write
+abbrev pub AnswersLine : ℕ → Hub → Hub → Result Bool ServeFault → List ℕ → Option (List ℕ) → Option (List ℕ) → Type 0
+    → Type 0
+AnswersLine c old new (Ok true) line before after failed =
+    (reply : Reply) × HandsIn c old new line (Ok reply) × (reply.close ≡ false) × Appends before after reply.bytes
+AnswersLine c old new (Ok false) line before after failed =
+    (reply : Reply) × HandsIn c old new line (Ok reply) × (reply.close ≡ true) × Appends before after reply.bytes
+AnswersLine c old new (Err (serve_fault.Hub fault)) line before after failed =
+    HandsIn c old new line (Err fault) × (after ≡ before)
+AnswersLine c old new (Err serve_fault.Device) line before after failed =
+    (reply : Reply) × HandsIn c old new line (Ok reply) × failed × AppendsPrefix before after reply.bytes
+AnswersLine c old new (Err serve_fault.ReadTurns) line before after failed = ⊥
+
 -- ---- one read
 
--- a piece with its response
-abbrev pub GetsReply : ℕ → HubState → HubState → List ℕ → Reply → Type 0
-GetsReply c old new piece reply = IsPiece piece × IsStep old (Bytes c piece) (Ok reply) new
+-- lines handed in one after another; each response keeps the connection open, and is written before the next line
+abbrev pub GoesOn : ℕ → List (List ℕ) → Hub → Hub → Option (List ℕ) → Option (List ℕ) → Type 0
+GoesOn c [] old new before after = (new ≡ old) × (after ≡ before)
+GoesOn c (line ∷ lines) old new before after =
+    (mid : Hub) × (between : Option (List ℕ)) × AnswersLine c old mid (Ok true) line before between ⊥
+    × GoesOn c lines mid new between after
 
--- one read: a response that keeps the connection open; or the reader's end, or a response that closes; or a fault
-abbrev pub Exchanges : ℕ → HubState → HubState → Result Bool ServeFault → List ℕ → Option (List ℕ) → Option (List ℕ)
+-- lines are handed in up to one whose answer ends the session; the rest of the piece is not handed in
+pub record StopsIn (c : ℕ) (old new : Hub) (o : Result Bool ServeFault) (piece : List ℕ)
+    (before after : Option (List ℕ)) (failed : Type 0) : Type 0 where
+  pub front : List (List ℕ)
+  pub line : List ℕ
+  pub rest : List ℕ
+  pub mid : Hub
+  pub between : Option (List ℕ)
+  pub piece_is : piece ≡ concat front ++ (line ++ rest)
+  pub goes_on : GoesOn c front old mid before between
+  pub stops : AnswersLine c mid new o line between after failed
+
+-- a piece line by line: all its lines are answered, or one ends the session
+abbrev pub AnswersPiece : ℕ → Hub → Hub → Result Bool ServeFault → List ℕ → Option (List ℕ) → Option (List ℕ) → Type 0
+    → Type 0
+AnswersPiece c old new (Ok true) piece before after failed = (lines : List (List ℕ)) × (piece ≡ concat lines)
+    × GoesOn c lines old new before after
+AnswersPiece c old new o piece before after failed = StopsIn c old new o piece before after failed
+
+-- one read: nothing, at the reader's end or if it failed; or a piece, line by line
+abbrev pub Exchanges : ℕ → Hub → Hub → Result Bool ServeFault → List ℕ → Option (List ℕ) → Option (List ℕ)
     → Option (List ℕ) → Type 0 → Type 0
-Exchanges c old new (Ok true) piece left before after failed =
-    (reply : Reply) × GetsReply c old new piece reply × (reply.close ≡ false) × Appends before after reply.bytes
-Exchanges c old new (Ok false) piece left before after failed =
-    ((piece ≡ []) × (new ≡ old) × (after ≡ before) × IsAtEnd left)
-    ⊎ ((reply : Reply) × GetsReply c old new piece reply × (reply.close ≡ true) × Appends before after reply.bytes)
-Exchanges c old new (Err (Hub fault)) piece left before after failed =
-    IsPiece piece × IsStep old (Bytes c piece) (Err fault) new × (after ≡ before)
-Exchanges c old new (Err Device) piece left before after failed =
-    ((piece ≡ []) × (new ≡ old) × (after ≡ before))
-    ⊎ ((reply : Reply) × GetsReply c old new piece reply × failed × AppendsPrefix before after reply.bytes)
-Exchanges c old new (Err ReadTurns) piece left before after failed = ⊥
+Exchanges c old new o piece left before after failed =
+    ((piece ≡ []) × (new ≡ old) × (after ≡ before) × ((o ≡ Err serve_fault.Device) ⊎ ((o ≡ Ok false) × IsAtEnd left)))
+    ⊎ (IsPiece piece × AnswersPiece c old new o piece before after failed)

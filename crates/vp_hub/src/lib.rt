@@ -6,6 +6,7 @@ mod event;
 mod feed_bytes;
 mod hub;
 mod laws;
+mod lines;
 mod names;
 mod pages;
 mod picture_cache;

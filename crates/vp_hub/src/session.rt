@@ -7,10 +7,13 @@ ghost use Rattle.vp_base.specs.Counted.{HasFailed, HasRisenBy};
 ghost use Rattle.vp_hub.specs.declared.session.ServeFault.{ServeFault};
 ghost use Rattle.vp_hub.specs.Hub.{connection_state_of, new_connection_state};
 ghost use Rattle.vp_hub.specs.Names.{serve_fault_name};
-ghost use Rattle.vp_hub.specs.Sessions.{Exchanges, IsOpenSession, IsSession, IsTurnedAway, IsUnchangedApart};
+ghost use Rattle.vp_hub.specs.Lines.{IsLine};
+ghost use Rattle.vp_hub.specs.Sessions.{AnswersLine, AnswersPiece, Exchanges, IsOpenSession, IsPiece, IsSession};
+ghost use Rattle.vp_hub.specs.Sessions.{IsTurnedAway, IsUnchangedApart};
 
 use crate::event::{Event, HubFault};
 use crate::hub::Hub;
+use crate::lines::first_line;
 use std::fmt;
 use std::io::{Read, Write};
 use vp_base::{Counted, put_all};
@@ -40,10 +43,11 @@ impl fmt::Display for ServeFault {
     }
 }
 
-/// Serves one connection. It is opened in the hub, and each piece read (at most 4,096 bytes) is handed to the hub. The
-/// response is written before the next read, which gives back-pressure. The connection is shut after a response
-/// that closes it, at the reader's
-/// end, or after a fault. Failed reads and writes are not retried.
+/// Serves one connection. It is opened in the hub, and each piece read (at most 4,096 bytes) is handed to the hub line
+/// by line. The response to a line is written before the next line is handed in and before the next read. So at most
+/// one response is in memory, and there is back-pressure. The connection is shut after a response that closes it, at
+/// the reader's end, or after a fault; the rest of the piece isn't handed in then. Failed reads and writes are not
+/// retried.
 ///
 /// Errors: `ServeFault`.
 pub fn serve_one<R: Read, W: Write>(
@@ -52,12 +56,13 @@ pub fn serve_one<R: Read, W: Write>(
     reader: &mut Counted<R>,
     writer: &mut Counted<W>,
 ) -> Result<(), ServeFault>
-    // If the opening is refused, nothing is read or written, and the cache is unchanged.
+    // If the opening is refused, nothing is read, written or decoded, and the cache is unchanged. Else the cache and
+    // the decoded packets are those of the events.
     ensures served { (IsTurnedAway conn hub.old.state hub.new.state result × (hub.new.cache ≡ hub.old.cache)
-        × (reader.new ≡ reader.old) × (writer.new ≡ writer.old))
+        × (reader.new ≡ reader.old) × (writer.new ≡ writer.old) × (hub.new.work ≡ 0))
         ⊎ ((read : List ℕ)
         × Consumes (counted_remaining R.remaining reader.old) (counted_remaining R.remaining reader.new) read
-        × IsSession conn hub.old.state hub.new.state result read (counted_remaining R.remaining reader.new)
+        × IsSession conn hub.old hub.new result read (counted_remaining R.remaining reader.new)
         (counted_contents W.contents writer.old) (counted_contents W.contents writer.new)
         (HasFailed (counted_failures writer.old) (counted_failures writer.new))) }
 
@@ -95,7 +100,7 @@ fn serve_open<R: Read, W: Write>(
     requires { connection_state_of conn hub.old.state.connections ≡ Some new_connection_state }
     ensures talked { (read : List ℕ)
         × Consumes (counted_remaining R.remaining reader.old) (counted_remaining R.remaining reader.new) read
-        × IsOpenSession conn hub.old.state hub.new.state result read (counted_remaining R.remaining reader.new)
+        × IsOpenSession conn hub.old hub.new result read (counted_remaining R.remaining reader.new)
         (counted_contents W.contents writer.old) (counted_contents W.contents writer.new)
         (HasFailed (counted_failures writer.old) (counted_failures writer.new)) }
     ensures apart { IsUnchangedApart conn hub.old.state hub.new.state }
@@ -119,7 +124,7 @@ fn serve_open<R: Read, W: Write>(
     Err(ServeFault::ReadTurns)
 }
 
-// Reads once into the buffer, and writes the response. Returns false at the reader's end, and after a response that
+// Reads once into the buffer, and answers what was read. Returns false at the reader's end, and after a response that
 // closes the connection.
 fn exchange<R: Read, W: Write>(
     hub: &mut Hub,
@@ -130,7 +135,7 @@ fn exchange<R: Read, W: Write>(
 ) -> Result<bool, ServeFault>
     ensures exchanged { (piece : List ℕ)
         × Consumes (counted_remaining R.remaining reader.old) (counted_remaining R.remaining reader.new) piece
-        × Exchanges conn hub.old.state hub.new.state result piece (counted_remaining R.remaining reader.new)
+        × Exchanges conn hub.old hub.new result piece (counted_remaining R.remaining reader.new)
         (counted_contents W.contents writer.old) (counted_contents W.contents writer.new)
         (HasFailed (counted_failures writer.old) (counted_failures writer.new)) }
     ensures device { result ≡ Err ServeFault.Device →
@@ -147,7 +152,53 @@ fn exchange<R: Read, W: Write>(
     if count == 0 {
         return Ok(false);
     }
-    let reply = match hub.bytes(conn, &buffer[..count]) {
+    answer_lines(hub, conn, &buffer[..count], writer)
+}
+
+// Hands a piece to the hub line by line, and writes each response before the next line. Returns false after a response
+// that closes the connection; then, and after a fault, the rest of the piece isn't handed in.
+fn answer_lines<W: Write>(
+    hub: &mut Hub,
+    conn: u32,
+    piece: &[u8],
+    writer: &mut Counted<W>,
+) -> Result<bool, ServeFault>
+    requires { IsPiece piece.now }
+    ensures answered { AnswersPiece conn hub.old hub.new result piece.now
+        (counted_contents W.contents writer.old) (counted_contents W.contents writer.new)
+        (HasFailed (counted_failures writer.old) (counted_failures writer.new)) }
+    ensures device { result ≡ Err ServeFault.Device →
+        HasFailed (counted_failures writer.old) (counted_failures writer.new) }
+    ensures quiet { result ≢ Err ServeFault.Device → counted_failures writer.new ≡ counted_failures writer.old }
+{
+    let mut rest = piece;
+    while !rest.is_empty() {
+        let count = first_line(rest);
+        if !answer_line(hub, conn, &rest[..count], writer)? {
+            return Ok(false);
+        }
+        rest = &rest[count..];
+    }
+    Ok(true)
+}
+
+// Hands a line to the hub, and writes the response. Returns false after a response that closes the connection.
+fn answer_line<W: Write>(
+    hub: &mut Hub,
+    conn: u32,
+    line: &[u8],
+    writer: &mut Counted<W>,
+) -> Result<bool, ServeFault>
+    requires small { IsPiece line.now }
+    requires is_line { IsLine line.now }
+    ensures answered { AnswersLine conn hub.old hub.new result line.now
+        (counted_contents W.contents writer.old) (counted_contents W.contents writer.new)
+        (HasFailed (counted_failures writer.old) (counted_failures writer.new)) }
+    ensures device { result ≡ Err ServeFault.Device →
+        HasFailed (counted_failures writer.old) (counted_failures writer.new) }
+    ensures quiet { result ≢ Err ServeFault.Device → counted_failures writer.new ≡ counted_failures writer.old }
+{
+    let reply = match hub.bytes(conn, line) {
         Ok(reply) => reply,
         Err(fault) => return Err(ServeFault::Hub(fault)),
     };

@@ -124,11 +124,13 @@ fn served(
     (end, writer.into_inner().into_inner().into_bytes())
 }
 
-/// Returns whether each of the fifteen writes of 928 bytes can fail, after those before it.
+/// Returns whether each of the sixteen writes of 928 bytes can fail, after those before it. Each response of 464 bytes is
+/// written by itself, in eight writes.
 fn fails_at_each_write(alloc: Global, hub: &mut Hub, whole: &[u8]) -> bool {
-    for writes in 0..15usize {
+    for writes in 0..16usize {
+        let length = 464 * (writes / 8) + 64 * (writes % 8);
         let (end, written) = served(alloc, hub, 76, 10, writes as u64);
-        if end != Err(ServeFault::Device) || whole.get(..64 * writes) != Some(written.as_slice()) {
+        if end != Err(ServeFault::Device) || whole.get(..length) != Some(written.as_slice()) {
             return false;
         }
     }

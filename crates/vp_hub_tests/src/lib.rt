@@ -14,6 +14,8 @@ mod interleavings;
 #[cfg(test)]
 mod refusals;
 #[cfg(test)]
+mod serving_lines;
+#[cfg(test)]
 mod serving_reads;
 #[cfg(test)]
 mod serving_visits;

@@ -88,8 +88,8 @@ fn three_requests(alloc: Global) -> Result<Vec<u8>, AllocError> {
     Ok(sent)
 }
 
-/// At most 4,096 bytes are read at once, and handed to the hub as one piece. Of three requests of 3,000 bytes each, one
-/// ends in each piece, and the last read finds the end.
+/// At most 4,096 bytes are read at once, and handed to the hub before the next read. Of three requests of 3,000 bytes
+/// each, one ends in each piece, and the last read finds the end.
 #[test]
 fn pieces_of_4096_bytes(rt: HostRuntime) -> Result<(), Fail> {
     let sent = three_requests(rt.alloc())?;

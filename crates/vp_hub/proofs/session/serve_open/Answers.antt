@@ -4,14 +4,14 @@ use Rattle.std.proofs.lemmas.Result.{err_from_is_err_and}
 use Rattle.vp_base.specs.Counted.{counted_remaining, counted_contents, counted_failures, counted_reads, HasFailed, HasRisenBy}
 use Rattle.vp_base.proofs.CallLemmas.{risen_by_none, risen_by_one_more}
 use Rattle.vp_hub.specs.Sessions.{Exchanges}
-use Rattle.vp_hub.proofs.Visiting.{at_first, ends_faulty, ends_well, talks_on, runs_out, risen_at_most, one_read_more}
+use Rattle.vp_hub.proofs.Visiting.{begins_talking, ends_faulty, ends_well, talks_on, runs_out, risen_at_most, one_read_more}
 use Rattle.vp_hub.proofs.session.serve_open.Goals as goal
 
 pub loop-turn-init : goal.loop-turn-init
 loop-turn-init g c = (
   [],
   Consumes-nil (counted_remaining g.R.Read.remaining c.args.reader.now),
-  at_first c.args.conn c.args.hub.now.state (counted_contents g.W.Write.contents c.args.writer.now) c.requires,
+  begins_talking c.args.conn c.args.hub.now (counted_contents g.W.Write.contents c.args.writer.now) c.requires,
   refl,
   refl,
   risen_by_none (counted_reads c.args.reader.now),
@@ -25,11 +25,11 @@ returns-in_err-exchange-clause-talked g c =
     let then = counted_contents g.W.Write.contents c.exchange.new.writer in
     let left = counted_remaining g.R.Read.remaining c.exchange.new.reader in
     let mid = counted_contents g.W.Write.contents c.loop-turn.writer in
-    let x = subst (λ n. Exchanges c.args.conn c.loop-turn.hub.state c.exchange.new.hub.state (Err c.in_err-exchange.field-0.0) now.0 left mid then (HasFailed n (counted_failures c.exchange.new.writer))) inv.4 now.2 in
+    let x = subst (λ n. Exchanges c.args.conn c.loop-turn.hub c.exchange.new.hub (Err c.in_err-exchange.field-0.0) now.0 left mid then (HasFailed n (counted_failures c.exchange.new.writer))) inv.4 now.2 in
     rw (p.1, p.2) (
       inv.0 ++ now.0,
       Consumes-trans (counted_remaining g.R.Read.remaining c.args.reader.now) (counted_remaining g.R.Read.remaining c.loop-turn.reader) left inv.0 now.0 inv.1 now.1,
-      (ends_faulty c.args.conn c.args.hub.now.state c.loop-turn.hub.state c.exchange.new.hub.state c.requires inv.0 now.0 (counted_contents g.W.Write.contents c.args.writer.now) mid then left c.loop-turn._turn
+      (ends_faulty c.args.conn c.args.hub.now c.loop-turn.hub c.exchange.new.hub c.requires inv.0 now.0 (counted_contents g.W.Write.contents c.args.writer.now) mid then left c.loop-turn._turn
           (HasFailed (counted_failures c.args.writer.now) (counted_failures c.exchange.new.writer)) inv.2 c.in_err-exchange.field-0.0 x).0,
     )
 
@@ -37,7 +37,7 @@ pub returns-in_err-exchange-clause-apart : goal.returns-in_err-exchange-clause-a
 returns-in_err-exchange-clause-apart g c =
     let inv = c.loop-turn.invariant in
     let now = c.in_err-exchange.ensures.exchanged in
-    (ends_faulty c.args.conn c.args.hub.now.state c.loop-turn.hub.state c.exchange.new.hub.state c.requires inv.0 now.0 (counted_contents g.W.Write.contents c.args.writer.now) (counted_contents g.W.Write.contents c.loop-turn.writer)
+    (ends_faulty c.args.conn c.args.hub.now c.loop-turn.hub c.exchange.new.hub c.requires inv.0 now.0 (counted_contents g.W.Write.contents c.args.writer.now) (counted_contents g.W.Write.contents c.loop-turn.writer)
     (counted_contents g.W.Write.contents c.exchange.new.writer) (counted_remaining g.R.Read.remaining c.exchange.new.reader) c.loop-turn._turn
     (HasFailed (counted_failures c.loop-turn.writer) (counted_failures c.exchange.new.writer)) inv.2 c.in_err-exchange.field-0.0 now.2).1
 
@@ -48,10 +48,10 @@ returns-then-not-branch-clause-talked g c =
     let then = counted_contents g.W.Write.contents c.exchange.new.writer in
     let left = counted_remaining g.R.Read.remaining c.exchange.new.reader in
     let mid = counted_contents g.W.Write.contents c.loop-turn.writer in
-    let x = subst (λ n. Exchanges c.args.conn c.loop-turn.hub.state c.exchange.new.hub.state (Ok c.in_ok-exchange.field-0) now.0 left mid then (HasFailed n (counted_failures c.exchange.new.writer))) inv.4 now.2 in (
+    let x = subst (λ n. Exchanges c.args.conn c.loop-turn.hub c.exchange.new.hub (Ok c.in_ok-exchange.field-0) now.0 left mid then (HasFailed n (counted_failures c.exchange.new.writer))) inv.4 now.2 in (
       inv.0 ++ now.0,
       Consumes-trans (counted_remaining g.R.Read.remaining c.args.reader.now) (counted_remaining g.R.Read.remaining c.loop-turn.reader) left inv.0 now.0 inv.1 now.1,
-      (ends_well c.args.conn c.args.hub.now.state c.loop-turn.hub.state c.exchange.new.hub.state c.requires inv.0 now.0 (counted_contents g.W.Write.contents c.args.writer.now) mid then left c.loop-turn._turn
+      (ends_well c.args.conn c.args.hub.now c.loop-turn.hub c.exchange.new.hub c.requires inv.0 now.0 (counted_contents g.W.Write.contents c.args.writer.now) mid then left c.loop-turn._turn
           (HasFailed (counted_failures c.args.writer.now) (counted_failures c.exchange.new.writer)) inv.2 c.in_ok-exchange.field-0 c.if-not-branch.true x).0,
     )
 
@@ -59,7 +59,7 @@ pub returns-then-not-branch-clause-apart : goal.returns-then-not-branch-clause-a
 returns-then-not-branch-clause-apart g c =
     let inv = c.loop-turn.invariant in
     let now = c.in_ok-exchange.ensures.exchanged in
-    (ends_well c.args.conn c.args.hub.now.state c.loop-turn.hub.state c.exchange.new.hub.state c.requires inv.0 now.0 (counted_contents g.W.Write.contents c.args.writer.now) (counted_contents g.W.Write.contents c.loop-turn.writer)
+    (ends_well c.args.conn c.args.hub.now c.loop-turn.hub c.exchange.new.hub c.requires inv.0 now.0 (counted_contents g.W.Write.contents c.args.writer.now) (counted_contents g.W.Write.contents c.loop-turn.writer)
     (counted_contents g.W.Write.contents c.exchange.new.writer) (counted_remaining g.R.Read.remaining c.exchange.new.reader) c.loop-turn._turn
     (HasFailed (counted_failures c.loop-turn.writer) (counted_failures c.exchange.new.writer)) inv.2 c.in_ok-exchange.field-0 c.if-not-branch.true now.2).1
 
@@ -70,7 +70,7 @@ loop-turn-preserved g c =
     let left = counted_remaining g.R.Read.remaining c.exchange.new.reader in (
       inv.0 ++ now.0,
       Consumes-trans (counted_remaining g.R.Read.remaining c.args.reader.now) (counted_remaining g.R.Read.remaining c.loop-turn.reader) left inv.0 now.0 inv.1 now.1,
-      talks_on c.args.conn c.args.hub.now.state c.loop-turn.hub.state c.exchange.new.hub.state c.requires inv.0 now.0 (counted_contents g.W.Write.contents c.args.writer.now) (counted_contents g.W.Write.contents c.loop-turn.writer)
+      talks_on c.args.conn c.args.hub.now c.loop-turn.hub c.exchange.new.hub c.requires inv.0 now.0 (counted_contents g.W.Write.contents c.args.writer.now) (counted_contents g.W.Write.contents c.loop-turn.writer)
           (counted_contents g.W.Write.contents c.exchange.new.writer) left c.loop-turn._turn
           (HasFailed (counted_failures c.loop-turn.writer) (counted_failures c.exchange.new.writer)) inv.2 c.in_ok-exchange.field-0 c.if-not-branch.false now.2,
       (c.in_ok-exchange.ensures.quiet (λ e. cc)).0 ∙ inv.3,
@@ -105,7 +105,7 @@ returns-clause-talked g c =
     let inv = c.loop-turn.invariant in (
       inv.0,
       inv.1,
-      runs_out c.args.conn c.args.hub.now.state c.loop-turn.hub.state c.requires inv.0 (counted_contents g.W.Write.contents c.args.writer.now) (counted_contents g.W.Write.contents c.loop-turn.writer)
+      runs_out c.args.conn c.args.hub.now c.loop-turn.hub c.requires inv.0 (counted_contents g.W.Write.contents c.args.writer.now) (counted_contents g.W.Write.contents c.loop-turn.writer)
           (counted_remaining g.R.Read.remaining c.loop-turn.reader) c.loop-turn._turn (HasFailed (counted_failures c.args.writer.now) (counted_failures c.loop-turn.writer)) inv.2
           (omega (arith, c.loop-turn-test.false, c.loop-turn.auto._turn-end)),
     )
