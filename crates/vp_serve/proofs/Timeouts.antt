@@ -211,7 +211,7 @@ scheduled s r d g forward x h = at (nat_lt r.time s.next_check) refl
         one c t (inr u) = omega (arith, h.timeouts c u.0 u.1, u.2, ap (λ (o : ServeOptions). o.idle_timeout) x.options)
 
 -- before the first turn
-pub scheduled_first : (s : Schedule) (d : LoopState) → s ≡ record { time = 0; next_check = 0; next_poll = 0; is_busy = false } → IsScheduled s d
+pub scheduled_first : (s : Schedule) (d : LoopState) → s ≡ record { time = 0; clock = 0; next_check = 0; next_poll = 0; is_busy = false } → IsScheduled s d
 scheduled_first s d h =
     let first : s.next_check ≡ 0 = ap (λ (x : Schedule). x.next_check) h in
     record { soon = omega (arith, first); timeouts = λ c t is. omega (arith, first) }

@@ -22,6 +22,10 @@ use vp_hub::{HubFault, Reply};
 /// The milliseconds between two checks of the idle timeouts.
 const IDLE_CHECK_INTERVAL: u64 = 1000;
 
+/// The most milliseconds that a turn counts for idle timeouts. Else a turn in which others' pictures are decoded for a
+/// long time would end connections whose peers had no time to take their bytes.
+const LONGEST_COUNTED_TURN: u64 = 250;
+
 /// Serves until all connections were accepted and none is open. Follows the files of the streams of these names. True
 /// at that end, and false after 18,446,744,073,709,551,615 turns. No failure of a connection ends the loop.
 pub fn serve<T: Transport>(
@@ -58,24 +62,29 @@ pub fn serve_turn<T: Transport>(
     ensures timely { IsScheduled schedule.old server.old → IsTimely schedule.new.time server.new }
     ensures forward { schedule.old.time ≤ schedule.new.time }
 {
-    let now = later(schedule.time, transport.wait(schedule.is_busy));
+    let clock = transport.wait(schedule.is_busy);
+    let now = counted_time(schedule.time, schedule.clock, clock);
     let moved = turn(alloc, server, transport, now);
+    let open = server.connection_count();
     close_idle(server, transport, now, schedule.next_check);
-    let grew = poll_files(alloc, server, transport, names, now >= schedule.next_poll);
+    let left = server.connection_count() < open;
+    let is_due = clock >= schedule.next_poll;
+    let grew = poll_files(alloc, server, transport, names, is_due);
     let poll_interval = server.options().poll_interval;
     *schedule = Schedule {
         time: now,
+        clock,
         next_check: next_time(schedule.next_check, now, IDLE_CHECK_INTERVAL),
-        next_poll: next_poll(schedule.next_poll, now, poll_interval, grew),
-        is_busy: is_busy(server, either(moved, grew)),
+        next_poll: next_poll(schedule.next_poll, clock, poll_interval, grew),
+        is_busy: is_busy(server, either(either(moved, left), grew)),
     };
 }
 
-// The later one of two times.
-fn later(a: u64, b: u64) -> u64
-    ensures { a ≤ result }
+// The time of the next turn, by what the clock said at the last one and says now.
+fn counted_time(time: u64, last: u64, clock: u64) -> u64
+    ensures { time ≤ result }
 {
-    if a < b { b } else { a }
+    time.saturating_add(clock.saturating_sub(last).min(LONGEST_COUNTED_TURN))
 }
 
 // Whether something may be done at once. If something just happened, more may come of it.
