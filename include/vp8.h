@@ -60,7 +60,7 @@ enum {
   VP8_TOO_MANY = 34,         /* it has more packets than 1,048,576 */
   VP8_PACKET_TOO_LARGE = 35, /* a packet is larger than 16,777,216 bytes */
   VP8_TORN = 36,             /* it ends inside its head or a packet */
-  VP8_ENDED = 37,            /* never returned by this library, since a file is passed whole */
+  VP8_ENDED = 37,            /* bytes are fed after its end was marked */
 
   /* The encoder can't be opened, or the frame not encoded. */
   VP8_SETTINGS = 48, /* a setting is out of its range */
@@ -117,14 +117,14 @@ vp8_status vp8_decoder_copy(vp8_decoder *decoder,
 /* Frees what the decoder holds, and closes it. */
 void vp8_decoder_free(vp8_decoder *decoder);
 
-/* ---- an IVF file in memory, whose pictures are asked for by number */
+/* ---- an IVF file in memory, whole or growing, whose pictures are asked for by number */
 
 typedef struct vp8_stream {
   uint32_t in_use;
   void *state;
 } vp8_stream;
 
-/* What is known of a file. */
+/* What is known of a file so far. */
 typedef struct vp8_stream_info {
   uint32_t width;   /* the width and height in pixels that the head says, which need not be a picture's */
   uint32_t height;
@@ -134,17 +134,35 @@ typedef struct vp8_stream_info {
   uint32_t fault;   /* VP8_OK, or why no more are read: VP8_SIGNATURE to VP8_TORN */
 } vp8_stream_info;
 
-/* Opens a stream, and copies the bytes of a whole IVF file into it. Pictures have at most 16,777,216 pixels.
- * vp8_stream_get_info reports what is wrong with the file; its whole packets can still be decoded.
+/* Opens a stream, copies the bytes of a whole IVF file into it, and marks its end. Pictures have at most 16,777,216
+ * pixels. vp8_stream_get_info reports what is wrong with the file; its whole packets can still be decoded.
  * VP8_OPEN, VP8_MEMORY: the stream is as before. */
 vp8_status vp8_stream_new(vp8_stream *stream, const uint8_t *bytes, size_t bytes_len);
 
-/* What is known of the file; all 0 but `fault`, where its head isn't whole or good. VP8_CLOSED: nothing is written. */
+/* Opens a stream without any bytes, for a file that is still being written or received: vp8_stream_feed takes its
+ * bytes, and vp8_stream_finish marks its end. The calls below may be made at any time between: they see the bytes so
+ * far, and bytes that come later change no answer but VP8_NO_PACKET.
+ * VP8_OPEN, VP8_MEMORY: the stream is as before. */
+vp8_status vp8_stream_new_empty(vp8_stream *stream);
+
+/* Copies the next bytes of the file, of any number. VP8_OK: they are taken, and the file has no fault so far.
+ * VP8_SIGNATURE to VP8_PACKET_TOO_LARGE: the file's fault, which these bytes or earlier ones reveal; the packets before
+ * it can still be decoded, and later bytes are refused with the same status. VP8_ENDED: the end of the file was marked,
+ * and the stream is as before. VP8_MEMORY: the stream is as before, and the same bytes may be fed again. VP8_CLOSED. */
+vp8_status vp8_stream_feed(vp8_stream *stream, const uint8_t *bytes, size_t bytes_len);
+
+/* Marks the end of the file, after which no more bytes are taken. VP8_OK: it ends after its head or a whole packet.
+ * VP8_SIGNATURE to VP8_TORN: the file's fault. Later calls return the same status. VP8_CLOSED. */
+vp8_status vp8_stream_finish(vp8_stream *stream);
+
+/* What is known of the file so far; all 0 but `fault`, where its head isn't whole or good. `fault` is VP8_TORN only
+ * after the end was marked. VP8_CLOSED: nothing is written. */
 vp8_status vp8_stream_get_info(vp8_stream *stream, vp8_stream_info *info);
 
-/* Decodes packet n, from the last key packet before it on, and keeps its picture for the calls below.
- * VP8_OK, VP8_HIDDEN and the faults as vp8_decoder_decode's. VP8_NO_PACKET. VP8_MEMORY, VP8_CLOSED: the kept
- * picture is unchanged. */
+/* Decodes packet n, and keeps its picture for the calls below. Packets asked for in order are decoded once each, by a
+ * decoder that the stream keeps; in another order those from the last key packet up to n are decoded, or fewer.
+ * VP8_OK, VP8_HIDDEN and the faults as vp8_decoder_decode's. VP8_NO_PACKET: the file has no such packet, or not yet.
+ * VP8_MEMORY, VP8_CLOSED: the kept picture is unchanged. */
 vp8_status vp8_stream_picture_at(vp8_stream *stream, uint32_t n);
 
 /* The size in pixels of the picture that is kept. VP8_NO_PICTURE, VP8_CLOSED: nothing is written. */

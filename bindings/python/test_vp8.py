@@ -113,6 +113,37 @@ class Streams(unittest.TestCase):
         stream.close()
         self.assertEqual(status_of(len, stream)[0], vp8.CLOSED)
 
+    def test_pieces_are_fed(self):
+        data = ivf(KEY, HIDDEN, b'\x11', KEY)
+        with vp8.Stream() as stream, vp8.Stream(data) as whole:
+            self.assertEqual(stream.info, (0, 0, 0, 0, 0, vp8.OK))
+            for at in range(len(data)):
+                stream.feed(memoryview(data)[at:at + 1])
+                self.assertEqual(len(stream), len(list(vp8.packets(data[:at + 1]))))
+                self.assertEqual(status_of(stream.picture_at, len(stream)), (vp8.NO_PACKET, 'NoPacket'))
+            stream.finish()
+            stream.finish()
+            self.assertEqual(status_of(stream.feed, b''), (vp8.ENDED, 'Ended'))
+            self.assertEqual(status_of(whole.feed, b''), (vp8.ENDED, 'Ended'))
+            self.assertEqual(stream.info, whole.info)
+            for number in (0, 1, 2, 3, 0, 3, 1):
+                self.assertEqual(status_of(stream.picture_at, number), status_of(whole.picture_at, number))
+            self.assertEqual(stream.picture_at(3).data, bytes([128]) * 35)
+            self.assertEqual(status_of(stream.picture_at, -1)[0], vp8.NO_PACKET)
+        self.assertEqual(status_of(stream.feed, data)[0], vp8.CLOSED)
+        self.assertEqual(status_of(stream.finish)[0], vp8.CLOSED)
+
+    def test_faults_of_pieces(self):
+        with vp8.Stream() as stream:
+            stream.feed(ivf(KEY)[:-1])
+            self.assertEqual(stream.info.fault, vp8.OK)
+            self.assertEqual(status_of(stream.finish), (vp8.TORN, 'Torn'))
+            self.assertEqual(stream.info.fault, vp8.TORN)
+        with vp8.Stream() as stream:
+            for piece in (bytes(32), ivf(KEY)):
+                self.assertEqual(status_of(stream.feed, piece), (vp8.SIGNATURE, 'Signature'))
+            self.assertEqual(status_of(stream.finish)[0], vp8.SIGNATURE)
+
 
 @unittest.skipUnless('VP8_STREAMS' in os.environ, 'VP8_STREAMS is not set')
 class Sums(unittest.TestCase):
@@ -124,10 +155,14 @@ class Sums(unittest.TestCase):
         right = 0
         for path in paths:
             data, found = path.read_bytes(), hashlib.md5()
-            with self.subTest(path.name), vp8.Decoder() as decoder, vp8.Stream(data) as stream:
+            with self.subTest(path.name), vp8.Decoder() as decoder, vp8.Stream(data) as stream, vp8.Stream() as fed:
+                fed.feed(data[:32])
                 for number, packet in enumerate(vp8.packets(data)):
                     picture = decoder.decode(packet)
                     found.update(picture.data if picture else b'')
+                    fed.feed(len(packet).to_bytes(4, 'little') + bytes(8) + packet)
+                    by_number = fed.picture_at(number)
+                    self.assertEqual(by_number and by_number.data, picture and picture.data)
                     if number % 7 == 0:
                         by_number = stream[number]
                         self.assertEqual(by_number and by_number.data, picture and picture.data)

@@ -14,6 +14,10 @@ trusts. A lock in each object keeps two threads out of one handle.
     with vp8.Stream(open('film.ivf', 'rb').read()) as stream:
         picture = stream[5]
 
+    with vp8.Stream() as stream:        # a file that grows
+        stream.feed(piece)
+        picture = stream.picture_at(len(stream) - 1)
+
 The library is the file that the environment variable VP8_LIBRARY names, or libvp8.so.0 as the system finds it.
 """
 import collections
@@ -24,12 +28,12 @@ import threading
 __all__ = ['Decoder', 'Error', 'Picture', 'Stream', 'StreamInfo', 'packets', 'DEFAULT_MAX_PIXELS',
            'OK', 'HIDDEN', 'TRUNCATED', 'VERSION', 'START_CODE', 'SIZE', 'TOO_LARGE', 'NO_REFERENCE',
            'FIRST_PARTITION', 'PARTITION_TABLE', 'PARTITION', 'SIGNATURE', 'CODEC', 'TOO_MANY', 'PACKET_TOO_LARGE',
-           'TORN', 'CLOSED', 'MEMORY', 'LIMITS', 'NO_PICTURE', 'NO_PACKET']
+           'TORN', 'ENDED', 'CLOSED', 'MEMORY', 'LIMITS', 'NO_PICTURE', 'NO_PACKET']
 
 # The numbers of include/vp8.h. PARTITION + n is token partition n.
 OK, HIDDEN = 0, 1
 TRUNCATED, VERSION, START_CODE, SIZE, TOO_LARGE, NO_REFERENCE, FIRST_PARTITION, PARTITION_TABLE = range(16, 24)
-SIGNATURE, CODEC, TOO_MANY, PACKET_TOO_LARGE, TORN = range(32, 37)
+SIGNATURE, CODEC, TOO_MANY, PACKET_TOO_LARGE, TORN, ENDED = range(32, 38)
 CLOSED, OPEN, MEMORY, LIMITS, DIMENSIONS, NO_PICTURE, NO_PACKET, BUFFER = range(64, 72)
 PARTITION = 256
 
@@ -56,6 +60,9 @@ def _load():
         'vp8_decoder_copy': (number, [handle] + [memory, size, size] * 3),
         'vp8_decoder_free': (None, [handle]),
         'vp8_stream_new': (number, [handle, memory, size]),
+        'vp8_stream_new_empty': (number, [handle]),
+        'vp8_stream_feed': (number, [handle, memory, size]),
+        'vp8_stream_finish': (number, [handle]),
         'vp8_stream_get_info': (number, [handle, ctypes.POINTER(_StreamInfo)]),
         'vp8_stream_picture_at': (number, [handle, number]),
         'vp8_stream_size': (number, [handle, numbers, numbers]),
@@ -183,26 +190,45 @@ class Decoder(_Closing):
 
 
 StreamInfo = collections.namedtuple('StreamInfo', 'width height rate scale packets fault')
-StreamInfo.__doc__ = """What is known of a file.
+StreamInfo.__doc__ = """What is known of a file so far.
 
 Width and height are those of its head. There are `rate` / `scale` pictures a second. `packets` counts the whole ones.
-`fault` is OK, or why no more are read: SIGNATURE to TORN."""
+`fault` is OK, or why no more are read: SIGNATURE to TORN, and TORN only after the end is marked."""
 
 
 class Stream(_Closing):
     """An IVF file in memory. `stream[n]` is the picture of packet n, or None if it shows none.
 
-    Each is decoded from the last key packet before it: to decode a whole file in order, a Decoder takes less time."""
+    `Stream(data)` has a whole file. `Stream()` has no bytes: `feed` takes them, piece by piece, and `finish` marks the
+    end of the file; all else works at any time between. Packets asked for in order are decoded once each; in another
+    order they are decoded from the last key packet on."""
 
     _free = staticmethod(_library.vp8_stream_free)
 
-    def __init__(self, data):
+    def __init__(self, data=None):
         super().__init__()
-        _check(_library.vp8_stream_new(self._handle, *_pointer(data)))
+        if data is None:
+            _check(_library.vp8_stream_new_empty(self._handle))
+        else:
+            _check(_library.vp8_stream_new(self._handle, *_pointer(data)))
+
+    def feed(self, data):
+        """Takes the next bytes of the file (bytes or a buffer).
+
+        Raises Error: the file's fault, SIGNATURE to PACKET_TOO_LARGE, after which no bytes are taken; ENDED after the
+        end was marked; MEMORY, after which the same bytes may be fed again."""
+        pointer, length = _pointer(data)
+        with self._lock:
+            _check(_library.vp8_stream_feed(self._handle, pointer, length))
+
+    def finish(self):
+        """Marks the end of the file. Raises Error if the file has a fault: SIGNATURE to TORN. May be called again."""
+        with self._lock:
+            _check(_library.vp8_stream_finish(self._handle))
 
     @property
     def info(self):
-        """The StreamInfo of the file."""
+        """The StreamInfo of the file so far."""
         info = _StreamInfo()
         with self._lock:
             _check(_library.vp8_stream_get_info(self._handle, info))
@@ -211,20 +237,29 @@ class Stream(_Closing):
     def __len__(self):
         return self.info.packets
 
-    def __getitem__(self, number):
-        """Decodes packet `number` from the last key packet before it. Raises IndexError, or Error as Decoder.decode."""
+    def picture_at(self, number):
+        """Decodes packet `number`. Returns its Picture, or None if it shows none.
+
+        Raises Error: NO_PACKET if the file has no such packet, or not yet; else as Decoder.decode."""
         if not 0 <= number < 1 << 32:
-            raise IndexError(number)
+            raise Error(NO_PACKET)
         with self._lock:
             status = _library.vp8_stream_picture_at(self._handle, number)
-            if status == NO_PACKET:
-                raise IndexError(number)
             if status == HIDDEN:
                 return None
             _check(status)
             picture = self._new_picture(_library.vp8_stream_size)
             _check(_library.vp8_stream_copy_i420(self._handle, picture._address(), len(picture.data)))
             return picture
+
+    def __getitem__(self, number):
+        """As picture_at, but raises IndexError if the file has no such packet."""
+        try:
+            return self.picture_at(number)
+        except Error as error:
+            if error.status == NO_PACKET:
+                raise IndexError(number) from None
+            raise
 
 
 def packets(data):

@@ -59,6 +59,47 @@ static void streams(void)
   vp8_stream_free(&stream);
 }
 
+/* A file of 16 by 16 pixels with the key packet and five of the twelve bytes before a second one. */
+static const uint8_t FILE_OF_ONE[59] = {
+  'D', 'K', 'I', 'F', 0, 0, 32, 0, 'V', 'P', '8', '0', 16, 0, 16, 0, 30, 0, 0, 0, 1, 0, 0, 0, 1, 0, 0, 0, 0, 0, 0, 0,
+  10, 0, 0, 0, 0, 0, 0, 0, 0, 0, 0, 0, 0x10, 0, 0, 0x9d, 0x01, 0x2a, 0x10, 0, 0x10, 0, 3, 0, 0, 0, 1 };
+
+static void growing_streams(void)
+{
+  uint8_t picture[384];
+  vp8_stream stream = VP8_INIT;
+  vp8_stream_info info;
+  expect("feed closed", vp8_stream_feed(&stream, FILE_OF_ONE, 59), VP8_CLOSED);
+  expect("finish closed", vp8_stream_finish(&stream), VP8_CLOSED);
+  expect("new empty", vp8_stream_new_empty(&stream), VP8_OK);
+  expect("new empty again", vp8_stream_new_empty(&stream), VP8_OPEN);
+  expect("no packet yet", vp8_stream_picture_at(&stream, 0), VP8_NO_PACKET);
+  for (int at = 0; at < 53; at++) expect("a byte", vp8_stream_feed(&stream, FILE_OF_ONE + at, 1), VP8_OK);
+  expect("a packet without its last byte", vp8_stream_picture_at(&stream, 0), VP8_NO_PACKET);
+  expect("the rest", vp8_stream_feed(&stream, FILE_OF_ONE + 53, 6), VP8_OK);
+  expect("its info", vp8_stream_get_info(&stream, &info), VP8_OK);
+  expect("no fault so far", info.packets * 1000 + info.fault, 1000);
+  expect("its packet", vp8_stream_picture_at(&stream, 0), VP8_OK);
+  expect("its picture", vp8_stream_copy_i420(&stream, picture, sizeof picture), VP8_OK);
+  expect("its pixels", picture[63] * 1000000 + picture[64] * 1000 + picture[256], 128129128);
+  expect("finish", vp8_stream_finish(&stream), VP8_TORN);
+  expect("finish again", vp8_stream_finish(&stream), VP8_TORN);
+  expect("feed after finish", vp8_stream_feed(&stream, FILE_OF_ONE, 59), VP8_ENDED);
+  expect("its info", vp8_stream_get_info(&stream, &info), VP8_OK);
+  expect("its fault", info.packets * 1000 + info.fault, 1000 + VP8_TORN);
+  expect("its packet after finish", vp8_stream_picture_at(&stream, 0), VP8_OK);
+  vp8_stream_free(&stream);
+  expect("whole", vp8_stream_new(&stream, FILE_OF_ONE, 54), VP8_OK);
+  expect("feed a whole file", vp8_stream_feed(&stream, FILE_OF_ONE, 59), VP8_ENDED);
+  expect("finish a whole file", vp8_stream_finish(&stream), VP8_OK);
+  vp8_stream_free(&stream);
+  expect("new empty after free", vp8_stream_new_empty(&stream), VP8_OK);
+  expect("no IVF file", vp8_stream_feed(&stream, FILE_OF_ONE + 1, 32), VP8_SIGNATURE);
+  expect("feed after a fault", vp8_stream_feed(&stream, FILE_OF_ONE, 59), VP8_SIGNATURE);
+  expect("finish after a fault", vp8_stream_finish(&stream), VP8_SIGNATURE);
+  vp8_stream_free(&stream);
+}
+
 static void encoders(void)
 {
   uint8_t grey[256];
@@ -92,6 +133,7 @@ int main(void)
 {
   decoders();
   streams();
+  growing_streams();
   encoders();
   names();
   return failed;

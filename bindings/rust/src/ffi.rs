@@ -51,6 +51,9 @@ extern "C" {
     pub fn vp8_decoder_free(decoder: *mut Handle);
 
     pub fn vp8_stream_new(stream: *mut Handle, bytes: *const u8, bytes_len: usize) -> u32;
+    pub fn vp8_stream_new_empty(stream: *mut Handle) -> u32;
+    pub fn vp8_stream_feed(stream: *mut Handle, bytes: *const u8, bytes_len: usize) -> u32;
+    pub fn vp8_stream_finish(stream: *mut Handle) -> u32;
     pub fn vp8_stream_get_info(stream: *mut Handle, info: *mut StreamInfo) -> u32;
     pub fn vp8_stream_picture_at(stream: *mut Handle, n: u32) -> u32;
     pub fn vp8_stream_size(stream: *mut Handle, width: *mut u32, height: *mut u32) -> u32;

@@ -39,6 +39,8 @@ impl Status {
     pub const PACKET_TOO_LARGE: Status = Status(35);
     /// The file ends inside its head or a packet.
     pub const TORN: Status = Status(36);
+    /// A piece is fed after the end of the file was marked.
+    pub const ENDED: Status = Status(37);
     /// Memory was refused.
     pub const MEMORY: Status = Status(66);
     /// The limit on pixels is 0, or over 268,402,689.

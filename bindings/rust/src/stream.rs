@@ -31,7 +31,7 @@ impl<'a> Iterator for Packets<'a> {
 
 impl std::iter::FusedIterator for Packets<'_> {}
 
-/// What is known of a file.
+/// What is known of a file so far.
 #[derive(Clone, Copy, Debug, PartialEq, Eq)]
 pub struct StreamInfo {
     /// The width in pixels that the file's head says, which need not be a picture's.
@@ -44,18 +44,19 @@ pub struct StreamInfo {
     pub scale: u32,
     /// How many packets are whole.
     pub packets: u32,
-    /// Why no more packets are read: `SIGNATURE` to `TORN`.
+    /// Why no more packets are read: `SIGNATURE` to `TORN`. `TORN` only after the end is marked.
     pub fault: Option<Status>,
 }
 
-/// An IVF file in memory, whose pictures are requested by number. They have at most 16,777,216 pixels.
+/// An IVF file in memory, whole or growing, whose pictures are requested by number. They have at most
+/// 16,777,216 pixels.
 pub struct Stream(Handle);
 
 // SAFETY: the state is in memory from malloc that only this handle points to, and the library has no writable globals.
 unsafe impl Send for Stream {}
 
 impl Stream {
-    /// Opens a stream over a copy of the bytes of a file, damaged or not: see `info`. `MEMORY`.
+    /// Opens a stream over a copy of the bytes of a whole file, damaged or not: see `info`. `MEMORY`.
     pub fn new(file: &[u8]) -> Result<Stream, Status> {
         let mut handle = Handle::CLOSED;
         // SAFETY: the handle is closed and lives through the call; the pointer and the length are of one slice.
@@ -63,7 +64,32 @@ impl Stream {
         Ok(Stream(handle))
     }
 
-    /// What is known of the file.
+    /// Opens a stream without any bytes, for a file that is fed in pieces. `MEMORY`.
+    pub fn empty() -> Result<Stream, Status> {
+        let mut handle = Handle::CLOSED;
+        // SAFETY: the handle is closed and lives through the call.
+        check(unsafe { ffi::vp8_stream_new_empty(&mut handle) })?;
+        Ok(Stream(handle))
+    }
+
+    /// Copies the next bytes of the file, of any number.
+    ///
+    /// `SIGNATURE` to `PACKET_TOO_LARGE`: the file's fault; the packets before it can still be decoded, and later
+    /// bytes are refused. `ENDED`: the end was marked. `MEMORY`: the stream is as before, and the same bytes may be
+    /// fed again.
+    pub fn feed(&mut self, bytes: &[u8]) -> Result<(), Status> {
+        // SAFETY: the pointer and the length are of one slice; a slice's pointer is never null.
+        check(unsafe { ffi::vp8_stream_feed(&mut self.0, bytes.as_ptr(), bytes.len()) })
+    }
+
+    /// Marks the end of the file. The fault of the file, if it has one: `SIGNATURE` to `TORN`. Later calls return the
+    /// same.
+    pub fn finish(&mut self) -> Result<(), Status> {
+        // SAFETY: the handle is this value's own.
+        check(unsafe { ffi::vp8_stream_finish(&mut self.0) })
+    }
+
+    /// What is known of the file so far.
     pub fn info(&mut self) -> Result<StreamInfo, Status> {
         let mut found = ffi::StreamInfo::default();
         // SAFETY: the pointer is of a variable.
@@ -86,9 +112,9 @@ impl Stream {
         })
     }
 
-    /// Decodes packet `n`, from the last key packet before it, into `picture`: `true` if it shows a
-    /// picture; else `picture` is unchanged. Faults as of [`crate::Decoder::decode`]; `NO_PACKET`,
-    /// `MEMORY`.
+    /// Decodes packet `n` into `picture`: `true` if it shows a picture; else `picture` is unchanged.
+    /// Packets requested in order are decoded once each; others from the last key packet on. Faults as
+    /// of [`crate::Decoder::decode`]; `NO_PACKET`, if the file has no such packet, or not yet; `MEMORY`.
     pub fn picture_at(&mut self, n: u32, picture: &mut Picture) -> Result<bool, Status> {
         // SAFETY: the handle is this value's own.
         match unsafe { ffi::vp8_stream_picture_at(&mut self.0, n) } {

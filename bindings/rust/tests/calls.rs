@@ -119,6 +119,36 @@ fn pictures_are_requested_by_number() -> Result<(), Status> {
 }
 
 #[test]
+fn pieces_are_fed() -> Result<(), Status> {
+    let file = ivf(&[&KEY, &HIDDEN, &[0x11], &KEY]);
+    let mut stream = Stream::empty()?;
+    let mut picture = Picture::new();
+    assert_eq!(stream.picture_at(0, &mut picture), Err(Status::NO_PACKET));
+    for (at, byte) in file.iter().enumerate() {
+        stream.feed(&[*byte])?;
+        let info = stream.info()?;
+        let whole = packets(&file[..=at]).count();
+        assert_eq!((info.packets as usize, info.fault), (whole, None));
+    }
+    assert!(stream.picture_at(0, &mut picture)?);
+    assert_eq!(picture.bytes(), [128; 35]);
+    assert!(!stream.picture_at(1, &mut picture)?);
+    assert_eq!(stream.picture_at(2, &mut picture), Err(Status::TRUNCATED));
+    assert!(stream.picture_at(3, &mut picture)?);
+    stream.finish()?;
+    assert_eq!(stream.feed(&[]), Err(Status::ENDED));
+    assert_eq!(stream.info()?, Stream::new(&file)?.info()?);
+    let mut torn = Stream::empty()?;
+    torn.feed(&file[..file.len() - 1])?;
+    assert_eq!(torn.finish(), Err(Status::TORN));
+    assert_eq!(torn.info()?.fault, Some(Status::TORN));
+    let mut other = Stream::empty()?;
+    assert_eq!(other.feed(&[0; 32]), Err(Status::SIGNATURE));
+    assert_eq!(other.feed(&file), Err(Status::SIGNATURE));
+    Ok(())
+}
+
+#[test]
 fn decoders_move_between_threads() -> Result<(), Status> {
     let mut decoder = Decoder::new(17)?;
     let decoded = std::thread::spawn(move || decoder.decode(&KEY)).join();

@@ -1,3 +1,4 @@
+mod FileLemmas
 mod NameLemmas
 mod RowLemmas
 mod Values

@@ -1,11 +1,15 @@
 -- The file of a handle: the pictures that a caller requests, and the state after each call. Pinned by the tests
--- `a_file_is_asked` and `a_file_is_told`.
+-- `a_file_is_asked`, `a_file_is_told`, `a_file_is_fed` and `pieces_are_refused`.
 use Rattle.std.specs.Prelude.{◌≡◌, ◌≢◌, ◌<◌, ℕ, List, length, Option, Some, None, Result, Err, ok_or, option_and_then}
 use Rattle.vp_ivf.specs.declared.packet.IvfHead.{IvfHead}
+use Rattle.vp_ivf.specs.declared.fault.FileFault.{FileFault}
 use Rattle.vp_ivf.specs.Reader.{finish_answer}
+use Rattle.vp_stream.specs.PacketReader.{ending}
 use Rattle.vp_stream.specs.Answers.{reading_of}
 use Rattle.vp_stream.specs.Seeking.{AnswerValue, answer_at, answer_value}
 use Rattle.vp_stream.specs.Seeking as seeking
+use Rattle.vp_stream.specs.Stream.{StreamHistory, IsStreamAfter, after_piece, empty_stream_history, stream_after_end}
+use Rattle.vp_stream.specs.Stream.{stream_refusal, with_end, with_piece}
 use Rattle.vp8_c.specs.declared.status.TheConstants.{CLOSED, MEMORY, NO_PICTURE}
 use Rattle.vp8_c.specs.declared.file_handle.FileHandle.{FileHandle}
 use Rattle.vp8_c.specs.declared.file_handle.KeptPicture.{KeptPicture}
@@ -15,12 +19,12 @@ use Rattle.vp8_c.specs.declared.handle_value.HandleValue.TheVariants.{Decoder, S
 use Rattle.vp8_c.specs.declared.handle.Handle.{Handle}
 use Rattle.vp8_c.specs.Arguments.{Size, given_in, result_map, size_of}
 use Rattle.vp8_c.specs.Handle.{handle_value_in}
-use Rattle.vp8_c.specs.Status.{ending_number, answer_status}
+use Rattle.vp8_c.specs.Status.{ending_number, answer_status, file_number}
 
 -- the value is a file
 abbrev pub stream_of : HandleValue → Option FileHandle
 stream_of (Decoder d) = None
-stream_of (Stream a) = Some a
+stream_of (Stream a) = Some a.file
 stream_of (Encoder e) = None
 
 -- the file of a handle, if it is one
@@ -34,6 +38,7 @@ pub record IsFile (bytes : List ℕ) (a : FileHandle) : Type 0 where
   pub packets : a.stream.limits.packets ≡ 1048576
   pub reading : a.stream.reading ≡ reading_of a.stream.limits bytes
   pub ended : a.ended ≡ finish_answer (reading_of a.stream.limits bytes)
+  pub history : IsStreamAfter a.stream (with_end (with_piece empty_stream_history bytes) a.stream.reading.fault)
   pub answer : answer_value a.answer ≡ seeking.NoPacket
 
 -- a picture's width, height and I420 pixels
@@ -56,7 +61,7 @@ i420_picture p = record { width = p.dim.w; height = p.dim.h; i420 = p.i420.now }
 -- the picture of the last requested packet
 abbrev pub kept_of : HandleValue → Result Picture ℕ
 kept_of (Decoder d) = Err CLOSED
-kept_of (Stream a) = ok_or (shown_picture (answer_value a.answer)) NO_PICTURE
+kept_of (Stream a) = ok_or (shown_picture (answer_value a.file.answer)) NO_PICTURE
 kept_of (Encoder e) = Err CLOSED
 
 -- the size of that picture
@@ -96,3 +101,29 @@ pub record AnswersPacket (n status : ℕ) (old new : FileHandle) : Type 0 where
   pub ended : new.ended ≡ old.ended
   pub refused : status ≡ MEMORY → new ≡ old
   pub memory : status ≡ MEMORY → n < length old.stream.reading.packets
+
+-- ---- a file that grows
+
+-- the piece is taken: the status is that of the file's fault, if it has one now, and the answer is still kept
+pub record TakesPiece (piece : List ℕ) (status : ℕ) (old new : FileHandle) : Type 0 where
+  pub number : status ≡ ending_number (ending new.stream.reading.fault)
+  pub stream : new.stream ≡ after_piece old.stream piece
+  pub history : (h : StreamHistory) → IsStreamAfter old.stream h → IsStreamAfter new.stream (with_piece h piece)
+  pub answer : new.answer ≡ old.answer
+
+-- A piece is refused with the fault that the file has, or with ENDED after its end was marked. Or memory ran out. Then
+-- nothing changed. Else the piece is taken.
+pub record Feeds (piece : List ℕ) (status : ℕ) (old new : FileHandle) : Type 0 where
+  pub refused : (fault : FileFault) → stream_refusal old.stream ≡ Some fault
+      → (status ≡ file_number fault) × (new ≡ old)
+  pub memory : status ≡ MEMORY → new ≡ old
+  pub taken : stream_refusal old.stream ≡ None → status ≢ MEMORY → TakesPiece piece status old new
+
+-- the end is marked: the status is that of the file's fault, if it has one, and the answer is still kept
+pub record Finishes (status : ℕ) (old new : FileHandle) : Type 0 where
+  pub number : status ≡ ending_number (finish_answer old.stream.reading)
+  pub ended : new.ended ≡ finish_answer old.stream.reading
+  pub stream : new.stream ≡ stream_after_end old.stream
+  pub history : (h : StreamHistory) → IsStreamAfter old.stream h
+      → IsStreamAfter new.stream (with_end h old.stream.reading.fault)
+  pub answer : new.answer ≡ old.answer

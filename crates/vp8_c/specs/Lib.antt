@@ -1,4 +1,6 @@
 pub mod FileHandle
+pub mod Ending
+pub mod StreamHandle
 pub mod Bytes
 pub mod EncoderHandle
 pub mod Decoding

@@ -9,12 +9,14 @@ use crate::encoder::{
 };
 use crate::file_handle::StreamInfo;
 use crate::handle::Handle;
+use crate::handle_value::HandleValue;
 use crate::names::vp8_status_name;
 use crate::settings::EncoderSettings;
 use crate::stream::{
-    vp8_stream_copy_i420, vp8_stream_free, vp8_stream_get_info, vp8_stream_new,
-    vp8_stream_picture_at, vp8_stream_size,
+    vp8_stream_copy_i420, vp8_stream_feed, vp8_stream_finish, vp8_stream_free, vp8_stream_get_info,
+    vp8_stream_new, vp8_stream_new_empty, vp8_stream_picture_at, vp8_stream_size,
 };
+use std::alloc::Global;
 use std::fmt::Debug;
 use std::process::Abort;
 use vp_encode::Settings;
@@ -110,6 +112,150 @@ fn a_file_is_told(rt: HostRuntime) {
         &(0, 0, 0, 0),
     );
     equal(&rt, &(other.packets, other.fault), &(0, 32));
+}
+
+/// Feeds bytes one by one, and returns the greatest status.
+fn feed_each(alloc: Global, stream: &mut Handle, bytes: &[u8]) -> u32 {
+    let mut greatest = 0;
+    for byte in bytes {
+        greatest = greatest.max(vp8_stream_feed(alloc, stream, &[*byte]));
+    }
+    greatest
+}
+
+/// Returns the number of packets and the fault in the information about a file.
+fn count_and_fault(alloc: Global, stream: &mut Handle) -> (u32, u32) {
+    let mut info = StreamInfo {
+        width: 9,
+        height: 9,
+        rate: 9,
+        scale: 9,
+        packets: 9,
+        fault: 9,
+    };
+    let status = vp8_stream_get_info(alloc, stream, &mut info);
+    if status == 0 {
+        (info.packets, info.fault)
+    } else {
+        (status, status)
+    }
+}
+
+/// A file that is fed byte by byte has the packets of the bytes so far, and in the end the answers of the whole file.
+#[test]
+fn a_file_is_fed(rt: HostRuntime) {
+    let alloc = rt.alloc();
+    let mut stream = Handle::closed();
+    let opened = [
+        vp8_stream_new_empty(alloc, &mut stream),
+        vp8_stream_new_empty(alloc, &mut stream),
+    ];
+    let front = [
+        feed_each(alloc, &mut stream, &FILE[..53]),
+        vp8_stream_picture_at(alloc, &mut stream, 0),
+        feed_each(alloc, &mut stream, &FILE[53..54]),
+        vp8_stream_picture_at(alloc, &mut stream, 0),
+    ];
+    let early = count_and_fault(alloc, &mut stream);
+    let rest = [
+        feed_each(alloc, &mut stream, &FILE[54..]),
+        vp8_stream_picture_at(alloc, &mut stream, 1),
+        vp8_stream_picture_at(alloc, &mut stream, 2),
+        vp8_stream_picture_at(alloc, &mut stream, 3),
+    ];
+    let late = count_and_fault(alloc, &mut stream);
+    let finished = [
+        vp8_stream_finish(alloc, &mut stream),
+        vp8_stream_finish(alloc, &mut stream),
+        vp8_stream_feed(alloc, &mut stream, &FILE),
+        vp8_stream_picture_at(alloc, &mut stream, 2),
+    ];
+    let last = count_and_fault(alloc, &mut stream);
+    vp8_stream_free(alloc, &mut stream);
+    stream.forget();
+    equal(&rt, &opened, &[0, 65]);
+    equal(&rt, &front, &[0, 70, 0, 0]);
+    equal(&rt, &rest, &[0, 1, 16, 70]);
+    equal(&rt, &finished, &[36, 36, 37, 16]);
+    equal(&rt, &[early, late, last], &[(1, 0), (3, 0), (3, 36)]);
+}
+
+/// A closed handle and a decoder take no piece. A file with a fault, and a whole file, take no more.
+#[test]
+fn pieces_are_refused(rt: HostRuntime) {
+    let alloc = rt.alloc();
+    let mut stream = Handle::closed();
+    let mut decoder = Handle::closed();
+    let closed = [
+        vp8_stream_feed(alloc, &mut stream, &FILE),
+        vp8_stream_finish(alloc, &mut stream),
+        vp8_decoder_new(alloc, &mut decoder, 17),
+        vp8_stream_feed(alloc, &mut decoder, &FILE),
+        vp8_stream_finish(alloc, &mut decoder),
+    ];
+    vp8_decoder_free(alloc, &mut decoder);
+    decoder.forget();
+    let faulty = [
+        vp8_stream_new_empty(alloc, &mut stream),
+        vp8_stream_feed(alloc, &mut stream, &FILE[1..]),
+        vp8_stream_feed(alloc, &mut stream, &FILE),
+        vp8_stream_finish(alloc, &mut stream),
+    ];
+    let fault = count_and_fault(alloc, &mut stream);
+    vp8_stream_free(alloc, &mut stream);
+    let whole = [
+        vp8_stream_new(alloc, &mut stream, &FILE[..82]),
+        vp8_stream_feed(alloc, &mut stream, &FILE[82..]),
+        vp8_stream_finish(alloc, &mut stream),
+    ];
+    vp8_stream_free(alloc, &mut stream);
+    stream.forget();
+    equal(&rt, &closed, &[64, 64, 0, 64, 64]);
+    equal(&rt, &faulty, &[0, 32, 32, 32]);
+    equal(&rt, &fault, &(0, 32));
+    equal(&rt, &whole, &[0, 37, 0]);
+}
+
+/// Returns the number of packets decoded for the requests of a stream.
+fn decoded_for(alloc: Global, stream: &mut Handle) -> u64 {
+    let Some(held) = stream.take(alloc) else {
+        return 0;
+    };
+    let decoded = match &*held {
+        HandleValue::Stream(asked) => asked.decoded,
+        HandleValue::Decoder(_) | HandleValue::Encoder(_) => 0,
+    };
+    stream.put(held);
+    decoded
+}
+
+/// Packets in order are decoded once each, and the one decoded last not again. In another order, decoding starts at the
+/// key packet or goes on behind the last request, and each answer is the same.
+#[test]
+fn packets_in_order_are_decoded_once(rt: HostRuntime) {
+    let alloc = rt.alloc();
+    let mut stream = Handle::closed();
+    let ordered = [
+        vp8_stream_new(alloc, &mut stream, &FILE),
+        vp8_stream_picture_at(alloc, &mut stream, 0),
+        vp8_stream_picture_at(alloc, &mut stream, 1),
+        vp8_stream_picture_at(alloc, &mut stream, 2),
+        vp8_stream_picture_at(alloc, &mut stream, 2),
+    ];
+    let once = decoded_for(alloc, &mut stream);
+    let others = [
+        vp8_stream_picture_at(alloc, &mut stream, 1),
+        vp8_stream_picture_at(alloc, &mut stream, 3),
+        vp8_stream_picture_at(alloc, &mut stream, 2),
+        vp8_stream_picture_at(alloc, &mut stream, 0),
+        vp8_stream_picture_at(alloc, &mut stream, 2),
+    ];
+    let more = decoded_for(alloc, &mut stream);
+    vp8_stream_free(alloc, &mut stream);
+    stream.forget();
+    equal(&rt, &ordered, &[0, 0, 1, 16, 16]);
+    equal(&rt, &others, &[1, 70, 16, 0, 16]);
+    equal(&rt, &(once, more), &(3, 9));
 }
 
 /// Copies a packet's picture to the caller's rows, and tries sizes for which no decoder can be opened.

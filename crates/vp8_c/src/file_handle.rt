@@ -1,24 +1,26 @@
 //! The IVF file of a handle.
 
-ghost use Rattle.std.specs.Prelude.{◌≡◌, IfSome, option_map};
+ghost use Rattle.std.specs.Prelude.{◌≡◌, option_map};
 ghost use Rattle.vp_stream.specs.Seeking.{answer_value};
-ghost use Rattle.vp8_c.specs.Status.{answer_status};
+ghost use Rattle.vp_stream.specs.Cursor.{Cursor, IsCursorOf};
+ghost use Rattle.vp8_c.specs.Status.{answer_status, ending_number};
+ghost use Rattle.vp8_c.specs.Ending.{ending_of};
 
 use crate::status::{HIDDEN, MEMORY, NO_PACKET, OK, fault_number, file_number};
-use std::alloc::Global;
-use vp_base::{Dim, Limits};
+use vp_base::Dim;
 use vp_ivf::{FeedError, FileFault};
 use vp_stream::{Answer, Stream};
 
-/// A whole file, the result of marking its end, and the answer for the last requested packet.
+/// A file, its fault if it has one, and the answer for the last requested packet.
 #[derive(Drop)]
 pub struct FileHandle {
-    /// The stream that all bytes of the file were fed to.
+    /// The stream that the bytes of the file are fed to.
     pub stream: Stream,
-    /// The result of marking the end of the file.
+    /// The file's fault so far, or the result of marking its end.
     pub ended: Result<(), FileFault>,
     /// The answer for the last requested packet.
     pub answer: Answer,
+    ghost ending: { ended ≡ ending_of stream },
 }
 
 /// Information about a file.
@@ -49,7 +51,7 @@ pub struct KeptPicture<'a> {
 }
 
 /// Returns the status number of an answer.
-fn answer_number(answer: &Answer) -> u32
+pub(crate) fn answer_number(answer: &Answer) -> u32
     ensures { result ≡ answer_status (answer_value answer.now) }
 {
     match answer {
@@ -61,27 +63,42 @@ fn answer_number(answer: &Answer) -> u32
 }
 
 impl FileHandle {
-    ghost use Rattle.vp8_c.specs.FileHandle.{AnswersPacket, IsFile, stream_info, shown_picture, i420_picture};
+    ghost use Rattle.vp8_c.specs.FileHandle.{Feeds, Finishes, stream_info, shown_picture, i420_picture};
 
-    /// Creates a handle's file from all its bytes. None if memory runs out.
-    pub fn of_file(alloc: Global, bytes: &[u8]) -> Option<FileHandle>
-        ensures { IfSome result (IsFile bytes.now) }
+    /// Takes the next piece of the file.
+    pub fn feed(&mut self, piece: &[u8]) -> u32
+        ensures fed { Feeds piece.now result self.old self.new }
+        ensures cursors { (cursor : Cursor) → IsCursorOf cursor self.old.stream → IsCursorOf cursor self.new.stream }
     {
-        let mut stream = Stream::new(alloc, Limits::usual());
-        if let Err(FeedError::Memory) = stream.feed(bytes) {
-            return None;
+        if let Some(fault) = self.stream.refusal() {
+            return file_number(fault);
         }
-        let ended = stream.finish();
-        Some(FileHandle {
-            stream,
-            ended,
-            answer: Answer::NoPacket,
-        })
+        match self.stream.feed(piece) {
+            Ok(()) => OK,
+            Err(FeedError::Fault(fault)) => {
+                self.ended = Err(fault);
+                file_number(fault)
+            }
+            Err(FeedError::Memory) => MEMORY,
+        }
+    }
+
+    /// Marks the end of the file.
+    pub fn finish(&mut self) -> u32
+        ensures finished { Finishes result self.old self.new }
+        ensures cursors { (cursor : Cursor) → IsCursorOf cursor self.old.stream → IsCursorOf cursor self.new.stream }
+    {
+        self.ended = self.stream.finish();
+        match self.ended {
+            Ok(()) => OK,
+            Err(fault) => file_number(fault),
+        }
     }
 
     /// Returns information about the file.
     pub fn info(&self) -> StreamInfo
-        ensures { result ≡ stream_info self.now }
+        ensures info { result ≡ stream_info self.now }
+        ensures fault { result.fault ≡ ending_number (ending_of self.now.stream) }
     {
         let fault = match self.ended {
             Ok(()) => OK,
@@ -105,20 +122,6 @@ impl FileHandle {
                 packets,
                 fault,
             },
-        }
-    }
-
-    /// Decodes packet `n`, and keeps the answer.
-    pub fn ask(&mut self, n: u32) -> u32
-        ensures { AnswersPacket n result self.old self.new }
-    {
-        match self.stream.picture_at(n) {
-            Ok(answer) => {
-                let number = answer_number(&answer);
-                self.answer = answer;
-                number
-            }
-            Err(_) => MEMORY,
         }
     }
 

@@ -7,6 +7,7 @@ use crate::encoder_handle::EncoderHandle;
 use crate::file_handle::{FileHandle, KeptPicture};
 use crate::planes::CallerPlanes;
 use crate::status::{CLOSED, MEMORY, NO_PICTURE, outcome_number};
+use crate::stream_handle::StreamHandle;
 use vp_base::Picture;
 use vp_decode::Decoder;
 use vp_encode::Encoded;
@@ -17,14 +18,15 @@ pub enum HandleValue {
     /// A `vp8_decoder`.
     Decoder(Decoder),
     /// A `vp8_stream`.
-    Stream(FileHandle),
+    Stream(StreamHandle),
     /// A `vp8_encoder`.
     Encoder(EncoderHandle),
 }
 
 impl HandleValue {
     ghost use Rattle.vp8_c.specs.Decoding.{Decodes, decoder_of, last_picture};
-    ghost use Rattle.vp8_c.specs.FileHandle.{AnswersPacket, kept_of, i420_picture, stream_of};
+    ghost use Rattle.vp8_c.specs.FileHandle.{AnswersPacket, Feeds, Finishes, kept_of, i420_picture, stream_of};
+    ghost use Rattle.vp8_c.specs.StreamHandle.{KeepsCursor, Seeks, stream_handle_of};
     ghost use Rattle.vp8_c.specs.EncoderHandle.{Encodes, encoded_of, encoder_of};
     ghost use Rattle.vp8_c.specs.Arguments.{result_map};
 
@@ -61,7 +63,7 @@ impl HandleValue {
         ensures { option_map (λ a. a.now) result ≡ stream_of self.now }
     {
         match self {
-            HandleValue::Stream(asked) => Some(asked),
+            HandleValue::Stream(asked) => Some(&asked.file),
             HandleValue::Decoder(_) | HandleValue::Encoder(_) => None,
         }
     }
@@ -71,9 +73,37 @@ impl HandleValue {
         ensures closed { stream_of self.old ≡ None → (result ≡ CLOSED) × (self.new ≡ self.old) }
         ensures answered { IfSome (stream_of self.old) (λ a. IsSomeAnd (stream_of self.new)
             (AnswersPacket n result a)) }
+        ensures cost { IfSome (stream_handle_of self.old) (λ a. IsSomeAnd (stream_handle_of self.new)
+            (Seeks n result a)) }
     {
         match self {
             HandleValue::Stream(asked) => asked.ask(n),
+            HandleValue::Decoder(_) | HandleValue::Encoder(_) => CLOSED,
+        }
+    }
+
+    /// Takes the next piece of the file. The status is `CLOSED` if the value isn't a file.
+    pub fn feed(&mut self, piece: &[u8]) -> u32
+        ensures closed { stream_of self.old ≡ None → (result ≡ CLOSED) × (self.new ≡ self.old) }
+        ensures fed { IfSome (stream_of self.old) (λ a. IsSomeAnd (stream_of self.new) (Feeds piece.now result a)) }
+        ensures cursor { IfSome (stream_handle_of self.old) (λ a. IsSomeAnd (stream_handle_of self.new)
+            (KeepsCursor a)) }
+    {
+        match self {
+            HandleValue::Stream(growing) => growing.feed(piece),
+            HandleValue::Decoder(_) | HandleValue::Encoder(_) => CLOSED,
+        }
+    }
+
+    /// Marks the end of the file. The status is `CLOSED` if the value isn't a file.
+    pub fn finish(&mut self) -> u32
+        ensures closed { stream_of self.old ≡ None → (result ≡ CLOSED) × (self.new ≡ self.old) }
+        ensures finished { IfSome (stream_of self.old) (λ a. IsSomeAnd (stream_of self.new) (Finishes result a)) }
+        ensures cursor { IfSome (stream_handle_of self.old) (λ a. IsSomeAnd (stream_handle_of self.new)
+            (KeepsCursor a)) }
+    {
+        match self {
+            HandleValue::Stream(growing) => growing.finish(),
             HandleValue::Decoder(_) | HandleValue::Encoder(_) => CLOSED,
         }
     }
@@ -83,7 +113,7 @@ impl HandleValue {
         ensures { result_map i420_picture result ≡ kept_of self.now }
     {
         match self {
-            HandleValue::Stream(asked) => match asked.picture() {
+            HandleValue::Stream(asked) => match asked.file.picture() {
                 Some(picture) => Ok(picture),
                 None => Err(NO_PICTURE),
             },

@@ -18,5 +18,6 @@ mod settings;
 mod slot;
 mod status;
 mod stream;
+mod stream_handle;
 #[cfg(test)]
 mod tests;
