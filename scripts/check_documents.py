@@ -31,7 +31,7 @@ LENGTHS = {
     "docs/ARCHITECTURE.md": 150,
     "docs/TESTING.md": 110,
     "docs/EMBEDDING.md": 120,
-    "docs/SERVER.md": 90,
+    "docs/SERVER.md": 120,
     "docs/PERFORMANCE.md": 110,
     "docs/DECISIONS.md": 200,
     "crates/*/README.md": 25,
