@@ -7,62 +7,46 @@ ghost use Rattle.vp_search.specs.Window.{first_rows};
 use crate::difference::first_rows;
 use crate::window::WINDOW_WIDTH;
 
-/// A block of a window: the index of its first pixel, and the sum of absolute differences of its first four rows.
+/// Two blocks of a row of a window, of which the second begins a pixel behind the first: how many pairs stand before
+/// them, and the sums of absolute differences of their first four rows.
 #[derive(Clone, Copy)]
-pub(crate) struct Start {
-    pub(crate) at: usize,
-    pub(crate) first: u32,
+pub(crate) struct Pair {
+    pub(crate) number: usize,
+    pub(crate) one: u32,
+    pub(crate) two: u32,
 }
 
-/// The block at index `at`.
-fn start_at(block: &[u8], window: &[u8], at: usize) -> Start
-    requires block { 256 ≤ length block.now }
-    requires window { at + 3 * WINDOW_WIDTH + 16 ≤ length window.now }
-    ensures at { result.at ≡ at }
-    ensures first { result.first ≡ first_rows block.now window.now at }
-    ensures bound { result.first ≤ 4 * 16 * 255 }
-{
-    Start {
-        at,
-        first: first_rows(block, window, at, WINDOW_WIDTH),
-    }
-}
-
-/// The first of the blocks at the indices from `from` to `end`, without `end`, whose first four rows differ by at most
-/// `limit`. Two are compared at a time, as most differ by more: a jump for each costs up to a third more time.
-pub(crate) fn next_start(
+/// The first of the pairs from number `from` to `end`, without `end`, of a row that begins at index `begin`, of which a
+/// block differs by at most `limit` in its first four rows. Both are compared before a jump, as most differ by more: a
+/// jump for each costs up to a third more time. Where the next pair stands does not come out of a comparison, so that the
+/// processor can begin with it before.
+pub(crate) fn next_pair(
     block: &[u8],
     window: &[u8],
+    begin: usize,
     from: usize,
     end: usize,
     limit: u32,
-) -> Option<Start>
+) -> Option<Pair>
     requires block { 256 ≤ length block.now }
-    requires window { end + 3 * WINDOW_WIDTH + 16 ≤ length window.now }
+    requires window { begin + 2 * end + 3 * WINDOW_WIDTH + 15 ≤ length window.now }
     requires end { from ≤ end }
-    ensures place { IfSome result (λ start. (from ≤ start.at) × (start.at < end)) }
-    ensures first { IfSome result (λ start. start.first ≡ first_rows block.now window.now start.at) }
-    ensures bound { IfSome result (λ start. start.first ≤ 4 * 16 * 255) }
-    ensures skipped { IfSome result (λ start. (k : ℕ) → from ≤ k → k < start.at
+    ensures place { IfSome result (λ pair. (from ≤ pair.number) × (pair.number < end)) }
+    ensures one { IfSome result (λ pair. pair.one ≡ first_rows block.now window.now (begin + 2 * pair.number)) }
+    ensures two { IfSome result (λ pair. pair.two ≡ first_rows block.now window.now (begin + 2 * pair.number + 1)) }
+    ensures bound { IfSome result (λ pair. (pair.one ≤ 4 * 16 * 255) × (pair.two ≤ 4 * 16 * 255)) }
+    ensures skipped { IfSome result (λ pair. (k : ℕ) → begin + 2 * from ≤ k → k < begin + 2 * pair.number
         → limit < first_rows block.now window.now k) }
-    ensures none { result ≡ None → (k : ℕ) → from ≤ k → k < end → limit < first_rows block.now window.now k }
+    ensures none { result ≡ None → (k : ℕ) → begin + 2 * from ≤ k → k < begin + 2 * end
+        → limit < first_rows block.now window.now k }
 {
-    let mut at = from;
-    while at + 1 < end {
-        let one = start_at(block, window, at);
-        let two = start_at(block, window, at + 1);
-        if one.first.min(two.first) <= limit {
-            return Some(if one.first <= limit { one } else { two });
+    for number in from..end {
+        let at = begin + 2 * number;
+        let one = first_rows(block, window, at, WINDOW_WIDTH);
+        let two = first_rows(block, window, at + 1, WINDOW_WIDTH);
+        if one.min(two) <= limit {
+            return Some(Pair { number, one, two });
         }
-        at += 2;
     }
-    if at == end {
-        return None;
-    }
-    let last = start_at(block, window, at);
-    if last.first <= limit {
-        Some(last)
-    } else {
-        None
-    }
+    None
 }

@@ -14,7 +14,7 @@ ghost use Rattle.vp_search.specs.Bounds.{IsBound};
 ghost use Rattle.vp_search.specs.Summed.{IsSummedSearch};
 
 use crate::difference::{first_rows, rest_within, sad_within};
-use crate::early::next_start;
+use crate::early::{Pair, next_pair};
 use crate::sums::{SquareSums, bounds_at, next_within, within};
 use crate::vector::{Found, vector_at, vector_length};
 use crate::window::WINDOW_WIDTH;
@@ -234,6 +234,9 @@ pub(crate) struct Progress {
 /// sample of the last row decides whether as many more follow.
 const UNBOUNDED_ROWS: u8 = 7;
 
+/// The least range within which vectors are compared in pairs.
+const LEAST_PAIRED_RANGE: u8 = 8;
+
 /// Half of a group of eight vectors.
 const HALF: usize = 4;
 
@@ -414,6 +417,93 @@ fn consider_each(block: &[u8], window: &[u8], range: u8, best: Found, i: usize) 
     found
 }
 
+/// The better of a known vector and the one at `place`, of whose block the first four rows differ by `first`. It is left
+/// out if these differ by more than the best costs.
+#[inline(always)]
+fn consider_start(
+    block: &[u8],
+    window: &[u8],
+    range: u8,
+    best: Found,
+    place: Spot,
+    first: u32,
+) -> Found
+    requires block { 256 ≤ length block.now }
+    requires window { (2 * range + 16) * WINDOW_WIDTH ≤ length window.now }
+    requires range { range ≤ 64 }
+    requires row { place.row ≤ 2 * range }
+    requires column { place.column ≤ 2 * range }
+    requires best { IsFoundInWindow range (window_cost block.now window.now range) best }
+    requires first { first ≡ first_rows block.now window.now (place.row * WINDOW_WIDTH + place.column) }
+    requires bound { first ≤ 4 * 16 * 255 }
+    ensures kept { IsFoundInWindow range (window_cost block.now window.now range) result }
+    ensures old { IsNoWorse result.cost result.vector best.cost best.vector }
+    ensures here { IsNoWorse result.cost result.vector
+        (window_cost block.now window.now range (vector_at range place.row place.column))
+        (vector_at range place.row place.column) }
+{
+    if first > best.cost {
+        return best;
+    }
+    consider_rest(block, window, range, best, place, first)
+}
+
+/// The better of a known vector and the one at `place`, as `consider` has it, but compared after four rows of pixels too.
+#[inline(always)]
+fn consider_early(block: &[u8], window: &[u8], range: u8, best: Found, place: Spot) -> Found
+    requires block { 256 ≤ length block.now }
+    requires window { (2 * range + 16) * WINDOW_WIDTH ≤ length window.now }
+    requires range { range ≤ 64 }
+    requires row { place.row ≤ 2 * range }
+    requires column { place.column ≤ 2 * range }
+    requires best { IsFoundInWindow range (window_cost block.now window.now range) best }
+    ensures kept { IsFoundInWindow range (window_cost block.now window.now range) result }
+    ensures old { IsNoWorse result.cost result.vector best.cost best.vector }
+    ensures here { IsNoWorse result.cost result.vector
+        (window_cost block.now window.now range (vector_at range place.row place.column))
+        (vector_at range place.row place.column) }
+{
+    let at = place.row * WINDOW_WIDTH + place.column;
+    let first = first_rows(block, window, at, WINDOW_WIDTH);
+    consider_start(block, window, range, best, place, first)
+}
+
+/// The best of a known vector and those of a pair that begins at `place`.
+#[inline(always)]
+fn consider_pair(
+    block: &[u8],
+    window: &[u8],
+    range: u8,
+    best: Found,
+    place: Spot,
+    pair: Pair,
+) -> Found
+    requires block { 256 ≤ length block.now }
+    requires window { (2 * range + 16) * WINDOW_WIDTH ≤ length window.now }
+    requires range { range ≤ 64 }
+    requires row { place.row ≤ 2 * range }
+    requires column { place.column + 1 ≤ 2 * range }
+    requires best { IsFoundInWindow range (window_cost block.now window.now range) best }
+    requires one { pair.one ≡ first_rows block.now window.now (place.row * WINDOW_WIDTH + place.column) }
+    requires two { pair.two ≡ first_rows block.now window.now (place.row * WINDOW_WIDTH + place.column + 1) }
+    requires bound { (pair.one ≤ 4 * 16 * 255) × (pair.two ≤ 4 * 16 * 255) }
+    ensures kept { IsFoundInWindow range (window_cost block.now window.now range) result }
+    ensures old { IsNoWorse result.cost result.vector best.cost best.vector }
+    ensures here { IsNoWorse result.cost result.vector
+        (window_cost block.now window.now range (vector_at range place.row place.column))
+        (vector_at range place.row place.column) }
+    ensures next { IsNoWorse result.cost result.vector
+        (window_cost block.now window.now range (vector_at range place.row (place.column + 1)))
+        (vector_at range place.row (place.column + 1)) }
+{
+    let next = Spot {
+        row: place.row,
+        column: place.column + 1,
+    };
+    let found = consider_start(block, window, range, best, place, pair.one);
+    consider_start(block, window, range, found, next, pair.two)
+}
+
 /// The best of a known vector and those of row `i`, where most of these differ by more than the best costs by their
 /// first four rows of pixels.
 #[inline(never)]
@@ -429,16 +519,42 @@ fn consider_starts(block: &[u8], window: &[u8], range: u8, best: Found, i: usize
         (window_cost block.now window.now range (vector_at range i j)) (vector_at range i j) }
 {
     let begin = i * WINDOW_WIDTH;
-    let end = begin + 2 * usize::from(range) + 1;
+    let pairs = usize::from(range);
     let mut found = best;
-    let mut from = begin;
-    while let Some(start) = next_start(block, window, from, end, found.cost) {
+    let mut from = 0;
+    while let Some(pair) = next_pair(block, window, begin, from, pairs, found.cost) {
         let place = Spot {
             row: i,
-            column: start.at - begin,
+            column: 2 * pair.number,
         };
-        found = consider_rest(block, window, range, found, place, start.first);
-        from = start.at + 1;
+        found = consider_pair(block, window, range, found, place, pair);
+        from = pair.number + 1;
+    }
+    let last = Spot {
+        row: i,
+        column: 2 * usize::from(range),
+    };
+    consider_early(block, window, range, found, last)
+}
+
+/// The best of a known vector and those of row `i`, as `consider_starts` has it, but one by one: in a short row pairs
+/// do not pay.
+#[inline(never)]
+fn consider_short_row(block: &[u8], window: &[u8], range: u8, best: Found, i: usize) -> Found
+    requires block { 256 ≤ length block.now }
+    requires window { (2 * range + 16) * WINDOW_WIDTH ≤ length window.now }
+    requires range { range ≤ 64 }
+    requires i { i ≤ 2 * range }
+    requires best { IsFoundInWindow range (window_cost block.now window.now range) best }
+    ensures kept { IsFoundInWindow range (window_cost block.now window.now range) result }
+    ensures old { IsNoWorse result.cost result.vector best.cost best.vector }
+    ensures here { (j : ℕ) → j ≤ 2 * range → IsNoWorse result.cost result.vector
+        (window_cost block.now window.now range (vector_at range i j)) (vector_at range i j) }
+{
+    let mut found = best;
+    for j in 0..2 * usize::from(range) + 1 {
+        let place = Spot { row: i, column: j };
+        found = consider_early(block, window, range, found, place);
     }
     found
 }
@@ -463,10 +579,13 @@ fn consider_unbounded_row(
     ensures here { (j : ℕ) → j ≤ 2 * range → IsNoWorse result.cost result.vector
         (window_cost block.now window.now range (vector_at range i j)) (vector_at range i j) }
 {
-    if early {
-        return consider_starts(block, window, range, best, i);
+    if !early {
+        return consider_each(block, window, range, best, i);
     }
-    consider_each(block, window, range, best, i)
+    if range < LEAST_PAIRED_RANGE {
+        return consider_short_row(block, window, range, best, i);
+    }
+    consider_starts(block, window, range, best, i)
 }
 
 /// Whether no vector more than `distance` rows away from the centre is better than `best`: it costs nothing, and is no

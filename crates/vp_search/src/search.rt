@@ -20,11 +20,17 @@ use vp_base::{Place, Plane};
 /// The greatest range for which the small window is used; less memory has to be cleared.
 const SMALL_RANGE: u8 = 16;
 
+/// The greatest range of the smallest windows.
+const LEAST_RANGE: u8 = 8;
+
 /// The least range for which a searcher makes the bounds of vectors: below it they cost more than they save.
 pub const LEAST_BOUNDED_RANGE: u8 = 8;
 
 /// The number of pixels in the window of a search of the small range.
 const SMALL_WINDOW: usize = (16 + 2 * SMALL_RANGE as usize) * WINDOW_WIDTH;
+
+/// The pixels of a window within a range of 8.
+const LEAST_WINDOW: usize = (16 + 2 * LEAST_RANGE as usize) * WINDOW_WIDTH;
 
 /// The number of pixels in the window of a search of the greatest range.
 const WHOLE_WINDOW: usize = (16 + 2 * GREATEST_RANGE) * WINDOW_WIDTH;
@@ -59,7 +65,9 @@ pub fn search_block(block: &[u8; 256], reference: &Plane, place: Place, range: u
     ensures least { IsLeast range (whole_cost (block16 block.now) reference.now place) result.vector }
     ensures predicted { result.cost ≡ quarter_cost (block16 block.now) reference.now place (quarters result.vector) }
 {
-    if range <= SMALL_RANGE {
+    if range <= LEAST_RANGE {
+        search_in::<LEAST_WINDOW>(block, reference, place, range)
+    } else if range <= SMALL_RANGE {
         search_in::<SMALL_WINDOW>(block, reference, place, range)
     } else {
         search_in::<WHOLE_WINDOW>(block, reference, place, range)

@@ -1,16 +1,15 @@
-use Rattle.std.proofs.Common.{ℕ, ◌+◌, ◌-◌, ◌<◌, ◌≤◌}
+use Rattle.std.proofs.Common.{ℕ, ◌*◌, ◌-◌, ◌<◌, ◌≤◌}
 use Rattle.vp_search.specs.Least.{IsNoWorse}
 use Rattle.vp_search.specs.Window.{IsFoundInWindow, window_cost, vector_at}
 use Rattle.vp_search.proofs.outward.consider_starts.Given as goal
 
-abbrev pub invariant-loop-start : goal.invariant-loop-start
-invariant-loop-start l = record {
-  later : l.begin ≤ l.from;
-  bound : l.from ≤ l.end;
+abbrev pub invariant-loop-pair : goal.invariant-loop-pair
+invariant-loop-pair l = record {
+  bound : l.from ≤ l.pairs;
   kept : IsFoundInWindow l.range (window_cost l.block l.window l.range) l.found;
   old : IsNoWorse l.found.cost l.found.vector l.fn.best.cost l.fn.best.vector;
-  here : (j : ℕ) → l.begin + j < l.from → IsNoWorse l.found.cost l.found.vector (window_cost l.block l.window l.range (vector_at l.range l.i j)) (vector_at l.range l.i j);
+  here : (j : ℕ) → j < 2 * l.from → IsNoWorse l.found.cost l.found.vector (window_cost l.block l.window l.range (vector_at l.range l.i j)) (vector_at l.range l.i j);
 }
 
-abbrev pub decreases-loop-start : goal.decreases-loop-start
-decreases-loop-start l = l.end - l.from
+abbrev pub decreases-loop-pair : goal.decreases-loop-pair
+decreases-loop-pair l = l.pairs - l.from
