@@ -9,7 +9,8 @@ use Rattle.vp_stream.specs.Seeking.{NoPacket, answer_at}
 use Rattle.vp_stream.specs.Stream.{Stream as StreamState}
 use Rattle.vp_stream.proofs.AnswerLemmas.{answers_stay}
 use Rattle.vp_cache.specs.Cache.{AreAnswersOf, cached_answer}
-use Rattle.vp_cache.specs.Streams.{GrowingKeepsEntries, OneGrowing}
+use Rattle.vp_cache.specs.Cursors.{AreCursorsOf}
+use Rattle.vp_cache.specs.Streams.{GrowingKeepsEntries, OneGrowing, GrowingKeepsCursors, OneGrowingKeepsCursors}
 
 pub grows : GrowingKeepsEntries
 grows number old new entries grown kept = record {
@@ -43,3 +44,18 @@ pub fed_grows : (f : Option FileFault) (limits : Limits) (r : Contents) (piece :
 fed_grows (Some f) limits r piece n h = refl
 fed_grows None limits r piece n h =
     answers_stay limits None r.packets (read_from r.head limits.packet_bytes r.left (r.rest ++ piece)).packets n h
+
+-- ---- cursors
+
+pub cursors_grow : GrowingKeepsCursors
+cursors_grow number old new entries grown kept = record {
+  each = λ e at same. grown e.1 (kept.each e at same);
+}
+
+pub one_cursors_grow : OneGrowingKeepsCursors
+one_cursors_grow k old new streams entries there grown kept i s at = elim (at_place k i old new s streams there at) [
+  | inl here ↦
+      subst (λ (t : StreamState). AreCursorsOf i t entries) (sym here.1)
+      (subst (λ (j : ℕ). AreCursorsOf j new entries) (sym here.0) (cursors_grow k old new entries grown (kept k old there)))
+  | inr was ↦ kept i s was
+]

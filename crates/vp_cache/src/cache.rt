@@ -9,8 +9,11 @@ ghost use Rattle.vp_stream.specs.Stream.{Stream as StreamState};
 ghost use Rattle.vp_cache.specs.Cache.{AreAnswersOf, IsAfter, IsAnswerIf, empty, cached, moved_to_front, put, pair_eq};
 ghost use Rattle.vp_cache.specs.Cache.{lent};
 ghost use Rattle.vp_cache.specs.Cache.{work_beside};
+ghost use Rattle.vp_stream.specs.Cursor.{initial_cursor};
+ghost use Rattle.vp_cache.specs.Cursors.{AreCursorsOf, in_front, after_picture, unless_cached, work_with};
 
 use crate::cached_picture::CachedPicture;
+use crate::cursors::Cursors;
 use lru::LruCache;
 use std::alloc::{AllocError, Global};
 use std::marker::Model;
@@ -113,6 +116,64 @@ impl Cache {
             return Ok(answer);
         }
         let answer = stream.picture_counted(n, work)?;
+        keep(self.alloc, &mut self.entries, (stream_no, n), &answer);
+        Ok(answer)
+    }
+
+    /// Decodes packet `n` of a stream as `picture` does, with cursors: on a cache miss the nearest usable cursor of the
+    /// stream goes on.
+    ///
+    /// Errors: out of memory.
+    pub fn picture_from(
+        &mut self,
+        cursors: &mut Cursors,
+        stream_no: usize,
+        stream: &Stream,
+        n: u32,
+        work: &mut u64,
+    ) -> Result<Answer, AllocError>
+        requires answers { AreAnswersOf stream_no stream.now self.old.entries }
+        requires cursors { AreCursorsOf stream_no stream.now cursors.old.entries }
+        requires limits { stream.now.limits ≡ cursors.old.limits }
+        ensures answer { IfOk result (λ a.
+            answer_value a ≡ answer_at stream.now.limits stream.now.reading.packets n) }
+        ensures stands { IfOk result (λ a. (h : StreamHistory) → IsStreamAfter stream.now h →
+            answer_value a ≡ answer_at stream.now.limits (packets_of stream.now h) n) }
+
+        // A cache hit decodes nothing, and else no more packets are decoded than by any of the stream's cursors.
+        ensures work { OnOk result (work.new ≡ saturating_count work.old (work_with
+            (cached stream_no n self.old.entries) stream_no stream.now.reading.packets n cursors.old.entries)) }
+        ensures most { OnErr result ((work.old ≤ work.new) × (work.new ≤ saturating_count work.old (work_with
+            (cached stream_no n self.old.entries) stream_no stream.now.reading.packets n cursors.old.entries))) }
+
+        // The cache changes as after `picture`.
+        ensures entries { IfOk result (λ a.
+            IsAfter self.old stream_no n (cached stream_no n self.old.entries) (answer_value a) self.new) }
+        ensures kept { AreAnswersOf stream_no stream.now self.new.entries }
+        ensures others { (other : ℕ) (s : StreamState) → other ≢ stream_no →
+            AreAnswersOf other s self.old.entries → AreAnswersOf other s self.new.entries }
+        ensures memory { OnErr result (self.new ≡ self.old) }
+        ensures there { OnErr result (n < length stream.now.reading.packets) }
+
+        // After a cache miss the used cursor is the first, and stands behind packet n. If memory runs out while it
+        // decodes, it stands behind no packet.
+        ensures cursors { OnOk result (cursors.new ≡ unless_cached
+            (cached stream_no n self.old.entries) cursors.old (after_picture cursors.old stream_no stream.now n)) }
+        ensures cleared { OnErr result (cursors.new ≡ unless_cached
+            (cached stream_no n self.old.entries) cursors.old
+            (in_front cursors.old stream_no stream.now.reading.packets n (initial_cursor stream.now.limits))) }
+        ensures cursors_kept { AreCursorsOf stream_no stream.now cursors.new.entries }
+        ensures cursors_of_others { (other : ℕ) (s : StreamState) → other ≢ stream_no →
+            AreCursorsOf other s cursors.old.entries → AreCursorsOf other s cursors.new.entries }
+        ensures same_limits { cursors.new.limits ≡ cursors.old.limits }
+    {
+        let _known = *work;
+        if let Some(kept) = self.cached(stream_no, n) {
+            let answer = kept.answer(self.alloc)?;
+            self.promote(stream_no, n);
+            return Ok(answer);
+        }
+        let answer = cursors.picture_from(stream_no, stream, n, work)?;
         keep(self.alloc, &mut self.entries, (stream_no, n), &answer);
         Ok(answer)
     }
