@@ -1,9 +1,12 @@
 -- The first line of some bytes.
-use Rattle.std.proofs.Common.{suc, ◌+◌, ◌≡◌, ◌==◌, ◌≤◌, ◌∷◌, ◌∙◌, [], ℕ, List, Bool, true, false, not, Some, None, cond, nat_lt, refl, sym, subst, length, take, arith}
+use Rattle.std.proofs.Common.{zero, suc, ◌<◌, ◌+◌, ◌≡◌, ◌==◌, ◌≤◌, ◌∷◌, ◌∙◌, [], ℕ, List, Bool, true, false, not, Some, None, cond, nat_lt, refl, sym, subst, length, take, arith}
 use Rattle.std.specs.List.{position, position_or_len}
 use Rattle.std.proofs.lemmas.Bool.Decides.{nat_tests}
 use Rattle.std.proofs.lemmas.List.{take_all}
-use Rattle.vp_hub.specs.Lines.{IsLine}
+use Rattle.std.specs.Prelude.{slice_get}
+use Rattle.std.proofs.lemmas.Bool.{both_ways, eq-eqb}
+use Rattle.std.proofs.lemmas.Option.{same_Some}
+use Rattle.vp_hub.specs.Lines.{IsLine, LinesEndOnce}
 
 abbrev pub is_line_feed : ℕ → Bool
 is_line_feed b = b == 10
@@ -44,3 +47,9 @@ line_none xs h =
     let e : nat_lt p (length xs) ≡ false = not_chosen (nat_lt p (length xs)) p h in
     let le : length xs ≤ suc p = grind (arith, nat_tests, e) in
     subst IsLine (take_all (suc p) xs le ∙ sym (take_all (length xs) xs (omega arith))) (line_of xs)
+
+pub lines_end_once : LinesEndOnce
+lines_end_once [] i is lt e = absurd (omega (arith, lt))
+lines_end_once (b ∷ []) i is lt e = absurd (omega (arith, lt))
+lines_end_once (b ∷ c ∷ bs) zero is lt e = both_ways (b == 10) is.0 (eq-eqb b 10 (same_Some b 10 e))
+lines_end_once (b ∷ c ∷ bs) (suc i) is lt e = lines_end_once (c ∷ bs) i is.1 (omega (arith, lt)) e

@@ -10,6 +10,9 @@ pub mod Growing
 pub mod NameLemmas
 pub mod Fed
 pub mod FirstLine
+pub mod InTurn
 pub mod Visiting
 pub mod StandingLemmas
 pub mod LimitsLemmas
+mod PlainLemmas
+mod InOrderLemmas

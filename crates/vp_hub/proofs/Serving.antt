@@ -8,7 +8,7 @@ use Rattle.vp_hub.specs.declared.connection.ConnectionState.{ConnectionState}
 use Rattle.vp_heads.specs.Replies.{too_long, reply_to}
 use Rattle.vp_hub.specs.declared.event.Event.{Event}
 use Rattle.vp_hub.specs.Hub.{Chosen, Outcome, ends_head, Settles, TakesByte, Serves, IsStep}
-use Rattle.vp_cache.specs.Cache.{Cache}
+use Rattle.vp_hub.specs.declared.picture_cache.Pictures.{Pictures}
 use Rattle.std.specs.Prelude.{Result, Ok, Err, OnErr, slice_index}
 use Rattle.std.proofs.lemmas.List.{take-append-drop, take_all, drop_more}
 use Rattle.vp_stream.specs.Seeking.{saturating_count}
@@ -48,7 +48,7 @@ serves_unique ss (b ∷ bs) v x y a c =
 
 -- ---- what the bytes cost
 
-pub costs-push : (ss : Streams) (bs : List ℕ) (b : ℕ) (v w x : ConnectionState × List ℕ) (c d e : Cache) (n k : ℕ)
+pub costs-push : (ss : Streams) (bs : List ℕ) (b : ℕ) (v w x : ConnectionState × List ℕ) (c d e : Pictures) (n k : ℕ)
     → Costs ss bs v w c d n → TakesByte ss b w x → CostsByte ss b w.0 d e k → Costs ss (bs ++ b ∷ []) v x c e (n + k)
 costs-push ss [] b v w x c d e n k h takes costs = (
   x,
@@ -60,26 +60,26 @@ costs-push ss [] b v w x c d e n k h takes costs = (
   (refl, refl, refl),
   omega (arith, h.2),
 )
-costs-push ss (a ∷ bs) b v w x c d e n k (mid, cache, first, rest, takes, costs, more, is) then_takes then_costs =
-    (mid, cache, first, rest + k, takes, costs, costs-push ss bs b mid w x cache d e rest k more then_takes then_costs, omega (arith, is))
+costs-push ss (a ∷ bs) b v w x c d e n k (mid, pictures, first, rest, takes, costs, more, is) then_takes then_costs =
+    (mid, pictures, first, rest + k, takes, costs, costs-push ss bs b mid w x pictures d e rest k more then_takes then_costs, omega (arith, is))
 
 -- nothing, for a connection that is closed
-pub costs-closed : (ss : Streams) (bs : List ℕ) (v : ConnectionState × List ℕ) (c : Cache) → v.0.closed ≡ true → Costs ss bs v v c c 0
+pub costs-closed : (ss : Streams) (bs : List ℕ) (v : ConnectionState × List ℕ) (c : Pictures) → v.0.closed ≡ true → Costs ss bs v v c c 0
 costs-closed ss [] v c h = (refl, refl, refl)
 costs-closed ss (b ∷ bs) v c h =
     (v, c, 0, 0, chosen_true v.0.closed _ _ h refl, chosen_true v.0.closed _ _ h (refl, refl), costs-closed ss bs v c h, refl)
 
-pub costs-append : (ss : Streams) (xs ys : List ℕ) (v w x : ConnectionState × List ℕ) (c d e : Cache) (n k : ℕ)
+pub costs-append : (ss : Streams) (xs ys : List ℕ) (v w x : ConnectionState × List ℕ) (c d e : Pictures) (n k : ℕ)
     → Costs ss xs v w c d n → Costs ss ys w x d e k → Costs ss (xs ++ ys) v x c e (n + k)
 costs-append ss [] ys v w x c d e n k h more =
     subst (λ m. Costs ss ys v x c e m) (omega (arith, h.2)) (subst (λ u. Costs ss ys u x c e k) h.0 (subst (λ y. Costs ss ys w x y e k) h.1 more))
-costs-append ss (b ∷ xs) ys v w x c d e n k (mid, cache, first, rest, takes, costs, later, is) more =
-    (mid, cache, first, rest + k, takes, costs, costs-append ss xs ys mid w x cache d e rest k later more, omega (arith, is))
+costs-append ss (b ∷ xs) ys v w x c d e n k (mid, pictures, first, rest, takes, costs, later, is) more =
+    (mid, pictures, first, rest + k, takes, costs, costs-append ss xs ys mid w x pictures d e rest k later more, omega (arith, is))
 
 -- bytes that cost something are served
-pub costs_served : (ss : Streams) (bs : List ℕ) (v w : ConnectionState × List ℕ) (c d : Cache) (n : ℕ) → Costs ss bs v w c d n → Serves ss bs v w
+pub costs_served : (ss : Streams) (bs : List ℕ) (v w : ConnectionState × List ℕ) (c d : Pictures) (n : ℕ) → Costs ss bs v w c d n → Serves ss bs v w
 costs_served ss [] v w c d n h = h.0
-costs_served ss (b ∷ bs) v w c d n (mid, cache, first, rest, takes, costs, more, is) = (mid, takes, costs_served ss bs mid w cache d rest more)
+costs_served ss (b ∷ bs) v w c d n (mid, pictures, first, rest, takes, costs, more, is) = (mid, takes, costs_served ss bs mid w pictures d rest more)
 
 pub counted_more : (n k work old : ℕ) → old ≡ saturating_count 0 n → work ≡ saturating_count old k → work ≡ saturating_count 0 (n + k)
 counted_more n k work old first more = omega (arith, first, more)
@@ -91,7 +91,7 @@ at_most_of : (n k work old : ℕ) → old ≡ saturating_count 0 n → work ≤ 
 at_most_of n k work old first more = omega (arith, first, more)
 
 -- memory was refused at a byte
-pub at_most : {X Y : Type 0} (r : Result X Y) (ss : Streams) (piece : List ℕ) (i : ℕ) (v w : ConnectionState × List ℕ) (c d e : Cache) (n work old : ℕ) → i < length piece
+pub at_most : {X Y : Type 0} (r : Result X Y) (ss : Streams) (piece : List ℕ) (i : ℕ) (v w : ConnectionState × List ℕ) (c d e : Pictures) (n work old : ℕ) → i < length piece
     → Costs ss (take i piece) v w c d n → old ≡ saturating_count 0 n
     → ((k : ℕ) × CostsByteAtMost ss (slice_index piece i) w.0 d e k × (old ≤ work) × (work ≤ saturating_count old k))
     → OnErr r (CostsAtMost ss piece v c e work)
@@ -101,7 +101,7 @@ at_most (Err y) ss piece i v w c d e n work old at h first (k, ends, least, most
   byte = slice_index piece i;
   back = drop (i + 1) piece;
   mid = w;
-  cache = d;
+  pictures = d;
   before = n;
   last = k;
   piece_is = sym (take-append-drop i piece) ∙ ap (λ ys. take i piece ++ ys) (drop_more piece i 0 at);
@@ -112,7 +112,7 @@ at_most (Err y) ss piece i v w c d e n work old at h first (k, ends, least, most
 }
 
 -- behind the place where a connection was closed, nothing more is taken
-pub costs_to_end : (ss : Streams) (piece : List ℕ) (i : ℕ) (v w : ConnectionState × List ℕ) (c d : Cache) (n : ℕ) → w.0.closed ≡ true
+pub costs_to_end : (ss : Streams) (piece : List ℕ) (i : ℕ) (v w : ConnectionState × List ℕ) (c d : Pictures) (n : ℕ) → w.0.closed ≡ true
     → Costs ss (take i piece) v w c d n → Costs ss piece v w c d n
 costs_to_end ss piece i v w c d n closed h =
     subst (λ xs. Costs ss xs v w c d n) (take-append-drop i piece)

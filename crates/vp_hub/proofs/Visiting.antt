@@ -20,6 +20,7 @@ use Rattle.vp_hub.specs.declared.event.HubFault.TheVariants.{Memory, Failed, Alr
 use Rattle.vp_hub.specs.declared.event.Reply.{Reply}
 use Rattle.vp_hub.specs.declared.connection.ConnectionState.{ConnectionState}
 use Rattle.vp_hub.specs.declared.connection.Connection.{Connection}
+use Rattle.vp_hub.specs.declared.picture_cache.Pictures.{Pictures}
 use Rattle.vp_hub.specs.declared.session.ServeFault.{ServeFault}
 use Rattle.vp_hub.specs.declared.session.ServeFault.TheVariants as serve_fault
 use Rattle.vp_hub.specs.Pages.{Streams, IsReply}
@@ -27,11 +28,12 @@ use Rattle.vp_hub.specs.Hub.{Outcome, HubState, IsStep, Chosen, Settles, TakesBy
 use Rattle.vp_hub.specs.View.{is_memory}
 use Rattle.vp_hub.specs.Work.{Hub, IsWorked, IsWorkedRun}
 use Rattle.vp_hub.specs.Lines.{IsLine}
-use Rattle.vp_hub.specs.Sessions.{IsPiece, byte_events, reply_bytes, replies, StaysOpen, AreAnswered, EndsBy, WritesBy, AnsweredBy, IsReadIn, IsWorkedStep, IsOpenSession, IsUnchangedApart, AnswersLine, GoesOn, StopsIn, Exchanges}
+use Rattle.vp_hub.specs.Sessions.{IsPiece, byte_events, reply_bytes, replies, StaysOpen, AreAnswered, EndsBy, WritesBy, AnsweredBy, IsReadIn, IsWorkedStep, GoInTurn, IsOpenSession, IsUnchangedApart, AnswersLine, GoesOn, StopsIn, Exchanges}
 use Rattle.vp_hub.proofs.Cutting.{cut_into_heads, no_bytes_yet}
 use Rattle.vp_hub.proofs.ConnectionStateLemmas.{link_of-with_link, link_of-push, first_of}
 use Rattle.vp_hub.proofs.Isolation.{memory_is, memory_isn't}
 use Rattle.vp_hub.proofs.Serving.{worked_more}
+use Rattle.vp_hub.proofs.InTurn.{in_turn_push}
 
 -- ---- the bytes of a connection, one piece behind the other
 
@@ -192,6 +194,7 @@ pub record IsSpeaking (c : ℕ) (old now : Hub) (handed_in : List ℕ) (before a
   pub unclosed : state_of_connection.closed ≡ false
   pub serves : Serves old.state.streams handed_in (new_connection_state, []) (state_of_connection, replies results)
   pub writes : Appends before after (replies results)
+  pub in_turn : GoInTurn c pieces results old now before after
   pub count : reads ≤ length pieces
 
 none_yet : {X : Type 0} (P : X → Type 0) → All P []
@@ -211,6 +214,7 @@ at_first c old before there = record {
   unclosed = refl;
   serves = refl;
   writes = appends_none before;
+  in_turn = (refl, refl);
   count = omega arith;
 }
 
@@ -241,6 +245,7 @@ module _ (c : ℕ) (old now : Hub) (there : connection_state_of c old.state.conn
     unclosed = h.unclosed;
     serves = h.serves;
     writes = h.writes;
+    in_turn = h.in_turn;
     count = omega (arith, h.count);
   }
 
@@ -272,6 +277,7 @@ module _ (c : ℕ) (old now : Hub) (there : connection_state_of c old.state.conn
     goes_on = h.goes_on;
     ends = ends;
     writes = subst (λ (text : List ℕ). WritesBy o failed text before after) text_none (writes h.writes);
+    in_turn = record { front = h.pieces; final = None; mid = now; between = after; lines_are = sym (append-nil h.pieces); goes_on = h.in_turn; ends = (refl, refl) };
     answered = subst (λ (text : List ℕ). AnsweredBy o old.state.streams handed_in (concat h.pieces) text) text_none
         (subst (λ (bytes : List ℕ). AnsweredBy o old.state.streams handed_in bytes (replies h.results)) h.handed_in_is
         (answers (answered_by_heads old.state.streams handed_in (replies h.results) h.state_of_connection h.serves)));
@@ -317,6 +323,7 @@ module _ (c : ℕ) (old now : Hub) (there : connection_state_of c old.state.conn
         unclosed = sym one.close ∙ close;
         serves = serves_on;
         writes = subst (λ (text : List ℕ). Appends before then text) (sym text_on) (appends_both before after then (replies h.results) reply.bytes h.writes w);
+        in_turn = in_turn_push c h.pieces h.results line (Ok reply) old now new before after then h.in_turn step w;
         count = more_pieces;
       }
 
@@ -340,10 +347,11 @@ module _ (c : ℕ) (old now : Hub) (there : connection_state_of c old.state.conn
       -- the last reply closes, or a write failed
       last : (reply : Reply) (step : IsWorkedStep now (Bytes c line) (Ok reply) new) (o : Result (Unit {0}) ServeFault) (left then : Option (List ℕ)) (failed : Type 0)
           → EndsBy o (Some (Ok reply)) (length pieces_read) left
+          → WritesBy o failed reply.bytes after then
           → WritesBy o failed (replies h.results ++ reply.bytes) before then
           → AnsweredBy o old.state.streams read (concat (h.pieces ++ line ∷ [])) (replies (h.results ++ Ok reply ∷ []))
           → IsOpenSession c old new o read left before then failed
-      last reply step o left then failed ends writes answered = record {
+      last reply step o left then failed ends written writes answered = record {
         reads = pieces_read;
         pieces = h.pieces ++ line ∷ [];
         rest = rest;
@@ -359,19 +367,20 @@ module _ (c : ℕ) (old now : Hub) (there : connection_state_of c old.state.conn
         goes_on = h.goes_on;
         ends = ends;
         writes = subst (λ (text : List ℕ). WritesBy o failed text before then) (sym (replies_push h.results (Ok reply))) writes;
+        in_turn = record { front = h.pieces; final = Some line; mid = now; between = after; lines_are = refl; goes_on = h.in_turn; ends = (step, written) };
         answered = answered;
       }
 
       closing : (reply : Reply) (step : IsWorkedStep now (Bytes c line) (Ok reply) new) (left then : Option (List ℕ)) (failed : Type 0) → reply.close ≡ true → Appends after then reply.bytes
           → IsOpenSession c old new (Ok tt) read left before then failed
       closing reply step left then failed close w =
-          last reply step (Ok tt) left then failed close (appends_both before after then (replies h.results) reply.bytes h.writes w)
+          last reply step (Ok tt) left then failed close w (appends_both before after then (replies h.results) reply.bytes h.writes w)
           (subst (λ (bytes : List ℕ). AreAnswered old.state.streams bytes (replies (h.results ++ Ok reply ∷ []))) (sym is) (answered_past reply step rest close))
 
       unwritten : (reply : Reply) (step : IsWorkedStep now (Bytes c line) (Ok reply) new) (left then : Option (List ℕ)) (failed : Type 0) → failed → AppendsPrefix after then reply.bytes
           → IsOpenSession c old new (Err serve_fault.Device) read left before then failed
       unwritten reply step left then failed fails w =
-          last reply step (Err serve_fault.Device) left then failed refl (inr (fails, front_second before after then (replies h.results) reply.bytes h.writes w)) (answered_so_far reply step)
+          last reply step (Err serve_fault.Device) left then failed refl (inr (fails, w)) (inr (fails, front_second before after then (replies h.results) reply.bytes h.writes w)) (answered_so_far reply step)
 
       module _ (fault : HubFault) (step : IsWorkedStep now (Bytes c line) (Err fault) new) where
         refused_stands : IsUnchangedApart c old.state new.state
@@ -397,6 +406,7 @@ module _ (c : ℕ) (old now : Hub) (there : connection_state_of c old.state.conn
           goes_on = h.goes_on;
           ends = refl;
           writes = subst (λ (text : List ℕ). Appends before after text) text_kept h.writes;
+          in_turn = record { front = h.pieces; final = Some line; mid = now; between = after; lines_are = refl; goes_on = h.in_turn; ends = (step, appends_none after) };
           answered = (handed_in, line, sym handed_in_on, subst (λ (text : List ℕ). AreAnswered old.state.streams handed_in text) text_kept (answered_by_heads old.state.streams handed_in (replies h.results) h.state_of_connection h.serves));
         }
 
@@ -693,14 +703,14 @@ pub come_there : (c : ℕ) (old new : HubState) (reply : Reply) → IsCome c old
 come_there c old new reply h = ap (λ (s : HubState). connection_state_of c s.connections) h.new_is ∙ there_after_push c new_connection_state old.connections h.absent
 
 -- an opening decodes nothing
-pub idle_opening : (c : ℕ) (old new : Hub) (o : Outcome) → IsWorked old (Open c) o new → (new.cache ≡ old.cache) × (new.work ≡ 0)
+pub idle_opening : (c : ℕ) (old new : Hub) (o : Outcome) → IsWorked old (Open c) o new → (new.cache ≡ old.cache) × (new.cursors ≡ old.cursors) × (new.work ≡ 0)
 idle_opening c old new o h = by_memory (is_memory o) refl
   where
-    by_memory : (t : Bool) → is_memory o ≡ t → (new.cache ≡ old.cache) × (new.work ≡ 0)
-    by_memory true e = h.most (memory_is o e)
+    by_memory : (t : Bool) → is_memory o ≡ t → (new.cache ≡ old.cache) × (new.cursors ≡ old.cursors) × (new.work ≡ 0)
+    by_memory true e = let m = h.most (memory_is o e) in (ap (λ (p : Pictures). p.cache) m.0, ap (λ (p : Pictures). p.cursors) m.0, m.1)
     by_memory false e =
         let w = h.work (memory_isn't o e) in
-        (w.1.0, w.2 ∙ ap (λ (n : ℕ). saturating_count 0 n) w.1.1)
+        (ap (λ (p : Pictures). p.cache) w.1.0, ap (λ (p : Pictures). p.cursors) w.1.0, w.2 ∙ ap (λ (n : ℕ). saturating_count 0 n) w.1.1)
 
 -- the going of a connection that came
 pub gone : (c : ℕ) (old first last new : HubState) (reply : Reply) (o : Outcome) → IsCome c old first reply → IsUnchangedApart c first last → IsStep last (Shut c) o new

@@ -9,3 +9,5 @@ pub mod Pieces
 pub mod Lines
 pub mod Sessions
 pub mod Standing
+pub mod Plain
+pub mod InOrder

@@ -1,13 +1,13 @@
 -- The statements of the laws on streams: a stream's bytes are its accepted pieces, and it ends at its accepted end.
 use Rattle.std.specs.Prelude.{◌≡◌, ◌==◌, ◌<◌, ◌++◌, ◌&&◌, ◌||◌, ℕ, Bool, true, false, List, [], ◌∷◌, length, Option}
-use Rattle.std.specs.Prelude.{Some, None, Ok, Err, is_none, slice_get, if◌then◌else◌}
+use Rattle.std.specs.Prelude.{Some, None, Ok, is_none, slice_get, if◌then◌else◌}
 use Rattle.vp_base.specs.declared.limits.Limits.{Limits}
 use Rattle.vp_ivf.specs.Ivf.{Contents}
 use Rattle.vp_ivf.specs.Reader.{finish_answer}
 use Rattle.vp_stream.specs.Answers.{reading_of}
 use Rattle.vp_heads.specs.Routes.{name_index}
 use Rattle.vp_hub.specs.declared.event.Event.{Event}
-use Rattle.vp_hub.specs.declared.event.Event.TheVariants.{Feed, End, Open, Bytes, Shut}
+use Rattle.vp_hub.specs.declared.event.Event.TheVariants.{Feed, End}
 use Rattle.vp_hub.specs.declared.source.Source.{Source}
 use Rattle.vp_hub.specs.declared.source.StreamEnd.{StreamEnd}
 use Rattle.vp_hub.specs.declared.source.StreamEnd.TheVariants as ending

@@ -6,7 +6,7 @@ use Rattle.std.specs.Prelude.{None, Result, Ok, Err, IsOk, All}
 use Rattle.std.specs.List.{concat}
 use Rattle.std.specs.Option.{option_to_list}
 use Rattle.std.specs.Io.KnownBytes.{Appends, IsAtEnd}
-use Rattle.vp_base.specs.Counted.{AppendsPrefix}
+use Rattle.vp_base.specs.Counted.{AppendsPrefix, HasFailed}
 use Rattle.vp_hub.specs.declared.event.Event.{Event}
 use Rattle.vp_hub.specs.declared.event.Event.TheVariants.{Open, Bytes, Shut}
 use Rattle.vp_hub.specs.declared.event.HubFault.{HubFault}
@@ -92,6 +92,43 @@ AnsweredBy (Err (serve_fault.Hub fault)) streams read handed_in text = (front ba
 AnsweredBy (Err serve_fault.Device) streams read handed_in text = AreAnswered streams handed_in text
 AnsweredBy (Err serve_fault.ReadTurns) streams read handed_in text = AreAnswered streams read text
 
+-- ---- line by line
+
+-- one event of a hub with its result, its work, and the cache after it
+abbrev pub IsWorkedStep : Hub → Event → Outcome → Hub → Type 0
+IsWorkedStep old e o new = IsStep old.state e o new.state × IsWorked old e o new
+
+-- Lines handed in one after another. Each finds the hub and the writer as they are after the line before it and the
+-- response to that line: so each response is written before the next line is handed in.
+abbrev pub GoInTurn : ℕ → List (List ℕ) → List Outcome → Hub → Hub → Option (List ℕ) → Option (List ℕ) → Type 0
+GoInTurn c [] [] old new before after = (new ≡ old) × (after ≡ before)
+GoInTurn c (line ∷ lines) (o ∷ os) old new before after =
+    (mid : Hub) × (between : Option (List ℕ)) × IsWorkedStep old (Bytes c line) o mid
+    × Appends before between (reply_bytes o) × GoInTurn c lines os mid new between after
+GoInTurn c [] (o ∷ os) old new before after = ⊥
+GoInTurn c (line ∷ lines) [] old new before after = ⊥
+
+-- the line whose answer ends the session, if there is one: the response is written, or a prefix if a write failed
+abbrev pub EndsInTurn : ℕ → Option (List ℕ) → Option Outcome → Hub → Hub → Result (Unit {0}) ServeFault
+    → Option (List ℕ) → Option (List ℕ) → Type 0 → Type 0
+EndsInTurn c None None old new o before after failed = (new ≡ old) × (after ≡ before)
+EndsInTurn c (Some line) (Some last) old new o before after failed =
+    IsWorkedStep old (Bytes c line) last new × WritesBy o failed (reply_bytes last) before after
+EndsInTurn c None (Some last) old new o before after failed = ⊥
+EndsInTurn c (Some line) None old new o before after failed = ⊥
+
+-- When a line is handed in, the writer holds the responses to all lines before it. `front` are the lines after which
+-- the session goes on; `final` is the one whose answer ends it.
+pub record AreInTurn (c : ℕ) (old new : Hub) (o : Result (Unit {0}) ServeFault) (lines : List (List ℕ))
+    (going : List Outcome) (last : Option Outcome) (before after : Option (List ℕ)) (failed : Type 0) : Type 0 where
+  pub front : List (List ℕ)
+  pub final : Option (List ℕ)
+  pub mid : Hub
+  pub between : Option (List ℕ)
+  pub lines_are : lines ≡ front ++ option_to_list final
+  pub goes_on : GoInTurn c front going old mid before between
+  pub ends : EndsInTurn c final last mid new o between after failed
+
 -- ---- the whole session
 
 -- the bytes are read in these pieces
@@ -100,7 +137,8 @@ pub record IsReadIn (pieces : List (List ℕ)) (read : List ℕ) : Type 0 where
   pub small : All IsPiece pieces
 
 -- A session after its opening and before its shutting. Each line read is a piece that is handed to the hub as an event,
--- in a run with its work; all answers except the last keep the connection open.
+-- in a run with its work; all answers except the last keep the connection open. Each response is written before the
+-- next line is handed in.
 pub record IsOpenSession (c : ℕ) (old new : Hub) (o : Result (Unit {0}) ServeFault) (read : List ℕ)
     (left before after : Option (List ℕ)) (failed : Type 0) : Type 0 where
   pub reads : List (List ℕ)
@@ -118,11 +156,8 @@ pub record IsOpenSession (c : ℕ) (old new : Hub) (o : Result (Unit {0}) ServeF
   pub goes_on : All StaysOpen going
   pub ends : EndsBy o last (length reads) left
   pub writes : WritesBy o failed (replies (going ++ option_to_list last)) before after
+  pub in_turn : AreInTurn c old new o pieces going last before after failed
   pub answered : AnsweredBy o old.state.streams read (concat pieces) (replies (going ++ option_to_list last))
-
--- one event of a hub with its result, its work, and the cache after it
-abbrev pub IsWorkedStep : Hub → Event → Outcome → Hub → Type 0
-IsWorkedStep old e o new = IsStep old.state e o new.state × IsWorked old e o new
 
 -- a session: the connection is opened, served and shut
 pub record IsSession (c : ℕ) (old new : Hub) (o : Result (Unit {0}) ServeFault) (read : List ℕ)
@@ -198,3 +233,14 @@ abbrev pub Exchanges : ℕ → Hub → Hub → Result Bool ServeFault → List �
 Exchanges c old new o piece left before after failed =
     ((piece ≡ []) × (new ≡ old) × (after ≡ before) × ((o ≡ Err serve_fault.Device) ⊎ ((o ≡ Ok false) × IsAtEnd left)))
     ⊎ (IsPiece piece × AnswersPiece c old new o piece before after failed)
+
+-- ---- the statement of the law `replies_come_before_the_next_line`
+
+-- However a session ends, the writer holds the responses to all lines but the last one, and at least a prefix of the
+-- response to that.
+abbrev pub AllButTheLastAreWritten : Type 0
+AllButTheLastAreWritten = (c : ℕ) (old new : Hub) (o : Result (Unit {0}) ServeFault) (read : List ℕ)
+    (left before after : Option (List ℕ)) (failures_before failures_after : ℕ)
+    → (session : IsOpenSession c old new o read left before after (HasFailed failures_before failures_after))
+    → (between : Option (List ℕ)) × Appends before between (replies session.going)
+    × AppendsPrefix between after (replies (option_to_list session.last))

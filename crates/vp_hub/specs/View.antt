@@ -6,8 +6,8 @@ use Rattle.vp_hub.specs.declared.event.Event.{Event}
 use Rattle.vp_hub.specs.declared.event.Event.TheVariants.{Feed, End, Open, Bytes, Shut}
 use Rattle.vp_hub.specs.Pages.{Streams}
 use Rattle.vp_hub.specs.declared.connection.ConnectionState.{ConnectionState}
-use Rattle.vp_hub.specs.declared.event.HubFault.TheVariants.{UnknownStream, Ended, UnknownConn, AlreadyOpen, TooMany}
-use Rattle.vp_hub.specs.declared.event.HubFault.TheVariants.{Failed, Memory}
+use Rattle.vp_hub.specs.declared.event.HubFault.TheVariants.{UnknownConn, AlreadyOpen, TooMany}
+use Rattle.vp_hub.specs.declared.event.HubFault.TheVariants.{Memory}
 use Rattle.vp_hub.specs.Hub.{Outcome, HubState, connection_state_of, fed, ended_source, at_name, Gets, no_bytes}
 use Rattle.vp_hub.specs.Hub.{new_connection_state, IsStep}
 use Rattle.vp_hub.specs.Hub.{initial_hub}

@@ -3,7 +3,7 @@
 ghost use Rattle.std.specs.Prelude.{◌≡◌, ◌≤◌, ◌++◌, ◌∷◌, [], ℕ, List, OnOk, OnErr, false};
 ghost use Rattle.vp_stream.specs.Seeking.{saturating_count};
 ghost use Rattle.vp_hub.specs.Hub.{AreKept, TakesByte, Serves, ends_head};
-ghost use Rattle.vp_hub.specs.Work.{CostsByte, Costs, CostsAtMost, CostsByteAtMost};
+ghost use Rattle.vp_hub.specs.Work.{HaveCursors, CostsByte, Costs, CostsAtMost, CostsByteAtMost};
 
 use crate::connection::ConnectionState;
 use crate::pages::put_reply;
@@ -30,15 +30,17 @@ fn take(
     out: &mut Buffer,
 ) -> Result<(), AllocError>
     requires fresh { state_of_connection.old.closed ≡ false }
-    requires kept { AreKept streams.now.sources pictures.old.cache.entries }
-    ensures kept { AreKept streams.now.sources pictures.new.cache.entries }
+    requires kept { AreKept streams.now.sources pictures.old.kept.cache.entries }
+    requires cursors { HaveCursors streams.now.sources pictures.old.kept.cursors }
+    ensures kept { AreKept streams.now.sources pictures.new.kept.cache.entries }
+    ensures cursors { HaveCursors streams.now.sources pictures.new.kept.cursors }
     ensures took { OnOk result (TakesByte streams.now byte (state_of_connection.old, out.old)
         (state_of_connection.new, out.new)) }
     ensures work { OnOk result ((cost : ℕ)
-        × CostsByte streams.now byte state_of_connection.old pictures.old.cache pictures.new.cache cost
+        × CostsByte streams.now byte state_of_connection.old pictures.old.kept pictures.new.kept cost
         × (pictures.new.work ≡ saturating_count pictures.old.work cost)) }
     ensures most { OnErr result ((cost : ℕ)
-        × CostsByteAtMost streams.now byte state_of_connection.old pictures.old.cache pictures.new.cache cost
+        × CostsByteAtMost streams.now byte state_of_connection.old pictures.old.kept pictures.new.kept cost
         × (pictures.old.work ≤ pictures.new.work) × (pictures.new.work ≤ saturating_count pictures.old.work cost)) }
 {
     let _known = pictures.work;
@@ -70,17 +72,19 @@ pub(crate) fn feed_bytes(
     state_of_connection: &mut ConnectionState,
     out: &mut Buffer,
 ) -> Result<(), AllocError>
-    requires kept { AreKept streams.now.sources pictures.old.cache.entries }
+    requires kept { AreKept streams.now.sources pictures.old.kept.cache.entries }
+    requires cursors { HaveCursors streams.now.sources pictures.old.kept.cursors }
     requires idle { pictures.old.work ≡ 0 }
-    ensures kept { AreKept streams.now.sources pictures.new.cache.entries }
+    ensures kept { AreKept streams.now.sources pictures.new.kept.cache.entries }
+    ensures cursors { HaveCursors streams.now.sources pictures.new.kept.cursors }
     ensures served { OnOk result (Serves streams.now piece.now (state_of_connection.old, out.old)
         (state_of_connection.new, out.new)) }
     ensures work { OnOk result ((cost : ℕ)
         × Costs streams.now piece.now (state_of_connection.old, out.old)
-        (state_of_connection.new, out.new) pictures.old.cache pictures.new.cache cost
+        (state_of_connection.new, out.new) pictures.old.kept pictures.new.kept cost
         × (pictures.new.work ≡ saturating_count 0 cost)) }
     ensures most { OnErr result (CostsAtMost streams.now piece.now
-        (state_of_connection.old, out.old) pictures.old.cache pictures.new.cache pictures.new.work) }
+        (state_of_connection.old, out.old) pictures.old.kept pictures.new.kept pictures.new.work) }
 {
     for byte in piece {
         if state_of_connection.closed {

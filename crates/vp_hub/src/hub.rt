@@ -5,28 +5,30 @@ ghost use Rattle.std.specs.Prelude.{IfOk, OnOk, OnErr, length, vec_len};
 ghost use Rattle.std.specs.Vec.{vec_capacity};
 ghost use Rattle.vp_stream.specs.Seeking.{saturating_count};
 ghost use Rattle.vp_cache.specs.Cache.{empty};
+ghost use Rattle.vp_cache.specs.Cursors.{no_cursors};
 ghost use Rattle.vp_hub.specs.declared.event.Event.{Event};
 ghost use Rattle.vp_hub.specs.declared.event.HubFault.TheVariants.{Memory};
 ghost use Rattle.vp_hub.specs.declared.names.NewFault.{NewFault};
 ghost use Rattle.vp_hub.specs.Heads.{AllKeepPartial};
 ghost use Rattle.vp_hub.specs.Names.{are_names as may_be_names};
 ghost use Rattle.vp_hub.specs.Hub.{AreKept, IsStep, Outcome, HubState, initial_hub, connection_state_of};
-ghost use Rattle.vp_hub.specs.Hub.{with_connection_state, Gets, Asks};
+ghost use Rattle.vp_hub.specs.Hub.{with_connection_state, stream_limits, Gets, Asks};
 ghost use Rattle.vp_hub.specs.Hub.{is_open};
 ghost use Rattle.vp_hub.specs.Pieces.{AreAcceptedEnds, AreAcceptedPieces};
 ghost use Rattle.vp_hub.specs.View.{IsRun, IsIsolated};
-ghost use Rattle.vp_hub.specs.Work.{Costs, CostsAtMost, CostsPiece, CostsPieceAtMost, IsWorked, IsWorkedRun, Hub};
+ghost use Rattle.vp_hub.specs.Work.{HaveCursors, Costs, CostsAtMost, CostsPiece, CostsPieceAtMost, IsWorked};
+ghost use Rattle.vp_hub.specs.Work.{Hub, IsWorkedRun};
 
 use crate::connection::{Connection, ConnectionState, find, open_one, shut_one};
 use crate::event::{Event, HubFault, Reply};
 use crate::feed_bytes::feed_bytes;
 use crate::names::{NewFault, are_names};
-use crate::picture_cache::PictureCache;
-use crate::streams::Streams;
+use crate::picture_cache::{PictureCache, Pictures};
+use crate::streams::{Streams, limits_of_stream};
 use std::alloc::{AllocError, Global};
 use std::marker::Model;
 use vp_base::{ByteList, Limits};
-use vp_cache::Cache;
+use vp_cache::{Cache, Cursors};
 use vp_heads::Buffer;
 
 /// A hub: growing streams, and connections that request their pictures.
@@ -40,23 +42,25 @@ pub struct Hub {
 
 impl Model for Hub {
     ghost use Rattle.vp_hub.specs.Hub.{AreKept};
-    ghost use Rattle.vp_hub.specs.Work.{Hub};
+    ghost use Rattle.vp_hub.specs.Work.{Hub, HaveCursors};
 
     ghost Value = { Hub };
 
     ghost view = { λ h. record {
       state = record { streams = h.streams; connections = h.connections.items };
-      cache = h.pictures.cache;
+      cache = h.pictures.kept.cache;
+      cursors = h.pictures.kept.cursors;
       work = h.pictures.work;
     } };
 
-    // All cached pictures are the answers of the streams.
-    ghost invariant = { λ h. AreKept h.streams.sources h.pictures.cache.entries };
+    // All cached pictures are the answers of the streams, and all cursors are those of the streams.
+    ghost invariant = { λ h. AreKept h.streams.sources h.pictures.kept.cache.entries
+        × HaveCursors h.streams.sources h.pictures.kept.cursors };
 }
 
 impl Hub {
     /// Creates a hub for streams with these names, without bytes and without connections. `limits.cache` is the number
-    /// of cached pictures.
+    /// of cached pictures. A picture that isn't cached is decoded from the last key packet on.
     ///
     /// Errors: `Names` if the names are not valid, `Memory`.
     pub fn new(alloc: Global, names: Vec<ByteList>, limits: Limits) -> Result<Hub, NewFault>
@@ -64,6 +68,30 @@ impl Hub {
         ensures hub { IfOk result (λ h. h ≡ record {
           state = initial_hub names.items limits;
           cache = empty limits.cache;
+          cursors = no_cursors 0 (stream_limits limits);
+          work = 0;
+        }) }
+        ensures partial { IfOk result (λ h. AllKeepPartial h.state) }
+        ensures stands { IfOk result (λ h. IsRun (initial_hub names.items limits) [] [] h.state) }
+    {
+        Hub::with_cursors(alloc, names, limits, 0)
+    }
+
+    /// Creates a hub as `new` does, with at most `cursors` cursors: a picture that isn't cached is decoded from the
+    /// nearest usable cursor on, so that packets in order are decoded once each.
+    ///
+    /// Errors: `Names` if the names are not valid, `Memory`.
+    pub fn with_cursors(
+        alloc: Global,
+        names: Vec<ByteList>,
+        limits: Limits,
+        cursors: u32,
+    ) -> Result<Hub, NewFault>
+        ensures names { (result ≡ Err NewFault.Names) ↔ (may_be_names names.items ≡ false) }
+        ensures hub { IfOk result (λ h. h ≡ record {
+          state = initial_hub names.items limits;
+          cache = empty limits.cache;
+          cursors = no_cursors cursors (stream_limits limits);
           work = 0;
         }) }
         ensures partial { IfOk result (λ h. AllKeepPartial h.state) }
@@ -72,6 +100,9 @@ impl Hub {
         if !are_names(&names) {
             return Err(NewFault::Names);
         }
+        let Ok(cursors) = Cursors::new(alloc, cursors, limits_of_stream(limits)) else {
+            return Err(NewFault::Memory);
+        };
         let Ok(streams) = Streams::new(alloc, names, limits) else {
             return Err(NewFault::Memory);
         };
@@ -82,7 +113,10 @@ impl Hub {
             alloc,
             streams,
             connections: Vec::new(alloc),
-            pictures: PictureCache { cache, work: 0 },
+            pictures: PictureCache {
+                kept: Pictures { cache, cursors },
+                work: 0,
+            },
         })
     }
 
@@ -196,9 +230,11 @@ fn ask(
     number: u32,
     piece: &[u8],
 ) -> Result<Reply, HubFault>
-    requires kept { AreKept streams.now.sources pictures.old.cache.entries }
+    requires kept { AreKept streams.now.sources pictures.old.kept.cache.entries }
+    requires cursors { HaveCursors streams.now.sources pictures.old.kept.cursors }
     requires idle { pictures.old.work ≡ 0 }
-    ensures kept { AreKept streams.now.sources pictures.new.cache.entries }
+    ensures kept { AreKept streams.now.sources pictures.new.kept.cache.entries }
+    ensures cursors { HaveCursors streams.now.sources pictures.new.kept.cursors }
     ensures memory { result ≡ Err Memory → connections.new.items
         ≡ with_connection_state number (record { pending = []; closed = true }) connections.old.items }
     ensures fine { result ≡ Err Memory → is_open (connection_state_of number connections.old.items) ≡ true }
@@ -207,12 +243,12 @@ fn ask(
         (connections.new.items, result) }
     ensures work { result ≢ Err Memory → (cost : ℕ)
         × CostsPiece streams.now piece.now
-        (connection_state_of number connections.old.items) pictures.old.cache pictures.new.cache
+        (connection_state_of number connections.old.items) pictures.old.kept pictures.new.kept
         cost
         × (pictures.new.work ≡ saturating_count 0 cost) }
     ensures most { result ≡ Err Memory →
         CostsPieceAtMost streams.now piece.now
-        (connection_state_of number connections.old.items) pictures.old.cache pictures.new.cache pictures.new.work }
+        (connection_state_of number connections.old.items) pictures.old.kept pictures.new.kept pictures.new.work }
 {
     let Some(place) = find(connections, number) else {
         return Err(HubFault::UnknownConn);
@@ -234,19 +270,21 @@ fn answer(
     state_of_connection: &mut ConnectionState,
     piece: &[u8],
 ) -> Result<Reply, HubFault>
-    requires kept { AreKept streams.now.sources pictures.old.cache.entries }
+    requires kept { AreKept streams.now.sources pictures.old.kept.cache.entries }
+    requires cursors { HaveCursors streams.now.sources pictures.old.kept.cursors }
     requires idle { pictures.old.work ≡ 0 }
-    ensures kept { AreKept streams.now.sources pictures.new.cache.entries }
+    ensures kept { AreKept streams.now.sources pictures.new.kept.cache.entries }
+    ensures cursors { HaveCursors streams.now.sources pictures.new.kept.cursors }
     ensures memory { result ≡ Err Memory → state_of_connection.new ≡ record { pending = []; closed = true } }
     ensures fine { result ≡ Err Memory → state_of_connection.old.closed ≡ false }
     ensures step { result ≢ Err Memory → Gets streams.now piece.now state_of_connection.old
         (state_of_connection.new, result) }
     ensures work { result ≢ Err Memory → (cost : ℕ)
-        × CostsPiece streams.now piece.now (Some state_of_connection.old) pictures.old.cache pictures.new.cache cost
+        × CostsPiece streams.now piece.now (Some state_of_connection.old) pictures.old.kept pictures.new.kept cost
         × (pictures.new.work ≡ saturating_count 0 cost) }
     ensures most { result ≡ Err Memory →
         CostsPieceAtMost streams.now piece.now
-        (Some state_of_connection.old) pictures.old.cache pictures.new.cache pictures.new.work }
+        (Some state_of_connection.old) pictures.old.kept pictures.new.kept pictures.new.work }
 {
     if state_of_connection.closed {
         return Err(HubFault::Failed);

@@ -3,6 +3,12 @@
 ghost use Rattle.vp_hub.specs.Heads.{IsCutIntoHeads};
 ghost use Rattle.vp_hub.specs.Pieces.{NewStreamsAreOpen, NewStreamsHaveNoBytes, RunsAddAcceptedPieces};
 ghost use Rattle.vp_hub.specs.Pieces.{RunsEndAtAcceptedEnds};
+ghost use Rattle.vp_hub.specs.InOrder.{HitsCostNothing, MissesCostTheLeast, NextFrameCostsOne};
+ghost use Rattle.vp_hub.specs.InOrder.{SameFrameCostsNone};
+ghost use Rattle.vp_hub.specs.Plain.{NoRoomIsNone, PlainCosts, PlainCaches, PlainHubsStay, PlainRunsStay};
+ghost use Rattle.vp_hub.specs.Plain.{CursorsCostNoMore};
+ghost use Rattle.vp_hub.specs.Lines.{LinesEndOnce};
+ghost use Rattle.vp_hub.specs.Sessions.{AllButTheLastAreWritten};
 ghost use Rattle.vp_hub.specs.Standing.{StandsToShut, IsTooManyByHistory};
 ghost use Rattle.vp_hub.specs.Turns.{HistoriesAreCut};
 ghost use Rattle.vp_hub.specs.View.{AnswersAlike, NewHubsAnswerAlike, RunsAreIsolated, RunsAreJoined};
@@ -52,4 +58,30 @@ pub fn stands_to_shut()
 /// An `Open` is refused with `TooMany` exactly if there are 64 others, according to the history before it.
 pub fn is_too_many_by_history()
     ensures { IsTooManyByHistory }
+{}
+
+/// A hub without cursors counts the packets from the last key packet on for a picture that isn't cached, caches as
+/// ever, and stays without cursors. With cursors no request decodes more packets than that.
+pub fn plain_hubs_count_as_before()
+    ensures none { NoRoomIsNone }
+    ensures costs { PlainCosts }
+    ensures caches { PlainCaches }
+    ensures stays { PlainHubsStay }
+    ensures runs { PlainRunsStay }
+    ensures less { CursorsCostNoMore }
+{}
+
+/// A cached picture costs no packets, and another one the least number by a cursor of the stream or by none. After a
+/// frame was decoded, with room for a cursor, the next one costs one packet at most, and the same one none.
+pub fn frames_in_order_cost_one_each()
+    ensures hits { HitsCostNothing }
+    ensures misses { MissesCostTheLeast }
+    ensures order { NextFrameCostsOne }
+    ensures again { SameFrameCostsNone }
+{}
+
+/// However a session ends, also if a write failed, the responses to all lines but the last one are written.
+pub fn replies_come_before_the_next_line()
+    ensures written { AllButTheLastAreWritten }
+    ensures lines { LinesEndOnce }
 {}

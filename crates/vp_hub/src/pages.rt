@@ -12,7 +12,8 @@ ghost use Rattle.vp_heads.specs.Replies.{Lines, reply_to};
 ghost use Rattle.vp_hub.specs.Pages.{IsReply, content_of, names_text, info_text, info_content, head_lines, state_by};
 ghost use Rattle.vp_hub.specs.Pages.{front_by, picture_by, picture_content};
 ghost use Rattle.vp_hub.specs.Hub.{AreKept, lent_source};
-ghost use Rattle.vp_hub.specs.Work.{IsAfterRequest, IsAfterPicture, IsCost, IsMostCost, cost_of, picture_cost};
+ghost use Rattle.vp_hub.specs.Work.{AreCursorsFor, HaveCursors, IsAfterRequest, IsAfterPicture, IsLeft, IsLeftPicture};
+ghost use Rattle.vp_hub.specs.Work.{IsCost, IsMostCost, cost_of, picture_cost};
 
 use crate::picture_cache::PictureCache;
 use crate::source::{Source, StreamEnd};
@@ -184,26 +185,30 @@ fn put_picture(
     asked: AskedPicture,
     out: &mut Buffer,
 ) -> Result<(), AllocError>
-    requires { AreAnswersOf asked.place source.now.stream pictures.old.cache.entries }
+    requires kept { AreAnswersOf asked.place source.now.stream pictures.old.kept.cache.entries }
+    requires cursors { AreCursorsFor asked.place source.now.stream pictures.old.kept.cursors }
     ensures content { OnOk result (out.new ≡ out.old ++ reply_to request
         (picture_content asked.video (Some source.now) asked.n)) }
     ensures work { OnOk result (pictures.new.work ≡ saturating_count pictures.old.work
-        (picture_cost (Some source.now) asked.place asked.n pictures.old.cache)) }
+        (picture_cost (Some source.now) asked.place asked.n pictures.old.kept)) }
     ensures most { OnErr result ((pictures.old.work ≤ pictures.new.work)
         × (pictures.new.work ≤ saturating_count pictures.old.work
-        (picture_cost (Some source.now) asked.place asked.n pictures.old.cache))) }
+        (picture_cost (Some source.now) asked.place asked.n pictures.old.kept))) }
     ensures after { OnOk result (IsAfterPicture
-        (Some source.now) asked.place asked.n pictures.old.cache pictures.new.cache) }
-    ensures left { OnErr result ((pictures.new.cache ≡ pictures.old.cache)
-        ⊎ IsAfterPicture (Some source.now) asked.place asked.n pictures.old.cache pictures.new.cache) }
-    ensures kept { AreAnswersOf asked.place source.now.stream pictures.new.cache.entries }
+        (Some source.now) asked.place asked.n pictures.old.kept pictures.new.kept) }
+    ensures left { OnErr result (IsLeftPicture
+        (Some source.now) asked.place asked.n pictures.old.kept pictures.new.kept) }
+    ensures kept { AreAnswersOf asked.place source.now.stream pictures.new.kept.cache.entries }
+    ensures cursors { AreCursorsFor asked.place source.now.stream pictures.new.kept.cursors }
     ensures others { (other : ℕ) (s : StreamState) → other ≢ asked.place →
-        AreAnswersOf other s pictures.old.cache.entries → AreAnswersOf other s pictures.new.cache.entries }
+        AreAnswersOf other s pictures.old.kept.cache.entries → AreAnswersOf other s pictures.new.kept.cache.entries }
+    ensures cursors_of_others { (other : ℕ) (s : StreamState) → other ≢ asked.place →
+        AreCursorsFor other s pictures.old.kept.cursors → AreCursorsFor other s pictures.new.kept.cursors }
 {
     let _known = pictures.work;
     let AskedPicture { place, n, video } = asked;
     let head = source.stream.head();
-    if let Some(kept) = pictures.cache.cached(place, n) {
+    if let Some(kept) = pictures.kept.cache.cached(place, n) {
         put_shown(
             alloc,
             request,
@@ -213,12 +218,16 @@ fn put_picture(
             kept.as_slice(),
             out,
         )?;
-        pictures.cache.promote(place, n);
+        pictures.kept.cache.promote(place, n);
         return Ok(());
     }
-    let answer = pictures
-        .cache
-        .picture(place, &source.stream, n, &mut pictures.work)?;
+    let answer = pictures.kept.cache.picture_from(
+        &mut pictures.kept.cursors,
+        place,
+        &source.stream,
+        n,
+        &mut pictures.work,
+    )?;
     put_answer(alloc, request, video, head, &answer, out)
 }
 
@@ -231,20 +240,21 @@ fn put_picture_of(
     asked: AskedPicture,
     out: &mut Buffer,
 ) -> Result<(), AllocError>
-    requires { AreKept streams.now.sources pictures.old.cache.entries }
+    requires kept { AreKept streams.now.sources pictures.old.kept.cache.entries }
+    requires cursors { HaveCursors streams.now.sources pictures.old.kept.cursors }
     ensures content { OnOk result (out.new ≡ out.old ++ reply_to request
         (picture_content asked.video (slice_get streams.now.sources asked.place) asked.n)) }
     ensures work { OnOk result (pictures.new.work ≡ saturating_count pictures.old.work
-        (picture_cost (slice_get streams.now.sources asked.place) asked.place asked.n pictures.old.cache)) }
+        (picture_cost (slice_get streams.now.sources asked.place) asked.place asked.n pictures.old.kept)) }
     ensures most { OnErr result ((pictures.old.work ≤ pictures.new.work)
         × (pictures.new.work ≤ saturating_count pictures.old.work
-        (picture_cost (slice_get streams.now.sources asked.place) asked.place asked.n pictures.old.cache))) }
+        (picture_cost (slice_get streams.now.sources asked.place) asked.place asked.n pictures.old.kept))) }
     ensures after { OnOk result (IsAfterPicture
-        (slice_get streams.now.sources asked.place) asked.place asked.n pictures.old.cache pictures.new.cache) }
-    ensures left { OnErr result ((pictures.new.cache ≡ pictures.old.cache)
-        ⊎ IsAfterPicture (slice_get streams.now.sources asked.place) asked.place asked.n pictures.old.cache
-        pictures.new.cache) }
-    ensures kept { AreKept streams.now.sources pictures.new.cache.entries }
+        (slice_get streams.now.sources asked.place) asked.place asked.n pictures.old.kept pictures.new.kept) }
+    ensures left { OnErr result (IsLeftPicture
+        (slice_get streams.now.sources asked.place) asked.place asked.n pictures.old.kept pictures.new.kept) }
+    ensures kept { AreKept streams.now.sources pictures.new.kept.cache.entries }
+    ensures cursors { HaveCursors streams.now.sources pictures.new.kept.cursors }
 {
     let _known = pictures.work;
     match streams.source(asked.place) {
@@ -261,17 +271,18 @@ fn put_content(
     request: Request,
     out: &mut Buffer,
 ) -> Result<(), AllocError>
-    requires { AreKept streams.now.sources pictures.old.cache.entries }
+    requires kept { AreKept streams.now.sources pictures.old.kept.cache.entries }
+    requires cursors { HaveCursors streams.now.sources pictures.old.kept.cursors }
     ensures content { OnOk result (out.new ≡ out.old ++ reply_to request (content_of streams.now request.wanted)) }
     ensures work { OnOk result (pictures.new.work ≡ saturating_count pictures.old.work
-        (cost_of streams.now request.wanted pictures.old.cache)) }
+        (cost_of streams.now request.wanted pictures.old.kept)) }
     ensures most { OnErr result ((pictures.old.work ≤ pictures.new.work)
         × (pictures.new.work ≤ saturating_count pictures.old.work
-        (cost_of streams.now request.wanted pictures.old.cache))) }
-    ensures after { OnOk result (IsAfterRequest streams.now request.wanted pictures.old.cache pictures.new.cache) }
-    ensures left { OnErr result ((pictures.new.cache ≡ pictures.old.cache)
-        ⊎ IsAfterRequest streams.now request.wanted pictures.old.cache pictures.new.cache) }
-    ensures kept { AreKept streams.now.sources pictures.new.cache.entries }
+        (cost_of streams.now request.wanted pictures.old.kept))) }
+    ensures after { OnOk result (IsAfterRequest streams.now request.wanted pictures.old.kept pictures.new.kept) }
+    ensures left { OnErr result (IsLeft streams.now request.wanted pictures.old.kept pictures.new.kept) }
+    ensures kept { AreKept streams.now.sources pictures.new.kept.cache.entries }
+    ensures cursors { HaveCursors streams.now.sources pictures.new.kept.cursors }
 {
     let _known = pictures.work;
     match request.wanted {
@@ -308,14 +319,16 @@ pub(crate) fn put_reply(
     head: &[u8],
     out: &mut Buffer,
 ) -> Result<bool, AllocError>
-    requires { AreKept streams.now.sources pictures.old.cache.entries }
+    requires kept { AreKept streams.now.sources pictures.old.kept.cache.entries }
+    requires cursors { HaveCursors streams.now.sources pictures.old.kept.cursors }
     ensures reply { IfOk result (λ close. (bytes : List ℕ) × IsReply streams.now head.now (bytes, close)
         × (out.new ≡ out.old ++ bytes)) }
-    ensures work { OnOk result ((cost : ℕ) × IsCost streams.now head.now pictures.old.cache pictures.new.cache cost
+    ensures work { OnOk result ((cost : ℕ) × IsCost streams.now head.now pictures.old.kept pictures.new.kept cost
         × (pictures.new.work ≡ saturating_count pictures.old.work cost)) }
-    ensures most { OnErr result ((cost : ℕ) × IsMostCost streams.now head.now pictures.old.cache pictures.new.cache cost
+    ensures most { OnErr result ((cost : ℕ) × IsMostCost streams.now head.now pictures.old.kept pictures.new.kept cost
         × (pictures.old.work ≤ pictures.new.work) × (pictures.new.work ≤ saturating_count pictures.old.work cost)) }
-    ensures kept { AreKept streams.now.sources pictures.new.cache.entries }
+    ensures kept { AreKept streams.now.sources pictures.new.kept.cache.entries }
+    ensures cursors { HaveCursors streams.now.sources pictures.new.kept.cursors }
 {
     let request = streams.read(head);
     put_content(alloc, streams, pictures, request, out)?;

@@ -1,14 +1,23 @@
-//! The picture cache of a hub, with a count of decoded packets.
+//! The pictures that a hub keeps, with a count of decoded packets.
 
 ghost use Rattle.std.specs.Prelude.{◌≡◌};
 
-use vp_cache::Cache;
+use vp_cache::{Cache, Cursors};
 
-/// The picture cache, and the number of packets decoded for the last event.
+/// The pictures that a hub keeps: cached ones, and cursors that decode the next ones.
 #[derive(Drop)]
-pub struct PictureCache {
+pub struct Pictures {
     /// The cache.
     pub cache: Cache,
+    /// The cursors of the streams.
+    pub cursors: Cursors,
+}
+
+/// The pictures, and the number of packets decoded for the last event.
+#[derive(Drop)]
+pub struct PictureCache {
+    /// The pictures.
+    pub kept: Pictures,
     /// The number of decoded packets; it saturates at 2^64 - 1.
     pub work: u64,
 }

@@ -56,10 +56,10 @@ pub fn serve_one<R: Read, W: Write>(
     reader: &mut Counted<R>,
     writer: &mut Counted<W>,
 ) -> Result<(), ServeFault>
-    // If the opening is refused, nothing is read, written or decoded, and the cache is unchanged. Else the cache and
-    // the decoded packets are those of the events.
+    // If the opening is refused, nothing is read, written or decoded, and cache and cursors are unchanged. Else these
+    // and the decoded packets are those of the events.
     ensures served { (IsTurnedAway conn hub.old.state hub.new.state result × (hub.new.cache ≡ hub.old.cache)
-        × (reader.new ≡ reader.old) × (writer.new ≡ writer.old) × (hub.new.work ≡ 0))
+        × (hub.new.cursors ≡ hub.old.cursors) × (reader.new ≡ reader.old) × (writer.new ≡ writer.old) × (hub.new.work ≡ 0))
         ⊎ ((read : List ℕ)
         × Consumes (counted_remaining R.remaining reader.old) (counted_remaining R.remaining reader.new) read
         × IsSession conn hub.old hub.new result read (counted_remaining R.remaining reader.new)

@@ -2,7 +2,7 @@
 
 ghost use Rattle.std.specs.Prelude.{◌≡◌, ◌≢◌, Ok, Err, IsOk};
 ghost use Rattle.vp_hub.specs.declared.event.HubFault.TheVariants.{Memory};
-ghost use Rattle.vp_cache.specs.Streams.{IsGrown};
+ghost use Rattle.vp_cache.specs.Streams.{IsGrown, KeepsCursors};
 ghost use Rattle.vp_hub.specs.Hub.{fed, ended_source, is_open_end, no_bytes};
 
 use crate::event::{HubFault, Reply};
@@ -58,6 +58,8 @@ pub(crate) fn feed_source(
     ensures fine { result ≡ Err Memory → IsOk (fed piece.now source.old).1 }
     ensures step { result ≢ Err Memory → (source.new, result) ≡ fed piece.now source.old }
     ensures grown { IsGrown source.old.stream source.new.stream }
+    ensures cursors { KeepsCursors source.old.stream source.new.stream }
+    ensures limits { source.new.stream.limits ≡ source.old.stream.limits }
 {
     feeding_keeps_answers();
     if !is_open(source.end) {
@@ -78,6 +80,8 @@ pub(crate) fn end_source(alloc: Global, source: &mut Source) -> Result<Reply, Hu
     ensures memory { result ≢ Err Memory }
     ensures step { (source.new, result) ≡ ended_source source.old }
     ensures grown { IsGrown source.old.stream source.new.stream }
+    ensures cursors { KeepsCursors source.old.stream source.new.stream }
+    ensures limits { source.new.stream.limits ≡ source.old.stream.limits }
 {
     feeding_keeps_answers();
     if !is_open(source.end) {

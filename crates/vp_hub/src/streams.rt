@@ -8,6 +8,8 @@ ghost use Rattle.vp_heads.specs.Routes.{name_index as place_in};
 ghost use Rattle.vp_hub.specs.declared.event.HubFault.TheVariants.{Memory};
 ghost use Rattle.vp_hub.specs.Hub.{AreKept, at_name, at_place, at_source, fed, ended_source, initial_hub, lent_source};
 ghost use Rattle.vp_hub.specs.Hub.{new_source, stream_limits};
+ghost use Rattle.vp_cache.specs.Cursors.{Cursors as CursorList};
+ghost use Rattle.vp_hub.specs.Work.{HaveCursors};
 
 use crate::event::{HubFault, Reply};
 use crate::source::{Source, StreamEnd, end_source, feed_source};
@@ -39,7 +41,7 @@ impl Model for Streams {
 }
 
 /// Returns the limits of a single stream. It keeps no pictures, so its `cache` is 1.
-fn limits_of_stream(limits: Limits) -> Limits
+pub(crate) fn limits_of_stream(limits: Limits) -> Limits
     ensures { result ≡ stream_limits limits }
 {
     Limits {
@@ -103,7 +105,8 @@ impl Streams {
         self.sources.get(place)
     }
 
-    /// Feeds a piece to the stream with this name. Its cached pictures remain correct.
+    /// Feeds a piece to the stream with this name. Its cached pictures remain correct,
+    /// and its cursors remain valid.
     pub(crate) fn feed(
         &mut self,
         alloc: Global,
@@ -115,6 +118,8 @@ impl Streams {
         ensures step { result ≢ Err Memory → (self.new, result) ≡ at_name (fed piece.now) name.now self.old }
         ensures kept { (entries : List CacheEntry) → AreKept self.old.sources entries
             → AreKept self.new.sources entries }
+        ensures cursors { (cursors : CursorList) → HaveCursors self.old.sources cursors
+            → HaveCursors self.new.sources cursors }
     {
         let Some(place) = place_of(&self.names, name) else {
             return Err(HubFault::UnknownStream);
@@ -131,6 +136,8 @@ impl Streams {
         ensures step { (self.new, result) ≡ at_name ended_source name.now self.old }
         ensures kept { (entries : List CacheEntry) → AreKept self.old.sources entries
             → AreKept self.new.sources entries }
+        ensures cursors { (cursors : CursorList) → HaveCursors self.old.sources cursors
+            → HaveCursors self.new.sources cursors }
     {
         let Some(place) = place_of(&self.names, name) else {
             return Err(HubFault::UnknownStream);

@@ -8,6 +8,8 @@ mod app_serving;
 #[cfg(test)]
 mod connections;
 #[cfg(test)]
+mod cursors;
+#[cfg(test)]
 mod hubs;
 #[cfg(test)]
 mod interleavings;

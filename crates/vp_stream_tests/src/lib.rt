@@ -9,6 +9,8 @@ mod check;
 #[cfg(test)]
 mod cursor;
 #[cfg(test)]
+mod cursors;
+#[cfg(test)]
 mod files;
 #[cfg(test)]
 mod outcomes;

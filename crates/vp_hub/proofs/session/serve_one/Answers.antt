@@ -12,7 +12,7 @@ serve_open-served-requires g c =
 pub returns-in-Err-clause-served : goal.returns-in-Err-clause-served
 returns-in-Err-clause-served g c =
     let idle = idle_opening c.args.conn c.args.hub.now c.step.new.self (Err c.in-Err.fault) c.in-Err.ensures.worked in
-    inl ((c.in-Err.fault, c.in-Err.ensures.step, refl), idle.0, refl, refl, idle.1)
+    inl ((c.in-Err.fault, c.in-Err.ensures.step, refl), idle.0, idle.1, refl, refl, idle.2)
 
 pub returns-clause-served : goal.returns-clause-served
 returns-clause-served g c =

@@ -1,9 +1,12 @@
-use Rattle.std.proofs.Common.{◌≡◌, ◌∙◌, Some, ap, subst, sym}
-use Rattle.std.specs.Prelude.{slice_get}
+use Rattle.std.proofs.Common.{◌≡◌, ◌∙◌, ℕ, List, Some, ap, subst, sym}
+use Rattle.std.specs.Prelude.{slice_get, slice_set}
 use Rattle.std.proofs.lemmas.Option.{slice_get-get_or}
+use Rattle.vp_heads.specs.Routes.{name_index}
 use Rattle.vp_hub.specs.Pages.{Streams}
-use Rattle.vp_hub.specs.Hub.{AreKept}
-use Rattle.vp_hub.proofs.Growing.{one_grows}
+use Rattle.vp_hub.specs.declared.source.Source.{Source}
+use Rattle.vp_hub.specs.Hub.{AreKept, Outcome, at_name, ended_source}
+use Rattle.vp_hub.specs.Work.{HaveCursors}
+use Rattle.vp_hub.proofs.Growing.{at_name_there, one_grows, one_keeps_cursors}
 use Rattle.vp_hub.proofs.streams.Streams.end.Goals as goal
 
 pub returns-clause-kept : goal.returns-clause-kept
@@ -13,3 +16,24 @@ returns-clause-kept c entries kept =
     ∙ ap Some (sym c.in-Some-get_mut.ensures.value) in
     one_grows c.in-Some.place c.in-Some-get_mut.source.now c.end_source.new.source c.self.inside.sources.items entries there c.end_source.ensures.grown
     (subst (λ (s : Streams). AreKept s.sources entries) (sym c.self.view_is) kept)
+
+pub returns-clause-cursors : goal.returns-clause-cursors
+returns-clause-cursors c cursors kept =
+    let there : slice_get c.self.inside.sources.items c.in-Some.place ≡ Some c.in-Some-get_mut.source.now =
+    slice_get-get_or c.self.inside.sources.items c.in-Some.place c.in-Some-get_mut.source.now c.in-Some-get_mut.ensures.item.3.0
+    ∙ ap Some (sym c.in-Some-get_mut.ensures.value) in
+    one_keeps_cursors c.in-Some.place c.in-Some-get_mut.source.now c.end_source.new.source c.self.inside.sources.items cursors there c.end_source.ensures.cursors c.end_source.ensures.limits
+    (subst (λ (s : Streams). HaveCursors s.sources cursors) (sym c.self.view_is) kept)
+
+pub returns-in_default-get_mut-clause-cursors : goal.returns-in_default-get_mut-clause-cursors
+returns-in_default-get_mut-clause-cursors c cursors kept = subst (λ (s : Streams). HaveCursors s.sources cursors) (sym c.self.view_is) kept
+
+pub returns-clause-step : goal.returns-clause-step
+returns-clause-step c =
+    let there : slice_get c.self.inside.sources.items c.in-Some.place ≡ Some c.in-Some-get_mut.source.now =
+    slice_get-get_or c.self.inside.sources.items c.in-Some.place c.in-Some-get_mut.source.now c.in-Some-get_mut.ensures.item.3.0
+    ∙ ap Some (sym c.in-Some-get_mut.ensures.value) in
+    let was : Streams = record { names = c.self.inside.names.items; sources = c.self.inside.sources.items } in
+    let done = at_name_there ended_source c.args.name.now was c.in-Some.place c.in-Some-get_mut.source.now (ap (λ (names : List (List ℕ)). name_index names c.args.name.now) (sym c.deref.ensures.value) ∙ sym c.in-Some.ensures.place) there in
+    subst (λ (s : Streams). (record was { sources = slice_set was.sources c.in-Some.place c.end_source.new.source }, c.end_source.result) ≡ at_name ended_source c.args.name.now s) c.self.view_is
+    (ap (λ (r : Source × Outcome). (record was { sources = slice_set was.sources c.in-Some.place r.0 }, r.1)) c.end_source.ensures.step ∙ sym done)
