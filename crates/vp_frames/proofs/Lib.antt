@@ -1,0 +1,7 @@
+pub mod RangeLemmas
+pub mod PictureLemmas
+pub mod PacketLemmas
+pub mod CountLemmas
+pub mod ReadLemmas
+pub mod WrittenLemmas
+pub mod LawLemmas

@@ -1,0 +1,4 @@
+pub mod Ranges
+pub mod Pictures
+pub mod Reading
+pub mod Written
