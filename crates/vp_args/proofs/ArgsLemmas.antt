@@ -1,6 +1,7 @@
 -- What was found for words, and the plan.
-use Rattle.std.proofs.Common.{◌≡◌, ◌∙◌, ◌⊎◌, ◌<◌, ◌∷◌, ◌++◌, [], inl, inr, ℕ, zero, suc, List, Option, Some, None, Bool, true, false, refl, sym, ap, subst, length, get_or, le_of_suc-le-suc, le_refl, not-suc-le-zero}
+use Rattle.std.proofs.Common.{◌≡◌, ◌∙◌, ◌⊎◌, ◌<◌, ◌+◌, ◌∷◌, ◌++◌, [], inl, inr, ℕ, zero, suc, List, Option, Some, None, Bool, true, false, refl, sym, ap, subst, length, map, take, get_or, le_of_suc-le-suc, le_refl, not-suc-le-zero}
 use Rattle.std.proofs.lemmas.Bool.{le-ltb}
+use Rattle.std.proofs.lemmas.List.{map-append, take_more}
 use Rattle.std.specs.List.{list_all, position_or_len}
 use Rattle.std.specs.Prelude.{◌&&◌, ◌||◌, codes, Result, Ok, Err, IfOk, IfErr}
 use Rattle.std.specs.Borrow.{Bor}
@@ -15,10 +16,13 @@ use Rattle.clap.specs.declared.builder.arg.Arg.{Arg}
 use Rattle.clap.specs.declared.builder.command.Command.{Command}
 use Rattle.clap.specs.declared.builder.command.Command.TheViews.{out-Command as fields_of}
 use Rattle.clap.specs.declared.parser.matches.ArgMatches.{ArgMatches}
-use Rattle.vp_args.specs.declared.args.Task.TheVariants.{Decode, Info, Nothing}
+use Rattle.vp_args.specs.Tables.{part_app, with_parts, word_rule}
+use Rattle.vp_args.specs.declared.words.Part.{Part}
+use Rattle.vp_args.specs.declared.words.Word.{Word}
+use Rattle.vp_args.specs.declared.args.Task.TheVariants.{Info, Nothing}
 use Rattle.vp_args.specs.declared.args.Refusal.{Refusal}
 use Rattle.vp_args.specs.declared.args.Refusal.TheVariants.{Words, Value}
-use Rattle.vp_args.specs.Args.{ParsedArgs, decodes, serves, tells, decode_app, encode_app, faults_of, info_app, serve_app, vp8_app, Gains, IsFlag, IsForMemory, IsNoNaming, IsTaskFor, is_equals, is_parted, program, with_operand, with_operands, with_rules, with_service, asks_many}
+use Rattle.vp_args.specs.Args.{ParsedArgs, serves, tells, decode_app, encode_app, faults_of, info_app, serve_app, vp8_app, Gains, IsFlag, IsForMemory, IsNoNaming, IsTaskFor, is_equals, is_parted, program, with_operand, with_rules, with_service, asks_many}
 
 -- ---- the commands
 
@@ -40,47 +44,27 @@ gains_one old rules mid a r new h adds local is = (
   adds.globals ∙ (globals_stay (fields_of mid).has_globals a.global local ∙ h.1),
 )
 
--- the same of commands that were made, or weren't
-pub gains_next : {E : Type 0} (made : Result Command E) (rules : List Rule) (mid : Result Command E) (a : Arg) (r : Rule) (new : Result Command E)
-    → IfOk mid (λ m. (old : Command) × (made ≡ Ok old) × Gains old rules m)
-    → IfOk new (λ n. (m : Command) × (mid ≡ Ok m) × AddsArg m a n) → a.global ≡ false → rule_of a ≡ r
-    → IfOk new (λ n. (old : Command) × (made ≡ Ok old) × Gains old (rules ++ r ∷ []) n)
-gains_next made rules mid a r (Ok n) h (m, is, adds) local e =
-    let before = subst (λ x. IfOk x (λ m. (old : Command) × (made ≡ Ok old) × Gains old rules m)) is h in
-    (before.0, before.1, gains_one before.0 rules m a r n before.2 adds local e)
-gains_next made rules mid a r (Err f) h k local e = tt
+-- one more word of a table
+pub gains_word : (many : Bool) (old mid new : Command) (words : List Word) (i : ℕ) (d : Word) (a : Arg) → i < length words → Gains old (map (word_rule many) (take i words)) mid
+    → AddsArg mid a new → a.global ≡ false → rule_of a ≡ word_rule many (get_or words i d) → Gains old (map (word_rule many) (take (i + 1) words)) new
+gains_word many old mid new words i d a lt h adds local is =
+    let e = ap (map (word_rule many)) (take_more words i d lt) ∙ map-append (word_rule many) (take i words) (get_or words i d ∷ []) in
+    subst (λ rules. Gains old rules new) (sym e) (gains_one old (map (word_rule many) (take i words)) mid a (word_rule many (get_or words i d)) new h adds local is)
 
-pub gains_first : {E : Type 0} (made : Result Command E) (a : Arg) (r : Rule) (new : Result Command E)
-    → IfOk new (λ n. (m : Command) × (made ≡ Ok m) × AddsArg m a n) → a.global ≡ false → rule_of a ≡ r
-    → IfOk new (λ n. (old : Command) × (made ≡ Ok old) × Gains old (r ∷ []) n)
-gains_first made a r (Ok n) (m, is, adds) local e = (m, is, gains_one m [] m a r n (refl, refl) adds local e)
-gains_first made a r (Err f) k local e = tt
+-- one more subcommand of a table
+with_one_part : (many : Bool) (a : App) (parts : List Part) (p : Part) → with_parts many a (parts ++ p ∷ []) ≡ with_subcommand (with_parts many a parts) (part_app many p).top
+with_one_part many a [] p = refl
+with_one_part many a (x ∷ parts) p = with_one_part many (with_subcommand a (part_app many x).top) parts p
 
--- a command of this shape, where it was made
-abbrev pub IsMade : App → Command → Type 0
-IsMade a c = (app_of c ≡ a) × ((fields_of c).has_globals ≡ false)
+pub gains_part : (many : Bool) (first : App) (old sub new : Command) (parts : List Part) (i : ℕ) (d : Part) → i < length parts
+    → app_of old ≡ with_parts many first (take i parts) → app_of sub ≡ part_app many (get_or parts i d) → (fields_of sub).has_globals ≡ false
+    → AddsSubcommand old sub new → app_of new ≡ with_parts many first (take (i + 1) parts)
+gains_part many first old sub new parts i d lt e f local adds =
+    let one = with_one_part many first (take i parts) (get_or parts i d) in
+    let more = ap (with_parts many first) (take_more parts i d lt) ∙ one in
+    adds.shape local ∙ (ap (λ x. with_subcommand x (app_of sub).top) e ∙ (ap (λ (x : App). with_subcommand (with_parts many first (take i parts)) x.top) f ∙ sym more))
 
-pub gained : {E : Type 0} (made : Result Command E) (a : App) (rules : List Rule) (new : Result Command E) → IfOk made (IsMade a)
-    → IfOk new (λ n. (old : Command) × (made ≡ Ok old) × Gains old rules n) → IfOk new (IsMade (with_rules a rules))
-gained made a rules (Ok n) h (old, is, k) =
-    let before = subst (λ m. IfOk m (IsMade a)) is h in
-    (k.0 ∙ ap (λ x. with_rules x rules) before.0, k.1 ∙ before.1)
-gained made a rules (Err f) h k = tt
-
-pub sub_met : (old sub new : Command) (a b : App) → app_of old ≡ a → app_of sub ≡ b → (fields_of sub).has_globals ≡ false → AddsSubcommand old sub new
-    → app_of new ≡ with_subcommand a b.top
-sub_met old sub new a b e f local adds = adds.shape local ∙ (ap (λ x. with_subcommand x (app_of sub).top) e ∙ ap (λ (x : App). with_subcommand a x.top) f)
-
--- the same of commands that were made, or weren't
-pub made_met : {E : Type 0} (command made new : Result Command E) (a b : App) → IfOk command (λ c. app_of c ≡ a) → IfOk made (λ c. app_of c ≡ b)
-    → IfOk made (λ c. (fields_of c).has_globals ≡ false)
-    → IfOk new (λ n. (old : Command) × (sub : Command) × (command ≡ Ok old) × (made ≡ Ok sub) × AddsSubcommand old sub n)
-    → IfOk new (λ n. app_of n ≡ with_subcommand a b.top)
-made_met command made (Ok n) a b e f local (old, sub, is, sub_is, adds) =
-    sub_met old sub n a b (subst (λ m. IfOk m (λ c. app_of c ≡ a)) is e) (subst (λ m. IfOk m (λ c. app_of c ≡ b)) sub_is f)
-    (subst (λ m. IfOk m (λ c. (fields_of c).has_globals ≡ false)) sub_is local) adds
-made_met command made (Err x) a b e f local h = tt
-
+-- the program of these subcommands
 pub all_met : (many : Bool) (a : App)
     → a ≡ with_subcommand (with_subcommand (with_subcommand (with_subcommand vp8_app decode_app.top) encode_app.top) info_app.top) (serve_app many).top
     → a ≡ program many
@@ -117,16 +101,6 @@ pub flag_is : (text : Option Text) (flag : Bool) → (text ≡ None → flag ≡
     → (text ≡ Some (codes "false") → flag ≡ false) → IsFlag text flag
 flag_is None flag absent set unset = absent refl
 flag_is (Some t) flag absent set unset = (λ e. set (rw e refl), λ e. unset (rw e refl))
-
-pub to_decode : (flag from to : Option Text) (y4m : Bool) (input output : Bor Text) → IsFlag flag y4m → Some input.now ≡ from → Some output.now ≡ to
-    → IsTaskFor (with_operands (decodes flag) from to) (Decode y4m input output)
-to_decode flag from to y4m input output is e f = rw (← e, ← f) (is, refl, refl)
-
-pub no_operands : (ask : Text → Text → ParsedArgs) (from to : Option Text) → (from ≡ None) ⊎ (to ≡ None) → IsTaskFor (with_operands ask from to) Nothing
-no_operands ask None to e = tt
-no_operands ask (Some a) None e = tt
-no_operands ask (Some a) (Some b) (inl e) = cc
-no_operands ask (Some a) (Some b) (inr e) = cc
 
 pub to_tell : (from : Option Text) (input : Bor Text) → Some input.now ≡ from → IsTaskFor (with_operand tells from) (Info input)
 to_tell from input e = rw (← e) refl

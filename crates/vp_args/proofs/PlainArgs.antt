@@ -1,11 +1,11 @@
 -- Words in their plain order.
-use Rattle.std.proofs.Common.{◌≡◌, [], ◌∷◌, Bool, refl}
+use Rattle.std.proofs.Common.{◌≡◌, [], ◌∷◌, Bool, List, Option, None, refl}
 use Rattle.std.specs.Prelude.{Some, codes}
-use Rattle.clap.specs.Walk.{Text}
+use Rattle.clap.specs.Walk.{Row, Text, first_of, one_of}
 use Rattle.clap.specs.Faults.{fault_of}
 use Rattle.clap.specs.Simple.{subcommand_of}
 use Rattle.clap.proofs.OnLiterals.{clap_on_literals}
-use Rattle.vp_args.specs.Args.{parsed_args, parsed_command, asks_many, decodes, faults_of, program, tells, IsOperand}
+use Rattle.vp_args.specs.Args.{parsed_args, parsed_command, asks_many, decodes, decodes_range, faults_of, program, tells, IsOperand}
 
 info_taken_by : (many : Bool) (name input : Text) → IsOperand input → fault_of (program many) (name ∷ codes "info" ∷ input ∷ []) ≡ []
 unfolding program clap_on_literals
@@ -58,3 +58,43 @@ y4m_asked_by many name input output h k = rw (h.separator, h.long, h.short, k.se
 pub y4m_asked : (name input output : Text) → IsOperand input → IsOperand output
     → parsed_args (name ∷ codes "decode" ∷ codes "--y4m" ∷ input ∷ output ∷ []) ≡ decodes (Some (codes "true")) input output
 y4m_asked name input output h k = y4m_asked_by (asks_many (name ∷ codes "decode" ∷ codes "--y4m" ∷ input ∷ output ∷ [])) name input output h k
+
+-- ---- the picture of one packet
+
+-- the options and operands of a subcommand
+rows_in : Option (Text × List Row) → List Row
+rows_in None = []
+rows_in (Some p) = p.1
+
+abbrev frame_words : Text → Text → Text → Text → List Text
+frame_words name number input output = name ∷ codes "decode" ∷ codes "--frame" ∷ number ∷ input ∷ output ∷ []
+
+frame_taken_by : (many : Bool) (name number input output : Text) → IsOperand number → IsOperand input → IsOperand output
+    → fault_of (program many) (frame_words name number input output) ≡ []
+unfolding program clap_on_literals
+frame_taken_by many name number input output n h k =
+    rw (n.separator, n.long, n.short, h.separator, h.long, h.short, k.separator, k.long, k.short) refl
+
+pub frame_taken : (name number input output : Text) → IsOperand number → IsOperand input → IsOperand output
+    → faults_of (frame_words name number input output) ≡ []
+frame_taken name number input output n h k = frame_taken_by (asks_many (frame_words name number input output)) name number input output n h k
+
+abbrev frame_rows : Bool → Text → Text → Text → Text → List Row
+frame_rows many name number input output = rows_in (subcommand_of (program many) (frame_words name number input output))
+
+frame_asked_by : (many : Bool) (name number input output : Text) → IsOperand number → IsOperand input → IsOperand output
+    → (parsed_command (subcommand_of (program many) (frame_words name number input output)) ≡ decodes_range (frame_rows many name number input output) input output)
+    × (first_of (codes "frame") (frame_rows many name number input output) ≡ Some number)
+    × (first_of (codes "frames") (frame_rows many name number input output) ≡ None)
+    × (one_of (codes "y4m") (frame_rows many name number input output) ≡ Some (codes "false"))
+unfolding program clap_on_literals rows_in
+frame_asked_by many name number input output n h k =
+    rw (n.separator, n.long, n.short, h.separator, h.long, h.short, k.separator, k.long, k.short) (refl, refl, refl, refl)
+
+pub frame_asked : (name number input output : Text) → IsOperand number → IsOperand input → IsOperand output
+    → (rows : List Row) × (parsed_args (frame_words name number input output) ≡ decodes_range rows input output) × (first_of (codes "frame") rows ≡ Some number)
+    × (first_of (codes "frames") rows ≡ None) × (one_of (codes "y4m") rows ≡ Some (codes "false"))
+frame_asked name number input output n h k =
+    let many = asks_many (frame_words name number input output) in
+    let asked = frame_asked_by many name number input output n h k in
+    (frame_rows many name number input output, asked.0, asked.1, asked.2, asked.3)

@@ -22,7 +22,7 @@ use Rattle.vp_args.specs.declared.serve_args.ServeManyArgs.{ServeManyArgs}
 use Rattle.vp_args.specs.declared.args.Task.{Task}
 use Rattle.vp_args.specs.declared.args.Refusal.{Refusal}
 use Rattle.vp_args.specs.declared.args.Refusal.TheVariants.{Words, Value}
-use Rattle.vp_args.specs.declared.args.Task.TheVariants.{Decode, Encode, Info, Serve, ServeMany, Nothing}
+use Rattle.vp_args.specs.declared.args.Task.TheVariants.{Decode, DecodeRange, Encode, Info, Serve, ServeMany, Nothing}
 
 -- ---- the commands
 
@@ -56,10 +56,16 @@ abbrev pub Gains : Command → List Rule → Command → Type 0
 Gains old rules new = (app_of new ≡ with_rules (app_of old) rules)
     × ((fields_of new).has_globals ≡ (fields_of old).has_globals)
 
--- vp8 decode [--y4m] IN OUT
+-- the options of `decode`
+abbrev pub picture_rules : List Rule
+picture_rules =
+    flag_rule (codes "y4m") ∷ setting_rule (codes "frame")
+    ∷ setting_rule (codes "frames") ∷ []
+
+-- vp8 decode [--y4m] [--frame N | --frames A-B] IN OUT
 abbrev pub decode_app : App
 decode_app =
-    with_rules (new_app (codes "decode")) (flag_rule (codes "y4m") ∷ operand_rule (codes "IN")
+    with_rules (with_rules (new_app (codes "decode")) picture_rules) (operand_rule (codes "IN")
     ∷ operand_rule (codes "OUT") ∷ [])
 
 -- the options for coding and filtering macroblocks
@@ -105,7 +111,8 @@ service_rules many =
 -- its options for many connections at once
 abbrev pub many_rules : Bool → List Rule
 many_rules many =
-    required_if many (setting_rule (codes "max-connections")) ∷ setting_rule (codes "idle-timeout") ∷ []
+    required_if many (setting_rule (codes "max-connections")) ∷ setting_rule (codes "idle-timeout")
+    ∷ setting_rule (codes "cursors") ∷ []
 
 -- its options for files that grow, and for the log
 abbrev pub follow_rules : List Rule
@@ -144,9 +151,10 @@ abbrev pub is_many_option : Text → Bool
 is_many_option word =
     bytes_eq (before_first is_equals word) (codes "--max-connections")
     || (bytes_eq (before_first is_equals word) (codes "--idle-timeout")
+    || (bytes_eq (before_first is_equals word) (codes "--cursors")
     || (bytes_eq (before_first is_equals word) (codes "--follow")
     || (bytes_eq (before_first is_equals word) (codes "--poll-interval")
-    || bytes_eq (before_first is_equals word) (codes "--access-log"))))
+    || bytes_eq (before_first is_equals word) (codes "--access-log")))))
 
 -- such an argument, or one after it
 abbrev pub asks_many_at : Text → Bool → Bool
@@ -164,6 +172,8 @@ pub data ParsedArgs : Type 0 where
   -- the value of the flag y4m, and the two files
   decodes : Option Text → Text → Text → ParsedArgs
   -- the options, and the two files
+  decodes_range : List Row → Text → Text → ParsedArgs
+  -- the options, and the two files
   encodes : List Row → Text → Text → ParsedArgs
   tells : Text → ParsedArgs
   -- the options, the address, the number of connections, and the operands
@@ -176,6 +186,11 @@ pub data ParsedArgs : Type 0 where
 abbrev pub with_operands : (Text → Text → ParsedArgs) → Option Text → Option Text → ParsedArgs
 with_operands ask (Some input) (Some output) = ask input output
 with_operands ask _ _ = nothing
+
+-- the pictures that `decode` is to write: all, or those of a range if an option says which
+abbrev pub decoding_of : List Row → Option Text → Option Text → Text → Text → ParsedArgs
+decoding_of rows None None = decodes (one_of (codes "y4m") rows)
+decoding_of rows _ _ = decodes_range rows
 
 -- the task, if the operand is present
 abbrev pub with_operand : (Text → ParsedArgs) → Option Text → ParsedArgs
@@ -210,7 +225,8 @@ service_of rows (Some most) = many_of rows
 -- the task, given a subcommand's name and its arguments
 abbrev pub asked_at : Text → List Row → ParsedArgs
 asked_at name rows =
-    if bytes_eq name (codes "decode") then with_operands (decodes (one_of (codes "y4m") rows))
+    if bytes_eq name (codes "decode")
+    then with_operands (decoding_of rows (first_of (codes "frame") rows) (first_of (codes "frames") rows))
     (first_of (codes "IN") rows) (first_of (codes "OUT") rows)
     else (if bytes_eq name (codes "encode") then with_operands (encodes rows) (first_of (codes "IN") rows)
     (first_of (codes "OUT") rows)
@@ -247,6 +263,21 @@ IsDecimal text number = IsNumeral 10 text × (number ≡ digits_value 10 text)
 abbrev pub IsNumber : Option Text → ℕ → ℕ → Type 0
 IsNumber None usual number = number ≡ usual
 IsNumber (Some text) usual number = IsDecimal text number
+
+-- the byte between the numbers of a range
+abbrev pub is_dash : ℕ → Bool
+is_dash byte = byte == 45
+
+-- the text is two decimal numbers, split at its first `-`, and the first is not above the second
+abbrev pub IsSpan : Text → ℕ → ℕ → Type 0
+IsSpan text first last = IsDecimal (before_first is_dash text) first × IsDecimal (after_first is_dash text) last
+    × (first ≤ last)
+
+-- the packets that `--frame` or `--frames` names: one, or those from the first to the last
+abbrev pub AreWanted : Option Text → Option Text → ℕ → ℕ → Type 0
+AreWanted (Some frame) None first last = IsDecimal frame first × (last ≡ first)
+AreWanted None (Some frames) first last = IsSpan frames first last
+AreWanted _ _ first last = ⊥
 
 -- the settings of the encoder, with the defaults
 pub record AreSettings (rows : List Row) (s : EncodeOptions) : Type 0 where
@@ -298,6 +329,7 @@ pub record IsServiceOfMany (rows : List Row) (address : Text) (operands : List T
   pub timeout_is : IsNumber (first_of (codes "idle-timeout") rows) 30 s.idle_timeout
   pub follows : IsFlag (one_of (codes "follow") rows) s.follow
   pub interval_is : IsNumber (first_of (codes "poll-interval") rows) 100 s.poll_interval
+  pub cursors_are : IsNumber (first_of (codes "cursors") rows) 16 s.cursors
   pub logs : IsFlag (one_of (codes "access-log") rows) s.access_log
   pub files : s.follow ≡ true → list_any is_input s.service.streams.items ≡ false
 
@@ -305,6 +337,10 @@ pub record IsServiceOfMany (rows : List Row) (address : Text) (operands : List T
 abbrev pub IsTaskFor : ParsedArgs → Task → Type 0
 IsTaskFor (decodes flag from to) (Decode y4m input output) = IsFlag flag y4m × (input.now ≡ from)
     × (output.now ≡ to)
+IsTaskFor (decodes_range rows from to) (DecodeRange d) =
+    IsFlag (one_of (codes "y4m") rows) d.y4m
+    × AreWanted (first_of (codes "frame") rows) (first_of (codes "frames") rows) d.first d.last × (d.input.now ≡ from)
+    × (d.output.now ≡ to)
 IsTaskFor (encodes rows from to) (Encode e) =
     AreSettings rows e.options × IsFlag (one_of (codes "progress") rows) e.progress × (e.input.now ≡ from)
     × (e.output.now ≡ to)
@@ -324,6 +360,19 @@ IsNoDecimal bound text = IsNumeral 10 text → digits_value 10 text < bound → 
 abbrev pub IsMisnumbered : ℕ → Option Text → Type 0
 IsMisnumbered bound None = ⊥
 IsMisnumbered bound (Some text) = IsNoDecimal bound text
+
+-- a part of the text is not a decimal number below 2 ^ 32, or the first number is above the second
+abbrev pub IsNoSpan : Text → Type 0
+IsNoSpan text =
+    IsNoDecimal (2 ^ 32) (before_first is_dash text) ⊎ (IsNoDecimal (2 ^ 32) (after_first is_dash text)
+    ⊎ digits_value 10 (after_first is_dash text) < digits_value 10 (before_first is_dash text))
+
+-- the value of `--frame` or `--frames` is refused, or both are given
+abbrev pub AreMiswanted : Option Text → Option Text → Type 0
+AreMiswanted (Some frame) (Some frames) = Unit {0}
+AreMiswanted (Some frame) None = IsNoDecimal (2 ^ 32) frame
+AreMiswanted None (Some frames) = IsNoSpan frames
+AreMiswanted None None = ⊥
 
 -- some option of `encode` is not a number of its type
 abbrev pub AreNoSettings : List Row → Type 0
@@ -350,6 +399,11 @@ abbrev pub IsOutside : ℕ → Option Text → Type 0
 IsOutside most None = ⊥
 IsOutside most (Some text) = IsNumeral 10 text → 0 < digits_value 10 text → digits_value 10 text ≤ most → ⊥
 
+-- the option has a value that is not a number from 0 to this one
+abbrev pub IsAbove : ℕ → Option Text → Type 0
+IsAbove most None = ⊥
+IsAbove most (Some text) = IsNumeral 10 text → digits_value 10 text ≤ most → ⊥
+
 -- standard input is to be followed
 abbrev pub FollowsInput : List Row → List Text → Type 0
 FollowsInput rows operands =
@@ -360,12 +414,15 @@ FollowsInput rows operands =
 abbrev pub IsNoServiceOfMany : List Row → List Text → Type 0
 IsNoServiceOfMany rows operands =
     IsOutside 64 (first_of (codes "max-connections") rows) ⊎ (IsOutside 86400 (first_of (codes "idle-timeout") rows)
-    ⊎ (IsOutside 60000 (first_of (codes "poll-interval") rows) ⊎
-    (IsMisnumbered (2 ^ 32) (first_of (codes "connections") rows)
-    ⊎ (IsNoCache (first_of (codes "cache") rows) ⊎ (list_all is_parted operands ≡ false ⊎ FollowsInput rows operands)))))
+    ⊎ (IsOutside 60000 (first_of (codes "poll-interval") rows) ⊎ (IsAbove 64 (first_of (codes "cursors") rows)
+    ⊎ (IsMisnumbered (2 ^ 32) (first_of (codes "connections") rows)
+    ⊎ (IsNoCache (first_of (codes "cache") rows)
+    ⊎ (list_all is_parted operands ≡ false ⊎ FollowsInput rows operands))))))
 
 -- some value is refused
 abbrev pub HasInvalidValue : ParsedArgs → Type 0
+HasInvalidValue (decodes_range rows from to) =
+    AreMiswanted (first_of (codes "frame") rows) (first_of (codes "frames") rows)
 HasInvalidValue (encodes rows from to) = AreNoSettings rows
 HasInvalidValue (serves rows address connections operands) = IsNoService rows connections operands
 HasInvalidValue (serves_many rows address operands) = IsNoServiceOfMany rows operands

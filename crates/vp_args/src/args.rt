@@ -1,23 +1,22 @@
 //! Parses the command line.
 
-ghost use Rattle.std.specs.Prelude.{◌≡◌, ◌<◌, ◌≤◌, ◌^◌, [], IfErr, IfOk, IfSome, None, Ok, codes, false, option_map};
-ghost use Rattle.clap.specs.Words.{app_of, found_of, rows_of, rule_of, subcommand_rows_of};
-ghost use Rattle.clap.specs.Built.{AddsArg, AddsSubcommand};
+ghost use Rattle.std.specs.Prelude.{◌≡◌, ◌<◌, [], IfErr, IfOk, None, Ok, codes, option_map};
+ghost use Rattle.clap.specs.Words.{found_of, rows_of, subcommand_rows_of};
 ghost use Rattle.clap.specs.Kinds.{HasKind};
 ghost use Rattle.clap.specs.Simple.{subcommand_of};
 ghost use Rattle.clap.specs.Walk.{all_of, first_of, one_of, texts};
-ghost use Rattle.clap.specs.declared.builder.command.Command.TheViews.{out-Command as fields_of};
-ghost use Rattle.vp_args.specs.Args.{asked_at, parsed_command, parsed_args, encodes, faults_of, AreNamed, AreNoSettings};
-ghost use Rattle.vp_args.specs.Args.{AreSettings, Gains, IsDecimal, IsFlag, IsMisnumbered, IsNoCache, IsNoDecimal};
-ghost use Rattle.vp_args.specs.Args.{IsNoNaming, IsNoPlanFor, IsNumber, IsOfValue, IsTaskFor, IsRefusalFor, decode_app};
-ghost use Rattle.vp_args.specs.Args.{encode_app, file_rules, flag_rule, frame_rules, info_app, macroblock_rules};
-ghost use Rattle.vp_args.specs.Args.{operand_rule, operands_rule, program, serve_app, serves, setting_rule, vp8_app};
-ghost use Rattle.vp_args.specs.Args.{asks_many, follow_rules, many_rules, service_rules, stream_rules, turns_of};
+ghost use Rattle.vp_args.specs.Args.{asked_at, asks_many, encodes, faults_of, parsed_args, parsed_command, program};
+ghost use Rattle.vp_args.specs.Args.{serves, turns_of, AreNamed, AreNoSettings, AreSettings, IsFlag, IsNoNaming};
+ghost use Rattle.vp_args.specs.Args.{IsNoPlanFor, IsOfValue, IsRefusalFor, IsTaskFor};
 
+use crate::decode_args::DecodeRangeArgs;
 use crate::encode_args::{EncodeArgs, EncodeOptions};
 use crate::many_args::{asks_many, serve_many_task};
+use crate::numbers::{ENCODE_NUMBERS, decimal, kept_pictures, numbers};
+use crate::range_args::decode_task;
 use crate::serve_args::{NamedFile, ServeArgs, ServeManyArgs};
-use clap::{Arg, ArgAction, ArgMatches, Command, Error};
+use crate::words::program;
+use clap::{ArgMatches, Error};
 use std::alloc::{AllocError, Global};
 
 /// The task that the arguments ask for. A file named `-` is standard input or output.
@@ -29,6 +28,8 @@ pub enum Task<'a> {
         input: &'a str,
         output: &'a str,
     },
+    /// Decode a file, and write the pictures of a range of packets.
+    DecodeRange(DecodeRangeArgs<'a>),
     /// Encode a file of pictures.
     Encode(EncodeArgs<'a>),
     /// Print the contents of the file `input`.
@@ -97,350 +98,12 @@ fn read_matches<'a>(alloc: Global, matches: &ArgMatches<'a>) -> Result<Task<'a>,
     ensures refusal { IfErr result (IsNoPlanFor (parsed_command (subcommand_rows_of matches.now))) }
 {
     match matches.subcommand() {
-        Some(("decode", found)) => Ok(decode_task(found)),
+        Some(("decode", found)) => decode_task(found),
         Some(("encode", found)) => encode_task(found),
         Some(("info", found)) => Ok(info_task(found)),
         Some(("serve", found)) => serve_task(alloc, found),
         _ => Ok(Task::Nothing),
     }
-}
-
-fn program<'a>(alloc: Global, many: bool) -> Result<Command<'a>, AllocError>
-    ensures { IfOk result (λ c. app_of c ≡ program many) }
-{
-    let decodes = with_made(Ok(vp8_command(alloc)), decode_command(alloc));
-    let encodes = with_made(decodes, encode_command(alloc));
-    let tells = with_made(encodes, info_command(alloc));
-    with_made(tells, serve_command(alloc, many))
-}
-
-// The program's command, without its subcommands.
-fn vp8_command<'a>(alloc: Global) -> Command<'a>
-    ensures { app_of result ≡ vp8_app }
-{
-    Command::new(alloc, "vp8")
-        .about("Decodes, encodes and serves VP8 video")
-        .version("0.1.0")
-        .disable_help_subcommand(true)
-        .subcommand_required(true)
-}
-
-// Adds a subcommand, unless creating one of the two failed.
-fn with_made<'a>(
-    command: Result<Command<'a>, AllocError>,
-    made: Result<Command<'a>, AllocError>,
-) -> Result<Command<'a>, AllocError>
-    ensures { IfOk result (λ new. (old : _) × (sub : _) × (command.entry ≡ Ok old) × (made.entry ≡ Ok sub)
-        × AddsSubcommand old sub new) }
-{
-    command?.subcommand(made?)
-}
-
-fn decode_command<'a>(alloc: Global) -> Result<Command<'a>, AllocError>
-    ensures app { IfOk result (λ c. app_of c ≡ decode_app) }
-    ensures local { IfOk result (λ c. (fields_of c).has_globals ≡ false) }
-{
-    let command = Command::new(alloc, "decode").about(
-        "Decodes an IVF file and writes each shown picture, one after another",
-    );
-    let y4m = flag(
-        alloc,
-        "y4m",
-        "Writes YUV4MPEG2 (size and rate included) instead of raw I420",
-    );
-    let input = operand(alloc, "IN", "The IVF file, or - for standard input");
-    let output = operand(
-        alloc,
-        "OUT",
-        "The file of pictures, or - for standard output",
-    );
-    with_arg(with_arg(with_arg(Ok(command), y4m), input), output)
-}
-
-// Adds an argument, unless creating the command failed.
-fn with_arg<'a>(
-    command: Result<Command<'a>, AllocError>,
-    arg: Arg<'a>,
-) -> Result<Command<'a>, AllocError>
-    ensures { IfOk result (λ new. (old : _) × (command.entry ≡ Ok old) × AddsArg old arg.entry new) }
-{
-    command?.arg(arg)
-}
-
-fn encode_command<'a>(alloc: Global) -> Result<Command<'a>, AllocError>
-    ensures app { IfOk result (λ c. app_of c ≡ encode_app) }
-    ensures local { IfOk result (λ c. (fields_of c).has_globals ≡ false) }
-{
-    let command = Command::new(alloc, "encode").about(
-        "Encodes a YUV4MPEG2 file (4:2:0) as VP8 in an IVF file and reports frames and squared error",
-    );
-    let macroblocks = with_macroblock_settings(alloc, Ok(command));
-    let frames = with_frame_settings(alloc, macroblocks);
-    with_files(alloc, frames)
-}
-
-// Adds the progress flag and the files.
-fn with_files<'a>(
-    alloc: Global,
-    command: Result<Command<'a>, AllocError>,
-) -> Result<Command<'a>, AllocError>
-    ensures { IfOk result (λ new. (old : _) × (command.entry ≡ Ok old) × Gains old file_rules new) }
-{
-    let progress = flag(
-        alloc,
-        "progress",
-        "Prints the number of encoded frames on standard error after every tenth frame",
-    );
-    let input = operand(alloc, "IN", "The YUV4MPEG2 file, or - for standard input");
-    let output = operand(alloc, "OUT", "The IVF file, or - for standard output");
-    with_arg(with_arg(with_arg(command, progress), input), output)
-}
-
-// Adds the options for coding and filtering macroblocks.
-fn with_macroblock_settings<'a>(
-    alloc: Global,
-    command: Result<Command<'a>, AllocError>,
-) -> Result<Command<'a>, AllocError>
-    ensures { IfOk result (λ new. (old : _) × (command.entry ≡ Ok old) × Gains old macroblock_rules new) }
-{
-    let command = with_arg(
-        command,
-        setting(
-            alloc,
-            "qi",
-            "The quantiser index, 0 (loses least) to 127 [default: 32]",
-        ),
-    );
-    let command = with_arg(
-        command,
-        setting(
-            alloc,
-            "filter",
-            "The level of the loop filter, 0 (none) to 63 [default: 16]",
-        ),
-    );
-    let command = with_arg(
-        command,
-        setting(
-            alloc,
-            "sharpness",
-            "The sharpness of the loop filter, 0 to 7 [default: 0]",
-        ),
-    );
-    with_arg(
-        command,
-        flag(
-            alloc,
-            "simple",
-            "Uses the simple loop filter, which filters luma alone",
-        ),
-    )
-}
-
-// Adds the options for sequences of frames.
-fn with_frame_settings<'a>(
-    alloc: Global,
-    command: Result<Command<'a>, AllocError>,
-) -> Result<Command<'a>, AllocError>
-    ensures { IfOk result (λ new. (old : _) × (command.entry ≡ Ok old) × Gains old frame_rules new) }
-{
-    let command = with_arg(
-        command,
-        setting(
-            alloc,
-            "key-every",
-            "Frames from one key frame to the next, at least 1 [default: 64]",
-        ),
-    );
-    let command = with_arg(
-        command,
-        setting(
-            alloc,
-            "golden-every",
-            "Frames from one golden frame to the next; 0: key frames only [default: 0]",
-        ),
-    );
-    let command = with_arg(
-        command,
-        setting(
-            alloc,
-            "range",
-            "The range of motion vectors in whole pixels, 0 to 64 [default: 16]",
-        ),
-    );
-    let command = with_arg(
-        command,
-        flag(
-            alloc,
-            "subpel",
-            "Refines motion vectors to quarter pixels: fewer bytes, more time",
-        ),
-    );
-    with_arg(
-        command,
-        setting(
-            alloc,
-            "partitions",
-            "Token partitions of a packet: 1, 2, 4 or 8 [default: 1]",
-        ),
-    )
-}
-
-fn info_command<'a>(alloc: Global) -> Result<Command<'a>, AllocError>
-    ensures app { IfOk result (λ c. app_of c ≡ info_app) }
-    ensures local { IfOk result (λ c. (fields_of c).has_globals ≡ false) }
-{
-    Command::new(alloc, "info")
-        .about(
-            "Lists an IVF file: size, rate, and for each packet its bytes and Shown, Hidden or its fault",
-        )
-        .arg(operand(alloc, "IN", "The IVF file, or - for standard input"))
-}
-
-fn serve_command<'a>(alloc: Global, many: bool) -> Result<Command<'a>, AllocError>
-    ensures app { IfOk result (λ c. app_of c ≡ serve_app many) }
-    ensures local { IfOk result (λ c. (fields_of c).has_globals ≡ false) }
-{
-    let command = Command::new(alloc, "serve").about(
-        "Serves frames of IVF files over HTTP, one connection after another, then ends",
-    );
-    let service = with_service_settings(alloc, many, Ok(command));
-    let limits = with_many_settings(alloc, many, service);
-    with_streams(alloc, with_follow_settings(alloc, limits))
-}
-
-// Adds the options of a service.
-fn with_service_settings<'a>(
-    alloc: Global,
-    many: bool,
-    command: Result<Command<'a>, AllocError>,
-) -> Result<Command<'a>, AllocError>
-    ensures { IfOk result (λ new. (old : _) × (command.entry ≡ Ok old) × Gains old (service_rules many) new) }
-{
-    let listen = setting(
-        alloc,
-        "listen",
-        "The address and port to listen on, as 127.0.0.1:8080",
-    )
-    .required(true);
-    let connections = setting(alloc, "connections", "The number of connections to serve").required(
-        !many,
-    );
-    let cache = setting(
-        alloc,
-        "cache",
-        "The number of decoded pictures to cache, 1 to 4096 [default: 16]",
-    );
-    let show_address = flag(
-        alloc,
-        "show-address",
-        "Prints the address and port, which shows the port chosen for port 0",
-    );
-    with_arg(
-        with_arg(with_arg(with_arg(command, listen), connections), cache),
-        show_address,
-    )
-}
-
-// Adds the options for many connections at once.
-fn with_many_settings<'a>(
-    alloc: Global,
-    many: bool,
-    command: Result<Command<'a>, AllocError>,
-) -> Result<Command<'a>, AllocError>
-    ensures { IfOk result (λ new. (old : _) × (command.entry ≡ Ok old) × Gains old (many_rules many) new) }
-{
-    let max_connections = setting(
-        alloc,
-        "max-connections",
-        "Serves up to this many connections at once, 1 to 64; --connections may then be left out",
-    )
-    .required(many);
-    let idle_timeout = setting(
-        alloc,
-        "idle-timeout",
-        "Seconds after which an idle connection is closed, 1 to 86400 [default: 30]",
-    );
-    with_arg(with_arg(command, max_connections), idle_timeout)
-}
-
-// Adds the options for files that grow, and for the log.
-fn with_follow_settings<'a>(
-    alloc: Global,
-    command: Result<Command<'a>, AllocError>,
-) -> Result<Command<'a>, AllocError>
-    ensures { IfOk result (λ new. (old : _) × (command.entry ≡ Ok old) × Gains old follow_rules new) }
-{
-    let follow = flag(alloc, "follow", "Reads the files on as they grow");
-    let poll_interval = setting(
-        alloc,
-        "poll-interval",
-        "Milliseconds between two polls of the files, 1 to 60000 [default: 100]",
-    );
-    let access_log = flag(
-        alloc,
-        "access-log",
-        "Prints a line for each request on standard error",
-    );
-    with_arg(
-        with_arg(with_arg(command, follow), poll_interval),
-        access_log,
-    )
-}
-
-// Adds the streams.
-fn with_streams<'a>(
-    alloc: Global,
-    command: Result<Command<'a>, AllocError>,
-) -> Result<Command<'a>, AllocError>
-    ensures { IfOk result (λ new. (old : _) × (command.entry ≡ Ok old) × Gains old stream_rules new) }
-{
-    let streams = operands(
-        alloc,
-        "NAME=FILE",
-        "The name of a stream and its IVF file, or - for standard input",
-    );
-    with_arg(command, streams)
-}
-
-fn setting<'a>(alloc: Global, name: &'a str, help: &'a str) -> Arg<'a>
-    ensures rule { rule_of result ≡ setting_rule name.entry.now }
-    ensures local { result.global ≡ false }
-{
-    Arg::new(alloc, name)
-        .long(name)
-        .help(help)
-        .action(ArgAction::Set)
-}
-
-fn flag<'a>(alloc: Global, name: &'a str, help: &'a str) -> Arg<'a>
-    ensures rule { rule_of result ≡ flag_rule name.entry.now }
-    ensures local { result.global ≡ false }
-{
-    Arg::new(alloc, name)
-        .long(name)
-        .help(help)
-        .action(ArgAction::SetTrue)
-}
-
-fn operand<'a>(alloc: Global, name: &'a str, help: &'a str) -> Arg<'a>
-    ensures rule { rule_of result ≡ operand_rule name.entry.now }
-    ensures local { result.global ≡ false }
-{
-    Arg::new(alloc, name)
-        .help(help)
-        .required(true)
-        .action(ArgAction::Set)
-}
-
-// Creates an operand that takes one value or more.
-fn operands<'a>(alloc: Global, name: &'a str, help: &'a str) -> Arg<'a>
-    ensures rule { rule_of result ≡ operands_rule name.entry.now }
-    ensures local { result.global ≡ false }
-{
-    operand(alloc, name, help)
-        .num_args(1..)
-        .action(ArgAction::Append)
 }
 
 // Returns the first value of an argument.
@@ -462,16 +125,6 @@ pub(crate) fn is_set(found: &ArgMatches<'_>, name: &str) -> bool
     ensures { IsFlag (one_of name.now (rows_of (found_of found.now))) result }
 {
     found.get_flag(name)
-}
-
-fn decode_task<'a>(found: &ArgMatches<'a>) -> Task<'a>
-    ensures { IsTaskFor (asked_at (codes "decode") (rows_of (found_of found.now))) result }
-{
-    let y4m = is_set(found, "y4m");
-    match (text_of(found, "IN"), text_of(found, "OUT")) {
-        (Some(input), Some(output)) => Task::Decode { y4m, input, output },
-        _ => Task::Nothing,
-    }
 }
 
 fn encode_task<'a>(found: &ArgMatches<'a>) -> Result<Task<'a>, Refusal>
@@ -505,75 +158,26 @@ fn encode_options(found: &ArgMatches<'_>) -> Result<EncodeOptions, Refusal>
     ensures settings { IfOk result (AreSettings (rows_of (found_of found.now))) }
     ensures refusal { IfErr result (λ r. IsOfValue r × AreNoSettings (rows_of (found_of found.now))) }
 {
+    let [
+        qi,
+        level,
+        sharpness,
+        key_every,
+        golden_every,
+        range,
+        partitions,
+    ] = numbers::<7>(found, ENCODE_NUMBERS.as_slice())?;
     Ok(EncodeOptions {
-        qi: byte(found, "qi", 32, "--qi is a decimal number up to 255")?,
-        level: byte(
-            found,
-            "filter",
-            16,
-            "--filter is a decimal number up to 255",
-        )?,
-        sharpness: byte(
-            found,
-            "sharpness",
-            0,
-            "--sharpness is a decimal number up to 255",
-        )?,
+        qi: qi as u8,
+        level: level as u8,
+        sharpness: sharpness as u8,
         simple: is_set(found, "simple"),
-        key_every: count(found, "key-every", 64, "--key-every is a decimal number")?,
-        golden_every: count(
-            found,
-            "golden-every",
-            0,
-            "--golden-every is a decimal number",
-        )?,
-        range: byte(found, "range", 16, "--range is a decimal number up to 255")?,
+        key_every,
+        golden_every,
+        range: range as u8,
         subpel: is_set(found, "subpel"),
-        partitions: byte(
-            found,
-            "partitions",
-            1,
-            "--partitions is a decimal number up to 255",
-        )?,
+        partitions: partitions as u8,
     })
-}
-
-// Returns the 32-bit number of an option, or its default.
-pub(crate) fn count(
-    found: &ArgMatches<'_>,
-    option: &str,
-    usual: u32,
-    refusal: &'static str,
-) -> Result<u32, Refusal>
-    ensures number { IfOk result (IsNumber (first_of option.now (rows_of (found_of found.now))) usual) }
-    ensures refusal { IfErr result (λ r. IsOfValue r × IsMisnumbered (2 ^ 32)
-        (first_of option.now (rows_of (found_of found.now)))) }
-{
-    let Some(text) = text_of(found, option) else {
-        return Ok(usual);
-    };
-    match decimal(text) {
-        Some(number) => Ok(number),
-        None => Err(Refusal::Value(refusal)),
-    }
-}
-
-// Returns the 8-bit number of an option, or its default.
-#[tactic(auto, using(crate::proofs::NumberLemmas::misnumbered_byte, crate::proofs::NumberLemmas::misnumbered_still))]
-fn byte(
-    found: &ArgMatches<'_>,
-    option: &str,
-    usual: u8,
-    refusal: &'static str,
-) -> Result<u8, Refusal>
-    ensures number { IfOk result (IsNumber (first_of option.now (rows_of (found_of found.now))) usual) }
-    ensures refusal { IfErr result (λ r. IsOfValue r × IsMisnumbered 256
-        (first_of option.now (rows_of (found_of found.now)))) }
-{
-    match u8::try_from(count(found, option, u32::from(usual), refusal)?) {
-        Ok(number) => Ok(number),
-        Err(_) => Err(Refusal::Value(refusal)),
-    }
 }
 
 fn info_task<'a>(found: &ArgMatches<'a>) -> Task<'a>
@@ -637,20 +241,6 @@ fn serve_task_args<'a>(
     }))
 }
 
-// Returns the number of cached pictures, 1 to 4096; the default is 16.
-pub(crate) fn kept_pictures(found: &ArgMatches<'_>) -> Result<u32, Refusal>
-    ensures number { IfOk result (λ n. IsNumber (first_of (codes "cache") (rows_of (found_of found.now))) 16 n × (0 < n)
-        × (n ≤ 4096)) }
-    ensures refusal { IfErr result (λ r. IsOfValue r × IsNoCache
-        (first_of (codes "cache") (rows_of (found_of found.now)))) }
-{
-    let cache = count(found, "cache", 16, "--cache is a decimal number")?;
-    if cache == 0 || cache > 4096 {
-        return Err(Refusal::Value("--cache is a number from 1 to 4096"));
-    }
-    Ok(cache)
-}
-
 // Splits operands of the form `NAME=FILE` at the first `=`.
 pub(crate) fn named_files<'a>(
     alloc: Global,
@@ -669,16 +259,4 @@ pub(crate) fn named_files<'a>(
         }
     }
     Ok(streams)
-}
-
-// Parses a decimal number without a sign.
-#[tactic(auto, using(crate::proofs::NumberLemmas::no_plus, crate::proofs::NumberLemmas::no_signed_numeral))]
-fn decimal(text: &str) -> Option<u32>
-    ensures number { IfSome result (IsDecimal text.now) }
-    ensures none { result ≡ None → IsNoDecimal (2 ^ 32) text.now }
-{
-    if text.starts_with('+') {
-        return None;
-    }
-    text.parse::<u32>().ok()
 }

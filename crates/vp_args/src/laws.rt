@@ -1,8 +1,8 @@
 //! Theorems about the command line.
 
-ghost use Rattle.std.specs.Prelude.{◌≡◌, [], ◌∷◌, Some, codes};
-ghost use Rattle.clap.specs.Walk.{Text};
-ghost use Rattle.vp_args.specs.Args.{parsed_args, decodes, faults_of, tells, IsOperand};
+ghost use Rattle.std.specs.Prelude.{◌≡◌, [], ◌∷◌, List, None, Some, codes};
+ghost use Rattle.clap.specs.Walk.{Row, Text, first_of, one_of};
+ghost use Rattle.vp_args.specs.Args.{parsed_args, decodes, decodes_range, faults_of, tells, IsOperand};
 
 /// `vp8 decode IN OUT` and `vp8 decode --y4m IN OUT` ask for exactly that.
 pub fn decode_words()
@@ -13,6 +13,16 @@ pub fn decode_words()
         → (faults_of (name ∷ codes "decode" ∷ codes "--y4m" ∷ input ∷ output ∷ []) ≡ [])
         × (parsed_args (name ∷ codes "decode" ∷ codes "--y4m" ∷ input ∷ output ∷ [])
         ≡ decodes (Some (codes "true")) input output) }
+{}
+
+/// `vp8 decode --frame N IN OUT` asks for the picture of packet N alone.
+pub fn frame_words()
+    ensures { (name number input output : Text) → IsOperand number → IsOperand input → IsOperand output
+        → (faults_of (name ∷ codes "decode" ∷ codes "--frame" ∷ number ∷ input ∷ output ∷ []) ≡ [])
+        × ((rows : List Row)
+        × (parsed_args (name ∷ codes "decode" ∷ codes "--frame" ∷ number ∷ input ∷ output ∷ [])
+        ≡ decodes_range rows input output) × (first_of (codes "frame") rows ≡ Some number)
+        × (first_of (codes "frames") rows ≡ None) × (one_of (codes "y4m") rows ≡ Some (codes "false"))) }
 {}
 
 /// `vp8 info IN` asks for exactly that.

@@ -2,12 +2,17 @@
 #![tactic(auto)]
 
 mod args;
+mod decode_args;
 mod encode_args;
 mod laws;
 mod many_args;
+mod numbers;
+mod range_args;
 mod serve_args;
+mod words;
 
 pub use args::{Refusal, Task, read_args};
+pub use decode_args::DecodeRangeArgs;
 pub use encode_args::{EncodeArgs, EncodeOptions};
-pub use laws::{decode_words, info_words};
+pub use laws::{decode_words, frame_words, info_words};
 pub use serve_args::{NamedFile, ServeArgs, ServeManyArgs};

@@ -40,9 +40,12 @@ pub struct ServeManyArgs<'a> {
     pub follow: bool,
     /// The milliseconds between two polls of the files.
     pub poll_interval: u32,
+    /// The number of decoders that are kept at their places in streams.
+    pub cursors: u32,
     /// Whether a line is printed for each request.
     pub access_log: bool,
     ghost connections_in_range: { 0 < max_connections × max_connections ≤ 64 },
     ghost timeout_in_range: { 0 < idle_timeout × idle_timeout ≤ 86400 },
     ghost interval_in_range: { 0 < poll_interval × poll_interval ≤ 60000 },
+    ghost cursors_in_range: { cursors ≤ 64 },
 }

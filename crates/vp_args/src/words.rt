@@ -1,0 +1,344 @@
+//! The words of each command: a table of its options and operands, with their help.
+
+ghost use Rattle.std.specs.Prelude.{◌≡◌, IfOk, false, map};
+ghost use Rattle.clap.specs.Words.{app_of, rule_of};
+ghost use Rattle.clap.specs.declared.builder.command.Command.TheViews.{out-Command as fields_of};
+ghost use Rattle.vp_args.specs.Args.{Gains, program, vp8_app};
+ghost use Rattle.vp_args.specs.Tables.{is_required, part_app, with_parts, word_rule};
+
+use clap::{Arg, ArgAction, Command};
+use std::alloc::{AllocError, Global};
+
+/// What a word is.
+pub(crate) enum Form {
+    /// A flag.
+    Flag,
+    /// An option with a value.
+    Setting,
+    /// An operand.
+    Operand,
+    /// An operand that takes one value or more.
+    Operands,
+}
+
+/// When a word must be present.
+pub(crate) enum Need {
+    /// Never.
+    Never,
+    /// Always.
+    Always,
+    /// Unless many connections are served at once.
+    InTurns,
+    /// If many connections are served at once.
+    OfMany,
+}
+
+/// An option or an operand.
+pub(crate) struct Word {
+    pub(crate) name: &'static str,
+    pub(crate) form: Form,
+    pub(crate) need: Need,
+    pub(crate) help: &'static str,
+}
+
+/// A subcommand, with its words in the order of its help.
+pub(crate) struct Part {
+    pub(crate) name: &'static str,
+    pub(crate) about: &'static str,
+    pub(crate) words: &'static [Word],
+}
+
+/// The program's subcommands.
+const PARTS: [Part; 4] = [
+    Part {
+        name: "decode",
+        about: "Decodes an IVF file and writes each shown picture, one after another",
+        words: &DECODE_WORDS,
+    },
+    Part {
+        name: "encode",
+        about: "Encodes a YUV4MPEG2 file (4:2:0) as VP8 in an IVF file and reports frames and squared error",
+        words: &ENCODE_WORDS,
+    },
+    Part {
+        name: "info",
+        about: "Lists an IVF file: size, rate, and for each packet its bytes and Shown, Hidden or its fault",
+        words: &INFO_WORDS,
+    },
+    Part {
+        name: "serve",
+        about: "Serves frames of IVF files over HTTP, one connection after another, then ends",
+        words: &SERVE_WORDS,
+    },
+];
+
+const DECODE_WORDS: [Word; 5] = [
+    Word {
+        name: "y4m",
+        form: Form::Flag,
+        need: Need::Never,
+        help: "Writes YUV4MPEG2 (size and rate included) instead of raw I420",
+    },
+    Word {
+        name: "frame",
+        form: Form::Setting,
+        need: Need::Never,
+        help: "Writes the picture of packet N alone, counted from 0",
+    },
+    Word {
+        name: "frames",
+        form: Form::Setting,
+        need: Need::Never,
+        help: "Writes the pictures of packets A to B alone, counted from 0",
+    },
+    Word {
+        name: "IN",
+        form: Form::Operand,
+        need: Need::Always,
+        help: "The IVF file, or - for standard input",
+    },
+    Word {
+        name: "OUT",
+        form: Form::Operand,
+        need: Need::Always,
+        help: "The file of pictures, or - for standard output",
+    },
+];
+
+const ENCODE_WORDS: [Word; 12] = [
+    Word {
+        name: "qi",
+        form: Form::Setting,
+        need: Need::Never,
+        help: "The quantiser index, 0 (loses least) to 127 [default: 32]",
+    },
+    Word {
+        name: "filter",
+        form: Form::Setting,
+        need: Need::Never,
+        help: "The level of the loop filter, 0 (none) to 63 [default: 16]",
+    },
+    Word {
+        name: "sharpness",
+        form: Form::Setting,
+        need: Need::Never,
+        help: "The sharpness of the loop filter, 0 to 7 [default: 0]",
+    },
+    Word {
+        name: "simple",
+        form: Form::Flag,
+        need: Need::Never,
+        help: "Uses the simple loop filter, which filters luma alone",
+    },
+    Word {
+        name: "key-every",
+        form: Form::Setting,
+        need: Need::Never,
+        help: "Frames from one key frame to the next, at least 1 [default: 64]",
+    },
+    Word {
+        name: "golden-every",
+        form: Form::Setting,
+        need: Need::Never,
+        help: "Frames from one golden frame to the next; 0: key frames only [default: 0]",
+    },
+    Word {
+        name: "range",
+        form: Form::Setting,
+        need: Need::Never,
+        help: "The range of motion vectors in whole pixels, 0 to 64 [default: 16]",
+    },
+    Word {
+        name: "subpel",
+        form: Form::Flag,
+        need: Need::Never,
+        help: "Refines motion vectors to quarter pixels: fewer bytes, more time",
+    },
+    Word {
+        name: "partitions",
+        form: Form::Setting,
+        need: Need::Never,
+        help: "Token partitions of a packet: 1, 2, 4 or 8 [default: 1]",
+    },
+    Word {
+        name: "progress",
+        form: Form::Flag,
+        need: Need::Never,
+        help: "Prints the number of encoded frames on standard error after every tenth frame",
+    },
+    Word {
+        name: "IN",
+        form: Form::Operand,
+        need: Need::Always,
+        help: "The YUV4MPEG2 file, or - for standard input",
+    },
+    Word {
+        name: "OUT",
+        form: Form::Operand,
+        need: Need::Always,
+        help: "The IVF file, or - for standard output",
+    },
+];
+
+const INFO_WORDS: [Word; 1] = [Word {
+    name: "IN",
+    form: Form::Operand,
+    need: Need::Always,
+    help: "The IVF file, or - for standard input",
+}];
+
+const SERVE_WORDS: [Word; 11] = [
+    Word {
+        name: "listen",
+        form: Form::Setting,
+        need: Need::Always,
+        help: "The address and port to listen on, as 127.0.0.1:8080",
+    },
+    Word {
+        name: "connections",
+        form: Form::Setting,
+        need: Need::InTurns,
+        help: "The number of connections to serve",
+    },
+    Word {
+        name: "cache",
+        form: Form::Setting,
+        need: Need::Never,
+        help: "The number of decoded pictures to cache, 1 to 4096 [default: 16]",
+    },
+    Word {
+        name: "show-address",
+        form: Form::Flag,
+        need: Need::Never,
+        help: "Prints the address and port, which shows the port chosen for port 0",
+    },
+    Word {
+        name: "max-connections",
+        form: Form::Setting,
+        need: Need::OfMany,
+        help: "Serves up to this many connections at once, 1 to 64; --connections may then be left out",
+    },
+    Word {
+        name: "idle-timeout",
+        form: Form::Setting,
+        need: Need::Never,
+        help: "Seconds after which an idle connection is closed, 1 to 86400 [default: 30]",
+    },
+    Word {
+        name: "cursors",
+        form: Form::Setting,
+        need: Need::Never,
+        help: "Decoders kept at their places in streams, so that packets asked for in order are decoded once each, \
+        0 to 64 [default: 16]",
+    },
+    Word {
+        name: "follow",
+        form: Form::Flag,
+        need: Need::Never,
+        help: "Reads the files on as they grow",
+    },
+    Word {
+        name: "poll-interval",
+        form: Form::Setting,
+        need: Need::Never,
+        help: "Milliseconds between two polls of the files, 1 to 60000 [default: 100]",
+    },
+    Word {
+        name: "access-log",
+        form: Form::Flag,
+        need: Need::Never,
+        help: "Prints a line for each request on standard error",
+    },
+    Word {
+        name: "NAME=FILE",
+        form: Form::Operands,
+        need: Need::Always,
+        help: "The name of a stream and its IVF file, or - for standard input",
+    },
+];
+
+/// The program's command, with its subcommands.
+pub(crate) fn program<'a>(alloc: Global, many: bool) -> Result<Command<'a>, AllocError>
+    ensures { IfOk result (λ c. app_of c ≡ program many) }
+{
+    with_parts(alloc, many, vp8_command(alloc), PARTS.as_slice())
+}
+
+// Adds subcommands to a command.
+fn with_parts<'a>(
+    alloc: Global,
+    many: bool,
+    command: Command<'a>,
+    parts: &[Part],
+) -> Result<Command<'a>, AllocError>
+    ensures { IfOk result (λ new. app_of new ≡ with_parts many (app_of command.entry) parts.now) }
+{
+    let mut command = command;
+    for part in parts {
+        let made = part_command(alloc, many, part)?;
+        command = command.subcommand(made)?;
+    }
+    Ok(command)
+}
+
+// The program's command, without its subcommands.
+fn vp8_command<'a>(alloc: Global) -> Command<'a>
+    ensures { app_of result ≡ vp8_app }
+{
+    Command::new(alloc, "vp8")
+        .about("Decodes, encodes and serves VP8 video")
+        .version("0.1.0")
+        .disable_help_subcommand(true)
+        .subcommand_required(true)
+}
+
+fn part_command<'a>(alloc: Global, many: bool, part: &Part) -> Result<Command<'a>, AllocError>
+    ensures app { IfOk result (λ c. app_of c ≡ part_app many part.now) }
+    ensures local { IfOk result (λ c. (fields_of c).has_globals ≡ false) }
+{
+    let command = Command::new(alloc, part.name).about(part.about);
+    with_words(alloc, many, command, part.words)
+}
+
+// Adds words to a command.
+fn with_words<'a>(
+    alloc: Global,
+    many: bool,
+    command: Command<'a>,
+    words: &[Word],
+) -> Result<Command<'a>, AllocError>
+    ensures { IfOk result (Gains command.entry (map (word_rule many) words.now)) }
+{
+    let mut command = command;
+    for word in words {
+        command = command.arg(argument(alloc, many, word))?;
+    }
+    Ok(command)
+}
+
+fn argument<'a>(alloc: Global, many: bool, word: &Word) -> Arg<'a>
+    ensures rule { rule_of result ≡ word_rule many word.now }
+    ensures local { result.global ≡ false }
+{
+    let arg = Arg::new(alloc, word.name)
+        .help(word.help)
+        .required(is_required(many, &word.need));
+    match word.form {
+        Form::Flag => arg.long(word.name).action(ArgAction::SetTrue),
+        Form::Setting => arg.long(word.name).action(ArgAction::Set),
+        Form::Operand => arg.action(ArgAction::Set),
+        Form::Operands => arg.num_args(1..).action(ArgAction::Append),
+    }
+}
+
+// Whether a word with this need must be present.
+fn is_required(many: bool, need: &Need) -> bool
+    ensures { result ≡ is_required many need.now }
+{
+    match need {
+        Need::Never => false,
+        Need::Always => true,
+        Need::InTurns => !many,
+        Need::OfMany => many,
+    }
+}
