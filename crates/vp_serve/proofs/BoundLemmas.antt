@@ -12,13 +12,14 @@ use Rattle.vp_hub.specs.Hub.{Outcome, HubState, IsStep, Asks, Serves, Chosen, co
 use Rattle.vp_serve.specs.declared.options.ServeOptions.{ServeOptions}
 use Rattle.vp_serve.specs.Connection.{Connection}
 use Rattle.vp_serve.specs.Connections.{connection_of, with_connection, without, new_connection, after_outcome}
-use Rattle.vp_serve.specs.Lines.{IsLine}
+use Rattle.vp_hub.specs.Lines.{IsLine}
 use Rattle.vp_serve.specs.Replies.{AddsOneReply, RepliesAreCurrent}
-use Rattle.vp_serve.specs.ServerLoop.{LoopState, initial, is_full, Action, Accepted, Rejected, Received, Submitted, Sent, Closed, Grown, Fed, Ended, IsTransition, IsTrace}
+use Rattle.vp_serve.specs.ServerLoop.{LoopState, initial, is_full, Action, Accepted, Rejected, Received, Submitted, Sent, Closed, Grown, Fed, Ended, Waited, IsTransition, IsTrace}
 use Rattle.vp_serve.specs.Bounds.{IsConnectionBounded, ConnectionsAreBounded}
 use Rattle.vp_serve.proofs.Changes.{first_of, connection_of-push, connection_of-with_connection, connection_of_other-with_connection, connection_of-without, connection_of_other-without}
 use Rattle.vp_serve.proofs.OneConnection.{number_of, none_some, same_some, no_some, true_false}
 use Rattle.vp_serve.proofs.LineReplies.{one_reply}
+use Rattle.vp_serve.proofs.Served.{given}
 
 -- ---- what the hub replies to a line
 
@@ -127,6 +128,7 @@ one d e (Closed c now reason o) (t, there, is_reason, step, is) all = subst AllA
 one d e (Grown piece) h all = subst AllAreSmall (sym (ap (λ (s : LoopState). s.connections) h.1)) all
 one d e (Fed piece o) h all = subst AllAreSmall (sym (ap (λ (s : LoopState). s.connections) h.2)) all
 one d e (Ended name o) h all = subst AllAreSmall (sym (ap (λ (s : LoopState). s.connections) h.2)) all
+one d e Waited h all = subst AllAreSmall (sym (ap (λ (s : LoopState). s.connections) h.1)) all
 
 -- ---- how many are open
 
@@ -167,6 +169,7 @@ same_options d e (Closed c now reason o) h = ap (λ (s : LoopState). s.options) 
 same_options d e (Grown piece) h = ap (λ (s : LoopState). s.options) h.1
 same_options d e (Fed piece o) h = ap (λ (s : LoopState). s.options) h.2
 same_options d e (Ended name o) h = ap (λ (s : LoopState). s.options) h.2
+same_options d e Waited h = ap (λ (s : LoopState). s.options) h.1
 
 still_few : (d e : LoopState) → e.options ≡ d.options → length e.connections ≤ length d.connections → OuterWeightsAreZero d → OuterWeightsAreZero e
 still_few d e o l few = omega (arith, ap (λ (x : ServeOptions). x.max_connections) o, l, few)
@@ -186,6 +189,7 @@ few d e (Closed c now reason o) h k =
 few d e (Grown piece) h k = still_few d e (same_options d e (Grown piece) h) (omega (arith, ap (λ (s : LoopState). length s.connections) h.1)) k
 few d e (Fed piece o) h k = still_few d e (same_options d e (Fed piece o) h) (omega (arith, ap (λ (s : LoopState). length s.connections) h.2)) k
 few d e (Ended name o) h k = still_few d e (same_options d e (Ended name o) h) (omega (arith, ap (λ (s : LoopState). length s.connections) h.2)) k
+few d e Waited h k = still_few d e (same_options d e Waited h) (omega (arith, ap (λ (s : LoopState). length s.connections) h.1)) k
 
 -- ---- along a trace
 
@@ -204,5 +208,6 @@ along d e (x ∷ xs) all h = along h.0 e xs (one d h.0 x h.1 all) h.2
 pub bounded : ConnectionsAreBounded
 bounded options s xs d h = record {
   count = subst (λ (o : ServeOptions). length d.connections ≤ o.max_connections) (all_options (initial options s) d xs h) (all_few (initial options s) d xs (omega arith) h);
+  given = given options s xs d h;
   small = along (initial options s) d xs (λ c t k. absurd (none_some t k)) h;
 }

@@ -44,7 +44,7 @@ one d e x a b step logs follows = record {
 }
 
 -- one part after another
-pub on : (d e f : LoopState) (a b c : Option (List Transfer)) → ContinuesLoop d e a b → ContinuesLoop e f b c → ContinuesLoop d f a c
+unfoldable pub on : (d e f : LoopState) (a b c : Option (List Transfer)) → ContinuesLoop d e a b → ContinuesLoop e f b c → ContinuesLoop d f a c
 on d e f a b c x y = record {
   trace = x.trace ++ y.trace;
   is_trace = joined d e f x.trace y.trace x.is_trace y.is_trace;

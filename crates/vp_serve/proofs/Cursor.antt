@@ -9,7 +9,8 @@ use Rattle.vp_serve.specs.declared.connection.NextAction.TheVariants.{Send, Subm
 use Rattle.vp_serve.specs.Connection.{Connection}
 use Rattle.vp_serve.specs.Connections.{connection_of, next_action}
 use Rattle.vp_serve.specs.ServerLoop.{LoopState}
-use Rattle.vp_serve.specs.Turns.{AwaitsPeers, IsNextOpen, is_due, is_due_action}
+use Rattle.vp_serve.specs.ServerLoop.{AwaitsPeers}
+use Rattle.vp_serve.specs.Turns.{IsNextOpen, is_due, is_due_action}
 use Rattle.vp_serve.proofs.Changes.{first_of, connection_of-push}
 use Rattle.vp_serve.proofs.OneConnection.{none_some, same_some}
 

@@ -3,7 +3,7 @@ use Rattle.std.proofs.Common.{◌≡◌, ◌++◌, ◌∷◌, ◌∙◌, [], Lis
 use Rattle.vp_hub.specs.Hub.{Outcome}
 use Rattle.vp_hub.specs.View.{is_memory}
 use Rattle.vp_serve.specs.declared.options.FilePiece.{FilePiece}
-use Rattle.vp_serve.specs.ServerLoop.{LoopState, initial, after_feed, Action, Accepted, Rejected, Received, Submitted, Sent, Closed, Grown, Fed, Ended, IsTransition, IsTrace}
+use Rattle.vp_serve.specs.ServerLoop.{LoopState, initial, after_feed, Action, Accepted, Rejected, Received, Submitted, Sent, Closed, Grown, Fed, Ended, Waited, IsTransition, IsTrace}
 use Rattle.vp_serve.specs.Files.{grown_in, fed_in, fed_pieces, FilesAreFed}
 
 -- what waits and what is read are what is fed and what waits then
@@ -32,6 +32,7 @@ one d e (Grown piece) h = ap (λ (w : Option FilePiece). fed_pieces w ++ piece �
 one d e (Fed piece o) h =
     append-nil (fed_pieces d.waiting) ∙ ap fed_pieces h.0 ∙ after_fed piece o ∙ sym (ap (λ (t : LoopState). fed_in (Fed piece o) ++ fed_pieces t.waiting) h.2)
 one d e (Ended name o) h = same d e (Ended name o) refl refl (ap (λ (t : LoopState). t.waiting) h.2)
+one d e Waited h = same d e Waited refl refl (ap (λ (t : LoopState). t.waiting) h.1)
 
 along : (d e : LoopState) (xs : List Action) → IsTrace d xs e → fed_pieces d.waiting ++ flat_map grown_in xs ≡ flat_map fed_in xs ++ fed_pieces e.waiting
 along d e [] h = append-nil (fed_pieces d.waiting) ∙ ap (λ (t : LoopState). fed_pieces t.waiting) (sym h)

@@ -4,7 +4,6 @@ pub mod Traces
 pub mod TraceRuns
 pub mod LoopLemmas
 pub mod Continuing
-pub mod FirstLine
 pub mod OneConnection
 pub mod Served
 pub mod FeedingLemmas
@@ -12,6 +11,10 @@ pub mod LineReplies
 pub mod BoundLemmas
 pub mod SameLemmas
 pub mod Performing
+pub mod Ready
 pub mod Turning
 pub mod Cursor
 pub mod Timeouts
+pub mod LoopTurnLemmas
+pub mod TurnLaws
+pub mod ActionLemmas

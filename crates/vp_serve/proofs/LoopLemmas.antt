@@ -6,7 +6,7 @@ use Rattle.vp_hub.specs.declared.event.Event.TheVariants.{Bytes}
 use Rattle.vp_hub.specs.Hub.{Outcome, HubState, IsStep}
 use Rattle.vp_serve.specs.declared.connection.NextAction.{NextAction}
 use Rattle.vp_serve.specs.declared.connection.NextAction.TheVariants.{Send, Submit}
-use Rattle.vp_serve.specs.Lines.{IsLine}
+use Rattle.vp_hub.specs.Lines.{IsLine}
 use Rattle.vp_serve.specs.Connection.{Connection}
 use Rattle.vp_serve.specs.Connections.{connection_of, unsent_of, unsent_by, next_action, after_outcome, IsPrefix, IsConnectionPlace}
 use Rattle.vp_serve.specs.ServerLoop.{LoopState, Submitted, Sent, IsTransition}

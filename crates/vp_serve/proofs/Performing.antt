@@ -1,6 +1,7 @@
 -- Traces of actions of one kind, one after another.
 use Rattle.std.proofs.Common.{◌≡◌, ◌==◌, ◌||◌, ◌++◌, ◌∷◌, ◌∙◌, ◌+◌, ◌≤◌, ◌⊎◌, inl, inr, [], ℕ, List, Bool, true, false, Option, Some, None, Ok, Err, cond, refl, ap, sym, subst, arith, append-nil, flat_map, option_map}
 use Rattle.std.specs.List.{list_any}
+use Rattle.std.proofs.lemmas.Bool.{eqb-true}
 use Rattle.std.proofs.lemmas.Bool.Decides.{nat_tests}
 use Rattle.std.proofs.lemmas.List.Concat.{flat_map-append}
 use Rattle.vp_hub.specs.Hub.{Outcome}
@@ -9,7 +10,7 @@ use Rattle.vp_serve.specs.declared.connection.NextAction.TheVariants.{Send, Subm
 use Rattle.vp_serve.specs.Connection.{Connection}
 use Rattle.vp_serve.specs.Connections.{connection_of, without, next_action, after_outcome, is_nil}
 use Rattle.vp_serve.specs.Transfer.{Transfer, Logs}
-use Rattle.vp_serve.specs.ServerLoop.{LoopState, Action, IsTransition, IsTrace, Accepted, Rejected, Received, Submitted, Sent, Closed, Grown, Fed, Ended}
+use Rattle.vp_serve.specs.ServerLoop.{LoopState, Action, IsTransition, IsTrace, Accepted, Rejected, Received, Submitted, Sent, Closed, Grown, Fed, Ended, Waited}
 use Rattle.vp_serve.specs.Transport.{ContinuesLoop, transfers_of, ended_names}
 use Rattle.vp_serve.specs.Parts.{Performs, IsTransferOf, IsSubmissionOf, IsArrival}
 use Rattle.vp_serve.specs.Turns.{AreAll, has_actions, AttendsOne, IsOwn, IsAt, IsDueAt, is_due_action, is_of, replies_in, replies_made, reply_count}
@@ -31,6 +32,10 @@ all_as P Q f (x ∷ xs) h = (f x h.0, all_as P Q f xs h.1)
 pub has_both : (xs ys : List Action) → has_actions (xs ++ ys) ≡ has_actions xs || has_actions ys
 has_both [] ys = refl
 has_both (x ∷ xs) ys = refl
+
+pub any_acts : (f : Action → Bool) (xs : List Action) → list_any f xs ≡ true → has_actions xs ≡ true
+any_acts f [] h = h
+any_acts f (x ∷ xs) h = refl
 
 pub made_both : (c : ℕ) (xs ys : List Action) → replies_made c (xs ++ ys) ≡ replies_made c xs + replies_made c ys
 made_both c [] ys = omega arith
@@ -55,7 +60,7 @@ still P m d e a b x h = still_of d e x.trace x.is_trace (x.moves ∙ h)
 pub performs_none : (P : Action → Type 0) (d : LoopState) (a b : Option (List Transfer)) → b ≡ a → Performs P false d d a b
 performs_none P d a b h = record { trace = []; is_trace = refl; logs = logs_none a b h; follows = refl; kind = tt; moves = refl }
 
-pub performs_one : (P : Action → Type 0) (d e : LoopState) (x : Action) (a b : Option (List Transfer)) → IsTransition d x e → Logs a b (transfers_of x) → ended_names x ≡ [] → P x → Performs P true d e a b
+unfoldable pub performs_one : (P : Action → Type 0) (d e : LoopState) (x : Action) (a b : Option (List Transfer)) → IsTransition d x e → Logs a b (transfers_of x) → ended_names x ≡ [] → P x → Performs P true d e a b
 performs_one P d e x a b step logs follows is = record {
   trace = x ∷ [];
   is_trace = (e, step, refl);
@@ -65,7 +70,7 @@ performs_one P d e x a b step logs follows is = record {
   moves = refl;
 }
 
-pub performs_on : (P : Action → Type 0) (m n : Bool) (d e f : LoopState) (a b c : Option (List Transfer)) → Performs P m d e a b → Performs P n e f b c → Performs P (m || n) d f a c
+unfoldable pub performs_on : (P : Action → Type 0) (m n : Bool) (d e f : LoopState) (a b c : Option (List Transfer)) → Performs P m d e a b → Performs P n e f b c → Performs P (m || n) d f a c
 performs_on P m n d e f a b c x y = record {
   trace = x.trace ++ y.trace;
   is_trace = joined d e f x.trace y.trace x.is_trace y.is_trace;
@@ -112,6 +117,7 @@ transfer_is_own c now (Submitted d time line o) h = elim h [ ]
 transfer_is_own c now (Grown piece) h = elim h [ ]
 transfer_is_own c now (Fed piece o) h = elim h [ ]
 transfer_is_own c now (Ended name o) h = elim h [ ]
+transfer_is_own c now Waited h = elim h [ ]
 
 pub submission_is_own : (c now : ℕ) (x : Action) → IsSubmissionOf c now x → IsOwn c now x
 submission_is_own c now (Submitted d time line o) h = h
@@ -123,6 +129,7 @@ submission_is_own c now (Sent d time bytes) h = elim h [ ]
 submission_is_own c now (Grown piece) h = elim h [ ]
 submission_is_own c now (Fed piece o) h = elim h [ ]
 submission_is_own c now (Ended name o) h = elim h [ ]
+submission_is_own c now Waited h = elim h [ ]
 
 pub transfer_is_silent : (k c now : ℕ) (x : Action) → IsTransferOf c now x → replies_in k x ≡ 0
 transfer_is_silent k c now (Received d bytes) h = refl
@@ -134,6 +141,7 @@ transfer_is_silent k c now (Submitted d time line o) h = elim h [ ]
 transfer_is_silent k c now (Grown piece) h = elim h [ ]
 transfer_is_silent k c now (Fed piece o) h = elim h [ ]
 transfer_is_silent k c now (Ended name o) h = elim h [ ]
+transfer_is_silent k c now Waited h = elim h [ ]
 
 pub arrival_is_silent : (k now : ℕ) (x : Action) → IsArrival now x → replies_in k x ≡ 0
 arrival_is_silent k now (Accepted d time) h = refl
@@ -145,6 +153,7 @@ arrival_is_silent k now (Closed d time reason o) h = elim h [ ]
 arrival_is_silent k now (Grown piece) h = elim h [ ]
 arrival_is_silent k now (Fed piece o) h = elim h [ ]
 arrival_is_silent k now (Ended name o) h = elim h [ ]
+arrival_is_silent k now Waited h = elim h [ ]
 
 pub own_is_at : (c now : ℕ) (x : Action) → IsOwn c now x → IsAt now x
 own_is_at c now (Received d bytes) h = tt
@@ -156,6 +165,7 @@ own_is_at c now (Rejected d fault) h = elim h [ ]
 own_is_at c now (Grown piece) h = elim h [ ]
 own_is_at c now (Fed piece o) h = elim h [ ]
 own_is_at c now (Ended name o) h = elim h [ ]
+own_is_at c now Waited h = elim h [ ]
 
 pub arrival_is_at : (now : ℕ) (x : Action) → IsArrival now x → IsAt now x
 arrival_is_at now (Accepted d time) h = h
@@ -167,6 +177,7 @@ arrival_is_at now (Closed d time reason o) h = elim h [ ]
 arrival_is_at now (Grown piece) h = elim h [ ]
 arrival_is_at now (Fed piece o) h = elim h [ ]
 arrival_is_at now (Ended name o) h = elim h [ ]
+arrival_is_at now Waited h = elim h [ ]
 
 differ : (k c d : ℕ) → (c == k) ≡ false → d ≡ c → (d == k) ≡ false
 differ k c d h e = ap (λ n. n == k) e ∙ h
@@ -181,6 +192,7 @@ own_is_silent k c now n (Rejected d fault) h = elim h [ ]
 own_is_silent k c now n (Grown piece) h = elim h [ ]
 own_is_silent k c now n (Fed piece o) h = elim h [ ]
 own_is_silent k c now n (Ended name o) h = elim h [ ]
+own_is_silent k c now n Waited h = elim h [ ]
 
 same : (c d : ℕ) → d ≡ c → (d == c) ≡ true
 same c d e = grind (arith, nat_tests, e)
@@ -195,6 +207,7 @@ own_is_of c now (Rejected d fault) h = elim h [ ]
 own_is_of c now (Grown piece) h = elim h [ ]
 own_is_of c now (Fed piece o) h = elim h [ ]
 own_is_of c now (Ended name o) h = elim h [ ]
+own_is_of c now Waited h = elim h [ ]
 
 -- ---- at most one reply is made until it is written
 
@@ -239,6 +252,7 @@ closed c now d e (Sent j time bytes) h own none never = elim own [ ]
 closed c now d e (Grown piece) h own none never = elim own [ ]
 closed c now d e (Fed piece o) h own none never = elim own [ ]
 closed c now d e (Ended name o) h own none never = elim own [ ]
+closed c now d e Waited h own none never = elim own [ ]
 
 none_in : (c now : ℕ) (d e : LoopState) (x : Action) → IsTransition d x e → IsSubmissionOf c now x → (Submits c d → ⊥) → replies_in c x ≡ 0
 none_in c now d e (Submitted k time line o) h own never = absurd (never (subst (λ n. Submits n d) own.0 (of_some (connection_of k d.connections) h.0 h.2 ∙ ap (λ (a : NextAction). Some a) h.3)))
@@ -250,6 +264,7 @@ none_in c now d e (Sent j time bytes) h own never = elim own [ ]
 none_in c now d e (Grown piece) h own never = elim own [ ]
 none_in c now d e (Fed piece o) h own never = elim own [ ]
 none_in c now d e (Ended name o) h own never = elim own [ ]
+none_in c now d e Waited h own never = elim own [ ]
 
 none_more : (c now : ℕ) (d e : LoopState) (xs : List Action) → IsTrace d xs e → AreAll (IsSubmissionOf c now) xs → (Submits c d → ⊥) → replies_made c xs ≡ 0
 none_more c now d e [] h own never = refl
@@ -274,7 +289,7 @@ sends_next c now line (Ok r) d e h one = at (is_nil r.bytes) refl one
         let g = submitted c now line (Ok r) d e h in
         never (ap (λ (b : Bool). Some (cond b (cond r.close Close (cond (is_nil g.1) Receive Submit)) Send)) (sym is) ∙ sym (of_some (connection_of c e.connections) (after_outcome (Ok r) g.1 now g.0) g.3) ∙ s)
 
-zero_or_one : (c : ℕ) (x : Action) → (replies_in c x ≡ 0) ⊎ (replies_in c x ≡ 1)
+pub zero_or_one : (c : ℕ) (x : Action) → (replies_in c x ≡ 0) ⊎ (replies_in c x ≡ 1)
 zero_or_one c (Accepted d time) = inl refl
 zero_or_one c (Rejected d fault) = inl refl
 zero_or_one c (Received d bytes) = inl refl
@@ -293,6 +308,7 @@ zero_or_one c (Closed d time reason o) = inl refl
 zero_or_one c (Grown piece) = inl refl
 zero_or_one c (Fed piece o) = inl refl
 zero_or_one c (Ended name o) = inl refl
+zero_or_one c Waited = inl refl
 
 count_of : (c k : ℕ) (o : Outcome) → k ≡ c → cond (k == c) (reply_count o) 0 ≡ 1 → reply_count o ≡ 1
 count_of c k o h e = ap (λ t. cond t (reply_count o) 0) (sym (same c k h)) ∙ e
@@ -308,6 +324,7 @@ no_more c now d e (Sent j time bytes) h own one = elim own [ ]
 no_more c now d e (Grown piece) h own one = elim own [ ]
 no_more c now d e (Fed piece o) h own one = elim own [ ]
 no_more c now d e (Ended name o) h own one = elim own [ ]
+no_more c now d e Waited h own one = elim own [ ]
 
 pub made_once : (c now : ℕ) (d e : LoopState) (xs : List Action) → IsTrace d xs e → AreAll (IsSubmissionOf c now) xs → replies_made c xs ≤ 1
 made_once c now d e [] h own = omega arith
@@ -334,6 +351,7 @@ other_step k c now d e (Rejected j fault) n h own = elim own [ ]
 other_step k c now d e (Grown piece) n h own = elim own [ ]
 other_step k c now d e (Fed piece o) n h own = elim own [ ]
 other_step k c now d e (Ended name o) n h own = elim own [ ]
+other_step k c now d e Waited n h own = elim own [ ]
 
 pub others : (k c now : ℕ) (d e : LoopState) (xs : List Action) → (c == k) ≡ false → IsTrace d xs e → AreAll (IsOwn c now) xs → connection_of k e.connections ≡ connection_of k d.connections
 others k c now d e [] n h own = ap (λ (x : LoopState). connection_of k x.connections) h
@@ -345,6 +363,33 @@ own_any c now [] own h = absurd (false_true h)
     false_true : false ≡ true → ⊥
     false_true e = cc
 own_any c now (x ∷ xs) own h = ap (λ t. t || list_any (is_of c) xs) (own_is_of c now x own.0)
+
+same_number : (k c d : ℕ) → d ≡ c → (d == k) ≡ true → c ≡ k
+same_number k c d h e = sym h ∙ eqb-true d k e
+
+own_is_alone : (k c now : ℕ) (x : Action) → IsOwn c now x → is_of k x ≡ true → c ≡ k
+own_is_alone k c now (Received d bytes) h e = same_number k c d h e
+own_is_alone k c now (Submitted d time line o) h e = same_number k c d h.0 e
+own_is_alone k c now (Sent d time bytes) h e = same_number k c d h.0 e
+own_is_alone k c now (Closed d time reason o) h e = same_number k c d h.0 e
+own_is_alone k c now (Accepted d time) h e = elim h [ ]
+own_is_alone k c now (Rejected d fault) h e = elim h [ ]
+own_is_alone k c now (Grown piece) h e = elim h [ ]
+own_is_alone k c now (Fed piece o) h e = elim h [ ]
+own_is_alone k c now (Ended name o) h e = elim h [ ]
+own_is_alone k c now Waited h e = elim h [ ]
+
+-- only the connection itself has an action
+pub own_alone : (k c now : ℕ) (xs : List Action) → AreAll (IsOwn c now) xs → list_any (is_of k) xs ≡ true → c ≡ k
+own_alone k c now [] own h = absurd (false_true h)
+  where
+    false_true : false ≡ true → ⊥
+    false_true e = cc
+own_alone k c now (x ∷ xs) own h = at (is_of k x) refl h (own_alone k c now xs own.1)
+  where
+    at : (b : Bool) → is_of k x ≡ b → b || list_any (is_of k) xs ≡ true → (list_any (is_of k) xs ≡ true → c ≡ k) → c ≡ k
+    at true e any later = own_is_alone k c now x own.0 e
+    at false e any later = later any
 
 -- ---- one connection
 

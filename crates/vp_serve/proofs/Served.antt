@@ -1,5 +1,5 @@
 -- Each connection along every trace.
-use Rattle.std.proofs.Common.{◌≡◌, ◌==◌, ◌++◌, ◌∷◌, ◌+◌, ◌∙◌, ◌⊎◌, [], ℕ, List, Bool, true, false, not, ◌||◌, Option, Some, None, Ok, Err, cond, refl, ap, sym, subst, append_assoc, append-nil, arith, option_map, flat_map, inl, inr}
+use Rattle.std.proofs.Common.{◌≡◌, ◌==◌, ◌++◌, ◌∷◌, ◌+◌, ◌≤◌, ◌<◌, nat_lt, ◌∙◌, ◌⊎◌, [], ℕ, List, Bool, true, false, not, ◌||◌, Option, Some, None, Ok, Err, cond, refl, ap, sym, subst, append_assoc, append-nil, arith, option_map, flat_map, inl, inr}
 use Rattle.std.proofs.lemmas.Bool.{eqb-true}
 use Rattle.std.proofs.lemmas.Bool.Decides.{nat_tests}
 use Rattle.vp_hub.specs.Hub.{Outcome, HubState}
@@ -10,7 +10,7 @@ use Rattle.vp_serve.specs.declared.reason.CloseReason.TheVariants.{Finished, Pee
 use Rattle.vp_serve.specs.Connection.{Connection}
 use Rattle.vp_serve.specs.Connections.{connection_of, with_connection, without, new_connection, next_action, is_nil, after_outcome}
 use Rattle.vp_serve.specs.Reasons.{IsReason, IsClosedByHub, is_abort}
-use Rattle.vp_serve.specs.ServerLoop.{LoopState, initial, Action, Accepted, Rejected, Received, Submitted, Sent, Closed, Grown, Fed, Ended, IsTransition, IsTrace}
+use Rattle.vp_serve.specs.ServerLoop.{LoopState, initial, Action, Accepted, Rejected, Received, Submitted, Sent, Closed, Grown, Fed, Ended, Waited, IsTransition, IsTrace}
 use Rattle.vp_serve.specs.Transport.{transfers_of}
 use Rattle.vp_serve.specs.Laws.{own_change, has_ended, ends_in, submitted_replies, read_in, written_in, submitted_in, replied_in, BytesAreServed}
 use Rattle.vp_serve.proofs.Changes.{first_of, connection_of-push, connection_of-with_connection, connection_of_other-with_connection, connection_of-without, connection_of_other-without}
@@ -206,9 +206,10 @@ all_sent options now t Finished h k = close_next t h.0
 all_sent options now t HubRefused h k = close_next t h.0
 all_sent options now t OutOfMemory h k = at h
   where
-    at : IsClosedByHub t OutOfMemory ⊎ (next_action t ≡ Submit) → t.unsent ≡ []
+    at : IsClosedByHub t OutOfMemory ⊎ ((next_action t ≡ Submit) ⊎ (next_action t ≡ Receive)) → t.unsent ≡ []
     at (inl e) = close_next t e.0
-    at (inr e) = (submits_next t e).0
+    at (inr (inl e)) = (submits_next t e).0
+    at (inr (inr e)) = (reads_next t e).1
 all_sent options now t PeerEnded h k = (reads_next t h).1
 all_sent options now t IdleTimeout h k = absurd (true_false k)
 all_sent options now t TransferFailed h k = absurd (true_false k)
@@ -294,6 +295,8 @@ one c xs d e (Fed piece o) holds h =
     apart c xs (Fed piece o) d e holds (still c d e (Fed piece o) refl refl refl refl refl (ap (λ (x : LoopState). connection_of c x.connections) h.2) (ap (λ (x : LoopState). x.next) h.2))
 one c xs d e (Ended name o) holds h =
     apart c xs (Ended name o) d e holds (still c d e (Ended name o) refl refl refl refl refl (ap (λ (x : LoopState). connection_of c x.connections) h.2) (ap (λ (x : LoopState). x.next) h.2))
+one c xs d e Waited holds h =
+    apart c xs Waited d e holds (still c d e Waited refl refl refl refl refl (ap (λ (x : LoopState). connection_of c x.connections) h.1) (ap (λ (x : LoopState). x.next) h.1))
 
 along : (c : ℕ) (xs ys : List Action) (d e : LoopState) → Holds c xs d → IsTrace d ys e → Holds c (xs ++ ys) e
 along c xs [] d e holds h = subst (λ (x : LoopState). Holds c (xs ++ []) x) (sym h) (subst (λ (l : List Action). Holds c l d) (sym (append-nil xs)) holds)
@@ -311,6 +314,16 @@ first c options s = record {
   later = λ _. (refl, refl, refl, refl);
   gone = λ _. refl;
 }
+
+-- an open connection has a number that was given
+pub given : (options : ServeOptions) (s : HubState) (xs : List Action) (d : LoopState) → IsTrace (initial options s) xs d → (c : ℕ) (t : Connection) → connection_of c d.connections ≡ Some t → c < d.next
+given options s xs d h c t there = at (nat_lt c d.next) refl
+  where
+    at : (b : Bool) → nat_lt c d.next ≡ b → c < d.next
+    at true less = grind (arith, nat_tests, less)
+    at false less =
+        let above : d.next ≤ c = grind (arith, nat_tests, less) in
+        absurd (no_some (connection_of c d.connections) t ((along c [] xs (initial options s) d (first c options s) h).later above).0 there)
 
 pub served : BytesAreServed
 served options s xs d h c =

@@ -6,7 +6,7 @@ use Rattle.vp_serve.specs.declared.options.ServeOptions.{ServeOptions}
 use Rattle.vp_serve.specs.declared.schedule.Schedule.{Schedule}
 use Rattle.vp_serve.specs.Connection.{Connection}
 use Rattle.vp_serve.specs.Connections.{connection_of, with_connection, without, new_connection, after_outcome, is_nil}
-use Rattle.vp_serve.specs.ServerLoop.{LoopState, Action, IsTransition, IsTrace, Accepted, Rejected, Received, Submitted, Sent, Closed, Grown, Fed, Ended}
+use Rattle.vp_serve.specs.ServerLoop.{LoopState, Action, IsTransition, IsTrace, Accepted, Rejected, Received, Submitted, Sent, Closed, Grown, Fed, Ended, Waited}
 use Rattle.vp_serve.specs.Reading.{is_idle}
 use Rattle.vp_serve.specs.Turns.{AreAll, IsAt}
 use Rattle.vp_serve.specs.Schedule.{AreStillOpen, IsNoneIdle, IsScheduled, IsTimely}
@@ -25,6 +25,7 @@ options_step d e (Closed c time reason o) h = ap (λ (x : LoopState). x.options)
 options_step d e (Grown piece) h = ap (λ (x : LoopState). x.options) h.1
 options_step d e (Fed piece o) h = ap (λ (x : LoopState). x.options) h.2
 options_step d e (Ended name o) h = ap (λ (x : LoopState). x.options) h.2
+options_step d e Waited h = ap (λ (x : LoopState). x.options) h.1
 
 pub options_stay : (d e : LoopState) (xs : List Action) → IsTrace d xs e → e.options ≡ d.options
 options_stay d e [] h = ap (λ (x : LoopState). x.options) h
@@ -102,6 +103,7 @@ active_step now d e (Closed k time reason o) h at =
 active_step now d e (Grown piece) h at = λ c t is. unchanged now c t d.connections e.connections (ap (λ (x : LoopState). connection_of c x.connections) h.1) is
 active_step now d e (Fed piece o) h at = λ c t is. unchanged now c t d.connections e.connections (ap (λ (x : LoopState). connection_of c x.connections) h.2) is
 active_step now d e (Ended name o) h at = λ c t is. unchanged now c t d.connections e.connections (ap (λ (x : LoopState). connection_of c x.connections) h.2) is
+active_step now d e Waited h at = λ c t is. unchanged now c t d.connections e.connections (ap (λ (x : LoopState). connection_of c x.connections) h.1) is
 
 active_both : (now : ℕ) (d e f : LoopState) → AreActive now d e → AreActive now e f → AreActive now d f
 active_both now d e f x y c t is = at (y c t is)

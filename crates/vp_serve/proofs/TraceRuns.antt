@@ -2,7 +2,7 @@
 use Rattle.std.proofs.Common.{◌≡◌, ◌∷◌, [], List, ap, subst, flat_map}
 use Rattle.vp_hub.specs.Hub.{HubState}
 use Rattle.vp_hub.specs.View.{IsRun}
-use Rattle.vp_serve.specs.ServerLoop.{LoopState, Action, Accepted, Rejected, Received, Submitted, Sent, Closed, Grown, Fed, Ended, events_of, action_outcomes}
+use Rattle.vp_serve.specs.ServerLoop.{LoopState, Action, Accepted, Rejected, Received, Submitted, Sent, Closed, Grown, Fed, Ended, Waited, events_of, action_outcomes}
 use Rattle.vp_serve.specs.Laws.{TracesAreRuns}
 
 same_hub : (a b : HubState) (hub : HubState) (xs : List Action) → a ≡ b → IsRun a (flat_map events_of xs) (flat_map action_outcomes xs) hub
@@ -20,3 +20,4 @@ runs old new (Closed c now reason o ∷ xs) (mid, h, k) = (mid.hub, h.3, runs mi
 runs old new (Grown piece ∷ xs) (mid, h, k) = same_hub mid.hub old.hub new.hub xs (ap (λ (t : LoopState). t.hub) h.1) (runs mid new xs k)
 runs old new (Fed piece o ∷ xs) (mid, h, k) = (mid.hub, h.1, runs mid new xs k)
 runs old new (Ended name o ∷ xs) (mid, h, k) = (mid.hub, h.1, runs mid new xs k)
+runs old new (Waited ∷ xs) (mid, h, k) = same_hub mid.hub old.hub new.hub xs (ap (λ (t : LoopState). t.hub) h.1) (runs mid new xs k)

@@ -1,11 +1,11 @@
 -- What the streams are fed.
-use Rattle.std.specs.Prelude.{◌≡◌, ◌++◌, ◌∷◌, [], List, Option, Some, None, flat_map, if◌then◌else◌}
+use Rattle.std.specs.Prelude.{◌≡◌, ◌++◌, ◌∷◌, [], Bool, false, not, List, Option, Some, None, flat_map, if◌then◌else◌}
 use Rattle.vp_hub.specs.Hub.{HubState}
 use Rattle.vp_hub.specs.View.{is_memory}
 use Rattle.vp_serve.specs.declared.options.FilePiece.{FilePiece}
 use Rattle.vp_serve.specs.declared.options.ServeOptions.{ServeOptions}
 use Rattle.vp_serve.specs.ServerLoop.{LoopState, initial, IsTrace, Action, Accepted, Rejected, Received, Submitted}
-use Rattle.vp_serve.specs.ServerLoop.{Sent, Closed, Grown, Fed, Ended}
+use Rattle.vp_serve.specs.ServerLoop.{Sent, Closed, Grown, Fed, Ended, Waited}
 
 -- the pieces that were read from the files
 abbrev pub grown_in : Action → List FilePiece
@@ -18,6 +18,7 @@ grown_in (Closed c now reason o) = []
 grown_in (Grown piece) = piece ∷ []
 grown_in (Fed piece o) = []
 grown_in (Ended name o) = []
+grown_in Waited = []
 
 -- those that were fed, and that memory was not refused for
 abbrev pub fed_in : Action → List FilePiece
@@ -30,6 +31,12 @@ fed_in (Closed c now reason o) = []
 fed_in (Grown piece) = []
 fed_in (Fed piece o) = if is_memory o then [] else piece ∷ []
 fed_in (Ended name o) = []
+fed_in Waited = []
+
+-- a stream took a piece, or refused it
+abbrev pub is_fed : Action → Bool
+is_fed (Fed piece o) = not (is_memory o)
+is_fed _ = false
 
 abbrev pub fed_pieces : Option FilePiece → List FilePiece
 fed_pieces None = []

@@ -1,15 +1,18 @@
 -- What holds of each connection along every trace.
-use Rattle.std.specs.Prelude.{◌≡◌, ◌==◌, ◌||◌, ◌++◌, ◌∷◌, [], ℕ, List, Bool, true, false, not, Some, Ok, Err, flat_map}
-use Rattle.std.specs.Prelude.{if◌then◌else◌}
+use Rattle.std.specs.Prelude.{◌≡◌, ◌==◌, ◌≤◌, ◌+◌, ◌||◌, ◌++◌, ◌∷◌, [], ℕ, List, Bool, true, false, not, Some, Ok}
+use Rattle.std.specs.Prelude.{Err, flat_map, if◌then◌else◌}
 use Rattle.vp_hub.specs.Hub.{Outcome, HubState}
 use Rattle.vp_hub.specs.View.{IsRun}
 use Rattle.vp_serve.specs.declared.options.ServeOptions.{ServeOptions}
+use Rattle.vp_serve.specs.declared.reason.CloseReason.TheVariants.{IdleTimeout}
 use Rattle.vp_serve.specs.Connection.{Connection}
 use Rattle.vp_serve.specs.Connections.{connection_of}
 use Rattle.vp_serve.specs.Reasons.{is_abort}
-use Rattle.vp_serve.specs.ServerLoop.{LoopState, initial, IsTrace, events_of, action_outcomes, Action, Accepted, Rejected}
-use Rattle.vp_serve.specs.ServerLoop.{Received, Submitted, Sent, Closed, Grown, Fed, Ended}
+use Rattle.vp_serve.specs.ServerLoop.{LoopState, initial, IsTransition, IsTrace, events_of, action_outcomes, Action}
+use Rattle.vp_serve.specs.ServerLoop.{Accepted, Rejected}
+use Rattle.vp_serve.specs.ServerLoop.{Received, Submitted, Sent, Closed, Grown, Fed, Ended, Waited}
 use Rattle.vp_serve.specs.Transfer.{Transfer, Accepts, Reads, Writes, PeerEnds, Fails, Closes, Grows}
+use Rattle.vp_serve.specs.Transfer.{Waits}
 use Rattle.vp_serve.specs.Transport.{transfers_of}
 
 abbrev pub own_change : ℕ → ℕ → List ℕ → List ℕ
@@ -24,7 +27,8 @@ read_in c (Writes d bytes) = []
 read_in c (PeerEnds d) = []
 read_in c (Fails d) = []
 read_in c (Closes d reason) = []
-read_in c (Grows name bytes) = []
+read_in c (Grows place name bytes) = []
+read_in c Waits = []
 
 abbrev pub written_in : ℕ → Transfer → List ℕ
 written_in c (Accepts d) = []
@@ -33,7 +37,8 @@ written_in c (Writes d bytes) = own_change c d bytes
 written_in c (PeerEnds d) = []
 written_in c (Fails d) = []
 written_in c (Closes d reason) = []
-written_in c (Grows name bytes) = []
+written_in c (Grows place name bytes) = []
+written_in c Waits = []
 
 abbrev pub received_from : ℕ → List Action → List ℕ
 received_from c trace = flat_map (read_in c) (flat_map transfers_of trace)
@@ -57,6 +62,7 @@ submitted_in c (Closed d now reason o) = []
 submitted_in c (Grown piece) = []
 submitted_in c (Fed piece o) = []
 submitted_in c (Ended name o) = []
+submitted_in c Waited = []
 
 abbrev pub replied_in : ℕ → Action → List ℕ
 replied_in c (Accepted d now) = []
@@ -68,6 +74,7 @@ replied_in c (Closed d now reason o) = []
 replied_in c (Grown piece) = []
 replied_in c (Fed piece o) = []
 replied_in c (Ended name o) = []
+replied_in c Waited = []
 
 abbrev pub submitted_for : ℕ → List Action → List ℕ
 submitted_for c trace = flat_map (submitted_in c) trace
@@ -86,6 +93,7 @@ ends_in c (Closed d now reason o) = if d == c then not (is_abort reason) else fa
 ends_in c (Grown piece) = false
 ends_in c (Fed piece o) = false
 ends_in c (Ended name o) = false
+ends_in c Waited = false
 
 abbrev pub has_ended : ℕ → List Action → Bool
 has_ended c [] = false
@@ -112,6 +120,11 @@ BytesAreServed = (options : ServeOptions) (s : HubState) (trace : List Action) (
 abbrev pub TracesAreRuns : Type 0
 TracesAreRuns = (old new : LoopState) (trace : List Action) → IsTrace old trace new
     → IsRun old.hub (flat_map events_of trace) (flat_map action_outcomes trace) new.hub
+
+-- a connection is closed at the idle timeout only if no reply was made for it and no byte taken for so long
+abbrev pub OnlyIdleTimeOut : Type 0
+OnlyIdleTimeOut = (old new : LoopState) (c now : ℕ) (o : Outcome) → IsTransition old (Closed c now IdleTimeout o) new
+    → (t : Connection) × (connection_of c old.connections ≡ Some t) × (t.last_active + old.options.idle_timeout ≤ now)
 
 -- two traces, one after the other, are one
 abbrev pub TracesAreJoined : Type 0

@@ -1,7 +1,6 @@
 pub mod Connection
 pub mod Connections
 pub mod Reasons
-pub mod Lines
 pub mod ServerLoop
 pub mod Transfer
 pub mod Transport
@@ -11,6 +10,9 @@ pub mod Replies
 pub mod Bounds
 pub mod SameConnections
 pub mod Files
+pub mod Readiness
 pub mod Turns
 pub mod Parts
 pub mod Schedule
+pub mod LoopTurns
+pub mod ActionLaws

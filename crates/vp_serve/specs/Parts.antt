@@ -1,9 +1,13 @@
 -- Private to the crate: the parts of a turn.
-use Rattle.std.specs.Prelude.{◌≡◌, ℕ, Bool, List, [], Option, flat_map}
+use Rattle.std.specs.Prelude.{◌≡◌, ◌<◌, ℕ, Bool, List, [], Option, flat_map}
+use Rattle.std.specs.List.{list_any}
 use Rattle.vp_serve.specs.ServerLoop.{LoopState, IsTrace, Action, Accepted, Rejected, Received, Submitted, Sent, Closed}
 use Rattle.vp_serve.specs.Transfer.{Transfer, Logs}
 use Rattle.vp_serve.specs.Transport.{transfers_of, ended_names}
 use Rattle.vp_serve.specs.Turns.{AreAll, has_actions}
+use Rattle.vp_serve.specs.Readiness.{Readiness, IsNoReadier}
+use Rattle.vp_serve.specs.Files.{is_fed}
+use Rattle.vp_serve.specs.LoopTurns.{IsOfFile}
 
 -- an action reads from connection c, writes to it or closes it
 abbrev pub IsTransferOf : ℕ → ℕ → Action → Type 0
@@ -24,6 +28,10 @@ IsArrival now (Accepted d time) = time ≡ now
 IsArrival now (Rejected d fault) = Unit {0}
 IsArrival now _ = ⊥
 
+-- each connection of a smaller number is ready for nothing that it was not ready for before
+abbrev pub AreNoReadierBelow : ℕ → (ℕ → Readiness) → (ℕ → Readiness) → Type 0
+AreNoReadierBelow n old new = (c : ℕ) → c < n → IsNoReadier (old c) (new c)
+
 -- The server performs a trace of actions of one kind, and just its transfers are logged. It has moved if there is an
 -- action.
 pub record Performs (P : Action → Type 0) (moved : Bool) (old new : LoopState)
@@ -34,3 +42,10 @@ pub record Performs (P : Action → Type 0) (moved : Bool) (old new : LoopState)
   pub follows : flat_map ended_names trace ≡ []
   pub kind : AreAll P trace
   pub moves : has_actions trace ≡ moved
+
+-- The files of these names are followed. They grew if a stream took or refused a piece.
+pub record Feeds (names : List (List ℕ)) (grew : Bool) (old new : LoopState)
+    (before after : Option (List Transfer)) : Type 0 where
+  pub moved : Bool
+  pub does : Performs (IsOfFile names) moved old new before after
+  pub took : list_any is_fed does.trace ≡ grew

@@ -33,7 +33,8 @@ IsIdle options now t = t.last_active + options.idle_timeout ≤ now
 abbrev pub IsReason : ServeOptions → ℕ → Connection → CloseReason → Type 0
 IsReason options now t Finished = IsClosedByHub t Finished
 IsReason options now t HubRefused = IsClosedByHub t HubRefused
-IsReason options now t OutOfMemory = IsClosedByHub t OutOfMemory ⊎ (next_action t ≡ Submit)
+IsReason options now t OutOfMemory =
+    IsClosedByHub t OutOfMemory ⊎ ((next_action t ≡ Submit) ⊎ (next_action t ≡ Receive))
 IsReason options now t PeerEnded = next_action t ≡ Receive
 IsReason options now t IdleTimeout = IsIdle options now t
 IsReason options now t TransferFailed = (next_action t ≡ Send) ⊎ (next_action t ≡ Receive)

@@ -5,7 +5,7 @@ use Rattle.vp_hub.specs.declared.connection.ConnectionState.{ConnectionState}
 use Rattle.vp_hub.specs.declared.event.Reply.{Reply}
 use Rattle.vp_hub.specs.Pages.{Streams, IsReply}
 use Rattle.vp_hub.specs.Hub.{Serves}
-use Rattle.vp_serve.specs.Lines.{IsLine}
+use Rattle.vp_hub.specs.Lines.{IsLine}
 use Rattle.vp_serve.specs.ServerLoop.{LoopState, Submitted, IsTransition}
 
 -- nothing is added to a reply, or what the streams reply to one head, or what is replied to a head that is too long

@@ -1,6 +1,6 @@
 -- The server as a machine: its state, its actions, and what each of them changes.
-use Rattle.std.specs.Prelude.{◌≡◌, ◌≢◌, ◌≤◌, ◌+◌, ◌==◌, ◌||◌, ◌&&◌, ◌++◌, ◌∷◌, [], ℕ, List, length, not, nat_lt, Bool}
-use Rattle.std.specs.Prelude.{false, Option, Some, None, Ok, Err, if◌then◌else◌}
+use Rattle.std.specs.Prelude.{◌≡◌, ◌≢◌, ◌≤◌, ◌+◌, ◌⊎◌, ◌==◌, ◌||◌, ◌&&◌, ◌++◌, ◌∷◌, [], ℕ, List, length, not, nat_lt}
+use Rattle.std.specs.Prelude.{Bool, false, Option, Some, None, Ok, Err, if◌then◌else◌}
 use Rattle.vp_hub.specs.declared.event.Event.{Event}
 use Rattle.vp_hub.specs.declared.event.Event.TheVariants.{Feed, End, Open, Bytes, Shut}
 use Rattle.vp_hub.specs.declared.event.HubFault.{HubFault}
@@ -11,7 +11,7 @@ use Rattle.vp_serve.specs.declared.connection.NextAction.TheVariants.{Submit, Re
 use Rattle.vp_serve.specs.declared.options.FilePiece.{FilePiece}
 use Rattle.vp_serve.specs.declared.options.ServeOptions.{ServeOptions}
 use Rattle.vp_serve.specs.declared.reason.CloseReason.{CloseReason}
-use Rattle.vp_serve.specs.Lines.{IsLine}
+use Rattle.vp_hub.specs.Lines.{IsLine}
 use Rattle.vp_serve.specs.Connection.{Connection}
 use Rattle.vp_serve.specs.Connections.{connection_of, with_connection, without, new_connection, after_outcome}
 use Rattle.vp_serve.specs.Connections.{next_action}
@@ -37,6 +37,11 @@ is_full d =
 abbrev pub is_over : LoopState → Bool
 is_over d = not (nat_lt d.next d.options.total_connections) && (length d.connections == 0)
 
+-- each open connection waits for its peer: to take bytes of a reply, or to send more
+abbrev pub AwaitsPeers : LoopState → Type 0
+AwaitsPeers d = (c : ℕ) (t : Connection) → connection_of c d.connections ≡ Some t
+    → (next_action t ≡ Send) ⊎ (next_action t ≡ Receive)
+
 pub data Action : Type 0 where
   -- connection c is accepted
   Accepted : (c now : ℕ) → Action
@@ -56,6 +61,8 @@ pub data Action : Type 0 where
   Fed : (piece : FilePiece) (o : Outcome) → Action
   -- the end of a stream is reported to the hub, with the outcome
   Ended : (name : List ℕ) (o : Outcome) → Action
+  -- the server waits for the peers of its connections
+  Waited : Action
 
 -- a piece that memory was refused for is kept
 abbrev pub after_feed : FilePiece → Outcome → Option FilePiece
@@ -91,6 +98,7 @@ IsTransition old (Fed piece o) new =
     × (new ≡ record old { hub = new.hub; waiting = after_feed piece o })
 IsTransition old (Ended name o) new =
     (old.waiting ≡ None) × IsStep old.hub (End name) o new.hub × (new ≡ record old { hub = new.hub })
+IsTransition old Waited new = AwaitsPeers old × (new ≡ old)
 
 -- one action after another
 abbrev pub IsTrace : LoopState → List Action → LoopState → Type 0
@@ -109,6 +117,7 @@ events_of (Closed c now reason o) = Shut c ∷ []
 events_of (Grown piece) = []
 events_of (Fed piece o) = Feed piece.name piece.bytes ∷ []
 events_of (Ended name o) = End name ∷ []
+events_of Waited = []
 
 abbrev pub action_outcomes : Action → List Outcome
 action_outcomes (Accepted c now) = Ok no_bytes ∷ []
@@ -120,3 +129,4 @@ action_outcomes (Closed c now reason o) = o ∷ []
 action_outcomes (Grown piece) = []
 action_outcomes (Fed piece o) = o ∷ []
 action_outcomes (Ended name o) = o ∷ []
+action_outcomes Waited = []

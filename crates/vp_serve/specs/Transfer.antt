@@ -3,7 +3,7 @@ use Rattle.std.specs.Prelude.{◌≡◌, ◌++◌, ℕ, List, Option, Some, None
 use Rattle.vp_serve.specs.declared.reason.CloseReason.{CloseReason}
 
 -- connection c is accepted; bytes are read from it; it takes bytes; its peer ends; a read or a write of it fails; it is
--- closed; a file has more bytes
+-- closed; the file at an index, of the stream of this name, has more bytes; the server waits
 pub data Transfer : Type 0 where
   Accepts : (c : ℕ) → Transfer
   Reads : (c : ℕ) (bytes : List ℕ) → Transfer
@@ -11,7 +11,8 @@ pub data Transfer : Type 0 where
   PeerEnds : (c : ℕ) → Transfer
   Fails : (c : ℕ) → Transfer
   Closes : (c : ℕ) (reason : CloseReason) → Transfer
-  Grows : (name bytes : List ℕ) → Transfer
+  Grows : (place : ℕ) (name bytes : List ℕ) → Transfer
+  Waits : Transfer
 
 -- a log, if it is known, grows by these
 abbrev pub Logs : Option (List Transfer) → Option (List Transfer) → List Transfer → Type 0

@@ -1,5 +1,6 @@
 -- What a server does over a transport.
-use Rattle.std.specs.Prelude.{◌≡◌, ◌==◌, ◌∷◌, ◌++◌, [], ℕ, List, Option, Some, None, flat_map, take, if◌then◌else◌}
+use Rattle.std.specs.Prelude.{◌≡◌, ◌==◌, ◌∷◌, ◌++◌, [], ℕ, Bool, List, Option, Some, None, flat_map, take}
+use Rattle.std.specs.Prelude.{if◌then◌else◌}
 use Rattle.vp_serve.specs.declared.reason.CloseReason.{CloseReason}
 use Rattle.vp_serve.specs.declared.reason.CloseReason.TheVariants.{Finished, PeerEnded, IdleTimeout, OutOfMemory}
 use Rattle.vp_serve.specs.declared.reason.CloseReason.TheVariants.{TransferFailed, HubRefused}
@@ -8,9 +9,10 @@ use Rattle.vp_serve.specs.declared.transport.ReadOutcome.TheVariants as read
 use Rattle.vp_serve.specs.declared.transport.WriteOutcome.{WriteOutcome}
 use Rattle.vp_serve.specs.declared.transport.WriteOutcome.TheVariants as write
 use Rattle.vp_serve.specs.Reasons.{reason_by}
-use Rattle.vp_serve.specs.Transfer.{Transfer, Accepts, Reads, Writes, PeerEnds, Fails, Closes, Grows, Logs}
+use Rattle.vp_serve.specs.Transfer.{Transfer, Accepts, Reads, Writes, PeerEnds, Fails, Closes, Grows, Waits}
+use Rattle.vp_serve.specs.Transfer.{Logs}
 use Rattle.vp_serve.specs.ServerLoop.{LoopState, IsTrace, Action, Accepted, Rejected, Received, Submitted, Sent, Closed}
-use Rattle.vp_serve.specs.ServerLoop.{Grown, Fed, Ended}
+use Rattle.vp_serve.specs.ServerLoop.{Grown, Fed, Ended, Waited}
 
 -- what the transport reported just before a connection is closed
 abbrev pub causes : ℕ → CloseReason → List Transfer
@@ -29,9 +31,10 @@ transfers_of (Received c bytes) = Reads c bytes ∷ []
 transfers_of (Submitted c now line o) = []
 transfers_of (Sent c now bytes) = Writes c bytes ∷ []
 transfers_of (Closed c now reason o) = causes c reason ++ Closes c reason ∷ []
-transfers_of (Grown piece) = Grows piece.name piece.bytes ∷ []
+transfers_of (Grown piece) = Grows piece.place piece.name piece.bytes ∷ []
 transfers_of (Fed piece o) = []
 transfers_of (Ended name o) = []
+transfers_of Waited = Waits ∷ []
 
 -- ---- one call
 
@@ -57,12 +60,16 @@ write_transfers c (write.Bytes n) bytes = Writes c (take n bytes) ∷ []
 write_transfers c write.WouldBlock bytes = []
 write_transfers c write.Failed bytes = Fails c ∷ []
 
-abbrev pub grown_transfers : List ℕ → ℕ → List ℕ → List Transfer
-grown_transfers name n bytes = if n == 0 then [] else Grows name (take n bytes) ∷ []
+abbrev pub grown_transfers : ℕ → List ℕ → ℕ → List ℕ → List Transfer
+grown_transfers place name n bytes = if n == 0 then [] else Grows place name (take n bytes) ∷ []
 
-abbrev pub piece_transfers : List ℕ → Option (List ℕ) → List Transfer
-piece_transfers name None = []
-piece_transfers name (Some bytes) = Grows name bytes ∷ []
+abbrev pub piece_transfers : ℕ → List ℕ → Option (List ℕ) → List Transfer
+piece_transfers place name None = []
+piece_transfers place name (Some bytes) = Grows place name bytes ∷ []
+
+-- a transport waits, unless the server is busy
+abbrev pub wait_transfers : Bool → List Transfer
+wait_transfers is_busy = if is_busy then [] else Waits ∷ []
 
 -- ---- the whole
 
@@ -76,6 +83,7 @@ ended_names (Closed c now reason o) = []
 ended_names (Grown piece) = []
 ended_names (Fed piece o) = []
 ended_names (Ended name o) = name ∷ []
+ended_names Waited = []
 
 -- The server performs a trace, and just its transfers pass over the transport. The end of no stream is reported.
 pub record ContinuesLoop (old new : LoopState) (before after : Option (List Transfer)) : Type 0 where

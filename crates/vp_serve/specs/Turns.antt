@@ -8,8 +8,9 @@ use Rattle.vp_serve.specs.declared.connection.NextAction.TheVariants.{Send, Subm
 use Rattle.vp_serve.specs.Connection.{Connection}
 use Rattle.vp_serve.specs.Connections.{connection_of, next_action, is_nil}
 use Rattle.vp_serve.specs.ServerLoop.{LoopState, IsTrace, Action, Accepted, Rejected, Received, Submitted, Sent, Closed}
+use Rattle.vp_serve.specs.Readiness.{Readiness, IsReadyAt}
 use Rattle.vp_serve.specs.Transfer.{Transfer, Logs}
-use Rattle.vp_serve.specs.Transport.{transfers_of, ended_names}
+use Rattle.vp_serve.specs.Transport.{ContinuesLoop, transfers_of, ended_names}
 
 -- ---- what an action is
 
@@ -91,23 +92,42 @@ pub record AttendsOne (c now : ℕ) (moved : Bool) (old new : LoopState)
   pub fair : replies_made c trace ≤ 1
   pub moves : has_actions trace ≡ moved
 
--- A turn: at most one reply is made for each connection, all happens now, and each connection that was due has had an
--- action.
-pub record TakesTurn (now : ℕ) (old new : LoopState) (before after : Option (List Transfer)) : Type 0 where
-  pub trace : List Action
+-- The trace of a turn: at most one reply is made for each connection, all happens now, and each connection that was due
+-- has had an action.
+pub record IsTurn (now : ℕ) (old : LoopState) (trace : List Action) (new : LoopState) : Type 0 where
   pub is_trace : IsTrace old trace new
-  pub logs : Logs before after (flat_map transfers_of trace)
-  pub follows : flat_map ended_names trace ≡ []
   pub fair : (c : ℕ) → replies_made c trace ≤ 1
   pub at : AreAll (IsAt now) trace
   pub served : (c : ℕ) → IsDueAt c old → list_any (is_of c) trace ≡ true
 
--- ---- waiting
+-- The server takes a turn, and just its transfers are logged. It has moved if there is an action. Each connection that
+-- is ready for its next action after the turn has had an action in it, so none that is ready is passed over. Each one
+-- that was accepted before the turn and has an action in it was ready for its next action when the turn began.
+pub record TakesTurn (now : ℕ) (moved : Bool) (old new : LoopState) (before after : Option (List Transfer))
+    (first last : ℕ → Readiness) : Type 0 where
+  pub does : ContinuesLoop old new before after
+  pub turn : IsTurn now old does.trace new
+  pub moves : has_actions does.trace ≡ moved
+  pub attended : (c : ℕ) → IsReadyAt c last new → list_any (is_of c) does.trace ≡ true
+  pub only_ready : (c : ℕ) → c < old.next → list_any (is_of c) does.trace ≡ true → IsReadyAt c first old
 
--- each open connection waits for its peer: to take bytes of a reply, or to send more
-abbrev pub AwaitsPeers : LoopState → Type 0
-AwaitsPeers d = (c : ℕ) (t : Connection) → connection_of c d.connections ≡ Some t
-    → (next_action t ≡ Send) ⊎ (next_action t ≡ Receive)
+-- a connection that waits to be read from, and may be, has had an action in a turn; so has one to be written to
+abbrev pub ReadyAreAttended : Type 0
+ReadyAreAttended = (now : ℕ) (moved : Bool) (old new : LoopState) (before after : Option (List Transfer))
+    (first last : ℕ → Readiness) (taken : TakesTurn now moved old new before after first last) (c : ℕ) (t : Connection)
+    → connection_of c new.connections ≡ Some t
+    → ((next_action t ≡ Receive) × ((last c).read ≡ true)) ⊎ ((next_action t ≡ Send) × ((last c).write ≡ true))
+    → list_any (is_of c) taken.does.trace ≡ true
+
+-- one that was accepted before a turn and waited for its peer has an action in it only if the transport called it ready
+-- for a read, or for a write, when the turn began
+abbrev pub OnlyReadyAreAttended : Type 0
+OnlyReadyAreAttended = (now : ℕ) (moved : Bool) (old new : LoopState) (before after : Option (List Transfer))
+    (first last : ℕ → Readiness) (taken : TakesTurn now moved old new before after first last) (c : ℕ) (t : Connection)
+    → c < old.next → connection_of c old.connections ≡ Some t → list_any (is_of c) taken.does.trace ≡ true
+    → (next_action t ≡ Receive → (first c).read ≡ true) × (next_action t ≡ Send → (first c).write ≡ true)
+
+-- ---- waiting
 
 -- which open connection has the smallest number that is at least this one
 abbrev pub IsNextOpen : ℕ → List Connection → Option ℕ → Type 0

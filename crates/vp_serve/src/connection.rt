@@ -4,7 +4,8 @@ ghost use Rattle.std.specs.Prelude.{◌==◌, None, IfSome, IfOk, position, ◌�
 ghost use Rattle.std.specs.Prelude.{true, false, if◌then◌else◌, List, ◌∷◌};
 ghost use Rattle.std.specs.List.{list_any};
 ghost use Rattle.vp_serve.specs.declared.connection.NextAction.{NextAction};
-ghost use Rattle.vp_serve.specs.Lines.{IsLine};
+ghost use Rattle.vp_hub.specs.Lines.{IsLine};
+ghost use Rattle.vp_serve.specs.Bounds.{IsKeptLine};
 ghost use Rattle.vp_serve.specs.Connection.{Connection as ConnectionModel};
 ghost use Rattle.vp_serve.specs.Connections.{new_connection, IsPrefix, after_outcome, after_reply, next_action};
 ghost use Rattle.vp_serve.specs.Connections.{connection_of, without, IsConnectionPlace};
@@ -48,7 +49,8 @@ impl Model for Connection {
       last_active = s.last_active;
     } };
 
-    ghost invariant = { λ s. (s.submitted ≤ length s.input) × (s.sent ≤ length s.output) };
+    ghost invariant = { λ s. (s.submitted ≤ length s.input) × (s.sent ≤ length s.output)
+        × (length s.input ≤ 4096) };
 }
 
 /// What is done next for a connection.
@@ -141,8 +143,10 @@ impl Connection {
     }
 
     /// The line of the request that the last reply answers, or of the next one if bytes were handed to the hub since:
-    /// the first line of it that isn't blank, without its line end.
-    pub fn request_line(&self) -> &[u8] {
+    /// the first line of it that isn't blank, without its line end, and at most 8,192 bytes of it.
+    pub fn request_line(&self) -> &[u8]
+        ensures { IsKeptLine result.now }
+    {
         self.request.line()
     }
 
@@ -163,7 +167,8 @@ impl Connection {
 
     /// These bytes were read.
     pub fn received(&mut self, bytes: ByteList)
-        requires { self.old.unsubmitted ≡ [] }
+        requires empty { self.old.unsubmitted ≡ [] }
+        requires small { length bytes ≤ 4096 }
         ensures { self.new ≡ record self.old { unsubmitted = bytes } }
     {
         self.input = bytes;

@@ -1,10 +1,14 @@
 //! What holds of every trace of the server, each law as the contract of a function that does nothing.
 
+ghost use Rattle.vp_serve.specs.ActionLaws.{ActionsAreOfConnections, ClosingsAreReported, NoEndIsReported};
+ghost use Rattle.vp_serve.specs.ActionLaws.{NothingIsLost, RejectedAreRefused, RepliesAreCounted};
 ghost use Rattle.vp_serve.specs.Bounds.{ConnectionsAreBounded};
 ghost use Rattle.vp_serve.specs.Files.{FilesAreFed};
-ghost use Rattle.vp_serve.specs.Laws.{BytesAreServed, TracesAreJoined, TracesAreRuns};
+ghost use Rattle.vp_serve.specs.Laws.{BytesAreServed, OnlyIdleTimeOut, TracesAreJoined, TracesAreRuns};
+ghost use Rattle.vp_serve.specs.LoopTurns.{TimeIsCounted, TurnsAreTimely};
 ghost use Rattle.vp_serve.specs.Replies.{LinesGetOneReply, RepliesAreCurrent};
 ghost use Rattle.vp_serve.specs.SameConnections.{SameConnections};
+ghost use Rattle.vp_serve.specs.Turns.{OnlyReadyAreAttended, ReadyAreAttended};
 
 /// Each connection is written its own replies, in order and without a gap.
 pub fn bytes_are_served()
@@ -44,4 +48,59 @@ pub fn connections_are_bounded()
 /// Each piece that was read from a file is fed once, in order, or is the one that waits.
 pub fn files_are_fed()
     ensures { FilesAreFed }
+{}
+
+/// A connection that is ready is not passed over in a turn.
+pub fn ready_are_attended()
+    ensures { ReadyAreAttended }
+{}
+
+/// A connection that was accepted before a turn is not attended in it unless it was ready when the turn began.
+pub fn only_ready_are_attended()
+    ensures { OnlyReadyAreAttended }
+{}
+
+/// No connection is open a second after its idle timeout, at the end of a turn of the loop.
+pub fn turns_are_timely()
+    ensures { TurnsAreTimely }
+{}
+
+/// The time of the loop does not go back, and a turn counts a quarter of a second at most.
+pub fn time_is_counted()
+    ensures { TimeIsCounted }
+{}
+
+/// A connection is closed at the idle timeout only if it was idle for so long.
+pub fn only_idle_connections_time_out()
+    ensures { OnlyIdleTimeOut }
+{}
+
+/// An action is of a connection just if bytes of it are handed to the hub, or something of it passes.
+pub fn actions_are_of_connections()
+    ensures { ActionsAreOfConnections }
+{}
+
+/// If one reply at most is made for a connection, all bytes that are replied to it are of one action.
+pub fn replies_are_counted()
+    ensures { RepliesAreCounted }
+{}
+
+/// A connection that was closed got all its replies, unless its idle timeout was over or a transfer failed.
+pub fn nothing_is_lost()
+    ensures { NothingIsLost }
+{}
+
+/// A server that follows its files reports the end of no stream to the hub.
+pub fn no_end_is_reported()
+    ensures { NoEndIsReported }
+{}
+
+/// A connection is rejected since memory or the hub refuses it, and neither the hub nor the connections change.
+pub fn rejected_are_refused()
+    ensures { RejectedAreRefused }
+{}
+
+/// A connection is closed for a failed transfer or the end of its peer just after the transport reported that.
+pub fn closings_are_reported()
+    ensures { ClosingsAreReported }
 {}

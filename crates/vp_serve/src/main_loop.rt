@@ -1,11 +1,18 @@
 //! The loop of the server over any transport: turn after turn, with the idle timeouts and the files that grow.
 
-ghost use Rattle.std.specs.Prelude.{◌≡◌, ◌≤◌, ◌<◌, ◌+◌, List, Option, Some, IfOk, true, false};
+ghost use Rattle.std.specs.Prelude.{◌≡◌, ◌≤◌, ◌<◌, ◌+◌, ◌^◌, ◌||◌, [], ℕ, List, Option, Some, IfOk};
+ghost use Rattle.std.specs.Prelude.{not, slice_get, true, false};
+ghost use Rattle.std.specs.List.{list_any};
+ghost use Rattle.vp_hub.specs.View.{is_memory};
 ghost use Rattle.vp_serve.specs.ServerLoop.{is_over};
 ghost use Rattle.vp_serve.specs.Transfer.{Transfer, Logs};
 ghost use Rattle.vp_serve.specs.Transport.{ContinuesLoop, piece_transfers};
-ghost use Rattle.vp_serve.specs.Turns.{AwaitsPeers};
-ghost use Rattle.vp_serve.specs.Schedule.{AreStillOpen, IsNoneIdle, IsScheduled, IsTimely};
+ghost use Rattle.vp_serve.specs.ServerLoop.{AwaitsPeers};
+ghost use Rattle.vp_serve.specs.Turns.{is_due};
+ghost use Rattle.vp_serve.specs.Readiness.{AreNoReadier};
+ghost use Rattle.vp_serve.specs.Schedule.{AreStillOpen, IsCounted, IsNoneIdle, IsScheduled, IsTimely};
+ghost use Rattle.vp_serve.specs.LoopTurns.{FollowsFiles, IsIdleClosing, TakesLoopTurn, TakesLoopTurns};
+ghost use Rattle.vp_serve.specs.Parts.{Feeds, Performs};
 ghost use Rattle.vp_serve.specs.Connection.{Connection};
 ghost use Rattle.vp_serve.specs.Connections.{connection_of};
 
@@ -36,6 +43,7 @@ pub fn serve<T: Transport>(
 ) -> bool
     ensures continues { ContinuesLoop server.old server.new (T.log transport.old) (T.log transport.new) }
     ensures over { result ≡ true → is_over server.new ≡ true }
+    ensures turns { TakesLoopTurns names.now result server.old server.new (T.log transport.old) (T.log transport.new) }
 {
     let mut schedule = Schedule::new();
     for _turn in 0..u64::MAX {
@@ -61,13 +69,14 @@ pub fn serve_turn<T: Transport>(
     ensures scheduled { IsScheduled schedule.old server.old → IsScheduled schedule.new server.new }
     ensures timely { IsScheduled schedule.old server.old → IsTimely schedule.new.time server.new }
     ensures forward { schedule.old.time ≤ schedule.new.time }
+    ensures counted { IsCounted schedule.old schedule.new }
+    ensures takes { TakesLoopTurn names.now schedule.old schedule.new server.old server.new
+        (T.log transport.old) (T.log transport.new) (T.readiness transport.new) }
 {
-    let clock = transport.wait(schedule.is_busy);
+    let clock = transport.wait(is_busy(server, schedule.is_busy));
     let now = counted_time(schedule.time, schedule.clock, clock);
     let moved = turn(alloc, server, transport, now);
-    let open = server.connection_count();
-    close_idle(server, transport, now, schedule.next_check);
-    let left = server.connection_count() < open;
+    let closed = close_idle(server, transport, now, schedule.next_check);
     let is_due = clock >= schedule.next_poll;
     let grew = poll_files(alloc, server, transport, names, is_due);
     let poll_interval = server.options().poll_interval;
@@ -76,26 +85,35 @@ pub fn serve_turn<T: Transport>(
         clock,
         next_check: next_time(schedule.next_check, now, IDLE_CHECK_INTERVAL),
         next_poll: next_poll(schedule.next_poll, clock, poll_interval, grew),
-        is_busy: is_busy(server, either(either(moved, left), grew)),
+        is_busy: is_busy(server, either(either(moved, closed), grew)),
     };
 }
 
 // The time of the next turn, by what the clock said at the last one and says now.
 fn counted_time(time: u64, last: u64, clock: u64) -> u64
-    ensures { time ≤ result }
+    ensures forward { time ≤ result }
+    ensures most { result ≤ time + 250 }
+    ensures long { last + 250 ≤ clock → time + 250 < 2 ^ 64 → result ≡ time + 250 }
+    ensures counts { last ≤ clock → clock ≤ last + 250 → time + clock < 2 ^ 64 → result + last ≡ time + clock }
 {
     time.saturating_add(clock.saturating_sub(last).min(LONGEST_COUNTED_TURN))
 }
 
 // Whether something may be done at once. If something just happened, more may come of it.
 fn is_busy(server: &ServerLoop, moved: bool) -> bool
-    ensures { result ≡ false → AwaitsPeers server.now }
+    ensures awaits { result ≡ false → AwaitsPeers server.now }
+    ensures test { result ≡ moved || list_any is_due server.now.connections }
 {
     moved || server.is_due()
 }
 
 // The time of the next poll of the files: that which was due as long as they grow.
-fn next_poll(due: u64, now: u64, interval: u64, grew: bool) -> u64 {
+fn next_poll(due: u64, now: u64, interval: u64, grew: bool) -> u64
+    ensures waits { now < due → result ≡ due }
+    ensures stays { grew ≡ true → result ≡ due }
+    ensures soon { due ≤ now → result ≤ now + interval }
+    ensures rests { due ≤ now → grew ≡ false → now + interval < 2 ^ 64 → result ≡ now + interval }
+{
     if grew {
         due
     } else {
@@ -107,6 +125,7 @@ fn next_poll(due: u64, now: u64, interval: u64, grew: bool) -> u64 {
 fn next_time(due: u64, now: u64, interval: u64) -> u64
     ensures waits { now < due → result ≡ due }
     ensures next { due ≤ now → result ≤ now + interval }
+    ensures whole { due ≤ now → now + interval < 2 ^ 64 → result ≡ now + interval }
 {
     if now < due {
         due
@@ -115,31 +134,51 @@ fn next_time(due: u64, now: u64, interval: u64) -> u64
     }
 }
 
-// Closes each connection whose idle timeout is over, once the time of the next check is reached.
-fn close_idle<T: Transport>(server: &mut ServerLoop, transport: &mut T, now: u64, next_check: u64)
-    ensures continues { ContinuesLoop server.old server.new (T.log transport.old) (T.log transport.new) }
+// Closes each connection whose idle timeout is over, once the time of the next check is reached. False if none was.
+fn close_idle<T: Transport>(
+    server: &mut ServerLoop,
+    transport: &mut T,
+    now: u64,
+    next_check: u64,
+) -> bool
+    ensures closes { Performs (IsIdleClosing now) result server.old server.new
+        (T.log transport.old) (T.log transport.new) }
     ensures still_open { AreStillOpen server.old.connections server.new.connections }
     ensures none { next_check ≤ now → IsNoneIdle now server.new }
+    ensures no_readier { AreNoReadier (T.readiness transport.old) (T.readiness transport.new) }
 {
     if now < next_check {
-        return;
+        return false;
     }
+    let mut closed = false;
     let mut from = 0;
     while let Some(number) = server.next_open(from) {
-        close_if_idle(server, transport, number, now);
+        let is_closed = close_if_idle(server, transport, number, now);
+        closed = either(closed, is_closed);
         from = u64::from(number) + 1;
     }
+    closed
 }
 
-fn close_if_idle<T: Transport>(server: &mut ServerLoop, transport: &mut T, number: u32, now: u64)
-    ensures continues { ContinuesLoop server.old server.new (T.log transport.old) (T.log transport.new) }
+// Closes a connection, if its idle timeout is over. False if it isn't.
+fn close_if_idle<T: Transport>(
+    server: &mut ServerLoop,
+    transport: &mut T,
+    number: u32,
+    now: u64,
+) -> bool
+    ensures closes { Performs (IsIdleClosing now) result server.old server.new
+        (T.log transport.old) (T.log transport.new) }
     ensures still_open { AreStillOpen server.old.connections server.new.connections }
     ensures gone { (t : Connection) → connection_of number server.new.connections ≡ Some t
         → now < t.last_active + server.new.options.idle_timeout }
+    ensures no_readier { AreNoReadier (T.readiness transport.old) (T.readiness transport.new) }
 {
-    if server.is_idle(number, now) {
-        close(server, transport, number, now, CloseReason::IdleTimeout);
+    if !server.is_idle(number, now) {
+        return false;
     }
+    close(server, transport, number, now, CloseReason::IdleTimeout);
+    true
 }
 
 fn poll_files<T: Transport>(
@@ -149,8 +188,10 @@ fn poll_files<T: Transport>(
     names: &[ByteList],
     is_due: bool,
 ) -> bool
-    ensures continues { ContinuesLoop server.old server.new (T.log transport.old) (T.log transport.new) }
+    ensures feeds { (fed : Feeds names.now result server.old server.new (T.log transport.old) (T.log transport.new))
+        × (is_due ≡ false → fed.does.trace ≡ []) }
     ensures kept { server.new.connections ≡ server.old.connections }
+    ensures no_readier { AreNoReadier (T.readiness transport.old) (T.readiness transport.new) }
 {
     if !is_due {
         return false;
@@ -165,7 +206,8 @@ pub fn catch_up<T: Transport>(
     transport: &mut T,
     names: &[ByteList],
 )
-    ensures { ContinuesLoop server.old server.new (T.log transport.old) (T.log transport.new) }
+    ensures files { FollowsFiles names.now server.old server.new (T.log transport.old) (T.log transport.new) }
+    ensures continues { ContinuesLoop server.old server.new (T.log transport.old) (T.log transport.new) }
 {
     for _turn in 0..u64::MAX {
         if !read_files(alloc, server, transport, names) {
@@ -181,33 +223,37 @@ fn read_files<T: Transport>(
     transport: &mut T,
     names: &[ByteList],
 ) -> bool
-    ensures continues { ContinuesLoop server.old server.new (T.log transport.old) (T.log transport.new) }
+    ensures feeds { Feeds names.now result server.old server.new (T.log transport.old) (T.log transport.new) }
     ensures kept { server.new.connections ≡ server.old.connections }
+    ensures no_readier { AreNoReadier (T.readiness transport.old) (T.readiness transport.new) }
 {
     let mut grew = feed_waiting(server, transport);
     for (place, name) in names.iter().enumerate() {
-        if let Ok(true) = read_one(alloc, server, transport, place, name.as_slice()) {
-            grew = true;
-        }
+        let fed = read_one(alloc, server, transport, place, name.as_slice());
+        grew = either(grew, fed);
     }
     grew
 }
 
-// Feeds a stream the next piece of its file. No file is read while a piece waits.
+// Feeds a stream the next piece of its file. No file is read while a piece waits. True if it took or refused the piece.
 fn read_one<T: Transport>(
     alloc: Global,
     server: &mut ServerLoop,
     transport: &mut T,
     place: usize,
     name: &[u8],
-) -> Result<bool, AllocError>
-    ensures continues { ContinuesLoop server.old server.new (T.log transport.old) (T.log transport.new) }
+) -> bool
+    ensures feeds { (names : List (List ℕ)) → slice_get names place ≡ Some name.now
+        → Feeds names result server.old server.new (T.log transport.old) (T.log transport.new) }
     ensures kept { server.new.connections ≡ server.old.connections }
+    ensures no_readier { AreNoReadier (T.readiness transport.old) (T.readiness transport.new) }
 {
     if server.waiting_place().is_some() {
-        return Ok(false);
+        return false;
     }
-    let own = copy_of(alloc, name)?;
+    let Ok(own) = copy_of(alloc, name) else {
+        return false;
+    };
     match read_piece(alloc, transport, place, name) {
         Some(bytes) => {
             server.grown(FilePiece {
@@ -215,9 +261,9 @@ fn read_one<T: Transport>(
                 name: own,
                 bytes,
             });
-            Ok(feed_waiting(server, transport))
+            feed_waiting(server, transport)
         }
-        None => Ok(false),
+        None => false,
     }
 }
 
@@ -234,7 +280,8 @@ fn read_piece<T: Transport>(
     place: usize,
     name: &[u8],
 ) -> Option<ByteList>
-    ensures { Logs (T.log transport.old) (T.log transport.new) (piece_transfers name.now result) }
+    ensures logs { Logs (T.log transport.old) (T.log transport.new) (piece_transfers place name.now result) }
+    ensures no_readier { AreNoReadier (T.readiness transport.old) (T.readiness transport.new) }
 {
     let Ok(mut buffer) = zeroed(alloc, 65_536) else {
         return None;
@@ -249,8 +296,10 @@ fn read_piece<T: Transport>(
 
 // Feeds the piece that waits. False if there is none, or memory is refused and it goes on waiting.
 fn feed_waiting<T: Transport>(server: &mut ServerLoop, transport: &mut T) -> bool
-    ensures continues { ContinuesLoop server.old server.new (T.log transport.old) (T.log transport.new) }
+    ensures feeds { (names : List (List ℕ))
+        → Feeds names result server.old server.new (T.log transport.old) (T.log transport.new) }
     ensures kept { server.new.connections ≡ server.old.connections }
+    ensures no_readier { AreNoReadier (T.readiness transport.old) (T.readiness transport.new) }
 {
     let Some(place) = server.waiting_place() else {
         return false;
@@ -265,7 +314,9 @@ fn report_feed<T: Transport>(
     place: usize,
     outcome: Result<Reply, HubFault>,
 ) -> bool
-    ensures { T.log transport.new ≡ T.log transport.old }
+    ensures took { result ≡ not (is_memory outcome) }
+    ensures logs { T.log transport.new ≡ T.log transport.old }
+    ensures no_readier { AreNoReadier (T.readiness transport.old) (T.readiness transport.new) }
 {
     match outcome {
         Ok(_) => true,

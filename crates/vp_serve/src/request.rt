@@ -1,7 +1,12 @@
 //! The request of a connection that the next reply answers.
 
+ghost use Rattle.vp_serve.specs.Bounds.{IsKeptLine};
+
 use std::alloc::Global;
 use vp_base::ByteList;
+
+/// The most bytes of a request's line that are kept, as many as a head may have.
+const MAX_LINE: usize = 8192;
 
 /// What was handed to the hub for one connection since its last reply: the first line that isn't blank, and the number
 /// of packets that were decoded.
@@ -13,6 +18,7 @@ pub struct PendingRequest {
     packets: u64,
     // Whether the reply was made, so that what comes next belongs to another request.
     is_answered: bool,
+    ghost short: { IsKeptLine line.items },
 }
 
 impl PendingRequest {
@@ -26,8 +32,10 @@ impl PendingRequest {
         }
     }
 
-    /// The first line that isn't blank, without its line end, as far as it was handed to the hub.
-    pub fn line(&self) -> &[u8] {
+    /// The first line that isn't blank, without its line end, as far as it was handed to the hub: at most 8,192 bytes.
+    pub fn line(&self) -> &[u8]
+        ensures { IsKeptLine result.now }
+    {
         self.line.as_slice()
     }
 
@@ -50,9 +58,10 @@ impl PendingRequest {
         }
     }
 
-    // Puts a piece behind the line. If memory is refused for that, the line stays shorter.
-    fn join(&mut self, piece: Vec<u8>) {
+    // Puts a piece behind the line, as far as there is room. If memory is refused for that, the line stays shorter.
+    fn join(&mut self, mut piece: Vec<u8>) {
         let ends = ends_line(&piece);
+        piece.truncate(MAX_LINE - self.line.len());
         if self.line.is_empty() {
             self.line = piece;
         } else {

@@ -9,13 +9,15 @@ ghost use Rattle.vp_hub.specs.declared.event.Event.TheVariants.{Feed, Open};
 ghost use Rattle.vp_hub.specs.declared.event.HubFault.TheVariants.{Memory};
 ghost use Rattle.vp_hub.specs.Hub.{Outcome, IsStep, no_bytes};
 ghost use Rattle.vp_hub.specs.View.{is_memory as hub_is_memory};
+ghost use Rattle.vp_serve.specs.Bounds.{IsKeptLine};
 ghost use Rattle.vp_serve.specs.Connection.{Connection};
 ghost use Rattle.vp_serve.specs.Connections.{connection_of, unsent_of, next_action};
 ghost use Rattle.vp_serve.specs.Reasons.{IsReason};
 ghost use Rattle.vp_serve.specs.ServerLoop.{LoopState, initial, is_full, is_over, after_feed, Action, Accepted};
 ghost use Rattle.vp_serve.specs.ServerLoop.{Rejected, Received, Submitted, Sent, Closed, Grown, Fed, Ended};
 ghost use Rattle.vp_serve.specs.ServerLoop.{IsTransition};
-ghost use Rattle.vp_serve.specs.Turns.{AwaitsPeers, IsNextOpen, is_due};
+ghost use Rattle.vp_serve.specs.ServerLoop.{AwaitsPeers};
+ghost use Rattle.vp_serve.specs.Turns.{IsNextOpen, is_due};
 ghost use Rattle.std.specs.List.{list_any};
 ghost use Rattle.vp_serve.specs.Reading.{refusal_of_feed, is_idle, is_past};
 
@@ -171,9 +173,10 @@ impl ServerLoop {
     }
 
     /// The line of the request that the last reply of a connection answers, or of the next one if bytes were handed to
-    /// the hub since: the first line of it that isn't blank, without its line end.
+    /// the hub since: the first line of it that isn't blank, without its line end, and at most 8,192 bytes of it.
     pub fn request_line(&self, number: u32) -> &[u8]
-        ensures { connection_of number self.now.connections ≡ None → result.now ≡ [] }
+        ensures none { connection_of number self.now.connections ≡ None → result.now ≡ [] }
+        ensures short { IsKeptLine result.now }
     {
         match find(&self.connections, number) {
             Some(place) => self.connections[place].request_line(),

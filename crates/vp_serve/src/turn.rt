@@ -1,16 +1,17 @@
 //! One turn of the server over a transport: it accepts connections and attends those that are ready.
 
 ghost use Rattle.std.specs.Prelude.{◌≡◌, ◌∷◌, ◌||◌, [], List, Option, Some, IfOk, option_map, vec_len};
-ghost use Rattle.std.specs.Prelude.{true, false, IfSome};
+ghost use Rattle.std.specs.Prelude.{true, false, None, IfSome};
 ghost use Rattle.vp_hub.specs.Hub.{Outcome};
 ghost use Rattle.vp_serve.specs.Connection.{Connection};
 ghost use Rattle.vp_serve.specs.Connections.{connection_of, next_action};
-ghost use Rattle.vp_serve.specs.declared.connection.NextAction.TheVariants.{Submit, Close};
+ghost use Rattle.vp_serve.specs.declared.connection.NextAction.TheVariants.{Send, Submit, Receive, Close};
+ghost use Rattle.vp_serve.specs.Readiness.{AreNoReadier, IsReadyAt, is_ready_for};
 ghost use Rattle.vp_serve.specs.Reasons.{IsNotFinished, IsReason};
 ghost use Rattle.vp_serve.specs.ServerLoop.{Closed, IsTransition};
 ghost use Rattle.vp_serve.specs.Transfer.{Transfer, Closes, Logs};
 ghost use Rattle.vp_serve.specs.Transport.{ContinuesLoop};
-ghost use Rattle.vp_serve.specs.Parts.{IsArrival, IsSubmissionOf, IsTransferOf, Performs};
+ghost use Rattle.vp_serve.specs.Parts.{AreNoReadierBelow, IsArrival, IsSubmissionOf, IsTransferOf, Performs};
 ghost use Rattle.vp_serve.specs.Turns.{AttendsOne, IsDueAt, TakesTurn};
 ghost use Rattle.vp_serve.specs.Turns.{is_due_action};
 
@@ -29,7 +30,8 @@ pub fn turn<T: Transport>(
     now: u64,
 ) -> bool
     ensures continues { ContinuesLoop server.old server.new (T.log transport.old) (T.log transport.new) }
-    ensures fair { TakesTurn now server.old server.new (T.log transport.old) (T.log transport.new) }
+    ensures fair { TakesTurn now result server.old server.new (T.log transport.old) (T.log transport.new)
+        (T.readiness transport.old) (T.readiness transport.new) }
     ensures still { result ≡ false → server.new ≡ server.old }
 {
     let accepted = accept_all(server, transport, now);
@@ -44,7 +46,9 @@ pub(crate) fn either(a: bool, b: bool) -> bool
 }
 
 fn accept_all<T: Transport>(server: &mut ServerLoop, transport: &mut T, now: u64) -> bool
-    ensures { Performs (IsArrival now) result server.old server.new (T.log transport.old) (T.log transport.new) }
+    ensures performs { Performs (IsArrival now) result server.old server.new
+        (T.log transport.old) (T.log transport.new) }
+    ensures no_readier { AreNoReadierBelow server.old.next (T.readiness transport.old) (T.readiness transport.new) }
 {
     let mut accepted = false;
     for _ in 0..64 {
@@ -58,7 +62,9 @@ fn accept_all<T: Transport>(server: &mut ServerLoop, transport: &mut T, now: u64
 
 // Accepts a connection, if there is one and it may be open. False if there is none.
 fn accept_one<T: Transport>(server: &mut ServerLoop, transport: &mut T, now: u64) -> bool
-    ensures { Performs (IsArrival now) result server.old server.new (T.log transport.old) (T.log transport.new) }
+    ensures performs { Performs (IsArrival now) result server.old server.new
+        (T.log transport.old) (T.log transport.new) }
+    ensures no_readier { AreNoReadierBelow server.old.next (T.readiness transport.old) (T.readiness transport.new) }
 {
     if server.is_full() {
         return false;
@@ -83,7 +89,8 @@ fn attend_all<T: Transport>(
     transport: &mut T,
     now: u64,
 ) -> bool
-    ensures turn { TakesTurn now server.old server.new (T.log transport.old) (T.log transport.new) }
+    ensures turn { TakesTurn now result server.old server.new (T.log transport.old) (T.log transport.new)
+        (T.readiness transport.old) (T.readiness transport.new) }
     ensures still { result ≡ false → server.new ≡ server.old }
 {
     let mut moved = false;
@@ -96,7 +103,7 @@ fn attend_all<T: Transport>(
     moved
 }
 
-// Attends a connection, if what is due for it can be done.
+// Attends a connection, if it is ready for its next action.
 fn attend_if_ready<T: Transport>(
     alloc: Global,
     server: &mut ServerLoop,
@@ -106,6 +113,9 @@ fn attend_if_ready<T: Transport>(
 ) -> bool
     ensures own { AttendsOne number now result server.old server.new (T.log transport.old) (T.log transport.new) }
     ensures due { IsDueAt number server.old → result ≡ true }
+    ensures ready { IsReadyAt number (T.readiness transport.new) server.new → result ≡ true }
+    ensures only { result ≡ true → IsReadyAt number (T.readiness transport.old) server.old }
+    ensures no_readier { AreNoReadier (T.readiness transport.old) (T.readiness transport.new) }
 {
     if !is_ready(transport, number, server.next_action(number)) {
         return false;
@@ -114,7 +124,9 @@ fn attend_if_ready<T: Transport>(
 }
 
 fn is_ready<T: Transport>(transport: &T, number: u32, action: Option<NextAction>) -> bool
-    ensures { IfSome action (λ a. is_due_action a ≡ true → result ≡ true) }
+    ensures none { action ≡ None → result ≡ false }
+    ensures due { IfSome action (λ a. is_due_action a ≡ true → result ≡ true) }
+    ensures ready { IfSome action (λ a. result ≡ is_ready_for (T.readiness transport.now number) a) }
 {
     match action {
         Some(NextAction::Send) => transport.can_write(number),
@@ -126,7 +138,7 @@ fn is_ready<T: Transport>(transport: &T, number: u32, action: Option<NextAction>
 }
 
 /// Does what can be done at once for a connection: writes, reads, hands lines to the hub, writes the reply, and closes
-/// it if it is finished. False if nothing happened.
+/// it if it is finished. False if nothing happened, and then it is not ready for its next action.
 pub fn attend<T: Transport>(
     alloc: Global,
     server: &mut ServerLoop,
@@ -139,6 +151,8 @@ pub fn attend<T: Transport>(
     ensures own { AttendsOne number now result server.old server.new (T.log transport.old) (T.log transport.new) }
     ensures still { result ≡ false → server.new ≡ server.old }
     ensures due { IsDueAt number server.old → result ≡ true }
+    ensures ready { IsReadyAt number (T.readiness transport.new) server.new → result ≡ true }
+    ensures no_readier { AreNoReadier (T.readiness transport.old) (T.readiness transport.new) }
 {
     let sent = send(server, transport, number, now);
     let received = receive(alloc, server, transport, number, now);
@@ -153,8 +167,11 @@ pub fn attend<T: Transport>(
 
 // Writes to a connection, if bytes of its reply are left.
 fn send<T: Transport>(server: &mut ServerLoop, transport: &mut T, number: u32, now: u64) -> bool
-    ensures { Performs (IsTransferOf number now) result server.old server.new
+    ensures performs { Performs (IsTransferOf number now) result server.old server.new
         (T.log transport.old) (T.log transport.new) }
+    ensures blocks { option_map next_action (connection_of number server.old.connections) ≡ Some Send
+        → result ≡ false → (T.readiness transport.new number).write ≡ false }
+    ensures no_readier { AreNoReadier (T.readiness transport.old) (T.readiness transport.new) }
 {
     let Some(NextAction::Send) = server.next_action(number) else {
         return false;
@@ -172,7 +189,8 @@ fn send<T: Transport>(server: &mut ServerLoop, transport: &mut T, number: u32, n
     }
 }
 
-// Reads from a connection, if all its bytes are handed to the hub and all replies are written.
+// Reads from a connection, if all its bytes are handed to the hub and all replies are written. Closes it if memory is
+// refused for that.
 fn receive<T: Transport>(
     alloc: Global,
     server: &mut ServerLoop,
@@ -180,14 +198,18 @@ fn receive<T: Transport>(
     number: u32,
     now: u64,
 ) -> bool
-    ensures { Performs (IsTransferOf number now) result server.old server.new
+    ensures performs { Performs (IsTransferOf number now) result server.old server.new
         (T.log transport.old) (T.log transport.new) }
+    ensures blocks { option_map next_action (connection_of number server.old.connections) ≡ Some Receive
+        → result ≡ false → (T.readiness transport.new number).read ≡ false }
+    ensures no_readier { AreNoReadier (T.readiness transport.old) (T.readiness transport.new) }
 {
     let Some(NextAction::Receive) = server.next_action(number) else {
         return false;
     };
     let Ok(mut buffer) = zeroed(alloc, 4096) else {
-        return false;
+        close(server, transport, number, now, CloseReason::OutOfMemory);
+        return true;
     };
     match transport.read(number, &mut buffer) {
         ReadOutcome::Bytes(count) => {
@@ -225,6 +247,7 @@ fn submit_all<T: Transport>(
         (T.log transport.old) (T.log transport.new) }
     ensures due { option_map next_action (connection_of number server.old.connections) ≡ Some Submit
         → result ≡ true }
+    ensures no_readier { AreNoReadier (T.readiness transport.old) (T.readiness transport.new) }
 {
     let mut moved = false;
     for _line in 0..4096_u32 {
@@ -248,6 +271,7 @@ fn submit_one<T: Transport>(
         (T.log transport.old) (T.log transport.new) }
     ensures due { option_map next_action (connection_of number server.old.connections) ≡ Some Submit
         → result ≡ true }
+    ensures no_readier { AreNoReadier (T.readiness transport.old) (T.readiness transport.new) }
 {
     let Some(NextAction::Submit) = server.next_action(number) else {
         return false;
@@ -266,7 +290,8 @@ fn submit_one<T: Transport>(
 
 // Tells the transport of the reply to a line that was just handed to the hub, if there is one.
 fn tell_reply<T: Transport>(server: &ServerLoop, transport: &mut T, number: u32, now: u64)
-    ensures { T.log transport.new ≡ T.log transport.old }
+    ensures logs { T.log transport.new ≡ T.log transport.old }
+    ensures no_readier { AreNoReadier (T.readiness transport.old) (T.readiness transport.new) }
 {
     let reply = server.unsent(number);
     if reply.is_empty() {
@@ -287,6 +312,7 @@ fn close_finished<T: Transport>(
         (T.log transport.old) (T.log transport.new) }
     ensures due { option_map next_action (connection_of number server.old.connections) ≡ Some Close → result ≡ true }
     ensures closed { IsNotFinished number server.new.connections }
+    ensures no_readier { AreNoReadier (T.readiness transport.old) (T.readiness transport.new) }
 {
     let Some(NextAction::Close) = server.next_action(number) else {
         return false;
@@ -308,6 +334,7 @@ pub(crate) fn close<T: Transport>(
         × IsReason server.old.options now t reason }
     ensures closed { (o : Outcome) × IsTransition server.old (Closed number now reason o) server.new }
     ensures logs { Logs (T.log transport.old) (T.log transport.new) (Closes number reason ∷ []) }
+    ensures no_readier { AreNoReadier (T.readiness transport.old) (T.readiness transport.new) }
 {
     transport.close(number, reason);
     server.close(number, now, reason);

@@ -1,6 +1,6 @@
 -- The log of a transport in memory.
 use Rattle.std.specs.Prelude.{List, map}
-use Rattle.vp_serve.specs.Transfer.{Transfer, Accepts, Reads, Writes, PeerEnds, Fails, Closes, Grows}
+use Rattle.vp_serve.specs.Transfer.{Transfer, Accepts, Reads, Writes, PeerEnds, Fails, Closes, Grows, Waits}
 use Rattle.vp_serve_tests.specs.declared.entry.Entry.{Entry}
 use Rattle.vp_serve_tests.specs.declared.entry.Entry.TheVariants as entry
 
@@ -11,7 +11,8 @@ transfer_of (entry.Writes c bytes) = Writes c bytes
 transfer_of (entry.PeerEnds c) = PeerEnds c
 transfer_of (entry.Fails c) = Fails c
 transfer_of (entry.Closes c reason) = Closes c reason
-transfer_of (entry.Grows name bytes) = Grows name bytes
+transfer_of (entry.Grows place name bytes) = Grows place name bytes
+transfer_of entry.Waits = Waits
 
 abbrev pub transfers : List Entry → List Transfer
 transfers entries = map transfer_of entries

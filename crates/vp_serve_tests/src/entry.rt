@@ -19,8 +19,10 @@ pub enum Entry {
     Fails(u32),
     /// A connection is closed.
     Closes(u32, CloseReason),
-    /// The file of the stream of a name has more bytes.
-    Grows(ByteList, ByteList),
+    /// The file at an index, that of the stream of a name, has more bytes.
+    Grows(usize, ByteList, ByteList),
+    /// The server waits.
+    Waits,
 }
 
 /// A reply that the transport was told of.
@@ -70,9 +72,10 @@ impl fmt::Display for Entry {
             Entry::PeerEnds(number) => write!(f, "peer ends {number}\n"),
             Entry::Fails(number) => write!(f, "fails {number}\n"),
             Entry::Closes(number, reason) => write!(f, "closes {number} {reason:?}\n"),
-            Entry::Grows(name, bytes) => {
-                write!(f, "grows {} {}\n", text_of(name), text_of(bytes))
+            Entry::Grows(place, name, bytes) => {
+                write!(f, "grows {place} {} {}\n", text_of(name), text_of(bytes))
             }
+            Entry::Waits => f.write_str("waits\n"),
         }
     }
 }

@@ -61,6 +61,10 @@ pub struct Scripted<'a, H: Abort> {
     alloc: Global,
     script: Script,
     now: u64,
+    // Whether no read blocked since the last wait.
+    can_read: bool,
+    // Whether no write blocked since the last wait.
+    can_write: bool,
     log: Vec<Entry>,
     told: Vec<ToldReply>,
 }
@@ -73,6 +77,8 @@ impl<'a, H: Abort> Scripted<'a, H> {
             alloc,
             script,
             now: 0,
+            can_read: true,
+            can_write: true,
             log: Vec::new(alloc),
             told: Vec::new(alloc),
         }
@@ -163,7 +169,14 @@ impl<'a, H: Abort> Transport for Scripted<'a, H> {
 
     ghost log = { λ t. Some (transfers t.log.items) };
 
-    fn wait(&mut self, _is_busy: bool) -> u64 {
+    ghost readiness = { λ t _. record { read = t.can_read; write = t.can_write } };
+
+    fn wait(&mut self, is_busy: bool) -> u64 {
+        if !is_busy {
+            put(self.rt, &mut self.log, Entry::Waits);
+        }
+        self.can_read = true;
+        self.can_write = true;
         self.now = self.now.saturating_add(self.script.tick);
         self.now
     }
@@ -178,11 +191,11 @@ impl<'a, H: Abort> Transport for Scripted<'a, H> {
     }
 
     fn can_read(&self, _number: u32) -> bool {
-        true
+        self.can_read
     }
 
     fn can_write(&self, _number: u32) -> bool {
-        true
+        self.can_write
     }
 
     fn read(&mut self, number: u32, buffer: &mut [u8]) -> ReadOutcome {
@@ -193,7 +206,10 @@ impl<'a, H: Abort> Transport for Scripted<'a, H> {
                 put(self.rt, &mut self.log, Entry::Reads(number, copy));
                 ReadOutcome::Bytes(count)
             }
-            Input::Block => ReadOutcome::WouldBlock,
+            Input::Block => {
+                self.can_read = false;
+                ReadOutcome::WouldBlock
+            }
             Input::End => {
                 put(self.rt, &mut self.log, Entry::PeerEnds(number));
                 ReadOutcome::EndOfInput
@@ -213,7 +229,10 @@ impl<'a, H: Abort> Transport for Scripted<'a, H> {
                 put(self.rt, &mut self.log, Entry::Writes(number, copy));
                 WriteOutcome::Bytes(count)
             }
-            Room::Block => WriteOutcome::WouldBlock,
+            Room::Block => {
+                self.can_write = false;
+                WriteOutcome::WouldBlock
+            }
             Room::Fail => {
                 put(self.rt, &mut self.log, Entry::Fails(number));
                 WriteOutcome::Failed
@@ -237,7 +256,7 @@ impl<'a, H: Abort> Transport for Scripted<'a, H> {
         put(self.rt, &mut self.log, Entry::Closes(number, reason));
     }
 
-    fn read_file(&mut self, _place: usize, name: &[u8], buffer: &mut [u8]) -> usize {
+    fn read_file(&mut self, place: usize, name: &[u8], buffer: &mut [u8]) -> usize {
         let piece = next_piece(&mut self.script);
         let count = fill(piece.0, buffer);
         if count == 0 {
@@ -245,7 +264,7 @@ impl<'a, H: Abort> Transport for Scripted<'a, H> {
         }
         let name = copy_of(self.rt, self.alloc, name);
         let copy = prefix(self.rt, self.alloc, buffer, count);
-        put(self.rt, &mut self.log, Entry::Grows(name, copy));
+        put(self.rt, &mut self.log, Entry::Grows(place, name, copy));
         count
     }
 

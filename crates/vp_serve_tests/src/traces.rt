@@ -26,7 +26,8 @@ const NOTHING: Script = Script {
 };
 
 /// What passes if the reply is written in two parts.
-const TWO_PARTS: &str = "accepts 0
+const TWO_PARTS: &str = "waits
+accepts 0
 reads 0 GET /streams HTTP/1.1\r
 Host: x\r
 \r
@@ -43,9 +44,11 @@ closes 0 PeerEnded
 ";
 
 /// What passes if the request is read in two parts.
-const TWO_READS: &str = "accepts 0
+const TWO_READS: &str = "waits
+accepts 0
 reads 0 GET /streams HTTP/1.1\r
 Ho
+waits
 reads 0 st: x\r
 \r
 
@@ -60,7 +63,8 @@ closes 0 PeerEnded
 ";
 
 /// What passes if the first of two requests closes the connection.
-const FINISHED: &str = "accepts 0
+const FINISHED: &str = "waits
+accepts 0
 reads 0 GET /streams HTTP/1.1\r
 Host: x\r
 Connection: close\r
@@ -80,7 +84,8 @@ closes 0 Finished
 ";
 
 /// What passes if the read of a connection fails, and then the write of the next one.
-const FAILURES: &str = "accepts 0
+const FAILURES: &str = "waits
+accepts 0
 fails 0
 closes 0 TransferFailed
 accepts 1
@@ -93,8 +98,9 @@ closes 1 TransferFailed
 ";
 
 /// What passes if a file grows by two pieces, the second of which shows that it is no VP8 file.
-const FILE: &str = "grows a DKIF
-grows a     rubbish, which is no head of a file
+const FILE: &str = "grows 0 a DKIF
+grows 0 a     rubbish, which is no head of a file
+waits
 accepts 0
 reads 0 GET /s/a/info HTTP/1.1\r
 Host: x\r
@@ -232,7 +238,7 @@ fn idle_connection_is_closed(rt: HostRuntime) {
             rt.alloc(),
             options(1, 1),
             script,
-            "accepts 0\ncloses 0 IdleTimeout\n"
+            "waits\naccepts 0\nwaits\nwaits\nwaits\ncloses 0 IdleTimeout\n"
         )
     );
 }

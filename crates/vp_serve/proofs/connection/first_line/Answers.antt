@@ -1,5 +1,5 @@
 use Rattle.std.proofs.Common.{sym, ◌∙◌}
-use Rattle.vp_serve.proofs.FirstLine.{line_some, line_none}
+use Rattle.vp_hub.proofs.FirstLine.{line_some, line_none}
 use Rattle.vp_serve.proofs.connection.first_line.Goals as goal
 
 pub returns-in-Some-clause-line : goal.returns-in-Some-clause-line

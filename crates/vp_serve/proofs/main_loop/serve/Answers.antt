@@ -1,27 +1,34 @@
-use Rattle.std.proofs.Common.{refl}
-use Rattle.vp_serve.proofs.Continuing.{none, on}
-use Rattle.vp_serve.proofs.Timeouts.{scheduled_first}
+use Rattle.std.proofs.Common.{true, false, arith}
+use Rattle.vp_serve.proofs.LoopTurnLemmas.{turns_none, turns_more, turns_all}
+use Rattle.vp_serve.proofs.OneConnection.{true_false}
 use Rattle.vp_serve.proofs.main_loop.serve.Goals as goal
 
 pub loop-turn-init : goal.loop-turn-init
-loop-turn-init g c =
-    (none c.args.server.now (g.T.Transport.log c.args.transport.now) (g.T.Transport.log c.args.transport.now) refl, scheduled_first c.new-schedule.result c.args.server.now c.new-schedule.ensures)
+loop-turn-init g c = turns_none c.args.names.now c.new-schedule.result c.args.server.now (g.T.Transport.log c.args.transport.now) c.new-schedule.ensures
 
 pub loop-turn-preserved : goal.loop-turn-preserved
 loop-turn-preserved g c =
     let log = g.T.Transport.log in
-    let s = c.loop-turn.server in
-    let last = c.serve_turn.new in (
-      on c.args.server.now s last.server (log c.args.transport.now) (log c.loop-turn.transport) (log last.transport) c.loop-turn.invariant.0 c.serve_turn.ensures.continues,
-      c.serve_turn.ensures.scheduled c.loop-turn.invariant.1,
-    )
+    let last = c.serve_turn.new in
+    turns_more c.args.names.now c.loop-turn._turn c.loop-turn.schedule last.schedule c.args.server.now c.loop-turn.server last.server (log c.args.transport.now) (log c.loop-turn.transport) (log last.transport)
+    (g.T.Transport.readiness last.transport) c.loop-turn.invariant c.serve_turn.ensures.takes c.serve_turn.ensures.scheduled c.serve_turn.ensures.timely
 
 pub returns-clause-continues : goal.returns-clause-continues
-returns-clause-continues g c = c.loop-turn.invariant.0
+returns-clause-continues g c = c.loop-turn.invariant.does
+
+pub returns-clause-turns : goal.returns-clause-turns
+returns-clause-turns g c =
+    let log = g.T.Transport.log in
+    turns_all c.args.names.now false c.loop-turn._turn c.loop-turn.schedule c.args.server.now c.loop-turn.server (log c.args.transport.now) (log c.loop-turn.transport) c.loop-turn.invariant (λ h. omega arith)
+
+pub returns-then-is_over-clause-turns : goal.returns-then-is_over-clause-turns
+returns-then-is_over-clause-turns g c =
+    let log = g.T.Transport.log in
+    let last = c.serve_turn.new in
+    turns_all c.args.names.now true _ last.schedule c.args.server.now last.server (log c.args.transport.now) (log last.transport)
+    (turns_more c.args.names.now c.loop-turn._turn c.loop-turn.schedule last.schedule c.args.server.now c.loop-turn.server last.server (log c.args.transport.now) (log c.loop-turn.transport) (log last.transport)
+    (g.T.Transport.readiness last.transport) c.loop-turn.invariant c.serve_turn.ensures.takes c.serve_turn.ensures.scheduled c.serve_turn.ensures.timely)
+    (λ h. absurd (true_false h))
 
 pub returns-then-is_over-clause-continues : goal.returns-then-is_over-clause-continues
-returns-then-is_over-clause-continues g c =
-    let log = g.T.Transport.log in
-    let s = c.loop-turn.server in
-    let last = c.serve_turn.new in
-    on c.args.server.now s last.server (log c.args.transport.now) (log c.loop-turn.transport) (log last.transport) c.loop-turn.invariant.0 c.serve_turn.ensures.continues
+returns-then-is_over-clause-continues g c = (returns-then-is_over-clause-turns g c).does

@@ -7,5 +7,5 @@ decreases-loop-number g l = 2 ^ 32 - l.from
 
 abbrev pub invariant-loop-number : goal.invariant-loop-number
 invariant-loop-number g l =
-    TurnSoFar l.from l.fn.now l.fn.server l.server (g.T.Transport.log l.fn.transport) (g.T.Transport.log l.transport)
+    TurnSoFar l.from l.fn.now l.moved l.fn.server l.server (g.T.Transport.log l.fn.transport) (g.T.Transport.log l.transport) (g.T.Transport.readiness l.fn.transport) (g.T.Transport.readiness l.transport)
     × (l.moved ≡ false → l.server ≡ l.fn.server)

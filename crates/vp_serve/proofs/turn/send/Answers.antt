@@ -8,8 +8,8 @@ use Rattle.vp_serve.specs.Parts.{IsTransferOf}
 use Rattle.vp_serve.proofs.Performing.{performs_one}
 use Rattle.vp_serve.proofs.turn.send.Goals as goal
 
-pub returns-in-Bytes : goal.returns-in-Bytes
-returns-in-Bytes g c =
+pub returns-in-Bytes-clause-performs : goal.returns-in-Bytes-clause-performs
+returns-in-Bytes-clause-performs g c =
     let a = g.T.Transport.log c.args.transport.now in
     let b = g.T.Transport.log c.write.new.self in
     let n = c.args.number in
@@ -17,8 +17,8 @@ returns-in-Bytes g c =
     performs_one (IsTransferOf c.args.number c.args.now) c.args.server.now c.sent.new.self (Sent n c.args.now (take count (unsent_of n c.args.server.now.connections))) a b c.sent.ensures
     (subst (λ (l : List ℕ). Logs a b (Writes n (take count l) ∷ [])) c.unsent.ensures c.in-Bytes.ensures.logs) refl (refl, refl)
 
-pub returns-in-Failed : goal.returns-in-Failed
-returns-in-Failed g c =
+pub returns-in-Failed-clause-performs : goal.returns-in-Failed-clause-performs
+returns-in-Failed-clause-performs g c =
     let a = g.T.Transport.log c.args.transport.now in
     let b = g.T.Transport.log c.write.new.self in
     let d = g.T.Transport.log c.close.new.transport in

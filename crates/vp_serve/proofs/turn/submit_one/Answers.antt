@@ -11,7 +11,7 @@ returns-in-Ok-clause-performs g c =
     let a = g.T.Transport.log c.args.transport.now in
     let b = g.T.Transport.log c.tell_reply.new.transport in
     let h = c.in-Ok.ensures.ok in
-    performs_one (IsSubmissionOf c.args.number c.args.now) c.args.server.now c.submit.new.self (Submitted c.args.number c.args.now h.0 h.1) a b h.2 (logs_none a b c.tell_reply.ensures) refl (refl, refl)
+    performs_one (IsSubmissionOf c.args.number c.args.now) c.args.server.now c.submit.new.self (Submitted c.args.number c.args.now h.0 h.1) a b h.2 (logs_none a b c.tell_reply.ensures.logs) refl (refl, refl)
 
 pub returns-in-Err-clause-performs : goal.returns-in-Err-clause-performs
 returns-in-Err-clause-performs g c =

@@ -1,0 +1,121 @@
+-- The loop: turn after turn, with waits, idle timeouts and files that grow.
+use Rattle.std.specs.Prelude.{◌≡◌, ◌⊎◌, ◌||◌, ◌++◌, ◌∷◌, ◌^◌, ◌-◌, [], ℕ, Bool, true, false, List, Option, length}
+use Rattle.std.specs.Prelude.{◌≤◌, ◌<◌, ◌+◌, Some, flat_map, slice_get, if◌then◌else◌}
+use Rattle.std.specs.List.{list_any}
+use Rattle.vp_serve.specs.declared.reason.CloseReason.TheVariants.{IdleTimeout}
+use Rattle.vp_serve.specs.declared.schedule.Schedule.{Schedule}
+use Rattle.vp_serve.specs.Connection.{Connection}
+use Rattle.vp_serve.specs.Connections.{connection_of}
+use Rattle.vp_serve.specs.ServerLoop.{LoopState, AwaitsPeers, Action, Closed, Grown, Fed, Waited, IsTrace}
+use Rattle.vp_serve.specs.Files.{is_fed}
+use Rattle.vp_serve.specs.Readiness.{Readiness, IsReadyAt}
+use Rattle.vp_serve.specs.Transfer.{Transfer}
+use Rattle.vp_serve.specs.Transport.{ContinuesLoop}
+use Rattle.vp_serve.specs.Turns.{AreAll, has_actions, is_due, is_of, IsTurn}
+use Rattle.vp_serve.specs.Schedule.{IsCounted, IsPolled, IsScheduled, IsTimely}
+
+-- an action closes a connection whose idle timeout is over at a time
+abbrev pub IsIdleClosing : ℕ → Action → Type 0
+IsIdleClosing now (Closed c time IdleTimeout o) = time ≡ now
+IsIdleClosing now _ = ⊥
+
+-- an action reads a piece of the file that is followed under its name, or feeds a piece to its stream
+abbrev pub IsOfFile : List (List ℕ) → Action → Type 0
+IsOfFile names (Grown piece) = slice_get names piece.place ≡ Some piece.name
+IsOfFile names (Fed piece o) = Unit {0}
+IsOfFile names _ = ⊥
+
+-- The server follows the files of these names and does nothing else, and just its transfers are logged.
+pub record FollowsFiles (names : List (List ℕ)) (old new : LoopState)
+    (before after : Option (List Transfer)) : Type 0 where
+  pub does : ContinuesLoop old new before after
+  pub files : AreAll (IsOfFile names) does.trace
+
+-- something may be done at once: something just happened, or a connection is due
+abbrev pub is_busy : Schedule → LoopState → Bool
+is_busy s d = s.is_busy || list_any is_due d.connections
+
+-- the server waits, unless it is busy
+abbrev pub waiting : Bool → List Action
+waiting busy = if busy then [] else Waited ∷ []
+
+-- The trace of a turn of the loop. The server waits, unless it is busy; connections are accepted and attended; some of
+-- those whose idle timeout is over are closed; and the streams of these names are fed, once the clock has reached the
+-- next poll. If it is not busy then, each connection waits for its peer, none was attended and none was closed. If it
+-- is, something happened or a connection is due.
+pub record IsLoopTurn (names : List (List ℕ)) (s r : Schedule) (d : LoopState) (trace : List Action)
+    (e : LoopState) : Type 0 where
+  pub attended : LoopState
+  pub left : LoopState
+  pub taken : List Action
+  pub closings : List Action
+  pub feeds : List Action
+  pub whole : trace ≡ waiting (is_busy s d) ++ (taken ++ (closings ++ feeds))
+  pub turn : IsTurn r.time d taken attended
+  pub closes : IsTrace attended closings left
+  pub idle : AreAll (IsIdleClosing r.time) closings
+  pub grows : IsTrace left feeds e
+  pub files : AreAll (IsOfFile names) feeds
+  pub polls : r.clock < s.next_poll → feeds ≡ []
+  pub polled : IsPolled e.options.poll_interval (list_any is_fed feeds) s r
+  pub counted : IsCounted s r
+  pub rests : r.is_busy ≡ false → AwaitsPeers e × (taken ≡ []) × (closings ≡ [])
+  pub moves : r.is_busy ≡ true
+      → (has_actions (taken ++ (closings ++ feeds)) ≡ true) ⊎ (list_any is_due e.connections ≡ true)
+
+-- The server takes a turn of the loop, and just its transfers are logged. Each connection that is ready for its next
+-- action after the turn has had an action in it.
+pub record TakesLoopTurn (names : List (List ℕ)) (s r : Schedule) (d e : LoopState)
+    (before after : Option (List Transfer)) (readiness : ℕ → Readiness) : Type 0 where
+  pub does : ContinuesLoop d e before after
+  pub turn : IsLoopTurn names s r d does.trace e
+  pub attended : (c : ℕ) → IsReadyAt c readiness e → list_any (is_of c) does.trace ≡ true
+
+-- what a turn did, and the schedule and the server after it
+pub record LoopTurn : Type 0 where
+  pub trace : List Action
+  pub schedule : Schedule
+  pub server : LoopState
+
+-- one turn after another; after each, no connection is open a second after its idle timeout
+abbrev pub AreLoopTurns : List (List ℕ) → Schedule → LoopState → List LoopTurn → Schedule → LoopState → Type 0
+AreLoopTurns names s d [] r e = (r ≡ s) × (e ≡ d)
+AreLoopTurns names s d (x ∷ xs) r e =
+    IsLoopTurn names s x.schedule d x.trace x.server × IsScheduled x.schedule x.server
+    × IsTimely x.schedule.time x.server × AreLoopTurns names x.schedule x.server xs r e
+
+-- before the first turn, when everything is due
+abbrev pub first_schedule : Schedule
+first_schedule = record { time = 0; clock = 0; next_check = 0; next_poll = 0; is_busy = false }
+
+-- The server takes turns of the loop, and just their transfers are logged: so many that it is over, or 2 ^ 64 - 1.
+pub record TakesLoopTurns (names : List (List ℕ)) (over : Bool) (d e : LoopState)
+    (before after : Option (List Transfer)) : Type 0 where
+  pub turns : List LoopTurn
+  pub last : Schedule
+  pub does : ContinuesLoop d e before after
+  pub are : AreLoopTurns names first_schedule d turns last e
+  pub whole : does.trace ≡ flat_map (λ x. x.trace) turns
+  pub count : over ≡ false → length turns ≡ 2 ^ 64 - 1
+
+-- ---- laws
+
+-- at the end of a turn of the loop no connection is open a second after its idle timeout
+abbrev pub TurnsAreTimely : Type 0
+TurnsAreTimely = (names : List (List ℕ)) (s r : Schedule) (d e : LoopState) (earlier later : List LoopTurn)
+    (x : LoopTurn)
+    → AreLoopTurns names s d (earlier ++ x ∷ later) r e
+    → (c : ℕ) (t : Connection) → connection_of c x.server.connections ≡ Some t
+    → x.schedule.time < t.last_active + x.server.options.idle_timeout + 1000
+
+-- from one turn of the loop to the next the time does not go back, and grows by a quarter of a second at most
+abbrev pub TimeIsCounted : Type 0
+TimeIsCounted = (names : List (List ℕ)) (s r : Schedule) (d e : LoopState) (earlier later : List LoopTurn)
+    (x y : LoopTurn)
+    → AreLoopTurns names s d (earlier ++ x ∷ y ∷ later) r e
+    → (x.schedule.time ≤ y.schedule.time) × (y.schedule.time ≤ x.schedule.time + 250)
+    × (x.schedule.clock ≤ y.schedule.clock → y.schedule.clock ≤ x.schedule.clock + 250
+    → x.schedule.time + y.schedule.clock < 2 ^ 64
+    → y.schedule.time + x.schedule.clock ≡ x.schedule.time + y.schedule.clock)
+    × (x.schedule.clock + 250 ≤ y.schedule.clock → x.schedule.time + 250 < 2 ^ 64
+    → y.schedule.time ≡ x.schedule.time + 250)
