@@ -1,0 +1,4 @@
+pub mod AccessLines
+pub mod OpenSockets
+pub mod PlainLines
+pub mod OtherSockets

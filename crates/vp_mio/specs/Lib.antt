@@ -1,1 +1,4 @@
+pub mod AccessLine
+pub mod Growth
 pub mod Lines
+pub mod Sockets

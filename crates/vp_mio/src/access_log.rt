@@ -1,7 +1,9 @@
 //! A line for each reply, for whoever runs the server.
 
-ghost use Rattle.std.specs.Prelude.{◌≡◌, ◌≤◌, IfSome, length};
-ghost use Rattle.vp_mio.specs.Lines.{IsPlainLine};
+ghost use Rattle.std.specs.Prelude.{◌≡◌, ◌≤◌, ◌++◌, ℕ, List, IfSome, true, codes, flat_map, length};
+ghost use Rattle.vp_mio.specs.AccessLine.{IsAccessLine, IsTimeText, numbers_text, peer_text, status_text};
+ghost use Rattle.vp_mio.specs.Growth.{GrowsBy};
+ghost use Rattle.vp_mio.specs.Lines.{IsPlainLine, printed};
 
 use crate::line::Line;
 use httpdate::HttpDate;
@@ -29,45 +31,63 @@ pub struct Access<'a> {
 /// A line about a reply: the time, the connection, its peer, the line of the request, the status, the number of bytes
 /// behind the reply's head, and the number of decoded packets. `None` if memory was refused.
 pub fn access_line(alloc: Global, access: &Access<'_>) -> Option<Vec<u8>>
-    ensures { IfSome result (λ line. IsPlainLine line.items) }
+    ensures plain { IfSome result (λ line. IsPlainLine line.items) }
+    ensures fields { IfSome result (λ line. IsAccessLine access.now line.items) }
 {
     let mut line = Line::new(alloc);
     line.put(b"[");
     put_time(&mut line, access.seconds);
-    put_peer(alloc, &mut line, access);
+    if !put_peer(alloc, &mut line, access) {
+        return None;
+    }
     line.put_quoted(access.request);
-    put_reply(alloc, &mut line, access);
+    if !put_reply(alloc, &mut line, access) {
+        return None;
+    }
     line.end()
 }
 
-// Appends a time as HTTP writes it, or as seconds if it is behind the year 9999.
-fn put_time(line: &mut Line, seconds: u64) {
+// Appends a time as HTTP writes it. Behind the year 9999 it appends nothing.
+fn put_time(line: &mut Line, seconds: u64)
+    ensures { (time : List ℕ) × IsTimeText seconds time × GrowsBy line.old line.new (flat_map printed time) }
+{
     if let Ok(date) = HttpDate::from_unix_secs(seconds) {
         line.put(&date.to_bytes());
     }
 }
 
-// Appends the number of a connection, and its peer.
-fn put_peer(alloc: Global, line: &mut Line, access: &Access<'_>) {
+// Appends the number of a connection, and its peer. False if memory was refused.
+fn put_peer(alloc: Global, line: &mut Line, access: &Access<'_>) -> bool
+    ensures { result ≡ true →
+        GrowsBy line.old line.new (flat_map printed (peer_text access.now.number access.now.peer)) }
+{
     let mut text = Vec::new(alloc);
-    let _ = match access.peer {
+    let written = match access.peer {
         Some(peer) => write!(text, "] {} {peer} ", access.number),
         None => write!(text, "] {} - ", access.number),
     };
     line.put(&text);
+    written.is_ok()
 }
 
-// Appends the status of a reply, the bytes behind its head, and the number of packets.
-fn put_reply(alloc: Global, line: &mut Line, access: &Access<'_>) {
+// Appends the status of a reply, the bytes behind its head, and the number of packets. False if memory was refused.
+fn put_reply(alloc: Global, line: &mut Line, access: &Access<'_>) -> bool
+    ensures { result ≡ true → (count : ℕ) × (count ≤ length access.now.reply.now)
+        × GrowsBy line.old line.new (codes " " ++ (flat_map printed (status_text access.now.reply.now)
+        ++ flat_map printed (numbers_text count access.now.packets))) }
+{
     line.put(b" ");
     line.put(status_of(access.reply));
     let mut text = Vec::new(alloc);
-    let _ = write!(text, " {} {}", body_length(access.reply), access.packets);
+    let written = write!(text, " {} {}", body_length(access.reply), access.packets);
     line.put(&text);
+    written.is_ok()
 }
 
 // The three digits behind `HTTP/1.1 `.
-fn status_of(reply: &[u8]) -> &[u8] {
+fn status_of(reply: &[u8]) -> &[u8]
+    ensures { result.now ≡ status_text reply.now }
+{
     if reply.len() < 12 {
         b"-"
     } else {

@@ -3,6 +3,7 @@
 
 mod access_log;
 mod files;
+mod laws;
 mod line;
 mod lingering;
 mod socket;
@@ -11,4 +12,5 @@ mod transport;
 
 pub use access_log::{Access, access_line};
 pub use files::FollowedFile;
+pub use laws::plain_lines_are_printable;
 pub use transport::MioTransport;

@@ -1,6 +1,10 @@
 //! The transport over mio: a listener, sockets that do not block, and files.
 
-ghost use Rattle.std.specs.Prelude.{◌≤◌, length, None};
+ghost use Rattle.std.specs.Prelude.{◌≡◌, ◌≢◌, ◌≤◌, ◌||◌, ◌∷◌, [], ℕ, true, false, length, None, if◌then◌else◌};
+ghost use Rattle.vp_serve.specs.Readiness.{AreNoReadier};
+ghost use Rattle.vp_serve.specs.Transfer.{Accepts, Closes, Logs};
+ghost use Rattle.vp_serve.specs.Transport.{wait_transfers};
+ghost use Rattle.vp_mio.specs.Sockets.{AreAsOpen, readiness_of};
 
 use crate::access_log::{Access, access_line};
 use crate::files::FollowedFile;
@@ -72,8 +76,8 @@ impl<'a, C: Clock, F: Read + Drop, E: Write> MioTransport<'a, C, F, E> {
         })
     }
 
-    /// Prints a line on `errors` for each reply from now on: the time, the connection, its peer, the line of the request,
-    /// the status, the number of bytes behind the reply's head, and the number of decoded packets.
+    /// Prints a line on `errors` for each reply from now on: the time, the connection, its peer, the line of the
+    /// request, the status, the number of bytes behind the reply's head, and the number of decoded packets.
     pub fn log_accesses(&mut self) {
         self.logs_accesses = true;
     }
@@ -96,23 +100,22 @@ impl<'a, C: Clock, F: Read + Drop, E: Write> MioTransport<'a, C, F, E> {
     }
 
     // Waits for events, and notes what they report. If that fails, it waits all the same.
-    fn poll_sockets(&mut self, milliseconds: u64) {
+    fn poll_sockets(&mut self, milliseconds: u64)
+        ensures { AreAsOpen self.old.sockets self.new.sockets }
+    {
         let timeout = Duration::from_millis(milliseconds);
         if self.poll.poll(&mut self.events, Some(timeout)).is_err() {
             self.clock.sleep(timeout);
         }
-        for event in self.events.iter() {
-            let token = event.token().0;
-            if token == LISTENER {
-                self.can_accept = true;
-            } else if let Ok(number) = u32::try_from(token) {
-                self.sockets.mark(number, readiness_of(event));
-            }
+        if note_events(&self.events, &mut self.sockets) {
+            self.can_accept = true;
         }
     }
 
     // The milliseconds since the start, or the last ones if the clock can't be read.
-    fn read_clock(&mut self) -> u64 {
+    fn read_clock(&mut self) -> u64
+        ensures { self.new.sockets ≡ self.old.sockets }
+    {
         if let Ok(passed) = self.start.elapsed(self.clock) {
             self.now = passed
                 .as_secs()
@@ -134,7 +137,9 @@ impl<'a, C: Clock, F: Read + Drop, E: Write> MioTransport<'a, C, F, E> {
     }
 
     // The stream and the peer of the next connection that waits to be accepted.
-    fn next_stream(&mut self) -> Option<(mio::net::TcpStream, SocketAddr)> {
+    fn next_stream(&mut self) -> Option<(mio::net::TcpStream, SocketAddr)>
+        ensures { self.new.sockets ≡ self.old.sockets }
+    {
         let listener = self.listener.as_ref()?;
         match listener.accept() {
             Ok(accepted) => Some(accepted),
@@ -148,6 +153,29 @@ impl<'a, C: Clock, F: Read + Drop, E: Write> MioTransport<'a, C, F, E> {
     }
 }
 
+// Notes what events report of sockets. True if one is of the listener.
+fn note_events(events: &Events, sockets: &mut Sockets) -> bool
+    ensures { AreAsOpen sockets.old sockets.new }
+{
+    let mut can_accept = false;
+    for event in events.iter() {
+        let token = event.token().0;
+        if token == LISTENER {
+            can_accept = true;
+        } else if let Ok(number) = u32::try_from(token) {
+            sockets.mark(number, readiness_of(event));
+        }
+    }
+    can_accept
+}
+
+// How many milliseconds a wait may last: none while work is left, else a tick.
+fn timeout_of(is_busy: bool, drains: bool, tick: u64) -> u64
+    ensures { result ≡ (if is_busy || drains then 0 else tick) }
+{
+    if is_busy || drains { 0 } else { tick }
+}
+
 // Whether the peer of a connection that is closed may have to read its last reply yet.
 fn lingers(reason: CloseReason) -> bool {
     match reason {
@@ -158,18 +186,28 @@ fn lingers(reason: CloseReason) -> bool {
 
 impl<'a, C: Clock, F: Read + Drop, E: Write> Transport for MioTransport<'a, C, F, E> {
     ghost use Rattle.std.specs.Prelude.{None};
+    ghost use Rattle.vp_mio.specs.Sockets.{readiness_of};
 
     ghost log = { λ _. None };
 
-    fn wait(&mut self, is_busy: bool) -> u64 {
-        let milliseconds = if is_busy || self.drains { 0 } else { self.tick };
-        self.poll_sockets(milliseconds);
+    ghost readiness = { λ t. readiness_of t.sockets };
+
+    fn wait(&mut self, is_busy: bool) -> u64
+        ensures logs { Logs None None (wait_transfers is_busy) }
+        ensures as_open { AreAsOpen self.old.sockets self.new.sockets }
+    {
+        self.poll_sockets(timeout_of(is_busy, self.drains, self.tick));
         let now = self.read_clock();
         self.drains = self.sockets.drain(now);
         now
     }
 
-    fn accept(&mut self, number: u32) -> bool {
+    fn accept(&mut self, number: u32) -> bool
+        ensures logs { Logs None None (if result then Accepts number ∷ [] else []) }
+        ensures others { (c : ℕ) → c ≢ number → readiness_of self.new.sockets c ≡ readiness_of self.old.sockets c }
+        ensures added { result ≡ true → readiness_of self.new.sockets number ≡ record { read = true; write = true } }
+        ensures refused { result ≡ false → self.new.sockets ≡ self.old.sockets }
+    {
         if !self.can_accept || self.sockets.is_full() {
             return false;
         }
@@ -191,17 +229,11 @@ impl<'a, C: Clock, F: Read + Drop, E: Write> Transport for MioTransport<'a, C, F
     }
 
     fn can_read(&self, number: u32) -> bool {
-        match self.sockets.ready(number) {
-            Some(ready) => ready.read,
-            None => true,
-        }
+        self.sockets.can_read(number)
     }
 
     fn can_write(&self, number: u32) -> bool {
-        match self.sockets.ready(number) {
-            Some(ready) => ready.write,
-            None => true,
-        }
+        self.sockets.can_write(number)
     }
 
     fn read(&mut self, number: u32, buffer: &mut [u8]) -> ReadOutcome {
@@ -229,7 +261,11 @@ impl<'a, C: Clock, F: Read + Drop, E: Write> Transport for MioTransport<'a, C, F
         }
     }
 
-    fn close(&mut self, number: u32, reason: CloseReason) {
+    fn close(&mut self, number: u32, reason: CloseReason)
+        ensures logs { Logs None None (Closes number reason ∷ []) }
+        ensures no_readier { AreNoReadier (readiness_of self.old.sockets) (readiness_of self.new.sockets) }
+        ensures unready { readiness_of self.new.sockets number ≡ record { read = false; write = false } }
+    {
         self.sockets.close(number, lingers(reason), self.now);
     }
 
