@@ -10,15 +10,16 @@ use Rattle.vp_app.specs.Commands.{status_by_fault}
 use Rattle.vp_app.specs.Listing.{survey_text}
 use Rattle.vp_app.specs.Serving.{IsServed}
 use Rattle.std.proofs.Common.{◌≡◌, ◌⊎◌, inl, inr, List, [], ◌∷◌, ℕ, Bool, true, false, refl, sym, subst}
-use Rattle.std.specs.Prelude.{Result, Err, MatchBool}
+use Rattle.std.specs.Prelude.{Result, Err, MatchBool, codes}
 use Rattle.std.specs.Borrow.{Bor}
 use Rattle.clap.specs.Kinds.{HasKind, IsAmong, Kinds}
 use Rattle.clap.specs.Values.{kind_of}
-use Rattle.clap.specs.Walk.{Text}
+use Rattle.clap.specs.Walk.{Text, one_of}
 use Rattle.clap.specs.declared.error.Error.{Error}
 use Rattle.clap.specs.declared.error.kind.ErrorKind.TheVariants.{OutOfMemory}
 use Rattle.vp_stream.specs.declared.form.Form.{Form}
 use Rattle.vp_stream.specs.declared.report.Report.{Report}
+use Rattle.vp_frames.specs.declared.report.RangeReport.{RangeReport}
 use Rattle.vp_stream.specs.declared.outcomes.Survey.{Survey}
 use Rattle.vp_stream.specs.declared.fault.DecodeFault.{DecodeFault}
 use Rattle.vp_stream.specs.declared.fault.DecodeFault.TheVariants.{Device, Memory}
@@ -26,19 +27,20 @@ use Rattle.vp_encode.specs.declared.settings.Settings.{Settings}
 use Rattle.vp_encode.specs.declared.report.EncodeReport.{EncodeReport}
 use Rattle.vp_encode.specs.declared.report.EncodeAllFault.{EncodeAllFault}
 use Rattle.vp_encode.specs.declared.report.EncodeAllFault.TheVariants as encode_fault
+use Rattle.vp_args.specs.declared.decode_args.DecodeRangeArgs.{DecodeRangeArgs}
 use Rattle.vp_args.specs.declared.encode_args.EncodeArgs.{EncodeArgs}
 use Rattle.vp_args.specs.declared.serve_args.ServeArgs.{ServeArgs}
 use Rattle.vp_app.specs.declared.service.ServiceFault.{ServiceFault}
 use Rattle.vp_args.specs.declared.args.Task.{Task}
-use Rattle.vp_args.specs.declared.args.Task.TheVariants.{Decode, Encode, Info, Serve, ServeMany, Nothing}
+use Rattle.vp_args.specs.declared.args.Task.TheVariants.{Decode, DecodeRange, Encode, Info, Serve, ServeMany, Nothing}
 use Rattle.vp_args.specs.declared.args.Refusal.{Refusal}
 use Rattle.vp_args.specs.declared.args.Refusal.TheVariants.{Words, Value}
 use Rattle.vp_app.specs.Status.{status_of}
 use Rattle.vp_args.specs.declared.serve_args.ServeManyArgs.{ServeManyArgs}
 use Rattle.vp_app.specs.declared.many.ManyFault.{ManyFault}
 use Rattle.vp_app.specs.Many.{ServesMany, status_by_many}
-use Rattle.vp_args.specs.Args.{ParsedArgs, decodes, encodes, tells, serves, serves_many, nothing, parsed_args, faults_of, IsForMemory, IsOfValue, IsTaskFor, IsMistake, IsRefusalFor, HasInvalidValue, AreMistaken, IsFlag}
-use Rattle.vp_app.specs.Commands.{DecodesFile, DecodesInto, Does, EncodesFile, EncodesInto, IsFileDecoded, IsFileEncoded, IsUnbegun, IsUnopened, IsUsageFault, SurveysFile, SurveysInput, Over, ServesConnections, Side, PrintsSurvey, is_stream, is_y4m, settings_of, status_by_report, status_by_service}
+use Rattle.vp_args.specs.Args.{ParsedArgs, decodes, decodes_range, encodes, tells, serves, serves_many, nothing, parsed_args, faults_of, IsForMemory, IsOfValue, IsTaskFor, IsMistake, IsRefusalFor, HasInvalidValue, AreMistaken, IsFlag}
+use Rattle.vp_app.specs.Commands.{DecodesFile, DecodesInto, DecodesRange, DecodesRangeInto, Does, EncodesFile, EncodesInto, IsFileDecoded, IsFileEncoded, IsFileRangeDecoded, IsUnbegun, IsUnopened, IsUsageFault, SurveysFile, SurveysInput, Over, ServesConnections, Side, PrintsSurvey, is_stream, is_y4m, settings_of, status_by_range, status_by_report, status_by_service}
 
 pub over_stream : (name : List ℕ) (Work : Side → Side → Type 0) (old new : Side) → is_stream name ≡ true → Work old new → Over name Work old new
 over_stream name Work old new e h =
@@ -78,6 +80,32 @@ from_file form from to done i a b o o' e h = inr (over_file from (λ a b. Decode
 pub from_none : (form : Form) (from to : List ℕ) (fault : DecodeFault) (i o : Side) → is_stream from ≡ false → (fault ≡ Device) ⊎ (fault ≡ Memory)
     → DecodesFile form from to (Err fault) i i o o
 from_none form from to fault i o e f = inl (unopened Device Memory from fault e f, refl, refl)
+
+-- ---- to decode a range
+
+pub range_into_stream : (form : Form) (first last : ℕ) (to : List ℕ) (done : Result RangeReport DecodeFault) (i i' o o' : Side) → is_stream to ≡ true
+    → IsFileRangeDecoded form first last done i i' o o' → DecodesRangeInto form first last to done i i' o o'
+range_into_stream form first last to done i i' o o' e h = inr (over_stream to (IsFileRangeDecoded form first last done i i') o o' e h)
+
+pub range_into_file : (form : Form) (first last : ℕ) (to : List ℕ) (done : Result RangeReport DecodeFault) (i i' o a b : Side) → is_stream to ≡ false
+    → IsFileRangeDecoded form first last done i i' a b → DecodesRangeInto form first last to done i i' o o
+range_into_file form first last to done i i' o a b e h = inr (over_file to (IsFileRangeDecoded form first last done i i') o a b e h)
+
+pub range_into_none : (form : Form) (first last : ℕ) (to : List ℕ) (fault : DecodeFault) (i o : Side) → is_stream to ≡ false → (fault ≡ Device) ⊎ (fault ≡ Memory)
+    → DecodesRangeInto form first last to (Err fault) i i o o
+range_into_none form first last to fault i o e f = inl (unopened Device Memory to fault e f, refl, refl)
+
+pub range_stream : (form : Form) (first last : ℕ) (from to : List ℕ) (done : Result RangeReport DecodeFault) (i i' o o' : Side) → is_stream from ≡ true
+    → DecodesRangeInto form first last to done i i' o o' → DecodesRange form first last from to done i i' o o'
+range_stream form first last from to done i i' o o' e h = inr (over_stream from (λ a b. DecodesRangeInto form first last to done a b o o') i i' e h)
+
+pub range_file : (form : Form) (first last : ℕ) (from to : List ℕ) (done : Result RangeReport DecodeFault) (i a b o o' : Side) → is_stream from ≡ false
+    → DecodesRangeInto form first last to done a b o o' → DecodesRange form first last from to done i i o o'
+range_file form first last from to done i a b o o' e h = inr (over_file from (λ a b. DecodesRangeInto form first last to done a b o o') i a b e h)
+
+pub range_none : (form : Form) (first last : ℕ) (from to : List ℕ) (fault : DecodeFault) (i o : Side) → is_stream from ≡ false → (fault ≡ Device) ⊎ (fault ≡ Memory)
+    → DecodesRange form first last from to (Err fault) i i o o
+range_none form first last from to fault i o e f = inl (unopened Device Memory from fault e f, refl, refl)
 
 -- ---- to look
 
@@ -125,6 +153,21 @@ does_decode asked plan y4m form from to done status i i' o o' e y h s d = go ask
   where
     go : (x : ParsedArgs) → IsTaskFor x (Decode y4m from to) → Does x status i i' o o'
     go (decodes flag f t) p = rw (← p.1, ← p.2) (inl (form, done, subst (IsFlag flag) (sym y) p.0, s, d))
+    go (decodes_range rows f t) p = absurd p
+    go (encodes rows f t) p = absurd p
+    go (tells f) p = absurd p
+    go (serves r a c t) p = absurd p
+    go (serves_many r a t) p = absurd p
+    go nothing p = absurd p
+
+pub does_decode_range : (asked : ParsedArgs) (plan : Task) (wanted : DecodeRangeArgs) (form : Form) (done : Result RangeReport DecodeFault) (status : ℕ) (i i' o o' : Side)
+    → plan ≡ DecodeRange wanted → is_y4m form ≡ wanted.y4m → IsTaskFor asked plan → status ≡ status_by_range wanted.last done
+    → DecodesRange form wanted.first wanted.last wanted.input.now wanted.output.now done i i' o o' → Does asked status i i' o o'
+does_decode_range asked plan wanted form done status i i' o o' e y h s d = go asked (subst (IsTaskFor asked) e h)
+  where
+    go : (x : ParsedArgs) → IsTaskFor x (DecodeRange wanted) → Does x status i i' o o'
+    go (decodes flag f t) p = absurd p
+    go (decodes_range rows f t) p = rw (← p.2, ← p.3) (inl (form, wanted.first, wanted.last, done, subst (IsFlag (one_of (codes "y4m") rows)) (sym y) p.0, p.1, s, d))
     go (encodes rows f t) p = absurd p
     go (tells f) p = absurd p
     go (serves r a c t) p = absurd p
@@ -138,6 +181,7 @@ does_encode asked plan encoding done status i i' o o' e h s d = go asked (subst 
   where
     go : (x : ParsedArgs) → IsTaskFor x (Encode encoding) → Does x status i i' o o'
     go (decodes flag f t) p = absurd p
+    go (decodes_range rows f t) p = absurd p
     go (encodes rows f t) p = rw (← p.2, ← p.3) (inl (encoding.options, done, p.0, s, d))
     go (tells f) p = absurd p
     go (serves r a c t) p = absurd p
@@ -150,6 +194,7 @@ does_tell asked plan from done status i i' o o' e h d t = go asked (subst (IsTas
   where
     go : (x : ParsedArgs) → IsTaskFor x (Info from) → Does x status i i' o o'
     go (decodes flag f g) p = absurd p
+    go (decodes_range rows f g) p = absurd p
     go (encodes rows f g) p = absurd p
     go (tells f) p = rw (← p) (inl (done, d, t))
     go (serves r a c t) p = absurd p
@@ -163,6 +208,7 @@ does_serve asked plan service done status i i' o o' e h s d q = go asked (subst 
   where
     go : (x : ParsedArgs) → IsTaskFor x (Serve service) → Does x status i i' o o'
     go (decodes flag f g) p = absurd p
+    go (decodes_range rows f g) p = absurd p
     go (encodes rows f g) p = absurd p
     go (tells f) p = absurd p
     go (serves rows address connections operands) p = inl (service, done, p, s, d, q)
@@ -176,6 +222,7 @@ does_serve_many asked plan many done status i i' o o' e h s d q = go asked (subs
   where
     go : (x : ParsedArgs) → IsTaskFor x (ServeMany many) → Does x status i i' o o'
     go (decodes flag f g) p = absurd p
+    go (decodes_range rows f g) p = absurd p
     go (encodes rows f g) p = absurd p
     go (tells f) p = absurd p
     go (serves r a c t) p = absurd p
@@ -187,6 +234,7 @@ does_nothing asked plan i o e h = go asked (subst (IsTaskFor asked) e h)
   where
     go : (x : ParsedArgs) → IsTaskFor x Nothing → Does x 2 i i o o
     go (decodes flag f g) p = absurd p
+    go (decodes_range rows f g) p = absurd p
     go (encodes rows f g) p = absurd p
     go (tells f) p = absurd p
     go (serves r a c t) p = absurd p
@@ -195,6 +243,7 @@ does_nothing asked plan i o e h = go asked (subst (IsTaskFor asked) e h)
 
 unbegun : (asked : ParsedArgs) (status : ℕ) (i i' o o' : Side) → IsUnbegun status i i' o o' → Does asked status i i' o o'
 unbegun (decodes flag f g) status i i' o o' h = inr h
+unbegun (decodes_range rows f g) status i i' o o' h = inr (inl h)
 unbegun (encodes rows f g) status i i' o o' h = inr (inl h)
 unbegun (tells f) status i i' o o' h = inr h
 unbegun (serves r a c t) status i i' o o' h = inr (inl h)
@@ -203,6 +252,7 @@ unbegun nothing status i i' o o' h = inl h
 
 misused : (asked : ParsedArgs) (status : ℕ) (i i' o o' : Side) → HasInvalidValue asked → IsUsageFault status i i' o o' → Does asked status i i' o o'
 misused (decodes flag f g) status i i' o o' m h = absurd m
+misused (decodes_range rows f g) status i i' o o' m h = inr (inr (m, h))
 misused (encodes rows f g) status i i' o o' m h = inr (inr (m, h))
 misused (tells f) status i i' o o' m h = absurd m
 misused (serves r a c t) status i i' o o' m h = inr (inr (m, h))
@@ -246,6 +296,11 @@ pub reads_by_decoding : (form : Form) (to : List ℕ) (done : Result Report Deco
 reads_by_decoding form to done i j o p (inl u) = inl u.1
 reads_by_decoding form to done i j o p (inr w) = inr (over_work (is_stream to) (IsFileDecoded form done i j) o p w)
 
+pub reads_by_range : (form : Form) (first last : ℕ) (to : List ℕ) (done : Result RangeReport DecodeFault) (i j o p : Side) → DecodesRangeInto form first last to done i j o p
+    → (j ≡ i) ⊎ ((a : Side) × (b : Side) × IsFileRangeDecoded form first last done i j a b)
+reads_by_range form first last to done i j o p (inl u) = inl u.1
+reads_by_range form first last to done i j o p (inr w) = inr (over_work (is_stream to) (IsFileRangeDecoded form first last done i j) o p w)
+
 pub reads_by_encoding : (settings : Settings) (to : List ℕ) (done : Result EncodeReport EncodeAllFault) (i j o p : Side) → EncodesInto settings to done i j o p
     → (j ≡ i) ⊎ ((a : Side) × (b : Side) × IsFileEncoded settings done i j a b)
 reads_by_encoding settings to done i j o p (inl u) = inl u.1
@@ -269,6 +324,3 @@ mistaken_words words (Words e) (inl memory) m = inl memory
 mistaken_words words (Words e) (inr among) m =
     inr (λ k. m.no_help (subst (λ x. IsAmong x (faults_of words)) k among), λ k. m.no_version (subst (λ x. IsAmong x (faults_of words)) k among))
 mistaken_words words (Value t) h m = absurd (m.some h.0)
-
-pub never_mistaken : (words : List Text) → faults_of words ≡ [] → AreMistaken words → ⊥
-never_mistaken words e m = m.some e

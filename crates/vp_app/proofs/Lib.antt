@@ -2,4 +2,5 @@ pub mod CommandLemmas
 pub mod FeedingLemmas
 pub mod ListingLemmas
 pub mod ServingLemmas
+pub mod RunLemmas
 pub mod Bridge

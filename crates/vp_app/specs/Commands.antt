@@ -1,7 +1,7 @@
 -- The effect of each command on its standard streams and files, and its exit status. Pinned by the tests
 -- `pictures_of_over_16777216_pixels_are_too_large` and `info_that_is_not_printed_has_status_1`.
 use Rattle.std.specs.Prelude.{◌≡◌, ◌≢◌, ◌⊎◌, ℕ, Bool, true, false, List, codes, Option, Some, None, Result, Ok, Err}
-use Rattle.std.specs.Prelude.{OnOk, IfOk, MatchBool}
+use Rattle.std.specs.Prelude.{OnOk, IfOk, MatchBool, nat_lt, if◌then◌else◌}
 use Rattle.std.specs.Str.{bytes_eq}
 use Rattle.std.specs.Io.KnownBytes.{Appends, Consumes, IsAtEnd}
 use Rattle.vp_base.specs.declared.limits.Limits.{Limits}
@@ -23,9 +23,12 @@ use Rattle.vp_stream.specs.declared.fault.SurveyFault.{SurveyFault}
 use Rattle.vp_stream.specs.declared.outcomes.Survey.{Survey}
 use Rattle.vp_stream.specs.Transcode.{read_fault_by}
 use Rattle.vp_stream.specs.Written.{IsDecodeAnswerFor, IsSurveyFor}
-use Rattle.clap.specs.Walk.{Row}
+use Rattle.vp_frames.specs.declared.report.RangeReport.{RangeReport}
+use Rattle.vp_frames.specs.declared.range.PacketRange.{PacketRange}
+use Rattle.vp_frames.specs.Written.{IsRangeAnswerFor}
+use Rattle.clap.specs.Walk.{Row, first_of, one_of}
 use Rattle.vp_app.specs.Listing.{survey_text}
-use Rattle.vp_app.specs.Status.{status_of}
+use Rattle.vp_app.specs.Status.{status_by, status_of}
 use Rattle.vp_app.specs.Usual.{AreLimits}
 use Rattle.vp_args.specs.declared.encode_args.EncodeOptions.{EncodeOptions}
 use Rattle.vp_args.specs.declared.serve_args.ServeArgs.{ServeArgs}
@@ -34,7 +37,8 @@ use Rattle.vp_app.specs.Serving.{IsService}
 use Rattle.vp_app.specs.declared.many.ManyFault.{ManyFault}
 use Rattle.vp_app.specs.Many.{ServesMany, status_by_many}
 use Rattle.vp_args.specs.declared.serve_args.ServeManyArgs.{ServeManyArgs}
-use Rattle.vp_args.specs.Args.{ParsedArgs, decodes, encodes, tells, serves, serves_many, nothing, AreNoSettings}
+use Rattle.vp_args.specs.Args.{ParsedArgs, decodes, decodes_range, encodes, tells, serves, serves_many, nothing}
+use Rattle.vp_args.specs.Args.{AreMiswanted, AreNoSettings, AreWanted}
 use Rattle.vp_args.specs.Args.{AreSettings, IsFlag, IsNoService, IsNoServiceOfMany, IsServiceFor, IsServiceOfMany}
 
 -- ---- standard streams
@@ -97,6 +101,44 @@ abbrev pub DecodesFile : Form → List ℕ → List ℕ → Result Report Decode
 DecodesFile form from to done input input' output output' =
     (IsUnopened Device Memory from done × (input' ≡ input) × (output' ≡ output))
     ⊎ Over from (λ a b. DecodesInto form to done a b output output') input input'
+
+-- ---- vp8 decode, for a range of packets
+
+-- the result of `decode_range` for the packets from the first to the last
+pub record IsFileRangeDecoded (form : Form) (first last : ℕ) (done : Result RangeReport DecodeFault)
+    (input input' output output' : Side) : Type 0 where
+  pub limits : Limits
+  pub usual : AreLimits 16 limits
+  pub range : PacketRange
+  pub first_is : range.first ≡ first
+  pub last_is : range.last ≡ last
+  pub file : List ℕ
+  pub consumed : Consumes input.bytes input'.bytes file
+  pub answer : IsRangeAnswerFor limits form file range done
+      (HasFailed output.failures output'.failures) output.bytes output'.bytes
+  pub end : OnOk done (IsAtEnd input'.bytes)
+  pub torn : done ≡ Err (File file_fault.Torn) → IsAtEnd input'.bytes
+  pub device : done ≡ Err Device → HasFailed input.failures input'.failures ⊎ HasFailed output.failures output'.failures
+  pub quiet : done ≢ Err Device → (input'.failures ≡ input.failures) × (output'.failures ≡ output.failures)
+
+-- decodes a range to the output file, once the input is open
+abbrev pub DecodesRangeInto : Form → ℕ → ℕ → List ℕ → Result RangeReport DecodeFault → Side → Side → Side → Side
+    → Type 0
+DecodesRangeInto form first last to done input input' output output' =
+    (IsUnopened Device Memory to done × (input' ≡ input) × (output' ≡ output))
+    ⊎ Over to (IsFileRangeDecoded form first last done input input') output output'
+
+-- decodes a range from the input file to the output file
+abbrev pub DecodesRange : Form → ℕ → ℕ → List ℕ → List ℕ → Result RangeReport DecodeFault → Side → Side → Side → Side
+    → Type 0
+DecodesRange form first last from to done input input' output output' =
+    (IsUnopened Device Memory from done × (input' ≡ input) × (output' ≡ output))
+    ⊎ Over from (λ a b. DecodesRangeInto form first last to done a b output output') input input'
+
+-- the exit status: 0 only if the last packet of the range exists and no packet of the range has a fault
+abbrev pub status_by_range : ℕ → Result RangeReport DecodeFault → ℕ
+status_by_range last (Ok report) = if nat_lt last report.count then status_by report.faults else 1
+status_by_range last (Err fault) = 1
 
 -- ---- vp8 info
 
@@ -202,6 +244,14 @@ DoesDecode flag from to status input input' output output' =
     (form : Form) × (done : Result Report DecodeFault) × IsFlag flag (is_y4m form) × (status ≡ status_of done)
     × DecodesFile form from to done input input' output output'
 
+-- the effect of `vp8 decode` for a range of packets
+abbrev pub DoesDecodeRange : List Row → List ℕ → List ℕ → ℕ → Side → Side → Side → Side → Type 0
+DoesDecodeRange rows from to status input input' output output' =
+    (form : Form) × (first : ℕ) × (last : ℕ) × (done : Result RangeReport DecodeFault)
+    × IsFlag (one_of (codes "y4m") rows) (is_y4m form)
+    × AreWanted (first_of (codes "frame") rows) (first_of (codes "frames") rows) first last
+    × (status ≡ status_by_range last done) × DecodesRange form first last from to done input input' output output'
+
 -- the effect of `vp8 encode`
 abbrev pub DoesEncode : List Row → List ℕ → List ℕ → ℕ → Side → Side → Side → Side → Type 0
 DoesEncode rows from to status input input' output output' =
@@ -243,6 +293,11 @@ DoesServeMany rows address operands status input input' output output' =
 abbrev pub Does : ParsedArgs → ℕ → Side → Side → Side → Side → Type 0
 Does (decodes flag from to) status input input' output output' =
     DoesDecode flag from to status input input' output output' ⊎ IsUnbegun status input input' output output'
+Does (decodes_range rows from to) status input input' output output' =
+    DoesDecodeRange rows from to status input input' output output'
+    ⊎ (IsUnbegun status input input' output output'
+    ⊎ (AreMiswanted (first_of (codes "frame") rows) (first_of (codes "frames") rows)
+    × IsUsageFault status input input' output output'))
 Does (encodes rows from to) status input input' output output' =
     DoesEncode rows from to status input input' output output'
     ⊎ (IsUnbegun status input input' output output' ⊎ (AreNoSettings rows

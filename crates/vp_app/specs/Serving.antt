@@ -8,9 +8,10 @@ use Rattle.std.specs.Io.KnownBytes.{Consumes}
 use Rattle.vp_base.specs.Counted.{HasFailed}
 use Rattle.vp_base.specs.declared.limits.Limits.{Limits}
 use Rattle.vp_cache.specs.Cache.{empty}
+use Rattle.vp_cache.specs.Cursors.{no_cursors}
 use Rattle.vp_hub.specs.declared.session.ServeFault.{ServeFault}
 use Rattle.vp_hub.specs.declared.session.ServeFault.TheVariants.{Device}
-use Rattle.vp_hub.specs.Hub.{HubState, initial_hub}
+use Rattle.vp_hub.specs.Hub.{HubState, initial_hub, stream_limits}
 use Rattle.vp_hub.specs.Work.{Hub}
 use Rattle.vp_hub.specs.Sessions.{IsSession, IsTurnedAway}
 use Rattle.vp_args.specs.declared.serve_args.NamedFile.{NamedFile}
@@ -23,12 +24,13 @@ use Rattle.vp_app.specs.Feeding.{IsFed}
 abbrev pub names_of : List NamedFile → List (List ℕ)
 names_of streams = map (λ s. s.name.now) streams
 
--- a new hub for the streams
-abbrev pub IsNewHub : List NamedFile → ℕ → Hub → Type 0
-IsNewHub streams cache hub =
+-- a new hub for the streams, with this number of cached pictures and with this number of cursors
+abbrev pub IsNewHub : List NamedFile → ℕ → ℕ → Hub → Type 0
+IsNewHub streams cache cursors hub =
     (limits : Limits) × AreLimits cache limits × (hub ≡ record {
       state = initial_hub (names_of streams) limits;
       cache = empty limits.cache;
+      cursors = no_cursors cursors (stream_limits limits);
       work = 0;
     })
 
@@ -76,6 +78,6 @@ pub record IsService (streams : List NamedFile) (cache connections : ℕ) (well 
     : Type 0 where
   pub hub : Hub
   pub fed : HubState
-  pub begins : IsNewHub streams cache hub
+  pub begins : IsNewHub streams cache 0 hub
   pub feeds : AreFilesFed streams hub.state fed before after
   pub serves : IsServing connections fed well

@@ -11,11 +11,13 @@ ghost use Rattle.vp_encode.specs.declared.report.EncodeReport.{EncodeReport};
 ghost use Rattle.vp_encode.specs.declared.report.EncodeAllFault.{EncodeAllFault};
 ghost use Rattle.vp_stream.specs.declared.form.Form.{Form};
 ghost use Rattle.vp_stream.specs.declared.report.Report.{Report};
+ghost use Rattle.vp_frames.specs.declared.report.RangeReport.{RangeReport};
 ghost use Rattle.vp_stream.specs.declared.outcomes.Survey.{Survey};
 ghost use Rattle.vp_stream.specs.declared.fault.DecodeFault.{DecodeFault};
 ghost use Rattle.vp_stream.specs.declared.fault.DecodeFault.TheVariants.{Device, Memory};
 ghost use Rattle.vp_app.specs.Commands.{DecodesInto, EncodesInto, IsFileDecoded, IsFileEncoded, IsUnbegun, IsUnopened};
-ghost use Rattle.vp_app.specs.Commands.{PrintsSurvey, Side, SurveysFile, SurveysInput};
+ghost use Rattle.vp_app.specs.Commands.{DecodesRangeInto, IsFileRangeDecoded, PrintsSurvey, Side, SurveysFile};
+ghost use Rattle.vp_app.specs.Commands.{SurveysInput};
 ghost use Rattle.vp_app.specs.Listing.{survey_text};
 ghost use Rattle.vp_app.specs.Serving.{IsServed};
 ghost use Rattle.vp_app.specs.Commands.{status_by_service};
@@ -37,11 +39,14 @@ pub fn what_is_not_begun_changes_nothing()
     ensures unbegun { (status : ℕ) (i j o p : Side) → IsUnbegun status i j o p → (status ≡ 1) × (j ≡ i) × (p ≡ o) }
 {}
 
-/// Standard input stays, or else a whole file was decoded, encoded or surveyed, as it stands in the file's answer.
-#[tactic(auto, using(crate::proofs::CommandLemmas::reads_by_decoding, crate::proofs::CommandLemmas::reads_by_encoding, crate::proofs::CommandLemmas::reads_by_surveying))]
+/// Standard input stays, or else a file was decoded, encoded or surveyed, as it stands in the file's answer.
+#[tactic(auto, using(crate::proofs::CommandLemmas::reads_by_decoding, crate::proofs::CommandLemmas::reads_by_range, crate::proofs::CommandLemmas::reads_by_encoding, crate::proofs::CommandLemmas::reads_by_surveying))]
 pub fn standard_input_is_left_or_answered()
     ensures decoded { (form : Form) (to : List ℕ) (done : Result Report DecodeFault) (i j o p : Side)
         → DecodesInto form to done i j o p → (j ≡ i) ⊎ ((a : Side) × (b : Side) × IsFileDecoded form done i j a b) }
+    ensures range { (form : Form) (first last : ℕ) (to : List ℕ) (done : Result RangeReport DecodeFault)
+        (i j o p : Side) → DecodesRangeInto form first last to done i j o p
+        → (j ≡ i) ⊎ ((a : Side) × (b : Side) × IsFileRangeDecoded form first last done i j a b) }
     ensures encoded { (settings : Settings) (to : List ℕ) (done : Result EncodeReport EncodeAllFault) (i j o p : Side)
         → EncodesInto settings to done i j o p
         → (j ≡ i) ⊎ ((a : Side) × (b : Side) × IsFileEncoded settings done i j a b) }

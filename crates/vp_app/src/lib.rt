@@ -7,6 +7,7 @@ mod laws;
 mod listing;
 mod many;
 mod program;
+mod range;
 mod service;
 
 pub use encode::settings_of;

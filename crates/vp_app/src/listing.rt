@@ -3,15 +3,17 @@
 ghost use Rattle.std.specs.Prelude.{◌≡◌, ◌<◌, ◌+◌, ◌≤◌, length, true, OnOk};
 ghost use Rattle.std.specs.Io.KnownBytes.{Appends};
 ghost use Rattle.vp_base.specs.Counted.{counted_contents};
+ghost use Rattle.vp_hub.specs.Pages.{head_lines};
 ghost use Rattle.vp_app.specs.FaultLines.{fault_line, fault_lines};
 ghost use Rattle.vp_app.specs.Listing.{head_text, lines_from, packet_lines, packet_line, survey_text};
 
 use std::alloc::Global;
-use std::io;
 use std::io::Write;
+use std::{fmt, io};
 use vp_base::{Counted, Device, put_all};
 use vp_decode::Outcome;
 use vp_head::PacketFault;
+use vp_ivf::IvfHead;
 use vp_stream::Survey;
 
 // The greatest number of lines that are written at once. A line has at most 64 bytes.
@@ -106,11 +108,19 @@ fn put_lines<W: Write>(
 fn print_head<W: Write>(survey: &Survey, output: &mut W) -> io::Result<()>
     ensures { OnOk result (Appends (W.contents output.old) (W.contents output.new) (head_text survey.now)) }
 {
-    if let Some(head) = &survey.head {
-        writeln!(output, "size {}x{}", head.w, head.h)?;
-        writeln!(output, "rate {}/{}", head.rate, head.scale)?;
-    }
+    print_rate(survey.head, output)?;
     writeln!(output, "packets {}", survey.packets.as_slice().len())
+}
+
+// Prints the lines of the size and the rate, if the head is valid.
+fn print_rate<W: Write>(head: Option<IvfHead>, output: &mut W) -> io::Result<()>
+    ensures { OnOk result (Appends (W.contents output.old) (W.contents output.new) (head_lines head)) }
+{
+    let Some(head) = head else {
+        return Ok(());
+    };
+    writeln!(output, "size {}x{}", head.w, head.h)?;
+    writeln!(output, "rate {}/{}", head.rate, head.scale)
 }
 
 // Prints the lines of `count` packets, from packet `first` on.
@@ -231,4 +241,15 @@ fn after_line(lines: &[u8]) -> &[u8]
         Some(place) => &lines[place + 1..],
         None => &[],
     }
+}
+
+/// Prints the fault that ended the work, and returns the exit status.
+pub(crate) fn report_fault<F: fmt::Display + Drop, E: Write>(
+    fault: F,
+    errors: &mut Counted<E>,
+) -> u8
+    ensures { result ≡ 1 }
+{
+    let _ = writeln!(errors, "vp8: {fault}");
+    1
 }

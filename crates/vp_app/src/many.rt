@@ -2,10 +2,11 @@
 
 ghost use Rattle.std.specs.Prelude.{◌≡◌, ℕ, IfOk, List, None, false, true};
 ghost use Rattle.vp_base.specs.Counted.{counted_remaining};
-ghost use Rattle.vp_app.specs.Many.{IsFedBefore, ServesMany, WorksLoop, options_of};
+ghost use Rattle.vp_serve.specs.ServerLoop.{initial};
+ghost use Rattle.vp_app.specs.Many.{IsFedBefore, ServesMany, WorksLoop, followed_names, options_of};
 ghost use Rattle.vp_app.specs.Serving.{AreFilesFed, IsFileFed};
 
-use crate::service::{ServiceFault, feed_stream, new_hub, print_address, stream_names};
+use crate::service::{ServiceFault, feed_stream, hub_with_cursors, print_address, stream_names};
 use std::alloc::{AllocError, Global};
 use std::io::{Read, Write};
 use std::net::{Net, TcpListener, TcpStream};
@@ -55,13 +56,6 @@ impl From<AllocError> for ManyFault {
     }
 }
 
-/// The files that are followed, with the names of their streams.
-#[derive(Drop)]
-struct Followed<'a, F: Read + Drop> {
-    names: Vec<ByteList>,
-    files: Vec<FollowedFile<'a, F>>,
-}
-
 /// Feeds the files, unless they are followed, and serves connections until the given number was served, which by default
 /// is no end. Returns whether no followed file had a fault; such faults are printed on `errors`.
 pub(crate) fn serve_many<
@@ -82,9 +76,9 @@ pub(crate) fn serve_many<
     // Only the address is printed, if that is asked for.
     ensures quiet { many.now.service.show_address ≡ false → output.new ≡ output.old }
 {
-    let mut hub = new_hub(rt.alloc(), &many.service)?;
-    let followed = feed_or_follow(rt, &mut hub, many, input)?;
-    run(rt, hub, followed, many, output, errors)
+    let mut hub = hub_with_cursors(rt.alloc(), &many.service, many.cursors)?;
+    let files = feed_or_follow(rt, &mut hub, many, input)?;
+    run(rt, hub, files, many, output, errors)
 }
 
 // Feeds each stream its file to its end, or opens the files that are followed.
@@ -93,7 +87,7 @@ fn feed_or_follow<'a, H: Files + AllocGlobal, R: Read>(
     hub: &mut Hub,
     many: &'a ServeManyArgs<'_>,
     input: &mut Counted<R>,
-) -> Result<Followed<'a, H::File>, ManyFault>
+) -> Result<Vec<FollowedFile<'a, H::File>>, ManyFault>
     ensures { IfOk result (λ _. IsFedBefore many.now hub.old.state hub.new.state
         (counted_remaining R.remaining input.old) (counted_remaining R.remaining input.new)) }
 {
@@ -101,31 +95,34 @@ fn feed_or_follow<'a, H: Files + AllocGlobal, R: Read>(
         return follow_all(rt, &many.service.streams);
     }
     feed_each(rt, hub, &many.service.streams, input)?;
-    Ok(Followed {
-        names: Vec::new(rt.alloc()),
-        files: Vec::new(rt.alloc()),
-    })
+    Ok(Vec::new(rt.alloc()))
 }
 
 // Opens the file of each stream.
 fn follow_all<'a, H: Files + AllocGlobal>(
     rt: &H,
     streams: &'a [NamedFile<'_>],
-) -> Result<Followed<'a, H::File>, ManyFault> {
+) -> Result<Vec<FollowedFile<'a, H::File>>, ManyFault> {
     let mut files = Vec::new(rt.alloc());
     for (place, stream) in streams.iter().enumerate() {
-        let file = match fs::open(rt, stream.file) {
-            Ok(file) => FollowedFile::new(stream.name, stream.file, file),
-            Err(error) => return Err(ManyFault::Open(place, error)),
-        };
+        let file = follow(rt, stream, place)?;
         if files.push(file).is_err() {
             return Err(ManyFault::Memory);
         }
     }
-    Ok(Followed {
-        names: stream_names(rt.alloc(), streams)?,
-        files,
-    })
+    Ok(files)
+}
+
+// Opens the file of the stream at an index.
+fn follow<'a, H: Files>(
+    rt: &H,
+    stream: &'a NamedFile<'_>,
+    place: usize,
+) -> Result<FollowedFile<'a, H::File>, ManyFault> {
+    match fs::open(rt, stream.file) {
+        Ok(file) => Ok(FollowedFile::new(stream.name, stream.file, file)),
+        Err(error) => Err(ManyFault::Open(place, error)),
+    }
 }
 
 // Feeds each stream its file, one after another, and marks its end.
@@ -163,7 +160,7 @@ fn feed_next<H: Files + AllocGlobal, R: Read>(
     }
 }
 
-// Reads the followed files to their ends for now, listens, and serves.
+// Serves from a hub, over sockets and the followed files.
 fn run<
     'a,
     H: Files + AllocGlobal + Clock + Net<Stream = TcpStream, Listener = TcpListener>,
@@ -172,30 +169,97 @@ fn run<
 >(
     rt: &'a H,
     hub: Hub,
-    followed: Followed<'a, H::File>,
+    files: Vec<FollowedFile<'a, H::File>>,
     many: &ServeManyArgs<'_>,
     output: &mut Counted<W>,
     errors: &'a mut Counted<E>,
 ) -> Result<bool, ManyFault>
-    ensures works { IfOk result (λ well. WorksLoop (options_of many.now) hub.state well) }
+    ensures works { IfOk result (WorksLoop (followed_names many.now) (initial (options_of many.now) hub.state)) }
     ensures quiet { many.now.service.show_address ≡ false → output.new ≡ output.old }
 {
-    let alloc = rt.alloc();
-    let mut server = ServerLoop::new(alloc, hub, options_of(many));
-    let Followed { names, files } = followed;
-    let mut transport = match MioTransport::new(rt, rt, alloc, longest_wait(many), files, errors) {
+    let mut server = ServerLoop::new(rt.alloc(), hub, options_of(many));
+    run_loop(rt, &mut server, files, many, output, errors)
+}
+
+// Runs a server's loop, over sockets and the followed files.
+fn run_loop<
+    'a,
+    H: Files + AllocGlobal + Clock + Net<Stream = TcpStream, Listener = TcpListener>,
+    W: Write,
+    E: Write,
+>(
+    rt: &'a H,
+    server: &mut ServerLoop,
+    files: Vec<FollowedFile<'a, H::File>>,
+    many: &ServeManyArgs<'_>,
+    output: &mut Counted<W>,
+    errors: &'a mut Counted<E>,
+) -> Result<bool, ManyFault>
+    ensures works { IfOk result (WorksLoop (followed_names many.now) server.old) }
+    ensures quiet { many.now.service.show_address ≡ false → output.new ≡ output.old }
+{
+    let names = followed_names(rt.alloc(), many)?;
+    let mut transport = new_transport(rt, files, many, errors)?;
+    work(rt, server, &mut transport, &names, many, output)
+}
+
+// Returns the names of the streams whose files are followed.
+fn followed_names(alloc: Global, many: &ServeManyArgs<'_>) -> Result<Vec<ByteList>, AllocError>
+    ensures { IfOk result (λ names. names.items ≡ followed_names many.now) }
+{
+    if many.follow {
+        stream_names(alloc, &many.service.streams)
+    } else {
+        Ok(Vec::new(alloc))
+    }
+}
+
+// Creates a transport over these files, which prints a line for each request if that is asked for.
+fn new_transport<'a, H: Files + AllocGlobal + Clock + Net, E: Write>(
+    rt: &'a H,
+    files: Vec<FollowedFile<'a, H::File>>,
+    many: &ServeManyArgs<'_>,
+    errors: &'a mut Counted<E>,
+) -> Result<MioTransport<'a, H, H::File, Counted<E>>, ManyFault> {
+    let mut transport = match MioTransport::new(
+        rt,
+        rt,
+        rt.alloc(),
+        longest_wait(many),
+        files,
+        errors,
+    ) {
         Ok(transport) => transport,
         Err(error) => return Err(ManyFault::System(error)),
     };
     if many.access_log {
         transport.log_accesses();
     }
-    catch_up(alloc, &mut server, &mut transport, &names);
+    Ok(transport)
+}
+
+// Reads the followed files to their ends for now, listens, and serves.
+fn work<
+    H: Files + AllocGlobal + Clock + Net<Stream = TcpStream, Listener = TcpListener>,
+    W: Write,
+    E: Write,
+>(
+    rt: &H,
+    server: &mut ServerLoop,
+    transport: &mut MioTransport<'_, H, H::File, Counted<E>>,
+    names: &[ByteList],
+    many: &ServeManyArgs<'_>,
+    output: &mut Counted<W>,
+) -> Result<bool, ManyFault>
+    ensures works { IfOk result (WorksLoop names.now server.old) }
+    ensures quiet { many.now.service.show_address ≡ false → output.new ≡ output.old }
+{
+    catch_up(rt.alloc(), server, transport, names);
     let listener = listen(rt, &many.service, output)?;
     if let Err(error) = transport.listen(listener) {
         return Err(ManyFault::System(error));
     }
-    let over = serve(alloc, &mut server, &mut transport, &names);
+    let over = serve(rt.alloc(), server, transport, names);
     Ok(is_well(over, transport.has_stopped_file()))
 }
 
@@ -259,22 +323,8 @@ pub(crate) fn print_fault<E: Write>(
             "vp8: Names: give 1 to 16 streams, each with a name of its own of 1 to 32 of the characters a-z, 0-9, - and _"
         ),
         ManyFault::Memory => writeln!(errors, "vp8: Memory"),
-        ManyFault::Open(place, error) => {
-            let stream = stream_at(many, *place);
-            let (name, file) = (stream.name, stream.file);
-            writeln!(
-                errors,
-                "vp8: {name}={file}: the file can't be opened: {error}"
-            )
-        }
-        ManyFault::Feed(place, fault) => {
-            let stream = stream_at(many, *place);
-            let (name, file) = (stream.name, stream.file);
-            writeln!(
-                errors,
-                "vp8: {name}={file}: {fault}: the file can't be opened, or read to its end"
-            )
-        }
+        ManyFault::Open(place, error) => print_unopened(stream_at(many, *place), error, errors),
+        ManyFault::Feed(place, fault) => print_unfed(stream_at(many, *place), *fault, errors),
         ManyFault::Listen(error) => writeln!(
             errors,
             "vp8: can't listen on {address}: {error}; give another ADDRESS:PORT by --listen"
@@ -285,6 +335,32 @@ pub(crate) fn print_fault<E: Write>(
         ),
         ManyFault::System(error) => writeln!(errors, "vp8: sockets can't be waited for: {error}"),
     };
+}
+
+// Prints why the file of a stream can't be opened.
+fn print_unopened<E: Write>(
+    stream: NamedFile<'_>,
+    error: &io::Error,
+    errors: &mut Counted<E>,
+) -> io::Result<()> {
+    let (name, file) = (stream.name, stream.file);
+    writeln!(
+        errors,
+        "vp8: {name}={file}: the file can't be opened: {error}"
+    )
+}
+
+// Prints why the file of a stream isn't fed.
+fn print_unfed<E: Write>(
+    stream: NamedFile<'_>,
+    fault: ServiceFault,
+    errors: &mut Counted<E>,
+) -> io::Result<()> {
+    let (name, file) = (stream.name, stream.file);
+    writeln!(
+        errors,
+        "vp8: {name}={file}: {fault}: the file can't be opened, or read to its end"
+    )
 }
 
 // The stream at an index.

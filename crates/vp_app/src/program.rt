@@ -17,8 +17,9 @@ ghost use Rattle.vp_args.specs.Args.{IsTaskFor};
 
 use crate::encode::encode;
 use crate::files::file_fault;
-use crate::listing::{print_faults, print_survey};
+use crate::listing::{print_faults, print_survey, report_fault};
 use crate::many::{ManyFault, print_fault, serve_many};
+use crate::range::{decode_packets, report_packets};
 use crate::service::{ServiceFault, serve};
 use clap::Error;
 use clap::error::ErrorKind;
@@ -27,7 +28,7 @@ use std::io::{Read, Write};
 use std::net::{Net, TcpListener, TcpStream};
 use std::rt::{Env, Files};
 use std::time::Clock;
-use std::{env, fmt, fs, io};
+use std::{env, fs, io};
 use vp_args::{Refusal, ServeManyArgs, Task, read_args};
 use vp_base::{Counted, Limits};
 use vp_encode::{EncodeAllFault, EncodeReport};
@@ -40,6 +41,9 @@ use vp_stream::{DecodeFault, Form, Report, Survey, SurveyFault, decode_all, surv
 /// printed on `errors`, one per line: `vp8: NAME` if it ended the work, else `vp8: packet N: NAME`. Usage errors are
 /// printed there too; nothing is read or written then.
 ///
+/// With `--frame N` or `--frames A-B` only the pictures of packet N, or of packets A to B, are written. If one is
+/// missing, `vp8: no packet N: IN has COUNT packets` is printed for the first such packet, and the status is 1.
+///
 /// `vp8 encode IN OUT` writes the pictures of a YUV4MPEG2 file as VP8 in an IVF file, once all are encoded. It prints
 /// `frames N error E` on `errors`: the number of frames, and the sum of their squared errors.
 ///
@@ -51,7 +55,6 @@ use vp_stream::{DecodeFault, Form, Report, Survey, SurveyFault, decode_all, surv
 /// `vp8 serve --listen ADDR --max-connections K NAME=FILE...` serves up to K connections at once, without end.
 ///
 /// The file name `-` is `input` or `output`.
-#[tactic(auto, using(crate::proofs::CommandLemmas::does_refused, crate::proofs::CommandLemmas::mistaken_words, crate::proofs::CommandLemmas::never_mistaken))]
 pub fn command<
     H: Files + AllocGlobal + Clock + Net<Stream = TcpStream, Listener = TcpListener>,
     R: Read,
@@ -84,7 +87,6 @@ pub fn command<
 }
 
 // Runs a task, and returns the exit status.
-#[tactic(auto, using(crate::proofs::CommandLemmas::does_decode, crate::proofs::CommandLemmas::does_encode, crate::proofs::CommandLemmas::does_tell, crate::proofs::CommandLemmas::does_serve, crate::proofs::CommandLemmas::does_nothing))]
 fn run_task<
     H: Files + AllocGlobal + Clock + Net<Stream = TcpStream, Listener = TcpListener>,
     R: Read,
@@ -112,6 +114,12 @@ fn run_task<
         } => report_decode(
             rt.alloc(),
             decode(rt, form_of(*y4m), from, to, input, output),
+            errors,
+        ),
+        Task::DecodeRange(wanted) => report_packets(
+            rt.alloc(),
+            decode_packets(rt, form_of(wanted.y4m), wanted, input, output),
+            wanted,
             errors,
         ),
         Task::Encode(encoding) => report_encode(
@@ -253,14 +261,6 @@ fn survey_over<R: Read>(alloc: Global, input: &mut Counted<R>) -> Result<Survey,
     survey(alloc, input, Limits::usual())
 }
 
-// Prints the fault that ended the work.
-fn report_fault<F: fmt::Display + Drop, E: Write>(fault: F, errors: &mut Counted<E>) -> u8
-    ensures { result ≡ 1 }
-{
-    let _ = writeln!(errors, "vp8: {fault}");
-    1
-}
-
 // Prints the faults, and returns the exit status.
 fn report_decode<E: Write>(
     alloc: Global,
@@ -396,18 +396,52 @@ pub fn command_line<
     ensures status { result ≤ 2 }
     ensures usage { result ≡ 2 → (input.new ≡ input.old) × (output.new ≡ output.old) }
 {
-    let owned = match env::args(rt) {
+    match owned_words(rt) {
+        Ok(words) => owned_command(rt, &words, input, output, errors),
+        Err(WordsFault::Memory) => report_fault(DecodeFault::Memory, errors),
+        Err(WordsFault::Text) => report_usage_error("a word isn't UTF-8", errors),
+    }
+}
+
+// The reasons for which the program's arguments can't be read: out of memory, or one isn't UTF-8.
+#[derive(Drop)]
+enum WordsFault {
+    Memory,
+    Text,
+}
+
+// Returns the program's arguments.
+fn owned_words<H: AllocGlobal + Env>(rt: &H) -> Result<Vec<String>, WordsFault> {
+    let args = match env::args(rt) {
         Ok(args) => args,
         Err(error) if error.kind() == io::ErrorKind::OutOfMemory => {
-            return report_fault(DecodeFault::Memory, errors);
+            return Err(WordsFault::Memory);
         }
-        Err(_) => return report_usage_error("a word isn't UTF-8", errors),
+        Err(_) => return Err(WordsFault::Text),
     };
-    let owned: Vec<String> = match owned.collect(rt.alloc()) {
-        Ok(owned) => owned,
-        Err(_) => return report_fault(DecodeFault::Memory, errors),
-    };
-    match owned
+    match args.collect(rt.alloc()) {
+        Ok(words) => Ok(words),
+        Err(_) => Err(WordsFault::Memory),
+    }
+}
+
+// Runs the command that these arguments ask for.
+fn owned_command<
+    H: Files + AllocGlobal + Clock + Net<Stream = TcpStream, Listener = TcpListener>,
+    R: Read,
+    W: Write,
+    E: Write,
+>(
+    rt: &H,
+    words: &[String],
+    input: &mut Counted<R>,
+    output: &mut Counted<W>,
+    errors: &mut Counted<E>,
+) -> u8
+    ensures status { result ≤ 2 }
+    ensures usage { result ≡ 2 → (input.new ≡ input.old) × (output.new ≡ output.old) }
+{
+    match words
         .iter()
         .map(|word| word.as_str())
         .collect::<Vec<&str>>(rt.alloc())

@@ -143,9 +143,21 @@ pub(crate) fn print_address<W: Write>(
     output.flush()
 }
 
-/// Creates a hub for the streams, without bytes.
+/// Creates a hub for the streams, without bytes and without cursors.
 pub fn new_hub(alloc: Global, service: &ServeArgs<'_>) -> Result<Hub, ServiceFault>
-    ensures hub { IfOk result (λ hub. IsNewHub service.now.streams.items service.now.cache hub) }
+    ensures hub { IfOk result (λ hub. IsNewHub service.now.streams.items service.now.cache 0 hub) }
+    ensures names { result ≡ Err ServiceFault.Names → are_names (names_of service.now.streams.items) ≡ false }
+{
+    hub_with_cursors(alloc, service, 0)
+}
+
+/// Creates a hub for the streams, without bytes, that keeps up to this number of cursors.
+pub(crate) fn hub_with_cursors(
+    alloc: Global,
+    service: &ServeArgs<'_>,
+    cursors: u32,
+) -> Result<Hub, ServiceFault>
+    ensures hub { IfOk result (λ hub. IsNewHub service.now.streams.items service.now.cache cursors hub) }
     ensures names { result ≡ Err ServiceFault.Names → are_names (names_of service.now.streams.items) ≡ false }
 {
     let usual = Limits::usual();
@@ -160,7 +172,7 @@ pub fn new_hub(alloc: Global, service: &ServeArgs<'_>) -> Result<Hub, ServiceFau
     let Ok(names) = stream_names(alloc, &service.streams) else {
         return Err(ServiceFault::Memory);
     };
-    match Hub::new(alloc, names, limits) {
+    match Hub::with_cursors(alloc, names, limits, cursors) {
         Ok(hub) => Ok(hub),
         Err(NewFault::Names) => Err(ServiceFault::Names),
         Err(NewFault::Memory) => Err(ServiceFault::Memory),
