@@ -1,7 +1,8 @@
 //! The benchmark: jobs that users of the libraries wait for. Each prints one digest of all its results.
 //!
-//! `decode FILE..` decodes files, and `film FILE COUNT` encodes the first pictures of one; `awkward SEED COUNT`, `list SEED COUNT`, `scrub SEED COUNT`, `record SEED COUNT` and
-//! `archive SEED COUNT` make their input from the number SEED, as much of it as COUNT says.
+//! `decode FILE..` decodes files, and `film FILE COUNT` encodes the first pictures of one; `awkward`, `list`, `scrub`,
+//! `play`, `play-plain`, `record` and `archive`, each with SEED COUNT, make their input from the number SEED, as much of it
+//! as COUNT says.
 #![tactic(auto)]
 
 mod decoding;
@@ -17,7 +18,7 @@ use crate::decoding::{decode_awkward, decode_files, list, unexpected};
 use crate::digest::Digest;
 use crate::encoding::{ARCHIVE, RECORDER, encode, encode_film};
 use crate::random::Random;
-use crate::serving::scrub;
+use crate::serving::{CURSORS, play, scrub};
 use std::{env, io};
 
 /// Runs the job of this name on input made from a seed.
@@ -37,6 +38,8 @@ fn run_made(
         "awkward" => decode_awkward(alloc, &mut random, u32::from(count), digest),
         "list" => list(alloc, &mut random, u32::from(count), digest),
         "scrub" => scrub(alloc, &mut random, u32::from(count), digest),
+        "play" => play(alloc, &mut random, u32::from(count), CURSORS, digest),
+        "play-plain" => play(alloc, &mut random, u32::from(count), 0, digest),
         "record" => encode(alloc, &mut random, RECORDER, count, digest),
         "archive" => encode(alloc, &mut random, ARCHIVE, count, digest),
         _ => Err(unexpected()),

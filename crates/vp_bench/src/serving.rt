@@ -3,7 +3,7 @@
 use crate::decoding::{FILM, unexpected};
 use crate::digest::Digest;
 use crate::random::Random;
-use crate::stream::file_of;
+use crate::stream::{Kind, file_of};
 use std::alloc::{AllocError, Global};
 use std::io;
 use vp_base::{ByteList, Limits};
@@ -14,6 +14,25 @@ const NAMES: [&[u8]; 2] = [b"film", b"other"];
 
 /// The number of packets of each stream.
 const PACKETS: u32 = 180;
+
+/// The number of cursors of a hub that serves players, which is the default of `vp8 serve`.
+pub(crate) const CURSORS: u32 = 16;
+
+/// A film of small pictures at a usual rate, in one scene: only the first packet is a key packet.
+const SCENE: Kind = Kind {
+    width: 352,
+    height: 288,
+    version: 0,
+    quantiser: 6,
+    level: 24,
+    log2_partitions: 0,
+    coded: 40,
+    intra: 6,
+    last: 240,
+    biases: false,
+    key_every: 65_536,
+    token_bytes: 12,
+};
 
 /// Copies bytes.
 fn list(alloc: Global, bytes: &[u8]) -> Result<ByteList, AllocError> {
@@ -29,17 +48,25 @@ fn handle(hub: &mut Hub, event: &Event, digest: &mut Digest) {
     digest.number(hub.work());
 }
 
-/// Returns a hub whose streams are fed in pieces of 1,400 bytes and whose connection 1 is open.
-fn hub_of(alloc: Global, random: &mut Random, digest: &mut Digest) -> io::Result<Hub> {
+/// Returns a hub with so many cursors, whose streams of one kind are fed in pieces of 1,400 bytes and whose connection 1
+/// is open.
+fn hub_of(
+    alloc: Global,
+    random: &mut Random,
+    kind: &Kind,
+    packets: u32,
+    cursors: u32,
+    digest: &mut Digest,
+) -> io::Result<Hub> {
     let mut names = Vec::new(alloc);
     for name in NAMES {
         names.push(list(alloc, name)?).map_err(AllocError::from)?;
     }
-    let Ok(mut hub) = Hub::new(alloc, names, Limits::usual()) else {
+    let Ok(mut hub) = Hub::with_cursors(alloc, names, Limits::usual(), cursors) else {
         return Err(unexpected());
     };
     for name in NAMES {
-        let file = file_of(alloc, random, &FILM, PACKETS)?;
+        let file = file_of(alloc, random, kind, packets)?;
         for piece in file.chunks(1_400) {
             let event = Event::Feed(list(alloc, name)?, list(alloc, piece)?);
             handle(&mut hub, &event, digest);
@@ -72,7 +99,7 @@ pub(crate) fn scrub(
     count: u32,
     digest: &mut Digest,
 ) -> io::Result<()> {
-    let mut hub = hub_of(alloc, random, digest)?;
+    let mut hub = hub_of(alloc, random, &FILM, PACKETS, 0, digest)?;
     for _ in 0..count {
         let film = random.below(2) == 0;
         let n = random.below(PACKETS - 2);
@@ -80,6 +107,25 @@ pub(crate) fn scrub(
         ask(alloc, &mut hub, film, n + 1, digest)?;
         ask(alloc, &mut hub, film, n, digest)?;
         ask(alloc, &mut hub, film, n + 2, digest)?;
+    }
+    Ok(())
+}
+
+/// Makes two files of `count` packets with one key packet each, and requests the pictures of the first one in order, and
+/// then back in steps of ten, from a hub with so many cursors.
+pub(crate) fn play(
+    alloc: Global,
+    random: &mut Random,
+    count: u32,
+    cursors: u32,
+    digest: &mut Digest,
+) -> io::Result<()> {
+    let mut hub = hub_of(alloc, random, &SCENE, count, cursors, digest)?;
+    for n in 0..count {
+        ask(alloc, &mut hub, true, n, digest)?;
+    }
+    for step in 1..=count / 10 {
+        ask(alloc, &mut hub, true, count - step * 10, digest)?;
     }
     Ok(())
 }
