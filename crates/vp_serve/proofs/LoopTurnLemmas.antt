@@ -85,10 +85,11 @@ no_action : (xs : List Action) → has_actions xs ≡ false → xs ≡ []
 no_action [] h = refl
 no_action (x ∷ xs) h = absurd (true_false h)
 
-rests_of : (m l g q b : Bool) → b ≡ ((m || l) || g) || q → b ≡ false → (m ≡ false) × (l ≡ false)
+rests_of : (m l g q b : Bool) → b ≡ ((m || l) || g) || q → b ≡ false → (m ≡ false) × (l ≡ false) × (g ≡ false)
 rests_of true l g q b e h = absurd (true_false (sym e ∙ h))
 rests_of false true g q b e h = absurd (true_false (sym e ∙ h))
-rests_of false false g q b e h = (refl, refl)
+rests_of false false true q b e h = absurd (true_false (sym e ∙ h))
+rests_of false false false q b e h = (refl, refl, refl)
 
 moves_of : (m l g p q b : Bool) (xs : List Action) → b ≡ ((m || l) || g) || q → has_actions xs ≡ m || (l || p) → (g ≡ true → p ≡ true) → b ≡ true → (has_actions xs ≡ true) ⊎ (q ≡ true)
 moves_of true l g p q b xs e h acts k = inl h
@@ -128,7 +129,7 @@ takes names s r m l g d e f h a b c i j o p q await logs x y z polls polled coun
     counted = counted;
     rests = λ is.
         let none = rests_of m l g due r.is_busy test is in
-        (rest is, no_action x.does.trace (x.moves ∙ none.0), no_action y.trace (y.moves ∙ none.1));
+        (rest is, no_action x.does.trace (x.moves ∙ none.0), no_action y.trace (y.moves ∙ none.1), z.took ∙ none.2);
     moves = moves_of m l g z.moved due r.is_busy (x.does.trace ++ (y.trace ++ z.does.trace)) test has (λ k. sym z.does.moves ∙ any_acts is_fed z.does.trace (z.took ∙ k));
   };
   attended = λ k is. any_within (is_of k) (waiting (is_busy s d)) x.does.trace (y.trace ++ z.does.trace) (x.attended k (was_ready k is));

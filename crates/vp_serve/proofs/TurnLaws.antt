@@ -1,12 +1,17 @@
 -- What a turn promises, in elementary terms.
-use Rattle.std.proofs.Common.{◌≡◌, ◌∷◌, ◌∙◌, [], true, inl, inr, ap, sym, subst}
+use Rattle.std.proofs.Common.{◌≡◌, ◌++◌, ◌∷◌, ◌∙◌, [], ℕ, List, Bool, true, false, inl, inr, ap, sym, subst}
+use Rattle.vp_serve.specs.declared.reason.CloseReason.{CloseReason}
+use Rattle.vp_serve.specs.declared.reason.CloseReason.TheVariants.{Finished, PeerEnded, IdleTimeout, OutOfMemory, TransferFailed, HubRefused}
+use Rattle.vp_serve.specs.declared.schedule.Schedule.{Schedule}
 use Rattle.vp_serve.specs.Readiness.{is_ready_for}
 use Rattle.vp_serve.specs.Laws.{OnlyIdleTimeOut}
 use Rattle.vp_serve.specs.Connection.{Connection}
 use Rattle.vp_serve.specs.Connections.{next_action}
-use Rattle.vp_serve.specs.Turns.{OnlyReadyAreAttended, ReadyAreAttended}
+use Rattle.vp_serve.specs.ServerLoop.{LoopState, Action, Accepted, Rejected, Received, Submitted, Sent, Closed, Grown, Fed, Ended, Waited}
+use Rattle.vp_serve.specs.Turns.{AreAll, IsAt, OnlyReadyAreAttended, ReadyAreAttended}
+use Rattle.vp_serve.proofs.Performing.{all_as, all_both}
 use Rattle.vp_serve.proofs.OneConnection.{same_some}
-use Rattle.vp_serve.specs.LoopTurns.{TurnsAreTimely, TimeIsCounted}
+use Rattle.vp_serve.specs.LoopTurns.{ActionsAreOfTheirTurn, IsIdleClosing, IsLoopTurn, IsOfFile, TurnsAreTimely, TimeIsCounted, is_busy, waiting}
 
 pub timely : TurnsAreTimely
 timely names s r d e [] later x h c t is = h.2 c t is
@@ -15,6 +20,66 @@ timely names s r d e (y ∷ earlier) later x h c t is = timely names y.schedule 
 pub counted : TimeIsCounted
 counted names s r d e [] later x y h = (h.3.0.counted.forward, h.3.0.counted.most, h.3.0.counted.counts, h.3.0.counted.long)
 counted names s r d e (z ∷ earlier) later x y h = counted names z.schedule r z.server e earlier later x y h.3
+
+-- ---- the time of a turn
+
+idle_at : (now : ℕ) (a : Action) → IsIdleClosing now a → IsAt now a
+idle_at now (Accepted c time) h = absurd h
+idle_at now (Rejected c fault) h = absurd h
+idle_at now (Received c bytes) h = absurd h
+idle_at now (Submitted c time line o) h = absurd h
+idle_at now (Sent c time bytes) h = absurd h
+idle_at now (Closed c time Finished o) h = absurd h
+idle_at now (Closed c time PeerEnded o) h = absurd h
+idle_at now (Closed c time IdleTimeout o) h = h
+idle_at now (Closed c time OutOfMemory o) h = absurd h
+idle_at now (Closed c time TransferFailed o) h = absurd h
+idle_at now (Closed c time HubRefused o) h = absurd h
+idle_at now (Grown piece) h = absurd h
+idle_at now (Fed piece o) h = absurd h
+idle_at now (Ended name o) h = absurd h
+idle_at now Waited h = absurd h
+
+file_at : (names : List (List ℕ)) (now : ℕ) (a : Action) → IsOfFile names a → IsAt now a
+file_at names now (Accepted c time) h = absurd h
+file_at names now (Rejected c fault) h = absurd h
+file_at names now (Received c bytes) h = absurd h
+file_at names now (Submitted c time line o) h = absurd h
+file_at names now (Sent c time bytes) h = absurd h
+file_at names now (Closed c time reason o) h = absurd h
+file_at names now (Grown piece) h = tt
+file_at names now (Fed piece o) h = tt
+file_at names now (Ended name o) h = absurd h
+file_at names now Waited h = absurd h
+
+wait_at : (now : ℕ) (busy : Bool) → AreAll (IsAt now) (waiting busy)
+wait_at now true = tt
+wait_at now false = (tt, tt)
+
+turn_at : (names : List (List ℕ)) (s r : Schedule) (d : LoopState) (trace : List Action) (e : LoopState) → IsLoopTurn names s r d trace e → AreAll (IsAt r.time) trace
+turn_at names s r d trace e x =
+    let at = IsAt r.time in
+    let closings = all_as (IsIdleClosing r.time) at (idle_at r.time) x.closings x.idle in
+    let feeds = all_as (IsOfFile names) at (file_at names r.time) x.feeds x.files in
+    subst (λ (l : List Action). AreAll (IsAt r.time) l) (sym x.whole)
+    (all_both at (waiting (is_busy s d)) (x.taken ++ (x.closings ++ x.feeds)) (wait_at r.time (is_busy s d))
+    (all_both at x.taken (x.closings ++ x.feeds) x.turn.at (all_both at x.closings x.feeds closings feeds)))
+
+one_of_all : (P : Action → Type 0) (xs ys : List Action) (a : Action) → AreAll P (xs ++ a ∷ ys) → P a
+one_of_all P [] ys a h = h.0
+one_of_all P (x ∷ xs) ys a h = one_of_all P xs ys a h.1
+
+pub of_their_turn : ActionsAreOfTheirTurn
+of_their_turn names s r d e [] later x h before after a whole c time =
+    let now = x.schedule.time in
+    let all : AreAll (IsAt now) (before ++ a ∷ after) = subst (λ (l : List Action). AreAll (IsAt x.schedule.time) l) whole (turn_at names s x.schedule d x.trace x.server h.0) in
+    let at : IsAt now a = one_of_all (IsAt now) before after a all in (
+      λ is. subst (λ (b : Action). IsAt x.schedule.time b) is at,
+      λ line o is. subst (λ (b : Action). IsAt x.schedule.time b) is at,
+      λ bytes is. subst (λ (b : Action). IsAt x.schedule.time b) is at,
+      λ reason o is. subst (λ (b : Action). IsAt x.schedule.time b) is at,
+    )
+of_their_turn names s r d e (y ∷ earlier) later x h = of_their_turn names y.schedule r y.server e earlier later x h.3
 
 pub idle_alone : OnlyIdleTimeOut
 idle_alone old new c now o h = (h.0, h.1, h.2)

@@ -2,11 +2,14 @@
 use Rattle.std.specs.Prelude.{◌≡◌, ◌⊎◌, ◌||◌, ◌++◌, ◌∷◌, ◌^◌, ◌-◌, [], ℕ, Bool, true, false, List, Option, length}
 use Rattle.std.specs.Prelude.{◌≤◌, ◌<◌, ◌+◌, Some, flat_map, slice_get, if◌then◌else◌}
 use Rattle.std.specs.List.{list_any}
+use Rattle.vp_hub.specs.Hub.{Outcome}
+use Rattle.vp_serve.specs.declared.reason.CloseReason.{CloseReason}
 use Rattle.vp_serve.specs.declared.reason.CloseReason.TheVariants.{IdleTimeout}
 use Rattle.vp_serve.specs.declared.schedule.Schedule.{Schedule}
 use Rattle.vp_serve.specs.Connection.{Connection}
 use Rattle.vp_serve.specs.Connections.{connection_of}
-use Rattle.vp_serve.specs.ServerLoop.{LoopState, AwaitsPeers, Action, Closed, Grown, Fed, Waited, IsTrace}
+use Rattle.vp_serve.specs.ServerLoop.{LoopState, AwaitsPeers, Action, Accepted, Submitted, Sent, Closed, Grown, Fed}
+use Rattle.vp_serve.specs.ServerLoop.{Waited, IsTrace}
 use Rattle.vp_serve.specs.Files.{is_fed}
 use Rattle.vp_serve.specs.Readiness.{Readiness, IsReadyAt}
 use Rattle.vp_serve.specs.Transfer.{Transfer}
@@ -41,8 +44,8 @@ waiting busy = if busy then [] else Waited ∷ []
 
 -- The trace of a turn of the loop. The server waits, unless it is busy; connections are accepted and attended; some of
 -- those whose idle timeout is over are closed; and the streams of these names are fed, once the clock has reached the
--- next poll. If it is not busy then, each connection waits for its peer, none was attended and none was closed. If it
--- is, something happened or a connection is due.
+-- next poll. If it is not busy then, each connection waits for its peer, none was attended, none was closed and no
+-- stream took a piece. If it is, something happened or a connection is due.
 pub record IsLoopTurn (names : List (List ℕ)) (s r : Schedule) (d : LoopState) (trace : List Action)
     (e : LoopState) : Type 0 where
   pub attended : LoopState
@@ -59,7 +62,8 @@ pub record IsLoopTurn (names : List (List ℕ)) (s r : Schedule) (d : LoopState)
   pub polls : r.clock < s.next_poll → feeds ≡ []
   pub polled : IsPolled e.options.poll_interval (list_any is_fed feeds) s r
   pub counted : IsCounted s r
-  pub rests : r.is_busy ≡ false → AwaitsPeers e × (taken ≡ []) × (closings ≡ [])
+  pub rests : r.is_busy ≡ false
+      → AwaitsPeers e × (taken ≡ []) × (closings ≡ []) × (list_any is_fed feeds ≡ false)
   pub moves : r.is_busy ≡ true
       → (has_actions (taken ++ (closings ++ feeds)) ≡ true) ⊎ (list_any is_due e.connections ≡ true)
 
@@ -107,6 +111,17 @@ TurnsAreTimely = (names : List (List ℕ)) (s r : Schedule) (d e : LoopState) (e
     → AreLoopTurns names s d (earlier ++ x ∷ later) r e
     → (c : ℕ) (t : Connection) → connection_of c x.server.connections ≡ Some t
     → x.schedule.time < t.last_active + x.server.options.idle_timeout + 1000
+
+-- what happens in a turn of the loop, happens at the time of the turn
+abbrev pub ActionsAreOfTheirTurn : Type 0
+ActionsAreOfTheirTurn = (names : List (List ℕ)) (s r : Schedule) (d e : LoopState) (earlier later : List LoopTurn)
+    (x : LoopTurn)
+    → AreLoopTurns names s d (earlier ++ x ∷ later) r e
+    → (before after : List Action) (a : Action) → x.trace ≡ before ++ a ∷ after → (c time : ℕ)
+    → (a ≡ Accepted c time → time ≡ x.schedule.time)
+    × ((line : List ℕ) (o : Outcome) → a ≡ Submitted c time line o → time ≡ x.schedule.time)
+    × ((bytes : List ℕ) → a ≡ Sent c time bytes → time ≡ x.schedule.time)
+    × ((reason : CloseReason) (o : Outcome) → a ≡ Closed c time reason o → time ≡ x.schedule.time)
 
 -- from one turn of the loop to the next the time does not go back, and grows by a quarter of a second at most
 abbrev pub TimeIsCounted : Type 0

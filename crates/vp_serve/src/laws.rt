@@ -5,7 +5,7 @@ ghost use Rattle.vp_serve.specs.ActionLaws.{NothingIsLost, RejectedAreRefused, R
 ghost use Rattle.vp_serve.specs.Bounds.{ConnectionsAreBounded};
 ghost use Rattle.vp_serve.specs.Files.{FilesAreFed};
 ghost use Rattle.vp_serve.specs.Laws.{BytesAreServed, OnlyIdleTimeOut, TracesAreJoined, TracesAreRuns};
-ghost use Rattle.vp_serve.specs.LoopTurns.{TimeIsCounted, TurnsAreTimely};
+ghost use Rattle.vp_serve.specs.LoopTurns.{ActionsAreOfTheirTurn, TimeIsCounted, TurnsAreTimely};
 ghost use Rattle.vp_serve.specs.Replies.{LinesGetOneReply, RepliesAreCurrent};
 ghost use Rattle.vp_serve.specs.SameConnections.{SameConnections};
 ghost use Rattle.vp_serve.specs.Turns.{OnlyReadyAreAttended, ReadyAreAttended};
@@ -63,6 +63,11 @@ pub fn only_ready_are_attended()
 /// No connection is open a second after its idle timeout, at the end of a turn of the loop.
 pub fn turns_are_timely()
     ensures { TurnsAreTimely }
+{}
+
+/// All that happens in a turn of the loop, happens at the turn's time.
+pub fn actions_are_of_their_turn()
+    ensures { ActionsAreOfTheirTurn }
 {}
 
 /// The time of the loop does not go back, and a turn counts a quarter of a second at most.

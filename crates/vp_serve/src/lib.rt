@@ -14,9 +14,9 @@ mod turn;
 
 pub use connection::{Connection, NextAction, find, first_line, remove_all};
 pub use laws::{
-    actions_are_of_connections, bytes_are_served, closings_are_reported, connections_are_bounded,
-    files_are_fed, lines_get_one_reply, no_end_is_reported, nothing_is_lost,
-    only_idle_connections_time_out, only_ready_are_attended, ready_are_attended,
+    actions_are_of_connections, actions_are_of_their_turn, bytes_are_served, closings_are_reported,
+    connections_are_bounded, files_are_fed, lines_get_one_reply, no_end_is_reported,
+    nothing_is_lost, only_idle_connections_time_out, only_ready_are_attended, ready_are_attended,
     rejected_are_refused, replies_are_counted, replies_are_current, same_connections,
     time_is_counted, traces_are_joined, traces_are_runs, turns_are_timely,
 };
