@@ -2,6 +2,7 @@
 use Rattle.std.proofs.Common.{◌≡◌, ◌++◌, ◌∷◌, ◌∙◌, [], ℕ, List, Bool, true, false, inl, inr, ap, sym, subst}
 use Rattle.vp_serve.specs.declared.reason.CloseReason.{CloseReason}
 use Rattle.vp_serve.specs.declared.reason.CloseReason.TheVariants.{Finished, PeerEnded, IdleTimeout, OutOfMemory, TransferFailed, HubRefused}
+use Rattle.vp_hub.specs.Hub.{Outcome}
 use Rattle.vp_serve.specs.declared.schedule.Schedule.{Schedule}
 use Rattle.vp_serve.specs.Readiness.{is_ready_for}
 use Rattle.vp_serve.specs.Laws.{OnlyIdleTimeOut}
@@ -69,16 +70,20 @@ one_of_all : (P : Action → Type 0) (xs ys : List Action) (a : Action) → AreA
 one_of_all P [] ys a h = h.0
 one_of_all P (x ∷ xs) ys a h = one_of_all P xs ys a h.1
 
-pub of_their_turn : ActionsAreOfTheirTurn
-of_their_turn names s r d e [] later x h before after a whole c time =
-    let now = x.schedule.time in
-    let all : AreAll (IsAt now) (before ++ a ∷ after) = subst (λ (l : List Action). AreAll (IsAt x.schedule.time) l) whole (turn_at names s x.schedule d x.trace x.server h.0) in
-    let at : IsAt now a = one_of_all (IsAt now) before after a all in (
-      λ is. subst (λ (b : Action). IsAt x.schedule.time b) is at,
-      λ line o is. subst (λ (b : Action). IsAt x.schedule.time b) is at,
-      λ bytes is. subst (λ (b : Action). IsAt x.schedule.time b) is at,
-      λ reason o is. subst (λ (b : Action). IsAt x.schedule.time b) is at,
+in_turn : (names : List (List ℕ)) (s r : Schedule) (d : LoopState) (trace : List Action) (e : LoopState) → IsLoopTurn names s r d trace e → (before after : List Action) (a : Action) → trace ≡ before ++ a ∷ after → (c time : ℕ)
+    → (a ≡ Accepted c time → time ≡ r.time) × ((line : List ℕ) (o : Outcome) → a ≡ Submitted c time line o → time ≡ r.time) × ((bytes : List ℕ) → a ≡ Sent c time bytes → time ≡ r.time)
+    × ((reason : CloseReason) (o : Outcome) → a ≡ Closed c time reason o → time ≡ r.time)
+in_turn names s r d trace e x before after a whole c time =
+    let all : AreAll (IsAt r.time) (before ++ a ∷ after) = subst (λ (l : List Action). AreAll (IsAt r.time) l) whole (turn_at names s r d trace e x) in
+    let at : IsAt r.time a = one_of_all (IsAt r.time) before after a all in (
+      λ is. subst (λ (b : Action). IsAt r.time b) is at,
+      λ line o is. subst (λ (b : Action). IsAt r.time b) is at,
+      λ bytes is. subst (λ (b : Action). IsAt r.time b) is at,
+      λ reason o is. subst (λ (b : Action). IsAt r.time b) is at,
     )
+
+pub of_their_turn : ActionsAreOfTheirTurn
+of_their_turn names s r d e [] later x h = in_turn names s x.schedule d x.trace x.server h.0
 of_their_turn names s r d e (y ∷ earlier) later x h = of_their_turn names y.schedule r y.server e earlier later x h.3
 
 pub idle_alone : OnlyIdleTimeOut
