@@ -48,33 +48,46 @@ fn handle(hub: &mut Hub, event: &Event, digest: &mut Digest) {
     digest.number(hub.work());
 }
 
-/// Returns a hub with so many cursors, whose streams of one kind are fed in pieces of 1,400 bytes and whose connection 1
-/// is open.
-fn hub_of(
-    alloc: Global,
-    random: &mut Random,
-    kind: &Kind,
-    packets: u32,
-    cursors: u32,
-    digest: &mut Digest,
-) -> io::Result<Hub> {
+/// The names of the streams.
+fn names(alloc: Global) -> Result<Vec<ByteList>, AllocError> {
     let mut names = Vec::new(alloc);
     for name in NAMES {
         names.push(list(alloc, name)?).map_err(AllocError::from)?;
     }
-    let Ok(mut hub) = Hub::with_cursors(alloc, names, Limits::usual(), cursors) else {
-        return Err(unexpected());
-    };
+    Ok(names)
+}
+
+/// Feeds a file to a stream in pieces of 1,400 bytes.
+fn feed(
+    alloc: Global,
+    hub: &mut Hub,
+    name: &[u8],
+    file: &[u8],
+    digest: &mut Digest,
+) -> Result<(), AllocError> {
+    for piece in file.chunks(1_400) {
+        let event = Event::Feed(list(alloc, name)?, list(alloc, piece)?);
+        handle(hub, &event, digest);
+    }
+    handle(hub, &Event::End(list(alloc, name)?), digest);
+    Ok(())
+}
+
+/// Feeds each stream a file of this kind, and opens connection 1.
+fn begin(
+    alloc: Global,
+    hub: &mut Hub,
+    random: &mut Random,
+    kind: &Kind,
+    packets: u32,
+    digest: &mut Digest,
+) -> Result<(), AllocError> {
     for name in NAMES {
         let file = file_of(alloc, random, kind, packets)?;
-        for piece in file.chunks(1_400) {
-            let event = Event::Feed(list(alloc, name)?, list(alloc, piece)?);
-            handle(&mut hub, &event, digest);
-        }
-        handle(&mut hub, &Event::End(list(alloc, name)?), digest);
+        feed(alloc, hub, name, &file, digest)?;
     }
-    handle(&mut hub, &Event::Open(1), digest);
-    Ok(hub)
+    handle(hub, &Event::Open(1), digest);
+    Ok(())
 }
 
 /// Requests picture `n` of a stream.
@@ -92,6 +105,44 @@ fn ask(
     Ok(())
 }
 
+/// Requests pictures at random, with their neighbours and once more, `count` times.
+fn ask_around(
+    alloc: Global,
+    hub: &mut Hub,
+    random: &mut Random,
+    count: u32,
+    digest: &mut Digest,
+) -> Result<(), AllocError> {
+    begin(alloc, hub, random, &FILM, PACKETS, digest)?;
+    for _ in 0..count {
+        let film = random.below(2) == 0;
+        let n = random.below(PACKETS - 2);
+        ask(alloc, hub, film, n, digest)?;
+        ask(alloc, hub, film, n + 1, digest)?;
+        ask(alloc, hub, film, n, digest)?;
+        ask(alloc, hub, film, n + 2, digest)?;
+    }
+    Ok(())
+}
+
+/// Requests the pictures of the first stream in order, and then back in steps of ten.
+fn ask_in_order(
+    alloc: Global,
+    hub: &mut Hub,
+    random: &mut Random,
+    count: u32,
+    digest: &mut Digest,
+) -> Result<(), AllocError> {
+    begin(alloc, hub, random, &SCENE, count, digest)?;
+    for n in 0..count {
+        ask(alloc, hub, true, n, digest)?;
+    }
+    for step in 1..=count / 10 {
+        ask(alloc, hub, true, count - step * 10, digest)?;
+    }
+    Ok(())
+}
+
 /// Makes two files, and requests pictures at random, with their neighbours and once more, `count` times.
 pub(crate) fn scrub(
     alloc: Global,
@@ -99,16 +150,11 @@ pub(crate) fn scrub(
     count: u32,
     digest: &mut Digest,
 ) -> io::Result<()> {
-    let mut hub = hub_of(alloc, random, &FILM, PACKETS, 0, digest)?;
-    for _ in 0..count {
-        let film = random.below(2) == 0;
-        let n = random.below(PACKETS - 2);
-        ask(alloc, &mut hub, film, n, digest)?;
-        ask(alloc, &mut hub, film, n + 1, digest)?;
-        ask(alloc, &mut hub, film, n, digest)?;
-        ask(alloc, &mut hub, film, n + 2, digest)?;
-    }
-    Ok(())
+    let names = names(alloc)?;
+    let Ok(mut hub) = Hub::new(alloc, names, Limits::usual()) else {
+        return Err(unexpected());
+    };
+    Ok(ask_around(alloc, &mut hub, random, count, digest)?)
 }
 
 /// Makes two files of `count` packets with one key packet each, and requests the pictures of the first one in order, and
@@ -120,12 +166,9 @@ pub(crate) fn play(
     cursors: u32,
     digest: &mut Digest,
 ) -> io::Result<()> {
-    let mut hub = hub_of(alloc, random, &SCENE, count, cursors, digest)?;
-    for n in 0..count {
-        ask(alloc, &mut hub, true, n, digest)?;
-    }
-    for step in 1..=count / 10 {
-        ask(alloc, &mut hub, true, count - step * 10, digest)?;
-    }
-    Ok(())
+    let names = names(alloc)?;
+    let Ok(mut hub) = Hub::with_cursors(alloc, names, Limits::usual(), cursors) else {
+        return Err(unexpected());
+    };
+    Ok(ask_in_order(alloc, &mut hub, random, count, digest)?)
 }
