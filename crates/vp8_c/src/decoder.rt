@@ -30,13 +30,7 @@ pub extern "C" fn vp8_decoder_new(alloc: Global, decoder: &mut Handle, max_pixel
     let Some(limits) = Limits::new(max_pixels, 1, 1, 1) else {
         return LIMITS;
     };
-    match Box::new(alloc, HandleValue::Decoder(Decoder::new(alloc, limits))) {
-        Ok(held) => {
-            decoder.put(held);
-            OK
-        }
-        Err(_) => MEMORY,
-    }
+    decoder.open(alloc, HandleValue::Decoder(Decoder::new(alloc, limits)))
 }
 
 /// Decodes a packet, which is one frame. An empty packet is a frame that its sender dropped.

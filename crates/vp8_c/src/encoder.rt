@@ -51,13 +51,7 @@ pub extern "C" fn vp8_encoder_new(
     let Some(coding) = EncoderHandle::of(alloc, made, dim) else {
         return MEMORY;
     };
-    match Box::new(alloc, HandleValue::Encoder(coding)) {
-        Ok(held) => {
-            encoder.put(held);
-            OK
-        }
-        Err(_) => MEMORY,
-    }
+    encoder.open(alloc, HandleValue::Encoder(coding))
 }
 
 /// Encodes a picture of the encoder's size, and keeps the packet and its reconstruction.

@@ -1,10 +1,11 @@
 //! Handles in C's memory layout.
 
-ghost use Rattle.std.specs.Prelude.{◌≡◌, Some, None, option_map, is_some, if◌then◌else◌};
+ghost use Rattle.std.specs.Prelude.{◌≡◌, ◌⊎◌, Some, None, option_map, is_some, if◌then◌else◌};
 
 use crate::handle_value::HandleValue;
 use crate::raw_box::RawBox;
 use crate::slot::Slot;
+use crate::status::{MEMORY, OK};
 use std::alloc::Global;
 use std::mem;
 
@@ -54,6 +55,24 @@ impl Handle {
         };
         let Handle { in_use: _, slot } = mem::replace(self, open);
         slot.forget();
+    }
+
+    /// Puts a value into a closed handle, in memory of its own.
+    ///
+    /// Status: `MEMORY`.
+    pub fn open(&mut self, alloc: Global, value: HandleValue) -> u32
+        requires { handle_value_in self.old ≡ None }
+        ensures answer { (result ≡ OK) ⊎ (result ≡ MEMORY) }
+        ensures opened { result ≡ OK → handle_value_in self.new ≡ Some value }
+        ensures refused { result ≡ MEMORY → handle_value_in self.new ≡ None }
+    {
+        match Box::new(alloc, value) {
+            Ok(held) => {
+                self.put(held);
+                OK
+            }
+            Err(_) => MEMORY,
+        }
     }
 }
 

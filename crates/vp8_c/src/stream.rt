@@ -33,13 +33,7 @@ pub extern "C" fn vp8_stream_new(alloc: Global, stream: &mut Handle, bytes: &[u8
     let Some(asked) = StreamHandle::of_file(alloc, bytes) else {
         return MEMORY;
     };
-    match Box::new(alloc, HandleValue::Stream(asked)) {
-        Ok(held) => {
-            stream.put(held);
-            OK
-        }
-        Err(_) => MEMORY,
-    }
+    stream.open(alloc, HandleValue::Stream(asked))
 }
 
 /// Opens a stream without any bytes, for a file that is fed in pieces.
@@ -53,13 +47,7 @@ pub extern "C" fn vp8_stream_new_empty(alloc: Global, stream: &mut Handle) -> u3
     if stream.is_open() {
         return OPEN;
     }
-    match Box::new(alloc, HandleValue::Stream(StreamHandle::empty(alloc))) {
-        Ok(held) => {
-            stream.put(held);
-            OK
-        }
-        Err(_) => MEMORY,
-    }
+    stream.open(alloc, HandleValue::Stream(StreamHandle::empty(alloc)))
 }
 
 /// Takes the next piece of the file, of any length.
