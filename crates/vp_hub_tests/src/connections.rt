@@ -30,24 +30,26 @@ fn is_answered_last(answer: &Result<Reply, HubFault>) -> bool {
 }
 
 /// Returns whether the second request isn't answered if the first one closes, and no more bytes are taken.
-fn drops_the_second(alloc: Global) -> bool {
-    let Some(mut hub) = hub_of(alloc, &[b"a"], &parts(), 1) else {
-        return false;
-    };
-    is_answered_last(&says(alloc, &mut hub, 1, &LAST))
-        && is_refused(&says(alloc, &mut hub, 1, &LAST), HubFault::Failed)
+fn drops_the_second(alloc: Global, hub: &mut Hub) -> bool {
+    is_answered_last(&says(alloc, hub, 1, &LAST))
+        && is_refused(&says(alloc, hub, 1, &LAST), HubFault::Failed)
+}
+
+/// Returns whether a new hub does so.
+fn hub_drops_the_second(alloc: Global) -> bool {
+    match hub_of(alloc, &[b"a"], &parts(), 1) {
+        Some(mut hub) => drops_the_second(alloc, &mut hub),
+        None => false,
+    }
 }
 
 /// Sends both requests in two pieces, the first of `place` bytes. Returns whether each request is answered at its last
 /// byte.
-fn answers_at_the_last_byte(alloc: Global, place: usize) -> bool
+fn answers_at_the_last_byte(alloc: Global, hub: &mut Hub, place: usize) -> bool
     requires { place ≤ 76 }
 {
-    let Some(mut hub) = hub_of(alloc, &[b"a"], &parts(), 1) else {
-        return false;
-    };
-    let early = says(alloc, &mut hub, 1, &BOTH[..place]);
-    let late = says(alloc, &mut hub, 1, &BOTH[place..]);
+    let early = says(alloc, hub, 1, &BOTH[..place]);
+    let late = says(alloc, hub, 1, &BOTH[place..]);
     match place {
         0..38 => is_answered(&early, b"") && are_both(replied(&late)),
         38..76 => is_key(replied(&early)) && is_inter(replied(&late)),
@@ -55,12 +57,22 @@ fn answers_at_the_last_byte(alloc: Global, place: usize) -> bool
     }
 }
 
+/// Returns whether a new hub does so.
+fn hub_answers_at_the_last_byte(alloc: Global, place: usize) -> bool
+    requires { place ≤ 76 }
+{
+    match hub_of(alloc, &[b"a"], &parts(), 1) {
+        Some(mut hub) => answers_at_the_last_byte(alloc, &mut hub, place),
+        None => false,
+    }
+}
+
 #[test]
 fn two_requests_in_one_piece(rt: HostRuntime) -> Result<(), Fail> {
-    assert!(rt; drops_the_second(rt.alloc()));
+    assert!(rt; hub_drops_the_second(rt.alloc()));
     for place in 0..=76 {
         assert!(rt;
-            answers_at_the_last_byte(rt.alloc(), place),
+            hub_answers_at_the_last_byte(rt.alloc(), place),
             "cut at {place}"
         );
     }
@@ -167,17 +179,17 @@ fn serves_again(alloc: Global, hub: &mut Hub) -> bool {
 }
 
 /// Returns whether another connection can still complete the request that it sent a part of before.
-fn goes_on(alloc: Global) -> bool {
-    let Some(mut hub) = hub_of(alloc, &[b"a"], &parts(), 1) else {
-        return false;
-    };
-    is_answered(&says(alloc, &mut hub, 1, &ASKS_KEY[..20]), b"")
-        && serves_again(alloc, &mut hub)
-        && is_key(replied(&says(alloc, &mut hub, 1, &ASKS_KEY[20..])))
+fn goes_on(alloc: Global, hub: &mut Hub) -> bool {
+    is_answered(&says(alloc, hub, 1, &ASKS_KEY[..20]), b"")
+        && serves_again(alloc, hub)
+        && is_key(replied(&says(alloc, hub, 1, &ASKS_KEY[20..])))
 }
 
 #[test]
 fn each_call_of_a_connection_fails(rt: HostRuntime) -> Result<(), Fail> {
-    assert!(rt; goes_on(rt.alloc()));
+    let Some(mut hub) = hub_of(rt.alloc(), &[b"a"], &parts(), 1) else {
+        return Err(Fail::new("there is no hub"));
+    };
+    assert!(rt; goes_on(rt.alloc(), &mut hub));
     Ok(())
 }

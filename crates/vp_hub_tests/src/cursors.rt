@@ -33,25 +33,28 @@ fn work_for(alloc: Global, hub: &mut Hub, n: u32) -> Option<u64> {
 }
 
 /// Requests frames one after another. Returns the number of decoded packets.
-fn cost(alloc: Global, cursors: u32, numbers: &[u32]) -> Option<u64> {
-    let mut hub = new_hub(alloc, cursors)?;
-    begin(alloc, &mut hub);
+fn ask_all(alloc: Global, hub: &mut Hub, numbers: &[u32]) -> Option<u64> {
     let mut cost = 0u64;
     for n in numbers {
-        cost = cost.saturating_add(work_for(alloc, &mut hub, *n)?);
+        cost = cost.saturating_add(work_for(alloc, hub, *n)?);
     }
     Some(cost)
 }
 
-/// Requests all frames in order.
-fn cost_in_order(alloc: Global, cursors: u32) -> Option<u64> {
+/// Requests frames from a new hub, one after another. Returns the number of decoded packets.
+fn cost(alloc: Global, cursors: u32, numbers: &[u32]) -> Option<u64> {
     let mut hub = new_hub(alloc, cursors)?;
     begin(alloc, &mut hub);
-    let mut cost = 0u64;
+    ask_all(alloc, &mut hub, numbers)
+}
+
+/// Requests all frames in order.
+fn cost_in_order(alloc: Global, cursors: u32) -> Option<u64> {
+    let mut numbers = [0; 60];
     for n in 0..60 {
-        cost = cost.saturating_add(work_for(alloc, &mut hub, n)?);
+        numbers[n as usize] = n;
     }
-    Some(cost)
+    cost(alloc, cursors, &numbers)
 }
 
 #[test]

@@ -110,10 +110,7 @@ fn has_grown(alloc: Global, hub: &mut Hub) -> bool {
 
 /// Two connections request two pictures in turns of this order, while the stream grows and a third connection is opened
 /// and shut. Returns whether each is answered with its picture.
-fn asks_in(alloc: Global, cache: u32, order: [Turn; 8]) -> bool {
-    let Some(mut hub) = hub_of(alloc, &[b"a"], &parts(), cache) else {
-        return false;
-    };
+fn ask_in_turns(alloc: Global, hub: &mut Hub, order: [Turn; 8]) -> bool {
     let first = Peer {
         number: 1,
         left: &ASKS_KEY,
@@ -129,10 +126,18 @@ fn asks_in(alloc: Global, cache: u32, order: [Turn; 8]) -> bool {
         second,
         stream: &MORE,
     };
-    take_all(alloc, &mut hub, &mut speakers, order)
+    take_all(alloc, hub, &mut speakers, order)
         && is_key(&speakers.first.got)
         && is_inter(&speakers.second.got)
-        && has_grown(alloc, &mut hub)
+        && has_grown(alloc, hub)
+}
+
+/// Returns whether a new hub that keeps so many pictures answers them so.
+fn asks_in(alloc: Global, cache: u32, order: [Turn; 8]) -> bool {
+    match hub_of(alloc, &[b"a"], &parts(), cache) {
+        Some(mut hub) => ask_in_turns(alloc, &mut hub, order),
+        None => false,
+    }
 }
 
 #[test]
@@ -175,17 +180,16 @@ struct Answers {
 }
 
 /// Sends a part of a request, feeds the rest of the file, and sends the rest of the request.
-fn ask_around(alloc: Global, begun: &[&[u8]], rest: &[u8], place: usize) -> Option<Answers>
+fn ask_around(alloc: Global, hub: &mut Hub, rest: &[u8], place: usize) -> Answers
     requires { place ≤ 38 }
 {
-    let mut hub = hub_of(alloc, &[b"a"], begun, 1)?;
-    Some(Answers {
-        before: says(alloc, &mut hub, 3, &ASKS_KEY),
-        early: says(alloc, &mut hub, 1, &ASKS_KEY[..place]),
-        fed: feeds(alloc, &mut hub, rest),
-        late: says(alloc, &mut hub, 1, &ASKS_KEY[place..]),
-        behind: says(alloc, &mut hub, 3, &ASKS_KEY),
-    })
+    Answers {
+        before: says(alloc, hub, 3, &ASKS_KEY),
+        early: says(alloc, hub, 1, &ASKS_KEY[..place]),
+        fed: feeds(alloc, hub, rest),
+        late: says(alloc, hub, 1, &ASKS_KEY[place..]),
+        behind: says(alloc, hub, 3, &ASKS_KEY),
+    }
 }
 
 /// Returns whether the picture is available to the other connection after the file's last bytes, and not before.
@@ -204,11 +208,19 @@ fn is_whole(answers: &Answers, place: usize) -> bool {
 }
 
 /// Returns whether both connections are answered by the state of the stream at that moment.
+fn feeds_behind(alloc: Global, hub: &mut Hub, rest: &[u8], place: usize) -> bool
+    requires { place ≤ 38 }
+{
+    let answers = ask_around(alloc, hub, rest, place);
+    are_others(&answers) && is_whole(&answers, place)
+}
+
+/// Returns whether a new hub, which was fed the beginning, answers them so.
 fn fed_behind(alloc: Global, begun: &[&[u8]], rest: &[u8], place: usize) -> bool
     requires { place ≤ 38 }
 {
-    match ask_around(alloc, begun, rest, place) {
-        Some(answers) => are_others(&answers) && is_whole(&answers, place),
+    match hub_of(alloc, &[b"a"], begun, 1) {
+        Some(mut hub) => feeds_behind(alloc, &mut hub, rest, place),
         None => false,
     }
 }

@@ -147,19 +147,16 @@ fn run_is_answered(alloc: Global, hub: &mut Hub) -> bool {
 }
 
 /// Returns whether connection 1, after all steps, is answered with its picture at its request's last byte.
-fn goes_on(alloc: Global) -> bool {
-    match hub_of_three(alloc) {
-        Some(mut hub) => {
-            run_is_answered(alloc, &mut hub)
-                && is_key(replied(&says(alloc, &mut hub, 1, &ASKS_KEY[37..])))
-        }
-        None => false,
-    }
+fn goes_on(alloc: Global, hub: &mut Hub) -> bool {
+    run_is_answered(alloc, hub) && is_key(replied(&says(alloc, hub, 1, &ASKS_KEY[37..])))
 }
 
 #[test]
 fn refused_events_change_nothing(rt: HostRuntime) -> Result<(), Fail> {
-    assert!(rt; goes_on(rt.alloc()));
+    let Some(mut hub) = hub_of_three(rt.alloc()) else {
+        return Err(Fail::new("there is no hub"));
+    };
+    assert!(rt; goes_on(rt.alloc(), &mut hub));
     Ok(())
 }
 

@@ -60,20 +60,20 @@ fn writes_in_turn(alloc: Global, hub: &mut Hub, sent: &[u8], wanted: &[u8], most
 }
 
 /// Returns whether a hundred requests get a hundred times the response to one of them, each by a write of its own.
-fn answers_in_turn(alloc: Global) -> Result<bool, AllocError> {
-    let Some(mut hub) = hub_of(alloc, &[b"a"], &[&HEAD, &KEY], 1) else {
-        return Ok(false);
-    };
-    let single = says(alloc, &mut hub, 1, &ASKS_KEY);
-    let reply = replied(&single);
+fn answers_in_turn(alloc: Global, hub: &mut Hub) -> Result<bool, AllocError> {
     let sent = hundred_times(alloc, &ASKS_KEY)?;
+    let single = says(alloc, hub, 1, &ASKS_KEY);
+    let reply = replied(&single);
     let wanted = hundred_times(alloc, reply)?;
-    Ok(is_key(reply) && writes_in_turn(alloc, &mut hub, &sent, &wanted, reply.len()))
+    Ok(is_key(reply) && writes_in_turn(alloc, hub, &sent, &wanted, reply.len()))
 }
 
 /// A hundred requests of 38 bytes are read at once. No write has more than one response.
 #[test]
 fn hundred_requests_in_one_piece(rt: HostRuntime) -> Result<(), Fail> {
-    assert!(rt; answers_in_turn(rt.alloc())?);
+    let Some(mut hub) = hub_of(rt.alloc(), &[b"a"], &[&HEAD, &KEY], 1) else {
+        return Err(Fail::new("there is no hub"));
+    };
+    assert!(rt; answers_in_turn(rt.alloc(), &mut hub)?);
     Ok(())
 }

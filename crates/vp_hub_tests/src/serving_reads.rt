@@ -7,7 +7,7 @@ use std::io;
 use std::io::{Error, ErrorKind, Read, Write};
 use std::test::Fail;
 use vp_base::Counted;
-use vp_hub::{ServeFault, serve_one};
+use vp_hub::{Hub, ServeFault, serve_one};
 
 /// A reader that records the total number of bytes it gave, and the largest size it was asked for.
 #[derive(Drop)]
@@ -48,10 +48,7 @@ impl Write for Noted<'_> {
 
 /// Returns whether three requests in these bytes are read in three pieces, and each request is answered after the piece
 /// that ends it.
-fn reads_in_pieces(alloc: Global, sent: &[u8]) -> bool {
-    let Some(mut hub) = hub_of(alloc, &[b"a"], &[], 1) else {
-        return false;
-    };
+fn reads_in_pieces(alloc: Global, hub: &mut Hub, sent: &[u8]) -> bool {
     let (given, most) = (Cell::new(0), Cell::new(0));
     let mut reader = Counted::new(Asked {
         left: sent,
@@ -62,7 +59,7 @@ fn reads_in_pieces(alloc: Global, sent: &[u8]) -> bool {
         given: &given,
         at: Vec::new(alloc),
     });
-    let served = serve_one(&mut hub, 2, &mut reader, &mut writer);
+    let served = serve_one(hub, 2, &mut reader, &mut writer);
     let at = writer.into_inner().at;
     served == Ok(())
         && most.get() == 4096
@@ -93,7 +90,10 @@ fn three_requests(alloc: Global) -> Result<Vec<u8>, AllocError> {
 #[test]
 fn pieces_of_4096_bytes(rt: HostRuntime) -> Result<(), Fail> {
     let sent = three_requests(rt.alloc())?;
-    assert!(rt; reads_in_pieces(rt.alloc(), &sent));
+    let Some(mut hub) = hub_of(rt.alloc(), &[b"a"], &[], 1) else {
+        return Err(Fail::new("there is no hub"));
+    };
+    assert!(rt; reads_in_pieces(rt.alloc(), &mut hub, &sent));
     Ok(())
 }
 
@@ -133,33 +133,44 @@ impl Write for Nowhere {
     }
 }
 
-/// Returns whether a connection that gives `bytes` single bytes, in requests of 3,000, ends with this result after this
-/// number of reads.
+/// Returns whether a connection that gives `bytes` single bytes of a repeated request of 3,000 ends with this result
+/// after this number of reads.
 fn ends_by(
+    hub: &mut Hub,
+    request: &[u8],
+    bytes: usize,
+    wanted: Result<(), ServeFault>,
+    reads: u64,
+) -> bool {
+    let mut reader = Counted::new(Again {
+        request,
+        given: 0,
+        all: bytes,
+    });
+    let mut writer = Counted::new(Nowhere);
+    let served = serve_one(hub, 2, &mut reader, &mut writer);
+    served == wanted && reader.reads() == reads
+}
+
+/// Returns whether this is so of a new hub.
+fn hub_ends_by(
     alloc: Global,
     bytes: usize,
     wanted: Result<(), ServeFault>,
     reads: u64,
 ) -> Result<bool, AllocError> {
     let request = long_request(alloc)?;
-    let Some(mut hub) = hub_of(alloc, &[b"a"], &[], 1) else {
-        return Ok(false);
-    };
-    let mut reader = Counted::new(Again {
-        request: &request,
-        given: 0,
-        all: bytes,
-    });
-    let mut writer = Counted::new(Nowhere);
-    let served = serve_one(&mut hub, 2, &mut reader, &mut writer);
-    Ok(served == wanted && reader.reads() == reads)
+    Ok(match hub_of(alloc, &[b"a"], &[], 1) {
+        Some(mut hub) => ends_by(&mut hub, &request, bytes, wanted, reads),
+        None => false,
+    })
 }
 
 /// A connection may end at its 1,048,576th read, and no later.
 #[test]
 fn reads_of_a_connection(rt: HostRuntime) -> Result<(), Fail> {
     let turns = Err(ServeFault::ReadTurns);
-    assert!(rt; ends_by(rt.alloc(), 1_048_575, Ok(()), 1_048_576)?);
-    assert!(rt; ends_by(rt.alloc(), 1_048_576, turns, 1_048_576)?);
+    assert!(rt; hub_ends_by(rt.alloc(), 1_048_575, Ok(()), 1_048_576)?);
+    assert!(rt; hub_ends_by(rt.alloc(), 1_048_576, turns, 1_048_576)?);
     Ok(())
 }

@@ -98,14 +98,21 @@ fn key_replies(alloc: Global, count: usize) -> Result<Vec<u8>, AllocError> {
     Ok(replies)
 }
 
-/// Serves two requests up to a read or a write that fails. Returns whether the responses before it are written.
+/// Serves two requests up to a read or a write that fails. Returns whether just this is written before.
+fn fails_after(alloc: Global, reads: u64, writes: u64, wanted: &[u8]) -> bool {
+    match hub_of(alloc, &[b"a"], &[&HEAD, &KEY], 16) {
+        Some(mut hub) => {
+            let served = serve_two(alloc, &mut hub, TWICE, (reads, writes), wanted);
+            served == (Err(ServeFault::Device), true) && has_gone(&mut hub)
+        }
+        None => false,
+    }
+}
+
+/// Returns whether so many responses are written before.
 fn fails_at(alloc: Global, reads: u64, writes: u64, replies: usize) -> Result<bool, AllocError> {
     let wanted = key_replies(alloc, replies)?;
-    let Some(mut hub) = hub_of(alloc, &[b"a"], &[&HEAD, &KEY], 16) else {
-        return Ok(false);
-    };
-    let served = serve_two(alloc, &mut hub, TWICE, (reads, writes), &wanted);
-    Ok(served == (Err(ServeFault::Device), true) && has_gone(&mut hub))
+    Ok(fails_after(alloc, reads, writes, &wanted))
 }
 
 #[test]
@@ -127,13 +134,10 @@ fn each_read_fails(rt: HostRuntime) -> Result<(), Fail> {
 }
 
 /// Returns whether a connection whose number is in use is refused, and nothing is read or written.
-fn turns_away(alloc: Global) -> bool {
-    let Some(mut hub) = hub_of(alloc, &[b"a"], &[&HEAD, &KEY], 16) else {
-        return false;
-    };
+fn turns_away(alloc: Global, hub: &mut Hub) -> bool {
     let mut reader = Counted::new(SENT);
     let mut writer = Counted::new(Vec::new(alloc));
-    let served = serve_one(&mut hub, 1, &mut reader, &mut writer);
+    let served = serve_one(hub, 1, &mut reader, &mut writer);
     served == Err(ServeFault::Hub(HubFault::AlreadyOpen))
         && reader.into_inner() == SENT
         && writer.into_inner().is_empty()
@@ -141,7 +145,10 @@ fn turns_away(alloc: Global) -> bool {
 
 #[test]
 fn refused_opening_reads_nothing(rt: HostRuntime) -> Result<(), Fail> {
-    assert!(rt; turns_away(rt.alloc()));
+    let Some(mut hub) = hub_of(rt.alloc(), &[b"a"], &[&HEAD, &KEY], 16) else {
+        return Err(Fail::new("there is no hub"));
+    };
+    assert!(rt; turns_away(rt.alloc(), &mut hub));
     Ok(())
 }
 

@@ -2,6 +2,7 @@
 
 use crate::check::equal;
 use std::alloc::Global;
+use std::process::Abort;
 use std::test::Fail;
 use vp_base::Limits;
 use vp_cache::Cache;
@@ -30,15 +31,19 @@ fn stream_of(alloc: Global) -> Stream {
     stream
 }
 
-#[test]
-fn cache_is_filled(rt: HostRuntime) -> Result<(), Fail> {
-    let alloc = rt.alloc();
-    let stream = stream_of(alloc);
-    let mut cache = Cache::new(alloc, 1)?;
+/// Asks for the second packet, which is not kept before.
+fn fills(rt: &impl Abort, cache: &mut Cache, stream: &Stream) -> Result<(), Fail> {
     let mut work = 0;
     assert!(rt; cache.cached(0, 1).is_none());
-    assert!(rt; is_grey(&cache.picture(0, &stream, 1, &mut work)?));
-    equal(&rt, &work, &2);
+    assert!(rt; is_grey(&cache.picture(0, stream, 1, &mut work)?));
+    equal(rt, &work, &2);
     assert!(rt; cache.cached(0, 1).is_some());
     Ok(())
+}
+
+#[test]
+fn cache_is_filled(rt: HostRuntime) -> Result<(), Fail> {
+    let mut cache = Cache::new(rt.alloc(), 1)?;
+    let stream = stream_of(rt.alloc());
+    fills(&rt, &mut cache, &stream)
 }

@@ -5,6 +5,7 @@ ghost use Rattle.vp_stream.specs.Cursor.{IsCursorOf};
 use crate::check::equal;
 use crate::files::{HIDDEN, INTER, KEY, file};
 use std::alloc::{AllocError, Global};
+use std::process::Abort;
 use std::test::Fail;
 use vp_base::Limits;
 use vp_stream::{Answer, Cursor, Stream};
@@ -63,23 +64,41 @@ fn nine_packets(alloc: Global) -> Result<Vec<u8>, AllocError> {
     file(alloc, &packets)
 }
 
+// The costs of the nine packets through a new cursor.
+fn nine_cost(rt: &impl Abort, stream: &Stream, cursor: &mut Cursor) -> Result<(), Fail>
+    requires { IsCursorOf cursor.old stream.now }
+    ensures { IsCursorOf cursor.new stream.now }
+{
+    equal(rt, &cost(stream, &[0, 1, 2, 3, 4, 5, 6, 7, 8], cursor)?, &9);
+    // The last packet again, then no packet.
+    equal(rt, &cost(stream, &[8, 8, 9], cursor)?, &0);
+    // Back to packets 3 and 4, on to 5 and 6, back to 0 and 1, and over key packets to 7 and 8.
+    equal(rt, &cost(stream, &[4], cursor)?, &2);
+    equal(rt, &cost(stream, &[6], cursor)?, &2);
+    equal(rt, &cost(stream, &[1], cursor)?, &2);
+    equal(rt, &cost(stream, &[8], cursor)?, &2);
+    Ok(())
+}
+
+// The same, once they are fed, and the cost of one more packet.
+fn ten_cost(
+    rt: &impl Abort,
+    alloc: Global,
+    stream: &mut Stream,
+    cursor: &mut Cursor,
+) -> Result<(), Fail>
+    requires { IsCursorOf cursor.old stream.old }
+{
+    stream.feed(&nine_packets(alloc)?)?;
+    nine_cost(rt, stream, cursor)?;
+    stream.feed(&[3, 0, 0, 0, 9, 0, 0, 0, 0, 0, 0, 0, 0x11, 0, 0])?;
+    equal(rt, &cost(stream, &[9], cursor)?, &1);
+    Ok(())
+}
+
 #[test]
 fn frames_through_a_cursor(rt: HostRuntime) -> Result<(), Fail> {
-    let limits = Limits::usual();
-    let mut stream = Stream::new(rt.alloc(), limits);
-    let mut cursor = Cursor::new(rt.alloc(), limits);
-    stream.feed(&nine_packets(rt.alloc())?)?;
-    let all = [0, 1, 2, 3, 4, 5, 6, 7, 8];
-    equal(&rt, &cost(&stream, &all, &mut cursor)?, &9);
-    // The last packet again, then no packet.
-    equal(&rt, &cost(&stream, &[8, 8, 9], &mut cursor)?, &0);
-    // Back to packets 3 and 4, on to 5 and 6, back to 0 and 1, and over key packets to 7 and 8.
-    equal(&rt, &cost(&stream, &[4], &mut cursor)?, &2);
-    equal(&rt, &cost(&stream, &[6], &mut cursor)?, &2);
-    equal(&rt, &cost(&stream, &[1], &mut cursor)?, &2);
-    equal(&rt, &cost(&stream, &[8], &mut cursor)?, &2);
-    // One more packet comes.
-    stream.feed(&[3, 0, 0, 0, 9, 0, 0, 0, 0, 0, 0, 0, 0x11, 0, 0])?;
-    equal(&rt, &cost(&stream, &[9], &mut cursor)?, &1);
-    Ok(())
+    let mut stream = Stream::new(rt.alloc(), Limits::usual());
+    let mut cursor = Cursor::new(rt.alloc(), Limits::usual());
+    ten_cost(&rt, rt.alloc(), &mut stream, &mut cursor)
 }

@@ -11,7 +11,7 @@ use std::{fs, io};
 use vp_app::{command, settings_of};
 use vp_args::{EncodeOptions, ServeArgs, Task, read_args};
 use vp_base::{Counted, Limits};
-use vp_encode::{Settings, encode_all};
+use vp_encode::{EncodeAllFault, EncodeReport, Settings, encode_all};
 
 /// The state of the transcript commands for the command line: the limits of `limited`.
 #[derive(Drop)]
@@ -175,14 +175,25 @@ fn encode_within(
 ) -> io::Result<()> {
     let mut reader = Counted::new(source);
     let mut writer = Counted::new(Vec::new(alloc));
-    match encode_all(alloc, &mut reader, &mut writer, settings, limits) {
+    let done = encode_all(alloc, &mut reader, &mut writer, settings, limits);
+    tell_encoded(alloc, &done, writer.into_inner().len() as u64, found)
+}
+
+/// Prints the report or the fault, and the number of bytes written.
+fn tell_encoded(
+    alloc: Global,
+    done: &Result<EncodeReport, EncodeAllFault>,
+    bytes: u64,
+    found: &mut Found,
+) -> io::Result<()> {
+    match done {
         Ok(report) => {
             let (frames, error) = (report.frames, report.error);
             found.line(format!(in alloc; "frames {frames} error {error}")?)?;
         }
         Err(fault) => found.line(format!(in alloc; "refused {fault}")?)?,
     }
-    Ok(found.count_if_any("bytes", writer.into_inner().len() as u64)?)
+    Ok(found.count_if_any("bytes", bytes)?)
 }
 
 /// Prints the contents of a file.

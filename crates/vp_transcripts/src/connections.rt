@@ -98,6 +98,32 @@ fn asked<'a>(alloc: Global, words: &'a [&'a str]) -> Option<ServeArgs<'a>> {
     }
 }
 
+/// Creates a hub and feeds it as the program does with the arguments in a line; the input has a name.
+fn served_hub(rt: &HostRuntime, line: &str, names: &Names) -> io::Result<Option<Hub>> {
+    let (line, name) = line.split_once(" < ").ok_or(malformed())?;
+    let input = names.get(name)?;
+    let words: Vec<&str> = line.split(' ').collect(rt.alloc())?;
+    let service = asked(rt.alloc(), &words).ok_or(malformed())?;
+    Ok(fed_hub(rt, &service, input))
+}
+
+/// Returns the names of the streams in a line.
+fn streams_of(alloc: Global, line: &str, names: &Names) -> io::Result<Vec<ByteList>> {
+    let mut streams = Vec::new(alloc);
+    for name in line.split(' ') {
+        streams.push(list(names, name)?)?;
+    }
+    Ok(streams)
+}
+
+/// Prints why a hub is not created.
+fn tell_refused(fault: NewFault, found: &mut Found) -> io::Result<()> {
+    match fault {
+        NewFault::Names => Ok(found.word("refused Names")?),
+        NewFault::Memory => Err(malformed()),
+    }
+}
+
 /// Sends bytes in pieces, and prints all responses as one.
 fn send(
     alloc: Global,
@@ -127,25 +153,19 @@ impl Connections {
 
     /// Creates the hub.
     fn make(&mut self, line: &str, names: &Names, found: &mut Found) -> io::Result<()> {
-        let mut streams = Vec::new(self.alloc);
-        for name in line.split(' ') {
-            streams.push(list(names, name)?)?;
-        }
+        let streams = streams_of(self.alloc, line, names)?;
         match Hub::new(self.alloc, streams, self.limits) {
-            Ok(hub) => self.hub = Some(hub),
-            Err(NewFault::Names) => found.word("refused Names")?,
-            Err(NewFault::Memory) => return Err(malformed()),
+            Ok(hub) => {
+                self.hub = Some(hub);
+                Ok(())
+            }
+            Err(fault) => tell_refused(fault, found),
         }
-        Ok(())
     }
 
     /// Creates the hub and feeds it as the program does with these arguments; the input has a name.
     fn serve(&mut self, rt: &HostRuntime, line: &str, names: &Names) -> io::Result<()> {
-        let (line, name) = line.split_once(" < ").ok_or(malformed())?;
-        let input = names.get(name)?;
-        let words: Vec<&str> = line.split(' ').collect(self.alloc)?;
-        let service = asked(self.alloc, &words).ok_or(malformed())?;
-        self.hub = fed_hub(rt, &service, input);
+        self.hub = served_hub(rt, line, names)?;
         Ok(())
     }
 

@@ -47,6 +47,21 @@ impl Work {
     }
 }
 
+/// Decodes a whole file.
+fn decode<R: Read>(input: &mut R, file: &mut Reader, work: &mut Work) -> io::Result<()> {
+    let mut buffer = [0; 4096];
+    for _ in 0..u32::MAX {
+        let count = input.read(&mut buffer)?;
+        if count == 0 {
+            break;
+        }
+        if file.feed(&buffer[..count]).is_err() || !work.packets(file) {
+            return Err(io::Error::from(io::ErrorKind::Other));
+        }
+    }
+    Ok(())
+}
+
 /// Returns the digest of a whole file.
 fn digest<R: Read>(alloc: Global, input: &mut R) -> io::Result<[u8; 16]> {
     let mut file = Reader::new(alloc, Limits::usual());
@@ -55,16 +70,7 @@ fn digest<R: Read>(alloc: Global, input: &mut R) -> io::Result<[u8; 16]> {
         decoder: Decoder::new(alloc, Limits::usual()),
         digest: Md5::new(),
     };
-    let mut buffer = [0; 4096];
-    for _ in 0..u32::MAX {
-        let count = input.read(&mut buffer)?;
-        if count == 0 {
-            break;
-        }
-        if file.feed(&buffer[..count]).is_err() || !work.packets(&mut file) {
-            return Err(io::Error::from(io::ErrorKind::Other));
-        }
-    }
+    decode(input, &mut file, &mut work)?;
     Ok(work.digest.finalize())
 }
 
