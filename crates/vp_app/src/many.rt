@@ -1,8 +1,10 @@
 //! The command `vp8 serve --max-connections`: feeds files into a hub, and then serves many connections at once.
 
-ghost use Rattle.std.specs.Prelude.{◌≡◌, ℕ, IfOk, List, None, false, true};
+ghost use Rattle.std.specs.Prelude.{◌≡◌, ◌≢◌, ℕ, IfOk, List, None, false, true};
 ghost use Rattle.vp_base.specs.Counted.{counted_remaining};
 ghost use Rattle.vp_serve.specs.ServerLoop.{initial};
+ghost use Rattle.vp_app.specs.declared.many.ManyFault.{ManyFault};
+ghost use Rattle.vp_app.specs.declared.service.ServiceFault.{ServiceFault};
 ghost use Rattle.vp_app.specs.Many.{IsFedBefore, ServesMany, WorksLoop, followed_names, options_of};
 ghost use Rattle.vp_app.specs.Serving.{AreFilesFed, IsFileFed};
 
@@ -42,6 +44,9 @@ pub enum ManyFault {
 }
 
 impl From<ServiceFault> for ManyFault {
+    ghost from_gives = { λ fault many. (fault ≡ ServiceFault.Names → many ≡ ManyFault.Names)
+        × (fault ≢ ServiceFault.Names → many ≡ ManyFault.Memory) };
+
     fn from(fault: ServiceFault) -> ManyFault {
         match fault {
             ServiceFault::Names => ManyFault::Names,
@@ -51,6 +56,8 @@ impl From<ServiceFault> for ManyFault {
 }
 
 impl From<AllocError> for ManyFault {
+    ghost from_gives = { λ _ fault. fault ≡ ManyFault.Memory };
+
     fn from(_: AllocError) -> ManyFault {
         ManyFault::Memory
     }

@@ -147,6 +147,7 @@ pub(crate) fn print_address<W: Write>(
 pub fn new_hub(alloc: Global, service: &ServeArgs<'_>) -> Result<Hub, ServiceFault>
     ensures hub { IfOk result (λ hub. IsNewHub service.now.streams.items service.now.cache 0 hub) }
     ensures names { result ≡ Err ServiceFault.Names → are_names (names_of service.now.streams.items) ≡ false }
+    ensures faults { (result ≢ Err ServiceFault.Device) × (result ≢ Err ServiceFault.ReadTurns) }
 {
     hub_with_cursors(alloc, service, 0)
 }
@@ -159,6 +160,7 @@ pub(crate) fn hub_with_cursors(
 ) -> Result<Hub, ServiceFault>
     ensures hub { IfOk result (λ hub. IsNewHub service.now.streams.items service.now.cache cursors hub) }
     ensures names { result ≡ Err ServiceFault.Names → are_names (names_of service.now.streams.items) ≡ false }
+    ensures faults { (result ≢ Err ServiceFault.Device) × (result ≢ Err ServiceFault.ReadTurns) }
 {
     let usual = Limits::usual();
     let Some(limits) = Limits::new(
