@@ -1,5 +1,7 @@
 //! Tests of vp_cache with a handwritten stream: a key packet, and an inter packet that changes nothing.
 
+ghost use Rattle.vp_cache.specs.Cache.{AreAnswersOf};
+
 use crate::check::equal;
 use std::alloc::Global;
 use std::process::Abort;
@@ -32,7 +34,9 @@ fn stream_of(alloc: Global) -> Stream {
 }
 
 /// Asks for the second packet, which is not kept before.
-fn fills(rt: &impl Abort, cache: &mut Cache, stream: &Stream) -> Result<(), Fail> {
+fn fills(rt: &impl Abort, cache: &mut Cache, stream: &Stream) -> Result<(), Fail>
+    requires { AreAnswersOf 0 stream.now cache.old.entries }
+{
     let mut work = 0;
     assert!(rt; cache.cached(0, 1).is_none());
     assert!(rt; is_grey(&cache.picture(0, stream, 1, &mut work)?));

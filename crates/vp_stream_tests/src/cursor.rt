@@ -98,7 +98,8 @@ fn ten_cost(
 
 #[test]
 fn frames_through_a_cursor(rt: HostRuntime) -> Result<(), Fail> {
-    let mut stream = Stream::new(rt.alloc(), Limits::usual());
-    let mut cursor = Cursor::new(rt.alloc(), Limits::usual());
+    let limits = Limits::usual();
+    let mut stream = Stream::new(rt.alloc(), limits);
+    let mut cursor = Cursor::new(rt.alloc(), limits);
     ten_cost(&rt, rt.alloc(), &mut stream, &mut cursor)
 }
