@@ -36,14 +36,26 @@ fn rest_of(alloc: Global, client: &mut TcpStream) -> io::Result<Vec<u8>> {
     Ok(got)
 }
 
+/// Returns whether a connection gets the picture and nothing else.
+fn gets_key(alloc: Global, client: &mut TcpStream) -> io::Result<bool> {
+    let got = rest_of(alloc, client)?;
+    Ok(is_key_after(LAST_LINES, &got))
+}
+
+/// Serves the next connections. Returns whether each is served to its end, and what is printed.
+fn serve_next(alloc: Global, hub: &mut Hub, listener: &TcpListener, count: u32) -> (bool, Vec<u8>) {
+    let mut errors = Counted::new(Vec::new(alloc));
+    let well = serve_each(hub, listener, count, &mut errors);
+    (well, errors.into_inner())
+}
+
 /// Returns whether a request that closes the connection is answered with its picture and nothing else.
 fn is_served(rt: &HostRuntime, hub: &mut Hub) -> io::Result<bool> {
     let listener = TcpListener::bind(rt, "127.0.0.1:0")?;
     let more = b"GET /s/a/frame/0 HTTP/1.1\r\nHost: x\r\nConnection: close\r\n\r\nGET /streams";
     let mut client = sending(rt, &listener, more)?;
-    let mut errors = Counted::new(Vec::new(rt.alloc()));
-    let well = serve_each(hub, &listener, 1, &mut errors);
-    Ok(well && is_key_after(LAST_LINES, &rest_of(rt.alloc(), &mut client)?))
+    let (well, _) = serve_next(rt.alloc(), hub, &listener, 1);
+    Ok(gets_key(rt.alloc(), &mut client)? && well)
 }
 
 #[test]
@@ -61,16 +73,21 @@ fn is_second_served(rt: &HostRuntime, hub: &mut Hub) -> io::Result<bool> {
     let listener = TcpListener::bind(rt, "127.0.0.1:0")?;
     let mut first = sending(rt, &listener, ASKS)?;
     let mut second = sending(rt, &listener, ASKS)?;
+    let refuses = refuses_the_first(rt.alloc(), hub, &listener);
+    Ok(gets_nothing(rt.alloc(), &mut first)? && gets_key(rt.alloc(), &mut second)? && refuses)
+}
+
+/// Returns whether a connection gets nothing.
+fn gets_nothing(alloc: Global, client: &mut TcpStream) -> io::Result<bool> {
+    let got = rest_of(alloc, client)?;
+    Ok(got.is_empty())
+}
+
+/// Serves two connections; the number of the first one is in use. Returns whether just that is printed.
+fn refuses_the_first(alloc: Global, hub: &mut Hub, listener: &TcpListener) -> bool {
     let _ = hub.step(&Event::Open(0));
-    let mut errors = Counted::new(Vec::new(rt.alloc()));
-    let well = serve_each(hub, &listener, 2, &mut errors);
-    let told = errors.into_inner();
-    Ok(
-        !well
-            && told.as_slice() == b"vp8: AlreadyOpen\n".as_slice()
-            && rest_of(rt.alloc(), &mut first)?.is_empty()
-            && is_key_after(LAST_LINES, &rest_of(rt.alloc(), &mut second)?),
-    )
+    let (well, told) = serve_next(alloc, hub, listener, 2);
+    !well && told.as_slice() == b"vp8: AlreadyOpen\n".as_slice()
 }
 
 #[test]
@@ -93,18 +110,29 @@ fn asked<'a>(alloc: Global, words: &'a [&'a str]) -> Option<ServeArgs<'a>> {
 /// Listens on a free port of the loopback address with these arguments. Returns whether exactly the address is printed,
 /// or nothing.
 fn prints_address(rt: &HostRuntime, words: &[&str], prints: bool) -> io::Result<bool> {
-    let Some(service) = asked(rt.alloc(), words) else {
-        return Ok(false);
-    };
-    let mut output = Counted::new(Vec::new(rt.alloc()));
-    let Ok(listener) = listen(rt, &service, &mut output) else {
-        return Ok(false);
-    };
-    let mut wanted = Counted::new(Vec::new(rt.alloc()));
-    if prints {
-        writeln!(wanted, "{}", listener.local_addr()?)?;
+    match asked(rt.alloc(), words) {
+        Some(service) => listens(rt, &service, prints),
+        None => Ok(false),
     }
-    Ok(output.into_inner().as_slice() == wanted.into_inner().as_slice())
+}
+
+/// Listens with these arguments. Returns whether exactly the address is printed, or nothing.
+fn listens(rt: &HostRuntime, service: &ServeArgs<'_>, prints: bool) -> io::Result<bool> {
+    let mut output = Counted::new(Vec::new(rt.alloc()));
+    let Ok(listener) = listen(rt, service, &mut output) else {
+        return Ok(false);
+    };
+    if !prints {
+        return Ok(output.into_inner().is_empty());
+    }
+    is_address(rt.alloc(), &listener, output.into_inner().as_slice())
+}
+
+/// Returns whether a line is the listener's address.
+fn is_address(alloc: Global, listener: &TcpListener, printed: &[u8]) -> io::Result<bool> {
+    let mut wanted = Counted::new(Vec::new(alloc));
+    writeln!(wanted, "{}", listener.local_addr()?)?;
+    Ok(wanted.into_inner().as_slice() == printed)
 }
 
 #[test]
