@@ -9,3 +9,4 @@ pub mod WritingLemmas
 pub mod ReaderLemmas
 mod TopLemmas
 mod PartLemmas
+mod PassLemmas

@@ -1,7 +1,8 @@
 //! The boolean entropy decoder (RFC 6386, chapter 7.3).
 
-ghost use Rattle.std.specs.Prelude.{◌≡◌, ℕ, ◌+◌, ◌-◌, ◌*◌, ◌/◌, ◌^◌, ◌<◌, ◌≤◌, length, List, [], ◌∷◌};
-ghost use Rattle.vp_bool.specs.Bools.{read, literal, initial_state, renormalised, number};
+ghost use Rattle.std.specs.Prelude.{◌≡◌, ℕ, ◌+◌, ◌-◌, ◌*◌, ◌/◌, ◌^◌, ◌<◌, ◌≤◌, length, List, [], ◌∷◌, replicate};
+ghost use Rattle.std.specs.Prelude.{true, false};
+ghost use Rattle.vp_bool.specs.Bools.{read, literal, initial_state, renormalised, number, bools, after_bools};
 ghost use Rattle.vp_bool.specs.Laws.{HasReadBools, ReadsNextBool, ReadsNumberOn};
 ghost use Rattle.vp_bool.specs.Window.{state, high_bits, window_state, AreBytes, IsLeftAligned, IsUnnormalised};
 ghost use Rattle.vp_bool.specs.Window.{IsWindow};
@@ -109,6 +110,23 @@ impl<'a> BoolDecoder<'a> {
         }
         self.window.range = split;
         false
+    }
+
+    /// Reads `count` bools of probability 255 at once, if all are false and the range need not be doubled between them.
+    /// Each takes one from the range. Returns whether it did; else nothing was read.
+    #[inline(always)]
+    pub fn pass_rare(&mut self, count: u32) -> bool
+        requires { count ≤ 127 }
+        ensures bools { result ≡ true → bools (replicate count 255) self.old ≡ replicate count false }
+        ensures after { result ≡ true → self.new ≡ after_bools (replicate count 255) self.old }
+        ensures kept { result ≡ false → self.new ≡ self.old }
+    {
+        let range = self.window.range - count;
+        if range < 128 || self.window.value >= u64::from(range) << 56 {
+            return false;
+        }
+        self.window.range = range;
+        true
     }
 
     /// Reads the next bool with probability 128: both values are equally likely.

@@ -5,4 +5,5 @@ pub mod HeaderLemmas
 pub mod Signs
 pub mod Mixed
 pub mod Halves
+pub mod TailLemmas
 pub mod SpelledLemmas

@@ -1,8 +1,9 @@
 //! Reading updates of the saved probabilities.
 
-ghost use Rattle.std.specs.Prelude.{◌≡◌};
-ghost use Rattle.vp_bool.specs.Reader.{when};
-ghost use Rattle.vp_head.specs.Probabilities.{context_rows, band_rows, type_rows, token_probability_updates};
+ghost use Rattle.std.specs.Prelude.{◌≡◌, ◌≤◌, ◌<◌, ℕ, List, true, false, slice_index};
+ghost use Rattle.vp_bool.specs.Bools.{State};
+ghost use Rattle.vp_bool.specs.Reader.{each, when};
+ghost use Rattle.vp_head.specs.Probabilities.{entry_at, context_rows, band_rows, type_rows, token_probability_updates};
 ghost use Rattle.vp_head.specs.Probabilities.{luma_mode_probabilities, chroma, seven_bits, vector_renewed};
 ghost use Rattle.vp_head.specs.Probabilities.{component_rows, vectors};
 
@@ -10,14 +11,47 @@ use crate::rows::{number, read_renewed};
 use vp_bool::BoolDecoder;
 use vp_tables::{VECTOR_UPDATES, coefficient_updates};
 
+/// Reads the updates of the entries from `from` on, below `to`, of a context: each has its own flag.
+#[inline(always)]
+fn read_entries(table: &[u8; 11], from: usize, to: usize, old: &mut [u8; 11], d: &mut BoolDecoder)
+    requires within { (from ≤ to) × (to ≤ 11) }
+    ensures { (xs : List ℕ) (s : State) → each 0 from (entry_at table.now) xs s ≡ (old.old, d.old)
+        → each 0 to (entry_at table.now) xs s ≡ (old.new, d.new) }
+{
+    for i in from..to {
+        old[i] = read_renewed(table[i], old[i], d);
+    }
+}
+
+/// Whether the flags of a context's last eight entries have probability 255, as those of most contexts.
+#[inline(always)]
+fn has_rare_tail(table: &[u8; 11]) -> bool
+    ensures { result ≡ true → (i : ℕ) → 3 ≤ i → i < 11 → slice_index table.now i ≡ 255 }
+{
+    table[3..] == [255; 8]
+}
+
+/// Passes over the updates of a context's last eight entries at once, if all their flags have probability 255 and are
+/// false. Returns whether it did; else nothing was read.
+#[inline(always)]
+fn pass_tail(table: &[u8; 11], d: &mut BoolDecoder) -> bool
+    ensures passed { result ≡ true → (xs ys : List ℕ) (s : State) → each 0 3 (entry_at table.now) xs s ≡ (ys, d.old)
+        → each 0 11 (entry_at table.now) xs s ≡ (ys, d.new) }
+    ensures kept { result ≡ false → d.new ≡ d.old }
+{
+    has_rare_tail(table) && d.pass_rare(8)
+}
+
+/// Most flags are false, so that eight of a context are one comparison.
 fn read_context(table: &[u8; 11], old: &mut [u8; 11], d: &mut BoolDecoder)
     ensures value { old.new ≡ (context_rows table.now old.old d.old).0 }
     ensures rest { d.new ≡ (context_rows table.now old.old d.old).1 }
 {
     // The compiler keeps a local decoder in registers.
     let mut own = d.copy();
-    for i in 0..11 {
-        old[i] = read_renewed(table[i], old[i], &mut own);
+    read_entries(table, 0, 3, old, &mut own);
+    if !pass_tail(table, &mut own) {
+        read_entries(table, 3, 11, old, &mut own);
     }
     *d = own;
 }

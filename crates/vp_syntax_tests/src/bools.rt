@@ -1,5 +1,7 @@
 //! Tests of vp_bool: worked examples, read and written.
 
+ghost use Rattle.std.specs.Prelude.{◌≤◌};
+
 use crate::check::{equal, equal_bytes};
 use std::alloc::{AllocError, Global};
 use std::test::Fail;
@@ -66,4 +68,57 @@ fn rare_bools_are_the_same(rt: HostRuntime) {
     }
     equal(&rt, &first_other(&[255], [255, 252]), &None);
     equal(&rt, &first_other(&[], [1, 128]), &None);
+}
+
+#[test]
+fn passing_over_rare_bools(rt: HostRuntime) {
+    // The range is 255 at first, and each bool takes one from it.
+    let mut zeros = BoolDecoder::new(&[]);
+    assert!(rt; zeros.pass_rare(127));
+    assert!(rt; !zeros.pass_rare(1));
+    // The value is 128.
+    let mut half = BoolDecoder::new(&[0x80, 0]);
+    assert!(rt; !half.pass_rare(127));
+    assert!(rt; half.pass_rare(126));
+    assert!(rt; half.read(255));
+}
+
+/// The number of rounds after which a decoder that passes over `count` bools wherever it can, and one that reads each,
+/// differ, of 1,000 that end in one bool of this probability.
+fn first_passed_wrongly(bytes: &[u8], count: u32, probability: u8) -> Option<usize>
+    requires { count ≤ 127 }
+{
+    let mut passing = BoolDecoder::new(bytes);
+    let mut plain = BoolDecoder::new(bytes);
+    for i in 0..1000 {
+        if passing.pass_rare(count) && reads_true(&mut plain, count) {
+            return Some(i);
+        }
+        if passing.read(probability) != plain.read(probability) {
+            return Some(i);
+        }
+    }
+    None
+}
+
+/// Whether one of the next `count` bools of probability 255 is true.
+fn reads_true(d: &mut BoolDecoder, count: u32) -> bool {
+    let mut found = false;
+    for _bool in 0..count {
+        found |= d.read(255);
+    }
+    found
+}
+
+#[test]
+fn passed_bools_are_the_same(rt: HostRuntime) {
+    let mut bytes = [0; 251];
+    for i in 0..251 {
+        bytes[i] = (i * i * 7 % 251) as u8;
+    }
+    for count in [0, 1, 3, 8, 60, 127] {
+        equal(&rt, &first_passed_wrongly(&bytes, count, 128), &None);
+        equal(&rt, &first_passed_wrongly(&bytes, count, 254), &None);
+        equal(&rt, &first_passed_wrongly(&bytes, count, 3), &None);
+    }
 }
