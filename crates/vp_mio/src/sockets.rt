@@ -1,6 +1,6 @@
 //! The sockets of the open connections, and those that linger: never more than 64 of each.
 
-ghost use Rattle.std.specs.Prelude.{◌≡◌, ◌==◌, ◌≤◌, ◌<◌, IfSome, None, true, false, length, position};
+ghost use Rattle.std.specs.Prelude.{◌≡◌, ◌==◌, ◌≤◌, ◌<◌, IfSome, None, true, false, length, nat_lt, not, position};
 ghost use Rattle.vp_serve.specs.declared.transport.ReadOutcome.{ReadOutcome};
 ghost use Rattle.vp_serve.specs.declared.transport.WriteOutcome.{WriteOutcome};
 ghost use Rattle.vp_serve.specs.Readiness.{AreNoReadier};
@@ -49,8 +49,11 @@ impl Sockets {
         })
     }
 
-    /// Whether no socket can be added.
-    pub(crate) fn is_full(&self) -> bool {
+    /// Whether no socket can be added: there are 64.
+    pub(crate) fn is_full(&self) -> bool
+        ensures full { result ≡ not (nat_lt (length self.now) 64) }
+        ensures most { length self.now ≤ 64 }
+    {
         self.connected.len() >= MAX_OPEN
     }
 

@@ -2,8 +2,7 @@
 
 ghost use Rattle.std.specs.Prelude.{◌≡◌, ◌≢◌, ◌≤◌, ◌||◌, ◌∷◌, [], ℕ, true, false, length, None, if◌then◌else◌};
 ghost use Rattle.vp_serve.specs.Readiness.{AreNoReadier};
-ghost use Rattle.vp_serve.specs.Transfer.{Accepts, Closes, Logs};
-ghost use Rattle.vp_serve.specs.Transport.{wait_transfers};
+ghost use Rattle.vp_serve.specs.Transfer.{Accepts, Closes, Logs, Waits};
 ghost use Rattle.vp_mio.specs.Sockets.{AreAsOpen, readiness_of};
 
 use crate::access_log::{Access, access_line};
@@ -193,7 +192,7 @@ impl<'a, C: Clock, F: Read + Drop, E: Write> Transport for MioTransport<'a, C, F
     ghost readiness = { λ t. readiness_of t.sockets };
 
     fn wait(&mut self, is_busy: bool) -> u64
-        ensures logs { Logs None None (wait_transfers is_busy) }
+        ensures logs { Logs None None (Waits is_busy result ∷ []) }
         ensures as_open { AreAsOpen self.old.sockets self.new.sockets }
     {
         self.poll_sockets(timeout_of(is_busy, self.drains, self.tick));

@@ -9,13 +9,14 @@ use Rattle.vp_hub.specs.declared.event.HubFault.TheVariants as fault
 use Rattle.vp_hub.specs.Hub.{Outcome, IsStep}
 use Rattle.vp_serve.specs.declared.reason.CloseReason.{CloseReason}
 use Rattle.vp_serve.specs.declared.reason.CloseReason.TheVariants.{Finished, PeerEnded, IdleTimeout, OutOfMemory, TransferFailed, HubRefused}
-use Rattle.vp_serve.specs.Connections.{is_nil}
+use Rattle.vp_serve.specs.declared.connection.NextAction.TheVariants.{Close}
+use Rattle.vp_serve.specs.Connections.{is_nil, next_action}
 use Rattle.vp_serve.specs.Reasons.{is_abort}
 use Rattle.vp_serve.specs.Laws.{replied_in, replied_to, written_to, submitted_replies, has_ended, ends_in}
 use Rattle.vp_serve.specs.ServerLoop.{LoopState, Action, Accepted, Rejected, Received, Submitted, Sent, Closed, Grown, Fed, Ended, Waited, events_of}
 use Rattle.vp_serve.specs.Transport.{transfers_of, ended_names}
 use Rattle.vp_serve.specs.Turns.{reply_count, replies_in, replies_made}
-use Rattle.vp_serve.specs.ActionLaws.{ActionsAreOfConnections, RepliesAreCounted, NothingIsLost, NoEndIsReported, RejectedAreRefused, ClosingsAreReported}
+use Rattle.vp_serve.specs.ActionLaws.{ActionsAreOfConnections, RepliesAreCounted, NothingIsLost, NoEndIsReported, RejectedAreRefused, ClosingsAreReported, PeersFail, FinishedAreClosed}
 use Rattle.vp_serve.proofs.OneConnection.{true_false}
 use Rattle.vp_serve.proofs.Performing.{zero_or_one}
 use Rattle.vp_serve.proofs.Served.{served}
@@ -52,7 +53,7 @@ of_connections c (Closed d now HubRefused o) = one_of (d == c)
 of_connections c (Grown piece) = (refl, none_of false)
 of_connections c (Fed piece o) = (refl, none_of true)
 of_connections c (Ended name o) = (refl, none_of true)
-of_connections c Waited = (refl, none_of false)
+of_connections c (Waited busy clock) = (refl, none_of false)
 
 -- ---- replies
 
@@ -82,7 +83,7 @@ none_in c (Closed d now reason o) h = refl
 none_in c (Grown piece) h = refl
 none_in c (Fed piece o) h = refl
 none_in c (Ended name o) h = refl
-none_in c Waited h = refl
+none_in c (Waited busy clock) h = refl
 
 none_to : (c : ℕ) (xs : List Action) → replies_made c xs ≡ 0 → replied_to c xs ≡ []
 none_to c [] h = refl
@@ -152,7 +153,7 @@ one_ends (Closed c now reason o) = refl
 one_ends (Grown piece) = refl
 one_ends (Fed piece o) = refl
 one_ends (Ended name o) = refl
-one_ends Waited = refl
+one_ends (Waited busy clock) = refl
 
 all_end : (xs : List Action) → flat_map ends_of (flat_map events_of xs) ≡ flat_map ended_names xs
 all_end [] = refl
@@ -172,7 +173,7 @@ no_end old new before after does earlier later name h =
 -- ---- one that is rejected, and what is reported of one that is closed
 
 pub refused : RejectedAreRefused
-refused old new c f h = (ap (λ (x : LoopState). x.hub) h.3, ap (λ (x : LoopState). x.connections) h.3, at f h.2)
+refused old new c f h = (ap (λ (x : LoopState). x.hub) h.3, ap (λ (x : LoopState). x.connections) h.3, at f h.2, h.1)
   where
     at : (g : HubFault) → (g ≢ fault.Memory → IsStep old.hub (Open c) (Err g) old.hub) → (g ≡ fault.Memory) ⊎ IsStep old.hub (Open c) (Err g) old.hub
     at fault.Memory k = inl refl
@@ -188,3 +189,16 @@ reported c now o earlier later = (
   (flat_map transfers_of earlier, flat_map transfers_of later, flat_map-append transfers_of earlier (Closed c now TransferFailed o ∷ later)),
   (flat_map transfers_of earlier, flat_map transfers_of later, flat_map-append transfers_of earlier (Closed c now PeerEnded o ∷ later)),
 )
+
+pub peers_failed : PeersFail
+peers_failed old new c now o h = (h.0, h.1, h.2)
+
+pub finished : FinishedAreClosed
+finished c xs h t there written = by t.closing refl
+  where
+    closes : t.closing ≡ true → next_action t ≡ Close
+    closes on = ap (λ (l : List ℕ). next_action (record t { unsent = l })) written ∙ ap (λ (b : Bool). next_action (record t { unsent = []; closing = b })) on
+
+    by : (b : Bool) → t.closing ≡ b → b ≡ false
+    by true on = absurd (h t there (closes on))
+    by false off = refl

@@ -100,7 +100,7 @@ after_number (Ok r) rest now t = refl
 after_number (Err f) rest now t = refl
 
 pub current : RepliesAreCurrent
-current old new c now line r (t, rest, there, next, unsubmitted, is_line, step, is) = replies_once old.hub new.hub c line r is_line step
+current old new c now line r (t, rest, there, next, unsubmitted, is_line, step, is) = replies_once old.hub new.hub c line r is_line.0 step
 
 one : (d e : LoopState) (x : Action) → IsTransition d x e → AllAreSmall d.connections → AllAreSmall e.connections
 one d e (Accepted c now) h all =
@@ -114,7 +114,7 @@ one d e (Received c bytes) (t, there, next, few, is) all =
 one d e (Submitted c now line o) (t, rest, there, next, unsubmitted, is_line, step, is) all =
     subst AllAreSmall (sym (ap (λ (s : LoopState). s.connections) is))
     (changed c (after_outcome o rest now t) d.connections (ap (λ (m : ℕ). m == c) (after_number o rest now t) ∙ number_of c t d.connections there) all
-    (after_line d e c now line rest o t is_line step (all c t there) unsubmitted))
+    (after_line d e c now line rest o t is_line.0 step (all c t there) unsubmitted))
 one d e (Sent c now bytes) (t, rest, there, next, unsent, is) all =
     let small = all c t there in
     subst AllAreSmall (sym (ap (λ (s : LoopState). s.connections) is)) (changed c (record t { unsent = rest; last_active = now }) d.connections (number_of c t d.connections there) all
@@ -128,7 +128,7 @@ one d e (Closed c now reason o) (t, there, is_reason, step, is) all = subst AllA
 one d e (Grown piece) h all = subst AllAreSmall (sym (ap (λ (s : LoopState). s.connections) h.1)) all
 one d e (Fed piece o) h all = subst AllAreSmall (sym (ap (λ (s : LoopState). s.connections) h.2)) all
 one d e (Ended name o) h all = subst AllAreSmall (sym (ap (λ (s : LoopState). s.connections) h.2)) all
-one d e Waited h all = subst AllAreSmall (sym (ap (λ (s : LoopState). s.connections) h.1)) all
+one d e (Waited busy clock) h all = subst AllAreSmall (sym (ap (λ (s : LoopState). s.connections) h.1)) all
 
 -- ---- how many are open
 
@@ -169,7 +169,7 @@ same_options d e (Closed c now reason o) h = ap (λ (s : LoopState). s.options) 
 same_options d e (Grown piece) h = ap (λ (s : LoopState). s.options) h.1
 same_options d e (Fed piece o) h = ap (λ (s : LoopState). s.options) h.2
 same_options d e (Ended name o) h = ap (λ (s : LoopState). s.options) h.2
-same_options d e Waited h = ap (λ (s : LoopState). s.options) h.1
+same_options d e (Waited busy clock) h = ap (λ (s : LoopState). s.options) h.1
 
 still_few : (d e : LoopState) → e.options ≡ d.options → length e.connections ≤ length d.connections → OuterWeightsAreZero d → OuterWeightsAreZero e
 still_few d e o l few = omega (arith, ap (λ (x : ServeOptions). x.max_connections) o, l, few)
@@ -189,7 +189,7 @@ few d e (Closed c now reason o) h k =
 few d e (Grown piece) h k = still_few d e (same_options d e (Grown piece) h) (omega (arith, ap (λ (s : LoopState). length s.connections) h.1)) k
 few d e (Fed piece o) h k = still_few d e (same_options d e (Fed piece o) h) (omega (arith, ap (λ (s : LoopState). length s.connections) h.2)) k
 few d e (Ended name o) h k = still_few d e (same_options d e (Ended name o) h) (omega (arith, ap (λ (s : LoopState). length s.connections) h.2)) k
-few d e Waited h k = still_few d e (same_options d e Waited h) (omega (arith, ap (λ (s : LoopState). length s.connections) h.1)) k
+few d e (Waited busy clock) h k = still_few d e (same_options d e (Waited busy clock) h) (omega (arith, ap (λ (s : LoopState). length s.connections) h.1)) k
 
 -- ---- along a trace
 

@@ -32,7 +32,7 @@ one d e (Grown piece) h = ap (λ (w : Option FilePiece). fed_pieces w ++ piece �
 one d e (Fed piece o) h =
     append-nil (fed_pieces d.waiting) ∙ ap fed_pieces h.0 ∙ after_fed piece o ∙ sym (ap (λ (t : LoopState). fed_in (Fed piece o) ++ fed_pieces t.waiting) h.2)
 one d e (Ended name o) h = same d e (Ended name o) refl refl (ap (λ (t : LoopState). t.waiting) h.2)
-one d e Waited h = same d e Waited refl refl (ap (λ (t : LoopState). t.waiting) h.1)
+one d e (Waited busy clock) h = same d e (Waited busy clock) refl refl (ap (λ (t : LoopState). t.waiting) h.1)
 
 along : (d e : LoopState) (xs : List Action) → IsTrace d xs e → fed_pieces d.waiting ++ flat_map grown_in xs ≡ flat_map fed_in xs ++ fed_pieces e.waiting
 along d e [] h = append-nil (fed_pieces d.waiting) ∙ ap (λ (t : LoopState). fed_pieces t.waiting) (sym h)

@@ -117,7 +117,7 @@ transfer_is_own c now (Submitted d time line o) h = elim h [ ]
 transfer_is_own c now (Grown piece) h = elim h [ ]
 transfer_is_own c now (Fed piece o) h = elim h [ ]
 transfer_is_own c now (Ended name o) h = elim h [ ]
-transfer_is_own c now Waited h = elim h [ ]
+transfer_is_own c now (Waited busy clock) h = elim h [ ]
 
 pub submission_is_own : (c now : ℕ) (x : Action) → IsSubmissionOf c now x → IsOwn c now x
 submission_is_own c now (Submitted d time line o) h = h
@@ -129,7 +129,7 @@ submission_is_own c now (Sent d time bytes) h = elim h [ ]
 submission_is_own c now (Grown piece) h = elim h [ ]
 submission_is_own c now (Fed piece o) h = elim h [ ]
 submission_is_own c now (Ended name o) h = elim h [ ]
-submission_is_own c now Waited h = elim h [ ]
+submission_is_own c now (Waited busy clock) h = elim h [ ]
 
 pub transfer_is_silent : (k c now : ℕ) (x : Action) → IsTransferOf c now x → replies_in k x ≡ 0
 transfer_is_silent k c now (Received d bytes) h = refl
@@ -141,7 +141,7 @@ transfer_is_silent k c now (Submitted d time line o) h = elim h [ ]
 transfer_is_silent k c now (Grown piece) h = elim h [ ]
 transfer_is_silent k c now (Fed piece o) h = elim h [ ]
 transfer_is_silent k c now (Ended name o) h = elim h [ ]
-transfer_is_silent k c now Waited h = elim h [ ]
+transfer_is_silent k c now (Waited busy clock) h = elim h [ ]
 
 pub arrival_is_silent : (k now : ℕ) (x : Action) → IsArrival now x → replies_in k x ≡ 0
 arrival_is_silent k now (Accepted d time) h = refl
@@ -153,7 +153,7 @@ arrival_is_silent k now (Closed d time reason o) h = elim h [ ]
 arrival_is_silent k now (Grown piece) h = elim h [ ]
 arrival_is_silent k now (Fed piece o) h = elim h [ ]
 arrival_is_silent k now (Ended name o) h = elim h [ ]
-arrival_is_silent k now Waited h = elim h [ ]
+arrival_is_silent k now (Waited busy clock) h = elim h [ ]
 
 pub own_is_at : (c now : ℕ) (x : Action) → IsOwn c now x → IsAt now x
 own_is_at c now (Received d bytes) h = tt
@@ -165,7 +165,7 @@ own_is_at c now (Rejected d fault) h = elim h [ ]
 own_is_at c now (Grown piece) h = elim h [ ]
 own_is_at c now (Fed piece o) h = elim h [ ]
 own_is_at c now (Ended name o) h = elim h [ ]
-own_is_at c now Waited h = elim h [ ]
+own_is_at c now (Waited busy clock) h = elim h [ ]
 
 pub arrival_is_at : (now : ℕ) (x : Action) → IsArrival now x → IsAt now x
 arrival_is_at now (Accepted d time) h = h
@@ -177,7 +177,7 @@ arrival_is_at now (Closed d time reason o) h = elim h [ ]
 arrival_is_at now (Grown piece) h = elim h [ ]
 arrival_is_at now (Fed piece o) h = elim h [ ]
 arrival_is_at now (Ended name o) h = elim h [ ]
-arrival_is_at now Waited h = elim h [ ]
+arrival_is_at now (Waited busy clock) h = elim h [ ]
 
 differ : (k c d : ℕ) → (c == k) ≡ false → d ≡ c → (d == k) ≡ false
 differ k c d h e = ap (λ n. n == k) e ∙ h
@@ -192,7 +192,7 @@ own_is_silent k c now n (Rejected d fault) h = elim h [ ]
 own_is_silent k c now n (Grown piece) h = elim h [ ]
 own_is_silent k c now n (Fed piece o) h = elim h [ ]
 own_is_silent k c now n (Ended name o) h = elim h [ ]
-own_is_silent k c now n Waited h = elim h [ ]
+own_is_silent k c now n (Waited busy clock) h = elim h [ ]
 
 same : (c d : ℕ) → d ≡ c → (d == c) ≡ true
 same c d e = grind (arith, nat_tests, e)
@@ -207,7 +207,7 @@ own_is_of c now (Rejected d fault) h = elim h [ ]
 own_is_of c now (Grown piece) h = elim h [ ]
 own_is_of c now (Fed piece o) h = elim h [ ]
 own_is_of c now (Ended name o) h = elim h [ ]
-own_is_of c now Waited h = elim h [ ]
+own_is_of c now (Waited busy clock) h = elim h [ ]
 
 -- ---- at most one reply is made until it is written
 
@@ -252,7 +252,7 @@ closed c now d e (Sent j time bytes) h own none never = elim own [ ]
 closed c now d e (Grown piece) h own none never = elim own [ ]
 closed c now d e (Fed piece o) h own none never = elim own [ ]
 closed c now d e (Ended name o) h own none never = elim own [ ]
-closed c now d e Waited h own none never = elim own [ ]
+closed c now d e (Waited busy clock) h own none never = elim own [ ]
 
 none_in : (c now : ℕ) (d e : LoopState) (x : Action) → IsTransition d x e → IsSubmissionOf c now x → (Submits c d → ⊥) → replies_in c x ≡ 0
 none_in c now d e (Submitted k time line o) h own never = absurd (never (subst (λ n. Submits n d) own.0 (of_some (connection_of k d.connections) h.0 h.2 ∙ ap (λ (a : NextAction). Some a) h.3)))
@@ -264,7 +264,7 @@ none_in c now d e (Sent j time bytes) h own never = elim own [ ]
 none_in c now d e (Grown piece) h own never = elim own [ ]
 none_in c now d e (Fed piece o) h own never = elim own [ ]
 none_in c now d e (Ended name o) h own never = elim own [ ]
-none_in c now d e Waited h own never = elim own [ ]
+none_in c now d e (Waited busy clock) h own never = elim own [ ]
 
 none_more : (c now : ℕ) (d e : LoopState) (xs : List Action) → IsTrace d xs e → AreAll (IsSubmissionOf c now) xs → (Submits c d → ⊥) → replies_made c xs ≡ 0
 none_more c now d e [] h own never = refl
@@ -308,7 +308,7 @@ zero_or_one c (Closed d time reason o) = inl refl
 zero_or_one c (Grown piece) = inl refl
 zero_or_one c (Fed piece o) = inl refl
 zero_or_one c (Ended name o) = inl refl
-zero_or_one c Waited = inl refl
+zero_or_one c (Waited busy clock) = inl refl
 
 count_of : (c k : ℕ) (o : Outcome) → k ≡ c → cond (k == c) (reply_count o) 0 ≡ 1 → reply_count o ≡ 1
 count_of c k o h e = ap (λ t. cond t (reply_count o) 0) (sym (same c k h)) ∙ e
@@ -324,7 +324,7 @@ no_more c now d e (Sent j time bytes) h own one = elim own [ ]
 no_more c now d e (Grown piece) h own one = elim own [ ]
 no_more c now d e (Fed piece o) h own one = elim own [ ]
 no_more c now d e (Ended name o) h own one = elim own [ ]
-no_more c now d e Waited h own one = elim own [ ]
+no_more c now d e (Waited busy clock) h own one = elim own [ ]
 
 pub made_once : (c now : ℕ) (d e : LoopState) (xs : List Action) → IsTrace d xs e → AreAll (IsSubmissionOf c now) xs → replies_made c xs ≤ 1
 made_once c now d e [] h own = omega arith
@@ -351,7 +351,7 @@ other_step k c now d e (Rejected j fault) n h own = elim own [ ]
 other_step k c now d e (Grown piece) n h own = elim own [ ]
 other_step k c now d e (Fed piece o) n h own = elim own [ ]
 other_step k c now d e (Ended name o) n h own = elim own [ ]
-other_step k c now d e Waited n h own = elim own [ ]
+other_step k c now d e (Waited busy clock) n h own = elim own [ ]
 
 pub others : (k c now : ℕ) (d e : LoopState) (xs : List Action) → (c == k) ≡ false → IsTrace d xs e → AreAll (IsOwn c now) xs → connection_of k e.connections ≡ connection_of k d.connections
 others k c now d e [] n h own = ap (λ (x : LoopState). connection_of k x.connections) h
@@ -377,7 +377,7 @@ own_is_alone k c now (Rejected d fault) h e = elim h [ ]
 own_is_alone k c now (Grown piece) h e = elim h [ ]
 own_is_alone k c now (Fed piece o) h e = elim h [ ]
 own_is_alone k c now (Ended name o) h e = elim h [ ]
-own_is_alone k c now Waited h e = elim h [ ]
+own_is_alone k c now (Waited busy clock) h e = elim h [ ]
 
 -- only the connection itself has an action
 pub own_alone : (k c now : ℕ) (xs : List Action) → AreAll (IsOwn c now) xs → list_any (is_of k) xs ≡ true → c ≡ k

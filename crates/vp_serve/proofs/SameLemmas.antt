@@ -63,7 +63,7 @@ one d e (Closed c now reason o) (t, there, is_reason, step, is) k =
 one d e (Grown piece) h k = same d e (ap (λ (x : LoopState). x.hub) h.1) (ap (λ (x : LoopState). numbers_of x.connections) h.1) k
 one d e (Fed piece o) h k = after d.hub e.hub (Feed piece.name piece.bytes) o h.1 ∙ k ∙ sym (ap (λ (x : LoopState). numbers_of x.connections) h.2)
 one d e (Ended name o) h k = after d.hub e.hub (End name) o h.1 ∙ k ∙ sym (ap (λ (x : LoopState). numbers_of x.connections) h.2)
-one d e Waited h k = same d e (ap (λ (x : LoopState). x.hub) h.1) (ap (λ (x : LoopState). numbers_of x.connections) h.1) k
+one d e (Waited busy clock) h k = same d e (ap (λ (x : LoopState). x.hub) h.1) (ap (λ (x : LoopState). numbers_of x.connections) h.1) k
 
 along : (d e : LoopState) (xs : List Action) → connection_numbers d.hub.connections ≡ numbers_of d.connections → IsTrace d xs e → connection_numbers e.hub.connections ≡ numbers_of e.connections
 along d e [] k h = same d e (ap (λ (x : LoopState). x.hub) h) (ap (λ (x : LoopState). numbers_of x.connections) h) k

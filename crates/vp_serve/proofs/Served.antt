@@ -295,8 +295,8 @@ one c xs d e (Fed piece o) holds h =
     apart c xs (Fed piece o) d e holds (still c d e (Fed piece o) refl refl refl refl refl (ap (λ (x : LoopState). connection_of c x.connections) h.2) (ap (λ (x : LoopState). x.next) h.2))
 one c xs d e (Ended name o) holds h =
     apart c xs (Ended name o) d e holds (still c d e (Ended name o) refl refl refl refl refl (ap (λ (x : LoopState). connection_of c x.connections) h.2) (ap (λ (x : LoopState). x.next) h.2))
-one c xs d e Waited holds h =
-    apart c xs Waited d e holds (still c d e Waited refl refl refl refl refl (ap (λ (x : LoopState). connection_of c x.connections) h.1) (ap (λ (x : LoopState). x.next) h.1))
+one c xs d e (Waited busy clock) holds h =
+    apart c xs (Waited busy clock) d e holds (still c d e (Waited busy clock) refl refl refl refl refl (ap (λ (x : LoopState). connection_of c x.connections) h.1) (ap (λ (x : LoopState). x.next) h.1))
 
 along : (c : ℕ) (xs ys : List Action) (d e : LoopState) → Holds c xs d → IsTrace d ys e → Holds c (xs ++ ys) e
 along c xs [] d e holds h = subst (λ (x : LoopState). Holds c (xs ++ []) x) (sym h) (subst (λ (l : List Action). Holds c l d) (sym (append-nil xs)) holds)

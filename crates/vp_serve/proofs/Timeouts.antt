@@ -25,7 +25,7 @@ options_step d e (Closed c time reason o) h = ap (λ (x : LoopState). x.options)
 options_step d e (Grown piece) h = ap (λ (x : LoopState). x.options) h.1
 options_step d e (Fed piece o) h = ap (λ (x : LoopState). x.options) h.2
 options_step d e (Ended name o) h = ap (λ (x : LoopState). x.options) h.2
-options_step d e Waited h = ap (λ (x : LoopState). x.options) h.1
+options_step d e (Waited busy clock) h = ap (λ (x : LoopState). x.options) h.1
 
 pub options_stay : (d e : LoopState) (xs : List Action) → IsTrace d xs e → e.options ≡ d.options
 options_stay d e [] h = ap (λ (x : LoopState). x.options) h
@@ -103,7 +103,7 @@ active_step now d e (Closed k time reason o) h at =
 active_step now d e (Grown piece) h at = λ c t is. unchanged now c t d.connections e.connections (ap (λ (x : LoopState). connection_of c x.connections) h.1) is
 active_step now d e (Fed piece o) h at = λ c t is. unchanged now c t d.connections e.connections (ap (λ (x : LoopState). connection_of c x.connections) h.2) is
 active_step now d e (Ended name o) h at = λ c t is. unchanged now c t d.connections e.connections (ap (λ (x : LoopState). connection_of c x.connections) h.2) is
-active_step now d e Waited h at = λ c t is. unchanged now c t d.connections e.connections (ap (λ (x : LoopState). connection_of c x.connections) h.1) is
+active_step now d e (Waited busy clock) h at = λ c t is. unchanged now c t d.connections e.connections (ap (λ (x : LoopState). connection_of c x.connections) h.1) is
 
 active_both : (now : ℕ) (d e f : LoopState) → AreActive now d e → AreActive now e f → AreActive now d f
 active_both now d e f x y c t is = at (y c t is)

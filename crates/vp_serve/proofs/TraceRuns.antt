@@ -20,4 +20,4 @@ runs old new (Closed c now reason o ∷ xs) (mid, h, k) = (mid.hub, h.3, runs mi
 runs old new (Grown piece ∷ xs) (mid, h, k) = same_hub mid.hub old.hub new.hub xs (ap (λ (t : LoopState). t.hub) h.1) (runs mid new xs k)
 runs old new (Fed piece o ∷ xs) (mid, h, k) = (mid.hub, h.1, runs mid new xs k)
 runs old new (Ended name o ∷ xs) (mid, h, k) = (mid.hub, h.1, runs mid new xs k)
-runs old new (Waited ∷ xs) (mid, h, k) = same_hub mid.hub old.hub new.hub xs (ap (λ (t : LoopState). t.hub) h.1) (runs mid new xs k)
+runs old new (Waited busy clock ∷ xs) (mid, h, k) = same_hub mid.hub old.hub new.hub xs (ap (λ (t : LoopState). t.hub) h.1) (runs mid new xs k)

@@ -1,5 +1,5 @@
 -- What a turn promises, in elementary terms.
-use Rattle.std.proofs.Common.{◌≡◌, ◌++◌, ◌∷◌, ◌∙◌, [], ℕ, List, Bool, true, false, inl, inr, ap, sym, subst}
+use Rattle.std.proofs.Common.{◌≡◌, ◌≤◌, ◌++◌, ◌∷◌, ◌∙◌, [], ℕ, List, true, inl, inr, refl, ap, sym, subst, flat_map, arith}
 use Rattle.vp_serve.specs.declared.reason.CloseReason.{CloseReason}
 use Rattle.vp_serve.specs.declared.reason.CloseReason.TheVariants.{Finished, PeerEnded, IdleTimeout, OutOfMemory, TransferFailed, HubRefused}
 use Rattle.vp_hub.specs.Hub.{Outcome}
@@ -9,18 +9,20 @@ use Rattle.vp_serve.specs.Laws.{OnlyIdleTimeOut}
 use Rattle.vp_serve.specs.Connection.{Connection}
 use Rattle.vp_serve.specs.Connections.{next_action}
 use Rattle.vp_serve.specs.ServerLoop.{LoopState, Action, Accepted, Rejected, Received, Submitted, Sent, Closed, Grown, Fed, Ended, Waited}
-use Rattle.vp_serve.specs.Turns.{AreAll, IsAt, OnlyReadyAreAttended, ReadyAreAttended}
-use Rattle.vp_serve.proofs.Performing.{all_as, all_both}
+use Rattle.vp_serve.specs.Transport.{transfers_of}
+use Rattle.vp_serve.specs.Turns.{AreAll, IsAt, OnlyReadyAreAttended, ReadyAreAttended, replies_in, replies_made}
+use Rattle.vp_serve.proofs.ActionLemmas.{counted as replies_counted}
+use Rattle.vp_serve.proofs.Performing.{all_as, all_both, made_both, made_none}
 use Rattle.vp_serve.proofs.OneConnection.{same_some}
-use Rattle.vp_serve.specs.LoopTurns.{ActionsAreOfTheirTurn, IsIdleClosing, IsLoopTurn, IsOfFile, TurnsAreTimely, TimeIsCounted, is_busy, waiting}
+use Rattle.vp_serve.specs.LoopTurns.{ActionsAreOfTheirTurn, IsIdleClosing, IsLoopTurn, IsOfFile, TurnsAreTimely, TimeIsCounted, ReadyAreServed, TurnsAreFair, TurnsBeginByWaiting, WaitsAreForPeers, is_busy}
 
 pub timely : TurnsAreTimely
-timely names s r d e [] later x h c t is = h.2 c t is
-timely names s r d e (y ∷ earlier) later x h c t is = timely names y.schedule r y.server e earlier later x h.3 c t is
+timely names s r d e [] later x h c t is = h.3 c t is
+timely names s r d e (y ∷ earlier) later x h c t is = timely names y.schedule r y.server e earlier later x h.4 c t is
 
 pub counted : TimeIsCounted
-counted names s r d e [] later x y h = (h.3.0.counted.forward, h.3.0.counted.most, h.3.0.counted.counts, h.3.0.counted.long)
-counted names s r d e (z ∷ earlier) later x y h = counted names z.schedule r z.server e earlier later x y h.3
+counted names s r d e [] later x y h = (h.4.0.counted.forward, h.4.0.counted.most, h.4.0.counted.counts, h.4.0.counted.long)
+counted names s r d e (z ∷ earlier) later x y h = counted names z.schedule r z.server e earlier later x y h.4
 
 -- ---- the time of a turn
 
@@ -39,7 +41,7 @@ idle_at now (Closed c time HubRefused o) h = absurd h
 idle_at now (Grown piece) h = absurd h
 idle_at now (Fed piece o) h = absurd h
 idle_at now (Ended name o) h = absurd h
-idle_at now Waited h = absurd h
+idle_at now (Waited busy clock) h = absurd h
 
 file_at : (names : List (List ℕ)) (now : ℕ) (a : Action) → IsOfFile names a → IsAt now a
 file_at names now (Accepted c time) h = absurd h
@@ -51,11 +53,7 @@ file_at names now (Closed c time reason o) h = absurd h
 file_at names now (Grown piece) h = tt
 file_at names now (Fed piece o) h = tt
 file_at names now (Ended name o) h = absurd h
-file_at names now Waited h = absurd h
-
-wait_at : (now : ℕ) (busy : Bool) → AreAll (IsAt now) (waiting busy)
-wait_at now true = tt
-wait_at now false = (tt, tt)
+file_at names now (Waited busy clock) h = absurd h
 
 turn_at : (names : List (List ℕ)) (s r : Schedule) (d : LoopState) (trace : List Action) (e : LoopState) → IsLoopTurn names s r d trace e → AreAll (IsAt r.time) trace
 turn_at names s r d trace e x =
@@ -63,8 +61,7 @@ turn_at names s r d trace e x =
     let closings = all_as (IsIdleClosing r.time) at (idle_at r.time) x.closings x.idle in
     let feeds = all_as (IsOfFile names) at (file_at names r.time) x.feeds x.files in
     subst (λ (l : List Action). AreAll (IsAt r.time) l) (sym x.whole)
-    (all_both at (waiting (is_busy s d)) (x.taken ++ (x.closings ++ x.feeds)) (wait_at r.time (is_busy s d))
-    (all_both at x.taken (x.closings ++ x.feeds) x.turn.at (all_both at x.closings x.feeds closings feeds)))
+    (tt, all_both at x.taken (x.closings ++ x.feeds) x.turn.at (all_both at x.closings x.feeds closings feeds))
 
 one_of_all : (P : Action → Type 0) (xs ys : List Action) (a : Action) → AreAll P (xs ++ a ∷ ys) → P a
 one_of_all P [] ys a h = h.0
@@ -84,7 +81,7 @@ in_turn names s r d trace e x before after a whole c time =
 
 pub of_their_turn : ActionsAreOfTheirTurn
 of_their_turn names s r d e [] later x h = in_turn names s x.schedule d x.trace x.server h.0
-of_their_turn names s r d e (y ∷ earlier) later x h = of_their_turn names y.schedule r y.server e earlier later x h.3
+of_their_turn names s r d e (y ∷ earlier) later x h = of_their_turn names y.schedule r y.server e earlier later x h.4
 
 pub idle_alone : OnlyIdleTimeOut
 idle_alone old new c now o h = (h.0, h.1, h.2)
@@ -101,3 +98,52 @@ only_ready now moved old new before after first last taken c t less there any =
       λ h. ap (is_ready_for (first c)) (sym h) ∙ ready,
       λ h. ap (is_ready_for (first c)) (sym h) ∙ ready,
     )
+
+pub waits_for_peers : WaitsAreForPeers
+waits_for_peers old new clock h c t there = h.0 refl c t there
+
+pub served : ReadyAreServed
+served names s r d e [] later x h = h.1
+served names s r d e (y ∷ earlier) later x h = served names y.schedule r y.server e earlier later x h.4
+
+pub begins : TurnsBeginByWaiting
+begins names s r d e [] later x h = (is_busy s d, flat_map transfers_of (h.0.taken ++ (h.0.closings ++ h.0.feeds)), ap (flat_map transfers_of) h.0.whole)
+begins names s r d e (y ∷ earlier) later x h = begins names y.schedule r y.server e earlier later x h.4
+
+-- ---- the replies of a turn
+
+idle_is_silent : (c now : ℕ) (a : Action) → IsIdleClosing now a → replies_in c a ≡ 0
+idle_is_silent c now (Accepted d time) h = refl
+idle_is_silent c now (Rejected d fault) h = refl
+idle_is_silent c now (Received d bytes) h = refl
+idle_is_silent c now (Submitted d time line o) h = absurd h
+idle_is_silent c now (Sent d time bytes) h = refl
+idle_is_silent c now (Closed d time reason o) h = refl
+idle_is_silent c now (Grown piece) h = refl
+idle_is_silent c now (Fed piece o) h = refl
+idle_is_silent c now (Ended name o) h = refl
+idle_is_silent c now (Waited busy clock) h = refl
+
+file_is_silent : (c : ℕ) (names : List (List ℕ)) (a : Action) → IsOfFile names a → replies_in c a ≡ 0
+file_is_silent c names (Accepted d time) h = refl
+file_is_silent c names (Rejected d fault) h = refl
+file_is_silent c names (Received d bytes) h = refl
+file_is_silent c names (Submitted d time line o) h = absurd h
+file_is_silent c names (Sent d time bytes) h = refl
+file_is_silent c names (Closed d time reason o) h = refl
+file_is_silent c names (Grown piece) h = refl
+file_is_silent c names (Fed piece o) h = refl
+file_is_silent c names (Ended name o) h = refl
+file_is_silent c names (Waited busy clock) h = refl
+
+made_in_turn : (names : List (List ℕ)) (s r : Schedule) (d : LoopState) (trace : List Action) (e : LoopState) → IsLoopTurn names s r d trace e → (c : ℕ) → replies_made c trace ≤ 1
+made_in_turn names s r d trace e x c =
+    let fair = x.turn.fair c in
+    let closings = made_none c (IsIdleClosing r.time) (idle_is_silent c r.time) x.closings x.idle in
+    let feeds = made_none c (IsOfFile names) (file_is_silent c names) x.feeds x.files in
+    subst (λ (l : List Action). replies_made c l ≤ 1) (sym x.whole)
+    (omega (arith, made_both c x.taken (x.closings ++ x.feeds), made_both c x.closings x.feeds))
+
+pub fair : TurnsAreFair
+fair names s r d e [] later x h c = replies_counted c x.trace (made_in_turn names s x.schedule d x.trace x.server h.0 c)
+fair names s r d e (y ∷ earlier) later x h c = fair names y.schedule r y.server e earlier later x h.4 c

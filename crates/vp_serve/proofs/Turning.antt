@@ -180,7 +180,7 @@ stays c now t d e (Closed k time reason o) h is there = elim is [ ]
 stays c now t d e (Grown piece) h is there = elim is [ ]
 stays c now t d e (Fed piece o) h is there = elim is [ ]
 stays c now t d e (Ended name o) h is there = elim is [ ]
-stays c now t d e Waited h is there = elim is [ ]
+stays c now t d e (Waited busy clock) h is there = elim is [ ]
 
 all_stay : (c now : ℕ) (t : Connection) (d e : LoopState) (xs : List Action) → IsTrace d xs e → AreAll (IsArrival now) xs → connection_of c d.connections ≡ Some t → connection_of c e.connections ≡ Some t
 all_stay c now t d e [] h is there = ap (λ (x : LoopState). connection_of c x.connections) h ∙ there
@@ -210,7 +210,7 @@ arrival_apart c now d e (Closed k time reason o) h is less = elim is [ ]
 arrival_apart c now d e (Grown piece) h is less = elim is [ ]
 arrival_apart c now d e (Fed piece o) h is less = elim is [ ]
 arrival_apart c now d e (Ended name o) h is less = elim is [ ]
-arrival_apart c now d e Waited h is less = elim is [ ]
+arrival_apart c now d e (Waited busy clock) h is less = elim is [ ]
 
 pub arrivals_apart : (c now : ℕ) (d e : LoopState) (xs : List Action) → IsTrace d xs e → AreAll (IsArrival now) xs → c < d.next
     → (list_any (is_of c) xs ≡ false) × (d.next ≤ e.next) × (connection_of c e.connections ≡ connection_of c d.connections)
@@ -230,7 +230,7 @@ arrival_grows now d e (Closed k time reason o) h is = elim is [ ]
 arrival_grows now d e (Grown piece) h is = elim is [ ]
 arrival_grows now d e (Fed piece o) h is = elim is [ ]
 arrival_grows now d e (Ended name o) h is = elim is [ ]
-arrival_grows now d e Waited h is = elim is [ ]
+arrival_grows now d e (Waited busy clock) h is = elim is [ ]
 
 pub arrivals_grow : (now : ℕ) (d e : LoopState) (xs : List Action) → IsTrace d xs e → AreAll (IsArrival now) xs → d.next ≤ e.next
 arrivals_grow now d e [] h is = omega (arith, ap (λ (x : LoopState). x.next) h)

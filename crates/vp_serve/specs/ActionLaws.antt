@@ -1,6 +1,6 @@
 -- What an action is, by its transfers, by the events of the hub and by its replies.
 use Rattle.std.specs.Prelude.{◌≡◌, ◌≢◌, ◌≤◌, ◌==◌, ◌⊎◌, ◌||◌, ◌++◌, ◌∷◌, [], ℕ, List, Bool, true, false, Option, Err}
-use Rattle.std.specs.Prelude.{flat_map}
+use Rattle.std.specs.Prelude.{Some, flat_map}
 use Rattle.std.specs.List.{list_all, list_any}
 use Rattle.vp_hub.specs.declared.event.Event.{Event}
 use Rattle.vp_hub.specs.declared.event.Event.TheVariants.{Bytes, End, Open}
@@ -10,8 +10,13 @@ use Rattle.vp_hub.specs.Hub.{Outcome, HubState, IsStep}
 use Rattle.vp_serve.specs.declared.options.ServeOptions.{ServeOptions}
 use Rattle.vp_serve.specs.declared.reason.CloseReason.{CloseReason}
 use Rattle.vp_serve.specs.declared.reason.CloseReason.TheVariants.{IdleTimeout, PeerEnded, TransferFailed}
+use Rattle.vp_serve.specs.declared.connection.NextAction.TheVariants.{Send, Receive}
+use Rattle.vp_serve.specs.Connection.{Connection}
+use Rattle.vp_serve.specs.Connections.{connection_of, next_action}
+use Rattle.vp_serve.specs.Reasons.{IsNotFinished}
 use Rattle.vp_serve.specs.Laws.{replied_in, replied_to, written_to}
-use Rattle.vp_serve.specs.ServerLoop.{LoopState, initial, IsTransition, IsTrace, events_of, Action, Rejected, Closed}
+use Rattle.vp_serve.specs.ServerLoop.{LoopState, initial, is_full, IsTransition, IsTrace, events_of, Action}
+use Rattle.vp_serve.specs.ServerLoop.{Rejected, Closed}
 use Rattle.vp_serve.specs.Transfer.{Transfer, Accepts, Reads, Writes, PeerEnds, Fails, Closes, Grows, Waits}
 use Rattle.vp_serve.specs.Transport.{ContinuesLoop, transfers_of}
 use Rattle.vp_serve.specs.Turns.{is_of, replies_made}
@@ -25,7 +30,7 @@ passes_for c (PeerEnds d) = d == c
 passes_for c (Fails d) = d == c
 passes_for c (Closes d reason) = d == c
 passes_for c (Grows place name bytes) = false
-passes_for c Waits = false
+passes_for c (Waits busy clock) = false
 
 -- an event hands bytes of connection c to the hub
 abbrev pub is_line_of : ℕ → Event → Bool
@@ -63,7 +68,18 @@ NoEndIsReported = (old new : LoopState) (before after : Option (List Transfer))
 abbrev pub RejectedAreRefused : Type 0
 RejectedAreRefused = (old new : LoopState) (c : ℕ) (fault : HubFault) → IsTransition old (Rejected c fault) new
     → (new.hub ≡ old.hub) × (new.connections ≡ old.connections)
-    × ((fault ≡ Memory) ⊎ IsStep old.hub (Open c) (Err fault) old.hub)
+    × ((fault ≡ Memory) ⊎ IsStep old.hub (Open c) (Err fault) old.hub) × (is_full old ≡ false)
+
+-- a connection is closed for a failed transfer only if it waited for its peer
+abbrev pub PeersFail : Type 0
+PeersFail = (old new : LoopState) (c now : ℕ) (o : Outcome) → IsTransition old (Closed c now TransferFailed o) new
+    → (t : Connection) × (connection_of c old.connections ≡ Some t)
+    × ((next_action t ≡ Send) ⊎ (next_action t ≡ Receive))
+
+-- one that is not finished, and whose reply is written, was not closed by the hub
+abbrev pub FinishedAreClosed : Type 0
+FinishedAreClosed = (c : ℕ) (xs : List Connection) → IsNotFinished c xs → (t : Connection)
+    → connection_of c xs ≡ Some t → t.unsent ≡ [] → t.closing ≡ false
 
 -- a connection is closed for a failed transfer just after one failed, and for the end of its peer just after that
 abbrev pub ClosingsAreReported : Type 0

@@ -18,7 +18,7 @@ grown_in (Closed c now reason o) = []
 grown_in (Grown piece) = piece ∷ []
 grown_in (Fed piece o) = []
 grown_in (Ended name o) = []
-grown_in Waited = []
+grown_in (Waited busy clock) = []
 
 -- those that were fed, and that memory was not refused for
 abbrev pub fed_in : Action → List FilePiece
@@ -31,12 +31,17 @@ fed_in (Closed c now reason o) = []
 fed_in (Grown piece) = []
 fed_in (Fed piece o) = if is_memory o then [] else piece ∷ []
 fed_in (Ended name o) = []
-fed_in Waited = []
+fed_in (Waited busy clock) = []
 
 -- a stream took a piece, or refused it
 abbrev pub is_fed : Action → Bool
 is_fed (Fed piece o) = not (is_memory o)
 is_fed _ = false
+
+-- memory was refused for a piece that was fed, so that it goes on waiting
+abbrev pub is_refused : Action → Bool
+is_refused (Fed piece o) = is_memory o
+is_refused _ = false
 
 abbrev pub fed_pieces : Option FilePiece → List FilePiece
 fed_pieces None = []

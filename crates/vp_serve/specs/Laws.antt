@@ -28,7 +28,7 @@ read_in c (PeerEnds d) = []
 read_in c (Fails d) = []
 read_in c (Closes d reason) = []
 read_in c (Grows place name bytes) = []
-read_in c Waits = []
+read_in c (Waits busy clock) = []
 
 abbrev pub written_in : ℕ → Transfer → List ℕ
 written_in c (Accepts d) = []
@@ -38,7 +38,7 @@ written_in c (PeerEnds d) = []
 written_in c (Fails d) = []
 written_in c (Closes d reason) = []
 written_in c (Grows place name bytes) = []
-written_in c Waits = []
+written_in c (Waits busy clock) = []
 
 abbrev pub received_from : ℕ → List Action → List ℕ
 received_from c trace = flat_map (read_in c) (flat_map transfers_of trace)
@@ -62,7 +62,7 @@ submitted_in c (Closed d now reason o) = []
 submitted_in c (Grown piece) = []
 submitted_in c (Fed piece o) = []
 submitted_in c (Ended name o) = []
-submitted_in c Waited = []
+submitted_in c (Waited busy clock) = []
 
 abbrev pub replied_in : ℕ → Action → List ℕ
 replied_in c (Accepted d now) = []
@@ -74,7 +74,7 @@ replied_in c (Closed d now reason o) = []
 replied_in c (Grown piece) = []
 replied_in c (Fed piece o) = []
 replied_in c (Ended name o) = []
-replied_in c Waited = []
+replied_in c (Waited busy clock) = []
 
 abbrev pub submitted_for : ℕ → List Action → List ℕ
 submitted_for c trace = flat_map (submitted_in c) trace
@@ -93,7 +93,7 @@ ends_in c (Closed d now reason o) = if d == c then not (is_abort reason) else fa
 ends_in c (Grown piece) = false
 ends_in c (Fed piece o) = false
 ends_in c (Ended name o) = false
-ends_in c Waited = false
+ends_in c (Waited busy clock) = false
 
 abbrev pub has_ended : ℕ → List Action → Bool
 has_ended c [] = false

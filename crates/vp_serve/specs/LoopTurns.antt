@@ -1,19 +1,21 @@
 -- The loop: turn after turn, with waits, idle timeouts and files that grow.
 use Rattle.std.specs.Prelude.{◌≡◌, ◌⊎◌, ◌||◌, ◌++◌, ◌∷◌, ◌^◌, ◌-◌, [], ℕ, Bool, true, false, List, Option, length}
-use Rattle.std.specs.Prelude.{◌≤◌, ◌<◌, ◌+◌, Some, flat_map, slice_get, if◌then◌else◌}
-use Rattle.std.specs.List.{list_any}
+use Rattle.std.specs.Prelude.{◌≤◌, ◌<◌, ◌+◌, Some, flat_map, is_some, not, slice_get}
+use Rattle.std.specs.List.{list_all, list_any}
 use Rattle.vp_hub.specs.Hub.{Outcome}
 use Rattle.vp_serve.specs.declared.reason.CloseReason.{CloseReason}
 use Rattle.vp_serve.specs.declared.reason.CloseReason.TheVariants.{IdleTimeout}
 use Rattle.vp_serve.specs.declared.schedule.Schedule.{Schedule}
 use Rattle.vp_serve.specs.Connection.{Connection}
-use Rattle.vp_serve.specs.Connections.{connection_of}
+use Rattle.vp_serve.specs.declared.connection.NextAction.TheVariants.{Send, Receive}
+use Rattle.vp_serve.specs.Connections.{connection_of, next_action}
 use Rattle.vp_serve.specs.ServerLoop.{LoopState, AwaitsPeers, Action, Accepted, Submitted, Sent, Closed, Grown, Fed}
-use Rattle.vp_serve.specs.ServerLoop.{Waited, IsTrace}
-use Rattle.vp_serve.specs.Files.{is_fed}
+use Rattle.vp_serve.specs.ServerLoop.{Waited, IsTransition, IsTrace, is_over}
+use Rattle.vp_serve.specs.Files.{is_fed, is_refused}
 use Rattle.vp_serve.specs.Readiness.{Readiness, IsReadyAt}
-use Rattle.vp_serve.specs.Transfer.{Transfer}
-use Rattle.vp_serve.specs.Transport.{ContinuesLoop}
+use Rattle.vp_serve.specs.Transfer.{Transfer, Waits}
+use Rattle.vp_serve.specs.Transport.{ContinuesLoop, transfers_of}
+use Rattle.vp_serve.specs.Laws.{replied_in, replied_to}
 use Rattle.vp_serve.specs.Turns.{AreAll, has_actions, is_due, is_of, IsTurn}
 use Rattle.vp_serve.specs.Schedule.{IsCounted, IsPolled, IsScheduled, IsTimely}
 
@@ -38,14 +40,11 @@ pub record FollowsFiles (names : List (List ℕ)) (old new : LoopState)
 abbrev pub is_busy : Schedule → LoopState → Bool
 is_busy s d = s.is_busy || list_any is_due d.connections
 
--- the server waits, unless it is busy
-abbrev pub waiting : Bool → List Action
-waiting busy = if busy then [] else Waited ∷ []
-
--- The trace of a turn of the loop. The server waits, unless it is busy; connections are accepted and attended; some of
--- those whose idle timeout is over are closed; and the streams of these names are fed, once the clock has reached the
--- next poll. If it is not busy then, each connection waits for its peer, none was attended, none was closed and no
--- stream took a piece. If it is, something happened or a connection is due.
+-- The trace of a turn of the loop. The server waits, or looks what is ready if it is busy; connections are accepted and
+-- attended; some of those whose idle timeout is over are closed; and the streams of these names are fed, once the clock
+-- has reached the next poll: then a piece waits on only if memory is refused for it. If it is not busy then, each
+-- connection waits for its peer, none was attended, none was closed and no stream took a piece. If it is, something
+-- happened or a connection is due.
 pub record IsLoopTurn (names : List (List ℕ)) (s r : Schedule) (d : LoopState) (trace : List Action)
     (e : LoopState) : Type 0 where
   pub attended : LoopState
@@ -53,13 +52,14 @@ pub record IsLoopTurn (names : List (List ℕ)) (s r : Schedule) (d : LoopState)
   pub taken : List Action
   pub closings : List Action
   pub feeds : List Action
-  pub whole : trace ≡ waiting (is_busy s d) ++ (taken ++ (closings ++ feeds))
+  pub whole : trace ≡ Waited (is_busy s d) r.clock ∷ (taken ++ (closings ++ feeds))
   pub turn : IsTurn r.time d taken attended
   pub closes : IsTrace attended closings left
   pub idle : AreAll (IsIdleClosing r.time) closings
   pub grows : IsTrace left feeds e
   pub files : AreAll (IsOfFile names) feeds
   pub polls : r.clock < s.next_poll → feeds ≡ []
+  pub fed : s.next_poll ≤ r.clock → is_some e.waiting ≡ true → list_any is_refused feeds ≡ true
   pub polled : IsPolled e.options.poll_interval (list_any is_fed feeds) s r
   pub counted : IsCounted s r
   pub rests : r.is_busy ≡ false
@@ -75,24 +75,35 @@ pub record TakesLoopTurn (names : List (List ℕ)) (s r : Schedule) (d e : LoopS
   pub turn : IsLoopTurn names s r d does.trace e
   pub attended : (c : ℕ) → IsReadyAt c readiness e → list_any (is_of c) does.trace ≡ true
 
--- what a turn did, and the schedule and the server after it
+-- what a turn did, and the schedule, the server and what its connections are ready for after it
 pub record LoopTurn : Type 0 where
   pub trace : List Action
   pub schedule : Schedule
   pub server : LoopState
+  pub readiness : ℕ → Readiness
 
--- one turn after another; after each, no connection is open a second after its idle timeout
+-- each connection that is ready for its next action after a turn has had an action in it
+abbrev pub AreAttended : LoopTurn → Type 0
+AreAttended x = (c : ℕ) → IsReadyAt c x.readiness x.server → list_any (is_of c) x.trace ≡ true
+
+-- one turn after another; in each, no connection that is ready is passed over, and after each, none is open a second
+-- after its idle timeout
 abbrev pub AreLoopTurns : List (List ℕ) → Schedule → LoopState → List LoopTurn → Schedule → LoopState → Type 0
 AreLoopTurns names s d [] r e = (r ≡ s) × (e ≡ d)
 AreLoopTurns names s d (x ∷ xs) r e =
-    IsLoopTurn names s x.schedule d x.trace x.server × IsScheduled x.schedule x.server
+    IsLoopTurn names s x.schedule d x.trace x.server × AreAttended x × IsScheduled x.schedule x.server
     × IsTimely x.schedule.time x.server × AreLoopTurns names x.schedule x.server xs r e
+
+-- a connection is open, or is still to be accepted, after a turn
+abbrev pub goes_on : LoopTurn → Bool
+goes_on x = not (is_over x.server)
 
 -- before the first turn, when everything is due
 abbrev pub first_schedule : Schedule
 first_schedule = record { time = 0; clock = 0; next_check = 0; next_poll = 0; is_busy = false }
 
--- The server takes turns of the loop, and just their transfers are logged: so many that it is over, or 2 ^ 64 - 1.
+-- The server takes turns of the loop, and just their transfers are logged: up to the first one after which it is over,
+-- or 2 ^ 64 - 1 after each of which it goes on.
 pub record TakesLoopTurns (names : List (List ℕ)) (over : Bool) (d e : LoopState)
     (before after : Option (List Transfer)) : Type 0 where
   pub turns : List LoopTurn
@@ -100,7 +111,9 @@ pub record TakesLoopTurns (names : List (List ℕ)) (over : Bool) (d e : LoopSta
   pub does : ContinuesLoop d e before after
   pub are : AreLoopTurns names first_schedule d turns last e
   pub whole : does.trace ≡ flat_map (λ x. x.trace) turns
-  pub count : over ≡ false → length turns ≡ 2 ^ 64 - 1
+  pub count : over ≡ false → (length turns ≡ 2 ^ 64 - 1) × (list_all goes_on turns ≡ true)
+  pub ends : over ≡ true → (earlier : List LoopTurn) × (x : LoopTurn) × (turns ≡ earlier ++ x ∷ [])
+      × (list_all goes_on earlier ≡ true) × (is_over x.server ≡ true)
 
 -- ---- laws
 
@@ -134,3 +147,31 @@ TimeIsCounted = (names : List (List ℕ)) (s r : Schedule) (d e : LoopState) (ea
     → y.schedule.time + x.schedule.clock ≡ x.schedule.time + y.schedule.clock)
     × (x.schedule.clock + 250 ≤ y.schedule.clock → x.schedule.time + 250 < 2 ^ 64
     → y.schedule.time ≡ x.schedule.time + 250)
+
+-- if the server waits, and does not just look what is ready, each connection waits for its peer
+abbrev pub WaitsAreForPeers : Type 0
+WaitsAreForPeers = (old new : LoopState) (clock : ℕ) → IsTransition old (Waited false clock) new
+    → (c : ℕ) (t : Connection) → connection_of c old.connections ≡ Some t
+    → (next_action t ≡ Send) ⊎ (next_action t ≡ Receive)
+
+-- in a turn of the loop all bytes that are replied to a connection are of one action
+abbrev pub TurnsAreFair : Type 0
+TurnsAreFair = (names : List (List ℕ)) (s r : Schedule) (d e : LoopState) (earlier later : List LoopTurn)
+    (x : LoopTurn)
+    → AreLoopTurns names s d (earlier ++ x ∷ later) r e
+    → (c : ℕ) → (replied_to c x.trace ≡ []) ⊎ ((before after : List Action) × (a : Action)
+    × (x.trace ≡ before ++ a ∷ after) × (replied_to c x.trace ≡ replied_in c a))
+
+-- the clock of a turn of the loop is what the transport's wait returned in it, and that is the turn's first transfer
+abbrev pub TurnsBeginByWaiting : Type 0
+TurnsBeginByWaiting = (names : List (List ℕ)) (s r : Schedule) (d e : LoopState) (earlier later : List LoopTurn)
+    (x : LoopTurn)
+    → AreLoopTurns names s d (earlier ++ x ∷ later) r e
+    → (busy : Bool) × (rest : List Transfer) × (flat_map transfers_of x.trace ≡ Waits busy x.schedule.clock ∷ rest)
+
+-- no connection that is ready after a turn of the loop was passed over in it
+abbrev pub ReadyAreServed : Type 0
+ReadyAreServed = (names : List (List ℕ)) (s r : Schedule) (d e : LoopState) (earlier later : List LoopTurn)
+    (x : LoopTurn)
+    → AreLoopTurns names s d (earlier ++ x ∷ later) r e
+    → (c : ℕ) → IsReadyAt c x.readiness x.server → list_any (is_of c) x.trace ≡ true

@@ -1,12 +1,12 @@
 -- Private to the crate: the parts of a turn.
-use Rattle.std.specs.Prelude.{◌≡◌, ◌<◌, ℕ, Bool, List, [], Option, flat_map}
+use Rattle.std.specs.Prelude.{◌≡◌, ◌⊎◌, ◌<◌, ℕ, Bool, true, List, [], Option, is_some, flat_map}
 use Rattle.std.specs.List.{list_any}
 use Rattle.vp_serve.specs.ServerLoop.{LoopState, IsTrace, Action, Accepted, Rejected, Received, Submitted, Sent, Closed}
 use Rattle.vp_serve.specs.Transfer.{Transfer, Logs}
 use Rattle.vp_serve.specs.Transport.{transfers_of, ended_names}
 use Rattle.vp_serve.specs.Turns.{AreAll, has_actions}
 use Rattle.vp_serve.specs.Readiness.{Readiness, IsNoReadier}
-use Rattle.vp_serve.specs.Files.{is_fed}
+use Rattle.vp_serve.specs.Files.{is_fed, is_refused}
 use Rattle.vp_serve.specs.LoopTurns.{IsOfFile}
 
 -- an action reads from connection c, writes to it or closes it
@@ -49,3 +49,9 @@ pub record Feeds (names : List (List ℕ)) (grew : Bool) (old new : LoopState)
   pub moved : Bool
   pub does : Performs (IsOfFile names) moved old new before after
   pub took : list_any is_fed does.trace ≡ grew
+
+-- .. and a piece waits at the end only if one waited before that was left alone, or memory was refused
+pub record FeedsThrough (names : List (List ℕ)) (grew waited : Bool) (old new : LoopState)
+    (before after : Option (List Transfer)) : Type 0 where
+  pub feeds : Feeds names grew old new before after
+  pub left : is_some new.waiting ≡ true → (waited ≡ true) ⊎ (list_any is_refused feeds.does.trace ≡ true)

@@ -61,8 +61,8 @@ pub data Action : Type 0 where
   Fed : (piece : FilePiece) (o : Outcome) → Action
   -- the end of a stream is reported to the hub, with the outcome
   Ended : (name : List ℕ) (o : Outcome) → Action
-  -- the server waits for the peers of its connections
-  Waited : Action
+  -- the server waits for the peers of its connections, or looks which are ready if it is busy, and the clock says this
+  Waited : (busy : Bool) (clock : ℕ) → Action
 
 -- a piece that memory was refused for is kept
 abbrev pub after_feed : FilePiece → Outcome → Option FilePiece
@@ -81,7 +81,7 @@ IsTransition old (Received c bytes) new =
     × (new ≡ record old { connections = with_connection c (record t { unsubmitted = bytes }) old.connections })
 IsTransition old (Submitted c now line o) new =
     (t : Connection) × (rest : List ℕ) × (connection_of c old.connections ≡ Some t) × (next_action t ≡ Submit)
-    × (t.unsubmitted ≡ line ++ rest) × IsLine line × IsStep old.hub (Bytes c line) o new.hub
+    × (t.unsubmitted ≡ line ++ rest) × (IsLine line × (line ≢ [])) × IsStep old.hub (Bytes c line) o new.hub
     × (new ≡ record old { hub = new.hub; connections = with_connection c (after_outcome o rest now t) old.connections })
 IsTransition old (Sent c now bytes) new =
     (t : Connection) × (rest : List ℕ) × (connection_of c old.connections ≡ Some t) × (next_action t ≡ Send)
@@ -98,7 +98,7 @@ IsTransition old (Fed piece o) new =
     × (new ≡ record old { hub = new.hub; waiting = after_feed piece o })
 IsTransition old (Ended name o) new =
     (old.waiting ≡ None) × IsStep old.hub (End name) o new.hub × (new ≡ record old { hub = new.hub })
-IsTransition old Waited new = AwaitsPeers old × (new ≡ old)
+IsTransition old (Waited busy clock) new = (busy ≡ false → AwaitsPeers old) × (new ≡ old)
 
 -- one action after another
 abbrev pub IsTrace : LoopState → List Action → LoopState → Type 0
@@ -117,7 +117,7 @@ events_of (Closed c now reason o) = Shut c ∷ []
 events_of (Grown piece) = []
 events_of (Fed piece o) = Feed piece.name piece.bytes ∷ []
 events_of (Ended name o) = End name ∷ []
-events_of Waited = []
+events_of (Waited busy clock) = []
 
 abbrev pub action_outcomes : Action → List Outcome
 action_outcomes (Accepted c now) = Ok no_bytes ∷ []
@@ -129,4 +129,4 @@ action_outcomes (Closed c now reason o) = o ∷ []
 action_outcomes (Grown piece) = []
 action_outcomes (Fed piece o) = o ∷ []
 action_outcomes (Ended name o) = o ∷ []
-action_outcomes Waited = []
+action_outcomes (Waited busy clock) = []

@@ -1,5 +1,5 @@
 -- What a server does over a transport.
-use Rattle.std.specs.Prelude.{◌≡◌, ◌==◌, ◌∷◌, ◌++◌, [], ℕ, Bool, List, Option, Some, None, flat_map, take}
+use Rattle.std.specs.Prelude.{◌≡◌, ◌==◌, ◌∷◌, ◌++◌, [], ℕ, List, Option, Some, None, flat_map, take}
 use Rattle.std.specs.Prelude.{if◌then◌else◌}
 use Rattle.vp_serve.specs.declared.reason.CloseReason.{CloseReason}
 use Rattle.vp_serve.specs.declared.reason.CloseReason.TheVariants.{Finished, PeerEnded, IdleTimeout, OutOfMemory}
@@ -34,7 +34,7 @@ transfers_of (Closed c now reason o) = causes c reason ++ Closes c reason ∷ []
 transfers_of (Grown piece) = Grows piece.place piece.name piece.bytes ∷ []
 transfers_of (Fed piece o) = []
 transfers_of (Ended name o) = []
-transfers_of Waited = Waits ∷ []
+transfers_of (Waited busy clock) = Waits busy clock ∷ []
 
 -- ---- one call
 
@@ -67,10 +67,6 @@ abbrev pub piece_transfers : ℕ → List ℕ → Option (List ℕ) → List Tra
 piece_transfers place name None = []
 piece_transfers place name (Some bytes) = Grows place name bytes ∷ []
 
--- a transport waits, unless the server is busy
-abbrev pub wait_transfers : Bool → List Transfer
-wait_transfers is_busy = if is_busy then [] else Waits ∷ []
-
 -- ---- the whole
 
 abbrev pub ended_names : Action → List (List ℕ)
@@ -83,7 +79,7 @@ ended_names (Closed c now reason o) = []
 ended_names (Grown piece) = []
 ended_names (Fed piece o) = []
 ended_names (Ended name o) = name ∷ []
-ended_names Waited = []
+ended_names (Waited busy clock) = []
 
 -- The server performs a trace, and just its transfers pass over the transport. The end of no stream is reported.
 pub record ContinuesLoop (old new : LoopState) (before after : Option (List Transfer)) : Type 0 where

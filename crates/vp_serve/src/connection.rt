@@ -1,6 +1,6 @@
 //! One connection: the bytes that were read and not yet handed to the hub, and the reply bytes not yet written.
 
-ghost use Rattle.std.specs.Prelude.{◌==◌, None, IfSome, IfOk, position, ◌≡◌, ◌≤◌, ◌<◌, ◌++◌, [], take, drop, length};
+ghost use Rattle.std.specs.Prelude.{◌≢◌, ◌==◌, None, IfSome, IfOk, position, ◌≡◌, ◌≤◌, ◌<◌, ◌++◌, [], take, drop, length};
 ghost use Rattle.std.specs.Prelude.{true, false, if◌then◌else◌, List, ◌∷◌};
 ghost use Rattle.std.specs.List.{list_any};
 ghost use Rattle.vp_serve.specs.declared.connection.NextAction.{NextAction};
@@ -121,7 +121,8 @@ impl Connection {
 
     /// A copy of the first line of the bytes that were not handed to the hub yet.
     pub fn line(&self, alloc: Global) -> Result<ByteList, AllocError>
-        ensures { IfOk result (λ line. IsPrefix line self.now.unsubmitted × IsLine line) }
+        ensures { IfOk result (λ line. IsPrefix line self.now.unsubmitted × IsLine line
+            × (self.now.unsubmitted ≢ [] → line ≢ [])) }
     {
         let unsubmitted = self.unsubmitted();
         copy_line(alloc, unsubmitted, first_line(unsubmitted))
@@ -317,7 +318,8 @@ pub fn first_line(bytes: &[u8]) -> usize
 fn copy_line(alloc: Global, bytes: &[u8], count: usize) -> Result<ByteList, AllocError>
     requires most { count ≤ length bytes.now }
     requires line { IsLine (take count bytes.now) }
-    ensures { IfOk result (λ line. IsPrefix line bytes.now × IsLine line) }
+    requires some { 0 < length bytes.now → 0 < count }
+    ensures { IfOk result (λ line. IsPrefix line bytes.now × IsLine line × (bytes.now ≢ [] → line ≢ [])) }
 {
     let copy = copy_prefix(alloc, bytes, count)?;
     Ok(copy)

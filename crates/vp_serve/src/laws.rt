@@ -1,11 +1,13 @@
 //! What holds of every trace of the server, each law as the contract of a function that does nothing.
 
-ghost use Rattle.vp_serve.specs.ActionLaws.{ActionsAreOfConnections, ClosingsAreReported, NoEndIsReported};
+ghost use Rattle.vp_serve.specs.ActionLaws.{ActionsAreOfConnections, ClosingsAreReported, FinishedAreClosed};
+ghost use Rattle.vp_serve.specs.ActionLaws.{NoEndIsReported, PeersFail};
 ghost use Rattle.vp_serve.specs.ActionLaws.{NothingIsLost, RejectedAreRefused, RepliesAreCounted};
 ghost use Rattle.vp_serve.specs.Bounds.{ConnectionsAreBounded};
 ghost use Rattle.vp_serve.specs.Files.{FilesAreFed};
 ghost use Rattle.vp_serve.specs.Laws.{BytesAreServed, OnlyIdleTimeOut, TracesAreJoined, TracesAreRuns};
-ghost use Rattle.vp_serve.specs.LoopTurns.{ActionsAreOfTheirTurn, TimeIsCounted, TurnsAreTimely};
+ghost use Rattle.vp_serve.specs.LoopTurns.{ActionsAreOfTheirTurn, ReadyAreServed, TimeIsCounted, TurnsAreFair};
+ghost use Rattle.vp_serve.specs.LoopTurns.{TurnsAreTimely, TurnsBeginByWaiting, WaitsAreForPeers};
 ghost use Rattle.vp_serve.specs.Replies.{LinesGetOneReply, RepliesAreCurrent};
 ghost use Rattle.vp_serve.specs.SameConnections.{SameConnections};
 ghost use Rattle.vp_serve.specs.Turns.{OnlyReadyAreAttended, ReadyAreAttended};
@@ -75,6 +77,26 @@ pub fn time_is_counted()
     ensures { TimeIsCounted }
 {}
 
+/// No connection that is ready after a turn of the loop was passed over in it.
+pub fn ready_are_served()
+    ensures { ReadyAreServed }
+{}
+
+/// In a turn of the loop all bytes that are replied to a connection are of one action.
+pub fn turns_are_fair()
+    ensures { TurnsAreFair }
+{}
+
+/// A turn of the loop begins by the transport's wait, which gives its clock.
+pub fn turns_begin_by_waiting()
+    ensures { TurnsBeginByWaiting }
+{}
+
+/// The loop waits only if each connection waits for its peer.
+pub fn waits_are_for_peers()
+    ensures { WaitsAreForPeers }
+{}
+
 /// A connection is closed at the idle timeout only if it was idle for so long.
 pub fn only_idle_connections_time_out()
     ensures { OnlyIdleTimeOut }
@@ -93,6 +115,16 @@ pub fn replies_are_counted()
 /// A connection that was closed got all its replies, unless its idle timeout was over or a transfer failed.
 pub fn nothing_is_lost()
     ensures { NothingIsLost }
+{}
+
+/// A connection is closed for a failed transfer only if it waited for its peer.
+pub fn peers_fail()
+    ensures { PeersFail }
+{}
+
+/// A connection that is not finished, and whose reply is written, was not closed by the hub.
+pub fn finished_are_closed()
+    ensures { FinishedAreClosed }
 {}
 
 /// A server that follows its files reports the end of no stream to the hub.

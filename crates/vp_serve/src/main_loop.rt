@@ -1,7 +1,7 @@
 //! The loop of the server over any transport: turn after turn, with the idle timeouts and the files that grow.
 
 ghost use Rattle.std.specs.Prelude.{◌≡◌, ◌≤◌, ◌<◌, ◌+◌, ◌^◌, ◌||◌, [], ℕ, List, Option, Some, IfOk};
-ghost use Rattle.std.specs.Prelude.{not, slice_get, true, false};
+ghost use Rattle.std.specs.Prelude.{is_some, not, slice_get, true, false};
 ghost use Rattle.std.specs.List.{list_any};
 ghost use Rattle.vp_hub.specs.View.{is_memory};
 ghost use Rattle.vp_serve.specs.ServerLoop.{is_over};
@@ -12,7 +12,8 @@ ghost use Rattle.vp_serve.specs.Turns.{is_due};
 ghost use Rattle.vp_serve.specs.Readiness.{AreNoReadier};
 ghost use Rattle.vp_serve.specs.Schedule.{AreStillOpen, IsCounted, IsNoneIdle, IsScheduled, IsTimely};
 ghost use Rattle.vp_serve.specs.LoopTurns.{FollowsFiles, IsIdleClosing, TakesLoopTurn, TakesLoopTurns};
-ghost use Rattle.vp_serve.specs.Parts.{Feeds, Performs};
+ghost use Rattle.vp_serve.specs.Files.{is_refused};
+ghost use Rattle.vp_serve.specs.Parts.{Feeds, FeedsThrough, Performs};
 ghost use Rattle.vp_serve.specs.Connection.{Connection};
 ghost use Rattle.vp_serve.specs.Connections.{connection_of};
 
@@ -189,7 +190,8 @@ fn poll_files<T: Transport>(
     is_due: bool,
 ) -> bool
     ensures feeds { (fed : Feeds names.now result server.old server.new (T.log transport.old) (T.log transport.new))
-        × (is_due ≡ false → fed.does.trace ≡ []) }
+        × (is_due ≡ false → fed.does.trace ≡ [])
+        × (is_due ≡ true → is_some server.new.waiting ≡ true → list_any is_refused fed.does.trace ≡ true) }
     ensures kept { server.new.connections ≡ server.old.connections }
     ensures no_readier { AreNoReadier (T.readiness transport.old) (T.readiness transport.new) }
 {
@@ -216,14 +218,16 @@ pub fn catch_up<T: Transport>(
     }
 }
 
-// Feeds the piece that waits, and a piece of each file that has more. True if a stream took or refused a piece.
+// Feeds the piece that waits, and a piece of each file that has more. True if a stream took or refused a piece. A piece
+// waits at the end only if memory was refused for it.
 fn read_files<T: Transport>(
     alloc: Global,
     server: &mut ServerLoop,
     transport: &mut T,
     names: &[ByteList],
 ) -> bool
-    ensures feeds { Feeds names.now result server.old server.new (T.log transport.old) (T.log transport.new) }
+    ensures feeds { FeedsThrough names.now result false server.old server.new
+        (T.log transport.old) (T.log transport.new) }
     ensures kept { server.new.connections ≡ server.old.connections }
     ensures no_readier { AreNoReadier (T.readiness transport.old) (T.readiness transport.new) }
 {
@@ -244,7 +248,8 @@ fn read_one<T: Transport>(
     name: &[u8],
 ) -> bool
     ensures feeds { (names : List (List ℕ)) → slice_get names place ≡ Some name.now
-        → Feeds names result server.old server.new (T.log transport.old) (T.log transport.new) }
+        → FeedsThrough names result (is_some server.old.waiting) server.old server.new
+        (T.log transport.old) (T.log transport.new) }
     ensures kept { server.new.connections ≡ server.old.connections }
     ensures no_readier { AreNoReadier (T.readiness transport.old) (T.readiness transport.new) }
 {
@@ -297,7 +302,7 @@ fn read_piece<T: Transport>(
 // Feeds the piece that waits. False if there is none, or memory is refused and it goes on waiting.
 fn feed_waiting<T: Transport>(server: &mut ServerLoop, transport: &mut T) -> bool
     ensures feeds { (names : List (List ℕ))
-        → Feeds names result server.old server.new (T.log transport.old) (T.log transport.new) }
+        → FeedsThrough names result false server.old server.new (T.log transport.old) (T.log transport.new) }
     ensures kept { server.new.connections ≡ server.old.connections }
     ensures no_readier { AreNoReadier (T.readiness transport.old) (T.readiness transport.new) }
 {

@@ -3,9 +3,8 @@
 ghost use Rattle.std.specs.Prelude.{◌≡◌, ◌≢◌, ◌≤◌, ◌<◌, ◌∷◌, [], ℕ, List, Option, length, take, if◌then◌else◌, nat_eq};
 ghost use Rattle.std.specs.Prelude.{◌==◌, false};
 ghost use Rattle.vp_serve.specs.Readiness.{Readiness, AreNoReadier};
-ghost use Rattle.vp_serve.specs.Transfer.{Transfer, Accepts, Closes, Grows, Logs};
+ghost use Rattle.vp_serve.specs.Transfer.{Transfer, Accepts, Closes, Grows, Logs, Waits};
 ghost use Rattle.vp_serve.specs.Transport.{read_count, written_count, read_transfers, write_transfers, grown_transfers};
-ghost use Rattle.vp_serve.specs.Transport.{wait_transfers};
 
 use crate::reason::CloseReason;
 use vp_hub::HubFault;
@@ -43,10 +42,10 @@ pub trait Transport {
     /// What each connection is ready for.
     ghost readiness: { Self → ℕ → Readiness };
 
-    /// Waits until something is ready or a short time is over, unless the server is busy. Returns the milliseconds
-    /// since a fixed start.
+    /// Waits until something is ready or a short time is over, or just looks what is ready if the server is busy.
+    /// Returns the milliseconds since a fixed start.
     fn wait(&mut self, is_busy: bool) -> u64
-        ensures { Logs (log self.old) (log self.new) (wait_transfers is_busy) };
+        ensures { Logs (log self.old) (log self.new) (Waits is_busy result ∷ []) };
 
     /// Accepts a connection under this number, if one is there. What the others are ready for stays.
     fn accept(&mut self, number: u32) -> bool

@@ -12,7 +12,7 @@ transfer_of (entry.PeerEnds c) = PeerEnds c
 transfer_of (entry.Fails c) = Fails c
 transfer_of (entry.Closes c reason) = Closes c reason
 transfer_of (entry.Grows place name bytes) = Grows place name bytes
-transfer_of entry.Waits = Waits
+transfer_of (entry.Waits busy clock) = Waits busy clock
 
 abbrev pub transfers : List Entry → List Transfer
 transfers entries = map transfer_of entries

@@ -21,8 +21,8 @@ pub enum Entry {
     Closes(u32, CloseReason),
     /// The file at an index, that of the stream of a name, has more bytes.
     Grows(usize, ByteList, ByteList),
-    /// The server waits.
-    Waits,
+    /// The server waits, or looks what is ready if it is busy; the clock says this many milliseconds.
+    Waits(bool, u64),
 }
 
 /// A reply that the transport was told of.
@@ -62,7 +62,7 @@ fn text_of(bytes: &ByteList) -> &str {
     }
 }
 
-/// One line, with the bytes as text.
+/// One line, with the bytes as text; none for a look of a busy server.
 impl fmt::Display for Entry {
     fn fmt<W: fmt::Write>(&self, f: &mut fmt::Formatter<W>) -> fmt::Result {
         match self {
@@ -75,7 +75,8 @@ impl fmt::Display for Entry {
             Entry::Grows(place, name, bytes) => {
                 write!(f, "grows {place} {} {}\n", text_of(name), text_of(bytes))
             }
-            Entry::Waits => f.write_str("waits\n"),
+            Entry::Waits(true, _) => Ok(()),
+            Entry::Waits(false, _) => f.write_str("waits\n"),
         }
     }
 }

@@ -172,12 +172,10 @@ impl<'a, H: Abort> Transport for Scripted<'a, H> {
     ghost readiness = { λ t _. record { read = t.can_read; write = t.can_write } };
 
     fn wait(&mut self, is_busy: bool) -> u64 {
-        if !is_busy {
-            put(self.rt, &mut self.log, Entry::Waits);
-        }
         self.can_read = true;
         self.can_write = true;
         self.now = self.now.saturating_add(self.script.tick);
+        put(self.rt, &mut self.log, Entry::Waits(is_busy, self.now));
         self.now
     }
 

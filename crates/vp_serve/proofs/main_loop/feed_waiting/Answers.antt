@@ -1,7 +1,7 @@
-use Rattle.std.proofs.Common.{refl, ap}
-use Rattle.vp_serve.specs.ServerLoop.{LoopState, Fed}
+use Rattle.std.proofs.Common.{◌∙◌, refl, sym, ap}
+use Rattle.vp_serve.specs.ServerLoop.{LoopState}
 use Rattle.vp_serve.proofs.Continuing.{logs_none}
-use Rattle.vp_serve.proofs.LoopTurnLemmas.{feeds_one, feeds_quiet}
+use Rattle.vp_serve.proofs.LoopTurnLemmas.{through_fed, through_none}
 use Rattle.vp_serve.proofs.main_loop.feed_waiting.Goals as goal
 
 pub returns-clause-feeds : goal.returns-clause-feeds
@@ -9,7 +9,7 @@ returns-clause-feeds g c names =
     let a = g.T.Transport.log c.args.transport.now in
     let b = g.T.Transport.log c.report_feed.new.transport in
     let h = c.feed-outcome.ensures in
-    feeds_one names c.report_feed.result c.args.server.now c.feed-outcome.new.self (Fed h.0 c.feed-outcome.result) a b h.1 (logs_none a b c.report_feed.ensures.logs) refl tt c.report_feed.ensures.took
+    through_fed names c.report_feed.result c.args.server.now c.feed-outcome.new.self h.0 c.feed-outcome.result a b h.1 (logs_none a b c.report_feed.ensures.logs) c.report_feed.ensures.took
 
 pub returns-clause-kept : goal.returns-clause-kept
 returns-clause-kept g c = ap (λ (x : LoopState). x.connections) c.feed-outcome.ensures.1.2
@@ -17,4 +17,4 @@ returns-clause-kept g c = ap (λ (x : LoopState). x.connections) c.feed-outcome.
 pub returns-in_default-clause-feeds : goal.returns-in_default-clause-feeds
 returns-in_default-clause-feeds g c names =
     let a = g.T.Transport.log c.args.transport.now in
-    feeds_quiet names c.args.server.now a a (logs_none a a refl)
+    through_none names c.args.server.now a a (logs_none a a refl) (sym c.waiting_place.ensures ∙ c.in_default.is)

@@ -1,11 +1,10 @@
-use Rattle.std.proofs.Common.{◌≡◌, ◌<◌, ◌||◌, ◌∙◌, ℕ, Bool, false, leb, ap, subst, arith}
+use Rattle.std.proofs.Common.{◌∷◌, [], ◌≡◌, ◌<◌, ◌≤◌, ◌||◌, ◌∙◌, ℕ, Bool, true, false, leb, ap, subst, arith}
 use Rattle.std.proofs.lemmas.Bool.Decides.{nat_tests}
 use Rattle.std.specs.List.{list_any}
 use Rattle.vp_serve.specs.declared.schedule.Schedule.{Schedule}
 use Rattle.vp_serve.specs.declared.options.ServeOptions.{ServeOptions}
 use Rattle.vp_serve.specs.Schedule.{IsPolled}
-use Rattle.vp_serve.specs.Transfer.{Logs}
-use Rattle.vp_serve.specs.Transport.{wait_transfers}
+use Rattle.vp_serve.specs.Transfer.{Logs, Waits}
 use Rattle.vp_serve.specs.Turns.{is_due}
 use Rattle.vp_serve.proofs.LoopTurnLemmas.{takes}
 use Rattle.vp_serve.proofs.Ready.{no_readier_on}
@@ -19,6 +18,9 @@ returns-clause-counted g c =
 
 early : (clock due : ℕ) → clock < due → leb due clock ≡ false
 early clock due h = grind (arith, nat_tests, h)
+
+reached : (clock due : ℕ) → due ≤ clock → leb due clock ≡ true
+reached clock due h = grind (arith, nat_tests, h)
 
 pub returns-clause-takes : goal.returns-clause-takes
 returns-clause-takes g c =
@@ -39,8 +41,8 @@ returns-clause-takes g c =
     takes c.args.names.now c.args.schedule.now r m l n s c.turn-moved.new.server c.close_idle-closed.new.server last.server a b (log c.turn-moved.new.transport) (log c.close_idle-closed.new.transport) (log last.transport)
     (ready c.wait-clock.new.self) (ready c.turn-moved.new.transport) (ready last.transport)
     (λ h. c.is_busy.ensures.awaits (c.is_busy.ensures.test ∙ h))
-    (subst (λ (t : Bool). Logs a b (wait_transfers t)) c.is_busy.ensures.test c.wait-clock.ensures)
-    c.turn-moved.ensures.fair c.close_idle-closed.ensures.closes c.poll_files-grew.ensures.feeds.0 (λ h. c.poll_files-grew.ensures.feeds.1 (early c.wait-clock.result c.args.schedule.now.next_poll h))
+    (subst (λ (t : Bool). Logs a b (Waits t c.wait-clock.result ∷ [])) c.is_busy.ensures.test c.wait-clock.ensures)
+    c.turn-moved.ensures.fair c.close_idle-closed.ensures.closes c.poll_files-grew.ensures.feeds.0 (λ h. c.poll_files-grew.ensures.feeds.1 (early c.wait-clock.result c.args.schedule.now.next_poll h)) (λ h. c.poll_files-grew.ensures.feeds.2 (reached c.wait-clock.result c.args.schedule.now.next_poll h))
     (subst (λ (o : ServeOptions). IsPolled o.poll_interval n c.args.schedule.now r) c.options-poll_interval.ensures polled) (returns-clause-counted g c) c.is_busy-2.ensures.awaits test
     c.close_idle-closed.ensures.still_open c.poll_files-grew.ensures.kept
     (no_readier_on (ready c.turn-moved.new.transport) (ready c.close_idle-closed.new.transport) (ready last.transport) c.close_idle-closed.ensures.no_readier c.poll_files-grew.ensures.no_readier)

@@ -23,5 +23,5 @@ returns-clause-ok c =
       line,
       o,
       subst (λ (x : LoopState). IsTransition x (Submitted n c.args.now line o) (record d { hub = hub; connections = slice_set d.connections c.in-Some.place c.submitted.new.self })) c.self.view_is
-          (submits n c.args.now c.in-Some.place line o d hub c.deref.result.now t c.submitted.new.self c.deref.ensures.value c.in-Some.ensures.some c.index_mut-connection.ensures.value due c.in_ok-line.ensures.0 c.in_ok-line.ensures.1 c.step-outcome.ensures.step change),
+          (submits n c.args.now c.in-Some.place line o d hub c.deref.result.now t c.submitted.new.self c.deref.ensures.value c.in-Some.ensures.some c.index_mut-connection.ensures.value due c.in_ok-line.ensures.0 c.in_ok-line.ensures.1 c.in_ok-line.ensures.2 c.step-outcome.ensures.step change),
     )
