@@ -4,8 +4,8 @@
 A problem, printed with file and line, is: a path, a file or a script that isn't there; `vp_x::name` that the crate
 doesn't export; `Type::method` without such a method, variant or field; another name in `code` form that no source has;
 a test, a case, a law or a clause of that name that isn't there; a line of a block "antt FILE" that FILE doesn't have;
-a line over 120 columns; a document over its length; and, if `rt` is on the path, a kit in README.md that isn't the one
-in use. The script fails if there is a problem. Run it at the top of the repository.
+a line over 120 columns; a document over its length; another version than CHANGELOG.md's newest in a place that names
+one; and, if `rt` is on the path, that README.md doesn't name the kit in use. The script fails if there is a problem. Run it at the top of the repository.
 
 Names of others, as of libvpx or of an older version, are allowed in a document that lists them in a comment:
 <!-- names of others: mb_row, ivfdec.c -->
@@ -40,6 +40,13 @@ LENGTHS = {
 FOREIGN = re.compile(r"vpx_|AddressSanitizer$|GitHub$")
 OTHERS = re.compile(r"<!-- names of others: (.*?) -->", re.S)
 FOREIGN_TYPES = {"Rc", "Vec", "Box", "Global", "String", "Option", "Result", "TcpStream", "TcpListener", "Command"}
+# The places that name the version, each with a pattern of one group.
+VERSIONS = {
+    "crates/vp_args/src/words.rt": r'\.version\("([^"]*)"\)',
+    "man/vp8.1": r'^\.TH .*"vp8 ([^"]*)"',
+    "bindings/python/pyproject.toml": r'^version = "([^"]*)"',
+    "bindings/rust/Cargo.toml": r'^version = "([^"]*)"',
+}
 PLACEHOLDERS = {"NAME", "FILE", "FOLDER", "F", "IN", "OUT", "FILM", "N", "PATH", "KIT"}
 SOURCES = (".rt", ".antt", ".edit", ".py", ".md", ".h", ".c", ".rs", ".txt", ".packets", ".commands", ".connections")
 ONE, SEVERAL = r"(`\w+`)", r"((?:`\w+`(?:,? +and +|, +)?)+)"
@@ -213,17 +220,22 @@ def problems_of(path, tree):
 
 
 def problems_of_kit(path):
-    """Where README.md names another kit than the one in use."""
+    """Where README.md doesn't name the kit in use among those that it names."""
     if not shutil.which("rt"):
         return
     kit = subprocess.run(["rt", "version"], capture_output=True, text=True).stdout.strip().split("\n")[0]
     text = path.read_text()
     if f"`{kit}`" not in text:
         yield text.count("\n"), f"no line has the kit in use, `{kit}`"
-    for number, line in enumerate(text.split("\n"), 1):
-        for name in re.findall(r"rattle-kit-\w+", line):
-            if name != kit.split()[0]:
-                yield number, f"{name} isn't the kit in use, {kit.split()[0]}"
+
+
+def problems_of_version():
+    """Where a place that names the version has another one than CHANGELOG.md's newest."""
+    newest = re.search(r"^## (\d+\.\d+\.\d+)", pathlib.Path("CHANGELOG.md").read_text(), re.M)[1]
+    for file, pattern in VERSIONS.items():
+        named = re.search(pattern, pathlib.Path(file).read_text(), re.M)
+        if not named or named[1] != newest:
+            yield f"{file}: the version is {named[1] if named else 'missing'}, and CHANGELOG.md's newest is {newest}"
 
 
 def main():
@@ -236,6 +248,9 @@ def main():
         for number, problem in sorted(found):
             print(f"{path}:{number}: {problem}")
         count += len(found)
+    for problem in problems_of_version():
+        print(problem)
+        count += 1
     print(f"{len(documents)} documents, {count} problems")
     return 1 if count else 0
 

@@ -287,7 +287,7 @@ fn vp8_command<'a>(alloc: Global) -> Command<'a>
 {
     Command::new(alloc, "vp8")
         .about("Decodes, encodes and serves VP8 video")
-        .version("0.1.0")
+        .version("0.2.0")
         .disable_help_subcommand(true)
         .subcommand_required(true)
 }
