@@ -6,4 +6,6 @@ mod check;
 #[cfg(test)]
 mod ivf;
 #[cfg(test)]
+mod webp;
+#[cfg(test)]
 mod y4m;

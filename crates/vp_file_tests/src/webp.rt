@@ -1,0 +1,280 @@
+//! Tests of vp_webp: files of cwebp, webpmux and img2webp read, their faults, and files written.
+
+ghost use Rattle.std.specs.Prelude.{◌<◌, ◌≤◌};
+
+use crate::check::equal;
+use std::alloc::Global;
+use vp_base::{Counted, FailAt};
+use vp_webp::{Canvas, WebPFault, WebPWriteFault, read, write};
+
+// A simple file of 16 by 16 pixels, by cwebp: its key frame is the 28 bytes from 20 on.
+const HALF: [u8; 48] = [
+    0x52, 0x49, 0x46, 0x46, 0x28, 0, 0, 0, 0x57, 0x45, 0x42, 0x50, 0x56, 0x50, 0x38, 0x20, 0x1c, 0,
+    0, 0, 0x50, 1, 0, 0x9d, 1, 0x2a, 0x10, 0, 0x10, 0, 7, 0x40, 0x96, 0x25, 0xa4, 0, 4, 0x74, 0, 0,
+    0xfe, 0x83, 0xff, 0xfd, 0x7c, 0, 0, 0,
+];
+
+// An extended file with alpha, by cwebp. Its key frame is the 32 bytes from 64 on, by webpinfo.
+const ALPHA: [u8; 96] = [
+    0x52, 0x49, 0x46, 0x46, 0x58, 0, 0, 0, 0x57, 0x45, 0x42, 0x50, 0x56, 0x50, 0x38, 0x58, 0x0a, 0,
+    0, 0, 0x10, 0, 0, 0, 0x0f, 0, 0, 0x0f, 0, 0, 0x41, 0x4c, 0x50, 0x48, 0x12, 0, 0, 0, 1, 0x0f,
+    0x30, 0xff, 0x11, 0x11, 0x42, 0x2c, 0x98, 0xe4, 0x2f, 0xdd, 0x39, 0x85, 0x88, 0xfe, 0xe7, 0x8c,
+    0x56, 0x50, 0x38, 0x20, 0x20, 0, 0, 0, 0x30, 1, 0, 0x9d, 1, 0x2a, 0x10, 0, 0x10, 0, 7, 0x40,
+    0x96, 0x25, 0xa4, 0, 3, 0x70, 0, 0xfe, 0xd7, 0x3b, 0xf8, 0x17, 0xf1, 0xb7, 0xff, 0xf2, 0x2c, 0,
+    0, 0,
+];
+
+// The first file with a colour profile of 3 bytes before the picture, and Exif and XMP metadata of 5 and 7 bytes after
+// it, by webpmux. Its key frame is the 28 bytes from 50 on, by webpinfo.
+const PROFILE: [u8; 108] = [
+    0x52, 0x49, 0x46, 0x46, 0x64, 0, 0, 0, 0x57, 0x45, 0x42, 0x50, 0x56, 0x50, 0x38, 0x58, 0x0a, 0,
+    0, 0, 0x2c, 0, 0, 0, 0x0f, 0, 0, 0x0f, 0, 0, 0x49, 0x43, 0x43, 0x50, 3, 0, 0, 0, 0x61, 0x62,
+    0x63, 0, 0x56, 0x50, 0x38, 0x20, 0x1c, 0, 0, 0, 0x50, 1, 0, 0x9d, 1, 0x2a, 0x10, 0, 0x10, 0, 7,
+    0x40, 0x96, 0x25, 0xa4, 0, 4, 0x74, 0, 0, 0xfe, 0x83, 0xff, 0xfd, 0x7c, 0, 0, 0, 0x45, 0x58,
+    0x49, 0x46, 5, 0, 0, 0, 0x65, 0x78, 0x69, 0x66, 0x21, 0, 0x58, 0x4d, 0x50, 0x20, 7, 0, 0, 0,
+    0x78, 0x6d, 0x70, 0x64, 0x61, 0x74, 0x61, 0,
+];
+
+// A lossless file, by cwebp.
+const LOSSLESS: [u8; 50] = [
+    0x52, 0x49, 0x46, 0x46, 0x2a, 0, 0, 0, 0x57, 0x45, 0x42, 0x50, 0x56, 0x50, 0x38, 0x4c, 0x1d, 0,
+    0, 0, 0x2f, 0x0f, 0xc0, 3, 0, 0x0f, 0x70, 0x14, 0xd0, 0xa3, 0x80, 0x1e, 5, 0x74, 0xfe, 3, 0x0f,
+    0x62, 0xc1, 0x64, 0xfe, 0xd2, 0xdd, 0x19, 0x44, 0xf4, 0x3f, 0x72, 1, 0,
+];
+
+// An animation of two lossy frames, by img2webp.
+const ANIMATION: [u8; 158] = [
+    0x52, 0x49, 0x46, 0x46, 0x96, 0, 0, 0, 0x57, 0x45, 0x42, 0x50, 0x56, 0x50, 0x38, 0x58, 0x0a, 0,
+    0, 0, 2, 0, 0, 0, 0x0f, 0, 0, 0x0f, 0, 0, 0x41, 0x4e, 0x49, 0x4d, 6, 0, 0, 0, 0xff, 0xff, 0xff,
+    0xff, 0, 0, 0x41, 0x4e, 0x4d, 0x46, 0x32, 0, 0, 0, 0, 0, 0, 0, 0, 0, 0x0f, 0, 0, 0x0f, 0, 0,
+    0x64, 0, 0, 2, 0x56, 0x50, 0x38, 0x20, 0x1a, 0, 0, 0, 0x30, 1, 0, 0x9d, 1, 0x2a, 0x10, 0, 0x10,
+    0, 7, 0x40, 0x96, 0x25, 0xa4, 0, 3, 0x70, 0, 0xfe, 0x83, 0xff, 0xfd, 0x7c, 0, 0, 0x41, 0x4e,
+    0x4d, 0x46, 0x30, 0, 0, 0, 0, 0, 0, 0, 0, 0, 0x0f, 0, 0, 0x0f, 0, 0, 0x64, 0, 0, 0, 0x56, 0x50,
+    0x38, 0x20, 0x18, 0, 0, 0, 0x54, 1, 0, 0x9d, 1, 0x2a, 0x10, 0, 0x10, 0, 0, 0, 0x96, 0x25, 0xa4,
+    0, 4, 0x74, 0, 0, 0, 0, 0, 0,
+];
+
+/// The canvas of the extended files.
+const CANVAS: Canvas = Canvas {
+    width: 16,
+    height: 16,
+};
+
+/// Returns whether the file is read, with this packet, alpha and canvas.
+fn gives(file: &[u8], packet: &[u8], has_alpha: bool, canvas: Option<Canvas>) -> bool {
+    match read(file) {
+        Ok(image) => {
+            image.packet() == packet && image.has_alpha() == has_alpha && image.canvas() == canvas
+        }
+        Err(_) => false,
+    }
+}
+
+#[test]
+fn webp_files(rt: HostRuntime) {
+    assert!(rt; gives(&HALF, &HALF[20..], false, None));
+    assert!(rt; gives(&ALPHA, &ALPHA[64..], true, Some(CANVAS)));
+    assert!(rt; gives(&PROFILE, &PROFILE[50..78], false, Some(CANVAS)));
+}
+
+fn fault_of(file: &[u8]) -> Option<WebPFault> {
+    read(file).err()
+}
+
+/// Returns whether each file that lacks bytes at its end is torn.
+fn is_torn_at_each_cut(file: &[u8]) -> bool {
+    (0..file.len()).all(|count| fault_of(file.split_at(count).0) == Some(WebPFault::Torn))
+}
+
+#[test]
+fn webp_cut_short(rt: HostRuntime) {
+    assert!(rt; is_torn_at_each_cut(&HALF));
+    assert!(rt; is_torn_at_each_cut(&ALPHA));
+    assert!(rt; is_torn_at_each_cut(&PROFILE));
+}
+
+#[test]
+fn webp_faults(rt: HostRuntime) {
+    equal(&rt, &fault_of(&LOSSLESS), &Some(WebPFault::Lossless));
+    equal(&rt, &fault_of(&ANIMATION), &Some(WebPFault::Animated));
+    equal(
+        &rt,
+        &fault_of(b"RIFF\x04\0\0\0WEBP"),
+        &Some(WebPFault::NoPicture),
+    );
+    equal(
+        &rt,
+        &fault_of(b"RIFF\x03\0\0\0WEBP"),
+        &Some(WebPFault::Torn),
+    );
+    equal(&rt, &fault_of(b"DKIF"), &Some(WebPFault::Signature));
+    equal(&rt, &fault_of(b"RIX"), &Some(WebPFault::Signature));
+    equal(
+        &rt,
+        &fault_of(b"RIFF\xff\xff\xff\xffWAVE"),
+        &Some(WebPFault::Signature),
+    );
+    equal(
+        &rt,
+        &fault_of(b"RIFF\xff\xff\xff\xffWEBP"),
+        &Some(WebPFault::Torn),
+    );
+}
+
+/// The first file with another byte at one place.
+fn with_byte(at: usize, byte: u8) -> [u8; 48]
+    requires { at < 48 }
+{
+    let mut file = HALF;
+    file[at] = byte;
+    file
+}
+
+#[test]
+fn webp_sizes(rt: HostRuntime) {
+    // The file ends one byte before its size, or one byte after it.
+    equal(&rt, &fault_of(&with_byte(4, 0x29)), &Some(WebPFault::Torn));
+    assert!(rt; gives(&with_byte(16, 0x1b), &HALF[20..47], false, None));
+    // The chunk ends after the size of the file, with its padding or before it.
+    equal(&rt, &fault_of(&with_byte(16, 0x1d)), &Some(WebPFault::Torn));
+    equal(&rt, &fault_of(&with_byte(4, 0x26)), &Some(WebPFault::Torn));
+    equal(&rt, &fault_of(&with_byte(19, 0xff)), &Some(WebPFault::Torn));
+    // A size that does not count the padding of the last chunk; dwebp reads such a file.
+    let mut odd = with_byte(4, 0x27);
+    odd[16] = 0x1b;
+    assert!(rt; gives(odd.split_at(47).0, &HALF[20..47], false, None));
+    equal(&rt, &fault_of(odd.split_at(46).0), &Some(WebPFault::Torn));
+}
+
+// The first bytes of an extended file: its canvas is 16,777,216 by 513 pixels, with one more field than today's files.
+const WIDE: [u8; 32] = [
+    0x52, 0x49, 0x46, 0x46, 60, 0, 0, 0, 0x57, 0x45, 0x42, 0x50, 0x56, 0x50, 0x38, 0x58, 11, 0, 0,
+    0, 0, 0, 0, 0, 0xff, 0xff, 0xff, 0, 2, 0, 9, 0,
+];
+
+/// The extended file with the packet of the first one, and another flag and size in its `VP8X` chunk.
+fn wide(flags: u8, size: u8) -> [u8; 68] {
+    let mut file = [0; 68];
+    file[..32].copy_from_slice(&WIDE);
+    file[32..].copy_from_slice(&HALF[12..]);
+    file[16] = size;
+    file[20] = flags;
+    file
+}
+
+#[test]
+fn chunks_before_the_picture(rt: HostRuntime) {
+    let canvas = Canvas {
+        width: 16_777_216,
+        height: 513,
+    };
+    assert!(rt; gives(&wide(0, 11), &HALF[20..], false, Some(canvas)));
+    assert!(rt; gives(&wide(0xfd, 12), &HALF[20..], false, Some(canvas)));
+    equal(&rt, &fault_of(&wide(2, 11)), &Some(WebPFault::Animated));
+    equal(&rt, &fault_of(&wide(0, 9)), &Some(WebPFault::Torn));
+    // The parameters of an animation without its flag are passed over, as dwebp does; its frames are not.
+    let mut file = wide(0, 11);
+    file[12..16].copy_from_slice(b"ANIM");
+    assert!(rt; gives(&file, &HALF[20..], false, None));
+    file[12..16].copy_from_slice(b"ANMF");
+    equal(&rt, &fault_of(&file), &Some(WebPFault::Animated));
+}
+
+#[test]
+fn webp_packets(rt: HostRuntime) {
+    equal(
+        &rt,
+        &fault_of(&with_byte(20, 0x51)),
+        &Some(WebPFault::NotKey),
+    );
+    equal(
+        &rt,
+        &fault_of(&with_byte(20, 0x40)),
+        &Some(WebPFault::Hidden),
+    );
+    equal(
+        &rt,
+        &fault_of(b"RIFF\x0e\0\0\0WEBPVP8 \x02\0\0\0\x10\0"),
+        &Some(WebPFault::NotKey),
+    );
+}
+
+/// Returns whether a packet is written as this file.
+fn is_written(alloc: Global, packet: &[u8], file: &[u8]) -> bool {
+    let mut out = Counted::new(Vec::new(alloc));
+    write(&mut out, packet) == Ok(()) && out.into_inner().as_slice() == file
+}
+
+// The second file has a packet of 27 bytes, and a byte of padding in place of the last one.
+#[test]
+fn webp_written(rt: HostRuntime) {
+    assert!(rt; is_written(rt.alloc(), &HALF[20..], &HALF));
+    assert!(rt; is_written(rt.alloc(), &HALF[20..47], &with_byte(16, 0x1b)));
+}
+
+/// Returns whether a packet is rejected with this fault, and nothing is written.
+fn is_refused(alloc: Global, packet: &[u8], fault: WebPWriteFault) -> bool {
+    let mut out = Counted::new(Vec::new(alloc));
+    write(&mut out, packet) == Err(fault) && out.into_inner().is_empty()
+}
+
+#[test]
+fn webp_refused(rt: HostRuntime) {
+    assert!(rt;
+        is_refused(
+            rt.alloc(),
+            &with_byte(20, 0x51)[20..],
+            WebPWriteFault::NotKey
+        )
+    );
+    assert!(rt;
+        is_refused(
+            rt.alloc(),
+            &with_byte(20, 0x40)[20..],
+            WebPWriteFault::Hidden
+        )
+    );
+    assert!(rt; is_refused(rt.alloc(), &HALF[20..22], WebPWriteFault::NotKey));
+}
+
+/// Returns whether the file of the odd packet fails at write `k`, after its first `count` bytes are written.
+fn fails_after(alloc: Global, k: u64, count: usize) -> bool
+    requires { count ≤ 48 }
+{
+    let file = with_byte(16, 0x1b);
+    let mut out = Counted::new(FailAt::new(Vec::new(alloc), k));
+    write(&mut out, &HALF[20..47]) == Err(WebPWriteFault::Device)
+        && out.failures() == 1
+        && out.into_inner().into_inner().as_slice() == file.split_at(count).0
+}
+
+#[test]
+fn webp_device_fails(rt: HostRuntime) {
+    assert!(rt; fails_after(rt.alloc(), 0, 0));
+    assert!(rt; fails_after(rt.alloc(), 1, 20));
+    assert!(rt; fails_after(rt.alloc(), 2, 47));
+}
+
+fn is_named(alloc: Global, fault: WebPFault, name: &str) -> bool {
+    match format!(in alloc; "{fault}") {
+        Ok(text) => text.as_str() == name,
+        Err(_) => false,
+    }
+}
+
+const NAMES: [(WebPFault, &str); 7] = [
+    (WebPFault::Signature, "Signature"),
+    (WebPFault::Torn, "Torn"),
+    (WebPFault::Lossless, "Lossless"),
+    (WebPFault::Animated, "Animated"),
+    (WebPFault::NoPicture, "NoPicture"),
+    (WebPFault::NotKey, "NotKey"),
+    (WebPFault::Hidden, "Hidden"),
+];
+
+#[test]
+fn names_of_webp_faults(rt: HostRuntime) {
+    for (fault, name) in NAMES {
+        assert!(rt; is_named(rt.alloc(), fault, name));
+    }
+}

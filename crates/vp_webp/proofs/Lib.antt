@@ -1,0 +1,4 @@
+pub mod Images
+pub mod Written
+pub mod Faithful
+pub mod Determined

@@ -1,0 +1,6 @@
+pub mod Names
+pub mod Bytes
+pub mod Chunks
+pub mod WebP
+pub mod Text
+pub mod Laws

@@ -1,0 +1,14 @@
+//! Lossy WebP files: the key frame of a file is found, and the file of a key frame is written.
+#![tactic(auto)]
+
+mod bytes;
+mod chunk;
+mod fault;
+mod laws;
+mod reading;
+mod writing;
+
+pub use fault::{WebPFault, WebPWriteFault};
+pub use laws::{chunks_determine_the_image, packet_is_in_the_file, written_is_read};
+pub use reading::{Canvas, WebP, read};
+pub use writing::write;
