@@ -1,13 +1,16 @@
 -- A choice that is left because it costs too much could be completed.
-use Rattle.std.proofs.Common.{◌≡◌, ◌∙◌, ℕ, ℤ, zero, suc, ◌+◌, ◌-◌, ◌<◌, ◌≤◌, List, length, set, length-set, refl, subst, arith, inl, inr}
+use Rattle.std.proofs.Common.{◌≡◌, ◌∙◌, ℕ, ℤ, zero, suc, ◌+◌, ◌-◌, ◌<◌, ◌≤◌, List, [], length, replicate, set, length-set, refl, sym, subst, arith, inl, inr}
 use Rattle.std.proofs.lemmas.Bool.{cases_lt}
 use Rattle.vp_base.specs.declared.place.Place.{Place}
 use Rattle.vp_base.specs.Raster.{Raster}
 use Rattle.vp_base.specs.Near.{block_place}
 use Rattle.vp_tables.specs.declared.modes.SubMode.{SubMode}
+use Rattle.vp_tables.specs.declared.modes.SubMode.TheVariants.{Dc}
 use Rattle.vp_quant.specs.declared.factors.Factors.{Factors}
 use Rattle.vp_search.specs.FirstLeast.{IsFirstLeast}
 use Rattle.vp_search.specs.Sums.{sum_below}
+use Rattle.vp_search.proofs.SumLemmas.{sum_below-none}
+use Rattle.vp_choose.specs.declared.subblocks.Subblocks.{Subblocks}
 use Rattle.vp_choose.specs.Costs.{sub_cost, luma_mode_cost}
 use Rattle.vp_choose.specs.Levels.{part}
 use Rattle.vp_choose.specs.Subblocks.{IsBestMode, mode_at, sub_levels, after_subblocks}
@@ -121,6 +124,18 @@ module _ (f : ℕ → ℕ → ℕ) (factors : Factors) (place : Place) (p : Rast
       let over = all.over in
       record { subblocks = all.subblocks; chosen = all.chosen; over = omega arith }
 
+  -- no choice costs less than nothing
+  pub free_subblocks : (limit : ℕ) → limit ≡ 0 → AreSubblocksOver f factors place p limit
+  free_subblocks limit free =
+      let none : Subblocks = made (replicate 16 Dc) (replicate 16 []) in
+      left limit 0 0 (replicate 16 Dc) (replicate 16 []) (omega arith) (omega arith) (record {
+        modes_size = refl;
+        levels_size = refl;
+        ones = λ j below. absurd (omega arith);
+        has = λ j below. absurd (omega arith);
+        sum = sym (sum_below-none (cost_at f factors place p none));
+      })
+
   -- ---- the luma mode
 
   pub luma_over : (limit most : ℕ) → ((i : ℕ) → i < 4 → limit ≤ luma_mode_cost f p place (luma_at i)) → limit ≤ most + 128
@@ -137,3 +152,7 @@ module _ (f : ℕ → ℕ → ℕ) (factors : Factors) (place : Place) (p : Rast
         is = record { subblocks = s.chosen; number = best.number; first = best.is; mode = refl; cost = refl };
         over = all best.number best.is.within;
       }
+
+  -- .. nor does a luma mode
+  pub free_luma : (limit : ℕ) → limit ≡ 0 → IsLumaOver f factors place p limit
+  free_luma limit free = luma_over limit 0 (λ i below. omega arith) (omega arith) (free_subblocks 0 refl)

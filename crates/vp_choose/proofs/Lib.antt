@@ -11,4 +11,5 @@ pub mod Giving
 pub mod Found
 pub mod OneLuma
 pub mod OneMotion
+pub mod Unsearched
 pub mod OneChoice

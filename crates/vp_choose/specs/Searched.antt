@@ -8,12 +8,13 @@ use Rattle.vp_choose.specs.declared.motion.Moved.{Moved}
 use Rattle.vp_choose.specs.Frame.{Search}
 use Rattle.vp_choose.specs.Inter.{IsFound, IsMoved, IsInSearchRange}
 
--- the best vectors in the last frame, and in golden if that is searched
+-- the best vectors in the last frame, and in golden if that is searched and is another picture
 pub record AreFound (s : Search) (source : Raster) (place : Place) (last : Refined) (golden : Option Refined)
     : Type 0 where
   pub in_last : IsFound s source s.references.last.luma place last
   pub last_alone : s.golden ≡ false → golden ≡ None
-  pub golden_too : s.golden ≡ true → MatchOption golden ⊥ (IsFound s source s.references.golden.luma place)
+  pub golden_too : s.golden ≡ true → MatchOption golden (s.references.golden ≡ s.references.last)
+      (IsFound s source s.references.golden.luma place)
 
 -- the best motion, which is short
 pub record IsBestMotion (s : Search) (source : Raster) (place : Place) (m : Moved) : Type 0 where

@@ -11,10 +11,11 @@ use Rattle.vp_choose.specs.Frame.{Search}
 abbrev pub searcher_of : Search → Reference → Searcher
 searcher_of s reference = record { reference = (reference_picture s.references reference).luma; range = s.range }
 
--- the searchers of the reference frames that are searched
+-- the searchers of the reference frames that are searched; golden needs none where it is the last frame's picture
 pub record AreSearchers (s : Search) (searchers : Searchers) : Type 0 where
   pub last : searchers.last ≡ searcher_of s reference_is.Last
-  pub golden : s.golden ≡ true → searchers.golden ≡ Some (searcher_of s reference_is.Golden)
+  pub golden : s.golden ≡ true → MatchOption searchers.golden (s.references.golden ≡ s.references.last)
+      (λ searcher. searcher ≡ searcher_of s reference_is.Golden)
   pub last_alone : s.golden ≡ false → searchers.golden ≡ None
 
 -- .. if an inter frame has any; there are none in a key frame

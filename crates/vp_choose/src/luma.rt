@@ -92,6 +92,10 @@ pub(crate) fn choose_luma_below(
     ensures within { IfSome result (λ l. AreSmall l.subblocks.levels) }
     ensures all { 65280 < limit → IsSome result }
 {
+    // No choice costs less than 0.
+    if limit == 0 {
+        return None;
+    }
     let _known = picture.dim();
     let whole = whole_costs(block, picture.plane(0), place);
     let most = subblocks_limit(whole[first_least(&whole)], limit);

@@ -82,7 +82,7 @@ fn find(search: &Search, block: &[u8; 256], reference: Reference, place: Place) 
 }
 
 /// Adds the reference frame to a vector and its cost.
-fn found_in(reference: Reference, found: Refined) -> Moved
+pub(crate) fn found_in(reference: Reference, found: Refined) -> Moved
     ensures { result ≡ found_in reference found }
 {
     Moved {
@@ -109,6 +109,16 @@ pub(crate) fn better_of(last: Refined, golden: Option<Refined>) -> Moved
     found_in(Reference::Last, last)
 }
 
+/// Whether golden is searched for itself. Where it is the last frame's picture each vector costs the same in both, and
+/// the last frame is chosen.
+pub(crate) fn searches_golden(search: &Search) -> bool
+    ensures asked { result ≡ true → search.now.golden ≡ true }
+    ensures one { result ≡ false → search.now.golden ≡ true
+        → search.now.references.now.golden ≡ search.now.references.now.last }
+{
+    search.golden && !search.references.golden_is_last()
+}
+
 /// Returns the reference frame and the vector with the least cost.
 pub(crate) fn choose_reference(search: &Search, block: &[u8; 256], place: Place) -> Moved
     requires columns { 16 * place.column ≤ 16384 }
@@ -120,7 +130,11 @@ pub(crate) fn choose_reference(search: &Search, block: &[u8; 256], place: Place)
     ensures inter { is_intra result.reference ≡ false }
 {
     let last = find(search, block, Reference::Last, place);
-    let golden = if search.golden {
+    // Golden is chosen only if it costs less.
+    if last.cost == 0 {
+        return found_in(Reference::Last, last);
+    }
+    let golden = if searches_golden(search) {
         Some(find(search, block, Reference::Golden, place))
     } else {
         None

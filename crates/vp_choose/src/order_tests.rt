@@ -311,3 +311,23 @@ fn references_are_weighed_refined(rt: HostRuntime) -> Result<(), Fail> {
     assert!(rt; reference_of(&better_golden) == Reference::Golden);
     Ok(())
 }
+
+/// Both references are the ramp that begins with 2, which costs nothing in either.
+#[test]
+fn last_is_taken_before_golden(rt: HostRuntime) -> Result<(), Fail> {
+    let alloc = rt.alloc();
+    let equal = references(alloc, ramp(alloc, 2)?, ramp(alloc, 2)?)?;
+    assert!(rt; reference_of(&equal) == Reference::Last);
+    Ok(())
+}
+
+/// A key frame is both references; the frame after it is last alone.
+#[test]
+fn golden_is_last_after_a_key_frame(rt: HostRuntime) -> Result<(), Fail> {
+    let alloc = rt.alloc();
+    let mut frames = Refs::of_key(Rc::new(alloc, square(alloc, 16)?)?)?;
+    assert!(rt; frames.golden_is_last());
+    frames.update(&to_last(), Rc::new(alloc, square(alloc, 16)?)?)?;
+    assert!(rt; !frames.golden_is_last());
+    Ok(())
+}

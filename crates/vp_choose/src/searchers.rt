@@ -11,7 +11,7 @@ ghost use Rattle.vp_choose.specs.Searched.{IsBestMotion, IsSearched};
 ghost use Rattle.vp_choose.specs.Searchers.{AreSearchers, AreSearchersOf, searcher_of};
 
 use crate::frame::{FrameSearch, Search};
-use crate::motion::{Moved, better_of, find_motion, refined};
+use crate::motion::{Moved, better_of, find_motion, found_in, refined, searches_golden};
 use std::alloc::{AllocError, Global};
 use vp_base::Place;
 use vp_head::Reference;
@@ -44,7 +44,7 @@ fn make_searchers<'a>(alloc: Global, search: &Search<'a>) -> Result<Searchers<'a
     ensures { IfOk result (AreSearchers (search_of search.now)) }
 {
     let last = searcher_of(alloc, search, Reference::Last)?;
-    if !search.golden {
+    if !searches_golden(search) {
         return Ok(Searchers { last, golden: None });
     }
     let golden = searcher_of(alloc, search, Reference::Golden)?;
@@ -105,6 +105,10 @@ fn choose_reference_by(
         → IsBestMotion (search_of search.now) source place result }
 {
     let last = find_by(&mut searchers.last, search, block, Reference::Last, place);
+    // Golden is chosen only if it costs less.
+    if last.cost == 0 {
+        return found_in(Reference::Last, last);
+    }
     let golden = match &mut searchers.golden {
         Some(golden) => Some(find_by(golden, search, block, Reference::Golden, place)),
         None => None,

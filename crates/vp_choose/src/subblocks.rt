@@ -209,6 +209,10 @@ pub(crate) fn choose_subblocks(
     ensures bound { IfSome result (λ s. s.cost ≤ 65280) }
     ensures all { 65280 < limit → IsSome result }
 {
+    // No choice costs less than 0.
+    if limit == 0 {
+        return None;
+    }
     let _known = [picture.plane(0).width(), picture.plane(0).height()];
     let kept = macroblock(picture.plane(0), place);
     let chosen = choose_all(source, factors, picture, place, limit);

@@ -1,13 +1,14 @@
 //! The reference frames: last, golden and altref.
 
-ghost use Rattle.std.specs.Prelude.{◌≡◌, IfOk, IfSome, OnOk, OnErr, if◌then◌else◌};
+ghost use Rattle.std.specs.Prelude.{◌≡◌, ◌||◌, true, IfOk, IfSome, OnOk, OnErr, if◌then◌else◌};
+ghost use Rattle.vp_base.specs.Image.{Image};
 ghost use Rattle.vp_refs.specs.References.{IsOneOf, all_of, copied_by, reference_picture, updated};
 
 use std::alloc::AllocError;
 use std::marker::Model;
 use std::rc::Rc;
 use vp_base::Picture;
-use vp_head::{Header, Reference, ReferenceCopy};
+use vp_head::{Header, Reference, ReferenceCopy, ReferenceUpdates};
 
 /// The last, golden and altref frame (RFC 6386, chapters 5, 9.7 and 9.8), and the newest picture, which need not be
 /// one of them. Pictures are shared, never copied.
@@ -18,9 +19,12 @@ pub struct Refs {
     alt: Rc<Picture>,
     /// The picture that was decoded last, a reference or not; it gives the size of inter frames.
     newest: Rc<Picture>,
+    /// Whether golden is known to be the picture of the last frame.
+    golden_is_last: bool,
 }
 
 impl Model for Refs {
+    ghost use Rattle.std.specs.Prelude.{◌≡◌, true};
     ghost use Rattle.vp_refs.specs.References.{References};
 
     ghost Value = { References };
@@ -31,6 +35,8 @@ impl Model for Refs {
       alt = r.alt.value;
       newest = r.newest.value;
     } };
+
+    ghost invariant = { λ r. r.golden_is_last ≡ true → r.golden.value ≡ r.last.value };
 }
 
 impl Refs {
@@ -43,6 +49,7 @@ impl Refs {
             golden: picture.clone()?,
             alt: picture.clone()?,
             newest: picture,
+            golden_is_last: true,
         })
     }
 
@@ -55,6 +62,14 @@ impl Refs {
             Reference::Alt => &self.alt,
             _ => &self.last,
         }
+    }
+
+    /// Whether golden is known to be the last frame's picture, so that what is found in one is found in the other:
+    /// after a frame that refreshes both, and until one of them changes alone.
+    pub fn golden_is_last(&self) -> bool
+        ensures { result ≡ true → self.now.golden ≡ self.now.last }
+    {
+        self.golden_is_last
     }
 
     /// The picture of the last `update`, even if no reference frame uses it.
@@ -73,6 +88,7 @@ impl Refs {
             golden: self.golden.clone()?,
             alt: self.alt.clone()?,
             newest: self.newest.clone()?,
+            golden_is_last: self.golden_is_last,
         })
     }
 
@@ -100,11 +116,29 @@ impl Refs {
         let alt = refreshed(header.key || updates.refresh_alt, &newest, &alt)?;
         let golden = refreshed(header.key || updates.refresh_golden, &newest, &golden)?;
         let last = refreshed(header.key || updates.refresh_last, &newest, &self.last)?;
+        self.golden_is_last = makes_one(header.key, updates, self.golden_is_last);
         self.last = last;
         self.golden = golden;
         self.alt = alt;
         self.newest = newest;
         Ok(())
+    }
+}
+
+/// Whether golden is the last frame's picture after a frame, if it was one before as `are_one` says.
+fn makes_one(key: bool, updates: &ReferenceUpdates, are_one: bool) -> bool
+    ensures { (p last golden other : Image) → (are_one ≡ true → golden ≡ last) → result ≡ true
+        → (if key || updates.now.refresh_golden then p else copied_by updates.now.copy_to_golden last other golden)
+        ≡ (if key || updates.now.refresh_last then p else last) }
+{
+    if key || updates.refresh_last {
+        return key || updates.refresh_golden;
+    }
+    match updates.copy_to_golden {
+        _ if updates.refresh_golden => false,
+        ReferenceCopy::Last => true,
+        ReferenceCopy::Other => false,
+        ReferenceCopy::Nothing | ReferenceCopy::Unused => are_one,
     }
 }
 

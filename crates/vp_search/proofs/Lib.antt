@@ -9,3 +9,4 @@ pub mod SumLanes
 pub mod CutLemmas
 pub mod SquareLemmas
 pub mod CoarseLemmas
+pub mod Existence

@@ -135,3 +135,11 @@ pub refined_is_one : (cost : QuarterVector → ℕ) (centre : WholeVector) (v w 
 refined_is_one cost centre v w p q =
     let same : p.halfway ≡ q.halfway = best_is_one cost (quarters centre) (pos 2) p.halfway q.halfway p.first q.first in
     best_is_one cost q.halfway (pos 1) v w (subst (λ (u : QuarterVector). IsBestOf cost u (pos 1) v) same p.second) q.second
+
+-- a centre that costs nothing is the best of its neighbours
+pub unmoved : (cost : QuarterVector → ℕ) (centre : QuarterVector) (d : ℤ) → cost centre ≡ 0 → IsBestOf cost centre d centre
+unmoved cost centre d free = record {
+  number = 0;
+  first = record { within = omega arith; least = λ k h. omega arith; first = λ k h. absurd (omega arith) };
+  is = refl;
+}

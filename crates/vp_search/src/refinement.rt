@@ -75,6 +75,10 @@ pub fn refine_found(block: &[u8; 256], reference: &Plane, place: Place, found: F
         vector: quarters(found.vector),
         cost: found.cost,
     };
+    // Nothing costs less than 0, and of equal costs the middle one is chosen.
+    if middle.cost == 0 {
+        return middle;
+    }
     let halfway = best_of(block, reference, place, middle, 2);
     best_of(block, reference, place, halfway, 1)
 }

@@ -3,8 +3,13 @@ use Rattle.std.proofs.lemmas.Bool.{cases_lt}
 use Rattle.vp_base.specs.Raster.{Raster}
 use Rattle.vp_search.specs.FirstLeast.{IsFirstLeast}
 use Rattle.vp_choose.specs.Below.{IsLumaOver}
+use Rattle.vp_choose.proofs.Complete.{free_luma}
 use Rattle.vp_choose.proofs.LumaCosts.{AreWholeCosts, luma_is, none_below}
 use Rattle.vp_choose.proofs.luma.choose_luma_below.Goals as goal
+
+pub returns-then-limit-eq0-clause-luma : goal.returns-then-limit-eq0-clause-luma
+returns-then-limit-eq0-clause-luma c f e =
+    free_luma f c.args.factors.now c.args.place c.args.picture.now.luma c.args.limit c.if-limit-eq0.true
 
 pub returns-in_err-subblocks-clause-luma : goal.returns-in_err-subblocks-clause-luma
 returns-in_err-subblocks-clause-luma c f e =

@@ -1,10 +1,22 @@
-use Rattle.std.proofs.Common.{Option, sym, subst}
+use Rattle.std.proofs.Common.{◌≡◌, Option, refl, sym, subst}
 use Rattle.std.specs.Prelude.{MatchOption}
 use Rattle.vp_search.specs.declared.vector.Refined.{Refined}
 use Rattle.vp_choose.specs.Frame.{Search, search_of}
-use Rattle.vp_choose.specs.Inter.{IsFound}
+use Rattle.vp_choose.specs.Inter.{IsFound, IsMoved}
+use Rattle.vp_choose.specs.Searchers.{searcher_of}
+use Rattle.vp_search.specs.Searcher.{Searcher}
+use Rattle.vp_head.specs.declared.fields.Reference.TheVariants as reference_is
+use Rattle.vp_choose.proofs.Unsearched.{free_motion}
 use Rattle.vp_choose.proofs.searchers.choose_reference_by.Goals as goal
 use Rattle.vp_choose.proofs.searchers.choose_reference_by.Goals.{in-Some, in-None}
+
+pub returns-then-last-eq0-clause-best : goal.returns-then-last-eq0-clause-best
+returns-then-last-eq0-clause-best c source cut = record {
+  is = subst (IsMoved (search_of c.args.search.now) source c.args.place) (sym c.found_in.ensures)
+      (free_motion (search_of c.args.search.now) source c.args.place c.find_by-last.result (c.find_by-last.ensures.found source cut) c.if-last-eq0.true);
+  short = rw c.found_in.ensures c.find_by-last.ensures.short;
+  inter = rw c.found_in.ensures refl;
+}
 
 pub returns-clause-best : goal.returns-clause-best
 returns-clause-best c source cut =
@@ -18,8 +30,9 @@ returns-clause-best c source cut =
           | in-None w ↦ w.golden-is
         ];
         golden_too = λ on. elim c.match-searchers.branch [
-          | in-Some w ↦ subst (λ (o : Option Refined). MatchOption o ⊥ (IsFound s source s.references.golden.luma c.args.place)) (sym w.golden-is) (w.find_by.ensures.found source cut)
-          | in-None w ↦ (let e = kept.golden on in absurd (let wrong : ⊥ = cc in wrong))
+          | in-Some w ↦ subst (λ (o : Option Refined). MatchOption o (s.references.golden ≡ s.references.last) (IsFound s source s.references.golden.luma c.args.place)) (sym w.golden-is) (w.find_by.ensures.found source cut)
+          | in-None w ↦ subst (λ (o : Option Refined). MatchOption o (s.references.golden ≡ s.references.last) (IsFound s source s.references.golden.luma c.args.place)) (sym w.golden-is)
+              (subst (λ (o : Option Searcher). MatchOption o (s.references.golden ≡ s.references.last) (λ x. x ≡ searcher_of s reference_is.Golden)) w.in-None.is (kept.golden on))
         ];
       });
       short = c.better_of.ensures.short;

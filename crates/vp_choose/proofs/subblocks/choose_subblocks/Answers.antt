@@ -5,8 +5,13 @@ use Rattle.vp_base.specs.Image.{Image, with_plane}
 use Rattle.vp_choose.specs.Costs.{block_pixels}
 use Rattle.vp_choose.specs.Subblocks.{after_subblocks}
 use Rattle.vp_choose.specs.Below.{IsPartlyRebuilt}
+use Rattle.vp_choose.proofs.Complete.{free_subblocks}
 use Rattle.vp_choose.proofs.Restored.{after_outside, restored}
 use Rattle.vp_choose.proofs.subblocks.choose_subblocks.Goals as goal
+
+pub returns-then-limit-eq0-clause-chosen : goal.returns-then-limit-eq0-clause-chosen
+returns-then-limit-eq0-clause-chosen c f e =
+    free_subblocks f c.args.factors.now c.args.place c.args.picture.now.luma c.args.limit c.if-limit-eq0.true
 
 pub returns-clause-kept : goal.returns-clause-kept
 returns-clause-kept c =

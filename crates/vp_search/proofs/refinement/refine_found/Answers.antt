@@ -1,9 +1,11 @@
-use Rattle.std.proofs.Common.{◌≡◌, pos, ◌*ℤ◌, ap, subst, arith}
+use Rattle.std.proofs.Common.{◌≡◌, ◌∙◌, ℕ, pos, ◌*ℤ◌, sym, ap, subst, arith}
 use Rattle.std.proofs.lemmas.Int.{ints}
 use Rattle.vp_search.specs.declared.vector.QuarterVector.{QuarterVector}
 use Rattle.vp_search.specs.Differences.{block16}
 use Rattle.vp_search.specs.Blocks.{quarter_cost}
-use Rattle.vp_search.specs.Refined.{IsBestOf}
+use Rattle.vp_search.specs.Vectors.{quarters}
+use Rattle.vp_search.specs.Refined.{IsBestOf, IsRefined}
+use Rattle.vp_search.proofs.RefinedLemmas.{unmoved}
 use Rattle.vp_search.proofs.refinement.refine_found.Goals as goal
 
 pub best_of-requires-clause-row : goal.best_of-requires-clause-row
@@ -29,3 +31,14 @@ returns-clause-refined c =
           c.quarters.ensures c.best_of-halfway.ensures.best;
       second = c.best_of.ensures.best;
     }
+
+pub returns-then-middle-eq0-clause-refined : goal.returns-then-middle-eq0-clause-refined
+returns-then-middle-eq0-clause-refined c =
+    let cost : QuarterVector → ℕ = quarter_cost (block16 c.args.block.now) c.args.reference.now c.args.place in
+    let v : QuarterVector = quarters c.args.found.vector in
+    let free : cost v ≡ 0 = sym c.requires.cost ∙ c.if-middle-eq0.true in
+    subst (λ (w : QuarterVector). IsRefined cost c.args.found.vector w) (sym c.quarters.ensures) (record {
+      halfway = v;
+      first = unmoved cost v (pos 2) free;
+      second = unmoved cost v (pos 1) free;
+    })
