@@ -85,6 +85,19 @@ size_t vp8_status_name(vp8_status status, uint8_t *out, size_t out_len);
 /* A closed handle. */
 #define VP8_INIT { 0, 0 }
 
+/* ---- what a packet's first bytes say */
+
+typedef struct vp8_packet_info {
+  uint32_t key;    /* 1: a key packet, whose frame needs no packet before it */
+  uint32_t shown;  /* 1: its picture is shown */
+  uint32_t width;  /* the size in pixels of a key packet's picture; 0 for other packets */
+  uint32_t height;
+} vp8_packet_info;
+
+/* Reads the first bytes of a packet: 10 of a key packet, 3 of others. Bytes after them are not read.
+ * VP8_TRUNCATED, VP8_VERSION, VP8_START_CODE, VP8_SIZE: nothing is written. */
+vp8_status vp8_peek(const uint8_t *packet, size_t packet_len, vp8_packet_info *info);
+
 /* ---- decoding packets, one after another */
 
 typedef struct vp8_decoder {
@@ -103,6 +116,30 @@ vp8_status vp8_decoder_new(vp8_decoder *decoder, uint32_t max_pixels);
  * VP8_NO_REFERENCE or a fault that comes before it, until a key packet is decoded. VP8_MEMORY: the decoder is as before,
  * and the packet may be tried again. VP8_CLOSED. */
 vp8_status vp8_decoder_decode(vp8_decoder *decoder, const uint8_t *packet, size_t packet_len);
+
+/* Decodes a packet as vp8_decoder_decode does, but goes on after damage: a packet that can't be decoded shows no
+ * picture and changes nothing else. The packets after it are decoded as if it had not come, from the pictures before
+ * it. The last shown picture is kept for a packet of no bytes. Both calls may be made for one decoder. */
+vp8_status vp8_decoder_decode_keeping(vp8_decoder *decoder, const uint8_t *packet, size_t packet_len);
+
+typedef struct vp8_frame {
+  uint32_t key;              /* 1: a key frame */
+  uint32_t version;          /* 0 to 3 */
+  uint32_t shown;            /* 1: its picture is shown */
+  uint32_t width;            /* the size of its picture in pixels */
+  uint32_t height;
+  uint32_t horizontal_scale; /* the upscaling codes of a key frame, 0 to 3: they don't affect decoding; 0 for others */
+  uint32_t vertical_scale;
+  uint32_t quantiser;        /* the quantiser index, 0 to 127 */
+  uint32_t refreshes_last;   /* 1: its picture becomes the last frame, golden, altref */
+  uint32_t refreshes_golden;
+  uint32_t refreshes_altref;
+} vp8_frame;
+
+/* Reads facts about the frame in a packet that this decoder decodes next. The decoder is unchanged.
+ * VP8_TRUNCATED to VP8_PARTITION_TABLE, VP8_PARTITION + n, as vp8_decoder_decode's for this packet, and VP8_TRUNCATED
+ * for a packet of no bytes; VP8_CLOSED: nothing is written. */
+vp8_status vp8_decoder_frame(vp8_decoder *decoder, const uint8_t *packet, size_t packet_len, vp8_frame *frame);
 
 /* The size in pixels of the picture that the last packet showed. VP8_NO_PICTURE, VP8_CLOSED: nothing is written. */
 vp8_status vp8_decoder_size(vp8_decoder *decoder, uint32_t *width, uint32_t *height);

@@ -64,6 +64,28 @@ class Decoders(unittest.TestCase):
         with vp8.Decoder(16) as decoder:
             self.assertEqual(status_of(decoder.decode, KEY), (vp8.TOO_LARGE, 'TooLarge'))
 
+    def test_decoding_goes_on_after_damage(self):
+        inter = bytes([0x11, 0, 0])
+        with vp8.Decoder(17) as decoder:
+            decoder.decode_keeping(KEY)
+            self.assertEqual(status_of(decoder.decode_keeping, KEY[:9]), (vp8.TRUNCATED, 'Truncated'))
+            self.assertEqual(decoder.decode_keeping(b'').data, bytes([128]) * 35)
+            self.assertEqual(decoder.decode_keeping(inter).data, bytes([128]) * 35)
+            self.assertEqual(status_of(decoder.decode, KEY[:9])[0], vp8.TRUNCATED)
+            self.assertEqual(status_of(decoder.decode_keeping, inter)[0], vp8.NO_REFERENCE)
+
+    def test_packets_are_peeked(self):
+        self.assertEqual(vp8.peek(KEY), vp8.PacketInfo(True, True, 17, 1))
+        self.assertEqual(vp8.peek(bytearray(HIDDEN)), vp8.PacketInfo(False, False, 0, 0))
+        self.assertEqual(status_of(vp8.peek, KEY[:9]), (vp8.TRUNCATED, 'Truncated'))
+
+    def test_facts_of_frames(self):
+        with vp8.Decoder(17) as decoder:
+            self.assertEqual(status_of(decoder.frame, HIDDEN)[0], vp8.NO_REFERENCE)
+            self.assertEqual(decoder.frame(KEY), vp8.Frame(True, 0, True, 17, 1, 0, 0, 0, True, True, True))
+            decoder.decode(KEY)
+            self.assertEqual(decoder.frame(HIDDEN), vp8.Frame(False, 0, False, 17, 1, 0, 0, 0, False, False, False))
+
     def test_limits(self):
         for limit in (0, 268402690, -1, 1 << 32):
             self.assertEqual(status_of(vp8.Decoder, limit)[0], vp8.LIMITS)

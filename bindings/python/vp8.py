@@ -25,7 +25,8 @@ import ctypes
 import os
 import threading
 
-__all__ = ['Decoder', 'Error', 'Picture', 'Stream', 'StreamInfo', 'packets', 'DEFAULT_MAX_PIXELS',
+__all__ = ['Decoder', 'Error', 'Frame', 'PacketInfo', 'Picture', 'Stream', 'StreamInfo', 'packets', 'peek',
+           'DEFAULT_MAX_PIXELS',
            'OK', 'HIDDEN', 'TRUNCATED', 'VERSION', 'START_CODE', 'SIZE', 'TOO_LARGE', 'NO_REFERENCE',
            'FIRST_PARTITION', 'PARTITION_TABLE', 'PARTITION', 'SIGNATURE', 'CODEC', 'TOO_MANY', 'PACKET_TOO_LARGE',
            'TORN', 'ENDED', 'CLOSED', 'MEMORY', 'LIMITS', 'NO_PICTURE', 'NO_PACKET']
@@ -48,14 +49,27 @@ class _StreamInfo(ctypes.Structure):
     _fields_ = [(name, ctypes.c_uint32) for name in ('width', 'height', 'rate', 'scale', 'packets', 'fault')]
 
 
+class _PacketInfo(ctypes.Structure):
+    _fields_ = [(name, ctypes.c_uint32) for name in ('key', 'shown', 'width', 'height')]
+
+
+class _Frame(ctypes.Structure):
+    _fields_ = [(name, ctypes.c_uint32) for name in (
+        'key', 'version', 'shown', 'width', 'height', 'horizontal_scale', 'vertical_scale', 'quantiser',
+        'refreshes_last', 'refreshes_golden', 'refreshes_altref')]
+
+
 def _load():
     library = ctypes.CDLL(os.environ.get('VP8_LIBRARY') or 'libvp8.so.0')
     handle, size, number = ctypes.POINTER(_Handle), ctypes.c_size_t, ctypes.c_uint32
     memory, numbers = ctypes.c_void_p, ctypes.POINTER(ctypes.c_uint32)
     declarations = {
         'vp8_status_name': (size, [number, memory, size]),
+        'vp8_peek': (number, [memory, size, ctypes.POINTER(_PacketInfo)]),
         'vp8_decoder_new': (number, [handle, number]),
         'vp8_decoder_decode': (number, [handle, memory, size]),
+        'vp8_decoder_decode_keeping': (number, [handle, memory, size]),
+        'vp8_decoder_frame': (number, [handle, memory, size, ctypes.POINTER(_Frame)]),
         'vp8_decoder_size': (number, [handle, numbers, numbers]),
         'vp8_decoder_copy': (number, [handle] + [memory, size, size] * 3),
         'vp8_decoder_free': (None, [handle]),
@@ -97,6 +111,28 @@ def _pointer(data):
     """The bytes of an object that has the buffer protocol, and their length. They live as long as the first result."""
     data = data if isinstance(data, bytes) else memoryview(data).tobytes()
     return ctypes.c_char_p(data), len(data)
+
+
+PacketInfo = collections.namedtuple('PacketInfo', 'key shown width height')
+PacketInfo.__doc__ = """What the first bytes of a packet say. Width and height are those of a key packet, else 0."""
+
+Frame = collections.namedtuple('Frame', [name for name, _ in _Frame._fields_])
+Frame.__doc__ = """Facts about the frame in a packet. The scales are the upscaling codes of a key frame, else 0."""
+
+
+def _tuple_of(kind, structure, truths):
+    """A named tuple of a structure's fields; those in `truths` are bools."""
+    values = {name: getattr(structure, name) for name in kind._fields}
+    return kind(**{name: bool(value) if name in truths else value for name, value in values.items()})
+
+
+def peek(packet):
+    """The PacketInfo of a packet (bytes or a buffer), from its first bytes: 10 of a key packet, 3 of others.
+
+    Raises Error: TRUNCATED, VERSION, START_CODE, SIZE."""
+    info = _PacketInfo()
+    _check(_library.vp8_peek(*_pointer(packet), info))
+    return _tuple_of(PacketInfo, info, ('key', 'shown'))
 
 
 class Picture:
@@ -175,9 +211,28 @@ class Decoder(_Closing):
 
         Raises Error if the packet can't be decoded. Packets that are not key packets then fail with NO_REFERENCE until
         the next key packet. A packet of no bytes shows the last picture again."""
+        return self._decode(_library.vp8_decoder_decode, packet)
+
+    def decode_keeping(self, packet):
+        """Decodes a packet as decode does, but goes on after damage.
+
+        A packet that can't be decoded raises Error and changes nothing: the packets after it are decoded as if it had
+        not come."""
+        return self._decode(_library.vp8_decoder_decode_keeping, packet)
+
+    def frame(self, packet):
+        """The Frame of a packet that this decoder decodes next. Raises Error as decode does.
+
+        A packet of no bytes has no frame: TRUNCATED."""
+        frame, (pointer, length) = _Frame(), _pointer(packet)
+        with self._lock:
+            _check(_library.vp8_decoder_frame(self._handle, pointer, length, frame))
+        return _tuple_of(Frame, frame, ('key', 'shown', 'refreshes_last', 'refreshes_golden', 'refreshes_altref'))
+
+    def _decode(self, call, packet):
         pointer, length = _pointer(packet)
         with self._lock:
-            status = _library.vp8_decoder_decode(self._handle, pointer, length)
+            status = call(self._handle, pointer, length)
             if status == HIDDEN:
                 return None
             _check(status)

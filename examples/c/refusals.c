@@ -40,6 +40,11 @@ static void decoders(void)
   expect("pixels", y[63] * 1000000 + y[64] * 1000 + u[63], 128129128);
   expect("hidden", vp8_decoder_decode(&decoder, HIDDEN, sizeof HIDDEN), VP8_HIDDEN);
   expect("nothing shown", vp8_decoder_size(&decoder, &width, &height), VP8_NO_PICTURE);
+  expect("damage", vp8_decoder_decode_keeping(&decoder, KEY, 9), VP8_TRUNCATED);
+  expect("nothing shown after damage", vp8_decoder_size(&decoder, &width, &height), VP8_NO_PICTURE);
+  expect("inter after damage", vp8_decoder_decode_keeping(&decoder, INTER, sizeof INTER), VP8_OK);
+  expect("fault", vp8_decoder_decode(&decoder, KEY, 9), VP8_TRUNCATED);
+  expect("inter after a fault", vp8_decoder_decode_keeping(&decoder, INTER, sizeof INTER), VP8_NO_REFERENCE);
   vp8_decoder_free(&decoder);
   vp8_decoder_free(&decoder);
   expect("after free", vp8_decoder_decode(&decoder, KEY, sizeof KEY), VP8_CLOSED);

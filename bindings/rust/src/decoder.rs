@@ -5,7 +5,7 @@
 
 use crate::ffi::{self, Handle};
 use crate::status::check;
-use crate::{Picture, Status};
+use crate::{Frame, Picture, Status};
 
 /// Decodes packets, one after another.
 pub struct Decoder(Handle);
@@ -34,11 +34,26 @@ impl Decoder {
     /// decoder is as before.
     pub fn decode(&mut self, packet: &[u8]) -> Result<bool, Status> {
         // SAFETY: the pointer and the length are of one slice; a slice's pointer is never null.
-        match unsafe { ffi::vp8_decoder_decode(&mut self.0, packet.as_ptr(), packet.len()) } {
-            Status::OK => Ok(true),
-            Status::HIDDEN => Ok(false),
-            status => Err(Status(status)),
-        }
+        shows(unsafe { ffi::vp8_decoder_decode(&mut self.0, packet.as_ptr(), packet.len()) })
+    }
+
+    /// Decodes a packet as `decode` does, but goes on after damage: a packet that can't be decoded
+    /// shows no picture and changes nothing else. The packets after it are decoded as if it had not
+    /// come.
+    pub fn decode_keeping(&mut self, packet: &[u8]) -> Result<bool, Status> {
+        let (bytes, len) = (packet.as_ptr(), packet.len());
+        // SAFETY: the pointer and the length are of one slice; a slice's pointer is never null.
+        shows(unsafe { ffi::vp8_decoder_decode_keeping(&mut self.0, bytes, len) })
+    }
+
+    /// Facts about the frame in a packet that this decoder decodes next. The faults of a packet, as
+    /// `decode` gives them; `TRUNCATED` for a packet of no bytes.
+    pub fn frame(&mut self, packet: &[u8]) -> Result<Frame, Status> {
+        let mut frame = ffi::Frame::default();
+        let (bytes, len) = (packet.as_ptr(), packet.len());
+        // SAFETY: the pointer and the length are of one slice, and `frame` is a variable.
+        check(unsafe { ffi::vp8_decoder_frame(&mut self.0, bytes, len, &mut frame) })?;
+        Ok(frame.into())
     }
 
     /// Copies the picture that the last packet showed into `picture`, whose memory is reused.
@@ -87,6 +102,15 @@ impl Decoder {
             self.picture(&mut picture)?;
             Ok(Some(picture))
         })
+    }
+}
+
+/// Whether a packet with this status shows a picture.
+fn shows(status: u32) -> Result<bool, Status> {
+    match status {
+        Status::OK => Ok(true),
+        Status::HIDDEN => Ok(false),
+        status => Err(Status(status)),
     }
 }
 

@@ -30,11 +30,51 @@ pub struct StreamInfo {
     pub fault: u32,
 }
 
+/// `vp8_packet_info`.
+#[repr(C)]
+#[derive(Default)]
+pub struct PacketInfo {
+    pub key: u32,
+    pub shown: u32,
+    pub width: u32,
+    pub height: u32,
+}
+
+/// `vp8_frame`.
+#[repr(C)]
+#[derive(Default)]
+pub struct Frame {
+    pub key: u32,
+    pub version: u32,
+    pub shown: u32,
+    pub width: u32,
+    pub height: u32,
+    pub horizontal_scale: u32,
+    pub vertical_scale: u32,
+    pub quantiser: u32,
+    pub refreshes_last: u32,
+    pub refreshes_golden: u32,
+    pub refreshes_altref: u32,
+}
+
 extern "C" {
     pub fn vp8_status_name(status: u32, out: *mut u8, out_len: usize) -> usize;
 
+    pub fn vp8_peek(packet: *const u8, packet_len: usize, info: *mut PacketInfo) -> u32;
+
     pub fn vp8_decoder_new(decoder: *mut Handle, max_pixels: u32) -> u32;
     pub fn vp8_decoder_decode(decoder: *mut Handle, packet: *const u8, packet_len: usize) -> u32;
+    pub fn vp8_decoder_decode_keeping(
+        decoder: *mut Handle,
+        packet: *const u8,
+        packet_len: usize,
+    ) -> u32;
+    pub fn vp8_decoder_frame(
+        decoder: *mut Handle,
+        packet: *const u8,
+        packet_len: usize,
+        frame: *mut Frame,
+    ) -> u32;
     pub fn vp8_decoder_size(decoder: *mut Handle, width: *mut u32, height: *mut u32) -> u32;
     pub fn vp8_decoder_copy(
         decoder: *mut Handle,

@@ -42,11 +42,13 @@
 
 mod decoder;
 mod ffi;
+mod packet;
 mod picture;
 mod status;
 mod stream;
 
 pub use decoder::Decoder;
+pub use packet::{peek, Frame, PacketInfo};
 pub use picture::Picture;
 pub use status::Status;
 pub use stream::{packets, Packets, Stream, StreamInfo};

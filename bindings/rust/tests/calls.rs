@@ -1,6 +1,6 @@
 //! Tests of each call. A key packet of 17 by 1 pixels with an empty first partition shows 128 in each pixel.
 
-use vp8::{packets, Decoder, Picture, Status, Stream, StreamInfo};
+use vp8::{packets, peek, Decoder, Frame, PacketInfo, Picture, Status, Stream, StreamInfo};
 
 const KEY: [u8; 10] = [0x10, 0, 0, 0x9d, 0x01, 0x2a, 17, 0, 1, 0];
 const HIDDEN: [u8; 3] = [0x01, 0, 0];
@@ -69,6 +69,73 @@ fn faults_are_named() -> Result<(), Status> {
     assert_eq!(Status::partition(2).to_string(), "Partition 2");
     assert_eq!(Status::partition(u32::MAX).to_string(), "");
     assert_eq!(format!("{:?}", Status::TORN), "Status(36, Torn)");
+    Ok(())
+}
+
+#[test]
+fn decoding_goes_on_after_damage() -> Result<(), Status> {
+    const INTER: [u8; 3] = [0x11, 0, 0];
+    let mut decoder = Decoder::new(17)?;
+    let mut picture = Picture::new();
+    assert!(decoder.decode_keeping(&KEY)?);
+    assert_eq!(decoder.decode_keeping(&KEY[..9]), Err(Status::TRUNCATED));
+    assert_eq!(decoder.picture(&mut picture), Err(Status::NO_PICTURE));
+    assert!(decoder.decode_keeping(&[])?);
+    assert!(decoder.decode_keeping(&INTER)?);
+    decoder.picture(&mut picture)?;
+    assert_eq!(picture.bytes(), [128; 35]);
+    assert_eq!(decoder.decode(&KEY[..9]), Err(Status::TRUNCATED));
+    assert_eq!(decoder.decode_keeping(&INTER), Err(Status::NO_REFERENCE));
+    Ok(())
+}
+
+#[test]
+fn packets_are_peeked() -> Result<(), Status> {
+    let key = PacketInfo {
+        key: true,
+        shown: true,
+        width: 17,
+        height: 1,
+    };
+    let hidden = PacketInfo {
+        key: false,
+        shown: false,
+        width: 0,
+        height: 0,
+    };
+    assert_eq!((peek(&KEY)?, peek(&HIDDEN)?), (key, hidden));
+    assert_eq!(peek(&KEY[..9]), Err(Status::TRUNCATED));
+    Ok(())
+}
+
+#[test]
+fn facts_of_a_frame() -> Result<(), Status> {
+    let mut decoder = Decoder::new(17)?;
+    let key = Frame {
+        key: true,
+        version: 0,
+        shown: true,
+        width: 17,
+        height: 1,
+        horizontal_scale: 0,
+        vertical_scale: 0,
+        quantiser: 0,
+        refreshes_last: true,
+        refreshes_golden: true,
+        refreshes_altref: true,
+    };
+    assert_eq!(decoder.frame(&HIDDEN), Err(Status::NO_REFERENCE));
+    assert_eq!(decoder.frame(&KEY)?, key);
+    assert!(decoder.decode(&KEY)?);
+    let hidden = Frame {
+        key: false,
+        shown: false,
+        refreshes_last: false,
+        refreshes_golden: false,
+        refreshes_altref: false,
+        ..key
+    };
+    assert_eq!(decoder.frame(&HIDDEN)?, hidden);
     Ok(())
 }
 

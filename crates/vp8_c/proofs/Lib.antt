@@ -2,3 +2,4 @@ mod FileLemmas
 mod NameLemmas
 mod RowLemmas
 mod Values
+mod TagLemmas

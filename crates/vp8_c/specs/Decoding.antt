@@ -1,9 +1,11 @@
--- The decoder of a handle: its limits, and the effect of decoding a packet. Pinned by the test `a_packet_is_decoded`.
+-- The decoder of a handle: its limits, and the effect of decoding a packet. Pinned by the tests
+-- `a_packet_is_decoded` and `decoding_goes_on_after_damage`.
 use Rattle.std.specs.Prelude.{◌≡◌, ◌≢◌, ◌⊎◌, ◌<◌, ℕ, List, length, Option, Some, None, Result, Err, ok_or}
 use Rattle.std.specs.Prelude.{option_and_then}
 use Rattle.vp_base.specs.Image.{Image}
 use Rattle.vp_decode.specs.Step.{IsDecoded, after, outcome, step}
 use Rattle.vp_decode.specs.Step.{Decoder as PacketDecoder}
+use Rattle.vp_decode.specs.Keeping.{step_keeping}
 use Rattle.vp8_c.specs.declared.status.TheConstants.{CLOSED, MEMORY, NO_PICTURE}
 use Rattle.vp8_c.specs.declared.handle_value.HandleValue.{HandleValue}
 use Rattle.vp8_c.specs.declared.handle_value.HandleValue.TheVariants.{Decoder, Stream, Encoder}
@@ -51,6 +53,16 @@ IsNoLimit pixels = (pixels ≡ 0) ⊎ (268402689 < pixels)
 pub record Decodes (packet : List ℕ) (status : ℕ) (old new : PacketDecoder) : Type 0 where
   pub outcome_is : status ≢ MEMORY → status ≡ outcome_number (outcome (step old.limits old.state packet).1)
   pub after_is : status ≢ MEMORY → new ≡ after old (step old.limits old.state packet)
+  pub refused : status ≡ MEMORY → new ≡ old
+  pub late : status ≡ MEMORY → IsDecoded (step old.limits old.state packet).1
+  pub dropped : status ≡ MEMORY → 0 < length packet
+
+-- The packet is decoded, and a fault leaves the state: the status is that of its step, and the decoder is the one after
+-- the step that keeps its state. Or memory ran out, for a packet that is not empty and has no fault. Then nothing
+-- changed.
+pub record DecodesKeeping (packet : List ℕ) (status : ℕ) (old new : PacketDecoder) : Type 0 where
+  pub outcome_is : status ≢ MEMORY → status ≡ outcome_number (outcome (step old.limits old.state packet).1)
+  pub after_is : status ≢ MEMORY → new ≡ after old (step_keeping old.limits old.state packet)
   pub refused : status ≡ MEMORY → new ≡ old
   pub late : status ≡ MEMORY → IsDecoded (step old.limits old.state packet).1
   pub dropped : status ≡ MEMORY → 0 < length packet

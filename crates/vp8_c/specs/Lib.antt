@@ -7,6 +7,7 @@ pub mod Decoding
 pub mod Arguments
 pub mod Handle
 pub mod Names
+pub mod Packets
 pub mod Planes
 pub mod Slot
 pub mod Status

@@ -1,7 +1,8 @@
 //! Tests of calls as C makes them: a handle is opened, used and freed.
 
 use crate::decoder::{
-    vp8_decoder_copy, vp8_decoder_decode, vp8_decoder_free, vp8_decoder_new, vp8_decoder_size,
+    vp8_decoder_copy, vp8_decoder_decode, vp8_decoder_decode_keeping, vp8_decoder_free,
+    vp8_decoder_new, vp8_decoder_size,
 };
 use crate::encoder::{
     vp8_encoder_encode, vp8_encoder_free, vp8_encoder_new, vp8_encoder_packet,
@@ -11,6 +12,7 @@ use crate::file_handle::StreamInfo;
 use crate::handle::Handle;
 use crate::handle_value::HandleValue;
 use crate::names::vp8_status_name;
+use crate::packet::{FrameInfo, PacketInfo, vp8_decoder_frame, vp8_peek};
 use crate::settings::EncoderSettings;
 use crate::stream::{
     vp8_stream_copy_i420, vp8_stream_feed, vp8_stream_finish, vp8_stream_free, vp8_stream_get_info,
@@ -28,6 +30,9 @@ fn equal<T: PartialEq + Debug>(rt: &impl Abort, found: &T, wanted: &T) {
 
 /// A key packet of 17 by 1 pixels whose first partition is empty: each pixel of its picture is 128.
 const KEY: [u8; 10] = [0x10, 0, 0, 0x9d, 0x01, 0x2a, 17, 0, 1, 0];
+
+/// An inter packet whose first partition is empty.
+const INTER: [u8; 3] = [0x11, 0, 0];
 
 /// A file of 17 by 1 pixels, 30 pictures in 2 seconds. It has the key packet, a hidden packet, a packet of one byte,
 /// and five of the twelve bytes before a fourth one.
@@ -294,6 +299,142 @@ fn a_packet_is_decoded(rt: HostRuntime) {
     let mut wanted = [128; 18];
     wanted[17] = 9;
     assert!(rt; y == wanted && u == [128; 9] && v == [128; 9]);
+}
+
+/// Decodes packets by a decoder that goes on after damage, and returns the statuses of the packets and of asking for
+/// the size after each.
+fn kept_and_sized(alloc: Global, decoder: &mut Handle, packets: [&[u8]; 5]) -> [(u32, u32); 5] {
+    let (mut width, mut height) = (9, 9);
+    let mut found = [(0, 0); 5];
+    for (status, packet) in found.iter_mut().zip(packets) {
+        status.0 = vp8_decoder_decode_keeping(alloc, decoder, packet);
+        status.1 = vp8_decoder_size(alloc, decoder, &mut width, &mut height);
+    }
+    found
+}
+
+/// A packet with a fault between good ones shows no picture. The packets after it are decoded as if it had not come. An
+/// empty packet after it shows the last picture again.
+#[test]
+fn decoding_goes_on_after_damage(rt: HostRuntime) {
+    let alloc = rt.alloc();
+    let mut decoder = Handle::closed();
+    let closed = vp8_decoder_decode_keeping(alloc, &mut decoder, &KEY);
+    let opened = vp8_decoder_new(alloc, &mut decoder, 17);
+    let first = kept_and_sized(
+        alloc,
+        &mut decoder,
+        [&INTER, &KEY, &KEY[..9], &INTER, &INTER[..2]],
+    );
+    let second = kept_and_sized(
+        alloc,
+        &mut decoder,
+        [&[], &[0x18, 0, 0], &[0x31, 0, 0], &INTER, &[0x01, 0, 0]],
+    );
+    let dropped = [
+        vp8_decoder_decode(alloc, &mut decoder, &KEY[..9]),
+        vp8_decoder_decode_keeping(alloc, &mut decoder, &INTER),
+    ];
+    vp8_decoder_free(alloc, &mut decoder);
+    decoder.forget();
+    equal(&rt, &(closed, opened), &(64, 0));
+    equal(&rt, &first, &[(21, 69), (0, 0), (16, 69), (0, 0), (16, 69)]);
+    equal(&rt, &second, &[(0, 0), (17, 69), (22, 69), (0, 0), (1, 69)]);
+    equal(&rt, &dropped, &[16, 21]);
+}
+
+/// Returns the status of peeking at a packet, and the numbers.
+fn peeked(packet: &[u8]) -> [u32; 5] {
+    let mut info = PacketInfo {
+        key: 9,
+        shown: 9,
+        width: 9,
+        height: 9,
+    };
+    let status = vp8_peek(packet, &mut info);
+    [status, info.key, info.shown, info.width, info.height]
+}
+
+/// The first bytes of a packet say its kind, and those of a key packet its size.
+#[test]
+fn packets_are_peeked(rt: HostRuntime) {
+    let great = [0, 0, 0, 0x9d, 0x01, 0x2a, 0xff, 0xff, 0xff, 0x7f];
+    equal(&rt, &peeked(&KEY), &[0, 1, 1, 17, 1]);
+    equal(&rt, &peeked(&great), &[0, 1, 0, 16383, 16383]);
+    equal(&rt, &peeked(&[0x11, 0, 0]), &[0, 0, 1, 0, 0]);
+    equal(&rt, &peeked(&[0x07, 9, 9, 9]), &[0, 0, 0, 0, 0]);
+    equal(&rt, &peeked(&KEY[..9]), &[16, 9, 9, 9, 9]);
+    equal(&rt, &peeked(&[0x11, 0]), &[16, 9, 9, 9, 9]);
+    equal(&rt, &peeked(&[0x19, 0, 0]), &[17, 9, 9, 9, 9]);
+    equal(&rt, &peeked(&[0; 10]), &[18, 9, 9, 9, 9]);
+    equal(
+        &rt,
+        &peeked(&[0, 0, 0, 0x9d, 0x01, 0x2a, 0, 0xc0, 1, 0]),
+        &[19, 9, 9, 9, 9],
+    );
+}
+
+/// Returns the status of asking a decoder for the facts of a packet, and the numbers.
+fn frame(alloc: Global, decoder: &mut Handle, packet: &[u8]) -> (u32, [u32; 11]) {
+    let mut info = FrameInfo {
+        key: 9,
+        version: 9,
+        shown: 9,
+        width: 9,
+        height: 9,
+        horizontal_scale: 9,
+        vertical_scale: 9,
+        quantiser: 9,
+        refreshes_last: 9,
+        refreshes_golden: 9,
+        refreshes_altref: 9,
+    };
+    let status = vp8_decoder_frame(alloc, decoder, packet, &mut info);
+    let numbers = [
+        info.key,
+        info.version,
+        info.shown,
+        info.width,
+        info.height,
+        info.horizontal_scale,
+        info.vertical_scale,
+        info.quantiser,
+        info.refreshes_last,
+        info.refreshes_golden,
+        info.refreshes_altref,
+    ];
+    (status, numbers)
+}
+
+/// A key packet with upscaling codes 1 and 2; inter packets whose bools are all 0 or all 1; packets with faults.
+#[test]
+fn facts_of_frames_are_written(rt: HostRuntime) {
+    let alloc = rt.alloc();
+    let mut decoder = Handle::closed();
+    let scaled = [0x14, 0, 0, 0x9d, 0x01, 0x2a, 17, 0x40, 1, 0x80];
+    let mut ones = [0; 25];
+    ones[..4].copy_from_slice(&[0x27, 0, 0, 0xff]);
+    let closed = frame(alloc, &mut decoder, &KEY);
+    let opened = vp8_decoder_new(alloc, &mut decoder, 17);
+    let early = frame(alloc, &mut decoder, &[0x11, 0, 0]);
+    let key = frame(alloc, &mut decoder, &scaled);
+    let decoded = vp8_decoder_decode(alloc, &mut decoder, &KEY);
+    let zeros = frame(alloc, &mut decoder, &[0x11, 0, 0]);
+    let all = frame(alloc, &mut decoder, &ones);
+    let cut = frame(alloc, &mut decoder, &ones[..24]);
+    let empty = frame(alloc, &mut decoder, &[]);
+    let (mut width, mut height) = (9, 9);
+    let kept = vp8_decoder_size(alloc, &mut decoder, &mut width, &mut height);
+    vp8_decoder_free(alloc, &mut decoder);
+    decoder.forget();
+    equal(&rt, &closed, &(64, [9; 11]));
+    equal(&rt, &[opened, decoded, kept], &[0, 0, 0]);
+    equal(&rt, &early, &(21, [9; 11]));
+    equal(&rt, &key, &(0, [1, 2, 1, 17, 1, 1, 2, 0, 1, 1, 1]));
+    equal(&rt, &zeros, &(0, [0, 0, 1, 17, 1, 0, 0, 0, 0, 0, 0]));
+    equal(&rt, &all, &(0, [0, 3, 0, 17, 1, 0, 0, 127, 1, 1, 1]));
+    equal(&rt, &cut, &(23, [9; 11]));
+    equal(&rt, &empty, &(16, [9; 11]));
 }
 
 /// Settings whose numbers all differ.

@@ -4,7 +4,8 @@ ghost use Rattle.std.specs.Prelude.{◌≡◌, ◌⊎◌, ◌↔◌, None, IfSom
 ghost use Rattle.vp8_c.specs.Handle.{handle_value_in};
 ghost use Rattle.vp8_c.specs.Arguments.{CopiesPicture, GivesOrFails, IsClosed, Opens, Puts, size_of};
 ghost use Rattle.vp8_c.specs.Planes.{planes_of};
-ghost use Rattle.vp8_c.specs.Decoding.{Decodes, IsFresh, IsNoLimit, decoder_in, handle_picture, shown_size_in};
+ghost use Rattle.vp8_c.specs.Decoding.{Decodes, DecodesKeeping, IsFresh, IsNoLimit, decoder_in, handle_picture};
+ghost use Rattle.vp8_c.specs.Decoding.{shown_size_in};
 
 use crate::handle::Handle;
 use crate::handle_value::HandleValue;
@@ -46,6 +47,28 @@ pub extern "C" fn vp8_decoder_decode(alloc: Global, decoder: &mut Handle, packet
         return CLOSED;
     };
     let status = held.decode(packet);
+    decoder.put(held);
+    status
+}
+
+/// Decodes a packet as `vp8_decoder_decode` does, but goes on after damage: a packet with a fault shows no picture and
+/// changes nothing else.
+///
+/// Status: `HIDDEN`, the faults of a packet, `MEMORY`, `CLOSED`.
+#[unsafe(no_mangle)]
+pub extern "C" fn vp8_decoder_decode_keeping(
+    alloc: Global,
+    decoder: &mut Handle,
+    packet: &[u8],
+) -> u32
+    ensures closed { decoder_in decoder.old ≡ None → IsClosed result decoder.old decoder.new }
+    ensures decoded { IfSome (decoder_in decoder.old) (λ d. IsSomeAnd (decoder_in decoder.new)
+        (DecodesKeeping packet.now result d)) }
+{
+    let Some(mut held) = decoder.take(alloc) else {
+        return CLOSED;
+    };
+    let status = held.decode_keeping(packet);
     decoder.put(held);
     status
 }

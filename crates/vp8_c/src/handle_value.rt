@@ -5,8 +5,9 @@ ghost use Rattle.vp8_c.specs.Planes.{planes_in};
 
 use crate::encoder_handle::EncoderHandle;
 use crate::file_handle::{FileHandle, KeptPicture};
+use crate::packet::FrameInfo;
 use crate::planes::CallerPlanes;
-use crate::status::{CLOSED, MEMORY, NO_PICTURE, outcome_number};
+use crate::status::{CLOSED, MEMORY, NO_PICTURE, fault_number, outcome_number};
 use crate::stream_handle::StreamHandle;
 use vp_base::Picture;
 use vp_decode::Decoder;
@@ -24,11 +25,12 @@ pub enum HandleValue {
 }
 
 impl HandleValue {
-    ghost use Rattle.vp8_c.specs.Decoding.{Decodes, decoder_of, last_picture};
+    ghost use Rattle.vp8_c.specs.Decoding.{Decodes, DecodesKeeping, decoder_of, last_picture};
     ghost use Rattle.vp8_c.specs.FileHandle.{AnswersPacket, Feeds, Finishes, kept_of, i420_picture, stream_of};
     ghost use Rattle.vp8_c.specs.StreamHandle.{KeepsCursor, Seeks, stream_handle_of};
     ghost use Rattle.vp8_c.specs.EncoderHandle.{Encodes, encoded_of, encoder_of};
     ghost use Rattle.vp8_c.specs.Arguments.{result_map};
+    ghost use Rattle.vp8_c.specs.Packets.{frame_of_value};
 
     /// Decodes a packet. The status is `CLOSED` if the value isn't a decoder.
     pub fn decode(&mut self, packet: &[u8]) -> u32
@@ -42,6 +44,34 @@ impl HandleValue {
                 Err(_) => MEMORY,
             },
             HandleValue::Stream(_) | HandleValue::Encoder(_) => CLOSED,
+        }
+    }
+
+    /// Decodes a packet; a fault leaves the decoder's state. The status is `CLOSED` if the value isn't a decoder.
+    pub fn decode_keeping(&mut self, packet: &[u8]) -> u32
+        ensures closed { decoder_of self.old ≡ None → (result ≡ CLOSED) × (self.new ≡ self.old) }
+        ensures decoded { IfSome (decoder_of self.old) (λ d. IsSomeAnd (decoder_of self.new)
+            (DecodesKeeping packet.now result d)) }
+    {
+        match self {
+            HandleValue::Decoder(decoder) => match decoder.decode_keeping(packet) {
+                Ok(outcome) => outcome_number(outcome),
+                Err(_) => MEMORY,
+            },
+            HandleValue::Stream(_) | HandleValue::Encoder(_) => CLOSED,
+        }
+    }
+
+    /// Returns facts about the frame in a packet that the decoder decodes next, or the status of a call without them.
+    pub fn frame(&self, packet: &[u8]) -> Result<FrameInfo, u32>
+        ensures { result ≡ frame_of_value packet.now self.now }
+    {
+        match self {
+            HandleValue::Decoder(decoder) => match decoder.frame_facts(packet) {
+                Ok(facts) => Ok(FrameInfo::of(facts)),
+                Err(fault) => Err(fault_number(fault)),
+            },
+            HandleValue::Stream(_) | HandleValue::Encoder(_) => Err(CLOSED),
         }
     }
 

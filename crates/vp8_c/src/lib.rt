@@ -11,6 +11,7 @@ mod file_handle;
 mod handle;
 mod handle_value;
 mod names;
+mod packet;
 mod planes;
 mod raw_box;
 mod rows;

@@ -14,6 +14,7 @@ use Rattle.vp_decode.specs.declared.decoded_frame.DecodedFrame.{DecodedFrame}
 use Rattle.vp_decode.specs.Frame.{picture_of}
 use Rattle.vp_decode.specs.State.{OpenPacket, with_header, state_from_frame, references_in}
 use Rattle.vp_decode.specs.Step.{DecoderState, FrameContext, key_context, inter_context, context_of, ParsedPacket, ◌>>=◌, count_of, parsed, frame_info_of, frame_of_packet, references_after, shown_after, state_after, answer, decoded, Decoder, shown_of, picture_in, after}
+use Rattle.vp_decode.specs.Keeping.{state_kept, keeping}
 use Rattle.vp_decode.proofs.CutLemmas.{opened-is}
 
 -- a key frame's picture is all references, whatever they were
@@ -60,10 +61,15 @@ shown_is : (b : Bool) (k : DecoderState) (p : Image) (before : Option Image) →
 shown_is true k p before e = e
 shown_is false k p before e = refl
 
+kept_answer : (b : Bool) (p : Image) (before next : Option DecoderState) → next ≡ state_kept before next (answer b p)
+kept_answer true p before next = refl
+kept_answer false p before next = refl
+
 -- the state that is left, and whether the frame is shown
 pub after_left : (d : Decoder) (packet : List ℕ) (o : ParsedPacket) (show : Bool) (state : Option DecoderState) → ◌≡◌ {A = Result ParsedPacket PacketFault} (Ok o) (parsed d.limits d.state packet) → show ≡ o.tag.show
-    → state ≡ Some (state_after o) → ◌≡◌ {A = Decoder} (record { limits = d.limits; state = state; shown = shown_of show state }) (after d (decoded (parsed d.limits d.state packet)))
+    → state ≡ Some (state_after o) → ◌≡◌ {A = Decoder} (record { limits = d.limits; state = state; shown = shown_of show state }) (after d (keeping d.state (decoded (parsed d.limits d.state packet))))
 after_left d packet o show state e s k =
+    let p = picture_of (frame_of_packet o) in
     (λ i. record { limits = d.limits; state = k i; shown = shown_of (s i) (k i) })
-    ∙ (λ i. record { limits = d.limits; state = Some (state_after o); shown = shown_is o.tag.show (state_after o) (picture_of (frame_of_packet o)) o.context.shown refl i })
-    ∙ ap (λ (r : Result ParsedPacket PacketFault). after d (decoded r)) e
+    ∙ (λ i. record { limits = d.limits; state = kept_answer o.tag.show p d.state (Some (state_after o)) i; shown = shown_is o.tag.show (state_after o) p o.context.shown refl i })
+    ∙ ap (λ (r : Result ParsedPacket PacketFault). after d (keeping d.state (decoded r))) e

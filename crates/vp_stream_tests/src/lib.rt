@@ -11,6 +11,8 @@ mod cursor;
 #[cfg(test)]
 mod cursors;
 #[cfg(test)]
+mod damage;
+#[cfg(test)]
 mod files;
 #[cfg(test)]
 mod outcomes;

@@ -3,13 +3,14 @@ use Rattle.std.specs.Prelude.{◌==◌, OnOk, OnErr, IfOk}
 use Rattle.std.proofs.lemmas.Bool.{eq-eqb}
 use Rattle.std.proofs.lemmas.Bool.Decides.{nat_tests}
 use Rattle.vp_decode.specs.Step.{DecoderState, Answer, after, outcome, IsDecoded}
+use Rattle.vp_decode.specs.Keeping.{keeping}
 use Rattle.vp_decode.proofs.SizeLemmas.{step-empty, step-decoded}
 use Rattle.vp_decode.proofs.decoder.Decoder.decode_or_repeat.Goals as goal
 
 pub returns-then-is_empty-clause-after : goal.returns-then-is_empty-clause-after
 returns-then-is_empty-clause-after g c =
     let none : length c.args.packet.now ≡ 0 = grind (arith, nat_tests, c.is_empty.ensures, c.if-is_empty.true) in
-    c.repeat.ensures.after ∙ ap (λ s. after c.args.self.now s) (sym (step-empty c.args.self.now.limits c.args.self.now.state c.args.packet.now none))
+    c.repeat.ensures.after ∙ ap (λ s. after c.args.self.now (keeping c.args.self.now.state s)) (sym (step-empty c.args.self.now.limits c.args.self.now.state c.args.packet.now none))
 
 pub returns-then-is_empty-clause-outcome : goal.returns-then-is_empty-clause-outcome
 returns-then-is_empty-clause-outcome g c =
@@ -21,7 +22,7 @@ some_bytes n other none = absurd (let never : false ≡ true = other ∙ eq-eqb 
 
 pub returns-clause-after : goal.returns-clause-after
 returns-clause-after g c =
-    subst (λ (s : Option DecoderState × Answer). OnOk c.decode_packet.result (c.decode_packet.new.self ≡ after c.args.self.now s))
+    subst (λ (s : Option DecoderState × Answer). OnOk c.decode_packet.result (c.decode_packet.new.self ≡ after c.args.self.now (keeping c.args.self.now.state s)))
     (sym (step-decoded c.args.self.now.limits c.args.self.now.state c.args.packet.now (some_bytes (length c.args.packet.now) c.if-is_empty.ensures))) c.decode_packet.ensures.after
 
 pub returns-clause-outcome : goal.returns-clause-outcome

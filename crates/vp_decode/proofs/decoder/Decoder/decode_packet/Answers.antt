@@ -1,6 +1,7 @@
 use Rattle.std.proofs.Common.{◌∙◌, Some, sym, ap, subst}
 use Rattle.vp_decode.specs.Equation.{IsOneSize}
 use Rattle.vp_decode.specs.Step.{ParsedPacket, Decoder, parsed, decoded, shown_of, after}
+use Rattle.vp_decode.specs.Keeping.{keeping}
 use Rattle.vp_decode.proofs.StateLemmas.{kept_left, after_left}
 use Rattle.vp_decode.proofs.decoder.Decoder.decode_packet.Goals as goal
 
@@ -21,4 +22,4 @@ returns-clause-after g c =
     let kept = kept_left c.self.inside.limits c.self.inside.state c.args.packet.now c.read_header.new.self _ _ c.in-Ok-with_header.parsed c.in_ok-frame.frame made is
     (record { segments = f.segments; picture = f.picture; shown = f.shown }) in
     after_left d c.args.packet.now c.in-Ok-with_header.parsed c.parsed.inside.tag.show c.keep.new.state is (ap (λ (o : ParsedPacket). o.tag.show) c.parsed.view_is) (c.in_ok-keep.ensures.ok ∙ ap Some kept)
-    ∙ ap (λ (z : Decoder). after z (decoded (parsed z.limits z.state c.args.packet.now))) c.self.view_is
+    ∙ ap (λ (z : Decoder). after z (keeping z.state (decoded (parsed z.limits z.state c.args.packet.now)))) c.self.view_is

@@ -1,0 +1,232 @@
+//! Tests of a decoder that goes on after damage, and of the facts of frames.
+
+use crate::check::equal;
+use crate::files::{HIDDEN, INTER, KEY, append_runs};
+use std::alloc::{AllocError, Global};
+use std::test::Fail;
+use vp_base::Limits;
+use vp_decode::{Decoder, FrameFacts, Outcome};
+use vp_head::PacketFault;
+
+// Decodes a packet by a decoder that goes on after damage. Appends its picture if it shows one.
+fn play(
+    alloc: Global,
+    decoder: &mut Decoder,
+    packet: &[u8],
+    pixels: &mut Vec<u8>,
+) -> Result<Outcome, AllocError> {
+    let outcome = decoder.decode_keeping(packet)?;
+    if let Some(picture) = decoder.picture() {
+        pixels.extend_from_slice(&picture.crop_i420(alloc)?)?;
+    }
+    Ok(outcome)
+}
+
+// An inter packet whose first token partition passes its end.
+const CUT_PARTITION: [u8; 25] = [
+    0x31, 0, 0, 0xff, 1, 0, 0, 0, 0, 0, 0, 0, 0, 0, 0, 0, 0, 0, 0, 0, 0, 0, 0, 0, 0,
+];
+
+// Plays a packet with each kind of fault but `NoReference` and `TooLarge`. Returns the outcomes.
+fn play_damage(
+    alloc: Global,
+    decoder: &mut Decoder,
+    pixels: &mut Vec<u8>,
+) -> Result<[Outcome; 7], AllocError> {
+    let packets: [&[u8]; 7] = [
+        &INTER[..2],
+        &[0x18, 0, 0],
+        &[0x10, 0, 0, 0x9d, 0x01, 0x2b, 0x10, 0, 0x10, 0],
+        &[0x10, 0, 0, 0x9d, 0x01, 0x2a, 0, 0, 0x10, 0],
+        &[0x31, 0, 0],
+        &[0x30, 0, 0, 0x9d, 0x01, 0x2a, 0x10, 0, 0x10, 0, 0xff],
+        &CUT_PARTITION,
+    ];
+    let mut outcomes = [Outcome::Hidden; 7];
+    for (outcome, packet) in outcomes.iter_mut().zip(packets) {
+        *outcome = play(alloc, decoder, packet, pixels)?;
+    }
+    Ok(outcomes)
+}
+
+// The faults of these packets.
+const FAULTS: [Outcome; 7] = [
+    Outcome::Fault(PacketFault::Truncated),
+    Outcome::Fault(PacketFault::Version),
+    Outcome::Fault(PacketFault::StartCode),
+    Outcome::Fault(PacketFault::Size),
+    Outcome::Fault(PacketFault::FirstPartition),
+    Outcome::Fault(PacketFault::PartitionTable),
+    Outcome::Fault(PacketFault::Partition(0)),
+];
+
+/// Damage between packets shows no picture. The packets after it show the pictures of a stream without it.
+#[test]
+fn a_stream_goes_on_after_damage(rt: HostRuntime) -> Result<(), Fail> {
+    let alloc = rt.alloc();
+    let mut decoder = Decoder::new(alloc, Limits::usual());
+    let mut pixels = Vec::new(alloc);
+    let key = play(alloc, &mut decoder, &KEY, &mut pixels)?;
+    let faults = play_damage(alloc, &mut decoder, &mut pixels)?;
+    let repeated = play(alloc, &mut decoder, &[], &mut pixels)?;
+    let inter = play(alloc, &mut decoder, &INTER, &mut pixels)?;
+    let again = play_damage(alloc, &mut decoder, &mut pixels)?;
+    let hidden = play(alloc, &mut decoder, &HIDDEN, &mut pixels)?;
+    let last = play(alloc, &mut decoder, &[], &mut pixels)?;
+    equal(&rt, &[faults, again], &[FAULTS, FAULTS]);
+    equal(&rt, &[key, repeated, inter], &[Outcome::Shown; 3]);
+    equal(&rt, &[hidden, last], &[Outcome::Hidden; 2]);
+    let mut wanted = Vec::new(alloc);
+    append_runs(&mut wanted, [64, 192, 128])?;
+    append_runs(&mut wanted, [64, 192, 128])?;
+    append_runs(&mut wanted, [384, 0, 0])?;
+    assert!(rt; pixels == wanted);
+    Ok(())
+}
+
+// The first packets of a stream of 16 by 16 pixels, from a generator of random syntax. `vp_transcripts` decodes all of
+// it, and compares its pictures with those of another decoder.
+const STREAM_KEY: [u8; 73] = [
+    0x36, 4, 0, 0x9d, 1, 0x2a, 0x10, 0, 0x10, 0, 0x0c, 0x6b, 0x3f, 0x2c, 0xeb, 0x22, 0x69, 0xea,
+    0x84, 0x80, 0xe3, 0x79, 0x63, 0xc0, 0x0c, 0xac, 0x66, 0xa6, 0x1d, 0xbb, 0x89, 0x9f, 0xb5, 0x18,
+    0x40, 0xe0, 0x14, 0x58, 0x86, 0x1b, 0x63, 0xf6, 0, 2, 0, 0, 1, 0, 0, 1, 0, 0, 1, 0, 0, 1, 0, 0,
+    1, 0, 0, 1, 0, 0, 0, 0, 0, 0, 0, 0, 0, 0, 0,
+];
+
+const STREAM_INTER_1: [u8; 73] = [
+    0x17, 5, 0, 0xbd, 0x7b, 0x55, 0xb8, 0x43, 0xe1, 0x51, 0x3a, 0x63, 0xfc, 0x9d, 0xba, 0xe5, 0xf6,
+    0xe8, 0x74, 0x7d, 0xc0, 0x60, 0xdb, 0xfe, 0x67, 0x8e, 0x5c, 0x81, 0x75, 0xea, 0x6c, 0x45, 0x52,
+    0xfe, 0x59, 0xe2, 0x20, 0x73, 0x48, 0x6c, 0x1c, 0xf6, 0x80, 2, 0, 0, 1, 0, 0, 1, 0, 0, 1, 0, 0,
+    1, 0, 0, 1, 0, 0, 1, 0, 0, 0, 0, 0, 0, 0, 0, 0, 0, 0,
+];
+
+const STREAM_INTER_2: [u8; 43] = [
+    0x77, 4, 0, 0xdb, 0x85, 0x61, 0x62, 0xf4, 0xd4, 0x70, 0xa9, 4, 0x31, 0x3f, 0xff, 0xe3, 0xb8,
+    0xc9, 0xee, 0x8d, 0xd8, 0xed, 0x6d, 0x31, 0xa5, 0x20, 0xf8, 0xf6, 0x5f, 0xa2, 0x1b, 0x25, 0xc9,
+    0x21, 0x45, 0xee, 8, 0x40, 1, 0, 0, 0, 0,
+];
+
+const STREAM_INTER_3: [u8; 55] = [
+    0xd7, 4, 0, 0x72, 0x3d, 0xc1, 0x6b, 0xb3, 0xf2, 0x17, 0x99, 0x97, 0x35, 0x56, 0x8a, 0xc9, 0xbb,
+    0x86, 0x9c, 0x1e, 0x5c, 0xdb, 0xf7, 0x48, 0xe0, 0x65, 0x52, 0x31, 1, 0x4c, 0xa9, 1, 0xd6, 0xfe,
+    0x7e, 0xe9, 0x8d, 0x1d, 0x50, 0x4e, 0x80, 0, 0, 0, 0, 1, 0x80, 0, 0, 0, 0x38, 0, 0, 0, 0,
+];
+
+// Plays packets, each after one that is cut in its first partition. Returns the outcomes of these, and appends the
+// pictures.
+fn play_after_damage(
+    alloc: Global,
+    decoder: &mut Decoder,
+    packets: [&[u8]; 4],
+    pixels: &mut Vec<u8>,
+) -> Result<[Outcome; 4], AllocError> {
+    let mut outcomes = [Outcome::Hidden; 4];
+    for (outcome, packet) in outcomes.iter_mut().zip(packets) {
+        let cut = packet.len().min(12);
+        *outcome = play(alloc, decoder, &packet[..cut], pixels)?;
+        play(alloc, decoder, packet, pixels)?;
+    }
+    Ok(outcomes)
+}
+
+// Decodes packets, and appends the pictures.
+fn decode(
+    alloc: Global,
+    decoder: &mut Decoder,
+    packets: [&[u8]; 4],
+    pixels: &mut Vec<u8>,
+) -> Result<(), AllocError> {
+    for packet in packets {
+        decoder.decode(packet)?;
+        if let Some(picture) = decoder.picture() {
+            pixels.extend_from_slice(&picture.crop_i420(alloc)?)?;
+        }
+    }
+    Ok(())
+}
+
+/// The pictures of a stream with damage between its packets are those of the stream without it.
+#[test]
+fn pictures_after_damage_are_those_without_it(rt: HostRuntime) -> Result<(), Fail> {
+    let alloc = rt.alloc();
+    let packets: [&[u8]; 4] = [
+        &STREAM_KEY,
+        &STREAM_INTER_1,
+        &STREAM_INTER_2,
+        &STREAM_INTER_3,
+    ];
+    let mut wanted = Vec::new(alloc);
+    let mut decoder = Decoder::new(alloc, Limits::usual());
+    decode(alloc, &mut decoder, packets, &mut wanted)?;
+    let mut pixels = Vec::new(alloc);
+    let mut keeping = Decoder::new(alloc, Limits::usual());
+    let faults = play_after_damage(alloc, &mut keeping, packets, &mut pixels)?;
+    let fault = Outcome::Fault(PacketFault::FirstPartition);
+    equal(&rt, &faults, &[fault; 4]);
+    equal(&rt, &wanted.len(), &1536);
+    assert!(rt; pixels == wanted);
+    Ok(())
+}
+
+// A key packet of 16 by 17 pixels, version 3, with upscaling codes 3 and 1.
+const SCALED: [u8; 10] = [0x16, 0, 0, 0x9d, 0x01, 0x2a, 0x10, 0xc0, 0x11, 0x40];
+
+// The facts of an inter frame of this size, whose bools are all 0.
+const ZEROS: FrameFacts = FrameFacts {
+    key: false,
+    version: 0,
+    shown: true,
+    width: 16,
+    height: 17,
+    horizontal_scale: 0,
+    vertical_scale: 0,
+    quantiser: 0,
+    refreshes_last: false,
+    refreshes_golden: false,
+    refreshes_alt: false,
+};
+
+/// The facts of a key frame need no state; those of an inter frame do. A fault is in place of facts.
+#[test]
+fn facts_of_frames(rt: HostRuntime) -> Result<(), Fail> {
+    let mut decoder = Decoder::new(rt.alloc(), Limits::usual());
+    let no_reference = Err(PacketFault::NoReference);
+    equal(&rt, &decoder.frame_facts(&INTER), &no_reference);
+    let truncated = Err(PacketFault::Truncated);
+    equal(&rt, &decoder.frame_facts(&[]), &truncated);
+    let key = FrameFacts {
+        key: true,
+        version: 3,
+        horizontal_scale: 3,
+        vertical_scale: 1,
+        refreshes_last: true,
+        refreshes_golden: true,
+        refreshes_alt: true,
+        ..ZEROS
+    };
+    equal(&rt, &decoder.frame_facts(&SCALED), &Ok(key));
+    equal(&rt, &decoder.decode(&SCALED)?, &Outcome::Shown);
+    equal(&rt, &decoder.frame_facts(&INTER), &Ok(ZEROS));
+    Ok(())
+}
+
+/// The facts of a hidden inter frame whose bools are all 1, with eight partitions.
+#[test]
+fn facts_of_an_inter_frame(rt: HostRuntime) -> Result<(), Fail> {
+    let mut decoder = Decoder::new(rt.alloc(), Limits::usual());
+    equal(&rt, &decoder.decode(&SCALED)?, &Outcome::Shown);
+    let mut packet = [0; 25];
+    packet[..4].copy_from_slice(&[0x21, 0, 0, 0xff]);
+    let ones = FrameFacts {
+        shown: false,
+        quantiser: 127,
+        refreshes_last: true,
+        refreshes_golden: true,
+        refreshes_alt: true,
+        ..ZEROS
+    };
+    equal(&rt, &decoder.frame_facts(&packet), &Ok(ones));
+    let cut = Err(PacketFault::PartitionTable);
+    equal(&rt, &decoder.frame_facts(&packet[..24]), &cut);
+    Ok(())
+}
