@@ -138,14 +138,25 @@ static vpx_codec_err_t error_wanted(vp8_status status, int had_picture)
   return VPX_CODEC_CORRUPT_FRAME;
 }
 
-static void check_controls(vpx_codec_ctx_t *codec, unsigned long n, int is_decoded)
+/* A stream that is decoded: whether a packet had a picture, and whether one was refused since the last key frame. */
+struct course {
+  int had_picture, is_corrupt;
+};
+
+static void check_controls(vpx_codec_ctx_t *codec, unsigned long n, int is_decoded, const vp8_frame *frame,
+                           const struct course *course)
 {
   int number = -1;
+  int updates = (frame->refreshes_last ? VP8_LAST_FRAME : 0) | (frame->refreshes_golden ? VP8_GOLD_FRAME : 0) |
+                (frame->refreshes_altref ? VP8_ALTR_FRAME : 0);
   vpx_codec_err_t wanted = is_decoded ? VPX_CODEC_OK : VPX_CODEC_CORRUPT_FRAME;
   expect(vpx_codec_control(codec, VPXD_GET_LAST_QUANTIZER, &number) == wanted, n, "quantiser: status");
-  expect(!is_decoded || (number >= 0 && number <= 127), n, "quantiser: range");
+  expect(!is_decoded || number == (int)frame->quantiser, n, "another quantiser");
   expect(vpx_codec_control(codec, VP8D_GET_LAST_REF_UPDATES, &number) == wanted, n, "updates: status");
-  expect(!is_decoded || (number >= 0 && number <= 7), n, "updates: range");
+  expect(!is_decoded || number == updates, n, "other updates");
+  if (!course->had_picture) return;
+  expect(vpx_codec_control(codec, VP8D_GET_FRAME_CORRUPTED, &number) == VPX_CODEC_OK, n, "corrupted: status");
+  expect(number == course->is_corrupt, n, "another flag of corruption");
 }
 
 /* The picture that the packet shows is given once, and is the program's to turn over or to release. */
@@ -166,24 +177,28 @@ static void check_picture(vpx_codec_ctx_t *codec, unsigned long n, vp8_decoder *
   expect(!vpx_codec_get_frame(codec, &again), n, "the picture is given again");
 }
 
-static int check_packet(vpx_codec_ctx_t *codec, vp8_decoder *decoder, unsigned long n, const uint8_t *packet,
-                        size_t len, int handover, int had_picture)
+static void check_packet(vpx_codec_ctx_t *codec, vp8_decoder *decoder, unsigned long n, const uint8_t *packet,
+                         size_t len, int handover, struct course *course)
 {
   vpx_codec_stream_info_t info = { .sz = sizeof info };
+  vp8_frame frame = { 0 };
   void *user = (void *)(uintptr_t)(n + 1);
-  vp8_status status = vp8_decoder_decode(decoder, packet, len);
+  vp8_status facts = vp8_decoder_frame(decoder, packet, len, &frame);
+  vp8_status status = vp8_decoder_decode_keeping(decoder, packet, len);
   vpx_codec_err_t error = hand_over(codec, handover, packet, len, user);
   int is_decoded = status == VP8_OK || status == VP8_HIDDEN;
   packets++;
   refused += !is_decoded;
-  expect(error == error_wanted(status, had_picture), n, "another error");
+  expect(is_decoded ? facts == VP8_OK : facts == status, n, "facts of another packet");
+  expect(error == error_wanted(status, course->had_picture), n, "another error");
   expect(is_decoded || is_detail_of(vpx_codec_error_detail(codec), status), n, "another error detail");
-  check_controls(codec, n, is_decoded);
+  course->had_picture |= is_decoded;
+  course->is_corrupt = !is_decoded || (course->is_corrupt && !frame.key);
+  check_controls(codec, n, is_decoded, &frame, course);
   check_picture(codec, n, decoder, status == VP8_OK, user);
   (void)vpx_codec_peek_stream_info(vpx_codec_vp8_dx(), packet, (unsigned int)len, &info);
   expect(!info.is_kf || status != VP8_OK || (info.w > 0 && info.h > 0), n, "no size of a key packet");
   expect(vpx_codec_get_stream_info(codec, &info) == VPX_CODEC_OK, n, "no stream information");
-  return is_decoded;
 }
 
 static void open_codec(vpx_codec_ctx_t *codec, int handover)
@@ -204,7 +219,7 @@ static void check_file(const uint8_t *file, size_t file_len, int handover)
   vpx_codec_ctx_t codec;
   vp8_decoder decoder = VP8_INIT;
   size_t at = 32, len;
-  int had_picture = 0;
+  struct course course = { 0, 0 };
   const uint8_t *packet;
   if (vp8_decoder_new(&decoder, MAX_PIXELS) != VP8_OK) abort();
   open_codec(&codec, handover);
@@ -213,7 +228,7 @@ static void check_file(const uint8_t *file, size_t file_len, int handover)
     uint8_t *copy = copy_of(packet, len);
     size_t damaged_len = variant ? damage(copy, len) : len;
     uint8_t *exact = copy_of(copy, damaged_len);
-    had_picture |= check_packet(&codec, &decoder, n, exact, damaged_len, handover, had_picture);
+    check_packet(&codec, &decoder, n, exact, damaged_len, handover, &course);
     free(copy);
     free(exact);
   }

@@ -1,9 +1,8 @@
 /* VP8 decoding for programs that use libvpx, by libvp8.
  *
- * Not proved: the whole file. What a packet decodes to is proved (libvp8). Unproved are the translation of statuses
- * (`error_of_status`), the memory of the image that a program gets (`lay_out_image`, `get_frame`), fragments and
- * decryption (`keep_fragment`, `decrypt`), and controls. packet_header.h reads some numbers of a packet's header, also
- * not proved.
+ * Not proved: the whole file. What a packet decodes to, and what its header says, is proved (libvp8). Unproved are the
+ * translation of statuses (`error_of_status`), the memory of the image that a program gets (`lay_out_image`,
+ * `get_frame`), fragments and decryption (`keep_fragment`, `decrypt`), and controls.
  *
  * libvpx's vpx_codec_* functions check their arguments, keep the status in the context, and call a codec through a
  * table of functions. This file provides such a table for VP8 decoding under libvpx's two names for it,
@@ -26,7 +25,6 @@
 
 #include <vpx/vp8dx.h>
 
-#include "packet_header.h"
 #include "vp8.h"
 #include "vpx_table.h"
 
@@ -48,8 +46,9 @@ struct vpx_codec_alg_priv {
   vpx_codec_stream_info_t stream_info;
   int has_decoded;       /* a packet was decoded before */
   int has_picture;       /* the last packet shows a picture that was not given yet */
-  int has_header;        /* `header` is the last packet's */
-  struct packet_header header;
+  int has_frame;         /* `frame` is the last packet's */
+  int is_corrupt;        /* a packet was refused, and no key frame was decoded since */
+  vp8_frame frame;
   void *user;            /* the last decoded packet's user pointer */
   vpx_image_t image;
   uint8_t *image_memory;
@@ -151,15 +150,20 @@ static vpx_codec_err_t destroy(vpx_state *state)
 
 /* ---- sizes before decoding */
 
+/* As libvpx does it, an inter packet has no stream information, and a size of 0 is corrupt. */
 static vpx_codec_err_t peek_stream_info(const uint8_t *data, unsigned int len, vpx_codec_stream_info_t *info)
 {
-  enum key_size found = read_key_size(data, len, &info->w, &info->h);
-  info->is_kf = found != KEY_SIZE_NOT_KEY;
-  switch (found) {
-    case KEY_SIZE_OK: return VPX_CODEC_OK;
-    case KEY_SIZE_ZERO: return VPX_CODEC_CORRUPT_FRAME;
-    default: return VPX_CODEC_UNSUP_BITSTREAM;
+  vp8_packet_info packet = { 0, 0, 0, 0 };
+  vp8_status status = vp8_peek(data, len, &packet);
+  info->is_kf = packet.key || status == VP8_START_CODE || status == VP8_SIZE;
+  if (status == VP8_SIZE) {
+    info->w = info->h = 0;
+    return VPX_CODEC_CORRUPT_FRAME;
   }
+  if (!packet.key) return VPX_CODEC_UNSUP_BITSTREAM;
+  info->w = packet.width;
+  info->h = packet.height;
+  return VPX_CODEC_OK;
 }
 
 static vpx_codec_err_t get_stream_info(vpx_state *state, vpx_codec_stream_info_t *info)
@@ -248,13 +252,14 @@ static vpx_codec_err_t error_of_status(const vpx_state *state, vp8_status status
   }
 }
 
-/* Counts the refused packet, and makes the status's name the error detail. */
+/* Counts the refused packet, and makes the status's name the error detail. Pictures after it may lack what it had. */
 static vpx_codec_err_t refuse(vpx_state *state, vp8_status status)
 {
   uint8_t name[32] = { 0 };
   vp8_status_name(status, name, sizeof name - 1);
   snprintf(state->error_detail, sizeof state->error_detail, "vp8: %s", (const char *)name);
   state->base.error_detail = state->error_detail;
+  state->is_corrupt = 1;
   state->counts.refused++;
   return error_of_status(state, status);
 }
@@ -280,9 +285,11 @@ static vpx_codec_err_t decode_packet(vpx_state *state, const uint8_t *packet, si
 {
   /* The result is in `stream_info`, which keeps the last size if the packet has none. */
   (void)peek_stream_info(packet, (unsigned int)len, &state->stream_info);
-  vp8_status status = vp8_decoder_decode(&state->decoder, packet, len);
+  int has_frame = vp8_decoder_frame(&state->decoder, packet, len, &state->frame) == VP8_OK;
+  vp8_status status = vp8_decoder_decode_keeping(&state->decoder, packet, len);
   if (status != VP8_OK && status != VP8_HIDDEN) return refuse(state, status);
-  state->has_header = read_packet_header(packet, len, &state->header);
+  state->has_frame = has_frame;
+  state->is_corrupt = state->is_corrupt && !state->frame.key;
   state->has_decoded = 1;
   state->user = user;
   if (status == VP8_HIDDEN) {
@@ -326,7 +333,7 @@ static vpx_codec_err_t decode(vpx_state *state, const uint8_t *data, unsigned in
   if (len > INT_MAX) return VPX_CODEC_INVALID_PARAM;
   state->counts.packets++;
   state->has_picture = 0;
-  state->has_header = 0;
+  state->has_frame = 0;
   state->base.error_detail = NULL;
   return state->decrypt ? decrypt_and_decode(state, data, len, user) : decode_packet(state, data, len, user);
 }
@@ -338,30 +345,30 @@ static vpx_codec_err_t give_number(const vpx_state *state, va_list arguments, in
 {
   int *out = va_arg(arguments, int *);
   if (!out) return VPX_CODEC_INVALID_PARAM;
-  if (!state->has_header) return VPX_CODEC_CORRUPT_FRAME;
+  if (!state->has_frame) return VPX_CODEC_CORRUPT_FRAME;
   *out = number;
   return VPX_CODEC_OK;
 }
 
 static vpx_codec_err_t get_last_updates(vpx_state *state, va_list arguments)
 {
-  const struct packet_header *header = &state->header;
-  return give_number(state, arguments, (header->updates_last ? VP8_LAST_FRAME : 0) |
-                                           (header->updates_golden ? VP8_GOLD_FRAME : 0) |
-                                           (header->updates_altref ? VP8_ALTR_FRAME : 0));
+  const vp8_frame *frame = &state->frame;
+  return give_number(state, arguments, (frame->refreshes_last ? VP8_LAST_FRAME : 0) |
+                                           (frame->refreshes_golden ? VP8_GOLD_FRAME : 0) |
+                                           (frame->refreshes_altref ? VP8_ALTR_FRAME : 0));
 }
 
 static vpx_codec_err_t get_last_quantiser(vpx_state *state, va_list arguments)
 {
-  return give_number(state, arguments, state->header.quantiser_index);
+  return give_number(state, arguments, (int)state->frame.quantiser);
 }
 
-/* A corrupt packet is refused, so that no picture of one is given. */
+/* A damaged packet is refused, so that no picture of one is given. Pictures after it are corrupt up to a key frame. */
 static vpx_codec_err_t get_corrupted(vpx_state *state, va_list arguments)
 {
   int *out = va_arg(arguments, int *);
   if (!out || !state->has_decoded) return VPX_CODEC_INVALID_PARAM;
-  *out = 0;
+  *out = state->is_corrupt;
   return VPX_CODEC_OK;
 }
 
