@@ -1,15 +1,18 @@
 //! Serves one connection over a reader and a writer.
 
-ghost use Rattle.std.specs.Prelude.{◌≡◌, ◌≢◌, ◌⊎◌, ◌≤◌, ◌+◌, ◌^◌, ℕ, List, Some, Ok, Err};
+ghost use Rattle.std.specs.Prelude.{◌≡◌, ◌≢◌, ◌⊎◌, ◌≤◌, ◌+◌, ◌^◌, ℕ, List, Some, Ok, Err, OnOk, IfErr};
 ghost use Rattle.std.specs.Io.KnownBytes.{Consumes};
 ghost use Rattle.vp_base.specs.Counted.{counted_remaining, counted_contents, counted_failures, counted_reads, one_more};
 ghost use Rattle.vp_base.specs.Counted.{HasFailed, HasRisenBy};
+ghost use Rattle.vp_hub.specs.declared.event.Event.{Event};
+ghost use Rattle.vp_hub.specs.declared.event.Reply.{Reply};
 ghost use Rattle.vp_hub.specs.declared.session.ServeFault.{ServeFault};
-ghost use Rattle.vp_hub.specs.Hub.{connection_state_of, new_connection_state};
+ghost use Rattle.vp_hub.specs.Hub.{IsStep, Outcome, connection_state_of, new_connection_state};
 ghost use Rattle.vp_hub.specs.Names.{serve_fault_name};
 ghost use Rattle.vp_hub.specs.Lines.{IsLine};
 ghost use Rattle.vp_hub.specs.Sessions.{AnswersLine, AnswersPiece, Exchanges, IsOpenSession, IsPiece, IsSession};
 ghost use Rattle.vp_hub.specs.Sessions.{IsTurnedAway, IsUnchangedApart};
+ghost use Rattle.vp_hub.specs.Work.{IsWorked};
 
 use crate::event::{Event, HubFault};
 use crate::hub::Hub;
@@ -82,12 +85,33 @@ pub fn serve_one<R: Read, W: Write>(
     ensures turns { result ≡ Err ServeFault.ReadTurns →
         HasRisenBy (2 ^ 20) (counted_reads reader.old) (counted_reads reader.new) }
 {
-    if let Err(fault) = hub.step(&Event::Open(conn)) {
+    if let Err(fault) = open_connection(hub, conn) {
         return Err(ServeFault::Hub(fault));
     }
     let served = serve_open(hub, conn, reader, writer);
-    let _ = hub.step(&Event::Shut(conn));
+    shut_connection(hub, conn);
     served
+}
+
+// Opens the connection in the hub.
+fn open_connection(hub: &mut Hub, conn: u32) -> Result<(), HubFault>
+    ensures opened { OnOk result ((reply : Reply) × IsStep hub.old.state (Event.Open conn) (Ok reply) hub.new.state
+        × IsWorked hub.old (Event.Open conn) (Ok reply) hub.new) }
+    ensures refused { IfErr result (λ fault. IsStep hub.old.state (Event.Open conn) (Err fault) hub.new.state
+        × IsWorked hub.old (Event.Open conn) (Err fault) hub.new) }
+{
+    match hub.step(&Event::Open(conn)) {
+        Ok(_) => Ok(()),
+        Err(fault) => Err(fault),
+    }
+}
+
+// Shuts the connection in the hub.
+fn shut_connection(hub: &mut Hub, conn: u32)
+    ensures { (o : Outcome) × IsStep hub.old.state (Event.Shut conn) o hub.new.state
+        × IsWorked hub.old (Event.Shut conn) o hub.new }
+{
+    let _ = hub.step(&Event::Shut(conn));
 }
 
 // Reads and responds until the end, a response that closes the connection, or a fault.

@@ -1,9 +1,21 @@
-use Rattle.std.proofs.Common.{◌∙◌, ◌∷◌, ◌++◌, [], false, Ok, Err, take, subst}
+use Rattle.std.proofs.Common.{◌≡◌, ◌∙◌, ◌∷◌, ◌++◌, [], Bool, true, false, Result, Ok, Err, take, refl, subst}
 use Rattle.std.proofs.lemmas.Result.{err_from_is_err_and}
 use Rattle.vp_base.specs.Counted.{counted_contents, counted_failures, HasFailed}
+use Rattle.vp_hub.specs.declared.session.ServeFault.{ServeFault}
+use Rattle.vp_hub.specs.declared.session.ServeFault.TheVariants.{Device}
 use Rattle.vp_hub.specs.Sessions.{AnswersLine}
 use Rattle.vp_hub.proofs.Visiting.{answers_last, answers_on, goes_on_more, lines_push, rest_fits, stops_in}
 use Rattle.vp_hub.proofs.session.answer_lines.Goals as goal
+
+-- what was answered is no failed device
+no_failure : (more : Bool) → ◌≡◌ {A = Result Bool ServeFault} (Ok more) (Err Device) → ⊥
+no_failure more e = cc
+
+pub loop-rest-init : goal.loop-rest-init
+loop-rest-init g c = ([], refl, (refl, refl), refl, c.requires.1)
+
+pub answer_line-requires-clause-is_line : goal.answer_line-requires-clause-is_line
+answer_line-requires-clause-is_line g c = c.first_line-count.ensures.line
 
 pub returns-in_err-answer_line-clause-answered : goal.returns-in_err-answer_line-clause-answered
 returns-in_err-answer_line-clause-answered g c =
@@ -42,6 +54,18 @@ loop-rest-preserved g c =
       inv.0 ++ take n rest ∷ [],
       lines_push inv.0 c.args.piece.now rest n inv.1,
       goes_on_more c.args.conn inv.0 (take n rest) c.args.hub.now c.loop-rest.hub c.answer_line.new.hub (counted_contents g.W.Write.contents c.args.writer.now) mid then inv.2 x,
-      c.in_ok-answer_line.ensures.quiet (λ e. cc) ∙ inv.3,
+      c.in_ok-answer_line.ensures.quiet (no_failure c.in_ok-answer_line.field-0) ∙ inv.3,
       rest_fits rest n inv.4,
     )
+
+pub returns-then-not-branch-clause-device : goal.returns-then-not-branch-clause-device
+returns-then-not-branch-clause-device g c e = absurd (no_failure false e)
+
+pub returns-then-not-branch-clause-quiet : goal.returns-then-not-branch-clause-quiet
+returns-then-not-branch-clause-quiet g c _ = c.in_ok-answer_line.ensures.quiet (no_failure c.in_ok-answer_line.field-0) ∙ c.loop-rest.invariant.3
+
+pub returns-clause-device : goal.returns-clause-device
+returns-clause-device g c e = absurd (no_failure true e)
+
+pub returns-clause-quiet : goal.returns-clause-quiet
+returns-clause-quiet g c _ = c.loop-rest.invariant.3

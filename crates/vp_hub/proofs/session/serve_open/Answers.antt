@@ -1,11 +1,20 @@
-use Rattle.std.proofs.Common.{◌≡◌, ◌∙◌, ◌+◌, ◌^◌, ◌++◌, [], Ok, Err, refl, sym, subst, arith}
+use Rattle.std.proofs.Common.{◌≡◌, ◌≤◌, ◌∙◌, ◌+◌, ◌^◌, ◌++◌, [], ℕ, Bool, Result, Ok, Err, refl, sym, subst, arith}
 use Rattle.std.proofs.KnownBytes.{Consumes-nil, Consumes-trans}
 use Rattle.std.proofs.lemmas.Result.{err_from_is_err_and}
 use Rattle.vp_base.specs.Counted.{counted_remaining, counted_contents, counted_failures, counted_reads, HasFailed, HasRisenBy}
 use Rattle.vp_base.proofs.CallLemmas.{risen_by_none, risen_by_one_more}
+use Rattle.vp_hub.specs.declared.session.ServeFault.{ServeFault}
+use Rattle.vp_hub.specs.declared.session.ServeFault.TheVariants.{Device}
 use Rattle.vp_hub.specs.Sessions.{Exchanges}
 use Rattle.vp_hub.proofs.Visiting.{begins_talking, ends_faulty, ends_well, talks_on, runs_out, risen_at_most, one_read_more}
 use Rattle.vp_hub.proofs.session.serve_open.Goals as goal
+
+-- what was answered is no failed device
+no_failure : (more : Bool) → ◌≡◌ {A = Result Bool ServeFault} (Ok more) (Err Device) → ⊥
+no_failure more e = cc
+
+all_turns : (n most : ℕ) → most ≤ n → n ≤ most → n ≡ most
+all_turns n most least turns = omega (arith, least, turns)
 
 pub loop-turn-init : goal.loop-turn-init
 loop-turn-init g c = (
@@ -73,8 +82,8 @@ loop-turn-preserved g c =
       talks_on c.args.conn c.args.hub.now c.loop-turn.hub c.exchange.new.hub c.requires inv.0 now.0 (counted_contents g.W.Write.contents c.args.writer.now) (counted_contents g.W.Write.contents c.loop-turn.writer)
           (counted_contents g.W.Write.contents c.exchange.new.writer) left c.loop-turn._turn
           (HasFailed (counted_failures c.loop-turn.writer) (counted_failures c.exchange.new.writer)) inv.2 c.in_ok-exchange.field-0 c.if-not-branch.false now.2,
-      (c.in_ok-exchange.ensures.quiet (λ e. cc)).0 ∙ inv.3,
-      (c.in_ok-exchange.ensures.quiet (λ e. cc)).1 ∙ inv.4,
+      (c.in_ok-exchange.ensures.quiet (no_failure c.in_ok-exchange.field-0)).0 ∙ inv.3,
+      (c.in_ok-exchange.ensures.quiet (no_failure c.in_ok-exchange.field-0)).1 ∙ inv.4,
       subst (λ n. HasRisenBy (c.loop-turn._turn + 1) (counted_reads c.args.reader.now) n) (sym c.in_ok-exchange.ensures.counts)
           (risen_by_one_more c.loop-turn._turn (counted_reads c.args.reader.now) (counted_reads c.loop-turn.reader) inv.5),
     )
@@ -91,13 +100,13 @@ returns-then-not-branch-clause-reads g c =
 
 pub returns-clause-reads : goal.returns-clause-reads
 returns-clause-reads g c =
-    let all : c.loop-turn._turn ≡ 2 ^ 20 = omega (arith, c.loop-turn-test.false, c.loop-turn.auto._turn-end) in
-    let most = risen_at_most c.loop-turn._turn (counted_reads c.args.reader.now) (counted_reads c.loop-turn.reader) c.loop-turn.invariant.5 in
-    omega arith
+    subst (λ n. counted_reads c.loop-turn.reader ≤ counted_reads c.args.reader.now + n)
+    (all_turns c.loop-turn._turn (2 ^ 20) c.loop-turn-test.false c.loop-turn.auto._turn-end)
+    (risen_at_most c.loop-turn._turn (counted_reads c.args.reader.now) (counted_reads c.loop-turn.reader) c.loop-turn.invariant.5)
 
 pub returns-clause-turns : goal.returns-clause-turns
 returns-clause-turns g c =
-    let all : c.loop-turn._turn ≡ 2 ^ 20 = omega (arith, c.loop-turn-test.false, c.loop-turn.auto._turn-end) in
+    let all = all_turns c.loop-turn._turn (2 ^ 20) c.loop-turn-test.false c.loop-turn.auto._turn-end in
     λ e. subst (λ n. HasRisenBy n (counted_reads c.args.reader.now) (counted_reads c.loop-turn.reader)) all c.loop-turn.invariant.5
 
 pub returns-clause-talked : goal.returns-clause-talked
@@ -107,5 +116,5 @@ returns-clause-talked g c =
       inv.1,
       runs_out c.args.conn c.args.hub.now c.loop-turn.hub c.requires inv.0 (counted_contents g.W.Write.contents c.args.writer.now) (counted_contents g.W.Write.contents c.loop-turn.writer)
           (counted_remaining g.R.Read.remaining c.loop-turn.reader) c.loop-turn._turn (HasFailed (counted_failures c.args.writer.now) (counted_failures c.loop-turn.writer)) inv.2
-          (omega (arith, c.loop-turn-test.false, c.loop-turn.auto._turn-end)),
+          (all_turns c.loop-turn._turn (2 ^ 20) c.loop-turn-test.false c.loop-turn.auto._turn-end),
     )
