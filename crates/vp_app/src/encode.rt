@@ -48,7 +48,6 @@ impl<E: Write> Watcher for Progress<'_, E> {
 
 /// Opens the input file, creates the output file, and encodes. The output must not be the input file, because creating
 /// it would empty it.
-#[tactic(auto, using(crate::proofs::CommandLemmas::pictures_stream, crate::proofs::CommandLemmas::pictures_file, crate::proofs::CommandLemmas::pictures_none))]
 pub(crate) fn encode<H: Files + AllocGlobal, R: Read, W: Write, E: Write>(
     rt: &H,
     encoding: &EncodeArgs<'_>,

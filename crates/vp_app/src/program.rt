@@ -165,7 +165,6 @@ fn reject<W: Write, E: Write>(
 }
 
 // Opens the files, and decodes. The output must not be the input file, because creating it would empty it.
-#[tactic(auto, using(crate::proofs::CommandLemmas::from_stream, crate::proofs::CommandLemmas::from_file, crate::proofs::CommandLemmas::from_none))]
 fn decode<H: Files + AllocGlobal, R: Read, W: Write>(
     rt: &H,
     form: Form,

@@ -17,7 +17,6 @@ use vp_stream::{DecodeFault, Form};
 
 /// Opens the files, and decodes the pictures of the range. The output must not be the input file, because creating it
 /// would empty it.
-#[tactic(auto, using(crate::proofs::CommandLemmas::range_stream, crate::proofs::CommandLemmas::range_file, crate::proofs::CommandLemmas::range_none))]
 pub(crate) fn decode_packets<H: Files + AllocGlobal, R: Read, W: Write>(
     rt: &H,
     form: Form,

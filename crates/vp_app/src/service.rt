@@ -1,11 +1,13 @@
 //! The command `vp8 serve`: feeds files into a hub, and then serves connections, one after another.
 
-ghost use Rattle.std.specs.Prelude.{◌≡◌, ◌≢◌, ℕ, List, Err, IfOk, false};
+ghost use Rattle.std.specs.Prelude.{◌≡◌, ◌≢◌, ℕ, List, Option, Ok, Err, IfOk, IfErr, false};
 ghost use Rattle.std.specs.IoError.{error_kind};
 ghost use Rattle.std.specs.declared.io.ErrorKind.{ErrorKind};
 ghost use Rattle.std.specs.Io.KnownBytes.{Consumes};
 ghost use Rattle.vp_base.specs.Counted.{counted_remaining};
-ghost use Rattle.vp_hub.specs.Hub.{HubState};
+ghost use Rattle.vp_hub.specs.declared.event.Event.{Event};
+ghost use Rattle.vp_hub.specs.declared.event.Reply.{Reply};
+ghost use Rattle.vp_hub.specs.Hub.{HubState, IsStep, Outcome};
 ghost use Rattle.vp_hub.specs.Names.{are_names};
 ghost use Rattle.vp_hub.specs.View.{is_memory as hub_is_memory};
 ghost use Rattle.vp_app.specs.declared.service.ServiceFault.{ServiceFault};
@@ -87,8 +89,10 @@ pub(crate) fn serve<
     // Nothing is printed unless the address is asked for.
     ensures quiet { service.now.show_address ≡ false → output.new ≡ output.old }
 {
-    let mut hub = new_hub(rt.alloc(), service)?;
-    serve_over(rt, &mut hub, service, input, output, errors)
+    match new_hub(rt.alloc(), service) {
+        Ok(mut hub) => serve_over(rt, &mut hub, service, input, output, errors),
+        Err(fault) => Err(fault),
+    }
 }
 
 // Feeds the files and serves the connections, as `serve` does, with a new hub.
@@ -268,21 +272,60 @@ fn feed_piece<R: Read>(
 {
     let mut buffer = [0; 4096];
     let count = reader.read(&mut buffer)?;
-    let name = byte_list(alloc, name.as_bytes())?;
     if count == 0 {
-        let _ = hub.step(&Event::End(name));
+        mark_end(alloc, hub, name)?;
         return Ok(false);
     }
-    let piece = byte_list(alloc, &buffer[..count])?;
-    let end = byte_list(alloc, name.as_slice())?;
-    let Err(fault) = hub.step(&Event::Feed(name, piece)) else {
+    feed_bytes(alloc, hub, name, &buffer[..count])
+}
+
+// Marks the end of a stream.
+fn mark_end(alloc: Global, hub: &mut Hub, name: &str) -> Result<(), AllocError>
+    ensures { IfOk result (λ _. (told : Outcome) × IsStep hub.old.state (Event.End name.now) told hub.new.state) }
+{
+    let end = byte_list(alloc, name.as_bytes())?;
+    let _ = step(hub, Event::End(end));
+    Ok(())
+}
+
+// Feeds bytes to a stream. If the stream refuses them, it marks the stream's end and returns false.
+fn feed_bytes(alloc: Global, hub: &mut Hub, name: &str, bytes: &[u8]) -> Result<bool, ServiceFault>
+    ensures fed { (left : Option (List ℕ)) → FeedsPiece name.now hub.old.state hub.new.state result bytes.now left }
+    ensures names { result ≢ Err ServiceFault.Names }
+{
+    let stream = byte_list(alloc, name.as_bytes())?;
+    let piece = byte_list(alloc, bytes)?;
+    let end = byte_list(alloc, name.as_bytes())?;
+    feed_or_end(hub, Event::Feed(stream, piece), end)
+}
+
+// Hands a piece of a stream to the hub. If it is refused, but not for want of memory, it marks the end of the stream
+// with this name, and returns false.
+fn feed_or_end(hub: &mut Hub, feed: Event, name: ByteList) -> Result<bool, ServiceFault>
+    ensures fed { (piece : List ℕ) (left : Option (List ℕ)) → feed ≡ Event.Feed name piece
+        → FeedsPiece name hub.old.state hub.new.state result piece left }
+    ensures names { result ≢ Err ServiceFault.Names }
+{
+    let Err(fault) = step(hub, feed) else {
         return Ok(true);
     };
     if is_memory(fault) {
         return Err(ServiceFault::Memory);
     }
-    let _ = hub.step(&Event::End(end));
+    let _ = step(hub, Event::End(name));
     Ok(false)
+}
+
+// Hands an event to the hub, and drops the reply.
+fn step(hub: &mut Hub, event: Event) -> Result<(), HubFault>
+    ensures ok { IfOk result (λ _. (reply : Reply) × IsStep hub.old.state event (Ok reply) hub.new.state) }
+    ensures err { IfErr result (λ fault. IsStep hub.old.state event (Err fault) hub.new.state) }
+    ensures either { (told : Outcome) × IsStep hub.old.state event told hub.new.state }
+{
+    match hub.step(&event) {
+        Ok(_) => Ok(()),
+        Err(fault) => Err(fault),
+    }
 }
 
 fn is_memory(fault: HubFault) -> bool
