@@ -32,7 +32,7 @@ LENGTHS = {
     "docs/TESTING.md": 110,
     "docs/EMBEDDING.md": 120,
     "docs/SERVER.md": 120,
-    "docs/PERFORMANCE.md": 110,
+    "docs/PERFORMANCE.md": 160,
     "docs/DECISIONS.md": 215,
     "crates/*/README.md": 25,
 }
