@@ -151,6 +151,49 @@ vp8_status vp8_decoder_copy(vp8_decoder *decoder,
                             uint8_t *u, size_t u_len, size_t u_stride,
                             uint8_t *v, size_t v_len, size_t v_stride);
 
+/* A plane in the decoder's memory: row r begins r strides after `at`. */
+typedef struct vp8_lent_plane {
+  const uint8_t *at;
+  size_t stride;
+} vp8_lent_plane;
+
+typedef struct vp8_lent_picture {
+  uint32_t width;   /* in pixels; U and V have half of each side, rounded up */
+  uint32_t height;
+  vp8_lent_plane y, u, v;
+} vp8_lent_picture;
+
+/* Lends the picture that the last packet showed: nothing is copied. It is valid until the next call for this decoder, and
+ * is only read: later frames are predicted from it. No bytes follow the last row but those of its stride.
+ * VP8_NO_PICTURE, VP8_CLOSED: nothing is written. */
+vp8_status vp8_decoder_lend(vp8_decoder *decoder, vp8_lent_picture *lent);
+
+/* Writes 1 to *corrupt if a partition of the packet that was decoded last was read past its end: zeros are read there, so
+ * that its picture is most likely damaged, which no status names; else 0, also if the last packet had no bytes or could
+ * not be decoded, and before the first one. Pictures that are predicted from a corrupt one may be damaged with it, up to
+ * the next key frame, which this call does not tell. Most damage lies within a partition, and can't be told from another
+ * picture.
+ * VP8_CLOSED: nothing is written. */
+vp8_status vp8_decoder_corrupt(vp8_decoder *decoder, uint32_t *corrupt);
+
+/* The reference frames, from which later frames are predicted. */
+enum {
+  VP8_LAST = 1,
+  VP8_GOLDEN = 2,
+  VP8_ALTREF = 3
+};
+
+/* The size in pixels of the reference frames, which is that of the frame that was decoded last. VP8_NO_PICTURE: there are
+ * none before the first key packet, and after a packet that vp8_decoder_decode refused; VP8_CLOSED: nothing is written. */
+vp8_status vp8_decoder_reference_size(vp8_decoder *decoder, uint32_t *width, uint32_t *height);
+
+/* Copies a reference frame as vp8_decoder_copy does. VP8_NO_PICTURE: there are none, or the number is none of the three;
+ * VP8_BUFFER, VP8_CLOSED: nothing is written. */
+vp8_status vp8_decoder_reference(vp8_decoder *decoder, uint32_t reference,
+                                 uint8_t *y, size_t y_len, size_t y_stride,
+                                 uint8_t *u, size_t u_len, size_t u_stride,
+                                 uint8_t *v, size_t v_len, size_t v_stride);
+
 /* Frees what the decoder holds, and closes it. */
 void vp8_decoder_free(vp8_decoder *decoder);
 

@@ -138,9 +138,10 @@ static vpx_codec_err_t error_wanted(vp8_status status, int had_picture)
   return VPX_CODEC_CORRUPT_FRAME;
 }
 
-/* A stream that is decoded: whether a packet had a picture, and whether one was refused since the last key frame. */
+/* A stream that is decoded: whether a packet had a picture; whether the last packet was refused or is corrupt, and
+ * whether any was from the last key frame on. */
 struct course {
-  int had_picture, is_corrupt;
+  int had_picture, is_damaged, was_damaged;
 };
 
 static void check_controls(vpx_codec_ctx_t *codec, unsigned long n, int is_decoded, const vp8_frame *frame,
@@ -156,7 +157,7 @@ static void check_controls(vpx_codec_ctx_t *codec, unsigned long n, int is_decod
   expect(!is_decoded || number == updates, n, "other updates");
   if (!course->had_picture) return;
   expect(vpx_codec_control(codec, VP8D_GET_FRAME_CORRUPTED, &number) == VPX_CODEC_OK, n, "corrupted: status");
-  expect(number == course->is_corrupt, n, "another flag of corruption");
+  expect(number >= course->is_damaged && number <= course->was_damaged, n, "another flag of corruption");
 }
 
 /* The picture that the packet shows is given once, and is the program's to turn over or to release. */
@@ -187,13 +188,16 @@ static void check_packet(vpx_codec_ctx_t *codec, vp8_decoder *decoder, unsigned 
   vp8_status status = vp8_decoder_decode_keeping(decoder, packet, len);
   vpx_codec_err_t error = hand_over(codec, handover, packet, len, user);
   int is_decoded = status == VP8_OK || status == VP8_HIDDEN;
+  uint32_t is_corrupt = 0;
   packets++;
-  refused += !is_decoded;
   expect(is_decoded ? facts == VP8_OK : facts == status, n, "facts of another packet");
+  expect(vp8_decoder_corrupt(decoder, &is_corrupt) == VP8_OK, n, "no word on corruption");
+  refused += !is_decoded;
   expect(error == error_wanted(status, course->had_picture), n, "another error");
   expect(is_decoded || is_detail_of(vpx_codec_error_detail(codec), status), n, "another error detail");
   course->had_picture |= is_decoded;
-  course->is_corrupt = !is_decoded || (course->is_corrupt && !frame.key);
+  course->is_damaged = !is_decoded || is_corrupt;
+  course->was_damaged = course->is_damaged || (course->was_damaged && !frame.key);
   check_controls(codec, n, is_decoded, &frame, course);
   check_picture(codec, n, decoder, status == VP8_OK, user);
   (void)vpx_codec_peek_stream_info(vpx_codec_vp8_dx(), packet, (unsigned int)len, &info);
@@ -219,7 +223,7 @@ static void check_file(const uint8_t *file, size_t file_len, int handover)
   vpx_codec_ctx_t codec;
   vp8_decoder decoder = VP8_INIT;
   size_t at = 32, len;
-  struct course course = { 0, 0 };
+  struct course course = { 0, 0, 0 };
   const uint8_t *packet;
   if (vp8_decoder_new(&decoder, MAX_PIXELS) != VP8_OK) abort();
   open_codec(&codec, handover);

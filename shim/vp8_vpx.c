@@ -47,7 +47,8 @@ struct vpx_codec_alg_priv {
   int has_decoded;       /* a packet was decoded before */
   int has_picture;       /* the last packet shows a picture that was not given yet */
   int has_frame;         /* `frame` is the last packet's */
-  int is_corrupt;        /* a packet was refused, and no key frame was decoded since */
+  int is_corrupt;        /* the frame that was decoded last is damaged, or a packet after it was refused */
+  int is_last_corrupt;   /* the last frame, from which others are predicted, is */
   vp8_frame frame;
   void *user;            /* the last decoded packet's user pointer */
   vpx_image_t image;
@@ -252,16 +253,27 @@ static vpx_codec_err_t error_of_status(const vpx_state *state, vp8_status status
   }
 }
 
-/* Counts the refused packet, and makes the status's name the error detail. Pictures after it may lack what it had. */
+/* Counts the refused packet, and makes the status's name the error detail. What the packet had is not known: as in
+ * libvpx, the last frame then counts as damaged. */
 static vpx_codec_err_t refuse(vpx_state *state, vp8_status status)
 {
   uint8_t name[32] = { 0 };
   vp8_status_name(status, name, sizeof name - 1);
   snprintf(state->error_detail, sizeof state->error_detail, "vp8: %s", (const char *)name);
   state->base.error_detail = state->error_detail;
-  state->is_corrupt = 1;
+  state->is_corrupt = state->is_last_corrupt = 1;
   state->counts.refused++;
   return error_of_status(state, status);
+}
+
+/* Whether the frame that was decoded is damaged. As in libvpx it is if a partition was read past its end, or if it is
+ * predicted from a damaged frame; libvpx asks each macroblock for its reference, and this the last frame alone. */
+static void mark_frame(vpx_state *state)
+{
+  uint32_t is_corrupt = 0;
+  (void)vp8_decoder_corrupt(&state->decoder, &is_corrupt);
+  state->is_corrupt = is_corrupt || (!state->frame.key && state->is_last_corrupt);
+  if (state->frame.refreshes_last) state->is_last_corrupt = state->is_corrupt;
 }
 
 /* Keeps a fragment of the next packet: its header and first partition, or token partitions, in order. */
@@ -289,7 +301,7 @@ static vpx_codec_err_t decode_packet(vpx_state *state, const uint8_t *packet, si
   vp8_status status = vp8_decoder_decode_keeping(&state->decoder, packet, len);
   if (status != VP8_OK && status != VP8_HIDDEN) return refuse(state, status);
   state->has_frame = has_frame;
-  state->is_corrupt = state->is_corrupt && !state->frame.key;
+  mark_frame(state);
   state->has_decoded = 1;
   state->user = user;
   if (status == VP8_HIDDEN) {
@@ -363,7 +375,7 @@ static vpx_codec_err_t get_last_quantiser(vpx_state *state, va_list arguments)
   return give_number(state, arguments, (int)state->frame.quantiser);
 }
 
-/* A damaged packet is refused, so that no picture of one is given. Pictures after it are corrupt up to a key frame. */
+/* Whether the frame that was decoded last is damaged, or a packet after it was refused. */
 static vpx_codec_err_t get_corrupted(vpx_state *state, va_list arguments)
 {
   int *out = va_arg(arguments, int *);

@@ -15,6 +15,8 @@ import vp8
 # A key packet of 17 by 1 pixels whose first partition is empty: each pixel of its picture is 128.
 KEY = bytes([0x10, 0, 0, 0x9d, 0x01, 0x2a, 17, 0, 1, 0])
 HIDDEN = bytes([0x01, 0, 0])
+# A key packet that libvpx finds complete, and read past its end with one byte less.
+WHOLE = bytes.fromhex('9002009d012a11000100000000000000000000000000000000000000000029f88512004af0bfa30b8b')
 
 
 def ivf(*packets):
@@ -73,6 +75,37 @@ class Decoders(unittest.TestCase):
             self.assertEqual(decoder.decode_keeping(inter).data, bytes([128]) * 35)
             self.assertEqual(status_of(decoder.decode, KEY[:9])[0], vp8.TRUNCATED)
             self.assertEqual(status_of(decoder.decode_keeping, inter)[0], vp8.NO_REFERENCE)
+
+    def test_damage_is_told(self):
+        with vp8.Decoder(17) as decoder:
+            self.assertFalse(decoder.is_corrupt)
+            for packet, is_corrupt in ((WHOLE, False), (WHOLE[:-1], True), (b'', False), (WHOLE[:-1], True)):
+                decoder.decode_keeping(packet)
+                self.assertEqual(decoder.is_corrupt, is_corrupt)
+            self.assertEqual(status_of(decoder.decode_keeping, KEY[:9])[0], vp8.TRUNCATED)
+            self.assertFalse(decoder.is_corrupt)
+
+    def test_references_are_copied(self):
+        with vp8.Decoder(17) as decoder:
+            self.assertEqual(status_of(decoder.reference, vp8.LAST)[0], vp8.NO_PICTURE)
+            picture = decoder.decode(WHOLE)
+            for number in (vp8.LAST, vp8.GOLDEN, vp8.ALTREF):
+                self.assertEqual(decoder.reference(number).data, picture.data)
+            self.assertEqual(status_of(decoder.reference, 0)[0], vp8.NO_PICTURE)
+
+    def test_pictures_are_lent(self):
+        with vp8.Decoder(17) as decoder:
+            with self.assertRaises(vp8.Error), decoder.lend():
+                pass
+            picture = decoder.decode(WHOLE)
+            with decoder.lend() as lent:
+                self.assertEqual((lent.width, lent.height, lent.y.shape), (17, 1, (1, 32)))
+                for name in 'yuv':
+                    copied = getattr(picture, name)
+                    rows = [row[:copied.shape[1]] for row in getattr(lent, name).tolist()]
+                    self.assertEqual(rows, copied.tolist())
+                self.assertRaises(TypeError, lent.y.__setitem__, (0, 0), 1)
+            self.assertRaises(ValueError, lent.y.tolist)
 
     def test_packets_are_peeked(self):
         self.assertEqual(vp8.peek(KEY), vp8.PacketInfo(True, True, 17, 1))

@@ -21,15 +21,16 @@ trusts. A lock in each object keeps two threads out of one handle.
 The library is the file that the environment variable VP8_LIBRARY names, or libvp8.so.0 as the system finds it.
 """
 import collections
+import contextlib
 import ctypes
 import os
 import threading
 
-__all__ = ['Decoder', 'Error', 'Frame', 'PacketInfo', 'Picture', 'Stream', 'StreamInfo', 'packets', 'peek',
+__all__ = ['Decoder', 'Error', 'Frame', 'LentPicture', 'PacketInfo', 'Picture', 'Stream', 'StreamInfo', 'packets', 'peek',
            'DEFAULT_MAX_PIXELS',
            'OK', 'HIDDEN', 'TRUNCATED', 'VERSION', 'START_CODE', 'SIZE', 'TOO_LARGE', 'NO_REFERENCE',
            'FIRST_PARTITION', 'PARTITION_TABLE', 'PARTITION', 'SIGNATURE', 'CODEC', 'TOO_MANY', 'PACKET_TOO_LARGE',
-           'TORN', 'ENDED', 'CLOSED', 'MEMORY', 'LIMITS', 'NO_PICTURE', 'NO_PACKET']
+           'TORN', 'ENDED', 'CLOSED', 'MEMORY', 'LIMITS', 'NO_PICTURE', 'NO_PACKET', 'LAST', 'GOLDEN', 'ALTREF']
 
 # The numbers of include/vp8.h. PARTITION + n is token partition n.
 OK, HIDDEN = 0, 1
@@ -37,6 +38,9 @@ TRUNCATED, VERSION, START_CODE, SIZE, TOO_LARGE, NO_REFERENCE, FIRST_PARTITION, 
 SIGNATURE, CODEC, TOO_MANY, PACKET_TOO_LARGE, TORN, ENDED = range(32, 38)
 CLOSED, OPEN, MEMORY, LIMITS, DIMENSIONS, NO_PICTURE, NO_PACKET, BUFFER = range(64, 72)
 PARTITION = 256
+
+# The reference frames.
+LAST, GOLDEN, ALTREF = 1, 2, 3
 
 DEFAULT_MAX_PIXELS = 16777216
 
@@ -59,6 +63,14 @@ class _Frame(ctypes.Structure):
         'refreshes_last', 'refreshes_golden', 'refreshes_altref')]
 
 
+class _LentPlane(ctypes.Structure):
+    _fields_ = [('at', ctypes.c_void_p), ('stride', ctypes.c_size_t)]
+
+
+class _LentPicture(ctypes.Structure):
+    _fields_ = [('width', ctypes.c_uint32), ('height', ctypes.c_uint32)] + [(name, _LentPlane) for name in 'yuv']
+
+
 def _load():
     library = ctypes.CDLL(os.environ.get('VP8_LIBRARY') or 'libvp8.so.0')
     handle, size, number = ctypes.POINTER(_Handle), ctypes.c_size_t, ctypes.c_uint32
@@ -72,6 +84,10 @@ def _load():
         'vp8_decoder_frame': (number, [handle, memory, size, ctypes.POINTER(_Frame)]),
         'vp8_decoder_size': (number, [handle, numbers, numbers]),
         'vp8_decoder_copy': (number, [handle] + [memory, size, size] * 3),
+        'vp8_decoder_lend': (number, [handle, ctypes.POINTER(_LentPicture)]),
+        'vp8_decoder_corrupt': (number, [handle, numbers]),
+        'vp8_decoder_reference_size': (number, [handle, numbers, numbers]),
+        'vp8_decoder_reference': (number, [handle, number] + [memory, size, size] * 3),
         'vp8_decoder_free': (None, [handle]),
         'vp8_stream_new': (number, [handle, memory, size]),
         'vp8_stream_new_empty': (number, [handle]),
@@ -157,11 +173,28 @@ class Picture:
         return ctypes.addressof(ctypes.c_char.from_buffer(self.data))
 
 
+class _Lock:
+    """A lock that a thread takes once: a second time, in the block of `lend`, raises RuntimeError, without waiting."""
+
+    def __init__(self):
+        self._lock, self._owner = threading.Lock(), None
+
+    def __enter__(self):
+        if self._owner == threading.get_ident():
+            raise RuntimeError('the picture is lent: no call of its decoder in the block')
+        self._lock.acquire()
+        self._owner = threading.get_ident()
+
+    def __exit__(self, *_):
+        self._owner = None
+        self._lock.release()
+
+
 class _Closing:
     """What decoders and streams share: a handle, its lock, and closing."""
 
     def __init__(self):
-        self._handle, self._lock = _Handle(), threading.Lock()
+        self._handle, self._lock = _Handle(), _Lock()
 
     def close(self):
         """Frees the memory. Later calls raise Error with the status CLOSED."""
@@ -237,11 +270,65 @@ class Decoder(_Closing):
                 return None
             _check(status)
             picture = self._new_picture(_library.vp8_decoder_size)
-            luma, chroma, half = picture.y.nbytes, picture.u.nbytes, (picture.width + 1) // 2
-            start = picture._address()
-            _check(_library.vp8_decoder_copy(self._handle, start, luma, picture.width, start + luma, chroma, half,
-                                             start + luma + chroma, chroma, half))
+            _check(_library.vp8_decoder_copy(self._handle, *_planes(picture)))
             return picture
+
+    @property
+    def is_corrupt(self):
+        """Whether a partition of the packet decoded last was read past its end: damage that no fault names.
+
+        False if that packet had no bytes or raised Error, and before the first one."""
+        corrupt = ctypes.c_uint32()
+        with self._lock:
+            _check(_library.vp8_decoder_corrupt(self._handle, corrupt))
+        return bool(corrupt.value)
+
+    @contextlib.contextmanager
+    def lend(self):
+        """Lends the picture that the last packet showed, without a copy, to the block of a `with` statement.
+
+        It is a LentPicture, whose planes are read-only views of two dimensions: `lent.y[row, column]`. Rows may be
+        longer than the picture is wide. The views end with the block; a call of the decoder in it raises RuntimeError.
+        Raises Error: NO_PICTURE."""
+        lent = _LentPicture()
+        with self._lock:
+            _check(_library.vp8_decoder_lend(self._handle, lent))
+            width, height = lent.width, lent.height
+            rows = {'y': height, 'u': (height + 1) // 2, 'v': (height + 1) // 2}
+            views = [_view(getattr(lent, name), rows[name]) for name in 'yuv']
+            try:
+                yield LentPicture(width, height, *views)
+            finally:
+                for view in views:
+                    view.release()
+
+    def reference(self, number):
+        """A copy of a reference frame, LAST, GOLDEN or ALTREF, as a Picture.
+
+        Raises Error: NO_PICTURE before the first key packet, and after a packet that `decode` refused."""
+        if number not in (LAST, GOLDEN, ALTREF):
+            raise Error(NO_PICTURE)
+        with self._lock:
+            picture = self._new_picture(_library.vp8_decoder_reference_size)
+            _check(_library.vp8_decoder_reference(self._handle, number, *_planes(picture)))
+            return picture
+
+
+LentPicture = collections.namedtuple('LentPicture', 'width height y u v')
+LentPicture.__doc__ = """A picture in the decoder's memory. Its views have rows of whole macroblocks."""
+
+
+def _view(plane, rows):
+    """A read-only view of a plane: rows first. Planes hold whole macroblocks, so the last row has its whole stride."""
+    memory = (ctypes.c_uint8 * (plane.stride * rows)).from_address(plane.at)
+    return memoryview(memory).cast('B').cast('B', (rows, plane.stride)).toreadonly()
+
+
+def _planes(picture):
+    """Addresses, lengths and strides of a picture's planes, as the library takes them."""
+    luma, chroma, half = picture.y.nbytes, picture.u.nbytes, (picture.width + 1) // 2
+    start = picture._address()
+    return start, luma, picture.width, start + luma, chroma, half, start + luma + chroma, chroma, half
 
 
 StreamInfo = collections.namedtuple('StreamInfo', 'width height rate scale packets fault')

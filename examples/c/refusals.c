@@ -18,10 +18,34 @@ static const uint8_t KEY[10] = { 0x10, 0, 0, 0x9d, 0x01, 0x2a, 0x10, 0, 0x10, 0 
 static const uint8_t INTER[3] = { 0x11, 0, 0 };
 static const uint8_t HIDDEN[3] = { 0x01, 0, 0 };
 
+/* The key frame is each of the three references. Its empty first partition is read past its end. */
+static void references(vp8_decoder *decoder, uint8_t *y, uint8_t *u, uint8_t *v)
+{
+  uint32_t width = 0, height = 0, corrupt = 0;
+  expect("reference size", vp8_decoder_reference_size(decoder, &width, &height), VP8_OK);
+  for (uint32_t reference = VP8_LAST; reference <= VP8_ALTREF; reference++)
+    expect("reference", vp8_decoder_reference(decoder, reference, y, 256, 16, u, 64, 8, v, 64, 8), VP8_OK);
+  expect("short", vp8_decoder_reference(decoder, VP8_LAST, y, 255, 16, u, 64, 8, v, 64, 8), VP8_BUFFER);
+  expect("no such one", vp8_decoder_reference(decoder, 0, y, 256, 16, u, 64, 8, v, 64, 8), VP8_NO_PICTURE);
+  expect("corrupt", vp8_decoder_corrupt(decoder, &corrupt), VP8_OK);
+  if (width != 16 || height != 16 || corrupt != 1) expect("what they say", VP8_OK, VP8_HIDDEN);
+}
+
+/* The picture that is lent is the one that was copied. */
+static void lend(vp8_decoder *decoder, const uint8_t *y)
+{
+  vp8_lent_picture lent;
+  expect("lend", vp8_decoder_lend(decoder, &lent), VP8_OK);
+  for (uint32_t row = 0; row < lent.height; row++)
+    if (memcmp(lent.y.at + row * lent.y.stride, y + row * 16, lent.width))
+      expect("another picture", VP8_OK, VP8_HIDDEN);
+}
+
 static void decoders(void)
 {
   uint8_t y[256], u[64], v[64];
   uint32_t width = 7, height = 7;
+  vp8_lent_picture lent;
   vp8_decoder decoder = VP8_INIT;
   expect("closed", vp8_decoder_decode(&decoder, KEY, sizeof KEY), VP8_CLOSED);
   expect("no limits", vp8_decoder_new(&decoder, 0), VP8_LIMITS);
@@ -38,8 +62,11 @@ static void decoders(void)
   expect("copy", vp8_decoder_copy(&decoder, y, 256, 16, u, 64, 8, v, 64, 8), VP8_OK);
   /* The first four rows of such a packet are 128, those below 129; colour is 128. */
   expect("pixels", y[63] * 1000000 + y[64] * 1000 + u[63], 128129128);
+  references(&decoder, y, u, v);
+  lend(&decoder, y);
   expect("hidden", vp8_decoder_decode(&decoder, HIDDEN, sizeof HIDDEN), VP8_HIDDEN);
   expect("nothing shown", vp8_decoder_size(&decoder, &width, &height), VP8_NO_PICTURE);
+  expect("nothing to lend", vp8_decoder_lend(&decoder, &lent), VP8_NO_PICTURE);
   expect("damage", vp8_decoder_decode_keeping(&decoder, KEY, 9), VP8_TRUNCATED);
   expect("nothing shown after damage", vp8_decoder_size(&decoder, &width, &height), VP8_NO_PICTURE);
   expect("inter after damage", vp8_decoder_decode_keeping(&decoder, INTER, sizeof INTER), VP8_OK);
@@ -48,6 +75,9 @@ static void decoders(void)
   vp8_decoder_free(&decoder);
   vp8_decoder_free(&decoder);
   expect("after free", vp8_decoder_decode(&decoder, KEY, sizeof KEY), VP8_CLOSED);
+  expect("lend after free", vp8_decoder_lend(&decoder, &lent), VP8_CLOSED);
+  expect("damage after free", vp8_decoder_corrupt(&decoder, &width), VP8_CLOSED);
+  expect("references after free", vp8_decoder_reference_size(&decoder, &width, &height), VP8_CLOSED);
 }
 
 static void streams(void)

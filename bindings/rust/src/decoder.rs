@@ -5,7 +5,18 @@
 
 use crate::ffi::{self, Handle};
 use crate::status::check;
-use crate::{Frame, Picture, Status};
+use crate::{Frame, LentPicture, Picture, Status};
+
+/// A reference frame, from which later frames are predicted.
+#[derive(Clone, Copy, Debug, PartialEq, Eq)]
+pub enum Reference {
+    /// The last frame.
+    Last = 1,
+    /// The golden frame.
+    Golden = 2,
+    /// The alternate reference frame.
+    Altref = 3,
+}
 
 /// Decodes packets, one after another.
 pub struct Decoder(Handle);
@@ -69,6 +80,57 @@ impl Decoder {
         check(unsafe {
             ffi::vp8_decoder_copy(
                 &mut self.0,
+                y.as_mut_ptr(),
+                y.len(),
+                stride,
+                u.as_mut_ptr(),
+                u.len(),
+                chroma_stride,
+                v.as_mut_ptr(),
+                v.len(),
+                chroma_stride,
+            )
+        })
+    }
+
+    /// Lends the picture that the last packet showed, without a copy. `NO_PICTURE`.
+    pub fn lend(&mut self) -> Result<LentPicture<'_>, Status> {
+        let mut lent = ffi::LentPicture {
+            width: 0,
+            height: 0,
+            y: ffi::LentPlane::NONE,
+            u: ffi::LentPlane::NONE,
+            v: ffi::LentPlane::NONE,
+        };
+        // SAFETY: the pointer is of a variable.
+        check(unsafe { ffi::vp8_decoder_lend(&mut self.0, &mut lent) })?;
+        // SAFETY: the library's planes have this size, and stay until its next call, which needs `self`.
+        Ok(unsafe { LentPicture::of(&lent) })
+    }
+
+    /// Whether a partition of the packet that was decoded last was read past its end: damage that no
+    /// fault names. False if that packet had no bytes or a fault, and before the first one.
+    pub fn is_corrupt(&mut self) -> Result<bool, Status> {
+        let mut corrupt = 0;
+        // SAFETY: the pointer is of a variable.
+        check(unsafe { ffi::vp8_decoder_corrupt(&mut self.0, &mut corrupt) })?;
+        Ok(corrupt != 0)
+    }
+
+    /// Copies a reference frame into `picture`, whose memory is reused.
+    /// `NO_PICTURE`: there is none before the first key packet, and after a packet that `decode` refused. `MEMORY`.
+    pub fn reference(&mut self, reference: Reference, picture: &mut Picture) -> Result<(), Status> {
+        let (mut width, mut height) = (0, 0);
+        // SAFETY: the pointers are of two variables.
+        check(unsafe { ffi::vp8_decoder_reference_size(&mut self.0, &mut width, &mut height) })?;
+        let [y, u, v] = picture.resize(width, height)?;
+        let stride = usize::try_from(width).map_err(|_| Status::MEMORY)?;
+        let chroma_stride = stride.div_ceil(2);
+        // SAFETY: each pointer and length are of one slice, and the slices do not overlap.
+        check(unsafe {
+            ffi::vp8_decoder_reference(
+                &mut self.0,
+                reference as u32,
                 y.as_mut_ptr(),
                 y.len(),
                 stride,

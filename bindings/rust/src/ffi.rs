@@ -57,6 +57,30 @@ pub struct Frame {
     pub refreshes_altref: u32,
 }
 
+/// `vp8_lent_plane`.
+#[repr(C)]
+pub struct LentPlane {
+    pub at: *const u8,
+    pub stride: usize,
+}
+
+/// `vp8_lent_picture`.
+#[repr(C)]
+pub struct LentPicture {
+    pub width: u32,
+    pub height: u32,
+    pub y: LentPlane,
+    pub u: LentPlane,
+    pub v: LentPlane,
+}
+
+impl LentPlane {
+    pub const NONE: LentPlane = LentPlane {
+        at: std::ptr::null(),
+        stride: 0,
+    };
+}
+
 extern "C" {
     pub fn vp8_status_name(status: u32, out: *mut u8, out_len: usize) -> usize;
 
@@ -78,6 +102,26 @@ extern "C" {
     pub fn vp8_decoder_size(decoder: *mut Handle, width: *mut u32, height: *mut u32) -> u32;
     pub fn vp8_decoder_copy(
         decoder: *mut Handle,
+        y: *mut u8,
+        y_len: usize,
+        y_stride: usize,
+        u: *mut u8,
+        u_len: usize,
+        u_stride: usize,
+        v: *mut u8,
+        v_len: usize,
+        v_stride: usize,
+    ) -> u32;
+    pub fn vp8_decoder_lend(decoder: *mut Handle, lent: *mut LentPicture) -> u32;
+    pub fn vp8_decoder_corrupt(decoder: *mut Handle, corrupt: *mut u32) -> u32;
+    pub fn vp8_decoder_reference_size(
+        decoder: *mut Handle,
+        width: *mut u32,
+        height: *mut u32,
+    ) -> u32;
+    pub fn vp8_decoder_reference(
+        decoder: *mut Handle,
+        reference: u32,
         y: *mut u8,
         y_len: usize,
         y_stride: usize,

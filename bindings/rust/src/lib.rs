@@ -42,12 +42,14 @@
 
 mod decoder;
 mod ffi;
+mod lent;
 mod packet;
 mod picture;
 mod status;
 mod stream;
 
-pub use decoder::Decoder;
+pub use decoder::{Decoder, Reference};
+pub use lent::{LentPicture, LentPlane};
 pub use packet::{peek, Frame, PacketInfo};
 pub use picture::Picture;
 pub use status::Status;

@@ -1,9 +1,17 @@
 //! Tests of each call. A key packet of 17 by 1 pixels with an empty first partition shows 128 in each pixel.
 
-use vp8::{packets, peek, Decoder, Frame, PacketInfo, Picture, Status, Stream, StreamInfo};
+use vp8::{
+    packets, peek, Decoder, Frame, PacketInfo, Picture, Reference, Status, Stream, StreamInfo,
+};
 
 const KEY: [u8; 10] = [0x10, 0, 0, 0x9d, 0x01, 0x2a, 17, 0, 1, 0];
 const HIDDEN: [u8; 3] = [0x01, 0, 0];
+
+/// A key packet that libvpx finds complete, and read past its end with one byte less.
+const WHOLE: [u8; 41] = [
+    0x90, 2, 0, 0x9d, 1, 0x2a, 0x11, 0, 1, 0, 0, 0, 0, 0, 0, 0, 0, 0, 0, 0, 0, 0, 0, 0, 0, 0, 0, 0,
+    0, 0, 0x29, 0xf8, 0x85, 0x12, 0, 0x4a, 0xf0, 0xbf, 0xa3, 0x0b, 0x8b,
+];
 
 fn ivf(packets: &[&[u8]]) -> Vec<u8> {
     let mut file = b"DKIF\0\0\x20\0VP80\x11\0\x01\0\x1e\0\0\0\x02\0\0\0\0\0\0\0\0\0\0\0".to_vec();
@@ -220,5 +228,57 @@ fn decoders_move_between_threads() -> Result<(), Status> {
     let mut decoder = Decoder::new(17)?;
     let decoded = std::thread::spawn(move || decoder.decode(&KEY)).join();
     assert!(matches!(decoded, Ok(Ok(true))));
+    Ok(())
+}
+
+#[test]
+fn damage_is_told() -> Result<(), Status> {
+    let mut decoder = Decoder::new(17)?;
+    assert!(!decoder.is_corrupt()?);
+    for (packet, is_corrupt) in [
+        (&WHOLE[..], false),
+        (&WHOLE[..40], true),
+        (&[], false),
+        (&WHOLE[..40], true),
+    ] {
+        assert!(decoder.decode_keeping(packet)?);
+        assert_eq!(decoder.is_corrupt()?, is_corrupt);
+    }
+    assert_eq!(decoder.decode_keeping(&KEY[..9]), Err(Status::TRUNCATED));
+    assert!(!decoder.is_corrupt()?);
+    Ok(())
+}
+
+#[test]
+fn references_are_copied() -> Result<(), Status> {
+    let (mut picture, mut reference) = (Picture::new(), Picture::new());
+    let mut decoder = Decoder::new(17)?;
+    let missing = decoder.reference(Reference::Last, &mut reference);
+    assert_eq!(missing, Err(Status::NO_PICTURE));
+    assert!(decoder.decode(&WHOLE)?);
+    decoder.picture(&mut picture)?;
+    for number in [Reference::Last, Reference::Golden, Reference::Altref] {
+        decoder.reference(number, &mut reference)?;
+        assert_eq!(reference, picture);
+    }
+    Ok(())
+}
+
+#[test]
+fn pictures_are_lent() -> Result<(), Status> {
+    let mut picture = Picture::new();
+    let mut decoder = Decoder::new(17)?;
+    assert_eq!(decoder.lend().err(), Some(Status::NO_PICTURE));
+    assert!(decoder.decode(&WHOLE)?);
+    decoder.picture(&mut picture)?;
+    let lent = decoder.lend()?;
+    assert_eq!((lent.width, lent.height, lent.y.stride()), (17, 1, 32));
+    for (plane, copied) in [
+        (lent.y, picture.y()),
+        (lent.u, picture.u()),
+        (lent.v, picture.v()),
+    ] {
+        assert_eq!(plane.rows().flatten().copied().collect::<Vec<_>>(), copied);
+    }
     Ok(())
 }

@@ -11,3 +11,4 @@ pub mod Packets
 pub mod Planes
 pub mod Slot
 pub mod Status
+pub mod Lent

@@ -16,7 +16,7 @@ use Rattle.vp8_c.specs.declared.handle.Handle.{Handle}
 use Rattle.vp8_c.specs.declared.packet.PacketInfo.{PacketInfo}
 use Rattle.vp8_c.specs.declared.packet.FrameInfo.{FrameInfo}
 use Rattle.vp8_c.specs.Arguments.{given_in, result_map}
-use Rattle.vp8_c.specs.Decoding.{decoder_of}
+use Rattle.vp8_c.specs.Decoding.{decoder_of, corrupt_in}
 use Rattle.vp8_c.specs.Status.{fault_number}
 
 -- a truth value in C
@@ -85,3 +85,9 @@ frame_of_value packet value = frame_by packet (decoder_of value)
 
 abbrev pub frame_in : List ℕ → Handle → Result FrameInfo ℕ
 frame_in packet h = given_in (frame_of_value packet) h
+
+-- ---- damage
+
+-- whether the decoder's last packet is corrupt, as a number, or the status of a call without a decoder
+abbrev pub corrupt_number_in : Handle → Result ℕ ℕ
+corrupt_number_in h = result_map flag (corrupt_in h)

@@ -1,8 +1,9 @@
 //! Tests of calls as C makes them: a handle is opened, used and freed.
 
 use crate::decoder::{
-    vp8_decoder_copy, vp8_decoder_decode, vp8_decoder_decode_keeping, vp8_decoder_free,
-    vp8_decoder_new, vp8_decoder_size,
+    vp8_decoder_copy, vp8_decoder_corrupt, vp8_decoder_decode, vp8_decoder_decode_keeping,
+    vp8_decoder_free, vp8_decoder_new, vp8_decoder_reference, vp8_decoder_reference_size,
+    vp8_decoder_size,
 };
 use crate::encoder::{
     vp8_encoder_encode, vp8_encoder_free, vp8_encoder_new, vp8_encoder_packet,
@@ -573,4 +574,72 @@ fn a_name_is_copied(rt: HostRuntime) {
     assert!(rt; &out == b"TooLarge\0\t");
     equal(&rt, &vp8_status_name(2, &mut out), &0);
     equal(&rt, &out[0], &0);
+}
+
+/// A key packet of 17 by 1 pixels that libvpx finds complete, and read past its end with one byte less.
+const WHOLE: [u8; 41] = [
+    0x90, 2, 0, 0x9d, 1, 0x2a, 0x11, 0, 1, 0, 0, 0, 0, 0, 0, 0, 0, 0, 0, 0, 0, 0, 0, 0, 0, 0, 0, 0,
+    0, 0, 0x29, 0xf8, 0x85, 0x12, 0, 0x4a, 0xf0, 0xbf, 0xa3, 0x0b, 0x8b,
+];
+
+/// Decodes a packet, and returns its status, and whether it is corrupt.
+fn decode_and_ask(alloc: Global, decoder: &mut Handle, packet: &[u8]) -> [u32; 3] {
+    let mut corrupt = 9;
+    let decoded = vp8_decoder_decode_keeping(alloc, decoder, packet);
+    let asked = vp8_decoder_corrupt(alloc, decoder, &mut corrupt);
+    [decoded, asked, corrupt]
+}
+
+/// A packet that is read past its end is told, and one after it is judged by itself.
+#[test]
+fn damage_is_told(rt: HostRuntime) {
+    let alloc = rt.alloc();
+    let mut decoder = Handle::closed();
+    let closed = decode_and_ask(alloc, &mut decoder, &WHOLE);
+    let opened = vp8_decoder_new(alloc, &mut decoder, 17);
+    let told = [
+        decode_and_ask(alloc, &mut decoder, &WHOLE),
+        decode_and_ask(alloc, &mut decoder, &WHOLE[..40]),
+        decode_and_ask(alloc, &mut decoder, &[]),
+        decode_and_ask(alloc, &mut decoder, &WHOLE[..9]),
+    ];
+    vp8_decoder_free(alloc, &mut decoder);
+    decoder.forget();
+    equal(&rt, &closed, &[64, 64, 9]);
+    equal(&rt, &opened, &0);
+    equal(&rt, &told, &[[0, 0, 0], [0, 0, 1], [0, 0, 0], [16, 0, 0]]);
+}
+
+/// Copies a reference frame of 17 by 1 pixels, and returns the status and the luma.
+fn copy_reference(alloc: Global, decoder: &mut Handle, reference: u32) -> (u32, [u8; 17]) {
+    let mut y = [9; 17];
+    let (mut u, mut v) = ([9; 9], [9; 9]);
+    let status = vp8_decoder_reference(alloc, decoder, reference, &mut y, 17, &mut u, 9, &mut v, 9);
+    (status, y)
+}
+
+/// A key frame is the last, the golden and the altref frame.
+#[test]
+fn references_are_copied(rt: HostRuntime) {
+    let alloc = rt.alloc();
+    let mut decoder = Handle::closed();
+    let (mut width, mut height) = (9, 9);
+    let opened = vp8_decoder_new(alloc, &mut decoder, 17);
+    let early = [
+        vp8_decoder_reference_size(alloc, &mut decoder, &mut width, &mut height),
+        copy_reference(alloc, &mut decoder, 1).0,
+    ];
+    let decoded = vp8_decoder_decode(alloc, &mut decoder, &KEY);
+    let last = copy_reference(alloc, &mut decoder, 1);
+    let golden = copy_reference(alloc, &mut decoder, 2);
+    let altref = copy_reference(alloc, &mut decoder, 3);
+    let none = copy_reference(alloc, &mut decoder, 4);
+    let size = vp8_decoder_reference_size(alloc, &mut decoder, &mut width, &mut height);
+    vp8_decoder_free(alloc, &mut decoder);
+    decoder.forget();
+    equal(&rt, &[opened, decoded, size], &[0; 3]);
+    equal(&rt, &early, &[69; 2]);
+    equal(&rt, &[last, golden, altref], &[(0, [128; 17]); 3]);
+    equal(&rt, &none, &(69, [9; 17]));
+    equal(&rt, &(width, height), &(17, 1));
 }

@@ -3,21 +3,22 @@
 ghost use Rattle.std.specs.Prelude.{◌≡◌, None, IfSome, IsSomeAnd, option_map};
 ghost use Rattle.vp8_c.specs.Planes.{planes_in};
 
+use crate::decoder_handle::DecoderHandle;
 use crate::encoder_handle::EncoderHandle;
 use crate::file_handle::{FileHandle, KeptPicture};
 use crate::packet::FrameInfo;
 use crate::planes::CallerPlanes;
-use crate::status::{CLOSED, MEMORY, NO_PICTURE, fault_number, outcome_number};
+use crate::status::{CLOSED, NO_PICTURE, fault_number};
 use crate::stream_handle::StreamHandle;
 use vp_base::Picture;
-use vp_decode::Decoder;
+use vp_decode::OnFault;
 use vp_encode::Encoded;
 
 /// The value that an open handle refers to.
 #[derive(Drop)]
 pub enum HandleValue {
     /// A `vp8_decoder`.
-    Decoder(Decoder),
+    Decoder(DecoderHandle),
     /// A `vp8_stream`.
     Stream(StreamHandle),
     /// A `vp8_encoder`.
@@ -25,7 +26,7 @@ pub enum HandleValue {
 }
 
 impl HandleValue {
-    ghost use Rattle.vp8_c.specs.Decoding.{Decodes, DecodesKeeping, decoder_of, last_picture};
+    ghost use Rattle.vp8_c.specs.Decoding.{DecodesBy, corrupt_of, handle_of, last_picture, reference_of_value};
     ghost use Rattle.vp8_c.specs.FileHandle.{AnswersPacket, Feeds, Finishes, kept_of, i420_picture, stream_of};
     ghost use Rattle.vp8_c.specs.StreamHandle.{KeepsCursor, Seeks, stream_handle_of};
     ghost use Rattle.vp8_c.specs.EncoderHandle.{Encodes, encoded_of, encoder_of};
@@ -33,32 +34,34 @@ impl HandleValue {
     ghost use Rattle.vp8_c.specs.Packets.{frame_of_value};
 
     /// Decodes a packet. The status is `CLOSED` if the value isn't a decoder.
-    pub fn decode(&mut self, packet: &[u8]) -> u32
-        ensures closed { decoder_of self.old ≡ None → (result ≡ CLOSED) × (self.new ≡ self.old) }
-        ensures decoded { IfSome (decoder_of self.old) (λ d. IsSomeAnd (decoder_of self.new)
-            (Decodes packet.now result d)) }
+    pub fn decode(&mut self, packet: &[u8], on_fault: OnFault) -> u32
+        ensures closed { handle_of self.old ≡ None → (result ≡ CLOSED) × (self.new ≡ self.old) }
+        ensures decoded { IfSome (handle_of self.old) (λ d. IsSomeAnd (handle_of self.new)
+            (DecodesBy on_fault packet.now result d)) }
     {
         match self {
-            HandleValue::Decoder(decoder) => match decoder.decode(packet) {
-                Ok(outcome) => outcome_number(outcome),
-                Err(_) => MEMORY,
-            },
+            HandleValue::Decoder(decoder) => decoder.decode(packet, on_fault),
             HandleValue::Stream(_) | HandleValue::Encoder(_) => CLOSED,
         }
     }
 
-    /// Decodes a packet; a fault leaves the decoder's state. The status is `CLOSED` if the value isn't a decoder.
-    pub fn decode_keeping(&mut self, packet: &[u8]) -> u32
-        ensures closed { decoder_of self.old ≡ None → (result ≡ CLOSED) × (self.new ≡ self.old) }
-        ensures decoded { IfSome (decoder_of self.old) (λ d. IsSomeAnd (decoder_of self.new)
-            (DecodesKeeping packet.now result d)) }
+    /// Returns whether the decoder's last packet was corrupt. The status is `CLOSED` if the value isn't a decoder.
+    pub fn corrupt(&self) -> Result<bool, u32>
+        ensures { result ≡ corrupt_of self.now }
     {
         match self {
-            HandleValue::Decoder(decoder) => match decoder.decode_keeping(packet) {
-                Ok(outcome) => outcome_number(outcome),
-                Err(_) => MEMORY,
-            },
-            HandleValue::Stream(_) | HandleValue::Encoder(_) => CLOSED,
+            HandleValue::Decoder(decoder) => Ok(decoder.corrupt),
+            HandleValue::Stream(_) | HandleValue::Encoder(_) => Err(CLOSED),
+        }
+    }
+
+    /// Returns the picture of a decoder's reference frame, or the status of a call without one.
+    pub fn reference(&self, number: u32) -> Result<&Picture, u32>
+        ensures { result_map (λ p. p.now) result ≡ reference_of_value number self.now }
+    {
+        match self {
+            HandleValue::Decoder(decoder) => decoder.reference(number),
+            HandleValue::Stream(_) | HandleValue::Encoder(_) => Err(CLOSED),
         }
     }
 
@@ -67,7 +70,7 @@ impl HandleValue {
         ensures { result ≡ frame_of_value packet.now self.now }
     {
         match self {
-            HandleValue::Decoder(decoder) => match decoder.frame_facts(packet) {
+            HandleValue::Decoder(decoder) => match decoder.decoder.frame_facts(packet) {
                 Ok(facts) => Ok(FrameInfo::of(facts)),
                 Err(fault) => Err(fault_number(fault)),
             },
@@ -80,7 +83,7 @@ impl HandleValue {
         ensures { result_map (λ p. p.now) result ≡ last_picture self.now }
     {
         match self {
-            HandleValue::Decoder(decoder) => match decoder.picture() {
+            HandleValue::Decoder(decoder) => match decoder.decoder.picture() {
                 Some(picture) => Ok(picture),
                 None => Err(NO_PICTURE),
             },

@@ -5,11 +5,13 @@ mod bytes;
 #[cfg(test)]
 mod call_tests;
 mod decoder;
+mod decoder_handle;
 mod encoder;
 mod encoder_handle;
 mod file_handle;
 mod handle;
 mod handle_value;
+mod lent;
 mod names;
 mod packet;
 mod planes;

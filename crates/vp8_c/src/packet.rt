@@ -79,7 +79,7 @@ impl FrameInfo {
 }
 
 /// Returns a truth value as C has it.
-fn flag(value: bool) -> u32
+pub fn flag(value: bool) -> u32
     ensures { result ≡ flag value }
 {
     if value { 1 } else { 0 }

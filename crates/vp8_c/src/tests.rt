@@ -1,5 +1,6 @@
 //! Tests of the numbers in `include/vp8.h`, and of planes with strides.
 
+use crate::decoder_handle::DecoderHandle;
 use crate::handle_value::HandleValue;
 use crate::names::status_name;
 use crate::planes::{CallerPlanes, CallerPlanesMut, Strides};
@@ -131,7 +132,10 @@ fn numbers_of_the_header(rt: HostRuntime) {
 /// A decoder before its first packet has no picture, and is neither a file nor an encoder.
 #[test]
 fn nothing_to_give(rt: HostRuntime) {
-    let held = HandleValue::Decoder(Decoder::new(rt.alloc(), Limits::usual()));
+    let held = HandleValue::Decoder(DecoderHandle {
+        decoder: Decoder::new(rt.alloc(), Limits::usual()),
+        corrupt: false,
+    });
     assert!(rt; matches!(held.shown(), Err(NO_PICTURE)));
     assert!(rt; matches!(held.kept(), Err(CLOSED)));
     assert!(rt; matches!(held.encoded(), Err(CLOSED)));

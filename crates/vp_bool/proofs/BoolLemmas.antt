@@ -1,8 +1,8 @@
 -- Bools read from a state.
 use Rattle.std.proofs.Common.{add-one, ◌≡◌, ℕ, suc, zero, ◌+◌, ◌-◌, ◌*◌, ◌/◌, ◌%◌, ◌^◌, ◌<◌, ◌≤◌, List, [], ◌∷◌, length, Bool, true, false, cond, refl, sym, ap, ◌∙◌, arith, inl, inr}
-use Rattle.std.proofs.lemmas.Bool.{lt-ltb, le-ltb, le-leb, lt-leb, leb-false, cases_lt, cond_both, eqb-false}
-use Rattle.std.specs.Prelude.{◌==◌}
-use Rattle.std.proofs.Math.Dec.{leb}
+use Rattle.std.proofs.lemmas.Bool.{lt-ltb, le-ltb, le-leb, lt-leb, leb-false, cases_lt, cond_both, eqb-false, or_right, le-ltb}
+use Rattle.std.specs.Prelude.{◌==◌, ◌||◌}
+use Rattle.std.proofs.Math.Dec.{leb, ltb}
 use Rattle.std.proofs.lemmas.Nat.{pow-add, pow_pos, leading_top, mul-le, div_below, shl_whole}
 use Rattle.std.specs.Int.Count.{count_leading_zeros}
 use Rattle.std.proofs.Math.Nat.{pow-suc, mod-eq_of_lt}
@@ -27,27 +27,38 @@ split_below p range byte h =
 abbrev pub shifted : ℕ → State → State
 shifted n s = record (advanced n s) { range = s.range * 2 ^ n }
 
-pub same : (v w r q k l : ℕ) → v ≡ w → r ≡ q → k ≡ l → st v r k ≡ st w q l
-same v w r q k l a b c = cc
+pub same : (v w r q k l : ℕ) (a b : Bool) → v ≡ w → r ≡ q → k ≡ l → a ≡ b → st v r k a ≡ st w q l b
+same v w r q k l a b e f g h = cc
+
+-- no point moves before itself
+pub or_none : (b c : Bool) → c ≡ false → (b || c) ≡ b
+or_none true c e = refl
+or_none false c e = e
+
+pub below_suc : (n k : ℕ) → ltb k n ≡ ltb (suc k) (suc n)
+below_suc n k = elim (cases_lt k n) [
+  | inl less ↦ lt-ltb k n less ∙ sym (lt-ltb (suc k) (suc n) (omega arith))
+  | inr most ↦ le-ltb k n most ∙ sym (le-ltb (suc k) (suc n) (omega arith))
+]
 
 shifted_zero : (s : State) → shifted 0 s ≡ s
 shifted_zero s =
     let none : 0 - s.scale ≡ 0 = omega arith in
-    same _ _ _ _ _ _ (rw none (omega arith)) (omega arith) (omega arith)
+    same _ _ _ _ _ _ _ _ (rw none (omega arith)) (omega arith) (omega arith) (or_none _ _ (le-ltb s.scale 0 (omega arith)))
 
-shifted_suc_at : (n v r k : ℕ) → shifted n (doubled (st v r k)) ≡ shifted (suc n) (st v r k)
-shifted_suc_at n v r zero =
+shifted_suc_at : (n v r k : ℕ) (b : Bool) → shifted n (doubled (st v r k b)) ≡ shifted (suc n) (st v r k b)
+shifted_suc_at n v r zero b =
     let whole : n - 0 ≡ n = omega arith in
     let whole' : suc n - 0 ≡ suc n = omega arith in
     let value : 2 * v * 2 ^ (n - 0) ≡ v * 2 ^ (suc n - 0) = rw (whole, whole') (double_pow v n) in
-    same _ _ _ _ _ _ value (double_pow r n) (omega arith)
-shifted_suc_at n v r (suc k) =
+    same _ _ _ _ _ _ _ _ value (double_pow r n) (omega arith) (sym (or_right b _ (lt-ltb 0 (suc n) (omega arith))))
+shifted_suc_at n v r (suc k) b =
     let sub : suc n - suc k ≡ n - k = omega arith in
     let value : v * 2 ^ (n - k) ≡ v * 2 ^ (suc n - suc k) = rw sub refl in
-    same _ _ _ _ _ _ value (double_pow r n) (omega arith)
+    same _ _ _ _ _ _ _ _ value (double_pow r n) (omega arith) (ap (λ c. b || c) (below_suc n k))
 
 shifted_suc : (n : ℕ) (s : State) → shifted n (doubled s) ≡ shifted (suc n) s
-shifted_suc n s = shifted_suc_at n s.value s.range s.scale
+shifted_suc n s = shifted_suc_at n s.value s.range s.scale s.past
 
 pub doubled-range : (k : ℕ) (s : State) → (doubled_at k s).range ≡ 2 * s.range
 doubled-range zero s = refl
@@ -149,7 +160,7 @@ rest_true p v r n bs bytes above =
     let value : v * 2 ^ (8 * length bs) + number bs - split_of p r * 2 ^ (n + 8 * length bs) ≡ (v - split_of p r * 2 ^ n) * 2 ^ (8 * length bs) + number bs =
     rw (bound_at (split_of p r) n (8 * length bs))
     (sym (taken_off v (split_of p r * 2 ^ n) (v - split_of p r * 2 ^ n) (number bs) (2 ^ (8 * length bs)) (omega arith))) in
-    rw b (same _ _ _ _ _ _ value refl refl)
+    rw b (same _ _ _ _ _ _ _ _ value refl refl refl)
 
 pub rest_false : (p v r n : ℕ) (bs : List ℕ) → AreBytes bs → v < split_of p r * 2 ^ n → rest_of p (state v r n bs) ≡ state v (split_of p r) n bs
 rest_false p v r n bs bytes below =

@@ -1,6 +1,7 @@
 pub mod Numbers
 pub mod WindowLemmas
 pub mod BoolLemmas
+mod MarkLemmas
 pub mod LawLemmas
 pub mod EncoderLemmas
 pub mod IntervalLemmas
@@ -10,3 +11,4 @@ pub mod ReaderLemmas
 mod TopLemmas
 mod PartLemmas
 mod PassLemmas
+mod EndLemmas

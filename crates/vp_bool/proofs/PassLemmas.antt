@@ -1,14 +1,15 @@
 -- Bools of probability 255 that are all false, passed over at once: each takes one from the range.
-use Rattle.std.proofs.Common.{◌≡◌, ℕ, zero, suc, ◌+◌, ◌-◌, ◌*◌, ◌/◌, ◌%◌, ◌^◌, ◌<◌, ◌≤◌, Bool, true, false, List, [], ◌∷◌, length, refl, sym, ap, ◌∙◌, arith}
+use Rattle.std.proofs.Common.{◌≡◌, ℕ, zero, suc, ◌+◌, ◌-◌, ◌*◌, ◌/◌, ◌%◌, ◌^◌, ◌<◌, ◌≤◌, Bool, false, List, ◌∷◌, length, inl, inr, refl, sym, ap, ◌∙◌, arith}
 use Rattle.std.specs.Prelude.{replicate}
-use Rattle.std.proofs.lemmas.Bool.{leb-false, lt-leb}
+use Rattle.std.proofs.lemmas.Bool.{leb-false, lt-leb, cases_Bool}
 use Rattle.std.proofs.lemmas.Nat.{shl_whole}
 use Rattle.vp_bool.specs.Bools.{State, number, split_of, bool_of, rest_of, renormalised, read, bools, after_bools}
-use Rattle.vp_bool.specs.Window.{state, high_bits, IsLeftAligned, AreBytes}
+use Rattle.vp_bool.specs.Window.{high_bits, word_state, is_marked, IsAligned, IsLeftAligned, AreBytes}
 use Rattle.vp_bool.proofs.Numbers.{scaled}
 use Rattle.vp_bool.proofs.WindowLemmas.{number-bound}
 use Rattle.vp_bool.proofs.BoolLemmas.{normal-still, front_leb, bound_at}
-use Rattle.vp_bool.proofs.TopLemmas.{top_bool}
+use Rattle.vp_bool.proofs.TopLemmas.{top_bool, front-is, aligned-by}
+use Rattle.vp_bool.proofs.MarkLemmas.{aligned_word}
 
 -- the state after n of them
 abbrev pub passed : ℕ → State → State
@@ -40,12 +41,29 @@ pass (suc n) s low high below =
     (rw first (ap (λ (l : List Bool). false ∷ l) on.0), rw (after_bools, first) (on.1 ∙ ap (λ r. record s { range = r }) left))
 
 -- the value of a word below a bound, as that of its state
-pub below_word : (r value c : ℕ) (bs : List ℕ) → IsLeftAligned value c → c ≤ 56 → AreBytes bs → value < r * 2 ^ 56
+below_plain : (r value c : ℕ) (bs : List ℕ) → IsLeftAligned value c → c ≤ 56 → AreBytes bs → value < r * 2 ^ 56
     → high_bits value c * 2 ^ (8 * length bs) + number bs < r * 2 ^ (c + 8 * length bs)
-below_word r value c bs aligned few bytes h =
+below_plain r value c bs aligned few bytes h =
     let front : high_bits value c < r * 2 ^ c = leb-false _ _ (sym (top_bool r value (high_bits value c) c aligned few) ∙ lt-leb _ _ h) in
     rw (bound_at r c (8 * length bs))
     (leb-false _ _ (front_leb (r * 2 ^ c) (high_bits value c) (number bs) (2 ^ (8 * length bs)) (number-bound bs bytes) ∙ lt-leb _ _ front))
+
+pub below_word : (q value r c : ℕ) (bs : List ℕ) → IsAligned value c bs → c ≤ 56 → AreBytes bs → value < q * 2 ^ 56
+    → (word_state value r c bs).value < q * 2 ^ (word_state value r c bs).scale
+below_word q value r c bs aligned few bytes h = elim (cases_Bool (is_marked value c)) [
+  | inl set ↦
+      let mark = aligned set in
+      let front : high_bits (value / 2 ^ 56 * 2 ^ 56) 0 ≡ value / 2 ^ 56 = front-is (value / 2 ^ 56 * 2 ^ 56) (value / 2 ^ 56) 0 refl in
+      let below = below_plain q (value / 2 ^ 56 * 2 ^ 56) 0 bs (aligned-by (value / 2 ^ 56 * 2 ^ 56) (value / 2 ^ 56) 0 refl) (omega arith) bytes (omega (arith, mark.mark)) in
+      rw set (rw front at below)
+  | inr clear ↦ rw clear (below_plain q value c bs (aligned_word value c clear) few bytes h)
+]
+
+pub word_passed : (n value r c : ℕ) (bs : List ℕ) → passed n (word_state value r c bs) ≡ word_state value (r - n) c bs
+word_passed n value r c bs = elim (cases_Bool (is_marked value c)) [
+  | inl set ↦ rw set refl
+  | inr clear ↦ rw clear refl
+]
 
 pub whole : (r : ℕ) → r < 256 → r * 2 ^ 56 % 2 ^ 64 ≡ r * 2 ^ 56
 whole r high = shl_whole r 8 56 64 (omega arith) (omega arith)

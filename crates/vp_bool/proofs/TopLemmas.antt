@@ -1,8 +1,8 @@
 -- Windows whose value stands at the top of its word.
-use Rattle.std.proofs.Common.{true, false, Bool, ◌≡◌, ◌⊎◌, inl, inr, ℕ, suc, zero, ◌+◌, ◌-◌, ◌*◌, ◌%◌, ◌^◌, ◌<◌, ◌≤◌, List, [], ◌∷◌, length, get_or, take, drop, refl, sym, ap, ◌∙◌, arith}
+use Rattle.std.proofs.Common.{true, false, Bool, ◌≡◌, inl, inr, ℕ, suc, zero, ◌+◌, ◌-◌, ◌*◌, ◌%◌, ◌^◌, ◌<◌, ◌≤◌, List, [], ◌∷◌, length, get_or, take, drop, refl, sym, ap, ◌∙◌, arith}
 use Rattle.std.specs.Prelude.{nat_lt, nat_le, ◌&&◌, ◌||◌, ◌==◌}
 use Rattle.std.proofs.Math.Dec.{leb}
-use Rattle.std.proofs.Math.Nat.{mul-div_cancel, mod-eq_of_lt, le_of_mul-le-mul_right}
+use Rattle.std.proofs.Math.Nat.{mul-div_cancel, mod-eq_of_lt, mod-le, le_of_mul-le-mul_right, lt_of_mul-lt-mul_right}
 use Rattle.std.proofs.lemmas.Nat.{pow-add, pow_pos, mul-le}
 use Rattle.std.proofs.lemmas.Bool.{leb-true, ltb-true, ne_eqb, cases_lt}
 use Rattle.std.proofs.lemmas.List.{take_more, take_all, length-drop, take-append-drop}
@@ -10,7 +10,7 @@ use Rattle.vp_bool.specs.Bools.{State, number, renormalised}
 use Rattle.vp_bool.specs.Window.{state, high_bits, IsLeftAligned, IsUnnormalised, AreBytes}
 use Rattle.vp_bool.specs.declared.decoder.TheConstants.{DOUBLINGS}
 use Rattle.vp_bool.proofs.Numbers.{scaled, power_up, double_pow}
-use Rattle.vp_bool.proofs.WindowLemmas.{same_state, advanced_within, advanced_past}
+use Rattle.vp_bool.proofs.WindowLemmas.{same_state, advanced_within}
 use Rattle.vp_bool.proofs.BoolLemmas.{doublings, doubles, shifted, normal_by, bound_at, front_leb}
 use Rattle.vp_bool.proofs.LawLemmas.{number-append}
 use Rattle.vp_bool.proofs.EncoderLemmas.{number-push}
@@ -124,28 +124,14 @@ moved_within w r c n bs h few =
     let sum : (56 - c) + n ≡ 56 - (c - n) = omega arith in
     moved_by _ w _ _ bs _ (sym (bound_at w (56 - c) n) ∙ ap (λ k. w * 2 ^ k) sum) (advanced_within n w (r * 2 ^ n) c bs h)
 
-moved_past : (w r c n : ℕ) (bs : List ℕ) → c ≤ n → c ≤ 56 → length bs ≡ 0 → IsMoved (w * 2 ^ (56 - c) * 2 ^ n) (r * 2 ^ n) (c - n) bs (shifted n (state w r c bs))
-moved_past w r c n (b ∷ bs) h few none = absurd (omega arith)
-moved_past w r c n [] h few none =
-    let sum : (56 - c) + n ≡ (n - c) + 56 = omega arith in
-    let end : c - n ≡ 0 = omega arith in
-    rw end (moved_by _ (w * 2 ^ (n - c)) _ 0 [] _ (sym (bound_at w (56 - c) n) ∙ ap (λ k. w * 2 ^ k) sum ∙ bound_at w (n - c) 56) (advanced_past n w (r * 2 ^ n) c h))
-
-pub moved_on : (word w r c n : ℕ) (bs : List ℕ) → word ≡ w * 2 ^ (56 - c) → c ≤ 56 → IsUnnormalised (state w r c bs) → Doubling r n → (n ≤ c) ⊎ (length bs ≡ 0)
+pub moved_on : (word w r c n : ℕ) (bs : List ℕ) → word ≡ w * 2 ^ (56 - c) → c ≤ 56 → IsUnnormalised (state w r c bs) → Doubling r n → n ≤ c
     → IsMoved (word * 2 ^ n % 2 ^ 64) (r * 2 ^ n % 2 ^ 32) (c - n) bs (renormalised 7 (state w r c bs))
-moved_on word w r c n bs e few taken d fits =
+moved_on word w r c n bs e few taken d within =
     let room : w * 2 ^ (56 - c) * 2 ^ n < 2 ^ 64 = word_room w r c n (front_small w r c bs taken) d.high few in
     let word' : w * 2 ^ (56 - c) * 2 ^ n % 2 ^ 64 ≡ w * 2 ^ (56 - c) * 2 ^ n = mod-eq_of_lt room in
     let range' : r * 2 ^ n % 2 ^ 32 ≡ r * 2 ^ n = mod-eq_of_lt (omega (arith, d.high)) in
     let norm : renormalised 7 (state w r c bs) ≡ shifted n (state w r c bs) = normal_by 7 n (state w r c bs) d.few d.low d.high in
-    rw (e, word', range', norm)
-    (elim fits [
-      | inl within ↦ moved_within w r c n bs within few
-      | inr none ↦ elim (cases_lt c n) [
-        | inl past ↦ moved_past w r c n bs (omega arith) few none
-        | inr within ↦ moved_within w r c n bs within few
-      ]
-    ])
+    rw (e, word', range', norm) (moved_within w r c n bs within few)
 
 -- ---- bytes taken
 
@@ -158,7 +144,7 @@ taken_more w r c t bs h =
     let bytes : 8 * length bs ≡ 8 * t + 8 * length (drop t bs) = omega arith in
     let powers : 2 ^ (8 * length bs) ≡ 2 ^ (8 * t) * 2 ^ (8 * length (drop t bs)) = ap (λ k. 2 ^ k) bytes ∙ pow-add 2 (8 * t) (8 * length (drop t bs)) in
     let parts : number bs ≡ number (take t bs) * 2 ^ (8 * length (drop t bs)) + number (drop t bs) = sym (ap number (take-append-drop t bs)) ∙ number-append (take t bs) (drop t bs) in
-    same_state _ _ _ _ _ (spread w (2 ^ (8 * t)) (number (take t bs)) (2 ^ (8 * length (drop t bs))) (number (drop t bs)) ∙ sym (ap (λ k. w * k + number bs) powers ∙ ap (λ k. w * (2 ^ (8 * t) * 2 ^ (8 * length (drop t bs))) + k) parts)) (omega arith)
+    same_state _ _ _ _ _ _ _ (spread w (2 ^ (8 * t)) (number (take t bs)) (2 ^ (8 * length (drop t bs))) (number (drop t bs)) ∙ sym (ap (λ k. w * k + number bs) powers ∙ ap (λ k. w * (2 ^ (8 * t) * 2 ^ (8 * length (drop t bs))) + k) parts)) (omega arith) refl
 
 -- the word with the bytes
 pub word_more : (word w c t n : ℕ) → word ≡ w * 2 ^ (56 - c) → c + 8 * t ≤ 56 → n < 2 ^ (8 * t) → word + n * 2 ^ (56 - (c + 8 * t)) % 2 ^ 64 ≡ (w * 2 ^ (8 * t) + n) * 2 ^ (56 - (c + 8 * t))
@@ -171,25 +157,39 @@ word_more word w c t n e few small =
     let whole : n * 2 ^ (56 - (c + 8 * t)) % 2 ^ 64 ≡ n * 2 ^ (56 - (c + 8 * t)) = mod-eq_of_lt (omega arith) in
     rw (whole, e, word') (omega arith)
 
--- the window with the bytes, moved on
-module _ (value r c t n k : ℕ) (bs : List ℕ) (aligned : IsLeftAligned value c) (low : c ≤ 6) (len : t ≤ length bs) (few : t ≤ 6) (is : n ≡ number (take t bs)) (small : n < 2 ^ (8 * t)) (taken : IsUnnormalised (state (high_bits value c) r c bs)) where
+-- a value in its word, and bytes below it
+word_fits_at : (w c n k : ℕ) → c ≤ 56 → k ≤ 56 - c → n < 2 ^ (56 - c - k) → w * 2 ^ (56 - c) < 2 ^ 64 → w * 2 ^ (56 - c) + n * 2 ^ k < 2 ^ 64
+word_fits_at w c n k few room small below =
+    let sum : 64 ≡ (8 + c) + (56 - c) = omega arith in
+    let whole : 2 ^ 64 ≡ 2 ^ (8 + c) * 2 ^ (56 - c) = ap (λ j. 2 ^ j) sum ∙ pow-add 2 (8 + c) (56 - c) in
+    let front : w < 2 ^ (8 + c) = lt_of_mul-lt-mul_right (2 ^ (56 - c)) (rw (← whole) below) in
+    let next : (w + 1) * 2 ^ (56 - c) ≤ 2 ^ (8 + c) * 2 ^ (56 - c) = scaled (w + 1) (2 ^ (8 + c)) (2 ^ (56 - c)) (omega arith) in
+    let parts : 56 - c ≡ (56 - c - k) + k = omega arith in
+    let power : 2 ^ (56 - c) ≡ 2 ^ (56 - c - k) * 2 ^ k = ap (λ j. 2 ^ j) parts ∙ pow-add 2 (56 - c - k) k in
+    let tail : (n + 1) * 2 ^ k ≤ 2 ^ (56 - c - k) * 2 ^ k = scaled (n + 1) (2 ^ (56 - c - k)) (2 ^ k) (omega arith) in
+    omega (arith, pow_pos k)
+
+-- the window with the bytes
+module _ (value c t n : ℕ) (bs : List ℕ) (aligned : IsLeftAligned value c) (low : c ≤ 6) (len : t ≤ length bs) (few : t ≤ 6) (is : n ≡ number (take t bs)) (small : n < 2 ^ (8 * t)) where
   pub word_is : value + n * 2 ^ (56 - (c + 8 * t)) % 2 ^ 64 ≡ (high_bits value c * 2 ^ (8 * t) + n) * 2 ^ (56 - (c + 8 * t))
   word_is = word_more value (high_bits value c) c t n aligned (omega arith) small
 
-  pub taken_is : state (high_bits value c * 2 ^ (8 * t) + n) r (c + 8 * t) (drop t bs) ≡ state (high_bits value c) r c bs
-  taken_is = rw is (taken_more (high_bits value c) r c t bs len)
+  pub taken_is : (r : ℕ) → state (high_bits value c * 2 ^ (8 * t) + n) r (c + 8 * t) (drop t bs) ≡ state (high_bits value c) r c bs
+  taken_is r = rw is (taken_more (high_bits value c) r c t bs len)
 
-  pub taken_too : IsUnnormalised (state (high_bits value c * 2 ^ (8 * t) + n) r (c + 8 * t) (drop t bs))
-  taken_too = rw taken_is taken
+  pub word_fits : value < 2 ^ 64 → value + n * 2 ^ (56 - (c + 8 * t)) % 2 ^ 64 < 2 ^ 64
+  word_fits below =
+      let k : ℕ = 56 - (c + 8 * t) in
+      let left : 56 - c - k ≡ 8 * t = omega arith in
+      let all = word_fits_at (high_bits value c) c n k (omega arith) (omega arith) (rw left small) (rw (← aligned) below) in
+      let less : n * 2 ^ k % 2 ^ 64 ≤ n * 2 ^ k = mod-le (n * 2 ^ k) (2 ^ 64) in
+      omega (arith, all, less, aligned)
 
-  pub word_fits : value + n * 2 ^ (56 - (c + 8 * t)) % 2 ^ 64 < 2 ^ 64
-  word_fits =
-      let room = word_room (high_bits value c * 2 ^ (8 * t) + n) r (c + 8 * t) 0 (front_small _ _ _ _ taken_too) (omega (arith, taken.byte)) (omega arith) in
-      rw word_is (omega (arith, room))
+  pub loaded_is : (r : ℕ) → state (high_bits (value + n * 2 ^ (56 - (c + 8 * t)) % 2 ^ 64) (c + 8 * t)) r (c + 8 * t) (drop t bs) ≡ state (high_bits value c) r c bs
+  loaded_is r = rw (front-is _ (high_bits value c * 2 ^ (8 * t) + n) (c + 8 * t) word_is) (taken_is r)
 
-  pub moved_more : Doubling r k → (k ≤ c + 8 * t) ⊎ (length (drop t bs) ≡ 0)
-      → IsMoved ((value + n * 2 ^ (56 - (c + 8 * t)) % 2 ^ 64) * 2 ^ k % 2 ^ 64) (r * 2 ^ k % 2 ^ 32) ((c + 8 * t) - k) (drop t bs) (renormalised 7 (state (high_bits value c) r c bs))
-  moved_more d fits = rw (← taken_is) (moved_on _ (high_bits value c * 2 ^ (8 * t) + n) r (c + 8 * t) k (drop t bs) word_is (omega arith) taken_too d fits)
+  pub loaded_aligned : IsLeftAligned (value + n * 2 ^ (56 - (c + 8 * t)) % 2 ^ 64) (c + 8 * t)
+  loaded_aligned = aligned-by _ (high_bits value c * 2 ^ (8 * t) + n) (c + 8 * t) word_is
 
 pub bytes_drop : (t : ℕ) (bs : List ℕ) → AreBytes bs → AreBytes (drop t bs)
 bytes_drop zero bs h = h
@@ -205,8 +205,3 @@ pub first_word : (v r : ℕ) (bs : List ℕ) (s : State) → v < 256 → state v
 first_word v r bs s byte e =
     let whole : v * 2 ^ 56 % 2 ^ 64 ≡ v * 2 ^ 56 = mod-eq_of_lt (omega arith) in
     rw whole (moved_by _ v r 0 bs s refl e)
-
-pub record IsSettled (word r c k : ℕ) (bs : List ℕ) (s : State) : Type 0 where
-  pub moved : IsMoved (word * 2 ^ k % 2 ^ 64) (r * 2 ^ k % 2 ^ 32) (c - k) bs s
-  pub few : c - k ≤ 56
-  pub bytes : AreBytes bs

@@ -1,22 +1,32 @@
 //! The boolean entropy decoder (RFC 6386, chapter 7.3).
 
-ghost use Rattle.std.specs.Prelude.{◌≡◌, ℕ, ◌+◌, ◌-◌, ◌*◌, ◌/◌, ◌^◌, ◌<◌, ◌≤◌, length, List, [], ◌∷◌, replicate};
+ghost use Rattle.std.specs.Prelude.{◌≡◌, ℕ, ◌+◌, ◌-◌, ◌*◌, ◌/◌, ◌%◌, ◌^◌, ◌<◌, ◌≤◌, length, List, [], ◌∷◌, replicate};
 ghost use Rattle.std.specs.Prelude.{true, false};
 ghost use Rattle.vp_bool.specs.Bools.{read, literal, initial_state, renormalised, number, bools, after_bools};
 ghost use Rattle.vp_bool.specs.Laws.{HasReadBools, ReadsNextBool, ReadsNumberOn};
-ghost use Rattle.vp_bool.specs.Window.{state, high_bits, window_state, AreBytes, IsLeftAligned, IsUnnormalised};
-ghost use Rattle.vp_bool.specs.Window.{IsWindow};
+ghost use Rattle.vp_bool.specs.Window.{word_state, window_state, AreBytes, IsAligned, IsUnnormalised, IsWindow};
+ghost use Rattle.vp_bool.specs.Window.{HasLoaded, IsEnded};
 
 use std::marker::Model;
 
 /// A 64-bit window of the partition: the current value, and the bytes that aren't loaded yet.
 ///
 /// The value is left-aligned in its word: `8 + count` bits, then zeros. So the split is compared at a fixed position.
+/// Past the end of the partition a mark is set among those zeros. It is below every split, so that no comparison
+/// depends on it.
 #[derive(Clone, Copy)]
 struct Window<'a> {
     value: u64,
     range: u32,
     /// The number of the value's bits after the binary point.
+    count: u32,
+    rest: &'a [u8],
+}
+
+/// The part of a window that changes when bytes are loaded.
+#[derive(Clone, Copy)]
+struct Loaded<'a> {
+    value: u64,
     count: u32,
     rest: &'a [u8],
 }
@@ -73,6 +83,16 @@ impl<'a> BoolDecoder<'a> {
         BoolDecoder {
             window: self.window,
         }
+    }
+
+    /// Returns whether the decoder is past the end of its partition: more bits were shifted in than follow the first
+    /// byte. What `BoolEncoder` wrote is read without passing the end. Nothing follows a first byte of 255, which no
+    /// encoder writes.
+    pub fn is_past_end(&self) -> bool
+        ensures { result ≡ self.now.past }
+    {
+        let below = 1u64 << (56 - self.window.count);
+        self.window.value % below != 0
     }
 
     /// Reads the next bool. It is false with probability `probability / 256`; 0 is treated as 1.
@@ -184,26 +204,50 @@ pub(crate) const DOUBLINGS: [u8; 256] = [
 fn renormalised<'a>(window: Window<'a>, value: u64, range: u32) -> Window<'a>
     requires few { window.count ≤ 56 }
     requires bytes { AreBytes window.rest.now }
-    requires aligned { IsLeftAligned value window.count }
-    requires taken { IsUnnormalised (state (high_bits value window.count) range window.count window.rest.now) }
-    ensures after { window_state result ≡ renormalised 7
-        (state (high_bits value window.entry.count) range window.entry.count window.entry.rest.now) }
+    requires aligned { IsAligned value window.count window.rest.now }
+    requires taken { IsUnnormalised (word_state value range window.count window.rest.now) }
+    ensures after { window_state result ≡
+        renormalised 7 (word_state value range window.entry.count window.entry.rest.now) }
     ensures window { IsWindow result }
 {
     let shift = u32::from(DOUBLINGS[range as usize]);
-    let (value, count, rest) = if shift <= window.count {
-        (value, window.count, window.rest)
-    } else {
-        let taken = window.rest.len().min(6);
-        let count = window.count + 8 * taken as u32;
-        let bytes = number_of(&window.rest[..taken]) << (56 - count);
-        (value + bytes, count.max(shift), &window.rest[taken..])
+    let now = Loaded {
+        value,
+        count: window.count,
+        rest: window.rest,
     };
+    let now = if shift <= now.count { now } else { load(now) };
     Window {
-        value: value << shift,
+        value: now.value << shift,
         range: range << shift,
-        count: count - shift,
-        rest,
+        count: now.count - shift,
+        rest: now.rest,
+    }
+}
+
+/// Loads up to 6 bytes. If none are left, zeros follow, and the word is marked: the next doublings pass the end.
+#[inline(always)]
+fn load<'a>(old: Loaded<'a>) -> Loaded<'a>
+    requires low { old.count ≤ 6 }
+    requires aligned { IsAligned old.value old.count old.rest.now }
+    requires bytes { AreBytes old.rest.now }
+    ensures more { 0 < length old.entry.rest.now → HasLoaded old.entry result }
+    ensures none { length old.entry.rest.now ≡ 0 → IsEnded old.entry result }
+{
+    if old.rest.is_empty() {
+        return Loaded {
+            value: (old.value >> 49 << 49) + 1,
+            count: 48,
+            rest: old.rest,
+        };
+    }
+    let taken = old.rest.len().min(6);
+    let count = old.count + 8 * taken as u32;
+    let bytes = number_of(&old.rest[..taken]) << (56 - count);
+    Loaded {
+        value: old.value + bytes,
+        count,
+        rest: &old.rest[taken..],
     }
 }
 

@@ -1,9 +1,10 @@
 //! Decodes one frame, without changing the decoder's state yet.
 
-ghost use Rattle.std.specs.Prelude.{◌≡◌, ◌<◌, ◌≤◌, length, map, IfOk, IfSome, option_map};
+ghost use Rattle.std.specs.Prelude.{◌≡◌, ◌<◌, ◌≤◌, ◌||◌, length, map, IfOk, IfSome, None, option_map};
 ghost use Rattle.vp_base.specs.Image.{macroblocks};
 ghost use Rattle.vp_modes.specs.Map.{segments_of};
 ghost use Rattle.vp_bool.specs.Bools.{initial_state};
+ghost use Rattle.vp_decode.specs.Corrupt.{any_past, tokens_after, first_after, is_corrupt};
 ghost use Rattle.vp_decode.specs.Equation.{IsOneSize};
 ghost use Rattle.vp_decode.specs.Frame.{frame_of, picture_of};
 ghost use Rattle.vp_decode.specs.MacroblockInfo.{maps_read};
@@ -12,7 +13,7 @@ ghost use Rattle.vp_decode.specs.Step.{maps_before, frame_info_of, frame_of_pack
 
 use crate::frame_buffers::FrameBuffers;
 use crate::frame_context::FrameContext;
-use crate::frame_decoder::FrameDecoder;
+use crate::frame_decoder::{DecodedPicture, FrameDecoder};
 use crate::frame_info::FrameInfo;
 use crate::macroblock_info::MacroblockInfo;
 use crate::parsed_packet::ParsedPacket;
@@ -35,10 +36,12 @@ pub(crate) struct DecodedFrame {
     pub picture: Rc<Picture>,
     /// The last shown picture: this frame's if it is shown, else an earlier one.
     pub shown: Option<Rc<Picture>>,
+    /// Whether a partition was read past its end. If the tokens were not read, only the first partition counts.
+    pub corrupt: bool,
 }
 
-/// Decodes a frame's picture from its 1 to 8 token partitions. It is not inlined: its memory then is not part of the
-/// stack while the header is read.
+/// Decodes a frame's picture from its 1 to 8 token partitions, and tells whether one is read past its end. It is not
+/// inlined: its memory then is not part of the stack while the header is read.
 #[inline(never)]
 fn decode_picture<F: RowFilter>(
     alloc: Global,
@@ -47,12 +50,15 @@ fn decode_picture<F: RowFilter>(
     dim: Dim,
     partitions: &Partitions,
     filter: &mut F,
-) -> Result<Picture, AllocError>
+) -> Result<DecodedPicture, AllocError>
     requires columns { info.now.maps.modes.columns ≡ macroblocks dim.w }
     requires rows { info.now.maps.modes.rows ≡ macroblocks dim.h }
     requires some { 0 < length partitions.now }
     requires few { length partitions.now ≤ 8 }
-    ensures { IfOk result (λ p. p ≡ picture_of (frame_of info.now (map initial_state partitions.now) dim.w dim.h)) }
+    ensures picture { IfOk result (λ p. p.picture
+        ≡ picture_of (frame_of info.now (map initial_state partitions.now) dim.w dim.h)) }
+    ensures corrupt { IfOk result (λ p. p.corrupt
+        ≡ any_past (tokens_after info.now (map initial_state partitions.now))) }
 {
     let mut tokens = Tokens::NONE;
     let rebuilding = FrameDecoder::new(alloc, buffers, info, dim, &mut tokens)?;
@@ -77,7 +83,8 @@ fn shown_after(
     }
 }
 
-/// Reads the modes and the motion of a frame's macroblocks, reusing the memory of `buffers`.
+/// Reads the modes and the motion of a frame's macroblocks, reusing the memory of `buffers`. The reader is left after
+/// them.
 fn read_maps(
     alloc: Global,
     buffers: &mut FrameBuffers,
@@ -86,6 +93,8 @@ fn read_maps(
     first: &mut BoolDecoder,
 ) -> Result<MacroblockInfo, AllocError>
     ensures value { IfOk result (λ m. m ≡ (maps_read header.now (maps_before context.now.modes) first.old).0) }
+    ensures rest { IfOk result (λ _. first.new
+        ≡ (maps_read header.now (maps_before context.now.modes) first.old).1) }
     ensures columns { IfOk result (λ m. m.modes.columns ≡ context.now.modes.columns) }
     ensures rows { IfOk result (λ m. m.modes.rows ≡ context.now.modes.rows) }
 {
@@ -97,7 +106,8 @@ fn read_maps(
     Ok(maps)
 }
 
-/// Decodes or filters the picture of a parsed packet, given the maps of its frame, whose memory is kept for the next one.
+/// Decodes or filters the picture of a parsed packet, given the maps of its frame, whose memory is kept for the next
+/// one. A picture that is only filtered is not corrupt.
 fn picture_of_packet<F: RowFilter>(
     alloc: Global,
     buffers: &mut FrameBuffers,
@@ -105,42 +115,57 @@ fn picture_of_packet<F: RowFilter>(
     filter: &mut F,
     rebuilt: Option<Picture>,
     maps: MacroblockInfo,
-) -> Result<Picture, AllocError>
+) -> Result<DecodedPicture, AllocError>
     requires columns { maps.modes.columns ≡ parsed.now.context.modes.columns }
     requires rows { maps.modes.rows ≡ parsed.now.context.modes.rows }
     requires given { IfSome rebuilt (IsRebuiltFrame parsed.now) }
     requires maps { maps
         ≡ (maps_read parsed.now.header (maps_before parsed.now.context.modes) parsed.now.first).0 }
-    ensures { IfOk result (λ p. p ≡ picture_of (frame_of_packet parsed.now)) }
+    ensures picture { IfOk result (λ p. p.picture ≡ picture_of (frame_of_packet parsed.now)) }
+    ensures corrupt { rebuilt ≡ None → IfOk result (λ p. p.corrupt ≡ any_past
+        (tokens_after (frame_info_of parsed.now) (map initial_state parsed.now.partitions))) }
 {
     // A law, no work: each pixel is its prediction and its residue, whatever the order of macroblocks.
     unfiltered_picture_solves_its_equation();
     let context = &parsed.context;
     let version = parsed.tag.version;
     let info = FrameInfo::new(parsed.header, version, context.references(), maps);
-    let picture = match rebuilt {
-        Some(rebuilt) => filter_rebuilt(alloc, buffers, &info, rebuilt, filter)?,
+    let decoded = match rebuilt {
+        Some(rebuilt) => DecodedPicture {
+            picture: filter_rebuilt(alloc, buffers, &info, rebuilt, filter)?,
+            corrupt: false,
+        },
         None => {
             let partitions = &parsed.partitions;
             decode_picture(alloc, buffers, &info, context.dim, partitions, filter)?
         }
     };
     buffers.maps = info.into_maps();
-    Ok(picture)
+    Ok(decoded)
+}
+
+/// Returns whether the first partition or a token partition is past its end.
+fn is_any_past(first: bool, tokens: bool) -> bool
+    ensures { result ≡ (first || tokens) }
+{
+    first || tokens
 }
 
 /// Returns a frame of this picture. It is the last shown picture too if `show` is set, else the one before it is.
+/// `corrupt` says whether a partition was read past its end.
 fn frame_of_picture(
     alloc: Global,
     show: bool,
     before: Option<&Rc<Picture>>,
     segments: Grid<Segment>,
     picture: Picture,
+    corrupt: bool,
 ) -> Result<DecodedFrame, AllocError>
     ensures segments { IfOk result (λ f. f.segments ≡ segments) }
     ensures picture { IfOk result (λ f. f.picture.value ≡ picture) }
     ensures shown { IfOk result (λ f. option_map (λ p. p.value) f.shown
         ≡ shown_after show picture (option_map (λ p. p.now.value) before.entry)) }
+    ensures corrupt { IfOk result (λ f. f.corrupt ≡ corrupt) }
 {
     let picture = Rc::new(alloc, picture)?;
     let shown = shown_after(show, &picture, before)?;
@@ -148,6 +173,7 @@ fn frame_of_picture(
         segments,
         picture,
         shown,
+        corrupt,
     })
 }
 
@@ -166,6 +192,7 @@ pub(crate) fn decode_frame<F: RowFilter>(
     ensures shown { IfOk result (λ f. option_map (λ p. p.value) f.shown
         ≡ shown_after parsed.now.tag.show (picture_of (frame_of_packet parsed.now)) parsed.now.context.shown) }
     ensures one_size { IfOk result (λ _. IsOneSize (state_after parsed.now)) }
+    ensures corrupt { rebuilt ≡ None → IfOk result (λ f. f.corrupt ≡ is_corrupt parsed.now) }
 {
     // A law, no work: each pixel is its prediction and its residue, whatever the order of macroblocks.
     unfiltered_picture_solves_its_equation();
@@ -174,6 +201,15 @@ pub(crate) fn decode_frame<F: RowFilter>(
     let maps = read_maps(alloc, buffers, context, parsed.header, &mut first)?;
     let kept = mem::replace(&mut buffers.segments, Grid::empty(alloc));
     let segments = maps.modes.segments_in(kept)?;
-    let picture = picture_of_packet(alloc, buffers, parsed, filter, rebuilt, maps)?;
-    frame_of_picture(alloc, parsed.tag.show, context.shown, segments, picture)
+    let decoded = picture_of_packet(alloc, buffers, parsed, filter, rebuilt, maps)?;
+    let corrupt = is_any_past(first.is_past_end(), decoded.corrupt);
+    let show = parsed.tag.show;
+    frame_of_picture(
+        alloc,
+        show,
+        context.shown,
+        segments,
+        decoded.picture,
+        corrupt,
+    )
 }

@@ -71,8 +71,8 @@ impl FrameBuffers {
         Ok(picture)
     }
 
-    /// Returns filter levels for this many columns and rows of macroblocks, none of which is filtered. Reuses the memory
-    /// of the kept levels.
+    /// Returns filter levels for this many columns and rows of macroblocks, none of which is filtered. Reuses the
+    /// memory of the kept levels.
     pub(crate) fn levels(
         &mut self,
         alloc: Global,

@@ -12,6 +12,7 @@ ghost use Rattle.vp_decode.specs.MacroblockInfo.{modes_in, place};
 ghost use Rattle.vp_decode.specs.Frame.{predictor_at, frame_of, picture_of};
 ghost use Rattle.vp_decode.specs.FrameDecoder.{IsRebuilt, IsMacroblockStep, IsRow};
 ghost use Rattle.vp_decode.specs.RowBands.{IsShaped};
+ghost use Rattle.vp_decode.specs.Corrupt.{any_past, tokens_after};
 
 use crate::frame_buffers::FrameBuffers;
 use crate::frame_info::FrameInfo;
@@ -27,6 +28,13 @@ use vp_recon::{
     unfiltered_picture_solves_its_equation,
 };
 use vp_tokens::{Contexts, Partitions, Tokens};
+
+/// A frame's picture, and whether a token partition was read past its end.
+#[derive(Drop)]
+pub(crate) struct DecodedPicture {
+    pub picture: Picture,
+    pub corrupt: bool,
+}
 
 /// A frame's picture while its rows are rebuilt and filtered, with the token contexts and the filter levels.
 #[derive(Drop)]
@@ -191,15 +199,17 @@ impl<'a> FrameDecoder<'a> {
         }
     }
 
-    /// Rebuilds all rows. Each row is filtered once the row below it is rebuilt.
+    /// Rebuilds all rows. Each row is filtered once the row below it is rebuilt. The decoders are left after the tokens
+    /// of all rows.
     fn rows<F: RowFilter>(&mut self, decoders: &mut [BoolDecoder], filter: &mut F)
         requires some { 0 < length decoders.old }
         requires contexts { AreContextsAt
             (all self.old.info.maps.modes.columns self.old.info.maps.modes.rows no_blocks_read)
             (place 0 0) self.old.contexts }
         requires shaped { IsShaped self.old.picture.width self.old.picture.height self.old.picture }
-        ensures { self.new.picture ≡ picture_of
+        ensures picture { self.new.picture ≡ picture_of
             (frame_of self.old.info decoders.old self.old.picture.width self.old.picture.height) }
+        ensures rests { decoders.new ≡ tokens_after self.old.info decoders.old }
     {
         rebuilding_keeps_shape();
         rebuilding_keeps_rows_above();
@@ -216,20 +226,23 @@ impl<'a> FrameDecoder<'a> {
         self.filter_before(rows, filter);
     }
 
-    /// Decodes the picture from its token partitions. The other memory goes back into `buffers`.
+    /// Decodes the picture from its token partitions, and tells whether one of them is read past its end. The other
+    /// memory goes back into `buffers`.
     pub(crate) fn picture<F: RowFilter>(
         mut self,
         parts: &Partitions,
         filter: &mut F,
         buffers: &mut FrameBuffers,
-    ) -> Picture
+    ) -> DecodedPicture
         requires some { 0 < length parts.now }
         requires few { length parts.now ≤ 8 }
         requires contexts { AreContextsAt (all self.info.maps.modes.columns self.info.maps.modes.rows no_blocks_read)
             (place 0 0) self.contexts }
         requires shaped { IsShaped self.picture.width self.picture.height self.picture }
-        ensures { result ≡ picture_of (frame_of self.entry.info
+        ensures picture { result.picture ≡ picture_of (frame_of self.entry.info
             (map initial_state parts.now) self.entry.picture.width self.entry.picture.height) }
+        ensures corrupt { result.corrupt ≡ any_past
+            (tokens_after self.entry.info (map initial_state parts.now)) }
     {
         let mut decoders = [
             BoolDecoder::new(part_or_none(parts, 0)),
@@ -242,11 +255,23 @@ impl<'a> FrameDecoder<'a> {
             BoolDecoder::new(part_or_none(parts, 7)),
         ];
         let count = parts.count();
-        self.rows(&mut decoders[..count], filter);
+        let decoders = &mut decoders[..count];
+        self.rows(decoders, filter);
+        let corrupt = any_past_end(decoders);
         buffers.contexts = self.contexts;
         buffers.levels = self.levels;
-        self.picture
+        DecodedPicture {
+            picture: self.picture,
+            corrupt,
+        }
     }
+}
+
+/// Returns whether any of these decoders is past the end of its partition.
+fn any_past_end(decoders: &[BoolDecoder]) -> bool
+    ensures { result ≡ any_past decoders.now }
+{
+    decoders.iter().any(|decoder| decoder.is_past_end())
 }
 
 /// Returns token partition `i`, or no bytes if there is none.

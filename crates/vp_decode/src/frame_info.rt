@@ -18,11 +18,11 @@ use std::marker::Model;
 use vp_base::{Picture, Place};
 use vp_bool::BoolDecoder;
 use vp_head::Header;
-use vp_loop::{Level, MacroblockKind, ModeClass, levels};
+use vp_loop::{Level, LevelTable, MacroblockKind, ModeClass};
 use vp_modes::Modes;
 use vp_motion::MacroblockMotion;
 use vp_quant::{Factors, segment_index};
-use vp_recon::{Predictor, predict_inter_macroblock, predict_macroblock, rebuild_macroblock};
+use vp_recon::{Predictor, predict_macroblock, rebuild_macroblock};
 use vp_refs::Refs;
 use vp_tables::VectorMode;
 use vp_tokens::{Contexts, Tokens, pass_macroblock, read_macroblock};
@@ -38,10 +38,12 @@ pub(crate) struct FrameInfo<'a> {
     maps: MacroblockInfo,
     /// The dequantisation factors of the four segments.
     factors: [Factors; 4],
+    levels: LevelTable,
 }
 
 impl<'a> Model for FrameInfo<'a> {
     ghost use Rattle.std.specs.Prelude.{◌≡◌, option_map};
+    ghost use Rattle.vp_loop.specs.LevelTable.{AreFrameLevels};
     ghost use Rattle.vp_decode.specs.Frame.{FrameInfo, segment_factors};
 
     ghost Value = { FrameInfo };
@@ -53,7 +55,7 @@ impl<'a> Model for FrameInfo<'a> {
       maps = f.maps;
     } };
 
-    ghost invariant = { λ f. f.factors ≡ segment_factors f.header.now };
+    ghost invariant = { λ f. (f.factors ≡ segment_factors f.header.now) × AreFrameLevels f.header.now f.levels };
 }
 
 fn inter_mode_class(mode: VectorMode) -> ModeClass
@@ -138,6 +140,7 @@ impl<'a> FrameInfo<'a> {
                 factors_of(header, 2),
                 factors_of(header, 3),
             ],
+            levels: LevelTable::of(header),
         }
     }
 
@@ -298,16 +301,10 @@ impl<'a> FrameInfo<'a> {
         requires row { place.row < macroblocks picture.old.height }
         ensures { picture.new ≡ rebuilt (macroblock_at self.now place without_tokens) place picture.old }
     {
-        match source {
-            Predictor::Intra(modes) if !modes.luma.is_by_subblocks() => {
-                predict_macroblock(picture, place, modes)
-            }
-            Predictor::Intra(_) => self.rebuild_from_nothing(place, source, picture),
-            Predictor::Inter {
-                motion,
-                reference,
-                version,
-            } => predict_inter_macroblock(picture, place, motion, reference, *version),
+        if source.has_sub_modes() {
+            self.rebuild_from_nothing(place, source, picture);
+        } else {
+            predict_macroblock(picture, place, source);
         }
     }
 
@@ -333,6 +330,6 @@ impl<'a> FrameInfo<'a> {
             prediction: mode_class_of(source),
             coded,
         };
-        levels(self.header, modes.segment, &kind)
+        self.levels.level(modes.segment, &kind)
     }
 }

@@ -77,6 +77,7 @@ impl MacroblockInfo {
     /// Reads all macroblocks of a frame, in raster order.
     pub(crate) fn read(&mut self, header: &Header, d: &mut BoolDecoder)
         ensures value { self.new ≡ (maps_read header.now self.old d.old).0 }
+        ensures rest { d.new ≡ (maps_read header.now self.old d.old).1 }
         ensures columns { self.new.modes.columns ≡ self.old.modes.columns }
         ensures rows { self.new.modes.rows ≡ self.old.modes.rows }
     {

@@ -42,6 +42,25 @@ fn reads_examples(rt: HostRuntime) {
     }
 }
 
+/// In a partition of zeros the first bool of probability 128 shifts in nothing, and each later one a bit. The first
+/// byte is in the value from the start.
+#[test]
+fn partitions_end(rt: HostRuntime) {
+    let zeros = [0; 20];
+    for length in 1..=20usize {
+        let mut decoder = BoolDecoder::new(&zeros[..length]);
+        decoder.read_even();
+        for _bit in 0..8 * (length - 1) {
+            decoder.read_even();
+        }
+        assert!(rt; !decoder.is_past_end());
+        decoder.read_even();
+        assert!(rt; decoder.is_past_end());
+        decoder.literal(8);
+        assert!(rt; decoder.is_past_end());
+    }
+}
+
 /// The number of bools after which `read_rare` and `read` differ, of 4,000 that both read from these bytes with these
 /// two probabilities by turns.
 fn first_other(bytes: &[u8], probabilities: [u8; 2]) -> Option<usize> {

@@ -3,6 +3,7 @@ use Rattle.std.proofs.Common.{◌≡◌, ℕ, ◌+◌, ◌/◌, ◌≤◌, ◌*�
 use Rattle.vp_bool.specs.Bools.{read, split_of}
 use Rattle.vp_bool.specs.Window.{window_state}
 use Rattle.vp_bool.proofs.LawLemmas.{reads_on}
+use Rattle.vp_bool.proofs.MarkLemmas.{range_normal}
 use Rattle.vp_bool.proofs.PartLemmas.{IsPart, part_true, part_false, whole_bound, test}
 use Rattle.vp_bool.proofs.decoder.BoolDecoder.read_even.Goals as goal
 use Rattle.vp_bool.proofs.decoder.BoolDecoder.read_even.Goals.{then-bit, else-bit, Joined-bit, After-from-bound}
@@ -15,14 +16,14 @@ bound c =
     let w = c.self.inside.window in
     let good = c.self.invariant in
     whole_bound 128 w.value w.range w.count w.rest.now (omega arith) good.aligned good.few good.sound good.bytes c.from-bound.result
-    (c.from-bound.ensures ∙ half w.range good.sound.normal)
+    (c.from-bound.ensures ∙ half w.range (range_normal w.value w.range w.count w.rest.now good.sound).0)
 
 part : (c : Joined-bit) → IsPart 128 (window_state c.self.inside.window) (read 128 (window_state c.self.inside.window)).0 c.if-bit.value.0 c.if-bit.value.1 c.self.inside.window.count c.self.inside.window.rest.now
 part c =
     let w = c.self.inside.window in
     let good = c.self.invariant in
     let b = bound c in
-    let h = half w.range good.sound.normal in
+    let h = half w.range (range_normal w.value w.range w.count w.rest.now good.sound).0 in
     elim c.if-bit.branch [
       | then-bit v ↦
           let p = part_true 128 w.value w.range w.count w.rest.now (omega arith) good.aligned good.few good.sound good.bytes (rw (← b) v.if-bit.true) in

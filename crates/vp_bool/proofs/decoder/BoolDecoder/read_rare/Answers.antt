@@ -1,9 +1,10 @@
 use Rattle.std.proofs.Common.{◌≡◌, ℕ, ◌+◌, ◌-◌, ◌*◌, ◌/◌, ◌%◌, ◌^◌, ◌<◌, ◌≤◌, false, arith, ◌∙◌, ap, sym}
 use Rattle.vp_bool.specs.Bools.{read, split_of}
-use Rattle.vp_bool.specs.Window.{window_state, state, high_bits, IsWindow}
+use Rattle.vp_bool.specs.Window.{window_state, word_state, IsWindow}
 use Rattle.vp_bool.specs.declared.decoder.Window.{Window}
 use Rattle.vp_bool.proofs.BoolLemmas.{normal-still}
 use Rattle.vp_bool.proofs.LawLemmas.{reads_on}
+use Rattle.vp_bool.proofs.MarkLemmas.{word-range, normal_from}
 use Rattle.vp_bool.proofs.PartLemmas.{IsPart, part_false, whole_bound}
 use Rattle.vp_bool.proofs.decoder.BoolDecoder.read_rare.Goals as goal
 use Rattle.vp_bool.proofs.decoder.BoolDecoder.read_rare.Goals.{Else-self-from}
@@ -24,15 +25,16 @@ kept c =
     left c.self.inside.window c.args.probability c.from.result c.from-else-split-lt128.result (omega arith) c.self.invariant c.from.ensures c.from-else-split-lt128.ensures c.if-self-from.false
 
 -- the state of the window with the split as its range
-rest : (c : Else-self-from) → state (high_bits c.self.inside.window.value c.self.inside.window.count) (1 + c.from.result * (c.self.inside.window.range - 1) / 256) c.self.inside.window.count c.self.inside.window.rest.now
+rest : (c : Else-self-from) → word_state c.self.inside.window.value (1 + c.from.result * (c.self.inside.window.range - 1) / 256) c.self.inside.window.count c.self.inside.window.rest.now
     ≡ (read c.args.probability c.args.self.now).1
 rest c =
     let w = c.self.inside.window in
     let own = split_is c.args.probability c.from.result w.range c.from.ensures in
-    let now = state (high_bits w.value w.count) (split_of c.args.probability w.range) w.count w.rest.now in
+    let now = word_state w.value (split_of c.args.probability w.range) w.count w.rest.now in
     let wide : 128 ≤ split_of c.args.probability w.range = rw (← own) c.if-split-lt128.false in
-    ap (λ r. state (high_bits w.value w.count) r w.count w.rest.now) own
-    ∙ sym (normal-still 7 now wide) ∙ (kept c).after ∙ ap (λ s. (read c.args.probability s).1) c.self.view_is
+    let wide' : 128 ≤ now.range = rw (word-range w.value (split_of c.args.probability w.range) w.count w.rest.now) wide in
+    ap (λ r. word_state w.value r w.count w.rest.now) own
+    ∙ sym (normal-still 7 now wide') ∙ (kept c).after ∙ ap (λ s. (read c.args.probability s).1) c.self.view_is
 
 pub invariant_of-self : goal.invariant_of-self
 invariant_of-self c =
@@ -41,7 +43,7 @@ invariant_of-self c =
     let own = split_is c.args.probability c.from.result w.range c.from.ensures in
     let taken = (left w c.args.probability c.from.result c.from-else-split-lt128.result (omega arith) good c.from.ensures c.from-else-split-lt128.ensures c.if-self-from.false).taken in
     record {
-      sound = rw own (record { below = taken.below; normal = rw (← own) c.if-split-lt128.false; byte = taken.byte });
+      sound = rw own (normal_from w.value (split_of c.args.probability w.range) w.count w.rest.now taken (rw (← own) c.if-split-lt128.false));
       few = good.few;
       aligned = good.aligned;
       bytes = good.bytes;

@@ -2,6 +2,7 @@ use Rattle.std.proofs.Common.{◌≡◌, ◌∙◌, ℕ, ◌≤◌, List, [], �
 use Rattle.vp_bool.specs.Bools.{State, initial_state}
 use Rattle.vp_decode.specs.Frame.{frame_of, picture_of}
 use Rattle.vp_decode.specs.FrameDecoder.{FrameDecoder}
+use Rattle.vp_decode.specs.Corrupt.{any_past, tokens_after}
 use Rattle.vp_decode.proofs.frame_decoder.FrameDecoder.picture.Goals as goal
 
 abbrev nth : List (List ℕ) → ℕ → State
@@ -20,20 +21,29 @@ eight_of (a ∷ b ∷ c ∷ d ∷ e ∷ f ∷ g ∷ []) h = refl
 eight_of (a ∷ b ∷ c ∷ d ∷ e ∷ f ∷ g ∷ i ∷ []) h = refl
 eight_of (a ∷ b ∷ c ∷ d ∷ e ∷ f ∷ g ∷ i ∷ j ∷ ps) h = absurd (omega arith)
 
-pub returns : goal.returns
-returns g c =
-    let same : take c.count-count.result (c.new.result ∷ c.new-2.result ∷ c.new-3.result ∷ c.new-4.result ∷ c.new-5.result ∷ c.new-6.result ∷ c.new-7.result ∷ c.new-8.result ∷ []) ≡ map initial_state c.args.parts.now =
-    (λ i. take (c.count-count.ensures i) (
-    (c.new.ensures.value ∙ ap initial_state c.part_or_none.ensures) i
-    ∷ (c.new-2.ensures.value ∙ ap initial_state c.part_or_none-2.ensures) i
-    ∷ (c.new-3.ensures.value ∙ ap initial_state c.part_or_none-3.ensures) i
-    ∷ (c.new-4.ensures.value ∙ ap initial_state c.part_or_none-4.ensures) i
-    ∷ (c.new-5.ensures.value ∙ ap initial_state c.part_or_none-5.ensures) i
-    ∷ (c.new-6.ensures.value ∙ ap initial_state c.part_or_none-6.ensures) i
-    ∷ (c.new-7.ensures.value ∙ ap initial_state c.part_or_none-7.ensures) i
-    ∷ (c.new-8.ensures.value ∙ ap initial_state c.part_or_none-8.ensures) i
-    ∷ []))
-    ∙ eight_of c.args.parts.now c.requires.few in
+-- the decoders of all token partitions
+same : (ps : List (List ℕ)) (n : ℕ) (s t u v w x y z : State) → n ≡ length ps → length ps ≤ 8
+    → s ≡ nth ps 0 → t ≡ nth ps 1 → u ≡ nth ps 2 → v ≡ nth ps 3 → w ≡ nth ps 4 → x ≡ nth ps 5 → y ≡ nth ps 6 → z ≡ nth ps 7
+    → take n (s ∷ t ∷ u ∷ v ∷ w ∷ x ∷ y ∷ z ∷ []) ≡ map initial_state ps
+same ps n s t u v w x y z count few a b c d e f g h =
+    (λ i. take (count i) (a i ∷ b i ∷ c i ∷ d i ∷ e i ∷ f i ∷ g i ∷ h i ∷ [])) ∙ eight_of ps few
+
+pub returns-clause-picture : goal.returns-clause-picture
+returns-clause-picture g c =
+    let all = same c.args.parts.now c.count-count.result _ _ _ _ _ _ _ _ c.count-count.ensures c.requires.few
+    (c.new.ensures.value ∙ ap initial_state c.part_or_none.ensures) (c.new-2.ensures.value ∙ ap initial_state c.part_or_none-2.ensures)
+    (c.new-3.ensures.value ∙ ap initial_state c.part_or_none-3.ensures) (c.new-4.ensures.value ∙ ap initial_state c.part_or_none-4.ensures)
+    (c.new-5.ensures.value ∙ ap initial_state c.part_or_none-5.ensures) (c.new-6.ensures.value ∙ ap initial_state c.part_or_none-6.ensures)
+    (c.new-7.ensures.value ∙ ap initial_state c.part_or_none-7.ensures) (c.new-8.ensures.value ∙ ap initial_state c.part_or_none-8.ensures) in
     ap (λ (b : FrameDecoder). b.picture) c.self.view_is
-    ∙ c.rows.ensures
-    ∙ ap (λ (ps : List State). picture_of (frame_of c.args.self.info ps c.args.self.picture.width c.args.self.picture.height)) same
+    ∙ c.rows.ensures.picture
+    ∙ ap (λ (ps : List State). picture_of (frame_of c.args.self.info ps c.args.self.picture.width c.args.self.picture.height)) all
+
+pub returns-clause-corrupt : goal.returns-clause-corrupt
+returns-clause-corrupt g c =
+    let all = same c.args.parts.now c.count-count.result _ _ _ _ _ _ _ _ c.count-count.ensures c.requires.few
+    (c.new.ensures.value ∙ ap initial_state c.part_or_none.ensures) (c.new-2.ensures.value ∙ ap initial_state c.part_or_none-2.ensures)
+    (c.new-3.ensures.value ∙ ap initial_state c.part_or_none-3.ensures) (c.new-4.ensures.value ∙ ap initial_state c.part_or_none-4.ensures)
+    (c.new-5.ensures.value ∙ ap initial_state c.part_or_none-5.ensures) (c.new-6.ensures.value ∙ ap initial_state c.part_or_none-6.ensures)
+    (c.new-7.ensures.value ∙ ap initial_state c.part_or_none-7.ensures) (c.new-8.ensures.value ∙ ap initial_state c.part_or_none-8.ensures) in
+    c.any_past_end-corrupt.ensures ∙ ap any_past (c.rows.ensures.rests ∙ ap (λ (ps : List State). tokens_after c.args.self.info ps) all)

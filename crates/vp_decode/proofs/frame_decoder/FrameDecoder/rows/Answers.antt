@@ -101,8 +101,8 @@ loop-row-preserved g c =
           (λ column below. next.levels (place k column) (omega arith) (omega (arith, columns))));
     }
 
-pub returns : goal.returns
-returns g c =
+pub returns-clause-picture : goal.returns-clause-picture
+returns-clause-picture g c =
     let f : FrameInfo = c.args.self.now.info in
     let ps : List State = c.args.decoders.now in
     let p : Image = c.args.self.now.picture in
@@ -123,3 +123,12 @@ returns g c =
     (λ column below. made.levels (place k column) (omega arith) (omega (arith, columns))))
     ∙ frame_made (record { size = law.size; aligned = law.aligned; whole = law.whole }) law.solves c.unfiltered_picture_is_the_one_solution.ensures.one
     f ps p.width p.height p c.requires.shaped
+
+pub returns-clause-rests : goal.returns-clause-rests
+returns-clause-rests g c =
+    let f : FrameInfo = c.args.self.now.info in
+    let ps : List State = c.args.decoders.now in
+    let end : c.rows-rows.result ≡ f.maps.modes.rows = c.rows-rows.ensures.value ∙ ap (λ (b : FrameDecoder). b.info.maps.modes.rows) c.self.view_is in
+    let all : c.loop-row.row ≡ f.maps.modes.rows = omega arith in
+    let made : IsAfterRows f ps c.loop-row.row c.loop-row.decoders c.loop-row.self = c.loop-row.invariant.rows in
+    made.rests ∙ ap (λ (n : ℕ). (readings f ps n).rests) all

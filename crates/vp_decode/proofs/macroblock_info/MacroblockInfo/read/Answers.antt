@@ -24,4 +24,4 @@ unfolding maps_read
 returns c =
     let all : c.loop-row.row ≡ c.args.self.now.modes.rows = omega (arith, c.rows-row-end.ensures.value, ap (λ (m : MacroblockInfo). m.modes.rows) c.self.view_is) in
     let h = gives _ _ _ (ap (λ (n : ℕ). rows n (row_read c.args.header.now c.args.self.now.modes.columns) c.args.self.now c.args.d.now) (sym all) ∙ c.loop-row.invariant.so_far) in
-    record { value = h.value; columns = c.loop-row.invariant.columns; rows = c.loop-row.invariant.rows }
+    record { value = h.value; rest = h.rest; columns = c.loop-row.invariant.columns; rows = c.loop-row.invariant.rows }

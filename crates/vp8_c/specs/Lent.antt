@@ -1,0 +1,17 @@
+-- The layout of a picture that is lent to C. No contract says which bytes an address refers to.
+use Rattle.std.specs.Prelude.{◌≡◌, ℕ}
+use Rattle.vp_base.specs.Image.{Image}
+use Rattle.vp8_c.specs.declared.lent.LentPicture.{LentPicture}
+use Rattle.vp8_c.specs.declared.status.TheConstants.{OK}
+
+-- the size of a picture in pixels, and the strides of its planes, which hold whole macroblocks
+pub record IsLayoutOf (p : Image) (lent : LentPicture) : Type 0 where
+  pub width_is : lent.width ≡ p.width
+  pub height_is : lent.height ≡ p.height
+  pub y : lent.y.stride ≡ p.luma.width
+  pub u : lent.u.stride ≡ p.u.width
+  pub v : lent.v.stride ≡ p.v.width
+
+-- the picture is lent
+abbrev pub Lends : Image → ℕ → LentPicture → LentPicture → Type 0
+Lends p status before after = (status ≡ OK) × IsLayoutOf p after
