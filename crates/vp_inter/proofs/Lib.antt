@@ -6,4 +6,5 @@ pub mod NarrowLemmas
 pub mod PlainLemmas
 pub mod LongLanes
 pub mod WideLemmas
+pub mod FilteredLemmas
 pub mod ShortLemmas

@@ -3,3 +3,4 @@ pub mod Filter
 pub mod Narrow
 pub mod Inter
 pub mod Turns
+pub mod Filtered

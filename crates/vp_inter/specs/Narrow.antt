@@ -1,9 +1,13 @@
--- Private to the crate: when sums fit in i16. A weighted sum of six pixels does after 16384 is subtracted.
+-- Private to the crate: when numbers fit. A weighted sum of six pixels does after 16384 is subtracted.
 use Rattle.std.specs.Prelude.{◌≡◌, ◌<◌, ℕ, ℤ, pos, negsuc, ◌+ℤ◌, ◌-ℤ◌, ◌*ℤ◌, ◌≤ℤ◌, List, slice_index_or}
 
 -- z is from low to high
 abbrev pub IsFrom : ℤ → ℤ → ℤ → Type 0
 IsFrom low high z = (low ≤ℤ z) × (z ≤ℤ high)
+
+-- a column or row is near enough that those of a block fit in i32
+abbrev pub IsNear : ℤ → Type 0
+IsNear = IsFrom (negsuc 400000000) (pos 400000000)
 
 -- z fits in i16
 abbrev pub IsShort : ℤ → Type 0

@@ -1,10 +1,10 @@
 //! Inter prediction of square blocks (RFC 6386, chapter 18).
 
-ghost use Rattle.std.specs.Prelude.{◌≡◌, ℕ, ℤ, pos, negsuc, ◌+◌, ◌*◌, ◌%◌, ◌<◌, ◌≤◌, ◌+ℤ◌, ◌≤ℤ◌, length, slice_index};
+ghost use Rattle.std.specs.Prelude.{◌≡◌, ℕ, ℤ, pos, ◌+◌, ◌*◌, ◌%◌, ◌<◌, ◌≤◌, ◌+ℤ◌, length, slice_index};
 ghost use Rattle.std.specs.Prelude.{IsTrue};
 ghost use Rattle.vp_inter.specs.Filter.{taps, filter_six};
 ghost use Rattle.vp_inter.specs.Vectors.{fraction};
-ghost use Rattle.vp_inter.specs.Narrow.{OuterWeightsAreZero, SumsFitI16};
+ghost use Rattle.vp_inter.specs.Narrow.{IsNear, OuterWeightsAreZero, SumsFitI16};
 ghost use Rattle.vp_inter.specs.Inter.{reference_pixel, horizontal_pass, inter_pixel, IsInside};
 
 use crate::filter::{ends_are_zero, pass, seconds_are_zero, taps};
@@ -133,8 +133,8 @@ fn predict_across<const N: usize, const W: usize>(
     requires bound { eighths < 8 }
     requires columns { 0 < plane.now.width }
     requires height { 0 < plane.now.height }
-    requires near { (negsuc 400000000 ≤ℤ left) × (left ≤ℤ pos 400000000) }
-    requires beside { (negsuc 400000000 ≤ℤ top) × (top ≤ℤ pos 400000000) }
+    requires near { IsNear left }
+    requires beside { IsNear top }
     ensures { (r c : ℕ) → r < N → c < N → slice_index pixels.new (r * N + c)
         ≡ horizontal_pass (taps version eighths) plane.now left top r c }
 {
@@ -161,8 +161,8 @@ fn predict_down<const N: usize, const W: usize, const L: usize, const M: usize>(
     requires bound { eighths < 8 }
     requires columns { 0 < plane.now.width }
     requires height { 0 < plane.now.height }
-    requires near { (negsuc 400000000 ≤ℤ left) × (left ≤ℤ pos 400000000) }
-    requires beside { (negsuc 400000000 ≤ℤ top) × (top ≤ℤ pos 400000000) }
+    requires near { IsNear left }
+    requires beside { IsNear top }
     ensures value { (r c : ℕ) → r < N → c < N → slice_index pixels.new (r * N + c) ≡ filter_six (taps version eighths)
         (λ k. reference_pixel plane.now (left +ℤ pos c) (top +ℤ pos (r + k))) }
     ensures bytes { (i c : ℕ) → i < W → c < N → reference_pixel plane.now (left +ℤ pos c) (top +ℤ pos i) ≤ 255 }
@@ -190,8 +190,8 @@ fn predict_both<const N: usize, const W: usize, const L: usize, const M: usize>(
     requires down { 0 < fraction vector.row }
     requires columns { 0 < plane.now.width }
     requires height { 0 < plane.now.height }
-    requires near { (negsuc 400000000 ≤ℤ left) × (left ≤ℤ pos 400000000) }
-    requires beside { (negsuc 400000000 ≤ℤ top) × (top ≤ℤ pos 400000000) }
+    requires near { IsNear left }
+    requires beside { IsNear top }
     ensures { (r c : ℕ) → r < N → c < N → slice_index pixels.new (r * N + c)
         ≡ filter_six (taps version (fraction vector.row))
         (λ k. horizontal_pass (taps version (fraction vector.column)) plane.now left top (r + k) c) }
@@ -222,8 +222,8 @@ fn pass_both<const N: usize, const W: usize, const L: usize, const M: usize>(
     requires down { SumsFitI16 column_weights.now }
     requires columns { 0 < plane.now.width }
     requires height { 0 < plane.now.height }
-    requires near { (negsuc 400000000 ≤ℤ left) × (left ≤ℤ pos 400000000) }
-    requires beside { (negsuc 400000000 ≤ℤ top) × (top ≤ℤ pos 400000000) }
+    requires near { IsNear left }
+    requires beside { IsNear top }
     ensures { (r c : ℕ) → r < N → c < N → slice_index pixels.new (r * N + c)
         ≡ filter_six column_weights.now (λ k. horizontal_pass row_weights.now plane.now left top (r + k) c) }
 {
@@ -249,8 +249,8 @@ fn copied_rows<const N: usize, const L: usize>(
     requires room { L ≤ 336 }
     requires columns { 0 < plane.now.width }
     requires height { 0 < plane.now.height }
-    requires near { (negsuc 400000000 ≤ℤ left) × (left ≤ℤ pos 400000000) }
-    requires beside { (negsuc 400000000 ≤ℤ top) × (top ≤ℤ pos 400000000) }
+    requires near { IsNear left }
+    requires beside { IsNear top }
     ensures len { length result ≡ L }
     ensures value { (r c : ℕ) → r < rows → c < N → slice_index result (r * N + c)
         ≡ reference_pixel plane.now (left +ℤ pos c) (top +ℤ pos r) }
@@ -282,8 +282,8 @@ fn pass_rows<const N: usize, const W: usize>(
     requires gentle { SumsFitI16 weights.now }
     requires columns { 0 < plane.now.width }
     requires height { 0 < plane.now.height }
-    requires near { (negsuc 400000000 ≤ℤ left) × (left ≤ℤ pos 400000000) }
-    requires beside { (negsuc 400000000 ≤ℤ top) × (top ≤ℤ pos 400000000) }
+    requires near { IsNear left }
+    requires beside { IsNear top }
     ensures { (i c : ℕ) → i < rows → c < N → slice_index pixels.new (i * N + c)
         ≡ horizontal_pass weights.now plane.now left top i c }
 {
@@ -312,8 +312,8 @@ fn other_rows<const N: usize, const W: usize>(
     requires gentle { SumsFitI16 weights.now }
     requires columns { 0 < plane.now.width }
     requires height { 0 < plane.now.height }
-    requires near { (negsuc 400000000 ≤ℤ left) × (left ≤ℤ pos 400000000) }
-    requires beside { (negsuc 400000000 ≤ℤ top) × (top ≤ℤ pos 400000000) }
+    requires near { IsNear left }
+    requires beside { IsNear top }
     ensures { (i c : ℕ) → i < rows → c < N → slice_index pixels.new (i * N + c)
         ≡ horizontal_pass weights.now plane.now left top i c }
 {
@@ -345,8 +345,8 @@ fn horizontal_by_taps<const N: usize, const W: usize, const INSIDE: bool>(
     requires inside { IsTrue INSIDE → IsInside plane.now left top W rows }
     requires columns { 0 < plane.now.width }
     requires height { 0 < plane.now.height }
-    requires near { (negsuc 400000000 ≤ℤ left) × (left ≤ℤ pos 400000000) }
-    requires beside { (negsuc 400000000 ≤ℤ top) × (top ≤ℤ pos 400000000) }
+    requires near { IsNear left }
+    requires beside { IsNear top }
     ensures { (i c : ℕ) → i < rows → c < N → slice_index pixels.new (i * N + c)
         ≡ horizontal_pass weights.now plane.now left top i c }
 {
@@ -379,8 +379,8 @@ fn horizontal_rows<const N: usize, const W: usize, const INSIDE: bool, const COU
     requires few { OuterWeightsAreZero weights.now COUNT }
     requires columns { 0 < plane.now.width }
     requires height { 0 < plane.now.height }
-    requires near { (negsuc 400000000 ≤ℤ left) × (left ≤ℤ pos 400000000) }
-    requires beside { (negsuc 400000000 ≤ℤ top) × (top ≤ℤ pos 400000000) }
+    requires near { IsNear left }
+    requires beside { IsNear top }
     ensures { (i c : ℕ) → i < rows → c < N → slice_index pixels.new (i * N + c)
         ≡ horizontal_pass weights.now plane.now left top i c }
 {
@@ -407,7 +407,7 @@ fn horizontal_row<const N: usize, const W: usize, const INSIDE: bool, const COUN
     requires few { OuterWeightsAreZero weights.now COUNT }
     requires columns { 0 < plane.now.width }
     requires height { 0 < plane.now.height }
-    requires near { (negsuc 400000000 ≤ℤ left) × (left ≤ℤ pos 400000000) }
+    requires near { IsNear left }
     ensures { (c : ℕ) → c < N → slice_index result c ≡ filter_six weights.now
         (λ k. reference_pixel plane.now (left +ℤ pos (c + k)) row) }
 {
@@ -420,7 +420,11 @@ fn horizontal_row<const N: usize, const W: usize, const INSIDE: bool, const COUN
 
 /// The vertical pass over rows of `N` pixels, five more than it produces.
 #[inline(never)]
-fn pass_columns<const N: usize, const M: usize>(pixels: &mut [u8], rows: &[u8], weights: &[i16; 6])
+pub(crate) fn pass_columns<const N: usize, const M: usize>(
+    pixels: &mut [u8],
+    rows: &[u8],
+    weights: &[i16; 6],
+)
     requires size { N ≤ 16 }
     requires all { length rows.now ≡ (N + 5) * N }
     requires square { M ≡ N * N }

@@ -117,7 +117,7 @@ fn copied_whole<const N: usize>(
 
 /// The column and row of the reference from which a block of `size` by `size` pixels at (`x`, `y`) is copied. None
 /// unless the vector is in whole pixels and the reference contains the block.
-fn whole_place(
+pub(crate) fn whole_place(
     reference: &Plane,
     x: usize,
     y: usize,

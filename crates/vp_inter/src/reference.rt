@@ -4,6 +4,7 @@ ghost use Rattle.std.specs.Prelude.{◌≡◌, ℕ, ℤ, pos, negsuc, ◌+◌, �
 ghost use Rattle.std.specs.Prelude.{IsTrue};
 ghost use Rattle.vp_base.specs.Raster.{row_of};
 ghost use Rattle.vp_inter.specs.Inter.{nearest, reference_pixel, IsInside};
+ghost use Rattle.vp_inter.specs.Narrow.{IsNear};
 
 use crate::block::put_lanes;
 use crate::filter::load;
@@ -27,7 +28,7 @@ pub fn nearest(at: i32, size: usize) -> usize
 /// Whether the block of this many columns and rows at (`left`, `top`) is inside the plane.
 pub(crate) fn lies_inside(plane: &Plane, left: i32, top: i32, columns: usize, rows: usize) -> bool
     requires columns { columns ≤ 21 }
-    requires rows { rows ≤ 21 }
+    requires rows { rows ≤ 22 }
     ensures { IsTrue result → IsInside plane.now left top columns rows }
 {
     left >= 0
@@ -103,7 +104,7 @@ pub(crate) fn plain_row<const N: usize>(
     requires inside { IsTrue inside → IsInside plane.now left row N 1 }
     requires columns { 0 < plane.now.width }
     requires rows { 0 < plane.now.height }
-    requires near { (negsuc 400000000 ≤ℤ left) × (left ≤ℤ pos 400000000) }
+    requires near { IsNear left }
     ensures { (c : ℕ) → c < N → slice_index result c ≡ reference_pixel plane.now (left +ℤ pos c) row }
 {
     if inside {
@@ -128,7 +129,7 @@ fn extended_row<'a>(plane: &'a Flat, row: i32) -> &'a [u8]
 pub(crate) fn reference_line(plane: &Flat, left: i32, row: i32) -> [u8; 32]
     requires columns { 0 < plane.now.width }
     requires rows { 0 < plane.now.height }
-    requires near { (negsuc 400000000 ≤ℤ left) × (left ≤ℤ pos 400000000) }
+    requires near { IsNear left }
     ensures { (c : ℕ) → c < 32 → slice_index result c ≡ reference_pixel plane.now (left +ℤ pos c) row }
 {
     nearest_numbers(extended_row(plane, row), left)
@@ -138,7 +139,7 @@ pub(crate) fn reference_line(plane: &Flat, left: i32, row: i32) -> [u8; 32]
 #[inline(always)]
 fn nearest_numbers(line: &[u8], left: i32) -> [u8; 32]
     requires some { 0 < length line.now }
-    requires near { (negsuc 400000000 ≤ℤ left) × (left ≤ℤ pos 400000000) }
+    requires near { IsNear left }
     ensures len { length result ≡ 32 }
     ensures value { (c : ℕ) → c < 32 → slice_index result c ≡ slice_index line.now
         (nearest (length line.now) (left +ℤ pos c)) }
@@ -217,7 +218,7 @@ fn sixteen(line: &[u8], at: i32) -> u8x16
 #[inline(never)]
 fn beyond(line: &[u8], left: i32) -> [u8; 32]
     requires some { 0 < length line.now }
-    requires near { (negsuc 400000000 ≤ℤ left) × (left ≤ℤ pos 400000000) }
+    requires near { IsNear left }
     ensures len { length result ≡ 32 }
     ensures value { (c : ℕ) → c < 32 → slice_index result c ≡ slice_index line.now
         (nearest (length line.now) (left +ℤ pos c)) }

@@ -1,10 +1,10 @@
 //! The horizontal pass over rows of four and eight pixels (RFC 6386, chapter 18.3), by multiply-add of bytes.
 
-ghost use Rattle.std.specs.Prelude.{◌≡◌, ℕ, ℤ, pos, negsuc, ◌+◌, ◌*◌, ◌<◌, ◌≤◌, ◌+ℤ◌, ◌≤ℤ◌, ◌⊎◌, length, slice_index};
+ghost use Rattle.std.specs.Prelude.{◌≡◌, ℕ, ℤ, pos, ◌+◌, ◌*◌, ◌<◌, ◌≤◌, ◌+ℤ◌, ◌≤ℤ◌, ◌⊎◌, length, slice_index};
 ghost use Rattle.std.specs.Prelude.{◌<ℤ◌, IsTrue};
 ghost use Rattle.vp_inter.specs.Filter.{filter_six};
 ghost use Rattle.vp_inter.specs.Inter.{nearest, horizontal_pass, IsInside};
-ghost use Rattle.vp_inter.specs.Narrow.{SumsFitI16};
+ghost use Rattle.vp_inter.specs.Narrow.{IsNear, SumsFitI16};
 ghost use Rattle.vp_inter.specs.Turns.{AreFar, AreLanes, SelectsPairs};
 
 use crate::block::put_lanes;
@@ -52,9 +52,9 @@ fn third_pairs(places: u8x16) -> u8x16
 }
 
 /// The filter for rows of `size` columns, from column `left` on.
-fn row_filter(size: usize, left: i32, weights: &[i16; 6]) -> RowFilter
+pub(crate) fn row_filter(size: usize, left: i32, weights: &[i16; 6]) -> RowFilter
     requires some { 16 ≤ size }
-    requires near { (negsuc 400000000 ≤ℤ left) × (left ≤ℤ pos 400000000) }
+    requires near { IsNear left }
     requires gentle { SumsFitI16 weights.now }
     ensures room { result.start + 16 ≤ size }
     ensures turns { AreFar weights.now result.weights }
@@ -97,7 +97,7 @@ fn filtered_eight(line: &[u8], filter: &RowFilter, weights: &[i16; 6], far: &Col
 fn row_below<const INSIDE: bool>(top: i32, i: usize, height: usize) -> usize
     requires some { 0 < height }
     requires near { i ≤ 21 }
-    requires beside { (negsuc 400000000 ≤ℤ top) × (top ≤ℤ pos 400000000) }
+    requires beside { IsNear top }
     requires inside { IsTrue INSIDE → (pos 0 ≤ℤ top) × ((top +ℤ pos i) <ℤ pos height) }
     ensures value { result ≡ nearest height (top +ℤ pos i) }
     ensures bound { result < height }
@@ -167,7 +167,7 @@ fn filtered_row<const INSIDE: bool>(
     requires room { filter.now.start + 16 ≤ plane.now.width }
     requires some { 0 < plane.now.height }
     requires near { i ≤ 21 }
-    requires beside { (negsuc 400000000 ≤ℤ top) × (top ≤ℤ pos 400000000) }
+    requires beside { IsNear top }
     requires inside { IsTrue INSIDE → (pos 0 ≤ℤ top) × ((top +ℤ pos i) <ℤ pos plane.now.height) }
     requires lanes { AreLanes filter.now }
     requires gentle { SumsFitI16 weights.now }
@@ -199,7 +199,7 @@ fn filtered_rows<const N: usize, const INSIDE: bool>(
     requires lanes { AreLanes filter.now }
     requires gentle { SumsFitI16 weights.now }
     requires turns { AreFar weights.now filter.now.weights }
-    requires beside { (negsuc 400000000 ≤ℤ top) × (top ≤ℤ pos 400000000) }
+    requires beside { IsNear top }
     ensures { (left : ℤ) → SelectsPairs filter.now (λ c. nearest plane.now.width (left +ℤ pos c)) → (i c : ℕ)
         → i < rows → c < N → slice_index pixels.new (i * N + c) ≡ horizontal_pass weights.now plane.now left top i c }
 {
@@ -215,6 +215,36 @@ fn filtered_rows<const N: usize, const INSIDE: bool>(
     if rows % 2 == 1 {
         let row = filtered_row::<INSIDE>(&flat, top, rows - 1, &own, weights, &filter.weights);
         put_short::<N>(pixels, rows - 1, row);
+    }
+}
+
+/// The horizontal pass over `rows` rows of four or eight pixels of the reference by a filter. It reads directly from
+/// the plane if all rows are inside.
+#[inline(always)]
+pub(crate) fn rows_by_filter<const N: usize>(
+    pixels: &mut [u8],
+    plane: &Plane,
+    top: i32,
+    filter: &RowFilter,
+    weights: &[i16; 6],
+    rows: usize,
+)
+    requires size { (N ≡ 4) ⊎ (N ≡ 8) }
+    requires rows { rows ≤ 21 }
+    requires all { length pixels.old ≡ rows * N }
+    requires room { filter.now.start + 16 ≤ plane.now.width }
+    requires height { 0 < plane.now.height }
+    requires lanes { AreLanes filter.now }
+    requires gentle { SumsFitI16 weights.now }
+    requires turns { AreFar weights.now filter.now.weights }
+    requires beside { IsNear top }
+    ensures { (left : ℤ) → SelectsPairs filter.now (λ c. nearest plane.now.width (left +ℤ pos c)) → (i c : ℕ)
+        → i < rows → c < N → slice_index pixels.new (i * N + c) ≡ horizontal_pass weights.now plane.now left top i c }
+{
+    if lies_inside(plane, 0, top, 0, rows) {
+        filtered_rows::<N, true>(pixels, plane, top, filter, weights, rows);
+    } else {
+        filtered_rows::<N, false>(pixels, plane, top, filter, weights, rows);
     }
 }
 
@@ -234,15 +264,11 @@ pub(crate) fn short_rows<const N: usize>(
     requires gentle { SumsFitI16 weights.now }
     requires columns { 16 ≤ plane.now.width }
     requires height { 0 < plane.now.height }
-    requires near { (negsuc 400000000 ≤ℤ left) × (left ≤ℤ pos 400000000) }
-    requires beside { (negsuc 400000000 ≤ℤ top) × (top ≤ℤ pos 400000000) }
+    requires near { IsNear left }
+    requires beside { IsNear top }
     ensures { (i c : ℕ) → i < rows → c < N → slice_index pixels.new (i * N + c)
         ≡ horizontal_pass weights.now plane.now left top i c }
 {
     let filter = row_filter(plane.width(), left, weights);
-    if lies_inside(plane, 0, top, 0, rows) {
-        filtered_rows::<N, true>(pixels, plane, top, &filter, weights, rows);
-    } else {
-        filtered_rows::<N, false>(pixels, plane, top, &filter, weights, rows);
-    }
+    rows_by_filter::<N>(pixels, plane, top, &filter, weights, rows);
 }

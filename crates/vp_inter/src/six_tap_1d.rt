@@ -1,11 +1,11 @@
 //! The six-tap filter on rows of sixteen pixels (RFC 6386, chapter 18.3), by multiply-add of bytes.
 
-ghost use Rattle.std.specs.Prelude.{◌≡◌, ℕ, ℤ, pos, negsuc, ◌+◌, ◌*◌, ◌/◌, ◌%◌, ◌<◌, ◌≤◌, ◌+ℤ◌, ◌-ℤ◌, ◌≤ℤ◌, length};
+ghost use Rattle.std.specs.Prelude.{◌≡◌, ℕ, ℤ, pos, ◌+◌, ◌*◌, ◌/◌, ◌%◌, ◌<◌, ◌≤◌, ◌+ℤ◌, ◌-ℤ◌, length};
 ghost use Rattle.std.specs.Prelude.{slice_index, IsTrue};
 ghost use Rattle.vp_lanes.specs.Lane.{lane};
 ghost use Rattle.vp_inter.specs.Filter.{filter_six};
 ghost use Rattle.vp_inter.specs.Inter.{reference_pixel, horizontal_pass, IsInside};
-ghost use Rattle.vp_inter.specs.Narrow.{IsShort, SumsFitI16, sum_of_six};
+ghost use Rattle.vp_inter.specs.Narrow.{IsNear, IsShort, SumsFitI16, sum_of_six};
 ghost use Rattle.vp_inter.specs.Turns.{AreNear, AreFar, one_of_three, half_place};
 
 use crate::block::put_lanes;
@@ -209,7 +209,7 @@ pub(crate) fn halves_row<const INSIDE: bool>(
     requires turns { AreNear weights.now near.now }
     requires columns { 0 < plane.now.width }
     requires height { 0 < plane.now.height }
-    requires near { (negsuc 400000000 ≤ℤ left) × (left ≤ℤ pos 400000000) }
+    requires near { IsNear left }
     ensures { (c : ℕ) → c < 16 → slice_index result (half_place c)
         ≡ filter_six weights.now (λ k. reference_pixel plane.now (left +ℤ pos (c + k)) row) }
 {
@@ -221,7 +221,7 @@ pub(crate) fn halves_row<const INSIDE: bool>(
 }
 
 /// Restores the order of sixteen pixels whose even columns are first.
-fn in_order(halves: u8x16) -> u8x16
+pub(crate) fn in_order(halves: u8x16) -> u8x16
     ensures { (c : ℕ) → c < 16 → slice_index result c ≡ slice_index halves (half_place c) }
 {
     halves.swizzle::<16>([0, 8, 1, 9, 2, 10, 3, 11, 4, 12, 5, 13, 6, 14, 7, 15])
@@ -246,8 +246,8 @@ fn wide_rows<const INSIDE: bool>(
     requires turns { AreNear weights.now near.now }
     requires columns { 0 < plane.now.width }
     requires height { 0 < plane.now.height }
-    requires near { (negsuc 400000000 ≤ℤ left) × (left ≤ℤ pos 400000000) }
-    requires beside { (negsuc 400000000 ≤ℤ top) × (top ≤ℤ pos 400000000) }
+    requires near { IsNear left }
+    requires beside { IsNear top }
     ensures { (i c : ℕ) → i < rows → c < 16 → slice_index pixels.new (i * 16 + c)
         ≡ horizontal_pass weights.now plane.now left top i c }
 {
@@ -275,8 +275,8 @@ pub(crate) fn horizontal_six_tap_16(
     requires gentle { SumsFitI16 weights.now }
     requires columns { 0 < plane.now.width }
     requires height { 0 < plane.now.height }
-    requires near { (negsuc 400000000 ≤ℤ left) × (left ≤ℤ pos 400000000) }
-    requires beside { (negsuc 400000000 ≤ℤ top) × (top ≤ℤ pos 400000000) }
+    requires near { IsNear left }
+    requires beside { IsNear top }
     ensures { (i c : ℕ) → i < rows → c < 16 → slice_index pixels.new (i * 16 + c)
         ≡ horizontal_pass weights.now plane.now left top i c }
 {

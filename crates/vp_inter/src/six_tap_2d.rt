@@ -5,7 +5,7 @@ ghost use Rattle.std.specs.Prelude.{◌≡◌, ℕ, ℤ, pos, negsuc, ◌+◌, �
 ghost use Rattle.std.specs.Prelude.{IsTrue};
 ghost use Rattle.vp_inter.specs.Filter.{filter_six};
 ghost use Rattle.vp_inter.specs.Inter.{horizontal_pass, IsInside};
-ghost use Rattle.vp_inter.specs.Narrow.{SumsFitI16};
+ghost use Rattle.vp_inter.specs.Narrow.{IsNear, SumsFitI16};
 ghost use Rattle.vp_inter.specs.Turns.{AreNear, AreFar, HoldsPairs, IsPair, half_place, pair_place};
 
 use crate::block::put_lanes;
@@ -28,9 +28,9 @@ struct Three {
 
 /// A row interleaved with the row three below: even columns, and odd ones.
 #[derive(Clone, Copy)]
-struct Pair {
-    even: u8x16,
-    odd: u8x16,
+pub(crate) struct Pair {
+    pub(crate) even: u8x16,
+    pub(crate) odd: u8x16,
 }
 
 /// The part of the reference that a block is filtered from. Its first row and column can lie outside the plane.
@@ -54,7 +54,7 @@ fn three_rows<const INSIDE: bool>(
     requires turns { AreNear weights.now near.now }
     requires columns { 0 < plane.now.width }
     requires height { 0 < plane.now.height }
-    requires near { (negsuc 400000000 ≤ℤ left) × (left ≤ℤ pos 400000000) }
+    requires near { IsNear left }
     requires beside { (negsuc 400000000 ≤ℤ top) × (top ≤ℤ pos 400000018) }
     ensures first { (c : ℕ) → c < 16 → slice_index result.first (half_place c)
         ≡ horizontal_pass weights.now plane.now left top 0 c }
@@ -71,7 +71,7 @@ fn three_rows<const INSIDE: bool>(
 }
 
 /// Interleaves the low eight bytes of each.
-fn interleave_lo(a: u8x16, b: u8x16) -> u8x16
+pub(crate) fn interleave_lo(a: u8x16, b: u8x16) -> u8x16
     ensures even { (j : ℕ) → j < 8 → slice_index result (2 * j) ≡ slice_index a j }
     ensures odd { (j : ℕ) → j < 8 → slice_index result (2 * j + 1) ≡ slice_index b j }
 {
@@ -79,7 +79,7 @@ fn interleave_lo(a: u8x16, b: u8x16) -> u8x16
 }
 
 /// Interleaves the high eight bytes of each.
-fn interleave_hi(a: u8x16, b: u8x16) -> u8x16
+pub(crate) fn interleave_hi(a: u8x16, b: u8x16) -> u8x16
     ensures even { (j : ℕ) → j < 8 → slice_index result (2 * j) ≡ slice_index a (8 + j) }
     ensures odd { (j : ℕ) → j < 8 → slice_index result (2 * j + 1) ≡ slice_index b (8 + j) }
 {
@@ -119,8 +119,8 @@ fn paired_rows<const INSIDE: bool>(
     requires turns { AreNear weights.now near.now }
     requires columns { 0 < window.plane.now.width }
     requires height { 0 < window.plane.now.height }
-    requires near { (negsuc 400000000 ≤ℤ window.left) × (window.left ≤ℤ pos 400000000) }
-    requires beside { (negsuc 400000000 ≤ℤ window.top) × (window.top ≤ℤ pos 400000000) }
+    requires near { IsNear window.left }
+    requires beside { IsNear window.top }
     ensures first { HoldsPairs first.new
         (horizontal_pass weights.now window.entry.plane.now window.entry.left window.entry.top) 0 6 }
     ensures second { HoldsPairs second.new
@@ -159,8 +159,8 @@ fn all_rows(
     requires gentle { SumsFitI16 weights.now }
     requires columns { 0 < window.plane.now.width }
     requires height { 0 < window.plane.now.height }
-    requires near { (negsuc 400000000 ≤ℤ window.left) × (window.left ≤ℤ pos 400000000) }
-    requires beside { (negsuc 400000000 ≤ℤ window.top) × (window.top ≤ℤ pos 400000000) }
+    requires near { IsNear window.left }
+    requires beside { IsNear window.top }
     ensures first { HoldsPairs first.new
         (horizontal_pass weights.now window.entry.plane.now window.entry.left window.entry.top) 0 6 }
     ensures second { HoldsPairs second.new
@@ -190,7 +190,13 @@ fn pair_at(run: &[u8], e: usize) -> Pair
 }
 
 /// Filters one row vertically, from three consecutive pairs of rows.
-fn vertical_row(a: &Pair, b: &Pair, c: &Pair, weights: &[i16; 6], far: &ColumnWeights) -> u8x16
+pub(crate) fn vertical_row(
+    a: &Pair,
+    b: &Pair,
+    c: &Pair,
+    weights: &[i16; 6],
+    far: &ColumnWeights,
+) -> u8x16
     requires gentle { SumsFitI16 weights.now }
     requires turns { AreFar weights.now far.now }
     ensures { (pixel : ℕ → ℕ → ℕ) → (r : ℕ) → IsPair a.now pixel r → IsPair b.now pixel (r + 1)
@@ -286,8 +292,8 @@ pub(crate) fn six_tap_2d_block(
     requires columns { SumsFitI16 column_weights.now }
     requires width { 0 < plane.now.width }
     requires height { 0 < plane.now.height }
-    requires near { (negsuc 400000000 ≤ℤ left) × (left ≤ℤ pos 400000000) }
-    requires beside { (negsuc 400000000 ≤ℤ top) × (top ≤ℤ pos 400000000) }
+    requires near { IsNear left }
+    requires beside { IsNear top }
     ensures { (r c : ℕ) → r < 16 → c < 16 → slice_index pixels.new (r * 16 + c)
         ≡ filter_six column_weights.now (λ k. horizontal_pass row_weights.now plane.now left top (r + k) c) }
 {

@@ -16,7 +16,7 @@ pub struct PlaneVector {
 
 /// The whole pixels, rounded down.
 #[tactic(auto, unfolding(crate::specs::Vectors::whole_pixels))]
-fn whole_pixels(eighths: i32) -> i32
+pub(crate) fn whole_pixels(eighths: i32) -> i32
     ensures value { result ≡ whole_pixels eighths }
     ensures range { (negsuc 268435455 ≤ℤ result) × (result ≤ℤ pos 268435455) }
 {

@@ -18,3 +18,4 @@ pub mod RowReads
 pub mod RowWrites
 pub mod WriteLemmas
 pub mod KeptLemmas
+pub mod LevelLemmas

@@ -1,5 +1,6 @@
 pub mod LineSteps
 pub mod Levels
+pub mod LevelTable
 pub mod Edges
 pub mod Filtered
 pub mod Laws

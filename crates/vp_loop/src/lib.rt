@@ -5,6 +5,7 @@ mod edges;
 mod frame;
 mod lanes;
 mod laws;
+mod level_table;
 mod lines;
 mod store;
 mod strength;
@@ -15,5 +16,6 @@ pub use laws::{
     disjoint_steps_commute, edge_at_once, planes_commute, rows_above_are_final,
     rows_below_are_kept, sizes_are_kept,
 };
+pub use level_table::LevelTable;
 pub use lines::{EdgeKind, Line, LineStep};
 pub use strength::{Level, MacroblockKind, ModeClass, levels};

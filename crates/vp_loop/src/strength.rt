@@ -157,7 +157,7 @@ fn variance_threshold(key: bool, level: u8) -> u8
 }
 
 /// Whether subblock edges are filtered: some block has a token, or the mode is `B_PRED` or `SPLITMV`.
-fn has_inner_edges(kind: &MacroblockKind) -> bool
+pub(crate) fn has_inner_edges(kind: &MacroblockKind) -> bool
     ensures { result ≡ has_inner_edges kind.now }
 {
     kind.coded

@@ -10,7 +10,9 @@ use std::test::Fail;
 use vp_base::{Dim, Limits, Picture, Plane};
 use vp_bool::BoolDecoder;
 use vp_head::{Header, KeyTag, LevelDeltas, Reference, Saved, Tag};
-use vp_loop::{EdgeKind, Level, Line, LineStep, MacroblockKind, ModeClass, filter_picture, levels};
+use vp_loop::{
+    EdgeKind, Level, LevelTable, Line, LineStep, MacroblockKind, ModeClass, filter_picture, levels,
+};
 
 /// Returns a key frame's header with filter level 16 and sharpness 0; all other fields are 0 or defaults.
 fn header(dim: Dim) -> Header {
@@ -550,7 +552,8 @@ fn interior_limits(rt: HostRuntime) {
     }
 }
 
-/// Returns the strength for a kind of macroblock without coefficients, at level 20 with eight different deltas.
+/// Returns the strength in the frame's table for a kind of macroblock without coefficients, at level 20 with eight
+/// different deltas.
 fn strength_of(dim: Dim, reference: Reference, prediction: ModeClass) -> Level {
     let mut header = header(dim);
     header.key = false;
@@ -565,7 +568,7 @@ fn strength_of(dim: Dim, reference: Reference, prediction: ModeClass) -> Level {
         prediction,
         coded: false,
     };
-    levels(&header, 0, &kind)
+    LevelTable::of(&header).level(0, &kind)
 }
 
 /// Each reference and each mode class has its own delta. Without coefficients, only B_PRED and split macroblocks have

@@ -8,7 +8,7 @@ use std::alloc::Global;
 use vp_base::{Dim, Limits, Picture};
 use vp_head::Reference;
 use vp_motion::{MacroblockMotion, Vector};
-use vp_recon::{Predictor, predict_inter_macroblock, rebuild_macroblock};
+use vp_recon::{Predictor, predict_macroblock, rebuild_macroblock};
 use vp_tables::VectorMode;
 use vp_tokens::{Block, Tokens};
 
@@ -95,7 +95,12 @@ fn predicts_to(
 {
     match Picture::new(alloc, dim, 0) {
         Ok(mut moved) => {
-            predict_inter_macroblock(&mut moved, TOP, motion, reference, 0);
+            let source = Predictor::Inter {
+                motion,
+                reference,
+                version: 0,
+            };
+            predict_macroblock(&mut moved, TOP, &source);
             shows(alloc, &moved, from, to)
         }
         Err(_) => false,

@@ -7,7 +7,7 @@ use Rattle.vp_base.specs.Image.{Image, plane_of, with_plane}
 use Rattle.vp_base.proofs.BlockLemmas.{pixel-with_block, IsWhole-with_block, same_raster}
 use Rattle.vp_base.proofs.ImageLemmas.{plane_of-with_plane}
 use Rattle.vp_recon.specs.Rebuilt.{summed, residue_at}
-use Rattle.vp_recon.specs.Sums.{IsNothing, ArePixelBytes}
+use Rattle.vp_recon.specs.Sums.{IsNothing, AreBlockBytes, ArePixelBytes}
 use Rattle.vp_recon.specs.Pairs.{with_added, with_both_added}
 use Rattle.vp_recon.proofs.Parts.{is_in, in_it, sub_at, subblock_has, part_fits, until, sub_written}
 use Rattle.vp_recon.proofs.SumLemmas.{summed-zero}
@@ -77,6 +77,43 @@ module _ (p now : Image) (n x y size : ℕ) (f : ℕ → ℕ → ℕ) (columns :
       plane_next p now next n step written q predicted
       ∙ ap (with_plane p n) (over_block (plane_of p n) x y size f (λ r c. summed (pixel q (x + c) (y + r)) (residue r c)) (λ r c. summed (f r c) (residue r c))
       (λ r c rin cin. ap (λ (v : ℕ). summed v (residue r c)) (block_pixel (plane_of p n) x y size f r c columns rows rin cin)))
+
+-- ---- residues added to both chroma planes of what was predicted
+
+module _ (p now : Image) (x y : ℕ) (f g : ℕ → ℕ → ℕ)
+    (u_columns : x + 8 ≤ p.u.width) (u_rows : y + 8 ≤ p.u.height) (v_columns : x + 8 ≤ p.v.width) (v_rows : y + 8 ≤ p.v.height)
+    (predicted : now ≡ record p { u = with_block p.u x y 8 8 f; v = with_block p.v x y 8 8 g }) where
+  abbrev with_v : Image
+  with_v = record p { v = with_block p.v x y 8 8 g }
+
+  pub u_wide : x + 8 ≤ now.u.width
+  u_wide = still_wide with_v now 1 x y 8 f u_columns u_rows predicted
+
+  pub u_high : y + 8 ≤ now.u.height
+  u_high = still_high with_v now 1 x y 8 f u_columns u_rows predicted
+
+  pub u_bytes : AreBlockBytes 8 f → ArePixelBytes now.u x y 8
+  u_bytes = predicted_bytes with_v now 1 x y 8 f u_columns u_rows predicted
+
+  module _ (half : Image) (a : ℕ → ℕ → ℤ) (added_u : half ≡ with_plane now 1 (with_block now.u x y 8 8 (λ r c. summed (pixel now.u (x + c) (y + r)) (a r c)))) where
+    abbrev with_u : Image
+    with_u = record p { u = with_block p.u x y 8 8 (λ r c. summed (f r c) (a r c)) }
+
+    half_is : half ≡ with_plane with_u 2 (with_block p.v x y 8 8 g)
+    half_is = summed_onto with_v now 1 x y 8 f u_columns u_rows predicted half a added_u
+
+    pub v_wide : x + 8 ≤ half.v.width
+    v_wide = still_wide with_u half 2 x y 8 g v_columns v_rows half_is
+
+    pub v_high : y + 8 ≤ half.v.height
+    v_high = still_high with_u half 2 x y 8 g v_columns v_rows half_is
+
+    pub v_bytes : AreBlockBytes 8 g → ArePixelBytes half.v x y 8
+    v_bytes = predicted_bytes with_u half 2 x y 8 g v_columns v_rows half_is
+
+    pub both_summed : (next : Image) (b : ℕ → ℕ → ℤ) → next ≡ with_plane half 2 (with_block half.v x y 8 8 (λ r c. summed (pixel half.v (x + c) (y + r)) (b r c)))
+        → next ≡ record p { u = with_block p.u x y 8 8 (λ r c. summed (f r c) (a r c)); v = with_block p.v x y 8 8 (λ r c. summed (g r c) (b r c)) }
+    both_summed next b added_v = summed_onto with_u half 2 x y 8 g v_columns v_rows half_is next b added_v
 
 -- ---- subblock after subblock
 

@@ -2,6 +2,7 @@ pub mod Parts
 pub mod SumLemmas
 pub mod SubblockLemmas
 pub mod PlaneLemmas
+pub mod StrideLemmas
 pub mod AddLemmas
 pub mod PairLemmas
 pub mod FourLemmas

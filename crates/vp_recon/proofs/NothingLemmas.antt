@@ -9,21 +9,14 @@ use Rattle.vp_tokens.specs.declared.contexts.Tokens.{Tokens}
 use Rattle.vp_tokens.specs.Block.{Block, IsBlock, no_tokens}
 use Rattle.vp_tokens.specs.Blocks.{block_of, no_blocks}
 use Rattle.vp_recon.specs.Residue.{residue, luma_residue, luma_coefficients, luma_firsts, chroma_residue}
-use Rattle.std.specs.Prelude.{not}
 use Rattle.vp_base.specs.declared.place.Place.{Place}
 use Rattle.vp_base.specs.Raster.{Raster}
-use Rattle.vp_base.specs.Block.{with_block}
-use Rattle.vp_base.specs.Image.{Image, plane_of}
 use Rattle.vp_base.proofs.BlockLemmas.{with_block_same}
-use Rattle.vp_tables.specs.Modes.{is_split}
-use Rattle.vp_motion.specs.Vector.{MacroblockMotion}
-use Rattle.vp_recon.specs.Predictor.{Macroblock, Inter, macroblock_of}
-use Rattle.vp_recon.specs.Prediction.{luma_moved, chroma_moved, moved_pixel}
+use Rattle.vp_recon.specs.Predictor.{Predictor, Macroblock, macroblock_of, has_sub_modes, has_y2}
+use Rattle.vp_recon.specs.Prediction.{luma_prediction, chroma_prediction, luma_predicted, chroma_predicted}
 use Rattle.vp_recon.specs.Rebuilt.{summed, residue_at, luma_made, chroma_made, luma_rebuilt, chroma_rebuilt}
-use Rattle.vp_recon.proofs.Parts.{sub_at}
 use Rattle.vp_recon.proofs.LumaLemmas.{luma_at_once}
-use Rattle.vp_recon.proofs.MovedLemmas.{inter_bound}
-use Rattle.vp_recon.specs.Sums.{IsNothing}
+use Rattle.vp_recon.specs.Sums.{IsNothing, AreBlockBytes}
 use Rattle.vp_recon.proofs.SumLemmas.{summed-zero}
 use Rattle.vp_recon.proofs.ResidueLemmas.{no_residue, no_firsts, no_first}
 
@@ -74,31 +67,18 @@ pub alone : (across : ℕ) (own : ℕ → List ℤ) (pixel r c : ℕ) → ((k : 
 alone across own pixel r c nothing below byte =
     sym (ap (summed pixel) (nothing (across * (r / 4) + c / 4) below (4 * (r % 4) + c % 4) (omega arith)) ∙ summed-zero pixel byte)
 
--- the luma, and a colour plane, of a macroblock that moves and has no residue
-module _ (t : Tokens) (none : t.blocks ≡ no_blocks) (f : Factors) (motion : MacroblockMotion) (reference : Image) (version : ℕ) (place : Place) where
-  pub luma_moved_alone : (p : Raster)
-      → with_block p (16 * place.column) (16 * place.row) 16 16 (moved_pixel version reference.luma (16 * place.column) (16 * place.row) 4 (luma_moved motion))
-      ≡ luma_rebuilt (macroblock_of (Inter motion reference version) t f) place p
-  luma_moved_alone p =
-      let x : ℕ = 16 * place.column in
-      let y : ℕ = 16 * place.row in
-      let m : Macroblock = macroblock_of (Inter motion reference version) t f in
-      let own = moved_pixel version reference.luma x y 4 (luma_moved motion) in
-      with_block_same p x y 16 16 own (luma_made m place p)
-      (λ r j rin jin.
-      alone 4 (luma_residue (not (is_split motion.mode)) t f) (own r j) r j (luma_nothing t none f (not (is_split motion.mode))) (omega arith)
-      (inter_bound version reference.luma (x + 4 * (j / 4)) (y + 4 * (r / 4)) (luma_moved motion (sub_at 4 r j)) (r % 4) (j % 4)))
-      ∙ luma_at_once m place p refl
+-- the luma, and a chroma plane, of a macroblock that has no residue
+module _ (t : Tokens) (none : t.blocks ≡ no_blocks) (f : Factors) (source : Predictor) (place : Place) (p : Raster) where
+  pub luma_alone : has_sub_modes source ≡ false → AreBlockBytes 16 (luma_prediction source place p) → luma_predicted source place p ≡ luma_rebuilt (macroblock_of source t f) place p
+  luma_alone whole bytes =
+      let m : Macroblock = macroblock_of source t f in
+      let own = luma_prediction source place p in
+      with_block_same p (16 * place.column) (16 * place.row) 16 16 own (luma_made m place p)
+      (λ r j rin jin. alone 4 (luma_residue (has_y2 source) t f) (own r j) r j (luma_nothing t none f (has_y2 source)) (omega arith) (bytes r j rin jin))
+      ∙ luma_at_once m place p whole
 
-  pub chroma_moved_alone : (k : ℕ) (p : Raster) → k < 3
-      → with_block p (8 * place.column) (8 * place.row) 8 8 (moved_pixel version (plane_of reference k) (8 * place.column) (8 * place.row) 2 (chroma_moved version motion))
-      ≡ chroma_rebuilt (macroblock_of (Inter motion reference version) t f) k place p
-  chroma_moved_alone k p colour =
-      let x : ℕ = 8 * place.column in
-      let y : ℕ = 8 * place.row in
-      let m : Macroblock = macroblock_of (Inter motion reference version) t f in
-      let own = moved_pixel version (plane_of reference k) x y 2 (chroma_moved version motion) in
-      with_block_same p x y 8 8 own (chroma_made m k place p)
-      (λ r j rin jin.
-      alone 2 (chroma_residue t f k) (own r j) r j (λ i below. chroma_nothing t none f k i colour below) (omega arith)
-      (inter_bound version (plane_of reference k) (x + 4 * (j / 4)) (y + 4 * (r / 4)) (chroma_moved version motion (sub_at 2 r j)) (r % 4) (j % 4)))
+  pub chroma_alone : (k : ℕ) → k < 3 → AreBlockBytes 8 (chroma_prediction source k place p) → chroma_predicted source k place p ≡ chroma_rebuilt (macroblock_of source t f) k place p
+  chroma_alone k colour bytes =
+      let own = chroma_prediction source k place p in
+      with_block_same p (8 * place.column) (8 * place.row) 8 8 own (chroma_made (macroblock_of source t f) k place p)
+      (λ r j rin jin. alone 2 (chroma_residue t f k) (own r j) r j (λ i below. chroma_nothing t none f k i colour below) (omega arith) (bytes r j rin jin))

@@ -39,3 +39,7 @@ four_runs p x y n f a b c d whole fits yfits la lb lc ld ea eb ec ed =
     ∙ ap (λ (q : Raster). with_run (with_run q x (y + 2) c) x (y + 3) d) (with_block_more p x y n 1 f b fits (omega arith) lb eb)
     ∙ ap (λ (q : Raster). with_run q x (y + 3) d) (with_block_more p x y n 2 f c fits (omega arith) lc ec)
     ∙ with_block_more p x y n 3 f d fits (omega arith) ld ed
+
+-- a piece of a list
+pub in_chunk : (ps r : List ℕ) (at n c : ℕ) → r ≡ chunk at n ps → c < n → get_or r c 0 ≡ get_or ps (at + c) 0
+in_chunk ps r at n c e within = ap (λ l. get_or l c 0) e ∙ get_or-chunk at n ps c 0 within

@@ -3,6 +3,7 @@
 use Rattle.std.specs.Prelude.{ℕ, ◌+◌, ◌*◌, ◌/◌, ◌%◌, List, [], ◌∷◌, map, slice_index_or, if◌then◌else◌}
 use Rattle.vp_base.specs.declared.place.Place.{Place}
 use Rattle.vp_base.specs.Raster.{Raster}
+use Rattle.vp_base.specs.Block.{with_block}
 use Rattle.vp_base.specs.Image.{plane_of}
 use Rattle.vp_tables.specs.declared.modes.SubMode.TheVariants as sub_is
 use Rattle.vp_tables.specs.Modes.{is_by_subblocks}
@@ -53,3 +54,13 @@ abbrev pub chroma_prediction : Predictor → ℕ → Place → Raster → ℕ �
 chroma_prediction (Intra m) k place p r c = chroma_pixel m.chroma p (8 * place.column) (8 * place.row) r c
 chroma_prediction (Inter motion reference version) k place p r c =
     moved_pixel version (plane_of reference k) (8 * place.column) (8 * place.row) 2 (chroma_moved version motion) r c
+
+-- p with a macroblock's luma predicted
+abbrev pub luma_predicted : Predictor → Place → Raster → Raster
+luma_predicted source place p =
+    with_block p (16 * place.column) (16 * place.row) 16 16 (luma_prediction source place p)
+
+-- p with a macroblock's chroma plane k predicted
+abbrev pub chroma_predicted : Predictor → ℕ → Place → Raster → Raster
+chroma_predicted source k place p =
+    with_block p (8 * place.column) (8 * place.row) 8 8 (chroma_prediction source k place p)

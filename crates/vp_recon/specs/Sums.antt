@@ -1,6 +1,7 @@
 -- Private to the crate: residues clamped to 16 bits, and their sums with a prediction.
 use Rattle.std.specs.Prelude.{ℕ, ◌+◌, ◌*◌, ◌/◌, ◌%◌, ◌<◌, ◌≤◌, ◌≡◌, ℤ, pos, List, slice_index, slice_index_or}
 use Rattle.vp_base.specs.Raster.{Raster, pixel}
+use Rattle.vp_base.specs.Image.{Image}
 use Rattle.vp_inter.specs.declared.vector.PlaneVector.{PlaneVector}
 use Rattle.vp_recon.specs.Rebuilt.{summed}
 
@@ -20,9 +21,17 @@ AreSums pixels prediction residue =
     (r c : ℕ) → r < 4 → c < 4 → slice_index pixels (r * 4 + c)
     ≡ summed (slice_index prediction (r * 4 + c)) (slice_index_or residue (4 * r + c) (pos 0))
 
+-- the pixels of a block of n by n are bytes
+abbrev pub AreBlockBytes : ℕ → (ℕ → ℕ → ℕ) → Type 0
+AreBlockBytes n block = (r c : ℕ) → r < n → c < n → block r c ≤ 255
+
 -- the n by n pixels of p from column x of row y on are bytes
 abbrev pub ArePixelBytes : Raster → ℕ → ℕ → ℕ → Type 0
-ArePixelBytes p x y n = (r c : ℕ) → r < n → c < n → pixel p (x + c) (y + r) ≤ 255
+ArePixelBytes p x y n = AreBlockBytes n (λ r c. pixel p (x + c) (y + r))
+
+-- p with both chroma planes changed
+abbrev pub with_colours : Image → (ℕ → Raster → Raster) → Image
+with_colours p f = record p { u = f 1 p.u; v = f 2 p.v }
 
 -- ---- motion
 

@@ -1,69 +1,40 @@
-//! Rebuilds inter macroblocks (RFC 6386, chapter 18).
+//! Inter prediction of macroblocks (RFC 6386, chapter 18).
 
-ghost use Rattle.std.specs.Prelude.{◌≡◌, ℕ, ◌+◌, ◌*◌, ◌<◌, ◌≤◌, ℤ, List, length, map, true, false};
+ghost use Rattle.std.specs.Prelude.{◌≡◌, ℕ, ◌+◌, ◌*◌, ◌<◌, ◌≤◌, length, map, true};
 ghost use Rattle.vp_base.specs.Block.{with_block};
-ghost use Rattle.vp_base.specs.Image.{plane_of, with_plane};
-ghost use Rattle.vp_tables.specs.Modes.{is_split};
+ghost use Rattle.vp_base.specs.Image.{macroblocks, plane_of, with_plane};
 ghost use Rattle.vp_inter.specs.declared.vector.PlaneVector.{PlaneVector};
 ghost use Rattle.vp_inter.specs.Vectors.{chroma_vector};
-ghost use Rattle.vp_recon.specs.Predictor.{Inter, macroblock_of};
+ghost use Rattle.vp_recon.specs.Predictor.{Inter};
 ghost use Rattle.vp_recon.specs.Prediction.{four_from, moved_pixel, luma_moved, chroma_moved};
-ghost use Rattle.vp_recon.specs.Rebuilt.{luma_rebuilt, chroma_rebuilt};
-ghost use Rattle.vp_recon.specs.Sums.{AreVectors, sub_of_quarter};
+ghost use Rattle.vp_recon.specs.Prediction.{luma_prediction, chroma_prediction, luma_predicted, chroma_predicted};
+ghost use Rattle.vp_recon.specs.Sums.{AreVectors, AreEqualVectors, AreBlockBytes, sub_of_quarter, with_colours};
 
-use crate::add::add_residues;
-use crate::inter_subblocks::predict_four;
-use crate::residue::{chroma_residues, luma_residues};
 use vp_base::{Picture, Place, Plane};
-use vp_inter::{PlaneVector, chroma_vector, luma_vector, predict_into8, predict_into16};
+use vp_inter::{
+    PlaneVector, chroma_vector, luma_vector, predict_into_chroma, predict_into4, predict_into8,
+    predict_into16,
+};
 use vp_motion::{MacroblockMotion, Vector};
-use vp_quant::Factors;
-use vp_tokens::Tokens;
 
-/// What an inter macroblock is predicted from: motion vectors and a reference frame. The frame's version selects the
-/// interpolation filter.
-#[derive(Clone, Copy)]
-pub(crate) struct InterPredictor<'a> {
-    pub(crate) motion: &'a MacroblockMotion,
-    pub(crate) reference: &'a Picture,
-    pub(crate) version: u8,
-}
-
-/// Rebuilds the luma of an inter macroblock.
-pub(crate) fn rebuild_inter_luma(
+/// Predicts the luma of an inter macroblock: as one block, or by quarters for split vectors.
+pub(crate) fn predict_inter_luma(
     picture: &mut Picture,
     place: Place,
-    source: InterPredictor,
-    tokens: &Tokens,
-    factors: &Factors,
+    motion: &MacroblockMotion,
+    reference: &Picture,
+    version: u8,
 )
     requires columns { 16 * place.column + 16 ≤ picture.old.luma.width }
     requires rows { 16 * place.row + 16 ≤ picture.old.luma.height }
-    ensures { picture.new ≡ with_plane picture.old 0 (luma_rebuilt
-        (macroblock_of (Inter source.entry.motion.now source.entry.reference.now source.entry.version)
-        tokens.now factors.now) place picture.old.luma) }
+    ensures value { picture.new ≡ with_plane picture.old 0
+        (luma_predicted (Inter motion.now reference.now version) place picture.old.luma) }
+    ensures bytes { AreBlockBytes 16 (luma_prediction (Inter motion.now reference.now version) place
+        picture.old.luma) }
 {
     let _known = [picture.plane(0).width(), picture.plane(0).height()];
-    let [x, y] = [16 * place.column, 16 * place.row];
-    predict_luma(picture, x, y, source);
-    let motion = source.motion;
-    let residues = luma_residues(!motion.mode.is_split(), tokens, factors);
-    add_residues::<4>(picture, 0, x, y, &residues);
-}
-
-/// Predicts the luma of an inter macroblock: as one block, or by quarters for split vectors.
-pub(crate) fn predict_luma(picture: &mut Picture, x: usize, y: usize, source: InterPredictor)
-    requires columns { x + 16 ≤ picture.old.luma.width }
-    requires rows { y + 16 ≤ picture.old.luma.height }
-    ensures { picture.new ≡ with_plane picture.old 0 (with_block picture.old.luma x y 16 16
-        (moved_pixel source.entry.version source.entry.reference.now.luma x y 4 (luma_moved source.entry.motion.now))) }
-{
-    let InterPredictor {
-        motion,
-        reference,
-        version,
-    } = source;
     let _known = reference.dim();
+    let [x, y] = [16 * place.column, 16 * place.row];
     let from = reference.plane(0);
     if motion.mode.is_split() {
         predict_quarters(picture, x, y, from, motion, version);
@@ -73,59 +44,32 @@ pub(crate) fn predict_luma(picture: &mut Picture, x: usize, y: usize, source: In
     }
 }
 
-/// Rebuilds a chroma plane (1 or 2) of an inter macroblock.
-pub(crate) fn rebuild_inter_chroma(
+/// Predicts both chroma planes of an inter macroblock, which have the same vectors.
+pub(crate) fn predict_inter_chroma(
     picture: &mut Picture,
-    plane: usize,
     place: Place,
-    source: InterPredictor,
-    tokens: &Tokens,
-    factors: &Factors,
+    motion: &MacroblockMotion,
+    reference: &Picture,
+    version: u8,
 )
-    requires plane { plane < 3 }
-    requires columns { 8 * place.column + 8 ≤ (plane_of picture.old plane).width }
-    requires rows { 8 * place.row + 8 ≤ (plane_of picture.old plane).height }
-    ensures { picture.new ≡ with_plane picture.old plane (chroma_rebuilt
-        (macroblock_of (Inter source.entry.motion.now source.entry.reference.now source.entry.version)
-        tokens.now factors.now) plane place (plane_of picture.old plane)) }
+    requires column { place.column < macroblocks picture.old.width }
+    requires row { place.row < macroblocks picture.old.height }
+    ensures value { picture.new ≡ with_colours picture.old
+        (λ k. chroma_predicted (Inter motion.now reference.now version) k place) }
+    ensures u { AreBlockBytes 8 (chroma_prediction (Inter motion.now reference.now version) 1 place picture.old.u) }
+    ensures v { AreBlockBytes 8 (chroma_prediction (Inter motion.now reference.now version) 2 place picture.old.v) }
 {
-    let _known = [picture.plane(plane).width(), picture.plane(plane).height()];
+    let _known = [picture.dim(), reference.dim()];
     let [x, y] = [8 * place.column, 8 * place.row];
-    let vectors = chroma_vectors(source.version, source.motion);
-    predict_chroma(picture, plane, x, y, source, &vectors);
-    let residues = chroma_residues(tokens, factors, plane);
-    add_residues::<2>(picture, plane, x, y, &residues);
-}
-
-/// Predicts a chroma plane of an inter macroblock, by its vectors, which are those of both chroma planes.
-#[inline(always)]
-pub(crate) fn predict_chroma(
-    picture: &mut Picture,
-    plane: usize,
-    x: usize,
-    y: usize,
-    source: InterPredictor,
-    vectors: &[PlaneVector; 4],
-)
-    requires plane { plane < 3 }
-    requires vectors { AreVectors 4 vectors.now (chroma_moved source.version source.motion.now) }
-    requires columns { x + 8 ≤ (plane_of picture.old plane).width }
-    requires rows { y + 8 ≤ (plane_of picture.old plane).height }
-    ensures { picture.new ≡ with_plane picture.old plane (with_block (plane_of picture.old plane) x y 8 8
-        (moved_pixel source.entry.version (plane_of source.entry.reference.now plane) x y 2
-        (chroma_moved source.entry.version source.entry.motion.now))) }
-{
-    let InterPredictor {
-        motion,
-        reference,
-        version,
-    } = source;
-    let _known = reference.dim();
-    let from = reference.plane(plane);
     if motion.mode.is_split() {
-        predict_four(picture, plane, x, y, from, vectors, version);
+        let u = reference.plane(1);
+        let v = reference.plane(2);
+        let vectors = chroma_vectors(version, motion);
+        predict_four(picture, 1, x, y, u, &vectors, version);
+        predict_four(picture, 2, x, y, v, &vectors, version);
     } else {
-        predict_into8(picture, plane, x, y, from, vectors[0], version);
+        let vector = chroma_vector_of(version, motion, 0);
+        predict_into_chroma(picture, x, y, reference, vector, version);
     }
 }
 
@@ -178,23 +122,17 @@ fn quarter_vectors(motion: &MacroblockMotion, quarter: usize) -> [PlaneVector; 4
     ]
 }
 
-/// Returns the motion vectors of the four subblocks of either chroma plane. They are equal unless the macroblock is
-/// split.
-pub(crate) fn chroma_vectors(version: u8, motion: &MacroblockMotion) -> [PlaneVector; 4]
+/// Returns the motion vectors of the four subblocks of either chroma plane.
+fn chroma_vectors(version: u8, motion: &MacroblockMotion) -> [PlaneVector; 4]
     ensures len { length result ≡ 4 }
     ensures value { AreVectors 4 result (chroma_moved version motion.now) }
 {
-    let first = chroma_vector_of(version, motion, 0);
-    if motion.mode.is_split() {
-        [
-            first,
-            chroma_vector_of(version, motion, 1),
-            chroma_vector_of(version, motion, 2),
-            chroma_vector_of(version, motion, 3),
-        ]
-    } else {
-        [first, first, first, first]
-    }
+    [
+        chroma_vector_of(version, motion, 0),
+        chroma_vector_of(version, motion, 1),
+        chroma_vector_of(version, motion, 2),
+        chroma_vector_of(version, motion, 3),
+    ]
 }
 
 /// Predicts luma with split vectors, quarter by quarter.
@@ -221,4 +159,44 @@ fn predict_quarters(
         let vectors = quarter_vectors(motion, quarter);
         predict_four(picture, 0, column, row, source, &vectors, version);
     }
+}
+
+/// Predicts a square of four subblocks: as one block if their vectors are equal, else one by one.
+fn predict_four(
+    picture: &mut Picture,
+    plane: usize,
+    x: usize,
+    y: usize,
+    source: &Plane,
+    vectors: &[PlaneVector; 4],
+    version: u8,
+)
+    requires plane { plane < 3 }
+    requires columns { x + 8 ≤ (plane_of picture.old plane).width }
+    requires rows { y + 8 ≤ (plane_of picture.old plane).height }
+    requires wide { 0 < source.now.width }
+    requires high { 0 < source.now.height }
+    ensures { (vector : ℕ → PlaneVector) → AreVectors 4 vectors.now vector
+        → picture.new ≡ with_plane picture.old plane
+        (with_block (plane_of picture.old plane) x y 8 8 (moved_pixel version source.now x y 2 vector)) }
+{
+    let _known = picture.plane(plane).width();
+    let _known = picture.plane(plane).height();
+    if are_alike(vectors) {
+        predict_into8(picture, plane, x, y, source, vectors[0], version);
+        return;
+    }
+    for k in 0..4 {
+        let column = x + 4 * (k % 2);
+        let row = y + 4 * (k / 2);
+        predict_into4(picture, plane, column, row, source, vectors[k], version);
+    }
+}
+
+/// Returns whether four vectors are equal.
+fn are_alike(vectors: &[PlaneVector; 4]) -> bool
+    ensures { result ≡ true → AreEqualVectors vectors.now }
+{
+    let [a, b, c, d] = *vectors;
+    b == a && c == a && d == a
 }

@@ -1,14 +1,15 @@
-//! Rebuilds intra macroblocks (RFC 6386, chapter 12).
+//! Intra prediction of macroblocks, and macroblocks whose subblocks have intra modes (RFC 6386, chapter 12).
 
 ghost use Rattle.std.specs.Prelude.{◌≡◌, ◌+◌, ◌*◌, ◌<◌, ◌≤◌, true, false};
-ghost use Rattle.vp_base.specs.Image.{plane_of, with_plane};
+ghost use Rattle.vp_base.specs.Image.{macroblocks, with_plane};
 ghost use Rattle.vp_tables.specs.Modes.{is_by_subblocks};
 ghost use Rattle.vp_recon.specs.Predictor.{Intra, macroblock_of};
+ghost use Rattle.vp_recon.specs.Prediction.{luma_prediction, chroma_prediction, luma_predicted, chroma_predicted};
 ghost use Rattle.vp_recon.specs.Residue.{residue};
-ghost use Rattle.vp_recon.specs.Rebuilt.{luma_rebuilt, chroma_rebuilt, with_sub};
+ghost use Rattle.vp_recon.specs.Rebuilt.{luma_rebuilt, with_sub};
+ghost use Rattle.vp_recon.specs.Sums.{AreBlockBytes, with_colours};
 
-use crate::add::add_residues;
-use crate::residue::{block_of, chroma_residues, luma_residues, with_residue};
+use crate::residue::{block_of, with_residue};
 use crate::subblock::store_subblock;
 use std::simd::prelude::*;
 use vp_base::{Picture, Place};
@@ -68,48 +69,28 @@ pub(crate) fn rebuild_subs(
     }
 }
 
-/// Rebuilds the luma of a macroblock that has one luma mode.
-pub(crate) fn rebuild_at_once(
-    picture: &mut Picture,
-    place: Place,
-    modes: &Modes,
-    tokens: &Tokens,
-    factors: &Factors,
-)
+/// Predicts the luma of a macroblock that has one luma mode.
+pub(crate) fn predict_intra_luma(picture: &mut Picture, place: Place, modes: &Modes)
     requires columns { 16 * place.column + 16 ≤ picture.old.luma.width }
     requires rows { 16 * place.row + 16 ≤ picture.old.luma.height }
     requires whole { is_by_subblocks modes.now.luma ≡ false }
-    ensures { picture.new ≡ with_plane picture.old 0 (luma_rebuilt
-        (macroblock_of (Intra modes.now) tokens.now factors.now) place picture.old.luma) }
+    ensures value { picture.new ≡ with_plane picture.old 0 (luma_predicted (Intra modes.now) place picture.old.luma) }
+    ensures bytes { AreBlockBytes 16 (luma_prediction (Intra modes.now) place picture.old.luma) }
 {
-    let _known = picture.plane(0).width();
-    let _known = picture.plane(0).height();
-    let x = 16 * place.column;
-    let y = 16 * place.row;
-    predict_luma_into(picture, x, y, modes.luma);
-    add_residues::<4>(picture, 0, x, y, &luma_residues(true, tokens, factors));
+    let _known = [picture.plane(0).width(), picture.plane(0).height()];
+    predict_luma_into(picture, 16 * place.column, 16 * place.row, modes.luma);
 }
 
-/// Rebuilds a chroma plane of an intra macroblock.
-pub(crate) fn rebuild_intra_chroma(
-    picture: &mut Picture,
-    plane: usize,
-    place: Place,
-    modes: &Modes,
-    tokens: &Tokens,
-    factors: &Factors,
-)
-    requires plane { plane < 3 }
-    requires columns { 8 * place.column + 8 ≤ (plane_of picture.old plane).width }
-    requires rows { 8 * place.row + 8 ≤ (plane_of picture.old plane).height }
-    ensures { picture.new ≡ with_plane picture.old plane (chroma_rebuilt
-        (macroblock_of (Intra modes.now) tokens.now factors.now) plane place (plane_of picture.old plane)) }
+/// Predicts both chroma planes of an intra macroblock.
+pub(crate) fn predict_intra_chroma(picture: &mut Picture, place: Place, modes: &Modes)
+    requires column { place.column < macroblocks picture.old.width }
+    requires row { place.row < macroblocks picture.old.height }
+    ensures value { picture.new ≡ with_colours picture.old (λ k. chroma_predicted (Intra modes.now) k place) }
+    ensures u { AreBlockBytes 8 (chroma_prediction (Intra modes.now) 1 place picture.old.u) }
+    ensures v { AreBlockBytes 8 (chroma_prediction (Intra modes.now) 2 place picture.old.v) }
 {
-    let _known = picture.plane(plane).width();
-    let _known = picture.plane(plane).height();
-    let x = 8 * place.column;
-    let y = 8 * place.row;
-    predict_chroma_into(picture, plane, x, y, modes.chroma);
-    let residues = chroma_residues(tokens, factors, plane);
-    add_residues::<2>(picture, plane, x, y, &residues);
+    let _known = picture.dim();
+    let [x, y] = [8 * place.column, 8 * place.row];
+    predict_chroma_into(picture, 1, x, y, modes.chroma);
+    predict_chroma_into(picture, 2, x, y, modes.chroma);
 }

@@ -4,13 +4,10 @@
 mod add;
 mod four;
 mod inter;
-mod inter_subblocks;
 mod intra;
 mod laws;
 mod macroblock;
 mod pair;
-mod predict_inter;
-mod predicted;
 mod predictor;
 mod reconstruct;
 mod residue;
@@ -22,7 +19,5 @@ pub use laws::{
     rebuilding_reads_one_row_above, unfiltered_equation_has_one_solution,
     unfiltered_picture_solves_its_equation,
 };
-pub use macroblock::rebuild_macroblock;
-pub use predict_inter::predict_inter_macroblock;
-pub use predicted::predict_macroblock;
+pub use macroblock::{predict_macroblock, rebuild_macroblock};
 pub use predictor::Predictor;

@@ -2,17 +2,18 @@
 
 ghost use Rattle.std.specs.Prelude.{◌≡◌, ℕ, ◌+◌, ◌*◌, ◌<◌, ◌≤◌, ◌^◌, ℤ, pos, List, [], ◌∷◌, replicate, length};
 ghost use Rattle.std.specs.Prelude.{slice_index, slice_index_or, unsigned_abs};
-ghost use Rattle.vp_base.specs.Raster.{pixel, with_run};
-ghost use Rattle.vp_base.specs.Block.{with_block};
+ghost use Rattle.vp_base.specs.Raster.{Raster, pixel, pixel_index};
+ghost use Rattle.vp_base.specs.Block.{written, IsWhole};
 ghost use Rattle.vp_base.specs.Image.{plane_of, with_plane};
 ghost use Rattle.vp_lanes.specs.Lane.{lane};
 ghost use Rattle.vp_transform.specs.Transform.{idct};
 ghost use Rattle.vp_recon.specs.Pairs.{with_both_added, row_lane, ArePairedRows, AreLow};
 ghost use Rattle.vp_recon.specs.Rebuilt.{summed};
 
+use crate::subblock::put;
 use std::simd::prelude::*;
-use vp_base::{Picture, Plane};
-use vp_lanes::{load8, store8};
+use vp_base::Picture;
+use vp_lanes::load8;
 use vp_transform::idct_of_first;
 
 /// Returns the residue of each pixel of a DC-only subblock, clamped to -255..255. `first` is its DC coefficient.
@@ -43,64 +44,63 @@ fn added(pixels: u8x8, numbers: i16x8) -> u8x8
         .cast::<u8>()
 }
 
-/// Returns the eight pixels of row `y` from column `x` on, with their residues added.
-fn added_row(plane: &Plane, x: usize, y: usize, numbers: i16x8) -> u8x8
-    requires columns { x + 8 ≤ plane.now.width }
-    requires row { y < plane.now.height }
+/// Returns the eight pixels from index `at` on, with their residues added.
+fn added_row(pixels: &[u8], at: usize, numbers: i16x8) -> u8x8
+    requires room { at + 8 ≤ length pixels.now }
     requires low { AreLow numbers }
-    ensures value { (j : ℕ) → j < 8 → slice_index result j ≡ summed (pixel plane.now (x + j) y) (lane numbers j) }
-    ensures bytes { (j : ℕ) → j < 8 → pixel plane.now (x + j) y ≤ 255 }
+    ensures value { (j : ℕ) → j < 8 → slice_index result j
+        ≡ summed (slice_index pixels.now (at + j)) (lane numbers j) }
+    ensures bytes { (j : ℕ) → j < 8 → slice_index pixels.now (at + j) ≤ 255 }
 {
-    added(load8(plane.row(y), x), numbers)
+    added(load8(pixels, at), numbers)
 }
 
-/// Returns four rows of eight pixels from row `y` on, with their residues added.
+/// Returns four rows of eight pixels, the first from index `at` on, with their residues added; rows are `stride` apart.
 #[inline(always)]
-fn added_rows(plane: &Plane, x: usize, y: usize, numbers: (i16x8, i16x8, i16x8, i16x8)) -> [u8x8; 4]
-    requires columns { x + 8 ≤ plane.now.width }
-    requires rows { y + 4 ≤ plane.now.height }
+fn added_rows(
+    pixels: &[u8],
+    at: usize,
+    stride: usize,
+    numbers: (i16x8, i16x8, i16x8, i16x8),
+) -> [u8x8; 4]
+    requires room { at + 3 * stride + 8 ≤ length pixels.now }
     requires first { AreLow numbers.0 }
     requires second { AreLow numbers.1 }
     requires third { AreLow numbers.2 }
     requires fourth { AreLow numbers.3 }
+    ensures len { length result ≡ 4 }
     ensures value { (r : ℕ) → r < 4 → (j : ℕ) → j < 8 → slice_index (slice_index_or result r []) j
-        ≡ summed (pixel plane.now (x + j) (y + r)) (row_lane numbers.0 numbers.1 numbers.2 numbers.3 r j) }
-    ensures bytes { (r : ℕ) → r < 4 → (j : ℕ) → j < 8 → pixel plane.now (x + j) (y + r) ≤ 255 }
+        ≡ summed (slice_index pixels.now (at + r * stride + j))
+        (row_lane numbers.0 numbers.1 numbers.2 numbers.3 r j) }
+    ensures bytes { (r : ℕ) → r < 4 → (j : ℕ) → j < 8 → slice_index pixels.now (at + r * stride + j) ≤ 255 }
 {
-    let _known = plane.height();
+    let second = at + stride;
+    let third = second + stride;
+    let fourth = third + stride;
     [
-        added_row(plane, x, y, numbers.0),
-        added_row(plane, x, y + 1, numbers.1),
-        added_row(plane, x, y + 2, numbers.2),
-        added_row(plane, x, y + 3, numbers.3),
+        added_row(pixels, at, numbers.0),
+        added_row(pixels, second, numbers.1),
+        added_row(pixels, third, numbers.2),
+        added_row(pixels, fourth, numbers.3),
     ]
 }
 
-/// Writes eight pixels to row `y` from column `x` on.
-fn write8(picture: &mut Picture, k: usize, x: usize, y: usize, row: u8x8)
-    requires plane { k < 3 }
-    requires columns { x + 8 ≤ (plane_of picture.old k).width }
-    requires row { y < (plane_of picture.old k).height }
-    ensures value { picture.new ≡ with_plane picture.old k (with_run (plane_of picture.old k) x y row) }
-    ensures long { length row ≡ 8 }
+/// Stores four rows of eight pixels, the first from index `at` on; rows are `stride` apart.
+#[inline(always)]
+fn put_rows(pixels: &mut [u8], at: usize, stride: usize, rows: [u8x8; 4])
+    requires { at + 3 * stride + 8 ≤ length pixels.old }
+    ensures value { (p : Raster) (x y : ℕ) → IsWhole p → p.pixels ≡ pixels.old → p.width ≡ stride
+        → at ≡ pixel_index p x y → x + 8 ≤ p.width → y + 4 ≤ p.height
+        → pixels.new ≡ written p x y 8 4 (λ r c. slice_index (slice_index_or rows r []) c) }
+    ensures len { length pixels.new ≡ length pixels.old }
 {
-    let _known = picture.plane(k).width();
-    store8(picture.row_mut(k, y), x, row);
-}
-
-/// Writes four rows of eight pixels. The first begins at column `x` of row `y`.
-fn write_rows(picture: &mut Picture, k: usize, x: usize, y: usize, rows: [u8x8; 4])
-    requires plane { k < 3 }
-    requires columns { x + 8 ≤ (plane_of picture.old k).width }
-    requires rows { y + 4 ≤ (plane_of picture.old k).height }
-    ensures { picture.new ≡ with_plane picture.old k (with_block (plane_of picture.old k) x y 8 4
-        (λ r c. slice_index (slice_index_or rows r []) c)) }
-{
-    let _known = picture.plane(k).height();
-    write8(picture, k, x, y, rows[0]);
-    write8(picture, k, x, y + 1, rows[1]);
-    write8(picture, k, x, y + 2, rows[2]);
-    write8(picture, k, x, y + 3, rows[3]);
+    let second = at + stride;
+    let third = second + stride;
+    let fourth = third + stride;
+    put::<8>(pixels, at, rows[0]);
+    put::<8>(pixels, second, rows[1]);
+    put::<8>(pixels, third, rows[2]);
+    put::<8>(pixels, fourth, rows[3]);
 }
 
 /// Adds residues, given row by row, to two adjacent subblocks. The left one begins at column `x` of row `y`.
@@ -123,6 +123,10 @@ pub(crate) fn add_rows(
         → ArePairedRows numbers.0 numbers.1 numbers.2 numbers.3 left right
         → picture.new ≡ with_plane picture.old plane (with_both_added (plane_of picture.old plane) x y left right) }
 {
-    let rows = added_rows(picture.plane(plane), x, y, numbers);
-    write_rows(picture, plane, x, y, rows);
+    let _known = picture.plane(plane).height();
+    let from = picture.plane(plane);
+    let stride = from.width();
+    let at = y * stride + x;
+    let rows = added_rows(from.pixels(), at, stride, numbers);
+    put_rows(picture.pixels_mut(plane), at, stride, rows);
 }

@@ -1,7 +1,7 @@
 //! The predictor of a macroblock.
 
 ghost use Rattle.std.specs.Prelude.{◌≡◌};
-ghost use Rattle.vp_recon.specs.Predictor.{predictor_of, has_y2};
+ghost use Rattle.vp_recon.specs.Predictor.{predictor_of, has_sub_modes, has_y2};
 
 use vp_base::Picture;
 use vp_modes::Modes;
@@ -22,6 +22,17 @@ pub enum Predictor<'a> {
 }
 
 impl<'a> Predictor<'a> {
+    /// Returns whether the luma subblocks have intra modes of their own (B_PRED): each is then predicted from those
+    /// before it.
+    pub fn has_sub_modes(&self) -> bool
+        ensures { result ≡ has_sub_modes (predictor_of self.now) }
+    {
+        match self {
+            Predictor::Intra(modes) => modes.luma.is_by_subblocks(),
+            Predictor::Inter { .. } => false,
+        }
+    }
+
     /// Returns whether the macroblock has a Y2 block (RFC 6386, chapter 13).
     pub fn has_y2(&self) -> bool
         ensures { result ≡ has_y2 (predictor_of self.now) }

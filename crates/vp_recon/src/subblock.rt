@@ -17,12 +17,14 @@ fn load4(s: &[u8], at: usize) -> u8x4
     u8x4::from_slice(&s[at..])
 }
 
-/// Stores four bytes from `at` on.
-fn store4(s: &mut [u8], at: usize, lanes: u8x4)
-    requires { at + 4 ≤ length s.old }
-    ensures { s.new ≡ put_chunk at s.old lanes }
+/// Stores `N` pixels from index `at` on.
+#[inline(always)]
+pub(crate) fn put<const N: usize>(pixels: &mut [u8], at: usize, row: Simd<u8, N>)
+    requires { at + N ≤ length pixels.old }
+    ensures value { pixels.new ≡ put_chunk at pixels.old row.entry }
+    ensures long { length row.entry ≡ N }
 {
-    lanes.copy_to_slice(&mut s[at..]);
+    row.copy_to_slice(&mut pixels[at..]);
 }
 
 /// Loads the four pixels of row `y` from column `x` on.
@@ -71,7 +73,7 @@ fn write4(picture: &mut Picture, k: usize, x: usize, y: usize, row: u8x4)
     ensures long { length row ≡ 4 }
 {
     let _known = picture.plane(k).width();
-    store4(picture.row_mut(k, y), x, row);
+    put::<4>(picture.row_mut(k, y), x, row);
 }
 
 /// Splits a subblock into its four rows.

@@ -1,11 +1,11 @@
-use Rattle.std.proofs.Common.{◌≡◌, ◌∙◌, ℕ, ℤ, ◌+◌, ◌*◌, ◌/◌, ◌%◌, ◌<◌, List, refl, sym, ap, subst, arith}
+use Rattle.std.proofs.Common.{◌≡◌, ◌∙◌, ℕ, ℤ, ◌+◌, ◌*◌, ◌/◌, ◌%◌, ◌<◌, List, ap, subst, arith}
 use Rattle.vp_base.specs.Raster.{Raster}
 use Rattle.vp_base.specs.Image.{Image, plane_of, with_plane}
 use Rattle.vp_recon.specs.Sums.{IsNothing}
 use Rattle.vp_recon.specs.Pairs.{with_both_added, with_until}
 use Rattle.vp_recon.specs.Parts.{residue_in}
 use Rattle.vp_recon.proofs.Parts.{sub_at, until_same}
-use Rattle.vp_recon.proofs.PlaneLemmas.{plane_next, plane_kept}
+use Rattle.vp_recon.proofs.PlaneLemmas.{plane_next}
 use Rattle.vp_recon.proofs.AddLemmas.{was, added, sum_none, two_added}
 use Rattle.vp_recon.proofs.add.add_by_twos.Goals as goal
 

@@ -1,15 +1,13 @@
-use Rattle.std.proofs.Common.{◌≡◌, ◌∙◌, ℕ, ℤ, ◌+◌, ◌*◌, ◌/◌, ◌%◌, ◌<◌, List, refl, sym, ap, subst, arith}
+use Rattle.std.proofs.Common.{◌≡◌, ◌∙◌, ℕ, ◌+◌, ◌*◌, refl, sym, ap, subst, arith}
 use Rattle.vp_base.specs.Raster.{Raster}
 use Rattle.vp_base.specs.Image.{Image, plane_of, with_plane}
-use Rattle.vp_base.specs.Block.{with_block, IsWhole}
+use Rattle.vp_base.specs.Block.{IsWhole}
 use Rattle.vp_base.proofs.BlockLemmas.{with_block_same}
 use Rattle.vp_base.proofs.ImageLemmas.{with_plane-plane_of}
 use Rattle.vp_recon.specs.Sums.{IsNothing}
 use Rattle.vp_recon.specs.Pairs.{with_until}
-use Rattle.vp_recon.specs.Parts.{residue_in}
-use Rattle.vp_recon.proofs.Parts.{sub_at, sub_below, until, until_none, until_same, subs_all, with_block_of}
-use Rattle.vp_recon.proofs.PlaneLemmas.{plane_next, plane_kept}
-use Rattle.vp_recon.proofs.AddLemmas.{was, added, sum_none, two_added, square_fours}
+use Rattle.vp_recon.proofs.Parts.{sub_at, sub_below, until_none, subs_all, with_block_of}
+use Rattle.vp_recon.proofs.AddLemmas.{was, added, sum_none, square_fours}
 use Rattle.vp_recon.proofs.add.add_residues.Goals as goal
 
 pub returns-then-has_none : goal.returns-then-has_none

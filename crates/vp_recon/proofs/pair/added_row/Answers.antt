@@ -1,10 +1,9 @@
 use Rattle.std.proofs.Common.{◌∙◌, ◌+◌, ◌≤◌, ◌<◌, ℕ, get_or, Fits, w8, ap, subst, arith}
 use Rattle.vp_lanes.proofs.Shape.{lane_fits, unsigned_lanes}
-use Rattle.vp_base.specs.Raster.{pixel}
 use Rattle.vp_lanes.specs.Lane.{lane}
 use Rattle.vp_transform.proofs.Eights.{handed16, passed16}
 use Rattle.vp_recon.specs.Rebuilt.{summed}
-use Rattle.vp_recon.proofs.SubblockLemmas.{loaded}
+use Rattle.vp_recon.proofs.SubblockLemmas.{in_chunk}
 use Rattle.vp_recon.proofs.PairLemmas.{low_handed}
 use Rattle.vp_recon.proofs.pair.added_row.Goals as goal
 
@@ -14,12 +13,11 @@ added-requires c = low_handed c.args.numbers c.requires.low
 pub returns-clause-value : goal.returns-clause-value
 returns-clause-value c j h =
     c.added.ensures j h
-    ∙ ap (λ (b : ℕ). summed b (lane (handed16 c.args.numbers) j))
-    (loaded c.args.plane.now c.args.x c.args.y 8 j c.row.result.now c.load8.result c.row.ensures.value c.load8.ensures c.requires.columns h)
-    ∙ ap (summed (pixel c.args.plane.now (c.args.x + j) c.args.y)) (passed16 c.args.numbers j 8800 (omega arith) (c.requires.low j h))
+    ∙ ap (λ (b : ℕ). summed b (lane (handed16 c.args.numbers) j)) (in_chunk c.args.pixels.now c.load8.result c.args.at 8 j c.load8.ensures h)
+    ∙ ap (summed (get_or c.args.pixels.now (c.args.at + j) 0)) (passed16 c.args.numbers j 8800 (omega arith) (c.requires.low j h))
 
 pub returns-clause-bytes : goal.returns-clause-bytes
 returns-clause-bytes c j h =
     let lanes = unsigned_lanes w8 8 c.load8.result _ c.load8.type_inv in
     let byte : get_or c.load8.result j 0 < 256 = (lane_fits (Fits w8) 0 8 c.load8.result lanes.0 lanes.1 j h).fits in
-    subst (λ (b : ℕ). b ≤ 255) (loaded c.args.plane.now c.args.x c.args.y 8 j c.row.result.now c.load8.result c.row.ensures.value c.load8.ensures c.requires.columns h) (omega arith)
+    subst (λ (b : ℕ). b ≤ 255) (in_chunk c.args.pixels.now c.load8.result c.args.at 8 j c.load8.ensures h) (omega arith)

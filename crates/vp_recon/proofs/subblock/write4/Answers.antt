@@ -20,5 +20,5 @@ returns-clause-value c =
     let columns = c.requires.columns in
     let wide = c.row_mut.ensures.len in
     let apart : length v ≡ x + length v - x = omega arith in
-    ap (λ (r : List ℕ). with_plane c.args.picture.now c.args.k (with_row q c.args.y r)) (c.store4.ensures ∙ (put_chunk_is x row v (omega arith) ∙ ap (λ (i : ℕ). take x row ++ (v ++ drop i (drop x row))) apart))
+    ap (λ (r : List ℕ). with_plane c.args.picture.now c.args.k (with_row q c.args.y r)) (c.put.ensures.value ∙ (put_chunk_is x row v (omega arith) ∙ ap (λ (i : ℕ). take x row ++ (v ++ drop i (drop x row))) apart))
     ∙ ap (with_plane c.args.picture.now c.args.k) (run_in_row q x c.args.y v row whole (omega arith) c.requires.row c.row_mut.ensures.value)

@@ -1,0 +1,56 @@
+use Rattle.std.proofs.Common.{◌≡◌, ◌∙◌, ℕ, ◌+◌, ◌*◌, ◌/◌, ◌%◌, ◌<◌, ◌≤◌, ℤ, pos, ◌+ℤ◌, ap, subst, get_or, arith, rules, to_z, of_z, w32}
+use Rattle.std.proofs.lemmas.Int.{ints, to_z-of_z}
+use Rattle.vp_base.specs.Raster.{Raster}
+use Rattle.vp_inter.specs.Inter.{reference_pixel}
+use Rattle.vp_inter.proofs.FilteredLemmas.{halves_more}
+use Rattle.vp_inter.specs.Turns.{half_place}
+use Rattle.vp_inter.proofs.PassLemmas.{rows_bytes}
+use Rattle.vp_inter.proofs.filtered.copy_rows.Goals as goal
+
+pub plain_row-row-requires : goal.plain_row-row-requires
+plain_row-row-requires c = (
+  omega arith,
+  (
+    omega arith,
+    (
+      (λ t. let i = c.lies_inside-inside.ensures t in (i.0, omega (arith, ints), omega (arith, ints), omega (arith, ints))),
+      (rw c.of-flat.ensures.width c.requires.columns, (rw c.of-flat.ensures.height c.requires.height, (omega (arith, ints), omega (arith, ints)))),
+    ),
+  ),
+)
+
+pub loop-i-preserved : goal.loop-i-preserved
+loop-i-preserved c =
+    let p : Raster = c.args.plane.now in
+    let left : ℤ = to_z w32 (of_z w32 c.args.left) in
+    let top : ℤ = to_z w32 (of_z w32 c.args.top) in
+    let row : to_z w32 (of_z w32 (top +ℤ to_z w32 c.loop-i.i)) ≡ top +ℤ pos c.loop-i.i = omega (arith, ints) in
+    let value : ℕ → ℕ → ℕ = λ (k i : ℕ). reference_pixel p (left +ℤ pos i) (top +ℤ pos k) in
+    let last : (k : ℕ) → k < 16 → get_or c.plain_row-row.result k 0 ≡ value c.loop-i.i k =
+    λ k kin. c.plain_row-row.ensures k kin
+    ∙ ap (λ (s : Raster). reference_pixel s (left +ℤ pos k) (to_z w32 (of_z w32 (top +ℤ to_z w32 c.loop-i.i)))) c.of-flat.ensures.value
+    ∙ ap (λ (z : ℤ). reference_pixel p (left +ℤ pos k) z) row in
+    record {
+      size = search rules;
+      done = halves_more c.loop-i.i c.loop-i.rows c.put_lanes.new.pixels c.halves.result value
+          c.loop-i.invariant.done c.put_lanes.ensures.here c.put_lanes.ensures.before (λ k kin. c.halves.ensures k kin ∙ last k kin);
+      bytes = rows_bytes 16 c.loop-i.i value c.plain_row-row.result c.loop-i.invariant.bytes last
+          (λ k kin.
+          let small : 8 * (k % 2) + k / 2 < 16 = omega arith in
+          subst (λ (n : ℕ). n ≤ 255) (c.halves.ensures k kin) (c.put_lanes.ensures.bytes (half_place k) small));
+    }
+
+pub returns-clause-value : goal.returns-clause-value
+returns-clause-value c i k iin kin =
+    let p : Raster = c.args.plane.now in
+    c.loop-i.invariant.done i k (omega arith) kin
+    ∙ ap (λ (z : ℤ). reference_pixel p (z +ℤ pos k) (to_z w32 (of_z w32 c.args.top) +ℤ pos i)) (to_z-of_z w32 c.args.left c.ranges.left)
+    ∙ ap (λ (z : ℤ). reference_pixel p (c.args.left +ℤ pos k) (z +ℤ pos i)) (to_z-of_z w32 c.args.top c.ranges.top)
+
+pub returns-clause-bytes : goal.returns-clause-bytes
+returns-clause-bytes c i k iin kin =
+    let p : Raster = c.args.plane.now in
+    subst (λ (v : ℕ). v ≤ 255)
+    (ap (λ (z : ℤ). reference_pixel p (z +ℤ pos k) (to_z w32 (of_z w32 c.args.top) +ℤ pos i)) (to_z-of_z w32 c.args.left c.ranges.left)
+    ∙ ap (λ (z : ℤ). reference_pixel p (c.args.left +ℤ pos k) (z +ℤ pos i)) (to_z-of_z w32 c.args.top c.ranges.top))
+    (c.loop-i.invariant.bytes i k (omega arith) kin)

@@ -1,0 +1,146 @@
+//! Inter prediction of both chroma planes, written to a picture (RFC 6386, chapter 18). What depends on the vector
+//! alone is worked out once.
+
+ghost use Rattle.std.specs.Prelude.{◌≡◌, ℕ, ℤ, pos, ◌+◌, ◌*◌, ◌<◌, ◌≤◌, ◌+ℤ◌, length, slice_index};
+ghost use Rattle.std.specs.Prelude.{IsTrue};
+ghost use Rattle.vp_base.specs.Block.{with_block};
+ghost use Rattle.vp_inter.specs.Filter.{filter_six};
+ghost use Rattle.vp_inter.specs.Inter.{nearest, horizontal_pass, inter_pixel};
+ghost use Rattle.vp_inter.specs.Narrow.{IsNear, SumsFitI16};
+ghost use Rattle.vp_inter.specs.Turns.{AreFar, AreLanes, SelectsPairs};
+ghost use Rattle.vp_inter.specs.Vectors.{fraction};
+
+use crate::block::pass_columns;
+use crate::filter::taps;
+use crate::into::{predict_into8, whole_place};
+use crate::short_rows::{RowFilter, row_filter, rows_by_filter};
+use crate::vector::{PlaneVector, first_tap, fraction};
+use vp_base::{Picture, Plane};
+
+/// Predicts the 8x8 blocks of both chroma planes at column `x` of row `y`, as `predict_into8` does each.
+pub fn predict_into_chroma(
+    picture: &mut Picture,
+    x: usize,
+    y: usize,
+    reference: &Picture,
+    vector: PlaneVector,
+    version: u8,
+)
+    requires u_columns { x + 8 ≤ picture.old.u.width }
+    requires u_rows { y + 8 ≤ picture.old.u.height }
+    requires v_columns { x + 8 ≤ picture.old.v.width }
+    requires v_rows { y + 8 ≤ picture.old.v.height }
+    ensures { picture.new ≡ record picture.old {
+      u = with_block picture.old.u x y 8 8 (inter_pixel version reference.now.u x y vector);
+      v = with_block picture.old.v x y 8 8 (inter_pixel version reference.now.v x y vector);
+    } }
+{
+    let _known = [picture.plane(1).width(), picture.plane(1).height()];
+    let _known = reference.dim();
+    if copy_chroma(picture, x, y, reference, vector) {
+        return;
+    }
+    let u = reference.plane(1);
+    let v = reference.plane(2);
+    if fraction(vector.column) > 0 && fraction(vector.row) > 0 && u.width() >= 16 {
+        filter_into_chroma(picture, x, y, reference, vector, version);
+    } else {
+        predict_into8(picture, 1, x, y, u, vector, version);
+        predict_into8(picture, 2, x, y, v, vector, version);
+    }
+}
+
+/// Copies both chroma blocks for a vector of whole pixels, if the reference contains all of them. Returns whether it
+/// did.
+#[inline(always)]
+fn copy_chroma(
+    picture: &mut Picture,
+    x: usize,
+    y: usize,
+    reference: &Picture,
+    vector: PlaneVector,
+) -> bool
+    requires u_columns { x + 8 ≤ picture.old.u.width }
+    requires u_rows { y + 8 ≤ picture.old.u.height }
+    requires v_columns { x + 8 ≤ picture.old.v.width }
+    requires v_rows { y + 8 ≤ picture.old.v.height }
+    ensures written { (version : ℕ) → IsTrue result → picture.new ≡ record picture.old {
+      u = with_block picture.old.u x y 8 8 (inter_pixel version reference.now.u x y vector);
+      v = with_block picture.old.v x y 8 8 (inter_pixel version reference.now.v x y vector);
+    } }
+    ensures kept { (IsTrue result → ⊥) → picture.new ≡ picture.old }
+{
+    let _known = [picture.plane(1).width(), picture.plane(1).height()];
+    let _known = reference.dim();
+    let u = reference.plane(1);
+    let Some((column, row)) = whole_place(u, x, y, vector, 8) else {
+        return false;
+    };
+    let v = reference.plane(2);
+    picture.copy_block::<8>(1, x, y, u, column, row);
+    picture.copy_block::<8>(2, x, y, v, column, row);
+    true
+}
+
+/// Predicts both chroma blocks by both passes.
+fn filter_into_chroma(
+    picture: &mut Picture,
+    x: usize,
+    y: usize,
+    reference: &Picture,
+    vector: PlaneVector,
+    version: u8,
+)
+    requires u_columns { x + 8 ≤ picture.old.u.width }
+    requires u_rows { y + 8 ≤ picture.old.u.height }
+    requires v_columns { x + 8 ≤ picture.old.v.width }
+    requires v_rows { y + 8 ≤ picture.old.v.height }
+    requires across { 0 < fraction vector.column }
+    requires down { 0 < fraction vector.row }
+    requires wide { 16 ≤ reference.now.u.width }
+    ensures { picture.new ≡ record picture.old {
+      u = with_block picture.old.u x y 8 8 (inter_pixel version reference.now.u x y vector);
+      v = with_block picture.old.v x y 8 8 (inter_pixel version reference.now.v x y vector);
+    } }
+{
+    let _known = [picture.plane(1).width(), picture.plane(1).height()];
+    let _known = reference.dim();
+    let u = reference.plane(1);
+    let v = reference.plane(2);
+    let top = first_tap(y, vector.row);
+    let rows = taps(version, fraction(vector.column));
+    let columns = taps(version, fraction(vector.row));
+    let filter = row_filter(u.width(), first_tap(x, vector.column), rows);
+    let block = filtered_block(u, top, &filter, rows, columns);
+    picture.write_block::<8>(1, x, y, &block);
+    let block = filtered_block(v, top, &filter, rows, columns);
+    picture.write_block::<8>(2, x, y, &block);
+}
+
+/// Filters an 8x8 block of a plane by both passes.
+#[inline(always)]
+fn filtered_block(
+    plane: &Plane,
+    top: i32,
+    filter: &RowFilter,
+    row_weights: &[i16; 6],
+    column_weights: &[i16; 6],
+) -> [u8; 64]
+    requires room { filter.now.start + 16 ≤ plane.now.width }
+    requires height { 0 < plane.now.height }
+    requires lanes { AreLanes filter.now }
+    requires rows { SumsFitI16 row_weights.now }
+    requires columns { SumsFitI16 column_weights.now }
+    requires turns { AreFar row_weights.now filter.now.weights }
+    requires beside { IsNear top }
+    ensures len { length result ≡ 64 }
+    ensures value { (left : ℤ) → SelectsPairs filter.now (λ c. nearest plane.now.width (left +ℤ pos c)) → (r c : ℕ)
+        → r < 8 → c < 8 → slice_index result (r * 8 + c)
+        ≡ filter_six column_weights.now (λ k. horizontal_pass row_weights.now plane.now left top (r + k) c) }
+{
+    let mut rows = [0; 104];
+    rows_by_filter::<8>(&mut rows, plane, top, filter, row_weights, 13);
+    let mut block = [0; 64];
+    pass_columns::<8, 64>(&mut block, &rows, column_weights);
+    block
+}
