@@ -1,5 +1,5 @@
 -- Private to the crate: the motion that is found for a macroblock.
-use Rattle.std.specs.Prelude.{◌≡◌, true, false, Option, Some, None, MatchOption}
+use Rattle.std.specs.Prelude.{◌≡◌, ◌≤◌, ◌⊎◌, ℕ, true, false, Option, Some, None, MatchOption}
 use Rattle.vp_base.specs.declared.place.Place.{Place}
 use Rattle.vp_base.specs.Raster.{Raster}
 use Rattle.vp_head.specs.Reference.{is_intra}
@@ -8,12 +8,22 @@ use Rattle.vp_choose.specs.declared.motion.Moved.{Moved}
 use Rattle.vp_choose.specs.Frame.{Search}
 use Rattle.vp_choose.specs.Inter.{IsFound, IsMoved, IsInSearchRange}
 
--- the best vectors in the last frame, and in golden if that is searched and is another picture
+-- the best vector in golden costs at least a limit
+pub record IsGoldenOver (s : Search) (source : Raster) (place : Place) (limit : ℕ) : Type 0 where
+  pub golden : Refined
+  pub is : IsFound s source s.references.golden.luma place golden
+  pub over : limit ≤ golden.cost
+
+-- golden is left out: it is the last frame's picture, or costs no less than last
+abbrev pub IsLeftOut : Search → Raster → Place → ℕ → Type 0
+IsLeftOut s source place limit = (s.references.golden ≡ s.references.last) ⊎ IsGoldenOver s source place limit
+
+-- the best vectors in the last frame, and in golden if that is searched and not left out
 pub record AreFound (s : Search) (source : Raster) (place : Place) (last : Refined) (golden : Option Refined)
     : Type 0 where
   pub in_last : IsFound s source s.references.last.luma place last
   pub last_alone : s.golden ≡ false → golden ≡ None
-  pub golden_too : s.golden ≡ true → MatchOption golden (s.references.golden ≡ s.references.last)
+  pub golden_too : s.golden ≡ true → MatchOption golden (IsLeftOut s source place last.cost)
       (IsFound s source s.references.golden.luma place)
 
 -- the best motion, which is short

@@ -92,7 +92,8 @@ pub(crate) fn found_in(reference: Reference, found: Refined) -> Moved
     }
 }
 
-/// Returns the better of the vectors found in the last frame and in golden, which may be unsearched.
+/// Returns the better of the vectors found in the last frame and in golden, which may be left out.
+#[tactic(auto, using(crate::proofs::Unsearched::left_out))]
 pub(crate) fn better_of(last: Refined, golden: Option<Refined>) -> Moved
     requires last { IsInSearchRange last.vector }
     requires golden { IfSome golden (λ g. IsInSearchRange g.vector) }

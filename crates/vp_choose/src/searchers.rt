@@ -1,13 +1,14 @@
 //! The motion searchers of the reference frames of one frame.
 
-ghost use Rattle.std.specs.Prelude.{◌≡◌, ◌*◌, ◌≤◌, IfSome, IfOk};
+ghost use Rattle.std.specs.Prelude.{◌≡◌, ◌*◌, ◌≤◌, IfSome, IfOk, MatchOption};
 ghost use Rattle.vp_base.specs.Raster.{Raster};
 ghost use Rattle.vp_refs.specs.References.{reference_picture};
 ghost use Rattle.vp_intra.specs.Edges.{block as listed};
 ghost use Rattle.vp_choose.specs.Costs.{block_pixels};
 ghost use Rattle.vp_choose.specs.Frame.{lent_frame, search_of};
 ghost use Rattle.vp_choose.specs.Inter.{IsFound, IsInSearchRange};
-ghost use Rattle.vp_choose.specs.Searched.{IsBestMotion, IsSearched};
+ghost use Rattle.vp_choose.specs.Searched.{IsBestMotion, IsLeftOut, IsSearched};
+ghost use Rattle.vp_head.specs.declared.fields.Reference.TheVariants.{Golden};
 ghost use Rattle.vp_choose.specs.Searchers.{AreSearchers, AreSearchersOf, searcher_of};
 
 use crate::frame::{FrameSearch, Search};
@@ -89,6 +90,34 @@ fn find_by(
     refined(search, block, reference, place, whole)
 }
 
+/// Finds the best vector in golden by its searcher; None if it costs at least `limit`. A refinement can make a vector
+/// cheaper than the limit, so that all are searched then.
+fn find_golden_below(
+    searcher: &mut Searcher,
+    search: &Search,
+    block: &[u8; 256],
+    place: Place,
+    limit: u32,
+) -> Option<Refined>
+    requires columns { 16 * place.column ≤ 16384 }
+    requires rows { 16 * place.row ≤ 16384 }
+    requires range { search.now.range ≤ 64 }
+    requires searcher { searcher.old ≡ searcher_of (search_of search.now) Golden }
+    ensures kept { searcher.new ≡ searcher.old }
+    ensures found { (source : Raster) → block.now ≡ listed 16 (block_pixels 16 source place)
+        → MatchOption result (IsLeftOut (search_of search.now) source place limit)
+        (IsFound (search_of search.now) source (reference_picture search.now.references.now Golden).luma place) }
+    ensures short { IfSome result (λ g. IsInSearchRange g.vector) }
+{
+    if search.subpel {
+        return Some(find_by(searcher, search, block, Reference::Golden, place));
+    }
+    match searcher.search_below(block, place, limit) {
+        Some(whole) => Some(refined(search, block, Reference::Golden, place, whole)),
+        None => None,
+    }
+}
+
 /// Finds the motion of a macroblock with luma `block`, as `choose_reference` does.
 fn choose_reference_by(
     searchers: &mut Searchers,
@@ -110,7 +139,7 @@ fn choose_reference_by(
         return found_in(Reference::Last, last);
     }
     let golden = match &mut searchers.golden {
-        Some(golden) => Some(find_by(golden, search, block, Reference::Golden, place)),
+        Some(golden) => find_golden_below(golden, search, block, place, last.cost),
         None => None,
     };
     better_of(last, golden)

@@ -6,6 +6,7 @@ pub mod Least
 pub mod FirstLeast
 pub mod Refined
 pub mod Window
+pub mod Chosen
 pub mod Bounds
 pub mod Coarse
 pub mod Predicted

@@ -1,13 +1,15 @@
 -- Private to the crate: the window of a reference that is searched. All rows have one width, of which a square is
 -- used.
-use Rattle.std.specs.Prelude.{◌≡◌, ℕ, pos, ◌+◌, ◌*◌, ◌+ℤ◌, ◌-ℤ◌, List, unsigned_abs}
+use Rattle.std.specs.Prelude.{◌≡◌, ℕ, pos, ◌+◌, ◌*◌, ◌<◌, ◌≤◌, ◌+ℤ◌, ◌-ℤ◌, List, unsigned_abs}
 use Rattle.vp_base.specs.declared.place.Place.{Place}
 use Rattle.vp_base.specs.Raster.{Raster}
 use Rattle.vp_inter.specs.Inter.{reference_pixel}
 use Rattle.vp_search.specs.declared.vector.WholeVector.{WholeVector}
 use Rattle.vp_search.specs.declared.vector.Found.{Found}
+use Rattle.vp_search.specs.declared.vector.Scope.{Scope}
 use Rattle.vp_search.specs.declared.window.TheConstants.{WINDOW_WIDTH}
 use Rattle.vp_search.specs.Vectors.{IsNear}
+use Rattle.vp_search.specs.Least.{IsLeast}
 use Rattle.vp_search.specs.Differences.{sum_of_differences, strided_block}
 
 -- the pixel at row i and column j of the window around the macroblock at a place, with range pixels on each side
@@ -32,7 +34,13 @@ window_cost block window range v = sum_of_differences 16 16 (strided_block block
 abbrev pub first_rows : List ℕ → List ℕ → ℕ → ℕ
 first_rows block window at = sum_of_differences 4 16 (strided_block block 0 16) (strided_block window at WINDOW_WIDTH)
 
--- a vector within range, with its cost
-pub record IsFoundInWindow (range : ℕ) (cost : WholeVector → ℕ) (found : Found) : Type 0 where
-  pub near : IsNear range found.vector
-  pub known : found.cost ≡ cost found.vector
+-- a vector within range, with its cost if that is below the limit
+pub record IsFoundInWindow (scope : Scope) (cost : WholeVector → ℕ) (found : Found) : Type 0 where
+  pub near : IsNear scope.range found.vector
+  pub known : found.cost < scope.limit → found.cost ≡ cost found.vector
+
+-- the best vector within range if its cost is below the limit; none costs less than what is found
+pub record IsBestBelow (scope : Scope) (cost : WholeVector → ℕ) (found : Found) : Type 0 where
+  pub known : found.cost < scope.limit → found.cost ≡ cost found.vector
+  pub least : found.cost < scope.limit → IsLeast scope.range cost found.vector
+  pub over : (v : WholeVector) → IsNear scope.range v → found.cost ≤ cost v

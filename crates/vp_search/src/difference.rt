@@ -1,6 +1,6 @@
 //! Sums of absolute differences of 16x16 blocks.
 
-ghost use Rattle.std.specs.Prelude.{◌≡◌, ◌+◌, ◌*◌, ◌<◌, ◌≤◌, length};
+ghost use Rattle.std.specs.Prelude.{◌≡◌, ◌+◌, ◌*◌, ◌<◌, ◌≤◌, length, slice_index};
 ghost use Rattle.vp_search.specs.Differences.{sum_of_differences, strided_block, block16};
 
 use crate::kernel::four_rows;
@@ -11,6 +11,15 @@ pub fn sad16(a: &[u8; 256], b: &[u8; 256]) -> u32
     ensures bound { result ≤ 65280 }
 {
     sad_within(a, b, 0, 16, u32::MAX)
+}
+
+/// The sum of absolute differences of a 16x16 block and the sixteen rows of sixteen pixels from row `first` on.
+pub(crate) fn sad_from(block: &[u8; 256], rows: &[u8], first: usize) -> u32
+    requires { 16 * first + 256 ≤ length rows.now }
+    ensures { result
+        ≡ sum_of_differences 16 16 (block16 block.now) (λ r c. slice_index rows.now ((r + first) * 16 + c)) }
+{
+    sad_within(block, rows, 16 * first, 16, u32::MAX)
 }
 
 /// The sum of absolute differences of the first four rows of a block and of the one at index `at` of a window with rows

@@ -18,8 +18,8 @@ pub(crate) struct Pair {
 
 /// The first of the pairs from number `from` to `end`, without `end`, of a row that begins at index `begin`, of which a
 /// block differs by at most `limit` in its first four rows. Both are compared before a jump, as most differ by more: a
-/// jump for each costs up to a third more time. Where the next pair stands does not come out of a comparison, so that the
-/// processor can begin with it before.
+/// jump for each costs up to a third more time. Where the next pair stands does not come out of a comparison, so that
+/// the processor can begin with it before.
 pub(crate) fn next_pair(
     block: &[u8],
     window: &[u8],

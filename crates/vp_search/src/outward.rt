@@ -9,14 +9,14 @@ ghost use Rattle.std.specs.Int.{bit_at};
 ghost use Rattle.vp_search.specs.declared.vector.WholeVector.{WholeVector};
 ghost use Rattle.vp_search.specs.Vectors.{vector_length, IsNear};
 ghost use Rattle.vp_search.specs.Least.{IsLeast, IsNoWorse};
-ghost use Rattle.vp_search.specs.Window.{first_rows, vector_at, window_cost, IsFoundInWindow};
+ghost use Rattle.vp_search.specs.Window.{first_rows, vector_at, window_cost, IsFoundInWindow, IsBestBelow};
 ghost use Rattle.vp_search.specs.Bounds.{IsBound};
 ghost use Rattle.vp_search.specs.Summed.{IsSummedSearch};
 
 use crate::difference::{first_rows, rest_within, sad_within};
 use crate::early::{Pair, next_pair};
 use crate::sums::{SquareSums, bounds_at, next_within, within};
-use crate::vector::{Found, vector_at, vector_length};
+use crate::vector::{Found, Scope, vector_at, vector_length};
 use crate::window::WINDOW_WIDTH;
 use std::simd::prelude::*;
 
@@ -30,22 +30,22 @@ pub(crate) struct Spot {
 /// The better of a known vector and the one at `place`. Always inlined: with a call for each vector, a search takes a
 /// third more instructions.
 #[inline(always)]
-pub(crate) fn consider(block: &[u8], window: &[u8], range: u8, best: Found, place: Spot) -> Found
+pub(crate) fn consider(block: &[u8], window: &[u8], scope: Scope, best: Found, place: Spot) -> Found
     requires block { 256 ≤ length block.now }
-    requires window { (2 * range + 16) * WINDOW_WIDTH ≤ length window.now }
-    requires range { range ≤ 64 }
-    requires row { place.row ≤ 2 * range }
-    requires column { place.column ≤ 2 * range }
-    requires best { IsFoundInWindow range (window_cost block.now window.now range) best }
-    ensures kept { IsFoundInWindow range (window_cost block.now window.now range) result }
+    requires window { (2 * scope.range + 16) * WINDOW_WIDTH ≤ length window.now }
+    requires range { scope.range ≤ 64 }
+    requires row { place.row ≤ 2 * scope.range }
+    requires column { place.column ≤ 2 * scope.range }
+    requires best { IsFoundInWindow scope (window_cost block.now window.now scope.range) best }
+    ensures kept { IsFoundInWindow scope (window_cost block.now window.now scope.range) result }
     ensures old { IsNoWorse result.cost result.vector best.cost best.vector }
     ensures here { IsNoWorse result.cost result.vector
-        (window_cost block.now window.now range (vector_at range place.row place.column))
-        (vector_at range place.row place.column) }
+        (window_cost block.now window.now scope.range (vector_at scope.range place.row place.column))
+        (vector_at scope.range place.row place.column) }
 {
     let at = place.row * WINDOW_WIDTH + place.column;
     let first = first_rows(block, window, at, WINDOW_WIDTH);
-    consider_rest(block, window, range, best, place, first)
+    consider_rest(block, window, scope, best, place, first)
 }
 
 /// The better of a known vector and the one at `place`, of whose block the first four rows differ by `first`.
@@ -53,24 +53,24 @@ pub(crate) fn consider(block: &[u8], window: &[u8], range: u8, best: Found, plac
 fn consider_rest(
     block: &[u8],
     window: &[u8],
-    range: u8,
+    scope: Scope,
     best: Found,
     place: Spot,
     first: u32,
 ) -> Found
     requires block { 256 ≤ length block.now }
-    requires window { (2 * range + 16) * WINDOW_WIDTH ≤ length window.now }
-    requires range { range ≤ 64 }
-    requires row { place.row ≤ 2 * range }
-    requires column { place.column ≤ 2 * range }
-    requires best { IsFoundInWindow range (window_cost block.now window.now range) best }
+    requires window { (2 * scope.range + 16) * WINDOW_WIDTH ≤ length window.now }
+    requires range { scope.range ≤ 64 }
+    requires row { place.row ≤ 2 * scope.range }
+    requires column { place.column ≤ 2 * scope.range }
+    requires best { IsFoundInWindow scope (window_cost block.now window.now scope.range) best }
     requires first { first ≡ first_rows block.now window.now (place.row * WINDOW_WIDTH + place.column) }
     requires bound { first ≤ 4 * 16 * 255 }
-    ensures kept { IsFoundInWindow range (window_cost block.now window.now range) result }
+    ensures kept { IsFoundInWindow scope (window_cost block.now window.now scope.range) result }
     ensures old { IsNoWorse result.cost result.vector best.cost best.vector }
     ensures here { IsNoWorse result.cost result.vector
-        (window_cost block.now window.now range (vector_at range place.row place.column))
-        (vector_at range place.row place.column) }
+        (window_cost block.now window.now scope.range (vector_at scope.range place.row place.column))
+        (vector_at scope.range place.row place.column) }
 {
     let at = place.row * WINDOW_WIDTH + place.column;
     let cost = rest_within(block, window, at, WINDOW_WIDTH, first, best.cost);
@@ -80,7 +80,7 @@ fn consider_rest(
     lesser(
         best,
         Found {
-            vector: vector_at(place.row, place.column, range),
+            vector: vector_at(place.row, place.column, scope.range),
             cost,
         },
     )
@@ -119,32 +119,32 @@ fn lesser(old: Found, new: Found) -> Found
 fn consider_bounded(
     block: &[u8],
     window: &[u8],
-    range: u8,
+    scope: Scope,
     best: Found,
     place: Spot,
     bound: u32,
 ) -> Found
     requires block { 256 ≤ length block.now }
-    requires window { (2 * range + 16) * WINDOW_WIDTH ≤ length window.now }
-    requires range { range ≤ 64 }
-    requires row { place.row ≤ 2 * range }
-    requires bound { place.column ≤ 2 * range → bound ≤ window_cost block.now window.now range
-        (vector_at range place.row place.column) }
-    requires best { IsFoundInWindow range (window_cost block.now window.now range) best }
-    ensures kept { IsFoundInWindow range (window_cost block.now window.now range) result }
+    requires window { (2 * scope.range + 16) * WINDOW_WIDTH ≤ length window.now }
+    requires range { scope.range ≤ 64 }
+    requires row { place.row ≤ 2 * scope.range }
+    requires bound { place.column ≤ 2 * scope.range → bound ≤ window_cost block.now window.now scope.range
+        (vector_at scope.range place.row place.column) }
+    requires best { IsFoundInWindow scope (window_cost block.now window.now scope.range) best }
+    ensures kept { IsFoundInWindow scope (window_cost block.now window.now scope.range) result }
     ensures old { IsNoWorse result.cost result.vector best.cost best.vector }
-    ensures here { place.column ≤ 2 * range → IsNoWorse result.cost result.vector
-        (window_cost block.now window.now range (vector_at range place.row place.column))
-        (vector_at range place.row place.column) }
+    ensures here { place.column ≤ 2 * scope.range → IsNoWorse result.cost result.vector
+        (window_cost block.now window.now scope.range (vector_at scope.range place.row place.column))
+        (vector_at scope.range place.row place.column) }
 {
-    if place.column > 2 * usize::from(range) || bound > best.cost {
+    if place.column > 2 * usize::from(scope.range) || bound > best.cost {
         return best;
     }
-    let vector = vector_at(place.row, place.column, range);
+    let vector = vector_at(place.row, place.column, scope.range);
     if bound == best.cost && vector_length(vector) > vector_length(best.vector) {
         return best;
     }
-    consider(block, window, range, best, place)
+    consider(block, window, scope, best, place)
 }
 
 /// The first of the places whose bits are set, and the bits of the others.
@@ -163,23 +163,23 @@ fn take_first(places: u64) -> (usize, u64)
 fn consider_eight(
     block: &[u8],
     window: &[u8],
-    range: u8,
+    scope: Scope,
     best: Found,
     spot: Spot,
     bounds: u16x8,
 ) -> Found
     requires block { 256 ≤ length block.now }
-    requires window { (2 * range + 16) * WINDOW_WIDTH ≤ length window.now }
-    requires range { range ≤ 64 }
-    requires row { spot.row ≤ 2 * range }
-    requires column { spot.column ≤ 2 * range + 8 }
-    requires bounds { IsBound block.now window.now range spot.row spot.column bounds }
-    requires best { IsFoundInWindow range (window_cost block.now window.now range) best }
-    ensures kept { IsFoundInWindow range (window_cost block.now window.now range) result }
+    requires window { (2 * scope.range + 16) * WINDOW_WIDTH ≤ length window.now }
+    requires range { scope.range ≤ 64 }
+    requires row { spot.row ≤ 2 * scope.range }
+    requires column { spot.column ≤ 2 * scope.range + 8 }
+    requires bounds { IsBound block.now window.now scope.range spot.row spot.column bounds }
+    requires best { IsFoundInWindow scope (window_cost block.now window.now scope.range) best }
+    ensures kept { IsFoundInWindow scope (window_cost block.now window.now scope.range) result }
     ensures old { IsNoWorse result.cost result.vector best.cost best.vector }
-    ensures here { (t : ℕ) → t < 8 → spot.column + t ≤ 2 * range → IsNoWorse result.cost result.vector
-        (window_cost block.now window.now range (vector_at range spot.row (spot.column + t)))
-        (vector_at range spot.row (spot.column + t)) }
+    ensures here { (t : ℕ) → t < 8 → spot.column + t ≤ 2 * scope.range → IsNoWorse result.cost result.vector
+        (window_cost block.now window.now scope.range (vector_at scope.range spot.row (spot.column + t)))
+        (vector_at scope.range spot.row (spot.column + t)) }
 {
     let each = bounds.to_array();
     let mut left = within(bounds, best.cost);
@@ -190,7 +190,7 @@ fn consider_eight(
             row: spot.row,
             column: spot.column + t,
         };
-        found = consider_bounded(block, window, range, found, place, u32::from(each[t]));
+        found = consider_bounded(block, window, scope, found, place, u32::from(each[t]));
         left = others;
     }
     found
@@ -230,8 +230,8 @@ pub(crate) struct Progress {
     pub(crate) unbounded: Unbounded,
 }
 
-/// The number of rows that are searched without bounds once most bounds of a row are below the best cost. After these, a
-/// sample of the last row decides whether as many more follow.
+/// The number of rows that are searched without bounds once most bounds of a row are below the best cost. After these,
+/// a sample of the last row decides whether as many more follow.
 const UNBOUNDED_ROWS: u8 = 7;
 
 /// The least range within which vectors are compared in pairs.
@@ -306,22 +306,22 @@ fn consider_bounded_row(
     block: &[u8],
     window: &[u8],
     sums: SquareSums,
-    range: u8,
+    scope: Scope,
     best: Found,
     i: usize,
 ) -> Progress
     requires block { 256 ≤ length block.now }
-    requires window { (2 * range + 16) * WINDOW_WIDTH ≤ length window.now }
-    requires range { range ≤ 64 }
-    requires i { i ≤ 2 * range }
-    requires sums { IsSummedSearch block.now window.now range sums }
-    requires best { IsFoundInWindow range (window_cost block.now window.now range) best }
-    ensures kept { IsFoundInWindow range (window_cost block.now window.now range) result.best }
+    requires window { (2 * scope.range + 16) * WINDOW_WIDTH ≤ length window.now }
+    requires range { scope.range ≤ 64 }
+    requires i { i ≤ 2 * scope.range }
+    requires sums { IsSummedSearch block.now window.now scope.range sums }
+    requires best { IsFoundInWindow scope (window_cost block.now window.now scope.range) best }
+    ensures kept { IsFoundInWindow scope (window_cost block.now window.now scope.range) result.best }
     ensures old { IsNoWorse result.best.cost result.best.vector best.cost best.vector }
-    ensures here { (j : ℕ) → j ≤ 2 * range → IsNoWorse result.best.cost result.best.vector
-        (window_cost block.now window.now range (vector_at range i j)) (vector_at range i j) }
+    ensures here { (j : ℕ) → j ≤ 2 * scope.range → IsNoWorse result.best.cost result.best.vector
+        (window_cost block.now window.now scope.range (vector_at scope.range i j)) (vector_at scope.range i j) }
 {
-    let groups = usize::from(range) / 4 + 1;
+    let groups = usize::from(scope.range) / 4 + 1;
     let mut found = best;
     let mut g = 0;
     let mut passed = 0;
@@ -332,12 +332,19 @@ fn consider_bounded_row(
             column: 8 * next,
         };
         passed += below_best(bounds, found.cost);
-        found = consider_eight(block, window, range, found, spot, bounds);
+        found = consider_eight(block, window, scope, found, spot, bounds);
         g = next + 1;
     }
     Progress {
         best: found,
-        unbounded: unbounded_after(block, window, range, found.cost, i, passed > HALF * groups),
+        unbounded: unbounded_after(
+            block,
+            window,
+            scope.range,
+            found.cost,
+            i,
+            passed > HALF * groups,
+        ),
     }
 }
 
@@ -346,36 +353,36 @@ fn consider_next(
     block: &[u8],
     window: &[u8],
     sums: SquareSums,
-    range: u8,
+    scope: Scope,
     progress: Progress,
     i: usize,
 ) -> Progress
     requires block { 256 ≤ length block.now }
-    requires window { (2 * range + 16) * WINDOW_WIDTH ≤ length window.now }
-    requires range { range ≤ 64 }
-    requires i { i ≤ 2 * range }
-    requires sums { IsSummedSearch block.now window.now range sums }
-    requires best { IsFoundInWindow range (window_cost block.now window.now range) progress.best }
-    ensures kept { IsFoundInWindow range (window_cost block.now window.now range) result.best }
+    requires window { (2 * scope.range + 16) * WINDOW_WIDTH ≤ length window.now }
+    requires range { scope.range ≤ 64 }
+    requires i { i ≤ 2 * scope.range }
+    requires sums { IsSummedSearch block.now window.now scope.range sums }
+    requires best { IsFoundInWindow scope (window_cost block.now window.now scope.range) progress.best }
+    ensures kept { IsFoundInWindow scope (window_cost block.now window.now scope.range) result.best }
     ensures old { IsNoWorse result.best.cost result.best.vector progress.best.cost progress.best.vector }
-    ensures here { (j : ℕ) → j ≤ 2 * range → IsNoWorse result.best.cost result.best.vector
-        (window_cost block.now window.now range (vector_at range i j)) (vector_at range i j) }
+    ensures here { (j : ℕ) → j ≤ 2 * scope.range → IsNoWorse result.best.cost result.best.vector
+        (window_cost block.now window.now scope.range (vector_at scope.range i j)) (vector_at scope.range i j) }
 {
     let unbounded = progress.unbounded;
     if unbounded.left == 0 {
-        return consider_bounded_row(block, window, sums, range, progress.best, i);
+        return consider_bounded_row(block, window, sums, scope, progress.best, i);
     }
-    let best = consider_unbounded_row(block, window, range, progress.best, i, unbounded.early);
+    let best = consider_unbounded_row(block, window, scope, progress.best, i, unbounded.early);
     if unbounded.left > 1 {
         return Progress {
             best,
             unbounded: unbounded.next(),
         };
     }
-    let pass = most_pass(sums, range, best.cost, i);
+    let pass = most_pass(sums, scope.range, best.cost, i);
     Progress {
         best,
-        unbounded: unbounded_after(block, window, range, best.cost, i, pass),
+        unbounded: unbounded_after(block, window, scope.range, best.cost, i, pass),
     }
 }
 
@@ -384,8 +391,10 @@ pub(crate) fn centre_of(block: &[u8], window: &[u8], range: u8) -> Found
     requires block { 256 ≤ length block.now }
     requires window { (2 * range + 16) * WINDOW_WIDTH ≤ length window.now }
     requires range { range ≤ 64 }
-    ensures found { IsFoundInWindow range (window_cost block.now window.now range) result }
+    ensures near { IsNear range result.vector }
+    ensures known { result.cost ≡ window_cost block.now window.now range result.vector }
     ensures zero { vector_length result.vector ≡ 0 }
+    ensures bound { result.cost ≤ 16 * 16 * 255 }
     ensures bytes { (k : ℕ) → slice_index window.now k ≤ 255 }
 {
     let middle = usize::from(range);
@@ -398,74 +407,75 @@ pub(crate) fn centre_of(block: &[u8], window: &[u8], range: u8) -> Found
 
 /// The best of a known vector and those of row `i`, one by one. Not inlined, so that there is one copy.
 #[inline(never)]
-fn consider_each(block: &[u8], window: &[u8], range: u8, best: Found, i: usize) -> Found
+fn consider_each(block: &[u8], window: &[u8], scope: Scope, best: Found, i: usize) -> Found
     requires block { 256 ≤ length block.now }
-    requires window { (2 * range + 16) * WINDOW_WIDTH ≤ length window.now }
-    requires range { range ≤ 64 }
-    requires i { i ≤ 2 * range }
-    requires best { IsFoundInWindow range (window_cost block.now window.now range) best }
-    ensures kept { IsFoundInWindow range (window_cost block.now window.now range) result }
+    requires window { (2 * scope.range + 16) * WINDOW_WIDTH ≤ length window.now }
+    requires range { scope.range ≤ 64 }
+    requires i { i ≤ 2 * scope.range }
+    requires best { IsFoundInWindow scope (window_cost block.now window.now scope.range) best }
+    ensures kept { IsFoundInWindow scope (window_cost block.now window.now scope.range) result }
     ensures old { IsNoWorse result.cost result.vector best.cost best.vector }
-    ensures here { (j : ℕ) → j ≤ 2 * range → IsNoWorse result.cost result.vector
-        (window_cost block.now window.now range (vector_at range i j)) (vector_at range i j) }
+    ensures here { (j : ℕ) → j ≤ 2 * scope.range → IsNoWorse result.cost result.vector
+        (window_cost block.now window.now scope.range (vector_at scope.range i j)) (vector_at scope.range i j) }
 {
     let mut found = best;
-    for j in 0..2 * usize::from(range) + 1 {
+    for j in 0..2 * usize::from(scope.range) + 1 {
         let place = Spot { row: i, column: j };
-        found = consider(block, window, range, found, place);
+        found = consider(block, window, scope, found, place);
     }
     found
 }
 
-/// The better of a known vector and the one at `place`, of whose block the first four rows differ by `first`. It is left
-/// out if these differ by more than the best costs.
+/// The better of a known vector and the one at `place`, of whose block the first four rows differ by `first`. It is
+/// left out if these differ by more than the best costs.
 #[inline(always)]
 fn consider_start(
     block: &[u8],
     window: &[u8],
-    range: u8,
+    scope: Scope,
     best: Found,
     place: Spot,
     first: u32,
 ) -> Found
     requires block { 256 ≤ length block.now }
-    requires window { (2 * range + 16) * WINDOW_WIDTH ≤ length window.now }
-    requires range { range ≤ 64 }
-    requires row { place.row ≤ 2 * range }
-    requires column { place.column ≤ 2 * range }
-    requires best { IsFoundInWindow range (window_cost block.now window.now range) best }
+    requires window { (2 * scope.range + 16) * WINDOW_WIDTH ≤ length window.now }
+    requires range { scope.range ≤ 64 }
+    requires row { place.row ≤ 2 * scope.range }
+    requires column { place.column ≤ 2 * scope.range }
+    requires best { IsFoundInWindow scope (window_cost block.now window.now scope.range) best }
     requires first { first ≡ first_rows block.now window.now (place.row * WINDOW_WIDTH + place.column) }
     requires bound { first ≤ 4 * 16 * 255 }
-    ensures kept { IsFoundInWindow range (window_cost block.now window.now range) result }
+    ensures kept { IsFoundInWindow scope (window_cost block.now window.now scope.range) result }
     ensures old { IsNoWorse result.cost result.vector best.cost best.vector }
     ensures here { IsNoWorse result.cost result.vector
-        (window_cost block.now window.now range (vector_at range place.row place.column))
-        (vector_at range place.row place.column) }
+        (window_cost block.now window.now scope.range (vector_at scope.range place.row place.column))
+        (vector_at scope.range place.row place.column) }
 {
     if first > best.cost {
         return best;
     }
-    consider_rest(block, window, range, best, place, first)
+    consider_rest(block, window, scope, best, place, first)
 }
 
-/// The better of a known vector and the one at `place`, as `consider` has it, but compared after four rows of pixels too.
+/// The better of a known vector and the one at `place`, as `consider` has it, but compared after four rows of pixels
+/// too.
 #[inline(always)]
-fn consider_early(block: &[u8], window: &[u8], range: u8, best: Found, place: Spot) -> Found
+fn consider_early(block: &[u8], window: &[u8], scope: Scope, best: Found, place: Spot) -> Found
     requires block { 256 ≤ length block.now }
-    requires window { (2 * range + 16) * WINDOW_WIDTH ≤ length window.now }
-    requires range { range ≤ 64 }
-    requires row { place.row ≤ 2 * range }
-    requires column { place.column ≤ 2 * range }
-    requires best { IsFoundInWindow range (window_cost block.now window.now range) best }
-    ensures kept { IsFoundInWindow range (window_cost block.now window.now range) result }
+    requires window { (2 * scope.range + 16) * WINDOW_WIDTH ≤ length window.now }
+    requires range { scope.range ≤ 64 }
+    requires row { place.row ≤ 2 * scope.range }
+    requires column { place.column ≤ 2 * scope.range }
+    requires best { IsFoundInWindow scope (window_cost block.now window.now scope.range) best }
+    ensures kept { IsFoundInWindow scope (window_cost block.now window.now scope.range) result }
     ensures old { IsNoWorse result.cost result.vector best.cost best.vector }
     ensures here { IsNoWorse result.cost result.vector
-        (window_cost block.now window.now range (vector_at range place.row place.column))
-        (vector_at range place.row place.column) }
+        (window_cost block.now window.now scope.range (vector_at scope.range place.row place.column))
+        (vector_at scope.range place.row place.column) }
 {
     let at = place.row * WINDOW_WIDTH + place.column;
     let first = first_rows(block, window, at, WINDOW_WIDTH);
-    consider_start(block, window, range, best, place, first)
+    consider_start(block, window, scope, best, place, first)
 }
 
 /// The best of a known vector and those of a pair that begins at `place`.
@@ -473,53 +483,53 @@ fn consider_early(block: &[u8], window: &[u8], range: u8, best: Found, place: Sp
 fn consider_pair(
     block: &[u8],
     window: &[u8],
-    range: u8,
+    scope: Scope,
     best: Found,
     place: Spot,
     pair: Pair,
 ) -> Found
     requires block { 256 ≤ length block.now }
-    requires window { (2 * range + 16) * WINDOW_WIDTH ≤ length window.now }
-    requires range { range ≤ 64 }
-    requires row { place.row ≤ 2 * range }
-    requires column { place.column + 1 ≤ 2 * range }
-    requires best { IsFoundInWindow range (window_cost block.now window.now range) best }
+    requires window { (2 * scope.range + 16) * WINDOW_WIDTH ≤ length window.now }
+    requires range { scope.range ≤ 64 }
+    requires row { place.row ≤ 2 * scope.range }
+    requires column { place.column + 1 ≤ 2 * scope.range }
+    requires best { IsFoundInWindow scope (window_cost block.now window.now scope.range) best }
     requires one { pair.one ≡ first_rows block.now window.now (place.row * WINDOW_WIDTH + place.column) }
     requires two { pair.two ≡ first_rows block.now window.now (place.row * WINDOW_WIDTH + place.column + 1) }
     requires bound { (pair.one ≤ 4 * 16 * 255) × (pair.two ≤ 4 * 16 * 255) }
-    ensures kept { IsFoundInWindow range (window_cost block.now window.now range) result }
+    ensures kept { IsFoundInWindow scope (window_cost block.now window.now scope.range) result }
     ensures old { IsNoWorse result.cost result.vector best.cost best.vector }
     ensures here { IsNoWorse result.cost result.vector
-        (window_cost block.now window.now range (vector_at range place.row place.column))
-        (vector_at range place.row place.column) }
+        (window_cost block.now window.now scope.range (vector_at scope.range place.row place.column))
+        (vector_at scope.range place.row place.column) }
     ensures next { IsNoWorse result.cost result.vector
-        (window_cost block.now window.now range (vector_at range place.row (place.column + 1)))
-        (vector_at range place.row (place.column + 1)) }
+        (window_cost block.now window.now scope.range (vector_at scope.range place.row (place.column + 1)))
+        (vector_at scope.range place.row (place.column + 1)) }
 {
     let next = Spot {
         row: place.row,
         column: place.column + 1,
     };
-    let found = consider_start(block, window, range, best, place, pair.one);
-    consider_start(block, window, range, found, next, pair.two)
+    let found = consider_start(block, window, scope, best, place, pair.one);
+    consider_start(block, window, scope, found, next, pair.two)
 }
 
 /// The best of a known vector and those of row `i`, where most of these differ by more than the best costs by their
 /// first four rows of pixels.
 #[inline(never)]
-fn consider_starts(block: &[u8], window: &[u8], range: u8, best: Found, i: usize) -> Found
+fn consider_starts(block: &[u8], window: &[u8], scope: Scope, best: Found, i: usize) -> Found
     requires block { 256 ≤ length block.now }
-    requires window { (2 * range + 16) * WINDOW_WIDTH ≤ length window.now }
-    requires range { range ≤ 64 }
-    requires i { i ≤ 2 * range }
-    requires best { IsFoundInWindow range (window_cost block.now window.now range) best }
-    ensures kept { IsFoundInWindow range (window_cost block.now window.now range) result }
+    requires window { (2 * scope.range + 16) * WINDOW_WIDTH ≤ length window.now }
+    requires range { scope.range ≤ 64 }
+    requires i { i ≤ 2 * scope.range }
+    requires best { IsFoundInWindow scope (window_cost block.now window.now scope.range) best }
+    ensures kept { IsFoundInWindow scope (window_cost block.now window.now scope.range) result }
     ensures old { IsNoWorse result.cost result.vector best.cost best.vector }
-    ensures here { (j : ℕ) → j ≤ 2 * range → IsNoWorse result.cost result.vector
-        (window_cost block.now window.now range (vector_at range i j)) (vector_at range i j) }
+    ensures here { (j : ℕ) → j ≤ 2 * scope.range → IsNoWorse result.cost result.vector
+        (window_cost block.now window.now scope.range (vector_at scope.range i j)) (vector_at scope.range i j) }
 {
     let begin = i * WINDOW_WIDTH;
-    let pairs = usize::from(range);
+    let pairs = usize::from(scope.range);
     let mut found = best;
     let mut from = 0;
     while let Some(pair) = next_pair(block, window, begin, from, pairs, found.cost) {
@@ -527,34 +537,34 @@ fn consider_starts(block: &[u8], window: &[u8], range: u8, best: Found, i: usize
             row: i,
             column: 2 * pair.number,
         };
-        found = consider_pair(block, window, range, found, place, pair);
+        found = consider_pair(block, window, scope, found, place, pair);
         from = pair.number + 1;
     }
     let last = Spot {
         row: i,
-        column: 2 * usize::from(range),
+        column: 2 * usize::from(scope.range),
     };
-    consider_early(block, window, range, found, last)
+    consider_early(block, window, scope, found, last)
 }
 
 /// The best of a known vector and those of row `i`, as `consider_starts` has it, but one by one: in a short row pairs
 /// do not pay.
 #[inline(never)]
-fn consider_short_row(block: &[u8], window: &[u8], range: u8, best: Found, i: usize) -> Found
+fn consider_short_row(block: &[u8], window: &[u8], scope: Scope, best: Found, i: usize) -> Found
     requires block { 256 ≤ length block.now }
-    requires window { (2 * range + 16) * WINDOW_WIDTH ≤ length window.now }
-    requires range { range ≤ 64 }
-    requires i { i ≤ 2 * range }
-    requires best { IsFoundInWindow range (window_cost block.now window.now range) best }
-    ensures kept { IsFoundInWindow range (window_cost block.now window.now range) result }
+    requires window { (2 * scope.range + 16) * WINDOW_WIDTH ≤ length window.now }
+    requires range { scope.range ≤ 64 }
+    requires i { i ≤ 2 * scope.range }
+    requires best { IsFoundInWindow scope (window_cost block.now window.now scope.range) best }
+    ensures kept { IsFoundInWindow scope (window_cost block.now window.now scope.range) result }
     ensures old { IsNoWorse result.cost result.vector best.cost best.vector }
-    ensures here { (j : ℕ) → j ≤ 2 * range → IsNoWorse result.cost result.vector
-        (window_cost block.now window.now range (vector_at range i j)) (vector_at range i j) }
+    ensures here { (j : ℕ) → j ≤ 2 * scope.range → IsNoWorse result.cost result.vector
+        (window_cost block.now window.now scope.range (vector_at scope.range i j)) (vector_at scope.range i j) }
 {
     let mut found = best;
-    for j in 0..2 * usize::from(range) + 1 {
+    for j in 0..2 * usize::from(scope.range) + 1 {
         let place = Spot { row: i, column: j };
-        found = consider_early(block, window, range, found, place);
+        found = consider_early(block, window, scope, found, place);
     }
     found
 }
@@ -564,28 +574,28 @@ fn consider_short_row(block: &[u8], window: &[u8], range: u8, best: Found, i: us
 fn consider_unbounded_row(
     block: &[u8],
     window: &[u8],
-    range: u8,
+    scope: Scope,
     best: Found,
     i: usize,
     early: bool,
 ) -> Found
     requires block { 256 ≤ length block.now }
-    requires window { (2 * range + 16) * WINDOW_WIDTH ≤ length window.now }
-    requires range { range ≤ 64 }
-    requires i { i ≤ 2 * range }
-    requires best { IsFoundInWindow range (window_cost block.now window.now range) best }
-    ensures kept { IsFoundInWindow range (window_cost block.now window.now range) result }
+    requires window { (2 * scope.range + 16) * WINDOW_WIDTH ≤ length window.now }
+    requires range { scope.range ≤ 64 }
+    requires i { i ≤ 2 * scope.range }
+    requires best { IsFoundInWindow scope (window_cost block.now window.now scope.range) best }
+    ensures kept { IsFoundInWindow scope (window_cost block.now window.now scope.range) result }
     ensures old { IsNoWorse result.cost result.vector best.cost best.vector }
-    ensures here { (j : ℕ) → j ≤ 2 * range → IsNoWorse result.cost result.vector
-        (window_cost block.now window.now range (vector_at range i j)) (vector_at range i j) }
+    ensures here { (j : ℕ) → j ≤ 2 * scope.range → IsNoWorse result.cost result.vector
+        (window_cost block.now window.now scope.range (vector_at scope.range i j)) (vector_at scope.range i j) }
 {
     if !early {
-        return consider_each(block, window, range, best, i);
+        return consider_each(block, window, scope, best, i);
     }
-    if range < LEAST_PAIRED_RANGE {
-        return consider_short_row(block, window, range, best, i);
+    if scope.range < LEAST_PAIRED_RANGE {
+        return consider_short_row(block, window, scope, best, i);
     }
-    consider_starts(block, window, range, best, i)
+    consider_starts(block, window, scope, best, i)
 }
 
 /// Whether no vector more than `distance` rows away from the centre is better than `best`: it costs nothing, and is no
@@ -603,25 +613,24 @@ fn is_best_beyond(best: Found, distance: usize) -> bool
 pub(crate) fn search_unbounded(
     block: &[u8],
     window: &[u8],
-    range: u8,
+    scope: Scope,
     known: Found,
     early: bool,
 ) -> Found
     requires block { 256 ≤ length block.now }
-    requires window { (2 * range + 16) * WINDOW_WIDTH ≤ length window.now }
-    requires range { range ≤ 64 }
-    requires known { IsFoundInWindow range (window_cost block.now window.now range) known }
-    ensures cost { result.cost ≡ window_cost block.now window.now range result.vector }
-    ensures least { IsLeast range (window_cost block.now window.now range) result.vector }
+    requires window { (2 * scope.range + 16) * WINDOW_WIDTH ≤ length window.now }
+    requires range { scope.range ≤ 64 }
+    requires known { IsFoundInWindow scope (window_cost block.now window.now scope.range) known }
+    ensures { IsBestBelow scope (window_cost block.now window.now scope.range) result }
 {
-    let middle = usize::from(range);
-    let mut best = consider_unbounded_row(block, window, range, known, middle, early);
+    let middle = usize::from(scope.range);
+    let mut best = consider_unbounded_row(block, window, scope, known, middle, early);
     for d in 0..middle {
         if is_best_beyond(best, d) {
             return best;
         }
-        best = consider_unbounded_row(block, window, range, best, middle - 1 - d, early);
-        best = consider_unbounded_row(block, window, range, best, middle + 1 + d, early);
+        best = consider_unbounded_row(block, window, scope, best, middle - 1 - d, early);
+        best = consider_unbounded_row(block, window, scope, best, middle + 1 + d, early);
     }
     best
 }
@@ -632,15 +641,21 @@ pub(crate) fn search_from_centre(block: &[u8], window: &[u8], range: u8, centre:
     requires block { 256 ≤ length block.now }
     requires window { (2 * range + 16) * WINDOW_WIDTH ≤ length window.now }
     requires range { range ≤ 64 }
-    requires found { IsFoundInWindow range (window_cost block.now window.now range) centre }
+    requires near { IsNear range centre.vector }
+    requires known { centre.cost ≡ window_cost block.now window.now range centre.vector }
     requires zero { vector_length centre.vector ≡ 0 }
+    requires bound { centre.cost ≤ 16 * 16 * 255 }
     ensures cost { result.cost ≡ window_cost block.now window.now range result.vector }
     ensures least { IsLeast range (window_cost block.now window.now range) result.vector }
 {
     if centre.cost == 0 {
         return centre;
     }
-    search_unbounded(block, window, range, centre, true)
+    let scope = Scope {
+        range,
+        limit: u32::MAX,
+    };
+    search_unbounded(block, window, scope, centre, true)
 }
 
 /// The best of a known vector and all others of a window, whose squares have the sums `sums`.
@@ -648,25 +663,24 @@ pub(crate) fn search_outwards(
     block: &[u8],
     window: &[u8],
     sums: SquareSums,
-    range: u8,
+    scope: Scope,
     known: Found,
 ) -> Progress
     requires block { 256 ≤ length block.now }
-    requires window { (2 * range + 16) * WINDOW_WIDTH ≤ length window.now }
-    requires range { range ≤ 64 }
-    requires sums { IsSummedSearch block.now window.now range sums }
-    requires known { IsFoundInWindow range (window_cost block.now window.now range) known }
-    ensures cost { result.best.cost ≡ window_cost block.now window.now range result.best.vector }
-    ensures least { IsLeast range (window_cost block.now window.now range) result.best.vector }
+    requires window { (2 * scope.range + 16) * WINDOW_WIDTH ≤ length window.now }
+    requires range { scope.range ≤ 64 }
+    requires sums { IsSummedSearch block.now window.now scope.range sums }
+    requires known { IsFoundInWindow scope (window_cost block.now window.now scope.range) known }
+    ensures { IsBestBelow scope (window_cost block.now window.now scope.range) result.best }
 {
-    let middle = usize::from(range);
-    let mut progress = consider_bounded_row(block, window, sums, range, known, middle);
+    let middle = usize::from(scope.range);
+    let mut progress = consider_bounded_row(block, window, sums, scope, known, middle);
     for d in 0..middle {
         if is_best_beyond(progress.best, d) {
             return progress;
         }
-        progress = consider_next(block, window, sums, range, progress, middle - 1 - d);
-        progress = consider_next(block, window, sums, range, progress, middle + 1 + d);
+        progress = consider_next(block, window, sums, scope, progress, middle - 1 - d);
+        progress = consider_next(block, window, sums, scope, progress, middle + 1 + d);
     }
     progress
 }

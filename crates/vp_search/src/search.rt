@@ -1,19 +1,19 @@
 //! The full search over whole pixels.
 
 ghost use Rattle.std.specs.Prelude.{◌≡◌, ◌+◌, ◌*◌, ◌<◌, ◌≤◌, IfSome, length};
-ghost use Rattle.vp_search.specs.Vectors.{quarters, vector_length};
+ghost use Rattle.vp_search.specs.Vectors.{quarters, vector_length, IsNear};
 ghost use Rattle.vp_search.specs.Differences.{block16};
 ghost use Rattle.vp_search.specs.Blocks.{macroblock_pixels, whole_cost, quarter_cost};
 ghost use Rattle.vp_search.specs.Least.{IsLeast};
 ghost use Rattle.vp_search.specs.Bounds.{IsSummed};
 ghost use Rattle.vp_search.specs.Coarse.{AreCoarse};
-ghost use Rattle.vp_search.specs.Window.{window_cost, IsFoundInWindow};
+ghost use Rattle.vp_search.specs.Window.{window_cost, IsFoundInWindow, IsBestBelow};
 
 use crate::block::macroblock;
 use crate::coarse::coarse_block;
 use crate::outward::{Progress, centre_of, search_from_centre, search_outwards};
 use crate::sums::{SquareSums, block_sums};
-use crate::vector::Found;
+use crate::vector::{Found, Scope};
 use crate::window::{GREATEST_RANGE, WINDOW_WIDTH, cut_window};
 use vp_base::{Place, Plane};
 
@@ -111,8 +111,10 @@ pub(crate) fn search_without_sums(
     requires block { 256 ≤ length block.now }
     requires window { (2 * range + 16) * WINDOW_WIDTH ≤ length window.now }
     requires range { range ≤ 64 }
-    requires found { IsFoundInWindow range (window_cost block.now window.now range) centre }
+    requires near { IsNear range centre.vector }
+    requires known { centre.cost ≡ window_cost block.now window.now range centre.vector }
     requires zero { vector_length centre.vector ≡ 0 }
+    requires bound { centre.cost ≤ 16 * 16 * 255 }
     ensures cost { IfSome result (λ best. best.cost ≡ window_cost block.now window.now range best.vector) }
     ensures least { IfSome result (λ best. IsLeast range (window_cost block.now window.now range) best.vector) }
 {
@@ -129,19 +131,18 @@ pub(crate) fn search_summed(
     window: &[u8],
     sums: &[u16],
     coarse: &[u8],
-    range: u8,
+    scope: Scope,
     known: Found,
 ) -> Progress
     requires block { 256 ≤ length block.now }
-    requires window { (2 * range + 16) * WINDOW_WIDTH ≤ length window.now }
-    requires sums { (2 * range + 16) * WINDOW_WIDTH ≤ length sums.now }
-    requires coarse_room { 0 < length coarse.now → (2 * range + 16) * WINDOW_WIDTH ≤ length coarse.now }
-    requires range { range ≤ 64 }
-    requires summed { IsSummed window.now sums.now range }
-    requires coarse { 0 < length coarse.now → AreCoarse ((2 * range + 9) * WINDOW_WIDTH) sums.now coarse.now }
-    requires known { IsFoundInWindow range (window_cost block.now window.now range) known }
-    ensures cost { result.best.cost ≡ window_cost block.now window.now range result.best.vector }
-    ensures least { IsLeast range (window_cost block.now window.now range) result.best.vector }
+    requires window { (2 * scope.range + 16) * WINDOW_WIDTH ≤ length window.now }
+    requires sums { (2 * scope.range + 16) * WINDOW_WIDTH ≤ length sums.now }
+    requires coarse_room { 0 < length coarse.now → (2 * scope.range + 16) * WINDOW_WIDTH ≤ length coarse.now }
+    requires range { scope.range ≤ 64 }
+    requires summed { IsSummed window.now sums.now scope.range }
+    requires coarse { 0 < length coarse.now → AreCoarse ((2 * scope.range + 9) * WINDOW_WIDTH) sums.now coarse.now }
+    requires known { IsFoundInWindow scope (window_cost block.now window.now scope.range) known }
+    ensures { IsBestBelow scope (window_cost block.now window.now scope.range) result.best }
 {
     let squares = block_sums(block);
     let all = SquareSums {
@@ -150,5 +151,5 @@ pub(crate) fn search_summed(
         coarse_block: coarse_block(squares),
         coarse,
     };
-    search_outwards(block, window, all, range, known)
+    search_outwards(block, window, all, scope, known)
 }

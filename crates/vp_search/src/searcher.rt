@@ -1,10 +1,13 @@
 //! Searches of one macroblock after another.
 
-ghost use Rattle.std.specs.Prelude.{◌≡◌, ◌+◌, ◌*◌, ◌<◌, ◌≤◌, IfOk, length};
-ghost use Rattle.vp_search.specs.Vectors.{quarters};
+ghost use Rattle.std.specs.Prelude.{◌≡◌, ℕ, ◌+◌, ◌*◌, ◌<◌, ◌≤◌, IfOk, IfSome, length};
+ghost use Rattle.vp_search.specs.declared.vector.WholeVector.{WholeVector};
+ghost use Rattle.vp_search.specs.Vectors.{quarters, IsNear};
 ghost use Rattle.vp_search.specs.Differences.{block16};
 ghost use Rattle.vp_search.specs.Blocks.{whole_cost, quarter_cost};
 ghost use Rattle.vp_search.specs.Least.{IsLeast};
+ghost use Rattle.vp_search.specs.Window.{IsFoundInWindow};
+ghost use Rattle.vp_search.specs.Chosen.{IsChosen};
 ghost use Rattle.vp_search.specs.Kept.{AreKept};
 ghost use Rattle.vp_search.specs.Coarse.{AreCoarse};
 
@@ -13,7 +16,7 @@ use crate::kept::{Kept, SLIDE};
 use crate::outward::{Spot, Unbounded, centre_of, consider, search_unbounded};
 use crate::search::{search_summed, search_without_sums};
 use crate::sums::fill_sums;
-use crate::vector::{Found, WholeVector};
+use crate::vector::{Found, Scope, WholeVector};
 use crate::window::{WINDOW_WIDTH, cut_window};
 use std::alloc::{AllocError, Global};
 use std::marker::Model;
@@ -115,9 +118,46 @@ impl<'a> Searcher<'a> {
         ensures predicted { result.cost ≡ quarter_cost (block16 block.now) self.old.reference place
             (quarters result.vector) }
     {
+        self.search_within(block, place, u32::MAX)
+    }
+
+    /// Searches as `search` does, for a vector that costs less than `limit`; None if there is none. The lower the
+    /// limit, the more vectors are excluded by their bounds.
+    pub fn search_below(&mut self, block: &[u8; 256], place: Place, limit: u32) -> Option<Found>
+        requires columns { 16 * place.column ≤ 16384 }
+        requires rows { 16 * place.row ≤ 16384 }
+        ensures kept { self.new ≡ self.old }
+        ensures below { IfSome result (λ f. f.cost < limit) }
+        ensures least { IfSome result (λ f. IsLeast self.old.range (whole_cost
+            (block16 block.now) self.old.reference place) f.vector) }
+        ensures predicted { IfSome result (λ f. f.cost ≡ quarter_cost
+            (block16 block.now) self.old.reference place (quarters f.vector)) }
+        ensures none { result ≡ None → (v : WholeVector) → IsNear self.old.range v
+            → limit ≤ quarter_cost (block16 block.now) self.old.reference place (quarters v) }
+    {
+        let found = self.search_within(block, place, limit);
+        if found.cost < limit {
+            Some(found)
+        } else {
+            None
+        }
+    }
+
+    /// Searches for the best vector that costs less than `limit`.
+    fn search_within(&mut self, block: &[u8; 256], place: Place, limit: u32) -> Found
+        requires columns { 16 * place.column ≤ 16384 }
+        requires rows { 16 * place.row ≤ 16384 }
+        ensures kept { self.new ≡ self.old }
+        ensures chosen { IsChosen (block16 block.now) self.old.reference place
+            (record { range = self.old.range; limit = limit }) result }
+        ensures bound { result.cost ≤ 16 * 16 * 255 }
+    {
         let view = View {
             reference: self.reference,
-            range: self.range,
+            scope: Scope {
+                range: self.range,
+                limit,
+            },
             place,
             begin: self.begin,
             unbounded: self.unbounded,
@@ -137,7 +177,7 @@ impl<'a> Searcher<'a> {
 #[derive(Clone, Copy)]
 struct View<'a> {
     reference: &'a Plane,
-    range: u8,
+    scope: Scope,
     place: Place,
     begin: Spot,
     unbounded: Unbounded,
@@ -167,6 +207,18 @@ fn spot_of(vector: WholeVector, range: u8) -> Spot
     }
 }
 
+/// What a search begins with: a vector that costs as much as the limit, if it costs more. No vector that costs more has
+/// to be compared.
+fn limited(found: Found, scope: Scope) -> Found
+    ensures kept { (cost : WholeVector → ℕ) → IsFoundInWindow scope cost found → IsFoundInWindow scope cost result }
+    ensures low { result.cost ≤ found.cost }
+{
+    Found {
+        vector: found.vector,
+        cost: found.cost.min(scope.limit),
+    }
+}
+
 /// Searches for a macroblock in memory that is lent, with the sums that are kept. Also returns which are kept after it,
 /// and the macroblocks that follow without sums.
 fn search_kept(
@@ -179,40 +231,37 @@ fn search_kept(
 ) -> (Found, Kept, Unbounded)
     requires wide { 0 < view.reference.now.width }
     requires high { 0 < view.reference.now.height }
-    requires range { view.range ≤ 64 }
+    requires range { view.scope.range ≤ 64 }
     requires columns { 16 * view.place.column ≤ 16384 }
     requires rows { 16 * view.place.row ≤ 16384 }
-    requires begin_row { view.begin.row ≤ 2 * view.range }
-    requires begin_column { view.begin.column ≤ 2 * view.range }
-    requires window_size { length window.old ≡ (2 * view.range + 16) * WINDOW_WIDTH + 8 }
-    requires sums_size { length sums.old ≡ (2 * view.range + 16) * WINDOW_WIDTH + 8 + SLIDE }
+    requires begin_row { view.begin.row ≤ 2 * view.scope.range }
+    requires begin_column { view.begin.column ≤ 2 * view.scope.range }
+    requires window_size { length window.old ≡ (2 * view.scope.range + 16) * WINDOW_WIDTH + 8 }
+    requires sums_size { length sums.old ≡ (2 * view.scope.range + 16) * WINDOW_WIDTH + 8 + SLIDE }
     requires coarse_size { 0 < length coarse.old → length coarse.old ≡ length sums.old }
-    requires known { AreKept view.reference.now view.range known sums.old }
+    requires known { AreKept view.reference.now view.scope.range known sums.old }
     requires coarse { 0 < length coarse.old → AreCoarse (length sums.old) sums.old coarse.old }
-    ensures kept { AreKept view.entry.reference.now view.entry.range result.1 sums.new }
+    ensures kept { AreKept view.entry.reference.now view.entry.scope.range result.1 sums.new }
     ensures coarse { 0 < length coarse.old → AreCoarse (length sums.old) sums.new coarse.new }
-    ensures cost { result.0.cost ≡ whole_cost (block16 block.now) view.entry.reference.now view.entry.place
-        result.0.vector }
-    ensures least { IsLeast view.entry.range (whole_cost
-        (block16 block.now) view.entry.reference.now view.entry.place) result.0.vector }
-    ensures predicted { result.0.cost ≡ quarter_cost (block16 block.now) view.entry.reference.now view.entry.place
-        (quarters result.0.vector) }
+    ensures chosen { IsChosen (block16 block.now) view.entry.reference.now view.entry.place view.entry.scope result.0 }
+    ensures bound { result.0.cost ≤ 16 * 16 * 255 }
 {
     let View {
         reference,
-        range,
+        scope,
         place,
         begin,
         unbounded,
     } = view;
+    let range = scope.range;
     cut_window(window, reference, place, range);
     let centre = centre_of(block, window, range);
     if let Some(best) = search_without_sums(block, window, range, centre) {
         return (best, known, unbounded.next());
     }
-    let first = consider(block, window, range, centre, begin);
+    let first = limited(consider(block, window, scope, centre, begin), scope);
     if unbounded.left > 0 {
-        let found = search_unbounded(block, window, range, first, unbounded.early);
+        let found = search_unbounded(block, window, scope, first, unbounded.early);
         return (found, known, unbounded.next());
     }
     let moved = known.moved_to(place);
@@ -224,7 +273,7 @@ fn search_kept(
         columns: 2 * usize::from(range) + 9,
         ..moved
     };
-    let progress = search_summed(block, window, sums, coarse, range, first);
+    let progress = search_summed(block, window, sums, coarse, scope, first);
     let distance = place.column.saturating_sub(known.place.column);
     (
         progress.best,

@@ -31,6 +31,15 @@ pub struct Found {
     pub cost: u32,
 }
 
+/// Which vectors a search is for.
+#[derive(Clone, Copy)]
+pub(crate) struct Scope {
+    /// The greatest row and column.
+    pub(crate) range: u8,
+    /// What a vector has to cost less than.
+    pub(crate) limit: u32,
+}
+
 /// The result of a refinement.
 #[derive(Clone, Copy, Debug, PartialEq, Eq)]
 pub struct Refined {

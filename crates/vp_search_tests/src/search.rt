@@ -435,6 +435,35 @@ fn kept_sums_are_the_same(rt: HostRuntime) -> Result<(), Fail> {
     Ok(check_along(&rt, rt.alloc(), &reference)?)
 }
 
+/// Whether a searcher finds the best vector below a limit that is one above its cost, and none below its cost.
+fn is_limited_along(alloc: Global, reference: &Plane, range: u8) -> Result<bool, AllocError> {
+    if reference.width() == 0 || reference.height() == 0 || range > 64 {
+        return Ok(false);
+    }
+    let mut searcher = Searcher::new(alloc, reference, range)?;
+    for step in 0..28 {
+        let place = stop(step);
+        let block = block_at(step);
+        let best = search_block(&block, reference, place, range);
+        let above = searcher.search_below(&block, place, best.cost.saturating_add(1));
+        if above != Some(best) || searcher.search_below(&block, place, best.cost).is_some() {
+            return Ok(false);
+        }
+    }
+    Ok(true)
+}
+
+/// What costs as much as the limit is not found.
+#[test]
+fn limits_are_kept(rt: HostRuntime) -> Result<(), Fail> {
+    let mut reference = Plane::new(rt.alloc(), 53, 37, 0)?;
+    fill_with_noise(&mut reference, 53, 37);
+    for range in [7, 8, 28, 64] {
+        assert!(rt; is_limited_along(rt.alloc(), &reference, range)?);
+    }
+    Ok(())
+}
+
 /// Whether a searcher finds the same as `search_block` along a row of 67 macroblocks.
 fn is_same_across(alloc: Global, reference: &Plane) -> Result<bool, AllocError> {
     if reference.width() == 0 || reference.height() == 0 {

@@ -1,8 +1,9 @@
-use Rattle.std.proofs.Common.{◌≡◌, Option, sym, subst}
+use Rattle.std.proofs.Common.{Option, sym, subst, inl}
 use Rattle.std.specs.Prelude.{MatchOption}
 use Rattle.vp_search.specs.declared.vector.Refined.{Refined}
 use Rattle.vp_choose.specs.Frame.{Search, search_of}
 use Rattle.vp_choose.specs.Inter.{IsFound, IsMoved}
+use Rattle.vp_choose.specs.Searched.{IsLeftOut}
 use Rattle.vp_choose.proofs.Unsearched.{free_motion}
 use Rattle.vp_choose.proofs.motion.choose_reference.Goals as goal
 use Rattle.vp_choose.proofs.motion.choose_reference.Goals.{then-searches_golden, else-searches_golden}
@@ -22,7 +23,7 @@ returns-clause-moved c source cut =
         | else-searches_golden w ↦ w.golden-is
       ];
       golden_too = λ on. elim c.if-searches_golden.branch [
-        | then-searches_golden w ↦ subst (λ (o : Option Refined). MatchOption o (s.references.golden ≡ s.references.last) (IsFound s source s.references.golden.luma c.args.place)) (sym w.golden-is) (w.find.ensures.found source cut)
-        | else-searches_golden w ↦ subst (λ (o : Option Refined). MatchOption o (s.references.golden ≡ s.references.last) (IsFound s source s.references.golden.luma c.args.place)) (sym w.golden-is) (c.searches_golden.ensures.one w.if-searches_golden.false on)
+        | then-searches_golden w ↦ subst (λ (o : Option Refined). MatchOption o (IsLeftOut s source c.args.place c.find-last.result.cost) (IsFound s source s.references.golden.luma c.args.place)) (sym w.golden-is) (w.find.ensures.found source cut)
+        | else-searches_golden w ↦ subst (λ (o : Option Refined). MatchOption o (IsLeftOut s source c.args.place c.find-last.result.cost) (IsFound s source s.references.golden.luma c.args.place)) (sym w.golden-is) (inl (c.searches_golden.ensures.one w.if-searches_golden.false on))
       ];
     })

@@ -1,8 +1,9 @@
-use Rattle.std.proofs.Common.{◌≡◌, Option, refl, sym, subst}
+use Rattle.std.proofs.Common.{◌≡◌, Option, refl, sym, subst, inl}
 use Rattle.std.specs.Prelude.{MatchOption}
 use Rattle.vp_search.specs.declared.vector.Refined.{Refined}
 use Rattle.vp_choose.specs.Frame.{Search, search_of}
 use Rattle.vp_choose.specs.Inter.{IsFound, IsMoved}
+use Rattle.vp_choose.specs.Searched.{IsLeftOut}
 use Rattle.vp_choose.specs.Searchers.{searcher_of}
 use Rattle.vp_search.specs.Searcher.{Searcher}
 use Rattle.vp_head.specs.declared.fields.Reference.TheVariants as reference_is
@@ -30,9 +31,9 @@ returns-clause-best c source cut =
           | in-None w ↦ w.golden-is
         ];
         golden_too = λ on. elim c.match-searchers.branch [
-          | in-Some w ↦ subst (λ (o : Option Refined). MatchOption o (s.references.golden ≡ s.references.last) (IsFound s source s.references.golden.luma c.args.place)) (sym w.golden-is) (w.find_by.ensures.found source cut)
-          | in-None w ↦ subst (λ (o : Option Refined). MatchOption o (s.references.golden ≡ s.references.last) (IsFound s source s.references.golden.luma c.args.place)) (sym w.golden-is)
-              (subst (λ (o : Option Searcher). MatchOption o (s.references.golden ≡ s.references.last) (λ x. x ≡ searcher_of s reference_is.Golden)) w.in-None.is (kept.golden on))
+          | in-Some w ↦ subst (λ (o : Option Refined). MatchOption o (IsLeftOut s source c.args.place c.find_by-last.result.cost) (IsFound s source s.references.golden.luma c.args.place)) (sym w.golden-is) (w.find_golden_below-golden.ensures.found source cut)
+          | in-None w ↦ subst (λ (o : Option Refined). MatchOption o (IsLeftOut s source c.args.place c.find_by-last.result.cost) (IsFound s source s.references.golden.luma c.args.place)) (sym w.golden-is)
+              (inl (subst (λ (o : Option Searcher). MatchOption o (s.references.golden ≡ s.references.last) (λ x. x ≡ searcher_of s reference_is.Golden)) w.in-None.is (kept.golden on)))
         ];
       });
       short = c.better_of.ensures.short;

@@ -6,11 +6,17 @@ use Rattle.vp_search.proofs.WindowLemmas.{cost_at}
 use Rattle.vp_search.proofs.OrderLemmas.{near_at}
 use Rattle.vp_search.proofs.outward.centre_of.Goals as goal
 
-pub returns-clause-found : goal.returns-clause-found
-returns-clause-found c =
+pub returns-clause-near : goal.returns-clause-near
+returns-clause-near c =
+    let r = c.args.range in
+    let m : c.from-middle.result ≡ r = c.from-middle.ensures in
+    rw (c.vector_at.ensures ∙ ap (λ (k : ℕ). vector_at r k k) m) (near_at r r r (omega arith) (omega arith))
+
+pub returns-clause-known : goal.returns-clause-known
+returns-clause-known c =
     let b = c.args.block.now in let w = c.args.window.now in let r = c.args.range in
     let m : c.from-middle.result ≡ r = c.from-middle.ensures in
     let e : c.vector_at.result ≡ vector_at r r r = c.vector_at.ensures ∙ ap (λ (k : ℕ). vector_at r k k) m in
     let x : c.sad_within.result ≡ sum_of_differences 16 16 (strided_block b 0 16) (strided_block w (c.from-middle.result * WINDOW_WIDTH + c.from-middle.result) WINDOW_WIDTH) = c.sad_within.ensures.exact (omega (arith, c.sad_within.ensures.bound)) in
     let y : c.sad_within.result ≡ window_cost b w r (vector_at r r r) = x ∙ ap (λ (k : ℕ). sum_of_differences 16 16 (strided_block b 0 16) (strided_block w (k * WINDOW_WIDTH + k) WINDOW_WIDTH)) m ∙ sym (cost_at b w r r r) in
-    rw e (record { near = near_at r r r (omega arith) (omega arith); known = y })
+    rw e y

@@ -10,13 +10,13 @@ use Rattle.std.proofs.lemmas.Bool.{cases_lt}
 
 pub consider_eight-found-requires-clause-bounds : goal.consider_eight-found-requires-clause-bounds
 consider_eight-found-requires-clause-bounds c t h within =
-    let r : c.from.result ≡ c.args.range = c.from.ensures in
-    bounds_are c.args.block.now c.args.window.now c.args.sums.window.now c.args.sums.block c.next_within-next.result.1 c.args.range c.args.i (8 * c.next_within-next.result.0)
+    let r : c.from.result ≡ c.args.scope.range = c.from.ensures in
+    bounds_are c.args.block.now c.args.window.now c.args.sums.window.now c.args.sums.block c.next_within-next.result.1 c.args.scope.range c.args.i (8 * c.next_within-next.result.0)
     c.requires.sums.block_is c.requires.sums.window_is c.requires.i (c.next_within-next.ensures.bounds (omega arith)) t h within
 
 pub loop-g-preserved : goal.loop-g-preserved
 loop-g-preserved c =
-    let b = c.args.block.now in let w = c.args.window.now in let r = c.args.range in let i = c.args.i in
+    let b = c.args.block.now in let w = c.args.window.now in let r = c.args.scope.range in let i = c.args.i in
     let j : ℕ = 8 * c.loop-g.g in let m : ℕ = c.next_within-next.result.0 in
     let f : Found = c.loop-g.found in let g : Found = c.consider_eight-found.result in
     let inv = c.loop-g.invariant in
@@ -48,5 +48,5 @@ loop-g-preserved c =
 
 pub returns-clause-here : goal.returns-clause-here
 returns-clause-here c j h =
-    let m : c.from.result ≡ c.args.range = c.from.ensures in
+    let m : c.from.result ≡ c.args.scope.range = c.from.ensures in
     c.loop-g.invariant.here j (omega arith) h

@@ -7,10 +7,10 @@ abbrev pub invariant-loop-g : goal.invariant-loop-g
 invariant-loop-g l = record {
   few : l.passed ≤ 8 * l.g;
   within : l.g ≤ l.groups + 1;
-  kept : IsFoundInWindow l.range (window_cost l.block l.window l.range) l.found;
+  kept : IsFoundInWindow l.scope (window_cost l.block l.window l.scope.range) l.found;
   old : IsNoWorse l.found.cost l.found.vector l.fn.best.cost l.fn.best.vector;
-  here : (j : ℕ) → j < 8 * l.g → j ≤ 2 * l.range
-      → IsNoWorse l.found.cost l.found.vector (window_cost l.block l.window l.range (vector_at l.range l.i j)) (vector_at l.range l.i j);
+  here : (j : ℕ) → j < 8 * l.g → j ≤ 2 * l.scope.range
+      → IsNoWorse l.found.cost l.found.vector (window_cost l.block l.window l.scope.range (vector_at l.scope.range l.i j)) (vector_at l.scope.range l.i j);
 }
 
 abbrev pub decreases-loop-g : goal.decreases-loop-g

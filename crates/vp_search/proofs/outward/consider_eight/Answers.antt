@@ -8,7 +8,7 @@ use Rattle.vp_search.proofs.outward.consider_eight.Goals as goal
 
 pub loop-left-init : goal.loop-left-init
 loop-left-init c =
-    let r = c.args.range in let i = c.args.spot.row in let j : ℕ = c.args.spot.column in
+    let r = c.args.scope.range in let i = c.args.spot.row in let j : ℕ = c.args.spot.column in
     let best : Found = c.args.best in
     record {
       few = c.within-left.ensures.eight;
@@ -22,7 +22,7 @@ loop-left-init c =
 
 pub loop-left-preserved : goal.loop-left-preserved
 loop-left-preserved c =
-    let b = c.args.block.now in let w = c.args.window.now in let r = c.args.range in let i = c.args.spot.row in let j : ℕ = c.args.spot.column in
+    let b = c.args.block.now in let w = c.args.window.now in let r = c.args.scope.range in let i = c.args.spot.row in let j : ℕ = c.args.spot.column in
     let t : ℕ = c.take_first-t.result.0 in
     let f : Found = c.loop-left.found in let g : Found = c.consider_bounded-found.result in
     let inv = c.loop-left.invariant in

@@ -8,7 +8,7 @@ use Rattle.std.proofs.lemmas.Bool.{cases_lt}
 
 pub loop-j-preserved : goal.loop-j-preserved
 loop-j-preserved c =
-    let b = c.args.block.now in let w = c.args.window.now in let r = c.args.range in let i = c.args.i in let j = c.loop-j.j in
+    let b = c.args.block.now in let w = c.args.window.now in let r = c.args.scope.range in let i = c.args.i in let j = c.loop-j.j in
     let f : Found = c.loop-j.found in let g : Found = c.consider_early-found.result in
     let inv = c.loop-j.invariant in
     let step = c.consider_early-found.ensures in

@@ -5,7 +5,7 @@ use Rattle.vp_search.proofs.outward.consider_short_row.Given as goal
 
 abbrev pub invariant-loop-j : goal.invariant-loop-j
 invariant-loop-j l = record {
-  kept : IsFoundInWindow l.range (window_cost l.block l.window l.range) l.found;
+  kept : IsFoundInWindow l.scope (window_cost l.block l.window l.scope.range) l.found;
   old : IsNoWorse l.found.cost l.found.vector l.fn.best.cost l.fn.best.vector;
-  here : (j : ℕ) → j < l.j → IsNoWorse l.found.cost l.found.vector (window_cost l.block l.window l.range (vector_at l.range l.i j)) (vector_at l.range l.i j);
+  here : (j : ℕ) → j < l.j → IsNoWorse l.found.cost l.found.vector (window_cost l.block l.window l.scope.range (vector_at l.scope.range l.i j)) (vector_at l.scope.range l.i j);
 }

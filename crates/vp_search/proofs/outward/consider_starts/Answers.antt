@@ -10,7 +10,7 @@ use Rattle.vp_search.proofs.outward.consider_starts.Goals as goal
 
 pub loop-pair-preserved : goal.loop-pair-preserved
 loop-pair-preserved c =
-    let b = c.args.block.now in let w = c.args.window.now in let r = c.args.range in let i = c.args.i in
+    let b = c.args.block.now in let w = c.args.window.now in let r = c.args.scope.range in let i = c.args.i in
     let begin : ℕ = i * WINDOW_WIDTH in let p : ℕ = c.in-Some.pair.number in
     let f : Found = c.loop-pair.found in let g : Found = c.consider_pair-found.result in
     let inv = c.loop-pair.invariant in
@@ -38,7 +38,7 @@ loop-pair-preserved c =
 
 pub returns-clause-here : goal.returns-clause-here
 returns-clause-here c j h =
-    let b = c.args.block.now in let w = c.args.window.now in let r = c.args.range in let i = c.args.i in
+    let b = c.args.block.now in let w = c.args.window.now in let r = c.args.scope.range in let i = c.args.i in
     let begin : ℕ = i * WINDOW_WIDTH in
     let f : Found = c.loop-pair.found in let g : Found = c.consider_early.result in
     let inv = c.loop-pair.invariant in

@@ -6,9 +6,9 @@ use Rattle.vp_search.proofs.outward.consider_starts.Given as goal
 abbrev pub invariant-loop-pair : goal.invariant-loop-pair
 invariant-loop-pair l = record {
   bound : l.from ≤ l.pairs;
-  kept : IsFoundInWindow l.range (window_cost l.block l.window l.range) l.found;
+  kept : IsFoundInWindow l.scope (window_cost l.block l.window l.scope.range) l.found;
   old : IsNoWorse l.found.cost l.found.vector l.fn.best.cost l.fn.best.vector;
-  here : (j : ℕ) → j < 2 * l.from → IsNoWorse l.found.cost l.found.vector (window_cost l.block l.window l.range (vector_at l.range l.i j)) (vector_at l.range l.i j);
+  here : (j : ℕ) → j < 2 * l.from → IsNoWorse l.found.cost l.found.vector (window_cost l.block l.window l.scope.range (vector_at l.scope.range l.i j)) (vector_at l.scope.range l.i j);
 }
 
 abbrev pub decreases-loop-pair : goal.decreases-loop-pair

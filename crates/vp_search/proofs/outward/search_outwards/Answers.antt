@@ -8,7 +8,7 @@ use Rattle.vp_search.proofs.outward.search_outwards.Goals as goal
 
 pub loop-d-preserved : goal.loop-d-preserved
 loop-d-preserved c =
-    let b = c.args.block.now in let w = c.args.window.now in let r = c.args.range in let d = c.loop-d.d in
+    let b = c.args.block.now in let w = c.args.window.now in let r = c.args.scope.range in let d = c.loop-d.d in
     let f : Found = c.loop-d.progress.best in let g : Found = c.consider_next-progress.result.best in let h : Found = c.consider_next-progress-in-loop-d.result.best in
     let m : c.from-middle.result ≡ r = c.from-middle.ensures in
     let one = c.consider_next-progress.ensures in let two = c.consider_next-progress-in-loop-d.ensures in
@@ -27,16 +27,15 @@ loop-d-preserved c =
       ];
     }
 
-pub returns-then-is_best_beyond-clause-least : goal.returns-then-is_best_beyond-clause-least
-returns-then-is_best_beyond-clause-least c =
-    let r = c.args.range in
-    least_within r c.loop-d.d (window_cost c.args.block.now c.args.window.now r) c.loop-d.progress.best c.loop-d.invariant.kept c.loop-d.invariant.seen
+pub returns-then-is_best_beyond : goal.returns-then-is_best_beyond
+returns-then-is_best_beyond c =
+    least_within c.args.scope c.loop-d.d (window_cost c.args.block.now c.args.window.now c.args.scope.range) c.loop-d.progress.best c.loop-d.invariant.kept c.loop-d.invariant.seen
     (c.is_best_beyond.ensures c.if-is_best_beyond.true)
 
-pub returns-clause-least : goal.returns-clause-least
-returns-clause-least c =
-    let r = c.args.range in
+pub returns : goal.returns
+returns c =
+    let r = c.args.scope.range in
     let m : c.from-middle.result ≡ r = c.from-middle.ensures in
     let t = c.loop-d-test.false in
-    least_of_all r (window_cost c.args.block.now c.args.window.now r) c.loop-d.progress.best c.loop-d.invariant.kept
+    least_of_all c.args.scope (window_cost c.args.block.now c.args.window.now r) c.loop-d.progress.best c.loop-d.invariant.kept
     (λ i j high wide. c.loop-d.invariant.seen i j (omega arith) (omega arith) wide)

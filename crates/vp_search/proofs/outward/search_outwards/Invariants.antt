@@ -5,7 +5,7 @@ use Rattle.vp_search.proofs.outward.search_outwards.Given as goal
 
 abbrev pub invariant-loop-d : goal.invariant-loop-d
 invariant-loop-d l = record {
-  kept : IsFoundInWindow l.range (window_cost l.block l.window l.range) l.progress.best;
-  seen : (i j : ℕ) → l.range ≤ i + l.d → i ≤ l.range + l.d → j ≤ 2 * l.range
-      → IsNoWorse l.progress.best.cost l.progress.best.vector (window_cost l.block l.window l.range (vector_at l.range i j)) (vector_at l.range i j);
+  kept : IsFoundInWindow l.scope (window_cost l.block l.window l.scope.range) l.progress.best;
+  seen : (i j : ℕ) → l.scope.range ≤ i + l.d → i ≤ l.scope.range + l.d → j ≤ 2 * l.scope.range
+      → IsNoWorse l.progress.best.cost l.progress.best.vector (window_cost l.block l.window l.scope.range (vector_at l.scope.range i j)) (vector_at l.scope.range i j);
 }

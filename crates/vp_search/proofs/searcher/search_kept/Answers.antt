@@ -1,53 +1,69 @@
 use Rattle.std.proofs.Common.{◌≡◌, ◌≤◌, ◌<◌, List, ℕ, ◌+◌, ◌-◌, ◌*◌, length, min, subst, sym, arith, rules}
 use borrow.Rule.Slice.PartMut.{put_mid, mid_of}
 use Rattle.vp_base.specs.declared.place.Place.{Place}
+use Rattle.vp_search.specs.declared.vector.WholeVector.{WholeVector}
+use Rattle.vp_search.specs.declared.vector.Found.{Found}
+use Rattle.vp_search.specs.declared.vector.Scope.{Scope}
+use Rattle.vp_search.specs.Least.{IsLeast}
+use Rattle.vp_search.specs.Window.{window_cost, IsBestBelow}
 use Rattle.vp_search.specs.Coarse.{AreCoarse}
 use Rattle.vp_search.specs.Kept.{AreKept}
-use Rattle.vp_search.proofs.WindowLemmas.{best_whole}
+use Rattle.vp_search.proofs.WindowLemmas.{best_below}
 use Rattle.vp_search.proofs.SquareLemmas.{kept_summed, summed_kept}
 use Rattle.vp_search.proofs.CoarseLemmas.{part_coarse, whole_coarse}
 use Rattle.vp_search.proofs.searcher.search_kept.Goals as goal
 
-pub returns-in-Some-clause-cost : goal.returns-in-Some-clause-cost
-returns-in-Some-clause-cost c =
-    (best_whole c.args.block.now c.cut_window.new.window c.args.view.reference.now c.args.view.place c.args.view.range c.in-Some.best c.cut_window.ensures c.centre_of-centre.ensures.bytes
-    c.in-Some.ensures.cost c.in-Some.ensures.least).cost
+-- what is found without a limit
+found : (scope : Scope) (cost : WholeVector → ℕ) (best : Found) → best.cost ≡ cost best.vector → IsLeast scope.range cost best.vector → IsBestBelow scope cost best
+found scope cost best known least = record {
+  known = λ _. known;
+  least = λ _. least;
+  over = λ v near. let l = (least.least v near).by_cost in omega arith;
+}
 
-pub returns-in-Some-clause-least : goal.returns-in-Some-clause-least
-returns-in-Some-clause-least c =
-    (best_whole c.args.block.now c.cut_window.new.window c.args.view.reference.now c.args.view.place c.args.view.range c.in-Some.best c.cut_window.ensures c.centre_of-centre.ensures.bytes
-    c.in-Some.ensures.cost c.in-Some.ensures.least).least
+pub consider-requires-clause-best : goal.consider-requires-clause-best
+consider-requires-clause-best c = record { near = c.centre_of-centre.ensures.near; known = λ _. c.centre_of-centre.ensures.known }
 
-pub returns-in-Some-clause-predicted : goal.returns-in-Some-clause-predicted
-returns-in-Some-clause-predicted c =
-    (best_whole c.args.block.now c.cut_window.new.window c.args.view.reference.now c.args.view.place c.args.view.range c.in-Some.best c.cut_window.ensures c.centre_of-centre.ensures.bytes
-    c.in-Some.ensures.cost c.in-Some.ensures.least).predicted
+pub search_unbounded-found-requires-clause-known : goal.search_unbounded-found-requires-clause-known
+search_unbounded-found-requires-clause-known c =
+    c.limited-first.ensures.kept (window_cost c.args.block.now c.cut_window.new.window c.args.view.scope.range) c.consider.ensures.kept
 
-pub returns-then-unbounded-gt0-clause-cost : goal.returns-then-unbounded-gt0-clause-cost
-returns-then-unbounded-gt0-clause-cost c =
-    (best_whole c.args.block.now c.cut_window.new.window c.args.view.reference.now c.args.view.place c.args.view.range c.search_unbounded-found.result c.cut_window.ensures c.centre_of-centre.ensures.bytes
-    c.search_unbounded-found.ensures.cost c.search_unbounded-found.ensures.least).cost
+pub search_summed-progress-requires-clause-known : goal.search_summed-progress-requires-clause-known
+search_summed-progress-requires-clause-known c =
+    c.limited-first.ensures.kept (window_cost c.args.block.now c.cut_window.new.window c.args.view.scope.range) c.consider.ensures.kept
 
-pub returns-then-unbounded-gt0-clause-least : goal.returns-then-unbounded-gt0-clause-least
-returns-then-unbounded-gt0-clause-least c =
-    (best_whole c.args.block.now c.cut_window.new.window c.args.view.reference.now c.args.view.place c.args.view.range c.search_unbounded-found.result c.cut_window.ensures c.centre_of-centre.ensures.bytes
-    c.search_unbounded-found.ensures.cost c.search_unbounded-found.ensures.least).least
+pub returns-in-Some-clause-chosen : goal.returns-in-Some-clause-chosen
+returns-in-Some-clause-chosen c =
+    best_below c.args.block.now c.cut_window.new.window c.args.view.reference.now c.args.view.place c.args.view.scope c.in-Some.best c.cut_window.ensures c.centre_of-centre.ensures.bytes
+    (found c.args.view.scope (window_cost c.args.block.now c.cut_window.new.window c.args.view.scope.range) c.in-Some.best c.in-Some.ensures.cost c.in-Some.ensures.least)
 
-pub returns-then-unbounded-gt0-clause-predicted : goal.returns-then-unbounded-gt0-clause-predicted
-returns-then-unbounded-gt0-clause-predicted c =
-    (best_whole c.args.block.now c.cut_window.new.window c.args.view.reference.now c.args.view.place c.args.view.range c.search_unbounded-found.result c.cut_window.ensures c.centre_of-centre.ensures.bytes
-    c.search_unbounded-found.ensures.cost c.search_unbounded-found.ensures.least).predicted
+pub returns-in-Some-clause-bound : goal.returns-in-Some-clause-bound
+returns-in-Some-clause-bound c =
+    let is = (found c.args.view.scope (window_cost c.args.block.now c.cut_window.new.window c.args.view.scope.range) c.in-Some.best c.in-Some.ensures.cost c.in-Some.ensures.least) in
+    let low = is.over c.centre_of-centre.result.vector c.centre_of-centre.ensures.near in
+    omega (arith, low, c.centre_of-centre.ensures.known, c.centre_of-centre.ensures.bound)
+
+pub returns-then-unbounded-gt0-clause-chosen : goal.returns-then-unbounded-gt0-clause-chosen
+returns-then-unbounded-gt0-clause-chosen c =
+    best_below c.args.block.now c.cut_window.new.window c.args.view.reference.now c.args.view.place c.args.view.scope c.search_unbounded-found.result c.cut_window.ensures c.centre_of-centre.ensures.bytes
+    c.search_unbounded-found.ensures
+
+pub returns-then-unbounded-gt0-clause-bound : goal.returns-then-unbounded-gt0-clause-bound
+returns-then-unbounded-gt0-clause-bound c =
+    let is = c.search_unbounded-found.ensures in
+    let low = is.over c.centre_of-centre.result.vector c.centre_of-centre.ensures.near in
+    omega (arith, low, c.centre_of-centre.ensures.known, c.centre_of-centre.ensures.bound)
 
 pub fill_sums-requires-clause-first : goal.fill_sums-requires-clause-first
-fill_sums-requires-clause-first c = (c.moved_to-moved.ensures.kept c.args.view.reference.now c.args.view.range c.args.sums.now c.requires.known).few
+fill_sums-requires-clause-first c = (c.moved_to-moved.ensures.kept c.args.view.reference.now c.args.view.scope.range c.args.sums.now c.requires.known).few
 
 pub fill_sums-requires-clause-known : goal.fill_sums-requires-clause-known
 fill_sums-requires-clause-known c =
     let small = c.requires.range in
     let room = c.moved_to-moved.ensures.start in
     let size = c.requires.sums_size in
-    kept_summed c.cut_window.new.window c.args.sums.now c.args.view.reference.now c.args.view.place c.args.view.range (length c.args.sums.now - c.moved_to-moved.result.start) c.moved_to-moved.result
-    (c.moved_to-moved.ensures.kept c.args.view.reference.now c.args.view.range c.args.sums.now c.requires.known)
+    kept_summed c.cut_window.new.window c.args.sums.now c.args.view.reference.now c.args.view.place c.args.view.scope.range (length c.args.sums.now - c.moved_to-moved.result.start) c.moved_to-moved.result
+    (c.moved_to-moved.ensures.kept c.args.view.reference.now c.args.view.scope.range c.args.sums.now c.requires.known)
     c.moved_to-moved.ensures.place c.cut_window.ensures (omega arith) small
 
 -- the coarse sums of the part that is lent, if there are any
@@ -74,14 +90,14 @@ pub returns-clause-kept : goal.returns-clause-kept
 returns-clause-kept c =
     let small = c.requires.range in
     let room = c.moved_to-moved.ensures.start in
-    let r : c.from.result ≡ c.args.view.range = c.from.ensures in
+    let r : c.from.result ≡ c.args.view.scope.range = c.from.ensures in
     let size = c.requires.sums_size in
     let start : ℕ = c.moved_to-moved.result.start in
     let n : ℕ = length c.args.sums.now - start in
     let long : length c.fill_sums.new.sums ≡ n = search rules in
-    subst (λ (q : Place). AreKept c.args.view.reference.now c.args.view.range (record { place = q; columns = 2 * c.from.result + 9; start = start }) (put_mid start n c.args.sums.now c.fill_sums.new.sums))
+    subst (λ (q : Place). AreKept c.args.view.reference.now c.args.view.scope.range (record { place = q; columns = 2 * c.from.result + 9; start = start }) (put_mid start n c.args.sums.now c.fill_sums.new.sums))
     (sym c.moved_to-moved.ensures.place)
-    (summed_kept c.cut_window.new.window c.args.sums.now c.fill_sums.new.sums c.args.view.reference.now c.args.view.place c.args.view.range (2 * c.from.result + 9) start n
+    (summed_kept c.cut_window.new.window c.args.sums.now c.fill_sums.new.sums c.args.view.reference.now c.args.view.place c.args.view.scope.range (2 * c.from.result + 9) start n
     c.fill_sums.ensures.sums c.cut_window.ensures room (omega arith) (omega arith) long (omega arith) small)
 
 pub returns-clause-coarse : goal.returns-clause-coarse
@@ -105,17 +121,13 @@ returns-clause-coarse c some =
     (c.fill_sums.ensures.coarse (omega arith) n (lent c.args.sums.now c.args.coarse.now start first (c.requires.coarse some) wide (omega arith) least))
     (omega arith) (omega arith) (omega arith) long (omega arith)))
 
-pub returns-clause-cost : goal.returns-clause-cost
-returns-clause-cost c =
-    (best_whole c.args.block.now c.cut_window.new.window c.args.view.reference.now c.args.view.place c.args.view.range c.search_summed-progress.result.best c.cut_window.ensures c.centre_of-centre.ensures.bytes
-    c.search_summed-progress.ensures.cost c.search_summed-progress.ensures.least).cost
+pub returns-clause-chosen : goal.returns-clause-chosen
+returns-clause-chosen c =
+    best_below c.args.block.now c.cut_window.new.window c.args.view.reference.now c.args.view.place c.args.view.scope c.search_summed-progress.result.best c.cut_window.ensures c.centre_of-centre.ensures.bytes
+    c.search_summed-progress.ensures
 
-pub returns-clause-least : goal.returns-clause-least
-returns-clause-least c =
-    (best_whole c.args.block.now c.cut_window.new.window c.args.view.reference.now c.args.view.place c.args.view.range c.search_summed-progress.result.best c.cut_window.ensures c.centre_of-centre.ensures.bytes
-    c.search_summed-progress.ensures.cost c.search_summed-progress.ensures.least).least
-
-pub returns-clause-predicted : goal.returns-clause-predicted
-returns-clause-predicted c =
-    (best_whole c.args.block.now c.cut_window.new.window c.args.view.reference.now c.args.view.place c.args.view.range c.search_summed-progress.result.best c.cut_window.ensures c.centre_of-centre.ensures.bytes
-    c.search_summed-progress.ensures.cost c.search_summed-progress.ensures.least).predicted
+pub returns-clause-bound : goal.returns-clause-bound
+returns-clause-bound c =
+    let is = c.search_summed-progress.ensures in
+    let low = is.over c.centre_of-centre.result.vector c.centre_of-centre.ensures.near in
+    omega (arith, low, c.centre_of-centre.ensures.known, c.centre_of-centre.ensures.bound)

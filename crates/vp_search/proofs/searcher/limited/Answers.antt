@@ -1,0 +1,11 @@
+use Rattle.std.proofs.Common.{◌≡◌, ◌∙◌, ◌<◌, min, arith}
+use Rattle.vp_search.proofs.searcher.limited.Goals as goal
+
+pub returns-clause-kept : goal.returns-clause-kept
+returns-clause-kept c cost found = record {
+  near = found.near;
+  known = λ below.
+      let e = c.min.ensures in
+      let same : c.min.result ≡ c.args.found.cost = omega arith in
+      same ∙ found.known (omega arith);
+}
