@@ -1,10 +1,13 @@
-//! Tests of the readers and writers of files: worked examples of their public functions. This crate contains only tests.
+//! Tests of the readers and writers of files: worked examples of their public functions. This crate contains only
+//! tests.
 #![tactic(auto)]
 
 #[cfg(test)]
 mod check;
 #[cfg(test)]
 mod ivf;
+#[cfg(test)]
+mod scale;
 #[cfg(test)]
 mod webp;
 #[cfg(test)]

@@ -5,7 +5,7 @@ use crate::files::{HIDDEN, INTER, KEY, append_runs};
 use std::alloc::{AllocError, Global};
 use std::test::Fail;
 use vp_base::Limits;
-use vp_decode::{Decoder, FrameFacts, Outcome};
+use vp_decode::{Decoder, FrameFacts, OnFault, Outcome};
 use vp_head::PacketFault;
 
 // Decodes a packet by a decoder that goes on after damage. Appends its picture if it shows one.
@@ -228,5 +228,49 @@ fn facts_of_an_inter_frame(rt: HostRuntime) -> Result<(), Fail> {
     equal(&rt, &decoder.frame_facts(&packet), &Ok(ones));
     let cut = Err(PacketFault::PartitionTable);
     equal(&rt, &decoder.frame_facts(&packet[..24]), &cut);
+    Ok(())
+}
+
+// Token partitions of key packets of 17 by 1 pixels, made from random bytes: as many as libvpx 1.12 needs to find the
+// frame complete, after a first partition of 20 zeros. With one byte less it reports damage.
+const WHOLE: [&[u8]; 4] = [
+    &[
+        0x1c, 0x2e, 0x2b, 0xb8, 0x56, 0x9d, 0x80, 0x6c, 0x12, 0x51, 0xdc, 0xc9,
+    ],
+    &[
+        0x29, 0xf8, 0x85, 0x12, 0, 0x4a, 0xf0, 0xbf, 0xa3, 0x0b, 0x8b,
+    ],
+    &[
+        0x82, 0xb7, 0x0e, 0xee, 0x7f, 0x1a, 0x50, 0x39, 0xbe, 0xf0, 0x7e, 0xc2, 0x34, 0x7f, 6,
+    ],
+    &[
+        0x44, 0x20, 0x82, 0x3c, 0xfd, 0xe6, 0xf1, 0xc2, 0x6b, 0x30, 0xf9, 0x0e, 0xc7, 0xdd, 1,
+    ],
+];
+
+// Returns whether the key packet with this token partition is corrupt.
+fn is_corrupt(alloc: Global, tokens: &[u8]) -> Result<bool, AllocError> {
+    let mut packet = Vec::new(alloc);
+    packet.extend_from_slice(&[0x90, 2, 0, 0x9d, 0x01, 0x2a, 17, 0, 1, 0])?;
+    packet.extend_from_slice(&[0; 20])?;
+    packet.extend_from_slice(tokens)?;
+    let mut decoder = Decoder::new(alloc, Limits::usual());
+    Ok(decoder.decode_checked(&packet, OnFault::Keep)?.corrupt)
+}
+
+/// A frame is corrupt if its token partition ends too early, and not with one byte more. It is too if its first
+/// partition has no bytes.
+#[test]
+fn corrupt_frames(rt: HostRuntime) -> Result<(), Fail> {
+    let alloc = rt.alloc();
+    for tokens in &WHOLE {
+        equal(&rt, &is_corrupt(alloc, tokens)?, &false);
+        if let Some((_, cut)) = tokens.split_last() {
+            equal(&rt, &is_corrupt(alloc, cut)?, &true);
+        }
+    }
+    let mut decoder = Decoder::new(alloc, Limits::usual());
+    let empty = decoder.decode_checked(&KEY, OnFault::Forget)?;
+    equal(&rt, &empty.corrupt, &true);
     Ok(())
 }

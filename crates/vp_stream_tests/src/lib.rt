@@ -19,6 +19,8 @@ mod outcomes;
 #[cfg(test)]
 mod refs;
 #[cfg(test)]
+mod still;
+#[cfg(test)]
 mod stream_files;
 #[cfg(test)]
 mod window;

@@ -1,0 +1,65 @@
+//! Tests of vp_scale: pictures made smaller. The expected pixels are numpy's: each plane padded by `pad(mode="edge")`,
+//! the means of its squares, and `floor(mean + 0.5)`.
+
+use crate::check::equal;
+use std::alloc::Global;
+use std::test::Fail;
+use vp_base::{Dim, Limits};
+use vp_scale::{Scale, scaled};
+
+// A picture of 11 by 5 pixels, by chance, with many black and white ones.
+const PIXELS: [u8; 91] = [
+    255, 0, 0, 255, 0, 255, 255, 0, 0, 255, 0, 133, 0, 0, 0, 102, 224, 0, 108, 0, 48, 0, 255, 227,
+    255, 255, 0, 255, 255, 0, 255, 20, 255, 255, 0, 241, 0, 152, 0, 255, 212, 0, 0, 13, 0, 45, 0,
+    255, 0, 255, 0, 0, 0, 0, 194, 255, 137, 255, 255, 255, 0, 9, 0, 0, 0, 46, 55, 104, 255, 0, 255,
+    255, 0, 255, 0, 255, 255, 188, 244, 201, 255, 193, 0, 140, 0, 255, 0, 29, 11, 61, 255,
+];
+
+// Planes of 6 by 3, 3 by 2 and 3 by 2 pixels.
+const HALF: [u8; 30] = [
+    97, 64, 145, 91, 76, 0, 184, 188, 102, 181, 69, 134, 23, 128, 128, 0, 0, 194, 100, 128, 89,
+    180, 128, 128, 178, 176, 143, 128, 20, 158,
+];
+
+// Planes of 3 by 2, 2 by 1 and 2 by 1 pixels.
+const QUARTER: [u8; 10] = [133, 130, 70, 75, 64, 97, 134, 61, 125, 170];
+
+// Planes of 2 by 1, 1 by 1 and 1 by 1 pixels.
+const EIGHTH: [u8; 4] = [100, 107, 103, 144];
+
+/// Returns whether the picture, made smaller, has this size and these pixels.
+fn gives(
+    alloc: Global,
+    scale: Scale,
+    width: u16,
+    height: u16,
+    wanted: &[u8],
+) -> Result<bool, Fail> {
+    let dim = Dim::new(11, 5, &Limits::usual())?;
+    let picture = scaled(alloc, dim, &PIXELS, scale)?;
+    let found = picture.crop_i420(alloc)?;
+    Ok(picture.dim().w == width && picture.dim().h == height && found.as_slice() == wanted)
+}
+
+#[test]
+fn planes_are_scaled_alike(rt: HostRuntime) -> Result<(), Fail> {
+    assert!(rt; gives(rt.alloc(), Scale::Half, 6, 3, &HALF)?);
+    assert!(rt; gives(rt.alloc(), Scale::Quarter, 3, 2, &QUARTER)?);
+    Ok(())
+}
+
+#[test]
+fn edges_are_repeated(rt: HostRuntime) -> Result<(), Fail> {
+    assert!(rt; gives(rt.alloc(), Scale::Eighth, 2, 1, &EIGHTH)?);
+    assert!(rt; gives(rt.alloc(), Scale::Full, 11, 5, &PIXELS)?);
+    Ok(())
+}
+
+#[test]
+fn sizes_are_rounded_up(rt: HostRuntime) -> Result<(), Fail> {
+    let dim = Dim::new(17, 1, &Limits::usual())?;
+    let size = Scale::Eighth.size(dim);
+    equal(&rt, &size.w, &3);
+    equal(&rt, &size.h, &1);
+    Ok(())
+}

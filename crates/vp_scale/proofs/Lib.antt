@@ -1,0 +1,4 @@
+mod RunLemmas
+mod SideLemmas
+mod PictureLemmas
+mod FullLemmas

@@ -1,0 +1,4 @@
+pub mod Scale
+pub mod Planes
+pub mod Means
+pub mod Runs

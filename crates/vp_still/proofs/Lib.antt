@@ -1,0 +1,2 @@
+pub mod PixelLemmas
+pub mod StillLemmas

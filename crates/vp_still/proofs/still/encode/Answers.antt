@@ -1,0 +1,12 @@
+use Rattle.std.proofs.Common.{◌∙◌, ap}
+use Rattle.vp_encode.specs.Encoded.{initial_encoder}
+use Rattle.vp_still.proofs.StillLemmas.{key_frame}
+use Rattle.vp_still.proofs.still.encode.Goals as goal
+
+pub returns-in-Ok-encode : goal.returns-in-Ok-encode
+returns-in-Ok-encode c =
+    let e = c.in-Ok-encode.ensures in
+    key_frame c.args.scale c.args.qi c.args.dim.w c.args.dim.h c.args.pixels.now c.in_ok-source.source c.size.result c.in-Ok.encoder c.encode.new.self c.in-Ok-encode.encoded
+    c.size.ensures.width c.size.ensures.height c.in_ok-source.ensures.shown
+    (c.in-Ok.ensures.ok ∙ ap (initial_encoder c.size.result) c.settings.ensures)
+    e.decoded e.choice e.error e.dim e.settings e.since

@@ -1,0 +1,3 @@
+pub mod Still
+pub mod Found
+pub mod Shown
