@@ -1,0 +1,84 @@
+"""Millions of instructions by stage of decoding, in `vp8` beside libvpx: for decode_speed --stages. Not proved.
+
+Callgrind counts them. libvpx is Debian's source, built with symbols. A row of callgrind belongs to the first stage
+whose words its file or function has."""
+import collections
+import pathlib
+import re
+import subprocess
+
+STAGES = ("tokens", "loop filter", "modes, vectors, header, row loop", "inter prediction", "intra prediction",
+          "residue", "memset, memcpy", "output", "else", "all")
+TOKENS, FILTER, MODES, INTER, INTRA, RESIDUE, MEMORY, OUTPUT, ELSE, ALL = STAGES
+# What the C library and the loader do. A copy inside `fwrite` is output too.
+COMMON = (
+    (OUTPUT, r"fwrite|fileops|genops|_IO_|libioP|iofwrite|mempcpy|__write"),
+    (MEMORY, r"memset|memcpy|memmove"),
+    (ELSE, r"/elf/|malloc|/stdlib/|/string/|strlen|strcmp|getenv"),
+)
+LIBVPX = (
+    (TOKENS, r"detokenize|GetCoeffs|decode_mb_tokens|bool_decoder_fill|reset_mb_tokens"),
+    (FILTER, r"loop_?filter"),
+    (RESIDUE, r"idct|dequant|walsh"),
+    (INTRA, r"reconintra|intrapred|intra4x4|intra_prediction"),
+    (INTER, r"subpixel|sixtap|bilinear|reconinter|build_inter|extend|recon_(mmx|sse2)|copy_mem"),
+    (MODES, r"vp8/|onyxd|dboolhuff|treereader"),
+    (OUTPUT, r"vpxdec|ivfdec|md5|tools_common|vpx_image|vpx_decoder"),
+)
+# Crates of the program, and modules of vp_recon.
+OURS = (
+    (TOKENS, r"vp_tokens"),
+    (FILTER, r"vp_loop"),
+    (INTER, r"vp_inter|vp_recon.*(inter|moved)"),
+    (INTRA, r"vp_intra|vp_recon.*intra"),
+    (RESIDUE, r"vp_transform|vp_quant|vp_recon"),
+    (MODES, r"vp_modes|vp_motion|vp_head|vp_bool|vp_tree|vp_decode|vp_refs"),
+    (OUTPUT, r"vp_"),
+)
+
+
+def run(words, folder):
+    """Runs a command, and stops with its last words if it fails."""
+    done = subprocess.run(words, cwd=folder, capture_output=True, text=True)
+    if done.returncode:
+        raise SystemExit(f"{' '.join(map(str, words))}: {(done.stdout + done.stderr)[-600:]}")
+
+
+def build_libvpx(folder):
+    """Builds vpxdec with symbols from Debian's source, with VP8's decoder alone; a minute."""
+    run(["apt-get", "source", "libvpx"], folder)
+    source, built = next(it for it in folder.glob("libvpx-*") if it.is_dir()), folder / "built"
+    built.mkdir()
+    without = ["vp9", "vp8-encoder", "unit-tests", "docs", "webm-io"]
+    run([source / "configure", "--enable-pic", "--enable-debug", *(f"--disable-{it}" for it in without)], built)
+    run(["make"], built)
+    return built
+
+
+def stages(command, rules, folder):
+    """The instructions of a run by stage."""
+    profile = pathlib.Path(folder, "callgrind")
+    run(["valgrind", "--tool=callgrind", f"--callgrind-out-file={profile}", *command], folder)
+    annotate = ["callgrind_annotate", "--threshold=100", "--auto=no", profile]
+    said = subprocess.run(annotate, capture_output=True, text=True)
+    sums = collections.Counter()
+    for line in said.stdout.splitlines():
+        found = re.match(r"\s*([\d,]+) \([ \d.]+%\)\s+(.*)", line)
+        if found:
+            count, name = int(found[1].replace(",", "")), found[2]
+            every = ((ALL, "^PROGRAM TOTALS"), *COMMON, *rules)
+            sums[next((stage for stage, words in every if re.search(words, name)), ELSE)] += count
+    return sums
+
+
+def table(streams, libvpx, folder):
+    """Prints the table, for streams with a name, the command of vp8 and that of vpxdec. The folder libvpx has a vpxdec
+    with symbols."""
+    found = {name: (stages(ours, OURS, folder), stages([libvpx / "vpxdec", *theirs[1:]], LIBVPX, folder))
+             for name, ours, theirs in streams}
+    print("| stage | " + " | ".join(f"{name}: vp8 | libvpx" for name in found) + " | ratio of the sums |")
+    print("|---" * (2 * len(found) + 2) + "|")
+    for stage in STAGES:
+        cells = [f"{counts[stage] / 1e6:.0f}" for pair in found.values() for counts in pair]
+        ours, theirs = (sum(pair[k][stage] for pair in found.values()) for k in (0, 1))
+        print(f"| {stage} | " + " | ".join(cells) + f" | {ours / max(theirs, 1):.2f} |")
