@@ -63,8 +63,8 @@ impl From<AllocError> for ManyFault {
     }
 }
 
-/// Feeds the files, unless they are followed, and serves connections until the given number was served, which by default
-/// is no end. Returns whether no followed file had a fault; such faults are printed on `errors`.
+/// Feeds the files, unless they are followed, and serves connections until the given number was served, which by
+/// default is no end. Returns whether no followed file had a fault; such faults are printed on `errors`.
 pub(crate) fn serve_many<
     H: Files + AllocGlobal + Clock + Net<Stream = TcpStream, Listener = TcpListener>,
     R: Read,

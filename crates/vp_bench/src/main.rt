@@ -1,8 +1,8 @@
 //! The benchmark: jobs that users of the libraries wait for. Each prints one digest of all its results.
 //!
 //! `decode FILE..` decodes files, and `film FILE COUNT` encodes the first pictures of one; `awkward`, `list`, `scrub`,
-//! `play`, `play-plain`, `record` and `archive`, each with SEED COUNT, make their input from the number SEED, as much of it
-//! as COUNT says.
+//! `play`, `play-plain`, `record` and `archive`, each with SEED COUNT, make their input from the number SEED, as much
+//! of it as COUNT says.
 #![tactic(auto)]
 
 mod decoding;

@@ -157,8 +157,8 @@ pub(crate) fn scrub(
     Ok(ask_around(alloc, &mut hub, random, count, digest)?)
 }
 
-/// Makes two files of `count` packets with one key packet each, and requests the pictures of the first one in order, and
-/// then back in steps of ten, from a hub with so many cursors.
+/// Makes two files of `count` packets with one key packet each, and requests the pictures of the first one in order,
+/// and then back in steps of ten, from a hub with so many cursors.
 pub(crate) fn play(
     alloc: Global,
     random: &mut Random,

@@ -1,6 +1,6 @@
 //! Makes IVF files from a number. The headers of the packets are written bool by bool; the data of macroblocks and the
-//! tokens are pseudorandom bytes, which read as modes, vectors and coefficients that occur as often as the probabilities
-//! of the header say (RFC 6386, chapters 7, 9 and 19).
+//! tokens are pseudorandom bytes, which read as modes, vectors and coefficients that occur as often as the
+//! probabilities of the header say (RFC 6386, chapters 7, 9 and 19).
 
 ghost use Rattle.std.specs.Prelude.{◌<◌, ◌≤◌, ◌^◌};
 

@@ -136,8 +136,8 @@ fn served(
     (end, writer.into_inner().into_inner().into_bytes())
 }
 
-/// Returns whether each of the sixteen writes of 928 bytes can fail, after those before it. Each response of 464 bytes is
-/// written by itself, in eight writes.
+/// Returns whether each of the sixteen writes of 928 bytes can fail, after those before it. Each response of 464 bytes
+/// is written by itself, in eight writes.
 fn fails_at_each_write(alloc: Global, hub: &mut Hub, whole: &[u8]) -> bool {
     for writes in 0..16usize {
         let length = 464 * (writes / 8) + 64 * (writes % 8);

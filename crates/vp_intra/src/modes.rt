@@ -87,8 +87,8 @@ fn saturating_sum(x: u8x16, y: u8x16) -> u8x16
     x.saturating_add(y)
 }
 
-/// Left plus above minus corner, clamped, lane by lane. The positive part of left minus corner is added and the negative
-/// part is subtracted, both with saturation. One of the two is 0.
+/// Left plus above minus corner, clamped, lane by lane. The positive part of left minus corner is added and the
+/// negative part is subtracted, both with saturation. One of the two is 0.
 fn clamped(left: u8x16, above: u8x16, corner: u8x16) -> u8x16
     ensures { result ≡ first 16 (λ j. clamped_pixel (slice_index left j) (slice_index above j) (slice_index corner j)) }
 {

@@ -59,8 +59,8 @@ impl PacketReader {
         self.file.head()
     }
 
-    /// Reads until the next packet is whole, and returns it, or the file's end or fault. Each piece is read into `buffer`,
-    /// whose contents before and after don't matter.
+    /// Reads until the next packet is whole, and returns it, or the file's end or fault. Each piece is read into
+    /// `buffer`, whose contents before and after don't matter.
     pub(crate) fn next<R: Read>(
         &mut self,
         reader: &mut Counted<R>,

@@ -27,8 +27,8 @@ pub struct PictureWriter {
     alloc: Global,
     form: Form,
     size: Option<Dim>,
-    /// Memory for the pixels of the last picture, if that was written. It is used again for the next picture of the same
-    /// size, and freed where no picture is written.
+    /// Memory for the pixels of the last picture, if that was written. It is used again for the next picture of the
+    /// same size, and freed where no picture is written.
     text: Vec<u8>,
 }
 
@@ -54,8 +54,8 @@ impl PictureWriter {
         }
     }
 
-    /// Writes the picture that a decoder shows. If it shows none, the memory for the last picture is freed. `head` is the
-    /// file's head.
+    /// Writes the picture that a decoder shows. If it shows none, the memory for the last picture is freed. `head` is
+    /// the file's head.
     pub(crate) fn write_shown<W: Write>(
         &mut self,
         head: IvfHead,
