@@ -1,6 +1,7 @@
 //! A growing IVF file, all packets of which are kept.
 
 ghost use Rattle.std.specs.Prelude.{◌≡◌, ◌≢◌, ◌<◌, ◌≤◌, ◌+◌, ◌^◌, length, None, Some, Err, IfOk, OnOk, OnErr};
+ghost use Rattle.std.specs.Prelude.{option_map, slice_get};
 ghost use Rattle.vp_ivf.specs.declared.fault.FileFault.{FileFault};
 ghost use Rattle.vp_ivf.specs.Reader.{answer_by, finish_answer, refusal_at};
 ghost use Rattle.vp_stream.specs.Answers.{reading_of};
@@ -140,6 +141,15 @@ impl Stream {
         ensures limit { result ≤ self.now.limits.packets }
     {
         self.packets.len() as u32
+    }
+
+    /// Returns packet `n`, counted from 0, if the stream has it.
+    pub fn packet(&self, n: u32) -> Option<&Packet>
+        ensures value { option_map (λ p. p.now) result ≡ slice_get self.now.reading.packets n }
+        ensures packets { (h : StreamHistory) → IsStreamAfter self.now h →
+            option_map (λ p. p.now) result ≡ slice_get (packets_of self.now h) n }
+    {
+        self.packets.get(n as usize)
     }
 
     /// Returns the number of the last key packet among packets 0 to `n`. A key packet has three bytes or more, and its
