@@ -32,15 +32,18 @@ use Rattle.vp_args.specs.declared.encode_args.EncodeArgs.{EncodeArgs}
 use Rattle.vp_args.specs.declared.serve_args.ServeArgs.{ServeArgs}
 use Rattle.vp_app.specs.declared.service.ServiceFault.{ServiceFault}
 use Rattle.vp_args.specs.declared.args.Task.{Task}
-use Rattle.vp_args.specs.declared.args.Task.TheVariants.{Decode, DecodeRange, Encode, Info, Serve, ServeMany, Nothing}
+use Rattle.vp_args.specs.declared.args.Task.TheVariants.{Decode, DecodeRange, Encode, Info, Picture, Serve, ServeMany, Nothing}
 use Rattle.vp_args.specs.declared.args.Refusal.{Refusal}
 use Rattle.vp_args.specs.declared.args.Refusal.TheVariants.{Words, Value}
 use Rattle.vp_app.specs.Status.{status_of}
 use Rattle.vp_args.specs.declared.serve_args.ServeManyArgs.{ServeManyArgs}
 use Rattle.vp_app.specs.declared.many.ManyFault.{ManyFault}
+use Rattle.vp_app.specs.declared.picture.MadePicture.{MadePicture}
+use Rattle.vp_app.specs.declared.picture_fault.PictureFault.{PictureFault}
+use Rattle.vp_args.specs.declared.picture_args.PictureArgs.{PictureArgs}
 use Rattle.vp_app.specs.Many.{ServesMany, status_by_many}
-use Rattle.vp_args.specs.Args.{ParsedArgs, decodes, decodes_range, encodes, tells, serves, serves_many, nothing, parsed_args, faults_of, IsForMemory, IsOfValue, IsTaskFor, IsMistake, IsRefusalFor, HasInvalidValue, AreMistaken, IsFlag}
-use Rattle.vp_app.specs.Commands.{DecodesFile, DecodesInto, DecodesRange, DecodesRangeInto, Does, EncodesFile, EncodesInto, IsFileDecoded, IsFileEncoded, IsFileRangeDecoded, IsUnbegun, IsUnopened, IsUsageFault, SurveysFile, SurveysInput, Over, ServesConnections, Side, PrintsSurvey, is_stream, is_y4m, settings_of, status_by_range, status_by_report, status_by_service}
+use Rattle.vp_args.specs.Args.{ParsedArgs, decodes, decodes_range, encodes, tells, pictures, serves, serves_many, nothing, parsed_args, faults_of, IsForMemory, IsOfValue, IsTaskFor, IsMistake, IsRefusalFor, HasInvalidValue, AreMistaken, IsFlag}
+use Rattle.vp_app.specs.Commands.{DecodesFile, DecodesInto, DecodesRange, DecodesRangeInto, Does, EncodesFile, EncodesInto, IsFileDecoded, IsFileEncoded, IsFileRangeDecoded, IsUnbegun, IsUnopened, IsUsageFault, SurveysFile, SurveysInput, Over, ServesConnections, Side, PrintsSurvey, is_stream, is_y4m, settings_of, status_by_picture, status_by_range, status_by_report, status_by_service, IsMadeInput}
 
 pub over_stream : (name : List ℕ) (Work : Side → Side → Type 0) (old new : Side) → is_stream name ≡ true → Work old new → Over name Work old new
 over_stream name Work old new e h =
@@ -157,6 +160,7 @@ does_decode asked plan y4m form from to done status i i' o o' e y h s d = go ask
     go (encodes rows f t) p = absurd p
     go (tells f) p = absurd p
     go (serves r a c t) p = absurd p
+    go (pictures r f g) p = absurd p
     go (serves_many r a t) p = absurd p
     go nothing p = absurd p
 
@@ -171,6 +175,7 @@ does_decode_range asked plan wanted form done status i i' o o' e y h s d = go as
     go (encodes rows f t) p = absurd p
     go (tells f) p = absurd p
     go (serves r a c t) p = absurd p
+    go (pictures r f g) p = absurd p
     go (serves_many r a t) p = absurd p
     go nothing p = absurd p
 
@@ -185,6 +190,7 @@ does_encode asked plan encoding done status i i' o o' e h s d = go asked (subst 
     go (encodes rows f t) p = rw (← p.2, ← p.3) (inl (encoding.options, done, p.0, s, d))
     go (tells f) p = absurd p
     go (serves r a c t) p = absurd p
+    go (pictures r f g) p = absurd p
     go (serves_many r a t) p = absurd p
     go nothing p = absurd p
 
@@ -197,6 +203,22 @@ does_tell asked plan from done status i i' o o' e h d t = go asked (subst (IsTas
     go (decodes_range rows f g) p = absurd p
     go (encodes rows f g) p = absurd p
     go (tells f) p = rw (← p) (inl (done, d, t))
+    go (serves r a c t) p = absurd p
+    go (pictures r f g) p = absurd p
+    go (serves_many r a t) p = absurd p
+    go nothing p = absurd p
+
+pub does_picture : (asked : ParsedArgs) (plan : Task) (wanted : PictureArgs) (done : Result MadePicture PictureFault) (status : ℕ) (i i' o : Side)
+    → plan ≡ Picture wanted → IsTaskFor asked plan → status ≡ status_by_picture done → Over wanted.input.now (IsMadeInput wanted done) i i'
+    → Does asked status i i' o o
+does_picture asked plan wanted done status i i' o e h s d = go asked (subst (IsTaskFor asked) e h)
+  where
+    go : (x : ParsedArgs) → IsTaskFor x (Picture wanted) → Does x status i i' o o
+    go (decodes flag f g) p = absurd p
+    go (decodes_range rows f g) p = absurd p
+    go (encodes rows f g) p = absurd p
+    go (tells f) p = absurd p
+    go (pictures rows f g) p = inl (wanted, done, p, s, subst (λ name. Over name (IsMadeInput wanted done) i i') p.input_is d, refl)
     go (serves r a c t) p = absurd p
     go (serves_many r a t) p = absurd p
     go nothing p = absurd p
@@ -212,6 +234,7 @@ does_serve asked plan service done status i i' o o' e h s d q = go asked (subst 
     go (encodes rows f g) p = absurd p
     go (tells f) p = absurd p
     go (serves rows address connections operands) p = inl (service, done, p, s, d, q)
+    go (pictures r f g) p = absurd p
     go (serves_many r a t) p = absurd p
     go nothing p = absurd p
 
@@ -226,6 +249,7 @@ does_serve_many asked plan many done status i i' o o' e h s d q = go asked (subs
     go (encodes rows f g) p = absurd p
     go (tells f) p = absurd p
     go (serves r a c t) p = absurd p
+    go (pictures r f g) p = absurd p
     go (serves_many rows address operands) p = inl (many, done, p, s, d, q)
     go nothing p = absurd p
 
@@ -238,6 +262,7 @@ does_nothing asked plan i o e h = go asked (subst (IsTaskFor asked) e h)
     go (encodes rows f g) p = absurd p
     go (tells f) p = absurd p
     go (serves r a c t) p = absurd p
+    go (pictures r f g) p = absurd p
     go (serves_many r a t) p = absurd p
     go nothing p = inr (refl, refl, refl)
 
@@ -247,6 +272,7 @@ unbegun (decodes_range rows f g) status i i' o o' h = inr (inl h)
 unbegun (encodes rows f g) status i i' o o' h = inr (inl h)
 unbegun (tells f) status i i' o o' h = inr h
 unbegun (serves r a c t) status i i' o o' h = inr (inl h)
+unbegun (pictures r f g) status i i' o o' h = inr (inl h)
 unbegun (serves_many r a t) status i i' o o' h = inr (inl h)
 unbegun nothing status i i' o o' h = inl h
 
@@ -256,6 +282,7 @@ misused (decodes_range rows f g) status i i' o o' m h = inr (inr (m, h))
 misused (encodes rows f g) status i i' o o' m h = inr (inr (m, h))
 misused (tells f) status i i' o o' m h = absurd m
 misused (serves r a c t) status i i' o o' m h = inr (inr (m, h))
+misused (pictures r f g) status i i' o o' m h = inr (inr (m, h))
 misused (serves_many r a t) status i i' o o' m h = inr (inr (m, h))
 misused nothing status i i' o o' m h = absurd m
 

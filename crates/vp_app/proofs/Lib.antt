@@ -4,3 +4,4 @@ pub mod ListingLemmas
 pub mod ServingLemmas
 pub mod RunLemmas
 pub mod Bridge
+pub mod PictureLemmas

@@ -35,10 +35,18 @@ use Rattle.vp_args.specs.declared.serve_args.ServeArgs.{ServeArgs}
 use Rattle.vp_app.specs.declared.service.ServiceFault.{ServiceFault}
 use Rattle.vp_app.specs.Serving.{IsService}
 use Rattle.vp_app.specs.declared.many.ManyFault.{ManyFault}
+use Rattle.vp_app.specs.declared.picture.MadePicture.{MadePicture}
+use Rattle.vp_app.specs.declared.picture_fault.PictureFault.{PictureFault}
+use Rattle.vp_app.specs.declared.picture_fault.PictureFault.TheVariants.{Find}
+use Rattle.vp_app.specs.Picturing.{IsPictureOf, is_foreign}
+use Rattle.vp_still.specs.Faults.{IsFaultIn}
+use Rattle.vp_still.specs.declared.fault.FindFault.{FindFault}
+use Rattle.vp_still.specs.declared.fault.FindFault.TheVariants as find_fault
+use Rattle.vp_args.specs.declared.picture_args.PictureArgs.{PictureArgs}
 use Rattle.vp_app.specs.Many.{ServesMany, status_by_many}
 use Rattle.vp_args.specs.declared.serve_args.ServeManyArgs.{ServeManyArgs}
-use Rattle.vp_args.specs.Args.{ParsedArgs, decodes, decodes_range, encodes, tells, serves, serves_many, nothing}
-use Rattle.vp_args.specs.Args.{AreMiswanted, AreNoSettings, AreWanted}
+use Rattle.vp_args.specs.Args.{ParsedArgs, decodes, decodes_range, encodes, tells, pictures, serves, serves_many}
+use Rattle.vp_args.specs.Args.{nothing, AreMiswanted, AreNoSettings, AreWanted, IsNoPicture, IsPictureFor}
 use Rattle.vp_args.specs.Args.{AreSettings, IsFlag, IsNoService, IsNoServiceOfMany, IsServiceFor, IsServiceOfMany}
 
 -- ---- standard streams
@@ -264,6 +272,33 @@ DoesInfo from status input input' output output' =
     (done : Result Survey DecodeFault) × SurveysFile from done input input'
     × PrintsSurvey done status output.bytes output'.bytes
 
+-- the file is read to its end, unless it begins as neither an IVF nor a WebP file
+pub record IsFileRead (file : List ℕ) (input input' : Side) : Type 0 where
+  pub consumed : Consumes input.bytes input'.bytes file
+  pub end : is_foreign file ≡ false → IsAtEnd input'.bytes
+
+-- the input gives no picture, for this reason
+abbrev pub IsFoundFault : PictureArgs → FindFault → List ℕ → Type 0
+IsFoundFault p e file =
+    (e ≡ find_fault.Memory) ⊎ ((limits : Limits) × AreLimits 16 limits × IsFaultIn limits file p.packet e)
+
+-- the picture of an open input, or its fault; if it can't be read, nothing is said
+abbrev pub IsMadeInput : PictureArgs → Result MadePicture PictureFault → Side → Side → Type 0
+IsMadeInput p (Ok made) input input' = (file : List ℕ) × IsFileRead file input input' × IsPictureOf p file made
+IsMadeInput p (Err (Find e)) input input' = (file : List ℕ) × IsFileRead file input input' × IsFoundFault p e file
+IsMadeInput p (Err _) input input' = Unit {0}
+
+-- the exit status of `vp8 picture`
+abbrev pub status_by_picture : Result MadePicture PictureFault → ℕ
+status_by_picture (Ok made) = 0
+status_by_picture (Err fault) = 1
+
+-- the effect of `vp8 picture`; the picture is written to a file, about whose bytes nothing is said
+abbrev pub DoesPicture : List Row → List ℕ → List ℕ → ℕ → Side → Side → Side → Side → Type 0
+DoesPicture rows from to status input input' output output' =
+    (p : PictureArgs) × (done : Result MadePicture PictureFault) × IsPictureFor rows from to p
+    × (status ≡ status_by_picture done) × Over from (IsMadeInput p done) input input' × (output' ≡ output)
+
 -- the connections are served; of a fault before that, of files, names, address or memory, nothing is said
 abbrev pub ServesConnections : ServeArgs → Result Bool ServiceFault → Side → Side → Type 0
 ServesConnections service (Ok well) input input' = IsService service.streams.items service.cache service.connections
@@ -304,6 +339,10 @@ Does (encodes rows from to) status input input' output output' =
     × IsUsageFault status input input' output output'))
 Does (tells from) status input input' output output' =
     DoesInfo from status input input' output output' ⊎ IsUnbegun status input input' output output'
+Does (pictures rows from to) status input input' output output' =
+    DoesPicture rows from to status input input' output output'
+    ⊎ (IsUnbegun status input input' output output' ⊎ (IsNoPicture rows to
+    × IsUsageFault status input input' output output'))
 Does (serves rows address connections operands) status input input' output output' =
     DoesServe rows address connections operands status input input' output output'
     ⊎ (IsUnbegun status input input' output output' ⊎ (IsNoService rows connections operands

@@ -3,6 +3,7 @@ pub mod Status
 pub mod FaultLines
 pub mod Listing
 pub mod Feeding
+pub mod Picturing
 pub mod Serving
 pub mod Many
 pub mod Commands

@@ -6,6 +6,8 @@ mod files;
 mod laws;
 mod listing;
 mod many;
+mod picture;
+mod picture_fault;
 mod program;
 mod range;
 mod service;
@@ -17,5 +19,7 @@ pub use laws::{
     what_is_not_begun_changes_nothing,
 };
 pub use many::ManyFault;
+pub use picture::MadePicture;
+pub use picture_fault::PictureFault;
 pub use program::{command, command_line};
 pub use service::{ServiceFault, feed_all, listen, new_hub, serve_each};

@@ -19,6 +19,7 @@ use crate::encode::encode;
 use crate::files::file_fault;
 use crate::listing::{print_faults, print_survey, report_fault};
 use crate::many::{ManyFault, print_fault, serve_many};
+use crate::picture::{report_picture, write_picture};
 use crate::range::{decode_packets, report_packets};
 use crate::service::{ServiceFault, serve};
 use clap::Error;
@@ -48,6 +49,9 @@ use vp_stream::{DecodeFault, Form, Report, Survey, SurveyFault, decode_all, surv
 /// `frames N error E` on `errors`: the number of frames, and the sum of their squared errors.
 ///
 /// `vp8 info IN` prints the contents of an IVF file, including the packets' faults.
+///
+/// `vp8 picture IN OUT` writes the first shown picture of an IVF or WebP file, or with `--packet N` that of packet N, as
+/// WebP, YUV4MPEG2, I420 or PPM by OUT's name, with `--scale K` made smaller. OUT is created once the picture is made.
 ///
 /// `vp8 serve --listen ADDR --connections N NAME=FILE...` serves the pictures of files over HTTP, and ends after N
 /// connections. The fault of a connection is printed, and the next one is served.
@@ -128,6 +132,9 @@ fn run_task<
         ),
         Task::Info { input: from } => {
             report_survey(rt.alloc(), survey_file(rt, from, input), output, errors)
+        }
+        Task::Picture(wanted) => {
+            report_picture(&write_picture(rt, wanted, input), wanted, errors)
         }
         Task::Serve(service) => report_serve(serve(rt, service, input, output, errors), errors),
         Task::ServeMany(many) => report_serve_many(

@@ -5,7 +5,7 @@ use Rattle.clap.specs.Walk.{Row, Text, first_of, one_of}
 use Rattle.clap.specs.Faults.{fault_of}
 use Rattle.clap.specs.Simple.{subcommand_of}
 use Rattle.clap.proofs.OnLiterals.{clap_on_literals}
-use Rattle.vp_args.specs.Args.{parsed_args, parsed_command, asks_many, decodes, decodes_range, faults_of, program, tells, IsOperand}
+use Rattle.vp_args.specs.Args.{parsed_args, parsed_command, asks_many, decodes, decodes_range, faults_of, pictures, program, tells, IsOperand}
 
 info_taken_by : (many : Bool) (name input : Text) → IsOperand input → fault_of (program many) (name ∷ codes "info" ∷ input ∷ []) ≡ []
 unfolding program clap_on_literals
@@ -59,12 +59,46 @@ pub y4m_asked : (name input output : Text) → IsOperand input → IsOperand out
     → parsed_args (name ∷ codes "decode" ∷ codes "--y4m" ∷ input ∷ output ∷ []) ≡ decodes (Some (codes "true")) input output
 y4m_asked name input output h k = y4m_asked_by (asks_many (name ∷ codes "decode" ∷ codes "--y4m" ∷ input ∷ output ∷ [])) name input output h k
 
--- ---- the picture of one packet
+-- ---- a picture as a file
 
 -- the options and operands of a subcommand
 rows_in : Option (Text × List Row) → List Row
 rows_in None = []
 rows_in (Some p) = p.1
+
+abbrev still_words : Text → Text → Text → List Text
+still_words name input output = name ∷ codes "picture" ∷ input ∷ output ∷ []
+
+still_taken_by : (many : Bool) (name input output : Text) → IsOperand input → IsOperand output
+    → fault_of (program many) (still_words name input output) ≡ []
+unfolding program clap_on_literals
+still_taken_by many name input output h k = rw (h.separator, h.long, h.short, k.separator, k.long, k.short) refl
+
+pub still_taken : (name input output : Text) → IsOperand input → IsOperand output
+    → faults_of (still_words name input output) ≡ []
+still_taken name input output h k = still_taken_by (asks_many (still_words name input output)) name input output h k
+
+abbrev still_rows : Bool → Text → Text → Text → List Row
+still_rows many name input output = rows_in (subcommand_of (program many) (still_words name input output))
+
+still_asked_by : (many : Bool) (name input output : Text) → IsOperand input → IsOperand output
+    → (parsed_command (subcommand_of (program many) (still_words name input output)) ≡ pictures (still_rows many name input output) input output)
+    × (first_of (codes "packet") (still_rows many name input output) ≡ None)
+    × (first_of (codes "scale") (still_rows many name input output) ≡ None)
+    × (first_of (codes "qi") (still_rows many name input output) ≡ None)
+unfolding program clap_on_literals rows_in
+still_asked_by many name input output h k =
+    rw (h.separator, h.long, h.short, k.separator, k.long, k.short) (refl, refl, refl, refl)
+
+pub still_asked : (name input output : Text) → IsOperand input → IsOperand output
+    → (rows : List Row) × (parsed_args (still_words name input output) ≡ pictures rows input output) × (first_of (codes "packet") rows ≡ None)
+    × (first_of (codes "scale") rows ≡ None) × (first_of (codes "qi") rows ≡ None)
+still_asked name input output h k =
+    let many = asks_many (still_words name input output) in
+    let asked = still_asked_by many name input output h k in
+    (still_rows many name input output, asked.0, asked.1, asked.2, asked.3)
+
+-- ---- the picture of one packet
 
 abbrev frame_words : Text → Text → Text → Text → List Text
 frame_words name number input output = name ∷ codes "decode" ∷ codes "--frame" ∷ number ∷ input ∷ output ∷ []

@@ -1,8 +1,8 @@
 -- The command line: commands, options and operands in the terms of the crate clap, and the tasks that they select.
 -- Pinned by the tests `usual_settings`, `each_option_sets_its_own` and `served_as_asked`.
-use Rattle.std.specs.Prelude.{◌≡◌, ◌≢◌, ◌⊎◌, ◌<◌, ◌≤◌, ◌==◌, ◌||◌, ◌^◌, ℕ, Bool, true, false, not, List, [], ◌∷◌, length}
-use Rattle.std.specs.Prelude.{map, nat_lt, Option, Some, None, codes, if◌then◌else◌}
-use Rattle.std.specs.List.{after_first, before_first, list_all, list_any, position_or_len}
+use Rattle.std.specs.Prelude.{◌≡◌, ◌≢◌, ◌⊎◌, ◌<◌, ◌≤◌, ◌==◌, ◌||◌, ◌^◌, ℕ, Bool, true, false, not, List, [], ◌∷◌}
+use Rattle.std.specs.Prelude.{length, map, nat_eq, nat_lt, Option, Some, None, codes, if◌then◌else◌}
+use Rattle.std.specs.List.{after_first, before_first, ends_with, list_all, list_any, position_or_len}
 use Rattle.std.specs.Str.{bytes_eq}
 use Rattle.std.specs.Str.Parse.{digits_value, IsNumeral}
 use Rattle.clap.specs.Lexer.{usize_max, long_of, short_of}
@@ -16,19 +16,25 @@ use Rattle.clap.specs.declared.builder.command.Command.TheViews.{out-Command as 
 use Rattle.clap.specs.declared.builder.action.ArgAction.TheVariants.{Set, Append, SetTrue}
 use Rattle.clap.specs.declared.error.kind.ErrorKind.TheVariants.{DisplayHelp, DisplayVersion, OutOfMemory}
 use Rattle.vp_args.specs.declared.encode_args.EncodeOptions.{EncodeOptions}
+use Rattle.vp_scale.specs.declared.scale.Scale.{Scale}
+use Rattle.vp_scale.specs.Scale.{factor_of}
+use Rattle.vp_args.specs.declared.picture_args.StillForm.{StillForm}
+use Rattle.vp_args.specs.declared.picture_args.StillForm.TheVariants.{WebP, Y4m, I420, Ppm}
+use Rattle.vp_args.specs.declared.picture_args.PictureArgs.{PictureArgs}
 use Rattle.vp_args.specs.declared.serve_args.NamedFile.{NamedFile}
 use Rattle.vp_args.specs.declared.serve_args.ServeArgs.{ServeArgs}
 use Rattle.vp_args.specs.declared.serve_args.ServeManyArgs.{ServeManyArgs}
 use Rattle.vp_args.specs.declared.args.Task.{Task}
 use Rattle.vp_args.specs.declared.args.Refusal.{Refusal}
 use Rattle.vp_args.specs.declared.args.Refusal.TheVariants.{Words, Value}
-use Rattle.vp_args.specs.declared.args.Task.TheVariants.{Decode, DecodeRange, Encode, Info, Serve, ServeMany, Nothing}
+use Rattle.vp_args.specs.declared.args.Task.TheVariants.{Decode, DecodeRange, Encode, Info, Picture}
+use Rattle.vp_args.specs.declared.args.Task.TheVariants.{Serve, ServeMany, Nothing}
 
 -- ---- the commands
 
--- an option with a value
+-- an option with a value, which help gives one name
 abbrev pub setting_rule : Text → Rule
-setting_rule name = record (new_rule name) { long = Some name; action = Some Set }
+setting_rule name = record (new_rule name) { long = Some name; action = Some Set; value_names = 1 }
 
 -- a flag
 abbrev pub flag_rule : Text → Rule
@@ -93,6 +99,12 @@ encode_app = with_rules (with_rules (with_rules (new_app (codes "encode")) macro
 abbrev pub info_app : App
 info_app = with_rules (new_app (codes "info")) (operand_rule (codes "IN") ∷ [])
 
+-- vp8 picture [--packet N] [--scale K] [--qi Q] IN OUT
+abbrev pub picture_app : App
+picture_app =
+    with_rules (new_app (codes "picture")) (setting_rule (codes "packet") ∷ setting_rule (codes "scale")
+    ∷ setting_rule (codes "qi") ∷ operand_rule (codes "IN") ∷ operand_rule (codes "OUT") ∷ [])
+
 -- an argument that must be present
 abbrev pub required : Rule → Rule
 required r = record r { required = true }
@@ -106,7 +118,8 @@ abbrev pub service_rules : Bool → List Rule
 service_rules many =
     required (setting_rule (codes "listen")) ∷ required_if (not many) (setting_rule (codes "connections"))
     ∷ setting_rule (codes "cache")
-    ∷ flag_rule (codes "show-address") ∷ []
+    ∷ flag_rule (codes "show-address")
+    ∷ flag_rule (codes "webp") ∷ []
 
 -- its options for many connections at once
 abbrev pub many_rules : Bool → List Rule
@@ -139,8 +152,9 @@ vp8_app = on_top (λ s. record s { has_version = true; disable_help_subcommand =
 
 -- the program's command with its subcommands
 unfoldable pub program : Bool → App
-program many = with_subcommand (with_subcommand
-    (with_subcommand (with_subcommand vp8_app decode_app.top) encode_app.top) info_app.top) (serve_app many).top
+program many = with_subcommand (with_subcommand (with_subcommand
+    (with_subcommand (with_subcommand vp8_app decode_app.top) encode_app.top) info_app.top) picture_app.top)
+    (serve_app many).top
 
 -- the byte after the name of an option, and after the name of a stream
 abbrev pub is_equals : ℕ → Bool
@@ -176,6 +190,8 @@ pub data ParsedArgs : Type 0 where
   -- the options, and the two files
   encodes : List Row → Text → Text → ParsedArgs
   tells : Text → ParsedArgs
+  -- the options, and the two files
+  pictures : List Row → Text → Text → ParsedArgs
   -- the options, the address, the number of connections, and the operands
   serves : List Row → Text → Text → List Text → ParsedArgs
   -- the options, the address, and the operands
@@ -231,9 +247,11 @@ asked_at name rows =
     else (if bytes_eq name (codes "encode") then with_operands (encodes rows) (first_of (codes "IN") rows)
     (first_of (codes "OUT") rows)
     else (if bytes_eq name (codes "info") then with_operand tells (first_of (codes "IN") rows)
+    else (if bytes_eq name (codes "picture") then with_operands (pictures rows) (first_of (codes "IN") rows)
+    (first_of (codes "OUT") rows)
     else (if bytes_eq name (codes "serve")
     then service_of rows (first_of (codes "max-connections") rows)
-    else nothing)))
+    else nothing))))
 
 -- the task, given a subcommand, if there is one
 abbrev pub parsed_command : Option (Text × List Row) → ParsedArgs
@@ -291,6 +309,33 @@ pub record AreSettings (rows : List Row) (s : EncodeOptions) : Type 0 where
   pub subpel : IsFlag (one_of (codes "subpel") rows) s.subpel
   pub partitions : IsNumber (first_of (codes "partitions") rows) 1 s.partitions
 
+-- the packet whose picture is wanted: the one with this number, or the first that shows one
+abbrev pub IsPacket : Option Text → Option ℕ → Type 0
+IsPacket None packet = packet ≡ None
+IsPacket (Some text) None = ⊥
+IsPacket (Some text) (Some number) = IsDecimal text number
+
+-- a file's name has this end
+unfoldable pub has_end : Text → Text → Bool
+has_end name end = ends_with nat_eq name end
+
+-- the form of a picture's file, by the end of its name
+abbrev pub form_by_name : Text → Option StillForm
+form_by_name name =
+    if has_end name (codes ".webp") then Some WebP
+    else (if has_end name (codes ".y4m") then Some Y4m
+    else (if has_end name (codes ".i420") then Some I420
+    else (if has_end name (codes ".ppm") then Some Ppm else None)))
+
+-- the arguments of `picture`
+pub record IsPictureFor (rows : List Row) (from to : Text) (p : PictureArgs) : Type 0 where
+  pub packet_is : IsPacket (first_of (codes "packet") rows) p.packet
+  pub scale_is : IsNumber (first_of (codes "scale") rows) 1 (factor_of p.scale)
+  pub qi_is : IsNumber (first_of (codes "qi") rows) 8 p.qi
+  pub form_is : form_by_name to ≡ Some p.form
+  pub input_is : p.input.now ≡ from
+  pub output_is : p.output.now ≡ to
+
 -- the name and the file in an operand of `serve`, split at its first `=`
 abbrev pub parted : Text → Text × Text
 parted operand = (before_first is_equals operand, after_first is_equals operand)
@@ -312,6 +357,7 @@ pub record IsServiceFor (rows : List Row) (address connections : Text) (operands
   pub connections_are : IsDecimal connections s.connections
   pub cache_is : IsNumber (first_of (codes "cache") rows) 16 s.cache
   pub shows : IsFlag (one_of (codes "show-address") rows) s.show_address
+  pub stills : IsFlag (one_of (codes "webp") rows) s.webp
   pub streams_are : AreNamed operands s.streams.items
 
 -- the file is standard input
@@ -324,6 +370,7 @@ pub record IsServiceOfMany (rows : List Row) (address : Text) (operands : List T
   pub connections_are : IsNumber (first_of (codes "connections") rows) 4294967295 s.service.connections
   pub cache_is : IsNumber (first_of (codes "cache") rows) 16 s.service.cache
   pub shows : IsFlag (one_of (codes "show-address") rows) s.service.show_address
+  pub stills : IsFlag (one_of (codes "webp") rows) s.service.webp
   pub streams_are : AreNamed operands s.service.streams.items
   pub most_are : IsNumber (first_of (codes "max-connections") rows) 64 s.max_connections
   pub timeout_is : IsNumber (first_of (codes "idle-timeout") rows) 30 s.idle_timeout
@@ -345,6 +392,7 @@ IsTaskFor (encodes rows from to) (Encode e) =
     AreSettings rows e.options × IsFlag (one_of (codes "progress") rows) e.progress × (e.input.now ≡ from)
     × (e.output.now ≡ to)
 IsTaskFor (tells from) (Info input) = input.now ≡ from
+IsTaskFor (pictures rows from to) (Picture p) = IsPictureFor rows from to p
 IsTaskFor (serves rows address connections operands) (Serve s) = IsServiceFor rows address connections operands s
 IsTaskFor (serves_many rows address operands) (ServeMany s) = IsServiceOfMany rows address operands s
 IsTaskFor nothing Nothing = Unit {0}
@@ -419,11 +467,23 @@ IsNoServiceOfMany rows operands =
     ⊎ (IsNoCache (first_of (codes "cache") rows)
     ⊎ (list_all is_parted operands ≡ false ⊎ FollowsInput rows operands))))))
 
+-- the option has a value by which no picture's sides are divided
+abbrev pub IsNoScale : Option Text → Type 0
+IsNoScale None = ⊥
+IsNoScale (Some text) = IsNumeral 10 text → (scale : Scale) → digits_value 10 text ≡ factor_of scale → ⊥
+
+-- some value of `picture` is refused, or the name of the written file does not say its form
+abbrev pub IsNoPicture : List Row → Text → Type 0
+IsNoPicture rows to =
+    IsMisnumbered (2 ^ 32) (first_of (codes "packet") rows) ⊎ (IsNoScale (first_of (codes "scale") rows)
+    ⊎ (IsAbove 127 (first_of (codes "qi") rows) ⊎ form_by_name to ≡ None))
+
 -- some value is refused
 abbrev pub HasInvalidValue : ParsedArgs → Type 0
 HasInvalidValue (decodes_range rows from to) =
     AreMiswanted (first_of (codes "frame") rows) (first_of (codes "frames") rows)
 HasInvalidValue (encodes rows from to) = AreNoSettings rows
+HasInvalidValue (pictures rows from to) = IsNoPicture rows to
 HasInvalidValue (serves rows address connections operands) = IsNoService rows connections operands
 HasInvalidValue (serves_many rows address operands) = IsNoServiceOfMany rows operands
 HasInvalidValue _ = ⊥

@@ -30,7 +30,7 @@ is_required many OfMany = many
 -- the rule of a word of this form
 abbrev pub form_rule : Form → Text → Rule
 form_rule Flag name = flag_rule name
-form_rule Setting name = setting_rule name
+form_rule (Setting value) name = setting_rule name
 form_rule Operand name = operand_rule name
 form_rule Operands name = operands_rule name
 

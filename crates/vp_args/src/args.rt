@@ -13,6 +13,8 @@ use crate::decode_args::DecodeRangeArgs;
 use crate::encode_args::{EncodeArgs, EncodeOptions};
 use crate::many_args::{asks_many, serve_many_task};
 use crate::numbers::{ENCODE_NUMBERS, decimal, kept_pictures, numbers};
+use crate::picture_args::PictureArgs;
+use crate::picture_options::picture_task;
 use crate::range_args::decode_task;
 use crate::serve_args::{NamedFile, ServeArgs, ServeManyArgs};
 use crate::words::program;
@@ -36,6 +38,8 @@ pub enum Task<'a> {
     Info {
         input: &'a str,
     },
+    /// Write the picture of a packet to a file.
+    Picture(PictureArgs<'a>),
     /// Serve streams over HTTP.
     Serve(ServeArgs<'a>),
     /// Serve streams over HTTP to many connections at once.
@@ -101,6 +105,7 @@ fn read_matches<'a>(alloc: Global, matches: &ArgMatches<'a>) -> Result<Task<'a>,
         Some(("decode", found)) => decode_task(found),
         Some(("encode", found)) => encode_task(found),
         Some(("info", found)) => Ok(info_task(found)),
+        Some(("picture", found)) => picture_task(found),
         Some(("serve", found)) => serve_task(alloc, found),
         _ => Ok(Task::Nothing),
     }
@@ -237,6 +242,7 @@ fn serve_task_args<'a>(
         connections,
         cache,
         show_address: is_set(found, "show-address"),
+        webp: is_set(found, "webp"),
         streams: named_files(alloc, operands)?,
     }))
 }

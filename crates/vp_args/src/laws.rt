@@ -2,7 +2,7 @@
 
 ghost use Rattle.std.specs.Prelude.{◌≡◌, [], ◌∷◌, List, None, Some, codes};
 ghost use Rattle.clap.specs.Walk.{Row, Text, first_of, one_of};
-ghost use Rattle.vp_args.specs.Args.{parsed_args, decodes, decodes_range, faults_of, tells, IsOperand};
+ghost use Rattle.vp_args.specs.Args.{parsed_args, decodes, decodes_range, faults_of, pictures, tells, IsOperand};
 
 /// `vp8 decode IN OUT` and `vp8 decode --y4m IN OUT` ask for exactly that.
 pub fn decode_words()
@@ -23,6 +23,16 @@ pub fn frame_words()
         × (parsed_args (name ∷ codes "decode" ∷ codes "--frame" ∷ number ∷ input ∷ output ∷ [])
         ≡ decodes_range rows input output) × (first_of (codes "frame") rows ≡ Some number)
         × (first_of (codes "frames") rows ≡ None) × (one_of (codes "y4m") rows ≡ Some (codes "false"))) }
+{}
+
+/// `vp8 picture IN OUT` asks for the first picture that is shown, in its size.
+pub fn picture_words()
+    ensures { (name input output : Text) → IsOperand input → IsOperand output
+        → (faults_of (name ∷ codes "picture" ∷ input ∷ output ∷ []) ≡ [])
+        × ((rows : List Row)
+        × (parsed_args (name ∷ codes "picture" ∷ input ∷ output ∷ []) ≡ pictures rows input output)
+        × (first_of (codes "packet") rows ≡ None) × (first_of (codes "scale") rows ≡ None)
+        × (first_of (codes "qi") rows ≡ None)) }
 {}
 
 /// `vp8 info IN` asks for exactly that.

@@ -94,6 +94,7 @@ fn serve_many_args<'a>(
             connections,
             cache,
             show_address: is_set(found, "show-address"),
+            webp: is_set(found, "webp"),
             streams,
         },
         max_connections,

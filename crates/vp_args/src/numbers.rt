@@ -71,6 +71,15 @@ pub(crate) const ENCODE_NUMBERS: [Number; 7] = [
     },
 ];
 
+/// The numbers of `picture`.
+pub(crate) const PICTURE_NUMBERS: [Number; 1] = [Number {
+    name: "qi",
+    usual: 8,
+    least: 0,
+    most: 127,
+    refusal: "--qi is a number from 0 to 127",
+}];
+
 /// The numbers of `serve` for many connections at once, without the number of cached pictures.
 pub(crate) const SERVE_NUMBERS: [Number; 5] = [
     Number {
@@ -139,8 +148,8 @@ fn number_of(found: &ArgMatches<'_>, option: &Number) -> Result<u32, Refusal>
     Ok(number)
 }
 
-// Returns the 32-bit number of an option, or its default.
-fn count(
+/// Returns the 32-bit number of an option, or its default.
+pub(crate) fn count(
     found: &ArgMatches<'_>,
     option: &str,
     usual: u32,

@@ -22,6 +22,8 @@ pub struct ServeArgs<'a> {
     pub cache: u32,
     /// Whether the address is printed.
     pub show_address: bool,
+    /// Whether pictures are served as WebP files too.
+    pub webp: bool,
     /// The streams.
     pub streams: Vec<NamedFile<'a>>,
     ghost cache_in_range: { 0 < cache × cache ≤ 4096 },

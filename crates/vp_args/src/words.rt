@@ -13,8 +13,8 @@ use std::alloc::{AllocError, Global};
 pub(crate) enum Form {
     /// A flag.
     Flag,
-    /// An option with a value.
-    Setting,
+    /// An option with a value, which help calls so.
+    Setting(&'static str),
     /// An operand.
     Operand,
     /// An operand that takes one value or more.
@@ -49,7 +49,7 @@ pub(crate) struct Part {
 }
 
 /// The program's subcommands.
-const PARTS: [Part; 4] = [
+const PARTS: [Part; 5] = [
     Part {
         name: "decode",
         about: "Decodes an IVF file and writes each shown picture, one after another",
@@ -64,6 +64,11 @@ const PARTS: [Part; 4] = [
         name: "info",
         about: "Lists an IVF file: size, rate, and for each packet its bytes and Shown, Hidden or its fault",
         words: &INFO_WORDS,
+    },
+    Part {
+        name: "picture",
+        about: "Writes one picture of an IVF or WebP file as WebP, or uncompressed, in its size or smaller",
+        words: &PICTURE_WORDS,
     },
     Part {
         name: "serve",
@@ -81,13 +86,13 @@ const DECODE_WORDS: [Word; 5] = [
     },
     Word {
         name: "frame",
-        form: Form::Setting,
+        form: Form::Setting("N"),
         need: Need::Never,
         help: "Writes the picture of packet N alone, counted from 0",
     },
     Word {
         name: "frames",
-        form: Form::Setting,
+        form: Form::Setting("A-B"),
         need: Need::Never,
         help: "Writes the pictures of packets A to B alone, counted from 0",
     },
@@ -108,19 +113,19 @@ const DECODE_WORDS: [Word; 5] = [
 const ENCODE_WORDS: [Word; 12] = [
     Word {
         name: "qi",
-        form: Form::Setting,
+        form: Form::Setting("Q"),
         need: Need::Never,
         help: "The quantiser index, 0 (loses least) to 127 [default: 32]",
     },
     Word {
         name: "filter",
-        form: Form::Setting,
+        form: Form::Setting("LEVEL"),
         need: Need::Never,
         help: "The level of the loop filter, 0 (none) to 63 [default: 16]",
     },
     Word {
         name: "sharpness",
-        form: Form::Setting,
+        form: Form::Setting("N"),
         need: Need::Never,
         help: "The sharpness of the loop filter, 0 to 7 [default: 0]",
     },
@@ -132,19 +137,19 @@ const ENCODE_WORDS: [Word; 12] = [
     },
     Word {
         name: "key-every",
-        form: Form::Setting,
+        form: Form::Setting("N"),
         need: Need::Never,
         help: "Frames from one key frame to the next, at least 1 [default: 64]",
     },
     Word {
         name: "golden-every",
-        form: Form::Setting,
+        form: Form::Setting("N"),
         need: Need::Never,
         help: "Frames from one golden frame to the next; 0: key frames only [default: 0]",
     },
     Word {
         name: "range",
-        form: Form::Setting,
+        form: Form::Setting("PIXELS"),
         need: Need::Never,
         help: "The range of motion vectors in whole pixels, 0 to 64 [default: 16]",
     },
@@ -156,7 +161,7 @@ const ENCODE_WORDS: [Word; 12] = [
     },
     Word {
         name: "partitions",
-        form: Form::Setting,
+        form: Form::Setting("N"),
         need: Need::Never,
         help: "Token partitions of a packet: 1, 2, 4 or 8 [default: 1]",
     },
@@ -187,22 +192,55 @@ const INFO_WORDS: [Word; 1] = [Word {
     help: "The IVF file, or - for standard input",
 }];
 
-const SERVE_WORDS: [Word; 11] = [
+const PICTURE_WORDS: [Word; 5] = [
+    Word {
+        name: "packet",
+        form: Form::Setting("N"),
+        need: Need::Never,
+        help: "The packet whose picture is written, counted from 0 [default: the first that shows one]",
+    },
+    Word {
+        name: "scale",
+        form: Form::Setting("K"),
+        need: Need::Never,
+        help: "What the picture's sides are divided by: 1, 2, 4 or 8 [default: 1]",
+    },
+    Word {
+        name: "qi",
+        form: Form::Setting("Q"),
+        need: Need::Never,
+        help: "The quantiser index of a picture that is encoded anew, 0 (loses least) to 127 [default: 8]",
+    },
+    Word {
+        name: "IN",
+        form: Form::Operand,
+        need: Need::Always,
+        help: "The IVF or WebP file, or - for standard input",
+    },
+    Word {
+        name: "OUT",
+        form: Form::Operand,
+        need: Need::Always,
+        help: "The file of the picture: its name ends in .webp, .y4m, .i420 or .ppm",
+    },
+];
+
+const SERVE_WORDS: [Word; 12] = [
     Word {
         name: "listen",
-        form: Form::Setting,
+        form: Form::Setting("ADDR"),
         need: Need::Always,
         help: "The address and port to listen on, as 127.0.0.1:8080",
     },
     Word {
         name: "connections",
-        form: Form::Setting,
+        form: Form::Setting("N"),
         need: Need::InTurns,
         help: "The number of connections to serve",
     },
     Word {
         name: "cache",
-        form: Form::Setting,
+        form: Form::Setting("N"),
         need: Need::Never,
         help: "The number of decoded pictures to cache, 1 to 4096 [default: 16]",
     },
@@ -213,20 +251,26 @@ const SERVE_WORDS: [Word; 11] = [
         help: "Prints the address and port, which shows the port chosen for port 0",
     },
     Word {
+        name: "webp",
+        form: Form::Flag,
+        need: Need::Never,
+        help: "Serves pictures as WebP files too, at /s/NAME/webp/N, and smaller at /s/NAME/webp/N/2, 4 and 8",
+    },
+    Word {
         name: "max-connections",
-        form: Form::Setting,
+        form: Form::Setting("K"),
         need: Need::OfMany,
         help: "Serves up to this many connections at once, 1 to 64; --connections may then be left out",
     },
     Word {
         name: "idle-timeout",
-        form: Form::Setting,
+        form: Form::Setting("SECONDS"),
         need: Need::Never,
         help: "Seconds after which an idle connection is closed, 1 to 86400 [default: 30]",
     },
     Word {
         name: "cursors",
-        form: Form::Setting,
+        form: Form::Setting("N"),
         need: Need::Never,
         help: "Decoders kept at their places in streams, so that packets asked for in order are decoded once each, \
         0 to 64 [default: 16]",
@@ -239,7 +283,7 @@ const SERVE_WORDS: [Word; 11] = [
     },
     Word {
         name: "poll-interval",
-        form: Form::Setting,
+        form: Form::Setting("MILLISECONDS"),
         need: Need::Never,
         help: "Milliseconds between two polls of the files, 1 to 60000 [default: 100]",
     },
@@ -325,7 +369,10 @@ fn argument<'a>(alloc: Global, many: bool, word: &Word) -> Arg<'a>
         .required(is_required(many, &word.need));
     match word.form {
         Form::Flag => arg.long(word.name).action(ArgAction::SetTrue),
-        Form::Setting => arg.long(word.name).action(ArgAction::Set),
+        Form::Setting(value) => arg
+            .long(word.name)
+            .value_name(value)
+            .action(ArgAction::Set),
         Form::Operand => arg.action(ArgAction::Set),
         Form::Operands => arg.num_args(1..).action(ArgAction::Append),
     }

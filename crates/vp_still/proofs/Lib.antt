@@ -1,2 +1,4 @@
 pub mod PixelLemmas
 pub mod StillLemmas
+pub mod PpmLemmas
+pub mod LawLemmas

@@ -1,5 +1,5 @@
 -- The packet of a file whose picture is wanted, and that picture. Pinned by the test `pictures_by_their_numbers`.
-use Rattle.std.specs.Prelude.{◌≡◌, ◌<◌, ℕ, List, Option, Some, None, Ok, MatchBool, codes, nat_eq, slice_get}
+use Rattle.std.specs.Prelude.{◌≡◌, ◌<◌, ℕ, false, List, Option, Some, None, Ok, MatchBool, codes, nat_eq, slice_get}
 use Rattle.std.specs.List.{starts_with}
 use Rattle.vp_base.specs.declared.limits.Limits.{Limits}
 use Rattle.vp_ivf.specs.declared.packet.Packet.{Packet}
@@ -21,25 +21,27 @@ abbrev pub IsWanted : Limits → List Packet → Option ℕ → ℕ → Type 0
 IsWanted limits packets (Some wanted) number = number ≡ wanted
 IsWanted limits packets None number = (k : ℕ) → k < number → IsUnshown (answer_at limits packets k)
 
--- packet `number` of these shows this picture
+-- packet `number` of these shows this picture; there is no alpha
 pub record IsShownAt (limits : Limits) (packets : List Packet) (f : Found) : Type 0 where
   pub own : Packet
   pub there : slice_get packets f.number ≡ Some own
   pub packet_is : f.packet ≡ own.bytes
   pub picture : answer_at limits packets f.number ≡ Shown f.dim.w f.dim.h f.pixels
+  pub alpha : f.has_alpha ≡ false
 
 -- the packet of an IVF file that is wanted, and its picture
 pub record IsFoundInIvf (limits : Limits) (file : List ℕ) (wanted : Option ℕ) (f : Found) : Type 0 where
   pub shown : IsShownAt limits (reading_of limits file).packets f
   pub wanted_is : IsWanted limits (reading_of limits file).packets wanted f.number
 
--- the packet of a WebP file, and its picture
+-- the packet of a WebP file, its picture, and whether the file has alpha
 pub record IsFoundInWebP (limits : Limits) (file : List ℕ) (f : Found) : Type 0 where
   pub image : StillImage
   pub read : still_image file ≡ Ok image
   pub first : f.number ≡ 0
   pub packet_is : f.packet ≡ image.packet
   pub picture : answer_values (step limits None image.packet).1 ≡ Shown f.dim.w f.dim.h f.pixels
+  pub alpha : f.has_alpha ≡ image.has_alpha
 
 -- the packet of a WebP file has the number 0
 abbrev pub IsFirst : Option ℕ → Type 0

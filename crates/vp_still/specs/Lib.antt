@@ -1,3 +1,7 @@
 pub mod Still
 pub mod Found
+pub mod Faults
+pub mod TooLong
+pub mod Laws
+pub mod Ppm
 pub mod Shown

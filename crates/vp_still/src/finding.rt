@@ -1,7 +1,9 @@
 //! The picture of a file of either kind.
 
-ghost use Rattle.std.specs.Prelude.{IfOk};
+ghost use Rattle.std.specs.Prelude.{◌≡◌, ◌⊎◌, IfOk, IfErr};
+ghost use Rattle.vp_still.specs.declared.fault.FindFault.{FindFault};
 ghost use Rattle.vp_still.specs.Found.{IsFoundIn};
+ghost use Rattle.vp_still.specs.Faults.{IsFaultIn};
 
 use crate::fault::FindFault;
 use crate::found::Found;
@@ -13,14 +15,15 @@ use vp_base::Limits;
 /// Finds a picture of a WebP file, which begins with `RIFF`, or else of an IVF file: that of the packet with this
 /// number, counted from 0, or the first that is shown. A WebP file has one packet.
 ///
-/// Errors: `FindFault`.
+/// Errors: those of `find_in_webp` and `find_in_ivf`. For any other number than 0 of a WebP file, `NoPacket`.
 pub fn find(
     alloc: Global,
     file: &[u8],
     wanted: Option<u32>,
     limits: Limits,
 ) -> Result<Found, FindFault>
-    ensures { IfOk result (IsFoundIn limits file.now wanted) }
+    ensures found { IfOk result (IsFoundIn limits file.now wanted) }
+    ensures fault { IfErr result (λ e. (e ≡ FindFault.Memory) ⊎ IsFaultIn limits file.now wanted e) }
 {
     if !file.starts_with(b"RIFF") {
         return find_in_ivf(alloc, file, wanted, limits);

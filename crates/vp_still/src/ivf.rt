@@ -1,74 +1,47 @@
 //! The picture of an IVF file.
 
-ghost use Rattle.std.specs.Prelude.{◌≡◌, ◌≤◌, ◌<◌, length, Some, None, IfOk, OnOk, slice_get};
-ghost use Rattle.vp_ivf.specs.Ivf.{read_file};
-ghost use Rattle.vp_ivf.specs.Reader.{initial_reader};
+ghost use Rattle.std.specs.Prelude.{◌≡◌, ◌⊎◌, length, IfOk, IfErr, OnOk};
+ghost use Rattle.vp_ivf.specs.Reader.{finish_answer};
 ghost use Rattle.vp_stream.specs.Stream.{initial_stream};
 ghost use Rattle.vp_stream.specs.Answers.{reading_of};
 ghost use Rattle.vp_stream.specs.Seeking.{Shown, answer_at};
 ghost use Rattle.vp_stream.specs.Cursor.{IsCursorOf};
-ghost use Rattle.vp_still.specs.Found.{IsFoundInIvf, IsWanted};
-ghost use Rattle.vp_still.specs.Shown.{IsPictureAt};
+ghost use Rattle.vp_still.specs.declared.fault.FindFault.{FindFault};
+ghost use Rattle.vp_still.specs.Found.{IsFoundInIvf, IsShownAt, IsUnshown, IsWanted};
+ghost use Rattle.vp_still.specs.Faults.{IsFaultOfIvf, missing};
+ghost use Rattle.vp_still.specs.Shown.{IsFoundFor};
 
 use crate::fault::FindFault;
 use crate::found::Found;
 use std::alloc::{AllocError, Global};
 use vp_base::{ByteList, Dim, Limits};
-use vp_ivf::{FeedError, Packet, Reader};
+use vp_ivf::{FeedError, FileFault};
 use vp_stream::{Answer, Cursor, Stream};
-
-/// A picture, and the number of the packet that shows it.
-#[derive(Drop)]
-pub(crate) struct ShownPicture {
-    pub number: u32,
-    pub dim: Dim,
-    pub pixels: ByteList,
-}
 
 /// Finds a picture of an IVF file: that of the packet with this number, counted from 0, or the first that is shown. The
 /// packets before a fault of the file count.
 ///
-/// Errors: `FindFault`. `File` is the file's fault, if it has no such packet before it.
+/// Errors: `Hidden` or `Packet` if the packet with this number shows no picture. If there is no such packet, `File`
+/// with the file's fault, or `NoPacket` if the file has none; if no packet shows a picture, `File` or `NoPicture`.
+/// `Memory`.
 pub fn find_in_ivf(
     alloc: Global,
     file: &[u8],
     wanted: Option<u32>,
     limits: Limits,
 ) -> Result<Found, FindFault>
-    ensures { IfOk result (IsFoundInIvf limits file.now wanted) }
-{
-    let shown = shown_picture(alloc, file, wanted, limits)?;
-    let packet = packet_at(alloc, file, shown.number, limits)?;
-    Ok(Found {
-        number: shown.number,
-        packet: packet.bytes,
-        dim: shown.dim,
-        pixels: shown.pixels,
-    })
-}
-
-// The wanted picture of a file.
-fn shown_picture(
-    alloc: Global,
-    file: &[u8],
-    wanted: Option<u32>,
-    limits: Limits,
-) -> Result<ShownPicture, FindFault>
-    ensures picture { IfOk result (λ p. answer_at limits (reading_of limits file.now).packets p.number
-        ≡ Shown p.dim.w p.dim.h p.pixels) }
-    ensures wanted { IfOk result (λ p. IsWanted limits (reading_of limits file.now).packets wanted p.number) }
+    ensures found { IfOk result (IsFoundInIvf limits file.now wanted) }
+    ensures fault { IfErr result (λ e. (e ≡ FindFault.Memory)
+        ⊎ IsFaultOfIvf limits (reading_of limits file.now) wanted e) }
 {
     let mut stream = Stream::new(alloc, limits);
     let Ok(()) = fill(&mut stream, file) else {
         return Err(FindFault::Memory);
     };
-    let found = match wanted {
-        Some(number) => picture_of(&stream, number),
-        None => first_picture(alloc, &stream, limits),
-    };
-    match found {
-        Ok(picture) => Ok(picture),
-        Err(fault) => Err(with_file_fault(&mut stream, fault)),
+    let ending = stream.finish();
+    match wanted {
+        Some(number) => numbered(alloc, &stream, number, ending),
+        None => first_shown(alloc, &stream, limits, ending),
     }
 }
 
@@ -84,93 +57,99 @@ fn fill(stream: &mut Stream, file: &[u8]) -> Result<(), AllocError>
     }
 }
 
-// The file's own fault in place of a packet that it has not.
-fn with_file_fault(stream: &mut Stream, fault: FindFault) -> FindFault {
-    match (fault, stream.finish()) {
-        (FindFault::NoPacket(_) | FindFault::NoPicture(_), Err(fault)) => FindFault::File(fault),
-        _ => fault,
+// The fault of a file without the wanted picture: its own, or else this one.
+fn missing(ending: Result<(), FileFault>, other: FindFault) -> FindFault
+    ensures { result ≡ missing ending other }
+{
+    match ending {
+        Ok(()) => other,
+        Err(fault) => FindFault::File(fault),
     }
 }
 
-// The picture of a packet.
-fn picture_of(stream: &Stream, number: u32) -> Result<ShownPicture, FindFault>
-    ensures picture { IfOk result (λ p. answer_at stream.now.limits stream.now.reading.packets p.number
-        ≡ Shown p.dim.w p.dim.h p.pixels) }
-    ensures number { IfOk result (λ p. p.number ≡ number) }
+// The picture of the packet with this number.
+fn numbered(
+    alloc: Global,
+    stream: &Stream,
+    number: u32,
+    ending: Result<(), FileFault>,
+) -> Result<Found, FindFault>
+    requires { ending ≡ finish_answer stream.now.reading }
+    ensures shown { IfOk result (IsShownAt stream.now.limits stream.now.reading.packets) }
+    ensures number { IfOk result (λ f. f.number ≡ number) }
+    ensures fault { IfErr result (λ e. (e ≡ FindFault.Memory)
+        ⊎ IsFaultOfIvf stream.now.limits stream.now.reading (Some number) e) }
 {
     match stream.picture_at(number)? {
-        Answer::Shown(dim, pixels) => Ok(ShownPicture {
-            number,
-            dim,
-            pixels,
-        }),
+        Answer::Shown(dim, pixels) => Ok(found_at(alloc, stream, number, dim, pixels)?),
         Answer::Hidden => Err(FindFault::Hidden),
         Answer::Fault(fault) => Err(FindFault::Packet(fault)),
-        Answer::NoPacket => Err(FindFault::NoPacket(stream.count())),
+        Answer::NoPacket => Err(missing(ending, FindFault::NoPacket(stream.count()))),
     }
 }
 
 // The first picture that is shown.
-fn first_picture(alloc: Global, stream: &Stream, limits: Limits) -> Result<ShownPicture, FindFault>
-    requires { stream.now.limits ≡ limits }
-    ensures picture { IfOk result (λ p. answer_at stream.now.limits stream.now.reading.packets p.number
-        ≡ Shown p.dim.w p.dim.h p.pixels) }
-    ensures first { IfOk result (λ p. IsWanted stream.now.limits stream.now.reading.packets None p.number) }
+fn first_shown(
+    alloc: Global,
+    stream: &Stream,
+    limits: Limits,
+    ending: Result<(), FileFault>,
+) -> Result<Found, FindFault>
+    requires limits { stream.now.limits ≡ limits }
+    requires ending { ending ≡ finish_answer stream.now.reading }
+    ensures shown { IfOk result (IsShownAt stream.now.limits stream.now.reading.packets) }
+    ensures first { IfOk result (λ f. IsWanted stream.now.limits stream.now.reading.packets None f.number) }
+    ensures fault { IfErr result (λ e. (e ≡ FindFault.Memory)
+        ⊎ IsFaultOfIvf stream.now.limits stream.now.reading None e) }
 {
     let mut cursor = Cursor::new(alloc, limits);
     for number in 0..stream.count() {
-        if let Some(picture) = next_picture(stream, number, &mut cursor)? {
-            return Ok(picture);
+        if let Some(found) = found_if_shown(alloc, stream, number, &mut cursor)? {
+            return Ok(found);
         }
     }
-    Err(FindFault::NoPicture(stream.count()))
+    Err(missing(ending, FindFault::NoPicture(stream.count())))
 }
 
 // The picture of a packet, decoded with a cursor, if it shows one.
-fn next_picture(
+fn found_if_shown(
+    alloc: Global,
     stream: &Stream,
     number: u32,
     cursor: &mut Cursor,
-) -> Result<Option<ShownPicture>, AllocError>
+) -> Result<Option<Found>, AllocError>
     requires { IsCursorOf cursor.old stream.now }
     ensures cursor { OnOk result (IsCursorOf cursor.new stream.now) }
-    ensures picture { IfOk result (λ found. IsPictureAt (answer_at stream.now.limits stream.now.reading.packets number)
-        number found) }
+    ensures found { IfOk result (IsFoundFor stream.now.limits stream.now.reading.packets number) }
 {
     let mut work = 0;
     match stream.picture_from(number, cursor, &mut work)? {
-        Answer::Shown(dim, pixels) => Ok(Some(ShownPicture {
-            number,
-            dim,
-            pixels,
-        })),
+        Answer::Shown(dim, pixels) => Ok(Some(found_at(alloc, stream, number, dim, pixels)?)),
         Answer::Hidden | Answer::Fault(_) | Answer::NoPacket => Ok(None),
     }
 }
 
-// The packet of a file with this number, which it has.
-fn packet_at(alloc: Global, file: &[u8], number: u32, limits: Limits) -> Result<Packet, AllocError>
-    requires { number < length (reading_of limits file.now).packets }
-    ensures { IfOk result (λ p. slice_get (reading_of limits file.now).packets number ≡ Some p) }
+// A picture, with the packet that shows it.
+fn found_at(
+    alloc: Global,
+    stream: &Stream,
+    number: u32,
+    dim: Dim,
+    pixels: ByteList,
+) -> Result<Found, AllocError>
+    requires { answer_at stream.now.limits stream.now.reading.packets number ≡ Shown dim.w dim.h pixels }
+    ensures shown { IfOk result (IsShownAt stream.now.limits stream.now.reading.packets) }
+    ensures number { IfOk result (λ f. f.number ≡ number) }
 {
-    let mut reader = Reader::new(alloc, limits);
-    fill_reader(&mut reader, file)?;
-    for _taken in 0..number {
-        let _earlier = reader.next_packet();
-    }
-    match reader.next_packet() {
-        Some(packet) => Ok(packet),
-        None => unreachable!(),
-    }
-}
-
-// Feeds a whole file to a new reader.
-fn fill_reader(reader: &mut Reader, file: &[u8]) -> Result<(), AllocError>
-    requires { reader.old ≡ initial_reader reader.old.max reader.old.limit }
-    ensures { OnOk result (reader.new.reading ≡ read_file reader.old.max reader.old.limit file.now) }
-{
-    match reader.feed(file) {
-        Ok(()) | Err(FeedError::Fault(_)) => Ok(()),
-        Err(FeedError::Memory) => Err(AllocError),
-    }
+    let Some(packet) = stream.packet(number) else {
+        unreachable!();
+    };
+    let bytes = Vec::from_slice(alloc, packet.bytes.as_slice())?;
+    Ok(Found {
+        number,
+        packet: ByteList::from_vec(bytes),
+        dim,
+        pixels,
+        has_alpha: false,
+    })
 }

@@ -1,11 +1,15 @@
 //! The WebP file of a picture.
 
-ghost use Rattle.std.specs.Prelude.{◌≡◌, ◌≤◌, length, IfOk};
+ghost use Rattle.std.specs.Prelude.{◌≡◌, ◌≢◌, ◌⊎◌, ◌≤◌, length, None, Some, Err, IfOk, IfErr};
 ghost use Rattle.vp_scale.specs.Planes.{i420_size};
-ghost use Rattle.vp_still.specs.Still.{still_settings, file_of, kept_file, IsEncodedStill, IsKeyFrameFor, IsStill};
+ghost use Rattle.vp_webp.specs.declared.fault.WebPWriteFault.{WebPWriteFault};
+ghost use Rattle.vp_webp.specs.Text.{webp_text, webp_refusal};
+ghost use Rattle.vp_still.specs.declared.fault.StillFault.{StillFault};
+ghost use Rattle.vp_still.specs.Still.{still_settings, kept_file, IsEncodedStill, IsKeyFrameFor, IsStill};
+ghost use Rattle.vp_still.specs.TooLong.{IsTooLongStill, HasLongPart};
 
 use crate::fault::StillFault;
-use crate::found::Found;
+use crate::found::{Found, ShownPacket};
 use std::alloc::{AllocError, Global};
 use vp_base::{ByteList, Counted, Dim};
 use vp_encode::{EncodeFault, Encoded, Encoder, Settings};
@@ -33,41 +37,66 @@ pub struct Still {
 /// Makes the WebP file of a picture: its packet as it stands, if that is a shown key frame and the picture keeps its
 /// size. Any other picture is made smaller, and encoded as a key frame with this quantiser index.
 ///
-/// Errors: `StillFault`.
-pub fn webp_still(alloc: Global, found: &Found, scale: Scale, qi: u8) -> Result<Still, StillFault>
+/// Errors: `TooLong` for a picture that is encoded, if a part of its key frame is too long for the packet format, or
+/// the packet for a file; `Memory`.
+pub fn webp_of(
+    alloc: Global,
+    shown: ShownPacket<'_>,
+    scale: Scale,
+    qi: u8,
+) -> Result<Still, StillFault>
     requires { qi ≤ 127 }
-    ensures { IfOk result (λ s. IsStill scale qi found.now.packet found.now.dim.w found.now.dim.h found.now.pixels
-        s.coding s.file) }
+    ensures file { IfOk result (λ s. IsStill scale qi shown.entry.packet.now shown.entry.dim.w shown.entry.dim.h
+        shown.entry.pixels.now s.coding s.file) }
+    ensures kept { kept_file scale shown.entry.packet.now ≢ None → IfErr result (λ e. e ≡ StillFault.Memory) }
+    ensures too_long { result ≡ Err StillFault.TooLong
+        → IsTooLongStill scale qi shown.entry.dim.w shown.entry.dim.h shown.entry.pixels.now }
 {
-    if let Some(file) = kept_file(alloc, found.packet.as_slice(), scale)? {
+    if let Some(file) = kept_file(alloc, shown.packet, scale)? {
         return Ok(Still {
             file,
             coding: Coding::Kept,
         });
     }
-    encoded_still(alloc, found.dim, found.pixels.as_slice(), scale, qi)
+    encoded_still(alloc, shown.dim, shown.pixels, scale, qi)
+}
+
+/// Makes the WebP file of a picture that was found, as `webp_of` does.
+///
+/// Errors: those of `webp_of`.
+pub fn webp_still(alloc: Global, found: &Found, scale: Scale, qi: u8) -> Result<Still, StillFault>
+    requires { qi ≤ 127 }
+    ensures file { IfOk result (λ s. IsStill scale qi found.now.packet found.now.dim.w found.now.dim.h
+        found.now.pixels s.coding s.file) }
+    ensures kept { kept_file scale found.now.packet ≢ None → IfErr result (λ e. e ≡ StillFault.Memory) }
+    ensures too_long { result ≡ Err StillFault.TooLong
+        → IsTooLongStill scale qi found.now.dim.w found.now.dim.h found.now.pixels }
+{
+    webp_of(alloc, found.shown(), scale, qi)
 }
 
 // The file of a packet that stands in it as it is.
 fn kept_file(alloc: Global, packet: &[u8], scale: Scale) -> Result<Option<ByteList>, AllocError>
     ensures { IfOk result (λ f. f ≡ kept_file scale packet.now) }
 {
-    match scale {
-        Scale::Full => webp_file(alloc, packet),
-        _ => Ok(None),
+    if scale != Scale::Full {
+        return Ok(None);
     }
-}
-
-// The WebP file of a packet, if it has one.
-fn webp_file(alloc: Global, packet: &[u8]) -> Result<Option<ByteList>, AllocError>
-    ensures { IfOk result (λ f. f ≡ file_of packet.now) }
-{
-    let mut out = Counted::new(Vec::new(alloc));
-    match write(&mut out, packet) {
-        Ok(()) => Ok(Some(ByteList::from_vec(out.into_inner()))),
+    match webp_file(alloc, packet) {
+        Ok(file) => Ok(Some(file)),
         Err(WebPWriteFault::Device) => Err(AllocError),
         Err(WebPWriteFault::NotKey | WebPWriteFault::Hidden | WebPWriteFault::TooLong) => Ok(None),
     }
+}
+
+// The WebP file of a packet. `Device` stands for a lack of memory.
+fn webp_file(alloc: Global, packet: &[u8]) -> Result<ByteList, WebPWriteFault>
+    ensures file { IfOk result (λ f. (webp_refusal packet.now ≡ None) × (f ≡ webp_text packet.now)) }
+    ensures refused { IfErr result (λ e. (e ≡ WebPWriteFault.Device) ⊎ (webp_refusal packet.now ≡ Some e)) }
+{
+    let mut out = Counted::new(Vec::new(alloc));
+    write(&mut out, packet)?;
+    Ok(ByteList::from_vec(out.into_inner()))
 }
 
 // The file of a picture that is encoded.
@@ -80,15 +109,19 @@ fn encoded_still(
 ) -> Result<Still, StillFault>
     requires qi { qi ≤ 127 }
     requires size { length pixels.now ≡ i420_size dim.w dim.h }
-    ensures { IfOk result (λ s. IsEncodedStill scale qi dim.w dim.h pixels.now s.coding s.file) }
+    ensures file { IfOk result (λ s. IsEncodedStill scale qi dim.w dim.h pixels.now s.coding s.file) }
+    ensures too_long { result ≡ Err StillFault.TooLong → IsTooLongStill scale qi dim.w dim.h pixels.now }
 {
     let frame = encode(alloc, dim, pixels, scale, qi)?;
-    match webp_file(alloc, frame.packet.as_slice())? {
-        Some(file) => Ok(Still {
+    match webp_file(alloc, frame.packet.as_slice()) {
+        Ok(file) => Ok(Still {
             file,
             coding: Coding::Encoded(frame.squared_error),
         }),
-        None => Err(StillFault::TooLong),
+        Err(WebPWriteFault::TooLong) => Err(StillFault::TooLong),
+        Err(WebPWriteFault::Device) => Err(StillFault::Memory),
+        Err(WebPWriteFault::NotKey) => unreachable!(),
+        Err(WebPWriteFault::Hidden) => unreachable!(),
     }
 }
 
@@ -102,7 +135,8 @@ fn encode(
 ) -> Result<Encoded, StillFault>
     requires qi { qi ≤ 127 }
     requires size { length pixels.now ≡ i420_size dim.w dim.h }
-    ensures { IfOk result (λ r. IsKeyFrameFor scale qi dim.w dim.h pixels.now r.packet r.squared_error) }
+    ensures frame { IfOk result (λ r. IsKeyFrameFor scale qi dim.w dim.h pixels.now r.packet r.squared_error) }
+    ensures too_long { result ≡ Err StillFault.TooLong → HasLongPart scale qi dim.w dim.h pixels.now }
 {
     let source = scaled(alloc, dim, pixels, scale)?;
     let Ok(mut encoder) = Encoder::new(alloc, scale.size(dim), settings(qi)) else {

@@ -1,15 +1,18 @@
 //! The picture of a WebP file.
 
-ghost use Rattle.std.specs.Prelude.{◌≡◌, IfOk};
+ghost use Rattle.std.specs.Prelude.{◌≡◌, ◌⊎◌, IfOk, IfErr};
 ghost use Rattle.vp_base.specs.Image.{i420};
+ghost use Rattle.vp_webp.specs.WebP.{still_image};
+ghost use Rattle.vp_still.specs.declared.fault.FindFault.{FindFault};
 ghost use Rattle.vp_still.specs.Found.{IsFoundInWebP};
+ghost use Rattle.vp_still.specs.Faults.{IsFaultOfWebP};
 
 use crate::fault::FindFault;
 use crate::found::Found;
 use std::alloc::{AllocError, Global};
 use vp_base::{ByteList, Limits, Picture};
 use vp_decode::{Decoder, Outcome};
-use vp_webp::{WebPFault, read};
+use vp_webp::{WebP, WebPFault, read};
 
 impl From<WebPFault> for FindFault {
     ghost use Rattle.std.specs.Prelude.{◌≡◌};
@@ -22,11 +25,13 @@ impl From<WebPFault> for FindFault {
     }
 }
 
-/// Finds the picture of a WebP file.
+/// Finds the picture of a WebP file. Its alpha is told, and left out.
 ///
-/// Errors: `FindFault::WebP`, `Packet`, and `Memory`.
+/// Errors: `WebP` with the file's fault, `Packet` if its packet can't be decoded, `Hidden` if that shows no picture,
+/// and `Memory`.
 pub fn find_in_webp(alloc: Global, file: &[u8], limits: Limits) -> Result<Found, FindFault>
-    ensures { IfOk result (IsFoundInWebP limits file.now) }
+    ensures found { IfOk result (IsFoundInWebP limits file.now) }
+    ensures fault { IfErr result (λ e. (e ≡ FindFault.Memory) ⊎ IsFaultOfWebP limits (still_image file.now) e) }
 {
     let image = read(file)?;
     let mut decoder = Decoder::new(alloc, limits);
@@ -34,26 +39,28 @@ pub fn find_in_webp(alloc: Global, file: &[u8], limits: Limits) -> Result<Found,
         Outcome::Fault(fault) => Err(FindFault::Packet(fault)),
         Outcome::Hidden => Err(FindFault::Hidden),
         Outcome::Shown => match decoder.picture() {
-            Some(picture) => Ok(found_picture(alloc, image.packet(), picture)?),
-            None => Err(FindFault::Hidden),
+            Some(picture) => Ok(found_picture(alloc, &image, picture)?),
+            None => unreachable!(),
         },
     }
 }
 
-// A packet with the number 0, and the picture that it shows.
-fn found_picture(alloc: Global, packet: &[u8], picture: &Picture) -> Result<Found, AllocError>
+// The packet of a file, with the number 0, and the picture that it shows.
+fn found_picture(alloc: Global, image: &WebP<'_>, picture: &Picture) -> Result<Found, AllocError>
     ensures number { IfOk result (λ f. f.number ≡ 0) }
-    ensures packet { IfOk result (λ f. f.packet ≡ packet.now) }
+    ensures packet { IfOk result (λ f. f.packet ≡ image.now.packet) }
+    ensures alpha { IfOk result (λ f. f.has_alpha ≡ image.now.has_alpha) }
     ensures width { IfOk result (λ f. f.dim.w ≡ picture.now.width) }
     ensures height { IfOk result (λ f. f.dim.h ≡ picture.now.height) }
     ensures pixels { IfOk result (λ f. f.pixels ≡ i420 picture.now) }
 {
-    let packet = Vec::from_slice(alloc, packet)?;
+    let packet = Vec::from_slice(alloc, image.packet())?;
     let pixels = picture.crop_i420(alloc)?;
     Ok(Found {
         number: 0,
         packet: ByteList::from_vec(packet),
         dim: picture.dim(),
         pixels: ByteList::from_vec(pixels),
+        has_alpha: image.has_alpha(),
     })
 }

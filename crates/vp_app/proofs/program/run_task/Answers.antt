@@ -1,6 +1,6 @@
 use Rattle.std.proofs.Common.{rules, ap}
 use Rattle.vp_app.specs.Commands.{read_side, written_side}
-use Rattle.vp_app.proofs.CommandLemmas.{does_decode, does_decode_range, does_encode, does_nothing, does_serve, does_serve_many, does_tell}
+use Rattle.vp_app.proofs.CommandLemmas.{does_decode, does_decode_range, does_encode, does_nothing, does_picture, does_serve, does_serve_many, does_tell}
 use Rattle.vp_app.proofs.program.run_task.Goals as goal
 
 pub returns-in-Decode-clause-does : goal.returns-in-Decode-clause-does
@@ -30,6 +30,13 @@ returns-in-Info-clause-does g c = λ asked h.
     (read_side g.R.Read.remaining c.args.input.now) (read_side g.R.Read.remaining c.survey_file.new.input)
     (written_side g.W.Write.contents c.args.output.now) (written_side g.W.Write.contents c.report_survey.new.output)
     (search rules) h c.survey_file.ensures.looked c.report_survey.ensures.told
+
+pub returns-in-Picture-clause-does : goal.returns-in-Picture-clause-does
+returns-in-Picture-clause-does g c = λ asked h.
+    does_picture asked c.args.task.now c.in-Picture.wanted c.write_picture.result c.report_picture.result
+    (read_side g.R.Read.remaining c.args.input.now) (read_side g.R.Read.remaining c.write_picture.new.input)
+    (written_side g.W.Write.contents c.args.output.now)
+    (search rules) h c.report_picture.ensures c.write_picture.ensures.made
 
 pub returns-in-Serve-clause-does : goal.returns-in-Serve-clause-does
 returns-in-Serve-clause-does g c = λ asked h.

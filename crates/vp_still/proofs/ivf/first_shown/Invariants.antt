@@ -2,7 +2,7 @@ use Rattle.std.proofs.Common.{◌<◌, ℕ}
 use Rattle.vp_stream.specs.Cursor.{IsCursorOf}
 use Rattle.vp_stream.specs.Seeking.{answer_at}
 use Rattle.vp_still.specs.Found.{IsUnshown}
-use Rattle.vp_still.proofs.ivf.first_picture.Given as goal
+use Rattle.vp_still.proofs.ivf.first_shown.Given as goal
 
 abbrev pub invariant-loop-number : goal.invariant-loop-number
 invariant-loop-number l = record {

@@ -1,0 +1,9 @@
+use Rattle.std.proofs.Common.{◌≡◌, false, rules}
+use Rattle.vp_app.specs.Commands.{is_stream, read_side}
+use Rattle.vp_app.proofs.PictureLemmas.{over_device}
+use Rattle.vp_app.proofs.picture.made_picture.Goals as goal
+
+pub returns-then-eq-2-clause-made : goal.returns-then-eq-2-clause-made
+returns-then-eq-2-clause-made g c =
+    let named : is_stream c.args.wanted.now.input.now ≡ false = search rules in
+    over_device c.args.wanted.now.input.now c.args.wanted.now (read_side g.R.Read.remaining c.args.input.now) named

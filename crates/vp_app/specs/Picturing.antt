@@ -1,0 +1,52 @@
+-- The file that `vp8 picture` writes. Pinned by the tests `key_packet_is_kept_in_a_file` and
+-- `smaller_picture_of_an_inter_packet`.
+use Rattle.std.specs.Prelude.{◌≡◌, ◌&&◌, ℕ, Bool, true, false, not, nat_eq, nat_le, codes, length, List, Option, Some, None}
+use Rattle.std.specs.List.{starts_with}
+use Rattle.vp_base.specs.declared.limits.Limits.{Limits}
+use Rattle.vp_scale.specs.declared.scale.Scale.{Scale}
+use Rattle.vp_scale.specs.Scale.{factor_of}
+use Rattle.vp_scale.specs.Means.{scaled_i420}
+use Rattle.vp_still.specs.declared.found.Found.{Found}
+use Rattle.vp_still.specs.declared.still.Coding.{Coding}
+use Rattle.vp_still.specs.Found.{IsFoundIn}
+use Rattle.vp_still.specs.Still.{IsStill, y4m_still}
+use Rattle.vp_still.specs.Ppm.{ppm_still}
+use Rattle.vp_args.specs.declared.picture_args.PictureArgs.{PictureArgs}
+use Rattle.vp_args.specs.declared.picture_args.StillForm.{StillForm}
+use Rattle.vp_args.specs.declared.picture_args.StillForm.TheVariants.{WebP, Y4m, I420, Ppm}
+use Rattle.vp_app.specs.Usual.{AreLimits}
+use Rattle.vp_app.specs.declared.picture.MadePicture.{MadePicture}
+use Rattle.vp_app.specs.declared.picture_fault.PictureFault.{PictureFault}
+use Rattle.vp_app.specs.declared.picture_fault.PictureFault.TheVariants.{Find, TooLong, Device, ReadTurns, Memory}
+
+-- the file of a picture, made smaller: a WebP file by its packet or by the encoder, or one without compression
+abbrev pub IsPictureFile : StillForm → Scale → ℕ → Found → List ℕ → Option Coding → Type 0
+IsPictureFile WebP scale qi f bytes None = ⊥
+IsPictureFile WebP scale qi f bytes (Some coding) = IsStill scale qi f.packet f.dim.w f.dim.h f.pixels coding bytes
+IsPictureFile Y4m scale qi f bytes coding = (coding ≡ None) × (bytes ≡ y4m_still scale f.dim.w f.dim.h f.pixels)
+IsPictureFile I420 scale qi f bytes coding =
+    (coding ≡ None) × (bytes ≡ scaled_i420 (factor_of scale) f.dim.w f.dim.h f.pixels)
+IsPictureFile Ppm scale qi f bytes coding = (coding ≡ None) × (bytes ≡ ppm_still scale f.dim.w f.dim.h f.pixels)
+
+-- the picture of this file that the arguments want, in the form that they want
+pub record IsPictureOf (p : PictureArgs) (file : List ℕ) (m : MadePicture) : Type 0 where
+  pub limits : Limits
+  pub usual : AreLimits 16 limits
+  pub found : Found
+  pub found_is : IsFoundIn limits file p.packet found
+  pub number_is : m.number ≡ found.number
+  pub made : IsPictureFile p.form p.scale p.qi found m.bytes m.coding
+
+-- a file of 32 bytes or more begins as neither an IVF nor a WebP file
+unfoldable pub is_foreign : List ℕ → Bool
+is_foreign file =
+    nat_le 32 (length file) && (not (starts_with nat_eq file (codes "DKIF"))
+    && not (starts_with nat_eq file (codes "RIFF")))
+
+-- the fault is the input's
+abbrev pub is_find : PictureFault → Bool
+is_find (Find e) = true
+is_find TooLong = false
+is_find Device = false
+is_find ReadTurns = false
+is_find Memory = false

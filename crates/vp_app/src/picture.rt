@@ -1,0 +1,206 @@
+//! The command `vp8 picture`.
+
+ghost use Rattle.std.specs.Prelude.{◌≡◌, ◌++◌, List, ℕ, IfOk, IfErr, false};
+ghost use Rattle.std.specs.Io.KnownBytes.{Consumes, IsAtEnd};
+ghost use Rattle.vp_base.specs.Counted.{counted_remaining};
+ghost use Rattle.vp_app.specs.Commands.{is_stream, read_side, status_by_picture, IsFileRead, IsMadeInput};
+ghost use Rattle.vp_app.specs.Commands.{Over};
+ghost use Rattle.vp_app.specs.Picturing.{is_find, is_foreign, IsPictureFile};
+
+use crate::picture_fault::{PictureFault, report_picture_fault};
+use std::alloc::Global;
+use std::fs;
+use std::io::{Read, Write};
+use std::num::nearest_u64_to_f64;
+use std::rt::Files;
+use vp_args::{PictureArgs, StillForm};
+use vp_base::{ByteList, Counted, Dim, Limits, put_all};
+use vp_still::{Coding, Found, find, i420_still, ppm_still, webp_still, y4m_still};
+
+/// The file of a picture.
+#[derive(Drop)]
+pub struct MadePicture {
+    /// The number of the packet, counted from 0.
+    pub number: u32,
+    /// The size of the picture in pixels.
+    pub dim: Dim,
+    /// The bytes of the file.
+    pub bytes: ByteList,
+    /// How the picture got into it, if it is a WebP file.
+    pub coding: Option<Coding>,
+}
+
+/// Reads the input file, makes the file of its picture, and then writes it. The output must not be the input file.
+pub(crate) fn write_picture<H: Files + AllocGlobal, R: Read>(
+    rt: &H,
+    wanted: &PictureArgs<'_>,
+    input: &mut Counted<R>,
+) -> Result<MadePicture, PictureFault>
+    ensures made { Over wanted.now.input.now (IsMadeInput wanted.now result) (read_side R.remaining input.old)
+        (read_side R.remaining input.new) }
+    ensures unread { is_stream wanted.now.input.now ≡ false → input.new ≡ input.old }
+{
+    match made_picture(rt, wanted, input) {
+        Ok(made) => written(rt, wanted.output, made),
+        Err(fault) => Err(fault),
+    }
+}
+
+// Opens the input file, and makes the file of its picture.
+fn made_picture<H: Files + AllocGlobal, R: Read>(
+    rt: &H,
+    wanted: &PictureArgs<'_>,
+    input: &mut Counted<R>,
+) -> Result<MadePicture, PictureFault>
+    ensures made { Over wanted.now.input.now (IsMadeInput wanted.now result) (read_side R.remaining input.old)
+        (read_side R.remaining input.new) }
+    ensures unread { is_stream wanted.now.input.now ≡ false → input.new ≡ input.old }
+{
+    if wanted.input == "-" {
+        return picture_of(rt.alloc(), wanted, input);
+    }
+    if wanted.input == wanted.output {
+        return Err(PictureFault::Device);
+    }
+    match fs::open(rt, wanted.input) {
+        Ok(file) => picture_of(rt.alloc(), wanted, &mut Counted::new(file)),
+        Err(error) => Err(PictureFault::from(error)),
+    }
+}
+
+// Makes the file of the picture of an open input.
+fn picture_of<R: Read>(
+    alloc: Global,
+    wanted: &PictureArgs<'_>,
+    input: &mut Counted<R>,
+) -> Result<MadePicture, PictureFault>
+    ensures { IsMadeInput wanted.now result (read_side R.remaining input.old) (read_side R.remaining input.new) }
+{
+    let file = read_file(alloc, input)?;
+    match find(alloc, &file, wanted.packet, Limits::usual()) {
+        Ok(found) => make(alloc, &found, wanted),
+        Err(fault) => Err(PictureFault::Find(fault)),
+    }
+}
+
+// Makes the file of a picture that was found.
+fn make(
+    alloc: Global,
+    found: &Found,
+    wanted: &PictureArgs<'_>,
+) -> Result<MadePicture, PictureFault>
+    ensures number { IfOk result (λ m. m.number ≡ found.now.number) }
+    ensures unfound { IfErr result (λ fault. is_find fault ≡ false) }
+    ensures file { IfOk result (λ m. IsPictureFile wanted.now.form wanted.now.scale wanted.now.qi found.now
+        m.bytes m.coding) }
+{
+    let (bytes, coding) = match wanted.form {
+        StillForm::WebP => {
+            let still = webp_still(alloc, found, wanted.scale, wanted.qi)?;
+            (still.file, Some(still.coding))
+        }
+        StillForm::Y4m => (y4m_still(alloc, found, wanted.scale)?, None),
+        StillForm::I420 => (i420_still(alloc, found, wanted.scale)?, None),
+        StillForm::Ppm => (ppm_still(alloc, found, wanted.scale)?, None),
+    };
+    Ok(MadePicture {
+        number: found.number,
+        dim: wanted.scale.size(found.dim),
+        bytes,
+        coding,
+    })
+}
+
+// Reads an IVF or WebP file to its end. Of a file that begins otherwise only the first bytes are read.
+fn read_file<R: Read>(alloc: Global, input: &mut Counted<R>) -> Result<Vec<u8>, PictureFault>
+    ensures file { IfOk result (λ file. IsFileRead file.items (read_side R.remaining input.old)
+        (read_side R.remaining input.new)) }
+    ensures unfound { IfErr result (λ fault. is_find fault ≡ false) }
+{
+    let mut file = Vec::new(alloc);
+    for _turn in 0..u32::MAX {
+        let more = read_piece(input, &mut file)?;
+        if !more || is_foreign(&file) {
+            return Ok(file);
+        }
+    }
+    Err(PictureFault::ReadTurns)
+}
+
+// Reads once, and appends the bytes to `file`. Returns false at the end of the input.
+fn read_piece<R: Read>(input: &mut Counted<R>, file: &mut Vec<u8>) -> Result<bool, PictureFault>
+    ensures piece { IfOk result (λ _. (piece : List ℕ) × (file.new.items ≡ file.old.items ++ piece)
+        × Consumes (counted_remaining R.remaining input.old) (counted_remaining R.remaining input.new) piece) }
+    ensures end { IfOk result (λ more. more ≡ false → IsAtEnd (counted_remaining R.remaining input.new)) }
+    ensures unfound { IfErr result (λ fault. is_find fault ≡ false) }
+{
+    let mut buffer = [0; 16_384];
+    let count = input.read(&mut buffer)?;
+    file.extend_from_slice(&buffer[..count])?;
+    Ok(count != 0)
+}
+
+// Whether a file, whose first bytes these are, is neither an IVF nor a WebP file.
+#[tactic(auto, unfolding(crate::specs::Picturing::is_foreign))]
+fn is_foreign(file: &[u8]) -> bool
+    ensures { result ≡ is_foreign file.now }
+{
+    32 <= file.len() && !file.starts_with(b"DKIF") && !file.starts_with(b"RIFF")
+}
+
+// Writes the file of a picture.
+fn written<H: Files + AllocGlobal>(
+    rt: &H,
+    name: &str,
+    made: MadePicture,
+) -> Result<MadePicture, PictureFault>
+    ensures made { IfOk result (λ m. m ≡ made) }
+    ensures unfound { IfErr result (λ fault. is_find fault ≡ false) }
+{
+    let mut file = Counted::new(fs::create(rt, name)?);
+    match put_all(&mut file, made.bytes.as_slice()) {
+        Ok(()) => Ok(made),
+        Err(_) => Err(PictureFault::Device),
+    }
+}
+
+/// Says what was written, or the fault, and returns the exit status.
+pub(crate) fn report_picture<E: Write>(
+    done: &Result<MadePicture, PictureFault>,
+    wanted: &PictureArgs<'_>,
+    errors: &mut Counted<E>,
+) -> u8
+    ensures { result ≡ status_by_picture done.now }
+{
+    match done {
+        Ok(made) => {
+            print_made(made, errors);
+            0
+        }
+        Err(fault) => {
+            report_picture_fault(*fault, wanted, errors);
+            1
+        }
+    }
+}
+
+// Prints the line of a picture that was written.
+fn print_made<E: Write>(made: &MadePicture, errors: &mut Counted<E>) {
+    let (number, w, h) = (made.number, made.dim.w, made.dim.h);
+    let _ = match made.coding {
+        None => writeln!(errors, "packet {number}: {w}x{h}"),
+        Some(Coding::Kept) => writeln!(errors, "packet {number}: {w}x{h}, as it stands"),
+        Some(Coding::Encoded(0)) => writeln!(errors, "packet {number}: {w}x{h}, encoded without a difference"),
+        Some(Coding::Encoded(error)) => {
+            let ratio = decibels(made.dim, error);
+            writeln!(errors, "packet {number}: {w}x{h}, encoded with PSNR {ratio:.2} dB")
+        }
+    };
+}
+
+// The peak signal-to-noise ratio of a picture in decibels, by the sum of its squared differences, over Y, U and V.
+fn decibels(dim: Dim, error: u64) -> f64 {
+    let (w, h) = (u64::from(dim.w), u64::from(dim.h));
+    let samples = w * h + 2 * (w.div_ceil(2) * h.div_ceil(2));
+    10.0 * (nearest_u64_to_f64(65_025 * samples) / nearest_u64_to_f64(error)).log10()
+}

@@ -1,0 +1,98 @@
+//! The faults of `vp8 picture`.
+
+ghost use Rattle.std.specs.Prelude.{◌≡◌, ◌≢◌};
+ghost use Rattle.std.specs.IoError.{error_kind};
+ghost use Rattle.std.specs.declared.io.ErrorKind.{ErrorKind};
+ghost use Rattle.vp_app.specs.declared.picture_fault.PictureFault.{PictureFault};
+
+use crate::files::file_fault;
+use std::alloc::AllocError;
+use std::io;
+use std::io::Write;
+use vp_args::PictureArgs;
+use vp_base::Counted;
+use vp_still::{FindFault, StillFault};
+
+/// The reasons for which no picture is written.
+#[derive(Clone, Copy, Debug, PartialEq, Eq)]
+pub enum PictureFault {
+    /// The input file gives no picture.
+    Find(FindFault),
+    /// A part of the picture's key frame is too long for the packet format or for the file.
+    TooLong,
+    /// A file can't be opened, read, created or written, or the output is the input file.
+    Device,
+    /// The input did not end within 4,294,967,295 reads.
+    ReadTurns,
+    /// Out of memory.
+    Memory,
+}
+
+impl From<AllocError> for PictureFault {
+    ghost from_gives = { λ _ fault. fault ≡ PictureFault.Memory };
+
+    fn from(_: AllocError) -> PictureFault {
+        PictureFault::Memory
+    }
+}
+
+impl From<io::Error> for PictureFault {
+    ghost from_gives = { λ error fault.
+        (error_kind error ≡ ErrorKind.OutOfMemory → fault ≡ PictureFault.Memory)
+        × (error_kind error ≢ ErrorKind.OutOfMemory → fault ≡ PictureFault.Device) };
+
+    fn from(error: io::Error) -> PictureFault {
+        file_fault(&error, PictureFault::Device, PictureFault::Memory)
+    }
+}
+
+impl From<StillFault> for PictureFault {
+    ghost use Rattle.std.specs.Prelude.{◌≡◌, false};
+    ghost use Rattle.vp_app.specs.Picturing.{is_find};
+
+    ghost from_gives = { λ _ r. is_find r ≡ false };
+
+    fn from(fault: StillFault) -> PictureFault {
+        match fault {
+            StillFault::TooLong => PictureFault::TooLong,
+            StillFault::Memory => PictureFault::Memory,
+        }
+    }
+}
+
+/// Prints a fault.
+pub(crate) fn report_picture_fault<E: Write>(
+    fault: PictureFault,
+    wanted: &PictureArgs<'_>,
+    errors: &mut Counted<E>,
+) {
+    let _ = match fault {
+        PictureFault::Find(fault) => print_find_fault(fault, wanted, errors),
+        PictureFault::TooLong => writeln!(errors, "vp8: TooLong"),
+        PictureFault::Device => writeln!(errors, "vp8: Device"),
+        PictureFault::ReadTurns => writeln!(errors, "vp8: ReadTurns"),
+        PictureFault::Memory => writeln!(errors, "vp8: Memory"),
+    };
+}
+
+// Prints why a file gives no picture.
+fn print_find_fault<E: Write>(
+    fault: FindFault,
+    wanted: &PictureArgs<'_>,
+    errors: &mut Counted<E>,
+) -> io::Result<()> {
+    let (name, number) = (wanted.input, wanted.packet.unwrap_or(0));
+    match fault {
+        FindFault::File(fault) => writeln!(errors, "vp8: {fault}"),
+        FindFault::WebP(fault) => writeln!(errors, "vp8: {fault}"),
+        FindFault::Packet(fault) => writeln!(errors, "vp8: packet {number}: {fault}"),
+        FindFault::Hidden => writeln!(errors, "vp8: packet {number}: Hidden"),
+        FindFault::NoPacket(count) => {
+            writeln!(errors, "vp8: no packet {number}: {name} has {count} packets")
+        }
+        FindFault::NoPicture(count) => {
+            writeln!(errors, "vp8: no picture: none of the {count} packets of {name} shows one")
+        }
+        FindFault::Memory => writeln!(errors, "vp8: Memory"),
+    }
+}
