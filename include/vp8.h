@@ -40,7 +40,7 @@ typedef uint32_t vp8_status;
 enum {
   /* Success. For a packet: it is decoded, and its picture is shown. */
   VP8_OK = 0,
-  /* The packet is decoded, and no picture is shown for it. */
+  /* The packet is decoded, and no picture is shown for it. Of a WebP file: its packet is not to be shown. */
   VP8_HIDDEN = 1,
 
   /* The packet can't be decoded. */
@@ -55,16 +55,19 @@ enum {
   VP8_PARTITION = 256,      /* VP8_PARTITION + n: token partition n, from 0, is the first that passes the end */
 
   /* The file can't be read on. */
-  VP8_SIGNATURE = 32,        /* its head doesn't begin with DKIF */
+  VP8_SIGNATURE = 32,        /* its head doesn't begin with DKIF; of a WebP file, with RIFF, its size, and WEBP */
   VP8_CODEC = 33,            /* its head doesn't say VP80 */
   VP8_TOO_MANY = 34,         /* it has more packets than 1,048,576 */
   VP8_PACKET_TOO_LARGE = 35, /* a packet is larger than 16,777,216 bytes */
-  VP8_TORN = 36,             /* it ends inside its head or a packet */
+  VP8_TORN = 36,             /* it ends inside its head or a packet; a WebP file: before a size in it says */
   VP8_ENDED = 37,            /* bytes are fed after its end was marked */
+  VP8_LOSSLESS = 38,         /* the picture of a WebP file is compressed losslessly */
+  VP8_ANIMATED = 39,         /* a WebP file is an animation */
+  VP8_NOT_KEY = 40,          /* the packet of a WebP file is not a key packet */
 
   /* The encoder can't be opened, or the frame not encoded. */
   VP8_SETTINGS = 48, /* a setting is out of its range */
-  VP8_TOO_LONG = 49, /* a partition of the packet is too long for the format */
+  VP8_TOO_LONG = 49, /* a partition of the packet, or the packet of a WebP file, is too long for the format */
 
   /* The call is refused. */
   VP8_CLOSED = 64,     /* the handle is closed, or of another kind */
@@ -72,7 +75,7 @@ enum {
   VP8_MEMORY = 66,     /* memory was refused */
   VP8_LIMITS = 67,     /* max_pixels is 0, or over 268,402,689 */
   VP8_DIMENSIONS = 68, /* a side is 0, or over 16,383 */
-  VP8_NO_PICTURE = 69, /* there is nothing to give: no picture is shown, or no frame is kept */
+  VP8_NO_PICTURE = 69, /* there is nothing to give: no picture is shown, no frame is kept, or a file has no picture */
   VP8_NO_PACKET = 70,  /* the file has no packet of this number */
   VP8_BUFFER = 71      /* a length or a stride is too small */
 };
@@ -97,6 +100,23 @@ typedef struct vp8_packet_info {
 /* Reads the first bytes of a packet: 10 of a key packet, 3 of others. Bytes after them are not read.
  * VP8_TRUNCATED, VP8_VERSION, VP8_START_CODE, VP8_SIZE: nothing is written. */
 vp8_status vp8_peek(const uint8_t *packet, size_t packet_len, vp8_packet_info *info);
+
+/* ---- lossy WebP files, whose picture is one key packet */
+
+/* Finds the packet of a WebP file, simple or extended: it is the *len bytes from file + *start on. vp8_decoder_decode
+ * decodes it. Alpha, colour profiles and metadata are passed over.
+ * VP8_SIGNATURE, VP8_TORN, VP8_LOSSLESS, VP8_ANIMATED; VP8_NO_PICTURE: no chunk is a picture; VP8_NOT_KEY, VP8_HIDDEN:
+ * the packet is no key packet, or not to be shown; the first of these that the bytes reveal: nothing is written. */
+vp8_status vp8_webp_packet(const uint8_t *file, size_t file_len, size_t *start, size_t *len);
+
+/* The length in bytes of the WebP file of a key packet.
+ * VP8_NOT_KEY, VP8_HIDDEN, VP8_TOO_LONG: the packet has no file, and nothing is written. */
+vp8_status vp8_webp_file_size(const uint8_t *packet, size_t packet_len, size_t *size);
+
+/* Copies the WebP file of a key packet, which browsers show; bytes after it are unchanged. Of the packet only the first
+ * bytes are looked at: VP8_OK does not say that it can be decoded.
+ * VP8_NOT_KEY, VP8_HIDDEN, VP8_TOO_LONG, VP8_BUFFER: nothing is written. */
+vp8_status vp8_webp_file(const uint8_t *packet, size_t packet_len, uint8_t *out, size_t out_len);
 
 /* ---- decoding packets, one after another */
 

@@ -1,8 +1,8 @@
 /* VP8 decoding for programs that use libvpx, by libvp8.
  *
  * Not proved: the whole file. What a packet decodes to, and what its header says, is proved (libvp8). Unproved are the
- * translation of statuses (`error_of_status`), the memory of the image that a program gets (`lay_out_image`,
- * `get_frame`), fragments and decryption (`keep_fragment`, `decrypt`), and controls.
+ * translation of statuses (`error_of_status`), the image that a program gets (`lay_out_image`, `copy_picture`),
+ * fragments and decryption (`keep_fragment`, `decrypt`), and controls.
  *
  * libvpx's vpx_codec_* functions check their arguments, keep the status in the context, and call a codec through a
  * table of functions. This file provides such a table for VP8 decoding under libvpx's two names for it,
@@ -46,10 +46,14 @@ struct vpx_codec_alg_priv {
   vpx_codec_stream_info_t stream_info;
   int has_decoded;       /* a packet was decoded before */
   int has_picture;       /* the last packet shows a picture that was not given yet */
-  int has_frame;         /* `frame` is the last packet's */
+  int has_frame;         /* the last packet was decoded, and `packet` is a copy of it */
+  int is_frame_read;     /* `frame` is that packet's */
   int is_corrupt;        /* the frame that was decoded last is damaged, or a packet after it was refused */
   int is_last_corrupt;   /* the last frame, from which others are predicted, is */
   vp8_frame frame;
+  uint8_t *packet;
+  size_t packet_len;
+  size_t packet_capacity;
   void *user;            /* the last decoded packet's user pointer */
   vpx_image_t image;
   uint8_t *image_memory;
@@ -145,6 +149,7 @@ static vpx_codec_err_t destroy(vpx_state *state)
   vp8_decoder_free(&state->decoder);
   free(state->image_memory);
   free(state->fragments);
+  free(state->packet);
   free(state);
   return VPX_CODEC_OK;
 }
@@ -216,23 +221,36 @@ static int lay_out_image(vpx_state *state, uint32_t width, uint32_t height)
   return 1;
 }
 
+static void copy_plane(const vpx_image_t *image, int plane, const vp8_lent_plane *lent, size_t width, size_t rows)
+{
+  const uint8_t *from = lent->at;
+  uint8_t *to = image->planes[plane];
+  for (size_t row = 0; row < rows; row++, from += lent->stride, to += image->stride[plane]) memcpy(to, from, width);
+}
+
+/* Copies the last packet's picture to the image, which has its size; 0 if there is none. */
+static int copy_picture(vpx_state *state)
+{
+  const vpx_image_t *image = &state->image;
+  size_t half_width = ((size_t)image->d_w + 1) / 2, half_rows = ((size_t)image->d_h + 1) / 2;
+  vp8_lent_picture lent;
+  if (vp8_decoder_lend(&state->decoder, &lent) != VP8_OK) return 0;
+  copy_plane(image, VPX_PLANE_Y, &lent.y, image->d_w, image->d_h);
+  copy_plane(image, VPX_PLANE_U, &lent.u, half_width, half_rows);
+  copy_plane(image, VPX_PLANE_V, &lent.v, half_width, half_rows);
+  return 1;
+}
+
 /* Gives the last packet's picture once. The image is valid until the next call of decode or destroy. */
 static vpx_image_t *get_frame(vpx_state *state, vpx_codec_iter_t *iterator)
 {
   if (*iterator || !state->has_picture) return NULL;
   state->has_picture = 0;
-  vpx_image_t *image = &state->image;
-  size_t stride = (size_t)image->stride[VPX_PLANE_Y], luma_len = stride * image->d_h;
-  size_t chroma_stride = (size_t)image->stride[VPX_PLANE_U];
-  size_t chroma_len = chroma_stride * (((size_t)image->d_h + 1) / 2);
-  vp8_status status = vp8_decoder_copy(&state->decoder, image->planes[VPX_PLANE_Y], luma_len, stride,
-                                       image->planes[VPX_PLANE_U], chroma_len, chroma_stride,
-                                       image->planes[VPX_PLANE_V], chroma_len, chroma_stride);
-  if (status != VP8_OK) return NULL;
+  if (!copy_picture(state)) return NULL;
   state->counts.pictures++;
-  image->user_priv = state->user;
-  *iterator = image;
-  return image;
+  state->image.user_priv = state->user;
+  *iterator = &state->image;
+  return &state->image;
 }
 
 /* ---- decoding */
@@ -266,14 +284,43 @@ static vpx_codec_err_t refuse(vpx_state *state, vp8_status status)
   return error_of_status(state, status);
 }
 
+/* Keeps a copy of a packet, whose facts are read when they are wanted; 0 if memory is refused. */
+static int keep_packet(vpx_state *state, const uint8_t *packet, size_t len)
+{
+  if (len > state->packet_capacity) {
+    uint8_t *memory = realloc(state->packet, len);
+    if (!memory) return 0;
+    state->packet = memory;
+    state->packet_capacity = len;
+  }
+  memcpy(state->packet, packet, len);
+  state->packet_len = len;
+  state->is_frame_read = 0;
+  return 1;
+}
+
+/* The facts of the packet that was decoded last. Read after it is decoded, they are the same: what its header says of
+ * them does not depend on the decoder's state. */
+static const vp8_frame *last_frame(vpx_state *state)
+{
+  if (!state->is_frame_read) {
+    memset(&state->frame, 0, sizeof state->frame);
+    (void)vp8_decoder_frame(&state->decoder, state->packet, state->packet_len, &state->frame);
+    state->is_frame_read = 1;
+  }
+  return &state->frame;
+}
+
 /* Whether the frame that was decoded is damaged. As in libvpx it is if a partition was read past its end, or if it is
  * predicted from a damaged frame; libvpx asks each macroblock for its reference, and this the last frame alone. */
 static void mark_frame(vpx_state *state)
 {
   uint32_t is_corrupt = 0;
   (void)vp8_decoder_corrupt(&state->decoder, &is_corrupt);
-  state->is_corrupt = is_corrupt || (!state->frame.key && state->is_last_corrupt);
-  if (state->frame.refreshes_last) state->is_last_corrupt = state->is_corrupt;
+  state->is_corrupt = is_corrupt || state->is_last_corrupt;
+  if (!state->is_corrupt) return;
+  state->is_corrupt = is_corrupt || !last_frame(state)->key;
+  if (last_frame(state)->refreshes_last) state->is_last_corrupt = state->is_corrupt;
 }
 
 /* Keeps a fragment of the next packet: its header and first partition, or token partitions, in order. */
@@ -297,10 +344,10 @@ static vpx_codec_err_t decode_packet(vpx_state *state, const uint8_t *packet, si
 {
   /* The result is in `stream_info`, which keeps the last size if the packet has none. */
   (void)peek_stream_info(packet, (unsigned int)len, &state->stream_info);
-  int has_frame = vp8_decoder_frame(&state->decoder, packet, len, &state->frame) == VP8_OK;
+  if (!keep_packet(state, packet, len)) return refuse(state, VP8_MEMORY);
   vp8_status status = vp8_decoder_decode_keeping(&state->decoder, packet, len);
   if (status != VP8_OK && status != VP8_HIDDEN) return refuse(state, status);
-  state->has_frame = has_frame;
+  state->has_frame = 1;
   mark_frame(state);
   state->has_decoded = 1;
   state->user = user;
@@ -353,26 +400,32 @@ static vpx_codec_err_t decode(vpx_state *state, const uint8_t *data, unsigned in
 /* ---- controls. libvpx returns VPX_CODEC_INCAPABLE for those that are not in the list: VP8_SET_REFERENCE,
  * VP8_COPY_REFERENCE, VP8D_GET_LAST_REF_USED. */
 
-static vpx_codec_err_t give_number(const vpx_state *state, va_list arguments, int number)
+/* Gives a fact of the last frame. */
+static vpx_codec_err_t give_fact(vpx_state *state, va_list arguments, int (*fact)(const vp8_frame *))
 {
   int *out = va_arg(arguments, int *);
   if (!out) return VPX_CODEC_INVALID_PARAM;
   if (!state->has_frame) return VPX_CODEC_CORRUPT_FRAME;
-  *out = number;
+  *out = fact(last_frame(state));
   return VPX_CODEC_OK;
 }
 
+static int updates_of(const vp8_frame *frame)
+{
+  return (frame->refreshes_last ? VP8_LAST_FRAME : 0) | (frame->refreshes_golden ? VP8_GOLD_FRAME : 0) |
+         (frame->refreshes_altref ? VP8_ALTR_FRAME : 0);
+}
+
+static int quantiser_of(const vp8_frame *frame) { return (int)frame->quantiser; }
+
 static vpx_codec_err_t get_last_updates(vpx_state *state, va_list arguments)
 {
-  const vp8_frame *frame = &state->frame;
-  return give_number(state, arguments, (frame->refreshes_last ? VP8_LAST_FRAME : 0) |
-                                           (frame->refreshes_golden ? VP8_GOLD_FRAME : 0) |
-                                           (frame->refreshes_altref ? VP8_ALTR_FRAME : 0));
+  return give_fact(state, arguments, updates_of);
 }
 
 static vpx_codec_err_t get_last_quantiser(vpx_state *state, va_list arguments)
 {
-  return give_number(state, arguments, (int)state->frame.quantiser);
+  return give_fact(state, arguments, quantiser_of);
 }
 
 /* Whether the frame that was decoded last is damaged, or a packet after it was refused. */

@@ -18,6 +18,26 @@ HIDDEN = bytes([0x01, 0, 0])
 # A key packet that libvpx finds complete, and read past its end with one byte less.
 WHOLE = bytes.fromhex('9002009d012a11000100000000000000000000000000000000000000000029f88512004af0bfa30b8b')
 
+# Packets of 17 by 1 pixels: a key packet, an inter packet that only golden is refreshed with, and one for altref alone.
+# The pictures that they show by vpxdec and by ffmpeg.
+PACKETS = (
+    bytes.fromhex('9002009d012a110001000000000000000000000000000000000000000000a7e98cbcd0c81acce931bc410b89675c2c8747f7'
+                  '7c893f5691580a96f967c90af16584e827e7c097'),
+    bytes.fromhex('3102000000f020000097f1610000000000000000'
+                  'f156fd1ddbfdd791cc9fbb92f78a91970d077d1550d1c71ba1cb19a32572'),
+    bytes.fromhex('3102000000f010000097f1610000000000000000'
+                  'bce9edf887bea399dd5167e99f5b2ae452616247aad23b9af85fdae560bc'),
+)
+PICTURES = (
+    bytes.fromhex('8080808081818181807f80817d7e7f7f80808080808080808080808080807f80808181'),
+    bytes.fromhex('7f7f7f7f7f7f7f7f7f7f7f7f7f7f7f7f7f808080807d7d7d7d80808080808080808080'),
+    bytes.fromhex('80808080808080808686868686827e7b7f858585858080808080808080807d7d7d7d80'),
+)
+
+# A file of 16 by 16 pixels, by cwebp: its key packet is the 28 bytes from 20 on, by webpinfo. The left half is light,
+# and the right half dark: 186 and 50 by dwebp.
+WEBP = bytes.fromhex('524946462800000057454250565038201c0000005001009d012a1000100007409625a40004740000fe83fffd7c000000')
+
 
 def ivf(*packets):
     head = b'DKIF' + bytes([0, 0, 32, 0]) + b'VP80' + bytes([17, 0, 1, 0, 30, 0, 0, 0, 2, 0, 0, 0]) + bytes(8)
@@ -38,6 +58,26 @@ class Packets(unittest.TestCase):
         self.assertEqual([bytes(packet) for packet in vp8.packets(data)], [KEY, b'', HIDDEN])
         self.assertEqual(len(list(vp8.packets(data[:-1]))), 2)
         self.assertEqual(list(vp8.packets(b'')), [])
+
+
+class WebP(unittest.TestCase):
+    def test_a_file_is_read(self):
+        picture = vp8.webp_picture(WEBP)
+        self.assertEqual((picture.width, picture.height), (16, 16))
+        self.assertEqual(picture.data, (bytes([186]) * 8 + bytes([50]) * 8) * 16 + bytes([128]) * 128)
+        for data in (WEBP, bytearray(WEBP), memoryview(b'x' + WEBP)[1:]):
+            self.assertEqual(vp8.webp_packet(data), WEBP[20:])
+
+    def test_a_file_is_made(self):
+        self.assertEqual(vp8.webp_file(WEBP[20:]), WEBP)
+        self.assertEqual(len(vp8.webp_file(WEBP[20:47])), 48)
+
+    def test_faults_are_named(self):
+        self.assertEqual(status_of(vp8.webp_packet, WEBP[:47]), (vp8.TORN, 'Torn'))
+        self.assertEqual(status_of(vp8.webp_picture, WEBP[1:]), (vp8.SIGNATURE, 'Signature'))
+        self.assertEqual(status_of(vp8.webp_packet, WEBP.replace(b'VP8 ', b'VP8L')), (vp8.LOSSLESS, 'Lossless'))
+        self.assertEqual(status_of(vp8.webp_file, HIDDEN), (vp8.NOT_KEY, 'NotKey'))
+        self.assertEqual(status_of(vp8.webp_file, b'\x40' + WEBP[21:]), (vp8.HIDDEN, 'Hidden'))
 
 
 class Decoders(unittest.TestCase):
@@ -106,6 +146,16 @@ class Decoders(unittest.TestCase):
                     self.assertEqual(rows, copied.tolist())
                 self.assertRaises(TypeError, lent.y.__setitem__, (0, 0), 1)
             self.assertRaises(ValueError, lent.y.tolist)
+
+    def test_planes_and_references_are_told_apart(self):
+        with vp8.Decoder(17) as decoder:
+            for packet, wanted in zip(PACKETS, PICTURES):
+                self.assertEqual(decoder.decode(packet).data, wanted)
+                with decoder.lend() as lent:
+                    rows = [bytes(plane)[:width] for plane, width in ((lent.y, 17), (lent.u, 9), (lent.v, 9))]
+                    self.assertEqual(b''.join(rows), wanted)
+            for number, wanted in zip((vp8.LAST, vp8.GOLDEN, vp8.ALTREF), PICTURES):
+                self.assertEqual(decoder.reference(number).data, wanted)
 
     def test_packets_are_peeked(self):
         self.assertEqual(vp8.peek(KEY), vp8.PacketInfo(True, True, 17, 1))

@@ -18,6 +18,8 @@ trusts. A lock in each object keeps two threads out of one handle.
         stream.feed(piece)
         picture = stream.picture_at(len(stream) - 1)
 
+    picture = vp8.webp_picture(open('photo.webp', 'rb').read())
+
 The library is the file that the environment variable VP8_LIBRARY names, or libvp8.so.0 as the system finds it.
 """
 import collections
@@ -27,15 +29,17 @@ import os
 import threading
 
 __all__ = ['Decoder', 'Error', 'Frame', 'LentPicture', 'PacketInfo', 'Picture', 'Stream', 'StreamInfo', 'packets', 'peek',
-           'DEFAULT_MAX_PIXELS',
+           'webp_file', 'webp_packet', 'webp_picture', 'DEFAULT_MAX_PIXELS',
            'OK', 'HIDDEN', 'TRUNCATED', 'VERSION', 'START_CODE', 'SIZE', 'TOO_LARGE', 'NO_REFERENCE',
            'FIRST_PARTITION', 'PARTITION_TABLE', 'PARTITION', 'SIGNATURE', 'CODEC', 'TOO_MANY', 'PACKET_TOO_LARGE',
-           'TORN', 'ENDED', 'CLOSED', 'MEMORY', 'LIMITS', 'NO_PICTURE', 'NO_PACKET', 'LAST', 'GOLDEN', 'ALTREF']
+           'TORN', 'ENDED', 'LOSSLESS', 'ANIMATED', 'NOT_KEY', 'TOO_LONG', 'CLOSED', 'MEMORY', 'LIMITS', 'NO_PICTURE',
+           'NO_PACKET', 'LAST', 'GOLDEN', 'ALTREF']
 
 # The numbers of include/vp8.h. PARTITION + n is token partition n.
 OK, HIDDEN = 0, 1
 TRUNCATED, VERSION, START_CODE, SIZE, TOO_LARGE, NO_REFERENCE, FIRST_PARTITION, PARTITION_TABLE = range(16, 24)
-SIGNATURE, CODEC, TOO_MANY, PACKET_TOO_LARGE, TORN, ENDED = range(32, 38)
+SIGNATURE, CODEC, TOO_MANY, PACKET_TOO_LARGE, TORN, ENDED, LOSSLESS, ANIMATED, NOT_KEY = range(32, 41)
+TOO_LONG = 49
 CLOSED, OPEN, MEMORY, LIMITS, DIMENSIONS, NO_PICTURE, NO_PACKET, BUFFER = range(64, 72)
 PARTITION = 256
 
@@ -77,6 +81,9 @@ def _load():
     memory, numbers = ctypes.c_void_p, ctypes.POINTER(ctypes.c_uint32)
     declarations = {
         'vp8_status_name': (size, [number, memory, size]),
+        'vp8_webp_packet': (number, [memory, size, ctypes.POINTER(size), ctypes.POINTER(size)]),
+        'vp8_webp_file_size': (number, [memory, size, ctypes.POINTER(size)]),
+        'vp8_webp_file': (number, [memory, size, memory, size]),
         'vp8_peek': (number, [memory, size, ctypes.POINTER(_PacketInfo)]),
         'vp8_decoder_new': (number, [handle, number]),
         'vp8_decoder_decode': (number, [handle, memory, size]),
@@ -413,3 +420,30 @@ def packets(data):
             return
         yield view[at + 12:at + 12 + length]
         at += 12 + length
+
+
+def webp_packet(data):
+    """The key packet of a WebP file (bytes or a buffer), simple or extended, as a view of `data`.
+
+    Alpha, colour profiles and metadata are passed over. Raises Error: SIGNATURE, TORN, LOSSLESS, ANIMATED, NO_PICTURE,
+    NOT_KEY, HIDDEN."""
+    start, length = ctypes.c_size_t(), ctypes.c_size_t()
+    _check(_library.vp8_webp_packet(*_pointer(data), start, length))
+    return memoryview(data).cast('B')[start.value:start.value + length.value]
+
+
+def webp_file(packet):
+    """The WebP file of a key packet, as bytes. Only the packet's first bytes are looked at.
+
+    Raises Error: NOT_KEY, HIDDEN, TOO_LONG."""
+    size, (pointer, length) = ctypes.c_size_t(), _pointer(packet)
+    _check(_library.vp8_webp_file_size(pointer, length, size))
+    file = ctypes.create_string_buffer(size.value)
+    _check(_library.vp8_webp_file(pointer, length, file, size.value))
+    return file.raw
+
+
+def webp_picture(data, max_pixels=DEFAULT_MAX_PIXELS):
+    """The Picture of a WebP file. Raises Error as webp_packet and Decoder.decode do."""
+    with Decoder(max_pixels) as decoder:
+        return decoder.decode(webp_packet(data))

@@ -1,4 +1,5 @@
-/* refusals: calls what include/vp8.h says is refused, and ends with 1 where an answer is another one. */
+/* refusals: calls what include/vp8.h says is refused, and compares what other calls give. It ends with 1 where an answer
+ * is another one. */
 #include <stdio.h>
 #include <string.h>
 
@@ -135,6 +136,85 @@ static void growing_streams(void)
   vp8_stream_free(&stream);
 }
 
+/* Packets of 17 by 1 pixels: a key packet, an inter packet that only golden is refreshed with, and one for altref
+ * alone. */
+static const uint8_t FIRST[] = {
+  0x90, 2, 0, 0x9d, 1, 0x2a, 0x11, 0, 1, 0, 0, 0, 0, 0, 0, 0, 0, 0, 0, 0, 0, 0, 0, 0, 0, 0, 0, 0, 0, 0, 0xa7, 0xe9,
+  0x8c, 0xbc, 0xd0, 0xc8, 0x1a, 0xcc, 0xe9, 0x31, 0xbc, 0x41, 0x0b, 0x89, 0x67, 0x5c, 0x2c, 0x87, 0x47, 0xf7, 0x7c,
+  0x89, 0x3f, 0x56, 0x91, 0x58, 0x0a, 0x96, 0xf9, 0x67, 0xc9, 0x0a, 0xf1, 0x65, 0x84, 0xe8, 0x27, 0xe7, 0xc0, 0x97 };
+static const uint8_t GOLDEN[] = {
+  0x31, 2, 0, 0, 0, 0xf0, 0x20, 0, 0, 0x97, 0xf1, 0x61, 0, 0, 0, 0, 0, 0, 0, 0, 0xf1, 0x56, 0xfd, 0x1d, 0xdb, 0xfd,
+  0xd7, 0x91, 0xcc, 0x9f, 0xbb, 0x92, 0xf7, 0x8a, 0x91, 0x97, 0x0d, 7, 0x7d, 0x15, 0x50, 0xd1, 0xc7, 0x1b, 0xa1,
+  0xcb, 0x19, 0xa3, 0x25, 0x72 };
+static const uint8_t ALTREF[] = {
+  0x31, 2, 0, 0, 0, 0xf0, 0x10, 0, 0, 0x97, 0xf1, 0x61, 0, 0, 0, 0, 0, 0, 0, 0, 0xbc, 0xe9, 0xed, 0xf8, 0x87, 0xbe,
+  0xa3, 0x99, 0xdd, 0x51, 0x67, 0xe9, 0x9f, 0x5b, 0x2a, 0xe4, 0x52, 0x61, 0x62, 0x47, 0xaa, 0xd2, 0x3b, 0x9a, 0xf8,
+  0x5f, 0xda, 0xe5, 0x60, 0xbc };
+
+/* The pictures that they show by vpxdec and by ffmpeg: Y, U and V. */
+static const uint8_t PICTURES[3][35] = {
+  { 128, 128, 128, 128, 129, 129, 129, 129, 128, 127, 128, 129, 125, 126, 127, 127, 128,
+    128, 128, 128, 128, 128, 128, 128, 128, 128,
+    128, 128, 128, 128, 127, 128, 128, 129, 129 },
+  { 127, 127, 127, 127, 127, 127, 127, 127, 127, 127, 127, 127, 127, 127, 127, 127, 127,
+    128, 128, 128, 128, 125, 125, 125, 125, 128,
+    128, 128, 128, 128, 128, 128, 128, 128, 128 },
+  { 128, 128, 128, 128, 128, 128, 128, 128, 134, 134, 134, 134, 134, 130, 126, 123, 127,
+    133, 133, 133, 133, 128, 128, 128, 128, 128,
+    128, 128, 128, 128, 125, 125, 125, 125, 128 } };
+
+static int is_lent(const vp8_lent_picture *lent, const uint8_t *wanted)
+{
+  return lent->width == 17 && lent->height == 1 && memcmp(lent->y.at, wanted, 17) == 0 &&
+         memcmp(lent->u.at, wanted + 17, 9) == 0 && memcmp(lent->v.at, wanted + 26, 9) == 0;
+}
+
+/* No plane is taken for another one, nor a reference frame. */
+static void planes_and_references(void)
+{
+  const uint8_t *packets[3] = { FIRST, GOLDEN, ALTREF };
+  const size_t lens[3] = { sizeof FIRST, sizeof GOLDEN, sizeof ALTREF };
+  uint8_t copy[35];
+  vp8_lent_picture lent;
+  vp8_decoder decoder = VP8_INIT;
+  expect("new", vp8_decoder_new(&decoder, 17), VP8_OK);
+  for (int k = 0; k < 3; k++) {
+    expect("a packet", vp8_decoder_decode(&decoder, packets[k], lens[k]), VP8_OK);
+    expect("copy", vp8_decoder_copy(&decoder, copy, 17, 17, copy + 17, 9, 9, copy + 26, 9, 9), VP8_OK);
+    expect("planes", memcmp(copy, PICTURES[k], 35) == 0, 1);
+    expect("lend", vp8_decoder_lend(&decoder, &lent), VP8_OK);
+    expect("lent planes", is_lent(&lent, PICTURES[k]), 1);
+  }
+  for (uint32_t k = 0; k < 3; k++) {
+    expect("a reference",
+           vp8_decoder_reference(&decoder, VP8_LAST + k, copy, 17, 17, copy + 17, 9, 9, copy + 26, 9, 9), VP8_OK);
+    expect("its planes", memcmp(copy, PICTURES[k], 35) == 0, 1);
+  }
+  vp8_decoder_free(&decoder);
+}
+
+/* A file of 16 by 16 pixels, by cwebp: its key packet is the 28 bytes from 20 on, by webpinfo. */
+static const uint8_t WEBP[48] = {
+  0x52, 0x49, 0x46, 0x46, 0x28, 0, 0, 0, 0x57, 0x45, 0x42, 0x50, 0x56, 0x50, 0x38, 0x20, 0x1c, 0, 0, 0, 0x50, 1, 0,
+  0x9d, 1, 0x2a, 0x10, 0, 0x10, 0, 7, 0x40, 0x96, 0x25, 0xa4, 0, 4, 0x74, 0, 0, 0xfe, 0x83, 0xff, 0xfd, 0x7c, 0, 0, 0 };
+
+static void webp_files(void)
+{
+  uint8_t out[48];
+  size_t start = 7, len = 7, size = 7;
+  expect("a cut file", vp8_webp_packet(WEBP, 47, &start, &len), VP8_TORN);
+  expect("no WebP file", vp8_webp_packet(WEBP + 1, 47, &start, &len), VP8_SIGNATURE);
+  expect("nothing written", start * 10 + len, 77);
+  expect("a WebP file", vp8_webp_packet(WEBP, 48, &start, &len), VP8_OK);
+  expect("its packet", start * 100 + len, 2028);
+  expect("no key packet", vp8_webp_file_size(INTER, sizeof INTER, &size), VP8_NOT_KEY);
+  expect("a packet's file", vp8_webp_file_size(WEBP + start, len, &size), VP8_OK);
+  expect("its size", size, 48);
+  expect("a short buffer", vp8_webp_file(WEBP + start, len, out, 47), VP8_BUFFER);
+  expect("the file", vp8_webp_file(WEBP + start, len, out, 48), VP8_OK);
+  expect("its bytes", memcmp(out, WEBP, 48) == 0, 1);
+}
+
 static void encoders(void)
 {
   uint8_t grey[256];
@@ -169,6 +249,8 @@ int main(void)
   decoders();
   streams();
   growing_streams();
+  planes_and_references();
+  webp_files();
   encoders();
   names();
   return failed;

@@ -84,6 +84,20 @@ impl LentPlane {
 extern "C" {
     pub fn vp8_status_name(status: u32, out: *mut u8, out_len: usize) -> usize;
 
+    pub fn vp8_webp_packet(
+        file: *const u8,
+        file_len: usize,
+        start: *mut usize,
+        len: *mut usize,
+    ) -> u32;
+    pub fn vp8_webp_file_size(packet: *const u8, packet_len: usize, size: *mut usize) -> u32;
+    pub fn vp8_webp_file(
+        packet: *const u8,
+        packet_len: usize,
+        out: *mut u8,
+        out_len: usize,
+    ) -> u32;
+
     pub fn vp8_peek(packet: *const u8, packet_len: usize, info: *mut PacketInfo) -> u32;
 
     pub fn vp8_decoder_new(decoder: *mut Handle, max_pixels: u32) -> u32;

@@ -21,6 +21,17 @@
 //! # }
 //! ```
 //!
+//! The picture of a WebP file:
+//!
+//! ```no_run
+//! # fn main() -> Result<(), Box<dyn std::error::Error>> {
+//! let file = std::fs::read("photo.webp")?;
+//! let picture = vp8::webp_picture(&file)?;
+//! println!("{}x{}", picture.width(), picture.height());
+//! # Ok(())
+//! # }
+//! ```
+//!
 //! All pictures of a file:
 //!
 //! ```no_run
@@ -47,6 +58,7 @@ mod packet;
 mod picture;
 mod status;
 mod stream;
+mod webp;
 
 pub use decoder::{Decoder, Reference};
 pub use lent::{LentPicture, LentPlane};
@@ -54,3 +66,4 @@ pub use packet::{peek, Frame, PacketInfo};
 pub use picture::Picture;
 pub use status::Status;
 pub use stream::{packets, Packets, Stream, StreamInfo};
+pub use webp::{webp_file, webp_packet, webp_picture};

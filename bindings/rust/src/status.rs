@@ -13,6 +13,9 @@ impl Status {
     pub(crate) const OK: u32 = 0;
     pub(crate) const HIDDEN: u32 = 1;
 
+    /// The packet of a WebP file is not to be shown.
+    pub const NOT_SHOWN: Status = Status(1);
+
     /// Fewer than 3 bytes, or fewer than 10 of a key packet.
     pub const TRUNCATED: Status = Status(16);
     /// A version over 3.
@@ -29,7 +32,7 @@ impl Status {
     pub const FIRST_PARTITION: Status = Status(22);
     /// The table of the token partitions' sizes passes the end of the packet.
     pub const PARTITION_TABLE: Status = Status(23);
-    /// The file's head does not begin with DKIF.
+    /// The file's head does not begin with DKIF, or that of a WebP file with RIFF, its size, and WEBP.
     pub const SIGNATURE: Status = Status(32);
     /// The file's head does not say VP80.
     pub const CODEC: Status = Status(33);
@@ -41,11 +44,19 @@ impl Status {
     pub const TORN: Status = Status(36);
     /// A piece is fed after the end of the file was marked.
     pub const ENDED: Status = Status(37);
+    /// The picture of a WebP file is compressed losslessly.
+    pub const LOSSLESS: Status = Status(38);
+    /// A WebP file is an animation.
+    pub const ANIMATED: Status = Status(39);
+    /// The packet of a WebP file is not a key packet.
+    pub const NOT_KEY: Status = Status(40);
+    /// The packet is too long for a WebP file.
+    pub const TOO_LONG: Status = Status(49);
     /// Memory was refused.
     pub const MEMORY: Status = Status(66);
     /// The limit on pixels is 0, or over 268,402,689.
     pub const LIMITS: Status = Status(67);
-    /// No picture is shown.
+    /// No picture is shown, or a WebP file has none.
     pub const NO_PICTURE: Status = Status(69);
     /// The file has no packet of this number.
     pub const NO_PACKET: Status = Status(70);

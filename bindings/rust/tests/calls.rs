@@ -1,7 +1,8 @@
 //! Tests of each call. A key packet of 17 by 1 pixels with an empty first partition shows 128 in each pixel.
 
 use vp8::{
-    packets, peek, Decoder, Frame, PacketInfo, Picture, Reference, Status, Stream, StreamInfo,
+    packets, peek, webp_file, webp_packet, webp_picture, Decoder, Frame, PacketInfo, Picture,
+    Reference, Status, Stream, StreamInfo,
 };
 
 const KEY: [u8; 10] = [0x10, 0, 0, 0x9d, 0x01, 0x2a, 17, 0, 1, 0];
@@ -280,5 +281,88 @@ fn pictures_are_lent() -> Result<(), Status> {
     ] {
         assert_eq!(plane.rows().flatten().copied().collect::<Vec<_>>(), copied);
     }
+    Ok(())
+}
+
+/// Packets of 17 by 1 pixels: a key packet, an inter packet that only golden is refreshed with, and one for altref
+/// alone.
+const PACKETS: [&[u8]; 3] = [
+    &[
+        0x90, 2, 0, 0x9d, 1, 0x2a, 0x11, 0, 1, 0, 0, 0, 0, 0, 0, 0, 0, 0, 0, 0, 0, 0, 0, 0, 0, 0,
+        0, 0, 0, 0, 0xa7, 0xe9, 0x8c, 0xbc, 0xd0, 0xc8, 0x1a, 0xcc, 0xe9, 0x31, 0xbc, 0x41, 0x0b,
+        0x89, 0x67, 0x5c, 0x2c, 0x87, 0x47, 0xf7, 0x7c, 0x89, 0x3f, 0x56, 0x91, 0x58, 0x0a, 0x96,
+        0xf9, 0x67, 0xc9, 0x0a, 0xf1, 0x65, 0x84, 0xe8, 0x27, 0xe7, 0xc0, 0x97,
+    ],
+    &[
+        0x31, 2, 0, 0, 0, 0xf0, 0x20, 0, 0, 0x97, 0xf1, 0x61, 0, 0, 0, 0, 0, 0, 0, 0, 0xf1, 0x56,
+        0xfd, 0x1d, 0xdb, 0xfd, 0xd7, 0x91, 0xcc, 0x9f, 0xbb, 0x92, 0xf7, 0x8a, 0x91, 0x97, 0x0d,
+        7, 0x7d, 0x15, 0x50, 0xd1, 0xc7, 0x1b, 0xa1, 0xcb, 0x19, 0xa3, 0x25, 0x72,
+    ],
+    &[
+        0x31, 2, 0, 0, 0, 0xf0, 0x10, 0, 0, 0x97, 0xf1, 0x61, 0, 0, 0, 0, 0, 0, 0, 0, 0xbc, 0xe9,
+        0xed, 0xf8, 0x87, 0xbe, 0xa3, 0x99, 0xdd, 0x51, 0x67, 0xe9, 0x9f, 0x5b, 0x2a, 0xe4, 0x52,
+        0x61, 0x62, 0x47, 0xaa, 0xd2, 0x3b, 0x9a, 0xf8, 0x5f, 0xda, 0xe5, 0x60, 0xbc,
+    ],
+];
+
+/// The pictures that these packets show by vpxdec and by ffmpeg: Y, U and V.
+const PICTURES: [[u8; 35]; 3] = [
+    [
+        128, 128, 128, 128, 129, 129, 129, 129, 128, 127, 128, 129, 125, 126, 127, 127, 128, 128,
+        128, 128, 128, 128, 128, 128, 128, 128, 128, 128, 128, 128, 127, 128, 128, 129, 129,
+    ],
+    [
+        127, 127, 127, 127, 127, 127, 127, 127, 127, 127, 127, 127, 127, 127, 127, 127, 127, 128,
+        128, 128, 128, 125, 125, 125, 125, 128, 128, 128, 128, 128, 128, 128, 128, 128, 128,
+    ],
+    [
+        128, 128, 128, 128, 128, 128, 128, 128, 134, 134, 134, 134, 134, 130, 126, 123, 127, 133,
+        133, 133, 133, 128, 128, 128, 128, 128, 128, 128, 128, 128, 125, 125, 125, 125, 128,
+    ],
+];
+
+#[test]
+fn planes_and_references_are_told_apart() -> Result<(), Status> {
+    let mut picture = Picture::new();
+    let mut decoder = Decoder::new(17)?;
+    for (packet, wanted) in PACKETS.into_iter().zip(PICTURES) {
+        assert!(decoder.decode(packet)?);
+        decoder.picture(&mut picture)?;
+        assert_eq!(picture.bytes(), wanted);
+        let lent = decoder.lend()?;
+        let rows = [lent.y, lent.u, lent.v].map(|plane| plane.rows().collect::<Vec<_>>().concat());
+        assert_eq!(rows.concat(), wanted);
+    }
+    for (number, wanted) in [Reference::Last, Reference::Golden, Reference::Altref]
+        .into_iter()
+        .zip(PICTURES)
+    {
+        decoder.reference(number, &mut picture)?;
+        assert_eq!(picture.bytes(), wanted);
+    }
+    Ok(())
+}
+
+/// A file of 16 by 16 pixels, by cwebp: its key packet is the 28 bytes from 20 on, by webpinfo. The left half is light,
+/// and the right half dark: 186 and 50 by dwebp.
+const WEBP: [u8; 48] = [
+    0x52, 0x49, 0x46, 0x46, 0x28, 0, 0, 0, 0x57, 0x45, 0x42, 0x50, 0x56, 0x50, 0x38, 0x20, 0x1c, 0,
+    0, 0, 0x50, 1, 0, 0x9d, 1, 0x2a, 0x10, 0, 0x10, 0, 7, 0x40, 0x96, 0x25, 0xa4, 0, 4, 0x74, 0, 0,
+    0xfe, 0x83, 0xff, 0xfd, 0x7c, 0, 0, 0,
+];
+
+#[test]
+fn webp_files_are_read_and_made() -> Result<(), Status> {
+    assert_eq!(webp_packet(&WEBP), Ok(&WEBP[20..]));
+    assert_eq!(webp_file(&WEBP[20..]), Ok(WEBP.to_vec()));
+    let picture = webp_picture(&WEBP)?;
+    assert_eq!((picture.width(), picture.height()), (16, 16));
+    assert_eq!(picture.y(), [[186; 8], [50; 8]].concat().repeat(16));
+    assert_eq!((picture.u(), picture.v()), (&[128; 64][..], &[128; 64][..]));
+    assert_eq!(webp_packet(&WEBP[..47]), Err(Status::TORN));
+    assert_eq!(webp_packet(&WEBP[1..]), Err(Status::SIGNATURE));
+    assert_eq!(webp_file(&WEBP[20..22]), Err(Status::NOT_KEY));
+    let hidden = [&[0x40], &WEBP[21..]].concat();
+    assert_eq!(webp_file(&hidden), Err(Status::NOT_SHOWN));
     Ok(())
 }

@@ -1,6 +1,6 @@
 -- Rows written one after another.
 use borrow.Author.Rules.{rules}
-use Rattle.std.proofs.Common.{◌≡◌, ◌≤◌, ◌<◌, ◌∙◌, ℕ, ◌+◌, ◌-◌, ◌*◌, ◌/◌, ap₂, List, length, take, get_or, refl, ap, sym, subst, inl, inr, arith}
+use Rattle.std.proofs.Common.{◌≡◌, ◌≤◌, ◌<◌, ◌∙◌, ℕ, ◌+◌, ◌-◌, ◌*◌, ap₂, List, length, take, get_or, refl, ap, sym, subst, inl, inr, arith}
 use Rattle.std.proofs.lemmas.Nat.{rows}
 use Rattle.std.proofs.lemmas.Bool.{cases_lt}
 use Rattle.std.specs.Prelude.{slice_range}

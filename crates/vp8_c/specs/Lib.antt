@@ -12,3 +12,4 @@ pub mod Planes
 pub mod Slot
 pub mod Status
 pub mod Lent
+pub mod WebP

@@ -4,7 +4,7 @@ use Rattle.vp8_c.specs.declared.status.TheConstants.{OK, HIDDEN, TRUNCATED, VERS
 use Rattle.vp8_c.specs.declared.status.TheConstants.{NO_REFERENCE, FIRST_PARTITION, PARTITION_TABLE, PARTITION}
 use Rattle.vp8_c.specs.declared.status.TheConstants.{SIGNATURE, CODEC, TOO_MANY, PACKET_TOO_LARGE, TORN, ENDED}
 use Rattle.vp8_c.specs.declared.status.TheConstants.{SETTINGS, TOO_LONG, CLOSED, OPEN, MEMORY, LIMITS, DIMENSIONS}
-use Rattle.vp8_c.specs.declared.status.TheConstants.{NO_PICTURE, NO_PACKET, BUFFER}
+use Rattle.vp8_c.specs.declared.status.TheConstants.{NO_PICTURE, NO_PACKET, BUFFER, LOSSLESS, ANIMATED, NOT_KEY}
 
 -- success, by its number
 abbrev pub done_name : ℕ → List ℕ
@@ -35,6 +35,9 @@ file_name n =
     if n == PACKET_TOO_LARGE then codes "PacketTooLarge" else
     if n == TORN then codes "Torn" else
     if n == ENDED then codes "Ended" else
+    if n == LOSSLESS then codes "Lossless" else
+    if n == ANIMATED then codes "Animated" else
+    if n == NOT_KEY then codes "NotKey" else
     []
 
 -- an encoder's fault, by its number

@@ -1,6 +1,6 @@
 //! The C functions for decoding packets.
 
-ghost use Rattle.std.specs.Prelude.{◌≡◌, ◌⊎◌, ◌↔◌, None, IfSome, IsSomeAnd};
+ghost use Rattle.std.specs.Prelude.{◌≡◌, ◌⊎◌, ◌↔◌, None, IfSome, IsSomeAnd, Ok, false};
 ghost use Rattle.vp8_c.specs.Handle.{handle_value_in};
 ghost use Rattle.vp8_c.specs.Arguments.{CopiesPicture, GivesOrFails, IsClosed, Opens, Puts, size_of};
 ghost use Rattle.vp8_c.specs.Planes.{planes_of};
@@ -29,6 +29,7 @@ pub extern "C" fn vp8_decoder_new(alloc: Global, decoder: &mut Handle, max_pixel
     ensures answer { (result ≡ OK) ⊎ (result ≡ OPEN) ⊎ (result ≡ LIMITS) ⊎ (result ≡ MEMORY) }
     ensures opens { Opens (λ h. IsSomeAnd (decoder_in h) (IsFresh max_pixels)) result decoder.old decoder.new }
     ensures limits { handle_value_in decoder.old ≡ None → ((result ≡ LIMITS) ↔ IsNoLimit max_pixels) }
+    ensures sound { result ≡ OK → corrupt_in decoder.new ≡ Ok false }
 {
     if decoder.is_open() {
         return OPEN;

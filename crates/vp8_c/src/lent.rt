@@ -4,7 +4,7 @@ ghost use Rattle.std.specs.Prelude.{◌≡◌};
 ghost use denote.RawPtr.{block_ptr};
 ghost use Rattle.vp8_c.specs.Lent.{IsLayoutOf};
 
-use vp_base::{Picture, Plane};
+use vp_base::Picture;
 
 /// A plane that is lent to C.
 #[repr(C)]
@@ -40,13 +40,14 @@ fn address_of(bytes: &[u8]) -> *const u8
 }
 
 impl LentPlane {
-    /// Lends a plane.
-    fn of(plane: &Plane) -> LentPlane
-        ensures { result.stride ≡ plane.now.width }
+    /// Lends a plane: these pixels, with this distance from one row to the next.
+    fn of(pixels: &[u8], stride: usize) -> LentPlane
+        ensures at { result.at ≡ block_ptr pixels.entry.ref_ptr.0 pixels.entry.ref_ptr.1 }
+        ensures stride { result.stride ≡ stride }
     {
         LentPlane {
-            at: address_of(plane.pixels()),
-            stride: plane.width(),
+            at: address_of(pixels),
+            stride,
         }
     }
 }
@@ -57,12 +58,13 @@ impl LentPicture {
         ensures { IsLayoutOf picture.now result }
     {
         let dim = picture.dim();
+        let (y, u, v) = (picture.plane(0), picture.plane(1), picture.plane(2));
         LentPicture {
             width: u32::from(dim.w),
             height: u32::from(dim.h),
-            y: LentPlane::of(picture.plane(0)),
-            u: LentPlane::of(picture.plane(1)),
-            v: LentPlane::of(picture.plane(2)),
+            y: LentPlane::of(y.pixels(), y.width()),
+            u: LentPlane::of(u.pixels(), u.width()),
+            v: LentPlane::of(v.pixels(), v.width()),
         }
     }
 }

@@ -24,3 +24,6 @@ mod stream;
 mod stream_handle;
 #[cfg(test)]
 mod tests;
+mod webp;
+#[cfg(test)]
+mod webp_tests;

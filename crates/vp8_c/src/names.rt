@@ -6,9 +6,10 @@ ghost use Rattle.vp8_c.specs.Names.{status_name, packet_name, partition_name, fi
 ghost use Rattle.vp8_c.specs.Names.{frame_name};
 
 use crate::status::{
-    BUFFER, CLOSED, CODEC, DIMENSIONS, ENDED, FIRST_PARTITION, HIDDEN, LIMITS, MEMORY, NO_PACKET,
-    NO_PICTURE, NO_REFERENCE, OK, OPEN, PACKET_TOO_LARGE, PARTITION, PARTITION_TABLE, SETTINGS,
-    SIGNATURE, SIZE, START_CODE, TOO_LARGE, TOO_LONG, TOO_MANY, TORN, TRUNCATED, VERSION,
+    ANIMATED, BUFFER, CLOSED, CODEC, DIMENSIONS, ENDED, FIRST_PARTITION, HIDDEN, LIMITS, LOSSLESS,
+    MEMORY, NO_PACKET, NO_PICTURE, NO_REFERENCE, NOT_KEY, OK, OPEN, PACKET_TOO_LARGE, PARTITION,
+    PARTITION_TABLE, SETTINGS, SIGNATURE, SIZE, START_CODE, TOO_LARGE, TOO_LONG, TOO_MANY, TORN,
+    TRUNCATED, VERSION,
 };
 
 /// Returns the name of a status of success.
@@ -50,6 +51,9 @@ fn file_name(status: u32) -> &'static str
         PACKET_TOO_LARGE => "PacketTooLarge",
         TORN => "Torn",
         ENDED => "Ended",
+        LOSSLESS => "Lossless",
+        ANIMATED => "Animated",
+        NOT_KEY => "NotKey",
         _ => "",
     }
 }

@@ -1,11 +1,12 @@
 //! The status numbers of the C interface.
 
 ghost use Rattle.std.specs.Prelude.{◌≡◌};
-ghost use Rattle.vp8_c.specs.Status.{fault_number, file_number, outcome_number};
+ghost use Rattle.vp8_c.specs.Status.{fault_number, file_number, outcome_number, webp_number, webp_write_number};
 
 use vp_decode::Outcome;
 use vp_head::PacketFault;
 use vp_ivf::FileFault;
+use vp_webp::{WebPFault, WebPWriteFault};
 
 /// Success. For a packet: it is decoded and its picture is shown.
 pub const OK: u32 = 0;
@@ -43,10 +44,16 @@ pub const PACKET_TOO_LARGE: u32 = 35;
 pub const TORN: u32 = 36;
 /// The file has ended.
 pub const ENDED: u32 = 37;
+/// The picture of the WebP file is compressed losslessly.
+pub const LOSSLESS: u32 = 38;
+/// The WebP file is an animation.
+pub const ANIMATED: u32 = 39;
+/// The packet of the WebP file is not a key packet.
+pub const NOT_KEY: u32 = 40;
 
 /// A setting is out of its range.
 pub const SETTINGS: u32 = 48;
-/// A partition of the packet is too long for the format.
+/// A partition of the packet, or the packet of a WebP file, is too long for the format.
 pub const TOO_LONG: u32 = 49;
 
 /// The handle is closed, or has another kind of value.
@@ -105,5 +112,32 @@ pub fn file_number(fault: FileFault) -> u32
         FileFault::PacketTooLarge => PACKET_TOO_LARGE,
         FileFault::Torn => TORN,
         FileFault::Ended => ENDED,
+    }
+}
+
+/// Returns the status number of a WebP file's fault.
+pub fn webp_number(fault: WebPFault) -> u32
+    ensures { result ≡ webp_number fault }
+{
+    match fault {
+        WebPFault::Signature => SIGNATURE,
+        WebPFault::Torn => TORN,
+        WebPFault::Lossless => LOSSLESS,
+        WebPFault::Animated => ANIMATED,
+        WebPFault::NoPicture => NO_PICTURE,
+        WebPFault::NotKey => NOT_KEY,
+        WebPFault::Hidden => HIDDEN,
+    }
+}
+
+/// Returns the status number of why a packet has no WebP file in the caller's buffer.
+pub fn webp_write_number(fault: WebPWriteFault) -> u32
+    ensures { result ≡ webp_write_number fault }
+{
+    match fault {
+        WebPWriteFault::NotKey => NOT_KEY,
+        WebPWriteFault::Hidden => HIDDEN,
+        WebPWriteFault::TooLong => TOO_LONG,
+        WebPWriteFault::Device => BUFFER,
     }
 }

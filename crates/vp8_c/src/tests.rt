@@ -6,10 +6,10 @@ use crate::names::status_name;
 use crate::planes::{CallerPlanes, CallerPlanesMut, Strides};
 use crate::rows::{put_picture, put_size, read_picture};
 use crate::status::{
-    BUFFER, CLOSED, CODEC, DIMENSIONS, ENDED, FIRST_PARTITION, HIDDEN, LIMITS, MEMORY, NO_PACKET,
-    NO_PICTURE, NO_REFERENCE, OK, OPEN, PACKET_TOO_LARGE, PARTITION, PARTITION_TABLE, SETTINGS,
-    SIGNATURE, SIZE, START_CODE, TOO_LARGE, TOO_LONG, TOO_MANY, TORN, TRUNCATED, VERSION,
-    fault_number, file_number, outcome_number,
+    ANIMATED, BUFFER, CLOSED, CODEC, DIMENSIONS, ENDED, FIRST_PARTITION, HIDDEN, LIMITS, LOSSLESS,
+    MEMORY, NO_PACKET, NO_PICTURE, NO_REFERENCE, NOT_KEY, OK, OPEN, PACKET_TOO_LARGE, PARTITION,
+    PARTITION_TABLE, SETTINGS, SIGNATURE, SIZE, START_CODE, TOO_LARGE, TOO_LONG, TOO_MANY, TORN,
+    TRUNCATED, VERSION, fault_number, file_number, outcome_number, webp_number, webp_write_number,
 };
 use std::alloc::Global;
 use std::fmt::Debug;
@@ -19,6 +19,7 @@ use vp_base::{Dim, Limits, Picture};
 use vp_decode::{Decoder, Outcome};
 use vp_head::PacketFault;
 use vp_ivf::FileFault;
+use vp_webp::{WebPFault, WebPWriteFault};
 
 /// Fails the test if the values differ, and prints both.
 fn equal<T: PartialEq + Debug>(rt: &impl Abort, found: &T, wanted: &T) {
@@ -64,6 +65,28 @@ fn numbers_of_file_faults(rt: HostRuntime) {
         equal(&rt, &file_number(fault), &number);
         assert!(rt; status_name(number) == name);
     }
+}
+
+/// The numbers and names of a WebP file's faults, and of why a packet has no file, are those of the header.
+#[test]
+fn numbers_of_webp_faults(rt: HostRuntime) {
+    let faults = [
+        (WebPFault::Signature, 32, "Signature"),
+        (WebPFault::Torn, 36, "Torn"),
+        (WebPFault::Lossless, 38, "Lossless"),
+        (WebPFault::Animated, 39, "Animated"),
+        (WebPFault::NoPicture, 69, "NoPicture"),
+        (WebPFault::NotKey, 40, "NotKey"),
+        (WebPFault::Hidden, 1, "Hidden"),
+    ];
+    for (fault, number, name) in faults {
+        equal(&rt, &webp_number(fault), &number);
+        assert!(rt; status_name(number) == name);
+    }
+    equal(&rt, &webp_write_number(WebPWriteFault::NotKey), &40);
+    equal(&rt, &webp_write_number(WebPWriteFault::Hidden), &1);
+    equal(&rt, &webp_write_number(WebPWriteFault::TooLong), &49);
+    equal(&rt, &webp_write_number(WebPWriteFault::Device), &71);
 }
 
 /// The names of the other statuses.
@@ -112,6 +135,9 @@ fn numbers_of_the_header(rt: HostRuntime) {
         (PACKET_TOO_LARGE, 35),
         (TORN, 36),
         (ENDED, 37),
+        (LOSSLESS, 38),
+        (ANIMATED, 39),
+        (NOT_KEY, 40),
         (SETTINGS, 48),
         (TOO_LONG, 49),
         (CLOSED, 64),

@@ -1,5 +1,7 @@
 //! Tests of a decoder that goes on after damage, and of the facts of frames.
 
+ghost use Rattle.std.specs.Prelude.{◌<◌, ◌≤◌, length};
+
 use crate::check::equal;
 use crate::files::{HIDDEN, INTER, KEY, append_runs};
 use std::alloc::{AllocError, Global};
@@ -272,5 +274,60 @@ fn corrupt_frames(rt: HostRuntime) -> Result<(), Fail> {
     let mut decoder = Decoder::new(alloc, Limits::usual());
     let empty = decoder.decode_checked(&KEY, OnFault::Forget)?;
     equal(&rt, &empty.corrupt, &true);
+    Ok(())
+}
+
+// Returns whether the key packet with a first partition of so many zeros is corrupt.
+fn is_corrupt_after(alloc: Global, zeros: usize) -> Result<bool, AllocError>
+    requires { zeros ≤ 20 }
+{
+    let mut packet = Vec::new(alloc);
+    let size = (zeros * 32) as u16;
+    packet.extend_from_slice(&[0x10 + (size % 256) as u8, (size / 256) as u8, 0])?;
+    packet.extend_from_slice(&[0x9d, 0x01, 0x2a, 17, 0, 1, 0])?;
+    packet.extend_from_slice(&[0; 20][..zeros])?;
+    packet.extend_from_slice(WHOLE[0])?;
+    let mut decoder = Decoder::new(alloc, Limits::usual());
+    Ok(decoder.decode_checked(&packet, OnFault::Keep)?.corrupt)
+}
+
+/// A frame is corrupt if only its first partition ends too early. Its header and the modes of two macroblocks, all
+/// zeros, shift in 51 bits, counted by another program: 7 bytes after the first one, and not 6.
+#[test]
+fn first_partitions_are_judged(rt: HostRuntime) -> Result<(), Fail> {
+    let alloc = rt.alloc();
+    equal(&rt, &is_corrupt_after(alloc, 8)?, &false);
+    equal(&rt, &is_corrupt_after(alloc, 7)?, &true);
+    Ok(())
+}
+
+// Token partitions of a key packet of 1 by 17 pixels, made from random bytes: one for each row of macroblocks, and as
+// many bytes as libvpx 1.12 needs to find the frame complete. With one byte less of either it reports damage.
+const FIRST_ROW: [u8; 7] = [0x82, 0xb7, 0x0e, 0xee, 0x7f, 0x1a, 0x50];
+
+const SECOND_ROW: [u8; 10] = [0x40, 0x43, 0, 2, 0x6b, 0x6e, 0x54, 0x55, 0x94, 0xa0];
+
+// Returns whether the key packet with these two token partitions is corrupt.
+fn is_corrupt_by_rows(alloc: Global, first: &[u8], second: &[u8]) -> Result<bool, AllocError>
+    requires { length first.now < 256 }
+{
+    let mut packet = Vec::new(alloc);
+    packet.extend_from_slice(&[0x70, 2, 0, 0x9d, 0x01, 0x2a, 1, 0, 17, 0])?;
+    packet.extend_from_slice(&[0, 1, 0x0a, 0, 0, 0, 0, 0, 0, 0, 0, 0, 0, 0, 0, 0, 0, 0, 0])?;
+    packet.extend_from_slice(&[first.len() as u8, 0, 0])?;
+    packet.extend_from_slice(first)?;
+    packet.extend_from_slice(second)?;
+    let mut decoder = Decoder::new(alloc, Limits::usual());
+    Ok(decoder.decode_checked(&packet, OnFault::Keep)?.corrupt)
+}
+
+/// A frame is corrupt if only one of its token partitions ends too early, whichever it is.
+#[test]
+fn token_partitions_are_judged_one_by_one(rt: HostRuntime) -> Result<(), Fail> {
+    let alloc = rt.alloc();
+    let whole = is_corrupt_by_rows(alloc, &FIRST_ROW, &SECOND_ROW)?;
+    let first_cut = is_corrupt_by_rows(alloc, &FIRST_ROW[..6], &SECOND_ROW)?;
+    let second_cut = is_corrupt_by_rows(alloc, &FIRST_ROW, &SECOND_ROW[..9])?;
+    equal(&rt, &[whole, first_cut, second_cut], &[false, true, true]);
     Ok(())
 }

@@ -61,6 +61,33 @@ fn partitions_end(rt: HostRuntime) {
     }
 }
 
+/// A partition of one byte ends with the first doubling. With range 255 the split of probability 128 is 128: a byte of
+/// 200 leaves a range of 127, which is doubled, and a byte of 100 one of 128, which is not.
+#[test]
+fn partitions_of_one_byte_end(rt: HostRuntime) {
+    let mut above = BoolDecoder::new(&[200]);
+    assert!(rt; !above.is_past_end());
+    assert!(rt; above.read(128));
+    assert!(rt; above.is_past_end());
+    let mut below = BoolDecoder::new(&[100]);
+    assert!(rt; !below.read(128));
+    assert!(rt; !below.is_past_end());
+    below.read(128);
+    assert!(rt; below.is_past_end());
+}
+
+/// Nothing follows a first byte of 255, so that the first doubling passes the end whatever bytes come after it. With
+/// probability 1 the split is 1, and the range that is left, 254, is not doubled; the next one, 127, is.
+#[test]
+fn partitions_that_begin_with_255_end(rt: HostRuntime) {
+    let mut decoder = BoolDecoder::new(&[255, 1, 2, 3, 4, 5, 6, 7, 8, 9]);
+    assert!(rt; !decoder.is_past_end());
+    assert!(rt; decoder.read(1));
+    assert!(rt; !decoder.is_past_end());
+    assert!(rt; decoder.read(128));
+    assert!(rt; decoder.is_past_end());
+}
+
 /// The number of bools after which `read_rare` and `read` differ, of 4,000 that both read from these bytes with these
 /// two probabilities by turns.
 fn first_other(bytes: &[u8], probabilities: [u8; 2]) -> Option<usize> {

@@ -118,16 +118,16 @@ riff_body-is file x e =
 
 -- ---- a chunk
 
-record ChunkIs (b : List ℕ) (c : Chunk × List ℕ) : Type 0 where
-  name : List ℕ
-  size : List ℕ
-  rest : List ℕ
-  whole : b ≡ name ++ (size ++ (c.0.payload ++ rest))
-  named : length name ≡ 4
-  sized : length size ≡ 4
-  counted : little_number 4 size ≡ length c.0.payload
-  kind : chunk_kind name ≡ c.0.kind
-  left : drop (length c.0.payload % 2) rest ≡ c.1
+pub record ChunkIs (b : List ℕ) (c : Chunk × List ℕ) : Type 0 where
+  pub name : List ℕ
+  pub size : List ℕ
+  pub rest : List ℕ
+  pub whole : b ≡ name ++ (size ++ (c.0.payload ++ rest))
+  pub named : length name ≡ 4
+  pub sized : length size ≡ 4
+  pub counted : little_number 4 size ≡ length c.0.payload
+  pub kind : chunk_kind name ≡ c.0.kind
+  pub left : drop (length c.0.payload % 2) rest ≡ c.1
 
 abbrev ended : List ℕ → ℕ → List ℕ → ByteReader Chunk
 ended name size payload = do
@@ -149,7 +149,7 @@ not-ended : (none : Bool) (fault : WebPFault) (r : Result (Chunk × List ℕ) We
 not-ended true fault r c e = absurd (cc)
 not-ended false fault r c e = e
 
-chunk-is : (b : List ℕ) (c : Chunk × List ℕ) → next_chunk b ≡ Ok c → ChunkIs b c
+pub chunk-is : (b : List ℕ) (c : Chunk × List ℕ) → next_chunk b ≡ Ok c → ChunkIs b c
 unfolding next_chunk chunk
 chunk-is b c e =
     let one = then-ok (take_bytes 4 b) named c (not-ended (length b == 0) NoPicture (chunk b) c e) in

@@ -66,7 +66,7 @@ measured zero lt = refl
 measured (suc zero) lt = refl
 measured (suc (suc r)) lt = absurd (omega arith)
 
-length-padding : (n : ℕ) → length (padding n) ≡ n % 2
+pub length-padding : (n : ℕ) → length (padding n) ≡ n % 2
 length-padding n = measured (n % 2) (omega arith)
 
 length-chunk : (packet : List ℕ) → length (chunk_text packet) ≡ 8 + length packet + length packet % 2
@@ -149,7 +149,7 @@ torn size (suc (suc (suc (suc (suc (suc (suc (suc (suc (suc (suc (suc n)))))))))
     riff-rest size (take n rest) some fits
     ∙ take_bytes-short (size - 4) (take n rest) (omega (arith, length-take n rest))
 
-length-file : (packet : List ℕ) → length (webp_text packet) ≡ 8 + riff_size (length packet)
+pub length-file : (packet : List ℕ) → length (webp_text packet) ≡ 8 + riff_size (length packet)
 unfolding webp_head_text
 length-file packet = omega (arith, length-chunk packet)
 

@@ -1,7 +1,7 @@
 -- The bytes of the simple file of a packet (RFC 9649, sections 2.4 and 2.5), and which packets have one. Pinned by the
--- tests `webp_written` and `webp_refused`.
+-- tests `webp_written`, `webp_refused` and `webp_copied`.
 use Rattle.std.specs.Prelude.{ℕ, ◌+◌, ◌-◌, ◌^◌, ◌%◌, ◌==◌, not, nat_lt, List, [], ◌∷◌, ◌++◌, length, codes, Option}
-use Rattle.std.specs.Prelude.{Some, None, if◌then◌else◌}
+use Rattle.std.specs.Prelude.{Some, None, Result, Ok, Err, if◌then◌else◌}
 use Rattle.byteorder.specs.Endian.{little_bytes}
 use Rattle.vp_webp.specs.declared.fault.WebPWriteFault.{WebPWriteFault}
 use Rattle.vp_webp.specs.declared.fault.WebPWriteFault.TheVariants.{NotKey, Hidden, TooLong}
@@ -29,3 +29,11 @@ webp_refusal packet =
     if not (is_key_packet packet) then Some NotKey else
     if not (is_shown_packet packet) then Some Hidden else
     if nat_lt (2 ^ 32 - 10) (riff_size (length packet)) then Some TooLong else None
+
+-- the simple file of a packet, or why it has none
+abbrev pub file_unless : Option WebPWriteFault → List ℕ → Result (List ℕ) WebPWriteFault
+file_unless None text = Ok text
+file_unless (Some fault) text = Err fault
+
+abbrev pub webp_file : List ℕ → Result (List ℕ) WebPWriteFault
+webp_file packet = file_unless (webp_refusal packet) (webp_text packet)

@@ -10,5 +10,5 @@ mod writing;
 
 pub use fault::{WebPFault, WebPWriteFault};
 pub use laws::{chunks_determine_the_image, packet_is_in_the_file, written_is_read};
-pub use reading::{Canvas, WebP, read};
-pub use writing::write;
+pub use reading::{Canvas, PacketPlace, WebP, packet_place, read};
+pub use writing::{copy_file, file_len, write};

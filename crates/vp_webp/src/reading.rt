@@ -4,6 +4,7 @@ ghost use Rattle.std.specs.Prelude.{◌≡◌, ◌≤◌, ◌+◌, length, IfOk,
 ghost use Rattle.vp_head.specs.Tag.{IsKeyPacket};
 ghost use Rattle.vp_webp.specs.WebP.{is_key_packet, is_shown_packet, image_of, is_animated, canvas_of, after_extended};
 ghost use Rattle.vp_webp.specs.WebP.{seen_after, image_in, still_image};
+ghost use Rattle.vp_webp.specs.Place.{bytes_at, image_at, image_with, result_map, IsWithin};
 
 use crate::chunk::{ChunkKind, next_chunk, riff_body};
 use crate::fault::WebPFault;
@@ -26,6 +27,24 @@ pub(crate) struct Seen {
     pub has_alpha: bool,
     /// The canvas of the last `VP8X` chunk.
     pub canvas: Option<Canvas>,
+}
+
+/// Where a packet lies among bytes.
+#[derive(Clone, Copy, Debug, PartialEq, Eq)]
+pub struct PacketPlace {
+    /// The index of its first byte.
+    pub start: usize,
+    /// The number of its bytes.
+    pub len: usize,
+}
+
+/// An image that is found among bytes.
+#[derive(Clone, Copy)]
+pub(crate) struct Found {
+    /// Where its packet lies.
+    pub place: PacketPlace,
+    /// What the chunks before it tell.
+    pub seen: Seen,
 }
 
 /// The still image of a lossy WebP file. Its packet is lent from the file.
@@ -88,6 +107,7 @@ pub(crate) fn is_shown_packet(packet: &[u8]) -> bool
 /// The image of a packet. `NotKey` or `Hidden` if it is no key frame or not shown.
 fn image_of(seen: Seen, packet: &[u8]) -> Result<WebP<'_>, WebPFault>
     ensures value { result ≡ image_of seen packet.now }
+    ensures image { IfOk result (λ image. image ≡ image_with seen packet.now) }
     ensures key { IfOk result (λ image. IsKeyPacket image.packet) }
 {
     if !is_key_packet(packet) {
@@ -150,10 +170,11 @@ fn seen_after(kind: ChunkKind, payload: &[u8], seen: Seen) -> Result<Seen, WebPF
     }
 }
 
-// The first image in the chunks.
-fn first_image(body: &[u8]) -> Result<WebP<'_>, WebPFault>
-    ensures value { result ≡ image_in body.now }
-    ensures key { IfOk result (λ image. IsKeyPacket image.packet) }
+// Finds the first image in the chunks.
+fn find_image(body: &[u8]) -> Result<Found, WebPFault>
+    ensures value { result_map (image_at body.now) result ≡ image_in body.now }
+    ensures within { IfOk result (λ f. IsWithin f.place body.now) }
+    ensures key { IfOk result (λ f. IsKeyPacket (bytes_at f.place body.now)) }
 {
     let mut seen = Seen {
         has_alpha: false,
@@ -163,11 +184,26 @@ fn first_image(body: &[u8]) -> Result<WebP<'_>, WebPFault>
     loop {
         let chunk = next_chunk(rest)?;
         if let ChunkKind::Vp8 = chunk.kind {
-            return image_of(seen, chunk.payload);
+            let image = image_of(seen, chunk.payload)?;
+            let place = PacketPlace {
+                start: body.len() - rest.len() + 8,
+                len: image.packet.len(),
+            };
+            return Ok(Found { place, seen });
         }
         seen = seen_after(chunk.kind, chunk.payload, seen)?;
         rest = chunk.rest;
     }
+}
+
+// The first image in the chunks.
+fn first_image(body: &[u8]) -> Result<WebP<'_>, WebPFault>
+    ensures value { result ≡ image_in body.now }
+    ensures key { IfOk result (λ image. IsKeyPacket image.packet) }
+{
+    let Found { place, seen } = find_image(body)?;
+    let packet = &body[place.start..place.start + place.len];
+    Ok(WebP { packet, seen })
 }
 
 /// Reads the still image of a lossy WebP file, simple or extended. The packet is lent from the file.
@@ -182,4 +218,18 @@ pub fn read(file: &[u8]) -> Result<WebP<'_>, WebPFault>
     ensures key { IfOk result (λ image. IsKeyPacket image.packet) }
 {
     first_image(riff_body(file)?.taken)
+}
+
+/// Finds the packet of a lossy WebP file: where it begins among the file's bytes, and its length. The faults are those
+/// of `read`.
+pub fn packet_place(file: &[u8]) -> Result<PacketPlace, WebPFault>
+    ensures packet { result_map (λ place. bytes_at place file.now) result
+        ≡ result_map (λ image. image.packet) (still_image file.now) }
+    ensures within { IfOk result (λ place. IsWithin place file.now) }
+{
+    let Found { place, seen: _ } = find_image(riff_body(file)?.taken)?;
+    Ok(PacketPlace {
+        start: place.start + 12,
+        len: place.len,
+    })
 }

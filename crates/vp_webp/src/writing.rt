@@ -1,9 +1,11 @@
 //! Writing a WebP file.
 
-ghost use Rattle.std.specs.Prelude.{◌≡◌, ◌≤◌, ◌<◌, ◌^◌, ◌-◌, length, Some, None, Err, OnOk, OnErr, IfErr};
+ghost use Rattle.std.specs.Prelude.{◌≡◌, ◌≤◌, ◌<◌, ◌^◌, ◌-◌, ◌++◌, List, ℕ, length, drop, Some};
+ghost use Rattle.std.specs.Prelude.{None, Ok, Err, IsOk, OnOk, OnErr, IfErr};
 ghost use Rattle.std.specs.Io.KnownBytes.{Appends};
 ghost use Rattle.vp_base.specs.Counted.{counted_contents, counted_failures, AppendsPrefix, HasFailed};
-ghost use Rattle.vp_webp.specs.Text.{webp_head_text, padding, webp_text, webp_refusal};
+ghost use Rattle.vp_webp.specs.Text.{webp_head_text, padding, webp_text, webp_refusal, webp_file};
+ghost use Rattle.vp_webp.specs.Place.{result_map};
 ghost use Rattle.vp_webp.specs.declared.fault.WebPWriteFault.{WebPWriteFault};
 
 use crate::fault::WebPWriteFault;
@@ -104,4 +106,59 @@ pub fn write<W: Write>(out: &mut Counted<W>, packet: &[u8]) -> Result<(), WebPWr
         Ok(()) => Ok(()),
         Err(Device) => Err(WebPWriteFault::Device),
     }
+}
+
+/// The length of the file of a packet, if it has one.
+fn text_len(packet: &[u8]) -> usize
+    requires { length packet.now ≤ 2 ^ 32 - 22 }
+    ensures { result ≡ length (webp_text packet.now) }
+{
+    20 + packet.len() + packet.len() % 2
+}
+
+/// The length of the simple WebP file of a packet. The faults are those of `write` but `Device`.
+pub fn file_len(packet: &[u8]) -> Result<usize, WebPWriteFault>
+    ensures { result ≡ result_map length (webp_file packet.now) }
+{
+    match refusal(packet) {
+        Some(fault) => Err(fault),
+        None => Ok(text_len(packet)),
+    }
+}
+
+// Copies the file of a packet that has one to the beginning of a buffer that has room for it.
+fn fill_front(out: &mut [u8], packet: &[u8])
+    requires room { length (webp_text packet.now) ≤ length out.old }
+    requires size { length packet.now ≤ 2 ^ 32 - 22 }
+    ensures { out.new ≡ webp_text packet.now ++ drop (length (webp_text packet.now)) out.old }
+{
+    let end = 20 + packet.len();
+    out[..20].copy_from_slice(&head_bytes(packet.len() as u32));
+    out[20..end].copy_from_slice(packet);
+    if packet.len() % 2 == 1 {
+        out[end] = 0;
+    }
+}
+
+/// Copies the simple WebP file of a packet to the beginning of `out`. The faults are those of `write`: `Device` if the
+/// file is longer than `out`.
+pub fn copy_file(out: &mut [u8], packet: &[u8]) -> Result<(), WebPWriteFault>
+    // A packet without a file is rejected, and so is a buffer without room for the file. Nothing is copied then.
+    ensures refused { (fault : WebPWriteFault) → webp_file packet.now ≡ Err fault →
+        (result ≡ Err fault) × (out.new ≡ out.old) }
+    ensures short { (file : List ℕ) → webp_file packet.now ≡ Ok file → length out.old < length file →
+        (result ≡ Err WebPWriteFault.Device) × (out.new ≡ out.old) }
+
+    // Otherwise the file is copied. The bytes after it are unchanged.
+    ensures copied { (file : List ℕ) → webp_file packet.now ≡ Ok file → length file ≤ length out.old →
+        IsOk result × (out.new ≡ file ++ drop (length file) out.old) }
+{
+    if let Some(fault) = refusal(packet) {
+        return Err(fault);
+    }
+    if out.len() < text_len(packet) {
+        return Err(WebPWriteFault::Device);
+    }
+    fill_front(out, packet);
+    Ok(())
 }
