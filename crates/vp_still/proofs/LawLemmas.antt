@@ -20,8 +20,13 @@ use Rattle.vp_stream.specs.Seeking.{Shown, answer_at, answer_or_none, answer_val
 use Rattle.vp_stream.proofs.AnswerLemmas.{Resets, answer_there}
 use Rattle.vp_still.specs.declared.found.Found.{Found}
 use Rattle.vp_still.specs.Found.{IsFirst, IsFoundInWebP, IsFoundInIvf}
-use Rattle.vp_still.specs.Still.{file_of}
-use Rattle.vp_still.specs.Laws.{KeptFilesShowThePicture, EncodedFilesShowTheirDistance}
+use Rattle.vp_scale.specs.declared.scale.Scale.{Scale}
+use Rattle.vp_scale.specs.declared.scale.Scale.TheVariants.{Full, Half, Quarter, Eighth}
+use Rattle.vp_scale.specs.Scale.{factor_of, scaled_side}
+use Rattle.vp_still.specs.declared.still.Coding.{Coding}
+use Rattle.vp_still.specs.declared.still.Coding.TheVariants.{Kept, Encoded}
+use Rattle.vp_still.specs.Still.{file_of, kept_file, IsEncodedStill, IsStillOver}
+use Rattle.vp_still.specs.Laws.{IsWebPOf, KeptFilesShowThePicture, EncodedFilesShowTheirDistance, ShowsStill, StillsShowTheirPictures}
 use Rattle.vp_still.proofs.StillLemmas.{key_numbers, is_key_shown}
 
 -- ---- a packet that has a file
@@ -110,3 +115,34 @@ encoded_shows law sizes limits scale qi w h pixels file error is fits =
       };
       distance = k.error_is ∙ ap (λ (xs : List ℕ). sum_of_squares xs (i420 recon)) k.source;
     }
+
+-- ---- either
+
+own_file : (scale : Scale) (packet own : List ℕ) → kept_file scale packet ≡ Some own → file_of packet ≡ Some own
+own_file Full packet own e = e
+own_file Half packet own e = absurd (none-some own e)
+own_file Quarter packet own e = absurd (none-some own e)
+own_file Eighth packet own e = absurd (none-some own e)
+
+module _ (law : IsWebPReadBack) (sizes : KeySizes) (limits : Limits) (reset : Resets limits) (packets : List Packet) (n : ℕ) (own : Packet) (scale : Scale) (qi w h : ℕ) (pixels file : List ℕ)
+    (there : slice_get packets n ≡ Some own) (shown : answer_at limits packets n ≡ Shown w h pixels) (fits : scaled_side (factor_of scale) w * scaled_side (factor_of scale) h ≤ limits.pixels) where
+  kept_picture : (text : List ℕ) → kept_file scale own.bytes ≡ Some text → IsWebPOf limits text own.bytes w h pixels
+  kept_picture text e = record {
+    read = read_again law own.bytes text (own_file scale own.bytes text e);
+    picture = sym (key_alone limits packets n own reset there (is_key own.bytes text (own_file scale own.bytes text e))) ∙ shown;
+  }
+
+  encoded_picture : (coding : Coding) → IsEncodedStill scale qi w h pixels coding file → ShowsStill limits scale own.bytes w h pixels coding file
+  encoded_picture Kept is = absurd is
+  encoded_picture (Encoded error) is = encoded_shows law sizes limits scale qi w h pixels file error is fits
+
+  still_picture : (coding : Coding) (text : Option (List ℕ)) → kept_file scale own.bytes ≡ text → IsStillOver text scale qi w h pixels coding file
+      → ShowsStill limits scale own.bytes w h pixels coding file
+  still_picture coding (Some text) e is =
+      subst (λ (c : Coding). ShowsStill limits scale own.bytes w h pixels c file) (sym is.0)
+      (subst (λ (bytes : List ℕ). IsWebPOf limits bytes own.bytes w h pixels) (sym is.1) (kept_picture text e))
+  still_picture coding None e is = encoded_picture coding is
+
+pub stills_show : IsWebPReadBack → KeySizes → ((limits : Limits) → Resets limits) → StillsShowTheirPictures
+stills_show law sizes reset limits packets n own scale qi w h pixels file coding there shown is fits =
+    still_picture law sizes limits (reset limits) packets n own scale qi w h pixels file there shown fits coding (kept_file scale own.bytes) refl is

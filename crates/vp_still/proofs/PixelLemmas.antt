@@ -3,7 +3,6 @@ use Rattle.std.proofs.Common.{◌≡◌, ◌∙◌, ℕ, zero, suc, ◌<◌, Lis
 use Rattle.vp_base.specs.declared.limits.Limits.{Limits}
 use Rattle.vp_base.specs.Image.{Image, i420}
 use Rattle.vp_ivf.specs.declared.packet.Packet.{Packet}
-use Rattle.vp_decode.specs.Step.{picture_in}
 use Rattle.vp_decode.specs.Step as step_is
 use Rattle.vp_stream.specs.Answers.{answers_from}
 use Rattle.vp_stream.specs.Seeking.{AnswerValue, Shown, Hidden, Fault, NoPacket, answer_at, answer_or_none}

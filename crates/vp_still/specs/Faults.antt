@@ -1,5 +1,5 @@
--- Why a file gives no picture. Pinned by the tests `files_without_the_picture`, `fault_before_the_first_picture` and
--- `packets_of_a_webp_file`.
+-- Why a file gives no picture. Pinned by the tests `files_without_the_picture`, `torn_files_without_the_picture`,
+-- `fault_before_the_first_picture` and `packets_of_a_webp_file`.
 use Rattle.std.specs.Prelude.{◌≡◌, ◌<◌, ℕ, zero, suc, List, length, Option, Some, None, Result, Ok, Err, MatchBool}
 use Rattle.std.specs.Prelude.{codes, nat_eq}
 use Rattle.std.specs.List.{starts_with}

@@ -1,4 +1,5 @@
--- The packet of a file whose picture is wanted, and that picture. Pinned by the test `pictures_by_their_numbers`.
+-- The packet of a file whose picture is wanted, and that picture. Pinned by the tests `pictures_by_their_numbers` and
+-- `alpha_is_told`.
 use Rattle.std.specs.Prelude.{◌≡◌, ◌<◌, ℕ, false, List, Option, Some, None, Ok, MatchBool, codes, nat_eq, slice_get}
 use Rattle.std.specs.List.{starts_with}
 use Rattle.vp_base.specs.declared.limits.Limits.{Limits}

@@ -1,6 +1,7 @@
 //! Laws of all WebP files that are written for a picture. Each is the contract of an empty function.
 
 ghost use Rattle.vp_still.specs.Laws.{KeptFilesShowThePicture, EncodedFilesShowTheirDistance};
+ghost use Rattle.vp_still.specs.Laws.{StillsShowTheirPictures};
 
 use vp_decode::key_packet_resets;
 use vp_stream::shown_pictures_have_the_key_packets_size;
@@ -20,5 +21,15 @@ pub fn encoded_files_show_their_distance()
     ensures { EncodedFilesShowTheirDistance }
 {
     written_is_read();
+    shown_pictures_have_the_key_packets_size();
+}
+
+/// The file for a packet of a stream shows the picture that the stream shows for that packet, or a picture at the
+/// distance that is told from it, made smaller.
+pub fn stills_show_their_pictures()
+    ensures { StillsShowTheirPictures }
+{
+    written_is_read();
+    key_packet_resets();
     shown_pictures_have_the_key_packets_size();
 }
