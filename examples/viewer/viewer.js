@@ -1,11 +1,13 @@
-// Shows the frames that `vp8 serve` answers with: a list of its streams, a scrub bar over a stream's packets, and its
-// newest frame while the file grows. Plain JavaScript; no proof is claimed.
+// Shows the frames that `vp8 serve` answers with: a list of its streams, a scrub bar over a stream's packets, its
+// newest frame while the file grows, and with `--webp` forty of its frames as thumbnails. Plain JavaScript; no proof is
+// claimed.
 //
 // ?stream=NAME&packet=N opens a frame; with &sum the page shows the SHA-256 of the canvas's pixels (RGBA), by which
 // try_viewer compares them with what `vp8 decode` writes.
 'use strict';
 
 const POLL_MILLISECONDS = 500;
+const MOST_THUMBNAILS = 40;
 const query = new URLSearchParams(location.search);
 const at = id => document.getElementById(id);
 const canvas = at('picture');
@@ -72,6 +74,22 @@ async function show(number) {
   }
 }
 
+// Frames spread over the stream, each an eighth of its sides; a click opens it. There are none if the server shows no
+// WebP files.
+async function showThumbnails() {
+  const stream = at('stream').value, count = Math.min(MOST_THUMBNAILS, packets);
+  at('thumbnails').replaceChildren();
+  if (count === 0 || !(await fetch(`s/${stream}/webp/0/8`)).ok || stream !== at('stream').value) return;
+  for (let k = 0; k < count; k++) {
+    const number = Math.floor(k * packets / count), picture = new Image();
+    picture.title = picture.alt = `packet ${number}`;
+    picture.onclick = () => { stop(); show(number); };
+    picture.onerror = () => picture.remove();
+    picture.src = `s/${stream}/webp/${number}/8`;
+    at('thumbnails').append(picture);
+  }
+}
+
 // Asks how far the stream is; it follows the newest packet if that is wanted.
 async function look() {
   const reply = await fetch(`s/${at('stream').value}/info`, {cache: 'no-store'});
@@ -91,6 +109,7 @@ async function choose() {
   [packets, state] = [0, ''];
   await look();
   await show(at('follow').checked ? Math.max(0, packets - 1) : Number(at('packet').value));
+  await showThumbnails();
 }
 
 function stop() {

@@ -3,3 +3,4 @@ pub mod HeadLemmas
 pub mod NumberLemmas
 pub mod Pages
 pub mod ReplyLemmas
+pub mod NoStill

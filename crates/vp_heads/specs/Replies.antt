@@ -1,5 +1,5 @@
 -- The bytes of a response: status line, fields and body (RFC 9112, chapter 4; RFC 9110, chapters 8, 14 and 15). Pinned
--- by the tests `serve_one_frame`, `head_requests`, `packet_fault_served` and `head_too_long`.
+-- by the tests `serve_one_frame`, `head_requests`, `packet_fault_served`, `head_too_long` and `stills_over_http`.
 use Rattle.std.specs.Prelude.{ℕ, Bool, List, [], ◌∷◌, ◌++◌, decimal, codes, length, if◌then◌else◌, unwrap_or}
 use Rattle.http.specs.StatusCode.{reason_phrase}
 use Rattle.vp_heads.specs.declared.status.Status.{Status}
@@ -32,6 +32,10 @@ plain_text = codes "text/plain"
 -- the Content-Type of pictures
 abbrev pub octets : List ℕ
 octets = codes "application/octet-stream"
+
+-- the Content-Type of WebP files
+abbrev pub webp_image : List ℕ
+webp_image = codes "image/webp"
 
 -- the Connection field, if the connection is closed
 abbrev pub closing_line : Bool → List ℕ
@@ -78,26 +82,28 @@ range_line first last size =
 abbrev pub no_range_line : ℕ → List ℕ
 no_range_line size = codes "Content-Range: bytes */" ++ (decimal size ++ codes "\r\n")
 
--- the response with a picture, or a part of it
-abbrev pub part_text : Part → Request → List ℕ → List ℕ
-part_text All request body = reply_text request status.Good octets [] body
-part_text (Slice first last) request body =
-    reply_text request status.Partial octets (range_line first last (length body)) (slice_of first last body)
-part_text Beyond request body =
+-- the response with a picture, or a part of it, given its Content-Type
+abbrev pub part_text : Part → List ℕ → Request → List ℕ → List ℕ
+part_text All kind request body = reply_text request status.Good kind [] body
+part_text (Slice first last) kind request body =
+    reply_text request status.Partial kind (range_line first last (length body)) (slice_of first last body)
+part_text Beyond kind request body =
     reply_text request status.RangeNotSatisfiable plain_text (no_range_line (length body))
     (phrase_line status.RangeNotSatisfiable)
 
--- the content for a request: text, a picture, the name of a packet's fault, or an error
+-- the content for a request: text, a picture, a WebP file, the name of a packet's fault, or an error
 pub data Content : Type 0 where
   Lines : List ℕ → Content
   Pixels : List ℕ → Content
+  WebP : List ℕ → Content
   Faulted : List ℕ → Content
   Failed : Status → Content
 
 -- the response to a request
 unfoldable pub reply_to : Request → Content → List ℕ
 reply_to request (Lines body) = reply_text request status.Good plain_text [] body
-reply_to request (Pixels body) = part_text (selected_part request.range (length body)) request body
+reply_to request (Pixels body) = part_text (selected_part request.range (length body)) octets request body
+reply_to request (WebP body) = part_text (selected_part request.range (length body)) webp_image request body
 reply_to request (Faulted name) = reply_text request status.Unprocessable plain_text [] (name ++ 10 ∷ [])
 reply_to request (Failed s) = error_text request s
 

@@ -5,14 +5,22 @@ ghost use Rattle.std.specs.Prelude.{true};
 ghost use Rattle.std.specs.String.{string_bytes};
 ghost use Rattle.vp_heads.specs.Replies.{code_of, phrase_of, phrase_line, plain_text, octets, closing_line, reply_head};
 ghost use Rattle.vp_heads.specs.Replies.{reply_text, error_text, allowing, range_line, no_range_line, reply_to};
-ghost use Rattle.vp_heads.specs.Replies.{part_text, too_long, Lines, Pixels, Faulted, Failed};
-ghost use Rattle.vp_heads.specs.Ranges.{slice_of};
+ghost use Rattle.vp_heads.specs.Replies.{part_text, too_long, Lines, Pixels, WebP, Faulted, Failed};
+ghost use Rattle.vp_heads.specs.Ranges.{selected_part};
 
 use crate::buffer::Buffer;
 use crate::ranges::{Part, part_of};
 use crate::request::{Request, unreadable};
 use crate::status::Status;
 use std::alloc::{AllocError, Global};
+
+/// A picture: its Content-Type, and its bytes, which are `front` followed by `back`.
+#[derive(Clone, Copy)]
+struct Body<'a> {
+    kind: &'a str,
+    front: &'a [u8],
+    back: &'a [u8],
+}
 
 /// Returns the head of a response with a body of `length` bytes.
 #[tactic(auto, unfolding(crate::specs::Replies::reply_head))]
@@ -122,26 +130,18 @@ fn size_of(front: &[u8], back: &[u8]) -> usize
 fn put_all(
     alloc: Global,
     request: Request,
-    front: &[u8],
-    back: &[u8],
+    body: Body<'_>,
     out: &mut Buffer,
 ) -> Result<(), AllocError>
-    ensures { OnOk result (out.new ≡ out.old ++ part_text Part.All request (front.now ++ back.now)) }
+    ensures { OnOk result (out.new ≡ out.old ++ part_text Part.All body.entry.kind.now request
+        (body.entry.front.now ++ body.entry.back.now)) }
 {
-    let size = size_of(front, back);
-    put_head(
-        alloc,
-        request,
-        Status::Good,
-        "application/octet-stream",
-        size,
-        "",
-        out,
-    )?;
+    let size = size_of(body.front, body.back);
+    put_head(alloc, request, Status::Good, body.kind, size, "", out)?;
     if request.head_only {
         return Ok(());
     }
-    put_both(front, back, out)
+    put_both(body.front, body.back, out)
 }
 
 fn range_text(alloc: Global, first: usize, last: usize, size: usize) -> Result<String, AllocError>
@@ -160,24 +160,24 @@ fn no_range_text(alloc: Global, size: usize) -> Result<String, AllocError>
 fn put_part(
     alloc: Global,
     request: Request,
-    front: &[u8],
-    back: &[u8],
+    body: Body<'_>,
     first: usize,
     last: usize,
     out: &mut Buffer,
 ) -> Result<(), AllocError>
     requires order { first ≤ last }
-    requires within { last < length (front.now ++ back.now) }
-    ensures { OnOk result (out.new ≡ out.old ++ part_text (Part.Slice first last) request (front.now ++ back.now)) }
+    requires within { last < length (body.front.now ++ body.back.now) }
+    ensures { OnOk result (out.new ≡ out.old ++ part_text (Part.Slice first last) body.entry.kind.now request
+        (body.entry.front.now ++ body.entry.back.now)) }
 {
-    let size = size_of(front, back);
+    let size = size_of(body.front, body.back);
     let line = range_text(alloc, first, last, size)?;
     let length = last + 1 - first;
     put_head(
         alloc,
         request,
         Status::Partial,
-        "application/octet-stream",
+        body.kind,
         length,
         line.as_str(),
         out,
@@ -185,7 +185,7 @@ fn put_part(
     if request.head_only {
         return Ok(());
     }
-    put_slice(front, back, first, last + 1, out)
+    put_slice(body.front, body.back, first, last + 1, out)
 }
 
 /// Appends the response to a range that begins after the end of the picture (416).
@@ -229,6 +229,25 @@ pub fn put_lines(
     out.append(body)
 }
 
+/// Appends a response whose body is a picture, or the part of it that the request asks for.
+fn put_picture(
+    alloc: Global,
+    request: Request,
+    body: Body<'_>,
+    out: &mut Buffer,
+) -> Result<(), AllocError>
+    ensures { OnOk result (out.new ≡ out.old ++ part_text
+        (selected_part request.range (length (body.entry.front.now ++ body.entry.back.now))) body.entry.kind.now request
+        (body.entry.front.now ++ body.entry.back.now)) }
+{
+    let size = size_of(body.front, body.back);
+    match part_of(request.range, size) {
+        Part::All => put_all(alloc, request, body, out),
+        Part::Slice(first, last) => put_part(alloc, request, body, first, last, out),
+        Part::Beyond => put_no_part(alloc, request, size, out),
+    }
+}
+
 /// Appends a response whose body is a picture, or the part of it that the request asks for. The picture's bytes are
 /// `front` followed by `back`. If memory runs out, `out` may hold a part of the response.
 #[tactic(auto, unfolding(crate::specs::Replies::reply_to))]
@@ -241,12 +260,27 @@ pub fn put_pixels(
 ) -> Result<(), AllocError>
     ensures { OnOk result (out.new ≡ out.old ++ reply_to request (Pixels (front.now ++ back.now))) }
 {
-    let size = size_of(front, back);
-    match part_of(request.range, size) {
-        Part::All => put_all(alloc, request, front, back, out),
-        Part::Slice(first, last) => put_part(alloc, request, front, back, first, last, out),
-        Part::Beyond => put_no_part(alloc, request, size, out),
-    }
+    let kind = "application/octet-stream";
+    put_picture(alloc, request, Body { kind, front, back }, out)
+}
+
+/// Appends a response whose body is a WebP file, or the part of it that the request asks for. If memory runs out, `out`
+/// may hold a part of the response.
+#[tactic(auto, unfolding(crate::specs::Replies::reply_to))]
+pub fn put_webp(
+    alloc: Global,
+    request: Request,
+    file: &[u8],
+    out: &mut Buffer,
+) -> Result<(), AllocError>
+    ensures { OnOk result (out.new ≡ out.old ++ reply_to request (WebP file.now)) }
+{
+    let body = Body {
+        kind: "image/webp",
+        front: file,
+        back: &[],
+    };
+    put_picture(alloc, request, body, out)
 }
 
 /// Appends the response for a packet with a fault of this name (422). If memory runs out, `out` may hold a part of it.

@@ -9,7 +9,6 @@ ghost use Rattle.vp_heads.specs.Requests.{asked, asked_by, wanted_by, IsRequestF
 ghost use Rattle.vp_heads.specs.Requests.{unreadable as no_request};
 ghost use Rattle.vp_heads.specs.Requests.{is_get as names_get, is_head as names_head};
 ghost use Rattle.vp_heads.specs.Ranges.{range_in as range_is};
-ghost use Rattle.vp_heads.specs.Routes.{our_routes};
 
 use crate::fields::{count_named, has_body_field, has_closing_field};
 use crate::heads::read_head;
@@ -18,6 +17,7 @@ use crate::routes::{Page, wanted_at};
 use httparse::spans::{EMPTY_HEADER_SPAN, HeaderSpan, RequestSpans};
 use matchit::Router;
 use vp_base::ByteList;
+use vp_scale::Scale;
 
 /// The resource that a request asks for. Streams are given by their index among the names.
 #[derive(Clone, Copy, Debug, PartialEq, Eq, Drop)]
@@ -36,6 +36,8 @@ pub enum Resource {
     Frame(usize, u32),
     /// The picture of a packet as a YUV4MPEG2 file.
     Video(usize, u32),
+    /// The picture of a packet, in its size or smaller, as a WebP file.
+    Still(usize, u32, Scale),
 }
 
 /// A parsed request.
@@ -95,8 +97,7 @@ fn wanted_of(
     hosts: usize,
     body: bool,
 ) -> Resource
-    requires { router.now ≡ our_routes }
-    ensures { result ≡ wanted_by names.now method.now target.now minor hosts body }
+    ensures { result ≡ wanted_by router.now names.now method.now target.now minor hosts body }
 {
     if body || hosts > 1 || (minor == 1 && hosts == 0) {
         return Resource::Bad;
@@ -137,9 +138,9 @@ fn judge(
     target: &[u8],
     minor: u8,
 ) -> Request
-    requires routes { router.now ≡ our_routes }
-    requires fields { All (IsHeaderWithin (length bytes.now)) fields.now }
-    ensures { result ≡ asked_by names.now method.now target.now minor (map (header_bytes bytes.now) fields.now) }
+    requires { All (IsHeaderWithin (length bytes.now)) fields.now }
+    ensures { result ≡ asked_by router.now names.now method.now target.now minor
+        (map (header_bytes bytes.now) fields.now) }
 {
     let hosts = count_named(bytes, fields, b"host");
     let body = has_body_field(bytes, fields);
@@ -160,9 +161,8 @@ fn judge_head(
     room: &[HeaderSpan],
     head: RequestSpans,
 ) -> Request
-    requires routes { router.now ≡ our_routes }
-    requires head { IsRequestWithin bytes.now room.now head }
-    ensures { (h : RequestHead) → IsRequestAt bytes.now room.now head h → result ≡ asked names.now h }
+    requires { IsRequestWithin bytes.now room.now head }
+    ensures { (h : RequestHead) → IsRequestAt bytes.now room.now head h → result ≡ asked router.now names.now h }
 {
     judge(
         router,
@@ -175,10 +175,10 @@ fn judge_head(
     )
 }
 
-/// Returns the request in the bytes of a head, for streams with these names. No memory is allocated.
+/// Returns the request in the bytes of a head, by the routes of this router, for streams with these names. No memory is
+/// allocated.
 pub fn read_request(router: &Router<Page>, names: &[ByteList], bytes: &[u8]) -> Request
-    requires { router.now ≡ our_routes }
-    ensures { IsRequestFor names.now bytes.now result }
+    ensures { IsRequestFor router.now names.now bytes.now result }
 {
     let mut room = [EMPTY_HEADER_SPAN; 32];
     match read_head(bytes, &mut room) {

@@ -3,8 +3,10 @@
 ghost use Rattle.std.specs.Prelude.{◌≡◌, ◌==◌, ◌+◌, ◌<◌, ℕ, List, [], Option, Some, None, IfOk, OnOk, IfSome, length};
 ghost use Rattle.std.specs.Prelude.{position, drop};
 ghost use Rattle.std.specs.List.{before_first, after_first, position_or_len};
-ghost use Rattle.vp_heads.specs.Routes.{our_routes, page_at, with_route, HasPlace, is_slash, name_in, number_segment};
-ghost use Rattle.vp_heads.specs.Routes.{at_path};
+ghost use Rattle.vp_heads.specs.Routes.{our_routes, still_routes, page_at, with_route, HasPlace, is_slash, name_in};
+ghost use Rattle.vp_heads.specs.Routes.{at_path, number_segment, thumbnail_number, scale_segment, scale_named};
+ghost use Rattle.vp_heads.specs.Routes.{still_route};
+ghost use Rattle.vp_heads.specs.Numbers.{packet_number};
 ghost use Rattle.vp_heads.specs.Routes.{name_index as place_in};
 
 use crate::numbers::packet;
@@ -13,6 +15,7 @@ use matchit::{InsertError, Router};
 use std::alloc::{AllocError, Global};
 use std::str::from_utf8;
 use vp_base::ByteList;
+use vp_scale::Scale;
 
 /// The pages of the server.
 #[derive(Clone, Copy, Debug, PartialEq, Eq, Drop)]
@@ -25,6 +28,10 @@ pub enum Page {
     Frame,
     /// The picture of a packet as a YUV4MPEG2 file.
     Video,
+    /// The picture of a packet as a WebP file.
+    Still,
+    /// The picture of a packet, made smaller, as a WebP file.
+    Thumbnail,
 }
 
 /// Creates the router of the four pages.
@@ -37,6 +44,17 @@ pub fn router(alloc: Global) -> Result<Router<Page>, AllocError>
     add(&mut router, "/s/{name}/info", Page::Info)?;
     add(&mut router, "/s/{name}/frame/{n}", Page::Frame)?;
     add(&mut router, "/s/{name}/y4m/{n}", Page::Video)?;
+    Ok(router)
+}
+
+/// Creates the router of all six pages: those of `router`, and the WebP files of pictures in their size and smaller.
+#[tactic(auto, unfolding(crate::specs::Routes::still_routes))]
+pub fn router_with_stills(alloc: Global) -> Result<Router<Page>, AllocError>
+    ensures { IfOk result (λ r. r ≡ still_routes) }
+{
+    let mut router = router(alloc)?;
+    add(&mut router, "/s/{name}/webp/{n}", Page::Still)?;
+    add(&mut router, "/s/{name}/webp/{n}/{k}", Page::Thumbnail)?;
     Ok(router)
 }
 
@@ -54,8 +72,7 @@ fn add(router: &mut Router<Page>, route: &str, page: Page) -> Result<(), AllocEr
 
 /// Returns the page of a path.
 fn page_of(router: &Router<Page>, path: &[u8]) -> Option<Page>
-    requires { router.now ≡ our_routes }
-    ensures { result ≡ page_at path.now }
+    ensures { result ≡ page_at router.now path.now }
 {
     let Ok(text) = from_utf8(path) else {
         return None;
@@ -115,6 +132,28 @@ fn number_of(path: &[u8]) -> &[u8]
     rest(rest(behind_three(path)))
 }
 
+fn thumbnail_number_of(path: &[u8]) -> &[u8]
+    ensures { result.now ≡ thumbnail_number path.now }
+{
+    part(number_of(path))
+}
+
+/// Returns how much smaller the thumbnail of a path is, if that is known.
+fn scale_of(path: &[u8]) -> Option<Scale>
+    ensures { result ≡ scale_named (scale_segment path.now) }
+{
+    let text = rest(number_of(path));
+    if text == b"2".as_slice() {
+        Some(Scale::Half)
+    } else if text == b"4".as_slice() {
+        Some(Scale::Quarter)
+    } else if text == b"8".as_slice() {
+        Some(Scale::Eighth)
+    } else {
+        None
+    }
+}
+
 /// Returns the index of a name among names.
 pub fn place_of(names: &[ByteList], name: &[u8]) -> Option<usize>
     ensures place { result ≡ place_in names.now name.now }
@@ -126,8 +165,7 @@ pub fn place_of(names: &[ByteList], name: &[u8]) -> Option<usize>
 /// Returns the resource that a path names.
 #[tactic(auto, unfolding(crate::specs::Routes::at_path))]
 pub(crate) fn wanted_at(router: &Router<Page>, names: &[ByteList], path: &[u8]) -> Resource
-    requires { router.now ≡ our_routes }
-    ensures { result ≡ at_path names.now path.now }
+    ensures { result ≡ at_path router.now names.now path.now }
 {
     let Some(page) = page_of(router, path) else {
         return Resource::Missing;
@@ -141,12 +179,29 @@ pub(crate) fn wanted_at(router: &Router<Page>, names: &[ByteList], path: &[u8]) 
     if page == Page::Info {
         return Resource::Info(stream);
     }
+    if page == Page::Thumbnail {
+        return thumbnail_at(stream, path);
+    }
     let Some(n) = packet(number_of(path)) else {
         return Resource::Missing;
     };
-    if page == Page::Frame {
-        Resource::Frame(stream, n)
-    } else {
-        Resource::Video(stream, n)
+    match page {
+        Page::Frame => Resource::Frame(stream, n),
+        Page::Video => Resource::Video(stream, n),
+        _ => Resource::Still(stream, n, Scale::Full),
+    }
+}
+
+/// Returns the thumbnail that a path names, of a packet of this stream.
+fn thumbnail_at(stream: usize, path: &[u8]) -> Resource
+    ensures { result ≡ still_route (Some stream) (packet_number (thumbnail_number path.now))
+        (scale_named (scale_segment path.now)) }
+{
+    let Some(n) = packet(thumbnail_number_of(path)) else {
+        return Resource::Missing;
+    };
+    match scale_of(path) {
+        Some(scale) => Resource::Still(stream, n, scale),
+        None => Resource::Missing,
     }
 }

@@ -7,7 +7,7 @@ use Rattle.vp_hub.specs.declared.connection.ConnectionState.{ConnectionState}
 use Rattle.vp_heads.specs.Replies.{too_long}
 use Rattle.vp_hub.specs.Hub.{ends_head, Chosen, Serves}
 use Rattle.vp_hub.specs.Heads.{HasNoEnd, IsRequestHead, IsPartial, gone, AnswersHeads, IsCutIntoHeads}
-use Rattle.vp_hub.proofs.Serving.{serves-closed, serves_unique}
+use Rattle.vp_hub.proofs.Serving.{closed_stays}
 
 take_shorter : (xs ys : List ℕ) (k : ℕ) → k ≤ length xs → take k (xs ++ ys) ≡ take k xs
 take_shorter xs ys k h = take-append-le k xs ys h
@@ -34,9 +34,6 @@ no_bytes_yet = record { none = λ k le. no_end_yet k; short = omega arith }
 abbrev pub Cut : Streams → List ℕ → List ℕ → List ℕ → ConnectionState × List ℕ → Type 0
 Cut ss p piece out v = (hs : List (List ℕ)) × (w : ConnectionState × List ℕ) × AnswersHeads ss hs (p ++ piece) w × (v ≡ (w.0, out ++ w.1))
 
-closed_is : (ss : Streams) (bs : List ℕ) (m v : ConnectionState × List ℕ) → m.0.closed ≡ true → Serves ss bs m v → v ≡ m
-closed_is ss bs m v h s = serves_unique ss bs m v m s (serves-closed ss bs m h)
-
 module _ (ss : Streams) (b : ℕ) (bs : List ℕ) (v : ConnectionState × List ℕ) (ih : (p out : List ℕ) → IsPartial p → Serves ss bs (record { pending = p; closed = false }, out) v → Cut ss p bs out v) (p out : List ℕ) (part : IsPartial p) where
   abbrev pub q : List ℕ
   q = p ++ b ∷ []
@@ -51,7 +48,7 @@ module _ (ss : Streams) (b : ℕ) (bs : List ℕ) (v : ConnectionState × List �
   head_is h = record { ends = h; first = λ k lt. none_at p b part.none k (omega (arith, lt, length_push p b)); short = small }
 
   at_close : ends_head q ≡ true → (reply : List ℕ) (t : Bool) → IsReply ss q (reply, t) → Serves ss bs (record { pending = []; closed = t }, out ++ reply) v → Cut ss p (b ∷ bs) out v
-  at_close h reply true r s = (q ∷ [], (gone, reply), (bs, reply, head_is h, split, inl (r, refl, refl)), closed_is ss bs (gone, out ++ reply) v refl s)
+  at_close h reply true r s = (q ∷ [], (gone, reply), (bs, reply, head_is h, split, inl (r, refl, refl)), closed_stays ss bs (gone, out ++ reply) v refl s)
   at_close h reply false r s =
       let c = ih [] (out ++ reply) no_bytes_yet s in
       (q ∷ c.0, (c.1.0, reply ++ c.1.1), (bs, reply, head_is h, split, inr (r, c.1, c.2, refl)), c.3 ∙ ap (λ o. (c.1.0, o)) (append_assoc out reply c.1.1))
@@ -61,7 +58,7 @@ module _ (ss : Streams) (b : ℕ) (bs : List ℕ) (v : ConnectionState × List �
   at_length h true l s =
       let c = ih q out (record { none = none_push p b part.none h; short = grind (arith, nat_tests, l) }) s in
       (c.0, c.1, subst (λ xs. AnswersHeads ss c.0 xs c.1) (sym split) c.2, c.3)
-  at_length h false l s = ([], (gone, too_long), inr (q, bs, record { none = none_push p b part.none h; long = grind (arith, nat_tests, l, small) }, split, refl), closed_is ss bs (gone, out ++ too_long) v refl s)
+  at_length h false l s = ([], (gone, too_long), inr (q, bs, record { none = none_push p b part.none h; long = grind (arith, nat_tests, l, small) }, split, refl), closed_stays ss bs (gone, out ++ too_long) v refl s)
 
   at_end : (t : Bool) → ends_head q ≡ t → (mid : ConnectionState × List ℕ)
       → Chosen t ((r : List ℕ × Bool) × IsReply ss q r × (mid ≡ (record { pending = []; closed = r.1 }, out ++ r.0)))

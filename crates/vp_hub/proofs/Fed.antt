@@ -336,7 +336,7 @@ all_ended_at_end s es os new i h run = all_ended s es os new (subst (λ xs. IsRu
 -- at first there are none
 pub none_ended : NewStreamsAreOpen
 unfolding read_file next_head
-none_ended names limits k there = record {
+none_ended webp names limits k there = record {
   read = record {
     source = new_source limits;
     there = slice_get-map (λ _. new_source limits) names k ∙ ap (option_map (λ (_ : List ℕ). new_source limits)) (slice_get-get_or names k [] there);
@@ -348,4 +348,4 @@ none_ended names limits k there = record {
 }
 
 pub none_fed : NewStreamsHaveNoBytes
-none_fed names limits k there = (none_ended names limits k there).read
+none_fed webp names limits k there = (none_ended webp names limits k there).read

@@ -5,11 +5,14 @@ use Rattle.std.proofs.lemmas.Bool.{eqb-true}
 use Rattle.std.proofs.lemmas.Bool.Decides.{nat_tests}
 use Rattle.vp_hub.specs.declared.event.Event.{Event}
 use Rattle.vp_hub.specs.declared.event.Event.TheVariants.{Feed, End, Open, Bytes, Shut}
+use Rattle.std.specs.Prelude.{slice_get}
+use Rattle.vp_heads.specs.Routes.{name_index}
+use Rattle.vp_hub.specs.declared.source.Source.{Source}
 use Rattle.vp_hub.specs.Pages.{Streams}
 use Rattle.vp_hub.specs.declared.connection.ConnectionState.{ConnectionState}
 use Rattle.vp_hub.specs.declared.connection.Connection.{Connection}
 use Rattle.vp_hub.specs.declared.event.HubFault.TheVariants.{UnknownStream, Ended, UnknownConn, AlreadyOpen, TooMany, Failed, Memory}
-use Rattle.vp_hub.specs.Hub.{Outcome, HubState, HubStep, IsFine, after_memory, IsStep, connection_state_of, without_connection, opened, Asks, shut, Gets, Serves, new_connection_state, no_bytes}
+use Rattle.vp_hub.specs.Hub.{Outcome, HubState, HubStep, IsFine, after_memory, IsStep, connection_state_of, without_connection, opened, Asks, shut, Gets, Serves, new_connection_state, no_bytes, at_source, at_place, fed, ended_source}
 use Rattle.vp_hub.specs.View.{Seen, Fed, Over, Opened, Got, Gone, Lost, ConnectionView, connection_view, See, AsksAgain, Leads, closed_by_refusal, AnswersAlike, told, seen_events, view_of, results_of, IsRun, IsIsolated, is_memory, is_too_many}
 use Rattle.vp_hub.proofs.ConnectionStateLemmas.{first_of, link_of-push, link_of-with_link, link_of_other-with_link, link_of-without, link_of_other-without}
 use Rattle.vp_hub.proofs.Serving.{serves_unique, chosen_unique}
@@ -194,40 +197,58 @@ pub isolated_at_end : (s : HubState) (es : List Event) (os : List Outcome) (new 
 isolated_at_end s es os new i h run = isolated s es os new (subst (λ xs. IsRun s xs os new) (take_all i es h) run)
 
 -- a view has one list of results
-gets_unique : (ss : Streams) (piece : List ℕ) (state_of_connection : ConnectionState) (x y : ConnectionState × Outcome) → Gets ss piece state_of_connection x → Gets ss piece state_of_connection y → x ≡ y
-gets_unique ss piece state_of_connection x y = chosen_unique state_of_connection.closed (λ r. r ≡ (state_of_connection, Err Failed))
+gets_unique : (ss : Streams) (piece : List ℕ) (state_of_connection : ConnectionState) (x y : ConnectionState × Outcome) → ss.webp ≡ false → Gets ss piece state_of_connection x → Gets ss piece state_of_connection y → x ≡ y
+gets_unique ss piece state_of_connection x y off = chosen_unique state_of_connection.closed (λ r. r ≡ (state_of_connection, Err Failed))
     (λ r. (w : ConnectionState × List ℕ) × Serves ss piece (state_of_connection, []) w × (r ≡ (w.0, Ok (record { bytes = w.1; close = w.0.closed })))) x y
     (λ x y a b. a ∙ sym b)
-    (λ x y a b. a.2 ∙ ap (λ (w : ConnectionState × List ℕ). (w.0, Ok (record { bytes = w.1; close = w.0.closed }))) (serves_unique ss piece (state_of_connection, []) a.0 b.0 a.1 b.1) ∙ sym b.2)
+    (λ x y a b. a.2 ∙ ap (λ (w : ConnectionState × List ℕ). (w.0, Ok (record { bytes = w.1; close = w.0.closed }))) (serves_unique ss piece (state_of_connection, []) a.0 b.0 off a.1 b.1) ∙ sym b.2)
 
-asks_unique : (ss : Streams) (piece : List ℕ) (l : Option ConnectionState) (x y : Option ConnectionState × Outcome) → AsksAgain ss piece l x → AsksAgain ss piece l y → x ≡ y
-asks_unique ss piece None x y a b = a ∙ sym b
-asks_unique ss piece (Some state_of_connection) x y a b = a.2 ∙ ap (λ (g : ConnectionState × Outcome). (Some g.0, g.1)) (gets_unique ss piece state_of_connection a.0 b.0 a.1 b.1) ∙ sym b.2
+asks_unique : (ss : Streams) (piece : List ℕ) (l : Option ConnectionState) (x y : Option ConnectionState × Outcome) → ss.webp ≡ false → AsksAgain ss piece l x → AsksAgain ss piece l y → x ≡ y
+asks_unique ss piece None x y off a b = a ∙ sym b
+asks_unique ss piece (Some state_of_connection) x y off a b = a.2 ∙ ap (λ (g : ConnectionState × Outcome). (Some g.0, g.1)) (gets_unique ss piece state_of_connection a.0 b.0 off a.1 b.1) ∙ sym b.2
 
-see_unique : (e : Seen) (v : ConnectionView) (x y : ConnectionView × Outcome) → See e v x → See e v y → x ≡ y
-see_unique (Fed name piece) v x y a b = a ∙ sym b
-see_unique (Over name) v x y a b = a ∙ sym b
-see_unique Opened v x y a b = a ∙ sym b
-see_unique (Got piece) v x y a b =
+see_unique : (e : Seen) (v : ConnectionView) (x y : ConnectionView × Outcome) → v.streams.webp ≡ false → See e v x → See e v y → x ≡ y
+see_unique (Fed name piece) v x y off a b = a ∙ sym b
+see_unique (Over name) v x y off a b = a ∙ sym b
+see_unique Opened v x y off a b = a ∙ sym b
+see_unique (Got piece) v x y off a b =
     ap (λ s. (record { streams = s; state_of_connection = x.0.state_of_connection }, x.1)) (a.1 ∙ sym b.1)
-    ∙ ap (λ (p : Option ConnectionState × Outcome). (record { streams = y.0.streams; state_of_connection = p.0 }, p.1)) (asks_unique v.streams piece v.state_of_connection (x.0.state_of_connection, x.1) (y.0.state_of_connection, y.1) a.0 b.0)
-see_unique Gone v x y a b = a ∙ sym b
-see_unique Lost v x y a b = a ∙ sym b
+    ∙ ap (λ (p : Option ConnectionState × Outcome). (record { streams = y.0.streams; state_of_connection = p.0 }, p.1)) (asks_unique v.streams piece v.state_of_connection (x.0.state_of_connection, x.1) (y.0.state_of_connection, y.1) off a.0 b.0)
+see_unique Gone v x y off a b = a ∙ sym b
+see_unique Lost v x y off a b = a ∙ sym b
 
-leads_unique : (vs : List Seen) (a b d : ConnectionView) (os ps : List Outcome) → Leads vs a os b → Leads vs a ps d → os ≡ ps
-leads_unique [] a b d [] [] h k = refl
-leads_unique (e ∷ vs) a b d (o ∷ os) (p ∷ ps) h k =
-    let same = see_unique e a (h.0, o) (k.0, p) h.1 k.1 in
+-- whether the streams are shown as WebP files stays
+at_source_stays : (f : Source → Source × Outcome) (k : ℕ) (ss : Streams) (o : Option Source) → (at_source f k ss o).0.webp ≡ ss.webp
+at_source_stays f k ss None = refl
+at_source_stays f k ss (Some source) = refl
+
+at_place_stays : (f : Source → Source × Outcome) (ss : Streams) (o : Option ℕ) → (at_place f ss o).0.webp ≡ ss.webp
+at_place_stays f ss None = refl
+at_place_stays f ss (Some k) = at_source_stays f k ss (slice_get ss.sources k)
+
+see_stays : (e : Seen) (v : ConnectionView) (r : ConnectionView × Outcome) → See e v r → r.0.streams.webp ≡ v.streams.webp
+see_stays (Fed name piece) v r h = ap (λ (x : ConnectionView × Outcome). x.0.streams.webp) h ∙ at_place_stays (fed piece) v.streams (name_index v.streams.names name)
+see_stays (Over name) v r h = ap (λ (x : ConnectionView × Outcome). x.0.streams.webp) h ∙ at_place_stays ended_source v.streams (name_index v.streams.names name)
+see_stays Opened v r h = ap (λ (x : ConnectionView × Outcome). x.0.streams.webp) h
+see_stays (Got piece) v r h = ap (λ (ss : Streams). ss.webp) h.1
+see_stays Gone v r h = ap (λ (x : ConnectionView × Outcome). x.0.streams.webp) h
+see_stays Lost v r h = ap (λ (x : ConnectionView × Outcome). x.0.streams.webp) h
+
+leads_unique : (vs : List Seen) (a b d : ConnectionView) (os ps : List Outcome) → a.streams.webp ≡ false → Leads vs a os b → Leads vs a ps d → os ≡ ps
+leads_unique [] a b d [] [] off h k = refl
+leads_unique (e ∷ vs) a b d (o ∷ os) (p ∷ ps) off h k =
+    let same = see_unique e a (h.0, o) (k.0, p) off h.1 k.1 in
+    let still_off : h.0.streams.webp ≡ false = see_stays e a (h.0, o) h.1 ∙ off in
     ap (λ (x : ConnectionView × Outcome). x.1 ∷ os) same
-    ∙ ap (λ xs. p ∷ xs) (leads_unique vs h.0 b d os ps h.2 (subst (λ m. Leads vs m ps d) (sym (ap (λ (x : ConnectionView × Outcome). x.0) same)) k.2))
-leads_unique [] a b d (o ∷ os) ps h k = absurd h
-leads_unique [] a b d [] (p ∷ ps) h k = absurd k
-leads_unique (e ∷ vs) a b d [] ps h k = absurd h
-leads_unique (e ∷ vs) a b d (o ∷ os) [] h k = absurd k
+    ∙ ap (λ xs. p ∷ xs) (leads_unique vs h.0 b d os ps still_off h.2 (subst (λ m. Leads vs m ps d) (sym (ap (λ (x : ConnectionView × Outcome). x.0) same)) k.2))
+leads_unique [] a b d (o ∷ os) ps off h k = absurd h
+leads_unique [] a b d [] (p ∷ ps) off h k = absurd k
+leads_unique (e ∷ vs) a b d [] ps off h k = absurd h
+leads_unique (e ∷ vs) a b d (o ∷ os) [] off h k = absurd k
 
 pub alike : AnswersAlike
-alike c s t es fs os ps new mid run ran first same =
-    leads_unique (view_of c es os) (connection_view c s) (connection_view c new) (connection_view c mid) (results_of c es os) (results_of c fs ps)
+alike c s t es fs os ps new mid off run ran first same =
+    leads_unique (view_of c es os) (connection_view c s) (connection_view c new) (connection_view c mid) (results_of c es os) (results_of c fs ps) off
     (isolated s es os new run c)
     (subst (λ vs. Leads vs (connection_view c s) (results_of c fs ps) (connection_view c mid)) (sym same)
     (subst (λ v. Leads (view_of c fs ps) v (results_of c fs ps) (connection_view c mid)) (sym first) (isolated t fs ps mid ran c)))

@@ -1,3 +1,4 @@
+mod WithoutStills
 pub mod Serving
 pub mod Places
 pub mod ConnectionStateLemmas

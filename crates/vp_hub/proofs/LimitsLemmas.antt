@@ -1,5 +1,5 @@
 -- Limits that differ in the cache's number alone.
-use Rattle.std.proofs.Common.{◌≡◌, ◌<◌, ◌≤◌, ℕ, [], map, ap, subst}
+use Rattle.std.proofs.Common.{◌≡◌, ◌<◌, ◌≤◌, ℕ, false, [], map, refl, ap, subst}
 use Rattle.std.specs.Coded.{×_prop, le_prop}
 use Rattle.vp_base.specs.declared.limits.Limits.{Limits}
 use Rattle.vp_stream.specs.Stream.{initial_stream}
@@ -42,6 +42,6 @@ same_limits a b e f g =
 
 pub new_alike : NewHubsAnswerAlike
 new_alike names a b c es fs os ps new mid same run ran views =
-    alike c _ _ es fs os ps new mid run ran
-    (ap (λ (l : Limits). connection_view c (record { streams = record { names = names; sources = map (λ _. record { stream = initial_stream l; end = Open }) names }; connections = [] }))
+    alike c _ _ es fs os ps new mid refl run ran
+    (ap (λ (l : Limits). connection_view c (record { streams = record { names = names; sources = map (λ _. record { stream = initial_stream l; end = Open }) names; webp = false }; connections = [] }))
     (same_limits a b same.pixels same.packet_bytes same.packets)) views

@@ -41,6 +41,7 @@ plain_costs ss wanted.Streams p none = refl
 plain_costs ss (wanted.Info k) p none = refl
 plain_costs ss (wanted.Frame k n) p none = picture_costs (slice_get ss.sources k) k n p none
 plain_costs ss (wanted.Video k n) p none = picture_costs (slice_get ss.sources k) k n p none
+plain_costs ss (wanted.Still k n scale) p none = picture_costs (slice_get ss.sources k) k n p none
 
 with_more : (o : Option CachedPicture) (number : ℕ) (ps : List Packet) (n : ℕ) (es : List CursorEntry) → work_with o number ps n es ≤ work_beside o ps n
 with_more (Some p) number ps n es = omega arith
@@ -58,6 +59,7 @@ cost_less ss wanted.Streams p = omega arith
 cost_less ss (wanted.Info k) p = omega arith
 cost_less ss (wanted.Frame k n) p = picture_less (slice_get ss.sources k) k n p
 cost_less ss (wanted.Video k n) p = picture_less (slice_get ss.sources k) k n p
+cost_less ss (wanted.Still k n scale) p = picture_less (slice_get ss.sources k) k n p
 
 -- ---- what stays
 
@@ -91,6 +93,7 @@ plain_caches ss wanted.Streams old new none same = (ap (λ (p : Pictures). p.cac
 plain_caches ss (wanted.Info k) old new none same = (ap (λ (p : Pictures). p.cache) same, ap (λ (p : Pictures). p.cursors) same)
 plain_caches ss (wanted.Frame k n) old new none is = picture_caches (slice_get ss.sources k) k n old new none is
 plain_caches ss (wanted.Video k n) old new none is = picture_caches (slice_get ss.sources k) k n old new none is
+plain_caches ss (wanted.Still k n scale) old new none is = picture_caches (slice_get ss.sources k) k n old new none is
 
 same_cursors : (old new : Pictures) → new ≡ old → new.cursors ≡ old.cursors
 same_cursors old new same = ap (λ (p : Pictures). p.cursors) same
@@ -112,6 +115,7 @@ left ss wanted.Streams old new none same = same_cursors old new same
 left ss (wanted.Info k) old new none same = same_cursors old new same
 left ss (wanted.Frame k n) old new none is = picture_left (slice_get ss.sources k) k n old new none is
 left ss (wanted.Video k n) old new none is = picture_left (slice_get ss.sources k) k n old new none is
+left ss (wanted.Still k n scale) old new none is = picture_left (slice_get ss.sources k) k n old new none is
 
 -- ---- a hub
 

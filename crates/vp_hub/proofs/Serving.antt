@@ -1,17 +1,16 @@
 -- A connection that is closed takes no bytes; the bytes of a piece have one outcome.
 use Rattle.std.proofs.Common.{◌≡◌, ◌++◌, ◌+◌, ◌<◌, ◌≤◌, ◌∷◌, ℕ, take, drop, arith, List, [], true, false, Bool, length, nat_lt, refl, sym, ap, subst, ◌∙◌}
 use Rattle.std.specs.Prelude.{if◌then◌else◌}
-use Rattle.vp_heads.specs.declared.request.Request.{Request}
-use Rattle.vp_heads.proofs.HeadLemmas.{asked_unique}
-use Rattle.vp_hub.specs.Pages.{Streams, IsReply, content_of}
+use Rattle.vp_hub.specs.Pages.{Streams, IsReply}
 use Rattle.vp_hub.specs.declared.connection.ConnectionState.{ConnectionState}
-use Rattle.vp_heads.specs.Replies.{too_long, reply_to}
+use Rattle.vp_heads.specs.Replies.{too_long}
 use Rattle.vp_hub.specs.declared.event.Event.{Event}
 use Rattle.vp_hub.specs.Hub.{Chosen, Outcome, ends_head, Settles, TakesByte, Serves, IsStep}
 use Rattle.vp_hub.specs.declared.picture_cache.Pictures.{Pictures}
 use Rattle.std.specs.Prelude.{Result, Ok, Err, OnErr, slice_index}
 use Rattle.std.proofs.lemmas.List.{take-append-drop, take_all, drop_more}
 use Rattle.vp_stream.specs.Seeking.{saturating_count}
+use Rattle.vp_hub.proofs.WithoutStills.{reply_unique}
 use Rattle.vp_hub.specs.Work.{CostsByte, CostsByteAtMost, Costs, CostsAtMost, Hub, IsWorked, IsWorkedRun}
 
 chosen_true : (t : Bool) (A B : Type 0) → t ≡ true → A → Chosen t A B
@@ -22,29 +21,35 @@ pub serves-closed : (ss : Streams) (bs : List ℕ) (v : ConnectionState × List 
 serves-closed ss [] v h = refl
 serves-closed ss (b ∷ bs) v h = (v, chosen_true v.0.closed _ _ h refl, serves-closed ss bs v h)
 
-reply_unique : (ss : Streams) (head : List ℕ) (r s : List ℕ × Bool) → IsReply ss head r → IsReply ss head s → r ≡ s
-unfolding IsReply
-reply_unique ss head r s a b =
-    a.2 ∙ ap (λ (q : Request). (reply_to q (content_of ss q.wanted), q.closing)) (asked_unique ss.names head a.0 b.0 a.1 b.1) ∙ sym b.2
+chosen_of_true : (t : Bool) (A B : Type 0) → t ≡ true → Chosen t A B → A
+chosen_of_true true A B h a = a
+chosen_of_true false A B h b = cc
+
+-- bytes change nothing for a connection that is closed
+pub closed_stays : (ss : Streams) (bs : List ℕ) (v w : ConnectionState × List ℕ) → v.0.closed ≡ true → Serves ss bs v w → w ≡ v
+closed_stays ss [] v w h s = s
+closed_stays ss (b ∷ bs) v w h s =
+    let same : s.0 ≡ v = chosen_of_true v.0.closed _ _ h s.1 in
+    closed_stays ss bs v w h (subst (λ m. Serves ss bs m w) same s.2)
 
 -- a choice has one outcome if each side has
 pub chosen_unique : {X : Type 0} (t : Bool) (A B : X → Type 0) (x y : X) → ((x y : X) → A x → A y → x ≡ y) → ((x y : X) → B x → B y → x ≡ y) → Chosen t (A x) (B x) → Chosen t (A y) (B y) → x ≡ y
 chosen_unique true A B x y f g a b = f x y a b
 chosen_unique false A B x y f g a b = g x y a b
 
-takes_unique : (ss : Streams) (b : ℕ) (v x y : ConnectionState × List ℕ) → TakesByte ss b v x → TakesByte ss b v y → x ≡ y
-takes_unique ss b v x y = chosen_unique v.0.closed (λ w. w ≡ v) (Settles ss (v.0.pending ++ b ∷ []) v.1) x y (λ x y a b. a ∙ sym b)
+takes_unique : (ss : Streams) (b : ℕ) (v x y : ConnectionState × List ℕ) → ss.webp ≡ false → TakesByte ss b v x → TakesByte ss b v y → x ≡ y
+takes_unique ss b v x y off = chosen_unique v.0.closed (λ w. w ≡ v) (Settles ss (v.0.pending ++ b ∷ []) v.1) x y (λ x y a b. a ∙ sym b)
     (λ x y. chosen_unique (ends_head (v.0.pending ++ b ∷ []))
     (λ w. (r : List ℕ × Bool) × IsReply ss (v.0.pending ++ b ∷ []) r × (w ≡ (record { pending = []; closed = r.1 }, v.1 ++ r.0)))
     (λ w. w ≡ (if nat_lt (length (v.0.pending ++ b ∷ [])) 8192 then (record { pending = v.0.pending ++ b ∷ []; closed = false }, v.1) else (record { pending = []; closed = true }, v.1 ++ too_long)))
     x y
-    (λ x y a c. a.2 ∙ ap (λ (r : List ℕ × Bool). (record { pending = []; closed = r.1 }, v.1 ++ r.0)) (reply_unique ss (v.0.pending ++ b ∷ []) a.0 c.0 a.1 c.1) ∙ sym c.2)
+    (λ x y a c. a.2 ∙ ap (λ (r : List ℕ × Bool). (record { pending = []; closed = r.1 }, v.1 ++ r.0)) (reply_unique ss (v.0.pending ++ b ∷ []) a.0 c.0 off a.1 c.1) ∙ sym c.2)
     (λ x y a c. a ∙ sym c))
 
-pub serves_unique : (ss : Streams) (bs : List ℕ) (v x y : ConnectionState × List ℕ) → Serves ss bs v x → Serves ss bs v y → x ≡ y
-serves_unique ss [] v x y a b = a ∙ sym b
-serves_unique ss (b ∷ bs) v x y a c =
-    serves_unique ss bs a.0 x y a.2 (subst (λ m. Serves ss bs m y) (takes_unique ss b v c.0 a.0 c.1 a.1) c.2)
+pub serves_unique : (ss : Streams) (bs : List ℕ) (v x y : ConnectionState × List ℕ) → ss.webp ≡ false → Serves ss bs v x → Serves ss bs v y → x ≡ y
+serves_unique ss [] v x y off a b = a ∙ sym b
+serves_unique ss (b ∷ bs) v x y off a c =
+    serves_unique ss bs a.0 x y off a.2 (subst (λ m. Serves ss bs m y) (takes_unique ss b v c.0 a.0 off c.1 a.1) c.2)
 
 -- ---- what the bytes cost
 

@@ -103,12 +103,16 @@ stream_limits limits = record {
 abbrev pub new_source : Limits → Source
 new_source limits = record { stream = fresh_stream (stream_limits limits); end = ending.Open }
 
--- a new hub: streams with these names, without bytes, and no connections
-abbrev pub initial_hub : List (List ℕ) → Limits → HubState
-initial_hub names limits = record {
-  streams = record { names = names; sources = map (λ _. new_source limits) names };
+-- a new hub: streams with these names, without bytes, shown as WebP files too or not, and no connections
+abbrev pub new_hub_state : Bool → List (List ℕ) → Limits → HubState
+new_hub_state webp names limits = record {
+  streams = record { names = names; sources = map (λ _. new_source limits) names; webp = webp };
   connections = [];
 }
+
+-- a new hub that shows no WebP files
+abbrev pub initial_hub : List (List ℕ) → Limits → HubState
+initial_hub names limits = new_hub_state false names limits
 
 -- the state of the connection with this number
 abbrev pub connection_state_of : ℕ → List Connection → Option ConnectionState

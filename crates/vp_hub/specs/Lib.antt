@@ -1,4 +1,7 @@
 pub mod Hub
+pub mod Stills
+pub mod WithoutStills
+pub mod Forms
 pub mod Pages
 pub mod Heads
 pub mod View

@@ -1,5 +1,6 @@
--- The content of each resource: the list of names, a stream's information, and a picture as I420 or YUV4MPEG2. Pinned
--- by the tests `serve_one_frame`, `streams_are_listed`, `info_of_a_stream` and `a_picture_as_video`.
+-- The content of each resource: the list of names, a stream's information, and a picture as I420, YUV4MPEG2 or WebP.
+-- Pinned by the tests `serve_one_frame`, `streams_are_listed`, `info_of_a_stream`, `a_picture_as_video` and
+-- `stills_over_http`.
 use Rattle.std.specs.Prelude.{◌≡◌, ℕ, Bool, true, false, List, [], ◌∷◌, ◌++◌, length, codes, decimal, Option, Some}
 use Rattle.std.specs.Prelude.{None, slice_get}
 use Rattle.std.specs.List.{flat_map}
@@ -14,16 +15,19 @@ use Rattle.vp_heads.specs.declared.request.Request.{Request}
 use Rattle.vp_heads.specs.declared.request.Resource.{Resource}
 use Rattle.vp_heads.specs.declared.request.Resource.TheVariants as wanted
 use Rattle.vp_heads.specs.declared.status.Status.TheVariants.{BadRequest, NotFound, MethodNotAllowed}
+use Rattle.vp_heads.specs.Routes.{routes_of}
 use Rattle.vp_heads.specs.Requests.{IsRequestFor}
 use Rattle.vp_heads.specs.Replies.{Content, Lines, Pixels, Faulted, Failed, reply_to}
+use Rattle.vp_hub.specs.Stills.{IsStillContent}
 use Rattle.vp_hub.specs.declared.source.Source.{Source}
 use Rattle.vp_hub.specs.declared.source.StreamEnd.{StreamEnd}
 use Rattle.vp_hub.specs.declared.source.StreamEnd.TheVariants.{Open, Good, Faulty}
 
--- the names of the streams, and the streams in the same order
+-- the names of the streams, the streams in the same order, and whether they are shown as WebP files too
 pub record Streams : Type 0 where
   pub names : List (List ℕ)
   pub sources : List Source
+  pub webp : Bool
 
 -- ---- the list of names: each name and a line feed
 
@@ -80,7 +84,7 @@ picture_content video None n = Failed NotFound
 picture_content video (Some s) n = picture_by video s.stream.reading.head
     (answer_at s.stream.limits s.stream.reading.packets n)
 
--- the content for a resource
+-- the content for a resource, without WebP files
 abbrev pub content_of : Streams → Resource → Content
 content_of s wanted.Bad = Failed BadRequest
 content_of s wanted.WrongMethod = Failed MethodNotAllowed
@@ -89,9 +93,19 @@ content_of s wanted.Streams = Lines (names_text s.names)
 content_of s (wanted.Info k) = info_content (slice_get s.sources k)
 content_of s (wanted.Frame k n) = picture_content false (slice_get s.sources k) n
 content_of s (wanted.Video k n) = picture_content true (slice_get s.sources k) n
+content_of s (wanted.Still k n scale) = Failed NotFound
+
+-- the content for a resource: of a picture that is encoded, one of the files that the encoder may choose
+abbrev pub IsContentOf : Streams → Resource → Content → Type 0
+IsContentOf s (wanted.Still k n scale) c = IsStillContent scale (slice_get s.sources k) n c
+IsContentOf s w c = c ≡ content_of s w
+
+-- the response to a request, and whether it closes the connection
+pub record IsReplyTo (s : Streams) (request : Request) (r : List ℕ × Bool) : Type 0 where
+  pub content : Content
+  pub content_is : IsContentOf s request.wanted content
+  pub reply : r ≡ (reply_to request content, request.closing)
 
 -- the response to a request head, and whether it closes the connection
 unfoldable pub IsReply : Streams → List ℕ → List ℕ × Bool → Type 0
-IsReply s head r =
-    (request : Request) × IsRequestFor s.names head request × (r ≡
-    (reply_to request (content_of s request.wanted), request.closing))
+IsReply s head r = (request : Request) × IsRequestFor (routes_of s.webp) s.names head request × IsReplyTo s request r

@@ -12,7 +12,7 @@ use Rattle.vp_hub.specs.declared.source.Source.{Source}
 use Rattle.vp_hub.specs.declared.source.StreamEnd.{StreamEnd}
 use Rattle.vp_hub.specs.declared.source.StreamEnd.TheVariants as ending
 use Rattle.vp_hub.specs.Pages.{Streams}
-use Rattle.vp_hub.specs.Hub.{Outcome, HubState, initial_hub, stream_limits, ending_by}
+use Rattle.vp_hub.specs.Hub.{Outcome, HubState, new_hub_state, stream_limits, ending_by}
 use Rattle.vp_hub.specs.View.{IsRun}
 
 -- the stream at place k results from these bytes
@@ -50,8 +50,8 @@ RunsAddAcceptedPieces = (s new : HubState) (es : List Event) (os : List Outcome)
 
 -- the streams of a new hub have no bytes
 abbrev pub NewStreamsHaveNoBytes : Type 0
-NewStreamsHaveNoBytes = (names : List (List ℕ)) (limits : Limits) (k : ℕ) → k < length names
-    → IsReadFrom (stream_limits limits) k (initial_hub names limits).streams []
+NewStreamsHaveNoBytes = (webp : Bool) (names : List (List ℕ)) (limits : Limits) (k : ℕ) → k < length names
+    → IsReadFrom (stream_limits limits) k (new_hub_state webp names limits).streams []
 
 -- ---- the end
 
@@ -91,5 +91,5 @@ RunsEndAtAcceptedEnds = (s new : HubState) (es : List Event) (os : List Outcome)
 
 -- the streams of a new hub are open
 abbrev pub NewStreamsAreOpen : Type 0
-NewStreamsAreOpen = (names : List (List ℕ)) (limits : Limits) (k : ℕ) → k < length names
-    → IsEndedFrom (stream_limits limits) k (initial_hub names limits).streams [] false
+NewStreamsAreOpen = (webp : Bool) (names : List (List ℕ)) (limits : Limits) (k : ℕ) → k < length names
+    → IsEndedFrom (stream_limits limits) k (new_hub_state webp names limits).streams [] false

@@ -30,6 +30,7 @@ plain_picture_cost (Some s) k n cache = work_beside (cached k n cache.entries) s
 abbrev pub plain_cost_of : Streams → Resource → Cache → ℕ
 plain_cost_of streams (wanted.Frame k n) cache = plain_picture_cost (slice_get streams.sources k) k n cache
 plain_cost_of streams (wanted.Video k n) cache = plain_picture_cost (slice_get streams.sources k) k n cache
+plain_cost_of streams (wanted.Still k n scale) cache = plain_picture_cost (slice_get streams.sources k) k n cache
 plain_cost_of streams _ cache = 0
 
 -- the cache after it: a shown picture is the most recent entry, unless memory ran out for it
@@ -42,6 +43,8 @@ IsPlainAfterPicture (Some s) k n old new =
 abbrev pub IsPlainAfterRequest : Streams → Resource → Cache → Cache → Type 0
 IsPlainAfterRequest streams (wanted.Frame k n) old new = IsPlainAfterPicture (slice_get streams.sources k) k n old new
 IsPlainAfterRequest streams (wanted.Video k n) old new = IsPlainAfterPicture (slice_get streams.sources k) k n old new
+IsPlainAfterRequest streams (wanted.Still k n scale) old new =
+    IsPlainAfterPicture (slice_get streams.sources k) k n old new
 IsPlainAfterRequest streams _ old new = new ≡ old
 
 -- ---- the statements of the laws

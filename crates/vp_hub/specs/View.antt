@@ -135,10 +135,11 @@ IsIsolated s es os new = (c : ℕ) → Leads (view_of c es os) (connection_view 
 abbrev pub RunsAreIsolated : Type 0
 RunsAreIsolated = (s new : HubState) (es : List Event) (os : List Outcome) → IsRun s es os new → IsIsolated s es os new
 
--- in two runs from hubs that are equal for connection c, equal views of c give equal results
+-- in two runs from hubs that are equal for connection c, equal views of c give equal results; the hubs show no WebP
+-- files, for which the encoder may choose
 abbrev pub AnswersAlike : Type 0
 AnswersAlike = (c : ℕ) (s t : HubState) (es fs : List Event) (os ps : List Outcome) (new mid : HubState)
-    → IsRun s es os new → IsRun t fs ps mid → connection_view c s ≡ connection_view c t
+    → s.streams.webp ≡ false → IsRun s es os new → IsRun t fs ps mid → connection_view c s ≡ connection_view c t
     → view_of c es os ≡ view_of c fs ps
     → results_of c es os ≡ results_of c fs ps
 

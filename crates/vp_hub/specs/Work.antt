@@ -11,6 +11,7 @@ use Rattle.vp_cache.specs.Cursors.{Cursors}
 use Rattle.vp_heads.specs.declared.request.Request.{Request}
 use Rattle.vp_heads.specs.declared.request.Resource.{Resource}
 use Rattle.vp_heads.specs.declared.request.Resource.TheVariants as wanted
+use Rattle.vp_heads.specs.Routes.{routes_of}
 use Rattle.vp_heads.specs.Requests.{IsRequestFor}
 use Rattle.vp_hub.specs.declared.picture_cache.Pictures.{Pictures}
 use Rattle.vp_hub.specs.declared.source.Source.{Source}
@@ -46,6 +47,7 @@ picture_cost (Some s) k n pictures =
 abbrev pub cost_of : Streams → Resource → Pictures → ℕ
 cost_of streams (wanted.Frame k n) pictures = picture_cost (slice_get streams.sources k) k n pictures
 cost_of streams (wanted.Video k n) pictures = picture_cost (slice_get streams.sources k) k n pictures
+cost_of streams (wanted.Still k n scale) pictures = picture_cost (slice_get streams.sources k) k n pictures
 cost_of streams _ pictures = 0
 
 -- The pictures after it: a shown picture is the most recent entry of the cache, unless memory ran out for it. After a
@@ -61,6 +63,7 @@ IsAfterPicture (Some s) k n old new =
 abbrev pub IsAfterRequest : Streams → Resource → Pictures → Pictures → Type 0
 IsAfterRequest streams (wanted.Frame k n) old new = IsAfterPicture (slice_get streams.sources k) k n old new
 IsAfterRequest streams (wanted.Video k n) old new = IsAfterPicture (slice_get streams.sources k) k n old new
+IsAfterRequest streams (wanted.Still k n scale) old new = IsAfterPicture (slice_get streams.sources k) k n old new
 IsAfterRequest streams _ old new = new ≡ old
 
 -- the pictures if memory runs out while packet n is decoded: the used cursor stands behind no packet
@@ -77,6 +80,7 @@ IsLeftPicture source k n old new =
 abbrev pub IsLeft : Streams → Resource → Pictures → Pictures → Type 0
 IsLeft streams (wanted.Frame k n) old new = IsLeftPicture (slice_get streams.sources k) k n old new
 IsLeft streams (wanted.Video k n) old new = IsLeftPicture (slice_get streams.sources k) k n old new
+IsLeft streams (wanted.Still k n scale) old new = IsLeftPicture (slice_get streams.sources k) k n old new
 IsLeft streams _ old new = new ≡ old
 
 -- ---- the bytes of a connection
@@ -84,14 +88,14 @@ IsLeft streams _ old new = new ≡ old
 -- the number of packets decoded for a request, and the pictures after it
 pub record IsCost (streams : Streams) (head : List ℕ) (old new : Pictures) (cost : ℕ) : Type 0 where
   pub request : Request
-  pub asked : IsRequestFor streams.names head request
+  pub asked : IsRequestFor (routes_of streams.webp) streams.names head request
   pub after : IsAfterRequest streams request.wanted old new
   pub cost_is : cost ≡ cost_of streams request.wanted old
 
 -- an upper bound if memory runs out during a request; its picture may be cached or not, its cursor kept or not
 pub record IsMostCost (streams : Streams) (head : List ℕ) (old new : Pictures) (cost : ℕ) : Type 0 where
   pub request : Request
-  pub asked : IsRequestFor streams.names head request
+  pub asked : IsRequestFor (routes_of streams.webp) streams.names head request
   pub after : IsLeft streams request.wanted old new
   pub cost_is : cost ≡ cost_of streams request.wanted old
 

@@ -11,9 +11,8 @@ ghost use Rattle.vp_hub.specs.declared.event.HubFault.TheVariants.{Memory};
 ghost use Rattle.vp_hub.specs.declared.names.NewFault.{NewFault};
 ghost use Rattle.vp_hub.specs.Heads.{AllKeepPartial};
 ghost use Rattle.vp_hub.specs.Names.{are_names as may_be_names};
-ghost use Rattle.vp_hub.specs.Hub.{AreKept, IsStep, Outcome, HubState, initial_hub, connection_state_of};
-ghost use Rattle.vp_hub.specs.Hub.{with_connection_state, stream_limits, Gets, Asks};
-ghost use Rattle.vp_hub.specs.Hub.{is_open};
+ghost use Rattle.vp_hub.specs.Hub.{AreKept, IsStep, Outcome, HubState, initial_hub, new_hub_state};
+ghost use Rattle.vp_hub.specs.Hub.{connection_state_of, with_connection_state, stream_limits, Gets, Asks, is_open};
 ghost use Rattle.vp_hub.specs.Pieces.{AreAcceptedEnds, AreAcceptedPieces};
 ghost use Rattle.vp_hub.specs.View.{IsRun, IsIsolated};
 ghost use Rattle.vp_hub.specs.Work.{HaveCursors, Costs, CostsAtMost, CostsPiece, CostsPieceAtMost, IsWorked};
@@ -97,13 +96,56 @@ impl Hub {
         ensures partial { IfOk result (λ h. AllKeepPartial h.state) }
         ensures stands { IfOk result (λ h. IsRun (initial_hub names.items limits) [] [] h.state) }
     {
+        Hub::create(alloc, names, limits, cursors, false)
+    }
+
+    /// Creates a hub as `with_cursors` does, that shows the pictures as WebP files too, in their size or smaller.
+    ///
+    /// Errors: `Names` if the names are not valid, `Memory`.
+    pub fn with_stills(
+        alloc: Global,
+        names: Vec<ByteList>,
+        limits: Limits,
+        cursors: u32,
+    ) -> Result<Hub, NewFault>
+        ensures names { (result ≡ Err NewFault.Names) ↔ (may_be_names names.items ≡ false) }
+        ensures hub { IfOk result (λ h. h ≡ record {
+          state = new_hub_state true names.items limits;
+          cache = empty limits.cache;
+          cursors = no_cursors cursors (stream_limits limits);
+          work = 0;
+        }) }
+        ensures partial { IfOk result (λ h. AllKeepPartial h.state) }
+        ensures stands { IfOk result (λ h. IsRun (new_hub_state true names.items limits) [] [] h.state) }
+    {
+        Hub::create(alloc, names, limits, cursors, true)
+    }
+
+    // Creates a hub. With `webp`, it shows WebP files.
+    fn create(
+        alloc: Global,
+        names: Vec<ByteList>,
+        limits: Limits,
+        cursors: u32,
+        webp: bool,
+    ) -> Result<Hub, NewFault>
+        ensures names { (result ≡ Err NewFault.Names) ↔ (may_be_names names.items ≡ false) }
+        ensures hub { IfOk result (λ h. h ≡ record {
+          state = new_hub_state webp names.items limits;
+          cache = empty limits.cache;
+          cursors = no_cursors cursors (stream_limits limits);
+          work = 0;
+        }) }
+        ensures partial { IfOk result (λ h. AllKeepPartial h.state) }
+        ensures stands { IfOk result (λ h. IsRun (new_hub_state webp names.items limits) [] [] h.state) }
+    {
         if !are_names(&names) {
             return Err(NewFault::Names);
         }
         let Ok(cursors) = Cursors::new(alloc, cursors, limits_of_stream(limits)) else {
             return Err(NewFault::Memory);
         };
-        let Ok(streams) = Streams::new(alloc, names, limits) else {
+        let Ok(streams) = Streams::new(alloc, names, limits, webp) else {
             return Err(NewFault::Memory);
         };
         let Ok(cache) = Cache::new(alloc, limits.cache) else {

@@ -11,6 +11,7 @@ ghost use Rattle.vp_hub.specs.Lines.{LinesEndOnce};
 ghost use Rattle.vp_hub.specs.Sessions.{AllButTheLastAreWritten};
 ghost use Rattle.vp_hub.specs.Standing.{StandsToShut, IsTooManyByHistory};
 ghost use Rattle.vp_hub.specs.Turns.{HistoriesAreCut};
+ghost use Rattle.vp_hub.specs.WithoutStills.{StillsAreOptional};
 ghost use Rattle.vp_hub.specs.View.{AnswersAlike, NewHubsAnswerAlike, RunsAreIsolated, RunsAreJoined};
 
 /// The bytes of a connection are split into request heads, and the response is that to these heads.
@@ -35,7 +36,7 @@ pub fn runs_are_isolated()
 {}
 
 /// If the views of a connection are equal in two runs, its results are equal. The two hubs may cache different numbers
-/// of pictures.
+/// of pictures; they show no WebP files.
 pub fn answers_alike()
     ensures alike { AnswersAlike }
     ensures new { NewHubsAnswerAlike }
@@ -78,6 +79,12 @@ pub fn frames_in_order_cost_one_each()
     ensures misses { MissesCostTheLeast }
     ensures order { NextFrameCostsOne }
     ensures again { SameFrameCostsNone }
+{}
+
+/// A hub of `new` or `with_cursors`, which shows no WebP files, responds by the four routes, and each resource has one
+/// content.
+pub fn stills_are_optional()
+    ensures { StillsAreOptional }
 {}
 
 /// However a session ends, also if a write failed, the responses to all lines but the last one are written.

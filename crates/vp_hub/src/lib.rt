@@ -21,6 +21,7 @@ pub use laws::{
     answers_alike, bytes_are_accepted_pieces, cut_into_heads, frames_in_order_cost_one_each,
     histories_are_cut, is_too_many_by_history, plain_hubs_count_as_before,
     replies_come_before_the_next_line, runs_are_isolated, runs_are_joined, stands_to_shut,
+    stills_are_optional,
 };
 pub use names::NewFault;
 pub use session::{ServeFault, serve_one};

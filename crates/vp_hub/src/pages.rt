@@ -1,16 +1,18 @@
 //! The content of the pages.
 
 ghost use Rattle.std.specs.Prelude.{◌≡◌, ◌≢◌, ◌≤◌, ◌⊎◌, ◌++◌, ℕ, List, codes, decimal, Some, IfOk, OnOk, OnErr};
-ghost use Rattle.std.specs.Prelude.{slice_get};
+ghost use Rattle.std.specs.Prelude.{option_map, slice_get};
 ghost use Rattle.std.specs.String.{string_bytes};
 ghost use Rattle.vp_y4m.specs.Text.{header_text};
 ghost use Rattle.vp_stream.specs.Stream.{stream_refusal};
 ghost use Rattle.vp_stream.specs.Stream.{Stream as StreamState};
-ghost use Rattle.vp_stream.specs.Seeking.{Shown, answer_value, saturating_count};
+ghost use Rattle.vp_stream.specs.Seeking.{Shown, answer_at, answer_value, saturating_count};
 ghost use Rattle.vp_cache.specs.Cache.{AreAnswersOf};
 ghost use Rattle.vp_heads.specs.Replies.{Lines, reply_to};
-ghost use Rattle.vp_hub.specs.Pages.{IsReply, content_of, names_text, info_text, info_content, head_lines, state_by};
-ghost use Rattle.vp_hub.specs.Pages.{front_by, picture_by, picture_content};
+ghost use Rattle.vp_hub.specs.Pages.{IsReply, IsContentOf, names_text, info_text, info_content, head_lines, state_by};
+ghost use Rattle.vp_hub.specs.Pages.{front_by, picture_by};
+ghost use Rattle.vp_hub.specs.Stills.{IsStillFile, IsLongStill};
+ghost use Rattle.vp_hub.specs.Forms.{IsPictureContent, Puts};
 ghost use Rattle.vp_hub.specs.Hub.{AreKept, lent_source};
 ghost use Rattle.vp_hub.specs.Work.{AreCursorsFor, HaveCursors, IsAfterRequest, IsAfterPicture, IsLeft, IsLeftPicture};
 ghost use Rattle.vp_hub.specs.Work.{IsCost, IsMostCost, cost_of, picture_cost};
@@ -20,9 +22,16 @@ use crate::source::{Source, StreamEnd};
 use crate::streams::Streams;
 use std::alloc::{AllocError, Global};
 use vp_base::{ByteList, Dim};
-use vp_heads::{Buffer, Request, Resource, Status, put_error, put_faulted, put_lines, put_pixels};
+use vp_heads::{
+    Buffer, Request, Resource, Status, put_error, put_faulted, put_lines, put_pixels, put_webp,
+};
 use vp_ivf::IvfHead;
+use vp_scale::Scale;
+use vp_still::{ShownPacket, StillFault, webp_of};
 use vp_stream::Answer;
+
+// The quantiser index of the pictures that are encoded for WebP files.
+const STILL_QUANTISER: u8 = 8;
 
 /// Returns the names, each followed by a line feed.
 fn names_lines(alloc: Global, names: &[ByteList]) -> Result<Buffer, AllocError>
@@ -130,7 +139,66 @@ fn front_text(
     }
 }
 
-fn put_shown(
+/// The form in which a picture is shown.
+#[derive(Clone, Copy)]
+pub(crate) enum Form {
+    /// As I420.
+    Pixels,
+    /// As a YUV4MPEG2 file.
+    Video,
+    /// As a WebP file, in its size or smaller.
+    Still(Scale),
+}
+
+/// The picture that a request asks for: packet `n` of the stream at `place`, in a form.
+#[derive(Clone, Copy)]
+struct AskedPicture {
+    place: usize,
+    n: u32,
+    form: Form,
+}
+
+/// Returns packet `n` of a stream with the picture that it shows.
+fn shown_packet<'a>(source: &'a Source, n: u32, dim: Dim, pixels: &'a [u8]) -> ShownPacket<'a>
+    requires { answer_at source.now.stream.limits source.now.stream.reading.packets n ≡ Shown dim.w dim.h pixels.now }
+    ensures packet { option_map (λ p. p.bytes) (slice_get source.now.stream.reading.packets n)
+        ≡ Some result.packet.now }
+    ensures dim { result.dim ≡ dim }
+    ensures pixels { result.pixels.now ≡ pixels.now }
+{
+    let Some(packet) = source.stream.packet(n) else {
+        unreachable!();
+    };
+    ShownPacket {
+        packet: packet.bytes.as_slice(),
+        dim,
+        pixels,
+    }
+}
+
+/// Appends the response with the WebP file of a picture. If its key frame is too long, the response says so as for a
+/// packet with a fault.
+fn put_still(
+    alloc: Global,
+    request: Request,
+    shown: ShownPacket<'_>,
+    scale: Scale,
+    out: &mut Buffer,
+) -> Result<(), AllocError>
+    ensures { OnOk result (Puts
+        (λ c. IsStillFile scale shown.entry.packet.now shown.entry.dim.w shown.entry.dim.h shown.entry.pixels.now c
+        ⊎ IsLongStill scale shown.entry.packet.now shown.entry.dim.w shown.entry.dim.h shown.entry.pixels.now c)
+        request out.old out.new) }
+{
+    match webp_of(alloc, shown, scale, STILL_QUANTISER) {
+        Ok(still) => put_webp(alloc, request, still.file.as_slice(), out),
+        Err(StillFault::TooLong) => put_faulted(alloc, request, "TooLong", out),
+        Err(StillFault::Memory) => Err(AllocError),
+    }
+}
+
+/// Appends the response with the I420 pixels of a picture, or its YUV4MPEG2 file.
+fn put_plain(
     alloc: Global,
     request: Request,
     video: bool,
@@ -146,34 +214,54 @@ fn put_shown(
     put_pixels(alloc, request, front.as_bytes(), pixels, out)
 }
 
+/// Appends the response with the picture that packet `n` of a stream shows.
+fn put_shown(
+    alloc: Global,
+    request: Request,
+    source: &Source,
+    asked: AskedPicture,
+    dim: Dim,
+    pixels: &[u8],
+    out: &mut Buffer,
+) -> Result<(), AllocError>
+    requires { answer_at source.now.stream.limits source.now.stream.reading.packets asked.n
+        ≡ Shown dim.w dim.h pixels.now }
+    ensures { OnOk result (Puts (IsPictureContent asked.form (Some source.now) asked.n) request out.old out.new) }
+{
+    let head = source.stream.head();
+    match asked.form {
+        Form::Pixels => put_plain(alloc, request, false, head, dim, pixels, out),
+        Form::Video => put_plain(alloc, request, true, head, dim, pixels, out),
+        Form::Still(scale) => {
+            let shown = shown_packet(source, asked.n, dim, pixels);
+            put_still(alloc, request, shown, scale, out)
+        }
+    }
+}
+
+/// Appends the response for packet `n` of a stream, given its answer.
 fn put_answer(
     alloc: Global,
     request: Request,
-    video: bool,
-    head: Option<IvfHead>,
+    source: &Source,
+    asked: AskedPicture,
     answer: &Answer,
     out: &mut Buffer,
 ) -> Result<(), AllocError>
-    ensures { OnOk result (out.new ≡ out.old ++ reply_to request (picture_by video head (answer_value answer.now))) }
+    requires { answer_at source.now.stream.limits source.now.stream.reading.packets asked.n ≡ answer_value answer.now }
+    ensures { OnOk result (Puts (IsPictureContent asked.form (Some source.now) asked.n) request out.old out.new) }
 {
     match answer {
         Answer::Shown(dim, pixels) => {
-            put_shown(alloc, request, video, head, *dim, pixels.as_slice(), out)
+            put_shown(alloc, request, source, asked, *dim, pixels.as_slice(), out)
         }
         Answer::Fault(fault) => {
             let name = format!(in alloc; "{fault}")?;
             put_faulted(alloc, request, name.as_str(), out)
         }
-        Answer::Hidden | Answer::NoPacket => put_error(alloc, request, Status::NotFound, out),
+        Answer::Hidden => put_error(alloc, request, Status::NotFound, out),
+        Answer::NoPacket => put_error(alloc, request, Status::NotFound, out),
     }
-}
-
-/// The picture that a request asks for: packet `n` of the stream at `place`, as a Y4M file if `video` is set.
-#[derive(Clone, Copy)]
-struct AskedPicture {
-    place: usize,
-    n: u32,
-    video: bool,
 }
 
 /// Appends the response for packet `n` of a stream. A cached picture is borrowed, not copied.
@@ -187,8 +275,8 @@ fn put_picture(
 ) -> Result<(), AllocError>
     requires kept { AreAnswersOf asked.place source.now.stream pictures.old.kept.cache.entries }
     requires cursors { AreCursorsFor asked.place source.now.stream pictures.old.kept.cursors }
-    ensures content { OnOk result (out.new ≡ out.old ++ reply_to request
-        (picture_content asked.video (Some source.now) asked.n)) }
+    ensures content { OnOk result (Puts (IsPictureContent asked.form (Some source.now) asked.n)
+        request out.old out.new) }
     ensures work { OnOk result (pictures.new.work ≡ saturating_count pictures.old.work
         (picture_cost (Some source.now) asked.place asked.n pictures.old.kept)) }
     ensures most { OnErr result ((pictures.old.work ≤ pictures.new.work)
@@ -206,14 +294,13 @@ fn put_picture(
         AreCursorsFor other s pictures.old.kept.cursors → AreCursorsFor other s pictures.new.kept.cursors }
 {
     let _known = pictures.work;
-    let AskedPicture { place, n, video } = asked;
-    let head = source.stream.head();
+    let AskedPicture { place, n, .. } = asked;
     if let Some(kept) = pictures.kept.cache.cached(place, n) {
         put_shown(
             alloc,
             request,
-            video,
-            head,
+            source,
+            asked,
             kept.dim(),
             kept.as_slice(),
             out,
@@ -228,7 +315,7 @@ fn put_picture(
         n,
         &mut pictures.work,
     )?;
-    put_answer(alloc, request, video, head, &answer, out)
+    put_answer(alloc, request, source, asked, &answer, out)
 }
 
 /// Appends the response for packet `n` of the stream at a place, which may not exist.
@@ -242,8 +329,8 @@ fn put_picture_of(
 ) -> Result<(), AllocError>
     requires kept { AreKept streams.now.sources pictures.old.kept.cache.entries }
     requires cursors { HaveCursors streams.now.sources pictures.old.kept.cursors }
-    ensures content { OnOk result (out.new ≡ out.old ++ reply_to request
-        (picture_content asked.video (slice_get streams.now.sources asked.place) asked.n)) }
+    ensures content { OnOk result (Puts
+        (IsPictureContent asked.form (slice_get streams.now.sources asked.place) asked.n) request out.old out.new) }
     ensures work { OnOk result (pictures.new.work ≡ saturating_count pictures.old.work
         (picture_cost (slice_get streams.now.sources asked.place) asked.place asked.n pictures.old.kept)) }
     ensures most { OnErr result ((pictures.old.work ≤ pictures.new.work)
@@ -273,7 +360,7 @@ fn put_content(
 ) -> Result<(), AllocError>
     requires kept { AreKept streams.now.sources pictures.old.kept.cache.entries }
     requires cursors { HaveCursors streams.now.sources pictures.old.kept.cursors }
-    ensures content { OnOk result (out.new ≡ out.old ++ reply_to request (content_of streams.now request.wanted)) }
+    ensures content { OnOk result (Puts (IsContentOf streams.now request.wanted) request out.old out.new) }
     ensures work { OnOk result (pictures.new.work ≡ saturating_count pictures.old.work
         (cost_of streams.now request.wanted pictures.old.kept)) }
     ensures most { OnErr result ((pictures.old.work ≤ pictures.new.work)
@@ -292,19 +379,18 @@ fn put_content(
         Resource::Streams => put_names(alloc, request, streams.names(), out),
         Resource::Info(place) => put_info(alloc, request, streams.source(place), out),
         Resource::Frame(place, n) => {
-            let asked = AskedPicture {
-                place,
-                n,
-                video: false,
-            };
+            let form = Form::Pixels;
+            let asked = AskedPicture { place, n, form };
             put_picture_of(alloc, streams, pictures, request, asked, out)
         }
         Resource::Video(place, n) => {
-            let asked = AskedPicture {
-                place,
-                n,
-                video: true,
-            };
+            let form = Form::Video;
+            let asked = AskedPicture { place, n, form };
+            put_picture_of(alloc, streams, pictures, request, asked, out)
+        }
+        Resource::Still(place, n, scale) => {
+            let form = Form::Still(scale);
+            let asked = AskedPicture { place, n, form };
             put_picture_of(alloc, streams, pictures, request, asked, out)
         }
     }

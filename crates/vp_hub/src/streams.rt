@@ -4,10 +4,11 @@ ghost use Rattle.std.specs.Prelude.{◌≡◌, ◌≢◌, ◌<◌, ℕ, List, Ok
 ghost use Rattle.std.specs.Prelude.{slice_get, map};
 ghost use Rattle.vp_cache.specs.Cache.{CacheEntry};
 ghost use Rattle.vp_heads.specs.Requests.{IsRequestFor};
+ghost use Rattle.vp_heads.specs.Routes.{routes_of};
 ghost use Rattle.vp_heads.specs.Routes.{name_index as place_in};
 ghost use Rattle.vp_hub.specs.declared.event.HubFault.TheVariants.{Memory};
-ghost use Rattle.vp_hub.specs.Hub.{AreKept, at_name, at_place, at_source, fed, ended_source, initial_hub, lent_source};
-ghost use Rattle.vp_hub.specs.Hub.{new_source, stream_limits};
+ghost use Rattle.vp_hub.specs.Hub.{AreKept, at_name, at_place, at_source, fed, ended_source, lent_source};
+ghost use Rattle.vp_hub.specs.Hub.{new_hub_state, new_source, stream_limits};
 ghost use Rattle.vp_cache.specs.Cursors.{Cursors as CursorList};
 ghost use Rattle.vp_hub.specs.Work.{HaveCursors};
 
@@ -17,7 +18,7 @@ use matchit::Router;
 use std::alloc::{AllocError, Global};
 use std::marker::Model;
 use vp_base::{ByteList, Limits};
-use vp_heads::{Page, Request, place_of, read_request, router};
+use vp_heads::{Page, Request, place_of, read_request, router, router_with_stills};
 use vp_stream::Stream;
 
 /// The streams, their names, and the router of the pages.
@@ -26,18 +27,20 @@ pub struct Streams {
     names: Vec<ByteList>,
     sources: Vec<Source>,
     router: Router<Page>,
+    // Whether the router has the routes of WebP files.
+    webp: bool,
 }
 
 impl Model for Streams {
     ghost use Rattle.std.specs.Prelude.{◌≡◌};
-    ghost use Rattle.vp_heads.specs.Routes.{our_routes};
+    ghost use Rattle.vp_heads.specs.Routes.{routes_of};
     ghost use Rattle.vp_hub.specs.Pages.{Streams};
 
     ghost Value = { Streams };
 
-    ghost view = { λ a. record { names = a.names.items; sources = a.sources.items } };
+    ghost view = { λ a. record { names = a.names.items; sources = a.sources.items; webp = a.webp } };
 
-    ghost invariant = { λ a. a.router ≡ our_routes };
+    ghost invariant = { λ a. a.router ≡ routes_of a.webp };
 }
 
 /// Returns the limits of a single stream. It keeps no pictures, so its `cache` is 1.
@@ -66,27 +69,40 @@ fn new_sources(alloc: Global, names: &[ByteList], limits: Limits) -> Result<Vec<
     Ok(sources)
 }
 
+/// Creates the router of the pages, with those of WebP files or without.
+fn router_for(alloc: Global, webp: bool) -> Result<Router<Page>, AllocError>
+    ensures { IfOk result (λ r. r ≡ routes_of webp) }
+{
+    if webp {
+        router_with_stills(alloc)
+    } else {
+        router(alloc)
+    }
+}
+
 impl Streams {
-    /// Creates streams with these names, without bytes.
+    /// Creates streams with these names, without bytes. With `webp`, their pictures are shown as WebP files too.
     pub(crate) fn new(
         alloc: Global,
         names: Vec<ByteList>,
         limits: Limits,
+        webp: bool,
     ) -> Result<Streams, AllocError>
-        ensures { IfOk result (λ s. s ≡ (initial_hub names.items limits).streams) }
+        ensures { IfOk result (λ s. s ≡ (new_hub_state webp names.items limits).streams) }
     {
-        let router = router(alloc)?;
+        let router = router_for(alloc, webp)?;
         let sources = new_sources(alloc, &names, limits)?;
         Ok(Streams {
             names,
             sources,
             router,
+            webp,
         })
     }
 
     /// Returns the request in the bytes of a head.
     pub(crate) fn read(&self, head: &[u8]) -> Request
-        ensures { IsRequestFor self.now.names head.now result }
+        ensures { IsRequestFor (routes_of self.now.webp) self.now.names head.now result }
     {
         read_request(&self.router, &self.names, head)
     }

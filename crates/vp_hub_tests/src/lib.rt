@@ -21,3 +21,5 @@ mod serving_lines;
 mod serving_reads;
 #[cfg(test)]
 mod serving_visits;
+#[cfg(test)]
+mod stills;

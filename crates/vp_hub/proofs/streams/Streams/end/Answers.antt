@@ -33,7 +33,7 @@ returns-clause-step c =
     let there : slice_get c.self.inside.sources.items c.in-Some.place ≡ Some c.in-Some-get_mut.source.now =
     slice_get-get_or c.self.inside.sources.items c.in-Some.place c.in-Some-get_mut.source.now c.in-Some-get_mut.ensures.item.3.0
     ∙ ap Some (sym c.in-Some-get_mut.ensures.value) in
-    let was : Streams = record { names = c.self.inside.names.items; sources = c.self.inside.sources.items } in
+    let was : Streams = record { names = c.self.inside.names.items; sources = c.self.inside.sources.items; webp = c.self.inside.webp } in
     let done = at_name_there ended_source c.args.name.now was c.in-Some.place c.in-Some-get_mut.source.now (ap (λ (names : List (List ℕ)). name_index names c.args.name.now) (sym c.deref.ensures.value) ∙ sym c.in-Some.ensures.place) there in
     subst (λ (s : Streams). (record was { sources = slice_set was.sources c.in-Some.place c.end_source.new.source }, c.end_source.result) ≡ at_name ended_source c.args.name.now s) c.self.view_is
     (ap (λ (r : Source × Outcome). (record was { sources = slice_set was.sources c.in-Some.place r.0 }, r.1)) c.end_source.ensures.step ∙ sym done)
