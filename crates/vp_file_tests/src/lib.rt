@@ -5,6 +5,8 @@
 #[cfg(test)]
 mod check;
 #[cfg(test)]
+mod hints;
+#[cfg(test)]
 mod ivf;
 #[cfg(test)]
 mod scale;

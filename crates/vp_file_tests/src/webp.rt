@@ -4,8 +4,11 @@ ghost use Rattle.std.specs.Prelude.{◌<◌, ◌≤◌};
 
 use crate::check::equal;
 use std::alloc::Global;
+use std::process::Abort;
 use vp_base::{Counted, FailAt};
-use vp_webp::{Canvas, WebPFault, WebPWriteFault, read, write};
+use vp_webp::{
+    Canvas, PacketPlace, WebPFault, WebPWriteFault, copy_file, file_len, packet_place, read, write,
+};
 
 // A simple file of 16 by 16 pixels, by cwebp: its key frame is the 28 bytes from 20 on.
 const HALF: [u8; 48] = [
@@ -75,6 +78,19 @@ fn webp_files(rt: HostRuntime) {
     assert!(rt; gives(&HALF, &HALF[20..], false, None));
     assert!(rt; gives(&ALPHA, &ALPHA[64..], true, Some(CANVAS)));
     assert!(rt; gives(&PROFILE, &PROFILE[50..78], false, Some(CANVAS)));
+}
+
+/// The packets lie where webpinfo says that they do. A file without one has the fault of `read`.
+#[test]
+fn webp_places(rt: HostRuntime) {
+    let half = PacketPlace { start: 20, len: 28 };
+    let alpha = PacketPlace { start: 64, len: 32 };
+    let profile = PacketPlace { start: 50, len: 28 };
+    equal(&rt, &packet_place(&HALF), &Ok(half));
+    equal(&rt, &packet_place(&ALPHA), &Ok(alpha));
+    equal(&rt, &packet_place(&PROFILE), &Ok(profile));
+    equal(&rt, &packet_place(&LOSSLESS), &Err(WebPFault::Lossless));
+    equal(&rt, &packet_place(&HALF[..47]), &Err(WebPFault::Torn));
 }
 
 fn fault_of(file: &[u8]) -> Option<WebPFault> {
@@ -235,6 +251,48 @@ fn webp_refused(rt: HostRuntime) {
         )
     );
     assert!(rt; is_refused(rt.alloc(), &HALF[20..22], WebPWriteFault::NotKey));
+}
+
+/// Returns a buffer of 50 nines after the file of a packet is copied to its first `count` bytes.
+fn copied(
+    rt: &impl Abort,
+    packet: &[u8],
+    count: usize,
+    wanted: Result<(), WebPWriteFault>,
+) -> [u8; 50]
+    requires { count ≤ 50 }
+{
+    let mut out = [9; 50];
+    equal(rt, &copy_file(&mut out[..count], packet), &wanted);
+    out
+}
+
+/// Returns a file and two nines.
+fn with_nines(file: &[u8; 48]) -> [u8; 50] {
+    let mut bytes = [9; 50];
+    bytes[..48].copy_from_slice(file);
+    bytes
+}
+
+#[test]
+fn webp_copied(rt: HostRuntime) {
+    let (even, odd) = (&HALF[20..], &HALF[20..47]);
+    equal(&rt, &file_len(even), &Ok(48));
+    equal(&rt, &file_len(odd), &Ok(48));
+    let odd_file = with_byte(16, 0x1b);
+    equal(&rt, &copied(&rt, even, 50, Ok(())), &with_nines(&HALF));
+    equal(&rt, &copied(&rt, odd, 48, Ok(())), &with_nines(&odd_file));
+    let device = Err(WebPWriteFault::Device);
+    equal(&rt, &copied(&rt, even, 47, device), &[9; 50]);
+}
+
+#[test]
+fn webp_not_copied(rt: HostRuntime) {
+    let hidden = with_byte(20, 0x40);
+    equal(&rt, &file_len(&HALF[20..22]), &Err(WebPWriteFault::NotKey));
+    equal(&rt, &file_len(&hidden[20..]), &Err(WebPWriteFault::Hidden));
+    let fault = Err(WebPWriteFault::Hidden);
+    equal(&rt, &copied(&rt, &hidden[20..], 50, fault), &[9; 50]);
 }
 
 /// Returns whether the file of the odd packet fails at write `k`, after its first `count` bytes are written.

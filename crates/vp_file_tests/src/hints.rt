@@ -1,0 +1,122 @@
+//! Tests of vp_hints: kinds of files, counted packets, what a reader and an overwritten file remember.
+
+use crate::check::equal;
+use std::io::{Read, Write};
+use std::{fs, io};
+use vp_base::FailAt;
+use vp_hints::{FileKind, Overwrite, PacketCount, Witness, head_fault, kind_of, open_to_overwrite};
+use vp_ivf::FileFault;
+
+// The head of a file, and two packets of three bytes and of none.
+const TWO: [u8; 59] = [
+    0x44, 0x4b, 0x49, 0x46, 0, 0, 0x20, 0, 0x56, 0x50, 0x38, 0x30, 0x11, 1, 1, 0, 0x30, 0x75, 0, 0,
+    0xe9, 3, 0, 0, 2, 0, 0, 0, 0, 0, 0, 0, 3, 0, 0, 0, 4, 3, 0, 0, 2, 1, 0, 0x80, 0xaa, 0xbb, 0xcc,
+    0, 0, 0, 0, 0, 1, 0, 0, 0, 0, 0, 0,
+];
+
+#[test]
+fn kinds_of_files(rt: HostRuntime) {
+    equal(&rt, &kind_of(b""), &FileKind::Empty);
+    equal(&rt, &kind_of(&TWO), &FileKind::Ivf);
+    equal(&rt, &kind_of(b"\x1a\x45\xdf\xa3\x01"), &FileKind::WebM);
+    equal(&rt, &kind_of(b"\x00\x00\x00\x20ftypisom"), &FileKind::Mp4);
+    equal(
+        &rt,
+        &kind_of(b"RIFF\x24\x00\x00\x00AVI LIST"),
+        &FileKind::Avi,
+    );
+    equal(
+        &rt,
+        &kind_of(b"RIFF\x24\x00\x00\x00WEBPVP8 "),
+        &FileKind::WebP,
+    );
+    equal(&rt, &kind_of(b"YUV4MPEG2 W16 H16"), &FileKind::Y4m);
+    equal(&rt, &kind_of(b"OggS\x00\x02"), &FileKind::Ogg);
+    equal(&rt, &kind_of(b"\x00\x00\x00\x01\x67"), &FileKind::H264);
+    equal(&rt, &kind_of(b"\x89PNG\r\n\x1a\n"), &FileKind::Png);
+    equal(&rt, &kind_of(b"\xff\xd8\xff\xe0"), &FileKind::Jpeg);
+    equal(&rt, &kind_of(b"GIF89a"), &FileKind::Gif);
+    equal(&rt, &kind_of(b"DKI"), &FileKind::Unknown);
+}
+
+#[test]
+fn heads_with_faults(rt: HostRuntime) {
+    equal(&rt, &head_fault(&TWO), &None);
+    equal(&rt, &head_fault(&TWO[..31]), &None);
+    equal(&rt, &head_fault(&TWO[1..]), &Some(FileFault::Signature));
+    equal(
+        &rt,
+        &head_fault(b"DKIF....VP90...................."),
+        &Some(FileFault::Codec),
+    );
+}
+
+// The number of packets in some bytes.
+fn packets_in(bytes: &[u8]) -> u64 {
+    let mut count = PacketCount::new();
+    count.pass(bytes);
+    count.whole
+}
+
+#[test]
+fn packets_are_counted(rt: HostRuntime) {
+    equal(&rt, &packets_in(&TWO), &2);
+    equal(&rt, &packets_in(&TWO[..58]), &1);
+    equal(&rt, &packets_in(&TWO[..47]), &1);
+    equal(&rt, &packets_in(&TWO[..46]), &0);
+    equal(&rt, &packets_in(&TWO[..32]), &0);
+}
+
+// Reads 40 bytes, and then once more, where the reader fails.
+fn read_twice(reader: &mut Witness<FailAt<&[u8]>>) -> bool {
+    let mut buffer = [0; 40];
+    reader.read(&mut buffer).unwrap_or(0) == 40 && reader.read(&mut buffer).is_err()
+}
+
+#[test]
+fn a_witness_remembers(rt: HostRuntime) {
+    let mut reader = Witness::new(FailAt::new(&TWO[..], 1));
+    equal(&rt, &reader.error().is_some(), &false);
+    equal(&rt, &read_twice(&mut reader), &true);
+    equal(
+        &rt,
+        &reader.error().map(|error| error.kind()),
+        &Some(io::ErrorKind::Other),
+    );
+    let (_, seen) = reader.into_parts();
+    equal(&rt, &seen.bytes(), &40);
+    equal(&rt, &(seen.head() == &TWO[..40]), &true);
+    equal(&rt, &seen.kind(), &FileKind::Ivf);
+}
+
+// Whether a file holds these bytes.
+fn holds(rt: &HostRuntime, name: &str, bytes: &[u8]) -> io::Result<bool> {
+    let found = fs::read(rt, name)?;
+    Ok(found.as_slice() == bytes)
+}
+
+// Overwrites an old file, and returns whether it held its old bytes until then, and the new one afterwards.
+fn overwritten(rt: &HostRuntime, name: &str) -> io::Result<bool> {
+    fs::write(rt, name, "old film")?;
+    let mut file = Overwrite::new(open_to_overwrite(rt, name)?);
+    let stays = file.write(&[])? == 0 && holds(rt, name, b"old film")?;
+    let taken = file.write(b"n")?;
+    file.finish()?;
+    Ok(stays && taken == 1 && holds(rt, name, b"n")?)
+}
+
+// Finishes an old file without a write, and returns whether it held its old bytes until then, and none afterwards.
+fn finished(rt: &HostRuntime, name: &str) -> io::Result<bool> {
+    fs::write(rt, name, "old film")?;
+    let mut file = Overwrite::new(open_to_overwrite(rt, name)?);
+    let stays = holds(rt, name, b"old film")?;
+    file.finish()?;
+    Ok(stays && holds(rt, name, b"")?)
+}
+
+#[test]
+fn an_old_file_is_emptied_late(rt: HostRuntime) {
+    equal(&rt, &overwritten(&rt, "late.tmp").unwrap_or(false), &true);
+    equal(&rt, &finished(&rt, "late.tmp").unwrap_or(false), &true);
+    let _ = fs::remove_file(&rt, "late.tmp");
+}

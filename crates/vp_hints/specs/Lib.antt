@@ -1,0 +1,5 @@
+pub mod Kinds
+pub mod Packets
+pub mod Seen
+pub mod Witness
+pub mod Overwrite

@@ -1,0 +1,135 @@
+//! Hints under the faults of IVF files.
+
+use crate::kinds::FileKind;
+use crate::names::{Printable, ShellWord};
+use crate::packets::Place;
+use crate::seen::Seen;
+use crate::y4m_hints::hint_pipe;
+use std::io::Write;
+use std::{fmt, io};
+use vp_ivf::FileFault;
+
+// Up to four bytes as hexadecimal numbers.
+#[derive(Clone, Copy)]
+pub(crate) struct Hexadecimal<'a>(pub(crate) &'a [u8]);
+
+impl fmt::Display for Hexadecimal<'_> {
+    fn fmt<W: fmt::Write>(&self, f: &mut fmt::Formatter<W>) -> fmt::Result {
+        match self.0 {
+            [a, b, c, d, ..] => write!(f, "{a:02x} {b:02x} {c:02x} {d:02x}"),
+            [a, b, c] => write!(f, "{a:02x} {b:02x} {c:02x}"),
+            [a, b] => write!(f, "{a:02x} {b:02x}"),
+            [a] => write!(f, "{a:02x}"),
+            [] => Ok(()),
+        }
+    }
+}
+
+/// Prints what is wrong with an IVF file, and what to do.
+pub fn hint_file<W: Write>(
+    fault: FileFault,
+    name: &str,
+    seen: &Seen,
+    output: &mut W,
+) -> io::Result<()> {
+    let file = Printable(name);
+    let number = seen.packets().whole;
+    match fault {
+        FileFault::Signature => hint_not_ivf(name, seen, output),
+        FileFault::Codec => hint_codec(file, seen.head(), output),
+        FileFault::TooMany => writeln!(output, "  {file}: over 1,048,576 packets"),
+        FileFault::PacketTooLarge => writeln!(
+            output,
+            "  {file}: packet {number} has over 16,777,216 bytes; {number} packets were decoded"
+        ),
+        FileFault::Torn => hint_torn(file, seen, output),
+        FileFault::Ended => Ok(()),
+    }
+}
+
+// Prints where a file ends that isn't whole.
+fn hint_torn<W: Write>(file: Printable<'_>, seen: &Seen, output: &mut W) -> io::Result<()> {
+    let (bytes, packets) = (seen.bytes(), seen.packets());
+    let number = packets.whole;
+    match packets.place {
+        Place::FileHead(_) if bytes == 0 => writeln!(output, "  {file} is empty"),
+        Place::FileHead(_) => writeln!(
+            output,
+            "  {file} ends inside its head, after {bytes} of 32 bytes"
+        ),
+        _ => writeln!(
+            output,
+            "  {file} ends inside packet {number}; {number} packets were decoded"
+        ),
+    }
+}
+
+/// Prints what is wrong with an IVF file of which no byte was seen, as standard input.
+pub fn hint_stream_file<W: Write>(
+    fault: FileFault,
+    file: Printable<'_>,
+    output: &mut W,
+) -> io::Result<()> {
+    match fault {
+        FileFault::Signature => writeln!(output, "  {file}: not an IVF file"),
+        FileFault::Codec => writeln!(output, "  {file}: not VP8"),
+        FileFault::TooMany => writeln!(output, "  {file}: over 1,048,576 packets"),
+        FileFault::PacketTooLarge => {
+            writeln!(output, "  {file}: a packet has over 16,777,216 bytes")
+        }
+        FileFault::Torn => writeln!(output, "  {file} ends inside its head or a packet"),
+        FileFault::Ended => Ok(()),
+    }
+}
+
+// Prints the codec of a file that isn't VP8.
+fn hint_codec<W: Write>(file: Printable<'_>, head: &[u8], output: &mut W) -> io::Result<()> {
+    match head {
+        [_, _, _, _, _, _, _, _, b'V', b'P', b'9', b'0', ..] => {
+            writeln!(output, "  {file}: VP9, not VP8")
+        }
+        [_, _, _, _, _, _, _, _, b'A', b'V', b'0', b'1', ..] => {
+            writeln!(output, "  {file}: AV1, not VP8")
+        }
+        [_, _, _, _, _, _, _, _, codec @ ..] => {
+            let bytes = Hexadecimal(codec);
+            writeln!(output, "  {file}: codec {bytes}, not VP8")
+        }
+        _ => Ok(()),
+    }
+}
+
+/// Prints what a file is that isn't IVF, and how to make an IVF file of it.
+pub fn hint_not_ivf<W: Write>(name: &str, seen: &Seen, output: &mut W) -> io::Result<()> {
+    let (kind, start) = (seen.kind(), Hexadecimal(seen.head()));
+    let (file, word, made) = (Printable(name), ShellWord(name, ""), made_of(name));
+    write!(output, "  {file}: not an IVF file")?;
+    match kind {
+        FileKind::Empty => writeln!(output),
+        FileKind::Unknown => writeln!(output, "; it begins with {start}"),
+        FileKind::WebM | FileKind::Avi | FileKind::Ogg => writeln!(
+            output,
+            " but {kind} ({start}). Try: ffmpeg -i {word} -c copy -r 30 {made}"
+        ),
+        FileKind::Y4m => writeln!(
+            output,
+            " but {kind} ({start}). Try: vp8 encode {word} {made}"
+        ),
+        FileKind::Mp4 | FileKind::H264 => {
+            write!(output, " but {kind} ({start})")?;
+            hint_pipe(word, made, output)
+        }
+        _ => writeln!(output, " but {kind} ({start})"),
+    }
+}
+
+// Returns the name of the IVF file that is made of a file, which is another name.
+fn made_of(name: &str) -> ShellWord<'_> {
+    match name.rsplit_once('.') {
+        Some((stem, "ivf")) => ShellWord(stem, ".vp8.ivf"),
+        Some((stem, ending)) if !stem.is_empty() && !ending.contains('/') => {
+            ShellWord(stem, ".ivf")
+        }
+        _ => ShellWord(name, ".ivf"),
+    }
+}

@@ -1,0 +1,120 @@
+//! The packets of an IVF file, counted as its bytes pass by.
+
+ghost use Rattle.std.specs.Prelude.{◌≡◌, ◌<◌, ◌≤◌, ◌++◌, ℕ, List, length};
+ghost use Rattle.vp_hints.specs.Packets.{count_after, counted_after, ends_packet, first_count};
+ghost use Rattle.vp_hints.specs.Packets.{place_after, place_behind_head};
+
+/// Where the next byte of an IVF file belongs.
+#[derive(Clone, Copy, Debug, PartialEq, Eq)]
+pub enum Place {
+    /// The file's head, of which this many bytes are left.
+    FileHead(u8),
+    /// A packet's head of 12 bytes: how many of them have passed, and the size that the first four state so far.
+    PacketHead(u8, u32),
+    /// A packet, of which this many bytes are left.
+    Packet(u32),
+}
+
+/// The place in an IVF file, and the number of packets that have passed whole; the number saturates at `u64::MAX`.
+#[derive(Clone, Copy, Debug, PartialEq, Eq)]
+pub struct PacketCount {
+    /// Where the next byte belongs.
+    pub place: Place,
+    /// The number of whole packets.
+    pub whole: u64,
+}
+
+impl PacketCount {
+    /// The count before a file's first byte.
+    pub fn new() -> PacketCount
+        ensures { result ≡ first_count }
+    {
+        PacketCount {
+            place: Place::FileHead(32),
+            whole: 0,
+        }
+    }
+
+    /// Counts the packets that end in these bytes.
+    pub fn pass(&mut self, bytes: &[u8])
+        ensures { self.new ≡ counted_after self.old bytes.now }
+    {
+        let mut rest = bytes;
+        while !rest.is_empty() {
+            rest = self.pass_some(rest);
+        }
+    }
+
+    // Counts the next byte, and those that then are inside a packet, and returns the others.
+    fn pass_some<'a>(&mut self, bytes: &'a [u8]) -> &'a [u8]
+        requires { 0 < length bytes.now }
+        ensures passed { counted_after self.new result.now ≡ counted_after self.old bytes.now }
+        ensures fewer { length result.now < length bytes.now }
+    {
+        let (_, others) = bytes.split_at(1);
+        self.pass_byte(bytes[0]);
+        self.pass_inside(others)
+    }
+
+    // Counts the bytes inside a packet, but not its last one, and returns the others. They need not be looked at.
+    fn pass_inside<'a>(&mut self, bytes: &'a [u8]) -> &'a [u8]
+        ensures passed { (inside : List ℕ) × (bytes.now ≡ inside ++ result.now)
+            × (self.new ≡ counted_after self.old inside) }
+        ensures fewer { length result.now ≤ length bytes.now }
+    {
+        let Place::Packet(left) = self.place else {
+            return bytes;
+        };
+        let inside = bytes.len().min(left.saturating_sub(1) as usize);
+        self.place = Place::Packet(left - inside as u32);
+        bytes.split_at(inside).1
+    }
+
+    fn pass_byte(&mut self, byte: u8)
+        ensures { self.new ≡ count_after self.old byte }
+    {
+        if ends_packet(self.place) {
+            self.whole = self.whole.saturating_add(1);
+        }
+        self.place = place_after(self.place, byte);
+    }
+}
+
+// Whether the next byte is the last one of a packet.
+fn ends_packet(place: Place) -> bool
+    ensures { result ≡ ends_packet place }
+{
+    match place {
+        Place::FileHead(_) => false,
+        Place::PacketHead(passed, size) => passed == 11 && size == 0,
+        Place::Packet(left) => left < 2,
+    }
+}
+
+// The place after the next byte.
+fn place_after(place: Place, byte: u8) -> Place
+    ensures { result ≡ place_after place byte }
+{
+    match place {
+        Place::FileHead(left) if left < 2 => Place::PacketHead(0, 0),
+        Place::FileHead(left) => Place::FileHead(left - 1),
+        Place::PacketHead(passed, size) if passed < 4 => {
+            Place::PacketHead(passed + 1, (size >> 8) + (u32::from(byte) << 24))
+        }
+        Place::PacketHead(passed, size) if passed < 11 => Place::PacketHead(passed + 1, size),
+        Place::PacketHead(_, size) => place_behind_head(size),
+        Place::Packet(left) if left < 2 => Place::PacketHead(0, 0),
+        Place::Packet(left) => Place::Packet(left - 1),
+    }
+}
+
+// The place behind the head of a packet of this size.
+fn place_behind_head(size: u32) -> Place
+    ensures { result ≡ place_behind_head size }
+{
+    if size == 0 {
+        Place::PacketHead(0, 0)
+    } else {
+        Place::Packet(size)
+    }
+}
