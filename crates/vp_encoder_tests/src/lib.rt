@@ -19,6 +19,8 @@ mod failing_devices;
 #[cfg(test)]
 mod files;
 #[cfg(test)]
+mod live_encoding;
+#[cfg(test)]
 mod worked_encoding;
 #[cfg(test)]
 mod worked_rows;

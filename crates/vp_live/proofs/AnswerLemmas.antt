@@ -1,0 +1,152 @@
+-- The answer of live encoding, by where the work ended.
+use Rattle.std.proofs.Common.{◌≡◌, ◌≢◌, ℕ, List, [], ◌++◌, Option, Result, Ok, Err, ◌⊎◌, refl, sym, subst, ◌∙◌, inl, inr}
+use Rattle.std.specs.Io.KnownBytes.{Appends, Consumes, IsAtEnd}
+use Rattle.std.proofs.KnownBytes.{Consumes-trans}
+use Rattle.std.proofs.lemmas.List.{append-nil}
+use Rattle.vp_base.specs.declared.limits.Limits.{Limits}
+use Rattle.vp_base.specs.declared.counted.Counted.{Counted}
+use Rattle.vp_base.specs.Counted.{AppendsPrefix, HasFailed, counted_remaining, counted_contents, counted_failures}
+use Rattle.vp_y4m.specs.declared.fault.SourceFault.{SourceFault}
+use Rattle.vp_y4m.specs.declared.fault.SourceFault.TheVariants as source
+use Rattle.vp_y4m.specs.Header.{Head}
+use Rattle.vp_y4m.specs.Pictures.{file_head}
+use Rattle.vp_y4m.specs.Reads.{Shows, Fails}
+use Rattle.vp_encode.specs.declared.settings.Settings.{Settings}
+use Rattle.vp_encode.specs.declared.report.EncodeReport.{EncodeReport}
+use Rattle.vp_encode.specs.declared.report.EncodeAllFault.{EncodeAllFault}
+use Rattle.vp_encode.specs.declared.report.EncodeAllFault.TheVariants as fault
+use Rattle.vp_encode.specs.Encoder.{EncoderState, AreAllowed}
+use Rattle.vp_encode.specs.File.{Work, IsDone, IsWrittenFurther, encode_fault_of, numbers_to}
+use Rattle.vp_encode.proofs.FileLemmas.{head_answer, settings_answer, settings_refused, told_none}
+use Rattle.vp_live.specs.Live.{IsLiveOver, IsLiveEnded, IsLiveReported, live_text}
+use Rattle.vp_live.specs.Progress.{LiveProgress, IsLiveAt, EndsLive}
+use Rattle.vp_live.proofs.LiveLemmas.{head_ends}
+
+-- before the first picture
+abbrev pub begun_with : Limits → EncoderState → LiveProgress
+begun_with limits encoder = record { limits = limits; encoder = encoder; frames = 0; error = 0 }
+
+-- the head, and then what the pictures behind it came to
+pub live_ends : (limits : Limits) (settings : Settings) (encoder : EncoderState) (run after : LiveProgress) (head : Head) (before mid left written headed now : Option (List ℕ)) (result : Result (Unit {0}) EncodeAllFault)
+    → run ≡ begun_with limits encoder
+    → (s : Shows (file_head limits.pixels) (λ rest. Ok (head, rest)) before mid)
+    → IsLiveAt settings head s.taken [] (begun_with limits encoder)
+    → Appends written headed (live_text head [])
+    → ((settings : Settings) (line : List ℕ) (start : Option (List ℕ)) → IsLiveAt settings head line [] run → Appends start headed (live_text head [])
+    → (bytes : List ℕ) × Consumes mid left bytes × EndsLive run.limits settings result (line ++ bytes) after start now)
+    → (file : List ℕ) × Consumes before left file × EndsLive limits settings result file after written now
+live_ends limits settings encoder run after head before mid left written headed now result is s begun text ends =
+    let B : LiveProgress → Type 0 = λ r. IsLiveAt settings head s.taken [] r in
+    let e = ends settings s.taken written (subst B (sym is) begun) text in
+    let E : LiveProgress → Type 0 = λ r. EndsLive r.limits settings result (s.taken ++ e.0) after written now in
+    (s.taken ++ e.0, Consumes-trans before mid left s.taken e.0 s.consumed e.1, subst E is e.2)
+
+module _ {R W : Type 0} (remaining : R → Option (List ℕ)) (contents : W → Option (List ℕ)) (limits : Limits) (settings : Settings)
+    (result : Result EncodeReport EncodeAllFault) (reader reader' : Counted R) where
+  -- at the head's line
+  pub head_over : {A : Type 0} (writer : Counted W) (told : List ℕ → Type 0) (f : SourceFault) → result ≡ Err (encode_fault_of f)
+      → Fails (file_head limits.pixels) f (counted_remaining remaining reader) (counted_remaining remaining reader')
+      → (let r : Result A SourceFault = Err f in r ≡ Err source.Device → HasFailed (counted_failures reader) (counted_failures reader'))
+      → (let r : Result A SourceFault = Err f in r ≢ Err source.Device → counted_failures reader' ≡ counted_failures reader)
+      → IsLiveOver remaining contents limits settings result reader reader' writer writer told told
+  head_over {A = A} writer told f is fails device quiet =
+      let k = head_answer remaining contents limits settings result reader reader' {A = A} writer f is fails device quiet in
+      let t = head_ends limits settings f (counted_remaining remaining reader) (counted_remaining remaining reader') fails in
+      record {
+        pictures = 0;
+        file = t.0;
+        consumed = t.1;
+        answer = rw is (t.2 (counted_contents contents writer));
+        told_further = told_none told;
+        end = k.end;
+        torn = k.torn;
+        device = k.device;
+        quiet = k.quiet;
+      }
+
+  -- at the settings
+  pub settings_over : (writer : Counted W) (told : List ℕ → Type 0) (head : Head) → result ≡ Err fault.Settings
+      → Shows (file_head limits.pixels) (λ rest. Ok (head, rest)) (counted_remaining remaining reader) (counted_remaining remaining reader')
+      → ¬ AreAllowed settings → counted_failures reader' ≡ counted_failures reader
+      → IsLiveOver remaining contents limits settings result reader reader' writer writer told told
+  settings_over writer told head is s refused quiet =
+      let r = settings_refused limits settings head (counted_remaining remaining reader) (counted_remaining remaining reader') (counted_contents contents writer) s refused in
+      let k = settings_answer remaining contents limits settings result reader reader' writer is s.taken s.consumed r quiet in
+      record {
+        pictures = 0;
+        file = s.taken;
+        consumed = s.consumed;
+        answer = rw is (inl (inr (inl (refl, r.0, r.1, r.2)), refl, refl));
+        told_further = told_none told;
+        end = k.end;
+        torn = k.torn;
+        device = k.device;
+        quiet = k.quiet;
+      }
+
+  -- at a write of the head
+  pub write_over : (writer writer' : Counted W) (told : List ℕ → Type 0) (head : Head) (encoder : EncoderState) → result ≡ Err fault.Device
+      → (s : Shows (file_head limits.pixels) (λ rest. Ok (head, rest)) (counted_remaining remaining reader) (counted_remaining remaining reader'))
+      → IsLiveAt settings head s.taken [] (begun_with limits encoder)
+      → AppendsPrefix (counted_contents contents writer) (counted_contents contents writer') (live_text head [])
+      → HasFailed (counted_failures writer) (counted_failures writer')
+      → IsLiveOver remaining contents limits settings result reader reader' writer writer' told told
+  write_over writer writer' told head encoder is s begun front failed =
+      let w : Work = record { head = head; frames = []; encoder = encoder; rest = [] } in
+      let B : List ℕ → Type 0 = λ b. IsDone limits settings b w in
+      record {
+        pictures = 0;
+        file = s.taken;
+        consumed = s.consumed;
+        answer = rw is (inr (inr (refl, inl (w, (subst B (append-nil s.taken) (begun.done []), refl), refl, front))));
+        told_further = told_none told;
+        end = rw is tt;
+        torn = λ e. cc;
+        device = λ e. inr failed;
+        quiet = λ n. absurd (n is);
+      }
+
+  -- behind the head
+  pub ended_over : {A : Type 0} (writer writer' : Counted W) (told told' : List ℕ → Type 0) (f : EncodeAllFault) → result ≡ Err f
+      → (pictures : ℕ) → IsWrittenFurther told told' (numbers_to pictures)
+      → (file : List ℕ) → Consumes (counted_remaining remaining reader) (counted_remaining remaining reader') file
+      → IsLiveEnded pictures limits settings f file (counted_contents contents writer) (counted_contents contents writer')
+      → (reads writes : ℕ) → reads ≡ counted_failures reader → writes ≡ counted_failures writer
+      → (let r : Result A EncodeAllFault = Err f in r ≡ Err fault.Torn → IsAtEnd (counted_remaining remaining reader'))
+      → (let r : Result A EncodeAllFault = Err f in r ≡ Err fault.Device → HasFailed reads (counted_failures reader') ⊎ HasFailed writes (counted_failures writer'))
+      → (let r : Result A EncodeAllFault = Err f in r ≢ Err fault.Device → (counted_failures reader' ≡ reads) × (counted_failures writer' ≡ writes))
+      → IsLiveOver remaining contents limits settings result reader reader' writer writer' told told'
+  ended_over {A = A} writer writer' told told' f is pictures further file consumed ended reads writes read written torn device quiet =
+      let F : ℕ → Type 0 = λ n. HasFailed n (counted_failures reader') ⊎ HasFailed writes (counted_failures writer') in
+      let G : ℕ → Type 0 = λ n. HasFailed (counted_failures reader) (counted_failures reader') ⊎ HasFailed n (counted_failures writer') in
+      record {
+        pictures = pictures;
+        file = file;
+        consumed = consumed;
+        answer = rw is ended;
+        told_further = further;
+        end = rw is tt;
+        torn = λ e. torn cc;
+        device = λ e. subst G written (subst F read (device cc));
+        quiet = λ n. let q = quiet (λ e. n cc) in (q.0 ∙ read, q.1 ∙ written);
+      }
+
+  -- at the source's end
+  pub reported_over : (writer writer' : Counted W) (told told' : List ℕ → Type 0) (report : EncodeReport) → result ≡ Ok report
+      → IsWrittenFurther told told' (numbers_to report.frames)
+      → (file : List ℕ) → Consumes (counted_remaining remaining reader) (counted_remaining remaining reader') file
+      → IsLiveReported limits settings report file (counted_contents contents writer) (counted_contents contents writer')
+      → IsAtEnd (counted_remaining remaining reader')
+      → counted_failures reader' ≡ counted_failures reader → counted_failures writer' ≡ counted_failures writer
+      → IsLiveOver remaining contents limits settings result reader reader' writer writer' told told'
+  reported_over writer writer' told told' report is further file consumed reported at_end read written = record {
+    pictures = report.frames;
+    file = file;
+    consumed = consumed;
+    answer = rw is (reported, refl);
+    told_further = further;
+    end = rw is at_end;
+    torn = λ e. cc;
+    device = λ e. cc;
+    quiet = λ n. (read, written);
+  }

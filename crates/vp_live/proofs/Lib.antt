@@ -1,0 +1,4 @@
+pub mod TextLemmas
+pub mod LiveLemmas
+pub mod AnswerLemmas
+pub mod LawLemmas

@@ -1,0 +1,35 @@
+use Rattle.std.proofs.Common.{◌≡◌, ◌≤◌, ◌-◌, ◌+◌, ◌*◌, ◌++◌, ℕ, List, [], length}
+use Rattle.std.specs.Io.KnownBytes.{Appends, Consumes}
+use Rattle.vp_base.specs.Counted.{counted_contents, counted_failures}
+use Rattle.vp_y4m.specs.declared.source.Progress.TheVariants.{Open}
+use Rattle.vp_y4m.specs.Source.{reader_name, bytes_left, failures_of, reads_of, head_of, progress_of}
+use Rattle.vp_y4m.specs.Text.{i420_length}
+use Rattle.vp_y4m.specs.Reads.{TakesInReads}
+use Rattle.vp_encode.specs.declared.settings.Settings.{Settings}
+use Rattle.vp_encode.specs.Encoded.{EncodedFrame}
+use Rattle.vp_encode.specs.File.{IsWrittenFurther, numbers_to}
+use Rattle.vp_live.specs.Progress.{IsLiveAt, frames_text}
+use Rattle.vp_live.proofs.encoding.encode_pictures.Given as goal
+
+abbrev pub invariant-loop-picture : goal.invariant-loop-picture
+invariant-loop-picture g l =
+    (bytes : List ℕ) × (frames : List EncodedFrame)
+    × Consumes (bytes_left g.R.Read.remaining l.fn.source) (bytes_left g.R.Read.remaining l.source) bytes
+    × ((settings : Settings) (line : List ℕ) → IsLiveAt settings (head_of l.fn.source) line [] l.fn.run
+    → IsLiveAt settings (head_of l.fn.source) (line ++ bytes) frames l.run)
+    × Appends (counted_contents g.W.Write.contents l.fn.writer) (counted_contents g.W.Write.contents l.writer) (frames_text frames)
+    × (l.run.frames ≡ length frames)
+    × (l.run.limits ≡ l.fn.run.limits)
+    × (l.run.encoder.dim ≡ l.fn.run.encoder.dim)
+    × (reader_name l.source ≡ reader_name l.fn.source)
+    × (head_of l.source ≡ head_of l.fn.source)
+    × (progress_of l.source ≡ Open)
+    × (failures_of l.source ≡ failures_of l.fn.source)
+    × (counted_failures l.writer ≡ counted_failures l.fn.writer)
+    × IsWrittenFurther (g.T.Watcher.told l.fn.watcher) (g.T.Watcher.told l.watcher) (numbers_to l.run.frames)
+    × TakesInReads 0 (bytes_left g.R.Read.remaining l.fn.source) (bytes_left g.R.Read.remaining l.source) (reads_of l.fn.source) (reads_of l.source)
+    × (reads_of l.source ≤ reads_of l.fn.source + l.run.frames * (1025 + i420_length (head_of l.fn.source).w (head_of l.fn.source).h))
+    × (l.run.frames ≤ l.fn.run.limits.packets)
+
+abbrev pub decreases-loop-picture : goal.decreases-loop-picture
+decreases-loop-picture g l = l.fn.run.limits.packets - l.run.frames

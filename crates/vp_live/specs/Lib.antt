@@ -1,0 +1,3 @@
+pub mod Live
+pub mod Progress
+pub mod Laws
