@@ -10,11 +10,11 @@ use Rattle.vp_app.specs.Commands.{status_by_fault}
 use Rattle.vp_app.specs.Listing.{survey_text}
 use Rattle.vp_app.specs.Serving.{IsServed}
 use Rattle.std.proofs.Common.{◌≡◌, ◌⊎◌, inl, inr, List, [], ◌∷◌, ℕ, Bool, true, false, refl, sym, subst}
-use Rattle.std.specs.Prelude.{Result, Err, MatchBool, codes}
+use Rattle.std.specs.Prelude.{Result, Err, MatchBool, codes, is_ok, ◌^◌, ◌-◌}
 use Rattle.std.specs.Borrow.{Bor}
 use Rattle.clap.specs.Kinds.{HasKind, IsAmong, Kinds}
 use Rattle.clap.specs.Values.{kind_of}
-use Rattle.clap.specs.Walk.{Text, one_of}
+use Rattle.clap.specs.Walk.{Text, one_of, texts}
 use Rattle.clap.specs.declared.error.Error.{Error}
 use Rattle.clap.specs.declared.error.kind.ErrorKind.TheVariants.{OutOfMemory}
 use Rattle.vp_stream.specs.declared.form.Form.{Form}
@@ -27,12 +27,13 @@ use Rattle.vp_encode.specs.declared.settings.Settings.{Settings}
 use Rattle.vp_encode.specs.declared.report.EncodeReport.{EncodeReport}
 use Rattle.vp_encode.specs.declared.report.EncodeAllFault.{EncodeAllFault}
 use Rattle.vp_encode.specs.declared.report.EncodeAllFault.TheVariants as encode_fault
+use Rattle.vp_args.specs.declared.check_args.CheckArgs.{CheckArgs}
 use Rattle.vp_args.specs.declared.decode_args.DecodeRangeArgs.{DecodeRangeArgs}
 use Rattle.vp_args.specs.declared.encode_args.EncodeArgs.{EncodeArgs}
 use Rattle.vp_args.specs.declared.serve_args.ServeArgs.{ServeArgs}
 use Rattle.vp_app.specs.declared.service.ServiceFault.{ServiceFault}
 use Rattle.vp_args.specs.declared.args.Task.{Task}
-use Rattle.vp_args.specs.declared.args.Task.TheVariants.{Decode, DecodeRange, Encode, Info, Picture, Serve, ServeMany, Nothing}
+use Rattle.vp_args.specs.declared.args.Task.TheVariants.{Check, Decode, DecodeRange, Encode, Info, Picture, Serve, ServeMany, Nothing}
 use Rattle.vp_args.specs.declared.args.Refusal.{Refusal}
 use Rattle.vp_args.specs.declared.args.Refusal.TheVariants.{Words, Value}
 use Rattle.vp_app.specs.Status.{status_of}
@@ -42,8 +43,8 @@ use Rattle.vp_app.specs.declared.picture.MadePicture.{MadePicture}
 use Rattle.vp_app.specs.declared.picture_fault.PictureFault.{PictureFault}
 use Rattle.vp_args.specs.declared.picture_args.PictureArgs.{PictureArgs}
 use Rattle.vp_app.specs.Many.{ServesMany, status_by_many}
-use Rattle.vp_args.specs.Args.{ParsedArgs, decodes, decodes_range, encodes, tells, pictures, serves, serves_many, nothing, parsed_args, faults_of, IsForMemory, IsOfValue, IsTaskFor, IsMistake, IsRefusalFor, HasInvalidValue, AreMistaken, IsFlag}
-use Rattle.vp_app.specs.Commands.{DecodesFile, DecodesInto, DecodesRange, DecodesRangeInto, Does, EncodesFile, EncodesInto, IsFileDecoded, IsFileEncoded, IsFileRangeDecoded, IsUnbegun, IsUnopened, IsUsageFault, SurveysFile, SurveysInput, Over, ServesConnections, Side, PrintsSurvey, is_stream, is_y4m, settings_of, status_by_picture, status_by_range, status_by_report, status_by_service, IsMadeInput}
+use Rattle.vp_args.specs.Args.{ParsedArgs, checks, decodes, decodes_range, encodes, tells, pictures, serves, serves_many, nothing, parsed_args, faults_of, IsForMemory, IsOfValue, IsTaskFor, IsMistake, IsRefusalFor, HasInvalidValue, AreMistaken, IsFlag}
+use Rattle.vp_app.specs.Commands.{DecodesFile, DecodesInto, DecodesRange, DecodesRangeInto, Does, EncodesFile, EncodesInto, IsFileDecoded, IsFileEncoded, IsFileRangeDecoded, IsUnbegun, IsUnopened, IsUsageFault, SurveysFile, SurveysInput, Over, ServesConnections, Side, PrintsSurvey, Encoding, encoding_of, is_stream, is_y4m, status_by_picture, status_by_range, status_by_report, status_by_service, IsMadeInput, ChecksEach}
 
 pub over_stream : (name : List ℕ) (Work : Side → Side → Type 0) (old new : Side) → is_stream name ≡ true → Work old new → Over name Work old new
 over_stream name Work old new e h =
@@ -123,27 +124,27 @@ look_none from fault i e f = inl (unopened Device Memory from fault e f, refl)
 
 -- ---- to encode
 
-pub encode_stream : (s : Settings) (to : List ℕ) (done : Result EncodeReport EncodeAllFault) (i i' o o' : Side) → is_stream to ≡ true
+pub encode_stream : (s : Encoding) (to : List ℕ) (done : Result EncodeReport EncodeAllFault) (i i' o o' : Side) → is_stream to ≡ true
     → IsFileEncoded s done i i' o o' → EncodesInto s to done i i' o o'
 encode_stream s to done i i' o o' e h = inr (over_stream to (IsFileEncoded s done i i') o o' e h)
 
-pub encode_file : (s : Settings) (to : List ℕ) (done : Result EncodeReport EncodeAllFault) (i i' o a b : Side) → is_stream to ≡ false
+pub encode_file : (s : Encoding) (to : List ℕ) (done : Result EncodeReport EncodeAllFault) (i i' o a b : Side) → is_stream to ≡ false
     → IsFileEncoded s done i i' a b → EncodesInto s to done i i' o o
 encode_file s to done i i' o a b e h = inr (over_file to (IsFileEncoded s done i i') o a b e h)
 
-pub encode_none : (s : Settings) (to : List ℕ) (fault : EncodeAllFault) (i o : Side) → is_stream to ≡ false
+pub encode_none : (s : Encoding) (to : List ℕ) (fault : EncodeAllFault) (i o : Side) → is_stream to ≡ false
     → (fault ≡ encode_fault.Device) ⊎ (fault ≡ encode_fault.Memory) → EncodesInto s to (Err fault) i i o o
 encode_none s to fault i o e f = inl (unopened encode_fault.Device encode_fault.Memory to fault e f, refl, refl)
 
-pub pictures_stream : (s : Settings) (from to : List ℕ) (done : Result EncodeReport EncodeAllFault) (i i' o o' : Side) → is_stream from ≡ true
+pub pictures_stream : (s : Encoding) (from to : List ℕ) (done : Result EncodeReport EncodeAllFault) (i i' o o' : Side) → is_stream from ≡ true
     → EncodesInto s to done i i' o o' → EncodesFile s from to done i i' o o'
 pictures_stream s from to done i i' o o' e h = inr (over_stream from (λ a b. EncodesInto s to done a b o o') i i' e h)
 
-pub pictures_file : (s : Settings) (from to : List ℕ) (done : Result EncodeReport EncodeAllFault) (i a b o o' : Side) → is_stream from ≡ false
+pub pictures_file : (s : Encoding) (from to : List ℕ) (done : Result EncodeReport EncodeAllFault) (i a b o o' : Side) → is_stream from ≡ false
     → EncodesInto s to done a b o o' → EncodesFile s from to done i i o o'
 pictures_file s from to done i a b o o' e h = inr (over_file from (λ a b. EncodesInto s to done a b o o') i a b e h)
 
-pub pictures_none : (s : Settings) (from to : List ℕ) (fault : EncodeAllFault) (i o : Side) → is_stream from ≡ false
+pub pictures_none : (s : Encoding) (from to : List ℕ) (fault : EncodeAllFault) (i o : Side) → is_stream from ≡ false
     → (fault ≡ encode_fault.Device) ⊎ (fault ≡ encode_fault.Memory) → EncodesFile s from to (Err fault) i i o o
 pictures_none s from to fault i o e f = inl (unopened encode_fault.Device encode_fault.Memory from fault e f, refl, refl)
 
@@ -159,6 +160,7 @@ does_decode asked plan y4m form from to done status i i' o o' e y h s d = go ask
     go (decodes_range rows f t) p = absurd p
     go (encodes rows f t) p = absurd p
     go (tells f) p = absurd p
+    go (checks r f) p = absurd p
     go (serves r a c t) p = absurd p
     go (pictures r f g) p = absurd p
     go (serves_many r a t) p = absurd p
@@ -174,6 +176,7 @@ does_decode_range asked plan wanted form done status i i' o o' e y h s d = go as
     go (decodes_range rows f t) p = rw (← p.2, ← p.3) (inl (form, wanted.first, wanted.last, done, subst (IsFlag (one_of (codes "y4m") rows)) (sym y) p.0, p.1, s, d))
     go (encodes rows f t) p = absurd p
     go (tells f) p = absurd p
+    go (checks r f) p = absurd p
     go (serves r a c t) p = absurd p
     go (pictures r f g) p = absurd p
     go (serves_many r a t) p = absurd p
@@ -181,14 +184,15 @@ does_decode_range asked plan wanted form done status i i' o o' e y h s d = go as
 
 pub does_encode : (asked : ParsedArgs) (plan : Task) (encoding : EncodeArgs) (done : Result EncodeReport EncodeAllFault) (status : ℕ) (i i' o o' : Side)
     → plan ≡ Encode encoding → IsTaskFor asked plan → status ≡ status_by_report done
-    → EncodesFile (settings_of encoding.options) encoding.input.now encoding.output.now done i i' o o' → Does asked status i i' o o'
+    → EncodesFile (encoding_of encoding.options encoding.live) encoding.input.now encoding.output.now done i i' o o' → Does asked status i i' o o'
 does_encode asked plan encoding done status i i' o o' e h s d = go asked (subst (IsTaskFor asked) e h)
   where
     go : (x : ParsedArgs) → IsTaskFor x (Encode encoding) → Does x status i i' o o'
     go (decodes flag f t) p = absurd p
     go (decodes_range rows f t) p = absurd p
-    go (encodes rows f t) p = rw (← p.2, ← p.3) (inl (encoding.options, done, p.0, s, d))
+    go (encodes rows f t) p = rw (← p.3, ← p.4) (inl (encoding.options, encoding.live, done, p.0, p.2, s, d))
     go (tells f) p = absurd p
+    go (checks r f) p = absurd p
     go (serves r a c t) p = absurd p
     go (pictures r f g) p = absurd p
     go (serves_many r a t) p = absurd p
@@ -203,8 +207,24 @@ does_tell asked plan from done status i i' o o' e h d t = go asked (subst (IsTas
     go (decodes_range rows f g) p = absurd p
     go (encodes rows f g) p = absurd p
     go (tells f) p = rw (← p) (inl (done, d, t))
+    go (checks r f) p = absurd p
     go (serves r a c t) p = absurd p
     go (pictures r f g) p = absurd p
+    go (serves_many r a t) p = absurd p
+    go nothing p = absurd p
+
+pub does_check : (asked : ParsedArgs) (plan : Task) (wanted : CheckArgs) (status : ℕ) (i i' o o' : Side)
+    → plan ≡ Check wanted → IsTaskFor asked plan → ChecksEach wanted.verbose (texts wanted.files.items) status i i' o o' → Does asked status i i' o o'
+does_check asked plan wanted status i i' o o' e h d = go asked (subst (IsTaskFor asked) e h)
+  where
+    go : (x : ParsedArgs) → IsTaskFor x (Check wanted) → Does x status i i' o o'
+    go (decodes flag f g) p = absurd p
+    go (decodes_range rows f g) p = absurd p
+    go (encodes rows f g) p = absurd p
+    go (tells f) p = absurd p
+    go (checks rows files) p = inl (wanted, p, subst (λ names. ChecksEach wanted.verbose names status i i' o o') p.files_are d)
+    go (pictures r f g) p = absurd p
+    go (serves r a c t) p = absurd p
     go (serves_many r a t) p = absurd p
     go nothing p = absurd p
 
@@ -218,6 +238,7 @@ does_picture asked plan wanted done status i i' o e h s d = go asked (subst (IsT
     go (decodes_range rows f g) p = absurd p
     go (encodes rows f g) p = absurd p
     go (tells f) p = absurd p
+    go (checks r f) p = absurd p
     go (pictures rows f g) p = inl (wanted, done, p, s, subst (λ name. Over name (IsMadeInput wanted done) i i') p.input_is d, refl)
     go (serves r a c t) p = absurd p
     go (serves_many r a t) p = absurd p
@@ -233,6 +254,7 @@ does_serve asked plan service done status i i' o o' e h s d q = go asked (subst 
     go (decodes_range rows f g) p = absurd p
     go (encodes rows f g) p = absurd p
     go (tells f) p = absurd p
+    go (checks r f) p = absurd p
     go (serves rows address connections operands) p = inl (service, done, p, s, d, q)
     go (pictures r f g) p = absurd p
     go (serves_many r a t) p = absurd p
@@ -248,6 +270,7 @@ does_serve_many asked plan many done status i i' o o' e h s d q = go asked (subs
     go (decodes_range rows f g) p = absurd p
     go (encodes rows f g) p = absurd p
     go (tells f) p = absurd p
+    go (checks r f) p = absurd p
     go (serves r a c t) p = absurd p
     go (pictures r f g) p = absurd p
     go (serves_many rows address operands) p = inl (many, done, p, s, d, q)
@@ -261,6 +284,7 @@ does_nothing asked plan i o e h = go asked (subst (IsTaskFor asked) e h)
     go (decodes_range rows f g) p = absurd p
     go (encodes rows f g) p = absurd p
     go (tells f) p = absurd p
+    go (checks r f) p = absurd p
     go (serves r a c t) p = absurd p
     go (pictures r f g) p = absurd p
     go (serves_many r a t) p = absurd p
@@ -271,6 +295,7 @@ unbegun (decodes flag f g) status i i' o o' h = inr h
 unbegun (decodes_range rows f g) status i i' o o' h = inr (inl h)
 unbegun (encodes rows f g) status i i' o o' h = inr (inl h)
 unbegun (tells f) status i i' o o' h = inr h
+unbegun (checks r f) status i i' o o' h = inr h
 unbegun (serves r a c t) status i i' o o' h = inr (inl h)
 unbegun (pictures r f g) status i i' o o' h = inr (inl h)
 unbegun (serves_many r a t) status i i' o o' h = inr (inl h)
@@ -281,6 +306,7 @@ misused (decodes flag f g) status i i' o o' m h = absurd m
 misused (decodes_range rows f g) status i i' o o' m h = inr (inr (m, h))
 misused (encodes rows f g) status i i' o o' m h = inr (inr (m, h))
 misused (tells f) status i i' o o' m h = absurd m
+misused (checks r f) status i i' o o' m h = absurd m
 misused (serves r a c t) status i i' o o' m h = inr (inr (m, h))
 misused (pictures r f g) status i i' o o' m h = inr (inr (m, h))
 misused (serves_many r a t) status i i' o o' m h = inr (inr (m, h))
@@ -313,7 +339,7 @@ pub never_done : (name : List ℕ) (r : Report) → IsUnopened {T = Report} Devi
 never_done name r (e, inl f) = absurd cc
 never_done name r (e, inr f) = absurd cc
 
-over_work : (b : Bool) (Work : Side → Side → Type 0) (old new : Side) → MatchBool b (Work old new) ((new ≡ old) × ((a : Side) × (b : Side) × Work a b))
+pub over_work : (b : Bool) (Work : Side → Side → Type 0) (old new : Side) → MatchBool b (Work old new) ((new ≡ old) × ((a : Side) × (b : Side) × Work a b))
     → (a : Side) × (b : Side) × Work a b
 over_work true Work old new h = (old, new, h)
 over_work false Work old new h = h.1
@@ -328,7 +354,7 @@ pub reads_by_range : (form : Form) (first last : ℕ) (to : List ℕ) (done : Re
 reads_by_range form first last to done i j o p (inl u) = inl u.1
 reads_by_range form first last to done i j o p (inr w) = inr (over_work (is_stream to) (IsFileRangeDecoded form first last done i j) o p w)
 
-pub reads_by_encoding : (settings : Settings) (to : List ℕ) (done : Result EncodeReport EncodeAllFault) (i j o p : Side) → EncodesInto settings to done i j o p
+pub reads_by_encoding : (settings : Encoding) (to : List ℕ) (done : Result EncodeReport EncodeAllFault) (i j o p : Side) → EncodesInto settings to done i j o p
     → (j ≡ i) ⊎ ((a : Side) × (b : Side) × IsFileEncoded settings done i j a b)
 reads_by_encoding settings to done i j o p (inl u) = inl u.1
 reads_by_encoding settings to done i j o p (inr w) = inr (over_work (is_stream to) (IsFileEncoded settings done i j) o p w)
@@ -351,3 +377,53 @@ mistaken_words words (Words e) (inl memory) m = inl memory
 mistaken_words words (Words e) (inr among) m =
     inr (λ k. m.no_help (subst (λ x. IsAmong x (faults_of words)) k among), λ k. m.no_version (subst (λ x. IsAmong x (faults_of words)) k among))
 mistaken_words words (Value t) h m = absurd (m.some h.0)
+
+-- ---- a file that can't be finished
+
+-- a side of which nothing is known but that it failed
+abbrev pub failed_side : Side
+failed_side = record { bytes = None; failures = 2 ^ 64 - 1 }
+
+-- what was decoded to a file that can't be finished: its device failed
+pub unfinished : (form : Form) (done : Result Report DecodeFault) (i i' a b : Side) → is_ok done ≡ true → IsFileDecoded form done i i' a b
+    → (c : Side) × (d : Side) × IsFileDecoded form (Err Device) i i' c d
+unfinished form (Ok report) i i' a b ok h = (
+  failed_side,
+  failed_side,
+  record {
+    limits = h.limits;
+    usual = h.usual;
+    file = h.file;
+    consumed = h.consumed;
+    answer = inl (h.answer.writes.0, tt);
+    end = tt;
+    torn = λ e. absurd cc;
+    device = λ e. inr (inr refl);
+    quiet = λ ne. absurd (ne refl);
+  },
+)
+unfinished form (Err fault) i i' a b ok h = absurd cc
+
+-- the same for a range
+pub unfinished_range : (form : Form) (first last : ℕ) (done : Result RangeReport DecodeFault) (i i' a b : Side) → is_ok done ≡ true
+    → IsFileRangeDecoded form first last done i i' a b
+    → (c : Side) × (d : Side) × IsFileRangeDecoded form first last (Err Device) i i' c d
+unfinished_range form first last (Ok report) i i' a b ok h = (
+  failed_side,
+  failed_side,
+  record {
+    limits = h.limits;
+    usual = h.usual;
+    range = h.range;
+    first_is = h.first_is;
+    last_is = h.last_is;
+    file = h.file;
+    consumed = h.consumed;
+    answer = inl tt;
+    end = tt;
+    torn = λ e. absurd cc;
+    device = λ e. inr (inr refl);
+    quiet = λ ne. absurd (ne refl);
+  },
+)
+unfinished_range form first last (Err fault) i i' a b ok h = absurd cc

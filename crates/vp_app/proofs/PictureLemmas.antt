@@ -33,14 +33,18 @@ pub made : (p : PictureArgs) (done : Result MadePicture PictureFault) (found : F
     → AreLimits 16 limits → IsFileRead file i j → IsFoundIn limits file p.packet found → IfOk done (λ m. m.number ≡ found.number)
     → IfErr done (λ fault. is_find fault ≡ false) → IfOk done (λ m. IsPictureFile p.form p.scale p.qi found m.bytes m.coding)
     → IsMadeInput p done i j
-made p (Ok m) found limits file i j usual read is number none form = (file, read, record {
-  limits = limits;
-  usual = usual;
-  found = found;
-  found_is = is;
-  number_is = number;
-  made = form;
-})
+made p (Ok m) found limits file i j usual read is number none form = (
+  file,
+  read,
+  record {
+    limits = limits;
+    usual = usual;
+    found = found;
+    found_is = is;
+    number_is = number;
+    made = form;
+  },
+)
 made p (Err fault) found limits file i j usual read is number none form = unmade p fault i j none
 
 -- what is done over a file or a stream, by what implies it

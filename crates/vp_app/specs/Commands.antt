@@ -1,7 +1,8 @@
 -- The effect of each command on its standard streams and files, and its exit status. Pinned by the tests
 -- `pictures_of_over_16777216_pixels_are_too_large` and `info_that_is_not_printed_has_status_1`.
-use Rattle.std.specs.Prelude.{◌≡◌, ◌≢◌, ◌⊎◌, ℕ, Bool, true, false, List, codes, Option, Some, None, Result, Ok, Err}
-use Rattle.std.specs.Prelude.{OnOk, IfOk, MatchBool, nat_lt, if◌then◌else◌}
+use Rattle.std.specs.Prelude.{◌≡◌, ◌≢◌, ◌⊎◌, ℕ, Bool, true, false, List, [], ◌∷◌, length, codes, Option, Some, None}
+use Rattle.std.specs.Prelude.{Result, Ok, Err, OnOk, IfOk, MatchBool, nat_lt, if◌then◌else◌}
+use Rattle.std.specs.List.{list_all}
 use Rattle.std.specs.Str.{bytes_eq}
 use Rattle.std.specs.Io.KnownBytes.{Appends, Consumes, IsAtEnd}
 use Rattle.vp_base.specs.declared.limits.Limits.{Limits}
@@ -14,6 +15,7 @@ use Rattle.vp_encode.specs.declared.report.EncodeReport.{EncodeReport}
 use Rattle.vp_encode.specs.declared.report.EncodeAllFault.{EncodeAllFault}
 use Rattle.vp_encode.specs.declared.report.EncodeAllFault.TheVariants as encode_fault
 use Rattle.vp_encode.specs.File.{IsEncodeAnswerFor as IsEncoderAnswerFor}
+use Rattle.vp_live.specs.Live.{IsLiveAnswer}
 use Rattle.vp_stream.specs.declared.form.Form.{Form}
 use Rattle.vp_stream.specs.declared.form.Form.TheVariants.{I420, Y4m}
 use Rattle.vp_stream.specs.declared.report.Report.{Report}
@@ -27,9 +29,13 @@ use Rattle.vp_frames.specs.declared.report.RangeReport.{RangeReport}
 use Rattle.vp_frames.specs.declared.range.PacketRange.{PacketRange}
 use Rattle.vp_frames.specs.Written.{IsRangeAnswerFor}
 use Rattle.clap.specs.Walk.{Row, first_of, one_of}
+use Rattle.vp_check.specs.declared.checked.Checked.{Checked}
+use Rattle.vp_check.specs.Checks.{IsCheckFor as IsCheckAnswerFor}
+use Rattle.vp_app.specs.CheckLines.{checks_text, is_well}
 use Rattle.vp_app.specs.Listing.{survey_text}
 use Rattle.vp_app.specs.Status.{status_by, status_of}
 use Rattle.vp_app.specs.Usual.{AreLimits}
+use Rattle.vp_args.specs.declared.check_args.CheckArgs.{CheckArgs}
 use Rattle.vp_args.specs.declared.encode_args.EncodeOptions.{EncodeOptions}
 use Rattle.vp_args.specs.declared.serve_args.ServeArgs.{ServeArgs}
 use Rattle.vp_app.specs.declared.service.ServiceFault.{ServiceFault}
@@ -45,8 +51,9 @@ use Rattle.vp_still.specs.declared.fault.FindFault.TheVariants as find_fault
 use Rattle.vp_args.specs.declared.picture_args.PictureArgs.{PictureArgs}
 use Rattle.vp_app.specs.Many.{ServesMany, status_by_many}
 use Rattle.vp_args.specs.declared.serve_args.ServeManyArgs.{ServeManyArgs}
-use Rattle.vp_args.specs.Args.{ParsedArgs, decodes, decodes_range, encodes, tells, pictures, serves, serves_many}
-use Rattle.vp_args.specs.Args.{nothing, AreMiswanted, AreNoSettings, AreWanted, IsNoPicture, IsPictureFor}
+use Rattle.vp_args.specs.Args.{ParsedArgs, checks, decodes, decodes_range, encodes, tells, pictures, serves}
+use Rattle.vp_args.specs.Args.{serves_many, nothing, AreMiswanted, AreNoSettings, AreWanted, IsCheckFor, IsNoPicture}
+use Rattle.vp_args.specs.Args.{IsPictureFor}
 use Rattle.vp_args.specs.Args.{AreSettings, IsFlag, IsNoService, IsNoServiceOfMany, IsServiceFor, IsServiceOfMany}
 
 -- ---- standard streams
@@ -188,6 +195,57 @@ PrintsSurvey (Ok survey) status before after = ((status ≡ status_by_fault surv
     × Appends before after (survey_text survey)) ⊎ (status ≡ 1)
 PrintsSurvey (Err fault) status before after = (status ≡ 1) × (after ≡ before)
 
+-- ---- vp8 check
+
+-- the result of `check`
+pub record IsFileChecked (told : Result Checked SurveyFault) (input input' : Side) : Type 0 where
+  pub limits : Limits
+  pub usual : AreLimits 16 limits
+  pub file : List ℕ
+  pub consumed : Consumes input.bytes input'.bytes file
+  pub answer : IsCheckAnswerFor limits told file
+  pub end : IfOk told (λ c. c.fault ≡ None → IsAtEnd input'.bytes)
+  pub torn : IfOk told (λ c. c.fault ≡ Some file_fault.Torn → IsAtEnd input'.bytes)
+  pub device : told ≡ Err SurveyFault.Device → HasFailed input.failures input'.failures
+  pub quiet : told ≢ Err SurveyFault.Device → input'.failures ≡ input.failures
+
+-- a fault of reading as a fault of decoding
+abbrev pub checked_as : Result Checked SurveyFault → Result Checked DecodeFault
+checked_as (Ok checked) = Ok checked
+checked_as (Err fault) = Err (read_fault_by fault)
+
+-- checks an open input
+abbrev pub ChecksInput : Result Checked DecodeFault → Side → Side → Type 0
+ChecksInput done input input' = (told : Result Checked SurveyFault) × (done ≡ checked_as told)
+    × IsFileChecked told input input'
+
+-- checks a file
+abbrev pub ChecksFile : List ℕ → Result Checked DecodeFault → Side → Side → Type 0
+ChecksFile from done input input' = (IsUnopened Device Memory from done × (input' ≡ input))
+    ⊎ Over from (ChecksInput done) input input'
+
+-- checks the first of these files, one after another, as many as there are results
+abbrev pub AreFilesChecked : List (List ℕ) → List (Result Checked DecodeFault) → Side → Side → Type 0
+AreFilesChecked names [] input input' = input' ≡ input
+AreFilesChecked [] (done ∷ dones) input input' = ⊥
+AreFilesChecked (name ∷ names) (done ∷ dones) input input' = (next : Side)
+    × ChecksFile name done input next × AreFilesChecked names dones next input'
+
+-- the exit status: 0 only if nothing is wrong with any file
+abbrev pub status_by_checks : List (Result Checked DecodeFault) → ℕ
+status_by_checks dones = if list_all is_well dones then 0 else 1
+
+-- all files are checked, and all lines are printed; or the status is 1
+abbrev pub PrintsChecks : Bool → List (List ℕ) → List (Result Checked DecodeFault) → ℕ → Option (List ℕ)
+    → Option (List ℕ) → Type 0
+PrintsChecks verbose names dones status before after = ((length dones ≡ length names)
+    × (status ≡ status_by_checks dones) × Appends before after (checks_text verbose names dones)) ⊎ (status ≡ 1)
+
+-- checks files, and prints what is found
+abbrev pub ChecksEach : Bool → List (List ℕ) → ℕ → Side → Side → Side → Side → Type 0
+ChecksEach verbose names status input input' output output' = (dones : List (Result Checked DecodeFault))
+    × AreFilesChecked names dones input input' × PrintsChecks verbose names dones status output.bytes output'.bytes
+
 -- ---- vp8 encode
 
 -- the encoder's settings, as the options say
@@ -204,14 +262,30 @@ settings_of o = record {
   partitions = o.partitions;
 }
 
--- the result of `encode_all`
-pub record IsFileEncoded (settings : Settings) (done : Result EncodeReport EncodeAllFault)
+-- what is asked of the encoder: its settings, and whether packets are written while pictures are read
+pub record Encoding : Type 0 where
+  pub settings : Settings
+  pub live : Bool
+
+-- as the options and the flag say
+abbrev pub encoding_of : EncodeOptions → Bool → Encoding
+encoding_of options live = record { settings = settings_of options; live = live }
+
+-- the answer of `encode_all`, which writes behind the last picture, or of `encode_live`
+abbrev pub IsAnswerOf : Bool → Limits → Settings → Result EncodeReport EncodeAllFault → List ℕ → Option (List ℕ)
+    → Option (List ℕ) → Type 0
+IsAnswerOf false limits settings done file before after = IsEncoderAnswerFor limits settings done file before after
+IsAnswerOf true limits settings done file before after =
+    (pictures : ℕ) × IsLiveAnswer pictures limits settings done file before after
+
+-- the result of `encode_all` or of `encode_live`
+pub record IsFileEncoded (encoding : Encoding) (done : Result EncodeReport EncodeAllFault)
     (input input' output output' : Side) : Type 0 where
   pub limits : Limits
   pub usual : AreLimits 16 limits
   pub file : List ℕ
   pub consumed : Consumes input.bytes input'.bytes file
-  pub answer : IsEncoderAnswerFor limits settings done file output.bytes output'.bytes
+  pub answer : IsAnswerOf encoding.live limits encoding.settings done file output.bytes output'.bytes
   pub end : OnOk done (IsAtEnd input'.bytes)
   pub torn : done ≡ Err encode_fault.Torn → IsAtEnd input'.bytes
   pub device : done ≡ Err encode_fault.Device → HasFailed input.failures input'.failures
@@ -219,17 +293,17 @@ pub record IsFileEncoded (settings : Settings) (done : Result EncodeReport Encod
   pub quiet : done ≢ Err encode_fault.Device → (input'.failures ≡ input.failures) × (output'.failures ≡ output.failures)
 
 -- encodes to the output file, once the input is open
-abbrev pub EncodesInto : Settings → List ℕ → Result EncodeReport EncodeAllFault → Side → Side → Side → Side → Type 0
-EncodesInto settings to done input input' output output' =
+abbrev pub EncodesInto : Encoding → List ℕ → Result EncodeReport EncodeAllFault → Side → Side → Side → Side → Type 0
+EncodesInto encoding to done input input' output output' =
     (IsUnopened encode_fault.Device encode_fault.Memory to done × (input' ≡ input) × (output' ≡ output))
-    ⊎ Over to (IsFileEncoded settings done input input') output output'
+    ⊎ Over to (IsFileEncoded encoding done input input') output output'
 
 -- encodes from the input file to the output file
-abbrev pub EncodesFile : Settings → List ℕ → List ℕ → Result EncodeReport EncodeAllFault → Side → Side → Side → Side
+abbrev pub EncodesFile : Encoding → List ℕ → List ℕ → Result EncodeReport EncodeAllFault → Side → Side → Side → Side
     → Type 0
-EncodesFile settings from to done input input' output output' =
+EncodesFile encoding from to done input input' output output' =
     (IsUnopened encode_fault.Device encode_fault.Memory from done × (input' ≡ input) × (output' ≡ output))
-    ⊎ Over from (λ a b. EncodesInto settings to done a b output output') input input'
+    ⊎ Over from (λ a b. EncodesInto encoding to done a b output output') input input'
 
 -- the exit status of encoding
 abbrev pub status_by_report : Result EncodeReport EncodeAllFault → ℕ
@@ -263,14 +337,20 @@ DoesDecodeRange rows from to status input input' output output' =
 -- the effect of `vp8 encode`
 abbrev pub DoesEncode : List Row → List ℕ → List ℕ → ℕ → Side → Side → Side → Side → Type 0
 DoesEncode rows from to status input input' output output' =
-    (options : EncodeOptions) × (done : Result EncodeReport EncodeAllFault) × AreSettings rows options
-    × (status ≡ status_by_report done) × EncodesFile (settings_of options) from to done input input' output output'
+    (options : EncodeOptions) × (live : Bool) × (done : Result EncodeReport EncodeAllFault) × AreSettings rows options
+    × IsFlag (one_of (codes "live") rows) live × (status ≡ status_by_report done)
+    × EncodesFile (encoding_of options live) from to done input input' output output'
 
 -- the effect of `vp8 info`
 abbrev pub DoesInfo : List ℕ → ℕ → Side → Side → Side → Side → Type 0
 DoesInfo from status input input' output output' =
     (done : Result Survey DecodeFault) × SurveysFile from done input input'
     × PrintsSurvey done status output.bytes output'.bytes
+
+-- the effect of `vp8 check`
+abbrev pub DoesCheck : List Row → List (List ℕ) → ℕ → Side → Side → Side → Side → Type 0
+DoesCheck rows files status input input' output output' =
+    (c : CheckArgs) × IsCheckFor rows files c × ChecksEach c.verbose files status input input' output output'
 
 -- the file is read to its end, unless it begins as neither an IVF nor a WebP file
 pub record IsFileRead (file : List ℕ) (input input' : Side) : Type 0 where
@@ -301,8 +381,8 @@ DoesPicture rows from to status input input' output output' =
 
 -- the connections are served; of a fault before that, of files, names, address or memory, nothing is said
 abbrev pub ServesConnections : ServeArgs → Result Bool ServiceFault → Side → Side → Type 0
-ServesConnections service (Ok well) input input' = IsService service.streams.items service.cache service.connections
-    well input.bytes input'.bytes
+ServesConnections service (Ok well) input input' = IsService service.webp service.streams.items service.cache
+    service.connections well input.bytes input'.bytes
 ServesConnections service (Err fault) input input' = Unit {0}
 
 -- the exit status of serving: 0 only if all connections are served to their ends
@@ -339,6 +419,8 @@ Does (encodes rows from to) status input input' output output' =
     × IsUsageFault status input input' output output'))
 Does (tells from) status input input' output output' =
     DoesInfo from status input input' output output' ⊎ IsUnbegun status input input' output output'
+Does (checks rows files) status input input' output output' =
+    DoesCheck rows files status input input' output output' ⊎ IsUnbegun status input input' output output'
 Does (pictures rows from to) status input input' output output' =
     DoesPicture rows from to status input input' output output'
     ⊎ (IsUnbegun status input input' output output' ⊎ (IsNoPicture rows to

@@ -43,7 +43,7 @@ pub record WorksLoop (names : List (List ℕ)) (start : LoopState) (well : Bool)
 pub record IsServiceOfMany (many : ServeManyArgs) (well : Bool) (before after : Option (List ℕ)) : Type 0 where
   pub hub : Hub
   pub fed : HubState
-  pub begins : IsNewHub many.service.streams.items many.service.cache many.cursors hub
+  pub begins : IsNewHub many.service.webp many.service.streams.items many.service.cache many.cursors hub
   pub feeds : IsFedBefore many hub.state fed before after
   pub works : WorksLoop (followed_names many) (initial (options_of many) fed) well
 

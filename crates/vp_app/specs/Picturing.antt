@@ -1,5 +1,5 @@
 -- The file that `vp8 picture` writes. Pinned by the tests `key_packet_is_kept_in_a_file` and
--- `smaller_picture_of_an_inter_packet`.
+-- `forms_by_the_name`.
 use Rattle.std.specs.Prelude.{◌≡◌, ◌&&◌, ℕ, Bool, true, false, not, nat_eq, nat_le, codes, length, List, Option, Some, None}
 use Rattle.std.specs.List.{starts_with}
 use Rattle.vp_base.specs.declared.limits.Limits.{Limits}

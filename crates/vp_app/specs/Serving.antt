@@ -11,7 +11,7 @@ use Rattle.vp_cache.specs.Cache.{empty}
 use Rattle.vp_cache.specs.Cursors.{no_cursors}
 use Rattle.vp_hub.specs.declared.session.ServeFault.{ServeFault}
 use Rattle.vp_hub.specs.declared.session.ServeFault.TheVariants.{Device}
-use Rattle.vp_hub.specs.Hub.{HubState, initial_hub, stream_limits}
+use Rattle.vp_hub.specs.Hub.{HubState, new_hub_state, stream_limits}
 use Rattle.vp_hub.specs.Work.{Hub}
 use Rattle.vp_hub.specs.Sessions.{IsSession, IsTurnedAway}
 use Rattle.vp_args.specs.declared.serve_args.NamedFile.{NamedFile}
@@ -24,11 +24,12 @@ use Rattle.vp_app.specs.Feeding.{IsFed}
 abbrev pub names_of : List NamedFile → List (List ℕ)
 names_of streams = map (λ s. s.name.now) streams
 
--- a new hub for the streams, with this number of cached pictures and with this number of cursors
-abbrev pub IsNewHub : List NamedFile → ℕ → ℕ → Hub → Type 0
-IsNewHub streams cache cursors hub =
+-- a new hub for the streams, which shows WebP files or not, with this number of cached pictures and with this number of
+-- cursors
+abbrev pub IsNewHub : Bool → List NamedFile → ℕ → ℕ → Hub → Type 0
+IsNewHub webp streams cache cursors hub =
     (limits : Limits) × AreLimits cache limits × (hub ≡ record {
-      state = initial_hub (names_of streams) limits;
+      state = new_hub_state webp (names_of streams) limits;
       cache = empty limits.cache;
       cursors = no_cursors cursors (stream_limits limits);
       work = 0;
@@ -74,10 +75,10 @@ pub record IsServing (connections : ℕ) (s : HubState) (well : Bool) : Type 0 w
   pub well_is : well ≡ list_all is_ok outcomes
 
 -- ---- the whole run: all files are fed into a new hub, and then the connections are served
-pub record IsService (streams : List NamedFile) (cache connections : ℕ) (well : Bool) (before after : Option (List ℕ))
-    : Type 0 where
+pub record IsService (webp : Bool) (streams : List NamedFile) (cache connections : ℕ) (well : Bool)
+    (before after : Option (List ℕ)) : Type 0 where
   pub hub : Hub
   pub fed : HubState
-  pub begins : IsNewHub streams cache 0 hub
+  pub begins : IsNewHub webp streams cache 0 hub
   pub feeds : AreFilesFed streams hub.state fed before after
   pub serves : IsServing connections fed well

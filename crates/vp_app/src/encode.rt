@@ -1,16 +1,18 @@
 //! The command `vp8 encode`.
 
 ghost use Rattle.std.specs.Prelude.{◌≡◌, ⊤, false};
-ghost use Rattle.vp_app.specs.Commands.{is_stream, read_side, settings_of, written_side, EncodesFile, EncodesInto, IsFileEncoded};
+ghost use Rattle.vp_app.specs.Commands.{encoding_of, is_stream, read_side, settings_of, written_side, EncodesFile};
+ghost use Rattle.vp_app.specs.Commands.{EncodesInto, IsFileEncoded};
 
 use crate::files::file_fault;
+use crate::outside::Outside;
 use std::alloc::Global;
-use std::fs;
 use std::io::{Read, Write};
 use std::rt::Files;
 use vp_args::{EncodeArgs, EncodeOptions};
 use vp_base::{Counted, Limits};
 use vp_encode::{EncodeAllFault, EncodeReport, Settings, Watcher, encode_all_watched};
+use vp_live::encode_live;
 
 /// Returns the encoder's settings, as the options say.
 pub fn settings_of(options: &EncodeOptions) -> Settings
@@ -49,13 +51,14 @@ impl<E: Write> Watcher for Progress<'_, E> {
 /// Opens the input file, creates the output file, and encodes. The output must not be the input file, because creating
 /// it would empty it.
 pub(crate) fn encode<H: Files + AllocGlobal, R: Read, W: Write, E: Write>(
-    rt: &H,
+    outside: &mut Outside<'_, H>,
     encoding: &EncodeArgs<'_>,
     input: &mut Counted<R>,
     output: &mut Counted<W>,
     errors: &mut Counted<E>,
 ) -> Result<EncodeReport, EncodeAllFault>
-    ensures encoded { EncodesFile (settings_of encoding.now.options) encoding.now.input.now encoding.now.output.now result
+    ensures encoded { EncodesFile (encoding_of encoding.now.options encoding.now.live)
+        encoding.now.input.now encoding.now.output.now result
         (read_side R.remaining input.old) (read_side R.remaining input.new)
         (written_side W.contents output.old) (written_side W.contents output.new) }
     ensures unread { is_stream encoding.now.input.now ≡ false → input.new ≡ input.old }
@@ -66,56 +69,65 @@ pub(crate) fn encode<H: Files + AllocGlobal, R: Read, W: Write, E: Write>(
         asked: encoding.progress,
     };
     if encoding.input == "-" {
-        return encode_into(rt, encoding, input, output, &mut watcher);
+        return encode_into(outside, encoding, input, output, &mut watcher);
     }
     if encoding.input == encoding.output {
+        outside.is_one_file = true;
         return Err(EncodeAllFault::Device);
     }
-    match fs::open(rt, encoding.input) {
-        Ok(file) => encode_into(rt, encoding, &mut Counted::new(file), output, &mut watcher),
+    match outside.open(encoding.input) {
+        Ok(mut file) => {
+            let reader = &mut Counted::new(&mut file);
+            let done = encode_into(outside, encoding, reader, output, &mut watcher);
+            outside.has_read(file);
+            done
+        }
         Err(error) => Err(file_fault(&error, EncodeAllFault::Device, EncodeAllFault::Memory)),
     }
 }
 
 #[tactic(auto, using(crate::proofs::CommandLemmas::encode_stream, crate::proofs::CommandLemmas::encode_file, crate::proofs::CommandLemmas::encode_none))]
 fn encode_into<H: Files + AllocGlobal, R: Read, W: Write, T: Watcher>(
-    rt: &H,
+    outside: &mut Outside<'_, H>,
     encoding: &EncodeArgs<'_>,
     input: &mut Counted<R>,
     output: &mut Counted<W>,
     watcher: &mut T,
 ) -> Result<EncodeReport, EncodeAllFault>
-    ensures encoded { EncodesInto (settings_of encoding.now.options) encoding.now.output.now result
+    ensures encoded { EncodesInto (encoding_of encoding.now.options encoding.now.live) encoding.now.output.now result
         (read_side R.remaining input.old) (read_side R.remaining input.new)
         (written_side W.contents output.old) (written_side W.contents output.new) }
     ensures unwritten { is_stream encoding.now.output.now ≡ false → output.new ≡ output.old }
 {
-    let settings = settings_of(&encoding.options);
     if encoding.output == "-" {
-        return encode_over(rt.alloc(), settings, input, output, watcher);
+        return encode_over(outside.alloc(), encoding, input, output, watcher);
     }
-    match fs::create(rt, encoding.output) {
-        Ok(file) => encode_over(
-            rt.alloc(),
-            settings,
-            input,
-            &mut Counted::new(file),
-            watcher,
-        ),
+    match outside.make(encoding.output) {
+        Ok(mut file) => {
+            let writer = &mut Counted::new(&mut file);
+            let done = encode_over(outside.alloc(), encoding, input, writer, watcher);
+            outside.has_written(&file);
+            done
+        }
         Err(error) => Err(file_fault(&error, EncodeAllFault::Device, EncodeAllFault::Memory)),
     }
 }
 
 fn encode_over<R: Read, W: Write, T: Watcher>(
     alloc: Global,
-    settings: Settings,
+    encoding: &EncodeArgs<'_>,
     input: &mut Counted<R>,
     output: &mut Counted<W>,
     watcher: &mut T,
 ) -> Result<EncodeReport, EncodeAllFault>
-    ensures { IsFileEncoded settings result
+    ensures { IsFileEncoded (encoding_of encoding.now.options encoding.now.live) result
         (read_side R.remaining input.old) (read_side R.remaining input.new)
         (written_side W.contents output.old) (written_side W.contents output.new) }
 {
-    encode_all_watched(alloc, input, output, settings, Limits::usual(), watcher)
+    let settings = settings_of(&encoding.options);
+    if encoding.live {
+        encode_live(alloc, input, output, settings, Limits::usual(), watcher)
+    } else {
+        encode_all_watched(alloc, input, output, settings, Limits::usual(), watcher)
+    }
 }

@@ -1,12 +1,12 @@
 //! Theorems about the exit status and the effects of commands.
 
-ghost use Rattle.std.specs.Prelude.{◌≡◌, ◌⊎◌, ℕ, List, Option, None, Result, Err, Ok, false, true};
+ghost use Rattle.std.specs.Prelude.{◌≡◌, ◌⊎◌, ℕ, Bool, List, Option, None, Result, Err, Ok, false, true, length};
+ghost use Rattle.std.specs.List.{list_all};
 ghost use Rattle.std.specs.Io.KnownBytes.{Appends};
 ghost use Rattle.vp_base.specs.Counted.{HasFailed};
 ghost use Rattle.vp_hub.specs.Hub.{HubState};
 ghost use Rattle.vp_hub.specs.Work.{Hub};
 ghost use Rattle.vp_hub.specs.Sessions.{IsSession, IsTurnedAway};
-ghost use Rattle.vp_encode.specs.declared.settings.Settings.{Settings};
 ghost use Rattle.vp_encode.specs.declared.report.EncodeReport.{EncodeReport};
 ghost use Rattle.vp_encode.specs.declared.report.EncodeAllFault.{EncodeAllFault};
 ghost use Rattle.vp_stream.specs.declared.form.Form.{Form};
@@ -15,7 +15,11 @@ ghost use Rattle.vp_frames.specs.declared.report.RangeReport.{RangeReport};
 ghost use Rattle.vp_stream.specs.declared.outcomes.Survey.{Survey};
 ghost use Rattle.vp_stream.specs.declared.fault.DecodeFault.{DecodeFault};
 ghost use Rattle.vp_stream.specs.declared.fault.DecodeFault.TheVariants.{Device, Memory};
-ghost use Rattle.vp_app.specs.Commands.{DecodesInto, EncodesInto, IsFileDecoded, IsFileEncoded, IsUnbegun, IsUnopened};
+ghost use Rattle.vp_app.specs.Commands.{DecodesInto, EncodesInto, Encoding, IsFileDecoded, IsFileEncoded, IsUnbegun};
+ghost use Rattle.vp_app.specs.Commands.{IsUnopened};
+ghost use Rattle.vp_check.specs.declared.checked.Checked.{Checked};
+ghost use Rattle.vp_app.specs.CheckLines.{checks_text, is_well};
+ghost use Rattle.vp_app.specs.Commands.{ChecksFile, ChecksInput, PrintsChecks};
 ghost use Rattle.vp_app.specs.Commands.{DecodesRangeInto, IsFileRangeDecoded, PrintsSurvey, Side, SurveysFile};
 ghost use Rattle.vp_app.specs.Commands.{SurveysInput};
 ghost use Rattle.vp_app.specs.Listing.{survey_text};
@@ -32,6 +36,15 @@ pub fn status_0_of_info_says_that_all_is_printed()
         → PrintsSurvey (Err fault) status before after → (status ≡ 1) × (after ≡ before) }
 {}
 
+/// `vp8 check` has status 0 only if nothing is wrong with any file, and all its lines are printed.
+#[tactic(auto, using(crate::proofs::CheckLemmas::nothing_wrong))]
+pub fn status_0_of_check_says_that_nothing_is_wrong()
+    ensures { (verbose : Bool) (names : List (List ℕ)) (dones : List (Result Checked DecodeFault))
+        (before after : Option (List ℕ)) → PrintsChecks verbose names dones 0 before after
+        → (length dones ≡ length names) × (list_all is_well dones ≡ true)
+        × Appends before after (checks_text verbose names dones) }
+{}
+
 /// Work over what cannot be opened ends by a fault, and work that is not begun leaves the streams.
 #[tactic(auto, using(crate::proofs::CommandLemmas::never_done))]
 pub fn what_is_not_begun_changes_nothing()
@@ -39,19 +52,21 @@ pub fn what_is_not_begun_changes_nothing()
     ensures unbegun { (status : ℕ) (i j o p : Side) → IsUnbegun status i j o p → (status ≡ 1) × (j ≡ i) × (p ≡ o) }
 {}
 
-/// Standard input stays, or else a file was decoded, encoded or surveyed, as it stands in the file's answer.
-#[tactic(auto, using(crate::proofs::CommandLemmas::reads_by_decoding, crate::proofs::CommandLemmas::reads_by_range, crate::proofs::CommandLemmas::reads_by_encoding, crate::proofs::CommandLemmas::reads_by_surveying))]
+/// Standard input stays, or else a file was decoded, encoded, surveyed or checked, as it stands in the file's answer.
+#[tactic(auto, using(crate::proofs::CommandLemmas::reads_by_decoding, crate::proofs::CommandLemmas::reads_by_range, crate::proofs::CommandLemmas::reads_by_encoding, crate::proofs::CommandLemmas::reads_by_surveying, crate::proofs::CheckLemmas::reads_by_checking))]
 pub fn standard_input_is_left_or_answered()
     ensures decoded { (form : Form) (to : List ℕ) (done : Result Report DecodeFault) (i j o p : Side)
         → DecodesInto form to done i j o p → (j ≡ i) ⊎ ((a : Side) × (b : Side) × IsFileDecoded form done i j a b) }
     ensures range { (form : Form) (first last : ℕ) (to : List ℕ) (done : Result RangeReport DecodeFault)
         (i j o p : Side) → DecodesRangeInto form first last to done i j o p
         → (j ≡ i) ⊎ ((a : Side) × (b : Side) × IsFileRangeDecoded form first last done i j a b) }
-    ensures encoded { (settings : Settings) (to : List ℕ) (done : Result EncodeReport EncodeAllFault) (i j o p : Side)
+    ensures encoded { (settings : Encoding) (to : List ℕ) (done : Result EncodeReport EncodeAllFault) (i j o p : Side)
         → EncodesInto settings to done i j o p
         → (j ≡ i) ⊎ ((a : Side) × (b : Side) × IsFileEncoded settings done i j a b) }
     ensures surveyed { (from : List ℕ) (done : Result Survey DecodeFault) (i j : Side) → SurveysFile from done i j
         → (j ≡ i) ⊎ ((a : Side) × (b : Side) × SurveysInput done a b) }
+    ensures checked { (from : List ℕ) (done : Result Checked DecodeFault) (i j : Side) → ChecksFile from done i j
+        → (j ≡ i) ⊎ ((a : Side) × (b : Side) × ChecksInput done a b) }
 {}
 
 /// A connection that is served to its end was turned away or had a session.

@@ -1,22 +1,26 @@
 //! The program `vp8`, over any standard streams.
 #![tactic(auto)]
 
+mod check;
 mod encode;
 mod files;
+mod hints;
 mod laws;
 mod listing;
 mod many;
+mod outside;
 mod picture;
 mod picture_fault;
 mod program;
 mod range;
 mod service;
 
+pub use check::Counts;
 pub use encode::settings_of;
 pub use laws::{
     served_connections_have_sessions, standard_input_is_left_or_answered,
-    status_0_of_info_says_that_all_is_printed, statuses_of_serve,
-    what_is_not_begun_changes_nothing,
+    status_0_of_check_says_that_nothing_is_wrong, status_0_of_info_says_that_all_is_printed,
+    statuses_of_serve, what_is_not_begun_changes_nothing,
 };
 pub use many::ManyFault;
 pub use picture::MadePicture;

@@ -8,6 +8,7 @@ ghost use Rattle.vp_app.specs.declared.service.ServiceFault.{ServiceFault};
 ghost use Rattle.vp_app.specs.Many.{IsFedBefore, ServesMany, WorksLoop, followed_names, options_of};
 ghost use Rattle.vp_app.specs.Serving.{AreFilesFed, IsFileFed};
 
+use crate::outside::Outside;
 use crate::service::{ServiceFault, feed_stream, hub_with_cursors, print_address, stream_names};
 use std::alloc::{AllocError, Global};
 use std::io::{Read, Write};
@@ -161,7 +162,7 @@ fn feed_next<H: Files + AllocGlobal, R: Read>(
     ensures { IfOk result (λ _. IsFileFed stream.now hub.old.state hub.new.state
         (counted_remaining R.remaining input.old) (counted_remaining R.remaining input.new)) }
 {
-    match feed_stream(rt, hub, stream, input) {
+    match feed_stream(&mut Outside::new(rt), hub, stream, input) {
         Ok(()) => Ok(()),
         Err(fault) => Err(ManyFault::Feed(place, fault)),
     }

@@ -7,9 +7,10 @@ ghost use Rattle.vp_app.specs.Commands.{is_stream, read_side, status_by_picture,
 ghost use Rattle.vp_app.specs.Commands.{Over};
 ghost use Rattle.vp_app.specs.Picturing.{is_find, is_foreign, IsPictureFile};
 
+use crate::hints::hint_picture;
+use crate::outside::Outside;
 use crate::picture_fault::{PictureFault, report_picture_fault};
 use std::alloc::Global;
-use std::fs;
 use std::io::{Read, Write};
 use std::num::nearest_u64_to_f64;
 use std::rt::Files;
@@ -32,7 +33,7 @@ pub struct MadePicture {
 
 /// Reads the input file, makes the file of its picture, and then writes it. The output must not be the input file.
 pub(crate) fn write_picture<H: Files + AllocGlobal, R: Read>(
-    rt: &H,
+    outside: &mut Outside<'_, H>,
     wanted: &PictureArgs<'_>,
     input: &mut Counted<R>,
 ) -> Result<MadePicture, PictureFault>
@@ -40,15 +41,15 @@ pub(crate) fn write_picture<H: Files + AllocGlobal, R: Read>(
         (read_side R.remaining input.new) }
     ensures unread { is_stream wanted.now.input.now ≡ false → input.new ≡ input.old }
 {
-    match made_picture(rt, wanted, input) {
-        Ok(made) => written(rt, wanted.output, made),
+    match made_picture(outside, wanted, input) {
+        Ok(made) => written(outside, wanted.output, made),
         Err(fault) => Err(fault),
     }
 }
 
 // Opens the input file, and makes the file of its picture.
 fn made_picture<H: Files + AllocGlobal, R: Read>(
-    rt: &H,
+    outside: &mut Outside<'_, H>,
     wanted: &PictureArgs<'_>,
     input: &mut Counted<R>,
 ) -> Result<MadePicture, PictureFault>
@@ -57,13 +58,18 @@ fn made_picture<H: Files + AllocGlobal, R: Read>(
     ensures unread { is_stream wanted.now.input.now ≡ false → input.new ≡ input.old }
 {
     if wanted.input == "-" {
-        return picture_of(rt.alloc(), wanted, input);
+        return picture_of(outside.alloc(), wanted, input);
     }
     if wanted.input == wanted.output {
+        outside.is_one_file = true;
         return Err(PictureFault::Device);
     }
-    match fs::open(rt, wanted.input) {
-        Ok(file) => picture_of(rt.alloc(), wanted, &mut Counted::new(file)),
+    match outside.open(wanted.input) {
+        Ok(mut file) => {
+            let made = picture_of(outside.alloc(), wanted, &mut Counted::new(&mut file));
+            outside.has_read(file);
+            made
+        }
         Err(error) => Err(PictureFault::from(error)),
     }
 }
@@ -84,11 +90,7 @@ fn picture_of<R: Read>(
 }
 
 // Makes the file of a picture that was found.
-fn make(
-    alloc: Global,
-    found: &Found,
-    wanted: &PictureArgs<'_>,
-) -> Result<MadePicture, PictureFault>
+fn make(alloc: Global, found: &Found, wanted: &PictureArgs<'_>) -> Result<MadePicture, PictureFault>
     ensures number { IfOk result (λ m. m.number ≡ found.now.number) }
     ensures unfound { IfErr result (λ fault. is_find fault ≡ false) }
     ensures file { IfOk result (λ m. IsPictureFile wanted.now.form wanted.now.scale wanted.now.qi found.now
@@ -150,22 +152,25 @@ fn is_foreign(file: &[u8]) -> bool
 
 // Writes the file of a picture.
 fn written<H: Files + AllocGlobal>(
-    rt: &H,
+    outside: &mut Outside<'_, H>,
     name: &str,
     made: MadePicture,
 ) -> Result<MadePicture, PictureFault>
     ensures made { IfOk result (λ m. m ≡ made) }
     ensures unfound { IfErr result (λ fault. is_find fault ≡ false) }
 {
-    let mut file = Counted::new(fs::create(rt, name)?);
-    match put_all(&mut file, made.bytes.as_slice()) {
+    let mut file = outside.make(name)?;
+    let put = put_all(&mut Counted::new(&mut file), made.bytes.as_slice());
+    outside.has_written(&file);
+    match put {
         Ok(()) => Ok(made),
         Err(_) => Err(PictureFault::Device),
     }
 }
 
 /// Says what was written, or the fault, and returns the exit status.
-pub(crate) fn report_picture<E: Write>(
+pub(crate) fn report_picture<H, E: Write>(
+    outside: &Outside<'_, H>,
     done: &Result<MadePicture, PictureFault>,
     wanted: &PictureArgs<'_>,
     errors: &mut Counted<E>,
@@ -179,6 +184,7 @@ pub(crate) fn report_picture<E: Write>(
         }
         Err(fault) => {
             report_picture_fault(*fault, wanted, errors);
+            let _ = hint_picture(outside, *fault, wanted, errors);
             1
         }
     }
@@ -190,10 +196,16 @@ fn print_made<E: Write>(made: &MadePicture, errors: &mut Counted<E>) {
     let _ = match made.coding {
         None => writeln!(errors, "packet {number}: {w}x{h}"),
         Some(Coding::Kept) => writeln!(errors, "packet {number}: {w}x{h}, as it stands"),
-        Some(Coding::Encoded(0)) => writeln!(errors, "packet {number}: {w}x{h}, encoded without a difference"),
+        Some(Coding::Encoded(0)) => writeln!(
+            errors,
+            "packet {number}: {w}x{h}, encoded without a difference"
+        ),
         Some(Coding::Encoded(error)) => {
             let ratio = decibels(made.dim, error);
-            writeln!(errors, "packet {number}: {w}x{h}, encoded with PSNR {ratio:.2} dB")
+            writeln!(
+                errors,
+                "packet {number}: {w}x{h}, encoded with PSNR {ratio:.2} dB"
+            )
         }
     };
 }

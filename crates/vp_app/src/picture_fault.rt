@@ -88,10 +88,16 @@ fn print_find_fault<E: Write>(
         FindFault::Packet(fault) => writeln!(errors, "vp8: packet {number}: {fault}"),
         FindFault::Hidden => writeln!(errors, "vp8: packet {number}: Hidden"),
         FindFault::NoPacket(count) => {
-            writeln!(errors, "vp8: no packet {number}: {name} has {count} packets")
+            writeln!(
+                errors,
+                "vp8: no packet {number}: {name} has {count} packets"
+            )
         }
         FindFault::NoPicture(count) => {
-            writeln!(errors, "vp8: no picture: none of the {count} packets of {name} shows one")
+            writeln!(
+                errors,
+                "vp8: no picture: none of the {count} packets of {name} shows one"
+            )
         }
         FindFault::Memory => writeln!(errors, "vp8: Memory"),
     }

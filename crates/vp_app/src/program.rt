@@ -6,7 +6,7 @@ ghost use Rattle.clap.specs.Walk.{texts};
 ghost use Rattle.clap.specs.declared.error.kind.ErrorKind.{ErrorKind};
 ghost use Rattle.vp_stream.specs.declared.fault.DecodeFault.{DecodeFault};
 ghost use Rattle.vp_base.specs.Counted.{counted_contents};
-ghost use Rattle.vp_app.specs.Commands.{is_stream, is_y4m, read_side, written_side, status_by_report, status_by_service};
+ghost use Rattle.vp_app.specs.Commands.{Side, is_stream, is_y4m, read_side, written_side, status_by_report, status_by_service};
 ghost use Rattle.vp_app.specs.Commands.{DecodesFile, DecodesInto, Does, IsFileDecoded, IsFileSurveyed, SurveysFile};
 ghost use Rattle.vp_app.specs.Commands.{SurveysInput};
 ghost use Rattle.vp_app.specs.Commands.{PrintsSurvey};
@@ -15,24 +15,29 @@ ghost use Rattle.vp_app.specs.Status.{status_of};
 ghost use Rattle.vp_args.specs.Args.{parsed_args, faults_of, AreMistaken, ParsedArgs, IsForMemory, IsMistake, IsOfValue};
 ghost use Rattle.vp_args.specs.Args.{IsTaskFor};
 
+use crate::check::check_files;
 use crate::encode::encode;
 use crate::files::file_fault;
+use crate::hints::{hint_decode, hint_encode, hint_serve};
 use crate::listing::{print_faults, print_survey, report_fault};
 use crate::many::{ManyFault, print_fault, serve_many};
+use crate::outside::Outside;
 use crate::picture::{report_picture, write_picture};
 use crate::range::{decode_packets, report_packets};
 use crate::service::{ServiceFault, serve};
 use clap::Error;
 use clap::error::ErrorKind;
 use std::alloc::Global;
+use std::fs::OpenFile;
 use std::io::{Read, Write};
 use std::net::{Net, TcpListener, TcpStream};
 use std::rt::{Env, Files};
 use std::time::Clock;
-use std::{env, fs, io};
-use vp_args::{Refusal, ServeManyArgs, Task, read_args};
+use std::{env, io};
+use vp_args::{EncodeArgs, Refusal, ServeArgs, ServeManyArgs, Task, read_args};
 use vp_base::{Counted, Limits};
 use vp_encode::{EncodeAllFault, EncodeReport};
+use vp_hints::{Overwrite, Witness, hint_packets};
 use vp_stream::{DecodeFault, Form, Report, Survey, SurveyFault, decode_all, survey};
 
 /// Runs the command that the arguments ask for; the first argument is the program's name. Returns the exit status: 0, 1
@@ -49,6 +54,10 @@ use vp_stream::{DecodeFault, Form, Report, Survey, SurveyFault, decode_all, surv
 /// `frames N error E` on `errors`: the number of frames, and the sum of their squared errors.
 ///
 /// `vp8 info IN` prints the contents of an IVF file, including the packets' faults.
+///
+/// `vp8 check IN...` decodes IVF files, one after another, and prints what is found in each: the numbers of its
+/// packets, and its fault. With `--verbose` a line stands before these for each packet that has a fault or is read past
+/// its end. The status is 1 if anything is wrong. A file that can't be opened does not stop the others.
 ///
 /// `vp8 picture IN OUT` writes the first shown picture of an IVF or WebP file, or with `--packet N` that of packet N, as
 /// WebP, YUV4MPEG2, I420 or PPM by OUT's name, with `--scale K` made smaller. OUT is created once the picture is made.
@@ -85,7 +94,7 @@ pub fn command<
         ⊎ ((result ≡ 1) × (input.new ≡ input.old) × (output.new ≡ output.old)) }
 {
     match read_args(rt.alloc(), words) {
-        Ok(task) => run_task(rt, &task, input, output, errors),
+        Ok(task) => run_task(&mut Outside::new(rt), &task, input, output, errors),
         Err(refusal) => reject(&refusal, output, errors),
     }
 }
@@ -97,7 +106,7 @@ fn run_task<
     W: Write,
     E: Write,
 >(
-    rt: &H,
+    outside: &mut Outside<'_, H>,
     task: &Task<'_>,
     input: &mut Counted<R>,
     output: &mut Counted<W>,
@@ -115,33 +124,35 @@ fn run_task<
             y4m,
             input: from,
             output: to,
-        } => report_decode(
-            rt.alloc(),
-            decode(rt, form_of(*y4m), from, to, input, output),
-            errors,
-        ),
-        Task::DecodeRange(wanted) => report_packets(
-            rt.alloc(),
-            decode_packets(rt, form_of(wanted.y4m), wanted, input, output),
-            wanted,
-            errors,
-        ),
-        Task::Encode(encoding) => report_encode(
-            encode(rt, encoding, input, output, errors),
-            errors,
-        ),
+        } => {
+            let done = decode(outside, form_of(*y4m), from, to, input, output);
+            report_decode(outside, done, (from, to), errors)
+        }
+        Task::DecodeRange(wanted) => {
+            let done = decode_packets(outside, form_of(wanted.y4m), wanted, input, output);
+            report_packets(outside, done, wanted, errors)
+        }
+        Task::Encode(encoding) => {
+            let done = encode(outside, encoding, input, output, errors);
+            report_encode(outside, done, encoding, errors)
+        }
         Task::Info { input: from } => {
-            report_survey(rt.alloc(), survey_file(rt, from, input), output, errors)
+            let done = survey_file(outside, from, input);
+            report_survey(outside, done, from, output, errors)
         }
+        Task::Serve(service) => {
+            let done = serve(outside, service, input, output, errors);
+            report_serve(outside, done, service, errors)
+        }
+        Task::ServeMany(many) => {
+            let done = serve_many(outside.system(), many, input, output, errors);
+            report_serve_many(done, many, errors)
+        }
+        Task::Check(wanted) => check_files(outside.system(), wanted, input, output, errors),
         Task::Picture(wanted) => {
-            report_picture(&write_picture(rt, wanted, input), wanted, errors)
+            let done = write_picture(outside, wanted, input);
+            report_picture(outside, &done, wanted, errors)
         }
-        Task::Serve(service) => report_serve(serve(rt, service, input, output, errors), errors),
-        Task::ServeMany(many) => report_serve_many(
-            serve_many(rt, many, input, output, errors),
-            many,
-            errors,
-        ),
         Task::Nothing => 2,
     }
 }
@@ -173,7 +184,7 @@ fn reject<W: Write, E: Write>(
 
 // Opens the files, and decodes. The output must not be the input file, because creating it would empty it.
 fn decode<H: Files + AllocGlobal, R: Read, W: Write>(
-    rt: &H,
+    outside: &mut Outside<'_, H>,
     form: Form,
     from: &str,
     to: &str,
@@ -187,20 +198,25 @@ fn decode<H: Files + AllocGlobal, R: Read, W: Write>(
     ensures unwritten { is_stream to.now ≡ false → output.new ≡ output.old }
 {
     if from == "-" {
-        return decode_into(rt, form, to, input, output);
+        return decode_into(outside, form, to, input, output);
     }
     if from == to {
+        outside.is_one_file = true;
         return Err(DecodeFault::Device);
     }
-    match fs::open(rt, from) {
-        Ok(file) => decode_into(rt, form, to, &mut Counted::new(file), output),
+    match outside.open(from) {
+        Ok(mut file) => {
+            let done = decode_into(outside, form, to, &mut Counted::new(&mut file), output);
+            outside.has_read(file);
+            done
+        }
         Err(error) => Err(file_fault(&error, DecodeFault::Device, DecodeFault::Memory)),
     }
 }
 
 #[tactic(auto, using(crate::proofs::CommandLemmas::into_stream, crate::proofs::CommandLemmas::into_file, crate::proofs::CommandLemmas::into_none))]
 fn decode_into<H: Files + AllocGlobal, R: Read, W: Write>(
-    rt: &H,
+    outside: &mut Outside<'_, H>,
     form: Form,
     to: &str,
     input: &mut Counted<R>,
@@ -212,12 +228,33 @@ fn decode_into<H: Files + AllocGlobal, R: Read, W: Write>(
     ensures unwritten { is_stream to.now ≡ false → output.new ≡ output.old }
 {
     if to == "-" {
-        return decode_over(rt.alloc(), form, input, output);
+        return decode_over(outside.alloc(), form, input, output);
     }
-    match fs::create(rt, to) {
-        Ok(file) => decode_over(rt.alloc(), form, input, &mut Counted::new(file)),
+    match outside.make(to) {
+        Ok(mut file) => {
+            let done = decode_into_file(outside.alloc(), form, input, &mut file);
+            outside.has_written(&file);
+            done
+        }
         Err(error) => Err(file_fault(&error, DecodeFault::Device, DecodeFault::Memory)),
     }
+}
+
+// Decodes to a file. If there is no picture, the file is empty afterwards.
+fn decode_into_file<R: Read, F: OpenFile + Write>(
+    alloc: Global,
+    form: Form,
+    input: &mut Counted<R>,
+    file: &mut Witness<Overwrite<F>>,
+) -> Result<Report, DecodeFault>
+    ensures { (a : Side) × (b : Side) × IsFileDecoded form result
+        (read_side R.remaining input.old) (read_side R.remaining input.new) a b }
+{
+    let done = decode_over(alloc, form, input, &mut Counted::new(&mut *file));
+    if done.is_ok() && file.finish().is_err() {
+        return Err(DecodeFault::Device);
+    }
+    done
 }
 
 fn decode_over<R: Read, W: Write>(
@@ -236,7 +273,7 @@ fn decode_over<R: Read, W: Write>(
 // Opens the file, and surveys it.
 #[tactic(auto, using(crate::proofs::CommandLemmas::look_stream, crate::proofs::CommandLemmas::look_file, crate::proofs::CommandLemmas::look_none))]
 fn survey_file<H: Files + AllocGlobal, R: Read>(
-    rt: &H,
+    outside: &mut Outside<'_, H>,
     from: &str,
     input: &mut Counted<R>,
 ) -> Result<Survey, DecodeFault>
@@ -244,10 +281,14 @@ fn survey_file<H: Files + AllocGlobal, R: Read>(
     ensures unread { is_stream from.now ≡ false → input.new ≡ input.old }
 {
     if from == "-" {
-        return survey_input(rt.alloc(), input);
+        return survey_input(outside.alloc(), input);
     }
-    match fs::open(rt, from) {
-        Ok(file) => survey_input(rt.alloc(), &mut Counted::new(file)),
+    match outside.open(from) {
+        Ok(mut file) => {
+            let done = survey_input(outside.alloc(), &mut Counted::new(&mut file));
+            outside.has_read(file);
+            done
+        }
         Err(error) => Err(file_fault(&error, DecodeFault::Device, DecodeFault::Memory)),
     }
 }
@@ -268,9 +309,10 @@ fn survey_over<R: Read>(alloc: Global, input: &mut Counted<R>) -> Result<Survey,
 }
 
 // Prints the faults, and returns the exit status.
-fn report_decode<E: Write>(
-    alloc: Global,
+fn report_decode<H: AllocGlobal, E: Write>(
+    outside: &Outside<'_, H>,
     done: Result<Report, DecodeFault>,
+    files: (&str, &str),
     errors: &mut Counted<E>,
 ) -> u8
     ensures status { result ≡ status_of done }
@@ -278,15 +320,22 @@ fn report_decode<E: Write>(
 {
     let report = match done {
         Ok(report) => report,
-        Err(fault) => return report_fault(fault, errors),
+        Err(fault) => {
+            let status = report_fault(fault, errors);
+            let _ = hint_decode(outside, fault, files, errors);
+            return status;
+        }
     };
-    let _ = print_faults(alloc, report.faults.as_slice(), errors);
+    let _ = print_faults(outside.alloc(), report.faults.as_slice(), errors);
+    let _ = hint_packets(report.faults.as_slice(), errors);
     if report.faults.is_empty() { 0 } else { 1 }
 }
 
 // Prints the number of frames and the sum of their squared errors, or the fault, and returns the exit status.
-fn report_encode<E: Write>(
+fn report_encode<H, E: Write>(
+    outside: &Outside<'_, H>,
     done: Result<EncodeReport, EncodeAllFault>,
+    encoding: &EncodeArgs<'_>,
     errors: &mut Counted<E>,
 ) -> u8
     ensures status { result ≤ 1 }
@@ -297,14 +346,19 @@ fn report_encode<E: Write>(
             let _ = writeln!(errors, "frames {} error {}", report.frames, report.error);
             0
         }
-        Err(fault) => report_fault(fault, errors),
+        Err(fault) => {
+            let status = report_fault(fault, errors);
+            let _ = hint_encode(outside, fault, encoding, errors);
+            status
+        }
     }
 }
 
 // Prints a survey and the file's fault, and returns the exit status.
-fn report_survey<W: Write, E: Write>(
-    alloc: Global,
+fn report_survey<H: AllocGlobal, W: Write, E: Write>(
+    outside: &Outside<'_, H>,
     done: Result<Survey, DecodeFault>,
+    from: &str,
     output: &mut Counted<W>,
     errors: &mut Counted<E>,
 ) -> u8
@@ -315,15 +369,29 @@ fn report_survey<W: Write, E: Write>(
 {
     let survey = match done {
         Ok(survey) => survey,
-        Err(fault) => return report_fault(fault, errors),
+        Err(fault) => return report_unread(outside, fault, from, errors),
     };
-    if print_survey(alloc, &survey, output).is_err() {
+    if print_survey(outside.alloc(), &survey, output).is_err() {
         return report_fault(DecodeFault::Device, errors);
     }
     match survey.fault {
-        Some(fault) => report_fault(DecodeFault::File(fault), errors),
+        Some(fault) => report_unread(outside, DecodeFault::File(fault), from, errors),
         None => 0,
     }
+}
+
+// Prints the fault of a file that is not surveyed whole, and returns the exit status.
+fn report_unread<H, E: Write>(
+    outside: &Outside<'_, H>,
+    fault: DecodeFault,
+    from: &str,
+    errors: &mut Counted<E>,
+) -> u8
+    ensures { result ≡ 1 }
+{
+    let status = report_fault(fault, errors);
+    let _ = hint_decode(outside, fault, (from, "-"), errors);
+    status
 }
 
 // Prints the help, or the usage error.
@@ -362,14 +430,23 @@ fn report_usage_error<E: Write>(text: &str, errors: &mut Counted<E>) -> u8
 }
 
 // Prints the fault that prevented serving, and returns the exit status.
-fn report_serve<E: Write>(done: Result<bool, ServiceFault>, errors: &mut Counted<E>) -> u8
+fn report_serve<H, E: Write>(
+    outside: &Outside<'_, H>,
+    done: Result<bool, ServiceFault>,
+    service: &ServeArgs<'_>,
+    errors: &mut Counted<E>,
+) -> u8
     ensures status { result ≤ 1 }
     ensures by { result ≡ status_by_service done }
 {
     match done {
         Ok(true) => 0,
         Ok(false) => 1,
-        Err(fault) => report_fault(fault, errors),
+        Err(fault) => {
+            let status = report_fault(fault, errors);
+            let _ = hint_serve(outside, fault, service, errors);
+            status
+        }
     }
 }
 

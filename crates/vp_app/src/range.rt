@@ -1,24 +1,27 @@
 //! The command `vp8 decode` for a range of packets.
 
 ghost use Rattle.std.specs.Prelude.{◌≡◌, ◌≤◌, false};
-ghost use Rattle.vp_app.specs.Commands.{is_stream, read_side, status_by_range, written_side, DecodesRange};
+ghost use Rattle.vp_app.specs.Commands.{Side, is_stream, read_side, status_by_range, written_side, DecodesRange};
 ghost use Rattle.vp_app.specs.Commands.{DecodesRangeInto, IsFileRangeDecoded};
 
 use crate::files::file_fault;
+use crate::hints::hint_decode;
 use crate::listing::{print_faults, report_fault};
+use crate::outside::Outside;
 use std::alloc::Global;
-use std::fs;
+use std::fs::OpenFile;
 use std::io::{Read, Write};
 use std::rt::Files;
 use vp_args::DecodeRangeArgs;
 use vp_base::{Counted, Limits};
 use vp_frames::{PacketRange, RangeReport, decode_range};
+use vp_hints::{Overwrite, Witness, hint_packets};
 use vp_stream::{DecodeFault, Form};
 
 /// Opens the files, and decodes the pictures of the range. The output must not be the input file, because creating it
 /// would empty it.
 pub(crate) fn decode_packets<H: Files + AllocGlobal, R: Read, W: Write>(
-    rt: &H,
+    outside: &mut Outside<'_, H>,
     form: Form,
     wanted: &DecodeRangeArgs<'_>,
     input: &mut Counted<R>,
@@ -32,20 +35,25 @@ pub(crate) fn decode_packets<H: Files + AllocGlobal, R: Read, W: Write>(
     ensures unwritten { is_stream wanted.now.output.now ≡ false → output.new ≡ output.old }
 {
     if wanted.input == "-" {
-        return decode_into(rt, form, wanted, input, output);
+        return decode_into(outside, form, wanted, input, output);
     }
     if wanted.input == wanted.output {
+        outside.is_one_file = true;
         return Err(DecodeFault::Device);
     }
-    match fs::open(rt, wanted.input) {
-        Ok(file) => decode_into(rt, form, wanted, &mut Counted::new(file), output),
+    match outside.open(wanted.input) {
+        Ok(mut file) => {
+            let done = decode_into(outside, form, wanted, &mut Counted::new(&mut file), output);
+            outside.has_read(file);
+            done
+        }
         Err(error) => Err(file_fault(&error, DecodeFault::Device, DecodeFault::Memory)),
     }
 }
 
 #[tactic(auto, using(crate::proofs::CommandLemmas::range_into_stream, crate::proofs::CommandLemmas::range_into_file, crate::proofs::CommandLemmas::range_into_none))]
 fn decode_into<H: Files + AllocGlobal, R: Read, W: Write>(
-    rt: &H,
+    outside: &mut Outside<'_, H>,
     form: Form,
     wanted: &DecodeRangeArgs<'_>,
     input: &mut Counted<R>,
@@ -57,12 +65,34 @@ fn decode_into<H: Files + AllocGlobal, R: Read, W: Write>(
     ensures unwritten { is_stream wanted.now.output.now ≡ false → output.new ≡ output.old }
 {
     if wanted.output == "-" {
-        return decode_over(rt.alloc(), form, wanted, input, output);
+        return decode_over(outside.alloc(), form, wanted, input, output);
     }
-    match fs::create(rt, wanted.output) {
-        Ok(file) => decode_over(rt.alloc(), form, wanted, input, &mut Counted::new(file)),
+    match outside.make(wanted.output) {
+        Ok(mut file) => {
+            let done = decode_into_file(outside.alloc(), form, wanted, input, &mut file);
+            outside.has_written(&file);
+            done
+        }
         Err(error) => Err(file_fault(&error, DecodeFault::Device, DecodeFault::Memory)),
     }
+}
+
+// Decodes to a file. If there is no picture, the file is empty afterwards.
+fn decode_into_file<R: Read, F: OpenFile + Write>(
+    alloc: Global,
+    form: Form,
+    wanted: &DecodeRangeArgs<'_>,
+    input: &mut Counted<R>,
+    file: &mut Witness<Overwrite<F>>,
+) -> Result<RangeReport, DecodeFault>
+    ensures { (a : Side) × (b : Side) × IsFileRangeDecoded form wanted.now.first wanted.now.last result
+        (read_side R.remaining input.old) (read_side R.remaining input.new) a b }
+{
+    let done = decode_over(alloc, form, wanted, input, &mut Counted::new(&mut *file));
+    if done.is_ok() && file.finish().is_err() {
+        return Err(DecodeFault::Device);
+    }
+    done
 }
 
 fn decode_over<R: Read, W: Write>(
@@ -98,8 +128,8 @@ fn range_of(wanted: &DecodeRangeArgs<'_>) -> PacketRange
 }
 
 /// Prints the faults, or the first packet that is missing, and returns the exit status.
-pub(crate) fn report_packets<E: Write>(
-    alloc: Global,
+pub(crate) fn report_packets<H: AllocGlobal, E: Write>(
+    outside: &Outside<'_, H>,
     done: Result<RangeReport, DecodeFault>,
     wanted: &DecodeRangeArgs<'_>,
     errors: &mut Counted<E>,
@@ -109,9 +139,14 @@ pub(crate) fn report_packets<E: Write>(
 {
     let report = match done {
         Ok(report) => report,
-        Err(fault) => return report_fault(fault, errors),
+        Err(fault) => {
+            let status = report_fault(fault, errors);
+            let _ = hint_decode(outside, fault, (wanted.input, wanted.output), errors);
+            return status;
+        }
     };
-    let _ = print_faults(alloc, report.faults.as_slice(), errors);
+    let _ = print_faults(outside.alloc(), report.faults.as_slice(), errors);
+    let _ = hint_packets(report.faults.as_slice(), errors);
     if report.count <= wanted.last {
         print_missing(report.count, wanted, errors);
         return 1;

@@ -1,13 +1,16 @@
 //! The command `vp8 serve`: feeds files into a hub, and then serves connections, one after another.
 
-ghost use Rattle.std.specs.Prelude.{◌≡◌, ◌≢◌, ℕ, List, Option, Ok, Err, IfOk, IfErr, false};
+ghost use Rattle.std.specs.Prelude.{◌≡◌, ◌≢◌, ◌↔◌, ℕ, List, Option, Ok, Err, IfOk, IfErr, false};
 ghost use Rattle.std.specs.IoError.{error_kind};
 ghost use Rattle.std.specs.declared.io.ErrorKind.{ErrorKind};
 ghost use Rattle.std.specs.Io.KnownBytes.{Consumes};
 ghost use Rattle.vp_base.specs.Counted.{counted_remaining};
 ghost use Rattle.vp_hub.specs.declared.event.Event.{Event};
 ghost use Rattle.vp_hub.specs.declared.event.Reply.{Reply};
-ghost use Rattle.vp_hub.specs.Hub.{HubState, IsStep, Outcome};
+ghost use Rattle.vp_cache.specs.Cache.{empty};
+ghost use Rattle.vp_cache.specs.Cursors.{no_cursors};
+ghost use Rattle.vp_hub.specs.declared.names.NewFault.{NewFault};
+ghost use Rattle.vp_hub.specs.Hub.{HubState, IsStep, Outcome, new_hub_state, stream_limits};
 ghost use Rattle.vp_hub.specs.Names.{are_names};
 ghost use Rattle.vp_hub.specs.View.{is_memory as hub_is_memory};
 ghost use Rattle.vp_app.specs.declared.service.ServiceFault.{ServiceFault};
@@ -16,12 +19,14 @@ ghost use Rattle.vp_app.specs.Feeding.{FeedsPiece, IsFed};
 ghost use Rattle.vp_app.specs.Serving.{AreFilesFed, IsFileFed, IsNewHub, IsServed, IsServing, names_of};
 
 use crate::files::file_fault;
+use crate::hints::hint_odd_files;
+use crate::outside::Outside;
 use std::alloc::{AllocError, Global};
 use std::io::{Read, Write};
 use std::net::{Net, Shutdown, TcpListener, TcpStream};
 use std::rt::Files;
 use std::time::Duration;
-use std::{fmt, fs, io};
+use std::{fmt, io};
 use vp_args::{NamedFile, ServeArgs};
 use vp_base::{ByteList, Counted, Limits};
 use vp_hub::{Event, Hub, HubFault, NewFault, ServeFault, serve_one};
@@ -77,7 +82,7 @@ pub(crate) fn serve<
     W: Write,
     E: Write,
 >(
-    rt: &H,
+    outside: &mut Outside<'_, H>,
     service: &ServeArgs<'_>,
     input: &mut Counted<R>,
     output: &mut Counted<W>,
@@ -89,8 +94,8 @@ pub(crate) fn serve<
     // Nothing is printed unless the address is asked for.
     ensures quiet { service.now.show_address ≡ false → output.new ≡ output.old }
 {
-    match new_hub(rt.alloc(), service) {
-        Ok(mut hub) => serve_over(rt, &mut hub, service, input, output, errors),
+    match new_hub(outside.alloc(), service) {
+        Ok(mut hub) => serve_over(outside, &mut hub, service, input, output, errors),
         Err(fault) => Err(fault),
     }
 }
@@ -102,7 +107,7 @@ fn serve_over<
     W: Write,
     E: Write,
 >(
-    rt: &H,
+    outside: &mut Outside<'_, H>,
     hub: &mut Hub,
     service: &ServeArgs<'_>,
     input: &mut Counted<R>,
@@ -114,11 +119,12 @@ fn serve_over<
         × IsServing service.now.connections fed well) }
     ensures quiet { service.now.show_address ≡ false → output.new ≡ output.old }
 {
-    feed_all(rt, hub, &service.streams, input)?;
+    feed_each(outside, hub, &service.streams, input)?;
+    hint_odd_files(outside, service, errors);
     if service.connections == 0 {
         return Ok(true);
     }
-    let listener = listen(rt, service, output)?;
+    let listener = listen_on(outside, service, output)?;
     Ok(serve_each(hub, &listener, service.connections, errors))
 }
 
@@ -131,7 +137,19 @@ pub fn listen<H: AllocGlobal + Net<Stream = TcpStream, Listener = TcpListener>, 
     ensures quiet { service.now.show_address ≡ false → output.new ≡ output.old }
     ensures names { result ≢ Err ServiceFault.Names }
 {
-    let listener = TcpListener::bind(rt, service.listen)?;
+    listen_on(&mut Outside::new(rt), service, output)
+}
+
+// Listens on the address, and prints it if that is asked for. Remembers why the address is refused.
+fn listen_on<H: AllocGlobal + Net<Stream = TcpStream, Listener = TcpListener>, W: Write>(
+    outside: &mut Outside<'_, H>,
+    service: &ServeArgs<'_>,
+    output: &mut Counted<W>,
+) -> Result<TcpListener, ServiceFault>
+    ensures quiet { service.now.show_address ≡ false → output.new ≡ output.old }
+    ensures names { result ≢ Err ServiceFault.Names }
+{
+    let listener = outside.listen(service.listen)?;
     if service.show_address {
         print_address(&listener, output)?;
     }
@@ -147,22 +165,24 @@ pub(crate) fn print_address<W: Write>(
     output.flush()
 }
 
-/// Creates a hub for the streams, without bytes and without cursors.
+/// Creates a hub for the streams, without bytes and without cursors. It shows WebP files if that is asked for.
 pub fn new_hub(alloc: Global, service: &ServeArgs<'_>) -> Result<Hub, ServiceFault>
-    ensures hub { IfOk result (λ hub. IsNewHub service.now.streams.items service.now.cache 0 hub) }
+    ensures hub { IfOk result (λ hub. IsNewHub service.now.webp service.now.streams.items service.now.cache 0 hub) }
     ensures names { result ≡ Err ServiceFault.Names → are_names (names_of service.now.streams.items) ≡ false }
     ensures faults { (result ≢ Err ServiceFault.Device) × (result ≢ Err ServiceFault.ReadTurns) }
 {
     hub_with_cursors(alloc, service, 0)
 }
 
-/// Creates a hub for the streams, without bytes, that keeps up to this number of cursors.
+/// Creates a hub for the streams, without bytes, that keeps up to this number of cursors. It shows WebP files if that
+/// is asked for.
 pub(crate) fn hub_with_cursors(
     alloc: Global,
     service: &ServeArgs<'_>,
     cursors: u32,
 ) -> Result<Hub, ServiceFault>
-    ensures hub { IfOk result (λ hub. IsNewHub service.now.streams.items service.now.cache cursors hub) }
+    ensures hub { IfOk result (λ hub.
+        IsNewHub service.now.webp service.now.streams.items service.now.cache cursors hub) }
     ensures names { result ≡ Err ServiceFault.Names → are_names (names_of service.now.streams.items) ≡ false }
     ensures faults { (result ≢ Err ServiceFault.Device) × (result ≢ Err ServiceFault.ReadTurns) }
 {
@@ -178,10 +198,33 @@ pub(crate) fn hub_with_cursors(
     let Ok(names) = stream_names(alloc, &service.streams) else {
         return Err(ServiceFault::Memory);
     };
-    match Hub::with_cursors(alloc, names, limits, cursors) {
+    match hub_of(alloc, names, limits, cursors, service.webp) {
         Ok(hub) => Ok(hub),
         Err(NewFault::Names) => Err(ServiceFault::Names),
         Err(NewFault::Memory) => Err(ServiceFault::Memory),
+    }
+}
+
+// Creates a hub, which shows WebP files or not.
+fn hub_of(
+    alloc: Global,
+    names: Vec<ByteList>,
+    limits: Limits,
+    cursors: u32,
+    webp: bool,
+) -> Result<Hub, NewFault>
+    ensures names { (result ≡ Err NewFault.Names) ↔ (are_names names.items ≡ false) }
+    ensures hub { IfOk result (λ h. h ≡ record {
+      state = new_hub_state webp names.items limits;
+      cache = empty limits.cache;
+      cursors = no_cursors cursors (stream_limits limits);
+      work = 0;
+    }) }
+{
+    if webp {
+        Hub::with_stills(alloc, names, limits, cursors)
+    } else {
+        Hub::with_cursors(alloc, names, limits, cursors)
     }
 }
 
@@ -215,15 +258,30 @@ pub fn feed_all<H: Files + AllocGlobal, R: Read>(
         (counted_remaining R.remaining input.old) (counted_remaining R.remaining input.new)) }
     ensures names { result ≢ Err ServiceFault.Names }
 {
+    feed_each(&mut Outside::new(rt), hub, streams, input)
+}
+
+// Feeds each stream its file, and marks its end. Remembers which stream's file is refused.
+fn feed_each<H: Files + AllocGlobal, R: Read>(
+    outside: &mut Outside<'_, H>,
+    hub: &mut Hub,
+    streams: &[NamedFile<'_>],
+    input: &mut Counted<R>,
+) -> Result<(), ServiceFault>
+    ensures fed { IfOk result (λ _. AreFilesFed streams.now hub.old.state hub.new.state
+        (counted_remaining R.remaining input.old) (counted_remaining R.remaining input.new)) }
+    ensures names { result ≢ Err ServiceFault.Names }
+{
     for stream in streams {
-        feed_stream(rt, hub, stream, input)?;
+        feed_stream(outside, hub, stream, input)?;
+        outside.has_fed();
     }
     Ok(())
 }
 
 // Feeds the file of a stream, and marks its end.
 pub(crate) fn feed_stream<H: Files + AllocGlobal, R: Read>(
-    rt: &H,
+    outside: &mut Outside<'_, H>,
     hub: &mut Hub,
     stream: &NamedFile<'_>,
     input: &mut Counted<R>,
@@ -233,10 +291,17 @@ pub(crate) fn feed_stream<H: Files + AllocGlobal, R: Read>(
     ensures names { result ≢ Err ServiceFault.Names }
 {
     if stream.file == "-" {
-        return feed(rt.alloc(), hub, stream.name, input);
+        return feed(outside.alloc(), hub, stream.name, input);
     }
-    let file = fs::open(rt, stream.file)?;
-    feed(rt.alloc(), hub, stream.name, &mut Counted::new(file))
+    let mut file = outside.open(stream.file)?;
+    let fed = feed(
+        outside.alloc(),
+        hub,
+        stream.name,
+        &mut Counted::new(&mut file),
+    );
+    outside.has_read(file);
+    fed
 }
 
 fn feed<R: Read>(

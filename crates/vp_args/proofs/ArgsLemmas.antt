@@ -22,7 +22,7 @@ use Rattle.vp_args.specs.declared.words.Word.{Word}
 use Rattle.vp_args.specs.declared.args.Task.TheVariants.{Info, Nothing}
 use Rattle.vp_args.specs.declared.args.Refusal.{Refusal}
 use Rattle.vp_args.specs.declared.args.Refusal.TheVariants.{Words, Value}
-use Rattle.vp_args.specs.Args.{ParsedArgs, serves, tells, decode_app, encode_app, faults_of, info_app, picture_app, serve_app, vp8_app, Gains, IsFlag, IsForMemory, IsNoNaming, IsTaskFor, is_equals, is_parted, program, with_operand, with_rules, with_service, asks_many}
+use Rattle.vp_args.specs.Args.{ParsedArgs, serves, tells, check_app, decode_app, encode_app, faults_of, info_app, picture_app, serve_app, vp8_app, Gains, IsFlag, IsForMemory, IsNoNaming, IsTaskFor, is_equals, is_parted, program, with_operand, with_rules, with_service, asks_many}
 
 -- ---- the commands
 
@@ -66,7 +66,7 @@ gains_part many first old sub new parts i d lt e f local adds =
 
 -- the program of these subcommands
 pub all_met : (many : Bool) (a : App)
-    → a ≡ with_subcommand (with_subcommand (with_subcommand (with_subcommand (with_subcommand vp8_app decode_app.top) encode_app.top) info_app.top) picture_app.top) (serve_app many).top
+    → a ≡ with_subcommand (with_subcommand (with_subcommand (with_subcommand (with_subcommand (with_subcommand vp8_app decode_app.top) encode_app.top) info_app.top) check_app.top) picture_app.top) (serve_app many).top
     → a ≡ program many
 unfolding program
 all_met many a e = e

@@ -5,7 +5,7 @@ use Rattle.clap.specs.Walk.{Row, Text, first_of, one_of}
 use Rattle.clap.specs.Faults.{fault_of}
 use Rattle.clap.specs.Simple.{subcommand_of}
 use Rattle.clap.proofs.OnLiterals.{clap_on_literals}
-use Rattle.vp_args.specs.Args.{parsed_args, parsed_command, asks_many, decodes, decodes_range, faults_of, pictures, program, tells, IsOperand}
+use Rattle.vp_args.specs.Args.{parsed_args, parsed_command, asks_many, checks, decodes, decodes_range, faults_of, pictures, program, tells, IsOperand}
 
 info_taken_by : (many : Bool) (name input : Text) → IsOperand input → fault_of (program many) (name ∷ codes "info" ∷ input ∷ []) ≡ []
 unfolding program clap_on_literals
@@ -132,3 +132,57 @@ frame_asked name number input output n h k =
     let many = asks_many (frame_words name number input output) in
     let asked = frame_asked_by many name number input output n h k in
     (frame_rows many name number input output, asked.0, asked.1, asked.2, asked.3)
+
+-- ---- files to check
+
+abbrev check_two : Text → Text → Text → List Text
+check_two name first second = name ∷ codes "check" ∷ first ∷ second ∷ []
+
+two_taken_by : (many : Bool) (name first second : Text) → IsOperand first → IsOperand second → fault_of (program many) (check_two name first second) ≡ []
+unfolding program clap_on_literals
+two_taken_by many name first second h k = rw (h.separator, h.long, h.short, k.separator, k.long, k.short) refl
+
+pub two_taken : (name first second : Text) → IsOperand first → IsOperand second → faults_of (check_two name first second) ≡ []
+two_taken name first second h k = two_taken_by (asks_many (check_two name first second)) name first second h k
+
+abbrev two_rows : Bool → Text → Text → Text → List Row
+two_rows many name first second = rows_in (subcommand_of (program many) (check_two name first second))
+
+two_asked_by : (many : Bool) (name first second : Text) → IsOperand first → IsOperand second
+    → (parsed_command (subcommand_of (program many) (check_two name first second)) ≡ checks (two_rows many name first second) (first ∷ second ∷ []))
+    × (one_of (codes "verbose") (two_rows many name first second) ≡ Some (codes "false"))
+unfolding program clap_on_literals rows_in
+two_asked_by many name first second h k = rw (h.separator, h.long, h.short, k.separator, k.long, k.short) (refl, refl)
+
+pub two_asked : (name first second : Text) → IsOperand first → IsOperand second
+    → (rows : List Row) × (parsed_args (check_two name first second) ≡ checks rows (first ∷ second ∷ [])) × (one_of (codes "verbose") rows ≡ Some (codes "false"))
+two_asked name first second h k =
+    let many = asks_many (check_two name first second) in
+    let asked = two_asked_by many name first second h k in
+    (two_rows many name first second, asked.0, asked.1)
+
+abbrev check_told : Text → Text → List Text
+check_told name input = name ∷ codes "check" ∷ codes "--verbose" ∷ input ∷ []
+
+told_taken_by : (many : Bool) (name input : Text) → IsOperand input → fault_of (program many) (check_told name input) ≡ []
+unfolding program clap_on_literals
+told_taken_by many name input h = rw (h.separator, h.long, h.short) refl
+
+pub told_taken : (name input : Text) → IsOperand input → faults_of (check_told name input) ≡ []
+told_taken name input h = told_taken_by (asks_many (check_told name input)) name input h
+
+abbrev told_rows : Bool → Text → Text → List Row
+told_rows many name input = rows_in (subcommand_of (program many) (check_told name input))
+
+told_asked_by : (many : Bool) (name input : Text) → IsOperand input
+    → (parsed_command (subcommand_of (program many) (check_told name input)) ≡ checks (told_rows many name input) (input ∷ []))
+    × (one_of (codes "verbose") (told_rows many name input) ≡ Some (codes "true"))
+unfolding program clap_on_literals rows_in
+told_asked_by many name input h = rw (h.separator, h.long, h.short) (refl, refl)
+
+pub told_asked : (name input : Text) → IsOperand input
+    → (rows : List Row) × (parsed_args (check_told name input) ≡ checks rows (input ∷ [])) × (one_of (codes "verbose") rows ≡ Some (codes "true"))
+told_asked name input h =
+    let many = asks_many (check_told name input) in
+    let asked = told_asked_by many name input h in
+    (told_rows many name input, asked.0, asked.1)

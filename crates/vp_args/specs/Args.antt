@@ -8,13 +8,14 @@ use Rattle.std.specs.Str.Parse.{digits_value, IsNumeral}
 use Rattle.clap.specs.Lexer.{usize_max, long_of, short_of}
 use Rattle.clap.specs.Values.{kind_of}
 use Rattle.clap.specs.Kinds.{Kinds, HasKind, IsAmong}
-use Rattle.clap.specs.Walk.{Row, Rule, Text, all_of, first_of, one_of}
+use Rattle.clap.specs.Walk.{Row, Rule, Text, all_of, first_of, one_of, texts}
 use Rattle.clap.specs.Simple.{App, app_of, new_app, new_rule, on_top, subcommand_of, with_rule, with_subcommand}
 use Rattle.clap.specs.Faults.{fault_of}
 use Rattle.clap.specs.declared.builder.command.Command.{Command}
 use Rattle.clap.specs.declared.builder.command.Command.TheViews.{out-Command as fields_of}
 use Rattle.clap.specs.declared.builder.action.ArgAction.TheVariants.{Set, Append, SetTrue}
 use Rattle.clap.specs.declared.error.kind.ErrorKind.TheVariants.{DisplayHelp, DisplayVersion, OutOfMemory}
+use Rattle.vp_args.specs.declared.check_args.CheckArgs.{CheckArgs}
 use Rattle.vp_args.specs.declared.encode_args.EncodeOptions.{EncodeOptions}
 use Rattle.vp_scale.specs.declared.scale.Scale.{Scale}
 use Rattle.vp_scale.specs.Scale.{factor_of}
@@ -27,7 +28,7 @@ use Rattle.vp_args.specs.declared.serve_args.ServeManyArgs.{ServeManyArgs}
 use Rattle.vp_args.specs.declared.args.Task.{Task}
 use Rattle.vp_args.specs.declared.args.Refusal.{Refusal}
 use Rattle.vp_args.specs.declared.args.Refusal.TheVariants.{Words, Value}
-use Rattle.vp_args.specs.declared.args.Task.TheVariants.{Decode, DecodeRange, Encode, Info, Picture}
+use Rattle.vp_args.specs.declared.args.Task.TheVariants.{Check, Decode, DecodeRange, Encode, Info, Picture}
 use Rattle.vp_args.specs.declared.args.Task.TheVariants.{Serve, ServeMany, Nothing}
 
 -- ---- the commands
@@ -87,9 +88,9 @@ frame_rules =
     ∷ flag_rule (codes "subpel")
     ∷ setting_rule (codes "partitions") ∷ []
 
--- the progress flag and the files
+-- the flags for the work, and the files
 abbrev pub file_rules : List Rule
-file_rules = flag_rule (codes "progress") ∷ operand_rule (codes "IN") ∷ operand_rule (codes "OUT") ∷ []
+file_rules = flag_rule (codes "progress") ∷ flag_rule (codes "live") ∷ operand_rule (codes "IN") ∷ operand_rule (codes "OUT") ∷ []
 
 -- vp8 encode [options] IN OUT
 abbrev pub encode_app : App
@@ -98,6 +99,10 @@ encode_app = with_rules (with_rules (with_rules (new_app (codes "encode")) macro
 -- vp8 info IN
 abbrev pub info_app : App
 info_app = with_rules (new_app (codes "info")) (operand_rule (codes "IN") ∷ [])
+
+-- vp8 check [--verbose] IN..
+abbrev pub check_app : App
+check_app = with_rules (new_app (codes "check")) (flag_rule (codes "verbose") ∷ operands_rule (codes "IN") ∷ [])
 
 -- vp8 picture [--packet N] [--scale K] [--qi Q] IN OUT
 abbrev pub picture_app : App
@@ -152,9 +157,9 @@ vp8_app = on_top (λ s. record s { has_version = true; disable_help_subcommand =
 
 -- the program's command with its subcommands
 unfoldable pub program : Bool → App
-program many = with_subcommand (with_subcommand (with_subcommand
-    (with_subcommand (with_subcommand vp8_app decode_app.top) encode_app.top) info_app.top) picture_app.top)
-    (serve_app many).top
+program many = with_subcommand (with_subcommand (with_subcommand (with_subcommand
+    (with_subcommand (with_subcommand vp8_app decode_app.top) encode_app.top) info_app.top) check_app.top)
+    picture_app.top) (serve_app many).top
 
 -- the byte after the name of an option, and after the name of a stream
 abbrev pub is_equals : ℕ → Bool
@@ -190,6 +195,8 @@ pub data ParsedArgs : Type 0 where
   -- the options, and the two files
   encodes : List Row → Text → Text → ParsedArgs
   tells : Text → ParsedArgs
+  -- the options, and the files
+  checks : List Row → List Text → ParsedArgs
   -- the options, and the two files
   pictures : List Row → Text → Text → ParsedArgs
   -- the options, the address, the number of connections, and the operands
@@ -212,6 +219,11 @@ decoding_of rows _ _ = decodes_range rows
 abbrev pub with_operand : (Text → ParsedArgs) → Option Text → ParsedArgs
 with_operand ask (Some input) = ask input
 with_operand ask None = nothing
+
+-- the task of `check`, if there are files
+abbrev pub with_files : List Row → Option (List Text) → ParsedArgs
+with_files rows (Some files) = checks rows files
+with_files rows None = nothing
 
 -- the task, if the required options and the operands are present
 abbrev pub with_service : List Row → Option Text → Option Text → Option (List Text) → ParsedArgs
@@ -247,11 +259,12 @@ asked_at name rows =
     else (if bytes_eq name (codes "encode") then with_operands (encodes rows) (first_of (codes "IN") rows)
     (first_of (codes "OUT") rows)
     else (if bytes_eq name (codes "info") then with_operand tells (first_of (codes "IN") rows)
+    else (if bytes_eq name (codes "check") then with_files rows (all_of (codes "IN") rows)
     else (if bytes_eq name (codes "picture") then with_operands (pictures rows) (first_of (codes "IN") rows)
     (first_of (codes "OUT") rows)
     else (if bytes_eq name (codes "serve")
     then service_of rows (first_of (codes "max-connections") rows)
-    else nothing))))
+    else nothing)))))
 
 -- the task, given a subcommand, if there is one
 abbrev pub parsed_command : Option (Text × List Row) → ParsedArgs
@@ -336,6 +349,11 @@ pub record IsPictureFor (rows : List Row) (from to : Text) (p : PictureArgs) : T
   pub input_is : p.input.now ≡ from
   pub output_is : p.output.now ≡ to
 
+-- the arguments of `check`
+pub record IsCheckFor (rows : List Row) (files : List Text) (c : CheckArgs) : Type 0 where
+  pub verbose_is : IsFlag (one_of (codes "verbose") rows) c.verbose
+  pub files_are : texts c.files.items ≡ files
+
 -- the name and the file in an operand of `serve`, split at its first `=`
 abbrev pub parted : Text → Text × Text
 parted operand = (before_first is_equals operand, after_first is_equals operand)
@@ -389,9 +407,10 @@ IsTaskFor (decodes_range rows from to) (DecodeRange d) =
     × AreWanted (first_of (codes "frame") rows) (first_of (codes "frames") rows) d.first d.last × (d.input.now ≡ from)
     × (d.output.now ≡ to)
 IsTaskFor (encodes rows from to) (Encode e) =
-    AreSettings rows e.options × IsFlag (one_of (codes "progress") rows) e.progress × (e.input.now ≡ from)
-    × (e.output.now ≡ to)
+    AreSettings rows e.options × IsFlag (one_of (codes "progress") rows) e.progress
+    × IsFlag (one_of (codes "live") rows) e.live × (e.input.now ≡ from) × (e.output.now ≡ to)
 IsTaskFor (tells from) (Info input) = input.now ≡ from
+IsTaskFor (checks rows files) (Check c) = IsCheckFor rows files c
 IsTaskFor (pictures rows from to) (Picture p) = IsPictureFor rows from to p
 IsTaskFor (serves rows address connections operands) (Serve s) = IsServiceFor rows address connections operands s
 IsTaskFor (serves_many rows address operands) (ServeMany s) = IsServiceOfMany rows address operands s

@@ -9,6 +9,7 @@ ghost use Rattle.vp_args.specs.Args.{asked_at, asks_many, encodes, faults_of, pa
 ghost use Rattle.vp_args.specs.Args.{serves, turns_of, AreNamed, AreNoSettings, AreSettings, IsFlag, IsNoNaming};
 ghost use Rattle.vp_args.specs.Args.{IsNoPlanFor, IsOfValue, IsRefusalFor, IsTaskFor};
 
+use crate::check_args::{CheckArgs, check_task};
 use crate::decode_args::DecodeRangeArgs;
 use crate::encode_args::{EncodeArgs, EncodeOptions};
 use crate::many_args::{asks_many, serve_many_task};
@@ -38,6 +39,8 @@ pub enum Task<'a> {
     Info {
         input: &'a str,
     },
+    /// Check files for damage.
+    Check(CheckArgs<'a>),
     /// Write the picture of a packet to a file.
     Picture(PictureArgs<'a>),
     /// Serve streams over HTTP.
@@ -105,6 +108,7 @@ fn read_matches<'a>(alloc: Global, matches: &ArgMatches<'a>) -> Result<Task<'a>,
         Some(("decode", found)) => decode_task(found),
         Some(("encode", found)) => encode_task(found),
         Some(("info", found)) => Ok(info_task(found)),
+        Some(("check", found)) => check_task(alloc, found),
         Some(("picture", found)) => picture_task(found),
         Some(("serve", found)) => serve_task(alloc, found),
         _ => Ok(Task::Nothing),
@@ -154,6 +158,7 @@ fn encode_task_args<'a>(
     Ok(Task::Encode(EncodeArgs {
         options: encode_options(found)?,
         progress: is_set(found, "progress"),
+        live: is_set(found, "live"),
         input,
         output,
     }))

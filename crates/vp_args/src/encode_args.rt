@@ -30,6 +30,8 @@ pub struct EncodeArgs<'a> {
     pub options: EncodeOptions,
     /// Whether progress is reported.
     pub progress: bool,
+    /// Whether each packet is written as soon as its picture is read.
+    pub live: bool,
     /// The file of pictures.
     pub input: &'a str,
     /// The file of packets.

@@ -2,7 +2,8 @@
 
 ghost use Rattle.std.specs.Prelude.{◌≡◌, [], ◌∷◌, List, None, Some, codes};
 ghost use Rattle.clap.specs.Walk.{Row, Text, first_of, one_of};
-ghost use Rattle.vp_args.specs.Args.{parsed_args, decodes, decodes_range, faults_of, pictures, tells, IsOperand};
+ghost use Rattle.vp_args.specs.Args.{parsed_args, checks, decodes, decodes_range, faults_of, pictures, tells};
+ghost use Rattle.vp_args.specs.Args.{IsOperand};
 
 /// `vp8 decode IN OUT` and `vp8 decode --y4m IN OUT` ask for exactly that.
 pub fn decode_words()
@@ -33,6 +34,20 @@ pub fn picture_words()
         × (parsed_args (name ∷ codes "picture" ∷ input ∷ output ∷ []) ≡ pictures rows input output)
         × (first_of (codes "packet") rows ≡ None) × (first_of (codes "scale") rows ≡ None)
         × (first_of (codes "qi") rows ≡ None)) }
+{}
+
+/// `vp8 check A B` and `vp8 check --verbose A` ask to check these files.
+pub fn check_words()
+    ensures files { (name first second : Text) → IsOperand first → IsOperand second
+        → (faults_of (name ∷ codes "check" ∷ first ∷ second ∷ []) ≡ [])
+        × ((rows : List Row)
+        × (parsed_args (name ∷ codes "check" ∷ first ∷ second ∷ []) ≡ checks rows (first ∷ second ∷ []))
+        × (one_of (codes "verbose") rows ≡ Some (codes "false"))) }
+    ensures verbose { (name input : Text) → IsOperand input
+        → (faults_of (name ∷ codes "check" ∷ codes "--verbose" ∷ input ∷ []) ≡ [])
+        × ((rows : List Row)
+        × (parsed_args (name ∷ codes "check" ∷ codes "--verbose" ∷ input ∷ []) ≡ checks rows (input ∷ []))
+        × (one_of (codes "verbose") rows ≡ Some (codes "true"))) }
 {}
 
 /// `vp8 info IN` asks for exactly that.

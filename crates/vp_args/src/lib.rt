@@ -2,6 +2,7 @@
 #![tactic(auto)]
 
 mod args;
+mod check_args;
 mod decode_args;
 mod encode_args;
 mod laws;
@@ -14,8 +15,9 @@ mod serve_args;
 mod words;
 
 pub use args::{Refusal, Task, read_args};
+pub use check_args::CheckArgs;
 pub use decode_args::DecodeRangeArgs;
 pub use encode_args::{EncodeArgs, EncodeOptions};
-pub use laws::{decode_words, frame_words, info_words, picture_words};
+pub use laws::{check_words, decode_words, frame_words, info_words, picture_words};
 pub use picture_args::{PictureArgs, StillForm};
 pub use serve_args::{NamedFile, ServeArgs, ServeManyArgs};

@@ -49,7 +49,7 @@ pub(crate) struct Part {
 }
 
 /// The program's subcommands.
-const PARTS: [Part; 5] = [
+const PARTS: [Part; 6] = [
     Part {
         name: "decode",
         about: "Decodes an IVF file and writes each shown picture, one after another",
@@ -64,6 +64,11 @@ const PARTS: [Part; 5] = [
         name: "info",
         about: "Lists an IVF file: size, rate, and for each packet its bytes and Shown, Hidden or its fault",
         words: &INFO_WORDS,
+    },
+    Part {
+        name: "check",
+        about: "Decodes IVF files, and counts faults and packets that are read past their end (status 1)",
+        words: &CHECK_WORDS,
     },
     Part {
         name: "picture",
@@ -110,7 +115,7 @@ const DECODE_WORDS: [Word; 5] = [
     },
 ];
 
-const ENCODE_WORDS: [Word; 12] = [
+const ENCODE_WORDS: [Word; 13] = [
     Word {
         name: "qi",
         form: Form::Setting("Q"),
@@ -172,6 +177,12 @@ const ENCODE_WORDS: [Word; 12] = [
         help: "Prints the number of encoded frames on standard error after every tenth frame",
     },
     Word {
+        name: "live",
+        form: Form::Flag,
+        need: Need::Never,
+        help: "Writes each packet as soon as its picture is read; a source that breaks off leaves what was encoded",
+    },
+    Word {
         name: "IN",
         form: Form::Operand,
         need: Need::Always,
@@ -191,6 +202,21 @@ const INFO_WORDS: [Word; 1] = [Word {
     need: Need::Always,
     help: "The IVF file, or - for standard input",
 }];
+
+const CHECK_WORDS: [Word; 2] = [
+    Word {
+        name: "verbose",
+        form: Form::Flag,
+        need: Need::Never,
+        help: "Prints a line for each packet that has a fault or is read past its end",
+    },
+    Word {
+        name: "IN",
+        form: Form::Operands,
+        need: Need::Always,
+        help: "The IVF files, or - for standard input",
+    },
+];
 
 const PICTURE_WORDS: [Word; 5] = [
     Word {
@@ -369,10 +395,7 @@ fn argument<'a>(alloc: Global, many: bool, word: &Word) -> Arg<'a>
         .required(is_required(many, &word.need));
     match word.form {
         Form::Flag => arg.long(word.name).action(ArgAction::SetTrue),
-        Form::Setting(value) => arg
-            .long(word.name)
-            .value_name(value)
-            .action(ArgAction::Set),
+        Form::Setting(value) => arg.long(word.name).value_name(value).action(ArgAction::Set),
         Form::Operand => arg.action(ArgAction::Set),
         Form::Operands => arg.num_args(1..).action(ArgAction::Append),
     }

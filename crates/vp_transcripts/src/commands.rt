@@ -1,12 +1,12 @@
 //! The transcript commands for the command line. `vp8 WORD.. [< NAME] [> NAME] [2> NAME]` runs the program over named
 //! bytes. It prints the exit status, the number of unread input bytes, and the output and errors that aren't redirected
-//! to a name. `limited WORD.. < NAME` encodes a source with arguments of `encode`, under the limits that `limits PIXELS
-//! BYTES PACKETS CACHE` sets. `plan WORD..` prints the task of `encode` or `serve` arguments, `read PATH` the contents
-//! of a file, `show TEXT` the bytes of a text, and `sum TEXT` their MD5.
+//! to a name; the hints under faults are left out. `limited WORD.. < NAME` encodes a source with arguments of `encode`,
+//! under the limits that `limits PIXELS BYTES PACKETS CACHE` sets. `plan WORD..` prints the task of `encode` or `serve`
+//! arguments, `read PATH` the contents of a file, `show TEXT` the bytes of a text, and `sum TEXT` their MD5.
 
 use crate::text::{Names, limits, malformed};
 use crate::transcript::{Found, Script};
-use std::alloc::Global;
+use std::alloc::{AllocError, Global};
 use std::{fs, io};
 use vp_app::{command, settings_of};
 use vp_args::{EncodeOptions, ServeArgs, Task, read_args};
@@ -66,6 +66,17 @@ fn run_over(rt: &HostRuntime, words: &[&str], input: &[u8]) -> Done {
     }
 }
 
+/// Returns the lines about faults without the hints under them, which begin with two spaces; other texts as they are.
+fn without_hints(alloc: Global, errors: &[u8]) -> Result<Vec<u8>, AllocError> {
+    let mut lines = Vec::new(alloc);
+    for line in errors.split_inclusive(|byte| *byte == b'\n') {
+        if !errors.starts_with(b"vp8: ") || !line.starts_with(b"  ") {
+            lines.extend_from_slice(line)?;
+        }
+    }
+    Ok(lines)
+}
+
 /// Returns the bytes of a name; none without a name.
 fn input_of<'a>(names: &'a Names, name: Option<&str>) -> io::Result<&'a [u8]> {
     match name {
@@ -118,7 +129,8 @@ impl Commands {
         found.line(format!(in self.alloc; "status {}", done.status)?)?;
         found.count_if_any("left", done.left as u64)?;
         tell("output", &done.output, output, names, found)?;
-        tell("errors", &done.errors, errors, names, found)
+        let lines = without_hints(self.alloc, &done.errors)?;
+        tell("errors", &lines, errors, names, found)
     }
 }
 

@@ -20,10 +20,10 @@ returns-then-eq-2-clause-decoded g c =
 pub returns-in-Ok-clause-decoded : goal.returns-in-Ok-clause-decoded
 returns-in-Ok-clause-decoded g c =
     let named : is_stream c.args.wanted.now.input.now ≡ false = search rules in
-    range_file c.args.form c.args.wanted.now.first c.args.wanted.now.last c.args.wanted.now.input.now c.args.wanted.now.output.now c.decode_into-in-Ok.result
+    range_file c.args.form c.args.wanted.now.first c.args.wanted.now.last c.args.wanted.now.input.now c.args.wanted.now.output.now c.decode_into-done.result
     (read_side g.R.Read.remaining c.args.input.now) _ _
-    (written_side g.W.Write.contents c.args.output.now) (written_side g.W.Write.contents c.decode_into-in-Ok.new.output)
-    named c.decode_into-in-Ok.ensures.decoded
+    (written_side g.W.Write.contents c.args.output.now) (written_side g.W.Write.contents c.decode_into-done.new.output)
+    named c.decode_into-done.ensures.decoded
 
 pub returns-in-Err-clause-decoded : goal.returns-in-Err-clause-decoded
 returns-in-Err-clause-decoded g c =

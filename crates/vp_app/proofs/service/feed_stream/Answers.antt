@@ -12,4 +12,4 @@ returns-then-eq-clause-fed g c =
 pub returns-clause-fed : goal.returns-clause-fed
 returns-clause-fed g c =
     let is : bytes_eq c.args.stream.now.file.now (codes "-") ≡ false = search rules in
-    from_file c.args.stream.now c.args.hub.now.state _ _ _ _ c.feed-2.result is c.feed-2.ensures.fed
+    from_file c.args.stream.now c.args.hub.now.state _ _ _ _ c.feed-fed.result is c.feed-fed.ensures.fed

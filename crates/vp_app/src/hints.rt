@@ -1,0 +1,293 @@
+//! The line under a command's fault, indented by two spaces: the file or address in the user's words, why, what to do.
+
+use crate::outside::Outside;
+use crate::picture_fault::PictureFault;
+use crate::service::ServiceFault;
+use std::io;
+use std::io::Write;
+use vp_args::{EncodeArgs, EncodeOptions, NamedFile, PictureArgs, ServeArgs};
+use vp_encode::EncodeAllFault;
+use vp_hints::{
+    Cause, FileKind, Printable, hint_file, hint_not_y4m, hint_stream_file, hint_y4m_colour,
+};
+use vp_ivf::FileFault;
+use vp_still::FindFault;
+use vp_stream::DecodeFault;
+use vp_webp::WebPFault;
+
+// The name of standard input in words.
+const STANDARD_INPUT: &str = "standard input";
+
+/// Prints why a file was not decoded, and what to do.
+pub(crate) fn hint_decode<H, W: Write>(
+    outside: &Outside<'_, H>,
+    fault: DecodeFault,
+    (from, to): (&str, &str),
+    output: &mut W,
+) -> io::Result<()> {
+    let file = input_name(from);
+    match fault {
+        DecodeFault::File(fault) if from == "-" => hint_stream_file(fault, file, output),
+        DecodeFault::File(fault) => hint_file(fault, from, &outside.input, output),
+        DecodeFault::SizeChange => writeln!(
+            output,
+            "  {file}: its pictures change in size, which YUV4MPEG2 can't hold. Try: without --y4m"
+        ),
+        DecodeFault::Device => hint_device(outside, from, to, output),
+        DecodeFault::ReadTurns => writeln!(
+            output,
+            "  {file} did not end within 4,294,967,295 reads"
+        ),
+        DecodeFault::Memory => writeln!(output, "  out of memory"),
+    }
+}
+
+// The name of an input in words.
+fn input_name(from: &str) -> Printable<'_> {
+    if from == "-" {
+        Printable(STANDARD_INPUT)
+    } else {
+        Printable(from)
+    }
+}
+
+// Prints which file can't be read or written, and why. Of standard input and output nothing is known here.
+fn hint_device<H, W: Write>(
+    outside: &Outside<'_, H>,
+    from: &str,
+    to: &str,
+    output: &mut W,
+) -> io::Result<()> {
+    if outside.is_one_file {
+        return writeln!(output, "  in and out are one file");
+    }
+    match (outside.refused, outside.unwritten) {
+        (Some(error), _) => hint_refused(from, error, output),
+        (None, Some(error)) => hint_refused(to, error, output),
+        (None, None) => Ok(()),
+    }
+}
+
+// Prints why the system refuses a file. A reader that closes its pipe is no mistake.
+fn hint_refused<W: Write>(name: &str, error: io::Error, output: &mut W) -> io::Result<()> {
+    if error.kind() == io::ErrorKind::BrokenPipe {
+        return Ok(());
+    }
+    let (name, cause) = (Printable(name), Cause(error));
+    writeln!(output, "  {name}: {cause}")
+}
+
+/// Prints why a file was not encoded, and what to do.
+pub(crate) fn hint_encode<H, W: Write>(
+    outside: &Outside<'_, H>,
+    fault: EncodeAllFault,
+    encoding: &EncodeArgs<'_>,
+    output: &mut W,
+) -> io::Result<()> {
+    let (from, to) = (encoding.input, encoding.output);
+    let file = input_name(from);
+    match fault {
+        EncodeAllFault::Magic => hint_not_y4m(file, &outside.input, to, output),
+        EncodeAllFault::Torn => hint_torn(outside, file, to, output),
+        EncodeAllFault::Colour => hint_y4m_colour(file, &outside.input, output),
+        EncodeAllFault::Settings => hint_settings(&encoding.options, output),
+        EncodeAllFault::Device => hint_device(outside, from, to, output),
+        EncodeAllFault::Memory => writeln!(output, "  out of memory"),
+        _ => {
+            let words = words_of(fault);
+            writeln!(output, "  {file}{words}")
+        }
+    }
+}
+
+/// Prints why no picture was written, and what to do.
+pub(crate) fn hint_picture<H, W: Write>(
+    outside: &Outside<'_, H>,
+    fault: PictureFault,
+    wanted: &PictureArgs<'_>,
+    output: &mut W,
+) -> io::Result<()> {
+    let file = input_name(wanted.input);
+    match fault {
+        PictureFault::Find(fault) => hint_find(outside, fault, wanted.input, output),
+        PictureFault::TooLong => writeln!(
+            output,
+            "  {file}: a part of the picture's key frame is too long. Try: a greater --qi"
+        ),
+        PictureFault::Device => hint_device(outside, wanted.input, wanted.output, output),
+        PictureFault::ReadTurns => writeln!(
+            output,
+            "  {file} did not end within 4,294,967,295 reads"
+        ),
+        PictureFault::Memory => writeln!(output, "  out of memory"),
+    }
+}
+
+// Prints why a file gives no picture, and what to do.
+fn hint_find<H, W: Write>(
+    outside: &Outside<'_, H>,
+    fault: FindFault,
+    from: &str,
+    output: &mut W,
+) -> io::Result<()> {
+    let file = input_name(from);
+    match fault {
+        FindFault::File(fault) if from == "-" => hint_stream_file(fault, file, output),
+        FindFault::File(fault) => hint_file(fault, from, &outside.input, output),
+        FindFault::WebP(fault) => {
+            let words = webp_words(fault);
+            writeln!(output, "  {file}: {words}")
+        }
+        FindFault::Packet(_) => writeln!(
+            output,
+            "  {file}: the packet can't be decoded. Try: another --packet (vp8 info {file})"
+        ),
+        FindFault::Hidden => writeln!(
+            output,
+            "  {file}: the packet shows no picture. Try: another --packet (vp8 info {file})"
+        ),
+        FindFault::NoPacket(_) => writeln!(output, "  {file}: packets are counted from 0"),
+        FindFault::NoPicture(_) => writeln!(output, "  {file}: no packet shows a picture"),
+        FindFault::Memory => writeln!(output, "  out of memory"),
+    }
+}
+
+// What is wrong with a WebP file.
+fn webp_words(fault: WebPFault) -> &'static str {
+    match fault {
+        WebPFault::Signature => "not a WebP file",
+        WebPFault::Torn => "ends inside a chunk",
+        WebPFault::Lossless => "lossless WebP; only lossy WebP is read. Try: dwebp or ffmpeg",
+        WebPFault::Animated =>
+            "animated WebP; only still pictures are read. Try: webpmux -get frame 1",
+        WebPFault::NoPicture => "has no picture",
+        WebPFault::NotKey => "its picture is no VP8 key frame",
+        WebPFault::Hidden => "its picture is a hidden frame",
+    }
+}
+
+// Prints where a file of pictures ends, or what it is if it holds no pictures.
+fn hint_torn<H, W: Write>(
+    outside: &Outside<'_, H>,
+    file: Printable<'_>,
+    to: &str,
+    output: &mut W,
+) -> io::Result<()> {
+    match outside.input.kind() {
+        FileKind::Y4m => writeln!(
+            output,
+            "  {file} ends inside its first line, a frame's line or a picture"
+        ),
+        FileKind::Empty if file.0 == STANDARD_INPUT => writeln!(
+            output,
+            "  {file} ends inside its first line, a frame's line or a picture"
+        ),
+        FileKind::Empty => writeln!(output, "  {file} is empty"),
+        _ => hint_not_y4m(file, &outside.input, to, output),
+    }
+}
+
+// Returns what is wrong with a file of pictures.
+fn words_of(fault: EncodeAllFault) -> &'static str {
+    match fault {
+        EncodeAllFault::Size => {
+            ": no width and height, a side over 16,383, or over 16,777,216 pixels"
+        }
+        EncodeAllFault::Interlaced => ": interlaced; only progressive pictures are read",
+        EncodeAllFault::TooMany => ": over 1,048,576 pictures",
+        EncodeAllFault::TooLong => {
+            ": a picture's modes and vectors need over 524,287 bytes. Try: a greater --qi"
+        }
+        EncodeAllFault::PacketTooLarge => {
+            ": a picture needs over 16,777,216 bytes. Try: a greater --qi"
+        }
+        _ => "",
+    }
+}
+
+// Prints the first option that is out of its range.
+fn hint_settings<W: Write>(options: &EncodeOptions, output: &mut W) -> io::Result<()> {
+    let (qi, level, sharpness) = (options.qi, options.level, options.sharpness);
+    let (key_every, range, partitions) = (options.key_every, options.range, options.partitions);
+    if qi > 127 {
+        writeln!(output, "  --qi {qi}: 0 to 127")
+    } else if level > 63 {
+        writeln!(output, "  --filter {level}: 0 to 63")
+    } else if sharpness > 7 {
+        writeln!(output, "  --sharpness {sharpness}: 0 to 7")
+    } else if key_every == 0 {
+        writeln!(output, "  --key-every {key_every}: at least 1")
+    } else if range > 64 {
+        writeln!(output, "  --range {range}: 0 to 64")
+    } else {
+        writeln!(output, "  --partitions {partitions}: 1, 2, 4 or 8")
+    }
+}
+
+/// Prints why nothing is served, and what to do.
+pub(crate) fn hint_serve<H, W: Write>(
+    outside: &Outside<'_, H>,
+    fault: ServiceFault,
+    service: &ServeArgs<'_>,
+    output: &mut W,
+) -> io::Result<()> {
+    match fault {
+        ServiceFault::Names => writeln!(
+            output,
+            "  give 1 to 16 streams, each with a name of its own of 1 to 32 of the characters a-z, 0-9, - and _"
+        ),
+        ServiceFault::Device => hint_service_device(outside, service, output),
+        ServiceFault::ReadTurns => writeln!(
+            output,
+            "  a file did not end within 4,294,967,295 reads"
+        ),
+        ServiceFault::Memory => writeln!(output, "  out of memory"),
+    }
+}
+
+// Prints which file or address is refused, and why.
+fn hint_service_device<H, W: Write>(
+    outside: &Outside<'_, H>,
+    service: &ServeArgs<'_>,
+    output: &mut W,
+) -> io::Result<()> {
+    let Some(error) = outside.refused else {
+        return Ok(());
+    };
+    match service.streams.get(outside.fed_files()) {
+        Some(stream) => hint_stream(stream, error, output),
+        None => hint_address(service.listen, error, output),
+    }
+}
+
+// Prints why the file of a stream is refused.
+fn hint_stream<W: Write>(
+    stream: &NamedFile<'_>,
+    error: io::Error,
+    output: &mut W,
+) -> io::Result<()> {
+    let (name, file, cause) = (Printable(stream.name), Printable(stream.file), Cause(error));
+    writeln!(output, "  {name}: {file}: {cause}")
+}
+
+// Prints why an address is refused.
+fn hint_address<W: Write>(address: &str, error: io::Error, output: &mut W) -> io::Result<()> {
+    let (address, cause) = (Printable(address), Cause(error));
+    writeln!(output, "  {address}: {cause}")
+}
+
+/// Prints which of the files that were fed are not IVF files of VP8.
+pub(crate) fn hint_odd_files<H, W: Write>(
+    outside: &Outside<'_, H>,
+    service: &ServeArgs<'_>,
+    output: &mut W,
+) {
+    for (place, stream) in service.streams.iter().enumerate() {
+        let (name, file) = (Printable(stream.name), input_name(stream.file));
+        let _ = match outside.oddity(place) {
+            Some(FileFault::Codec) => writeln!(output, "  {name}: {file}: not VP8"),
+            Some(_) => writeln!(output, "  {name}: {file}: not an IVF file"),
+            None => Ok(()),
+        };
+    }
+}

@@ -1,0 +1,151 @@
+//! The system that a command works on, and what it met there: the facts for the hints under its faults.
+
+use std::alloc::Global;
+use std::fs::{Metadata, OpenFile};
+use std::net::{Net, TcpListener, TcpStream};
+use std::os::unix::fs::MetadataExt;
+use std::rt::Files;
+use std::{fs, io};
+use vp_hints::{Overwrite, Seen, Witness, head_fault, open_to_overwrite};
+use vp_ivf::FileFault;
+
+// The greatest number of streams that are served.
+const MOST_STREAMS: usize = 16;
+
+/// The system that a command works on, and what it met there.
+#[derive(Drop)]
+pub(crate) struct Outside<'a, H> {
+    system: &'a H,
+    /// What was seen of the input file.
+    pub(crate) input: Seen,
+    /// Why the input file can't be opened or read, or the address not be listened on.
+    pub(crate) refused: Option<io::Error>,
+    /// Why the output file can't be made or written.
+    pub(crate) unwritten: Option<io::Error>,
+    /// Whether the input and the output are one file.
+    pub(crate) is_one_file: bool,
+    identity: Option<(u64, u64)>,
+    fed: usize,
+    oddities: [Option<FileFault>; MOST_STREAMS],
+}
+
+impl<'a, H> Outside<'a, H> {
+    /// Nothing was met yet.
+    pub(crate) fn new(system: &'a H) -> Outside<'a, H> {
+        Outside {
+            system,
+            input: Seen::new(),
+            refused: None,
+            unwritten: None,
+            is_one_file: false,
+            identity: None,
+            fed: 0,
+            oddities: [None; MOST_STREAMS],
+        }
+    }
+
+    /// The system.
+    pub(crate) fn system(&self) -> &'a H {
+        self.system
+    }
+
+    /// Remembers what was read, and closes the file.
+    pub(crate) fn has_read<F: Drop>(&mut self, file: Witness<F>) {
+        self.refused = file.error();
+        let (_, seen) = file.into_parts();
+        self.input = seen;
+    }
+
+    /// Remembers why a file was not written.
+    pub(crate) fn has_written<F>(&mut self, file: &Witness<F>) {
+        self.unwritten = file.error();
+    }
+}
+
+impl<H> Outside<'_, H> {
+    /// Remembers what was odd about the file of the next stream.
+    pub(crate) fn has_fed(&mut self) {
+        if self.fed < MOST_STREAMS {
+            self.oddities[self.fed] = head_fault(self.input.head());
+            self.fed += 1;
+        }
+        self.input = Seen::new();
+    }
+
+    /// The number of streams whose files were fed.
+    pub(crate) fn fed_files(&self) -> usize {
+        self.fed
+    }
+
+    /// What was odd about the file of the stream at a place.
+    pub(crate) fn oddity(&self, place: usize) -> Option<FileFault> {
+        match self.oddities.get(place) {
+            Some(oddity) => *oddity,
+            None => None,
+        }
+    }
+}
+
+impl<H: Net<Stream = TcpStream, Listener = TcpListener>> Outside<'_, H> {
+    /// Listens on an address.
+    pub(crate) fn listen(&mut self, address: &str) -> io::Result<TcpListener> {
+        let bound = TcpListener::bind(self.system, address);
+        if let Err(error) = &bound {
+            self.refused = Some(*error);
+        }
+        bound
+    }
+}
+
+impl<H: AllocGlobal> Outside<'_, H> {
+    /// The allocator.
+    pub(crate) fn alloc(&self) -> Global {
+        self.system.alloc()
+    }
+}
+
+impl<H: Files> Outside<'_, H> {
+    /// Opens an input file.
+    pub(crate) fn open(&mut self, name: &str) -> io::Result<Witness<H::File>> {
+        match fs::open(self.system, name) {
+            Ok(file) => {
+                self.identity = identity_of(file.metadata());
+                Ok(Witness::new(file))
+            }
+            Err(error) => {
+                self.refused = Some(error);
+                Err(error)
+            }
+        }
+    }
+
+    /// Makes an output file. What an old file holds stays until the first byte is written, or until the file is
+    /// finished. The input file is refused.
+    pub(crate) fn make(&mut self, name: &str) -> io::Result<Witness<Overwrite<H::File>>> {
+        match open_to_overwrite(self.system, name) {
+            Ok(file) => self.overwrite(file),
+            Err(error) => {
+                self.unwritten = Some(error);
+                Err(error)
+            }
+        }
+    }
+
+    // Wraps an output file, unless it is the input file.
+    fn overwrite(&mut self, file: H::File) -> io::Result<Witness<Overwrite<H::File>>> {
+        let identity = identity_of(file.metadata());
+        if identity.is_some() && identity == self.identity {
+            self.is_one_file = true;
+            return Err(io::Error::from(io::ErrorKind::InvalidInput));
+        }
+        Ok(Witness::new(Overwrite::new(file)))
+    }
+}
+
+// The device and the number of a regular file, which no other file has.
+fn identity_of(metadata: io::Result<Metadata>) -> Option<(u64, u64)> {
+    match metadata {
+        Ok(metadata) if metadata.is_file() => Some((metadata.dev(), metadata.ino())),
+        _ => None,
+    }
+}
