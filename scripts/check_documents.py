@@ -33,7 +33,7 @@ LENGTHS = {
     "docs/EMBEDDING.md": 120,
     "docs/SERVER.md": 120,
     "docs/PERFORMANCE.md": 160,
-    "docs/DECISIONS.md": 215,
+    "docs/DECISIONS.md": 220,
     "crates/*/README.md": 25,
 }
 # Names of others, which no source of the repository has.
