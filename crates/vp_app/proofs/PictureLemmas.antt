@@ -2,6 +2,7 @@
 use Rattle.std.proofs.Common.{◌≡◌, ◌⊎◌, inl, inr, List, ℕ, Bool, true, false, Option, refl, sym, subst, ◌++◌}
 use Rattle.std.specs.Prelude.{Result, Ok, Err, IfOk, IfErr, MatchBool}
 use Rattle.vp_base.specs.declared.limits.Limits.{Limits}
+use Rattle.vp_scale.specs.Scale.{factor_of, scaled_side}
 use Rattle.vp_still.specs.declared.found.Found.{Found}
 use Rattle.vp_still.specs.declared.fault.FindFault.{FindFault}
 use Rattle.vp_still.specs.declared.fault.FindFault.TheVariants as find_fault
@@ -31,9 +32,11 @@ unfound p e limits file i j usual read (inr f) = (file, read, inr (limits, usual
 
 pub made : (p : PictureArgs) (done : Result MadePicture PictureFault) (found : Found) (limits : Limits) (file : List ℕ) (i j : Side)
     → AreLimits 16 limits → IsFileRead file i j → IsFoundIn limits file p.packet found → IfOk done (λ m. m.number ≡ found.number)
+    → IfOk done (λ m. m.dim.w ≡ scaled_side (factor_of p.scale) found.dim.w)
+    → IfOk done (λ m. m.dim.h ≡ scaled_side (factor_of p.scale) found.dim.h) → IfOk done (λ m. m.has_alpha ≡ found.has_alpha)
     → IfErr done (λ fault. is_find fault ≡ false) → IfOk done (λ m. IsPictureFile p.form p.scale p.qi found m.bytes m.coding)
     → IsMadeInput p done i j
-made p (Ok m) found limits file i j usual read is number none form = (
+made p (Ok m) found limits file i j usual read is number width height alpha none form = (
   file,
   read,
   record {
@@ -42,10 +45,13 @@ made p (Ok m) found limits file i j usual read is number none form = (
     found = found;
     found_is = is;
     number_is = number;
+    width_is = width;
+    height_is = height;
+    alpha_is = alpha;
     made = form;
   },
 )
-made p (Err fault) found limits file i j usual read is number none form = unmade p fault i j none
+made p (Err fault) found limits file i j usual read is number width height alpha none form = unmade p fault i j none
 
 -- what is done over a file or a stream, by what implies it
 over_by : (name : List ℕ) (P Q : Side → Side → Type 0) (old new : Side) → ((a b : Side) → P a b → Q a b) → Over name P old new → Over name Q old new

@@ -4,7 +4,7 @@ use Rattle.std.specs.Prelude.{◌≡◌, ◌&&◌, ℕ, Bool, true, false, not, 
 use Rattle.std.specs.List.{starts_with}
 use Rattle.vp_base.specs.declared.limits.Limits.{Limits}
 use Rattle.vp_scale.specs.declared.scale.Scale.{Scale}
-use Rattle.vp_scale.specs.Scale.{factor_of}
+use Rattle.vp_scale.specs.Scale.{factor_of, scaled_side}
 use Rattle.vp_scale.specs.Means.{scaled_i420}
 use Rattle.vp_still.specs.declared.found.Found.{Found}
 use Rattle.vp_still.specs.declared.still.Coding.{Coding}
@@ -35,6 +35,9 @@ pub record IsPictureOf (p : PictureArgs) (file : List ℕ) (m : MadePicture) : T
   pub found : Found
   pub found_is : IsFoundIn limits file p.packet found
   pub number_is : m.number ≡ found.number
+  pub width_is : m.dim.w ≡ scaled_side (factor_of p.scale) found.dim.w
+  pub height_is : m.dim.h ≡ scaled_side (factor_of p.scale) found.dim.h
+  pub alpha_is : m.has_alpha ≡ found.has_alpha
   pub made : IsPictureFile p.form p.scale p.qi found m.bytes m.coding
 
 -- a file of 32 bytes or more begins as neither an IVF nor a WebP file

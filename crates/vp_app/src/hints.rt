@@ -90,6 +90,8 @@ pub(crate) fn hint_encode<H, W: Write>(
         EncodeAllFault::Magic => hint_not_y4m(file, &outside.input, to, output),
         EncodeAllFault::Torn => hint_torn(outside, file, to, output),
         EncodeAllFault::Colour => hint_y4m_colour(file, &outside.input, output),
+        // To standard output a program encodes, which reads the fault alone.
+        EncodeAllFault::Settings if to == "-" => Ok(()),
         EncodeAllFault::Settings => hint_settings(&encoding.options, output),
         EncodeAllFault::Device => hint_device(outside, from, to, output),
         EncodeAllFault::Memory => writeln!(output, "  out of memory"),
@@ -140,11 +142,11 @@ fn hint_find<H, W: Write>(
         }
         FindFault::Packet(_) => writeln!(
             output,
-            "  {file}: the packet can't be decoded. Try: another --packet (vp8 info {file})"
+            "  {file}: the packet can't be decoded. Try: another --packet, which vp8 info lists"
         ),
         FindFault::Hidden => writeln!(
             output,
-            "  {file}: the packet shows no picture. Try: another --packet (vp8 info {file})"
+            "  {file}: the packet shows no picture. Try: another --packet, which vp8 info lists"
         ),
         FindFault::NoPacket(_) => writeln!(output, "  {file}: packets are counted from 0"),
         FindFault::NoPicture(_) => writeln!(output, "  {file}: no packet shows a picture"),

@@ -6,6 +6,7 @@ ghost use Rattle.vp_base.specs.Counted.{counted_remaining};
 ghost use Rattle.vp_app.specs.Commands.{is_stream, read_side, status_by_picture, IsFileRead, IsMadeInput};
 ghost use Rattle.vp_app.specs.Commands.{Over};
 ghost use Rattle.vp_app.specs.Picturing.{is_find, is_foreign, IsPictureFile};
+ghost use Rattle.vp_scale.specs.Scale.{factor_of, scaled_side};
 
 use crate::hints::hint_picture;
 use crate::outside::Outside;
@@ -29,6 +30,8 @@ pub struct MadePicture {
     pub bytes: ByteList,
     /// How the picture got into it, if it is a WebP file.
     pub coding: Option<Coding>,
+    /// Whether the input has alpha, which is left out.
+    pub has_alpha: bool,
 }
 
 /// Reads the input file, makes the file of its picture, and then writes it. The output must not be the input file.
@@ -92,6 +95,9 @@ fn picture_of<R: Read>(
 // Makes the file of a picture that was found.
 fn make(alloc: Global, found: &Found, wanted: &PictureArgs<'_>) -> Result<MadePicture, PictureFault>
     ensures number { IfOk result (λ m. m.number ≡ found.now.number) }
+    ensures width { IfOk result (λ m. m.dim.w ≡ scaled_side (factor_of wanted.now.scale) found.now.dim.w) }
+    ensures height { IfOk result (λ m. m.dim.h ≡ scaled_side (factor_of wanted.now.scale) found.now.dim.h) }
+    ensures alpha { IfOk result (λ m. m.has_alpha ≡ found.now.has_alpha) }
     ensures unfound { IfErr result (λ fault. is_find fault ≡ false) }
     ensures file { IfOk result (λ m. IsPictureFile wanted.now.form wanted.now.scale wanted.now.qi found.now
         m.bytes m.coding) }
@@ -110,6 +116,7 @@ fn make(alloc: Global, found: &Found, wanted: &PictureArgs<'_>) -> Result<MadePi
         dim: wanted.scale.size(found.dim),
         bytes,
         coding,
+        has_alpha: found.has_alpha,
     })
 }
 
@@ -190,7 +197,7 @@ pub(crate) fn report_picture<H, E: Write>(
     }
 }
 
-// Prints the line of a picture that was written.
+// Prints the line of a picture that was written, and what was left out.
 fn print_made<E: Write>(made: &MadePicture, errors: &mut Counted<E>) {
     let (number, w, h) = (made.number, made.dim.w, made.dim.h);
     let _ = match made.coding {
@@ -208,6 +215,9 @@ fn print_made<E: Write>(made: &MadePicture, errors: &mut Counted<E>) {
             )
         }
     };
+    if made.has_alpha {
+        let _ = writeln!(errors, "  alpha is left out");
+    }
 }
 
 // The peak signal-to-noise ratio of a picture in decibels, by the sum of its squared differences, over Y, U and V.

@@ -3,7 +3,7 @@
 ghost use Rattle.std.specs.Prelude.{◌≡◌, ◌<◌, false, true, IfOk, IsOk, OnErr, OnOk};
 ghost use Rattle.std.specs.Io.{WritesAtMost};
 ghost use Rattle.std.specs.Io.KnownBytes.{Keeps, WriteAppends};
-ghost use Rattle.vp_hints.specs.Overwrite.{is_begun, overwritten};
+ghost use Rattle.vp_hints.specs.Overwrite.{is_begun, overwrite_contents, overwritten};
 
 use std::fs::{OpenFile, OpenOptions};
 use std::io;
@@ -61,8 +61,12 @@ impl<F: OpenFile> Overwrite<F> {
 }
 
 impl<F: OpenFile + Write> Write for Overwrite<F> {
+    ghost contents = { overwrite_contents F.contents };
+
     fn write(&mut self, buf: &[u8]) -> io::Result<usize>
         ensures bound { WritesAtMost result buf.now }
+        ensures bytes { WriteAppends (overwrite_contents F.contents self.old)
+            (overwrite_contents F.contents self.new) result buf.now }
         ensures begins { IfOk result (λ n. 0 < n → is_begun self.new ≡ true) }
         ensures untouched { is_begun self.new ≡ false → overwritten self.new ≡ overwritten self.old }
     {
@@ -75,6 +79,7 @@ impl<F: OpenFile + Write> Write for Overwrite<F> {
 
     fn flush(&mut self) -> io::Result<()>
         ensures begun { is_begun self.new ≡ is_begun self.old }
+        ensures bytes { Keeps (overwrite_contents F.contents self.old) (overwrite_contents F.contents self.new) }
     {
         self.file.flush()
     }
