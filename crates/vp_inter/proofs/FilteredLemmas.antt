@@ -1,7 +1,6 @@
 -- Lemmas on rows of the horizontal pass that the blocks of several vectors share.
-use Rattle.std.proofs.Common.{◌≡◌, ◌∙◌, ℕ, ◌+◌, ◌*◌, ◌/◌, ◌%◌, ◌<◌, ◌≤◌, ℤ, pos, negsuc, ◌+ℤ◌, ◌*ℤ◌, ◌≤ℤ◌, List, get_or, ap, subst, sym, arith, inl, inr, refl}
+use Rattle.std.proofs.Common.{◌≡◌, ◌∙◌, ℕ, ◌+◌, ◌*◌, ◌/◌, ◌%◌, ◌<◌, ◌≤◌, ℤ, pos, negsuc, ◌+ℤ◌, ◌*ℤ◌, ◌≤ℤ◌, List, get_or, ap, sym, arith, refl}
 use Rattle.std.proofs.lemmas.Int.{ints, int_rem_euclid_is}
-use Rattle.std.proofs.lemmas.Bool.{cases_lt}
 use Rattle.std.specs.Prelude.{unsigned_abs}
 use lib.Signed.{shr_z}
 use Rattle.vp_base.specs.Raster.{Raster}
@@ -9,48 +8,28 @@ use Rattle.vp_inter.specs.declared.vector.PlaneVector.{PlaneVector}
 use Rattle.vp_inter.specs.Vectors.{whole_pixels, fraction, first_tap}
 use Rattle.vp_inter.specs.Filter.{taps, filter_six}
 use Rattle.vp_inter.specs.Inter.{reference_pixel, horizontal_pass, inter_pixel}
-use Rattle.vp_inter.specs.Turns.{half_place}
-use Rattle.vp_inter.specs.Filtered.{HoldsHalves, AreFiltered}
+use Rattle.vp_inter.specs.Filtered.{ArePaired, AreFiltered}
 use Rattle.vp_inter.proofs.FilterLemmas.{filter_six-same, filter_six-whole_pixels}
-use Rattle.vp_inter.proofs.PassLemmas.{inter_passes}
+use Rattle.vp_inter.proofs.PassLemmas.{inter_passes, across_bound}
 
 eighth : (z : ℤ) → ((pos 8 *ℤ shr_z z 8) ≤ℤ z) × (z ≤ℤ (pos 8 *ℤ shr_z z 8 +ℤ pos 7))
 eighth (pos n) = (omega (arith, ints), omega (arith, ints))
 eighth (negsuc n) = (omega (arith, ints), omega (arith, ints))
 
--- eight eighths further there is one whole pixel more at most
-pub whole_between : (first row : ℤ) → first ≤ℤ row → row ≤ℤ (first +ℤ pos 8)
-    → (whole_pixels first ≤ℤ whole_pixels row) × (whole_pixels row ≤ℤ (whole_pixels first +ℤ pos 1))
+-- the parts of a number of eighths
+pub whole_is : (k : ℤ) (e : ℕ) → whole_pixels (pos 8 *ℤ k +ℤ pos e) ≡ k +ℤ pos (e / 8)
 unfolding whole_pixels
-whole_between first row below near =
-    let a = eighth first in
-    let b = eighth row in
-    (omega (arith, ints), omega (arith, ints))
-
--- eight eighths are one whole pixel
-pub whole_below : (first : ℤ) → whole_pixels (first +ℤ pos 8) ≡ whole_pixels first +ℤ pos 1
-unfolding whole_pixels
-whole_below first =
-    let a = eighth first in
-    let b = eighth (first +ℤ pos 8) in
+whole_is k e =
+    let a = eighth (pos 8 *ℤ k +ℤ pos e) in
     omega (arith, ints)
 
-record Lifted (z : ℤ) : Type 0 where
-  by : ℕ
-  to : ℕ
-  is : z +ℤ pos ((by + 1) * 8) ≡ pos to
-
-lifted : (z : ℤ) → Lifted z
-lifted (pos n) = record { by = 0; to = n + 8; is = omega (arith, ints) }
-lifted (negsuc n) = record { by = n; to = 7 * n + 7; is = omega (arith, ints) }
-
-pub fraction_below : (first : ℤ) → fraction (first +ℤ pos 8) ≡ fraction first
+pub fraction_is : (k : ℤ) (e : ℕ) → fraction (pos 8 *ℤ k +ℤ pos e) ≡ e % 8
 unfolding fraction
-fraction_below first =
-    let l = lifted first in
-    let further : first +ℤ pos 8 +ℤ pos (l.by * 8) ≡ pos l.to = (let e : first +ℤ pos 8 +ℤ pos (l.by * 8) ≡ first +ℤ pos ((l.by + 1) * 8) = omega (arith, ints) in e ∙ l.is) in
-    ap unsigned_abs (int_rem_euclid_is (first +ℤ pos 8) (pos 8) 8 l.by l.to (omega arith) refl further
-    ∙ sym (int_rem_euclid_is first (pos 8) 8 (l.by + 1) l.to (omega arith) refl l.is))
+fraction_is (pos n) e =
+    ap unsigned_abs (int_rem_euclid_is (pos 8 *ℤ pos n +ℤ pos e) (pos 8) 8 0 (8 * n + e) (omega arith) refl (omega (arith, ints)))
+    ∙ (let z : (8 * n + e) % 8 ≡ e % 8 = omega arith in z)
+fraction_is (negsuc n) e =
+    ap unsigned_abs (int_rem_euclid_is (pos 8 *ℤ negsuc n +ℤ pos e) (pos 8) 8 (n + 1) e (omega arith) refl (omega (arith, ints)))
 
 -- the first tap of a vector is as far below that of another as its whole pixels
 tap_below : (y : ℕ) (first row : ℤ) (skip : ℕ) → whole_pixels row ≡ whole_pixels first +ℤ pos skip → first_tap y row ≡ first_tap y first +ℤ pos skip
@@ -75,19 +54,37 @@ moved_down p x y first row column skip r c below =
     ∙ ap (λ (z : ℤ). horizontal_pass (taps 0 (fraction column)) p (first_tap x column) z (r + k) c) (sym (tap_below y first row skip below)))
     ∙ inter_passes 0 p x y (record { row = row; column = column }) r c
 
--- one row more, with its even columns first
-pub halves_more : (i : ℕ) (old new row : List ℕ) (value : ℕ → ℕ → ℕ) → HoldsHalves old i value
-    → ((c : ℕ) → c < 16 → get_or new (i * 16 + c) 0 ≡ get_or row c 0)
-    → ((j : ℕ) → j < i * 16 → get_or new j 0 ≡ get_or old j 0)
-    → ((c : ℕ) → c < 16 → get_or row (half_place c) 0 ≡ value i c)
-    → HoldsHalves new (i + 1) value
-halves_more i old new row value done here before last k c kin cin =
-    let place : 8 * (c % 2) + c / 2 < 16 = omega arith in
-    elim (cases_lt k i) [
-      | inl less ↦
-          let room : k * 16 + (8 * (c % 2) + c / 2) < i * 16 = omega arith in
-          before (k * 16 + half_place c) room ∙ done k c less cin
-      | inr same ↦
-          let e : k ≡ i = omega arith in
-          ap (λ (j : ℕ). get_or new (j * 16 + half_place c) 0) e ∙ here (half_place c) place ∙ last c cin ∙ ap (λ (j : ℕ). value j c) (sym e)
-    ]
+-- a pixel by the vertical pass over filtered rows, for a vector whose row has skip whole pixels more
+pub filtered_is : (p : Raster) (x y : ℕ) (first row column : ℤ) (skip : ℕ) (rows : List ℕ) (r c : ℕ) → whole_pixels row ≡ whole_pixels first +ℤ pos skip
+    → AreFiltered p x y (record { row = first; column = column }) rows → skip + r + 5 < 22 → c < 16
+    → filter_six (taps 0 (fraction row)) (λ k. get_or rows ((skip + r + k) * 16 + c) 0) ≡ inter_pixel 0 p x y (record { row = row; column = column }) r c
+filtered_is p x y first row column skip rows r c below are rin cin =
+    let pixel : ℕ → ℕ → ℕ = horizontal_pass (taps 0 (fraction column)) p (first_tap x column) (first_tap y first) in
+    filter_six-same (taps 0 (fraction row)) (λ k. get_or rows ((skip + r + k) * 16 + c) 0) (λ k. pixel (skip + (r + k)) c)
+    (λ k kin. are (skip + r + k) c (omega arith) cin ∙ ap (λ (n : ℕ). pixel n c) (let e : skip + r + k ≡ skip + (r + k) = omega arith in e))
+    ∙ moved_down p x y first row column skip r c below
+
+-- at whole rows the horizontal pass is all
+pub whole_row_is : (p : Raster) (x y : ℕ) (first row column : ℤ) (skip : ℕ) (rows : List ℕ) (r c : ℕ) → whole_pixels row ≡ whole_pixels first +ℤ pos skip → fraction row ≡ 0
+    → AreFiltered p x y (record { row = first; column = column }) rows → skip + r + 2 < 22 → c < 16
+    → get_or rows ((skip + 2 + r) * 16 + c) 0 ≡ inter_pixel 0 p x y (record { row = row; column = column }) r c
+whole_row_is p x y first row column skip rows r c below none are rin cin =
+    let pixel : ℕ → ℕ → ℕ = horizontal_pass (taps 0 (fraction column)) p (first_tap x column) (first_tap y first) in
+    let six : ℕ → ℕ = λ (j : ℕ). pixel (skip + (r + j)) c in
+    are (skip + 2 + r) c (omega arith) cin
+    ∙ ap (λ (n : ℕ). pixel n c) (let e : skip + 2 + r ≡ skip + (r + 2) = omega arith in e)
+    ∙ sym (filter_six-whole_pixels 0 six (across_bound (taps 0 (fraction column)) p (first_tap x column) (first_tap y first) (skip + (r + 2)) c))
+    ∙ ap (λ (n : ℕ). filter_six (taps 0 n) six) (sym none)
+    ∙ moved_down p x y first row column skip r c below
+
+-- six rows, in pairs
+pub paired_six : (weights : List ℤ) (rows pairs : List ℕ) (r c at : ℕ) → ArePaired rows pairs → r ≤ 16 → c < 16 → at ≡ 32 * r
+    → filter_six weights (λ k. get_or pairs (at + 32 * (k % 3) + (2 * c + k / 3)) 0) ≡ filter_six weights (λ k. get_or rows ((r + k) * 16 + c) 0)
+paired_six weights rows pairs r c at are rin cin e =
+    filter_six-same weights (λ k. get_or pairs (at + 32 * (k % 3) + (2 * c + k / 3)) 0) (λ k. get_or rows ((r + k) * 16 + c) 0)
+    (λ k kin.
+    let place : at + 32 * (k % 3) + (2 * c + k / 3) ≡ 2 * (16 * (r + k % 3) + c) + k / 3 = omega arith in
+    let here : 16 * (r + k % 3) + c + 48 * (k / 3) ≡ (r + k) * 16 + c = omega arith in
+    ap (λ (n : ℕ). get_or pairs n 0) place
+    ∙ are (16 * (r + k % 3) + c) (k / 3) (omega arith) (omega arith)
+    ∙ ap (λ (n : ℕ). get_or rows n 0) here)

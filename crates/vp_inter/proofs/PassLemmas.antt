@@ -33,7 +33,8 @@ pub inter_passes : (version : ℕ) (p : Raster) (x y : ℕ) (v : PlaneVector) (r
 unfolding inter_pixel
 inter_passes version p x y v r c = refl
 
-across_bound : (weights : List ℤ) (p : Raster) (left top : ℤ) (i c : ℕ) → horizontal_pass weights p left top i c ≤ 255
+-- a filtered pixel is a byte
+pub across_bound : (weights : List ℤ) (p : Raster) (left top : ℤ) (i c : ℕ) → horizontal_pass weights p left top i c ≤ 255
 unfolding horizontal_pass
 across_bound weights p left top i c = filtered_bound weights _ _ _ _ _ _
 

@@ -15,7 +15,7 @@ mod vector;
 
 pub use block::{predict_block4, predict_block8, predict_block16};
 pub use chroma::predict_into_chroma;
-pub use filtered::FilteredRows;
+pub use filtered::{ColumnFilter, FilteredRows};
 pub use into::{predict_into4, predict_into8, predict_into16};
 pub use reference::nearest;
 pub use vector::{PlaneVector, chroma_vector, luma_vector};

@@ -170,7 +170,12 @@ fn horizontal_halves(s: &[u8], at: usize, weights: &[i16; 6], near: &RowWeights)
 }
 
 /// Filters sixteen pixels vertically, from interleaved rows that are three apart.
-fn vertical_sixteen(pairs: &[u8], at: usize, weights: &[i16; 6], far: &ColumnWeights) -> u8x16
+pub(crate) fn vertical_sixteen(
+    pairs: &[u8],
+    at: usize,
+    weights: &[i16; 6],
+    far: &ColumnWeights,
+) -> u8x16
     requires room { at + 96 ≤ length pairs.now }
     requires gentle { SumsFitI16 weights.now }
     requires turns { AreFar weights.now far.now }
@@ -239,7 +244,7 @@ fn wide_rows<const INSIDE: bool>(
     near: &RowWeights,
     rows: usize,
 )
-    requires rows { rows ≤ 21 }
+    requires rows { rows ≤ 22 }
     requires all { length pixels.old ≡ rows * 16 }
     requires inside { IsTrue INSIDE → IsInside plane.now left top 21 rows }
     requires gentle { SumsFitI16 weights.now }
@@ -269,7 +274,7 @@ pub(crate) fn horizontal_six_tap_16(
     rows: usize,
     inside: bool,
 )
-    requires rows { rows ≤ 21 }
+    requires rows { rows ≤ 22 }
     requires all { length pixels.old ≡ rows * 16 }
     requires inside { IsTrue inside → IsInside plane.now left top 21 rows }
     requires gentle { SumsFitI16 weights.now }
@@ -288,30 +293,38 @@ pub(crate) fn horizontal_six_tap_16(
     }
 }
 
-/// Interleaves eighteen rows of sixteen pixels, each with the row three below.
+/// Interleaves `ROWS` rows of sixteen pixels, each with the row three below.
 #[inline(never)]
-fn pair_rows(pairs: &mut [u8], rows: &[u8])
-    requires whole { length pairs.old ≡ 576 }
-    requires all { length rows.now ≡ 336 }
-    ensures { (x t : ℕ) → x < 288 → t < 2 → slice_index pairs.new (2 * x + t) ≡ slice_index rows.now (x + 48 * t) }
+pub(crate) fn pair_rows<const ROWS: usize>(pairs: &mut [u8], rows: &[u8])
+    requires few { ROWS ≤ 19 }
+    requires whole { length pairs.old ≡ 32 * ROWS }
+    requires all { length rows.now ≡ 16 * ROWS + 48 }
+    ensures { (x t : ℕ) → x < 16 * ROWS → t < 2
+        → slice_index pairs.new (2 * x + t) ≡ slice_index rows.now (x + 48 * t) }
 {
-    for i in 0..36 {
+    for i in 0..2 * ROWS {
         let piece = interleave(load::<8>(rows, 8 * i), load::<8>(rows, 8 * i + 48));
         put_lanes::<16>(pairs, i, piece);
     }
 }
 
-/// The vertical pass over interleaved rows of sixteen pixels.
+/// The vertical pass to `ROWS` rows, over interleaved rows of sixteen pixels.
 #[inline(never)]
-fn wide_columns(pixels: &mut [u8], pairs: &[u8], weights: &[i16; 6], far: &ColumnWeights)
-    requires room { length pairs.now ≡ 576 }
-    requires whole { length pixels.old ≡ 256 }
+pub(crate) fn wide_columns<const ROWS: usize>(
+    pixels: &mut [u8],
+    pairs: &[u8],
+    weights: &[i16; 6],
+    far: &ColumnWeights,
+)
+    requires few { ROWS ≤ 17 }
+    requires room { length pairs.now ≡ 32 * ROWS + 64 }
+    requires whole { length pixels.old ≡ 16 * ROWS }
     requires gentle { SumsFitI16 weights.now }
     requires turns { AreFar weights.now far.now }
-    ensures { (r c : ℕ) → r < 16 → c < 16 → slice_index pixels.new (r * 16 + c)
+    ensures { (r c : ℕ) → r < ROWS → c < 16 → slice_index pixels.new (r * 16 + c)
         ≡ filter_six weights.now (λ k. slice_index pairs.now (32 * r + 32 * (k % 3) + (2 * c + k / 3))) }
 {
-    for i in 0..16 {
+    for i in 0..ROWS {
         let row = vertical_sixteen(pairs, 32 * i, weights, far);
         put_lanes::<16>(pixels, i, row);
     }
@@ -326,6 +339,6 @@ pub(crate) fn vertical_six_tap_16(pixels: &mut [u8], rows: &[u8], weights: &[i16
         ≡ filter_six weights.now (λ k. slice_index rows.now ((r + k) * 16 + c)) }
 {
     let mut pairs = [0; 576];
-    pair_rows(&mut pairs, rows);
-    wide_columns(pixels, &pairs, weights, &paired_column_weights(weights));
+    pair_rows::<18>(&mut pairs, rows);
+    wide_columns::<16>(pixels, &pairs, weights, &paired_column_weights(weights));
 }

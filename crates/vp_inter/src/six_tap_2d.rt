@@ -28,9 +28,9 @@ struct Three {
 
 /// A row interleaved with the row three below: even columns, and odd ones.
 #[derive(Clone, Copy)]
-pub(crate) struct Pair {
-    pub(crate) even: u8x16,
-    pub(crate) odd: u8x16,
+struct Pair {
+    even: u8x16,
+    odd: u8x16,
 }
 
 /// The part of the reference that a block is filtered from. Its first row and column can lie outside the plane.
@@ -71,7 +71,7 @@ fn three_rows<const INSIDE: bool>(
 }
 
 /// Interleaves the low eight bytes of each.
-pub(crate) fn interleave_lo(a: u8x16, b: u8x16) -> u8x16
+fn interleave_lo(a: u8x16, b: u8x16) -> u8x16
     ensures even { (j : ℕ) → j < 8 → slice_index result (2 * j) ≡ slice_index a j }
     ensures odd { (j : ℕ) → j < 8 → slice_index result (2 * j + 1) ≡ slice_index b j }
 {
@@ -79,7 +79,7 @@ pub(crate) fn interleave_lo(a: u8x16, b: u8x16) -> u8x16
 }
 
 /// Interleaves the high eight bytes of each.
-pub(crate) fn interleave_hi(a: u8x16, b: u8x16) -> u8x16
+fn interleave_hi(a: u8x16, b: u8x16) -> u8x16
     ensures even { (j : ℕ) → j < 8 → slice_index result (2 * j) ≡ slice_index a (8 + j) }
     ensures odd { (j : ℕ) → j < 8 → slice_index result (2 * j + 1) ≡ slice_index b (8 + j) }
 {
@@ -190,13 +190,7 @@ fn pair_at(run: &[u8], e: usize) -> Pair
 }
 
 /// Filters one row vertically, from three consecutive pairs of rows.
-pub(crate) fn vertical_row(
-    a: &Pair,
-    b: &Pair,
-    c: &Pair,
-    weights: &[i16; 6],
-    far: &ColumnWeights,
-) -> u8x16
+fn vertical_row(a: &Pair, b: &Pair, c: &Pair, weights: &[i16; 6], far: &ColumnWeights) -> u8x16
     requires gentle { SumsFitI16 weights.now }
     requires turns { AreFar weights.now far.now }
     ensures { (pixel : ℕ → ℕ → ℕ) → (r : ℕ) → IsPair a.now pixel r → IsPair b.now pixel (r + 1)

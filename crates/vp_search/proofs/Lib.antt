@@ -4,6 +4,7 @@ pub mod RowLemmas
 pub mod OrderLemmas
 pub mod WindowLemmas
 pub mod RefinedLemmas
+pub mod ColumnLemmas
 pub mod BoundLemmas
 pub mod SumLanes
 pub mod CutLemmas

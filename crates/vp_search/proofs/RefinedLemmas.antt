@@ -54,49 +54,8 @@ row_beside centre d k h =
     let x : ℤ = centre.row in
     below_nine (λ k. IsBeside x d (neighbour centre d k).row) (at_it x d) (less x d) (less x d) (less x d) (at_it x d) (at_it x d) (more x d) (more x d) (more x d) k h
 
-pub column_beside : (centre : QuarterVector) (d : ℤ) (k : ℕ) → k < 9 → unsigned_abs ((neighbour centre d k).column -ℤ centre.column) ≤ unsigned_abs d
-column_beside centre d k h =
-    let x : ℤ = centre.column in
-    below_nine (λ k. IsBeside x d (neighbour centre d k).column) (at_it x d) (less x d) (at_it x d) (more x d) (less x d) (more x d) (less x d) (at_it x d) (more x d) k h
-
--- the best of nine by the list of their costs
-pub best_is : (cost : QuarterVector → ℕ) (centre : QuarterVector) (d : ℤ) (vectors : List QuarterVector) (z : QuarterVector) (costs : List ℕ) (best : ℕ)
-    → vectors ≡ candidates_around centre d → ((k : ℕ) → k < 9 → get_or costs k 0 ≡ cost (neighbour centre d k)) → IsFirstLeast 9 (λ k. get_or costs k 0) best
-    → IsBestOf cost centre d (get_or vectors best z)
-best_is cost centre d vectors z costs best e all first = record {
-  number = best;
-  first = first_same 9 (λ k. get_or costs k 0) (λ k. cost (neighbour centre d k)) best all first;
-  is = ap (λ (l : List QuarterVector). get_or l best z) e ∙ at_place centre d z best first.within;
-}
-
-listed : (centre : QuarterVector) (d : ℤ) (vectors : List QuarterVector) (z : QuarterVector) (k : ℕ) → vectors ≡ candidates_around centre d → k < 9 → get_or vectors k z ≡ neighbour centre d k
+pub listed : (centre : QuarterVector) (d : ℤ) (vectors : List QuarterVector) (z : QuarterVector) (k : ℕ) → vectors ≡ candidates_around centre d → k < 9 → get_or vectors k z ≡ neighbour centre d k
 listed centre d vectors z k e h = ap (λ (l : List QuarterVector). get_or l k z) e ∙ at_place centre d z k h
-
-pub listed_row : (centre : QuarterVector) (d : ℤ) (vectors : List QuarterVector) (z : QuarterVector) (k : ℕ) → vectors ≡ candidates_around centre d → k < 9
-    → unsigned_abs ((get_or vectors k z).row -ℤ centre.row) ≤ unsigned_abs d
-listed_row centre d vectors z k e h =
-    subst (λ (v : QuarterVector). unsigned_abs (v.row -ℤ centre.row) ≤ unsigned_abs d) (sym (listed centre d vectors z k e h)) (row_beside centre d k h)
-
-pub listed_column : (centre : QuarterVector) (d : ℤ) (vectors : List QuarterVector) (z : QuarterVector) (k : ℕ) → vectors ≡ candidates_around centre d → k < 9
-    → unsigned_abs ((get_or vectors k z).column -ℤ centre.column) ≤ unsigned_abs d
-listed_column centre d vectors z k e h =
-    subst (λ (v : QuarterVector). unsigned_abs (v.column -ℤ centre.column) ≤ unsigned_abs d) (sym (listed centre d vectors z k e h)) (column_beside centre d k h)
-
-pub listed_cost : (cost : QuarterVector → ℕ) (centre : QuarterVector) (d : ℤ) (vectors : List QuarterVector) (z : QuarterVector) (k : ℕ) → vectors ≡ candidates_around centre d → k < 9
-    → cost (get_or vectors k z) ≡ cost (neighbour centre d k)
-listed_cost cost centre d vectors z k e h = ap cost (listed centre d vectors z k e h)
-
--- the cost of the centre
-pub first_cost : (cost : QuarterVector → ℕ) (centre : QuarterVector) (d : ℤ) (costs : List ℕ) → get_or costs 0 0 ≡ cost centre → (j : ℕ) → j < 1 → get_or costs j 0 ≡ cost (neighbour centre d j)
-first_cost cost centre d costs e j h = let z : 0 ≡ j = omega arith in subst (λ (k : ℕ). get_or costs k 0 ≡ cost (neighbour centre d k)) z e
-
--- one cost more
-pub costs_more : (cost : ℕ → ℕ) (costs : List ℕ) (k new : ℕ) → length costs ≡ 9 → k < 9 → ((j : ℕ) → j < k → get_or costs j 0 ≡ cost j) → new ≡ cost k
-    → (j : ℕ) → j < k + 1 → get_or (set costs k new) j 0 ≡ cost j
-costs_more cost costs k new long kin done here =
-    below_more _ _
-    (λ j h. let ne : j ≢ k = omega arith in rw get_or-set_other (done j h))
-    (let lt : k < length costs = omega arith in rw get_or-set_same here)
 
 -- the best by a cost that is the same everywhere
 pub best_same : (f g : QuarterVector → ℕ) (centre : QuarterVector) (d : ℤ) (best : QuarterVector) → ((v : QuarterVector) → f v ≡ g v) → IsBestOf f centre d best → IsBestOf g centre d best

@@ -5,6 +5,7 @@ pub mod Blocks
 pub mod Least
 pub mod FirstLeast
 pub mod Refined
+pub mod Columns
 pub mod Window
 pub mod Chosen
 pub mod Bounds

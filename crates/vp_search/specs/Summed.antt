@@ -1,7 +1,7 @@
 -- Private to the crate: the sums that a search uses.
 use Rattle.std.specs.Prelude.{◌≡◌, ℕ, ◌+◌, ◌*◌, ◌<◌, ◌≤◌, List, length}
 use Rattle.vp_search.specs.declared.window.TheConstants.{WINDOW_WIDTH}
-use Rattle.vp_search.specs.declared.sums.SquareSums.{SquareSums}
+use Rattle.vp_search.specs.declared.summed.SquareSums.{SquareSums}
 use Rattle.vp_search.specs.Bounds.{block_sums, IsSummed}
 use Rattle.vp_search.specs.Coarse.{AreCoarse}
 

@@ -1,6 +1,6 @@
 -- Private to the crate: the window of a reference that is searched. All rows have one width, of which a square is
 -- used.
-use Rattle.std.specs.Prelude.{◌≡◌, ℕ, pos, ◌+◌, ◌*◌, ◌<◌, ◌≤◌, ◌+ℤ◌, ◌-ℤ◌, List, unsigned_abs}
+use Rattle.std.specs.Prelude.{◌≡◌, ℕ, pos, ◌+◌, ◌*◌, ◌<◌, ◌≤◌, ◌+ℤ◌, ◌-ℤ◌, List, length, unsigned_abs}
 use Rattle.vp_base.specs.declared.place.Place.{Place}
 use Rattle.vp_base.specs.Raster.{Raster}
 use Rattle.vp_inter.specs.Inter.{reference_pixel}
@@ -24,6 +24,11 @@ vector_at range i j = record { row = pos i -ℤ pos range; column = pos j -ℤ p
 -- the index in the window at which a vector's block begins
 abbrev pub window_place : ℕ → WholeVector → ℕ
 window_place range v = unsigned_abs (v.row +ℤ pos range) * WINDOW_WIDTH + unsigned_abs (v.column +ℤ pos range)
+
+-- a block of 256 pixels, and a window in which it is searched within a range
+abbrev pub IsSearchable : List ℕ → List ℕ → ℕ → Type 0
+IsSearchable block window range =
+    (256 ≤ length block) × ((2 * range + 16) * WINDOW_WIDTH ≤ length window) × (range ≤ 64)
 
 -- the cost of a vector, with its block read from the window
 unfoldable pub window_cost : List ℕ → List ℕ → ℕ → WholeVector → ℕ

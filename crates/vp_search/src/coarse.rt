@@ -6,7 +6,7 @@ ghost use Rattle.std.specs.Int.{abs_diff};
 ghost use Rattle.vp_search.specs.Bounds.{bound_of};
 ghost use Rattle.vp_search.specs.Coarse.{coarse_of, coarse_bound_of, AreCoarse};
 
-use crate::sums::SquareSums;
+use crate::summed::SquareSums;
 use crate::window::WINDOW_WIDTH;
 use std::simd::prelude::*;
 use vp_lanes::{abs_diff16, load16, store8};

@@ -13,15 +13,6 @@ pub fn sad16(a: &[u8; 256], b: &[u8; 256]) -> u32
     sad_within(a, b, 0, 16, u32::MAX)
 }
 
-/// The sum of absolute differences of a 16x16 block and the sixteen rows of sixteen pixels from row `first` on.
-pub(crate) fn sad_from(block: &[u8; 256], rows: &[u8], first: usize) -> u32
-    requires { 16 * first + 256 ≤ length rows.now }
-    ensures { result
-        ≡ sum_of_differences 16 16 (block16 block.now) (λ r c. slice_index rows.now ((r + first) * 16 + c)) }
-{
-    sad_within(block, rows, 16 * first, 16, u32::MAX)
-}
-
 /// The sum of absolute differences of the first four rows of a block and of the one at index `at` of a window with rows
 /// of `stride` pixels.
 pub(crate) fn first_rows(block: &[u8], window: &[u8], at: usize, stride: usize) -> u32
@@ -31,7 +22,7 @@ pub(crate) fn first_rows(block: &[u8], window: &[u8], at: usize, stride: usize) 
         (strided_block window.now at stride) }
     ensures bound { result ≤ 4 * 16 * 255 }
 {
-    four_rows(block, window, 0, 16, at, stride)
+    four_rows(block, window, 0, at, stride)
 }
 
 /// The sum of absolute differences of a block and the one at index `at` of a window with rows of `stride` pixels. If
@@ -69,13 +60,13 @@ pub(crate) fn rest_within(
         (strided_block window.now at stride) }
     ensures bound { result ≤ 16 * 16 * 255 }
 {
-    let second = first + four_rows(block, window, 4 * 16, 16, at + 4 * stride, stride);
+    let second = first + four_rows(block, window, 4 * 16, at + 4 * stride, stride);
     if second > limit {
         return second;
     }
-    let third = second + four_rows(block, window, 8 * 16, 16, at + 8 * stride, stride);
+    let third = second + four_rows(block, window, 8 * 16, at + 8 * stride, stride);
     if third > limit {
         return third;
     }
-    third + four_rows(block, window, 12 * 16, 16, at + 12 * stride, stride)
+    third + four_rows(block, window, 12 * 16, at + 12 * stride, stride)
 }

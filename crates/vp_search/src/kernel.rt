@@ -43,32 +43,50 @@ fn total(a: u32x16) -> u32
     a.strict_reduce_sum()
 }
 
-/// The sum of absolute differences of four rows of sixteen pixels.
-pub(crate) fn four_rows(
-    a: &[u8],
-    b: &[u8],
-    from_a: usize,
-    step_a: usize,
-    from_b: usize,
-    step_b: usize,
+/// The sum of absolute differences of four rows of a block, from index `from` on, and four others.
+pub(crate) fn four_lanes(
+    block: &[u8],
+    from: usize,
+    first: u8x16,
+    second: u8x16,
+    third: u8x16,
+    fourth: u8x16,
 ) -> u32
-    requires a_room { from_a + 3 * step_a + 16 ≤ length a.now }
-    requires b_room { from_b + 3 * step_b + 16 ≤ length b.now }
-    ensures value { result ≡ sum_of_differences 4 16 (strided_block a.now from_a step_a)
-        (strided_block b.now from_b step_b) }
+    requires { from + 64 ≤ length block.now }
+    ensures value { (row : ℕ → ℕ → ℕ) → ((j : ℕ) → j < 16 → slice_index first j ≡ row 0 j)
+        → ((j : ℕ) → j < 16 → slice_index second j ≡ row 1 j)
+        → ((j : ℕ) → j < 16 → slice_index third j ≡ row 2 j)
+        → ((j : ℕ) → j < 16 → slice_index fourth j ≡ row 3 j)
+        → result ≡ sum_of_differences 4 16 (strided_block block.now from 16) row }
     ensures bound { result ≤ 4 * 16 * 255 }
 {
-    let first = apart(load16(a, from_a), load16(b, from_b));
-    let second = apart(load16(a, from_a + step_a), load16(b, from_b + step_b));
-    let third = apart(
-        load16(a, from_a + 2 * step_a),
-        load16(b, from_b + 2 * step_b),
+    let upper = both(
+        apart(load16(block, from), first),
+        apart(load16(block, from + 16), second),
     );
-    let fourth = apart(
-        load16(a, from_a + 3 * step_a),
-        load16(b, from_b + 3 * step_b),
+    let lower = both(
+        apart(load16(block, from + 32), third),
+        apart(load16(block, from + 48), fourth),
     );
-    total(both(both(first, second), both(third, fourth)))
+    total(both(upper, lower))
+}
+
+/// The sum of absolute differences of four rows of a block, from index `from` on, and four rows of `b` that are `step`
+/// apart, from index `at` on.
+pub(crate) fn four_rows(block: &[u8], b: &[u8], from: usize, at: usize, step: usize) -> u32
+    requires block { from + 64 ≤ length block.now }
+    requires room { at + 3 * step + 16 ≤ length b.now }
+    ensures value { result ≡ sum_of_differences 4 16 (strided_block block.now from 16) (strided_block b.now at step) }
+    ensures bound { result ≤ 4 * 16 * 255 }
+{
+    four_lanes(
+        block,
+        from,
+        load16(b, at),
+        load16(b, at + step),
+        load16(b, at + 2 * step),
+        load16(b, at + 3 * step),
+    )
 }
 
 /// The sum of squared differences of sixteen numbers.

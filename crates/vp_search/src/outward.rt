@@ -9,13 +9,15 @@ ghost use Rattle.std.specs.Int.{bit_at};
 ghost use Rattle.vp_search.specs.declared.vector.WholeVector.{WholeVector};
 ghost use Rattle.vp_search.specs.Vectors.{vector_length, IsNear};
 ghost use Rattle.vp_search.specs.Least.{IsLeast, IsNoWorse};
-ghost use Rattle.vp_search.specs.Window.{first_rows, vector_at, window_cost, IsFoundInWindow, IsBestBelow};
+ghost use Rattle.vp_search.specs.Window.{first_rows, vector_at, window_cost, IsSearchable, IsFoundInWindow};
+ghost use Rattle.vp_search.specs.Window.{IsBestBelow};
 ghost use Rattle.vp_search.specs.Bounds.{IsBound};
 ghost use Rattle.vp_search.specs.Summed.{IsSummedSearch};
 
 use crate::difference::{first_rows, rest_within, sad_within};
 use crate::early::{Pair, next_pair};
-use crate::sums::{SquareSums, bounds_at, next_within, within};
+use crate::summed::SquareSums;
+use crate::sums::{bounds_at, next_within, within};
 use crate::vector::{Found, Scope, vector_at, vector_length};
 use crate::window::WINDOW_WIDTH;
 use std::simd::prelude::*;
@@ -31,9 +33,7 @@ pub(crate) struct Spot {
 /// third more instructions.
 #[inline(always)]
 pub(crate) fn consider(block: &[u8], window: &[u8], scope: Scope, best: Found, place: Spot) -> Found
-    requires block { 256 ≤ length block.now }
-    requires window { (2 * scope.range + 16) * WINDOW_WIDTH ≤ length window.now }
-    requires range { scope.range ≤ 64 }
+    requires search { IsSearchable block.now window.now scope.range }
     requires row { place.row ≤ 2 * scope.range }
     requires column { place.column ≤ 2 * scope.range }
     requires best { IsFoundInWindow scope (window_cost block.now window.now scope.range) best }
@@ -58,9 +58,7 @@ fn consider_rest(
     place: Spot,
     first: u32,
 ) -> Found
-    requires block { 256 ≤ length block.now }
-    requires window { (2 * scope.range + 16) * WINDOW_WIDTH ≤ length window.now }
-    requires range { scope.range ≤ 64 }
+    requires search { IsSearchable block.now window.now scope.range }
     requires row { place.row ≤ 2 * scope.range }
     requires column { place.column ≤ 2 * scope.range }
     requires best { IsFoundInWindow scope (window_cost block.now window.now scope.range) best }
@@ -124,9 +122,7 @@ fn consider_bounded(
     place: Spot,
     bound: u32,
 ) -> Found
-    requires block { 256 ≤ length block.now }
-    requires window { (2 * scope.range + 16) * WINDOW_WIDTH ≤ length window.now }
-    requires range { scope.range ≤ 64 }
+    requires search { IsSearchable block.now window.now scope.range }
     requires row { place.row ≤ 2 * scope.range }
     requires bound { place.column ≤ 2 * scope.range → bound ≤ window_cost block.now window.now scope.range
         (vector_at scope.range place.row place.column) }
@@ -168,9 +164,7 @@ fn consider_eight(
     spot: Spot,
     bounds: u16x8,
 ) -> Found
-    requires block { 256 ≤ length block.now }
-    requires window { (2 * scope.range + 16) * WINDOW_WIDTH ≤ length window.now }
-    requires range { scope.range ≤ 64 }
+    requires search { IsSearchable block.now window.now scope.range }
     requires row { spot.row ≤ 2 * scope.range }
     requires column { spot.column ≤ 2 * scope.range + 8 }
     requires bounds { IsBound block.now window.now scope.range spot.row spot.column bounds }
@@ -262,9 +256,7 @@ fn most_pass(sums: SquareSums, range: u8, cost: u32, i: usize) -> bool
 /// Whether at least half of the vectors of row `i` cost more than `limit` by their first four rows of pixels, by the
 /// eight that begin at its middle. If fewer do, as in noise, comparing there costs more than it saves.
 fn half_leave_early(block: &[u8], window: &[u8], range: u8, limit: u32, i: usize) -> bool
-    requires block { 256 ≤ length block.now }
-    requires window { (2 * range + 16) * WINDOW_WIDTH ≤ length window.now }
-    requires range { range ≤ 64 }
+    requires search { IsSearchable block.now window.now range }
     requires i { i ≤ 2 * range }
 {
     let first = i * WINDOW_WIDTH + usize::from(range);
@@ -286,9 +278,7 @@ fn unbounded_after(
     i: usize,
     pass: bool,
 ) -> Unbounded
-    requires block { 256 ≤ length block.now }
-    requires window { (2 * range + 16) * WINDOW_WIDTH ≤ length window.now }
-    requires range { range ≤ 64 }
+    requires search { IsSearchable block.now window.now range }
     requires i { i ≤ 2 * range }
 {
     if !pass {
@@ -310,9 +300,7 @@ fn consider_bounded_row(
     best: Found,
     i: usize,
 ) -> Progress
-    requires block { 256 ≤ length block.now }
-    requires window { (2 * scope.range + 16) * WINDOW_WIDTH ≤ length window.now }
-    requires range { scope.range ≤ 64 }
+    requires search { IsSearchable block.now window.now scope.range }
     requires i { i ≤ 2 * scope.range }
     requires sums { IsSummedSearch block.now window.now scope.range sums }
     requires best { IsFoundInWindow scope (window_cost block.now window.now scope.range) best }
@@ -357,9 +345,7 @@ fn consider_next(
     progress: Progress,
     i: usize,
 ) -> Progress
-    requires block { 256 ≤ length block.now }
-    requires window { (2 * scope.range + 16) * WINDOW_WIDTH ≤ length window.now }
-    requires range { scope.range ≤ 64 }
+    requires search { IsSearchable block.now window.now scope.range }
     requires i { i ≤ 2 * scope.range }
     requires sums { IsSummedSearch block.now window.now scope.range sums }
     requires best { IsFoundInWindow scope (window_cost block.now window.now scope.range) progress.best }
@@ -388,9 +374,7 @@ fn consider_next(
 
 /// The zero vector, whose block stands at the centre of the window, with its cost.
 pub(crate) fn centre_of(block: &[u8], window: &[u8], range: u8) -> Found
-    requires block { 256 ≤ length block.now }
-    requires window { (2 * range + 16) * WINDOW_WIDTH ≤ length window.now }
-    requires range { range ≤ 64 }
+    requires search { IsSearchable block.now window.now range }
     ensures near { IsNear range result.vector }
     ensures known { result.cost ≡ window_cost block.now window.now range result.vector }
     ensures zero { vector_length result.vector ≡ 0 }
@@ -408,9 +392,7 @@ pub(crate) fn centre_of(block: &[u8], window: &[u8], range: u8) -> Found
 /// The best of a known vector and those of row `i`, one by one. Not inlined, so that there is one copy.
 #[inline(never)]
 fn consider_each(block: &[u8], window: &[u8], scope: Scope, best: Found, i: usize) -> Found
-    requires block { 256 ≤ length block.now }
-    requires window { (2 * scope.range + 16) * WINDOW_WIDTH ≤ length window.now }
-    requires range { scope.range ≤ 64 }
+    requires search { IsSearchable block.now window.now scope.range }
     requires i { i ≤ 2 * scope.range }
     requires best { IsFoundInWindow scope (window_cost block.now window.now scope.range) best }
     ensures kept { IsFoundInWindow scope (window_cost block.now window.now scope.range) result }
@@ -437,9 +419,7 @@ fn consider_start(
     place: Spot,
     first: u32,
 ) -> Found
-    requires block { 256 ≤ length block.now }
-    requires window { (2 * scope.range + 16) * WINDOW_WIDTH ≤ length window.now }
-    requires range { scope.range ≤ 64 }
+    requires search { IsSearchable block.now window.now scope.range }
     requires row { place.row ≤ 2 * scope.range }
     requires column { place.column ≤ 2 * scope.range }
     requires best { IsFoundInWindow scope (window_cost block.now window.now scope.range) best }
@@ -461,9 +441,7 @@ fn consider_start(
 /// too.
 #[inline(always)]
 fn consider_early(block: &[u8], window: &[u8], scope: Scope, best: Found, place: Spot) -> Found
-    requires block { 256 ≤ length block.now }
-    requires window { (2 * scope.range + 16) * WINDOW_WIDTH ≤ length window.now }
-    requires range { scope.range ≤ 64 }
+    requires search { IsSearchable block.now window.now scope.range }
     requires row { place.row ≤ 2 * scope.range }
     requires column { place.column ≤ 2 * scope.range }
     requires best { IsFoundInWindow scope (window_cost block.now window.now scope.range) best }
@@ -488,9 +466,7 @@ fn consider_pair(
     place: Spot,
     pair: Pair,
 ) -> Found
-    requires block { 256 ≤ length block.now }
-    requires window { (2 * scope.range + 16) * WINDOW_WIDTH ≤ length window.now }
-    requires range { scope.range ≤ 64 }
+    requires search { IsSearchable block.now window.now scope.range }
     requires row { place.row ≤ 2 * scope.range }
     requires column { place.column + 1 ≤ 2 * scope.range }
     requires best { IsFoundInWindow scope (window_cost block.now window.now scope.range) best }
@@ -518,9 +494,7 @@ fn consider_pair(
 /// first four rows of pixels.
 #[inline(never)]
 fn consider_starts(block: &[u8], window: &[u8], scope: Scope, best: Found, i: usize) -> Found
-    requires block { 256 ≤ length block.now }
-    requires window { (2 * scope.range + 16) * WINDOW_WIDTH ≤ length window.now }
-    requires range { scope.range ≤ 64 }
+    requires search { IsSearchable block.now window.now scope.range }
     requires i { i ≤ 2 * scope.range }
     requires best { IsFoundInWindow scope (window_cost block.now window.now scope.range) best }
     ensures kept { IsFoundInWindow scope (window_cost block.now window.now scope.range) result }
@@ -551,9 +525,7 @@ fn consider_starts(block: &[u8], window: &[u8], scope: Scope, best: Found, i: us
 /// do not pay.
 #[inline(never)]
 fn consider_short_row(block: &[u8], window: &[u8], scope: Scope, best: Found, i: usize) -> Found
-    requires block { 256 ≤ length block.now }
-    requires window { (2 * scope.range + 16) * WINDOW_WIDTH ≤ length window.now }
-    requires range { scope.range ≤ 64 }
+    requires search { IsSearchable block.now window.now scope.range }
     requires i { i ≤ 2 * scope.range }
     requires best { IsFoundInWindow scope (window_cost block.now window.now scope.range) best }
     ensures kept { IsFoundInWindow scope (window_cost block.now window.now scope.range) result }
@@ -579,9 +551,7 @@ fn consider_unbounded_row(
     i: usize,
     early: bool,
 ) -> Found
-    requires block { 256 ≤ length block.now }
-    requires window { (2 * scope.range + 16) * WINDOW_WIDTH ≤ length window.now }
-    requires range { scope.range ≤ 64 }
+    requires search { IsSearchable block.now window.now scope.range }
     requires i { i ≤ 2 * scope.range }
     requires best { IsFoundInWindow scope (window_cost block.now window.now scope.range) best }
     ensures kept { IsFoundInWindow scope (window_cost block.now window.now scope.range) result }
@@ -617,9 +587,7 @@ pub(crate) fn search_unbounded(
     known: Found,
     early: bool,
 ) -> Found
-    requires block { 256 ≤ length block.now }
-    requires window { (2 * scope.range + 16) * WINDOW_WIDTH ≤ length window.now }
-    requires range { scope.range ≤ 64 }
+    requires search { IsSearchable block.now window.now scope.range }
     requires known { IsFoundInWindow scope (window_cost block.now window.now scope.range) known }
     ensures { IsBestBelow scope (window_cost block.now window.now scope.range) result }
 {
@@ -638,9 +606,7 @@ pub(crate) fn search_unbounded(
 /// The best vector of a window, one by one: where bounds don't pay, or their memory is not at hand. If the zero vector
 /// `centre` costs nothing, as on black bars, no other is better.
 pub(crate) fn search_from_centre(block: &[u8], window: &[u8], range: u8, centre: Found) -> Found
-    requires block { 256 ≤ length block.now }
-    requires window { (2 * range + 16) * WINDOW_WIDTH ≤ length window.now }
-    requires range { range ≤ 64 }
+    requires search { IsSearchable block.now window.now range }
     requires near { IsNear range centre.vector }
     requires known { centre.cost ≡ window_cost block.now window.now range centre.vector }
     requires zero { vector_length centre.vector ≡ 0 }
@@ -666,9 +632,7 @@ pub(crate) fn search_outwards(
     scope: Scope,
     known: Found,
 ) -> Progress
-    requires block { 256 ≤ length block.now }
-    requires window { (2 * scope.range + 16) * WINDOW_WIDTH ≤ length window.now }
-    requires range { scope.range ≤ 64 }
+    requires search { IsSearchable block.now window.now scope.range }
     requires sums { IsSummedSearch block.now window.now scope.range sums }
     requires known { IsFoundInWindow scope (window_cost block.now window.now scope.range) known }
     ensures { IsBestBelow scope (window_cost block.now window.now scope.range) result.best }

@@ -1,68 +1,24 @@
 //! Refinement of a vector to quarter pixels.
 
-ghost use Rattle.std.specs.Prelude.{◌≡◌, ℕ, ℤ, pos, ◌+◌, ◌*◌, ◌<◌, ◌≤◌, ◌+ℤ◌, ◌-ℤ◌, ◌*ℤ◌, ◌≤ℤ◌, unsigned_abs};
-ghost use Rattle.std.specs.Prelude.{slice_index};
+ghost use Rattle.std.specs.Prelude.{◌≡◌, ℕ, ℤ, pos, negsuc, ◌+◌, ◌*◌, ◌<◌, ◌≤◌, ◌⊎◌, ◌+ℤ◌, ◌-ℤ◌, ◌*ℤ◌, ◌≤ℤ◌};
+ghost use Rattle.std.specs.Prelude.{slice_index, unsigned_abs};
 ghost use Rattle.vp_base.specs.Raster.{Raster};
-ghost use Rattle.vp_inter.specs.Vectors.{luma_vector};
-ghost use Rattle.vp_inter.specs.Filtered.{AreFiltered};
 ghost use Rattle.vp_search.specs.Vectors.{quarters, IsNear};
-ghost use Rattle.vp_search.specs.Differences.{sum_of_differences, block16};
-ghost use Rattle.vp_search.specs.Blocks.{macroblock_pixels, quarter_cost};
-ghost use Rattle.vp_search.specs.Refined.{candidates_around, neighbour, IsBestOf, IsRefined};
+ghost use Rattle.vp_search.specs.Differences.{block16};
+ghost use Rattle.vp_search.specs.Blocks.{quarter_cost};
+ghost use Rattle.vp_search.specs.Refined.{candidates_around, IsBestOf, IsRefined};
+ghost use Rattle.vp_search.specs.Columns.{IsWithin, IsColumn, AreWithin, AreBestOf};
 
-use crate::block::macroblock;
-use crate::difference::{sad_from, sad16};
+use crate::columns::{cost_of_row, costs_of_halves};
 use crate::least::first_least;
-use crate::vector::{Found, QuarterVector, Refined, WholeVector, quarters};
+use crate::vector::{Found, QuarterVector, Refined, quarters};
 use vp_base::{Place, Plane};
-use vp_inter::{FilteredRows, luma_vector, predict_block16};
+use vp_inter::{ColumnFilter, FilteredRows, luma_vector};
 
-/// Refines a vector to quarter pixels for the source macroblock at `place`. First the best of `centre` and its eight
-/// neighbours half a pixel away is chosen; then the best of that one and its eight neighbours a quarter pixel away. Of
-/// equal costs the middle one is chosen, then the first in raster order. Prediction uses the six-tap filter of version
-/// 0 (RFC 6386, chapter 18).
-pub fn refine(source: &Plane, reference: &Plane, place: Place, centre: WholeVector) -> Refined
-    requires columns { 16 * place.column + 16 ≤ source.now.width }
-    requires rows { 16 * place.row + 16 ≤ source.now.height }
-    requires wide { 0 < reference.now.width }
-    requires high { 0 < reference.now.height }
-    requires near { IsNear 16384 centre }
-    ensures cost { result.cost ≡ quarter_cost (macroblock_pixels source.now place) reference.now place result.vector }
-    ensures refined { IsRefined (quarter_cost
-        (macroblock_pixels source.now place) reference.now place) centre result.vector }
-    ensures row { unsigned_abs (result.vector.row -ℤ pos 4 *ℤ centre.row) ≤ 3 }
-    ensures column { unsigned_abs (result.vector.column -ℤ pos 4 *ℤ centre.column) ≤ 3 }
-{
-    let _known = [source.width(), source.height()];
-    refine_block(&macroblock(source, place), reference, place, centre)
-}
-
-/// Refines a vector as `refine` does, for a macroblock at `place` with luma `block` in raster order.
-pub fn refine_block(
-    block: &[u8; 256],
-    reference: &Plane,
-    place: Place,
-    centre: WholeVector,
-) -> Refined
-    requires columns { 16 * place.column ≤ 16384 }
-    requires rows { 16 * place.row ≤ 16384 }
-    requires wide { 0 < reference.now.width }
-    requires high { 0 < reference.now.height }
-    requires near { IsNear 16384 centre }
-    ensures cost { result.cost ≡ quarter_cost (block16 block.now) reference.now place result.vector }
-    ensures refined { IsRefined (quarter_cost (block16 block.now) reference.now place) centre result.vector }
-    ensures row { unsigned_abs (result.vector.row -ℤ pos 4 *ℤ centre.row) ≤ 3 }
-    ensures column { unsigned_abs (result.vector.column -ℤ pos 4 *ℤ centre.column) ≤ 3 }
-{
-    let cost = cost_of(block, reference, place, quarters(centre));
-    let found = Found {
-        vector: centre,
-        cost,
-    };
-    refine_found(block, reference, place, found)
-}
-
-/// Refines a vector as `refine_block` does, with its known cost, as a search returns them.
+/// Refines a vector, whose cost is known as a search returns it, to quarter pixels, for a macroblock at `place` with
+/// luma `block` in raster order. First the best of the vector and its eight neighbours half a pixel away is chosen;
+/// then the best of that one and its eight neighbours a quarter pixel away. Of equal costs the middle one is chosen,
+/// then the first in raster order. Prediction uses the six-tap filter of version 0 (RFC 6386, chapter 18).
 pub fn refine_found(block: &[u8; 256], reference: &Plane, place: Place, found: Found) -> Refined
     requires columns { 16 * place.column ≤ 16384 }
     requires rows { 16 * place.row ≤ 16384 }
@@ -83,195 +39,183 @@ pub fn refine_found(block: &[u8; 256], reference: &Plane, place: Place, found: F
     if middle.cost == 0 {
         return middle;
     }
-    let halfway = best_of(block, reference, place, middle, 2);
-    best_of(block, reference, place, halfway, 1)
+    let target = Target {
+        block,
+        reference,
+        place,
+        above: found.vector.row - 1,
+    };
+    refine_target(target, middle)
 }
 
-/// The best of `centre` and its eight neighbours at a distance. `centre` is a vector of whole pixels, at most 16,384
-/// in each direction, or at most two quarter pixels from one, with its cost.
-fn best_of(
-    block: &[u8; 256],
-    reference: &Plane,
+/// What is refined: a block, the reference that it is predicted from, and the row of whole pixels above the vectors
+/// that are tried.
+#[derive(Clone, Copy)]
+struct Target<'a> {
+    block: &'a [u8; 256],
+    reference: &'a Plane,
     place: Place,
-    centre: Refined,
-    distance: i32,
-) -> Refined
-    requires columns { 16 * place.column ≤ 16384 }
-    requires rows { 16 * place.row ≤ 16384 }
-    requires wide { 0 < reference.now.width }
-    requires high { 0 < reference.now.height }
-    requires cost { centre.cost ≡ quarter_cost (block16 block.now) reference.now place centre.vector }
+    above: i32,
+    ghost wide: { 0 < reference.now.width },
+    ghost high: { 0 < reference.now.height },
+    ghost columns: { 16 * place.column ≤ 16384 },
+    ghost rows: { 16 * place.row ≤ 16384 },
+    ghost near: { (negsuc 16384 ≤ℤ above) × (above ≤ℤ pos 16383) },
+}
+
+/// Refines a vector of whole pixels that costs something. A column that was tried by half pixels is not filtered again.
+fn refine_target(target: Target, middle: Refined) -> Refined
+    requires row { middle.vector.row ≡ pos 4 *ℤ target.above +ℤ pos 4 }
+    requires column { unsigned_abs middle.vector.column ≤ 4 * 16384 }
+    requires cost { middle.cost
+        ≡ quarter_cost (block16 target.block.now) target.reference.now target.place middle.vector }
+    ensures cost { result.cost
+        ≡ quarter_cost (block16 target.entry.block.now) target.entry.reference.now target.entry.place result.vector }
+    ensures refined { AreBestOf (quarter_cost
+        (block16 target.entry.block.now) target.entry.reference.now target.entry.place) middle.vector result.vector }
+    ensures row { unsigned_abs (result.vector.row -ℤ middle.vector.row) ≤ 3 }
+    ensures column { unsigned_abs (result.vector.column -ℤ middle.vector.column) ≤ 3 }
+{
+    let column = middle.vector.column;
+    let mut left = FilteredRows::new();
+    let mut own = FilteredRows::new();
+    let mut right = FilteredRows::new();
+    filter_column(target, column - 2, &mut left);
+    filter_column(target, column, &mut own);
+    filter_column(target, column + 2, &mut right);
+    let halves = costs_by_halves(target.block, &left, &own, &right, middle.cost);
+    let halfway = best_of(middle, 2, &halves);
+    let nearest = column_beside(&left, &own, &right, halfway.vector.column - column);
+    let quarters = costs_by_quarters(target, nearest, halfway);
+    best_of(halfway, 1, &quarters)
+}
+
+/// The first of the least costs of `centre` and its eight neighbours at a distance, in the order of `around`. A cost
+/// above that of `centre` need not be exact.
+fn best_of(centre: Refined, distance: i32, costs: &[u32; 9]) -> Refined
     requires row { unsigned_abs centre.vector.row ≤ 4 * 16384 + 2 }
     requires column { unsigned_abs centre.vector.column ≤ 4 * 16384 + 2 }
     requires distance { (pos 1 ≤ℤ distance) × (distance ≤ℤ pos 2) }
-    ensures cost { result.cost ≡ quarter_cost (block16 block.now) reference.now place result.vector }
-    ensures best { IsBestOf (quarter_cost
-        (block16 block.now) reference.now place) centre.vector distance result.vector }
+    ensures best { (cost : QuarterVector → ℕ) → centre.cost ≡ cost centre.vector
+        → AreWithin costs.now cost centre distance
+        → IsBestOf cost centre.vector distance result.vector × (result.cost ≡ cost result.vector) }
     ensures row { unsigned_abs (result.vector.row -ℤ centre.vector.row) ≤ unsigned_abs distance }
-    ensures column { unsigned_abs (result.vector.column -ℤ centre.vector.column) ≤ unsigned_abs distance }
+    ensures column { (result.vector.column ≡ centre.vector.column -ℤ distance)
+        ⊎ (result.vector.column ≡ centre.vector.column)
+        ⊎ (result.vector.column ≡ centre.vector.column +ℤ distance) }
 {
     let vectors = around(centre.vector, distance);
-    let costs = costs_around(block, reference, place, centre, distance);
-    let best = first_least(&costs);
+    let best = first_least(costs);
     Refined {
         vector: vectors[best],
         cost: costs[best],
     }
 }
 
-/// The costs of `centre` and its eight neighbours, in the order of `around`. The vectors of a column share one
-/// horizontal pass.
-fn costs_around(
+/// Filters the rows of the vectors with a column.
+fn filter_column(target: Target, column: i32, rows: &mut FilteredRows)
+    requires { unsigned_abs column ≤ 4 * 16384 + 4 }
+    ensures { IsColumn target.entry.reference.now target.entry.place target.entry.above column rows.new }
+{
+    let [x, y] = [16 * target.place.column, 16 * target.place.row];
+    let first = luma_vector(4 * target.above, column);
+    rows.filter(target.reference, x, y, first);
+}
+
+/// The column that lies `beside` quarter pixels from `own`, two at most.
+fn column_beside<'a>(
+    left: &'a FilteredRows,
+    own: &'a FilteredRows,
+    right: &'a FilteredRows,
+    beside: i32,
+) -> &'a FilteredRows
+    ensures left { beside ≡ negsuc 1 → result.now ≡ left.now }
+    ensures own { beside ≡ pos 0 → result.now ≡ own.now }
+    ensures right { beside ≡ pos 2 → result.now ≡ right.now }
+{
+    match beside {
+        -2 => left,
+        0 => own,
+        _ => right,
+    }
+}
+
+/// The costs of a vector of whole pixels, which is `limit`, and of its eight neighbours half a pixel away.
+fn costs_by_halves(
     block: &[u8; 256],
-    reference: &Plane,
-    place: Place,
-    centre: Refined,
-    distance: i32,
+    left: &FilteredRows,
+    own: &FilteredRows,
+    right: &FilteredRows,
+    limit: u32,
 ) -> [u32; 9]
-    requires columns { 16 * place.column ≤ 16384 }
-    requires rows { 16 * place.row ≤ 16384 }
-    requires wide { 0 < reference.now.width }
-    requires high { 0 < reference.now.height }
-    requires cost { centre.cost ≡ quarter_cost (block16 block.now) reference.now place centre.vector }
-    requires row { unsigned_abs centre.vector.row ≤ 4 * 16384 + 2 }
+    ensures { (p : Raster) (place : Place) (whole column : ℤ) (centre : Refined)
+        → centre.vector ≡ record { row = pos 4 *ℤ whole +ℤ pos 4; column = column } → centre.cost ≡ limit
+        → centre.cost ≡ quarter_cost (block16 block.now) p place centre.vector
+        → IsColumn p place whole (column -ℤ pos 2) left.now → IsColumn p place whole column own.now
+        → IsColumn p place whole (column +ℤ pos 2) right.now
+        → AreWithin result (quarter_cost (block16 block.now) p place) centre (pos 2) }
+{
+    let half = ColumnFilter::of(4);
+    let [above_left, below_left] = costs_of_halves(block, left, &half, limit);
+    let [above, below] = costs_of_halves(block, own, &half, limit);
+    let [above_right, below_right] = costs_of_halves(block, right, &half, limit);
+    [
+        limit,
+        above_left,
+        above,
+        above_right,
+        cost_of_row(block, left, 4, limit),
+        cost_of_row(block, right, 4, limit),
+        below_left,
+        below,
+        below_right,
+    ]
+}
+
+/// The costs of `centre`, whose column was filtered before, and of its eight neighbours a quarter pixel away.
+fn costs_by_quarters(target: Target, own: &FilteredRows, centre: Refined) -> [u32; 9]
+    requires cost { centre.cost
+        ≡ quarter_cost (block16 target.block.now) target.reference.now target.place centre.vector }
+    requires own { IsColumn target.reference.now target.place target.above centre.vector.column own.now }
+    requires above { (pos 4 *ℤ target.above +ℤ pos 2) ≤ℤ centre.vector.row }
+    requires below { centre.vector.row ≤ℤ (pos 4 *ℤ target.above +ℤ pos 6) }
     requires column { unsigned_abs centre.vector.column ≤ 4 * 16384 + 2 }
-    requires distance { (pos 1 ≤ℤ distance) × (distance ≤ℤ pos 2) }
-    ensures { (k : ℕ) → k < 9 → slice_index result k
-        ≡ quarter_cost (block16 block.now) reference.now place (neighbour centre.vector distance k) }
+    ensures { AreWithin result (quarter_cost
+        (block16 target.entry.block.now) target.entry.reference.now target.entry.place) centre (pos 1) }
 {
     let QuarterVector { row, column } = centre.vector;
-    let before = QuarterVector {
-        row,
-        column: column - distance,
-    };
-    let after = QuarterVector {
-        row,
-        column: column + distance,
-    };
-    let left = costs_of_column(block, reference, place, before, distance);
-    let middle = costs_beyond(block, reference, place, centre.vector, distance);
-    let right = costs_of_column(block, reference, place, after, distance);
+    let first = (row - 4 * target.above - 1) as usize;
+    let (block, limit) = (target.block, centre.cost);
+    let mut rows = FilteredRows::new();
+    filter_column(target, column - 1, &mut rows);
+    let left = costs_of_three(block, &rows, first, limit);
+    filter_column(target, column + 1, &mut rows);
+    let right = costs_of_three(block, &rows, first, limit);
     [
         centre.cost,
         left[0],
-        middle[0],
+        cost_of_row(block, own, first, limit),
         right[0],
         left[1],
         right[1],
         left[2],
-        middle[1],
+        cost_of_row(block, own, first + 2, limit),
         right[2],
     ]
 }
 
-/// The costs of three vectors of a column: at a distance above `middle`, `middle` itself, and at the distance below.
-fn costs_of_column(
-    block: &[u8; 256],
-    reference: &Plane,
-    place: Place,
-    middle: QuarterVector,
-    distance: i32,
-) -> [u32; 3]
-    requires columns { 16 * place.column ≤ 16384 }
-    requires rows { 16 * place.row ≤ 16384 }
-    requires wide { 0 < reference.now.width }
-    requires high { 0 < reference.now.height }
-    requires row { unsigned_abs middle.row ≤ 4 * 16384 + 2 }
-    requires column { unsigned_abs middle.column ≤ 4 * 16384 + 4 }
-    requires distance { (pos 1 ≤ℤ distance) × (distance ≤ℤ pos 2) }
-    ensures above { slice_index result 0 ≡ quarter_cost (block16 block.now) reference.now place
-        (record middle { row = middle.row -ℤ distance }) }
-    ensures middle { slice_index result 1 ≡ quarter_cost (block16 block.now) reference.now place middle }
-    ensures below { slice_index result 2 ≡ quarter_cost (block16 block.now) reference.now place
-        (record middle { row = middle.row +ℤ distance }) }
+/// The costs of the vectors `first`, `first + 1` and `first + 2` quarter pixels below that whose rows these are.
+fn costs_of_three(block: &[u8; 256], rows: &FilteredRows, first: usize, limit: u32) -> [u32; 3]
+    requires { first < 6 }
+    ensures { (p : Raster) (place : Place) (whole column : ℤ) → IsColumn p place whole column rows.now
+        → (k : ℕ) → k < 3 → IsWithin limit (slice_index result k) (quarter_cost (block16 block.now) p place
+        (record { row = pos 4 *ℤ whole +ℤ pos (first + k); column = column })) }
 {
-    let top = middle.row - distance;
-    let rows = rows_of(reference, place, top, middle.column);
-    let [above, below] = costs_of_ends(block, &rows, top, distance);
-    [above, cost_of_row(block, &rows, top, middle.row), below]
-}
-
-/// The costs of the vectors at a distance above and below `middle`.
-fn costs_beyond(
-    block: &[u8; 256],
-    reference: &Plane,
-    place: Place,
-    middle: QuarterVector,
-    distance: i32,
-) -> [u32; 2]
-    requires columns { 16 * place.column ≤ 16384 }
-    requires rows { 16 * place.row ≤ 16384 }
-    requires wide { 0 < reference.now.width }
-    requires high { 0 < reference.now.height }
-    requires row { unsigned_abs middle.row ≤ 4 * 16384 + 2 }
-    requires column { unsigned_abs middle.column ≤ 4 * 16384 + 4 }
-    requires distance { (pos 1 ≤ℤ distance) × (distance ≤ℤ pos 2) }
-    ensures above { slice_index result 0 ≡ quarter_cost (block16 block.now) reference.now place
-        (record middle { row = middle.row -ℤ distance }) }
-    ensures below { slice_index result 1 ≡ quarter_cost (block16 block.now) reference.now place
-        (record middle { row = middle.row +ℤ distance }) }
-{
-    let top = middle.row - distance;
-    let rows = rows_of(reference, place, top, middle.column);
-    costs_of_ends(block, &rows, top, distance)
-}
-
-/// The rows that the vectors of a column from row `top` on are predicted from.
-fn rows_of(reference: &Plane, place: Place, top: i32, column: i32) -> FilteredRows
-    requires columns { 16 * place.column ≤ 16384 }
-    requires rows { 16 * place.row ≤ 16384 }
-    requires wide { 0 < reference.now.width }
-    requires high { 0 < reference.now.height }
-    requires row { unsigned_abs top ≤ 4 * 16384 + 4 }
-    requires column { unsigned_abs column ≤ 4 * 16384 + 4 }
-    ensures { AreFiltered reference.now (16 * place.column) (16 * place.row) (luma_vector top column) result }
-{
-    let [x, y] = [16 * place.column, 16 * place.row];
-    FilteredRows::of(reference, x, y, luma_vector(top, column))
-}
-
-/// The cost of the vector with row `row` of a column, from rows that were filtered for the one with row `top`.
-fn cost_of_row(block: &[u8; 256], rows: &FilteredRows, top: i32, row: i32) -> u32
-    requires top { unsigned_abs top ≤ 4 * 16384 + 4 }
-    requires below { top ≤ℤ row }
-    requires near { row ≤ℤ (top +ℤ pos 4) }
-    ensures { (p : Raster) (place : Place) (column : ℤ)
-        → AreFiltered p (16 * place.column) (16 * place.row) (luma_vector top column) rows.now
-        → result ≡ quarter_cost (block16 block.now) p place (record { row = row; column = column }) }
-{
-    sad16(block, &rows.predict(2 * top, 2 * row))
-}
-
-/// The costs of the vectors of a column at a distance above and below its centre, from rows that were filtered for the
-/// upper one, with row `top`. Half a pixel from the centre, both share the vertical pass too.
-fn costs_of_ends(block: &[u8; 256], rows: &FilteredRows, top: i32, distance: i32) -> [u32; 2]
-    requires top { unsigned_abs top ≤ 4 * 16384 + 4 }
-    requires distance { (pos 1 ≤ℤ distance) × (distance ≤ℤ pos 2) }
-    ensures above { (p : Raster) (place : Place) (column : ℤ)
-        → AreFiltered p (16 * place.column) (16 * place.row) (luma_vector top column) rows.now
-        → slice_index result 0 ≡ quarter_cost (block16 block.now) p place (record { row = top; column = column }) }
-    ensures below { (p : Raster) (place : Place) (column : ℤ)
-        → AreFiltered p (16 * place.column) (16 * place.row) (luma_vector top column) rows.now
-        → slice_index result 1 ≡ quarter_cost (block16 block.now) p place
-        (record { row = top +ℤ pos 2 *ℤ distance; column = column }) }
-{
-    if distance == 2 {
-        return costs_of_two(block, &rows.predict_two(2 * top));
-    }
     [
-        cost_of_row(block, rows, top, top),
-        cost_of_row(block, rows, top, top + 2 * distance),
+        cost_of_row(block, rows, first, limit),
+        cost_of_row(block, rows, first + 1, limit),
+        cost_of_row(block, rows, first + 2, limit),
     ]
-}
-
-/// The costs of two predictions of which one lies a pixel below the other.
-fn costs_of_two(block: &[u8; 256], rows: &[u8; 272]) -> [u32; 2]
-    ensures upper { slice_index result 0
-        ≡ sum_of_differences 16 16 (block16 block.now) (λ r c. slice_index rows.now (r * 16 + c)) }
-    ensures lower { slice_index result 1
-        ≡ sum_of_differences 16 16 (block16 block.now) (λ r c. slice_index rows.now ((r + 1) * 16 + c)) }
-{
-    [sad_from(block, rows, 0), sad_from(block, rows, 1)]
 }
 
 /// A vector, then its eight neighbours at a distance in raster order.
@@ -307,19 +251,4 @@ fn around(centre: QuarterVector, distance: i32) -> [QuarterVector; 9]
             column: right,
         },
     ]
-}
-
-/// The cost of a vector: the sum of absolute differences of the block and its prediction.
-fn cost_of(block: &[u8; 256], reference: &Plane, place: Place, vector: QuarterVector) -> u32
-    requires columns { 16 * place.column ≤ 16384 }
-    requires rows { 16 * place.row ≤ 16384 }
-    requires wide { 0 < reference.now.width }
-    requires high { 0 < reference.now.height }
-    requires row { unsigned_abs vector.row ≤ 4 * 16384 + 4 }
-    requires column { unsigned_abs vector.column ≤ 4 * 16384 + 4 }
-    ensures { result ≡ quarter_cost (block16 block.now) reference.now place vector }
-{
-    let [x, y] = [16 * place.column, 16 * place.row];
-    let prediction = predict_block16(reference, x, y, luma_vector(vector.row, vector.column), 0);
-    sad16(block, &prediction)
 }

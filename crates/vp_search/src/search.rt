@@ -3,16 +3,16 @@
 ghost use Rattle.std.specs.Prelude.{◌≡◌, ◌+◌, ◌*◌, ◌<◌, ◌≤◌, IfSome, length};
 ghost use Rattle.vp_search.specs.Vectors.{quarters, vector_length, IsNear};
 ghost use Rattle.vp_search.specs.Differences.{block16};
-ghost use Rattle.vp_search.specs.Blocks.{macroblock_pixels, whole_cost, quarter_cost};
+ghost use Rattle.vp_search.specs.Blocks.{whole_cost, quarter_cost};
 ghost use Rattle.vp_search.specs.Least.{IsLeast};
 ghost use Rattle.vp_search.specs.Bounds.{IsSummed};
 ghost use Rattle.vp_search.specs.Coarse.{AreCoarse};
-ghost use Rattle.vp_search.specs.Window.{window_cost, IsFoundInWindow, IsBestBelow};
+ghost use Rattle.vp_search.specs.Window.{window_cost, IsSearchable, IsFoundInWindow, IsBestBelow};
 
-use crate::block::macroblock;
 use crate::coarse::coarse_block;
 use crate::outward::{Progress, centre_of, search_from_centre, search_outwards};
-use crate::sums::{SquareSums, block_sums};
+use crate::summed::SquareSums;
+use crate::sums::block_sums;
 use crate::vector::{Found, Scope};
 use crate::window::{GREATEST_RANGE, WINDOW_WIDTH, cut_window};
 use vp_base::{Place, Plane};
@@ -36,25 +36,9 @@ const LEAST_WINDOW: usize = (16 + 2 * LEAST_RANGE as usize) * WINDOW_WIDTH;
 const WHOLE_WINDOW: usize = (16 + 2 * GREATEST_RANGE) * WINDOW_WIDTH;
 
 /// Searches all vectors of whole pixels whose row and column are from `-range` to `range`. Returns the one with the
-/// least sum of absolute differences for the source macroblock at `place`. Of equal costs the shortest vector is
-/// chosen (sum of both magnitudes), then the least row, then the least column. Both planes are luma planes of whole
-/// macroblocks; the reference is extended by its border pixels (RFC 6386, chapter 5).
-pub fn full_search(source: &Plane, reference: &Plane, place: Place, range: u8) -> Found
-    requires columns { 16 * place.column + 16 ≤ source.now.width }
-    requires rows { 16 * place.row + 16 ≤ source.now.height }
-    requires wide { 0 < reference.now.width }
-    requires high { 0 < reference.now.height }
-    requires range { range ≤ 64 }
-    ensures cost { result.cost ≡ whole_cost (macroblock_pixels source.now place) reference.now place result.vector }
-    ensures least { IsLeast range (whole_cost (macroblock_pixels source.now place) reference.now place) result.vector }
-    ensures predicted { result.cost ≡ quarter_cost (macroblock_pixels source.now place) reference.now place
-        (quarters result.vector) }
-{
-    let _known = [source.width(), source.height()];
-    search_block(&macroblock(source, place), reference, place, range)
-}
-
-/// Searches as `full_search` does, for a macroblock at `place` with luma `block` in raster order.
+/// least sum of absolute differences for the macroblock at `place` with luma `block` in raster order. Of equal costs
+/// the shortest vector is chosen (sum of both magnitudes), then the least row, then the least column. The reference is
+/// a luma plane of whole macroblocks, extended by its border pixels (RFC 6386, chapter 5).
 pub fn search_block(block: &[u8; 256], reference: &Plane, place: Place, range: u8) -> Found
     requires columns { 16 * place.column ≤ 16384 }
     requires rows { 16 * place.row ≤ 16384 }
@@ -74,7 +58,7 @@ pub fn search_block(block: &[u8; 256], reference: &Plane, place: Place, range: u
     }
 }
 
-/// Searches as `full_search` does, with a window of `AREA` pixels. It makes no bounds: for one macroblock, sums cost
+/// Searches as `search_block` does, with a window of `AREA` pixels. It makes no bounds: for one macroblock, sums cost
 /// more than they save on many textures, and take too much of a small stack. `Searcher` keeps them on the heap.
 #[inline(never)]
 fn search_in<const AREA: usize>(
@@ -108,9 +92,7 @@ pub(crate) fn search_without_sums(
     range: u8,
     centre: Found,
 ) -> Option<Found>
-    requires block { 256 ≤ length block.now }
-    requires window { (2 * range + 16) * WINDOW_WIDTH ≤ length window.now }
-    requires range { range ≤ 64 }
+    requires search { IsSearchable block.now window.now range }
     requires near { IsNear range centre.vector }
     requires known { centre.cost ≡ window_cost block.now window.now range centre.vector }
     requires zero { vector_length centre.vector ≡ 0 }
@@ -134,11 +116,9 @@ pub(crate) fn search_summed(
     scope: Scope,
     known: Found,
 ) -> Progress
-    requires block { 256 ≤ length block.now }
-    requires window { (2 * scope.range + 16) * WINDOW_WIDTH ≤ length window.now }
+    requires search { IsSearchable block.now window.now scope.range }
     requires sums { (2 * scope.range + 16) * WINDOW_WIDTH ≤ length sums.now }
     requires coarse_room { 0 < length coarse.now → (2 * scope.range + 16) * WINDOW_WIDTH ≤ length coarse.now }
-    requires range { scope.range ≤ 64 }
     requires summed { IsSummed window.now sums.now scope.range }
     requires coarse { 0 < length coarse.now → AreCoarse ((2 * scope.range + 9) * WINDOW_WIDTH) sums.now coarse.now }
     requires known { IsFoundInWindow scope (window_cost block.now window.now scope.range) known }

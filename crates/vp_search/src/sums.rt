@@ -9,24 +9,12 @@ ghost use Rattle.vp_search.specs.Bounds.{IsSummed, AreSummed};
 ghost use Rattle.vp_search.specs.Coarse.{AreCoarse};
 
 use crate::coarse::{next_coarse, put_coarse};
+use crate::summed::SquareSums;
 use crate::window::WINDOW_WIDTH;
 use std::simd::prelude::*;
 
 /// The number of column sums of a row, and eight more.
 const COLUMNS: usize = WINDOW_WIDTH + 8;
-
-/// The sums of the squares of a block and of a window.
-#[derive(Clone, Copy)]
-pub(crate) struct SquareSums<'a> {
-    /// Those of the four squares of the block.
-    pub(crate) block: [u16; 4],
-    /// Those of the squares at each place of the window.
-    pub(crate) window: &'a [u16],
-    /// Coarse sums of the squares of the block.
-    pub(crate) coarse_block: [u8; 4],
-    /// Coarse sums of the squares at each place of the window; none if coarse bounds don't pay.
-    pub(crate) coarse: &'a [u8],
-}
 
 /// Loads eight bytes from index `at` on.
 fn load_bytes(s: &[u8], at: usize) -> u16x8

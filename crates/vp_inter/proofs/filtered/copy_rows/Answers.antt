@@ -1,10 +1,8 @@
-use Rattle.std.proofs.Common.{◌≡◌, ◌∙◌, ℕ, ◌+◌, ◌*◌, ◌/◌, ◌%◌, ◌<◌, ◌≤◌, ℤ, pos, ◌+ℤ◌, ap, subst, get_or, arith, rules, to_z, of_z, w32}
+use Rattle.std.proofs.Common.{◌≡◌, ◌∙◌, ℕ, ◌<◌, ◌≤◌, ℤ, pos, ◌+ℤ◌, ap, subst, get_or, arith, rules, to_z, of_z, w32}
 use Rattle.std.proofs.lemmas.Int.{ints, to_z-of_z}
 use Rattle.vp_base.specs.Raster.{Raster}
 use Rattle.vp_inter.specs.Inter.{reference_pixel}
-use Rattle.vp_inter.proofs.FilteredLemmas.{halves_more}
-use Rattle.vp_inter.specs.Turns.{half_place}
-use Rattle.vp_inter.proofs.PassLemmas.{rows_bytes}
+use Rattle.vp_inter.proofs.PassLemmas.{rows_more, rows_bytes}
 use Rattle.vp_inter.proofs.filtered.copy_rows.Goals as goal
 
 pub plain_row-row-requires : goal.plain_row-row-requires
@@ -32,12 +30,9 @@ loop-i-preserved c =
     ∙ ap (λ (z : ℤ). reference_pixel p (left +ℤ pos k) z) row in
     record {
       size = search rules;
-      done = halves_more c.loop-i.i c.loop-i.rows c.put_lanes.new.pixels c.halves.result value
-          c.loop-i.invariant.done c.put_lanes.ensures.here c.put_lanes.ensures.before (λ k kin. c.halves.ensures k kin ∙ last k kin);
-      bytes = rows_bytes 16 c.loop-i.i value c.plain_row-row.result c.loop-i.invariant.bytes last
-          (λ k kin.
-          let small : 8 * (k % 2) + k / 2 < 16 = omega arith in
-          subst (λ (n : ℕ). n ≤ 255) (c.halves.ensures k kin) (c.put_lanes.ensures.bytes (half_place k) small));
+      done = rows_more 16 c.loop-i.i c.loop-i.rows c.put_lanes.new.pixels c.plain_row-row.result value
+          c.loop-i.invariant.done c.put_lanes.ensures.here c.put_lanes.ensures.before last;
+      bytes = rows_bytes 16 c.loop-i.i value c.plain_row-row.result c.loop-i.invariant.bytes last c.put_lanes.ensures.bytes;
     }
 
 pub returns-clause-value : goal.returns-clause-value

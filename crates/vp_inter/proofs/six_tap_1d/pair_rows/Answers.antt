@@ -4,7 +4,7 @@ use Rattle.vp_inter.proofs.WideLemmas.{by_parity}
 use Rattle.vp_inter.proofs.six_tap_1d.pair_rows.Goals as goal
 
 pub loop-i-preserved : goal.loop-i-preserved
-loop-i-preserved c =
+loop-i-preserved g c =
     let rows : List ℕ = c.args.rows.now in
     let i : ℕ = c.loop-i.i in
     record {
@@ -19,7 +19,7 @@ loop-i-preserved c =
     }
 
 pub returns : goal.returns
-returns c x t xin tin =
+returns g c x t xin tin =
     let place : 2 * x + t ≡ (x / 8) * 16 + (2 * (x % 8) + t) = omega arith in
     let below : x / 8 < c.loop-i.i = omega arith in
     let small : 2 * (x % 8) + t < 16 = omega arith in

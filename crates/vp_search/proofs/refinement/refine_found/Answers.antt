@@ -1,5 +1,4 @@
-use Rattle.std.proofs.Common.{◌≡◌, ◌∙◌, ℕ, pos, ◌*ℤ◌, sym, ap, subst, arith}
-use Rattle.std.proofs.lemmas.Int.{ints}
+use Rattle.std.proofs.Common.{◌≡◌, ◌∙◌, ℕ, pos, sym, subst}
 use Rattle.vp_search.specs.declared.vector.QuarterVector.{QuarterVector}
 use Rattle.vp_search.specs.Differences.{block16}
 use Rattle.vp_search.specs.Blocks.{quarter_cost}
@@ -8,28 +7,14 @@ use Rattle.vp_search.specs.Refined.{IsBestOf, IsRefined}
 use Rattle.vp_search.proofs.RefinedLemmas.{unmoved}
 use Rattle.vp_search.proofs.refinement.refine_found.Goals as goal
 
-pub best_of-requires-clause-row : goal.best_of-requires-clause-row
-best_of-requires-clause-row c =
-    let near = c.requires.near.0 in
-    let e : c.quarters.result.row ≡ pos 4 *ℤ c.args.found.vector.row = ap (λ (v : QuarterVector). v.row) c.quarters.ensures in
-    let b = c.best_of-halfway.ensures.row in
-    omega (arith, ints)
-
-pub best_of-requires-clause-column : goal.best_of-requires-clause-column
-best_of-requires-clause-column c =
-    let near = c.requires.near.1 in
-    let e : c.quarters.result.column ≡ pos 4 *ℤ c.args.found.vector.column = ap (λ (v : QuarterVector). v.column) c.quarters.ensures in
-    let b = c.best_of-halfway.ensures.column in
-    omega (arith, ints)
-
 pub returns-clause-refined : goal.returns-clause-refined
 returns-clause-refined c =
-    let halfway : QuarterVector = c.best_of-halfway.result.vector in
+    let found = c.refine_target.ensures.refined in
     record {
-      halfway = halfway;
-      first = subst (λ (v : QuarterVector). IsBestOf (quarter_cost (block16 c.args.block.now) c.args.reference.now c.args.place) v (pos 2) halfway)
-          c.quarters.ensures c.best_of-halfway.ensures.best;
-      second = c.best_of.ensures.best;
+      halfway = found.halfway;
+      first = subst (λ (v : QuarterVector). IsBestOf (quarter_cost (block16 c.args.block.now) c.args.reference.now c.args.place) v (pos 2) found.halfway)
+          c.quarters.ensures found.first;
+      second = found.second;
     }
 
 pub returns-then-middle-eq0-clause-refined : goal.returns-then-middle-eq0-clause-refined

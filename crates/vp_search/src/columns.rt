@@ -1,0 +1,111 @@
+//! The costs of vectors of one column, from rows that they share. A cost is only followed as far as a limit.
+
+ghost use Rattle.std.specs.Prelude.{◌≡◌, ℕ, ℤ, pos, ◌+◌, ◌*◌, ◌<◌, ◌≤◌, ◌+ℤ◌, ◌*ℤ◌, slice_index};
+ghost use Rattle.vp_base.specs.Raster.{Raster};
+ghost use Rattle.vp_inter.specs.Filter.{taps};
+ghost use Rattle.vp_search.specs.Differences.{sum_of_differences, block16};
+ghost use Rattle.vp_search.specs.Blocks.{quarter_cost};
+ghost use Rattle.vp_search.specs.Columns.{IsWithin, IsColumn, filtered};
+
+use crate::difference::sad_within;
+use crate::kernel::four_lanes;
+use vp_base::Place;
+use vp_inter::{ColumnFilter, FilteredRows};
+
+/// The cost of the vector `down` quarter pixels below that whose rows these are, which has a row of whole pixels. If it
+/// is above `limit`, returns some number above `limit`.
+pub(crate) fn cost_of_row(block: &[u8; 256], rows: &FilteredRows, down: usize, limit: u32) -> u32
+    requires { down < 8 }
+    ensures { (p : Raster) (place : Place) (whole column : ℤ) → IsColumn p place whole column rows.now
+        → IsWithin limit result (quarter_cost (block16 block.now) p place
+        (record { row = pos 4 *ℤ whole +ℤ pos down; column = column })) }
+{
+    let skip = down / 4;
+    let eighths = 2 * (down % 4);
+    if eighths == 0 {
+        return sad_within(block, rows.rows(), 16 * (skip + 2), 16, limit);
+    }
+    let mut sum = 0;
+    add_cost(
+        &mut sum,
+        block,
+        rows,
+        &ColumnFilter::of(eighths),
+        skip,
+        limit,
+    );
+    sum
+}
+
+/// The costs of the vectors two and six quarter pixels below that whose rows these are, by one vertical pass.
+pub(crate) fn costs_of_halves(
+    block: &[u8; 256],
+    rows: &FilteredRows,
+    half: &ColumnFilter,
+    limit: u32,
+) -> [u32; 2]
+    requires { half.now ≡ taps 0 4 }
+    ensures upper { (p : Raster) (place : Place) (whole column : ℤ) → IsColumn p place whole column rows.now
+        → IsWithin limit (slice_index result 0) (quarter_cost (block16 block.now) p place
+        (record { row = pos 4 *ℤ whole +ℤ pos 2; column = column })) }
+    ensures lower { (p : Raster) (place : Place) (whole column : ℤ) → IsColumn p place whole column rows.now
+        → IsWithin limit (slice_index result 1) (quarter_cost (block16 block.now) p place
+        (record { row = pos 4 *ℤ whole +ℤ pos 6; column = column })) }
+{
+    let both = rows.filtered_rows(half);
+    [
+        sad_within(block, &both, 0, 16, limit),
+        sad_within(block, &both, 16, 16, limit),
+    ]
+}
+
+/// Adds the cost of a block that a vertical pass predicts from row `skip` on, by four rows at a time until it is above
+/// `limit`. The sum is in memory so that each turn loads the weights: with weights in registers the compiler doesn't
+/// select the multiply-add instruction.
+#[inline(never)]
+fn add_cost(
+    sum: &mut u32,
+    block: &[u8; 256],
+    rows: &FilteredRows,
+    filter: &ColumnFilter,
+    skip: usize,
+    limit: u32,
+)
+    requires none { sum.old ≡ 0 }
+    requires skip { skip ≤ 1 }
+    ensures { IsWithin limit sum.new
+        (sum_of_differences 16 16 (block16 block.now) (λ r c. filtered filter.now rows.now (skip + r) c)) }
+{
+    for i in 0..4 {
+        *sum += four_filtered(block, rows, filter, skip, i);
+        if *sum > limit {
+            return;
+        }
+    }
+}
+
+/// The sum of absolute differences of rows `4 * i` to `4 * i + 3` of a block and of its prediction.
+#[inline(always)]
+fn four_filtered(
+    block: &[u8; 256],
+    rows: &FilteredRows,
+    filter: &ColumnFilter,
+    skip: usize,
+    i: usize,
+) -> u32
+    requires skip { skip ≤ 1 }
+    requires i { i < 4 }
+    ensures value { result ≡ sum_of_differences 4 16 (λ r c. block16 block.now (4 * i + r) c)
+        (λ r c. filtered filter.now rows.now (skip + (4 * i + r)) c) }
+    ensures bound { result ≤ 4 * 16 * 255 }
+{
+    let r = skip + 4 * i;
+    four_lanes(
+        block,
+        64 * i,
+        rows.filtered_row(filter, r),
+        rows.filtered_row(filter, r + 1),
+        rows.filtered_row(filter, r + 2),
+        rows.filtered_row(filter, r + 3),
+    )
+}
