@@ -1,5 +1,5 @@
 -- A plane whose macroblock is written as it was is the plane that it was.
-use Rattle.std.proofs.Common.{◌≡◌, ◌∙◌, ℕ, ◌+◌, ◌-◌, ◌*◌, ◌/◌, ◌%◌, ◌<◌, ◌≤◌, Bool, true, false, cond, refl, ap, arith, inl, inr}
+use Rattle.std.proofs.Common.{◌≡◌, ◌∙◌, ℕ, ◌+◌, ◌-◌, ◌*◌, ◌/◌, ◌%◌, ◌<◌, ◌≤◌, Bool, true, false, cond, refl, sym, ap, arith, inl, inr}
 use Rattle.std.proofs.lemmas.Bool.{cases_Bool}
 use Rattle.std.proofs.lemmas.Bool.Decides.{nat_tests}
 use Rattle.vp_base.specs.declared.place.Place.{Place}
@@ -67,3 +67,16 @@ restored p q place f whole h kept =
           ap (λ (s : Bool). cond s (f (v - y) (u - x)) (pixel q u v)) past
           ∙ h.same u v (omega arith) (omega arith) past
     ])
+
+-- the other way: the macroblock of q, written into p
+pub written_back : (factors : Factors) (place : Place) (p : Raster) (s : Subblocks) (n : ℕ) (f : ℕ → ℕ → ℕ) → n ≤ 16 → IsWhole p
+    → ((r c : ℕ) → r < 16 → c < 16 → f r c ≡ block_pixels 16 (after_subblocks factors place p s n) place r c)
+    → with_block p (16 * place.column) (16 * place.row) 16 16 f ≡ after_subblocks factors place p s n
+written_back factors place p s n f most whole are =
+    let q : Raster = after_subblocks factors place p s n in
+    let h : IsSameOutside p (16 * place.column) (16 * place.row) q = after_outside factors place p s n most in
+    let all : IsWhole q = over-holds IsWhole n (sub_rebuilt factors place s) p (λ k below r _. IsWhole-with_block r (4 * (place.column * 4 + k % 4)) (4 * (place.row * 4 + k / 4)) 4 4 _) whole in
+    let w = h.width in
+    let t = h.height in
+    restored q p place f all
+    (record { width = sym h.width; height = sym h.height; same = λ u v uin vin out. sym (h.same u v (omega arith) (omega arith) out) }) are

@@ -1,5 +1,5 @@
 -- Private to the crate: the motion searchers of a frame.
-use Rattle.std.specs.Prelude.{◌≡◌, true, false, Option, Some, None, MatchOption, ⊤}
+use Rattle.std.specs.Prelude.{◌≡◌, Option, IfSome}
 use Rattle.vp_head.specs.declared.fields.Reference.{Reference}
 use Rattle.vp_head.specs.declared.fields.Reference.TheVariants as reference_is
 use Rattle.vp_refs.specs.References.{reference_picture}
@@ -11,14 +11,11 @@ use Rattle.vp_choose.specs.Frame.{Search}
 abbrev pub searcher_of : Search → Reference → Searcher
 searcher_of s reference = record { reference = (reference_picture s.references reference).luma; range = s.range }
 
--- the searchers of the reference frames that are searched; golden needs none where it is the last frame's picture
+-- the searchers of the reference frames that are searched, those that there are
 pub record AreSearchers (s : Search) (searchers : Searchers) : Type 0 where
-  pub last : searchers.last ≡ searcher_of s reference_is.Last
-  pub golden : s.golden ≡ true → MatchOption searchers.golden (s.references.golden ≡ s.references.last)
-      (λ searcher. searcher ≡ searcher_of s reference_is.Golden)
-  pub last_alone : s.golden ≡ false → searchers.golden ≡ None
+  pub last : IfSome searchers.last (λ searcher. searcher ≡ searcher_of s reference_is.Last)
+  pub golden : IfSome searchers.golden (λ searcher. searcher ≡ searcher_of s reference_is.Golden)
 
--- .. if an inter frame has any; there are none in a key frame
-abbrev pub AreSearchersOf : Option Search → Option Searchers → Type 0
-AreSearchersOf None searchers = searchers ≡ None
-AreSearchersOf (Some s) searchers = MatchOption searchers ⊤ (AreSearchers s)
+-- .. of an inter frame
+abbrev pub AreSearchersOf : Option Search → Searchers → Type 0
+AreSearchersOf search searchers = IfSome search (λ s. AreSearchers s searchers)

@@ -4,23 +4,16 @@ ghost use Rattle.vp_choose.specs.Costs.{HasMacroblock};
 ghost use Rattle.vp_choose.specs.Cut.{AreCut};
 
 use vp_base::{Picture, Place};
+use vp_recon::MacroblockPixels;
 use vp_search::{cut_block, macroblock};
 
-/// The source pixels of a macroblock, each plane in raster order.
-#[derive(Clone, Copy)]
-pub(crate) struct Blocks {
-    pub(crate) luma: [u8; 256],
-    pub(crate) u: [u8; 64],
-    pub(crate) v: [u8; 64],
-}
-
 /// Copies the source pixels of the macroblock at `place`.
-pub(crate) fn cut_blocks(source: &Picture, place: Place) -> Blocks
+pub(crate) fn cut_blocks(source: &Picture, place: Place) -> MacroblockPixels
     requires { HasMacroblock source.now place }
     ensures { AreCut source.now place result }
 {
     let _known = source.dim();
-    Blocks {
+    MacroblockPixels {
         luma: macroblock(source.plane(0), place),
         u: cut_block::<8, 64>(source.plane(1), place),
         v: cut_block::<8, 64>(source.plane(2), place),

@@ -7,10 +7,10 @@ ghost use Rattle.vp_choose.specs.Costs.{HasMacroblock, plane_cost, chroma_cost};
 ghost use Rattle.vp_choose.specs.Cut.{AreCut};
 ghost use Rattle.vp_choose.specs.Intra.{IsChroma};
 
-use crate::blocks::Blocks;
 use crate::difference::sad8;
 use vp_base::{Picture, Place, Plane};
 use vp_intra::predict_chroma;
+use vp_recon::MacroblockPixels;
 use vp_search::first_least;
 use vp_tables::ChromaMode;
 
@@ -30,7 +30,7 @@ fn plane_cost(block: &[u8; 64], plane: &Plane, place: Place, mode: ChromaMode) -
 }
 
 /// Returns the cost of a mode over U and V.
-fn cost_of(blocks: &Blocks, picture: &Picture, place: Place, mode: ChromaMode) -> u32
+fn cost_of(blocks: &MacroblockPixels, picture: &Picture, place: Place, mode: ChromaMode) -> u32
     requires { HasMacroblock picture.now place }
     ensures value { (source : Image) → AreCut source place blocks.now
         → result ≡ chroma_cost source picture.now place mode }
@@ -42,7 +42,11 @@ fn cost_of(blocks: &Blocks, picture: &Picture, place: Place, mode: ChromaMode) -
 }
 
 /// Returns the chroma mode of the least cost.
-pub(crate) fn choose_chroma(blocks: &Blocks, picture: &Picture, place: Place) -> ChromaMode
+pub(crate) fn choose_chroma(
+    blocks: &MacroblockPixels,
+    picture: &Picture,
+    place: Place,
+) -> ChromaMode
     requires { HasMacroblock picture.now place }
     ensures { (source : Image) → AreCut source place blocks.now → IsChroma source place picture.now result }
 {

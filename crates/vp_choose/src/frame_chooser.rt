@@ -19,7 +19,8 @@ ghost use Rattle.vp_choose.specs.Choice.{IsChoice};
 use crate::blocks::cut_blocks;
 use crate::frame::{Choice, FrameSearch};
 use crate::macroblock::choose_with_motion;
-use crate::searchers::{Searchers, find_motion_by, searchers_of};
+use crate::motion::find_motion;
+use crate::searchers::{Searchers, searchers_of};
 use std::alloc::Global;
 use std::marker::Model;
 use vp_base::{Picture, Place};
@@ -29,7 +30,7 @@ use vp_motion::VectorMap;
 #[derive(Drop)]
 pub struct FrameChooser<'a> {
     frame: FrameSearch<'a>,
-    searchers: Option<Searchers<'a>>,
+    searchers: Searchers<'a>,
 }
 
 impl<'a> Model for FrameChooser<'a> {
@@ -59,6 +60,17 @@ impl<'a> FrameChooser<'a> {
         }
     }
 
+    /// Prepares the same choice without searchers, whose searches each stand by itself.
+    pub(crate) fn without_searchers(frame: &FrameSearch<'a>) -> FrameChooser<'a>
+        requires range { IfSome (lent_frame frame.now).search (λ s. s.range ≤ 64) }
+        ensures { result ≡ lent_frame frame.now }
+    {
+        FrameChooser {
+            frame: *frame,
+            searchers: Searchers::none(),
+        }
+    }
+
     /// Chooses the coding of the macroblock at `place`, and rebuilds it, as `choose_macroblock` does.
     ///
     /// In `picture` the macroblocks before it, in raster order, are rebuilt and not filtered yet; `vectors` has their
@@ -84,7 +96,7 @@ impl<'a> FrameChooser<'a> {
     {
         let _known = [self.frame.source.dim(), picture.dim()];
         let blocks = cut_blocks(self.frame.source, place);
-        let moved = find_motion_by(&mut self.searchers, &self.frame, &blocks.luma, place);
+        let moved = find_motion(&mut self.searchers, &self.frame, &blocks.luma, place);
         choose_with_motion(&self.frame, &blocks, picture, vectors, place, moved)
     }
 }

@@ -15,6 +15,7 @@ mod motion;
 #[cfg(test)]
 mod order_tests;
 mod searchers;
+mod single;
 mod subblocks;
 #[cfg(test)]
 mod tests;
@@ -23,4 +24,4 @@ mod tokens;
 pub use frame::{Choice, FrameSearch, Search};
 pub use frame_chooser::FrameChooser;
 pub use laws::choice_is_one;
-pub use macroblock::choose_macroblock;
+pub use single::choose_macroblock;

@@ -1,11 +1,13 @@
 //! Chooses an intra macroblock's luma mode.
 
 ghost use Rattle.std.specs.Prelude.{◌≡◌, ℕ, ◌+◌, ◌*◌, ◌<◌, ◌≤◌, slice_index, IfSome, IsSome, MatchOption};
+ghost use Rattle.vp_base.specs.Block.{with_block};
 ghost use Rattle.vp_intra.specs.Edges.{block as listed};
 ghost use Rattle.vp_choose.specs.Costs.{HasMacroblock, luma_mode_cost};
 ghost use Rattle.vp_choose.specs.Levels.{ArePositive};
 ghost use Rattle.vp_choose.specs.Gathered.{AreSmall};
 ghost use Rattle.vp_choose.specs.Intra.{IsLuma, luma_at};
+ghost use Rattle.vp_choose.specs.Subblocks.{after_subblocks};
 ghost use Rattle.vp_choose.specs.Below.{IsLumaOver};
 
 use crate::subblocks::{Subblocks, choose_subblocks};
@@ -30,6 +32,13 @@ pub(crate) struct Luma {
     pub(crate) mode: LumaMode,
     pub(crate) subblocks: Subblocks,
     pub(crate) cost: u32,
+}
+
+/// The choice for the luma of an intra macroblock, and the luma rebuilt by its subblock modes, in raster order.
+#[derive(Clone, Copy)]
+pub(crate) struct RebuiltLuma {
+    pub(crate) luma: Luma,
+    pub(crate) rebuilt: [u8; 256],
 }
 
 /// Returns the cost of a mode other than B_PRED: the sum of absolute differences.
@@ -82,14 +91,18 @@ pub(crate) fn choose_luma_below(
     picture: &mut Picture,
     place: Place,
     limit: u32,
-) -> Option<Luma>
+) -> Option<RebuiltLuma>
     requires picture { HasMacroblock picture.old place }
     requires factors { ArePositive factors.now }
     ensures luma { (f : ℕ → ℕ → ℕ) → block.now ≡ listed 16 f → MatchOption result
-        (IsLumaOver f factors.now place picture.old.luma limit) (IsLuma f factors.now place picture.old.luma) }
-    ensures below { IfSome result (λ l. l.cost < limit) }
+        (IsLumaOver f factors.now place picture.old.luma limit)
+        (λ l. IsLuma f factors.now place picture.old.luma l.luma) }
+    ensures rebuilt { IfSome result (λ l. with_block picture.old.luma (16 * place.column) (16 * place.row) 16 16
+        (λ r c. slice_index l.rebuilt (r * 16 + c))
+        ≡ after_subblocks factors.now place picture.old.luma l.luma.subblocks 16) }
+    ensures below { IfSome result (λ l. l.luma.cost < limit) }
     ensures kept { picture.new ≡ picture.old }
-    ensures within { IfSome result (λ l. AreSmall l.subblocks.levels) }
+    ensures within { IfSome result (λ l. AreSmall l.luma.subblocks.levels) }
     ensures all { 65280 < limit → IsSome result }
 {
     // No choice costs less than 0.
@@ -99,16 +112,22 @@ pub(crate) fn choose_luma_below(
     let _known = picture.dim();
     let whole = whole_costs(block, picture.plane(0), place);
     let most = subblocks_limit(whole[first_least(&whole)], limit);
-    let subblocks = choose_subblocks(block, factors, picture, place, most)?;
+    let rebuilt = choose_subblocks(block, factors, picture, place, most)?;
+    let subblocks = rebuilt.subblocks;
+    let pixels = rebuilt.luma;
     let costs = [whole[0], whole[1], whole[2], whole[3], subblocks.cost + 128];
     let best = first_least(&costs);
     if costs[best] >= limit {
         return None;
     }
-    Some(Luma {
+    let luma = Luma {
         mode: ORDER[best],
         subblocks,
         cost: costs[best],
+    };
+    Some(RebuiltLuma {
+        luma,
+        rebuilt: pixels,
     })
 }
 
@@ -118,12 +137,16 @@ pub(crate) fn choose_luma(
     factors: &Factors,
     picture: &mut Picture,
     place: Place,
-) -> Luma
+) -> RebuiltLuma
     requires picture { HasMacroblock picture.old place }
     requires factors { ArePositive factors.now }
-    ensures luma { (f : ℕ → ℕ → ℕ) → block.now ≡ listed 16 f → IsLuma f factors.now place picture.old.luma result }
+    ensures luma { (f : ℕ → ℕ → ℕ) → block.now ≡ listed 16 f
+        → IsLuma f factors.now place picture.old.luma result.luma }
+    ensures rebuilt { with_block picture.old.luma (16 * place.column) (16 * place.row) 16 16
+        (λ r c. slice_index result.rebuilt (r * 16 + c))
+        ≡ after_subblocks factors.now place picture.old.luma result.luma.subblocks 16 }
     ensures kept { picture.new ≡ picture.old }
-    ensures within { AreSmall result.subblocks.levels }
+    ensures within { AreSmall result.luma.subblocks.levels }
 {
     choose_luma_below(block, factors, picture, place, u32::MAX).unwrap()
 }

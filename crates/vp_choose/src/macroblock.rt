@@ -1,10 +1,11 @@
 //! Chooses for one macroblock: intra or inter.
 
-ghost use Rattle.std.specs.Prelude.{◌≡◌, ℕ, ◌*◌, ◌<◌, ◌≤◌, true, false, not, IfSome, replicate, if◌then◌else◌};
+ghost use Rattle.std.specs.Prelude.{◌≡◌, ℕ, ◌+◌, ◌*◌, ◌<◌, ◌≤◌, true, false, not, replicate};
+ghost use Rattle.std.specs.Prelude.{if◌then◌else◌, slice_index};
+ghost use Rattle.vp_base.specs.Block.{with_block};
 ghost use Rattle.vp_base.specs.Grid.{Has};
-ghost use Rattle.vp_base.specs.Image.{Image, macroblocks};
+ghost use Rattle.vp_base.specs.Image.{Image};
 ghost use Rattle.vp_base.specs.Raster.{Raster};
-ghost use Rattle.vp_base.specs.Rows.{AreOneSize};
 ghost use Rattle.vp_tables.specs.Modes.{is_by_subblocks};
 ghost use Rattle.vp_head.specs.Reference.{is_intra};
 ghost use Rattle.vp_motion.specs.Vector.{MacroblockMotion, IsWithin, last_of, zero_vector};
@@ -21,63 +22,92 @@ ghost use Rattle.vp_choose.specs.Costs.{HasMacroblock};
 ghost use Rattle.vp_choose.specs.Cut.{AreCut};
 ghost use Rattle.vp_choose.specs.Levels.{ArePositive, HasLumaAndY2, HasChroma};
 ghost use Rattle.vp_choose.specs.Gathered.{AreSmall, AreWritable};
+ghost use Rattle.vp_choose.specs.Subblocks.{after_subblocks};
 ghost use Rattle.vp_choose.specs.Intra.{IsIntra, HasSubblocks};
 ghost use Rattle.vp_choose.specs.Frame.{lent_frame, search_of, source_by, no_biases};
-ghost use Rattle.vp_choose.specs.Inter.{IsInter, IsInSearchRange, moved_source, vector_of};
+ghost use Rattle.vp_choose.specs.Inter.{IsInter, IsInSearchRange, moved_source};
 ghost use Rattle.vp_choose.specs.Searched.{IsSearched};
 ghost use Rattle.vp_choose.specs.Choice.{IsChoice};
 
-use crate::blocks::{Blocks, cut_blocks};
 use crate::chroma::choose_chroma;
 use crate::frame::{Choice, FrameSearch, Search};
-use crate::luma::{Luma, choose_luma, choose_luma_below};
-use crate::motion::{Moved, find_motion, motion_of};
+use crate::luma::{Luma, RebuiltLuma, choose_luma, choose_luma_below};
+use crate::motion::{Moved, motion_of};
 use crate::tokens::{chroma_of, tokens_with_y2, tokens_without_y2};
-use vp_base::{Picture, Place};
+use vp_base::{Picture, Place, Plane};
 use vp_head::Reference;
-use vp_inter::{PlaneVector, chroma_vector, luma_vector, predict_block8, predict_block16};
+use vp_inter::{chroma_vector, luma_vector, predict_block8, predict_block16};
 use vp_intra::{predict_chroma, predict_luma};
 use vp_modes::Modes;
-use vp_motion::{MacroblockMotion, Motion, Vector, VectorMap};
+use vp_motion::{Motion, Vector, VectorMap};
 use vp_quant::Factors;
-use vp_recon::{Predictor, rebuild_macroblock};
+use vp_recon::{MacroblockPixels, rebuild_from};
 use vp_search::QuarterVector;
 use vp_tables::{ChromaMode, LumaMode, SubMode, VectorMode};
 use vp_tokens::Tokens;
 
-/// Returns the levels of an intra macroblock.
-fn intra_tokens(
-    blocks: &Blocks,
-    factors: &Factors,
+/// Returns the luma that is kept of an intra macroblock: its prediction, or with B_PRED its rebuilt subblocks.
+fn kept_luma(plane: &Plane, place: Place, luma: &RebuiltLuma) -> [u8; 256]
+    requires columns { 16 * place.column + 16 ≤ plane.now.width }
+    requires rows { 16 * place.row + 16 ≤ plane.now.height }
+    ensures at_once { is_by_subblocks luma.now.luma.mode ≡ false → result
+        ≡ listed 16 (luma_pixel luma.now.luma.mode plane.now (16 * place.column) (16 * place.row)) }
+    ensures by_subblocks { is_by_subblocks luma.now.luma.mode ≡ true → result ≡ luma.now.rebuilt }
+{
+    let _known = [plane.width(), plane.height()];
+    let mode = luma.luma.mode;
+    if mode.is_by_subblocks() {
+        return luma.rebuilt;
+    }
+    predict_luma(plane, 16 * place.column, 16 * place.row, mode)
+}
+
+/// Predicts an intra macroblock; with B_PRED its luma is rebuilt already.
+fn intra_prediction(
     picture: &Picture,
     place: Place,
-    luma: &Luma,
+    luma: &RebuiltLuma,
     mode: ChromaMode,
-) -> Tokens
-    requires picture { HasMacroblock picture.now place }
-    requires factors { ArePositive factors.now }
-    requires small { AreSmall luma.now.subblocks.levels }
-    ensures by_subblocks { is_by_subblocks luma.now.mode ≡ true → HasSubblocks luma.now.subblocks result }
-    ensures at_once { (f : ℕ → ℕ → ℕ) → blocks.now.luma ≡ listed 16 f → is_by_subblocks luma.now.mode ≡ false
-        → HasLumaAndY2 f (luma_pixel luma.now.mode picture.now.luma (16 * place.column)
-        (16 * place.row)) factors.now result }
-    ensures u { (f : ℕ → ℕ → ℕ) → blocks.now.u ≡ listed 8 f → HasChroma f
-        (chroma_pixel mode picture.now.u (8 * place.column) (8 * place.row)) factors.now result 1 }
-    ensures v { (f : ℕ → ℕ → ℕ) → blocks.now.v ≡ listed 8 f → HasChroma f
-        (chroma_pixel mode picture.now.v (8 * place.column) (8 * place.row)) factors.now result 2 }
-    ensures writable { AreWritable (not (is_by_subblocks luma.now.mode)) result }
+) -> MacroblockPixels
+    requires { HasMacroblock picture.now place }
+    ensures at_once { is_by_subblocks luma.now.luma.mode ≡ false → result.luma
+        ≡ listed 16 (luma_pixel luma.now.luma.mode picture.now.luma (16 * place.column) (16 * place.row)) }
+    ensures by_subblocks { is_by_subblocks luma.now.luma.mode ≡ true → result.luma ≡ luma.now.rebuilt }
+    ensures u { result.u ≡ listed 8 (chroma_pixel mode picture.now.u (8 * place.column) (8 * place.row)) }
+    ensures v { result.v ≡ listed 8 (chroma_pixel mode picture.now.v (8 * place.column) (8 * place.row)) }
 {
     let _known = picture.dim();
     let [x, y] = [8 * place.column, 8 * place.row];
-    let u = predict_chroma(picture.plane(1), x, y, mode);
-    let v = predict_chroma(picture.plane(2), x, y, mode);
-    let chroma = chroma_of(blocks, factors, &u, &v);
+    MacroblockPixels {
+        luma: kept_luma(picture.plane(0), place, luma),
+        u: predict_chroma(picture.plane(1), x, y, mode),
+        v: predict_chroma(picture.plane(2), x, y, mode),
+    }
+}
+
+/// Returns the levels of an intra macroblock.
+fn intra_tokens(
+    blocks: &MacroblockPixels,
+    prediction: &MacroblockPixels,
+    factors: &Factors,
+    luma: &Luma,
+) -> Tokens
+    requires factors { ArePositive factors.now }
+    requires small { AreSmall luma.now.subblocks.levels }
+    ensures by_subblocks { is_by_subblocks luma.now.mode ≡ true → HasSubblocks luma.now.subblocks result }
+    ensures at_once { (f g : ℕ → ℕ → ℕ) → blocks.now.luma ≡ listed 16 f → prediction.now.luma ≡ listed 16 g
+        → is_by_subblocks luma.now.mode ≡ false → HasLumaAndY2 f g factors.now result }
+    ensures u { (f g : ℕ → ℕ → ℕ) → blocks.now.u ≡ listed 8 f → prediction.now.u ≡ listed 8 g
+        → HasChroma f g factors.now result 1 }
+    ensures v { (f g : ℕ → ℕ → ℕ) → blocks.now.v ≡ listed 8 f → prediction.now.v ≡ listed 8 g
+        → HasChroma f g factors.now result 2 }
+    ensures writable { AreWritable (not (is_by_subblocks luma.now.mode)) result }
+{
+    let chroma = chroma_of(blocks, factors, &prediction.u, &prediction.v);
     if luma.mode.is_by_subblocks() {
         return tokens_without_y2(&luma.subblocks.levels, &chroma);
     }
-    let [x, y] = [16 * place.column, 16 * place.row];
-    let prediction = predict_luma(picture.plane(0), x, y, luma.mode);
-    tokens_with_y2(&blocks.luma, factors, &prediction, &chroma)
+    tokens_with_y2(&blocks.luma, factors, &prediction.luma, &chroma)
 }
 
 /// Returns the modes of an intra macroblock, skipped if it has no tokens.
@@ -109,17 +139,20 @@ fn intra_modes(luma: &Luma, chroma: ChromaMode, tokens: &Tokens) -> Modes
 
 /// Completes the choice for an intra macroblock whose luma mode is chosen, and rebuilds it.
 fn choose_intra(
-    blocks: &Blocks,
+    blocks: &MacroblockPixels,
     factors: &Factors,
     picture: &mut Picture,
     place: Place,
-    luma: &Luma,
+    luma: &RebuiltLuma,
 ) -> Choice
     requires picture { HasMacroblock picture.old place }
     requires factors { ArePositive factors.now }
-    requires small { AreSmall luma.now.subblocks.levels }
+    requires small { AreSmall luma.now.luma.subblocks.levels }
+    requires rebuilt { with_block picture.old.luma (16 * place.column) (16 * place.row) 16 16
+        (λ r c. slice_index luma.now.rebuilt (r * 16 + c))
+        ≡ after_subblocks factors.now place picture.old.luma luma.now.luma.subblocks 16 }
     ensures intra { (source : Image) → AreCut source place blocks.now
-        → IsIntra source factors.now place picture.old luma.now result.modes result.tokens }
+        → IsIntra source factors.now place picture.old luma.now.luma result.modes result.tokens }
     ensures rebuilt { picture.new ≡ rebuilt
         (macroblock_of (Intra result.modes) result.tokens factors.now) place picture.old }
     ensures segment { result.modes.segment ≡ 0 }
@@ -130,9 +163,11 @@ fn choose_intra(
     ensures vectors { result.motion.vectors ≡ replicate 16 zero_vector }
 {
     let chroma = choose_chroma(blocks, picture, place);
-    let tokens = intra_tokens(blocks, factors, picture, place, luma, chroma);
-    let modes = intra_modes(luma, chroma, &tokens);
-    rebuild_macroblock(picture, place, &Predictor::Intra(&modes), &tokens, factors);
+    let prediction = intra_prediction(picture, place, luma, chroma);
+    let tokens = intra_tokens(blocks, &prediction, factors, &luma.luma);
+    let modes = intra_modes(&luma.luma, chroma, &tokens);
+    let by_subblocks = modes.luma.is_by_subblocks();
+    rebuild_from(picture, place, &prediction, by_subblocks, &tokens, factors);
     let motion = Motion {
         mode: VectorMode::Zero,
         vectors: [Vector { row: 0, column: 0 }; 16],
@@ -144,57 +179,51 @@ fn choose_intra(
     }
 }
 
-/// Returns the levels of an inter macroblock.
-fn inter_tokens(
-    blocks: &Blocks,
-    factors: &Factors,
-    reference: &Picture,
-    place: Place,
-    moved: &Moved,
-) -> Tokens
+/// Predicts an inter macroblock.
+fn inter_prediction(reference: &Picture, place: Place, vector: QuarterVector) -> MacroblockPixels
     requires columns { 16 * place.column ≤ 16384 }
     requires rows { 16 * place.row ≤ 16384 }
-    requires factors { ArePositive factors.now }
-    requires short { IsInSearchRange moved.now.vector }
-    ensures luma { (e : MacroblockMotion) (p : Raster) (f : ℕ → ℕ → ℕ) → e.vectors ≡ replicate 16 (vector_of moved.now)
-        → blocks.now.luma ≡ listed 16 f → HasLumaAndY2 f (luma_prediction
-        (Inter e reference.now 0) place p) factors.now result }
-    ensures u { (e : MacroblockMotion) (p : Raster) (f : ℕ → ℕ → ℕ) → e.vectors ≡ replicate 16 (vector_of moved.now)
-        → blocks.now.u ≡ listed 8 f → HasChroma f (chroma_prediction
-        (Inter e reference.now 0) 1 place p) factors.now result 1 }
-    ensures v { (e : MacroblockMotion) (p : Raster) (f : ℕ → ℕ → ℕ) → e.vectors ≡ replicate 16 (vector_of moved.now)
-        → blocks.now.v ≡ listed 8 f → HasChroma f (chroma_prediction
-        (Inter e reference.now 0) 2 place p) factors.now result 2 }
-    ensures writable { AreWritable true result }
+    requires short { IsInSearchRange vector }
+    ensures luma { (e : MacroblockMotion) (p : Raster)
+        → e.vectors ≡ replicate 16 (record { row = vector.row; column = vector.column })
+        → result.luma ≡ listed 16 (luma_prediction (Inter e reference.now 0) place p) }
+    ensures u { (e : MacroblockMotion) (p : Raster)
+        → e.vectors ≡ replicate 16 (record { row = vector.row; column = vector.column })
+        → result.u ≡ listed 8 (chroma_prediction (Inter e reference.now 0) 1 place p) }
+    ensures v { (e : MacroblockMotion) (p : Raster)
+        → e.vectors ≡ replicate 16 (record { row = vector.row; column = vector.column })
+        → result.v ≡ listed 8 (chroma_prediction (Inter e reference.now 0) 2 place p) }
 {
     let _known = reference.dim();
     let [x, y] = [8 * place.column, 8 * place.row];
-    let QuarterVector { row, column } = moved.vector;
+    let QuarterVector { row, column } = vector;
     let vector = chroma_vector(0, &[row; 4], &[column; 4]);
     let u = predict_block8(reference.plane(1), x, y, vector, 0);
     let v = predict_block8(reference.plane(2), x, y, vector, 0);
-    let chroma = chroma_of(blocks, factors, &u, &v);
     let vector = luma_vector(row, column);
     let [x, y] = [16 * place.column, 16 * place.row];
-    let prediction = predict_block16(reference.plane(0), x, y, vector, 0);
-    tokens_with_y2(&blocks.luma, factors, &prediction, &chroma)
+    let luma = predict_block16(reference.plane(0), x, y, vector, 0);
+    MacroblockPixels { luma, u, v }
 }
 
-/// Returns a macroblock's motion with its reference frame.
-fn entry_of(reference: Reference, motion: &Motion) -> MacroblockMotion
-    ensures { result ≡ record { reference = reference; mode = motion.now.mode; vectors = motion.now.vectors } }
+/// Returns the levels of a macroblock with a Y2 block.
+fn tokens_of(blocks: &MacroblockPixels, prediction: &MacroblockPixels, factors: &Factors) -> Tokens
+    requires factors { ArePositive factors.now }
+    ensures luma { (f g : ℕ → ℕ → ℕ) → blocks.now.luma ≡ listed 16 f → prediction.now.luma ≡ listed 16 g
+        → HasLumaAndY2 f g factors.now result }
+    ensures u { (f g : ℕ → ℕ → ℕ) → blocks.now.u ≡ listed 8 f → prediction.now.u ≡ listed 8 g
+        → HasChroma f g factors.now result 1 }
+    ensures v { (f g : ℕ → ℕ → ℕ) → blocks.now.v ≡ listed 8 f → prediction.now.v ≡ listed 8 g
+        → HasChroma f g factors.now result 2 }
+    ensures writable { AreWritable true result }
 {
-    let vectors = motion.vectors;
-    MacroblockMotion {
-        reference,
-        mode: motion.mode,
-        vectors,
-    }
+    let chroma = chroma_of(blocks, factors, &prediction.u, &prediction.v);
+    tokens_with_y2(&blocks.luma, factors, &prediction.luma, &chroma)
 }
 
 /// Completes the choice for an inter macroblock whose vector is chosen, and rebuilds it.
 fn choose_inter(
-    blocks: &Blocks,
+    blocks: &MacroblockPixels,
     factors: &Factors,
     search: &Search,
     picture: &mut Picture,
@@ -220,15 +249,10 @@ fn choose_inter(
 {
     let _known = picture.dim();
     let reference = search.references.get(moved.reference);
-    let tokens = inter_tokens(blocks, factors, reference, place, moved);
+    let prediction = inter_prediction(reference, place, moved.vector);
+    let tokens = tokens_of(blocks, &prediction, factors);
     let motion = motion_of(vectors, place, moved);
-    let entry = entry_of(moved.reference, &motion);
-    let source = Predictor::Inter {
-        motion: &entry,
-        reference,
-        version: 0,
-    };
-    rebuild_macroblock(picture, place, &source, &tokens, factors);
+    rebuild_from(picture, place, &prediction, false, &tokens, factors);
     let modes = Modes {
         segment: 0,
         skip: !tokens.any(),
@@ -247,7 +271,7 @@ fn choose_inter(
 /// Chooses the coding of a macroblock whose motion is found, and rebuilds it.
 pub(crate) fn choose_with_motion(
     frame: &FrameSearch,
-    blocks: &Blocks,
+    blocks: &MacroblockPixels,
     picture: &mut Picture,
     vectors: &VectorMap,
     place: Place,
@@ -284,37 +308,4 @@ pub(crate) fn choose_with_motion(
             &moved,
         ),
     }
-}
-
-/// Chooses the coding of the macroblock at `place`, and rebuilds it.
-///
-/// In `picture` the macroblocks before it, in raster order, are rebuilt and not filtered yet; `vectors` has their
-/// motion. The macroblock's own motion is not stored there. No memory is allocated.
-pub fn choose_macroblock(
-    frame: &FrameSearch,
-    picture: &mut Picture,
-    vectors: &VectorMap,
-    place: Place,
-) -> Choice
-    requires column { place.column < macroblocks picture.old.width }
-    requires row { place.row < macroblocks picture.old.height }
-    requires size { AreOneSize (lent_frame frame.now).source picture.old }
-    requires factors { ArePositive (lent_frame frame.now).factors }
-    requires range { IfSome (lent_frame frame.now).search (λ s. s.range ≤ 64) }
-    requires map { Has vectors.now place }
-    requires short { AreWithin 511 vectors.now }
-    ensures chosen { IsChoice (lent_frame frame.now) picture.old vectors.now place result }
-    ensures rebuilt { picture.new ≡ rebuilt (macroblock_of (source_by
-        (lent_frame frame.now).search result) result.tokens (lent_frame frame.now).factors) place picture.old }
-    // `write_motion` can code the motion at this place if no sign bias is set.
-    ensures written { is_intra result.modes.reference ≡ false
-        → CanBeWritten (candidates vectors.now place result.modes.reference no_biases) result.motion }
-    ensures short { IsWithin 259 (last_of result.motion.vectors) }
-    ensures unmoved { is_intra result.modes.reference ≡ true → (result.motion.mode ≡ VectorMode.Zero)
-        × (result.motion.vectors ≡ replicate 16 zero_vector) }
-{
-    let _known = [frame.source.dim(), picture.dim()];
-    let blocks = cut_blocks(frame.source, place);
-    let moved = find_motion(frame, &blocks.luma, place);
-    choose_with_motion(frame, &blocks, picture, vectors, place, moved)
 }

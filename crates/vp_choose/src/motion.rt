@@ -1,6 +1,7 @@
 //! Chooses a macroblock's reference frame, motion vector and vector mode.
 
 ghost use Rattle.std.specs.Prelude.{◌≡◌, ℕ, ◌+◌, ◌*◌, ◌<◌, ◌≤◌, true, false, unsigned_abs, replicate, IfSome};
+ghost use Rattle.std.specs.Prelude.{MatchOption};
 ghost use Rattle.vp_base.specs.Grid.{Has};
 ghost use Rattle.vp_base.specs.Raster.{Raster};
 ghost use Rattle.vp_head.specs.Reference.{is_intra};
@@ -17,13 +18,15 @@ ghost use Rattle.vp_search.specs.Vectors.{quarters};
 ghost use Rattle.vp_choose.specs.Costs.{block_pixels};
 ghost use Rattle.vp_choose.specs.Frame.{Search as SearchValue, lent_frame, search_of, no_biases};
 ghost use Rattle.vp_choose.specs.Inter.{IsFound, IsMoved, IsFirstGiving, IsInSearchRange, found_in, vector_of};
-ghost use Rattle.vp_choose.specs.Searched.{AreFound, IsSearched};
+ghost use Rattle.vp_choose.specs.Searched.{AreFound, IsBestMotion, IsLeftOut, IsSearched};
+ghost use Rattle.vp_choose.specs.Searchers.{AreSearchers, AreSearchersOf, searcher_of};
 
 use crate::frame::{FrameSearch, Search};
+use crate::searchers::{Searchers, searches_golden};
 use vp_base::Place;
 use vp_head::{Reference, SignBiases};
 use vp_motion::{Candidates, Motion, Vector, VectorMap, near};
-use vp_search::{Found, QuarterVector, Refined, quarters, refine_found, search_block};
+use vp_search::{Found, QuarterVector, Refined, Searcher, quarters, refine_found, search_block};
 use vp_tables::VectorMode;
 
 /// A reference frame, the best vector found in it, and its cost.
@@ -65,20 +68,65 @@ pub(crate) fn refined(
     }
 }
 
-/// Finds the best vector in one reference frame for the luma `block` of the macroblock at `place`.
-fn find(search: &Search, block: &[u8; 256], reference: Reference, place: Place) -> Refined
+/// Finds the best vector in one reference frame for the luma `block` of the macroblock at `place`, by the frame's
+/// searcher if there is one.
+fn find(
+    searcher: &mut Option<Searcher>,
+    search: &Search,
+    block: &[u8; 256],
+    reference: Reference,
+    place: Place,
+) -> Refined
     requires columns { 16 * place.column ≤ 16384 }
     requires rows { 16 * place.row ≤ 16384 }
     requires range { search.now.range ≤ 64 }
+    requires searcher { IfSome searcher.old (λ s. s ≡ searcher_of (search_of search.now) reference) }
+    ensures kept { searcher.new ≡ searcher.old }
     ensures found { (source : Raster) → block.now ≡ listed 16 (block_pixels 16 source place)
         → IsFound (search_of search.now) source
         (reference_picture search.now.references.now reference).luma place result }
     ensures short { IsInSearchRange result.vector }
 {
-    let picture = search.references.get(reference);
-    let _known = picture.dim();
-    let whole = search_block(block, picture.plane(0), place, search.range);
-    refined(search, block, reference, place, whole)
+    match searcher {
+        Some(searcher) => {
+            let whole = searcher.search(block, place);
+            refined(search, block, reference, place, whole)
+        }
+        None => {
+            let picture = search.references.get(reference);
+            let _known = picture.dim();
+            let whole = search_block(block, picture.plane(0), place, search.range);
+            refined(search, block, reference, place, whole)
+        }
+    }
+}
+
+/// Finds the best vector in golden; None only if it costs at least `limit`. A refinement can make a vector cheaper than
+/// the limit, so that all are searched then.
+fn find_golden(
+    searcher: &mut Option<Searcher>,
+    search: &Search,
+    block: &[u8; 256],
+    place: Place,
+    limit: u32,
+) -> Option<Refined>
+    requires columns { 16 * place.column ≤ 16384 }
+    requires rows { 16 * place.row ≤ 16384 }
+    requires range { search.now.range ≤ 64 }
+    requires searcher { IfSome searcher.old (λ s. s ≡ searcher_of (search_of search.now) Reference.Golden) }
+    ensures kept { searcher.new ≡ searcher.old }
+    ensures found { (source : Raster) → block.now ≡ listed 16 (block_pixels 16 source place)
+        → MatchOption result (IsLeftOut (search_of search.now) source place limit) (IsFound
+        (search_of search.now) source (reference_picture search.now.references.now Reference.Golden).luma place) }
+    ensures short { IfSome result (λ g. IsInSearchRange g.vector) }
+{
+    match searcher {
+        Some(searcher) if !search.subpel => match searcher.search_below(block, place, limit) {
+            Some(whole) => Some(refined(search, block, Reference::Golden, place, whole)),
+            None => None,
+        },
+        _ => Some(find(searcher, search, block, Reference::Golden, place)),
+    }
 }
 
 /// Adds the reference frame to a vector and its cost.
@@ -110,49 +158,50 @@ pub(crate) fn better_of(last: Refined, golden: Option<Refined>) -> Moved
     found_in(Reference::Last, last)
 }
 
-/// Whether golden is searched for itself. Where it is the last frame's picture each vector costs the same in both, and
-/// the last frame is chosen.
-pub(crate) fn searches_golden(search: &Search) -> bool
-    ensures asked { result ≡ true → search.now.golden ≡ true }
-    ensures one { result ≡ false → search.now.golden ≡ true
-        → search.now.references.now.golden ≡ search.now.references.now.last }
-{
-    search.golden && !search.references.golden_is_last()
-}
-
 /// Returns the reference frame and the vector with the least cost.
-pub(crate) fn choose_reference(search: &Search, block: &[u8; 256], place: Place) -> Moved
+pub(crate) fn choose_reference(
+    searchers: &mut Searchers,
+    search: &Search,
+    block: &[u8; 256],
+    place: Place,
+) -> Moved
     requires columns { 16 * place.column ≤ 16384 }
     requires rows { 16 * place.row ≤ 16384 }
     requires range { search.now.range ≤ 64 }
-    ensures moved { (source : Raster) → block.now ≡ listed 16 (block_pixels 16 source place)
-        → IsMoved (search_of search.now) source place result }
-    ensures short { IsInSearchRange result.vector }
-    ensures inter { is_intra result.reference ≡ false }
+    requires searchers { AreSearchers (search_of search.now) searchers.old }
+    ensures kept { searchers.new ≡ searchers.old }
+    ensures best { (source : Raster) → block.now ≡ listed 16 (block_pixels 16 source place)
+        → IsBestMotion (search_of search.now) source place result }
 {
-    let last = find(search, block, Reference::Last, place);
+    let last = find(&mut searchers.last, search, block, Reference::Last, place);
     // Golden is chosen only if it costs less.
     if last.cost == 0 {
         return found_in(Reference::Last, last);
     }
-    let golden = if searches_golden(search) {
-        Some(find(search, block, Reference::Golden, place))
-    } else {
-        None
-    };
+    if !searches_golden(search) {
+        return better_of(last, None);
+    }
+    let golden = find_golden(&mut searchers.golden, search, block, place, last.cost);
     better_of(last, golden)
 }
 
 /// Finds the motion of a macroblock with luma `block`; None in a key frame.
-pub(crate) fn find_motion(frame: &FrameSearch, block: &[u8; 256], place: Place) -> Option<Moved>
+pub(crate) fn find_motion(
+    searchers: &mut Searchers,
+    frame: &FrameSearch,
+    block: &[u8; 256],
+    place: Place,
+) -> Option<Moved>
     requires columns { 16 * place.column ≤ 16384 }
     requires rows { 16 * place.row ≤ 16384 }
     requires range { IfSome (lent_frame frame.now).search (λ s. s.range ≤ 64) }
-    ensures { (source : Raster) → block.now ≡ listed 16 (block_pixels 16 source place)
+    requires searchers { AreSearchersOf (lent_frame frame.now).search searchers.old }
+    ensures kept { searchers.new ≡ searchers.old }
+    ensures motion { (source : Raster) → block.now ≡ listed 16 (block_pixels 16 source place)
         → IsSearched (lent_frame frame.now).search source place result }
 {
     let search = frame.search?;
-    Some(choose_reference(&search, block, place))
+    Some(choose_reference(searchers, &search, block, place))
 }
 
 /// Returns the first mode that gives a vector: zero, nearest, near, or new.

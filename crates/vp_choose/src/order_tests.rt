@@ -3,11 +3,11 @@
 ghost use Rattle.std.specs.Prelude.{◌≡◌, ◌<◌, ◌≤◌};
 ghost use Rattle.vp_motion.specs.Vector.{IsWithin};
 
-use crate::blocks::Blocks;
 use crate::chroma::choose_chroma;
 use crate::frame::Search;
 use crate::luma::choose_luma;
 use crate::motion::{choose_reference, mode_of};
+use crate::searchers::Searchers;
 use crate::tests::FACTORS;
 use std::alloc::{AllocError, Global};
 use std::rc::Rc;
@@ -18,6 +18,7 @@ use vp_head::{
     ReferenceUpdates, Saved, Segmentation,
 };
 use vp_motion::{Candidates, Vector};
+use vp_recon::MacroblockPixels;
 use vp_refs::Refs;
 use vp_tables::{ChromaMode, LumaMode, VectorMode};
 
@@ -59,7 +60,7 @@ fn luma_mode(block: &[u8; 256], picture: &mut Picture, place: Place) -> Option<L
     if place.column >= usize::from(dim.mb_cols()) || place.row >= usize::from(dim.mb_rows()) {
         return None;
     }
-    Some(choose_luma(block, &FACTORS, picture, place).mode)
+    Some(choose_luma(block, &FACTORS, picture, place).luma.mode)
 }
 
 /// Returns the chroma mode of a macroblock whose U and V are equal; None outside the picture.
@@ -68,7 +69,7 @@ fn chroma_mode(block: &[u8; 64], picture: &Picture, place: Place) -> Option<Chro
     if place.column >= usize::from(dim.mb_cols()) || place.row >= usize::from(dim.mb_rows()) {
         return None;
     }
-    let blocks = Blocks {
+    let blocks = MacroblockPixels {
         luma: [0; 256],
         u: *block,
         v: *block,
@@ -289,7 +290,7 @@ fn reference_of(references: &Refs) -> Reference {
     for i in 0..256 {
         block[i] = 66 + 4 * (i % 16) as u8;
     }
-    choose_reference(&search, &block, SECOND).reference
+    choose_reference(&mut Searchers::none(), &search, &block, SECOND).reference
 }
 
 /// The ramp that begins with 2, with one pixel changed.

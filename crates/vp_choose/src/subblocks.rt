@@ -2,6 +2,7 @@
 
 ghost use Rattle.std.specs.Prelude.{◌≡◌, ℕ, ◌+◌, ◌*◌, ◌<◌, ◌≤◌, pos, [], slice_index, slice_index_or, unsigned_abs};
 ghost use Rattle.std.specs.Prelude.{IfSome, IsSome, MatchOption};
+ghost use Rattle.vp_base.specs.Block.{with_block};
 ghost use Rattle.vp_base.specs.Image.{with_plane};
 ghost use Rattle.vp_intra.specs.Edges.{block as listed};
 ghost use Rattle.vp_intra.specs.Sub.{sub_pixel};
@@ -12,7 +13,7 @@ ghost use Rattle.vp_search.specs.FirstLeast.{IsFirstLeast};
 ghost use Rattle.vp_choose.specs.Costs.{block_from_rows, sub_cost};
 ghost use Rattle.vp_choose.specs.Levels.{ArePositive, coefficients, quantised_levels};
 ghost use Rattle.vp_choose.specs.Gathered.{AreSmall};
-ghost use Rattle.vp_choose.specs.Subblocks.{IsBestMode, AreSubblocksChosen, mode_at, sub_levels};
+ghost use Rattle.vp_choose.specs.Subblocks.{IsBestMode, AreSubblocksChosen, after_subblocks, mode_at, sub_levels};
 ghost use Rattle.vp_choose.specs.Below.{AreSubblocksOver, IsPartlyRebuilt};
 
 use crate::difference::sad4;
@@ -20,7 +21,7 @@ use crate::levels::{coefficients, part_of, quantised_levels};
 use vp_base::{Picture, Place, Plane};
 use vp_intra::predict_sub_modes;
 use vp_quant::Factors;
-use vp_recon::rebuild_subblock;
+use vp_recon::rebuild_subblock_from;
 use vp_search::{first_least, macroblock};
 use vp_tables::SubMode;
 use vp_tokens::Block;
@@ -45,6 +46,13 @@ pub(crate) struct Subblocks {
     pub(crate) modes: [SubMode; 16],
     pub(crate) levels: [[i16; 16]; 16],
     pub(crate) cost: u32,
+}
+
+/// The choice for the sixteen luma subblocks, and the luma that is rebuilt by it, in raster order.
+#[derive(Clone, Copy)]
+pub(crate) struct RebuiltSubblocks {
+    pub(crate) subblocks: Subblocks,
+    pub(crate) luma: [u8; 256],
 }
 
 /// The mode, the levels and the cost of one subblock.
@@ -135,7 +143,8 @@ fn choose_subblock(
     let best = best_mode(block, picture.plane(0), place);
     let mode = ORDER[best.number];
     let levels = levels_by(block, &best.prediction, factors);
-    rebuild_subblock(picture, place, mode, &Block::of_levels(&levels), factors);
+    let own = Block::of_levels(&levels);
+    rebuild_subblock_from(picture, place, &best.prediction, &own, factors);
     Subblock {
         mode,
         levels,
@@ -159,6 +168,8 @@ fn choose_all(
         (AreSubblocksOver f factors.now place picture.old.luma limit)
         (AreSubblocksChosen f factors.now place picture.old.luma) }
     ensures rebuilt { IsPartlyRebuilt factors.now place picture.old picture.new }
+    ensures all_rebuilt { IfSome result (λ s. picture.new ≡ with_plane picture.old 0
+        (after_subblocks factors.now place picture.old.luma s 16)) }
     ensures within { IfSome result (λ s. AreSmall s.levels) }
     ensures bound { IfSome result (λ s. s.cost ≤ 65280) }
     ensures all { 65280 < limit → IsSome result }
@@ -189,24 +200,26 @@ fn choose_all(
     })
 }
 
-/// Returns the choice for all subblocks of a macroblock; None if their cost reaches `limit` while one is left. The
-/// picture is used as scratch memory and restored.
+/// Returns the choice for all subblocks of a macroblock, and the luma rebuilt by it; None if their cost reaches `limit`
+/// while one is left. The picture is used as scratch memory and restored.
 pub(crate) fn choose_subblocks(
     source: &[u8; 256],
     factors: &Factors,
     picture: &mut Picture,
     place: Place,
     limit: u32,
-) -> Option<Subblocks>
+) -> Option<RebuiltSubblocks>
     requires columns { 16 * place.column + 16 ≤ picture.old.luma.width }
     requires rows { 16 * place.row + 16 ≤ picture.old.luma.height }
     requires factors { ArePositive factors.now }
     ensures chosen { (f : ℕ → ℕ → ℕ) → source.now ≡ listed 16 f → MatchOption result
         (AreSubblocksOver f factors.now place picture.old.luma limit)
-        (AreSubblocksChosen f factors.now place picture.old.luma) }
+        (λ s. AreSubblocksChosen f factors.now place picture.old.luma s.subblocks) }
+    ensures luma { IfSome result (λ s. with_block picture.old.luma (16 * place.column) (16 * place.row) 16 16
+        (λ r c. slice_index s.luma (r * 16 + c)) ≡ after_subblocks factors.now place picture.old.luma s.subblocks 16) }
     ensures kept { picture.new ≡ picture.old }
-    ensures within { IfSome result (λ s. AreSmall s.levels) }
-    ensures bound { IfSome result (λ s. s.cost ≤ 65280) }
+    ensures within { IfSome result (λ s. AreSmall s.subblocks.levels) }
+    ensures bound { IfSome result (λ s. s.subblocks.cost ≤ 65280) }
     ensures all { 65280 < limit → IsSome result }
 {
     // No choice costs less than 0.
@@ -216,6 +229,10 @@ pub(crate) fn choose_subblocks(
     let _known = [picture.plane(0).width(), picture.plane(0).height()];
     let kept = macroblock(picture.plane(0), place);
     let chosen = choose_all(source, factors, picture, place, limit);
+    let luma = macroblock(picture.plane(0), place);
     picture.write_block::<16>(0, 16 * place.column, 16 * place.row, &kept);
-    chosen
+    match chosen {
+        Some(subblocks) => Some(RebuiltSubblocks { subblocks, luma }),
+        None => None,
+    }
 }

@@ -9,9 +9,9 @@ ghost use Rattle.vp_intra.specs.Edges.{block as listed};
 ghost use Rattle.vp_choose.specs.Levels.{ArePositive, HasLumaAndY2, firsts, quantised_levels, part_coefficients};
 ghost use Rattle.vp_choose.specs.Gathered.{AreListed, AreSmall, AreWritable, IsGathered, gathered};
 
-use crate::blocks::Blocks;
 use crate::levels::{coefficients, part_of, quantised_levels};
 use vp_quant::Factors;
+use vp_recon::MacroblockPixels;
 use vp_tokens::Tokens;
 use vp_transform::fwht_short;
 
@@ -98,7 +98,12 @@ pub(crate) struct Chroma {
 }
 
 /// Returns the levels of both chroma planes, from their predictions.
-pub(crate) fn chroma_of(blocks: &Blocks, factors: &Factors, u: &[u8; 64], v: &[u8; 64]) -> Chroma
+pub(crate) fn chroma_of(
+    blocks: &MacroblockPixels,
+    factors: &Factors,
+    u: &[u8; 64],
+    v: &[u8; 64],
+) -> Chroma
     requires { ArePositive factors.now }
     ensures u { (f g : ℕ → ℕ → ℕ) → blocks.now.u ≡ listed 8 f → u.now ≡ listed 8 g
         → AreListed 4 result.u (λ k. quantised_levels (part_coefficients 2 f g k) factors.now.uv_dc factors.now.uv_ac) }

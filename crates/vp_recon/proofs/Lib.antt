@@ -17,3 +17,4 @@ pub mod MadeAlike
 pub mod Solves
 pub mod RowLemmas
 pub mod Unique
+pub mod GivenLemmas

@@ -7,3 +7,4 @@ pub mod Sums
 pub mod Parts
 pub mod Laws
 pub mod Pairs
+pub mod Given

@@ -3,6 +3,7 @@
 
 mod add;
 mod four;
+mod given;
 mod inter;
 mod intra;
 mod laws;
@@ -13,6 +14,7 @@ mod reconstruct;
 mod residue;
 mod subblock;
 
+pub use given::{MacroblockPixels, rebuild_from, rebuild_subblock_from};
 pub use intra::rebuild_subblock;
 pub use laws::{
     luma_is_rebuilt_by_subblocks, rebuilding_keeps_rows_above, rebuilding_keeps_shape,

@@ -93,3 +93,9 @@ returns-clause-chosen c f e =
       levels = λ k below. c.loop-k.invariant.levels f e k (omega arith);
       cost = c.loop-k.invariant.cost f e ∙ ap (λ (n : ℕ). sum_below n (cost_at f c.args.factors.now c.args.place c.args.picture.now.luma (made c.loop-k.modes c.loop-k.levels))) all;
     }
+
+pub returns-clause-all_rebuilt : goal.returns-clause-all_rebuilt
+returns-clause-all_rebuilt c =
+    let all : c.loop-k.k ≡ 16 = omega arith in
+    let p : Raster = c.args.picture.now.luma in
+    c.loop-k.invariant.rebuilt ∙ ap (λ (n : ℕ). with_plane c.args.picture.now 0 (after_subblocks c.args.factors.now c.args.place p (made c.loop-k.modes c.loop-k.levels) n)) all

@@ -1,0 +1,120 @@
+//! Rebuilds macroblocks and subblocks whose prediction is made already: adds their residue to it (RFC 6386, chapter
+//! 14.5).
+
+ghost use Rattle.std.specs.Prelude.{◌≡◌, ℕ, ◌+◌, ◌*◌, ◌<◌, ◌≤◌, pos, not, slice_index, slice_index_or, true};
+ghost use Rattle.vp_base.specs.Block.{with_block};
+ghost use Rattle.vp_base.specs.Image.{macroblocks, plane_of, with_plane};
+ghost use Rattle.vp_recon.specs.Predictor.{Predictor, macroblock_of, has_sub_modes, has_y2};
+ghost use Rattle.vp_recon.specs.Rebuilt.{rebuilt, summed, residue_at};
+ghost use Rattle.vp_recon.specs.Residue.{residue, luma_residue, chroma_residue};
+ghost use Rattle.vp_recon.specs.Given.{IsGiven};
+
+use crate::add::add_residues;
+use crate::residue::{chroma_residues, luma_residues, with_residue};
+use crate::subblock::store_subblock;
+use std::simd::prelude::*;
+use vp_base::{Picture, Place};
+use vp_quant::Factors;
+use vp_tokens::{Block, Tokens};
+
+/// The pixels of a macroblock, each plane in raster order.
+#[derive(Clone, Copy)]
+pub struct MacroblockPixels {
+    /// 16 by 16 pixels.
+    pub luma: [u8; 256],
+    /// 8 by 8 pixels.
+    pub u: [u8; 64],
+    /// 8 by 8 pixels.
+    pub v: [u8; 64],
+}
+
+/// Rebuilds the macroblock at `place` from its prediction and its residue. With B_PRED each luma subblock is predicted
+/// from those rebuilt before it: then `by_subblocks` is true, and the luma is given as it is rebuilt already.
+pub fn rebuild_from(
+    picture: &mut Picture,
+    place: Place,
+    prediction: &MacroblockPixels,
+    by_subblocks: bool,
+    tokens: &Tokens,
+    factors: &Factors,
+)
+    requires column { place.column < macroblocks picture.old.width }
+    requires row { place.row < macroblocks picture.old.height }
+    ensures { (source : Predictor) → has_sub_modes source ≡ by_subblocks → has_y2 source ≡ not by_subblocks
+        → IsGiven (macroblock_of source tokens.now factors.now) place picture.old prediction.now
+        → picture.new ≡ rebuilt (macroblock_of source tokens.now factors.now) place picture.old }
+{
+    let _known = picture.dim();
+    rebuild_chroma(picture, 1, place, &prediction.u, tokens, factors);
+    rebuild_chroma(picture, 2, place, &prediction.v, tokens, factors);
+    if by_subblocks {
+        picture.write_block::<16>(0, 16 * place.column, 16 * place.row, &prediction.luma);
+        return;
+    }
+    rebuild_luma(picture, place, &prediction.luma, tokens, factors);
+}
+
+/// Rebuilds the luma of a macroblock with a Y2 block.
+fn rebuild_luma(
+    picture: &mut Picture,
+    place: Place,
+    prediction: &[u8; 256],
+    tokens: &Tokens,
+    factors: &Factors,
+)
+    requires columns { 16 * place.column + 16 ≤ picture.old.luma.width }
+    requires rows { 16 * place.row + 16 ≤ picture.old.luma.height }
+    ensures { picture.new ≡ with_plane picture.old 0 (with_block picture.old.luma (16 * place.column)
+        (16 * place.row) 16 16 (λ r c. summed (slice_index prediction.now (r * 16 + c))
+        (residue_at 4 (luma_residue true tokens.now factors.now) r c))) }
+{
+    let _known = [picture.plane(0).width(), picture.plane(0).height()];
+    let [x, y] = [16 * place.column, 16 * place.row];
+    picture.write_block::<16>(0, x, y, prediction);
+    let residues = luma_residues(true, tokens, factors);
+    add_residues::<4>(picture, 0, x, y, &residues);
+}
+
+/// Rebuilds a chroma plane of a macroblock: 1 is U, 2 is V.
+fn rebuild_chroma(
+    picture: &mut Picture,
+    plane: usize,
+    place: Place,
+    prediction: &[u8; 64],
+    tokens: &Tokens,
+    factors: &Factors,
+)
+    requires plane { plane < 3 }
+    requires columns { 8 * place.column + 8 ≤ (plane_of picture.old plane).width }
+    requires rows { 8 * place.row + 8 ≤ (plane_of picture.old plane).height }
+    ensures { picture.new ≡ with_plane picture.old plane (with_block (plane_of picture.old plane) (8 * place.column)
+        (8 * place.row) 8 8 (λ r c. summed (slice_index prediction.now (r * 8 + c))
+        (residue_at 2 (chroma_residue tokens.now factors.now plane) r c))) }
+{
+    let _known = [picture.plane(plane).width(), picture.plane(plane).height()];
+    let [x, y] = [8 * place.column, 8 * place.row];
+    picture.write_block::<8>(plane, x, y, prediction);
+    let residues = chroma_residues(tokens, factors, plane);
+    add_residues::<2>(picture, plane, x, y, &residues);
+}
+
+/// Rebuilds one luma subblock of a macroblock without a Y2 block from its prediction, in raster order, and its residue.
+/// `block` is its place among all luma subblocks of the picture.
+pub fn rebuild_subblock_from(
+    picture: &mut Picture,
+    block: Place,
+    prediction: &[u8; 16],
+    levels: &Block,
+    factors: &Factors,
+)
+    requires columns { 4 * block.column + 4 ≤ picture.old.luma.width }
+    requires rows { 4 * block.row + 4 ≤ picture.old.luma.height }
+    ensures { picture.new ≡ with_plane picture.old 0 (with_block picture.old.luma (4 * block.column) (4 * block.row) 4 4
+        (λ r c. summed (slice_index prediction.now (r * 4 + c))
+        (slice_index_or (residue levels.now.levels factors.now.y_dc factors.now.y_ac) (4 * r + c) (pos 0)))) }
+{
+    let _known = [picture.plane(0).width(), picture.plane(0).height()];
+    let prediction = u8x16::from_array(*prediction);
+    let pixels = with_residue(prediction, levels, factors.y_dc, factors.y_ac);
+    store_subblock(picture, 0, 4 * block.column, 4 * block.row, pixels);
+}
