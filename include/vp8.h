@@ -154,12 +154,13 @@ typedef struct vp8_frame {
   uint32_t refreshes_last;   /* 1: its picture becomes the last frame, golden, altref */
   uint32_t refreshes_golden;
   uint32_t refreshes_altref;
+  uint32_t corrupt;          /* 1: a partition was read past its end, see vp8_decoder_corrupt */
 } vp8_frame;
 
-/* Reads facts about the frame in a packet that this decoder decodes next. The decoder is unchanged.
- * VP8_TRUNCATED to VP8_PARTITION_TABLE, VP8_PARTITION + n, as vp8_decoder_decode's for this packet, and VP8_TRUNCATED
- * for a packet of no bytes; VP8_CLOSED: nothing is written. */
-vp8_status vp8_decoder_frame(vp8_decoder *decoder, const uint8_t *packet, size_t packet_len, vp8_frame *frame);
+/* Writes facts about the frame of the packet that was decoded last.
+ * VP8_NO_PICTURE: there is no frame before the first packet, and after a packet of no bytes or one that could not be
+ * decoded; VP8_CLOSED: nothing is written. */
+vp8_status vp8_decoder_frame(vp8_decoder *decoder, vp8_frame *frame);
 
 /* The size in pixels of the picture that the last packet showed. VP8_NO_PICTURE, VP8_CLOSED: nothing is written. */
 vp8_status vp8_decoder_size(vp8_decoder *decoder, uint32_t *width, uint32_t *height);

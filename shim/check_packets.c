@@ -182,16 +182,17 @@ static void check_packet(vpx_codec_ctx_t *codec, vp8_decoder *decoder, unsigned 
                          size_t len, int handover, struct course *course)
 {
   vpx_codec_stream_info_t info = { .sz = sizeof info };
-  vp8_frame frame = { 0 };
+  vp8_frame frame = { .key = 0 };
   void *user = (void *)(uintptr_t)(n + 1);
-  vp8_status facts = vp8_decoder_frame(decoder, packet, len, &frame);
   vp8_status status = vp8_decoder_decode_keeping(decoder, packet, len);
+  vp8_status facts = vp8_decoder_frame(decoder, &frame);
   vpx_codec_err_t error = hand_over(codec, handover, packet, len, user);
   int is_decoded = status == VP8_OK || status == VP8_HIDDEN;
   uint32_t is_corrupt = 0;
   packets++;
-  expect(is_decoded ? facts == VP8_OK : facts == status, n, "facts of another packet");
+  expect(facts == (is_decoded ? VP8_OK : VP8_NO_PICTURE), n, "facts of another packet");
   expect(vp8_decoder_corrupt(decoder, &is_corrupt) == VP8_OK, n, "no word on corruption");
+  expect(is_corrupt == frame.corrupt, n, "two words on corruption");
   refused += !is_decoded;
   expect(error == error_wanted(status, course->had_picture), n, "another error");
   expect(is_decoded || is_detail_of(vpx_codec_error_detail(codec), status), n, "another error detail");

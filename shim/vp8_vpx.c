@@ -1,7 +1,7 @@
 /* VP8 decoding for programs that use libvpx, by libvp8.
  *
  * Not proved: the whole file. What a packet decodes to, and what its header says, is proved (libvp8). Unproved are the
- * translation of statuses (`error_of_status`), the image that a program gets (`lay_out_image`, `copy_picture`),
+ * translation of statuses (`error_of_status`), the image that a program gets (`prepare_image`, `copy_picture`),
  * fragments and decryption (`keep_fragment`, `decrypt`), and controls.
  *
  * libvpx's vpx_codec_* functions check their arguments, keep the status in the context, and call a codec through a
@@ -36,8 +36,9 @@
 
 #define MOST_FRAGMENTS 9 /* the first partition and eight token partitions */
 
-/* Bytes after the last plane. Some programs read whole vectors past the last pixel, or longer rows than the picture's. */
-#define IMAGE_SLACK 64
+/* Some programs read whole vectors past the last pixel, or longer rows than the picture's. So a picture is lent if the
+ * rows of its planes are whole vectors, and else copied, with bytes after the last plane. */
+#define VECTOR 64
 
 struct vpx_codec_alg_priv {
   struct vpx_codec_priv base;
@@ -46,14 +47,11 @@ struct vpx_codec_alg_priv {
   vpx_codec_stream_info_t stream_info;
   int has_decoded;       /* a packet was decoded before */
   int has_picture;       /* the last packet shows a picture that was not given yet */
-  int has_frame;         /* the last packet was decoded, and `packet` is a copy of it */
-  int is_frame_read;     /* `frame` is that packet's */
+  int has_frame;         /* the last packet was decoded, and `frame` is its */
   int is_corrupt;        /* the frame that was decoded last is damaged, or a packet after it was refused */
   int is_last_corrupt;   /* the last frame, from which others are predicted, is */
   vp8_frame frame;
-  uint8_t *packet;
-  size_t packet_len;
-  size_t packet_capacity;
+  vp8_lent_picture lent; /* the last packet's picture, in the decoder's memory until the next packet */
   void *user;            /* the last decoded packet's user pointer */
   vpx_image_t image;
   uint8_t *image_memory;
@@ -149,7 +147,6 @@ static vpx_codec_err_t destroy(vpx_state *state)
   vp8_decoder_free(&state->decoder);
   free(state->image_memory);
   free(state->fragments);
-  free(state->packet);
   free(state);
   return VPX_CODEC_OK;
 }
@@ -185,39 +182,62 @@ static size_t round_up(size_t number, size_t multiple)
   return (number + multiple - 1) / multiple * multiple;
 }
 
-/* Makes the image one of this size; 0 if memory is refused. Strides are multiples of 32 bytes. All fields are set for
- * each picture, since a program may have changed them (vpx_img_flip). The fields say that neither the image nor its memory
- * is to be freed, since some programs call vpx_img_free on each image. */
-static int lay_out_image(vpx_state *state, uint32_t width, uint32_t height)
+/* Whether the rows of the lent planes are whole vectors. Those of Y are twice as long as those of U and V. */
+static int is_in_vectors(const vp8_lent_picture *lent)
 {
-  size_t stride = round_up(width, 32), rows = round_up(height, 16);
-  size_t chroma_stride = round_up(((size_t)width + 1) / 2, 32), chroma_rows = rows / 2;
-  size_t luma_len = stride * rows, chroma_len = chroma_stride * chroma_rows;
-  size_t capacity = luma_len + 2 * chroma_len + IMAGE_SLACK;
-  if (capacity > state->image_capacity) {
-    void *memory;
-    if (posix_memalign(&memory, 64, capacity)) return 0;
-    memset(memory, 0, capacity);
-    free(state->image_memory);
-    state->image_memory = memory;
-    state->image_capacity = capacity;
-  }
+  return lent->u.stride % VECTOR == 0;
+}
+
+/* Makes the image one of the lent picture's size, with these planes. All fields are set for each picture, since a
+ * program may have changed them (vpx_img_flip). They say that neither the image nor its memory is to be freed, since
+ * some programs call vpx_img_free on each image. */
+static void set_image(vpx_state *state, uint8_t *y, uint8_t *u, uint8_t *v, size_t stride, size_t chroma_stride)
+{
   vpx_image_t *image = &state->image;
   memset(image, 0, sizeof *image);
   image->fmt = VPX_IMG_FMT_I420;
   image->bit_depth = 8;
   image->bps = 12;
   image->w = (unsigned)stride;
-  image->h = (unsigned)rows;
-  image->d_w = image->r_w = width;
-  image->d_h = image->r_h = height;
+  image->h = (unsigned)round_up(state->lent.height, 16);
+  image->d_w = image->r_w = state->lent.width;
+  image->d_h = image->r_h = state->lent.height;
   image->x_chroma_shift = image->y_chroma_shift = 1;
-  image->planes[VPX_PLANE_Y] = state->image_memory;
-  image->planes[VPX_PLANE_U] = state->image_memory + luma_len;
-  image->planes[VPX_PLANE_V] = state->image_memory + luma_len + chroma_len;
+  image->planes[VPX_PLANE_Y] = image->img_data = y;
+  image->planes[VPX_PLANE_U] = u;
+  image->planes[VPX_PLANE_V] = v;
   image->stride[VPX_PLANE_Y] = image->stride[VPX_PLANE_ALPHA] = (int)stride;
   image->stride[VPX_PLANE_U] = image->stride[VPX_PLANE_V] = (int)chroma_stride;
-  image->img_data = state->image_memory;
+}
+
+/* Makes the image one for a copy of the lent picture; 0 if memory is refused. Strides are multiples of 32 bytes. */
+static int lay_out_image(vpx_state *state)
+{
+  size_t width = state->lent.width, rows = round_up(state->lent.height, 16);
+  size_t stride = round_up(width, 32), chroma_stride = round_up((width + 1) / 2, 32);
+  size_t luma_len = stride * rows, chroma_len = chroma_stride * (rows / 2);
+  size_t capacity = luma_len + 2 * chroma_len + VECTOR;
+  if (capacity > state->image_capacity) {
+    void *memory;
+    if (posix_memalign(&memory, VECTOR, capacity)) return 0;
+    memset(memory, 0, capacity);
+    free(state->image_memory);
+    state->image_memory = memory;
+    state->image_capacity = capacity;
+  }
+  uint8_t *y = state->image_memory, *u = y + luma_len;
+  set_image(state, y, u, u + chroma_len, stride, chroma_stride);
+  return 1;
+}
+
+/* Makes the image the last packet's picture, lent or to be copied; 0 if memory is refused. As in libvpx, a program only
+ * reads a lent image: later frames are predicted from it. */
+static int prepare_image(vpx_state *state)
+{
+  vp8_lent_picture *lent = &state->lent;
+  if (vp8_decoder_lend(&state->decoder, lent) != VP8_OK) return 0;
+  if (!is_in_vectors(lent)) return lay_out_image(state);
+  set_image(state, (uint8_t *)lent->y.at, (uint8_t *)lent->u.at, (uint8_t *)lent->v.at, lent->y.stride, lent->u.stride);
   return 1;
 }
 
@@ -228,17 +248,14 @@ static void copy_plane(const vpx_image_t *image, int plane, const vp8_lent_plane
   for (size_t row = 0; row < rows; row++, from += lent->stride, to += image->stride[plane]) memcpy(to, from, width);
 }
 
-/* Copies the last packet's picture to the image, which has its size; 0 if there is none. */
-static int copy_picture(vpx_state *state)
+/* Copies the lent picture to the image that is laid out for it. */
+static void copy_picture(vpx_state *state)
 {
   const vpx_image_t *image = &state->image;
   size_t half_width = ((size_t)image->d_w + 1) / 2, half_rows = ((size_t)image->d_h + 1) / 2;
-  vp8_lent_picture lent;
-  if (vp8_decoder_lend(&state->decoder, &lent) != VP8_OK) return 0;
-  copy_plane(image, VPX_PLANE_Y, &lent.y, image->d_w, image->d_h);
-  copy_plane(image, VPX_PLANE_U, &lent.u, half_width, half_rows);
-  copy_plane(image, VPX_PLANE_V, &lent.v, half_width, half_rows);
-  return 1;
+  copy_plane(image, VPX_PLANE_Y, &state->lent.y, image->d_w, image->d_h);
+  copy_plane(image, VPX_PLANE_U, &state->lent.u, half_width, half_rows);
+  copy_plane(image, VPX_PLANE_V, &state->lent.v, half_width, half_rows);
 }
 
 /* Gives the last packet's picture once. The image is valid until the next call of decode or destroy. */
@@ -246,7 +263,7 @@ static vpx_image_t *get_frame(vpx_state *state, vpx_codec_iter_t *iterator)
 {
   if (*iterator || !state->has_picture) return NULL;
   state->has_picture = 0;
-  if (!copy_picture(state)) return NULL;
+  if (!is_in_vectors(&state->lent)) copy_picture(state);
   state->counts.pictures++;
   state->image.user_priv = state->user;
   *iterator = &state->image;
@@ -284,43 +301,14 @@ static vpx_codec_err_t refuse(vpx_state *state, vp8_status status)
   return error_of_status(state, status);
 }
 
-/* Keeps a copy of a packet, whose facts are read when they are wanted; 0 if memory is refused. */
-static int keep_packet(vpx_state *state, const uint8_t *packet, size_t len)
+/* Reads the facts of the frame that was decoded, and judges whether it is damaged. As in libvpx it is if a partition
+ * was read past its end, or if it is predicted from a damaged frame; libvpx asks each macroblock for its reference, and
+ * this the last frame alone. */
+static void judge_frame(vpx_state *state)
 {
-  if (len > state->packet_capacity) {
-    uint8_t *memory = realloc(state->packet, len);
-    if (!memory) return 0;
-    state->packet = memory;
-    state->packet_capacity = len;
-  }
-  memcpy(state->packet, packet, len);
-  state->packet_len = len;
-  state->is_frame_read = 0;
-  return 1;
-}
-
-/* The facts of the packet that was decoded last. Read after it is decoded, they are the same: what its header says of
- * them does not depend on the decoder's state. */
-static const vp8_frame *last_frame(vpx_state *state)
-{
-  if (!state->is_frame_read) {
-    memset(&state->frame, 0, sizeof state->frame);
-    (void)vp8_decoder_frame(&state->decoder, state->packet, state->packet_len, &state->frame);
-    state->is_frame_read = 1;
-  }
-  return &state->frame;
-}
-
-/* Whether the frame that was decoded is damaged. As in libvpx it is if a partition was read past its end, or if it is
- * predicted from a damaged frame; libvpx asks each macroblock for its reference, and this the last frame alone. */
-static void mark_frame(vpx_state *state)
-{
-  uint32_t is_corrupt = 0;
-  (void)vp8_decoder_corrupt(&state->decoder, &is_corrupt);
-  state->is_corrupt = is_corrupt || state->is_last_corrupt;
-  if (!state->is_corrupt) return;
-  state->is_corrupt = is_corrupt || !last_frame(state)->key;
-  if (last_frame(state)->refreshes_last) state->is_last_corrupt = state->is_corrupt;
+  state->has_frame = vp8_decoder_frame(&state->decoder, &state->frame) == VP8_OK;
+  state->is_corrupt = state->frame.corrupt || (state->is_last_corrupt && !state->frame.key);
+  if (state->frame.refreshes_last) state->is_last_corrupt = state->is_corrupt;
 }
 
 /* Keeps a fragment of the next packet: its header and first partition, or token partitions, in order. */
@@ -344,20 +332,16 @@ static vpx_codec_err_t decode_packet(vpx_state *state, const uint8_t *packet, si
 {
   /* The result is in `stream_info`, which keeps the last size if the packet has none. */
   (void)peek_stream_info(packet, (unsigned int)len, &state->stream_info);
-  if (!keep_packet(state, packet, len)) return refuse(state, VP8_MEMORY);
   vp8_status status = vp8_decoder_decode_keeping(&state->decoder, packet, len);
   if (status != VP8_OK && status != VP8_HIDDEN) return refuse(state, status);
-  state->has_frame = 1;
-  mark_frame(state);
+  judge_frame(state);
   state->has_decoded = 1;
   state->user = user;
   if (status == VP8_HIDDEN) {
     state->counts.hidden++;
     return VPX_CODEC_OK;
   }
-  uint32_t width, height;
-  if (vp8_decoder_size(&state->decoder, &width, &height) != VP8_OK || !lay_out_image(state, width, height))
-    return refuse(state, VP8_MEMORY);
+  if (!prepare_image(state)) return refuse(state, VP8_MEMORY);
   state->has_picture = 1;
   state->counts.shown++;
   return VPX_CODEC_OK;
@@ -406,7 +390,7 @@ static vpx_codec_err_t give_fact(vpx_state *state, va_list arguments, int (*fact
   int *out = va_arg(arguments, int *);
   if (!out) return VPX_CODEC_INVALID_PARAM;
   if (!state->has_frame) return VPX_CODEC_CORRUPT_FRAME;
-  *out = fact(last_frame(state));
+  *out = fact(&state->frame);
   return VPX_CODEC_OK;
 }
 

@@ -164,10 +164,18 @@ class Decoders(unittest.TestCase):
 
     def test_facts_of_frames(self):
         with vp8.Decoder(17) as decoder:
-            self.assertEqual(status_of(decoder.frame, HIDDEN)[0], vp8.NO_REFERENCE)
-            self.assertEqual(decoder.frame(KEY), vp8.Frame(True, 0, True, 17, 1, 0, 0, 0, True, True, True))
-            decoder.decode(KEY)
-            self.assertEqual(decoder.frame(HIDDEN), vp8.Frame(False, 0, False, 17, 1, 0, 0, 0, False, False, False))
+            self.assertIsNone(decoder.frame)
+            for packet, is_corrupt in ((WHOLE, False), (WHOLE[:-1], True)):
+                decoder.decode(packet)
+                facts = vp8.Frame(True, 0, True, 17, 1, 0, 0, 0, True, True, True, is_corrupt)
+                self.assertEqual(decoder.frame, facts)
+            decoder.decode(HIDDEN)
+            facts = vp8.Frame(False, 0, False, 17, 1, 0, 0, 0, False, False, False, True)
+            self.assertEqual(decoder.frame, facts)
+            decoder.decode(b'')
+            self.assertIsNone(decoder.frame)
+            self.assertEqual(status_of(decoder.decode, KEY[:9])[0], vp8.TRUNCATED)
+            self.assertIsNone(decoder.frame)
 
     def test_limits(self):
         for limit in (0, 268402690, -1, 1 << 32):

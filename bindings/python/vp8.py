@@ -64,7 +64,7 @@ class _PacketInfo(ctypes.Structure):
 class _Frame(ctypes.Structure):
     _fields_ = [(name, ctypes.c_uint32) for name in (
         'key', 'version', 'shown', 'width', 'height', 'horizontal_scale', 'vertical_scale', 'quantiser',
-        'refreshes_last', 'refreshes_golden', 'refreshes_altref')]
+        'refreshes_last', 'refreshes_golden', 'refreshes_altref', 'corrupt')]
 
 
 class _LentPlane(ctypes.Structure):
@@ -88,7 +88,7 @@ def _load():
         'vp8_decoder_new': (number, [handle, number]),
         'vp8_decoder_decode': (number, [handle, memory, size]),
         'vp8_decoder_decode_keeping': (number, [handle, memory, size]),
-        'vp8_decoder_frame': (number, [handle, memory, size, ctypes.POINTER(_Frame)]),
+        'vp8_decoder_frame': (number, [handle, ctypes.POINTER(_Frame)]),
         'vp8_decoder_size': (number, [handle, numbers, numbers]),
         'vp8_decoder_copy': (number, [handle] + [memory, size, size] * 3),
         'vp8_decoder_lend': (number, [handle, ctypes.POINTER(_LentPicture)]),
@@ -140,7 +140,10 @@ PacketInfo = collections.namedtuple('PacketInfo', 'key shown width height')
 PacketInfo.__doc__ = """What the first bytes of a packet say. Width and height are those of a key packet, else 0."""
 
 Frame = collections.namedtuple('Frame', [name for name, _ in _Frame._fields_])
-Frame.__doc__ = """Facts about the frame in a packet. The scales are the upscaling codes of a key frame, else 0."""
+Frame.__doc__ = """Facts about the frame of a packet. The scales are the upscaling codes of a key frame, else 0.
+
+`corrupt` says whether a partition was read past its end: damage that no fault names."""
+_TRUTHS = ('key', 'shown', 'refreshes_last', 'refreshes_golden', 'refreshes_altref', 'corrupt')
 
 
 def _tuple_of(kind, structure, truths):
@@ -260,14 +263,18 @@ class Decoder(_Closing):
         not come."""
         return self._decode(_library.vp8_decoder_decode_keeping, packet)
 
-    def frame(self, packet):
-        """The Frame of a packet that this decoder decodes next. Raises Error as decode does.
+    @property
+    def frame(self):
+        """The Frame of the packet decoded last.
 
-        A packet of no bytes has no frame: TRUNCATED."""
-        frame, (pointer, length) = _Frame(), _pointer(packet)
+        None if that packet had no bytes or raised Error, and before the first one."""
+        frame = _Frame()
         with self._lock:
-            _check(_library.vp8_decoder_frame(self._handle, pointer, length, frame))
-        return _tuple_of(Frame, frame, ('key', 'shown', 'refreshes_last', 'refreshes_golden', 'refreshes_altref'))
+            status = _library.vp8_decoder_frame(self._handle, frame)
+        if status == NO_PICTURE:
+            return None
+        _check(status)
+        return _tuple_of(Frame, frame, _TRUTHS)
 
     def _decode(self, call, packet):
         pointer, length = _pointer(packet)

@@ -19,9 +19,11 @@ static void write_luma(const vp8_lent_picture *picture)
 
 int main(int count, char **words)
 {
+  if (count != 2) return fprintf(stderr, "first FILE\n"), 2;
   size_t file_len, at = 32, packet_len;
-  uint8_t *file = count == 2 ? read_file(words[1], &file_len) : NULL;
-  if (!file) return fprintf(stderr, "first FILE\n"), 2;
+  uint8_t *file = read_file(words[1], &file_len);
+  if (!file) return perror(words[1]), 2;
+  int shown = 0;
   vp8_decoder decoder = VP8_INIT;
   vp8_lent_picture picture;
   vp8_status status = vp8_decoder_new(&decoder, 16777216);
@@ -31,10 +33,11 @@ int main(int count, char **words)
     status = vp8_decoder_decode_keeping(&decoder, packet, packet_len);
     if (status != VP8_OK) continue;
     status = vp8_decoder_lend(&decoder, &picture);
-    if (status == VP8_OK) write_luma(&picture);
+    if (status == VP8_OK) write_luma(&picture), shown = 1;
     break;
   }
+  if (!shown) fprintf(stderr, "%s: no picture is shown\n", words[1]);
   vp8_decoder_free(&decoder);
   free(file);
-  return status != VP8_OK;
+  return !shown;
 }

@@ -23,13 +23,16 @@ static const uint8_t HIDDEN[3] = { 0x01, 0, 0 };
 static void references(vp8_decoder *decoder, uint8_t *y, uint8_t *u, uint8_t *v)
 {
   uint32_t width = 0, height = 0, corrupt = 0;
+  vp8_frame frame;
   expect("reference size", vp8_decoder_reference_size(decoder, &width, &height), VP8_OK);
   for (uint32_t reference = VP8_LAST; reference <= VP8_ALTREF; reference++)
     expect("reference", vp8_decoder_reference(decoder, reference, y, 256, 16, u, 64, 8, v, 64, 8), VP8_OK);
   expect("short", vp8_decoder_reference(decoder, VP8_LAST, y, 255, 16, u, 64, 8, v, 64, 8), VP8_BUFFER);
   expect("no such one", vp8_decoder_reference(decoder, 0, y, 256, 16, u, 64, 8, v, 64, 8), VP8_NO_PICTURE);
   expect("corrupt", vp8_decoder_corrupt(decoder, &corrupt), VP8_OK);
+  expect("frame", vp8_decoder_frame(decoder, &frame), VP8_OK);
   if (width != 16 || height != 16 || corrupt != 1) expect("what they say", VP8_OK, VP8_HIDDEN);
+  if (frame.key != 1 || frame.width != 16 || frame.corrupt != 1) expect("what the frame says", VP8_OK, VP8_HIDDEN);
 }
 
 /* The picture that is lent is the one that was copied. */
@@ -47,6 +50,7 @@ static void decoders(void)
   uint8_t y[256], u[64], v[64];
   uint32_t width = 7, height = 7;
   vp8_lent_picture lent;
+  vp8_frame frame;
   vp8_decoder decoder = VP8_INIT;
   expect("closed", vp8_decoder_decode(&decoder, KEY, sizeof KEY), VP8_CLOSED);
   expect("no limits", vp8_decoder_new(&decoder, 0), VP8_LIMITS);
@@ -70,6 +74,7 @@ static void decoders(void)
   expect("nothing to lend", vp8_decoder_lend(&decoder, &lent), VP8_NO_PICTURE);
   expect("damage", vp8_decoder_decode_keeping(&decoder, KEY, 9), VP8_TRUNCATED);
   expect("nothing shown after damage", vp8_decoder_size(&decoder, &width, &height), VP8_NO_PICTURE);
+  expect("no frame after damage", vp8_decoder_frame(&decoder, &frame), VP8_NO_PICTURE);
   expect("inter after damage", vp8_decoder_decode_keeping(&decoder, INTER, sizeof INTER), VP8_OK);
   expect("fault", vp8_decoder_decode(&decoder, KEY, 9), VP8_TRUNCATED);
   expect("inter after a fault", vp8_decoder_decode_keeping(&decoder, INTER, sizeof INTER), VP8_NO_REFERENCE);
@@ -78,6 +83,7 @@ static void decoders(void)
   expect("after free", vp8_decoder_decode(&decoder, KEY, sizeof KEY), VP8_CLOSED);
   expect("lend after free", vp8_decoder_lend(&decoder, &lent), VP8_CLOSED);
   expect("damage after free", vp8_decoder_corrupt(&decoder, &width), VP8_CLOSED);
+  expect("frame after free", vp8_decoder_frame(&decoder, &frame), VP8_CLOSED);
   expect("references after free", vp8_decoder_reference_size(&decoder, &width, &height), VP8_CLOSED);
 }
 

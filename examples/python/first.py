@@ -3,6 +3,8 @@ import sys
 
 import vp8
 
+if len(sys.argv) != 2:
+    sys.exit('first.py FILE')
 with open(sys.argv[1], 'rb') as file, vp8.Decoder() as decoder:
     for packet in vp8.packets(file.read()):
         try:
@@ -14,3 +16,5 @@ with open(sys.argv[1], 'rb') as file, vp8.Decoder() as decoder:
             header = f'P5 {picture.width} {picture.height} 255\n'
             sys.stdout.buffer.write(header.encode() + picture.y.tobytes())
             break
+    else:
+        sys.exit(f'{sys.argv[1]}: no picture is shown')

@@ -75,17 +75,20 @@ async function show(number) {
 }
 
 // Frames spread over the stream, each an eighth of its sides; a click opens it. There are none if the server shows no
-// WebP files.
+// WebP files; packets that show nothing are left out.
 async function showThumbnails() {
   const stream = at('stream').value, count = Math.min(MOST_THUMBNAILS, packets);
+  const address = number => `s/${stream}/webp/${number}/8`;
+  const numbers = Array.from({length: count}, (_, k) => Math.floor(k * packets / count));
   at('thumbnails').replaceChildren();
-  if (count === 0 || !(await fetch(`s/${stream}/webp/0/8`)).ok || stream !== at('stream').value) return;
-  for (let k = 0; k < count; k++) {
-    const number = Math.floor(k * packets / count), picture = new Image();
+  while (numbers.length && !(await fetch(address(numbers[0]))).ok) numbers.shift();
+  if (stream !== at('stream').value) return;
+  for (const number of numbers) {
+    const picture = new Image();
     picture.title = picture.alt = `packet ${number}`;
     picture.onclick = () => { stop(); show(number); };
     picture.onerror = () => picture.remove();
-    picture.src = `s/${stream}/webp/${number}/8`;
+    picture.src = address(number);
     at('thumbnails').append(picture);
   }
 }

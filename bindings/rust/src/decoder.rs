@@ -57,13 +57,12 @@ impl Decoder {
         shows(unsafe { ffi::vp8_decoder_decode_keeping(&mut self.0, bytes, len) })
     }
 
-    /// Facts about the frame in a packet that this decoder decodes next. The faults of a packet, as
-    /// `decode` gives them; `TRUNCATED` for a packet of no bytes.
-    pub fn frame(&mut self, packet: &[u8]) -> Result<Frame, Status> {
+    /// Facts about the frame of the packet that was decoded last. `NO_PICTURE`: there is no frame before
+    /// the first packet, and after a packet of no bytes or one with a fault.
+    pub fn frame(&mut self) -> Result<Frame, Status> {
         let mut frame = ffi::Frame::default();
-        let (bytes, len) = (packet.as_ptr(), packet.len());
-        // SAFETY: the pointer and the length are of one slice, and `frame` is a variable.
-        check(unsafe { ffi::vp8_decoder_frame(&mut self.0, bytes, len, &mut frame) })?;
+        // SAFETY: `frame` is a variable.
+        check(unsafe { ffi::vp8_decoder_frame(&mut self.0, &mut frame) })?;
         Ok(frame.into())
     }
 

@@ -55,6 +55,7 @@ pub struct Frame {
     pub refreshes_last: u32,
     pub refreshes_golden: u32,
     pub refreshes_altref: u32,
+    pub corrupt: u32,
 }
 
 /// `vp8_lent_plane`.
@@ -107,12 +108,7 @@ extern "C" {
         packet: *const u8,
         packet_len: usize,
     ) -> u32;
-    pub fn vp8_decoder_frame(
-        decoder: *mut Handle,
-        packet: *const u8,
-        packet_len: usize,
-        frame: *mut Frame,
-    ) -> u32;
+    pub fn vp8_decoder_frame(decoder: *mut Handle, frame: *mut Frame) -> u32;
     pub fn vp8_decoder_size(decoder: *mut Handle, width: *mut u32, height: *mut u32) -> u32;
     pub fn vp8_decoder_copy(
         decoder: *mut Handle,

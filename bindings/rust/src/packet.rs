@@ -1,4 +1,4 @@
-//! What is in a packet, before it is decoded.
+//! What is in a packet: its first bytes, and the frame of one that is decoded.
 //!
 //! Not proved: the whole file. The `unsafe` block passes the pointer and the length of a slice to the library.
 
@@ -19,7 +19,7 @@ pub struct PacketInfo {
     pub height: u32,
 }
 
-/// Facts about the frame in a packet.
+/// Facts about the frame of a packet that is decoded.
 #[derive(Clone, Copy, Debug, PartialEq, Eq)]
 pub struct Frame {
     /// A key frame.
@@ -44,6 +44,8 @@ pub struct Frame {
     pub refreshes_golden: bool,
     /// Its picture becomes altref.
     pub refreshes_altref: bool,
+    /// A partition was read past its end: damage that no fault names.
+    pub corrupt: bool,
 }
 
 impl From<ffi::Frame> for Frame {
@@ -60,6 +62,7 @@ impl From<ffi::Frame> for Frame {
             refreshes_last: frame.refreshes_last != 0,
             refreshes_golden: frame.refreshes_golden != 0,
             refreshes_altref: frame.refreshes_altref != 0,
+            corrupt: frame.corrupt != 0,
         }
     }
 }

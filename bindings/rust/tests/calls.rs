@@ -132,19 +132,31 @@ fn facts_of_a_frame() -> Result<(), Status> {
         refreshes_last: true,
         refreshes_golden: true,
         refreshes_altref: true,
+        corrupt: false,
     };
-    assert_eq!(decoder.frame(&HIDDEN), Err(Status::NO_REFERENCE));
-    assert_eq!(decoder.frame(&KEY)?, key);
-    assert!(decoder.decode(&KEY)?);
+    assert_eq!(decoder.frame(), Err(Status::NO_PICTURE));
+    assert!(decoder.decode(&WHOLE)?);
+    assert_eq!(decoder.frame()?, key);
+    assert!(decoder.decode(&WHOLE[..40])?);
+    let cut = Frame {
+        corrupt: true,
+        ..key
+    };
+    assert_eq!(decoder.frame()?, cut);
     let hidden = Frame {
         key: false,
         shown: false,
         refreshes_last: false,
         refreshes_golden: false,
         refreshes_altref: false,
-        ..key
+        ..cut
     };
-    assert_eq!(decoder.frame(&HIDDEN)?, hidden);
+    assert!(!decoder.decode(&HIDDEN)?);
+    assert_eq!(decoder.frame()?, hidden);
+    assert!(decoder.decode(&[])?);
+    assert_eq!(decoder.frame(), Err(Status::NO_PICTURE));
+    assert_eq!(decoder.decode(&KEY[..9]), Err(Status::TRUNCATED));
+    assert_eq!(decoder.frame(), Err(Status::NO_PICTURE));
     Ok(())
 }
 

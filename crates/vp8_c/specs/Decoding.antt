@@ -1,5 +1,6 @@
 -- The decoder of a handle: its limits, the effect of decoding a packet, and the pictures that it gives. Pinned by the
--- tests `a_packet_is_decoded`, `decoding_goes_on_after_damage`, `damage_is_told` and `references_are_copied`.
+-- tests `a_packet_is_decoded`, `decoding_goes_on_after_damage`, `damage_is_told`, `facts_of_frames_are_written` and
+-- `references_are_copied`.
 use Rattle.std.specs.Prelude.{◌≡◌, ◌≢◌, ◌⊎◌, ◌<◌, ℕ, List, length, Option, Some, None, Result, Err, ok_or}
 use Rattle.std.specs.Prelude.{Ok, Bool, option_and_then, option_map, ◌==◌, if◌then◌else◌}
 use Rattle.vp_base.specs.Image.{Image}
@@ -7,6 +8,8 @@ use Rattle.vp_decode.specs.Step.{IsDecoded, after, outcome, step}
 use Rattle.vp_decode.specs.Step.{Decoder as PacketDecoder}
 use Rattle.vp_decode.specs.Keeping.{step_keeping}
 use Rattle.vp_decode.specs.Corrupt.{corrupt}
+use Rattle.vp_decode.specs.FrameFacts.{frame_facts, is_frame_corrupt}
+use Rattle.vp_decode.specs.declared.frame_facts.FrameFacts.{FrameFacts}
 use Rattle.vp_decode.specs.declared.decoder.OnFault.{OnFault}
 use Rattle.vp_decode.specs.declared.decoder.OnFault.TheVariants as on_fault
 use Rattle.vp_head.specs.declared.fields.Reference.{Reference}
@@ -78,11 +81,28 @@ reference_in n h = given_in (reference_of_value n) h
 abbrev pub reference_size_in : Handle → Result Size ℕ
 reference_size_in h = result_map (λ p. size_of p.width p.height) (reference_in 1 h)
 
+-- ---- the frame of the last packet
+
+-- the facts about that frame: none before the first packet, after a fault and after an empty packet
+abbrev pub last_frame : HandleValue → Result (Option FrameFacts) ℕ
+last_frame (Decoder d) = Ok d.frame
+last_frame (Stream s) = Err CLOSED
+last_frame (Encoder e) = Err CLOSED
+
+abbrev pub last_frame_in : Handle → Result (Option FrameFacts) ℕ
+last_frame_in h = given_in last_frame h
+
+-- After a packet is decoded, the value has the facts about its frame. If memory ran out, nothing changed.
+pub record TellsFrame (packet : List ℕ) (status : ℕ) (before after : Result (Option FrameFacts) ℕ) (old : PacketDecoder)
+    : Type 0 where
+  pub told : status ≢ MEMORY → after ≡ Ok (frame_facts old.limits old.state packet)
+  pub refused : status ≡ MEMORY → after ≡ before
+
 -- ---- damage that no fault names
 
 -- whether the decoder's last packet had a partition that was read past its end
 abbrev pub corrupt_of : HandleValue → Result Bool ℕ
-corrupt_of (Decoder d) = Ok d.corrupt
+corrupt_of (Decoder d) = Ok (is_frame_corrupt d.frame)
 corrupt_of (Stream s) = Err CLOSED
 corrupt_of (Encoder e) = Err CLOSED
 
@@ -126,13 +146,14 @@ pub record DecodesKeeping (packet : List ℕ) (status : ℕ) (old new : PacketDe
   pub late : status ≡ MEMORY → IsDecoded (step old.limits old.state packet).1
   pub dropped : status ≡ MEMORY → 0 < length packet
 
--- The decoder of a handle decodes the packet in one of these ways, and keeps whether the packet is corrupt. If memory
--- ran out, what is known of the packet before it stays.
+-- The decoder of a handle decodes the packet in one of these ways, and keeps the facts about its frame. If memory ran
+-- out, what is known of the packet before it stays.
 abbrev pub Steps : OnFault → List ℕ → ℕ → PacketDecoder → PacketDecoder → Type 0
 Steps on_fault.Forget = Decodes
 Steps on_fault.Keep = DecodesKeeping
 
 pub record DecodesBy (way : OnFault) (packet : List ℕ) (status : ℕ) (old new : DecoderHandle) : Type 0 where
   pub steps : Steps way packet status old.decoder new.decoder
-  pub told : status ≢ MEMORY → new.corrupt ≡ corrupt old.decoder.limits old.decoder.state packet
-  pub refused : status ≡ MEMORY → new.corrupt ≡ old.corrupt
+  pub told : status ≢ MEMORY → new.frame ≡ frame_facts old.decoder.limits old.decoder.state packet
+  pub corrupt_is : status ≢ MEMORY → is_frame_corrupt new.frame ≡ corrupt old.decoder.limits old.decoder.state packet
+  pub refused : status ≡ MEMORY → new.frame ≡ old.frame

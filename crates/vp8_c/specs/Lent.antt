@@ -1,4 +1,4 @@
--- The layout of a picture that is lent to C. No contract says which bytes an address refers to.
+-- The layout of a picture that is lent to C. No contract says what lies at an address once the call has returned.
 use Rattle.std.specs.Prelude.{◌≡◌, ℕ}
 use Rattle.vp_base.specs.Image.{Image}
 use Rattle.vp8_c.specs.declared.lent.LentPicture.{LentPicture}

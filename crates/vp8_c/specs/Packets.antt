@@ -1,22 +1,20 @@
--- What the first bytes of a packet say (RFC 6386, chapter 9.1), and facts about its frame, as numbers. Pinned by the
+-- What the first bytes of a packet say (RFC 6386, chapter 9.1), and facts about the last frame, as numbers. Pinned by the
 -- tests `packets_are_peeked` and `facts_of_frames_are_written`.
-use Rattle.std.specs.Prelude.{ℕ, Bool, true, false, List, Option, Some, None, Result, Ok, Err, is_some}
+use Rattle.std.specs.Prelude.{ℕ, Bool, true, false, List, Option, Some, None, Result, Ok, Err, is_some, ok_or, option_map}
 use Rattle.vp_base.specs.declared.limits.Limits.{Limits}
 use Rattle.vp_head.specs.declared.fields.KeyTag.{KeyTag}
 use Rattle.vp_head.specs.declared.fields.Tag.{Tag}
 use Rattle.vp_head.specs.declared.fault.PacketFault.{PacketFault}
 use Rattle.vp_head.specs.Tag.{tag_of}
 use Rattle.vp_decode.specs.declared.frame_facts.FrameFacts.{FrameFacts}
-use Rattle.vp_decode.specs.FrameFacts.{facts_in}
-use Rattle.vp_decode.specs.Step.{parsed}
-use Rattle.vp_decode.specs.Step.{Decoder as PacketDecoder}
-use Rattle.vp8_c.specs.declared.status.TheConstants.{CLOSED}
+use Rattle.vp8_c.specs.declared.status.TheConstants.{CLOSED, NO_PICTURE}
 use Rattle.vp8_c.specs.declared.handle_value.HandleValue.{HandleValue}
+use Rattle.vp8_c.specs.declared.handle_value.HandleValue.TheVariants.{Decoder, Stream, Encoder}
 use Rattle.vp8_c.specs.declared.handle.Handle.{Handle}
 use Rattle.vp8_c.specs.declared.packet.PacketInfo.{PacketInfo}
 use Rattle.vp8_c.specs.declared.packet.FrameInfo.{FrameInfo}
 use Rattle.vp8_c.specs.Arguments.{given_in, result_map}
-use Rattle.vp8_c.specs.Decoding.{decoder_of, corrupt_in}
+use Rattle.vp8_c.specs.Decoding.{corrupt_in}
 use Rattle.vp8_c.specs.Status.{fault_number}
 
 -- a truth value in C
@@ -69,22 +67,17 @@ frame_info f = record {
   refreshes_last = flag f.refreshes_last;
   refreshes_golden = flag f.refreshes_golden;
   refreshes_altref = flag f.refreshes_alt;
+  corrupt = flag f.corrupt;
 }
 
--- the facts of the frame in a packet that this decoder decodes next, or the number of the packet's fault
-abbrev pub decoder_frame : List ℕ → PacketDecoder → Result FrameInfo ℕ
-decoder_frame packet d = result_map frame_info (value_or_status (facts_in (parsed d.limits d.state packet)))
+-- the facts about the frame of the decoder's last packet, or the status of a call without them
+abbrev pub frame_of_value : HandleValue → Result FrameInfo ℕ
+frame_of_value (Decoder d) = ok_or (option_map frame_info d.frame) NO_PICTURE
+frame_of_value (Stream s) = Err CLOSED
+frame_of_value (Encoder e) = Err CLOSED
 
--- the same of a handle's decoder, or CLOSED
-abbrev pub frame_by : List ℕ → Option PacketDecoder → Result FrameInfo ℕ
-frame_by packet None = Err CLOSED
-frame_by packet (Some d) = decoder_frame packet d
-
-abbrev pub frame_of_value : List ℕ → HandleValue → Result FrameInfo ℕ
-frame_of_value packet value = frame_by packet (decoder_of value)
-
-abbrev pub frame_in : List ℕ → Handle → Result FrameInfo ℕ
-frame_in packet h = given_in (frame_of_value packet) h
+abbrev pub frame_in : Handle → Result FrameInfo ℕ
+frame_in h = given_in frame_of_value h
 
 -- ---- damage
 

@@ -375,8 +375,8 @@ fn packets_are_peeked(rt: HostRuntime) {
     );
 }
 
-/// Returns the status of asking a decoder for the facts of a packet, and the numbers.
-fn frame(alloc: Global, decoder: &mut Handle, packet: &[u8]) -> (u32, [u32; 11]) {
+/// Returns the status of asking a decoder for the facts of its last packet, and the numbers.
+fn frame(alloc: Global, decoder: &mut Handle) -> (u32, [u32; 12]) {
     let mut info = FrameInfo {
         key: 9,
         version: 9,
@@ -389,8 +389,9 @@ fn frame(alloc: Global, decoder: &mut Handle, packet: &[u8]) -> (u32, [u32; 11])
         refreshes_last: 9,
         refreshes_golden: 9,
         refreshes_altref: 9,
+        corrupt: 9,
     };
-    let status = vp8_decoder_frame(alloc, decoder, packet, &mut info);
+    let status = vp8_decoder_frame(alloc, decoder, &mut info);
     let numbers = [
         info.key,
         info.version,
@@ -403,11 +404,20 @@ fn frame(alloc: Global, decoder: &mut Handle, packet: &[u8]) -> (u32, [u32; 11])
         info.refreshes_last,
         info.refreshes_golden,
         info.refreshes_altref,
+        info.corrupt,
     ];
     (status, numbers)
 }
 
-/// A key packet with upscaling codes 1 and 2; inter packets whose bools are all 0 or all 1; packets with faults.
+/// Decodes a packet, and returns its status, that of asking for its facts, and the numbers.
+fn decode_for_facts(alloc: Global, decoder: &mut Handle, packet: &[u8]) -> (u32, u32, [u32; 12]) {
+    let decoded = vp8_decoder_decode_keeping(alloc, decoder, packet);
+    let (asked, numbers) = frame(alloc, decoder);
+    (decoded, asked, numbers)
+}
+
+/// A key packet with upscaling codes 1 and 2, and an inter packet whose bools are all 1; libvpx flags both. Packets with
+/// faults and empty packets have no facts.
 #[test]
 fn facts_of_frames_are_written(rt: HostRuntime) {
     let alloc = rt.alloc();
@@ -415,27 +425,51 @@ fn facts_of_frames_are_written(rt: HostRuntime) {
     let scaled = [0x14, 0, 0, 0x9d, 0x01, 0x2a, 17, 0x40, 1, 0x80];
     let mut ones = [0; 25];
     ones[..4].copy_from_slice(&[0x27, 0, 0, 0xff]);
-    let closed = frame(alloc, &mut decoder, &KEY);
+    let closed = frame(alloc, &mut decoder);
     let opened = vp8_decoder_new(alloc, &mut decoder, 17);
-    let early = frame(alloc, &mut decoder, &[0x11, 0, 0]);
-    let key = frame(alloc, &mut decoder, &scaled);
-    let decoded = vp8_decoder_decode(alloc, &mut decoder, &KEY);
-    let zeros = frame(alloc, &mut decoder, &[0x11, 0, 0]);
-    let all = frame(alloc, &mut decoder, &ones);
-    let cut = frame(alloc, &mut decoder, &ones[..24]);
-    let empty = frame(alloc, &mut decoder, &[]);
-    let (mut width, mut height) = (9, 9);
-    let kept = vp8_decoder_size(alloc, &mut decoder, &mut width, &mut height);
+    let fresh = frame(alloc, &mut decoder);
+    let early = decode_for_facts(alloc, &mut decoder, &INTER);
+    let key = decode_for_facts(alloc, &mut decoder, &scaled);
+    let cut = decode_for_facts(alloc, &mut decoder, &ones[..24]);
+    let all = decode_for_facts(alloc, &mut decoder, &ones);
+    let empty = decode_for_facts(alloc, &mut decoder, &[]);
     vp8_decoder_free(alloc, &mut decoder);
     decoder.forget();
-    equal(&rt, &closed, &(64, [9; 11]));
-    equal(&rt, &[opened, decoded, kept], &[0, 0, 0]);
-    equal(&rt, &early, &(21, [9; 11]));
-    equal(&rt, &key, &(0, [1, 2, 1, 17, 1, 1, 2, 0, 1, 1, 1]));
-    equal(&rt, &zeros, &(0, [0, 0, 1, 17, 1, 0, 0, 0, 0, 0, 0]));
-    equal(&rt, &all, &(0, [0, 3, 0, 17, 1, 0, 0, 127, 1, 1, 1]));
-    equal(&rt, &cut, &(23, [9; 11]));
-    equal(&rt, &empty, &(16, [9; 11]));
+    equal(&rt, &(closed, opened), &((64, [9; 12]), 0));
+    equal(&rt, &fresh, &(69, [9; 12]));
+    equal(&rt, &early, &(21, 69, [9; 12]));
+    equal(&rt, &key, &(0, 0, [1, 2, 1, 17, 1, 1, 2, 0, 1, 1, 1, 1]));
+    equal(&rt, &cut, &(23, 69, [9; 12]));
+    equal(&rt, &all, &(1, 0, [0, 3, 0, 17, 1, 0, 0, 127, 1, 1, 1, 1]));
+    equal(&rt, &empty, &(0, 69, [9; 12]));
+}
+
+/// Quantiser indices, references and damage as libvpx gives them: of a key packet, of inter packets for golden and
+/// altref, and of a key packet without its last byte.
+#[test]
+fn facts_are_those_of_libvpx(rt: HostRuntime) {
+    let alloc = rt.alloc();
+    let mut decoder = Handle::closed();
+    let opened = vp8_decoder_new(alloc, &mut decoder, 17);
+    let key = decode_for_facts(alloc, &mut decoder, PACKETS[0]);
+    let golden = decode_for_facts(alloc, &mut decoder, PACKETS[1]);
+    let altref = decode_for_facts(alloc, &mut decoder, PACKETS[2]);
+    let cut = decode_for_facts(alloc, &mut decoder, &WHOLE[..40]);
+    vp8_decoder_free(alloc, &mut decoder);
+    decoder.forget();
+    equal(&rt, &opened, &0);
+    equal(&rt, &key, &(0, 0, [1, 0, 1, 17, 1, 0, 0, 0, 1, 1, 1, 0]));
+    equal(
+        &rt,
+        &golden,
+        &(0, 0, [0, 0, 1, 17, 1, 0, 0, 30, 0, 1, 0, 0]),
+    );
+    equal(
+        &rt,
+        &altref,
+        &(0, 0, [0, 0, 1, 17, 1, 0, 0, 30, 0, 0, 1, 0]),
+    );
+    equal(&rt, &cut, &(0, 0, [1, 0, 1, 17, 1, 0, 0, 0, 1, 1, 1, 1]));
 }
 
 /// Settings whose numbers all differ.

@@ -5,7 +5,8 @@ ghost use Rattle.vp8_c.specs.Handle.{handle_value_in};
 ghost use Rattle.vp8_c.specs.Arguments.{CopiesPicture, GivesOrFails, IsClosed, Opens, Puts, size_of};
 ghost use Rattle.vp8_c.specs.Planes.{planes_of};
 ghost use Rattle.vp8_c.specs.Decoding.{Decodes, DecodesKeeping, IsFresh, IsNoLimit, decoder_in, handle_picture};
-ghost use Rattle.vp8_c.specs.Decoding.{TellsCorrupt, corrupt_in, reference_in, reference_size_in, shown_size_in};
+ghost use Rattle.vp8_c.specs.Decoding.{TellsCorrupt, TellsFrame, corrupt_in, last_frame_in};
+ghost use Rattle.vp8_c.specs.Decoding.{reference_in, reference_size_in, shown_size_in};
 ghost use Rattle.vp8_c.specs.Packets.{corrupt_number_in};
 ghost use Rattle.vp8_c.specs.Lent.{Lends};
 
@@ -30,6 +31,7 @@ pub extern "C" fn vp8_decoder_new(alloc: Global, decoder: &mut Handle, max_pixel
     ensures opens { Opens (λ h. IsSomeAnd (decoder_in h) (IsFresh max_pixels)) result decoder.old decoder.new }
     ensures limits { handle_value_in decoder.old ≡ None → ((result ≡ LIMITS) ↔ IsNoLimit max_pixels) }
     ensures sound { result ≡ OK → corrupt_in decoder.new ≡ Ok false }
+    ensures frame { result ≡ OK → last_frame_in decoder.new ≡ Ok None }
 {
     if decoder.is_open() {
         return OPEN;
@@ -39,7 +41,7 @@ pub extern "C" fn vp8_decoder_new(alloc: Global, decoder: &mut Handle, max_pixel
     };
     let fresh = DecoderHandle {
         decoder: Decoder::new(alloc, limits),
-        corrupt: false,
+        frame: None,
     };
     decoder.open(alloc, HandleValue::Decoder(fresh))
 }
@@ -54,6 +56,8 @@ pub extern "C" fn vp8_decoder_decode(alloc: Global, decoder: &mut Handle, packet
         (Decodes packet.now result d)) }
     ensures corrupt { IfSome (decoder_in decoder.old)
         (TellsCorrupt packet.now result (corrupt_in decoder.old) (corrupt_in decoder.new)) }
+    ensures frame { IfSome (decoder_in decoder.old)
+        (TellsFrame packet.now result (last_frame_in decoder.old) (last_frame_in decoder.new)) }
 {
     let Some(mut held) = decoder.take(alloc) else {
         return CLOSED;
@@ -78,6 +82,8 @@ pub extern "C" fn vp8_decoder_decode_keeping(
         (DecodesKeeping packet.now result d)) }
     ensures corrupt { IfSome (decoder_in decoder.old)
         (TellsCorrupt packet.now result (corrupt_in decoder.old) (corrupt_in decoder.new)) }
+    ensures frame { IfSome (decoder_in decoder.old)
+        (TellsFrame packet.now result (last_frame_in decoder.old) (last_frame_in decoder.new)) }
 {
     let Some(mut held) = decoder.take(alloc) else {
         return CLOSED;

@@ -5,16 +5,17 @@ ghost use Rattle.vp8_c.specs.Decoding.{reference_of};
 
 use crate::status::{MEMORY, NO_PICTURE, outcome_number};
 use vp_base::Picture;
-use vp_decode::{Decoder, OnFault};
+use vp_decode::{Decoder, FrameFacts, OnFault};
 use vp_head::Reference;
 
-/// A decoder, and whether its last packet was corrupt.
+/// A decoder, and the facts about the frame of its last packet.
 #[derive(Drop)]
 pub struct DecoderHandle {
     /// The decoder.
     pub decoder: Decoder,
-    /// Whether a partition of the last packet was read past its end.
-    pub corrupt: bool,
+    /// The facts about the frame of the last packet. None before the first packet, after a fault and after an empty
+    /// packet.
+    pub frame: Option<FrameFacts>,
 }
 
 /// Returns the reference frame of a number: 1 is last, 2 golden, 3 altref.
@@ -32,17 +33,28 @@ fn reference_of(number: u32) -> Option<Reference>
 impl DecoderHandle {
     ghost use Rattle.vp8_c.specs.Decoding.{DecodesBy, reference_by, reference_of};
     ghost use Rattle.vp8_c.specs.Arguments.{result_map};
+    ghost use Rattle.vp_decode.specs.FrameFacts.{is_frame_corrupt};
 
-    /// Decodes a packet, and keeps whether it was corrupt.
+    /// Decodes a packet, and keeps the facts about its frame.
     pub fn decode(&mut self, packet: &[u8], on_fault: OnFault) -> u32
         ensures { DecodesBy on_fault packet.now result self.old self.new }
     {
-        match self.decoder.decode_checked(packet, on_fault) {
-            Ok(checked) => {
-                self.corrupt = checked.corrupt;
-                outcome_number(checked.outcome)
+        match self.decoder.decode_with_facts(packet, on_fault) {
+            Ok(decoded) => {
+                self.frame = decoded.frame;
+                outcome_number(decoded.outcome)
             }
             Err(_) => MEMORY,
+        }
+    }
+
+    /// Returns whether a partition of the last packet was read past its end.
+    pub fn is_corrupt(&self) -> bool
+        ensures { result ≡ is_frame_corrupt self.now.frame }
+    {
+        match &self.frame {
+            Some(facts) => facts.corrupt,
+            None => false,
         }
     }
 

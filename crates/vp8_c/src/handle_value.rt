@@ -8,7 +8,7 @@ use crate::encoder_handle::EncoderHandle;
 use crate::file_handle::{FileHandle, KeptPicture};
 use crate::packet::FrameInfo;
 use crate::planes::CallerPlanes;
-use crate::status::{CLOSED, NO_PICTURE, fault_number};
+use crate::status::{CLOSED, NO_PICTURE};
 use crate::stream_handle::StreamHandle;
 use vp_base::Picture;
 use vp_decode::OnFault;
@@ -50,7 +50,7 @@ impl HandleValue {
         ensures { result ≡ corrupt_of self.now }
     {
         match self {
-            HandleValue::Decoder(decoder) => Ok(decoder.corrupt),
+            HandleValue::Decoder(decoder) => Ok(decoder.is_corrupt()),
             HandleValue::Stream(_) | HandleValue::Encoder(_) => Err(CLOSED),
         }
     }
@@ -65,14 +65,14 @@ impl HandleValue {
         }
     }
 
-    /// Returns facts about the frame in a packet that the decoder decodes next, or the status of a call without them.
-    pub fn frame(&self, packet: &[u8]) -> Result<FrameInfo, u32>
-        ensures { result ≡ frame_of_value packet.now self.now }
+    /// Returns the facts about the frame of the decoder's last packet, or the status of a call without them.
+    pub fn frame(&self) -> Result<FrameInfo, u32>
+        ensures { result ≡ frame_of_value self.now }
     {
         match self {
-            HandleValue::Decoder(decoder) => match decoder.decoder.frame_facts(packet) {
-                Ok(facts) => Ok(FrameInfo::of(facts)),
-                Err(fault) => Err(fault_number(fault)),
+            HandleValue::Decoder(decoder) => match &decoder.frame {
+                Some(facts) => Ok(FrameInfo::of(facts)),
+                None => Err(NO_PICTURE),
             },
             HandleValue::Stream(_) | HandleValue::Encoder(_) => Err(CLOSED),
         }

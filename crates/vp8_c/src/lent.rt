@@ -53,18 +53,35 @@ impl LentPlane {
 }
 
 impl LentPicture {
+    /// Lends a picture whose planes have these pixels.
+    fn of_planes(picture: &Picture, y: &[u8], u: &[u8], v: &[u8]) -> LentPicture
+        requires pixels_of_y { y.now ≡ picture.now.luma.pixels }
+        requires pixels_of_u { u.now ≡ picture.now.u.pixels }
+        requires pixels_of_v { v.now ≡ picture.now.v.pixels }
+        ensures layout { IsLayoutOf picture.now result }
+        ensures at_y { result.y.at ≡ block_ptr y.entry.ref_ptr.0 y.entry.ref_ptr.1 }
+        ensures at_u { result.u.at ≡ block_ptr u.entry.ref_ptr.0 u.entry.ref_ptr.1 }
+        ensures at_v { result.v.at ≡ block_ptr v.entry.ref_ptr.0 v.entry.ref_ptr.1 }
+    {
+        let dim = picture.dim();
+        LentPicture {
+            width: u32::from(dim.w),
+            height: u32::from(dim.h),
+            y: LentPlane::of(y, picture.plane(0).width()),
+            u: LentPlane::of(u, picture.plane(1).width()),
+            v: LentPlane::of(v, picture.plane(2).width()),
+        }
+    }
+
     /// Lends a picture.
     pub fn of(picture: &Picture) -> LentPicture
         ensures { IsLayoutOf picture.now result }
     {
-        let dim = picture.dim();
-        let (y, u, v) = (picture.plane(0), picture.plane(1), picture.plane(2));
-        LentPicture {
-            width: u32::from(dim.w),
-            height: u32::from(dim.h),
-            y: LentPlane::of(y.pixels(), y.width()),
-            u: LentPlane::of(u.pixels(), u.width()),
-            v: LentPlane::of(v.pixels(), v.width()),
-        }
+        LentPicture::of_planes(
+            picture,
+            picture.plane(0).pixels(),
+            picture.plane(1).pixels(),
+            picture.plane(2).pixels(),
+        )
     }
 }

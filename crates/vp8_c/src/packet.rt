@@ -1,4 +1,4 @@
-//! The C functions that say what is in a packet before it is decoded.
+//! The C functions that say what is in a packet: its first bytes, and the frame of the last one.
 
 ghost use Rattle.std.specs.Prelude.{◌≡◌};
 ghost use Rattle.vp_base.specs.declared.limits.Limits.{Limits};
@@ -27,7 +27,7 @@ pub struct PacketInfo {
     pub height: u32,
 }
 
-/// Facts about the frame in a packet.
+/// Facts about the frame of a packet that is decoded.
 #[repr(C)]
 #[derive(Clone, Copy)]
 pub struct FrameInfo {
@@ -53,14 +53,16 @@ pub struct FrameInfo {
     pub refreshes_golden: u32,
     /// 1 if its picture becomes altref, else 0.
     pub refreshes_altref: u32,
+    /// 1 if a partition was read past its end, else 0.
+    pub corrupt: u32,
 }
 
 impl FrameInfo {
     ghost use Rattle.vp8_c.specs.Packets.{frame_info};
 
     /// Returns facts as numbers.
-    pub fn of(facts: FrameFacts) -> FrameInfo
-        ensures { result ≡ frame_info facts }
+    pub fn of(facts: &FrameFacts) -> FrameInfo
+        ensures { result ≡ frame_info facts.now }
     {
         FrameInfo {
             key: flag(facts.key),
@@ -74,6 +76,7 @@ impl FrameInfo {
             refreshes_last: flag(facts.refreshes_last),
             refreshes_golden: flag(facts.refreshes_golden),
             refreshes_altref: flag(facts.refreshes_alt),
+            corrupt: flag(facts.corrupt),
         }
     }
 }
@@ -124,23 +127,23 @@ pub extern "C" fn vp8_peek(packet: &[u8], info: &mut PacketInfo) -> u32
     }
 }
 
-/// Writes facts about the frame in a packet that is to be decoded next.
+/// Writes facts about the frame of the packet that was decoded last. There are none before the first packet, after a
+/// packet with a fault, and after an empty one.
 ///
-/// Status: the faults of a packet, `CLOSED`.
+/// Status: `NO_PICTURE`, `CLOSED`.
 #[unsafe(no_mangle)]
 pub extern "C" fn vp8_decoder_frame(
     alloc: Global,
     decoder: &mut Handle,
-    packet: &[u8],
     info: &mut FrameInfo,
 ) -> u32
     ensures held { handle_value_in decoder.new ≡ handle_value_in decoder.old }
-    ensures frame { GivesOrFails Puts (frame_in packet.now decoder.old) result info.old info.new }
+    ensures frame { GivesOrFails Puts (frame_in decoder.old) result info.old info.new }
 {
     let Some(held) = decoder.take(alloc) else {
         return CLOSED;
     };
-    let status = match held.frame(packet) {
+    let status = match held.frame() {
         Ok(frame) => {
             *info = frame;
             OK

@@ -160,7 +160,7 @@ fn numbers_of_the_header(rt: HostRuntime) {
 fn nothing_to_give(rt: HostRuntime) {
     let held = HandleValue::Decoder(DecoderHandle {
         decoder: Decoder::new(rt.alloc(), Limits::usual()),
-        corrupt: false,
+        frame: None,
     });
     assert!(rt; matches!(held.shown(), Err(NO_PICTURE)));
     assert!(rt; matches!(held.kept(), Err(CLOSED)));

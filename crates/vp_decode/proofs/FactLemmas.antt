@@ -5,12 +5,11 @@ use Rattle.vp_base.specs.Image.{Image}
 use Rattle.vp_base.specs.declared.limits.Limits.{Limits}
 use Rattle.vp_head.specs.declared.fault.PacketFault.{PacketFault}
 use Rattle.vp_head.specs.declared.fields.Header.{Header}
-use Rattle.vp_head.specs.Tag.{tag_of}
 use Rattle.vp_refs.specs.References.{References}
 use Rattle.vp_decode.specs.declared.frame_facts.FrameFacts.{FrameFacts}
 use Rattle.vp_decode.specs.declared.decoder.Outcome.TheVariants as code
 use Rattle.vp_decode.specs.Frame.{picture_of}
-use Rattle.vp_decode.specs.FrameFacts.{facts_of, facts_in, AreFactsOfState}
+use Rattle.vp_decode.specs.FrameFacts.{facts_of, facts_in, frame_facts, AreFactsOfState}
 use Rattle.vp_decode.specs.Step.{DecoderState, ParsedPacket, parsed, frame_of_packet, references_after, state_after, answer, decoded, step, outcome}
 use Rattle.vp_decode.proofs.SizeLemmas.{KeepsShape, picture_shaped}
 
@@ -43,7 +42,7 @@ facts_hold law o =
       alt = λ e. alt_is o.context.references o.header p e ∙ sym newest;
     }
 
-state_by : KeepsShape → (r : Result ParsedPacket PacketFault) (f : FrameFacts) → facts_in r ≡ Ok f → IsSomeAnd (decoded r).0 (AreFactsOfState f)
+state_by : KeepsShape → (r : Result ParsedPacket PacketFault) (f : FrameFacts) → facts_in r ≡ Some f → IsSomeAnd (decoded r).0 (AreFactsOfState f)
 state_by law (Err g) f e = absurd cc
 state_by law (Ok o) f e = let same : facts_of o ≡ f = cc in subst (λ (x : FrameFacts). AreFactsOfState x (state_after o)) same (facts_hold law o)
 
@@ -51,23 +50,18 @@ answer_is : (show : Bool) (p : Image) → outcome (answer show p) ≡ (if show t
 answer_is true p = refl
 answer_is false p = refl
 
-outcome_by : (r : Result ParsedPacket PacketFault) (f : FrameFacts) → facts_in r ≡ Ok f → outcome (decoded r).1 ≡ (if f.shown then code.Shown else code.Hidden)
+outcome_by : (r : Result ParsedPacket PacketFault) (f : FrameFacts) → facts_in r ≡ Some f → outcome (decoded r).1 ≡ (if f.shown then code.Shown else code.Hidden)
 outcome_by (Err g) f e = absurd cc
 outcome_by (Ok o) f e = let same : facts_of o ≡ f = cc in answer_is o.tag.show (picture_of (frame_of_packet o)) ∙ ap (λ (x : FrameFacts). if x.shown then code.Shown else code.Hidden) same
 
--- an empty packet has no facts
-no_facts : (limits : Limits) (state : Option DecoderState) (f : FrameFacts) → facts_in (parsed limits state []) ≡ Ok f → ⊥
-unfolding parsed tag_of
-no_facts limits state f e = absurd cc
-
-pub facts_of_state : KeepsShape → (limits : Limits) (state : Option DecoderState) (packet : List ℕ) (f : FrameFacts) → facts_in (parsed limits state packet) ≡ Ok f
+pub facts_of_state : KeepsShape → (limits : Limits) (state : Option DecoderState) (packet : List ℕ) (f : FrameFacts) → frame_facts limits state packet ≡ Some f
     → IsSomeAnd (step limits state packet).0 (AreFactsOfState f)
-unfolding step
-facts_of_state law limits state [] f e = absurd (no_facts limits state f e)
+unfolding step frame_facts
+facts_of_state law limits state [] f e = absurd cc
 facts_of_state law limits state (b ∷ bs) f e = state_by law (parsed limits state (b ∷ bs)) f e
 
-pub facts_of_outcome : (limits : Limits) (state : Option DecoderState) (packet : List ℕ) (f : FrameFacts) → facts_in (parsed limits state packet) ≡ Ok f
+pub facts_of_outcome : (limits : Limits) (state : Option DecoderState) (packet : List ℕ) (f : FrameFacts) → frame_facts limits state packet ≡ Some f
     → outcome (step limits state packet).1 ≡ (if f.shown then code.Shown else code.Hidden)
-unfolding step
-facts_of_outcome limits state [] f e = absurd (no_facts limits state f e)
+unfolding step frame_facts
+facts_of_outcome limits state [] f e = absurd cc
 facts_of_outcome limits state (b ∷ bs) f e = outcome_by (parsed limits state (b ∷ bs)) f e

@@ -1,11 +1,12 @@
 //! Facts about the frame in a packet.
 
 ghost use Rattle.std.specs.Prelude.{◌≡◌};
+ghost use Rattle.vp_decode.specs.FrameFacts.{is_frame_corrupt};
 
-use vp_base::Dim;
-use vp_head::{Header, Tag};
+use crate::parsed_packet::ParsedPacket;
 
-/// Facts about the frame in a packet, which its tag and its header say (RFC 6386, chapters 9.1, 9.6 and 9.7).
+/// Facts about the frame in a packet, which its tag and its header say (RFC 6386, chapters 9.1, 9.6 and 9.7), and
+/// whether it is corrupt.
 #[derive(Clone, Copy, Debug, PartialEq, Eq)]
 pub struct FrameFacts {
     /// Whether it is a key frame.
@@ -30,15 +31,19 @@ pub struct FrameFacts {
     pub refreshes_golden: bool,
     /// Whether its picture becomes altref.
     pub refreshes_alt: bool,
+    /// Whether a partition was read past its end, where zeros are read: its end was lost, or was zeros that were left
+    /// out.
+    pub corrupt: bool,
 }
 
 impl FrameFacts {
-    ghost use Rattle.vp_decode.specs.FrameFacts.{facts_from};
+    ghost use Rattle.vp_decode.specs.FrameFacts.{facts_with};
 
-    /// Returns the facts of a frame with this tag, size and header.
-    pub(crate) fn of(tag: &Tag, dim: Dim, header: &Header) -> FrameFacts
-        ensures { result ≡ facts_from tag.now dim.w dim.h header.now }
+    /// Returns the facts of a packet's frame, whose partitions were read past their ends if `corrupt` is set.
+    pub(crate) fn of(packet: &ParsedPacket, corrupt: bool) -> FrameFacts
+        ensures { result ≡ facts_with packet.now corrupt }
     {
+        let (tag, header, dim) = (&packet.tag, packet.header, packet.context.dim);
         let (horizontal_scale, vertical_scale) = match tag.key {
             Some(key) => (key.horizontal_scale, key.vertical_scale),
             None => (0, 0),
@@ -55,6 +60,17 @@ impl FrameFacts {
             refreshes_last: header.key || header.updates.refresh_last,
             refreshes_golden: header.key || header.updates.refresh_golden,
             refreshes_alt: header.key || header.updates.refresh_alt,
+            corrupt,
         }
+    }
+}
+
+/// Returns whether a frame is corrupt. Without a frame it is not.
+pub(crate) fn is_corrupt(frame: &Option<FrameFacts>) -> bool
+    ensures { result ≡ is_frame_corrupt frame.now }
+{
+    match frame {
+        Some(facts) => facts.corrupt,
+        None => false,
     }
 }

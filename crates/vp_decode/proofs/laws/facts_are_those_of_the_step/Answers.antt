@@ -1,3 +1,4 @@
+use Rattle.vp_decode.proofs.CorruptLemmas.{is_frame_corrupt-frame_facts}
 use Rattle.vp_decode.proofs.FactLemmas.{facts_of_state, facts_of_outcome}
 use Rattle.vp_decode.proofs.laws.facts_are_those_of_the_step.Goals as goal
 
@@ -8,3 +9,6 @@ returns-clause-state c =
 
 pub returns-clause-outcome : goal.returns-clause-outcome
 returns-clause-outcome c = facts_of_outcome
+
+pub returns-clause-corrupt : goal.returns-clause-corrupt
+returns-clause-corrupt c = is_frame_corrupt-frame_facts

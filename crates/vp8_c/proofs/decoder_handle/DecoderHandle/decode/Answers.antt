@@ -8,6 +8,8 @@ use Rattle.vp_head.specs.declared.fault.PacketFault.TheVariants.{Truncated, Vers
 use Rattle.vp_decode.specs.Step.{IsDecoded, after, outcome, step}
 use Rattle.vp_decode.specs.Step.{Decoder as PacketDecoder}
 use Rattle.vp_decode.specs.Corrupt.{step_by}
+use Rattle.vp_decode.specs.FrameFacts.{is_frame_corrupt}
+use Rattle.vp_decode.proofs.CorruptLemmas.{is_frame_corrupt-frame_facts}
 use Rattle.vp8_c.specs.Decoding.{Steps}
 use Rattle.vp8_c.specs.Status.{outcome_number, fault_number}
 use Rattle.vp8_c.proofs.decoder_handle.DecoderHandle.decode.Goals as goal
@@ -67,16 +69,18 @@ refused on_fault.Keep packet old new same late some = record {
 pub returns-in-Ok : goal.returns-in-Ok
 returns-in-Ok c =
     let told = c.in-Ok.ensures in
-    let other : c.outcome_number.result ≡ 66 → ⊥ = λ e. not_memory c.in-Ok.checked.outcome (sym c.outcome_number.ensures ∙ e) in
+    let other : c.outcome_number.result ≡ 66 → ⊥ = λ e. not_memory c.in-Ok.decoded.outcome (sym c.outcome_number.ensures ∙ e) in
     record {
-      steps = decoded c.args.on_fault c.args.packet.now c.outcome_number.result c.args.self.now.decoder c.decode_checked.new.self other (c.outcome_number.ensures ∙ ap outcome_number told.outcome) told.after;
-      told = λ _. told.corrupt;
+      steps = decoded c.args.on_fault c.args.packet.now c.outcome_number.result c.args.self.now.decoder c.decode_with_facts.new.self other (c.outcome_number.ensures ∙ ap outcome_number told.outcome) told.after;
+      told = λ _. told.frame;
+      corrupt_is = λ _. ap is_frame_corrupt told.frame ∙ is_frame_corrupt-frame_facts c.args.self.now.decoder.limits c.args.self.now.decoder.state c.args.packet.now;
       refused = λ e. absurd (other e);
     }
 
 pub returns-in-Err : goal.returns-in-Err
 returns-in-Err c = record {
-  steps = refused c.args.on_fault c.args.packet.now c.args.self.now.decoder c.decode_checked.new.self c.in-Err.ensures.refused c.in-Err.ensures.late c.in-Err.ensures.dropped;
+  steps = refused c.args.on_fault c.args.packet.now c.args.self.now.decoder c.decode_with_facts.new.self c.in-Err.ensures.refused c.in-Err.ensures.late c.in-Err.ensures.dropped;
   told = λ n. absurd (n refl);
+  corrupt_is = λ n. absurd (n refl);
   refused = λ _. refl;
 }

@@ -1,12 +1,13 @@
-use Rattle.std.proofs.Common.{◌≡◌, ◌∙◌, ℕ, Bool, true, false, Option, length, sym, ap, subst, arith}
+use Rattle.std.proofs.Common.{◌≡◌, ◌∙◌, ℕ, true, false, Option, length, sym, ap, subst, arith}
 use Rattle.std.specs.Prelude.{◌==◌, OnOk, OnErr, IfOk}
 use Rattle.std.proofs.lemmas.Bool.{eq-eqb}
 use Rattle.std.proofs.lemmas.Bool.Decides.{nat_tests}
 use Rattle.vp_decode.specs.Step.{DecoderState, Answer, after, outcome, IsDecoded}
 use Rattle.vp_decode.specs.Keeping.{keeping}
-use Rattle.vp_decode.specs.declared.decoder.CheckedOutcome.{CheckedOutcome}
+use Rattle.vp_decode.specs.declared.decoder.DecodedPacket.{DecodedPacket}
+use Rattle.vp_decode.specs.declared.frame_facts.FrameFacts.{FrameFacts}
 use Rattle.vp_decode.proofs.SizeLemmas.{step-empty, step-decoded}
-use Rattle.vp_decode.proofs.CorruptLemmas.{corrupt-empty, corrupt-some}
+use Rattle.vp_decode.proofs.CorruptLemmas.{frame_facts-empty, frame_facts-some}
 use Rattle.vp_decode.proofs.decoder.Decoder.decode_or_repeat.Goals as goal
 
 pub returns-then-is_empty-clause-after : goal.returns-then-is_empty-clause-after
@@ -17,7 +18,7 @@ returns-then-is_empty-clause-after g c =
 pub returns-then-is_empty-clause-outcome : goal.returns-then-is_empty-clause-outcome
 returns-then-is_empty-clause-outcome g c =
     let none : length c.args.packet.now ≡ 0 = grind (arith, nat_tests, c.is_empty.ensures, c.if-is_empty.true) in
-    ap (λ (o : CheckedOutcome). o.outcome) c.sound.ensures ∙ c.repeat.ensures.outcome ∙ ap (λ s. outcome s.1) (sym (step-empty c.args.self.now.limits c.args.self.now.state c.args.packet.now none))
+    ap (λ (o : DecodedPacket). o.outcome) c.without_frame.ensures ∙ c.repeat.ensures.outcome ∙ ap (λ s. outcome s.1) (sym (step-empty c.args.self.now.limits c.args.self.now.state c.args.packet.now none))
 
 some_bytes : (n : ℕ) → false ≡ (n == 0) → ¬ (n ≡ 0)
 some_bytes n other none = absurd (let never : false ≡ true = other ∙ eq-eqb n 0 none in cc)
@@ -37,12 +38,12 @@ returns-clause-late g c =
     subst (λ (s : Option DecoderState × Answer). OnErr c.decode_packet.result (IsDecoded s.1))
     (sym (step-decoded c.args.self.now.limits c.args.self.now.state c.args.packet.now (some_bytes (length c.args.packet.now) c.if-is_empty.ensures))) c.decode_packet.ensures.late
 
-pub returns-then-is_empty-clause-corrupt : goal.returns-then-is_empty-clause-corrupt
-returns-then-is_empty-clause-corrupt g c = λ _.
+pub returns-then-is_empty-clause-frame : goal.returns-then-is_empty-clause-frame
+returns-then-is_empty-clause-frame g c = λ _.
     let none : length c.args.packet.now ≡ 0 = grind (arith, nat_tests, c.is_empty.ensures, c.if-is_empty.true) in
-    ap (λ (o : CheckedOutcome). o.corrupt) c.sound.ensures ∙ sym (corrupt-empty c.args.self.now.limits c.args.self.now.state c.args.packet.now none)
+    ap (λ (o : DecodedPacket). o.frame) c.without_frame.ensures ∙ sym (frame_facts-empty c.args.self.now.limits c.args.self.now.state c.args.packet.now none)
 
-pub returns-clause-corrupt : goal.returns-clause-corrupt
-returns-clause-corrupt g c = λ given.
-    subst (λ (b : Bool). IfOk c.decode_packet.result (λ o. o.corrupt ≡ b))
-    (sym (corrupt-some c.args.self.now.limits c.args.self.now.state c.args.packet.now (some_bytes (length c.args.packet.now) c.if-is_empty.ensures))) (c.decode_packet.ensures.corrupt given)
+pub returns-clause-frame : goal.returns-clause-frame
+returns-clause-frame g c = λ given.
+    subst (λ (f : Option FrameFacts). IfOk c.decode_packet.result (λ o. o.frame ≡ f))
+    (sym (frame_facts-some c.args.self.now.limits c.args.self.now.state c.args.packet.now (some_bytes (length c.args.packet.now) c.if-is_empty.ensures))) (c.decode_packet.ensures.frame given)

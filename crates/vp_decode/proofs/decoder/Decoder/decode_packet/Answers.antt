@@ -1,8 +1,8 @@
-use Rattle.std.proofs.Common.{◌∙◌, Some, sym, ap, subst}
+use Rattle.std.proofs.Common.{◌∙◌, Bool, Some, sym, ap, subst}
 use Rattle.vp_decode.specs.Equation.{IsOneSize}
 use Rattle.vp_decode.specs.Step.{ParsedPacket, Decoder, parsed, decoded, shown_of, after}
 use Rattle.vp_decode.specs.Keeping.{keeping}
-use Rattle.vp_decode.specs.Corrupt.{corrupt_in}
+use Rattle.vp_decode.specs.FrameFacts.{facts_in, facts_with}
 use Rattle.vp_decode.proofs.StateLemmas.{kept_left, after_left}
 use Rattle.vp_decode.proofs.decoder.Decoder.decode_packet.Goals as goal
 
@@ -25,9 +25,9 @@ returns-clause-after g c =
     after_left d c.args.packet.now c.in-Ok-with_header.parsed c.parsed.inside.tag.show c.keep.new.state is (ap (λ (o : ParsedPacket). o.tag.show) c.parsed.view_is) (c.in_ok-keep.ensures.ok ∙ ap Some kept)
     ∙ ap (λ (z : Decoder). after z (keeping z.state (decoded (parsed z.limits z.state c.args.packet.now)))) c.self.view_is
 
-pub returns-clause-corrupt : goal.returns-clause-corrupt
-returns-clause-corrupt g c = λ given.
+pub returns-clause-frame : goal.returns-clause-frame
+returns-clause-frame g c = λ given.
     let is = c.in-Ok-with_header.ensures ∙ c.read_header.ensures.read ∙ c.in-Ok.ensures in
-    c.in_ok-frame.ensures.corrupt given
-    ∙ ap corrupt_in is
-    ∙ ap (λ (z : Decoder). corrupt_in (parsed z.limits z.state c.args.packet.now)) c.self.view_is
+    ap Some (c.of-facts.ensures ∙ ap (λ (b : Bool). facts_with c.in-Ok-with_header.parsed b) (c.in_ok-frame.ensures.corrupt given))
+    ∙ ap facts_in is
+    ∙ ap (λ (z : Decoder). facts_in (parsed z.limits z.state c.args.packet.now)) c.self.view_is
