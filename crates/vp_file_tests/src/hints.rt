@@ -4,7 +4,10 @@ use crate::check::equal;
 use std::io::{Read, Write};
 use std::{fs, io};
 use vp_base::FailAt;
-use vp_hints::{FileKind, Overwrite, PacketCount, Witness, head_fault, kind_of, open_to_overwrite};
+use vp_hints::{
+    FileKind, Meter, Metered, Overwrite, PacketCount, Tally, Unit, Witness, head_fault, kind_of,
+    open_to_overwrite,
+};
 use vp_ivf::FileFault;
 
 // The head of a file, and two packets of three bytes and of none.
@@ -87,6 +90,25 @@ fn a_witness_remembers(rt: HostRuntime) {
     equal(&rt, &seen.bytes(), &40);
     equal(&rt, &(seen.head() == &TWO[..40]), &true);
     equal(&rt, &seen.kind(), &FileKind::Ivf);
+}
+
+#[test]
+fn a_metered_reader_reads_on(rt: HostRuntime) {
+    let meter = Meter::new(&rt);
+    meter.count(Unit::Packets);
+    let mut reader = Metered::new(&TWO[..], &meter);
+    let mut buffer = [0; 58];
+    equal(&rt, &reader.read(&mut buffer).unwrap_or(0), &58);
+    equal(&rt, &reader.into_witness().seen().packets().whole, &1);
+}
+
+#[test]
+fn a_tally_remembers(rt: HostRuntime) {
+    let mut tally = Tally::new(Vec::new(rt.alloc()));
+    equal(&rt, &tally.write(&TWO).unwrap_or(0), &TWO.len());
+    let seen = tally.into_seen();
+    equal(&rt, &seen.packets().whole, &2);
+    equal(&rt, &(seen.head() == &TWO[..]), &true);
 }
 
 // Whether a file holds these bytes.

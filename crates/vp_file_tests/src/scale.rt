@@ -2,7 +2,7 @@
 //! the means of its squares, and `floor(mean + 0.5)`.
 
 use crate::check::equal;
-use std::alloc::Global;
+use std::alloc::{AllocError, Global};
 use std::test::Fail;
 use vp_base::{Dim, Limits};
 use vp_scale::{Scale, scaled};
@@ -52,6 +52,73 @@ fn planes_are_scaled_alike(rt: HostRuntime) -> Result<(), Fail> {
 fn edges_are_repeated(rt: HostRuntime) -> Result<(), Fail> {
     assert!(rt; gives(rt.alloc(), Scale::Eighth, 2, 1, &EIGHTH)?);
     assert!(rt; gives(rt.alloc(), Scale::Full, 11, 5, &PIXELS)?);
+    Ok(())
+}
+
+/// Appends a plane whose pixels are `step` more from column to column and from row to row.
+fn append_slope(
+    out: &mut Vec<u8>,
+    width: u8,
+    height: u8,
+    step: u8,
+    first: u8,
+) -> Result<(), AllocError> {
+    for y in 0..height {
+        for x in 0..width {
+            let sum = x.wrapping_add(y).wrapping_mul(step);
+            out.push(sum.wrapping_add(first))?;
+        }
+    }
+    Ok(())
+}
+
+/// Three planes that rise alike, of a picture of 144 by 16 pixels, made smaller by `step`: the mean of a square is half
+/// way between its first pixel and its last one.
+fn slopes(alloc: Global, step: u8) -> Result<Vec<u8>, Fail> {
+    let mut out = Vec::new(alloc);
+    let half = 72 / step.max(1);
+    append_slope(
+        &mut out,
+        144 / step.max(1),
+        16 / step.max(1),
+        step,
+        step.wrapping_sub(1),
+    )?;
+    for _ in 0..2 {
+        append_slope(&mut out, half, 8 / step.max(1), step, step.wrapping_sub(1))?;
+    }
+    Ok(out)
+}
+
+/// Returns the slopes of a picture of 144 by 16 pixels, made smaller.
+fn scaled_slopes(alloc: Global, scale: Scale) -> Result<Vec<u8>, Fail> {
+    let dim = Dim::new(144, 16, &Limits::usual())?;
+    let pixels = slopes(alloc, 1)?;
+    let picture = match pixels.len() {
+        3456 => scaled(alloc, dim, &pixels, scale)?,
+        _ => return Err("size".into()),
+    };
+    Ok(picture.crop_i420(alloc)?)
+}
+
+// Each row of these planes has whole groups of eight squares, and some more.
+#[test]
+fn squares_of_wide_planes(rt: HostRuntime) -> Result<(), Fail> {
+    equal(
+        &rt,
+        &scaled_slopes(rt.alloc(), Scale::Half)?,
+        &slopes(rt.alloc(), 2)?,
+    );
+    equal(
+        &rt,
+        &scaled_slopes(rt.alloc(), Scale::Quarter)?,
+        &slopes(rt.alloc(), 4)?,
+    );
+    equal(
+        &rt,
+        &scaled_slopes(rt.alloc(), Scale::Eighth)?,
+        &slopes(rt.alloc(), 8)?,
+    );
     Ok(())
 }
 

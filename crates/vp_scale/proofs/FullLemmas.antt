@@ -16,7 +16,7 @@ one_square f = refl
 mean_of_one : (n : ℕ) → rounded_mean (n ∷ []) ≡ n
 mean_of_one n = omega arith
 
-mean_at_one : (p : Raster) (x y : ℕ) → x < p.width → y < p.height → mean_at 1 p x y ≡ pixel p x y
+pub mean_at_one : (p : Raster) (x y : ℕ) → x < p.width → y < p.height → mean_at 1 p x y ≡ pixel p x y
 unfolding mean_at
 mean_at_one p x y xin yin =
     ap rounded_mean (one_square (λ c r. nearest p (x * 1 + c) (y * 1 + r)))

@@ -2,3 +2,4 @@ mod RunLemmas
 mod SideLemmas
 mod PictureLemmas
 mod FullLemmas
+mod LaneLemmas

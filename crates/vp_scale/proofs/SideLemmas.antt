@@ -7,7 +7,7 @@ use Rattle.vp_scale.specs.Planes.{half}
 use Rattle.vp_scale.specs.Means.{nearest, square, mean_at}
 
 -- for each of the four factors
-by_factor : (P : ℕ → Type 0) (k : ℕ) → IsFactor k → P 1 → P 2 → P 4 → P 8 → P k
+pub by_factor : (P : ℕ → Type 0) (k : ℕ) → IsFactor k → P 1 → P 2 → P 4 → P 8 → P k
 by_factor P k is one two four eight =
     elim is [
       | inl e ↦ subst P (sym e) one

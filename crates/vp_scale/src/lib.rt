@@ -1,6 +1,7 @@
 //! Pictures made smaller: each pixel is the mean of a square of pixels.
 #![tactic(auto)]
 
+mod lanes;
 mod laws;
 mod plane;
 mod scale;

@@ -54,11 +54,16 @@ abbrev pub IsFaultOfWebP : Limits → Result StillImage WebPFault → FindFault 
 IsFaultOfWebP limits (Err fault) e = e ≡ fault_is.WebP fault
 IsFaultOfWebP limits (Ok image) e = IsFaultOfStep (step_is.step limits None image.packet).1 e
 
+-- the fault for another number than 0: that of the file, or else that it has no such packet
+abbrev pub IsFaultOfOther : Result StillImage WebPFault → FindFault → Type 0
+IsFaultOfOther (Err fault) e = e ≡ fault_is.WebP fault
+IsFaultOfOther (Ok image) e = e ≡ fault_is.NoPacket 1
+
 -- the fault for this number: a WebP file has packet 0 alone
 abbrev pub IsFaultOfRiff : Limits → List ℕ → Option ℕ → FindFault → Type 0
 IsFaultOfRiff limits file None e = IsFaultOfWebP limits (still_image file) e
 IsFaultOfRiff limits file (Some zero) e = IsFaultOfWebP limits (still_image file) e
-IsFaultOfRiff limits file (Some (suc n)) e = e ≡ fault_is.NoPacket 1
+IsFaultOfRiff limits file (Some (suc n)) e = IsFaultOfOther (still_image file) e
 
 -- ---- of either
 

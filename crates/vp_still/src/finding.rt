@@ -3,7 +3,8 @@
 ghost use Rattle.std.specs.Prelude.{◌≡◌, ◌⊎◌, IfOk, IfErr};
 ghost use Rattle.vp_still.specs.declared.fault.FindFault.{FindFault};
 ghost use Rattle.vp_still.specs.Found.{IsFoundIn};
-ghost use Rattle.vp_still.specs.Faults.{IsFaultIn};
+ghost use Rattle.vp_still.specs.Faults.{IsFaultIn, IsFaultOfOther};
+ghost use Rattle.vp_webp.specs.WebP.{still_image};
 
 use crate::fault::FindFault;
 use crate::found::Found;
@@ -11,11 +12,13 @@ use crate::ivf::find_in_ivf;
 use crate::webp::find_in_webp;
 use std::alloc::Global;
 use vp_base::Limits;
+use vp_webp::read;
 
 /// Finds a picture of a WebP file, which begins with `RIFF`, or else of an IVF file: that of the packet with this
 /// number, counted from 0, or the first that is shown. A WebP file has one packet.
 ///
-/// Errors: those of `find_in_webp` and `find_in_ivf`. For any other number than 0 of a WebP file, `NoPacket`.
+/// Errors: those of `find_in_webp` and `find_in_ivf`. For any other number than 0 of a WebP file, its fault, or else
+/// `NoPacket`.
 pub fn find(
     alloc: Global,
     file: &[u8],
@@ -30,6 +33,16 @@ pub fn find(
     }
     match wanted {
         None | Some(0) => find_in_webp(alloc, file, limits),
-        Some(_) => Err(FindFault::NoPacket(1)),
+        Some(_) => Err(other_packet(file)),
+    }
+}
+
+// The fault of a WebP file for another number than 0.
+fn other_packet(file: &[u8]) -> FindFault
+    ensures { IsFaultOfOther (still_image file.now) result }
+{
+    match read(file) {
+        Ok(_) => FindFault::NoPacket(1),
+        Err(fault) => FindFault::WebP(fault),
     }
 }

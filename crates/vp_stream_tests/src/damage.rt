@@ -7,7 +7,7 @@ use crate::files::{HIDDEN, INTER, KEY, append_runs};
 use std::alloc::{AllocError, Global};
 use std::test::Fail;
 use vp_base::Limits;
-use vp_decode::{Decoder, FrameFacts, OnFault, Outcome};
+use vp_decode::{DecodedPacket, Decoder, FrameFacts, OnFault, Outcome};
 use vp_head::PacketFault;
 
 // Decodes a packet by a decoder that goes on after damage. Appends its picture if it shows one.
@@ -173,7 +173,8 @@ fn pictures_after_damage_are_those_without_it(rt: HostRuntime) -> Result<(), Fai
 // A key packet of 16 by 17 pixels, version 3, with upscaling codes 3 and 1.
 const SCALED: [u8; 10] = [0x16, 0, 0, 0x9d, 0x01, 0x2a, 0x10, 0xc0, 0x11, 0x40];
 
-// The facts of an inter frame of this size, whose bools are all 0.
+// The facts of an inter frame of this size, whose bools are all 0: its partitions are empty. libvpx flags this frame and
+// the others below.
 const ZEROS: FrameFacts = FrameFacts {
     key: false,
     version: 0,
@@ -186,16 +187,25 @@ const ZEROS: FrameFacts = FrameFacts {
     refreshes_last: false,
     refreshes_golden: false,
     refreshes_alt: false,
+    corrupt: true,
 };
 
-/// The facts of a key frame need no state; those of an inter frame do. A fault is in place of facts.
+// Returns the result for a packet with this outcome and these facts.
+fn decoded(outcome: Outcome, frame: Option<FrameFacts>) -> DecodedPacket {
+    DecodedPacket { outcome, frame }
+}
+
+// Returns the result for a packet with this fault.
+fn refused(fault: PacketFault) -> DecodedPacket {
+    decoded(Outcome::Fault(fault), None)
+}
+
+/// The facts of a key frame and of an inter frame. Packets with a fault and empty packets have none.
 #[test]
 fn facts_of_frames(rt: HostRuntime) -> Result<(), Fail> {
     let mut decoder = Decoder::new(rt.alloc(), Limits::usual());
-    let no_reference = Err(PacketFault::NoReference);
-    equal(&rt, &decoder.frame_facts(&INTER), &no_reference);
-    let truncated = Err(PacketFault::Truncated);
-    equal(&rt, &decoder.frame_facts(&[]), &truncated);
+    let early = decoder.decode_with_facts(&INTER, OnFault::Keep)?;
+    equal(&rt, &early, &refused(PacketFault::NoReference));
     let key = FrameFacts {
         key: true,
         version: 3,
@@ -206,9 +216,12 @@ fn facts_of_frames(rt: HostRuntime) -> Result<(), Fail> {
         refreshes_alt: true,
         ..ZEROS
     };
-    equal(&rt, &decoder.frame_facts(&SCALED), &Ok(key));
-    equal(&rt, &decoder.decode(&SCALED)?, &Outcome::Shown);
-    equal(&rt, &decoder.frame_facts(&INTER), &Ok(ZEROS));
+    let first = decoder.decode_with_facts(&SCALED, OnFault::Forget)?;
+    equal(&rt, &first, &decoded(Outcome::Shown, Some(key)));
+    let second = decoder.decode_with_facts(&INTER, OnFault::Keep)?;
+    equal(&rt, &second, &decoded(Outcome::Shown, Some(ZEROS)));
+    let dropped = decoder.decode_with_facts(&[], OnFault::Keep)?;
+    equal(&rt, &dropped, &decoded(Outcome::Shown, None));
     Ok(())
 }
 
@@ -227,9 +240,10 @@ fn facts_of_an_inter_frame(rt: HostRuntime) -> Result<(), Fail> {
         refreshes_alt: true,
         ..ZEROS
     };
-    equal(&rt, &decoder.frame_facts(&packet), &Ok(ones));
-    let cut = Err(PacketFault::PartitionTable);
-    equal(&rt, &decoder.frame_facts(&packet[..24]), &cut);
+    let cut = decoder.decode_with_facts(&packet[..24], OnFault::Keep)?;
+    equal(&rt, &cut, &refused(PacketFault::PartitionTable));
+    let whole = decoder.decode_with_facts(&packet, OnFault::Keep)?;
+    equal(&rt, &whole, &decoded(Outcome::Hidden, Some(ones)));
     Ok(())
 }
 

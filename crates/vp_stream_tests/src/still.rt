@@ -104,6 +104,12 @@ fn packets_of_a_webp_file(rt: HostRuntime) -> Result<(), Fail> {
         &fault_of(rt.alloc(), &KEY_FILE, Some(1)),
         &Some(FindFault::NoPacket(1)),
     );
+    let torn = &KEY_FILE[..KEY_FILE.len() - 2];
+    equal(
+        &rt,
+        &fault_of(rt.alloc(), torn, Some(1)),
+        &Some(FindFault::WebP(WebPFault::Torn)),
+    );
     Ok(())
 }
 
