@@ -7,6 +7,7 @@ use Rattle.std.proofs.lemmas.List.{append-nil, length-append}
 use Rattle.vp_base.specs.declared.limits.Limits.{Limits}
 use Rattle.vp_base.specs.Counted.{HasRisenBy, one_more}
 use Rattle.vp_base.proofs.CallLemmas.{risen_by_one_more}
+use Rattle.vp_ivf.specs.declared.packet.IvfHead.{IvfHead}
 use Rattle.vp_ivf.specs.declared.packet.Packet.{Packet}
 use Rattle.vp_ivf.specs.declared.fault.FileFault.{FileFault}
 use Rattle.vp_ivf.specs.declared.fault.FileFault.TheVariants.{Torn}
@@ -15,7 +16,7 @@ use Rattle.vp_ivf.specs.Reader.{ReaderState, finish_answer, initial_reader, refu
 use Rattle.vp_ivf.proofs.Append.{read-append}
 use Rattle.vp_ivf.proofs.Cuts.{with_prefix-front}
 use Rattle.vp_ivf.proofs.Stands.{settled_first}
-use Rattle.vp_decode.specs.declared.decoder.CheckedOutcome.{CheckedOutcome}
+use Rattle.vp_check.specs.declared.checked.CheckedPacket.{CheckedPacket}
 use Rattle.vp_decode.specs.Step.{DecoderState, step, outcome}
 use Rattle.vp_stream.specs.declared.fault.SurveyFault.{SurveyFault}
 use Rattle.vp_stream.specs.declared.fault.SurveyFault.TheVariants.{Device, ReadTurns, Memory}
@@ -38,7 +39,7 @@ checks_after c (p ∷ ps) =
     ∙ append_assoc c.checks (check_of c.limits c.state p.bytes ∷ []) (checks_from c.limits (step c.limits c.state p.bytes).0 ps)
 
 pub outcomes_from : (limits : Limits) (state : Option DecoderState) (ps : List Packet)
-    → map (λ (c : CheckedOutcome). c.outcome) (checks_from limits state ps) ≡ map outcome (answers_from limits state ps)
+    → map (λ (c : CheckedPacket). c.outcome) (checks_from limits state ps) ≡ map outcome (answers_from limits state ps)
 outcomes_from limits state [] = refl
 outcomes_from limits state (p ∷ ps) = ap (λ os. outcome (step limits state p.bytes).1 ∷ os) (outcomes_from limits (step limits state p.bytes).0 ps)
 
@@ -139,14 +140,16 @@ torn_met r None e some is = absurd cc
 torn_met r (Some g) e some is = let now : Some g ≡ Some Torn = rw e at is in e ∙ now
 
 -- all packets are checked; the reader is at its end, or the file has a fault
-whole : (limits : Limits) (given : List Packet) (mid new : ReaderState) (c next : PacketChecker) (file : List ℕ) (left : Option (List ℕ)) (fault : Option FileFault)
+whole : (limits : Limits) (given : List Packet) (mid new : ReaderState) (c next : PacketChecker) (file : List ℕ) (left : Option (List ℕ)) (head : Option IvfHead) (fault : Option FileFault)
     → reading_of limits file ≡ with_prefix given mid.reading → c ≡ after_packets (before_packets limits) given → next ≡ after_packets c mid.reading.packets
-    → Empties mid new → fault ≡ result_err (finish_answer new.reading) → IsAtEnd left ⊎ IsSome mid.reading.fault → IsWholeChecked limits fault next file left
-whole limits given mid new c next file left fault reading run step taken is at =
+    → Empties mid new → head ≡ new.reading.head → fault ≡ result_err (finish_answer new.reading) → IsAtEnd left ⊎ IsSome mid.reading.fault
+    → IsWholeChecked limits head fault next file left
+whole limits given mid new c next file left head fault reading run step taken heads is at =
     let told : fault ≡ result_err (finish_answer mid.reading) = is ∙ ap (λ (f : ReaderState). result_err (finish_answer f.reading)) taken in
     let run_all = run_on limits given mid.reading.packets c next run step in
     let met : IsSome mid.reading.fault → fault ≡ Some Torn → mid.reading.fault ≡ Some Torn = λ some e. torn_met mid.reading mid.reading.fault refl some (sym told ∙ e) in
     record {
+      head_is = heads ∙ (ap (λ (f : ReaderState). f.reading.head) taken ∙ sym (ap (λ (r : Contents). r.head) reading));
       checks = ap (λ (x : PacketChecker). x.checks) run_all
           ∙ (checks_after (before_packets limits) (given ++ mid.reading.packets)
           ∙ ap (λ (r : Contents). checks_from limits None r.packets) (sym reading));
@@ -161,17 +164,17 @@ whole limits given mid new c next file left fault reading run step taken is at =
       ];
     }
 
-pub ends : (limits : Limits) (old mid new : ReaderState) (c next : PacketChecker) (turn : ℕ) (fed piece : List ℕ) (left : Option (List ℕ)) (b : Bool) (fault : Option FileFault)
+pub ends : (limits : Limits) (old mid new : ReaderState) (c next : PacketChecker) (turn : ℕ) (fed piece : List ℕ) (left : Option (List ℕ)) (b : Bool) (head : Option IvfHead) (fault : Option FileFault)
     → b ≡ false → IsChecking limits old c turn fed → ReadsPiece (Ok b) old mid piece left → next ≡ after_packets c mid.reading.packets → Empties mid new
-    → fault ≡ result_err (finish_answer new.reading) → IsWholeChecked limits fault next (fed ++ piece) left
-ends limits old mid new c next turn fed piece left true fault is h f step taken told = differ is
-ends limits old mid new c next turn fed piece left false fault is h (inl (none, kept, end)) step taken told =
+    → head ≡ new.reading.head → fault ≡ result_err (finish_answer new.reading) → IsWholeChecked limits head fault next (fed ++ piece) left
+ends limits old mid new c next turn fed piece left true head fault is h f step taken heads told = differ is
+ends limits old mid new c next turn fed piece left false head fault is h (inl (none, kept, end)) step taken heads told =
     let reading : reading_of limits (fed ++ piece) ≡ with_prefix h.given mid.reading =
     ap (reading_of limits) (ap (λ xs. fed ++ xs) none ∙ append-nil fed)
     ∙ (h.reading ∙ ap (λ (f : ReaderState). with_prefix h.given f.reading) (sym kept)) in
-    whole limits h.given mid new c next (fed ++ piece) left fault reading h.run step taken told (inl end)
-ends limits old mid new c next turn fed piece left false fault is h (inr (fed_is, met)) step taken told =
-    whole limits h.given mid new c next (fed ++ piece) left fault (resumed limits old mid c turn fed piece h fed_is) h.run step taken told (inr met)
+    whole limits h.given mid new c next (fed ++ piece) left head fault reading h.run step taken heads told (inl end)
+ends limits old mid new c next turn fed piece left false head fault is h (inr (fed_is, met)) step taken heads told =
+    whole limits h.given mid new c next (fed ++ piece) left head fault (resumed limits old mid c turn fed piece h fed_is) h.run step taken heads told (inr met)
 
 pub stops : (limits : Limits) (f : SurveyFault) (old mid : ReaderState) (c : PacketChecker) (file piece : List ℕ) (left : Option (List ℕ)) → ReadsPiece (Err f) old mid piece left
     → EndsChecking limits (Err f) c file left

@@ -5,20 +5,32 @@ ghost use Rattle.vp_check.specs.Checks.{is_corrupt_check, is_fault_check, is_hid
 
 use std::alloc::{AllocError, Global};
 use std::marker::Model;
-use vp_decode::{CheckedOutcome, Outcome};
-use vp_ivf::FileFault;
+use vp_decode::Outcome;
+use vp_ivf::{FileFault, IvfHead};
 
-/// The packets of a file in order: the outcome of decoding each, and whether it is corrupt. Its model is a list.
+/// What is found of a packet.
+#[derive(Clone, Copy, Debug, PartialEq, Eq)]
+pub struct CheckedPacket {
+    /// Its length in bytes.
+    pub bytes: usize,
+    /// The outcome of decoding it.
+    pub outcome: Outcome,
+    /// Whether it is decoded, but read past the end of a partition.
+    pub corrupt: bool,
+}
+
+/// The packets of a file in order: the length of each, the outcome of decoding it, and whether it is corrupt. Its model
+/// is a list.
 #[derive(Debug, Drop)]
 pub struct CheckList {
-    packets: Vec<CheckedOutcome>,
+    packets: Vec<CheckedPacket>,
 }
 
 impl Model for CheckList {
     ghost use Rattle.std.specs.Prelude.{List};
-    ghost use Rattle.vp_decode.specs.declared.decoder.CheckedOutcome.{CheckedOutcome};
+    ghost use Rattle.vp_check.specs.declared.checked.CheckedPacket.{CheckedPacket};
 
-    ghost Value = { List CheckedOutcome };
+    ghost Value = { List CheckedPacket };
 
     ghost view = { λ a. a.packets.items };
 }
@@ -34,7 +46,7 @@ impl CheckList {
     }
 
     /// Appends a packet. If memory runs out, the list is unchanged.
-    pub(crate) fn push(&mut self, packet: CheckedOutcome) -> Result<(), AllocError>
+    pub(crate) fn push(&mut self, packet: CheckedPacket) -> Result<(), AllocError>
         ensures ok { OnOk result (self.new ≡ self.old ++ packet ∷ []) }
         ensures err { OnErr result (self.new ≡ self.old) }
     {
@@ -43,7 +55,7 @@ impl CheckList {
     }
 
     /// Returns the packets, in order.
-    pub fn as_slice(&self) -> &[CheckedOutcome]
+    pub fn as_slice(&self) -> &[CheckedPacket]
         ensures { result.now ≡ self.now }
     {
         self.packets.as_slice()
@@ -94,10 +106,12 @@ impl CheckList {
     }
 }
 
-/// What is found in a file: its packets, and its fault.
+/// What is found in a file: its head, its packets, and its fault.
 #[derive(Debug, Drop)]
 pub struct Checked {
-    /// The packets in order, with the outcome and the damage of each.
+    /// The file's head, if it is whole and valid.
+    pub head: Option<IvfHead>,
+    /// The packets in order, with the length, the outcome and the damage of each.
     pub packets: CheckList,
     /// The fault that follows these packets, if there is one.
     pub fault: Option<FileFault>,

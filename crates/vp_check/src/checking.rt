@@ -15,12 +15,12 @@ use crate::packet_checker::PacketChecker;
 use std::alloc::Global;
 use std::io::Read;
 use vp_base::{Counted, Limits};
-use vp_ivf::{FeedError, FileFault, Reader};
+use vp_ivf::{FeedError, FileFault, IvfHead, Reader};
 use vp_stream::SurveyFault;
 
 /// Reads an IVF file to its end or its fault, and decodes each packet as `decode_all` does. Lists what is found: the
-/// outcome of each packet, and whether it reads a partition past its end. The decoder's memory is kept, and a few bytes
-/// for each packet.
+/// length and the outcome of each packet, and whether it reads a partition past its end. The decoder's memory is kept,
+/// and a few bytes for each packet.
 ///
 /// Errors: `SurveyFault`. A fault of the file is part of what is found.
 pub fn check<R: Read>(
@@ -50,16 +50,16 @@ pub fn check<R: Read>(
 {
     let mut file = Reader::new(alloc, limits);
     let mut packets = PacketChecker::new(alloc, limits);
-    let fault = check_pieces(&mut file, &mut packets, reader)?;
-    Ok(packets.into_checked(fault))
+    let (head, fault) = check_pieces(&mut file, &mut packets, reader)?;
+    Ok(packets.into_checked(head, fault))
 }
 
-// Reads a file that hasn't been read yet, and decodes its packets. Returns the file's fault.
+// Reads a file that hasn't been read yet, and decodes its packets. Returns the file's head and its fault.
 fn check_pieces<R: Read>(
     file: &mut Reader,
     packets: &mut PacketChecker,
     reader: &mut Counted<R>,
-) -> Result<Option<FileFault>, SurveyFault>
+) -> Result<(Option<IvfHead>, Option<FileFault>), SurveyFault>
     requires unread { file.old ≡ initial_reader packets.old.limits.packet_bytes packets.old.limits.packets }
     requires fresh { packets.old ≡ before_packets packets.old.limits }
     ensures checked { (bytes : List ℕ)
@@ -79,7 +79,7 @@ fn check_pieces<R: Read>(
         let goes_on = read_piece(file, reader, &mut buffer)?;
         packets.take_packets(file)?;
         if !goes_on {
-            return Ok(file.finish().err());
+            return Ok((file.head(), file.finish().err()));
         }
     }
     Err(SurveyFault::ReadTurns)

@@ -6,6 +6,6 @@ mod checking;
 mod laws;
 mod packet_checker;
 
-pub use checked::{CheckList, Checked};
+pub use checked::{CheckList, Checked, CheckedPacket};
 pub use checking::check;
 pub use laws::outcomes_are_those_of_decoding;

@@ -3,12 +3,12 @@
 ghost use Rattle.std.specs.Prelude.{◌≡◌, [], None, OnOk};
 ghost use Rattle.vp_check.specs.Checking.{after_packet, after_packets, before_packets};
 
-use crate::checked::{CheckList, Checked};
+use crate::checked::{CheckList, Checked, CheckedPacket};
 use std::alloc::{AllocError, Global};
 use std::marker::Model;
 use vp_base::Limits;
 use vp_decode::{Decoder, OnFault};
-use vp_ivf::{FileFault, Reader};
+use vp_ivf::{FileFault, IvfHead, Reader};
 
 /// A decoder, and what is found in the packets so far.
 #[derive(Drop)]
@@ -41,7 +41,11 @@ impl PacketChecker {
         ensures { OnOk result (self.new ≡ after_packet self.old packet.now) }
     {
         let checked = self.decoder.decode_checked(packet, OnFault::Forget)?;
-        self.packets.push(checked)
+        self.packets.push(CheckedPacket {
+            bytes: packet.len(),
+            outcome: checked.outcome,
+            corrupt: checked.corrupt,
+        })
     }
 
     /// Takes all packets that a reader has found, and decodes them.
@@ -56,14 +60,18 @@ impl PacketChecker {
         Ok(())
     }
 
-    /// Returns what is found in a file of these packets, with this fault.
-    pub(crate) fn into_checked(self, fault: Option<FileFault>) -> Checked
-        ensures { result ≡ record { packets = self.checks; fault = fault } }
+    /// Returns what is found in a file of these packets, with this head and this fault.
+    pub(crate) fn into_checked(self, head: Option<IvfHead>, fault: Option<FileFault>) -> Checked
+        ensures { result ≡ record { head = head; packets = self.checks; fault = fault } }
     {
         let PacketChecker {
             decoder: _,
             packets,
         } = self;
-        Checked { packets, fault }
+        Checked {
+            head,
+            packets,
+            fault,
+        }
     }
 }

@@ -1,23 +1,32 @@
 -- The count of packets, as the bytes pass.
-use Rattle.std.proofs.Common.{◌≡◌, ◌∙◌, ℕ, ◌+◌, ◌-◌, ◌≤◌, ◌++◌, ◌∷◌, [], List, length, take, drop, sym, ap, subst, refl, zero, suc, arith, le_of_suc-le-suc, not-suc-le-zero, false}
-use Rattle.std.specs.Prelude.{nat_lt, slice_index, ◌<◌}
-use Rattle.std.proofs.lemmas.Bool.{le-ltb}
+use Rattle.std.proofs.Common.{◌≡◌, ◌∙◌, ℕ, ◌+◌, ◌-◌, ◌≤◌, ◌++◌, ◌∷◌, [], List, length, take, drop, sym, ap, subst, refl, zero, suc, arith, le_of_suc-le-suc, not-suc-le-zero, true, false, ◌*◌, ◌/◌, ◌^◌, min}
+use Rattle.std.specs.Prelude.{nat_lt, slice_index, ◌<◌, ◌==◌, if◌then◌else◌}
+use Rattle.std.proofs.lemmas.Bool.{le-ltb, lt-ltb, ne_eqb}
 use Rattle.std.proofs.lemmas.List.{take-append-drop}
 use Rattle.vp_hints.specs.declared.packets.Place.{Place}
-use Rattle.vp_hints.specs.declared.packets.Place.TheVariants.{Packet}
+use Rattle.vp_hints.specs.declared.packets.Place.TheVariants.{Packet, PacketHead}
 use Rattle.vp_hints.specs.declared.packets.PacketCount.{PacketCount}
-use Rattle.vp_hints.specs.Packets.{count_after, counted_after}
+use Rattle.vp_hints.specs.Packets.{count_after, counted_after, place_behind_head}
 
 counted_append : (c : PacketCount) (xs ys : List ℕ) → counted_after c (xs ++ ys) ≡ counted_after (counted_after c xs) ys
 counted_append c [] ys = refl
 counted_append c (x ∷ xs) ys = counted_append (count_after c x) xs ys
 
--- one byte passes, and then some inside a packet
-pub more_passed : (c d e : PacketCount) (bytes others inside rest : List ℕ) → 0 < length bytes → d ≡ count_after c (slice_index bytes 0)
-    → others ≡ drop 1 bytes → others ≡ inside ++ rest → e ≡ counted_after d inside → counted_after e rest ≡ counted_after c bytes
-more_passed c d e [] others inside rest some is first split are = absurd (not-suc-le-zero some)
-more_passed c d e (b ∷ bytes) others inside rest some is first split are =
-    rw (are, is) (sym (counted_append (count_after c b) inside rest) ∙ ap (counted_after (count_after c b)) (sym split ∙ first))
+-- some bytes pass at once, and others are left
+pub first_passed : (c d : PacketCount) (bytes first others : List ℕ) → d ≡ counted_after c first → bytes ≡ first ++ others
+    → counted_after d others ≡ counted_after c bytes
+first_passed c d bytes first others is split = rw (is, split) (sym (counted_append c first others))
+
+-- one byte passes
+pub byte_passed : (c d : PacketCount) (bytes others : List ℕ) → 0 < length bytes → d ≡ count_after c (slice_index bytes 0) → others ≡ drop 1 bytes
+    → counted_after d others ≡ counted_after c bytes
+byte_passed c d [] others some is split = absurd (not-suc-le-zero some)
+byte_passed c d (b ∷ bytes) others some is split = rw (is, split) refl
+
+-- then some inside a packet pass
+pub then_inside : (c d e : PacketCount) (bytes others inside rest : List ℕ) → counted_after d others ≡ counted_after c bytes
+    → others ≡ inside ++ rest → e ≡ counted_after d inside → counted_after e rest ≡ counted_after c bytes
+then_inside c d e bytes others inside rest before are is = rw (is) (sym (counted_append d inside rest) ∙ (ap (counted_after d) (sym are) ∙ before))
 
 stepped : (m l whole byte : ℕ) → nat_lt (suc m) 2 ≡ false → suc m - 1 ≡ suc l
     → count_after (record { place = Packet (suc m); whole = whole }) byte ≡ record { place = Packet (suc l); whole = whole }
@@ -60,3 +69,46 @@ pub inside_passed : (old new : PacketCount) (left n : ℕ) (bytes : List ℕ) �
     → (inside : List ℕ) × (bytes ≡ inside ++ drop n bytes) × (new ≡ counted_after old inside)
 inside_passed old new left n bytes is le small made =
     (take n bytes, sym (take-append-drop n bytes), made ∙ skipped old left n bytes is le small)
+
+-- ---- a packet's head
+
+headed : (passed size whole byte : ℕ) → nat_lt passed 4 ≡ false → nat_lt passed 11 ≡ true → (passed == 11) ≡ false
+    → count_after (record { place = PacketHead passed size; whole = whole }) byte ≡ record { place = PacketHead (passed + 1) size; whole = whole }
+headed passed size whole byte late more not_last = rw (late, more, not_last) refl
+
+head_left : (passed size whole : ℕ) (bytes : List ℕ) → 4 ≤ passed → 0 < length bytes → passed + length bytes ≡ 12
+    → counted_after (record { place = PacketHead passed size; whole = whole }) bytes
+    ≡ record { place = place_behind_head size; whole = if size == 0 then min (whole + 1) (2 ^ 64 - 1) else whole }
+head_left passed size whole [] late some long = absurd (not-suc-le-zero some)
+head_left passed size whole (b ∷ []) late some long = let e : passed ≡ 11 = omega arith in rw e refl
+head_left passed size whole (b ∷ d ∷ bytes) late some long =
+    let before : nat_lt passed 4 ≡ false = le-ltb passed 4 late in
+    let more : nat_lt passed 11 ≡ true = lt-ltb passed 11 (omega arith) in
+    let not_last : (passed == 11) ≡ false = ne_eqb passed 11 (λ e. no passed (length bytes) e long) in
+    ap (λ c. counted_after c (d ∷ bytes)) (headed passed size whole b before more not_last)
+    ∙ head_left (passed + 1) size whole (d ∷ bytes) (omega arith) (omega arith) (omega arith)
+  where
+    no : (p n : ℕ) → p ≡ 11 → p + suc (suc n) ≡ 12 → ⊥
+    no p n e f = omega arith
+
+head_whole : (w s1 s2 s3 s4 : ℕ) (head : List ℕ) → length head ≡ 12
+    → s1 ≡ 0 / 256 + slice_index head 0 * 2 ^ 24 → s2 ≡ s1 / 256 + slice_index head 1 * 2 ^ 24
+    → s3 ≡ s2 / 256 + slice_index head 2 * 2 ^ 24 → s4 ≡ s3 / 256 + slice_index head 3 * 2 ^ 24
+    → counted_after (record { place = PacketHead 0 0; whole = w }) head
+    ≡ record { place = place_behind_head s4; whole = if s4 == 0 then min (w + 1) (2 ^ 64 - 1) else w }
+head_whole w s1 s2 s3 s4 [] long a b c d = absurd (omega (arith, long))
+head_whole w s1 s2 s3 s4 (x ∷ []) long a b c d = absurd (omega (arith, long))
+head_whole w s1 s2 s3 s4 (x ∷ y ∷ []) long a b c d = absurd (omega (arith, long))
+head_whole w s1 s2 s3 s4 (x ∷ y ∷ z ∷ []) long a b c d = absurd (omega (arith, long))
+head_whole w s1 s2 s3 s4 (x ∷ y ∷ z ∷ v ∷ rest) long a b c d =
+    rw (d, c, b, a) (head_left 4 _ w rest (omega arith) (omega arith) (omega arith))
+
+-- a head passes at once
+pub head_passed : (old : PacketCount) (place : Place) (whole s1 s2 s3 s4 : ℕ) (head : List ℕ) → old.place ≡ PacketHead 0 0 → length head ≡ 12
+    → s1 ≡ 0 / 256 + slice_index head 0 * 2 ^ 24 → s2 ≡ s1 / 256 + slice_index head 1 * 2 ^ 24
+    → s3 ≡ s2 / 256 + slice_index head 2 * 2 ^ 24 → s4 ≡ s3 / 256 + slice_index head 3 * 2 ^ 24
+    → place ≡ place_behind_head s4 → whole ≡ (if s4 == 0 then min (old.whole + 1) (2 ^ 64 - 1) else old.whole)
+    → record { place = place; whole = whole } ≡ counted_after old head
+head_passed old place whole s1 s2 s3 s4 head first long a b c d p w =
+    rw (p, w) (sym (head_whole old.whole s1 s2 s3 s4 head long a b c d)
+    ∙ ap (λ p. counted_after (record { place = p; whole = old.whole }) head) (sym first))

@@ -25,11 +25,13 @@ impl fmt::Display for Hexadecimal<'_> {
     }
 }
 
-/// Prints what is wrong with an IVF file, and what to do.
+/// Prints what is wrong with an IVF file, and what to do. `done` says what happened to its whole packets, as
+/// `were decoded`.
 pub fn hint_file<W: Write>(
     fault: FileFault,
     name: &str,
     seen: &Seen,
+    done: &str,
     output: &mut W,
 ) -> io::Result<()> {
     let file = Printable(name);
@@ -37,18 +39,26 @@ pub fn hint_file<W: Write>(
     match fault {
         FileFault::Signature => hint_not_ivf(name, seen, output),
         FileFault::Codec => hint_codec(file, seen.head(), output),
-        FileFault::TooMany => writeln!(output, "  {file}: over 1,048,576 packets"),
+        FileFault::TooMany => writeln!(
+            output,
+            "  {file}: more packets than the limit. Try: a greater --max-packets, up to 16777216"
+        ),
         FileFault::PacketTooLarge => writeln!(
             output,
-            "  {file}: packet {number} has over 16,777,216 bytes; {number} packets were decoded"
+            "  {file}: packet {number} has over 16,777,216 bytes; {number} packets {done}"
         ),
-        FileFault::Torn => hint_torn(file, seen, output),
+        FileFault::Torn => hint_torn(file, seen, done, output),
         FileFault::Ended => Ok(()),
     }
 }
 
 // Prints where a file ends that isn't whole.
-fn hint_torn<W: Write>(file: Printable<'_>, seen: &Seen, output: &mut W) -> io::Result<()> {
+fn hint_torn<W: Write>(
+    file: Printable<'_>,
+    seen: &Seen,
+    done: &str,
+    output: &mut W,
+) -> io::Result<()> {
     let (bytes, packets) = (seen.bytes(), seen.packets());
     let number = packets.whole;
     match packets.place {
@@ -59,7 +69,7 @@ fn hint_torn<W: Write>(file: Printable<'_>, seen: &Seen, output: &mut W) -> io::
         ),
         _ => writeln!(
             output,
-            "  {file} ends inside packet {number}; {number} packets were decoded"
+            "  {file} ends inside packet {number}; {number} packets {done}"
         ),
     }
 }
@@ -73,7 +83,10 @@ pub fn hint_stream_file<W: Write>(
     match fault {
         FileFault::Signature => writeln!(output, "  {file}: not an IVF file"),
         FileFault::Codec => writeln!(output, "  {file}: not VP8"),
-        FileFault::TooMany => writeln!(output, "  {file}: over 1,048,576 packets"),
+        FileFault::TooMany => writeln!(
+            output,
+            "  {file}: more packets than the limit. Try: a greater --max-packets, up to 16777216"
+        ),
         FileFault::PacketTooLarge => {
             writeln!(output, "  {file}: a packet has over 16,777,216 bytes")
         }

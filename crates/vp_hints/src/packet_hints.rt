@@ -56,7 +56,7 @@ fn meaning_of(fault: PacketFault) -> &'static str {
             "a key frame without the start code 9d 01 2a, so damaged or not VP8"
         }
         PacketFault::Size => "a key frame without width or height",
-        PacketFault::TooLarge => "over 16,777,216 pixels",
+        PacketFault::TooLarge => "more pixels than the limit, which --max-pixels sets",
         PacketFault::NoReference => "no key frame since the start or the last fault",
         PacketFault::FirstPartition => "the first partition ends behind the packet's end",
         PacketFault::PartitionTable => "the table of partitions ends behind the packet's end",

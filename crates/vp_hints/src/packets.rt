@@ -1,8 +1,9 @@
 //! The packets of an IVF file, counted as its bytes pass by.
 
-ghost use Rattle.std.specs.Prelude.{◌≡◌, ◌<◌, ◌≤◌, ◌++◌, ℕ, List, length};
+ghost use Rattle.std.specs.Prelude.{◌≡◌, ◌<◌, ◌≤◌, ◌+◌, ◌*◌, ◌/◌, ◌^◌, ◌++◌, ℕ, List, length};
 ghost use Rattle.vp_hints.specs.Packets.{count_after, counted_after, ends_packet, first_count};
 ghost use Rattle.vp_hints.specs.Packets.{place_after, place_behind_head};
+ghost use Rattle.vp_hints.specs.declared.packets.Place.{Place};
 
 /// Where the next byte of an IVF file belongs.
 #[derive(Clone, Copy, Debug, PartialEq, Eq)]
@@ -45,15 +46,46 @@ impl PacketCount {
         }
     }
 
-    // Counts the next byte, and those that then are inside a packet, and returns the others.
+    // Counts the next byte, or a packet's head, and the bytes that then are inside a packet, and returns the others.
     fn pass_some<'a>(&mut self, bytes: &'a [u8]) -> &'a [u8]
         requires { 0 < length bytes.now }
         ensures passed { counted_after self.new result.now ≡ counted_after self.old bytes.now }
         ensures fewer { length result.now < length bytes.now }
     {
+        let others = self.pass_first(bytes);
+        self.pass_inside(others)
+    }
+
+    // Counts a packet's head if the bytes begin with one, or else the next byte, and returns the others.
+    fn pass_first<'a>(&mut self, bytes: &'a [u8]) -> &'a [u8]
+        requires { 0 < length bytes.now }
+        ensures passed { counted_after self.new result.now ≡ counted_after self.old bytes.now }
+        ensures fewer { length result.now < length bytes.now }
+    {
+        if self.place == Place::PacketHead(0, 0) && bytes.len() >= 12 {
+            let (head, others) = bytes.split_at(12);
+            self.pass_head(head);
+            return others;
+        }
         let (_, others) = bytes.split_at(1);
         self.pass_byte(bytes[0]);
-        self.pass_inside(others)
+        others
+    }
+
+    // Counts the head of a packet at once.
+    fn pass_head(&mut self, head: &[u8])
+        requires first { self.old.place ≡ Place.PacketHead 0 0 }
+        requires size { length head.now ≡ 12 }
+        ensures { self.new ≡ counted_after self.old head.now }
+    {
+        let size = shifted(0, head[0]);
+        let size = shifted(size, head[1]);
+        let size = shifted(size, head[2]);
+        let size = shifted(size, head[3]);
+        if size == 0 {
+            self.whole = self.whole.saturating_add(1);
+        }
+        self.place = place_behind_head(size);
     }
 
     // Counts the bytes inside a packet, but not its last one, and returns the others. They need not be looked at.
@@ -99,13 +131,20 @@ fn place_after(place: Place, byte: u8) -> Place
         Place::FileHead(left) if left < 2 => Place::PacketHead(0, 0),
         Place::FileHead(left) => Place::FileHead(left - 1),
         Place::PacketHead(passed, size) if passed < 4 => {
-            Place::PacketHead(passed + 1, (size >> 8) + (u32::from(byte) << 24))
+            Place::PacketHead(passed + 1, shifted(size, byte))
         }
         Place::PacketHead(passed, size) if passed < 11 => Place::PacketHead(passed + 1, size),
         Place::PacketHead(_, size) => place_behind_head(size),
         Place::Packet(left) if left < 2 => Place::PacketHead(0, 0),
         Place::Packet(left) => Place::Packet(left - 1),
     }
+}
+
+// A size with its next byte, which is shifted in from above.
+fn shifted(size: u32, byte: u8) -> u32
+    ensures { result ≡ size / 256 + byte * 2 ^ 24 }
+{
+    (size >> 8) + (u32::from(byte) << 24)
 }
 
 // The place behind the head of a packet of this size.

@@ -44,6 +44,13 @@ impl<T> Witness<T> {
         self.error
     }
 
+    /// What was seen of the bytes that were read.
+    pub fn seen(&self) -> &Seen
+        ensures { seen_view result.now ≡ witness_sight self.now }
+    {
+        &self.seen
+    }
+
     /// Unwraps the reader or writer, with what was seen of its bytes.
     pub fn into_parts(self) -> (T, Seen)
         ensures inner { result.0 ≡ witness_inner self }

@@ -50,8 +50,8 @@ returns-then-not-goes_on-clause-checked g c =
       inv.0.0 ++ took.0,
       Consumes-trans (counted_remaining g.R.Read.remaining c.args.reader.now) (counted_remaining g.R.Read.remaining c.loop-turn.reader) left inv.0.0 took.0 inv.0.1 took.1,
       ends c.args.packets.now.limits c.loop-turn.file c.read_piece.new.file c.take_packets.new.file c.loop-turn.packets c.take_packets.new.self c.loop-turn._turn inv.0.0 took.0 left
-          c.in_ok-goes_on.goes_on c.err.result c.if-not-goes_on.true inv.0.2 took.2 c.in_ok-take_packets.ensures.checked c.in_ok-take_packets.ensures.taken
-          (c.err.ensures.value ∙ ap result_err c.finish.ensures.answer),
+          c.in_ok-goes_on.goes_on c.head.result c.err.result c.if-not-goes_on.true inv.0.2 took.2 c.in_ok-take_packets.ensures.checked c.in_ok-take_packets.ensures.taken
+          c.head.ensures.value (c.err.ensures.value ∙ ap result_err c.finish.ensures.answer),
     )
 
 pub loop-turn-preserved : goal.loop-turn-preserved

@@ -1,4 +1,4 @@
-use Rattle.std.proofs.Common.{◌≡◌, ℕ, length}
+use Rattle.std.proofs.Common.{◌≡◌, length}
 use Rattle.vp_hints.specs.Packets.{counted_after}
 use Rattle.vp_hints.proofs.packets.PacketCount.pass.Given as goal
 
